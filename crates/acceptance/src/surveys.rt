@@ -1,7 +1,9 @@
 //! Surveys of strikes, and characters made alone.
 use crate::fonts::fixture;
 use crate::strikes::{HINTED, UNHINTED, request};
+use crate::tables::{NO_TABLES, Tables, with_tables};
 use fx_bdf::{Bounds, Summary};
+use fx_gstate::Dropout;
 use fx_machine::Usage;
 use fx_request::{Refusal, Report, Request};
 use fx_sfnt::FontFile;
@@ -45,6 +47,7 @@ fn a_strike_is_surveyed(rt: HostRuntime) -> Result<(), Fail> {
             has_replacement: false,
             has_space: false,
         },
+        wish: None,
         ascent: 13,
         descent: 4,
         report: Report {
@@ -54,6 +57,32 @@ fn a_strike_is_surveyed(rt: HostRuntime) -> Result<(), Fail> {
         },
     };
     assert!(rt; survey(rt.alloc(), &Plain, &FontFile::of(font.as_slice()), &request) == Ok(told));
+    Ok(())
+}
+
+/// What `prep` left asked of drop-out control: at 16 pixels an em SCANCTRL of 0110 is on, and SCANTYPE 5 asks for the nearer pixel. At 17
+/// it stays off, which is asked for, too. Without hinting nothing is asked.
+#[test]
+fn a_survey_tells_what_prep_asked(rt: HostRuntime) -> Result<(), Fail> {
+    let base = fixture(rt.alloc())?;
+    let tables = Tables {
+        prep: "B8 01 10 85 B0 05 8D",
+        ..NO_TABLES
+    };
+    let font = with_tables(rt.alloc(), base.as_slice(), &tables)?;
+    let font = FontFile::of(font.as_slice());
+    for (mode, ppem, wish) in [
+        (HINTED, 16, Some(Dropout::Nearest)),
+        (HINTED, 17, Some(Dropout::Off)),
+        (UNHINTED, 16, None),
+    ] {
+        let request = Request {
+            mode,
+            ..request(ppem, &[0x41])
+        };
+        let told = survey(rt.alloc(), &Plain, &font, &request)?;
+        assert!(rt; told.wish == wish);
+    }
     Ok(())
 }
 

@@ -10,12 +10,12 @@ use Rattle.fx_machine.specs.Known.{Known, MachineView, machine_of, font_ran, pre
 use Rattle.fx_machine.specs.Blocks.{IsBlockOf}
 use Rattle.fx_machine.specs.declared.state.State.{State}
 use Rattle.fx_machine.specs.declared.usage.Usage.{Usage}
-use Rattle.fx_request.specs.declared.request.Dropout.{Dropout}
 use Rattle.fx_request.specs.Faults.{of_machine}
 use Rattle.fx_request.specs.declared.request.Mode.{Mode}
 use Rattle.fx_request.specs.declared.refusal.Refusal.{Refusal}
+use Rattle.fx_strike.specs.declared.basis.Basis.{Basis}
 use Rattle.fx_strike.specs.declared.opened.Opened.{Opened}
-use Rattle.fx_strike.specs.Strike.{Setting, machine_for, opened_at, opened_many_of, setting_for, setting_in, setting_of}
+use Rattle.fx_strike.specs.Strike.{basis_of, Setting, machine_for, opened_at, opened_many_of, setting_for, setting_in, setting_of}
 use Rattle.fx_strike.specs.Strike.{setting_with}
 use Rattle.fx_strike.specs.Blocks.{IsBlockFor}
 
@@ -98,23 +98,23 @@ on_some machine made m s h = rw s at h
 same_setting : {x y : Setting} → ◌≡◌ {A = Result Setting Refusal} (Ok x) (Ok y) → x ≡ y
 same_setting e = cc
 
-pub record IsSet (o : Opened) (dropout : Dropout) (x : Result (Option Known) Refusal) (s : Setting) : Type 0 where
+pub record IsSet (t : Basis) (x : Result (Option Known) Refusal) (s : Setting) : Type 0 where
   pub machine : x ≡ Ok s.machine
-  pub setting : setting_with o dropout s.machine ≡ s
+  pub setting : setting_with t s.machine ≡ s
 
-parts : (o : Opened) (dropout : Dropout) (x : Result (Option Known) Refusal) (s : Setting)
-    → (x >>= λ m. Ok (setting_with o dropout m)) ≡ Ok s
-    → IsSet o dropout x s
-parts o dropout (Ok m) s e =
-    let k : setting_with o dropout m ≡ s = same_setting e in
+parts : (t : Basis) (x : Result (Option Known) Refusal) (s : Setting)
+    → (x >>= λ m. Ok (setting_with t m)) ≡ Ok s
+    → IsSet t x s
+parts t (Ok m) s e =
+    let k : setting_with t m ≡ s = same_setting e in
     let j : m ≡ s.machine = ap (λ t. t.machine) k in
-    record { machine = ap Ok j; setting = ap (setting_with o dropout) (sym j) ∙ k }
-parts o dropout (Err d) s e = cc
+    record { machine = ap Ok j; setting = ap (setting_with t) (sym j) ∙ k }
+parts t (Err d) s e = cc
 
 pub setting_parts : (o : Opened) (mode : Mode) (s : Setting) → setting_in o mode ≡ Ok s
-    → IsSet o mode.dropout (machine_for o.font o.ppem mode.hinting) s
+    → IsSet (basis_of o mode) (machine_for o.font o.ppem mode.hinting) s
 unfolding setting_in
-setting_parts o mode s e = parts o mode.dropout (machine_for o.font o.ppem mode.hinting) s e
+setting_parts o mode s e = parts (basis_of o mode) (machine_for o.font o.ppem mode.hinting) s e
 
 -- the setting of a font file is that of the opened font
 pub of_opened : (file : FontFileView) (ppem : ℕ) (mode : Mode) (o : Opened) (s : Setting) → Ok o ≡ opened_at file ppem
@@ -127,9 +127,9 @@ pub for_opened : (file : FontFileView) (ppem : ℕ) (chars : List ℕ) (mode : M
 unfolding setting_for
 for_opened file ppem chars mode o s h e = rw (sym h) at e
 
-pub set_as : (o : Opened) (dropout : Dropout) (hinter : Option Known) (s : Setting) → hinter ≡ s.machine
-    → setting_with o dropout s.machine ≡ s → setting_with o dropout hinter ≡ s
-set_as o dropout hinter s h e = rw h e
+pub set_as : (t : Basis) (hinter : Option Known) (s : Setting) → hinter ≡ s.machine
+    → setting_with t s.machine ≡ s → setting_with t hinter ≡ s
+set_as t hinter s h e = rw h e
 
 -- ---- what was made
 

@@ -12,7 +12,7 @@ use Rattle.fx_raster.proofs.Existing.{picture_exists}
 use Rattle.fx_bdf.specs.Glyphs.{Glyph, glyph_bit}
 use Rattle.fx_request.specs.Characters.{rising}
 use Rattle.fx_request.specs.declared.request.OnRefused.{OnRefused}
-use Rattle.fx_strike.specs.Strike.{Sketch, Setting, IsGlyphOf, AreGlyphsOf, rule_for, sketch_from, glyph_sketch_of, is_missing}
+use Rattle.fx_strike.specs.Strike.{Sketch, Setting, IsGlyphOf, AreGlyphsOf, rule_in, sketch_from, glyph_sketch_of, is_missing}
 use Rattle.fx_strike.specs.Strike.{Fate, drawn, unhinted, left_out, sketches_in, machineless, glyph_fate_of, fate_of}
 use Rattle.fx_strike.specs.Laws.{StrikeExists}
 use Rattle.fx_strike.proofs.Sketching.{tight_along}
@@ -67,7 +67,7 @@ glyph_of_sketch : (setting : Setting) (code glyph : ℕ) (s : Sketch)
 glyph_of_sketch setting code glyph s h =
     let x = sketch_made setting code glyph s h in
     rw x.is (glyph_of_shape (sketch_from setting code x.drawing x.shape x.metrics)
-    (rule_for setting.dropout x.drawing.wish, x.drawing.ends, x.drawing.points, x.shaped))
+    (rule_in setting x.drawing.wish, x.drawing.ends, x.drawing.points, x.shaped))
 
 -- a sketch that is due with hinting or without has a glyph
 glyphs_of_fate : (setting : Setting) (refused : OnRefused) (code glyph : ℕ) (f : Fate)

@@ -4,16 +4,15 @@ use Rattle.std.proofs.Common.{◌≡◌, refl, sym, ap, ◌∙◌, subst, ℕ, O
 use Rattle.std.specs.Prelude.{IfErr, OnOk}
 use Rattle.fx_machine.specs.Known.{Known}
 use Rattle.fx_machine.specs.declared.halt.Halt.{Halt}
-use Rattle.fx_request.specs.declared.request.Dropout.{Dropout}
 use Rattle.fx_request.specs.declared.notice.Notice.{Notice}
 use Rattle.fx_request.specs.declared.refusal.Refusal.{Refusal}
 use Rattle.fx_request.specs.declared.refusal.Refusal.TheVariants.{Halted, WriteFailed, ReadFailed, BadHex, InputTooLarge, OutOfMemory}
 use Rattle.fx_request.specs.declared.request.OnRefused.{OnRefused}
 use Rattle.fx_request.specs.declared.request.OnRefused.TheVariants.{Stop, LeaveOut, Unhinted as DrawUnhinted}
 use Rattle.fx_request.specs.Notices.{HearsAll}
+use Rattle.fx_strike.specs.declared.basis.Basis.{Basis}
 use Rattle.fx_strike.specs.declared.fate.Fate as held
 use Rattle.fx_strike.specs.declared.fate.Fate.TheVariants.{Drawn, Unhinted}
-use Rattle.fx_strike.specs.declared.opened.Opened.{Opened}
 use Rattle.fx_strike.specs.declared.seen.Seen.{Seen}
 use Rattle.fx_strike.specs.declared.sketched.Sketched.{Sketched}
 use Rattle.fx_strike.specs.Faults.{Fails}
@@ -34,32 +33,32 @@ unfolding glyph_fate_of
 fate_drawn setting refused code glyph made h = (drawn h.0, rw h.1 refl, h.2)
 
 -- it is refused for a cause
-pub fate_by_cause : (opened : Opened) (dropout : Dropout) (machine : Option Known) (refused : OnRefused) (code glyph : ℕ)
+pub fate_by_cause : (basis : Basis) (machine : Option Known) (refused : OnRefused) (code glyph : ℕ)
     (cause : Refusal)
-    → glyph_sketch_of (setting_with opened dropout machine) code glyph ≡ Err cause
-    → glyph_fate_of (setting_with opened dropout machine) refused code glyph
-    ≡ refused_by refused code (glyph_sketch_of (setting_with opened dropout None) code glyph) cause
+    → glyph_sketch_of (setting_with basis machine) code glyph ≡ Err cause
+    → glyph_fate_of (setting_with basis machine) refused code glyph
+    ≡ refused_by refused code (glyph_sketch_of (setting_with basis None) code glyph) cause
 unfolding glyph_fate_of
-fate_by_cause opened dropout machine refused code glyph cause h = rw h refl
+fate_by_cause basis machine refused code glyph cause h = rw h refl
 
 -- its program halted
-pub fate_by_halt : (opened : Opened) (dropout : Dropout) (machine : Option Known) (refused : OnRefused) (code glyph : ℕ)
+pub fate_by_halt : (basis : Basis) (machine : Option Known) (refused : OnRefused) (code glyph : ℕ)
     (halt : Halt) (r : Result held.Fate Refusal)
-    → Fails (Halted halt) (glyph_sketch_of (setting_with opened dropout machine) code glyph)
-    → Decides (refused_by refused code (glyph_sketch_of (setting_with opened dropout None) code glyph) (Halted halt)) r
-    → Decides (glyph_fate_of (setting_with opened dropout machine) refused code glyph) r
-fate_by_halt opened dropout machine refused code glyph halt r h d =
+    → Fails (Halted halt) (glyph_sketch_of (setting_with basis machine) code glyph)
+    → Decides (refused_by refused code (glyph_sketch_of (setting_with basis None) code glyph) (Halted halt)) r
+    → Decides (glyph_fate_of (setting_with basis machine) refused code glyph) r
+fate_by_halt basis machine refused code glyph halt r h d =
     let P : Result Fate Refusal → Type 0 = λ due. Decides due r in
-    subst P (sym (fate_by_cause opened dropout machine refused code glyph (Halted halt) h)) d
+    subst P (sym (fate_by_cause basis machine refused code glyph (Halted halt) h)) d
 
 -- it refuses the strike
-pub fate_stops : (opened : Opened) (dropout : Dropout) (machine : Option Known) (code glyph : ℕ) (cause : Refusal)
-    → Fails cause (glyph_sketch_of (setting_with opened dropout machine) code glyph)
-    → Fails cause (glyph_fate_of (setting_with opened dropout machine) Stop code glyph)
-fate_stops opened dropout machine code glyph cause f =
-    fails_on cause (glyph_sketch_of (setting_with opened dropout machine) code glyph)
-    (glyph_fate_of (setting_with opened dropout machine) Stop code glyph)
-    (λ e h. fate_by_cause opened dropout machine Stop code glyph e h) f
+pub fate_stops : (basis : Basis) (machine : Option Known) (code glyph : ℕ) (cause : Refusal)
+    → Fails cause (glyph_sketch_of (setting_with basis machine) code glyph)
+    → Fails cause (glyph_fate_of (setting_with basis machine) Stop code glyph)
+fate_stops basis machine code glyph cause f =
+    fails_on cause (glyph_sketch_of (setting_with basis machine) code glyph)
+    (glyph_fate_of (setting_with basis machine) Stop code glyph)
+    (λ e h. fate_by_cause basis machine Stop code glyph e h) f
 
 -- a cause that was named
 named : {Y : Type 0} (d : Refusal) (due : Result Y Refusal) → (d ≡ OutOfMemory → ⊥) → Fails d due → due ≡ Err d
@@ -78,14 +77,14 @@ other_cause LeaveOut code second cause s n = refl
 other_cause DrawUnhinted code second (Halted halt) s n = absurd (n halt refl)
 other_cause DrawUnhinted code second cause s n = refl
 
-pub fate_left_out : (opened : Opened) (dropout : Dropout) (machine : Option Known) (refused : OnRefused) (code glyph : ℕ)
+pub fate_left_out : (basis : Basis) (machine : Option Known) (refused : OnRefused) (code glyph : ℕ)
     (cause : Refusal)
     (made : held.Fate) → (refused ≡ Stop → ⊥) → (cause ≡ OutOfMemory → ⊥) → ((halt : Halt) → cause ≡ Halted halt → ⊥)
-    → IsFateOf (left_out_for code cause) made → Fails cause (glyph_sketch_of (setting_with opened dropout machine) code glyph)
-    → Decides (glyph_fate_of (setting_with opened dropout machine) refused code glyph) (Ok made)
-fate_left_out opened dropout machine refused code glyph cause made s m n is f = (
+    → IsFateOf (left_out_for code cause) made → Fails cause (glyph_sketch_of (setting_with basis machine) code glyph)
+    → Decides (glyph_fate_of (setting_with basis machine) refused code glyph) (Ok made)
+fate_left_out basis machine refused code glyph cause made s m n is f = (
   left_out_for code cause,
-  fate_by_cause opened dropout machine refused code glyph cause (named cause _ m f) ∙ other_cause refused code _ cause s n,
+  fate_by_cause basis machine refused code glyph cause (named cause _ m f) ∙ other_cause refused code _ cause s n,
   is,
 )
 

@@ -18,8 +18,7 @@ use Rattle.fx_bdf.specs.Glyphs.{Box, bounds_of}
 use Rattle.fx_bdf.specs.declared.summary.Summary.{Summary}
 use Rattle.fx_request.specs.declared.refusal.Refusal.{Refusal}
 use Rattle.fx_request.specs.declared.refusal.Refusal.TheVariants.{WriteFailed, ReadFailed, BadHex, InputTooLarge, OutOfMemory}
-use Rattle.fx_request.specs.declared.request.Dropout.{Dropout}
-use Rattle.fx_strike.specs.declared.opened.Opened.{Opened}
+use Rattle.fx_strike.specs.declared.basis.Basis.{Basis}
 use Rattle.fx_strike.specs.declared.seen.Seen.{Seen}
 use Rattle.fx_request.specs.declared.request.Report.{Report}
 use Rattle.fx_strike.specs.declared.surveyed.Survey.{Survey}
@@ -56,21 +55,21 @@ unseen setting title chars codes refused d c f =
 counted_on : (before after total : ℕ) → after ≡ counted total → counted (before + after) ≡ counted (before + total)
 counted_on before after total h = omega arith
 
-surveyed_here : (opened : Opened) (dropout : Dropout) (machine : Option Known) (title : Title) (chars : List ℕ)
-    (refused : OnRefused) (seen : Seen) → Holds (setting_with opened dropout machine) refused (rising chars) seen
-    → Surveyed (plan_with (setting_with opened dropout machine) title chars refused)
-    (survey_from (prelude_by machine) opened seen (summary_with seen.gathered seen.report.glyphs))
+surveyed_here : (basis : Basis) (machine : Option Known) (title : Title) (chars : List ℕ)
+    (refused : OnRefused) (seen : Seen) → Holds (setting_with basis machine) refused (rising chars) seen
+    → Surveyed (plan_with (setting_with basis machine) title chars refused)
+    (survey_from machine basis.opened seen (summary_with seen.gathered seen.report.glyphs))
 unfolding plan_with
-surveyed_here opened dropout machine title chars refused seen g =
+surveyed_here basis machine title chars refused seen g =
     let heading : Box → ℕ → Header = λ b n. record {
-      ppem = opened.ppem;
+      ppem = basis.opened.ppem;
       bounds = b;
-      ascent = pixels opened.font.hhea.ascender opened.ppem opened.font.head.units_per_em;
-      descent = pixels (neg_ℤ opened.font.hhea.descender) opened.ppem opened.font.head.units_per_em;
+      ascent = pixels basis.opened.font.hhea.ascender basis.opened.ppem basis.opened.font.head.units_per_em;
+      descent = pixels (neg_ℤ basis.opened.font.hhea.descender) basis.opened.ppem basis.opened.font.head.units_per_em;
       glyphs = n;
     } in
     record {
-      plan = plan_from (setting_with opened dropout machine) title chars g.fates;
+      plan = plan_from (setting_with basis machine) title chars g.fates;
       glyphs = g.glyphs;
       is = rw g.planned;
       drawn = g.drawn;
@@ -78,6 +77,7 @@ surveyed_here opened dropout machine title chars refused seen g =
           ap (λ (n : ℕ). heading (bounds_of (map (λ x. x.box) g.glyphs)) n) g.count;
       summary = summary_is g.glyphs seen.gathered seen.report.glyphs g.gathered
           (g.count ∙ as_many (flat_map sketches_in g.fates) g.glyphs g.drawn);
+      wish = refl;
       told = record {
         glyphs = g.count;
         missing = g.missing;
@@ -88,13 +88,13 @@ surveyed_here opened dropout machine title chars refused seen g =
       };
     }
 
-pub surveyed : (opened : Opened) (dropout : Dropout) (machine : Option Known) (prelude : Usage) (title : Title)
-    (chars codes : List ℕ) (refused : OnRefused) (seen : Seen) (summary : Summary) (survey : Survey)
-    → prelude ≡ prelude_by machine → codes ≡ rising chars → Holds (setting_with opened dropout machine) refused codes seen
-    → summary ≡ summary_with seen.gathered seen.report.glyphs → survey ≡ survey_from prelude opened seen summary
-    → Surveyed (plan_with (setting_with opened dropout machine) title chars refused) survey
-surveyed opened dropout machine prelude title chars codes refused seen summary survey n c g m e =
-    rw (e, n, m) (surveyed_here opened dropout machine title chars refused seen (rw c at g))
+pub surveyed : (basis : Basis) (machine after : Option Known) (title : Title) (chars codes : List ℕ)
+    (refused : OnRefused) (seen : Seen) (summary : Summary) (survey : Survey) → after ≡ machine → codes ≡ rising chars
+    → Holds (setting_with basis machine) refused codes seen → summary ≡ summary_with seen.gathered seen.report.glyphs
+    → survey ≡ survey_from after basis.opened seen summary
+    → Surveyed (plan_with (setting_with basis machine) title chars refused) survey
+surveyed basis machine after title chars codes refused seen summary survey k c g m e =
+    rw (e, k, m) (surveyed_here basis machine title chars refused seen (rw c at g))
 
 -- ---- refusals that are due
 

@@ -22,7 +22,7 @@ use Rattle.fx_strike.specs.Faults.{of_hint, of_raster}
 use Rattle.fx_request.specs.Characters.{rising}
 use Rattle.fx_strike.specs.Title.{Title}
 use Rattle.std.specs.List.{flat_map}
-use Rattle.fx_strike.specs.Strike.{Sketch, Setting, Plan, AreGlyphsOf, outline_in, rule_for, sketch_from}
+use Rattle.fx_strike.specs.Strike.{Sketch, Setting, Plan, AreGlyphsOf, outline_in, rule_in, sketch_from}
 use Rattle.fx_strike.specs.Strike.{Fate, drawn, unhinted, left_out, sketches_in, fate_by, machineless, glyph_fate_of, fate_of, fates_of}
 use Rattle.fx_strike.specs.Strike.{glyph_sketch_of, is_missing, checked_text, opened_after, opened_of}
 use Rattle.fx_strike.specs.Strike.{opened_at, setting_in, setting_of, plan_from, plan_with, plan_in, plan_of}
@@ -81,7 +81,7 @@ pub record Made (setting : Setting) (code : ℕ) (s : Sketch) : Type 0 where
   pub drawing : GlyphOutlineView
   pub shape : ShapeView
   pub metrics : Metrics
-  pub shaped : shape_of (rule_for setting.dropout drawing.wish) drawing.ends drawing.points ≡ Ok shape
+  pub shaped : shape_of (rule_in setting drawing.wish) drawing.ends drawing.points ≡ Ok shape
   pub is : s ≡ sketch_from setting code drawing shape metrics
 
 pub sketch_made : (setting : Setting) (code glyph : ℕ) (s : Sketch) → glyph_sketch_of setting code glyph ≡ Ok s
@@ -91,15 +91,15 @@ sketch_made setting code glyph s h =
     let measured : GlyphOutlineView → ShapeView → Result Sketch Refusal =
     λ d x. map_fault of_font (metrics_of setting.font glyph) >>= λ m. Ok (sketch_from setting code d x m) in
     let a = bind_ok (map_fault of_hint (outline_in setting glyph))
-    (λ d. map_fault (of_raster glyph) (shape_of (rule_for setting.dropout d.wish) d.ends d.points) >>= measured d) s h in
-    let b = bind_ok (map_fault (of_raster glyph) (shape_of (rule_for setting.dropout a.0.wish) a.0.ends a.0.points))
+    (λ d. map_fault (of_raster glyph) (shape_of (rule_in setting d.wish) d.ends d.points) >>= measured d) s h in
+    let b = bind_ok (map_fault (of_raster glyph) (shape_of (rule_in setting a.0.wish) a.0.ends a.0.points))
     (measured a.0) s a.2 in
     let c = bind_ok (map_fault of_font (metrics_of setting.font glyph)) (λ m. Ok (sketch_from setting code a.0 b.0 m)) s b.2 in
     record {
       drawing = a.0;
       shape = b.0;
       metrics = c.0;
-      shaped = map_fault_ok (of_raster glyph) (shape_of (rule_for setting.dropout a.0.wish) a.0.ends a.0.points) b.0 b.1;
+      shaped = map_fault_ok (of_raster glyph) (shape_of (rule_in setting a.0.wish) a.0.ends a.0.points) b.0 b.1;
       is = cc (c.2);
     }
 

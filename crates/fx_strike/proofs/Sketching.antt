@@ -20,7 +20,7 @@ use Rattle.fx_request.specs.declared.refusal.Refusal.{Refusal}
 use Rattle.fx_request.specs.declared.refusal.Refusal.TheVariants.{OutOfMemory, WriteFailed, ReadFailed, BadHex, InputTooLarge}
 use Rattle.fx_request.specs.Faults.{of_font}
 use Rattle.fx_strike.specs.Faults.{Fails, of_hint, of_raster}
-use Rattle.fx_strike.specs.Strike.{Sketch, Setting, IsGlyphOf, thousandths, outline_in, rule_for, sketch_from, glyph_sketch_of}
+use Rattle.fx_strike.specs.Strike.{Sketch, Setting, IsGlyphOf, thousandths, outline_in, rule_in, sketch_from, glyph_sketch_of}
 use Rattle.fx_strike.specs.inner.Drawing.{IsSketchedOf, Draws}
 use Rattle.fx_strike.specs.declared.sketched.Sketched.{Sketched}
 
@@ -57,7 +57,7 @@ tight_along box a b e h =
 -- all checks passed: the sketch is there
 sketch_is : (setting : Setting) (code glyph : ℕ) (drawing : GlyphOutlineView) (shape : ShapeView) (m : Metrics)
     → map_fault of_hint (outline_in setting glyph) ≡ Ok drawing
-    → map_fault (of_raster glyph) (shape_of (rule_for setting.dropout drawing.wish) drawing.ends drawing.points) ≡ Ok shape
+    → map_fault (of_raster glyph) (shape_of (rule_in setting drawing.wish) drawing.ends drawing.points) ≡ Ok shape
     → map_fault of_font (metrics_of setting.font glyph) ≡ Ok m
     → glyph_sketch_of setting code glyph ≡ Ok (sketch_from setting code drawing shape m)
 unfolding glyph_sketch_of
@@ -66,7 +66,7 @@ sketch_is setting code glyph drawing shape m e1 e2 e3 = rw (e1, e2, e3)
 -- all steps went well: the glyph before its bits is that of the sketch
 pub sketched_whole : (setting : Setting) (code glyph : ℕ) (drawing : GlyphOutlineView) (made : Sketched) (swidth : ℤ)
     → map_fault of_hint (outline_in setting glyph) ≡ Ok drawing
-    → map_fault (of_raster glyph) (shape_of (rule_for setting.dropout drawing.wish) drawing.ends drawing.points) ≡ Ok made.shape
+    → map_fault (of_raster glyph) (shape_of (rule_in setting drawing.wish) drawing.ends drawing.points) ≡ Ok made.shape
     → Ok swidth ≡ map_ok (λ (m : Metrics). thousandths m.advance_width setting.font.head.units_per_em)
     (map_fault of_font (metrics_of setting.font glyph))
     → made.swidth ≡ swidth → made.advance ≡ drawing.advance → made.usage ≡ drawing.usage
@@ -74,13 +74,13 @@ pub sketched_whole : (setting : Setting) (code glyph : ℕ) (drawing : GlyphOutl
 sketched_whole setting code glyph drawing made swidth h1 h2 h3 s a u =
     let m = map_ok_ok (λ (m : Metrics). thousandths m.advance_width setting.font.head.units_per_em)
     (map_fault of_font (metrics_of setting.font glyph)) swidth (sym h3) in
-    let shaped = map_fault_ok (of_raster glyph) (shape_of (rule_for setting.dropout drawing.wish) drawing.ends drawing.points)
+    let shaped = map_fault_ok (of_raster glyph) (shape_of (rule_in setting drawing.wish) drawing.ends drawing.points)
     made.shape h2 in (
       sketch_from setting code drawing made.shape m.0,
       sketch_is setting code glyph drawing made.shape m.0 h1 h2 m.1,
       record {
         shape = refl;
-        outlined = (rule_for setting.dropout drawing.wish, drawing.ends, drawing.points, shaped);
+        outlined = (rule_in setting drawing.wish, drawing.ends, drawing.points, shaped);
         swidth = s ∙ sym m.2;
         dwidth = ap (λ (z : ℤ). near_of z (pos 64)) a;
         usage = u;
@@ -143,11 +143,11 @@ no_outline setting code glyph d f =
 -- the outline lies too far out or is too large
 pub no_shape : (setting : Setting) (code glyph : ℕ) (drawing : GlyphOutlineView) (d : Refusal)
     → map_fault of_hint (outline_in setting glyph) ≡ Ok drawing
-    → Fails d (map_fault (of_raster glyph) (shape_of (rule_for setting.dropout drawing.wish) drawing.ends drawing.points))
+    → Fails d (map_fault (of_raster glyph) (shape_of (rule_in setting drawing.wish) drawing.ends drawing.points))
     → Fails d (glyph_sketch_of setting code glyph)
 unfolding glyph_sketch_of
 no_shape setting code glyph drawing d h f =
-    fails_on d (map_fault (of_raster glyph) (shape_of (rule_for setting.dropout drawing.wish) drawing.ends drawing.points))
+    fails_on d (map_fault (of_raster glyph) (shape_of (rule_in setting drawing.wish) drawing.ends drawing.points))
     (glyph_sketch_of setting code glyph) (λ e k. rw (h, k) refl) f
 
 font_fails : {Y : Type 0} (f : FontFault) (due : Result Y Refusal) → due ≡ Err (of_font f) → Fails (of_font f) due
@@ -164,7 +164,7 @@ refused_metrics view (Err f) d due h g =
 -- no advance
 pub no_advance : (setting : Setting) (code glyph : ℕ) (drawing : GlyphOutlineView) (shape : ShapeView) (d : Refusal)
     → map_fault of_hint (outline_in setting glyph) ≡ Ok drawing
-    → map_fault (of_raster glyph) (shape_of (rule_for setting.dropout drawing.wish) drawing.ends drawing.points) ≡ Ok shape
+    → map_fault (of_raster glyph) (shape_of (rule_in setting drawing.wish) drawing.ends drawing.points) ≡ Ok shape
     → Err d ≡ map_ok (λ (m : Metrics). thousandths m.advance_width setting.font.head.units_per_em)
     (map_fault of_font (metrics_of setting.font glyph))
     → Fails d (glyph_sketch_of setting code glyph)

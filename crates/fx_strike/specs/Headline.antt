@@ -137,6 +137,7 @@ pub record Surveyed (strike : Result Plan Refusal) (survey : Survey) : Type 0 wh
   pub drawn : AreGlyphsOf plan.sketches glyphs
   pub header : surveyed_header plan.ppem survey ≡ header_of plan glyphs
   pub summary : survey.summary ≡ summary_of glyphs
+  pub wish : survey.wish ≡ plan.wish
   pub told : IsReportOf plan survey.report
 
 -- ---- one character

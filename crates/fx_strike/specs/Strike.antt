@@ -23,6 +23,7 @@ use Rattle.fx_raster.specs.declared.rule.Closing.TheVariants.{Lower, Nearer}
 use Rattle.fx_raster.specs.declared.rule.Rule.TheVariants.{Centres, Bridged}
 use Rattle.fx_request.specs.declared.request.Dropout.{Dropout}
 use Rattle.fx_request.specs.declared.request.Dropout.TheVariants.{Off, Left, Near, Font}
+use Rattle.fx_gstate.specs.Scan.{wish_of}
 use Rattle.fx_gstate.specs.declared.scan.Dropout as asked
 use Rattle.fx_gstate.specs.declared.scan.Dropout.TheVariants as wish
 use Rattle.fx_raster.specs.Rules.{ShapeView, IsPixelSet, shape_of}
@@ -39,6 +40,7 @@ use Rattle.fx_request.specs.declared.refusal.Refusal.{Refusal}
 use Rattle.fx_request.specs.declared.refusal.Refusal.TheVariants.{BadSize, BadChars, BadName, BadProperty, Halted}
 use Rattle.fx_request.specs.Faults.{of_font, of_char_map, of_machine}
 use Rattle.fx_strike.specs.declared.opened.Opened.{Opened}
+use Rattle.fx_strike.specs.declared.basis.Basis.{Basis}
 use Rattle.fx_strike.specs.Faults.{of_hint, of_raster}
 use Rattle.fx_strike.specs.Title.{Title}
 use Rattle.fx_request.specs.Characters.{rising}
@@ -74,13 +76,20 @@ rule_for Left wish = Bridged Lower
 rule_for Near wish = Bridged Nearer
 rule_for Font wish = asked_rule wish
 
--- an opened font, drop-out control, and the machine
-abbrev pub setting_with : Opened → Dropout → Option Known → Setting
-setting_with opened dropout machine = record {
-  font = opened.font;
-  map = opened.map;
-  ppem = opened.ppem;
-  dropout = dropout;
+-- the same in a setting
+abbrev pub rule_in : Setting → Option asked.Dropout → Rule
+rule_in setting wish = rule_for setting.dropout wish
+
+abbrev pub basis_of : Opened → Mode → Basis
+basis_of opened mode = record { opened = opened; dropout = mode.dropout }
+
+-- an opened font with drop-out control, and the machine
+abbrev pub setting_with : Basis → Option Known → Setting
+setting_with basis machine = record {
+  font = basis.opened.font;
+  map = basis.opened.map;
+  ppem = basis.opened.ppem;
+  dropout = basis.dropout;
   machine = machine;
 }
 
@@ -88,7 +97,7 @@ setting_with opened dropout machine = record {
 unfoldable pub setting_in : Opened → Mode → Result Setting Refusal
 setting_in opened mode = do
   machine ← machine_for opened.font opened.ppem mode.hinting
-  Ok (setting_with opened mode.dropout machine)
+  Ok (setting_with (basis_of opened mode) machine)
 
 -- what the machine adds to scaling; nothing without one
 abbrev pub hinting_by : Option Known → Hinting
@@ -99,6 +108,11 @@ hinting_by (Some known) = hinting_of known
 abbrev pub prelude_by : Option Known → Usage
 prelude_by None = no_usage
 prelude_by (Some known) = known.prelude
+
+-- what `prep` left asked of drop-out control; nothing without a machine
+abbrev pub wish_in : Option Known → Option asked.Dropout
+wish_in None = None
+wish_in (Some known) = wish_of known.prepared.graphics
 
 -- ---- a character
 
@@ -133,7 +147,7 @@ sketch_from setting code outline shape metrics = record {
 unfoldable pub glyph_sketch_of : Setting → ℕ → ℕ → Result Sketch Refusal
 glyph_sketch_of setting code glyph = do
   outline ← map_fault of_hint (outline_in setting glyph)
-  shape ← map_fault (of_raster glyph) (shape_of (rule_for setting.dropout outline.wish) outline.ends outline.points)
+  shape ← map_fault (of_raster glyph) (shape_of (rule_in setting outline.wish) outline.ends outline.points)
   metrics ← map_fault of_font (metrics_of setting.font glyph)
   Ok (sketch_from setting code outline shape metrics)
 
@@ -207,7 +221,7 @@ fate_of setting refused code = glyph_fate_of setting refused code (glyph_for set
 
 -- ---- the strike
 
--- a strike before its bits, with what is told of refused characters and what `fpgm` and `prep` used up
+-- a strike before its bits, with what is told of refused characters, and what `fpgm` and `prep` used up and asked for
 pub record Plan : Type 0 where
   pub name : List ℕ
   pub properties : List PropertyView
@@ -219,6 +233,7 @@ pub record Plan : Type 0 where
   pub missing : ℕ
   pub notices : List Notice
   pub prelude : Usage
+  pub wish : Option asked.Dropout
 
 -- FUnits in pixels, rounded
 abbrev pub pixels : ℤ → ℕ → ℕ → ℤ
@@ -241,6 +256,7 @@ plan_from setting title chars fates = record {
   missing = count_by (is_missing setting) (rising chars);
   notices = flat_map notices_in fates;
   prelude = prelude_by setting.machine;
+  wish = wish_in setting.machine;
 }
 
 -- the strike of a title and characters, or the first cause why there is none

@@ -11,6 +11,7 @@ ghost use Rattle.fx_strike.specs.Headline.{Late};
 
 use crate::hinter::{FontHinter, keeping};
 use crate::open::{open_at, open_many};
+use crate::basis::Basis;
 use crate::opened::Opened;
 use crate::striker::Striker;
 use crate::tools::Tools;
@@ -66,8 +67,7 @@ fn striker_in<'a>(
     let tools = Tools {
         alloc,
         scan: &Rows,
-        opened,
-        dropout: mode.dropout,
+        basis: Basis::of(opened, mode),
     };
     Ok(Some(Striker { tools, hinter }))
 }

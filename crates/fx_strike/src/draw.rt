@@ -57,10 +57,10 @@ impl<'a, S: Scan> Tools<'a, S> {
         code: u32,
         glyph: u16,
     ) -> Result<BitGlyph, Refusal>
-        requires cache { AreDue (due_in self.now.opened hinter.old) cache.old }
+        requires cache { AreDue (due_in self.now.basis.opened hinter.old) cache.old }
         ensures kept { hinter.new ≡ hinter.old }
-        ensures cache { AreDue (due_in self.now.opened hinter.old) cache.new }
-        ensures sketch { Draws (glyph_sketch_of (setting_with self.now.opened self.now.dropout hinter.old) code glyph) result }
+        ensures cache { AreDue (due_in self.now.basis.opened hinter.old) cache.new }
+        ensures sketch { Draws (glyph_sketch_of (setting_with self.now.basis hinter.old) code glyph) result }
         ensures code { IfOk result (λ g. g.code ≡ code) }
     {
         let sketched = self.sketch_at(hinter, cache, glyph)?;

@@ -34,14 +34,14 @@ impl<'a, S: Scan> Tools<'a, S> {
         cache: &mut CacheReader<'_>,
         glyph: u16,
     ) -> Result<Sketched, Refusal>
-        requires cache { AreDue (due_in self.now.opened hinter.old) cache.old }
+        requires cache { AreDue (due_in self.now.basis.opened hinter.old) cache.old }
         ensures kept { hinter.new ≡ hinter.old }
-        ensures cache { AreDue (due_in self.now.opened hinter.old) cache.new }
+        ensures cache { AreDue (due_in self.now.basis.opened hinter.old) cache.new }
         ensures sketch { (code : ℕ)
-            → Sketches (glyph_sketch_of (setting_with self.now.opened self.now.dropout hinter.old) code glyph) result }
+            → Sketches (glyph_sketch_of (setting_with self.now.basis hinter.old) code glyph) result }
     {
-        let drawing = outline_at(self.alloc, hinter, cache, &self.opened, glyph)?;
-        sketch_with(&self.opened, self.dropout, glyph, drawing)
+        let drawing = outline_at(self.alloc, hinter, cache, &self.basis.opened, glyph)?;
+        sketch_with(&self.basis, glyph, drawing)
     }
 
     /// The glyph of this number before its bits. Its outline is made, and put into the cache.
@@ -51,15 +51,15 @@ impl<'a, S: Scan> Tools<'a, S> {
         cache: &mut OutlineCache,
         glyph: u16,
     ) -> Result<Sketched, Refusal>
-        requires cache { AreDue (due_in self.now.opened hinter.old) cache.old }
+        requires cache { AreDue (due_in self.now.basis.opened hinter.old) cache.old }
         ensures kept { hinter.new ≡ hinter.old }
-        ensures cache { AreDue (due_in self.now.opened hinter.old) cache.new }
+        ensures cache { AreDue (due_in self.now.basis.opened hinter.old) cache.new }
         ensures sketch { (code : ℕ)
-            → Sketches (glyph_sketch_of (setting_with self.now.opened self.now.dropout hinter.old) code glyph) result }
+            → Sketches (glyph_sketch_of (setting_with self.now.basis hinter.old) code glyph) result }
     {
-        let drawing = outline_made(self.alloc, hinter, &self.opened, glyph)?;
+        let drawing = outline_made(self.alloc, hinter, &self.basis.opened, glyph)?;
         cache.put(glyph, &drawing);
-        sketch_with(&self.opened, self.dropout, glyph, drawing)
+        sketch_with(&self.basis, glyph, drawing)
     }
 
     /// What becomes of a code point that is refused for a cause. Out of memory is none.
@@ -71,8 +71,8 @@ impl<'a, S: Scan> Tools<'a, S> {
         cause: Refusal,
     ) -> Result<Fate, Refusal>
         ensures { (machine : Option Known)
-            → Fails cause (glyph_sketch_of (setting_with self.now.opened self.now.dropout machine) code glyph)
-            → Decides (glyph_fate_of (setting_with self.now.opened self.now.dropout machine) refused code glyph) result }
+            → Fails cause (glyph_sketch_of (setting_with self.now.basis machine) code glyph)
+            → Decides (glyph_fate_of (setting_with self.now.basis machine) refused code glyph) result }
     {
         match cause {
             Refusal::OutOfMemory => Err(Refusal::OutOfMemory),
@@ -92,7 +92,7 @@ impl<'a, S: Scan> Tools<'a, S> {
         glyph: u16,
         halt: Halt,
     ) -> Result<Fate, Refusal>
-        ensures { Decides (refused_by refused code (glyph_sketch_of (setting_with self.now.opened self.now.dropout None) code glyph)
+        ensures { Decides (refused_by refused code (glyph_sketch_of (setting_with self.now.basis None) code glyph)
             (Refusal.Halted halt)) result }
     {
         match refused {
@@ -105,7 +105,7 @@ impl<'a, S: Scan> Tools<'a, S> {
     /// What becomes of a code point whose program halted, and that is drawn without hinting if it has a glyph then.
     fn fate_unhinted(&self, code: u32, glyph: u16, halt: Halt) -> Result<Fate, Refusal>
         ensures { Decides (Ok (halted_by code (Refusal.Halted halt)
-            (glyph_sketch_of (setting_with self.now.opened self.now.dropout None) code glyph))) result }
+            (glyph_sketch_of (setting_with self.now.basis None) code glyph))) result }
     {
         match self.sketch_at(
             &mut FontHinter::none(self.alloc),

@@ -25,7 +25,6 @@ use crate::tools::Tools;
 use fx_bdf::{Bounds, Summary};
 use fx_cache::OutlineCache;
 use fx_fixed::{Ppem, near};
-use fx_machine::Usage;
 use fx_raster::{Region, Scan, Scratch};
 use fx_request::{Deaf, Listener, OnRefused, Refusal, Report, rising_codes};
 
@@ -57,20 +56,21 @@ pub(crate) fn descent_of(opened: &Opened<'_>) -> i32
     whole_pixels(-i32::from(opened.font.hhea().descender), opened.ppem, em)
 }
 
-/// The survey of the code points that were seen, with what `fpgm` and `prep` used up, and what the glyphs settle.
-fn survey_from(prelude: Usage, opened: &Opened<'_>, seen: Seen, summary: Summary) -> Survey
-    ensures { result ≡ survey_from prelude opened.now seen summary }
+/// The survey of the code points that were seen, with what `fpgm` and `prep` used up and asked for, and what the glyphs settle.
+fn survey_from(hinter: &FontHinter<'_>, opened: &Opened<'_>, seen: Seen, summary: Summary) -> Survey
+    ensures { result ≡ survey_from hinter.now opened.now seen summary }
 {
     let report = seen.report;
     Survey {
         bounds: seen.bounds,
         summary,
+        wish: hinter.wish(),
         ascent: ascent_of(opened),
         descent: descent_of(opened),
         report: Report {
             glyphs: report.glyphs,
             missing: report.missing,
-            usage: prelude.plus(report.usage),
+            usage: hinter.prelude().plus(report.usage),
         },
     }
 }
@@ -172,18 +172,18 @@ impl<'a, S: Scan> Tools<'a, S> {
         cache: &mut OutlineCache,
         listener: &mut L,
     ) -> Result<(), Refusal>
-        requires cache { AreDue (due_in self.now.opened hinter.old) cache.old }
+        requires cache { AreDue (due_in self.now.basis.opened hinter.old) cache.old }
         requires few { seen.old.report.glyphs < max_characters }
         requires placed { IsPlaced seen.old.bounds }
         requires narrow { IsNarrow seen.old }
         ensures kept { hinter.new ≡ hinter.old }
-        ensures seen { SeesOne (glyph_fate_of (setting_with self.now.opened self.now.dropout hinter.old) refused code glyph)
+        ensures seen { SeesOne (glyph_fate_of (setting_with self.now.basis hinter.old) refused code glyph)
             seen.old seen.new result }
         ensures heard { OnOk result (HearsAll L.Hears listener.old
-            (notices_by (glyph_fate_of (setting_with self.now.opened self.now.dropout hinter.old) refused code glyph))
+            (notices_by (glyph_fate_of (setting_with self.now.basis hinter.old) refused code glyph))
             listener.new) }
         ensures unheard { IfErr result (λ _. listener.new ≡ listener.old) }
-        ensures cache { AreDue (due_in self.now.opened hinter.old) cache.new }
+        ensures cache { AreDue (due_in self.now.basis.opened hinter.old) cache.new }
     {
         match self.sketch_made(hinter, cache, glyph) {
             Ok(sketched) => self.see_drawn(code, &sketched, seen, &mut hinter.scratch),
@@ -207,12 +207,12 @@ impl<'a, S: Scan> Tools<'a, S> {
         requires few { seen.old.report.glyphs < max_characters }
         requires placed { IsPlaced seen.old.bounds }
         requires narrow { IsNarrow seen.old }
-        requires cause { Fails cause (glyph_sketch_of (setting_with self.now.opened self.now.dropout hinter.old) code glyph) }
+        requires cause { Fails cause (glyph_sketch_of (setting_with self.now.basis hinter.old) code glyph) }
         ensures kept { hinter.new ≡ hinter.old }
-        ensures seen { SeesOne (glyph_fate_of (setting_with self.now.opened self.now.dropout hinter.old) refused code glyph)
+        ensures seen { SeesOne (glyph_fate_of (setting_with self.now.basis hinter.old) refused code glyph)
             seen.old seen.new result }
         ensures heard { OnOk result (HearsAll L.Hears listener.old
-            (notices_by (glyph_fate_of (setting_with self.now.opened self.now.dropout hinter.old) refused code glyph))
+            (notices_by (glyph_fate_of (setting_with self.now.basis hinter.old) refused code glyph))
             listener.new) }
         ensures unheard { IfErr result (λ _. listener.new ≡ listener.old) }
     {
@@ -231,15 +231,15 @@ impl<'a, S: Scan> Tools<'a, S> {
         listener: &mut L,
     ) -> Result<Seen, Refusal>
         requires few { length codes.now ≤ max_characters }
-        requires cache { AreDue (due_in self.now.opened hinter.old) cache.old }
+        requires cache { AreDue (due_in self.now.basis.opened hinter.old) cache.old }
         ensures kept { hinter.new ≡ hinter.old }
-        ensures seen { Sees (setting_with self.now.opened self.now.dropout hinter.old) refused codes.now result }
+        ensures seen { Sees (setting_with self.now.basis hinter.old) refused codes.now result }
         ensures heard { Told L.Hears listener.old listener.new
-            (notices_about (setting_with self.now.opened self.now.dropout hinter.old) refused codes.now) result }
-        ensures cache { AreDue (due_in self.now.opened hinter.old) cache.new }
+            (notices_about (setting_with self.now.basis hinter.old) refused codes.now) result }
+        ensures cache { AreDue (due_in self.now.basis.opened hinter.old) cache.new }
     {
         let mut seen = Seen::new();
-        let mut map = self.opened.map.cursor();
+        let mut map = self.basis.opened.map.cursor();
         // `seen` is what is seen of the code points before this one, and what there is to tell of them was told.
         'codes: for code in codes {
             let glyph = map.glyph(*code);
@@ -262,18 +262,18 @@ impl<'a, S: Scan> Tools<'a, S> {
         listener: &mut L,
     ) -> Result<Survey, Refusal>
         requires few { length codes.now ≤ max_characters }
-        requires cache { AreDue (due_in self.now.opened hinter.old) cache.old }
+        requires cache { AreDue (due_in self.now.basis.opened hinter.old) cache.old }
         ensures kept { hinter.new ≡ hinter.old }
-        ensures cache { AreDue (due_in self.now.opened hinter.old) cache.new }
+        ensures cache { AreDue (due_in self.now.basis.opened hinter.old) cache.new }
         ensures survey { (title : Title) (chars : List ℕ) → codes.now ≡ rising chars
-            → Surveys (plan_with (setting_with self.now.opened self.now.dropout hinter.old) title chars refused) result }
+            → Surveys (plan_with (setting_with self.now.basis hinter.old) title chars refused) result }
         ensures heard { (title : Title) (chars : List ℕ) → codes.now ≡ rising chars
             → Told L.Hears listener.old listener.new
-            (notices_of (plan_with (setting_with self.now.opened self.now.dropout hinter.old) title chars refused)) result }
+            (notices_of (plan_with (setting_with self.now.basis hinter.old) title chars refused)) result }
     {
         let seen = self.see(refused, hinter, codes, cache, listener)?;
         let summary = seen.gathered.summary(seen.report.glyphs);
-        Ok(survey_from(hinter.prelude(), &self.opened, seen, summary))
+        Ok(survey_from(hinter, &self.basis.opened, seen, summary))
     }
 
     /// The survey of the strike of characters, whatever its title.
@@ -286,7 +286,7 @@ impl<'a, S: Scan> Tools<'a, S> {
         requires few { length chars.now ≤ max_characters }
         ensures kept { hinter.new ≡ hinter.old }
         ensures survey { (title : Title)
-            → Surveys (plan_with (setting_with self.now.opened self.now.dropout hinter.old) title chars.now refused) result }
+            → Surveys (plan_with (setting_with self.now.basis hinter.old) title chars.now refused) result }
     {
         let codes = rising_codes(self.alloc, chars)?;
         let mut cache = OutlineCache::without_room(self.alloc);

@@ -4,9 +4,10 @@ ghost use Rattle.fx_fixed.specs.Chain.{map_fault, GivesUnless};
 ghost use Rattle.fx_machine.specs.Known.{machine_of};
 ghost use Rattle.fx_request.specs.Faults.{of_machine};
 ghost use Rattle.fx_strike.specs.Faults.{Fails};
-ghost use Rattle.fx_strike.specs.Strike.{machine_for, prelude_by};
+ghost use Rattle.fx_strike.specs.Strike.{machine_for, prelude_by, wish_in};
 
 use crate::opened::Opened;
+use fx_gstate::Dropout as Wish;
 use fx_hint::{ComponentOf, GlyphInput, HintFault, Hinter, KeepingMachine, Made, NoHinter};
 use fx_machine::{Machine, Unwatched, Usage};
 use fx_raster::Scratch;
@@ -51,6 +52,16 @@ impl<'a> FontHinter<'a> {
         match &self.machine {
             Some(machine) => machine.prelude(),
             None => Usage::none(),
+        }
+    }
+
+    /// What `prep` left asked of drop-out control.
+    pub(crate) fn wish(&self) -> Option<Wish>
+        ensures { result ≡ wish_in self.now }
+    {
+        match &self.machine {
+            Some(machine) => machine.machine().wish(),
+            None => None,
         }
     }
 }

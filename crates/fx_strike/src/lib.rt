@@ -17,6 +17,7 @@
 //! its bits are of. `listing_of` writes the listing of a program straight to the writer, and takes no memory.
 #![tactic(auto)]
 
+mod basis;
 mod block;
 mod choices;
 mod draft;

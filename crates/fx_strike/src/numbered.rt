@@ -20,7 +20,7 @@ impl<'a, S: Scan> Tools<'a, S> {
     /// The glyph of a number.
     fn numbered(&self, hinter: &mut FontHinter<'_>, glyph: u16) -> Result<BitGlyph, Refusal>
         ensures kept { hinter.new ≡ hinter.old }
-        ensures drawn { Draws (numbered_with (setting_with self.now.opened self.now.dropout hinter.old) glyph) result }
+        ensures drawn { Draws (numbered_with (setting_with self.now.basis hinter.old) glyph) result }
     {
         let mut none = CacheReader::empty();
         self.draw(hinter, &mut none, NO_CODE, glyph)

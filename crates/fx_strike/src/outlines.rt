@@ -30,9 +30,9 @@ impl<'a, S: Scan> Tools<'a, S> {
     fn outlined(&self, hinter: &mut FontHinter<'_>, glyph: u16) -> Result<GlyphOutline, Refusal>
         ensures kept { hinter.new ≡ hinter.old }
         ensures outline { GivesUnless Fails view_of_glyph_outline result
-            (outlined_with (setting_with self.now.opened self.now.dropout hinter.old) glyph) }
+            (outlined_with (setting_with self.now.basis hinter.old) glyph) }
     {
-        outline_made(self.alloc, hinter, &self.opened, glyph)
+        outline_made(self.alloc, hinter, &self.basis.opened, glyph)
     }
 
     /// The outline of a glyph; none if there is none.
@@ -43,7 +43,7 @@ impl<'a, S: Scan> Tools<'a, S> {
     ) -> Result<Option<GlyphOutline>, Refusal>
         ensures kept { hinter.new ≡ hinter.old }
         ensures outline { GivesUnless Fails (option_map view_of_glyph_outline) result
-            (outlined_for (setting_with self.now.opened self.now.dropout hinter.old) glyph) }
+            (outlined_for (setting_with self.now.basis hinter.old) glyph) }
     {
         match glyph {
             Some(glyph) => {
@@ -83,7 +83,7 @@ impl<'a, S: Scan> Striker<'a, S> {
         ensures outline { GivesUnless Fails (option_map view_of_glyph_outline) result
             (outlined_for self.old (chosen_glyph self.old.map choice)) }
     {
-        let glyph = chosen_glyph(&self.tools.opened.map, choice);
+        let glyph = chosen_glyph(&self.tools.basis.opened.map, choice);
         self.tools.outlined_for(&mut self.hinter, glyph)
     }
 }

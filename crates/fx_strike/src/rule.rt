@@ -19,10 +19,10 @@ fn asked_rule(wish: Option<Wish>) -> Rule
 
 /// Which pixels an outline sets, with drop-out control or without; the same for all, or as its font asked.
 #[inline(always)]
-pub(crate) fn rule_for(dropout: Dropout, wish: Option<Wish>) -> Rule
-    ensures { result ≡ rule_for dropout wish }
+pub(crate) fn rule_for(choice: Dropout, wish: Option<Wish>) -> Rule
+    ensures { result ≡ rule_for choice wish }
 {
-    match dropout {
+    match choice {
         Dropout::Off => Rule::Centres,
         Dropout::Left => Rule::Bridged(Closing::Lower),
         Dropout::Near => Rule::Bridged(Closing::Nearer),

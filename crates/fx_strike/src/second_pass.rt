@@ -88,15 +88,15 @@ impl<'a, S: Scan> Tools<'a, S> {
         requires faults { text.old.faults < 2 ^ 63 }
         requires room { HasRoom text.old longest_glyph }
         requires code { code ≤ max_code }
-        requires glyph { glyph ≡ glyph_for self.now.opened.map code }
+        requires glyph { glyph ≡ glyph_for self.now.basis.opened.map code }
         requires here { ¬ (glyph ≡ 0) }
-        requires cache { AreDue (due_in self.now.opened hinter.old) cache.old }
+        requires cache { AreDue (due_in self.now.basis.opened hinter.old) cache.old }
         ensures kept { hinter.new ≡ hinter.old }
-        ensures cache { AreDue (due_in self.now.opened hinter.old) cache.new }
+        ensures cache { AreDue (due_in self.now.basis.opened hinter.old) cache.new }
         ensures same { text.new.sink ≡ text.old.sink }
         ensures quiet { OnOk result (text.new.faults ≡ text.old.faults) }
         ensures short { OnOk result (length_of text.new ≤ length_of text.old + longest_glyph) }
-        ensures lines { (lines : List ℕ) → AreLinesOf (setting_with self.now.opened self.now.dropout hinter.old) refused code lines
+        ensures lines { (lines : List ℕ) → AreLinesOf (setting_with self.now.basis hinter.old) refused code lines
             → AddsMore text.old text.new lines result }
     {
         match self.sketch_at(hinter, cache, glyph) {
@@ -124,14 +124,14 @@ impl<'a, S: Scan> Tools<'a, S> {
         requires faults { text.old.faults < 2 ^ 63 }
         requires room { HasRoom text.old longest_glyph }
         requires code { code ≤ max_code }
-        requires glyph { glyph ≡ glyph_for self.now.opened.map code }
+        requires glyph { glyph ≡ glyph_for self.now.basis.opened.map code }
         requires here { ¬ (glyph ≡ 0) }
-        requires cause { Fails cause (glyph_sketch_of (setting_with self.now.opened self.now.dropout hinter.old) code glyph) }
+        requires cause { Fails cause (glyph_sketch_of (setting_with self.now.basis hinter.old) code glyph) }
         ensures kept { hinter.new ≡ hinter.old }
         ensures same { text.new.sink ≡ text.old.sink }
         ensures quiet { OnOk result (text.new.faults ≡ text.old.faults) }
         ensures short { OnOk result (length_of text.new ≤ length_of text.old + longest_glyph) }
-        ensures lines { (lines : List ℕ) → AreLinesOf (setting_with self.now.opened self.now.dropout hinter.old) refused code lines
+        ensures lines { (lines : List ℕ) → AreLinesOf (setting_with self.now.basis hinter.old) refused code lines
             → AddsMore text.old text.new lines result }
     {
         let fate = self.fate_refused(refused, code, glyph, cause)?;
@@ -151,17 +151,17 @@ impl<'a, S: Scan> Tools<'a, S> {
         requires room { HasRoom text.old longest_glyphs }
         requires few { length codes.now ≤ max_characters }
         requires small { list_any (nat_lt max_code) codes.now ≡ false }
-        requires cache { AreDue (due_in self.now.opened hinter.old) cache.old }
+        requires cache { AreDue (due_in self.now.basis.opened hinter.old) cache.old }
         ensures kept { hinter.new ≡ hinter.old }
-        ensures cache { AreDue (due_in self.now.opened hinter.old) cache.new }
+        ensures cache { AreDue (due_in self.now.basis.opened hinter.old) cache.new }
         ensures same { text.new.sink ≡ text.old.sink }
         ensures quiet { OnOk result (text.new.faults ≡ text.old.faults) }
         ensures short { OnOk result (length_of text.new ≤ length_of text.old + longest_glyphs) }
         ensures lines { (lines : List (List ℕ))
-            → AreAllLinesOf (setting_with self.now.opened self.now.dropout hinter.old) refused codes.now lines
+            → AreAllLinesOf (setting_with self.now.basis hinter.old) refused codes.now lines
             → AddsMore text.old text.new (flat_map (λ t. t) lines) result }
     {
-        let mut map = self.opened.map.cursor();
+        let mut map = self.basis.opened.map.cursor();
         // The lines of the code points so far were written. A character that the font lacks, whose glyph is 0, has none. It is left
         // here, since a function fills its values with zeros when it begins.
         'codes: for code in codes {
@@ -188,13 +188,13 @@ impl<'a, S: Scan> Tools<'a, S> {
         requires properties { AreLines (seen_properties draft.now.properties.now) }
         requires few { length draft.now.codes.now ≤ max_characters }
         requires small { list_any (nat_lt max_code) draft.now.codes.now ≡ false }
-        requires cache { AreDue (due_in self.now.opened hinter.old) cache.old }
+        requires cache { AreDue (due_in self.now.basis.opened hinter.old) cache.old }
         ensures kept { hinter.new ≡ hinter.old }
-        ensures cache { AreDue (due_in self.now.opened hinter.old) cache.new }
+        ensures cache { AreDue (due_in self.now.basis.opened hinter.old) cache.new }
         ensures same { text.new.sink ≡ text.old.sink }
         ensures ended { OnOk result (text.new.waiting ≡ []) }
         ensures lines { (lines : List (List ℕ))
-            → AreAllLinesOf (setting_with self.now.opened self.now.dropout hinter.old) draft.now.refused draft.now.codes.now lines
+            → AreAllLinesOf (setting_with self.now.basis hinter.old) draft.now.refused draft.now.codes.now lines
             → Adds Stops text.old text.new
             (header_text draft.now.name.now (seen_properties draft.now.properties.now) draft.now.header
             ++ (flat_map (λ t. t) lines ++ end_text))
@@ -219,11 +219,11 @@ impl<'a, S: Scan> Tools<'a, S> {
         requires properties { AreLines (seen_properties draft.now.properties.now) }
         requires few { length draft.now.codes.now ≤ max_characters }
         requires small { list_any (nat_lt max_code) draft.now.codes.now ≡ false }
-        requires cache { AreDue (due_in self.now.opened hinter.old) cache.old }
+        requires cache { AreDue (due_in self.now.basis.opened hinter.old) cache.old }
         ensures kept { hinter.new ≡ hinter.old }
-        ensures cache { AreDue (due_in self.now.opened hinter.old) cache.new }
+        ensures cache { AreDue (due_in self.now.basis.opened hinter.old) cache.new }
         ensures text { (lines : List (List ℕ))
-            → AreAllLinesOf (setting_with self.now.opened self.now.dropout hinter.old) draft.now.refused draft.now.codes.now lines
+            → AreAllLinesOf (setting_with self.now.basis hinter.old) draft.now.refused draft.now.codes.now lines
             → Writes (change_of W.held W.fault_count out.old out.new)
             (header_text draft.now.name.now (seen_properties draft.now.properties.now) draft.now.header
             ++ (flat_map (λ t. t) lines ++ end_text))

@@ -13,6 +13,7 @@ ghost use Rattle.fx_strike.specs.inner.Drawing.{Sketches, due_in};
 
 use crate::faults::{of_hint, of_raster};
 use crate::hinter::FontHinter;
+use crate::basis::Basis;
 use crate::opened::Opened;
 use crate::rule::rule_for;
 use crate::sketched::Sketched;
@@ -21,7 +22,7 @@ use fx_fixed::near;
 use fx_hint::{GlyphOutline, outline_with};
 use fx_outline::Outline;
 use fx_raster::{Rule, Shape};
-use fx_request::{Dropout, Refusal};
+use fx_request::Refusal;
 use fx_sfnt::Font;
 use std::alloc::Global;
 
@@ -91,17 +92,16 @@ fn thousandths_at(font: &Font<'_>, glyph: u16) -> Result<i32, Refusal>
 /// then its advance. Its outline sets pixels by the drop-out control that is asked for, or that it asks for itself.
 #[inline(always)]
 pub(crate) fn sketch_with(
-    opened: &Opened<'_>,
-    dropout: Dropout,
+    basis: &Basis<'_>,
     glyph: u16,
     drawing: GlyphOutline,
 ) -> Result<Sketched, Refusal>
-    ensures { (machine : Option Known) (code : ℕ) → due_in opened.now machine glyph ≡ Ok (view_of_glyph_outline drawing)
-        → Sketches (glyph_sketch_of (setting_with opened.now dropout machine) code glyph) result }
+    ensures { (machine : Option Known) (code : ℕ) → due_in basis.now.opened machine glyph ≡ Ok (view_of_glyph_outline drawing)
+        → Sketches (glyph_sketch_of (setting_with basis.now machine) code glyph) result }
 {
-    let rule = rule_for(dropout, drawing.wish);
+    let rule = rule_for(basis.dropout, drawing.wish);
     let shape = shaped(drawing.outline, rule, glyph)?;
-    let swidth = thousandths_at(&opened.font, glyph)?;
+    let swidth = thousandths_at(&basis.opened.font, glyph)?;
     Ok(Sketched {
         shape,
         advance: drawing.advance,

@@ -14,6 +14,7 @@ ghost use Rattle.fx_strike.specs.inner.Surveying.{AreChars, IsChecked, SurveysNa
 
 use crate::hinter::{FontHinter, hinter_at};
 use crate::open::{check_chars, check_text, open_at, open_many};
+use crate::basis::Basis;
 use crate::opened::Opened;
 use crate::surveyed::Survey;
 use crate::tools::Tools;
@@ -39,7 +40,7 @@ impl<'a, S: Scan> Model for Striker<'a, S> {
 
     ghost Value = { Setting };
 
-    ghost view = { λ s. setting_with s.tools.opened s.tools.dropout s.hinter };
+    ghost view = { λ s. setting_with s.tools.basis s.hinter };
 }
 
 impl<'a> Striker<'a, Rows> {
@@ -132,8 +133,7 @@ impl<'a, S: Scan> Striker<'a, S> {
         let tools = Tools {
             alloc,
             scan,
-            opened,
-            dropout: mode.dropout,
+            basis: Basis::of(opened, mode),
         };
         Ok(Striker { tools, hinter })
     }
@@ -146,8 +146,7 @@ impl<'a, S: Scan> Striker<'a, S> {
             tools: Tools {
                 alloc: self.tools.alloc,
                 scan,
-                opened: self.tools.opened,
-                dropout: self.tools.dropout,
+                basis: self.tools.basis,
             },
             hinter: self.hinter,
         }

@@ -26,9 +26,9 @@ impl<'a, S: Scan> Tools<'a, S> {
         code: u32,
     ) -> Result<Option<BitGlyph>, Refusal>
         ensures kept { hinter.new ≡ hinter.old }
-        ensures one { Finds (one_with (setting_with self.now.opened self.now.dropout hinter.old) code) result }
+        ensures one { Finds (one_with (setting_with self.now.basis hinter.old) code) result }
     {
-        let glyph = self.opened.map.glyph(code);
+        let glyph = self.basis.opened.map.glyph(code);
         if glyph == 0 {
             return Ok(None);
         }
@@ -52,15 +52,15 @@ impl<'a, S: Scan> Tools<'a, S> {
         requires title { IsChecked (titled title.now) }
         ensures kept { hinter.new ≡ hinter.old }
         ensures leaves { Leaves {Y = Unit {0}} (Ok tt)
-            (plan_with (setting_with self.now.opened self.now.dropout hinter.old) (titled title.now) chars.now refused)
+            (plan_with (setting_with self.now.basis hinter.old) (titled title.now) chars.now refused)
             (change_of W.held W.fault_count out.old out.new) result }
         ensures heard { Told L.Hears listener.old listener.new (notices_of
-            (plan_with (setting_with self.now.opened self.now.dropout hinter.old) (titled title.now) chars.now refused)) result }
+            (plan_with (setting_with self.now.basis hinter.old) (titled title.now) chars.now refused)) result }
     {
         let codes = rising_codes(self.alloc, chars)?;
         let mut cache = OutlineCache::new(self.alloc, codes.len());
         let survey = self.survey_codes(refused, hinter, &codes, &mut cache, listener)?;
-        let ppem = self.opened.ppem;
+        let ppem = self.basis.opened.ppem;
         let header = survey.header(ppem);
         let properties = title.all_properties(self.alloc, ppem.pixels(), survey.summary)?;
         let draft = Draft {

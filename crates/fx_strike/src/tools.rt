@@ -1,8 +1,7 @@
 //! What glyphs are made with.
 
-use crate::opened::Opened;
+use crate::basis::Basis;
 use fx_raster::Scan;
-use fx_request::Dropout;
 use std::alloc::Global;
 
 /// What glyphs are made with, and no glyph changes: memory, a scan, an opened font at a size, and drop-out control.
@@ -10,6 +9,5 @@ use std::alloc::Global;
 pub(crate) struct Tools<'a, S: Scan> {
     pub alloc: Global,
     pub scan: &'a S,
-    pub opened: Opened<'a>,
-    pub dropout: Dropout,
+    pub basis: Basis<'a>,
 }

@@ -15,7 +15,7 @@ use Rattle.fx_strike.specs.Faults.{Fails}
 use Rattle.fx_strike.specs.Blocks.{IsBlockIn, opened_in}
 use Rattle.fx_strike.specs.Blocks as block
 use Rattle.fx_strike.specs.Strike.{Sketch, Setting, Opening, checked_chars, machine_for, one_in, one_of, one_with, opened_after}
-use Rattle.fx_strike.specs.Strike.{opened_at, opened_many_of, opened_one_of, setting_for, setting_in, setting_of, setting_with}
+use Rattle.fx_strike.specs.Strike.{opened_at, opened_many_of, opened_one_of, setting_for, setting_in, setting_of, setting_with, basis_of}
 use Rattle.fx_strike.specs.Headline.{IsOneOf, Late, character_with}
 use Rattle.fx_strike.specs.Numbers.{numbered_with}
 use Rattle.fx_strike.proofs.BlockSettings.{known_is}
@@ -38,15 +38,15 @@ pub record IsSetBy (due : Result Setting Refusal) (words : List ℕ) : Type 0 wh
   pub block : IsBlockIn setting words
 
 in_set : (o : Opened) (mode : Mode) (m : Option Known) → machine_for o.font o.ppem mode.hinting ≡ Ok m
-    → setting_in o mode ≡ Ok (setting_with o mode.dropout m)
+    → setting_in o mode ≡ Ok (setting_with (basis_of o mode) m)
 unfolding setting_in
-in_set o mode m h = ap (λ (r : Result (Option Known) Refusal). r >>= λ m. Ok (setting_with o mode.dropout m)) h
+in_set o mode m h = ap (λ (r : Result (Option Known) Refusal). r >>= λ m. Ok (setting_with (basis_of o mode) m)) h
 
 pub set_at : (file : FontFileView) (ppem : ℕ) (mode : Mode) (words : List ℕ) → AreWordsOf file ppem mode.hinting words
     → IsSetBy (setting_of file ppem mode) words
 unfolding setting_of
 set_at file ppem mode words w = record {
-  setting = setting_with w.opened mode.dropout w.machine;
+  setting = setting_with (basis_of w.opened mode) w.machine;
   is = ap (λ (o : Opening). o >>= λ o. setting_in o mode) w.opens ∙ in_set w.opened mode w.machine w.runs;
   block = w.of_machine;
 }
@@ -55,7 +55,7 @@ pub set_for : (file : FontFileView) (ppem : ℕ) (chars : List ℕ) (mode : Mode
     → AreWordsOf file ppem mode.hinting words → Ok tt ≡ checked_chars chars → IsSetBy (setting_for file ppem chars mode) words
 unfolding setting_for
 set_for file ppem chars mode words w pass = record {
-  setting = setting_with w.opened mode.dropout w.machine;
+  setting = setting_with (basis_of w.opened mode) w.machine;
   is =
       ap (λ (o : Opening). o >>= λ o. setting_in o mode)
       (ap (λ (k : Result (Unit {0}) Refusal). opened_after ppem k file) (sym pass) ∙ w.opens)
@@ -198,10 +198,10 @@ opened_set : (o : Opened) (mode : Mode) (s : Setting) → setting_in o mode ≡ 
 unfolding setting_in
 opened_set o mode s h = by_machine (machine_for o.font o.ppem mode.hinting) h
   where
-    by_machine : (m : Result (Option Known) Refusal) → (m >>= λ m. Ok (setting_with o mode.dropout m)) ≡ Ok s
+    by_machine : (m : Result (Option Known) Refusal) → (m >>= λ m. Ok (setting_with (basis_of o mode) m)) ≡ Ok s
         → m ≡ Ok s.machine
     by_machine (Ok m) h =
-        let k : setting_with o mode.dropout m ≡ s = same_setting h in ap (λ (t : Setting). Ok t.machine) k
+        let k : setting_with (basis_of o mode) m ≡ s = same_setting h in ap (λ (t : Setting). Ok t.machine) k
     by_machine (Err e) h = absurd (cc)
 
 words_of_setting : (file : FontFileView) (ppem : ℕ) (mode : Mode) (s : Setting) (words : List ℕ)

@@ -1,5 +1,5 @@
 -- What is seen of code points so far, before the first byte of a strike is written.
-use Rattle.std.specs.Prelude.{◌≡◌, neg_ℤ, pos, ℕ, ◌+◌, ◌*◌, ◌^◌, ◌≤◌, nat_lt, not, false, List, [], length, map, filter, Result, Ok, Err}
+use Rattle.std.specs.Prelude.{◌≡◌, neg_ℤ, pos, ℕ, ◌+◌, ◌*◌, ◌^◌, ◌≤◌, nat_lt, not, false, List, [], length, map, filter, Option, Result, Ok, Err}
 use Rattle.std.specs.List.{sum_by, count_by, flat_map, list_any}
 use Rattle.fx_fixed.specs.Numbers.{counted, near_of}
 use Rattle.fx_raster.specs.declared.region.Region.{Region}
@@ -9,7 +9,7 @@ use Rattle.fx_bdf.specs.Properties.{AreProperties}
 use Rattle.fx_bdf.specs.Text.{IsName}
 use Rattle.fx_request.specs.declared.refusal.Refusal.{Refusal}
 use Rattle.fx_request.specs.declared.refusal.Refusal.TheVariants.{OutOfMemory}
-use Rattle.fx_machine.specs.declared.usage.Usage.{Usage}
+use Rattle.fx_machine.specs.Known.{Known}
 use Rattle.fx_machine.specs.Usages.{no_usage, usage_with}
 use Rattle.fx_strike.specs.declared.opened.Opened.{Opened}
 use Rattle.fx_strike.specs.declared.seen.Seen.{Seen}
@@ -20,7 +20,7 @@ use Rattle.fx_request.specs.Limits.{max_characters, max_code}
 use Rattle.fx_request.specs.declared.notice.Notice.{Notice}
 use Rattle.fx_request.specs.declared.request.OnRefused.{OnRefused}
 use Rattle.fx_strike.specs.Strike.{Sketch, Setting, Plan, Fate, drawn, unhinted, left_out, IsGlyphOf, AreGlyphsOf, sketches_in}
-use Rattle.fx_strike.specs.Strike.{notices_in, fate_of, fates_of, is_missing, pixels, plan_with}
+use Rattle.fx_strike.specs.Strike.{notices_in, fate_of, fates_of, is_missing, pixels, plan_with, prelude_by, wish_in}
 use Rattle.fx_strike.specs.Headline.{Surveyed}
 use Rattle.fx_strike.specs.Title.{Title}
 use Rattle.fx_strike.specs.inner.Gathering.{IsGatheredOf, gathered_with}
@@ -122,17 +122,18 @@ notices_about setting refused codes =
 
 -- ---- a survey
 
--- the survey of the code points that were seen, with what `fpgm` and `prep` used up, and what the glyphs settle
-abbrev pub survey_from : Usage → Opened → Seen → Summary → Survey
-survey_from prelude opened seen summary = record {
+-- the survey of the code points that were seen, with what `fpgm` and `prep` used up and asked for, and what the glyphs settle
+abbrev pub survey_from : Option Known → Opened → Seen → Summary → Survey
+survey_from machine opened seen summary = record {
   bounds = seen.bounds;
   summary = summary;
+  wish = wish_in machine;
   ascent = pixels opened.font.hhea.ascender opened.ppem opened.font.head.units_per_em;
   descent = pixels (neg_ℤ opened.font.hhea.descender) opened.ppem opened.font.head.units_per_em;
   report = record {
     glyphs = seen.report.glyphs;
     missing = seen.report.missing;
-    usage = usage_with prelude seen.report.usage;
+    usage = usage_with (prelude_by machine) seen.report.usage;
   };
 }
 

@@ -12,19 +12,19 @@ use Rattle.fx_strike.proofs.sketch.sketch_with.Goals as goal
 pub returns-in_err-shape : goal.returns-in_err-shape
 returns-in_err-shape c machine code due =
     rw (came c.from_residual.result c.from_residual.ensures.1)
-    (no_shape (setting_with c.args.opened.now c.args.dropout machine) code c.args.glyph (view_of_glyph_outline c.args.drawing) _
+    (no_shape (setting_with c.args.basis.now machine) code c.args.glyph (view_of_glyph_outline c.args.drawing) _
     (ap (map_fault of_hint) due) (rw c.rule_for-rule.ensures at c.in_err-shape.ensures))
 
 pub returns-in_err-swidth : goal.returns-in_err-swidth
 returns-in_err-swidth c machine code due =
     rw (came c.from_residual-in_err-swidth.result c.from_residual-in_err-swidth.ensures.1)
-    (no_advance (setting_with c.args.opened.now c.args.dropout machine) code c.args.glyph (view_of_glyph_outline c.args.drawing)
+    (no_advance (setting_with c.args.basis.now machine) code c.args.glyph (view_of_glyph_outline c.args.drawing)
     c.in_ok-shape.shape _ (ap (map_fault of_hint) due) (rw c.rule_for-rule.ensures at c.in_ok-shape.ensures)
     c.in_err-swidth.ensures)
 
 pub returns : goal.returns
 returns c machine code due =
-    sketched_whole (setting_with c.args.opened.now c.args.dropout machine) code c.args.glyph (view_of_glyph_outline c.args.drawing)
+    sketched_whole (setting_with c.args.basis.now machine) code c.args.glyph (view_of_glyph_outline c.args.drawing)
     (record {
       shape = c.in_ok-shape.shape;
       advance = c.args.drawing.advance;

@@ -10,9 +10,9 @@ use Rattle.fx_strike.proofs.tools.Tools.see.Given as goal
 abbrev pub invariant-codes : goal.invariant-codes
 invariant-codes g l = record {
   kept : l.hinter ≡ l.fn.hinter;
-  map : l.map ≡ l.self.opened.map;
-  cache : AreDue (due_in l.self.opened l.fn.hinter) l.cache;
-  held : Holds (setting_with l.self.opened l.self.dropout l.fn.hinter) l.refused (take l.code-index l.codes) l.seen;
+  map : l.map ≡ l.self.basis.opened.map;
+  cache : AreDue (due_in l.self.basis.opened l.fn.hinter) l.cache;
+  held : Holds (setting_with l.self.basis l.fn.hinter) l.refused (take l.code-index l.codes) l.seen;
   heard : HearsAll g.L.Listener.Hears l.fn.listener
-      (notices_about (setting_with l.self.opened l.self.dropout l.fn.hinter) l.refused (take l.code-index l.codes)) l.listener;
+      (notices_about (setting_with l.self.basis l.fn.hinter) l.refused (take l.code-index l.codes)) l.listener;
 }

@@ -6,7 +6,7 @@ use Rattle.fx_strike.proofs.tools.Tools.sketch_at.Goals as goal
 pub returns-in_err-drawing-clause-sketch : goal.returns-in_err-drawing-clause-sketch
 returns-in_err-drawing-clause-sketch g c code =
     rw (came c.from_residual.result c.from_residual.ensures.1)
-    (no_outline (setting_with c.args.self.now.opened c.args.self.now.dropout c.args.hinter.now) code c.args.glyph _
+    (no_outline (setting_with c.args.self.now.basis c.args.hinter.now) code c.args.glyph _
     c.in_err-drawing.ensures.value)
 
 pub returns-clause-sketch : goal.returns-clause-sketch

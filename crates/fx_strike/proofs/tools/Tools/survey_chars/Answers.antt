@@ -7,7 +7,7 @@ pub survey_codes-requires : goal.survey_codes-requires
 survey_codes-requires g c =
     record {
       few = few_rising c.args.chars.now c.deref.result.now (c.deref.ensures.value ∙ c.in_ok-codes.ensures) c.requires.few;
-      cache = c.without_room-cache.ensures (due_in c.args.self.now.opened c.args.hinter.now);
+      cache = c.without_room-cache.ensures (due_in c.args.self.now.basis.opened c.args.hinter.now);
     }
 
 pub returns-clause-survey : goal.returns-clause-survey

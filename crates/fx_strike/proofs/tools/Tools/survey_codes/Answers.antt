@@ -1,6 +1,3 @@
-use Rattle.std.proofs.Common.{◌∙◌, ap, Option}
-use Rattle.fx_machine.specs.Known.{Known}
-use Rattle.fx_strike.specs.Strike.{prelude_by}
 use Rattle.fx_strike.proofs.Exits.{came}
 use Rattle.fx_strike.proofs.Making.{unseen, surveyed}
 use Rattle.fx_strike.proofs.Telling.{told_all, told_on, told_strike}
@@ -18,9 +15,8 @@ returns-in_err-seen-clause-heard g c title chars rising =
 
 pub returns-clause-survey : goal.returns-clause-survey
 returns-clause-survey g c title chars rising =
-    surveyed c.args.self.now.opened c.args.self.now.dropout c.args.hinter.now c.prelude.result title chars c.args.codes.now
-    c.args.refused c.in_ok-seen.seen c.summary-summary.result c.survey_from.result
-    (c.prelude.ensures ∙ ap (λ (m : Option Known). prelude_by m) (c.in_ok-seen.ensures).kept) rising
+    surveyed c.args.self.now.basis c.args.hinter.now _ title chars c.args.codes.now
+    c.args.refused c.in_ok-seen.seen c.summary-summary.result c.survey_from.result (c.in_ok-seen.ensures).kept rising
     (c.in_ok-seen.ensures).seen c.summary-summary.ensures c.survey_from.ensures
 
 pub returns-clause-heard : goal.returns-clause-heard

@@ -13,11 +13,11 @@ use Rattle.fx_strike.proofs.tools.Tools.write_all.Given as goal
 abbrev pub invariant-codes : goal.invariant-codes
 invariant-codes g l = record {
   kept : l.hinter ≡ l.fn.hinter;
-  map : l.map ≡ l.self.opened.map;
-  cache : AreDue (due_in l.self.opened l.fn.hinter) l.cache;
+  map : l.map ≡ l.self.basis.opened.map;
+  cache : AreDue (due_in l.self.basis.opened l.fn.hinter) l.cache;
   same : l.text.sink ≡ l.fn.text.sink;
   quiet : l.text.faults ≡ l.fn.text.faults;
   few : length_of l.text ≤ length_of l.fn.text + l.code-index * longest_glyph;
-  lines : (lines : List (List ℕ)) → AreAllLinesOf (setting_with l.self.opened l.self.dropout l.fn.hinter) l.refused l.codes lines
+  lines : (lines : List (List ℕ)) → AreAllLinesOf (setting_with l.self.basis l.fn.hinter) l.refused l.codes lines
       → Adds Stops l.fn.text l.text (flat_map (λ t. t) (take l.code-index lines)) (Ok tt);
 }

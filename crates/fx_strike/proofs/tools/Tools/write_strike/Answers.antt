@@ -13,7 +13,7 @@ use Rattle.fx_strike.proofs.tools.Tools.write_strike.Goals as goal
 pub survey_codes-requires : goal.survey_codes-requires
 survey_codes-requires g c = record {
   few = few_rising c.args.chars.now c.deref.result.now (c.deref.ensures.value ∙ c.in_ok-codes.ensures) c.requires.chars.few;
-  cache = c.new-cache.ensures (due_in c.args.self.now.opened c.args.hinter.now);
+  cache = c.new-cache.ensures (due_in c.args.self.now.basis.opened c.args.hinter.now);
 }
 
 pub write_text-requires-clause-few : goal.write_text-requires-clause-few
