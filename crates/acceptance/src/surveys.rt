@@ -60,8 +60,8 @@ fn a_strike_is_surveyed(rt: HostRuntime) -> Result<(), Fail> {
     Ok(())
 }
 
-/// What `prep` left asked of drop-out control: at 16 pixels an em SCANCTRL of 0110 is on, and SCANTYPE 5 asks for the nearer pixel. At 17
-/// it stays off, which is asked for, too. Without hinting nothing is asked.
+/// What `prep` left asked of drop-out control: at 16 pixels an em SCANCTRL of 0110 is on, and SCANTYPE 5 asks for the nearer
+/// pixel. At 17 it stays off, which is asked for, too. Without hinting nothing is asked.
 #[test]
 fn a_survey_tells_what_prep_asked(rt: HostRuntime) -> Result<(), Fail> {
     let base = fixture(rt.alloc())?;

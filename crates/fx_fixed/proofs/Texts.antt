@@ -1,15 +1,15 @@
 -- Bytes added to a text, one part after another.
 -- Serves `TextWriter`, and all that write through one.
 use Rattle.std.proofs.Common.{◌≡◌, ℕ, ◌+◌, ◌<◌, ◌≤◌, List, [], ◌++◌, length, take, Option, Result, Ok, Err}
-use Rattle.std.proofs.Common.{sym, refl, ap, ◌∙◌, subst, append_assoc, append-nil, length-append, arith, ◌^◌, ◌-◌, OnOk, IfErr}
+use Rattle.std.proofs.Common.{sym, refl, ap, ◌∙◌, subst, append_assoc, append-nil, length-append, arith, IfErr}
 use Rattle.std.specs.Borrow.{GName}
 use Rattle.std.specs.Io.KnownBytes.{Appends}
 use Rattle.std.proofs.KnownBytes.{Appends-trans, Appends-nil}
 use Rattle.std.proofs.Math.Seq.{take-append-add}
 use Rattle.std.proofs.lemmas.List.{take-append-le, length-take-le}
 use Rattle.fx_fixed.specs.declared.sink.WriteFailed.{WriteFailed}
-use Rattle.fx_fixed.specs.Wrote.{Wrote, WroteBy}
-use Rattle.fx_fixed.specs.Texts.{TextView, Adds, AddsBy, Fails, after, begun, with_more, length_of}
+use Rattle.fx_fixed.specs.Wrote.{Wrote}
+use Rattle.fx_fixed.specs.Texts.{TextView, Adds, AddsBy, Fails, after, with_more, length_of}
 
 appends_text : (old new : Option (List ℕ)) (a b : List ℕ) → a ≡ b → Appends old new a → Appends old new b
 appends_text old new a b e h = let P : List ℕ → Type 0 = λ t. Appends old new t in subst P e h
@@ -160,38 +160,6 @@ module _ {E : Type 0} {Stops : E → ℕ → ℕ → ℕ → Type 0} where
       omega (arith, ap length o.1, length-append o.0 now.waiting, length-append was.waiting bytes, o.2)
 
 -- ---- a whole text
-
--- what a writer's last byte may be numbered, so that the count was exact
-wrote_by : (sink : GName) (old : Option (List ℕ)) (faults : ℕ) (now : TextView) (text : List ℕ) (r : Result (Unit {0}) WriteFailed)
-    → Adds Fails (begun sink old faults) now text r → OnOk r (now.waiting ≡ []) → IfErr r (λ e. e.0 < 2 ^ 64 - 1)
-    → WroteBy (record { bytes_before = old; bytes = now.held; faults_before = faults; faults = now.faults }) text r
-wrote_by sink old faults now text (Ok u) h empty low =
-    let o = h.outcome in (
-      appends_text old now.held o.0 text
-          (sym (append-nil o.0) ∙ ap (λ (t : List ℕ). o.0 ++ t) (sym empty) ∙ sym o.1) o.3,
-      o.4,
-    )
-wrote_by sink old faults now text (Err e) h empty low =
-    let o = h.outcome in
-    let same : o.0 ≡ e.0 = omega (arith, o.3.0, low) in
-    let first = ap (λ (n : ℕ). take n text) same in
-    (omega (arith, o.1, same), appends_text old now.held (take o.0 text) (take e.0 text) first o.2, o.3.1)
-
--- a text that was begun, added and ended was written
-pub wrote : {sink : GName} {old new : Option (List ℕ)} {faults_before faults : ℕ} {was now : TextView} {text : List ℕ}
-    {r : Result (Unit {0}) WriteFailed}
-    → was ≡ begun sink old faults_before → Adds Fails was now text r → OnOk r (now.waiting ≡ [])
-    → IfErr r (λ e. e.0 < 2 ^ 64 - 1) → new ≡ now.held → faults ≡ now.faults
-    → Wrote (record { bytes_before = old; bytes = new; faults_before = faults_before; faults = faults }) text r
-wrote {sink} {old} {new} {faults_before} {faults} {was} {now} {text} {r} e h empty low held count =
-    let P : TextView → Type 0 = λ v. Adds Fails v now text r in
-    let Q : Option (List ℕ) → ℕ → Type 0 =
-    λ bytes n. Wrote (record { bytes_before = old; bytes = bytes; faults_before = faults_before; faults = n }) text r in
-    let here : Q now.held now.faults =
-    record { outcome = wrote_by sink old faults_before now text r (subst P e h) empty low } in
-    let there : Q new now.faults =
-    (let R : Option (List ℕ) → Type 0 = λ bytes. Q bytes now.faults in subst R (sym held) here) in
-    let R : ℕ → Type 0 = λ n. Q new n in subst R (sym count) there
 
 -- the number of a fault lies within the text
 short_by : (was now : TextView) (bytes : List ℕ) (r : Result (Unit {0}) WriteFailed) (m : ℕ) → Adds Fails was now bytes r

@@ -13,8 +13,9 @@ pub struct Survey {
     pub bounds: Bounds,
     /// What the glyphs settle of the properties of X11.
     pub summary: Summary,
-    /// What `prep` left asked of drop-out control (SCANCTRL and SCANTYPE, Apple TrueType Reference Manual, "The instruction set"), by
-    /// which `Dropout::Font` draws each glyph whose own program asks for nothing else. None if nothing was asked, or hinting is off.
+    /// What `prep` left asked of drop-out control (SCANCTRL and SCANTYPE, Apple TrueType Reference Manual, "The instruction
+    /// set"), by which `Dropout::Font` draws each glyph whose own program asks for nothing else. None if nothing was asked, or
+    /// hinting is off.
     pub wish: Option<Wish>,
     /// The font's ascent in pixels.
     pub ascent: i32,
