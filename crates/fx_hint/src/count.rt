@@ -1,6 +1,7 @@
 //! What the walk below a root has used up.
 
-ghost use Rattle.std.specs.Prelude.{◌≡◌, ◌+◌, ◌≤◌, OnOk};
+ghost use Rattle.std.specs.Prelude.{◌≡◌, ◌+◌, ◌≤◌, OnOk, Err};
+ghost use Rattle.fx_hint.specs.declared.fault.HintFault.{HintFault as TheFault};
 ghost use Rattle.fx_fixed.specs.Chain.{GivesUnless};
 ghost use Rattle.fx_hint.specs.Faults.{Fails};
 ghost use Rattle.fx_machine.specs.Usages.{usage_with};
@@ -26,6 +27,7 @@ impl Count {
     #[tactic(auto, unfolding(crate::specs::Outlines::one_component))]
     pub fn one_component(&mut self, root: u16) -> Result<(), HintFault>
         ensures value { GivesUnless Fails (λ _. self.new) result (one_component root self.old) }
+        ensures due { (e : TheFault) → result ≡ Err e → one_component root self.old ≡ Err e }
         ensures records { OnOk result ((self.new.records ≡ self.old.records + 1) × (self.new.records ≤ max_components)) }
         ensures points { self.new.points ≡ self.old.points }
     {
@@ -40,6 +42,7 @@ impl Count {
     #[tactic(auto, unfolding(crate::specs::Outlines::more_points))]
     pub fn more_points(&mut self, root: u16, points: usize) -> Result<(), HintFault>
         ensures value { GivesUnless Fails (λ _. self.new) result (more_points root points self.old) }
+        ensures due { (e : TheFault) → result ≡ Err e → more_points root points self.old ≡ Err e }
         ensures records { self.new.records ≡ self.old.records }
         ensures points { OnOk result ((self.new.points ≡ self.old.points + points) × (self.new.points ≤ max_points)) }
     {
