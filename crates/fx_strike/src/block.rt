@@ -9,9 +9,9 @@ ghost use Rattle.fx_strike.specs.Strike.{Setting, checked_chars, machine_for, se
 ghost use Rattle.fx_strike.specs.Strike.{opened_at, opened_many_of};
 ghost use Rattle.fx_strike.specs.Headline.{Late};
 
+use crate::basis::Basis;
 use crate::hinter::{FontHinter, keeping};
 use crate::open::{open_at, open_many};
-use crate::basis::Basis;
 use crate::opened::Opened;
 use crate::striker::Striker;
 use crate::tools::Tools;

@@ -11,9 +11,9 @@ ghost use Rattle.fx_strike.specs.Strike.{hinting_by, setting_with, thousandths, 
 ghost use Rattle.fx_cache.specs.Cached.{AreDue};
 ghost use Rattle.fx_strike.specs.inner.Drawing.{Sketches, due_in};
 
+use crate::basis::Basis;
 use crate::faults::{of_hint, of_raster};
 use crate::hinter::FontHinter;
-use crate::basis::Basis;
 use crate::opened::Opened;
 use crate::rule::rule_for;
 use crate::sketched::Sketched;

@@ -12,9 +12,9 @@ ghost use Rattle.fx_strike.specs.Headline.{IsOneOf, Surveyed, Makes, Leaves, Lat
 ghost use Rattle.fx_strike.specs.inner.Drawing.{Finds};
 ghost use Rattle.fx_strike.specs.inner.Surveying.{AreChars, IsChecked, SurveysNameless};
 
+use crate::basis::Basis;
 use crate::hinter::{FontHinter, hinter_at};
 use crate::open::{check_chars, check_text, open_at, open_many};
-use crate::basis::Basis;
 use crate::opened::Opened;
 use crate::surveyed::Survey;
 use crate::tools::Tools;
