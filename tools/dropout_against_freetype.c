@@ -503,9 +503,9 @@ static bool is_on_some(int column, int row) {
     return false;
 }
 
-/* The kind of a difference at a pixel: pixels there or beside it are set plainly by one alone; else it is set plainly, and lost;
-   else FreeType would do the same if stubs were kept; else by what is beside it: the frame's edge; a neighbour whose centre is on the outline; else how the gaps to its four neighbours
-   are met, where both are not covered. */
+/* The kind of a difference at a pixel. The first of these that holds: pixels there or beside it are set plainly by one alone; it is
+   set plainly, and lost; FreeType would do the same if stubs were kept; the frame's edge is beside it; the centre of a neighbour is on
+   the outline. Else the kind is how the gaps to its four neighbours are met, where both pixels are not covered. */
 static int kind_of(int column, int row) {
     int how = 0;
     bool at_edge = false, is_beside = false;
