@@ -1,8 +1,10 @@
 -- Numbers of hexadecimal digits, and rows of numbers.
 -- Serves `number`, `push_range` and the items of a list.
-use Rattle.std.proofs.Common.{◌≡◌, ◌∙◌, ℕ, zero, suc, ◌+◌, ◌*◌, ◌^◌, ◌<◌, ◌≤◌, List, [], ◌∷◌, ◌++◌, length, get_or, drop, refl, sym}
+use Rattle.std.proofs.Common.{◌≡◌, ◌∙◌, ℕ, zero, suc, ◌+◌, ◌*◌, ◌^◌, ◌<◌, ◌≤◌, List, [], ◌∷◌, ◌++◌, length, get_or, take, drop, refl, sym}
+use Rattle.std.specs.Prelude.{slice_set}
 use Rattle.std.proofs.Common.{ap, arith, Some, None, option_and_then, add-one}
 use Rattle.std.proofs.Math.Seq.{drop-cons}
+use Rattle.std.proofs.lemmas.List.{take_more_set}
 use Rattle.std.proofs.lemmas.Grind.{common_steps}
 use Rattle.hex.specs.Hex.{hex_digit_value}
 use Rattle.fx_arguments.specs.Chars.{number_after, number_of, numbers_from}
@@ -84,6 +86,13 @@ numbers_push low (suc count) =
 
 pub numbers_more : (low count : ℕ) → numbers_from low (count + 1) ≡ numbers_from low count ++ (low + count) ∷ []
 numbers_more low count = ap (numbers_from low) (add-one count) ∙ numbers_push low count
+
+-- the next number is written after those before it
+pub numbers_put : (xs : List ℕ) (low k x : ℕ) → k < length xs → x ≡ low + k → take k xs ≡ numbers_from low k
+    → take (k + 1) (slice_set xs k x) ≡ numbers_from low (k + 1)
+numbers_put xs low k x h e before =
+    take_more_set xs k x h ∙ ap (λ (l : List ℕ). l ++ x ∷ []) before ∙ ap (λ (y : ℕ). numbers_from low k ++ y ∷ []) e
+    ∙ sym (numbers_more low k)
 
 pub length-numbers_from : (low count : ℕ) → length (numbers_from low count) ≡ count
 length-numbers_from low zero = ap (length {A = ℕ}) (numbers_from_zero low)

@@ -1,7 +1,7 @@
 //! Lists of characters.
-ghost use Rattle.std.specs.Prelude.{◌≡◌, ◌⊎◌, ◌+◌, ◌-◌, ◌<◌, ◌≤◌, ◌++◌, length, option_and_then, IfOk, IfErr, IfSome, OnOk, vec_len};
+ghost use Rattle.std.specs.Prelude.{◌≡◌, ◌⊎◌, ◌+◌, ◌-◌, ◌<◌, ◌≤◌, ◌^◌, ◌++◌, length, option_and_then, IfOk, IfErr, IfSome, OnOk, vec_len};
 ghost use Rattle.fx_request.specs.Limits.{max_characters};
-ghost use Rattle.fx_arguments.specs.Chars.{number_of, numbers_between, numbers_of_list, pair_of, range_of};
+ghost use Rattle.fx_arguments.specs.Chars.{number_of, numbers_between, numbers_from, numbers_of_list, pair_of, range_of};
 ghost use Rattle.hex.specs.Hex.{hex_digit_value};
 
 use crate::parts::first_part;
@@ -96,14 +96,25 @@ fn push_range(chars: &mut Vec<u32>, low: u32, high: u32) -> Result<(), Refusal>
     ensures err { IfErr result (λ refusal. (refusal ≡ Refusal.OutOfMemory)
         ⊎ ((refusal ≡ Refusal.BadChars) × (max_characters < vec_len chars.old + (high - low + 1)))) }
 {
-    if (high - low) as usize >= MAX_CHARACTERS - chars.len() {
+    let start = chars.len();
+    let count = (high - low) as usize + 1;
+    if count > MAX_CHARACTERS - start {
         return Err(Refusal::BadChars);
     }
-    // The first k numbers were pushed.
-    'numbers: for k in 0..high - low + 1 {
-        if chars.push(low + k).is_err() {
-            return Err(Refusal::OutOfMemory);
-        }
+    if chars.resize(start + count, low).is_err() {
+        return Err(Refusal::OutOfMemory);
     }
+    put_range(&mut chars[start..], low);
     Ok(())
+}
+
+/// Writes numbers from `low` on, each one more than that before it.
+fn put_range(numbers: &mut [u32], low: u32)
+    requires { low + length numbers.old ≤ 2 ^ 32 }
+    ensures { numbers.new ≡ numbers_from low (length numbers.old) }
+{
+    // The first k numbers are written.
+    'numbers: for k in 0..numbers.len() {
+        numbers[k] = low + k as u32;
+    }
 }

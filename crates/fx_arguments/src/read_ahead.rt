@@ -1,5 +1,5 @@
 //! What was read of an input before its text is read on.
-ghost use Rattle.std.specs.Prelude.{◌≡◌, ◌==◌, ℕ, List, [], true, ◌+◌, ◌<◌, ◌≤◌, ◌^◌, ◌++◌, length, IfOk, IfErr, OnOk};
+ghost use Rattle.std.specs.Prelude.{◌≡◌, ◌==◌, ℕ, List, [], true, ◌+◌, ◌<◌, ◌≤◌, ◌^◌, ◌++◌, length, take, vec_len, IfOk, IfErr, OnOk};
 ghost use Rattle.std.specs.List.{position_or_len};
 ghost use Rattle.std.specs.Io.KnownBytes.{Consumes, IsAtEnd};
 ghost use Rattle.fx_arguments.specs.Limits.{max_input, max_line};
@@ -9,7 +9,7 @@ ghost use Rattle.fx_arguments.specs.ReadAhead.{ahead_of, nothing_ahead};
 use crate::limits::MAX_INPUT;
 use fx_fixed::Source;
 use fx_request::Refusal;
-use std::alloc::Global;
+use std::alloc::{AllocError, Global};
 use std::marker::Model;
 
 /// What was read of an input before its text is read on: a line of arguments, and bytes of the text that came with it.
@@ -67,14 +67,9 @@ impl<'a> ReadAhead<'a> {
     }
 
     /// Reads on to the end of the input, and returns its text: what follows the line.
-    pub fn read_on<R: Source>(
-        &self,
-        alloc: Global,
-        reader: &mut R,
-        buffer: &mut [u8],
-    ) -> Result<Vec<u8>, Refusal>
+    #[tactic(auto, using(crate::proofs::Buffers::text_steps))]
+    pub fn read_on<R: Source>(&self, alloc: Global, reader: &mut R) -> Result<Vec<u8>, Refusal>
         requires faults { R.fault_count reader.old < 2 ^ 63 }
-        requires buffer { 0 < length buffer.old }
         requires ended { self.now.ended ≡ true → IsAtEnd (R.left reader.old) }
         ensures whole { IfOk result (λ text. (more : List ℕ) × Consumes (R.left reader.old) (R.left reader.new) more
             × IsAtEnd (R.left reader.new) × (text.items ≡ self.now.text ++ more) × (self.now.ended ≡ true → more ≡ [])) }
@@ -89,14 +84,36 @@ impl<'a> ReadAhead<'a> {
         if self.ended {
             return Ok(text);
         }
-        // `text` has all that was read.
-        'reading: while text.len() <= MAX_INPUT - self.line {
-            match reader.take(buffer) {
+        let mut filled = text.len();
+        // The bytes of `text` before `filled` are all that was read.
+        'reading: while filled <= MAX_INPUT - self.line {
+            make_room(&mut text, filled)?;
+            match reader.take(&mut text[filled..]) {
                 None => return Err(Refusal::ReadFailed),
-                Some(0) => return Ok(text),
-                Some(n) => text.extend_from_slice(&buffer[..n])?,
+                Some(0) => {
+                    text.truncate(filled);
+                    return Ok(text);
+                }
+                Some(n) => filled += n,
             }
         }
         Err(Refusal::InputTooLarge)
     }
+}
+
+/// How many bytes there is room for at once.
+const PART: usize = 65_536;
+
+/// Makes room in a text after its first `filled` bytes, if there is none.
+fn make_room(text: &mut Vec<u8>, filled: usize) -> Result<(), AllocError>
+    requires few { filled ≤ max_input }
+    requires inside { filled ≤ vec_len text.old }
+    ensures kept { take filled text.new.items ≡ take filled text.old.items }
+    ensures inside { filled ≤ vec_len text.new }
+    ensures room { OnOk result (filled < vec_len text.new) }
+{
+    if filled < text.len() {
+        return Ok(());
+    }
+    text.resize(filled + PART, 0)
 }

@@ -21,9 +21,6 @@ use fx_sfnt::FontFile;
 use fx_strike::{listing_of, make_strike_telling, trace_of, write_outline};
 use std::alloc::Global;
 
-/// The size of the buffer that the input is read through.
-const BUFFER: usize = 32_768;
-
 /// Runs the program on the arguments of a command line, the program's name first. Returns the status: 0 done, 1 refused, 2 usage.
 pub fn run<R: Source, O: Sink, E: Sink>(
     alloc: Global,
@@ -140,8 +137,7 @@ fn run_command<R: Source, O: Sink, E: Sink>(
     ensures { Telling teller.old teller.new (λ told. EndsAfter (seen command.now) ahead.now
         (change_of R.left R.fault_count reader.old reader.new) (change_of O.held O.fault_count out.old out.new) told result) }
 {
-    let mut buffer = [0u8; BUFFER];
-    let text = ahead.read_on(alloc, reader, &mut buffer)?;
+    let text = ahead.read_on(alloc, reader)?;
     run_text(alloc, command, &text, out, teller)
 }
 

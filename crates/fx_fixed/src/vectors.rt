@@ -66,7 +66,7 @@ fn greatest(coordinate: u32, square: u64) -> u16
     ((root(ratio(coordinate, square)) + 1) / 2) as u16
 }
 
-/// 2^30 times the square of a coordinate, divided by the squared length, as a whole number.
+/// 2^30 times the square of a coordinate, divided by the squared length, rounded down; in 64 bits if the product fits them.
 fn ratio(coordinate: u32, square: u64) -> u32
     requires positive { square ≢ 0 }
     requires within { coordinate * coordinate ≤ square }
@@ -81,7 +81,7 @@ fn ratio(coordinate: u32, square: u64) -> u32
     ((1 << 30) * (size * size) / u128::from(square)) as u32
 }
 
-/// The square root of a number as a whole number, by Newton's method.
+/// The square root of a number, rounded down, by Newton's method.
 #[tactic(auto, using(crate::proofs::Roots::root_below_first))]
 fn root(n: u32) -> u32
     requires bound { n ≤ 2 ^ 30 }
@@ -94,8 +94,8 @@ fn root(n: u32) -> u32
     }
     let mut guess = 1 << 15;
     let mut quotient = n / guess;
-    // No number whose square is at most n is above the guess.
-    'newton: while quotient < guess {
+    // The root is not above the guess.
+    'guesses: while quotient < guess {
         guess = (guess + quotient) / 2;
         quotient = n / guess;
     }

@@ -13,7 +13,7 @@ use Rattle.fx_sfnt.specs.Fields.{field}
 use Rattle.fx_glyf.specs.declared.part.Part.{Part}
 use Rattle.fx_glyf.specs.Words.{has, with_front, list_in}
 use Rattle.fx_glyf.specs.Components.{part_size, part_of, next_part, is_followed, parts_from, parts_in, has_program}
-use Rattle.fx_glyf.specs.Components.{we_have_instructions}
+use Rattle.fx_glyf.specs.Components.{we_have_instructions, more_components}
 use Rattle.fx_glyf.proofs.EndPoints.{guarded}
 use Rattle.fx_glyf.proofs.Steps.{Stepped, stepped, none_absurd}
 
@@ -133,7 +133,7 @@ ending_front : (announced : Bool) (p : Part) (o : Option (List Part × List ℕ)
 ending_front announced p None = refl
 ending_front announced p (Some r) = grind (arith, or_assoc)
 
-pub parts_passed : (announced more : Bool) (bytes : List ℕ) (p : Part) (rest : List ℕ) (says after : Bool) → more ≡ true
+parts_passed : (announced more : Bool) (bytes : List ℕ) (p : Part) (rest : List ℕ) (says after : Bool) → more ≡ true
     → Some (p, rest) ≡ next_part bytes → says ≡ has p.flags we_have_instructions → after ≡ is_followed p
     → option_map (ending_with (announced || says)) (parts_in after rest) ≡ option_map (ending_with announced) (parts_in more bytes)
 parts_passed announced more bytes p rest says after m e s a =
@@ -142,6 +142,24 @@ parts_passed announced more bytes p rest says after m e s a =
     ∙ ending_front announced p _
     ∙ sym (ap (λ (b : Bool). option_map (ending_with announced) (parts_in b bytes)) m
     ∙ ap (option_map (ending_with announced)) (parts_at bytes p rest e))
+
+-- the same by its flags
+pub flags_passed : (announced more : Bool) (bytes : List ℕ) (flags n : ℕ) (rest : List ℕ) (says after : Bool) → more ≡ true
+    → flags ≡ field 2 bytes 0 → part_size flags ≤ length bytes → n ≡ part_size flags → rest ≡ drop n bytes
+    → says ≡ has flags we_have_instructions → after ≡ has flags more_components
+    → option_map (ending_with (announced || says)) (parts_in after rest) ≡ option_map (ending_with announced) (parts_in more bytes)
+flags_passed announced more bytes flags n rest says after m is inside size left s a =
+    let taken = part_of (take n bytes) in
+    let same : taken.flags ≡ flags = flags_taken bytes n taken refl (omega (arith, size)) ∙ sym is in
+    let there = part_found n bytes (take n bytes) taken (size ∙ ap part_size is) (omega (arith, size, inside)) refl refl in
+    let next = part_with_rest bytes taken n rest (size ∙ ap part_size (sym same)) left there in
+    parts_passed announced more bytes taken rest says after m next (s ∙ ap (λ (k : ℕ). has k we_have_instructions) (sym same))
+    (a ∙ ap (λ (k : ℕ). has k more_components) (sym same))
+
+-- less is left after it
+pub flags_shorter : (bytes : List ℕ) (flags n : ℕ) (rest : List ℕ) → part_size flags ≤ length bytes → n ≡ part_size flags
+    → rest ≡ drop n bytes → length rest < length bytes
+flags_shorter bytes flags n rest inside size left = grind (arith, length-drop)
 
 pub parts_stopped : (announced more : Bool) (bytes : List ℕ) → more ≡ true → None ≡ next_part bytes
     → None ≡ option_map (ending_with announced) (parts_in more bytes)
@@ -174,4 +192,4 @@ part_taken n bytes taken e h t = grind (arith, field-taken, length-take-le)
 
 pub ruleset next_steps = (part_with_rest, parts_none, part_stepped, part_there)
 
-pub ruleset skip_steps = (part_with_rest, shorter, parts_passed, parts_stopped, parts_ended)
+pub ruleset skip_steps = (flags_shorter, flags_passed, parts_stopped, parts_ended)

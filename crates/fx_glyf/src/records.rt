@@ -1,6 +1,6 @@
 //! The component records of a composite glyph.
 
-ghost use Rattle.std.specs.Prelude.{◌≡◌, ◌+◌, ◌*◌, ◌≤◌, true, length, drop, option_map, IfSome};
+ghost use Rattle.std.specs.Prelude.{◌≡◌, ◌+◌, ◌*◌, ◌≤◌, true, length, drop, option_map, None, IfSome, IfNone};
 ghost use Rattle.fx_sfnt.specs.Fields.{field, signed_field};
 ghost use Rattle.fx_glyf.specs.Components.{args_size, scales_size, part_size, argument_of, scales_of, part_of, next_part, parts_in, ending_of};
 
@@ -112,19 +112,29 @@ pub fn part_size(flags: u16) -> usize
     4 + args_size(flags) + scales_size(flags)
 }
 
-/// The component at the front of the bytes; the next one comes after its size.
+/// The flags of the component at the front of the bytes, if they hold all of it.
 #[tactic(auto, unfolding(crate::specs::Components::next_part))]
-pub fn next_part(bytes: &[u8]) -> Option<Part>
-    ensures value { option_map (λ p. (p, drop (part_size p.flags) bytes.now)) result ≡ next_part bytes.now }
-    ensures inside { IfSome result (λ p. part_size p.flags ≤ length bytes.now) }
+fn next_flags(bytes: &[u8]) -> Option<u16>
+    ensures value { IfSome result (λ flags. flags ≡ field 2 bytes.now 0) }
+    ensures inside { IfSome result (λ flags. part_size flags ≤ length bytes.now) }
+    ensures none { IfNone result (None ≡ next_part bytes.now) }
 {
     if bytes.len() < 4 {
         return None;
     }
-    let size = part_size(u16_in(bytes, 0));
-    if bytes.len() < size {
+    let flags = u16_in(bytes, 0);
+    if bytes.len() < part_size(flags) {
         return None;
     }
+    Some(flags)
+}
+
+/// The component at the front of the bytes; the next one comes after its size.
+pub fn next_part(bytes: &[u8]) -> Option<Part>
+    ensures value { option_map (λ p. (p, drop (part_size p.flags) bytes.now)) result ≡ next_part bytes.now }
+    ensures inside { IfSome result (λ p. part_size p.flags ≤ length bytes.now) }
+{
+    let size = part_size(next_flags(bytes)?);
     Some(part(before(bytes, size)))
 }
 
@@ -138,8 +148,7 @@ pub fn skip_parts(bytes: &[u8]) -> Option<(bool, &[u8])>
     let mut rest = bytes;
     // What comes after the components that are left comes after all.
     'parts: while more {
-        let part = next_part(rest)?;
-        let flags = part.flags;
+        let flags = next_flags(rest)?;
         announced |= has_program(flags);
         more = is_followed(flags);
         rest = after(rest, part_size(flags));

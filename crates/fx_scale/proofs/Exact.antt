@@ -1,7 +1,7 @@
 -- A value in a font at a valid size needs no wrapping.
 -- For the clauses of `scaled`.
 use Rattle.std.proofs.Common.{◌≡◌, ◌≢◌, ℕ, ◌+◌, ◌≤◌, ◌<◌, ◌^◌, ◌*◌, ℤ, pos, ◌*ℤ◌, ◌-ℤ◌}
-use Rattle.std.proofs.Common.{unsigned_abs, FitsSigned, arith, ◌∙◌, refl}
+use Rattle.std.proofs.Common.{unsigned_abs, FitsSigned, arith, refl}
 use Rattle.std.proofs.lemmas.Int.{ints, int_wrap_fits, unsigned_abs-mul}
 use Rattle.std.proofs.Math.Nat.{mul-le-mul, mul-le-mul_left}
 use Rattle.std.specs.Int.{w32}
@@ -36,19 +36,19 @@ pub within : (m : ℕ) (v : ℤ) (p d : ℕ) (n q : ℤ) → n ≡ v *ℤ pos (p
 unfolding Nearest
 within m v p d n q e near h k u = grind (arith, product_within, quotient_within)
 
--- the near value of a font's value
-pub exact : (v : ℤ) (p d : ℕ) (n q r : ℤ) → n ≡ v *ℤ pos (p * 64) → Nearest n (pos d) q → r ≡ wrapped_of q
-    → unsigned_abs v ≤ 2 ^ 16 → IsPpem p → IsUnitsPerEm d → r ≡ q
-exact v p d n q r e near w h k u =
-    let s = within (2 ^ 16) v p d n q e near h k u in w ∙ unwrapped q (omega (arith, s))
-
--- what a value of the font is near needs no wrapping
-pub exact_of : (v : ℤ) (p d : ℕ) → unsigned_abs v ≤ 2 ^ 16 → IsPpem p → IsUnitsPerEm d
-    → wrapped_of (near_of (v *ℤ pos (p * 64)) (pos d)) ≡ near_of (v *ℤ pos (p * 64)) (pos d)
+-- what a value of the font is near
+pub near_within : (v : ℤ) (p d : ℕ) → unsigned_abs v ≤ 2 ^ 16 → IsPpem p → IsUnitsPerEm d
+    → unsigned_abs (near_of (v *ℤ pos (p * 64)) (pos d)) < 2 ^ 31
 unfolding Nearest
-exact_of v p d h k u =
-    exact v p d (v *ℤ pos (p * 64)) (near_of (v *ℤ pos (p * 64)) (pos d)) _ refl
-    (near_of_is_near (v *ℤ pos (p * 64)) (pos d) (not_zero d u)) refl h k u
+near_within v p d h k u =
+    let q = near_of (v *ℤ pos (p * 64)) (pos d) in
+    let s = within (2 ^ 16) v p d (v *ℤ pos (p * 64)) q refl (near_of_is_near (v *ℤ pos (p * 64)) (pos d) (not_zero d u)) h k u in
+    omega (arith, s)
   where
     not_zero : (d : ℕ) → IsUnitsPerEm d → pos d ≢ pos 0
     not_zero d u = λ e. let l = u.least in omega (arith, ints, e)
+
+-- it needs no wrapping
+pub exact_of : (v : ℤ) (p d : ℕ) → unsigned_abs v ≤ 2 ^ 16 → IsPpem p → IsUnitsPerEm d
+    → wrapped_of (near_of (v *ℤ pos (p * 64)) (pos d)) ≡ near_of (v *ℤ pos (p * 64)) (pos d)
+exact_of v p d h k u = unwrapped (near_of (v *ℤ pos (p * 64)) (pos d)) (near_within v p d h k u)

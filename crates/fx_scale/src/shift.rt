@@ -1,6 +1,6 @@
 //! Scaling by a shift, in em squares whose FUnits are a power of two.
 
-ghost use Rattle.std.specs.Prelude.{◌≡◌, ◌≤◌, ◌*◌, ◌^◌, pos, ◌+ℤ◌, ◌<ℤ◌, ◌≤ℤ◌, IfSome};
+ghost use Rattle.std.specs.Prelude.{◌≡◌, ◌≤◌, ◌*◌, ◌/◌, ◌+◌, ◌^◌, pos, IfSome};
 ghost use Rattle.fx_fixed.specs.Sizes.{IsPpem};
 ghost use Rattle.fx_sfnt.specs.Units.{IsUnitsPerEm};
 ghost use Rattle.fx_scale.specs.Scaling.{scaled_by};
@@ -9,45 +9,31 @@ use crate::scale::Scale;
 use fx_fixed::F26;
 
 /// A scale in an em square whose FUnits are a power of two, as they mostly are: a value of a font takes a product and a shift.
+///
+/// Both count in parts of which 2^15 are one. A value's product has one part more for each FUnit of the value, which is less than
+/// a whole, so it lies above what it would be for a value above 0, and below it for one below 0. So halves go away from zero.
 #[derive(Clone, Copy)]
 pub struct Shift {
     /// The scale.
     scale: Scale,
-    /// The 1/64 pixels in an em.
-    em: u32,
-    /// The FUnits in an em are two to this power.
+    /// The parts in the product of one FUnit: the 1/64 pixels in an em, and one part.
+    factor: i64,
+    /// The parts in half of the FUnits in an em.
+    half: i64,
+    /// The parts in the FUnits in an em are two to this power.
     bits: u32,
-    /// Half of the FUnits in an em.
-    half: u32,
-    /// How far below 0 the value -32,768 lies at this scale.
-    below: u32,
     ghost size: { IsPpem scale.ppem },
     ghost units: { IsUnitsPerEm scale.units_per_em },
-    ghost few_bits: { bits ≤ 14 },
-    ghost ems: { em ≡ scale.ppem * 64 },
-    ghost power: { 2 ^ bits ≡ scale.units_per_em },
-    ghost halved: { half * 2 ≡ scale.units_per_em },
-    ghost lowest: { below * scale.units_per_em ≡ 32768 * em },
-}
-
-/// How far a value is above -32,768.
-fn above_lowest(v: i16) -> u32
-    ensures { pos result ≡ v +ℤ pos 32768 }
-{
-    (i32::from(v) + 32_768) as u32
-}
-
-/// 1 of a value below 0, whose halves go down, else 0.
-fn down(v: i16) -> u32
-    ensures negative { v <ℤ pos 0 → result ≡ 1 }
-    ensures positive { pos 0 ≤ℤ v → result ≡ 0 }
-{
-    u32::from(v < 0)
+    ghost few_bits: { bits ≤ 29 },
+    ghost factors: { factor ≡ pos (scale.ppem * 64 * 32768 + 1) },
+    ghost power: { 2 ^ bits ≡ scale.units_per_em * 32768 },
+    ghost even: { scale.units_per_em / 2 * 2 ≡ scale.units_per_em },
+    ghost halved: { half ≡ pos (scale.units_per_em / 2 * 32768) },
 }
 
 impl Shift {
     /// A scale as a shift, if its FUnits are a power of two.
-    #[tactic(auto, using(crate::proofs::Shifts::power_fits, crate::proofs::Shifts::ems_below, crate::proofs::Shifts::halves))]
+    #[tactic(auto, using(crate::proofs::Shifts::power_fits, crate::proofs::Shifts::parts_power, crate::proofs::Shifts::halves))]
     pub fn of(scale: &Scale) -> Option<Shift>
         ensures { IfSome result (λ s. s.scale ≡ scale.now) }
     {
@@ -59,18 +45,17 @@ impl Shift {
         }
         Some(Shift {
             scale: *scale,
-            em,
-            bits,
-            half: funits / 2,
-            below: em * (32_768 / funits),
+            factor: i64::from(em) * 32_768 + 1,
+            half: i64::from(funits / 2) * 32_768,
+            bits: bits + 15,
         })
     }
 
-    /// A value in FUnits at this scale, in 26.6 pixels. All is counted from -32,768 on, so that nothing is below 0.
+    /// A value in FUnits at this scale, in 26.6 pixels.
     pub fn apply(&self, v: i16) -> F26
         ensures { result ≡ scaled_by self.now.scale v }
     {
-        let rounded = above_lowest(v) * self.em + self.half - down(v);
-        F26((rounded >> self.bits) as i32 - self.below as i32)
+        let parts = i64::from(v) * self.factor + self.half;
+        F26((parts >> self.bits) as i32)
     }
 }

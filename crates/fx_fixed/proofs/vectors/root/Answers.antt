@@ -2,11 +2,11 @@ use Rattle.std.proofs.Common.{◌+◌, ◌*◌, ◌/◌, ◌≤◌, ℕ, arith, 
 use Rattle.fx_fixed.proofs.Roots.{root_below_guess}
 use Rattle.fx_fixed.proofs.vectors.root.Goals as goal
 
-pub newton-preserved : goal.newton-preserved
-newton-preserved c =
-    let i = c.newton.invariant in
-    let next : (k : ℕ) → k * k ≤ c.args.n → k ≤ (c.newton.guess + c.newton.quotient) / 2 = λ k h.
-    rw i.quotient (root_below_guess c.args.n c.newton.guess k i.positive h) in
+pub guesses-preserved : goal.guesses-preserved
+guesses-preserved c =
+    let i = c.guesses.invariant in
+    let next : (k : ℕ) → k * k ≤ c.args.n → k ≤ (c.guesses.guess + c.guesses.quotient) / 2 = λ k h.
+    rw i.quotient (root_below_guess c.args.n c.guesses.guess k i.positive h) in
     record {
       positive = next 1 (omega arith);
       bound = omega arith;
