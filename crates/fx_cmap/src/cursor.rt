@@ -1,6 +1,6 @@
 //! A character map that is read at one code after the other.
 
-ghost use Rattle.std.specs.Prelude.{◌≡◌};
+ghost use Rattle.std.specs.Prelude.{◌≡◌, ℕ, ◌<◌, ◌≤◌};
 ghost use Rattle.fx_cmap.specs.Lookup.{glyph_for};
 
 use crate::char_map::CharMap;
@@ -9,27 +9,20 @@ use std::marker::Model;
 /// A character map with the place where it was read last. Contracts see it as the map.
 ///
 /// It returns the glyphs that the map does, and is quick for codes in rising order: most of them lie in the segment or group
-/// that was found last, in the next one, or in the gap between them, which needs no search.
+/// that was found last, or in the next one, which needs no search. `gap_end` says how many codes to leave out.
 #[derive(Drop)]
 pub struct Cursor<'m, 'a> {
     map: &'m CharMap<'a>,
     // The number of the segment or group that was found last.
     near: u32,
-    // Codes from here up to the next have no glyph.
-    gap: u32,
-    gap_end: u32,
 }
 
 impl<'m, 'a> Model for Cursor<'m, 'a> {
-    ghost use Rattle.std.specs.Prelude.{◌≡◌, ℕ, ◌<◌, ◌≤◌};
     ghost use Rattle.fx_cmap.specs.declared.mapping.Mapping.{Mapping};
-    ghost use Rattle.fx_cmap.specs.Lookup.{glyph_for};
 
     ghost Value = { Mapping };
 
     ghost view = { λ c. c.map.now };
-
-    ghost invariant = { λ c. (code : ℕ) → c.gap ≤ code → code < c.gap_end → glyph_for c.map.now code ≡ 0 };
 }
 
 impl<'m, 'a> Cursor<'m, 'a> {
@@ -37,37 +30,22 @@ impl<'m, 'a> Cursor<'m, 'a> {
     pub fn new(map: &'m CharMap<'a>) -> Cursor<'m, 'a>
         ensures { result ≡ map.now }
     {
-        Cursor {
-            map,
-            near: 0,
-            gap: 0,
-            gap_end: 0,
-        }
+        Cursor { map, near: 0 }
     }
 
     /// The glyph of a character code, 0 if it has none; for every number, in any order.
-    #[inline(always)]
     pub fn glyph(&mut self, code: u32) -> u16
         ensures value { result ≡ glyph_for self.old code }
         ensures kept { self.new ≡ self.old }
     {
-        if self.gap <= code && code < self.gap_end {
-            return 0;
-        }
-        self.search(code)
+        self.map.glyph_near(&mut self.near, code)
     }
 
-    /// The glyph of a character code that does not lie in the gap.
-    #[inline(never)]
-    fn search(&mut self, code: u32) -> u16
-        ensures value { result ≡ glyph_for self.old code }
-        ensures kept { self.new ≡ self.old }
+    /// A code up to which, from the given one on, no code has a glyph. If `glyph` returned 0 for the code just before, it is the
+    /// first code of the next segment or group; a number up to the code says nothing.
+    pub fn gap_end(&self, code: u32) -> u32
+        ensures { (c : ℕ) → code ≤ c → c < result → glyph_for self.now c ≡ 0 }
     {
-        let glyph = self.map.glyph_near(&mut self.near, code);
-        if glyph == 0 {
-            self.gap = code;
-            self.gap_end = self.map.gap_end(self.near, code);
-        }
-        glyph
+        self.map.gap_end(self.near, code)
     }
 }

@@ -26,17 +26,17 @@ fn each_once(codes: Vec<u32>) -> Vec<u32>
     codes
 }
 
-/// Whether each code point is above the one before it. Those of ranges are, and need not be sorted.
+/// Whether each code point is above the one before it. Those of ranges are, and need not be sorted. It looks at all of them, since
+/// the compiler then takes several at once.
 fn is_rising(chars: &[u32]) -> bool
     ensures { IsTrue result → IsStrictlyIncreasing chars.now }
 {
-    // The code points before this one rise.
+    let mut rises = true;
+    // `rises` says whether the code points before this one rise.
     'codes: for k in 1..chars.len() {
-        if chars[k] <= chars[k - 1] {
-            return false;
-        }
+        rises &= chars[k - 1] < chars[k];
     }
-    true
+    rises
 }
 
 /// The code points in rising order, each once.

@@ -1,4 +1,4 @@
-use Rattle.std.proofs.Common.{◌≡◌, ◌∙◌}
+use Rattle.std.proofs.Common.{◌∙◌}
 use Rattle.fx_request.proofs.Rising.{risen_is_rising, sorted_is_rising}
 use Rattle.fx_request.proofs.characters.rising_codes.Goals as goal
 
