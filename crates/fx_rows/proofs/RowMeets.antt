@@ -31,18 +31,6 @@ missed_not_met : (s : Span) (f : Frame) (r k : ℕ) → IsMissed s (height_of f 
 missed_not_met s f r k (inl h) m = above_not_met (left_end f r k) (right_end f r k) s refl h m.met
 missed_not_met s f r k (inr h) m = below_not_met (left_end f r k) (right_end f r k) s refl h m.met
 
--- ---- the columns within the piece's box
-pub reach_order : (s : Span) (f : Frame) (first end : ℤ) (low high : ℕ) → AreAcross s first end → low ≤ f.width
-    → ((i : ℕ) → i < low → (f.left +ℤ pos i) <ℤ first) → ((i : ℕ) → high ≤ i → i < f.width → end ≤ℤ (f.left +ℤ pos i)) → low ≤ high
-reach_order s f first end low high h w left right = by (below_or_not high low)
-  where
-    by : (high < low) ⊎ (low ≤ high) → low ≤ high
-    by (inl l) =
-        let before = h.0 (f.left +ℤ pos high) (left high l) s.a (inl refl) in
-        let after = h.1 (f.left +ℤ pos high) (right high (omega arith) (omega (arith, l, w))) s.a (inl refl) in
-        absurd (omega (arith, signed_linear, before, after))
-    by (inr l) = l
-
 -- ---- the one segment of a row between the ends
 -- what the piece adds at the left end of a segment that goes to a column before the row's end, or to the end
 left_of_end : (s : Span) (f : Frame) (first end : ℤ) (r n k : ℕ) → AreAcross s first end → f.left ≤ℤ first

@@ -6,7 +6,7 @@
 ghost use Rattle.std.specs.Prelude.{◌≡◌, ◌+◌, ◌*◌, ◌/◌, ◌%◌, ◌^◌, ◌<◌, ◌≤◌, length, take, pos, IfOk};
 ghost use Rattle.fx_winding.specs.Bitmaps.{words_for};
 
-use fx_winding::{Frame, Scratch, words_for};
+use fx_winding::{Counters, Frame, Scratch, refilled, words_for};
 use std::alloc::{AllocError, Global};
 use std::mem;
 
@@ -36,7 +36,7 @@ impl Band {
     ghost use Rattle.fx_rows.specs.inner.Bands.{stride, IsClear};
     ghost use Rattle.fx_rows.specs.inner.Sums.{AreZero};
 
-    /// A band that nothing was added to, with the lists of a scratch, which is left without any.
+    /// A band that nothing was added to. It takes the counters of a scratch, and makes its marks in the scratch's buffer of words.
     #[tactic(auto, using(fx_fixed::proofs::Linear::signed_linear))]
     pub(crate) fn new(
         alloc: Global,
@@ -48,8 +48,10 @@ impl Band {
         ensures clear { IfOk result (λ b. IsClear b) }
     {
         let words = frame.height as usize * words_for(frame.width) + 1;
-        let lent = mem::replace(scratch, Scratch::new(alloc)).with_words(alloc, words)?;
-        let marks = vec![in alloc; 0u32; words]?;
+        let counters = mem::replace(&mut scratch.counters, Counters::new(alloc));
+        let lent = counters.with_words(alloc, words)?;
+        let buffer = mem::replace(&mut scratch.words, Vec::new(alloc));
+        let marks = refilled(buffer, words, 0)?;
         Ok(Band {
             frame,
             diff: lent.numbers,
@@ -74,7 +76,7 @@ impl Band {
         requires { AreZero self.diff.items }
         ensures { result.items ≡ take (self.frame.height * words_for self.frame.width) self.marks.items }
     {
-        *scratch = Scratch {
+        scratch.counters = Counters {
             numbers: self.diff,
             bits: self.touched,
         };

@@ -38,10 +38,7 @@ fn has_line_to(x: i32, y: i32, z: i32) -> bool
     requires near_z { IsWithin (2 ^ 22) z }
     ensures { IsTrue result ↔ IsLineTo x y z }
 {
-    if y <= x {
-        return false;
-    }
-    if z <= x {
+    if y.min(z) <= x {
         return false;
     }
     if !has_line(x, y) {
@@ -58,10 +55,7 @@ fn has_line_from(x: i32, z: i32, y: i32) -> bool
     requires near_z { IsWithin (2 ^ 22) z }
     ensures { IsTrue result ↔ IsLineFrom x z y }
 {
-    if y <= x {
-        return false;
-    }
-    if y <= z {
+    if y <= x.max(z) {
         return false;
     }
     if !has_line(x, y) {

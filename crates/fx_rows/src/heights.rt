@@ -1,6 +1,6 @@
 //! The rows of a band that a piece can touch, and those that its chord passes between its ends.
 
-ghost use Rattle.std.specs.Prelude.{ℕ, ◌+◌, ◌^◌, ◌<◌, ◌≤◌, pos, ◌+ℤ◌, ◌*ℤ◌, ◌<ℤ◌, ◌≤ℤ◌, IsTrue};
+ghost use Rattle.std.specs.Prelude.{◌≡◌, ℕ, ◌+◌, ◌^◌, ◌<◌, ◌≤◌, pos, ◌+ℤ◌, ◌*ℤ◌, ◌<ℤ◌, ◌≤ℤ◌, IsTrue};
 ghost use Rattle.fx_fixed.specs.Ranges.{IsWithin};
 ghost use Rattle.fx_winding.specs.Limits.{IsPixelNumber};
 ghost use Rattle.fx_winding.specs.Outside.{HasAll};
@@ -80,7 +80,29 @@ fn clamped(n: u32, low: u32, high: u32) -> u32
     }
 }
 
+/// How many rows of a frame are below a row, which is one of the frame or the one above its highest.
+fn rows_to(frame: Frame, row: i32) -> u32
+    requires low { frame.bottom ≤ℤ row }
+    requires high { row ≤ℤ (frame.bottom +ℤ pos frame.height) }
+    ensures at { frame.bottom +ℤ pos result ≡ row }
+    ensures within { result ≤ frame.height }
+{
+    (row - frame.bottom) as u32
+}
+
+/// Whether a frame has the rows of the plane from one on and before another.
+#[tactic(auto, using(fx_fixed::proofs::Linear::signed_linear))]
+fn has_rows(frame: Frame, low: i32, past: i32) -> bool
+    ensures { IsTrue result → (frame.bottom ≤ℤ low) × (past ≤ℤ (frame.bottom +ℤ pos frame.height)) }
+{
+    if low < frame.bottom {
+        return false;
+    }
+    past <= frame.bottom + frame.height as i32
+}
+
 /// The rows of a frame from one row of the plane on and before another. Many pieces lie between two rows of centres, and have none.
+/// Nearly all others lie within the frame, so that no end of it comes between.
 #[tactic(auto, using(fx_fixed::proofs::Linear::signed_linear))]
 fn rows_in(frame: Frame, low: i32, past: i32) -> RowRange
     requires low { IsWithin (2 ^ 15) low }
@@ -92,6 +114,12 @@ fn rows_in(frame: Frame, low: i32, past: i32) -> RowRange
     if past <= low {
         let first = rows_below(frame, past);
         return RowRange { first, end: first };
+    }
+    if has_rows(frame, low, past) {
+        return RowRange {
+            first: rows_to(frame, low),
+            end: rows_to(frame, past),
+        };
     }
     RowRange {
         first: rows_below(frame, low),

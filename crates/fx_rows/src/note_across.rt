@@ -18,7 +18,6 @@ ghost use Rattle.fx_rows.specs.inner.Telling.{AreRowsTold};
 ghost use Rattle.fx_rows.specs.inner.Told.{IsEnd, IsEndIn, AreKept};
 ghost use Rattle.fx_rows.specs.inner.Upward.{column_of};
 
-use crate::across::Across;
 use crate::bounded::{Bounded, bounds_of, rise_of};
 use crate::bulge::note_line;
 use crate::heights::RowRange;
@@ -87,34 +86,6 @@ fn note_rows(
     }
 }
 
-/// Whether a frame has all columns of a piece's box.
-#[inline(always)]
-fn has_box(frame: Frame, across: Across) -> bool
-    ensures { IsTrue result → (frame.left ≤ℤ across.first) × (across.end ≤ℤ (frame.left +ℤ pos frame.width)) }
-{
-    frame.left <= across.first && across.end <= frame.left + frame.width as i32
-}
-
-/// The rows in which a piece can meet only the segment that goes to the row's end: those between its ends, if the band has all
-/// columns of its box.
-#[inline(always)]
-fn ended_rows(placed: Placed) -> RowRange
-    ensures first { placed.met.touched.first ≤ result.first }
-    ensures end { result.end ≤ placed.met.touched.end }
-    ensures inner { (s : Span) (r : ℕ) → IsPlaced s placed → result.first ≤ r → r < result.end →
-        IsInner s.a.y s.c.y (height_of placed.frame r) }
-    ensures only { (s : Span) (r k n : ℕ) → IsPlaced s placed → result.first ≤ r → r < result.end → k ≤ placed.frame.width →
-        IsEnd s placed.frame r n → IsMetAcross s placed.frame r k → k ≡ n }
-{
-    if has_box(placed.frame, placed.across) {
-        return placed.met.inner;
-    }
-    RowRange {
-        first: placed.met.touched.first,
-        end: placed.met.touched.first,
-    }
-}
-
 /// Notes the segments that a piece meets across those rows of a band that are before some of the rows that it can touch, or after
 /// them. There are few.
 fn note_others(
@@ -167,7 +138,7 @@ pub(crate) fn note_across(
     ensures count { tally.new.count ≤ tally.old.count + 45 * placed.frame.height }
 {
     let touched = placed.met.touched;
-    let ended = ended_rows(placed);
+    let ended = placed.met.inner;
     note_ends(piece, placed, ended, ends, across);
     if touched.first < ended.first || ended.end < touched.end {
         note_others(piece, placed, ended, across, tally);

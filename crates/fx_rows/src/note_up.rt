@@ -25,7 +25,7 @@ use crate::bulge::has_line;
 use crate::marks::set_bits;
 use crate::passing::end_in;
 use crate::placed::{Placed, first_of};
-use crate::reach::{Reach, columns_under};
+use crate::reach::{Reach, columns_to};
 use fx_winding::{Frame, Piece, Tally, first_from};
 
 /// Notes the segments up to a row in some columns.
@@ -51,37 +51,42 @@ fn note_columns(placed: Placed, row: u32, columns: Reach, up: &mut [u32])
     );
 }
 
-/// The columns of a frame whose centres are at x: those before them are left of it, and those after them right of it.
+/// The columns of a frame whose centres are at x: those before them are left of it, and those after them right of it. x lies right
+/// of the column before the frame's left one, and left of the column after its last.
 #[inline(always)]
 fn columns_at(frame: Frame, x: i32) -> Reach
-    requires { IsWithin (2 ^ 22) x }
+    requires near { IsWithin (2 ^ 22) x }
+    requires left { (pos 128 *ℤ (frame.left -ℤ pos 1) +ℤ pos 64) <ℤ x }
+    requires right { x <ℤ (pos 128 *ℤ (frame.left +ℤ pos frame.width) +ℤ pos 64) }
     ensures { AreAt frame x result }
 {
     let col = first_from(x);
-    let first = columns_under(frame, col);
+    let first = columns_to(frame, col);
     if 128 * col + 64 != x {
         return Reach { first, end: first };
     }
     Reach {
         first,
-        end: columns_under(frame, col + 1),
+        end: first + 1,
     }
 }
 
 /// The columns at the lower end of a piece.
 #[inline(always)]
-fn foot_columns(piece: &Piece, frame: Frame) -> Reach
-    ensures { AreAtFoot (span_of piece.now) frame result }
+fn foot_columns(piece: &Piece, placed: Placed) -> Reach
+    requires { IsPlaced (span_of piece.now) placed }
+    ensures { AreAtFoot (span_of piece.now) placed.frame result }
 {
-    columns_at(frame, foot_x(piece))
+    columns_at(placed.frame, foot_x(piece))
 }
 
 /// The columns at the upper end of a piece.
 #[inline(always)]
-fn head_columns(piece: &Piece, frame: Frame) -> Reach
-    ensures { AreAtHead (span_of piece.now) frame result }
+fn head_columns(piece: &Piece, placed: Placed) -> Reach
+    requires { IsPlaced (span_of piece.now) placed }
+    ensures { AreAtHead (span_of piece.now) placed.frame result }
 {
-    columns_at(frame, head_x(piece))
+    columns_at(placed.frame, head_x(piece))
 }
 
 /// The columns from the first of two ranges to the last of them.
@@ -143,6 +148,48 @@ fn is_under(piece: &Piece, row: i32) -> bool
     true
 }
 
+/// Whether no end of a piece is below the centres of the row below a band. If a row of the band is below those between the ends,
+/// that is known.
+#[inline(always)]
+fn starts_in(piece: &Piece, placed: Placed) -> bool
+    requires { IsPlaced (span_of piece.now) placed }
+    ensures over { IsTrue result → IsAtMostEnds (span_of piece.now) (pos 128 *ℤ (placed.frame.bottom -ℤ pos 1) +ℤ pos 64) }
+    ensures below { result ≡ false → IsOneUnder (span_of piece.now) (pos 128 *ℤ (placed.frame.bottom -ℤ pos 1) +ℤ pos 64) }
+{
+    if placed.met.inner.first > 0 {
+        return true;
+    }
+    is_over(piece, placed.frame.bottom - 1)
+}
+
+/// Whether no end of a piece is above the centres of the row below a band.
+#[inline(always)]
+fn lies_under(piece: &Piece, placed: Placed) -> bool
+    requires { IsPlaced (span_of piece.now) placed }
+    ensures under { IsTrue result → IsAtLeastEnds (span_of piece.now) (pos 128 *ℤ (placed.frame.bottom -ℤ pos 1) +ℤ pos 64) }
+    ensures above { result ≡ false → IsOneOver (span_of piece.now) (pos 128 *ℤ (placed.frame.bottom -ℤ pos 1) +ℤ pos 64) }
+{
+    if placed.met.inner.first > 0 {
+        return false;
+    }
+    is_under(piece, placed.frame.bottom - 1)
+}
+
+/// Whether no end of a piece is above the centres of the row above those between its ends. If the band has that row, it is so.
+#[inline(always)]
+fn ends_in(piece: &Piece, placed: Placed) -> bool
+    requires { IsPlaced (span_of piece.now) placed }
+    ensures under { IsTrue result →
+        IsAtLeastEnds (span_of piece.now) (pos 128 *ℤ (placed.frame.bottom +ℤ pos placed.met.inner.end) +ℤ pos 64) }
+    ensures above { result ≡ false →
+        IsOneOver (span_of piece.now) (pos 128 *ℤ (placed.frame.bottom +ℤ pos placed.met.inner.end) +ℤ pos 64) }
+{
+    if placed.met.inner.end < placed.frame.height {
+        return true;
+    }
+    is_under(piece, placed.frame.bottom + placed.met.inner.end as i32)
+}
+
 /// Whether both ends of a piece are on a line of centres, at one height.
 #[inline(always)]
 fn is_on_line(piece: &Piece) -> bool
@@ -167,8 +214,8 @@ fn columns_below(piece: &Piece, placed: Placed, tally: &mut Tally) -> Reach
     ensures from { ComesFrom (span_of piece.now) placed placed.met.inner.first result }
     ensures count { tally.new.count ≤ tally.old.count + 2 }
 {
-    if is_over(piece, placed.frame.bottom - 1) {
-        return foot_columns(piece, placed.frame);
+    if starts_in(piece, placed) {
+        return foot_columns(piece, placed);
     }
     if placed.lowest {
         return placed.reach;
@@ -188,8 +235,8 @@ fn columns_above(piece: &Piece, placed: Placed) -> Reach
     ensures to { (low : Reach) → ComesFrom (span_of piece.now) placed placed.met.inner.end low →
         IsLevel (span_of piece.now) placed placed.met.inner.end (min low.first result.first) (max low.end result.end) }
 {
-    if is_under(piece, placed.frame.bottom + placed.met.inner.end as i32) {
-        return head_columns(piece, placed.frame);
+    if ends_in(piece, placed) {
+        return head_columns(piece, placed);
     }
     placed.reach
 }
@@ -201,10 +248,10 @@ fn leaves_band(placed: Placed) -> bool
     ensures next { IsTrue result → placed.highest ≡ false }
     ensures stays { result ≡ false → placed.met.inner.end ≡ placed.frame.height → IsTrue placed.highest }
 {
-    if placed.highest {
+    if placed.met.inner.end < placed.frame.height {
         return false;
     }
-    placed.met.inner.end == placed.frame.height
+    !placed.highest
 }
 
 /// Notes the segments that a piece meets up to the rows between its ends. Returns the columns from which it comes up to the row
@@ -263,7 +310,7 @@ pub(crate) fn note_up(
     if is_on_line(piece) {
         return;
     }
-    if is_under(piece, placed.frame.bottom - 1) {
+    if lies_under(piece, placed) {
         return;
     }
     let low = columns_below(piece, placed, tally);

@@ -4,45 +4,48 @@ ghost use Rattle.std.specs.Prelude.{◌≡◌, ◌≢◌, ℕ, ◌+◌, ◌*◌,
 ghost use Rattle.fx_winding.specs.Bitmaps.{words_for as words_for_of};
 ghost use Rattle.fx_winding.specs.Winding.{Span, span_of};
 ghost use Rattle.fx_winding.specs.declared.frame.Frame.{Frame};
-ghost use Rattle.fx_rows.specs.inner.Bulging.{IsBulge};
-ghost use Rattle.fx_rows.specs.inner.Placing.{AreMet, IsPlaced};
+ghost use Rattle.fx_rows.specs.inner.Placing.{AreColumns, AreMet, IsApart, IsPlaced};
 ghost use Rattle.fx_rows.specs.inner.Telling.{AreMetBySome, BitsSay, IsPartOf};
 ghost use Rattle.fx_rows.specs.inner.Told.{IsEndIn};
 
+use crate::across::Across;
+use crate::apart::columns_of;
 use crate::band::MOST_ROWS;
-use crate::bulge::is_bulge;
 use crate::heights::{Met, RowRange, band_of};
-use crate::narrow::across_of;
 use crate::note_across::note_across;
 use crate::note_up::note_up;
 use crate::noting::Noting;
 use crate::placed::Placed;
 use crate::reach::reach_of;
-use fx_winding::{Frame, Notes, Piece, Tally, words_for};
+use fx_winding::{Frame, Notes, Piece, Scratch, Tally, words_for};
 use std::alloc::{AllocError, Global};
 
-/// The segments noted so far, but for those of arcs that bulge, and whether there are such arcs; and of the piece that is being
-/// added to a band, the ends of its rows, from the band's lowest.
+/// The segments noted so far, but for those of pieces that are noted apart, and whether there are such pieces; and of the piece
+/// that is being added to a band, the ends of its rows, from the band's lowest.
 #[derive(Drop)]
 pub(crate) struct Noter {
     pub notes: Notes,
-    pub bulges: bool,
+    pub apart: bool,
     ends: [u32; MOST_ROWS as usize],
     ghost many: { length ends ≡ 128 },
     ghost exact: { IsTrue notes.exact },
 }
 
 impl Noter {
-    /// Nothing is noted of a frame's segments.
-    pub(crate) fn new(alloc: Global, frame: Frame) -> Result<Noter, AllocError>
+    /// Nothing is noted of a frame's segments. The notes are made in the buffers of a scratch.
+    pub(crate) fn new(
+        alloc: Global,
+        frame: Frame,
+        scratch: &mut Scratch,
+    ) -> Result<Noter, AllocError>
         ensures frame { IfOk result (λ n. n.notes.frame ≡ frame) }
         ensures none { (ss : List Span) → IfOk result (λ n. AreMetBySome n.notes.frame n.notes.across.items n.notes.up.items ss) }
     {
-        let mut notes = Notes::none(alloc, frame)?;
+        let mut notes = Notes::none(alloc, frame, scratch)?;
         notes.exact = true;
         Ok(Noter {
             notes,
-            bulges: false,
+            apart: false,
             ends: [0; MOST_ROWS as usize],
         })
     }
@@ -50,8 +53,9 @@ impl Noter {
 
 /// A piece in some rows of a frame.
 #[inline(always)]
-fn placed_in(piece: &Piece, frame: Frame, rows: RowRange, met: Met) -> Placed
+fn placed_in(piece: &Piece, across: Across, frame: Frame, rows: RowRange, met: Met) -> Placed
     requires rows { rows.end ≤ frame.height }
+    requires columns { AreColumns frame (span_of piece.now) across }
     requires met { (g : Frame) → IsPartOf frame rows.first rows.end g → AreMet (span_of piece.now) g met }
     ensures part { IsPartOf frame rows.first rows.end result.frame }
     ensures below { result.below ≡ rows.first * words_for_of frame.width }
@@ -61,7 +65,6 @@ fn placed_in(piece: &Piece, frame: Frame, rows: RowRange, met: Met) -> Placed
     ensures top { rows.end ≡ frame.height → IsTrue result.highest }
 {
     let band = band_of(frame, rows);
-    let across = across_of(piece);
     Placed {
         frame: band,
         below: rows.first as usize * words_for(frame.width),
@@ -76,9 +79,9 @@ fn placed_in(piece: &Piece, frame: Frame, rows: RowRange, met: Met) -> Placed
 impl Noting for Noter {
     ghost tests = { 47 };
 
-    // If there are arcs that bulge, they are noted apart.
+    // Pieces that are noted apart, if there are any, are noted when all bands are done.
     ghost Says = { λ n x.
-        BitsSay (λ s. IsBulge s × IsTrue n.bulges) n.notes.frame n.notes.across.items n.notes.up.items x };
+        BitsSay (λ s. IsApart n.notes.frame s × IsTrue n.apart) n.notes.frame n.notes.across.items n.notes.up.items x };
 
     ghost IsTold = { λ n up end. IsEndIn n.ends up end };
 
@@ -89,11 +92,11 @@ impl Noting for Noter {
 
     #[inline(always)]
     fn note(&mut self, piece: &Piece, frame: Frame, rows: RowRange, met: Met, tally: &mut Tally) {
-        if is_bulge(piece) {
-            self.bulges = true;
+        let Some(across) = columns_of(piece, frame) else {
+            self.apart = true;
             return;
-        }
-        let placed = placed_in(piece, frame, rows, met);
+        };
+        let placed = placed_in(piece, across, frame, rows, met);
         note_across(piece, placed, &self.ends, &mut self.notes.across, tally);
         note_up(piece, placed, &self.ends, &mut self.notes.up, tally);
     }

@@ -25,7 +25,7 @@ abbrev pub column_region : Place → Option Place → Place → Place → ℤ
 column_region a b c p = region_part (turned_place a) (option_map turned_place b) (turned_place c) (turned_place p)
 
 -- ---- the weights
-above_factor : (k z : ℤ) → pos 0 <ℤ k → pos 0 <ℤ (k *ℤ z) → pos 0 <ℤ z
+pub above_factor : (k z : ℤ) → pos 0 <ℤ k → pos 0 <ℤ (k *ℤ z) → pos 0 <ℤ z
 above_factor k z h m = by_lt_z (pos 0) z (λ l. l) (λ l. absurd (no l))
   where
     no : z ≤ℤ pos 0 → ⊥
@@ -35,12 +35,12 @@ above_factor k z h m = by_lt_z (pos 0) z (λ l. l) (λ l. absurd (no l))
         omega (arith, signed_linear, q, f, m)
 
 -- on the chord those of the ends are above 0
-record HasEnds (a b c p : Place) : Type 0 where
-  of_a : pos 0 <ℤ weight_a a b c p
-  of_b : weight_b a b c p ≡ pos 0
-  of_c : pos 0 <ℤ weight_c a b c p
+pub record HasEnds (a b c p : Place) : Type 0 where
+  pub of_a : pos 0 <ℤ weight_a a b c p
+  pub of_b : weight_b a b c p ≡ pos 0
+  pub of_c : pos 0 <ℤ weight_c a b c p
 
-has_ends : (a b c p : Place) → IsOnRising a c p → area a b c ≢ pos 0 → HasEnds a b c p
+pub has_ends : (a b c p : Place) → IsOnRising a c p → area a b c ≢ pos 0 → HasEnds a b c p
 has_ends a b c p h n =
     let low = h.low in
     let high = h.high in
@@ -72,10 +72,10 @@ has_ends_turned a b c p h = record {
 }
 
 -- what belongs to the region on the chord: all or nothing
-abbrev chord_region : Place → Place → Place → ℤ
+abbrev pub chord_region : Place → Place → Place → ℤ
 chord_region a b c = if is_right_of_chord a b c then sign (area a b c) else pos 0
 
-region_at : (a b c p : Place) → HasEnds a b c p → region_part a (Some b) c p ≡ chord_region a b c
+pub region_at : (a b c p : Place) → HasEnds a b c p → region_part a (Some b) c p ≡ chord_region a b c
 region_at a b c p h = by (is_right_of_chord a b c) refl
   where
     apart : is_right_of_chord a b c ≡ false → ¬ (IsInRegion a b c p)
@@ -149,7 +149,7 @@ total_left : (ax cx px : ℤ) → (ax <ℤ cx → px <ℤ cx) → (cx ≤ℤ ax 
 total_left ax cx px h k = grind (arith, ints)
 
 -- ---- the regions
-regions_right : (a b c : Place) → a.y <ℤ c.y → pos 0 <ℤ area a b c
+pub regions_right : (a b c : Place) → a.y <ℤ c.y → pos 0 <ℤ area a b c
     → (chord_region (turned_place a) (turned_place b) (turned_place c) ≡ (if int_le c.x a.x then negsuc 0 else pos 0))
     × (chord_region a b c ≡ pos 1)
 regions_right a b c h d =
@@ -165,7 +165,7 @@ regions_right a b c h d =
       λ i. if chord_right (area a b c *ℤ (c.y -ℤ a.y)) a.y b.y c.y q i then s i else pos 0,
     )
 
-regions_left : (a b c : Place) → a.y <ℤ c.y → area a b c <ℤ pos 0
+pub regions_left : (a b c : Place) → a.y <ℤ c.y → area a b c <ℤ pos 0
     → (chord_region (turned_place a) (turned_place b) (turned_place c) ≡ (if int_lt a.x c.x then pos 1 else pos 0))
     × (chord_region a b c ≡ pos 0)
 regions_left a b c h d =

@@ -120,19 +120,8 @@ crossings_sum a c p h k n =
     strictly : (z : ℤ) → z ≢ pos 0 → z ≤ℤ pos 0 → z <ℤ pos 0
     strictly z n h = grind (arith, ints)
 
--- and on it both are 0
-pub crossings_none : (a c p : Place) → area a c p ≡ pos 0
-    → (column_crossing a c p ≡ pos 0) × (chord_crossing a c p ≡ pos 0)
-crossings_none a c p z = (
-  ap (crossing_number a.x c.x p.x) (area_turned a c p ∙ ap neg_ℤ z) ∙ none a.x c.x p.x,
-  ap (crossing_number a.y c.y p.y) z ∙ none a.y c.y p.y,
-)
-  where
-    none : (a c p : ℤ) → crossing_number a c p (pos 0) ≡ pos 0
-    none a c p = grind (arith, ints)
-
 -- ---- on the chord
-none_factor : (k z : ℤ) → pos 0 <ℤ k → k *ℤ z ≡ pos 0 → z ≡ pos 0
+pub none_factor : (k z : ℤ) → pos 0 <ℤ k → k *ℤ z ≡ pos 0 → z ≡ pos 0
 none_factor k (pos zero) h e = refl
 none_factor k (pos (suc n)) h e =
     absurd (let p = product_above_zero k (pos (suc n)) h (omega (arith, ints)) in omega (arith, signed_linear, p, e))

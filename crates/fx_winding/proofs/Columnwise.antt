@@ -21,7 +21,7 @@ use Rattle.fx_winding.proofs.Sideways.{turned_rising, turned_falling}
 use Rattle.fx_winding.proofs.Turning.{turned_below, turned_above}
 
 -- ---- one number, or another
-same_or_not : (x y : ℤ) → (x ≡ y) ⊎ (x ≢ y)
+pub same_or_not : (x y : ℤ) → (x ≡ y) ⊎ (x ≢ y)
 same_or_not x y = grind (arith, ints)
 
 -- ---- a column, seen as a row of the exchanged piece

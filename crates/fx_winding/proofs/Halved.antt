@@ -263,19 +263,19 @@ pub halves_add_up : HalvesAddUp
 halves_add_up s f g e p off = (by_middles s.a s.b s.c f g e p).1 off
 
 -- ---- a place is on an arc or not
-abbrev Known : Type 0 → Type 0
+abbrev pub Known : Type 0 → Type 0
 Known P = P ⊎ (¬ P)
 
-known_either : {P Q : Type 0} → Known P → Known Q → Known (P ⊎ Q)
+pub known_either : {P Q : Type 0} → Known P → Known Q → Known (P ⊎ Q)
 known_either p q = grind arith
 
-known_as : {P Q : Type 0} → (P → Q) → (Q → P) → Known P → Known Q
+pub known_as : {P Q : Type 0} → (P → Q) → (Q → P) → Known P → Known Q
 known_as to from p = grind arith
 
 known_range : (a b c p : ℤ) → Known (IsInRange a b c p)
 known_range a b c p = grind (arith, ints)
 
-known_curve : (a b c p : Place) → Known (IsOnCurve a b c p)
+pub known_curve : (a b c p : Place) → Known (IsOnCurve a b c p)
 known_curve a b c p =
     known_as (λ k. record { bent = k.0; on_arc = k.1 }) (λ on. (on.bent, on.on_arc))
     (by (area a b c) (weight_a a b c p) (weight_b a b c p) (weight_c a b c p) _)
@@ -283,7 +283,7 @@ known_curve a b c p =
     by : (d u v w q : ℤ) → Known ((d ≢ pos 0) × ((pos 0 ≤ℤ u) × (pos 0 ≤ℤ v) × (pos 0 ≤ℤ w) × (q ≡ pos 0)))
     by d u v w q = grind (arith, ints)
 
-known_flat : (a b c p : Place) → Known (IsOnFlatArc a b c p)
+pub known_flat : (a b c p : Place) → Known (IsOnFlatArc a b c p)
 known_flat a b c p =
     known_as (λ k. record { flat = k.0; with_ab = k.1; with_bc = k.2; with_ac = k.3; range_x = k.4; range_y = k.5 })
     (λ on. (on.flat, on.with_ab, on.with_bc, on.with_ac, on.range_x, on.range_y))

@@ -6,8 +6,10 @@ ghost use Rattle.fx_winding.specs.Notes.{IsNoted};
 ghost use Rattle.fx_winding.specs.Winding.{Span};
 
 use crate::frame::Frame;
-use crate::words::words_for;
+use crate::scratch::Scratch;
+use crate::words::{refilled, words_for};
 use std::alloc::{AllocError, Global};
+use std::mem;
 
 /// A bit for each segment between neighbouring centres of a frame's rows and columns, those that lead out of the frame too. They
 /// are numbered like the frame's pixels, each by its right or its upper end.
@@ -25,8 +27,14 @@ pub struct Notes {
 }
 
 impl Notes {
-    /// The notes of a frame whose words have these bits.
-    fn with_bits(alloc: Global, frame: Frame, bits: u32, exact: bool) -> Result<Notes, AllocError>
+    /// The notes of a frame whose words have these bits, in the buffers of a scratch.
+    fn with_bits(
+        alloc: Global,
+        frame: Frame,
+        bits: u32,
+        exact: bool,
+        scratch: &mut Scratch,
+    ) -> Result<Notes, AllocError>
         ensures frame { IfOk result (λ n. n.frame ≡ frame) }
         ensures exact { IfOk result (λ n. n.exact ≡ exact) }
         ensures across { IfOk result (λ n. n.across.items ≡ replicate (frame.height * words_for_of frame.width + 1) bits) }
@@ -34,31 +42,33 @@ impl Notes {
     {
         let words = words_for(frame.width);
         let rows = frame.height as usize;
+        let across = mem::replace(&mut scratch.across, Vec::new(alloc));
+        let up = mem::replace(&mut scratch.up, Vec::new(alloc));
         Ok(Notes {
             frame,
-            across: vec![in alloc; bits; rows * words + 1]?,
-            up: vec![in alloc; bits; (rows + 1) * words]?,
+            across: refilled(across, rows * words + 1, bits)?,
+            up: refilled(up, (rows + 1) * words, bits)?,
             exact,
         })
     }
 
-    /// The notes of a frame in which no segment is noted.
-    pub fn none(alloc: Global, frame: Frame) -> Result<Notes, AllocError>
+    /// The notes of a frame in which no segment is noted, in the buffers of a scratch.
+    pub fn none(alloc: Global, frame: Frame, scratch: &mut Scratch) -> Result<Notes, AllocError>
         ensures frame { IfOk result (λ n. n.frame ≡ frame) }
         ensures across { (i : ℕ) → IfOk result (λ n. word_bit n.across.items i ≡ 0) }
         ensures up { (i : ℕ) → IfOk result (λ n. word_bit n.up.items i ≡ 0) }
     {
-        let notes = Notes::with_bits(alloc, frame, 0, true)?;
+        let notes = Notes::with_bits(alloc, frame, 0, true, scratch)?;
         Ok(notes)
     }
 
-    /// The notes of a frame in which each segment is noted.
-    pub fn all(alloc: Global, frame: Frame) -> Result<Notes, AllocError>
+    /// The notes of a frame in which each segment is noted, in the buffers of a scratch.
+    pub fn all(alloc: Global, frame: Frame, scratch: &mut Scratch) -> Result<Notes, AllocError>
         ensures frame { IfOk result (λ n. n.frame ≡ frame) }
         ensures inexact { IfOk result (λ n. n.exact ≡ false) }
         ensures noted { (s : Span) → IfOk result (λ n. IsNoted s frame n.across.items n.up.items) }
     {
-        let notes = Notes::with_bits(alloc, frame, u32::MAX, false)?;
+        let notes = Notes::with_bits(alloc, frame, u32::MAX, false, scratch)?;
         Ok(notes)
     }
 }

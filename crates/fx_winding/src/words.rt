@@ -1,8 +1,10 @@
 //! Rows of pixels as words of 32 bits, the leftmost pixel the highest bit of the first word.
 
-ghost use Rattle.std.specs.Prelude.{◌≡◌, ◌≢◌, ◌↔◌, IsTrue, ℕ, ◌/◌, ◌<◌, ◌≤◌, length};
+ghost use Rattle.std.specs.Prelude.{◌≡◌, ◌≢◌, ◌↔◌, IsTrue, IfOk, ℕ, ◌/◌, ◌<◌, ◌≤◌, length, replicate};
 ghost use Rattle.fx_winding.specs.Limits.{greatest_side};
 ghost use Rattle.fx_winding.specs.Bitmaps.{words_for as words_for_of, word_bit};
+
+use std::alloc::AllocError;
 
 /// The number of words that hold a row of this width.
 pub fn words_for(width: u32) -> usize
@@ -27,4 +29,16 @@ pub fn set_bit(words: &mut [u32], i: usize)
     ensures others { (j : ℕ) → j ≢ i → word_bit words.new j ≡ word_bit words.old j }
 {
     words[i / 32] |= 1 << (31 - i % 32);
+}
+
+/// `count` words that are all the same, in the buffer of other words, which are lost. Memory is asked for only if the buffer is too
+/// short.
+pub fn refilled(buffer: Vec<u32>, count: usize, word: u32) -> Result<Vec<u32>, AllocError>
+    ensures { IfOk result (λ ws. ws.items ≡ replicate count word) }
+{
+    let mut words = buffer;
+    words.clear();
+    words.reserve_exact(count)?;
+    words.resize(count, word)?;
+    Ok(words)
 }

@@ -1,11 +1,13 @@
 -- Pieces in a band of rows.
-use Rattle.std.specs.Prelude.{ℕ, ◌≤◌, ◌<◌, pos, ◌+ℤ◌, ◌≤ℤ◌, ◌<ℤ◌}
+use Rattle.std.specs.Prelude.{◌⊎◌, ℕ, ◌≤◌, ◌<◌, pos, ◌+ℤ◌, ◌≤ℤ◌, ◌<ℤ◌}
 use Rattle.fx_winding.specs.declared.frame.Frame.{Frame}
 use Rattle.fx_winding.specs.Outside.{HasAll}
 use Rattle.fx_winding.specs.Winding.{Span}
+use Rattle.fx_rows.specs.declared.across.Across.{Across}
 use Rattle.fx_rows.specs.declared.heights.Met.{Met}
 use Rattle.fx_rows.specs.declared.heights.RowRange.{RowRange}
 use Rattle.fx_rows.specs.declared.placed.Placed.{Placed}
+use Rattle.fx_rows.specs.inner.Bulging.{IsBulge}
 use Rattle.fx_rows.specs.inner.Heights.{height_of, IsAtMostEnds, IsAtLeastEnds}
 use Rattle.fx_rows.specs.inner.Points.{IsInner, AreAcross}
 
@@ -26,9 +28,26 @@ pub record AreMet (s : Span) (f : Frame) (m : Met) : Type 0 where
   pub under : (r : ℕ) → r < m.inner.first → IsAtMostEnds s (height_of f r)
   pub over : (r : ℕ) → m.inner.end ≤ r → r < f.height → IsAtLeastEnds s (height_of f r)
 
--- and the columns of its box
+-- a frame has all columns of a piece's box
+abbrev pub IsBoxed : Frame → Span → Type 0
+IsBoxed f s = AreAcross s f.left (f.left +ℤ pos f.width)
+
+-- a piece that is noted apart from the others: an arc that bulges, or a piece with a column that the frame lacks
+abbrev pub IsApart : Frame → Span → Type 0
+IsApart f s = IsBulge s ⊎ ¬ (IsBoxed f s)
+
+-- the columns of the box of a piece that is not noted apart
+pub record AreColumns (f : Frame) (s : Span) (a : Across) : Type 0 where
+  pub plain : ¬ (IsBulge s)
+  pub across : AreAcross s a.first a.end
+  pub low : f.left ≤ℤ a.first
+  pub high : a.end ≤ℤ (f.left +ℤ pos f.width)
+
+-- and the columns of its box, all of which the band has
 pub record IsPlaced (s : Span) (p : Placed) : Type 0 where
   pub met : AreMet s p.frame p.met
   pub across : AreAcross s p.across.first p.across.end
+  pub low : p.frame.left ≤ℤ p.across.first
+  pub high : p.across.end ≤ℤ (p.frame.left +ℤ pos p.frame.width)
   pub left : (k : ℕ) → k < p.reach.first → (p.frame.left +ℤ pos k) <ℤ p.across.first
   pub right : (k : ℕ) → p.reach.end ≤ k → k < p.frame.width → p.across.end ≤ℤ (p.frame.left +ℤ pos k)

@@ -1,4 +1,5 @@
 use Rattle.std.proofs.Common.{◌≡◌, ◌<ℤ◌, arith, w32, to_z, of_z}
+use Rattle.std.proofs.lemmas.Int.{clamps}
 use Rattle.fx_fixed.proofs.Linear.{signed_linear}
 use Rattle.fx_rows.proofs.Bulges.{line_same}
 use Rattle.fx_rows.proofs.bulge.has_line_from.Goals as goal
@@ -10,8 +11,10 @@ returns c =
     let z : to_z w32 (of_z w32 c.args.z) ≡ c.args.z = omega (arith, signed_linear, c.requires.near_z) in
     let first = line_same c.has_line.result x y c.has_line.ensures in
     let second = line_same c.has_line-2.result z y c.has_line-2.ensures in
-    let one : c.args.x <ℤ c.args.y = omega (arith, signed_linear, x, y, c.if-y-x.false) in
-    let two : c.args.z <ℤ c.args.y = omega (arith, signed_linear, x, y, z, c.if-y-z.false) in (
+    let most = c.max.ensures in
+    let fits : to_z w32 (of_z w32 c.max.result) ≡ c.max.result = omega (arith, signed_linear, clamps, x, y, z, most.value) in
+    let one : c.args.x <ℤ c.args.y = omega (arith, signed_linear, x, y, z, fits, most.self_bound, c.if-y-max.false) in
+    let two : c.args.z <ℤ c.args.y = omega (arith, signed_linear, x, y, z, fits, most.other_bound, c.if-y-max.false) in (
       λ t. record { above = one; above_too = two; line = first.0 c.if-not-has_line.false; line_too = second.0 t },
       λ h. second.1 h.line_too,
     )

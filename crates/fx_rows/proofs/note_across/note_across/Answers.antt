@@ -3,23 +3,23 @@ use Rattle.fx_winding.specs.Winding.{span_of}
 use Rattle.fx_rows.specs.inner.Segments.{IsBandBit}
 use Rattle.fx_rows.specs.inner.Told.{IsEndIn}
 use Rattle.fx_rows.proofs.Kept.{kept_both, only_both}
-use Rattle.fx_rows.proofs.RowMeets.{all_across}
+use Rattle.fx_rows.proofs.RowMeets.{all_across, met_end}
 use Rattle.fx_rows.proofs.note_across.note_across.Goals as goal
 
 pub note_ends-requires-clause-inner : goal.note_ends-requires-clause-inner
-note_ends-requires-clause-inner c = λ r l m. c.ended_rows-ended.ensures.inner (span_of c.args.piece.now) r c.requires.placed l m
+note_ends-requires-clause-inner c = c.requires.placed.met.inner
 
 pub returns-then-touched-ended-clause-noted : goal.returns-then-touched-ended-clause-noted
 returns-then-touched-ended-clause-noted c =
     let s = span_of c.args.piece.now in
     let p = c.args.placed in
     let is = c.requires.placed in
-    let ended = c.ended_rows-ended.result in
+    let ended = p.met.inner in
     all_across s p.frame p.met ended.first ended.end p.below c.note_others.new.across is.met c.note_others.ensures.below
     (λ r l m k w met.
-    let inner = c.ended_rows-ended.ensures.inner s r is l m in
-    let t = c.requires.told.rows r (omega arith) (omega (arith, m, c.ended_rows-ended.ensures.end, p.rows)) inner in
-    let e = c.ended_rows-ended.ensures.only s r k t.end is l m w t.is met in
+    let inner = is.met.inner r l m in
+    let t = c.requires.told.rows r (omega arith) (omega (arith, m, p.met.to, p.rows)) inner in
+    let e = met_end s p.frame p.across.first p.across.end r t.end k is.across is.low is.high inner t.is w met in
     c.note_others.ensures.kept _ (c.note_ends.ensures.set r k l m
     (subst (λ (j : ℕ). IsEndIn c.args.ends.now r j) (sym e) t.told)))
     c.note_others.ensures.above
@@ -37,12 +37,12 @@ returns-else-ended-touched-clause-noted c =
     let s = span_of c.args.piece.now in
     let p = c.args.placed in
     let is = c.requires.placed in
-    let ended = c.ended_rows-ended.result in
+    let ended = p.met.inner in
     all_across s p.frame p.met ended.first ended.end p.below c.note_ends.new.across is.met
     (λ r l m. absurd (omega (arith, l, m)))
     (λ r l m k w met.
-    let inner = c.ended_rows-ended.ensures.inner s r is l m in
-    let t = c.requires.told.rows r (omega arith) (omega (arith, m, c.ended_rows-ended.ensures.end, p.rows)) inner in
-    let e = c.ended_rows-ended.ensures.only s r k t.end is l m w t.is met in
+    let inner = is.met.inner r l m in
+    let t = c.requires.told.rows r (omega arith) (omega (arith, m, p.met.to, p.rows)) inner in
+    let e = met_end s p.frame p.across.first p.across.end r t.end k is.across is.low is.high inner t.is w met in
     c.note_ends.ensures.set r k l m (subst (λ (j : ℕ). IsEndIn c.args.ends.now r j) (sym e) t.told))
     (λ r l m. absurd (omega (arith, l, m)))

@@ -1,6 +1,7 @@
 use Rattle.std.proofs.Common.{◌≡◌, pos, ◌+ℤ◌, ◌*ℤ◌, ◌<ℤ◌, ◌≤ℤ◌, ℤ, ap, sym, ◌∙◌, inl, inr, ◌⊎◌, arith, w32, to_z, of_z}
 use Rattle.fx_fixed.proofs.Linear.{signed, signed_linear}
 use Rattle.fx_fixed.proofs.Order.{below_or_not_ℤ}
+use Rattle.fx_rows.proofs.Boxed.{first_near}
 use Rattle.fx_rows.proofs.note_up.columns_at.Goals as goal
 
 -- what is not right of a place and not at it is left of it
@@ -11,28 +12,43 @@ left_of x y l n = by (below_or_not_ℤ x y)
     by (inl h) = h
     by (inr h) = absurd (n (omega (arith, signed_linear, l, h)))
 
+within : (c : goal.After-first_from-col)
+    → (c.args.frame.left ≤ℤ c.first_from-col.result) × (c.first_from-col.result ≤ℤ (c.args.frame.left +ℤ pos c.args.frame.width))
+within c =
+    let x = c.args.x in
+    let here : to_z w32 (of_z w32 x) ≡ x = omega (arith, signed_linear, c.requires.near) in
+    first_near c.args.frame.left x c.first_from-col.result c.args.frame.width
+    (λ n l. rw here at (c.first_from-col.ensures.before n l)) (λ n l. rw here at (c.first_from-col.ensures.from n l))
+    c.requires.left c.requires.right
+
+pub columns_to-first-requires : goal.columns_to-first-requires
+columns_to-first-requires c =
+    let size = c.first_from-col.ensures.size in
+    let same : to_z w32 (of_z w32 c.first_from-col.result) ≡ c.first_from-col.result = omega (arith, signed_linear, size) in
+    let is = within c in
+    record { low = omega (arith, signed_linear, same, is.0); high = omega (arith, signed_linear, same, is.1) }
+
 pub returns-then-col-x : goal.returns-then-col-x
 returns-then-col-x c =
     let x = c.args.x in
     let col = c.first_from-col.result in
     let left = c.args.frame.left in
     let size = c.first_from-col.ensures.size in
-    let here : to_z w32 (of_z w32 x) ≡ x = omega (arith, signed_linear, c.requires) in
+    let here : to_z w32 (of_z w32 x) ≡ x = omega (arith, signed_linear, c.requires.near) in
     let same : to_z w32 (of_z w32 col) ≡ col = omega (arith, signed_linear, size) in
     let times : to_z w32 (of_z w32 (pos 128 *ℤ to_z w32 (of_z w32 col))) ≡ pos 128 *ℤ col = omega (arith, signed, size, same) in
     let at : x ≤ℤ (pos 128 *ℤ col +ℤ pos 64) = rw here at (c.first_from-col.ensures.from col (omega (arith, signed_linear))) in
     let over : x <ℤ (pos 128 *ℤ col +ℤ pos 64) =
     left_of x (pos 128 *ℤ col +ℤ pos 64) at (λ e. c.if-col-x.true (ap (of_z w32) ((λ i. times i +ℤ pos 64) ∙ e))) in
+    let is : left +ℤ pos c.columns_to-first.result ≡ col = c.columns_to-first.ensures.at ∙ same in
     record {
-      within = c.columns_under-first.ensures.within;
-      left = λ k h. rw here at (c.first_from-col.ensures.before (left +ℤ pos k)
-          (rw same at (c.columns_under-first.ensures.under k h)));
-      from = λ k h l. rw here at (c.first_from-col.ensures.from (left +ℤ pos k)
-          (rw same at (c.columns_under-first.ensures.rest k h l)));
-      to = λ k h. let under = rw here at (c.first_from-col.ensures.before (left +ℤ pos k)
-          (rw same at (c.columns_under-first.ensures.under k h))) in omega (arith, signed_linear, under);
-      right = λ k h l. let rest = rw same at (c.columns_under-first.ensures.rest k h l) in
-          omega (arith, signed, rest, over);
+      within = c.columns_to-first.ensures.within;
+      left = λ k h. rw here at (c.first_from-col.ensures.before (left +ℤ pos k) (omega (arith, signed_linear, is, h)));
+      from = λ k h l. rw here at (c.first_from-col.ensures.from (left +ℤ pos k) (omega (arith, signed_linear, is, h)));
+      to = λ k h.
+          let under = rw here at (c.first_from-col.ensures.before (left +ℤ pos k) (omega (arith, signed_linear, is, h))) in
+          omega (arith, signed_linear, under);
+      right = λ k h l. omega (arith, signed, is, h, over);
     }
 
 pub returns : goal.returns
@@ -41,20 +57,18 @@ returns c =
     let col = c.first_from-col.result in
     let left = c.args.frame.left in
     let size = c.first_from-col.ensures.size in
-    let here : to_z w32 (of_z w32 x) ≡ x = omega (arith, signed_linear, c.requires) in
+    let here : to_z w32 (of_z w32 x) ≡ x = omega (arith, signed_linear, c.requires.near) in
     let same : to_z w32 (of_z w32 col) ≡ col = omega (arith, signed_linear, size) in
-    let next : to_z w32 (of_z w32 (to_z w32 (of_z w32 col) +ℤ pos 1)) ≡ col +ℤ pos 1 = omega (arith, signed_linear, size) in
     let times : to_z w32 (of_z w32 (pos 128 *ℤ to_z w32 (of_z w32 col))) ≡ pos 128 *ℤ col = omega (arith, signed, size, same) in
     let place : to_z w32 (of_z w32 (to_z w32 (of_z w32 (pos 128 *ℤ to_z w32 (of_z w32 col))) +ℤ pos 64))
     ≡ pos 128 *ℤ col +ℤ pos 64 =
     omega (arith, signed, size, times, same) in
     let at : x ≡ pos 128 *ℤ col +ℤ pos 64 = sym here ∙ ap (to_z w32) (sym c.if-col-x.false) ∙ place in
+    let is : left +ℤ pos c.columns_to-first.result ≡ col = c.columns_to-first.ensures.at ∙ same in
     record {
-      within = c.columns_under.ensures.within;
-      left = λ k h. rw here at (c.first_from-col.ensures.before (left +ℤ pos k)
-          (rw same at (c.columns_under-first.ensures.under k h)));
-      from = λ k h l. rw here at (c.first_from-col.ensures.from (left +ℤ pos k)
-          (rw same at (c.columns_under-first.ensures.rest k h l)));
-      to = λ k h. let under = rw next at (c.columns_under.ensures.under k h) in omega (arith, signed, under, at);
-      right = λ k h l. let rest = rw next at (c.columns_under.ensures.rest k h l) in omega (arith, signed, rest, at);
+      within = omega (arith, signed, is, at, c.requires.right);
+      left = λ k h. rw here at (c.first_from-col.ensures.before (left +ℤ pos k) (omega (arith, signed_linear, is, h)));
+      from = λ k h l. rw here at (c.first_from-col.ensures.from (left +ℤ pos k) (omega (arith, signed_linear, is, h)));
+      to = λ k h. omega (arith, signed, is, at, h);
+      right = λ k h l. omega (arith, signed, is, at, h);
     }

@@ -1,7 +1,21 @@
-use Rattle.std.proofs.Common.{◌≡◌, subst, ℤ, arith, w32, to_z, of_z}
+use Rattle.std.proofs.Common.{◌≡◌, sym, subst, ℤ, arith, w32, to_z, of_z}
 use Rattle.fx_fixed.proofs.Linear.{signed_linear}
+use Rattle.fx_winding.specs.Winding.{span_of}
 use Rattle.fx_rows.specs.inner.Upward.{AreAt}
+use Rattle.fx_rows.proofs.Boxed.{IsNear, head_near}
 use Rattle.fx_rows.proofs.note_up.head_columns.Goals as goal
+
+pub columns_at-requires : goal.columns_at-requires
+columns_at-requires c =
+    let x = c.head_x.result in
+    let same : to_z w32 (of_z w32 x) ≡ x = omega (arith, signed_linear, c.head_x.ensures.near) in
+    let near = subst (IsNear c.args.placed.frame) (sym same) (head_near (span_of c.args.piece.now) c.args.placed c.requires x
+    (record { rising = c.head_x.ensures.rising; falling = c.head_x.ensures.falling })) in
+    record {
+      near = rw same c.head_x.ensures.near;
+      left = near.left;
+      right = near.right;
+    }
 
 pub returns : goal.returns
 returns c =
@@ -9,5 +23,5 @@ returns c =
     record {
       x = c.head_x.result;
       is = record { rising = c.head_x.ensures.rising; falling = c.head_x.ensures.falling };
-      at = subst (λ (x : ℤ). AreAt c.args.frame x c.columns_at.result) same c.columns_at.ensures;
+      at = subst (λ (x : ℤ). AreAt c.args.placed.frame x c.columns_at.result) same c.columns_at.ensures;
     }

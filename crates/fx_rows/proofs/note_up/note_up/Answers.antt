@@ -1,8 +1,6 @@
-use Rattle.std.proofs.Common.{◌≡◌, ℤ, subst, pos, ◌+ℤ◌, ◌-ℤ◌, ◌*ℤ◌, arith, w32, to_z, of_z}
-use Rattle.fx_fixed.proofs.Linear.{signed_linear}
+use Rattle.std.proofs.Common.{pos, ◌+ℤ◌, ◌-ℤ◌, ◌*ℤ◌, arith}
 use Rattle.fx_winding.specs.Winding.{span_of}
 use Rattle.fx_winding.proofs.Places.{clash}
-use Rattle.fx_rows.specs.inner.Heights.{IsAtLeastEnds, IsOneOver}
 use Rattle.fx_rows.specs.inner.Segments.{IsUpBit}
 use Rattle.fx_rows.specs.inner.Upward.{height_below, IsLevel}
 use Rattle.fx_rows.proofs.Kept.{kept_both, only_both}
@@ -28,39 +26,26 @@ pub returns-then-is_on_line-clause-top : goal.returns-then-is_on_line-clause-top
 returns-then-is_on_line-clause-top c = λ t k w m. absurd (on_line_unmet (span_of c.args.piece.now) c.args.placed.frame
     c.args.placed.frame.height k c.requires.plain (c.is_on_line.ensures.on c.if-is_on_line.true) w m)
 
-pub returns-then-is_under-clause-noted : goal.returns-then-is_under-clause-noted
-returns-then-is_under-clause-noted c = λ r h.
+pub returns-then-lies_under-clause-noted : goal.returns-then-lies_under-clause-noted
+returns-then-lies_under-clause-noted c = λ r h.
     let s = span_of c.args.piece.now in
     let p = c.args.placed in
-    let low = c.args.placed.frame.rows.from in
-    let high = c.args.placed.frame.rows.to in
-    let row : to_z w32 (of_z w32 (to_z w32 (of_z w32 c.args.placed.frame.bottom) -ℤ pos 1)) ≡ c.args.placed.frame.bottom -ℤ pos 1 =
-    omega (arith, signed_linear, low, high) in
     set_over s p.frame p.below r c.args.up.now c.requires.plain (c.is_on_line.ensures.off c.if-is_on_line.false)
     (at_least_more s (pos 128 *ℤ (p.frame.bottom -ℤ pos 1) +ℤ pos 64) (height_below p.frame r) (over_lowest p.frame r)
-    (subst (λ (z : ℤ). IsAtLeastEnds s (pos 128 *ℤ z +ℤ pos 64)) row (c.is_under.ensures.under c.if-is_under.true)))
+    (c.lies_under.ensures.under c.if-lies_under.true))
 
-pub returns-then-is_under-clause-top : goal.returns-then-is_under-clause-top
-returns-then-is_under-clause-top c = λ t.
+pub returns-then-lies_under-clause-top : goal.returns-then-lies_under-clause-top
+returns-then-lies_under-clause-top c = λ t.
     let s = span_of c.args.piece.now in
     let p = c.args.placed in
-    let low = c.args.placed.frame.rows.from in
-    let high = c.args.placed.frame.rows.to in
-    let row : to_z w32 (of_z w32 (to_z w32 (of_z w32 c.args.placed.frame.bottom) -ℤ pos 1)) ≡ c.args.placed.frame.bottom -ℤ pos 1 =
-    omega (arith, signed_linear, low, high) in
     set_over s p.frame p.below p.frame.height c.args.up.now c.requires.plain (c.is_on_line.ensures.off c.if-is_on_line.false)
     (at_least_more s (pos 128 *ℤ (p.frame.bottom -ℤ pos 1) +ℤ pos 64) (height_below p.frame p.frame.height)
     (over_lowest p.frame p.frame.height)
-    (subst (λ (z : ℤ). IsAtLeastEnds s (pos 128 *ℤ z +ℤ pos 64)) row (c.is_under.ensures.under c.if-is_under.true)))
+    (c.lies_under.ensures.under c.if-lies_under.true))
 
 pub columns_below-low-requires-clause-over : goal.columns_below-low-requires-clause-over
 columns_below-low-requires-clause-over c =
-    let s = span_of c.args.piece.now in
-    let low = c.args.placed.frame.rows.from in
-    let high = c.args.placed.frame.rows.to in
-    let row : to_z w32 (of_z w32 (to_z w32 (of_z w32 c.args.placed.frame.bottom) -ℤ pos 1)) ≡ c.args.placed.frame.bottom -ℤ pos 1 =
-    omega (arith, signed_linear, low, high) in
-    subst (λ (z : ℤ). IsOneOver s (pos 128 *ℤ z +ℤ pos 64)) row (c.is_under.ensures.above c.if-is_under.false)
+    c.lies_under.ensures.above c.if-lies_under.false
 
 pub returns-then-leaves_band-clause-noted : goal.returns-then-leaves_band-clause-noted
 returns-then-leaves_band-clause-noted c = λ r h.

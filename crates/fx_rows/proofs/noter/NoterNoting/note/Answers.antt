@@ -4,9 +4,8 @@ use Rattle.fx_winding.specs.Bitmaps.{words_for}
 use Rattle.fx_winding.specs.Notes.{IsNotedAcross, IsNotedUp}
 use Rattle.fx_winding.specs.Winding.{span_of}
 use Rattle.fx_winding.specs.declared.frame.Frame.{Frame}
-use Rattle.fx_winding.proofs.Places.{clash}
 use Rattle.fx_rows.specs.inner.Telling.{IsPartOf, AreMetAcross, AreMetUp, of_frame, of_pieces, noted}
-use Rattle.fx_rows.specs.inner.Bulging.{IsBulge}
+use Rattle.fx_rows.specs.inner.Placing.{IsApart}
 use Rattle.fx_rows.specs.inner.Lines.{AreOnly}
 use Rattle.fx_rows.specs.inner.Segments.{IsBandBit, IsUpBit}
 use Rattle.fx_rows.specs.inner.Told.{AreKept}
@@ -107,15 +106,18 @@ returns-clause-count c =
     omega (arith, n, m, tests, more)
 
 pub note_up-requires-clause-plain : goal.note_up-requires-clause-plain
-note_up-requires-clause-plain c = λ b. clash c.is_bulge.result c.if-is_bulge.false (c.is_bulge.ensures.1 b)
+note_up-requires-clause-plain c = c.in-Some.ensures.columns.plain
 
-pub returns-then-is_bulge-clause-noted : goal.returns-then-is_bulge-clause-noted
-returns-then-is_bulge-clause-noted c = record { across = λ r l m no. apart no; up = λ r l m no. apart no; top = λ e no. apart no }
+pub returns-in_default-clause-noted : goal.returns-in_default-clause-noted
+returns-in_default-clause-noted c = record { across = λ r l m no. apart no; up = λ r l m no. apart no; top = λ e no. apart no }
   where
-    apart : {X : Type 0} → ¬ (IsBulge (span_of c.args.piece.now) × (true ≡ true)) → X
-    apart n = absurd (n (c.is_bulge.ensures.0 c.if-is_bulge.true, refl))
+    apart : {X : Type 0} → ¬ (IsApart c.args.self.now.notes.frame (span_of c.args.piece.now) × (true ≡ true)) → X
+    apart n = absurd (n (
+      subst (λ (f : Frame). IsApart f (span_of c.args.piece.now)) (sym c.requires.frame) c.in_default.ensures.apart,
+      refl,
+    ))
 
-pub returns-then-is_bulge-clause-kept : goal.returns-then-is_bulge-clause-kept
-returns-then-is_bulge-clause-kept c (of_frame f) lasts old = old
-returns-then-is_bulge-clause-kept c (of_pieces ss) lasts old = old
-returns-then-is_bulge-clause-kept c (noted s w r) lasts old = λ no. old (λ b. no (b.0, refl))
+pub returns-in_default-clause-kept : goal.returns-in_default-clause-kept
+returns-in_default-clause-kept c (of_frame f) lasts old = old
+returns-in_default-clause-kept c (of_pieces ss) lasts old = old
+returns-in_default-clause-kept c (noted s w r) lasts old = λ no. old (λ b. no (b.0, refl))

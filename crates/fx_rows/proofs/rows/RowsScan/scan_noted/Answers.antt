@@ -4,7 +4,7 @@ use Rattle.fx_winding.specs.declared.frame.Frame.{Frame}
 use Rattle.fx_winding.specs.declared.point.Piece.{Piece}
 use Rattle.fx_winding.specs.Notes.{IsNoted}
 use Rattle.fx_winding.specs.Winding.{Span, span_of}
-use Rattle.fx_rows.specs.inner.Bulging.{IsBulge}
+use Rattle.fx_rows.specs.inner.Placing.{IsApart}
 use Rattle.fx_rows.specs.inner.Telling.{AreMetBySome, AreNotedIn, BitsSay, of_pieces}
 use Rattle.fx_rows.proofs.Telling.{noted_unless, all_among, exact_of}
 use Rattle.fx_rows.proofs.rows.RowsScan.scan_noted.Goals as goal
@@ -15,7 +15,7 @@ notes_of-notes-requires c =
     let n = m.notes in
     let ss = map span_of c.args.pieces.now in
     let same = c.scan_noting.ensures.of in
-    let left : Span → Type 0 = λ s. IsBulge s × IsTrue m.bulges in
+    let left : Span → Type 0 = λ s. IsApart n.frame s × IsTrue m.apart in
     record {
       noted = subst (λ (ps : List Piece). All (λ s. ¬ (left s) → IsNoted s n.frame n.across.items n.up.items) (map span_of ps))
           (sym c.as_slice.ensures.value) (noted_unless left n.frame n.across.items n.up.items ss

@@ -6,12 +6,12 @@ use Rattle.std.proofs.lemmas.List.Elements.{All-more}
 use Rattle.fx_winding.specs.declared.frame.Frame.{Frame}
 use Rattle.fx_winding.specs.Notes.{IsNoted}
 use Rattle.fx_winding.specs.Winding.{Span, span_of}
-use Rattle.fx_rows.specs.inner.Bulging.{IsBulge}
+use Rattle.fx_rows.specs.inner.Placing.{IsApart}
 use Rattle.fx_rows.specs.inner.Telling.{AreMetBySome}
 use Rattle.fx_rows.proofs.Counted.{count_more}
 use Rattle.fx_rows.proofs.Kept.{kept_both}
 use Rattle.fx_rows.proofs.Segments.{all_kept}
-use Rattle.fx_rows.proofs.rows.note_bulges.Goals as goal
+use Rattle.fx_rows.proofs.rows.note_apart.Goals as goal
 
 pub pieces-preserved : goal.pieces-preserved
 pieces-preserved c =
@@ -23,17 +23,18 @@ pieces-preserved c =
     let a = c.args.notes.now.across.items in
     let u = c.args.notes.now.up.items in
     let old = c.pieces.notes in
-    let new = c.note_if_bulge.new.notes in
+    let new = c.note_if_apart.new.notes in
     let inv = c.pieces.invariant in
-    let done = c.note_if_bulge.ensures in
+    let done = c.note_if_apart.ensures in
     let inside : here < length spans = omega (arith, length-map c.args.pieces.now span_of) in
     let is : s ≡ get_or spans here s =
     ap span_of c.piece-item.is ∙ sym (get_or-map span_of c.args.pieces.now here piece) in
-    let first : ¬ (IsBulge s) → IsNoted s f a u =
-    subst (λ t. ¬ (IsBulge t) → IsNoted t f a u) (sym is) (c.requires.noted here s inside) in
-    let now : ¬ (IsBulge s) → IsNoted s old.frame old.across.items old.up.items =
+    let first : ¬ (IsApart f s) → IsNoted s f a u =
+    subst (λ t. ¬ (IsApart f t) → IsNoted t f a u) (sym is) (c.requires.noted here s inside) in
+    let now : ¬ (IsApart old.frame s) → IsNoted s old.frame old.across.items old.up.items =
     λ no. subst (λ (g : Frame). IsNoted s g old.across.items old.up.items) (sym inv.frame)
-    (all_kept s f a old.across.items u old.up.items inv.across inv.up (first no)) in
+    (all_kept s f a old.across.items u old.up.items inv.across inv.up
+    (first (λ a. no (subst (λ (g : Frame). IsApart g s) (sym inv.frame) a)))) in
     let this : IsNoted s f new.across.items new.up.items =
     subst (λ (g : Frame). IsNoted s g new.across.items new.up.items) inv.frame (done.noted now) in
     let each = done.count in
@@ -50,7 +51,7 @@ pieces-preserved c =
       only = λ h. subst (λ (g : Frame). AreMetBySome g new.across.items new.up.items spans) inv.frame (done.only spans
           (record { at = here; inside = inside; is = sym is })
           (subst (λ (g : Frame). AreMetBySome g old.across.items old.up.items spans) (sym inv.frame) (inv.only h)));
-      count = count_more c.args.tally.now.count c.pieces.tally.count c.note_if_bulge.new.tally.count here
+      count = count_more c.args.tally.now.count c.pieces.tally.count c.note_if_apart.new.tally.count here
           (45 * (f.height + f.width)) inv.count (omega (arith, each, tests));
     }
 

@@ -4,7 +4,7 @@ use Rattle.fx_winding.specs.Notes.{IsNoted}
 use Rattle.fx_winding.specs.Winding.{span_of}
 use Rattle.fx_rows.specs.inner.Telling.{AreMetBySome}
 use Rattle.fx_rows.specs.inner.Told.{AreKept}
-use Rattle.fx_rows.proofs.rows.note_bulges.Given as goal
+use Rattle.fx_rows.proofs.rows.note_apart.Given as goal
 
 abbrev pub invariant-pieces : goal.invariant-pieces
 invariant-pieces l = record {
