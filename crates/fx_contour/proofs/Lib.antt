@@ -13,5 +13,8 @@ pub mod Extents
 pub mod Kept
 pub mod DropoutFramed
 pub mod Bridged
+pub mod Moving
 pub mod Shifted
+pub mod Mirrored
+pub mod MirroredFrames
 pub mod Reversed

@@ -1,6 +1,6 @@
 //! From contours to pieces.
 
-ghost use Rattle.std.specs.Prelude.{◌≡◌, pos, ◌+◌, ◌-◌, ◌+ℤ◌, ◌*ℤ◌, ◌≤◌, ◌<◌, ◌^◌, ◌++◌, ◌⊎◌, ◌↔◌, All, IsTrue, IfOk, OnOk, IfErr, IsErrOf, length, map, take, drop, option_map, option_to_list};
+ghost use Rattle.std.specs.Prelude.{◌≡◌, pos, ◌+◌, ◌-◌, ◌+ℤ◌, ◌*ℤ◌, ◌≤◌, ◌<◌, ◌^◌, ◌++◌, ◌⊎◌, ◌↔◌, All, IsTrue, IfOk, IfErr, IsErrOf, length, map, take, drop, option_map, option_to_list, vec_len, vec_capacity};
 ghost use Rattle.fx_fixed.specs.Ranges.{IsWithin};
 ghost use Rattle.fx_outline.specs.Limits.{max_points};
 ghost use Rattle.fx_winding.specs.Winding.{place_of, span_of};
@@ -128,25 +128,26 @@ fn step_at(p: &OutlinePoint, q: &OutlinePoint, r: &OutlinePoint, from: Point) ->
 }
 
 /// Adds a piece, if there is one.
-fn push_some(made: &mut Pieces, piece: Option<Piece>) -> Result<(), AllocError>
-    requires { length made.old < max_points }
-    ensures ok { OnOk result (made.new ≡ made.old ++ option_to_list piece) }
+fn push_some(made: &mut Vec<Piece>, piece: Option<Piece>)
+    requires { vec_len made.old < vec_capacity made.old }
+    ensures items { made.new.items ≡ made.old.items ++ option_to_list piece }
+    ensures room { vec_capacity made.new ≡ vec_capacity made.old }
 {
-    match piece {
-        None => Ok(()),
-        Some(piece) => made.push(piece),
+    if let Some(piece) = piece {
+        made.push_reserved(piece);
     }
 }
 
-/// Adds the pieces of a contour.
-fn add_contour(made: &mut Pieces, points: &[OutlinePoint]) -> Result<(), AllocError>
+/// Adds the pieces of a contour, for which there is room.
+fn add_contour(made: &mut Vec<Piece>, points: &[OutlinePoint])
     requires near { All IsInReach points.now }
-    requires few { length made.old + length points.now ≤ max_points }
-    ensures ok { OnOk result (map span_of made.new ≡ map span_of made.old ++ curve_of points.now) }
-    ensures few { OnOk result (length made.new ≤ length made.old + length points.now) }
+    requires room { vec_len made.old + length points.now ≤ vec_capacity made.old }
+    ensures spans { map span_of made.new.items ≡ map span_of made.old.items ++ curve_of points.now }
+    ensures few { vec_len made.new ≤ vec_len made.old + length points.now }
+    ensures room { vec_capacity made.new ≡ vec_capacity made.old }
 {
     if points.len() < 2 {
-        return Ok(());
+        return;
     }
     let first = &points[0];
     let mut before = &points[points.len() - 1];
@@ -157,12 +158,12 @@ fn add_contour(made: &mut Pieces, points: &[OutlinePoint]) -> Result<(), AllocEr
     'points: for i in 1..points.len() {
         let next = &points[i];
         let step = step_at(before, here, next, from);
-        push_some(made, step.piece)?;
+        push_some(made, step.piece);
         before = here;
         here = next;
         from = step.to;
     }
-    push_some(made, step_at(before, here, first, from).piece)
+    push_some(made, step_at(before, here, first, from).piece);
 }
 
 /// Whether each of the contours with these last points has two points or more.
@@ -198,15 +199,15 @@ pub fn pieces_in_reach(buffer: Pieces, outline: &Outline) -> Result<Pieces, Allo
     ensures ok { IfOk result (λ ps. map span_of ps ≡ spans_of outline.now.ends.items outline.now.points.items) }
     ensures closed { IfOk result (λ ps. AreOfOutline (map span_of ps)) }
 {
-    let mut made = buffer.emptied(outline.points.len())?;
+    let mut made = buffer.into_list(outline.points.len())?;
     let mut start = 0;
     // The pieces of the contours so far were added, and the next one begins at `start`.
     'contours: for end in &outline.ends {
         let next = usize::from(*end) + 1;
-        add_contour(&mut made, contour(&outline.points, start, next))?;
+        add_contour(&mut made, contour(&outline.points, start, next));
         start = next;
     }
-    Ok(made)
+    Ok(Pieces::of_list(made))
 }
 
 /// The pieces of an outline, as `pieces_in_reach` returns them. `TooFar` if a point, of any contour, lies more than `FARTHEST`

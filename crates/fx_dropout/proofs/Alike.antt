@@ -246,6 +246,20 @@ middle_of_total a b c p =
     ((area_expr (var 0) (var 1) (var 2) (var 3) (var 4) (var 5) ⊟ area_expr (var 6) (var 7) (var 2) (var 3) (var 4) (var 5)) ⊟
     area_expr (var 0) (var 1) (var 2) (var 3) (var 6) (var 7)) tt
 
+-- the areas of a place with an arc's points
+pub record AreArcAreas (a b c p : Place) (u v w : ℤ) : Type 0 where
+  pub first : u ≡ area p b c
+  pub middle : v ≡ area a p c
+  pub total : u +ℤ v +ℤ w ≡ area a b c
+
+pub arc_areas : (a b c p : Place) (u v w : ℤ) → (u, v, w) ≡ areas_of_part a (Some b) c p → AreArcAreas a b c p u v w
+arc_areas a b c p u v w e =
+    let x : u ≡ area p b c = ap (λ (x : ℤ × ℤ × ℤ). x.0) e in
+    let y : v ≡ area a p c = ap (λ (x : ℤ × ℤ × ℤ). x.1) e in
+    let z : w ≡ area a b p = ap (λ (x : ℤ × ℤ × ℤ). x.2) e in
+    let m = middle_of_total a b c p in
+    record { first = x; middle = y; total = omega (arith, signed_linear, x, y, z, m) }
+
 -- the gap along a segment, from the place k on, or back from it
 gap_along : (up : Bool) (col row : ℤ) (k n : ℕ) (a b c : Place) → arc_gap a b c (place_on up col row n)
     ≡ gap_step (area a b c) (area (place_on up col row k) b c) (area a b (place_on up col row k)) (step up b c) (step up a b)
@@ -560,6 +574,15 @@ added_left p q r s l b h m n = record {
     side : (y : ℤ) → ¬ (IsPassed y p.y q.y) → IsOneSide y p.y r.y
     side y k = one_side y p.y q.y p.y r.y k (omega (arith, signed_linear)) l b.low b.high
 
+-- a place alone is a box
+pub box_alone : (r : Place) → IsInBox r r r
+box_alone r = record {
+  left = omega (arith, signed_linear);
+  right = omega (arith, signed_linear);
+  low = omega (arith, signed_linear);
+  high = omega (arith, signed_linear);
+}
+
 -- ---- a run that is clear
 pub clear_shorter : (up : Bool) (col row : ℤ) (k m n : ℕ) (s : Span) → k ≤ n → n ≤ m → IsClear up col row k m s
     → IsClear up col row k n s
@@ -672,3 +695,9 @@ pub middle_not_none : (s : Piece) (p : Place) (v : Weights) → (v.u, v.v, v.w) 
     → ¬ (of_z w64 v.v ≡ 0) → area (place_of s.a) p (place_of s.c) ≢ pos 0
 middle_not_none s p v h n e =
     n (ap (of_z w64) (middle_is s p v h ∙ e))
+
+-- a piece right of all places of a segment is right of each
+pub right_of_place : (up : Bool) (col row : ℤ) (n : ℕ) (s : Span) → n < 128 → HasAll (λ e. (place_on up col row 127).x <ℤ e.x) s
+    → HasAll (λ e. (place_on up col row n).x <ℤ e.x) s
+right_of_place up col row n s l h = HasAll-weaker (λ e. (place_on up col row 127).x <ℤ e.x) (λ e. (place_on up col row n).x <ℤ e.x)
+    (λ e m. let t = (in_box up col row n l).right in omega (arith, signed_linear, m, t)) s h

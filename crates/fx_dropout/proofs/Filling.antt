@@ -249,6 +249,32 @@ pub no_gap_up : (ss : List Span) (across up : List ℕ) (b : Bits) (r n : ℕ) �
     → ¬ (IsGapNext true ss (IsSoFar ss b.frame b) (b.frame.left +ℤ pos n) ((b.frame.bottom -ℤ pos 1) +ℤ pos r))
 no_gap_up ss across up b r n all covered l m shut = gapless true ss b.frame across up b r n all covered (omega (arith, l), m) shut
 
+-- none of the segments of the lowest rows is a gap, or of the lowest levels
+pub rows_shut : (ss : List Span) (across up : List ℕ) (b : Bits) (count : ℕ) → All (λ s. IsNoted s b.frame across up) ss
+    → ((i j : ℤ) → IsCovered (centre i j) ss → IsSoFar ss b.frame b i j) → count ≤ b.frame.height
+    → ((r n : ℕ) → r < count → n ≤ b.frame.width → IsShutInRow across b r n)
+    → IsFilled false ss b.frame (IsOfLines (b.frame.left -ℤ pos 1) (b.frame.width + 1) b.frame.bottom count)
+    (IsSoFar ss b.frame b) (IsSoFar ss b.frame b) (IsSoFar ss b.frame b)
+rows_shut ss across up b count noted covered few shut =
+    lines_skip false ss b.frame (b.frame.left -ℤ pos 1) b.frame.bottom (b.frame.width + 1) 0 count (IsSoFar ss b.frame b)
+    (IsSoFar ss b.frame b) (IsSoFar ss b.frame b) (omega arith)
+    (λ r n low high l. no_gap_across ss across up b r n noted covered (omega (arith, high, few)) l
+    (shut r n high (omega (arith, l))))
+    (filled_none false ss b.frame (IsOfLines (b.frame.left -ℤ pos 1) (b.frame.width + 1) b.frame.bottom 0) (IsSoFar ss b.frame b)
+    (IsSoFar ss b.frame b) (λ i j d. omega (arith, signed_linear, d.row.0, d.row.1)))
+
+pub levels_shut : (ss : List Span) (across up : List ℕ) (b : Bits) (count : ℕ) → All (λ s. IsNoted s b.frame across up) ss
+    → ((i j : ℤ) → IsCovered (centre i j) ss → IsSoFar ss b.frame b i j) → count ≤ b.frame.height + 1
+    → ((r n : ℕ) → r < count → n < b.frame.width → IsShutInColumn up b r n)
+    → IsFilled true ss b.frame (IsOfLines b.frame.left b.frame.width (b.frame.bottom -ℤ pos 1) count)
+    (IsSoFar ss b.frame b) (IsSoFar ss b.frame b) (IsSoFar ss b.frame b)
+levels_shut ss across up b count noted covered few shut =
+    lines_skip true ss b.frame b.frame.left (b.frame.bottom -ℤ pos 1) b.frame.width 0 count (IsSoFar ss b.frame b)
+    (IsSoFar ss b.frame b) (IsSoFar ss b.frame b) (omega arith)
+    (λ r n low high l. no_gap_up ss across up b r n noted covered (omega (arith, high, few)) l (shut r n high l))
+    (filled_none true ss b.frame (IsOfLines b.frame.left b.frame.width (b.frame.bottom -ℤ pos 1) 0) (IsSoFar ss b.frame b)
+    (IsSoFar ss b.frame b) (λ i j d. omega (arith, signed_linear, d.row.0, d.row.1)))
+
 -- ---- all of them
 before_next : (i : ℤ) → (i -ℤ pos 1) +ℤ pos 1 ≡ i
 before_next i = omega (arith, signed_linear)

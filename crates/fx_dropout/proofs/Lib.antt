@@ -11,6 +11,9 @@ pub mod Counts
 pub mod Filling
 pub mod NearLaws
 pub mod NearShift
+pub mod Reversed
+pub mod NearMirror
+pub mod NearFlip
 pub mod Steps
 pub mod Alike
 pub mod Sums

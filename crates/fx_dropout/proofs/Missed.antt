@@ -1,15 +1,14 @@
 -- Pieces that pass no segment, and gaps between two neighbours.
 -- Serves `gaps` and `close`.
-use Rattle.std.proofs.Common.{◌≡◌, ◌⊎◌, ◌↔◌, IsTrue, inl, inr, sym, ℤ, pos, ◌+ℤ◌, Bool, true, false, List, ◌≤ℤ◌, Any, map}
+use Rattle.std.proofs.Common.{◌≡◌, ◌⊎◌, ◌↔◌, IsTrue, inl, inr, ℤ, Bool, true, false, List, ◌≤ℤ◌, Any, map}
 use Rattle.fx_winding.specs.Area.{Place}
 use Rattle.fx_winding.specs.Bitmaps.{Bits, bit_of}
 use Rattle.fx_winding.specs.Dropout.{turned_span}
-use Rattle.fx_winding.specs.Meets.{IsMet, turn}
+use Rattle.fx_winding.specs.Meets.{IsMet}
 use Rattle.fx_winding.specs.declared.frame.Frame.{Frame}
 use Rattle.fx_winding.specs.declared.point.Piece.{Piece}
-use Rattle.fx_winding.specs.Winding.{Span, span_of, IsOn}
+use Rattle.fx_winding.specs.Winding.{Span, span_of}
 use Rattle.fx_winding.proofs.Aside.{left_not_met, right_not_met}
-use Rattle.fx_winding.proofs.Beside.{under_off, over_off}
 use Rattle.fx_winding.proofs.Covers.{any_map, any_unmap}
 use Rattle.fx_winding.proofs.Meeting.{above_not_met, below_not_met}
 use Rattle.fx_winding.proofs.Places.{clash}
@@ -23,10 +22,6 @@ IsMissed up col row s = ¬ (IsMetNext up col row (span_of s))
 pub beside_not_met : (p q : Place) (s : Span) → q.y ≡ p.y → IsBeside p.y s → ¬ (IsMet p q s)
 beside_not_met p q s l (inl h) = above_not_met p q s l h
 beside_not_met p q s l (inr h) = below_not_met p q s l h
-
-pub beside_none : (p : Place) (s : Span) → IsBeside p.y s → (pos 0 ≡ turn p s) × (¬ (IsOn p s))
-beside_none p s (inl h) = let n = under_off p s h in (sym (λ t. n.0 t +ℤ n.1 t), n.2)
-beside_none p s (inr h) = let n = over_off p s h in (sym (λ t. n.0 t +ℤ n.1 t), n.2)
 
 pub aside_not_met : (p q : Place) (s : Span) → q.y ≡ p.y → p.x ≤ℤ q.x → IsAside p.x q.x s → ¬ (IsMet p q s)
 aside_not_met p q s l o (inl h) = left_not_met p q s o h

@@ -89,51 +89,37 @@ pub record IsMoved (m n : ℤ → ℤ) (P Q : ℤ → ℤ → Type 0) : Type 0 w
   pub back : (i j : ℤ) → Q (m i) (n j) → P i j
   pub on : (i j : ℤ) → P i j → Q (m i) (n j)
 
--- a row closed, where what is inside, nearer, set so far and met is moved
-pub bridged_moved : (m n : ℤ → ℤ) → ((i : ℤ) → m (i +ℤ pos 1) ≡ m i +ℤ pos 1) → ((i : ℤ) → m (i -ℤ pos 1) ≡ m i -ℤ pos 1)
+-- a row closed, where what is inside, nearer, set so far and a gap is moved
+pub closed_moved : (m n : ℤ → ℤ) → ((i : ℤ) → m (i +ℤ pos 1) ≡ m i +ℤ pos 1) → ((i : ℤ) → m (i -ℤ pos 1) ≡ m i -ℤ pos 1)
     → (ss ts : List Span) (In To Near Far So At : ℤ → ℤ → Type 0) → IsMoved m n In To → IsMoved m n Near Far
-    → IsMoved m n So At → IsMoved m n (AreMet ss) (AreMet ts)
+    → IsMoved m n So At → IsMoved m n (IsGap ss So) (IsGap ts At)
     → IsMoved m n (IsNearBridged ss In Near So) (IsNearBridged ts To Far At)
-bridged_moved m n after before ss ts In To Near Far So At inside near so met =
+closed_moved m n after before ss ts In To Near Far So At inside near so gap =
     record { back = λ i j b. from i j b; on = λ i j b. to i j b }
   where
-    gap_back : (i j : ℤ) → IsGap ts At (m i) (n j) → IsGap ss So i j
-    gap_back i j g = record {
-      here = λ s. g.here (so.on i j s);
-      next = λ s. g.next (subst (λ z. At z (n j)) (after i) (so.on (i +ℤ pos 1) j s));
-      met = met.back i j g.met;
-    }
-
-    gap_on : (i j : ℤ) → IsGap ss So i j → IsGap ts At (m i) (n j)
-    gap_on i j g = record {
-      here = λ s. g.here (so.back i j s);
-      next = λ s. g.next (so.back (i +ℤ pos 1) j (subst (λ z. At z (n j)) (sym (after i)) s));
-      met = met.on i j g.met;
-    }
-
     left_back : (i j : ℤ) → IsClosedByLeft ts To Far At (m i) (n j) → IsClosedByLeft ss In Near So i j
-    left_back i j c = record { gap = gap_back i j c.gap; chosen = by c.chosen }
+    left_back i j c = record { gap = gap.back i j c.gap; chosen = by c.chosen }
       where
         by : ¬ (Far (m i) (n j)) ⊎ ¬ (To (m i +ℤ pos 1) (n j)) → ¬ (Near i j) ⊎ ¬ (In (i +ℤ pos 1) j)
         by (inl k) = inl (λ h. k (near.on i j h))
         by (inr k) = inr (λ h. k (subst (λ z. To z (n j)) (after i) (inside.on (i +ℤ pos 1) j h)))
 
     left_on : (i j : ℤ) → IsClosedByLeft ss In Near So i j → IsClosedByLeft ts To Far At (m i) (n j)
-    left_on i j c = record { gap = gap_on i j c.gap; chosen = by c.chosen }
+    left_on i j c = record { gap = gap.on i j c.gap; chosen = by c.chosen }
       where
         by : ¬ (Near i j) ⊎ ¬ (In (i +ℤ pos 1) j) → ¬ (Far (m i) (n j)) ⊎ ¬ (To (m i +ℤ pos 1) (n j))
         by (inl k) = inl (λ h. k (near.back i j h))
         by (inr k) = inr (λ h. k (inside.back (i +ℤ pos 1) j (subst (λ z. To z (n j)) (sym (after i)) h)))
 
     right_back : (i j : ℤ) → IsClosedByRight ts To Far At (m i) (n j) → IsClosedByRight ss In Near So i j
-    right_back i j c = record { gap = gap_back i j c.gap; chosen = by c.chosen }
+    right_back i j c = record { gap = gap.back i j c.gap; chosen = by c.chosen }
       where
         by : Far (m i) (n j) ⊎ ¬ (To (m i) (n j)) → Near i j ⊎ ¬ (In i j)
         by (inl h) = inl (near.back i j h)
         by (inr k) = inr (λ h. k (inside.on i j h))
 
     right_on : (i j : ℤ) → IsClosedByRight ss In Near So i j → IsClosedByRight ts To Far At (m i) (n j)
-    right_on i j c = record { gap = gap_on i j c.gap; chosen = by c.chosen }
+    right_on i j c = record { gap = gap.on i j c.gap; chosen = by c.chosen }
       where
         by : Near i j ⊎ ¬ (In i j) → Far (m i) (n j) ⊎ ¬ (To (m i) (n j))
         by (inl h) = inl (near.on i j h)
@@ -157,6 +143,29 @@ bridged_moved m n after before ss ts In To Near Far So At inside near so met =
             → IsClosedByLeft ts To Far At (m i) (n j) ⊎ IsClosedByRight ts To Far At (m i -ℤ pos 1) (n j)
         by (inl c) = inl (left_on i j c)
         by (inr c) = inr (subst (λ z. IsClosedByRight ts To Far At z (n j)) (before i) (right_on (i -ℤ pos 1) j c))
+
+-- where what is met is moved, the gaps are
+pub bridged_moved : (m n : ℤ → ℤ) → ((i : ℤ) → m (i +ℤ pos 1) ≡ m i +ℤ pos 1) → ((i : ℤ) → m (i -ℤ pos 1) ≡ m i -ℤ pos 1)
+    → (ss ts : List Span) (In To Near Far So At : ℤ → ℤ → Type 0) → IsMoved m n In To → IsMoved m n Near Far
+    → IsMoved m n So At → IsMoved m n (AreMet ss) (AreMet ts)
+    → IsMoved m n (IsNearBridged ss In Near So) (IsNearBridged ts To Far At)
+bridged_moved m n after before ss ts In To Near Far So At inside near so met =
+    closed_moved m n after before ss ts In To Near Far So At inside near so
+    (record { back = λ i j g. gap_back i j g; on = λ i j g. gap_on i j g })
+  where
+    gap_back : (i j : ℤ) → IsGap ts At (m i) (n j) → IsGap ss So i j
+    gap_back i j g = record {
+      here = λ s. g.here (so.on i j s);
+      next = λ s. g.next (subst (λ z. At z (n j)) (after i) (so.on (i +ℤ pos 1) j s));
+      met = met.back i j g.met;
+    }
+
+    gap_on : (i j : ℤ) → IsGap ss So i j → IsGap ts At (m i) (n j)
+    gap_on i j g = record {
+      here = λ s. g.here (so.back i j s);
+      next = λ s. g.next (so.back (i +ℤ pos 1) j (subst (λ z. At z (n j)) (sym (after i)) s));
+      met = met.on i j g.met;
+    }
 
 any_reversed : (P : Span → Type 0) → ((s : Span) → P s → P (reversed s)) → (ss ts : List Span) → IsPermutation (map reversed ss) ts
     → Any P ss → Any P ts

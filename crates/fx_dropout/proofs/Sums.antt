@@ -1,17 +1,23 @@
 -- What pieces add at places, added up piece by piece.
 -- Serves `places`.
-use Rattle.std.proofs.Common.{◌≡◌, ◌≢◌, ◌⊎◌, ◌↔◌, inl, inr, sym, ap, ◌∙◌, subst, ℕ, ◌+◌, ◌*◌, ◌<◌, ◌≤◌, ℤ, pos, ◌+ℤ◌}
+use Rattle.std.proofs.Common.{◌≡◌, ◌≢◌, ◌⊎◌, ◌↔◌, inl, inr, refl, sym, ap, ◌∙◌, subst, ℕ, ◌+◌, ◌*◌, ◌<◌, ◌≤◌, ℤ, pos, negsuc}
+use Rattle.std.proofs.Common.{◌+ℤ◌, ◌-ℤ◌, ◌<ℤ◌, ◌≤ℤ◌}
 use Rattle.std.proofs.Common.{Option, Some, None}
 use Rattle.std.proofs.Common.{List, [], ◌∷◌, ◌++◌, Any, length, take, get_or, arith}
 use Rattle.std.proofs.lemmas.List.{take_more}
 use Rattle.fx_fixed.specs.Ranges.{IsWithin}
+use Rattle.std.proofs.lemmas.Int.{ints}
 use Rattle.fx_fixed.proofs.Linear.{signed_linear}
+use Rattle.fx_fixed.proofs.Order.{below_or_not}
 use Rattle.fx_winding.specs.Area.{Place}
 use Rattle.fx_winding.specs.Meets.{turn}
+use Rattle.fx_winding.specs.Outside.{HasAll}
 use Rattle.fx_winding.specs.Winding.{Span, IsOn, winding, IsCovered}
-use Rattle.fx_winding.proofs.Beside.{winding-append}
+use Rattle.fx_winding.proofs.Beside.{left_off, winding-append}
 use Rattle.fx_winding.proofs.Covers.{any_here, any_there, any_cases}
-use Rattle.fx_dropout.specs.inner.Runs.{IsAdded, IsAlike, IsCoveredBy, IsMore, IsPart, IsSummed, sum_of}
+use Rattle.fx_winding.proofs.Crossings.{above}
+use Rattle.fx_winding.proofs.Turning.{left_of_all}
+use Rattle.fx_dropout.specs.inner.Runs.{IsAdded, IsAlike, IsCoveredBy, IsJoined, IsMore, IsPart, IsSummed, sum_of}
 
 -- ---- one piece more at the end
 any_before : (P : Span → Type 0) (ss : List Span) (s : Span) → Any P ss → Any P (ss ++ s ∷ [])
@@ -120,6 +126,44 @@ summed_small p ss base k v l (inr (n, near, e)) =
 pub part_alike : (p q : Place) (s : Span) (v : Option ℤ) → IsAlike p q s → IsPart q s v → IsPart p s v
 part_alike p q s None a h = a.on.1 h
 part_alike p q s (Some t) a (k, is, off) = (k, is ∙ sym a.turn_is, λ o. off (a.on.0 o))
+
+-- ---- a piece right of a place
+pub part_joined : (r : Place) (s : Span) (t u old new : ℤ) → IsWithin 2 t → IsAdded r s u → u ≡ t → new ≡ old +ℤ t
+    → IsJoined r s old new
+part_joined r s t u old new size a e sum = record { part = Some t; is = (size, sym (a.turn_is ∙ e), a.off); sum = sum }
+
+over_one : (y h : ℤ) → y <ℤ h → above y h ≡ pos 1
+over_one y h l = grind (arith, ints)
+
+over_none : (y h : ℤ) → h ≤ℤ y → above y h ≡ pos 0
+over_none y h l = grind (arith, ints)
+
+-- of places in a column the first ones lie below its start, and the first ones below its end: it adds a number between
+pub right_joined : (r : Place) (s : Span) (n start end : ℕ) (old new : ℤ) → HasAll (λ e. r.x <ℤ e.x) s
+    → (n < start → r.y <ℤ s.a.y) → (start ≤ n → s.a.y ≤ℤ r.y) → (n < end → r.y <ℤ s.c.y) → (end ≤ n → s.c.y ≤ℤ r.y)
+    → (start ≤ n → n < end → new ≡ old +ℤ pos 1) → (end ≤ n → n < start → new ≡ old +ℤ negsuc 0)
+    → (n < start → n < end → new ≡ old) → (start ≤ n → end ≤ n → new ≡ old) → IsJoined r s old new
+right_joined r s n start end old new right a b c d rise fall under over = by (below_or_not n start) (below_or_not n end)
+  where
+    added : IsAdded r s (above r.y s.c.y -ℤ above r.y s.a.y)
+    added = record { turn_is = left_of_all r s right; off = (left_off r s right).1 }
+
+    joined : (x y t : ℤ) → above r.y s.c.y ≡ x → above r.y s.a.y ≡ y → IsWithin 2 t → x -ℤ y ≡ t → new ≡ old +ℤ t
+        → IsJoined r s old new
+    joined x y t e f size g = part_joined r s t (above r.y s.c.y -ℤ above r.y s.a.y) old new size added ((λ i. e i -ℤ f i) ∙ g)
+
+    same : new ≡ old → new ≡ old +ℤ pos 0
+    same e = omega (arith, signed_linear, e)
+
+    by : (n < start) ⊎ (start ≤ n) → (n < end) ⊎ (end ≤ n) → IsJoined r s old new
+    by (inl h) (inl k) = joined (pos 1) (pos 1) (pos 0) (over_one r.y s.c.y (c k)) (over_one r.y s.a.y (a h))
+        (omega (arith, signed_linear), omega (arith, signed_linear)) refl (same (under h k))
+    by (inr h) (inr k) = joined (pos 0) (pos 0) (pos 0) (over_none r.y s.c.y (d k)) (over_none r.y s.a.y (b h))
+        (omega (arith, signed_linear), omega (arith, signed_linear)) refl (same (over h k))
+    by (inr h) (inl k) = joined (pos 1) (pos 0) (pos 1) (over_one r.y s.c.y (c k)) (over_none r.y s.a.y (b h))
+        (omega (arith, signed_linear), omega (arith, signed_linear)) refl (rise h k)
+    by (inl h) (inr k) = joined (pos 0) (pos 1) (negsuc 0) (over_none r.y s.c.y (d k)) (over_one r.y s.a.y (a h))
+        (omega (arith, signed_linear), omega (arith, signed_linear)) refl (fall k h)
 
 -- all pieces
 pub covered_by : (p : Place) (ss : List Span) (base v : ℤ) → IsWithin 131072 base → IsSummed p ss base 131072 v

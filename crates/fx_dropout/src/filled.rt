@@ -9,6 +9,7 @@ ghost use Rattle.fx_dropout.specs.Nearer.{IsNearSet};
 ghost use Rattle.fx_dropout.specs.Tests.{most_nearer_tests, tested, tested_segments};
 ghost use Rattle.fx_dropout.specs.inner.Filled.{IsFilled, IsOfLine, IsOfLines};
 ghost use Rattle.fx_dropout.specs.inner.Lines.{IsLevelNoted, IsOneOf, IsRowNoted, IsSoFar};
+ghost use Rattle.fx_dropout.specs.inner.Words.{IsShutInColumn, IsShutInRow};
 
 use crate::across::next_row;
 use crate::close::{is_empty, is_told};
@@ -191,6 +192,93 @@ fn fill_columns(
     }
 }
 
+/// Whether no segment across the rows of a frame can be a gap.
+fn are_rows_shut(notes: &Notes, bitmap: &Bitmap) -> bool
+    requires { notes.now.frame ≡ bitmap.now.frame }
+    ensures { IsTrue result → (r n : ℕ) → r < bitmap.now.frame.height → n ≤ bitmap.now.frame.width →
+        IsShutInRow notes.now.across.items bitmap.now r n }
+{
+    let frame = notes.frame;
+    if is_empty(frame) {
+        return false;
+    }
+    frame.height <= next_row(&notes.across, bitmap, 0)
+}
+
+/// Whether no segment up the columns of a frame can be a gap.
+fn are_columns_shut(notes: &Notes, bitmap: &Bitmap) -> bool
+    requires { notes.now.frame ≡ bitmap.now.frame }
+    ensures { IsTrue result → (r n : ℕ) → r < bitmap.now.frame.height + 1 → n < bitmap.now.frame.width →
+        IsShutInColumn notes.now.up.items bitmap.now r n }
+{
+    let frame = notes.frame;
+    if is_empty(frame) {
+        return false;
+    }
+    frame.height < next_level(&notes.up, bitmap, 0)
+}
+
+/// The bitmap of a scan with the gaps of its rows closed. It is copied only if there may be one.
+fn rows_filled(
+    alloc: Global,
+    pieces: &Pieces,
+    notes: &Notes,
+    bitmap: Bitmap,
+    tally: &mut Tally,
+) -> Result<Bitmap, AllocError>
+    requires exact { IsTrue notes.now.exact → AreExact notes.now.frame notes.now.across.items notes.now.up.items
+        (map span_of pieces.now) }
+    requires margin { HasMargin bitmap.frame }
+    requires scanned { IsScanOf bitmap.frame (map span_of pieces.now) bitmap }
+    requires frame { notes.now.frame ≡ bitmap.frame }
+    requires noted { All (λ s. IsNoted s notes.now.frame notes.now.across.items notes.now.up.items) (map span_of pieces.now) }
+    ensures frame { IfOk result (λ b. b.frame ≡ bitmap.frame) }
+    ensures filled { IfOk result (λ b. IsFilled false (map span_of pieces.now) bitmap.frame
+        (IsOfLines (bitmap.frame.left -ℤ pos 1) (bitmap.frame.width + 1) bitmap.frame.bottom bitmap.frame.height)
+        (IsSoFar (map span_of pieces.now) bitmap.frame bitmap) (IsSoFar (map span_of pieces.now) bitmap.frame bitmap)
+        (IsSoFar (map span_of pieces.now) bitmap.frame b)) }
+    ensures count { tally.new.count ≤ tally.old.count +
+        bitmap.frame.height * (tested false bitmap.frame.width * most_nearer_tests (length pieces.now)) }
+{
+    if are_rows_shut(notes, &bitmap) {
+        return Ok(bitmap);
+    }
+    let mut target = copied(alloc, &bitmap)?;
+    fill_rows(pieces, notes, &bitmap, &mut target, tally);
+    Ok(target)
+}
+
+/// The bitmap with the gaps of its columns closed. It is copied only if there may be one.
+fn columns_filled(
+    alloc: Global,
+    pieces: &Pieces,
+    notes: &Notes,
+    bitmap: Bitmap,
+    tally: &mut Tally,
+) -> Result<Bitmap, AllocError>
+    requires exact { IsTrue notes.now.exact → AreExact notes.now.frame notes.now.across.items notes.now.up.items
+        (map span_of pieces.now) }
+    requires margin { HasMargin bitmap.frame }
+    requires frame { notes.now.frame ≡ bitmap.frame }
+    requires noted { All (λ s. IsNoted s notes.now.frame notes.now.across.items notes.now.up.items) (map span_of pieces.now) }
+    requires covered { (i j : ℤ) → IsCovered (centre i j) (map span_of pieces.now) →
+        IsSoFar (map span_of pieces.now) bitmap.frame bitmap i j }
+    ensures frame { IfOk result (λ b. b.frame ≡ bitmap.frame) }
+    ensures filled { IfOk result (λ b. IsFilled true (map span_of pieces.now) bitmap.frame
+        (IsOfLines bitmap.frame.left bitmap.frame.width (bitmap.frame.bottom -ℤ pos 1) (bitmap.frame.height + 1))
+        (IsSoFar (map span_of pieces.now) bitmap.frame bitmap) (IsSoFar (map span_of pieces.now) bitmap.frame bitmap)
+        (IsSoFar (map span_of pieces.now) bitmap.frame b)) }
+    ensures count { tally.new.count ≤ tally.old.count +
+        tested false bitmap.frame.height * (bitmap.frame.width * most_nearer_tests (length pieces.now)) }
+{
+    if are_columns_shut(notes, &bitmap) {
+        return Ok(bitmap);
+    }
+    let mut target = copied(alloc, &bitmap)?;
+    fill_columns(pieces, notes, &bitmap, &mut target, tally);
+    Ok(target)
+}
+
 /// The bitmap that a scan of the pieces gave, with the gaps of its rows closed, and then those that are left in the columns, each
 /// by the nearer pixel: it has the bits that drop-out control by the nearer pixel sets in its frame. The segments that a piece
 /// meets must be noted; others may be.
@@ -201,24 +289,22 @@ pub fn close_gaps_nearer(
     alloc: Global,
     pieces: &Pieces,
     notes: &Notes,
-    bitmap: &Bitmap,
+    bitmap: Bitmap,
     tally: &mut Tally,
 ) -> Result<Bitmap, AllocError>
-    requires margin { HasMargin bitmap.now.frame }
-    requires scanned { IsScanOf bitmap.now.frame (map span_of pieces.now) bitmap.now }
-    requires frame { notes.now.frame ≡ bitmap.now.frame }
+    requires margin { HasMargin bitmap.frame }
+    requires scanned { IsScanOf bitmap.frame (map span_of pieces.now) bitmap }
+    requires frame { notes.now.frame ≡ bitmap.frame }
     requires noted { All (λ s. IsNoted s notes.now.frame notes.now.across.items notes.now.up.items) (map span_of pieces.now) }
     requires exact { IsTrue notes.now.exact → AreExact notes.now.frame notes.now.across.items notes.now.up.items
         (map span_of pieces.now) }
-    ensures frame { IfOk result (λ b. b.frame ≡ bitmap.now.frame) }
-    ensures bits { IfOk result (λ b. (col row : ℤ) → IsInFrame bitmap.now.frame col row →
-        IsTrue (bit_of b col row) ↔ IsNearSet (map span_of pieces.now) bitmap.now.frame col row) }
+    ensures frame { IfOk result (λ b. b.frame ≡ bitmap.frame) }
+    ensures bits { IfOk result (λ b. (col row : ℤ) → IsInFrame bitmap.frame col row →
+        IsTrue (bit_of b col row) ↔ IsNearSet (map span_of pieces.now) bitmap.frame col row) }
     ensures count { tally.new.count ≤
-        tally.old.count + tested_segments false bitmap.now.frame * most_nearer_tests (length pieces.now) }
+        tally.old.count + tested_segments false bitmap.frame * most_nearer_tests (length pieces.now) }
 {
-    let mut rows = copied(alloc, bitmap)?;
-    fill_rows(pieces, notes, bitmap, &mut rows, tally);
-    let mut all = copied(alloc, &rows)?;
-    fill_columns(pieces, notes, &rows, &mut all, tally);
+    let rows = rows_filled(alloc, pieces, notes, bitmap, tally)?;
+    let all = columns_filled(alloc, pieces, notes, rows, tally)?;
     Ok(all)
 }

@@ -11,6 +11,7 @@ ghost use Rattle.fx_dropout.specs.inner.Lines.{IsCoveredOutside, IsSoFar, tests}
 ghost use Rattle.fx_dropout.specs.inner.Pairs.{IsMetNext, IsGapNext, IsTold, IsBeside, IsAside};
 
 use crate::pair::{Pair, Pixel};
+use crate::places::turn_beside;
 use fx_winding::{
     Bitmap, Frame, Piece, Pieces, Point, Tally, crossing, is_set as is_noted, meets, on_piece,
     region,
@@ -164,15 +165,15 @@ pub(crate) fn is_in_frame(frame: Frame, pixel: Pixel) -> bool
     true
 }
 
-/// What a piece adds to the winding number at p, or None if p is on it. Most pieces lie above p or below it, and add nothing.
+/// What a piece adds to the winding number at p, or None if p is on it. Most pieces lie to one side of p, and need no test.
 #[inline(always)]
 pub(crate) fn turn_off(piece: &Piece, p: Point, tally: &mut Tally) -> Option<i32>
     ensures value { MatchOption result (IsOn (place_of p) (span_of piece.now))
         (λ t. IsWithin 2 t × (t ≡ turn (place_of p) (span_of piece.now)) × ¬ (IsOn (place_of p) (span_of piece.now))) }
     ensures count { tally.new.count ≤ tally.old.count + 3 }
 {
-    if is_beside(piece, p.y) {
-        return Some(0);
+    if let Some(turn) = turn_beside(piece, p, p) {
+        return Some(turn);
     }
     if on_piece(piece, p.x, p.y, tally) {
         return None;

@@ -40,7 +40,7 @@ fn turn_if_right(piece: &Piece, p: Point, q: Point) -> Option<i32>
 }
 
 /// What a piece adds to the winding number of each place of a box, if it lies to one side of all, so that none is on it.
-fn turn_beside(piece: &Piece, p: Point, q: Point) -> Option<i32>
+pub(crate) fn turn_beside(piece: &Piece, p: Point, q: Point) -> Option<i32>
     requires high { p.y ≤ℤ q.y }
     ensures { IfSome result (λ t. IsWithin 1 t × ((r : Place) → IsInBox (place_of p) (place_of q) r →
         IsAdded r (span_of piece.now) t)) }
@@ -60,10 +60,10 @@ fn turn_beside(piece: &Piece, p: Point, q: Point) -> Option<i32>
     None
 }
 
-/// A number that stands for a place on a piece. What other pieces add changes it, but not to one that a winding number can be.
+/// Marks a place that is on a piece. Pieces that come later change the mark, but it stays far above any winding number.
 const MARK: i32 = 1 << 30;
 
-/// What is known of a place, and what a piece adds there, or None if the place is on the piece.
+/// The number kept for a place once a piece has been added: the mark if the place is on it.
 #[inline(always)]
 fn joined(place: i32, added: Option<i32>) -> i32
     requires place { IsWithin (2 ^ 30 + 2 ^ 20) place }
@@ -127,6 +127,42 @@ fn add_piece(piece: &Piece, pair: Pair, places: &mut [i32], tally: &mut Tally)
     }
 }
 
+/// How many of the places lie below the height of a piece's end. They are the first ones.
+fn places_below(pair: Pair, end: Point) -> usize
+    ensures few { result ≤ 128 }
+    ensures below { (n : ℕ) → n < result → (place_on pair.is_up pair.here.col pair.here.row n).y <ℤ end.y }
+    ensures others { (n : ℕ) → result ≤ n → n < 128 → end.y ≤ℤ (place_on pair.is_up pair.here.col pair.here.row n).y }
+{
+    let first = pair.place(0);
+    if end.y <= first.y {
+        return 0;
+    }
+    if pair.is_up {
+        return PLACES.min((end.y - first.y) as usize);
+    }
+    PLACES
+}
+
+/// Adds what a piece that lies right of all places adds at each. The ray from a place to the right crosses it if one of its ends is
+/// above the place and the other is not, so the places that count are those between the heights of the two ends.
+#[inline(never)]
+fn add_from_right(piece: &Piece, pair: Pair, places: &mut [i32])
+    requires room { length places.old ≡ 128 }
+    requires small { (n : ℕ) → n < 128 → IsWithin (2 ^ 30 + 2 ^ 20) (get_or places.old n (pos 0)) }
+    requires right { HasAll (λ e. (place_on pair.is_up pair.here.col pair.here.row 127).x <ℤ e.x) (span_of piece.now) }
+    ensures length { length places.new ≡ 128 }
+    ensures joined { (n : ℕ) → n < 128 → IsJoined (place_on pair.is_up pair.here.col pair.here.row n) (span_of piece.now)
+        (get_or places.old n (pos 0)) (get_or places.new n (pos 0)) }
+{
+    let start = places_below(pair, piece.a);
+    let end = places_below(pair, piece.c);
+    if start < end {
+        add_run(places, start, end - start, Some(1));
+    } else {
+        add_run(places, end, start - end, Some(-1));
+    }
+}
+
 /// Adds what a piece adds at each place. If it lies to one side of all of them, the places stay, and the one number that it adds is
 /// returned.
 fn add_either(piece: &Piece, pair: Pair, places: &mut [i32], tally: &mut Tally) -> i32
@@ -138,13 +174,16 @@ fn add_either(piece: &Piece, pair: Pair, places: &mut [i32], tally: &mut Tally) 
         (get_or places.old n (pos 0)) (get_or places.new n (pos 0)) }
     ensures count { tally.new.count ≤ tally.old.count + 31 * 128 }
 {
-    match turn_beside(piece, pair.place(0), pair.place(PLACES - 1)) {
-        Some(turn) => turn,
-        None => {
-            add_piece(piece, pair, places, tally);
-            0
-        }
+    let last = pair.place(PLACES - 1);
+    if let Some(turn) = turn_beside(piece, pair.place(0), last) {
+        return turn;
     }
+    if is_right(piece, last.x) {
+        add_from_right(piece, pair, places);
+    } else {
+        add_piece(piece, pair, places, tally);
+    }
+    0
 }
 
 /// Adds what the pieces add at each place: there, or to the number that is returned, which is the same for all places.

@@ -105,11 +105,18 @@ fn stays_below(
     gap_at(piece, run.pair.place(run.last - 1), tally) <= last
 }
 
+/// Whether a place is on that side of an arc's chord on which the arc is, by its areas.
+fn is_on_side(at: Weights) -> bool
+    ensures { IsTrue result ↔ HaveOneSign (at.u +ℤ at.v +ℤ at.w) at.v }
+{
+    have_one_sign(total_of(at), at.v)
+}
+
 /// Whether an arc's areas with a place show that the place is beyond its chord or outside its parabola.
 fn is_outside(at: Weights) -> bool
     ensures { IsTrue result → (¬ (HaveOneSign (at.u +ℤ at.v +ℤ at.w) at.v)) ⊎ (gap_of at.u at.v at.w <ℤ pos 0) }
 {
-    if !have_one_sign(total_of(at), at.v) {
+    if !is_on_side(at) {
         return true;
     }
     curve_gap(at) < 0
@@ -142,7 +149,7 @@ pub(crate) fn turn_by(piece: &Piece, p: Point, at: Weights, tally: &mut Tally) -
     turn_off(piece, p, tally)
 }
 
-/// Whether a run on one side of an arc's chord is seen to lie within the arc's region or without it.
+/// Whether a run on the arc's side of its chord is seen to lie within the arc's region or outside it.
 fn is_arc_alike(
     piece: &Piece,
     b: Point,
@@ -157,13 +164,11 @@ fn is_arc_alike(
         areas_of (span_of piece.now) (place_on run.pair.is_up run.pair.here.col run.pair.here.row run.first) }
     requires last { (q.u, q.v, q.w) ≡
         areas_of (span_of piece.now) (place_on run.pair.is_up run.pair.here.col run.pair.here.row run.last) }
+    requires side { HaveOneSign (p.u +ℤ p.v +ℤ p.w) p.v }
     ensures alike { IsTrue result →
         IsAlikeTo run.pair.is_up run.pair.here.col run.pair.here.row run.first (run.last + 1) (span_of piece.now) }
     ensures count { tally.new.count ≤ tally.old.count + 2 }
 {
-    if !have_one_sign(total_of(p), p.v) {
-        return true;
-    }
     let first = curve_gap(p);
     let last = curve_gap(q);
     if first > 0 {
@@ -178,7 +183,7 @@ fn is_arc_alike(
     stays_below(piece, b, run, first, last, tally)
 }
 
-/// How many steps from a number on come before it reaches 0, at most as many as there are places.
+/// How often `step` can be taken off `number` before it reaches 0, counting the start; at most 128.
 fn steps_down(number: u64, step: u64) -> usize
     requires number { 0 < number }
     requires step { 0 < step }
@@ -204,7 +209,7 @@ fn chord_step(piece: &Piece, is_up: bool) -> i64
     }
 }
 
-/// How many places come before the chord of a piece, off which the first is, by its areas.
+/// How many places in a row lie on the same side of a piece's chord as the first, which is not on the chord's line.
 fn places_to_chord(piece: &Piece, is_up: bool, at: Weights) -> usize
     requires { at.v ≢ pos 0 }
     ensures some { 0 < result }
@@ -224,7 +229,7 @@ fn places_to_chord(piece: &Piece, is_up: bool, at: Weights) -> usize
     PLACES
 }
 
-/// How many of some places, each a step above the one before, come before a piece's end that is not below the first.
+/// How many of `most` places, each a step above the one before, lie below an end of a piece; all of them if the first does not.
 fn before_end(end: Point, p: Point, most: usize) -> usize
     requires some { 0 < most }
     ensures some { 0 < result }
@@ -237,7 +242,8 @@ fn before_end(end: Point, p: Point, most: usize) -> usize
     most.min((end.y - p.y) as usize)
 }
 
-/// How many places from the place n on come before an end of a piece and before its chord, off which the first is.
+/// How many places from the place n on lie on one side of a piece's chord and pass neither of its ends. The first is not on the
+/// chord's line.
 fn most_alike(piece: &Piece, pair: Pair, n: usize, at: Weights) -> usize
     requires before { n < 128 }
     requires first { (at.u, at.v, at.w) ≡ areas_of (span_of piece.now) (place_on pair.is_up pair.here.col pair.here.row n) }
@@ -254,7 +260,8 @@ fn most_alike(piece: &Piece, pair: Pair, n: usize, at: Weights) -> usize
     most
 }
 
-/// How many places from the place n on are seen to be alike for an arc, by its areas there, of some before its ends and its chord.
+/// How many places from the place n on are alike for an arc. At most `most` are tried, which lie on one side of its chord and pass
+/// neither of its ends. The number is found by halving, and may be less than the greatest.
 fn arc_alike_from(
     piece: &Piece,
     b: Point,
@@ -274,10 +281,13 @@ fn arc_alike_from(
     ensures alike { IsAlikeTo pair.is_up pair.here.col pair.here.row n (n + result) (span_of piece.now) }
     ensures count { tally.new.count ≤ tally.old.count + 24 }
 {
+    if !is_on_side(at) {
+        return most;
+    }
     let mut count = most;
     let mut alike = 1;
     let mut end = most + 1;
-    // The first `alike` places are alike. Next `count` of them are tried, which are fewer than `end`.
+    // The first `alike` places are alike. The next try is `count` places, fewer than `end`.
     'halves: for _ in 0..8usize {
         if count <= alike {
             return alike;
@@ -298,7 +308,7 @@ fn arc_alike_from(
     alike
 }
 
-/// How many places from the place n on are seen to be alike for a piece, by its areas there.
+/// How many places from the place n on are alike for a piece. The number may be less than the greatest, but is at least 1.
 pub(crate) fn alike_from(
     piece: &Piece,
     pair: Pair,

@@ -20,7 +20,8 @@ use Rattle.fx_raster.specs.declared.rule.Rule.{Rule}
 use Rattle.fx_raster.specs.declared.rule.Rule.TheVariants.{Centres, Bridged}
 use Rattle.fx_dropout.specs.Nearer.{IsNearSet}
 use Rattle.fx_raster.specs.Rules.{IsPixelSet}
-use Rattle.fx_raster.specs.inner.Framing.{HasBitsOf, IsBridgedScanOf, IsFramedBy, IsSetBy}
+use Rattle.fx_raster.specs.Frames.{IsFramedBy}
+use Rattle.fx_raster.specs.inner.Framing.{HasBitsOf, IsBridgedScanOf, IsSetBy}
 use Rattle.fx_raster.proofs.Bridged.{set_along, near_set_along, nothing_set}
 
 -- ---- one pixel

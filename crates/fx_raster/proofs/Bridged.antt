@@ -12,7 +12,7 @@ use Rattle.fx_raster.specs.declared.rule.Closing.TheVariants.{Lower, Nearer}
 use Rattle.fx_raster.specs.declared.rule.Rule.{Rule}
 use Rattle.fx_raster.specs.declared.rule.Rule.TheVariants.{Centres, Bridged}
 use Rattle.fx_raster.specs.Rules.{IsPixelSet}
-use Rattle.fx_raster.specs.inner.Framing.{IsFramedBy}
+use Rattle.fx_raster.specs.Frames.{IsFramedBy}
 
 -- ---- the same pixels inside, and the same set so far
 

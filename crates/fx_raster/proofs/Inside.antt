@@ -15,7 +15,8 @@ use Rattle.fx_contour.specs.Frames.{IsInside, NothingOutsideFrame}
 use Rattle.fx_raster.specs.declared.region.Region.{Region}
 use Rattle.fx_raster.specs.declared.rule.Rule.{Rule}
 use Rattle.fx_raster.specs.Rules.{IsInRegion, IsPixelSet}
-use Rattle.fx_raster.specs.inner.Framing.{IsFramedBy, are_among, lies_in}
+use Rattle.fx_raster.specs.Frames.{IsFramedBy}
+use Rattle.fx_raster.specs.inner.Framing.{are_among, lies_in}
 use Rattle.fx_raster.proofs.Bridged.{nothing_set}
 
 -- the test of two runs, as the code has it

@@ -12,7 +12,7 @@ use Rattle.fx_raster.specs.Rules.{ShapeView, framed_by, shape_of}
 use Rattle.fx_raster.specs.Laws.{ShiftMovesPicture, ReversalKeepsPicture}
 
 -- a shape has the spans that its outline draws
-drawn_by : (rule : Rule) (ends : List ℕ) (points : List OutlinePoint) (shape : ShapeView) → shape_of rule ends points ≡ Ok shape
+pub drawn_by : (rule : Rule) (ends : List ℕ) (points : List OutlinePoint) (shape : ShapeView) → shape_of rule ends points ≡ Ok shape
     → drawn_of ends points ≡ Ok shape.spans
 unfolding shape_of
 drawn_by rule ends points shape h =

@@ -1,4 +1,6 @@
 pub mod Faults
 pub mod Rules
+pub mod Frames
 pub mod Laws
+pub mod Mirrors
 pub mod inner

@@ -7,11 +7,12 @@ ghost use Rattle.fx_winding.specs.Frames.{HasMargin};
 ghost use Rattle.fx_winding.specs.Notes.{AreExact, IsNoted};
 ghost use Rattle.fx_contour.specs.Frames.{NothingOutsideFrame};
 ghost use Rattle.fx_raster.specs.declared.rule.Closing.TheVariants.{Lower};
-ghost use Rattle.fx_raster.specs.inner.Framing.{HasBitsOf, IsBridgedScanOf, IsFramedBy};
+ghost use Rattle.fx_raster.specs.Frames.{IsFramedBy};
+ghost use Rattle.fx_raster.specs.inner.Framing.{HasBitsOf, IsBridgedScanOf};
 
 use crate::rule::{Closing, Rule};
 use fx_dropout::{close_gaps, close_gaps_nearer};
-use fx_winding::{Bitmap, Frame, Noted, Pieces, Scan, ScanFault, Scratch, Tally};
+use fx_winding::{Bitmap, Frame, Notes, Pieces, Scan, ScanFault, Scratch, Tally};
 use std::alloc::{AllocError, Global};
 
 /// A bitmap without a pixel.
@@ -48,43 +49,45 @@ fn scanned<S: Scan>(
 }
 
 /// The bitmap of a scan with its gaps closed by the left and the lower pixels.
-fn closed_by_lower(pieces: &Pieces, noted: Noted, tally: &mut Tally) -> Bitmap
-    requires margin { HasMargin noted.bitmap.frame }
-    requires scanned { IsScanOf noted.bitmap.frame (map span_of pieces.now) noted.bitmap }
-    requires frame { noted.notes.frame ≡ noted.bitmap.frame }
-    requires noted { All (λ s. IsNoted s noted.notes.frame noted.notes.across.items noted.notes.up.items) (map span_of pieces.now) }
-    requires exact { IsTrue noted.notes.exact →
-        AreExact noted.notes.frame noted.notes.across.items noted.notes.up.items (map span_of pieces.now) }
-    ensures { IsBridgedScanOf Lower noted.bitmap.frame (map span_of pieces.now) result }
+fn closed_by_lower(pieces: &Pieces, bitmap: Bitmap, notes: &Notes, tally: &mut Tally) -> Bitmap
+    requires margin { HasMargin bitmap.frame }
+    requires scanned { IsScanOf bitmap.frame (map span_of pieces.now) bitmap }
+    requires frame { notes.now.frame ≡ bitmap.frame }
+    requires noted { All (λ s. IsNoted s notes.now.frame notes.now.across.items notes.now.up.items) (map span_of pieces.now) }
+    requires exact { IsTrue notes.now.exact →
+        AreExact notes.now.frame notes.now.across.items notes.now.up.items (map span_of pieces.now) }
+    ensures { IsBridgedScanOf Lower bitmap.frame (map span_of pieces.now) result }
 {
-    let mut bitmap = noted.bitmap;
-    close_gaps(pieces, &noted.notes, &mut bitmap, tally);
-    bitmap
+    let mut closed = bitmap;
+    close_gaps(pieces, notes, &mut closed, tally);
+    closed
 }
 
 /// The bitmap of a scan with its gaps closed.
 fn closed(
     alloc: Global,
     pieces: &Pieces,
-    noted: Noted,
+    bitmap: Bitmap,
+    notes: &Notes,
     closing: Closing,
     tally: &mut Tally,
 ) -> Result<Bitmap, AllocError>
-    requires margin { HasMargin noted.bitmap.frame }
-    requires scanned { IsScanOf noted.bitmap.frame (map span_of pieces.now) noted.bitmap }
-    requires frame { noted.notes.frame ≡ noted.bitmap.frame }
-    requires noted { All (λ s. IsNoted s noted.notes.frame noted.notes.across.items noted.notes.up.items) (map span_of pieces.now) }
-    requires exact { IsTrue noted.notes.exact →
-        AreExact noted.notes.frame noted.notes.across.items noted.notes.up.items (map span_of pieces.now) }
-    ensures { IfOk result (IsBridgedScanOf closing noted.bitmap.frame (map span_of pieces.now)) }
+    requires margin { HasMargin bitmap.frame }
+    requires scanned { IsScanOf bitmap.frame (map span_of pieces.now) bitmap }
+    requires frame { notes.now.frame ≡ bitmap.frame }
+    requires noted { All (λ s. IsNoted s notes.now.frame notes.now.across.items notes.now.up.items) (map span_of pieces.now) }
+    requires exact { IsTrue notes.now.exact →
+        AreExact notes.now.frame notes.now.across.items notes.now.up.items (map span_of pieces.now) }
+    ensures { IfOk result (IsBridgedScanOf closing bitmap.frame (map span_of pieces.now)) }
 {
     match closing {
-        Closing::Lower => Ok(closed_by_lower(pieces, noted, tally)),
-        Closing::Nearer => close_gaps_nearer(alloc, pieces, &noted.notes, &noted.bitmap, tally),
+        Closing::Lower => Ok(closed_by_lower(pieces, bitmap, notes, tally)),
+        Closing::Nearer => close_gaps_nearer(alloc, pieces, notes, bitmap, tally),
     }
 }
 
-/// The bits of a frame with drop-out control: those of a scan, and those that close gaps.
+/// The bits of a frame with drop-out control: those of a scan, and those that close gaps. The notes leave their buffers to the next
+/// scan.
 #[inline(never)]
 fn bridged<S: Scan>(
     alloc: Global,
@@ -99,7 +102,18 @@ fn bridged<S: Scan>(
 {
     let mut tally = Tally::new();
     match scan.scan_noted(alloc, pieces, frame, scratch, &mut tally) {
-        Ok(noted) => closed(alloc, pieces, noted, closing, &mut tally),
+        Ok(noted) => {
+            let bits = closed(
+                alloc,
+                pieces,
+                noted.bitmap,
+                &noted.notes,
+                closing,
+                &mut tally,
+            );
+            scratch.give_back_notes(noted.notes);
+            bits
+        }
         Err(ScanFault::OutOfMemory) => Err(AllocError),
     }
 }

@@ -3,7 +3,7 @@
 ghost use Rattle.std.specs.Prelude.{◌≡◌, List, []};
 ghost use Rattle.fx_winding.specs.declared.point.Piece.{Piece};
 
-use fx_winding::Pieces;
+use fx_winding::{Bitmap, Pieces};
 use std::alloc::Global;
 use std::marker::Model;
 
@@ -31,5 +31,12 @@ impl Scratch {
             pieces: Pieces::new(alloc),
             scan: fx_winding::Scratch::new(alloc),
         }
+    }
+
+    /// Takes a bitmap that is done with: the next shape's bits can be made in its buffer.
+    pub fn give_back(&mut self, bitmap: Bitmap)
+        ensures { self.new ≡ self.old }
+    {
+        self.scan.give_back(bitmap);
     }
 }

@@ -1,19 +1,18 @@
 //! An outline within the limits, and the pixels that it sets.
-ghost use Rattle.std.specs.Prelude.{◌≡◌, ◌↔◌, IsTrue, ℤ, All, IfOk};
-ghost use Rattle.fx_fixed.specs.Chain.{map_ok};
+ghost use Rattle.std.specs.Prelude.{◌≡◌, ◌↔◌, IsTrue, ℤ, Ok, IfOk};
 ghost use Rattle.fx_winding.specs.Bitmaps.{bit_of};
-ghost use Rattle.fx_contour.specs.Contours.{IsInReach, spans_of};
-ghost use Rattle.fx_contour.specs.Frames.{NothingOutsideFrame};
+ghost use Rattle.fx_contour.specs.Contours.{spans_of};
+ghost use Rattle.fx_raster.specs.Frames.{HasFrame};
 ghost use Rattle.fx_raster.specs.Rules.{IsInRegion, IsPixelSet, shape_of};
-ghost use Rattle.fx_raster.specs.inner.Framing.{IsFramedBy, outline_framed_by};
 
 use crate::RasterFault;
 use crate::bits::bitmap_of;
+use crate::frames::frame_of;
 use crate::region::Region;
 use crate::rule::Rule;
 use crate::scratch::Scratch;
 use crate::within::lies_in;
-use fx_contour::{dropout_frame, outline_frame, pieces_in_reach};
+use fx_contour::pieces_in_reach;
 use fx_outline::Outline;
 use fx_winding::{Bitmap, Frame, Pieces, Scan};
 use std::alloc::{AllocError, Global};
@@ -32,28 +31,14 @@ pub struct Shape {
 
 impl Model for Shape {
     ghost use Rattle.fx_contour.specs.Contours.{spans_of};
+    ghost use Rattle.fx_raster.specs.Frames.{HasFrame};
     ghost use Rattle.fx_raster.specs.Rules.{ShapeView};
-    ghost use Rattle.fx_raster.specs.inner.Framing.{IsShape};
 
     ghost Value = { ShapeView };
 
     ghost view = { λ s. record { rule = s.rule; spans = spans_of s.outline.ends.items s.outline.points.items } };
 
-    ghost invariant = { λ s. IsShape s.rule s.frame s.outline.ends.items s.outline.points.items };
-}
-
-/// The frame of an outline by a rule.
-#[inline(always)]
-fn framed(outline: &Outline, rule: Rule) -> Result<Option<Frame>, RasterFault>
-    ensures exact { map_ok (λ _. tt) result ≡ outline_framed_by rule outline.now.ends.items outline.now.points.items }
-    ensures frame { IfOk result (λ f. IsFramedBy rule f (spans_of outline.now.ends.items outline.now.points.items)) }
-    ensures outside { IfOk result (λ f. NothingOutsideFrame f (spans_of outline.now.ends.items outline.now.points.items)) }
-    ensures reach { IfOk result (λ _. All IsInReach outline.now.points.items) }
-{
-    match rule {
-        Rule::Centres => outline_frame(outline),
-        Rule::Bridged(_) => dropout_frame(outline),
-    }
+    ghost invariant = { λ s. HasFrame s.rule s.outline.ends.items s.outline.points.items s.frame };
 }
 
 impl Shape {
@@ -63,12 +48,21 @@ impl Shape {
     pub fn of(outline: Outline, rule: Rule) -> Result<Shape, RasterFault>
         ensures { result ≡ shape_of rule outline.ends.items outline.points.items }
     {
-        let frame = framed(&outline, rule)?;
-        Ok(Shape {
+        let frame = frame_of(&outline, rule)?;
+        Ok(Shape::framed(outline, rule, frame))
+    }
+
+    /// The shape of an outline by a rule, with the frame that `frame_of` found for the same outline before.
+    #[inline(always)]
+    pub fn framed(outline: Outline, rule: Rule, frame: Option<Frame>) -> Shape
+        requires { HasFrame rule outline.ends.items outline.points.items frame }
+        ensures { shape_of rule outline.ends.items outline.points.items ≡ Ok result }
+    {
+        Shape {
             outline,
             rule,
             frame,
-        })
+        }
     }
 
     /// Whether the shape's frame lies in a region; if so, each pixel that is set does. It takes no memory and makes no bits.

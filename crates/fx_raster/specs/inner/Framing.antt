@@ -1,5 +1,5 @@
 -- The frame of a shape, and what a scan of it gives.
-use Rattle.std.specs.Prelude.{◌≡◌, ◌↔◌, IsTrue, ℕ, ℤ, pos, ◌+ℤ◌, int_le, Bool, true, ◌&&◌, List, All, Option, Some, None, Result}
+use Rattle.std.specs.Prelude.{◌≡◌, ◌↔◌, IsTrue, ℕ, ℤ, pos, ◌+ℤ◌, int_le, Bool, true, ◌&&◌, List, Option, Some, None, Result}
 use Rattle.fx_fixed.specs.Chain.{◌>>=◌}
 use Rattle.fx_winding.specs.Winding.{Span}
 use Rattle.fx_winding.specs.Bitmaps.{Bits, bit_of}
@@ -9,30 +9,16 @@ use Rattle.fx_winding.specs.Frames.{IsInFrame}
 use Rattle.fx_winding.specs.declared.frame.Frame.{Frame}
 use Rattle.fx_outline.specs.declared.points.OutlinePoint.{OutlinePoint}
 use Rattle.fx_contour.specs.declared.fault.ContourFault.{ContourFault}
-use Rattle.fx_contour.specs.Contours.{IsInReach, drawn_of, spans_of}
-use Rattle.fx_contour.specs.Frames.{IsFrameFor, NothingOutsideFrame}
-use Rattle.fx_contour.specs.DropoutFrames.{HaveMargin, IsDropoutFrameFor}
+use Rattle.fx_contour.specs.Contours.{drawn_of}
 use Rattle.fx_raster.specs.declared.region.Region.{Region}
 use Rattle.fx_raster.specs.declared.rule.Closing.{Closing}
 use Rattle.fx_raster.specs.declared.rule.Closing.TheVariants.{Lower, Nearer}
 use Rattle.fx_raster.specs.declared.rule.Rule.{Rule}
-use Rattle.fx_raster.specs.declared.rule.Rule.TheVariants.{Centres, Bridged}
 use Rattle.fx_raster.specs.Rules.{IsPixelSet, framed_by}
 
 -- whether no point of an outline lies too far out and its frame keeps its limit; the first fault
 abbrev pub outline_framed_by : Rule → List ℕ → List OutlinePoint → Result (Unit {0}) ContourFault
 outline_framed_by rule ends points = drawn_of ends points >>= framed_by rule
-
--- the frame is that of the spans; with drop-out control it is another, and the columns and rows beside it have numbers
-abbrev pub IsFramedBy : Rule → Option Frame → List Span → Type 0
-IsFramedBy Centres f ss = IsFrameFor f ss
-IsFramedBy (Bridged closing) f ss = IsDropoutFrameFor f ss × HaveMargin f
-
--- an outline within the limits, and its frame by a rule
-pub record IsShape (rule : Rule) (frame : Option Frame) (ends : List ℕ) (points : List OutlinePoint) : Type 0 where
-  pub reach : All IsInReach points
-  pub framed : IsFramedBy rule frame (spans_of ends points)
-  pub outside : NothingOutsideFrame frame (spans_of ends points)
 
 -- drop-out control sets the pixel of a frame
 abbrev pub IsSetBy : Closing → List Span → Frame → ℤ → ℤ → Type 0

@@ -14,7 +14,7 @@ contour-requires c =
     let points = ap length c.deref.ensures.value in
     let inside : c.contours.end-index < length o.ends.items = (let e = ap length ends in omega arith) in
     let w = next_within c.contours.start o.ends.items c.contours.end-index o.points.items c.from-next.result 0
-    c.contours.invariant.ends_left inside (c.from-next.ensures ∙ ap (λ xs. get_or xs c.contours.end-index 0) ends) in
+    c.contours.invariant.gathered.ends_left inside (c.from-next.ensures ∙ ap (λ xs. get_or xs c.contours.end-index 0) ends) in
     record { order = w.0; within = omega (arith, w.1, points) }
 
 pub contours-preserved : goal.contours-preserved
@@ -26,12 +26,16 @@ contours-preserved c =
     let inside : c.contours.end-index < length o.ends.items = (let e = ap length ends in omega arith) in
     let slice : c.contour.result.now ≡ take (next - start) (drop start o.points.items) =
     c.contour.ensures ∙ ap (λ xs. take (next - start) (drop start xs)) c.deref.ensures.value in
-    let P : List OutlinePoint → Type 0 = λ xs. map span_of c.add_contour.new.made ≡ map span_of c.contours.made ++ curve_of xs in
-    let Q : List OutlinePoint → Type 0 = λ xs. length c.add_contour.new.made ≤ length c.contours.made + length xs in
-    gather_more c.contours.made c.add_contour.new.made start o.ends.items c.contours.end-index o.points.items c.from-next.result 0
-    c.contours.invariant inside (c.from-next.ensures ∙ ap (λ xs. get_or xs c.contours.end-index 0) ends)
-    (subst P slice c.in_ok-add_contour.ensures.ok)
-    (subst Q slice c.in_ok-add_contour.ensures.few)
+    let made = c.contours.made.items in
+    let after = c.add_contour.new.made.items in
+    let P : List OutlinePoint → Type 0 = λ xs. map span_of after ≡ map span_of made ++ curve_of xs in
+    let Q : List OutlinePoint → Type 0 = λ xs. length after ≤ length made + length xs in
+    record {
+      gathered = gather_more made after start o.ends.items c.contours.end-index o.points.items c.from-next.result 0
+          c.contours.invariant.gathered inside (c.from-next.ensures ∙ ap (λ xs. get_or xs c.contours.end-index 0) ends)
+          (subst P slice c.add_contour.ensures.spans) (subst Q slice (omega arith));
+      room = omega arith;
+    }
 
 pub returns-clause-closed : goal.returns-clause-closed
 returns-clause-closed c =
@@ -41,12 +45,15 @@ returns-clause-closed c =
       map curve_of contours,
       all_closed contours,
       sym
-          (gather_end c.contours.made c.contours.start o.ends.items c.contours.end-index o.points.items c.contours.invariant
-          (omega arith)),
+          (ap (map span_of) c.of_list.ensures
+          ∙ gather_end c.contours.made.items c.contours.start o.ends.items c.contours.end-index o.points.items
+          c.contours.invariant.gathered (omega arith)),
     )
 
 pub returns-clause-ok : goal.returns-clause-ok
 returns-clause-ok c =
     let o = c.args.outline.now in
     let ends = ap length c.deref-end-items.ensures.value in
-    gather_end c.contours.made c.contours.start o.ends.items c.contours.end-index o.points.items c.contours.invariant (omega arith)
+    ap (map span_of) c.of_list.ensures
+    ∙ gather_end c.contours.made.items c.contours.start o.ends.items c.contours.end-index o.points.items
+    c.contours.invariant.gathered (omega arith)

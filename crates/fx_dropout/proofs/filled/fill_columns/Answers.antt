@@ -11,7 +11,7 @@ use Rattle.fx_dropout.specs.inner.Filled.{IsFilled, IsOfLines}
 use Rattle.fx_dropout.specs.inner.Lines.{IsSoFar}
 use Rattle.fx_dropout.specs.inner.Words.{IsShutInColumn}
 use Rattle.fx_dropout.proofs.Candidates.{level_noted}
-use Rattle.fx_dropout.proofs.Filling.{filled_none, lines_skip, lines_more, no_gap_up, none_inside}
+use Rattle.fx_dropout.proofs.Filling.{levels_shut, lines_more, no_gap_up, none_inside}
 use Rattle.fx_dropout.proofs.Tests.{counted_rows}
 use Rattle.fx_dropout.proofs.filled.fill_columns.Goals as goal
 
@@ -44,11 +44,9 @@ levels-init c =
       to = to;
       filled = subst (λ (t : Bits).
           IsFilled true ss f (IsOfLines f.left f.width (f.bottom -ℤ pos 1) next.result) old old (IsSoFar ss f t))
-          (sym c.requires.same) (lines_skip true ss f f.left (f.bottom -ℤ pos 1) f.width 0 next.result old old old
-          (omega arith) (λ r n low high few. no_gap_up ss across up b r n noted c.requires.covered (omega (arith, high, to)) few
-          (subst (λ (xs : List ℕ). IsShutInColumn xs b r n) c.deref.ensures.value (next.ensures.skipped r n low high few)))
-          (filled_none true ss f (IsOfLines f.left f.width (f.bottom -ℤ pos 1) 0) old old
-          (λ i j d. omega (arith, signed_linear, d.row.0, d.row.1))));
+          (sym c.requires.same) (levels_shut ss across up b next.result noted c.requires.covered to
+          (λ r n high few. subst (λ (xs : List ℕ). IsShutInColumn xs b r n) c.deref.ensures.value
+          (next.ensures.skipped r n (omega arith) high few)));
       count = omega arith;
     }
 

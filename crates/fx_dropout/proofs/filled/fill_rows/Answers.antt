@@ -11,7 +11,7 @@ use Rattle.fx_dropout.specs.inner.Filled.{IsFilled, IsOfLines}
 use Rattle.fx_dropout.specs.inner.Lines.{IsSoFar}
 use Rattle.fx_dropout.specs.inner.Words.{IsShutInRow}
 use Rattle.fx_dropout.proofs.Candidates.{row_noted}
-use Rattle.fx_dropout.proofs.Filling.{filled_none, lines_skip, lines_more, no_gap_across, none_inside}
+use Rattle.fx_dropout.proofs.Filling.{lines_more, no_gap_across, none_inside, rows_shut}
 use Rattle.fx_dropout.proofs.Tests.{counted_rows}
 use Rattle.fx_dropout.proofs.filled.fill_rows.Goals as goal
 
@@ -45,12 +45,9 @@ rows-init c =
       to = to;
       filled = subst (λ (t : Bits).
           IsFilled false ss f (IsOfLines (f.left -ℤ pos 1) (f.width + 1) f.bottom next.result) old old (IsSoFar ss f t))
-          (sym c.requires.same) (lines_skip false ss f (f.left -ℤ pos 1) f.bottom (f.width + 1) 0 next.result old old old
-          (omega arith) (λ r n low high few. no_gap_across ss across up b r n noted c.requires.covered (omega (arith, high, to)) few
-          (subst (λ (xs : List ℕ). IsShutInRow xs b r n) c.deref.ensures.value
-          (next.ensures.skipped r n low high (omega (arith, few)))))
-          (filled_none false ss f (IsOfLines (f.left -ℤ pos 1) (f.width + 1) f.bottom 0) old old
-          (λ i j d. omega (arith, signed_linear, d.row.0, d.row.1))));
+          (sym c.requires.same) (rows_shut ss across up b next.result noted c.requires.covered to
+          (λ r n high few. subst (λ (xs : List ℕ). IsShutInRow xs b r n) c.deref.ensures.value
+          (next.ensures.skipped r n (omega arith) high few)));
       count = omega arith;
     }
 

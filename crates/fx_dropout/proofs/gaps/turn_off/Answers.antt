@@ -1,18 +1,18 @@
-use Rattle.std.proofs.Common.{◌≡◌, ◌+ℤ◌, ◌∙◌, ℤ, subst, arith, w32, to_z, of_z}
+use Rattle.std.proofs.Common.{◌≡◌, ◌+ℤ◌, ◌∙◌, sym, arith, w32, to_z, of_z}
 use Rattle.fx_fixed.proofs.Linear.{signed_linear}
 use Rattle.fx_winding.specs.Winding.{place_of, span_of, crossing, region, IsOn}
 use Rattle.fx_winding.proofs.Places.{clash}
 use Rattle.fx_winding.proofs.Swept.{moved, moved_fact}
-use Rattle.fx_dropout.specs.inner.Pairs.{IsBeside}
-use Rattle.fx_dropout.proofs.Missed.{beside_none}
+use Rattle.fx_dropout.proofs.Alike.{box_alone}
 use Rattle.fx_dropout.proofs.gaps.turn_off.Goals as goal
 
-pub returns-then-is_beside-clause-value : goal.returns-then-is_beside-clause-value
-returns-then-is_beside-clause-value c =
-    let y : to_z w32 (of_z w32 c.args.p.y) ≡ c.args.p.y = omega (arith, signed_linear) in
-    let none = beside_none (place_of c.args.p) (span_of c.args.piece.now)
-    (subst (λ (y : ℤ). IsBeside y (span_of c.args.piece.now)) y (c.is_beside.ensures c.if-is_beside.true)) in
-    (omega (arith, signed_linear), none.0, none.1)
+pub returns-in-Some-clause-value : goal.returns-in-Some-clause-value
+returns-in-Some-clause-value c =
+    let h = c.in-Some.ensures in
+    let size = h.0 in
+    let word : to_z w32 (of_z w32 c.in-Some.turn) ≡ c.in-Some.turn = omega (arith, signed_linear, size) in
+    let added = h.1 (place_of c.args.p) (box_alone (place_of c.args.p)) in
+    (omega (arith, signed_linear, word, size), word ∙ sym added.turn_is, added.off)
 
 pub returns-then-on_piece-clause-value : goal.returns-then-on_piece-clause-value
 returns-then-on_piece-clause-value c =

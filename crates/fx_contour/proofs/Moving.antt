@@ -1,0 +1,129 @@
+-- The pieces of an outline whose points are moved, where the places of its curve move along.
+-- Serves the laws `shift`, `mirror`, `flip` and `exchange`.
+use Rattle.std.proofs.Common.{◌≡◌, refl, sym, ap, ◌∙◌, subst, Bool, true, false, ℕ, ◌+◌, ◌-◌, List, [], ◌∷◌, ◌++◌}
+use Rattle.std.proofs.Common.{Option, Some, None, map, take, drop, option_map, option_to_list, if◌then◌else◌, Ok, get_or}
+use Rattle.std.proofs.lemmas.List.{map-append, take-map, drop-map}
+use Rattle.std.proofs.lemmas.List.Elements.{All-map}
+use Rattle.fx_winding.specs.Area.{Place}
+use Rattle.fx_winding.specs.Winding.{Span}
+use Rattle.fx_winding.specs.Outside.{joined, AreOfOutline}
+use Rattle.fx_outline.specs.declared.points.OutlinePoint.{OutlinePoint}
+use Rattle.fx_contour.specs.Curve.{doubled_of, middle_of, joint_of, span_at, first_or, last_or, spans_between, curve_of}
+use Rattle.fx_contour.specs.Contours.{IsInReach, contours_from, spans_of, drawn_of}
+use Rattle.fx_contour.proofs.Closed.{all_closed}
+use Rattle.fx_contour.proofs.Decided.{reach_is_tested}
+use Rattle.fx_contour.proofs.Drawn.{drawn_spans, drawn_from}
+
+-- the places of moved points, and the middles between them, are the moved places
+pub record Follows (f : OutlinePoint → OutlinePoint) (g : Place → Place) : Type 0 where
+  pub kept : (p : OutlinePoint) → (f p).on_curve ≡ p.on_curve
+  pub twice : (p : OutlinePoint) → doubled_of (f p) ≡ g (doubled_of p)
+  pub middle : (p q : OutlinePoint) → middle_of (f p) (f q) ≡ g (middle_of p q)
+
+-- a piece with its places moved
+abbrev pub moved : (Place → Place) → Span → Span
+moved g s = record { a = g s.a; b = option_map g s.b; c = g s.c }
+
+-- a function of one of two values
+either_of : {X Y : Type 0} (g : X → Y) (b : Bool) (x y : X) → (if b then g x else g y) ≡ g (if b then x else y)
+either_of g true x y = refl
+either_of g false x y = refl
+
+joint_moved : (f : OutlinePoint → OutlinePoint) (g : Place → Place) → Follows f g → (p q : OutlinePoint)
+    → joint_of (f p) (f q) ≡ g (joint_of p q)
+joint_moved f g h p q =
+    (λ i. if h.kept p i then h.twice p i else (if h.kept q i then h.twice q i else h.middle p q i))
+    ∙ ap (λ d. if p.on_curve then g (doubled_of p) else d) (either_of g q.on_curve (doubled_of q) (middle_of p q))
+    ∙ either_of g p.on_curve (doubled_of p) (if q.on_curve then doubled_of q else middle_of p q)
+
+-- a line and an arc
+abbrev line_of : Place → Place → Option Span
+line_of a c = Some (record { a = a; b = None; c = c })
+
+abbrev arc_of : Place → Place → Place → Option Span
+arc_of a b c = Some (record { a = a; b = Some b; c = c })
+
+span_moved : (f : OutlinePoint → OutlinePoint) (g : Place → Place) → Follows f g → (p q r : OutlinePoint)
+    → span_at (f p) (f q) (f r) ≡ option_map (moved g) (span_at p q r)
+span_moved f g h p q r =
+    (λ i. if h.kept q i then (if h.kept p i then line_of (h.twice p i) (h.twice q i) else None)
+    else arc_of (joint_moved f g h p q i) (h.twice q i) (joint_moved f g h q r i))
+    ∙ ap (λ d. if q.on_curve then d else arc_of (g (joint_of p q)) (g (doubled_of q)) (g (joint_of q r)))
+    (either_of (option_map (moved g)) p.on_curve (line_of (doubled_of p) (doubled_of q)) None)
+    ∙ either_of (option_map (moved g)) q.on_curve (if p.on_curve then line_of (doubled_of p) (doubled_of q) else None)
+    (arc_of (joint_of p q) (doubled_of q) (joint_of q r))
+
+list_moved : (f : Span → Span) (o : Option Span) → option_to_list (option_map f o) ≡ map f (option_to_list o)
+list_moved f None = refl
+list_moved f (Some s) = refl
+
+first_moved : (f : OutlinePoint → OutlinePoint) (qs : List OutlinePoint) (r : OutlinePoint)
+    → first_or (map f qs) (f r) ≡ f (first_or qs r)
+first_moved f [] r = refl
+first_moved f (q ∷ qs) r = refl
+
+last_moved : (f : OutlinePoint → OutlinePoint) (p : OutlinePoint) (qs : List OutlinePoint)
+    → last_or (f p) (map f qs) ≡ f (last_or p qs)
+last_moved f p [] = refl
+last_moved f p (q ∷ qs) = last_moved f q qs
+
+between_moved : (f : OutlinePoint → OutlinePoint) (g : Place → Place) → Follows f g → (p : OutlinePoint) (qs : List OutlinePoint)
+    (r : OutlinePoint) → spans_between (f p) (map f qs) (f r) ≡ map (moved g) (spans_between p qs r)
+between_moved f g h p [] r = refl
+between_moved f g h p (q ∷ qs) r =
+    (λ i. option_to_list (span_at (f p) (f q) (first_moved f qs r i)) ++ between_moved f g h q qs r i)
+    ∙ ap (λ o. option_to_list o ++ map (moved g) (spans_between q qs r)) (span_moved f g h p q (first_or qs r))
+    ∙ ap (λ xs. xs ++ map (moved g) (spans_between q qs r)) (list_moved (moved g) (span_at p q (first_or qs r)))
+    ∙ sym (map-append (moved g) (option_to_list (span_at p q (first_or qs r))) (spans_between q qs r))
+
+curve_moved : (f : OutlinePoint → OutlinePoint) (g : Place → Place) → Follows f g → (points : List OutlinePoint)
+    → curve_of (map f points) ≡ map (moved g) (curve_of points)
+curve_moved f g h [] = refl
+curve_moved f g h (p ∷ []) = refl
+curve_moved f g h (p ∷ q ∷ qs) =
+    ap (λ d. spans_between d (map f (p ∷ q ∷ qs)) (f p)) (last_moved f q qs)
+    ∙ between_moved f g h (last_or q qs) (p ∷ q ∷ qs) p
+
+contours_moved : (f : OutlinePoint → OutlinePoint) (start : ℕ) (es : List ℕ) (points : List OutlinePoint)
+    → contours_from start es (map f points) ≡ map (map f) (contours_from start es points)
+contours_moved f start [] points = refl
+contours_moved f start (e ∷ es) points =
+    let d = drop-map f start points in
+    let t = take-map f (e + 1 - start) (drop start points) in
+    let one : take (e + 1 - start) (drop start (map f points)) ≡ map f (take (e + 1 - start) (drop start points)) =
+    ap (take (e + 1 - start)) d ∙ t in
+    λ i. one i ∷ contours_moved f (e + 1) es points i
+
+all_moved : (f : OutlinePoint → OutlinePoint) (g : Place → Place) → Follows f g → (cs : List (List OutlinePoint))
+    → joined (map curve_of (map (map f) cs)) ≡ map (moved g) (joined (map curve_of cs))
+all_moved f g h [] = refl
+all_moved f g h (c ∷ cs) =
+    (λ i. curve_moved f g h c i ++ all_moved f g h cs i) ∙ sym (map-append (moved g) (curve_of c) (joined (map curve_of cs)))
+
+pub moved_spans : (f : OutlinePoint → OutlinePoint) (g : Place → Place) → Follows f g → (ends : List ℕ) (points : List OutlinePoint)
+    → spans_of ends (map f points) ≡ map (moved g) (spans_of ends points)
+moved_spans f g h ends points =
+    ap (λ cs. joined (map curve_of cs)) (contours_moved f 0 ends points) ∙ all_moved f g h (contours_from 0 ends points)
+
+-- ---- within the limits
+-- what an outline draws is closed, and what the moved one draws is moved
+pub drawn_closed : (ends : List ℕ) (points : List OutlinePoint) (ss : List Span) → drawn_of ends points ≡ Ok ss → AreOfOutline ss
+drawn_closed ends points ss d = subst AreOfOutline (drawn_spans ends points ss d).1 closed
+  where
+    closed : AreOfOutline (spans_of ends points)
+    closed = (map curve_of (contours_from 0 ends points), all_closed (contours_from 0 ends points), refl)
+
+pub drawn_moved : (f : OutlinePoint → OutlinePoint) (g : Place → Place) → Follows f g → (ends : List ℕ) (points : List OutlinePoint)
+    (ss ts : List Span) → drawn_of ends points ≡ Ok ss → drawn_of ends (map f points) ≡ Ok ts → map (moved g) ss ≡ ts
+drawn_moved f g h ends points ss ts d e =
+    ap (map (moved g)) (sym (drawn_spans ends points ss d).1) ∙ sym (moved_spans f g h ends points)
+    ∙ (drawn_spans ends (map f points) ts e).1
+
+-- where each point stays within the limit, it draws
+pub still_drawn : (f : OutlinePoint → OutlinePoint) → ((p : OutlinePoint) → IsInReach p → IsInReach (f p)) → (ends : List ℕ)
+    (points : List OutlinePoint) (ss : List Span) → drawn_of ends points ≡ Ok ss
+    → drawn_of ends (map f points) ≡ Ok (spans_of ends (map f points))
+still_drawn f near ends points ss d =
+    let h = (reach_is_tested points).0 (drawn_spans ends points ss d).0 in
+    drawn_from ends (map f points) ((reach_is_tested (map f points)).1
+    (All-map IsInReach f points (λ k p l. near (get_or points k p) (h k p l))))
