@@ -2,7 +2,8 @@
 use crate::curves::{At, Curve, add, frame, outline, piece};
 use fx_rows::{OnRow, RowPart, Rows, Run, interval};
 use fx_winding::{
-    Bitmap, Frame, MAX_SIDE, Piece, Pieces, Plain, Point, Scan, Tally, crossing, on_piece, region,
+    Bitmap, Frame, MAX_SIDE, Piece, Pieces, Plain, Point, Scan, Scratch, Tally, crossing, on_piece,
+    region,
 };
 use std::alloc::{AllocError, Global};
 use std::process::Abort;
@@ -243,5 +244,26 @@ fn shows_ring(rt: &impl Abort, alloc: Global, ring: &Pieces, frame: Frame) -> Re
     let mut tally = Tally::new();
     let whole = Rows.scan(alloc, ring, frame, &mut tally)?;
     assert!(rt; whole.bit(10, 0) && whole.bit(-15, 0) && !whole.bit(0, 0) && !whole.bit(30, 0));
+    Ok(())
+}
+
+/// A scan in the buffers of scans before it, of larger and of smaller frames, gives the bits and the notes of one in new buffers.
+#[test]
+fn scans_in_used_buffers(rt: HostRuntime) -> Result<(), Fail> {
+    let alloc = rt.alloc();
+    let ring = outline(alloc, &RING)?;
+    let mut scratch = Scratch::new(alloc);
+    let mut tally = Tally::new();
+    for side in [40, 8, 300, 64] {
+        let pixels = frame(-20, -20, side, side);
+        let used = Rows.scan_noted(alloc, &ring, pixels, &mut scratch, &mut tally)?;
+        let mut new = Scratch::new(alloc);
+        let fresh = Rows.scan_noted(alloc, &ring, pixels, &mut new, &mut tally)?;
+        assert!(rt; used.bitmap.words() == fresh.bitmap.words());
+        assert!(rt; used.notes.across.as_slice() == fresh.notes.across.as_slice());
+        assert!(rt; used.notes.up.as_slice() == fresh.notes.up.as_slice());
+        scratch.give_back(used.bitmap);
+        scratch.give_back_notes(used.notes);
+    }
     Ok(())
 }

@@ -1,14 +1,14 @@
 //! A cache of outlines, and its reader.
-ghost use Rattle.std.specs.Prelude.{◌≡◌, ◌≤◌, ℕ, Result, Ok, length, IfSome};
-ghost use Rattle.fx_hint.specs.Outlines.{GlyphOutlineView, view_of_glyph_outline};
-ghost use Rattle.fx_hint.specs.declared.fault.HintFault.{HintFault};
-ghost use Rattle.fx_cache.specs.Cached.{AreDue};
+ghost use Rattle.std.specs.Prelude.{◌≡◌, ◌≤◌, [], length, MatchOption};
+ghost use Rattle.fx_hint.specs.Outlines.{view_of_glyph_outline};
+ghost use Rattle.fx_cache.specs.Cached.{MayAdd, SkipsFirst, TakesFirst};
 ghost use Rattle.fx_cache.specs.Limits.{max_words};
 
 use crate::put::put_words;
-use crate::take::take_words;
+use crate::take::{Kept, skip_kept, take_kept};
 use fx_hint::GlyphOutline;
 use fx_outline::Outline;
+use fx_winding::Frame;
 use std::alloc::Global;
 use std::marker::Model;
 use std::mem;
@@ -19,7 +19,7 @@ const MOST_GLYPHS: usize = 4_096;
 /// The words that it asks for each of them. With `MOST_GLYPHS` they are 1 MiB.
 const WORDS_A_GLYPH: usize = 64;
 
-/// A cache of outlines: their words, one outline after the other. Contracts see the words.
+/// A cache of outlines with their frames: their words, one outline after the other. Contracts see the words.
 #[derive(Drop)]
 pub struct OutlineCache {
     words: Vec<u32>,
@@ -55,7 +55,7 @@ impl<'a> Model for CacheReader<'a> {
 impl OutlineCache {
     /// An empty cache with a buffer for about this many glyphs, at most 1 MiB. If memory is refused it keeps nothing.
     pub fn new(alloc: Global, glyphs: usize) -> OutlineCache
-        ensures { (due : ℕ → Result GlyphOutlineView HintFault) → AreDue due result }
+        ensures { result ≡ [] }
     {
         match Vec::with_capacity(alloc, glyphs.min(MOST_GLYPHS) * WORDS_A_GLYPH) {
             Ok(words) => OutlineCache { words },
@@ -65,20 +65,19 @@ impl OutlineCache {
 
     /// A cache that keeps nothing and takes no memory.
     pub fn without_room(alloc: Global) -> OutlineCache
-        ensures { (due : ℕ → Result GlyphOutlineView HintFault) → AreDue due result }
+        ensures { result ≡ [] }
     {
         OutlineCache {
             words: Vec::new(alloc),
         }
     }
 
-    /// Keeps the outline of a glyph if it fits into the buffer. If each cached outline was due for its glyph, and this one is, then
-    /// so is each one afterwards.
-    pub fn put(&mut self, glyph: u16, made: &GlyphOutline)
-        ensures { (due : ℕ → Result GlyphOutlineView HintFault) → AreDue due self.old
-            → due glyph ≡ Ok (view_of_glyph_outline made.now) → AreDue due self.new }
+    /// Keeps the outline of a glyph, with the frame of its pixels, if they fit into the buffer.
+    pub fn put(&mut self, glyph: u16, made: &GlyphOutline, frame: Option<Frame>)
+        ensures { MayAdd self.old
+            (record { glyph = glyph; outline = view_of_glyph_outline made.now; frame = frame }) self.new }
     {
-        put_words(&mut self.words, glyph, made);
+        put_words(&mut self.words, glyph, made, frame);
     }
 
     /// A reader that begins with the first outline.
@@ -102,7 +101,7 @@ impl OutlineCache {
 impl<'a> CacheReader<'a> {
     /// A reader without outlines.
     pub fn empty() -> CacheReader<'a>
-        ensures { (due : ℕ → Result GlyphOutlineView HintFault) → AreDue due result }
+        ensures { result ≡ [] }
     {
         CacheReader {
             left: &[],
@@ -110,20 +109,28 @@ impl<'a> CacheReader<'a> {
         }
     }
 
-    /// Takes the next outline if it is of this glyph. None if it is of another glyph, if there is none, or if memory is refused. If
-    /// each outline that is left is due for its glyph, then so is the one taken, and each one left afterwards.
-    pub fn take(&mut self, alloc: Global, glyph: u16) -> Option<GlyphOutline>
-        ensures outline { (due : ℕ → Result GlyphOutlineView HintFault) → AreDue due self.old
-            → IfSome result (λ o. due glyph ≡ Ok (view_of_glyph_outline o)) }
-        ensures left { (due : ℕ → Result GlyphOutlineView HintFault) → AreDue due self.old → AreDue due self.new }
+    /// Takes the next outline, with its frame, if it is of this glyph. None if it is of another glyph, if there is none, or if
+    /// memory is refused; then those that are left stay the same.
+    pub fn take(&mut self, alloc: Global, glyph: u16) -> Option<Kept>
+        ensures { MatchOption result (self.new ≡ self.old) (λ k. TakesFirst self.old
+            (record { glyph = glyph; outline = view_of_glyph_outline k.made; frame = k.frame }) self.new) }
     {
         let (points, ends) = match mem::replace(&mut self.spare, None) {
             Some(outline) => (outline.points, outline.ends),
             None => (Vec::new(alloc), Vec::new(alloc)),
         };
-        let (made, after) = take_words(self.left, points, ends, glyph)?;
+        let (kept, after) = take_kept(self.left, points, ends, glyph)?;
         self.left = after;
-        Some(made)
+        Some(kept)
+    }
+
+    /// Passes over the next outline if it is of this glyph.
+    pub fn skip(&mut self, glyph: u16)
+        ensures { SkipsFirst self.old self.new }
+    {
+        if let Some(after) = skip_kept(self.left, glyph) {
+            self.left = after;
+        }
     }
 
     /// Takes an outline that is done with, so that the next one is put into its buffers.

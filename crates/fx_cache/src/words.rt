@@ -1,12 +1,19 @@
 //! Points and contours as words, and what was asked of drop-out control as a number; and back.
-ghost use Rattle.std.specs.Prelude.{◌≡◌, ◌+◌, ◌≤◌, ◌++◌, true, map, length, vec_len, vec_capacity, IfSome};
+ghost use Rattle.std.specs.Prelude.{◌≡◌, ◌+◌, ◌≤◌, ◌++◌, pos, negsuc, nat_lt, map, length, vec_len, vec_capacity, IfSome};
 ghost use Rattle.std.specs.List.{list_all};
 ghost use Rattle.fx_outline.specs.Ends.{AreEnds};
-ghost use Rattle.fx_cache.specs.Words.{fits, point_word, point_of, wish_number, wish_numbered};
+ghost use Rattle.fx_cache.specs.Words.{is_within, fits, point_word, point_of, wish_number, wish_numbered};
 
 use fx_fixed::F26;
 use fx_gstate::Dropout;
 use fx_outline::OutlinePoint;
+
+/// A point to be written over.
+const BLANK: OutlinePoint = OutlinePoint {
+    x: F26(0),
+    y: F26(0),
+    on_curve: false,
+};
 
 /// The number of what was asked of drop-out control, 0 to 3.
 pub(crate) fn wish_number(wish: Option<Dropout>) -> u32
@@ -33,13 +40,18 @@ pub(crate) fn wish_numbered(number: u32) -> Option<Dropout>
     }
 }
 
-/// Whether a point has a word: x within 512 pixels of the origin and y within 256, in 26.6.
-fn fits(point: &OutlinePoint) -> bool
-    ensures { result ≡ fits point.now }
+/// How far the x of a point lies above the least that has a word, 512 pixels left of the origin: below 65,536 if it has a word.
+fn above_least_x(point: &OutlinePoint) -> u32
+    ensures { nat_lt result 65536 ≡ is_within (negsuc 32767) (pos 32767) point.now.x }
 {
-    let x = point.x.0;
-    let y = point.y.0;
-    -32768 <= x && x <= 32767 && -16384 <= y && y <= 16383
+    point.x.0.cast_unsigned().wrapping_add(32_768)
+}
+
+/// How far the y of a point lies above the least that has a word, 256 pixels below the origin: below 32,768 if it has a word.
+fn above_least_y(point: &OutlinePoint) -> u32
+    ensures { nat_lt result 32768 ≡ is_within (negsuc 16383) (pos 16383) point.now.y }
+{
+    point.y.0.cast_unsigned().wrapping_add(16_384)
 }
 
 /// The word of a point: the low 16 bits of x, the low 15 of y, and one that says whether it is on the curve.
@@ -51,17 +63,16 @@ fn point_word(point: &OutlinePoint) -> u32
     x * 65536 + (y * 2 + u32::from(point.on_curve))
 }
 
-/// The point of a word.
-fn point_of(word: u32) -> OutlinePoint
-    ensures { result ≡ point_of word }
+/// Writes the point of a word over another point, field by field: a whole point would be written with its padding.
+#[inline(always)]
+fn write_point(point: &mut OutlinePoint, word: u32)
+    ensures { point.new ≡ point_of word }
 {
     let x = (word / 65536) as u16;
     let y = (word % 65536) as u16;
-    OutlinePoint {
-        x: F26(i32::from(x.cast_signed())),
-        y: F26(i32::from(y.cast_signed()) >> 1),
-        on_curve: word % 2 == 1,
-    }
+    point.x = F26(i32::from(x.cast_signed()));
+    point.y = F26(i32::from(y.cast_signed()) >> 1);
+    point.on_curve = word % 2 == 1;
 }
 
 /// Adds the words of points. Returns whether each point is that of its word. It adds them all, also after one that is not, so
@@ -73,13 +84,16 @@ pub(crate) fn push_points(words: &mut Vec<u32>, points: &[OutlinePoint]) -> bool
     ensures len { vec_len words.new ≡ vec_len words.old + length points.now }
     ensures capacity { vec_capacity words.new ≡ vec_capacity words.old }
 {
-    let mut all = true;
-    // The words of the points so far are there, and there is room for the others. `all` says whether each of them fits.
+    let mut most_x = 0u32;
+    let mut most_y = 0u32;
+    // The words of the points so far are there, and there is room for the others. Each of these points has a word if the greatest
+    // numbers are small enough.
     'points: for point in points {
-        all = all & fits(point);
+        most_x = most_x.max(above_least_x(point));
+        most_y = most_y.max(above_least_y(point));
         words.push_reserved(point_word(point));
     }
-    all
+    most_x < 65_536 && most_y < 32_768
 }
 
 /// Adds the last points of contours, a word each.
@@ -100,11 +114,10 @@ pub(crate) fn points_of(buffer: Vec<OutlinePoint>, words: &[u32]) -> Option<Vec<
     ensures { IfSome result (λ v. v.items ≡ map point_of words.now) }
 {
     let mut points = buffer;
-    points.clear();
-    points.reserve(words.len()).ok()?;
-    // The points of the words so far are there, and there is room for the others.
-    'words: for word in words {
-        points.push_reserved(point_of(*word));
+    points.resize(words.len(), BLANK).ok()?;
+    // There are as many points as words, and those before `number` are those of their words.
+    'words: for number in 0..words.len() {
+        write_point(&mut points[number], words[number]);
     }
     Some(points)
 }

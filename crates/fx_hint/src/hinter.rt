@@ -48,10 +48,11 @@ pub trait Hinter {
             (started result (record { component = component; g = g; code = code.now; made = made.old })) self.new }
         ensures value { GivesUnless Fails (λ usage. (made.new, usage)) result ((hinting self.old).run g code.now made.old) };
 
-    /// A simple glyph as it was made before from the same input, if the hinter has kept it; none if memory is refused for it.
-    fn recall(&self, alloc: Global, input: &GlyphInput<'_>) -> Option<(Made, Usage)>
-        ensures value { IfSome result (λ r. IsMadeAlone (hinting self.now) input.now.scale input.now.g input.now.metrics
-            input.now.bytes.now r.0 r.1) }
+    /// Writes to `made` a simple glyph as it was made before from the same input, if the hinter has kept it, and returns what its
+    /// program used up then. Returns none if it has not, or if memory is refused; then `made` may hold anything.
+    fn recall(&self, alloc: Global, input: &GlyphInput<'_>, made: &mut Made) -> Option<Usage>
+        ensures value { IfSome result (λ usage. IsMadeAlone (hinting self.now) input.now.scale input.now.g input.now.metrics
+            input.now.bytes.now made.new usage) }
         ensures leads { IfSome result (λ _. (run : ProgramRun) → Leads self.now (run ∷ []) self.now) };
 
     /// Takes notice of a simple glyph that was made, and may keep it.
@@ -100,7 +101,7 @@ impl Hinter for NoHinter {
         Ok(Usage::none())
     }
 
-    fn recall(&self, _alloc: Global, _input: &GlyphInput<'_>) -> Option<(Made, Usage)> {
+    fn recall(&self, _alloc: Global, _input: &GlyphInput<'_>, _made: &mut Made) -> Option<Usage> {
         None
     }
 

@@ -154,9 +154,9 @@ impl<'a> Hinter for KeepingMachine<'a> {
         self.machine.run(component, g, code, made)
     }
 
-    fn recall(&self, alloc: Global, input: &GlyphInput<'_>) -> Option<(Made, Usage)> {
+    fn recall(&self, alloc: Global, input: &GlyphInput<'_>, made: &mut Made) -> Option<Usage> {
         match &self.places {
-            Some(places) => places[usize::from(input.g) % PLACES].recall(alloc, input),
+            Some(places) => places[usize::from(input.g) % PLACES].recall(alloc, input, made),
             None => None,
         }
     }

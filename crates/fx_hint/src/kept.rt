@@ -146,27 +146,27 @@ impl KeptGlyph {
         Ok(())
     }
 
-    /// The glyph that is kept, if it was made from this input; none if memory is refused.
-    pub fn recall(&self, alloc: Global, input: &GlyphInput<'_>) -> Option<(Made, Usage)>
-        ensures { IfSome result (λ r. self.now ≡ Some (record {
+    /// Copies the glyph that is kept to `made`, if it was made from this input, and returns what its program used up. Returns none
+    /// if it was not, or if memory is refused; then `made` may hold anything.
+    pub fn recall(&self, alloc: Global, input: &GlyphInput<'_>, made: &mut Made) -> Option<Usage>
+        ensures { IfSome result (λ usage. self.now ≡ Some (record {
           g = input.now.g;
           scale = input.now.scale;
           metrics = input.now.metrics;
           bytes = input.now.bytes.now;
-          made = r.0;
-          usage = r.1;
+          made = made.new;
+          usage = usage;
         })) }
     {
-        let fields = self.fields?;
+        let Some(fields) = &self.fields else {
+            return None;
+        };
         if !fields.are_of(input) || !are_same(&self.bytes, input.bytes) {
             return None;
         }
-        let zone = zone_copied(alloc, &self.points, &self.ends).ok()?;
-        let made = Made {
-            zone,
-            phantoms: fields.phantoms,
-            wish: fields.wish,
-        };
-        Some((made, fields.usage))
+        made.zone = zone_copied(alloc, &self.points, &self.ends).ok()?;
+        made.phantoms = fields.phantoms;
+        made.wish = fields.wish;
+        Some(fields.usage)
     }
 }

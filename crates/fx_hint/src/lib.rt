@@ -33,6 +33,6 @@ pub use kept::GlyphInput;
 pub use laws::runs_are_the_walks;
 pub use limits::{MAX_COMPONENTS, MAX_DEPTH};
 pub use made::Made;
-pub use outlines::{outline, outline_with};
+pub use outlines::{outline, outline_in, outline_with};
 pub use programmed::WatchedMachine;
 pub use watcher::{RunWatcher, RunWatching};

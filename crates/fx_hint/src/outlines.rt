@@ -22,6 +22,13 @@ use fx_sfnt::Font;
 use fx_zone::Point;
 use std::alloc::{AllocError, Global};
 
+/// A point to be written over.
+const BLANK: OutlinePoint = OutlinePoint {
+    x: F26(0),
+    y: F26(0),
+    on_curve: false,
+};
+
 /// The outline of glyph `g` at `ppem` pixels an em, scaled, its composites put together. A machine is one of this font and size,
 /// and hints it; nothing that it ran before has a part in the outline. Without a machine hinting is off: no program runs, and
 /// nothing but the scaled values themselves is rounded.
@@ -49,9 +56,27 @@ pub fn outline(
 }
 
 /// The outline of glyph `g` at `ppem` pixels an em, as a hinter makes it.
-#[tactic(auto, unfolding(crate::specs::Outlines::outline_with))]
 pub fn outline_with<H: Hinter>(
     alloc: Global,
+    hinter: &mut H,
+    font: &Font<'_>,
+    ppem: Ppem,
+    g: u16,
+) -> Result<GlyphOutline, HintFault>
+    ensures known { H.known hinter.new ≡ H.known hinter.old }
+    ensures kept { H.hinting hinter.new ≡ H.hinting hinter.old }
+    ensures leads { HasRun H.Leads hinter.old hinter.new result
+        (runs_of (H.hinting hinter.old) font.now (scale_of font.now ppem) g) }
+    ensures value { GivesUnless Fails view_of_glyph_outline result (outline_with (H.hinting hinter.old) font.now ppem g) }
+{
+    outline_in(alloc, Vec::new(alloc), hinter, font, ppem, g)
+}
+
+/// The same outline, with its points in a buffer that the caller gives. What the buffer held is lost.
+#[tactic(auto, unfolding(crate::specs::Outlines::outline_with))]
+pub fn outline_in<H: Hinter>(
+    alloc: Global,
+    points: Vec<OutlinePoint>,
     hinter: &mut H,
     font: &Font<'_>,
     ppem: Ppem,
@@ -66,13 +91,17 @@ pub fn outline_with<H: Hinter>(
     let scale = Scale::of(font, ppem);
     hinter.law_keeps_shape();
     let (made, usage) = root_made(alloc, hinter, font, &scale, g)?;
-    let outline = moved_outline(alloc, made, usage)?;
+    let outline = moved_outline(points, made, usage)?;
     Ok(outline)
 }
 
-/// The outline moved, so that its first phantom point lies at x = 0.
+/// The outline moved, so that its first phantom point lies at x = 0. Its points are put into a buffer.
 #[tactic(auto, unfolding(crate::specs::Outlines::moved_outline_of))]
-fn moved_outline(alloc: Global, made: Made, usage: Usage) -> Result<GlyphOutline, AllocError>
+fn moved_outline(
+    buffer: Vec<OutlinePoint>,
+    made: Made,
+    usage: Usage,
+) -> Result<GlyphOutline, AllocError>
     requires { IsSound made }
     ensures { IfOk result (λ o. view_of_glyph_outline o ≡ moved_outline_of made usage) }
 {
@@ -82,7 +111,7 @@ fn moved_outline(alloc: Global, made: Made, usage: Usage) -> Result<GlyphOutline
         wish,
     } = made;
     let origin = phantoms.origin.cur.x;
-    let points = moved_points(alloc, zone.points(), origin)?;
+    let points = moved_points(buffer, zone.points(), origin)?;
     let advance = phantoms.advance.cur.x.minus(origin);
     let outline = Outline {
         points,
@@ -96,29 +125,30 @@ fn moved_outline(alloc: Global, made: Made, usage: Usage) -> Result<GlyphOutline
     })
 }
 
-/// The points moved, in their order.
+/// The points moved, in their order, in a buffer whose points are lost.
 fn moved_points(
-    alloc: Global,
+    buffer: Vec<OutlinePoint>,
     points: &[Point],
     origin: F26,
 ) -> Result<Vec<OutlinePoint>, AllocError>
     ensures { IfOk result (λ v. v.items ≡ map (moved_point origin) points.now) }
 {
-    let mut moved = Vec::with_capacity(alloc, points.len())?;
-    // The points before this one are moved, and there is room for the others.
-    'points: for point in points {
-        moved.push_reserved(moved_point(*point, origin));
+    let mut moved = buffer;
+    moved.resize(points.len(), BLANK)?;
+    // There are as many moved points as points, and those before `number` are these points moved.
+    'points: for number in 0..points.len() {
+        write_moved(&mut moved[number], &points[number], origin);
     }
     Ok(moved)
 }
 
-/// A point at its current place, moved so that the origin lies at x = 0.
-fn moved_point(point: Point, origin: F26) -> OutlinePoint
-    ensures { result ≡ moved_point origin point }
+/// Writes a point at its current place, moved so that the origin lies at x = 0, over another point, field by field: a whole point
+/// would be written with its padding.
+#[inline(always)]
+fn write_moved(moved: &mut OutlinePoint, point: &Point, origin: F26)
+    ensures { moved.new ≡ moved_point origin point.now }
 {
-    OutlinePoint {
-        x: point.cur.x.minus(origin),
-        y: point.cur.y,
-        on_curve: point.on,
-    }
+    moved.x = point.cur.x.minus(origin);
+    moved.y = point.cur.y;
+    moved.on_curve = point.on;
 }

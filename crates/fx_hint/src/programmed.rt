@@ -118,7 +118,7 @@ impl<'a> Hinter for Machine<'a> {
         hint(self, g, code, made, &mut Unwatched)
     }
 
-    fn recall(&self, _alloc: Global, _input: &GlyphInput<'_>) -> Option<(Made, Usage)> {
+    fn recall(&self, _alloc: Global, _input: &GlyphInput<'_>, _made: &mut Made) -> Option<Usage> {
         None
     }
 
@@ -184,7 +184,7 @@ impl<'a, W: RunWatching> Hinter for WatchedMachine<'a, W> {
         true
     }
 
-    fn recall(&self, _alloc: Global, _input: &GlyphInput<'_>) -> Option<(Made, Usage)> {
+    fn recall(&self, _alloc: Global, _input: &GlyphInput<'_>, _made: &mut Made) -> Option<Usage> {
         None
     }
 

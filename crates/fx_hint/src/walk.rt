@@ -1,20 +1,20 @@
 //! The walk over components.
 
-ghost use Rattle.std.specs.Prelude.{ℕ, [], ◌∷◌, ◌≡◌, ◌+◌, ◌-◌, ◌<◌, ◌≤◌, Option, None, Ok, IfOk, OnOk, length};
+ghost use Rattle.std.specs.Prelude.{[], ◌∷◌, ◌≡◌, ◌+◌, ◌-◌, ◌<◌, ◌≤◌, None, Ok, Err, IfOk, OnOk, length};
 ghost use Rattle.fx_fixed.specs.Chain.{GivesUnless, map_ok};
 ghost use Rattle.fx_glyf.specs.declared.glyph.Glyph.TheVariants as glyph;
 ghost use Rattle.fx_glyf.specs.Glyphs.{glyph_of};
 ghost use Rattle.fx_zone.specs.Figures.{empty_figure};
 ghost use Rattle.fx_scale.specs.Phantoms.{phantoms_of};
 ghost use Rattle.fx_hint.specs.Faults.{Fails};
-ghost use Rattle.fx_hint.specs.declared.component.ComponentOf.{ComponentOf as TheComponent};
+ghost use Rattle.fx_hint.specs.declared.fault.HintFault.{HintFault as TheFault};
 ghost use Rattle.fx_hint.specs.Outlines.{scaled_simple, simple_made, run_on, root_made};
 ghost use Rattle.fx_hint.specs.Runs.{HasRun, logged_assembled, logged_component, runs_of};
 ghost use Rattle.fx_outline.specs.Limits.{max_points};
 ghost use Rattle.fx_hint.specs.Limits.{max_components, max_depth};
 ghost use Rattle.fx_hint.specs.Parts.{with_part};
 ghost use Rattle.fx_hint.specs.inner.RunSteps.{begun_runs, begun_by_runs, begun_component_runs, logged_left, Walks};
-ghost use Rattle.fx_hint.specs.inner.Steps.{step_of, CountsPoints, begun, begun_by, begun_component, counted_made};
+ghost use Rattle.fx_hint.specs.inner.Steps.{Assembled, step_of, CountsPoints, begun, begun_by, begun_component, counted_made};
 
 use crate::below::{Below, OpenComposite, Waiting};
 use crate::component::ComponentOf;
@@ -79,8 +79,8 @@ fn run_on<H: Hinter>(
     Ok(usage)
 }
 
-/// The walk over the components below one root. A glyph is begun in what the caller gives it to be made in, so that no step
-/// hands on more than the composite that is open then.
+/// A walk over the components below a root. A step that begins a glyph writes it to a `Made` of its caller, and returns the
+/// composite if it is one. So no large value is copied from step to step.
 #[derive(Clone, Copy)]
 struct Walk<'w, 'a> {
     alloc: Global,
@@ -195,7 +195,7 @@ impl<'w, 'a> Walk<'w, 'a> {
         simple: &Simple<'_>,
         count: &mut Count,
         made: &mut Made,
-    ) -> Result<Option<Composite<'a>>, HintFault>
+    ) -> Result<(), HintFault>
         requires scale { input.now.scale ≡ self.now.scale.now }
         requires read { glyph_of input.now.bytes.now input.now.g ≡ Ok (glyph.Simple simple.now) }
         ensures known { H.known hinter.new ≡ H.known hinter.old }
@@ -203,7 +203,7 @@ impl<'w, 'a> Walk<'w, 'a> {
         ensures leads { HasRun H.Leads hinter.old hinter.new result
             (begun_by_runs (H.hinting hinter.old) self.now.scale.now self.now.root component input.now.g input.now.metrics
             (glyph.Simple simple.now) count.old) }
-        ensures value { GivesUnless Fails (λ assembly. (step_of component input.now.g assembly made.new, count.new)) result
+        ensures value { GivesUnless Fails (λ _. (Assembled made.new, count.new)) result
             (begun_by (H.hinting hinter.old) self.now.scale.now self.now.root component input.now.g input.now.metrics
             (glyph.Simple simple.now) count.old) }
         ensures records { OnOk result (count.new.records ≡ count.old.records) }
@@ -213,26 +213,21 @@ impl<'w, 'a> Walk<'w, 'a> {
         self.simple_made(on, input.metrics, simple, count, made)?;
         let usage = run_on(hinter, component, input.g, simple.code(), made, count)?;
         hinter.keep(input, made, usage);
-        Ok(None)
+        Ok(())
     }
 
     /// A simple component that was kept; its points, and what its program used up when it was made, are counted again.
     #[tactic(auto, unfolding(crate::specs::inner::Steps::counted_made))]
-    fn recalled(
-        &self,
-        made: &Made,
-        usage: Usage,
-        count: &mut Count,
-    ) -> Result<Option<Composite<'a>>, HintFault>
-        ensures value { (component : Option TheComponent) (g : ℕ)
-            → GivesUnless Fails (λ assembly. (step_of component g assembly made.now, count.new)) result
+    fn recalled(&self, made: &Made, usage: Usage, count: &mut Count) -> Result<(), HintFault>
+        ensures value { GivesUnless Fails (λ _. (Assembled made.now, count.new)) result
             (counted_made self.now.root made.now usage count.old) }
+        ensures due { (e : TheFault) → result ≡ Err e → counted_made self.now.root made.now usage count.old ≡ Err e }
         ensures records { OnOk result (count.new.records ≡ count.old.records) }
         ensures points { OnOk result (CountsPoints count.old made.now count.new) }
     {
         count.more_points(self.root, made.zone.len())?;
         count.more_usage(usage);
-        Ok(None)
+        Ok(())
     }
 
     /// A glyph begun, which is a component: the hinter may recall it if it is simple, or keep it.
@@ -263,14 +258,15 @@ impl<'w, 'a> Walk<'w, 'a> {
             metrics,
             bytes,
         };
-        if let Some((recalled, usage)) = hinter.recall(self.alloc, &input) {
+        if let Some(usage) = hinter.recall(self.alloc, &input, made) {
             hinter.law_keeps_shape();
-            *made = recalled;
-            return self.recalled(made, usage, count);
+            self.recalled(made, usage, count)?;
+            return Ok(None);
         }
         match read(bytes, g)? {
             Glyph::Simple(simple) => {
-                self.simple_kept(hinter, component, &input, &simple, count, made)
+                self.simple_kept(hinter, component, &input, &simple, count, made)?;
+                Ok(None)
             }
             glyph => self.begun_by(hinter, component, g, metrics, glyph, count, made),
         }

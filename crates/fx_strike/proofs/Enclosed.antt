@@ -121,6 +121,5 @@ has_added sketch made old new code box is e j a =
       gathered = a.gathered ∙ ap₂ (gathered_with old.gathered) (sym e) is.dwidth;
       narrow = a.narrow;
       glyphs = a.glyphs;
-      missing = a.missing;
-      usage = a.usage ∙ ap (usage_with old.report.usage) is.usage;
+      usage = a.usage ∙ ap (usage_with old.usage) is.usage;
     }

@@ -26,11 +26,15 @@ use Rattle.fx_strike.proofs.Sketching.{fails_on, memory_fails}
 -- ---- what becomes of a character
 
 -- it is drawn
+pub fate_of_sketch : (setting : Setting) (refused : OnRefused) (code glyph : ℕ) (sketch : Sketch)
+    → glyph_sketch_of setting code glyph ≡ Ok sketch → glyph_fate_of setting refused code glyph ≡ Ok (drawn sketch)
+unfolding glyph_fate_of
+fate_of_sketch setting refused code glyph sketch h = rw h refl
+
 pub fate_drawn : (setting : Setting) (refused : OnRefused) (code glyph : ℕ) (made : Sketched)
     → Sketches (glyph_sketch_of setting code glyph) (Ok made)
     → Decides (glyph_fate_of setting refused code glyph) (Ok (Drawn made))
-unfolding glyph_fate_of
-fate_drawn setting refused code glyph made h = (drawn h.0, rw h.1 refl, h.2)
+fate_drawn setting refused code glyph made h = (drawn h.0, fate_of_sketch setting refused code glyph h.0 h.1, h.2)
 
 -- it is refused for a cause
 pub fate_by_cause : (basis : Basis) (machine : Option Known) (refused : OnRefused) (code glyph : ℕ)

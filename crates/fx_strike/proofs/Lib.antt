@@ -3,6 +3,7 @@ pub mod OutlineLines
 pub mod Outlining
 pub mod Sketching
 pub mod GatheredGlyphs
+pub mod Mapping
 pub mod Seeing
 pub mod Making
 pub mod Prepared
@@ -13,6 +14,7 @@ pub mod Telling
 pub mod OneCharacter
 pub mod Trimming
 pub mod Existing
+pub mod Drawn
 pub mod Enclosed
 pub mod BlockSettings
 pub mod TracesTold

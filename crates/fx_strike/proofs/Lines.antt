@@ -1,19 +1,17 @@
 -- What the second pass writes: of a character, of all characters, and of a strike.
 -- Serves `write_one`, `write_all`, `write_text` and `write_strike`.
-use Rattle.std.proofs.Common.{◌≡◌, refl, sym, ap, ap₂, ◌∙◌, subst, append_assoc, arith, inr, ℕ, zero, suc, ◌-◌, ◌^◌, ◌<◌, OnOk, Bool, true, false, Option}
-use Rattle.std.proofs.Common.{List, [], ◌∷◌, ◌++◌, length, get_or, length-append, Result, Ok, Err, cond}
-use Rattle.std.specs.Prelude.{filter, not}
+use Rattle.std.proofs.Common.{◌≡◌, refl, sym, ap, ap₂, ◌∙◌, subst, append_assoc, arith, inr, ℕ, zero, suc, ◌-◌, ◌^◌, ◌<◌, OnOk, Bool, Option}
+use Rattle.std.proofs.Common.{List, [], ◌∷◌, ◌++◌, length, get_or, length-append, Result, Ok, Err}
 use Rattle.std.specs.List.{flat_map}
 use Rattle.std.specs.Borrow.{GName}
 use Rattle.std.proofs.KnownBytes.{Appends-nil}
 use Rattle.std.proofs.lemmas.List.{append-nil}
 use Rattle.std.proofs.lemmas.Grind.{flat_map-append}
-use Rattle.fx_fixed.specs.Chain.{map_ok, map_chain}
+use Rattle.fx_fixed.specs.Chain.{map_ok}
 use Rattle.fx_fixed.specs.Texts.{TextView, Adds, Fails as WriterFails, after, begun}
 use Rattle.fx_fixed.proofs.Texts.{adds_stopped, adds_text, adds_then}
 use Rattle.fx_fixed.specs.declared.sink.WriteFailed.{WriteFailed as Failed}
 use Rattle.fx_fixed.proofs.Chain.{same_Ok}
-use Rattle.fx_cmap.specs.Lookup.{glyph_for}
 use Rattle.fx_bdf.specs.Glyphs.{Glyph, TrimmedIsOne}
 use Rattle.fx_bdf.specs.declared.header.Header.{Header}
 use Rattle.fx_bdf.specs.Properties.{PropertyView}
@@ -33,13 +31,15 @@ use Rattle.fx_strike.specs.declared.fate.Fate as held
 use Rattle.fx_strike.specs.declared.fate.Fate.TheVariants.{Drawn, Unhinted}
 use Rattle.fx_strike.specs.declared.sketched.Sketched.{Sketched}
 use Rattle.fx_strike.specs.Strike.{Sketch, Setting, Plan, Fate, drawn, unhinted, left_out, IsGlyphOf, AreGlyphsOf, sketches_in}
-use Rattle.fx_strike.specs.Strike.{glyph_fate_of, fate_of, fates_of, is_missing, plan_with, properties_of, strike_text}
+use Rattle.fx_strike.specs.Strike.{glyph_fate_of, glyph_sketch_of, plan_with, properties_of, strike_text}
 use Rattle.fx_strike.specs.inner.Drawing.{AreOf, IsFateOf, IsSketchedOf}
 use Rattle.fx_strike.specs.Headline.{Surveyed, Leaves, surveyed_header}
 use Rattle.fx_strike.specs.inner.Writing.{AddsMore, AreLinesOf, AreAllLinesOf, HasRoom, Stops, Writes}
 use Rattle.fx_strike.proofs.OnePart.{chain_parts, glyph_is_one, planned}
-use Rattle.fx_strike.proofs.Fates.{fate_code}
-use Rattle.fx_strike.proofs.Seeing.{missing_is, not_zero, same_fate}
+use Rattle.fx_strike.proofs.Fates.{fate_code, fate_of_sketch}
+use Rattle.fx_strike.proofs.Mapping.{fates_are}
+use Rattle.fx_strike.specs.declared.characters.Mapped.{Mapped}
+use Rattle.fx_strike.specs.inner.Mapping.{fates_in, mapped_fate_of, mapped_in, mapped_of}
 
 -- ---- parts of a text
 
@@ -113,6 +113,13 @@ pub drawn_lines : {g : Glyph} → TrimmedIsOne → (sketch : Sketch) (glyph : Gl
     → glyph_text g ≡ glyph_text glyph
 drawn_lines {g} one sketch glyph here is = ap glyph_text (glyph_is_one one sketch g glyph here is)
 
+lines_of : {was now : TextView} {r : Result (Unit {0}) Refusal} (sketch : Sketch) (glyphs : List Glyph)
+    → ((glyph : Glyph) → IsGlyphOf sketch glyph → AddsMore was now (glyph_text glyph) r)
+    → AreGlyphsOf (sketch ∷ []) glyphs → AddsMore was now (flat_map glyph_text glyphs) r
+lines_of sketch [] h g = absurd g
+lines_of sketch (x ∷ []) h g = same_lines (sym (append-nil (glyph_text x))) (h x g.0)
+lines_of sketch (x ∷ y ∷ xs) h g = absurd g.1
+
 -- by what becomes of a character
 module _ {was now : TextView} {code : ℕ} {r : Result (Unit {0}) Refusal} where
   one_glyph : (made : Sketched) (sketch : Sketch) (glyphs : List Glyph)
@@ -120,9 +127,7 @@ module _ {was now : TextView} {code : ℕ} {r : Result (Unit {0}) Refusal} where
       → AddsMore was now (glyph_text glyph) r)
       → IsSketchedOf sketch made → sketch.code ≡ code → AreGlyphsOf (sketch ∷ []) glyphs
       → AddsMore was now (flat_map glyph_text glyphs) r
-  one_glyph made sketch [] h is e g = absurd g
-  one_glyph made sketch (x ∷ []) h is e g = same_lines (sym (append-nil (glyph_text x))) (h sketch x is e g.0)
-  one_glyph made sketch (x ∷ y ∷ xs) h is e g = absurd g.1
+  one_glyph made sketch glyphs h is e g = lines_of sketch glyphs (λ x of. h sketch x is e of) g
 
   pub lines_drawn : (due : Fate) (made : Sketched) (glyphs : List Glyph)
       → ((sketch : Sketch) (glyph : Glyph) → IsSketchedOf sketch made → sketch.code ≡ code → IsGlyphOf sketch glyph
@@ -142,40 +147,32 @@ module _ {was now : TextView} {code : ℕ} {r : Result (Unit {0}) Refusal} where
   lines_unhinted (unhinted notice s) told made glyphs h is e g = one_glyph made s glyphs h is.1 e g
   lines_unhinted (left_out notice) told made glyphs h is e g = absurd is
 
--- what becomes of a character, and its glyphs
-record Due (setting : Setting) (refused : OnRefused) (code glyph : ℕ) (text : List ℕ) : Type 0 where
-  pub fate : Fate
-  pub glyphs : List Glyph
-  pub is : glyph_fate_of setting refused code glyph ≡ Ok fate
-  pub drawn : AreGlyphsOf (sketches_in fate) glyphs
-  pub text_is : text ≡ flat_map glyph_text glyphs
-
 module _ {setting : Setting} {refused : OnRefused} {code glyph : ℕ} {text : List ℕ} where
-  due_lines : glyph ≡ glyph_for setting.map code → (glyph ≡ 0 → ⊥) → AreLinesOf setting refused code text
-      → Due setting refused code glyph text
-  due_lines e m h =
-      let x = rw (missing_is setting code glyph e false (not_zero glyph m)) at h.lines in
-      record { fate = x.0; glyphs = x.1; is = same_fate setting refused code glyph e ∙ x.2; drawn = x.3; text_is = x.4 }
-
   -- nothing was written of it when memory ran out
-  pub adds_undrawn : {was : TextView} (d : Refusal) → glyph ≡ glyph_for setting.map code → (glyph ≡ 0 → ⊥)
-      → Fails d (glyph_fate_of setting refused code glyph) → AreLinesOf setting refused code text → AddsMore was was text (Err d)
-  adds_undrawn d e m fails h =
-      let x = due_lines e m h in stopped_by text d (only_memory d _ x.fate x.is fails)
+  pub adds_undrawn : {was : TextView} (d : Refusal) → Fails d (glyph_fate_of setting refused code glyph)
+      → AreLinesOf setting refused code glyph text → AddsMore was was text (Err d)
+  adds_undrawn d fails h = stopped_by text d (only_memory d _ h.fate h.is fails)
 
   -- it was written, or as much of it as could be
-  pub adds_fate : {was now : TextView} {made : held.Fate} (r : Result (Unit {0}) Refusal) → glyph ≡ glyph_for setting.map code
-      → (glyph ≡ 0 → ⊥)
+  pub adds_fate : {was now : TextView} {made : held.Fate} (r : Result (Unit {0}) Refusal)
       → (fate : Fate) × (glyph_fate_of setting refused code glyph ≡ Ok fate) × IsFateOf fate made
       → ((due : Fate) (glyphs : List Glyph) → IsFateOf due made → AreOf code due → AreGlyphsOf (sketches_in due) glyphs
       → AddsMore was now (flat_map glyph_text glyphs) r)
-      → AreLinesOf setting refused code text → AddsMore was now text r
-  adds_fate r e m f w h =
-      let x = due_lines e m h in
-      let here = rw (same_Ok x.fate f.0 x.is f.1) at x.drawn in
-      same_lines (sym x.text_is) (w f.0 x.glyphs f.2 (fate_code setting refused code glyph f.0 f.1) here)
+      → AreLinesOf setting refused code glyph text → AddsMore was now text r
+  adds_fate r f w h =
+      let here = rw (same_Ok h.fate f.0 h.is f.1) at h.drawn in
+      same_lines (sym h.text_is) (w f.0 h.glyphs f.2 (fate_code setting refused code glyph f.0 f.1) here)
 
--- the lines of a code point in the middle
+  -- a glyph that was drawn before was written
+  pub adds_drawn : {was now : TextView} {r : Result (Unit {0}) Refusal} (sketch : Sketch)
+      → glyph_sketch_of setting code glyph ≡ Ok sketch
+      → ((g : Glyph) → IsGlyphOf sketch g → AddsMore was now (glyph_text g) r)
+      → AreLinesOf setting refused code glyph text → AddsMore was now text r
+  adds_drawn sketch d w h =
+      let here = rw (same_Ok h.fate (drawn sketch) h.is (fate_of_sketch setting refused code glyph sketch d)) at h.drawn in
+      same_lines (sym h.text_is) (lines_of sketch h.glyphs w here)
+
+-- the lines of a character in the middle
 pub adds_part : {was now next : TextView} {all front lines : List ℕ} (back : List ℕ) {d : Refusal} → all ≡ front ++ (lines ++ back)
     → Adds Stops was now front (Ok tt) → AddsMore now next lines (Err d) → AddsMore was next all (Err d)
 adds_part {was} {now} {next} {all} {front} {lines} back {d} e h g = same_lines (sym e) (record {
@@ -187,23 +184,24 @@ adds_part {was} {now} {next} {all} {front} {lines} back {d} e h g = same_lines (
 
 -- ---- all characters
 
--- the texts of glyphs as pieces for code points
-record Pieces (setting : Setting) (refused : OnRefused) (codes : List ℕ) (glyphs : List Glyph) : Type 0 where
+-- the texts of glyphs as pieces for characters
+record Pieces (setting : Setting) (refused : OnRefused) (mapped : List Mapped) (glyphs : List Glyph) : Type 0 where
   pub pieces : List (List ℕ)
-  pub lines : AreAllLinesOf setting refused codes pieces
+  pub lines : AreAllLinesOf setting refused mapped pieces
   pub whole : flat_map (λ t. t) pieces ≡ flat_map glyph_text glyphs
 
--- with the lines of one more code point before them
-more_pieces : {setting : Setting} {refused : OnRefused} {c : ℕ} {cs text : List ℕ} {gs hs : List Glyph}
-    → AreLinesOf setting refused c text → Pieces setting refused cs gs → flat_map glyph_text hs ≡ text ++ flat_map glyph_text gs
-    → Pieces setting refused (c ∷ cs) hs
-more_pieces {setting} {refused} {c} {cs} {text} h p e = record {
+-- with the lines of one more character before them
+more_pieces : {setting : Setting} {refused : OnRefused} {m : Mapped} {ms : List Mapped} {text : List ℕ} {gs hs : List Glyph}
+    → AreLinesOf setting refused m.code m.glyph text → Pieces setting refused ms gs
+    → flat_map glyph_text hs ≡ text ++ flat_map glyph_text gs → Pieces setting refused (m ∷ ms) hs
+more_pieces {setting} {refused} {m} {ms} {text} h p e = record {
   pieces = text ∷ p.pieces;
   lines = record { count = ap suc p.lines.count; each = each };
   whole = ap (λ (t : List ℕ). text ++ t) p.whole ∙ sym e;
 }
   where
-    each : (i : ℕ) → i < length (c ∷ cs) → AreLinesOf setting refused (get_or (c ∷ cs) i 0) (get_or (text ∷ p.pieces) i [])
+    each : (i : ℕ) → i < length (m ∷ ms)
+        → AreLinesOf setting refused (mapped_in (m ∷ ms) i).code (mapped_in (m ∷ ms) i).glyph (get_or (text ∷ p.pieces) i [])
     each zero l = h
     each (suc i) l = p.lines.each i (omega arith)
 
@@ -222,29 +220,19 @@ split (unhinted notice s) fs [] h = absurd h
 split (unhinted notice s) fs (g ∷ gs) h = record { front = g ∷ []; back = gs; whole = refl; drawn = (h.0, tt); others = h.1 }
 split (left_out notice) fs gs h = record { front = []; back = gs; whole = refl; drawn = tt; others = h }
 
-pieces_with : (setting : Setting) (refused : OnRefused) (c : ℕ) (cs : List ℕ) (fs : List Fate) (gs : List Glyph) (b : Bool)
-    → is_missing setting c ≡ b
-    → map_chain (fate_of setting refused) (cond (not b) (c ∷ filter (λ d. not (is_missing setting d)) cs)
-    (filter (λ d. not (is_missing setting d)) cs)) ≡ Ok fs
-    → ((ys : List Fate) (xs : List Glyph) → fates_of setting refused cs ≡ Ok ys → AreGlyphsOf (flat_map sketches_in ys) xs
-    → Pieces setting refused cs xs)
-    → AreGlyphsOf (flat_map sketches_in fs) gs → Pieces setting refused (c ∷ cs) gs
-pieces_with setting refused c cs fs gs true e h more g =
-    more_pieces {text = []} (record { lines = rw e refl }) (more fs gs h g) refl
-pieces_with setting refused c cs fs gs false e h more g =
-    let p = chain_parts (fate_of setting refused) c _ fs h in
-    let s = split p.0 p.1 gs (rw p.4 at g) in
-    more_pieces {text = flat_map glyph_text s.front} (record { lines = rw e (p.0, s.front, p.2, s.drawn, refl) })
-    (more p.1 s.back p.3 s.others) (ap (flat_map glyph_text) s.whole ∙ flat_map-append glyph_text s.front s.back)
-
-pieces_of : (setting : Setting) (refused : OnRefused) (codes : List ℕ) (fs : List Fate) (gs : List Glyph)
-    → fates_of setting refused codes ≡ Ok fs → AreGlyphsOf (flat_map sketches_in fs) gs → Pieces setting refused codes gs
+pieces_of : (setting : Setting) (refused : OnRefused) (mapped : List Mapped) (fs : List Fate) (gs : List Glyph)
+    → fates_in setting refused mapped ≡ Ok fs → AreGlyphsOf (flat_map sketches_in fs) gs → Pieces setting refused mapped gs
 pieces_of setting refused [] fs [] h g =
     record { pieces = []; lines = record { count = refl; each = λ i l. absurd (omega arith) }; whole = refl }
 pieces_of setting refused [] fs (x ∷ xs) h g =
     let none : fs ≡ [] = cc in absurd (rw none at g)
-pieces_of setting refused (c ∷ cs) fs gs h g =
-    pieces_with setting refused c cs fs gs (is_missing setting c) refl h (λ ys xs k l. pieces_of setting refused cs ys xs k l) g
+pieces_of setting refused (m ∷ ms) fs gs h g =
+    let p = chain_parts (mapped_fate_of setting refused) m ms fs h in
+    let s = split p.0 p.1 gs (rw p.4 at g) in
+    more_pieces {text = flat_map glyph_text s.front}
+    (record { fate = p.0; glyphs = s.front; is = p.2; drawn = s.drawn; text_is = refl })
+    (pieces_of setting refused ms p.1 s.back p.3 s.others)
+    (ap (flat_map glyph_text) s.whole ∙ flat_map-append glyph_text s.front s.back)
 
 -- ---- a strike
 
@@ -309,17 +297,19 @@ leaves_by s (Err (WriteFailed n)) w =
 leaves_by s (Err d) w = absurd w.outcome.3
 
 -- the text of a strike was written, or a beginning of it
-pub strike_leaves : {setting : Setting} (title : Title) (chars : List ℕ) {refused : OnRefused} {codes : List ℕ}
+pub strike_leaves : {setting : Setting} (title : Title) (chars : List ℕ) {refused : OnRefused} {mapped : List Mapped}
     {change : Change} {survey : Survey}
     {header : Header} {all : List PropertyView} (r : Result (Unit {0}) Refusal)
-    → codes ≡ rising chars → header ≡ surveyed_header setting.ppem survey → all ≡ properties_by title setting.ppem survey
+    → mapped ≡ mapped_of setting.map (rising chars) → header ≡ surveyed_header setting.ppem survey
+    → all ≡ properties_by title setting.ppem survey
     → Surveyed (plan_with setting title chars refused) survey
-    → ((lines : List (List ℕ)) → AreAllLinesOf setting refused codes lines
+    → ((lines : List (List ℕ)) → AreAllLinesOf setting refused mapped lines
     → Writes change (header_text title.name all header ++ (flat_map (λ t. t) lines ++ end_text)) r)
     → Leaves {Y = Unit {0}} (Ok tt) (plan_with setting title chars refused) change (map_ok (λ _. survey.report) r)
-strike_leaves {setting} title chars {refused} {codes} {change} {survey} {header} {all} r c q a s w =
+strike_leaves {setting} title chars {refused} {mapped} {change} {survey} {header} {all} r c q a s w =
     let p = planned setting title chars refused s.plan s.is in
-    let x = pieces_of setting refused codes p.fates s.glyphs (rw c p.planned) (rw p.sketches at s.drawn) in
+    let fates = ap (fates_in setting refused) c ∙ fates_are setting refused (rising chars) ∙ p.planned in
+    let x = pieces_of setting refused mapped p.fates s.glyphs fates (rw p.sketches at s.drawn) in
     let same : header_text title.name all header ++ (flat_map (λ t. t) x.pieces ++ end_text) ≡ strike_text s.plan s.glyphs =
     rw (q, a, x.whole) (survey_text setting title chars refused survey s) in
     leaves_by s r (rw same at (w x.pieces x.lines))

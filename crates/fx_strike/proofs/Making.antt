@@ -1,5 +1,5 @@
 -- From what was seen to a survey, and what a call leaves that was refused.
--- Serves `survey_codes`, `survey_chars`, `write_strike`, `make_strike_with` and `whole_pixels`.
+-- Serves `survey_mapped`, `survey_chars`, `write_strike`, `make_strike_with` and `whole_pixels`.
 use Rattle.std.proofs.Common.{refl, sym, ap, subst, ◌≡◌, ◌∙◌, arith, inl, ℕ, ◌+◌, ◌<◌, ◌≤◌, ◌^◌, ℤ, pos, List, map}
 use Rattle.std.proofs.Common.{Option, Result, Ok}
 use Rattle.std.proofs.Common.{Err, FitsSigned, w32, to_z, of_z, lit<}
@@ -12,7 +12,6 @@ use Rattle.std.proofs.Math.Nat.{mul-le-mul_left}
 use Rattle.fx_fixed.specs.Numbers.{near_of}
 use Rattle.fx_fixed.specs.Sizes.{IsPpem, max_ppem}
 use Rattle.fx_machine.specs.Known.{Known}
-use Rattle.fx_machine.specs.declared.usage.Usage.{Usage}
 use Rattle.fx_bdf.specs.declared.header.Header.{Header}
 use Rattle.fx_bdf.specs.Glyphs.{Box, bounds_of}
 use Rattle.fx_bdf.specs.declared.summary.Summary.{Summary}
@@ -30,9 +29,13 @@ use Rattle.fx_strike.specs.Title.{Title}
 use Rattle.fx_request.specs.declared.request.OnRefused.{OnRefused}
 use Rattle.fx_strike.specs.Strike.{Setting, Plan, sketches_in, setting_with, prelude_by, pixels, fates_of, plan_from, plan_with}
 use Rattle.fx_strike.specs.Headline.{IsCause, Surveyed, Leaves, Makes}
+use Rattle.fx_strike.specs.declared.characters.Characters.{Characters}
+use Rattle.fx_strike.specs.declared.characters.Mapped.{Mapped}
 use Rattle.fx_strike.specs.inner.Gathering.{summary_with}
+use Rattle.fx_strike.specs.inner.Mapping.{AreCharactersOf, fates_in, mapped_of}
 use Rattle.fx_strike.specs.inner.Surveying.{Holds, survey_from, Surveys}
 use Rattle.fx_strike.proofs.GatheredGlyphs.{as_many, summary_is}
+use Rattle.fx_strike.proofs.Mapping.{fates_are}
 use Rattle.fx_strike.proofs.Sketching.{fails_on}
 
 -- ---- a survey
@@ -45,22 +48,32 @@ pub surveys_cause : (due : Result Plan Refusal) (r : Result Survey Refusal) → 
 surveys_cause due (Ok survey) h = tt
 surveys_cause due (Err d) h = h
 
-pub unseen : (setting : Setting) (title : Title) (chars codes : List ℕ) (refused : OnRefused) (d : Refusal) → codes ≡ rising chars
-    → Fails d (fates_of setting refused codes) → Fails d (plan_with setting title chars refused)
+-- the fates of a strike are those of its characters
+same_fates : (setting : Setting) (chars : List ℕ) (refused : OnRefused) (mapped : List Mapped)
+    → mapped ≡ mapped_of setting.map (rising chars)
+    → fates_of setting refused (rising chars) ≡ fates_in setting refused mapped
+same_fates setting chars refused mapped c =
+    sym (ap (fates_in setting refused) c ∙ fates_are setting refused (rising chars))
+
+pub unseen : (setting : Setting) (title : Title) (chars : List ℕ) (mapped : List Mapped) (refused : OnRefused) (d : Refusal)
+    → mapped ≡ mapped_of setting.map (rising chars) → Fails d (fates_in setting refused mapped)
+    → Fails d (plan_with setting title chars refused)
 unfolding plan_with
-unseen setting title chars codes refused d c f =
-    fails_on d (fates_of setting refused codes) _ (λ x g. rw (ap (fates_of setting refused) (sym c) ∙ g)) f
+unseen setting title chars mapped refused d c f =
+    fails_on d (fates_in setting refused mapped) _ (λ x g. rw (same_fates setting chars refused mapped c ∙ g)) f
 
 -- a count goes on after what was counted before
 counted_on : (before after total : ℕ) → after ≡ counted total → counted (before + after) ≡ counted (before + total)
 counted_on before after total h = omega arith
 
 surveyed_here : (basis : Basis) (machine : Option Known) (title : Title) (chars : List ℕ)
-    (refused : OnRefused) (seen : Seen) → Holds (setting_with basis machine) refused (rising chars) seen
+    (refused : OnRefused) (characters : Characters) (seen : Seen) → AreCharactersOf basis.opened.map (rising chars) characters
+    → Holds (setting_with basis machine) refused characters.mapped.items seen
     → Surveyed (plan_with (setting_with basis machine) title chars refused)
-    (survey_from machine basis.opened seen (summary_with seen.gathered seen.report.glyphs))
+    (survey_from machine basis.opened seen characters.missing (summary_with seen.gathered seen.glyphs))
 unfolding plan_with
-surveyed_here basis machine title chars refused seen g =
+surveyed_here basis machine title chars refused characters seen c g =
+    let planned = same_fates (setting_with basis machine) chars refused characters.mapped.items c.mapped ∙ g.planned in
     let heading : Box → ℕ → Header = λ b n. record {
       ppem = basis.opened.ppem;
       bounds = b;
@@ -71,30 +84,31 @@ surveyed_here basis machine title chars refused seen g =
     record {
       plan = plan_from (setting_with basis machine) title chars g.fates;
       glyphs = g.glyphs;
-      is = rw g.planned;
+      is = rw planned;
       drawn = g.drawn;
-      header = ap (λ (b : Box). heading b seen.report.glyphs) g.bounds ∙
+      header = ap (λ (b : Box). heading b seen.glyphs) g.bounds ∙
           ap (λ (n : ℕ). heading (bounds_of (map (λ x. x.box) g.glyphs)) n) g.count;
-      summary = summary_is g.glyphs seen.gathered seen.report.glyphs g.gathered
+      summary = summary_is g.glyphs seen.gathered seen.glyphs g.gathered
           (g.count ∙ as_many (flat_map sketches_in g.fates) g.glyphs g.drawn);
       wish = refl;
       told = record {
         glyphs = g.count;
-        missing = g.missing;
-        strays = counted_on (prelude_by machine).strays seen.report.usage.strays
+        missing = c.missing;
+        strays = counted_on (prelude_by machine).strays seen.usage.strays
             (sum_by (λ s. s.usage.strays) (flat_map sketches_in g.fates)) g.strays;
-        steps = counted_on (prelude_by machine).steps seen.report.usage.steps
+        steps = counted_on (prelude_by machine).steps seen.usage.steps
             (sum_by (λ s. s.usage.steps) (flat_map sketches_in g.fates)) g.steps;
       };
     }
 
-pub surveyed : (basis : Basis) (machine after : Option Known) (title : Title) (chars codes : List ℕ)
-    (refused : OnRefused) (seen : Seen) (summary : Summary) (survey : Survey) → after ≡ machine → codes ≡ rising chars
-    → Holds (setting_with basis machine) refused codes seen → summary ≡ summary_with seen.gathered seen.report.glyphs
-    → survey ≡ survey_from after basis.opened seen summary
+pub surveyed : (basis : Basis) (machine after : Option Known) (title : Title) (chars : List ℕ) (characters : Characters)
+    (mapped : List Mapped) (refused : OnRefused) (seen : Seen) (summary : Summary) (survey : Survey) → after ≡ machine
+    → AreCharactersOf basis.opened.map (rising chars) characters → mapped ≡ characters.mapped.items
+    → Holds (setting_with basis machine) refused mapped seen → summary ≡ summary_with seen.gathered seen.glyphs
+    → survey ≡ survey_from after basis.opened seen characters.missing summary
     → Surveyed (plan_with (setting_with basis machine) title chars refused) survey
-surveyed basis machine after title chars codes refused seen summary survey k c g m e =
-    rw (e, k, m) (surveyed_here basis machine title chars refused seen (rw c at g))
+surveyed basis machine after title chars characters mapped refused seen summary survey k c i g m e =
+    rw (e, k, m) (surveyed_here basis machine title chars refused characters seen c (rw i at g))
 
 -- ---- refusals that are due
 

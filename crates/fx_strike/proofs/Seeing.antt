@@ -1,17 +1,14 @@
--- What is seen of code points, one after the other.
+-- What is seen of characters, one after the other.
 -- Serves `see`, and what a call leaves (`Making`, `Writing`).
-use Rattle.std.proofs.Common.{◌≡◌, refl, sym, ap, ap₂, ◌∙◌, subst, arith, ℕ, suc, zero, ◌+◌, ◌<◌, ◌≤◌, Bool, true, false, not, List, []}
-use Rattle.std.proofs.Common.{◌∷◌, ◌++◌, map, length, take, drop, get_or, length-append, Result, Ok, Err, cond}
-use Rattle.std.specs.Prelude.{nat_lt, ◌==◌, filter}
-use Rattle.std.specs.List.{list_any, sum_by, count_by, flat_map}
+use Rattle.std.proofs.Common.{◌≡◌, refl, sym, ap, ap₂, ◌∙◌, subst, arith, ℕ, suc, zero, ◌+◌, ◌<◌, ◌≤◌, List, []}
+use Rattle.std.proofs.Common.{◌∷◌, ◌++◌, map, length, take, drop, length-append, Result, Ok, Err}
+use Rattle.std.specs.Prelude.{nat_lt}
+use Rattle.std.specs.List.{list_any, sum_by, flat_map}
 use Rattle.std.proofs.lemmas.Bool.{ltb-false, or_parts}
-use Rattle.std.proofs.lemmas.Bool.Decides.{nat_tests}
 use Rattle.std.proofs.lemmas.List.{take_more, drop_more, map-append, take-append-drop, append-nil}
 use Rattle.std.proofs.lemmas.Grind.{flat_map-append}
-use Rattle.std.proofs.lemmas.List.Elements.{filter-append}
 use Rattle.std.proofs.lemmas.List.Sums.{fold-append, sum_by-append}
 use Rattle.fx_fixed.specs.Chain.{map_chain}
-use Rattle.fx_cmap.specs.Lookup.{glyph_for}
 use Rattle.fx_bdf.specs.Glyphs.{Glyph, Box, IsPlaced, no_box, joined, bounds_of}
 use Rattle.fx_request.specs.declared.refusal.Refusal.{Refusal}
 use Rattle.fx_strike.specs.declared.seen.Seen.{Seen}
@@ -19,7 +16,9 @@ use Rattle.fx_strike.specs.Faults.{Fails}
 use Rattle.fx_request.specs.Limits.{max_code}
 use Rattle.fx_request.specs.declared.request.OnRefused.{OnRefused}
 use Rattle.fx_strike.specs.Strike.{Sketch, Setting, Fate, drawn, unhinted, left_out, IsGlyphOf, AreGlyphsOf, sketches_in}
-use Rattle.fx_strike.specs.Strike.{glyph_fate_of, fate_of, fates_of, is_missing}
+use Rattle.fx_strike.specs.declared.characters.Mapped.{Mapped}
+use Rattle.fx_strike.specs.inner.Mapping.{fates_in, mapped_fate_of, mapped_in}
+use Rattle.fx_strike.specs.inner.Writing.{AreSmall}
 use Rattle.fx_fixed.specs.Numbers.{counted}
 use Rattle.fx_machine.specs.declared.usage.Usage.{Usage}
 use Rattle.fx_strike.specs.inner.Gathering.{gathered_with}
@@ -30,15 +29,12 @@ use Rattle.fx_strike.proofs.Sketching.{fails_on}
 
 -- ---- code points within the limit
 
-not_any : (c : ℕ) (cs : List ℕ) → list_any (nat_lt max_code) (c ∷ cs) ≡ false
-    → (c ≤ max_code) × (list_any (nat_lt max_code) cs ≡ false)
-not_any c cs h = let p = or_parts (nat_lt max_code c) (list_any (nat_lt max_code) cs) h in (ltb-false max_code c p.0, p.1)
-
-pub code_fits : (codes : List ℕ) (i : ℕ) → list_any (nat_lt max_code) codes ≡ false → i < length codes
-    → get_or codes i 0 ≤ max_code
+pub code_fits : (mapped : List Mapped) (i : ℕ) → AreSmall mapped → i < length mapped → (mapped_in mapped i).code ≤ max_code
 code_fits [] i h g = absurd (omega arith)
-code_fits (c ∷ cs) zero h g = (not_any c cs h).0
-code_fits (c ∷ cs) (suc i) h g = code_fits cs i (not_any c cs h).1 (omega arith)
+code_fits (x ∷ xs) zero h g =
+    let p = or_parts (nat_lt max_code x.code) (list_any (λ y. nat_lt max_code y.code) xs) h in ltb-false max_code x.code p.0
+code_fits (x ∷ xs) (suc i) h g =
+    let p = or_parts (nat_lt max_code x.code) (list_any (λ y. nat_lt max_code y.code) xs) h in code_fits xs i p.1 (omega arith)
 
 -- ---- chains
 
@@ -63,22 +59,7 @@ chain_refused f (z ∷ zs) x ys made e h g =
         → f z ≡ Ok c → map_chain f (zs ++ x ∷ ys) ≡ Err e → map_chain f (z ∷ (zs ++ x ∷ ys)) ≡ Err e
     refused f z zs x ys e c p r = rw (p, r)
 
--- ---- one code point more
-
-kept : (setting : Setting) (c : ℕ) → is_missing setting c ≡ false → (codes rest : List ℕ)
-    → filter (λ d. not (is_missing setting d)) (codes ++ c ∷ rest) ≡ filter (λ d. not (is_missing setting d)) codes ++ c ∷
-    filter (λ d. not (is_missing setting d)) rest
-kept setting c h codes rest = filter-append (λ d. not (is_missing setting d)) codes (c ∷ rest) ∙
-    ap (λ (xs : List ℕ). filter (λ d. not (is_missing setting d)) codes ++ xs)
-    (first (is_missing setting c) h (filter (λ d. not (is_missing setting d)) rest))
-  where
-    first : (b : Bool) → b ≡ false → (xs : List ℕ) → cond (not b) (c ∷ xs) xs ≡ c ∷ xs
-    first true h xs = absurd (cc)
-    first false h xs = refl
-
-count_one : (p : ℕ → Bool) (codes : List ℕ) (c n : ℕ) → cond (p c) 1 0 ≡ n → count_by p (codes ++ c ∷ []) ≡ count_by p codes + n
-count_one p codes c n h = sum_by-append (λ d. cond (p d) 1 0) codes (c ∷ []) ∙ ap (λ (m : ℕ). count_by p codes + m)
-    (let e : 0 + cond (p c) 1 0 ≡ n = omega (arith, h) in e)
+-- ---- one character more
 
 glyphs_push : (ss : List Sketch) (gs : List Glyph) (s : Sketch) (g : Glyph) → AreGlyphsOf ss gs → IsGlyphOf s g
     → AreGlyphsOf (ss ++ s ∷ []) (gs ++ g ∷ [])
@@ -103,22 +84,10 @@ sum_push f ss s total more new h k e =
         → new ≡ counted c
     by_sum a b c total more new p h k e = omega arith
 
--- one character more that the font has
-fates_push : (setting : Setting) (refused : OnRefused) (codes : List ℕ) (c : ℕ) (fates : List Fate) (fate : Fate)
-    → is_missing setting c ≡ false → fates_of setting refused codes ≡ Ok fates → fate_of setting refused c ≡ Ok fate
-    → fates_of setting refused (codes ++ c ∷ []) ≡ Ok (fates ++ fate ∷ [])
-fates_push setting refused codes c fates fate m h s = ap (map_chain (fate_of setting refused)) (kept setting c m codes []) ∙
-    chain_push (fate_of setting refused) (filter (λ x. not (is_missing setting x)) codes) c fates fate h s
-
 sketches_push : (fates : List Fate) (fate : Fate)
     → flat_map sketches_in (fates ++ fate ∷ []) ≡ flat_map sketches_in fates ++ sketches_in fate
 sketches_push fates fate = flat_map-append sketches_in fates (fate ∷ []) ∙
     ap (λ (xs : List Sketch). flat_map sketches_in fates ++ xs) (append-nil (sketches_in fate))
-
-count_none : (setting : Setting) (codes : List ℕ) (c : ℕ) → is_missing setting c ≡ false
-    → count_by (is_missing setting) (codes ++ c ∷ []) ≡ count_by (is_missing setting) codes
-count_none setting codes c m = count_one (is_missing setting) codes c 0 (ap (λ (b : Bool). cond b 1 0) m) ∙
-    (let z : count_by (is_missing setting) codes + 0 ≡ count_by (is_missing setting) codes = omega arith in z)
 
 pub holds_none : (setting : Setting) (refused : OnRefused) (new : Seen) → IsEmpty new
     → Holds setting refused [] new
@@ -135,17 +104,16 @@ holds_none setting refused new h =
       placed = subst P (sym h.bounds)
           (record { left = omega arith; right = omega arith; bottom = omega arith; top = omega arith });
       count = h.glyphs;
-      missing = h.missing;
       strays = ap (λ (u : Usage). u.strays) h.usage;
       steps = ap (λ (u : Usage). u.steps) h.usage;
-      each = omega (arith, h.glyphs, h.missing);
+      each = omega (arith, h.glyphs);
     }
 
 -- a character that is drawn
-holds_drawn : (setting : Setting) (refused : OnRefused) (codes : List ℕ) (c : ℕ) (old new : Seen) (fate : Fate) (sketch : Sketch)
-    → sketches_in fate ≡ sketch ∷ [] → Holds setting refused codes old → is_missing setting c ≡ false
-    → fate_of setting refused c ≡ Ok fate → Has sketch old new → Holds setting refused (codes ++ c ∷ []) new
-holds_drawn setting refused codes c old new fate sketch one h m s a =
+holds_drawn : (setting : Setting) (refused : OnRefused) (mapped : List Mapped) (m : Mapped) (old new : Seen) (fate : Fate)
+    (sketch : Sketch) → sketches_in fate ≡ sketch ∷ [] → Holds setting refused mapped old
+    → mapped_fate_of setting refused m ≡ Ok fate → Has sketch old new → Holds setting refused (mapped ++ m ∷ []) new
+holds_drawn setting refused mapped m old new fate sketch one h s a =
     let ss : List Sketch = flat_map sketches_in h.fates in
     let more : flat_map sketches_in (h.fates ++ fate ∷ []) ≡ ss ++ sketch ∷ [] = sketches_push h.fates fate ∙
     ap (λ (xs : List Sketch). ss ++ xs) one in
@@ -153,7 +121,7 @@ holds_drawn setting refused codes c old new fate sketch one h m s a =
     record {
       fates = h.fates ++ fate ∷ [];
       glyphs = h.glyphs ++ a.glyph ∷ [];
-      planned = fates_push setting refused codes c h.fates fate m h.planned s;
+      planned = chain_push (mapped_fate_of setting refused) mapped m h.fates fate h.planned s;
       drawn = subst P (sym more) (glyphs_push ss h.glyphs sketch a.glyph h.drawn a.drawn);
       bounds = a.bounds ∙ ap (λ (b : Box). joined b a.glyph.box) h.bounds ∙ sym (bounds_push h.glyphs a.glyph);
       placed = a.placed;
@@ -161,21 +129,20 @@ holds_drawn setting refused codes c old new fate sketch one h m s a =
           (a.gathered ∙ ap₂ (gathered_with old.gathered) (sym a.drawn.code) (sym a.drawn.dwidth));
       narrow = a.narrow;
       count = omega (arith, a.glyphs, h.count, length-append ss (sketch ∷ []), ap length more);
-      missing = a.missing ∙ h.missing ∙ sym (count_none setting codes c m);
-      strays = sum_push (λ x. x.usage.strays) ss sketch old.report.usage.strays sketch.usage.strays new.report.usage.strays
+      strays = sum_push (λ x. x.usage.strays) ss sketch old.usage.strays sketch.usage.strays new.usage.strays
           h.strays refl (ap (λ (u : Usage). u.strays) a.usage) ∙
           ap (λ (xs : List Sketch). counted (sum_by (λ x. x.usage.strays) xs)) (sym more);
-      steps = sum_push (λ x. x.usage.steps) ss sketch old.report.usage.steps sketch.usage.steps new.report.usage.steps
+      steps = sum_push (λ x. x.usage.steps) ss sketch old.usage.steps sketch.usage.steps new.usage.steps
           h.steps refl (ap (λ (u : Usage). u.steps) a.usage) ∙
           ap (λ (xs : List Sketch). counted (sum_by (λ x. x.usage.steps) xs)) (sym more);
-      each = omega (arith, a.glyphs, a.missing, h.each, length-append codes (c ∷ []));
+      each = omega (arith, a.glyphs, h.each, length-append mapped (m ∷ []));
     }
 
 -- a character that is left out
-holds_left_out : (setting : Setting) (refused : OnRefused) (codes : List ℕ) (c : ℕ) (seen : Seen) (fate : Fate)
-    → sketches_in fate ≡ [] → Holds setting refused codes seen → is_missing setting c ≡ false
-    → fate_of setting refused c ≡ Ok fate → Holds setting refused (codes ++ c ∷ []) seen
-holds_left_out setting refused codes c seen fate none h m s =
+holds_left_out : (setting : Setting) (refused : OnRefused) (mapped : List Mapped) (m : Mapped) (seen : Seen) (fate : Fate)
+    → sketches_in fate ≡ [] → Holds setting refused mapped seen
+    → mapped_fate_of setting refused m ≡ Ok fate → Holds setting refused (mapped ++ m ∷ []) seen
+holds_left_out setting refused mapped m seen fate none h s =
     let ss : List Sketch = flat_map sketches_in h.fates in
     let same : ss ≡ flat_map sketches_in (h.fates ++ fate ∷ []) = sym (sketches_push h.fates fate ∙
     ap (λ (xs : List Sketch). ss ++ xs) none ∙ append-nil ss) in
@@ -183,70 +150,48 @@ holds_left_out setting refused codes c seen fate none h m s =
     record {
       fates = h.fates ++ fate ∷ [];
       glyphs = h.glyphs;
-      planned = fates_push setting refused codes c h.fates fate m h.planned s;
+      planned = chain_push (mapped_fate_of setting refused) mapped m h.fates fate h.planned s;
       drawn = subst P same h.drawn;
       bounds = h.bounds;
       placed = h.placed;
       gathered = h.gathered;
       narrow = h.narrow;
       count = h.count ∙ ap length same;
-      missing = h.missing ∙ sym (count_none setting codes c m);
       strays = h.strays ∙ ap (λ (xs : List Sketch). counted (sum_by (λ x. x.usage.strays) xs)) same;
       steps = h.steps ∙ ap (λ (xs : List Sketch). counted (sum_by (λ x. x.usage.steps) xs)) same;
-      each = omega (arith, h.each, length-append codes (c ∷ []));
+      each = omega (arith, h.each, length-append mapped (m ∷ []));
     }
 
-holds_push : (setting : Setting) (refused : OnRefused) (codes : List ℕ) (c : ℕ) (old new : Seen) (fate : Fate)
-    → Holds setting refused codes old → is_missing setting c ≡ false → fate_of setting refused c ≡ Ok fate
-    → HasFate fate old new → Holds setting refused (codes ++ c ∷ []) new
-holds_push setting refused codes c old new (drawn sketch) h m s a =
-    holds_drawn setting refused codes c old new (drawn sketch) sketch refl h m s a
-holds_push setting refused codes c old new (unhinted notice sketch) h m s a =
-    holds_drawn setting refused codes c old new (unhinted notice sketch) sketch refl h m s a
-holds_push setting refused codes c old new (left_out notice) h m s a =
-    let P : Seen → Type 0 = λ x. Holds setting refused (codes ++ c ∷ []) x in
-    subst P (sym a) (holds_left_out setting refused codes c old (left_out notice) refl h m s)
+holds_push : (setting : Setting) (refused : OnRefused) (mapped : List Mapped) (m : Mapped) (old new : Seen) (fate : Fate)
+    → Holds setting refused mapped old → mapped_fate_of setting refused m ≡ Ok fate
+    → HasFate fate old new → Holds setting refused (mapped ++ m ∷ []) new
+holds_push setting refused mapped m old new (drawn sketch) h s a =
+    holds_drawn setting refused mapped m old new (drawn sketch) sketch refl h s a
+holds_push setting refused mapped m old new (unhinted notice sketch) h s a =
+    holds_drawn setting refused mapped m old new (unhinted notice sketch) sketch refl h s a
+holds_push setting refused mapped m old new (left_out notice) h s a =
+    let P : Seen → Type 0 = λ x. Holds setting refused (mapped ++ m ∷ []) x in
+    subst P (sym a) (holds_left_out setting refused mapped m old (left_out notice) refl h s)
 
--- ---- the same at a place of the code points
+-- ---- the same at a place of the characters
 
-pub not_zero : (n : ℕ) → (n ≡ 0 → ⊥) → (n == 0) ≡ false
-not_zero zero h = absurd (h refl)
-not_zero (suc n) h = grind (arith, nat_tests)
+pub seen_at : (setting : Setting) (refused : OnRefused) (mapped : List Mapped) (i : ℕ) (old new : Seen)
+    → i < length mapped → Holds setting refused (take i mapped) old
+    → (fate : Fate) × (mapped_fate_of setting refused (mapped_in mapped i) ≡ Ok fate) × HasFate fate old new
+    → Holds setting refused (take (i + 1) mapped) new
+seen_at setting refused mapped i old new l h d =
+    let P : List Mapped → Type 0 = λ xs. Holds setting refused xs new in
+    subst P (sym (take_more mapped i (record { code = 0; glyph = 0 }) l))
+    (holds_push setting refused (take i mapped) (mapped_in mapped i) old new d.0 h d.1 d.2)
 
-pub missing_is : (setting : Setting) (c glyph : ℕ) → glyph ≡ glyph_for setting.map c → (b : Bool) → (glyph == 0) ≡ b
-    → is_missing setting c ≡ b
-missing_is setting c glyph e b h = ap (λ (g : ℕ). g == 0) (sym e) ∙ h
-
-pub same_fate : (setting : Setting) (refused : OnRefused) (c glyph : ℕ) → glyph ≡ glyph_for setting.map c
-    → glyph_fate_of setting refused c glyph ≡ fate_of setting refused c
-same_fate setting refused c glyph e = ap (λ (g : ℕ). glyph_fate_of setting refused c g) e
-
-pub seen_at : (setting : Setting) (refused : OnRefused) (codes : List ℕ) (i glyph : ℕ) (old new : Seen)
-    → i < length codes → Holds setting refused (take i codes) old → glyph ≡ glyph_for setting.map (get_or codes i 0)
-    → (glyph ≡ 0 → ⊥)
-    → (fate : Fate) × (glyph_fate_of setting refused (get_or codes i 0) glyph ≡ Ok fate) × HasFate fate old new
-    → Holds setting refused (take (i + 1) codes) new
-seen_at setting refused codes i glyph old new l h e m d =
-    let P : List ℕ → Type 0 = λ xs. Holds setting refused xs new in
-    subst P (sym (take_more codes i 0 l))
-    (holds_push setting refused (take i codes) (get_or codes i 0) old new d.0 h
-    (missing_is setting (get_or codes i 0) glyph e false (not_zero glyph m))
-    (sym (same_fate setting refused (get_or codes i 0) glyph e) ∙ d.1) d.2)
-
-pub refused_at : (setting : Setting) (refused : OnRefused) (codes : List ℕ) (i glyph : ℕ) (old : Seen) (refusal : Refusal)
-    → i < length codes → Holds setting refused (take i codes) old → glyph ≡ glyph_for setting.map (get_or codes i 0)
-    → (glyph ≡ 0 → ⊥)
-    → Fails refusal (glyph_fate_of setting refused (get_or codes i 0) glyph)
-    → Fails refusal (fates_of setting refused codes)
-refused_at setting refused codes i glyph old refusal l h e m f =
-    fails_on refusal (glyph_fate_of setting refused (get_or codes i 0) glyph) (fates_of setting refused codes)
+pub refused_at : (setting : Setting) (refused : OnRefused) (mapped : List Mapped) (i : ℕ) (old : Seen) (refusal : Refusal)
+    → i < length mapped → Holds setting refused (take i mapped) old
+    → Fails refusal (mapped_fate_of setting refused (mapped_in mapped i))
+    → Fails refusal (fates_in setting refused mapped)
+refused_at setting refused mapped i old refusal l h f =
+    fails_on refusal (mapped_fate_of setting refused (mapped_in mapped i)) (fates_in setting refused mapped)
     (λ d k.
-    ap (fates_of setting refused) (sym (take-append-drop i codes) ∙ ap (λ (xs : List ℕ). take i codes ++ xs)
-    (drop_more codes i 0 l))
-    ∙ ap (map_chain (fate_of setting refused))
-    (kept setting (get_or codes i 0) (missing_is setting (get_or codes i 0) glyph e false (not_zero glyph m)) (take i codes)
-    (drop (i + 1) codes))
-    ∙ chain_refused (fate_of setting refused) (filter (λ x. not (is_missing setting x)) (take i codes))
-    (get_or codes i 0)
-    (filter (λ x. not (is_missing setting x)) (drop (i + 1) codes)) h.fates d h.planned
-    (sym (same_fate setting refused (get_or codes i 0) glyph e) ∙ k)) f
+    ap (fates_in setting refused) (sym (take-append-drop i mapped) ∙ ap (λ (xs : List Mapped). take i mapped ++ xs)
+    (drop_more mapped i (record { code = 0; glyph = 0 }) l))
+    ∙ chain_refused (mapped_fate_of setting refused) (take i mapped) (mapped_in mapped i) (drop (i + 1) mapped) h.fates d h.planned
+    k) f

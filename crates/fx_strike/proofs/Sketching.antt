@@ -1,5 +1,5 @@
 -- From a glyph's number to its bits: what each step says of the sketch that is due.
--- Serves `sketch_with`, `draw` and `near_pixels`, the first pass and the laws.
+-- Serves `frame_at`, `sketch_with`, `draw` and `near_pixels`, the first pass and the laws.
 use Rattle.std.proofs.Common.{◌≡◌, ◌≤◌, ◌^◌, inl, inr, refl, sym, ap, ◌∙◌, subst, arith, ℕ, ℤ, pos, negsuc, Bool, Result, Ok, Err}
 use Rattle.std.proofs.Common.{FitsSigned, w32, w64, to_z, of_z}
 use Rattle.std.specs.Prelude.{IsTrue, IfOk, IfErr, unsigned_abs}
@@ -15,6 +15,8 @@ use Rattle.fx_hint.specs.Outlines.{GlyphOutlineView}
 use Rattle.fx_winding.specs.Bitmaps.{Bits, bit_of}
 use Rattle.fx_raster.specs.Rules.{ShapeView, shape_of}
 use Rattle.fx_raster.specs.Laws.{AreBitsOf}
+use Rattle.fx_raster.specs.Faults.{RasterFault}
+use Rattle.fx_raster.specs.Faults as raster
 use Rattle.fx_bdf.specs.Glyphs.{Box, Glyph, IsTight, IsTrimmed, glyph_bit}
 use Rattle.fx_request.specs.declared.refusal.Refusal.{Refusal}
 use Rattle.fx_request.specs.declared.refusal.Refusal.TheVariants.{OutOfMemory, WriteFailed, ReadFailed, BadHex, InputTooLarge}
@@ -149,6 +151,13 @@ unfolding glyph_sketch_of
 no_shape setting code glyph drawing d h f =
     fails_on d (map_fault (of_raster glyph) (shape_of (rule_in setting drawing.wish) drawing.ends drawing.points))
     (glyph_sketch_of setting code glyph) (λ e k. rw (h, k) refl) f
+
+-- a shape's fault is one that is due
+pub raster_fails : {Y : Type 0} (glyph : ℕ) (f : RasterFault) (due : Result Y Refusal) → due ≡ Err (of_raster glyph f)
+    → Fails (of_raster glyph f) due
+raster_fails glyph raster.OutOfMemory due h = tt
+raster_fails glyph raster.TooFar due h = h
+raster_fails glyph raster.TooLarge due h = h
 
 font_fails : {Y : Type 0} (f : FontFault) (due : Result Y Refusal) → due ≡ Err (of_font f) → Fails (of_font f) due
 font_fails NotTrueType due h = h

@@ -1,12 +1,11 @@
 -- What is told of the refused characters of a strike.
--- Serves `see`, `survey_codes`, `write_strike` and `make_inner`.
-use Rattle.std.proofs.Common.{◌≡◌, refl, sym, ap, ◌∙◌, subst, ℕ, ◌+◌, ◌<◌, Bool, true, false, not, List, [], ◌∷◌, ◌++◌, length}
-use Rattle.std.proofs.Common.{take, drop, get_or, cond, Result, Ok, Err}
-use Rattle.std.specs.Prelude.{filter, IsErrAnd}
+-- Serves `see`, `survey_mapped`, `write_strike` and `make_inner`.
+use Rattle.std.proofs.Common.{◌≡◌, refl, sym, ap, ◌∙◌, subst, ℕ, ◌+◌, ◌<◌, List, [], ◌∷◌, ◌++◌, length}
+use Rattle.std.proofs.Common.{take, drop, Result, Ok, Err}
+use Rattle.std.specs.Prelude.{IsErrAnd}
 use Rattle.std.specs.List.{flat_map}
 use Rattle.std.proofs.Math.Seq.{take-append_seam, take-length}
 use Rattle.std.proofs.lemmas.List.{take_more, take-append-drop, append-nil}
-use Rattle.std.proofs.lemmas.List.Elements.{filter-append}
 use Rattle.std.proofs.lemmas.Grind.{flat_map-append}
 use Rattle.fx_fixed.specs.Chain.{map_chain}
 use Rattle.fx_request.specs.declared.notice.Notice.{Notice}
@@ -19,12 +18,13 @@ use Rattle.fx_request.specs.Notices.{AreTold, HearsAll, Told}
 use Rattle.fx_strike.specs.Faults.{Fails}
 use Rattle.fx_strike.specs.Headline.{notices_of}
 use Rattle.fx_strike.specs.Title.{Title}
-use Rattle.fx_strike.specs.Strike.{Sketch, Setting, Plan, Fate, notices_in, fate_by, glyph_fate_of, fate_of, fates_of, is_missing}
+use Rattle.fx_strike.specs.Strike.{Sketch, Setting, Plan, Fate, notices_in, fate_by, glyph_fate_of, fates_of}
 use Rattle.fx_strike.specs.Strike.{glyph_sketch_of, machineless, plan_with}
 use Rattle.fx_strike.specs.inner.Surveying.{notices_by, notices_about}
-use Rattle.fx_cmap.specs.Lookup.{glyph_for}
+use Rattle.fx_strike.specs.declared.characters.Mapped.{Mapped}
+use Rattle.fx_strike.specs.inner.Mapping.{fates_in, mapped_fate_of, mapped_in, mapped_of}
 use Rattle.fx_strike.proofs.OnePart.{chain_parts}
-use Rattle.fx_strike.proofs.Seeing.{missing_is, not_zero, same_fate}
+use Rattle.fx_strike.proofs.Mapping.{fates_are}
 
 -- ---- listeners
 
@@ -50,18 +50,16 @@ never LeaveOut code second (Err d) cause s h = absurd (cc)
 never Unhinted code second (Err (Halted halt)) cause s h = absurd (cc)
 never Unhinted code second (Err d) cause s h = absurd (cc)
 
-never_of : (setting : Setting) (refused : OnRefused) (code : ℕ) (cause : Refusal) → (refused ≡ Stop → ⊥)
-    → fate_of setting refused code ≡ Err cause → ⊥
+never_of : (setting : Setting) (refused : OnRefused) (m : Mapped) (cause : Refusal) → (refused ≡ Stop → ⊥)
+    → mapped_fate_of setting refused m ≡ Err cause → ⊥
 unfolding glyph_fate_of
-never_of setting refused code cause s h =
-    never refused code (glyph_sketch_of (machineless setting) code (glyph_for setting.map code))
-    (glyph_sketch_of setting code (glyph_for setting.map code)) cause s h
+never_of setting refused m cause s h =
+    never refused m.code (glyph_sketch_of (machineless setting) m.code m.glyph) (glyph_sketch_of setting m.code m.glyph) cause s h
 
-silent_of : (setting : Setting) (code : ℕ) → notices_by (fate_of setting Stop code) ≡ []
+silent_of : (setting : Setting) (m : Mapped) → notices_by (mapped_fate_of setting Stop m) ≡ []
 unfolding glyph_fate_of
-silent_of setting code =
-    silent code (glyph_sketch_of (machineless setting) code (glyph_for setting.map code))
-    (glyph_sketch_of setting code (glyph_for setting.map code))
+silent_of setting m =
+    silent m.code (glyph_sketch_of (machineless setting) m.code m.glyph) (glyph_sketch_of setting m.code m.glyph)
 
 -- a chain whose steps are never refused is not
 one_refused : {A B : Type 0} (f : A → Result B Refusal) → ((x : A) (d : Refusal) → f x ≡ Err d → ⊥) → (x : A) (xs : List A)
@@ -82,84 +80,75 @@ never_refused : {A B : Type 0} (f : A → Result B Refusal) → ((x : A) (d : Re
 never_refused f n [] d h = absurd (cc)
 never_refused f n (x ∷ xs) d h = one_refused f n x xs d (λ c g. never_refused f n xs c g) h
 
-none_told : (setting : Setting) (codes : List ℕ) → flat_map (λ c. notices_by (fate_of setting Stop c)) codes ≡ []
+none_told : (setting : Setting) (mapped : List Mapped) → notices_about setting Stop mapped ≡ []
 none_told setting [] = refl
-none_told setting (c ∷ cs) = rw (silent_of setting c) (none_told setting cs)
+none_told setting (m ∷ ms) = rw (silent_of setting m) (none_told setting ms)
 
 -- if the strike is refused there is nothing to tell
-pub quiet : (setting : Setting) (refused : OnRefused) (codes others : List ℕ) (d : Refusal) → fates_of setting refused codes ≡ Err d
-    → notices_about setting refused others ≡ []
-quiet setting Stop codes others d h = none_told setting (filter (λ c. not (is_missing setting c)) others)
-quiet setting LeaveOut codes others d h =
-    absurd (never_refused (fate_of setting LeaveOut) (λ x e. never_of setting LeaveOut x e (λ k. absurd (cc (k)))) _ d h)
-quiet setting Unhinted codes others d h =
-    absurd (never_refused (fate_of setting Unhinted) (λ x e. never_of setting Unhinted x e (λ k. absurd (cc (k)))) _ d h)
+quiet : (setting : Setting) (refused : OnRefused) (mapped others : List Mapped) (d : Refusal)
+    → fates_in setting refused mapped ≡ Err d → notices_about setting refused others ≡ []
+quiet setting Stop mapped others d h = none_told setting others
+quiet setting LeaveOut mapped others d h =
+    absurd (never_refused (mapped_fate_of setting LeaveOut) (λ x e. never_of setting LeaveOut x e (λ k. absurd (cc (k)))) _ d h)
+quiet setting Unhinted mapped others d h =
+    absurd (never_refused (mapped_fate_of setting Unhinted) (λ x e. never_of setting Unhinted x e (λ k. absurd (cc (k)))) _ d h)
 
 -- ---- the strike
 
-notices_chain : (f : ℕ → Result Fate Refusal) (codes : List ℕ) (fates : List Fate) → map_chain f codes ≡ Ok fates
-    → flat_map notices_in fates ≡ flat_map (λ c. notices_by (f c)) codes
+notices_chain : {A : Type 0} (f : A → Result Fate Refusal) (xs : List A) (fates : List Fate) → map_chain f xs ≡ Ok fates
+    → flat_map notices_in fates ≡ flat_map (λ x. notices_by (f x)) xs
 notices_chain f [] fates h = let none : fates ≡ [] = cc in rw none refl
-notices_chain f (c ∷ cs) fates h =
-    let p = chain_parts f c cs fates h in
-    rw (p.4, p.2) (ap (λ (ns : List Notice). notices_in p.0 ++ ns) (notices_chain f cs p.1 p.3))
+notices_chain f (x ∷ xs) fates h =
+    let p = chain_parts f x xs fates h in
+    rw (p.4, p.2) (ap (λ (ns : List Notice). notices_in p.0 ++ ns) (notices_chain f xs p.1 p.3))
 
--- the notices of a strike are those about its code points
-pub notices_are : (setting : Setting) (title : Title) (chars : List ℕ) (refused : OnRefused)
-    → notices_of (plan_with setting title chars refused) ≡ notices_about setting refused (rising chars)
+-- the notices of a strike are those about its characters
+notices_are : (setting : Setting) (title : Title) (chars : List ℕ) (refused : OnRefused)
+    → notices_of (plan_with setting title chars refused) ≡ notices_about setting refused (mapped_of setting.map (rising chars))
 unfolding plan_with
 notices_are setting title chars refused = by_fates (fates_of setting refused (rising chars)) refl
   where
     by_fates : (r : Result (List Fate) Refusal) → fates_of setting refused (rising chars) ≡ r
-        → notices_of (plan_with setting title chars refused) ≡ notices_about setting refused (rising chars)
-    by_fates (Ok fates) h = rw h (notices_chain (fate_of setting refused) _ fates h)
-    by_fates (Err d) h = rw h (sym (quiet setting refused (rising chars) (rising chars) d h))
+        → notices_of (plan_with setting title chars refused) ≡ notices_about setting refused (mapped_of setting.map (rising chars))
+    by_fates (Ok fates) h =
+        rw h (notices_chain (mapped_fate_of setting refused) _ fates (fates_are setting refused (rising chars) ∙ h))
+    by_fates (Err d) h = rw h (sym (quiet setting refused _ _ d (fates_are setting refused (rising chars) ∙ h)))
 
--- ---- a part of the code points
+-- ---- a part of the characters
 
-notices_append : (setting : Setting) (refused : OnRefused) (xs ys : List ℕ)
+notices_append : (setting : Setting) (refused : OnRefused) (xs ys : List Mapped)
     → notices_about setting refused (xs ++ ys) ≡ notices_about setting refused xs ++ notices_about setting refused ys
-notices_append setting refused xs ys =
-    ap (flat_map (λ c. notices_by (fate_of setting refused c))) (filter-append (λ c. not (is_missing setting c)) xs ys)
-    ∙ flat_map-append (λ c. notices_by (fate_of setting refused c)) (filter (λ c. not (is_missing setting c)) xs)
-    (filter (λ c. not (is_missing setting c)) ys)
+notices_append setting refused xs ys = flat_map-append (λ m. notices_by (mapped_fate_of setting refused m)) xs ys
 
 -- what was told before a refusal
-pub told_until : (Y : Type 0) (setting : Setting) (refused : OnRefused) (codes : List ℕ) (i : ℕ) (d : Refusal)
-    → Fails d (fates_of setting refused codes)
-    → AreTold {Y = Y} (notices_about setting refused codes) (notices_about setting refused (take i codes)) (Err d)
-told_until Y setting refused codes i OutOfMemory f =
-    let all : notices_about setting refused codes
-    ≡ notices_about setting refused (take i codes) ++ notices_about setting refused (drop i codes) =
-    ap (notices_about setting refused) (sym (take-append-drop i codes))
-    ∙ notices_append setting refused (take i codes) (drop i codes)
+told_until : (Y : Type 0) (setting : Setting) (refused : OnRefused) (mapped : List Mapped) (i : ℕ) (d : Refusal)
+    → Fails d (fates_in setting refused mapped)
+    → AreTold {Y = Y} (notices_about setting refused mapped) (notices_about setting refused (take i mapped)) (Err d)
+told_until Y setting refused mapped i OutOfMemory f =
+    let all : notices_about setting refused mapped
+    ≡ notices_about setting refused (take i mapped) ++ notices_about setting refused (drop i mapped) =
+    ap (notices_about setting refused) (sym (take-append-drop i mapped))
+    ∙ notices_append setting refused (take i mapped) (drop i mapped)
     in (
-      length (notices_about setting refused (take i codes)),
-      sym (ap (take (length (notices_about setting refused (take i codes)))) all ∙ take-append_seam _ _),
+      length (notices_about setting refused (take i mapped)),
+      sym (ap (take (length (notices_about setting refused (take i mapped)))) all ∙ take-append_seam _ _),
     )
-told_until Y setting refused codes i (WriteFailed n) f = absurd f
-told_until Y setting refused codes i ReadFailed f = absurd f
-told_until Y setting refused codes i BadHex f = absurd f
-told_until Y setting refused codes i InputTooLarge f = absurd f
-told_until Y setting refused codes i d f =
-    quiet setting refused codes (take i codes) d f ∙ sym (quiet setting refused codes codes d f)
+told_until Y setting refused mapped i (WriteFailed n) f = absurd f
+told_until Y setting refused mapped i ReadFailed f = absurd f
+told_until Y setting refused mapped i BadHex f = absurd f
+told_until Y setting refused mapped i InputTooLarge f = absurd f
+told_until Y setting refused mapped i d f =
+    quiet setting refused mapped (take i mapped) d f ∙ sym (quiet setting refused mapped mapped d f)
 
--- one code point more, that the font has or lacks
-pub told_more : (setting : Setting) (refused : OnRefused) (codes : List ℕ) (i : ℕ) → i < length codes
-    → is_missing setting (get_or codes i 0) ≡ false
-    → notices_about setting refused (take (i + 1) codes)
-    ≡ notices_about setting refused (take i codes) ++ notices_by (fate_of setting refused (get_or codes i 0))
-told_more setting refused codes i l m =
-    ap (notices_about setting refused) (take_more codes i 0 l)
-    ∙ notices_append setting refused (take i codes) (get_or codes i 0 ∷ [])
-    ∙ ap (λ (ns : List Notice). notices_about setting refused (take i codes) ++ ns) (one (is_missing setting (get_or codes i 0)) m)
-  where
-    f : ℕ → List Notice
-    f c = notices_by (fate_of setting refused c)
-
-    one : (b : Bool) → b ≡ false → flat_map f (cond (not b) (get_or codes i 0 ∷ []) []) ≡ f (get_or codes i 0)
-    one true h = absurd (cc)
-    one false h = append-nil (f (get_or codes i 0))
+-- one character more
+told_more : (setting : Setting) (refused : OnRefused) (mapped : List Mapped) (i : ℕ) → i < length mapped
+    → notices_about setting refused (take (i + 1) mapped)
+    ≡ notices_about setting refused (take i mapped) ++ notices_by (mapped_fate_of setting refused (mapped_in mapped i))
+told_more setting refused mapped i l =
+    ap (notices_about setting refused) (take_more mapped i (record { code = 0; glyph = 0 }) l)
+    ∙ notices_append setting refused (take i mapped) (mapped_in mapped i ∷ [])
+    ∙ ap (λ (ns : List Notice). notices_about setting refused (take i mapped) ++ ns)
+    (append-nil (notices_by (mapped_fate_of setting refused (mapped_in mapped i))))
 
 -- ---- a call
 
@@ -208,36 +197,35 @@ told_all {L} {X} {Y} {Hears} {was} {now} {all} {x} r t = record { told = t.told;
 
 -- ---- the first pass
 
--- the code points so far, and nothing of the one that was refused
+-- the characters so far, and nothing of the one that was refused
 pub told_so_far : {L Y : Type 0} {Hears : L → Notice → L → Type 0} {was now next : L} (setting : Setting) (refused : OnRefused)
-    (codes : List ℕ) (i : ℕ) (d : Refusal) → HearsAll Hears was (notices_about setting refused (take i codes)) now → next ≡ now
-    → Fails d (fates_of setting refused codes) → Told {L = L} {Y = Y} Hears was next (notices_about setting refused codes) (Err d)
-told_so_far {L} {Y} {Hears} {was} setting refused codes i d h e f =
-    let P : L → Type 0 = λ x. HearsAll Hears was (notices_about setting refused (take i codes)) x in
+    (mapped : List Mapped) (i : ℕ) (d : Refusal) → HearsAll Hears was (notices_about setting refused (take i mapped)) now
+    → next ≡ now → Fails d (fates_in setting refused mapped)
+    → Told {L = L} {Y = Y} Hears was next (notices_about setting refused mapped) (Err d)
+told_so_far {L} {Y} {Hears} {was} setting refused mapped i d h e f =
+    let P : L → Type 0 = λ x. HearsAll Hears was (notices_about setting refused (take i mapped)) x in
     record {
-      told = notices_about setting refused (take i codes);
+      told = notices_about setting refused (take i mapped);
       heard = subst P (sym e) h;
-      are = told_until Y setting refused codes i d f;
+      are = told_until Y setting refused mapped i d f;
     }
 
--- one code point more
+-- one character more
 pub heard_at : {L : Type 0} (Hears : L → Notice → L → Type 0) (was now next : L) (setting : Setting) (refused : OnRefused)
-    (codes : List ℕ) (i glyph : ℕ) → i < length codes → glyph ≡ glyph_for setting.map (get_or codes i 0) → (glyph ≡ 0 → ⊥)
-    → HearsAll Hears was (notices_about setting refused (take i codes)) now
-    → HearsAll Hears now (notices_by (glyph_fate_of setting refused (get_or codes i 0) glyph)) next
-    → HearsAll Hears was (notices_about setting refused (take (i + 1) codes)) next
-heard_at {L} Hears was now next setting refused codes i glyph l e m h g =
+    (mapped : List Mapped) (i : ℕ) → i < length mapped
+    → HearsAll Hears was (notices_about setting refused (take i mapped)) now
+    → HearsAll Hears now (notices_by (mapped_fate_of setting refused (mapped_in mapped i))) next
+    → HearsAll Hears was (notices_about setting refused (take (i + 1) mapped)) next
+heard_at {L} Hears was now next setting refused mapped i l h g =
     let P : List Notice → Type 0 = λ ns. HearsAll Hears was ns next in
-    let Q : Result Fate Refusal → Type 0 = λ r. HearsAll Hears now (notices_by r) next in
-    subst P
-    (sym (told_more setting refused codes i l (missing_is setting (get_or codes i 0) glyph e false (not_zero glyph m))))
-    (hears_more Hears _ was now next _ h (subst Q (same_fate setting refused (get_or codes i 0) glyph e) g))
+    subst P (sym (told_more setting refused mapped i l)) (hears_more Hears _ was now next _ h g)
 
 -- of the strike
 pub told_strike : {L Y : Type 0} {Hears : L → Notice → L → Type 0} {was now : L} (setting : Setting) (title : Title)
-    (chars : List ℕ) (refused : OnRefused) {codes : List ℕ} {r : Result Y Refusal} → codes ≡ rising chars
-    → Told Hears was now (notices_about setting refused codes) r
+    (chars : List ℕ) (refused : OnRefused) {mapped : List Mapped} {r : Result Y Refusal}
+    → mapped ≡ mapped_of setting.map (rising chars)
+    → Told Hears was now (notices_about setting refused mapped) r
     → Told Hears was now (notices_of (plan_with setting title chars refused)) r
-told_strike {L} {Y} {Hears} {was} {now} setting title chars refused {codes} {r} c t =
+told_strike {L} {Y} {Hears} {was} {now} setting title chars refused {mapped} {r} c t =
     let P : List Notice → Type 0 = λ ns. Told Hears was now ns r in
     subst P (sym (notices_are setting title chars refused ∙ ap (notices_about setting refused) (sym c))) t

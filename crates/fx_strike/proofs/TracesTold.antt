@@ -1,6 +1,6 @@
 -- A trace that was written, as one that ends with a refusal.
 -- It serves `trace_of`.
-use Rattle.std.proofs.Common.{◌≡◌, ℕ, Bool, true, false, List, [], length, take, Option, Result, Ok, Err, refl, sym, ap, ◌∙◌, subst, arith}
+use Rattle.std.proofs.Common.{◌≡◌, ℕ, Bool, false, List, length, take, Option, Result, Ok, Err, refl, sym, ap, ◌∙◌, subst, arith}
 use Rattle.std.specs.Io.KnownBytes.{Appends}
 use Rattle.std.proofs.KnownBytes.{Appends-nil}
 use Rattle.std.proofs.lemmas.List.{take_all}
@@ -19,7 +19,7 @@ use Rattle.fx_request.specs.declared.refusal.Refusal.TheVariants.{WriteFailed}
 use Rattle.fx_request.specs.Faults.{of_font, of_glyph}
 use Rattle.fx_strike.specs.Faults.{of_hint}
 use Rattle.fx_strike.specs.Headline.{IsCause}
-use Rattle.fx_strike.specs.Traces.{Told, untold, told_by, end_with, Tells, refused_as}
+use Rattle.fx_strike.specs.Traces.{untold, told_by, end_with, Tells, refused_as}
 
 -- ---- no fault of programs is one of the writer
 

@@ -2,5 +2,6 @@
 pub mod Drawing
 pub mod Gathering
 pub mod Lengths
+pub mod Mapping
 pub mod Surveying
 pub mod Writing

@@ -45,6 +45,7 @@ fn hinter_in<'a>(
     Ok(Some(FontHinter {
         machine: Some(machine),
         scratch: Scratch::new(alloc),
+        spare: Vec::new(alloc),
     }))
 }
 

@@ -3,7 +3,7 @@ ghost use Rattle.std.specs.Prelude.{◌≡◌, ◌≤◌, ◌^◌, pos, unsigned
 ghost use Rattle.fx_fixed.specs.Numbers.{near_of};
 ghost use Rattle.fx_strike.specs.Strike.{Sketch, IsGlyphOf, setting_with, glyph_sketch_of};
 ghost use Rattle.fx_cache.specs.Cached.{AreDue};
-ghost use Rattle.fx_strike.specs.inner.Drawing.{IsSketchedOf, Draws, due_in};
+ghost use Rattle.fx_strike.specs.inner.Drawing.{IsSketchedOf, Draws, due_with};
 
 use crate::hinter::FontHinter;
 use crate::sketched::Sketched;
@@ -57,9 +57,9 @@ impl<'a, S: Scan> Tools<'a, S> {
         code: u32,
         glyph: u16,
     ) -> Result<BitGlyph, Refusal>
-        requires cache { AreDue (due_in self.now.basis.opened hinter.old) cache.old }
+        requires cache { AreDue (due_with self.now.basis hinter.old) cache.old }
         ensures kept { hinter.new ≡ hinter.old }
-        ensures cache { AreDue (due_in self.now.basis.opened hinter.old) cache.new }
+        ensures cache { AreDue (due_with self.now.basis hinter.old) cache.new }
         ensures sketch { Draws (glyph_sketch_of (setting_with self.now.basis hinter.old) code glyph) result }
         ensures code { IfOk result (λ g. g.code ≡ code) }
     {

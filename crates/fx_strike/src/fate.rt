@@ -4,10 +4,10 @@ ghost use Rattle.fx_machine.specs.Known.{Known};
 ghost use Rattle.fx_cache.specs.Cached.{AreDue};
 ghost use Rattle.fx_strike.specs.Faults.{Fails};
 ghost use Rattle.fx_strike.specs.Strike.{setting_with, glyph_sketch_of, glyph_fate_of, halted_by, left_out_for, refused_by};
-ghost use Rattle.fx_strike.specs.inner.Drawing.{Decides, IsFateOf, Sketches, due_in};
+ghost use Rattle.fx_strike.specs.inner.Drawing.{Decides, IsFateOf, Sketches, due_with};
 
 use crate::hinter::FontHinter;
-use crate::sketch::{outline_at, outline_made, sketch_with};
+use crate::sketch::{frame_at, outline_made, sketch_with};
 use crate::sketched::Sketched;
 use crate::tools::Tools;
 use fx_cache::{CacheReader, OutlineCache};
@@ -34,14 +34,27 @@ impl<'a, S: Scan> Tools<'a, S> {
         cache: &mut CacheReader<'_>,
         glyph: u16,
     ) -> Result<Sketched, Refusal>
-        requires cache { AreDue (due_in self.now.basis.opened hinter.old) cache.old }
+        requires cache { AreDue (due_with self.now.basis hinter.old) cache.old }
         ensures kept { hinter.new ≡ hinter.old }
-        ensures cache { AreDue (due_in self.now.basis.opened hinter.old) cache.new }
+        ensures cache { AreDue (due_with self.now.basis hinter.old) cache.new }
         ensures sketch { (code : ℕ)
             → Sketches (glyph_sketch_of (setting_with self.now.basis hinter.old) code glyph) result }
     {
-        let drawing = outline_at(self.alloc, hinter, cache, &self.basis.opened, glyph)?;
-        sketch_with(&self.basis, glyph, drawing)
+        match cache.take(self.alloc, glyph) {
+            Some(kept) => sketch_with(&self.basis, glyph, kept.made, kept.frame),
+            None => self.sketch_anew(hinter, glyph),
+        }
+    }
+
+    /// The glyph of this number before its bits. Its outline is made.
+    fn sketch_anew(&self, hinter: &mut FontHinter<'_>, glyph: u16) -> Result<Sketched, Refusal>
+        ensures kept { hinter.new ≡ hinter.old }
+        ensures sketch { (code : ℕ)
+            → Sketches (glyph_sketch_of (setting_with self.now.basis hinter.old) code glyph) result }
+    {
+        let drawing = outline_made(self.alloc, hinter, &self.basis.opened, glyph)?;
+        let frame = frame_at(&self.basis, glyph, &drawing)?;
+        sketch_with(&self.basis, glyph, drawing, frame)
     }
 
     /// The glyph of this number before its bits. Its outline is made, and put into the cache.
@@ -51,15 +64,16 @@ impl<'a, S: Scan> Tools<'a, S> {
         cache: &mut OutlineCache,
         glyph: u16,
     ) -> Result<Sketched, Refusal>
-        requires cache { AreDue (due_in self.now.basis.opened hinter.old) cache.old }
+        requires cache { AreDue (due_with self.now.basis hinter.old) cache.old }
         ensures kept { hinter.new ≡ hinter.old }
-        ensures cache { AreDue (due_in self.now.basis.opened hinter.old) cache.new }
+        ensures cache { AreDue (due_with self.now.basis hinter.old) cache.new }
         ensures sketch { (code : ℕ)
             → Sketches (glyph_sketch_of (setting_with self.now.basis hinter.old) code glyph) result }
     {
         let drawing = outline_made(self.alloc, hinter, &self.basis.opened, glyph)?;
-        cache.put(glyph, &drawing);
-        sketch_with(&self.basis, glyph, drawing)
+        let frame = frame_at(&self.basis, glyph, &drawing)?;
+        cache.put(glyph, &drawing, frame);
+        sketch_with(&self.basis, glyph, drawing, frame)
     }
 
     /// What becomes of a code point that is refused for a cause. Out of memory is none.

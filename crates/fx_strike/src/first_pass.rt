@@ -9,24 +9,26 @@ ghost use Rattle.fx_strike.specs.Strike as strikes;
 ghost use Rattle.fx_strike.specs.Faults.{Fails};
 ghost use Rattle.fx_strike.specs.Strike.{Sketch, pixels, setting_with, glyph_sketch_of, glyph_fate_of, notices_in, plan_with};
 ghost use Rattle.fx_strike.specs.Headline.{notices_of};
-ghost use Rattle.fx_cache.specs.Cached.{AreDue};
-ghost use Rattle.fx_strike.specs.inner.Drawing.{AreOf, IsFateOf, IsSketchedOf, due_in};
+ghost use Rattle.fx_strike.specs.inner.Drawing.{AreOf, IsFateOf, IsMemo, IsSketchedOf, MayKeep};
+ghost use Rattle.fx_strike.specs.inner.Mapping.{AreCharactersOf};
 ghost use Rattle.fx_strike.specs.inner.Surveying.{IsNarrow, Joins, Has, HasFate, SeesOne, Sees, Surveys, notices_about, notices_by};
 ghost use Rattle.fx_strike.specs.inner.Surveying.{region_of, survey_from};
 
+use crate::characters::{Characters, Mapped};
 use crate::draw::glyph_of;
+use crate::drawn_glyphs::DrawnGlyphs;
 use crate::fate::Fate;
 use crate::hinter::FontHinter;
+use crate::memo::Memo;
 use crate::opened::Opened;
 use crate::seen::Seen;
 use crate::sketched::Sketched;
 use crate::surveyed::Survey;
 use crate::tools::Tools;
 use fx_bdf::{Bounds, Summary};
-use fx_cache::OutlineCache;
 use fx_fixed::{Ppem, near};
 use fx_raster::{Region, Scan, Scratch};
-use fx_request::{Deaf, Listener, OnRefused, Refusal, Report, rising_codes};
+use fx_request::{Deaf, Listener, OnRefused, Refusal, Report};
 
 /// FUnits in whole pixels.
 pub(crate) fn whole_pixels(units: i32, ppem: Ppem, em: u16) -> i32
@@ -56,11 +58,17 @@ pub(crate) fn descent_of(opened: &Opened<'_>) -> i32
     whole_pixels(-i32::from(opened.font.hhea().descender), opened.ppem, em)
 }
 
-/// The survey of the code points that were seen, with what `fpgm` and `prep` used up and asked for, and what the glyphs settle.
-fn survey_from(hinter: &FontHinter<'_>, opened: &Opened<'_>, seen: Seen, summary: Summary) -> Survey
-    ensures { result ≡ survey_from hinter.now opened.now seen summary }
+/// The survey of the characters that were seen, with the number of those that the font lacks, what `fpgm` and `prep` used up and
+/// asked for, and what the glyphs settle.
+fn survey_from(
+    hinter: &FontHinter<'_>,
+    opened: &Opened<'_>,
+    seen: Seen,
+    missing: u32,
+    summary: Summary,
+) -> Survey
+    ensures { result ≡ survey_from hinter.now opened.now seen missing summary }
 {
-    let report = seen.report;
     Survey {
         bounds: seen.bounds,
         summary,
@@ -68,9 +76,9 @@ fn survey_from(hinter: &FontHinter<'_>, opened: &Opened<'_>, seen: Seen, summary
         ascent: ascent_of(opened),
         descent: descent_of(opened),
         report: Report {
-            glyphs: report.glyphs,
-            missing: report.missing,
-            usage: hinter.prelude().plus(report.usage),
+            glyphs: seen.glyphs,
+            missing,
+            usage: hinter.prelude().plus(seen.usage),
         },
     }
 }
@@ -93,63 +101,71 @@ impl<'a, S: Scan> Tools<'a, S> {
     fn bounds_with(
         &self,
         bounds: Bounds,
-        code: u32,
+        m: Mapped,
         sketched: &Sketched,
         scratch: &mut Scratch,
+        drawn: &mut DrawnGlyphs,
     ) -> Result<Bounds, Refusal>
         requires placed { IsPlaced bounds }
-        ensures joined { (sketch : Sketch) → IsSketchedOf sketch sketched.now → sketch.code ≡ code → Joins sketch bounds result }
+        ensures joined { (sketch : Sketch) → IsSketchedOf sketch sketched.now → sketch.code ≡ m.code → Joins sketch bounds result }
+        ensures drawn { MayKeep m sketched.now drawn.old drawn.new }
         ensures fault { IfErr result (λ e. e ≡ Refusal.OutOfMemory) }
     {
         if sketched.shape.lies_in(region_of(bounds)) {
             return Ok(bounds);
         }
-        let glyph = glyph_of(self.alloc, self.scan, code, sketched, scratch)?;
-        Ok(bounds.joined(glyph.bounds()))
+        let made = glyph_of(self.alloc, self.scan, m.code, sketched, scratch)?;
+        let joined = bounds.joined(made.bounds());
+        drawn.keep(m.glyph, made, scratch);
+        Ok(joined)
     }
 
     /// Adds what is seen of a character that is drawn.
     fn see_drawn(
         &self,
-        code: u32,
+        m: Mapped,
         sketched: &Sketched,
         seen: &mut Seen,
         scratch: &mut Scratch,
+        drawn: &mut DrawnGlyphs,
     ) -> Result<(), Refusal>
-        requires few { seen.old.report.glyphs < max_characters }
+        requires few { seen.old.glyphs < max_characters }
         requires placed { IsPlaced seen.old.bounds }
         requires narrow { IsNarrow seen.old }
-        ensures seen { OnOk result ((sketch : Sketch) → IsSketchedOf sketch sketched.now → sketch.code ≡ code
+        ensures seen { OnOk result ((sketch : Sketch) → IsSketchedOf sketch sketched.now → sketch.code ≡ m.code
             → Has sketch seen.old seen.new) }
+        ensures drawn { MayKeep m sketched.now drawn.old drawn.new }
         ensures fault { IfErr result (λ e. e ≡ Refusal.OutOfMemory) }
     {
-        let bounds = self.bounds_with(seen.bounds, code, sketched, scratch)?;
-        seen.add(code, bounds, sketched);
+        let bounds = self.bounds_with(seen.bounds, m, sketched, scratch, drawn)?;
+        seen.add(m.code, bounds, sketched);
         Ok(())
     }
 
     /// Adds what is seen of a character with this fate, and tells of one that is refused.
     fn see_fate<L: Listener>(
         &self,
-        code: u32,
+        m: Mapped,
         fate: &Fate,
         seen: &mut Seen,
         scratch: &mut Scratch,
         listener: &mut L,
     ) -> Result<(), Refusal>
-        requires few { seen.old.report.glyphs < max_characters }
+        requires few { seen.old.glyphs < max_characters }
         requires placed { IsPlaced seen.old.bounds }
         requires narrow { IsNarrow seen.old }
-        ensures seen { OnOk result ((due : strikes.Fate) → IsFateOf due fate.now → AreOf code due → HasFate due seen.old seen.new) }
+        ensures seen { OnOk result ((due : strikes.Fate) → IsFateOf due fate.now → AreOf m.code due
+            → HasFate due seen.old seen.new) }
         ensures heard { OnOk result ((due : strikes.Fate) → IsFateOf due fate.now
             → HearsAll L.Hears listener.old (notices_in due) listener.new) }
         ensures fault { IfErr result (λ e. e ≡ Refusal.OutOfMemory) }
         ensures unheard { IfErr result (λ _. listener.new ≡ listener.old) }
     {
+        let mut none = DrawnGlyphs::without_room(self.alloc);
         match fate {
-            Fate::Drawn(sketched) => self.see_drawn(code, sketched, seen, scratch),
+            Fate::Drawn(sketched) => self.see_drawn(m, sketched, seen, scratch, &mut none),
             Fate::Unhinted(notice, sketched) => {
-                self.see_drawn(code, sketched, seen, scratch)?;
+                self.see_drawn(m, sketched, seen, scratch, &mut none)?;
                 listener.hear(*notice);
                 Ok(())
             }
@@ -166,28 +182,32 @@ impl<'a, S: Scan> Tools<'a, S> {
         &self,
         refused: OnRefused,
         hinter: &mut FontHinter<'_>,
-        code: u32,
-        glyph: u16,
+        m: Mapped,
         seen: &mut Seen,
-        cache: &mut OutlineCache,
+        memo: &mut Memo,
         listener: &mut L,
     ) -> Result<(), Refusal>
-        requires cache { AreDue (due_in self.now.basis.opened hinter.old) cache.old }
-        requires few { seen.old.report.glyphs < max_characters }
+        requires memo { IsMemo self.now.basis hinter.old memo.old.outlines memo.old.glyphs }
+        requires few { seen.old.glyphs < max_characters }
         requires placed { IsPlaced seen.old.bounds }
         requires narrow { IsNarrow seen.old }
         ensures kept { hinter.new ≡ hinter.old }
-        ensures seen { SeesOne (glyph_fate_of (setting_with self.now.basis hinter.old) refused code glyph)
+        ensures seen { SeesOne (glyph_fate_of (setting_with self.now.basis hinter.old) refused m.code m.glyph)
             seen.old seen.new result }
         ensures heard { OnOk result (HearsAll L.Hears listener.old
-            (notices_by (glyph_fate_of (setting_with self.now.basis hinter.old) refused code glyph))
+            (notices_by (glyph_fate_of (setting_with self.now.basis hinter.old) refused m.code m.glyph))
             listener.new) }
         ensures unheard { IfErr result (λ _. listener.new ≡ listener.old) }
-        ensures cache { AreDue (due_in self.now.basis.opened hinter.old) cache.new }
+        ensures memo { IsMemo self.now.basis hinter.old memo.new.outlines memo.new.glyphs }
     {
-        match self.sketch_made(hinter, cache, glyph) {
-            Ok(sketched) => self.see_drawn(code, &sketched, seen, &mut hinter.scratch),
-            Err(cause) => self.see_refused(refused, hinter, code, glyph, cause, seen, listener),
+        match self.sketch_made(hinter, &mut memo.outlines, m.glyph) {
+            Ok(sketched) => {
+                let scratch = &mut hinter.scratch;
+                let drawn = self.see_drawn(m, &sketched, seen, scratch, &mut memo.glyphs);
+                hinter.spare = sketched.shape.into_outline().points;
+                drawn
+            }
+            Err(cause) => self.see_refused(refused, hinter, m, cause, seen, listener),
         }
     }
 
@@ -198,82 +218,79 @@ impl<'a, S: Scan> Tools<'a, S> {
         &self,
         refused: OnRefused,
         hinter: &mut FontHinter<'_>,
-        code: u32,
-        glyph: u16,
+        m: Mapped,
         cause: Refusal,
         seen: &mut Seen,
         listener: &mut L,
     ) -> Result<(), Refusal>
-        requires few { seen.old.report.glyphs < max_characters }
+        requires few { seen.old.glyphs < max_characters }
         requires placed { IsPlaced seen.old.bounds }
         requires narrow { IsNarrow seen.old }
-        requires cause { Fails cause (glyph_sketch_of (setting_with self.now.basis hinter.old) code glyph) }
+        requires cause { Fails cause (glyph_sketch_of (setting_with self.now.basis hinter.old) m.code m.glyph) }
         ensures kept { hinter.new ≡ hinter.old }
-        ensures seen { SeesOne (glyph_fate_of (setting_with self.now.basis hinter.old) refused code glyph)
+        ensures seen { SeesOne (glyph_fate_of (setting_with self.now.basis hinter.old) refused m.code m.glyph)
             seen.old seen.new result }
         ensures heard { OnOk result (HearsAll L.Hears listener.old
-            (notices_by (glyph_fate_of (setting_with self.now.basis hinter.old) refused code glyph))
+            (notices_by (glyph_fate_of (setting_with self.now.basis hinter.old) refused m.code m.glyph))
             listener.new) }
         ensures unheard { IfErr result (λ _. listener.new ≡ listener.old) }
     {
-        let fate = self.fate_refused(refused, code, glyph, cause)?;
-        self.see_fate(code, &fate, seen, &mut hinter.scratch, listener)
+        let fate = self.fate_refused(refused, m.code, m.glyph, cause)?;
+        self.see_fate(m, &fate, seen, &mut hinter.scratch, listener)
     }
 
-    /// What is seen of code points, in their order; or the first cause that refuses the strike. Each one that is refused in spite
+    /// What is seen of characters, in their order; or the first cause that refuses the strike. Each one that is refused in spite
     /// of which there is a strike is told.
     fn see<L: Listener>(
         &self,
         refused: OnRefused,
         hinter: &mut FontHinter<'_>,
-        codes: &[u32],
-        cache: &mut OutlineCache,
+        mapped: &[Mapped],
+        memo: &mut Memo,
         listener: &mut L,
     ) -> Result<Seen, Refusal>
-        requires few { length codes.now ≤ max_characters }
-        requires cache { AreDue (due_in self.now.basis.opened hinter.old) cache.old }
+        requires few { length mapped.now ≤ max_characters }
+        requires memo { IsMemo self.now.basis hinter.old memo.old.outlines memo.old.glyphs }
         ensures kept { hinter.new ≡ hinter.old }
-        ensures seen { Sees (setting_with self.now.basis hinter.old) refused codes.now result }
+        ensures seen { Sees (setting_with self.now.basis hinter.old) refused mapped.now result }
         ensures heard { Told L.Hears listener.old listener.new
-            (notices_about (setting_with self.now.basis hinter.old) refused codes.now) result }
-        ensures cache { AreDue (due_in self.now.basis.opened hinter.old) cache.new }
+            (notices_about (setting_with self.now.basis hinter.old) refused mapped.now) result }
+        ensures memo { IsMemo self.now.basis hinter.old memo.new.outlines memo.new.glyphs }
     {
         let mut seen = Seen::new();
-        let mut map = self.basis.opened.map.cursor();
-        // `seen` is what is seen of the code points before this one, and what there is to tell of them was told.
-        'codes: for code in codes {
-            let glyph = map.glyph(*code);
-            if glyph == 0 {
-                seen.report.missing += 1;
-                continue;
-            }
-            self.see_one(refused, hinter, *code, glyph, &mut seen, cache, listener)?;
+        // `seen` is what is seen of the characters before this one, and what there is to tell of them was told.
+        'mapped: for m in mapped {
+            self.see_one(refused, hinter, *m, &mut seen, memo, listener)?;
         }
         Ok(seen)
     }
 
-    /// The survey of the strike of code points in rising order, whatever its title. Each outline is put into the cache.
-    pub(crate) fn survey_codes<L: Listener>(
+    /// The survey of the strike of characters, whatever its title. Outlines, and glyphs that
+    /// are drawn, are put into the memo.
+    pub(crate) fn survey_mapped<L: Listener>(
         &self,
         refused: OnRefused,
         hinter: &mut FontHinter<'_>,
-        codes: &[u32],
-        cache: &mut OutlineCache,
+        characters: &Characters,
+        memo: &mut Memo,
         listener: &mut L,
     ) -> Result<Survey, Refusal>
-        requires few { length codes.now ≤ max_characters }
-        requires cache { AreDue (due_in self.now.basis.opened hinter.old) cache.old }
+        requires few { length characters.now.mapped.items ≤ max_characters }
+        requires memo { IsMemo self.now.basis hinter.old memo.old.outlines memo.old.glyphs }
         ensures kept { hinter.new ≡ hinter.old }
-        ensures cache { AreDue (due_in self.now.basis.opened hinter.old) cache.new }
-        ensures survey { (title : Title) (chars : List ℕ) → codes.now ≡ rising chars
+        ensures memo { IsMemo self.now.basis hinter.old memo.new.outlines memo.new.glyphs }
+        ensures survey { (title : Title) (chars : List ℕ)
+            → AreCharactersOf self.now.basis.opened.map (rising chars) characters.now
             → Surveys (plan_with (setting_with self.now.basis hinter.old) title chars refused) result }
-        ensures heard { (title : Title) (chars : List ℕ) → codes.now ≡ rising chars
+        ensures heard { (title : Title) (chars : List ℕ)
+            → AreCharactersOf self.now.basis.opened.map (rising chars) characters.now
             → Told L.Hears listener.old listener.new
             (notices_of (plan_with (setting_with self.now.basis hinter.old) title chars refused)) result }
     {
-        let seen = self.see(refused, hinter, codes, cache, listener)?;
-        let summary = seen.gathered.summary(seen.report.glyphs);
-        Ok(survey_from(hinter, &self.basis.opened, seen, summary))
+        let seen = self.see(refused, hinter, &characters.mapped, memo, listener)?;
+        let summary = seen.gathered.summary(seen.glyphs);
+        let missing = characters.missing;
+        Ok(survey_from(hinter, &self.basis.opened, seen, missing, summary))
     }
 
     /// The survey of the strike of characters, whatever its title.
@@ -288,8 +305,8 @@ impl<'a, S: Scan> Tools<'a, S> {
         ensures survey { (title : Title)
             → Surveys (plan_with (setting_with self.now.basis hinter.old) title chars.now refused) result }
     {
-        let codes = rising_codes(self.alloc, chars)?;
-        let mut cache = OutlineCache::without_room(self.alloc);
-        self.survey_codes(refused, hinter, &codes, &mut cache, &mut Deaf)
+        let characters = self.characters(chars)?;
+        let mut memo = Memo::without_room(self.alloc);
+        self.survey_mapped(refused, hinter, &characters, &mut memo, &mut Deaf)
     }
 }

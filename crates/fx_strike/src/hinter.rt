@@ -10,19 +10,22 @@ use crate::opened::Opened;
 use fx_gstate::Dropout as Wish;
 use fx_hint::{ComponentOf, GlyphInput, HintFault, Hinter, KeepingMachine, Made, NoHinter};
 use fx_machine::{Machine, Unwatched, Usage};
+use fx_outline::OutlinePoint;
 use fx_raster::Scratch;
 use fx_request::Refusal;
 use std::alloc::{AllocError, Global};
 use std::marker::Model;
 
 /// What hints the glyphs of a font at a size: a machine of the font whose `fpgm` and `prep` ran, or nothing with hinting off. The
-/// machine lies in a box, so that the functions that hand it on hold little. With it goes the scratch that one glyph's scan leaves
-/// to the next. Contracts see it as what stays as it is, whatever runs: what is known of the machine.
+/// machine lies in a box, so that the functions that hand it on hold little. With it goes the buffers that one glyph leaves to
+/// the next. Contracts see it as what stays as it is, whatever runs: what is known of the machine.
 #[derive(Drop)]
 pub(crate) struct FontHinter<'a> {
     pub(crate) machine: Option<Box<KeepingMachine<'a>>>,
     /// What scans work with.
     pub scratch: Scratch,
+    /// The points of an outline that is done with, whose buffer the next one takes over.
+    pub spare: Vec<OutlinePoint>,
 }
 
 impl<'a> Model for FontHinter<'a> {
@@ -42,6 +45,7 @@ impl<'a> FontHinter<'a> {
         FontHinter {
             machine: None,
             scratch: Scratch::new(alloc),
+            spare: Vec::new(alloc),
         }
     }
 
@@ -99,9 +103,9 @@ impl<'a> Hinter for FontHinter<'a> {
         }
     }
 
-    fn recall(&self, alloc: Global, input: &GlyphInput<'_>) -> Option<(Made, Usage)> {
+    fn recall(&self, alloc: Global, input: &GlyphInput<'_>, made: &mut Made) -> Option<Usage> {
         match &self.machine {
-            Some(machine) => machine.recall(alloc, input),
+            Some(machine) => machine.recall(alloc, input, made),
             None => None,
         }
     }
@@ -160,5 +164,6 @@ pub(crate) fn hinter_at<'a>(
     Ok(FontHinter {
         machine: Some(machine),
         scratch: Scratch::new(alloc),
+        spare: Vec::new(alloc),
     })
 }

@@ -16,7 +16,7 @@ use std::alloc::Global;
 ///
 /// There are two passes over the characters: the first surveys the strike, and the second makes each character again and writes
 /// it. Hence nothing is written before every character was made once, and beside the font, its machine with the components that it
-/// keeps, and the code points only one character is held at a time. The first cause is returned, in this order: the size, the
+/// keeps, and the code points only few characters are held at a time. The first cause is returned, in this order: the size, the
 /// characters, the name, the properties; the font's tables, its character map; with hinting on the halts of `fpgm`, then of
 /// `prep`; then, if the request stops at refused characters, the characters in rising order, each by its outline, then how far out
 /// it lies and how large it is.

@@ -18,11 +18,16 @@ use fx_fixed::Ppem;
 use fx_request::{MAX_CHARACTERS, MAX_CODE, Refusal, Request};
 use fx_sfnt::{Font, FontFile};
 
-/// Whether a code point is past U+10FFFF.
+/// Whether a code point is past U+10FFFF. It looks at all of them, since the compiler then takes several at once.
 fn is_past(chars: &[u32]) -> bool
     ensures { result ≡ list_any (nat_lt max_code) chars.now }
 {
-    chars.iter().any(|code| MAX_CODE < *code)
+    let mut past = false;
+    // `past` says whether one of the code points before this one is.
+    'codes: for code in chars {
+        past |= MAX_CODE < *code;
+    }
+    past
 }
 
 /// Whether there are too many code points, or one past U+10FFFF.

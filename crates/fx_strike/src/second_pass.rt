@@ -1,8 +1,7 @@
 //! The second pass over the characters: it makes each from its outline, which comes from the cache or is made again, and writes it.
 ghost use Rattle.std.specs.Prelude.{◌≡◌, ◌≤◌, ◌<◌, ◌^◌, ◌+◌, ◌++◌, ℕ, List, [], false, nat_lt, length, OnOk};
-ghost use Rattle.std.specs.List.{flat_map, list_any};
+ghost use Rattle.std.specs.List.{flat_map};
 ghost use Rattle.fx_fixed.specs.Texts.{Adds, length_of};
-ghost use Rattle.fx_cmap.specs.Lookup.{glyph_for};
 ghost use Rattle.fx_bdf.specs.Properties.{AreLines, seen_properties};
 ghost use Rattle.fx_bdf.specs.Text.{IsName, header_text, glyph_text, end_text, longest_glyph};
 ghost use Rattle.fx_request.specs.Limits.{max_characters, max_code};
@@ -10,23 +9,38 @@ ghost use Rattle.fx_fixed.specs.Changes.{change_of};
 ghost use Rattle.fx_strike.specs.Strike as strikes;
 ghost use Rattle.fx_strike.specs.Faults.{Fails};
 ghost use Rattle.fx_strike.specs.Strike.{Sketch, AreGlyphsOf, IsGlyphOf, setting_with, sketches_in, glyph_sketch_of};
-ghost use Rattle.fx_cache.specs.Cached.{AreDue};
 ghost use Rattle.fx_bdf.specs.Glyphs.{Glyph};
-ghost use Rattle.fx_strike.specs.inner.Drawing.{AreOf, IsFateOf, IsSketchedOf, due_in};
-ghost use Rattle.fx_strike.specs.inner.Writing.{AddsMore, AreLinesOf, AreAllLinesOf, HasRoom, Stops, Writes};
+ghost use Rattle.fx_strike.specs.inner.Drawing.{AreOf, IsFateOf, IsMemo, IsSketchedOf};
+ghost use Rattle.fx_strike.specs.inner.Writing.{AddsMore, AreLinesOf, AreAllLinesOf, AreSmall, HasRoom, Stops, Writes};
 ghost use Rattle.fx_strike.specs.inner.Writing.{longest_glyphs, longest_text};
 
+use crate::characters::Mapped;
 use crate::draft::Draft;
 use crate::draw::glyph_of;
 use crate::fate::Fate;
 use crate::hinter::FontHinter;
+use crate::memo::MemoReader;
 use crate::sketched::Sketched;
 use crate::tools::Tools;
-use fx_bdf::{write_end, write_glyph, write_header};
-use fx_cache::CacheReader;
+use fx_bdf::{BitGlyph, write_end, write_glyph, write_header};
 use fx_fixed::{Sink, TextWriter};
 use fx_raster::{Scan, Scratch};
 use fx_request::{OnRefused, Refusal};
+
+/// Writes the lines of a glyph.
+fn write_bits<W: Sink>(drawn: &BitGlyph, text: &mut TextWriter<'_, W>) -> Result<(), Refusal>
+    requires faults { text.old.faults < 2 ^ 63 }
+    requires room { HasRoom text.old longest_glyph }
+    requires code { drawn.now.code ≤ max_code }
+    ensures same { text.new.sink ≡ text.old.sink }
+    ensures quiet { OnOk result (text.new.faults ≡ text.old.faults) }
+    ensures short { OnOk result (length_of text.new ≤ length_of text.old + longest_glyph) }
+    ensures lines { (sketch : Sketch) (glyph : Glyph) → IsGlyphOf sketch drawn.now → IsGlyphOf sketch glyph
+        → AddsMore text.old text.new (glyph_text glyph) result }
+{
+    fx_bdf::laws::trimmed();
+    Ok(write_glyph(drawn, text)?)
+}
 
 impl<'a, S: Scan> Tools<'a, S> {
     /// Writes the lines of a character with this fate. One that is left out has none.
@@ -70,42 +84,44 @@ impl<'a, S: Scan> Tools<'a, S> {
         ensures lines { (sketch : Sketch) (glyph : Glyph) → IsSketchedOf sketch sketched.now → sketch.code ≡ code
             → IsGlyphOf sketch glyph → AddsMore text.old text.new (glyph_text glyph) result }
     {
-        fx_bdf::laws::trimmed();
         let drawn = glyph_of(self.alloc, self.scan, code, sketched, scratch)?;
-        Ok(write_glyph(&drawn, text)?)
+        write_bits(&drawn, text)?;
+        scratch.give_back(drawn.into_bitmap());
+        Ok(())
     }
 
-    /// Makes a character that the font has, and writes its lines.
+    /// Writes the lines of a character that the font has. If the first pass kept its glyph, that is written, else it is made.
     fn write_one<W: Sink>(
         &self,
         refused: OnRefused,
         hinter: &mut FontHinter<'_>,
-        cache: &mut CacheReader<'_>,
-        code: u32,
-        glyph: u16,
+        memo: &mut MemoReader<'_>,
+        m: Mapped,
         text: &mut TextWriter<'_, W>,
     ) -> Result<(), Refusal>
         requires faults { text.old.faults < 2 ^ 63 }
         requires room { HasRoom text.old longest_glyph }
-        requires code { code ≤ max_code }
-        requires glyph { glyph ≡ glyph_for self.now.basis.opened.map code }
-        requires here { ¬ (glyph ≡ 0) }
-        requires cache { AreDue (due_in self.now.basis.opened hinter.old) cache.old }
+        requires code { m.code ≤ max_code }
+        requires memo { IsMemo self.now.basis hinter.old memo.old.outlines memo.old.glyphs }
         ensures kept { hinter.new ≡ hinter.old }
-        ensures cache { AreDue (due_in self.now.basis.opened hinter.old) cache.new }
+        ensures memo { IsMemo self.now.basis hinter.old memo.new.outlines memo.new.glyphs }
         ensures same { text.new.sink ≡ text.old.sink }
         ensures quiet { OnOk result (text.new.faults ≡ text.old.faults) }
         ensures short { OnOk result (length_of text.new ≤ length_of text.old + longest_glyph) }
-        ensures lines { (lines : List ℕ) → AreLinesOf (setting_with self.now.basis hinter.old) refused code lines
+        ensures lines { (lines : List ℕ) → AreLinesOf (setting_with self.now.basis hinter.old) refused m.code m.glyph lines
             → AddsMore text.old text.new lines result }
     {
-        match self.sketch_at(hinter, cache, glyph) {
+        if let Some(drawn) = memo.glyphs.next_of(m) {
+            memo.outlines.skip(m.glyph);
+            return write_bits(drawn, text);
+        }
+        match self.sketch_at(hinter, &mut memo.outlines, m.glyph) {
             Ok(sketched) => {
-                let written = self.write_drawn(code, &sketched, &mut hinter.scratch, text);
-                cache.give_back(sketched.shape.into_outline());
+                let written = self.write_drawn(m.code, &sketched, &mut hinter.scratch, text);
+                memo.outlines.give_back(sketched.shape.into_outline());
                 written
             }
-            Err(cause) => self.write_refused(refused, hinter, code, glyph, cause, text),
+            Err(cause) => self.write_refused(refused, hinter, m.code, m.glyph, cause, text),
         }
     }
 
@@ -124,52 +140,44 @@ impl<'a, S: Scan> Tools<'a, S> {
         requires faults { text.old.faults < 2 ^ 63 }
         requires room { HasRoom text.old longest_glyph }
         requires code { code ≤ max_code }
-        requires glyph { glyph ≡ glyph_for self.now.basis.opened.map code }
-        requires here { ¬ (glyph ≡ 0) }
         requires cause { Fails cause (glyph_sketch_of (setting_with self.now.basis hinter.old) code glyph) }
         ensures kept { hinter.new ≡ hinter.old }
         ensures same { text.new.sink ≡ text.old.sink }
         ensures quiet { OnOk result (text.new.faults ≡ text.old.faults) }
         ensures short { OnOk result (length_of text.new ≤ length_of text.old + longest_glyph) }
-        ensures lines { (lines : List ℕ) → AreLinesOf (setting_with self.now.basis hinter.old) refused code lines
+        ensures lines { (lines : List ℕ) → AreLinesOf (setting_with self.now.basis hinter.old) refused code glyph lines
             → AddsMore text.old text.new lines result }
     {
         let fate = self.fate_refused(refused, code, glyph, cause)?;
         self.write_fate(code, &fate, &mut hinter.scratch, text)
     }
 
-    /// Makes the characters of code points in their order, and writes their lines.
+    /// Makes characters in their order, and writes their lines.
     fn write_all<W: Sink>(
         &self,
         refused: OnRefused,
         hinter: &mut FontHinter<'_>,
-        cache: &mut CacheReader<'_>,
-        codes: &[u32],
+        memo: &mut MemoReader<'_>,
+        mapped: &[Mapped],
         text: &mut TextWriter<'_, W>,
     ) -> Result<(), Refusal>
         requires faults { text.old.faults < 2 ^ 63 }
         requires room { HasRoom text.old longest_glyphs }
-        requires few { length codes.now ≤ max_characters }
-        requires small { list_any (nat_lt max_code) codes.now ≡ false }
-        requires cache { AreDue (due_in self.now.basis.opened hinter.old) cache.old }
+        requires few { length mapped.now ≤ max_characters }
+        requires small { AreSmall mapped.now }
+        requires memo { IsMemo self.now.basis hinter.old memo.old.outlines memo.old.glyphs }
         ensures kept { hinter.new ≡ hinter.old }
-        ensures cache { AreDue (due_in self.now.basis.opened hinter.old) cache.new }
+        ensures memo { IsMemo self.now.basis hinter.old memo.new.outlines memo.new.glyphs }
         ensures same { text.new.sink ≡ text.old.sink }
         ensures quiet { OnOk result (text.new.faults ≡ text.old.faults) }
         ensures short { OnOk result (length_of text.new ≤ length_of text.old + longest_glyphs) }
         ensures lines { (lines : List (List ℕ))
-            → AreAllLinesOf (setting_with self.now.basis hinter.old) refused codes.now lines
+            → AreAllLinesOf (setting_with self.now.basis hinter.old) refused mapped.now lines
             → AddsMore text.old text.new (flat_map (λ t. t) lines) result }
     {
-        let mut map = self.basis.opened.map.cursor();
-        // The lines of the code points so far were written. A character that the font lacks, whose glyph is 0, has none. It is left
-        // here, since a function fills its values with zeros when it begins.
-        'codes: for code in codes {
-            let glyph = map.glyph(*code);
-            if glyph == 0 {
-                continue;
-            }
-            self.write_one(refused, hinter, cache, *code, glyph, text)?;
+        // The lines of the characters so far were written.
+        'mapped: for m in mapped {
+            self.write_one(refused, hinter, memo, *m, text)?;
         }
         Ok(())
     }
@@ -178,7 +186,7 @@ impl<'a, S: Scan> Tools<'a, S> {
     fn write_parts<W: Sink>(
         &self,
         hinter: &mut FontHinter<'_>,
-        cache: &mut CacheReader<'_>,
+        memo: &mut MemoReader<'_>,
         draft: &Draft<'_>,
         text: &mut TextWriter<'_, W>,
     ) -> Result<(), Refusal>
@@ -186,22 +194,22 @@ impl<'a, S: Scan> Tools<'a, S> {
         requires room { HasRoom text.old longest_text }
         requires name { IsName draft.now.name.now }
         requires properties { AreLines (seen_properties draft.now.properties.now) }
-        requires few { length draft.now.codes.now ≤ max_characters }
-        requires small { list_any (nat_lt max_code) draft.now.codes.now ≡ false }
-        requires cache { AreDue (due_in self.now.basis.opened hinter.old) cache.old }
+        requires few { length draft.now.mapped.now ≤ max_characters }
+        requires small { AreSmall draft.now.mapped.now }
+        requires memo { IsMemo self.now.basis hinter.old memo.old.outlines memo.old.glyphs }
         ensures kept { hinter.new ≡ hinter.old }
-        ensures cache { AreDue (due_in self.now.basis.opened hinter.old) cache.new }
+        ensures memo { IsMemo self.now.basis hinter.old memo.new.outlines memo.new.glyphs }
         ensures same { text.new.sink ≡ text.old.sink }
         ensures ended { OnOk result (text.new.waiting ≡ []) }
         ensures lines { (lines : List (List ℕ))
-            → AreAllLinesOf (setting_with self.now.basis hinter.old) draft.now.refused draft.now.codes.now lines
+            → AreAllLinesOf (setting_with self.now.basis hinter.old) draft.now.refused draft.now.mapped.now lines
             → Adds Stops text.old text.new
             (header_text draft.now.name.now (seen_properties draft.now.properties.now) draft.now.header
             ++ (flat_map (λ t. t) lines ++ end_text))
             result }
     {
         write_header(draft.name, draft.properties, &draft.header, text)?;
-        self.write_all(draft.refused, hinter, cache, draft.codes, text)?;
+        self.write_all(draft.refused, hinter, memo, draft.mapped, text)?;
         write_end(text)?;
         Ok(text.end()?)
     }
@@ -210,27 +218,27 @@ impl<'a, S: Scan> Tools<'a, S> {
     pub(crate) fn write_text<W: Sink>(
         &self,
         hinter: &mut FontHinter<'_>,
-        cache: &mut CacheReader<'_>,
+        memo: &mut MemoReader<'_>,
         draft: &Draft<'_>,
         out: &mut W,
     ) -> Result<(), Refusal>
         requires faults { W.fault_count out.old < 2 ^ 63 }
         requires name { IsName draft.now.name.now }
         requires properties { AreLines (seen_properties draft.now.properties.now) }
-        requires few { length draft.now.codes.now ≤ max_characters }
-        requires small { list_any (nat_lt max_code) draft.now.codes.now ≡ false }
-        requires cache { AreDue (due_in self.now.basis.opened hinter.old) cache.old }
+        requires few { length draft.now.mapped.now ≤ max_characters }
+        requires small { AreSmall draft.now.mapped.now }
+        requires memo { IsMemo self.now.basis hinter.old memo.old.outlines memo.old.glyphs }
         ensures kept { hinter.new ≡ hinter.old }
-        ensures cache { AreDue (due_in self.now.basis.opened hinter.old) cache.new }
+        ensures memo { IsMemo self.now.basis hinter.old memo.new.outlines memo.new.glyphs }
         ensures text { (lines : List (List ℕ))
-            → AreAllLinesOf (setting_with self.now.basis hinter.old) draft.now.refused draft.now.codes.now lines
+            → AreAllLinesOf (setting_with self.now.basis hinter.old) draft.now.refused draft.now.mapped.now lines
             → Writes (change_of W.held W.fault_count out.old out.new)
             (header_text draft.now.name.now (seen_properties draft.now.properties.now) draft.now.header
             ++ (flat_map (λ t. t) lines ++ end_text))
             result }
     {
         let mut text = TextWriter::new(out);
-        let result = self.write_parts(hinter, cache, draft, &mut text);
+        let result = self.write_parts(hinter, memo, draft, &mut text);
         text.close();
         result
     }

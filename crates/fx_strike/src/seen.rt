@@ -5,14 +5,15 @@ use crate::gathered::Gathered;
 use crate::sketched::Sketched;
 use fx_bdf::Bounds;
 use fx_machine::Usage;
-use fx_request::Report;
 
-/// The least box that holds the boxes of the glyphs so far, what is gathered of them, and what is counted over them.
+/// The least box that holds the boxes of the glyphs so far, what is gathered of them, how many they are, and what their programs
+/// used up.
 #[derive(Clone, Copy)]
 pub(crate) struct Seen {
     pub bounds: Bounds,
     pub gathered: Gathered,
-    pub report: Report,
+    pub glyphs: u32,
+    pub usage: Usage,
 }
 
 impl Seen {
@@ -27,24 +28,21 @@ impl Seen {
         Seen {
             bounds: Bounds::NONE,
             gathered: Gathered::new(),
-            report: Report {
-                glyphs: 0,
-                missing: 0,
-                usage: Usage::none(),
-            },
+            glyphs: 0,
+            usage: Usage::none(),
         }
     }
 
     /// Adds a character: its code point, the box of the glyphs up to it, its advance, and what its programs counted.
     pub(crate) fn add(&mut self, code: u32, bounds: Bounds, sketched: &Sketched)
-        requires few { self.old.report.glyphs < max_characters }
+        requires few { self.old.glyphs < max_characters }
         requires narrow { IsNarrow self.old }
         ensures { Adds self.old self.new code bounds sketched.now }
     {
         let dwidth = whole_pixels(sketched.advance);
         self.bounds = bounds;
         self.gathered = self.gathered.with(code, dwidth);
-        self.report.glyphs += 1;
-        self.report.usage = self.report.usage.plus(sketched.usage);
+        self.glyphs += 1;
+        self.usage = self.usage.plus(sketched.usage);
     }
 }

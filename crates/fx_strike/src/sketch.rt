@@ -1,14 +1,14 @@
 //! From a glyph's number to its outline, its shape and its advance.
-ghost use Rattle.std.specs.Prelude.{◌≡◌, ℕ, Option, Ok, IfOk};
+ghost use Rattle.std.specs.Prelude.{◌≡◌, ℕ, Option, Ok, IfOk, IfErr};
 ghost use Rattle.fx_fixed.specs.Chain.{map_ok, map_fault, GivesUnless};
 ghost use Rattle.fx_sfnt.specs.Glyphs.{metrics_of};
 ghost use Rattle.fx_machine.specs.Known.{Known};
 ghost use Rattle.fx_hint.specs.Outlines.{view_of_glyph_outline, outline_with};
+ghost use Rattle.fx_raster.specs.Frames.{HasFrame};
 ghost use Rattle.fx_raster.specs.Rules.{shape_of};
 ghost use Rattle.fx_request.specs.Faults.{of_font};
 ghost use Rattle.fx_strike.specs.Faults.{Fails, of_hint, of_raster};
-ghost use Rattle.fx_strike.specs.Strike.{hinting_by, setting_with, thousandths, glyph_sketch_of};
-ghost use Rattle.fx_cache.specs.Cached.{AreDue};
+ghost use Rattle.fx_strike.specs.Strike.{hinting_by, rule_for, setting_with, thousandths, glyph_sketch_of};
 ghost use Rattle.fx_strike.specs.inner.Drawing.{Sketches, due_in};
 
 use crate::basis::Basis;
@@ -17,16 +17,15 @@ use crate::hinter::FontHinter;
 use crate::opened::Opened;
 use crate::rule::rule_for;
 use crate::sketched::Sketched;
-use fx_cache::CacheReader;
 use fx_fixed::near;
-use fx_hint::{GlyphOutline, outline_with};
-use fx_outline::Outline;
-use fx_raster::{Rule, Shape};
+use fx_hint::{GlyphOutline, outline_in};
+use fx_raster::{Frame, Rule, Shape, frame_of};
 use fx_request::Refusal;
 use fx_sfnt::Font;
 use std::alloc::Global;
+use std::mem;
 
-/// Makes the outline of a glyph, scaled and hinted.
+/// Makes the outline of a glyph, scaled and hinted. Its points are put into the buffer that an outline before left.
 #[inline(always)]
 pub(crate) fn outline_made(
     alloc: Global,
@@ -39,41 +38,35 @@ pub(crate) fn outline_made(
     ensures value { GivesUnless Fails view_of_glyph_outline result
         (map_fault of_hint (outline_with (hinting_by hinter.old) opened.now.font opened.now.ppem glyph)) }
 {
-    match outline_with(alloc, hinter, &opened.font, opened.ppem, glyph) {
+    let points = mem::replace(&mut hinter.spare, Vec::new(alloc));
+    match outline_in(alloc, points, hinter, &opened.font, opened.ppem, glyph) {
         Ok(made) => Ok(made),
         Err(fault) => Err(of_hint(fault)),
     }
 }
 
-/// The outline of a glyph, scaled and hinted: from the cache if it is the next one there, else made.
-pub(crate) fn outline_at(
-    alloc: Global,
-    hinter: &mut FontHinter<'_>,
-    cache: &mut CacheReader<'_>,
-    opened: &Opened<'_>,
-    glyph: u16,
-) -> Result<GlyphOutline, Refusal>
-    requires cache { AreDue (due_in opened.now hinter.old) cache.old }
-    ensures kept { hinter.new ≡ hinter.old }
-    ensures cache { AreDue (due_in opened.now hinter.old) cache.new }
-    ensures outline { IfOk result (λ o. due_in opened.now hinter.old glyph ≡ Ok (view_of_glyph_outline o)) }
-    ensures value { GivesUnless Fails view_of_glyph_outline result
-        (map_fault of_hint (outline_with (hinting_by hinter.old) opened.now.font opened.now.ppem glyph)) }
+/// The rule by which an outline sets pixels: the drop-out control that is asked for, or that it asks for itself.
+#[inline(always)]
+fn rule_of(basis: &Basis<'_>, drawing: &GlyphOutline) -> Rule
+    ensures { result ≡ rule_for basis.now.dropout drawing.now.wish }
 {
-    match cache.take(alloc, glyph) {
-        Some(outline) => Ok(outline),
-        None => outline_made(alloc, hinter, opened, glyph),
-    }
+    rule_for(basis.dropout, drawing.wish)
 }
 
-/// The shape of an outline; `TooFar` if a point of it lies too far out, `GlyphTooLarge` if it has too many pixels.
+/// The frame of an outline; `TooFar` if a point of it lies too far out, `GlyphTooLarge` if it has too many pixels.
 #[inline(always)]
-fn shaped(outline: Outline, rule: Rule, glyph: u16) -> Result<Shape, Refusal>
-    ensures { GivesUnless Fails (λ s. s) result
-        (map_fault (of_raster glyph) (shape_of rule outline.ends.items outline.points.items)) }
+pub(crate) fn frame_at(
+    basis: &Basis<'_>,
+    glyph: u16,
+    drawing: &GlyphOutline,
+) -> Result<Option<Frame>, Refusal>
+    ensures frame { IfOk result (HasFrame (rule_for basis.now.dropout drawing.now.wish) drawing.now.outline.ends.items
+        drawing.now.outline.points.items) }
+    ensures fault { IfErr result (λ d. Fails d (map_fault (of_raster glyph) (shape_of
+        (rule_for basis.now.dropout drawing.now.wish) drawing.now.outline.ends.items drawing.now.outline.points.items))) }
 {
-    match Shape::of(outline, rule) {
-        Ok(shape) => Ok(shape),
+    match frame_of(&drawing.outline, rule_of(basis, drawing)) {
+        Ok(frame) => Ok(frame),
         Err(fault) => Err(of_raster(glyph, fault)),
     }
 }
@@ -88,19 +81,20 @@ fn thousandths_at(font: &Font<'_>, glyph: u16) -> Result<i32, Refusal>
     Ok(near(advance * 1000, i128::from(em)) as i32)
 }
 
-/// A glyph before its bits, by its outline, or the first cause why there is none: how far out the outline lies and how large it is,
-/// then its advance. Its outline sets pixels by the drop-out control that is asked for, or that it asks for itself.
+/// A glyph before its bits, by its outline and the frame of it, or the first cause why it has no advance.
 #[inline(always)]
 pub(crate) fn sketch_with(
     basis: &Basis<'_>,
     glyph: u16,
     drawing: GlyphOutline,
+    frame: Option<Frame>,
 ) -> Result<Sketched, Refusal>
+    requires { HasFrame (rule_for basis.now.dropout drawing.wish) drawing.outline.ends.items drawing.outline.points.items frame }
     ensures { (machine : Option Known) (code : ℕ) → due_in basis.now.opened machine glyph ≡ Ok (view_of_glyph_outline drawing)
         → Sketches (glyph_sketch_of (setting_with basis.now machine) code glyph) result }
 {
-    let rule = rule_for(basis.dropout, drawing.wish);
-    let shape = shaped(drawing.outline, rule, glyph)?;
+    let rule = rule_of(basis, &drawing);
+    let shape = Shape::framed(drawing.outline, rule, frame);
     let swidth = thousandths_at(&basis.opened.font, glyph)?;
     Ok(Sketched {
         shape,

@@ -10,12 +10,13 @@ ghost use Rattle.fx_strike.specs.inner.Surveying.{AreChars, IsChecked};
 
 use crate::draft::Draft;
 use crate::hinter::FontHinter;
+use crate::memo::Memo;
 use crate::tools::Tools;
 use fx_bdf::{BitGlyph, Title};
-use fx_cache::{CacheReader, OutlineCache};
+use fx_cache::CacheReader;
 use fx_fixed::Sink;
 use fx_raster::Scan;
-use fx_request::{Listener, OnRefused, Refusal, Report, rising_codes};
+use fx_request::{Listener, OnRefused, Refusal, Report};
 
 impl<'a, S: Scan> Tools<'a, S> {
     /// The glyph of a code point; none if the font lacks it.
@@ -57,9 +58,9 @@ impl<'a, S: Scan> Tools<'a, S> {
         ensures heard { Told L.Hears listener.old listener.new (notices_of
             (plan_with (setting_with self.now.basis hinter.old) (titled title.now) chars.now refused)) result }
     {
-        let codes = rising_codes(self.alloc, chars)?;
-        let mut cache = OutlineCache::new(self.alloc, codes.len());
-        let survey = self.survey_codes(refused, hinter, &codes, &mut cache, listener)?;
+        let characters = self.characters(chars)?;
+        let mut memo = Memo::new(self.alloc, characters.mapped.len());
+        let survey = self.survey_mapped(refused, hinter, &characters, &mut memo, listener)?;
         let ppem = self.basis.opened.ppem;
         let header = survey.header(ppem);
         let properties = title.all_properties(self.alloc, ppem.pixels(), survey.summary)?;
@@ -67,11 +68,11 @@ impl<'a, S: Scan> Tools<'a, S> {
             name: title.name,
             properties: &properties,
             header,
-            codes: &codes,
+            mapped: &characters.mapped,
             refused,
         };
-        let mut kept = cache.reader();
-        self.write_text(hinter, &mut kept, &draft, out)?;
+        let mut reader = memo.reader();
+        self.write_text(hinter, &mut reader, &draft, out)?;
         Ok(survey.report)
     }
 }

@@ -12,6 +12,7 @@ use Rattle.std.proofs.lemmas.List.Elements.{All-head, All-tail}
 use Rattle.std.proofs.lemmas.List.FromFn.{length-range_with_len}
 use Rattle.std.proofs.lemmas.List.Concat.{flat_map-append}
 use Rattle.std.proofs.lemmas.List.Sums.{sum_by-cons, sum_by_push}
+use Rattle.std.proofs.lemmas.Bool.{ltb-false, or_parts}
 use Rattle.std.proofs.lemmas.Bool.Decides.{nat_tests}
 use Rattle.fx_fixed.specs.Chain.{◌>>=◌, refuse}
 use Rattle.fx_sfnt.specs.Collections.{FontFileView}
@@ -24,7 +25,6 @@ use Rattle.fx_request.specs.Limits.{max_characters, max_code}
 use Rattle.fx_strike.specs.Faults.{Fails}
 use Rattle.fx_strike.specs.Strike.{Sketch, Setting, Opening, checked_chars, opened_many_of, setting_for, setting_in, one_with}
 use Rattle.fx_strike.specs.Headline.{IsOneOf, Late, character_with}
-use Rattle.fx_strike.proofs.Seeing.{code_fits}
 use Rattle.mkstrike_c.specs.declared.gathered.Drawn.{Drawn}
 use Rattle.mkstrike_c.specs.declared.gathered.Placed.{Placed}
 use Rattle.mkstrike_c.specs.declared.gathered.Wanted.{Wanted}
@@ -215,6 +215,12 @@ one_checked setting c h = by_test (nat_lt max_code c) refl
         → (refuse (b || false) BadChars >>= λ _. one_with setting c) ≡ one_with setting c
     by_test false e = refl
     by_test true e = absurd (let past : max_code < c = grind (arith, nat_tests) in omega (arith, past, h))
+
+-- a code point of the list is within the limit
+code_fits : (codes : List ℕ) (i : ℕ) → list_any (nat_lt max_code) codes ≡ false → i < length codes → get_or codes i 0 ≤ max_code
+code_fits [] i h g = absurd (omega arith)
+code_fits (c ∷ cs) zero h g = ltb-false max_code c (or_parts (nat_lt max_code c) (list_any (nat_lt max_code) cs) h).0
+code_fits (c ∷ cs) (suc i) h g = code_fits cs i (or_parts (nat_lt max_code c) (list_any (nat_lt max_code) cs) h).1 (omega arith)
 
 -- the character at a place of the list
 at_checked : (setting : Setting) (chars : List ℕ) (i : ℕ) → checked_chars chars ≡ Ok tt → i < length chars

@@ -114,7 +114,7 @@ fn closed(alloc: Global, curves: &[Curve], frame: Corner, by: By) -> Result<Bitm
     )?;
     match by {
         By::Lower => close_gaps(&pieces, &notes, &mut bitmap, &mut tally),
-        By::Nearer => bitmap = close_gaps_nearer(alloc, &pieces, &notes, &bitmap, &mut tally)?,
+        By::Nearer => bitmap = close_gaps_nearer(alloc, &pieces, &notes, bitmap, &mut tally)?,
     }
     Ok(bitmap)
 }

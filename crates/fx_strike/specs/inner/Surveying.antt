@@ -1,6 +1,6 @@
--- What is seen of code points so far, before the first byte of a strike is written.
-use Rattle.std.specs.Prelude.{◌≡◌, neg_ℤ, pos, ℕ, ◌+◌, ◌*◌, ◌^◌, ◌≤◌, nat_lt, not, false, List, [], length, map, filter, Option, Result, Ok, Err}
-use Rattle.std.specs.List.{sum_by, count_by, flat_map, list_any}
+-- What is seen of characters so far, before the first byte of a strike is written.
+use Rattle.std.specs.Prelude.{◌≡◌, neg_ℤ, pos, ℕ, ◌+◌, ◌*◌, ◌^◌, ◌≤◌, nat_lt, false, List, [], length, map, Option, Result, Ok, Err}
+use Rattle.std.specs.List.{sum_by, flat_map, list_any}
 use Rattle.fx_fixed.specs.Numbers.{counted, near_of}
 use Rattle.fx_raster.specs.declared.region.Region.{Region}
 use Rattle.fx_bdf.specs.Glyphs.{Box, Glyph, IsPlaced, no_box, joined, bounds_of}
@@ -20,10 +20,12 @@ use Rattle.fx_request.specs.Limits.{max_characters, max_code}
 use Rattle.fx_request.specs.declared.notice.Notice.{Notice}
 use Rattle.fx_request.specs.declared.request.OnRefused.{OnRefused}
 use Rattle.fx_strike.specs.Strike.{Sketch, Setting, Plan, Fate, drawn, unhinted, left_out, IsGlyphOf, AreGlyphsOf, sketches_in}
-use Rattle.fx_strike.specs.Strike.{notices_in, fate_of, fates_of, is_missing, pixels, plan_with, prelude_by, wish_in}
+use Rattle.fx_strike.specs.Strike.{notices_in, pixels, plan_with, prelude_by, wish_in}
 use Rattle.fx_strike.specs.Headline.{Surveyed}
 use Rattle.fx_strike.specs.Title.{Title}
 use Rattle.fx_strike.specs.inner.Gathering.{IsGatheredOf, gathered_with}
+use Rattle.fx_strike.specs.declared.characters.Mapped.{Mapped}
+use Rattle.fx_strike.specs.inner.Mapping.{fates_in, mapped_fate_of}
 
 -- characters within their limits
 pub record AreChars (chars : List ℕ) : Type 0 where
@@ -37,24 +39,22 @@ pub record IsChecked (title : Title) : Type 0 where
 
 -- an advance has at most 2 ^ 25 pixels
 abbrev pub IsNarrow : Seen → Type 0
-IsNarrow seen = seen.gathered.total ≤ 2 ^ 25 * seen.report.glyphs
+IsNarrow seen = seen.gathered.total ≤ 2 ^ 25 * seen.glyphs
 
 -- no character
 pub record IsEmpty (new : Seen) : Type 0 where
   pub bounds : new.bounds ≡ no_box
   pub gathered : IsGatheredOf [] new.gathered
-  pub glyphs : new.report.glyphs ≡ 0
-  pub missing : new.report.missing ≡ 0
-  pub usage : new.report.usage ≡ no_usage
+  pub glyphs : new.glyphs ≡ 0
+  pub usage : new.usage ≡ no_usage
 
 -- one character more: its code point, the box of the glyphs up to it, its advance, and what its programs used up
 pub record Adds (old new : Seen) (code : ℕ) (bounds : Box) (sketched : Sketched) : Type 0 where
   pub bounds_is : new.bounds ≡ bounds
   pub gathered : new.gathered ≡ gathered_with old.gathered code (near_of sketched.advance (pos 64))
   pub narrow : IsNarrow new
-  pub glyphs : new.report.glyphs ≡ old.report.glyphs + 1
-  pub missing : new.report.missing ≡ old.report.missing
-  pub usage : new.report.usage ≡ usage_with old.report.usage sketched.usage
+  pub glyphs : new.glyphs ≡ old.glyphs + 1
+  pub usage : new.usage ≡ usage_with old.usage sketched.usage
 
 -- the pixels of a box
 abbrev pub region_of : Box → Region
@@ -73,9 +73,8 @@ pub record Has (sketch : Sketch) (old new : Seen) : Type 0 where
   pub placed : IsPlaced new.bounds
   pub gathered : new.gathered ≡ gathered_with old.gathered sketch.code sketch.dwidth
   pub narrow : IsNarrow new
-  pub glyphs : new.report.glyphs ≡ old.report.glyphs + 1
-  pub missing : new.report.missing ≡ old.report.missing
-  pub usage : new.report.usage ≡ usage_with old.report.usage sketch.usage
+  pub glyphs : new.glyphs ≡ old.glyphs + 1
+  pub usage : new.usage ≡ usage_with old.usage sketch.usage
 
 -- a character with this fate was seen
 abbrev pub HasFate : Fate → Seen → Seen → Type 0
@@ -88,26 +87,25 @@ abbrev pub SeesOne : Result Fate Refusal → Seen → Seen → Result (Unit {0})
 SeesOne due old new (Ok _) = (fate : Fate) × (due ≡ Ok fate) × HasFate fate old new
 SeesOne due old new (Err refusal) = Fails refusal due
 
--- these code points were seen
-pub record Holds (setting : Setting) (refused : OnRefused) (codes : List ℕ) (seen : Seen) : Type 0 where
+-- these characters were seen
+pub record Holds (setting : Setting) (refused : OnRefused) (mapped : List Mapped) (seen : Seen) : Type 0 where
   pub fates : List Fate
   pub glyphs : List Glyph
-  pub planned : fates_of setting refused codes ≡ Ok fates
+  pub planned : fates_in setting refused mapped ≡ Ok fates
   pub drawn : AreGlyphsOf (flat_map sketches_in fates) glyphs
   pub bounds : seen.bounds ≡ bounds_of (map (λ g. g.box) glyphs)
   pub placed : IsPlaced seen.bounds
   pub gathered : IsGatheredOf glyphs seen.gathered
   pub narrow : IsNarrow seen
-  pub count : seen.report.glyphs ≡ length (flat_map sketches_in fates)
-  pub missing : seen.report.missing ≡ count_by (is_missing setting) codes
-  pub strays : seen.report.usage.strays ≡ counted (sum_by (λ s. s.usage.strays) (flat_map sketches_in fates))
-  pub steps : seen.report.usage.steps ≡ counted (sum_by (λ s. s.usage.steps) (flat_map sketches_in fates))
-  pub each : seen.report.glyphs + seen.report.missing ≤ length codes
+  pub count : seen.glyphs ≡ length (flat_map sketches_in fates)
+  pub strays : seen.usage.strays ≡ counted (sum_by (λ s. s.usage.strays) (flat_map sketches_in fates))
+  pub steps : seen.usage.steps ≡ counted (sum_by (λ s. s.usage.steps) (flat_map sketches_in fates))
+  pub each : seen.glyphs ≤ length mapped
 
 -- they are seen if what becomes of them is due; a refusal is one that is due, or out of memory
-abbrev pub Sees : Setting → OnRefused → List ℕ → Result Seen Refusal → Type 0
-Sees setting refused codes (Ok seen) = Holds setting refused codes seen
-Sees setting refused codes (Err refusal) = Fails refusal (fates_of setting refused codes)
+abbrev pub Sees : Setting → OnRefused → List Mapped → Result Seen Refusal → Type 0
+Sees setting refused mapped (Ok seen) = Holds setting refused mapped seen
+Sees setting refused mapped (Err refusal) = Fails refusal (fates_in setting refused mapped)
 
 -- ---- what is told
 
@@ -115,25 +113,25 @@ abbrev pub notices_by : Result Fate Refusal → List Notice
 notices_by (Ok fate) = notices_in fate
 notices_by (Err cause) = []
 
--- all that there is to tell of code points
-abbrev pub notices_about : Setting → OnRefused → List ℕ → List Notice
-notices_about setting refused codes =
-    flat_map (λ c. notices_by (fate_of setting refused c)) (filter (λ c. not (is_missing setting c)) codes)
+-- all that there is to tell of characters
+abbrev pub notices_about : Setting → OnRefused → List Mapped → List Notice
+notices_about setting refused mapped = flat_map (λ m. notices_by (mapped_fate_of setting refused m)) mapped
 
 -- ---- a survey
 
--- the survey of the code points that were seen, with what `fpgm` and `prep` used up and asked for, and what the glyphs settle
-abbrev pub survey_from : Option Known → Opened → Seen → Summary → Survey
-survey_from machine opened seen summary = record {
+-- the survey of the characters that were seen, with the number of those that the font lacks, what `fpgm` and `prep` used up and
+-- asked for, and what the glyphs settle
+abbrev pub survey_from : Option Known → Opened → Seen → ℕ → Summary → Survey
+survey_from machine opened seen missing summary = record {
   bounds = seen.bounds;
   summary = summary;
   wish = wish_in machine;
   ascent = pixels opened.font.hhea.ascender opened.ppem opened.font.head.units_per_em;
   descent = pixels (neg_ℤ opened.font.hhea.descender) opened.ppem opened.font.head.units_per_em;
   report = record {
-    glyphs = seen.report.glyphs;
-    missing = seen.report.missing;
-    usage = usage_with (prelude_by machine) seen.report.usage;
+    glyphs = seen.glyphs;
+    missing = missing;
+    usage = usage_with (prelude_by machine) seen.usage;
   };
 }
 

@@ -1,33 +1,39 @@
 -- What is written of a strike.
-use Rattle.std.specs.Prelude.{◌≡◌, ℕ, ◌+◌, ◌-◌, ◌*◌, ◌^◌, ◌<◌, Bool, true, false, List, [], ◌++◌, length, take, slice_index, slice_index_or}
+use Rattle.std.specs.Prelude.{◌≡◌, ℕ, ◌+◌, ◌-◌, ◌*◌, ◌^◌, ◌<◌, nat_lt, false, List, [], ◌++◌, length, take, slice_index_or}
 use Rattle.std.specs.Prelude.{Result, Ok, Err}
 use Rattle.std.specs.Io.KnownBytes.{Appends}
-use Rattle.std.specs.List.{flat_map}
+use Rattle.std.specs.List.{flat_map, list_any}
 use Rattle.fx_fixed.specs.Texts.{TextView, Adds, after, length_of}
 use Rattle.fx_bdf.specs.Glyphs.{Glyph}
 use Rattle.fx_bdf.specs.Text.{glyph_text, end_text, longest_header, longest_glyph}
-use Rattle.fx_request.specs.Limits.{max_characters}
+use Rattle.fx_request.specs.Limits.{max_characters, max_code}
 use Rattle.fx_request.specs.declared.refusal.Refusal.{Refusal}
 use Rattle.fx_request.specs.declared.refusal.Refusal.TheVariants.{WriteFailed, OutOfMemory}
 use Rattle.fx_fixed.specs.Changes.{Change}
 use Rattle.fx_request.specs.declared.request.OnRefused.{OnRefused}
-use Rattle.fx_strike.specs.Strike.{Setting, Fate, AreGlyphsOf, sketches_in, fate_of, is_missing}
+use Rattle.fx_strike.specs.declared.characters.Mapped.{Mapped}
+use Rattle.fx_strike.specs.inner.Mapping.{mapped_in}
+use Rattle.fx_strike.specs.Strike.{Setting, Fate, AreGlyphsOf, sketches_in, glyph_fate_of}
 
 -- ---- lines
 
--- the lines of a code point: none if the font lacks it, else those of its glyph, if it is not left out
-abbrev pub AreLinesBy : Bool → Result Fate Refusal → List ℕ → Type 0
-AreLinesBy true due text = text ≡ []
-AreLinesBy false due text = (fate : Fate) × (glyphs : List Glyph) × (due ≡ Ok fate) × AreGlyphsOf (sketches_in fate) glyphs
-    × (text ≡ flat_map glyph_text glyphs)
+-- the lines of a character: those of its glyph, if it is not left out
+pub record AreLinesOf (setting : Setting) (refused : OnRefused) (code glyph : ℕ) (text : List ℕ) : Type 0 where
+  pub fate : Fate
+  pub glyphs : List Glyph
+  pub is : glyph_fate_of setting refused code glyph ≡ Ok fate
+  pub drawn : AreGlyphsOf (sketches_in fate) glyphs
+  pub text_is : text ≡ flat_map glyph_text glyphs
 
-pub record AreLinesOf (setting : Setting) (refused : OnRefused) (code : ℕ) (text : List ℕ) : Type 0 where
-  pub lines : AreLinesBy (is_missing setting code) (fate_of setting refused code) text
+-- the lines of characters, a piece of text for each
+pub record AreAllLinesOf (setting : Setting) (refused : OnRefused) (mapped : List Mapped) (pieces : List (List ℕ)) : Type 0 where
+  pub count : length pieces ≡ length mapped
+  pub each : (i : ℕ) → i < length mapped
+      → AreLinesOf setting refused (mapped_in mapped i).code (mapped_in mapped i).glyph (slice_index_or pieces i [])
 
--- the lines of code points, a piece of text for each
-pub record AreAllLinesOf (setting : Setting) (refused : OnRefused) (codes : List ℕ) (pieces : List (List ℕ)) : Type 0 where
-  pub count : length pieces ≡ length codes
-  pub each : (i : ℕ) → i < length codes → AreLinesOf setting refused (slice_index codes i) (slice_index_or pieces i [])
+-- no code point of characters is past the limit
+abbrev pub AreSmall : List Mapped → Type 0
+AreSmall mapped = list_any (λ m. nat_lt max_code m.code) mapped ≡ false
 
 -- ---- as much of a text as was written
 

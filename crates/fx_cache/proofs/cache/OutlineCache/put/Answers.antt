@@ -3,6 +3,6 @@ use Rattle.fx_cache.proofs.DueWords.{put_or_not}
 use Rattle.fx_cache.proofs.cache.OutlineCache.put.Goals as goal
 
 pub returns : goal.returns
-returns c = λ due d i. put_or_not due c.put_words.result c.self.inside.words.items c.put_words.new.words.items c.args.glyph
-    (view_of_glyph_outline c.args.made.now) c.put_words.ensures.put c.put_words.ensures.fit c.put_words.ensures.same
-    (rw c.self.view_is d) i
+returns c = rw c.self.view_is at (put_or_not c.put_words.result c.self.inside.words.items c.put_words.new.words.items
+    (record { glyph = c.args.glyph; outline = view_of_glyph_outline c.args.made.now; frame = c.args.frame })
+    c.put_words.ensures.put c.put_words.ensures.fit c.put_words.ensures.same)

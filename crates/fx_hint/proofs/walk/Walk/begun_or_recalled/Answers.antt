@@ -1,17 +1,28 @@
-use Rattle.std.proofs.Common.{sym}
+use Rattle.std.proofs.Common.{sym, Ok, Err}
+use Rattle.std.proofs.lemmas.Result.{err_from_is_err_and}
 use Rattle.fx_hint.proofs.KeptGlyphs.{begun_again}
 use Rattle.fx_hint.proofs.RunLaws.{recalls}
 use Rattle.fx_hint.proofs.walk.Walk.begun_or_recalled.Goals as goal
 
-pub returns-in-Some-clause-value : goal.returns-in-Some-clause-value
-returns-in-Some-clause-value g c =
-    let e = begun_again (g.H.Hinter.hinting c.args.hinter.now) c.args.self.now.font.now c.args.self.now.scale.now
-    c.args.self.now.root c.args.component c.args.g c.in_ok-metrics.metrics c.in_ok-bytes.bytes.now c.in-Some.recalled
-    c.in-Some.usage
-    c.args.count.now c.law_keeps_shape.ensures (sym c.in_ok-metrics.ensures.value)
-    (sym c.in_ok-bytes.ensures) c.in-Some.ensures.value in
-    rw e at (c.recalled.ensures.value c.args.component c.args.g)
+pub returns-in_err-recalled-clause-leads : goal.returns-in_err-recalled-clause-leads
+returns-in_err-recalled-clause-leads g c =
+    let p = err_from_is_err_and c.from_residual-in_err-recalled.result c.from_residual-in_err-recalled.ensures.1 in
+    rw (p.1, p.2) (recalls {A = Unit {0}} g.H.Hinter.Leads _ (Err c.in_err-recalled.field-0.0) _ _ _ _ _ _ _
+    (g.met.H.Hinter.leads_same _) c.in-Some.ensures.leads)
+
+pub returns-in_err-recalled-clause-value : goal.returns-in_err-recalled-clause-value
+returns-in_err-recalled-clause-value g c =
+    let p = err_from_is_err_and c.from_residual-in_err-recalled.result c.from_residual-in_err-recalled.ensures.1 in
+    let e = begun_again _ _ _ c.args.self.now.root c.args.component _ _ _ _ _ c.args.count.now c.law_keeps_shape.ensures
+    (sym c.in_ok-metrics.ensures.value) (sym c.in_ok-bytes.ensures) c.in-Some.ensures.value in
+    rw (p.1, p.2) (rw e at c.in_err-recalled.ensures.value)
 
 pub returns-in-Some-clause-leads : goal.returns-in-Some-clause-leads
 returns-in-Some-clause-leads g c =
-    recalls g.H.Hinter.Leads _ _ _ _ _ _ _ _ _ (g.met.H.Hinter.leads_same _) c.in-Some.ensures.leads
+    recalls {A = Unit {0}} g.H.Hinter.Leads _ (Ok tt) _ _ _ _ _ _ _ (g.met.H.Hinter.leads_same _) c.in-Some.ensures.leads
+
+pub returns-in-Some-clause-value : goal.returns-in-Some-clause-value
+returns-in-Some-clause-value g c =
+    let e = begun_again _ _ _ c.args.self.now.root c.args.component _ _ _ _ _ c.args.count.now c.law_keeps_shape.ensures
+    (sym c.in_ok-metrics.ensures.value) (sym c.in_ok-bytes.ensures) c.in-Some.ensures.value in
+    rw e at c.in_ok-recalled.ensures.value

@@ -9,8 +9,8 @@ returns-in_err-fate-clause-seen g c =
 pub returns-clause-seen : goal.returns-clause-seen
 returns-clause-seen g c =
     let f = c.in_ok-fate.ensures _ c.requires.cause in
-    seen_fate c.args.code c.args.seen.now c.see_fate.new.seen c.in_ok-fate.fate c.see_fate.result f.0 f.1 f.2
-    (fate_code _ c.args.refused c.args.code _ f.0 f.1)
+    seen_fate c.args.m.code c.args.seen.now c.see_fate.new.seen c.in_ok-fate.fate c.see_fate.result f.0 f.1 f.2
+    (fate_code _ c.args.refused c.args.m.code _ f.0 f.1)
     c.see_fate.ensures.seen c.see_fate.ensures.fault
 
 pub returns-clause-heard : goal.returns-clause-heard

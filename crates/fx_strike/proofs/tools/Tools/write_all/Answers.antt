@@ -6,11 +6,10 @@ use Rattle.fx_strike.proofs.Lines.{adds_part}
 use Rattle.fx_strike.proofs.Seeing.{code_fits}
 use Rattle.fx_strike.proofs.tools.Tools.write_all.Goals as goal
 
-pub codes-init : goal.codes-init
-codes-init g c = record {
+pub mapped-init : goal.mapped-init
+mapped-init g c = record {
   kept = refl;
-  map = c.cursor-map.ensures;
-  cache = c.requires.cache;
+  memo = c.requires.memo;
   same = refl;
   quiet = refl;
   few = omega arith;
@@ -18,32 +17,30 @@ codes-init g c = record {
 }
 
 pub write_one-requires-clause-code : goal.write_one-requires-clause-code
-write_one-requires-clause-code g c = code_fits c.args.codes.now c.codes.code-index c.requires.small c.codes-test.true
-
-pub write_one-requires-clause-glyph : goal.write_one-requires-clause-glyph
-write_one-requires-clause-glyph g c = rw c.codes.invariant.map at c.glyph-glyph.ensures.value
+write_one-requires-clause-code g c =
+    code_fits c.args.mapped.now c.mapped.m-index c.requires.small c.mapped-test.true
 
 pub returns-in_err-write_one-clause-lines : goal.returns-in_err-write_one-clause-lines
 returns-in_err-write_one-clause-lines g c lines h =
-    let w = rw c.codes.invariant.kept at (c.in_err-write_one.ensures).lines in
+    let w = rw c.mapped.invariant.kept at (c.in_err-write_one.ensures).lines in
     rw (came c.from_residual.result c.from_residual.ensures.1)
-    (adds_part _ (parts (λ (t : List ℕ). t) lines c.codes.code-index [] (omega (arith, h.count, c.codes-test.true)))
-    (c.codes.invariant.lines lines h) (w _ (h.each _ c.codes-test.true)))
+    (adds_part _ (parts (λ (t : List ℕ). t) lines c.mapped.m-index [] (omega (arith, h.count, c.mapped-test.true)))
+    (c.mapped.invariant.lines lines h) (w _ (h.each _ c.mapped-test.true)))
 
-pub codes-preserved : goal.codes-preserved
-codes-preserved g c =
-    let w = rw c.codes.invariant.kept at (c.in_ok-write_one.ensures).lines in
+pub mapped-preserved : goal.mapped-preserved
+mapped-preserved g c =
+    let w = rw c.mapped.invariant.kept at (c.in_ok-write_one.ensures).lines in
     record {
-      kept = (c.in_ok-write_one.ensures).kept ∙ c.codes.invariant.kept;
-      map = c.glyph-glyph.ensures.kept ∙ c.codes.invariant.map;
-      cache = rw c.codes.invariant.kept at (c.in_ok-write_one.ensures).cache;
-      same = (c.in_ok-write_one.ensures).same ∙ c.codes.invariant.same;
-      quiet = (c.in_ok-write_one.ensures).quiet ∙ c.codes.invariant.quiet;
-      few = omega (arith, (c.in_ok-write_one.ensures).short, c.codes.invariant.few);
+      kept = (c.in_ok-write_one.ensures).kept ∙ c.mapped.invariant.kept;
+      memo = rw c.mapped.invariant.kept at (c.in_ok-write_one.ensures).memo;
+      same = (c.in_ok-write_one.ensures).same ∙ c.mapped.invariant.same;
+      quiet = (c.in_ok-write_one.ensures).quiet ∙ c.mapped.invariant.quiet;
+      few = omega (arith, (c.in_ok-write_one.ensures).short, c.mapped.invariant.few);
       lines = λ lines h.
-          adds_text (parts_more (λ (t : List ℕ). t) lines c.codes.code-index [] (omega (arith, h.count, c.codes-test.true)))
-          (adds_then (c.codes.invariant.lines lines h) (w _ (h.each _ c.codes-test.true)).outcome);
+          adds_text (parts_more (λ (t : List ℕ). t) lines c.mapped.m-index [] (omega (arith, h.count, c.mapped-test.true)))
+          (adds_then (c.mapped.invariant.lines lines h)
+          (w _ (h.each _ c.mapped-test.true)).outcome);
     }
 
-pub write_one-requires-clause-cache : goal.write_one-requires-clause-cache
-write_one-requires-clause-cache g c = rw c.codes.invariant.kept c.codes.invariant.cache
+pub write_one-requires-clause-memo : goal.write_one-requires-clause-memo
+write_one-requires-clause-memo g c = rw c.mapped.invariant.kept c.mapped.invariant.memo
