@@ -1,6 +1,7 @@
 //! Unit vectors.
 
-ghost use Rattle.std.specs.Prelude.{◌≡◌, ◌↔◌, IsTrue, ◌^◌, ◌+ℤ◌, ◌*ℤ◌, unsigned_abs, ◌≤◌};
+ghost use Rattle.std.specs.Int.{cast_unsigned, w16};
+ghost use Rattle.std.specs.Prelude.{◌≡◌, ◌↔◌, IsTrue, ◌^◌, ◌+◌, ◌*◌, ◌+ℤ◌, ◌*ℤ◌, unsigned_abs, ◌≤◌};
 ghost use Rattle.fx_fixed.specs.Ranges.{IsWithin};
 ghost use Rattle.fx_fixed.specs.Unit.{unit_of};
 ghost use Rattle.fx_gstate.specs.Vectors.{axis_of, projection_of, line_of, low_word, words_of, turned_of, part_of, place_along};
@@ -29,6 +30,20 @@ impl Model for Vector {
     ghost inverse = { λ v. record { x = v.0; y = v.1 } };
 }
 
+/// A pair of coordinates in one number.
+fn packed(x: i16, y: i16) -> u32
+    ensures { result ≡ cast_unsigned w16 x + 65536 * cast_unsigned w16 y }
+{
+    u32::from(x.cast_unsigned()) + 65536 * u32::from(y.cast_unsigned())
+}
+
+/// Whether two pairs of coordinates are the same. Packed they are compared at once: rows ask this of vectors all the time.
+fn same_pair(x: i16, y: i16, other_x: i16, other_y: i16) -> bool
+    ensures { IsTrue result ↔ ((x ≡ other_x) × (y ≡ other_y)) }
+{
+    packed(x, y) == packed(other_x, other_y)
+}
+
 impl Vector {
     /// Its coordinate along the x axis.
     pub fn x(self) -> F2
@@ -51,8 +66,8 @@ impl Vector {
         ensures { IsTrue result ↔ (self ≡ axis_of axis) }
     {
         match axis {
-            Axis::X => self.x == F2::ONE && self.y == F2(0),
-            Axis::Y => self.x == F2(0) && self.y == F2::ONE,
+            Axis::X => same_pair(self.x.0, self.y.0, F2::ONE.0, 0),
+            Axis::Y => same_pair(self.x.0, self.y.0, 0, F2::ONE.0),
         }
     }
 

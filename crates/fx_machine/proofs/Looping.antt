@@ -1,6 +1,6 @@
 -- The loop's exits and its step.
 -- It serves the run of a program.
-use Rattle.std.proofs.Common.{◌≡◌, ℕ, suc, ◌+◌, ◌-◌, ◌<◌, List, [], ◌∷◌, length, reverse, Result, Ok, Err, inl, inr, refl, ◌∙◌}
+use Rattle.std.proofs.Common.{◌≡◌, ◌≢◌, ◌≤◌, ℕ, suc, ◌+◌, ◌-◌, ◌<◌, List, [], ◌∷◌, length, reverse, Result, Ok, Err, inl, inr, refl, ◌∙◌}
 use Rattle.std.proofs.Common.{arith}
 use Rattle.std.proofs.lemmas.Bool.{eq-eqb, cases_lt, lt-ltb, le-ltb}
 use Rattle.std.proofs.lemmas.Bool.Decides.{eqb_tells, leb_tells}
@@ -8,7 +8,7 @@ use Rattle.std.proofs.lemmas.List.{length-reverse}
 use Rattle.fx_code.specs.Chain.{next_address}
 use Rattle.fx_machine.specs.declared.program.Program.{Program}
 use Rattle.fx_machine.specs.declared.halt.Cause.{Cause}
-use Rattle.fx_machine.specs.declared.halt.Cause.TheVariants.{StepLimit, StrayEnd}
+use Rattle.fx_machine.specs.declared.halt.Cause.TheVariants.{StepLimit, StrayEnd, CodeEnd}
 use Rattle.fx_machine.specs.declared.frames.Frame.{Frame}
 use Rattle.fx_machine.specs.declared.state.State.{State}
 use Rattle.fx_machine.specs.declared.halt.Halt.{Halt}
@@ -21,14 +21,15 @@ use Rattle.fx_machine.specs.Machine.{Config, config, Move, Finishes, Stops, Move
 use Rattle.fx_machine.specs.Table.{row_at, row_in, settled}
 use Rattle.fx_machine.specs.Configs.{answered, halt_at}
 use Rattle.fx_machine.proofs.Steps.{go_none, go_one, go_finishes, Takes}
+use Rattle.fx_machine.specs.Events.{steps_from}
+use Rattle.fx_machine.proofs.Reading.{row_cut}
 use Rattle.fx_machine.proofs.Stepping.{none_left, none_after_end, none_after_halt, left_events, no_events}
 
-module _ (texts : Program → List ℕ) (g : ℕ) (start : Program) (limit : ℕ) (first now : State) (n : ℕ) (items : List Frame)
-    (w : Program) (p : ℕ)
-    (h : answer_of (row_at texts) limit start first ≡ answer_from (row_at texts) (limit - n) n (config (reverse items) w p now))
+module _ (texts : Program → List ℕ) (g : ℕ) (start : Program) (limit n : ℕ) (items : List Frame) (w : Program) (p : ℕ) (now : State)
   where
-    abbrev Due : Result (ℕ × State) Halt
-    Due = answered texts g start (answer_of (row_at texts) limit start first)
+    -- what is answered from here
+    abbrev From : Result (ℕ × State) Halt
+    From = answered texts g start (answer_from (row_at texts) (limit - n) n (config (reverse items) w p now))
 
     at_end : p ≡ length (texts w) → row_at texts w p now ≡ Ends
     unfolding row_in
@@ -46,21 +47,25 @@ module _ (texts : Program → List ℕ) (g : ℕ) (start : Program) (limit : ℕ
     some_calls [] z = absurd (omega arith)
     some_calls (g ∷ K) z = refl
 
-    pub finished_here : p ≡ length (texts w) → length items ≡ 0 → Ok (n, now) ≡ Due
+    pub finished_here : p ≡ length (texts w) → length items ≡ 0 → Ok (n, now) ≡ From
     finished_here e z =
         let t : Takes (row_at texts) (reverse items) w p now Finishes =
         record { is = rw (at_end e) (no_calls (reverse items) (rw length-reverse z)) } in
-        rw (h, go_finishes (row_at texts) (limit - n) n (reverse items) w p now t) refl
+        rw (go_finishes (row_at texts) (limit - n) n (reverse items) w p now t) refl
 
-    pub halted_here : (cause : Cause) → n < limit → moved_by (row_at texts w p now) (reverse items) w ≡ Stops cause
-        → Err (halt_at texts g start w p cause) ≡ Due
-    halted_here cause lt m =
+    pub halted_from : (cause : Cause) → n < limit → moved_by (row_at texts w p now) (reverse items) w ≡ Stops cause
+        → Err (halt_at texts g start w p cause) ≡ From
+    halted_from cause lt m =
         let e : limit - n ≡ suc (limit - suc n) = omega arith in
-        rw (h, e, go_one (row_at texts) (limit - suc n) n (reverse items) w p now (Stops cause) (record { is = m })) refl
+        rw (e, go_one (row_at texts) (limit - suc n) n (reverse items) w p now (Stops cause) (record { is = m })) refl
 
     pub stray_here : n < limit → p ≡ length (texts w) → 0 < length items
-        → Err (halt_at texts g start w p StrayEnd) ≡ Due
-    stray_here lt e z = halted_here StrayEnd lt (rw (at_end e) (some_calls (reverse items) (rw length-reverse z)))
+        → Err (halt_at texts g start w p StrayEnd) ≡ From
+    stray_here lt e z = halted_from StrayEnd lt (rw (at_end e) (some_calls (reverse items) (rw length-reverse z)))
+
+    -- past the end the bytes are cut
+    pub cut_here : n < limit → p ≢ length (texts w) → length (texts w) ≤ p → Err (halt_at texts g start w p CodeEnd) ≡ From
+    cut_here lt apart past = halted_from CodeEnd lt (rw (← row_cut w p now (texts w) apart past) refl)
 
     -- what comes of an instruction that is there is not the end
     not_finished : (r : Result (Action × State) Cause) (K : List Frame) → moved_by (settled r) K w ≡ Finishes → ⊥
@@ -89,16 +94,56 @@ module _ (texts : Program → List ℕ) (g : ℕ) (start : Program) (limit : ℕ
       ]
     ]
 
-    pub limit_here : n ≡ limit → (p ≡ length (texts w) → length items ≡ 0 → ⊥)
-        → Err (halt_at texts g start w p StepLimit) ≡ Due
-    limit_here e none =
+    pub limit_from : n ≡ limit → (p ≡ length (texts w) → length items ≡ 0 → ⊥)
+        → Err (halt_at texts g start w p StepLimit) ≡ From
+    limit_from e none =
         let z : limit - n ≡ 0 = omega arith in
         rw (
-          h,
           z,
           limit_by (reverse items) (moved_by (row_at texts w p now) (reverse items) w) refl
               (λ f. let x = finishes_only (reverse items) f in none x.0 (rw length-reverse at x.1)),
         ) refl
+
+    -- ---- what is left for a watcher
+
+    abbrev Nothing : Type 0
+    Nothing = left_events texts g (limit - n) (config (reverse items) w p now) ≡ []
+
+    unseen_by : (K : List Frame) → row_at texts w p now ≡ Ends → steps_from (row_at texts) (limit - n) (config K w p now) ≡ []
+    unseen_by [] e = none_after_end (row_at texts) (limit - n) [] w p now (rw e refl)
+    unseen_by (f ∷ K) e = none_after_halt (row_at texts) (limit - n) (f ∷ K) w p now StrayEnd (rw e refl)
+
+    pub unseen_halt : (cause : Cause) → moved_by (row_at texts w p now) (reverse items) w ≡ Stops cause → Nothing
+    unseen_halt cause m = no_events texts g (limit - n) (config (reverse items) w p now)
+        (none_after_halt (row_at texts) (limit - n) (reverse items) w p now cause m)
+
+    -- nothing is left at the end of a program or past it
+    pub unseen_past : length (texts w) ≤ p → Nothing
+    unseen_past past = elim (eqb_tells p (length (texts w))) [
+      | inl x ↦ no_events texts g (limit - n) (config (reverse items) w p now) (unseen_by (reverse items) (at_end x.1))
+      | inr x ↦ unseen_halt CodeEnd (rw (← row_cut w p now (texts w) x.1 past) refl)
+    ]
+
+    pub unseen_limit : n ≡ limit → Nothing
+    unseen_limit e =
+        let z : limit - n ≡ 0 = omega arith in
+        no_events texts g (limit - n) (config (reverse items) w p now) (rw z (none_left (row_at texts) (reverse items) w p now))
+
+-- ---- what is answered from here is due
+
+module _ (texts : Program → List ℕ) (g : ℕ) (start : Program) (limit : ℕ) (first now : State) (n : ℕ) (items : List Frame)
+    (w : Program) (p : ℕ)
+    (h : answer_of (row_at texts) limit start first ≡ answer_from (row_at texts) (limit - n) n (config (reverse items) w p now))
+  where
+    abbrev Due : Result (ℕ × State) Halt
+    Due = answered texts g start (answer_of (row_at texts) limit start first)
+
+    pub halted_here : (cause : Cause) → n < limit → moved_by (row_at texts w p now) (reverse items) w ≡ Stops cause
+        → Err (halt_at texts g start w p cause) ≡ Due
+    halted_here cause lt m = rw h (halted_from texts g start limit n items w p now cause lt m)
+
+    pub limit_here : n ≡ limit → p < length (texts w) → Err (halt_at texts g start w p StepLimit) ≡ Due
+    limit_here e inside = rw h (limit_from texts g start limit n items w p now e (λ x z. omega (arith, inside, x)))
 
     pub stepped : (d : Config) → n < limit → moved_by (row_at texts w p now) (reverse items) w ≡ Moves d
         → answer_of (row_at texts) limit start first ≡ answer_from (row_at texts) (limit - (n + 1)) (n + 1) d
@@ -107,25 +152,3 @@ module _ (texts : Program → List ℕ) (g : ℕ) (start : Program) (limit : ℕ
         let q : n + 1 ≡ suc n = omega arith in
         let x = go_one (row_at texts) (limit - suc n) n (reverse items) w p now (Moves d) (record { is = m }) in
         rw q (h ∙ rw e x)
-
-    -- ---- what is left for a watcher
-
-    abbrev Nothing : Type 0
-    Nothing = left_events texts g (limit - n) (config (reverse items) w p now) ≡ []
-
-    pub unseen_end : p ≡ length (texts w) → length items ≡ 0 → Nothing
-    unseen_end e z = no_events texts g (limit - n) (config (reverse items) w p now)
-        (none_after_end (row_at texts) (limit - n) (reverse items) w p now
-        (rw (at_end e) (no_calls (reverse items) (rw length-reverse z))))
-
-    pub unseen_halt : (cause : Cause) → moved_by (row_at texts w p now) (reverse items) w ≡ Stops cause → Nothing
-    unseen_halt cause m = no_events texts g (limit - n) (config (reverse items) w p now)
-        (none_after_halt (row_at texts) (limit - n) (reverse items) w p now cause m)
-
-    pub unseen_stray : p ≡ length (texts w) → 0 < length items → Nothing
-    unseen_stray e z = unseen_halt StrayEnd (rw (at_end e) (some_calls (reverse items) (rw length-reverse z)))
-
-    pub unseen_limit : n ≡ limit → Nothing
-    unseen_limit e =
-        let z : limit - n ≡ 0 = omega arith in
-        no_events texts g (limit - n) (config (reverse items) w p now) (rw z (none_left (row_at texts) (reverse items) w p now))

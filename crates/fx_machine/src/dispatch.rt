@@ -4,9 +4,10 @@
 //! goes through memory. Those of `opcodes_0x`, `opcodes_7x` and `opcodes_8x` are seldom executed, and are called: the hint to
 //! inline `row` is dropped, with no message, if it would grow very large.
 
-ghost use Rattle.std.specs.Prelude.{◌≡◌, ◌+◌};
+ghost use Rattle.std.specs.Prelude.{◌≡◌, ◌+◌, ◌<◌, length};
+ghost use Rattle.fx_code.specs.Chain.{opcode_at};
 ghost use Rattle.fx_machine.specs.Actions.{Does, Leads};
-ghost use Rattle.fx_machine.specs.Table.{relative_row, then_at, row_here, opcodes_0x, opcodes_1x, opcodes_2x, opcodes_3x, opcodes_4x};
+ghost use Rattle.fx_machine.specs.Table.{relative_row, row_here, opcodes_0x, opcodes_1x, opcodes_2x, opcodes_3x, opcodes_4x};
 ghost use Rattle.fx_machine.specs.Table.{opcodes_5x, opcodes_6x, opcodes_7x, opcodes_8x};
 
 use crate::action::Action;
@@ -22,7 +23,6 @@ use fx_code::opcode::*;
 use fx_code::{Code, Targets};
 use fx_fixed::Axis;
 use fx_gstate::{DeltaForm, RoundState};
-use fx_pointops::Relative;
 
 impl State {
     /// MDRP and MIRP.
@@ -31,21 +31,11 @@ impl State {
     fn move_relative(&mut self, opcode: u8) -> Result<(), Cause>
         ensures { Does (relative_row opcode) self.old self.new result }
     {
-        let how = Relative::of(opcode);
         if opcode >= MIRP_FIRST {
-            self.mirp(how)
+            self.mirp(opcode)
         } else {
-            self.mdrp(how)
+            self.mdrp(opcode)
         }
-    }
-
-    /// C0 to DF, E0 to FF: MDRP, MIRP, and on at the next address. It is inlined, so that no action goes through memory.
-    #[inline(always)]
-    fn relative(&mut self, opcode: u8, next: usize) -> Result<Action, Cause>
-        ensures { Leads (λ s. then_at next (relative_row opcode s)) self.old self.new result }
-    {
-        self.move_relative(opcode)?;
-        Ok(Action::Went(next))
     }
 
     /// 00 to 0F: vectors, ISECT.
@@ -290,6 +280,8 @@ impl State {
         address: usize,
         next: usize,
     ) -> Result<Action, Cause>
+        requires inside { address < length code.now }
+        requires opcode { opcode ≡ opcode_at code.now address }
         requires next { next ≡ address + 1 }
         requires targets { program ≡ Program.Font → targets.old ≡ code.now }
         ensures does { Leads (row_here opcode code.now program address) self.old self.new result }
@@ -336,9 +328,14 @@ impl State {
                 _ => self.opcodes_8x(opcode)?,
             },
             // PUSHB, PUSHW.
-            0xB => return self.push(code, address),
+            0xB => {
+                if opcode <= PUSHB_8 {
+                    return self.pushb(code, opcode, address);
+                }
+                return self.push(code, address);
+            }
             // MDRP, MIRP.
-            0xC | 0xD | 0xE | 0xF => return self.relative(opcode, next),
+            0xC | 0xD | 0xE | 0xF => self.move_relative(opcode)?,
             // 90 to AF.
             _ => return self.undefined(opcode, next),
         }

@@ -3,19 +3,21 @@
 //! Each doc has the opcode, the mnemonic, its name in the Apple TrueType Reference Manual ("Instruction set"), what becomes of the
 //! stack, whose top is written last, and what the row sets.
 
-ghost use Rattle.std.specs.Prelude.{◌≡◌, ◌+ℤ◌, pos};
-ghost use Rattle.fx_code.specs.Chain.{stops_at_false, stops_at_else};
+ghost use Rattle.std.specs.Prelude.{◌≡◌, ◌<◌, ◌≤◌, ◌+ℤ◌, pos, length};
+ghost use Rattle.fx_code.specs.Chain.{opcode_at, stops_at_false, stops_at_else};
 ghost use Rattle.fx_code.specs.Past.{past_of};
 ghost use Rattle.fx_machine.specs.Actions.{acts, Leads};
 ghost use Rattle.fx_machine.specs.Flow.{number_below, jumped, if_row, jmpr_row, jrot_row, jrof_row, call_row, loopcall_row, fdef_row, idef_row, undefined_row};
 ghost use Rattle.fx_machine.specs.Table.{push_at};
+ghost use Rattle.fx_machine.specs.inner.Bytes.{bytes_then};
 
 use crate::action::Action;
 use crate::definitions::Function;
 use crate::halt::Cause;
 use crate::program::Program;
 use crate::state::State;
-use fx_code::{Code, CodeFault, Targets};
+use fx_code::opcode::{PUSHB_1, PUSHB_8};
+use fx_code::{Code, CodeFault, Instr, Targets};
 
 /// A number below a count.
 fn number_below(count: usize, number: i32) -> Result<usize, Cause>
@@ -226,7 +228,46 @@ impl State {
         }
     }
 
-    /// 40 NPUSHB, 41 NPUSHW, B0-B7 PUSHB[abc], B8-BF PUSHW[abc], PUSH Bytes or Words: `-> ..`, the data in order.
+    /// Pushes bytes, and continues at an address.
+    #[inline(always)]
+    fn push_bytes(&mut self, bytes: &[u8], next: usize) -> Result<Action, Cause>
+        ensures { Leads (bytes_then next bytes.now) self.old self.new result }
+    {
+        let instr = Instr {
+            opcode: PUSHB_1,
+            pushed: bytes,
+            next,
+        };
+        self.store.push_all(&instr)?;
+        Ok(Action::Went(next))
+    }
+
+    /// B0-B7 PUSHB[abc], PUSH Bytes: `-> ..`, 1 to 8 bytes. Programs push one byte more often than they do anything else, so
+    /// this is not left to `push`, which reads an instruction of any kind.
+    #[inline(always)]
+    #[tactic(auto, using(crate::proofs::Reading::bytes_whole, crate::proofs::Reading::bytes_cut))]
+    pub(crate) fn pushb(
+        &mut self,
+        code: &Code<'_>,
+        opcode: u8,
+        address: usize,
+    ) -> Result<Action, Cause>
+        requires inside { address < length code.now }
+        requires opcode { opcode ≡ opcode_at code.now address }
+        requires first { PUSHB_1 ≤ opcode }
+        requires last { opcode ≤ PUSHB_8 }
+        ensures { Leads (push_at code.now address) self.old self.new result }
+    {
+        let bytes = code.bytes();
+        let first = address + 1;
+        let next = first + usize::from(opcode - PUSHB_1) + 1;
+        if next > bytes.len() {
+            return Err(Cause::CodeEnd);
+        }
+        self.push_bytes(&bytes[first..next], next)
+    }
+
+    /// 40 NPUSHB, 41 NPUSHW, B8-BF PUSHW[abc], PUSH Bytes or Words: `-> ..`, the data in order.
     #[inline(always)]
     #[tactic(auto, unfolding(crate::specs::Table::push_at, fx_code::specs::Chain::IsWhole))]
     pub(crate) fn push(&mut self, code: &Code<'_>, address: usize) -> Result<Action, Cause>

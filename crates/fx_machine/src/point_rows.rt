@@ -5,6 +5,7 @@
 
 ghost use Rattle.std.specs.Prelude.{◌≡◌, ◌≤◌, Ok, length, drop, if◌then◌else◌};
 ghost use Rattle.fx_stackops.specs.Store.{with_stack};
+ghost use Rattle.fx_pointops.specs.Distances.{relative_of};
 ghost use Rattle.fx_machine.specs.Actions.{Does};
 ghost use Rattle.fx_machine.specs.Shapes.{HasSizes};
 ghost use Rattle.fx_machine.specs.PointRows.{isect_row, alignpts_row, utp_row, mdap_row, iup_row, shp_row, shc_row, shz_row, shpix_row, ip_row, msirp_row};
@@ -285,9 +286,10 @@ impl State {
     /// C0-DF MDRP[abcde], Move Direct Relative Point: `p ->`. Moves p, of zp1, to its original distance from rp0, of zp0. Sets
     /// rp1, rp2, with bit a rp0, too.
     #[tactic(auto, unfolding(crate::specs::PointRows::mdrp_row))]
-    pub(crate) fn mdrp(&mut self, how: Relative) -> Result<(), Cause>
-        ensures { Does (mdrp_row how) self.old self.new result }
+    pub(crate) fn mdrp(&mut self, opcode: u8) -> Result<(), Cause>
+        ensures { Does (mdrp_row (relative_of opcode)) self.old self.new result }
     {
+        let how = Relative::of(opcode);
         let p = self.store.one()?;
         self.zones.mdrp(&self.graphics, how, p);
         self.set_references(how.sets_rp0, p);
@@ -297,9 +299,10 @@ impl State {
     /// E0-FF MIRP[abcde], Move Indirect Relative Point: `p n ->`. Moves p, of zp1, to the distance of control value n from rp0,
     /// of zp0. Sets rp1, rp2, with bit a rp0, too.
     #[tactic(auto, unfolding(crate::specs::PointRows::mirp_row))]
-    pub(crate) fn mirp(&mut self, how: Relative) -> Result<(), Cause>
-        ensures { Does (mirp_row how) self.old self.new result }
+    pub(crate) fn mirp(&mut self, opcode: u8) -> Result<(), Cause>
+        ensures { Does (mirp_row (relative_of opcode)) self.old self.new result }
     {
+        let how = Relative::of(opcode);
         let (p, number) = self.store.two()?;
         let value = F26(self.store.control(number));
         let stray = self.mirp_stray(number);

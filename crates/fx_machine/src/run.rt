@@ -1,12 +1,13 @@
 //! Runs, one instruction after the other.
 
-ghost use Rattle.std.specs.Prelude.{◌≡◌, ◌≤◌, IfOk, false, length};
+ghost use Rattle.std.specs.Prelude.{◌≡◌, ◌-◌, ◌≤◌, IfOk, false, length};
+ghost use Rattle.fx_machine.specs.declared.state.State as the_state;
 ghost use Rattle.fx_machine.specs.Programs.{texts};
 ghost use Rattle.fx_machine.specs.Table.{row_at};
 ghost use Rattle.fx_pointops.specs.Zones.{HasShapes};
 ghost use Rattle.fx_machine.specs.Shapes.{HasSizes};
-ghost use Rattle.fx_machine.specs.Machine.{answer_of};
-ghost use Rattle.fx_machine.specs.Configs.{answered, sees};
+ghost use Rattle.fx_machine.specs.Machine.{answer_from, answer_of};
+ghost use Rattle.fx_machine.specs.Configs.{answered, config_of, sees};
 ghost use Rattle.fx_machine.specs.Events.{Watches, Executed, events_of};
 
 use crate::frames::{Calls, Cursor};
@@ -46,6 +47,37 @@ fn tell<W: Watching>(
     watcher.see(program, code, address, calls.frames.len(), state);
 }
 
+/// What a run comes to that has reached the end of a program, or is past it.
+#[inline(never)]
+fn at_end(
+    programs: &Programs<'_>,
+    start: Program,
+    cursor: &Cursor,
+    calls: &Calls,
+    limit: u32,
+    steps: u32,
+) -> Result<u32, Halt>
+    requires past { length (texts programs.now cursor.now.program) ≤ cursor.now.address }
+    requires counted { steps ≤ limit }
+    ensures value { (s : the_state.State) → sees result s ≡ answered (texts programs.now) programs.now.number start
+        (answer_from (row_at (texts programs.now)) (limit - steps) steps (config_of cursor.now calls.now s)) }
+    ensures few { IfOk result (λ n. n ≤ limit) }
+{
+    let program = cursor.program;
+    let address = cursor.address;
+    let ended = address == programs.code(program).len();
+    if ended && calls.frames.is_empty() {
+        return Ok(steps);
+    }
+    if steps == limit {
+        return Err(halted(programs, start, program, address, Cause::StepLimit));
+    }
+    if ended {
+        return Err(halted(programs, start, program, address, Cause::StrayEnd));
+    }
+    Err(halted(programs, start, program, address, Cause::CodeEnd))
+}
+
 /// Runs a program from its first byte, for at most `limit` instructions: how many it executed, or where and why it halted. The
 /// watcher
 /// sees it begin, and each instruction after it was executed.
@@ -81,17 +113,13 @@ pub fn run<W: Watching>(
     // sees the
     // instructions that are left, it has seen all.
     'steps: loop {
-        let ended = cursor.address == code.len();
-        if ended && calls.frames.is_empty() {
-            return Ok(steps);
-        }
         let program = cursor.program;
         let address = cursor.address;
+        if address >= code.len() {
+            return at_end(programs, start, &cursor, &calls, limit, steps);
+        }
         if steps == limit {
             return Err(halted(programs, start, program, address, Cause::StepLimit));
-        }
-        if ended {
-            return Err(halted(programs, start, program, address, Cause::StrayEnd));
         }
         let name = programs.name(program);
         let left = match advance(&mut cursor, &mut calls, state, code, targets) {

@@ -1,6 +1,6 @@
 //! One instruction.
 
-ghost use Rattle.std.specs.Prelude.{◌≡◌, ◌≢◌, length, MatchResult, OnErr, IfOk, false};
+ghost use Rattle.std.specs.Prelude.{◌≡◌, ◌<◌, length, MatchResult, OnErr, IfOk, false};
 ghost use Rattle.fx_machine.specs.Table.{row_in, settled};
 ghost use Rattle.fx_machine.specs.Actions.{acts};
 ghost use Rattle.fx_pointops.specs.Zones.{HasShapes};
@@ -17,7 +17,7 @@ use fx_code::{Code, Targets};
 
 /// Executes the instruction at an address of a program with these bytes; if that faults, the points are as they were.
 #[inline(always)]
-#[tactic(auto, using(crate::proofs::Reading::row_there, crate::proofs::Reading::row_cut))]
+#[tactic(auto, using(crate::proofs::Reading::row_there))]
 fn execute(
     state: &mut State,
     code: &Code<'_>,
@@ -25,20 +25,17 @@ fn execute(
     program: Program,
     address: usize,
 ) -> Result<Action, Cause>
-    requires inside { address ≢ length code.now }
+    requires inside { address < length code.now }
     requires targets { program ≡ Program.Font → targets.old ≡ code.now }
     ensures value { settled (acts result state.new) ≡ row_in code.now program address state.old }
     ensures kept { OnErr result (state.new.zones ≡ state.old.zones) }
     ensures sizes { HasSizes state.old state.new }
     ensures targets { targets.new ≡ targets.old }
 {
-    if address >= code.len() {
-        return Err(Cause::CodeEnd);
-    }
     state.row(
         code,
         targets,
-        code.opcode(address),
+        code.bytes()[address],
         program,
         address,
         address + 1,
@@ -55,7 +52,7 @@ pub fn advance(
     code: &Code<'_>,
     targets: &mut Targets<'_>,
 ) -> Result<bool, Cause>
-    requires inside { cursor.old.address ≢ length code.now }
+    requires inside { cursor.old.address < length code.now }
     requires targets { cursor.old.program ≡ Program.Font → targets.old ≡ code.now }
     ensures moved { MatchResult result
         (λ _. moved_by (row_in code.now cursor.old.program cursor.old.address state.old) (calls_of calls.old) cursor.old.program

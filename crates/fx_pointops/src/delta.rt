@@ -1,30 +1,49 @@
 //! The rows that move points at some sizes.
 
-ghost use Rattle.std.specs.Prelude.{◌≡◌, reverse};
-ghost use Rattle.fx_gstate.specs.Deltas.{each_pair};
+ghost use Rattle.std.specs.Prelude.{◌≡◌, pos, reverse};
+ghost use Rattle.std.specs.Ordering.{int_eq};
+ghost use Rattle.fx_gstate.specs.Deltas.{delta_of, each_pair};
 ghost use Rattle.fx_pointops.specs.Delta.{point_delta, deltap_of};
+ghost use Rattle.fx_pointops.specs.ShiftPoint.{moved_by};
+ghost use Rattle.fx_pointops.specs.Zones.{on_point};
 
 use crate::shift_point::move_point;
 use crate::zones::Zones;
 use fx_fixed::Ppem;
 use fx_gstate::{DeltaForm, GState};
 
+/// Whether an argument acts at a size. It does not work out by how much: most arguments act at another size.
+#[inline(always)]
+fn acts_at(g: &GState, form: DeltaForm, ppem: &Ppem, argument: i32) -> bool
+    ensures { result ≡ int_eq (delta_of form g.now.delta_base g.now.delta_shift argument).ppem (pos ppem.now) }
+{
+    g.delta(form, argument).acts_at(*ppem)
+}
+
 impl Zones {
-    /// Moves a point, of zp0, if its argument acts at this size.
-    #[tactic(auto, unfolding(crate::specs::Delta::point_delta), using(crate::proofs::Setting::setting))]
-    fn move_at_size(&mut self, g: &GState, form: DeltaForm, ppem: &Ppem, p: i32, argument: i32)
-        ensures { self.new ≡ point_delta g.now form ppem.now p argument self.old }
+    /// Moves a point, of zp0, by what an argument says.
+    #[inline(never)]
+    #[tactic(auto, using(crate::proofs::Setting::setting))]
+    fn move_by_argument(&mut self, g: &GState, form: DeltaForm, p: i32, argument: i32)
+        ensures { self.new ≡ on_point (moved_by g.now (delta_of form g.now.delta_base g.now.delta_shift argument).amount)
+            g.now.zp0 p self.old }
     {
-        let delta = g.delta(form, argument);
-        let amount = delta.amount;
-        if !delta.acts_at(*ppem) {
-            return;
-        }
+        let amount = g.delta(form, argument).amount;
         let Some(point) = self.point_mut(g.zp0, p) else {
             self.add_stray();
             return;
         };
         move_point(g, amount, point);
+    }
+
+    /// Moves a point, of zp0, if its argument acts at this size.
+    #[tactic(auto, unfolding(crate::specs::Delta::point_delta))]
+    fn move_at_size(&mut self, g: &GState, form: DeltaForm, ppem: &Ppem, p: i32, argument: i32)
+        ensures { self.new ≡ point_delta g.now form ppem.now p argument self.old }
+    {
+        if acts_at(g, form, ppem, argument) {
+            self.move_by_argument(g, form, p, argument);
+        }
     }
 
     /// Moves the points of pairs, the last of the slice first.

@@ -149,14 +149,20 @@ moved_at xs d k h m = let l = length_used xs d m in moved_from xs (d - 1 - k) k 
 
 -- ---- numbers of a table
 
--- a part rotated keeps all numbers in range
+-- a part written over keeps all numbers in range
+pub written_fit : (xs zs ys : List ℤ) (from k len m : ℕ) → AreNumbers xs → AreNumbers zs → AreNumbers ys
+    → AreNumbers (take len ((take from zs ++ (ys ++ post_of from k zs)) ++ drop m xs))
+written_fit xs zs ys from k len m h i j =
+    let P = FitsSigned w32 in
+    All-take P len _ (All-append P _ (drop m xs)
+    (All-append P (take from zs) _ (All-take P from zs i) (All-append P ys _ j (All-drop P k _ (All-drop P from zs i))))
+    (All-drop P m xs h))
+
+-- and so does a part rotated
 pub rotated_fit : (xs zs ys : List ℤ) (from k len m : ℕ) → AreNumbers xs → AreNumbers zs
     → ys ≡ drop 1 (take k (drop from zs)) ++ take 1 (take k (drop from zs))
     → AreNumbers (take len ((take from zs ++ (ys ++ post_of from k zs)) ++ drop m xs))
 rotated_fit xs zs ys from k len m h i e =
     let P = FitsSigned w32 in
     let part = All-take P k _ (All-drop P from zs i) in
-    let j : AreNumbers ys = All-same P ys _ e (All-append P _ _ (All-drop P 1 _ part) (All-take P 1 _ part)) in
-    All-take P len _ (All-append P _ (drop m xs)
-    (All-append P (take from zs) _ (All-take P from zs i) (All-append P ys _ j (All-drop P k _ (All-drop P from zs i))))
-    (All-drop P m xs h))
+    written_fit xs zs ys from k len m h i (All-same P ys _ e (All-append P _ _ (All-drop P 1 _ part) (All-take P 1 _ part)))

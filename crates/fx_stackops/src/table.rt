@@ -25,6 +25,25 @@ impl Model for Table {
     ghost invariant = { λ t. AreNumbers t.numbers.items };
 }
 
+/// Writes the numbers that an instruction pushes to as many cells.
+fn put_each(cells: &mut [i32], instr: &Instr<'_>)
+    requires size { length cells.old ≡ length (numbers instr.now.opcode instr.now.pushed.now) }
+    requires fit { AreNumbers cells.old }
+    ensures value { cells.new ≡ numbers instr.now.opcode instr.now.pushed.now }
+    ensures fit { AreNumbers cells.new }
+{
+    // Fields that stay in registers: for the compiler, the cells may lie where the instruction does.
+    let instr = Instr {
+        opcode: instr.opcode,
+        pushed: instr.pushed,
+        next: instr.next,
+    };
+    // The first i numbers are written.
+    'numbers: for i in 0..cells.len() {
+        cells[i] = instr.number(i);
+    }
+}
+
 impl Table {
     /// A table of zeros.
     pub fn zeros(alloc: Global, count: usize) -> Result<Table, AllocError>
@@ -81,18 +100,7 @@ impl Table {
             ≡ take from self.old ++ numbers instr.now.opcode instr.now.pushed.now }
         ensures size { length self.new ≡ length self.old }
     {
-        // For the prover: how many cells there are.
-        let _room = self.len();
-        // Fields that stay in registers: for the compiler, the cells may lie where the instruction does.
-        let instr = Instr {
-            opcode: instr.opcode,
-            pushed: instr.pushed,
-            next: instr.next,
-        };
-        // The first i numbers are written.
-        'numbers: for i in 0..instr.count() {
-            self.put(from + i, instr.number(i));
-        }
+        put_each(&mut self.numbers[from..from + instr.count()], instr);
     }
 
     /// Moves the number at an index to the end of the part from there to another, and each after it one down.

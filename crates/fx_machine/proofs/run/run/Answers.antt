@@ -1,12 +1,10 @@
 use Rattle.std.proofs.Common.{◌∙◌, refl, arith, rules}
 use Rattle.fx_pointops.proofs.Keeping.{shapes_same, shapes_then}
 use Rattle.fx_machine.proofs.Keeping.{sized, sized_then}
-use Rattle.fx_machine.proofs.Looping.{finished_here, halted_here, stray_here, limit_here, stepped}
-use Rattle.fx_machine.proofs.Looping.{unseen_end, unseen_halt, unseen_stray, unseen_limit}
+use Rattle.fx_machine.proofs.Looping.{halted_here, limit_here, stepped, unseen_halt, unseen_limit, unseen_past}
 use Rattle.fx_machine.proofs.Watched.{seen_first, seen_one, seen_all}
 use Rattle.fx_machine.proofs.Stepping.{events_begin, one_event}
 use Rattle.fx_machine.proofs.run.run.Goals as goal
-use Rattle.fx_machine.proofs.run.run.Goals.{else-ended-via-then-ended+else-is_empty, else-ended-via-else-ended}
 
 pub steps-init : goal.steps-init
 steps-init g c = record {
@@ -19,48 +17,24 @@ steps-init g c = record {
   targets = c.requires;
 }
 
-pub returns-then-is_empty-clause-value : goal.returns-then-is_empty-clause-value
-returns-then-is_empty-clause-value g c =
-    finished_here _ _ _ _ _ _ _ c.steps.calls.frames.items _ _ c.steps.invariant.answer (cc) (grind arith)
+pub returns-then-address-len-clause-value : goal.returns-then-address-len-clause-value
+returns-then-address-len-clause-value g c = rw c.steps.invariant.answer (c.at_end.ensures.value c.steps.state)
 
-pub returns-then-is_empty-clause-watched : goal.returns-then-is_empty-clause-watched
-returns-then-is_empty-clause-watched g c = seen_all c.steps.invariant.watched
-    (unseen_end _ _ _ _ _ _ _ c.steps.calls.frames.items _ _ c.steps.invariant.answer (cc) (grind arith))
+pub returns-then-address-len-clause-watched : goal.returns-then-address-len-clause-watched
+returns-then-address-len-clause-watched g c = seen_all c.steps.invariant.watched
+    (unseen_past _ _ c.args.start _ _ c.steps.calls.frames.items _ _ _ (grind arith))
 
 pub returns-then-steps-limit-clause-value : goal.returns-then-steps-limit-clause-value
 returns-then-steps-limit-clause-value g c = rw c.halted.ensures
-    (limit_here _ _ _ _ _ _ _ c.steps.calls.frames.items _ _ c.steps.invariant.answer c.if-steps-limit.true
-    (elim c.else-ended.branch [
-      | else-ended-via-then-ended+else-is_empty w ↦ (λ e z. grind arith)
-      | else-ended-via-else-ended w ↦
-          (λ e z. w.if-ended.false (cc))
-    ]))
+    (limit_here _ _ _ _ _ _ _ c.steps.calls.frames.items _ _ c.steps.invariant.answer c.if-steps-limit.true (grind arith))
 
 pub returns-then-steps-limit-clause-watched : goal.returns-then-steps-limit-clause-watched
 returns-then-steps-limit-clause-watched g c = seen_all c.steps.invariant.watched
-    (unseen_limit _ _ _ _ _ _ _ c.steps.calls.frames.items _ _ c.steps.invariant.answer c.if-steps-limit.true)
-
-pub returns-then-ended-2-clause-value : goal.returns-then-ended-2-clause-value
-returns-then-ended-2-clause-value g c = rw c.halted-then-ended-2.ensures
-    (stray_here _ _ _ _ _ c.steps.state _ c.steps.calls.frames.items _ _ c.steps.invariant.answer (omega arith) (cc)
-    (elim c.else-ended.branch [
-      | else-ended-via-then-ended+else-is_empty w ↦ grind arith
-      | else-ended-via-else-ended w ↦
-          absurd (w.if-ended.false c.if-ended-2.true)
-    ]))
-
-pub returns-then-ended-2-clause-watched : goal.returns-then-ended-2-clause-watched
-returns-then-ended-2-clause-watched g c = seen_all c.steps.invariant.watched
-    (unseen_stray _ _ _ _ _ c.steps.state _ c.steps.calls.frames.items _ _ c.steps.invariant.answer (cc)
-    (elim c.else-ended.branch [
-      | else-ended-via-then-ended+else-is_empty w ↦ grind arith
-      | else-ended-via-else-ended w ↦
-          absurd (w.if-ended.false c.if-ended-2.true)
-    ]))
+    (unseen_limit _ _ c.args.start _ _ c.steps.calls.frames.items _ _ _ c.if-steps-limit.true)
 
 pub returns-in-Err-clause-watched : goal.returns-in-Err-clause-watched
 returns-in-Err-clause-watched g c = seen_all c.steps.invariant.watched
-    (unseen_halt _ _ _ _ _ c.steps.state _ c.steps.calls.frames.items _ _ c.steps.invariant.answer _
+    (unseen_halt _ _ c.args.start _ _ c.steps.calls.frames.items _ _ c.steps.state _
     (rw c.steps.invariant.code at c.in-Err.ensures.moved))
 
 pub returns-in-Err-clause-value : goal.returns-in-Err-clause-value
