@@ -51,8 +51,8 @@ pub record Settling (diff : List ℤ) (from : ℕ) (start count : ℤ) (bits lef
   pub sum : count ≡ start +ℤ sum_of diff from p
   pub done : (i : ℕ) → i < p → bit_at bits (31 - i) ≡ count_bit (start +ℤ sum_of diff from (i + 1)) 0
   pub rest : (i : ℕ) → p ≤ i → i < 32 → bit_at bits (31 - i) ≡ count_bit count 0
-  pub visited : (i : ℕ) → i < p → bit_at left (31 - i) ≡ 0
-  pub none : (i : ℕ) → p ≤ i → i < 32 → bit_at left (31 - i) ≡ 0 → get_or diff (from + i) (pos 0) ≡ pos 0
+  pub visited : (i : ℕ) → i < p → bit_at left i ≡ 0
+  pub none : (i : ℕ) → p ≤ i → i < 32 → bit_at left i ≡ 0 → get_or diff (from + i) (pos 0) ≡ pos 0
 
 abbrev pub IsSettling : List ℤ → ℕ → ℤ → ℤ → ℕ → ℕ → Type 0
 IsSettling diff from start count bits left = (p : ℕ) × Settling diff from start count bits left p
@@ -60,8 +60,8 @@ IsSettling diff from start count bits left = (p : ℕ) × Settling diff from sta
 -- the first column settled
 pub settling_first : (diff : List ℤ) (from : ℕ) (start count : ℤ) (bits left : ℕ)
     → count ≡ start +ℤ get_or diff from (pos 0) → ((i : ℕ) → i < 32 → bit_at bits (31 - i) ≡ count_bit count 0)
-    → bit_at left 31 ≡ 0
-    → ((i : ℕ) → 0 < i → i < 32 → bit_at left (31 - i) ≡ 0 → get_or diff (from + i) (pos 0) ≡ pos 0)
+    → bit_at left 0 ≡ 0
+    → ((i : ℕ) → 0 < i → i < 32 → bit_at left i ≡ 0 → get_or diff (from + i) (pos 0) ≡ pos 0)
     → IsSettling diff from start count bits left
 settling_first diff from start count bits left c b f n = (
   1,
@@ -71,7 +71,7 @@ settling_first diff from start count bits left c b f n = (
     done = λ i h. let e : 0 ≡ i = omega arith in b i (omega arith) ∙ ap (λ (z : ℤ). count_bit z 0) whole ∙
         ap (λ (j : ℕ). count_bit (start +ℤ sum_of diff from (j + 1)) 0) e;
     rest = λ i h l. b i l;
-    visited = λ i h. let e : 0 ≡ i = omega arith in ap (λ (j : ℕ). bit_at left (31 - j)) (sym e) ∙ f;
+    visited = λ i h. let e : 0 ≡ i = omega arith in ap (λ (j : ℕ). bit_at left j) (sym e) ∙ f;
     none = λ i h l z. n i (omega arith) l z;
   },
 )
@@ -86,25 +86,25 @@ settling_first diff from start count bits left c b f n = (
 
 -- the sum up to a column whose bit is the first that is set
 sum_to : (diff : List ℤ) (from : ℕ) (start count : ℤ) (bits left p k : ℕ) → Settling diff from start count bits left p
-    → k < 32 → p ≤ k → ((i : ℕ) → i < k → bit_at left (31 - i) ≡ 0) → count ≡ start +ℤ sum_of diff from k
+    → k < 32 → p ≤ k → ((i : ℕ) → i < k → bit_at left i ≡ 0) → count ≡ start +ℤ sum_of diff from k
 sum_to diff from start count bits left p k s l h b =
     let e = sum_none diff from p k h (λ i x y. s.none i x (omega arith) (b i y)) in
     let c = s.sum in
     omega (arith, signed_linear, e, c)
 
-not_before : (left p k : ℕ) → ((i : ℕ) → i < p → bit_at left (31 - i) ≡ 0) → bit_at left (31 - k) ≡ 1 → p ≤ k
+not_before : (left p k : ℕ) → ((i : ℕ) → i < p → bit_at left i ≡ 0) → bit_at left k ≡ 1 → p ≤ k
 not_before left p k v bit = grind (arith, below_or_not k p)
 
 pub count_to : (diff : List ℤ) (from : ℕ) (start count : ℤ) (bits left k : ℕ)
-    → IsSettling diff from start count bits left → k < 32 → bit_at left (31 - k) ≡ 1
-    → ((i : ℕ) → i < k → bit_at left (31 - i) ≡ 0) → count ≡ start +ℤ sum_of diff from k
+    → IsSettling diff from start count bits left → k < 32 → bit_at left k ≡ 1
+    → ((i : ℕ) → i < k → bit_at left i ≡ 0) → count ≡ start +ℤ sum_of diff from k
 count_to diff from start count bits left k (p, s) l bit b =
     sum_to diff from start count bits left p k s l (not_before left p k s.visited bit) b
 
 -- the count at a column whose bit is the first that is set
 pub count_at : (diff : List ℤ) (from : ℕ) (start count : ℤ) (bits left k : ℕ)
-    → IsSettling diff from start count bits left → k < 32 → bit_at left (31 - k) ≡ 1
-    → ((i : ℕ) → i < k → bit_at left (31 - i) ≡ 0)
+    → IsSettling diff from start count bits left → k < 32 → bit_at left k ≡ 1
+    → ((i : ℕ) → i < k → bit_at left i ≡ 0)
     → count +ℤ get_or diff (from + k) (pos 0) ≡ start +ℤ sum_of diff from (k + 1)
 count_at diff from start count bits left k h l bit b =
     let c = count_to diff from start count bits left k h l bit b in
@@ -112,12 +112,12 @@ count_at diff from start count bits left k h l bit b =
     omega (arith, signed_linear, c, n)
 
 pub settling_more : (diff : List ℤ) (from : ℕ) (start count count' : ℤ) (bits bits' left left' k : ℕ)
-    → IsSettling diff from start count bits left → k < 32 → bit_at left (31 - k) ≡ 1
-    → ((i : ℕ) → i < k → bit_at left (31 - i) ≡ 0) → count' ≡ count +ℤ get_or diff (from + k) (pos 0)
+    → IsSettling diff from start count bits left → k < 32 → bit_at left k ≡ 1
+    → ((i : ℕ) → i < k → bit_at left i ≡ 0) → count' ≡ count +ℤ get_or diff (from + k) (pos 0)
     → ((i : ℕ) → i < k → bit_at bits' (31 - i) ≡ bit_at bits (31 - i))
     → ((i : ℕ) → k ≤ i → i < 32 → bit_at bits' (31 - i) ≡ count_bit count' 0)
-    → ((i : ℕ) → i ≤ k → bit_at left' (31 - i) ≡ 0)
-    → ((i : ℕ) → k < i → i < 32 → bit_at left' (31 - i) ≡ bit_at left (31 - i)) → IsSettling diff from start count' bits' left'
+    → ((i : ℕ) → i ≤ k → bit_at left' i ≡ 0)
+    → ((i : ℕ) → k < i → i < 32 → bit_at left' i ≡ bit_at left i) → IsSettling diff from start count' bits' left'
 settling_more diff from start count count' bits bits' left left' k (p, s) l bit b c low high gone others = (
   k + 1,
   record {
@@ -151,15 +151,15 @@ settling_more diff from start count count' bits bits' left left' k (p, s) l bit 
 
 -- the differences of a word whose columns are left have stayed, and the others are 0
 pub record Emptying (old new : List ℤ) (from left : ℕ) : Type 0 where
-  pub due : (i : ℕ) → i < 32 → bit_at left (31 - i) ≡ 1 → get_or new (from + i) (pos 0) ≡ get_or old (from + i) (pos 0)
-  pub done : (i : ℕ) → i < 32 → bit_at left (31 - i) ≡ 0 → get_or new (from + i) (pos 0) ≡ pos 0
+  pub due : (i : ℕ) → i < 32 → bit_at left i ≡ 1 → get_or new (from + i) (pos 0) ≡ get_or old (from + i) (pos 0)
+  pub done : (i : ℕ) → i < 32 → bit_at left i ≡ 0 → get_or new (from + i) (pos 0) ≡ pos 0
   pub others : (k : ℕ) → (k < from) ⊎ (from + 32 ≤ k) → get_or new k (pos 0) ≡ get_or old k (pos 0)
 
 pub emptying_first : (old new : List ℤ) (from touched left : ℕ) → get_or new from (pos 0) ≡ pos 0
     → ((k : ℕ) → k ≢ from → get_or new k (pos 0) ≡ get_or old k (pos 0))
-    → ((i : ℕ) → 0 < i → i < 32 → bit_at touched (31 - i) ≡ 0 → get_or old (from + i) (pos 0) ≡ pos 0)
-    → ((i : ℕ) → i ≤ 0 → bit_at left (31 - i) ≡ 0)
-    → ((i : ℕ) → 0 < i → i < 32 → bit_at left (31 - i) ≡ bit_at touched (31 - i)) → Emptying old new from left
+    → ((i : ℕ) → 0 < i → i < 32 → bit_at touched i ≡ 0 → get_or old (from + i) (pos 0) ≡ pos 0)
+    → ((i : ℕ) → i ≤ 0 → bit_at left i ≡ 0)
+    → ((i : ℕ) → 0 < i → i < 32 → bit_at left i ≡ bit_at touched i) → Emptying old new from left
 emptying_first old new from touched left here same none gone rest = record {
   due = λ i h b. grind (arith, below_or_not 0 i, same (from + i), gone i);
   done = λ i h b. grind (arith, below_or_not 0 i, here, same (from + i), none i, rest i);
@@ -169,8 +169,8 @@ emptying_first old new from touched left here same none gone rest = record {
 pub emptying_more : (old new new' : List ℤ) (from left left' c : ℕ) → Emptying old new from left
     → get_or new' (from + c) (pos 0) ≡ pos 0 → c < 32
     → ((k : ℕ) → k ≢ from + c → get_or new' k (pos 0) ≡ get_or new k (pos 0))
-    → ((i : ℕ) → i < c → bit_at left (31 - i) ≡ 0) → ((i : ℕ) → i ≤ c → bit_at left' (31 - i) ≡ 0)
-    → ((i : ℕ) → c < i → i < 32 → bit_at left' (31 - i) ≡ bit_at left (31 - i)) → Emptying old new' from left'
+    → ((i : ℕ) → i < c → bit_at left i ≡ 0) → ((i : ℕ) → i ≤ c → bit_at left' i ≡ 0)
+    → ((i : ℕ) → c < i → i < 32 → bit_at left' i ≡ bit_at left i) → Emptying old new' from left'
 emptying_more old new new' from left left' c s here few same before gone rest = record {
   due = λ i h b. grind (arith, below_same_above i c, same (from + i), gone i, rest i, s.due i);
   done = λ i h b. grind (arith, below_same_above i c, here, same (from + i), before i, rest i, s.done i);
@@ -179,7 +179,7 @@ emptying_more old new new' from left left' c s here few same before gone rest = 
 
 pub emptied : (old new : List ℤ) (from left : ℕ) → left ≡ 0 → Emptying old new from left → (i : ℕ) → i < 32
     → get_or new (from + i) (pos 0) ≡ pos 0
-emptied old new from left zeros s i h = s.done i h (ap (λ n. bit_at n (31 - i)) zeros ∙ bit_at-zero (31 - i))
+emptied old new from left zeros s i h = s.done i h (ap (λ n. bit_at n i) zeros ∙ bit_at-zero i)
 
 -- ---- a settled word
 pub record Settled (diff : List ℤ) (from : ℕ) (start count : ℤ) (bits : ℕ) : Type 0 where
@@ -194,7 +194,7 @@ settled diff from start count bits left zeros (p, s) = record {
 }
   where
     off : (i : ℕ) → p ≤ i → i < 32 → get_or diff (from + i) (pos 0) ≡ pos 0
-    off i h l = s.none i h l (ap (λ n. bit_at n (31 - i)) zeros ∙ bit_at-zero (31 - i))
+    off i h l = s.none i h l (ap (λ n. bit_at n i) zeros ∙ bit_at-zero i)
 
     flat : (m : ℕ) → m ≤ 32 → p ≤ m → sum_of diff from m ≡ sum_of diff from p
     flat m l h = sum_none diff from p m h (λ i x y. off i x (omega arith))

@@ -33,10 +33,10 @@ pub across : (a c y : ℤ) → IsInner a c y → IsAcross a c y
 across a c y (inl h) = inl (omega (arith, signed_linear, h.0), h.1)
 across a c y (inr h) = inr (omega (arith, signed_linear, h.0), h.1)
 
-both_zero : (x y : ℤ) → x ≡ pos 0 → y ≡ pos 0 → x +ℤ y ≡ pos 0
+pub both_zero : (x y : ℤ) → x ≡ pos 0 → y ≡ pos 0 → x +ℤ y ≡ pos 0
 both_zero x y e f = omega (arith, signed_linear)
 
-first_only : (x y z : ℤ) → x ≡ z → y ≡ pos 0 → x +ℤ y ≡ z
+pub first_only : (x y z : ℤ) → x ≡ z → y ≡ pos 0 → x +ℤ y ≡ z
 first_only x y z e f = omega (arith, signed_linear)
 
 second_only : (x y z : ℤ) → x ≡ pos 0 → y ≡ z → x +ℤ y ≡ z
@@ -131,7 +131,7 @@ value_outside a b c p false bent inner t off not = by (below_or_not_ℤ (side a 
     by (inr h) = both_zero _ _ (crossing_of_rest a c p h) (right (above_or_zero (side a c p) h))
 
 -- ---- a place on the arc, and those beside it
-on_weight : (a b c p : Place) → area a b c ≢ pos 0 → IsOnPart a (Some b) c p → pos 0 ≤ℤ weight_b a b c p
+pub on_weight : (a b c p : Place) → area a b c ≢ pos 0 → IsOnPart a (Some b) c p → pos 0 ≤ℤ weight_b a b c p
 on_weight a b c p bent (inl on) = on.on_arc.1
 on_weight a b c p bent (inr on) = absurd (bent on.flat)
 
@@ -337,7 +337,7 @@ line_is_cut s strip cut flat inner e value on = record {
 }
 
 -- ---- for a piece whose box has no column's centre in it
-left_crossing : (a c p : Place) → IsInner a.y c.y p.y → p.x <ℤ a.x → p.x <ℤ c.x → chord_crossing a c p ≡ sign (c.y -ℤ a.y)
+pub left_crossing : (a c p : Place) → IsInner a.y c.y p.y → p.x <ℤ a.x → p.x <ℤ c.x → chord_crossing a c p ≡ sign (c.y -ℤ a.y)
 left_crossing a c p (inl h) l m =
     let low : a.y ≤ℤ p.y = omega (arith, signed_linear, h.0) in
     counted_up a.y c.y p.y (area a c p) low h.1 (left_of_rising a.x a.y c.x c.y p.x p.y low h.1 l m)
@@ -347,7 +347,7 @@ left_crossing a c p (inr h) l m =
     counted_down a.y c.y p.y (area a c p) low h.1 (left_of_falling a.x a.y c.x c.y p.x p.y low h.1 l m)
     ∙ sym (sign_below (c.y -ℤ a.y) (omega (arith, signed_linear, h.0, h.1)))
 
-right_crossing : (a c p : Place) → a.x <ℤ p.x → c.x <ℤ p.x → chord_crossing a c p ≡ pos 0
+pub right_crossing : (a c p : Place) → a.x <ℤ p.x → c.x <ℤ p.x → chord_crossing a c p ≡ pos 0
 right_crossing a c p l m = crossing_left a.y c.y p.y (area a c p)
     (λ h k. right_of_rising a.x a.y c.x c.y p.x p.y h k l m)
     (λ h k. right_of_falling a.x a.y c.x c.y p.x p.y h k l m)

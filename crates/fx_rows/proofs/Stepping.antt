@@ -1,9 +1,9 @@
 -- From one row of a band to the next: the frame, the row and the base of a strip, what the rows before have, what holds at a base.
 -- Serves the loops over a piece's rows.
-use Rattle.std.proofs.Common.{◌≡◌, ◌∙◌, ap, sym, subst, ◌+◌, ◌*◌, ◌^◌, ◌<◌, ◌≤◌, ℕ, ℤ, pos, ◌+ℤ◌, ◌*ℤ◌, ◌<ℤ◌, arith}
+use Rattle.std.proofs.Common.{◌≡◌, ◌∙◌, ap, sym, subst, ◌+◌, ◌*◌, ◌^◌, ◌<◌, ◌≤◌, ℕ, ℤ, pos, ◌+ℤ◌, ◌*ℤ◌, arith}
 use Rattle.std.proofs.Common.{w32, to_z, of_z}
 use Rattle.fx_fixed.proofs.Linear.{signed_linear}
-use Rattle.fx_winding.specs.Limits.{IsPixelNumber, end_of_pixels}
+use Rattle.fx_winding.specs.Limits.{IsPixelNumber}
 use Rattle.fx_winding.specs.Area.{Place}
 use Rattle.fx_winding.specs.Winding.{Span, centre}
 use Rattle.fx_winding.specs.declared.frame.Frame.{Frame}
@@ -80,9 +80,3 @@ at_base_above P f g strip up e at base h =
     let column = base ∙ ap (λ (x : Frame). base_of x.left) e in
     let next : strip.row +ℤ pos 1 ≡ f.bottom +ℤ pos (up + 1) = omega (arith, signed_linear, row) in
     subst (λ z. z) (λ i. P (centre (column i +ℤ pos 0) (next i))) h
-
--- the row above a strip is a row of pixels, if the frame has it
-pub next_row_in : (f g : Frame) (row : ℤ) (up : ℕ) → g ≡ f → row ≡ g.bottom +ℤ pos up → up + 1 < f.height
-    → (row +ℤ pos 1) <ℤ end_of_pixels
-next_row_in f g row up e at l =
-    let is = at ∙ ap (λ (x : Frame). x.bottom +ℤ pos up) e in let top = f.rows.to in omega (arith, signed_linear, is, top, l)

@@ -3,31 +3,11 @@
 use Rattle.std.proofs.Common.{◌≡◌, ◌⊎◌, inl, inr, ◌∙◌, ap, sym, ℕ, zero, suc, ◌+◌, ◌-◌, ◌/◌, ◌*◌, ◌<◌, ◌≤◌, ◌^◌, min, arith}
 use Rattle.std.proofs.Common.{w32, bit_and, bit_or, ◌%◌}
 use Rattle.std.specs.Int.{bit_at}
-use Rattle.std.specs.Int.Count.{count_leading_zeros}
-use Rattle.std.proofs.lemmas.Nat.{leading_top, and_le_l}
-use Rattle.std.proofs.Math.Nat.{pow-succ', div-le_self}
-use Rattle.std.proofs.lemmas.Nat.Bits.{bit_at_or, bit_at_and, bit_at_not, bit_at-lt, bit_at_above, bit_at-suc, bit_at_ones, bit_at_ones_above}
-use Rattle.std.proofs.lemmas.Nat.Bits.{bit_at_cat_high, bit_at_mask_inside, bit_at_mask_below, ones_shr, ones_shl}
+use Rattle.std.proofs.lemmas.Nat.{and_le_l}
+use Rattle.std.proofs.Math.Nat.{div-le_self}
+use Rattle.std.proofs.lemmas.Nat.Bits.{bit_at_or, bit_at_and, bit_at_not, bit_at-lt, bit_at-suc, bit_at_lowest, bit_at_ones, bit_at_ones_above}
+use Rattle.std.proofs.lemmas.Nat.Bits.{bit_at_mask_inside, bit_at_mask_below, ones_shr, ones_shl}
 use Rattle.fx_fixed.proofs.Order.{below_or_not}
-
--- a number from 2 ^ j up to below 2 ^ (j + 1) has the bit j
-top_bit : (a j : ℕ) → 2 ^ j ≤ a → a < 2 ^ suc j → bit_at a j ≡ 1
-top_bit a j h k =
-    let e : a ≡ 1 * 2 ^ j + (a - 2 ^ j) = omega arith in
-    let twice : 2 ^ suc j ≡ 2 * 2 ^ j = pow-succ' 2 j in
-    let none : j - j ≡ 0 = omega arith in
-    ap (λ n. bit_at n j) e
-    ∙ bit_at_cat_high 1 j (a - 2 ^ j) j (omega (arith, twice, h, k)) (omega arith)
-    ∙ ap (bit_at 1) none
-
-pub first_bit : (a : ℕ) → 0 < a → a < 4294967296 → bit_at a (31 - count_leading_zeros 32 a) ≡ 1
-first_bit a h k =
-    let t = leading_top 32 a h k in
-    let e : 31 - count_leading_zeros 32 a ≡ t.0 = omega (arith, t.1) in
-    ap (bit_at a) e ∙ top_bit a t.0 t.2 t.3
-
-pub none_before : (a i : ℕ) → 0 < a → a < 4294967296 → i < count_leading_zeros 32 a → bit_at a (31 - i) ≡ 0
-none_before a i h k l = let t = leading_top 32 a h k in bit_at_above a (suc t.0) (31 - i) t.3 (omega (arith, t.1))
 
 -- the word of all bits from a column on
 abbrev tail : ℕ → ℕ
@@ -63,33 +43,62 @@ pub clear_from : (word c i : ℕ) → c < 32 → c ≤ i → i < 32 → bit_at (
 clear_from word c i h l k = omega (arith, kept word c i h k, tail_from c i h l k)
 
 -- the word of all bits after a column
-half_tail : (c i : ℕ) → i < 32 → bit_at (tail c / 2) (31 - i) ≡ bit_at (tail c) (32 - i)
-half_tail c i h =
-    let e : suc (31 - i) ≡ 32 - i = omega arith in sym (bit_at-suc (tail c) (31 - i)) ∙ ap (bit_at (tail c)) e
-
-after_upto : (c i : ℕ) → c < 32 → i ≤ c → bit_at (tail c / 2) (31 - i) ≡ 0
-after_upto c zero h l = half_tail c zero (omega arith) ∙ bit_at_above (tail c) 32 32 (tail_fits c h) (omega arith)
-after_upto c (suc i) h l =
-    let e : 32 - suc i ≡ 31 - i = omega arith in
-    half_tail c (suc i) (omega arith) ∙ ap (bit_at (tail c)) e ∙ tail_before c i h (omega arith)
-
-after_rest : (c i : ℕ) → c < 32 → c < i → i < 32 → bit_at (tail c / 2) (31 - i) ≡ 1
-after_rest c zero h l k = absurd (omega arith)
-after_rest c (suc i) h l k =
-    let e : 32 - suc i ≡ 31 - i = omega arith in
-    half_tail c (suc i) k ∙ ap (bit_at (tail c)) e ∙ tail_from c i h (omega arith) (omega arith)
-
-pub left_before : (word c i : ℕ) → c < 32 → i ≤ c → bit_at (bit_and word (tail c / 2)) (31 - i) ≡ 0
-left_before word c i h l = omega (arith, bit_at_and word (tail c / 2) (31 - i), after_upto c i h l)
-
-pub left_rest : (word c i : ℕ) → c < 32 → c < i → i < 32 → bit_at (bit_and word (tail c / 2)) (31 - i) ≡ bit_at word (31 - i)
-left_rest word c i h l k =
-    omega (arith, bit_at_and word (tail c / 2) (31 - i), after_rest c i h l k, bit_at-lt word (31 - i))
-
--- ---- the word of the bits from a column to another
+-- ---- the lowest bits of a word
 head_fits : (a : ℕ) → a < 32 → 4294967295 * 2 ^ a % 4294967296 ≡ 4294967296 - 2 ^ a
 head_fits a h = ones_shl 32 a (omega arith)
 
+one_less : (c word : ℕ) → ((i : ℕ) → i < c → bit_at word i ≡ 0) → bit_at word c ≡ 1 → bit_at (word - 1) c ≡ 0
+one_less zero word low one =
+    let odd = sym (bit_at_lowest word) ∙ one in bit_at_lowest (word - 1) ∙ omega (arith, odd)
+one_less (suc c) word low one =
+    let even = sym (bit_at_lowest word) ∙ low 0 (omega arith) in
+    let half : (word - 1) / 2 ≡ word / 2 - 1 = omega (arith, even) in
+    bit_at-suc (word - 1) c ∙ ap (λ n. bit_at n c) half
+    ∙ one_less c (word / 2) (λ i h. sym (bit_at-suc word i) ∙ low (suc i) (omega arith)) (sym (bit_at-suc word c) ∙ one)
+
+one_less_above : (c word i : ℕ) → ((j : ℕ) → j < c → bit_at word j ≡ 0) → bit_at word c ≡ 1 → c < i
+    → bit_at (word - 1) i ≡ bit_at word i
+one_less_above c word zero low one h = absurd (omega arith)
+one_less_above zero word (suc i) low one h =
+    let odd = sym (bit_at_lowest word) ∙ one in
+    let half : (word - 1) / 2 ≡ word / 2 = omega (arith, odd) in
+    bit_at-suc (word - 1) i ∙ ap (λ n. bit_at n i) half ∙ sym (bit_at-suc word i)
+one_less_above (suc c) word (suc i) low one h =
+    let even = sym (bit_at_lowest word) ∙ low 0 (omega arith) in
+    let half : (word - 1) / 2 ≡ word / 2 - 1 = omega (arith, even) in
+    bit_at-suc (word - 1) i ∙ ap (λ n. bit_at n i) half
+    ∙ one_less_above c (word / 2) i (λ j l. sym (bit_at-suc word j) ∙ low (suc j) (omega arith))
+    (sym (bit_at-suc word c) ∙ one) (omega arith)
+    ∙ sym (bit_at-suc word i)
+
+pub first_gone : (c word i : ℕ) → ((j : ℕ) → j < c → bit_at word j ≡ 0) → bit_at word c ≡ 1 → i ≤ c
+    → bit_at (bit_and word (word - 1)) i ≡ 0
+first_gone c word i low one h = by (below_or_not i c)
+  where
+    by : (i < c) ⊎ (c ≤ i) → bit_at (bit_and word (word - 1)) i ≡ 0
+    by (inl l) = omega (arith, bit_at_and word (word - 1) i, low i l)
+    by (inr l) =
+        let e : c ≡ i = omega arith in
+        let z = ap (bit_at (word - 1)) (sym e) ∙ one_less c word low one in
+        omega (arith, bit_at_and word (word - 1) i, z)
+
+pub first_rest : (c word i : ℕ) → ((j : ℕ) → j < c → bit_at word j ≡ 0) → bit_at word c ≡ 1 → c < i
+    → bit_at (bit_and word (word - 1)) i ≡ bit_at word i
+first_rest c word i low one h = omega (arith, bit_at_and word (word - 1) i, one_less_above c word i low one h)
+
+pub lowest_gone : (word : ℕ) → bit_at (bit_and word (4294967295 * 2 ^ 1 % 4294967296)) 0 ≡ 0
+lowest_gone word =
+    let y : bit_at (4294967295 * 2 ^ 1 % 4294967296) 0 ≡ 0 =
+    ap (λ (n : ℕ). bit_at n 0) (head_fits 1 (omega arith)) ∙ bit_at_mask_below 1 32 0 (omega arith) in
+    omega (arith, bit_at_and word (4294967295 * 2 ^ 1 % 4294967296) 0, y)
+
+pub lowest_rest : (word i : ℕ) → 0 < i → i < 32 → bit_at (bit_and word (4294967295 * 2 ^ 1 % 4294967296)) i ≡ bit_at word i
+lowest_rest word i h l =
+    let y : bit_at (4294967295 * 2 ^ 1 % 4294967296) i ≡ 1 =
+    ap (λ (n : ℕ). bit_at n i) (head_fits 1 (omega arith)) ∙ bit_at_mask_inside 1 32 i (omega arith) (omega arith) in
+    omega (arith, bit_at_and word (4294967295 * 2 ^ 1 % 4294967296) i, y, bit_at-lt word i)
+
+-- ---- the word of the bits from a column to another
 pub between_inside : (b a i : ℕ) → b < 32 → a < 32 → b ≤ i → i + a < 32
     → bit_at (bit_and (tail b) (4294967295 * 2 ^ a % 4294967296)) (31 - i) ≡ 1
 between_inside b a i h k l m =

@@ -1,8 +1,7 @@
-//! From a row to the next one.
+//! From a row to the next one, which need not be a row of pixels.
 
-ghost use Rattle.std.specs.Prelude.{◌≡◌, ◌^◌, pos, ◌+ℤ◌, ◌-ℤ◌, ◌*ℤ◌, ◌<ℤ◌, Some};
+ghost use Rattle.std.specs.Prelude.{◌≡◌, ◌^◌, pos, ◌+ℤ◌, ◌-ℤ◌, ◌*ℤ◌, Some};
 ghost use Rattle.fx_fixed.specs.Ranges.{IsWithin};
-ghost use Rattle.fx_winding.specs.Limits.{end_of_pixels};
 ghost use Rattle.fx_winding.specs.Winding.{place_of, span_of, centre};
 ghost use Rattle.fx_rows.specs.inner.Sides.{place_at, side};
 ghost use Rattle.fx_rows.specs.inner.Arcs.{AreAreas};
@@ -23,7 +22,6 @@ fn lift_of(p: Point, q: Point) -> i64
 /// The areas of an arc at the base in the row above, from those in this row.
 pub(crate) fn arc_areas_above(piece: &Piece, b: Point, strip: Strip, areas: Weights) -> Weights
     requires middle { piece.now.b ≡ Some b }
-    requires row { (strip.row +ℤ pos 1) <ℤ end_of_pixels }
     requires areas { AreAreas (span_of piece.now) (place_at strip 0) areas }
     ensures { AreAreas (span_of piece.now) (centre (strip.base +ℤ pos 0) (strip.row +ℤ pos 1)) result }
 {
@@ -36,7 +34,6 @@ pub(crate) fn arc_areas_above(piece: &Piece, b: Point, strip: Strip, areas: Weig
 
 /// The side of the chord on which the base lies in the row above, from that in this row.
 pub(crate) fn side_above(piece: &Piece, strip: Strip, start: i64) -> i64
-    requires row { (strip.row +ℤ pos 1) <ℤ end_of_pixels }
     requires start { start ≡ side (place_of piece.now.a) (place_of piece.now.c) (place_at strip 0) }
     ensures value { result ≡
         side (place_of piece.now.a) (place_of piece.now.c) (centre (strip.base +ℤ pos 0) (strip.row +ℤ pos 1)) }
@@ -48,7 +45,6 @@ pub(crate) fn side_above(piece: &Piece, strip: Strip, start: i64) -> i64
 /// A bent arc in the row above, from what it is in this row.
 #[inline(always)]
 pub(crate) fn arc_above(piece: &Piece, strip: Strip, arc: ArcRow) -> ArcRow
-    requires row { (strip.row +ℤ pos 1) <ℤ end_of_pixels }
     requires arc { IsArcAt arc piece.now (place_at strip 0) }
     ensures { IsArcAt result piece.now (centre (strip.base +ℤ pos 0) (strip.row +ℤ pos 1)) }
 {

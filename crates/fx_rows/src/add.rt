@@ -1,11 +1,10 @@
 //! What a piece adds to a band of rows.
 
 ghost use Rattle.std.specs.Prelude.{◌≡◌, ℕ, ◌+◌, ◌-◌, ◌*◌, ◌^◌, ◌<◌, ◌≤◌, pos, ◌+ℤ◌, ◌<ℤ◌, Some};
-ghost use Rattle.fx_winding.specs.Limits.{end_of_pixels};
-ghost use Rattle.fx_winding.specs.Winding.{Span, span_of, centre};
+ghost use Rattle.fx_winding.specs.Winding.{Span, span_of};
 ghost use Rattle.fx_rows.specs.inner.Arcs.{AreAreas};
 ghost use Rattle.fx_rows.specs.inner.Placing.{AreBetween, AreMet};
-ghost use Rattle.fx_rows.specs.inner.Strips.{base_place};
+ghost use Rattle.fx_rows.specs.inner.Strips.{base_place, IsBase};
 ghost use Rattle.fx_rows.specs.inner.Sides.{place_at};
 ghost use Rattle.fx_rows.specs.inner.Inside.{IsOnInside};
 ghost use Rattle.fx_rows.specs.inner.Cuts.{IsCut};
@@ -18,8 +17,10 @@ use crate::band::Band;
 use crate::bounded::{Bounded, bounds_of, rise_of};
 use crate::cells::Cut;
 use crate::chord::base_side;
+use crate::column::{is_one_column, strip_of_column};
 use crate::counts::{add_before, add_run};
-use crate::cuts::{ArcCuts, ClearCuts, Cuts, FlatCuts, LineCuts};
+use crate::cut::ArcRow;
+use crate::cuts::{ArcCuts, ClearCuts, ColumnCuts, Cuts, FlatCuts, LineCuts};
 use crate::heights::{Met, RowRange, rows_between, rows_met};
 use crate::intervals::met_part;
 use crate::marks::mark;
@@ -117,18 +118,6 @@ fn add_cut(band: &mut Band, up: u32, strip: Strip, end: u32, cut: Cut)
     mark(&mut band.marks, frame, first, cut.on);
 }
 
-/// Moves the cuts to the next row, which is `up`, unless that is the end. The plane may have no row of pixels there to move to.
-#[inline(always)]
-fn move_up_before<C: Cuts + Drop>(cuts: &mut C, bounded: &Bounded, strip: Strip, up: u32, end: u32)
-    requires at { C.AreAt cuts.old bounded.now (place_at strip 0) }
-    requires row { up < end → (strip.row +ℤ pos 1) <ℤ end_of_pixels }
-    ensures { up < end → C.AreAt cuts.new bounded.now (centre (strip.base +ℤ pos 0) (strip.row +ℤ pos 1)) }
-{
-    if up < end {
-        cuts.move_up(bounded, strip);
-    }
-}
-
 /// Adds the cuts of a piece to rows between its ends, and tells where they end. It is compiled once for each kind of cuts.
 fn add_cuts<C: Cuts + Drop, N: Noting>(
     bounded: &Bounded,
@@ -154,8 +143,56 @@ fn add_cuts<C: Cuts + Drop, N: Noting>(
         let end = cut.end.saturating_sub(strip.start);
         noter.tell(up, end);
         add_cut(band, up, strip, end, cut);
-        move_up_before(&mut cuts, bounded, strip, up + 1, rows.end);
+        cuts.move_up(bounded, strip);
     }
+}
+
+/// Adds what an arc gives to rows between its ends that has one column's centre in its box.
+#[inline(always)]
+fn add_column_rows<N: Noting>(
+    bounded: &Bounded,
+    b: Point,
+    rows: RowRange,
+    strip: Strip,
+    band: &mut Band,
+    noter: &mut N,
+    tally: &mut Tally,
+)
+    requires middle { bounded.now.piece.b ≡ Some b }
+    requires one { bounded.now.across.end ≡ bounded.now.across.first +ℤ pos 1 }
+    requires near { IsBase bounded.now.across.first 1 }
+    requires some { rows.first < rows.end }
+    requires rows { rows.end ≤ band.old.frame.height }
+    requires inner { AreInner bounded.now band.old.frame rows.first rows.end }
+    requires base { place_at strip 0 ≡ base_place band.old.frame rows.first }
+    requires small { AreWithin (2 ^ 25 + 4 * rows.first) band.old.diff.items }
+    ensures added { AreRowsAdded (N.IsTold noter.new) (bounded_span bounded.now) rows.first rows.end band.old band.new }
+    ensures kept { Keeps (N.Says noter.old) (N.Says noter.new) }
+    ensures count { tally.new.count ≤ tally.old.count + 11 * (rows.end - rows.first) }
+{
+    let column = bounded.across.first;
+    let own = strip_of_column(strip, column);
+    let areas = areas_at(&bounded.piece, own, 0, tally);
+    let total = total_of(areas);
+    if total == 0 {
+        let areas = areas_at(&bounded.piece, strip, 0, tally);
+        return add_cuts(bounded, FlatCuts { b, areas }, rows, band, noter, tally);
+    }
+    let arc = ArcRow {
+        b,
+        right: is_right(&bounded.piece, total),
+        touches: true,
+        areas,
+        side: base_side(&bounded.piece, own, areas),
+    };
+    add_cuts(
+        bounded,
+        ColumnCuts { arc, column },
+        rows,
+        band,
+        noter,
+        tally,
+    );
 }
 
 /// Adds what an arc gives to rows between its ends.
@@ -189,6 +226,33 @@ fn add_curve_rows<N: Noting>(
     add_cuts(bounded, cuts, rows, band, noter, tally);
 }
 
+/// Adds what an arc gives to rows between its ends, by its areas at the column in its box, or at the base if it has more columns.
+fn add_arc_rows<N: Noting>(
+    bounded: &Bounded,
+    b: Point,
+    rows: RowRange,
+    strip: Strip,
+    band: &mut Band,
+    noter: &mut N,
+    tally: &mut Tally,
+)
+    requires middle { bounded.now.piece.b ≡ Some b }
+    requires some { rows.first < rows.end }
+    requires rows { rows.end ≤ band.old.frame.height }
+    requires inner { AreInner bounded.now band.old.frame rows.first rows.end }
+    requires base { place_at strip 0 ≡ base_place band.old.frame rows.first }
+    requires small { AreWithin (2 ^ 25 + 4 * rows.first) band.old.diff.items }
+    ensures added { AreRowsAdded (N.IsTold noter.new) (bounded_span bounded.now) rows.first rows.end band.old band.new }
+    ensures kept { Keeps (N.Says noter.old) (N.Says noter.new) }
+    ensures count { tally.new.count ≤ tally.old.count + 11 * (rows.end - rows.first) }
+{
+    if is_one_column(bounded.across, strip) {
+        return add_column_rows(bounded, b, rows, strip, band, noter, tally);
+    }
+    let areas = areas_at(&bounded.piece, strip, 0, tally);
+    add_curve_rows(bounded, b, rows, strip, areas, band, noter, tally);
+}
+
 /// Adds what a piece gives to rows between its ends.
 #[tactic(auto, using(fx_fixed::proofs::Linear::signed_linear))]
 fn add_inner_rows<N: Noting>(
@@ -210,13 +274,13 @@ fn add_inner_rows<N: Noting>(
         return add_cuts(bounded, ClearCuts, rows, band, noter, tally);
     }
     let strip = strip_of(band.frame, row_of(band.frame, rows.first));
-    let areas = areas_at(&bounded.piece, strip, 0, tally);
     match bounded.piece.b {
         None => {
+            let areas = areas_at(&bounded.piece, strip, 0, tally);
             let side = base_side(&bounded.piece, strip, areas);
             add_cuts(bounded, LineCuts { side }, rows, band, noter, tally);
         }
-        Some(b) => add_curve_rows(bounded, b, rows, strip, areas, band, noter, tally),
+        Some(b) => add_arc_rows(bounded, b, rows, strip, band, noter, tally),
     }
 }
 

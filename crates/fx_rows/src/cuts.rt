@@ -1,7 +1,6 @@
 //! What pieces add to rows between their ends, row by row, from the lowest.
 
-ghost use Rattle.std.specs.Prelude.{◌≡◌, ◌+◌, ◌≤◌, ℤ, pos, ◌+ℤ◌, ◌*ℤ◌, ◌<ℤ◌, false, Some};
-ghost use Rattle.fx_winding.specs.Limits.{end_of_pixels};
+ghost use Rattle.std.specs.Prelude.{◌≡◌, ◌+◌, ◌≤◌, ℤ, pos, ◌+ℤ◌, ◌*ℤ◌, false, Some};
 ghost use Rattle.fx_winding.specs.Winding.{Span, centre};
 ghost use Rattle.fx_rows.specs.Parts.{IsBent};
 ghost use Rattle.fx_rows.specs.inner.Arcs.{AreAreas, IsTurned, MissesCentres};
@@ -9,11 +8,13 @@ ghost use Rattle.fx_rows.specs.inner.Sides.{place_at};
 ghost use Rattle.fx_rows.specs.inner.Points.{IsInner};
 ghost use Rattle.fx_rows.specs.inner.Bands.{bounded_span};
 ghost use Rattle.fx_rows.specs.inner.Cuts.{IsCut};
+ghost use Rattle.fx_rows.specs.inner.Strips.{IsBase};
 
 use crate::above::{arc_above, arc_areas_above, side_above};
 use crate::bounded::Bounded;
 use crate::cells::Cut;
 use crate::chord::base_side;
+use crate::column::{column_cut, strip_of_column};
 use crate::cut::{ArcRow, arc_cut, clear_cut, first_guess, flat_cut, line_cut};
 use crate::strip::Strip;
 use fx_winding::{Frame, Point, Tally, Weights, curve_gap};
@@ -35,10 +36,9 @@ pub(crate) trait Cuts {
         ensures same { AreAt self.new bounded.now (place_at strip 0) }
         ensures count { tally.new.count ≤ tally.old.count + 1 };
 
-    /// The cuts go on to the row above.
+    /// The cuts go on to the row above, which need not be a row of pixels.
     fn move_up(&mut self, bounded: &Bounded, strip: Strip)
         requires at { AreAt self.old bounded.now (place_at strip 0) }
-        requires row { (strip.row +ℤ pos 1) <ℤ end_of_pixels }
         ensures { AreAt self.new bounded.now (centre (strip.base +ℤ pos 0) (strip.row +ℤ pos 1)) };
 }
 
@@ -157,6 +157,31 @@ impl ArcCuts {
             guess,
             last: guess,
         }
+    }
+}
+
+/// The cuts of a bent arc that has one column's centre in its box: the arc in the row, its areas those of this column.
+#[derive(Clone, Copy)]
+pub(crate) struct ColumnCuts {
+    pub arc: ArcRow,
+    pub column: i32,
+    ghost near: { IsBase column 1 },
+}
+
+impl Cuts for ColumnCuts {
+    ghost use Rattle.fx_rows.specs.inner.Cuts.{IsColumnArc};
+
+    ghost AreAt = { λ cuts b p. IsColumnArc cuts.arc cuts.column b p };
+
+    #[inline(always)]
+    fn cut(&mut self, bounded: &Bounded, strip: Strip, tally: &mut Tally) -> Cut {
+        column_cut(bounded, self.arc, self.column, strip, tally)
+    }
+
+    #[inline(always)]
+    fn move_up(&mut self, bounded: &Bounded, strip: Strip) {
+        let own = strip_of_column(strip, self.column);
+        self.arc = arc_above(&bounded.piece, own, self.arc);
     }
 }
 

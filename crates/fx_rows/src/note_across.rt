@@ -22,7 +22,7 @@ use crate::bounded::{Bounded, bounds_of, rise_of};
 use crate::bulge::note_line;
 use crate::heights::RowRange;
 use crate::line::Line;
-use crate::placed::{Placed, first_of};
+use crate::placed::{Placed, copied, first_of};
 use crate::reach::columns_under;
 use crate::strip::row_of;
 use fx_winding::{Frame, Piece, Tally, first_from, set_bit};
@@ -87,7 +87,8 @@ fn note_rows(
 }
 
 /// Notes the segments that a piece meets across those rows of a band that are before some of the rows that it can touch, or after
-/// them. There are few.
+/// them. There are few, so their code is kept out of the others' way.
+#[inline(never)]
 fn note_others(
     piece: &Piece,
     placed: Placed,
@@ -141,6 +142,6 @@ pub(crate) fn note_across(
     let ended = placed.met.inner;
     note_ends(piece, placed, ended, ends, across);
     if touched.first < ended.first || ended.end < touched.end {
-        note_others(piece, placed, ended, across, tally);
+        note_others(piece, copied(placed), ended, across, tally);
     }
 }

@@ -31,23 +31,33 @@ pub(crate) struct Noter {
     ghost exact: { IsTrue notes.exact },
 }
 
+/// Notes of a frame's segments in which nothing is noted, in the buffers of a scratch.
+pub(crate) fn no_notes(
+    alloc: Global,
+    frame: Frame,
+    scratch: &mut Scratch,
+) -> Result<Notes, AllocError>
+    ensures frame { IfOk result (λ n. n.frame ≡ frame) }
+    ensures exact { IfOk result (λ n. IsTrue n.exact) }
+    ensures none { (ss : List Span) → IfOk result (λ n. AreMetBySome n.frame n.across.items n.up.items ss) }
+{
+    let mut notes = Notes::none(alloc, frame, scratch)?;
+    notes.exact = true;
+    Ok(notes)
+}
+
 impl Noter {
-    /// Nothing is noted of a frame's segments. The notes are made in the buffers of a scratch.
-    pub(crate) fn new(
-        alloc: Global,
-        frame: Frame,
-        scratch: &mut Scratch,
-    ) -> Result<Noter, AllocError>
-        ensures frame { IfOk result (λ n. n.notes.frame ≡ frame) }
-        ensures none { (ss : List Span) → IfOk result (λ n. AreMetBySome n.notes.frame n.notes.across.items n.notes.up.items ss) }
+    /// Nothing is noted but what these notes have. They are made before, since a noter in a result would be copied out of it.
+    #[inline(always)]
+    pub(crate) fn of(notes: Notes) -> Noter
+        requires { IsTrue notes.exact }
+        ensures { result.notes ≡ notes }
     {
-        let mut notes = Notes::none(alloc, frame, scratch)?;
-        notes.exact = true;
-        Ok(Noter {
+        Noter {
             notes,
             apart: false,
             ends: [0; MOST_ROWS as usize],
-        })
+        }
     }
 }
 

@@ -33,6 +33,23 @@ pub(crate) struct Placed {
     ghost row_below: { lowest ≡ false → IsPixelNumber (frame.bottom -ℤ pos 1) },
 }
 
+/// The same piece in memory of its own. A function of its own is given this, made where it is called: if it were given the piece
+/// itself, that would be written to memory for each piece, though few come there.
+#[inline(always)]
+pub(crate) fn copied(placed: Placed) -> Placed
+    ensures { result ≡ placed }
+{
+    Placed {
+        frame: placed.frame,
+        below: placed.below,
+        met: placed.met,
+        across: placed.across,
+        reach: placed.reach,
+        lowest: placed.lowest,
+        highest: placed.highest,
+    }
+}
+
 /// The number of the first segment of a band's row, that to its first pixel.
 #[inline(always)]
 pub(crate) fn first_of(placed: Placed, up: u32) -> usize

@@ -6,24 +6,34 @@ ghost use Rattle.fx_fixed.specs.Ranges.{IsWithin};
 ghost use Rattle.fx_winding.specs.Bitmaps.{word_bit};
 ghost use Rattle.fx_rows.specs.inner.Sums.{before, sum_of, AreTouched, count_bit};
 
-/// The first column of a word whose bit is set.
+/// The first column whose bit is set, in a word whose lowest bits come first.
 pub(crate) fn first_column(word: u32) -> u32
     requires { 0 < word }
     ensures within { result < 32 }
-    ensures set { bit_at word (31 - result) ≡ 1 }
-    ensures before { (i : ℕ) → i < result → bit_at word (31 - i) ≡ 0 }
+    ensures set { bit_at word result ≡ 1 }
+    ensures before { (i : ℕ) → i < result → bit_at word i ≡ 0 }
 {
-    word.leading_zeros()
+    word.trailing_zeros()
 }
 
-/// The word without the bits up to a column.
-fn without_columns(word: u32, column: u32) -> u32
-    requires within { column < 32 }
-    ensures before { (i : ℕ) → i ≤ column → bit_at result (31 - i) ≡ 0 }
-    ensures rest { (i : ℕ) → column < i → i < 32 → bit_at result (31 - i) ≡ bit_at word (31 - i) }
-    ensures less { bit_at word (31 - column) ≡ 1 → result < word }
+/// The word without the bit of column 0.
+fn without_lowest(word: u32) -> u32
+    ensures first { bit_at result 0 ≡ 0 }
+    ensures rest { (i : ℕ) → 0 < i → i < 32 → bit_at result i ≡ bit_at word i }
 {
-    word & u32::MAX >> column >> 1
+    word & u32::MAX << 1
+}
+
+/// The word without the first bit that is set, which is that of some column k.
+fn without_first(word: u32) -> u32
+    requires { 0 < word }
+    ensures before { (k : ℕ) → bit_at word k ≡ 1 → ((j : ℕ) → j < k → bit_at word j ≡ 0) →
+        (i : ℕ) → i ≤ k → bit_at result i ≡ 0 }
+    ensures rest { (k : ℕ) → bit_at word k ≡ 1 → ((j : ℕ) → j < k → bit_at word j ≡ 0) →
+        (i : ℕ) → k < i → bit_at result i ≡ bit_at word i }
+    ensures less { result < word }
+{
+    word & (word - 1)
 }
 
 /// The word with the bits from a column on all set, or all 0.
@@ -49,12 +59,13 @@ fn taken(diff: &mut [i32], at: usize) -> i32
 }
 
 /// The bits of the 32 columns from one on, the first one's the highest: set where the count is not 0. `count`, which is that
-/// of the column before, moves on to the last one's, and the differences become 0. The first column needs no bit of `touched`.
+/// of the column before, moves on to the last one's, and the differences become 0. The first column needs no bit of `touched`,
+/// whose lowest bits come first.
 /// The loop over words is to have it in its body.
 #[inline(always)]
 fn settle_word(diff: &mut [i32], touched: u32, from: usize, count: &mut i32) -> u32
     requires inside { from + 32 ≤ length diff.old }
-    requires touched { (i : ℕ) → 0 < i → i < 32 → bit_at touched (31 - i) ≡ 0 → get_or diff.old (from + i) (pos 0) ≡ pos 0 }
+    requires touched { (i : ℕ) → 0 < i → i < 32 → bit_at touched i ≡ 0 → get_or diff.old (from + i) (pos 0) ≡ pos 0 }
     requires small { (i : ℕ) → i ≤ 32 → IsWithin (2 ^ 20) (count.old +ℤ sum_of diff.old from i) }
     ensures bits { (i : ℕ) → i < 32 → bit_at result (31 - i) ≡ count_bit (count.old +ℤ sum_of diff.old from (i + 1)) 0 }
     ensures count { count.new ≡ count.old +ℤ sum_of diff.old from 32 }
@@ -63,13 +74,13 @@ fn settle_word(diff: &mut [i32], touched: u32, from: usize, count: &mut i32) -> 
 {
     let mut sum = *count + taken(diff, from);
     let mut bits = with_rest(0, 0, sum != 0);
-    let mut left = without_columns(touched, 0);
+    let mut left = without_lowest(touched);
     // The touched columns before those left are settled; from the last of them on, all bits are that of the count.
     'columns: while left != 0 {
         let column = first_column(left);
         sum += taken(diff, from + column as usize);
         bits = with_rest(bits, column, sum != 0);
-        left = without_columns(left, column);
+        left = without_first(left);
     }
     *count = sum;
     bits

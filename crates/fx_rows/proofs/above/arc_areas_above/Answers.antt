@@ -1,11 +1,11 @@
-use Rattle.std.proofs.Common.{◌≡◌, ◌∙◌, ap, sym, Option, ℤ, pos, ◌+ℤ◌, ◌*ℤ◌, arith, w32, w64, to_z, of_z}
+use Rattle.std.proofs.Common.{◌≡◌, ◌∙◌, ap, sym, Option, ℤ, pos, ◌+ℤ◌, ◌*ℤ◌, arith, w64, to_z, of_z}
 use Rattle.fx_fixed.proofs.Linear.{signed, signed_linear}
 use Rattle.fx_fixed.specs.Ranges.{IsWithin}
 use Rattle.fx_winding.specs.declared.point.Point.{Point}
 use Rattle.fx_winding.specs.Winding.{place_of, maybe_place_of, areas_of_part, centre}
 use Rattle.fx_rows.specs.inner.Sides.{place_at}
 use Rattle.fx_rows.proofs.Gaps.{areas_some, arc_up}
-use Rattle.fx_rows.proofs.Sides.{area_within}
+use Rattle.fx_rows.proofs.Sides.{area_within_above, within_above}
 use Rattle.fx_rows.proofs.above.arc_areas_above.Goals as goal
 
 pub invariant_of-result : goal.invariant_of-result
@@ -19,11 +19,9 @@ invariant_of-result c =
     let lu = c.lift_of.ensures in
     let lv = c.lift_of-2.ensures in
     let lw = c.lift_of-3.ensures in
-    let row : to_z w32 (of_z w32 t.row) ≡ t.row = omega (arith, signed_linear, t.row_near) in
     let nx : IsWithin 4194304 x = let n = t.base_near in
     (omega (arith, signed, n.low, n.high), omega (arith, signed, n.low, n.high)) in
-    let ny : IsWithin 4194304 y = let n = t.row_near in
-    (omega (arith, signed, n, row, c.requires.row), omega (arith, signed, n, row, c.requires.row)) in
+    let ny : IsWithin 4194368 y = let n = t.row_near in (omega (arith, signed, n), omega (arith, signed, n)) in
     let eu : to_z w64 (of_z w64 (to_z w64 (of_z w64 m.u) +ℤ to_z w64 (of_z w64 c.lift_of.result))) ≡ m.u +ℤ c.lift_of.result =
     omega (arith, signed_linear, m.near_u, lu.size) in
     let ev : to_z w64 (of_z w64 (to_z w64 (of_z w64 m.v) +ℤ to_z w64 (of_z w64 c.lift_of-2.result))) ≡ m.v +ℤ c.lift_of-2.result =
@@ -33,9 +31,12 @@ invariant_of-result c =
     let h = areas_some s b (place_at t 0) m c.requires.middle c.requires.areas in
     let e = arc_up (place_of s.a) (place_of b) (place_of s.c) (t.base +ℤ pos 0) t.row m.u m.v m.w _ _ _ h.u h.v h.w
     (eu ∙ ap (λ (z : ℤ). m.u +ℤ z) lu.value) (ev ∙ ap (λ (z : ℤ). m.v +ℤ z) lv.value) (ew ∙ ap (λ (z : ℤ). m.w +ℤ z) lw.value) in
-    let au = area_within x y b.x b.y s.c.x s.c.y nx ny b.near_x b.near_y s.c.near_x s.c.near_y in
-    let av = area_within s.a.x s.a.y x y s.c.x s.c.y s.a.near_x s.a.near_y nx ny s.c.near_x s.c.near_y in
-    let aw = area_within s.a.x s.a.y b.x b.y x y s.a.near_x s.a.near_y b.near_x b.near_y nx ny in
+    let ha = within_above s.a.y s.a.near_y in
+    let hb = within_above b.y b.near_y in
+    let hc = within_above s.c.y s.c.near_y in
+    let au = area_within_above x y b.x b.y s.c.x s.c.y nx ny b.near_x hb s.c.near_x hc in
+    let av = area_within_above s.a.x s.a.y x y s.c.x s.c.y s.a.near_x ha nx ny s.c.near_x hc in
+    let aw = area_within_above s.a.x s.a.y b.x b.y x y s.a.near_x ha b.near_x hb nx ny in
     record {
       near_u = let z = e.0 in (omega (arith, signed_linear, z, au), omega (arith, signed_linear, z, au));
       near_v = let z = e.1 in (omega (arith, signed_linear, z, av), omega (arith, signed_linear, z, av));

@@ -1,7 +1,7 @@
 use Rattle.std.proofs.Common.{◌≡◌, ◌∙◌, subst, ℕ, arith}
 use Rattle.fx_rows.specs.inner.Bands.{bounded_span}
 use Rattle.fx_rows.specs.inner.Telling.{AreRowsAdded}
-use Rattle.fx_rows.proofs.Stepping.{strip_row, row_in, inner_row, cut_inside, band_small, at_base, at_base_above, next_row_in}
+use Rattle.fx_rows.proofs.Stepping.{strip_row, row_in, inner_row, cut_inside, band_small, at_base, at_base_above}
 use Rattle.fx_rows.proofs.Telling.{rise_told, cut_end, added_start, added_next}
 use Rattle.fx_rows.proofs.add.add_cuts.Goals as goal
 
@@ -48,14 +48,6 @@ pub add_cut-requires-clause-on : goal.add_cut-requires-clause-on
 add_cut-requires-clause-on g c = cut_inside (bounded_span c.args.bounded.now) c.strip_of-strip.result c.rows.band.frame
     c.cut-cut.result c.strip_of-strip.ensures.first c.strip_of-strip.ensures.last c.cut-cut.ensures.cut
 
-pub move_up_before-requires-clause-row : goal.move_up_before-requires-clause-row
-move_up_before-requires-clause-row g c = λ h.
-    let at = strip_row c.strip_of-strip.result c.row_of.result _ c.row_of.ensures.near c.strip_of-strip.ensures.row
-    c.row_of.ensures.value in
-    let r = c.requires.rows in
-    next_row_in c.args.band.now.frame c.rows.band.frame c.strip_of-strip.result.row c.rows.up c.rows.invariant.added.frame at
-    (omega (arith, h, r))
-
 pub rows-preserved : goal.rows-preserved
 rows-preserved g c =
     let s = bounded_span c.args.bounded.now in
@@ -75,9 +67,8 @@ rows-preserved g c =
           c.add_cut.ensures.frame (c.add_cut.ensures.added s c.cut-cut.ensures.cut) c.tell.ensures.others c.tell.ensures.told is;
       kept = λ x h. c.tell.ensures.kept x (inv.kept x h);
       at = λ h.
-          let r = c.requires.rows in
-          at_base_above (g.C.Cuts.AreAt c.move_up_before.new.cuts c.args.bounded.now) c.args.band.now.frame now strip c.rows.up
-          inv.added.frame at c.strip_of-strip.ensures.base (c.move_up_before.ensures (omega (arith, h, r)));
+          at_base_above (g.C.Cuts.AreAt c.move_up.new.self c.args.bounded.now) c.args.band.now.frame now strip c.rows.up
+          inv.added.frame at c.strip_of-strip.ensures.base c.move_up.ensures;
       count = omega (arith, n, m);
     }
 

@@ -2,6 +2,7 @@ use Rattle.std.proofs.Common.{◌≡◌, ℕ, ◌∙◌, ◌+◌, ℤ, pos, ◌+
 use Rattle.fx_fixed.proofs.Linear.{signed_linear}
 use Rattle.fx_rows.proofs.Changes.{settling_first, settling_more, count_to, count_at, settled, sum_zero, sum_next}
 use Rattle.fx_rows.proofs.Changes.{emptying_first, emptying_more}
+use Rattle.std.specs.Int.{bit_at}
 use Rattle.fx_rows.specs.inner.Sums.{count_bit}
 use Rattle.fx_rows.proofs.Masks.{bit_is}
 use Rattle.fx_rows.proofs.settle.settle_word.Goals as goal
@@ -33,13 +34,14 @@ columns-init c =
     let fits : FitsSigned w32 raw = omega (arith, signed_linear, z, o, d, a, b, t) in
     let same : raw ≡ new = omega (arith, signed_linear, z, o, d, a, b, t) in
     let set = bit_is raw fits ∙ ap (λ (z : ℤ). count_bit z 0) same in
-    let w = c.without_columns-left.ensures in
+    let w = c.without_lowest-left.ensures in
     record {
       settling = settling_first c.args.diff.now c.args.from c.args.count.now new c.with_rest-bits.result
-          c.without_columns-left.result sum (λ i h. c.with_rest-bits.ensures.rest i (omega arith) h ∙ set)
-          (w.before 0 (omega arith)) (λ i h l b. c.requires.touched i h l (sym (w.rest i h l) ∙ b));
-      emptying = emptying_first c.args.diff.now c.taken.new.diff c.args.from c.args.touched c.without_columns-left.result
-          c.taken.ensures.here c.taken.ensures.others c.requires.touched w.before w.rest;
+          c.without_lowest-left.result sum (λ i h. c.with_rest-bits.ensures.rest i (omega arith) h ∙ set)
+          w.first (λ i h l b. c.requires.touched i h l (sym (w.rest i h l) ∙ b));
+      emptying = emptying_first c.args.diff.now c.taken.new.diff c.args.from c.args.touched c.without_lowest-left.result
+          c.taken.ensures.here c.taken.ensures.others c.requires.touched
+          (λ i h. let e : i ≡ 0 = omega arith in ap (bit_at c.without_lowest-left.result) e ∙ w.first) w.rest;
     }
 
 pub overflow_add-sum-in-columns : goal.overflow_add-sum-in-columns
@@ -57,7 +59,7 @@ overflow_add-sum-in-columns c =
     omega (arith, signed_linear, to, at, a, b, t)
 
 pub columns-smaller : goal.columns-smaller
-columns-smaller c = c.without_columns-left-in-columns.ensures.less c.first_column-column.ensures.set
+columns-smaller c = c.without_first-left.ensures.less
 
 pub columns-preserved : goal.columns-preserved
 columns-preserved c =
@@ -78,16 +80,17 @@ columns-preserved c =
     let fits : FitsSigned w32 raw = omega (arith, signed_linear, to, at, a, b, t) in
     let same : raw ≡ new = omega (arith, signed_linear, to, at, a, b, t) in
     let set = bit_is raw fits ∙ ap (λ (z : ℤ). count_bit z 0) same in
-    let w = c.without_columns-left-in-columns.ensures in
+    let w = c.without_first-left.ensures in
     record {
       settling = settling_more c.args.diff.now c.args.from c.args.count.now (to_z w32 c.columns.sum-bits) new c.columns.bits
-          c.with_rest-bits-in-columns.result c.columns.left c.without_columns-left-in-columns.result k i f.within f.set
+          c.with_rest-bits-in-columns.result c.columns.left c.without_first-left.result k i f.within f.set
           f.before sum
           c.with_rest-bits-in-columns.ensures.before (λ j h l. c.with_rest-bits-in-columns.ensures.rest j h l ∙ set)
-          w.before w.rest;
+          (w.before k f.set f.before) (λ i h l. w.rest k f.set f.before i h);
       emptying = emptying_more c.args.diff.now c.columns.diff c.taken-sum.new.diff c.args.from c.columns.left
-          c.without_columns-left-in-columns.result k c.columns.invariant.emptying c.taken-sum.ensures.here f.within
-          c.taken-sum.ensures.others f.before w.before w.rest;
+          c.without_first-left.result k c.columns.invariant.emptying c.taken-sum.ensures.here f.within
+          c.taken-sum.ensures.others f.before (w.before k f.set f.before)
+          (λ i h l. w.rest k f.set f.before i h);
     }
 
 pub returns-clause-bits : goal.returns-clause-bits

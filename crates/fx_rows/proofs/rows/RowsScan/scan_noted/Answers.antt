@@ -3,6 +3,7 @@ use Rattle.std.specs.List.{All}
 use Rattle.fx_winding.specs.declared.frame.Frame.{Frame}
 use Rattle.fx_winding.specs.declared.point.Piece.{Piece}
 use Rattle.fx_winding.specs.Notes.{IsNoted}
+use Rattle.fx_winding.specs.declared.notes.Notes.{Notes}
 use Rattle.fx_winding.specs.Winding.{Span, span_of}
 use Rattle.fx_rows.specs.inner.Placing.{IsApart}
 use Rattle.fx_rows.specs.inner.Telling.{AreMetBySome, AreNotedIn, BitsSay, of_pieces}
@@ -31,9 +32,12 @@ returns-clause-exact c = λ t.
     let up = c.notes_of-notes.result.up.items in
     let P : List Piece → Type 0 =
     λ ps. AreMetBySome n.frame n.across.items n.up.items (map span_of ps) → AreMetBySome n.frame across up (map span_of ps) in
+    let none =
+    subst (λ (m : Notes). AreMetBySome m.frame m.across.items m.up.items ss) (sym c.of-noter.ensures)
+    (c.in_ok-notes.ensures.none ss) in
     let all = subst P c.as_slice.ensures.value c.notes_of-notes.ensures.only in
     exact_of c.args.frame across up ss (subst (λ (f : Frame). AreMetBySome f across up ss) c.scan_noting.ensures.of
-    (all (c.scan_noting.ensures.kept (of_pieces ss) (all_among ss) (c.in_ok-noter.ensures.none ss))))
+    (all (c.scan_noting.ensures.kept (of_pieces ss) (all_among ss) none)))
 
 pub returns-clause-noted : goal.returns-clause-noted
 returns-clause-noted c =
