@@ -1,6 +1,6 @@
 -- Places of a segment at which a piece is alike: it lies to one side of all of them, or its areas with them keep their signs.
 -- Serves `run` and `places`.
-use Rattle.std.proofs.Common.{◌≡◌, ◌≢◌, ◌⊎◌, inl, inr, refl, sym, ap, ◌∙◌, subst, ℕ, ◌+◌, ◌-◌, ◌*◌, ◌≤◌, ◌<◌, ℤ, pos, negsuc, zero, suc}
+use Rattle.std.proofs.Common.{◌≡◌, ◌≢◌, ◌⊎◌, inl, inr, refl, sym, ap, ◌∙◌, subst, ℕ, ◌+◌, ◌-◌, ◌*◌, ◌^◌, ◌≤◌, ◌<◌, ℤ, pos, negsuc, zero, suc}
 use Rattle.std.proofs.Common.{◌+ℤ◌, ◌-ℤ◌, ◌*ℤ◌, neg_ℤ, ◌≤ℤ◌, ◌<ℤ◌, Bool, true, false, Some, None, [], ◌∷◌, arith}
 use Rattle.std.proofs.Common.{◌↔◌, IsTrue, Option, w32, w64, to_z, of_z}
 use lib.IntN.{nat_abs}
@@ -8,10 +8,11 @@ use Rattle.fx_fixed.specs.Ranges.{IsWithin}
 use Rattle.std.proofs.lemmas.Int.{ints}
 use Rattle.fx_fixed.specs.Polynomial.{var, num, ◌⊞◌, ◌⊠◌, ◌⊟◌, minus}
 use Rattle.fx_fixed.proofs.Ring.{ring, one-*ℤ, neg-*ℤ, zero_*ℤ}
-use Rattle.fx_fixed.proofs.Linear.{signed_linear}
+use Rattle.fx_fixed.proofs.Linear.{signed, signed_linear}
 use Rattle.fx_fixed.proofs.Order.{below_or_not_ℤ}
 use Rattle.fx_fixed.proofs.Signs.{product_at_least_zero}
 use Rattle.fx_winding.specs.Area.{Place, area, gap_of}
+use Rattle.fx_winding.specs.Limits.{IsPixelNumber}
 use Rattle.fx_winding.specs.Meets.{turn}
 use Rattle.fx_winding.specs.Outside.{HasAll}
 use Rattle.fx_winding.specs.declared.point.Piece.{Piece}
@@ -24,6 +25,7 @@ use Rattle.fx_winding.specs.Winding.{is_right_of_chord}
 use Rattle.fx_winding.proofs.Beside.{HasAll-weaker, left_off, right_off, under_off, over_off}
 use Rattle.fx_winding.proofs.Crossings.{above, crossing_number}
 use Rattle.fx_winding.proofs.HalfAreas.{area_next, area_swap}
+use Rattle.fx_winding.proofs.Sizes.{product_within}
 use Rattle.fx_winding.proofs.Regions.{IsIn, IsInRegion, region_cases, region_in, region_out, third_strictly}
 use Rattle.fx_winding.proofs.Triangle.{area_expr}
 use Rattle.fx_winding.proofs.Turning.{left_of_all, right_of_all}
@@ -237,6 +239,51 @@ w_along : (up : Bool) (col row : ℤ) (k n : ℕ) (a b : Place)
 w_along up col row k n a b =
     area_next (place_on up col row n) a b ∙ u_along up col row k n a b
     ∙ ap (λ z. z +ℤ far k n *ℤ step up a b) (sym (area_next (place_on up col row k) a b))
+
+-- of all three, j places on
+pub areas_along : (up : Bool) (col row : ℤ) (k n j : ℕ) (a b c : Place) (u v w x y z : ℤ) → k + j ≡ n
+    → (u, v, w) ≡ areas_of_part a (Some b) c (place_on up col row k) → x ≡ u +ℤ pos j *ℤ step up b c
+    → y ≡ v +ℤ pos j *ℤ step up c a → z ≡ w +ℤ pos j *ℤ step up a b
+    → (x, y, z) ≡ areas_of_part a (Some b) c (place_on up col row n)
+areas_along up col row k n j a b c u v w x y z at h ex ey ez = λ i. (
+  along u (area (place_on up col row k) b c) (area (place_on up col row n) b c) x (step up b c)
+      (ap (λ (t : ℤ × ℤ × ℤ). t.0) h) ex (u_along up col row k n b c) i,
+  along v (area a (place_on up col row k) c) (area a (place_on up col row n) c) y (step up c a)
+      (ap (λ (t : ℤ × ℤ × ℤ). t.1) h) ey (v_along up col row k n a c) i,
+  along w (area a b (place_on up col row k)) (area a b (place_on up col row n)) z (step up a b)
+      (ap (λ (t : ℤ × ℤ × ℤ). t.2) h) ez (w_along up col row k n a b) i,
+)
+  where
+    steps : pos j ≡ far k n
+    steps = omega (arith, signed_linear, at)
+
+    along : (p q r s d : ℤ) → p ≡ q → s ≡ p +ℤ pos j *ℤ d → r ≡ q +ℤ far k n *ℤ d → s ≡ r
+    along p q r s d e f g = f ∙ (λ i. e i +ℤ steps i *ℤ d) ∙ sym g
+
+-- an area of places within the limits of points
+abbrev pub IsNear : Place → Type 0
+IsNear p = IsWithin (2 ^ 22) p.x × IsWithin (2 ^ 22) p.y
+
+pub area_near : (p q r : Place) → IsNear p → IsNear q → IsNear r → IsWithin (2 ^ 47) (area p q r)
+area_near p q r np nq nr =
+    let across : (x y : ℤ) → IsWithin (2 ^ 22) x → IsWithin (2 ^ 22) y → IsWithin (2 ^ 23) (x -ℤ y) =
+    λ x y h k. (omega (arith, signed_linear, h.0, h.1, k.0, k.1), omega (arith, signed_linear, h.0, h.1, k.0, k.1)) in
+    let along = product_within (2 ^ 23) (2 ^ 23) (q.x -ℤ p.x) (r.y -ℤ p.y) (across q.x p.x nq.0 np.0) (across r.y p.y nr.1 np.1) in
+    let back = product_within (2 ^ 23) (2 ^ 23) (q.y -ℤ p.y) (r.x -ℤ p.x) (across q.y p.y nq.1 np.1) (across r.x p.x nr.0 np.0) in (
+      omega (arith, signed_linear, along.0, along.1, back.0, back.1),
+      omega (arith, signed_linear, along.0, along.1, back.0, back.1),
+    )
+
+pub place_near : (up : Bool) (col row : ℤ) (n : ℕ) → IsPixelNumber col → IsPixelNumber (col +ℤ pos 1) → IsPixelNumber row
+    → IsPixelNumber (row +ℤ pos 1) → n < 128 → IsNear (place_on up col row n)
+place_near false col row n c d r s l = (
+  (omega (arith, signed, c.0, c.1, d.1, l), omega (arith, signed, c.0, c.1, d.1, l)),
+  (omega (arith, signed, r.0, r.1), omega (arith, signed, r.0, r.1)),
+)
+place_near true col row n c d r s l = (
+  (omega (arith, signed, c.0, c.1), omega (arith, signed, c.0, c.1)),
+  (omega (arith, signed, r.0, r.1, s.1, l), omega (arith, signed, r.0, r.1, s.1, l)),
+)
 
 -- the three add up to the arc's area
 pub middle_of_total : (a b c p : Place) → area a p c ≡ (area a b c -ℤ area p b c) -ℤ area a b p

@@ -201,3 +201,54 @@ level_looked b up pixels noted lower upper from many low_count high_count words 
         let above : f.bottom +ℤ pos r ≡ ((f.bottom -ℤ pos 1) +ℤ pos r) +ℤ pos 1 = omega (arith, signed_linear) in
         inr (inr (subst (λ (j : ℤ). IsTrue (bit_of b (f.left +ℤ pos n) j)) above (pixel_set b pixels r n are is within small
         (sym (part_at pixels upper w from high_count r n eu low (omega (arith, inside, held))) ∙ o))))
+
+-- a level is shut if one of its two rows shows it alone
+pub beside_looked : (b : Bits) (up pixels noted row : List ℕ) (level r n : ℕ) → AreWords b.frame.height b.frame.width pixels
+    → b ≡ grid b.frame pixels → noted ≡ take (words_for b.frame.width) (drop (level * words_for b.frame.width) up)
+    → row ≡ take (words_for b.frame.width) (drop (r * words_for b.frame.width) pixels) → (level ≡ r) ⊎ (level ≡ r + 1)
+    → r < b.frame.height → n < b.frame.width → IsShutUp noted row row n → IsShutInColumn up b level n
+beside_looked b up pixels noted row level r n are is en er either within narrow shut = by shut
+  where
+    f : Frame
+    f = b.frame
+
+    w : ℕ
+    w = words_for f.width
+
+    small : n < 32 * w
+    small = omega (arith, narrow, words_wide f.width)
+
+    at : (xs part : List ℕ) (k : ℕ) → part ≡ take w (drop (k * w) xs) → word_bit part n ≡ word_bit xs (k * (32 * w) + n)
+    at xs part k e =
+        let u : 32 * (k * w) + n ≡ k * (32 * w) + n = grind arith in
+        ap (λ (l : List ℕ). word_bit l n) e ∙ part_bit xs (k * w) w n small ∙ ap (word_bit xs) u
+
+    beside : (level ≡ r) ⊎ (level ≡ r + 1) → IsTrue (bit_of b (f.left +ℤ pos n) (f.bottom +ℤ pos r)) → IsShutInColumn up b level n
+    beside (inl e) t =
+        let j : f.bottom +ℤ pos r ≡ ((f.bottom -ℤ pos 1) +ℤ pos level) +ℤ pos 1 = omega (arith, signed_linear, e) in
+        inr (inr (subst (λ (j : ℤ). IsTrue (bit_of b (f.left +ℤ pos n) j)) j t))
+    beside (inr e) t =
+        let j : f.bottom +ℤ pos r ≡ (f.bottom -ℤ pos 1) +ℤ pos level = omega (arith, signed_linear, e) in
+        inr (inl (subst (λ (j : ℤ). IsTrue (bit_of b (f.left +ℤ pos n) j)) j t))
+
+    set : word_bit row n ≡ 1 → IsShutInColumn up b level n
+    set o = beside either (pixel_set b pixels r n are is within small (sym (at pixels row r er) ∙ o))
+
+    by : IsShutUp noted row row n → IsShutInColumn up b level n
+    by (inl z) = inl (sym (at up noted level en) ∙ z)
+    by (inr (inl o)) = set o
+    by (inr (inr o)) = set o
+
+-- ---- numbers passed over in two steps, or only one
+pub both_skipped : (P : ℕ → Type 0) (from mid to : ℕ) → ((r : ℕ) → from ≤ r → r < mid → P r)
+    → ((r : ℕ) → mid ≤ r → r < to → P r) → (r : ℕ) → from ≤ r → r < to → P r
+both_skipped P from mid to first second r low high = by (below_or_not r mid)
+  where
+    by : (r < mid) ⊎ (mid ≤ r) → P r
+    by (inl h) = first r low h
+    by (inr h) = second r h high
+
+pub one_skipped : (P : ℕ → Type 0) (at : ℕ) → P at → (r : ℕ) → at ≤ r → r < at + 1 → P r
+one_skipped P at p r low high =
+    let e : at ≡ r = omega (arith, low, high) in
+    subst P e p

@@ -12,15 +12,16 @@ ghost use Rattle.fx_dropout.specs.inner.Lines.{IsSoFar, IsRowClosed, IsRowNoted}
 ghost use Rattle.fx_dropout.specs.inner.Words.{IsShutInRow};
 
 use crate::close::{close_gap, closer, is_empty, is_told};
+use crate::drawn::Drawn;
 use crate::next::next_segment;
 use crate::open::{InRow, InRows};
 use crate::pair::{Pair, Pixel};
-use fx_winding::{Bitmap, Frame, Notes, Pieces, Tally, words_for};
+use fx_winding::{Bitmap, Frame, Notes, Tally, words_for};
 
 /// Closes the gaps of a row of the frame, from left to right: each by its left pixel, and the one before the first pixel by that.
 fn close_row(
     exact: bool,
-    pieces: &Pieces,
+    pieces: &Drawn<'_>,
     noted: &[u32],
     frame: Frame,
     bitmap: &mut Bitmap,
@@ -108,7 +109,7 @@ pub(crate) fn next_row(across: &[u32], bitmap: &Bitmap, from: u32) -> u32
 
 /// Closes the gaps of all rows of the frame. If the notes are exact, pieces are tested only for the first and the last segment of
 /// each row.
-pub fn close_rows(pieces: &Pieces, notes: &Notes, bitmap: &mut Bitmap, tally: &mut Tally)
+pub fn close_rows(pieces: &Drawn<'_>, notes: &Notes, bitmap: &mut Bitmap, tally: &mut Tally)
     requires exact { IsTrue notes.now.exact → AreExact notes.now.frame notes.now.across.items notes.now.up.items
         (map span_of pieces.now) }
     requires margin { HasMargin bitmap.old.frame }

@@ -7,9 +7,10 @@ ghost use Rattle.fx_dropout.specs.Tests.{most_tests};
 ghost use Rattle.fx_dropout.specs.inner.Lines.{IsSoFar, IsCloser, tests};
 ghost use Rattle.fx_dropout.specs.inner.Pairs.{IsGapNext, IsTold};
 
+use crate::drawn::Drawn;
 use crate::gaps::is_gap;
 use crate::pair::{Pair, Pixel};
-use fx_winding::{Bitmap, Frame, Pieces, Tally};
+use fx_winding::{Bitmap, Frame, Tally};
 
 /// Whether a frame has no pixel.
 pub(crate) fn is_empty(frame: Frame) -> bool
@@ -47,7 +48,7 @@ pub(crate) fn closer(i: i32, first: i32) -> i32
 /// Sets the pixel `at` if there is a gap between two neighbours.
 #[inline(always)]
 pub(crate) fn close_gap(
-    pieces: &Pieces,
+    pieces: &Drawn<'_>,
     noted: &[u32],
     bitmap: &mut Bitmap,
     pair: Pair,

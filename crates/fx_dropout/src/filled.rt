@@ -13,10 +13,11 @@ ghost use Rattle.fx_dropout.specs.inner.Words.{IsShutInColumn, IsShutInRow};
 
 use crate::across::next_row;
 use crate::close::{is_empty, is_told};
+use crate::drawn::Drawn;
 use crate::lines::{fill_line, level_line, row_line};
 use crate::open::{Between, InRow};
 use crate::up::{next_level, row_above};
-use fx_winding::{Bitmap, Frame, Notes, Pieces, Tally, words_for};
+use fx_winding::{Bitmap, Frame, Notes, Tally, words_for};
 use std::alloc::{AllocError, Global};
 
 /// A bitmap with the same bits.
@@ -32,7 +33,7 @@ fn copied(alloc: Global, bitmap: &Bitmap) -> Result<Bitmap, AllocError>
 /// Closes the gaps of a row of the frame.
 fn fill_row(
     exact: bool,
-    pieces: &Pieces,
+    pieces: &Drawn<'_>,
     noted: &[u32],
     given: &Bitmap,
     target: &mut Bitmap,
@@ -74,7 +75,7 @@ fn row_at(frame: Frame, i: i32) -> i32
 /// Closes the gaps between a row and the one above it.
 fn fill_level(
     told: bool,
-    pieces: &Pieces,
+    pieces: &Drawn<'_>,
     noted: &[u32],
     given: &Bitmap,
     target: &mut Bitmap,
@@ -105,7 +106,13 @@ fn fill_level(
 }
 
 /// Closes the gaps of all rows of the frame in `target`.
-fn fill_rows(pieces: &Pieces, notes: &Notes, given: &Bitmap, target: &mut Bitmap, tally: &mut Tally)
+fn fill_rows(
+    pieces: &Drawn<'_>,
+    notes: &Notes,
+    given: &Bitmap,
+    target: &mut Bitmap,
+    tally: &mut Tally,
+)
     requires exact { IsTrue notes.now.exact → AreExact notes.now.frame notes.now.across.items notes.now.up.items
         (map span_of pieces.now) }
     requires margin { HasMargin given.now.frame }
@@ -147,7 +154,7 @@ fn fill_rows(pieces: &Pieces, notes: &Notes, given: &Bitmap, target: &mut Bitmap
 
 /// Closes the gaps of all columns of the frame in `target`.
 fn fill_columns(
-    pieces: &Pieces,
+    pieces: &Drawn<'_>,
     notes: &Notes,
     given: &Bitmap,
     target: &mut Bitmap,
@@ -221,7 +228,7 @@ fn are_columns_shut(notes: &Notes, bitmap: &Bitmap) -> bool
 /// The bitmap of a scan with the gaps of its rows closed. It is copied only if there may be one.
 fn rows_filled(
     alloc: Global,
-    pieces: &Pieces,
+    pieces: &Drawn<'_>,
     notes: &Notes,
     bitmap: Bitmap,
     tally: &mut Tally,
@@ -251,7 +258,7 @@ fn rows_filled(
 /// The bitmap with the gaps of its columns closed. It is copied only if there may be one.
 fn columns_filled(
     alloc: Global,
-    pieces: &Pieces,
+    pieces: &Drawn<'_>,
     notes: &Notes,
     bitmap: Bitmap,
     tally: &mut Tally,
@@ -287,7 +294,7 @@ fn columns_filled(
 /// piece and each segment.
 pub fn close_gaps_nearer(
     alloc: Global,
-    pieces: &Pieces,
+    pieces: &Drawn<'_>,
     notes: &Notes,
     bitmap: Bitmap,
     tally: &mut Tally,

@@ -10,11 +10,11 @@ ghost use Rattle.fx_dropout.specs.Tests.{most_tests};
 ghost use Rattle.fx_dropout.specs.inner.Lines.{IsCoveredOutside, IsSoFar, tests};
 ghost use Rattle.fx_dropout.specs.inner.Pairs.{IsMetNext, IsGapNext, IsTold, IsBeside, IsAside};
 
-use crate::pair::{Pair, Pixel};
+use crate::drawn::Drawn;
+use crate::pair::{Pair, Pixel, is_in_frame};
 use crate::places::turn_beside;
 use fx_winding::{
-    Bitmap, Frame, Piece, Pieces, Point, Tally, crossing, is_set as is_noted, meets, on_piece,
-    region,
+    Bitmap, Frame, Piece, Point, Tally, crossing, is_set as is_noted, meets, on_piece, region,
 };
 
 /// Whether all points of a piece lie above a height.
@@ -146,25 +146,6 @@ fn any_passes(pieces: &[Piece], pair: Pair, tally: &mut Tally) -> bool
     false
 }
 
-/// Whether a pixel lies in a frame.
-pub(crate) fn is_in_frame(frame: Frame, pixel: Pixel) -> bool
-    ensures { IsTrue result ↔ IsInFrame frame pixel.col pixel.row }
-{
-    if pixel.col < frame.left {
-        return false;
-    }
-    if i64::from(pixel.col) >= i64::from(frame.left) + i64::from(frame.width) {
-        return false;
-    }
-    if pixel.row < frame.bottom {
-        return false;
-    }
-    if i64::from(pixel.row) >= i64::from(frame.bottom) + i64::from(frame.height) {
-        return false;
-    }
-    true
-}
-
 /// What a piece adds to the winding number at p, or None if p is on it. Most pieces lie to one side of p, and need no test.
 #[inline(always)]
 pub(crate) fn turn_off(piece: &Piece, p: Point, tally: &mut Tally) -> Option<i32>
@@ -199,18 +180,21 @@ pub(crate) fn covers(pieces: &[Piece], p: Point, tally: &mut Tally) -> bool
 }
 
 /// Whether a pixel lies outside a frame and is covered.
-fn is_covered_outside(pieces: &Pieces, frame: Frame, pixel: Pixel, tally: &mut Tally) -> bool
+fn is_covered_outside(pieces: &Drawn<'_>, frame: Frame, pixel: Pixel, tally: &mut Tally) -> bool
     ensures value { IsTrue result ↔ IsCoveredOutside (map span_of pieces.now) frame pixel.col pixel.row }
     ensures count { tally.new.count ≤ tally.old.count + 3 * length pieces.now }
 {
     if is_in_frame(frame, pixel) {
         return false;
     }
+    if pieces.is_beyond(pixel) {
+        return false;
+    }
     covers(pieces.as_slice(), pixel.centre(), tally)
 }
 
 /// Whether a piece passes between two neighbours, neither of which is covered outside the frame.
-fn is_open(pieces: &Pieces, frame: Frame, pair: Pair, tally: &mut Tally) -> bool
+fn is_open(pieces: &Drawn<'_>, frame: Frame, pair: Pair, tally: &mut Tally) -> bool
     ensures value { IsTrue result ↔ IsGapNext pair.is_up (map span_of pieces.now)
         (IsCoveredOutside (map span_of pieces.now) frame) pair.here.col pair.here.row }
     ensures count { tally.new.count ≤ tally.old.count + most_tests (length pieces.now) }
@@ -231,7 +215,7 @@ fn is_open(pieces: &Pieces, frame: Frame, pair: Pair, tally: &mut Tally) -> bool
 /// tells, no piece is tested.
 #[inline(always)]
 pub(crate) fn is_gap(
-    pieces: &Pieces,
+    pieces: &Drawn<'_>,
     noted: &[u32],
     bitmap: &Bitmap,
     pair: Pair,

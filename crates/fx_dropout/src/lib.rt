@@ -10,6 +10,7 @@
 
 mod across;
 mod close;
+mod drawn;
 mod filled;
 mod gaps;
 pub mod laws;
@@ -23,5 +24,6 @@ mod places;
 mod run;
 mod up;
 
+pub use drawn::Drawn;
 pub use filled::close_gaps_nearer;
 pub use noted::close_gaps;

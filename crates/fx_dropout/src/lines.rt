@@ -10,12 +10,13 @@ ghost use Rattle.fx_dropout.specs.inner.Filled.{IsFilled, IsOfLine, IsLineNoted}
 ghost use Rattle.fx_dropout.specs.inner.Lines.{IsSoFar};
 ghost use Rattle.fx_dropout.specs.inner.Pairs.{next_col, next_row, IsGapNext, IsTold};
 
+use crate::drawn::Drawn;
 use crate::gaps::is_gap;
 use crate::nearer::nearer;
 use crate::next::next_segment;
 use crate::open::Segments;
 use crate::pair::{Pair, Pixel};
-use fx_winding::{Bitmap, Frame, Pieces, Tally};
+use fx_winding::{Bitmap, Frame, Tally};
 
 /// Segments from `count` pixels of a row, each to the pixel's neighbour.
 #[derive(Clone, Copy)]
@@ -125,7 +126,7 @@ impl Line {
 
 /// Sets the pixel of `target` that closes the gap between two neighbours, if `given` has a gap there.
 fn fill_gap(
-    pieces: &Pieces,
+    pieces: &Drawn<'_>,
     noted: &[u32],
     given: &Bitmap,
     target: &mut Bitmap,
@@ -155,7 +156,7 @@ fn fill_gap(
 /// Closes the gaps of a line in `target`.
 pub(crate) fn fill_line<S: Segments>(
     segments: &S,
-    pieces: &Pieces,
+    pieces: &Drawn<'_>,
     noted: &[u32],
     given: &Bitmap,
     target: &mut Bitmap,

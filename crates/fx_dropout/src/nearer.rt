@@ -9,11 +9,11 @@ ghost use Rattle.fx_dropout.specs.inner.Filled.{IsNearer};
 ghost use Rattle.fx_dropout.specs.inner.Pairs.{next_col, next_row};
 ghost use Rattle.fx_dropout.specs.inner.Runs.{IsCoveredBy};
 
-use crate::gaps::is_in_frame;
-use crate::pair::{Pair, Pixel};
+use crate::drawn::Drawn;
+use crate::pair::{Pair, Pixel, is_in_frame};
 use crate::places::{add_pieces, is_covered};
 use crate::run::PLACES;
-use fx_winding::{Frame, Pieces, Tally};
+use fx_winding::{Frame, Tally};
 
 /// How many places of a segment between two centres lie in each half of it, without its ends and its middle.
 const HALF: usize = 63;
@@ -35,7 +35,7 @@ fn count_covered(places: &[i32], base: i32, from: usize) -> u32
 }
 
 /// Whether the stroke between the centres of two neighbours is nearer to the second.
-fn is_next_nearer(pieces: &Pieces, pair: Pair, tally: &mut Tally) -> bool
+fn is_next_nearer(pieces: &Drawn<'_>, pair: Pair, tally: &mut Tally) -> bool
     ensures value { IsTrue result ↔ IsNextNearer pair.is_up (map span_of pieces.now) pair.here.col pair.here.row }
     ensures count { tally.new.count ≤ tally.old.count + 31 * 128 * length pieces.now }
 {
@@ -47,7 +47,7 @@ fn is_next_nearer(pieces: &Pieces, pair: Pair, tally: &mut Tally) -> bool
 }
 
 /// The pixel that closes a gap between two neighbours, one of which is in the frame.
-pub(crate) fn nearer(pieces: &Pieces, frame: Frame, pair: Pair, tally: &mut Tally) -> Pixel
+pub(crate) fn nearer(pieces: &Drawn<'_>, frame: Frame, pair: Pair, tally: &mut Tally) -> Pixel
     requires { IsInFrame frame pair.here.col pair.here.row
         ⊎ IsInFrame frame (next_col pair.is_up pair.here.col) (next_row pair.is_up pair.here.row) }
     ensures inside { IsInFrame frame result.col result.row }

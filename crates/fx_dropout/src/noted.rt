@@ -9,15 +9,16 @@ ghost use Rattle.fx_winding.specs.Winding.{span_of};
 ghost use Rattle.fx_dropout.specs.Tests.{most_tests, tested_segments};
 
 use crate::across::close_rows;
+use crate::drawn::Drawn;
 use crate::up::close_columns;
-use fx_winding::{Bitmap, Notes, Pieces, Tally};
+use fx_winding::{Bitmap, Notes, Tally};
 
 /// Closes the gaps of the rows, and then those that are left in the columns: a bitmap that a scan of the pieces gave has the bits
 /// that drop-out control sets in its frame then. The segments that a piece meets must be noted; others may be.
 ///
 /// The columns and rows beside the frame must have numbers too. Tests of points are counted in `tally`: at most eleven for each
 /// piece and each segment that is tested. With exact notes only segments that lead out of the frame are tested, else all.
-pub fn close_gaps(pieces: &Pieces, notes: &Notes, bitmap: &mut Bitmap, tally: &mut Tally)
+pub fn close_gaps(pieces: &Drawn<'_>, notes: &Notes, bitmap: &mut Bitmap, tally: &mut Tally)
     requires margin { HasMargin bitmap.old.frame }
     requires scanned { IsScanOf bitmap.old.frame (map span_of pieces.now) bitmap.old }
     requires frame { notes.now.frame ≡ bitmap.old.frame }

@@ -1,6 +1,6 @@
 //! Pixels, and pairs of neighbours, between whose centres a piece may pass.
 
-ghost use Rattle.std.specs.Prelude.{◌≡◌, ◌≢◌, ◌⊎◌, ◌≤◌, ℤ, pos, ◌+ℤ◌, true};
+ghost use Rattle.std.specs.Prelude.{◌≡◌, ◌≢◌, ◌⊎◌, ◌↔◌, ◌≤◌, ℤ, pos, ◌+ℤ◌, IsTrue, true};
 ghost use Rattle.fx_winding.specs.Bitmaps.{bit_of};
 ghost use Rattle.fx_winding.specs.Frames.{IsInFrame};
 ghost use Rattle.fx_winding.specs.Limits.{IsPixelNumber};
@@ -8,7 +8,7 @@ ghost use Rattle.fx_winding.specs.Winding.{place_of, centre as centre_of};
 ghost use Rattle.fx_dropout.specs.Nearer.{place_on};
 ghost use Rattle.fx_dropout.specs.inner.Pairs.{next_col, next_row};
 
-use fx_winding::{Bitmap, Point};
+use fx_winding::{Bitmap, Frame, Point};
 
 /// A pixel, by its column and its row.
 #[derive(Clone, Copy)]
@@ -99,4 +99,23 @@ impl Pair {
             y: here.y,
         }
     }
+}
+
+/// Whether a pixel lies in a frame.
+pub(crate) fn is_in_frame(frame: Frame, pixel: Pixel) -> bool
+    ensures { IsTrue result ↔ IsInFrame frame pixel.col pixel.row }
+{
+    if pixel.col < frame.left {
+        return false;
+    }
+    if i64::from(pixel.col) >= i64::from(frame.left) + i64::from(frame.width) {
+        return false;
+    }
+    if pixel.row < frame.bottom {
+        return false;
+    }
+    if i64::from(pixel.row) >= i64::from(frame.bottom) + i64::from(frame.height) {
+        return false;
+    }
+    true
 }

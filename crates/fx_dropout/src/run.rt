@@ -197,15 +197,42 @@ fn steps_down(number: u64, step: u64) -> usize
     steps.min(128) as usize
 }
 
-/// How the area of a place with a piece's ends changes from place to place.
-fn chord_step(piece: &Piece, is_up: bool) -> i64
-    ensures value { result ≡ step is_up (place_of piece.now.c) (place_of piece.now.a) }
+/// How the area of a place with two points changes from place to place.
+fn area_step(b: Point, c: Point, is_up: bool) -> i64
+    ensures value { result ≡ step is_up (place_of b) (place_of c) }
     ensures size { IsWithin (2 ^ 23) result }
 {
     if is_up {
-        difference(piece.a.x, piece.c.x)
+        difference(c.x, b.x)
     } else {
-        difference(piece.c.y, piece.a.y)
+        difference(b.y, c.y)
+    }
+}
+
+/// The number that an area comes to in `count` steps.
+fn stepped(area: i64, step: i64, count: usize) -> i64
+    requires area { IsWithin (2 ^ 47) area }
+    requires step { IsWithin (2 ^ 23) step }
+    requires few { count < 128 }
+    ensures { result ≡ area +ℤ pos count *ℤ step }
+{
+    area + count as i64 * step
+}
+
+/// The areas of the last place of a run with each two of an arc's points, by those of the first place.
+fn last_areas(piece: &Piece, b: Point, run: Run, first: Weights) -> Weights
+    requires middle { piece.now.b ≡ Some b }
+    requires first { (first.u, first.v, first.w) ≡
+        areas_of (span_of piece.now) (place_on run.pair.is_up run.pair.here.col run.pair.here.row run.first) }
+    ensures { (result.u, result.v, result.w) ≡
+        areas_of (span_of piece.now) (place_on run.pair.is_up run.pair.here.col run.pair.here.row run.last) }
+{
+    let up = run.pair.is_up;
+    let count = run.last - run.first;
+    Weights {
+        u: stepped(first.u, area_step(b, piece.c, up), count),
+        v: stepped(first.v, area_step(piece.c, piece.a, up), count),
+        w: stepped(first.w, area_step(piece.a, b, up), count),
     }
 }
 
@@ -216,7 +243,7 @@ fn places_to_chord(piece: &Piece, is_up: bool, at: Weights) -> usize
     ensures side { (j : ℕ) → j < result →
         HaveOneSign at.v (at.v +ℤ pos j *ℤ step is_up (place_of piece.now.c) (place_of piece.now.a)) }
 {
-    let step = chord_step(piece, is_up);
+    let step = area_step(piece.c, piece.a, is_up);
     if at.v > 0 {
         if step < 0 {
             return steps_down(at.v as u64, -step as u64);
@@ -297,7 +324,7 @@ fn arc_alike_from(
             first: n,
             last: n + count - 1,
         };
-        let last = areas_at(piece, pair.place(n + count - 1), tally);
+        let last = last_areas(piece, b, run, at);
         if is_arc_alike(piece, b, run, at, last, tally) {
             alike = count;
         } else {

@@ -13,10 +13,11 @@ ghost use Rattle.fx_dropout.specs.inner.Pairs.{Turned};
 ghost use Rattle.fx_dropout.specs.inner.Words.{IsShutInColumn};
 
 use crate::close::{close_gap, closer, is_empty, is_told};
+use crate::drawn::Drawn;
 use crate::next::next_segment;
 use crate::open::Between;
 use crate::pair::{Pair, Pixel};
-use fx_winding::{Bitmap, Frame, Notes, Pieces, Tally, words_for};
+use fx_winding::{Bitmap, Frame, Notes, Tally, words_for};
 
 /// The row above another, or that itself if it is the last of the frame.
 pub(crate) fn row_above(frame: Frame, i: i32) -> i32
@@ -33,7 +34,7 @@ pub(crate) fn row_above(frame: Frame, i: i32) -> i32
 /// frame, the other stands for both. If the bits of their segments tell, no piece is tested.
 fn close_level(
     told: bool,
-    pieces: &Pieces,
+    pieces: &Drawn<'_>,
     noted: &[u32],
     frame: Frame,
     bitmap: &mut Bitmap,
@@ -84,22 +85,41 @@ fn close_level(
     }
 }
 
-/// The next row from one on to which a segment leads from the row below that can be a gap. The first, and the number of rows, stand
-/// for segments from outside the frame and to there, which are not looked at. Rows are counted from the lowest.
-pub(crate) fn next_level(notes: &[u32], bitmap: &Bitmap, from: u32) -> u32
+/// Whether no segment to a row from the one below it can be a gap, as one of the two rows shows alone: the other may lie outside
+/// the frame. Rows are counted from the lowest.
+fn is_shut_beside(notes: &[u32], bitmap: &Bitmap, level: u32, row: u32) -> bool
     requires wide { 0 < bitmap.now.frame.width }
     requires room { length notes.now ≡ (bitmap.now.frame.height + 1) * words_for_of bitmap.now.frame.width }
-    requires order { from ≤ bitmap.now.frame.height + 1 }
+    requires level { level ≤ bitmap.now.frame.height }
+    requires row { row < bitmap.now.frame.height }
+    requires either { (level ≡ row) ⊎ (level ≡ row + 1) }
+    ensures { IsTrue result → (n : ℕ) → n < bitmap.now.frame.width → IsShutInColumn notes.now bitmap.now level n }
+{
+    let words = words_for(bitmap.frame().width);
+    let start = level as usize * words;
+    let first = row as usize * words;
+    let pixels = &bitmap.words()[first..first + words];
+    let segments = Between {
+        noted: &notes[start..start + words],
+        lower: pixels,
+        upper: pixels,
+    };
+    32 * words <= next_segment(&segments, 0)
+}
+
+/// The next row from one on to which a segment leads from the row below that can be a gap, or the number of rows. Both rows are in
+/// the frame; they are counted from the lowest.
+fn next_inner_level(notes: &[u32], bitmap: &Bitmap, from: u32) -> u32
+    requires wide { 0 < bitmap.now.frame.width }
+    requires room { length notes.now ≡ (bitmap.now.frame.height + 1) * words_for_of bitmap.now.frame.width }
+    requires some { 0 < from }
+    requires order { from ≤ bitmap.now.frame.height }
     ensures from { from ≤ result }
-    ensures to { result ≤ bitmap.now.frame.height + 1 }
+    ensures to { result ≤ bitmap.now.frame.height }
     ensures skipped { (r n : ℕ) → from ≤ r → r < result → n < bitmap.now.frame.width →
         IsShutInColumn notes.now bitmap.now r n }
 {
-    let frame = bitmap.frame();
-    if from == 0 || frame.height < from {
-        return from;
-    }
-    let words = words_for(frame.width);
+    let words = words_for(bitmap.frame().width);
     let start = from as usize * words;
     let pixels = bitmap.words();
     let upper = &pixels[start..];
@@ -111,9 +131,62 @@ pub(crate) fn next_level(notes: &[u32], bitmap: &Bitmap, from: u32) -> u32
     from + (next_segment(&levels, 0) / 32 / words) as u32
 }
 
+/// The second row, if one starts at the first and no segment from below the frame to that can be a gap; else the row that one
+/// starts at.
+fn after_first(notes: &[u32], bitmap: &Bitmap, from: u32) -> u32
+    requires wide { 0 < bitmap.now.frame.width }
+    requires high { 0 < bitmap.now.frame.height }
+    requires room { length notes.now ≡ (bitmap.now.frame.height + 1) * words_for_of bitmap.now.frame.width }
+    requires order { from ≤ bitmap.now.frame.height }
+    ensures from { from ≤ result }
+    ensures to { result ≤ bitmap.now.frame.height }
+    ensures skipped { (r n : ℕ) → from ≤ r → r < result → n < bitmap.now.frame.width →
+        IsShutInColumn notes.now bitmap.now r n }
+{
+    if from != 0 {
+        return from;
+    }
+    if is_shut_beside(notes, bitmap, 0, 0) {
+        1
+    } else {
+        0
+    }
+}
+
+/// The next row from one on to which a segment leads from the row below that can be a gap, or the number after that of the row
+/// beyond the frame. Rows are counted from the lowest. The first segments lead from outside the frame, and the last ones to there.
+pub(crate) fn next_level(notes: &[u32], bitmap: &Bitmap, from: u32) -> u32
+    requires wide { 0 < bitmap.now.frame.width }
+    requires high { 0 < bitmap.now.frame.height }
+    requires room { length notes.now ≡ (bitmap.now.frame.height + 1) * words_for_of bitmap.now.frame.width }
+    requires order { from ≤ bitmap.now.frame.height + 1 }
+    ensures from { from ≤ result }
+    ensures to { result ≤ bitmap.now.frame.height + 1 }
+    ensures skipped { (r n : ℕ) → from ≤ r → r < result → n < bitmap.now.frame.width →
+        IsShutInColumn notes.now bitmap.now r n }
+{
+    let height = bitmap.frame().height;
+    if height < from {
+        return from;
+    }
+    let start = after_first(notes, bitmap, from);
+    if start == 0 {
+        return 0;
+    }
+    let next = next_inner_level(notes, bitmap, start);
+    if next < height {
+        return next;
+    }
+    if is_shut_beside(notes, bitmap, height, height - 1) {
+        height + 1
+    } else {
+        height
+    }
+}
+
 /// Closes the gaps of all columns of the frame: each by its lower pixel, and those below the lowest row by the pixels of that. If
 /// the notes are exact, pieces are tested only for the first and the last segment of each column.
-pub fn close_columns(pieces: &Pieces, notes: &Notes, bitmap: &mut Bitmap, tally: &mut Tally)
+pub fn close_columns(pieces: &Drawn<'_>, notes: &Notes, bitmap: &mut Bitmap, tally: &mut Tally)
     requires exact { IsTrue notes.now.exact → AreExact notes.now.frame notes.now.across.items notes.now.up.items
         (map span_of pieces.now) }
     requires margin { HasMargin bitmap.old.frame }

@@ -1,9 +1,9 @@
 //! The bits of an outline's pieces in their frame.
-ghost use Rattle.std.specs.Prelude.{◌≡◌, IsTrue, map, All, IfOk};
-ghost use Rattle.fx_winding.specs.Winding.{span_of};
+ghost use Rattle.std.specs.Prelude.{◌≡◌, IsTrue, ℤ, map, All, IfOk};
+ghost use Rattle.fx_winding.specs.Winding.{centre, span_of, IsCovered};
 ghost use Rattle.fx_winding.specs.Bitmaps.{IsScanOf};
 ghost use Rattle.fx_winding.specs.Outside.{AreOfOutline};
-ghost use Rattle.fx_winding.specs.Frames.{HasMargin};
+ghost use Rattle.fx_winding.specs.Frames.{HasMargin, IsInFrame};
 ghost use Rattle.fx_winding.specs.Notes.{AreExact, IsNoted};
 ghost use Rattle.fx_contour.specs.Frames.{NothingOutsideFrame};
 ghost use Rattle.fx_raster.specs.declared.rule.Closing.TheVariants.{Lower};
@@ -11,7 +11,7 @@ ghost use Rattle.fx_raster.specs.Frames.{IsFramedBy};
 ghost use Rattle.fx_raster.specs.inner.Framing.{HasBitsOf, IsBridgedScanOf};
 
 use crate::rule::{Closing, Rule};
-use fx_dropout::{close_gaps, close_gaps_nearer};
+use fx_dropout::{Drawn, close_gaps, close_gaps_nearer};
 use fx_winding::{Bitmap, Frame, Notes, Pieces, Scan, ScanFault, Scratch, Tally};
 use std::alloc::{AllocError, Global};
 
@@ -49,7 +49,7 @@ fn scanned<S: Scan>(
 }
 
 /// The bitmap of a scan with its gaps closed by the left and the lower pixels.
-fn closed_by_lower(pieces: &Pieces, bitmap: Bitmap, notes: &Notes, tally: &mut Tally) -> Bitmap
+fn closed_by_lower(pieces: &Drawn<'_>, bitmap: Bitmap, notes: &Notes, tally: &mut Tally) -> Bitmap
     requires margin { HasMargin bitmap.frame }
     requires scanned { IsScanOf bitmap.frame (map span_of pieces.now) bitmap }
     requires frame { notes.now.frame ≡ bitmap.frame }
@@ -66,7 +66,7 @@ fn closed_by_lower(pieces: &Pieces, bitmap: Bitmap, notes: &Notes, tally: &mut T
 /// The bitmap of a scan with its gaps closed.
 fn closed(
     alloc: Global,
-    pieces: &Pieces,
+    pieces: &Drawn<'_>,
     bitmap: Bitmap,
     notes: &Notes,
     closing: Closing,
@@ -97,15 +97,17 @@ fn bridged<S: Scan>(
     closing: Closing,
     scratch: &mut Scratch,
 ) -> Result<Bitmap, AllocError>
-    requires { HasMargin frame }
+    requires margin { HasMargin frame }
+    requires outside { (i j : ℤ) → ¬ (IsInFrame frame i j) → ¬ (IsCovered (centre i j) (map span_of pieces.now)) }
     ensures { IfOk result (IsBridgedScanOf closing frame (map span_of pieces.now)) }
 {
+    let drawn = Drawn::within(pieces, frame);
     let mut tally = Tally::new();
     match scan.scan_noted(alloc, pieces, frame, scratch, &mut tally) {
         Ok(noted) => {
             let bits = closed(
                 alloc,
-                pieces,
+                &drawn,
                 noted.bitmap,
                 &noted.notes,
                 closing,

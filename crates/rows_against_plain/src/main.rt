@@ -20,7 +20,7 @@ use crate::closed::{Drawing, turned};
 use crate::random::Random;
 use anyhow::{Result, bail};
 use fx_contour::{frame, pieces};
-use fx_dropout::close_gaps;
+use fx_dropout::{Drawn, close_gaps};
 use fx_fixed::Ppem;
 use fx_hint::outline;
 use fx_rows::Rows;
@@ -148,7 +148,8 @@ fn closes_the_same(alloc: Global, pieces: &Pieces, frame: Frame) -> Result<bool>
         &mut scratch,
         &mut tally,
     )?;
-    close_gaps(pieces, &notes, &mut bitmap, &mut tally);
+    let drawn = Drawn::anywhere(pieces);
+    close_gaps(&drawn, &notes, &mut bitmap, &mut tally);
     let drawing = Drawing {
         pieces,
         turned: &turned(alloc, pieces)?,

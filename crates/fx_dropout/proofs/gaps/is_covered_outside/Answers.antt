@@ -2,8 +2,11 @@ use Rattle.std.proofs.Common.{◌↔◌, IsTrue, List, map, subst}
 use Rattle.fx_winding.specs.Area.{Place}
 use Rattle.fx_winding.specs.declared.point.Piece.{Piece}
 use Rattle.fx_winding.specs.Winding.{span_of, centre, IsCovered}
-use Rattle.fx_winding.proofs.Places.{clash}
+use Rattle.fx_winding.proofs.Places.{clash, no}
 use Rattle.fx_dropout.proofs.gaps.is_covered_outside.Goals as goal
+
+pub returns-then-is_beyond-clause-value : goal.returns-then-is_beyond-clause-value
+returns-then-is_beyond-clause-value c = no (λ h. c.is_beyond.ensures c.if-is_beyond.true h.1)
 
 pub returns-clause-value : goal.returns-clause-value
 returns-clause-value c =

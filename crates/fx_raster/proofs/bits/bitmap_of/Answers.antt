@@ -13,10 +13,13 @@ returns-in-Centres g c =
     scanned_bits _ (map span_of c.args.pieces.now) _ c.args.rule c.in-Centres.is c.scanned.ensures
     (rw c.in-Some.is at c.requires.framed) (rw c.in-Some.is at c.requires.outside) c.requires.closed
 
-pub bridged-requires : goal.bridged-requires
-bridged-requires g c =
+pub bridged-requires-clause-margin : goal.bridged-requires-clause-margin
+bridged-requires-clause-margin g c =
     framed_margin c.in-Bridged.closing _ (map span_of c.args.pieces.now) c.args.rule c.in-Bridged.is
     (rw c.in-Some.is at c.requires.framed)
+
+pub bridged-requires-clause-outside : goal.bridged-requires-clause-outside
+bridged-requires-clause-outside g c = (rw c.in-Some.is at c.requires.outside) c.requires.closed
 
 pub returns-in-Bridged : goal.returns-in-Bridged
 returns-in-Bridged g c =

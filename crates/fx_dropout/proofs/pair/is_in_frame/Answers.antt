@@ -1,6 +1,6 @@
 use Rattle.std.proofs.Common.{refl, arith}
 use Rattle.fx_fixed.proofs.Linear.{signed_linear}
-use Rattle.fx_dropout.proofs.gaps.is_in_frame.Goals as goal
+use Rattle.fx_dropout.proofs.pair.is_in_frame.Goals as goal
 
 pub returns : goal.returns
 returns c = (
