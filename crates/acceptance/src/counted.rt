@@ -54,8 +54,8 @@ impl<'a> Hinter for Counting<'a> {
         self.keeping.run(component, g, code, made)
     }
 
-    fn recall(&self, alloc: Global, input: &GlyphInput<'_>, made: &mut Made) -> Option<Usage> {
-        self.keeping.recall(alloc, input, made)
+    fn recall(&self, input: &GlyphInput<'_>, made: &mut Made) -> Option<Usage> {
+        self.keeping.recall(input, made)
     }
 
     fn keep(&mut self, input: &GlyphInput<'_>, made: &Made, usage: Usage) {

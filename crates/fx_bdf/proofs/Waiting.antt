@@ -1,17 +1,23 @@
 -- Lines of rows written over the bytes of a buffer.
--- Serves `put_words`, `put_line`, `put_lines` and `add_rows`.
-use Rattle.std.proofs.Common.{◌≡◌, ℕ, ◌+◌, ◌-◌, ◌*◌, ◌<◌, ◌≤◌, refl, List, [], ◌∷◌, ◌++◌, Bool, length}
+-- Serves `put_word`, `put_pair`, the lines of rows and `add_rows`.
+use Rattle.std.proofs.Common.{◌≡◌, ℕ, suc, ◌+◌, ◌-◌, ◌*◌, ◌/◌, ◌<◌, ◌≤◌, refl, List, [], ◌∷◌, ◌++◌, Bool, length}
 use Rattle.std.proofs.Common.{take, drop, get_or, sym, ap, ◌∙◌, arith}
 use Rattle.std.proofs.Common.{append_assoc, length-drop, get_or-drop, Ok}
 use Rattle.std.specs.List.{flat_map}
+use Rattle.std.specs.Simd.Lanes.{put_chunk}
+use Rattle.std.proofs.lemmas.Simd.{put_chunk_is}
+use Rattle.std.proofs.lemmas.List.{drop-drop}
 use Rattle.std.proofs.lemmas.Grind.{flat_map-append}
 use Rattle.std.proofs.lemmas.List.{take-append-drop, take-append-le, length-take-le, take_at, take_all}
+use Rattle.std.proofs.Math.Nat.{le-div_iff_mul-le}
 use Rattle.std.proofs.Math.Seq.{take-append-add, take-add}
 use Rattle.fx_bdf.specs.Text.{row_text}
 use Rattle.fx_fixed.specs.Texts.{TextView, Adds, Fails, with_more}
 use Rattle.fx_fixed.proofs.Texts.{adds_then, adds_text, adds_more}
 use Rattle.fx_fixed.proofs.Writing.{parts_more}
 use Rattle.fx_bdf.specs.inner.Lines.{lines_between, word_text}
+use Rattle.fx_bdf.specs.inner.RowWords.{AreWordsOf}
+use Rattle.fx_bdf.proofs.RowDigits.{digits_whole}
 
 -- the first bytes of those that were written after `used` bytes
 front : (used count m : ℕ) (old mid digits : List ℕ) → used ≤ length old → count ≤ m → used + m ≤ length mid
@@ -37,14 +43,37 @@ piece_over at m now piece rest new front done more inside long text n joined =
     ∙ ap (λ (t : List ℕ). front ++ t) joined
 
 -- the byte after them was written over
-pub line_added : (used count m : ℕ) (old mid new digits rest : List ℕ) → used ≤ length old → count ≤ m → used + m ≤ length mid
+line_added : (used count m : ℕ) (old mid new digits rest : List ℕ) → used ≤ length old → count ≤ m → used + m ≤ length mid
     → take (used + m) mid ≡ take used old ++ digits → new ≡ take (used + count) mid ++ 10 ∷ rest
     → take (used + count + 1) new ≡ take used old ++ (take count digits ++ 10 ∷ [])
 line_added used count m old mid new digits rest inside few fits e n =
     piece_over (used + count) 1 mid (10 ∷ []) rest new (take used old) (take count digits) _ (omega arith) refl
     (front used count m old mid digits inside few fits e) n refl
 
+-- the same, with the end of the line as the next line's start
+pub line_ended : (used count m : ℕ) (old mid new digits rest : List ℕ) → used ≤ length old → count ≤ m → used + m ≤ length mid
+    → take (used + m) mid ≡ take used old ++ digits → new ≡ take (used + count) mid ++ 10 ∷ rest
+    → take (used + (count + 1)) new ≡ take used old ++ (take count digits ++ 10 ∷ [])
+line_ended used count m old mid new digits rest inside few fits e n =
+    let end : used + (count + 1) ≡ used + count + 1 = omega arith in
+    ap (λ (i : ℕ). take i new) end ∙ line_added used count m old mid new digits rest inside few fits e n
+
+-- the lanes of a vector were written over bytes
+pub lanes_over : (at m : ℕ) (old lanes piece : List ℕ) → lanes ≡ piece → length piece ≡ m → at + m ≤ length old
+    → put_chunk at old lanes ≡ take at old ++ (piece ++ drop (at + m) old)
+lanes_over at m old lanes piece e long fits =
+    ap (put_chunk at old) e
+    ∙ put_chunk_is at old piece (omega (arith, long, fits))
+    ∙ ap (λ n. take at old ++ (piece ++ drop n (drop at old))) long
+    ∙ ap (λ (rest : List ℕ). take at old ++ (piece ++ rest)) (drop-drop m at old)
+
 -- ---- digits of words one after the other
+
+-- the digits of one word
+one_word : (words : List ℕ) → length words ≡ 1 → flat_map word_text words ≡ word_text (get_or words 0 0)
+one_word [] h = absurd (omega (arith, h))
+one_word (w ∷ []) h = refl
+one_word (w ∷ v ∷ ws) h = absurd (omega (arith, h))
 
 -- the last word of all
 pub word_over : (start k : ℕ) (now piece rest new front words : List ℕ) → start + 8 * length words ≤ length now
@@ -80,6 +109,47 @@ pair_over start k now piece rest new front words inside few text n is =
     ∙ ap (λ (i : ℕ). flat_map word_text (take i words)) more)
 
 -- ---- lines of rows one after the other
+
+-- how many lines fit into a room
+pub lines_fit : (room digits k : ℕ) → k < (room - 6) / (digits + 1) → k * (digits + 1) + digits + 7 ≤ room
+lines_fit room digits k h =
+    let p : suc k * (digits + 1) ≤ room - 6 =
+    (le-div_iff_mul-le {k = digits + 1} {x = suc k} {y = room - 6} (omega arith)).0 (omega (arith, h)) in
+    omega (arith, p)
+
+-- a line ends where the next one begins
+pub line_end : (start first i digits end now : ℕ) → first ≤ i → end ≡ start + (i - first) * (digits + 1) → now ≡ end + (digits + 1)
+    → now ≡ start + (i + 1 - first) * (digits + 1)
+line_end start first i digits end now order e n =
+    let next : i + 1 - first ≡ suc (i - first) = omega (arith, order) in
+    let more : start + suc (i - first) * (digits + 1) ≡ end + (digits + 1) = omega (arith, e) in
+    n ∙ sym more ∙ ap (λ (k : ℕ). start + k * (digits + 1)) (sym next)
+
+-- within the bytes that there are
+pub line_inside : (start p digits end now long : ℕ) → end ≡ start + p → now ≡ end + (digits + 1) → start + (p + digits + 7) ≤ long
+    → now ≤ long
+line_inside start p digits end now long e n h = omega (arith, e, n, h)
+
+-- a row's digits by its words
+pub row_by_words : (row : List Bool) (words before : List ℕ) (digits : ℕ) → AreWordsOf row words
+    → (length row + 7) / 8 * 2 ≡ digits → before ++ (take digits (flat_map word_text words) ++ 10 ∷ []) ≡ before ++ row_text row
+row_by_words row words before digits w d =
+    ap (λ (t : List ℕ). before ++ (t ++ 10 ∷ [])) (digits_whole row words digits w (sym d))
+
+-- and by its only word
+pub row_by_word : (row : List Bool) (words lanes before : List ℕ) (digits : ℕ) → AreWordsOf row words → 0 < digits → digits ≤ 8
+    → (length row + 7) / 8 * 2 ≡ digits → lanes ≡ word_text (get_or words 0 0)
+    → before ++ (take digits lanes ++ 10 ∷ []) ≡ before ++ row_text row
+row_by_word row words lanes before digits w some few d is =
+    let one : length words ≡ 1 = omega (arith, w.count, some, few, d) in
+    ap (λ (t : List ℕ). before ++ (take digits t ++ 10 ∷ [])) (is ∙ sym (one_word words one))
+    ∙ row_by_words row words before digits w d
+
+-- the lines before a row and from it on
+pub lines_split : (rows : List (List Bool)) (i : ℕ)
+    → flat_map row_text (take i rows) ++ flat_map row_text (drop i rows) ≡ flat_map row_text rows
+lines_split rows i =
+    sym (flat_map-append row_text (take i rows) (drop i rows)) ∙ ap (flat_map row_text) (take-append-drop i rows)
 
 -- one line more
 pub lines_more : (rows : List (List Bool)) (first next : ℕ) (row : List Bool) (front now new : List ℕ) → first ≤ next

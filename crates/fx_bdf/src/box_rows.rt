@@ -1,35 +1,39 @@
 //! The rows of a box.
 
-ghost use Rattle.std.specs.Prelude.{◌≡◌, ◌<◌, [], length, slice_index_or};
+ghost use Rattle.std.specs.Prelude.{◌≡◌, ◌+◌, ◌*◌, ◌/◌, ◌<◌, ◌≤◌, ◌^◌, ℕ, [], length, slice_index_or};
 ghost use Rattle.fx_winding.specs.Bitmaps.{bit_of};
 ghost use Rattle.fx_bdf.specs.Glyphs.{IsBoxed, rows_in};
 
 use crate::bounds::Bounds;
-use crate::numbers::{above, distance};
+use crate::numbers::distance;
 use crate::rows::Row;
-use fx_winding::Bitmap;
+use crate::words::part;
+use fx_winding::{Bitmap, words_for};
 use std::marker::Model;
 
-/// The rows of the tight box of a bitmap's set bits, from the top, seen as their bits. They begin `from` pixels to the right of
-/// the bitmap's.
+/// The rows of the tight box of a bitmap's set bits, from the top, seen as their bits. The bitmap's rows have `stride` words each,
+/// and `top` of them end with the box's highest. The box's rows begin `from` pixels to the right of the bitmap's.
+///
+/// What a loop over the rows needs lies here and not behind a reference, so that the loop reads it once.
 #[derive(Drop)]
 pub struct BoxRows<'a> {
-    bitmap: &'a Bitmap,
-    bounds: Bounds,
+    words: &'a [u32],
+    stride: usize,
+    top: usize,
     from: usize,
+    width: u32,
+    height: u32,
 }
 
 impl<'a> Model for BoxRows<'a> {
     ghost use Rattle.std.specs.Prelude.{List, Bool};
-    ghost use Rattle.fx_winding.specs.Bitmaps.{bit_of};
-    ghost use Rattle.fx_bdf.specs.Glyphs.{rows_in};
-    ghost use Rattle.fx_bdf.specs.inner.BoxRows.{AreInBox};
+    ghost use Rattle.fx_bdf.specs.inner.BoxRows.{AreInBox, rows_held};
 
     ghost Value = { List (List Bool) };
 
-    ghost view = { λ r. rows_in r.bounds (bit_of r.bitmap.now) };
+    ghost view = { λ r. rows_held r.words.now r.stride r.top r.from r.width r.height };
 
-    ghost invariant = { AreInBox };
+    ghost invariant = { λ r. AreInBox r.words.now r.stride r.top r.from r.width r.height };
 }
 
 impl<'a> BoxRows<'a> {
@@ -38,20 +42,32 @@ impl<'a> BoxRows<'a> {
         requires { IsBoxed bounds (bit_of bitmap.now) }
         ensures { result ≡ rows_in bounds (bit_of bitmap.now) }
     {
-        let from = distance(bitmap.frame().left, bounds.left) as usize;
+        let frame = bitmap.frame();
+        let top = distance(frame.bottom, bounds.bottom) + bounds.height;
         BoxRows {
-            bitmap,
-            bounds,
-            from,
+            words: bitmap.words(),
+            stride: words_for(frame.width),
+            top: top as usize,
+            from: distance(frame.left, bounds.left) as usize,
+            width: bounds.width,
+            height: bounds.height,
         }
     }
 
     /// How many there are.
-    #[tactic(auto, using(crate::proofs::Boxes::box_sizes))]
+    #[tactic(auto, using(crate::proofs::HeldRows::held_sizes))]
     pub fn len(&self) -> u32
         ensures { result ≡ length self.now }
     {
-        self.bounds.height
+        self.height
+    }
+
+    /// How many digits each has: two for each eight pixels.
+    pub fn digits(&self) -> usize
+        ensures value { (i : ℕ) → i < length self.now → (length (slice_index_or self.now i []) + 7) / 8 * 2 ≡ result }
+        ensures few { result ≤ 2 ^ 11 }
+    {
+        (self.width as usize + 7) / 8 * 2
     }
 
     /// A row, counted from the top.
@@ -59,8 +75,7 @@ impl<'a> BoxRows<'a> {
         requires { i < length self.now }
         ensures { result ≡ slice_index_or self.now i [] }
     {
-        let b = self.bounds;
-        let words = self.bitmap.row(above(b.bottom, b.height - 1 - i));
-        Row::new(words, self.from, b.width)
+        let start = (self.top - 1 - i as usize) * self.stride;
+        Row::new(part(self.words, start, self.stride), self.from, self.width)
     }
 }

@@ -1,6 +1,6 @@
 //! Words of pixels as hexadecimal digits.
 
-ghost use Rattle.std.specs.Prelude.{◌≡◌, ◌++◌};
+ghost use Rattle.std.specs.Prelude.{◌≡◌, ◌≤◌, ◌+◌, ◌++◌, length, take, drop};
 ghost use Rattle.fx_bdf.specs.inner.Lines.{word_text};
 
 use std::simd::prelude::*;
@@ -10,7 +10,7 @@ use std::simd::prelude::*;
 /// Each byte of the word stands in two neighbouring lanes: the first keeps its high four bits, the second its low four.
 #[inline(always)]
 #[tactic(auto, using(crate::proofs::Lanes::lanes_text))]
-pub fn word_digits(word: u32) -> [u8; 8]
+fn word_lanes(word: u32) -> u8x8
     ensures { result ≡ word_text word }
 {
     let twice = u8x4::from_array(word.to_le_bytes()).swizzle([3, 3, 2, 2, 1, 1, 0, 0]);
@@ -21,12 +21,12 @@ pub fn word_digits(word: u32) -> [u8; 8]
     let letters = four
         .simd_gt(u8x8::splat(9))
         .select(u8x8::splat(7), u8x8::splat(0));
-    (four + u8x8::splat(48) + letters).to_array()
+    four + u8x8::splat(48) + letters
 }
 
 /// The sixteen digits of two words, those of the first word first, in the same way.
 #[inline(always)]
-pub fn pair_digits(first: u32, second: u32) -> [u8; 16]
+fn pair_lanes(first: u32, second: u32) -> u8x16
     ensures { result ≡ word_text first ++ word_text second }
 {
     let pair = u64::from(second) * 4294967296 + u64::from(first);
@@ -38,5 +38,41 @@ pub fn pair_digits(first: u32, second: u32) -> [u8; 16]
     let letters = four
         .simd_gt(u8x16::splat(9))
         .select(u8x16::splat(7), u8x16::splat(0));
-    (four + u8x16::splat(48) + letters).to_array()
+    four + u8x16::splat(48) + letters
+}
+
+/// The digits of two words, eight each, which are made together.
+#[inline(always)]
+pub fn two_lanes(first: u32, second: u32) -> (u8x8, u8x8)
+    ensures first { result.0 ≡ word_text first }
+    ensures second { result.1 ≡ word_text second }
+{
+    let both = pair_lanes(first, second);
+    (both.extract::<0, 8>(), both.extract::<8, 8>())
+}
+
+/// The eight digits of a word.
+#[inline(always)]
+pub fn word_digits(word: u32) -> [u8; 8]
+    ensures { result ≡ word_text word }
+{
+    word_lanes(word).to_array()
+}
+
+/// Writes the eight digits of a word over the bytes from `start` on.
+#[inline(always)]
+pub fn put_word(bytes: &mut [u8], start: usize, word: u32)
+    requires { start + 8 ≤ length bytes.old }
+    ensures { bytes.new ≡ take start bytes.old ++ (word_text word ++ drop (start + 8) bytes.old) }
+{
+    word_lanes(word).copy_to_slice(&mut bytes[start..]);
+}
+
+/// Writes the sixteen digits of two words over the bytes from `start` on.
+#[inline(always)]
+pub fn put_pair(bytes: &mut [u8], start: usize, first: u32, second: u32)
+    requires { start + 16 ≤ length bytes.old }
+    ensures { bytes.new ≡ take start bytes.old ++ ((word_text first ++ word_text second) ++ drop (start + 16) bytes.old) }
+{
+    pair_lanes(first, second).copy_to_slice(&mut bytes[start..]);
 }

@@ -1,17 +1,17 @@
 //! Lines of rows, written straight into the room of a text.
 
-ghost use Rattle.std.specs.Prelude.{◌≡◌, ◌+◌, ◌++◌, ◌*◌, ◌<◌, ◌≤◌, take, length, IfSome, IfNone};
+ghost use Rattle.std.specs.Prelude.{◌≡◌, ◌+◌, ◌-◌, ◌*◌, ◌/◌, ◌++◌, ◌∷◌, [], ◌<◌, ◌≤◌, ◌^◌, ℕ, take, length, slice_index_or};
 ghost use Rattle.std.specs.List.{flat_map};
 ghost use Rattle.fx_fixed.specs.Texts.{with_more};
-ghost use Rattle.fx_bdf.specs.Text.{row_text};
 ghost use Rattle.fx_bdf.specs.inner.Lines.{word_text, lines_between};
 
 use crate::box_rows::BoxRows;
-use crate::digits::{pair_digits, word_digits};
-use crate::rows::Row;
+use crate::digits::{put_pair, put_word, two_lanes};
 use fx_fixed::{Fill, Sink, TextWriter, put_over};
+use std::simd::prelude::*;
 
 /// Writes the digits of words, eight each, over the bytes from `start` on.
+#[inline(always)]
 fn put_words(bytes: &mut [u8], start: usize, words: &[u32])
     requires { start + 8 * length words.now ≤ length bytes.old }
     ensures long { length bytes.new ≡ length bytes.old }
@@ -20,52 +20,133 @@ fn put_words(bytes: &mut [u8], start: usize, words: &[u32])
     let mut k = 0;
     // The digits of the words before k were written.
     'pairs: while words.len() - k > 1 {
-        put_over(bytes, start + 8 * k, &pair_digits(words[k], words[k + 1]));
+        put_pair(bytes, start + 8 * k, words[k], words[k + 1]);
         k += 2;
     }
     if k < words.len() {
-        put_over(bytes, start + 8 * k, &word_digits(words[k]));
+        put_word(bytes, start + 8 * k, words[k]);
     }
 }
 
-/// Writes the line of a row over the bytes from `start` on, if the row begins with a word's first bit and there is room; returns
-/// where the line ends.
-fn put_line(bytes: &mut [u8], start: usize, row: &Row<'_>) -> Option<usize>
-    requires { start ≤ length bytes.old }
+/// Writes the first `digits` digits of words and LF over the bytes from `start` on; returns where the line ends.
+#[inline(always)]
+fn put_line(bytes: &mut [u8], start: usize, words: &[u32], digits: usize) -> usize
+    requires room { start + 8 * length words.now < length bytes.old }
+    requires few { digits ≤ 8 * length words.now }
     ensures long { length bytes.new ≡ length bytes.old }
-    ensures none { IfNone result (bytes.new ≡ bytes.old) }
-    ensures within { IfSome result (λ end. end ≤ length bytes.new) }
-    ensures text { IfSome result (λ end. take end bytes.new ≡ take start bytes.old ++ row_text row.now) }
+    ensures end { result ≡ start + (digits + 1) }
+    ensures text { take result bytes.new ≡ take start bytes.old ++ (take digits (flat_map word_text words.now) ++ 10 ∷ []) }
 {
-    let words = row.whole_words()?;
-    if bytes.len() - start < 8 * words.len() + 1 {
-        return None;
-    }
     put_words(bytes, start, words);
-    let end = start + row.digits();
-    put_over(bytes, end, b"\n");
-    Some(end + 1)
+    put_over(bytes, start + digits, b"\n");
+    start + (digits + 1)
 }
 
-/// Writes the lines of rows from the row `next` on over the bytes from `end` on, up to the first that `put_line` does not write;
-/// returns where they end, and the number of the row after them.
-fn put_lines(bytes: &mut [u8], mut end: usize, rows: &BoxRows<'_>, mut next: u32) -> (usize, u32)
-    requires { end ≤ length bytes.old }
+/// Writes the first `digits` of the eight digits of a word and LF, as `put_line` does.
+#[inline(always)]
+fn put_short_line(bytes: &mut [u8], start: usize, word: u8x8, digits: usize) -> usize
+    requires word { length word ≡ 8 }
+    requires room { start + 8 < length bytes.old }
+    requires few { digits ≤ 8 }
+    ensures long { length bytes.new ≡ length bytes.old }
+    ensures end { result ≡ start + (digits + 1) }
+    ensures text { take result bytes.new ≡ take start bytes.old ++ (take digits word ++ 10 ∷ []) }
+{
+    word.copy_to_slice(&mut bytes[start..]);
+    put_over(bytes, start + digits, b"\n");
+    start + (digits + 1)
+}
+
+/// Writes the lines of rows of one word each from `first` up to `last`, but perhaps the last one, over the bytes from `start` on:
+/// two at a time, so that their digits are made together. Writes none if the rows have more words, or do not begin with a word's
+/// first bit. Returns where the lines end, and the number of the row after them.
+#[inline(always)]
+fn put_short_lines(
+    bytes: &mut [u8],
+    start: usize,
+    rows: &BoxRows<'_>,
+    digits: usize,
+    first: u32,
+    last: u32,
+) -> (usize, u32)
+    requires order { first ≤ last }
+    requires inside { last ≤ length rows.now }
+    requires digits { (i : ℕ) → i < length rows.now → (length (slice_index_or rows.now i []) + 7) / 8 * 2 ≡ digits }
+    requires here { start ≤ length bytes.old }
+    requires room { (k : ℕ) → k < last - first → start + (k * (digits + 1) + digits + 7) ≤ length bytes.old }
     ensures long { length bytes.new ≡ length bytes.old }
     ensures within { result.0 ≤ length bytes.new }
-    ensures order { next ≤ result.1 }
-    ensures next { next ≤ length rows.now → result.1 ≤ length rows.now }
-    ensures text { take result.0 bytes.new ≡ take end bytes.old ++ lines_between rows.now next result.1 }
+    ensures end { result.0 ≡ start + (result.1 - first) * (digits + 1) }
+    ensures order { first ≤ result.1 }
+    ensures next { result.1 ≤ last }
+    ensures text { take result.0 bytes.new ≡ take start bytes.old ++ lines_between rows.now first result.1 }
 {
-    // The lines of the rows before `next` were written, up to `end`.
-    'rows: while next < rows.len() {
-        match put_line(bytes, end, &rows.row(next)) {
-            None => break,
-            Some(after) => end = after,
-        }
-        next += 1;
+    if digits == 0 || digits > 8 {
+        return (start, first);
     }
-    (end, next)
+    let mut end = start;
+    let mut i = first;
+    // The lines of the rows before i were written, up to `end`.
+    'pairs: while last - i > 1 {
+        let Some(above) = rows.row(i).whole_words() else {
+            break;
+        };
+        let Some(below) = rows.row(i + 1).whole_words() else {
+            break;
+        };
+        let (upper, lower) = two_lanes(above[0], below[0]);
+        end = put_short_line(bytes, end, upper, digits);
+        end = put_short_line(bytes, end, lower, digits);
+        i += 2;
+    }
+    (end, i)
+}
+
+/// How many lines of this many digits fit into a room. A row's digits are written by whole words, so the last line needs up to 6
+/// bytes more than its own.
+fn fitting(room: usize, digits: usize) -> usize
+    requires { digits ≤ 2 ^ 11 }
+    ensures { (k : ℕ) → k < result → k * (digits + 1) + digits + 7 ≤ room }
+{
+    room.saturating_sub(6) / (digits + 1)
+}
+
+/// The row after the last one whose line fits into a room, of lines of this many digits from the row `first` on.
+fn last_fitting(room: usize, digits: usize, rows: &BoxRows<'_>, first: u32) -> u32
+    requires digits { digits ≤ 2 ^ 11 }
+    requires first { first ≤ length rows.now }
+    ensures order { first ≤ result }
+    ensures inside { result ≤ length rows.now }
+    ensures room { (k : ℕ) → k < result - first → k * (digits + 1) + digits + 7 ≤ room }
+{
+    let left = rows.len() - first;
+    first + fitting(room, digits).min(left as usize) as u32
+}
+
+/// Writes the lines of rows from the row `first` on over the bytes from `start` on: as many as there is room for, or none if the
+/// rows do not begin with a word's first bit. Returns where they end, and the number of the row after them.
+fn put_lines(bytes: &mut [u8], start: usize, rows: &BoxRows<'_>, first: u32) -> (usize, u32)
+    requires { start ≤ length bytes.old }
+    ensures long { length bytes.new ≡ length bytes.old }
+    ensures within { result.0 ≤ length bytes.new }
+    ensures order { first ≤ result.1 }
+    ensures next { first ≤ length rows.now → result.1 ≤ length rows.now }
+    ensures text { take result.0 bytes.new ≡ take start bytes.old ++ lines_between rows.now first result.1 }
+{
+    if first >= rows.len() {
+        return (start, first);
+    }
+    let digits = rows.digits();
+    let last = last_fitting(bytes.len() - start, digits, rows, first);
+    let (mut end, next) = put_short_lines(bytes, start, rows, digits, first, last);
+    // The lines of the rows before i were written, up to `end`.
+    'rows: for i in next..last {
+        let Some(words) = rows.row(i).whole_words() else {
+            return (end, i);
+        };
+        end = put_line(bytes, end, words, digits);
+    }
+    (end, last)
 }
 
 /// Rows from the row `next` on, whose lines fill the room of a text.

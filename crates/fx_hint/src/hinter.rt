@@ -12,7 +12,6 @@ use crate::fault::HintFault;
 use crate::kept::GlyphInput;
 use crate::made::Made;
 use fx_machine::Usage;
-use std::alloc::Global;
 
 /// Whether phantom points and rounded offsets are rounded, and what runs the programs of glyphs. Each program starts from the
 /// same state: nothing passes from one glyph to another.
@@ -50,7 +49,7 @@ pub trait Hinter {
 
     /// Writes to `made` a simple glyph as it was made before from the same input, if the hinter has kept it, and returns what its
     /// program used up then. Returns none if it has not, or if memory is refused; then `made` may hold anything.
-    fn recall(&self, alloc: Global, input: &GlyphInput<'_>, made: &mut Made) -> Option<Usage>
+    fn recall(&self, input: &GlyphInput<'_>, made: &mut Made) -> Option<Usage>
         ensures value { IfSome result (λ usage. IsMadeAlone (hinting self.now) input.now.scale input.now.g input.now.metrics
             input.now.bytes.now made.new usage) }
         ensures leads { IfSome result (λ _. (run : ProgramRun) → Leads self.now (run ∷ []) self.now) };
@@ -101,7 +100,7 @@ impl Hinter for NoHinter {
         Ok(Usage::none())
     }
 
-    fn recall(&self, _alloc: Global, _input: &GlyphInput<'_>, _made: &mut Made) -> Option<Usage> {
+    fn recall(&self, _input: &GlyphInput<'_>, _made: &mut Made) -> Option<Usage> {
         None
     }
 

@@ -154,9 +154,9 @@ impl<'a> Hinter for KeepingMachine<'a> {
         self.machine.run(component, g, code, made)
     }
 
-    fn recall(&self, alloc: Global, input: &GlyphInput<'_>, made: &mut Made) -> Option<Usage> {
+    fn recall(&self, input: &GlyphInput<'_>, made: &mut Made) -> Option<Usage> {
         match &self.places {
-            Some(places) => places[usize::from(input.g) % PLACES].recall(alloc, input, made),
+            Some(places) => places[usize::from(input.g) % PLACES].recall(input, made),
             None => None,
         }
     }

@@ -1,14 +1,13 @@
 //! Places that keep simple glyphs.
 
-ghost use Rattle.std.specs.Prelude.{◌≡◌, ◌<◌, length, Some, None, IfOk, IfSome, OnOk, OnErr, IsTrue};
-ghost use Rattle.std.specs.List.{All};
+ghost use Rattle.std.specs.Prelude.{◌≡◌, Some, None, IfSome, OnOk, OnErr, IsTrue};
 
 use crate::made::Made;
 use fx_gstate::Dropout;
 use fx_machine::Usage;
 use fx_scale::{PhantomPoints, Scale};
 use fx_sfnt::Metrics;
-use fx_zone::{Point, Zone};
+use fx_zone::Point;
 use std::alloc::{AllocError, Global};
 use std::marker::Model;
 
@@ -54,12 +53,6 @@ impl Model for KeptGlyph {
     ghost invariant = { λ k. All (λ e. e < length k.points.items) k.ends.items };
 }
 
-/// Room in a copy for the points of a composite's other components.
-const MORE_POINTS: usize = 32;
-
-/// Room in a copy for their contours.
-const MORE_ENDS: usize = 4;
-
 /// Whether two lists have the same bytes. It looks at all of them, so that many are compared at a time.
 fn are_same(one: &[u8], other: &[u8]) -> bool
     ensures { IsTrue result → one.now ≡ other.now }
@@ -73,18 +66,6 @@ fn are_same(one: &[u8], other: &[u8]) -> bool
         same = same & (one[number] == other[number]);
     }
     same
-}
-
-/// A copy of points and contours, with room for those of a composite's other components.
-fn zone_copied(alloc: Global, points: &[Point], ends: &[u16]) -> Result<Zone, AllocError>
-    requires { All (λ e. e < length points.now) ends.now }
-    ensures { IfOk result (λ z. z ≡ record { points = points.now; ends = ends.now }) }
-{
-    let mut all_points = Vec::with_capacity(alloc, points.len() + MORE_POINTS)?;
-    all_points.extend_from_slice(points)?;
-    let mut all_ends = Vec::with_capacity(alloc, ends.len() + MORE_ENDS)?;
-    all_ends.extend_from_slice(ends)?;
-    Ok(Zone::of(all_points, all_ends))
 }
 
 impl KeptFields {
@@ -148,7 +129,7 @@ impl KeptGlyph {
 
     /// Copies the glyph that is kept to `made`, if it was made from this input, and returns what its program used up. Returns none
     /// if it was not, or if memory is refused; then `made` may hold anything.
-    pub fn recall(&self, alloc: Global, input: &GlyphInput<'_>, made: &mut Made) -> Option<Usage>
+    pub fn recall(&self, input: &GlyphInput<'_>, made: &mut Made) -> Option<Usage>
         ensures { IfSome result (λ usage. self.now ≡ Some (record {
           g = input.now.g;
           scale = input.now.scale;
@@ -164,7 +145,7 @@ impl KeptGlyph {
         if !fields.are_of(input) || !are_same(&self.bytes, input.bytes) {
             return None;
         }
-        made.zone = zone_copied(alloc, &self.points, &self.ends).ok()?;
+        made.zone.refill(&self.points, &self.ends).ok()?;
         made.phantoms = fields.phantoms;
         made.wish = fields.wish;
         Some(fields.usage)

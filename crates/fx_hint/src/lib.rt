@@ -20,6 +20,7 @@ mod made;
 mod outlines;
 mod part;
 mod programmed;
+mod spare;
 mod walk;
 mod watcher;
 
@@ -35,4 +36,5 @@ pub use limits::{MAX_COMPONENTS, MAX_DEPTH};
 pub use made::Made;
 pub use outlines::{outline, outline_in, outline_with};
 pub use programmed::WatchedMachine;
+pub use spare::Spare;
 pub use watcher::{RunWatcher, RunWatching};

@@ -13,6 +13,7 @@ use crate::fault::HintFault;
 use crate::glyph_outline::GlyphOutline;
 use crate::hinter::{Hinter, NoHinter};
 use crate::made::Made;
+use crate::spare::Spare;
 use crate::walk::root_made;
 use fx_fixed::{F26, Ppem};
 use fx_machine::{Machine, Usage};
@@ -69,14 +70,14 @@ pub fn outline_with<H: Hinter>(
         (runs_of (H.hinting hinter.old) font.now (scale_of font.now ppem) g) }
     ensures value { GivesUnless Fails view_of_glyph_outline result (outline_with (H.hinting hinter.old) font.now ppem g) }
 {
-    outline_in(alloc, Vec::new(alloc), hinter, font, ppem, g)
+    outline_in(alloc, &mut Spare::new(alloc), hinter, font, ppem, g)
 }
 
-/// The same outline, with its points in a buffer that the caller gives. What the buffer held is lost.
+/// The same outline, in lists that the caller gives. The list of its points before they were moved is left there for the next one.
 #[tactic(auto, unfolding(crate::specs::Outlines::outline_with))]
 pub fn outline_in<H: Hinter>(
     alloc: Global,
-    points: Vec<OutlinePoint>,
+    spare: &mut Spare,
     hinter: &mut H,
     font: &Font<'_>,
     ppem: Ppem,
@@ -90,15 +91,17 @@ pub fn outline_in<H: Hinter>(
 {
     let scale = Scale::of(font, ppem);
     hinter.law_keeps_shape();
-    let (made, usage) = root_made(alloc, hinter, font, &scale, g)?;
-    let outline = moved_outline(points, made, usage)?;
+    let zone = spare.take_zone(alloc);
+    let (made, usage) = root_made(alloc, zone, spare.component(), hinter, font, &scale, g)?;
+    let outline = moved_outline(alloc, spare, made, usage)?;
     Ok(outline)
 }
 
-/// The outline moved, so that its first phantom point lies at x = 0. Its points are put into a buffer.
+/// The outline moved, so that its first phantom point lies at x = 0, in spare lists. The list of the points as they were is left.
 #[tactic(auto, unfolding(crate::specs::Outlines::moved_outline_of))]
 fn moved_outline(
-    buffer: Vec<OutlinePoint>,
+    alloc: Global,
+    spare: &mut Spare,
     made: Made,
     usage: Usage,
 ) -> Result<GlyphOutline, AllocError>
@@ -111,12 +114,11 @@ fn moved_outline(
         wish,
     } = made;
     let origin = phantoms.origin.cur.x;
-    let points = moved_points(buffer, zone.points(), origin)?;
+    let points = moved_points(spare.take_points(alloc), zone.points(), origin)?;
     let advance = phantoms.advance.cur.x.minus(origin);
-    let outline = Outline {
-        points,
-        ends: zone.into_ends(),
-    };
+    let (unmoved, ends) = zone.into_lists();
+    spare.give_back_zone(unmoved);
+    let outline = Outline { points, ends };
     Ok(GlyphOutline {
         outline,
         advance,

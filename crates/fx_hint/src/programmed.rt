@@ -18,7 +18,6 @@ use fx_fixed::Place;
 use fx_machine::{Machine, Unwatched, Usage, Watching};
 use fx_scale::PhantomPoints;
 use fx_zone::{Point, Zone};
-use std::alloc::Global;
 
 /// The point of a number, which is inside.
 fn point_at(zone: &Zone, number: usize) -> Point
@@ -118,7 +117,7 @@ impl<'a> Hinter for Machine<'a> {
         hint(self, g, code, made, &mut Unwatched)
     }
 
-    fn recall(&self, _alloc: Global, _input: &GlyphInput<'_>, _made: &mut Made) -> Option<Usage> {
+    fn recall(&self, _input: &GlyphInput<'_>, _made: &mut Made) -> Option<Usage> {
         None
     }
 
@@ -184,7 +183,7 @@ impl<'a, W: RunWatching> Hinter for WatchedMachine<'a, W> {
         true
     }
 
-    fn recall(&self, _alloc: Global, _input: &GlyphInput<'_>, _made: &mut Made) -> Option<Usage> {
+    fn recall(&self, _input: &GlyphInput<'_>, _made: &mut Made) -> Option<Usage> {
         None
     }
 

@@ -27,10 +27,11 @@ use crate::made::Made;
 use crate::part::add_part;
 use fx_glyf::{Composite, Glyph, Simple, read};
 use fx_machine::Usage;
-use fx_scale::{PhantomPoints, Scale, zone_of};
+use fx_scale::{PhantomPoints, Scale, fill_zone};
 use fx_sfnt::{Font, Metrics};
 use fx_zone::Zone;
 use std::alloc::Global;
+use std::mem;
 
 /// The number of levels that are allowed below the composites that wait.
 fn levels_below(below: &Below<'_>) -> u8
@@ -40,15 +41,13 @@ fn levels_below(below: &Below<'_>) -> u8
     MAX_DEPTH - below.len() as u8
 }
 
-/// A glyph without points yet.
-fn empty_made(alloc: Global, scale: &Scale, hinted: bool, x_min: i16, metrics: Metrics) -> Made
-    ensures { result ≡ record { zone = empty_figure; phantoms = phantoms_of scale.now hinted x_min metrics; wish = None } }
+/// Makes a glyph one without points yet. Its lists keep their memory.
+fn make_empty(made: &mut Made, scale: &Scale, hinted: bool, x_min: i16, metrics: Metrics)
+    ensures { made.new ≡ record { zone = empty_figure; phantoms = phantoms_of scale.now hinted x_min metrics; wish = None } }
 {
-    Made {
-        zone: Zone::new(alloc),
-        phantoms: PhantomPoints::of_glyph(scale, hinted, x_min, metrics),
-        wish: None,
-    }
+    made.zone.clear();
+    made.phantoms = PhantomPoints::of_glyph(scale, hinted, x_min, metrics);
+    made.wish = None;
 }
 
 /// The program of a glyph runs on its points and phantom points; what it uses up is counted, and returned.
@@ -107,14 +106,11 @@ impl<'w, 'a> Walk<'w, 'a> {
         ensures records { OnOk result (count.new.records ≡ count.old.records) }
         ensures points { OnOk result (CountsPoints count.old made.new count.new) }
     {
-        let zone = zone_of(self.alloc, simple, self.scale)?;
-        count.more_points(self.root, zone.len())?;
-        let phantoms = PhantomPoints::of_glyph(self.scale, hinted, simple.x_min(), metrics);
-        *made = Made {
-            zone,
-            phantoms,
-            wish: None,
-        };
+        fill_zone(self.alloc, &mut made.zone, simple, self.scale)?;
+        let points = made.zone.len();
+        count.more_points(self.root, points)?;
+        made.phantoms = PhantomPoints::of_glyph(self.scale, hinted, simple.x_min(), metrics);
+        made.wish = None;
         Ok(())
     }
 
@@ -170,7 +166,7 @@ impl<'w, 'a> Walk<'w, 'a> {
         let on = hinter.is_on();
         match glyph {
             Glyph::Empty => {
-                *made = empty_made(self.alloc, self.scale, on, 0, metrics);
+                make_empty(made, self.scale, on, 0, metrics);
                 Ok(None)
             }
             Glyph::Simple(simple) => {
@@ -179,7 +175,7 @@ impl<'w, 'a> Walk<'w, 'a> {
                 Ok(None)
             }
             Glyph::Composite(composite) => {
-                *made = empty_made(self.alloc, self.scale, on, composite.x_min(), metrics);
+                make_empty(made, self.scale, on, composite.x_min(), metrics);
                 Ok(Some(composite))
             }
         }
@@ -258,7 +254,7 @@ impl<'w, 'a> Walk<'w, 'a> {
             metrics,
             bytes,
         };
-        if let Some(usage) = hinter.recall(self.alloc, &input, made) {
+        if let Some(usage) = hinter.recall(&input, made) {
             hinter.law_keeps_shape();
             self.recalled(made, usage, count)?;
             return Ok(None);
@@ -322,8 +318,15 @@ impl<'w, 'a> Walk<'w, 'a> {
         Ok(composite)
     }
 
-    /// The root assembled.
-    fn assembled<H: Hinter>(&self, hinter: &mut H, count: &mut Count) -> Result<Made, HintFault>
+    /// The root assembled, in the lists of a glyph that is written over. Components are made in the lists of a zone, whose points
+    /// are lost.
+    fn assembled<H: Hinter>(
+        &self,
+        hinter: &mut H,
+        count: &mut Count,
+        blank: Made,
+        lists: &mut Zone,
+    ) -> Result<Made, HintFault>
         requires records { count.old.records ≤ max_components }
         requires points { count.old.points ≤ max_points }
         ensures known { H.known hinter.new ≡ H.known hinter.old }
@@ -333,22 +336,24 @@ impl<'w, 'a> Walk<'w, 'a> {
             (logged_component (H.hinting hinter.old) self.now.font.now self.now.scale.now self.now.root max_depth) None
             self.now.root (count.old, [])) }
     {
-        let mut made = Made::blank(self.alloc);
+        let mut made = blank;
         match self.begun(hinter, self.root, count, &mut made)? {
             None => Ok(made),
             Some(glyph) => {
                 let open = OpenComposite::new(None, self.root, glyph, made);
-                self.closed(hinter, open, count)
+                self.closed(hinter, open, count, lists)
             }
         }
     }
 
     /// An open root assembled, step by step: the composites that wait for a component lie in a list, so that the walk is one loop.
+    /// Each component is made in the lists of a zone, and leaves lists there for the next one.
     fn closed<H: Hinter>(
         &self,
         hinter: &mut H,
         root: OpenComposite<'a>,
         count: &mut Count,
+        lists: &mut Zone,
     ) -> Result<Made, HintFault>
         requires records { count.old.records ≤ max_components }
         requires points { count.old.points ≤ max_points }
@@ -377,11 +382,13 @@ impl<'w, 'a> Walk<'w, 'a> {
                     open.before += 1;
                     let component = Some(component);
                     let g = part.glyph;
-                    let mut made = Made::blank(self.alloc);
+                    let zone = mem::replace(lists, Zone::new(self.alloc));
+                    let mut made = Made::in_zone(zone);
                     match self.begun_component(hinter, levels, component, g, count, &mut made)? {
                         None => {
                             let g = open.g;
-                            add_part(&mut open.base, self.scale, on, g, &part, made)?;
+                            let left = add_part(&mut open.base, self.scale, on, g, &part, made)?;
+                            *lists = left;
                         }
                         Some(glyph) => {
                             let deeper = OpenComposite::new(component, g, glyph, made);
@@ -407,10 +414,13 @@ impl<'w, 'a> Walk<'w, 'a> {
     }
 }
 
-/// A root assembled, and what all programs together used up.
+/// A root assembled in the lists of a zone, and its components in those of another, whose points are lost; and what all programs
+/// together used up.
 #[tactic(auto, unfolding(crate::specs::Outlines::root_made, crate::specs::Runs::runs_of))]
 pub fn root_made<H: Hinter>(
     alloc: Global,
+    zone: Zone,
+    lists: &mut Zone,
     hinter: &mut H,
     font: &Font<'_>,
     scale: &Scale,
@@ -432,6 +442,6 @@ pub fn root_made<H: Hinter>(
         points: 0,
         usage: Usage::none(),
     };
-    let made = walk.assembled(hinter, &mut count)?;
+    let made = walk.assembled(hinter, &mut count, Made::in_zone(zone), lists)?;
     Ok((made, count.usage))
 }

@@ -36,6 +36,9 @@ pub within : (m : ℕ) (v : ℤ) (p d : ℕ) (n q : ℤ) → n ≡ v *ℤ pos (p
 unfolding Nearest
 within m v p d n q e near h k u = grind (arith, product_within, quotient_within)
 
+not_zero : (d : ℕ) → IsUnitsPerEm d → pos d ≢ pos 0
+not_zero d u = λ e. let l = u.least in omega (arith, ints, e)
+
 -- what a value of the font is near
 pub near_within : (v : ℤ) (p d : ℕ) → unsigned_abs v ≤ 2 ^ 16 → IsPpem p → IsUnitsPerEm d
     → unsigned_abs (near_of (v *ℤ pos (p * 64)) (pos d)) < 2 ^ 31
@@ -44,9 +47,15 @@ near_within v p d h k u =
     let q = near_of (v *ℤ pos (p * 64)) (pos d) in
     let s = within (2 ^ 16) v p d (v *ℤ pos (p * 64)) q refl (near_of_is_near (v *ℤ pos (p * 64)) (pos d) (not_zero d u)) h k u in
     omega (arith, s)
-  where
-    not_zero : (d : ℕ) → IsUnitsPerEm d → pos d ≢ pos 0
-    not_zero d u = λ e. let l = u.least in omega (arith, ints, e)
+
+-- what a value of the font is near is small
+pub near_small : (v : ℤ) (p d : ℕ) → unsigned_abs v ≤ 65535 → IsPpem p → IsUnitsPerEm d
+    → unsigned_abs (near_of (v *ℤ pos (p * 64)) (pos d)) ≤ 2 ^ 28
+unfolding Nearest
+near_small v p d h k u =
+    let q = near_of (v *ℤ pos (p * 64)) (pos d) in
+    let s = within 65535 v p d (v *ℤ pos (p * 64)) q refl (near_of_is_near (v *ℤ pos (p * 64)) (pos d) (not_zero d u)) h k u in
+    omega (arith, s)
 
 -- it needs no wrapping
 pub exact_of : (v : ℤ) (p d : ℕ) → unsigned_abs v ≤ 2 ^ 16 → IsPpem p → IsUnitsPerEm d

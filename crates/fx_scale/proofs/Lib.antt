@@ -1,4 +1,4 @@
 pub mod Exact
 pub mod Ends
 pub mod Signs
-mod Shifts
+mod Factors

@@ -5,12 +5,12 @@
 #![tactic(auto)]
 
 mod cvt;
+mod factor;
 mod phantom;
 mod scale;
-mod shift;
 mod zone;
 
 pub use cvt::cvt_of;
 pub use phantom::{PhantomPoints, fitted, phantoms};
 pub use scale::{Scale, scaled};
-pub use zone::zone_of;
+pub use zone::fill_zone;

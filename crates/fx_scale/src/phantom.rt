@@ -1,6 +1,6 @@
 //! Phantom points.
 
-ghost use Rattle.std.specs.Prelude.{◌≡◌, ◌<◌, ◌-ℤ◌, ◌*ℤ◌, pos};
+ghost use Rattle.std.specs.Prelude.{◌≡◌, ◌<◌, ◌-ℤ◌, ◌*ℤ◌, ◌≤◌, pos, unsigned_abs};
 ghost use Rattle.fx_fixed.specs.Numbers.{wrapped_of, near_of};
 ghost use Rattle.fx_scale.specs.Phantoms.{phantom_on, phantoms_of, fitted, in_order, untouched_points};
 
@@ -25,10 +25,11 @@ impl PhantomPoints {
     pub fn of_glyph(scale: &Scale, hinted: bool, x_min: i16, metrics: Metrics) -> PhantomPoints
         ensures { result ≡ phantoms_of scale.now hinted x_min metrics }
     {
-        let origin = scale.apply(margin(x_min, metrics.lsb));
-        let advance = origin.plus(scale.apply(i32::from(metrics.advance_width)));
-        let ascender = scale.apply(i32::from(scale.ascender));
-        let descender = scale.apply(i32::from(scale.descender));
+        let factor = scale.factor();
+        let origin = factor.apply(margin(x_min, metrics.lsb));
+        let advance = origin.plus(factor.apply(i32::from(metrics.advance_width)));
+        let ascender = factor.apply(i32::from(scale.ascender));
+        let descender = factor.apply(i32::from(scale.descender));
         PhantomPoints {
             origin: phantom(Axis::X, hinted, origin),
             advance: phantom(Axis::X, hinted, advance),
@@ -66,7 +67,8 @@ pub fn phantoms(scale: &Scale, hinted: bool, x_min: i16, metrics: Metrics) -> [P
 
 /// The x of the origin, in FUnits.
 fn margin(x_min: i16, lsb: i16) -> i32
-    ensures { result ≡ x_min -ℤ lsb }
+    ensures value { result ≡ x_min -ℤ lsb }
+    ensures size { unsigned_abs result ≤ 65535 }
 {
     i32::from(x_min) - i32::from(lsb)
 }

@@ -1,10 +1,11 @@
 //! Scaling.
 
 ghost use Rattle.std.specs.Prelude.{◌≡◌, ◌^◌, ◌≤◌, ◌*◌, pos, ◌*ℤ◌, unsigned_abs};
-ghost use Rattle.fx_fixed.specs.Numbers.{near_of, near_size, wrapped_of};
+ghost use Rattle.fx_fixed.specs.Numbers.{near_of, wrapped_of};
 ghost use Rattle.fx_sfnt.specs.Units.{IsUnitsPerEm};
 ghost use Rattle.fx_scale.specs.Scaling.{scaled_of, scaled_by, scale_of};
 
+use crate::factor::Factor;
 use fx_fixed::{F26, Ppem, near, w32};
 use fx_sfnt::{Font, UnitsPerEm};
 
@@ -36,6 +37,14 @@ impl Scale {
     {
         scaled(v, self.ppem, self.units_per_em)
     }
+
+    /// The factor of this scale, for several values.
+    pub(crate) fn factor(&self) -> Factor
+        ensures ppem { result.ppem ≡ self.now.ppem }
+        ensures units { result.units_per_em ≡ self.now.units_per_em }
+    {
+        Factor::of(self.ppem, self.units_per_em)
+    }
 }
 
 /// A value in FUnits at a size, in 26.6 pixels: `v * ppem * 64 / unitsPerEm` rounded to the nearest whole number, halves away
@@ -48,41 +57,17 @@ pub fn scaled(v: i32, ppem: Ppem, units_per_em: UnitsPerEm) -> F26
     ensures within { unsigned_abs v ≤ 65535 → unsigned_abs result ≤ 2 ^ 28 }
     ensures exact { unsigned_abs v ≤ 2 ^ 16 → result ≡ near_of (v *ℤ pos (ppem * 64)) (pos units_per_em) }
 {
-    let em = u32::from(ppem.pixels()) * 64;
-    let funits = u32::from(units_per_em.funits());
     if v.unsigned_abs() > MAX_SHORT {
-        return scaled_long(v, em, funits);
+        let em = u32::from(ppem.pixels()) * 64;
+        return scaled_long(v, em, u32::from(units_per_em.funits()));
     }
-    scaled_short(v, em, funits)
+    Factor::of(ppem, units_per_em).apply(v)
 }
 
-/// The greatest size of a value that is scaled in 32 bits, as are all that a font has, and differences of two of them.
+/// The greatest size of a value that is scaled by a factor, as are all that a font has, and differences of two of them.
 const MAX_SHORT: u32 = 65_535;
 
-/// A value scaled in 32 bits; `em` is the number of 1/64 pixels in an em.
-#[tactic(auto, using(std::proofs::lemmas::Int::ints, crate::proofs::Signs::of_positive, crate::proofs::Signs::of_negative))]
-fn scaled_short(v: i32, em: u32, funits: u32) -> F26
-    requires value_size { unsigned_abs v ≤ 65535 }
-    requires em_size { em ≤ 65536 }
-    requires units { IsUnitsPerEm funits }
-    ensures value { result ≡ near_of (v *ℤ pos em) (pos funits) }
-    ensures size { unsigned_abs result ≤ 2 ^ 28 }
-{
-    let size = rounded_quotient(v.unsigned_abs() * em, funits) as i32;
-    F26(if v < 0 { -size } else { size })
-}
-
-/// `n / d` rounded to the nearest whole number, halves up.
-fn rounded_quotient(n: u32, d: u32) -> u32
-    requires size { n ≤ 4294901760 }
-    requires divisor { IsUnitsPerEm d }
-    ensures value { result ≡ near_size n d }
-    ensures size { result ≤ 2 ^ 28 }
-{
-    (n + d / 2) / d
-}
-
-/// A value of any size scaled; no value of a font is as large.
+/// A value of any size scaled; no value of a font is as large. `em` is the number of 1/64 pixels in an em.
 #[cold]
 fn scaled_long(v: i32, em: u32, funits: u32) -> F26
     requires em_size { em ≤ 65536 }

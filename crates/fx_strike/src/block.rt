@@ -15,6 +15,7 @@ use crate::open::{open_at, open_many};
 use crate::opened::Opened;
 use crate::striker::Striker;
 use crate::tools::Tools;
+use fx_hint::Spare;
 use fx_machine::Machine;
 use fx_raster::{Rows, Scan, Scratch};
 use fx_request::{Mode, Refusal};
@@ -45,7 +46,7 @@ fn hinter_in<'a>(
     Ok(Some(FontHinter {
         machine: Some(machine),
         scratch: Scratch::new(alloc),
-        spare: Vec::new(alloc),
+        spare: Spare::new(alloc),
     }))
 }
 

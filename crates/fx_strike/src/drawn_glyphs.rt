@@ -9,10 +9,13 @@ use std::alloc::Global;
 use std::marker::Model;
 
 /// The most glyphs that are kept.
-const MOST_GLYPHS: usize = 64;
+const MOST_GLYPHS: usize = 128;
 
-/// The most words of bits of a glyph that is kept. With `MOST_GLYPHS` they are 512 KiB.
+/// The most words of bits of a glyph that is kept. With `MOST_GLYPHS` they are 1 MiB.
 const MOST_WORDS: usize = 2_048;
+
+/// The words of bits of glyphs that are drawn early: 64 KiB, and those of one glyph more.
+const EARLY_WORDS: usize = 16_384;
 
 /// A glyph that was drawn, with its number in the font.
 #[derive(Drop)]
@@ -25,6 +28,8 @@ pub(crate) struct DrawnGlyph {
 #[derive(Drop)]
 pub(crate) struct DrawnGlyphs {
     glyphs: Vec<DrawnGlyph>,
+    /// How many words of bits are left for glyphs that are drawn early.
+    early: usize,
 }
 
 impl Model for DrawnGlyphs {
@@ -57,7 +62,10 @@ impl DrawnGlyphs {
         ensures { result ≡ [] }
     {
         match Vec::with_capacity(alloc, MOST_GLYPHS) {
-            Ok(glyphs) => DrawnGlyphs { glyphs },
+            Ok(glyphs) => DrawnGlyphs {
+                glyphs,
+                early: EARLY_WORDS,
+            },
             Err(_) => DrawnGlyphs::without_room(alloc),
         }
     }
@@ -68,17 +76,27 @@ impl DrawnGlyphs {
     {
         DrawnGlyphs {
             glyphs: Vec::new(alloc),
+            early: 0,
         }
+    }
+
+    /// Whether the first pass draws the next glyph even if it could do without: then the glyph is drawn once, and its outline need
+    /// not be kept. Glyphs of long strikes, and large ones, are drawn late.
+    pub(crate) fn is_early(&self) -> bool {
+        self.early > 0 && self.glyphs.len() < self.glyphs.capacity()
     }
 
     /// Keeps a glyph if it is small and there is room for it; else its bitmap goes back to the scratch.
     pub(crate) fn keep(&mut self, glyph: u16, drawn: BitGlyph, scratch: &mut Scratch)
         ensures { (self.new ≡ self.old) ⊎ (self.new ≡ self.old ++ record { glyph = glyph; drawn = drawn } ∷ []) }
     {
-        if self.glyphs.len() == self.glyphs.capacity() || drawn.word_count() > MOST_WORDS {
+        let words = drawn.word_count();
+        if self.glyphs.len() == self.glyphs.capacity() || words > MOST_WORDS {
+            self.early = 0;
             scratch.give_back(drawn.into_bitmap());
             return;
         }
+        self.early = self.early.saturating_sub(words);
         self.glyphs.push_reserved(DrawnGlyph { glyph, drawn });
     }
 

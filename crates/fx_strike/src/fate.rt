@@ -1,7 +1,8 @@
 //! What becomes of a character: it is drawn, or it is refused, and drawn without hinting or left out.
 ghost use Rattle.std.specs.Prelude.{◌≡◌, ℕ, Option, None, Ok};
 ghost use Rattle.fx_machine.specs.Known.{Known};
-ghost use Rattle.fx_cache.specs.Cached.{AreDue};
+ghost use Rattle.fx_hint.specs.Outlines.{view_of_glyph_outline};
+ghost use Rattle.fx_cache.specs.Cached.{AreDue, MayAdd};
 ghost use Rattle.fx_strike.specs.Faults.{Fails};
 ghost use Rattle.fx_strike.specs.Strike.{setting_with, glyph_sketch_of, glyph_fate_of, halted_by, left_out_for, refused_by};
 ghost use Rattle.fx_strike.specs.inner.Drawing.{Decides, IsFateOf, Sketches, due_with};
@@ -11,8 +12,9 @@ use crate::sketch::{frame_at, outline_made, sketch_with};
 use crate::sketched::Sketched;
 use crate::tools::Tools;
 use fx_cache::{CacheReader, OutlineCache};
+use fx_hint::GlyphOutline;
 use fx_machine::Halt;
-use fx_raster::Scan;
+use fx_raster::{Frame, Scan};
 use fx_request::{Notice, OnRefused, Refusal};
 
 /// What becomes of a character that the font has.
@@ -24,6 +26,23 @@ pub(crate) enum Fate {
     Unhinted(Notice, Sketched),
     /// It is refused, and left out.
     LeftOut(Notice),
+}
+
+/// Puts an outline into the cache if it is to be kept.
+#[inline(always)]
+fn put_if(
+    kept: bool,
+    cache: &mut OutlineCache,
+    glyph: u16,
+    drawing: &GlyphOutline,
+    frame: Option<Frame>,
+)
+    ensures { MayAdd cache.old
+        (record { glyph = glyph; outline = view_of_glyph_outline drawing.now; frame = frame }) cache.new }
+{
+    if kept {
+        cache.put(glyph, drawing, frame);
+    }
 }
 
 impl<'a, S: Scan> Tools<'a, S> {
@@ -57,12 +76,13 @@ impl<'a, S: Scan> Tools<'a, S> {
         sketch_with(&self.basis, glyph, drawing, frame)
     }
 
-    /// The glyph of this number before its bits. Its outline is made, and put into the cache.
+    /// The glyph of this number before its bits. Its outline is made, and put into the cache if it is to be kept.
     pub(crate) fn sketch_made(
         &self,
         hinter: &mut FontHinter<'_>,
         cache: &mut OutlineCache,
         glyph: u16,
+        kept: bool,
     ) -> Result<Sketched, Refusal>
         requires cache { AreDue (due_with self.now.basis hinter.old) cache.old }
         ensures kept { hinter.new ≡ hinter.old }
@@ -72,7 +92,7 @@ impl<'a, S: Scan> Tools<'a, S> {
     {
         let drawing = outline_made(self.alloc, hinter, &self.basis.opened, glyph)?;
         let frame = frame_at(&self.basis, glyph, &drawing)?;
-        cache.put(glyph, &drawing, frame);
+        put_if(kept, cache, glyph, &drawing, frame);
         sketch_with(&self.basis, glyph, drawing, frame)
     }
 

@@ -96,8 +96,8 @@ fn region_of(bounds: Bounds) -> Region
 }
 
 impl<'a, S: Scan> Tools<'a, S> {
-    /// The least box that holds a box and the box of a character's glyph. The glyph's bits are made only if its shape does not lie
-    /// in the box.
+    /// The least box that holds a box and the box of a character's glyph. The glyph's bits are made if it is drawn early, or if its
+    /// shape does not lie in the box.
     fn bounds_with(
         &self,
         bounds: Bounds,
@@ -111,7 +111,7 @@ impl<'a, S: Scan> Tools<'a, S> {
         ensures drawn { MayKeep m sketched.now drawn.old drawn.new }
         ensures fault { IfErr result (λ e. e ≡ Refusal.OutOfMemory) }
     {
-        if sketched.shape.lies_in(region_of(bounds)) {
+        if !drawn.is_early() && sketched.shape.lies_in(region_of(bounds)) {
             return Ok(bounds);
         }
         let made = glyph_of(self.alloc, self.scan, m.code, sketched, scratch)?;
@@ -200,11 +200,12 @@ impl<'a, S: Scan> Tools<'a, S> {
         ensures unheard { IfErr result (λ _. listener.new ≡ listener.old) }
         ensures memo { IsMemo self.now.basis hinter.old memo.new.outlines memo.new.glyphs }
     {
-        match self.sketch_made(hinter, &mut memo.outlines, m.glyph) {
+        let kept = !memo.glyphs.is_early();
+        match self.sketch_made(hinter, &mut memo.outlines, m.glyph, kept) {
             Ok(sketched) => {
                 let scratch = &mut hinter.scratch;
                 let drawn = self.see_drawn(m, &sketched, seen, scratch, &mut memo.glyphs);
-                hinter.spare = sketched.shape.into_outline().points;
+                hinter.spare.give_back(sketched.shape.into_outline());
                 drawn
             }
             Err(cause) => self.see_refused(refused, hinter, m, cause, seen, listener),

@@ -8,9 +8,8 @@ ghost use Rattle.fx_strike.specs.Strike.{machine_for, prelude_by, wish_in};
 
 use crate::opened::Opened;
 use fx_gstate::Dropout as Wish;
-use fx_hint::{ComponentOf, GlyphInput, HintFault, Hinter, KeepingMachine, Made, NoHinter};
+use fx_hint::{ComponentOf, GlyphInput, HintFault, Hinter, KeepingMachine, Made, NoHinter, Spare};
 use fx_machine::{Machine, Unwatched, Usage};
-use fx_outline::OutlinePoint;
 use fx_raster::Scratch;
 use fx_request::Refusal;
 use std::alloc::{AllocError, Global};
@@ -24,8 +23,8 @@ pub(crate) struct FontHinter<'a> {
     pub(crate) machine: Option<Box<KeepingMachine<'a>>>,
     /// What scans work with.
     pub scratch: Scratch,
-    /// The points of an outline that is done with, whose buffer the next one takes over.
-    pub spare: Vec<OutlinePoint>,
+    /// The lists of an outline that is done with, which the next one takes over.
+    pub spare: Spare,
 }
 
 impl<'a> Model for FontHinter<'a> {
@@ -45,7 +44,7 @@ impl<'a> FontHinter<'a> {
         FontHinter {
             machine: None,
             scratch: Scratch::new(alloc),
-            spare: Vec::new(alloc),
+            spare: Spare::new(alloc),
         }
     }
 
@@ -103,9 +102,9 @@ impl<'a> Hinter for FontHinter<'a> {
         }
     }
 
-    fn recall(&self, alloc: Global, input: &GlyphInput<'_>, made: &mut Made) -> Option<Usage> {
+    fn recall(&self, input: &GlyphInput<'_>, made: &mut Made) -> Option<Usage> {
         match &self.machine {
-            Some(machine) => machine.recall(alloc, input, made),
+            Some(machine) => machine.recall(input, made),
             None => None,
         }
     }
@@ -164,6 +163,6 @@ pub(crate) fn hinter_at<'a>(
     Ok(FontHinter {
         machine: Some(machine),
         scratch: Scratch::new(alloc),
-        spare: Vec::new(alloc),
+        spare: Spare::new(alloc),
     })
 }

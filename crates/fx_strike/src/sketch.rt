@@ -18,14 +18,14 @@ use crate::opened::Opened;
 use crate::rule::rule_for;
 use crate::sketched::Sketched;
 use fx_fixed::near;
-use fx_hint::{GlyphOutline, outline_in};
+use fx_hint::{GlyphOutline, Spare, outline_in};
 use fx_raster::{Frame, Rule, Shape, frame_of};
 use fx_request::Refusal;
 use fx_sfnt::Font;
 use std::alloc::Global;
 use std::mem;
 
-/// Makes the outline of a glyph, scaled and hinted. Its points are put into the buffer that an outline before left.
+/// Makes the outline of a glyph, scaled and hinted. Its lists are those that an outline before left.
 #[inline(always)]
 pub(crate) fn outline_made(
     alloc: Global,
@@ -38,8 +38,10 @@ pub(crate) fn outline_made(
     ensures value { GivesUnless Fails view_of_glyph_outline result
         (map_fault of_hint (outline_with (hinting_by hinter.old) opened.now.font opened.now.ppem glyph)) }
 {
-    let points = mem::replace(&mut hinter.spare, Vec::new(alloc));
-    match outline_in(alloc, points, hinter, &opened.font, opened.ppem, glyph) {
+    let mut spare = mem::replace(&mut hinter.spare, Spare::new(alloc));
+    let made = outline_in(alloc, &mut spare, hinter, &opened.font, opened.ppem, glyph);
+    hinter.spare = spare;
+    match made {
         Ok(made) => Ok(made),
         Err(fault) => Err(of_hint(fault)),
     }

@@ -77,12 +77,13 @@ impl Zone {
         &self.ends
     }
 
-    /// The number of each contour's last point, without the points.
-    pub fn into_ends(self) -> Vec<u16>
-        ensures { result.items ≡ self.ends }
+    /// The lists of points and of contours, for another zone to take over.
+    pub fn into_lists(self) -> (Vec<Point>, Vec<u16>)
+        ensures points { result.0.items ≡ self.points }
+        ensures ends { result.1.items ≡ self.ends }
     {
-        let Zone { points: _, ends } = self;
-        ends
+        let Zone { points, ends } = self;
+        (points, ends)
     }
 
     /// The point of a number, if it is inside.
@@ -186,6 +187,24 @@ impl Zone {
         ensures { self.new ≡ other.now }
     {
         self.points.copy_from_slice(&other.points);
+    }
+
+    /// Removes all points and contours. The lists keep their memory.
+    pub fn clear(&mut self)
+        ensures { self.new ≡ empty_figure }
+    {
+        self.ends.clear();
+        self.points.clear();
+    }
+
+    /// Takes these points and contours in place of its own. If memory is refused it may hold anything.
+    pub fn refill(&mut self, points: &[Point], ends: &[u16]) -> Result<(), AllocError>
+        requires { All (λ e. e < length points.now) ends.now }
+        ensures { OnOk result (self.new ≡ record { points = points.now; ends = ends.now }) }
+    {
+        self.clear();
+        self.points.extend_from_slice(points)?;
+        self.ends.extend_from_slice(ends)
     }
 
     /// Appends points, and contours numbered within these points; if memory is refused,

@@ -1,5 +1,5 @@
 //! Drop-out control: the segments that pieces meet, and the gaps that are closed, by hand.
-use fx_dropout::{close_gaps, close_gaps_nearer};
+use fx_dropout::{Drawn, close_gaps, close_gaps_nearer};
 use fx_winding::{Bitmap, Frame, Noted, Piece, Pieces, Plain, Point, Scan, Scratch, Tally, meets};
 use std::alloc::{AllocError, Global};
 use std::process::Abort;
@@ -112,9 +112,10 @@ fn closed(alloc: Global, curves: &[Curve], frame: Corner, by: By) -> Result<Bitm
         &mut scratch,
         &mut tally,
     )?;
+    let drawn = Drawn::anywhere(&pieces);
     match by {
-        By::Lower => close_gaps(&pieces, &notes, &mut bitmap, &mut tally),
-        By::Nearer => bitmap = close_gaps_nearer(alloc, &pieces, &notes, bitmap, &mut tally)?,
+        By::Lower => close_gaps(&drawn, &notes, &mut bitmap, &mut tally),
+        By::Nearer => bitmap = close_gaps_nearer(alloc, &drawn, &notes, bitmap, &mut tally)?,
     }
     Ok(bitmap)
 }

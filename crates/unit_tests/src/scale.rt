@@ -1,7 +1,7 @@
 //! Control values and zones at a size, at a small and a large input.
 use fx_fixed::{F26, Place, Ppem};
 use fx_glyf::{Glyph, read};
-use fx_scale::{Scale, cvt_of, zone_of};
+use fx_scale::{Scale, cvt_of, fill_zone};
 use fx_sfnt::UnitsPerEm;
 use fx_zone::{Point, Zone};
 use std::alloc::Global;
@@ -23,7 +23,15 @@ fn scale() -> Option<Scale> {
 fn zone(alloc: Global, bytes: &[u8]) -> Result<Zone, Fail> {
     let scale = scale().ok_or("scale")?;
     match read(bytes, 7)? {
-        Glyph::Simple(simple) => Ok(zone_of(alloc, &simple, &scale)?),
+        Glyph::Simple(simple) => {
+            // What the zone held is lost.
+            let mut zone = Zone::of(
+                Vec::from_array(alloc, [Point::resting(Place::origin(), true); 5])?,
+                Vec::from_array(alloc, [3])?,
+            );
+            fill_zone(alloc, &mut zone, &simple, &scale)?;
+            Ok(zone)
+        }
         _ => Err("simple")?,
     }
 }

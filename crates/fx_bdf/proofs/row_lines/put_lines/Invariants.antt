@@ -1,4 +1,4 @@
-use Rattle.std.proofs.Common.{◌≡◌, ◌++◌, ◌-◌, ◌≤◌, length, take}
+use Rattle.std.proofs.Common.{◌≡◌, ◌+◌, ◌-◌, ◌*◌, ◌++◌, ◌≤◌, length, take}
 use Rattle.fx_bdf.specs.inner.Lines.{lines_between}
 use Rattle.fx_bdf.proofs.row_lines.put_lines.Given as goal
 
@@ -6,10 +6,7 @@ abbrev pub invariant-rows : goal.invariant-rows
 invariant-rows l = record {
   long : length l.bytes ≡ length l.fn.bytes;
   within : l.end ≤ length l.bytes;
-  order : l.fn.next ≤ l.next;
-  inside : l.fn.next ≤ length l.rows → l.next ≤ length l.rows;
-  text : take l.end l.bytes ≡ take l.fn.end l.fn.bytes ++ lines_between l.rows l.fn.next l.next;
+  order : l.fn.first ≤ l.i;
+  end : l.end ≡ l.fn.start + (l.i - l.fn.first) * (l.digits + 1);
+  text : take l.end l.bytes ≡ take l.fn.start l.fn.bytes ++ lines_between l.rows l.fn.first l.i;
 }
-
-abbrev pub decreases-rows : goal.decreases-rows
-decreases-rows l = length l.rows - l.next

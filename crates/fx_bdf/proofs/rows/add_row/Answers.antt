@@ -1,4 +1,3 @@
-use Rattle.std.proofs.Common.{[]}
 use Rattle.fx_fixed.proofs.Texts.{adds_then}
 use Rattle.fx_bdf.proofs.rows.add_row.Goals as goal
 

@@ -1,4 +1,4 @@
-use Rattle.std.proofs.Common.{◌≡◌, ◌∙◌, refl, ap, sym}
+use Rattle.std.proofs.Common.{◌∙◌, refl, ap, sym}
 use Rattle.fx_winding.specs.Bitmaps.{bit_of}
 use Rattle.fx_bdf.specs.Glyphs.{Glyph, glyph_bit}
 use Rattle.fx_bdf.proofs.Trimmed.{shows_bits}

@@ -48,10 +48,10 @@ returns-in_err-begun_component-in-Some-clause-walks g c =
     c.steps.invariant.ran.2 c.in-Some.ensures.steps c.levels_below-levels.ensures
     (logged_is _ _ _ _ _ _ _ _ c.steps.invariant.ran.0 _ b)))
 
-pub steps-preserved-in-Continue-branch-3 : goal.steps-preserved-in-Continue-branch-3
-steps-preserved-in-Continue-branch-3 g c =
+pub steps-preserved-in-None-2 : goal.steps-preserved-in-None-2
+steps-preserved-in-None-2 g c =
     let v = rw (c.steps.invariant.kept, c.in-None-2.is) at c.in_ok-begun_component-in-Some.ensures.value in
-    let a = rw c.is_on-on.ensures at c.in_ok-add_part-in-None-2.ensures in
+    let a = rw c.is_on-on.ensures at c.in_ok-left-in-None-2.ensures in
     let m = c.steps.invariant.counted in
     let n = c.in_ok-begun_component-in-Some.ensures.points in
     let s = part_adds_points _ _ _ _ _ _ _ a in
@@ -75,18 +75,18 @@ steps-preserved-in-Continue-branch-3 g c =
       points = n.1;
     }
 
-pub returns-in_err-add_part-in-None-2-clause-walks : goal.returns-in_err-add_part-in-None-2-clause-walks
-returns-in_err-add_part-in-None-2-clause-walks g c =
-    let p = err_from_is_err_and c.from_residual-in_err-add_part-in-None-2.result
-    c.from_residual-in_err-add_part-in-None-2.ensures.1 in
+pub returns-in_err-left-in-None-2-clause-walks : goal.returns-in_err-left-in-None-2-clause-walks
+returns-in_err-left-in-None-2-clause-walks g c =
+    let p = err_from_is_err_and c.from_residual-in_err-left-in-None-2.result
+    c.from_residual-in_err-left-in-None-2.ensures.1 in
     let v = rw (c.steps.invariant.kept, c.in-None-2.is) at c.in_ok-begun_component-in-Some.ensures.value in
-    let a = rw c.is_on-on.ensures at c.in_err-add_part-in-None-2.ensures in
+    let a = rw c.is_on-on.ensures at c.in_err-left-in-None-2.ensures in
     let led = rw c.steps.invariant.kept at c.in_ok-begun_component-in-Some.ensures.leads in
     let lv = logged_is _ _ _ _ _ _ _ _ c.steps.invariant.ran.0 _ v in
     let f = first_of_begun _ _ _ _ _ _ c.steps.open c.in-Some.part c.next.new.self _ _ _ _
     c.steps.invariant.ran.2 c.in-Some.ensures.steps c.levels_below-levels.ensures
     (logged_is _ _ _ _ _ _ _ _ c.steps.invariant.ran.0 _ refl) in
-    rw (p.1, p.2) (stops_here g.H.Hinter.Leads _ _ c.in_err-add_part-in-None-2.field-0.0 _ _ _ _
+    rw (p.1, p.2) (stops_here g.H.Hinter.Leads _ _ c.in_err-left-in-None-2.field-0.0 _ _ _ _
     (g.met.H.Hinter.leads_then _ _ _ _ _ c.steps.invariant.ran.1 led) f a
     (λ e b. not_filled _ _ _ _ _ _ c.steps.open c.in-Some.part c.next.new.self _ _ _ _ e
     c.steps.invariant.ran.2 c.in-Some.ensures.steps c.levels_below-levels.ensures lv b))

@@ -24,7 +24,7 @@ returns-in_err-frame-clause-sketch g c code =
 
 pub returns-clause-cache : goal.returns-clause-cache
 returns-clause-cache g c =
-    added_due (due_with c.args.self.now.basis c.args.hinter.now) _ _ _ c.put.ensures c.requires.cache
+    added_due (due_with c.args.self.now.basis c.args.hinter.now) _ _ _ c.put_if.ensures c.requires.cache
     (record { due = c.in_ok-drawing.ensures.outline; framed = c.in_ok-frame.ensures.frame })
 
 pub returns-clause-sketch : goal.returns-clause-sketch

@@ -1,6 +1,6 @@
 use Rattle.std.proofs.Common.{◌≡◌, ◌+◌, ◌≤◌, ◌++◌, length, map, vec_len, vec_capacity}
 use Rattle.fx_scale.specs.Zones.{scaled_point}
-use Rattle.fx_scale.proofs.zone.push_scaled.Given as goal
+use Rattle.fx_scale.proofs.zone.scaled_points.Given as goal
 
 abbrev pub invariant-points : goal.invariant-points
 invariant-points l = record {

@@ -1,0 +1,71 @@
+//! Lists that one outline leaves to the next.
+
+ghost use Rattle.std.specs.Prelude.{◌≡◌};
+ghost use Rattle.fx_zone.specs.Figures.{empty_figure};
+
+use fx_outline::{Outline, OutlinePoint};
+use fx_zone::{Point, Zone};
+use std::alloc::Global;
+use std::mem;
+
+/// The lists of an outline that is done with, which the next one fills anew, so that it asks for no memory. What they hold has no
+/// part in the next outline.
+#[derive(Drop)]
+pub struct Spare {
+    /// The points before they were moved.
+    zone: Vec<Point>,
+    /// A component.
+    component: Zone,
+    points: Vec<OutlinePoint>,
+    ends: Vec<u16>,
+}
+
+impl Spare {
+    /// Lists without memory.
+    pub fn new(alloc: Global) -> Spare {
+        Spare {
+            zone: Vec::new(alloc),
+            component: Zone::new(alloc),
+            points: Vec::new(alloc),
+            ends: Vec::new(alloc),
+        }
+    }
+
+    /// Takes the lists of an outline that is done with.
+    #[inline(always)]
+    pub fn give_back(&mut self, outline: Outline) {
+        let Outline { points, ends } = outline;
+        self.points = points;
+        self.ends = ends;
+    }
+
+    /// A zone for a component. What it holds is to be written over.
+    #[inline(always)]
+    pub(crate) fn component(&mut self) -> &mut Zone {
+        &mut self.component
+    }
+
+    /// Takes the list of points of a zone that is done with.
+    #[inline(always)]
+    pub(crate) fn give_back_zone(&mut self, points: Vec<Point>) {
+        self.zone = points;
+    }
+
+    /// The list for an outline's points. What it holds is to be written over.
+    #[inline(always)]
+    pub(crate) fn take_points(&mut self, alloc: Global) -> Vec<OutlinePoint> {
+        mem::replace(&mut self.points, Vec::new(alloc))
+    }
+
+    /// An empty zone in the lists for points and contours.
+    #[inline(always)]
+    pub(crate) fn take_zone(&mut self, alloc: Global) -> Zone
+        ensures { result ≡ empty_figure }
+    {
+        let mut points = mem::replace(&mut self.zone, Vec::new(alloc));
+        points.clear();
+        let mut ends = mem::replace(&mut self.ends, Vec::new(alloc));
+        ends.clear();
+        Zone::of(points, ends)
+    }
+}
