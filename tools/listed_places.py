@@ -19,7 +19,7 @@ PLACES = {
     "crates/fx_arguments/src/read_ahead.rt": ["from_slice(alloc, self.text)", "resize(filled + PART, 0)"],
     "crates/fx_dropout/src/filled.rt": ["vec![in alloc; 0u32; words.len()]"],
     "crates/fx_fixed/src/memory.rt": ["with_capacity(alloc, capacity)"],
-    "crates/fx_hint/src/keeping.rt": [
+    "crates/fx_hint/src/kept_glyphs.rt": [
         "with_capacity(alloc, PLACES)",
         "let _ = &self.places",
         "let _kept = places[usize::from(input.g) % PLACES].take(input, made, usage)",

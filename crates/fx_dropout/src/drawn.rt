@@ -64,12 +64,9 @@ impl<'a> Drawn<'a> {
     pub(crate) fn is_beyond(&self, pixel: Pixel) -> bool
         ensures { IsTrue result → ¬ (IsCovered (centre pixel.col pixel.row) (map span_of self.now)) }
     {
-        let Some(frame) = self.frame else {
-            return false;
-        };
-        if is_in_frame(frame, pixel) {
-            return false;
+        match self.frame {
+            Some(frame) => !is_in_frame(frame, pixel),
+            None => false,
         }
-        true
     }
 }

@@ -37,7 +37,7 @@ fn packed(x: i16, y: i16) -> u32
     u32::from(x.cast_unsigned()) + 65536 * u32::from(y.cast_unsigned())
 }
 
-/// Whether two pairs of coordinates are the same. Packed they are compared at once: rows ask this of vectors all the time.
+/// Whether two pairs of coordinates are the same. Packed they take one comparison, and nearly every row that moves a point asks.
 fn same_pair(x: i16, y: i16, other_x: i16, other_y: i16) -> bool
     ensures { IsTrue result ↔ ((x ≡ other_x) × (y ≡ other_y)) }
 {

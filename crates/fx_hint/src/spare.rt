@@ -39,7 +39,7 @@ impl Spare {
         self.ends = ends;
     }
 
-    /// A zone for a component. What it holds is to be written over.
+    /// A zone for a component. The caller overwrites what it holds.
     #[inline(always)]
     pub(crate) fn component(&mut self) -> &mut Zone {
         &mut self.component
@@ -51,7 +51,7 @@ impl Spare {
         self.zone = points;
     }
 
-    /// The list for an outline's points. What it holds is to be written over.
+    /// The list for an outline's points. The caller overwrites what it holds.
     #[inline(always)]
     pub(crate) fn take_points(&mut self, alloc: Global) -> Vec<OutlinePoint> {
         mem::replace(&mut self.points, Vec::new(alloc))

@@ -1,10 +1,11 @@
-//! The instruction table, by the high nibble of the opcode, as its definition: in `opcodes_0x` to `opcodes_8x` the rows that
-//! continue at the next address, in `row` all others. Each arm names its opcodes; the last one of a nibble is for those without a
-//! row in it, which `row` does not send there. They are inlined, so that an instruction takes two jumps by table, and no action
-//! goes through memory. Those of `opcodes_0x`, `opcodes_7x` and `opcodes_8x` are seldom executed, and are called: the hint to
-//! inline `row` is dropped, with no message, if it would grow very large.
+//! The instruction table. `row` has an arm for each opcode of 2x, 4x and 5x, for 60 to 67, and for PUSHB of one byte. Programs
+//! execute these most, and each takes one jump by table. `other_row` finds all others by the high nibble, as the definition does.
+//!
+//! All of it is inlined into the loop of a run, so that no action goes through memory. Only the rows of `opcodes_0x`, `opcodes_3x`,
+//! `opcodes_7x` and `opcodes_8x`, and of ROUND and NROUND, are called: the compiler drops the hint to inline `row`, with no
+//! message, if it would grow very large. A program in which that happened has a symbol `State::row`.
 
-ghost use Rattle.std.specs.Prelude.{◌≡◌, ◌+◌, ◌<◌, length};
+ghost use Rattle.std.specs.Prelude.{◌≡◌, ◌≢◌, ◌+◌, ◌/◌, ◌<◌, ◌≤◌, length};
 ghost use Rattle.fx_code.specs.Chain.{opcode_at};
 ghost use Rattle.fx_machine.specs.Actions.{Does, Leads};
 ghost use Rattle.fx_machine.specs.Table.{relative_row, row_here, opcodes_0x, opcodes_1x, opcodes_2x, opcodes_3x, opcodes_4x};
@@ -91,31 +92,7 @@ impl State {
         Ok(())
     }
 
-    /// 20 to 2F: the stack, ALIGNPTS, UTP, MDAP.
-    #[inline(always)]
-    #[tactic(auto, unfolding(crate::specs::Table::opcodes_2x))]
-    fn opcodes_2x(&mut self, opcode: u8) -> Result<(), Cause>
-        ensures { Does (opcodes_2x opcode) self.old self.new result }
-    {
-        match opcode {
-            DUP => self.store.dup()?,
-            POP => self.store.pop()?,
-            CLEAR => self.store.clear(),
-            SWAP => self.store.swap()?,
-            DEPTH => self.store.depth()?,
-            CINDEX => self.store.cindex()?,
-            MINDEX => self.store.mindex()?,
-            ALIGNPTS => self.alignpts()?,
-            UTP => self.utp()?,
-            MDAP_0 => self.mdap(false)?,
-            MDAP_1 => self.mdap(true)?,
-            _ => return Err(Cause::BadOpcode),
-        }
-        Ok(())
-    }
-
     /// 30 to 3F: points.
-    #[inline(always)]
     #[tactic(auto, unfolding(crate::specs::Table::opcodes_3x))]
     fn opcodes_3x(&mut self, opcode: u8) -> Result<(), Cause>
         ensures { Does (opcodes_3x opcode) self.old self.new result }
@@ -142,76 +119,17 @@ impl State {
         Ok(())
     }
 
-    /// 42 to 4F: storage, control values, measuring, the size.
-    #[inline(always)]
-    #[tactic(auto, unfolding(crate::specs::Table::opcodes_4x))]
-    fn opcodes_4x(&mut self, opcode: u8) -> Result<(), Cause>
-        ensures { Does (opcodes_4x opcode) self.old self.new result }
-    {
-        match opcode {
-            WS => self.store.ws()?,
-            RS => self.store.rs()?,
-            WCVTP => self.store.wcvtp()?,
-            RCVT => self.store.rcvt()?,
-            GC_0 => self.gc(false)?,
-            GC_1 => self.gc(true)?,
-            SCFS => self.scfs()?,
-            MD_0 => self.md(false)?,
-            MD_1 => self.md(true)?,
-            MPPEM => self.store.mppem(self.scale.ppem)?,
-            MPS => self.store.mps(self.scale.ppem)?,
-            FLIPON => self.graphics.set_auto_flip(true),
-            FLIPOFF => self.graphics.set_auto_flip(false),
-            DEBUG => self.store.ignored()?,
-            _ => return Err(Cause::BadOpcode),
-        }
-        Ok(())
-    }
-
-    /// 50 to 5F: comparisons, logic, deltas.
-    #[inline(always)]
-    #[tactic(auto, unfolding(crate::specs::Table::opcodes_5x))]
-    fn opcodes_5x(&mut self, opcode: u8) -> Result<(), Cause>
-        ensures { Does (opcodes_5x opcode) self.old self.new result }
-    {
-        match opcode {
-            LT => self.store.lt()?,
-            LTEQ => self.store.lteq()?,
-            GT => self.store.gt()?,
-            GTEQ => self.store.gteq()?,
-            EQ => self.store.eq()?,
-            NEQ => self.store.neq()?,
-            ODD => self.store.odd(&self.graphics)?,
-            EVEN => self.store.even(&self.graphics)?,
-            AND => self.store.and()?,
-            OR => self.store.or()?,
-            NOT => self.store.not()?,
-            DELTAP1 => self.deltap(DeltaForm::First)?,
-            SDB => sdb(&mut self.store, &mut self.graphics)?,
-            SDS => sds(&mut self.store, &mut self.graphics)?,
-            _ => return Err(Cause::BadOpcode),
-        }
-        Ok(())
-    }
-
-    /// 60 to 6F: arithmetic.
-    #[inline(always)]
+    /// 68 to 6F: ROUND and NROUND.
     #[tactic(auto, unfolding(crate::specs::Table::opcodes_6x))]
-    fn opcodes_6x(&mut self, opcode: u8) -> Result<(), Cause>
+    fn round_or_not(&mut self, opcode: u8) -> Result<(), Cause>
+        requires first { 0x68 ≤ opcode }
+        requires last { opcode ≤ 0x6F }
         ensures { Does (opcodes_6x opcode) self.old self.new result }
     {
-        match opcode {
-            ADD => self.store.add()?,
-            SUB => self.store.sub()?,
-            DIV => self.store.div()?,
-            MUL => self.store.mul()?,
-            ABS => self.store.abs()?,
-            NEG => self.store.neg()?,
-            FLOOR => self.store.floor()?,
-            CEILING => self.store.ceiling()?,
-            ROUND_0..=ROUND_3 => self.store.round(&self.graphics)?,
-            NROUND_0..=NROUND_3 => self.store.nround()?,
-            _ => return Err(Cause::BadOpcode),
+        if opcode <= ROUND_3 {
+            self.store.round(&self.graphics)?;
+        } else {
+            self.store.nround()?;
         }
         Ok(())
     }
@@ -269,8 +187,10 @@ impl State {
     }
 
     /// The row of the opcode at an address of a program.
+    ///
+    /// It is one table, so it is one long function: the compiler makes one jump of it.
     #[inline(always)]
-    #[tactic(auto, unfolding(crate::specs::Table::row_here, crate::specs::Table::row_of, crate::specs::Table::plain_of))]
+    #[tactic(auto, unfolding(crate::specs::Table::row_here, crate::specs::Table::row_of, crate::specs::Table::plain_of, crate::specs::Table::opcodes_2x, crate::specs::Table::opcodes_4x, crate::specs::Table::opcodes_5x, crate::specs::Table::opcodes_6x))]
     pub fn row(
         &mut self,
         code: &Code<'_>,
@@ -280,6 +200,95 @@ impl State {
         address: usize,
         next: usize,
     ) -> Result<Action, Cause>
+        requires inside { address < length code.now }
+        requires opcode { opcode ≡ opcode_at code.now address }
+        requires next { next ≡ address + 1 }
+        requires targets { program ≡ Program.Font → targets.old ≡ code.now }
+        ensures does { Leads (row_here opcode code.now program address) self.old self.new result }
+        ensures targets { targets.new ≡ targets.old }
+    {
+        match opcode {
+            PUSHB_1 => return self.pushb(code, PUSHB_1, address),
+            // 20 to 2F: the stack, calls, ALIGNPTS, UTP, MDAP.
+            DUP => self.store.dup()?,
+            POP => self.store.pop()?,
+            CLEAR => self.store.clear(),
+            SWAP => self.store.swap()?,
+            DEPTH => self.store.depth()?,
+            CINDEX => self.store.cindex()?,
+            MINDEX => self.store.mindex()?,
+            ALIGNPTS => self.alignpts()?,
+            UNDEFINED_28 => return self.undefined(opcode, next),
+            UTP => self.utp()?,
+            LOOPCALL => return self.loopcall(next),
+            CALL => return self.call(next),
+            FDEF => return self.fdef(code, program, next),
+            ENDF => return Ok(Action::Returned),
+            MDAP_0 => self.mdap(false)?,
+            MDAP_1 => self.mdap(true)?,
+            // 40 to 4F: data, storage, control values, measuring, the size.
+            NPUSHB | NPUSHW => return self.push(code, address),
+            WS => self.store.ws()?,
+            RS => self.store.rs()?,
+            WCVTP => self.store.wcvtp()?,
+            RCVT => self.store.rcvt()?,
+            GC_0 => self.gc(false)?,
+            GC_1 => self.gc(true)?,
+            SCFS => self.scfs()?,
+            MD_0 => self.md(false)?,
+            MD_1 => self.md(true)?,
+            MPPEM => self.store.mppem(self.scale.ppem)?,
+            MPS => self.store.mps(self.scale.ppem)?,
+            FLIPON => self.graphics.set_auto_flip(true),
+            FLIPOFF => self.graphics.set_auto_flip(false),
+            DEBUG => self.store.ignored()?,
+            // 50 to 5F: comparisons, logic, IF, deltas.
+            LT => self.store.lt()?,
+            LTEQ => self.store.lteq()?,
+            GT => self.store.gt()?,
+            GTEQ => self.store.gteq()?,
+            EQ => self.store.eq()?,
+            NEQ => self.store.neq()?,
+            ODD => self.store.odd(&self.graphics)?,
+            EVEN => self.store.even(&self.graphics)?,
+            IF => return self.if_else(code, targets, program, next),
+            EIF => {}
+            AND => self.store.and()?,
+            OR => self.store.or()?,
+            NOT => self.store.not()?,
+            DELTAP1 => self.deltap(DeltaForm::First)?,
+            SDB => sdb(&mut self.store, &mut self.graphics)?,
+            SDS => sds(&mut self.store, &mut self.graphics)?,
+            // 60 to 6F: arithmetic.
+            ADD => self.store.add()?,
+            SUB => self.store.sub()?,
+            DIV => self.store.div()?,
+            MUL => self.store.mul()?,
+            ABS => self.store.abs()?,
+            NEG => self.store.neg()?,
+            FLOOR => self.store.floor()?,
+            CEILING => self.store.ceiling()?,
+            _ => return self.other_row(opcode, code, targets, program, address, next),
+        }
+        Ok(Action::Went(next))
+    }
+
+    /// The row of an opcode that has no arm in `row`.
+    #[inline(always)]
+    #[tactic(auto, unfolding(crate::specs::Table::row_here, crate::specs::Table::row_of, crate::specs::Table::plain_of))]
+    fn other_row(
+        &mut self,
+        opcode: u8,
+        code: &Code<'_>,
+        targets: &mut Targets<'_>,
+        program: Program,
+        address: usize,
+        next: usize,
+    ) -> Result<Action, Cause>
+        requires not_2x { opcode / 16 ≢ 2 }
+        requires not_4x { opcode / 16 ≢ 4 }
+        requires not_5x { opcode / 16 ≢ 5 }
+        requires high_6x { opcode / 16 ≡ 6 → 0x68 ≤ opcode }
         requires inside { address < length code.now }
         requires opcode { opcode ≡ opcode_at code.now address }
         requires next { next ≡ address + 1 }
@@ -297,25 +306,8 @@ impl State {
                 JMPR => return self.jmpr(code.len(), address),
                 _ => self.opcodes_1x(opcode)?,
             },
-            0x2 => match opcode {
-                UNDEFINED_28 => return self.undefined(opcode, next),
-                LOOPCALL => return self.loopcall(next),
-                CALL => return self.call(next),
-                FDEF => return self.fdef(code, program, next),
-                ENDF => return Ok(Action::Returned),
-                _ => self.opcodes_2x(opcode)?,
-            },
             0x3 => self.opcodes_3x(opcode)?,
-            0x4 => match opcode {
-                NPUSHB | NPUSHW => return self.push(code, address),
-                _ => self.opcodes_4x(opcode)?,
-            },
-            0x5 => match opcode {
-                IF => return self.if_else(code, targets, program, next),
-                EIF => {}
-                _ => self.opcodes_5x(opcode)?,
-            },
-            0x6 => self.opcodes_6x(opcode)?,
+            0x6 => self.round_or_not(opcode)?,
             0x7 => match opcode {
                 JROT => return self.jrot(code.len(), address, next),
                 JROF => return self.jrof(code.len(), address, next),

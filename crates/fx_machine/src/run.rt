@@ -79,8 +79,7 @@ fn at_end(
 }
 
 /// Runs a program from its first byte, for at most `limit` instructions: how many it executed, or where and why it halted. The
-/// watcher
-/// sees it begin, and each instruction after it was executed.
+/// watcher sees it begin, and each instruction after it was executed.
 pub fn run<W: Watching>(
     state: &mut State,
     programs: &Programs<'_>,
@@ -109,9 +108,8 @@ pub fn run<W: Watching>(
     let mut code = programs.code(start);
     let mut steps: u32 = 0;
     watcher.begin(programs.name(start), state);
-    // The program's result is what comes of the cursor, the calls and the state after `steps` instructions. Once the watcher
-    // sees the
-    // instructions that are left, it has seen all.
+    // The program's result is what comes of the cursor, the calls and the state after `steps` instructions. Once the watcher sees
+    // the instructions that are left, it has seen all.
     'steps: loop {
         let program = cursor.program;
         let address = cursor.address;

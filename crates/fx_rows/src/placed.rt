@@ -33,8 +33,8 @@ pub(crate) struct Placed {
     ghost row_below: { lowest ≡ false → IsPixelNumber (frame.bottom -ℤ pos 1) },
 }
 
-/// The same piece in memory of its own. A function of its own is given this, made where it is called: if it were given the piece
-/// itself, that would be written to memory for each piece, though few come there.
+/// The same piece in memory of its own, for a call that few pieces reach. Given the piece itself, that call would make the compiler
+/// write every piece to memory.
 #[inline(always)]
 pub(crate) fn copied(placed: Placed) -> Placed
     ensures { result ≡ placed }

@@ -57,15 +57,15 @@ pub fn scaled(v: i32, ppem: Ppem, units_per_em: UnitsPerEm) -> F26
     ensures within { unsigned_abs v ≤ 65535 → unsigned_abs result ≤ 2 ^ 28 }
     ensures exact { unsigned_abs v ≤ 2 ^ 16 → result ≡ near_of (v *ℤ pos (ppem * 64)) (pos units_per_em) }
 {
-    if v.unsigned_abs() > MAX_SHORT {
+    if v.unsigned_abs() > MAX_FUNITS {
         let em = u32::from(ppem.pixels()) * 64;
         return scaled_long(v, em, u32::from(units_per_em.funits()));
     }
     Factor::of(ppem, units_per_em).apply(v)
 }
 
-/// The greatest size of a value that is scaled by a factor, as are all that a font has, and differences of two of them.
-const MAX_SHORT: u32 = 65_535;
+/// The greatest size of a value that a factor scales, in FUnits. All values of a font are within it, and differences of two.
+const MAX_FUNITS: u32 = 65_535;
 
 /// A value of any size scaled; no value of a font is as large. `em` is the number of 1/64 pixels in an em.
 #[cold]

@@ -1,17 +1,18 @@
 -- A stack in the cells of a table: its top is the last cell that is used.
 -- Serves the calls of Store that read or move numbers below the top.
-use Rattle.std.proofs.Common.{◌≡◌, ◌∙◌, sym, ap, refl, ℕ, ◌+◌, ◌-◌, ◌<◌, ◌≤◌, ℤ, pos, List, [], ◌∷◌, ◌++◌, length, take, drop}
+use Rattle.std.proofs.Common.{◌≡◌, ◌≢◌, ◌∙◌, subst, sym, ap, refl, ℕ, ◌+◌, ◌-◌, ◌<◌, ◌≤◌, ℤ, pos, List, [], ◌∷◌, ◌++◌, length, take, drop}
 use Rattle.std.proofs.Common.{reverse, slice_index_or, slice_set, arith, length-append, add-one}
 use Rattle.std.specs.List.{slice_range}
 use Rattle.std.proofs.lemmas.List.{reverse-append, reverse-reverse, length-reverse, length-take-le, length-drop, take-append-drop}
 use Rattle.std.proofs.lemmas.List.{take-take, drop-take, take_at, drop_at, get_or_at, drop_more, append_assoc}
-use Rattle.std.proofs.lemmas.List.{take_more, take_more_set}
+use Rattle.std.proofs.lemmas.List.{take_more, take_more_set, length-set}
 use Rattle.std.proofs.lemmas.List.Elements.{All-take, All-drop, All-append, All-same}
 use Rattle.std.proofs.Common.{FitsSigned}
 use Rattle.std.specs.Int.{w32}
 use borrow.Rule.Slice.PartMut.{post_of}
 use Rattle.fx_stackops.specs.Table.{AreNumbers, rotated_of}
-use Rattle.fx_stackops.specs.Store.{moved_up}
+use Rattle.fx_stackops.specs.Store.{StoreView, view_of, on_top, moved_up}
+use Rattle.fx_stackops.specs.inner.Tops.{below_top}
 
 -- ---- cells in two parts
 
@@ -67,6 +68,44 @@ written_next xs ys ns from i x h g e before =
 pub pushed_at : (new cells ns : List ℤ) (d n : ℕ) → take (d + n) new ≡ take d cells ++ ns
     → reverse (take (d + n) new) ≡ reverse ns ++ reverse (take d cells)
 pushed_at new cells ns d n e = ap reverse e ∙ reverse-append (take d cells) ns
+
+-- ---- the number on top
+
+-- it stays there
+pub last_at : (xs : List ℤ) (d : ℕ) → d ≢ 0 → d ≤ length xs
+    → slice_index_or xs (d - 1) (pos 0) ∷ drop 1 (reverse (take d xs)) ≡ reverse (take d xs)
+last_at xs d n m =
+    let l = length_used xs d m in
+    let e : d ≡ d - 1 + 1 = omega arith in
+    ap (λ (l : List ℤ). slice_index_or xs (d - 1) (pos 0) ∷ l) (sym (dropped_at xs d 1 (omega arith) m))
+    ∙ sym (reverse-append (take (d - 1) xs) (slice_index_or xs (d - 1) (pos 0) ∷ []))
+    ∙ ap reverse (sym (take_more xs (d - 1) (pos 0) (omega arith))) ∙ ap (λ (n : ℕ). reverse (take n xs)) (sym e)
+
+-- another one takes its place
+pub replaced_at : (new xs : List ℤ) (d : ℕ) (x : ℤ) → new ≡ slice_set xs (d - 1) x → 1 ≤ length (reverse (take d xs))
+    → d ≤ length xs → reverse (take d new) ≡ x ∷ drop 1 (reverse (take d xs))
+replaced_at new xs d x w h m =
+    let l = length_used xs d m in
+    let e : d ≡ d - 1 + 1 = omega arith in
+    ap (λ (l : List ℤ). reverse (take d l)) w ∙ ap (λ (n : ℕ). reverse (take n (slice_set xs (d - 1) x))) e
+    ∙ ap reverse (take_more_set xs (d - 1) x (omega arith)) ∙ reverse-append (take (d - 1) xs) (x ∷ [])
+    ∙ ap (λ (l : List ℤ). x ∷ l) (dropped_at xs d 1 h m)
+
+-- and this is seen
+replaced_view : (new xs storage cvt : List ℤ) (d strays : ℕ) (x : ℤ) → new ≡ slice_set xs (d - 1) x
+    → 1 ≤ length (reverse (take d xs)) → d ≤ length xs
+    → view_of d new storage cvt strays ≡ on_top x (below_top (view_of d xs storage cvt strays))
+replaced_view new xs storage cvt d strays x w h m =
+    let n : length new ≡ length xs = ap length w ∙ length-set xs (d - 1) x in
+    rw (replaced_at new xs d x w h m, n) refl
+
+pub replaced_seen : (new xs storage cvt : List ℤ) (d strays : ℕ) (x : ℤ) (s : StoreView) → new ≡ slice_set xs (d - 1) x
+    → view_of d xs storage cvt strays ≡ s → 1 ≤ length s.stack → d ≤ length xs
+    → view_of d new storage cvt strays ≡ on_top x (below_top s)
+replaced_seen new xs storage cvt d strays x s w v h m =
+    let i : 1 ≤ length (view_of d xs storage cvt strays).stack = subst (λ (t : StoreView). 1 ≤ length t.stack) (sym v) h in
+    subst (λ (t : StoreView). view_of d new storage cvt strays ≡ on_top x (below_top t)) v
+    (replaced_view new xs storage cvt d strays x w i m)
 
 -- ---- a number moved to the top
 

@@ -17,8 +17,8 @@ impl Store {
     pub fn add(&mut self) -> Result<(), StackFault>
         ensures { Does add_row self.old self.new result }
     {
-        let (a, b) = self.two()?;
-        self.put(F26(a).plus(F26(b)).0);
+        let (a, b) = self.fold()?;
+        self.set_last(F26(a).plus(F26(b)).0);
         Ok(())
     }
 
@@ -27,8 +27,8 @@ impl Store {
     pub fn sub(&mut self) -> Result<(), StackFault>
         ensures { Does sub_row self.old self.new result }
     {
-        let (a, b) = self.two()?;
-        self.put(F26(a).minus(F26(b)).0);
+        let (a, b) = self.fold()?;
+        self.set_last(F26(a).minus(F26(b)).0);
         Ok(())
     }
 
@@ -37,11 +37,11 @@ impl Store {
     pub fn div(&mut self) -> Result<(), StackFault>
         ensures { Does div_row self.old self.new result }
     {
-        let (a, b) = self.two()?;
+        let (a, b) = self.fold()?;
         if b == 0 {
             return Err(StackFault::DivideByZero);
         }
-        self.put(quotient(a, b));
+        self.set_last(quotient(a, b));
         Ok(())
     }
 
@@ -50,8 +50,8 @@ impl Store {
     pub fn mul(&mut self) -> Result<(), StackFault>
         ensures { Does mul_row self.old self.new result }
     {
-        let (a, b) = self.two()?;
-        self.put(product(a, b));
+        let (a, b) = self.fold()?;
+        self.set_last(product(a, b));
         Ok(())
     }
 
@@ -60,8 +60,8 @@ impl Store {
     pub fn abs(&mut self) -> Result<(), StackFault>
         ensures { Does abs_row self.old self.new result }
     {
-        let a = self.one()?;
-        self.put(w32(i128::from(a.unsigned_abs())));
+        let a = self.last()?;
+        self.set_last(w32(i128::from(a.unsigned_abs())));
         Ok(())
     }
 
@@ -70,8 +70,8 @@ impl Store {
     pub fn neg(&mut self) -> Result<(), StackFault>
         ensures { Does neg_row self.old self.new result }
     {
-        let a = self.one()?;
-        self.put(w32(-i128::from(a)));
+        let a = self.last()?;
+        self.set_last(w32(-i128::from(a)));
         Ok(())
     }
 
@@ -80,8 +80,8 @@ impl Store {
     pub fn floor(&mut self) -> Result<(), StackFault>
         ensures { Does floor_row self.old self.new result }
     {
-        let a = self.one()?;
-        self.put(w32(i128::from(floor_64(i64::from(a)))));
+        let a = self.last()?;
+        self.set_last(w32(i128::from(floor_64(i64::from(a)))));
         Ok(())
     }
 
@@ -90,8 +90,8 @@ impl Store {
     pub fn ceiling(&mut self) -> Result<(), StackFault>
         ensures { Does ceiling_row self.old self.new result }
     {
-        let a = self.one()?;
-        self.put(w32(i128::from(ceiling_64(a))));
+        let a = self.last()?;
+        self.set_last(w32(i128::from(ceiling_64(a))));
         Ok(())
     }
 
@@ -100,8 +100,8 @@ impl Store {
     pub fn round(&mut self, g: &GState) -> Result<(), StackFault>
         ensures { Does (round_row g.now) self.old self.new result }
     {
-        let a = self.one()?;
-        self.put(g.round(F26(a)).0);
+        let a = self.last()?;
+        self.set_last(g.round(F26(a)).0);
         Ok(())
     }
 
@@ -110,8 +110,7 @@ impl Store {
     pub fn nround(&mut self) -> Result<(), StackFault>
         ensures { Does nround_row self.old self.new result }
     {
-        let a = self.one()?;
-        self.put(a);
+        self.last()?;
         Ok(())
     }
 
@@ -120,8 +119,8 @@ impl Store {
     pub fn max(&mut self) -> Result<(), StackFault>
         ensures { Does max_row self.old self.new result }
     {
-        let (a, b) = self.two()?;
-        self.put(if a < b { b } else { a });
+        let (a, b) = self.fold()?;
+        self.set_last(if a < b { b } else { a });
         Ok(())
     }
 
@@ -130,8 +129,8 @@ impl Store {
     pub fn min(&mut self) -> Result<(), StackFault>
         ensures { Does min_row self.old self.new result }
     {
-        let (a, b) = self.two()?;
-        self.put(if b < a { b } else { a });
+        let (a, b) = self.fold()?;
+        self.set_last(if b < a { b } else { a });
         Ok(())
     }
 }

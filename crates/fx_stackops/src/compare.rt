@@ -14,8 +14,8 @@ impl Store {
     pub fn lt(&mut self) -> Result<(), StackFault>
         ensures { Does lt_row self.old self.new result }
     {
-        let (a, b) = self.two()?;
-        self.put(i32::from(a < b));
+        let (a, b) = self.fold()?;
+        self.set_last(i32::from(a < b));
         Ok(())
     }
 
@@ -24,8 +24,8 @@ impl Store {
     pub fn lteq(&mut self) -> Result<(), StackFault>
         ensures { Does lteq_row self.old self.new result }
     {
-        let (a, b) = self.two()?;
-        self.put(i32::from(a <= b));
+        let (a, b) = self.fold()?;
+        self.set_last(i32::from(a <= b));
         Ok(())
     }
 
@@ -35,8 +35,8 @@ impl Store {
     pub fn gt(&mut self) -> Result<(), StackFault>
         ensures { Does gt_row self.old self.new result }
     {
-        let (a, b) = self.two()?;
-        self.put(i32::from(a > b));
+        let (a, b) = self.fold()?;
+        self.set_last(i32::from(a > b));
         Ok(())
     }
 
@@ -45,8 +45,8 @@ impl Store {
     pub fn gteq(&mut self) -> Result<(), StackFault>
         ensures { Does gteq_row self.old self.new result }
     {
-        let (a, b) = self.two()?;
-        self.put(i32::from(a >= b));
+        let (a, b) = self.fold()?;
+        self.set_last(i32::from(a >= b));
         Ok(())
     }
 
@@ -55,8 +55,8 @@ impl Store {
     pub fn eq(&mut self) -> Result<(), StackFault>
         ensures { Does eq_row self.old self.new result }
     {
-        let (a, b) = self.two()?;
-        self.put(i32::from(a == b));
+        let (a, b) = self.fold()?;
+        self.set_last(i32::from(a == b));
         Ok(())
     }
 
@@ -66,8 +66,8 @@ impl Store {
     pub fn neq(&mut self) -> Result<(), StackFault>
         ensures { Does neq_row self.old self.new result }
     {
-        let (a, b) = self.two()?;
-        self.put(i32::from(a != b));
+        let (a, b) = self.fold()?;
+        self.set_last(i32::from(a != b));
         Ok(())
     }
 
@@ -76,8 +76,8 @@ impl Store {
     pub fn and(&mut self) -> Result<(), StackFault>
         ensures { Does and_row self.old self.new result }
     {
-        let (a, b) = self.two()?;
-        self.put(i32::from(a != 0 && b != 0));
+        let (a, b) = self.fold()?;
+        self.set_last(i32::from(a != 0 && b != 0));
         Ok(())
     }
 
@@ -86,8 +86,8 @@ impl Store {
     pub fn or(&mut self) -> Result<(), StackFault>
         ensures { Does or_row self.old self.new result }
     {
-        let (a, b) = self.two()?;
-        self.put(i32::from(a != 0 || b != 0));
+        let (a, b) = self.fold()?;
+        self.set_last(i32::from(a != 0 || b != 0));
         Ok(())
     }
 
@@ -96,8 +96,8 @@ impl Store {
     pub fn not(&mut self) -> Result<(), StackFault>
         ensures { Does not_row self.old self.new result }
     {
-        let a = self.one()?;
-        self.put(i32::from(a == 0));
+        let a = self.last()?;
+        self.set_last(i32::from(a == 0));
         Ok(())
     }
 
@@ -106,8 +106,8 @@ impl Store {
     pub fn odd(&mut self, g: &GState) -> Result<(), StackFault>
         ensures { Does (odd_row g.now) self.old self.new result }
     {
-        let a = self.one()?;
-        self.put(i32::from(g.round(F26(a)).0.rem_euclid(128) == 64));
+        let a = self.last()?;
+        self.set_last(i32::from(g.round(F26(a)).0.rem_euclid(128) == 64));
         Ok(())
     }
 
@@ -116,8 +116,8 @@ impl Store {
     pub fn even(&mut self, g: &GState) -> Result<(), StackFault>
         ensures { Does (even_row g.now) self.old self.new result }
     {
-        let a = self.one()?;
-        self.put(i32::from(g.round(F26(a)).0.rem_euclid(128) == 0));
+        let a = self.last()?;
+        self.set_last(i32::from(g.round(F26(a)).0.rem_euclid(128) == 0));
         Ok(())
     }
 }

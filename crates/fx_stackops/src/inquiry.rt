@@ -28,8 +28,8 @@ impl Store {
     pub fn getinfo(&mut self) -> Result<(), StackFault>
         ensures { Does getinfo_row self.old self.new result }
     {
-        let a = self.one()?;
-        self.put(if a.rem_euclid(2) == 1 { 35 } else { 0 });
+        let a = self.last()?;
+        self.set_last(if a.rem_euclid(2) == 1 { 35 } else { 0 });
         Ok(())
     }
 

@@ -29,8 +29,7 @@ impl Store {
     pub fn dup(&mut self) -> Result<(), StackFault>
         ensures { Does dup_row self.old self.new result }
     {
-        let a = self.one()?;
-        self.put(a);
+        let a = self.last()?;
         self.push(a)
     }
 
@@ -56,8 +55,8 @@ impl Store {
     pub fn swap(&mut self) -> Result<(), StackFault>
         ensures { Does swap_row self.old self.new result }
     {
-        let (a, b) = self.two()?;
-        self.put(b);
+        let (a, b) = self.fold()?;
+        self.set_last(b);
         self.put(a);
         Ok(())
     }

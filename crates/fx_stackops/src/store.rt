@@ -8,7 +8,8 @@ ghost use Rattle.fx_stackops.specs.Table.{read_of, written_of, stray_of};
 ghost use Rattle.fx_stackops.specs.Store.{one, two, two_from, three, index_of, element_of, moved_up, top_numbers};
 ghost use Rattle.fx_stackops.specs.Store.{pushed, with_stack, with_strays, HasSizes, Does};
 ghost use Rattle.fx_stackops.specs.Store.{restarted, five, with_rest, with_rest_two, with_rest_three, with_rest_five};
-ghost use Rattle.fx_stackops.specs.Store.{delta_pairs, with_pairs};
+ghost use Rattle.fx_stackops.specs.Store.{delta_pairs, with_pairs, on_top};
+ghost use Rattle.fx_stackops.specs.inner.Tops.{below_top};
 
 use crate::fault::StackFault;
 use crate::table::Table;
@@ -72,6 +73,43 @@ impl Store {
         }
         self.depth -= 1;
         Ok(self.cells.at(self.depth))
+    }
+
+    /// The operand on top, if there is one. It stays there, for an instruction that puts its result in its place: the next
+    /// instruction waits for the depth if this one writes it.
+    #[tactic(auto, unfolding(crate::specs::Store::one), using(crate::proofs::Stacks::last_at))]
+    pub(crate) fn last(&self) -> Result<i32, StackFault>
+        ensures value { with_rest result (below_top self.now) ≡ one self.now }
+        ensures whole { IfOk result (λ x. on_top x (below_top self.now) ≡ self.now) }
+        ensures there { OnOk result (1 ≤ length self.now.stack) }
+    {
+        if self.depth == 0 {
+            return Err(StackFault::StackUnder);
+        }
+        Ok(self.cells.at(self.depth - 1))
+    }
+
+    /// Pops the top one of two operands, if there are two: the deeper one, which stays, and the top.
+    #[tactic(auto, unfolding(crate::specs::Store::two))]
+    pub(crate) fn fold(&mut self) -> Result<(i32, i32), StackFault>
+        ensures value { with_rest_two result (below_top self.new) ≡ two self.old }
+        ensures there { OnOk result (1 ≤ length self.new.stack) }
+        ensures room { OnOk result (length self.new.stack + 1 ≤ self.new.room) }
+        ensures sizes { HasSizes self.old self.new }
+    {
+        if self.depth < 2 {
+            return Err(StackFault::StackUnder);
+        }
+        self.depth -= 1;
+        Ok((self.cells.at(self.depth - 1), self.cells.at(self.depth)))
+    }
+
+    /// Replaces the number on top.
+    pub(crate) fn set_last(&mut self, x: i32)
+        requires { 1 ≤ length self.old.stack }
+        ensures { self.new ≡ on_top x (below_top self.old) }
+    {
+        self.cells.put(self.depth - 1, x);
     }
 
     /// Pops two operands, if there are two: the deeper one and the top.

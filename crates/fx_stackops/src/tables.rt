@@ -30,11 +30,11 @@ impl Store {
     pub fn rs(&mut self) -> Result<(), StackFault>
         ensures { Does rs_row self.old self.new result }
     {
-        let i = self.one()?;
+        let i = self.last()?;
         let strays = self.storage().stray(i);
         self.add_strays(strays);
         let value = self.storage().read(i);
-        self.put(value);
+        self.set_last(value);
         Ok(())
     }
 
@@ -55,11 +55,11 @@ impl Store {
     pub fn rcvt(&mut self) -> Result<(), StackFault>
         ensures { Does rcvt_row self.old self.new result }
     {
-        let i = self.one()?;
+        let i = self.last()?;
         let strays = self.control_stray(i);
         self.add_strays(strays);
         let value = self.control(i);
-        self.put(value);
+        self.set_last(value);
         Ok(())
     }
 

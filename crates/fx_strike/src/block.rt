@@ -15,9 +15,8 @@ use crate::open::{open_at, open_many};
 use crate::opened::Opened;
 use crate::striker::Striker;
 use crate::tools::Tools;
-use fx_hint::Spare;
 use fx_machine::Machine;
-use fx_raster::{Rows, Scan, Scratch};
+use fx_raster::{Rows, Scan};
 use fx_request::{Mode, Refusal};
 use fx_sfnt::FontFile;
 use std::alloc::{AllocError, Global};
@@ -43,11 +42,7 @@ fn hinter_in<'a>(
         return Ok(None);
     };
     let machine = keeping(alloc, machine)?;
-    Ok(Some(FontHinter {
-        machine: Some(machine),
-        scratch: Scratch::new(alloc),
-        spare: Spare::new(alloc),
-    }))
+    Ok(Some(FontHinter::of(alloc, machine)))
 }
 
 /// The striker of an opened font, its hinter read from a block.

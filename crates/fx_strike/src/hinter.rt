@@ -1,5 +1,5 @@
 //! What hints the glyphs of a strike.
-ghost use Rattle.std.specs.Prelude.{◌≡◌, None, IfOk};
+ghost use Rattle.std.specs.Prelude.{◌≡◌, Some, None, IfOk};
 ghost use Rattle.fx_fixed.specs.Chain.{map_fault, GivesUnless};
 ghost use Rattle.fx_machine.specs.Known.{machine_of};
 ghost use Rattle.fx_request.specs.Faults.{of_machine};
@@ -8,19 +8,24 @@ ghost use Rattle.fx_strike.specs.Strike.{machine_for, prelude_by, wish_in};
 
 use crate::opened::Opened;
 use fx_gstate::Dropout as Wish;
-use fx_hint::{ComponentOf, GlyphInput, HintFault, Hinter, KeepingMachine, Made, NoHinter, Spare};
+use fx_hint::{
+    ComponentOf, GlyphInput, HintFault, Hinter, KeepingMachine, KeepingUnhinted, Made, Spare,
+};
 use fx_machine::{Machine, Unwatched, Usage};
 use fx_raster::Scratch;
 use fx_request::Refusal;
 use std::alloc::{AllocError, Global};
 use std::marker::Model;
 
-/// What hints the glyphs of a font at a size: a machine of the font whose `fpgm` and `prep` ran, or nothing with hinting off. The
-/// machine lies in a box, so that the functions that hand it on hold little. With it goes the buffers that one glyph leaves to
-/// the next. Contracts see it as what stays as it is, whatever runs: what is known of the machine.
+/// What hints the glyphs of a font at a size: a machine of the font whose `fpgm` and `prep` ran, or nothing with hinting off.
+/// Either way components that come again are kept. The machine lies in a box, so that the functions that hand it on hold little.
+/// With it go the buffers that one glyph leaves to the next. Contracts see what stays as it is, whatever runs: what is known of
+/// the machine.
 #[derive(Drop)]
 pub(crate) struct FontHinter<'a> {
     pub(crate) machine: Option<Box<KeepingMachine<'a>>>,
+    /// What assembles outlines if there is no machine.
+    unhinted: KeepingUnhinted,
     /// What scans work with.
     pub scratch: Scratch,
     /// The lists of an outline that is done with, which the next one takes over.
@@ -43,8 +48,19 @@ impl<'a> FontHinter<'a> {
     {
         FontHinter {
             machine: None,
+            unhinted: KeepingUnhinted::new(alloc),
             scratch: Scratch::new(alloc),
             spare: Spare::new(alloc),
+        }
+    }
+
+    /// This machine.
+    pub(crate) fn of(alloc: Global, machine: Box<KeepingMachine<'a>>) -> FontHinter<'a>
+        ensures { result ≡ Some machine.entry.value.machine.known }
+    {
+        FontHinter {
+            machine: Some(machine),
+            ..FontHinter::none(alloc)
         }
     }
 
@@ -85,7 +101,7 @@ impl<'a> Hinter for FontHinter<'a> {
     fn is_on(&self) -> bool {
         match &self.machine {
             Some(machine) => machine.is_on(),
-            None => false,
+            None => self.unhinted.is_on(),
         }
     }
 
@@ -98,27 +114,28 @@ impl<'a> Hinter for FontHinter<'a> {
     ) -> Result<Usage, HintFault> {
         match &mut self.machine {
             Some(machine) => machine.run(component, g, code, made),
-            None => NoHinter.run(component, g, code, made),
+            None => self.unhinted.run(component, g, code, made),
         }
     }
 
     fn recall(&self, input: &GlyphInput<'_>, made: &mut Made) -> Option<Usage> {
         match &self.machine {
             Some(machine) => machine.recall(input, made),
-            None => None,
+            None => self.unhinted.recall(input, made),
         }
     }
 
     fn keep(&mut self, input: &GlyphInput<'_>, made: &Made, usage: Usage) {
-        if let Some(machine) = &mut self.machine {
-            machine.keep(input, made, usage);
+        match &mut self.machine {
+            Some(machine) => machine.keep(input, made, usage),
+            None => self.unhinted.keep(input, made, usage),
         }
     }
 
     fn law_keeps_shape(&self) {
         match &self.machine {
             Some(machine) => machine.law_keeps_shape(),
-            None => NoHinter.law_keeps_shape(),
+            None => self.unhinted.law_keeps_shape(),
         }
     }
 
@@ -160,9 +177,5 @@ pub(crate) fn hinter_at<'a>(
         return Ok(FontHinter::none(alloc));
     }
     let machine = machine_at(alloc, opened)?;
-    Ok(FontHinter {
-        machine: Some(machine),
-        scratch: Scratch::new(alloc),
-        spare: Spare::new(alloc),
-    })
+    Ok(FontHinter::of(alloc, machine))
 }

@@ -1,6 +1,6 @@
 use Rattle.std.proofs.Common.{◌≡◌, ◌+◌, ◌-◌, ◌≤◌, replicate, None, vec_len, vec_capacity}
-use Rattle.fx_hint.specs.declared.keeping.TheConstants.{PLACES}
-use Rattle.fx_hint.proofs.keeping.empty_places.Given as goal
+use Rattle.fx_hint.specs.declared.kept_glyphs.TheConstants.{PLACES}
+use Rattle.fx_hint.proofs.kept_glyphs.empty_places.Given as goal
 
 abbrev pub invariant-places : goal.invariant-places
 invariant-places l = record {

@@ -1,0 +1,134 @@
+//! Places for simple glyphs that were made.
+
+ghost use Rattle.std.specs.Prelude.{◌≡◌, ◌≤◌, replicate, length, option_map, None, IfOk, IfSome, IsTrue};
+ghost use Rattle.std.specs.List.{All};
+ghost use Rattle.fx_hint.specs.Hinting.{Hinting};
+ghost use Rattle.fx_hint.specs.Kept.{IsMadeAlone, IsTrueOf, IsSmall};
+ghost use Rattle.fx_hint.specs.inner.Kept.{places_of};
+ghost use Rattle.fx_hint.specs.Limits.{max_places, max_kept_points, max_kept_bytes};
+
+use crate::kept::{GlyphInput, KeptGlyph};
+use crate::made::Made;
+use fx_machine::Usage;
+use std::alloc::{AllocError, Global};
+use std::marker::Model;
+
+/// The number of places for glyphs that are kept.
+const PLACES: usize = 128;
+
+/// The most points, and the most contours, of a glyph that is kept.
+const KEPT_POINTS: usize = 80;
+
+/// The most bytes of a glyph that is kept.
+const KEPT_BYTES: usize = 512;
+
+/// No place keeps a glyph.
+fn empty_places(alloc: Global) -> Result<Vec<KeptGlyph>, AllocError>
+    ensures { IfOk result (λ places. places.items ≡ replicate max_places None) }
+{
+    let mut places = Vec::with_capacity(alloc, PLACES)?;
+    // The places so far keep nothing, and there is room for those that are left.
+    'places: for _number in 0..PLACES {
+        places.push_reserved(KeptGlyph::new(alloc));
+    }
+    Ok(places)
+}
+
+/// The places, or none if memory is refused.
+fn places_made(alloc: Global) -> Option<Vec<KeptGlyph>>
+    ensures { places_of (option_map (λ v. v.items) result) ≡ replicate max_places None }
+{
+    empty_places(alloc).ok()
+}
+
+/// Whether a glyph is small enough to be kept.
+fn is_small(bytes: &[u8], made: &Made) -> bool
+    ensures bytes { IsTrue result → length bytes.now ≤ max_kept_bytes }
+    ensures points { IsTrue result → length made.now.zone.points ≤ max_kept_points }
+    ensures ends { IsTrue result → length made.now.zone.ends ≤ max_kept_points }
+{
+    bytes.len() <= KEPT_BYTES
+        && made.zone.len() <= KEPT_POINTS
+        && made.zone.ends().len() <= KEPT_POINTS
+}
+
+/// Simple glyphs that a hinter made, so that a component that comes again soon is copied and not made again. A glyph has its place
+/// by its number, and what the place kept before is dropped. What is kept decides how soon an outline is made, and nothing else. It
+/// is at most `PLACES` glyphs of at most `KEPT_POINTS` points and `KEPT_BYTES` bytes; with what their lists have to spare they take
+/// at most 1 MiB. The places are made when the first glyph is kept.
+#[derive(Drop)]
+pub(crate) struct KeptGlyphs {
+    alloc: Global,
+    places: Option<Vec<KeptGlyph>>,
+}
+
+impl Model for KeptGlyphs {
+    ghost use Rattle.std.specs.Prelude.{◌≡◌, length, option_map, List, Option};
+    ghost use Rattle.std.specs.List.{All};
+    ghost use Rattle.fx_hint.specs.Kept.{KeptGlyphView, IsSmall};
+    ghost use Rattle.fx_hint.specs.Limits.{max_places};
+    ghost use Rattle.fx_hint.specs.inner.Kept.{places_of};
+
+    ghost Value = { List (Option KeptGlyphView) };
+
+    ghost view = { λ k. places_of (option_map (λ v. v.items) k.places) };
+
+    ghost invariant = { λ k. (length (places_of (option_map (λ v. v.items) k.places)) ≡ max_places)
+        × All IsSmall (places_of (option_map (λ v. v.items) k.places)) };
+}
+
+impl KeptGlyphs {
+    /// Nothing is kept.
+    pub(crate) fn new(alloc: Global) -> KeptGlyphs
+        ensures { result ≡ replicate max_places None }
+    {
+        KeptGlyphs {
+            alloc,
+            places: None,
+        }
+    }
+
+    /// Makes the places, if they are not made yet. Out of memory: they are not made, and nothing is kept.
+    fn make_places(&mut self)
+        ensures { self.new ≡ self.old }
+    {
+        if self.places.is_none() {
+            self.places = places_made(self.alloc);
+        }
+    }
+
+    /// Writes to `made` a glyph as it was made before from the same input, if it is kept, and returns what its program used up
+    /// then.
+    pub(crate) fn recall(&self, input: &GlyphInput<'_>, made: &mut Made) -> Option<Usage>
+        ensures { (h : Hinting) → All (IsTrueOf h) self.now → IfSome result (λ usage. IsMadeAlone h
+            input.now.scale input.now.g input.now.metrics input.now.bytes.now made.new usage) }
+    {
+        match &self.places {
+            Some(places) => places[usize::from(input.g) % PLACES].recall(input, made),
+            None => None,
+        }
+    }
+
+    /// Keeps a glyph that was made, if it is small.
+    pub(crate) fn keep(&mut self, input: &GlyphInput<'_>, made: &Made, usage: Usage)
+        ensures { (h : Hinting) → All (IsTrueOf h) self.old
+            → IsMadeAlone h input.now.scale input.now.g input.now.metrics input.now.bytes.now made.now usage
+            → All (IsTrueOf h) self.new }
+    {
+        if is_small(input.bytes, made) {
+            self.make_places();
+            if let Some(places) = &mut self.places {
+                // Out of memory: it is not kept, and made again when it is asked for.
+                let _kept = places[usize::from(input.g) % PLACES].take(input, made, usage);
+            }
+        }
+    }
+
+    /// The law: what is kept has a bound, whatever was made.
+    pub(crate) fn law_keeps_little(&self)
+        ensures places { length self.now ≡ max_places }
+        ensures small { All IsSmall self.now }
+    {
+        let _ = &self.places;
+    }
+}
