@@ -15,7 +15,9 @@ use fx_machine::{Machine, Usage};
 use std::alloc::Global;
 use std::marker::Model;
 
-/// A machine of a font at a size that keeps simple components that it made ([`KeptGlyphs`]).
+/// A machine of a font at a size that keeps simple components that it made, so that one which comes again soon is copied and not
+/// made again: at most 128, each of at most 80 points, 80 contours and 512 bytes. What is kept decides how soon an outline is made,
+/// and nothing else.
 #[derive(Drop)]
 pub struct KeepingMachine<'a> {
     machine: Machine<'a>,
@@ -110,30 +112,41 @@ impl<'a> Hinter for KeepingMachine<'a> {
     ghost leads_then = { λ _ _ _ _ _ _ _. tt };
 }
 
-/// Hinting off, as [`NoHinter`], but simple components that were made are kept ([`KeptGlyphs`]).
+/// Hinting off, as [`NoHinter`], but simple components that were made are kept, as a [`KeepingMachine`] keeps them.
 #[derive(Drop)]
 pub struct KeepingUnhinted {
     kept: KeptGlyphs,
 }
 
 impl Model for KeepingUnhinted {
+    ghost use Rattle.std.specs.Prelude.{List, Option};
     ghost use Rattle.std.specs.List.{All};
     ghost use Rattle.fx_hint.specs.Hinting.{no_hinting};
-    ghost use Rattle.fx_hint.specs.Kept.{IsTrueOf};
+    ghost use Rattle.fx_hint.specs.Kept.{KeptGlyphView, IsTrueOf};
 
-    ghost Value = { Unit {0} };
+    ghost Value = { List (Option KeptGlyphView) };
 
-    ghost view = { λ _. tt };
+    ghost view = { λ k. k.kept };
 
     ghost invariant = { λ k. All (IsTrueOf no_hinting) k.kept };
 }
 
 impl KeepingUnhinted {
     /// Nothing is kept yet.
-    pub fn new(alloc: Global) -> KeepingUnhinted {
+    pub fn new(alloc: Global) -> KeepingUnhinted
+        ensures { result ≡ replicate max_places None }
+    {
         KeepingUnhinted {
             kept: KeptGlyphs::new(alloc),
         }
+    }
+
+    /// The law: what is kept has a bound, whatever was made.
+    pub fn law_keeps_little(&self)
+        ensures places { length self.now ≡ max_places }
+        ensures small { All IsSmall self.now }
+    {
+        self.kept.law_keeps_little();
     }
 }
 
