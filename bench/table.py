@@ -33,8 +33,7 @@ class Tool:
 
 def tools_of(options, font):
     found = []
-    program = options.program or next((p for p in ("out/mkstrike", "crates/mkstrike/out/mkstrike")
-                                       if os.access(os.path.join(options.top, p), os.X_OK)), None)
+    program = options.program or next((it for it in ("dist/mkstrike", "crates/mkstrike/out/mkstrike") if os.access(os.path.join(options.top, it), os.X_OK)), None)
     if program:
         path = os.path.abspath(options.program or os.path.join(options.top, program))
         for name, more in ((FIRST, []), (CLOSED, ["--dropout"])):

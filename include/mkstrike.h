@@ -139,6 +139,10 @@ uint32_t mkstrike_version(void);
  * writes nothing. Returns the length of the whole name without the 0, at most 20. Numbers that no call returns are "Unknown". */
 size_t mkstrike_reason(uint32_t number, char *text, size_t text_len);
 
+/* Writes what to do after a number that a call returned to `text`, as mkstrike_reason writes its name: one line in English, of at most
+ * 90 bytes. It is empty for numbers that are no refusal. Say it to people; programs go by the number. */
+size_t mkstrike_advice(uint32_t number, char *text, size_t text_len);
+
 /* A font at a size. */
 struct mkstrike_font_info {
     int32_t ascent, descent; /* in pixels; the descent is positive below the baseline */
@@ -295,6 +299,11 @@ MKSTRIKE_INLINE size_t mkstrike_reason_or_null(uint32_t number, char *text, size
     return mkstrike_reason(number, MKSTRIKE_OR(char, text, none), text_len);
 }
 
+MKSTRIKE_INLINE size_t mkstrike_advice_or_null(uint32_t number, char *text, size_t text_len) {
+    uint64_t none = 0;
+    return mkstrike_advice(number, MKSTRIKE_OR(char, text, none), text_len);
+}
+
 MKSTRIKE_INLINE uint32_t mkstrike_font_or_null(const uint8_t *font, size_t font_len, uint32_t face, uint16_t ppem,
     struct mkstrike_font_info *info, struct mkstrike_refused *refused) {
     uint64_t none = 0;
@@ -408,6 +417,7 @@ MKSTRIKE_INLINE uint32_t mkstrike_make_or_null(const uint8_t *font, size_t font_
 }
 
 #define mkstrike_reason mkstrike_reason_or_null
+#define mkstrike_advice mkstrike_advice_or_null
 #define mkstrike_font mkstrike_font_or_null
 #define mkstrike_glyph_ids mkstrike_glyph_ids_or_null
 #define mkstrike_glyph mkstrike_glyph_or_null

@@ -44,30 +44,33 @@ def flat(answer):
     return [point for contour in answer["outline"] for point in contour] + [[answer.get("advance", 0), 0, 1]]
 
 
-def wrong(expected, answer):
-    """What is wrong with an answer, in a few words, or None."""
+def wrong(expected, answer, every=False):
+    """What is wrong with an answer, in a few words, or None. With `every` the answer must have all that is expected."""
     if "refusal" in expected:
-        return wrong_refusal(expected["refusal"], answer)
+        return wrong_refusal(expected["refusal"], answer, every)
     if "missing" in expected:
         return None if answer.get("missing") else "a glyph, and the map has none"
     if "refusal" in answer:
         return "refused: %s" % (answer["refusal"].get("name") or answer["refusal"].get("text") or "no name")
     if answer.get("missing"):
         return "missing, and the map has a glyph"
-    given = [part for part in PARTS if part in answer and part in expected]
+    given = [part for part in PARTS if part in expected and part in answer]
+    if every and len(given) < len([part for part in PARTS if part in expected]):
+        return "a part of the answer is missing"
     if not given:
         return "no answer"
     differing = [part for part in given if answer[part] != expected[part]]
     return ", ".join(different(part, expected[part], answer[part]) for part in differing) or None
 
 
-def wrong_refusal(expected, answer):
-    """A refusal is compared by the fields that the tool gives. `text` is free."""
+def wrong_refusal(expected, answer, every):
+    """A refusal is compared by the fields that the tool gives, with `every` by all that are expected. `text` is free."""
     if "refusal" not in answer:
         return "not refused: %s" % expected["name"]
-    for key, value in answer["refusal"].items():
-        if key != "text" and key in expected and expected[key] != value:
-            return "%s %s in place of %s" % (key, value, expected[key])
+    given = answer["refusal"]
+    for key, value in expected.items():
+        if (every or key in given) and given.get(key) != value:
+            return "%s %s in place of %s" % (key, given.get(key), value)
     return None
 
 

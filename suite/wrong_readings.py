@@ -4,11 +4,12 @@
     suite/wrong_readings.py [--only WORD] [--cover] [--jobs N]
 
 Without --cover it tells which case finds each reading: one of each group of the reading has to. With --cover it tells which cases
-fall under no reading of their group: each case has to fall under one. --only takes the readings whose names have a word, or with
---cover the group of that name. --jobs says how many processes run.
+fall under no reading of their group, and which readings no case of their group finds: there has to be none of either. --only takes the
+readings whose names have a word, or with --cover the group of that name. --jobs says how many processes run.
 
 A case falls under a reading if the reference, changed so, gives a wrong answer. If the change breaks the reference down, that does
-not count. The status is 1 if a reading is not found, or if a case falls under none.
+not count: a reading that does nothing else is tried first, and no case may find it. The status is 1 if a reading is not found, or if a
+case falls under none.
 """
 import argparse
 import collections
@@ -22,7 +23,7 @@ sys.dont_write_bytecode = True
 HERE = os.path.dirname(os.path.realpath(__file__))
 sys.path.insert(0, HERE)
 import compare  # noqa: E402
-from readings import READINGS, Changes  # noqa: E402
+from readings import READINGS, Changes, Reading  # noqa: E402
 from reference import answer  # noqa: E402
 
 
@@ -80,13 +81,17 @@ def task(number):
 
 
 def uncovered(group):
-    """The cases of a group that fall under none of its readings. Those that change many cases come first, which saves time."""
-    left = CASES[group]
+    """The cases of a group that fall under none of its readings, and the readings that none of its cases finds."""
+    left, useless = CASES[group], []
     some = left[::25]
-    for read in sorted(readings_of(group), key=lambda read: -len(found_by(read, some, True))):
+    # those that change many cases come first, which saves time
+    counted = sorted(((len(found_by(read, some, True)), read) for read in readings_of(group)), key=lambda it: -it[0])
+    for count, read in counted:
         found = set(found_by(read, left, True))
         left = [case for case in left if case["id"] not in found]
-    return group, [case["id"] for case in left]
+        if not (count or found or found_by(read, CASES[group], False)):
+            useless.append(read.name)
+    return group, [case["id"] for case in left], useless
 
 
 def readings_of(group):
@@ -94,6 +99,12 @@ def readings_of(group):
     return [read for read in READINGS if group in read.groups]
 
 
+def breaks(*_):
+    """A function that does nothing but raise."""
+    raise AssertionError("this reading breaks the reference down")
+
+
+BROKEN = Reading("broken", "stack halts", "the reference breaks down", lambda changes: changes.everywhere("made", lambda right: breaks))
 CASES = cases_by_group()
 DRAWING = {"scan", "dropout"}  # the groups of readings that change pixels of the same outline
 
@@ -104,6 +115,10 @@ def main():
     parser.add_argument("--cover", action="store_true")
     parser.add_argument("--jobs", type=int, default=os.cpu_count() or 1)
     options = parser.parse_args()
+    counted = [name for group in BROKEN.groups for name in found_by(BROKEN, CASES[group][:20], True)]
+    if counted:
+        print("cases count although the reference broke down: %s" % " ".join(counted))
+        return 1
     with multiprocessing.Pool(options.jobs) as pool:
         return cover(pool, options.only) if options.cover else find(pool, options.only)
 
@@ -122,16 +137,18 @@ def find(pool, only):
 
 
 def cover(pool, only):
-    """Tells which cases fall under no reading, with the counts of each group."""
-    groups, total = [group for group in CASES if only in ("", group)], 0
+    """Tells which cases fall under no reading and which readings no case finds, with the counts of each group."""
+    groups, total, unfound = [group for group in CASES if only in ("", group)], 0, 0
     print("%-12s %7s %9s %10s" % ("group", "cases", "readings", "fall under"))
-    for group, left in pool.imap(uncovered, groups):
+    for group, left, useless in pool.imap(uncovered, groups):
         total += len(left)
+        unfound += len(useless)
         count = len(CASES[group])
         names = "; under none: %s" % " ".join(left) if left else ""
+        names += "; not found: %s" % " ".join(useless) if useless else ""
         print("%-12s %7d %9d %10d%s" % (group, count, len(readings_of(group)), count - len(left), names), flush=True)
-    print("%d cases, %d fall under no reading" % (sum(len(CASES[group]) for group in groups), total))
-    return 1 if total else 0
+    print("%d cases, %d fall under no reading; %d readings are not found" % (sum(len(CASES[group]) for group in groups), total, unfound))
+    return 1 if total or unfound else 0
 
 
 if __name__ == "__main__":

@@ -22,16 +22,16 @@ FIRST = b"make --ppem 16 --chars 41"
 
 # every option, but those that may be given more than once
 WHOLE = MAKE + ["--name", "F1", "--x11", "--dropout", "--unhinted", "--hex"]
-INCOMPLETE = [["make"], ["help"], ["--help"], ["-h"], ["--version"], [""], ["Make"], ["x"] + WHOLE, MAKE[:3],
+INCOMPLETE = [["make"], [""], ["Make"], ["x"] + WHOLE, MAKE[:3],
               MAKE[:4], MAKE[:1] + MAKE[3:], MAKE[1:]]
-TOO_MANY = [WHOLE + more for more in (["x"], ["x", "y"], [""], ["-"], ["--"], ["--unhinted"])]
+TOO_MANY = [WHOLE + more for more in (["x", "y"], [""], ["-", "-"], ["--", "x", "y"], ["--unhinted"])]
 BAD_ADDITIONS = ("--ppem 16", "--chars 41", "--hex --hex", "--name", "--name -x", "--name - --hex", "--unhinted=yes",
-                 "--hex=", "--help", "-h", "--version", "--char 41", "--of prep", "--unhint", "more", "-", "--")
+                 "--hex=", "--version", "--char 41", "--of prep", "--unhint", "font more", "-o", "-o a -o b")
 BAD_SIZES = ("65536", "-1", "1.0", "", "16x", " 16", "0x10", "99999999999999999999")
 BAD_COMMANDS = ("make --ppem 16 --chars -41", "make --ppem 16 --chars --hex", "show", "show --ppem 16",
                 "show --char 41", "show --ppem 16 --chars 41", "show --ppem 16 --char 41 --name x",
-                "show --ppem 16 --char 41 42", "show --ppem 16 --char 41 --glyph 1", "outline --ppem 16", "outline --of 1",
-                "show --help", "show --ppem 65536 --char 41", "dump", "dump --of",
+                "show --ppem 16 --char 41 42 43", "show --ppem 16 --char 41 --glyph 1", "outline --ppem 16", "outline --of 1",
+                "show --ppem 65536 --char 41", "dump", "dump --of",
                 "dump --of cvt", "dump --of 65536", "dump --of -1", "dump --of 2 --ppem 16", "dump --of 2 --of 2",
                 "dump 2")
 
@@ -49,7 +49,7 @@ def words_that_do_not_parse():
 def many_words():
     """Command lines of very many words of which only the last is wrong: each word counts."""
     for count in (64, 295, 296, 300, 3000, 60000):
-        for last in ("x", "--ppem=16", "--property"):
+        for last in ("--x", "--ppem=16", "--property"):
             words = MAKE + ["--property=A=1"] * count + [last]
             yield Run("%d words, then %s" % (len(words) - 1, last), words, SHORT.data(), usage())
     many = ["--property=A=1"] * 60000
@@ -58,7 +58,7 @@ def many_words():
 
 def words_before_the_input():
     """Command lines that are told to be wrong before anything is read: the input is silent and open."""
-    for words, answer in ((["mak"], usage()), (["make"], usage()), (MAKE + ["x"], usage()), (["--help"], usage()),
+    for words, answer in ((["mak"], usage()), (["make"], usage()), (MAKE + ["--x"], usage()), (MAKE + ["x", "y"], usage()),
                           (["dump", "--of", "cvt"], usage()), (MAKE[:4] + ["g"], refused("61 BadChars")),
                           (["show", "--ppem", "16", "--char", "41-42"], refused("61 BadChars"))):
         yield Run("%s, and nothing is typed" % words, words, b"", answer, way=runs.from_silent_pipe)
@@ -190,7 +190,7 @@ def long_lists():
 def names():
     """Names of each length, and those that are refused."""
     data = SHORT.data()
-    for name in ("x", "F1", "a b", "x" * 32, "x" * 64, "x" * 127, "x" * 128, "!~" * 127 + "!", "-x"):
+    for name in ("x", "F1", "~", "!", "a b", "x" * 32, "x" * 64, "x" * 127, "x" * 128, "!~" * 127 + "!", "-x"):
         yield Run("a name of %d bytes" % len(name), MAKE + ["--name=" + name], data, SHORT.make([A], 16, True, name))
     for name in ("", " ", " x", "x ", "x" * 256, "a\x7Fb", "a\tb", "a\nb", "x" * 100000):
         yield Run("the name %r" % name[:20], MAKE + ["--name=" + name], data, refused("62 BadName"))

@@ -9,6 +9,8 @@ from runs import Run
 
 LINE = [[(0, 0, 1), (64, 0, 1), (64, 64, 1)]]
 A, B = 0x41, 0x42
+POP = bytes.fromhex("21")
+FPGM_HALTS, PREP_HALTS = ("30 StackUnder during %s in %s at 0 opcode 21" % (name, name) for name in ("fpgm", "prep"))
 
 
 def font(program=b"", fpgm=b"", prep=b"", more=()):
@@ -86,6 +88,42 @@ def rows_that_set():
         "prep 0007 8E INSTCTRL |; no-programs 0 1"]))
 
 
+# Words of SCANCTRL and whether drop-out control is on after each, at 16 pixels an em, by the manual: bits 0 to 7 are a threshold, with which
+# bit 8 turns it on up to it and bit 11 off above it. Bits 9 and 10 turn it on, and 12 and 13 leave it on, for rotated and stretched glyphs
+# alone. The threshold 255 turns it on, 0 off; bits 14 and 15 mean nothing. Where no bit says so it is as it was: off at first.
+SCANCTRL = [(0x0110, 1), (0x0110, 1), (0x010F, 1), (0x090F, 0), (0x010F, 0), (0x0111, 1), (0x0810, 1), (0x080F, 0), (0x0810, 0), (0x0910, 1),
+            (0x0100, 0), (0x00FF, 1), (0x0000, 0), (0x3EFF, 1), (0x3F00, 0), (0x0210, 0), (0x0410, 0), (0x0610, 0), (0x0310, 1),
+            (0x0210, 1), (0x0410, 1), (0x1110, 0), (0x0510, 1), (0x2110, 0), (0x0110, 1), (0x1010, 0), (0x0110, 1), (0x2010, 0),
+            (0xC110, 1), (0xC00F, 1), (0x0010, 1), (0x000F, 1), (0x080F, 0), (0x0010, 0), (0xC0FF, 1), (0xFF00, 0)]
+
+# Types of SCANTYPE: 0 and 1 are simple, 4 and 5 smart, 2, 3 and 6 to 8 turn it off, which a trace shows as 0, 4 and 2. Others change nothing.
+SCANTYPE = [(4, 4), (0, 0), (5, 4), (1, 0), (2, 2), (4, 4), (3, 2), (5, 4), (6, 2), (4, 4), (7, 2), (4, 4), (8, 2), (4, 4), (9, 4), (0, 0), (10, 0),
+            (255, 0), (-1, 0), (-4, 0), (260, 0), (2, 2), (9, 2)]
+
+
+def set_in_turn(name, opcode, change, at_first, table):
+    """A program that executes an instruction with each number of a table, whose lines show what each changes."""
+    rows, was = [], at_first
+    for number, now in table:
+        rows.append(("B8 %04X" % (number & 0xFFFF), "B8 PUSHW %d | %d" % ((signed(number),) * 2)))
+        rows.append((opcode, "%s %s |%s" % (opcode, name, "" if now == was else "; %s %d %d" % (change, was, now))))
+        was = now
+    return worked(name, *rows)
+
+
+def signed(word):
+    """A number as PUSHW pushes its low word."""
+    return (word & 0xFFFF ^ 0x8000) - 0x8000
+
+
+def rows_of_drop_out_control():
+    """SCANCTRL and SCANTYPE, each with its words in turn; and each word of SCANCTRL that turns nothing on, as the first."""
+    yield set_in_turn("SCANCTRL", "85", "scan-control", -1, SCANCTRL)
+    yield set_in_turn("SCANTYPE", "8D", "scan-type", 0, SCANTYPE)
+    for first in (0x010F, 0x0810, 0x080F, 0x0210, 0x0410, 0x1110, 0x2110, 0x0010, 0x0000):
+        yield set_in_turn("SCANCTRL", "85", "scan-control", -1, [(first, 0), (0x0110, 1)])
+
+
 def rows_that_write():
     """Storage and control values, also by deltas: at 16 pixels 78 is the size 9 + 7 and the first step up, 8/64 pixel."""
     yield worked("storage", ("B1 01 11", "B1 PUSHB 1 17 | 1 17"), ("42", "42 WS |; storage 1 0 17"), ("B1 01 11", "B1 PUSHB 1 17 | 1 17"),
@@ -146,11 +184,27 @@ def halts():
     begun = b"glyph 1 begins\nglyph 1 0000 B0 PUSHB 1 | 1\n"
     yield Run("a halt", "trace --ppem 16 --char 41", font(bytes.fromhex("B0 01 60")),
               due.refused("30 StackUnder during glyph 1 in glyph 1 at 2 opcode 60", begun))
-    data = font(bytes.fromhex("B0 01 21"), prep=bytes.fromhex("21"))
-    text = "30 StackUnder during prep in prep at 0 opcode 21"
-    yield Run("a halt in prep", "trace --ppem 16 --of prep", data, due.refused(text, b"prep begins\n"))
-    yield Run("a halt before the glyph", "trace --ppem 16 --char 41", data, due.refused(text))
-    yield Run("a halt after fpgm", "trace --ppem 16 --of fpgm", data, due.refused(text, b"fpgm begins\n"))
+    data = font(bytes.fromhex("B0 01 21"), prep=POP)
+    yield Run("a halt in prep", "trace --ppem 16 --of prep", data, due.refused(PREP_HALTS, b"prep begins\n"))
+    for words in ("--char 41", "--glyph 1", "--of 1"):
+        yield Run("a halt before the glyph by %s" % words, "trace --ppem 16 " + words, data, due.refused(PREP_HALTS))
+
+
+def order():
+    """`fpgm`, then `prep`, then the glyph, or that there is none: the order of `show` and `outline`. `fpgm` has a trace of its own."""
+    fpgm, lines = bytes.fromhex("B0 01 21"), ["fpgm begins", "fpgm 0000 B0 PUSHB 1 | 1", "fpgm 0002 21 POP |"]
+    yield Run("a halt after fpgm", "trace --ppem 16 --of fpgm", font(fpgm=fpgm, prep=POP), due.listed(lines))
+    yield Run("a halt after no fpgm", "trace --ppem 16 --of fpgm", font(prep=POP), due.listed([]))
+    yield Run("no fpgm", "trace --ppem 16 --of fpgm", font(prep=fpgm), due.listed([]))
+    yield Run("no prep", "trace --ppem 16 --of prep", font(fpgm=fpgm), due.listed([]))
+    yield Run("a halt of fpgm", "trace --ppem 16 --of fpgm", font(fpgm=POP, prep=POP), due.refused(FPGM_HALTS, b"fpgm begins\n"))
+    for prep in (b"", POP, fpgm):
+        yield Run("a halt before prep", "trace --ppem 16 --of prep", font(fpgm=POP, prep=prep), due.refused(FPGM_HALTS))
+    for asked in ("--char 43", "--char 41", "--glyph 9"):
+        for tables, text in (({"prep": POP}, PREP_HALTS), ({"fpgm": POP}, FPGM_HALTS), ({"fpgm": POP, "prep": POP}, FPGM_HALTS)):
+            for command in ("trace", "show", "outline"):
+                yield Run("%s %s of a font whose %s halts" % (command, asked, " and ".join(tables)), "%s --ppem 16 %s" % (command, asked),
+                          font(**tables), due.refused(text))
 
 
 def halted(text, program, *lines, **tables):
@@ -205,5 +259,5 @@ def outputs_that_fail():
         yield Run("a file of %d bytes" % count, "trace --ppem 16 --char 41", data, due.cut_after(whole, count), way=runs.into_file(count))
 
 
-CASES = [rows_of_the_stack, calls_and_branches, rows_that_set, rows_that_write, rows_that_move, components, halts, each_halt, refused,
-         outputs_that_fail]
+CASES = [rows_of_the_stack, calls_and_branches, rows_that_set, rows_of_drop_out_control, rows_that_write, rows_that_move, components, halts,
+         order, each_halt, refused, outputs_that_fail]

@@ -83,6 +83,18 @@ struct request {
     size_t block_len;
 };
 
+/* A mode by the names of the header. Its letters are h for hinted, and d, n or f for drop-out control: by left pixels, by the nearer
+   ones, and as the font asks. */
+static uint32_t mode_of(const char *letters) {
+    uint32_t mode = 0;
+    for (; *letters != 0; letters++)
+        mode |= *letters == 'h'   ? MKSTRIKE_HINTED
+                : *letters == 'd' ? MKSTRIKE_DROPOUT
+                : *letters == 'n' ? MKSTRIKE_DROPOUT_NEAR
+                                  : MKSTRIKE_DROPOUT_FONT;
+    return mode;
+}
+
 static void stop(const char *why) {
     printf("check_c: %s\n", why);
     exit(3);
@@ -796,19 +808,26 @@ static void run_threads(int count, int rounds, size_t stack) {
     for (i = 0; i < count; i++) pthread_join(threads[i], NULL);
 }
 
+/* A text of a number is cut to each room, and nothing after it is changed. */
+static void text_of_number(size_t (*told)(uint32_t, char *, size_t), uint32_t number, char *text, size_t most) {
+    size_t room, len = told(number, text, most);
+    if (len >= most) stop("a longer text than the header says");
+    for (room = 0; room < most; room++) {
+        char cut[96];
+        memset(cut, 7, sizeof cut);
+        if (told(number, cut, room) != len) stop("another length of a text");
+        if (room > 0 && (strlen(cut) != (len < room ? len : room - 1) || memcmp(cut, text, strlen(cut)) != 0)) stop("another text");
+        if (cut[room] != 7) stop("a byte after a text was changed");
+    }
+}
+
 static int reasons(void) {
     uint32_t i;
-    char name[24];
     for (i = 0; i < 400; i++) {
-        size_t room, len = mkstrike_reason(i, name, sizeof name);
-        printf("%u %s\n", (unsigned)i, name);
-        for (room = 0; room < sizeof name; room++) {
-            char cut[24];
-            memset(cut, 7, sizeof cut);
-            if (mkstrike_reason(i, cut, room) != len) stop("another length of a name");
-            if (room > 0 && (strlen(cut) != (len < room ? len : room - 1) || memcmp(cut, name, strlen(cut)) != 0)) stop("another name");
-            if (cut[room] != 7) stop("a byte after a name was changed");
-        }
+        char name[21], to_do[91];
+        text_of_number(mkstrike_reason, i, name, sizeof name);
+        text_of_number(mkstrike_advice, i, to_do, sizeof to_do);
+        printf("%u %s %s\n", (unsigned)i, name, to_do);
     }
     return 0;
 }
@@ -816,12 +835,12 @@ static int reasons(void) {
 int main(int argc, char **argv) {
     const char *mode = argc > 1 ? argv[1] : "";
     if (argc == 7 && (strcmp(mode, "strike") == 0 || strcmp(mode, "glyphs") == 0 || strcmp(mode, "many") == 0)) {
-        shared = request_of(argv[2], atoi(argv[3]), (uint32_t)atoi(argv[4]), (uint32_t)strtoul(argv[5], NULL, 16),
+        shared = request_of(argv[2], atoi(argv[3]), mode_of(argv[4]), (uint32_t)strtoul(argv[5], NULL, 16),
             (uint32_t)strtoul(argv[6], NULL, 16));
         return strcmp(mode, "strike") == 0 ? strike(&shared) : strcmp(mode, "glyphs") == 0 ? glyphs(&shared) : many(&shared);
     }
     if (argc == 6 && strcmp(mode, "outline") == 0) {
-        shared = request_of(argv[2], atoi(argv[3]), (uint32_t)atoi(argv[4]), 0x20, 0x20);
+        shared = request_of(argv[2], atoi(argv[3]), mode_of(argv[4]), 0x20, 0x20);
         return outline(&shared, (uint32_t)strtoul(argv[5], NULL, 10));
     }
     if (argc == 3 && strcmp(mode, "requests") == 0) {

@@ -201,6 +201,22 @@ static void huge(void) {
     look(mkstrike_arena_used() == 0, "bytes in use after huge requests");
 }
 
+/* One piece of 16 MiB, and one of 100 MiB: a strike's text is one piece, and may be as large. */
+static void large(void) {
+    static const size_t sizes[] = {(size_t)16 << 20, (size_t)100 << 20};
+    size_t i;
+    for (i = 0; i < sizeof sizes / sizeof *sizes; i++) {
+        size_t whole = 2 * sizes[i] + 64;
+        unsigned char *own = (unsigned char *)malloc(whole), *it;
+        if (own == NULL) continue; /* a machine with little memory */
+        mkstrike_arena(own, whole);
+        it = must(sizes[i]);
+        it[0] = it[sizes[i] - 1] = 1;
+        rattle_dealloc(it);
+        free(own);
+    }
+}
+
 int main(void) {
     size_t at, size;
     room = (unsigned char *)malloc(ROOM);
@@ -219,6 +235,7 @@ int main(void) {
     grow_in_vain();
     whole_again();
     huge();
+    large();
     free(room);
     return 0;
 }

@@ -186,15 +186,17 @@ static int is_refused(const struct font *font, uint16_t ppem, uint32_t mode) {
 
 static int same(const struct font *font, uint16_t ppem, uint32_t first, uint32_t last) {
     size_t len = last - first + 1, i;
-    uint32_t *chars = (uint32_t *)bytes((len + 1) * sizeof *chars), mode;
+    static const uint32_t modes[] = {0, MKSTRIKE_DROPOUT, MKSTRIKE_DROPOUT_NEAR, MKSTRIKE_DROPOUT_FONT};
+    uint32_t *chars = (uint32_t *)bytes((len + 1) * sizeof *chars), mode, k;
     unsigned long made = 0;
     for (i = 0; i < len; i++) chars[i] = first + (uint32_t)i;
     chars[len] = 0x110000; /* no character */
-    for (mode = 0; mode < 10; mode = mode == 3 ? 8 : mode + 1) { /* with drop-out control by left pixels, and as the font asks */
+    for (k = 0; k < 8; k++) {
         struct block b;
+        mode = modes[k / 2] | (k % 2 ? MKSTRIKE_HINTED : 0);
         if (is_refused(font, ppem, mode)) continue;
-        b = block_of(font, ppem, mode % 2);
-        each_same(&b, mode | (mode & 2 ? MKSTRIKE_PACKED : 0), chars, len + 1);
+        b = block_of(font, ppem, mode & MKSTRIKE_HINTED);
+        each_same(&b, mode | (mode & MKSTRIKE_DROPOUT ? MKSTRIKE_PACKED : 0), chars, len + 1);
         many_same(&b, mode, chars, len);
         many_same(&b, mode | MKSTRIKE_PACKED, chars, len);
         free(b.words);

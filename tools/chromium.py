@@ -10,15 +10,20 @@ import time
 
 NAMES = ("chromium", "chromium-browser", "google-chrome", "google-chrome-stable")
 FLAGS = ["--headless=new", "--remote-debugging-pipe", "--no-first-run", "--disable-gpu", "--disable-extensions", "--disable-sync",
-         "--disable-background-networking", "--disable-component-update", "--disable-dev-shm-usage", "--hide-scrollbars",
+         "--disable-background-networking", "--disable-component-update", "--disable-dev-shm-usage",
          "--force-device-scale-factor=1", "--force-color-profile=srgb"]
 
 
 LONGEST = 120  # seconds without a word of the browser
+THREADS = {"CrRendererMain": "page", "DedicatedWorker thread": "worker"}  # by their names in a trace
 
 
 class Failed(Exception):
     """What the browser or the page did not do, in one line."""
+
+
+class Gone(Failed):
+    """The browser itself does not answer any more."""
 
 
 def installed():
@@ -63,10 +68,10 @@ class Browser:
         """The next message of the browser."""
         while b"\0" not in self.read:
             if not select.select([self.out], [], [], LONGEST)[0]:
-                raise Failed("the browser was silent for %d seconds" % LONGEST)
+                raise Gone("the browser was silent for %d seconds" % LONGEST)
             part = os.read(self.out, 1 << 20)
             if not part:
-                raise Failed("the browser ended")
+                raise Gone("the browser ended")
             self.read += part
         text, self.read = self.read.split(b"\0", 1)
         return json.loads(text)
@@ -163,6 +168,25 @@ class Browser:
         """Presses and releases a key."""
         for kind in ("rawKeyDown", "keyUp"):
             self.call("Input.dispatchKeyEvent", type=kind, key=name, code=name, windowsVirtualKeyCode=code)
+
+    def tasks(self, act):
+        """Does something; returns the milliseconds of processor time of each task meanwhile, of the "page" and of its "worker"."""
+        self.call("Tracing.start", traceConfig={"includedCategories": ["toplevel"], "excludedCategories": ["*"]}, transferMode="ReportEvents")
+        act()
+        self.call("Tracing.end")
+        while not any(it["method"] == "Tracing.tracingComplete" for it in self.events):
+            self.events.append(self.message())
+        told = [it for event in self.events if event["method"] == "Tracing.dataCollected" for it in event["params"]["value"]]
+        self.events = [it for it in self.events if not it["method"].startswith("Tracing.")]
+        names = {(it["pid"], it["tid"]): THREADS.get(it["args"]["name"]) for it in told if it["name"] == "thread_name"}
+        found = {name: [] for name in THREADS.values()}
+        for it in told:
+            name = names.get((it["pid"], it["tid"]))
+            if name and "tdur" in it and it["name"].endswith("::RunTask"):
+                found[name].append(it["tdur"] / 1000)
+        if not found["page"]:
+            raise Failed("the browser told of no task of the page")
+        return found
 
     def complaints(self):
         """What the page or the browser found wrong: exceptions, errors, and requests that were made."""

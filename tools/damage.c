@@ -1,24 +1,32 @@
 /* Runs mkstrike on damaged fonts, and looks at each answer. tools/damage builds and calls this.
 
-   damage PROGRAM SEED FIRST COUNT JOBS WORST KEEP STACK WEIGHT:FONT ..
+   damage PROGRAM SEED FIRST COUNT JOBS WORST KEEP STACK CALLS PROBE WEIGHT:FONT ..
 
    Runs FIRST to FIRST + COUNT - 1 of the seed SEED, in JOBS processes. What a run is depends on the seed, its number and the fonts
    alone. A run breaks the rule if its status is not 0, 1 or 2; if a signal ends it; if its line on standard error is none of those
-   that the program may write; if standard output does not fit the answer; or if it takes more than WORST milliseconds of processor
-   time. The input of each such run is kept in the folder KEEP. STACK is the limit of the program's stack in KiB, 0 for none. */
+   that the program may write, or if others follow it than at most two for people; if standard output does not fit the answer; or if it
+   takes more than WORST milliseconds of processor time. The input of each such run is kept in the folder KEEP. STACK is the limit of the
+   program's stack in KiB, 0 for none.
+
+   CALLS are names of system calls with commas between them: at any other call a run is ended by SIGSYS. There is no such filter if the
+   program PROBE, which does nothing, ends so too, since then the loader of this system makes other calls. */
 
 #define _GNU_SOURCE
 #include <errno.h>
 #include <fcntl.h>
+#include <linux/filter.h>
+#include <linux/seccomp.h>
 #include <regex.h>
 #include <signal.h>
-#include <spawn.h>
+#include <stddef.h>
 #include <stdint.h>
 #include <stdio.h>
 #include <stdlib.h>
 #include <string.h>
 #include <sys/mman.h>
+#include <sys/prctl.h>
 #include <sys/resource.h>
+#include <sys/syscall.h>
 #include <sys/wait.h>
 #include <time.h>
 #include <unistd.h>
@@ -314,22 +322,75 @@ static void write_input(int file, const struct request *request) {
     lseek(file, 0, SEEK_SET);
 }
 
-static int start(const struct request *request, const int *files, pid_t *child) {
+/* ---- the filter ---- */
+
+enum { MOST_CALLS = 64 };
+
+static struct sock_filter filter[MOST_CALLS + 3];
+static unsigned short filter_len;
+
+#ifdef __x86_64__
+static const struct { const char *name; unsigned number; } known_calls[] = {
+    {"access", SYS_access}, {"arch_prctl", SYS_arch_prctl}, {"brk", SYS_brk}, {"close", SYS_close}, {"execve", SYS_execve},
+    {"exit_group", SYS_exit_group}, {"fstat", SYS_fstat}, {"getrandom", SYS_getrandom}, {"ioctl", SYS_ioctl}, {"lseek", SYS_lseek}, {"mmap", SYS_mmap},
+    {"mprotect", SYS_mprotect}, {"mremap", SYS_mremap}, {"munmap", SYS_munmap}, {"newfstatat", SYS_newfstatat}, {"openat", SYS_openat},
+    {"pread64", SYS_pread64}, {"prlimit64", SYS_prlimit64}, {"read", SYS_read}, {"rename", SYS_rename}, {"rseq", SYS_rseq},
+    {"rt_sigaction", SYS_rt_sigaction}, {"set_robust_list", SYS_set_robust_list}, {"set_tid_address", SYS_set_tid_address},
+    {"unlink", SYS_unlink}, {"write", SYS_write}};
+#else
+static const struct { const char *name; unsigned number; } known_calls[] = {{"", 0}};
+#endif
+
+/* The filter that lets these calls through and no other. */
+static void make_filter(char *names) {
+    unsigned numbers[MOST_CALLS], count = 0;
+    for (char *name = strtok(names, ","); name != NULL; name = strtok(NULL, ",")) {
+        size_t k = 0, most = sizeof known_calls / sizeof *known_calls;
+        while (k < most && strcmp(known_calls[k].name, name) != 0) k++;
+        if (k == most || count == MOST_CALLS) {
+            fprintf(stderr, "damage: there is no filter for the call %s\n", name);
+            return;
+        }
+        numbers[count++] = known_calls[k].number;
+    }
+    filter[filter_len++] = (struct sock_filter)BPF_STMT(BPF_LD | BPF_W | BPF_ABS, offsetof(struct seccomp_data, nr));
+    for (unsigned k = 0; k < count; k++)
+        filter[filter_len++] = (struct sock_filter)BPF_JUMP(BPF_JMP | BPF_JEQ | BPF_K, numbers[k], (unsigned char)(count - k), 0);
+    filter[filter_len++] = (struct sock_filter)BPF_STMT(BPF_RET | BPF_K, SECCOMP_RET_KILL_PROCESS);
+    filter[filter_len++] = (struct sock_filter)BPF_STMT(BPF_RET | BPF_K, SECCOMP_RET_ALLOW);
+}
+
+/* Becomes another program, under the filter if there is one. */
+static void become(const char *path, char **words) {
     static char *nothing[] = {NULL};
+    struct sock_fprog whole = {filter_len, filter};
+    if (filter_len == 0 || (prctl(PR_SET_NO_NEW_PRIVS, 1, 0, 0, 0) == 0 && prctl(PR_SET_SECCOMP, SECCOMP_MODE_FILTER, &whole) == 0))
+        execve(path, words, nothing);
+    _exit(127);
+}
+
+/* Keeps the filter only if a program that does nothing lives under it. */
+static void try_filter(const char *probe) {
+    char *words[] = {(char *)"probe", NULL};
+    int status = 0;
+    pid_t child = fork();
+    if (child == 0) become(probe, words);
+    if (child > 0 && waitpid(child, &status, 0) == child && status == 0) return;
+    fprintf(stderr, "damage: the filter of system calls is left out: here a program that does nothing needs others\n");
+    filter_len = 0;
+}
+
+static int start(const struct request *request, const int *files, pid_t *child) {
     char *alone[] = {request->words[0], NULL};
-    posix_spawn_file_actions_t actions;
-    posix_spawnattr_t attributes;
-    sigset_t none;
-    sigemptyset(&none);
-    posix_spawn_file_actions_init(&actions);
-    for (int k = 0; k < 3; k++) posix_spawn_file_actions_adddup2(&actions, files[k], k);
-    posix_spawnattr_init(&attributes);
-    posix_spawnattr_setsigmask(&attributes, &none);
-    posix_spawnattr_setflags(&attributes, POSIX_SPAWN_SETSIGMASK);
-    int fault = posix_spawn(child, program, &actions, &attributes, request->by_line ? alone : (char **)request->words, nothing);
-    posix_spawn_file_actions_destroy(&actions);
-    posix_spawnattr_destroy(&attributes);
-    return fault;
+    *child = fork();
+    if (*child == 0) {
+        sigset_t none;
+        sigemptyset(&none);
+        for (int k = 0; k < 3; k++) dup2(files[k], k);
+        sigprocmask(SIG_SETMASK, &none, NULL);
+        become(program, request->by_line ? alone : (char **)request->words);
+    }
+    return *child < 0;
 }
 
 /* Waits until it has ended, and kills it if it takes ten times the worst time. */
@@ -381,6 +442,25 @@ static int refusal_of(const char *line) {
 
 static int begins(const char *text, const char *with) { return strncmp(text, with, strlen(with)) == 0; }
 
+/* Whether the text after the program's name is a refusal's: a number and a name. */
+static int is_refusal(const char *text) {
+    size_t digits = strspn(text, "0123456789");
+    return digits != 0 && text[digits] == ' ' && text[digits + 1] >= 'A' && text[digits + 1] <= 'Z';
+}
+
+/* Whether a text is at most two lines for people, of other forms than the lines that a run ends with. */
+static int is_for_people(const char *text) {
+    static const char *forms[] = {"mkstrike: usage\n", "mkstrike: glyphs ", "mkstrike: left U", "mkstrike: unhinted U"};
+    int lines = 0;
+    for (const char *end; *text != 0; text = end + 1, lines++) {
+        end = strchr(text, '\n');
+        if (lines == 2 || end == NULL || !begins(text, "mkstrike: ") || is_refusal(text + 10)) return 0;
+        for (size_t k = 0; k < sizeof forms / sizeof *forms; k++)
+            if (begins(text, forms[k])) return 0;
+    }
+    return 1;
+}
+
 /* Looks at the output of a run that ended with status 0. Returns what is wrong, or NULL. */
 static const char *look_at_output(const struct request *request, const char *line, const char *out, size_t count) {
     unsigned long glyphs = 0, steps = 0, said = 0;
@@ -400,7 +480,7 @@ static const char *look_at_output(const struct request *request, const char *lin
 }
 
 /* Looks at a run that has ended. Returns what is wrong, or NULL. */
-static const char *look_at(const struct request *request, int status, char *err, size_t err_len, const char *out, size_t out_len) {
+static const char *look_at(const struct request *request, int status, char *err, const char *out, size_t out_len) {
     if (WIFSIGNALED(status)) {
         __atomic_add_fetch(&totals->signals, 1, __ATOMIC_RELAXED);
         return "ended by a signal";
@@ -408,9 +488,10 @@ static const char *look_at(const struct request *request, int status, char *err,
     int code = WEXITSTATUS(status);
     if (code > 2) return "another status";
     __atomic_add_fetch(&totals->by_status[code], 1, __ATOMIC_RELAXED);
-    if (code == 0 && request->verb != MAKE) return err_len == 0 ? look_at_output(request, err, out, out_len) : "a line on standard error";
-    if (err_len == 0 || strchr(err, '\n') != err + err_len - 1) return "not one line on standard error";
-    err[err_len - 1] = 0;
+    if (code == 0 && request->verb != MAKE) return is_for_people(err) ? look_at_output(request, err, out, out_len) : "a line on standard error";
+    char *end = strchr(err, '\n');
+    if (end == NULL || !is_for_people(end + 1)) return "not one line on standard error";
+    *end = 0;
     if (code == 0) {
         if (regexec(&report_form, err, 0, NULL, 0) != 0) return "an unknown report";
         return look_at_output(request, err, out, out_len);
@@ -480,7 +561,7 @@ static void one_run(uint64_t run, const int *files, int look) {
                (unsigned long)us, err);
         print_words(stdout, &request);
     }
-    const char *why = look_at(&request, status, err, (size_t)(err_len < 0 ? 0 : err_len), out, some);
+    const char *why = look_at(&request, status, err, out, some);
     if (why == NULL && us > worst_us) why = "too slow";
     __atomic_add_fetch(&totals->runs, 1, __ATOMIC_RELAXED);
     __atomic_add_fetch(&totals->cpu_us, us, __ATOMIC_RELAXED);
@@ -545,7 +626,7 @@ static void print_totals(double took) {
 }
 
 int main(int argc, char **argv) {
-    if (argc < 10) return 3;
+    if (argc < 12) return 3;
     program = argv[1];
     seed = strtoull(argv[2], NULL, 10);
     uint64_t first = strtoull(argv[3], NULL, 10), count = strtoull(argv[4], NULL, 10);
@@ -553,7 +634,9 @@ int main(int argc, char **argv) {
     worst_us = strtoull(argv[6], NULL, 10) * 1000;
     keep = argv[7];
     rlim_t stack = strtoull(argv[8], NULL, 10) * 1024;
-    for (int k = 9; k < argc; k++) add_font(argv[k]);
+    make_filter(argv[9]);
+    if (filter_len != 0) try_filter(argv[10]);
+    for (int k = 11; k < argc; k++) add_font(argv[k]);
     totals = mmap(NULL, sizeof *totals, PROT_READ | PROT_WRITE, MAP_SHARED | MAP_ANONYMOUS, -1, 0);
     totals->next = first;
     struct rlimit memory = {(rlim_t)MEMORY << 20, (rlim_t)MEMORY << 20}, no_core = {0, 0};

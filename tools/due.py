@@ -10,6 +10,13 @@ import re
 DONE, REFUSED, USAGE_STATUS = 0, 1, 2
 USAGE = b"mkstrike: usage\n"
 STRIKE = "strike"
+# Lines for people, after the line that is due. They have other forms than the lines that a run ends with.
+FURTHER = re.compile(rb"(mkstrike: (?!usage\n|\d+ [A-Z]|glyphs |left U|unhinted U)[^\x00-\x1f\x7f]+\n){0,2}")
+
+
+def own_lines(err):
+    """Standard error without the lines for people at its end."""
+    return re.fullmatch(rb"((?:[^\n]*\n)*?[^\n]*)" + FURTHER.pattern, err).group(1)
 
 
 # ---- numbers ----
@@ -45,7 +52,9 @@ def last_until(place):
 # ---- answers ----
 
 class Due:
-    """What is due of a run: its status, its line on standard error, and what is on standard output."""
+    """What is due of a run: its status, its line on standard error, and what is on standard output.
+
+    After that line there may be at most two further ones, which say what to do."""
 
     def __init__(self, status, err, out=b""):
         self.status, self.err, self.out = status, err, out
@@ -55,7 +64,7 @@ class Due:
         status, out, err = answer
         if status != self.status:
             return "status %d, and %d is due; standard error: %r" % (status, self.status, err[:200])
-        if err != self.err:
+        if not (err.startswith(self.err) and FURTHER.fullmatch(err[len(self.err):])):
             return "the line %r, and %r is due" % (err[:200], self.err)
         return None if out == self.out else difference(out, self.out)
 
@@ -101,7 +110,7 @@ class Counted(Due):
 
     def wrong(self, answer):
         status, out, err = answer
-        if status != self.status or not re.fullmatch(self.line, err):
+        if status != self.status or not re.fullmatch(self.line + FURTHER.pattern, err):
             return "status %d and the line %r, and %d and %r are due" % (status, err[:200], self.status, self.line)
         counted = [out.count(b"\n%s " % word) for word in (b"STARTCHAR", b"ENCODING", b"BBX")] + [out.count(b"\nENDCHAR\n")]
         whole = out.startswith(b"STARTFONT 2.1\n") and out.endswith(b"ENDFONT\n") and b"\nCHARS %d\n" % self.glyphs in out

@@ -19,6 +19,7 @@ FIXTURE = bytes.fromhex("""
     0001 0000 0000 0080 0080 0002 0000 31 36 17 40 40 80 80 00
 """)
 assert len(FIXTURE) == 382
+RING, ARC = FIXTURE[324:359], FIXTURE[360:381]  # its glyphs 2 and 3
 
 WORDS, OFFSETS, SCALE, MORE, TWO_SCALES, FOUR, PROGRAM = 1, 2, 8, 0x20, 0x40, 0x80, 0x100
 
@@ -48,6 +49,22 @@ def with_tables(font, **changed):
     for tag, data in changed.items():
         tables[tag.ljust(4)] = data
     return assemble(tables)
+
+
+def fixture_with(second=RING, third=ARC, bearing=0, **tables):
+    """The fixture with these bytes as glyphs 2 and 3, this left side bearing of glyph 2, and these tables."""
+    glyf, loca = b"", [0, 0, 0]
+    for glyph in (second, third):
+        glyf += glyph + bytes(len(glyph) % 2)
+        loca.append(len(glyf) // 2)
+    hmtx = tables_of(FIXTURE)["hmtx"]
+    tables = {"hmtx": hmtx[:8] + struct.pack(">h", bearing) + hmtx[10:], **tables}
+    return with_tables(FIXTURE, glyf=glyf, loca=struct.pack(">5H", *loca), **tables)
+
+
+def patched(font, at, data):
+    """The font with other bytes at a place."""
+    return font[:at] + data + font[at + len(data):]
 
 
 def map_of(pairs):

@@ -1,4 +1,4 @@
-"""Mistakes that users make, each with the status and the lines on standard error that are due: 82 that were tried, and some near them.
+"""Mistakes that users make, each with the status and the lines on standard error that are due.
 
 A row has the mistake in words, the arguments, the standard input, the status, the form of the first line, and a part of the second line.
 The input is a file of FILES, SANS for a real font, or bytes. A second line of '' means that there is none.
@@ -12,6 +12,8 @@ Mistake = collections.namedtuple("Mistake", "what words given status first secon
 FILES = {
     "empty": b"", "cff.otf": b"OTTO\0\x0a\0\x80" + bytes(200), "two.ttc": b"ttcf\0\1\0\0\0\0\0\2" + bytes(200), "none.ttc": b"ttcf\0\1\0\0" + bytes(200), "web.woff": b"wOFF\0\1\0\0" + bytes(60),
     "web.woff2": b"wOF2\0\1\0\0" + bytes(60), "a.pdf": b"%PDF-1.4\n" + bytes(60), "a.bdf": b"STARTFONT 2.1\nFONT a\n", "a.gz": b"\x1f\x8b\x08\0" + bytes(40),
+    "type1.pfb": b"\x80\1\0\0\0\0", "a.pcf": b"\1fcp", "page.ttf": b"<!DOCTYPE html>", "mac.dfont": b"\0\0\1\0\0\0",
+    "lfs.ttf": b"version https://git-lfs.github.com/spec/v1\n",
     "a.zip": b"PK\3\4" + bytes(40), "cut.ttf": b"\0\1\0\0\0\x10\1\0", "text": b"this is text, and no font\n", "hex.txt": b"0001 0000 0010\n0100 0004\n",
 }
 SANS = object()
@@ -33,7 +35,7 @@ ROWS = [
     ("two fonts", ["FONT", "other.ttf"], b"", 2, USAGE, "one word too many, 'other.ttf'"),
     ("wrong path", ["nosuch.ttf"], b"", 1, "mkstrike: can't open the font 'nosuch.ttf': there is no such file", "names the font"),
     ("directory as font", ["."], b"", 1, r"mkstrike: can't open the font '\.': it is a folder", "names the font"),
-    ("empty stdin, by a pipe", [], b"", 1, "mkstrike: 10 NotTrueType", "an empty input are not read"),
+    ("empty stdin, by a pipe", [], b"", 1, "mkstrike: 10 NotTrueType", "the file is empty"),
     ("empty stdin, a file", [], "empty", 1, "mkstrike: 10 NotTrueType", "the file is empty"),
     (".otf (CFF)", [], "cff.otf", 1, "mkstrike: 10 NotTrueType", "OpenType font with CFF outlines"),
     (".otf by its name", ["cff.otf"], b"", 1, "mkstrike: 10 NotTrueType", "OpenType font with CFF outlines"),
@@ -41,7 +43,7 @@ ROWS = [
     (".ttc, and a face too far", ["--face", "2"], "two.ttc", 1, "mkstrike: 25 NoFace", "the collection has 2 fonts: --face takes 0 to 1"),
     (".ttc without a font", [], "none.ttc", 1, "mkstrike: 25 NoFace", "the collection has no font"),
     ("--face 1 of one font", ["--face", "1"], SANS, 1, "mkstrike: 25 NoFace", "the file is no collection: leave --face out"),
-    ("--face by a pipe", ["--face", "1"], b"", 1, "mkstrike: 25 NoFace", "give a number below the number of faces"),
+    ("--face by a pipe", ["--face", "1"], b"SANS", 1, "mkstrike: 25 NoFace", "the file is no collection: leave --face out"),
     ("--face of a name", ["--face", "Bold"], SANS, 2, USAGE, "--face takes a whole number, counted from 0, not 'Bold'"),
     ("--face without a number", ["--face"], SANS, 2, USAGE, "--face takes a value"),
     ("--index", ["--index", "1"], SANS, 2, USAGE, "unknown option '--index'; did you mean '--face'?"),
@@ -68,8 +70,8 @@ ROWS = [
     ("U+20-U+7E", ["make", "--ppem", "16", "--chars", "U+20-U+7E"], SANS, 1, "mkstrike: 61 BadChars", "'U+20-U+7E' in the list is no hexadecimal number or range, but 20-7E is"),
     ("space in list (quoted)", ["make", "--ppem", "16", "--chars", "20-7e, a0"], SANS, 1, "mkstrike: 61 BadChars", "' a0' in the list"),
     ("space in list (unquoted)", ["make", "--ppem", "16", "--chars", "20-7e,", "a0"], SANS, 1, "mkstrike: can't open the font 'a0': there is no such file", "names the font"),
-    ("trailing comma", ["make", "--ppem", "16", "--chars", "41,"], SANS, 1, "mkstrike: 61 BadChars", "the list ends with a comma"),
-    ("two commas", ["make", "--ppem", "16", "--chars=41,,42"], SANS, 1, "mkstrike: 61 BadChars", "'' in the list is no"),
+    ("trailing comma", ["make", "--ppem", "16", "--chars", "41,"], SANS, 1, "mkstrike: 61 BadChars", "the list has a comma too many"),
+    ("two commas", ["make", "--ppem", "16", "--chars=41,,42"], SANS, 1, "mkstrike: 61 BadChars", "the list has a comma too many"),
     ("empty list", ["make", "--ppem", "16", "--chars", ""], SANS, 0, COUNTS, "the list of characters is empty"),
     ("reversed range", ["make", "--ppem", "16", "--chars", "7e-20"], SANS, 1, "mkstrike: 61 BadChars", "'7e-20' in the list ends before it begins"),
     ("110000", ["make", "--ppem", "16", "--chars", "110000"], SANS, 1, "mkstrike: 61 BadChars", "'110000' in the list is above 10FFFF"),
@@ -94,7 +96,7 @@ ROWS = [
     # the size
     ("ppem 0", ["make", "--ppem", "0", "--chars", "41"], SANS, 1, "mkstrike: 60 BadSize", "give a size of 1 to 1024"),
     ("ppem 2000", ["make", "--ppem", "2000", "--chars", "41"], SANS, 1, "mkstrike: 60 BadSize", "give a size of 1 to 1024"),
-    ("ppem 1,000", ["make", "--ppem", "1,000", "--chars", "41"], SANS, 2, USAGE, "--ppem takes a whole number from 1 to 1024, not '1,000'; 'mkstrike help make'"),
+    ("ppem 1,000", ["make", "--ppem", "1,000", "--chars", "41"], SANS, 2, USAGE, "--ppem takes a whole number from 1 to 1024, not '1,000'"),
     ("ppem 12.5", ["make", "--ppem", "12.5", "--chars", "41"], SANS, 2, USAGE, "1 to 1024, not '12.5'"),
     ("ppem 12px", ["make", "--ppem", "12px", "--chars", "41"], SANS, 2, USAGE, "1 to 1024, not '12px'"),
     ("ppem -5", ["make", "--ppem", "-5", "--chars", "41"], SANS, 2, USAGE, "--ppem takes a value; one that begins with '-' is given as --ppem=-5"),
@@ -137,6 +139,50 @@ ROWS = [
     # what the front takes
     ("--help", ["--help"], b"", 0, "", NONE), ("-h", ["-h"], b"", 0, "", NONE), ("help make", ["help", "make"], b"", 0, "", NONE),
     ("--version", ["--version"], b"", 0, "", NONE), ("-V", ["-V"], b"", 0, "", NONE), ("make --help", ["--help"], b"", 0, "", NONE),
+    # wishes that lead elsewhere
+    ("Type 1 font", ["type1.pfb"], b"", 1, "mkstrike: 10 NotTrueType", "looks like a Type 1 font"),
+    ("PCF font", ["a.pcf"], b"", 1, "mkstrike: 10 NotTrueType", "looks like a PCF font"),
+    ("web page as font", ["page.ttf"], b"", 1, "mkstrike: 10 NotTrueType", "looks like a web page"),
+    ("Git LFS pointer as font", ["lfs.ttf"], b"", 1, "mkstrike: 10 NotTrueType", "git lfs pull"),
+    (".dfont", ["mac.dfont"], b"", 1, "mkstrike: 10 NotTrueType", "Macintosh font"),
+    ("font by its family name", ["DejaVu Sans"], b"", 1, "mkstrike: can't open the font 'DejaVu Sans': there is no such file", "'fc-list' shows the files"),
+    ("--weight", ["--weight", "700", "FONT"], b"", 2, USAGE, "the command strike"),
+    ("points: 12pt", ["make", "--ppem", "12pt", "--chars", "41"], SANS, 2, USAGE, "pixels are points times the resolution, divided by 72"),
+    ("--pt", ["make", "--pt", "12", "--chars", "41"], SANS, 2, USAGE, "points times the resolution, divided by 72"),
+    ("--dpi", ["--dpi", "96"], SANS, 2, USAGE, "points times the resolution, divided by 72"),
+    ("a cell as size", ["make", "--ppem", "8x16", "--chars", "41"], SANS, 2, USAGE, "strike --cell"),
+    ("several sizes", ["make", "--ppem", "12,14,16", "--chars", "41"], SANS, 2, USAGE, "strike --size"),
+    ("a range of sizes", ["make", "--ppem", "8-16", "--chars", "41"], SANS, 2, USAGE, "strike --size"),
+    ("--sizes", ["make", "--sizes", "12,16", "--chars", "41"], SANS, 2, USAGE, "the command strike"),
+    ("--chars all", ["make", "--ppem", "16", "--chars", "all"], SANS, 1, "mkstrike: 61 BadChars", "20-d7ff,e000-fffd takes all up to U+FFFF"),
+    ("--chars *", ["make", "--ppem", "16", "--chars", "*"], SANS, 1, "mkstrike: 61 BadChars", "20-d7ff,e000-fffd takes all up to U+FFFF"),
+    ("--all", ["make", "--ppem", "16", "--all"], SANS, 2, USAGE, "20-d7ff,e000-fffd takes all characters up to U+FFFF"),
+    ("--chars ascii", ["make", "--ppem", "16", "--chars", "ascii"], SANS, 1, "mkstrike: 61 BadChars", "--set ascii takes that set"),
+    ("--chars latin1", ["make", "--ppem", "16", "--chars", "latin1"], SANS, 1, "mkstrike: 61 BadChars", "--set latin1 takes that set"),
+    ("--set of no set", ["make", "--ppem", "16", "--set", "klingon"], SANS, 1, "mkstrike: 61 BadChars", "'klingon' in the list is no"),
+    ("--set and --chars", ["--set", "ascii"], SANS, 2, USAGE, "--chars is given twice"),
+    ("--set for show", ["show", "--ppem", "16", "--set", "ascii"], SANS, 2, USAGE, "unknown option '--set'"),
+    ("--encoding", ["make", "--ppem", "16", "--encoding", "latin1"], SANS, 2, USAGE, "--set takes sets of characters by name"),
+    ("a letter outside ASCII", ["make", "--ppem", "16", "--chars", "\xe9"], SANS, 1, "mkstrike: 61 BadChars", "strike --text"),
+    ("a file of characters", ["make", "--ppem", "16", "--chars", "@list.txt"], SANS, 1, "mkstrike: 61 BadChars", "strike --text"),
+    ("--text", ["make", "--ppem", "16", "--text", "a.txt"], SANS, 2, USAGE, "the command strike"),
+    ("-o of a console font", ["FONT", "-o", "a.psf"], b"", 0, COUNTS, "'a.psf' is BDF, as every strike; strike --format"),
+    ("-o of a picture", ["FONT", "-o", "a.png"], b"", 0, COUNTS, "'a.png' is BDF, as every strike; strike --format"),
+    ("-o of C", ["FONT", "-o", "a.h"], b"", 0, COUNTS, "'a.h' is BDF, as every strike; strike --format"),
+    ("--format", ["--format", "pcf"], SANS, 2, USAGE, "the command strike"),
+    ("--psf", ["--psf"], SANS, 2, USAGE, "the command strike"),
+    ("--cell", ["--cell", "8x16"], SANS, 2, USAGE, "the command strike"),
+    ("--mono", ["--mono"], SANS, 2, USAGE, "the command strike"),
+    ("--bold", ["--bold"], SANS, 2, USAGE, "give the font's file of that style"),
+    ("--antialias", ["--antialias"], SANS, 2, USAGE, "one bit a pixel"),
+    ("--hinted", ["--hinted"], SANS, 2, USAGE, "strikes are hinted if --unhinted is not given"),
+    ("--dropout on", ["--dropout", "on", "FONT"], b"", 2, USAGE, "--dropout takes left, near or font, not 'on'"),
+    ("--dropout near", ["--dropout", "near", "FONT"], b"", 0, COUNTS, ""),
+    ("--dropout font", ["--dropout", "font", "FONT"], b"", 0, COUNTS, ""),
+    ("--dropout FONT", ["--dropout", "FONT"], b"", 0, COUNTS, ""),
+    ("-o joined by =", ["FONT", "-o=joined.bdf"], b"", 0, COUNTS, ""),
+    ("-o without letters", ["FONT", "-o", ""], b"", 2, USAGE, "-o takes the name of a file"),
+    ("output as a second word", ["FONT", "out.bdf"], b"", 2, USAGE, "one word too many, 'out.bdf'"),
     # the font's programs
     ("dump of what is not there", ["dump", "--of", "gpos"], SANS, 2, USAGE, "--of takes fpgm, prep or the number of a glyph, not 'gpos'; 'mkstrike help dump'"),
     ("dump glyph 99999", ["dump", "--of", "99999"], SANS, 2, USAGE, "the number of a glyph, not '99999'"),
@@ -162,7 +208,7 @@ def mistakes(sans):
 def write_files(folder, sans):
     """Puts the files of the mistakes into a folder."""
     if os.path.exists(sans):
-        for name, table, other in (("no cmap.ttf", b"cmap", b"cmaq"), ("variable.ttf", b"gasp", b"fvar")):
+        for name, table, other in (("copy.ttf", b"", b""), ("no cmap.ttf", b"cmap", b"cmaq"), ("variable.ttf", b"gasp", b"fvar")):
             with open(sans, "rb") as font, open(os.path.join(folder, name), "wb") as file:
                 file.write(font.read().replace(table, other, 1))
     for name, data in FILES.items():

@@ -5,12 +5,15 @@
  *   - what a strike, its cut text and its numbers are agrees from call to call, and with what is told of the font;
  *   - each entry of many characters is what a call for it alone gives; boxes are tight, the bits that fill up a row are 0; by the number of
  *     its glyph a character gives the same;
- *   - by a block each character is the same, also when memory is refused; and whatever words are given as a block, no call goes wrong;
+ *   - the outline of a glyph is whole, fits the glyph's advance, and is refused as the glyph is;
+ *   - by a block each character is the same, alone, in one call and by its glyph's number, also when memory is refused; and whatever words
+ *     are given as a block, no call goes wrong;
  *   - what a refused call must leave is as it was, and nothing is written beside a buffer;
  *   - one request for memory, another one each time, is refused: the answer is 90, or the same;
  *   - all memory is given back.
  *
- * tools/fuzz_c builds and runs it. The archive has no marks of coverage, so statuses, tables, opcodes and counts are the features. */
+ * Each call of the header is made, in all modes. tools/fuzz_c builds and runs it. The archive has no marks of coverage, so statuses,
+ * tables, opcodes and counts are the features. */
 #define _GNU_SOURCE
 #include "mkstrike.h"
 #include <stdio.h>
@@ -148,11 +151,26 @@ struct asked {
 
 static struct mkstrike_refused why;
 
+/* Whether a number is a mode: hinted or not, and at most one bit of drop-out control. */
+static int is_mode(uint32_t mode) {
+    uint32_t closed = mode & (MKSTRIKE_DROPOUT | MKSTRIKE_DROPOUT_NEAR | MKSTRIKE_DROPOUT_FONT);
+    return (mode & ~(closed | MKSTRIKE_HINTED)) == 0 && (closed & (closed - 1)) == 0;
+}
+
 /* Before a call: nothing was told yet, and request `refused` is refused. */
 static void begin(long refused) {
     memset(&why, FILL, sizeof why);
     requests = 0;
     refused_at = refused;
+}
+
+/* The number that a call returned has a name. */
+static void named(uint32_t status) {
+    char name[24], to_do[96];
+    size_t len = mkstrike_reason(status, name, sizeof name);
+    look(len < 21 && strlen(name) == len && strcmp(name, "Unknown") != 0, "a number without a name");
+    len = mkstrike_advice(status, to_do, sizeof to_do);
+    look(len < sizeof to_do && strlen(to_do) == len && (len != 0) == (status > 1), "a number without advice, or with too much");
 }
 
 /* After it: it gave all back; refused it told its number, else nothing. A call for many that is done may tell of a character. */
@@ -163,6 +181,7 @@ static uint32_t ended(uint32_t status, int is_told) {
     else if (is_told) look(why.number == status, "two numbers of a refusal");
     else look(is_filled((const uint8_t *)&why, sizeof why), "a call that was done told a refusal");
     feature(status * 977 + why.table * 31 + why.opcode * 17 + why.glyph * 13);
+    named(status);
     return status;
 }
 
@@ -336,6 +355,71 @@ static void many(const struct asked *a) {
     free_block(&none);
 }
 
+/* ---- outlines */
+
+static uint32_t outlined(const struct asked *a, uint32_t id, struct block *points, struct block *ends, struct mkstrike_outlined *told, long refused) {
+    uint32_t status;
+    begin(refused);
+    status = mkstrike_outline(a->font, a->font_len, a->face, a->ppem, a->mode, id, (struct mkstrike_outline_point *)(void *)points->at,
+        points->len / sizeof(struct mkstrike_outline_point), (uint16_t *)(void *)ends->at, ends->len / sizeof(uint16_t), told, &why);
+    return ended(status, status != 0);
+}
+
+/* The points and the contours of an outline, in buffers of just its size and in smaller ones. */
+static void look_at_outline(const struct asked *a, uint32_t id, const struct mkstrike_outlined *told) {
+    struct block points = block_of(told->points * sizeof(struct mkstrike_outline_point), 4, (int)draw(2));
+    struct block ends = block_of(told->contours * sizeof(uint16_t), 2, (int)draw(2));
+    struct block few = block_of(draw((uint32_t)told->points + 1) * sizeof(struct mkstrike_outline_point), 4, (int)draw(2));
+    struct block some = block_of(draw((uint32_t)told->contours + 1) * sizeof(uint16_t), 2, (int)draw(2));
+    const struct mkstrike_outline_point *point = (const struct mkstrike_outline_point *)(const void *)points.at;
+    const uint16_t *end = (const uint16_t *)(const void *)ends.at;
+    struct mkstrike_outlined again;
+    size_t i;
+    look(outlined(a, id, &points, &ends, &again, 0) == 0, "no outline with room for it");
+    look(again.points == told->points && again.contours == told->contours && again.advance == told->advance, "another outline");
+    for (i = 0; i < told->points; i++) look(point[i].on_curve <= 1, "a point neither on the curve nor off it");
+    for (i = 1; i < told->contours; i++) look(end[i - 1] <= end[i], "contours that end before those before them");
+    look(told->contours == 0 ? told->points == 0 : end[told->contours - 1] + (size_t)1 == told->points, "points of no contour");
+    look(outlined(a, id, &few, &some, &again, 0) == 0 && again.points == told->points, "no outline without room for it");
+    look(memcmp(few.at, points.at, few.len) == 0 && memcmp(some.at, ends.at, some.len) == 0, "another outline in small buffers");
+    feature(0x30000 + (uint32_t)told->contours * 64 + (uint32_t)__builtin_clzll(told->points + 1));
+    free_block(&points);
+    free_block(&ends);
+    free_block(&few);
+    free_block(&some);
+}
+
+/* A glyph's outline by its number: refused as the glyph is, unless only its pixels are too many or too far. */
+static void outline(const struct asked *a, uint32_t id) {
+    struct block none = block_of(0, 4, at_front);
+    struct mkstrike_outlined told;
+    struct mkstrike_glyph_info info;
+    struct mkstrike_refused of_outline;
+    uint32_t status, drawn;
+    long count;
+    memset(&told, FILL, sizeof told);
+    status = outlined(a, id, &none, &none, &told, 0);
+    of_outline = why;
+    count = requests;
+    begin(0);
+    drawn = mkstrike_glyph_by_id(a->font, a->font_len, a->face, a->ppem, a->mode, id, NULL, 0, &info, &why);
+    drawn = ended(drawn, drawn != 0);
+    if (status != 0) {
+        look(is_filled((uint8_t *)&told, sizeof told), "a refused outline changed what is told");
+        look(memcmp(&of_outline, &why, sizeof why) == 0, "a glyph that is not refused as its outline");
+    } else {
+        look(drawn == 0 || drawn == MKSTRIKE_TOO_FAR || drawn == MKSTRIKE_GLYPH_TOO_LARGE, "a glyph refused that has an outline");
+        if (drawn == 0) look(llabs(64 * (long long)info.dwidth - told.advance) <= 32, "another advance of an outline");
+        look_at_outline(a, id, &told);
+    }
+    if (count > 0) {
+        memset(&told, FILL, sizeof told);
+        drawn = outlined(a, id, &none, &none, &told, 1 + (long)draw((uint32_t)count));
+        look(drawn == MKSTRIKE_OUT_OF_MEMORY || drawn == status, "another answer to refused memory");
+    }
+    free_block(&none);
+}
+
 /* ---- blocks */
 
 static uint32_t prepare(const struct asked *a, struct block *words, size_t *need, long refused) {
@@ -377,6 +461,54 @@ static void same_by_block(const struct asked *a, const struct block *words, uint
     free_block(&others);
 }
 
+/* The same of a glyph by its number. */
+static void same_by_id(const struct asked *a, const struct block *words, uint32_t id) {
+    struct mkstrike_glyph_info due, found;
+    struct block pixels = block_of(4096, 1, (int)draw(2)), others = block_of(4096, 1, (int)draw(2));
+    struct mkstrike_refused refused;
+    uint32_t status, mode = a->mode | a->packed;
+    memset(&due, FILL, sizeof due);
+    memset(&found, FILL, sizeof found);
+    begin(0);
+    status = mkstrike_glyph_by_id(a->font, a->font_len, a->face, a->ppem, mode, id, pixels.at, pixels.len, &due, &why);
+    status = ended(status, status != 0);
+    refused = why;
+    begin(0);
+    look(mkstrike_glyph_by_id_prepared(a->font, a->font_len, a->face, a->ppem, mode, (const uint32_t *)(const void *)words->at, words->len / 4, id,
+             others.at, others.len, &found, &why) == status, "another status by a number and a block");
+    ended(status, status != 0);
+    look(memcmp(&why, &refused, sizeof why) == 0, "another refusal by a number and a block");
+    look(memcmp(&due, &found, sizeof due) == 0 && memcmp(pixels.at, others.at, 4096) == 0, "another glyph by a number and a block");
+    free_block(&pixels);
+    free_block(&others);
+}
+
+/* All characters in one call, with a block and without: what is told, as much of the pixels as fits, and the first refusal. */
+static void many_by_block(const struct asked *a, const struct block *words) {
+    struct block entries = block_of(a->chars_len * sizeof(struct mkstrike_placed), 8, (int)draw(2)), pixels = block_of(draw(4096), 1, (int)draw(2));
+    struct block others = block_of(entries.len, 8, (int)draw(2)), more = block_of(pixels.len, 1, (int)draw(2));
+    struct mkstrike_drawn due, found;
+    struct mkstrike_refused refused;
+    uint32_t status;
+    memset(&due, FILL, sizeof due);
+    memset(&found, FILL, sizeof found);
+    status = glyphs(a, &entries, &pixels, &due, 0);
+    refused = why;
+    begin(0);
+    look(mkstrike_glyphs_prepared(a->font, a->font_len, a->face, a->ppem, a->mode | a->packed, (const uint32_t *)(const void *)words->at,
+             words->len / 4, a->chars, a->chars_len, (struct mkstrike_placed *)(void *)others.at, a->chars_len, more.at, more.len, &found,
+             &why) == status, "another status of many by a block");
+    ended(status, status != 0 || found.refused != 0);
+    look(memcmp(&why, &refused, sizeof why) == 0, "another refusal of many by a block");
+    look(status != 0 || (due.bytes == found.bytes && due.glyphs == found.glyphs && due.missing == found.missing && due.refused == found.refused),
+        "other counts by a block");
+    look(memcmp(entries.at, others.at, entries.len) == 0 && memcmp(pixels.at, more.at, pixels.len) == 0, "other glyphs of many by a block");
+    free_block(&entries);
+    free_block(&pixels);
+    free_block(&others);
+    free_block(&more);
+}
+
 /* Some words of a block are changed, or it is cut: a refused call changes nothing, and each call ends. */
 static void changed_block(const struct asked *a, struct block *words, uint32_t code) {
     static const uint32_t values[] = {0, 1, 0xFFFFFFFF, 0x7FFFFFFF, 0x80000000, 256, 0x10000, 3};
@@ -410,10 +542,12 @@ static void blocks(const struct asked *a) {
         look(prepare(a, &words, &again, 0) == 0 && again == need, "another block the second time");
         for (i = 0; i < a->chars_len; i++)
             if (draw(2) == 0) same_by_block(a, &words, a->chars[i]);
+        same_by_id(a, &words, draw(4) ? draw(12) : draw(70000));
+        many_by_block(a, &words);
         if (a->chars_len > 0)
             for (i = 0; i < 4; i++) changed_block(a, &words, a->chars[draw(a->chars_len)]);
         free_block(&words);
-    } else if (a->chars_len > 0 && (a->mode & ~UINT32_C(3)) == 0) {
+    } else if (a->chars_len > 0 && is_mode(a->mode)) {
         memset(&info, FILL, sizeof info);
         look(by_block(a, &none, a->chars[0], &none, &info, 0) == MKSTRIKE_BAD_BLOCK, "no words were taken for a block");
     }
@@ -422,11 +556,17 @@ static void blocks(const struct asked *a) {
 
 /* ---- an input */
 
+/* A character by a byte of the input: odd numbers, ASCII, those of parts of real fonts, and those of the fonts of suite/. */
+static uint32_t code_of(uint8_t byte) {
+    static const uint32_t odd[] = {0x20, 0x41, 0x67, 0xE9, 0x25, 0x1EB4, 0x42, 0x21, 0xFFFFFFFF, 0x110000, 0x10FFFF, 0xFFFF};
+    return byte < 12 ? odd[byte] : byte < 128 ? byte : byte < 208 ? odd[byte % 8] : UINT32_C(0xE000) + byte - 208;
+}
+
 int LLVMFuzzerTestOneInput(const uint8_t *input, size_t len);
 
 int LLVMFuzzerTestOneInput(const uint8_t *input, size_t len) {
     static const uint16_t sizes[] = {16, 16, 16, 9, 12, 24, 33, 1, 0, 1024, 1025, 65535, 64, 8, 100, 7};
-    static const uint32_t odd[] = {0x20, 0x41, 0x67, 0xE9, 0x25, 0x1EB4, 0x42, 0x21, 0xFFFFFFFF, 0x110000, 0x10FFFF, 0xFFFF};
+    static const uint32_t closed[] = {0, MKSTRIKE_DROPOUT, MKSTRIKE_DROPOUT_NEAR, MKSTRIKE_DROPOUT_FONT};
     const uint8_t *said = input + len - ASKED;
     struct mkstrike_font_info info;
     struct block font, chars;
@@ -437,26 +577,28 @@ int LLVMFuzzerTestOneInput(const uint8_t *input, size_t len) {
     state |= 1;
     at_front = said[6] & 1;
     a.ppem = said[4] & 1 ? sizes[said[4] >> 1 & 15] : (uint16_t)(1 + said[4] % 40);
-    a.mode = said[5] & 3;
-    if (said[5] > 252) a.mode |= (UINT32_C(4) << draw(28)) & ~MKSTRIKE_PACKED;
+    a.mode = closed[said[5] >> 1 & 3] | (said[5] & 1 ? MKSTRIKE_HINTED : 0);
+    if (said[5] > 250) a.mode |= (UINT32_C(2) << draw(30)) & ~MKSTRIKE_PACKED;
     a.packed = said[6] & 2 ? MKSTRIKE_PACKED : 0;
     a.face = said[22] % 8 == 0 ? said[22] / 8 : 0;
     a.chars_len = said[7] % MOST;
     chars = block_of(a.chars_len * sizeof(uint32_t), 4, said[6] & 4);
     for (i = 0; i < a.chars_len; i++)
-        ((uint32_t *)(void *)chars.at)[i] = said[8 + i] < 12 ? odd[said[8 + i]] : said[8 + i] < 128 ? said[8 + i] : odd[said[8 + i] % 8];
+        ((uint32_t *)(void *)chars.at)[i] = code_of(said[8 + i]);
     a.chars = (const uint32_t *)(const void *)chars.at;
     font = block_of(len - ASKED, 1, said[6] & 8);
     memcpy(font.at, input, font.len);
     mprotect(font.map + PAGE, font.pages * PAGE, PROT_READ);
     a.font = font.at;
     a.font_len = font.len;
+    look(mkstrike_version() == MKSTRIKE_VERSION, "a library of another release");
     begin(0);
     status = mkstrike_font(a.font, a.font_len, a.face, a.ppem, &info, &why);
     status = ended(status, status != 0);
     look(requests == 0, "a font's heights take memory");
     strike(&a, &info, status);
     many(&a);
+    for (i = 0; i < 3; i++) outline(&a, draw(8) ? draw(12) : draw(70000));
     blocks(&a);
     free_block(&chars);
     munmap(font.map, (font.pages + 2) * PAGE);

@@ -10,6 +10,16 @@ SCANCTRL, SCANTYPE = 0x85, 0x8D
 GREATEST_WORD = 32767
 
 
+def pushed(number):
+    """Instructions that leave any number of 32 bits: a word, or a word times 2^16 and a word that is added."""
+    if -GREATEST_WORD <= number + 1 and number <= GREATEST_WORD:
+        return b"\xB8" + (number & 0xFFFF).to_bytes(2, "big")
+    low = (number + 0x8000) % 0x10000 - 0x8000
+    high = (number - low >> 16) & 0xFFFF
+    # 2^14 * 2^14 is 2^22 in 26.6 pixels, and a product by that is one by 2^16
+    return b"\xB8" + high.to_bytes(2, "big") + bytes.fromhex("B9 4000 4000 63 63") + pushed(low) + bytes([ADD])
+
+
 class Code:
     """A program: its bytes, and its instructions and strays when it is run once from end to end."""
 

@@ -17,6 +17,15 @@ PLACES = {
     "crates/fx_arguments/src/lines.rt": ["let _ = put_all(err, line.text())"],
     "crates/fx_arguments/src/mistakes.rt": ["from_slice(alloc, before)"],
     "crates/fx_arguments/src/read_ahead.rt": ["from_slice(alloc, self.text)", "resize(filled + PART, 0)"],
+    "crates/fx_cli/src/watch.rt": ["from_slice(alloc, start)"],
+    "crates/fx_front/src/lines.rt": ["let _ = put_all(err, line)", "from_slice(alloc, b\"mkstrike: \")"],
+    "crates/fx_front/src/output.rt": [
+        "let _ = fs::remove_file(rt, made.as_str())",
+        "let _ = file.set_permissions(like)",
+        "let _ = fs::remove_file(self.rt, made.as_str())",
+        "let _ = fs::remove_file(self.rt, made.as_str())",
+    ],
+    "crates/fx_words/src/parts.rt": ["from_slice(alloc, before)"],
     "crates/fx_dropout/src/filled.rt": ["vec![in alloc; 0u32; words.len()]"],
     "crates/fx_fixed/src/memory.rt": ["with_capacity(alloc, capacity)"],
     "crates/fx_hint/src/kept_glyphs.rt": [

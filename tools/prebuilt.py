@@ -1,6 +1,6 @@
 """The program, the C library and the page kept in dist/, and their manifest: lines of text that say of what they were made.
 
-    sources SHA256             the hash of the program's sources, 64 hexadecimal digits, as bin/sources.bash makes it
+    sources SHA256             the hash of the program's sources, 64 hexadecimal digits (hash_of_sources)
     kit LINE                   what `rt version` prints
     mkstrike SHA256            the hash of the file dist/mkstrike
     library-sources SHA256     the hash of the sources of crates/mkstrike_c and of what it stands on
@@ -29,8 +29,7 @@ FORM = re.compile(r"sources ([0-9a-f]{64})\nkit ([^\n]+)\nmkstrike ([0-9a-f]{64}
                   r"library-sources ([0-9a-f]{64})\nlibmkstrike_c\.a ([0-9a-f]{64})\n"
                   r"(?:libmkstrike_c-aarch64\.a ([0-9a-f]{64})\n)?"
                   r"(?:module-sources ([0-9a-f]{64})\nmkstrike\.wasm ([0-9a-f]{64})\n)?")
-HASH = """set -euo pipefail; shopt -s inherit_errexit; source "$0"; go_to_top; list_crates; crates=(); add_crate "$1"; hash_of_sources"""
-
+PARTS = ("src", "specs", "proofs")  # the folders of a crate that have its sources
 
 FILES = ("manifest", "mkstrike", "libmkstrike_c.a")
 WEB_FILES = ("mkstrike.wasm", "mkstrike.html")
@@ -62,8 +61,28 @@ def command(words):
 
 
 def hash_of_sources(crate="mkstrike"):
-    """The hash of the sources of a crate and of what it stands on, as they are, 64 hexadecimal digits."""
-    return command(["bash", "-c", HASH, os.path.join(TOP, "bin/sources.bash"), crate])
+    """The hash of the sources of a crate and of what it stands on, as they are, 64 hexadecimal digits.
+
+    It is that of lines as sha256sum writes them, one a file, in the order of the files' paths below the top.
+    """
+    lines = {"crates.txt": sha256(read(os.path.join(TOP, "crates.txt")))}
+    for name in crates_below(crate):
+        for part in PARTS:
+            for folder, _, files in os.walk(os.path.join(TOP, "crates", name, part), followlinks=True):
+                lines.update((os.path.relpath(os.path.join(folder, it), TOP), sha256(read(os.path.join(folder, it)))) for it in files)
+    paths = sorted(lines, key=os.fsencode)
+    return sha256(b"".join(b"%s  %s\n" % (lines[it].encode(), os.fsencode(it)) for it in paths))
+
+
+def crates_below(crate):
+    """A crate and those of the repository that it stands on."""
+    with open(os.path.join(TOP, "crates.txt"), encoding="utf-8") as file:
+        rows = [line.partition("#")[0].partition(":") for line in file]
+    uses = {name.split()[0]: words.split() for name, _, words in rows if name.strip()}
+    found = [crate]
+    for name in found:
+        found += [it for it in uses[name] if it in uses and it not in found]
+    return found
 
 
 def kit():

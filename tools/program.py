@@ -2,14 +2,21 @@
 import os
 import sys
 
-TOP = os.path.dirname(os.path.dirname(os.path.realpath(__file__)))
+import prebuilt
+from prebuilt import TOP
+
 
 
 def find_program(named=None):
-    """The path of the program named, or of the one that was built last at its usual places."""
-    usual = [os.path.join(TOP, place) for place in ("out/mkstrike", "crates/mkstrike/out/mkstrike")]
-    places = [named] if named else usual
-    for place in places:
-        if os.access(place, os.X_OK):
-            return os.path.abspath(place)
-    sys.exit("no program: %s. Build it with bin/mkstrike, or name it with --program" % " and ".join(places))
+    """The path of the program named, here or by MKSTRIKE_PROGRAM; else of dist/mkstrike if it is of these sources; else of the one that was built."""
+    named = named or os.environ.get("MKSTRIKE_PROGRAM")
+    place, advice = named or prebuilt.BUILT, ""
+    if not named:
+        try:
+            prebuilt.program_of_dist()
+            return os.path.join(prebuilt.DIST, "mkstrike")
+        except prebuilt.Fault as fault:
+            advice = ". `make` builds it, or name one with --program; %s" % fault
+    if not os.access(place, os.X_OK):
+        sys.exit("no program: %s%s" % (prebuilt.shown(place), advice))
+    return os.path.abspath(place)

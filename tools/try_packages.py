@@ -1,4 +1,5 @@
 """Tries the packages of tools/package: made again, and installed, run and removed in an empty root."""
+import glob
 import gzip
 import os
 import re
@@ -11,7 +12,6 @@ import c_library
 import compile_lines
 import elf
 import other_machine
-import package_layout
 import packing
 import prebuilt
 import sample_font
@@ -28,6 +28,12 @@ Version: %s
 Description: the C library of this machine
 
 """
+
+
+def man_pages():
+    """The man pages of the program: of each the name below docs/, and its bytes. `strike` is a command of the package for Python."""
+    paths = glob.glob(os.path.join(glob.escape(TOP), "docs/*.1"))
+    return {os.path.basename(it): prebuilt.read(it) for it in sorted(paths) if os.path.basename(it) != "strike.1"}
 
 
 class Count:
@@ -80,7 +86,7 @@ def make_again(count, made, again):
 
 
 class Root:
-    """An empty root with the C library and a shell alone, where commands can be run as nobody if this process may."""
+    """An empty root with the C library and a shell, which packages' scripts need. Commands are run as nobody if this process may."""
 
     def __init__(self, folder, program):
         self.folder = folder
@@ -127,12 +133,12 @@ class Root:
         count.check("%s: the C library is there, as it was packed" % what, not is_same)
         if shutil.which("cc"):
             self.look_at_examples(count, prefix, what, libraries)
-        at = self.path(prefix, "libexec/mkstrike/mkstrike")
+        at = self.path(prefix, "bin/mkstrike")
         is_same = os.access(at, os.X_OK) and prebuilt.read(at) == program
         count.check("%s: the program is there, as it was packed" % what, not is_same)
         for words in (["--version"], ["help"], ["help", "make"]):
             count.check("%s: mkstrike %s" % (what, " ".join(words)), failure_of([self.path(prefix, "bin/mkstrike"), *words]))
-        for name, data in package_layout.man_pages().items():
+        for name, data in man_pages().items():
             page = self.path(prefix, "share/man/man1/%s.gz" % name)
             is_page = os.path.exists(page) and gzip.decompress(prebuilt.read(page)) == data
             count.check("%s: the man page %s is there" % (what, name), not is_page)

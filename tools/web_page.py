@@ -13,17 +13,27 @@ from prebuilt import TOP, Fault
 WEB = os.path.join(TOP, "web")
 MODULE, PAGE = "mkstrike.wasm", "mkstrike.html"
 SHARED = ("mkstrike.js", "outputs.js", "refusals.js")  # what the page and the worker both need
+ALONE = ("woff.js", "page.js")  # what the page needs beside it
+
+
+def kinds():
+    """Files of another kind, as docs/REFUSALS.md has them, without the options of the command: first bytes, what the file does, what to do."""
+    part = prebuilt.read(os.path.join(TOP, "docs/REFUSALS.md")).decode().partition("\n## Files of another kind\n")[2].partition("\n## ")[0]
+    rows = re.findall(r"^\| (none|`[0-9a-f ]+`) \|.*?\| ([^|]+) \| ([^|]+) \|$", part, re.M)
+    return [(re.sub("[^0-9a-f]", "", begins.replace("none", "")), seems, re.sub("; `--.*", "", todo)) for begins, seems, todo in rows]
 
 
 def refusals():
-    """web/refusals.js: the table of docs/REFUSALS.md."""
+    """web/refusals.js: the tables of docs/REFUSALS.md."""
     rows, before = {}, ""
     text = prebuilt.read(os.path.join(TOP, "docs/REFUSALS.md")).decode()
     for number, name, means, todo in re.findall(r"^\| (\d+) \| (\w+)[^|]* \| (.+?) \| (.+?) \|$", text, re.M):
         before = before if todo == "the same" else todo
         rows[number] = {"name": name, "means": means, "todo": before}
     lines = ["  %s: %s," % (number, json.dumps(row, ensure_ascii=False)) for number, row in rows.items()]
-    return ("// The table of docs/REFUSALS.md, by number. Made by tools/make_web.\nexport const REFUSALS = {\n%s\n};\n" % "\n".join(lines)).encode()
+    others = ["  %s," % json.dumps(dict(zip(("begins", "seems", "todo"), it)), ensure_ascii=False) for it in kinds()]
+    return ("// The tables of docs/REFUSALS.md, the refusals by number. Made by tools/make_web.\nexport const REFUSALS = {\n%s\n};\n\n"
+            "// Files of another kind, by their first bytes.\nexport const KINDS = [\n%s\n];\n" % ("\n".join(lines), "\n".join(others))).encode()
 
 
 def source(name):
@@ -50,7 +60,7 @@ def once(text, old, new):
 def page_of(module):
     """The page in one file, with the module in it. It depends on web/, VERSION and the module alone."""
     text = prebuilt.read(os.path.join(WEB, "index.html")).decode()
-    shared, page, worker = "".join(map(source, SHARED)), source("page.js"), source("worker.js")
+    shared, page, worker = "".join(map(source, SHARED)), "".join(map(source, ALONE)), source("worker.js")
     for it in (shared, page, worker):
         if "</script" in it:
             raise Fault("a script of web/ has the end of a script in it")

@@ -14,11 +14,14 @@ export const STRUCTS = {
   mkstrike_told: { bytes: 'u64', glyphs: 'u32', missing: 'u32', strays: 'u64', steps: 'u64' },
 };
 
-export const HINTED = 0x001, DROPOUT = 0x002; // a mode: their sum, or 0
+// A mode: 0, or a sum of these with at most one kind of drop-out control.
+export const HINTED = 0x001, DROPOUT = 0x002, DROPOUT_NEAR = 0x004, DROPOUT_FONT = 0x008;
+export const DROPOUTS = { off: 0, left: DROPOUT, near: DROPOUT_NEAR, font: DROPOUT_FONT }; // by the program's names
 const PACKED = 0x100; // pixels as bits, which all glyphs here have
 export const DONE = 0, MISSING = 1; // what calls return; any other number is a refusal
 export const NONE = 0xffffffff, FPGM = 0x10000, PREP = 0x10001; // in a refusal
 export const MOST_PPEM = 1024, MOST_BYTES = 67108864;
+const MOST_ROOM = 1 << 22; // bytes that a first call hands over at most; a second one hands over what the first asked for
 
 // Whether this engine has WebAssembly with 64-bit memory: the head of a module with such a memory.
 export function hasMemory64() {
@@ -198,7 +201,7 @@ export class Mkstrike {
       const call = (pixels, room) => this.calls.mkstrike_glyphs(...this.ofFont(), ppem, mode | PACKED, codes, count, entries, count,
         pixels, BigInt(room), drawn, refused);
       // room for glyphs of the size is mostly enough
-      let room = withPixels ? chars.length * Math.ceil(ppem / 8 + 1) * ppem : 0, pixels = take(room);
+      let room = withPixels ? Math.min(chars.length * Math.ceil(ppem / 8 + 1) * ppem, MOST_ROOM) : 0, pixels = take(room);
       let status = call(pixels, room);
       const due = status || !withPixels ? 0 : this.read('mkstrike_drawn', drawn).bytes;
       if (due > room) status = call(pixels = take(due), room = due);
@@ -229,7 +232,7 @@ export class Mkstrike {
       const told = take(this.size('mkstrike_told')), refused = take(this.size('mkstrike_refused'));
       const call = (out, room) => this.calls.mkstrike_make(...this.ofFont(), ppem, mode, codes, BigInt(chars.length), named,
         BigInt(title.length), out, BigInt(room), told, refused);
-      let room = 4096 + chars.length * (128 + Math.ceil(ppem / 4 + 3) * ppem), out = take(room);
+      let room = Math.min(4096 + chars.length * (128 + Math.ceil(ppem / 4 + 3) * ppem), MOST_ROOM), out = take(room);
       let status = call(out, room);
       const size = status ? 0 : this.read('mkstrike_told', told).bytes;
       if (size > room) status = call(out = take(size), room = size);
@@ -237,11 +240,6 @@ export class Mkstrike {
       return { text: this.bytes(out, size).slice(), told: this.read('mkstrike_told', told) };
     });
   }
-}
-
-// Whether a refusal is of no character alone, but of the font, of its programs, of the request, or of memory.
-export function isOfAll({ glyph, during }) {
-  return glyph === NONE && (during === NONE || during === FPGM || during === PREP);
 }
 
 // Runs of glyphs, one after the other, as one.

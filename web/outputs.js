@@ -75,6 +75,11 @@ export function nameOf(code) {
   return /^[\p{L}\p{N}\p{P}\p{S}]$/u.test(text) ? `${number} ${text}` : number;
 }
 
+// The name of a file as it is shown: a character without a picture, such as the end of a line, by its number.
+export function shownName(name) {
+  return name.replace(/[\p{C}\p{Zl}\p{Zp}]/gu, (it) => `\\u{${it.codePointAt(0).toString(16)}}`);
+}
+
 // The least box that holds the boxes of all glyphs that have pixels: the FONTBOUNDINGBOX of their strike.
 export function boxOf(glyphs) {
   let [left, bottom, right, top] = [Infinity, Infinity, -Infinity, -Infinity];
@@ -178,6 +183,11 @@ export function identifierOf(name) {
   return name.replace(/[^A-Za-z0-9]+/g, '_').replace(/^(?=[0-9]|$)/, 'font_').toLowerCase();
 }
 
+// A text for a comment of C: printable ASCII, and nothing that ends the comment or joins lines.
+function inComment(text) {
+  return text.replace(/[^ -~]|[*/\\?]/gu, '_');
+}
+
 // A strike as a header file for C: the bits of all glyphs, and a table of them in rising order of characters.
 export function arraysForC({ glyphs, pixels }, name, heights, about) {
   const it = identifierOf(name), lines = [];
@@ -185,7 +195,7 @@ export function arraysForC({ glyphs, pixels }, name, heights, about) {
     lines.push(`    ${Array.from(pixels.subarray(at, at + 16), (byte) => `0x${byte.toString(16).padStart(2, '0')},`).join(' ')}`);
   }
   const rows = glyphs.map((g) => `    {0x${g.code.toString(16)}, ${g.width}, ${g.height}, ${g.left}, ${g.bottom}, ${g.dwidth}, ${g.offset}},`);
-  return `/* ${about.replace(/\*\//g, '')}
+  return `/* ${inComment(about)}
  *
  * The rows of a glyph go from the top, each in whole bytes, the leftmost pixel the highest bit. There are (width + 7) / 8 bytes to a
  * row, height rows, and the first byte of the glyph is at offset in ${it}_bits. left and bottom are the column and the row of the

@@ -1,12 +1,14 @@
 // The page: reads the controls, hands jobs to the worker, and draws what comes back.
-import { facesOf, hasMemory64, isOfAll, lineOf, HINTED, DROPOUT, MISSING, DONE, NONE, MOST_PPEM, MOST_BYTES } from './mkstrike.js';
-import { SETS, boxOf, charsOf, charsOfText, curvesOf, eachPixel, identifierOf, listOf, nameOf } from './outputs.js';
-import { REFUSALS } from './refusals.js';
+import { facesOf, hasMemory64, lineOf, HINTED, DROPOUT, DROPOUTS, MISSING, DONE, NONE, MOST_PPEM, MOST_BYTES } from './mkstrike.js';
+import { SETS, boxOf, charsOf, charsOfText, curvesOf, eachPixel, identifierOf, listOf, nameOf, shownName } from './outputs.js';
+import { KINDS, REFUSALS } from './refusals.js';
+import { fromWoff, isWoff } from './woff.js';
 
 const $ = (id) => document.getElementById(id);
 const MOST_TEXT = 4000; // characters that are drawn as a text
 const MOST_FACES = 200; // of a collection, that can be chosen
 const MOST_ROWS = 200; // of the table of refused characters
+const MOST_HIGH = 16e6; // CSS pixels of what can be scrolled: browsers have room for some more
 const PATIENCE = 300; // milliseconds until the progress shows
 
 const state = {
@@ -15,6 +17,7 @@ const state = {
   waits: null, // a timer, until the progress shows
   hasWorked: false, // the worker that is there
   text: null, // what the worker made of the text
+  pictures: {}, // that of the text, and that beside it: what is where in it, and its size
   sheet: { glyphs: [], refused: new Map(), missing: 0, chosen: -1, box: boxOf([]), columns: 1 },
   outline: null, // that of the chosen glyph, or of one before
 };
@@ -50,9 +53,17 @@ function startWorker() {
 
 // ---- fonts
 
+// The bytes of a font's file, or of the font in a WOFF; or an Error with the reason.
+async function bytesOfFile(file) {
+  if (file.size > MOST_BYTES) throw new Error(`73 ${REFUSALS[73].name}, ${REFUSALS[73].means}`);
+  const bytes = await file.arrayBuffer().then((it) => new Uint8Array(it), () => null);
+  if (!bytes) throw new Error('it is a folder, or a file that is gone or locked');
+  return isWoff(bytes) ? fromWoff(bytes, MOST_BYTES) : bytes;
+}
+
 async function takeFile(file) {
-  if (file.size > MOST_BYTES) return showRefusal({ number: 73 }, file.name);
-  takeFont(file.name, new Uint8Array(await file.arrayBuffer()));
+  const bytes = await bytesOfFile(file).catch((fault) => tell('file', `${shownName(file.name)} can’t be read: ${fault.message}.`));
+  if (bytes) takeFont(file.name, bytes);
 }
 
 function handFont() {
@@ -69,7 +80,8 @@ function takeFont(name, bytes) {
 
 function takeFace(name, bytes, face) {
   state.font = { name, bytes, face, chars: null, id: (state.font?.id ?? 0) + 1 };
-  $('font').textContent = `${name}, ${bytes.length.toLocaleString('en')} bytes`;
+  showFont();
+  tell('file');
   const stem = name.replace(/\.[^.]*$/, '').replace(/[^ -~]/g, '_').trim().slice(0, 200);
   $('name').value = stem || 'strike';
   state.sheet.chosen = -1;
@@ -77,15 +89,19 @@ function takeFace(name, bytes, face) {
   draw();
 }
 
+function showFont() {
+  const { name, bytes, chars } = state.font;
+  $('font').textContent = `${shownName(name)}, ${bytes.length.toLocaleString('en')} bytes${chars ? `, ${chars.length.toLocaleString('en')} characters` : ''}`;
+}
+
 // ---- the controls
 
-// A size and a mode as they are chosen, and those beside them; null for what is not there.
-function looks() {
-  const ppem = $('ppem').valueAsNumber, mode = ($('hinted').checked ? HINTED : 0) + ($('dropout').checked ? DROPOUT : 0);
-  if (!(Number.isInteger(ppem) && ppem >= 1 && ppem <= MOST_PPEM)) return null;
+// A size and a mode as they are chosen, and those beside them, or null.
+function looks(ppem) {
+  const mode = ($('hinted').checked ? HINTED : 0) + DROPOUTS[$('dropout').value];
   const other = {
     hinted: { ppem, mode: mode ^ HINTED },
-    dropout: { ppem, mode: mode ^ DROPOUT },
+    dropout: { ppem, mode: (mode & HINTED) + (mode > HINTED ? 0 : DROPOUT) },
     larger: { ppem: Math.min(ppem + 1, MOST_PPEM), mode },
     smaller: { ppem: Math.max(ppem - 1, 1), mode },
     none: null,
@@ -93,43 +109,71 @@ function looks() {
   return { main: { ppem, mode }, other };
 }
 
-const wordsOf = ({ ppem, mode }) => `${ppem} pixels per em, ${mode & HINTED ? 'hinted' : 'unhinted'}${mode & DROPOUT ? ', with drop-out control' : ''}`;
+function wordsOf({ ppem, mode }) {
+  const dropout = Object.keys(DROPOUTS).find((it) => DROPOUTS[it] === (mode & ~HINTED));
+  return `${ppem} pixels per em, ${mode & HINTED ? 'hinted' : 'unhinted'}${dropout === 'off' ? '' : `, drop-out control ${dropout}`}`;
+}
 
-// The characters of the list, or null if it can't be read, which is told.
-function chosenChars() {
+// Says at a field what is wrong with it: nothing, if there is no fault.
+function tell(field, fault = '') {
+  $(`${field}-wrong`).textContent = fault;
+  $(field).setAttribute('aria-invalid', String(fault !== ''));
+}
+
+// What the controls ask for: looks and characters. Or null if a field is wrong, which is said there.
+function request() {
+  if (!state.font) return null;
+  const ppem = $('ppem').valueAsNumber, isSize = Number.isInteger(ppem) && ppem >= 1 && ppem <= MOST_PPEM;
+  if (!isSize) tell('ppem', `The size is a whole number from 1 to ${MOST_PPEM.toLocaleString('en')}.`);
   try {
-    $('chars-wrong').textContent = '';
-    $('chars').removeAttribute('aria-invalid');
-    return charsOf($('chars').value, state.font.chars ?? []);
+    const chars = charsOf($('chars').value, state.font.chars ?? []);
+    return isSize ? { look: looks(ppem), chars } : null;
   } catch (fault) {
-    $('chars-wrong').textContent = fault.message;
-    $('chars').setAttribute('aria-invalid', 'true');
+    tell('chars', fault.message);
     return null;
   }
 }
 
 const wantsAll = () => /(^|[\s,])all([\s,]|$)/i.test($('chars').value);
+const isListing = () => wantsAll() && !state.font.chars;
+
+// Why the strike that was drawn has no glyph, or nothing.
+function whyEmpty({ glyphs, refused, missing }) {
+  if (isListing() || glyphs.some((it) => it.status === DONE)) return '';
+  if (refused.size) return 'The strike has no glyph: the characters are refused.';
+  if (!missing) return 'The strike has no glyph: the list of characters is empty.';
+  return 'The strike has no glyph: the font has none of these characters. Numbers are hexadecimal: the letter A is 41.';
+}
 
 // Hands the worker what the controls say; it drops what it did for older ones.
 function draw() {
-  const look = looks(), chars = state.font && look && chosenChars();
-  if (!chars) return;
+  tell('ppem');
+  tell('chars');
+  const asked = request();
+  if (!asked) return;
+  const { look, chars } = asked;
   const textChars = charsOfText($('text').value).slice(0, MOST_TEXT);
   $('saved').textContent = '';
   state.started = performance.now();
   state.next = { id: ++state.jobs, look: look.main, glyphs: [], refused: new Map(), missing: 0 };
   state.worker.postMessage({ kind: 'draw', id: state.jobs, ...look, textChars, chars });
-  busy(wantsAll() && !state.font.chars ? 'looking which characters the font has' : 'drawing');
+  busy(isListing() ? 'looking which characters the font has' : 'drawing');
 }
 
 function save(what) {
-  const look = looks(), chars = state.font && look && chosenChars();
-  if (!chars) return;
+  const asked = request();
+  if (!asked) return notSaved($('ppem-wrong').textContent || $('chars-wrong').textContent);
+  const { look, chars } = asked;
   const kept = $('leave').checked && !$('leave-row').hidden ? chars.filter((it) => !state.sheet.refused.has(it)) : chars;
   const about = `${state.font.name} at ${wordsOf(look.main)}: made by mkstrike.`;
   $('saved').textContent = '';
   state.worker.postMessage({ kind: 'save', id: state.jobs, what, ...look, chars: kept, name: $('name').value, about });
   busy(`making the ${{ bdf: 'strike', png: 'picture', c: 'arrays' }[what]}`);
+}
+
+function notSaved(why) {
+  putWords($('saved'), `Not saved. ${why}`);
+  document.body.dataset.saved = `refused ${why}`;
 }
 
 // Shows the progress after some time.
@@ -152,7 +196,7 @@ const receive = {
     if (id !== state.font?.id) return;
     state.font.chars = chars;
     document.body.dataset.listed = chars.length;
-    $('font').textContent = `${state.font.name}, ${state.font.bytes.length.toLocaleString('en')} bytes, ${chars.length.toLocaleString('en')} characters`;
+    showFont();
     if (wantsAll()) draw();
   },
 
@@ -160,7 +204,8 @@ const receive = {
     if (data.id !== state.jobs) return;
     state.text = data;
     state.hasWorked = true;
-    for (const it of data.main.glyphs ?? []) if (it.refused) state.next.refused.set(it.code, it.refused);
+    for (const look of [data.main, data.other]) if (look) look.byCode = new Map(look.glyphs.filter((it) => it.status === DONE).map((it) => [it.code, it]));
+    for (const it of data.main.glyphs) if (it.refused) state.next.refused.set(it.code, it.refused);
     drawText();
     document.body.dataset.ms = (performance.now() - state.started).toFixed(1);
     $('status').textContent = `Drawn in ${Math.ceil(performance.now() - state.started)} ms.`;
@@ -181,8 +226,9 @@ const receive = {
 
   drawn({ id, refused }) {
     if (id !== state.jobs) return;
-    if (!wantsAll() || state.font.chars) idle();
+    if (!isListing()) idle();
     if (refused) state.next.glyphs = [];
+    else tell('chars', whyEmpty(state.next));
     showSheet(state.next, true);
     showRefused(refused);
     document.body.dataset.drawn = id;
@@ -203,12 +249,8 @@ const receive = {
 
   saved({ what, bytes, refused }) {
     idle();
-    if (refused) {
-      if (isOfAll(refused)) showRefused(refused);
-      $('saved').textContent = `Not saved: ${lineOf(refused, REFUSALS[refused.number].name)}.`;
-      document.body.dataset.saved = `refused ${refused.number}`;
-      return;
-    }
+    if (refused) return notSaved(`${lineOf(refused, REFUSALS[refused.number].name)}: ${sentenceOf(refused)}`);
+    if (!bytes) return notSaved('The strike has no glyph.');
     const name = what === 'c' ? `${identifierOf($('name').value)}.h` : `${$('name').value.replace(/[\\/:*?"<>|]/g, '_')}.${what}`;
     const link = document.createElement('a');
     link.href = URL.createObjectURL(new Blob([bytes], { type: 'application/octet-stream' }));
@@ -242,24 +284,29 @@ function putWords(element, text) {
 // The words of docs/REFUSALS.md; `g` in them is the glyph.
 function wordsOfRefusal({ number, glyph }) {
   const words = REFUSALS[number];
-  return glyph === undefined || glyph === NONE ? words : { ...words, means: words.means.replace(/\bg\b/g, glyph) };
+  return glyph === NONE ? words : { ...words, means: words.means.replace(/\bg\b/g, glyph) };
 }
 
-function showRefusal(refused, where) {
-  const { name, means, todo } = wordsOfRefusal(refused);
-  $('refused').hidden = false;
-  $('refused-line').firstElementChild.textContent = refused.glyph === undefined ? `${refused.number} ${name}` : lineOf(refused, name);
-  putWords($('refused-text'), `${where ? `${where}: ` : ''}${means}. What to do: ${todo}.`);
+// The same in a sentence; of a file of another kind, what it is.
+function sentenceOf(refused) {
+  const first = Array.from(state.font.bytes.subarray(0, 8), (it) => it.toString(16).padStart(2, '0')).join('');
+  const kind = refused.number === 10 && KINDS.find(({ begins }) => (begins ? first.startsWith(begins) : !first));
+  if (kind) return `the file ${kind.seems}: ${kind.todo}.`;
+  const { means, todo } = wordsOfRefusal(refused);
+  return `${means}. What to do: ${todo}.`;
 }
 
+// Shows what was refused: all, or some characters.
 function showRefused(ofAll) {
-  const each = [...state.next.refused].sort(([one], [other]) => one - other);
+  const each = ofAll ? [] : [...state.next.refused].sort(([one], [other]) => one - other);
   $('refused').hidden = !ofAll && !each.length;
-  $('leave-row').hidden = Boolean(ofAll) || !each.length;
-  $('refused-table').hidden = Boolean(ofAll) || !each.length;
-  $('refused-more').textContent = each.length > MOST_ROWS && !ofAll ? `and ${each.length - MOST_ROWS} more` : '';
-  if (ofAll) return showRefusal(ofAll, state.font.name);
-  if (!each.length) return;
+  $('leave-row').hidden = $('refused-table').hidden = !each.length;
+  $('refused-more').textContent = each.length > MOST_ROWS ? `and ${each.length - MOST_ROWS} more` : '';
+  if (ofAll) {
+    $('refused-line').firstElementChild.textContent = lineOf(ofAll, REFUSALS[ofAll.number].name);
+    putWords($('refused-text'), `${shownName(state.font.name)}: ${sentenceOf(ofAll)}`);
+    return;
+  }
   $('refused-line').firstElementChild.textContent = listOf(each.map(([code]) => code));
   const count = each.length === 1 ? '1 character is' : `${each.length.toLocaleString('en')} characters are`;
   $('refused-text').textContent = `${count} refused at this size. A strike with them can’t be saved.`;
@@ -277,121 +324,182 @@ const colour = (name) => getComputedStyle(document.documentElement).getPropertyV
 // A colour as the four bytes of a pixel.
 function word(name) {
   const [r, g, b] = colour(name).slice(1).match(/../g).map((it) => parseInt(it, 16));
-  return (255 << 24) | (b << 16) | (g << 8) | r;
+  return ((255 << 24) | (b << 16) | (g << 8) | r) >>> 0;
 }
 
-// Shows rows of words as squares of `zoom` CSS pixels on a canvas, with lines between them if they are large.
-function paint(canvas, words, columns, rows, zoom) {
-  const ratio = devicePixelRatio || 1, side = Math.max(1, Math.round(zoom * ratio));
-  const small = new OffscreenCanvas(Math.max(columns, 1), Math.max(rows, 1)), context = canvas.getContext('2d');
-  if (columns && rows) small.getContext('2d').putImageData(new ImageData(new Uint8ClampedArray(words.buffer), columns, rows), 0, 0);
-  canvas.width = Math.max(columns, 1) * side;
-  canvas.height = Math.max(rows, 1) * side;
-  canvas.style.width = `${canvas.width / ratio}px`;
-  context.imageSmoothingEnabled = false;
-  context.drawImage(small, 0, 0, canvas.width, canvas.height);
-  if (side >= 6) {
+const ratio = () => devicePixelRatio || 1;
+
+// The side of a pixel in device pixels, at a zoom in CSS pixels.
+const sideOf = (zoom) => Math.max(1, Math.round(zoom * ratio()));
+
+// Draws words, each a square of `side` device pixels, on a canvas of a size, from a place on; with lines between them if they are large.
+function paint(canvas, width, height, { words, columns, rows }, side, x = 0, y = 0) {
+  Object.assign(canvas, { width, height });
+  Object.assign(canvas.style, { width: `${width / ratio()}px`, height: `${height / ratio()}px` });
+  const context = canvas.getContext('2d');
+  if (!columns || !rows) return context;
+  const small = new OffscreenCanvas(columns, rows);
+  small.getContext('2d').putImageData(new ImageData(new Uint8ClampedArray(words.buffer), columns, rows), 0, 0);
+  context.imageSmoothingEnabled = side < 1;
+  context.drawImage(small, x, y, columns * side, rows * side);
+  if (side >= 6 * ratio()) {
     context.fillStyle = colour('grid');
-    for (let x = 0; x <= columns; x++) context.fillRect(x * side, 0, 1, canvas.height);
-    for (let y = 0; y <= rows; y++) context.fillRect(0, y * side, canvas.width, 1);
+    for (let k = 0; k <= columns; k++) context.fillRect(x + k * side, 0, 1, height);
+    for (let k = 0; k <= rows; k++) context.fillRect(0, y + k * side, width, 1);
   }
-  return { context, side };
+  return context;
 }
 
-// Where each glyph of a text is in a width: its origin's column, and the row of its line's baseline, counted from the top.
-function layOut(text, look, width) {
-  const byCode = new Map(look.glyphs.map((it) => [it.code, it]));
-  const missing = { code: 0, width: 0, height: 0, dwidth: Math.max(2, look.ppem >> 1), isMissing: true };
-  const glyphOf = (code) => {
-    const found = byCode.get(code);
-    return found && found.status === DONE ? found : missing;
+// Shows what is in sight of a picture in its scroll box, and returns that; `part` makes a part of the picture.
+function paintInSight(canvas, columns, rows, side, part) {
+  const whole = canvas.parentElement, box = whole.parentElement;
+  whole.style.width = `${(columns * side) / ratio()}px`;
+  whole.style.height = `${Math.min((rows * side) / ratio(), MOST_HIGH)}px`;
+  const [x, y] = [box.scrollLeft, box.scrollTop].map((it) => Math.round(it * ratio()));
+  const width = Math.min(Math.ceil(box.clientWidth * ratio()), columns * side - x);
+  const height = Math.min(Math.ceil(box.clientHeight * ratio()), rows * side - y);
+  const left = Math.floor(x / side), top = Math.floor(y / side);
+  const shown = part(left, top, Math.ceil((x + width) / side) - left, Math.ceil((y + height) / side) - top);
+  paint(canvas, width, height, shown, side, left * side - x, top * side - y);
+  return shown;
+}
+
+// A part of a picture: its words, and how one is set by its place in the whole.
+function partAt(left, top, columns, rows, fill = 0) {
+  const words = new Uint32Array(columns * rows).fill(fill);
+  const set = (x, y, it) => {
+    if (x >= left && x < left + columns && y >= top && y < top + rows) words[(y - top) * columns + x - left] = it;
   };
-  const line = look.heights.ascent + look.heights.descent, placed = [];
-  let row = look.heights.ascent, pen = 0, widest = 0;
+  return { words, columns, rows, set };
+}
+
+// Where each character of a text is in a width: its origin's column, and the row of its line's baseline, counted from the top. One that the
+// look has no glyph of has a frame of a width.
+function layOut(text, look, width) {
+  const line = look.heights.ascent + look.heights.descent, frame = Math.max(2, look.ppem >> 1), placed = [];
+  let row = look.heights.ascent, pen = 0;
+  const advanceOf = (code) => look.byCode.get(code)?.dwidth ?? frame;
   for (const part of text.slice(0, MOST_TEXT).split(/(\n|[^\S\n]+)/)) {
     if (part === '\n') {
       [pen, row] = [0, row + line];
       continue;
     }
-    const word = Array.from(part.replace(/\r/g, ''), (it) => glyphOf(it.codePointAt(0)));
-    const long = word.reduce((sum, it) => sum + it.dwidth, 0);
+    const word = Array.from(part.replace(/\r/g, ''), (it) => it.codePointAt(0));
+    const long = word.reduce((sum, it) => sum + advanceOf(it), 0);
     if (pen > 0 && pen + long > width && part.trim()) [pen, row] = [0, row + line];
-    for (const glyph of word) {
-      if (pen > 0 && pen + glyph.dwidth > width && part.trim()) [pen, row] = [0, row + line];
-      placed.push({ glyph, column: pen, row });
-      pen += glyph.dwidth;
-      widest = Math.max(widest, pen);
+    for (const code of word) {
+      const advance = advanceOf(code);
+      if (pen > 0 && pen + advance > width && part.trim()) [pen, row] = [0, row + line];
+      placed.push({ code, column: pen, row, advance, frame: look.byCode.has(code) ? 0 : frame });
+      pen += advance;
     }
   }
-  return { placed, widest, rows: row + look.heights.descent };
+  return placed;
 }
 
-// The pixels of a laid-out text: a box of columns and rows, and a byte for each pixel.
-function pixelsOf({ placed, widest, rows }, look) {
-  const byCode = new Map(look.glyphs.map((it) => [it.code, it]));
-  let [left, top, right, bottom] = [0, 0, widest, rows];
-  const glyphs = placed.map((it) => ({ ...it, glyph: it.glyph.isMissing ? it.glyph : byCode.get(it.glyph.code) }));
-  for (const { glyph, column, row } of glyphs) {
-    if (!glyph?.width) continue;
-    left = Math.min(left, column + glyph.left);
-    right = Math.max(right, column + glyph.left + glyph.width);
-    top = Math.min(top, row - glyph.bottom - glyph.height);
-    bottom = Math.max(bottom, row - glyph.bottom);
+// The least box of columns and rows that holds a text's glyphs, its lines and their advances.
+function boxOfText(placed, { byCode, heights: { ascent, descent } }) {
+  let [left, top, right, bottom] = [0, 0, 0, 0];
+  for (const { code, column, row, advance } of [...placed, { column: 0, row: ascent, advance: 0 }]) {
+    const { left: by = 0, bottom: up = 0, width = 0, height = 0 } = byCode.get(code) ?? {};
+    left = Math.min(left, column + by);
+    right = Math.max(right, column + advance, column + by + width);
+    top = Math.min(top, row - up - height);
+    bottom = Math.max(bottom, row + descent, row - up);
   }
-  const columns = right - left, bits = new Uint8Array(columns * (bottom - top));
-  for (const { glyph, column, row } of glyphs) {
-    if (!glyph) continue;
-    if (glyph.isMissing) {
-      for (let x = 1; x < glyph.dwidth; x++) for (const y of [row - 1, row - look.heights.ascent]) bits[(y - top) * columns + column + x - left] = 2;
-      for (let y = row - look.heights.ascent; y < row; y++) for (const x of [1, glyph.dwidth - 1]) bits[(y - top) * columns + column + x - left] = 2;
-      continue;
-    }
-    const x0 = column + glyph.left - left, y0 = row - glyph.bottom - glyph.height - top;
-    eachPixel(glyph, look.pixels, (x, y) => (bits[(y0 + y) * columns + x0 + x] = 1));
-  }
-  return { left, top, columns, rows: bottom - top, bits };
+  return { left, top, columns: right - left, rows: bottom - top };
 }
 
-// Draws the text, and beside it the same in another way.
-function drawText() {
-  const { main, other } = state.text, zoom = Number($('zoom').value), text = $('text').value;
-  $('other-figure').hidden = !other;
-  if (main.refused || other?.refused) {
-    for (const [id, look] of [['main', main], ['other', other]]) {
-      if (!look) continue;
-      paint($(id), new Uint32Array(0), 0, 0, 1);
-      const { number } = look.refused ?? { number: 0 };
-      $(`${id}-caption`).textContent = number ? `refused: ${number} ${REFUSALS[number].name}` : wordsOf(look);
+// A part of a text: 1 for ink, and 2 for the frame of a character without a glyph.
+function partOfText(placed, { byCode, pixels, heights: { ascent } }, ...place) {
+  const part = partAt(...place), [, top, , rows] = place;
+  for (const { code, column, row, frame } of placed) {
+    const glyph = byCode.get(code);
+    if (frame) {
+      for (let x = 1; x < frame; x++) for (const y of [row - 1, row - ascent]) part.set(column + x, y, 2);
+      for (let y = row - ascent; y < row; y++) for (const x of [1, frame - 1]) part.set(column + x, y, 2);
+    } else if (glyph && row - glyph.bottom > top && row - glyph.bottom - glyph.height < top + rows) {
+      eachPixel(glyph, pixels, (x, y) => part.set(column + glyph.left + x, row - glyph.bottom - glyph.height + y, 1));
     }
-    if (main.refused) return;
   }
-  const width = Math.max(8, Math.floor((document.querySelector('.pair').clientWidth - 2) / zoom));
-  const marks = $('differences').checked && other && !other.refused && other.ppem === main.ppem;
-  const first = layOut(text, main, width), one = pixelsOf(first, main);
-  const two = other && !other.refused ? pixelsOf(marks ? first : layOut(text, other, width), other) : null;
-  let differ = 0;
-  const show = (id, look, own, against) => {
-    const words = new Uint32Array(own.columns * own.rows).fill(word('paper')), ink = word('ink'), only = word('only');
-    own.bits.forEach((bit, at) => {
-      if (!bit) return;
-      const x = (at % own.columns) + own.left - (against?.left ?? 0), y = Math.floor(at / own.columns) + own.top - (against?.top ?? 0);
-      const isInside = against && x >= 0 && y >= 0 && x < against.columns && y < against.rows;
-      const isOnly = against && !(isInside && against.bits[y * against.columns + x]);
-      if (isOnly) differ++;
-      words[at] = isOnly || bit === 2 ? only : ink;
-    });
-    paint($(id), words, own.columns, own.rows, zoom);
-    $(`${id}-caption`).textContent = `${wordsOf(look)}: ${own.columns} × ${own.rows} pixels`;
+  return part;
+}
+
+// How many pixels of a text's glyphs only one of two looks sets.
+function differencesOf(placed, ...looks) {
+  const known = new Map();
+  const count = (code) => {
+    const box = boxOf(looks.flatMap((look) => look.byCode.get(code) ?? [])), bits = new Uint8Array(box.width * box.height);
+    let sum = 0;
+    for (const { byCode, pixels } of looks) {
+      const glyph = byCode.get(code);
+      if (!glyph) continue;
+      const from = (box.bottom + box.height - glyph.bottom - glyph.height) * box.width + glyph.left - box.left;
+      eachPixel(glyph, pixels, (x, y) => (sum += (bits[from + y * box.width + x] ^= 1) ? 1 : -1));
+    }
+    return sum;
   };
-  show('main', main, one, marks ? two : null);
-  if (two) show('other', other, two, marks ? one : null);
-  if (marks) $('other-caption').textContent += `; ${differ.toLocaleString('en')} pixels differ, at the advances of the first`;
+  return placed.reduce((sum, { code, frame }) => {
+    if (!known.has(code)) known.set(code, frame ? 0 : count(code));
+    return sum + known.get(code);
+  }, 0);
+}
+
+// Lays out the text, and beside it the same in another way.
+function drawText() {
+  const { main, other } = state.text, text = $('text').value, side = sideOf(Number($('zoom').value));
+  const width = Math.max(8, Math.floor(($('main').closest('.sight').clientWidth * ratio()) / side));
+  const marks = $('differences').checked && other && !main.refused && !other.refused && other.ppem === main.ppem;
+  $('other-figure').hidden = !other;
+  state.pictures = {};
+  for (const [id, look, against] of [['main', main, other], ['other', other, main]]) {
+    if (!look) continue;
+    let words = wordsOf(look);
+    if (look.refused) {
+      words = `refused: ${look.refused.number} ${REFUSALS[look.refused.number].name}`;
+      state.pictures[id] = { columns: 0, rows: 0, side, placed: [], look };
+    } else {
+      const placed = layOut(text, marks ? main : look, width), box = boxOfText(placed, look);
+      state.pictures[id] = { ...box, side, placed, look, against: marks ? against : null };
+      words += `: ${box.columns} × ${box.rows} pixels`;
+      if (box.rows * side / ratio() > MOST_HIGH) words += ', of which the first rows are shown';
+      if (marks && id === 'other') words += `; ${differencesOf(placed, main, other).toLocaleString('en')} pixels differ, at the advances of the first`;
+    }
+    $(`${id}-caption`).textContent = words;
+  }
+  for (const id of Object.keys(state.pictures)) if (!showText(id)) seekInk(id);
   const absent = main.glyphs.filter((it) => it.status === MISSING).map((it) => nameOf(it.code));
   const refused = main.glyphs.filter((it) => it.refused).map((it) => nameOf(it.code));
   $('text-missing').textContent = [
     absent.length ? `Not in the font: ${absent.slice(0, 40).join(', ')}${absent.length > 40 ? ' …' : ''}.` : '',
     refused.length ? `Refused: ${refused.slice(0, 40).join(', ')}${refused.length > 40 ? ' …' : ''}.` : '',
   ].join(' ').trim();
+}
+
+// Draws what is in sight of the text, or of the other; returns whether any ink is.
+function showText(id) {
+  const { left, top, columns, rows, side, placed, look, against } = state.pictures[id], [paper, ink, only] = ['paper', 'ink', 'only'].map(word);
+  const shown = paintInSight($(id), columns, rows, side, (x, y, ...size) => {
+    const [part, other] = [look, against].map((it) => it && partOfText(placed, it, left + x, top + y, ...size));
+    part.words.forEach((it, at) => {
+      part.words[at] = !it ? paper : it === 2 || (other && !other.words[at]) ? only : ink;
+    });
+    return part;
+  });
+  return shown.words.some((it) => it !== paper);
+}
+
+function showTexts() {
+  Object.keys(state.pictures).forEach(showText);
+}
+
+// Scrolls the text, or the other, to its first pixel, which has it drawn.
+function seekInk(id) {
+  const { left, top, side, placed, look } = state.pictures[id], box = $(id).closest('.sight');
+  const first = placed.find(({ code }) => look.byCode.get(code)?.width), glyph = first && look.byCode.get(first.code);
+  let place = null;
+  if (glyph) eachPixel(glyph, look.pixels, (x, y) => (place ??= [first.column + glyph.left + x - left, first.row - glyph.bottom - glyph.height + y - top]));
+  if (place) box.scrollTo(...place.map((it, k) => (it * side) / ratio() - (k ? box.clientHeight : box.clientWidth) / 2));
 }
 
 // Takes over a sheet, or the part of one that is there; its glyphs are in the order of their characters.
@@ -410,68 +518,66 @@ function showSheet(next, isWhole) {
   if (sheet.chosen < 0) sheet.chosen = sheet.glyphs.findIndex((it) => it.code === 0x41 && it.width);
   if (sheet.chosen < 0) sheet.chosen = sheet.glyphs.findIndex((it) => it.width);
   sheet.chosen = Math.min(sheet.chosen, sheet.glyphs.length - 1);
-  requestSheet();
+  soon(isWhole ? drawNewSheet : drawSheet);
   drawGlyph();
 }
 
-let isDue = false;
-function requestSheet() {
-  if (isDue) return;
-  isDue = true;
-  requestAnimationFrame(() => {
-    isDue = false;
-    drawSheet();
+// Has something drawn with the next picture of the screen, once.
+const due = new Set();
+function soon(work) {
+  if (!due.size) requestAnimationFrame(() => {
+    const all = [...due];
+    due.clear();
+    all.forEach((it) => it());
   });
+  due.add(work);
 }
 
-// The sides of a cell and of a pixel of the sheet, in CSS pixels, and how many cells are in a row.
+// The cells of the sheet: their sides in pixels, that of a pixel in device pixels, and how many cells are in a row and in a column.
 function measureSheet() {
-  const { box } = state.sheet, width = $('sheet-scroll').clientWidth;
-  const zoom = Math.max(1, Math.min(Number($('zoom').value), 4, Math.floor(72 / Math.max(box.width, box.height, 8)) || 1));
-  const across = box.width + 4, down = box.height + 4, columns = Math.max(1, Math.floor(width / (across * zoom)));
-  return { zoom, across, down, columns, rows: Math.ceil(state.sheet.glyphs.length / columns), width };
+  const { box, glyphs } = state.sheet, zoom = Math.min(Number($('zoom').value), 4, Math.floor(72 / Math.max(box.width, box.height, 8)));
+  const side = sideOf(zoom), across = box.width + 4, down = box.height + 4;
+  const columns = Math.max(1, Math.floor(($('sheet-scroll').clientWidth * ratio()) / (across * side)));
+  return { side, across, down, columns, rows: Math.ceil(glyphs.length / columns) };
 }
 
-// Draws the rows of the sheet that can be seen.
+// Draws what is in sight of the sheet; returns whether any ink is.
 function drawSheet() {
-  const { glyphs, box, chosen } = state.sheet, { zoom, across, down, columns, rows } = measureSheet(), scroll = $('sheet-scroll');
-  state.sheet.columns = columns;
-  $('sheet-height').style.height = `${rows * down * zoom}px`;
-  const first = Math.floor(scroll.scrollTop / (down * zoom)), shown = Math.ceil(scroll.clientHeight / (down * zoom)) + 1;
-  const wide = Math.max(columns * across, 1), high = shown * down;
-  const words = new Uint32Array(wide * high).fill(word('paper')), ink = word('ink'), wrong = word('base'), mark = word('chosen');
-  glyphs.slice(first * columns, (first + shown) * columns).forEach((glyph, at) => {
-    const x = (at % columns) * across, y = Math.floor(at / columns) * down;
-    if (first * columns + at === chosen) for (let row = 0; row < down; row++) words.fill(mark, (y + row) * wide + x, (y + row) * wide + x + across);
+  const { glyphs, box, chosen } = state.sheet, { side, across, down, columns, rows } = measureSheet();
+  const [paper, ink, wrong, mark] = ['paper', 'ink', 'base', 'chosen'].map(word);
+  const drawCell = (glyph, x, y, isChosen, set) => {
+    if (isChosen) for (let k = 0; k < across * down; k++) set(x + (k % across), y + Math.floor(k / across), mark);
     if (glyph.refused) {
-      for (let k = 2; k < Math.min(across, down) - 2; k++) words[(y + k) * wide + x + k] = words[(y + k) * wide + x + across - 1 - k] = wrong;
+      for (let k = 2; k < Math.min(across, down) - 2; k++) for (const it of [k, across - 1 - k]) set(x + it, y + k, wrong);
       return;
     }
-    const x0 = x + 2 + glyph.left - box.left, y0 = y + 2 + box.bottom + box.height - glyph.bottom - glyph.height;
-    eachPixel(glyph, glyph.pixels, (column, row) => (words[(y0 + row) * wide + x0 + column] = ink));
+    eachPixel(glyph, glyph.pixels, (column, row) => set(x + 2 + glyph.left - box.left + column,
+      y + 2 + box.bottom + box.height - glyph.bottom - glyph.height + row, ink));
+  };
+  const shown = paintInSight($('sheet'), columns * across, rows * down, side, (left, top, wide, high) => {
+    const part = partAt(left, top, wide, high, paper);
+    for (let row = Math.floor(top / down); row * down < top + high; row++) {
+      glyphs.slice(row * columns, (row + 1) * columns).forEach((glyph, k) => drawCell(glyph, k * across, row * down, row * columns + k === chosen, part.set));
+    }
+    return part;
   });
-  const ratio = devicePixelRatio || 1, side = Math.max(1, Math.round(zoom * ratio)), canvas = $('sheet'), context = canvas.getContext('2d');
-  const small = new OffscreenCanvas(wide, high);
-  small.getContext('2d').putImageData(new ImageData(new Uint8ClampedArray(words.buffer), wide, high), 0, 0);
-  canvas.width = scroll.clientWidth * ratio;
-  canvas.height = scroll.clientHeight * ratio;
-  canvas.style.width = `${scroll.clientWidth}px`;
-  canvas.style.height = `${scroll.clientHeight}px`;
-  context.imageSmoothingEnabled = false;
-  context.fillStyle = colour('paper');
-  context.fillRect(0, 0, canvas.width, canvas.height);
-  context.drawImage(small, 0, (first * down * zoom - scroll.scrollTop) * ratio, wide * side, high * side);
+  return shown.words.some((it) => it !== paper);
+}
+
+// Draws a sheet that was not there before: of large glyphs the first in sight may be a blank.
+function drawNewSheet() {
+  if (!drawSheet()) choose(state.sheet.chosen);
 }
 
 // Chooses the glyph at a place in the sheet, and brings it into sight.
 function choose(at) {
-  const { glyphs } = state.sheet, { down, zoom, columns } = measureSheet(), scroll = $('sheet-scroll');
+  const { glyphs } = state.sheet, { down, side, columns } = measureSheet(), scroll = $('sheet-scroll');
   if (!glyphs.length) return;
   state.sheet.chosen = Math.max(0, Math.min(at, glyphs.length - 1));
-  const top = Math.floor(state.sheet.chosen / columns) * down * zoom, bottom = top + down * zoom;
+  const high = (down * side) / ratio(), top = Math.floor(state.sheet.chosen / columns) * high, bottom = top + high;
   if (top < scroll.scrollTop) scroll.scrollTop = top;
   if (bottom > scroll.scrollTop + scroll.clientHeight) scroll.scrollTop = bottom - scroll.clientHeight;
-  requestSheet();
+  soon(drawSheet);
   drawGlyph();
 }
 
@@ -485,9 +591,9 @@ function outlineOf({ code }) {
 
 // Draws an outline on pixels whose column and row 0 begin at `left` and `top`: its lines and arcs, and its points, filled if on the curve.
 function drawOutline(context, outline, left, top, side) {
-  const place = ({ x, y }) => [(x / 64 - left) * side, (top - y / 64) * side], ratio = devicePixelRatio || 1;
+  const place = ({ x, y }) => [(x / 64 - left) * side, (top - y / 64) * side];
   context.strokeStyle = context.fillStyle = colour('curve');
-  context.lineWidth = Math.max(1.5, 1.5 * ratio);
+  context.lineWidth = Math.max(1.5, 1.5 * ratio());
   context.setLineDash([]);
   for (const { start, pieces } of curvesOf(outline)) {
     context.beginPath();
@@ -501,7 +607,7 @@ function drawOutline(context, outline, left, top, side) {
   }
   for (const point of outline.points) {
     context.beginPath();
-    context.arc(...place(point), 3 * ratio, 0, 2 * Math.PI);
+    context.arc(...place(point), 3 * ratio(), 0, 2 * Math.PI);
     if (point.on) context.fill();
     else context.stroke();
   }
@@ -512,20 +618,19 @@ function drawGlyph() {
   const glyph = state.sheet.glyphs[state.sheet.chosen], numbers = $('glyph-numbers');
   if (!glyph || glyph.refused) {
     $('glyph-name').textContent = glyph ? `${nameOf(glyph.code)}: refused, ${lineOf(glyph.refused, REFUSALS[glyph.refused.number].name)}` : 'no glyph';
-    paint($('glyph'), new Uint32Array(0), 0, 0, 1);
+    paint($('glyph'), 0, 0, partAt(0, 0, 0, 0), 1);
     return numbers.replaceChildren();
   }
   const { box } = state.sheet, margin = 1;
   const left = Math.min(box.left, glyph.left, 0) - margin, right = Math.max(box.left + box.width, glyph.left + glyph.width, glyph.dwidth) + margin;
   const bottom = Math.min(box.bottom, glyph.bottom, 0) - margin, top = Math.max(box.bottom + box.height, glyph.bottom + glyph.height) + margin;
-  const columns = right - left, rows = top - bottom, room = Math.min($('one').clientWidth || 320, 352);
-  const words = new Uint32Array(columns * rows).fill(word('paper')), ink = word('ink');
+  const columns = right - left, rows = top - bottom, fit = Math.min(Math.min($('one').clientWidth || 320, 352) / columns, 420 / rows) * ratio();
+  const side = fit < 1 ? fit : Math.floor(fit), part = partAt(0, 0, columns, rows, word('paper')), ink = word('ink');
   const x0 = glyph.left - left, y0 = top - glyph.bottom - glyph.height;
-  eachPixel(glyph, glyph.pixels, (x, y) => (words[(y0 + y) * columns + x0 + x] = ink));
-  const zoom = Math.max(1, Math.floor(Math.min(room / columns, 420 / rows)));
-  const { context, side } = paint($('glyph'), words, columns, rows, zoom);
+  eachPixel(glyph, glyph.pixels, (x, y) => part.set(x0 + x, y0 + y, ink));
+  const context = paint($('glyph'), Math.ceil(columns * side), Math.ceil(rows * side), part, side);
   $('glyph').dataset.place = `${left} ${top} ${side}`;
-  const thick = Math.max(2, Math.round(2 * (devicePixelRatio || 1)));
+  const thick = Math.max(2, Math.round(2 * ratio()));
   const line = (name, dashes, from, to) => {
     context.strokeStyle = colour(name);
     context.lineWidth = thick;
@@ -567,10 +672,11 @@ function listen() {
   const redraw = () => {
     $('zoom-value').value = $('zoom').value;
     if (state.text) drawText();
-    requestSheet();
+    soon(drawSheet);
     drawGlyph();
   };
   for (const id of ['zoom', 'differences']) on(id, 'input', redraw);
+  document.querySelectorAll('.pair .sight').forEach((it) => it.addEventListener('scroll', () => soon(showTexts)));
   on('set', 'change', () => {
     const added = $('set').value === 'text' ? listOf(charsOfText($('text').value)) : $('set').value;
     if (added) $('chars').value = [$('chars').value.trim().replace(/,$/, ''), added].filter(Boolean).join(', ');
@@ -587,10 +693,10 @@ function listen() {
   on('file', 'change', () => $('file').files.length && takeFile($('file').files[0]));
   on('face', 'input', () => takeFace(state.font.name, state.font.bytes, Number($('face').value)));
   on('own', 'click', async () => takeFont('sample.ttf', await bytesOf('sample', 'sample.ttf')));
-  on('sheet-scroll', 'scroll', requestSheet);
+  on('sheet-scroll', 'scroll', () => soon(drawSheet));
   on('sheet', 'click', (event) => {
-    const { across, down, zoom, columns } = measureSheet();
-    const column = Math.floor(event.offsetX / (across * zoom)), row = Math.floor((event.offsetY + $('sheet-scroll').scrollTop) / (down * zoom));
+    const { across, down, side, columns } = measureSheet(), scroll = $('sheet-scroll');
+    const [column, row] = [(event.offsetX + scroll.scrollLeft) / across, (event.offsetY + scroll.scrollTop) / down].map((it) => Math.floor((it * ratio()) / side));
     if (column < columns && row * columns + column < state.sheet.glyphs.length) choose(row * columns + column);
   });
   on('sheet-scroll', 'keydown', (event) => {

@@ -1,4 +1,4 @@
-// The table of docs/REFUSALS.md, by number. Made by tools/make_web.
+// The tables of docs/REFUSALS.md, the refusals by number. Made by tools/make_web.
 export const REFUSALS = {
   10: {"name": "NotTrueType", "means": "the directory is cut, or its version is neither 1.0 nor `true`; or a collection's header is cut, or its version is neither 1.0 nor 2.0", "todo": "give a TrueType font: `OTTO` (CFF) and an empty input are not read"},
   11: {"name": "TableMissing", "means": "a required table is not in the directory", "todo": "the font is damaged, or no TrueType font with outlines"},
@@ -42,3 +42,25 @@ export const REFUSALS = {
   73: {"name": "InputTooLarge", "means": "the input has more than 67,108,864 bytes", "todo": "no font of that size is read"},
   90: {"name": "OutOfMemory", "means": "memory was refused", "todo": "free memory, or ask for fewer characters or a smaller size"},
 };
+
+// Files of another kind, by their first bytes.
+export const KINDS = [
+  {"begins": "", "seems": "is empty", "todo": "give a TrueType font"},
+  {"begins": "4f54544f", "seems": "looks like an OpenType font with CFF outlines, which is not read", "todo": "give a TrueType font"},
+  {"begins": "74746366", "seems": "looks like a collection of fonts", "todo": "it is cut, or this one is no TrueType font"},
+  {"begins": "774f4646", "seems": "looks like a WOFF font, which is not read", "todo": "unpack it to a .ttf file first"},
+  {"begins": "774f4632", "seems": "looks like a WOFF2 font, which is not read", "todo": "unpack it to a .ttf file first"},
+  {"begins": "1f8b", "seems": "looks like gzip data", "todo": "unpack it first, as by gunzip"},
+  {"begins": "504b0304", "seems": "looks like a zip archive", "todo": "unpack it first"},
+  {"begins": "25504446", "seems": "looks like a PDF", "todo": "give a TrueType font"},
+  {"begins": "5354415254464f4e", "seems": "looks like a BDF font", "todo": "it is a bitmap font already"},
+  {"begins": "8001", "seems": "looks like a Type 1 font, which is not read", "todo": "give a TrueType font"},
+  {"begins": "25215053", "seems": "looks like a Type 1 font, which is not read", "todo": "give a TrueType font"},
+  {"begins": "01666370", "seems": "looks like a PCF font", "todo": "it is a bitmap font already; pcf2bdf or FontForge make BDF of it"},
+  {"begins": "76657273696f6e20", "seems": "is a pointer of Git LFS", "todo": "get the font itself by git lfs pull"},
+  {"begins": "3c", "seems": "looks like a web page or XML", "todo": "give a TrueType font"},
+  {"begins": "0000010000", "seems": "looks like a Macintosh font (.dfont)", "todo": "FontForge or fondu take the .ttf out"},
+  {"begins": "89504e47", "seems": "looks like a PNG picture", "todo": "give a TrueType font"},
+  {"begins": "00010000", "seems": "begins like a TrueType font, but is shorter than its directory", "todo": "it is cut"},
+  {"begins": "74727565", "seems": "begins like a TrueType font, but is shorter than its directory", "todo": "it is cut"},
+];

@@ -1,5 +1,5 @@
 // Makes strikes beside the page, so that the page stays usable: it hands over jobs, and gets back glyphs part by part.
-import { Mkstrike, isOfAll, joined, DONE } from './mkstrike.js';
+import { Mkstrike, joined, DONE } from './mkstrike.js';
 import { sheetPng, sheetSize, arraysForC, boxOf } from './outputs.js';
 
 const SLICE = 25; // milliseconds of work between two looks for messages
@@ -49,12 +49,10 @@ function* parts(ppem, mode, chars) {
   }
 }
 
-// The glyphs of a text's characters at a size and a mode, by code point, and the heights.
+// The glyphs of a text's characters at a size and a mode, and the heights.
 function lookOf({ ppem, mode }, chars) {
-  const heights = mkstrike.heights(ppem);
-  if (heights.refused) return { refused: heights.refused };
-  const made = chars.length ? mkstrike.glyphs(ppem, mode, chars) : { glyphs: [], pixels: new Uint8Array(0) };
-  return { ppem, mode, heights, ...made };
+  const heights = mkstrike.heights(ppem), made = heights.refused || !chars.length ? heights : mkstrike.glyphs(ppem, mode, chars);
+  return { ppem, mode, heights, refused: made.refused, glyphs: made.glyphs ?? [], pixels: made.pixels };
 }
 
 async function* draw({ id, main, other, textChars, chars }) {
@@ -62,9 +60,9 @@ async function* draw({ id, main, other, textChars, chars }) {
   const look = lookOf(main, textChars);
   told({ kind: 'text', main: look, other: other && lookOf(other, textChars), took: performance.now() - start });
   yield;
-  let refused = look.refused && isOfAll(look.refused) ? look.refused : null;
+  let { refused } = look; // of all characters: one that is refused has that in its glyph
   for (const part of refused ? [] : parts(main.ppem, main.mode, chars)) {
-    refused = part.refused ?? null;
+    ({ refused } = part);
     if (!refused) told({ kind: 'sheet', glyphs: part.glyphs, pixels: part.pixels, done: part.from, total: chars.length });
     yield;
   }
@@ -93,8 +91,8 @@ async function* save({ id, what, main, chars, name, about }) {
   postMessage({ kind: 'progress', id, done: 0, total: 0 });
   yield;
   if (what === 'bdf') {
-    const made = mkstrike.make(main.ppem, main.mode, chars, name);
-    return made.refused ? told({ refused: made.refused }) : told({ bytes: made.text }, [made.text.buffer]);
+    const { refused, told: counts, text } = mkstrike.make(main.ppem, main.mode, chars, name);
+    return refused || !counts.glyphs ? told({ refused }) : told({ bytes: text }, [text.buffer]);
   }
   const all = [];
   for (const part of parts(main.ppem, main.mode, chars)) {
@@ -106,6 +104,7 @@ async function* save({ id, what, main, chars, name, about }) {
   }
   const made = joined(all);
   made.glyphs = made.glyphs.filter((it) => it.status === DONE);
+  if (!made.glyphs.length) return told({});
   if (what === 'c') {
     const text = arraysForC(made, name, mkstrike.heights(main.ppem), about);
     return told({ bytes: new TextEncoder().encode(text) });

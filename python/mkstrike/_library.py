@@ -22,6 +22,7 @@ HINTED, DROPOUT = 1, {False: 0, True: 2, "left": 2, "near": 4, "font": 8}  # the
 NONE = 0xFFFFFFFF  # in a refusal: no glyph, no program, no character
 PROGRAMS = {0x10000: "fpgm", 0x10001: "prep"}  # the programs that belong to no glyph
 MOST_SIZE, MOST_CODE, MOST_FACE, MOST_CHARS = 1024, 0x10FFFF, 0xFFFFFFFF, 0x10000
+START = 16  # bytes of a file that tell what it is
 MOST_ROOM = 1 << 22  # bytes that a first call hands over at most; a second one hands over what the first asked for
 
 
@@ -62,6 +63,7 @@ ONE = FONT + [c_uint16, c_uint32, c_uint32, c_void_p, c_size_t, POINTER(_Glyph),
 # From each call to what it returns and what it takes.
 _declared = {
     "mkstrike_reason": (c_size_t, [c_uint32, c_char_p, c_size_t]),
+    "mkstrike_advice": (c_size_t, [c_uint32, c_char_p, c_size_t]),
     "mkstrike_font": (c_uint32, FONT + [c_uint16, POINTER(Info), POINTER(_Refused)]),
     "mkstrike_glyph_ids": (c_uint32, FONT + [c_void_p, c_size_t, c_void_p, c_size_t, POINTER(_Refused)]),
     "mkstrike_glyph": (c_uint32, ONE),
@@ -91,9 +93,16 @@ def _c() -> ctypes.CDLL:
 
 # ---- numbers, as the library takes them
 
+def whole(value: object, name: str) -> int:
+    """A whole number, as an argument of this name gives it."""
+    if not hasattr(value, "__index__"):
+        raise TypeError("%s is a whole number, not %r" % (name, value))
+    return int(value.__index__())
+
+
 def _size(size: int) -> int:
     """A size; one that no 16 bits hold, or that is below 0, is one that the library refuses."""
-    size = size.__index__()
+    size = whole(size, "size")
     return size if 0 <= size <= MOST_SIZE else 0
 
 
@@ -123,18 +132,26 @@ def reason(number: int) -> str:
     return name.value.decode()
 
 
+def advice(number: int) -> str:
+    """What to do after a refusal of this number; nothing if there is none."""
+    text = ctypes.create_string_buffer(128)
+    _c().mkstrike_advice(number, text, len(text))
+    return text.value.decode()
+
+
 def _program(number: int) -> int | str:
     return PROGRAMS.get(number, number)
 
 
-def _raised(it: _Refused, code: int | None = None) -> Refused:
+def _raised(it: _Refused, font: bytes, code: int | None = None) -> Refused:
     """The refusal as an exception."""
     char = None if code is None or not 0 <= code <= MOST_CODE else chr(code)
     table = it.table.to_bytes(4, "big").decode("latin-1") if it.table else None
     if it.during != NONE:
         return Refused(it.number, reason(it.number), during=_program(it.during), program=_program(it.program), address=it.address,
                        opcode=it.opcode, char=char)
-    return Refused(it.number, reason(it.number), table=table, glyph=None if it.glyph == NONE else it.glyph, char=char)
+    return Refused(it.number, reason(it.number), table=table, glyph=None if it.glyph == NONE else it.glyph, char=char,
+                   start=font[:START])
 
 
 # ---- calls
@@ -143,7 +160,7 @@ def info(font: bytes, face: int, size: int) -> Info:
     """Ascent, descent and line gap in pixels, and the number of glyphs."""
     told, refused = Info(), _Refused()
     if _c().mkstrike_font(font, len(font), _face(face), _size(size), byref(told), byref(refused)):
-        raise _raised(refused)
+        raise _raised(refused, font)
     return told
 
 
@@ -155,20 +172,21 @@ def glyph_ids(font: bytes, face: int, codes: Sequence[int]) -> array[int]:
         chars, numbers, refused = _codes(part), array("H", bytes(2 * len(part) + 2)), _Refused()
         if _c().mkstrike_glyph_ids(font, len(font), _face(face), chars.buffer_info()[0], len(part), numbers.buffer_info()[0], len(part),
                                    byref(refused)):
-            raise _raised(refused)
+            raise _raised(refused, font)
         found += numbers[:-1]
     return found
 
 
 def make(font: bytes, face: int, size: int, mode: int, codes: Sequence[int], name: bytes) -> tuple[bytes, Told]:
     """The text of a strike, and what is told of it."""
+    size = whole(size, "size")
     chars, told, refused = _codes(codes), Told(), _Refused()
     room = min(4096 + len(codes) * (120 + (size * 3 // 2) * (size // 3 + 4)), MOST_ROOM)
     while True:
         out = ctypes.create_string_buffer(room)
         if _c().mkstrike_make(font, len(font), _face(face), _size(size), mode, chars.buffer_info()[0], len(codes), name, len(name), out,
                               room, byref(told), byref(refused)):
-            raise _raised(refused)
+            raise _raised(refused, font)
         if told.bytes <= room:
             return memoryview(out)[:told.bytes].tobytes(), told
         room = told.bytes
@@ -178,6 +196,7 @@ def glyph(font: bytes, face: int, size: int, mode: int, code: int, by_id: bool =
     """The numbers of a glyph, of a character or by its own number, and its pixels from the top, a byte a pixel.
 
     None if the font lacks the character."""
+    size = whole(size, "size")
     info, refused = _Glyph(), _Refused()
     call = _c().mkstrike_glyph_by_id if by_id else _c().mkstrike_glyph
     room = min(max(4096, 2 * size * size), MOST_ROOM)
@@ -187,7 +206,7 @@ def glyph(font: bytes, face: int, size: int, mode: int, code: int, by_id: bool =
         if status == MISSING:
             return None
         if status != DONE:
-            raise _raised(refused, None if by_id else code)
+            raise _raised(refused, font, None if by_id else code)
         if info.stride * info.height <= room:
             return info, memoryview(out)[:info.stride * info.height].tobytes()
         room = info.stride * info.height
@@ -199,7 +218,7 @@ def refused_of(font: bytes, face: int, size: int, mode: int, codes: Sequence[int
     placed = (_Placed * (len(codes) + 1))()
     if _c().mkstrike_glyphs(font, len(font), _face(face), _size(size), mode, chars.buffer_info()[0], len(codes), byref(placed),
                             len(codes), byref(nothing), 0, byref(drawn), byref(refused)):
-        raise _raised(refused)
+        raise _raised(refused, font)
     found: dict[int, Refused] = {}
     for code, it in zip(codes, placed):
         if it.status not in (DONE, MISSING):

@@ -1,10 +1,12 @@
 """The text of a strike in the Bitmap Distribution Format (BDF 2.1): read, and written as the program writes it."""
 from __future__ import annotations
 
+import io
+import itertools
 from collections import namedtuple
-from collections.abc import Iterable, Mapping
+from collections.abc import Callable, Iterable, Iterator, Mapping
 
-from .refused import Refused
+from .refused import Refused, code_name, shown
 
 TYPE_CHECKING = False  # as in glyph.py
 if TYPE_CHECKING:
@@ -30,6 +32,11 @@ ENCODING = "utf-8"
 MOST, GREATEST = 65535, 0x10FFFF  # columns and rows of a glyph; the greatest code point
 RESERVED = ("FONT_ASCENT", "FONT_DESCENT", "ENDPROPERTIES", "COMMENT")
 BAD_PROPERTY = 63  # as of the program
+LONGEST = 200  # characters of a line that a message has
+ROOM = 1 << 26  # pixels of all glyphs of another program's text, which take a byte each
+HEADER = ("FONT", "SIZE", "FONTBOUNDINGBOX")  # the words that must stand before the glyphs
+PLAIN = bytes([9, 10, *range(32, 127), *range(128, 194), *range(195, 256)])  # bytes without C2, which a control character may begin with
+CHARSET, UNICODE, UNDEFINED = ("CHARSET_REGISTRY", "CHARSET_ENCODING"), ("", "*", "ISO10646", "UNICODE"), "\ufffe"
 
 
 class NotBdf(ValueError):
@@ -37,12 +44,14 @@ class NotBdf(ValueError):
 
 
 class Text:
-    """What a text says: the font's lines, its properties beside ascent and descent, and its glyphs by their code points."""
+    """What a text says: the font's lines, its properties beside ascent and descent, and its glyphs by their code points. `unnamed` has
+    the names of glyphs without a code point."""
 
-    def __init__(self, name: str, size: int, box: tuple[int, int, int, int], ascent: int, descent: int, properties: Mapping[str, Value],
-                 entries: Mapping[int, Entry]) -> None:
-        self.name, self.size, self.box, self.ascent, self.descent = name, size, box, ascent, descent
-        self.properties, self.entries = dict(properties), dict(entries)
+    def __init__(self, name: str, size: int, ascent: int, descent: int, properties: Mapping[str, Value], entries: Mapping[int, Entry],
+                 unnamed: Iterable[str] = ()) -> None:
+        self.name, self.size, self.ascent, self.descent = name, size, ascent, descent
+        self.properties, self.entries, self.unnamed = dict(properties), dict(entries), tuple(unnamed)
+        self.box = bounds(self.entries.values())
 
     def encoded(self) -> bytes:
         """The text, as the program would write it: glyphs by rising code points, and no line that it doesn't write."""
@@ -72,7 +81,7 @@ def _read(value: str) -> Value:
     """A property's value: a number, or a text between quotation marks."""
     if value.startswith('"'):
         return value[1:value.rfind('"')].replace('""', '"')
-    return int(value) if value.lstrip("-").isdigit() else value
+    return number_or_text(value)
 
 
 def number_or_text(value: str) -> Value:
@@ -84,64 +93,185 @@ def number_or_text(value: str) -> Value:
 
 # ---- reading
 
-def parse(data: bytes) -> Text:
-    """Reads a text, also one of another program. Glyphs without a code point are left out."""
-    lines = [it.rstrip() for it in data.decode(ENCODING, "surrogateescape").split("\n")]
-    at = next((k for k, line in enumerate(lines) if line.startswith("CHARS ")), None)
-    if at is None or not lines[0].startswith("STARTFONT"):
-        raise NotBdf("no STARTFONT and CHARS: this is no BDF file")
+def parse(data: bytes, is_own: bool = False) -> Text:
+    """Reads a text, also one of another program: there ENCODING is a place in the character set that the font names.
+
+    What this package or the program wrote has code points there, whatever the font's name says: `is_own`."""
+    lines = _Lines(data)
     try:
-        font = _header(lines[:at])
-        font.entries = dict(_entries(lines[at + 1:]))
-        if not 0 <= font.size <= MOST:
-            raise ValueError("a size of %d pixels" % font.size)
-    except (ValueError, IndexError, KeyError) as fault:
-        raise NotBdf("a BDF file that can't be read: %s" % fault) from fault
-    return font
+        if not next(lines, "").startswith("STARTFONT"):
+            raise ValueError("it does not begin with STARTFONT")
+        text = _header(lines)
+        named = identity if is_own else _charset(text)
+        unnamed, entries = [], {}
+        for place, it in _entries(lines, is_own):
+            code = named(place)
+            if code is None:
+                unnamed.append(it.name)
+            else:
+                entries[code] = it if code == place else it._replace(code=code)
+        return Text(text.name, text.size, text.ascent, text.descent, text.properties, entries, unnamed)
+    except ValueError as fault:
+        raise NotBdf("no BDF file, or a damaged one: line %d: %s" % (lines.number, shown(str(fault))[:LONGEST])) from fault
 
 
-def _header(lines: list[str]) -> Text:
+class _Lines:
+    """The lines of a text one after the other, without blanks at their ends; `number` is that of the last one, from 1."""
+
+    def __init__(self, data: bytes) -> None:
+        self._lines, self.number = iter(io.BytesIO(data)), 0
+        self._is_plain = not data.replace(b"\r\n", b"\n").translate(None, PLAIN)
+
+    def __iter__(self) -> _Lines:
+        return self
+
+    def __next__(self) -> str:
+        return self._plain(next(self._lines))
+
+    def _plain(self, line: bytes) -> str:
+        """The text of a line, which is counted."""
+        self.number += 1
+        text = line.decode(ENCODING, "surrogateescape").rstrip("\r\n \t")
+        if not self._is_plain:
+            for it in text:
+                if ord(it) < 32 and it != "\t" or 127 <= ord(it) < 160:
+                    raise ValueError("it has the control character %s" % code_name(ord(it)))
+        return text
+
+    def rows(self, count: int, digits: int) -> bytes:
+        """The bytes of the next lines, which have so many hexadecimal digits each, or more, which don't count."""
+        lines = [self._plain(it)[:digits] for it in itertools.islice(self._lines, count)]
+        for line in lines if len("".join(lines)) < count * digits else ():
+            if len(line) < digits:
+                raise ValueError("a row has fewer than the %d digits of its glyph: %s" % (digits, shown(line)))
+        data = bytes.fromhex("".join(lines))
+        if 2 * len(data) < count * digits:
+            raise ValueError("the file ends within a glyph, or a row has a blank")
+        return data
+
+
+def _header(lines: _Lines) -> Text:
     """What the lines before the glyphs say."""
-    words = dict(reversed([_parted(line) for line in lines if not line.startswith("COMMENT")]))
+    words: dict[str, str] = {}
     properties: dict[str, Value] = {}
-    if "STARTPROPERTIES" in words:
-        first = next(k for k, line in enumerate(lines) if line.startswith("STARTPROPERTIES"))
-        for line in lines[first + 1:lines.index("ENDPROPERTIES")]:
-            name, value = _parted(line)
-            if name != "COMMENT":
-                properties[name] = _read(value)
-    width, height, left, bottom = map(int, words["FONTBOUNDINGBOX"].split()[:4])
-    points, _, resolution = [int(it) for it in (words["SIZE"].split() + ["72", "72"])[:3]]
-    size = int(properties.get("PIXEL_SIZE", 0)) or (points * resolution + 36) // 72
-    ascent = int(properties.pop("FONT_ASCENT", height + bottom))
-    descent = int(properties.pop("FONT_DESCENT", -bottom))
-    return Text(words["FONT"], size, (width, height, left, bottom), ascent, descent, properties, {})
+    is_property = False
+    for line in lines:
+        word, value = _parted(line)
+        if word == "CHARS":
+            break
+        if word in ("STARTPROPERTIES", "ENDPROPERTIES"):
+            is_property = word == "STARTPROPERTIES"
+        elif is_property and word != "COMMENT":
+            properties[word] = _read(value)
+            if len(properties) > MOST:
+                raise ValueError("there are more than %d properties" % MOST)
+        elif word in HEADER:
+            words.setdefault(word, value)
+    else:
+        raise ValueError("there is no CHARS")
+    for name in HEADER if not is_property else ("ENDPROPERTIES",):
+        if name not in words:
+            raise ValueError("there is no %s" % name)
+    _, height, _, bottom = _numbers(words["FONTBOUNDINGBOX"], 4)
+    points, _, resolution = _numbers(words["SIZE"] + " 72 72", 3)
+    size = properties.get("PIXEL_SIZE", 0) or (points * resolution + 36) // 72
+    ascent, descent = properties.pop("FONT_ASCENT", height + bottom), properties.pop("FONT_DESCENT", -bottom)
+    for what, number, least in (("size", size, 0), ("ascent", ascent, -MOST), ("descent", descent, -MOST)):
+        if isinstance(number, str) or not least <= number <= MOST:
+            raise ValueError("the %s is %s pixels" % (what, number))
+    return Text(words["FONT"], int(size), int(ascent), int(descent), properties, {})
 
 
 def _parted(line: str) -> tuple[str, str]:
-    word, _, rest = line.partition(" ")
+    word, _, rest = (line.replace("\t", " ") if "\t" in line else line).partition(" ")
     return word, rest.strip()
 
 
-def _entries(lines: list[str]) -> Iterable[tuple[int, Entry]]:
-    """The glyphs, each with its code point."""
-    at = 0
-    while at < len(lines):
-        if not lines[at].startswith("STARTCHAR"):
-            at += 1
-            continue
-        end = lines.index("BITMAP", at)
-        words = dict(_parted(line) for line in lines[at:end])
-        width, height, left, bottom = map(int, words["BBX"].split())
-        at = end + 1 + height
-        code, size = int(words["ENCODING"].split()[0]), 2 * ((width + 7) // 8)
-        if not (0 <= width <= MOST and 0 <= height <= MOST and at <= len(lines) and code <= GREATEST):
-            raise ValueError("BBX %s of character %d" % (words["BBX"], code))
-        if code >= 0:
-            rows = bytes.fromhex("".join([line[:size].ljust(size, "0") for line in lines[end + 1:at]]))
-            advance = int(words["DWIDTH"].split()[0]) if "DWIDTH" in words else width
-            swidth = int(words.get("SWIDTH", "0").split()[0])
-            yield code, Entry(code, words["STARTCHAR"], swidth, advance, width, height, left, bottom, rows)
+def _numbers(text: str, count: int) -> list[int]:
+    """The first numbers of a line, in digits of ASCII."""
+    found = text.split()[:count]
+    if len(found) < count or not text.isascii() or "_" in text:
+        raise ValueError("%r does not have %d whole numbers" % (text, count))
+    return list(map(int, found))
+
+
+def _entries(lines: _Lines, is_own: bool) -> Iterator[tuple[int, Entry]]:
+    """The glyphs, each with the number that ENCODING has; -1 is that of a glyph without one."""
+    for line in lines:
+        if line == "ENDFONT":
+            return
+        word, name = _parted(line)
+        if word == "STARTCHAR":
+            yield _entry(lines, name, is_own)
+
+
+def _entry(lines: _Lines, name: str, is_own: bool) -> tuple[int, Entry]:
+    """A glyph, after its first line."""
+    words: dict[str, str] = {}
+    for line in lines:
+        word, value = _parted(line)
+        if word in ("BITMAP", "STARTCHAR", "ENDCHAR"):
+            break
+        if word in ("ENCODING", "SWIDTH", "DWIDTH", "BBX"):
+            words[word] = value
+    else:
+        word = ""
+    for needed, found in (("BITMAP", [word]), ("ENCODING", words), ("BBX", words)):
+        if needed not in found:
+            raise ValueError("a glyph has no %s" % needed)
+    width, height, left, bottom = _numbers(words["BBX"], 4)
+    place = _numbers(words["ENCODING"], 1)[0]
+    advance = _numbers(words["DWIDTH"], 1)[0] if "DWIDTH" in words else width
+    swidth = _numbers(words.get("SWIDTH", "0"), 1)[0]
+    if not (0 <= width <= MOST and 0 <= height <= MOST and max(abs(left), abs(bottom), abs(advance)) <= MOST and place <= GREATEST
+            and abs(swidth) < 1 << 31):
+        raise ValueError("a number of the glyph %s is too large" % name)
+    size = 2 * ((width + 7) // 8)
+    rows = lines.rows(height, size) if size else b""
+    if width % 8 and not is_own:
+        rows = _masked(rows, width, height)
+    return place, Entry(place, name, swidth, advance, width, height, left, bottom, rows)
+
+
+def _masked(rows: bytes, width: int, height: int) -> bytes:
+    """Rows without the bits right of the box."""
+    row = bytes([255] * (width // 8) + [0xFF00 >> width % 8 & 0xFF])
+    return (int.from_bytes(rows, "big") & int.from_bytes(row * height, "big")).to_bytes(len(rows), "big")
+
+
+def check_room(text: Text) -> None:
+    """Refuses a text of another program whose glyphs would take much memory: a byte a pixel."""
+    total = sum(it.width * it.height for it in text.entries.values())
+    if total > ROOM:
+        raise NotBdf("its glyphs have %s pixels, more than %s" % (format(total, ","), format(ROOM, ",")))
+
+
+# ---- character sets
+
+def identity(place: int) -> int | None:
+    """The code point of a place in Unicode."""
+    return place if place >= 0 else None
+
+
+def _charset(text: Text) -> Callable[[int], int | None]:
+    """What leads from places in the font's character set to code points. The text then says that it has Unicode."""
+    fields = text.name.split("-") if is_xlfd(text.name) else ["", ""]
+    registry, encoding = (str(text.properties.get(name) or field) for name, field in zip(CHARSET, fields[-2:]))
+    if registry.upper() in UNICODE:
+        return identity
+    from .charsets import table_of
+    table = table_of(registry, encoding)
+    if table is None:
+        raise ValueError("the character set %r, %r is not known here: convert the font to ISO10646-1" % (registry, encoding))
+    text.name = "-".join(fields[:-2] + ["ISO10646", "1"]) if is_xlfd(text.name) else text.name
+    text.properties.update((name, it) for name, it in zip(CHARSET, ("ISO10646", "1")) if name in text.properties)
+    codes = [None if it == UNDEFINED else ord(it) for it in table]
+    return lambda place: codes[place] if 0 <= place < len(codes) else None
+
+
+def is_xlfd(name: str) -> bool:
+    """Whether a font's name has the 14 fields of X11."""
+    return name.startswith("-") and name.count("-") == 14
 
 
 # ---- properties
@@ -158,7 +288,7 @@ def check(properties: Mapping[str, Value]) -> None:
 
 def x11(text: Text) -> dict[str, Value]:
     """The properties that `mkstrike make --x11` adds, in its order. A name of 14 fields has the family, the weight and the slant."""
-    fields = text.name.split("-") if text.name.startswith("-") and text.name.count("-") == 14 else ["", "", text.name, "Medium", "R"]
+    fields = text.name.split("-") if is_xlfd(text.name) else ["", "", text.name, "Medium", "R"]
     widths = [it.dwidth for it in text.entries.values()]
     total, count = 10 * sum(abs(it) for it in widths), len(widths)
     found: dict[str, Value] = {

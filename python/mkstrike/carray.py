@@ -7,6 +7,7 @@ from collections.abc import Iterable, Sequence
 from typing import TYPE_CHECKING
 
 from .refused import code_name
+from .sources import MOST
 
 if TYPE_CHECKING:
     from .glyph import Glyph
@@ -86,9 +87,13 @@ def cell_of(strike: Strike) -> tuple[int, int, int, int]:
 
 def rows(strike: Strike, name: str) -> str:
     """Every glyph in a cell of the same size, its rows in whole bytes."""
-    width, height, left, bottom = cell_of(strike)
     codes = [ord(it) for it in strike]
     _filled(codes)
+    width, height, left, bottom = cell_of(strike)
+    size = len("0x00, ") * len(codes) * height * ((width + 7) // 8)
+    if size > MOST:
+        raise ValueError("an array of %d cells of %d x %d pixels takes %s bytes as text, more than %s" % (
+            len(codes), width, height, format(size, ","), format(MOST, ",")))
     lines = ["    {%s}, /* %s */" % (_hexadecimal(_in_cell(it, width, height, left, bottom)), _shown(it.char)) for it in strike.values()]
     return ROWS.format(
         name=name, guard=name.upper() + "_H", font=_comment(strike.name), size=strike.size, count=len(codes), width=width, height=height,
@@ -100,6 +105,8 @@ def gfx(strike: Strike, name: str) -> str:
     """A GFXfont: boxes packed bit by bit. What the strike lacks between the first and the last character is empty there."""
     codes = [ord(it) for it in strike]
     _filled(codes)
+    if codes[-1] > 0xFFFF or not 0 <= strike.height <= 255:
+        raise ValueError("a font for Adafruit GFX has characters up to U+FFFF and lines of at most 255 rows")
     bitmaps, lines = bytearray(), []
     for code in range(codes[0], codes[-1] + 1):
         glyph = strike.get(chr(code))
@@ -111,8 +118,6 @@ def gfx(strike: Strike, name: str) -> str:
             _check_gfx(code, numbers)
             bitmaps += _bits(glyph)
         lines.append("    {%d, %d, %d, %d, %d, %d}, /* %s */" % (*numbers, _shown(chr(code))))
-    if codes[-1] > 0xFFFF or not 0 <= strike.height <= 255:
-        raise ValueError("a font for Adafruit GFX has characters up to U+FFFF and lines of at most 255 rows")
     empty = codes[-1] - codes[0] + 1 - len(codes)
     if empty > len(codes):
         warnings.warn("%d of the %d entries of %s are empty, since a GFXfont has all from the first character to the last" % (
@@ -162,10 +167,11 @@ def _wrapped(items: Iterable[str]) -> str:
 
 
 def _shown(char: str | None) -> str:
-    """A character in a comment of C: never one that could end it or hide it."""
+    """A character in a comment of C: its code point, and itself if a comment can have it."""
     text = char or ""
-    return code_name(ord(text)) + (" " + text if text.isprintable() and not text.isspace() and text not in "*/\\" else "")
+    return " ".join([code_name(ord(text))] + [it for it in text if it > " " and _comment(it) == it])
 
 
 def _comment(text: str) -> str:
-    return text.replace("*/", "* /")
+    """A text in a comment of C: printable ASCII, without what could end it (`*/`), join its lines, or be a trigraph (`??/`)."""
+    return "".join(it if " " <= it <= "~" and it not in "*/\\?" else "_" for it in text)

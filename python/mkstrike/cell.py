@@ -35,7 +35,7 @@ def in_cell(strike: Strike, width: int, height: int, ascent: int | None, clip: b
             entry = _clipped(entry, far) if clip else entry
         swidth = (2 * 1000 * width + text.size) // (2 * text.size) if text.size else 0
         entries[code] = entry._replace(dwidth=width, swidth=swidth)
-    changed = bdf.Text(text.name, text.size, bdf.bounds(entries.values()), above, height - above, text.properties, entries)
+    changed = bdf.Text(text.name, text.size, above, height - above, text.properties, entries)
     bdf.settle(changed)
     return strike._with(changed, outside)
 

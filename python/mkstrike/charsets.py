@@ -25,6 +25,7 @@ WGL4 = """
 SETS = {
     "ascii": "20-7e",
     "latin-1": "20-7e a0-ff",
+    "latin-9": "20-7e a0-a3 a5 a7 a9-b3 b5-b7 b9-bb bf-ff 152-153 160-161 178 17d-17e 20ac",
     "wgl4": WGL4,
     "box": "2500-257f",
     "blocks": "2580-259f",
@@ -50,6 +51,8 @@ def characters(chars: Chars = "", *, text: str = "") -> list[int]:
 
     `text` adds the characters of a text without its line ends and other control characters.
     """
+    if not isinstance(text, str):
+        raise TypeError("text is a string, not %s" % type(text).__name__)
     found = {code for code in map(ord, text) if not _is_control(code)}
     found.update(_codes(chars))
     return sorted(found)
@@ -65,6 +68,8 @@ def _codes(chars: Chars) -> Iterable[int]:
         return _of_string(chars)
     if hasattr(chars, "__index__"):
         return [chars.__index__()]
+    if not isinstance(chars, Iterable):
+        raise TypeError("chars: %r is no list of characters" % (chars,))
     return [code for it in chars for code in _codes(it)]
 
 
@@ -82,8 +87,9 @@ def _of_item(item: str) -> Iterable[int]:
         codes = found(item)
         if codes is not None:
             return codes
-    raise ValueError("%r is no set of characters (%s), no hexadecimal number or range, and no list of bdf2psf; for the characters of "
-                     "a text use text=" % (item, ", ".join(character_sets())))
+    lists = "no list of bdf2psf" if any(map(os.path.isdir, FOLDERS)) else "bdf2psf with its lists is not installed (Debian: bdf2psf)"
+    raise ValueError("%r is no set of characters (%s), no hexadecimal number or range, and %s; for the characters of a text use text="
+                     % (item, ", ".join(character_sets()), lists))
 
 
 def _named(name: str) -> list[int] | None:
@@ -109,17 +115,37 @@ def _range(item: str) -> range | None:
 def _bare(number: str) -> str:
     """The digits of a number such as U+20AC; nothing if there are other characters, which int() would take."""
     digits = number[2:] if number[:2].upper() in ("U+", "0X") else number
-    return digits if digits.isalnum() else ""
+    return digits if digits.isascii() and digits.isalnum() else ""
 
 
 def _of_codec(name: str) -> list[int] | None:
     """The characters of a character set of one byte that Python has, without control characters."""
+    table = _table(name)
+    return None if table is None else characters(text=table.replace("\ufffe", ""))
+
+
+def _table(name: str) -> str | None:
+    """The characters of a character set of one byte that Python has, by their places."""
     import importlib
     try:
         module = importlib.import_module("encodings." + codecs.lookup(name).name.replace("-", "_"))
-        return characters(text=module.decoding_table.replace("\ufffe", ""))
-    except (LookupError, ImportError, AttributeError):
+        return str(module.decoding_table)
+    except (LookupError, ImportError, AttributeError, ValueError):
         return None
+
+
+def table_of(registry: str, encoding: str) -> str | None:
+    """The characters of a character set by its two names in X11, as KOI8 and R, by their places."""
+    name = registry.lower() + "-" + encoding.lower()
+    if name in ("iso646.1991-irv", "ascii-0", "us-ascii"):
+        return "".join(map(chr, range(128)))
+    names = [name, name.replace("-", ""), encoding.lower()] + (["cp" + encoding.lower()] if registry.lower() in ("ibm", "microsoft") else [])
+    for it in names:  # as iso8859-2, cp-437, microsoft-cp1252, ibm-437
+        table = _table(it)
+        if table is not None:
+            is_cp437 = codecs.lookup(it).name == "cp437"
+            return table[0] + CP437_LOW[:31] + table[32:127] + CP437_LOW[31:] + table[128:] if is_cp437 else table
+    return None
 
 
 def _listed(name: str) -> list[int] | None:
@@ -134,18 +160,18 @@ def _listed(name: str) -> list[int] | None:
 
 def _of_file(path: str) -> list[int]:
     """The characters of a strike, or of a list as bdf2psf takes it."""
+    from . import sources
+    data = sources.read_file(path)
     if path.endswith(".bdf"):
         from . import bdf
-        with open(path, "rb") as file:
-            return sorted(bdf.parse(file.read()).entries)
+        return sorted(bdf.parse(data).entries)
     codes: list[int] = []
-    with open(path, encoding="utf-8") as file:
-        for line in file:
-            for word in line.partition("#")[0].split():
-                numbers = _range(word)
-                if numbers is None or not word.upper().startswith("U+"):
-                    raise ValueError("%s: %r is no character as U+0041" % (path, word))
-                codes += numbers
+    for line in data.decode("utf-8").split("\n"):
+        for word in line.partition("#")[0].split():
+            numbers = _range(word)
+            if numbers is None or not word.upper().startswith("U+"):
+                raise ValueError("%s: %r is no character as U+0041" % (path, word))
+            codes += numbers
     return [it for it in codes if not _is_control(it)]
 
 

@@ -8,13 +8,13 @@ import sys
 import time
 import warnings
 from collections.abc import Callable, Sequence
-from typing import Any
+from typing import Any, NoReturn
 
-from . import bdf, formats
+from . import bdf, formats, sources
 from .charsets import character_sets, characters, ranges
 from .font import Font
 from .merge import merge
-from .refused import Missing, Refused, code_name
+from .refused import Missing, Refused, code_name, shown
 from .strike import Strike
 
 FAULTS = (Refused, Missing, bdf.NotBdf, OSError, ValueError, RuntimeError, ImportError)
@@ -25,6 +25,7 @@ CHARS = """\
 a list that commas join: sets by name (%s; cp1252, iso8859-15, koi8-r and such), hexadecimal numbers and ranges (20-7e, U+20AC), lists of
 bdf2psf by name or path (Lat15, ./my.set), strikes (other.bdf); latin-1 if neither --chars nor --text is given"""
 SHOWN = 12  # refused characters that are named on lines of their own
+WHAT_CHARS_TAKES = "--chars takes sets by name and hexadecimal numbers, --text FILE a text's characters"
 PATIENCE = 1.0  # seconds without a bar
 
 
@@ -39,7 +40,7 @@ class Bar:
         """Shows what is made now, and counts it."""
         if self.wanted and time.monotonic() - self.start > PATIENCE:
             filled = 30 * self.done // self.steps
-            line = "[%s] %d of %d: %s" % ("#" * filled + "." * (30 - filled), self.done, self.steps, what)
+            line = "[%s] %d of %d: %s" % ("#" * filled + "." * (30 - filled), self.done, self.steps, shown(what))
             sys.stderr.write("\r" + line[:100].ljust(self.width))
             self.width = len(line[:100])
             sys.stderr.flush()
@@ -62,9 +63,16 @@ class Version(argparse.Action):
         parser.exit()
 
 
+class Parser(argparse.ArgumentParser):
+    """The arguments, of which a wrong one is shown as a terminal may have it."""
+
+    def error(self, message: str) -> NoReturn:
+        super().error(shown(message))
+
+
 def parser() -> argparse.ArgumentParser:
     """The arguments of the command."""
-    p = argparse.ArgumentParser(prog="strike", description=ABOUT)
+    p = Parser(prog="strike", description=ABOUT)
     add = p.add_argument
     add("--version", action=Version, nargs=0, help="print the release")
     add("fonts", nargs="+", metavar="FONT", help="TrueType fonts, collections, WOFF, WOFF2; also strikes in BDF")
@@ -98,6 +106,9 @@ class Job:
 
     def __init__(self, options: argparse.Namespace) -> None:
         self.options = options
+        named = (*options.fonts, *options.text, *map(str.strip, options.chars.split(",")))
+        self.inputs = [it for it in named if it and os.path.exists(it)]
+        self.written: set[str] = set()
         self.sizes = [_number(it, "--size") for it in options.size.split(",")]
         self.formats = options.format.split(",")
         for name in self.formats:
@@ -124,8 +135,9 @@ class Job:
         return font.strike(size, self.codes, hinted=not self.options.unhinted, dropout=self.options.dropout,
                            name=self.options.name or font.name, strict=self.options.strict)
 
-    def finished(self, strike: Strike) -> Strike:
-        """The strike with its cell and its properties."""
+    def finished(self, strikes: list[Strike]) -> Strike:
+        """The strike of all that are given, with its cell and its properties."""
+        strike = merge(strikes, name=self.options.name) if self.options.merge else strikes[0]
         if self.cell:
             strike = strike.cell(*self.cell, ascent=self.options.ascent, clip=self.options.clip)
         if self.options.x11 or self.properties:
@@ -134,22 +146,29 @@ class Job:
 
     def write(self, strike: Strike, stem: str) -> list[str]:
         """Writes the files of a strike, and returns their paths."""
-        paths = []
-        for name in self.formats:
-            path = os.path.join(self.options.out, stem + formats.ENDING[name])
+        paths = [os.path.join(self.options.out, stem + formats.ENDING[name]) for name in self.formats]
+        self.refuse_to_lose(paths)
+        for path, name in zip(paths, self.formats):
             more: dict[str, object] = {"name": stem} if name in ("c", "gfx") else {}
             if name in ("png", "pbm"):
                 more = {"scale": self.options.scale, "columns": self.options.columns}
             formats.save(strike, path, name, more)
-            paths.append(path)
         return paths
+
+    def refuse_to_lose(self, paths: list[str]) -> None:
+        """Refuses to write over what was read, and over what another strike of this run is in."""
+        for path in paths:
+            if os.path.exists(path) and any(os.path.samefile(path, it) for it in self.inputs):
+                raise ValueError("%s is read here, and would be replaced: give another folder by --out" % path)
+            if path in self.written:
+                raise ValueError("%s would be replaced by a second strike: give another folder by --out, or --name" % path)
+        self.written.update(paths)
 
 
 def _text_of(path: str) -> str:
     if path == "-":
-        return sys.stdin.buffer.read().decode("utf-8")
-    with open(path, encoding="utf-8") as file:
-        return file.read()
+        return sources.read(sys.stdin.buffer)[0].decode("utf-8")
+    return sources.read_file(path).decode("utf-8")
 
 
 def _number(text: str, option: str, kind: Callable[[str], Any] = int) -> Any:
@@ -180,9 +199,10 @@ def missing(strike: Strike) -> list[str]:
 
 def report(strike: Strike, is_clipped: bool) -> list[str]:
     """What else a user should know of a strike, one line each."""
-    lines = []
     refused = list(strike.refused.items())
-    lines += ["refused: %s: %s" % (code_name(ord(char)), why) for char, why in refused[:SHOWN]]
+    why = "each character is refused; " + refused[0][1].to_do("--unhinted") if refused else WHAT_CHARS_TAKES
+    lines = [] if len(strike) else ["the strike has no glyph: " + why]
+    lines += ["refused: %s: %s" % (code_name(ord(char)), why.line) for char, why in refused[:SHOWN]]
     if len(refused) > SHOWN:
         lines.append("refused: %d more: %s" % (len(refused) - SHOWN, ranges(ord(char) for char, _ in refused[SHOWN:])))
     far_out: dict[str, list[int]] = {}
@@ -205,14 +225,14 @@ class Run:
     def complain(self, line: str) -> None:
         """Prints what went wrong."""
         self.bar.clear()
-        print("strike: " + line, file=sys.stderr)
+        print("strike: " + shown(line), file=sys.stderr)
 
     def fail(self, what: str, why: Exception) -> None:
         """Says why there is nothing."""
         self.status = 1
-        self.complain("%s: %s" % (what, why))
+        self.complain("%s: %s" % (what, why.line if isinstance(why, Refused) else why))
         if isinstance(why, Refused) and why.advice:
-            self.complain(why.advice)
+            self.complain(why.to_do("--unhinted"))
 
     def fonts(self) -> list[tuple[str, Font | Strike]]:
         """The fonts that can be opened, each with its path."""
@@ -234,13 +254,10 @@ class Run:
         for size in sorted(sizes):
             made = [(stem, strike) for path, font in fonts for stem, strike in self.made(path, font, size)]
             if self.job.options.merge and made:
-                try:
-                    made = [(made[0][0], merge([it for _, it in made], name=self.job.options.name))]
-                except FAULTS as why:
-                    self.fail("--merge", why)
-                    continue
+                self.write(made[0][0], [it for _, it in made])
+                continue
             for stem, strike in made:
-                self.write(stem, strike)
+                self.write(stem, [strike])
         self.bar.clear()
         return self.status
 
@@ -253,23 +270,25 @@ class Run:
         stem = "%s-%d" % (name if re.fullmatch(r"\w[\w.+-]*", name) else stem, size)
         self.bar.show(stem)
         try:
-            return [(stem, self.job.made(font, size))]
+            with warnings.catch_warnings():
+                warnings.simplefilter("ignore")  # of a strike without a glyph, which is told with what else is in it
+                return [(stem, self.job.made(font, size))]
         except FAULTS as why:
             self.fail("%s at %d pixels" % (path, size), why)
             return []
 
-    def write(self, stem: str, strike: Strike) -> None:
-        """Finishes a strike, writes its files, and says what is in it."""
+    def write(self, stem: str, strikes: list[Strike]) -> None:
+        """Finishes the strike of all that are given, writes its files, and says what is in it."""
         with warnings.catch_warnings(record=True) as warned:
             warnings.simplefilter("always")
             try:
-                strike = self.job.finished(strike)
+                strike = self.job.finished(strikes)
                 paths = self.job.write(strike, stem)
             except FAULTS as why:
                 return self.fail(stem, why)
         self.bar.clear()
         if not self.job.options.quiet:
-            print("%s: %d glyphs" % (" ".join(paths), len(strike)))
+            print(shown("%s: %d glyphs" % (" ".join(paths), len(strike))))
         name = stem[:-len("-%d" % strike.size)] if stem.endswith("-%d" % strike.size) else stem
         lines = [(name, line) for line in missing(strike) if (name, line) not in self.told]
         self.told.update(lines)

@@ -7,6 +7,8 @@ import os
 from collections.abc import Mapping
 from typing import TYPE_CHECKING, Any, Callable
 
+from .refused import shown
+
 if TYPE_CHECKING:
     from .strike import Strike
 
@@ -57,6 +59,9 @@ def encode(strike: Strike, format: str, options: Mapping[str, Any]) -> bytes:
     """The strike in a format, as bytes."""
     if format not in FORMATS:
         raise ValueError("%r is no format: there are %s" % (format, ", ".join(FORMATS)))
+    if format in ("png", "pbm", "c", "gfx"):
+        from .strike import tell_of_unnamed
+        tell_of_unnamed(strike.parsed().unnamed)
     return FORMATS[format](strike, **options)
 
 
@@ -65,7 +70,7 @@ def save(strike: Strike, path: str, format: str | None, options: Mapping[str, An
     stem, ending = os.path.splitext(os.path.basename(path))
     if format is None:
         if ending.lower() not in OF_ENDING:
-            raise ValueError("%s: the ending says no format: there are %s" % (path, " ".join(OF_ENDING)))
+            raise ValueError("%s: the ending says no format: there are %s" % (shown(path), " ".join(OF_ENDING)))
         format = OF_ENDING[ending.lower()]
     if format in ("c", "gfx"):
         options = {"name": stem, **options}
@@ -73,8 +78,13 @@ def save(strike: Strike, path: str, format: str | None, options: Mapping[str, An
 
 
 def write(path: str, data: bytes) -> None:
-    """Writes a file in one step: a reader sees the old one or the new one."""
-    new = "%s.%d.new" % (path, os.getpid())
+    """Writes a file in one step: a reader sees the old one or the new one. What is no file, as a device or a pipe, is written to."""
+    if os.path.exists(path) and not os.path.isfile(path):
+        with open(path, "wb") as stream:
+            stream.write(data)
+        return
+    path = os.path.realpath(path)  # a link stays one
+    new = os.path.join(os.path.dirname(path), ".%s.new" % os.urandom(8).hex())
     try:
         with open(new, "xb") as file:
             file.write(data)

@@ -1,25 +1,23 @@
-"""One glyph: its numbers, and its pixels as a buffer of rows and columns."""
+"""One glyph: its numbers, and its pixels as rows and columns that nobody can write to."""
 from __future__ import annotations
 
-import ctypes
-from functools import lru_cache
+from collections.abc import Iterator
 
 TYPE_CHECKING = False  # true for type checkers: `typing` takes longer to import than all of this package
 if TYPE_CHECKING:
-    from PIL.Image import Image
+    from typing import NoReturn
 
-    _Pixels = ctypes.Array[ctypes.Array[ctypes.c_ubyte]]
-else:
-    _Pixels = object
+    from PIL.Image import Image
 
 SET = 255  # the byte of a set pixel; 0 is that of one that is not
 _EIGHT = [bytes(SET if byte >> (7 - k) & 1 else 0 for k in range(8)) for byte in range(256)]
 _DIGITS = bytes.maketrans(bytes([SET, 0]), b"10")
 
 
-class Glyph(_Pixels):
-    """A glyph at a size. It is a buffer of bytes, 255 for a set pixel and 0 for another, rows from the top, so `memoryview(glyph)` and
-    `numpy.asarray(glyph)` need no copy; `glyph[row][column]` is one pixel, `print(glyph)` shows the picture.
+class Glyph:
+    """A glyph at a size. It can't be changed. Its pixels are bytes, 255 for a set pixel and 0 for another, in rows from the top:
+    `glyph[row][column]` is one pixel, `glyph.pixels` and `numpy.asarray(glyph)` are all of them without a copy, and `print(glyph)` shows
+    the picture.
 
     - `char`: the character, or None if the glyph was asked for by its number
     - `width`, `height`: the least box that holds every set pixel; 0 and 0 if none is set
@@ -27,6 +25,7 @@ class Glyph(_Pixels):
     - `advance`: how many pixels further the next glyph begins; `swidth` is the same in 1/1000 of an em
     """
 
+    __slots__ = ("char", "width", "height", "left", "bottom", "advance", "swidth", "_data")
     char: str | None
     width: int
     height: int
@@ -34,14 +33,51 @@ class Glyph(_Pixels):
     bottom: int
     advance: int
     swidth: int
+    _data: bytes
+
+    def __init__(self, char: str | None, width: int, height: int, left: int, bottom: int, advance: int, swidth: int, data: bytes) -> None:
+        """A glyph of its numbers and its pixels, a byte a pixel."""
+        if len(data) != width * height:
+            raise ValueError("%d bytes are no %d x %d pixels" % (len(data), width, height))
+        for name, value in zip(self.__slots__, (char, width, height, left, bottom, advance, swidth, bytes(data))):
+            object.__setattr__(self, name, value)
+
+    def __setattr__(self, name: str, value: object) -> NoReturn:
+        raise AttributeError("a glyph can't be changed")
+
+    def __delattr__(self, name: str) -> NoReturn:
+        raise AttributeError("a glyph can't be changed")
+
+    # ---- its pixels
+
+    @property
+    def pixels(self) -> memoryview:
+        """The pixels as a memoryview of rows and columns, without a copy; it has no pixel if none is set."""
+        view = memoryview(self._data)
+        return view.cast("B", (self.height, self.width)) if self._data else view
+
+    @property
+    def __array_interface__(self) -> dict[str, object]:
+        """What numpy asks for."""
+        return {"version": 3, "shape": (self.height, self.width), "typestr": "|u1", "data": self._data}
+
+    def __len__(self) -> int:
+        return self.height
+
+    def __getitem__(self, row: int) -> bytes:
+        at = range(self.height)[row] * self.width
+        return self._data[at:at + self.width]
+
+    def __iter__(self) -> Iterator[bytes]:
+        return map(self.__getitem__, range(self.height))
 
     @property
     def rows(self) -> tuple[bytes, ...]:
         """The rows from the top, eight pixels a byte: the leftmost is the highest bit, as in BDF and in C arrays."""
         size = (self.width + 7) // 8
         padding = b"0" * (8 * size - self.width)
-        pixels = self.tobytes().translate(_DIGITS)
-        lines = (pixels[at:at + self.width] for at in range(0, len(pixels), self.width or 1))
+        digits = self._data.translate(_DIGITS)
+        lines = (digits[at:at + self.width] for at in range(0, len(digits), self.width or 1))
         return tuple(int(line + padding, 2).to_bytes(size, "big") for line in lines)
 
     @property
@@ -51,15 +87,17 @@ class Glyph(_Pixels):
 
     def tobytes(self) -> bytes:
         """The pixels, a byte a pixel, row by row from the top."""
-        return bytes(memoryview(self))
+        return self._data
 
     def image(self, scale: int = 1) -> Image:
         """The box as a picture of Pillow, black on white."""
         from . import picture
         return picture.of_glyph(self, scale)
 
+    # ---- as a value
+
     def __str__(self) -> str:
-        pixels = self.tobytes().replace(b"\xff", b"#").replace(b"\0", b".").decode()
+        pixels = self._data.replace(b"\xff", b"#").replace(b"\0", b".").decode()
         return "\n".join(pixels[at:at + self.width] for at in range(0, len(pixels), self.width or 1))
 
     def __repr__(self) -> str:
@@ -75,24 +113,10 @@ class Glyph(_Pixels):
         return hash(self._all())
 
     def __reduce__(self) -> tuple[object, ...]:
-        return glyph, self._all()
+        return Glyph, self._all()
 
     def _all(self) -> tuple[object, ...]:
-        return self.char, self.width, self.height, self.left, self.bottom, self.advance, self.swidth, self.tobytes()
-
-
-@lru_cache(maxsize=4096)
-def _kind(width: int, height: int) -> type[Glyph]:
-    """The type of the glyphs of a width and a height."""
-    return type("Glyph", (Glyph, (ctypes.c_ubyte * width) * height), {"__module__": __name__, "__doc__": Glyph.__doc__})
-
-
-def glyph(char: str | None, width: int, height: int, left: int, bottom: int, advance: int, swidth: int, pixels: bytes) -> Glyph:
-    """A glyph of its numbers and its pixels, a byte a pixel."""
-    made = _kind(width, height).from_buffer_copy(pixels)
-    made.char, made.width, made.height, made.left, made.bottom = char, width, height, left, bottom
-    made.advance, made.swidth = advance, swidth
-    return made
+        return self.char, self.width, self.height, self.left, self.bottom, self.advance, self.swidth, self._data
 
 
 def unpacked(rows: bytes, width: int, height: int) -> bytes:

@@ -4,7 +4,7 @@ from __future__ import annotations
 from collections.abc import Iterable
 
 from . import bdf
-from .strike import Strike
+from .strike import Strike, tell_of_unnamed
 
 
 def merge(strikes: Iterable[Strike], *, name: str | None = None) -> Strike:
@@ -23,11 +23,12 @@ def merge(strikes: Iterable[Strike], *, name: str | None = None) -> Strike:
     for text in reversed(texts):
         entries.update(text.entries)
     first = texts[0]
-    merged = bdf.Text(name or first.name, first.size, bdf.bounds(entries.values()), max(it.ascent for it in texts),
-                      max(it.descent for it in texts), first.properties, entries)
+    merged = bdf.Text(name or first.name, first.size, max(it.ascent for it in texts), max(it.descent for it in texts), first.properties,
+                      entries)
     bdf.settle(merged)
     refused = {char: why for it in reversed(given) for char, why in it.refused.items() if ord(char) not in entries}
     missing = {char for it in given for char in it.missing if ord(char) not in entries and char not in refused}
     outside = {char: far for it in given for char, far in it.outside.items() if entries[ord(char)] is it.parsed().entries.get(ord(char))}
-    return Strike(merged.encoded(), missing=tuple(sorted(missing)), refused=refused, outside=outside,
+    tell_of_unnamed([name for it in texts for name in it.unnamed])
+    return Strike(merged.encoded(), is_own=True, missing=tuple(sorted(missing)), refused=refused, outside=outside,
                   strays=sum(it.strays for it in given), steps=sum(it.steps for it in given))

@@ -13,6 +13,7 @@ if TYPE_CHECKING:
     from .strike import Strike
 
 MARGIN = 4  # pixels of the strike around all
+MOST = 1 << 28  # pixels of a picture, which take a byte each
 
 
 def of_glyph(glyph: Glyph, scale: int) -> Image:
@@ -50,6 +51,8 @@ def _drawn(width: int, height: int, placed: Iterable[tuple[int, int, Glyph]], sc
         from PIL import Image
     except ImportError as fault:
         raise NotInstalled("pictures need Pillow (Debian: python3-pil; pip install Pillow)") from fault
+    if width * height * max(scale, 1) ** 2 > MOST:
+        raise ValueError("a picture of %d x %d pixels: one has at most %s" % (width * scale, height * scale, format(MOST, ",")))
     drawn = Image.new("1", (max(width, 1), max(height, 1)), 1)
     for x, y, glyph in placed:
         if glyph.width and glyph.height:

@@ -2,11 +2,14 @@
 from __future__ import annotations
 
 import os
-from collections.abc import Iterator, Mapping
+import warnings
+from collections.abc import Iterator, Mapping, Sequence
 
 from . import bdf, glyph as glyphs
-from .refused import Missing
+from .refused import Missing, shown
+from .sources import read_file
 
+SHOWN = 12  # names of glyphs that a warning has
 TYPE_CHECKING = False  # as in glyph.py
 if TYPE_CHECKING:
     from PIL.Image import Image
@@ -25,8 +28,10 @@ class Strike(Mapping[str, glyphs.Glyph]):
     """
 
     def __init__(self, text: bytes, *, missing: tuple[str, ...] | None = (), refused: Mapping[str, Refused] | None = None,
-                 outside: Mapping[str, Outside] | None = None, requested: tuple[int, ...] = (), strays: int = 0, steps: int = 0) -> None:
-        self.text = text
+                 outside: Mapping[str, Outside] | None = None, requested: tuple[int, ...] = (), strays: int = 0, steps: int = 0,
+                 is_own: bool = False) -> None:
+        """A strike of its text; `is_own` says that this package or the program wrote it (see `bdf.parse`)."""
+        self._text, self._is_own = text, is_own
         self.refused: dict[str, Refused] = dict(refused or {})
         self.outside: dict[str, Outside] = dict(outside or {})
         self.strays, self.steps = strays, steps
@@ -37,17 +42,21 @@ class Strike(Mapping[str, glyphs.Glyph]):
     @classmethod
     def open(cls, path: str | os.PathLike[str]) -> Strike:
         """Reads a strike in BDF from a file, also one of another program."""
-        with open(path, "rb") as file:
-            strike = cls(file.read())
-        strike.parsed()
+        strike = cls(read_file(path))
+        bdf.check_room(strike.parsed())
         return strike
 
     # ---- what it says
 
+    @property
+    def text(self) -> bytes:
+        """The strike in BDF."""
+        return self._text
+
     def parsed(self) -> bdf.Text:
         """What the text says, read once."""
         if self._parsed is None:
-            self._parsed = bdf.parse(self.text)
+            self._parsed = bdf.parse(self._text, self._is_own)
         return self._parsed
 
     @property
@@ -100,7 +109,7 @@ class Strike(Mapping[str, glyphs.Glyph]):
             if entry is None:
                 raise Missing(char)
             pixels = glyphs.unpacked(entry.rows, entry.width, entry.height)
-            self._made[char] = glyphs.glyph(char, entry.width, entry.height, entry.left, entry.bottom, entry.dwidth, entry.swidth, pixels)
+            self._made[char] = glyphs.Glyph(char, entry.width, entry.height, entry.left, entry.bottom, entry.dwidth, entry.swidth, pixels)
         return self._made[char]
 
     def __contains__(self, char: object) -> bool:
@@ -166,12 +175,20 @@ class Strike(Mapping[str, glyphs.Glyph]):
         text = self.parsed()
         more = {name: value for name, value in (bdf.x11(text) if x11 else {}).items() if name not in given}
         kept = {name: value for name, value in text.properties.items() if name not in more and name not in given}
-        return self._with(bdf.Text(text.name, text.size, text.box, text.ascent, text.descent, {**kept, **more, **given}, text.entries))
+        return self._with(bdf.Text(text.name, text.size, text.ascent, text.descent, {**kept, **more, **given}, text.entries))
 
     def _with(self, text: bdf.Text, outside: Mapping[str, Outside] | None = None) -> Strike:
         """A strike of another text, with what was missing and refused here."""
+        tell_of_unnamed(self.parsed().unnamed)
         return Strike(text.encoded(), missing=self.missing, refused=self.refused, outside=self.outside if outside is None else outside,
-                      strays=self.strays, steps=self.steps)
+                      strays=self.strays, steps=self.steps, is_own=True)
+
+
+def tell_of_unnamed(names: Sequence[str]) -> None:
+    """Warns of the glyphs that a step leaves out, since they are no character's: those of another program's text."""
+    if names:
+        more = " and %d more" % (len(names) - SHOWN) if len(names) > SHOWN else ""
+        warnings.warn("left out, since ENCODING gives no character: %s%s" % (", ".join(map(shown, names[:SHOWN])), more), stacklevel=4)
 
 
 if TYPE_CHECKING:

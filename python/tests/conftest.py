@@ -49,7 +49,7 @@ needs_pillow = needs("PIL", "python3-pil")
 
 def program(words, font):
     """Runs the program on a font's bytes: its status, its output and its first line on standard error."""
-    ran = subprocess.run([PROGRAM, *words], input=font, capture_output=True, timeout=60, env={})
+    ran = subprocess.run([PROGRAM, *words], input=font, capture_output=True, timeout=600, env={})
     return ran.returncode, ran.stdout, ran.stderr.decode().split("\n")[0]
 
 

@@ -46,6 +46,7 @@ ENDFONT\r
 """
 
 
+@pytest.mark.filterwarnings("ignore:the strike has no glyph")
 @needs_font(SANS)
 def test_texts_are_written_as_read():
     """What is read of the program's text is written as the same bytes."""
@@ -64,6 +65,7 @@ def test_other_texts():
             mkstrike.Strike(wrong).parsed()
 
 
+@pytest.mark.filterwarnings("ignore:left out, since ENCODING gives no character")
 def test_damaged_texts():
     """A damaged text is read, or is no BDF; never another error, and never much memory."""
     import random
@@ -143,6 +145,31 @@ def test_merging():
     for wrong in ([], [strikes[0], mkstrike.Font(SANS).strike(17, "A")]):
         with pytest.raises(ValueError):
             mkstrike.merge(wrong)
+
+
+@needs_font(SANS, LIBERATION)
+@pytest.mark.parametrize("turned", [False, True])
+def test_lines_of_merged_strikes(turned):
+    """Ascent and descent are the greatest, so that no two lines overlap, whichever strike is first."""
+    strikes = [mkstrike.Font(it).strike(16, "ascii").cell(20, 30, ascent=ascent) for it, ascent in ((SANS, 25), (LIBERATION, 10))]
+    merged = mkstrike.merge(strikes[::-1 if turned else 1])
+    assert (merged.ascent, merged.descent) == (25, 20) and b"FONT_ASCENT 25\nFONT_DESCENT 20\n" in merged.text
+
+
+@needs_font(SANS, LIBERATION)
+def test_what_leaves_merged_cells():
+    """`outside` of a merged strike is that of the strike that gave the glyph."""
+    narrow, wide = (mkstrike.Font(SANS).strike(16, chars).cell(width, 20) for chars, width in (("41,57", 4), ("57,4d", 40)))
+    assert set(narrow.outside) == {"A", "W"} and not wide.outside
+    assert set(mkstrike.merge([wide, narrow]).outside) == {"A"} and set(mkstrike.merge([narrow, wide]).outside) == {"A", "W"}
+
+
+def test_average_of_negative_widths():
+    """AVERAGE_WIDTH is of the widths without their signs, as the X server has it."""
+    strike = mkstrike.Strike(OTHER.replace(b"DWIDTH 6 0\r\nBBX 5", b"DWIDTH -6 0\r\nBBX 5"))
+    assert strike["A"].advance == -6
+    with pytest.warns(UserWarning, match="left out"):
+        assert strike.with_properties(x11=True).properties["AVERAGE_WIDTH"] == 60
 
 
 @needs_font(SANS, LIBERATION)

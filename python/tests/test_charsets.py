@@ -1,6 +1,9 @@
 """Lists of characters."""
+import os
+import re
+
 import pytest
-from conftest import SANS, needs_font
+from conftest import SANS, TOP, needs_font
 
 import mkstrike
 from mkstrike import characters
@@ -9,13 +12,23 @@ from mkstrike.charsets import ranges
 
 def test_sets():
     """The sets that have names."""
-    assert mkstrike.character_sets() == {"ascii": 95, "latin-1": 191, "wgl4": 652, "box": 128, "blocks": 32, "braille": 256, "cp437": 255}
+    assert mkstrike.character_sets() == {"ascii": 95, "latin-1": 191, "latin-9": 191, "wgl4": 652, "box": 128, "blocks": 32, "braille": 256, "cp437": 255}
     for name, count in mkstrike.character_sets().items():
         assert len(characters(name)) == count
     assert characters("ascii") == list(range(0x20, 0x7F))
     assert characters("latin-1") == [it for it in range(256) if not (it < 32 or 127 <= it < 160)]
     cp437 = characters("cp437")
     assert {ord(it) for it in "☺☻♥♦♣♠•◘○◙♂♀♪♫☼►◄↕‼¶§▬↨↑↓→←∟↔▲▼ ~⌂ÇüéâÿÜ¢£¥₧ƒáÑªº¿⌐¬½¼¡«»░▒▓│┤╡╬═█▄▌▐▀αßΓπΣσµτΦΘΩδ∞φε∩≡±≥≤⌠⌡÷≈°∙·√ⁿ²■\xa0"} <= set(cp437)
+
+
+def test_sets_of_the_command():
+    """A set has the same characters here and for `mkstrike make --set`."""
+    with open(os.path.join(TOP, "crates/fx_words/src/sets.rt"), encoding="utf-8") as file:
+        table = re.sub(r"\\\n\s*", "", file.read()).split("SETS", 1)[1].split("];")[0]
+    rows = re.findall(r'\(\s*"([^"]+)",\s*"([^"]+)",?\s*\)', table)
+    assert len(rows) == 11
+    for name, items in rows:
+        assert characters(name) == characters(items), name
 
 
 def test_codecs():
@@ -42,9 +55,19 @@ def test_ranges_and_numbers():
             return 7
 
     assert characters(Number()) == characters([Number()]) == [7]
-    for wrong in ("Hello", "22-20", "110000", "20-", "-20", "20--22", "U+", "0x", "2_0", "+20", "caf\u00e9s", "20 21"):
+    for wrong in ("Hello", "22-20", "110000", "20-", "-20", "20--22", "U+", "0x", "2_0", "+20", "caf\u00e9s", "20 21", "١-٢", "U+٤١",
+                  "²²"):
         with pytest.raises(ValueError):
             characters(wrong)
+
+
+def test_no_lists():
+    """What is no list of characters, or no text, is said by the name of the argument."""
+    for wrong in (None, 1.5, [1.5], ["A", None]):
+        with pytest.raises(TypeError, match="^chars: .* is no list of characters$"):
+            characters(wrong)
+    with pytest.raises(TypeError, match="^text is a string, not bytes$"):
+        characters(text=b"abc")
 
 
 def test_texts():
@@ -70,6 +93,11 @@ def test_named_lists(monkeypatch, tmp_path):
     (tmp_path / "Mine.256").write_text("U+0041\nU+0042\n")
     monkeypatch.setattr("mkstrike.charsets.FOLDERS", (str(tmp_path),))
     assert characters("Mine") == characters("Mine.256") == [0x41, 0x42]
+    with pytest.raises(ValueError, match="and no list of bdf2psf; for"):
+        characters("Other")
+    monkeypatch.setattr("mkstrike.charsets.FOLDERS", (str(tmp_path / "none"),))
+    with pytest.raises(ValueError, match=r"and bdf2psf with its lists is not installed \(Debian: bdf2psf\); for"):
+        characters("Mine")
 
 
 @needs_font(SANS)
@@ -84,3 +112,5 @@ def test_ranges_for_people():
     """Code points as people read them."""
     assert ranges([0x41, 0x43, 0x42, 0x20AC]) == "U+0041-U+0043, U+20AC" and ranges([]) == ""
     assert ranges(range(0, 200, 2), 3) == "U+0000, U+0002, U+0004 and 97 more"
+    runs = [code for first in range(0, 0x1000, 0x20) for code in range(first, first + 10)]  # what is left out is counted by characters
+    assert ranges(runs, 2) == "U+0000-U+0009, U+0020-U+0029 and 1260 more"

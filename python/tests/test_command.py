@@ -16,7 +16,7 @@ pytestmark = needs_font(SANS, MONO, LIBERATION)
 def run(folder, *words, status=0, data=b""):
     """Runs the installed command in a folder. Returns what it prints on both outputs."""
     script = os.path.join(os.path.dirname(sys.executable), "strike")
-    ran = subprocess.run([script, *map(str, words)], cwd=folder, input=data, capture_output=True, timeout=60)
+    ran = subprocess.run([script, *map(str, words)], cwd=folder, input=data, capture_output=True, timeout=600)
     assert ran.returncode == status, ran.stderr.decode()
     return ran.stdout.decode(), ran.stderr.decode()
 
@@ -70,7 +70,50 @@ def test_what_is_left_out(tmp_path):
     out, err = run(tmp_path, SANS, "--chars", "19c", "--strict", status=1)
     assert out == "" and err.splitlines() == [
         "strike: %s at 16 pixels: 30 StackUnder during glyph 350 in glyph 350 at 73 opcode 39" % SANS,
-        "strike: push what the instruction needs first: the stack is empty when a program begins"]
+        "strike: with --unhinted no program of the font runs; to mend the font, push what the instruction needs first: the stack is empty "
+        "when a program begins"]
+
+
+def test_no_glyph(tmp_path):
+    """A strike without a glyph is told, with the way out."""
+    for chars, count in (("face", "strike: DejaVuSans: 1 missing: U+FACE"), ("12", "strike: DejaVuSans: 1 missing: U+0012")):
+        out, err = run(tmp_path, SANS, "--chars", chars)
+        assert out.endswith(": 0 glyphs\n") and err.splitlines() == [
+            count, "strike: DejaVuSans-16: the strike has no glyph: --chars takes sets by name and hexadecimal numbers, --text FILE a text's "
+            "characters"]
+    out, err = run(tmp_path, SANS, "--chars", "19c")
+    assert err.splitlines()[0].startswith("strike: DejaVuSans-16: the strike has no glyph: each character is refused; with --unhinted no program")
+
+
+def test_many_refused(tmp_path):
+    """Twelve refused characters have a line each, and the others one line with their number."""
+    import cases_of_refusals as made
+    damaged = next(run.data for case in made.CASES for run in case() if run.due.err.startswith(b"mkstrike: 18 GlyphShort"))
+    (tmp_path / "a.ttf").write_bytes(damaged)
+    with pytest.raises(mkstrike.Refused, match="^18 ") as found:
+        mkstrike.Font(damaged).glyph(16, "A")
+    glyph = found.value
+    refused = {chr(code): glyph for code in range(0x41, 0x55)}
+    strike = mkstrike.Strike(mkstrike.Font(SANS).strike(16, "20").text, refused=refused, is_own=True)
+    lines = command.report(strike, False)
+    assert [it for it in lines if it.startswith("refused")] == ["refused: U+%04X: %s" % (0x41 + k, glyph.line) for k in range(12)] + [
+        "refused: 8 more: U+004D-U+0054"]
+
+
+def test_options_alone(tmp_path):
+    """Options that go without a partner: --property without --x11, --scale and --columns for pbm."""
+    run(tmp_path, MONO, "--chars", "A", "--property", "CAP_HEIGHT=12", "--property", "NOTICE=mine")
+    assert mkstrike.Strike.open(tmp_path / "DejaVuSansMono-16.bdf").properties == {"CAP_HEIGHT": 12, "NOTICE": "mine"}
+
+
+@needs_pillow
+@pytest.mark.parametrize("form", ["pbm", "png"])
+def test_pictures(tmp_path, form):
+    """--scale and --columns are those of the sheet, in both forms."""
+    from PIL import Image
+    run(tmp_path, MONO, "--chars", "ascii", "--format", form, "--scale", "3", "--columns", "7")
+    due = mkstrike.Font(MONO).strike(16, "ascii").sheet(columns=7, scale=3)
+    assert Image.open(tmp_path / ("DejaVuSansMono-16." + form)).convert("1").tobytes() == due.tobytes()
 
 
 def test_merging(tmp_path):
@@ -96,7 +139,7 @@ def test_mistakes(tmp_path):
     out, err = run(tmp_path, "bad.ttf", "none.ttf", SANS, "--size", "16,2000", status=1)
     assert out == "./DejaVuSans-16.bdf: 191 glyphs\n"
     lines = [it.split(": ", 1)[1] for it in err.splitlines()]
-    assert lines[2].startswith("give a TrueType font")
+    assert lines[2] == "the file looks like an OpenType font with CFF outlines, which is not read: give a TrueType font"
     assert lines[:2] + lines[3:] == [
         "none.ttf: [Errno 2] No such file or directory: 'none.ttf'", "bad.ttf at 16 pixels: 10 NotTrueType",
         "bad.ttf at 2000 pixels: 60 BadSize", "give a size of 1 to 1024", "%s at 2000 pixels: 60 BadSize" % SANS, "give a size of 1 to 1024"]

@@ -5,9 +5,10 @@ import subprocess
 import sys
 import time
 
-from conftest import LIBERATION, PROGRAM, SANS, font_bytes, needs_font
+from conftest import LIBERATION, SANS, needs_font
 
 import mkstrike
+from mkstrike import _library, bdf
 
 
 @needs_font(SANS, LIBERATION)
@@ -51,32 +52,35 @@ def test_no_leak():
     assert resident() - before < 1 << 20
 
 
-def best(call, times):
-    """The least time of several calls, in milliseconds."""
-    found = []
-    for _ in range(times):
-        start = time.perf_counter()
-        call()
-        found.append(1000 * (time.perf_counter() - start))
-    return min(found)
-
-
 @needs_font(SANS)
-def test_speed():
-    """A strike of 191 characters takes at most 5 ms more than the program."""
-    data, words = font_bytes(SANS), [PROGRAM, "make", "--ppem", "16", "--chars", "20-7e,a0-ff"]
+def test_calls(monkeypatch):
+    """A strike is one call of the C library, and its text is read once; with refused characters it is made again, and each of these has a
+    call that tells why."""
+    library, calls, read = _library._c(), [], []
 
-    def by_program():
-        with open(SANS, "rb") as file:
-            subprocess.run(words, stdin=file, stdout=subprocess.DEVNULL, stderr=subprocess.DEVNULL, check=True)
+    class Counted:
+        """The library, whose calls are counted."""
 
-    def here():
-        strike = mkstrike.Font(data).strike(16, "latin-1")
-        assert not strike.missing and len(strike) == 191
+        def __getattr__(self, name):
+            calls.append(name.replace("mkstrike_", ""))
+            return getattr(library, name)
 
-    program, python = best(by_program, 20), best(here, 20)
-    print("a strike of 191 characters: the program %.1f ms, here %.1f ms" % (program, python))
-    assert python < program + 5
+    parse = bdf.parse
+    monkeypatch.setattr(_library, "_c", Counted)
+    monkeypatch.setattr(bdf, "parse", lambda *words: read.append(1) or parse(*words))
+    font = mkstrike.Font(SANS)
+    start = time.process_time()
+    strike = font.strike(16, "latin-1")
+    assert not strike.missing and len(strike) == 191 and sum(it.width for it in strike.values()) and strike.box and strike.name
+    print("a strike of 191 characters, read: %.1f ms of the processor" % (1000 * (time.process_time() - start)))
+    assert calls == ["make"] and len(read) == 1
+    del calls[:]
+    strike = font.strike(16, "180-250")
+    assert len(strike.refused) == 2 and calls == ["make", "reason", "glyphs", *["glyph", "reason"] * 2, "make"]
+    del calls[:]
+    font.glyph(16, "g")
+    font.glyph_ids(range(0x20000))
+    assert calls == ["glyph", "glyph_ids", "glyph_ids"]
 
 
 def test_import():

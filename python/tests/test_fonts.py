@@ -32,7 +32,7 @@ def test_packed_fonts(flavor):
         strikes = [it.strike(17, "20-24f", hinted=hinted) for it in (one, other)]
         assert strikes[0].text == strikes[1].text and len(strikes[0]) > 500
     for wrong in (data[:100], data[:len(data) // 2]):
-        with pytest.raises(ValueError, match="fontTools can't read the font"):
+        with pytest.raises(ValueError, match="the font can't be unpacked from %s: " % flavor.upper()):
             mkstrike.Font(wrong)
 
 
@@ -50,10 +50,107 @@ def test_collections(tmp_path):
                      lambda it: it.glyph_count, lambda it: it.glyph_ids("wgl4"), lambda it: set(it.strike(16, "180-250").refused)):
             assert call(font) == call(alone)
     for face in (3, -1, 1 << 32):
-        with pytest.raises(mkstrike.Refused, match="^25 NoFace$"):
+        with pytest.raises(mkstrike.Refused, match="^25 NoFace\n"):
             mkstrike.Font(tmp_path / "a.ttc", face=face).strike(16, "A")
-    with pytest.raises(mkstrike.Refused, match="^25 NoFace$"):
+    with pytest.raises(mkstrike.Refused, match="^25 NoFace\n"):
         mkstrike.Font(SANS, face=1).glyph(16, "A")
+
+
+@needs_font(SANS, LIBERATION)
+def test_faces_and_refusals(tmp_path):
+    """Each call means the face that was asked for, also after a character of it was refused."""
+    from fontTools.ttLib import TTFont, TTCollection
+    collection = TTCollection()
+    collection.fonts = [TTFont(it, recalcTimestamp=False) for it in (LIBERATION, SANS)]
+    collection.save(tmp_path / "a.ttc", shareTables=True)
+    first, font, alone = mkstrike.Font(tmp_path / "a.ttc"), mkstrike.Font(tmp_path / "a.ttc", face=1), mkstrike.Font(SANS)
+    strike = font.strike(16, "41,19c,250")
+    assert strike.text == alone.strike(16, "41,19c,250").text != first.strike(16, "41").text and list(strike) == ["A"]
+    assert {char: str(why) for char, why in strike.refused.items()} == {
+        char: str(why) for char, why in alone.strike(16, "19c,250,41").refused.items()} and set(strike.refused) == {"Ɯ", "ɐ"}
+    for call, char in ((lambda: font.strike(16, "41,19c", strict=True), "Ɯ"), (lambda: font.glyph(16, "Ɯ"), "Ɯ"),
+                       (lambda: font.glyph_by_id(16, 350), None)):
+        with pytest.raises(mkstrike.Refused) as found:
+            call()
+        assert found.value.line == "30 StackUnder during glyph 350 in glyph 350 at 73 opcode 39" and found.value.char == char
+
+
+def test_faces_with_axes(tmp_path):
+    """The instance of a face is a font of its own; a file of one font has no second face, with axes or packed."""
+    from fontTools.ttLib import TTFont, TTCollection
+    collection, plain = TTCollection(), built(MASTERS[0], 400, with_axis=True)
+    collection.fonts = [TTFont(io.BytesIO(it)) for it in (built(MASTERS[1], 500), plain)]
+    collection.save(tmp_path / "a.ttc", shareTables=False)
+    font = mkstrike.Font(tmp_path / "a.ttc", face=1, axes={"wght": 900})
+    assert font.strike(33, "A").text == mkstrike.Font(plain, axes={"wght": 900}).strike(33, "A").text
+    assert mkstrike.Font(tmp_path / "a.ttc", face=1).axes() == {"wght": (400, 400, 900)} and mkstrike.Font(tmp_path / "a.ttc").axes() == {}
+    for source, axes in ((plain, {"wght": 900}), (packed(plain, "woff"), None), (packed(plain, "woff"), {"wght": 900})):
+        with pytest.raises(mkstrike.Refused, match="^25 NoFace\n"):
+            mkstrike.Font(source, face=1, axes=axes).strike(33, "A")
+    with pytest.raises(ValueError, match="^fontTools can't read the font: specify a font number between 0 and 1"):
+        mkstrike.Font(tmp_path / "a.ttc", face=2, axes={"wght": 900})
+
+
+def test_reasons_of_fonttools():
+    """What fontTools raises is a ValueError with a reason, and with the file's kind if it is none that it reads."""
+    from mkstrike.sources import reason_of
+    plain = built(MASTERS[0], 400, with_axis=True)
+    cut = plain[:len(plain) // 2]
+    for call in (lambda: mkstrike.Font(cut, axes={"wght": 900}), lambda: mkstrike.Font(cut).axes(), lambda: mkstrike.Font(b"\0\1\0\0\0").axes()):
+        with pytest.raises(ValueError, match="^fontTools can't read the font: [^ ]"):
+            call()
+    with pytest.raises(ValueError, match="^fontTools can't read the font: .*; the file looks like a PDF: give a TrueType font$"):
+        mkstrike.Font(b"%PDF-1.4").axes()
+    assert reason_of(AssertionError()) == "AssertionError" and reason_of(KeyError("glyf")) == "KeyError: 'glyf'" and reason_of(ValueError("a\nb")) == "a b"
+
+
+@needs_font(SANS)
+def test_bounds_of_packed_fonts(monkeypatch):
+    """What a packed font would unpack to is bounded before and while it is unpacked, and the bound is named."""
+    import struct
+    import zlib
+    data = built(MASTERS[0], 400)
+    woff = bytearray(packed(data, "woff"))
+    assert mkstrike.Font(bytes(woff)).strike(33, "A").text == mkstrike.Font(data).strike(33, "A").text
+    for at, value, said in ((16, 1 << 27, "134,217,728 bytes, more than 67,108,864"), (44 + 12, 1 << 28, "more than 67,108,864")):
+        bomb = bytearray(woff)
+        struct.pack_into(">I", bomb, at, value)
+        with pytest.raises(ValueError, match="^the font can't be unpacked from WOFF: unpacked .*" + said):
+            mkstrike.Font(bytes(bomb))
+    # a table of 100 bytes that unpacks to 1 GB in fact
+    stream = zlib.compressobj(9)
+    parts = [stream.compress(bytes(1 << 20)) for _ in range(64)] + [stream.flush()]
+    table = b"".join(parts)
+    bomb = struct.pack(">4s4sIHHI24x", b"wOFF", b"\0\1\0\0", 64 + len(table), 1, 0, 228) + struct.pack(">4sIIII", b"glyf", 64, len(table), len(table) + 9, 0) + table
+    with pytest.raises(ValueError, match="the table 'glyf' does not have the"):
+        mkstrike.Font(bomb)
+    with pytest.raises(ValueError, match="the table 'glyf' is cut"):
+        mkstrike.Font(bomb[:-9])
+
+
+@needs("brotli", "python3-brotli")
+def test_bounds_of_woff2(monkeypatch):
+    """WOFF2 is unpacked by a process that can't take much memory."""
+    import struct
+    import brotli
+    from mkstrike import woff
+    data = packed(built(MASTERS[0], 400), "woff2")
+    bomb = bytearray(data)
+    struct.pack_into(">I", bomb, 16, 1 << 27)
+    with pytest.raises(ValueError, match="^the font can't be unpacked from WOFF2: unpacked it has 134,217,728 bytes, more than 67,108,864$"):
+        mkstrike.Font(bytes(bomb))
+    # 2 GB of zeros in less than 2,000 bytes: each 16 MiB of them are the same 14 bytes
+    stream = brotli.Compressor(quality=5, lgwin=24)
+    part = [stream.process(bytes(1 << 24)) + stream.flush() for _ in range(2)]
+    zeros = part[0] + part[1] * 127 + stream.finish()
+    assert len(zeros) < 2000
+    entry = bytes([0x3F]) + b"abcd" + b"\x81\x98\x80\x80\x00"
+    head = struct.pack(">4s4sIHHIIHH20x", b"wOF2", b"\0\1\0\0", 48 + len(entry) + len(zeros), 1, 0, 1 << 20, len(zeros), 1, 0)
+    with pytest.raises(ValueError, match="^the font can't be unpacked from WOFF2: it takes more than 300,000,000 bytes of memory$"):
+        mkstrike.Font(head + entry + zeros)
+    monkeypatch.setattr(woff, "CHILD", "import sys; sys.exit(1)")
+    with pytest.raises(ValueError, match="^the font can't be unpacked from WOFF2: it takes more than"):
+        mkstrike.Font(data)
 
 
 @needs_font(SANS)
@@ -66,9 +163,9 @@ def test_numbers():
     assert font.glyph_ids("A", text="一") == {"A": due["A"]}
     for char in "gÄ☃ ":
         one, same = font.glyph_by_id(19, due[char], dropout=True), font.glyph(19, char, dropout=True)
-        assert one.char is None and memoryview(one) == memoryview(same) and repr(one).partition(",")[2] == repr(same).partition(",")[2]
+        assert one.char is None and one.pixels == same.pixels and repr(one).partition(",")[2] == repr(same).partition(",")[2]
     assert font.glyph_by_id(16, 0).width > 0
-    for number in (font.glyph_count, 65535, 1 << 20, -1):
+    for number in (font.glyph_count, 65535):
         with pytest.raises(mkstrike.Refused, match="^24 BadGlyphNumber"):
             font.glyph_by_id(16, number)
     with pytest.raises(mkstrike.Refused, match="^30 StackUnder during glyph 350"):
@@ -130,7 +227,8 @@ def test_variable_fonts():
             made = mkstrike.Font(data, axes={"wght": weight}).strike(size, "A")
             assert made.text == static.strike(size, "A").text, (weight, size)
     assert mkstrike.Font(data).strike(33, "A").text == mkstrike.Font(data, axes={"wght": 400}).strike(33, "A").text
-    for axes, match in (({"wdth": 1}, "no axis 'wdth': it has wght"), ({"wght": 1000}, "from 400 to 900")):
+    for axes, match in (({"wdth": 1}, "no axis 'wdth': it has wght"), ({"wght": 1000}, "from 400 to 900, not to 1000"), ({"wght": 399}, "from 400 to 900, not to 399"),
+                        ({"wght": float("nan")}, "not to nan")):
         with pytest.raises(ValueError, match=match):
             mkstrike.Font(data, axes=axes)
     with pytest.raises(ValueError, match="no axes"):

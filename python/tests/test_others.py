@@ -106,11 +106,15 @@ def test_arrays_in_c(tmp_path, path, size, chars, cell):
 def test_limits_of_arrays(tmp_path):
     """What does not fit the fields of a GFXfont is said."""
     font = mkstrike.Font(SANS)
-    for size, chars, match in ((255, "57", "U\\+0057 does not fit"), (16, "1f600", "up to U\\+FFFF"), (16, "4e00", "no glyph")):
+    for size, chars, match in ((200, "20-7e", "U\\+0021 does not fit .* its top, -145"), (150, "20-7e", "does not fit .* the bytes before it"), (255, "57", "lines of at most 255 rows"),
+                               (16, "1f600", "up to U\\+FFFF")):
         with pytest.raises(ValueError, match=match):
             font.strike(size, chars, hinted=False).encode("gfx")
-    with pytest.raises(ValueError, match="no glyph"):
-        font.strike(16, "4e00").encode("c")
+    empty = font.strike(16, "41").cell(8, 8)
+    empty.parsed().entries.clear()
+    for name in ("c", "gfx", "pcf", "otb", "psf"):
+        with pytest.raises((ValueError, mkstrike.NotInstalled), match="without a glyph|has no glyph|not installed|one advance"):
+            empty.encode(name)
     font.strike(16, "1f600,2a,2f,5c").save(tmp_path / "my font-16.h")
     text = (tmp_path / "my font-16.h").read_text()
     assert "static const uint32_t my_font_16_chars[my_font_16_COUNT]" in text and "/* U+002A */" in text and "0x1F600" in text
@@ -218,4 +222,67 @@ def test_what_is_not_installed(monkeypatch):
         strike.sheet()
     monkeypatch.setitem(sys.modules, "fontTools.ttLib", None)
     with pytest.raises(mkstrike.NotInstalled, match="python3-fonttools"):
-        mkstrike.Font(b"wOFF" + bytes(100))
+        mkstrike.Font(b"", axes={"wght": 400})
+    with pytest.raises(mkstrike.NotInstalled, match="python3-fonttools"):
+        mkstrike.Font(SANS).axes()
+    monkeypatch.setattr(sys, "path", [it for it in sys.path if not it.endswith("-packages")])
+    with pytest.raises(mkstrike.NotInstalled, match="WOFF2 needs fontTools"):
+        mkstrike.Font(b"wOF2" + bytes(100))
+
+
+HOSTILE = ["*/", "*\\\r/", "*??/\r/", "*??/\n/", "*\\\n/", "**//", "/*", "//", "\\", "??/", "*?\\?/", "*\x0b/", "*\u2028/", "*\u202e/", "*\udc85/", "*\0/", "\n#include", '"', "é*/"]
+
+
+@CC
+@needs_font(SANS)
+@pytest.mark.parametrize("standard", ["c99", "c11"])
+def test_comments_in_c(tmp_path, standard):
+    """Of 200 hostile names nothing is code: comments end where they should."""
+    import random
+    from mkstrike import carray
+    choose, lines = random.Random(3), [GFXFONT]
+    strike, few = (mkstrike.Font(SANS).strike(9, it) for it in ("20-2f,5b-60,e9,2028,202e", "2a-2f"))
+    for k in range(200):
+        name = "".join(choose.choice(HOSTILE) for _ in range(choose.choice((1, 2, 5)))) + " INJECTED int injected%d; /*" % k
+        name = name if k else "nice*\\\r/ INJECTED\r__attribute__((constructor)) static void p(void) {} /*"
+        strike.parsed().name = few.parsed().name = name
+        for form, made in (("c", carray.rows(strike, "c%d" % k)), ("gfx", carray.gfx(few, "gfx%d" % k))):
+            comments = [it.split("*/")[0] for it in made.split("/*")[1:]]
+            assert all(" " <= char <= "~" or char == "\n" for it in comments for char in it) and not set("\\?") & set("".join(comments))
+            (tmp_path / ("%s%d.h" % (form, k))).write_bytes(made.encode("utf-8", "surrogateescape"))
+            lines.append('#include "%s%d.h"' % (form, k))
+    (tmp_path / "all.c").write_text("\n".join(lines) + "\nint main(void) { return 0; }\n")
+    words = ["gcc", "-std=" + standard, "-trigraphs", "-Wall", "-Wextra", "-Wcomment", "-Wtrigraphs", "-Werror", "-Wno-unused", "-Wno-cast-qual", "all.c"]
+    subprocess.run([*words, "-fsyntax-only"], cwd=tmp_path, check=True)
+    assert b"INJECTED" not in subprocess.run([*words, "-E"], cwd=tmp_path, check=True, capture_output=True).stdout
+
+
+def converter(folder, monkeypatch, name, script):
+    """Puts a program in front of all others."""
+    (folder / "programs").mkdir()
+    path = folder / "programs" / name
+    path.write_text("#!/bin/sh\n" + script)
+    path.chmod(0o755)
+    monkeypatch.setenv("PATH", "%s:%s" % (folder / "programs", os.environ["PATH"]))
+
+
+@needs_font(SANS)
+@pytest.mark.parametrize("script, said", [("echo half > out; echo it broke >&2; exit 1", "it broke"), ("echo half > out; exit 1", "status 1"), ("exit 0", "No such file")])
+def test_converters_that_fail(tmp_path, monkeypatch, script, said):
+    """What a program leaves that fails, or makes nothing, is not written."""
+    converter(tmp_path, monkeypatch, "bdftopcf", script)
+    with pytest.raises(RuntimeError, match="bdftopcf made nothing: .*" + said):
+        mkstrike.Font(SANS).strike(16, "ascii").save(tmp_path / "a.pcf")
+    assert os.listdir(tmp_path) == ["programs"]
+
+
+@needs_font(MONO)
+@pytest.mark.parametrize("count, places", [(255, 256), (256, 256), (257, 512), (512, 512)])
+def test_places_of_the_console(tmp_path, monkeypatch, count, places):
+    """A font of the console has 256 places as long as they do, since 512 take half of the colours."""
+    converter(tmp_path, monkeypatch, "bdf2psf", 'echo "$5" > out')
+    strike = mkstrike.Font(MONO).strike(14, range(0x21, 0x400), hinted=False).cell(8, 16)
+    chosen = mkstrike.merge([strike])
+    for code in sorted(chosen.parsed().entries)[count:]:
+        del chosen.parsed().entries[code]
+    assert len(chosen) == count and chosen.encode("psf") == b"%d\n" % places

@@ -1,6 +1,8 @@
 """Strikes are the program's, byte for byte, and glyphs are those of strikes."""
+import io
 import os
 import pickle
+import warnings
 
 import pytest
 from conftest import CANDIDATES, LIBERATION, MONO, SANS, flags, font_bytes, needs_font, program, text_of
@@ -53,6 +55,7 @@ def test_glyphs_are_those_of_strikes(hinted, dropout):
             assert one == glyph and one.rows == glyph.rows and hash(one) == hash(glyph)
 
 
+@pytest.mark.filterwarnings("ignore:the strike has no glyph")
 @needs_font(MONO, SANS)
 @pytest.mark.parametrize("name", ["strike", "-misc-dejavu-bold-i-normal--16-160-72-72-m-100-ISO10646-1", "two words", "-a-b"])
 def test_properties_are_the_programs(name):
@@ -90,20 +93,63 @@ def test_what_a_strike_says():
 
 
 @needs_font(SANS)
-def test_buffers():
-    """A glyph is a buffer of rows and columns."""
+def test_pixels():
+    """The pixels of a glyph are rows and columns of bytes."""
     glyph = mkstrike.Font(SANS).glyph(16, "g")
-    view = memoryview(glyph)
-    assert view.shape == (12, 8) and view.itemsize == 1 and view.contiguous and len(view.tobytes()) == 96
-    assert set(view.tobytes()) == {0, 255}
+    view = glyph.pixels
+    assert view.shape == (12, 8) and view.itemsize == 1 and view.contiguous and view.tobytes() == glyph.tobytes() == b"".join(glyph)
+    assert set(view.tobytes()) == {0, 255} and len(glyph) == 12 and glyph[-1] == list(glyph)[-1] and view[0, 2] == 255
     assert str(glyph).split("\n")[0] == "..####.#" and glyph.rows[0] == b"\x3d"
     assert list(glyph[0]) == [0, 0, 255, 255, 255, 255, 0, 255]
+    with pytest.raises(IndexError):
+        glyph[12]
     space = mkstrike.Font(SANS).glyph(16, " ")
-    assert space and memoryview(space).shape == (0, 0) and space.rows == () and str(space) == "" and space.advance == 5
+    assert space and not space.pixels.nbytes and space.rows == () and str(space) == "" and space.advance == 5 and not list(space)
     numpy = pytest.importorskip("numpy", reason="numpy is not installed (Debian: python3-numpy)")
     array = numpy.asarray(glyph)
     assert array.shape == (12, 8) and array.dtype == numpy.uint8 and array.sum() == 255 * str(glyph).count("#")
-    assert numpy.asarray(space).shape == (0, 0)
+    assert numpy.array_equal(array, numpy.asarray(view)) and numpy.asarray(space).shape == (0, 0)
+
+
+@needs_font(SANS)
+def test_glyphs_stay():
+    """Nobody can write to a glyph, so its hash, its picture and the strike's text stay true."""
+    strike = mkstrike.Font(SANS).strike(16, "ascii")
+    glyph, text = strike["h"], strike.text
+    kept, number, picture = pickle.loads(pickle.dumps(glyph)), hash(glyph), str(glyph)
+    for name in ("char", "width", "advance", "pixels", "rows", "_data", "other"):
+        with pytest.raises(AttributeError):
+            setattr(glyph, name, 0)
+        with pytest.raises(AttributeError):
+            delattr(glyph, name)
+    with pytest.raises(TypeError):
+        glyph[0][0] = 0
+    with pytest.raises(TypeError):
+        glyph.pixels[0, 0] = 0
+    with pytest.raises(AttributeError):
+        strike.text = b""
+    assert glyph.pixels.readonly
+    numpy = pytest.importorskip("numpy", reason="numpy is not installed (Debian: python3-numpy)")
+    array = numpy.asarray(glyph)
+    with pytest.raises(ValueError):
+        array[:] = 0
+    with pytest.raises(ValueError):
+        array.setflags(write=True)
+    assert glyph == kept == strike["h"] and hash(glyph) == number and str(glyph) == picture and strike.text == text
+
+
+@needs_font(SANS)
+def test_strikes_without_a_glyph():
+    """They are a warning that says why, and the way out."""
+    font = mkstrike.Font(SANS)
+    for chars, said in (("", "no character was asked for; give chars="), ("face", "the font has none of the characters; .* the characters of a text are text="),
+                        ("12", "none of the characters"), ("19c", "each character is refused; with hinted=False no program of the font runs; ")):
+        with pytest.warns(UserWarning, match="^the strike has no glyph: .*" + said) as warned:
+            assert not len(font.strike(16, chars))
+        assert warned[0].filename == __file__
+    with warnings.catch_warnings():
+        warnings.simplefilter("error")
+        font.strike(16, "20")
 
 
 @needs_font(SANS, LIBERATION)
@@ -116,6 +162,46 @@ def test_sources(tmp_path):
     assert [it.name for it in fonts] == ["DejaVuSans", "font", "font", "font", "DejaVuSans"]
     with pytest.raises(FileNotFoundError):
         mkstrike.Font(str(tmp_path / "none.ttf"))
+
+    class Drop:
+        """A stream that gives a part each time."""
+        def __init__(self):
+            self.left = data
+
+        def read(self, count):
+            part, self.left = self.left[:min(count, 60000)], self.left[min(count, 60000):]
+            return part
+
+    assert mkstrike.Font(Drop()).data == data
+
+
+def test_sources_of_other_types(tmp_path):
+    """What is no font is said by the name of the argument."""
+    (tmp_path / "a.ttf").write_bytes(b"text")
+    with open(tmp_path / "a.ttf", encoding="ascii") as file:
+        for source in (None, 5, file, io.StringIO("a")):
+            with pytest.raises(TypeError, match="^source is a path, bytes, a file that is open for bytes"):
+                mkstrike.Font(source)
+
+    class Text:
+        """A stream of text."""
+        def read(self, count):
+            return "a"
+
+    with pytest.raises(TypeError, match="^source: .* gives str, not bytes: open it with 'rb'"):
+        mkstrike.Font(Text())
+    with pytest.raises(TypeError, match="^face is a whole number, not '1'"):
+        mkstrike.Font(b"", face="1")
+
+
+@pytest.mark.parametrize("read", [mkstrike.Font, mkstrike.Strike.open, lambda path: mkstrike.Font(bytes((1 << 26) + 1)),
+                                  lambda path: mkstrike.characters("/dev/../dev/zero")])
+def test_files_without_an_end(read):
+    """At most 64 MiB are read."""
+    if not os.path.exists("/dev/zero"):
+        pytest.skip("there is no /dev/zero")
+    with pytest.raises(ValueError, match="has more than 67,108,864 bytes: none of that size is read"):
+        read("/dev/zero")
 
 
 @needs_font(SANS)
@@ -139,7 +225,7 @@ def test_large_strikes():
     made = pytest.importorskip("made")
     data = made.Font([made.Empty(), made.Simple([(0, 0, 4000, 3000)])], {0x41: 1}, upem=1024).data()
     glyph, strike = (getattr(mkstrike.Font(data), it)(1024, "A", hinted=False) for it in ("glyph", "strike"))
-    assert glyph == strike["A"] and memoryview(glyph).shape == (3000, 4000) and len(strike.text) > 3000 * 1001
+    assert glyph == strike["A"] and glyph.pixels.shape == (3000, 4000) and len(strike.text) > 3000 * 1001
     assert strike.text == text_of(["--ppem", "1024", "--chars", "41", "--unhinted"], data)
 
 
@@ -153,5 +239,5 @@ def test_no_library(monkeypatch):
             mkstrike.Font(b"").heights(16)
     monkeypatch.delenv("MKSTRIKE_LIBRARY")
     _library._c.cache_clear()
-    with pytest.raises(mkstrike.Refused, match="^10 NotTrueType$"):
+    with pytest.raises(mkstrike.Refused, match="^10 NotTrueType\n"):
         mkstrike.Font(b"").heights(16)

@@ -198,6 +198,25 @@ def _halt_keeps(c):
     c.attribute(machine.Machine, "run", run)
 
 
+def told_otherwise(name, text, change):
+    """A reading of where a program halted. `change` gets the place, and gives what is other in it."""
+    def run(right):
+        def told(m, name, code):
+            try:
+                right(m, name, code)
+            except Halt as halt:
+                halt.place.update(change(halt.place))
+                raise
+        return told
+    READINGS.append(Reading(name, "halts", text, lambda c: c.attribute(machine.Machine, "run", run)))
+
+
+told_otherwise("halt_at_the_next", "a halt's address is that of the next byte", lambda place: {"address": place["address"] + 1})
+told_otherwise("halt_without_opcode", "a halt tells the opcode 0", lambda place: {"opcode": 0})
+told_otherwise("halt_in_one_program", "a halt within a function is told as if the function had been started", lambda place:
+               {"during": place["program"]})
+
+
 @reading("divide_by_zero_is_zero", "halts", "DIV by 0 gives 0")
 def _divide_by_zero(c):
     c.row("DIV", lambda old: rows_stack.computed(2, lambda a, b: rows_stack.divide(a, b) if b else 0))

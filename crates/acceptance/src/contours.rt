@@ -3,7 +3,7 @@ ghost use Rattle.std.specs.Prelude.{◌≤◌, length};
 ghost use Rattle.fx_outline.specs.Limits.{max_points};
 ghost use Rattle.fx_outline.specs.Ends.{AreEnds};
 
-use crate::curves::{place, places};
+use crate::curves::places;
 use crate::outlines::{off, on};
 use fx_contour::{ContourFault, frame, outline_frame, pieces};
 use fx_outline::{Outline, OutlinePoint};
@@ -98,25 +98,4 @@ fn two_points_and_lone_points(rt: HostRuntime) -> Result<(), Fail> {
     let outline = outline(rt.alloc(), &points, &[1, 2, 3])?;
     let arcs = [[(0, 64), (384, 64), (0, 64)]];
     makes(&rt, rt.alloc(), &outline, &arcs, (0, 0, 3, 1))
-}
-
-/// 2^21 + 1, one more than the limit, in a contour of its own.
-#[test]
-fn a_lone_point_may_be_too_far(rt: HostRuntime) -> Result<(), Fail> {
-    let points = [on(0, 0), on(64, 64), on(2_097_153, 0)];
-    let outline = outline(rt.alloc(), &points, &[1, 2])?;
-    let far = outline_frame(&outline).err();
-    assert!(rt; far == Some(ContourFault::TooFar));
-    Ok(())
-}
-
-/// One point many times over: its lines have no length.
-#[test]
-fn pieces_of_16384_points(rt: HostRuntime) -> Result<(), Fail> {
-    let outline = outline(rt.alloc(), &[on(64, 64); 16384], &[16383])?;
-    let made = pieces(rt.alloc(), &outline)?;
-    assert!(rt; made.len() == 16384);
-    let last = made.as_slice().last().copied();
-    assert!(rt; last.map(|piece| place(piece.c)) == Some((128, 128)));
-    Ok(())
 }

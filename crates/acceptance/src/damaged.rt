@@ -1,6 +1,5 @@
 //! Fonts with each byte in turn set to others, hinted and not.
-use crate::fonts::{fixture, font, patch};
-use crate::hinted::{READING, STORING};
+use crate::fonts::{READING, STORING, fixture, font, patch};
 use crate::strikes::{HINTED, UNHINTED, request};
 use crate::tables::{Tables, with_tables};
 use fx_fixed::{Limits, MemorySink};

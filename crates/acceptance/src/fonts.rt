@@ -35,6 +35,19 @@ pub const RING: &str = "0002 0000 0000 0140 0140 0003 0007 0000
 /// Its glyph 3: an arc over its chord.
 pub const ARC: &str = "0001 0000 0000 0080 0080 0002 0000 31 36 17 40 40 80 80 00";
 
+/// The ring with a program that stores 64 in cell 0 of the storage area and in control value 0, and moves twilight point 0 by 64.
+pub const STORING: &str =
+    "0002 0000 0000 0140 0140 0003 0007 000F B1 00 40 42 B1 00 40 44 B0 00 16 B1 00 40 3A
+    31 21 11 21 17 35 33 15 0140 fec0 60 80 0140 e0 80 80 00";
+
+/// The arc with a program that shifts point 1 by what cell 0 holds.
+pub const READING: &str =
+    "0001 0000 0000 0080 0080 0002 0005 B1 01 00 43 38 31 36 17 40 40 80 80 00";
+
+/// A square of 90 units whose program rounds the right side up to the grid: it is 128 wide, and else 90.
+pub const ROUNDED: &str =
+    "0001 0000 0000 005a 005a 0003 0007 7C B1 01 00 2E 2F 31 31 33 35 23 5a 5a 5a";
+
 /// The bytes of hexadecimal text; white space separates them.
 pub fn bytes(alloc: Global, text: &str) -> Result<Vec<u8>, Fail> {
     let mut digits = Vec::new(alloc);
@@ -85,18 +98,6 @@ pub fn font(alloc: Global, second: &str, third: &str) -> Result<Vec<u8>, Fail> {
 /// The fixture font unchanged, of 382 bytes.
 pub fn fixture(alloc: Global) -> Result<Vec<u8>, Fail> {
     font(alloc, RING, ARC)
-}
-
-/// A glyph whose points are all 0, as many as the last end point says, by runs of 256 flags, and more flags after them.
-pub fn of_points(alloc: Global, last: &str, more: &str) -> Result<String, Fail> {
-    let mut text = String::from_str(alloc, "0001 0000 0000 0000 0000 ")?;
-    text.push_str(last)?;
-    text.push_str(" 0000")?;
-    for _ in 0..64 {
-        text.push_str(" 39 ff")?;
-    }
-    text.push_str(more)?;
-    Ok(text)
 }
 
 /// Puts other bytes at a place of a font.

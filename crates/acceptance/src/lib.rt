@@ -1,44 +1,26 @@
-//! Tests that cross crates: worked strikes, listings, damaged fonts, and readers and writers that fail; and the tests of the public
-//! calls of crates that take long to prove. Their expected values come from the public formats and from arithmetic by hand,
-//! never from the program's own output.
+//! Tests that cross crates, and tests of the public calls of crates that take long to prove, where a call of a library shows what no
+//! command does: scans, strikers, surveys, damaged fonts, writers that fail. Their expected values come from the public formats and from
+//! arithmetic by hand, never from the program's own output.
 #![tactic(auto)]
 
 #[cfg(test)]
-mod asked;
-#[cfg(test)]
 mod contours;
-#[cfg(test)]
-mod counted;
 #[cfg(test)]
 mod covering;
 #[cfg(test)]
 mod curves;
 #[cfg(test)]
-mod cuts;
-#[cfg(test)]
 mod damaged;
 #[cfg(test)]
 mod dropout_frames;
-#[cfg(test)]
-mod dropouts;
 #[cfg(test)]
 mod fonts;
 #[cfg(test)]
 mod halves;
 #[cfg(test)]
-mod hinted;
-#[cfg(test)]
 mod lanes;
 #[cfg(test)]
-mod large;
-#[cfg(test)]
-mod listings;
-#[cfg(test)]
-mod maps;
-#[cfg(test)]
 mod outlines;
-#[cfg(test)]
-mod programs;
 #[cfg(test)]
 mod refusals;
 #[cfg(test)]

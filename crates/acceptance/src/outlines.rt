@@ -1,7 +1,7 @@
-//! Outlines of glyphs: of few points and of many, and with components that come again.
-use crate::fonts::{ARC, fixture, font, of_points, patch};
+//! Outlines of glyphs with components that come again.
+use crate::fonts::{font, patch};
 use fx_fixed::{F26, Ppem};
-use fx_hint::{GlyphOutline, KeepingMachine, outline, outline_with};
+use fx_hint::{GlyphOutline, KeepingMachine, outline_with};
 use fx_machine::{Machine, Unwatched, Usage};
 use fx_outline::OutlinePoint;
 use fx_sfnt::{Font, FontFile};
@@ -27,13 +27,6 @@ pub fn off(x: i32, y: i32) -> OutlinePoint {
     }
 }
 
-/// The unhinted outline of glyph 2 of a font, at a size.
-fn outline_at(alloc: Global, file: &[u8], pixels: u16) -> Result<GlyphOutline, Fail> {
-    let font = Font::open(&FontFile::of(file))?;
-    let ppem = Ppem::new(pixels).ok_or("no size")?;
-    Ok(outline(alloc, &font, ppem, None, 2)?)
-}
-
 /// Whether an outline has these points, ends of contours and advance width, and no strays.
 pub fn is_outline(
     made: &GlyphOutline,
@@ -47,42 +40,11 @@ pub fn is_outline(
         && made.usage.strays == 0
 }
 
-#[test]
-fn an_outline_of_eight_points(rt: HostRuntime) -> Result<(), Fail> {
-    let file = fixture(rt.alloc())?;
-    let made = outline_at(rt.alloc(), file.as_slice(), 16)?;
-    let points = [
-        on(0, 0),
-        on(320, 0),
-        on(320, 320),
-        on(0, 320),
-        on(96, 96),
-        on(96, 224),
-        on(224, 224),
-        on(224, 96),
-    ];
-    assert!(rt; is_outline(&made, &points, &[3, 7], 384));
-    assert!(rt; made.usage.steps == 0);
-    Ok(())
-}
-
-#[test]
-fn an_outline_of_16384_points(rt: HostRuntime) -> Result<(), Fail> {
-    let glyph = of_points(rt.alloc(), "3fff", "")?;
-    let file = font(rt.alloc(), glyph.as_str(), ARC)?;
-    let made = outline_at(rt.alloc(), file.as_slice(), 255)?;
-    let outline = &made.outline;
-    assert!(rt; outline.points.len() == 16384);
-    assert!(rt; outline.points.last().copied() == Some(on(0, 0)));
-    assert!(rt; outline.ends.as_slice() == [16383].as_slice());
-    Ok(())
-}
-
 /// Glyph 3 twice, the second time moved.
-pub const TWICE: &str = "ffff 0000 0000 0080 0080 0022 0003 00 00 0002 0003 40 20";
+const TWICE: &str = "ffff 0000 0000 0080 0080 0022 0003 00 00 0002 0003 40 20";
 
 /// The arc with a program that reads a cell that the storage area does not have, and moves point 1 by half a pixel.
-pub const READING_A_STRAY: &str =
+const READING_A_STRAY: &str =
     "0001 0000 0000 0080 0080 0002 0008 B0 63 43 21 B1 01 20 38 31 36 17 40 40 80 80 00";
 
 /// The outline of glyph 2 by a machine that keeps nothing.

@@ -1,11 +1,11 @@
-//! The greatest sizes: 1,024 pixels an em, and 8,192 pixels a side.
-use crate::fonts::{RING, fixture, font};
-use crate::strikes::{counts, ends_with, request};
+//! How many tests the widest rows take.
+use crate::fonts::{RING, font};
+use crate::strikes::request;
 use fx_fixed::{Limits, MemorySink};
 use fx_request::{Refusal, Request};
 use fx_rows::Rows;
 use fx_sfnt::FontFile;
-use fx_strike::{make_strike, make_strike_with};
+use fx_strike::make_strike_with;
 use fx_winding::{Bitmap, Frame, Pieces, Scan, ScanFault, Tally};
 use std::alloc::Global;
 use std::process::Abort;
@@ -119,72 +119,4 @@ fn a_row_of_2048_pixels(rt: HostRuntime) -> Result<(), Fail> {
         &request,
         end.as_str(),
     )
-}
-
-/// A rectangle of 16,392 by 8 FUnits: 2,049 by 1 pixels at 128 pixels an em.
-const WIDE: &str =
-    "0001 0000 0000 0000 0000 0003 0000 01010101 0000 4008 0000 bff8 0000 0000 0008 0000";
-
-#[test]
-fn a_row_of_2049_pixels(rt: HostRuntime) -> Result<(), Fail> {
-    let alloc = rt.alloc();
-    let wide = font(alloc, RING, WIDE)?;
-    let end = one_row(alloc, 2049, 256, "80")?;
-    let request = request(128, &[0x42]);
-    ends_with(
-        &rt,
-        alloc,
-        wide.as_slice(),
-        &request,
-        counts(1, 0),
-        end.as_str(),
-    )
-}
-
-/// The lines of a strike of the character 41 at 1,024 pixels an em, before its rows.
-const HEAD: &[u8] =
-    b"STARTFONT 2.1\nFONT F1\nSIZE 1024 72 72\nFONTBOUNDINGBOX 320 320 0 0\nSTARTPROPERTIES 2\nFONT_ASCENT 800\nFONT_DESCENT 224\nENDPROPERTIES\nCHARS 1\nSTARTCHAR uni0041\nENCODING 65\nSWIDTH 375 0\nDWIDTH 384 0\nBBX 320 320 0 0\nBITMAP\n";
-
-/// The rows of that glyph, and the end of the strike.
-fn large_ring(alloc: Global) -> Result<Vec<u8>, Fail> {
-    let mut rows = Vec::new(alloc);
-    for row in 0..320u32 {
-        for byte in 0..40u32 {
-            let hole = 96 <= row && row < 224 && 12 <= byte && byte < 28;
-            rows.extend_from_slice(if hole { b"00" } else { b"FF" })?;
-        }
-        rows.push(b'\n')?;
-    }
-    rows.extend_from_slice(b"ENDCHAR\nENDFONT\n")?;
-    Ok(rows)
-}
-
-#[test]
-fn the_greatest_size(rt: HostRuntime) -> Result<(), Fail> {
-    let alloc = rt.alloc();
-    let font = fixture(alloc)?;
-    let mut out = MemorySink::new(alloc, 0, Limits::NONE)?;
-    let request = request(1024, &[0x41]);
-    let result = make_strike(alloc, &FontFile::of(font.as_slice()), &request, &mut out);
-    assert!(rt; result.is_ok());
-    let rows = large_ring(alloc)?;
-    assert!(rt; out.bytes().strip_prefix(HEAD) == Some(rows.as_slice()));
-    Ok(())
-}
-
-#[test]
-fn sizes_up_to_1024(rt: HostRuntime) -> Result<(), Fail> {
-    let font = fixture(rt.alloc())?;
-    for (ppem, ok) in [(256, true), (1024, true), (1025, false)] {
-        let mut out = MemorySink::new(rt.alloc(), 0, Limits::NONE)?;
-        let result = make_strike(
-            rt.alloc(),
-            &FontFile::of(font.as_slice()),
-            &request(ppem, &[]),
-            &mut out,
-        );
-        assert!(rt; result.is_ok() == ok, "{ppem}");
-        assert!(rt; ok || result == Err(Refusal::BadSize), "{ppem}");
-    }
-    Ok(())
 }

@@ -1,17 +1,52 @@
-//! Worked rows of calls that a strike does not show: the stack that a program leaves, an outline by a machine, glyph numbers.
-use crate::fonts::{RING, bytes, fixture, font};
-use crate::hinted::ROUNDED;
+//! Worked rows of calls of a machine: the stack that a program leaves, and an outline.
+use crate::fonts::{RING, ROUNDED, bytes, fixture, font};
 use crate::outlines::{is_outline, on};
-use crate::programs::{machine, square};
-use fx_cmap::CharMap;
 use fx_code::Code;
+use fx_fixed::{F26, Place, Ppem};
 use fx_hint::{GlyphOutline, outline};
 use fx_machine::{Machine, Unwatched};
 use fx_outline::OutlinePoint;
 use fx_sfnt::{Font, FontFile};
+use fx_zone::{Point, Zone};
 use std::alloc::Global;
 use std::process::Abort;
 use std::test::Fail;
+
+/// The machine of a font of which no program halts, at 16 pixels an em.
+fn machine<'a>(alloc: Global, file: &'a [u8]) -> Result<Machine<'a>, Fail> {
+    Ok(Machine::new(
+        alloc,
+        Font::open(&FontFile::of(file))?,
+        Ppem::new(16).ok_or("no size")?,
+        &mut Unwatched,
+    )?)
+}
+
+/// A point at rest on the curve.
+fn at(x: i32, y: i32) -> Point {
+    let place = Place {
+        x: F26(x),
+        y: F26(y),
+    };
+    Point::resting(place, true)
+}
+
+/// The square from (0, 0) to (90, 90), with its phantom points.
+fn square(alloc: Global) -> Result<Zone, Fail> {
+    let points = [
+        at(0, 0),
+        at(90, 0),
+        at(90, 90),
+        at(0, 90),
+        at(0, 0),
+        at(384, 0),
+        at(0, 800),
+        at(0, -224),
+    ];
+    let mut zone = Zone::new(alloc);
+    zone.append(&points, &[3])?;
+    Ok(zone)
+}
 
 /// Runs the program of a glyph on a square, and compares the stack that it leaves.
 fn leaves(
@@ -69,22 +104,5 @@ fn an_outline_by_a_machine(rt: HostRuntime) -> Result<(), Fail> {
     let made = hinted_outline(rt.alloc(), file.as_slice())?;
     let points = [on(0, 0), on(128, 0), on(128, 90), on(0, 90)];
     assert!(rt; is_rounded(&made, &points));
-    Ok(())
-}
-
-/// The glyph of a code in the character map of a font.
-fn glyph_of(file: &[u8], code: u32) -> Result<u16, Fail> {
-    let font = Font::open(&FontFile::of(file))?;
-    let map = CharMap::open(&font)?;
-    Ok(map.glyph(code))
-}
-
-/// The fixture's map has the characters 20, 41 and 42.
-#[test]
-fn glyph_numbers_of_the_fixture(rt: HostRuntime) -> Result<(), Fail> {
-    let file = fixture(rt.alloc())?;
-    for (code, glyph) in [(0x20, 1), (0x21, 0), (0x41, 2), (0x42, 3), (0xffff, 0)] {
-        assert!(rt; glyph_of(file.as_slice(), code)? == glyph, "{code}");
-    }
     Ok(())
 }

@@ -9,11 +9,6 @@ use std::alloc::Global;
 use std::process::Abort;
 use std::test::Fail;
 
-/// Whether a sink has this much of the strike's text, and this number of faults.
-fn has_written(out: &MemorySink, bytes: usize, faults: u64) -> bool {
-    STRIKE.as_bytes().get(..bytes) == Some(out.bytes()) && out.faults() == faults
-}
-
 /// The worked strike on a sink with limits returns this, and this much of its text is written, with one fault unless it is done.
 fn writes(
     rt: &impl Abort,
@@ -37,21 +32,6 @@ fn writes(
         STRIKE.as_bytes().get(..bytes) == Some(out.bytes()),
         "{bytes}"
     );
-    Ok(())
-}
-
-#[test]
-fn a_writer_that_fails_after_each_byte(rt: HostRuntime) -> Result<(), Fail> {
-    let font = fixture(rt.alloc())?;
-    assert!(rt; STRIKE.len() == 399);
-    for bytes in 0..399usize {
-        let limits = Limits {
-            bytes,
-            ..Limits::NONE
-        };
-        let fault = Err(Refusal::WriteFailed(bytes as u64));
-        writes(&rt, rt.alloc(), font.as_slice(), limits, fault, bytes)?;
-    }
     Ok(())
 }
 

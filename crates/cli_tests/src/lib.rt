@@ -1,5 +1,6 @@
-//! Tests of the program by its public calls, `run` above all. They stand here, since a crate with tests is proved twice. Their
-//! expected values come from the documents of the program and of BDF, and from arithmetic by hand.
+//! Tests of `run` where no system stands in: readers and writers that fail at each byte, and arguments that the system does not give.
+//! They stand here, since a crate with tests is proved twice. What the program does with a command line and a font is in
+//! `tools/check_program`.
 #![tactic(auto)]
 
 #[cfg(test)]
@@ -7,13 +8,9 @@ mod arguments;
 #[cfg(test)]
 mod fonts;
 #[cfg(test)]
-mod lines;
+mod front;
 #[cfg(test)]
 mod lists;
-#[cfg(test)]
-mod outlines;
-#[cfg(test)]
-mod properties;
 #[cfg(test)]
 mod readers;
 #[cfg(test)]
@@ -21,10 +18,4 @@ mod refused;
 #[cfg(test)]
 mod runs;
 #[cfg(test)]
-mod shows;
-#[cfg(test)]
-mod strikes;
-#[cfg(test)]
 mod writers;
-#[cfg(test)]
-mod x11;

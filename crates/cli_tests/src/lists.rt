@@ -1,5 +1,5 @@
 //! Lists of characters.
-use fx_arguments::parse_chars;
+use fx_arguments::{ItemFault, parse_chars, wrong_item};
 use fx_request::Refusal;
 use std::test::Fail;
 
@@ -28,6 +28,26 @@ fn lists(rt: HostRuntime) -> Result<(), Fail> {
     ] {
         let refused = parse_chars(rt.alloc(), list);
         assert!(rt; matches!(&refused, Err(Refusal::BadChars)), "{list}");
+    }
+    Ok(())
+}
+
+/// Which item of a list is wrong, and why.
+#[test]
+fn wrong_items(rt: HostRuntime) -> Result<(), Fail> {
+    for (list, want) in [
+        ("41,ascii", Some(("ascii", ItemFault::NoNumber))),
+        ("41,", Some(("", ItemFault::NoNumber))),
+        ("41,0x41,g", Some(("0x41", ItemFault::NoNumber))),
+        ("0000041", Some(("0000041", ItemFault::TooLong))),
+        ("41-0000042", Some(("41-0000042", ItemFault::TooLong))),
+        ("43,42-41", Some(("42-41", ItemFault::Falls))),
+        ("10ffff,110000", Some(("110000", ItemFault::TooHigh))),
+        ("20-7e,a0", None),
+        ("0-10ffff", None),
+        ("", None),
+    ] {
+        assert_eq!(rt; wrong_item(list), want, "{list}");
     }
     Ok(())
 }

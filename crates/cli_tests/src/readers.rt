@@ -1,9 +1,7 @@
-//! Readers that fail, and large inputs.
-ghost use Rattle.std.specs.Prelude.{None};
-
+//! Readers that fail.
 use crate::fonts::fixture;
-use crate::runs::{BAD_CHARS, BAD_SIZE, End, READ_FAILED, USAGE, ends, ends_on};
-use fx_fixed::{Limits, Source};
+use crate::runs::{BAD_CHARS, End, READ_FAILED, USAGE, ends};
+use fx_fixed::Limits;
 use std::alloc::Global;
 use std::process::Abort;
 use std::test::Fail;
@@ -105,41 +103,6 @@ fn readers_that_fail_after_the_first_line(rt: HostRuntime) -> Result<(), Fail> {
             &READ_FAILED,
         )?;
         fails_in(&rt, rt.alloc(), "mkstrike", input, *line, to, end)?;
-    }
-    Ok(())
-}
-
-/// A source of `left` bytes. Their values do not matter.
-#[derive(Drop)]
-struct Bytes {
-    left: usize,
-}
-
-impl Source for Bytes {
-    ghost left = { λ _. None };
-
-    ghost fault_count = { λ _. 0 };
-
-    fn take(&mut self, buffer: &mut [u8]) -> Option<usize> {
-        let n = self.left.min(buffer.len());
-        self.left -= n;
-        Some(n)
-    }
-
-    fn faults(&self) -> u64 {
-        0
-    }
-}
-
-const TOO_LARGE: End<'static> = (1, b"", b"mkstrike: 73 InputTooLarge\n");
-
-/// The largest input, and one byte more.
-#[test]
-fn large_inputs(rt: HostRuntime) -> Result<(), Fail> {
-    let arguments = "mkstrike|make|--ppem|0|--chars|41";
-    for (left, end) in [(67_108_864, BAD_SIZE), (67_108_865, TOO_LARGE)] {
-        let mut reader = Bytes { left };
-        ends_on(&rt, rt.alloc(), arguments, &mut reader, Limits::NONE, &end)?;
     }
     Ok(())
 }

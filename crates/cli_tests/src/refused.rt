@@ -1,6 +1,5 @@
-//! Strikes that are made although a character is refused.
+//! Lines that standard error does not take.
 use crate::fonts::{fixture, patch};
-use crate::runs::ends;
 use fx_cli::run;
 use fx_fixed::{Limits, MemorySink, MemorySource, Sink};
 use std::test::Fail;
@@ -15,25 +14,6 @@ const WITHOUT_A: &[u8] =
 /// Its lines, if A is refused.
 const LINES: &[u8] =
     b"mkstrike: left out U+0041: 19 BadContours 2\nmkstrike: glyphs 2 missing 1 strays 0 steps 0\n";
-
-/// The fixture with a damaged A, with each word for what becomes of it.
-#[test]
-fn left_out(rt: HostRuntime) -> Result<(), Fail> {
-    let mut font = fixture(rt.alloc())?;
-    patch(&mut font, 334, &[0, 9])?;
-    for end in [
-        ("leave-out", (0, WITHOUT_A, LINES)),
-        ("unhinted", (0, WITHOUT_A, LINES)),
-        ("stop", (1, b"", b"mkstrike: 19 BadContours 2\n")),
-    ] {
-        let arguments = format!(in rt.alloc();
-            "mkstrike|make|--ppem|16|--chars|20,41-43|--name|F1|--refused|{}",
-            end.0
-        )?;
-        ends(&rt, rt.alloc(), &arguments, &font, Limits::NONE, &end.1)?;
-    }
-    Ok(())
-}
 
 /// Standard error fails in its first line, or in the second: nothing is written there any more, and the strike is whole.
 #[test]
@@ -56,5 +36,22 @@ fn lines_that_fail(rt: HostRuntime) -> Result<(), Fail> {
         assert!(rt; LINES.get(..bytes) == Some(err.bytes()), "{bytes}");
         assert_eq!(rt; err.faults(), 1, "{bytes}");
     }
+    Ok(())
+}
+
+/// Standard error fails in the line of a refusal: the status is the same.
+#[test]
+fn a_refusal_whose_line_fails(rt: HostRuntime) -> Result<(), Fail> {
+    let words = ["mkstrike", "show", "--ppem", "16", "--char", "41"];
+    let limits = Limits {
+        bytes: 5,
+        ..Limits::NONE
+    };
+    let mut reader = MemorySource::new(b"OTTO", Limits::NONE);
+    let mut out = MemorySink::new(rt.alloc(), 16, Limits::NONE)?;
+    let mut err = MemorySink::new(rt.alloc(), 64, limits)?;
+    let status = run(rt.alloc(), &words, &mut reader, &mut out, &mut err);
+    assert!(rt; status == 1 && out.bytes().is_empty());
+    assert!(rt; err.bytes() == b"mkstr".as_slice() && err.faults() == 1);
     Ok(())
 }

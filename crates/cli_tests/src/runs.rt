@@ -17,8 +17,6 @@ pub const BAD_SIZE: End<'static> = (1, b"", b"mkstrike: 60 BadSize\n");
 
 pub const BAD_CHARS: End<'static> = (1, b"", b"mkstrike: 61 BadChars\n");
 
-pub const BAD_HEX: End<'static> = (1, b"", b"mkstrike: 72 BadHex\n");
-
 pub const READ_FAILED: End<'static> = (1, b"", b"mkstrike: 71 ReadFailed\n");
 
 /// Runs the program from a source to a sink with limits, and compares how it ends. The arguments are separated by bars, the

@@ -4,6 +4,7 @@ pub mod Arguments
 pub mod Mistakes
 pub mod CommandLine
 pub mod Input
+pub mod WrongItems
 pub mod ReadAhead
 pub mod Commands
 pub mod Properties

@@ -33,7 +33,7 @@ pub fn parse_chars(alloc: Global, list: &str) -> Result<Vec<u32>, Refusal>
 
 /// The first and the last number of an item.
 #[tactic(auto, using(crate::proofs::Items::range_cut, crate::proofs::Items::range_whole))]
-fn range(item: &str) -> Option<(u32, u32)>
+pub fn range(item: &str) -> Option<(u32, u32)>
     ensures value { result ≡ range_of item.now }
     ensures order { IfSome result (λ range. range.0 ≤ range.1) }
 {
@@ -75,7 +75,7 @@ pub fn number(text: &str) -> Option<u32>
 }
 
 /// The value of a hexadecimal digit in either case.
-fn digit_value(digit: u8) -> Option<u8>
+pub fn digit_value(digit: u8) -> Option<u8>
     ensures value { result ≡ hex_digit_value digit }
     ensures bound { IfSome result (λ value. value < 16) }
 {

@@ -24,6 +24,7 @@ mod said;
 mod teller;
 mod values;
 mod verb;
+mod wrong_items;
 
 pub use arguments::read_arguments;
 pub use chars::parse_chars;
@@ -35,3 +36,4 @@ pub use input::{LINE_BUFFER, arguments_of_line, read_line};
 pub use lines::{out_of_memory, usage};
 pub use read_ahead::ReadAhead;
 pub use teller::Teller;
+pub use wrong_items::{ItemFault, wrong_item};

@@ -2,10 +2,15 @@
 //! standard error and a status out.
 #![tactic(auto)]
 
+mod mkstrike;
 mod picture;
 mod program;
 mod show;
 mod start;
+mod watch;
+mod watcher;
 
-pub use program::run;
+pub use mkstrike::Mkstrike;
+pub use program::{run, run_watched};
 pub use start::{run_given, run_program};
+pub use watcher::{Unwatched, Watcher};

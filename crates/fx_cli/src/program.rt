@@ -10,6 +10,7 @@ ghost use Rattle.fx_cli.specs.Runs.{Ends, Runs, TaskLeaves, called, programs_of}
 ghost use Rattle.fx_cli.specs.Steps.{EndsAfter, EndsText, Telling};
 
 use crate::show::put_picture;
+use crate::watcher::{Unwatched, Watcher};
 use fx_arguments::{
     Command, Done, Fault, LINE_BUFFER, ReadAhead, Task, Teller, Traced, arguments_of_line,
     decode_hex, read_arguments, read_line,
@@ -35,20 +36,40 @@ pub fn run<R: Source, O: Sink, E: Sink>(
     ensures { Runs (texts arguments.now) (change_of R.left R.fault_count reader.old reader.new)
         (change_of O.held O.fault_count out.old out.new) (change_of E.held E.fault_count err.old err.new) result }
 {
+    run_watched(alloc, arguments, reader, out, err, &mut Unwatched)
+}
+
+/// The same, and a watcher sees what was done.
+pub fn run_watched<R: Source, O: Sink, E: Sink, W: Watcher>(
+    alloc: Global,
+    arguments: &[&str],
+    reader: &mut R,
+    out: &mut O,
+    err: &mut E,
+    watcher: &mut W,
+) -> u8
+    requires reader { R.fault_count reader.old < 2 ^ 63 }
+    requires out { O.fault_count out.old < 2 ^ 63 }
+    requires err { E.fault_count err.old < 2 ^ 63 }
+    ensures { Runs (texts arguments.now) (change_of R.left R.fault_count reader.old reader.new)
+        (change_of O.held O.fault_count out.old out.new) (change_of E.held E.fault_count err.old err.new) result }
+{
     let mut teller = Teller::new(err);
-    let outcome = run_told(alloc, arguments, reader, out, &mut teller);
+    let outcome = run_told(alloc, arguments, reader, out, &mut teller, watcher);
     let status = teller.status(&outcome);
     teller.close();
+    watcher.end(&outcome);
     status
 }
 
 /// Runs the program, and tells a teller of refused characters.
-fn run_told<R: Source, O: Sink, E: Sink>(
+fn run_told<R: Source, O: Sink, E: Sink, W: Watcher>(
     alloc: Global,
     arguments: &[&str],
     reader: &mut R,
     out: &mut O,
     teller: &mut Teller<'_, E>,
+    watcher: &mut W,
 ) -> Result<Done, Fault>
     requires reader { R.fault_count reader.old < 2 ^ 63 }
     requires out { O.fault_count out.old < 2 ^ 63 }
@@ -56,19 +77,20 @@ fn run_told<R: Source, O: Sink, E: Sink>(
         (change_of R.left R.fault_count reader.old reader.new) (change_of O.held O.fault_count out.old out.new) told result) }
 {
     if arguments.len() > 1 {
-        run_arguments(alloc, arguments, reader, out, teller)
+        run_arguments(alloc, arguments, reader, out, teller, watcher)
     } else {
-        run_line(alloc, arguments, reader, out, teller)
+        run_line(alloc, arguments, reader, out, teller, watcher)
     }
 }
 
 /// The arguments are given, and the input is the font.
-fn run_arguments<R: Source, O: Sink, E: Sink>(
+fn run_arguments<R: Source, O: Sink, E: Sink, W: Watcher>(
     alloc: Global,
     arguments: &[&str],
     reader: &mut R,
     out: &mut O,
     teller: &mut Teller<'_, E>,
+    watcher: &mut W,
 ) -> Result<Done, Fault>
     requires reader { R.fault_count reader.old < 2 ^ 63 }
     requires out { O.fault_count out.old < 2 ^ 63 }
@@ -77,16 +99,25 @@ fn run_arguments<R: Source, O: Sink, E: Sink>(
         (change_of R.left R.fault_count reader.old reader.new) (change_of O.held O.fault_count out.old out.new) told result) }
 {
     let command = read_arguments(alloc, arguments)?;
-    run_command(alloc, &command, &ReadAhead::none(), reader, out, teller)
+    run_command(
+        alloc,
+        &command,
+        &ReadAhead::none(),
+        reader,
+        out,
+        teller,
+        watcher,
+    )
 }
 
 /// The input's first line holds the arguments, and what follows it is the font.
-fn run_line<R: Source, O: Sink, E: Sink>(
+fn run_line<R: Source, O: Sink, E: Sink, W: Watcher>(
     alloc: Global,
     arguments: &[&str],
     reader: &mut R,
     out: &mut O,
     teller: &mut Teller<'_, E>,
+    watcher: &mut W,
 ) -> Result<Done, Fault>
     requires reader { R.fault_count reader.old < 2 ^ 63 }
     requires out { O.fault_count out.old < 2 ^ 63 }
@@ -109,6 +140,7 @@ fn run_line<R: Source, O: Sink, E: Sink>(
         reader,
         out,
         teller,
+        watcher,
     )
 }
 
@@ -123,13 +155,14 @@ fn program_name<'a>(arguments: &[&'a str]) -> &'a str
 }
 
 /// Does what a command asks for; `ahead` is what was read of the input before.
-fn run_command<R: Source, O: Sink, E: Sink>(
+fn run_command<R: Source, O: Sink, E: Sink, W: Watcher>(
     alloc: Global,
     command: &Command<'_>,
     ahead: &ReadAhead<'_>,
     reader: &mut R,
     out: &mut O,
     teller: &mut Teller<'_, E>,
+    watcher: &mut W,
 ) -> Result<Done, Fault>
     requires reader { R.fault_count reader.old < 2 ^ 63 }
     requires out { O.fault_count out.old < 2 ^ 63 }
@@ -138,16 +171,17 @@ fn run_command<R: Source, O: Sink, E: Sink>(
         (change_of R.left R.fault_count reader.old reader.new) (change_of O.held O.fault_count out.old out.new) told result) }
 {
     let text = ahead.read_on(alloc, reader)?;
-    run_text(alloc, command, &text, out, teller)
+    run_text(alloc, command, &text, out, teller, watcher)
 }
 
 /// Does what a command asks for with a font's text.
-fn run_text<O: Sink, E: Sink>(
+fn run_text<O: Sink, E: Sink, W: Watcher>(
     alloc: Global,
     command: &Command<'_>,
     text: &[u8],
     out: &mut O,
     teller: &mut Teller<'_, E>,
+    watcher: &mut W,
 ) -> Result<Done, Fault>
     requires { O.fault_count out.old < 2 ^ 63 }
     ensures { Telling teller.old teller.new (λ told. EndsText (seen command.now) text.now
@@ -155,31 +189,29 @@ fn run_text<O: Sink, E: Sink>(
 {
     if command.hex {
         let font = decode_hex(alloc, text)?;
-        late(run_bytes(alloc, command, &font, out, teller))
+        late(run_bytes(alloc, command, &font, out, teller, watcher))
     } else {
-        late(run_bytes(alloc, command, text, out, teller))
+        late(run_bytes(alloc, command, text, out, teller, watcher))
     }
 }
 
 /// Does what a command asks for with the bytes of a font file.
-fn run_bytes<O: Sink, E: Sink>(
+fn run_bytes<O: Sink, E: Sink, W: Watcher>(
     alloc: Global,
     command: &Command<'_>,
     bytes: &[u8],
     out: &mut O,
     teller: &mut Teller<'_, E>,
+    watcher: &mut W,
 ) -> Result<Done, Refusal>
     requires { O.fault_count out.old < 2 ^ 63 }
     ensures { Telling teller.old teller.new (λ told. TaskLeaves (seen command.now).task (face_in bytes.now command.now.face)
         (change_of O.held O.fault_count out.old out.new) told result) }
 {
-    run_task(
-        alloc,
-        &command.task,
-        &FontFile::new(bytes, command.face),
-        out,
-        teller,
-    )
+    let font = FontFile::new(bytes, command.face);
+    let outcome = run_task(alloc, &command.task, &font, out, teller);
+    watcher.see(alloc, command, &font, &outcome);
+    outcome
 }
 
 /// Does a task with a font.

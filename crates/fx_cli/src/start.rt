@@ -7,22 +7,38 @@ ghost use Rattle.fx_arguments.specs.Lines.{Tells, outcome_line, status_of};
 ghost use Rattle.fx_cli.specs.Runs.{Starts, unread_outcome};
 ghost use Rattle.std.specs.IoError.{error_kind};
 
+use crate::mkstrike::Mkstrike;
 use crate::program::run;
 use fx_arguments::{out_of_memory, usage};
-use fx_fixed::{FromReader, Sink, Source, ToSink};
+use fx_fixed::{Sink, Source, ToSink};
+use fx_front::{run_front, say_not_text};
 use std::alloc::{AllocError, Global};
-use std::io::{ErrorKind, Write};
+use std::io::ErrorKind;
 use std::{env, io};
 
-/// Runs the program on the arguments that the system gives, from standard input to standard output, with its lines for people
-/// to `err`.
+/// Runs the program on the arguments that the system gives, with its font and its output by name or on the standard streams.
 /// Returns the status. Nothing is buffered between it and the system's files, so that no byte is lost after it returns.
-pub fn run_program<E: Write + Drop>(rt: &HostRuntime, err: E) -> u8 {
-    let arguments = arguments(rt);
-    let mut reader = FromReader::new(rt.stdin());
-    let mut out = ToSink::new(rt.stdout());
-    let mut err = ToSink::new(err);
-    run_given(rt.alloc(), &arguments, &mut reader, &mut out, &mut err)
+pub fn run_program(rt: &HostRuntime) -> u8 {
+    match run_by_front(rt) {
+        Ok(status) => status,
+        Err(fault) => end_unread(rt, fault.kind()),
+    }
+}
+
+/// Says why there are no arguments, or no memory for them. Returns the status.
+fn end_unread(rt: &HostRuntime, kind: ErrorKind) -> u8 {
+    let status = unread(&mut ToSink::new(rt.stderr()), kind);
+    if status == 2 {
+        say_not_text(rt);
+    }
+    status
+}
+
+/// Runs the program by its front. An error is that there are no arguments, or no memory before the program was run.
+fn run_by_front(rt: &HostRuntime) -> io::Result<u8> {
+    let arguments = arguments(rt)?;
+    let texts = texts_of(rt.alloc(), &arguments)?;
+    run_front(rt, &mut Mkstrike::new(rt.alloc()), &texts)
 }
 
 /// The arguments that the system gives, the program's name first.

@@ -2,4 +2,5 @@ pub mod Subtables
 pub mod Segments
 pub mod Groups
 pub mod Lookup
+pub mod Preferences
 pub mod inner

@@ -11,6 +11,7 @@ mod cursor;
 mod fault;
 mod group;
 mod groups;
+pub mod laws;
 mod mapping;
 mod records;
 mod rising;

@@ -5,6 +5,7 @@
 //! of the characters that were refused and did not stop the strike.
 #![tactic(auto)]
 
+mod advice;
 mod characters;
 mod faults;
 pub mod laws;
@@ -17,7 +18,7 @@ mod request;
 
 pub use characters::rising_codes;
 pub use limits::{MAX_CHARACTERS, MAX_CODE};
-pub use names::named;
+pub use names::{advised, named};
 pub use notice::{Deaf, Listener, Notice};
 pub use place::Place;
 pub use refusal::Refusal;

@@ -15,11 +15,13 @@ use Rattle.fx_trace.specs.declared.fault.TraceFault.{TraceFault}
 use Rattle.fx_trace.specs.declared.fault.TraceFault.TheVariants as trace
 use Rattle.fx_trace.specs.Traces.{Trace, Traces}
 use Rattle.fx_request.specs.declared.refusal.Refusal.{Refusal}
-use Rattle.fx_request.specs.declared.refusal.Refusal.TheVariants.{WriteFailed}
+use Rattle.fx_machine.specs.Known.{Known}
+use Rattle.fx_request.specs.declared.refusal.Refusal.TheVariants.{WriteFailed, ReadFailed, BadHex, InputTooLarge, OutOfMemory}
 use Rattle.fx_request.specs.Faults.{of_font, of_glyph}
-use Rattle.fx_strike.specs.Faults.{of_hint}
+use Rattle.fx_strike.specs.declared.opened.Opened.{Opened}
+use Rattle.fx_strike.specs.Faults.{Fails, of_hint}
 use Rattle.fx_strike.specs.Headline.{IsCause}
-use Rattle.fx_strike.specs.Traces.{untold, told_by, end_with, Tells, refused_as}
+use Rattle.fx_strike.specs.Traces.{untold, told_by, told_from, end_with, Tells, refused_as}
 
 -- ---- no fault of programs is one of the writer
 
@@ -119,3 +121,18 @@ untold_refusal bytes faults refusal c = record {
   memory = λ e. record { count = 0; written = Appends-nil bytes; quiet = refl };
   writer = λ n e. absurd (let P : Refusal → Type 0 = λ r. IsCause r in subst P (same_refusal e) c);
 }
+
+-- `fpgm` or `prep` halted, or memory ran out: no line was written
+pub untold_fails : (opened : Opened) (glyph : Option ℕ) (due : Result Known Refusal) (bytes : Option (List ℕ)) (faults : ℕ)
+    (refusal : Refusal) → Fails refusal due → Tells (told_from opened glyph due) (unchanged bytes faults) (Err refusal)
+untold_fails opened glyph due bytes faults OutOfMemory f = record {
+  text = tt;
+  cause = λ named. absurd named;
+  memory = λ e. record { count = 0; written = Appends-nil bytes; quiet = refl };
+  writer = λ n e. absurd cc;
+}
+untold_fails opened glyph due bytes faults (WriteFailed n) f = absurd f
+untold_fails opened glyph due bytes faults ReadFailed f = absurd f
+untold_fails opened glyph due bytes faults BadHex f = absurd f
+untold_fails opened glyph due bytes faults InputTooLarge f = absurd f
+untold_fails opened glyph due bytes faults refusal f = rw f (untold_refusal bytes faults refusal tt)

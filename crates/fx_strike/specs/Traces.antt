@@ -1,18 +1,21 @@
 -- Traces of a font's programs, and what a call that writes one leaves.
-use Rattle.std.specs.Prelude.{◌≡◌, ℕ, ◌+◌, ◌<◌, ◌==◌, Bool, true, false, if◌then◌else◌, List, [], length, take}
+use Rattle.std.specs.Prelude.{◌≡◌, ℕ, ◌+◌, ◌<◌, Bool, true, false, List, [], length, take, Option, Some, None}
 use Rattle.std.specs.Prelude.{Result, Ok, Err, IfOk, IfErr, IsErrOf}
 use Rattle.std.specs.Io.KnownBytes.{Appends}
 use Rattle.fx_fixed.specs.Changes.{Change}
+use Rattle.fx_fixed.specs.Chain.{map_fault}
 use Rattle.fx_fixed.specs.Texts.{after}
 use Rattle.fx_sfnt.specs.Collections.{FontFileView}
-use Rattle.fx_cmap.specs.Lookup.{glyph_for}
+use Rattle.fx_machine.specs.Known.{Known, machine_of}
 use Rattle.fx_hint.specs.declared.fault.HintFault.{HintFault}
-use Rattle.fx_trace.specs.declared.wanted.Wanted.TheVariants as wanted
 use Rattle.fx_trace.specs.declared.fault.TraceFault.{TraceFault}
 use Rattle.fx_trace.specs.declared.fault.TraceFault.TheVariants as trace
-use Rattle.fx_trace.specs.Traces.{Trace, prelude_trace, glyph_trace}
+use Rattle.fx_trace.specs.Traces.{Trace, fpgm_trace, prep_trace, glyph_trace}
+use Rattle.fx_request.specs.declared.request.Choice.TheVariants as choice
 use Rattle.fx_request.specs.declared.refusal.Refusal.{Refusal}
 use Rattle.fx_request.specs.declared.refusal.Refusal.TheVariants.{WriteFailed, OutOfMemory}
+use Rattle.fx_request.specs.Faults.{of_machine}
+use Rattle.fx_strike.specs.Choices.{chosen_glyph}
 use Rattle.fx_strike.specs.declared.opened.Opened.{Opened}
 use Rattle.fx_strike.specs.declared.trace.Traced.{Traced}
 use Rattle.fx_strike.specs.declared.trace.Traced.TheVariants.{Fpgm, Prep, Number, Character}
@@ -39,16 +42,25 @@ end_with (Err fault) = Err (of_hint fault)
 abbrev pub told_by : Trace → Told
 told_by trace = record { text = trace.text; end = end_with trace.end }
 
--- the trace of the glyph of a character; a character that the font lacks has none
-abbrev pub told_of : Opened → ℕ → Told
-told_of opened glyph = if glyph == 0 then untold (Ok false) else told_by (glyph_trace opened.font opened.ppem glyph)
+-- by what `prep` left the trace of a glyph; without one, since the font lacks the character, nothing was traced
+abbrev pub told_with : Opened → Option ℕ → Known → Told
+told_with opened None known = untold (Ok false)
+told_with opened (Some glyph) known = told_by (glyph_trace known opened.font opened.ppem glyph)
+
+-- `fpgm` and `prep` run before it, without a line; a halt of theirs comes first, also if there is no glyph
+abbrev pub told_from : Opened → Option ℕ → Result Known Refusal → Told
+told_from opened glyph (Ok known) = told_with opened glyph known
+told_from opened glyph (Err refusal) = untold (Err refusal)
+
+abbrev pub told_of : Opened → Option ℕ → Told
+told_of opened glyph = told_from opened glyph (map_fault of_machine (machine_of opened.font opened.ppem))
 
 -- the trace of an opened font
 abbrev pub told_in : Opened → Traced → Told
-told_in opened Fpgm = told_by (prelude_trace opened.font opened.ppem wanted.Fpgm)
-told_in opened Prep = told_by (prelude_trace opened.font opened.ppem wanted.Prep)
-told_in opened (Number g) = told_by (glyph_trace opened.font opened.ppem g)
-told_in opened (Character code) = told_of opened (glyph_for opened.map code)
+told_in opened Fpgm = told_by (fpgm_trace opened.font opened.ppem)
+told_in opened Prep = told_by (prep_trace opened.font opened.ppem)
+told_in opened (Number g) = told_of opened (Some g)
+told_in opened (Character code) = told_of opened (chosen_glyph opened.map (choice.Character code))
 
 -- the size, the font and its character map, and for a character its code point
 abbrev pub opening_for : FontFileView → ℕ → Traced → Opening

@@ -156,11 +156,18 @@ pub(crate) fn keeping<'a>(
 }
 
 /// The machine of an opened font: `fpgm` runs, then `prep`.
-fn machine_at<'a>(alloc: Global, opened: &Opened<'a>) -> Result<Box<KeepingMachine<'a>>, Refusal>
+pub(crate) fn machine_at<'a>(alloc: Global, opened: &Opened<'a>) -> Result<Machine<'a>, Refusal>
+    ensures { GivesUnless Fails (λ m. m.known) result (map_fault of_machine (machine_of opened.now.font opened.now.ppem)) }
+{
+    Ok(Machine::new(alloc, opened.font.shared(), opened.ppem, &mut Unwatched)?)
+}
+
+/// The same, which keeps components that come again.
+fn keeping_at<'a>(alloc: Global, opened: &Opened<'a>) -> Result<Box<KeepingMachine<'a>>, Refusal>
     ensures { GivesUnless Fails (λ b. b.value.machine.known) result
         (map_fault of_machine (machine_of opened.now.font opened.now.ppem)) }
 {
-    let machine = Machine::new(alloc, opened.font.shared(), opened.ppem, &mut Unwatched)?;
+    let machine = machine_at(alloc, opened)?;
     Ok(keeping(alloc, machine)?)
 }
 
@@ -176,6 +183,6 @@ pub(crate) fn hinter_at<'a>(
     if !hinting {
         return Ok(FontHinter::none(alloc));
     }
-    let machine = machine_at(alloc, opened)?;
+    let machine = keeping_at(alloc, opened)?;
     Ok(FontHinter::of(alloc, machine))
 }

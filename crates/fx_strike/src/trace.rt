@@ -1,18 +1,21 @@
 //! The trace of a font's programs.
 ghost use Rattle.std.specs.Prelude.{◌≡◌, ◌<◌, ◌^◌, ℕ, Ok, Err, IfOk, IfErr, IsErrOf};
 ghost use Rattle.fx_fixed.specs.Changes.{change_of};
-ghost use Rattle.fx_trace.specs.Traces.{glyph_trace, prelude_trace};
-ghost use Rattle.fx_strike.specs.Headline.{HasToName, IsCause};
+ghost use Rattle.fx_trace.specs.Traces.{fpgm_trace, glyph_trace, prep_trace};
+ghost use Rattle.fx_strike.specs.Headline.{HasToName, IsCause, Late};
 ghost use Rattle.fx_strike.specs.Traces.{IsTold, IsToldSome, IsToldTo, Tells, opening_for, refused_as, told_by, told_in, told_of};
-ghost use Rattle.fx_strike.specs.Traces.{trace_of};
+ghost use Rattle.fx_strike.specs.Traces.{told_with, trace_of};
 
+use crate::choices::chosen_glyph;
 use crate::faults::of_hint;
+use crate::hinter::machine_at;
 use crate::open::{open_at, open_one};
 use crate::opened::Opened;
 use fx_fixed::Sink;
-use fx_request::Refusal;
+use fx_machine::Machine;
+use fx_request::{Choice, Refusal};
 use fx_sfnt::FontFile;
-use fx_trace::{TraceFault, Wanted, trace_glyph, trace_prelude};
+use fx_trace::{TraceFault, trace_fpgm, trace_glyph, trace_prep};
 use std::alloc::Global;
 
 /// What is traced.
@@ -40,49 +43,67 @@ fn refused_as(traced: Result<(), TraceFault>) -> Result<bool, Refusal>
     }
 }
 
-/// Writes the trace of a glyph of an opened font.
+/// Writes the trace of a glyph of an opened font, by what `prep` left.
 fn trace_number<W: Sink>(
     alloc: Global,
+    machine: Machine<'_>,
     opened: &Opened<'_>,
     g: u16,
     out: &mut W,
 ) -> Result<bool, Refusal>
     requires { W.fault_count out.old < 2 ^ 63 }
-    ensures { Tells (told_by (glyph_trace opened.now.font opened.now.ppem g))
+    ensures { Tells (told_by (glyph_trace machine.entry.known opened.now.font opened.now.ppem g))
         (change_of W.held W.fault_count out.old out.new) result }
 {
-    refused_as(trace_glyph(alloc, &opened.font, opened.ppem, g, out))
+    refused_as(trace_glyph(alloc, machine, &opened.font, opened.ppem, g, out))
 }
 
-/// Writes the trace of `fpgm` or `prep` of an opened font.
-fn trace_table<W: Sink>(
-    alloc: Global,
-    opened: &Opened<'_>,
-    wanted: Wanted,
-    out: &mut W,
-) -> Result<bool, Refusal>
-    requires { W.fault_count out.old < 2 ^ 63 }
-    ensures { Tells (told_by (prelude_trace opened.now.font opened.now.ppem wanted))
-        (change_of W.held W.fault_count out.old out.new) result }
-{
-    refused_as(trace_prelude(alloc, &opened.font, opened.ppem, wanted, out))
-}
-
-/// Writes the trace of the glyph of a character of an opened font, if the font has it.
+/// Writes the trace of a glyph of an opened font, if there is one, by what `prep` left.
 #[tactic(auto, using(crate::proofs::TracesTold::untold_false))]
-fn trace_mapped<W: Sink>(
+fn trace_with<W: Sink>(
     alloc: Global,
+    machine: Machine<'_>,
     opened: &Opened<'_>,
-    g: u16,
+    glyph: Option<u16>,
     out: &mut W,
 ) -> Result<bool, Refusal>
     requires { W.fault_count out.old < 2 ^ 63 }
-    ensures { Tells (told_of opened.now g) (change_of W.held W.fault_count out.old out.new) result }
+    ensures { Tells (told_with opened.now glyph machine.entry.known) (change_of W.held W.fault_count out.old out.new) result }
 {
-    if g == 0 {
-        return Ok(false);
+    match glyph {
+        Some(g) => trace_number(alloc, machine, opened, g, out),
+        None => Ok(false),
     }
-    trace_number(alloc, opened, g, out)
+}
+
+/// Writes the trace of a glyph of an opened font, if there is one, once `fpgm` and `prep` ran.
+fn trace_chosen<W: Sink>(
+    alloc: Global,
+    opened: &Opened<'_>,
+    glyph: Option<u16>,
+    out: &mut W,
+) -> Result<bool, Refusal>
+    requires { W.fault_count out.old < 2 ^ 63 }
+    ensures { Tells (told_of opened.now glyph) (change_of W.held W.fault_count out.old out.new) result }
+{
+    let machine = machine_at(alloc, opened)?;
+    trace_with(alloc, machine, opened, glyph, out)
+}
+
+/// Writes the trace of `fpgm` of an opened font.
+fn trace_first<W: Sink>(alloc: Global, opened: &Opened<'_>, out: &mut W) -> Result<bool, Refusal>
+    requires { W.fault_count out.old < 2 ^ 63 }
+    ensures { Tells (told_by (fpgm_trace opened.now.font opened.now.ppem)) (change_of W.held W.fault_count out.old out.new) result }
+{
+    refused_as(trace_fpgm(alloc, &opened.font, opened.ppem, out))
+}
+
+/// Writes the trace of `prep` of an opened font.
+fn trace_second<W: Sink>(alloc: Global, opened: &Opened<'_>, out: &mut W) -> Result<bool, Refusal>
+    requires { W.fault_count out.old < 2 ^ 63 }
+    ensures { Tells (told_by (prep_trace opened.now.font opened.now.ppem)) (change_of W.held W.fault_count out.old out.new) result }
+{
+    refused_as(trace_prep(alloc, &opened.font, opened.ppem, out))
 }
 
 /// Writes the trace of an opened font.
@@ -96,10 +117,13 @@ fn trace_in<W: Sink>(
     ensures { Tells (told_in opened.now traced) (change_of W.held W.fault_count out.old out.new) result }
 {
     match traced {
-        Traced::Fpgm => trace_table(alloc, opened, Wanted::Fpgm, out),
-        Traced::Prep => trace_table(alloc, opened, Wanted::Prep, out),
-        Traced::Number(g) => trace_number(alloc, opened, g, out),
-        Traced::Character(code) => trace_mapped(alloc, opened, opened.map.glyph(code), out),
+        Traced::Fpgm => trace_first(alloc, opened, out),
+        Traced::Prep => trace_second(alloc, opened, out),
+        Traced::Number(g) => trace_chosen(alloc, opened, Some(g), out),
+        Traced::Character(code) => {
+            let glyph = chosen_glyph(&opened.map, Choice::Character(code));
+            trace_chosen(alloc, opened, glyph, out)
+        }
     }
 }
 
@@ -126,7 +150,8 @@ fn trace_inner<W: Sink>(
     out: &mut W,
 ) -> Result<bool, Refusal>
     requires { W.fault_count out.old < 2 ^ 63 }
-    ensures { Tells (trace_of font.now ppem traced) (change_of W.held W.fault_count out.old out.new) result }
+    ensures tells { Tells (trace_of font.now ppem traced) (change_of W.held W.fault_count out.old out.new) result }
+    ensures late { IsErrOf result Refusal.OutOfMemory → Late (opening_for font.now ppem traced) }
 {
     let opened = open_for(font, ppem, traced)?;
     trace_in(alloc, &opened, traced, out)
@@ -135,9 +160,10 @@ fn trace_inner<W: Sink>(
 /// Writes the trace of a font's programs at a size: a line when a program begins, and one for each instruction that was executed.
 /// False, and no line, if the font lacks the character.
 ///
-/// The first cause is returned after the lines until then: the size, the code point, the font's tables, its character map, then
-/// what the programs come to. After `WriteFailed(n)` the writer holds the first n bytes of the trace, after `OutOfMemory` a
-/// beginning of it.
+/// The first cause is returned after the lines until then: the size, the code point, the font's tables, its character map, the
+/// halts of `fpgm`, then of `prep`, then what a glyph comes to. A trace of `fpgm` ends with `fpgm`: a halt of `prep` is no cause.
+/// After `WriteFailed(n)` the writer holds the first n bytes of the trace, after `OutOfMemory` a beginning of it. `OutOfMemory` may
+/// be returned in place of any step after the character map, and of none before it.
 pub fn trace_of<W: Sink>(
     alloc: Global,
     font: &FontFile<'_>,
@@ -155,6 +181,8 @@ pub fn trace_of<W: Sink>(
     // A beginning of the trace was written, and the writer counted no fault.
     ensures memory { IsErrOf result Refusal.OutOfMemory →
         IsToldSome (trace_of font.now ppem traced) (change_of W.held W.fault_count out.old out.new) }
+    // Memory is taken late: after the size and the code point are within their limits, and the font and its map opened.
+    ensures late { IsErrOf result Refusal.OutOfMemory → Late (opening_for font.now ppem traced) }
     // Exactly the first bytes of the trace were written, and the writer counted one fault.
     ensures writer { (n : ℕ) → IsErrOf result (Refusal.WriteFailed n) →
         IsToldTo (trace_of font.now ppem traced) (change_of W.held W.fault_count out.old out.new) n }

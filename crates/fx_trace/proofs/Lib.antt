@@ -3,3 +3,4 @@ pub mod Telling
 pub mod Stopping
 pub mod Finishing
 pub mod Programs
+pub mod PreludeEnds

@@ -1,5 +1,5 @@
 -- The traces of programs that were watched: of `fpgm` and `prep`, and of the programs of a glyph.
--- It serves `trace_prelude` and `trace_with`.
+-- It serves `run_told` and `trace_glyph`.
 use Rattle.std.proofs.Common.{◌≡◌, ℕ, List, [], ◌++◌, Option, Result, Ok, Err, OnOk, None, refl, sym, ap, ◌∙◌, append-nil, subst}
 use Rattle.std.specs.Borrow.{GName}
 use Rattle.std.specs.List.{flat_map}
@@ -9,8 +9,7 @@ use Rattle.fx_sfnt.specs.Tables.{Face}
 use Rattle.fx_scale.specs.Scaling.{scale_of}
 use Rattle.fx_machine.specs.declared.halt.MachineFault.{MachineFault}
 use Rattle.fx_machine.specs.declared.halt.MachineFault.TheVariants as machine
-use Rattle.fx_machine.specs.Known.{Known, machine_of, machine_events, seen_by}
-use Rattle.fx_machine.specs.Known as known_
+use Rattle.fx_machine.specs.Known.{Known, machine_events, seen_by}
 use Rattle.fx_hint.specs.declared.fault.HintFault.{HintFault}
 use Rattle.fx_hint.specs.declared.fault.HintFault.TheVariants as hint
 use Rattle.fx_hint.specs.Faults as faults_
@@ -23,8 +22,8 @@ use Rattle.fx_trace.specs.declared.fault.TraceFault.{TraceFault}
 use Rattle.fx_trace.specs.Snapshots.{SnapshotView}
 use Rattle.fx_trace.specs.declared.wanted.Wanted.{Wanted}
 use Rattle.fx_trace.specs.declared.wanted.Wanted.TheVariants.{Each}
-use Rattle.fx_trace.specs.Traces.{Trace, Traces, Halts, lines_after, trace_text, end_of, prelude_trace, glyph_trace_with}
-use Rattle.fx_trace.specs.inner.Ending.{result_of, EndsText, Sees, NoneLeft, Ran}
+use Rattle.fx_trace.specs.Traces.{Trace, Traces, Halts, lines_after, trace_text, end_of, prelude_text, glyph_trace}
+use Rattle.fx_trace.specs.inner.Ending.{ended, result_of, EndsText, Sees, NoneLeft, Ran}
 use Rattle.fx_trace.proofs.Telling.{told, lines_joined, kept_after_all}
 use Rattle.fx_trace.proofs.Finishing.{text_ended, traced, IsWhole}
 
@@ -98,7 +97,7 @@ module _ {W : Type 0} (wanted : W → Wanted) (text : W → TextView) (before : 
 
   module _ (known : Known) (face : Face) (ppem g : ℕ) where
     abbrev due : Trace
-    due = glyph_trace_with known face ppem g
+    due = glyph_trace known face ppem g
 
     abbrev runs : List ProgramRun
     runs = runs_of (hinting_of known) face (scale_of face ppem) g
@@ -111,14 +110,14 @@ module _ {W : Type 0} (wanted : W → Wanted) (text : W → TextView) (before : 
         lines_after Each (kept_after_all Each None (flat_map (run_events known) some)) (flat_map (run_events known) others)
 
     first : (some others : List ProgramRun) → some ++ others ≡ runs → lines some ++ more some others ≡ due.text
-    unfolding glyph_trace_with trace_text
+    unfolding glyph_trace trace_text
     first some others e =
         lines_joined Each None (flat_map (run_events known) some) (flat_map (run_events known) others)
         ∙ ap (λ (es : List RunEvent). lines_after Each None es)
         (sym (runs_joined (run_events known) some others) ∙ ap (λ (rs : List ProgramRun). flat_map (run_events known) rs) e)
 
     end_is : due.end ≡ end_of (outline_with (hinting_of known) face ppem g)
-    unfolding glyph_trace_with
+    unfolding glyph_trace
     end_is = refl
 
     none_more : (some others : List ProgramRun) → others ≡ [] → more some others ≡ []
@@ -142,31 +141,26 @@ module _ {W : Type 0} (wanted : W → Wanted) (text : W → TextView) (before : 
 
   -- ---- `fpgm` and `prep`
 
-  module _ {A : Type 0} (face : Face) (ppem : ℕ) (w : Wanted) (view : A → Known) where
+  module _ (face : Face) (ppem : ℕ) (w : Wanted) where
     abbrev all : List ℕ
     all = lines_after w None (events_for None (machine_events face ppem))
 
-    abbrev prelude : Trace
-    prelude = prelude_trace face ppem w
-
-    text_is : all ≡ prelude.text
-    unfolding prelude_trace trace_text
+    text_is : all ≡ prelude_text face ppem w
+    unfolding trace_text
     text_is = refl
 
-    prelude_end : (q : Result Known MachineFault) → machine_of face ppem ≡ q → prelude.end ≡ end_of (map_fault of_machine q)
-    unfolding prelude_trace
-    prelude_end q e = ap (λ (r : Result Known MachineFault). end_of (map_fault of_machine r)) e
-
-    pub prelude_traced : wanted was ≡ w → (made : Result A MachineFault)
+    pub prelude_traced : {A : Type 0} → wanted was ≡ w → (made : Result A MachineFault)
         → WatchesAll (Sees wanted text before outcome) was (events_for None (seen_by made (machine_events face ppem))) now
-        → GivesUnless known_.Fails view made (machine_of face ppem)
-        → Traces prelude (record { bytes_before = held; bytes = last.held; faults_before = faults; faults = last.faults })
+        → Traces (ended (prelude_text face ppem w) (end_of (map_fault of_machine made)))
+        (record { bytes_before = held; bytes = last.held; faults_before = faults; faults = last.faults })
         (result_of told_last (end_of (map_fault of_machine made)))
-    prelude_traced e (Ok m) seen v =
-        traced prelude sink held faults last all [] (append-nil all ∙ text_is) told_last (Ok tt)
-        (added w (events_for None (machine_events face ppem)) e seen) (refl, prelude_end (Ok (view m)) v)
-    prelude_traced e (Err machine.OutOfMemory) seen v =
-        traced prelude sink held faults last [] all text_is told_last (Err hint.OutOfMemory) (added w [] e seen) tt
-    prelude_traced e (Err (machine.Halted halt)) seen v =
-        traced prelude sink held faults last all [] (append-nil all ∙ text_is) told_last (Err (hint.Halted halt))
-        (added w (events_for None (machine_events face ppem)) e seen) (refl, prelude_end (Err (machine.Halted halt)) v)
+    prelude_traced e (Ok m) seen =
+        traced (ended (prelude_text face ppem w) (Ok tt)) sink held faults last all [] (append-nil all ∙ text_is) told_last (Ok tt)
+        (added w (events_for None (machine_events face ppem)) e seen) (refl, refl)
+    prelude_traced e (Err machine.OutOfMemory) seen =
+        traced (ended (prelude_text face ppem w) (Err hint.OutOfMemory)) sink held faults last [] all text_is told_last
+        (Err hint.OutOfMemory) (added w [] e seen) tt
+    prelude_traced e (Err (machine.Halted halt)) seen =
+        traced (ended (prelude_text face ppem w) (Err (hint.Halted halt))) sink held faults last all []
+        (append-nil all ∙ text_is) told_last (Err (hint.Halted halt))
+        (added w (events_for None (machine_events face ppem)) e seen) (refl, refl)

@@ -1,19 +1,27 @@
 -- Traces: the text of what programs did, and how they ended (own).
-use Rattle.std.specs.Prelude.{◌≡◌, ℕ, ◌+◌, ◌<◌, Bool, true, false, if◌then◌else◌, List, [], ◌∷◌, ◌++◌, length, take}
+use Rattle.std.specs.Prelude.{◌≡◌, ℕ, ◌+◌, ◌<◌, nat_eq, Bool, true, false, if◌then◌else◌, List, [], ◌∷◌, ◌++◌, length, take, codes}
 use Rattle.std.specs.Prelude.{Option, Some, None, Result, Ok, Err, OnOk}
 use Rattle.std.specs.Io.KnownBytes.{Appends}
 use Rattle.std.specs.List.{flat_map}
 use Rattle.fx_fixed.specs.Changes.{Change}
 use Rattle.fx_fixed.specs.Chain.{map_fault}
 use Rattle.fx_fixed.specs.Texts.{TextView, Adds, after}
-use Rattle.fx_sfnt.specs.Tables.{Face}
+use Rattle.fx_sfnt.specs.Tables.{Face, table_or_empty}
 use Rattle.fx_scale.specs.Scaling.{scale_of}
 use Rattle.fx_machine.specs.declared.program.FontProgram.{FontProgram}
 use Rattle.fx_machine.specs.declared.program.FontProgram.TheVariants as program
 use Rattle.fx_machine.specs.Events.{Event, Begins, Executed}
-use Rattle.fx_machine.specs.Known.{Known, machine_of, machine_events}
+use Rattle.fx_machine.specs.declared.program.Program.TheVariants.{Font}
+use Rattle.fx_machine.specs.declared.halt.Halt.{Halt}
+use Rattle.fx_machine.specs.declared.state.State.{State}
+use Rattle.fx_machine.specs.Configs.{answered}
+use Rattle.fx_machine.specs.Known.{Known, first_state, machine_of, machine_events, texts_of}
+use Rattle.fx_machine.specs.Limits.{STEP_LIMIT}
+use Rattle.fx_machine.specs.Machine.{answer_of}
+use Rattle.fx_machine.specs.Table.{row_at}
 use Rattle.fx_hint.specs.declared.component.ComponentOf.{ComponentOf}
 use Rattle.fx_hint.specs.declared.fault.HintFault.{HintFault}
+use Rattle.fx_hint.specs.declared.fault.HintFault.TheVariants.{Halted}
 use Rattle.fx_hint.specs.Programmed.{hinting_of}
 use Rattle.fx_hint.specs.Outlines.{outline_with, of_machine}
 use Rattle.fx_hint.specs.Runs.{runs_of}
@@ -74,27 +82,39 @@ abbrev pub end_of : {Y : Type 0} → Result Y HintFault → Result (Unit {0}) Hi
 end_of (Ok y) = Ok tt
 end_of (Err fault) = Err fault
 
--- that of `fpgm` or `prep`, at a size: `prep` runs after `fpgm`
-unfoldable pub prelude_trace : Face → ℕ → Wanted → Trace
-prelude_trace face ppem wanted = record {
-  text = trace_text wanted (events_for None (machine_events face ppem));
+-- the lines of a program of these bytes: one without bytes does not begin, and has none
+abbrev pub if_there : List ℕ → List ℕ → List ℕ
+if_there code text = if nat_eq (length code) 0 then [] else text
+
+-- the lines of `fpgm` or of `prep` at a size
+abbrev pub prelude_text : Face → ℕ → Wanted → List ℕ
+prelude_text face ppem wanted = trace_text wanted (events_for None (machine_events face ppem))
+
+-- what `fpgm` comes to
+abbrev pub fpgm_run : Face → ℕ → Result (ℕ × State) Halt
+fpgm_run face ppem = answered (texts_of face []) 0 Font
+    (answer_of (row_at (texts_of face [])) STEP_LIMIT Font (first_state face (scale_of face ppem)))
+
+-- that of `fpgm`, which ends with it: what `prep` comes to is not told
+unfoldable pub fpgm_trace : Face → ℕ → Trace
+fpgm_trace face ppem = record {
+  text = if_there (table_or_empty face (codes "fpgm")) (prelude_text face ppem Fpgm);
+  end = end_of (map_fault Halted (fpgm_run face ppem));
+}
+
+-- that of `prep`, which runs after `fpgm`: if `fpgm` halts, there is no line
+unfoldable pub prep_trace : Face → ℕ → Trace
+prep_trace face ppem = record {
+  text = if_there (table_or_empty face (codes "prep")) (prelude_text face ppem Prep);
   end = end_of (map_fault of_machine (machine_of face ppem));
 }
 
 -- the trace of a glyph by what `prep` left: the programs of the glyph and of its components, in the order in which they run
-unfoldable pub glyph_trace_with : Known → Face → ℕ → ℕ → Trace
-glyph_trace_with known face ppem g = record {
+unfoldable pub glyph_trace : Known → Face → ℕ → ℕ → Trace
+glyph_trace known face ppem g = record {
   text = trace_text Each (flat_map (run_events known) (runs_of (hinting_of known) face (scale_of face ppem) g));
   end = end_of (outline_with (hinting_of known) face ppem g);
 }
-
--- and that of a glyph of a font: if `fpgm` or `prep` halts, there is no line
-abbrev pub glyph_trace_by : Result Known HintFault → Face → ℕ → ℕ → Trace
-glyph_trace_by (Ok known) face ppem g = glyph_trace_with known face ppem g
-glyph_trace_by (Err fault) face ppem g = record { text = []; end = Err fault }
-
-unfoldable pub glyph_trace : Face → ℕ → ℕ → Trace
-glyph_trace face ppem g = glyph_trace_by (map_fault of_machine (machine_of face ppem)) face ppem g
 
 -- ---- what a call that writes a trace returns and leaves
 

@@ -2,11 +2,12 @@
 
 ghost use Rattle.std.specs.Prelude.{◌≡◌};
 ghost use Rattle.fx_trace.specs.Traces.{end_of};
-ghost use Rattle.fx_trace.specs.inner.Ending.{result_of, stop_of};
+ghost use Rattle.fx_trace.specs.inner.Ending.{fpgm_end, result_of, stop_of};
 
 use crate::fault::{Stop, TraceFault};
 use fx_fixed::WriteFailed;
 use fx_hint::HintFault;
+use fx_machine::FontProgram;
 
 /// Whether there was a fault, and which.
 pub fn end_of<Y: Drop>(made: Result<Y, HintFault>) -> Result<(), HintFault>
@@ -15,6 +16,19 @@ pub fn end_of<Y: Drop>(made: Result<Y, HintFault>) -> Result<(), HintFault>
     match made {
         Ok(_) => Ok(()),
         Err(fault) => Err(fault),
+    }
+}
+
+/// How `fpgm` ended, by how `fpgm` and `prep` did: `prep` runs only if `fpgm` ended well.
+pub fn fpgm_end(end: Result<(), HintFault>) -> Result<(), HintFault>
+    ensures { result ≡ fpgm_end end }
+{
+    match end {
+        Err(HintFault::Halted(halt)) => match halt.during {
+            FontProgram::Prep => Ok(()),
+            _ => Err(HintFault::Halted(halt)),
+        },
+        end => end,
     }
 }
 

@@ -8,7 +8,7 @@ ghost use Rattle.fx_hint.specs.Faults.{Fails};
 ghost use Rattle.fx_hint.specs.Programmed.{hinting_of};
 ghost use Rattle.fx_hint.specs.Outlines.{outline_with};
 ghost use Rattle.fx_hint.specs.Runs.{runs_of};
-ghost use Rattle.fx_trace.specs.Traces.{glyph_trace, glyph_trace_with, end_of, Traces};
+ghost use Rattle.fx_trace.specs.Traces.{glyph_trace, end_of, Traces};
 ghost use Rattle.fx_trace.specs.inner.Ending.{Ran, Sees};
 
 use crate::ending::{end_of, result_of};
@@ -17,7 +17,7 @@ use crate::tracer::Tracer;
 use crate::wanted::Wanted;
 use fx_fixed::{Ppem, Sink};
 use fx_hint::{HintFault, RunWatcher, WatchedMachine, outline_with};
-use fx_machine::{Machine, MachineFault, Unwatched};
+use fx_machine::Machine;
 use fx_sfnt::Font;
 use std::alloc::Global;
 
@@ -45,8 +45,12 @@ fn outline_watched<'w, S: Sink>(
     (watcher, end_of(made))
 }
 
-/// Writes the trace of a glyph by what `prep` left.
-fn trace_with<S: Sink>(
+/// Writes the trace of the programs of a glyph and of its components by what `prep` left, in the order in which they run: a line
+/// when a program begins and one for each instruction that was executed.
+///
+/// `Cause` is the first fault, that of the glyph's bytes too; the lines until then were written. After `WriteFailed(n)` the writer
+/// holds the first n bytes of the trace, after `OutOfMemory` a beginning of it.
+pub fn trace_glyph<S: Sink>(
     alloc: Global,
     machine: Machine<'_>,
     font: &Font<'_>,
@@ -55,7 +59,7 @@ fn trace_with<S: Sink>(
     out: &mut S,
 ) -> Result<(), TraceFault>
     requires { S.fault_count out.old < 2 ^ 63 }
-    ensures { Traces (glyph_trace_with machine.entry.known font.now ppem g)
+    ensures { Traces (glyph_trace machine.entry.known font.now ppem g)
         (change_of S.held S.fault_count out.old out.new) result }
 {
     let tracer = Tracer::new(alloc, out, Wanted::Each);
@@ -63,27 +67,4 @@ fn trace_with<S: Sink>(
     let told = tracer.end();
     tracer.close();
     result_of(told, end)
-}
-
-/// Writes the trace of the programs of a glyph and of its components at a size, in the order in which they run: a line when a
-/// program begins and one for each instruction that was executed.
-///
-/// `Cause` is the first fault, that of `fpgm` or `prep` too, or of the glyph's bytes; the lines until then were written. After
-/// `WriteFailed(n)` the writer holds the first n bytes of the trace, after `OutOfMemory` a beginning of it.
-#[tactic(auto, unfolding(crate::specs::Traces::glyph_trace))]
-pub fn trace_glyph<S: Sink>(
-    alloc: Global,
-    font: &Font<'_>,
-    ppem: Ppem,
-    g: u16,
-    out: &mut S,
-) -> Result<(), TraceFault>
-    requires { S.fault_count out.old < 2 ^ 63 }
-    ensures { Traces (glyph_trace font.now ppem g) (change_of S.held S.fault_count out.old out.new) result }
-{
-    match Machine::new(alloc, font.shared(), ppem, &mut Unwatched) {
-        Ok(machine) => trace_with(alloc, machine, font, ppem, g, out),
-        Err(MachineFault::Halted(halt)) => Err(TraceFault::Cause(HintFault::Halted(halt))),
-        Err(MachineFault::OutOfMemory) => Err(TraceFault::OutOfMemory),
-    }
 }

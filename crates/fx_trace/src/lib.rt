@@ -18,5 +18,4 @@ mod wanted;
 
 pub use fault::TraceFault;
 pub use glyph::trace_glyph;
-pub use prelude::trace_prelude;
-pub use wanted::Wanted;
+pub use prelude::{trace_fpgm, trace_prep};

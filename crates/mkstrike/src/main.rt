@@ -7,5 +7,5 @@ use fx_cli::run_program;
 use std::process::ExitCode;
 
 fn main(rt: HostRuntime) -> ExitCode {
-    ExitCode::from(run_program(&rt, rt.stderr()))
+    ExitCode::from(run_program(&rt))
 }

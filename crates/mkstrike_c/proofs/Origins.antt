@@ -1,12 +1,12 @@
 -- The words that say what a block is for.
 -- Serves `words_for`.
 use Rattle.std.proofs.Common.{◌≡◌, refl, ap, sym, ◌∙◌, subst, arith, ℕ, ◌/◌, ◌%◌, ◌^◌, ◌==◌, Bool, true, false, ◌&&◌}
-use Rattle.std.proofs.Common.{List, ◌∷◌, ◌++◌, length, drop, Some, None, if◌then◌else◌}
+use Rattle.std.proofs.Common.{List, [], ◌∷◌, ◌++◌, length, drop, Some, None, if◌then◌else◌}
 use Rattle.std.specs.Prelude.{nat_le}
 use Rattle.std.proofs.lemmas.Bool.{eqb-true, eq-eqb, le-leb}
 use Rattle.fx_sfnt.specs.Collections.{face_in}
 use Rattle.fx_machine.specs.Words.{bit_of}
-use Rattle.mkstrike_c.specs.Prepared.{AreWordsOf, IsBlock, IsFor, block_form, origin_words}
+use Rattle.mkstrike_c.specs.Prepared.{AreWordsOf, BeginsFor, IsBlock, IsFor, block_form, origin_words}
 use Rattle.mkstrike_c.specs.inner.Origin.{after_origin, has_origin}
 
 equal : (n : ℕ) → (n == n) ≡ true
@@ -76,6 +76,41 @@ all_six true true true false e f h = cc
 all_six true true false d e f h = cc
 all_six true false c d e f h = cc
 all_six false b c d e f h = cc
+
+all_said : (a b c d e f : Bool) → (a && b && c && d && e && f) ≡ true
+    → (a ≡ true) × ((b ≡ true) × (c ≡ true) × (d ≡ true) × (e ≡ true) × (f ≡ true))
+all_said true b c d e f h = (refl, all_six true b c d e f h)
+all_said false b c d e f h = cc
+
+-- the words begin as a block for this
+form_said : (file : List ℕ) (face ppem : ℕ) (hinting : Bool) (ws : List ℕ) → (nat_le 6 (length ws)
+    && has_origin file face ppem hinting ws) ≡ true
+    → ws ≡ origin_words file face ppem hinting ++ drop 6 ws
+form_said file face ppem hinting [] h = absurd cc
+form_said file face ppem hinting (a ∷ []) h = absurd cc
+form_said file face ppem hinting (a ∷ b ∷ []) h = absurd cc
+form_said file face ppem hinting (a ∷ b ∷ c ∷ []) h = absurd cc
+form_said file face ppem hinting (a ∷ b ∷ c ∷ d ∷ []) h = absurd cc
+form_said file face ppem hinting (a ∷ b ∷ c ∷ d ∷ e ∷ []) h = absurd cc
+form_said file face ppem hinting (a ∷ b ∷ c ∷ d ∷ e ∷ f ∷ ws) h =
+    let all = right_one (nat_le 6 (length (a ∷ b ∷ c ∷ d ∷ e ∷ f ∷ ws)))
+    (has_origin file face ppem hinting (a ∷ b ∷ c ∷ d ∷ e ∷ f ∷ ws)) h in
+    let six = all_said (a == block_form) (b == face) (c == ppem) (d == bit_of hinting) (e == length file / 2 ^ 32)
+    (f == length file % 2 ^ 32) all in
+    rw (
+      eqb-true a block_form six.0,
+      eqb-true b face six.1.0,
+      eqb-true c ppem six.1.1,
+      eqb-true d (bit_of hinting) six.1.2,
+      eqb-true e (length file / 2 ^ 32) six.1.3,
+      eqb-true f (length file % 2 ^ 32) six.1.4,
+    ) refl
+
+pub begins_for : (file : List ℕ) (face ppem : ℕ) (hinting : Bool) (block ws : List ℕ)
+    → Some ws ≡ after_origin file face ppem hinting block → BeginsFor file face ppem hinting block
+unfolding after_origin
+begins_for file face ppem hinting block ws e =
+    (drop 6 block, form_said file face ppem hinting block (if_some _ (drop 6 block) ws e))
 
 same_bit : (h k : Bool) → bit_of h ≡ bit_of k → h ≡ k
 same_bit true true e = refl

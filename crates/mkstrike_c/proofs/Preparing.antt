@@ -1,6 +1,6 @@
 -- What is made by the words of a block is what is made without them.
--- Serves `block_of`, `one_by`, `numbered_by`, `gathered_by`.
-use Rattle.std.proofs.Common.{◌≡◌, refl, ap, sym, ◌∙◌, subst, arith, ℕ, min, Bool, true, List, [], ◌∷◌, ◌++◌, Option, Some, None, Result, Ok, Err}
+-- Serves `block_of`, `one_by`, `numbered_by`, `gathered_by`, and the calls by a block.
+use Rattle.std.proofs.Common.{◌≡◌, refl, ap, sym, ◌∙◌, subst, arith, inr, ℕ, ◌<◌, min, Bool, true, List, [], ◌∷◌, ◌++◌, Option, Some, None, Result, Ok, Err}
 use Rattle.std.specs.Prelude.{IfOk, IfErr, IfSome, OnOk, ◌≤◌}
 use Rattle.fx_fixed.specs.Chain.{◌>>=◌, map_ok}
 use Rattle.fx_sfnt.specs.Collections.{FontFileView, face_in}
@@ -20,13 +20,18 @@ use Rattle.fx_strike.specs.Headline.{IsOneOf, Late, character_with}
 use Rattle.fx_strike.specs.Numbers.{numbered_with}
 use Rattle.fx_strike.proofs.BlockSettings.{known_is}
 use Rattle.fx_strike.proofs.Sketching.{fails_on}
+use Rattle.mkstrike_c.specs.declared.gathered.Drawn.{Drawn}
 use Rattle.mkstrike_c.specs.declared.gathered.Gathered.{Gathered}
+use Rattle.mkstrike_c.specs.declared.gathered.Placed.{Placed}
 use Rattle.mkstrike_c.specs.declared.gathered.Wanted.{Wanted}
-use Rattle.mkstrike_c.specs.Prepared.{AreOwn, AreWordsOf, IsBlock, IsFor, IsOwn, origin_words}
-use Rattle.mkstrike_c.specs.Refused.{IsReason}
+use Rattle.fx_request.specs.Refusals.{number_of}
+use Rattle.mkstrike_c.specs.declared.glyph.GlyphInfo.{GlyphInfo}
+use Rattle.mkstrike_c.specs.declared.refused.Refused.{Refused}
+use Rattle.mkstrike_c.specs.Prepared.{AreOwn, AreWordsOf, IsBlock, IsFor, IsOwn, IsRefusedBy, origin_words}
+use Rattle.mkstrike_c.specs.Refused.{IsReason, refused_of}
 use Rattle.mkstrike_c.specs.Shown.{by_id}
-use Rattle.mkstrike_c.specs.inner.Gathering.{AreGathered, IsGathered}
-use Rattle.mkstrike_c.specs.inner.Showing.{FindsById, IsFoundBy}
+use Rattle.mkstrike_c.specs.inner.Gathering.{AreGathered, IsGathered, IsTold}
+use Rattle.mkstrike_c.specs.inner.Showing.{FindsById, IsFoundBy, IsPut}
 use Rattle.mkstrike_c.proofs.Gathering.{gathered_from, opened_late, refused_later}
 use Rattle.mkstrike_c.proofs.Showing.{by_id_set, late_at}
 
@@ -295,3 +300,25 @@ own_found file face ppem hinting block words (Err e) result for_this are own lea
 pub found_due : {A : Type 0} (D : A → Type 0) (W : Refusal → Type 0) (r : Result A Refusal) → IsFoundBy D W (Some r) → IfOk r D
 found_due D W (Ok a) h = h
 found_due D W (Err e) h = tt
+
+-- ---- the number of a refused call
+
+-- whatever the words are, a glyph was told, or a refusal is named
+pub glyph_named : (known packed : Bool) (old new : List ℕ) (old_info new_info : GlyphInfo)
+    (found : Result (Option bits.Glyph) Refusal) (result : ℕ) (refused : Refused) → known ≡ true
+    → IfOk found (λ made. IsPut packed made old new old_info new_info result)
+    → IfErr found (λ r. (result ≡ number_of r) × (refused ≡ refused_of r)) → 1 < result → IsRefusedBy known result refused
+glyph_named known packed old new old_info new_info (Ok (Some g)) result refused k put named big =
+    absurd (omega (arith, put.0, big))
+glyph_named known packed old new old_info new_info (Ok None) result refused k put named big = absurd (omega (arith, put.0, big))
+glyph_named known packed old new old_info new_info (Err r) result refused k put named big = rw k (inr (r, named.0, named.1))
+
+-- the same of many
+pub glyphs_named : (known : Bool) (old_entries new_entries : List Placed) (old new : List ℕ) (drawn : Drawn)
+    (old_refused refused : Refused) (found : Result Gathered Refusal) (result : ℕ) → known ≡ true
+    → IfOk found (λ g. IsTold g old_entries new_entries old new drawn old_refused refused result)
+    → IfErr found (λ r. (result ≡ number_of r) × (refused ≡ refused_of r)) → 0 < result → IsRefusedBy known result refused
+glyphs_named known old_entries new_entries old new drawn old_refused refused (Ok g) result k told named big =
+    absurd (omega (arith, told.done, big))
+glyphs_named known old_entries new_entries old new drawn old_refused refused (Err r) result k told named big =
+    rw k (inr (r, named.0, named.1))

@@ -11,7 +11,8 @@ use Rattle.fx_strike.specs.Strike.{Opening, Setting, machine_for, opened_at}
 use Rattle.fx_strike.specs.Blocks.{IsBlockFor, has_block}
 use Rattle.mkstrike_c.specs.declared.refused.Refused.{Refused}
 use Rattle.mkstrike_c.specs.Drawn.{HasFront}
-use Rattle.mkstrike_c.specs.Refused.{IsRefused, bad_block, no_fields}
+use Rattle.fx_request.specs.Refusals.{number_of}
+use Rattle.mkstrike_c.specs.Refused.{IsRefused, bad_block, bad_mode, no_fields, refused_of}
 
 -- "mkC", and the version of this form
 abbrev pub block_form : ℕ
@@ -21,6 +22,10 @@ block_form = 0x6D6B4301
 abbrev pub origin_words : List ℕ → ℕ → ℕ → Bool → List ℕ
 origin_words file face ppem hinting =
     block_form ∷ face ∷ ppem ∷ bit_of hinting ∷ length file / 2 ^ 32 ∷ length file % 2 ^ 32 ∷ []
+
+-- words begin as a block for this
+abbrev pub BeginsFor : List ℕ → ℕ → ℕ → Bool → List ℕ → Type 0
+BeginsFor file face ppem hinting block = (words : List ℕ) × (block ≡ origin_words file face ppem hinting ++ words)
 
 -- the font opens at the size, and words are a block of its machine; any words are, if its programs don't run
 pub record AreWordsOf (file : FontFileView) (ppem : ℕ) (hinting : Bool) (words : List ℕ) : Type 0 where
@@ -53,6 +58,17 @@ pub record HasNone (due : Result Setting Refusal) : Type 0 where
 abbrev pub IsUnprepared : Bool → Opening → Result Setting Refusal → ℕ → Refused → Type 0
 IsUnprepared is_known opening due number refused = IsRefused is_known opening due number refused
     ⊎ (HasNone due × (number ≡ bad_block) × (refused ≡ no_fields bad_block))
+
+-- words that are no block for this were refused: as such, or before that for the mode
+abbrev pub IsNoBlock : Bool → ℕ → Refused → Type 0
+IsNoBlock false number refused = (number ≡ bad_mode) × (refused ≡ no_fields bad_mode)
+IsNoBlock true number refused = (number ≡ bad_block) × (refused ≡ no_fields bad_block)
+
+-- a call was refused, whatever its words are: as by words that are no block; or with a mode that is one by a refusal
+abbrev pub IsRefusedBy : Bool → ℕ → Refused → Type 0
+IsRefusedBy false number refused = IsNoBlock false number refused
+IsRefusedBy true number refused =
+    IsNoBlock true number refused ⊎ ((refusal : Refusal) × (number ≡ number_of refusal) × (refused ≡ refused_of refusal))
 
 -- a block is for a file of this length, for this face and size, and hinted or unhinted like this
 abbrev pub IsFor : List ℕ → ℕ → ℕ → Bool → List ℕ → Type 0

@@ -28,3 +28,7 @@ pub record IsPut (text old new : List ℕ) : Type 0 where
   pub front : 0 < length old → take (min (length text) (length old - 1) + 1) new ≡ take (length old - 1) text ++ 0 ∷ []
   pub rest : drop (min (length text) (length old - 1) + 1) new ≡ drop (min (length text) (length old - 1) + 1) old
   pub none : length old ≡ 0 → new ≡ old
+
+-- some text of this length is at the front of the caller's buffer, as `IsPut` says
+abbrev pub IsSomeText : ℕ → List ℕ → List ℕ → Type 0
+IsSomeText size old new = (text : List ℕ) × IsPut text old new × (size ≡ length text)

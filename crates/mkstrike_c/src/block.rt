@@ -6,7 +6,7 @@ ghost use Rattle.std.specs.Prelude.{◌≡◌, ◌<◌, ◌++◌, ◌/◌, ◌%�
 ghost use Rattle.fx_sfnt.specs.Collections.{face_in};
 ghost use Rattle.fx_strike.specs.Strike.{opened_at, setting_of};
 ghost use Rattle.mkstrike_c.specs.Modes.{is_mode, mode_of};
-ghost use Rattle.mkstrike_c.specs.Prepared.{AreWordsOf, HasNone, IsBlock, IsFor, IsPrepared, IsUnprepared};
+ghost use Rattle.mkstrike_c.specs.Prepared.{AreWordsOf, BeginsFor, HasNone, IsBlock, IsFor, IsPrepared, IsUnprepared};
 ghost use Rattle.mkstrike_c.specs.Prepared.{origin_words};
 ghost use Rattle.mkstrike_c.specs.Refused.{IsReason};
 ghost use Rattle.mkstrike_c.specs.inner.Origin.{after_origin, has_origin};
@@ -100,6 +100,7 @@ pub fn words_for<'a>(
         → AreWordsOf (face_in f i) s h w.now) }
     ensures taken { IsBlock font.now face ppem hinting block.now → IsSome result }
     ensures own { IsSome result → IsFor font.now face ppem hinting block.now }
+    ensures begins { IfSome result (λ w. BeginsFor font.now face ppem hinting block.now) }
 {
     let Some(words) = after_origin(font, face, ppem, hinting, block) else {
         return None;

@@ -4,8 +4,9 @@
 //! those of many with the font opened once, `mkstrike_glyph_by_id` those of a glyph by its number, `mkstrike_outline` the points
 //! of its outline. `mkstrike_prepare` writes what the font's programs leave into a block of the caller's, and three calls that end
 //! in `_prepared` draw by it. `mkstrike_glyph_ids` tells the numbers of characters' glyphs, `mkstrike_font` about a font at a size,
-//! `mkstrike_reason` the name of a refusal, `mkstrike_version` the release. Each takes all that it needs and keeps nothing from
-//! call to call. What they leave in the caller's buffers is said in `specs/`, by the definitions of the crates below.
+//! `mkstrike_reason` the name of a refusal, `mkstrike_advice` what to do, `mkstrike_version` the release. Each takes
+//! all that it needs and keeps nothing from call to call. What they leave in the caller's buffers is said in `specs/`, by the
+//! definitions of the crates below.
 //! `include/mkstrike.h` declares them.
 #![tactic(auto)]
 
@@ -39,6 +40,6 @@ pub use outlines::{OutlinePoint, Outlined, mkstrike_outline};
 pub use prepared::{
     mkstrike_glyph_by_id_prepared, mkstrike_glyph_prepared, mkstrike_glyphs_prepared,
 };
-pub use reason::mkstrike_reason;
+pub use reason::{mkstrike_advice, mkstrike_reason};
 pub use refused::Refused;
 pub use version::mkstrike_version;

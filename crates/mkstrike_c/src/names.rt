@@ -1,9 +1,9 @@
-//! The names of what calls return.
+//! The names of what calls return, and what to do after each.
 ghost use Rattle.std.specs.Prelude.{◌≡◌};
 ghost use Rattle.mkstrike_c.specs.Reasons.{reason_of};
 
 use crate::refused::{BAD_BLOCK, BAD_MODE};
-use fx_request::named;
+use fx_request::{advised, named};
 
 /// The name of a number; `Unknown` if no call returns it.
 #[tactic(auto, unfolding(crate::specs::Reasons::reason_of))]
@@ -16,5 +16,14 @@ pub fn reason(number: u32) -> &'static str
         BAD_MODE => "BadMode",
         BAD_BLOCK => "BadBlock",
         _ => named(number).unwrap_or("Unknown"),
+    }
+}
+
+/// What to do after a number, in the words of docs/REFUSALS.md; nothing if it is no refusal's.
+pub fn advice(number: u32) -> &'static str {
+    match number {
+        BAD_MODE => "give a sum of the modes of mkstrike.h",
+        BAD_BLOCK => "make the block by mkstrike_prepare for this font, face, size and mode",
+        _ => advised(number).unwrap_or(""),
     }
 }

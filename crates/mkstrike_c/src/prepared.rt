@@ -8,7 +8,7 @@ ghost use Rattle.fx_strike.specs.Numbers.{numbered_with};
 ghost use Rattle.fx_strike.specs.Strike.{one_of, opened_at, opened_many_of, opened_one_of, setting_for};
 ghost use Rattle.mkstrike_c.specs.Drawn.{AreDrawn};
 ghost use Rattle.mkstrike_c.specs.Modes.{is_mode, is_packed, mode_of};
-ghost use Rattle.mkstrike_c.specs.Prepared.{AreOwn, AreWordsOf, IsBlock, IsOwn};
+ghost use Rattle.mkstrike_c.specs.Prepared.{AreOwn, AreWordsOf, BeginsFor, IsBlock, IsNoBlock, IsOwn, IsRefusedBy};
 ghost use Rattle.mkstrike_c.specs.Refused.{IsReason, IsRefused};
 ghost use Rattle.mkstrike_c.specs.Shown.{IsMissing, IsShown, by_id};
 ghost use Rattle.mkstrike_c.specs.inner.Gathering.{IsGathered};
@@ -79,6 +79,11 @@ pub extern "C" fn mkstrike_glyph_prepared(
     ensures refused { IsBlock font.now face ppem (mode_of mode).hinting block.now → 1 < result
         → IsRefused (is_mode mode) (opened_one_of (face_in font.now face) ppem code)
         (one_of (face_in font.now face) ppem code (mode_of mode)) result refused.new }
+    // Words that do not begin as a block for this are refused as no block, after the mode.
+    ensures foreign { (BeginsFor font.now face ppem (mode_of mode).hinting block.now → ⊥)
+        → IsNoBlock (is_mode mode) result refused.new }
+    // Whatever the words, a refusal is that of the mode, of the block, or one that has a name.
+    ensures named { 1 < result → IsRefusedBy (is_mode mode) result refused.new }
     // Whatever the block, nothing but what was named is written.
     ensures kept { 0 < result → (pixels.new ≡ pixels.old) × (info.new ≡ info.old) }
     ensures silent { result ≤ 1 → refused.new ≡ refused.old }
@@ -153,6 +158,11 @@ pub extern "C" fn mkstrike_glyph_by_id_prepared(
     ensures refused { IsBlock font.now face ppem (mode_of mode).hinting block.now → 0 < result
         → IsRefused (is_mode mode) (opened_at (face_in font.now face) ppem)
         (by_id (face_in font.now face) ppem glyph (mode_of mode)) result refused.new }
+    // Words that do not begin as a block for this are refused as no block, after the mode.
+    ensures foreign { (BeginsFor font.now face ppem (mode_of mode).hinting block.now → ⊥)
+        → IsNoBlock (is_mode mode) result refused.new }
+    // Whatever the words, a refusal is that of the mode, of the block, or one that has a name.
+    ensures named { 1 < result → IsRefusedBy (is_mode mode) result refused.new }
     // Whatever the block, nothing but what was named is written.
     ensures kept { 0 < result → (pixels.new ≡ pixels.old) × (info.new ≡ info.old) }
     ensures silent { result ≡ 0 → refused.new ≡ refused.old }
@@ -222,6 +232,11 @@ pub extern "C" fn mkstrike_glyphs_prepared(
     ensures refused { IsBlock font.now face ppem (mode_of mode).hinting block.now → 0 < result
         → IsRefused (is_mode mode) (opened_many_of (face_in font.now face) ppem chars.now)
         (setting_for (face_in font.now face) ppem chars.now (mode_of mode)) result refused.new }
+    // Words that do not begin as a block for this are refused as no block, after the mode.
+    ensures foreign { (BeginsFor font.now face ppem (mode_of mode).hinting block.now → ⊥)
+        → IsNoBlock (is_mode mode) result refused.new }
+    // Whatever the words, a refusal is that of the mode, of the block, or one that has a name.
+    ensures named { 0 < result → IsRefusedBy (is_mode mode) result refused.new }
     // Whatever the block, a refusal leaves the buffers and what is told as they were.
     ensures kept { 0 < result → (glyphs.new ≡ glyphs.old) × (pixels.new ≡ pixels.old) × (drawn.new ≡ drawn.old) }
 {

@@ -1,8 +1,8 @@
-//! The text of a number, for C.
+//! The texts of a number, for C: its name, and what to do.
 ghost use Rattle.std.specs.Prelude.{◌≡◌, length};
-ghost use Rattle.mkstrike_c.specs.Reasons.{IsPut, reason_of};
+ghost use Rattle.mkstrike_c.specs.Reasons.{IsPut, IsSomeText, reason_of};
 
-use crate::names::reason;
+use crate::names::{advice, reason};
 
 /// Puts as much of a text as fits at the front of a buffer, and a 0 after it.
 fn put_text(buffer: &mut [u8], text: &[u8])
@@ -25,4 +25,15 @@ pub extern "C" fn mkstrike_reason(number: u32, text: &mut [u8]) -> usize
     let name = reason(number).as_bytes();
     put_text(text, name);
     name.len()
+}
+
+/// Puts what to do after what a call returned into a buffer, with a 0 after it: as much of it as fits. Returns the length of all of
+/// it.
+#[unsafe(no_mangle)]
+pub extern "C" fn mkstrike_advice(number: u32, text: &mut [u8]) -> usize
+    ensures { IsSomeText result text.old text.new }
+{
+    let to_do = advice(number).as_bytes();
+    put_text(text, to_do);
+    to_do.len()
 }

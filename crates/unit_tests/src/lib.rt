@@ -1,5 +1,6 @@
-//! Tests of the public calls of the crates below the machine, a module for each crate. They stand here, since a crate with tests is
-//! proved twice. Their expected values come from the public formats and from arithmetic by hand.
+//! Tests of public calls of the crates below the machine that no command shows: writers that fail, lookups in any order, texts of faults.
+//! They stand here, since a crate with tests is proved twice. Their expected values come from the public formats and from arithmetic by
+//! hand.
 #![tactic(auto)]
 
 #[cfg(test)]
@@ -11,18 +12,8 @@ mod code;
 #[cfg(test)]
 mod dropout;
 #[cfg(test)]
+mod faults;
+#[cfg(test)]
 mod fixed;
 #[cfg(test)]
-mod glyf;
-#[cfg(test)]
 mod gstate;
-#[cfg(test)]
-mod pointops;
-#[cfg(test)]
-mod scale;
-#[cfg(test)]
-mod sfnt;
-#[cfg(test)]
-mod stackops;
-#[cfg(test)]
-mod x11;

@@ -1,7 +1,10 @@
 -- How a trace ends.
-use Rattle.std.specs.Prelude.{◌≡◌, List, [], ◌++◌, Option, Result, Ok, Err, OnOk}
+use Rattle.std.specs.Prelude.{◌≡◌, ℕ, List, [], ◌++◌, Option, Result, Ok, Err, OnOk}
 use Rattle.std.specs.List.{flat_map}
 use Rattle.fx_fixed.specs.Texts.{TextView, Adds}
+use Rattle.fx_machine.specs.declared.halt.Halt.{Halt}
+use Rattle.fx_machine.specs.declared.program.FontProgram.{FontProgram}
+use Rattle.fx_machine.specs.declared.program.FontProgram.TheVariants.{Prep}
 use Rattle.fx_machine.specs.Known.{Known}
 use Rattle.fx_hint.specs.Runs.{ProgramRun}
 use Rattle.fx_hint.specs.Watched.{RunEvent, run_events, WatchesAll}
@@ -12,9 +15,22 @@ use Rattle.fx_trace.specs.declared.wanted.Wanted.{Wanted}
 use Rattle.fx_trace.specs.declared.fault.Stop.{Stop}
 use Rattle.fx_trace.specs.declared.fault.Stop.TheVariants as stop
 use Rattle.fx_trace.specs.Snapshots.{SnapshotView}
-use Rattle.fx_trace.specs.Traces.{Halts, Tells}
+use Rattle.fx_trace.specs.Traces.{Trace, Halts, Tells}
 use Rattle.fx_trace.specs.declared.fault.TraceFault.{TraceFault}
 use Rattle.fx_trace.specs.declared.fault.TraceFault.TheVariants.{Cause, WriteFailed, OutOfMemory}
+
+-- lines, after which programs ended so
+abbrev pub ended : List ℕ → Result (Unit {0}) HintFault → Trace
+ended text end = record { text = text; end = end }
+
+-- how `fpgm` ended, by how `fpgm` and `prep` did: `prep` runs only if `fpgm` ended well
+abbrev pub fpgm_end_at : FontProgram → Halt → Result (Unit {0}) HintFault
+fpgm_end_at Prep halt = Ok tt
+fpgm_end_at _ halt = Err (hint.Halted halt)
+
+abbrev pub fpgm_end : Result (Unit {0}) HintFault → Result (Unit {0}) HintFault
+fpgm_end (Err (hint.Halted halt)) = fpgm_end_at halt.during halt
+fpgm_end end = end
 
 -- what a trace returns once its text was written, by how the programs ended
 abbrev pub ended_by : Result (Unit {0}) HintFault → Result (Unit {0}) TraceFault

@@ -3,12 +3,12 @@ use Rattle.fx_strike.proofs.Exits.{came}
 use Rattle.fx_strike.proofs.TracesTold.{untold_refusal}
 use Rattle.fx_strike.proofs.trace.trace_inner.Goals as goal
 
-pub returns-in_err-opened : goal.returns-in_err-opened
+pub returns-in_err-opened-clause-tells : goal.returns-in_err-opened-clause-tells
 unfolding trace_of
-returns-in_err-opened g c =
+returns-in_err-opened-clause-tells g c =
     rw (came c.from_residual.result c.from_residual.ensures.1)
     (rw (← c.in_err-opened.ensures.due) (untold_refusal _ _ _ c.in_err-opened.ensures.named))
 
-pub returns : goal.returns
+pub returns-clause-tells : goal.returns-clause-tells
 unfolding trace_of
-returns g c = rw (← c.in_ok-opened.ensures.due) c.trace_in.ensures
+returns-clause-tells g c = rw (← c.in_ok-opened.ensures.due) c.trace_in.ensures

@@ -1,4 +1,4 @@
-use Rattle.mkstrike_c.proofs.Origins.{origin_for, words_are, words_there}
+use Rattle.mkstrike_c.proofs.Origins.{begins_for, origin_for, words_are, words_there}
 use Rattle.mkstrike_c.proofs.block.words_for.Goals as goal
 
 pub returns-in_default-clause-taken : goal.returns-in_default-clause-taken
@@ -12,3 +12,7 @@ returns-clause-words c =
 pub returns-clause-own : goal.returns-clause-own
 returns-clause-own c = λ t.
     origin_for c.args.font.now c.args.face c.args.ppem c.args.hinting c.args.block.now c.in-Some.words.now c.in-Some.ensures
+
+pub returns-clause-begins : goal.returns-clause-begins
+returns-clause-begins c =
+    begins_for c.args.font.now c.args.face c.args.ppem c.args.hinting c.args.block.now c.in-Some.words.now c.in-Some.ensures

@@ -1,12 +1,12 @@
-use Rattle.std.proofs.Common.{arith, length, refl}
+use Rattle.std.proofs.Common.{arith, length, refl, sym, ◌∙◌}
 use Rattle.fx_strike.specs.Strike.{opened_many_of, setting_for}
 use Rattle.mkstrike_c.specs.declared.gathered.Wanted.{Wanted}
-use Rattle.mkstrike_c.specs.Modes.{mode_of}
+use Rattle.mkstrike_c.specs.Modes.{is_mode, mode_of}
 use Rattle.mkstrike_c.specs.Prepared.{AreWordsOf}
 use Rattle.mkstrike_c.specs.Refused.{IsReason}
 use Rattle.mkstrike_c.specs.inner.Gathering.{IsGathered}
 use Rattle.mkstrike_c.proofs.Gathering.{all_drawn}
-use Rattle.mkstrike_c.proofs.Preparing.{found_due, own_found}
+use Rattle.mkstrike_c.proofs.Preparing.{found_due, glyphs_named, own_found}
 use Rattle.mkstrike_c.proofs.prepared.mkstrike_glyphs_prepared.Goals as goal
 
 pub returns-clause-own : goal.returns-clause-own
@@ -31,3 +31,9 @@ returns-clause-drawn c b done =
     (found_due (IsGathered wanted setting c.args.chars.now) (IsReason (opened_many_of file c.args.ppem c.args.chars.now) setting)
     c.in-Some-gathered_by.found (c.in-Some-gathered_by.ensures.due words))
     c.tell.ensures.found c.tell.ensures.least done)
+
+pub returns-clause-named : goal.returns-clause-named
+returns-clause-named c = λ big.
+    glyphs_named (is_mode c.args.mode) c.args.glyphs.now c.tell.new.glyphs c.args.pixels.now c.tell.new.pixels c.tell.new.drawn
+    c.args.refused.now c.tell.new.refused c.in-Some-gathered_by.found c.tell.result
+    (sym c.is_mode.ensures ∙ c.if-not-is_mode.false) c.tell.ensures.found c.tell.ensures.refused big

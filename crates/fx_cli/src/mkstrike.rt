@@ -1,0 +1,114 @@
+//! The program that a front runs.
+ghost use Rattle.std.specs.Prelude.{◌≡◌, ◌<◌, ◌^◌, map};
+ghost use Rattle.fx_fixed.specs.Changes.{change_of};
+
+use crate::program::run_watched;
+use crate::watch::Watch;
+use fx_arguments::{ItemFault, Task, read_arguments, wrong_item};
+use fx_fixed::{Sink, Source};
+use fx_front::{Facts, Program, Text};
+use std::alloc::{AllocError, Global};
+
+/// The program, and what was seen of its last run.
+#[derive(Drop)]
+pub struct Mkstrike {
+    watch: Watch,
+}
+
+impl Mkstrike {
+    /// The program before a run.
+    pub fn new(alloc: Global) -> Mkstrike {
+        Mkstrike {
+            watch: Watch::new(alloc),
+        }
+    }
+}
+
+impl Program for Mkstrike {
+    ghost use Rattle.fx_cli.specs.Runs.{Runs};
+
+    ghost Ran = { Runs };
+
+    fn run<R: Source, O: Sink, E: Sink>(
+        &mut self,
+        alloc: Global,
+        words: &[&str],
+        names_all: bool,
+        reader: &mut R,
+        out: &mut O,
+        err: &mut E,
+    ) -> u8 {
+        let mut watch = Watch::new(alloc);
+        watch.names_all = names_all;
+        let status = run_watched(alloc, words, reader, out, err, &mut watch);
+        self.watch = watch;
+        status
+    }
+
+    fn facts(&self) -> &Facts {
+        &self.watch.facts
+    }
+
+    fn wrong(&self, alloc: Global, words: &[&str]) -> Result<Vec<u8>, AllocError> {
+        let mut explained = Vec::new(alloc);
+        explained.push("mkstrike")?;
+        explained.push("explain")?;
+        explained.extend_from_slice(words)?;
+        match read_arguments(alloc, &explained) {
+            Ok(command) => match command.task {
+                Task::Explanation(line) => Ok(line),
+                _ => Ok(Vec::new(alloc)),
+            },
+            Err(_) => Ok(Vec::new(alloc)),
+        }
+    }
+
+    fn wrong_item(&self, alloc: Global, list: &str) -> Result<Text, AllocError> {
+        let (item, why) = match wrong_item(list) {
+            Some(found) => found,
+            None => return Text::of(alloc, &["the list has more than 65,536 numbers"]),
+        };
+        match why {
+            ItemFault::NoNumber => of_no_number(alloc, item),
+            ItemFault::TooLong => {
+                let text = "' in the list has a number of more than six digits";
+                Text::of(alloc, &["'", item, text])
+            }
+            ItemFault::TooHigh => Text::of(alloc, &["'", item, "' in the list is above 10FFFF"]),
+            ItemFault::Falls => {
+                Text::of(alloc, &["'", item, "' in the list ends before it begins"])
+            }
+        }
+    }
+}
+
+/// What is said of an item that is no number or range.
+fn of_no_number(alloc: Global, item: &str) -> Result<Text, AllocError> {
+    if item.is_empty() {
+        return Text::of(alloc, &["the list has a comma too many"]);
+    }
+    let mut text = Text::of(
+        alloc,
+        &["'", item, "' in the list is no hexadecimal number or range"],
+    )?;
+    let (low, high) = item.split_once('-').unwrap_or((item, ""));
+    let (low, high) = (without_mark(low), without_mark(high));
+    if !low.is_empty() && wrong_item(low).is_none() && wrong_item(high).is_none() {
+        text.add_all(&[
+            ", but ",
+            low,
+            if high.is_empty() { "" } else { "-" },
+            high,
+            " is",
+        ])?;
+    }
+    Ok(text)
+}
+
+/// A number without `0x` or `U+` before it.
+fn without_mark(text: &str) -> &str {
+    match text.split_at_checked(2) {
+        Some(("0x" | "0X" | "U+" | "u+", number)) => number,
+        _ => text,
+    }
+}

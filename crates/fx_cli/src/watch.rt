@@ -1,0 +1,155 @@
+//! What a front is told of a run.
+use crate::watcher::Watcher;
+use fx_arguments::{Command, Done, Fault, Task};
+use fx_cmap::CharMap;
+use fx_front::{Counts, Facts, Refused, Text};
+use fx_machine::FontProgram;
+use fx_request::{Place, Refusal, rising_codes};
+use fx_sfnt::{Font, FontFile};
+use std::alloc::{AllocError, Global};
+
+/// How many ranges of missing characters are named, if not all are.
+const FEW: usize = 8;
+
+/// Watches a run for a front.
+#[derive(Drop)]
+pub struct Watch {
+    /// What the front is told.
+    pub facts: Facts,
+    /// Whether all missing characters are named.
+    pub names_all: bool,
+}
+
+impl Watch {
+    /// Nothing was seen yet.
+    pub fn new(alloc: Global) -> Watch {
+        Watch {
+            facts: Facts {
+                strike: None,
+                refused: None,
+                start: None,
+                is_variable: false,
+                missing: Text::new(alloc),
+                has_more: false,
+            },
+            names_all: false,
+        }
+    }
+
+    /// Sees which characters of a list a font lacks.
+    fn see_missing(
+        &mut self,
+        alloc: Global,
+        chars: &[u32],
+        map: &CharMap<'_>,
+    ) -> Result<(), AllocError> {
+        let codes = rising_codes(alloc, chars)?;
+        let mut ranges = 0usize;
+        let mut first = None;
+        let mut last = 0u32;
+        // The ranges that end before `first` are named, and from it to `last` all are missing.
+        'codes: for code in codes.iter().copied() {
+            if self.facts.has_more {
+                return Ok(());
+            }
+            let is_missing = map.glyph(code) == 0;
+            if let Some(start) = first
+                && !(is_missing && code == last.saturating_add(1))
+            {
+                self.add_range(ranges, start, last)?;
+                ranges = ranges.saturating_add(1);
+                first = None;
+            }
+            if is_missing {
+                first = first.or(Some(code));
+                last = code;
+            }
+        }
+        if let Some(start) = first {
+            self.add_range(ranges, start, last)?;
+        }
+        Ok(())
+    }
+
+    /// Names a range of missing characters. `ranges` says how many were named before.
+    fn add_range(&mut self, ranges: usize, first: u32, last: u32) -> Result<(), AllocError> {
+        if ranges >= FEW && !self.names_all {
+            self.facts.has_more = true;
+            return Ok(());
+        }
+        if ranges > 0 {
+            self.facts.missing.add(b",")?;
+        }
+        self.facts.missing.add_code(first)?;
+        if first < last {
+            self.facts.missing.add(b"-")?;
+            self.facts.missing.add_code(last)?;
+        }
+        Ok(())
+    }
+}
+
+impl Watcher for Watch {
+    fn see(
+        &mut self,
+        alloc: Global,
+        command: &Command<'_>,
+        font: &FontFile<'_>,
+        outcome: &Result<Done, Refusal>,
+    ) {
+        if !command.hex {
+            let bytes = font.bytes();
+            let start = bytes.get(..12).unwrap_or(bytes);
+            self.facts.start = Vec::from_slice(alloc, start).ok();
+        }
+        let Ok(done) = outcome else {
+            return;
+        };
+        let Ok(opened) = Font::open(font) else {
+            return;
+        };
+        self.facts.is_variable = !matches!(done, Done::Listing | Done::Explanation)
+            && opened.table(*b"fvar").is_some();
+        if let (Done::Strike(report), Task::Strike(make)) = (done, &command.task)
+            && report.missing > 0
+            && let Ok(map) = CharMap::open(&opened)
+            && self.see_missing(alloc, &make.chars, &map).is_err()
+        {
+            self.facts.missing = Text::new(alloc);
+            self.facts.has_more = false;
+        }
+    }
+
+    fn end(&mut self, outcome: &Result<Done, Fault>) {
+        match outcome {
+            Ok(Done::Strike(report)) => {
+                self.facts.strike = Some(Counts {
+                    glyphs: report.glyphs,
+                    missing: report.missing,
+                });
+            }
+            Ok(_) | Err(Fault::Usage) => {}
+            Err(Fault::Early(refusal)) | Err(Fault::Late(refusal)) => {
+                self.facts.refused = Some(refused(*refusal));
+            }
+        }
+    }
+}
+
+/// What is told of a refusal.
+fn refused(refusal: Refusal) -> Refused {
+    let place = refusal.place();
+    Refused {
+        number: refusal.number(),
+        advice: refusal.advice(),
+        glyph: match place {
+            Place::Glyph(glyph) => Some(glyph),
+            _ => None,
+        },
+        is_halted: matches!(place, Place::Halt(_)),
+        is_halted_glyph: match place {
+            Place::Halt(halt) => matches!(halt.during, FontProgram::Glyph(_)),
+            _ => false,
+        },
+    }
+}

@@ -1,0 +1,24 @@
+-- The lines that a front adds for people.
+use Rattle.std.specs.Prelude.{◌≡◌, ◌⊎◌, ◌<◌, ℕ, List, [], ◌∷◌, ◌++◌, codes, Result}
+use Rattle.std.specs.List.{All}
+use Rattle.std.specs.Io.KnownBytes.{Keeps}
+use Rattle.fx_fixed.specs.Changes.{Change}
+use Rattle.fx_fixed.specs.Wrote.{Wrote}
+use Rattle.fx_fixed.specs.declared.sink.WriteFailed.{WriteFailed}
+
+-- a text of one line: no control character is in it, so no LF
+abbrev pub IsLine : List ℕ → Type 0
+IsLine text = All (λ b. 31 < b) text
+
+-- its line: the program's name, the text and LF
+abbrev pub line_of : List ℕ → List ℕ
+line_of text = codes "mkstrike: " ++ (text ++ 10 ∷ [])
+
+-- nothing was written
+abbrev pub IsSilent : Change → Type 0
+IsSilent err = Keeps err.bytes_before err.bytes × (err.faults ≡ err.faults_before)
+
+-- nothing was written, or one line, or the first bytes of one with a fault
+abbrev pub Says : Change → Type 0
+Says err = IsSilent err
+    ⊎ ((text : List ℕ) × IsLine text × ((result : Result (Unit {0}) WriteFailed) × Wrote err (line_of text) result))

@@ -1,0 +1,394 @@
+//! What is said after a run: what to do.
+ghost use Rattle.std.specs.Prelude.{◌≡◌};
+ghost use Rattle.fx_fixed.specs.Changes.{change_of};
+ghost use Rattle.fx_front.specs.Says.{Says};
+
+use crate::asked::Task;
+use crate::facts::{Counts, Facts, Refused};
+use crate::kinds::kind_of;
+use crate::lines::{leave, tell};
+use crate::meant::{is_among, meant_by, place_of};
+use crate::program::Program;
+use crate::run::Ended;
+use crate::text::Text;
+use fx_fixed::{Digits, Sink};
+use fx_words::list_of;
+use std::alloc::{AllocError, Global};
+
+/// The endings of files of other formats.
+const OTHERS: &str = "psf psfu pcf otb png pbm h c gz pf2 fnt fon hex ttf";
+
+/// What is said of a file whose name has one of these.
+const IS_BDF: &str =
+    "' is BDF, as every strike; strike --format of the package python3-mkstrike makes psf, pcf, otb, png, c and gfx";
+
+const IS_VARIABLE: &str = "the font is a variable font, and this is its default instance";
+
+const LACKS_ALL: &str =
+    "the font has no requested character; --chars is hexadecimal, and the letter A is 41";
+
+/// What there is for lists that are no numbers.
+const LISTS: &str =
+    "; --set takes sets by name, and strike --text of the package python3-mkstrike takes letters";
+
+const WRONG_LINE: &str =
+    "without arguments the first line of the input is the command line, and it is wrong; 'mkstrike help' shows how it is written";
+
+const NO_COMMAND: &str =
+    "the first word is the command, make, show, outline, dump, trace, explain, or help, not '";
+
+const A_FILE: &str =
+    "the first word is the command: 'mkstrike make --ppem 16 --chars 20-7e FONT' makes a strike";
+
+/// Says what there is to say after a run: at most two lines. `is_file` tells whether the first word names a file.
+pub fn say_after<G: Program, E: Sink>(
+    alloc: Global,
+    program: &G,
+    task: &Task<'_, '_>,
+    ended: Ended,
+    is_file: bool,
+    err: &mut E,
+)
+    ensures { (between : E) × Says (change_of E.held E.fault_count err.old between)
+        × Says (change_of E.held E.fault_count between err.new) }
+{
+    say_text(
+        alloc,
+        of_font_and_file(alloc, program.facts(), task, ended),
+        err,
+    );
+    say_text(alloc, after(alloc, program, task, ended, is_file), err);
+}
+
+/// Says a text, if there was memory for it.
+fn say_text<E: Sink>(alloc: Global, text: Result<Text, AllocError>, err: &mut E)
+    ensures { Says (change_of E.held E.fault_count err.old err.new) }
+{
+    match text {
+        Ok(text) => tell(alloc, err, &text),
+        Err(_) => leave(err),
+    }
+}
+
+/// What is said of a file whose name promises another format, or of a variable font.
+fn of_font_and_file(
+    alloc: Global,
+    facts: &Facts,
+    task: &Task<'_, '_>,
+    ended: Ended,
+) -> Result<Text, AllocError> {
+    if ended.status != 0 {
+        return Ok(Text::new(alloc));
+    }
+    if let Some(name) = task.parts.output
+        && task.is("make")
+        && let Some((_, ending)) = name.rsplit_once('.')
+        && is_among(ending, OTHERS)
+    {
+        return Text::of(alloc, &["'", name, IS_BDF]);
+    }
+    Text::one(alloc, if facts.is_variable { IS_VARIABLE } else { "" })
+}
+
+/// What is said after a run, without bytes if nothing is.
+fn after<G: Program>(
+    alloc: Global,
+    program: &G,
+    task: &Task<'_, '_>,
+    ended: Ended,
+    is_file: bool,
+) -> Result<Text, AllocError> {
+    let facts = program.facts();
+    match ended.status {
+        0 => match facts.strike {
+            Some(counts) => of_strike(alloc, task, facts, counts, ended.is_blank),
+            None => Ok(Text::new(alloc)),
+        },
+        1 => match facts.refused {
+            Some(refused) => of_refusal(alloc, program, task, refused),
+            None => Ok(Text::new(alloc)),
+        },
+        _ => of_usage(alloc, program, task, is_file),
+    }
+}
+
+/// What is said of a strike.
+fn of_strike(
+    alloc: Global,
+    task: &Task<'_, '_>,
+    facts: &Facts,
+    counts: Counts,
+    is_blank: bool,
+) -> Result<Text, AllocError> {
+    let none = "the strike has no glyph: ";
+    if counts.glyphs > 0 && counts.missing > 0 {
+        of_missing(alloc, facts, counts)
+    } else if counts.glyphs > 0 && is_blank {
+        Text::one(
+            alloc,
+            "no pixel of the strike is set: its characters are blank",
+        )
+    } else if counts.glyphs > 0 {
+        Ok(Text::new(alloc))
+    } else if counts.missing > 0 {
+        Text::of(alloc, &[none, LACKS_ALL])
+    } else if task.list() == Some("") {
+        Text::of(alloc, &[none, "the list of characters is empty"])
+    } else {
+        Text::of(alloc, &[none, "the requested characters are refused"])
+    }
+}
+
+/// Which characters are missing.
+fn of_missing(alloc: Global, facts: &Facts, counts: Counts) -> Result<Text, AllocError> {
+    let mut text = Text::new(alloc);
+    text.add_number(u64::from(counts.missing))?;
+    let be = if counts.missing == 1 { "is" } else { "are" };
+    text.add_all(&[" of the requested characters ", be, " missing in the font"])?;
+    if !facts.missing.is_empty() {
+        text.add_all(&[": "])?;
+        text.add(facts.missing.bytes())?;
+    }
+    text.add_all(&[if facts.has_more {
+        ",..; --missing names all"
+    } else {
+        ""
+    }])?;
+    Ok(text)
+}
+
+/// What to do after a refusal.
+fn of_refusal<G: Program>(
+    alloc: Global,
+    program: &G,
+    task: &Task<'_, '_>,
+    refused: Refused,
+) -> Result<Text, AllocError> {
+    let advice = refused.advice;
+    match (refused.number, &program.facts().start) {
+        (10, Some(start)) => Text::one(alloc, kind_of(start).unwrap_or(advice)),
+        (17..=23, _) if task.is("make") => Text::of(
+            alloc,
+            &[advice, "; --refused leave-out does so"],
+        ),
+        (24, _) if names_glyph(task, refused.glyph) => {
+            Text::one(alloc, "the font has no glyph of that number")
+        }
+        (25, Some(start)) => of_faces(alloc, start),
+        (30..=41, _) => of_halt(alloc, task, refused),
+        (61, _) => of_list(alloc, program, task, advice),
+        _ => Text::one(alloc, advice),
+    }
+}
+
+/// What to do after a halt. A trace runs the programs always.
+fn of_halt(alloc: Global, task: &Task<'_, '_>, refused: Refused) -> Result<Text, AllocError> {
+    let mut text = Text::new(alloc);
+    if task.is("make") && refused.is_halted_glyph {
+        text.add_all(&["--refused unhinted draws such characters without hinting; "])?;
+    }
+    if !task.is("trace") {
+        text.add_all(&["with --unhinted no program of the font runs; "])?;
+    }
+    text.add_all(&["to mend the font, ", refused.advice])?;
+    Ok(text)
+}
+
+/// Whether the glyph that is refused is one that the words name.
+fn names_glyph(task: &Task<'_, '_>, glyph: Option<u16>) -> bool {
+    let Some(glyph) = glyph else {
+        return false;
+    };
+    let digits = Digits::unsigned(u64::from(glyph));
+    // No word so far names it.
+    'words: for word in task.parts.words.iter() {
+        let value = match word.split_once('=') {
+            Some(("--glyph" | "--of", value)) => value,
+            _ => word,
+        };
+        if value.as_bytes() == digits.text() {
+            return true;
+        }
+    }
+    false
+}
+
+/// Which faces a file has that begins so.
+fn of_faces(alloc: Global, start: &[u8]) -> Result<Text, AllocError> {
+    let faces = match start {
+        [b't', b't', b'c', b'f', _, _, _, _, a, b, c, d] => u32::from_be_bytes([*a, *b, *c, *d]),
+        _ => return Text::one(alloc, "the file is no collection: leave --face out"),
+    };
+    if faces == 0 {
+        return Text::one(alloc, "the collection has no font");
+    }
+    if faces == 1 {
+        return Text::one(alloc, "the collection has one font: leave --face out");
+    }
+    let mut text = Text::one(alloc, "the collection has ")?;
+    text.add_number(u64::from(faces))?;
+    text.add_all(&[" fonts: --face takes 0 to "])?;
+    text.add_number(u64::from(faces - 1))?;
+    Ok(text)
+}
+
+/// What is wrong with a list of characters, or with one.
+fn of_list<G: Program>(
+    alloc: Global,
+    program: &G,
+    task: &Task<'_, '_>,
+    advice: &str,
+) -> Result<Text, AllocError> {
+    let Some(list) = task.list() else {
+        return Text::one(alloc, advice);
+    };
+    if !task.is("make") {
+        let takes = "--char takes one hexadecimal number up to 10FFFF, not '";
+        return Text::of(alloc, &[takes, list, "'; the letter A is 41"]);
+    }
+    let mut text = program.wrong_item(alloc, list)?;
+    text.add_all(&[": ", advice, "; the letter A is 41"])?;
+    add_names(alloc, &mut text, list)?;
+    Ok(text)
+}
+
+/// Adds what there is for a list that has names or letters.
+fn add_names(alloc: Global, text: &mut Text, list: &str) -> Result<(), AllocError> {
+    if list == "all" || list == "*" {
+        return text.add_all(&["; 20-d7ff,e000-fffd takes all up to U+FFFF"]);
+    }
+    let mut has_letter = false;
+    // No item so far is the name of a set; `has_letter` tells whether one has a letter that is no digit, or is no word of ASCII.
+    'items: for item in list.split(',') {
+        if list_of(alloc, item)?.is_some() {
+            return text.add_all(&["; --set ", item, " takes that set"]);
+        }
+        has_letter |= is_word(item);
+    }
+    if has_letter {
+        return text.add_all(&[LISTS]);
+    }
+    Ok(())
+}
+
+/// Whether an item looks like a word or a letter, and not like numbers.
+fn is_word(item: &str) -> bool {
+    let mut is_word = false;
+    // Whether some byte so far is a letter from g to z but `x` and `u`, which come before numbers, or is not of ASCII.
+    'bytes: for byte in item.as_bytes() {
+        let lower = byte.to_ascii_lowercase();
+        is_word |= (b'g'..=b'z').contains(&lower) && lower != b'x' && lower != b'u' || *byte > 127;
+    }
+    is_word
+}
+
+/// What is wrong with a command line.
+fn of_usage<G: Program>(
+    alloc: Global,
+    program: &G,
+    task: &Task<'_, '_>,
+    is_file: bool,
+) -> Result<Text, AllocError> {
+    let Some(first) = task.parts.words.get(1) else {
+        return Text::one(alloc, WRONG_LINE);
+    };
+    match task.command {
+        Some(command) => of_words(alloc, program, task, command),
+        None => of_command(alloc, first, is_file),
+    }
+}
+
+/// What is wrong with the words of a command.
+fn of_words<G: Program>(
+    alloc: Global,
+    program: &G,
+    task: &Task<'_, '_>,
+    command: &str,
+) -> Result<Text, AllocError> {
+    let said = program.wrong(alloc, task.parts.words.get(1..).unwrap_or(&[]))?;
+    let wrong = str::from_utf8(&said).unwrap_or("").trim_end();
+    let mut text = Text::new(alloc);
+    if wrong == "unknown option '-o'" {
+        text.add_all(&["-o takes the name of a file, and is given once;"])?;
+    } else if let Some(option) = wrong.strip_prefix("unknown option '") {
+        let option = option.strip_suffix("'").unwrap_or(option);
+        text.add_all(&[wrong, ";"])?;
+        add_meant(alloc, &mut text, option, command)?;
+    } else {
+        text.add_all(&[wrong])?;
+        add_more(&mut text, wrong, task)?;
+        text.add_all(&[";"])?;
+    }
+    text.add_all(&[" 'mkstrike help ", command, "' shows how it is written"])?;
+    Ok(text)
+}
+
+/// Adds what there is in place of an unknown option, or which may be meant.
+fn add_meant(
+    alloc: Global,
+    text: &mut Text,
+    option: &str,
+    command: &str,
+) -> Result<(), AllocError> {
+    if let Some(place) = place_of(option) {
+        return text.add_all(&[" ", place, ";"]);
+    }
+    let meant = meant_by(alloc, option, command)?;
+    if meant.is_empty() {
+        return Ok(());
+    }
+    text.add_all(&[" did you mean "])?;
+    text.add(meant.bytes())?;
+    text.add_all(&["?"])
+}
+
+/// Adds what explains a wrong word or value further.
+fn add_more(text: &mut Text, wrong: &str, task: &Task<'_, '_>) -> Result<(), AllocError> {
+    if let Some(font) = task.parts.font
+        && wrong.starts_with("one word too many")
+    {
+        return text.add_all(&[": '", font, "' names the font"]);
+    }
+    let Some(value) = wrong.strip_prefix("--ppem takes a whole number from 1 to 1024, not '") else {
+        return Ok(());
+    };
+    if value.contains("pt") {
+        text.add_all(&["; pixels are points times the resolution, divided by 72"])
+    } else if value.contains('x') && !value.starts_with("0x") {
+        text.add_all(&["; strike --cell of the package python3-mkstrike makes cells of one size"])
+    } else if value.contains(',') || value.contains('-') {
+        text.add_all(&["; strike --size of the package python3-mkstrike makes several"])
+    } else {
+        Ok(())
+    }
+}
+
+/// What is wrong with the name of a command.
+fn of_command(alloc: Global, word: &str, is_file: bool) -> Result<Text, AllocError> {
+    if word.starts_with('-') {
+        return Text::of(
+            alloc,
+            &[
+                NO_COMMAND,
+                word,
+                "'; 'mkstrike help' shows how it is written",
+            ],
+        );
+    }
+    if is_file {
+        return Text::one(alloc, A_FILE);
+    }
+    let mut text = Text::of(alloc, &["unknown command '", word, "'; "])?;
+    if word == "version" {
+        text.add_all(&["did you mean '--version'? "])?;
+    } else {
+        let meant = meant_by(alloc, word, "")?;
+        if !meant.is_empty() {
+            text.add_all(&["did you mean "])?;
+            text.add(meant.bytes())?;
+            text.add_all(&["? "])?;
+        }
+    }
+    text.add_all(&["'mkstrike help' lists the commands"])?;
+    Ok(text)
+}

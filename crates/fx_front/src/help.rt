@@ -1,0 +1,143 @@
+//! What `mkstrike help` and `--version` print. Written by tools/make_pages from docs/mkstrike-*.1: change those.
+
+/// The release, and the kit that proved it.
+pub const VERSION: &str = "mkstrike 0.20261125
+kit rattle-kit-13f logic dac8208d650f15bf
+";
+
+/// What `mkstrike help` prints.
+pub const OVERVIEW: &str = "mkstrike makes a bitmap font (BDF 2.1) from a TrueType font.
+
+    mkstrike make --ppem N --chars LIST | --set NAMES [--name NAME] [--property KEY=VALUE]... [--x11] [--refused WHAT] [--missing]
+                  [--unhinted] [--dropout[=WHAT]] [--face N] [--hex] [FONT] [-o FILE]
+    mkstrike show --ppem N --char HEX | --glyph G [--unhinted] [--dropout[=WHAT]] [--face N] [--hex] [FONT] [-o FILE]
+    mkstrike outline --ppem N --char HEX | --glyph G [--unhinted] [--face N] [--hex] [FONT] [-o FILE]
+    mkstrike dump --of WHAT [--face N] [--hex] [FONT] [-o FILE]
+    mkstrike trace --ppem N --char HEX | --glyph G | --of WHAT [--face N] [--hex] [FONT] [-o FILE]
+    mkstrike explain ARGUMENT...
+    mkstrike help [COMMAND]
+    mkstrike --version
+    mkstrike
+
+Examples:
+
+    mkstrike make --ppem 16 --chars 20-7e font.ttf -o font.bdf
+    mkstrike show --ppem 16 --char 41 font.ttf
+
+Without FONT the font is read from standard input. Without -o the output goes to standard output. Without any argument the first
+line of standard input is the command line. 'mkstrike help make' lists the options of make, and so for the other commands.
+
+The command `strike` (package python3-mkstrike) makes other formats, fixed cells and several sizes at once.
+
+Documents: 'man mkstrike', and the folder docs/ of a checkout or share/doc/mkstrike of a package. COOKBOOK.md has recipes for a
+terminal, X11, a console, a boot screen and a small display; REFUSALS.md says what each refusal means and what to do.
+";
+
+/// What `mkstrike help COMMAND` prints.
+pub fn help_of(command: &str) -> Option<&'static str> {
+    match command {
+        "make" => Some(MAKE),
+        "show" => Some(SHOW),
+        "outline" => Some(OUTLINE),
+        "dump" => Some(DUMP),
+        "trace" => Some(TRACE),
+        "explain" => Some(EXPLAIN),
+        _ => None,
+    }
+}
+
+const MAKE: &str = "mkstrike make writes a strike: the bitmaps of characters at one size.
+
+    mkstrike make --ppem N --chars LIST | --set NAMES [OPTION].. [FONT] [-o FILE]
+
+      --ppem N                the size in pixels per em, 1 to 1024
+      --chars LIST            hexadecimal numbers and ranges, as 20-7e,a0,20ac; the letter A is 41
+      --set NAMES             sets of characters by name, as ascii or latin-1,box, in place of --chars
+      --name NAME             the strike's name; one that begins with a hyphen is given as --name=-misc-..
+      --property KEY=VALUE    add a property; may be given up to 64 times
+      --x11                   add the properties that X11 and fontconfig look for
+      --refused WHAT          what becomes of a character that is refused: stop (the default, no strike), leave-out, or unhinted
+                              (drawn without hinting if its program halts, else left out)
+      --missing               name all missing characters on standard error, not the first alone
+      --unhinted              do not run the font's own programs
+      --dropout[=WHAT]        keep thin strokes whole, by left pixels (left, the default), by nearer ones (near), or as the font
+                              asks (font)
+      --face N                the font of a collection, counted from 0; without it the first
+      --hex                   the font is hexadecimal text
+      -o FILE                 write to FILE, which appears only if all was done; without it, or if FILE is -, to standard output
+      FONT                    the font's file; else standard input
+
+    mkstrike make --ppem 16 --chars 20-7e font.ttf -o font.bdf
+";
+
+const SHOW: &str = "mkstrike show writes the picture of one glyph.
+
+    mkstrike show --ppem N --char HEX | --glyph G [OPTION].. [FONT] [-o FILE]
+
+      --ppem N            the size in pixels per em, 1 to 1024
+      --char HEX          the glyph of a character, one hexadecimal number; the letter A is 41
+      --glyph G           a glyph by its number in the font, counted from 0, in place of --char
+      --unhinted          do not run the font's own programs
+      --dropout[=WHAT]    keep thin strokes whole, by left pixels (left, the default), by nearer ones (near), or as the font asks
+                          (font)
+      --face N            the font of a collection, counted from 0; without it the first
+      --hex               the font is hexadecimal text
+      -o FILE             write to FILE, which appears only if all was done; without it, or if FILE is -, to standard output
+      FONT                the font's file; else standard input
+
+    mkstrike show --ppem 16 --char 41 font.ttf
+";
+
+const OUTLINE: &str = "mkstrike outline writes the outline of one glyph, which its bits are of.
+
+    mkstrike outline --ppem N --char HEX | --glyph G [OPTION].. [FONT] [-o FILE]
+
+      --ppem N      the size in pixels per em, 1 to 1024
+      --char HEX    the glyph of a character, one hexadecimal number; the letter A is 41
+      --glyph G     a glyph by its number in the font, counted from 0, in place of --char
+      --unhinted    do not run the font's own programs
+      --face N      the font of a collection, counted from 0; without it the first
+      --hex         the font is hexadecimal text
+      -o FILE       write to FILE, which appears only if all was done; without it, or if FILE is -, to standard output
+      FONT          the font's file; else standard input
+
+    mkstrike outline --ppem 12 --char 41 font.ttf
+";
+
+const DUMP: &str = "mkstrike dump lists one of the font's own programs.
+
+    mkstrike dump --of WHAT [--face N] [--hex] [FONT] [-o FILE]
+
+      --of WHAT    the program: fpgm, prep, or the number of a glyph
+      --face N     the font of a collection, counted from 0; without it the first
+      --hex        the font is hexadecimal text
+      -o FILE      write to FILE, which appears only if all was done; without it, or if FILE is -, to standard output
+      FONT         the font's file; else standard input
+
+    mkstrike dump --of fpgm font.ttf -o fpgm.txt
+";
+
+const TRACE: &str =
+    "mkstrike trace writes one line for each instruction that a font's programs execute, in their order.
+
+    mkstrike trace --ppem N --char HEX | --glyph G | --of WHAT [OPTION].. [FONT] [-o FILE]
+
+      --ppem N      the size in pixels per em, 1 to 1024
+      --char HEX    the programs of a character's glyph, one hexadecimal number; the letter A is 41
+      --glyph G     those of a glyph by its number in the font, counted from 0
+      --of WHAT     the program fpgm or prep, or the number of a glyph
+      --face N      the font of a collection, counted from 0; without it the first
+      --hex         the font is hexadecimal text
+      -o FILE       write to FILE, which appears only if all was done; without it, or if FILE is -, to standard output
+      FONT          the font's file; else standard input
+
+    mkstrike trace --ppem 12 --char 6c font.ttf -o l.txt
+";
+
+const EXPLAIN: &str =
+    "mkstrike explain writes what is wrong first with a command line, and nothing if it is right.
+
+    mkstrike explain ARGUMENT...
+
+    mkstrike explain make --ppem 12px --chars 20-7e font.ttf
+";

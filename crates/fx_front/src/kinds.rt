@@ -1,0 +1,99 @@
+//! What kind of file it is, by its first bytes.
+
+/// The first bytes of files that are no TrueType font, and what to do with each. The first row that fits counts. docs/REFUSALS.md
+/// has the same rows.
+const KINDS: [(&[u8], &str); 17] = [
+    (
+        b"OTTO",
+        "the file looks like an OpenType font with CFF outlines, which is not read: give a TrueType font",
+    ),
+    (
+        b"ttcf",
+        "the file looks like a collection of fonts: it is cut, or this one is no TrueType font; --face takes another",
+    ),
+    (
+        b"wOFF",
+        "the file looks like a WOFF font, which is not read: unpack it to a .ttf file first",
+    ),
+    (
+        b"wOF2",
+        "the file looks like a WOFF2 font, which is not read: unpack it to a .ttf file first",
+    ),
+    (
+        b"\x1f\x8b",
+        "the file looks like gzip data: unpack it first, as by gunzip",
+    ),
+    (
+        b"PK\x03\x04",
+        "the file looks like a zip archive: unpack it first",
+    ),
+    (b"%PDF", "the file looks like a PDF: give a TrueType font"),
+    (
+        b"STARTFON",
+        "the file looks like a BDF font: it is a bitmap font already",
+    ),
+    (
+        b"\x80\x01",
+        "the file looks like a Type 1 font, which is not read: give a TrueType font",
+    ),
+    (
+        b"%!PS",
+        "the file looks like a Type 1 font, which is not read: give a TrueType font",
+    ),
+    (
+        b"\x01fcp",
+        "the file looks like a PCF font: it is a bitmap font already; pcf2bdf or FontForge make BDF of it",
+    ),
+    (
+        b"version ",
+        "the file is a pointer of Git LFS: get the font itself by git lfs pull",
+    ),
+    (
+        b"<",
+        "the file looks like a web page or XML: give a TrueType font",
+    ),
+    (
+        b"\x00\x00\x01\x00\x00",
+        "the file looks like a Macintosh font (.dfont): FontForge or fondu take the .ttf out",
+    ),
+    (
+        b"\x89PNG",
+        "the file looks like a PNG picture: give a TrueType font",
+    ),
+    (
+        b"\x00\x01\x00\x00",
+        "the file begins like a TrueType font, but is shorter than its directory: it is cut",
+    ),
+    (
+        b"true",
+        "the file begins like a TrueType font, but is shorter than its directory: it is cut",
+    ),
+];
+
+/// What a file looks like that begins so and is no TrueType font, and what to do.
+pub fn kind_of(start: &[u8]) -> Option<&'static str> {
+    if start.is_empty() {
+        return Some("the file is empty: give a TrueType font");
+    }
+    // No row so far fits.
+    'kinds: for (first, text) in KINDS.iter().copied() {
+        if start.starts_with(first) {
+            return Some(text);
+        }
+    }
+    if looks_hexadecimal(start) {
+        return Some("the file may be hexadecimal text: then add --hex");
+    }
+    None
+}
+
+/// Whether the first bytes are hexadecimal digits and blanks.
+fn looks_hexadecimal(start: &[u8]) -> bool {
+    // The bytes so far are.
+    'bytes: for byte in start {
+        if !byte.is_ascii_hexdigit() && !matches!(*byte, b' ' | b'\r' | b'\n') {
+            return false;
+        }
+    }
+    true
+}

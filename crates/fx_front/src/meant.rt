@@ -1,0 +1,157 @@
+//! Which word may be meant by one that is unknown, and what there is in its place.
+use crate::text::Text;
+use std::alloc::{AllocError, Global};
+use strsim::levenshtein;
+
+/// The commands that take a font, with their options.
+const OPTIONS: [(&str, &str); 5] = [
+    (
+        "make",
+        "--ppem --chars --set --name --property --x11 --refused --missing --unhinted --dropout --face --hex -o",
+    ),
+    (
+        "show",
+        "--ppem --char --glyph --unhinted --dropout --face --hex -o",
+    ),
+    (
+        "outline",
+        "--ppem --char --glyph --unhinted --face --hex -o",
+    ),
+    ("dump", "--of --face --hex -o"),
+    ("trace", "--ppem --char --glyph --of --face --hex -o"),
+];
+
+/// All commands.
+const COMMANDS: &str = "make show outline dump trace explain help";
+
+/// What others call an option or a command.
+const USUAL: [(&str, &str); 8] = [
+    (
+        "--size --px --pixels --pixelsize --pixel-size --height -p -s",
+        "--ppem",
+    ),
+    ("--characters --unicode --range -c", "--chars"),
+    ("--characters --unicode --chars -c", "--char"),
+    ("--output --out --outfile --file", "-o"),
+    ("--index --font-index --fontindex --number", "--face"),
+    ("--gid --glyph-id --glyphid --glyph-index", "--glyph"),
+    ("--no-hinting --nohinting --no-hint", "--unhinted"),
+    ("convert strike bdf", "make"),
+];
+
+/// What there is in place of options that others have.
+const PLACES: [(&str, &str); 8] = [
+    (
+        "--pt --points --dpi --resolution -r",
+        "--ppem is in pixels: points times the resolution, divided by 72",
+    ),
+    (
+        "--hinted --hinting --hint",
+        "strikes are hinted if --unhinted is not given",
+    ),
+    (
+        "--bold --italic --oblique",
+        "give the font's file of that style, as DejaVuSans-Bold.ttf",
+    ),
+    (
+        "--antialias --aa --gray --grey --smooth",
+        "a strike has one bit a pixel",
+    ),
+    (
+        "--all",
+        "--chars 20-d7ff,e000-fffd takes all characters up to U+FFFF",
+    ),
+    (
+        "--encoding --charset --codepage",
+        "--set takes sets of characters by name, as latin-1 or cp437",
+    ),
+    (
+        "--text --format --cell --clip --axes --merge --scale --columns --sizes --weight",
+        STRIKE,
+    ),
+    (
+        "--psf --pcf --png --otb --mono --dropout-near --dropout-font",
+        STRIKE,
+    ),
+];
+
+const STRIKE: &str =
+    "the command strike of the package python3-mkstrike makes formats, cells, several sizes and texts: 'strike --help'";
+
+/// The first row of a table whose words have this one.
+fn row_of(
+    table: &[(&'static str, &'static str)],
+    word: &str,
+) -> Option<(&'static str, &'static str)> {
+    // No row so far has it.
+    'rows: for (words, value) in table.iter().copied() {
+        if is_among(word, words) {
+            return Some((words, value));
+        }
+    }
+    None
+}
+
+/// The command that takes a font, of its name.
+pub fn command_of(word: &str) -> Option<&'static str> {
+    Some(row_of(&OPTIONS, word)?.0)
+}
+
+/// The options of a command; the commands if it is none.
+fn options_of(command: &str) -> &'static str {
+    match row_of(&OPTIONS, command) {
+        Some((_, options)) => options,
+        None => COMMANDS,
+    }
+}
+
+/// What there is in place of an option that others have.
+pub fn place_of(option: &str) -> Option<&'static str> {
+    Some(row_of(&PLACES, option)?.1)
+}
+
+/// Which option of a command may be meant by a word, or which command if none is given, each in quotation marks. It is found by a
+/// usual word for it, or by the fewest letters that differ, and then there may be two. Nothing if none may be.
+pub fn meant_by(alloc: Global, word: &str, command: &str) -> Result<Text, AllocError> {
+    let words = options_of(command);
+    // The word is in no row so far that has one of the words.
+    'rows: for (usual, meant) in USUAL.iter().copied() {
+        if is_among(word, usual) && is_among(meant, words) {
+            return Text::of(alloc, &["'", meant, "'"]);
+        }
+    }
+    if word.len() < 5 && word.starts_with('-') {
+        return Ok(Text::new(alloc));
+    }
+    nearest(alloc, word, words)
+}
+
+/// The words with the fewest letters that differ from one, at most two, each in quotation marks.
+fn nearest(alloc: Global, word: &str, words: &str) -> Result<Text, AllocError> {
+    let mut found = Text::new(alloc);
+    let mut lower = String::from_str(alloc, word)?;
+    lower.make_ascii_lowercase();
+    let mut nearest = 2;
+    // `found` has the words so far that are nearest.
+    'words: for each in words.split(' ') {
+        let distance = levenshtein(alloc, lower.as_str(), each)?;
+        if distance < nearest || (distance == nearest && found.is_empty()) {
+            found = Text::of(alloc, &["'", each, "'"])?;
+            nearest = distance;
+        } else if distance == nearest {
+            found.add_all(&[" or '", each, "'"])?;
+        }
+    }
+    Ok(found)
+}
+
+/// Whether a word is among others, which spaces part.
+pub fn is_among(word: &str, words: &str) -> bool {
+    // No word so far is.
+    'words: for each in words.split(' ') {
+        if each == word {
+            return true;
+        }
+    }
+    false
+}

@@ -1,0 +1,196 @@
+//! The output by its name.
+use crate::paths::{beside_streams, folder_of, followed, is_same};
+use crate::place::Place;
+use std::fs::{File, Metadata, Permissions};
+use std::io::{ErrorKind, Stdout, Write};
+use std::{fs, io};
+
+/// Why an output is not written.
+const NOT_WRITTEN: &str = "it may not be written";
+
+pub const NO_FOLDER: &str = "no file can be made in its folder";
+
+/// How many names are tried for a new file.
+const TRIES: u32 = 100;
+
+/// Where the output goes.
+#[derive(Drop)]
+pub enum Output {
+    /// To standard output.
+    Standard,
+    /// To what is there and is no plain file, as a device or a pipe.
+    Device(File),
+    /// To a new file beside the one of this name; like the one that is there, if one is.
+    New(String, Option<Permissions>),
+}
+
+/// The output of a run, as a place.
+#[derive(Drop)]
+pub struct Outlet<'a> {
+    pub rt: &'a HostRuntime,
+    pub output: Output,
+}
+
+/// An output that is open.
+#[derive(Drop)]
+pub enum Opened {
+    /// Standard output.
+    Standard(Stdout),
+    /// A device or a pipe.
+    Device(File),
+    /// A new file, and the name under which it is made.
+    New(File, String),
+}
+
+/// Where the output of this name goes, or why it is not written. It is not written over the font.
+pub fn output_of(
+    rt: &HostRuntime,
+    name: Option<&str>,
+    font: &str,
+) -> io::Result<Result<Output, &'static str>> {
+    let Some(name) = name else {
+        return Ok(Ok(Output::Standard));
+    };
+    if matches!(name, "-" | "/dev/stdout" | "/dev/fd/1" | "/proc/self/fd/1") {
+        return Ok(Ok(Output::Standard));
+    }
+    match fs::metadata(rt, name) {
+        Ok(found) => match refused(rt, name, font, &found) {
+            Some(why) => Ok(Err(why)),
+            None if found.is_file() => new_file(rt, name, Some(found.permissions())),
+            None => Ok(device_of(rt, name)),
+        },
+        Err(fault) if fault.kind() == ErrorKind::NotFound => new_file(rt, name, None),
+        Err(fault) if fault.kind() == ErrorKind::PermissionDenied => Ok(Err(NOT_WRITTEN)),
+        Err(_) => Ok(Err(NO_FOLDER)),
+    }
+}
+
+/// A new file of this name, like the one that is there, if one is; or why it can't be made.
+fn new_file(
+    rt: &HostRuntime,
+    name: &str,
+    like: Option<Permissions>,
+) -> io::Result<Result<Output, &'static str>> {
+    let Some(name) = followed(rt, name)? else {
+        return Ok(Err("it is a link that can't be followed"));
+    };
+    let folder = folder_of(name.as_str());
+    if !folder.is_empty() && fs::metadata(rt, folder).is_err() {
+        return Ok(Err(NO_FOLDER));
+    }
+    Ok(Ok(Output::New(name, like)))
+}
+
+/// Why what is there is not written.
+fn refused(rt: &HostRuntime, name: &str, font: &str, found: &Metadata) -> Option<&'static str> {
+    if found.is_dir() {
+        return Some("it is a folder");
+    }
+    if !found.is_file() {
+        return None;
+    }
+    if is_same(rt, found, font) {
+        return Some("it is the font");
+    }
+    // the system is asked by the name as it is given, since it may guard a link
+    if found.permissions().readonly() || File::options().append(true).open(rt, name).is_err() {
+        return Some(NOT_WRITTEN);
+    }
+    None
+}
+
+/// A device or a pipe, or why it can't be written.
+fn device_of(rt: &HostRuntime, name: &str) -> Result<Output, &'static str> {
+    if let Ok(opened) = File::options().write(true).open(rt, name)
+        && let Some(file) = beside_streams(opened)
+    {
+        return Ok(Output::Device(file));
+    }
+    Err(NOT_WRITTEN)
+}
+
+/// Makes a new file in the folder of the one of this name, with these permissions.
+fn make_beside(rt: &HostRuntime, name: &str, like: &Option<Permissions>) -> Option<Opened> {
+    let number = std::process::id(rt.process());
+    // The names so far are taken.
+    'tries: for n in 0..TRIES {
+        let made = format!(in rt.alloc(); "{}.mkstrike-{number}-{n}", folder_of(name)).ok()?;
+        match File::create_new(rt, made.as_str()) {
+            Ok(opened) => {
+                let Some(file) = beside_streams(opened) else {
+                    let _ = fs::remove_file(rt, made.as_str());
+                    return None;
+                };
+                if let Some(like) = like
+                    && let Ok(like) = like.clone()
+                {
+                    let _ = file.set_permissions(like);
+                }
+                return Some(Opened::New(file, made));
+            }
+            Err(fault) if fault.kind() == ErrorKind::AlreadyExists => {}
+            Err(_) => return None,
+        }
+    }
+    None
+}
+
+impl<'a> Place for Outlet<'a> {
+    ghost use Rattle.std.specs.Prelude.{⊤, None};
+
+    type New = Opened;
+
+    ghost fresh = { None };
+
+    ghost Names = { λ _ _ _. ⊤ };
+
+    ghost Spares = { λ _ _. ⊤ };
+
+    fn make(&self) -> Option<Opened> {
+        match &self.output {
+            Output::Standard => Some(Opened::Standard(self.rt.stdout())),
+            Output::Device(file) => Some(Opened::Device(file.try_clone().ok()?)),
+            Output::New(name, like) => make_beside(self.rt, name.as_str(), like),
+        }
+    }
+
+    fn name(&mut self, new: Opened) -> bool {
+        let (Opened::New(file, made), Output::New(name, _)) = (new, &self.output) else {
+            return true;
+        };
+        drop(file);
+        if fs::rename(self.rt, made.as_str(), name.as_str()).is_ok() {
+            return true;
+        }
+        let _ = fs::remove_file(self.rt, made.as_str());
+        false
+    }
+
+    fn remove(&mut self, new: Opened) {
+        if let Opened::New(file, made) = new {
+            drop(file);
+            let _ = fs::remove_file(self.rt, made.as_str());
+        }
+    }
+
+    fn leave(&mut self) {}
+}
+
+impl Write for Opened {
+    fn write(&mut self, piece: &[u8]) -> io::Result<usize> {
+        match self {
+            Opened::Standard(out) => out.write(piece),
+            Opened::Device(file) => file.write(piece),
+            Opened::New(file, _) => file.write(piece),
+        }
+    }
+
+    fn flush(&mut self) -> io::Result<()> {
+        match self {
+            Opened::Standard(out) => out.flush(),
+            Opened::Device(file) => file.flush(),
+            Opened::New(file, _) => file.flush(),
+        }
+    }
+}

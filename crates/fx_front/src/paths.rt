@@ -1,0 +1,55 @@
+//! Names of files.
+use std::fs::{File, Metadata};
+use std::os::fd::AsRawFd;
+use std::os::unix::fs::MetadataExt;
+use std::{fs, io};
+
+/// How many links are followed, as by the system.
+const LINKS: u32 = 40;
+
+/// The name of the folder of a file, with its slash; empty for the current one.
+pub fn folder_of(path: &str) -> &str {
+    match path.rfind('/') {
+        Some(at) => path.get(..at + 1).unwrap_or(""),
+        None => "",
+    }
+}
+
+/// The name that a chain of links at the end of a path leads to. None if one can't be followed. An error is that memory ran out.
+pub fn followed(rt: &HostRuntime, path: &str) -> io::Result<Option<String>> {
+    let mut name = String::from_str(rt.alloc(), path)?;
+    // `name` is reached from the path by the links so far.
+    'links: for _ in 0..LINKS {
+        match fs::symlink_metadata(rt, name.as_str()) {
+            Ok(found) if found.is_symlink() => {}
+            _ => return Ok(Some(name)),
+        }
+        let Ok(link) = fs::read_link(rt, name.as_str()) else {
+            return Ok(None);
+        };
+        let to = link.into_string();
+        if to.starts_with('/') {
+            name = to;
+        } else {
+            name = format!(in rt.alloc(); "{}{to}", folder_of(name.as_str()))?;
+        }
+    }
+    Ok(None)
+}
+
+/// Whether this is the file that a path leads to.
+pub fn is_same(rt: &HostRuntime, file: &Metadata, path: &str) -> bool {
+    match fs::metadata(rt, path) {
+        Ok(other) => file.dev() == other.dev() && file.ino() == other.ino(),
+        Err(_) => false,
+    }
+}
+
+/// The same open file under a number above those of the standard streams. A file that is opened while one of these is closed gets
+/// its number, and what is written to the stream would go to the file.
+pub fn beside_streams(file: File) -> Option<File> {
+    if file.as_raw_fd() > 2 {
+        return Some(file);
+    }
+    file.try_clone().ok()
+}

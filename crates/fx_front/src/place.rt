@@ -1,0 +1,36 @@
+//! Where a new file is made.
+
+use std::io::Write;
+
+/// A place where a new file is made, and gets its name when all is done.
+pub trait Place {
+    ghost use Rattle.std.specs.Prelude.{◌≡◌, ℕ, List, Option, IfSome, true, false};
+
+    type New: Write + Drop;
+
+    // What a new file holds, if that is known.
+    ghost fresh: { Option (List ℕ) };
+
+    // A file with these bytes got the name.
+    ghost Names: { Self → Option (List ℕ) → Self → Type 0 };
+
+    // No file got the name: what had it is as it was.
+    ghost Spares: { Self → Self → Type 0 };
+
+    /// Makes the file, if it can be made. It has no name yet.
+    fn make(&self) -> Option<Self::New>
+        ensures { IfSome result (λ new. Self.New.contents new ≡ fresh) };
+
+    /// Gives the file its name. If that fails it is removed.
+    fn name(&mut self, new: Self::New) -> bool
+        ensures named { result ≡ true → Names self.old (Self.New.contents new) self.new }
+        ensures spared { result ≡ false → Spares self.old self.new };
+
+    /// Removes the file.
+    fn remove(&mut self, new: Self::New)
+        ensures { Spares self.old self.new };
+
+    /// Makes no file.
+    fn leave(&mut self)
+        ensures { Spares self.old self.new };
+}

@@ -1,0 +1,39 @@
+//! What a front runs.
+use crate::facts::Facts;
+use crate::text::Text;
+use fx_fixed::{Sink, Source};
+use std::alloc::{AllocError, Global};
+
+/// A program with the words of a command line, an input, an output and lines for people.
+pub trait Program {
+    ghost use Rattle.std.specs.Prelude.{◌≡◌, ◌<◌, ◌^◌, ℕ, List, map};
+    ghost use Rattle.fx_fixed.specs.Changes.{Change, change_of};
+
+    // A run on these words, the program's name first: what became of its source, its sink and its lines, and its status.
+    ghost Ran: { List (List ℕ) → Change → Change → Change → ℕ → Type 0 };
+
+    /// Runs, and returns the status. The facts name all missing characters, or the first alone.
+    fn run<R: Source, O: Sink, E: Sink>(
+        &mut self,
+        alloc: Global,
+        words: &[&str],
+        names_all: bool,
+        reader: &mut R,
+        out: &mut O,
+        err: &mut E,
+    ) -> u8
+        requires reader { R.fault_count reader.old < 2 ^ 63 }
+        requires out { O.fault_count out.old < 2 ^ 63 }
+        requires err { E.fault_count err.old < 2 ^ 63 }
+        ensures { Ran (map (λ word. word.now) words.now) (change_of R.left R.fault_count reader.old reader.new)
+            (change_of O.held O.fault_count out.old out.new) (change_of E.held E.fault_count err.old err.new) result };
+
+    /// What is told of the last run.
+    fn facts(&self) -> &Facts;
+
+    /// What is wrong first with the words of a command line after the program's name; no bytes if nothing is.
+    fn wrong(&self, alloc: Global, words: &[&str]) -> Result<Vec<u8>, AllocError>;
+
+    /// What is wrong first with a list of characters that is refused.
+    fn wrong_item(&self, alloc: Global, list: &str) -> Result<Text, AllocError>;
+}

@@ -1,0 +1,98 @@
+//! A run of a program, whose output is a new file at a place.
+ghost use Rattle.std.specs.Prelude.{◌≡◌, ◌⊎◌, ◌<◌, ◌^◌, map, true, false};
+ghost use Rattle.fx_fixed.specs.Changes.{change_of};
+ghost use Rattle.fx_front.specs.Places.{RunsTo, held_by};
+
+use crate::late::Late;
+use crate::place::Place;
+use crate::program::Program;
+use fx_fixed::{Sink, Source};
+use std::alloc::Global;
+
+/// How a run ended.
+#[derive(Clone, Copy)]
+pub struct Ended {
+    /// The status of the program.
+    pub status: u8,
+    /// Whether no pixel of a strike is set.
+    pub is_blank: bool,
+    /// Whether the file got its name.
+    pub is_named: bool,
+    /// Whether the file was to be made, and was not.
+    pub is_unmade: bool,
+}
+
+/// Runs a program whose output is a new file at a place. It gets its name if the status is 0, or after the halt of a trace if
+/// something was traced; else it is removed.
+pub fn run_to_place<G: Program, P: Place, R: Source, E: Sink>(
+    alloc: Global,
+    program: &mut G,
+    words: &[&str],
+    names_all: bool,
+    is_trace: bool,
+    reader: &mut R,
+    place: &mut P,
+    err: &mut E,
+) -> Ended
+    requires reader { R.fault_count reader.old < 2 ^ 63 }
+    requires err { E.fault_count err.old < 2 ^ 63 }
+    ensures { RunsTo (λ sink status. G.Ran (map (λ word. word.now) words.now) (change_of R.left R.fault_count reader.old reader.new)
+        sink (change_of E.held E.fault_count err.old err.new) status) P.Names P.Spares P.fresh place.old place.new
+        is_trace result.status result.is_named }
+{
+    let mut late = Late::new(&*place);
+    let status = program.run(alloc, words, names_all, reader, &mut late, err);
+    let is_blank = late.is_blank();
+    let has_faults = late.faults() > 0;
+    let new = late.close();
+    let is_unmade = has_faults && new.is_none();
+    let is_kept = keeps(program, is_trace, status);
+    Ended {
+        status,
+        is_blank,
+        is_named: settle(place, new, status, is_kept),
+        is_unmade,
+    }
+}
+
+/// Whether what a run wrote is kept after it failed: what was traced until a halt.
+fn keeps<G: Program>(program: &G, is_trace: bool, status: u8) -> bool
+    ensures trace { result ≡ true → is_trace ≡ true }
+    ensures status { result ≡ true → status ≡ 1 }
+{
+    is_trace && status == 1 && matches!(program.facts().refused, Some(refused) if refused.is_halted)
+}
+
+/// Gives a new file its name if the status is 0 or if it is kept, and else removes it. Returns whether it got its name.
+fn settle<P: Place>(place: &mut P, new: Option<P::New>, status: u8, is_kept: bool) -> bool
+    ensures due { result ≡ true → (status ≡ 0) ⊎ (is_kept ≡ true) }
+    ensures named { result ≡ true → P.Names place.old (held_by P.New.contents P.fresh new) place.new }
+    ensures spared { result ≡ false → P.Spares place.old place.new }
+{
+    match new {
+        Some(new) if status == 0 || is_kept => place.name(new),
+        Some(new) => {
+            place.remove(new);
+            false
+        }
+        None if status == 0 => name_empty(place),
+        None => {
+            place.leave();
+            false
+        }
+    }
+}
+
+/// Makes a file to which nothing was written, and gives it its name.
+fn name_empty<P: Place>(place: &mut P) -> bool
+    ensures named { result ≡ true → P.Names place.old P.fresh place.new }
+    ensures spared { result ≡ false → P.Spares place.old place.new }
+{
+    match place.make() {
+        Some(new) => place.name(new),
+        None => {
+            place.leave();
+            false
+        }
+    }
+}

@@ -1,0 +1,176 @@
+-- The words of a command line, parted a word at a time: the font, the output, and the words for the program.
+use Rattle.std.specs.Prelude.{◌≡◌, ℕ, ◌==◌, ◌&&◌, ◌||◌, not, Bool, true, false, nat_lt, List, [], ◌∷◌, ◌++◌, map, length, codes}
+use Rattle.std.specs.Prelude.{Option, Some, None, if◌then◌else◌}
+use Rattle.std.specs.List.{after_first, before_first, fold, position_or_len}
+use Rattle.std.specs.Str.{bytes_eq}
+use Rattle.std.specs.Borrow.{Bor}
+use Rattle.fx_words.specs.declared.parts.Parts.{Parts}
+use Rattle.fx_words.specs.declared.parts.Kind.{Kind}
+use Rattle.fx_words.specs.declared.parts.Kind.TheVariants.{Output, JoinedOutput, Names, Name, Missing, Set, JoinedSet, Dropout, Valued, Flag}
+use Rattle.fx_words.specs.declared.parts.Next.{Next}
+use Rattle.fx_words.specs.declared.parts.Next.TheVariants as next
+
+abbrev pub Text : Type 0
+Text = List ℕ
+
+-- the words for the program, the font, the output, whether all missing characters are named, and what the next word may be; and
+-- whether the command is `make`, and the list that the value of `--set` stands for
+pub record PartsView : Type 0 where
+  pub words : List Text
+  pub font : Option Text
+  pub output : Option Text
+  pub names_all : Bool
+  pub next : Next
+  pub is_make : Bool
+  pub listed : Text
+
+abbrev pub texts : List (Bor Text) → List Text
+texts words = map (λ word. word.now) words
+
+abbrev pub text_in : Option (Bor Text) → Option Text
+text_in None = None
+text_in (Some word) = Some word.now
+
+abbrev pub seen : Parts → PartsView
+seen parts = record {
+  words = texts parts.words.items;
+  font = text_in parts.font;
+  output = text_in parts.output;
+  names_all = parts.names_all;
+  next = parts.next;
+  is_make = parts.is_make;
+  listed = parts.listed.now;
+}
+
+-- ---- words
+
+abbrev pub has_byte : ℕ → Text → Bool
+has_byte byte text = nat_lt (position_or_len (λ b. b == byte) text) (length text)
+
+-- begins with a hyphen
+abbrev pub has_hyphen : Text → Bool
+has_hyphen [] = false
+has_hyphen (b ∷ text) = b == 45
+
+-- what begins with a hyphen is an option, and so is a word without bytes, which names nothing
+abbrev pub is_option : Text → Bool
+is_option [] = true
+is_option (b ∷ text) = b == 45
+
+-- a word with a dot or a slash looks like a file's name, and is no value of `--dropout`
+abbrev pub is_path : Text → Bool
+is_path word = has_byte 46 word || has_byte 47 word
+
+-- `-oNAME`, and `-o=NAME`
+abbrev pub has_joined_output : Text → Bool
+has_joined_output word = has_byte 111 word && bytes_eq (before_first (λ b. b == 111) word) (codes "-")
+
+abbrev pub without_equals : Text → Text
+without_equals name = if has_byte 61 name && bytes_eq (before_first (λ b. b == 61) name) [] then after_first (λ b. b == 61) name
+    else name
+
+abbrev pub joined_output : Text → Text
+joined_output word = without_equals (after_first (λ b. b == 111) word)
+
+-- `--set=NAMES`
+abbrev pub is_joined_set : Text → Bool
+is_joined_set word = has_byte 61 word && bytes_eq (before_first (λ b. b == 61) word) (codes "--set")
+
+-- the options that take the next word as their value
+abbrev pub takes_value : Text → Bool
+takes_value word =
+    bytes_eq word (codes "--ppem") || (bytes_eq word (codes "--chars") || (bytes_eq word (codes "--name")
+    || (bytes_eq word (codes "--property") || (bytes_eq word (codes "--refused") || (bytes_eq word (codes "--face")
+    || (bytes_eq word (codes "--char") || (bytes_eq word (codes "--glyph") || bytes_eq word (codes "--of"))))))))
+
+-- what a word is that is no value
+abbrev pub other_kind : Bool → Text → Kind
+other_kind is_make word =
+    if is_make && is_joined_set word then JoinedSet
+    else (if has_joined_output word then JoinedOutput
+    else (if takes_value word then Valued else (if is_option word then Flag else Name)))
+
+abbrev pub kind_of : Bool → Text → Kind
+kind_of is_make word =
+    if bytes_eq word (codes "-o") then Output
+    else (if bytes_eq word (codes "-") then Name
+    else (if bytes_eq word (codes "--") then Names
+    else (if bytes_eq word (codes "--dropout") then Dropout
+    else (if is_make && bytes_eq word (codes "--missing") then Missing
+    else (if is_make && bytes_eq word (codes "--set") then Set else other_kind is_make word)))))
+
+-- ---- steps
+
+-- the word is for the program
+abbrev pub kept : PartsView → Text → Next → PartsView
+kept parts word next = record parts { words = parts.words ++ word ∷ []; next = next }
+
+-- a name: the first is the font's
+abbrev pub named_by : Option Text → PartsView → Text → Next → PartsView
+named_by None parts word next = record parts { font = Some word; next = next }
+named_by (Some font) parts word next = kept parts word next
+
+-- the output; the program refuses a second one
+abbrev pub put_by : Option Text → PartsView → Text → PartsView
+put_by None parts word = record parts { output = Some word; next = next.Any }
+put_by (Some output) parts word = kept (kept parts (codes "-o") next.Any) word next.Any
+
+-- a word that is no value
+abbrev pub first_by : Kind → PartsView → Text → PartsView
+first_by Output parts word = record parts { next = next.Output }
+first_by JoinedOutput parts word = put_by parts.output parts (joined_output word)
+first_by Names parts word = record parts { next = next.Name }
+first_by Name parts word = named_by parts.font parts word next.Any
+first_by Missing parts word = record parts { names_all = true; next = next.Any }
+first_by Set parts word = kept parts (codes "--chars") next.Set
+first_by JoinedSet parts word = kept (kept parts (codes "--chars") next.Any) parts.listed next.Any
+first_by Dropout parts word = kept parts word next.Dropout
+first_by Valued parts word = kept parts word next.Value
+first_by Flag parts word = kept parts word next.Any
+
+abbrev pub first : PartsView → Text → PartsView
+first parts word = first_by (kind_of parts.is_make word) parts word
+
+-- the next word. After `-o` it is the output's name if it is one, and else `-o` is for the program, which refuses it
+abbrev pub step_by : Next → PartsView → Text → PartsView
+step_by next.Any parts word = first parts word
+step_by next.Value parts word = if has_hyphen word then first parts word else kept parts word next.Any
+step_by next.Set parts word = if has_hyphen word then first parts word else kept parts parts.listed next.Any
+step_by next.Dropout parts word = if has_hyphen word || is_path word then first parts word else kept parts word next.Any
+step_by next.Output parts word =
+    if bytes_eq word (codes "-") || not (is_option word) then put_by parts.output parts word
+    else first (kept parts (codes "-o") next.Any) word
+step_by next.Name parts word = named_by parts.font parts word next.Name
+
+abbrev pub step : PartsView → Text → PartsView
+step parts word = step_by parts.next parts word
+
+-- no word is left: an `-o` without a name is for the program
+abbrev pub end_by : Next → PartsView → PartsView
+end_by next.Output parts = kept parts (codes "-o") next.Any
+end_by next parts = parts
+
+abbrev pub end : PartsView → PartsView
+end parts = end_by parts.next parts
+
+-- before the first word
+abbrev pub start_of : List Text → Bool → Text → PartsView
+start_of before is_make listed = record {
+  words = before;
+  font = None;
+  output = None;
+  names_all = false;
+  next = next.Any;
+  is_make = is_make;
+  listed = listed;
+}
+
+-- all words
+abbrev pub parts_of : List Text → Bool → Text → List Text → PartsView
+parts_of before is_make listed words = end (fold step (start_of before is_make listed) words)
+
+-- the law: after words that name neither, FONT and `-o FILE` change nothing else; the words for the program are those before them
+abbrev pub NamesAreApart : Type 0
+NamesAreApart = (parts : PartsView) (font output : Text) → parts.font ≡ None → parts.output ≡ None → parts.next ≡ next.Any
+    → kind_of parts.is_make font ≡ Name → is_option output ≡ false
+    → end (fold step parts (font ∷ codes "-o" ∷ output ∷ [])) ≡ record parts { font = Some font; output = Some output }

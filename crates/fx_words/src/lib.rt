@@ -1,0 +1,10 @@
+//! The words of a command line: which name the font and the output, and which are for the program; and the sets of characters that
+//! have names. Nothing is opened here.
+#![tactic(auto)]
+
+pub mod laws;
+mod parts;
+mod sets;
+
+pub use parts::{Parts, part, whole};
+pub use sets::{SETS, list_of, listed, set_in};

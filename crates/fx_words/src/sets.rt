@@ -1,0 +1,106 @@
+//! Sets of characters by name.
+use std::alloc::{AllocError, Global};
+
+/// Each set: its name, and its characters as a list of hexadecimal numbers and ranges, without control characters.
+pub const SETS: [(&str, &str); 11] = [
+    ("ascii", "20-7e"),
+    ("latin-1", "20-7e,a0-ff"),
+    (
+        "latin-9",
+        "20-7e,a0-a3,a5,a7,a9-b3,b5-b7,b9-bb,bf-ff,152-153,160-161,178,17d-17e,20ac",
+    ),
+    (
+        "wgl4",
+        "20-7e,a0-17f,192,1fa-1ff,2c6-2c7,2c9,2d8-2dd,37e,384-38a,38c,38e-3a1,3a3-3ce,401-40c,40e-44f,451-45c,45e-45f,\
+         490-491,1e80-1e85,1ef2-1ef3,2013-2015,2017-201e,2020-2022,2026,2030,2032-2033,2039-203a,203c,203e,2044,207f,\
+         20a3-20a4,20a7,20ac,2105,2113,2116,2122,2126,212e,215b-215e,2190-2195,21a8,2202,2206,220f,2211-2212,2215,\
+         2219-221a,221e-221f,2229,222b,2248,2260-2261,2264-2265,2302,2310,2320-2321,2500,2502,250c,2510,2514,2518,251c,\
+         2524,252c,2534,253c,2550-256c,2580,2584,2588,258c,2590-2593,25a0-25a1,25aa-25ac,25b2,25ba,25bc,25c4,25ca-25cb,\
+         25cf,25d8-25d9,25e6,263a-263c,2640,2642,2660,2663,2665-2666,266a-266b,fb01-fb02",
+    ),
+    (
+        "greek",
+        "20-7e,a0,a3,a6-a9,ab-ad,b0-b3,b7,bb,bd,37a,384-386,388-38a,38c,38e-3a1,3a3-3ce,2015,2018-2019,20ac,20af",
+    ),
+    (
+        "cyrillic",
+        "20-7e,a0,a7,ad,401-40c,40e-44f,451-45c,45e-45f,2116",
+    ),
+    ("box", "2500-257f"),
+    ("blocks", "2580-259f"),
+    ("braille", "2800-28ff"),
+    (
+        "cp437",
+        "20-7e,a0-a3,a5,a7,aa-ac,b0-b2,b5-b7,ba-bd,bf,c4-c7,c9,d1,d6,dc,df-e2,e4-ef,f1-f4,f6-f7,f9-fc,ff,192,393,398,\
+         3a3,3a6,3a9,3b1,3b4-3b5,3c0,3c3-3c4,3c6,2022,203c,207f,20a7,2190-2195,21a8,2219-221a,221e-221f,2229,2248,2261,\
+         2264-2265,2302,2310,2320-2321,2500,2502,250c,2510,2514,2518,251c,2524,252c,2534,253c,2550-256c,2580,2584,2588,\
+         258c,2590-2593,25a0,25ac,25b2,25ba,25bc,25c4,25cb,25d8-25d9,263a-263c,2640,2642,2660,2663,2665-2666,266a-266b",
+    ),
+    (
+        "koi8-r",
+        "20-7e,a0,a9,b0,b2,b7,f7,401,410-44f,451,2219-221a,2248,2264-2265,2320-2321,2500,2502,250c,2510,2514,2518,251c,\
+         2524,252c,2534,253c,2550-256c,2580,2584,2588,258c,2590-2593,25a0",
+    ),
+];
+
+/// Other names of sets.
+const OTHERS: [(&str, &str); 8] = [
+    ("us-ascii", "ascii"),
+    ("latin1", "latin-1"),
+    ("iso8859-1", "latin-1"),
+    ("iso-8859-1", "latin-1"),
+    ("latin9", "latin-9"),
+    ("iso8859-15", "latin-9"),
+    ("iso-8859-15", "latin-9"),
+    ("koi8r", "koi8-r"),
+];
+
+/// The list of a set of this name, in letters of either case.
+pub fn list_of(alloc: Global, name: &str) -> Result<Option<&'static str>, AllocError> {
+    let mut lower = String::from_str(alloc, name)?;
+    lower.make_ascii_lowercase();
+    let found = value_of(&OTHERS, lower.as_str()).unwrap_or(lower.as_str());
+    Ok(value_of(&SETS, found))
+}
+
+/// The value of a key in a table.
+fn value_of(table: &[(&'static str, &'static str)], key: &str) -> Option<&'static str> {
+    // The key is none of those so far.
+    'rows: for (each, value) in table.iter().copied() {
+        if each == key {
+            return Some(value);
+        }
+    }
+    None
+}
+
+/// The list of characters that a list of names, numbers and ranges stands for. What names no set stays as it is.
+pub fn listed(alloc: Global, names: &str) -> Result<String, AllocError> {
+    let mut list = String::new(alloc);
+    let mut is_first = true;
+    // `list` has what the names so far stand for.
+    'names: for name in names.split(',') {
+        if !is_first {
+            list.push_str(",")?;
+        }
+        is_first = false;
+        list.push_str(list_of(alloc, name)?.unwrap_or(name))?;
+    }
+    Ok(list)
+}
+
+/// The value of `--set` among the words of a command line, empty if there is none.
+pub fn set_in<'a>(words: &[&'a str]) -> &'a str {
+    let mut is_next = false;
+    // `is_next` tells whether the word before this one is `--set`; none before has its value.
+    'words: for word in words {
+        if is_next {
+            return word;
+        }
+        if let Some(("--set", names)) = word.split_once('=') {
+            return names;
+        }
+        is_next = *word == "--set";
+    }
+    ""
+}
