@@ -1,4 +1,5 @@
 //! Outlines of lines and arcs, and frames, by their places.
+ghost use Rattle.std.specs.Prelude.{◌≡◌};
 ghost use Rattle.fx_winding.specs.Limits.{IsSide};
 
 use fx_winding::{Frame, Piece, Pieces, Point};
@@ -59,6 +60,10 @@ pub fn places(arc: &Piece) -> Option<[(i32, i32); 3]> {
 pub fn frame(left: i32, bottom: i32, width: u32, height: u32) -> Frame
     requires columns { IsSide left width }
     requires rows { IsSide bottom height }
+    ensures left { result.left ≡ left }
+    ensures bottom { result.bottom ≡ bottom }
+    ensures width { result.width ≡ width }
+    ensures height { result.height ≡ height }
 {
     Frame {
         left,

@@ -1,4 +1,7 @@
 //! What pieces add to rows of pixels, and the scan by rows, against the tests of single points.
+ghost use Rattle.std.specs.Prelude.{◌≤◌};
+ghost use Rattle.fx_winding.specs.Frames.{HasMargin};
+
 use crate::curves::{At, Curve, add, frame, outline, piece};
 use fx_rows::{OnRow, RowPart, Rows, Run, interval};
 use fx_winding::{
@@ -247,6 +250,14 @@ fn shows_ring(rt: &impl Abort, alloc: Global, ring: &Pieces, frame: Frame) -> Re
     Ok(())
 }
 
+/// As many columns as rows, from -20 on.
+fn square(side: u32) -> Frame
+    requires { side ≤ 300 }
+    ensures { HasMargin result }
+{
+    frame(-20, -20, side, side)
+}
+
 /// A scan in the buffers of scans before it, of larger and of smaller frames, gives the bits and the notes of one in new buffers.
 #[test]
 fn scans_in_used_buffers(rt: HostRuntime) -> Result<(), Fail> {
@@ -255,7 +266,7 @@ fn scans_in_used_buffers(rt: HostRuntime) -> Result<(), Fail> {
     let mut scratch = Scratch::new(alloc);
     let mut tally = Tally::new();
     for side in [40, 8, 300, 64] {
-        let pixels = frame(-20, -20, side, side);
+        let pixels = square(side);
         let used = Rows.scan_noted(alloc, &ring, pixels, &mut scratch, &mut tally)?;
         let mut new = Scratch::new(alloc);
         let fresh = Rows.scan_noted(alloc, &ring, pixels, &mut new, &mut tally)?;

@@ -1,20 +1,18 @@
--- The frame with drop-out control has a pixel of each gap, so no gap stays open.
+-- The frame with drop-out control has a pixel of each gap.
 -- For the law `dropout`.
 use Rattle.std.proofs.Common.{◌≡◌, ◌⊎◌, inl, inr, refl, ℤ, pos, ◌+ℤ◌, ◌*ℤ◌, ◌≤ℤ◌, ◌<ℤ◌, List, [], ◌∷◌, map, Any, Option, Some, None}
 use Rattle.std.proofs.Common.{IsSomeAnd, option_map, arith}
 use Rattle.fx_fixed.proofs.Linear.{signed}
 use Rattle.fx_fixed.proofs.Order.{below_or_not_ℤ}
 use Rattle.fx_winding.specs.Area.{Place}
-use Rattle.fx_winding.specs.Dropout.{turned_place, turned_span, IsRowSetIn}
+use Rattle.fx_winding.specs.Dropout.{turned_place, turned_span}
 use Rattle.fx_winding.specs.Meets.{IsMet}
 use Rattle.fx_winding.specs.Outside.{HasAll}
-use Rattle.fx_winding.specs.Winding.{Span, IsCovered, centre}
+use Rattle.fx_winding.specs.Winding.{Span, centre}
 use Rattle.fx_winding.proofs.Aside.{left_not_met, right_not_met}
 use Rattle.fx_winding.proofs.Covers.{any_cases}
-use Rattle.fx_winding.proofs.Dropout.{bridged_no_gap}
 use Rattle.fx_winding.proofs.Meeting.{above_not_met, below_not_met}
 use Rattle.fx_contour.specs.DropoutFrames.{x_of, y_of, IsExtent, IsKept, IsInDropoutFrame, MetRowsAreKept, MetColumnsAreKept}
-use Rattle.fx_contour.specs.DropoutFrames.{NoRowHasGap, NoColumnHasGap}
 use Rattle.fx_contour.specs.Frames.{HasAny, HaveAny}
 use Rattle.fx_contour.proofs.Extents.{extents, low_at_most, high_at_least}
 use Rattle.fx_contour.proofs.Kept.{kept_of_two, kept_across}
@@ -94,15 +92,3 @@ met_columns_are_kept (s ∷ ss) i j a =
     let column = kept_across x_of (s ∷ ss) e.left e.right i e.across bottom top in
     elim (kept_along y_of (s ∷ ss) e.bottom e.top j e.up (turned_back _ (s ∷ ss) h.left) (turned_back _ (s ∷ ss) h.right))
     [ inl k ↦ inl (column, k) | inr k ↦ inr (column, k) ]
-
--- ---- no gap
-
-pub no_row_has_gap : NoRowHasGap
-no_row_has_gap ss i j n m a =
-    bridged_no_gap ss (IsInDropoutFrame ss) (λ i j. IsCovered (centre i j) ss) i j (met_rows_are_kept ss i j a) (λ s. n (inl s))
-    (λ s. m (inl s)) a
-
-pub no_column_has_gap : NoColumnHasGap
-no_column_has_gap ss i j n m a =
-    bridged_no_gap (map turned_span ss) (λ j i. IsInDropoutFrame ss i j) (λ j i. IsRowSetIn ss (IsInDropoutFrame ss) i j) j i
-    (met_columns_are_kept ss i j a) n m a

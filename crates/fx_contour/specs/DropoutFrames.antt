@@ -8,7 +8,7 @@ use Rattle.fx_fixed.specs.Ranges.{IsWithin}
 use Rattle.fx_winding.specs.Area.{Place}
 use Rattle.fx_winding.specs.Winding.{Span, centre, IsCovered}
 use Rattle.fx_winding.specs.Meets.{IsMet}
-use Rattle.fx_winding.specs.Dropout.{turned_span, IsSetIn}
+use Rattle.fx_winding.specs.Dropout.{turned_span}
 use Rattle.fx_winding.specs.declared.frame.Frame.{Frame}
 use Rattle.fx_winding.specs.Frames.{HasMargin}
 use Rattle.fx_winding.specs.Limits.{greatest_side}
@@ -122,15 +122,3 @@ MetRowsAreKept = (ss : List Span) (i j : ℤ) → Any (IsMet (centre i j) (centr
 abbrev pub MetColumnsAreKept : Type 0
 MetColumnsAreKept = (ss : List Span) (i j : ℤ) → Any (IsMet (centre j i) (centre (j +ℤ pos 1) i)) (map turned_span ss)
     → IsInDropoutFrame ss i j ⊎ IsInDropoutFrame ss i (j +ℤ pos 1)
-
--- the law: with drop-out control no gap stays open: between two neighbours of a row, wherever they are, neither of which is set, no
--- piece passes
-abbrev pub NoRowHasGap : Type 0
-NoRowHasGap = (ss : List Span) (i j : ℤ) → ¬ (IsSetIn ss (IsInDropoutFrame ss) i j)
-    → ¬ (IsSetIn ss (IsInDropoutFrame ss) (i +ℤ pos 1) j) → ¬ (Any (IsMet (centre i j) (centre (i +ℤ pos 1) j)) ss)
-
--- the law: nor between two of a column
-abbrev pub NoColumnHasGap : Type 0
-NoColumnHasGap = (ss : List Span) (i j : ℤ) → ¬ (IsSetIn ss (IsInDropoutFrame ss) i j)
-    → ¬ (IsSetIn ss (IsInDropoutFrame ss) i (j +ℤ pos 1))
-    → ¬ (Any (IsMet (centre j i) (centre (j +ℤ pos 1) i)) (map turned_span ss))

@@ -2,7 +2,7 @@
 ghost use Rattle.fx_contour.specs.Contours.{ReachIsTested};
 ghost use Rattle.fx_contour.specs.Curve.{CurvesAreClosed, CurveIsByMidpoints};
 ghost use Rattle.fx_contour.specs.DropoutFrames.{MarginIsTested, ManyIsTested, SomePixelIsKept, BoxIsKept, CoveredIsKept};
-ghost use Rattle.fx_contour.specs.DropoutFrames.{MetRowsAreKept, MetColumnsAreKept, NoRowHasGap, NoColumnHasGap};
+ghost use Rattle.fx_contour.specs.DropoutFrames.{MetRowsAreKept, MetColumnsAreKept};
 ghost use Rattle.fx_contour.specs.Frames.{LargeIsTested};
 ghost use Rattle.fx_contour.specs.Mirrors.{MirrorMovesSpans, MirrorMovesBits, MirrorMovesDropoutFrame};
 ghost use Rattle.fx_contour.specs.Mirrors.{FlipMovesSpans, FlipMovesBits, FlipMovesDropoutFrame, ExchangeMovesSpans, ExchangeMovesBits};
@@ -60,8 +60,7 @@ pub fn exchange()
 {}
 
 /// The frame with drop-out control has a pixel wherever there is a piece, all pixels of the frame without, all that are covered,
-/// and one of each two neighbours between whose centres a piece passes. So with drop-out control no stroke is lost anywhere:
-/// between two neighbours in a row or a column, neither of which is set, no piece passes. Its tests decide what they test.
+/// and one of each two neighbours between whose centres a piece passes. Its tests decide what they test.
 pub fn dropout()
     ensures margin { MarginIsTested }
     ensures many { ManyIsTested }
@@ -70,6 +69,4 @@ pub fn dropout()
     ensures covered { CoveredIsKept }
     ensures rows { MetRowsAreKept }
     ensures columns { MetColumnsAreKept }
-    ensures no_row_gap { NoRowHasGap }
-    ensures no_column_gap { NoColumnHasGap }
 {}

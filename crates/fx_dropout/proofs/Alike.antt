@@ -29,7 +29,8 @@ use Rattle.fx_winding.proofs.Sizes.{product_within}
 use Rattle.fx_winding.proofs.Regions.{IsIn, IsInRegion, region_cases, region_in, region_out, third_strictly}
 use Rattle.fx_winding.proofs.Triangle.{area_expr}
 use Rattle.fx_winding.proofs.Turning.{left_of_all, right_of_all}
-use Rattle.fx_dropout.specs.Nearer.{place_on}
+use Rattle.fx_dropout.specs.Dropout.{place_on}
+use Rattle.fx_dropout.specs.inner.Pairs.{next_col, next_row}
 use Rattle.fx_dropout.specs.inner.Runs.{IsAlike, IsAlikeTo, HaveOneSign, IsPassed, IsClear, IsAdded, IsInBox, step}
 use Rattle.fx_dropout.proofs.Steps.{linear_sign, gap_in, gap_step, gap_below, gap_above}
 
@@ -274,8 +275,8 @@ area_near p q r np nq nr =
       omega (arith, signed_linear, along.0, along.1, back.0, back.1),
     )
 
-pub place_near : (up : Bool) (col row : ℤ) (n : ℕ) → IsPixelNumber col → IsPixelNumber (col +ℤ pos 1) → IsPixelNumber row
-    → IsPixelNumber (row +ℤ pos 1) → n < 128 → IsNear (place_on up col row n)
+pub place_near : (up : Bool) (col row : ℤ) (n : ℕ) → IsPixelNumber col → IsPixelNumber (next_col up col) → IsPixelNumber row
+    → IsPixelNumber (next_row up row) → n < 128 → IsNear (place_on up col row n)
 place_near false col row n c d r s l = (
   (omega (arith, signed, c.0, c.1, d.1, l), omega (arith, signed, c.0, c.1, d.1, l)),
   (omega (arith, signed, r.0, r.1), omega (arith, signed, r.0, r.1)),
@@ -472,7 +473,8 @@ line_run up col row k m a c h n low high =
     (side_along up col row k m n c.y low top h.end) (v_sign up col row k m n a c low top h.side)
 
 -- an arc off which the places are, and whose region counts one number at them
-arc_run : (up : Bool) (col row : ℤ) (k m : ℕ) (a b c : Place) → k ≤ m → IsClear up col row k m (record { a = a; b = Some b; c = c })
+arc_run : (up : Bool) (col row : ℤ) (k m : ℕ) (a b c : Place) → k ≤ m
+    → IsClear up col row k m (record { a = a; b = Some b; c = c })
     → ((n : ℕ) → k ≤ n → n ≤ m → (¬ (IsOnPart a (Some b) c (place_on up col row n))) ×
     (region_part a (Some b) c (place_on up col row n) ≡ region_part a (Some b) c (place_on up col row k)))
     → IsAlikeTo up col row k (m + 1) (record { a = a; b = Some b; c = c })

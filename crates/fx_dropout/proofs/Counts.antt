@@ -4,7 +4,7 @@ use Rattle.std.proofs.Common.{◌≡◌, ◌↔◌, inl, inr, refl, sym, ap, ◌
 use Rattle.std.proofs.Common.{◌<◌, ◌≤◌, add-one, arith}
 use Rattle.std.specs.Int.{from_bool}
 use Rattle.fx_winding.proofs.Places.{clash}
-use Rattle.fx_dropout.specs.Nearer.{IsCount}
+use Rattle.fx_dropout.specs.Dropout.{IsCount}
 
 pub count_none : (P : ℕ → Type 0) → IsCount P 0 0
 unfolding IsCount

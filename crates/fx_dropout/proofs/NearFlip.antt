@@ -2,7 +2,7 @@
 -- Serves the law `flip`.
 use Rattle.std.proofs.Common.{◌≡◌, refl, sym, ap, ◌∙◌, subst, ◌↔◌, ◌⊎◌, inl, inr, ℕ, ◌+◌, ℤ, pos, ◌+ℤ◌, ◌*ℤ◌, true, false, List, map}
 use Rattle.fx_winding.specs.Area.{Place, place}
-use Rattle.fx_winding.specs.Dropout.{turned_place, turned_span, IsGap}
+use Rattle.fx_winding.specs.Dropout.{turned_place, turned_span}
 use Rattle.fx_winding.specs.Frames.{IsInFrame}
 use Rattle.fx_winding.specs.Meets.{IsMet}
 use Rattle.fx_winding.specs.Mirrors.{flipped}
@@ -12,8 +12,9 @@ use Rattle.fx_winding.proofs.Flipped.{flip_moves_cover, flip_moves_bits, centre_
 use Rattle.fx_winding.proofs.Mirrored.{axis_mirrored}
 use Rattle.fx_winding.proofs.MirrorMeeting.{flip_meets, flip_meets_up}
 use Rattle.fx_dropout.specs.Mirrors.{IsHereNearer, HasNoTieUp, FlipMovesNearSet}
-use Rattle.fx_dropout.specs.Nearer.{IsNextNearer, IsNearRowSetIn, IsNearSetIn, place_on}
-use Rattle.fx_dropout.proofs.NearLaws.{AreMet, IsMoved, closed_moved, nearer_along}
+use Rattle.fx_dropout.specs.declared.chooser.Closing.TheVariants.{Nearer}
+use Rattle.fx_dropout.specs.Dropout.{IsGap, IsNextNearer, IsRowSetIn, IsSetIn, place_on}
+use Rattle.fx_dropout.proofs.SetPixels.{AreMet, IsMoved, closed_moved, nearer_along}
 use Rattle.fx_dropout.proofs.NearMirror.{So, centre_below}
 use Rattle.fx_dropout.proofs.Reversed.{mirror, mirror_next, any_moved, any_turned_moved, back_along, nearer_reversed, one_nearer}
 use Rattle.fx_dropout.proofs.Reversed.{bridged_mirrored}
@@ -38,7 +39,7 @@ covered_flipped ss o i j n = subst (λ p. IsCovered p (map flipped ss) ↔ IsCov
     (λ t. place ((pos 128 *ℤ i +ℤ pos 64) +ℤ pos n) (axis_mirrored j t)) (flip_moves_cover (place_on false i j n) ss o)
 
 row_flipped : (ss : List Span) (In To : ℤ → ℤ → Type 0) → AreOfOutline ss → ((i j : ℤ) → To i (mirror j) ↔ In i j)
-    → IsMoved (λ i. i) (λ j. mirror j) (IsNearRowSetIn ss In) (IsNearRowSetIn (map flipped ss) To)
+    → IsMoved (λ i. i) (λ j. mirror j) (IsRowSetIn Nearer ss In) (IsRowSetIn Nearer (map flipped ss) To)
 row_flipped ss In To o inside =
     closed_moved (λ i. i) (λ j. mirror j) (λ i. refl) (λ i. refl) ss (map flipped ss) In To (IsNextNearer false ss)
     (IsNextNearer false (map flipped ss)) (So ss) (So (map flipped ss))
@@ -93,11 +94,11 @@ nearer_up_flipped ss o i j =
 -- ---- the whole
 pub near_set_flipped : (ss : List Span) (In To : ℤ → ℤ → Type 0) → AreOfOutline ss → HasNoTieUp ss In
     → ((i j : ℤ) → To i (mirror j) ↔ In i j) → (i j : ℤ)
-    → IsNearSetIn (map flipped ss) To i (mirror j) ↔ IsNearSetIn ss In i j
+    → IsSetIn Nearer (map flipped ss) To i (mirror j) ↔ IsSetIn Nearer ss In i j
 near_set_flipped ss In To o tie inside i j =
     bridged_mirrored (map turned_span ss) (map turned_span (map flipped ss)) (λ j i. In i j) (λ j i. To i j)
-    (λ j i. IsNextNearer true ss i j) (λ j i. IsNextNearer true (map flipped ss) i j) (λ j i. IsNearRowSetIn ss In i j)
-    (λ j i. IsNearRowSetIn (map flipped ss) To i j) (record {
+    (λ j i. IsNextNearer true ss i j) (λ j i. IsNextNearer true (map flipped ss) i j) (λ j i. IsRowSetIn Nearer ss In i j)
+    (λ j i. IsRowSetIn Nearer (map flipped ss) To i j) (record {
       inside = λ j i. inside i j;
       set = λ j i. (λ h. rows.back i j h, λ h. rows.on i j h);
       gap = λ j i. (gap_back j i, gap_on j i);
@@ -105,23 +106,23 @@ near_set_flipped ss In To o tie inside i j =
       not_both = λ j i n f. one_nearer true ss i j n ((nearer_up_flipped ss o i j).0 f);
     }) j i
   where
-    rows : IsMoved (λ i. i) (λ j. mirror j) (IsNearRowSetIn ss In) (IsNearRowSetIn (map flipped ss) To)
+    rows : IsMoved (λ i. i) (λ j. mirror j) (IsRowSetIn Nearer ss In) (IsRowSetIn Nearer (map flipped ss) To)
     rows = row_flipped ss In To o inside
 
     gap_back : (j i : ℤ)
-        → IsGap (map turned_span (map flipped ss)) (λ j i. IsNearRowSetIn (map flipped ss) To i j) (mirror (j +ℤ pos 1)) i
-        → IsGap (map turned_span ss) (λ j i. IsNearRowSetIn ss In i j) j i
+        → IsGap (map turned_span (map flipped ss)) (λ j i. IsRowSetIn Nearer (map flipped ss) To i j) (mirror (j +ℤ pos 1)) i
+        → IsGap (map turned_span ss) (λ j i. IsRowSetIn Nearer ss In i j) j i
     gap_back j i g =
-        let n : ¬ (IsNearRowSetIn ss In i j) =
-        λ s. g.next (subst (λ z. IsNearRowSetIn (map flipped ss) To i z) (sym (mirror_next j)) (rows.on i j s)) in
-        let m : ¬ (IsNearRowSetIn ss In i (j +ℤ pos 1)) = λ s. g.here (rows.on i (j +ℤ pos 1) s) in
+        let n : ¬ (IsRowSetIn Nearer ss In i j) =
+        λ s. g.next (subst (λ z. IsRowSetIn Nearer (map flipped ss) To i z) (sym (mirror_next j)) (rows.on i j s)) in
+        let m : ¬ (IsRowSetIn Nearer ss In i (j +ℤ pos 1)) = λ s. g.here (rows.on i (j +ℤ pos 1) s) in
         record { here = n; next = m; met = (met_up_flipped ss i j (λ c. n (inl c)) (λ c. m (inl c))).0 g.met }
 
-    gap_on : (j i : ℤ) → IsGap (map turned_span ss) (λ j i. IsNearRowSetIn ss In i j) j i
-        → IsGap (map turned_span (map flipped ss)) (λ j i. IsNearRowSetIn (map flipped ss) To i j) (mirror (j +ℤ pos 1)) i
+    gap_on : (j i : ℤ) → IsGap (map turned_span ss) (λ j i. IsRowSetIn Nearer ss In i j) j i
+        → IsGap (map turned_span (map flipped ss)) (λ j i. IsRowSetIn Nearer (map flipped ss) To i j) (mirror (j +ℤ pos 1)) i
     gap_on j i g = record {
       here = λ s. g.next (rows.back i (j +ℤ pos 1) s);
-      next = λ s. g.here (rows.back i j (subst (λ z. IsNearRowSetIn (map flipped ss) To i z) (mirror_next j) s));
+      next = λ s. g.here (rows.back i j (subst (λ z. IsRowSetIn Nearer (map flipped ss) To i z) (mirror_next j) s));
       met = (met_up_flipped ss i j (λ c. g.here (inl c)) (λ c. g.next (inl c))).1 g.met;
     }
 

@@ -6,7 +6,7 @@ use Rattle.fx_fixed.specs.Polynomial.{var, num, ◌⊞◌, ◌⊠◌}
 use Rattle.fx_fixed.proofs.Ring.{ring}
 use Rattle.fx_fixed.proofs.Linear.{signed_linear}
 use Rattle.fx_winding.specs.Area.{Place, place}
-use Rattle.fx_winding.specs.Dropout.{turned_place, turned_span, IsGap}
+use Rattle.fx_winding.specs.Dropout.{turned_place, turned_span}
 use Rattle.fx_winding.specs.Frames.{IsInFrame}
 use Rattle.fx_winding.specs.Meets.{IsMet}
 use Rattle.fx_winding.specs.Mirrors.{mirrored_place, mirrored}
@@ -15,8 +15,9 @@ use Rattle.fx_winding.specs.Winding.{Span, IsOn, IsCovered, centre}
 use Rattle.fx_winding.proofs.Mirrored.{mirror_moves_cover, mirror_moves_bits, centre_mirrored}
 use Rattle.fx_winding.proofs.MirrorMeeting.{mirror_meets, mirror_meets_up}
 use Rattle.fx_dropout.specs.Mirrors.{IsHereNearer, HasNoTie, MirrorMovesNearSet}
-use Rattle.fx_dropout.specs.Nearer.{IsNextNearer, IsNearBridged, IsNearRowSetIn, IsNearSetIn, place_on}
-use Rattle.fx_dropout.proofs.NearLaws.{AreMet, IsMoved, closed_moved, nearer_along}
+use Rattle.fx_dropout.specs.declared.chooser.Closing.TheVariants.{Nearer}
+use Rattle.fx_dropout.specs.Dropout.{IsGap, IsNextNearer, IsBridged, IsRowSetIn, IsSetIn, place_on}
+use Rattle.fx_dropout.proofs.SetPixels.{AreMet, IsMoved, closed_moved, nearer_along}
 use Rattle.fx_dropout.proofs.Reversed.{mirror, mirror_next, any_moved, any_turned_moved, back_along, nearer_reversed, one_nearer}
 use Rattle.fx_dropout.proofs.Reversed.{bridged_mirrored}
 
@@ -113,7 +114,7 @@ nearer_up_mirrored ss o i j = (
 -- ---- the whole
 row_mirrored : (ss : List Span) (In To : ℤ → ℤ → Type 0) → AreOfOutline ss → HasNoTie ss
     → ((i j : ℤ) → To (mirror i) j ↔ In i j) → (i j : ℤ)
-    → IsNearRowSetIn (map mirrored ss) To (mirror i) j ↔ IsNearRowSetIn ss In i j
+    → IsRowSetIn Nearer (map mirrored ss) To (mirror i) j ↔ IsRowSetIn Nearer ss In i j
 row_mirrored ss In To o tie inside =
     bridged_mirrored ss (map mirrored ss) In To (IsNextNearer false ss) (IsNextNearer false (map mirrored ss)) (So ss)
     (So (map mirrored ss)) (record {
@@ -131,34 +132,35 @@ row_mirrored ss In To o tie inside =
 
 pub near_set_mirrored : (ss : List Span) (In To : ℤ → ℤ → Type 0) → AreOfOutline ss → HasNoTie ss
     → ((i j : ℤ) → To (mirror i) j ↔ In i j) → (i j : ℤ)
-    → IsNearSetIn (map mirrored ss) To (mirror i) j ↔ IsNearSetIn ss In i j
+    → IsSetIn Nearer (map mirrored ss) To (mirror i) j ↔ IsSetIn Nearer ss In i j
 near_set_mirrored ss In To o tie inside i j = (λ h. all.back j i h, λ h. all.on j i h)
   where
-    row : (i j : ℤ) → IsNearRowSetIn (map mirrored ss) To (mirror i) j ↔ IsNearRowSetIn ss In i j
+    row : (i j : ℤ) → IsRowSetIn Nearer (map mirrored ss) To (mirror i) j ↔ IsRowSetIn Nearer ss In i j
     row = row_mirrored ss In To o tie inside
 
-    gap_back : (j i : ℤ) → IsGap (map turned_span (map mirrored ss)) (λ j i. IsNearRowSetIn (map mirrored ss) To i j) j (mirror i)
-        → IsGap (map turned_span ss) (λ j i. IsNearRowSetIn ss In i j) j i
+    gap_back : (j i : ℤ) → IsGap (map turned_span (map mirrored ss)) (λ j i. IsRowSetIn Nearer (map mirrored ss) To i j) j
+        (mirror i)
+        → IsGap (map turned_span ss) (λ j i. IsRowSetIn Nearer ss In i j) j i
     gap_back j i g =
-        let n : ¬ (IsNearRowSetIn ss In i j) = λ s. g.here ((row i j).1 s) in
-        let m : ¬ (IsNearRowSetIn ss In i (j +ℤ pos 1)) = λ s. g.next ((row i (j +ℤ pos 1)).1 s) in
+        let n : ¬ (IsRowSetIn Nearer ss In i j) = λ s. g.here ((row i j).1 s) in
+        let m : ¬ (IsRowSetIn Nearer ss In i (j +ℤ pos 1)) = λ s. g.next ((row i (j +ℤ pos 1)).1 s) in
         record { here = n; next = m; met = (met_up_mirrored ss i j (λ c. n (inl c)) (λ c. m (inl c))).0 g.met }
 
-    gap_on : (j i : ℤ) → IsGap (map turned_span ss) (λ j i. IsNearRowSetIn ss In i j) j i
-        → IsGap (map turned_span (map mirrored ss)) (λ j i. IsNearRowSetIn (map mirrored ss) To i j) j (mirror i)
+    gap_on : (j i : ℤ) → IsGap (map turned_span ss) (λ j i. IsRowSetIn Nearer ss In i j) j i
+        → IsGap (map turned_span (map mirrored ss)) (λ j i. IsRowSetIn Nearer (map mirrored ss) To i j) j (mirror i)
     gap_on j i g = record {
       here = λ s. g.here ((row i j).0 s);
       next = λ s. g.next ((row i (j +ℤ pos 1)).0 s);
       met = (met_up_mirrored ss i j (λ c. g.here (inl c)) (λ c. g.next (inl c))).1 g.met;
     }
 
-    all : IsMoved (λ j. j) (λ i. mirror i) (IsNearBridged (map turned_span ss) (λ j i. In i j) (λ j i. IsNextNearer true ss i j)
-        (λ j i. IsNearRowSetIn ss In i j))
-        (IsNearBridged (map turned_span (map mirrored ss)) (λ j i. To i j) (λ j i. IsNextNearer true (map mirrored ss) i j)
-        (λ j i. IsNearRowSetIn (map mirrored ss) To i j))
+    all : IsMoved (λ j. j) (λ i. mirror i) (IsBridged (map turned_span ss) (λ j i. In i j) (λ j i. IsNextNearer true ss i j)
+        (λ j i. IsRowSetIn Nearer ss In i j))
+        (IsBridged (map turned_span (map mirrored ss)) (λ j i. To i j) (λ j i. IsNextNearer true (map mirrored ss) i j)
+        (λ j i. IsRowSetIn Nearer (map mirrored ss) To i j))
     all = closed_moved (λ j. j) (λ i. mirror i) (λ j. refl) (λ j. refl) (map turned_span ss) (map turned_span (map mirrored ss))
         (λ j i. In i j) (λ j i. To i j) (λ j i. IsNextNearer true ss i j) (λ j i. IsNextNearer true (map mirrored ss) i j)
-        (λ j i. IsNearRowSetIn ss In i j) (λ j i. IsNearRowSetIn (map mirrored ss) To i j)
+        (λ j i. IsRowSetIn Nearer ss In i j) (λ j i. IsRowSetIn Nearer (map mirrored ss) To i j)
         (record { back = λ j i h. (inside i j).0 h; on = λ j i h. (inside i j).1 h })
         (record { back = λ j i h. (nearer_up_mirrored ss o i j).0 h; on = λ j i h. (nearer_up_mirrored ss o i j).1 h })
         (record { back = λ j i h. (row i j).0 h; on = λ j i h. (row i j).1 h })

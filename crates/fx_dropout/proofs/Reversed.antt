@@ -6,11 +6,11 @@ use Rattle.fx_fixed.specs.Polynomial.{var, num, ◌⊞◌, ◌⊠◌, minus, ◌
 use Rattle.fx_fixed.proofs.Ring.{ring}
 use Rattle.fx_fixed.proofs.Linear.{signed_linear}
 use Rattle.fx_winding.specs.Area.{Place}
-use Rattle.fx_winding.specs.Dropout.{turned_span, IsGap}
+use Rattle.fx_winding.specs.Dropout.{turned_span}
 use Rattle.fx_winding.specs.Winding.{Span, IsOn, IsCovered}
 use Rattle.fx_winding.proofs.Covers.{any_map, any_unmap}
 use Rattle.fx_dropout.specs.Mirrors.{IsHereNearer}
-use Rattle.fx_dropout.specs.Nearer.{IsCount, IsNextNearer, IsNearBridged, IsClosedByLeft, IsClosedByRight, place_on}
+use Rattle.fx_dropout.specs.Dropout.{IsGap, IsCount, IsNextNearer, IsBridged, IsClosedByLeft, IsClosedByRight, place_on}
 use Rattle.fx_dropout.proofs.Counts.{count_is_one, count_reversed}
 
 -- the column, or the row, of the mirrored pixel
@@ -122,7 +122,7 @@ pub record AreMirrored (ss ts : List Span) (In To Near Far So At : ℤ → ℤ �
 
 pub bridged_mirrored : (ss ts : List Span) (In To Near Far So At : ℤ → ℤ → Type 0) → AreMirrored ss ts In To Near Far So At
     → (i j : ℤ)
-    → IsNearBridged ts To Far At (mirror i) j ↔ IsNearBridged ss In Near So i j
+    → IsBridged ts To Far At (mirror i) j ↔ IsBridged ss In Near So i j
 bridged_mirrored ss ts In To Near Far So At m i j = (from, to)
   where
     left_to : (i : ℤ) → IsClosedByLeft ss In Near So i j → IsClosedByRight ts To Far At (mirror (i +ℤ pos 1)) j
@@ -157,7 +157,7 @@ bridged_mirrored ss ts In To Near Far So At m i j = (from, to)
         by (inl k) (inr f) = absurd (k f)
         by (inr k) (inr f) = inr (λ h. k (subst (λ z. To z j) (sym (mirror_next i)) ((m.inside i j).1 h)))
 
-    to : IsNearBridged ss In Near So i j → IsNearBridged ts To Far At (mirror i) j
+    to : IsBridged ss In Near So i j → IsBridged ts To Far At (mirror i) j
     to (inl s) = inl ((m.set i j).1 s)
     to (inr b) = inr (record { inside = (m.inside i j).1 b.inside; closes = by b.closes })
       where
@@ -166,7 +166,7 @@ bridged_mirrored ss ts In To Near Far So At m i j = (from, to)
         by (inl c) = inr (subst (λ z. IsClosedByRight ts To Far At z j) (mirror_before i) (left_to i c))
         by (inr c) = inl (subst (λ z. IsClosedByLeft ts To Far At z j) (mirror_after i) (right_to (i -ℤ pos 1) c))
 
-    from : IsNearBridged ts To Far At (mirror i) j → IsNearBridged ss In Near So i j
+    from : IsBridged ts To Far At (mirror i) j → IsBridged ss In Near So i j
     from (inl s) = inl ((m.set i j).0 s)
     from (inr b) = inr (record { inside = (m.inside i j).0 b.inside; closes = by b.closes })
       where

@@ -1,4 +1,4 @@
--- What the definition of drop-out control by the nearer pixel implies.
+-- What the definition of drop-out control implies, whichever of the two pixels closes a gap.
 use Rattle.std.specs.Prelude.{◌⊎◌, ◌↔◌, ℤ, pos, ◌+ℤ◌, ◌*ℤ◌, List, map, Any}
 use Rattle.std.specs.List.Sorted.{IsPermutation}
 use Rattle.fx_winding.specs.declared.frame.Frame.{Frame}
@@ -7,31 +7,33 @@ use Rattle.fx_winding.specs.Frames.{IsInFrame}
 use Rattle.fx_winding.specs.Meets.{IsMet}
 use Rattle.fx_winding.specs.Moves.{reversed, shifted}
 use Rattle.fx_winding.specs.Winding.{Span, IsCovered, centre}
-use Rattle.fx_dropout.specs.Nearer.{IsNearSet}
+use Rattle.fx_dropout.specs.declared.chooser.Closing.{Closing}
+use Rattle.fx_dropout.specs.Dropout.{IsSet}
 
 -- the law: it only adds pixels, and only in the frame
-abbrev pub NearerAdds : Type 0
-NearerAdds = (ss : List Span) (f : Frame) (i j : ℤ)
-    → (IsCovered (centre i j) ss → IsNearSet ss f i j) × (IsNearSet ss f i j → IsCovered (centre i j) ss ⊎ IsInFrame f i j)
+abbrev pub DropoutAdds : Type 0
+DropoutAdds = (closing : Closing) (ss : List Span) (f : Frame) (i j : ℤ)
+    → (IsCovered (centre i j) ss → IsSet closing ss f i j) × (IsSet closing ss f i j → IsCovered (centre i j) ss ⊎ IsInFrame f i j)
 
 -- the law: no stroke is lost in a row: between two neighbours that are not set, one of which is in the frame, no piece passes
 abbrev pub RowsHaveNoGap : Type 0
-RowsHaveNoGap = (ss : List Span) (f : Frame) (i j : ℤ) → IsInFrame f i j ⊎ IsInFrame f (i +ℤ pos 1) j
-    → ¬ (IsNearSet ss f i j) → ¬ (IsNearSet ss f (i +ℤ pos 1) j) → ¬ (Any (IsMet (centre i j) (centre (i +ℤ pos 1) j)) ss)
+RowsHaveNoGap = (closing : Closing) (ss : List Span) (f : Frame) (i j : ℤ) → IsInFrame f i j ⊎ IsInFrame f (i +ℤ pos 1) j
+    → ¬ (IsSet closing ss f i j) → ¬ (IsSet closing ss f (i +ℤ pos 1) j)
+    → ¬ (Any (IsMet (centre i j) (centre (i +ℤ pos 1) j)) ss)
 
 -- the law: nor in a column
 abbrev pub ColumnsHaveNoGap : Type 0
-ColumnsHaveNoGap = (ss : List Span) (f : Frame) (i j : ℤ) → IsInFrame f i j ⊎ IsInFrame f i (j +ℤ pos 1)
-    → ¬ (IsNearSet ss f i j) → ¬ (IsNearSet ss f i (j +ℤ pos 1))
+ColumnsHaveNoGap = (closing : Closing) (ss : List Span) (f : Frame) (i j : ℤ) → IsInFrame f i j ⊎ IsInFrame f i (j +ℤ pos 1)
+    → ¬ (IsSet closing ss f i j) → ¬ (IsSet closing ss f i (j +ℤ pos 1))
     → ¬ (Any (IsMet (centre j i) (centre (j +ℤ pos 1) i)) (map turned_span ss))
 
 -- the law: the pieces reversed, in whatever order, set the same pixels
-abbrev pub ReversalKeepsNearSet : Type 0
-ReversalKeepsNearSet = (ss ts : List Span) (f : Frame) → IsPermutation (map reversed ss) ts → (i j : ℤ)
-    → IsNearSet ts f i j ↔ IsNearSet ss f i j
+abbrev pub ReversalKeepsSet : Type 0
+ReversalKeepsSet = (closing : Closing) (ss ts : List Span) (f : Frame) → IsPermutation (map reversed ss) ts → (i j : ℤ)
+    → IsSet closing ts f i j ↔ IsSet closing ss f i j
 
 -- the law: pieces and a frame moved by k pixels to the right and l up, each pixel 128 units a side, set the pixels moved so
-abbrev pub ShiftMovesNearSet : Type 0
-ShiftMovesNearSet = (k l : ℤ) (ss : List Span) (f g : Frame)
+abbrev pub ShiftMovesSet : Type 0
+ShiftMovesSet = (closing : Closing) (k l : ℤ) (ss : List Span) (f g : Frame)
     → ((i j : ℤ) → IsInFrame g (i +ℤ k) (j +ℤ l) ↔ IsInFrame f i j) → (i j : ℤ)
-    → IsNearSet (map (shifted (pos 128 *ℤ k) (pos 128 *ℤ l)) ss) g (i +ℤ k) (j +ℤ l) ↔ IsNearSet ss f i j
+    → IsSet closing (map (shifted (pos 128 *ℤ k) (pos 128 *ℤ l)) ss) g (i +ℤ k) (j +ℤ l) ↔ IsSet closing ss f i j

@@ -1,5 +1,5 @@
+pub mod Dropout
 pub mod Tests
-pub mod Nearer
 pub mod Laws
 pub mod Mirrors
 pub mod inner

@@ -1,12 +1,13 @@
 -- Mirrored pieces with drop-out control by the nearer pixel.
 use Rattle.std.specs.Prelude.{◌⊎◌, ◌↔◌, ℕ, ◌+◌, ◌<◌, ℤ, negsuc, ◌-ℤ◌, Bool, true, false, List, map}
 use Rattle.fx_winding.specs.declared.frame.Frame.{Frame}
-use Rattle.fx_winding.specs.Dropout.{turned_span, IsGap}
+use Rattle.fx_winding.specs.Dropout.{turned_span}
 use Rattle.fx_winding.specs.Frames.{IsInFrame}
 use Rattle.fx_winding.specs.Mirrors.{mirrored, flipped}
 use Rattle.fx_winding.specs.Outside.{AreOfOutline}
 use Rattle.fx_winding.specs.Winding.{Span, IsCovered, centre}
-use Rattle.fx_dropout.specs.Nearer.{IsCount, IsNextNearer, IsNearRowSetIn, IsNearSet, place_on}
+use Rattle.fx_dropout.specs.declared.chooser.Closing.TheVariants.{Nearer}
+use Rattle.fx_dropout.specs.Dropout.{IsGap, IsCount, IsNextNearer, IsRowSetIn, IsSet, place_on}
 
 -- the stroke between the centres of a pixel and its right neighbour or, with `true`, its upper one is nearer to the pixel: of the
 -- 63 places in the half beside it more are covered than of the 63 in the other half
@@ -27,11 +28,11 @@ HasNoTie ss = (i j : ℤ) → IsGap ss (λ i j. IsCovered (centre i j) ss) i j
 abbrev pub MirrorMovesNearSet : Type 0
 MirrorMovesNearSet = (ss : List Span) (f g : Frame) → AreOfOutline ss → HasNoTie ss
     → ((i j : ℤ) → IsInFrame g (negsuc 0 -ℤ i) j ↔ IsInFrame f i j) → (i j : ℤ)
-    → IsNearSet (map mirrored ss) g (negsuc 0 -ℤ i) j ↔ IsNearSet ss f i j
+    → IsSet Nearer (map mirrored ss) g (negsuc 0 -ℤ i) j ↔ IsSet Nearer ss f i j
 
 -- each gap that the rows have left open in a column has a nearer pixel
 abbrev pub HasNoTieUp : List Span → (ℤ → ℤ → Type 0) → Type 0
-HasNoTieUp ss IsInside = (i j : ℤ) → IsGap (map turned_span ss) (λ j i. IsNearRowSetIn ss IsInside i j) j i
+HasNoTieUp ss IsInside = (i j : ℤ) → IsGap (map turned_span ss) (λ j i. IsRowSetIn Nearer ss IsInside i j) j i
     → IsNextNearer true ss i j ⊎ IsHereNearer true ss i j
 
 -- the law: the pieces of closed contours upside down, without a tie in columns and with the frame upside down, set the pixels
@@ -39,4 +40,4 @@ HasNoTieUp ss IsInside = (i j : ℤ) → IsGap (map turned_span ss) (λ j i. IsN
 abbrev pub FlipMovesNearSet : Type 0
 FlipMovesNearSet = (ss : List Span) (f g : Frame) → AreOfOutline ss → HasNoTieUp ss (IsInFrame f)
     → ((i j : ℤ) → IsInFrame g i (negsuc 0 -ℤ j) ↔ IsInFrame f i j) → (i j : ℤ)
-    → IsNearSet (map flipped ss) g i (negsuc 0 -ℤ j) ↔ IsNearSet ss f i j
+    → IsSet Nearer (map flipped ss) g i (negsuc 0 -ℤ j) ↔ IsSet Nearer ss f i j

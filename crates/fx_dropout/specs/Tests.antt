@@ -1,21 +1,15 @@
--- How many tests of points the closing of gaps takes at most.
-use Rattle.std.specs.Prelude.{ℕ, ◌+◌, ◌*◌, Bool, true, false}
+-- How many tests of points the closing of gaps takes.
+use Rattle.std.specs.Prelude.{ℕ, ◌*◌}
 use Rattle.fx_winding.specs.declared.frame.Frame.{Frame}
+use Rattle.fx_winding.specs.Bitmaps.{words_for}
+use Rattle.fx_dropout.specs.declared.chooser.Closing.{Closing}
+use Rattle.fx_dropout.specs.declared.chooser.Closing.TheVariants.{Lower, Nearer}
 
--- tests for the segment between two neighbours: for each piece five for whether it meets the segment, and three for each of the
--- two pixels for whether it covers that
-abbrev pub most_tests : ℕ → ℕ
-most_tests pieces = 11 * pieces
+-- the most tests that the choice between the two pixels of a gap takes: none, or 31 for each piece at each of 128 places
+abbrev pub choice_tests : Closing → ℕ → ℕ
+choice_tests Lower pieces = 0
+choice_tests Nearer pieces = 31 * 128 * pieces
 
--- the same if a gap there is closed by the nearer pixel: 31 more for each piece at each of 128 places
-abbrev pub most_nearer_tests : ℕ → ℕ
-most_nearer_tests pieces = most_tests pieces + 31 * 128 * pieces
-
--- how many segments of a line of n pixels are tested: with exact notes the two that lead out of the frame, else all
-abbrev pub tested : Bool → ℕ → ℕ
-tested true n = 2
-tested false n = n + 1
-
--- how many segments of all rows and columns of a frame are tested
-abbrev pub tested_segments : Bool → Frame → ℕ
-tested_segments exact f = f.height * tested exact f.width + tested exact f.height * f.width
+-- the most that all gaps of a frame take: one choice for each pixel of its words in rows, and one in columns
+abbrev pub closing_tests : Closing → ℕ → Frame → ℕ
+closing_tests closing pieces f = 2 * (f.height * (words_for f.width * (32 * choice_tests closing pieces)))

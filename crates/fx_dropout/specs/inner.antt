@@ -1,6 +1,4 @@
 -- What only private contracts cite.
 pub mod Pairs
-pub mod Lines
-pub mod Words
+pub mod Closing
 pub mod Runs
-pub mod Filled

@@ -2,18 +2,14 @@
 
 ghost use Rattle.std.specs.Prelude.{◌≡◌, ◌⊎◌, ◌↔◌, ℕ, ◌+◌, ◌*◌, ◌^◌, ◌≤◌, ◌<◌, ℤ, pos, IsTrue, length, map, get_or};
 ghost use Rattle.fx_fixed.specs.Ranges.{IsWithin};
-ghost use Rattle.fx_winding.specs.Frames.{IsInFrame};
 ghost use Rattle.fx_winding.specs.Winding.{span_of};
-ghost use Rattle.fx_dropout.specs.Nearer.{IsCount, IsNextNearer};
-ghost use Rattle.fx_dropout.specs.inner.Filled.{IsNearer};
-ghost use Rattle.fx_dropout.specs.inner.Pairs.{next_col, next_row};
+ghost use Rattle.fx_dropout.specs.Dropout.{IsCount, IsNextNearer};
 ghost use Rattle.fx_dropout.specs.inner.Runs.{IsCoveredBy};
 
-use crate::drawn::Drawn;
-use crate::pair::{Pair, Pixel, is_in_frame};
+use crate::pair::Pair;
 use crate::places::{add_pieces, is_covered};
 use crate::run::PLACES;
-use fx_winding::{Frame, Tally};
+use fx_winding::{Pieces, Tally};
 
 /// How many places of a segment between two centres lie in each half of it, without its ends and its middle.
 const HALF: usize = 63;
@@ -35,7 +31,7 @@ fn count_covered(places: &[i32], base: i32, from: usize) -> u32
 }
 
 /// Whether the stroke between the centres of two neighbours is nearer to the second.
-fn is_next_nearer(pieces: &Drawn<'_>, pair: Pair, tally: &mut Tally) -> bool
+pub(crate) fn is_next_nearer(pieces: &Pieces, pair: Pair, tally: &mut Tally) -> bool
     ensures value { IsTrue result ↔ IsNextNearer pair.is_up (map span_of pieces.now) pair.here.col pair.here.row }
     ensures count { tally.new.count ≤ tally.old.count + 31 * 128 * length pieces.now }
 {
@@ -44,28 +40,4 @@ fn is_next_nearer(pieces: &Drawn<'_>, pair: Pair, tally: &mut Tally) -> bool
     let here = count_covered(&places, base, 1);
     let next = count_covered(&places, base, 65);
     here < next
-}
-
-/// The pixel that closes a gap between two neighbours, one of which is in the frame.
-pub(crate) fn nearer(pieces: &Drawn<'_>, frame: Frame, pair: Pair, tally: &mut Tally) -> Pixel
-    requires { IsInFrame frame pair.here.col pair.here.row
-        ⊎ IsInFrame frame (next_col pair.is_up pair.here.col) (next_row pair.is_up pair.here.row) }
-    ensures inside { IsInFrame frame result.col result.row }
-    ensures is { IsNearer pair.is_up (map span_of pieces.now) frame pair.here.col pair.here.row result.col result.row }
-    ensures only { (i j : ℤ) → IsNearer pair.is_up (map span_of pieces.now) frame pair.here.col pair.here.row i j →
-        (i ≡ result.col) × (j ≡ result.row) }
-    ensures count { tally.new.count ≤ tally.old.count + 31 * 128 * length pieces.now }
-{
-    let next = pair.next();
-    if !is_in_frame(frame, pair.here) {
-        return next;
-    }
-    if !is_in_frame(frame, next) {
-        return pair.here;
-    }
-    if is_next_nearer(pieces, pair, tally) {
-        next
-    } else {
-        pair.here
-    }
 }

@@ -1,36 +1,51 @@
 //! Drop-out control by the notes of a scan.
 
-ghost use Rattle.std.specs.Prelude.{◌≡◌, ◌↔◌, ◌+◌, ◌*◌, ◌≤◌, IsTrue, ℤ, length, map, All};
+ghost use Rattle.std.specs.Prelude.{◌≡◌, ◌↔◌, ◌+◌, ◌≤◌, IsTrue, ℤ, length, map};
 ghost use Rattle.fx_winding.specs.Bitmaps.{bit_of, IsScanOf};
-ghost use Rattle.fx_winding.specs.Dropout.{IsSet};
-ghost use Rattle.fx_winding.specs.Frames.{IsInFrame, HasMargin};
-ghost use Rattle.fx_winding.specs.Notes.{AreExact, IsNoted};
-ghost use Rattle.fx_winding.specs.Winding.{span_of};
-ghost use Rattle.fx_dropout.specs.Tests.{most_tests, tested_segments};
+ghost use Rattle.fx_winding.specs.Frames.{IsInFrame};
+ghost use Rattle.fx_winding.specs.Notes.{AreExact};
+ghost use Rattle.fx_winding.specs.Winding.{centre, span_of, IsCovered};
+ghost use Rattle.fx_dropout.specs.Dropout.{IsSet};
+ghost use Rattle.fx_dropout.specs.Tests.{closing_tests};
 
-use crate::across::close_rows;
-use crate::drawn::Drawn;
-use crate::up::close_columns;
-use fx_winding::{Bitmap, Notes, Tally};
+use crate::chooser::{Chooser, Closing};
+use crate::closing::close_words;
+use fx_winding::{Bitmap, Notes, Pieces, Tally};
 
-/// Closes the gaps of the rows, and then those that are left in the columns: a bitmap that a scan of the pieces gave has the bits
-/// that drop-out control sets in its frame then. The segments that a piece meets must be noted; others may be.
-///
-/// The columns and rows beside the frame must have numbers too. Tests of points are counted in `tally`: at most eleven for each
-/// piece and each segment that is tested. With exact notes only segments that lead out of the frame are tested, else all.
-pub fn close_gaps(pieces: &Drawn<'_>, notes: &Notes, bitmap: &mut Bitmap, tally: &mut Tally)
-    requires margin { HasMargin bitmap.old.frame }
-    requires scanned { IsScanOf bitmap.old.frame (map span_of pieces.now) bitmap.old }
-    requires frame { notes.now.frame ≡ bitmap.old.frame }
-    requires noted { All (λ s. IsNoted s notes.now.frame notes.now.across.items notes.now.up.items) (map span_of pieces.now) }
-    requires exact { IsTrue notes.now.exact → AreExact notes.now.frame notes.now.across.items notes.now.up.items
-        (map span_of pieces.now) }
-    ensures frame { bitmap.new.frame ≡ bitmap.old.frame }
-    ensures bits { (col row : ℤ) → IsInFrame bitmap.old.frame col row →
-        IsTrue (bit_of bitmap.new col row) ↔ IsSet (map span_of pieces.now) bitmap.old.frame col row }
-    ensures count { tally.new.count ≤
-        tally.old.count + tested_segments notes.now.exact bitmap.old.frame * most_tests (length pieces.now) }
+/// The bitmap that a scan of the pieces gave, with the gaps of its rows closed, and then those that are left in the columns. If
+/// no pixel outside the frame is covered, it has the bits that drop-out control sets in its frame. The notes are those of the
+/// same scan, and are used up.
+pub fn close_gaps(
+    pieces: &Pieces,
+    notes: &mut Notes,
+    bitmap: Bitmap,
+    closing: Closing,
+    tally: &mut Tally,
+) -> Bitmap
+    requires scanned { IsScanOf bitmap.frame (map span_of pieces.now) bitmap }
+    requires frame { notes.old.frame ≡ bitmap.frame }
+    requires noted { AreExact bitmap.frame notes.old.across.items notes.old.up.items (map span_of pieces.now) }
+    ensures notes { notes.new.frame ≡ notes.old.frame }
+    ensures frame { result.frame ≡ bitmap.frame }
+    ensures count { tally.new.count ≤ tally.old.count + closing_tests closing (length pieces.now) bitmap.frame }
+    ensures bits { ((i j : ℤ) → ¬ (IsInFrame bitmap.frame i j) → ¬ (IsCovered (centre i j) (map span_of pieces.now))) →
+        (col row : ℤ) → IsInFrame bitmap.frame col row →
+        IsTrue (bit_of result col row) ↔ IsSet closing (map span_of pieces.now) bitmap.frame col row }
 {
-    close_rows(pieces, notes, bitmap, tally);
-    close_columns(pieces, notes, bitmap, tally);
+    let frame = bitmap.frame();
+    let chooser = Chooser {
+        pieces,
+        frame,
+        closing,
+    };
+    let mut words = bitmap.into_words();
+    close_words(
+        &chooser,
+        frame,
+        &notes.across,
+        &mut notes.up,
+        &mut words,
+        tally,
+    );
+    Bitmap::from_words(frame, words)
 }

@@ -6,7 +6,7 @@ ghost use Rattle.fx_winding.specs.Area.{Place};
 ghost use Rattle.fx_winding.specs.Limits.{most_pieces};
 ghost use Rattle.fx_winding.specs.Outside.{HasAll};
 ghost use Rattle.fx_winding.specs.Winding.{place_of, span_of};
-ghost use Rattle.fx_dropout.specs.Nearer.{place_on};
+ghost use Rattle.fx_dropout.specs.Dropout.{place_on};
 ghost use Rattle.fx_dropout.specs.inner.Runs.{above as above_of, sum_of, IsAdded, IsCoveredBy, IsInBox, IsJoined, IsMore, IsSummed};
 
 use crate::gaps::{is_above, is_below, is_left, is_right};

@@ -5,7 +5,7 @@ ghost use Rattle.fx_fixed.specs.Ranges.{IsWithin};
 ghost use Rattle.fx_winding.specs.Area.{Place, gap_of};
 ghost use Rattle.fx_winding.specs.Meets.{turn};
 ghost use Rattle.fx_winding.specs.Winding.{place_of, span_of, areas_of, region, IsOn};
-ghost use Rattle.fx_dropout.specs.Nearer.{place_on};
+ghost use Rattle.fx_dropout.specs.Dropout.{place_on};
 ghost use Rattle.fx_dropout.specs.inner.Runs.{HaveOneSign, IsAlikeTo, IsBelowTo, IsClear, IsPassed, step, gap_at as gap_of_piece};
 
 use crate::gaps::turn_off;

@@ -14,15 +14,14 @@ use Rattle.fx_winding.specs.Outside.{AreOfOutline}
 use Rattle.fx_winding.proofs.Grid.{from_true}
 use Rattle.fx_contour.specs.Frames.{NothingOutsideFrame}
 use Rattle.fx_contour.specs.DropoutFrames.{IsInDropoutFrame}
-use Rattle.fx_raster.specs.declared.rule.Closing.{Closing}
-use Rattle.fx_raster.specs.declared.rule.Closing.TheVariants.{Lower, Nearer}
+use Rattle.fx_dropout.specs.declared.chooser.Closing.{Closing}
 use Rattle.fx_raster.specs.declared.rule.Rule.{Rule}
 use Rattle.fx_raster.specs.declared.rule.Rule.TheVariants.{Centres, Bridged}
-use Rattle.fx_dropout.specs.Nearer.{IsNearSet}
+use Rattle.fx_dropout.specs.Dropout.{IsSet}
 use Rattle.fx_raster.specs.Rules.{IsPixelSet}
 use Rattle.fx_raster.specs.Frames.{IsFramedBy}
-use Rattle.fx_raster.specs.inner.Framing.{HasBitsOf, IsBridgedScanOf, IsSetBy}
-use Rattle.fx_raster.proofs.Bridged.{set_along, near_set_along, nothing_set}
+use Rattle.fx_raster.specs.inner.Framing.{HasBitsOf, IsBridgedScanOf}
+use Rattle.fx_raster.proofs.Bridged.{set_along, nothing_set}
 
 -- ---- one pixel
 
@@ -86,23 +85,13 @@ bridged_has_bits closing f ss b scan framed outside closed =
     in_its_frame (Bridged closing) ss b (subst I (sym scan.same) each) (subst F (sym scan.same) framed)
     (subst N (sym scan.same) outside) closed
   where
-    there : (i j : ℤ) → IsInDropoutFrame ss i j ↔ IsInFrame f i j
-    there i j = ((framed.0 i j).1, (framed.0 i j).0)
-
-    set : (closing : Closing) (col row : ℤ) → IsSetBy closing ss f col row ↔ IsPixelSet (Bridged closing) ss col row
-    set Lower col row = (
-      set_along ss (IsInFrame f) (IsInDropoutFrame ss) framed.0 col row,
-      set_along ss (IsInDropoutFrame ss) (IsInFrame f) there col row,
-    )
-    set Nearer col row = (
-      near_set_along ss (IsInFrame f) (IsInDropoutFrame ss) framed.0 col row,
-      near_set_along ss (IsInDropoutFrame ss) (IsInFrame f) there col row,
-    )
+    set : (col row : ℤ) → IsSet closing ss f col row ↔ IsPixelSet (Bridged closing) ss col row
+    set = set_along closing ss (IsInFrame f) (IsInDropoutFrame ss) framed.0
 
     each : (col row : ℤ) → IsInFrame f col row → IsTrue (bit_of b col row) ↔ IsPixelSet (Bridged closing) ss col row
     each col row i = (
-      λ t. (set closing col row).0 ((scan.bits col row i).0 t),
-      λ s. (scan.bits col row i).1 ((set closing col row).1 s),
+      λ t. (set col row).0 ((scan.bits col row i).0 t),
+      λ s. (scan.bits col row i).1 ((set col row).1 s),
     )
 
 empty_has_bits : (rule : Rule) (ss : List Span) (b : Bits) → b.frame.width ≡ 0 → IsFramedBy rule None ss
@@ -137,14 +126,15 @@ bridged_bits closing f ss (Ok b) rule e scan framed outside closed =
     subst H (sym e) (bridged_has_bits closing f ss b scan (subst F e framed) outside closed)
 bridged_bits closing f ss (Err d) rule e scan framed outside closed = tt
 
--- what closes gaps by the nearer pixels
-pub nearer_scan : {E : Type 0} (closing : Closing) (f : Frame) (ss : List Span) (r : Result Bits E) → closing ≡ Nearer
-    → IfOk r (λ b. b.frame ≡ f)
-    → IfOk r (λ b. (col row : ℤ) → IsInFrame f col row → IsTrue (bit_of b col row) ↔ IsNearSet ss f col row)
-    → IfOk r (IsBridgedScanOf closing f ss)
-nearer_scan closing f ss (Ok b) e same bits =
-    let S : Closing → Type 0 = λ c. IsBridgedScanOf c f ss b in subst S (sym e) (record { same = same; bits = bits })
-nearer_scan closing f ss (Err d) e same bits = tt
+-- a scan of the frame whose gaps are closed
+pub closed_scan : (closing : Closing) (f : Frame) (ss : List Span) (old new : Bits) → IsScanOf f ss old → new.frame ≡ old.frame
+    → (((i j : ℤ) → ¬ (IsInFrame old.frame i j) → ¬ (IsCovered (centre i j) ss)) → (col row : ℤ) → IsInFrame old.frame col row
+    → IsTrue (bit_of new col row) ↔ IsSet closing ss old.frame col row)
+    → ((i j : ℤ) → ¬ (IsInFrame f i j) → ¬ (IsCovered (centre i j) ss)) → IsBridgedScanOf closing f ss new
+closed_scan closing f ss old new scan same bits outside =
+    let B : Frame → Type 0 = λ g. ((i j : ℤ) → ¬ (IsInFrame g i j) → ¬ (IsCovered (centre i j) ss)) → (col row : ℤ)
+    → IsInFrame g col row → IsTrue (bit_of new col row) ↔ IsSet closing ss g col row in
+    record { same = same ∙ scan.same; bits = subst B scan.same bits outside }
 
 -- the frame of drop-out control has a margin
 pub framed_margin : (closing : Closing) (f : Frame) (ss : List Span) (rule : Rule) → rule ≡ Bridged closing

@@ -13,8 +13,11 @@ use Rattle.fx_winding.specs.Winding.{Span, weight_a, weight_b, weight_c, IsBetwe
 use Rattle.fx_winding.specs.Winding.{IsInRange, IsOnFlatArc, IsOnPart, IsOn, winding, IsCovered}
 use Rattle.fx_winding.specs.Winding.{IsAboveLow, IsBelowHigh, region_part, centre}
 use Rattle.fx_winding.specs.Meets.{IsWithinRow, IsReached, IsTip, IsTipPart, IsMet, turn, slope}
-use Rattle.fx_winding.specs.Dropout.{turned_span, IsGap, IsBridged, IsRowSetIn, IsSetIn}
-use Rattle.fx_dropout.specs.Nearer.{IsCount, IsNextNearer, IsNearBridged, IsNearRowSetIn, IsNearSetIn, IsClosedByLeft, IsClosedByRight, place_on}
+use Rattle.fx_winding.specs.Dropout.{turned_span}
+use Rattle.fx_dropout.specs.declared.chooser.Closing.{Closing}
+use Rattle.fx_dropout.specs.declared.chooser.Closing.TheVariants.{Lower, Nearer}
+use Rattle.fx_dropout.specs.Dropout.{IsCount, IsNextNearer, IsNextChosen, IsGap, IsBridged, IsRowSetIn, IsSetIn, IsClosedByLeft}
+use Rattle.fx_dropout.specs.Dropout.{IsClosedByRight, place_on}
 use Rattle.fx_dropout.proofs.Counts.{count_none, count_more, count_same, count_is_one}
 
 -- a test that decides
@@ -144,21 +147,6 @@ gap ss So so i j =
     (three (none (so i j)) (none (so (i +ℤ pos 1) j))
     (any_of (IsMet (centre i j) (centre (i +ℤ pos 1) j)) (met (centre i j) (centre (i +ℤ pos 1) j)) ss))
 
-bridged : (ss : List Span) (In So : ℤ → ℤ → Type 0) → ((i j : ℤ) → Test (In i j)) → ((i j : ℤ) → Test (So i j)) → (i j : ℤ)
-    → Test (IsBridged ss In So i j)
-bridged ss In So is so i j =
-    one (so i j) (like (λ h. record { inside = h.0; gap = h.1 }) (λ h. (h.inside, h.gap))
-    (both (is i j) (one (gap ss So so i j) (both (gap ss So so (i -ℤ pos 1) j) (none (is (i -ℤ pos 1) j))))))
-
-row_set : (ss : List Span) (In : ℤ → ℤ → Type 0) → ((i j : ℤ) → Test (In i j)) → (i j : ℤ) → Test (IsRowSetIn ss In i j)
-row_set ss In is = bridged ss In (λ i j. IsCovered (centre i j) ss) is (λ i j. covered (centre i j) ss)
-
-pub set_in : (ss : List Span) (In : ℤ → ℤ → Type 0) → ((i j : ℤ) → Test (In i j)) → (i j : ℤ) → Test (IsSetIn ss In i j)
-set_in ss In is i j =
-    bridged (map turned_span ss) (λ j i. In i j) (λ j i. IsRowSetIn ss In i j) (λ j i. is i j) (λ j i. row_set ss In is i j) j i
-
--- ---- with drop-out control by the nearer pixel
-
 -- how many numbers have what a test tells
 counted : (P : ℕ → Type 0) → ((k : ℕ) → Test (P k)) → (n : ℕ) → (m : ℕ) × IsCount P n m
 counted P test zero = (0, count_none P)
@@ -189,30 +177,36 @@ next_nearer up ss col row =
       ),
     )
 
-by_left : (ss : List Span) (In Near So : ℤ → ℤ → Type 0) → ((i j : ℤ) → Test (In i j)) → ((i j : ℤ) → Test (Near i j))
-    → ((i j : ℤ) → Test (So i j)) → (i j : ℤ) → Test (IsClosedByLeft ss In Near So i j)
-by_left ss In Near So is near so i j =
-    like (λ h. record { gap = h.0; chosen = h.1 }) (λ h. (h.gap, h.chosen))
-    (both (gap ss So so i j) (one (none (near i j)) (none (is (i +ℤ pos 1) j))))
+next_chosen : (closing : Closing) (up : Bool) (ss : List Span) (col row : ℤ) → Test (IsNextChosen closing up ss col row)
+next_chosen Lower up ss col row = (false, (λ e. absurd (cc), λ h. absurd h))
+next_chosen Nearer up ss col row = next_nearer up ss col row
 
-by_right : (ss : List Span) (In Near So : ℤ → ℤ → Type 0) → ((i j : ℤ) → Test (In i j)) → ((i j : ℤ) → Test (Near i j))
-    → ((i j : ℤ) → Test (So i j)) → (i j : ℤ) → Test (IsClosedByRight ss In Near So i j)
-by_right ss In Near So is near so i j =
+by_left : (ss : List Span) (In Right So : ℤ → ℤ → Type 0) → ((i j : ℤ) → Test (In i j)) → ((i j : ℤ) → Test (Right i j))
+    → ((i j : ℤ) → Test (So i j)) → (i j : ℤ) → Test (IsClosedByLeft ss In Right So i j)
+by_left ss In Right So is right so i j =
     like (λ h. record { gap = h.0; chosen = h.1 }) (λ h. (h.gap, h.chosen))
-    (both (gap ss So so i j) (one (near i j) (none (is i j))))
+    (both (gap ss So so i j) (one (none (right i j)) (none (is (i +ℤ pos 1) j))))
 
-near_bridged : (ss : List Span) (In Near So : ℤ → ℤ → Type 0) → ((i j : ℤ) → Test (In i j)) → ((i j : ℤ) → Test (Near i j))
-    → ((i j : ℤ) → Test (So i j)) → (i j : ℤ) → Test (IsNearBridged ss In Near So i j)
-near_bridged ss In Near So is near so i j =
+by_right : (ss : List Span) (In Right So : ℤ → ℤ → Type 0) → ((i j : ℤ) → Test (In i j)) → ((i j : ℤ) → Test (Right i j))
+    → ((i j : ℤ) → Test (So i j)) → (i j : ℤ) → Test (IsClosedByRight ss In Right So i j)
+by_right ss In Right So is right so i j =
+    like (λ h. record { gap = h.0; chosen = h.1 }) (λ h. (h.gap, h.chosen))
+    (both (gap ss So so i j) (one (right i j) (none (is i j))))
+
+bridged : (ss : List Span) (In Right So : ℤ → ℤ → Type 0) → ((i j : ℤ) → Test (In i j)) → ((i j : ℤ) → Test (Right i j))
+    → ((i j : ℤ) → Test (So i j)) → (i j : ℤ) → Test (IsBridged ss In Right So i j)
+bridged ss In Right So is right so i j =
     one (so i j) (like (λ h. record { inside = h.0; closes = h.1 }) (λ h. (h.inside, h.closes))
-    (both (is i j) (one (by_left ss In Near So is near so i j) (by_right ss In Near So is near so (i -ℤ pos 1) j))))
+    (both (is i j) (one (by_left ss In Right So is right so i j) (by_right ss In Right So is right so (i -ℤ pos 1) j))))
 
-near_row_set : (ss : List Span) (In : ℤ → ℤ → Type 0) → ((i j : ℤ) → Test (In i j)) → (i j : ℤ) → Test (IsNearRowSetIn ss In i j)
-near_row_set ss In is =
-    near_bridged ss In (IsNextNearer false ss) (λ i j. IsCovered (centre i j) ss) is (next_nearer false ss)
+row_set : (closing : Closing) (ss : List Span) (In : ℤ → ℤ → Type 0) → ((i j : ℤ) → Test (In i j)) → (i j : ℤ)
+    → Test (IsRowSetIn closing ss In i j)
+row_set closing ss In is =
+    bridged ss In (IsNextChosen closing false ss) (λ i j. IsCovered (centre i j) ss) is (next_chosen closing false ss)
     (λ i j. covered (centre i j) ss)
 
-pub near_set_in : (ss : List Span) (In : ℤ → ℤ → Type 0) → ((i j : ℤ) → Test (In i j)) → (i j : ℤ) → Test (IsNearSetIn ss In i j)
-near_set_in ss In is i j =
-    near_bridged (map turned_span ss) (λ j i. In i j) (λ j i. IsNextNearer true ss i j) (λ j i. IsNearRowSetIn ss In i j)
-    (λ j i. is i j) (λ j i. next_nearer true ss i j) (λ j i. near_row_set ss In is i j) j i
+pub set_in : (closing : Closing) (ss : List Span) (In : ℤ → ℤ → Type 0) → ((i j : ℤ) → Test (In i j)) → (i j : ℤ)
+    → Test (IsSetIn closing ss In i j)
+set_in closing ss In is i j =
+    bridged (map turned_span ss) (λ j i. In i j) (λ j i. IsNextChosen closing true ss i j) (λ j i. IsRowSetIn closing ss In i j)
+    (λ j i. is i j) (λ j i. next_chosen closing true ss i j) (λ j i. row_set closing ss In is i j) j i

@@ -16,14 +16,13 @@ use Rattle.fx_contour.specs.Frames.{IsInBoundingBox, AreTooLarge}
 use Rattle.fx_contour.specs.DropoutFrames.{IsInDropoutFrame}
 use Rattle.fx_contour.proofs.Kept.{covered_is_kept}
 use Rattle.fx_contour.proofs.Outside.{in_box}
-use Rattle.fx_raster.specs.declared.rule.Closing.{Closing}
-use Rattle.fx_raster.specs.declared.rule.Closing.TheVariants.{Lower, Nearer}
+use Rattle.fx_dropout.specs.declared.chooser.Closing.{Closing}
 use Rattle.fx_raster.specs.declared.rule.Rule.{Rule}
 use Rattle.fx_raster.specs.declared.rule.Rule.TheVariants.{Centres, Bridged}
 use Rattle.fx_raster.specs.Rules.{ShapeView, IsPixelSet, framed_by, shape_of}
 use Rattle.fx_raster.specs.Laws.{PictureExists, PictureIsOne}
-use Rattle.fx_raster.proofs.Bridged.{set_within, near_set_within}
-use Rattle.fx_raster.proofs.Covering.{Test, covered, set_in, near_set_in}
+use Rattle.fx_raster.proofs.Bridged.{set_within}
+use Rattle.fx_raster.proofs.Covering.{Test, covered, set_in}
 use Rattle.fx_raster.proofs.Kept.{IsFramed, are_framed, in_dropout_frame, column_number, row_number, columns_near, rows_near}
 use Rattle.fx_raster.proofs.Near.{AreNear, AreDrawn, are_drawn, not_large, have_near, have_more}
 
@@ -101,8 +100,7 @@ not_high ss small col row col2 row2 h k = elim (below_or_not_ℤ row2 (row +ℤ 
 -- the pixels that are set, as a test
 set_test : (rule : Rule) (ss : List Span) (col row : ℤ) → Test (IsPixelSet rule ss col row)
 set_test Centres ss col row = covered (centre col row) ss
-set_test (Bridged Lower) ss col row = set_in ss (IsInDropoutFrame ss) (in_dropout_frame ss) col row
-set_test (Bridged Nearer) ss col row = near_set_in ss (IsInDropoutFrame ss) (in_dropout_frame ss) col row
+set_test (Bridged closing) ss col row = set_in closing ss (IsInDropoutFrame ss) (in_dropout_frame ss) col row
 
 -- the bits of spans
 abbrev bit_by : Rule → List Span → ℤ → ℤ → Bool
@@ -130,7 +128,7 @@ are_covered ss d small =
 are_kept : (closing : Closing) (ss : List Span) → AreDrawn ss → IsFramed ss → AreSmall (bit_by (Bridged closing) ss)
 are_kept closing ss d f =
     let kept : (col row : ℤ) → IsTrue (bit_by (Bridged closing) ss col row) → IsInDropoutFrame ss col row =
-    λ col row h. by col row (within closing col row ((set_test (Bridged closing) ss col row).1.0 h)) in
+    λ col row h. by col row (set_within closing ss (IsInDropoutFrame ss) col row ((set_test (Bridged closing) ss col row).1.0 h)) in
     record {
       columns = λ col row h. column_number ss f col row (kept col row h);
       rows = λ col row h. row_number ss f col row (kept col row h);
@@ -138,11 +136,6 @@ are_kept closing ss d f =
       low = λ col row col2 row2 h k. rows_near ss f col row col2 row2 (kept col row h) (kept col2 row2 k);
     }
   where
-    within : (closing : Closing) (i j : ℤ) → IsPixelSet (Bridged closing) ss i j
-        → IsCovered (centre i j) ss ⊎ IsInDropoutFrame ss i j
-    within Lower i j s = set_within ss (IsInDropoutFrame ss) i j s
-    within Nearer i j s = near_set_within ss (IsInDropoutFrame ss) i j s
-
     by : (i j : ℤ) → IsCovered (centre i j) ss ⊎ IsInDropoutFrame ss i j → IsInDropoutFrame ss i j
     by i j (inl c) = covered_is_kept ss d.closed i j c
     by i j (inr k) = k

@@ -15,7 +15,7 @@ use Rattle.fx_contour.proofs.MirroredFrames.{mirror_moves_dropout_frame, flip_mo
 use Rattle.fx_contour.proofs.Moving.{drawn_closed, drawn_moved}
 use Rattle.fx_dropout.proofs.NearFlip.{near_set_flipped}
 use Rattle.fx_dropout.proofs.NearMirror.{near_set_mirrored}
-use Rattle.fx_raster.specs.declared.rule.Closing.TheVariants.{Nearer}
+use Rattle.fx_dropout.specs.declared.chooser.Closing.TheVariants.{Nearer}
 use Rattle.fx_raster.specs.declared.rule.Rule.TheVariants.{Centres, Bridged}
 use Rattle.fx_raster.specs.Mirrors.{MirrorMovesPicture, MirrorMovesNearPicture, FlipMovesPicture, FlipMovesNearPicture}
 use Rattle.fx_raster.specs.Mirrors.{ExchangeMovesPicture}

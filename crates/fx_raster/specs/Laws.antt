@@ -7,7 +7,7 @@ use Rattle.fx_winding.specs.Limits.{IsPixelNumber, greatest_side}
 use Rattle.fx_outline.specs.declared.points.OutlinePoint.{OutlinePoint}
 use Rattle.fx_outline.specs.Ends.{AreEnds}
 use Rattle.fx_contour.specs.Moves.{shifted_points, reversed_points}
-use Rattle.fx_raster.specs.declared.rule.Closing.{Closing}
+use Rattle.fx_dropout.specs.declared.chooser.Closing.{Closing}
 use Rattle.fx_raster.specs.declared.rule.Rule.{Rule}
 use Rattle.fx_raster.specs.declared.rule.Rule.TheVariants.{Centres, Bridged}
 use Rattle.fx_raster.specs.Rules.{ShapeView, IsPixelSet, shape_of}

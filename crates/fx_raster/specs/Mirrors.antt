@@ -4,7 +4,7 @@ use Rattle.fx_outline.specs.declared.points.OutlinePoint.{OutlinePoint}
 use Rattle.fx_contour.specs.DropoutFrames.{IsInDropoutFrame}
 use Rattle.fx_contour.specs.Mirrors.{HasMiddleColumn, HasMiddleRow, mirrored_points, flipped_points, exchanged_points}
 use Rattle.fx_dropout.specs.Mirrors.{HasNoTie, HasNoTieUp}
-use Rattle.fx_raster.specs.declared.rule.Closing.TheVariants.{Nearer}
+use Rattle.fx_dropout.specs.declared.chooser.Closing.TheVariants.{Nearer}
 use Rattle.fx_raster.specs.declared.rule.Rule.TheVariants.{Centres, Bridged}
 use Rattle.fx_raster.specs.Rules.{ShapeView, IsPixelSet, shape_of}
 

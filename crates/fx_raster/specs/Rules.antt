@@ -3,23 +3,22 @@ use Rattle.std.specs.Prelude.{ℕ, ℤ, List, Result, Ok}
 use Rattle.fx_fixed.specs.Chain.{◌>>=◌}
 use Rattle.fx_winding.specs.Winding.{Span, IsCovered, centre}
 use Rattle.fx_winding.specs.Frames.{IsFrom}
-use Rattle.fx_winding.specs.Dropout.{IsSetIn}
-use Rattle.fx_dropout.specs.Nearer.{IsNearSetIn}
+use Rattle.fx_dropout.specs.Dropout.{IsSetIn}
 use Rattle.fx_outline.specs.declared.points.OutlinePoint.{OutlinePoint}
 use Rattle.fx_contour.specs.declared.fault.ContourFault.{ContourFault}
 use Rattle.fx_contour.specs.Contours.{drawn_of}
 use Rattle.fx_contour.specs.Frames.{framed_of}
 use Rattle.fx_contour.specs.DropoutFrames.{IsInDropoutFrame, dropout_framed_of}
 use Rattle.fx_raster.specs.declared.region.Region.{Region}
-use Rattle.fx_raster.specs.declared.rule.Closing.TheVariants.{Lower, Nearer}
+pub use Rattle.fx_dropout.specs.declared.chooser.Closing.{Closing}
+pub use Rattle.fx_dropout.specs.declared.chooser.Closing.TheVariants.{Lower, Nearer}
 use Rattle.fx_raster.specs.declared.rule.Rule.{Rule}
 use Rattle.fx_raster.specs.declared.rule.Rule.TheVariants.{Centres, Bridged}
 
 -- the pixel in a column and a row is set: its centre is covered; or, with drop-out control, it closes a gap in the frame
 abbrev pub IsPixelSet : Rule → List Span → ℤ → ℤ → Type 0
 IsPixelSet Centres ss col row = IsCovered (centre col row) ss
-IsPixelSet (Bridged Lower) ss col row = IsSetIn ss (IsInDropoutFrame ss) col row
-IsPixelSet (Bridged Nearer) ss col row = IsNearSetIn ss (IsInDropoutFrame ss) col row
+IsPixelSet (Bridged closing) ss col row = IsSetIn closing ss (IsInDropoutFrame ss) col row
 
 -- whether the frame of spans keeps its limit, with drop-out control or without
 abbrev pub framed_by : Rule → List Span → Result (Unit {0}) ContourFault

@@ -1,17 +1,15 @@
 //! The bits of an outline's pieces in their frame.
-ghost use Rattle.std.specs.Prelude.{◌≡◌, IsTrue, ℤ, map, All, IfOk};
+ghost use Rattle.std.specs.Prelude.{◌≡◌, ℤ, map, IfOk};
 ghost use Rattle.fx_winding.specs.Winding.{centre, span_of, IsCovered};
 ghost use Rattle.fx_winding.specs.Bitmaps.{IsScanOf};
 ghost use Rattle.fx_winding.specs.Outside.{AreOfOutline};
 ghost use Rattle.fx_winding.specs.Frames.{HasMargin, IsInFrame};
-ghost use Rattle.fx_winding.specs.Notes.{AreExact, IsNoted};
 ghost use Rattle.fx_contour.specs.Frames.{NothingOutsideFrame};
-ghost use Rattle.fx_raster.specs.declared.rule.Closing.TheVariants.{Lower};
 ghost use Rattle.fx_raster.specs.Frames.{IsFramedBy};
 ghost use Rattle.fx_raster.specs.inner.Framing.{HasBitsOf, IsBridgedScanOf};
 
-use crate::rule::{Closing, Rule};
-use fx_dropout::{Drawn, close_gaps, close_gaps_nearer};
+use crate::rule::Rule;
+use fx_dropout::{Closing, close_gaps};
 use fx_winding::{Bitmap, Frame, Notes, Pieces, Scan, ScanFault, Scratch, Tally};
 use std::alloc::{AllocError, Global};
 
@@ -48,44 +46,6 @@ fn scanned<S: Scan>(
     }
 }
 
-/// The bitmap of a scan with its gaps closed by the left and the lower pixels.
-fn closed_by_lower(pieces: &Drawn<'_>, bitmap: Bitmap, notes: &Notes, tally: &mut Tally) -> Bitmap
-    requires margin { HasMargin bitmap.frame }
-    requires scanned { IsScanOf bitmap.frame (map span_of pieces.now) bitmap }
-    requires frame { notes.now.frame ≡ bitmap.frame }
-    requires noted { All (λ s. IsNoted s notes.now.frame notes.now.across.items notes.now.up.items) (map span_of pieces.now) }
-    requires exact { IsTrue notes.now.exact →
-        AreExact notes.now.frame notes.now.across.items notes.now.up.items (map span_of pieces.now) }
-    ensures { IsBridgedScanOf Lower bitmap.frame (map span_of pieces.now) result }
-{
-    let mut closed = bitmap;
-    close_gaps(pieces, notes, &mut closed, tally);
-    closed
-}
-
-/// The bitmap of a scan with its gaps closed.
-fn closed(
-    alloc: Global,
-    pieces: &Drawn<'_>,
-    bitmap: Bitmap,
-    notes: &Notes,
-    closing: Closing,
-    tally: &mut Tally,
-) -> Result<Bitmap, AllocError>
-    requires margin { HasMargin bitmap.frame }
-    requires scanned { IsScanOf bitmap.frame (map span_of pieces.now) bitmap }
-    requires frame { notes.now.frame ≡ bitmap.frame }
-    requires noted { All (λ s. IsNoted s notes.now.frame notes.now.across.items notes.now.up.items) (map span_of pieces.now) }
-    requires exact { IsTrue notes.now.exact →
-        AreExact notes.now.frame notes.now.across.items notes.now.up.items (map span_of pieces.now) }
-    ensures { IfOk result (IsBridgedScanOf closing bitmap.frame (map span_of pieces.now)) }
-{
-    match closing {
-        Closing::Lower => Ok(closed_by_lower(pieces, bitmap, notes, tally)),
-        Closing::Nearer => close_gaps_nearer(alloc, pieces, notes, bitmap, tally),
-    }
-}
-
 /// The bits of a frame with drop-out control: those of a scan, and those that close gaps. The notes leave their buffers to the next
 /// scan.
 #[inline(never)]
@@ -101,20 +61,13 @@ fn bridged<S: Scan>(
     requires outside { (i j : ℤ) → ¬ (IsInFrame frame i j) → ¬ (IsCovered (centre i j) (map span_of pieces.now)) }
     ensures { IfOk result (IsBridgedScanOf closing frame (map span_of pieces.now)) }
 {
-    let drawn = Drawn::within(pieces, frame);
     let mut tally = Tally::new();
     match scan.scan_noted(alloc, pieces, frame, scratch, &mut tally) {
         Ok(noted) => {
-            let bits = closed(
-                alloc,
-                &drawn,
-                noted.bitmap,
-                &noted.notes,
-                closing,
-                &mut tally,
-            );
-            scratch.give_back_notes(noted.notes);
-            bits
+            let mut notes = noted.notes;
+            let bits = close_gaps(pieces, &mut notes, noted.bitmap, closing, &mut tally);
+            scratch.give_back_notes(notes);
+            Ok(bits)
         }
         Err(ScanFault::OutOfMemory) => Err(AllocError),
     }

@@ -18,9 +18,10 @@ mod within;
 
 pub use frames::frame_of;
 pub use fx_contour::ContourFault as RasterFault;
+pub use fx_dropout::Closing;
 pub use fx_rows::Rows;
 pub use fx_winding::{Bitmap, Frame, Scan};
 pub use region::Region;
-pub use rule::{Closing, Rule};
+pub use rule::Rule;
 pub use scratch::Scratch;
 pub use shape::Shape;

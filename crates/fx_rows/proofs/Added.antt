@@ -1,8 +1,7 @@
 -- What a piece adds to a row tells which of its segments it meets.
 -- Serves `meets_to` and `note_tip`.
 use Rattle.std.proofs.Common.{◌≡◌, sym, ◌∙◌, ℕ, ◌<◌, ℤ, pos, ◌+ℤ◌, ◌-ℤ◌, ap, Option, Some, None, arith}
-use Rattle.std.proofs.Common.{w32, w64, to_z, of_z}
-use Rattle.std.proofs.lemmas.Int.{to_z_pos}
+use Rattle.std.proofs.Common.{w64, to_z, of_z}
 use Rattle.fx_fixed.proofs.Linear.{signed_linear}
 use Rattle.fx_winding.specs.Area.{Place}
 use Rattle.fx_winding.specs.Frames.{IsFrom}
@@ -37,20 +36,6 @@ left_in f k o l = (omega (arith, signed_linear, o), omega (arith, signed_linear,
 
 pub right_in : (f : Frame) (k : ℕ) → k < f.width → IsFrom f.left f.width (f.left +ℤ pos k)
 right_in f k l = (omega (arith, signed_linear), omega (arith, signed_linear, l))
-
--- the columns of those ends, as the code has them
-pub right_column : (f : Frame) (k : ℕ) → k < f.width
-    → to_z w32 (of_z w32 (to_z w32 (of_z w32 f.left) +ℤ to_z w32 k)) ≡ f.left +ℤ pos k
-right_column f k l =
-    let wide = f.columns.few in
-    let step : to_z w32 k ≡ pos k = to_z_pos w32 k (omega (arith, wide, l)) in
-    omega (arith, signed_linear, step, f.columns, l)
-
-pub left_column : (f : Frame) (k : ℕ) → 0 < k → k < f.width
-    → to_z w32 (of_z w32 (to_z w32 (of_z w32 (to_z w32 (of_z w32 f.left) +ℤ to_z w32 k)) -ℤ pos 1)) ≡ (f.left -ℤ pos 1) +ℤ pos k
-left_column f k o l =
-    let right = right_column f k l in
-    omega (arith, signed_linear, right, f.columns, o, l)
 
 -- a row strictly between the ends of an arc has no tip
 reached_not_inner : (a b c y : ℤ) → IsInner a c y → ¬ (IsReached a b c y)

@@ -8,20 +8,15 @@ use Rattle.fx_winding.specs.Winding.{Span}
 use Rattle.fx_winding.specs.declared.frame.Frame.{Frame}
 use Rattle.fx_rows.specs.declared.across.Across.{Across}
 use Rattle.fx_rows.specs.declared.placed.Placed.{Placed}
-use Rattle.fx_rows.specs.inner.Placing.{AreColumns, IsApart, IsBoxed, IsPlaced}
+use Rattle.fx_rows.specs.inner.Placing.{AreColumns, IsBoxed, IsPlaced}
 use Rattle.fx_rows.specs.inner.Points.{AreAcross, IsPointOf}
 use Rattle.fx_rows.specs.inner.Upward.{IsFootX, IsHeadX}
 
-boxed : (f : Frame) (s : Span) (first end : ℤ) → AreAcross s first end → f.left ≤ℤ first → end ≤ℤ (f.left +ℤ pos f.width)
-    → IsBoxed f s
-boxed f s first end h low high = (
-  λ x l q p. h.0 x (omega (arith, signed_linear, l, low)) q p,
-  λ x l q p. h.1 x (omega (arith, signed_linear, l, high)) q p,
+pub boxed : (f : Frame) (s : Span) (a : Across) → AreColumns f s a → IsBoxed f s
+boxed f s a is = (
+  λ x l q p. is.across.0 x (omega (arith, signed_linear, l, is.low)) q p,
+  λ x l q p. is.across.1 x (omega (arith, signed_linear, l, is.high)) q p,
 )
-
-pub not_apart : (f : Frame) (s : Span) (a : Across) → AreColumns f s a → ¬ (IsApart f s)
-not_apart f s a is (inl b) = is.plain b
-not_apart f s a is (inr n) = n (boxed f s a.first a.end is.across is.low is.high)
 
 -- the first column of a box is not past its end
 pub across_order : (s : Span) (first end : ℤ) → AreAcross s first end → first ≤ℤ end

@@ -10,14 +10,14 @@ use Rattle.fx_winding.specs.Area.{Place}
 use Rattle.fx_winding.specs.Frames.{IsFrom}
 use Rattle.fx_winding.specs.Meets.{turn, slope, IsWithinRow, IsTip, IsTipPart, IsMet}
 use Rattle.fx_winding.specs.Outside.{HasAll}
-use Rattle.fx_winding.specs.Winding.{Span, crossing, region, centre}
+use Rattle.fx_winding.specs.Winding.{Span, IsOn, crossing, region, centre}
 use Rattle.fx_winding.specs.declared.frame.Frame.{Frame}
 use Rattle.fx_winding.proofs.Aside.{left_not_met, right_not_met}
 use Rattle.fx_winding.proofs.Meeting.{above_not_met, below_not_met}
 use Rattle.fx_winding.proofs.Triangle.{area_expr}
-use Rattle.fx_winding.specs.Bitmaps.{words_for, word_bit}
+use Rattle.fx_winding.specs.Bitmaps.{word_bit}
 use Rattle.fx_winding.specs.Dropout.{turned_span}
-use Rattle.fx_winding.specs.Notes.{pixel_number, IsNotedAcross, IsNotedUp}
+use Rattle.fx_winding.specs.Notes.{pixel_number, words_noted, IsNotedAcross, IsNotedUp}
 use Rattle.fx_rows.specs.inner.Bulging.{HasLine, IsBeyond}
 use Rattle.fx_rows.specs.inner.Heights.{height_of, IsMissed}
 use Rattle.fx_rows.specs.inner.Points.{AreAcross}
@@ -28,7 +28,8 @@ use Rattle.fx_rows.proofs.Points.{to_all}
 use Rattle.fx_rows.specs.Parts.{IsRun, IsRowPart}
 use Rattle.fx_rows.specs.declared.part.Run.{Run}
 use Rattle.fx_rows.specs.declared.part.RowPart.{RowPart}
-use Rattle.fx_rows.specs.inner.Lines.{left_at, right_at, IsMetTo, IsRunEnd, IsSetTo, IsRowSet, AreRowsSet}
+use Rattle.fx_rows.specs.inner.Lines.{left_at, right_at, IsMetTo, IsRunEnd, IsSetTo, IsRowSet, AreRowsSet, AreSetIn}
+use Rattle.fx_rows.proofs.Turned.{on_turned}
 
 same_or_not : (x y : ℤ) → (x ≡ y) ⊎ (x ≢ y)
 same_or_not x y = grind (arith, signed_linear, below_or_not_ℤ x y, below_or_not_ℤ y x)
@@ -245,20 +246,26 @@ missed_set s f r first step bits (inr h) k l met =
     absurd (below_not_met (left_at f (f.bottom +ℤ pos r) k) (right_at f (f.bottom +ℤ pos r) k) s refl h met)
 
 -- ---- rows and columns of notes
-pub across_set : (s : Span) (f : Frame) (bits : List ℕ) → AreRowsSet s f (32 * words_for f.width) 1 bits → (r : ℕ) → r < f.height
+pub across_set : (s : Span) (f : Frame) (bits : List ℕ) → AreRowsSet s f (32 * words_noted f.width) 1 bits → (r : ℕ) → r < f.height
     → IsNotedAcross s f bits r
 across_set s f bits h r l k m met =
-    let e : r * (32 * words_for f.width) + k * 1 ≡ pixel_number f r k = omega arith in
-    subst (λ (n : ℕ). word_bit bits n ≡ 1) e (h r l k m met.met)
+    let e : r * (32 * words_noted f.width) + k * 1 ≡ pixel_number f r k = omega arith in
+    subst (λ (n : ℕ). word_bit bits n ≡ 1) e (h r l k m met)
 
 pub up_set : (s : Span) (f g : Frame) (bits : List ℕ) → g.left ≡ f.bottom → g.bottom ≡ f.left → g.width ≡ f.height
-    → g.height ≡ f.width → AreRowsSet (turned_span s) g 1 (32 * words_for f.width) bits → (r : ℕ) → r ≤ f.height
+    → g.height ≡ f.width → AreRowsSet (turned_span s) g 1 (32 * words_noted f.width) bits → (r : ℕ) → r ≤ f.height
     → IsNotedUp s f bits r
 up_set s f g bits el eb ew eh h r l k m met =
-    let e : k * 1 + r * (32 * words_for f.width) ≡ pixel_number f r k = omega arith in
+    let e : k * 1 + r * (32 * words_noted f.width) ≡ pixel_number f r k = omega arith in
     subst (λ (n : ℕ). word_bit bits n ≡ 1) e (h k (subst (λ (n : ℕ). k < n) (sym eh) m) r (subst (λ (n : ℕ). r ≤ n) (sym ew) l)
-    (subst (λ z. z) (λ i. IsMet (centre ((sym el i -ℤ pos 1) +ℤ pos r) (sym eb i +ℤ pos k))
-    (centre (sym el i +ℤ pos r) (sym eb i +ℤ pos k)) (turned_span s)) met.met))
+    (record {
+      met = subst (λ z. z) (λ i. IsMet (centre ((sym el i -ℤ pos 1) +ℤ pos r) (sym eb i +ℤ pos k))
+          (centre (sym el i +ℤ pos r) (sym eb i +ℤ pos k)) (turned_span s)) met.met;
+      off_left = λ on. met.off_lower (on_turned (centre (f.left +ℤ pos k) ((f.bottom -ℤ pos 1) +ℤ pos r)) s
+          (subst (λ z. z) (λ i. IsOn (centre ((el i -ℤ pos 1) +ℤ pos r) (eb i +ℤ pos k)) (turned_span s)) on));
+      off_right = λ on. met.off_upper (on_turned (centre (f.left +ℤ pos k) (f.bottom +ℤ pos r)) s
+          (subst (λ z. z) (λ i. IsOn (centre (el i +ℤ pos r) (eb i +ℤ pos k)) (turned_span s)) on));
+    }))
 
 -- ---- the column to which the segment goes that x is within
 pub within_column : (f : Frame) (x row : ℤ) (n k : ℕ) → ((i : ℕ) → i < n → column_of f i <ℤ x)
@@ -295,18 +302,39 @@ pub rows_kept : (s : Span) (f : Frame) (row : ℤ) (first step : ℕ) (a b : Lis
     → IsRowSet s f row first step b
 rows_kept s f row first step a b kept h k l met = kept (first + k * step) (h k l met)
 
+pub set_in : (s : Span) (f : Frame) (r first step : ℕ) (bits : List ℕ) → IsRowSet s f (f.bottom +ℤ pos r) first step bits
+    → AreSetIn s f r first step bits
+set_in s f r first step bits h k l met = h k l met.met
+
+pub in_kept : (s : Span) (f : Frame) (r first step : ℕ) (a b : List ℕ) → AreKept a b → AreSetIn s f r first step a
+    → AreSetIn s f r first step b
+in_kept s f r first step a b kept h k l met = kept (first + k * step) (h k l met)
+
+-- rows before some, these, and those after them
+pub rows_three : (s : Span) (f : Frame) (low m n high row_step step : ℕ) (bits : List ℕ)
+    → ((r : ℕ) → low ≤ r → r < m → AreSetIn s f r (r * row_step) step bits)
+    → ((r : ℕ) → m ≤ r → r < n → AreSetIn s f r (r * row_step) step bits)
+    → ((r : ℕ) → n ≤ r → r < high → AreSetIn s f r (r * row_step) step bits)
+    → (r : ℕ) → low ≤ r → r < high → AreSetIn s f r (r * row_step) step bits
+rows_three s f low m n high row_step step bits a b c r l h = by (below_or_not r m) (below_or_not r n)
+  where
+    by : (r < m) ⊎ (m ≤ r) → (r < n) ⊎ (n ≤ r) → AreSetIn s f r (r * row_step) step bits
+    by (inl x) y = a r l x
+    by (inr x) (inl y) = b r x y
+    by (inr x) (inr y) = c r y h
+
 -- the rows that a piece can touch are noted, and it misses the others
 pub all_rows_set : (s : Span) (f : Frame) (low high row_step step : ℕ) (bits : List ℕ)
     → ((r : ℕ) → r < low → HasAll (λ q. height_of f r <ℤ q.y) s)
     → ((r : ℕ) → high ≤ r → r < f.height → HasAll (λ q. q.y <ℤ height_of f r) s)
-    → ((r : ℕ) → low ≤ r → r < high → IsRowSet s f (f.bottom +ℤ pos r) (r * row_step) step bits)
+    → ((r : ℕ) → low ≤ r → r < high → AreSetIn s f r (r * row_step) step bits)
     → AreRowsSet s f row_step step bits
 all_rows_set s f low high row_step step bits below above h r l = by (below_or_not r low) (below_or_not r high)
   where
-    by : (r < low) ⊎ (low ≤ r) → (r < high) ⊎ (high ≤ r) → IsRowSet s f (f.bottom +ℤ pos r) (r * row_step) step bits
-    by (inl a) b = missed_set s f r (r * row_step) step bits (inl (below r a))
+    by : (r < low) ⊎ (low ≤ r) → (r < high) ⊎ (high ≤ r) → AreSetIn s f r (r * row_step) step bits
+    by (inl a) b = set_in s f r (r * row_step) step bits (missed_set s f r (r * row_step) step bits (inl (below r a)))
     by (inr a) (inl b) = h r a b
-    by (inr a) (inr b) = missed_set s f r (r * row_step) step bits (inr (above r b l))
+    by (inr a) (inr b) = set_in s f r (r * row_step) step bits (missed_set s f r (r * row_step) step bits (inr (above r b l)))
 
 -- ---- a line of centres
 -- the first one from x on comes before the first one past y

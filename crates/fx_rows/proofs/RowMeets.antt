@@ -4,6 +4,7 @@ use Rattle.std.proofs.Common.{◌≡◌, ◌⊎◌, inl, inr, refl, sym, ap, ◌
 use Rattle.std.proofs.Common.{◌≤ℤ◌, ◌<ℤ◌, List, arith}
 use Rattle.fx_fixed.proofs.Order.{below_or_not, below_same_above}
 use Rattle.fx_fixed.proofs.Linear.{signed_linear}
+use Rattle.std.proofs.lemmas.Int.{ints}
 use Rattle.fx_winding.specs.declared.frame.Frame.{Frame}
 use Rattle.fx_winding.specs.Area.{Place}
 use Rattle.fx_winding.specs.Meets.{turn}
@@ -97,3 +98,26 @@ all_across s f met m n below across is under ended over r h =
     by (inr a) (inr b) (inl c) d = ended r b c
     by (inr a) (inr b) (inr c) (inl d) = over r c d
     by (inr a) (inr b) (inr c) (inr d) = λ k w i. absurd (missed_not_met s f r k (inr (is.above r d h)) i)
+
+-- ---- the end's segment is met, at the frame's edge too
+value_not_zero : (s : Span) → rise_value s ≡ pos 0 → ⊥
+value_not_zero s e = grind (arith, ints)
+
+right_at_end : (s : Span) (f : Frame) (first end : ℤ) (r n : ℕ) → AreAcross s first end → end ≤ℤ (f.left +ℤ pos f.width)
+    → IsEnd s f r n → ¬ (IsOn (right_end f r n) s) → turn (right_end f r n) s ≡ pos 0
+right_at_end s f first end r n h w is off = by (below_or_not n f.width)
+  where
+    by : (n < f.width) ⊎ (f.width ≤ n) → turn (right_end f r n) s ≡ pos 0
+    by (inl i) = is.right n (omega arith) i off
+    by (inr i) = right_of_all (right_end f r n) s (to_all (λ q. q.x <ℤ (right_end f r n).x) s
+        (h.1 (f.left +ℤ pos n) (omega (arith, signed_linear, w, i))))
+
+pub end_met_too : (s : Span) (f : Frame) (first end : ℤ) (r n : ℕ) → AreAcross s first end → f.left ≤ℤ first
+    → end ≤ℤ (f.left +ℤ pos f.width) → IsInner s.a.y s.c.y (height_of f r) → IsEnd s f r n → ¬ (IsOn (left_end f r n) s)
+    → ¬ (IsOn (right_end f r n) s) → IsMetAcross s f r n
+end_met_too s f first end r n h l w inner is off off' = record {
+  met = (inner_meets (left_end f r n) (right_end f r n) s inner).1 (λ e. value_not_zero s
+      (sym (left_of_end s f first end r n n h l inner is (omega arith) off) ∙ e ∙ right_at_end s f first end r n h w is off'));
+  off_left = off;
+  off_right = off';
+}

@@ -1,22 +1,22 @@
 -- The segments of a band's rows as those of the whole frame.
 -- Serves `note` and `note_band`.
-use Rattle.std.proofs.Common.{◌≡◌, ◌⊎◌, inl, inr, refl, ◌∙◌, sym, ap, subst, ℕ, ◌+◌, ◌-◌, ◌*◌, ◌/◌, ◌<◌, ◌≤◌, ℤ, pos, ◌+ℤ◌, ◌-ℤ◌, List, IsTrue, arith}
+use Rattle.std.proofs.Common.{◌≡◌, ◌⊎◌, inl, inr, refl, ◌∙◌, sym, ap, subst, ℕ, ◌+◌, ◌-◌, ◌*◌, ◌/◌, ◌<◌, ◌≤◌, ℤ, pos, ◌+ℤ◌, ◌-ℤ◌, List, arith}
 use Rattle.fx_fixed.proofs.Order.{below_same_above}
 use Rattle.fx_rows.proofs.Kept.{only_more}
 use Rattle.std.proofs.Math.Nat.{mul-le-mul_right}
 use Rattle.fx_fixed.proofs.Linear.{signed_linear}
 use Rattle.fx_winding.specs.declared.frame.Frame.{Frame}
-use Rattle.fx_winding.specs.Bitmaps.{words_for, word_bit}
+use Rattle.fx_winding.specs.Bitmaps.{word_bit}
 use Rattle.fx_winding.specs.Dropout.{turned_span}
 use Rattle.fx_winding.specs.Meets.{IsMet}
-use Rattle.fx_winding.specs.Notes.{pixel_number, IsMetAcross, IsMetUp, IsNotedAcross, IsNotedUp, IsNoted}
+use Rattle.fx_winding.specs.Notes.{pixel_number, words_noted, IsMetAcross, IsMetUp, IsNotedAcross, IsNotedUp, IsNoted}
 use Rattle.fx_winding.specs.Winding.{Span, IsOn, centre}
 use Rattle.fx_rows.specs.declared.placed.Placed.{Placed}
 use Rattle.fx_rows.specs.inner.Lines.{left_at, right_at, AreOnly, IsLineBit, IsMetTo, IsRowSet, IsRowsBit}
 use Rattle.fx_rows.specs.inner.Segments.{segment_number, first_number, AreSetAcross, AreSetUp, IsBandBit, IsUpBit}
-use Rattle.fx_rows.specs.inner.Telling.{IsPartOf, Way, across_row, up_to_row, IsNotedBy, IsAmong, IsMetByOne, IsMetUpByOne, AreMetAcross, AreMetUp}
+use Rattle.fx_rows.specs.inner.Telling.{IsPartOf, Way, across_row, up_to_row, IsNotedBy, IsNotedUnless, IsAmong, IsMetByOne, IsMetUpByOne}
+use Rattle.fx_rows.specs.inner.Telling.{AreMetAcross, AreMetUp}
 use Rattle.fx_rows.specs.inner.Told.{AreKept}
-use Rattle.fx_rows.specs.inner.Upward.{IsEdge}
 use Rattle.fx_rows.specs.inner.Lines.{IsMetUnlessOn}
 use Rattle.fx_rows.proofs.Turned.{on_turned}
 
@@ -33,6 +33,13 @@ pub all_kept : (s : Span) (f : Frame) (a b u v : List ℕ) → AreKept a b → A
 all_kept s f a b u v across up h = record {
   across = λ r l k m met. across (pixel_number f r k) (h.across r l k m met);
   up = λ r l k m met. up (pixel_number f r k) (h.up r l k m met);
+}
+
+pub unless_kept : (B : Way → Type 0) (s : Span) (f : Frame) (a b u v : List ℕ) → AreKept a b → AreKept u v
+    → IsNotedUnless B s f a u → IsNotedUnless B s f b v
+unless_kept B s f a b u v across up h = record {
+  across = λ no r l k m met. across (pixel_number f r k) (h.across no r l k m met);
+  up = λ no r l k m met. up (pixel_number f r k) (h.up no r l k m met);
 }
 
 -- ---- a row of the band is one of the frame
@@ -66,16 +73,16 @@ met_up s f g from to r k part m =
       off_upper = subst (λ z. z) (λ i. ¬ (IsOn (centre (left i +ℤ pos k) (row i)) s)) m.off_upper;
     }
 
-number_whole : (f g : Frame) (from to below r k : ℕ) → IsPartOf f from to g → below ≡ from * words_for f.width
+number_whole : (f g : Frame) (from to below r k : ℕ) → IsPartOf f from to g → below ≡ from * words_noted f.width
     → segment_number g below r k ≡ pixel_number f (from + r) k
 number_whole f g from to below r k part e =
-    (λ i. 32 * e i + (r * (32 * words_for (part.width i)) + k)) ∙ whole from r (words_for f.width) k
+    (λ i. 32 * e i + (r * (32 * words_noted (part.width i)) + k)) ∙ whole from r (words_noted f.width) k
   where
     whole : (from r w k : ℕ) → 32 * (from * w) + (r * (32 * w) + k) ≡ (from + r) * (32 * w) + k
     whole from r w k = omega arith
 
 up_at : (s : Span) (f g : Frame) (from to below r : ℕ) (up : List ℕ) → IsPartOf f from to g
-    → below ≡ from * words_for f.width → AreSetUp s g below up r → IsNotedUp s f up (from + r)
+    → below ≡ from * words_noted f.width → AreSetUp s g below up r → IsNotedUp s f up (from + r)
 up_at s f g from to below r up part e h k l m =
     subst (λ n. word_bit up n ≡ 1) (number_whole f g from to below r k part e)
     (h k (subst (λ (w : ℕ). k < w) (sym part.width) l) (met_up s f g from to r k part m))
@@ -87,37 +94,37 @@ room_before from h w all l =
     let both : (from + h) * w ≡ from * w + h * w = omega arith in
     omega (arith, m, both)
 
-pub room_rows : (f g : Frame) (from to below n : ℕ) → IsPartOf f from to g → below ≡ from * words_for f.width
-    → n ≡ f.height * words_for f.width + 1 → below + g.height * words_for g.width < n
+pub room_rows : (f g : Frame) (from to below n : ℕ) → IsPartOf f from to g → below ≡ from * words_noted f.width
+    → n ≡ f.height * words_noted f.width → below + g.height * words_noted g.width ≤ n
 room_rows f g from to below n part e all =
     let high = part.height in
     let l = part.within in
-    let m = room_before from g.height (words_for f.width) f.height (omega (arith, high, l)) in
-    let same = ap (λ w. g.height * words_for w) part.width in
+    let m = room_before from g.height (words_noted f.width) f.height (omega (arith, high, l)) in
+    let same = ap (λ w. g.height * words_noted w) part.width in
     omega (arith, m, same, e, all)
 
 -- the word of a segment's bit
-pub bit_room : (below r h width k n i : ℕ) → r < h → k ≤ width → below + h * words_for width < n
-    → i ≡ 32 * below + r * (32 * words_for width) + k → i / 32 < n
+pub bit_room : (below r h width k n i : ℕ) → r < h → k ≤ width → below + h * words_noted width ≤ n
+    → i ≡ 32 * below + r * (32 * words_noted width) + k → i / 32 < n
 bit_room below r h width k n i l m room e =
-    let rows : (r + 1) * words_for width ≤ h * words_for width = mul-le-mul_right (words_for width) (omega (arith, l)) in
-    let next : (r + 1) * words_for width ≡ r * words_for width + words_for width = omega arith in
-    let all : r * (32 * words_for width) ≡ 32 * (r * words_for width) = omega arith in
+    let rows : (r + 1) * words_noted width ≤ h * words_noted width = mul-le-mul_right (words_noted width) (omega (arith, l)) in
+    let next : (r + 1) * words_noted width ≡ r * words_noted width + words_noted width = omega arith in
+    let all : r * (32 * words_noted width) ≡ 32 * (r * words_noted width) = omega arith in
     let long : i < 32 * n = omega (arith, rows, next, all, room, e, m) in
     omega (arith, long)
 
-pub room_up : (f g : Frame) (from to below n : ℕ) → IsPartOf f from to g → below ≡ from * words_for f.width
-    → n ≡ (f.height + 1) * words_for f.width → below + (g.height + 1) * words_for g.width ≤ n
+pub room_up : (f g : Frame) (from to below n : ℕ) → IsPartOf f from to g → below ≡ from * words_noted f.width
+    → n ≡ (f.height + 1) * words_noted f.width → below + (g.height + 1) * words_noted g.width ≤ n
 room_up f g from to below n part e all =
     let high = part.height in
     let l = part.within in
-    let m = room_before from (g.height + 1) (words_for f.width) (f.height + 1) (omega (arith, high, l)) in
-    let same = ap (λ w. (g.height + 1) * words_for w) part.width in
+    let m = room_before from (g.height + 1) (words_noted f.width) (f.height + 1) (omega (arith, high, l)) in
+    let same = ap (λ w. (g.height + 1) * words_noted w) part.width in
     omega (arith, m, same, e, all)
 
 -- ---- all rows of the band, and the number after the highest
 pub up_rows : (s : Span) (f g : Frame) (from to below : ℕ) (up : List ℕ) → IsPartOf f from to g
-    → below ≡ from * words_for f.width → ((r : ℕ) → r < g.height → AreSetUp s g below up r)
+    → below ≡ from * words_noted f.width → ((r : ℕ) → r < g.height → AreSetUp s g below up r)
     → (r : ℕ) → from ≤ r → r < to → IsNotedUp s f up r
 up_rows s f g from to below up part e h r l m =
     let high = part.height in
@@ -126,7 +133,7 @@ up_rows s f g from to below up part e h r l m =
     (up_at s f g from to below (r - from) up part e (h (r - from) (omega (arith, high, l, m))))
 
 pub up_top : (s : Span) (f g : Frame) (from to below : ℕ) (up : List ℕ) → IsPartOf f from to g
-    → below ≡ from * words_for f.width → AreSetUp s g below up g.height → IsNotedUp s f up to
+    → below ≡ from * words_noted f.width → AreSetUp s g below up g.height → IsNotedUp s f up to
 up_top s f g from to below up part e h =
     subst (IsNotedUp s f up) part.height (up_at s f g from to below g.height up part e h)
 
@@ -142,13 +149,13 @@ pub set_across_kept : (s : Span) (f : Frame) (below r : ℕ) (a b : List ℕ) �
 set_across_kept s f below r a b kept h k l met = kept (segment_number f below r k) (h k l met)
 
 across_at : (s : Span) (f g : Frame) (from to below r : ℕ) (across : List ℕ) → IsPartOf f from to g
-    → below ≡ from * words_for f.width → AreSetAcross s g below across r → IsNotedAcross s f across (from + r)
+    → below ≡ from * words_noted f.width → AreSetAcross s g below across r → IsNotedAcross s f across (from + r)
 across_at s f g from to below r across part e h k l m =
     subst (λ n. word_bit across n ≡ 1) (number_whole f g from to below r k part e)
     (h k (subst (λ (w : ℕ). k ≤ w) (sym part.width) l) (met_across s f g from to r k part m))
 
 pub across_rows : (s : Span) (f g : Frame) (from to below : ℕ) (across : List ℕ) → IsPartOf f from to g
-    → below ≡ from * words_for f.width → ((r : ℕ) → r < g.height → AreSetAcross s g below across r)
+    → below ≡ from * words_noted f.width → ((r : ℕ) → r < g.height → AreSetAcross s g below across r)
     → (r : ℕ) → from ≤ r → r < to → IsNotedAcross s f across r
 across_rows s f g from to below across part e h r l m =
     let high = part.height in
@@ -157,74 +164,6 @@ across_rows s f g from to below across part e h r l m =
     (across_at s f g from to below (r - from) across part e (h (r - from) (omega (arith, high, l, m))))
 
 -- ---- the bits are of segments that some piece meets
-same_place : (w r q k j : ℕ) → 0 < k → k < w → j ≤ w → r * w + k ≡ q * w + j → (r ≡ q) × (k ≡ j)
-same_place w r q k j o l m e = by (below_same_above r q)
-  where
-    by : (r < q) ⊎ ((r ≡ q) ⊎ (q < r)) → (r ≡ q) × (k ≡ j)
-    by (inl a) =
-        let n : (r + 1) * w ≤ q * w = mul-le-mul_right w (omega (arith, a)) in
-        let next : (r + 1) * w ≡ r * w + w = omega arith in
-        absurd (omega (arith, n, next, e, l))
-    by (inr (inl a)) = let same = ap (λ (x : ℕ). x * w) a in (a, omega (arith, same, e))
-    by (inr (inr a)) =
-        let n : (q + 1) * w ≤ r * w = mul-le-mul_right w (omega (arith, a)) in
-        let next : (q + 1) * w ≡ q * w + w = omega arith in
-        absurd (omega (arith, n, next, e, m, o))
-
-met_moved : (s : Span) (x x' y y' : ℤ) (k k' : ℕ) → x ≡ x' → y ≡ y' → k ≡ k'
-    → (¬ (IsOn (centre ((x -ℤ pos 1) +ℤ pos k) y) s) → ¬ (IsOn (centre (x +ℤ pos k) y) s)
-    → IsMet (centre ((x -ℤ pos 1) +ℤ pos k) y) (centre (x +ℤ pos k) y) s)
-    → ¬ (IsOn (centre ((x' -ℤ pos 1) +ℤ pos k') y') s) → ¬ (IsOn (centre (x' +ℤ pos k') y') s)
-    → IsMet (centre ((x' -ℤ pos 1) +ℤ pos k') y') (centre (x' +ℤ pos k') y') s
-met_moved s x x' y y' k k' ex ey ek h = subst (λ z. z)
-    (λ i. ¬ (IsOn (centre ((ex i -ℤ pos 1) +ℤ pos (ek i)) (ey i)) s) → ¬ (IsOn (centre (ex i +ℤ pos (ek i)) (ey i)) s)
-    → IsMet (centre ((ex i -ℤ pos 1) +ℤ pos (ek i)) (ey i)) (centre (ex i +ℤ pos (ek i)) (ey i)) s) h
-
-pub some_across : (s : Span) (ss : List Span) (f g : Frame) (from to below : ℕ) (a b : List ℕ) → IsPartOf f from to g
-    → below ≡ from * words_for f.width → IsAmong s ss → AreOnly (IsBandBit s g below) a b → AreMetAcross f a ss
-    → AreMetAcross f b ss
-some_across s ss f g from to below a b part e among only old r k h o l set = by (only (pixel_number f r k) set)
-  where
-    by : (word_bit a (pixel_number f r k) ≡ 1) ⊎ IsBandBit s g below (pixel_number f r k) → IsMetByOne ss f r k
-    by (inl was) = old r k h o l was
-    by (inr new) =
-        let line = new.line in
-        let high = part.height in
-        let wide = ap words_for part.width in
-        let fits : line.k ≤ f.width = subst (λ (w : ℕ). line.k ≤ w) part.width line.within in
-        let number : 32 * below + new.r * (32 * words_for g.width) + line.k * 1
-        ≡ segment_number g below new.r line.k = omega arith in
-        let whole : r * (32 * words_for f.width) + k ≡ (from + new.r) * (32 * words_for f.width) + line.k =
-        line.at ∙ number ∙ number_whole f g from to below new.r line.k part e in
-        let place = same_place (32 * words_for f.width) r (from + new.r) k line.k o (omega (arith, l)) (omega
-        (arith, fits)) whole in
-        let row : g.bottom +ℤ pos new.r ≡ f.bottom +ℤ pos r =
-        sym (row_whole f g from to new.r part) ∙ ap (λ (n : ℕ). f.bottom +ℤ pos n) (sym place.0) in
-        let is = place.1 in
-        record {
-          piece = s;
-          among = among;
-          met = met_moved s g.left f.left (g.bottom +ℤ pos new.r) (f.bottom +ℤ pos r) line.k k part.left row (sym is)
-              (line.met (omega (arith, is, o)) (subst (λ (w : ℕ). line.k < w) (sym part.width) (omega (arith, is, l))));
-        }
-
--- the same of all rows of a frame
-pub some_rows : (s : Span) (ss : List Span) (f : Frame) (a b : List ℕ) → IsAmong s ss
-    → AreOnly (IsRowsBit s f (32 * words_for f.width) 1) a b → AreMetAcross f a ss → AreMetAcross f b ss
-some_rows s ss f a b among only =
-    some_across s ss f f 0 f.height 0 a b
-    (record { left = refl; bottom = omega (arith, signed_linear); width = refl; height = omega arith; within = omega arith })
-    (omega arith) among
-    (only_more (IsRowsBit s f (32 * words_for f.width) 1) (IsBandBit s f 0) a b (λ n h. record {
-      r = h.r;
-      row = h.row;
-      line = subst (λ (i : ℕ). IsLineBit s f (f.bottom +ℤ pos h.r) i 1 n) (number h.r) h.line;
-    }) only)
-  where
-    number : (r : ℕ) → r * (32 * words_for f.width) ≡ first_number f 0 r
-    number r = omega arith
-
--- ---- the same of the segments up to rows
 same_cell : (w r q k j : ℕ) → k < w → j < w → r * w + k ≡ q * w + j → (r ≡ q) × (k ≡ j)
 same_cell w r q k j l m e = by (below_same_above r q)
   where
@@ -239,6 +178,58 @@ same_cell w r q k j l m e = by (below_same_above r q)
         let next : (q + 1) * w ≡ q * w + w = omega arith in
         absurd (omega (arith, n, next, e, m))
 
+met_moved : (s : Span) (x x' y y' : ℤ) (k k' : ℕ) → x ≡ x' → y ≡ y' → k ≡ k'
+    → (¬ (IsOn (centre ((x -ℤ pos 1) +ℤ pos k) y) s) → ¬ (IsOn (centre (x +ℤ pos k) y) s)
+    → IsMet (centre ((x -ℤ pos 1) +ℤ pos k) y) (centre (x +ℤ pos k) y) s)
+    → ¬ (IsOn (centre ((x' -ℤ pos 1) +ℤ pos k') y') s) → ¬ (IsOn (centre (x' +ℤ pos k') y') s)
+    → IsMet (centre ((x' -ℤ pos 1) +ℤ pos k') y') (centre (x' +ℤ pos k') y') s
+met_moved s x x' y y' k k' ex ey ek h = subst (λ z. z)
+    (λ i. ¬ (IsOn (centre ((ex i -ℤ pos 1) +ℤ pos (ek i)) (ey i)) s) → ¬ (IsOn (centre (ex i +ℤ pos (ek i)) (ey i)) s)
+    → IsMet (centre ((ex i -ℤ pos 1) +ℤ pos (ek i)) (ey i)) (centre (ex i +ℤ pos (ek i)) (ey i)) s) h
+
+pub some_across : (s : Span) (ss : List Span) (f g : Frame) (from to below : ℕ) (a b : List ℕ) → IsPartOf f from to g
+    → below ≡ from * words_noted f.width → IsAmong s ss → AreOnly (IsBandBit s g below) a b → AreMetAcross f a ss
+    → AreMetAcross f b ss
+some_across s ss f g from to below a b part e among only old r k l set = by (only (pixel_number f r k) set)
+  where
+    by : (word_bit a (pixel_number f r k) ≡ 1) ⊎ IsBandBit s g below (pixel_number f r k) → (k ≤ f.width) × IsMetByOne ss f r k
+    by (inl was) = old r k l was
+    by (inr new) =
+        let line = new.line in
+        let fits : line.k ≤ f.width = subst (λ (w : ℕ). line.k ≤ w) part.width line.within in
+        let number : 32 * below + new.r * (32 * words_noted g.width) + line.k * 1
+        ≡ segment_number g below new.r line.k = omega arith in
+        let whole : r * (32 * words_noted f.width) + k ≡ (from + new.r) * (32 * words_noted f.width) + line.k =
+        line.at ∙ number ∙ number_whole f g from to below new.r line.k part e in
+        let place = same_cell (32 * words_noted f.width) r (from + new.r) k line.k l (omega (arith, fits)) whole in
+        let row : g.bottom +ℤ pos new.r ≡ f.bottom +ℤ pos r =
+        sym (row_whole f g from to new.r part) ∙ ap (λ (n : ℕ). f.bottom +ℤ pos n) (sym place.0) in
+        let is = place.1 in (
+          omega (arith, is, fits),
+          record {
+            piece = s;
+            among = among;
+            met = met_moved s g.left f.left (g.bottom +ℤ pos new.r) (f.bottom +ℤ pos r) line.k k part.left row (sym is) line.met;
+          },
+        )
+
+-- the same of all rows of a frame
+pub some_rows : (s : Span) (ss : List Span) (f : Frame) (a b : List ℕ) → IsAmong s ss
+    → AreOnly (IsRowsBit s f (32 * words_noted f.width) 1) a b → AreMetAcross f a ss → AreMetAcross f b ss
+some_rows s ss f a b among only =
+    some_across s ss f f 0 f.height 0 a b
+    (record { left = refl; bottom = omega (arith, signed_linear); width = refl; height = omega arith; within = omega arith })
+    (omega arith) among
+    (only_more (IsRowsBit s f (32 * words_noted f.width) 1) (IsBandBit s f 0) a b (λ n h. record {
+      r = h.r;
+      row = h.row;
+      line = subst (λ (i : ℕ). IsLineBit s f (f.bottom +ℤ pos h.r) i 1 n) (number h.r) h.line;
+    }) only)
+  where
+    number : (r : ℕ) → r * (32 * words_noted f.width) ≡ first_number f 0 r
+    number r = omega arith
+
+-- ---- the same of the segments up to rows
 -- a segment by other names of its place
 up_moved : (s : Span) (f g : Frame) (r r' k k' : ℕ) → g.left ≡ f.left → g.bottom +ℤ pos r' ≡ f.bottom +ℤ pos r
     → (g.bottom -ℤ pos 1) +ℤ pos r' ≡ (f.bottom -ℤ pos 1) +ℤ pos r → k' ≡ k → IsMetUnlessOn s g r' k' → IsMetUnlessOn s f r k
@@ -253,74 +244,58 @@ up_moved s f g r r' k k' left row under same h off off' =
     }
 
 pub some_up : (s : Span) (ss : List Span) (f : Frame) (p : Placed) (from to : ℕ) (a b : List ℕ) → IsPartOf f from to p.frame
-    → p.below ≡ from * words_for f.width → (IsTrue p.lowest → from ≡ 0) → (IsTrue p.highest → to ≡ f.height) → IsAmong s ss
-    → AreOnly (IsUpBit s p) a b → AreMetUp f a ss → AreMetUp f b ss
-some_up s ss f p from to a b part e lowest highest among only old r k o l w set = by (only (pixel_number f r k) set)
+    → p.below ≡ from * words_noted f.width → IsAmong s ss → AreOnly (IsUpBit s p) a b → AreMetUp f a ss → AreMetUp f b ss
+some_up s ss f p from to a b part e among only old r k w set = by (only (pixel_number f r k) set)
   where
     g : Frame
     g = p.frame
 
-    by : (word_bit a (pixel_number f r k) ≡ 1) ⊎ IsUpBit s p (pixel_number f r k) → IsMetUpByOne ss f r k
-    by (inl was) = old r k o l w was
+    by : (word_bit a (pixel_number f r k) ≡ 1) ⊎ IsUpBit s p (pixel_number f r k) → (k < f.width) × IsMetUpByOne ss f r k
+    by (inl was) = old r k w was
     by (inr new) =
         let wide : new.k < f.width = subst (λ (w : ℕ). new.k < w) part.width new.column in
-        let whole : r * (32 * words_for f.width) + k ≡ (from + new.r) * (32 * words_for f.width) + new.k =
+        let whole : r * (32 * words_noted f.width) + k ≡ (from + new.r) * (32 * words_noted f.width) + new.k =
         new.at ∙ number_whole f g from to p.below new.r new.k part e in
-        let place = same_cell (32 * words_for f.width) r (from + new.r) k new.k (omega (arith, w)) (omega (arith, wide)) whole in
+        let place = same_cell (32 * words_noted f.width) r (from + new.r) k new.k w (omega (arith, wide)) whole in
         let is = place.0 in
+        let same = place.1 in
         let row : g.bottom +ℤ pos new.r ≡ f.bottom +ℤ pos r =
         sym (row_whole f g from to new.r part) ∙ ap (λ (n : ℕ). f.bottom +ℤ pos n) (sym is) in
         let under : (g.bottom -ℤ pos 1) +ℤ pos new.r ≡ (f.bottom -ℤ pos 1) +ℤ pos r =
-        sym (row_under f g from to new.r part) ∙ ap (λ (n : ℕ). (f.bottom -ℤ pos 1) +ℤ pos n) (sym is) in
-        record {
-          piece = s;
-          among = among;
-          met = up_moved s f g r new.r k new.k part.left row under (sym place.1) (new.met inside);
-        }
-      where
-        inside : ¬ (IsEdge p new.r)
-        inside (inl (t, z)) =
-            let first = lowest t in
-            let whole = new.at ∙ number_whole f g from to p.below new.r new.k part e in
-            let wide : new.k < f.width = subst (λ (w : ℕ). new.k < w) part.width new.column in
-            let place = same_cell (32 * words_for f.width) r (from + new.r) k new.k (omega (arith, w)) (omega
-            (arith, wide)) whole in
-            let is = place.0 in
-            omega (arith, first, z, is, o)
-        inside (inr (t, z)) =
-            let last = highest t in
-            let high = part.height in
-            let whole = new.at ∙ number_whole f g from to p.below new.r new.k part e in
-            let wide : new.k < f.width = subst (λ (w : ℕ). new.k < w) part.width new.column in
-            let place = same_cell (32 * words_for f.width) r (from + new.r) k new.k (omega (arith, w)) (omega
-            (arith, wide)) whole in
-            let is = place.0 in
-            omega (arith, last, high, z, is, l)
+        sym (row_under f g from to new.r part) ∙ ap (λ (n : ℕ). (f.bottom -ℤ pos 1) +ℤ pos n) (sym is) in (
+          omega (arith, same, wide),
+          record {
+            piece = s;
+            among = among;
+            met = up_moved s f g r new.r k new.k part.left row under (sym same) new.met;
+          },
+        )
 
 -- the same of the columns of a frame, seen as rows of the exchanged piece
 pub some_columns : (s : Span) (ss : List Span) (f g : Frame) (a b : List ℕ) → g.left ≡ f.bottom → g.bottom ≡ f.left
     → g.width ≡ f.height → g.height ≡ f.width → IsAmong s ss
-    → AreOnly (IsRowsBit (turned_span s) g 1 (32 * words_for f.width)) a b → AreMetUp f a ss → AreMetUp f b ss
-some_columns s ss f g a b el eb ew eh among only old r k o l w set = by (only (pixel_number f r k) set)
+    → AreOnly (IsRowsBit (turned_span s) g 1 (32 * words_noted f.width)) a b → AreMetUp f a ss → AreMetUp f b ss
+some_columns s ss f g a b el eb ew eh among only old r k w set = by (only (pixel_number f r k) set)
   where
-    by : (word_bit a (pixel_number f r k) ≡ 1) ⊎ IsRowsBit (turned_span s) g 1 (32 * words_for f.width) (pixel_number f r k)
-        → IsMetUpByOne ss f r k
-    by (inl was) = old r k o l w was
+    by : (word_bit a (pixel_number f r k) ≡ 1) ⊎ IsRowsBit (turned_span s) g 1 (32 * words_noted f.width) (pixel_number f r k)
+        → (k < f.width) × IsMetUpByOne ss f r k
+    by (inl was) = old r k w was
     by (inr new) =
         let line = new.line in
         let inside : new.r < f.width = subst (λ (n : ℕ). new.r < n) eh new.row in
         let at = line.at in
-        let number : new.r * 1 + line.k * (32 * words_for f.width) ≡ line.k * (32 * words_for f.width) + new.r = omega arith in
-        let whole : r * (32 * words_for f.width) + k ≡ line.k * (32 * words_for f.width) + new.r = at ∙ number in
-        let place = same_cell (32 * words_for f.width) r line.k k new.r (omega (arith, w)) (omega (arith, inside)) whole in
+        let number : new.r * 1 + line.k * (32 * words_noted f.width) ≡ line.k * (32 * words_noted f.width) + new.r = omega arith in
+        let whole : r * (32 * words_noted f.width) + k ≡ line.k * (32 * words_noted f.width) + new.r = at ∙ number in
+        let place = same_cell (32 * words_noted f.width) r line.k k new.r w (omega (arith, inside)) whole in
         let row = place.0 in
-        let column = place.1 in
-        record {
-          piece = s;
-          among = among;
-          met = met new.r line.k row column (line.met (omega (arith, row, o))
-              (subst (λ (n : ℕ). line.k < n) (sym ew) (omega (arith, row, l))));
-        }
+        let column = place.1 in (
+          omega (arith, column, inside),
+          record {
+            piece = s;
+            among = among;
+            met = met new.r line.k row column line.met;
+          },
+        )
       where
         met : (j q : ℕ) → r ≡ q → k ≡ j
             → (¬ (IsOn (left_at g (g.bottom +ℤ pos j) q) (turned_span s))

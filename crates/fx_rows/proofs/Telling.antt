@@ -1,17 +1,21 @@
 -- The ends of a piece's columns that are told, row by row, and the pieces that are noted.
 -- Serves the rows of a piece, and the pieces of a band.
-use Rattle.std.proofs.Common.{◌≡◌, ◌≢◌, ◌⊎◌, inl, inr, refl, sym, ap, ◌∙◌, subst, ℕ, ◌+◌, ◌-◌, ◌*◌, ◌<◌, ◌≤◌, ℤ, pos, ◌+ℤ◌, ◌*ℤ◌}
-use Rattle.std.proofs.Common.{◌≤ℤ◌, ◌<ℤ◌, List, length, take, get_or, arith}
+use Rattle.std.proofs.Common.{◌≡◌, ◌≢◌, ◌⊎◌, inl, inr, refl, sym, ap, ◌∙◌, subst, ℕ, ◌+◌, ◌-◌, ◌*◌, ◌<◌, ◌≤◌, ℤ, pos, ◌+ℤ◌, ◌-ℤ◌, ◌*ℤ◌}
+use Rattle.std.proofs.Common.{◌≤ℤ◌, ◌<ℤ◌, List, length, take, get_or, arith, Any}
 use Rattle.std.specs.List.{All}
 use Rattle.std.proofs.lemmas.Int.{ints}
 use Rattle.std.proofs.lemmas.List.{get_or_default}
 use Rattle.std.proofs.lemmas.List.Elements.{All-more}
 use Rattle.fx_fixed.proofs.Order.{below_or_not, below_or_not_ℤ}
 use Rattle.fx_fixed.proofs.Linear.{signed_linear}
+use Rattle.fx_winding.proofs.Covers.{any_map, any_unmap}
+use Rattle.fx_winding.proofs.Numbered.{clear_unless}
 use Rattle.fx_winding.specs.declared.frame.Frame.{Frame}
 use Rattle.fx_winding.specs.Area.{Place}
-use Rattle.fx_winding.specs.Meets.{turn}
-use Rattle.fx_winding.specs.Notes.{AreExact, IsNotedUp, IsNoted}
+use Rattle.fx_winding.specs.Bitmaps.{word_bit}
+use Rattle.fx_winding.specs.Meets.{turn, IsMet}
+use Rattle.fx_winding.specs.Dropout.{turned_span}
+use Rattle.fx_winding.specs.Notes.{AreExact, AreOff, pixel_number, IsMetUp, IsNotedUp, IsNoted}
 use Rattle.fx_winding.specs.Outside.{HasAll}
 use Rattle.fx_winding.specs.Winding.{Span, IsOn, centre}
 use Rattle.fx_rows.specs.declared.heights.Met.{Met}
@@ -27,7 +31,7 @@ use Rattle.fx_rows.specs.inner.Points.{IsInner, IsRise}
 use Rattle.fx_rows.specs.inner.Sides.{place_at}
 use Rattle.fx_rows.specs.inner.Told.{rise_value, IsEnd, IsEndOn}
 use Rattle.fx_rows.specs.inner.Telling.{AreMetBySome, IsAmong, IsRowTold, AreRowsTold, AreRowsAdded, IsPartOf, AreRowsNoted, AreNotedIn}
-use Rattle.fx_rows.specs.inner.Telling.{BitsSay, Saying, noted, Way, across_row, up_to_row}
+use Rattle.fx_rows.specs.inner.Telling.{BitsSay, IsNotedUnless, Saying, noted, Way, across_row, up_to_row}
 use Rattle.fx_rows.proofs.Banding.{band_none, band_three, band_missed}
 use Rattle.fx_rows.proofs.Stepping.{band_next}
 
@@ -283,27 +287,82 @@ noted_both P Q ss f from mid to kept a b k d l = record {
     up r m n (inl o) = kept (get_or ss k d) up_to_row r ((a k d l).up r m o)
     up r m n (inr o) = (b k d l).up r o n
 
--- the same, but for pieces that are noted apart
-pub noted_unless : (B : Span → Type 0) (f : Frame) (rows columns : List ℕ) (ss : List Span)
+-- the same, but for what is noted apart
+pub noted_unless : (B : Span → Way → Type 0) (f : Frame) (rows columns : List ℕ) (ss : List Span)
     → AreNotedIn (BitsSay B f rows columns) ss f 0 f.height
-    → All (λ s. ¬ (B s) → IsNoted s f rows columns) ss
-noted_unless B f rows columns ss h k d l apart = record {
-  across = λ r m. (h k d l).across r (omega arith) m apart;
-  up = λ r m. by r m (below_or_not r f.height);
+    → All (λ s. IsNotedUnless (B s) s f rows columns) ss
+noted_unless B f rows columns ss h k d l = record {
+  across = λ no r m. (h k d l).across r (omega arith) m no;
+  up = λ no r m. by no r m (below_or_not r f.height);
 }
   where
-    by : (r : ℕ) → r ≤ f.height → (r < f.height) ⊎ (f.height ≤ r) → IsNotedUp (get_or ss k d) f columns r
-    by r m (inl o) = (h k d l).up r (omega arith) o apart
-    by r m (inr o) =
+    by : ¬ (B (get_or ss k d) up_to_row) → (r : ℕ) → r ≤ f.height → (r < f.height) ⊎ (f.height ≤ r)
+        → IsNotedUp (get_or ss k d) f columns r
+    by unless r m (inl o) = (h k d l).up r (omega arith) o unless
+    by unless r m (inr o) =
         let e : f.height ≡ r = omega (arith, m, o) in
-        subst (IsNotedUp (get_or ss k d) f columns) e ((h k d l).top refl apart)
+        subst (IsNotedUp (get_or ss k d) f columns) e ((h k d l).top refl unless)
 
 -- what is noted is exact, and stays so while these pieces are noted
 pub all_among : (ss : List Span) → All (λ s. IsAmong s ss) ss
 all_among ss k d l = record { at = k; inside = l; is = get_or_default ss k _ d l }
 
-pub exact_of : (f : Frame) (across up : List ℕ) (ss : List Span) → AreMetBySome f across up ss → AreExact f across up ss
-exact_of f across up ss h = record {
-  across = λ r k l o m e. let p = h.rows r k l o m e in (p.among.at, p.piece, p.among.inside, p.among.is, p.met);
-  up = λ r k o l m e. let p = h.columns r k o l m e in (p.among.at, p.piece, p.among.inside, p.among.is, p.met);
+-- a place is on none of some pieces: so on none that is among them
+off_one : (p : Place) (ss : List Span) (s : Span) → ¬ (Any (IsOn p) ss) → IsAmong s ss → ¬ (IsOn p s)
+off_one p ss s off among on = off (among.at, s, among.inside, among.is, on)
+
+pub exact_of : (f : Frame) (across up : List ℕ) (ss : List Span) → All (λ s. IsNoted s f across up) ss
+    → AreMetBySome f across up ss → AreExact f across up ss
+exact_of f across up ss all h = record {
+  across = λ r k l m off. (
+    λ e. let p = (h.rows r k (omega (arith, m)) e).1 in (
+      p.among.at,
+      p.piece,
+      p.among.inside,
+      p.among.is,
+      p.met (off_one _ ss p.piece off.off_from p.among)
+          (off_one _ ss p.piece off.off_to p.among),
+    ),
+    λ (i, s, inside, is, met). (subst (λ (t : Span). IsNoted t f across up) is (all i s inside)).across r l k m (record {
+      met = met;
+      off_left = λ on. off.off_from (i, s, inside, is, on);
+      off_right = λ on. off.off_to (i, s, inside, is, on);
+    }),
+  );
+  up = λ r k some l m off. (
+    λ e. let p = (h.columns r k (omega (arith, m)) e).1 in
+        any_map turned_span (λ s. IsMetUp s f r k) _ (λ s m. m.met) ss (
+          p.among.at,
+          p.piece,
+          p.among.inside,
+          p.among.is,
+          p.met (off_one _ ss p.piece off.off_from p.among)
+              (off_one _ ss p.piece off.off_to p.among),
+        ),
+    λ met. back r k l m off (any_unmap turned_span (λ s. IsMet (centre ((f.bottom -ℤ pos 1) +ℤ pos r) (f.left +ℤ pos k))
+        (centre (f.bottom +ℤ pos r) (f.left +ℤ pos k)) (turned_span s)) _ (λ s m. m) ss met),
+  );
+  rest_across = λ r k l m w. clear_unless across _ (λ e. let p = (h.rows r k w e).0 in omega (arith, p, m));
+  rest_up = λ r k l m w. clear_unless up _ (λ e. let p = (h.columns r k w e).0 in omega (arith, p, m));
+}
+  where
+    back : (r k : ℕ) → r ≤ f.height → k < f.width
+        → AreOff (centre (f.left +ℤ pos k) ((f.bottom -ℤ pos 1) +ℤ pos r)) (centre (f.left +ℤ pos k) (f.bottom +ℤ pos r)) ss
+        → Any (λ s. IsMet (centre ((f.bottom -ℤ pos 1) +ℤ pos r) (f.left +ℤ pos k))
+        (centre (f.bottom +ℤ pos r) (f.left +ℤ pos k)) (turned_span s)) ss → word_bit up (pixel_number f r k) ≡ 1
+    back r k l m off (i, s, inside, is, met) = (subst (λ (t : Span). IsNoted t f across up) is (all i s inside)).up r l k m
+        (record {
+          met = met;
+          off_lower = λ on. off.off_from (i, s, inside, is, on);
+          off_upper = λ on. off.off_to (i, s, inside, is, on);
+        })
+
+-- a frame without rows has no segments
+pub exact_without : (f : Frame) (across up : List ℕ) (ss : List Span) → f.height ≡ 0 → AreMetBySome f across up ss
+    → AreExact f across up ss
+exact_without f across up ss e h = record {
+  across = λ r k l m off. absurd (omega (arith, l, e));
+  up = λ r k some l m off. absurd (omega (arith, some, e));
+  rest_across = λ r k l m w. absurd (omega (arith, l, e));
+  rest_up = λ r k l m w. clear_unless up _ (λ t. let p = (h.columns r k w t).0 in omega (arith, p, m));
 }

@@ -1,7 +1,7 @@
 -- Which segments between neighbouring rows a piece meets that does not bulge.
 -- Serves `note_up`.
 use Rattle.std.proofs.Common.{◌≡◌, ◌≢◌, ◌⊎◌, inl, inr, refl, sym, ap, ◌∙◌, subst, ℕ, zero, suc, ◌+◌, ◌<◌, ◌≤◌, min, max, ℤ, pos, negsuc}
-use Rattle.std.proofs.Common.{◌+ℤ◌, ◌-ℤ◌, ◌*ℤ◌, ◌≤ℤ◌, ◌<ℤ◌, List, Option, Some, None, IsTrue, ◌^◌, arith}
+use Rattle.std.proofs.Common.{◌+ℤ◌, ◌-ℤ◌, ◌*ℤ◌, ◌≤ℤ◌, ◌<ℤ◌, List, Option, Some, None, ◌^◌, arith}
 use Rattle.std.proofs.Common.{w32, to_z, of_z}
 use Rattle.fx_fixed.specs.Ranges.{IsWithin}
 use Rattle.std.proofs.lemmas.Int.{ints}
@@ -502,19 +502,19 @@ pub level_of : (s : Span) (p : Placed) (r : ℕ) (c d : Reach) → ¬ (IsBulge s
     → IsLevel s p r (min c.first d.first) (max c.end d.end)
 level_of s p r c d plain (inl low) (inl high) = record {
   within = pass_within s p.frame r c d (met_between s p.frame plain) low high;
-  all = λ n. pass_met s p.frame r c d low high;
+  all = pass_met s p.frame r c d low high;
 }
 level_of s p r c d plain (inl low) (inr (hangs, head)) = record {
   within = head_within s p.frame r c d (met_between s p.frame plain) low hangs head;
-  all = λ n. head_all s p.frame r c d low hangs head;
+  all = head_all s p.frame r c d low hangs head;
 }
 level_of s p r c d plain (inr (rests, foot)) (inl high) = record {
   within = foot_within s p.frame r c d (met_between s p.frame plain) rests foot high;
-  all = λ n. foot_all s p.frame r c d rests foot high;
+  all = foot_all s p.frame r c d rests foot high;
 }
 level_of s p r c d plain (inr (rests, foot)) (inr (hangs, head)) = record {
   within = through_within s p.frame r c d (met_between s p.frame plain) foot head;
-  all = λ n. through_all s p.frame r c d rests foot hangs head;
+  all = through_all s p.frame r c d rests foot hangs head;
 }
 
 pub comes_from : (s : Span) (p : Placed) (r : ℕ) (c : Reach) → ¬ (IsBulge s) → IsLow s p.frame r c → ComesFrom s p r c
@@ -536,27 +536,10 @@ comes_passing_below s p r c plain e h =
     comes_from s p r c plain (inl (passing_on s p.frame (p.frame.bottom -ℤ pos 1)
     ((p.frame.bottom -ℤ pos 1) +ℤ pos r) c (omega (arith, signed_linear, e)) h))
 
--- ---- at the edge of the frame: all columns of the box, and some more
-within_more : (s : Span) (f : Frame) (r from to from' to' : ℕ) → AreMetWithin s f r from to
-    → AreMetWithin s f r (min from from') (max to to')
-within_more s f r from to from' to' h k l m = let at = h k l m in (omega (arith, at.0), omega (arith, at.1))
-
-within_more_after : (s : Span) (f : Frame) (r from to from' to' : ℕ) → AreMetWithin s f r from to
-    → AreMetWithin s f r (min from' from) (max to' to)
-within_more_after s f r from to from' to' h k l m = let at = h k l m in (omega (arith, at.0), omega (arith, at.1))
-
-pub comes_at_edge : (s : Span) (p : Placed) (r : ℕ) → IsPlaced s p → IsTrue p.lowest → r ≡ 0 → ComesFrom s p r p.reach
-comes_at_edge s p r is low e d high = record {
-  within = within_more s p.frame r p.reach.first p.reach.end d.first d.end (reach_columns s p is r);
-  all = λ n. absurd (n (inl (low, e)));
-}
-
-pub goes_at_edge : (s : Span) (p : Placed) (r : ℕ) (c : Reach) → IsPlaced s p → IsTrue p.highest → r ≡ p.frame.height
-    → IsLevel s p r (min c.first p.reach.first) (max c.end p.reach.end)
-goes_at_edge s p r c is high e = record {
-  within = within_more_after s p.frame r p.reach.first p.reach.end c.first c.end (reach_columns s p is r);
-  all = λ n. absurd (n (inr (high, e)));
-}
+-- the row above the band, which the piece passes
+pub goes_passing : (s : Span) (p : Placed) (r : ℕ) (c d : Reach) → ComesFrom s p r c
+    → IsPassing s p.frame (p.frame.bottom +ℤ pos r) d → IsLevel s p r (min c.first d.first) (max c.end d.end)
+goes_passing s p r c d comes h = comes d (inl h)
 
 -- ---- the levels of a band
 -- the height of a row, as code holds it

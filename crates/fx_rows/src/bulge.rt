@@ -1,24 +1,28 @@
-//! Arcs that bulge: the box of one is larger than that of its chord. What they meet is noted row by row, and then column by column,
-//! as rows of the arc with its coordinates exchanged.
+//! Arcs that bulge: the box of one is larger than that of its chord. What they meet up to rows is noted column by column, as rows
+//! of the arc with its coordinates exchanged.
 
-ghost use Rattle.std.specs.Prelude.{◌≡◌, ◌⊎◌, ℕ, ◌+◌, ◌*◌, ◌^◌, ◌-◌, ◌<◌, ◌≤◌, length, pos, ◌+ℤ◌, ◌↔◌, IsTrue, List};
+ghost use Rattle.std.specs.Prelude.{◌≡◌, ◌⊎◌, ℕ, ◌+◌, ◌*◌, ◌^◌, ◌-◌, ◌<◌, ◌≤◌, length, pos, ◌+ℤ◌, ◌≤ℤ◌, ◌↔◌, IsTrue, List};
 ghost use Rattle.fx_fixed.specs.Ranges.{IsWithin};
 ghost use Rattle.fx_rows.specs.inner.Bulging.{HasLine, IsLineTo, IsLineFrom, IsBeyond, IsBulge};
-ghost use Rattle.fx_winding.specs.Frames.{IsFrom};
-ghost use Rattle.fx_winding.specs.Notes.{IsNoted};
+ghost use Rattle.fx_winding.specs.Frames.{HasMargin, IsFrom};
+ghost use Rattle.fx_winding.specs.Notes.{IsNotedAcross, IsNotedUp};
 ghost use Rattle.fx_winding.specs.Winding.{Span, span_of};
 ghost use Rattle.fx_rows.specs.inner.Bands.{bounded_span};
-ghost use Rattle.fx_rows.specs.inner.Lines.{AreOnly, AreRowsSet, IsLineBit, IsRowSet, IsRowsBit};
+ghost use Rattle.fx_rows.specs.inner.Heights.{height_of};
+ghost use Rattle.fx_rows.specs.inner.Points.{IsInner};
+ghost use Rattle.fx_rows.specs.inner.Lines.{AreOnly, AreRowsSet, AreSetIn, IsLineBit, IsRowSet, IsRowsBit};
 ghost use Rattle.fx_rows.specs.inner.Telling.{AreMetBySome, IsAmong};
 ghost use Rattle.fx_rows.specs.inner.Told.{AreKept};
 
+use crate::apart::has_columns;
 use crate::bounded::{Bounded, bounds_of, rise_of};
-use crate::heights::{RowRange, rows_met};
+use crate::heights::{RowRange, rows_between, rows_met};
 use crate::intervals::met_part;
-use crate::line::{Line, note_end, note_first, note_last, note_run, note_tip};
+use crate::line::{Line, note_end, note_first, note_last, note_run, note_tip, set_segment};
 use crate::part::Run;
+use crate::passing::end_in;
 use crate::strip::row_of;
-use fx_winding::{Frame, Notes, Piece, Point, Tally, first_from, words_for};
+use fx_winding::{Frame, Notes, Piece, Point, Tally, first_from, words_noted};
 
 /// Whether a line of centres comes from x on and up to y.
 #[inline(always)]
@@ -113,7 +117,7 @@ pub(crate) fn note_line(
     ensures noted { IsRowSet (bounded_span bounded.now) line.frame line.row line.first line.step bits.new }
     ensures kept { AreKept bits.old bits.new }
     ensures only { AreOnly (IsLineBit (bounded_span bounded.now) line.frame line.row line.first line.step) bits.old bits.new }
-    ensures count { tally.new.count ≤ tally.old.count + 45 }
+    ensures count { tally.new.count ≤ tally.old.count + 55 }
 {
     let piece = &bounded.piece;
     let part = met_part(bounded, line.row, line.frame, near, tally);
@@ -122,8 +126,8 @@ pub(crate) fn note_line(
     note_end(piece, &part, line, piece.a, bits, tally);
     note_end(piece, &part, line, piece.c, bits, tally);
     note_tip(piece, &part, line, bits, tally);
-    note_first(bounded.across, line, bits);
-    note_last(bounded.across, line, bits);
+    note_first(piece, bounded.across, line, bits, tally);
+    note_last(piece, bounded.across, line, bits, tally);
     part.region
 }
 
@@ -138,6 +142,7 @@ fn note_met_lines(
     bits: &mut [u32],
     tally: &mut Tally,
 )
+    requires margin { HasMargin frame }
     requires rows { rows.end ≤ frame.height }
     requires row_few { row_step ≤ 2 ^ 16 }
     requires few { step ≤ 2 ^ 16 }
@@ -146,7 +151,7 @@ fn note_met_lines(
         IsRowSet (bounded_span bounded.now) frame (frame.bottom +ℤ pos r) (r * row_step) step bits.new }
     ensures kept { AreKept bits.old bits.new }
     ensures only { AreOnly (IsRowsBit (bounded_span bounded.now) frame row_step step) bits.old bits.new }
-    ensures count { tally.new.count ≤ tally.old.count + 45 * (rows.end - rows.first) }
+    ensures count { tally.new.count ≤ tally.old.count + 55 * (rows.end - rows.first) }
 {
     let mut near = None;
     // The segments of the rows before `up` are noted.
@@ -161,6 +166,45 @@ fn note_met_lines(
     }
 }
 
+/// Notes the segments that a piece meets in rows of a frame that are between its ends: in each the one where it passes.
+fn note_passed_lines(
+    bounded: &Bounded,
+    rows: RowRange,
+    frame: Frame,
+    row_step: usize,
+    step: usize,
+    bits: &mut [u32],
+    tally: &mut Tally,
+)
+    requires margin { HasMargin frame }
+    requires rows { rows.end ≤ frame.height }
+    requires inner { (r : ℕ) → rows.first ≤ r → r < rows.end →
+        IsInner bounded.now.piece.a.y bounded.now.piece.c.y (height_of frame r) }
+    requires low { frame.left ≤ℤ bounded.now.across.first }
+    requires high { bounded.now.across.end ≤ℤ (frame.left +ℤ pos frame.width) }
+    requires row_few { row_step ≤ 2 ^ 16 }
+    requires few { step ≤ 2 ^ 16 }
+    requires room { (r : ℕ) → r < frame.height → r * row_step + frame.width * step < 32 * length bits.old }
+    ensures noted { (r : ℕ) → rows.first ≤ r → r < rows.end →
+        AreSetIn (bounded_span bounded.now) frame r (r * row_step) step bits.new }
+    ensures kept { AreKept bits.old bits.new }
+    ensures only { AreOnly (IsRowsBit (bounded_span bounded.now) frame row_step step) bits.old bits.new }
+    ensures count { tally.new.count ≤ tally.old.count + 2 * (rows.end - rows.first) }
+{
+    // The segments of the rows before `up` are noted.
+    'rows: for up in rows.first..rows.end {
+        let row = row_of(frame, up);
+        let line = Line {
+            frame,
+            row,
+            first: up as usize * row_step,
+            step,
+        };
+        let end = end_in(bounded, frame, row, tally);
+        set_segment(line, end, bits);
+    }
+}
+
 /// Notes the segments of a frame's rows that a piece meets.
 fn note_lines(
     piece: &Piece,
@@ -170,42 +214,70 @@ fn note_lines(
     bits: &mut [u32],
     tally: &mut Tally,
 )
+    requires margin { HasMargin frame }
     requires row_few { row_step ≤ 2 ^ 16 }
     requires few { step ≤ 2 ^ 16 }
     requires room { (r : ℕ) → r < frame.height → r * row_step + frame.width * step < 32 * length bits.old }
     ensures noted { AreRowsSet (span_of piece.now) frame row_step step bits.new }
     ensures kept { AreKept bits.old bits.new }
     ensures only { AreOnly (IsRowsBit (span_of piece.now) frame row_step step) bits.old bits.new }
-    ensures count { tally.new.count ≤ tally.old.count + 45 * frame.height }
+    ensures count { tally.new.count ≤ tally.old.count + 55 * frame.height }
 {
     let bounded = bounds_of(piece, rise_of(piece));
-    note_met_lines(
-        &bounded,
-        rows_met(piece, frame),
-        frame,
-        row_step,
-        step,
-        bits,
-        tally,
-    );
+    let rows = rows_met(piece, frame);
+    if !has_columns(frame, bounded.across) {
+        note_met_lines(&bounded, rows, frame, row_step, step, bits, tally);
+        return;
+    }
+    let inner = rows_between(bounded.rise, frame, rows);
+    let below = RowRange {
+        first: rows.first,
+        end: inner.first,
+    };
+    let above = RowRange {
+        first: inner.end,
+        end: rows.end,
+    };
+    note_met_lines(&bounded, below, frame, row_step, step, bits, tally);
+    note_passed_lines(&bounded, inner, frame, row_step, step, bits, tally);
+    note_met_lines(&bounded, above, frame, row_step, step, bits, tally);
 }
 
-/// Notes the segments that a piece meets, and so what no band has noted.
+/// Notes the segments that a piece meets across rows, and so what no band has noted.
 #[inline(never)]
-pub(crate) fn note_bulge(piece: &Piece, notes: &mut Notes, tally: &mut Tally)
+pub(crate) fn note_all_across(piece: &Piece, notes: &mut Notes, tally: &mut Tally)
+    requires margin { HasMargin notes.old.frame }
     ensures frame { notes.new.frame ≡ notes.old.frame }
-    ensures exact { notes.new.exact ≡ notes.old.exact }
-    ensures noted { IsNoted (span_of piece.now) notes.old.frame notes.new.across.items notes.new.up.items }
+    ensures noted { (r : ℕ) → r < notes.old.frame.height →
+        IsNotedAcross (span_of piece.now) notes.old.frame notes.new.across.items r }
     ensures across { AreKept notes.old.across.items notes.new.across.items }
     ensures up { AreKept notes.old.up.items notes.new.up.items }
     ensures only { (ss : List Span) → IsAmong (span_of piece.now) ss →
         AreMetBySome notes.old.frame notes.old.across.items notes.old.up.items ss →
         AreMetBySome notes.old.frame notes.new.across.items notes.new.up.items ss }
-    ensures count { tally.new.count ≤ tally.old.count + 45 * (notes.old.frame.height + notes.old.frame.width) }
+    ensures count { tally.new.count ≤ tally.old.count + 55 * notes.old.frame.height }
 {
     let frame = notes.frame;
-    let row = 32 * words_for(frame.width);
+    let row = 32 * words_noted(frame.width);
     note_lines(piece, frame, row, 1, &mut notes.across, tally);
+}
+
+/// Notes the segments that a piece meets up to rows, as those across rows of the piece with its coordinates exchanged.
+#[inline(never)]
+pub(crate) fn note_all_up(piece: &Piece, notes: &mut Notes, tally: &mut Tally)
+    requires margin { HasMargin notes.old.frame }
+    ensures frame { notes.new.frame ≡ notes.old.frame }
+    ensures noted { (r : ℕ) → r ≤ notes.old.frame.height →
+        IsNotedUp (span_of piece.now) notes.old.frame notes.new.up.items r }
+    ensures across { AreKept notes.old.across.items notes.new.across.items }
+    ensures up { AreKept notes.old.up.items notes.new.up.items }
+    ensures only { (ss : List Span) → IsAmong (span_of piece.now) ss →
+        AreMetBySome notes.old.frame notes.old.across.items notes.old.up.items ss →
+        AreMetBySome notes.old.frame notes.new.across.items notes.new.up.items ss }
+    ensures count { tally.new.count ≤ tally.old.count + 55 * notes.old.frame.width }
+{
+    let frame = notes.frame;
+    let row = 32 * words_noted(frame.width);
     note_lines(
         &piece.turned(),
         frame.turned(),

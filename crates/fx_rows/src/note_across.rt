@@ -5,8 +5,8 @@
 
 ghost use Rattle.std.specs.Prelude.{◌≡◌, ℕ, ◌+◌, ◌-◌, ◌*◌, ◌^◌, ◌<◌, ◌≤◌, length, IsTrue, pos, ◌+ℤ◌, ◌<ℤ◌, ◌≤ℤ◌};
 ghost use Rattle.fx_fixed.specs.Ranges.{IsWithin};
-ghost use Rattle.fx_winding.specs.Bitmaps.{words_for as words_for_of, word_bit};
-ghost use Rattle.fx_winding.specs.Notes.{IsMetAcross};
+ghost use Rattle.fx_winding.specs.Bitmaps.{word_bit};
+ghost use Rattle.fx_winding.specs.Notes.{words_noted};
 ghost use Rattle.fx_winding.specs.Winding.{Span, span_of};
 ghost use Rattle.fx_rows.specs.inner.Bands.{bounded_span};
 ghost use Rattle.fx_rows.specs.inner.Heights.{height_of};
@@ -41,11 +41,12 @@ pub(crate) fn column_from(frame: Frame, x: i32) -> u32
 /// Notes the segments to the columns where a piece's columns end, in rows between its ends.
 #[inline(always)]
 fn note_ends(piece: &Piece, placed: Placed, rows: RowRange, ends: &[u32], across: &mut [u32])
+    requires placed { IsPlaced (span_of piece.now) placed }
     requires rows { rows.end ≤ placed.frame.height }
     requires inner { (r : ℕ) → rows.first ≤ r → r < rows.end →
         IsInner (span_of piece.now).a.y (span_of piece.now).c.y (height_of placed.frame r) }
     requires told { AreRowsTold (IsEndIn ends.now) (span_of piece.now) placed.frame 0 placed.frame.height }
-    requires room { placed.below + placed.frame.height * words_for_of placed.frame.width < length across.old }
+    requires room { placed.below + placed.frame.height * words_noted placed.frame.width ≤ length across.old }
     ensures set { (r n : ℕ) → rows.first ≤ r → r < rows.end → IsEndIn ends.now r n →
         word_bit across.new (segment_number placed.frame placed.below r n) ≡ 1 }
     ensures kept { AreKept across.old across.new }
@@ -66,12 +67,12 @@ fn note_rows(
     tally: &mut Tally,
 )
     requires rows { rows.end ≤ placed.frame.height }
-    requires room { placed.below + placed.frame.height * words_for_of placed.frame.width < length across.old }
+    requires room { placed.below + placed.frame.height * words_noted placed.frame.width ≤ length across.old }
     ensures noted { (r : ℕ) → rows.first ≤ r → r < rows.end →
         AreSetAcross (bounded_span bounded.now) placed.frame placed.below across.new r }
     ensures kept { AreKept across.old across.new }
     ensures only { AreOnly (IsBandBit (bounded_span bounded.now) placed.frame placed.below) across.old across.new }
-    ensures count { tally.new.count ≤ tally.old.count + 45 * (rows.end - rows.first) }
+    ensures count { tally.new.count ≤ tally.old.count + 55 * (rows.end - rows.first) }
 {
     let mut near = None;
     // The segments of the rows before `up` are noted.
@@ -98,14 +99,14 @@ fn note_others(
 )
     requires first { placed.met.touched.first ≤ ended.first }
     requires end { ended.end ≤ placed.met.touched.end }
-    requires room { placed.below + placed.frame.height * words_for_of placed.frame.width < length across.old }
+    requires room { placed.below + placed.frame.height * words_noted placed.frame.width ≤ length across.old }
     ensures below { (r : ℕ) → placed.met.touched.first ≤ r → r < ended.first →
         AreSetAcross (span_of piece.now) placed.frame placed.below across.new r }
     ensures above { (r : ℕ) → ended.end ≤ r → r < placed.met.touched.end →
         AreSetAcross (span_of piece.now) placed.frame placed.below across.new r }
     ensures kept { AreKept across.old across.new }
     ensures only { AreOnly (IsBandBit (span_of piece.now) placed.frame placed.below) across.old across.new }
-    ensures count { tally.new.count ≤ tally.old.count + 45 * placed.frame.height }
+    ensures count { tally.new.count ≤ tally.old.count + 55 * placed.frame.height }
 {
     let touched = placed.met.touched;
     let bounded = bounds_of(piece, rise_of(piece));
@@ -132,11 +133,11 @@ pub(crate) fn note_across(
 )
     requires placed { IsPlaced (span_of piece.now) placed }
     requires told { AreRowsTold (IsEndIn ends.now) (span_of piece.now) placed.frame 0 placed.frame.height }
-    requires room { placed.below + placed.frame.height * words_for_of placed.frame.width < length across.old }
+    requires room { placed.below + placed.frame.height * words_noted placed.frame.width ≤ length across.old }
     ensures noted { (r : ℕ) → r < placed.frame.height → AreSetAcross (span_of piece.now) placed.frame placed.below across.new r }
     ensures kept { AreKept across.old across.new }
     ensures only { AreOnly (IsBandBit (span_of piece.now) placed.frame placed.below) across.old across.new }
-    ensures count { tally.new.count ≤ tally.old.count + 45 * placed.frame.height }
+    ensures count { tally.new.count ≤ tally.old.count + 55 * placed.frame.height }
 {
     let touched = placed.met.touched;
     let ended = placed.met.inner;

@@ -6,8 +6,8 @@
 ghost use Rattle.std.specs.Prelude.{◌≡◌, ◌⊎◌, ℕ, ℤ, ◌+◌, ◌-◌, ◌*◌, ◌^◌, ◌<◌, ◌≤◌, length, pos, ◌+ℤ◌, ◌-ℤ◌, ◌*ℤ◌, ◌<ℤ◌, ◌≤ℤ◌};
 ghost use Rattle.std.specs.Prelude.{IsTrue, min, max, false};
 ghost use Rattle.fx_fixed.specs.Ranges.{IsWithin};
-ghost use Rattle.fx_winding.specs.Bitmaps.{words_for as words_for_of};
 ghost use Rattle.fx_winding.specs.Limits.{IsPixelNumber};
+ghost use Rattle.fx_winding.specs.Notes.{words_noted};
 ghost use Rattle.fx_winding.specs.Winding.{Span, span_of};
 ghost use Rattle.fx_rows.specs.inner.Bulging.{IsBulge, IsOnLine};
 ghost use Rattle.fx_rows.specs.inner.Heights.{IsAtLeastEnds, IsAtMostEnds, IsOneOver, IsOneUnder};
@@ -18,13 +18,13 @@ ghost use Rattle.fx_rows.specs.inner.Segments.{AreSetUp, IsUpBit};
 ghost use Rattle.fx_rows.specs.inner.Telling.{AreRowsTold};
 ghost use Rattle.fx_rows.specs.inner.Told.{AreKept, IsEndIn};
 ghost use Rattle.fx_rows.specs.inner.Upward.{AreAllMet, AreAt, AreAtFoot, AreAtHead, AreMetWithin, ComesFrom};
-ghost use Rattle.fx_rows.specs.inner.Upward.{IsEdge, IsLevel, IsPassing};
+ghost use Rattle.fx_rows.specs.inner.Upward.{IsLevel, IsPassing};
 
 use crate::bounded::{bounds_of, foot_x, head_x, rise_of};
 use crate::bulge::has_line;
 use crate::marks::set_bits;
 use crate::passing::end_in;
-use crate::placed::{Placed, first_of};
+use crate::placed::{Placed, first_of, row_above, row_below};
 use crate::reach::{Reach, columns_to};
 use fx_winding::{Frame, Piece, Tally, first_from};
 
@@ -33,10 +33,10 @@ use fx_winding::{Frame, Piece, Tally, first_from};
 fn note_columns(placed: Placed, row: u32, columns: Reach, up: &mut [u32])
     requires row { row ≤ placed.frame.height }
     requires columns { columns.end ≤ placed.frame.width }
-    requires room { placed.below + (placed.frame.height + 1) * words_for_of placed.frame.width ≤ length up.old }
+    requires room { placed.below + (placed.frame.height + 1) * words_noted placed.frame.width ≤ length up.old }
     ensures noted { (s : Span) → AreMetWithin s placed.frame row columns.first columns.end →
         AreSetUp s placed.frame placed.below up.new row }
-    ensures only { (s : Span) → (¬ (IsEdge placed row) → AreAllMet s placed.frame row columns.first columns.end) →
+    ensures only { (s : Span) → AreAllMet s placed.frame row columns.first columns.end →
         AreOnly (IsUpBit s placed) up.old up.new }
     ensures kept { AreKept up.old up.new }
 {
@@ -101,16 +101,16 @@ fn joined(a: Reach, b: Reach) -> Reach
     }
 }
 
-/// Where a piece passes the row below a band, which is between its ends. Few pieces need it, so its code is kept out of its caller.
+/// Where a piece passes a row, which is between its ends. Few pieces need it, so its code is kept out of its callers.
 #[inline(never)]
-fn columns_passed(piece: &Piece, frame: Frame, tally: &mut Tally) -> Reach
-    requires row { IsPixelNumber (frame.bottom -ℤ pos 1) }
-    requires inner { IsInner piece.now.a.y piece.now.c.y (pos 128 *ℤ (frame.bottom -ℤ pos 1) +ℤ pos 64) }
-    ensures passing { IsPassing (span_of piece.now) frame (frame.bottom -ℤ pos 1) result }
+fn columns_passed(piece: &Piece, frame: Frame, row: i32, tally: &mut Tally) -> Reach
+    requires row { IsPixelNumber row }
+    requires inner { IsInner piece.now.a.y piece.now.c.y (pos 128 *ℤ row +ℤ pos 64) }
+    ensures passing { IsPassing (span_of piece.now) frame row result }
     ensures count { tally.new.count ≤ tally.old.count + 2 }
 {
     let bounded = bounds_of(piece, rise_of(piece));
-    let end = end_in(&bounded, frame, frame.bottom - 1, tally);
+    let end = end_in(&bounded, frame, row, tally);
     Reach { first: end, end }
 }
 
@@ -159,7 +159,7 @@ fn starts_in(piece: &Piece, placed: Placed) -> bool
     if placed.met.inner.first > 0 {
         return true;
     }
-    is_over(piece, placed.frame.bottom - 1)
+    is_over(piece, row_below(placed))
 }
 
 /// Whether no end of a piece is above the centres of the row below a band.
@@ -172,7 +172,7 @@ fn lies_under(piece: &Piece, placed: Placed) -> bool
     if placed.met.inner.first > 0 {
         return false;
     }
-    is_under(piece, placed.frame.bottom - 1)
+    is_under(piece, row_below(placed))
 }
 
 /// Whether no end of a piece is above the centres of the row above those between its ends. If the band has that row, it is so.
@@ -187,7 +187,22 @@ fn ends_in(piece: &Piece, placed: Placed) -> bool
     if placed.met.inner.end < placed.frame.height {
         return true;
     }
-    is_under(piece, placed.frame.bottom + placed.met.inner.end as i32)
+    is_under(piece, row_above(placed))
+}
+
+/// Whether no end of a piece is below the centres of the row above a band, if no row of the band is above those between the ends.
+#[inline(always)]
+fn lies_over(piece: &Piece, placed: Placed) -> bool
+    requires { IsPlaced (span_of piece.now) placed }
+    ensures over { IsTrue result →
+        IsAtMostEnds (span_of piece.now) (pos 128 *ℤ (placed.frame.bottom +ℤ pos placed.met.inner.end) +ℤ pos 64) }
+    ensures below { result ≡ false → placed.met.inner.end ≡ placed.frame.height →
+        IsOneUnder (span_of piece.now) (pos 128 *ℤ (placed.frame.bottom +ℤ pos placed.met.inner.end) +ℤ pos 64) }
+{
+    if placed.met.inner.end < placed.frame.height {
+        return false;
+    }
+    is_over(piece, row_above(placed))
 }
 
 /// Whether both ends of a piece are on a line of centres, at one height.
@@ -203,7 +218,6 @@ fn is_on_line(piece: &Piece) -> bool
 }
 
 /// The columns from which a piece comes up to the lowest row of a band that is between its ends, or to the lowest one above it.
-/// Where it comes from below the frame they are those of its box.
 #[inline(always)]
 fn columns_below(piece: &Piece, placed: Placed, tally: &mut Tally) -> Reach
     requires placed { IsPlaced (span_of piece.now) placed }
@@ -217,28 +231,26 @@ fn columns_below(piece: &Piece, placed: Placed, tally: &mut Tally) -> Reach
     if starts_in(piece, placed) {
         return foot_columns(piece, placed);
     }
-    if placed.lowest {
-        return placed.reach;
-    }
-    columns_passed(piece, placed.frame, tally)
+    columns_passed(piece, placed.frame, row_below(placed), tally)
 }
 
-/// The columns to which a piece goes up to the row above those between its ends. Where it leaves the frame they are those of its
-/// box.
+/// The columns to which a piece goes up to the row above those between its ends.
 #[inline(always)]
-fn columns_above(piece: &Piece, placed: Placed) -> Reach
+fn columns_above(piece: &Piece, placed: Placed, tally: &mut Tally) -> Reach
     requires placed { IsPlaced (span_of piece.now) placed }
     requires plain { ¬ (IsBulge (span_of piece.now)) }
     requires off { ¬ (IsOnLine (span_of piece.now)) }
-    requires row { placed.met.inner.end ≡ placed.frame.height → IsTrue placed.highest }
+    requires under { placed.met.inner.end ≡ placed.frame.height →
+        IsOneUnder (span_of piece.now) (pos 128 *ℤ (placed.frame.bottom +ℤ pos placed.met.inner.end) +ℤ pos 64) }
     ensures columns { result.end ≤ placed.frame.width }
     ensures to { (low : Reach) → ComesFrom (span_of piece.now) placed placed.met.inner.end low →
         IsLevel (span_of piece.now) placed placed.met.inner.end (min low.first result.first) (max low.end result.end) }
+    ensures count { tally.new.count ≤ tally.old.count + 2 }
 {
     if ends_in(piece, placed) {
         return head_columns(piece, placed);
     }
-    placed.reach
+    columns_passed(piece, placed.frame, row_above(placed), tally)
 }
 
 /// Whether the segments up to the row above those between a piece's ends are those of the next band.
@@ -246,7 +258,6 @@ fn columns_above(piece: &Piece, placed: Placed) -> Reach
 fn leaves_band(placed: Placed) -> bool
     ensures leaves { IsTrue result → placed.met.inner.end ≡ placed.frame.height }
     ensures next { IsTrue result → placed.highest ≡ false }
-    ensures stays { result ≡ false → placed.met.inner.end ≡ placed.frame.height → IsTrue placed.highest }
 {
     if placed.met.inner.end < placed.frame.height {
         return false;
@@ -262,7 +273,7 @@ fn note_passage(piece: &Piece, placed: Placed, ends: &[u32], low: Reach, up: &mu
     requires plain { ¬ (IsBulge (span_of piece.now)) }
     requires off { ¬ (IsOnLine (span_of piece.now)) }
     requires told { AreRowsTold (IsEndIn ends.now) (span_of piece.now) placed.frame 0 placed.frame.height }
-    requires room { placed.below + (placed.frame.height + 1) * words_for_of placed.frame.width ≤ length up.old }
+    requires room { placed.below + (placed.frame.height + 1) * words_noted placed.frame.width ≤ length up.old }
     requires columns { low.end ≤ placed.frame.width }
     requires from { ComesFrom (span_of piece.now) placed placed.met.inner.first low }
     ensures columns { result.end ≤ placed.frame.width }
@@ -297,12 +308,12 @@ pub(crate) fn note_up(
     requires placed { IsPlaced (span_of piece.now) placed }
     requires plain { ¬ (IsBulge (span_of piece.now)) }
     requires told { AreRowsTold (IsEndIn ends.now) (span_of piece.now) placed.frame 0 placed.frame.height }
-    requires room { placed.below + (placed.frame.height + 1) * words_for_of placed.frame.width ≤ length up.old }
+    requires room { placed.below + (placed.frame.height + 1) * words_noted placed.frame.width ≤ length up.old }
     ensures noted { (r : ℕ) → r < placed.frame.height → AreSetUp (span_of piece.now) placed.frame placed.below up.new r }
     ensures top { IsTrue placed.highest → AreSetUp (span_of piece.now) placed.frame placed.below up.new placed.frame.height }
     ensures only { AreOnly (IsUpBit (span_of piece.now) placed) up.old up.new }
     ensures kept { AreKept up.old up.new }
-    ensures count { tally.new.count ≤ tally.old.count + 2 }
+    ensures count { tally.new.count ≤ tally.old.count + 4 }
 {
     if placed.reach.end <= placed.reach.first {
         return;
@@ -318,6 +329,9 @@ pub(crate) fn note_up(
     if leaves_band(placed) {
         return;
     }
-    let high = columns_above(piece, placed);
+    if lies_over(piece, placed) {
+        return;
+    }
+    let high = columns_above(piece, placed, tally);
     note_columns(placed, placed.met.inner.end, joined(low, high), up);
 }

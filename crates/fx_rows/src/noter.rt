@@ -1,7 +1,8 @@
 //! What pieces meet, noted while they are added to bands.
 
 ghost use Rattle.std.specs.Prelude.{◌≡◌, ◌≢◌, ℕ, ◌+◌, ◌*◌, ◌<◌, ◌≤◌, length, IfOk, IsTrue, List};
-ghost use Rattle.fx_winding.specs.Bitmaps.{words_for as words_for_of};
+ghost use Rattle.fx_winding.specs.Frames.{HasMargin};
+ghost use Rattle.fx_winding.specs.Notes.{words_noted as words_noted_of};
 ghost use Rattle.fx_winding.specs.Winding.{Span, span_of};
 ghost use Rattle.fx_winding.specs.declared.frame.Frame.{Frame};
 ghost use Rattle.fx_rows.specs.inner.Placing.{AreColumns, AreMet, IsApart, IsPlaced};
@@ -11,24 +12,25 @@ ghost use Rattle.fx_rows.specs.inner.Told.{IsEndIn};
 use crate::across::Across;
 use crate::apart::columns_of;
 use crate::band::MOST_ROWS;
+use crate::bulge::is_bulge;
 use crate::heights::{Met, RowRange, band_of};
 use crate::note_across::note_across;
 use crate::note_up::note_up;
 use crate::noting::Noting;
 use crate::placed::Placed;
 use crate::reach::reach_of;
-use fx_winding::{Frame, Notes, Piece, Scratch, Tally, words_for};
+use fx_winding::{Frame, Notes, Piece, Scratch, Tally, words_noted};
 use std::alloc::{AllocError, Global};
 
-/// The segments noted so far, but for those of pieces that are noted apart, and whether there are such pieces; and of the piece
-/// that is being added to a band, the ends of its rows, from the band's lowest.
+/// The segments noted so far, but for those that are noted apart, and whether there are such; and of the piece that is being added
+/// to a band, the ends of its rows, from the band's lowest.
 #[derive(Drop)]
 pub(crate) struct Noter {
     pub notes: Notes,
     pub apart: bool,
     ends: [u32; MOST_ROWS as usize],
     ghost many: { length ends ≡ 128 },
-    ghost exact: { IsTrue notes.exact },
+    ghost margin: { HasMargin notes.frame },
 }
 
 /// Notes of a frame's segments in which nothing is noted, in the buffers of a scratch.
@@ -38,11 +40,9 @@ pub(crate) fn no_notes(
     scratch: &mut Scratch,
 ) -> Result<Notes, AllocError>
     ensures frame { IfOk result (λ n. n.frame ≡ frame) }
-    ensures exact { IfOk result (λ n. IsTrue n.exact) }
     ensures none { (ss : List Span) → IfOk result (λ n. AreMetBySome n.frame n.across.items n.up.items ss) }
 {
-    let mut notes = Notes::none(alloc, frame, scratch)?;
-    notes.exact = true;
+    let notes = Notes::none(alloc, frame, scratch)?;
     Ok(notes)
 }
 
@@ -50,7 +50,7 @@ impl Noter {
     /// Nothing is noted but what these notes have. They are made before, since a noter in a result would be copied out of it.
     #[inline(always)]
     pub(crate) fn of(notes: Notes) -> Noter
-        requires { IsTrue notes.exact }
+        requires { HasMargin notes.frame }
         ensures { result.notes ≡ notes }
     {
         Noter {
@@ -65,33 +65,32 @@ impl Noter {
 #[inline(always)]
 fn placed_in(piece: &Piece, across: Across, frame: Frame, rows: RowRange, met: Met) -> Placed
     requires rows { rows.end ≤ frame.height }
+    requires margin { HasMargin frame }
     requires columns { AreColumns frame (span_of piece.now) across }
     requires met { (g : Frame) → IsPartOf frame rows.first rows.end g → AreMet (span_of piece.now) g met }
     ensures part { IsPartOf frame rows.first rows.end result.frame }
-    ensures below { result.below ≡ rows.first * words_for_of frame.width }
+    ensures below { result.below ≡ rows.first * words_noted_of frame.width }
     ensures placed { IsPlaced (span_of piece.now) result }
-    ensures lowest { IsTrue result.lowest → rows.first ≡ 0 }
     ensures highest { IsTrue result.highest → rows.end ≡ frame.height }
     ensures top { rows.end ≡ frame.height → IsTrue result.highest }
 {
     let band = band_of(frame, rows);
     Placed {
         frame: band,
-        below: rows.first as usize * words_for(frame.width),
+        below: rows.first as usize * words_noted(frame.width),
         met,
         across,
         reach: reach_of(across, band),
-        lowest: rows.first == 0,
         highest: rows.end == frame.height,
     }
 }
 
 impl Noting for Noter {
-    ghost tests = { 47 };
+    ghost tests = { 59 };
 
-    // Pieces that are noted apart, if there are any, are noted when all bands are done.
+    // What is noted apart, if there is any, is noted when all bands are done.
     ghost Says = { λ n x.
-        BitsSay (λ s. IsApart n.notes.frame s × IsTrue n.apart) n.notes.frame n.notes.across.items n.notes.up.items x };
+        BitsSay (λ s w. IsApart n.notes.frame s w × IsTrue n.apart) n.notes.frame n.notes.across.items n.notes.up.items x };
 
     ghost IsTold = { λ n up end. IsEndIn n.ends up end };
 
@@ -106,8 +105,13 @@ impl Noting for Noter {
             self.apart = true;
             return;
         };
+        let bulging = is_bulge(piece);
         let placed = placed_in(piece, across, frame, rows, met);
         note_across(piece, placed, &self.ends, &mut self.notes.across, tally);
+        if bulging {
+            self.apart = true;
+            return;
+        }
         note_up(piece, placed, &self.ends, &mut self.notes.up, tally);
     }
 }

@@ -1,13 +1,14 @@
 //! Pieces in a band of rows, as those who note segments see them.
 
-ghost use Rattle.std.specs.Prelude.{◌≡◌, ◌+◌, ◌*◌, ◌^◌, ◌≤◌, pos, ◌-ℤ◌, false};
-ghost use Rattle.fx_winding.specs.Bitmaps.{words_for as words_for_of};
+ghost use Rattle.std.specs.Prelude.{◌≡◌, ◌+◌, ◌*◌, ◌^◌, ◌≤◌, pos, ◌+ℤ◌, ◌-ℤ◌};
+ghost use Rattle.fx_winding.specs.Frames.{HasMargin};
 ghost use Rattle.fx_winding.specs.Limits.{IsPixelNumber};
+ghost use Rattle.fx_winding.specs.Notes.{words_noted as words_noted_of};
 
 use crate::across::Across;
 use crate::heights::Met;
 use crate::reach::Reach;
-use fx_winding::{Frame, words_for};
+use fx_winding::{Frame, words_noted};
 
 /// A piece in a band, which is some rows of a frame.
 #[derive(Clone, Copy)]
@@ -22,15 +23,13 @@ pub(crate) struct Placed {
     pub across: Across,
     /// Those of them that the band has.
     pub reach: Reach,
-    /// Whether the band has the frame's lowest row.
-    pub lowest: bool,
-    /// Whether it has its highest.
+    /// Whether the band has the frame's highest row.
     pub highest: bool,
     ghost few: { below ≤ 2 ^ 22 },
     ghost rows: { met.touched.end ≤ frame.height },
     ghost order: { reach.first ≤ reach.end },
     ghost columns: { reach.end ≤ frame.width },
-    ghost row_below: { lowest ≡ false → IsPixelNumber (frame.bottom -ℤ pos 1) },
+    ghost margin: { HasMargin frame },
 }
 
 /// The same piece in memory of its own, for a call that few pieces reach. Given the piece itself, that call would make the compiler
@@ -45,7 +44,6 @@ pub(crate) fn copied(placed: Placed) -> Placed
         met: placed.met,
         across: placed.across,
         reach: placed.reach,
-        lowest: placed.lowest,
         highest: placed.highest,
     }
 }
@@ -54,8 +52,26 @@ pub(crate) fn copied(placed: Placed) -> Placed
 #[inline(always)]
 pub(crate) fn first_of(placed: Placed, up: u32) -> usize
     requires { up ≤ placed.frame.height }
-    ensures value { result ≡ 32 * placed.below + up * (32 * words_for_of placed.frame.width) }
+    ensures value { result ≡ 32 * placed.below + up * (32 * words_noted_of placed.frame.width) }
     ensures few { result ≤ 2 ^ 28 }
 {
-    32 * (placed.below + up as usize * words_for(placed.frame.width))
+    32 * (placed.below + up as usize * words_noted(placed.frame.width))
+}
+
+/// The row below a band.
+#[inline(always)]
+pub(crate) fn row_below(placed: Placed) -> i32
+    ensures value { result ≡ placed.frame.bottom -ℤ pos 1 }
+    ensures near { IsPixelNumber result }
+{
+    placed.frame.bottom - 1
+}
+
+/// The row above those between a piece's ends: of the band, or the one above it.
+#[inline(always)]
+pub(crate) fn row_above(placed: Placed) -> i32
+    ensures value { result ≡ placed.frame.bottom +ℤ pos placed.met.inner.end }
+    ensures near { IsPixelNumber result }
+{
+    placed.frame.bottom + placed.met.inner.end as i32
 }

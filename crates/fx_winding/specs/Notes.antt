@@ -1,15 +1,21 @@
--- The segments between neighbouring centres of a frame's rows and columns, noted as bits: those that drop-out control looks at.
--- More may be noted than pieces meet.
-use Rattle.std.specs.Prelude.{◌≡◌, ℕ, ◌+◌, ◌*◌, ◌≤◌, ◌<◌, pos, ◌+ℤ◌, ◌-ℤ◌, List, Any}
+-- The segments between neighbouring centres of a frame's rows and columns, those that lead out of it too, noted as bits: a segment
+-- is noted exactly when a piece meets it, unless an end of it is on a piece.
+use Rattle.std.specs.Prelude.{◌≡◌, ◌↔◌, ℕ, ◌+◌, ◌*◌, ◌/◌, ◌≤◌, ◌<◌, pos, ◌+ℤ◌, ◌-ℤ◌, List, Any, map}
 use Rattle.fx_winding.specs.declared.frame.Frame.{Frame}
-use Rattle.fx_winding.specs.Bitmaps.{words_for, word_bit}
+use Rattle.fx_winding.specs.Bitmaps.{word_bit}
 use Rattle.fx_winding.specs.Dropout.{turned_span}
 use Rattle.fx_winding.specs.Meets.{IsMet}
+use Rattle.fx_winding.specs.Area.{Place}
 use Rattle.fx_winding.specs.Winding.{Span, IsOn, centre}
 
--- the number of the pixel that is k right of a frame's left one and r above its lowest row; each row begins with a new word
+-- the number of words for the segments of a row of this width: one segment more than pixels
+abbrev pub words_noted : ℕ → ℕ
+words_noted width = width / 32 + 1
+
+-- the number of the segment to the pixel that is k right of a frame's left one and r above its lowest row; each row begins with a
+-- new word
 abbrev pub pixel_number : Frame → ℕ → ℕ → ℕ
-pixel_number f r k = r * (32 * words_for f.width) + k
+pixel_number f r k = r * (32 * words_noted f.width) + k
 
 -- a piece meets the segment between a pixel and its left neighbour, and neither end is on the piece; the pixel is k right of the
 -- frame's left one and r above its lowest row
@@ -39,12 +45,30 @@ pub record IsNoted (s : Span) (f : Frame) (rows columns : List ℕ) : Type 0 whe
   pub across : (r : ℕ) → r < f.height → IsNotedAcross s f rows r
   pub up : (r : ℕ) → r ≤ f.height → IsNotedUp s f columns r
 
--- the bits of a frame's segments, but for those at its edges, are of such as some piece meets, unless an end is on it
+-- a segment of a frame's rows is that to the pixel k right of the left one and r above the lowest row, and some piece meets it
+pub record IsMetOf (f : Frame) (ss : List Span) (r k : ℕ) : Type 0 where
+  pub row : r < f.height
+  pub column : k ≤ f.width
+  pub met : Any (IsMet (centre ((f.left -ℤ pos 1) +ℤ pos k) (f.bottom +ℤ pos r)) (centre (f.left +ℤ pos k) (f.bottom +ℤ pos r))) ss
+
+-- no piece has either of two places on it
+pub record AreOff (p q : Place) (ss : List Span) : Type 0 where
+  pub off_from : ¬ (Any (IsOn p) ss)
+  pub off_to : ¬ (Any (IsOn q) ss)
+
+-- a segment of a frame, neither of whose ends is on a piece, is noted exactly when a piece meets it: those across rows, and those
+-- up columns; and no other bits are set
 pub record AreExact (f : Frame) (rows columns : List ℕ) (ss : List Span) : Type 0 where
-  pub across : (r k : ℕ) → r < f.height → 0 < k → k < f.width → word_bit rows (pixel_number f r k) ≡ 1
-      → Any (λ s. ¬ (IsOn (centre ((f.left -ℤ pos 1) +ℤ pos k) (f.bottom +ℤ pos r)) s)
-      → ¬ (IsOn (centre (f.left +ℤ pos k) (f.bottom +ℤ pos r)) s)
-      → IsMet (centre ((f.left -ℤ pos 1) +ℤ pos k) (f.bottom +ℤ pos r)) (centre (f.left +ℤ pos k) (f.bottom +ℤ pos r)) s) ss
-  pub up : (r k : ℕ) → 0 < r → r < f.height → k < f.width → word_bit columns (pixel_number f r k) ≡ 1
-      → Any (λ s. ¬ (IsOn (centre (f.left +ℤ pos k) ((f.bottom -ℤ pos 1) +ℤ pos r)) s)
-      → ¬ (IsOn (centre (f.left +ℤ pos k) (f.bottom +ℤ pos r)) s) → IsMetUp s f r k) ss
+  pub across : (r k : ℕ) → r < f.height → k ≤ f.width
+      → AreOff (centre ((f.left -ℤ pos 1) +ℤ pos k) (f.bottom +ℤ pos r)) (centre (f.left +ℤ pos k) (f.bottom +ℤ pos r)) ss
+      → (word_bit rows (pixel_number f r k) ≡ 1)
+      ↔ Any (IsMet (centre ((f.left -ℤ pos 1) +ℤ pos k) (f.bottom +ℤ pos r)) (centre (f.left +ℤ pos k) (f.bottom +ℤ pos r))) ss
+  pub up : (r k : ℕ) → 0 < f.height → r ≤ f.height → k < f.width
+      → AreOff (centre (f.left +ℤ pos k) ((f.bottom -ℤ pos 1) +ℤ pos r)) (centre (f.left +ℤ pos k) (f.bottom +ℤ pos r)) ss
+      → (word_bit columns (pixel_number f r k) ≡ 1)
+      ↔ Any (IsMet (centre ((f.bottom -ℤ pos 1) +ℤ pos r) (f.left +ℤ pos k)) (centre (f.bottom +ℤ pos r) (f.left +ℤ pos k)))
+      (map turned_span ss)
+  pub rest_across : (r k : ℕ) → r < f.height → f.width < k → k < 32 * words_noted f.width
+      → word_bit rows (pixel_number f r k) ≡ 0
+  pub rest_up : (r k : ℕ) → r ≤ f.height → f.width ≤ k → k < 32 * words_noted f.width
+      → word_bit columns (pixel_number f r k) ≡ 0

@@ -1,11 +1,13 @@
 //! Columns seen as rows: points, pieces and frames with their coordinates exchanged.
 
-ghost use Rattle.std.specs.Prelude.{◌≡◌, option_map};
+ghost use Rattle.std.specs.Prelude.{◌≡◌, option_map, map, IfOk};
 ghost use Rattle.fx_winding.specs.Dropout.{turned_place, turned_span};
 ghost use Rattle.fx_winding.specs.Winding.{place_of, maybe_place_of, span_of};
 
 use crate::frame::Frame;
+use crate::pieces::Pieces;
 use crate::point::{Piece, Point};
+use std::alloc::{AllocError, Global};
 
 impl Point {
     /// The point with its coordinates exchanged.
@@ -39,6 +41,20 @@ impl Piece {
             b: turned_control(self.b),
             c: self.c.turned(),
         }
+    }
+}
+
+impl Pieces {
+    /// The pieces with their coordinates exchanged.
+    pub fn turned(&self, alloc: Global) -> Result<Pieces, AllocError>
+        ensures { IfOk result (λ ps. map span_of ps ≡ map turned_span (map span_of self.now)) }
+    {
+        let mut turned = Pieces::new(alloc);
+        // The list has the pieces before this one.
+        'pieces: for piece in self.as_slice() {
+            turned.push(piece.turned())?;
+        }
+        Ok(turned)
     }
 }
 

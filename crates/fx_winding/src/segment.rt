@@ -1,6 +1,6 @@
 //! Whether a piece meets the segment between two places of a row.
 
-ghost use Rattle.std.specs.Prelude.{◌≡◌, ◌↔◌, ◌+◌, ◌≤◌, IsTrue};
+ghost use Rattle.std.specs.Prelude.{◌≡◌, ◌↔◌, ◌+◌, ◌≤◌, IsTrue, Any, map};
 ghost use Rattle.fx_winding.specs.Winding.{place_of, maybe_place_of, span_of};
 ghost use Rattle.fx_winding.specs.Meets.{IsWithinRow, IsTipPart, IsMet};
 
@@ -50,4 +50,17 @@ pub fn meets(piece: &Piece, p: Point, q: Point, tally: &mut Tally) -> bool
         return true;
     }
     has_tip(piece, p, q, tally)
+}
+
+/// Whether some piece meets the segment between two places of a row.
+pub fn any_meets(pieces: &[Piece], p: Point, q: Point, tally: &mut Tally) -> bool
+    ensures { IsTrue result ↔ Any (IsMet (place_of p) (place_of q)) (map span_of pieces.now) }
+{
+    // None of the pieces before this one meets it.
+    'pieces: for piece in pieces {
+        if meets(piece, p, q, tally) {
+            return true;
+        }
+    }
+    false
 }

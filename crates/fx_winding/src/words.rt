@@ -3,6 +3,7 @@
 ghost use Rattle.std.specs.Prelude.{◌≡◌, ◌≢◌, ◌↔◌, IsTrue, IfOk, ℕ, ◌/◌, ◌<◌, ◌≤◌, length, replicate};
 ghost use Rattle.fx_winding.specs.Limits.{greatest_side};
 ghost use Rattle.fx_winding.specs.Bitmaps.{words_for as words_for_of, word_bit};
+ghost use Rattle.fx_winding.specs.Notes.{words_noted as words_noted_of};
 
 use std::alloc::AllocError;
 
@@ -12,6 +13,13 @@ pub fn words_for(width: u32) -> usize
     ensures { result ≡ words_for_of width }
 {
     (width as usize + 31) / 32
+}
+
+/// The number of words that hold the segments of a row of this width, one more than pixels.
+pub fn words_noted(width: u32) -> usize
+    ensures { result ≡ words_noted_of width }
+{
+    width as usize / 32 + 1
 }
 
 /// Whether the bit of a pixel of a row is set.
@@ -29,6 +37,18 @@ pub fn set_bit(words: &mut [u32], i: usize)
     ensures others { (j : ℕ) → j ≢ i → word_bit words.new j ≡ word_bit words.old j }
 {
     words[i / 32] |= 1 << (31 - i % 32);
+}
+
+/// Sets the bit with this number, which is 0 so far, if `on`.
+pub fn put_bit(words: &mut [u32], i: usize, on: bool)
+    requires place { i / 32 < length words.old }
+    requires clear { word_bit words.old i ≡ 0 }
+    ensures here { (word_bit words.new i ≡ 1) ↔ IsTrue on }
+    ensures others { (j : ℕ) → j ≢ i → word_bit words.new j ≡ word_bit words.old j }
+{
+    if on {
+        set_bit(words, i);
+    }
 }
 
 /// `count` words that are all the same, in the buffer of other words, which are lost. Memory is asked for only if the buffer is too

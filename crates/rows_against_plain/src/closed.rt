@@ -1,14 +1,14 @@
 //! Drop-out control pixel by pixel, as it is defined: whether a pixel is covered, and if not, whether it closes a gap.
 
-ghost use Rattle.std.specs.Prelude.{◌≡◌, ◌↔◌, IsTrue, IfOk, ℤ, pos, ◌+ℤ◌, ◌-ℤ◌, Any, map};
-ghost use Rattle.fx_winding.specs.Dropout.{turned_span, IsGap, IsRowSet, IsSet};
+ghost use Rattle.std.specs.Prelude.{◌≡◌, ◌↔◌, IsTrue, pos, ◌+ℤ◌, ◌-ℤ◌, map};
+ghost use Rattle.fx_dropout.specs.declared.chooser.Closing.TheVariants.{Lower};
+ghost use Rattle.fx_dropout.specs.Dropout.{IsGap, IsRowSet, IsSet};
+ghost use Rattle.fx_winding.specs.Dropout.{turned_span};
 ghost use Rattle.fx_winding.specs.Frames.{IsInFrame, HasMargin};
 ghost use Rattle.fx_winding.specs.Limits.{IsPixelNumber};
-ghost use Rattle.fx_winding.specs.Meets.{IsMet};
 ghost use Rattle.fx_winding.specs.Winding.{place_of, span_of, centre as centre_of, IsCovered};
 
-use fx_winding::{Bitmap, Frame, Piece, Pieces, Point, Tally, covered, meets};
-use std::alloc::{AllocError, Global};
+use fx_winding::{Bitmap, Frame, Pieces, Point, Tally, any_meets, covered};
 
 /// A pixel, by its column and its row.
 #[derive(Clone, Copy)]
@@ -79,31 +79,6 @@ impl Pixel {
     }
 }
 
-/// The pieces with their coordinates exchanged.
-pub(crate) fn turned(alloc: Global, pieces: &Pieces) -> Result<Pieces, AllocError>
-    ensures { IfOk result (λ ps. map span_of ps ≡ map turned_span (map span_of pieces.now)) }
-{
-    let mut turned = Pieces::new(alloc);
-    // The list has the pieces before this one.
-    'pieces: for piece in pieces.as_slice() {
-        turned.push(piece.turned())?;
-    }
-    Ok(turned)
-}
-
-/// Whether a piece meets the segment from one place of a row to another.
-fn any_meets(pieces: &[Piece], p: Point, q: Point, tally: &mut Tally) -> bool
-    ensures { IsTrue result ↔ Any (IsMet (place_of p) (place_of q)) (map span_of pieces.now) }
-{
-    // None of the pieces before this one meets it.
-    'pieces: for piece in pieces {
-        if meets(piece, p, q, tally) {
-            return true;
-        }
-    }
-    false
-}
-
 /// The pieces of an outline, the same with their coordinates exchanged, and a frame.
 #[derive(Drop)]
 pub(crate) struct Drawing<'a> {
@@ -163,7 +138,7 @@ impl<'a> Drawing<'a> {
 
     /// Whether a pixel is set by its row.
     fn is_row_set(&self, pixel: Pixel, tally: &mut Tally) -> bool
-        ensures { IsTrue result ↔ IsRowSet (map span_of self.now.pieces.now) self.now.frame pixel.col pixel.row }
+        ensures { IsTrue result ↔ IsRowSet Lower (map span_of self.now.pieces.now) self.now.frame pixel.col pixel.row }
     {
         if self.is_covered(pixel, tally) {
             return true;
@@ -185,7 +160,7 @@ impl<'a> Drawing<'a> {
     fn is_column_gap(&self, pixel: Pixel, tally: &mut Tally) -> bool
         requires { IsPixelNumber (pixel.row +ℤ pos 1) }
         ensures { IsTrue result ↔ IsGap (map turned_span (map span_of self.now.pieces.now))
-            (λ j i. IsRowSet (map span_of self.now.pieces.now) self.now.frame i j) pixel.row pixel.col }
+            (λ j i. IsRowSet Lower (map span_of self.now.pieces.now) self.now.frame i j) pixel.row pixel.col }
     {
         let next = pixel.above();
         let here = pixel.centre().turned();
@@ -203,7 +178,7 @@ impl<'a> Drawing<'a> {
 
     /// Whether a pixel is set.
     pub(crate) fn is_set(&self, pixel: Pixel, tally: &mut Tally) -> bool
-        ensures { IsTrue result ↔ IsSet (map span_of self.now.pieces.now) self.now.frame pixel.col pixel.row }
+        ensures { IsTrue result ↔ IsSet Lower (map span_of self.now.pieces.now) self.now.frame pixel.col pixel.row }
     {
         if self.is_row_set(pixel, tally) {
             return true;

@@ -10,24 +10,19 @@
 //! differ with their gaps closed.
 #![tactic(auto)]
 
-ghost use Rattle.std.specs.Prelude.{IsTrue};
-ghost use Rattle.fx_winding.specs.Frames.{HasMargin};
-
 mod closed;
 mod random;
 
-use crate::closed::{Drawing, turned};
+use crate::closed::Drawing;
 use crate::random::Random;
 use anyhow::{Result, bail};
-use fx_contour::{frame, pieces};
-use fx_dropout::{Drawn, close_gaps};
+use fx_contour::{frame, pieces, pieces_dropout_frame};
+use fx_dropout::{Closing, close_gaps};
 use fx_fixed::Ppem;
 use fx_hint::outline;
 use fx_rows::Rows;
 use fx_sfnt::{Font, FontFile};
-use fx_winding::{
-    Bitmap, Frame, MAX_PIXEL, Noted, Piece, Pieces, Plain, Scan, Scratch, Tally, halves,
-};
+use fx_winding::{Bitmap, Frame, Noted, Piece, Pieces, Plain, Scan, Scratch, Tally, halves};
 use std::alloc::Global;
 use std::env;
 use std::io::Read;
@@ -118,44 +113,27 @@ fn halved(alloc: Global, pieces: &Pieces) -> Result<Pieces> {
     Ok(halved)
 }
 
-/// Whether the columns and rows beside a frame have numbers too.
-fn has_margin(frame: Frame) -> bool
-    ensures { IsTrue result → HasMargin frame }
-{
-    if frame.left < -MAX_PIXEL {
-        return false;
-    }
-    if frame.bottom < -MAX_PIXEL {
-        return false;
-    }
-    if frame.left + frame.width as i32 > MAX_PIXEL {
-        return false;
-    }
-    frame.bottom + frame.height as i32 <= MAX_PIXEL
-}
-
-/// Whether the gaps of an outline are closed where they are noted just as drop-out control is defined.
-fn closes_the_same(alloc: Global, pieces: &Pieces, frame: Frame) -> Result<bool> {
-    if !has_margin(frame) {
+/// Whether the gaps of an outline are closed where they are noted just as drop-out control is defined, in its own frame.
+fn closes_the_same(alloc: Global, pieces: &Pieces) -> Result<bool> {
+    let Some(frame) = pieces_dropout_frame(pieces)? else {
         return Ok(true);
-    }
+    };
     let mut tally = Tally::new();
     let mut scratch = Scratch::new(alloc);
-    let Noted { mut bitmap, notes } = Rows.scan_noted(
+    let Noted { bitmap, mut notes } = Rows.scan_noted(
         alloc,
         pieces,
         frame,
         &mut scratch,
         &mut tally,
     )?;
-    let drawn = Drawn::anywhere(pieces);
-    close_gaps(&drawn, &notes, &mut bitmap, &mut tally);
+    let closed = close_gaps(pieces, &mut notes, bitmap, Closing::Lower, &mut tally);
     let drawing = Drawing {
         pieces,
-        turned: &turned(alloc, pieces)?,
+        turned: &pieces.turned(alloc)?,
         frame,
     };
-    Ok(drawing.is_drawn_in(&bitmap, &mut tally))
+    Ok(drawing.is_drawn_in(&closed, &mut tally))
 }
 
 /// What the scan by rows of an outline sets the same.
@@ -167,7 +145,7 @@ fn compare(alloc: Global, pieces: &Pieces, frame: Frame) -> Result<Agreement> {
     Ok(Agreement {
         with_pixels: are_same(&by_rows, &by_pixels, frame),
         with_halves: are_same(&by_rows, &with_halves, frame),
-        closed: closes_the_same(alloc, pieces, frame)?,
+        closed: closes_the_same(alloc, pieces)?,
     })
 }
 

@@ -1,5 +1,5 @@
 //! Drop-out control: the segments that pieces meet, and the gaps that are closed, by hand.
-use fx_dropout::{Drawn, close_gaps, close_gaps_nearer};
+use fx_dropout::{Closing, close_gaps};
 use fx_winding::{Bitmap, Frame, Noted, Piece, Pieces, Plain, Point, Scan, Scratch, Tally, meets};
 use std::alloc::{AllocError, Global};
 use std::process::Abort;
@@ -85,17 +85,13 @@ fn pieces_of(alloc: Global, curves: &[Curve]) -> Result<Pieces, AllocError> {
 /// A box of pixels: its lower left pixel, by its distance from column and row -9, its width and its height.
 type Corner = (u8, u8, u8, u8);
 
-/// Which pixel closes a gap.
-#[derive(Clone, Copy)]
-enum By {
-    /// The left or the lower one.
-    Lower,
-    /// The nearer one.
-    Nearer,
-}
-
 /// A scan of an outline in a frame with its gaps closed.
-fn closed(alloc: Global, curves: &[Curve], frame: Corner, by: By) -> Result<Bitmap, Fail> {
+fn closed(
+    alloc: Global,
+    curves: &[Curve],
+    frame: Corner,
+    closing: Closing,
+) -> Result<Bitmap, Fail> {
     let pieces = pieces_of(alloc, curves)?;
     let frame = Frame {
         left: i32::from(frame.0) - 9,
@@ -105,19 +101,14 @@ fn closed(alloc: Global, curves: &[Curve], frame: Corner, by: By) -> Result<Bitm
     };
     let mut tally = Tally::new();
     let mut scratch = Scratch::new(alloc);
-    let Noted { mut bitmap, notes } = Plain.scan_noted(
+    let Noted { bitmap, mut notes } = Plain.scan_noted(
         alloc,
         &pieces,
         frame,
         &mut scratch,
         &mut tally,
     )?;
-    let drawn = Drawn::anywhere(&pieces);
-    match by {
-        By::Lower => close_gaps(&drawn, &notes, &mut bitmap, &mut tally),
-        By::Nearer => bitmap = close_gaps_nearer(alloc, &drawn, &notes, bitmap, &mut tally)?,
-    }
-    Ok(bitmap)
+    Ok(close_gaps(&pieces, &mut notes, bitmap, closing, &mut tally))
 }
 
 /// Whether the set pixels of a bitmap in the columns and rows from -1 to 3 are exactly these: the top row first.
@@ -187,13 +178,18 @@ fn gaps(rt: HostRuntime) -> Result<(), Fail> {
     let none = [b"....."; 5];
     let rows = [b".....", b".....", b".....", b".###.", b"....."];
     let columns = [b".....", b".#...", b".#...", b".#...", b"....."];
-    assert!(rt; looks(&closed(alloc, &BETWEEN_ROWS, ALL, By::Lower)?, &rows));
-    assert!(rt; looks(&closed(alloc, &BETWEEN_COLUMNS, ALL, By::Lower)?, &columns));
-    assert!(rt; looks(&closed(alloc, &DOT, ALL, By::Lower)?, &none));
-    assert!(rt; looks(&closed(alloc, &DOT_ON_ROW, ALL, By::Lower)?, &one));
-    assert!(rt; looks(&closed(alloc, &TOUCH, ALL, By::Lower)?, &one));
-    assert!(rt; looks(&closed(alloc, &TIP, ALL, By::Lower)?, &one));
-    assert!(rt; looks(&closed(alloc, &ROW_AND_COLUMN, ALL, By::Lower)?, &one));
+    assert!(rt; looks(&closed(alloc, &BETWEEN_ROWS, ALL, Closing::Lower)?, &rows));
+    assert!(rt;
+        looks(
+            &closed(alloc, &BETWEEN_COLUMNS, ALL, Closing::Lower)?,
+            &columns
+        )
+    );
+    assert!(rt; looks(&closed(alloc, &DOT, ALL, Closing::Lower)?, &none));
+    assert!(rt; looks(&closed(alloc, &DOT_ON_ROW, ALL, Closing::Lower)?, &one));
+    assert!(rt; looks(&closed(alloc, &TOUCH, ALL, Closing::Lower)?, &one));
+    assert!(rt; looks(&closed(alloc, &TIP, ALL, Closing::Lower)?, &one));
+    assert!(rt; looks(&closed(alloc, &ROW_AND_COLUMN, ALL, Closing::Lower)?, &one));
     Ok(())
 }
 
@@ -205,13 +201,13 @@ fn clamped(rt: HostRuntime) -> Result<(), Fail> {
     let upper = [b".....", b".....", b".###.", b".....", b"....."];
     assert!(rt;
         looks(
-            &closed(alloc, &BETWEEN_COLUMNS, (10, 8, 3, 5), By::Lower)?,
+            &closed(alloc, &BETWEEN_COLUMNS, (10, 8, 3, 5), Closing::Lower)?,
             &right
         )
     );
     assert!(rt;
         looks(
-            &closed(alloc, &BETWEEN_ROWS, (8, 10, 5, 3), By::Lower)?,
+            &closed(alloc, &BETWEEN_ROWS, (8, 10, 5, 3), Closing::Lower)?,
             &upper
         )
     );
@@ -255,7 +251,12 @@ fn nearer(rt: HostRuntime) -> Result<(), Fail> {
         (128, 130, &right),
         (190, 191, &right),
     ] {
-        assert!(rt; looks(&closed(alloc, &stem(from, to), ALL, By::Nearer)?, picture));
+        assert!(rt;
+            looks(
+                &closed(alloc, &stem(from, to), ALL, Closing::Nearer)?,
+                picture
+            )
+        );
     }
     for (from, to, picture) in [
         (100, 110, &lower),
@@ -263,7 +264,12 @@ fn nearer(rt: HostRuntime) -> Result<(), Fail> {
         (121, 136, &upper),
         (190, 191, &upper),
     ] {
-        assert!(rt; looks(&closed(alloc, &bar(from, to), ALL, By::Nearer)?, picture));
+        assert!(rt;
+            looks(
+                &closed(alloc, &bar(from, to), ALL, Closing::Nearer)?,
+                picture
+            )
+        );
     }
     Ok(())
 }
@@ -278,25 +284,25 @@ fn nearer_clamped(rt: HostRuntime) -> Result<(), Fail> {
     let upper = [b".....", b".....", b".###.", b".....", b"....."];
     assert!(rt;
         looks(
-            &closed(alloc, &stem(140, 150), (8, 8, 2, 5), By::Nearer)?,
+            &closed(alloc, &stem(140, 150), (8, 8, 2, 5), Closing::Nearer)?,
             &left
         )
     );
     assert!(rt;
         looks(
-            &closed(alloc, &stem(100, 110), (10, 8, 3, 5), By::Nearer)?,
+            &closed(alloc, &stem(100, 110), (10, 8, 3, 5), Closing::Nearer)?,
             &right
         )
     );
     assert!(rt;
         looks(
-            &closed(alloc, &bar(140, 150), (8, 8, 5, 2), By::Nearer)?,
+            &closed(alloc, &bar(140, 150), (8, 8, 5, 2), Closing::Nearer)?,
             &lower
         )
     );
     assert!(rt;
         looks(
-            &closed(alloc, &bar(100, 110), (8, 10, 5, 3), By::Nearer)?,
+            &closed(alloc, &bar(100, 110), (8, 10, 5, 3), Closing::Nearer)?,
             &upper
         )
     );
@@ -319,6 +325,11 @@ const TWO_STEMS: [Curve; 8] = [
 #[test]
 fn two_gaps(rt: HostRuntime) -> Result<(), Fail> {
     let both = [b".....", b"..##.", b"..##.", b"..##.", b"....."];
-    assert!(rt; looks(&closed(rt.alloc(), &TWO_STEMS, ALL, By::Nearer)?, &both));
+    assert!(rt;
+        looks(
+            &closed(rt.alloc(), &TWO_STEMS, ALL, Closing::Nearer)?,
+            &both
+        )
+    );
     Ok(())
 }

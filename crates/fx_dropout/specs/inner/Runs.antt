@@ -4,7 +4,7 @@ use Rattle.fx_fixed.specs.Ranges.{IsWithin}
 use Rattle.fx_winding.specs.Area.{Place, area, gap_of}
 use Rattle.fx_winding.specs.Meets.{turn}
 use Rattle.fx_winding.specs.Winding.{Span, IsOn, areas_of, winding}
-use Rattle.fx_dropout.specs.Nearer.{place_on}
+use Rattle.fx_dropout.specs.Dropout.{place_on}
 
 -- a piece is alike at two places: it has both on it or neither, and adds one number to their winding numbers
 pub record IsAlike (p q : Place) (s : Span) : Type 0 where

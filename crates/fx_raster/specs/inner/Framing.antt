@@ -3,16 +3,14 @@ use Rattle.std.specs.Prelude.{◌≡◌, ◌↔◌, IsTrue, ℕ, ℤ, pos, ◌+�
 use Rattle.fx_fixed.specs.Chain.{◌>>=◌}
 use Rattle.fx_winding.specs.Winding.{Span}
 use Rattle.fx_winding.specs.Bitmaps.{Bits, bit_of}
-use Rattle.fx_winding.specs.Dropout.{IsSet}
-use Rattle.fx_dropout.specs.Nearer.{IsNearSet}
+use Rattle.fx_dropout.specs.Dropout.{IsSet}
 use Rattle.fx_winding.specs.Frames.{IsInFrame}
 use Rattle.fx_winding.specs.declared.frame.Frame.{Frame}
 use Rattle.fx_outline.specs.declared.points.OutlinePoint.{OutlinePoint}
 use Rattle.fx_contour.specs.declared.fault.ContourFault.{ContourFault}
 use Rattle.fx_contour.specs.Contours.{drawn_of}
 use Rattle.fx_raster.specs.declared.region.Region.{Region}
-use Rattle.fx_raster.specs.declared.rule.Closing.{Closing}
-use Rattle.fx_raster.specs.declared.rule.Closing.TheVariants.{Lower, Nearer}
+use Rattle.fx_dropout.specs.declared.chooser.Closing.{Closing}
 use Rattle.fx_raster.specs.declared.rule.Rule.{Rule}
 use Rattle.fx_raster.specs.Rules.{IsPixelSet, framed_by}
 
@@ -20,15 +18,10 @@ use Rattle.fx_raster.specs.Rules.{IsPixelSet, framed_by}
 abbrev pub outline_framed_by : Rule → List ℕ → List OutlinePoint → Result (Unit {0}) ContourFault
 outline_framed_by rule ends points = drawn_of ends points >>= framed_by rule
 
--- drop-out control sets the pixel of a frame
-abbrev pub IsSetBy : Closing → List Span → Frame → ℤ → ℤ → Type 0
-IsSetBy Lower = IsSet
-IsSetBy Nearer = IsNearSet
-
 -- the bits are those of the frame, and each is set exactly when drop-out control sets the pixel
 pub record IsBridgedScanOf (closing : Closing) (f : Frame) (spans : List Span) (b : Bits) : Type 0 where
   pub same : b.frame ≡ f
-  pub bits : (col row : ℤ) → IsInFrame f col row → IsTrue (bit_of b col row) ↔ IsSetBy closing spans f col row
+  pub bits : (col row : ℤ) → IsInFrame f col row → IsTrue (bit_of b col row) ↔ IsSet closing spans f col row
 
 -- of all pixels of the plane exactly those have a set bit that are set
 pub record HasBitsOf (rule : Rule) (spans : List Span) (bits : Bits) : Type 0 where

@@ -3,7 +3,7 @@ use Rattle.std.specs.Prelude.{◌≡◌, ◌⊎◌, ℕ, ◌+◌, ◌*◌, ◌<�
 use Rattle.fx_winding.specs.Area.{Place}
 use Rattle.fx_winding.specs.Bitmaps.{word_bit}
 use Rattle.fx_winding.specs.Meets.{IsMet}
-use Rattle.fx_winding.specs.Notes.{IsMetUp}
+use Rattle.fx_winding.specs.Notes.{IsMetAcross, IsMetUp}
 use Rattle.fx_winding.specs.Winding.{Span, IsOn, centre}
 use Rattle.fx_winding.specs.declared.frame.Frame.{Frame}
 use Rattle.fx_rows.specs.declared.part.Run.{Run}
@@ -32,16 +32,20 @@ IsSetTo s f row first step bits k = IsMetTo s f row k → word_bit bits (first +
 abbrev pub IsRowSet : Span → Frame → ℤ → ℕ → ℕ → List ℕ → Type 0
 IsRowSet s f row first step bits = (k : ℕ) → k ≤ f.width → IsSetTo s f row first step bits k
 
--- all segments of a frame's rows; the bits of a row's begin as many after those of the row below as row_step says
-abbrev pub AreRowsSet : Span → Frame → ℕ → ℕ → List ℕ → Type 0
-AreRowsSet s f row_step step bits = (r : ℕ) → r < f.height → IsRowSet s f (f.bottom +ℤ pos r) (r * row_step) step bits
+-- those of a frame's row that have no end on the piece
+abbrev pub AreSetIn : Span → Frame → ℕ → ℕ → ℕ → List ℕ → Type 0
+AreSetIn s f r first step bits = (k : ℕ) → k ≤ f.width → IsMetAcross s f r k → word_bit bits (first + k * step) ≡ 1
 
--- n is the bit of a segment of a row; within the frame the piece meets the segment, unless an end of that is on it
+-- the same of all rows of a frame; the bits of a row's begin as many after those of the row below as row_step says
+abbrev pub AreRowsSet : Span → Frame → ℕ → ℕ → List ℕ → Type 0
+AreRowsSet s f row_step step bits = (r : ℕ) → r < f.height → AreSetIn s f r (r * row_step) step bits
+
+-- n is the bit of a segment of a row, which the piece meets, unless an end of that is on it
 pub record IsLineBit (s : Span) (f : Frame) (row : ℤ) (first step n : ℕ) : Type 0 where
   pub k : ℕ
   pub within : k ≤ f.width
   pub at : n ≡ first + k * step
-  pub met : 0 < k → k < f.width → ¬ (IsOn (left_at f row k) s) → ¬ (IsOn (right_at f row k) s) → IsMetTo s f row k
+  pub met : ¬ (IsOn (left_at f row k) s) → ¬ (IsOn (right_at f row k) s) → IsMetTo s f row k
 
 -- of the bits that are set only these were not set before
 abbrev pub AreOnly : (ℕ → Type 0) → List ℕ → List ℕ → Type 0

@@ -10,6 +10,7 @@ use Rattle.fx_rows.specs.declared.placed.Placed.{Placed}
 use Rattle.fx_rows.specs.inner.Bulging.{IsBulge}
 use Rattle.fx_rows.specs.inner.Heights.{height_of, IsAtMostEnds, IsAtLeastEnds}
 use Rattle.fx_rows.specs.inner.Points.{IsInner, AreAcross}
+use Rattle.fx_rows.specs.inner.Telling.{Way, across_row, up_to_row}
 
 -- of some rows of a frame these pass between the ends of a piece, and those before and after them do not
 pub record AreBetween (s : Span) (f : Frame) (rows part : RowRange) : Type 0 where
@@ -32,13 +33,14 @@ pub record AreMet (s : Span) (f : Frame) (m : Met) : Type 0 where
 abbrev pub IsBoxed : Frame → Span → Type 0
 IsBoxed f s = AreAcross s f.left (f.left +ℤ pos f.width)
 
--- a piece that is noted apart from the others: an arc that bulges, or a piece with a column that the frame lacks
-abbrev pub IsApart : Frame → Span → Type 0
-IsApart f s = IsBulge s ⊎ ¬ (IsBoxed f s)
+-- what a piece meets in a way is noted apart from the rest: if the frame lacks a column of its box, and up to rows also if it is an
+-- arc that bulges
+abbrev pub IsApart : Frame → Span → Way → Type 0
+IsApart f s across_row = ¬ (IsBoxed f s)
+IsApart f s up_to_row = IsBulge s ⊎ ¬ (IsBoxed f s)
 
--- the columns of the box of a piece that is not noted apart
+-- the columns of a piece's box, all of which a frame has
 pub record AreColumns (f : Frame) (s : Span) (a : Across) : Type 0 where
-  pub plain : ¬ (IsBulge s)
   pub across : AreAcross s a.first a.end
   pub low : f.left ≤ℤ a.first
   pub high : a.end ≤ℤ (f.left +ℤ pos f.width)

@@ -1,8 +1,8 @@
 -- What is told and noted of pieces while they are added to the rows of a band.
-use Rattle.std.specs.Prelude.{◌≡◌, ℕ, ◌+◌, ◌≤◌, ◌<◌, pos, ◌+ℤ◌, List, All, length, get_or}
+use Rattle.std.specs.Prelude.{◌≡◌, ℕ, ◌+◌, ◌*◌, ◌≤◌, ◌<◌, pos, ◌+ℤ◌, List, All, length, get_or}
 use Rattle.fx_winding.specs.declared.frame.Frame.{Frame}
 use Rattle.fx_winding.specs.Bitmaps.{word_bit}
-use Rattle.fx_winding.specs.Notes.{pixel_number, IsNotedAcross, IsNotedUp}
+use Rattle.fx_winding.specs.Notes.{pixel_number, words_noted, IsNotedAcross, IsNotedUp}
 use Rattle.fx_winding.specs.Winding.{Span, IsOn}
 use Rattle.fx_rows.specs.declared.band.Band.{Band}
 use Rattle.fx_rows.specs.inner.Bands.{IsBandAdded}
@@ -83,23 +83,29 @@ pub record IsMetUpByOne (ss : List Span) (f : Frame) (r k : ℕ) : Type 0 where
   pub among : IsAmong piece ss
   pub met : IsMetUnlessOn piece f r k
 
--- the bits of a frame's segments, but for those at its edges, are of such as one of some pieces meets
+-- the bits are of a frame's segments, of such as one of some pieces meets
 abbrev pub AreMetAcross : Frame → List ℕ → List Span → Type 0
-AreMetAcross f across ss = (r k : ℕ) → r < f.height → 0 < k → k < f.width → word_bit across (pixel_number f r k) ≡ 1
-    → IsMetByOne ss f r k
+AreMetAcross f across ss = (r k : ℕ) → k < 32 * words_noted f.width → word_bit across (pixel_number f r k) ≡ 1
+    → (k ≤ f.width) × IsMetByOne ss f r k
 
 abbrev pub AreMetUp : Frame → List ℕ → List Span → Type 0
-AreMetUp f up ss = (r k : ℕ) → 0 < r → r < f.height → k < f.width → word_bit up (pixel_number f r k) ≡ 1 → IsMetUpByOne ss f r k
+AreMetUp f up ss = (r k : ℕ) → k < 32 * words_noted f.width → word_bit up (pixel_number f r k) ≡ 1
+    → (k < f.width) × IsMetUpByOne ss f r k
 
 pub record AreMetBySome (f : Frame) (across up : List ℕ) (ss : List Span) : Type 0 where
   pub rows : AreMetAcross f across ss
   pub columns : AreMetUp f up ss
 
 -- what the bits of a frame's segments say, if some pieces are noted apart
-abbrev pub BitsSay : (Span → Type 0) → Frame → List ℕ → List ℕ → Saying → Type 0
+abbrev pub BitsSay : (Span → Way → Type 0) → Frame → List ℕ → List ℕ → Saying → Type 0
 BitsSay IsApart f across up (of_frame g) = f ≡ g
 BitsSay IsApart f across up (of_pieces ss) = AreMetBySome f across up ss
-BitsSay IsApart f across up (noted s w r) = ¬ (IsApart s) → IsNotedBy f across up s w r
+BitsSay IsApart f across up (noted s w r) = ¬ (IsApart s w) → IsNotedBy f across up s w r
+
+-- all that a piece meets is noted, but for what is noted apart
+pub record IsNotedUnless (IsApart : Way → Type 0) (s : Span) (f : Frame) (rows columns : List ℕ) : Type 0 where
+  pub across : ¬ (IsApart across_row) → (r : ℕ) → r < f.height → IsNotedAcross s f rows r
+  pub up : ¬ (IsApart up_to_row) → (r : ℕ) → r ≤ f.height → IsNotedUp s f columns r
 
 -- what is said stays true while a piece is noted: all but that one of some pieces meets each segment, unless it is one of them
 abbrev pub Lasts : Span → Saying → Type 0

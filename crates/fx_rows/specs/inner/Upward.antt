@@ -1,5 +1,5 @@
 -- Which segments between neighbouring rows of a frame a piece meets. A segment is named by its column and its upper row.
-use Rattle.std.specs.Prelude.{◌≡◌, ◌⊎◌, ℕ, ◌≤◌, ◌<◌, min, max, ℤ, pos, ◌+ℤ◌, ◌-ℤ◌, ◌*ℤ◌, ◌≤ℤ◌, ◌<ℤ◌, IsTrue}
+use Rattle.std.specs.Prelude.{◌≡◌, ◌⊎◌, ℕ, ◌≤◌, ◌<◌, min, max, ℤ, pos, ◌+ℤ◌, ◌-ℤ◌, ◌*ℤ◌, ◌≤ℤ◌, ◌<ℤ◌}
 use Rattle.fx_winding.specs.declared.frame.Frame.{Frame}
 use Rattle.fx_winding.specs.Notes.{IsMetUp}
 use Rattle.fx_winding.specs.Winding.{Span, IsBetween}
@@ -72,15 +72,10 @@ IsLow s f r c = IsPassing s f ((f.bottom -ℤ pos 1) +ℤ pos r) c ⊎ (IsRestin
 abbrev pub IsHigh : Span → Frame → ℕ → Reach → Type 0
 IsHigh s f r c = IsPassing s f (f.bottom +ℤ pos r) c ⊎ (IsHanging s (height_of f r) × AreAtHead s f c)
 
--- the segments up to a band's row lead into the frame from below, or out of it
-abbrev pub IsEdge : Placed → ℕ → Type 0
-IsEdge p r = (IsTrue p.lowest × (r ≡ 0)) ⊎ (IsTrue p.highest × (r ≡ p.frame.height))
-
--- the segments up to a band's row that a piece meets are those in the columns from one on and before another; at the edge of the
--- frame they are among them
+-- the segments up to a band's row that a piece meets are those in the columns from one on and before another
 pub record IsLevel (s : Span) (p : Placed) (r from to : ℕ) : Type 0 where
   pub within : AreMetWithin s p.frame r from to
-  pub all : ¬ (IsEdge p r) → AreAllMet s p.frame r from to
+  pub all : AreAllMet s p.frame r from to
 
 -- a piece comes up to a band's row from these columns: to whichever columns it goes there
 abbrev pub ComesFrom : Span → Placed → ℕ → Reach → Type 0

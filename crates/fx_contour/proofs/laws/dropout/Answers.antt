@@ -1,4 +1,4 @@
-use Rattle.fx_contour.proofs.Bridged.{met_rows_are_kept, met_columns_are_kept, no_row_has_gap, no_column_has_gap}
+use Rattle.fx_contour.proofs.Bridged.{met_rows_are_kept, met_columns_are_kept}
 use Rattle.fx_contour.proofs.Kept.{margin_is_tested, many_is_tested, some_pixel_is_kept, box_is_kept, covered_is_kept}
 use Rattle.fx_contour.proofs.laws.dropout.Goals as goal
 
@@ -22,9 +22,3 @@ returns-clause-rows c = met_rows_are_kept
 
 pub returns-clause-columns : goal.returns-clause-columns
 returns-clause-columns c = met_columns_are_kept
-
-pub returns-clause-no_row_gap : goal.returns-clause-no_row_gap
-returns-clause-no_row_gap c = no_row_has_gap
-
-pub returns-clause-no_column_gap : goal.returns-clause-no_column_gap
-returns-clause-no_column_gap c = no_column_has_gap

@@ -1,6 +1,6 @@
 use Rattle.std.proofs.Common.{◌≡◌, ◌↔◌, ◌+◌, ℕ, ℤ, pos, IsTrue, get_or, subst, arith, w32, to_z, of_z}
 use Rattle.fx_fixed.proofs.Linear.{signed_linear}
-use Rattle.fx_dropout.specs.Nearer.{IsCount}
+use Rattle.fx_dropout.specs.Dropout.{IsCount}
 use Rattle.fx_dropout.specs.inner.Runs.{IsCoveredBy}
 use Rattle.fx_dropout.proofs.Counts.{count_none, count_from, few_from}
 use Rattle.fx_dropout.proofs.nearer.count_covered.Goals as goal

@@ -1,5 +1,5 @@
 use Rattle.std.proofs.Common.{◌+◌, ◌≤◌, pos, get_or}
-use Rattle.fx_dropout.specs.Nearer.{IsCount}
+use Rattle.fx_dropout.specs.Dropout.{IsCount}
 use Rattle.fx_dropout.specs.inner.Runs.{IsCoveredBy}
 use Rattle.fx_dropout.proofs.nearer.count_covered.Given as goal
 

@@ -4,7 +4,7 @@ use Rattle.std.proofs.lemmas.List.{get_or-replicate}
 use Rattle.fx_fixed.proofs.Linear.{signed_linear}
 use Rattle.fx_winding.specs.declared.point.Piece.{Piece}
 use Rattle.fx_winding.specs.Winding.{span_of, IsCovered}
-use Rattle.fx_dropout.specs.Nearer.{IsCount, place_on}
+use Rattle.fx_dropout.specs.Dropout.{IsCount, place_on}
 use Rattle.fx_dropout.specs.inner.Runs.{IsCoveredBy, IsSummed}
 use Rattle.fx_dropout.proofs.Counts.{count_iff, count_is_one}
 use Rattle.fx_dropout.proofs.Sums.{covered_by, summed_small}

@@ -1,32 +1,51 @@
-use Rattle.std.proofs.Common.{◌↔◌, length, inl, subst, map, ℤ}
+use Rattle.std.proofs.Common.{◌≡◌, ◌∙◌, sym, ap, subst, map, List, ℕ, take, drop, length, ◌++◌, ◌+◌, ◌≤◌}
 use Rattle.fx_winding.specs.declared.frame.Frame.{Frame}
-use Rattle.fx_winding.specs.Dropout.{IsBridged, turned_span}
-use Rattle.fx_winding.specs.Frames.{IsInFrame}
+use Rattle.fx_winding.specs.Bitmaps.{AreWords, rows_of}
 use Rattle.fx_winding.specs.Winding.{span_of}
-use Rattle.fx_dropout.specs.Tests.{most_tests}
-use Rattle.fx_dropout.specs.inner.Lines.{IsSoFar}
-use Rattle.fx_dropout.specs.inner.Pairs.{Turned}
-use Rattle.fx_dropout.proofs.Rows.{columns_after_rows}
-use Rattle.fx_dropout.proofs.SoFar.{scan_so_far, so_far_in_frame}
-use Rattle.fx_dropout.proofs.Tests.{counted_both}
+use Rattle.fx_dropout.specs.Tests.{closing_tests}
+use Rattle.fx_dropout.specs.inner.Closing.{AreClosedWords, IsNextIn}
+use Rattle.fx_dropout.proofs.Closed.{IsGiven, lent, given_of, closed_words, gaps_closed}
 use Rattle.fx_dropout.proofs.noted.close_gaps.Goals as goal
+
+same : (c : goal.After-words-2-1) → length c.close_words.new.words ≡ length c.into_words-words.result.items
+same c = c.close_words.ensures.length ∙ ap length c.deref_mut-2.ensures.value
+
+back : (c : goal.After-words-2-1) → take c.into_words-words.result.len (c.close_words.new.words
+    ++ drop (length c.close_words.new.words) c.into_words-words.result.items) ≡ c.close_words.new.words
+back c =
+    lent c.into_words-words.result.items c.close_words.new.words c.into_words-words.result.len
+    (same c) c.into_words-words.result.ok.0
+
+given : (c : goal.After-words-2-1)
+    → IsGiven (IsNextIn c.args.closing (map span_of c.args.pieces.now) c.frame-frame.result) c.frame-frame.result
+    (map span_of c.args.pieces.now) c.args.notes.now.across.items c.args.notes.now.up.items c.into_words-words.result.items
+    c.close_words.new.words
+given c =
+    let f = c.frame-frame.result in
+    let ss = map span_of c.args.pieces.now in
+    given_of c.args.closing f ss c.args.bitmap c.args.notes.now.across.items c.args.notes.now.up.items
+    c.into_words-words.result.items c.close_words.new.words c.frame-frame.ensures.value c.requires.scanned c.requires.noted
+    c.into_words-words.ensures.words c.into_words-words.ensures.value
+    (subst (λ (z : List ℕ × List ℕ × List ℕ). AreClosedWords (IsNextIn c.args.closing ss f) f z.0 z.1 z.2 c.close_words.new.words)
+    (λ t. (c.deref.ensures.value t, c.deref_mut.ensures.value t, c.deref_mut-2.ensures.value t)) c.close_words.ensures.closed)
+
+pub from_words-requires : goal.from_words-requires
+from_words-requires c =
+    let f = c.frame-frame.result in
+    let ss = map span_of c.args.pieces.now in
+    subst (AreWords f.height f.width) (sym (back c)) (closed_words (IsNextIn c.args.closing ss f) f ss
+    c.args.notes.now.across.items
+    c.args.notes.now.up.items c.into_words-words.result.items c.close_words.new.words (given c) (same c))
 
 pub returns-clause-bits : goal.returns-clause-bits
 returns-clause-bits c =
+    let f = c.frame-frame.result in
     let ss = map span_of c.args.pieces.now in
-    let f = c.args.bitmap.now.frame in
-    let rows = c.close_rows.new.bitmap in
-    let set = c.close_columns.new.bitmap in
-    let columns : (j i : ℤ) → Turned (IsSoFar ss f set) j i ↔ IsBridged (map turned_span ss) (λ j i. IsInFrame f i j)
-    (Turned (IsSoFar ss f rows)) j i =
-    subst (λ (g : Frame). (j i : ℤ) → Turned (IsSoFar ss g set) j i ↔ IsBridged (map turned_span ss) (λ j i. IsInFrame g i j)
-    (Turned (IsSoFar ss g rows)) j i) c.close_rows.ensures.frame c.close_columns.ensures.closed in
-    let all = columns_after_rows ss f (IsSoFar ss f c.args.bitmap.now) (IsSoFar ss f rows) (IsSoFar ss f set)
-    (scan_so_far ss f c.args.bitmap.now c.requires.scanned) c.close_rows.ensures.closed columns in
-    λ i j h. (λ t. (all i j).0 (inl t), λ s. so_far_in_frame ss f set i j h ((all i j).1 s))
+    gaps_closed c.args.closing f ss c.args.notes.now.across.items c.args.notes.now.up.items c.into_words-words.result.items
+    c.close_words.new.words (given c.before) c.args.bitmap c.from_words.result c.frame-frame.ensures.value
+    (c.from_words.ensures ∙ (λ t. record { frame = f; rows = rows_of f.height f.width (back c.before t) }))
 
 pub returns-clause-count : goal.returns-clause-count
 returns-clause-count c =
-    counted_both c.args.notes.now.exact c.args.bitmap.now.frame c.args.tally.now.count c.close_rows.new.tally.count
-    c.close_columns.new.tally.count (most_tests (length c.args.pieces.now)) c.close_rows.ensures.count
-    (rw c.close_rows.ensures.frame at c.close_columns.ensures.count)
+    subst (λ (f : Frame). c.close_words.new.tally.count ≤ c.args.tally.now.count
+    + closing_tests c.args.closing (length c.args.pieces.now) f) c.frame-frame.ensures.value c.close_words.ensures.count

@@ -3,7 +3,7 @@ use Rattle.fx_fixed.proofs.Linear.{signed_linear}
 use Rattle.fx_winding.specs.Area.{Place}
 use Rattle.fx_winding.specs.Outside.{HasAll}
 use Rattle.fx_winding.specs.Winding.{place_of, span_of}
-use Rattle.fx_dropout.specs.Nearer.{place_on}
+use Rattle.fx_dropout.specs.Dropout.{place_on}
 use Rattle.fx_dropout.specs.inner.Runs.{IsAdded, IsInBox}
 use Rattle.fx_dropout.proofs.Alike.{coordinate_word, in_box}
 use Rattle.fx_dropout.proofs.places.add_either.Goals as goal

@@ -1,6 +1,6 @@
 use Rattle.std.proofs.Common.{inl, inr, arith}
 use Rattle.fx_winding.specs.Winding.{span_of}
-use Rattle.fx_dropout.specs.Nearer.{place_on}
+use Rattle.fx_dropout.specs.Dropout.{place_on}
 use Rattle.fx_dropout.proofs.Alike.{right_of_place}
 use Rattle.fx_dropout.proofs.Sums.{right_joined}
 use Rattle.fx_dropout.proofs.places.add_from_right.Goals as goal

@@ -5,7 +5,7 @@ use Rattle.fx_fixed.proofs.Order.{below_or_not}
 use Rattle.fx_winding.specs.Area.{Place}
 use Rattle.fx_winding.specs.Meets.{turn}
 use Rattle.fx_winding.specs.Winding.{Span, span_of, IsOn}
-use Rattle.fx_dropout.specs.Nearer.{place_on}
+use Rattle.fx_dropout.specs.Dropout.{place_on}
 use Rattle.fx_dropout.specs.inner.Runs.{sum_of, IsJoined, IsPart}
 use Rattle.fx_dropout.proofs.Sums.{part_alike}
 use Rattle.fx_dropout.proofs.places.add_piece.Goals as goal

@@ -5,7 +5,7 @@ use Rattle.std.proofs.Math.Seq.{take-length}
 use Rattle.std.proofs.lemmas.List.{length-map}
 use Rattle.fx_fixed.proofs.Linear.{signed_linear}
 use Rattle.fx_winding.specs.Winding.{Span, span_of}
-use Rattle.fx_dropout.specs.Nearer.{place_on}
+use Rattle.fx_dropout.specs.Dropout.{place_on}
 use Rattle.fx_dropout.specs.inner.Runs.{IsSummed}
 use Rattle.fx_dropout.proofs.Sums.{more_summed, summed_small, summed_wider}
 use Rattle.fx_dropout.proofs.places.add_pieces.Goals as goal

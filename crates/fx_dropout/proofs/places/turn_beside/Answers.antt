@@ -11,7 +11,8 @@ returns-then-is_above c =
     let p = c.args.p in
     let q = c.args.q in (
       (omega (arith, signed_linear), omega (arith, signed_linear)),
-      λ r b. added_below (place_of p) (place_of q) r s b (subst (λ (y : ℤ). HasAll (λ e. y <ℤ e.y) s) (coordinate_word q.y q.near_y)
+      λ r b. added_below (place_of p) (place_of q) r s b (subst (λ (y : ℤ). HasAll (λ e. y <ℤ e.y) s)
+          (coordinate_word q.y q.near_y)
           (c.is_above.ensures c.if-is_above.true)),
     )
 
@@ -21,7 +22,8 @@ returns-then-is_below c =
     let p = c.args.p in
     let q = c.args.q in (
       (omega (arith, signed_linear), omega (arith, signed_linear)),
-      λ r b. added_above (place_of p) (place_of q) r s b (subst (λ (y : ℤ). HasAll (λ e. e.y <ℤ y) s) (coordinate_word p.y p.near_y)
+      λ r b. added_above (place_of p) (place_of q) r s b (subst (λ (y : ℤ). HasAll (λ e. e.y <ℤ y) s)
+          (coordinate_word p.y p.near_y)
           (c.is_below.ensures c.if-is_below.true)),
     )
 
@@ -31,6 +33,7 @@ returns-then-is_left c =
     let p = c.args.p in
     let q = c.args.q in (
       (omega (arith, signed_linear), omega (arith, signed_linear)),
-      λ r b. added_right (place_of p) (place_of q) r s b (subst (λ (x : ℤ). HasAll (λ e. e.x <ℤ x) s) (coordinate_word p.x p.near_x)
+      λ r b. added_right (place_of p) (place_of q) r s b (subst (λ (x : ℤ). HasAll (λ e. e.x <ℤ x) s)
+          (coordinate_word p.x p.near_x)
           (c.is_left.ensures c.if-is_left.true)),
     )

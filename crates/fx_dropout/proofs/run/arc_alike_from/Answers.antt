@@ -1,7 +1,7 @@
 use Rattle.std.proofs.Common.{◌≡◌, ◌∙◌, sym, ap, subst, ◌+◌, ◌-◌, ℕ, ℤ, Some, arith}
 use Rattle.fx_winding.specs.Winding.{place_of, maybe_place_of, areas_of_part, span_of}
 use Rattle.fx_winding.proofs.Places.{clash}
-use Rattle.fx_dropout.specs.Nearer.{place_on}
+use Rattle.fx_dropout.specs.Dropout.{place_on}
 use Rattle.fx_dropout.specs.inner.Runs.{HaveOneSign, IsAlikeTo, IsClear}
 use Rattle.fx_dropout.proofs.Alike.{arc_areas, beyond_run, clear_shorter, one_alike}
 use Rattle.fx_dropout.proofs.run.arc_alike_from.Goals as goal

@@ -2,7 +2,7 @@ use Rattle.std.proofs.Common.{◌≡◌, ◌∙◌, sym, ap, subst, ◌+◌, ℤ
 use Rattle.fx_fixed.proofs.Linear.{signed_linear}
 use Rattle.fx_winding.specs.Area.{Place, gap_of}
 use Rattle.fx_winding.specs.Winding.{Span, place_of, maybe_place_of, areas_of_part}
-use Rattle.fx_dropout.specs.Nearer.{place_on}
+use Rattle.fx_dropout.specs.Dropout.{place_on}
 use Rattle.fx_dropout.specs.inner.Runs.{HaveOneSign, IsAlikeTo, IsBelowTo, IsClear}
 use Rattle.fx_dropout.proofs.Alike.{within_run, without_run, arc_areas, area_word, area_wider}
 use Rattle.fx_dropout.proofs.run.is_arc_alike.Goals as goal

@@ -2,7 +2,7 @@ use Rattle.std.proofs.Common.{◌≡◌, ◌∙◌, ◌^◌, sym, ap, subst, ◌
 use Rattle.fx_fixed.specs.Ranges.{IsWithin}
 use Rattle.fx_fixed.proofs.Linear.{signed_linear}
 use Rattle.fx_winding.specs.Winding.{place_of, maybe_place_of, areas_of_part}
-use Rattle.fx_dropout.specs.Nearer.{place_on}
+use Rattle.fx_dropout.specs.Dropout.{place_on}
 use Rattle.fx_dropout.specs.inner.Runs.{step}
 use Rattle.fx_dropout.proofs.Alike.{IsNear, area_near, areas_along, place_near}
 use Rattle.fx_dropout.proofs.run.last_areas.Goals as goal

@@ -2,7 +2,7 @@ use Rattle.std.proofs.Common.{ap, arith}
 use Rattle.fx_winding.specs.Area.{Place}
 use Rattle.fx_winding.specs.Winding.{span_of}
 use Rattle.fx_winding.proofs.Places.{clash}
-use Rattle.fx_dropout.specs.Nearer.{place_on}
+use Rattle.fx_dropout.specs.Dropout.{place_on}
 use Rattle.fx_dropout.proofs.Alike.{end_before, middle_is, run_clear}
 use Rattle.fx_dropout.proofs.run.most_alike.Goals as goal
 

@@ -6,7 +6,7 @@ use Rattle.fx_fixed.specs.Ranges.{IsWithin}
 use Rattle.fx_fixed.proofs.Linear.{signed_linear}
 use Rattle.fx_winding.specs.Area.{Place}
 use Rattle.fx_winding.specs.Winding.{place_of, maybe_place_of, span_of}
-use Rattle.fx_dropout.specs.Nearer.{place_on}
+use Rattle.fx_dropout.specs.Dropout.{place_on}
 use Rattle.fx_dropout.specs.inner.Runs.{gap_at}
 use Rattle.fx_dropout.proofs.Alike.{below_along, below_back}
 use Rattle.fx_dropout.proofs.run.stays_below.Goals as goal

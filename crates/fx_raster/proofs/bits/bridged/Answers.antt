@@ -1,12 +1,26 @@
-use Rattle.std.proofs.Common.{List, sym, subst, map}
-use Rattle.fx_winding.specs.declared.frame.Frame.{Frame}
-use Rattle.fx_winding.specs.declared.point.Piece.{Piece}
+use Rattle.std.proofs.Common.{◌∙◌, sym, subst, map}
+use Rattle.fx_winding.specs.Bitmaps.{IsScanOf}
 use Rattle.fx_winding.specs.Notes.{AreExact}
 use Rattle.fx_winding.specs.Winding.{span_of}
+use Rattle.fx_winding.specs.declared.frame.Frame.{Frame}
+use Rattle.fx_raster.proofs.Bitmaps.{closed_scan}
 use Rattle.fx_raster.proofs.bits.bridged.Goals as goal
 
-pub closed-bits-requires-clause-exact : goal.closed-bits-requires-clause-exact
-closed-bits-requires-clause-exact g c = λ t.
+pub close_gaps-bits-requires-clause-scanned : goal.close_gaps-bits-requires-clause-scanned
+close_gaps-bits-requires-clause-scanned g c =
+    subst (λ (f : Frame). IsScanOf f (map span_of c.args.pieces.now) c.in-Ok.noted.bitmap) (sym c.in-Ok.ensures.bits.same)
+    c.in-Ok.ensures.bits
+
+pub close_gaps-bits-requires-clause-frame : goal.close_gaps-bits-requires-clause-frame
+close_gaps-bits-requires-clause-frame g c = c.in-Ok.ensures.frame ∙ sym c.in-Ok.ensures.bits.same
+
+pub close_gaps-bits-requires-clause-noted : goal.close_gaps-bits-requires-clause-noted
+close_gaps-bits-requires-clause-noted g c =
     let notes = c.in-Ok.noted.notes in
-    subst (λ (z : Frame × List Piece). AreExact z.0 notes.across.items notes.up.items (map span_of z.1))
-    (λ i. (sym c.in-Ok.ensures.frame i, sym c.within-drawn.ensures i)) (c.in-Ok.ensures.exact t)
+    subst (λ (f : Frame). AreExact f notes.across.items notes.up.items (map span_of c.args.pieces.now))
+    (sym c.in-Ok.ensures.bits.same) c.in-Ok.ensures.noted
+
+pub returns-in-Ok : goal.returns-in-Ok
+returns-in-Ok g c =
+    closed_scan c.args.closing c.args.frame (map span_of c.args.pieces.now) c.in-Ok.noted.bitmap c.close_gaps-bits.result
+    c.in-Ok.ensures.bits c.close_gaps-bits.ensures.frame c.close_gaps-bits.ensures.bits c.requires.outside

@@ -46,8 +46,8 @@ returns-clause-noted c =
         → IsSetTo (bounded_span c.args.bounded.now) c.args.line.frame c.args.line.row c.args.line.first c.args.line.step
         c.note_last.new.bits k
     by kept k (inl e) = set_kept (bounded_span c.args.bounded.now) c.args.line.frame c.args.line.row c.args.line.first
-        c.args.line.step k _ _ kept (c.note_first.ensures.noted (bounded_span c.args.bounded.now) c.args.bounded.now.between k e)
-    by kept k (inr e) = c.note_last.ensures.noted (bounded_span c.args.bounded.now) c.args.bounded.now.between k e
+        c.args.line.step k _ _ kept (c.note_first.ensures.noted k e)
+    by kept k (inr e) = c.note_last.ensures.noted k e
 
 pub returns-clause-only : goal.returns-clause-only
 returns-clause-only c =
@@ -59,5 +59,5 @@ returns-clause-only c =
     let o3 : AreOnly P first c.note_end.new.bits = only_both P _ _ _ o2 c.note_end.ensures.only in
     let o4 : AreOnly P first c.note_end-2.new.bits = only_both P _ _ _ o3 c.note_end-2.ensures.only in
     let o5 : AreOnly P first c.note_tip.new.bits = only_both P _ _ _ o4 c.note_tip.ensures.only in
-    let o6 : AreOnly P first c.note_first.new.bits = only_both P _ _ _ o5 (c.note_first.ensures.only s) in
-    only_both P _ _ _ o6 (c.note_last.ensures.only s)
+    let o6 : AreOnly P first c.note_first.new.bits = only_both P _ _ _ o5 c.note_first.ensures.only in
+    only_both P _ _ _ o6 c.note_last.ensures.only

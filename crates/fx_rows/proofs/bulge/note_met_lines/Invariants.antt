@@ -10,5 +10,5 @@ invariant-rows l = record {
       → IsRowSet (bounded_span l.bounded) l.frame (l.frame.bottom +ℤ pos r) (r * l.row_step) l.step l.bits;
   kept : AreKept l.fn.bits l.bits;
   only : AreOnly (IsRowsBit (bounded_span l.bounded) l.frame l.row_step l.step) l.fn.bits l.bits;
-  count : l.tally.count ≤ l.fn.tally.count + 45 * (l.up - l.fn.rows.first);
+  count : l.tally.count ≤ l.fn.tally.count + 55 * (l.up - l.fn.rows.first);
 }

@@ -11,4 +11,4 @@ returns-else-meets_to-clause-noted c = λ o l met. absurd (clash c.meets_to.resu
 
 pub returns-then-meets_to-clause-only : goal.returns-then-meets_to-clause-only
 returns-then-meets_to-clause-only c =
-    c.set_segment.ensures.only (span_of c.args.piece.now) (λ o l p q. c.meets_to.ensures.value.0 c.if-meets_to.true)
+    c.set_segment.ensures.only (span_of c.args.piece.now) (λ p q. c.meets_to.ensures.value.0 c.if-meets_to.true)

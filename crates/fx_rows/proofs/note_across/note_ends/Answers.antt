@@ -3,8 +3,8 @@ use Rattle.fx_winding.specs.Bitmaps.{word_bit}
 use Rattle.fx_winding.specs.Winding.{span_of}
 use Rattle.fx_rows.specs.inner.Segments.{segment_number, first_number, IsBandBit}
 use Rattle.fx_rows.specs.inner.Told.{IsEnd, IsEndIn, AreKept}
-use Rattle.fx_rows.proofs.Exact.{end_met}
 use Rattle.fx_rows.proofs.Kept.{kept_both, rows_more, only_both, only_one, kept_one}
+use Rattle.fx_rows.proofs.RowMeets.{end_met_too}
 use Rattle.fx_rows.proofs.Segments.{bit_room}
 use Rattle.fx_rows.proofs.note_across.note_ends.Goals as goal
 
@@ -41,10 +41,17 @@ rows-preserved c =
     let first = c.first_of.ensures.value in
     let here : c.first_of.result + end ≡ segment_number p.frame p.below up end = omega (arith, first) in
     let at : c.first_of.result + end ≡ first_number p.frame p.below up + end * 1 = omega (arith, first) in
+    let placed = c.requires.placed in
     let new : IsBandBit s p.frame p.below (c.first_of.result + end) = record {
       r = up;
       row = omega (arith, c.requires.rows);
-      line = record { k = end; within = is.within; at = at; met = λ o l off off'. (end_met s p.frame up end is o l off off').met };
+      line = record {
+        k = end;
+        within = is.within;
+        at = at;
+        met = λ off off'. (end_met_too s p.frame p.across.first p.across.end up end placed.across placed.low placed.high inner is
+            off off').met;
+      };
     } in
     let kept : AreKept old now = kept_one old now _ c.set_bit.ensures.here c.set_bit.ensures.others in
     let set : (n : ℕ) → IsEndIn c.args.ends.now up n → word_bit now (segment_number p.frame p.below up n) ≡ 1 =

@@ -11,5 +11,5 @@ invariant-rows l = record {
       → AreSetAcross (bounded_span l.bounded) l.placed.frame l.placed.below l.across r;
   kept : AreKept l.fn.across l.across;
   only : AreOnly (IsBandBit (bounded_span l.bounded) l.placed.frame l.placed.below) l.fn.across l.across;
-  count : l.tally.count ≤ l.fn.tally.count + 45 * (l.up - l.fn.rows.first);
+  count : l.tally.count ≤ l.fn.tally.count + 55 * (l.up - l.fn.rows.first);
 }

@@ -1,6 +1,9 @@
-use Rattle.std.proofs.Common.{inr, pos, ◌+ℤ◌, ◌-ℤ◌, ◌*ℤ◌}
+use Rattle.std.proofs.Common.{◌≡◌, inr, sym, subst, ℤ, pos, ◌+ℤ◌, ◌-ℤ◌, ◌*ℤ◌, arith, w32, to_z, of_z}
+use Rattle.fx_fixed.proofs.Linear.{signed_linear}
 use Rattle.fx_winding.specs.Winding.{span_of}
-use Rattle.fx_rows.proofs.Upward.{resting, level_under, first_row, one_each, comes_from, comes_at_edge, comes_passing_below}
+use Rattle.fx_rows.specs.inner.Points.{IsInner}
+use Rattle.fx_rows.specs.inner.Upward.{IsPassing}
+use Rattle.fx_rows.proofs.Upward.{resting, level_under, first_row, one_each, comes_from, comes_passing_below}
 use Rattle.fx_rows.proofs.note_up.columns_below.Goals as goal
 
 pub returns-then-starts_in-clause-from : goal.returns-then-starts_in-clause-from
@@ -15,29 +18,24 @@ returns-then-starts_in-clause-from c =
 pub returns-then-starts_in-clause-columns : goal.returns-then-starts_in-clause-columns
 returns-then-starts_in-clause-columns c = c.foot_columns.ensures.at.within
 
-pub returns-then-placed-clause-from : goal.returns-then-placed-clause-from
-returns-then-placed-clause-from c =
-    let s = span_of c.args.piece.now in
-    let p = c.args.placed in
-    comes_at_edge s p p.met.inner.first c.requires.placed c.if-placed.true
-    (first_row s p.frame p.met.inner.first (c.starts_in.ensures.below c.if-starts_in.false) c.requires.placed.met.under)
-
 pub columns_passed-requires-clause-inner : goal.columns_passed-requires-clause-inner
 columns_passed-requires-clause-inner c =
     let s = span_of c.args.piece.now in
-    let p = c.args.placed in
-    one_each s (pos 128 *ℤ (p.frame.bottom -ℤ pos 1) +ℤ pos 64) (c.starts_in.ensures.below c.if-starts_in.false) c.requires.over
-
-pub columns_passed-requires-clause-row : goal.columns_passed-requires-clause-row
-columns_passed-requires-clause-row c = c.args.placed.row_below c.if-placed.false
+    let row : to_z w32 (of_z w32 c.row_below.result) ≡ c.args.placed.frame.bottom -ℤ pos 1 =
+    omega (arith, signed_linear, c.row_below.ensures.value, c.row_below.ensures.near) in
+    subst (λ (z : ℤ). IsInner s.a.y s.c.y (pos 128 *ℤ z +ℤ pos 64)) (sym row)
+    (one_each s (pos 128 *ℤ (c.args.placed.frame.bottom -ℤ pos 1) +ℤ pos 64) (c.starts_in.ensures.below c.if-starts_in.false)
+    c.requires.over)
 
 pub returns-clause-from : goal.returns-clause-from
 returns-clause-from c =
     let s = span_of c.args.piece.now in
     let p = c.args.placed in
+    let row : to_z w32 (of_z w32 c.row_below.result) ≡ c.args.placed.frame.bottom -ℤ pos 1 =
+    omega (arith, signed_linear, c.row_below.ensures.value, c.row_below.ensures.near) in
     comes_passing_below s p p.met.inner.first c.columns_passed.result c.requires.plain
     (first_row s p.frame p.met.inner.first (c.starts_in.ensures.below c.if-starts_in.false) c.requires.placed.met.under)
-    c.columns_passed.ensures.passing
+    (subst (λ (z : ℤ). IsPassing s p.frame z c.columns_passed.result) row c.columns_passed.ensures.passing)
 
 pub returns-clause-columns : goal.returns-clause-columns
 returns-clause-columns c = c.columns_passed.ensures.passing.is.within

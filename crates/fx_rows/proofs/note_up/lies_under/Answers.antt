@@ -11,18 +11,12 @@ returns-then-placed-gt0-clause-above c = λ e.
 
 pub returns-clause-under : goal.returns-clause-under
 returns-clause-under c = λ t.
-    let s = span_of c.args.piece.now in
-    let low = c.args.placed.frame.rows.from in
-    let high = c.args.placed.frame.rows.to in
-    let row : to_z w32 (of_z w32 (to_z w32 (of_z w32 c.args.placed.frame.bottom) -ℤ pos 1)) ≡ c.args.placed.frame.bottom -ℤ pos 1 =
-    omega (arith, signed_linear, low, high) in
-    subst (λ (z : ℤ). IsAtLeastEnds s (pos 128 *ℤ z +ℤ pos 64)) row (c.is_under.ensures.under t)
+    let row : to_z w32 (of_z w32 c.row_below.result) ≡ c.args.placed.frame.bottom -ℤ pos 1 =
+    omega (arith, signed_linear, c.row_below.ensures.value, c.row_below.ensures.near) in
+    subst (λ (z : ℤ). IsAtLeastEnds (span_of c.args.piece.now) (pos 128 *ℤ z +ℤ pos 64)) row (c.is_under.ensures.under t)
 
 pub returns-clause-above : goal.returns-clause-above
 returns-clause-above c = λ e.
-    let s = span_of c.args.piece.now in
-    let low = c.args.placed.frame.rows.from in
-    let high = c.args.placed.frame.rows.to in
-    let row : to_z w32 (of_z w32 (to_z w32 (of_z w32 c.args.placed.frame.bottom) -ℤ pos 1)) ≡ c.args.placed.frame.bottom -ℤ pos 1 =
-    omega (arith, signed_linear, low, high) in
-    subst (λ (z : ℤ). IsOneOver s (pos 128 *ℤ z +ℤ pos 64)) row (c.is_under.ensures.above e)
+    let row : to_z w32 (of_z w32 c.row_below.result) ≡ c.args.placed.frame.bottom -ℤ pos 1 =
+    omega (arith, signed_linear, c.row_below.ensures.value, c.row_below.ensures.near) in
+    subst (λ (z : ℤ). IsOneOver (span_of c.args.piece.now) (pos 128 *ℤ z +ℤ pos 64)) row (c.is_under.ensures.above e)

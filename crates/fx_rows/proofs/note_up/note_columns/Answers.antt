@@ -3,7 +3,7 @@ use Rattle.fx_fixed.proofs.Order.{below_or_not}
 use Rattle.fx_winding.specs.Bitmaps.{word_bit}
 use Rattle.fx_winding.specs.Winding.{Span}
 use Rattle.fx_rows.specs.inner.Segments.{segment_number, IsUpBit}
-use Rattle.fx_rows.specs.inner.Upward.{IsEdge, AreAllMet}
+use Rattle.fx_rows.specs.inner.Upward.{AreAllMet}
 use Rattle.fx_rows.proofs.note_up.note_columns.Goals as goal
 
 pub returns-clause-noted : goal.returns-clause-noted
@@ -19,7 +19,7 @@ returns-clause-only c = λ s all n set.
     (below_or_not (c.first_of-first.result + c.args.columns.end - 1) n)
   where
     by : (s : Span)
-        → (¬ (IsEdge c.args.placed c.args.row) → AreAllMet s c.args.placed.frame c.args.row c.args.columns.first c.args.columns.end)
+        → AreAllMet s c.args.placed.frame c.args.row c.args.columns.first c.args.columns.end
         → (n : ℕ) → word_bit c.set_bits.new.line n ≡ 1
         → (n < c.first_of-first.result + c.args.columns.first) ⊎ (c.first_of-first.result + c.args.columns.first ≤ n)
         → (c.first_of-first.result + c.args.columns.end - 1 < n) ⊎ (n ≤ c.first_of-first.result + c.args.columns.end - 1)
@@ -35,5 +35,5 @@ returns-clause-only c = λ s all n set.
           row = c.requires.row;
           column = omega (arith, l, h, wide);
           at = omega (arith, first, l);
-          met = λ e. all e (n - c.first_of-first.result) (omega (arith, l)) (omega (arith, l, h)) (omega (arith, l, h, wide));
+          met = all (n - c.first_of-first.result) (omega (arith, l)) (omega (arith, l, h)) (omega (arith, l, h, wide));
         })

@@ -5,7 +5,7 @@ use Rattle.fx_rows.specs.inner.Segments.{IsUpBit}
 use Rattle.fx_rows.specs.inner.Upward.{height_below, IsLevel}
 use Rattle.fx_rows.proofs.Kept.{kept_both, only_both}
 use Rattle.fx_rows.proofs.Segments.{up_kept}
-use Rattle.fx_rows.proofs.Upward.{reach_columns, on_line_unmet, set_over, at_least_more, over_lowest, all_levels, top_level}
+use Rattle.fx_rows.proofs.Upward.{reach_columns, on_line_unmet, set_over, set_under, at_least_more, over_lowest, all_levels, top_level}
 use Rattle.fx_rows.proofs.note_up.note_up.Goals as goal
 
 pub returns-then-placed-clause-noted : goal.returns-then-placed-clause-noted
@@ -58,6 +58,30 @@ returns-then-leaves_band-clause-noted c = λ r h.
 pub returns-then-leaves_band-clause-top : goal.returns-then-leaves_band-clause-top
 returns-then-leaves_band-clause-top c = λ t.
     absurd (clash c.args.placed.highest (c.leaves_band.ensures.next c.if-leaves_band.true) t)
+
+pub returns-then-lies_over-clause-noted : goal.returns-then-lies_over-clause-noted
+returns-then-lies_over-clause-noted c = λ r h.
+    let s = span_of c.args.piece.now in
+    let p = c.args.placed in
+    let up = c.note_passage-low.new.up in
+    let off = c.is_on_line.ensures.off c.if-is_on_line.false in
+    all_levels s p.frame p.met p.below up c.requires.plain off c.requires.placed.met c.note_passage-low.ensures.noted
+    (λ l. set_under s p.frame p.below p.met.inner.end up c.requires.plain off (c.lies_over.ensures.over c.if-lies_over.true)) r h
+
+pub returns-then-lies_over-clause-top : goal.returns-then-lies_over-clause-top
+returns-then-lies_over-clause-top c = λ t.
+    let s = span_of c.args.piece.now in
+    let p = c.args.placed in
+    let up = c.note_passage-low.new.up in
+    let within = p.met.to in
+    let rows = p.rows in
+    let off = c.is_on_line.ensures.off c.if-is_on_line.false in
+    top_level s p.frame p.met p.below up c.requires.plain off c.requires.placed.met
+    (set_under s p.frame p.below p.met.inner.end up c.requires.plain off (c.lies_over.ensures.over c.if-lies_over.true))
+    (omega (arith, within, rows))
+
+pub columns_above-high-requires-clause-under : goal.columns_above-high-requires-clause-under
+columns_above-high-requires-clause-under c = c.lies_over.ensures.below c.if-lies_over.false
 
 pub returns-clause-noted : goal.returns-clause-noted
 returns-clause-noted c = λ r h.

@@ -11,18 +11,12 @@ returns-then-placed-gt0-clause-over c = λ t.
 
 pub returns-clause-over : goal.returns-clause-over
 returns-clause-over c = λ t.
-    let s = span_of c.args.piece.now in
-    let low = c.args.placed.frame.rows.from in
-    let high = c.args.placed.frame.rows.to in
-    let row : to_z w32 (of_z w32 (to_z w32 (of_z w32 c.args.placed.frame.bottom) -ℤ pos 1)) ≡ c.args.placed.frame.bottom -ℤ pos 1 =
-    omega (arith, signed_linear, low, high) in
-    subst (λ (z : ℤ). IsAtMostEnds s (pos 128 *ℤ z +ℤ pos 64)) row (c.is_over.ensures.over t)
+    let row : to_z w32 (of_z w32 c.row_below.result) ≡ c.args.placed.frame.bottom -ℤ pos 1 =
+    omega (arith, signed_linear, c.row_below.ensures.value, c.row_below.ensures.near) in
+    subst (λ (z : ℤ). IsAtMostEnds (span_of c.args.piece.now) (pos 128 *ℤ z +ℤ pos 64)) row (c.is_over.ensures.over t)
 
 pub returns-clause-below : goal.returns-clause-below
 returns-clause-below c = λ e.
-    let s = span_of c.args.piece.now in
-    let low = c.args.placed.frame.rows.from in
-    let high = c.args.placed.frame.rows.to in
-    let row : to_z w32 (of_z w32 (to_z w32 (of_z w32 c.args.placed.frame.bottom) -ℤ pos 1)) ≡ c.args.placed.frame.bottom -ℤ pos 1 =
-    omega (arith, signed_linear, low, high) in
-    subst (λ (z : ℤ). IsOneUnder s (pos 128 *ℤ z +ℤ pos 64)) row (c.is_over.ensures.below e)
+    let row : to_z w32 (of_z w32 c.row_below.result) ≡ c.args.placed.frame.bottom -ℤ pos 1 =
+    omega (arith, signed_linear, c.row_below.ensures.value, c.row_below.ensures.near) in
+    subst (λ (z : ℤ). IsOneUnder (span_of c.args.piece.now) (pos 128 *ℤ z +ℤ pos 64)) row (c.is_over.ensures.below e)

@@ -7,10 +7,10 @@ use Rattle.fx_winding.specs.declared.frame.Frame.{Frame}
 use Rattle.fx_winding.specs.Notes.{IsNoted}
 use Rattle.fx_winding.specs.Winding.{Span, span_of}
 use Rattle.fx_rows.specs.inner.Placing.{IsApart}
-use Rattle.fx_rows.specs.inner.Telling.{AreMetBySome}
+use Rattle.fx_rows.specs.inner.Telling.{AreMetBySome, IsNotedUnless}
 use Rattle.fx_rows.proofs.Counted.{count_more}
 use Rattle.fx_rows.proofs.Kept.{kept_both}
-use Rattle.fx_rows.proofs.Segments.{all_kept}
+use Rattle.fx_rows.proofs.Segments.{all_kept, unless_kept}
 use Rattle.fx_rows.proofs.rows.note_apart.Goals as goal
 
 pub pieces-preserved : goal.pieces-preserved
@@ -29,20 +29,18 @@ pieces-preserved c =
     let inside : here < length spans = omega (arith, length-map c.args.pieces.now span_of) in
     let is : s ≡ get_or spans here s =
     ap span_of c.piece-item.is ∙ sym (get_or-map span_of c.args.pieces.now here piece) in
-    let first : ¬ (IsApart f s) → IsNoted s f a u =
-    subst (λ t. ¬ (IsApart f t) → IsNoted t f a u) (sym is) (c.requires.noted here s inside) in
-    let now : ¬ (IsApart old.frame s) → IsNoted s old.frame old.across.items old.up.items =
-    λ no. subst (λ (g : Frame). IsNoted s g old.across.items old.up.items) (sym inv.frame)
-    (all_kept s f a old.across.items u old.up.items inv.across inv.up
-    (first (λ a. no (subst (λ (g : Frame). IsApart g s) (sym inv.frame) a)))) in
+    let first : IsNotedUnless (IsApart f s) s f a u =
+    subst (λ t. IsNotedUnless (IsApart f t) t f a u) (sym is) (c.requires.noted here s inside) in
+    let now : IsNotedUnless (IsApart old.frame s) s old.frame old.across.items old.up.items =
+    subst (λ (g : Frame). IsNotedUnless (IsApart g s) s g old.across.items old.up.items) (sym inv.frame)
+    (unless_kept (IsApart f s) s f a old.across.items u old.up.items inv.across inv.up first) in
     let this : IsNoted s f new.across.items new.up.items =
     subst (λ (g : Frame). IsNoted s g new.across.items new.up.items) inv.frame (done.noted now) in
     let each = done.count in
-    let tests : 45 * (old.frame.height + old.frame.width) ≡ 45 * (f.height + f.width) =
-    ap (λ (g : Frame). 45 * (g.height + g.width)) inv.frame in
+    let tests : 55 * (old.frame.height + old.frame.width) ≡ 55 * (f.height + f.width) =
+    ap (λ (g : Frame). 55 * (g.height + g.width)) inv.frame in
     record {
       frame = done.frame ∙ inv.frame;
-      exact = done.exact ∙ inv.exact;
       across = kept_both _ _ _ inv.across done.across;
       up = kept_both _ _ _ inv.up done.up;
       noted = All-more (λ t. IsNoted t f new.across.items new.up.items) spans here s inside
@@ -52,7 +50,7 @@ pieces-preserved c =
           (record { at = here; inside = inside; is = sym is })
           (subst (λ (g : Frame). AreMetBySome g old.across.items old.up.items spans) (sym inv.frame) (inv.only h)));
       count = count_more c.args.tally.now.count c.pieces.tally.count c.note_if_apart.new.tally.count here
-          (45 * (f.height + f.width)) inv.count (omega (arith, each, tests));
+          (55 * (f.height + f.width)) inv.count (omega (arith, each, tests));
     }
 
 pub returns-clause-noted : goal.returns-clause-noted

@@ -1,5 +1,7 @@
 use Rattle.std.proofs.Common.{◌∙◌, ap, refl, map}
-use Rattle.fx_winding.specs.Dropout.{turned_place, IsRowSet}
+use Rattle.fx_dropout.specs.declared.chooser.Closing.TheVariants.{Lower}
+use Rattle.fx_dropout.specs.Dropout.{IsRowSet}
+use Rattle.fx_winding.specs.Dropout.{turned_place}
 use Rattle.fx_winding.specs.Winding.{span_of, centre}
 use Rattle.fx_winding.proofs.Places.{no}
 use Rattle.rows_against_plain.proofs.Bridged.{moved, met_at, none}
@@ -18,7 +20,7 @@ returns-then-is_row_set c = no (λ g. g.here (c.is_row_set.ensures.0 c.if-is_row
 
 pub returns-then-is_row_set-2 : goal.returns-then-is_row_set-2
 returns-then-is_row_set-2 c =
-    let next = moved (IsRowSet (map span_of c.args.self.now.pieces.now) c.args.self.now.frame) c.is_row_set-2.result
+    let next = moved (IsRowSet Lower (map span_of c.args.self.now.pieces.now) c.args.self.now.frame) c.is_row_set-2.result
     c.above-next.ensures.col c.above-next.ensures.row c.is_row_set-2.ensures in
     no (λ g. g.next (next.0 c.if-is_row_set-2.true))
 
@@ -28,7 +30,7 @@ returns c =
     (c.turned.ensures ∙ ap turned_place c.centre-2.ensures
     ∙ (λ t. centre (c.above-next.ensures.row t) (c.above-next.ensures.col t)))
     (ap (map span_of) c.as_slice.ensures.value ∙ c.args.self.now.columns) c.any_meets.ensures in
-    let next = moved (IsRowSet (map span_of c.args.self.now.pieces.now) c.args.self.now.frame) c.is_row_set-2.result
+    let next = moved (IsRowSet Lower (map span_of c.args.self.now.pieces.now) c.args.self.now.frame) c.is_row_set-2.result
     c.above-next.ensures.col c.above-next.ensures.row c.is_row_set-2.ensures in (
       λ t. record {
         here = none c.is_row_set.result c.if-is_row_set.false c.is_row_set.ensures;

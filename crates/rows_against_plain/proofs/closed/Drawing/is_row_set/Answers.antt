@@ -1,5 +1,5 @@
 use Rattle.std.proofs.Common.{inl, inr, refl, map}
-use Rattle.fx_winding.specs.Dropout.{IsGap}
+use Rattle.fx_dropout.specs.Dropout.{IsGap}
 use Rattle.fx_winding.specs.Frames.{IsInFrame}
 use Rattle.fx_winding.specs.Winding.{span_of, centre, IsCovered}
 use Rattle.fx_winding.proofs.Places.{no}
@@ -16,7 +16,7 @@ pub returns-then-is_row_gap : goal.returns-then-is_row_gap
 returns-then-is_row_gap c = (
   λ t. inr (record {
     inside = c.is_inside.ensures.0 c.if-not-is_inside.false;
-    gap = inl (c.is_row_gap.ensures.0 c.if-is_row_gap.true);
+    closes = inl (record { gap = c.is_row_gap.ensures.0 c.if-is_row_gap.true; chosen = inl (λ e. e) });
   }),
   λ b. refl,
 )

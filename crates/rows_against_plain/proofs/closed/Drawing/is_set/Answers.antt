@@ -1,6 +1,8 @@
 use Rattle.std.proofs.Common.{inl, inr, refl, map, ℤ, arith}
 use Rattle.fx_fixed.proofs.Linear.{signed_linear}
-use Rattle.fx_winding.specs.Dropout.{turned_span, IsGap, IsRowSet}
+use Rattle.fx_dropout.specs.declared.chooser.Closing.TheVariants.{Lower}
+use Rattle.fx_dropout.specs.Dropout.{IsGap, IsRowSet}
+use Rattle.fx_winding.specs.Dropout.{turned_span}
 use Rattle.fx_winding.specs.Frames.{IsInFrame}
 use Rattle.fx_winding.specs.Winding.{span_of}
 use Rattle.fx_winding.proofs.Places.{no}
@@ -27,7 +29,7 @@ pub returns-then-is_column_gap : goal.returns-then-is_column_gap
 returns-then-is_column_gap c = (
   λ t. inr (record {
     inside = c.is_inside.ensures.0 c.if-not-is_inside.false;
-    gap = inl (c.is_column_gap.ensures.0 c.if-is_column_gap.true);
+    closes = inl (record { gap = c.is_column_gap.ensures.0 c.if-is_column_gap.true; chosen = inl (λ e. e) });
   }),
   λ b. refl,
 )
@@ -38,7 +40,7 @@ returns-then-is_inside c =
     let f = c.args.self.now.frame in
     let low = moved (IsInFrame f) c.is_inside-2.result c.below-before.ensures.col c.below-before.ensures.row
     c.is_inside-2.ensures in
-    no (closed_before (map turned_span ss) (λ (j i : ℤ). IsInFrame f i j) (λ (j i : ℤ). IsRowSet ss f i j) c.args.pixel.row
+    no (closed_before (map turned_span ss) (λ (j i : ℤ). IsInFrame f i j) (λ (j i : ℤ). IsRowSet Lower ss f i j) c.args.pixel.row
     c.args.pixel.col (none c.is_row_set.result c.if-is_row_set.false c.is_row_set.ensures)
     (none c.is_column_gap.result c.if-is_column_gap.false c.is_column_gap.ensures) (low.0 c.if-is_inside.true))
 
@@ -48,9 +50,9 @@ returns c =
     let f = c.args.self.now.frame in
     let low = moved (IsInFrame f) c.is_inside-2.result c.below-before.ensures.col c.below-before.ensures.row
     c.is_inside-2.ensures in
-    let gap = moved (λ (i j : ℤ). IsGap (map turned_span ss) (λ (j i : ℤ). IsRowSet ss f i j) j i) c.is_column_gap-2.result
+    let gap = moved (λ (i j : ℤ). IsGap (map turned_span ss) (λ (j i : ℤ). IsRowSet Lower ss f i j) j i) c.is_column_gap-2.result
     c.below-before.ensures.col c.below-before.ensures.row c.is_column_gap-2.ensures in
-    closes_before (map turned_span ss) (λ (j i : ℤ). IsInFrame f i j) (λ (j i : ℤ). IsRowSet ss f i j) c.args.pixel.row
+    closes_before (map turned_span ss) (λ (j i : ℤ). IsInFrame f i j) (λ (j i : ℤ). IsRowSet Lower ss f i j) c.args.pixel.row
     c.args.pixel.col c.is_column_gap-2.result (none c.is_row_set.result c.if-is_row_set.false c.is_row_set.ensures)
     (c.is_inside.ensures.0 c.if-not-is_inside.false)
     (none c.is_column_gap.result c.if-is_column_gap.false c.is_column_gap.ensures)

@@ -1,0 +1,306 @@
+-- If no segment of the words of a frame is open, none is of its rows and columns, and closing gaps changes nothing.
+-- Serves `look`, and `close_words`.
+use Rattle.std.proofs.Common.{◌≡◌, ◌⊎◌, ◌↔◌, inl, inr, refl, sym, ap, ◌∙◌, subst, ℕ, zero, suc, ◌+◌, ◌-◌, ◌*◌, ◌%◌, ◌<◌, ◌≤◌}
+use Rattle.std.proofs.Common.{ℤ, pos, ◌+ℤ◌, not, nat_eq, Bool, true, false, List, take, drop, get_or, length, bit_or, arith}
+use Rattle.std.specs.Int.{bit_at}
+use Rattle.std.proofs.Math.Nat.{mul-le-mul_right}
+use Rattle.std.proofs.lemmas.Bool.Decides.{nat_tests}
+use Rattle.std.proofs.lemmas.List.{get_or-drop, get_or-take, length-drop, length-take}
+use Rattle.std.proofs.lemmas.Nat.{le_or_l, le_or_r}
+use Rattle.std.proofs.lemmas.Nat.Bits.{bit_at-zero}
+use Rattle.fx_fixed.proofs.Order.{below_or_not}
+use Rattle.fx_winding.specs.declared.frame.Frame.{Frame}
+use Rattle.fx_winding.specs.Bitmaps.{AreWords, words_for, word_bit}
+use Rattle.fx_winding.specs.Notes.{words_noted}
+use Rattle.fx_dropout.specs.inner.Closing.{IsOpen, IsOpenAt, IsReached, IsClosedBit, AreClosedWords, AreNoneOpen, bit_in, row_bit}
+use Rattle.fx_dropout.proofs.Parts.{part_bit, past_part, unused_bit}
+use Rattle.fx_dropout.proofs.Rows.{bit_of_row}
+
+-- ---- a line
+-- the bit of the pixel before one of a line; 0 before the first
+abbrev pub before_of : (ℕ → ℕ) → ℕ → ℕ
+before_of P zero = 0
+before_of P (suc n) = P n
+
+open_at : (P Q : ℕ → ℕ) (n : ℕ) → IsOpenAt P Q n → IsOpen (Q n) (before_of P n) (P n)
+open_at P Q zero o = o
+open_at P Q (suc n) o = o
+
+open_back : (P Q : ℕ → ℕ) (n : ℕ) → IsOpen (Q n) (before_of P n) (P n) → IsOpenAt P Q n
+open_back P Q zero o = o
+open_back P Q (suc n) o = o
+
+-- where no segment is open, each pixel kept_as_is as it is
+kept_as_is : (P Q : ℕ → ℕ) (Next : ℕ → Type 0) (n : ℕ) → ((k : ℕ) → k ≤ suc n → ¬ (IsOpenAt P Q k)) → IsClosedBit P Q Next n (P n)
+kept_as_is P Q Next n none = (λ e. inl e, back)
+  where
+    reached : (m : ℕ) → m ≡ n → IsReached P Q Next m → ⊥
+    reached zero e o = none 0 (omega arith) o
+    reached (suc m) e o = none (suc m) (omega (arith, e)) o.0
+
+    back : (P n ≡ 1) ⊎ ((IsOpenAt P Q (suc n) × ¬ (Next n)) ⊎ IsReached P Q Next n) → P n ≡ 1
+    back (inl e) = e
+    back (inr (inl o)) = absurd (none (suc n) (omega arith) o.0)
+    back (inr (inr h)) = absurd (reached n refl h)
+
+pub none_closed : (IsNext : Bool → ℤ → ℤ → Type 0) (f : Frame) (across up words : List ℕ) → AreNoneOpen f across up words
+    → AreClosedWords IsNext f across up words words
+none_closed IsNext f across up words none = record {
+  mid = words;
+  long = refl;
+  rows = λ r n h l. kept_as_is (λ k. row_bit words (r * words_for f.width) (words_for f.width) k)
+      (λ k. row_bit across (r * words_noted f.width) (words_noted f.width) k)
+      (λ k. IsNext false (f.left +ℤ pos k) (f.bottom +ℤ pos r)) n (λ k _. none.rows r k h);
+  columns = λ r w i h l m. kept_as_is (λ k. bit_in words (k * words_for f.width + w) i)
+      (λ k. bit_in up (k * words_noted f.width + w) i)
+      (λ k. IsNext true (f.left +ℤ pos (32 * w + (31 - i))) (f.bottom +ℤ pos k)) r
+      (λ k o. none.columns k w i (omega (arith, o, h)) l m);
+}
+
+-- ---- words of a line
+-- gaps that were none
+pub no_gaps : (gaps : ℕ) → not (nat_eq gaps 0) ≡ false → gaps ≡ 0
+no_gaps gaps e = grind (arith, nat_tests)
+
+pub record AcrossTo (noted words : List ℕ) (w gaps before : ℕ) : Type 0 where
+  pub clear : gaps ≡ 0 → (n : ℕ) → n < 32 * w → ¬ (IsOpenAt (λ k. word_bit words k) (λ k. word_bit noted k) n)
+  pub last : bit_at before 0 ≡ before_of (λ k. word_bit words k) (32 * w)
+
+pub across_none : (noted words : List ℕ) → AcrossTo noted words 0 0 0
+across_none noted words = record { clear = λ e n l. absurd (omega (arith, l)); last = bit_at-zero 0 }
+
+pub across_more : (noted words : List ℕ) (w gaps before left g : ℕ) → AcrossTo noted words w gaps before
+    → bit_at left 31 ≡ bit_at before 0
+    → ((i : ℕ) → 0 < i → i < 32 → bit_at left (31 - i) ≡ bit_at (get_or words w 0) (32 - i))
+    → ((i : ℕ) → i < 32 → (bit_at g i ≡ 1) ↔ IsOpen (bit_at (get_or noted w 0) i) (bit_at left i) (bit_at (get_or words w 0) i))
+    → AcrossTo noted words (w + 1) (bit_or gaps g) (get_or words w 0)
+across_more noted words w gaps before left g old first inner gap = record {
+  clear = λ e n l. by e n l (below_or_not n (32 * w));
+  last =
+      let n : suc (32 * w + 31) ≡ 32 * (w + 1) = omega arith in
+      bit_of_row words w 31 (omega arith) ∙ ap (before_of (λ k. word_bit words k)) n;
+}
+  where
+    left_is : (c : ℕ) → c < 32 → bit_at left (31 - c) ≡ before_of (λ k. word_bit words k) (32 * w + c)
+    left_is zero l =
+        let e : 32 * w ≡ 32 * w + 0 = omega arith in first ∙ old.last ∙ ap (before_of (λ k. word_bit words k)) e
+    left_is (suc d) l =
+        let e : 32 - suc d ≡ 31 - d = omega (arith, l) in
+        let n : suc (32 * w + d) ≡ 32 * w + suc d = omega arith in
+        inner (suc d) (omega arith) l ∙ ap (bit_at (get_or words w 0)) e ∙ bit_of_row words w d (omega (arith, l))
+        ∙ ap (before_of (λ k. word_bit words k)) n
+
+    at : g ≡ 0 → (c : ℕ) → c < 32 → ¬ (IsOpenAt (λ k. word_bit words k) (λ k. word_bit noted k) (32 * w + c))
+    at z c l o =
+        let is = open_at (λ k. word_bit words k) (λ k. word_bit noted k) (32 * w + c) o in
+        let a = bit_of_row noted w c l in
+        let b = left_is c l in
+        let d = bit_of_row words w c l in
+        let here : IsOpen (bit_at (get_or noted w 0) (31 - c)) (bit_at left (31 - c)) (bit_at (get_or words w 0) (31 - c)) =
+        record { noted_is = a ∙ is.noted_is; here_is = b ∙ is.here_is; next_is = d ∙ is.next_is } in
+        let one = (gap (31 - c) (omega arith)).1 here in
+        let none = ap (λ v. bit_at v (31 - c)) z ∙ bit_at-zero (31 - c) in
+        omega (arith, one, none)
+
+    by : bit_or gaps g ≡ 0 → (n : ℕ) → n < 32 * (w + 1) → (n < 32 * w) ⊎ (32 * w ≤ n)
+        → ¬ (IsOpenAt (λ k. word_bit words k) (λ k. word_bit noted k) n)
+    by e n l (inl h) = let a = le_or_l gaps g in old.clear (omega (arith, a, e)) n h
+    by e n l (inr h) =
+        let a = le_or_r gaps g in
+        let c : 32 * w + n % 32 ≡ n = omega (arith, h, l) in
+        subst (λ (k : ℕ). ¬ (IsOpenAt (λ k. word_bit words k) (λ k. word_bit noted k) k)) c
+        (at (omega (arith, a, e)) (n % 32) (omega arith))
+
+-- ---- words between two rows
+pub record UpTo (noted lower upper : List ℕ) (w gaps : ℕ) : Type 0 where
+  pub clear : gaps ≡ 0 → (k i : ℕ) → k < w → i < 32 → ¬ (IsOpen (bit_in noted k i) (bit_in lower k i) (bit_in upper k i))
+
+pub up_none : (noted lower upper : List ℕ) → UpTo noted lower upper 0 0
+up_none noted lower upper = record { clear = λ e k i l. absurd (omega (arith, l)) }
+
+pub up_more : (noted lower upper : List ℕ) (w gaps g : ℕ) → UpTo noted lower upper w gaps
+    → ((i : ℕ) → i < 32
+    → (bit_at g i ≡ 1) ↔ IsOpen (bit_at (get_or noted w 0) i) (bit_at (get_or lower w 0) i) (bit_at (get_or upper w 0) i))
+    → UpTo noted lower upper (w + 1) (bit_or gaps g)
+up_more noted lower upper w gaps g old gap = record { clear = λ e k i l m. by e k i l m (below_or_not k w) }
+  where
+    by : bit_or gaps g ≡ 0 → (k i : ℕ) → k < w + 1 → i < 32 → (k < w) ⊎ (w ≤ k)
+        → ¬ (IsOpen (bit_in noted k i) (bit_in lower k i) (bit_in upper k i))
+    by e k i l m (inl h) = let a = le_or_l gaps g in old.clear (omega (arith, a, e)) k i h m
+    by e k i l m (inr h) =
+        let a = le_or_r gaps g in
+        let z : g ≡ 0 = omega (arith, a, e) in
+        let same : w ≡ k = omega (arith, l, h) in
+        subst (λ (k : ℕ). ¬ (IsOpen (bit_in noted k i) (bit_in lower k i) (bit_in upper k i))) same
+        (λ o. let one = (gap i m).1 o in let none = ap (λ v. bit_at v i) z ∙ bit_at-zero i in omega (arith, one, none))
+
+-- ---- the rows and columns of a frame, if a row has as many words of segments as of pixels
+pub record AreFlat (f : Frame) (across up words : List ℕ) : Type 0 where
+  pub high : 0 < f.height
+  pub same : words_noted f.width ≡ words_for f.width
+  pub held : AreWords f.height f.width words
+  pub rows : (n : ℕ) → n < 32 * length words → ¬ (IsOpenAt (λ k. word_bit words k) (λ k. word_bit across k) n)
+  pub first : (w i : ℕ) → w < words_for f.width → i < 32 → ¬ (IsOpen (bit_in up w i) (bit_in words w i) (bit_in words w i))
+  pub inner : (w i : ℕ) → w + words_for f.width < length words → i < 32
+      → ¬ (IsOpen (bit_in up (words_for f.width + w) i) (bit_in words w i) (bit_in words (words_for f.width + w) i))
+  pub last : (w i : ℕ) → w < words_for f.width → i < 32
+      → ¬ (IsOpen (bit_in up (length words + w) i) (bit_in words (length words - words_for f.width + w) i)
+      (bit_in words (length words - words_for f.width + w) i))
+
+pub none_open : (f : Frame) (across up words : List ℕ) → AreFlat f across up words → AreNoneOpen f across up words
+none_open f across up words flat = record { rows = λ r n h. row r n h (below_or_not n (32 * size)); columns = column }
+  where
+    size : ℕ
+    size = words_for f.width
+
+    long : length words ≡ f.height * size
+    long = flat.held.long
+
+    -- the bit of a row's pixel, and that of the one before it, in the words of all rows
+    pixel : (r n : ℕ) → n < 32 * size → row_bit words (r * size) size n ≡ word_bit words (32 * (r * size) + n)
+    pixel r n l = part_bit words (r * size) size n l
+
+    start : (r : ℕ) → r < f.height → before_of (λ k. word_bit words k) (32 * (r * size)) ≡ 0
+    start zero h =
+        let e : 0 ≡ 32 * (0 * size) = omega arith in sym (ap (before_of (λ k. word_bit words k)) e)
+    start (suc r) h =
+        let same = flat.same in
+        let some : 0 < size = omega (arith, same) in
+        let one : suc r * size ≡ r * size + size = omega arith in
+        let e : suc (32 * (r * size) + (32 * size - 1)) ≡ 32 * (suc r * size) = omega (arith, some, one) in
+        sym (ap (before_of (λ k. word_bit words k)) e) ∙ sym (pixel r (32 * size - 1) (omega (arith, some)))
+        ∙ unused_bit f words r (32 * size - 1) flat.held (omega (arith, h)) (omega (arith, same))
+
+    before : (r n : ℕ) → r < f.height → n < 32 * size
+        → before_of (λ k. row_bit words (r * size) size k) n ≡ before_of (λ k. word_bit words k) (32 * (r * size) + n)
+    before r zero h l =
+        let e : 32 * (r * size) ≡ 32 * (r * size) + 0 = omega arith in
+        sym (start r h) ∙ ap (before_of (λ k. word_bit words k)) e
+    before r (suc n) h l =
+        let e : suc (32 * (r * size) + n) ≡ 32 * (r * size) + suc n = omega arith in
+        pixel r n (omega (arith, l)) ∙ ap (before_of (λ k. word_bit words k)) e
+
+    row : (r n : ℕ) → r < f.height → (n < 32 * size) ⊎ (32 * size ≤ n)
+        → ¬ (IsOpenAt (λ k. row_bit words (r * size) size k) (λ k. row_bit across (r * words_noted f.width)
+        (words_noted f.width) k) n)
+    row r n h (inr l) o =
+        let same = flat.same in
+        let is = (open_at (λ k. row_bit words (r * size) size k)
+        (λ k. row_bit across (r * words_noted f.width) (words_noted f.width) k) n o).noted_is in
+        let none = past_part across (r * words_noted f.width) (words_noted f.width) n (omega (arith, l, same)) in
+        omega (arith, is, none)
+    row r n h (inl l) o =
+        let same = flat.same in
+        let is = open_at (λ k. row_bit words (r * size) size k)
+        (λ k. row_bit across (r * words_noted f.width) (words_noted f.width) k) n o in
+        let step : r * words_noted f.width ≡ r * size = ap (λ (s : ℕ). r * s) same in
+        let noted : word_bit across (32 * (r * size) + n) ≡ 1 =
+        sym (λ t. word_bit across (32 * step t + n))
+        ∙ sym (part_bit across (r * words_noted f.width) (words_noted f.width) n (omega (arith, l, same))) ∙ is.noted_is in
+        let m : (r + 1) * size ≤ f.height * size = mul-le-mul_right size (omega (arith, h)) in
+        let one : (r + 1) * size ≡ r * size + size = omega arith in
+        flat.rows (32 * (r * size) + n) (omega (arith, l, m, one, long))
+        (open_back (λ k. word_bit words k) (λ k. word_bit across k)
+        (32 * (r * size) + n) (record {
+          noted_is = noted;
+          here_is = sym (before r n h l) ∙ is.here_is;
+          next_is = sym (pixel r n l) ∙ is.next_is;
+        }))
+
+    column : (r w i : ℕ) → r ≤ f.height → w < size → i < 32
+        → ¬ (IsOpenAt (λ k. bit_in words (k * size + w) i) (λ k. bit_in up (k * words_noted f.width + w) i) r)
+    column zero w i h l m o =
+        let a : 0 * words_noted f.width + w ≡ w = omega arith in
+        let b : 0 * size + w ≡ w = omega arith in
+        let next : bit_in words w i ≡ 0 = (λ t. bit_in words (sym b t) i) ∙ o.next_is in
+        flat.first w i l m (record { noted_is = (λ t. bit_in up (sym a t) i) ∙ o.noted_is; here_is = next; next_is = next })
+    column (suc r) w i h l m o = by (below_or_not (suc r) f.height)
+      where
+        one : (r + 1) * size ≡ r * size + size
+        one = omega arith
+
+        at : suc r * size + w ≡ size + (r * size + w)
+        at = omega (arith, one)
+
+        noted : bit_in up (size + (r * size + w)) i ≡ 1
+        noted =
+            let step : suc r * words_noted f.width + w ≡ size + (r * size + w) =
+            ap (λ (s : ℕ). suc r * s + w) flat.same ∙ at in
+            (λ t. bit_in up (sym step t) i) ∙ o.noted_is
+
+        by : (suc r < f.height) ⊎ (f.height ≤ suc r) → ⊥
+        by (inl k) =
+            let most : (r + 1 + 1) * size ≤ f.height * size = mul-le-mul_right size (omega (arith, k)) in
+            let two : (r + 1 + 1) * size ≡ r * size + size + size = omega arith in
+            flat.inner (r * size + w) i (omega (arith, most, two, long, l)) m (record {
+              noted_is = noted;
+              here_is = o.here_is;
+              next_is = (λ t. bit_in words (sym at t) i) ∙ o.next_is;
+            })
+        by (inr k) =
+            let e : r + 1 ≡ f.height = omega (arith, h, k) in
+            let all : length words ≡ r * size + size = long ∙ sym (ap (λ (n : ℕ). n * size) e) ∙ one in
+            let a : size + (r * size + w) ≡ length words + w = omega (arith, all) in
+            let b : length words - size + w ≡ r * size + w = omega (arith, all) in
+            let here : bit_in words (length words - size + w) i ≡ 0 = (λ t. bit_in words (b t) i) ∙ o.here_is in
+            flat.last w i l m (record { noted_is = (λ t. bit_in up (sym a t) i) ∙ noted; here_is = here; next_is = here })
+
+-- ---- for `may_be_open`
+-- a bit of a part of a list
+part_of : (xs : List ℕ) (from n w i : ℕ) → w < n → bit_in (take n (drop from xs)) w i ≡ bit_in xs (from + w) i
+part_of xs from n w i l = ap (λ v. bit_at v i) (get_or-take n (drop from xs) w 0 l ∙ get_or-drop from xs w 0)
+
+pub flat_of : (f : Frame) (across up words : List ℕ) (step : ℕ) → step ≡ words_for f.width → 0 < f.height
+    → words_noted f.width ≤ step → length up ≡ (f.height + 1) * words_noted f.width → AreWords f.height f.width words
+    → ((n : ℕ) → n < 32 * length words → ¬ (IsOpenAt (λ k. word_bit words k) (λ k. word_bit across k) n))
+    → ((w i : ℕ) → w < length (take step up) → i < 32
+    → ¬ (IsOpen (bit_in (take step up) w i) (bit_in words w i) (bit_in words w i)))
+    → ((w i : ℕ) → w < length (take (length words - step) (drop step up)) → i < 32
+    → ¬ (IsOpen (bit_in (take (length words - step) (drop step up)) w i) (bit_in words w i)
+    (bit_in (take (length words - step) (drop step words)) w i)))
+    → ((w i : ℕ) → w < length (take (length up - length words) (drop (length words) up)) → i < 32
+    → ¬ (IsOpen (bit_in (take (length up - length words) (drop (length words) up)) w i)
+    (bit_in (take (length words - (length words - step)) (drop (length words - step) words)) w i)
+    (bit_in (take (length words - (length words - step)) (drop (length words - step) words)) w i)))
+    → AreFlat f across up words
+flat_of f across up words step e high few long held rows first inner last = record {
+  high = high;
+  same = same;
+  held = held;
+  rows = rows;
+  first = λ w i l m.
+      let t = length-take step up in
+      let b : bit_in (take step up) w i ≡ bit_in up w i = ap (λ v. bit_at v i) (get_or-take step up w 0 (omega (arith, l, e))) in
+      subst (λ (z : ℕ). ¬ (IsOpen z (bit_in words w i) (bit_in words w i))) b (first w i (omega (arith, t, l, e, most)) m);
+  inner = λ w i l m.
+      let t = length-take (length words - step) (drop step up) in
+      let d = length-drop step up in
+      let at : step + w ≡ words_for f.width + w = omega (arith, e) in
+      let a = part_of up step (length words - step) w i (omega (arith, l, e)) ∙ ap (λ (k : ℕ). bit_in up k i) at in
+      let b = part_of words step (length words - step) w i (omega (arith, l, e)) ∙ ap (λ (k : ℕ). bit_in words k i) at in
+      subst (λ (z : ℕ × ℕ). ¬ (IsOpen z.0 (bit_in words w i) z.1)) (λ t. (a t, b t))
+      (inner w i (omega (arith, t, d, l, e, most)) m);
+  last = λ w i l m.
+      let t = length-take (length up - length words) (drop (length words) up) in
+      let d = length-drop (length words) up in
+      let at : length words - step + w ≡ length words - words_for f.width + w = omega (arith, e) in
+      let a = part_of up (length words) (length up - length words) w i (omega (arith, l, most)) in
+      let b = part_of words (length words - step) (length words - (length words - step)) w i (omega (arith, l, e, some))
+      ∙ ap (λ (k : ℕ). bit_in words k i) at in
+      subst (λ (z : ℕ × ℕ). ¬ (IsOpen z.0 z.1 z.1)) (λ t. (a t, b t)) (last w i (omega (arith, t, d, l, most)) m);
+}
+  where
+    same : words_noted f.width ≡ words_for f.width
+    same = omega (arith, e, few)
+
+    most : length up ≡ length words + words_for f.width
+    most =
+        let one : (f.height + 1) * words_for f.width ≡ f.height * words_for f.width + words_for f.width = omega arith in
+        long ∙ ap (λ (n : ℕ). (f.height + 1) * n) same ∙ one ∙ ap (λ (n : ℕ). n + words_for f.width) (sym held.long)
+
+    some : words_for f.width ≤ length words
+    some =
+        let m : 1 * words_for f.width ≤ f.height * words_for f.width = mul-le-mul_right (words_for f.width)
+        (omega (arith, high)) in
+        let n = held.long in
+        omega (arith, m, n)

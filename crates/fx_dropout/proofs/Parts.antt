@@ -1,0 +1,51 @@
+-- Bits of a part of a list of words.
+-- Serves `may_be_open`, and `noted`.
+use Rattle.std.proofs.Common.{◌≡◌, ◌⊎◌, inl, inr, ap, ◌∙◌, subst, ℕ, ◌+◌, ◌-◌, ◌*◌, ◌/◌, ◌%◌, ◌<◌, ◌≤◌, List, take, drop, get_or, length, arith}
+use Rattle.std.specs.Int.{bit_at}
+use Rattle.std.proofs.lemmas.List.{get_or-take, get_or-drop, get_or_past, length-take}
+use Rattle.std.proofs.lemmas.Nat.Bits.{bit_at-zero}
+use Rattle.fx_fixed.proofs.Order.{below_or_not}
+use Rattle.fx_winding.specs.declared.frame.Frame.{Frame}
+use Rattle.fx_winding.specs.Bitmaps.{AreWords, AreRowWords, words_for, word_bit}
+use Rattle.fx_winding.proofs.Grid.{cut-row}
+use Rattle.fx_dropout.specs.inner.Closing.{bit_in, row_bit}
+
+-- a part of a list of words
+pub part_bit : (xs : List ℕ) (from n k : ℕ) → k < 32 * n → word_bit (take n (drop from xs)) k ≡ word_bit xs (32 * from + k)
+part_bit xs from n k h =
+    let w : from + k / 32 ≡ (32 * from + k) / 32 = omega arith in
+    let c : k % 32 ≡ (32 * from + k) % 32 = omega arith in
+    ap (λ v. bit_at v (31 - k % 32)) (get_or-take n (drop from xs) (k / 32) 0 (omega (arith, h)) ∙ get_or-drop from xs (k / 32) 0)
+    ∙ (λ t. bit_at (get_or xs (w t) 0) (31 - c t))
+
+-- the same bit, by its word
+pub part_word : (xs : List ℕ) (from n k : ℕ) → k < 32 * n
+    → word_bit (take n (drop from xs)) k ≡ bit_in xs (from + k / 32) (31 - k % 32)
+part_word xs from n k h =
+    ap (λ v. bit_at v (31 - k % 32)) (get_or-take n (drop from xs) (k / 32) 0 (omega (arith, h)) ∙ get_or-drop from xs (k / 32) 0)
+
+-- after the last word there is no bit
+pub past_bit : (xs : List ℕ) (k : ℕ) → 32 * length xs ≤ k → word_bit xs k ≡ 0
+past_bit xs k h =
+    ap (λ v. bit_at v (31 - k % 32)) (get_or_past xs (k / 32) 0 (omega (arith, h))) ∙ bit_at-zero (31 - k % 32)
+
+pub past_part : (xs : List ℕ) (from n k : ℕ) → 32 * n ≤ k → word_bit (take n (drop from xs)) k ≡ 0
+past_part xs from n k h =
+    let l = length-take n (drop from xs) in
+    past_bit (take n (drop from xs)) k (omega (arith, l, h))
+
+-- the bits after a row's last pixel are 0
+pub unused_bit : (f : Frame) (xs : List ℕ) (r k : ℕ) → AreWords f.height f.width xs → r < f.height → f.width ≤ k
+    → row_bit xs (r * words_for f.width) (words_for f.width) k ≡ 0
+unused_bit f xs r k words h w = by (below_or_not k (32 * length (take size (drop (r * size) xs))))
+  where
+    size : ℕ
+    size = words_for f.width
+
+    row : AreRowWords f.width (take size (drop (r * size) xs))
+    row = subst (AreRowWords f.width) (cut-row f.height size xs r h) (words.rows r h)
+
+    by : (k < 32 * length (take size (drop (r * size) xs))) ⊎ (32 * length (take size (drop (r * size) xs)) ≤ k)
+        → word_bit (take size (drop (r * size) xs)) k ≡ 0
+    by (inl l) = row.unused k w l
+    by (inr l) = past_bit (take size (drop (r * size) xs)) k l

@@ -1,0 +1,274 @@
+-- What drop-out control sets.
+-- Serves the laws of this crate, and the law `bridged` of fx_raster.
+use Rattle.std.proofs.Common.{◌≡◌, ◌⊎◌, ◌↔◌, inl, inr, refl, sym, subst, ℕ, ◌+◌, ℤ, pos, ◌+ℤ◌, ◌-ℤ◌, Bool, true, false, List, map, Any, arith}
+use Rattle.std.specs.List.Sorted.{IsPermutation}
+use Rattle.std.proofs.lemmas.List.Sorted.{IsPermutation-sym}
+use Rattle.fx_fixed.proofs.Linear.{signed_linear}
+use Rattle.fx_winding.specs.declared.frame.Frame.{Frame}
+use Rattle.fx_winding.specs.Area.{Place}
+use Rattle.fx_winding.specs.Dropout.{turned_span}
+use Rattle.fx_winding.specs.Frames.{IsInFrame}
+use Rattle.fx_winding.specs.Meets.{IsMet}
+use Rattle.fx_winding.specs.Moves.{reversed}
+use Rattle.fx_winding.specs.Winding.{Span, IsCovered, centre}
+use Rattle.fx_winding.proofs.Covers.{any_map, any_unmap, any_permutation}
+use Rattle.fx_winding.proofs.Meeting.{reversal_meets}
+use Rattle.fx_winding.proofs.Reversal.{reversal_keeps_cover}
+use Rattle.fx_dropout.specs.declared.chooser.Closing.{Closing}
+use Rattle.fx_dropout.specs.declared.chooser.Closing.TheVariants.{Lower, Nearer}
+use Rattle.fx_dropout.specs.Dropout.{IsGap, IsCount, IsNextChosen, IsNextNearer, IsBridged, IsRowSet, IsRowSetIn, IsSet, IsSetIn, IsClosedByLeft, IsClosedByRight, place_on}
+use Rattle.fx_dropout.proofs.Counts.{count_iff}
+use Rattle.fx_dropout.specs.Laws.{DropoutAdds, RowsHaveNoGap, ColumnsHaveNoGap, ReversalKeepsSet}
+
+column_before : (i : ℤ) → i ≡ (i +ℤ pos 1) -ℤ pos 1
+column_before i = omega (arith, signed_linear)
+
+-- between two neighbours that are not set, one of which is inside, no piece passes
+pub bridged_no_gap : (ss : List Span) (In Near So : ℤ → ℤ → Type 0) (i j : ℤ) → In i j ⊎ In (i +ℤ pos 1) j
+    → ¬ (IsBridged ss In Near So i j) → ¬ (IsBridged ss In Near So (i +ℤ pos 1) j)
+    → ¬ (Any (IsMet (centre i j) (centre (i +ℤ pos 1) j)) ss)
+bridged_no_gap ss In Near So i j h n m a = by h
+  where
+    gap : IsGap ss So i j
+    gap = record { here = λ s. n (inl s); next = λ s. m (inl s); met = a }
+
+    not_right : In (i +ℤ pos 1) j → Near i j ⊎ ¬ (In i j) → ⊥
+    not_right k c = m (inr (record {
+      inside = k;
+      closes = inr (subst (λ (i : ℤ). IsClosedByRight ss In Near So i j) (column_before i) (record { gap = gap; chosen = c }));
+    }))
+
+    not_left : In i j → ¬ (Near i j) ⊎ ¬ (In (i +ℤ pos 1) j) → ⊥
+    not_left k c = n (inr (record { inside = k; closes = inl (record { gap = gap; chosen = c }) }))
+
+    left : In i j → ⊥
+    left k = not_left k (inl (λ x. not_left k (inr (λ l. not_right l (inl x)))))
+
+    by : In i j ⊎ In (i +ℤ pos 1) j → ⊥
+    by (inl k) = left k
+    by (inr l) = not_right l (inr left)
+
+pub dropout_adds : DropoutAdds
+dropout_adds closing ss f i j = (λ c. inl (inl c), λ s. within s)
+  where
+    within : IsSet closing ss f i j → IsCovered (centre i j) ss ⊎ IsInFrame f i j
+    within (inl (inl c)) = inl c
+    within (inl (inr b)) = inr b.inside
+    within (inr b) = inr b.inside
+
+pub rows_have_no_gap : RowsHaveNoGap
+rows_have_no_gap closing ss f i j h n m a =
+    bridged_no_gap ss (IsInFrame f) (IsNextChosen closing false ss) (λ i j. IsCovered (centre i j) ss) i j h (λ s. n (inl s))
+    (λ s. m (inl s)) a
+
+pub columns_have_no_gap : ColumnsHaveNoGap
+columns_have_no_gap closing ss f i j h n m a =
+    bridged_no_gap (map turned_span ss) (λ j i. IsInFrame f i j) (λ j i. IsNextChosen closing true ss i j)
+    (λ j i. IsRowSet closing ss f i j) j i
+    h n m a
+
+-- ---- reversed
+-- where the same places are covered
+pub nearer_along : (up : Bool) (ss ts : List Span) (col row i j : ℤ)
+    → ((n : ℕ) → IsCovered (place_on up col row n) ss ↔ IsCovered (place_on up i j n) ts) → IsNextNearer up ss col row
+    → IsNextNearer up ts i j
+nearer_along up ss ts col row i j e h = record {
+  here = h.here;
+  next = h.next;
+  first_half = half 1 h.here h.first_half;
+  second_half = half 65 h.next h.second_half;
+  more = h.more;
+}
+  where
+    half : (m count : ℕ) → IsCount (λ n. IsCovered (place_on up col row (n + m)) ss) 63 count
+        → IsCount (λ n. IsCovered (place_on up i j (n + m)) ts) 63 count
+    half m count =
+        count_iff (λ n. IsCovered (place_on up col row (n + m)) ss) (λ n. IsCovered (place_on up i j (n + m)) ts) 63 count
+        (λ n below. e (n + m))
+
+pub chosen_along : (closing : Closing) (up : Bool) (ss ts : List Span) (col row i j : ℤ)
+    → ((n : ℕ) → IsCovered (place_on up col row n) ss ↔ IsCovered (place_on up i j n) ts) → IsNextChosen closing up ss col row
+    → IsNextChosen closing up ts i j
+chosen_along Lower up ss ts col row i j e h = h
+chosen_along Nearer up ss ts col row i j e h = nearer_along up ss ts col row i j e h
+
+-- a piece passes between two neighbours of a row
+abbrev pub AreMet : List Span → ℤ → ℤ → Type 0
+AreMet ss i j = Any (IsMet (centre i j) (centre (i +ℤ pos 1) j)) ss
+
+-- what holds of pixels, moved
+pub record IsMoved (m n : ℤ → ℤ) (P Q : ℤ → ℤ → Type 0) : Type 0 where
+  pub back : (i j : ℤ) → Q (m i) (n j) → P i j
+  pub on : (i j : ℤ) → P i j → Q (m i) (n j)
+
+-- a row closed, where what is inside, nearer, set so far and a gap is moved
+pub closed_moved : (m n : ℤ → ℤ) → ((i : ℤ) → m (i +ℤ pos 1) ≡ m i +ℤ pos 1) → ((i : ℤ) → m (i -ℤ pos 1) ≡ m i -ℤ pos 1)
+    → (ss ts : List Span) (In To Near Far So At : ℤ → ℤ → Type 0) → IsMoved m n In To → IsMoved m n Near Far
+    → IsMoved m n So At → IsMoved m n (IsGap ss So) (IsGap ts At)
+    → IsMoved m n (IsBridged ss In Near So) (IsBridged ts To Far At)
+closed_moved m n after before ss ts In To Near Far So At inside near so gap =
+    record { back = λ i j b. from i j b; on = λ i j b. to i j b }
+  where
+    left_back : (i j : ℤ) → IsClosedByLeft ts To Far At (m i) (n j) → IsClosedByLeft ss In Near So i j
+    left_back i j c = record { gap = gap.back i j c.gap; chosen = by c.chosen }
+      where
+        by : ¬ (Far (m i) (n j)) ⊎ ¬ (To (m i +ℤ pos 1) (n j)) → ¬ (Near i j) ⊎ ¬ (In (i +ℤ pos 1) j)
+        by (inl k) = inl (λ h. k (near.on i j h))
+        by (inr k) = inr (λ h. k (subst (λ z. To z (n j)) (after i) (inside.on (i +ℤ pos 1) j h)))
+
+    left_on : (i j : ℤ) → IsClosedByLeft ss In Near So i j → IsClosedByLeft ts To Far At (m i) (n j)
+    left_on i j c = record { gap = gap.on i j c.gap; chosen = by c.chosen }
+      where
+        by : ¬ (Near i j) ⊎ ¬ (In (i +ℤ pos 1) j) → ¬ (Far (m i) (n j)) ⊎ ¬ (To (m i +ℤ pos 1) (n j))
+        by (inl k) = inl (λ h. k (near.back i j h))
+        by (inr k) = inr (λ h. k (inside.back (i +ℤ pos 1) j (subst (λ z. To z (n j)) (sym (after i)) h)))
+
+    right_back : (i j : ℤ) → IsClosedByRight ts To Far At (m i) (n j) → IsClosedByRight ss In Near So i j
+    right_back i j c = record { gap = gap.back i j c.gap; chosen = by c.chosen }
+      where
+        by : Far (m i) (n j) ⊎ ¬ (To (m i) (n j)) → Near i j ⊎ ¬ (In i j)
+        by (inl h) = inl (near.back i j h)
+        by (inr k) = inr (λ h. k (inside.on i j h))
+
+    right_on : (i j : ℤ) → IsClosedByRight ss In Near So i j → IsClosedByRight ts To Far At (m i) (n j)
+    right_on i j c = record { gap = gap.on i j c.gap; chosen = by c.chosen }
+      where
+        by : Near i j ⊎ ¬ (In i j) → Far (m i) (n j) ⊎ ¬ (To (m i) (n j))
+        by (inl h) = inl (near.on i j h)
+        by (inr k) = inr (λ h. k (inside.back i j h))
+
+    from : (i j : ℤ) → IsBridged ts To Far At (m i) (n j) → IsBridged ss In Near So i j
+    from i j (inl s) = inl (so.back i j s)
+    from i j (inr b) = inr (record { inside = inside.back i j b.inside; closes = by b.closes })
+      where
+        by : IsClosedByLeft ts To Far At (m i) (n j) ⊎ IsClosedByRight ts To Far At (m i -ℤ pos 1) (n j)
+            → IsClosedByLeft ss In Near So i j ⊎ IsClosedByRight ss In Near So (i -ℤ pos 1) j
+        by (inl c) = inl (left_back i j c)
+        by (inr c) = inr (right_back (i -ℤ pos 1) j
+            (subst (λ z. IsClosedByRight ts To Far At z (n j)) (sym (before i)) c))
+
+    to : (i j : ℤ) → IsBridged ss In Near So i j → IsBridged ts To Far At (m i) (n j)
+    to i j (inl s) = inl (so.on i j s)
+    to i j (inr b) = inr (record { inside = inside.on i j b.inside; closes = by b.closes })
+      where
+        by : IsClosedByLeft ss In Near So i j ⊎ IsClosedByRight ss In Near So (i -ℤ pos 1) j
+            → IsClosedByLeft ts To Far At (m i) (n j) ⊎ IsClosedByRight ts To Far At (m i -ℤ pos 1) (n j)
+        by (inl c) = inl (left_on i j c)
+        by (inr c) = inr (subst (λ z. IsClosedByRight ts To Far At z (n j)) (before i) (right_on (i -ℤ pos 1) j c))
+
+-- where what is met is moved, the gaps are
+pub bridged_moved : (m n : ℤ → ℤ) → ((i : ℤ) → m (i +ℤ pos 1) ≡ m i +ℤ pos 1) → ((i : ℤ) → m (i -ℤ pos 1) ≡ m i -ℤ pos 1)
+    → (ss ts : List Span) (In To Near Far So At : ℤ → ℤ → Type 0) → IsMoved m n In To → IsMoved m n Near Far
+    → IsMoved m n So At → IsMoved m n (AreMet ss) (AreMet ts)
+    → IsMoved m n (IsBridged ss In Near So) (IsBridged ts To Far At)
+bridged_moved m n after before ss ts In To Near Far So At inside near so met =
+    closed_moved m n after before ss ts In To Near Far So At inside near so
+    (record { back = λ i j g. gap_back i j g; on = λ i j g. gap_on i j g })
+  where
+    gap_back : (i j : ℤ) → IsGap ts At (m i) (n j) → IsGap ss So i j
+    gap_back i j g = record {
+      here = λ s. g.here (so.on i j s);
+      next = λ s. g.next (subst (λ z. At z (n j)) (after i) (so.on (i +ℤ pos 1) j s));
+      met = met.back i j g.met;
+    }
+
+    gap_on : (i j : ℤ) → IsGap ss So i j → IsGap ts At (m i) (n j)
+    gap_on i j g = record {
+      here = λ s. g.here (so.back i j s);
+      next = λ s. g.next (so.back (i +ℤ pos 1) j (subst (λ z. At z (n j)) (sym (after i)) s));
+      met = met.on i j g.met;
+    }
+
+-- a move of columns, or of rows, that keeps neighbours
+pub record KeepsNeighbours (m : ℤ → ℤ) : Type 0 where
+  pub after : (i : ℤ) → m (i +ℤ pos 1) ≡ m i +ℤ pos 1
+  pub before : (i : ℤ) → m (i -ℤ pos 1) ≡ m i -ℤ pos 1
+
+pub stays : KeepsNeighbours (λ i. i)
+stays = record { after = λ i. refl; before = λ i. refl }
+
+-- pieces and what is inside, moved
+pub record AreMoved (closing : Closing) (m n : ℤ → ℤ) (ss ts : List Span) (In To : ℤ → ℤ → Type 0) : Type 0 where
+  pub inside : IsMoved m n In To
+  pub chosen : (up : Bool) → IsMoved m n (IsNextChosen closing up ss) (IsNextChosen closing up ts)
+  pub covered : IsMoved m n (λ i j. IsCovered (centre i j) ss) (λ i j. IsCovered (centre i j) ts)
+  pub rows : IsMoved m n (AreMet ss) (AreMet ts)
+  pub columns : IsMoved n m (AreMet (map turned_span ss)) (AreMet (map turned_span ts))
+
+-- so what is set is moved
+pub set_moved : (closing : Closing) (m n : ℤ → ℤ) → KeepsNeighbours m → KeepsNeighbours n → (ss ts : List Span)
+    (In To : ℤ → ℤ → Type 0) → AreMoved closing m n ss ts In To → IsMoved m n (IsSetIn closing ss In) (IsSetIn closing ts To)
+set_moved closing m n km kn ss ts In To moved = record { back = λ i j h. all.back j i h; on = λ i j h. all.on j i h }
+  where
+    rows : IsMoved m n (IsRowSetIn closing ss In) (IsRowSetIn closing ts To)
+    rows = bridged_moved m n km.after km.before ss ts In To (IsNextChosen closing false ss) (IsNextChosen closing false ts)
+        (λ i j. IsCovered (centre i j) ss) (λ i j. IsCovered (centre i j) ts) moved.inside (moved.chosen false) moved.covered
+        moved.rows
+
+    exchanged : (P Q : ℤ → ℤ → Type 0) → IsMoved m n P Q → IsMoved n m (λ j i. P i j) (λ j i. Q i j)
+    exchanged P Q h = record { back = λ j i. h.back i j; on = λ j i. h.on i j }
+
+    all : IsMoved n m (λ j i. IsSetIn closing ss In i j) (λ j i. IsSetIn closing ts To i j)
+    all = bridged_moved n m kn.after kn.before (map turned_span ss) (map turned_span ts) (λ j i. In i j) (λ j i. To i j)
+        (λ j i. IsNextChosen closing true ss i j) (λ j i. IsNextChosen closing true ts i j) (λ j i. IsRowSetIn closing ss In i j)
+        (λ j i. IsRowSetIn closing ts To i j) (exchanged In To moved.inside)
+        (exchanged (IsNextChosen closing true ss) (IsNextChosen closing true ts) (moved.chosen true))
+        (exchanged (IsRowSetIn closing ss In) (IsRowSetIn closing ts To) rows) moved.columns
+
+any_reversed : (P : Span → Type 0) → ((s : Span) → P s → P (reversed s)) → (ss ts : List Span) → IsPermutation (map reversed ss) ts
+    → Any P ss → Any P ts
+any_reversed P back ss ts h a = any_permutation P (map reversed ss) ts h (any_map reversed P P back ss a)
+
+any_restored : (P : Span → Type 0) → ((s : Span) → P (reversed s) → P s) → (ss ts : List Span) → IsPermutation (map reversed ss) ts
+    → Any P ts → Any P ss
+any_restored P back ss ts h a =
+    any_unmap reversed P P back ss (any_permutation P ts (map reversed ss) (IsPermutation-sym (map reversed ss) ts h) a)
+
+-- what two lists of pieces have alike, of which the one is the other reversed
+record AreAlike (ss ts : List Span) : Type 0 where
+  covered : (p : Place) → IsCovered p ss ↔ IsCovered p ts
+  met : (p q : Place) → Any (IsMet p q) ss → Any (IsMet p q) ts
+  turned : (p q : Place) → Any (IsMet p q) (map turned_span ss) → Any (IsMet p q) (map turned_span ts)
+
+set_alike : (closing : Closing) (ss ts : List Span) → AreAlike ss ts → AreAlike ts ss → (f : Frame) (i j : ℤ)
+    → IsSet closing ts f i j ↔ IsSet closing ss f i j
+set_alike closing ss ts a b f i j = (λ h. all.back i j h, λ h. all.on i j h)
+  where
+    all : IsMoved (λ i. i) (λ j. j) (IsSet closing ss f) (IsSet closing ts f)
+    all = set_moved closing (λ i. i) (λ j. j) stays stays ss ts (IsInFrame f) (IsInFrame f) (record {
+      inside = record { back = λ i j h. h; on = λ i j h. h };
+      chosen = λ up. record {
+        back = λ i j h. chosen_along closing up ts ss i j i j (λ n. b.covered (place_on up i j n)) h;
+        on = λ i j h. chosen_along closing up ss ts i j i j (λ n. a.covered (place_on up i j n)) h;
+      };
+      covered = record { back = λ i j h. (b.covered (centre i j)).0 h; on = λ i j h. (a.covered (centre i j)).0 h };
+      rows = record {
+        back = λ i j h. b.met (centre i j) (centre (i +ℤ pos 1) j) h;
+        on = λ i j h. a.met (centre i j) (centre (i +ℤ pos 1) j) h;
+      };
+      columns = record {
+        back = λ j i h. b.turned (centre j i) (centre (j +ℤ pos 1) i) h;
+        on = λ j i h. a.turned (centre j i) (centre (j +ℤ pos 1) i) h;
+      };
+    })
+
+pub reversal_keeps_set : ReversalKeepsSet
+reversal_keeps_set closing ss ts f h i j = set_alike closing ss ts backward restored f i j
+  where
+    backward : AreAlike ss ts
+    backward = record {
+      covered = λ p. let k = reversal_keeps_cover p ss ts h in (k.1, k.0);
+      met = λ p q a. any_reversed (IsMet p q) (λ s m. (reversal_meets p q s).1 m) ss ts h a;
+      turned = λ p q a. any_map turned_span (λ s. IsMet p q (turned_span s)) (IsMet p q) (λ s m. m) ts
+          (any_reversed (λ s. IsMet p q (turned_span s)) (λ s m. (reversal_meets p q (turned_span s)).1 m) ss ts h
+          (any_unmap turned_span (λ s. IsMet p q (turned_span s)) (IsMet p q) (λ s m. m) ss a));
+    }
+
+    restored : AreAlike ts ss
+    restored = record {
+      covered = λ p. reversal_keeps_cover p ss ts h;
+      met = λ p q a. any_restored (IsMet p q) (λ s m. (reversal_meets p q s).0 m) ss ts h a;
+      turned = λ p q a. any_map turned_span (λ s. IsMet p q (turned_span s)) (IsMet p q) (λ s m. m) ss
+          (any_restored (λ s. IsMet p q (turned_span s)) (λ s m. (reversal_meets p q (turned_span s)).0 m) ss ts h
+          (any_unmap turned_span (λ s. IsMet p q (turned_span s)) (IsMet p q) (λ s m. m) ts a));
+    }

@@ -1,0 +1,119 @@
+-- What drop-out control sets, moved by whole pixels.
+-- Serves the law `dropout`.
+use Rattle.std.proofs.Common.{◌≡◌, ◌↔◌, refl, ap, ◌∙◌, subst, ℕ, ℤ, pos, ◌+ℤ◌, ◌-ℤ◌, ◌*ℤ◌}
+use Rattle.std.proofs.Common.{Bool, true, false, List, [], ◌∷◌, Option, Some, None, option_map, map, arith}
+use Rattle.fx_fixed.specs.Polynomial.{var, num, ◌⊞◌, ◌⊠◌}
+use Rattle.fx_fixed.proofs.Ring.{ring}
+use Rattle.fx_fixed.proofs.Linear.{signed_linear}
+use Rattle.fx_winding.specs.Area.{Place, place}
+use Rattle.fx_winding.specs.Dropout.{turned_place, turned_span}
+use Rattle.fx_winding.specs.Frames.{IsInFrame}
+use Rattle.fx_winding.specs.Meets.{IsMet}
+use Rattle.fx_winding.specs.Moves.{shifted_place, shifted}
+use Rattle.fx_winding.specs.Winding.{Span, IsCovered, centre}
+use Rattle.fx_winding.proofs.Covers.{any_map, any_unmap}
+use Rattle.fx_winding.proofs.Meeting.{shift_meets}
+use Rattle.fx_winding.proofs.Shifts.{shift_moves_cover, shift_moves_bits}
+use Rattle.fx_dropout.specs.declared.chooser.Closing.{Closing}
+use Rattle.fx_dropout.specs.Dropout.{IsNextChosen, IsSet, place_on}
+use Rattle.fx_dropout.specs.Laws.{ShiftMovesSet}
+use Rattle.fx_dropout.proofs.SetPixels.{AreMet, IsMoved, KeepsNeighbours, chosen_along, set_moved}
+
+along : (i k : ℤ) → (pos 128 *ℤ i +ℤ pos 64) +ℤ pos 128 *ℤ k ≡ pos 128 *ℤ (i +ℤ k) +ℤ pos 64
+along i k =
+    ring (i ∷ k ∷ []) ((num (pos 128) ⊠ var 0 ⊞ num (pos 64)) ⊞ num (pos 128) ⊠ var 1)
+    (num (pos 128) ⊠ (var 0 ⊞ var 1) ⊞ num (pos 64)) tt
+
+along_from : (i k : ℤ) (n : ℕ) → ((pos 128 *ℤ i +ℤ pos 64) +ℤ pos n) +ℤ pos 128 *ℤ k ≡ (pos 128 *ℤ (i +ℤ k) +ℤ pos 64) +ℤ pos n
+along_from i k n = let e = along i k in omega (arith, signed_linear, e)
+
+place_shift : (up : Bool) (k l i j : ℤ) (n : ℕ)
+    → shifted_place (pos 128 *ℤ k) (pos 128 *ℤ l) (place_on up i j n) ≡ place_on up (i +ℤ k) (j +ℤ l) n
+place_shift false k l i j n = λ t. place (along_from i k n t) (along j l t)
+place_shift true k l i j n = λ t. place (along i k t) (along_from j l n t)
+
+centre_shift : (k l i j : ℤ) → shifted_place (pos 128 *ℤ k) (pos 128 *ℤ l) (centre i j) ≡ centre (i +ℤ k) (j +ℤ l)
+centre_shift k l i j = λ t. place (along i k t) (along j l t)
+
+next_shift : (i k : ℤ) → (i +ℤ pos 1) +ℤ k ≡ (i +ℤ k) +ℤ pos 1
+next_shift i k = omega (arith, signed_linear)
+
+before_shift : (i k : ℤ) → (i -ℤ pos 1) +ℤ k ≡ (i +ℤ k) -ℤ pos 1
+before_shift i k = omega (arith, signed_linear)
+
+-- the places that pieces cover, and the segments that they meet
+covered_shift : (up : Bool) (k l : ℤ) (ss : List Span) (i j : ℤ) (n : ℕ)
+    → IsCovered (place_on up (i +ℤ k) (j +ℤ l) n) (map (shifted (pos 128 *ℤ k) (pos 128 *ℤ l)) ss) ↔
+    IsCovered (place_on up i j n) ss
+covered_shift up k l ss i j n =
+    subst (λ p. IsCovered p (map (shifted (pos 128 *ℤ k) (pos 128 *ℤ l)) ss) ↔ IsCovered (place_on up i j n) ss)
+    (place_shift up k l i j n) (shift_moves_cover (pos 128 *ℤ k) (pos 128 *ℤ l) (place_on up i j n) ss)
+
+met_shift : (k l : ℤ) (s : Span) (i j : ℤ)
+    → IsMet (centre (i +ℤ k) (j +ℤ l)) (centre ((i +ℤ k) +ℤ pos 1) (j +ℤ l)) (shifted (pos 128 *ℤ k) (pos 128 *ℤ l) s) ↔
+    IsMet (centre i j) (centre (i +ℤ pos 1) j) s
+met_shift k l s i j =
+    subst (λ (z : Place × Place). IsMet z.0 z.1 (shifted (pos 128 *ℤ k) (pos 128 *ℤ l) s) ↔
+    IsMet (centre i j) (centre (i +ℤ pos 1) j) s) (λ t. (
+      centre_shift k l i j t,
+      (centre_shift k l (i +ℤ pos 1) j ∙ ap (λ m. centre m (j +ℤ l)) (next_shift i k)) t,
+    )) (shift_meets (pos 128 *ℤ k) (pos 128 *ℤ l) (centre i j) (centre (i +ℤ pos 1) j) s)
+
+any_met_shift : (k l : ℤ) (ss : List Span) (i j : ℤ)
+    → AreMet (map (shifted (pos 128 *ℤ k) (pos 128 *ℤ l)) ss) (i +ℤ k) (j +ℤ l) ↔ AreMet ss i j
+any_met_shift k l ss i j = (
+  λ a. any_unmap (shifted (pos 128 *ℤ k) (pos 128 *ℤ l)) (IsMet (centre i j) (centre (i +ℤ pos 1) j))
+      (IsMet (centre (i +ℤ k) (j +ℤ l)) (centre ((i +ℤ k) +ℤ pos 1) (j +ℤ l))) (λ s h. (met_shift k l s i j).0 h) ss a,
+  λ a. any_map (shifted (pos 128 *ℤ k) (pos 128 *ℤ l)) (IsMet (centre i j) (centre (i +ℤ pos 1) j))
+      (IsMet (centre (i +ℤ k) (j +ℤ l)) (centre ((i +ℤ k) +ℤ pos 1) (j +ℤ l))) (λ s h. (met_shift k l s i j).1 h) ss a,
+)
+
+turned_shift : (x y : ℤ) (ss : List Span) → map (shifted y x) (map turned_span ss) ≡ map turned_span (map (shifted x y) ss)
+turned_shift x y [] = refl
+turned_shift x y (s ∷ ss) = λ i. record {
+  a = turned_place (shifted_place x y s.a);
+  b = control s.b i;
+  c = turned_place (shifted_place x y s.c);
+} ∷ turned_shift x y ss i
+  where
+    control : (b : Option Place)
+        → option_map (shifted_place y x) (option_map turned_place b) ≡ option_map turned_place (option_map (shifted_place x y) b)
+    control None = refl
+    control (Some b) = refl
+
+-- which of two neighbours is nearer
+chosen_shift : (closing : Closing) (up : Bool) (k l : ℤ) (ss : List Span) (i j : ℤ)
+    → IsNextChosen closing up (map (shifted (pos 128 *ℤ k) (pos 128 *ℤ l)) ss) (i +ℤ k) (j +ℤ l) ↔ IsNextChosen closing up ss i j
+chosen_shift closing up k l ss i j = (
+  chosen_along closing up (map (shifted (pos 128 *ℤ k) (pos 128 *ℤ l)) ss) ss (i +ℤ k) (j +ℤ l) i j
+      (λ n. covered_shift up k l ss i j n),
+  chosen_along closing up ss (map (shifted (pos 128 *ℤ k) (pos 128 *ℤ l)) ss) i j (i +ℤ k) (j +ℤ l)
+      (λ n. let e = covered_shift up k l ss i j n in (e.1, e.0)),
+)
+
+as_moved : (k l : ℤ) (P Q : ℤ → ℤ → Type 0) → ((i j : ℤ) → Q (i +ℤ k) (j +ℤ l) ↔ P i j) → IsMoved (λ i. i +ℤ k) (λ j. j +ℤ l) P Q
+as_moved k l P Q e = record { back = λ i j h. (e i j).0 h; on = λ i j h. (e i j).1 h }
+
+keeps : (k : ℤ) → KeepsNeighbours (λ i. i +ℤ k)
+keeps k = record { after = λ i. next_shift i k; before = λ i. before_shift i k }
+
+pub shift_moves_set : ShiftMovesSet
+shift_moves_set closing k l ss f g e i j = (λ h. all.back i j h, λ h. all.on i j h)
+  where
+    ts : List Span
+    ts = map (shifted (pos 128 *ℤ k) (pos 128 *ℤ l)) ss
+
+    met : (j i : ℤ) → AreMet (map turned_span ts) (j +ℤ l) (i +ℤ k) ↔ AreMet (map turned_span ss) j i
+    met j i = subst (λ us. AreMet us (j +ℤ l) (i +ℤ k) ↔ AreMet (map turned_span ss) j i)
+        (turned_shift (pos 128 *ℤ k) (pos 128 *ℤ l) ss) (any_met_shift l k (map turned_span ss) j i)
+
+    all : IsMoved (λ i. i +ℤ k) (λ j. j +ℤ l) (IsSet closing ss f) (IsSet closing ts g)
+    all = set_moved closing (λ i. i +ℤ k) (λ j. j +ℤ l) (keeps k) (keeps l) ss ts (IsInFrame f) (IsInFrame g) (record {
+      inside = as_moved k l (IsInFrame f) (IsInFrame g) e;
+      chosen = λ up. as_moved k l (IsNextChosen closing up ss) (IsNextChosen closing up ts)
+          (λ i j. chosen_shift closing up k l ss i j);
+      covered = as_moved k l (λ i j. IsCovered (centre i j) ss) (λ i j. IsCovered (centre i j) ts)
+          (λ i j. shift_moves_bits k l i j ss);
+      rows = as_moved k l (AreMet ss) (AreMet ts) (λ i j. any_met_shift k l ss i j);
+      columns = as_moved l k (AreMet (map turned_span ss)) (AreMet (map turned_span ts)) met;
+    })

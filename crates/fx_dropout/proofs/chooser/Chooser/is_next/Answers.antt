@@ -1,0 +1,61 @@
+use Rattle.std.proofs.Common.{◌↔◌, IsTrue, sym, subst, map, ℤ, pos, ◌+ℤ◌}
+use Rattle.fx_winding.specs.Limits.{IsPixelNumber}
+use Rattle.fx_winding.specs.Winding.{span_of}
+use Rattle.fx_winding.proofs.Places.{clash, no}
+use Rattle.fx_dropout.specs.declared.chooser.Closing.{Closing}
+use Rattle.fx_dropout.specs.Dropout.{IsNextChosen, IsNextNearer}
+use Rattle.fx_dropout.specs.inner.Pairs.{next_col, next_row}
+use Rattle.fx_dropout.proofs.Columns.{pixel_column, same_row, next_inside, here_number, inside_numbers}
+use Rattle.fx_dropout.proofs.chooser.Chooser.is_next.Goals as goal
+
+pub returns-then-not-is_in_frame-clause-value : goal.returns-then-not-is_in_frame-clause-value
+returns-then-not-is_in_frame-clause-value c =
+    let f = c.args.self.now.frame in
+    let inside = next_inside f c.args.is_up c.args.left c.args.row c.next_col.result c.next_row.result c.args.k
+    c.is_in_frame.result
+    c.requires.left c.requires.row c.requires.place c.next_col.ensures c.next_row.ensures c.is_in_frame.ensures in
+    no (λ h. clash c.is_in_frame.result c.if-not-is_in_frame.true (inside.1 h.1.1))
+
+pub invariant_of-here : goal.invariant_of-here
+invariant_of-here c =
+    let f = c.args.self.now.frame in
+    let inside = next_inside f c.args.is_up c.args.left c.args.row c.next_col.result c.next_row.result c.args.k
+    c.is_in_frame.result
+    c.requires.left c.requires.row c.requires.place c.next_col.ensures c.next_row.ensures c.is_in_frame.ensures in
+    let at = inside.0 c.if-not-is_in_frame.false in
+    record {
+      col_number = subst IsPixelNumber (sym (pixel_column c.args.left c.args.k c.requires.left c.requires.place))
+          (here_number f c.args.is_up c.args.left _ c.args.k c.requires.left at);
+      row_number = subst IsPixelNumber (sym (same_row c.args.row c.requires.row)) c.requires.row;
+    }
+
+pub invariant_of-is_next_nearer : goal.invariant_of-is_next_nearer
+invariant_of-is_next_nearer c =
+    let f = c.args.self.now.frame in
+    let up = c.args.is_up in
+    let inside = next_inside f up c.args.left c.args.row c.next_col.result c.next_row.result c.args.k c.is_in_frame.result
+    c.requires.left c.requires.row c.requires.place c.next_col.ensures c.next_row.ensures c.is_in_frame.ensures in
+    let numbers = inside_numbers f _ _ (inside.0 c.if-not-is_in_frame.false) in
+    record {
+      next_col_number = subst (λ z. IsPixelNumber (next_col up z))
+          (sym (pixel_column c.args.left c.args.k c.requires.left c.requires.place)) numbers.0;
+      next_row_number = subst (λ z. IsPixelNumber (next_row up z)) (sym (same_row c.args.row c.requires.row)) numbers.1;
+    }
+
+pub returns-clause-value : goal.returns-clause-value
+returns-clause-value c =
+    let f = c.args.self.now.frame in
+    let up = c.args.is_up in
+    let ss = map span_of c.args.self.now.pieces.now in
+    let inside = next_inside f up c.args.left c.args.row c.next_col.result c.next_row.result c.args.k c.is_in_frame.result
+    c.requires.left c.requires.row c.requires.place c.next_col.ensures c.next_row.ensures c.is_in_frame.ensures in
+    let bit = c.has_bit.ensures.0 c.if-not-has_bit.false in
+    let col = pixel_column c.args.left c.args.k c.requires.left c.requires.place in
+    let row = same_row c.args.row c.requires.row in
+    let near : IsTrue c.is_next_nearer.result ↔ IsNextNearer up ss (c.args.left +ℤ pos c.args.k) c.args.row =
+    subst (λ (z : ℤ × ℤ). IsTrue c.is_next_nearer.result ↔ IsNextNearer up ss z.0 z.1) (λ t. (col t, row t))
+    c.is_next_nearer.ensures.value in
+    let chosen = λ (closing : Closing). IsNextChosen closing up ss (c.args.left +ℤ pos c.args.k) c.args.row in (
+      λ t. (bit, (subst chosen (sym c.requires.nearer) (near.0 t), inside.0 c.if-not-is_in_frame.false)),
+      λ h. near.1 (subst chosen c.requires.nearer h.1.0),
+    )

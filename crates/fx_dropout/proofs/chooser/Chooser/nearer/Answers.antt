@@ -1,0 +1,42 @@
+use Rattle.std.proofs.Common.{◌≡◌, ◌↔◌, subst, ℕ, ◌-◌, ◌/◌, ◌%◌, ℤ, pos, ◌+ℤ◌, get_or, arith, w32, to_z, of_z, ◌+◌, ◌*◌, length}
+use Rattle.std.specs.Int.{bit_at}
+use Rattle.fx_winding.proofs.Grid.{word_zero}
+use Rattle.fx_winding.proofs.Scanned.{row_set_more}
+use Rattle.fx_dropout.specs.inner.Closing.{IsNext}
+use Rattle.fx_dropout.proofs.Columns.{same_row, one_more, all_of}
+use Rattle.fx_dropout.proofs.chooser.Chooser.nearer.Goals as goal
+
+pub pixels-init : goal.pixels-init
+pixels-init c = record {
+  bits = record { set = λ k l. absurd (omega (arith, l)); clear = λ k l. word_zero 1 k };
+  count = omega arith;
+}
+
+pub pixels-preserved : goal.pixels-preserved
+pixels-preserved c =
+    let left = to_z w32 (of_z w32 c.args.left) in
+    let row = to_z w32 (of_z w32 c.args.row) in
+    record {
+      bits = row_set_more (λ j. (bit_at c.args.gaps (31 - j) ≡ 1) × IsNext c.args.self.now c.args.is_up
+          (left +ℤ pos j) row) c.pixels.found
+          c.put_bit.new.words c.pixels.k c.is_next.result c.pixels.invariant.bits c.is_next.ensures.value c.put_bit.ensures.here
+          c.put_bit.ensures.others;
+      count = one_more c.is_next.new.tally.count c.pixels.tally.count c.args.tally.now.count c.pixels.k
+          (31 * 128 * length c.args.self.now.pieces.now) c.pixels.invariant.count c.is_next.ensures.count;
+    }
+
+pub returns-clause-count : goal.returns-clause-count
+returns-clause-count c =
+    all_of c.pixels.tally.count c.args.tally.now.count c.pixels.k 32 (31 * 128 * length c.args.self.now.pieces.now) (omega arith)
+    c.pixels.invariant.count
+
+pub returns-clause-bits : goal.returns-clause-bits
+returns-clause-bits c = λ i l.
+    let j : 31 - (31 - i) ≡ i = omega (arith, l) in
+    let w : (31 - i) / 32 ≡ 0 = omega arith in
+    let b : 31 - (31 - i) % 32 ≡ i = omega (arith, l) in
+    let left = same_row c.args.left c.requires.left in
+    let row = same_row c.args.row c.requires.row in
+    subst (λ (z : ℕ × ℕ × ℕ × ℤ × ℤ). (bit_at (get_or c.pixels.found z.0 0) z.1 ≡ 1) ↔ ((bit_at c.args.gaps z.2 ≡ 1)
+    × IsNext c.args.self.now c.args.is_up (z.3 +ℤ pos (31 - i)) z.4)) (λ t. (w t, b t, j t, left t, row t))
+    (c.pixels.invariant.bits.set (31 - i) (omega arith))

@@ -1,0 +1,94 @@
+use Rattle.std.proofs.Common.{◌≡◌, ◌⊎◌, ◌∙◌, refl, sym, ap, subst, ℕ, ◌+◌, ◌-◌, ◌*◌, ◌<◌, ◌≤◌, ℤ, pos, ◌+ℤ◌, length, get_or, true, arith, w32, to_z, of_z}
+use Rattle.std.proofs.Math.Nat.{mul-le-mul_right}
+use Rattle.std.proofs.lemmas.Int.{to_z_pos}
+use Rattle.fx_fixed.proofs.Linear.{signed_linear}
+use Rattle.fx_winding.specs.Bitmaps.{words_for}
+use Rattle.fx_winding.specs.Notes.{words_noted}
+use Rattle.fx_dropout.specs.inner.Closing.{bit_in, IsLevelClosed, IsNext, word_tests}
+use Rattle.fx_dropout.proofs.Columns.{one_more, all_of}
+use Rattle.fx_dropout.proofs.Levels.{columns_more, columns_none}
+use Rattle.fx_dropout.proofs.closing.close_columns.Goals as goal
+
+pub close_level-requires-clause-left : goal.close_level-requires-clause-left
+close_level-requires-clause-left c =
+    let low = c.args.frame.columns.from in
+    let high = c.args.frame.columns.to in
+    let some = c.requires.wide in
+    (omega (arith, signed_linear, low, high, some), omega (arith, signed_linear, low, high, some))
+
+pub close_level-requires-clause-up : goal.close_level-requires-clause-up
+close_level-requires-clause-up c =
+    let st = c.words_noted-step.result in
+    let e = c.words_noted-step.ensures in
+    let f = c.words_for-count.ensures in
+    let row = c.rows.row in
+    let all : length c.rows.up ≡ (c.args.frame.height + 1) * st =
+    c.rows.invariant.up_long ∙ c.requires.noted ∙ ap (λ (n : ℕ). (c.args.frame.height + 1) * n) (sym e) in
+    let m : (row + 1) * st ≤ c.args.frame.height * st = mul-le-mul_right st (omega arith) in
+    let next : (row + 1) * st ≡ row * st + st = omega arith in
+    let last : (c.args.frame.height + 1) * st ≡ c.args.frame.height * st + st = omega arith in
+    let less : c.words_for-count.result ≤ st = omega (arith, e, f) in
+    omega (arith, all, m, next, last, less)
+
+pub rows-init : goal.rows-init
+rows-init c =
+    let cnt = c.words_for-count.ensures in
+    let low = c.reach_lowest.ensures in
+    let f = c.args.frame in
+    record {
+      long = refl;
+      count = omega arith;
+      up_long = low.length;
+      columns = columns_none (words_for f.width) (words_noted f.width) c.args.words.now c.args.up.now c.reach_lowest.new.up
+          (λ w i k. IsNext c.args.chooser.now true (f.left +ℤ pos (32 * w + (31 - i))) (f.bottom +ℤ pos k))
+          (omega arith) (λ w i h m. low.bits w i (omega (arith, h, cnt)) m) (λ k h. low.others k (omega (arith, h, cnt)));
+    }
+
+pub rows-preserved : goal.rows-preserved
+rows-preserved c =
+    let f = c.args.frame in
+    let row = c.rows.row in
+    let cnt = c.words_for-count.ensures in
+    let st = c.words_noted-step.ensures in
+    let lv = c.close_level.ensures in
+    let inv = c.rows.invariant in
+    let up = c.rows.up in
+    let words = c.rows.words in
+    let words' = c.close_level.new.words in
+    let up' = c.close_level.new.up in
+    let low = f.columns.from in
+    let high = f.columns.to in
+    let wide = c.requires.wide in
+    let bottom = f.rows.from in
+    let top = f.rows.to in
+    let step : to_z w32 row ≡ pos row = to_z_pos w32 row (omega (arith, f.rows.few)) in
+    let left : to_z w32 (of_z w32 f.left) ≡ f.left = omega (arith, signed_linear, low, high, wide) in
+    let at : to_z w32 (of_z w32 (to_z w32 (of_z w32 f.bottom) +ℤ to_z w32 row)) ≡ f.bottom +ℤ pos row =
+    omega (arith, signed_linear, step, bottom, top) in
+    record {
+      long = lv.length ∙ inv.long;
+      up_long = lv.up_length ∙ inv.up_long;
+      count = one_more c.close_level.new.tally.count c.rows.tally.count c.args.tally.now.count row
+          (words_for f.width * word_tests c.args.chooser.now) inv.count (all_of c.close_level.new.tally.count c.rows.tally.count
+          c.words_for-count.result (words_for f.width) (word_tests c.args.chooser.now) cnt lv.count);
+      columns = columns_more (words_for f.width) (words_noted f.width) row c.args.words.now c.args.up.now words up words' up'
+          (λ w i k. IsNext c.args.chooser.now true (f.left +ℤ pos (32 * w + (31 - i))) (f.bottom +ℤ pos k))
+          (omega arith) inv.columns
+          (λ w i h m. subst (λ (z : ℕ × ℕ × ℤ × ℤ). IsLevelClosed (bit_in words (row * z.0 + w) i)
+          (bit_in words (row * z.0 + z.0 + w) i)
+          (bit_in up (row * z.1 + z.1 + w) i) (bit_in up (row * z.1 + w) i)
+          (IsNext c.args.chooser.now true (z.2 +ℤ pos (32 * w + (31 - i))) z.3) (bit_in words' (row * z.0 + w) i)
+          (bit_in up' (row * z.1 + z.1 + w) i)) (λ t. (cnt t, st t, left t, at t)) (lv.bits w i (omega (arith, h, cnt)) m))
+          (subst (λ (z : ℕ). (k : ℕ) → (k < row * z) ⊎ (row * z + z ≤ k)
+          → get_or words' k 0 ≡ get_or words k 0) cnt lv.other_words)
+          (subst (λ (z : ℕ × ℕ). (k : ℕ) → (k < row * z.1 + z.1) ⊎ (row * z.1 + z.1 + z.0 ≤ k)
+          → get_or up' k 0 ≡ get_or up k 0) (λ t. (cnt t, st t)) lv.other_notes);
+    }
+
+pub returns-clause-bits : goal.returns-clause-bits
+returns-clause-bits c = λ r w i l h m. c.rows.invariant.columns.done r w i (omega (arith, l)) h m
+
+pub returns-clause-count : goal.returns-clause-count
+returns-clause-count c =
+    all_of c.rows.tally.count c.args.tally.now.count c.rows.row c.args.frame.height
+    (words_for c.args.frame.width * word_tests c.args.chooser.now) (omega arith) c.rows.invariant.count

@@ -1,0 +1,68 @@
+//! Whether any segment of a frame is open. Three of four glyphs have none, so that their gaps need no closing.
+
+ghost use Rattle.std.specs.Prelude.{◌≡◌, ℕ, ◌+◌, ◌*◌, ◌<◌, ◌≤◌, length, false};
+ghost use Rattle.fx_winding.specs.Bitmaps.{words_for as words_for_of, word_bit, AreWords};
+ghost use Rattle.fx_winding.specs.Notes.{words_noted as words_noted_of};
+ghost use Rattle.fx_dropout.specs.inner.Closing.{bit_in, AreNoneOpen, IsOpen, IsOpenAt};
+
+use crate::closing::{gaps_of, left_of};
+use fx_winding::{Frame, words_for, words_noted};
+
+/// Whether one of the segments to the pixels of some words is open, if they all were in one row.
+fn is_open_across(noted: &[u32], words: &[u32]) -> bool
+    requires { length noted.now ≡ length words.now }
+    ensures { result ≡ false → (n : ℕ) → n < 32 * length words.now →
+        ¬ (IsOpenAt (λ k. word_bit words.now k) (λ k. word_bit noted.now k) n) }
+{
+    let mut gaps = 0;
+    let mut before = 0;
+    // If there is no gap so far, no segment to the pixels of the first w words is open. `before` is the word before w, or 0.
+    'words: for w in 0..words.len() {
+        gaps |= gaps_of(noted[w], left_of(before, words[w]), words[w]);
+        before = words[w];
+    }
+    gaps != 0
+}
+
+/// Whether one of the segments between the pixels of some words and those above them is open.
+fn is_open_up(noted: &[u32], lower: &[u32], upper: &[u32]) -> bool
+    requires lower { length noted.now ≤ length lower.now }
+    requires upper { length noted.now ≤ length upper.now }
+    ensures { result ≡ false → (w i : ℕ) → w < length noted.now → i < 32 →
+        ¬ (IsOpen (bit_in noted.now w i) (bit_in lower.now w i) (bit_in upper.now w i)) }
+{
+    let mut gaps = 0;
+    // If there is no gap so far, no segment of the first w words is open.
+    'words: for w in 0..noted.len() {
+        gaps |= gaps_of(noted[w], lower[w], upper[w]);
+    }
+    gaps != 0
+}
+
+/// Whether a segment of a frame may be open: false only if none is. If a row has more words of segments than of pixels, it is true.
+#[inline(always)]
+pub(crate) fn may_be_open(frame: Frame, across: &[u32], up: &[u32], words: &[u32]) -> bool
+    requires wide { 0 < frame.width }
+    requires some { 0 < frame.height }
+    requires across { length across.now ≡ frame.height * words_noted_of frame.width }
+    requires up { length up.now ≡ (frame.height + 1) * words_noted_of frame.width }
+    requires pixels { AreWords frame.height frame.width words.now }
+    ensures { result ≡ false → AreNoneOpen frame across.now up.now words.now }
+{
+    let step = words_for(frame.width);
+    if words_noted(frame.width) > step {
+        return true;
+    }
+    let all = words.len();
+    let last = &words[all - step..];
+    if is_open_across(across, words) {
+        return true;
+    }
+    if is_open_up(&up[..step], words, words) {
+        return true;
+    }
+    if is_open_up(&up[step..all], words, &words[step..]) {
+        return true;
+    }
+    is_open_up(&up[all..], last, last)
+}

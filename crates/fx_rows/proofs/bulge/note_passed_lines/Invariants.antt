@@ -1,0 +1,13 @@
+use Rattle.std.proofs.Common.{◌≤◌, ◌<◌, ◌+◌, ◌-◌, ◌*◌, ℕ}
+use Rattle.fx_rows.specs.inner.Bands.{bounded_span}
+use Rattle.fx_rows.specs.inner.Lines.{AreOnly, AreSetIn, IsRowsBit}
+use Rattle.fx_rows.specs.inner.Told.{AreKept}
+use Rattle.fx_rows.proofs.bulge.note_passed_lines.Given as goal
+
+abbrev pub invariant-rows : goal.invariant-rows
+invariant-rows l = record {
+  noted : (r : ℕ) → l.fn.rows.first ≤ r → r < l.up → AreSetIn (bounded_span l.bounded) l.frame r (r * l.row_step) l.step l.bits;
+  kept : AreKept l.fn.bits l.bits;
+  only : AreOnly (IsRowsBit (bounded_span l.bounded) l.frame l.row_step l.step) l.fn.bits l.bits;
+  count : l.tally.count ≤ l.fn.tally.count + 2 * (l.up - l.fn.rows.first);
+}

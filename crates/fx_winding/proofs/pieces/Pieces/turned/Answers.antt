@@ -1,0 +1,36 @@
+use Rattle.std.proofs.Common.{◌≡◌, ◌∙◌, ◌∷◌, [], ap, length, length-append, map, take, arith}
+use Rattle.std.proofs.Math.Seq.{take-length}
+use Rattle.fx_winding.specs.Dropout.{turned_span}
+use Rattle.fx_winding.specs.Winding.{span_of}
+use Rattle.fx_winding.proofs.TurnedPieces.{turned_more, turned_all}
+use Rattle.fx_winding.proofs.pieces.Pieces.turned.Goals as goal
+
+pub pieces-init : goal.pieces-init
+pieces-init c = record { long = ap length c.new-turned.ensures; same = ap (map span_of) c.new-turned.ensures }
+
+pub push-requires : goal.push-requires
+push-requires c =
+    let long = c.pieces.invariant.long in
+    let within = c.pieces-test.true in
+    let same = ap length c.as_slice-piece-items.ensures.value in
+    let few = c.as_slice-piece-items.ensures.few in
+    omega (arith, long, within, same, few)
+
+pub pieces-preserved : goal.pieces-preserved
+pieces-preserved c =
+    let long = c.pieces.invariant.long in
+    let more = length-append c.pieces.turned (c.turned.result ∷ []) in
+    record {
+      long = ap length c.in_ok-push.ensures.ok ∙ omega (arith, long, more);
+      same = ap (map span_of) c.in_ok-push.ensures.ok
+          ∙ turned_more c.as_slice-piece-items.result.now c.pieces.turned c.pieces.piece-index c.piece-item.result
+          c.turned.result c.pieces-test.true c.piece-item.is c.turned.ensures c.pieces.invariant.same;
+    }
+
+pub returns : goal.returns
+returns c =
+    let done : c.pieces.piece-index ≡ length c.as_slice-piece-items.result.now = omega arith in
+    c.pieces.invariant.same
+    ∙ ap (map (λ s. turned_span (span_of s))) (ap (λ n. take n c.as_slice-piece-items.result.now) done
+    ∙ take-length c.as_slice-piece-items.result.now ∙ c.as_slice-piece-items.ensures.value)
+    ∙ turned_all c.args.self.now
