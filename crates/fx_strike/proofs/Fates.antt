@@ -18,8 +18,8 @@ use Rattle.fx_strike.specs.declared.sketched.Sketched.{Sketched}
 use Rattle.fx_strike.specs.Faults.{Fails}
 use Rattle.fx_strike.specs.Strike.{Sketch, Setting, Fate, drawn, unhinted, left_out, notices_in, setting_with, left_out_for}
 use Rattle.fx_strike.specs.Strike.{halted_by, refused_by, glyph_sketch_of, glyph_fate_of}
-use Rattle.fx_strike.specs.inner.Drawing.{AreOf, Decides, IsFateOf, IsSketchedOf, Sketches}
-use Rattle.fx_strike.specs.inner.Surveying.{Has, HasFate, SeesOne, notices_by}
+use Rattle.fx_strike.specs.inner.Drawing.{AreOf, Decides, IsFateOf, Sketches}
+use Rattle.fx_strike.specs.inner.Surveying.{HasFate, SeesOne, notices_by}
 use Rattle.fx_strike.proofs.OnePart.{has_sketch, sketch_code}
 use Rattle.fx_strike.proofs.Sketching.{fails_on, memory_fails}
 
@@ -120,29 +120,7 @@ pub seen_fate : {due : Result Fate Refusal} (code : ℕ) (old new : Seen) (made 
 seen_fate code old new made (Ok u) fate e is of h m = (fate, e, h fate is of)
 seen_fate {due} code old new made (Err d) fate e is of h m = memory_fails d due m
 
--- a character that is drawn was seen
-pub drawn_seen : (code : ℕ) (old new : Seen) (made : Sketched) (r : Result (Unit {0}) Refusal)
-    → OnOk r ((sketch : Sketch) → IsSketchedOf sketch made → sketch.code ≡ code → Has sketch old new)
-    → OnOk r ((due : Fate) → IsFateOf due (Drawn made) → AreOf code due → HasFate due old new)
-drawn_seen code old new made (Ok u) h = by
-  where
-    by : (due : Fate) → IsFateOf due (Drawn made) → AreOf code due → HasFate due old new
-    by (drawn s) is of = h s is of
-    by (unhinted notice s) is of = absurd is
-    by (left_out notice) is of = absurd is
-drawn_seen code old new made (Err d) h = tt
-
--- there is nothing to tell of it
-pub drawn_unheard : {L : Type 0} (Hears : L → Notice → L → Type 0) (was : L) (made : Sketched) (r : Result (Unit {0}) Refusal)
-    → OnOk r ((due : Fate) → IsFateOf due (Drawn made) → HearsAll Hears was (notices_in due) was)
-drawn_unheard {L} Hears was made (Ok u) = by
-  where
-    by : (due : Fate) → IsFateOf due (Drawn made) → HearsAll Hears was (notices_in due) was
-    by (drawn s) is = refl
-    by (unhinted notice s) is = absurd is
-    by (left_out notice) is = absurd is
-drawn_unheard Hears was made (Err d) = tt
-
+-- there is to tell of it what there is of its fate
 pub told_fate : {L : Type 0} (Hears : L → Notice → L → Type 0) (was now : L) {due : Result Fate Refusal} (made : held.Fate)
     (r : Result (Unit {0}) Refusal) (fate : Fate) → due ≡ Ok fate → IsFateOf fate made
     → OnOk r ((due : Fate) → IsFateOf due made → HearsAll Hears was (notices_in due) now)

@@ -14,7 +14,7 @@ pub mod Telling
 pub mod OneCharacter
 pub mod Trimming
 pub mod Existing
-pub mod Drawn
+pub mod Keeping
 pub mod Enclosed
 pub mod BlockSettings
 pub mod TracesTold

@@ -28,15 +28,15 @@ use Rattle.fx_strike.specs.Title.{Title}
 use Rattle.fx_request.specs.declared.notice.Notice.{Notice}
 use Rattle.fx_request.specs.declared.request.OnRefused.{OnRefused}
 use Rattle.fx_strike.specs.declared.fate.Fate as held
-use Rattle.fx_strike.specs.declared.fate.Fate.TheVariants.{Drawn, Unhinted}
+use Rattle.fx_strike.specs.declared.fate.Fate.TheVariants.{Drawn, Unhinted, LeftOut}
 use Rattle.fx_strike.specs.declared.sketched.Sketched.{Sketched}
 use Rattle.fx_strike.specs.Strike.{Sketch, Setting, Plan, Fate, drawn, unhinted, left_out, IsGlyphOf, AreGlyphsOf, sketches_in}
-use Rattle.fx_strike.specs.Strike.{glyph_fate_of, glyph_sketch_of, plan_with, properties_of, strike_text}
+use Rattle.fx_strike.specs.Strike.{glyph_fate_of, plan_with, properties_of, strike_text}
 use Rattle.fx_strike.specs.inner.Drawing.{AreOf, IsFateOf, IsSketchedOf}
 use Rattle.fx_strike.specs.Headline.{Surveyed, Leaves, surveyed_header}
 use Rattle.fx_strike.specs.inner.Writing.{AddsMore, AreLinesOf, AreAllLinesOf, HasRoom, Stops, Writes}
 use Rattle.fx_strike.proofs.OnePart.{chain_parts, glyph_is_one, planned}
-use Rattle.fx_strike.proofs.Fates.{fate_code, fate_of_sketch}
+use Rattle.fx_strike.proofs.Fates.{fate_code}
 use Rattle.fx_strike.proofs.Mapping.{fates_are}
 use Rattle.fx_strike.specs.declared.characters.Mapped.{Mapped}
 use Rattle.fx_strike.specs.inner.Mapping.{fates_in, mapped_fate_of, mapped_in, mapped_of}
@@ -113,39 +113,47 @@ pub drawn_lines : {g : Glyph} → TrimmedIsOne → (sketch : Sketch) (glyph : Gl
     → glyph_text g ≡ glyph_text glyph
 drawn_lines {g} one sketch glyph here is = ap glyph_text (glyph_is_one one sketch g glyph here is)
 
-lines_of : {was now : TextView} {r : Result (Unit {0}) Refusal} (sketch : Sketch) (glyphs : List Glyph)
-    → ((glyph : Glyph) → IsGlyphOf sketch glyph → AddsMore was now (glyph_text glyph) r)
-    → AreGlyphsOf (sketch ∷ []) glyphs → AddsMore was now (flat_map glyph_text glyphs) r
-lines_of sketch [] h g = absurd g
-lines_of sketch (x ∷ []) h g = same_lines (sym (append-nil (glyph_text x))) (h x g.0)
-lines_of sketch (x ∷ y ∷ xs) h g = absurd g.1
+-- what holds of the lines of each glyph of a sketch holds of those of its glyphs
+lines_of : (P : List ℕ → Type 0) (sketch : Sketch) (glyphs : List Glyph)
+    → ((glyph : Glyph) → IsGlyphOf sketch glyph → P (glyph_text glyph))
+    → AreGlyphsOf (sketch ∷ []) glyphs → P (flat_map glyph_text glyphs)
+lines_of P sketch [] h g = absurd g
+lines_of P sketch (x ∷ []) h g = subst P (sym (append-nil (glyph_text x))) (h x g.0)
+lines_of P sketch (x ∷ y ∷ xs) h g = absurd g.1
 
--- by what becomes of a character
-module _ {was now : TextView} {code : ℕ} {r : Result (Unit {0}) Refusal} where
+-- what holds of the lines of a glyph that was made holds of the lines of a character, by what becomes of it
+module _ (P : List ℕ → Type 0) {code : ℕ} where
   one_glyph : (made : Sketched) (sketch : Sketch) (glyphs : List Glyph)
       → ((sketch : Sketch) (glyph : Glyph) → IsSketchedOf sketch made → sketch.code ≡ code → IsGlyphOf sketch glyph
-      → AddsMore was now (glyph_text glyph) r)
-      → IsSketchedOf sketch made → sketch.code ≡ code → AreGlyphsOf (sketch ∷ []) glyphs
-      → AddsMore was now (flat_map glyph_text glyphs) r
-  one_glyph made sketch glyphs h is e g = lines_of sketch glyphs (λ x of. h sketch x is e of) g
+      → P (glyph_text glyph))
+      → IsSketchedOf sketch made → sketch.code ≡ code → AreGlyphsOf (sketch ∷ []) glyphs → P (flat_map glyph_text glyphs)
+  one_glyph made sketch glyphs h is e g = lines_of P sketch glyphs (λ x of. h sketch x is e of) g
 
-  pub lines_drawn : (due : Fate) (made : Sketched) (glyphs : List Glyph)
+  pub lines_drawn : (made : Sketched)
       → ((sketch : Sketch) (glyph : Glyph) → IsSketchedOf sketch made → sketch.code ≡ code → IsGlyphOf sketch glyph
-      → AddsMore was now (glyph_text glyph) r)
-      → IsFateOf due (Drawn made) → AreOf code due → AreGlyphsOf (sketches_in due) glyphs
-      → AddsMore was now (flat_map glyph_text glyphs) r
-  lines_drawn (drawn s) made glyphs h is e g = one_glyph made s glyphs h is e g
-  lines_drawn (unhinted notice s) made glyphs h is e g = absurd is
-  lines_drawn (left_out notice) made glyphs h is e g = absurd is
+      → P (glyph_text glyph))
+      → (due : Fate) (glyphs : List Glyph) → IsFateOf due (Drawn made) → AreOf code due → AreGlyphsOf (sketches_in due) glyphs
+      → P (flat_map glyph_text glyphs)
+  lines_drawn made h (drawn s) glyphs is e g = one_glyph made s glyphs h is e g
+  lines_drawn made h (unhinted notice s) glyphs is e g = absurd is
+  lines_drawn made h (left_out notice) glyphs is e g = absurd is
 
-  pub lines_unhinted : (due : Fate) (notice : Notice) (made : Sketched) (glyphs : List Glyph)
+  pub lines_unhinted : (notice : Notice) (made : Sketched)
       → ((sketch : Sketch) (glyph : Glyph) → IsSketchedOf sketch made → sketch.code ≡ code → IsGlyphOf sketch glyph
-      → AddsMore was now (glyph_text glyph) r)
-      → IsFateOf due (Unhinted notice made) → AreOf code due → AreGlyphsOf (sketches_in due) glyphs
-      → AddsMore was now (flat_map glyph_text glyphs) r
-  lines_unhinted (drawn s) told made glyphs h is e g = absurd is
-  lines_unhinted (unhinted notice s) told made glyphs h is e g = one_glyph made s glyphs h is.1 e g
-  lines_unhinted (left_out notice) told made glyphs h is e g = absurd is
+      → P (glyph_text glyph))
+      → (due : Fate) (glyphs : List Glyph) → IsFateOf due (Unhinted notice made) → AreOf code due
+      → AreGlyphsOf (sketches_in due) glyphs → P (flat_map glyph_text glyphs)
+  lines_unhinted told made h (drawn s) glyphs is e g = absurd is
+  lines_unhinted told made h (unhinted notice s) glyphs is e g = one_glyph made s glyphs h is.1 e g
+  lines_unhinted told made h (left_out notice) glyphs is e g = absurd is
+
+-- one that is left out has none
+pub lines_left_out : (P : List ℕ → Type 0) (due : Fate) (notice : Notice) (glyphs : List Glyph) → P []
+    → IsFateOf due (LeftOut notice) → AreGlyphsOf (sketches_in due) glyphs → P (flat_map glyph_text glyphs)
+lines_left_out P (drawn s) told glyphs h is g = absurd is
+lines_left_out P (unhinted notice s) told glyphs h is g = absurd is
+lines_left_out P (left_out notice) told [] h is g = h
+lines_left_out P (left_out notice) told (x ∷ xs) h is g = absurd g
 
 module _ {setting : Setting} {refused : OnRefused} {code glyph : ℕ} {text : List ℕ} where
   -- nothing was written of it when memory ran out
@@ -153,24 +161,14 @@ module _ {setting : Setting} {refused : OnRefused} {code glyph : ℕ} {text : Li
       → AreLinesOf setting refused code glyph text → AddsMore was was text (Err d)
   adds_undrawn d fails h = stopped_by text d (only_memory d _ h.fate h.is fails)
 
-  -- it was written, or as much of it as could be
-  pub adds_fate : {was now : TextView} {made : held.Fate} (r : Result (Unit {0}) Refusal)
+  pub lines_fate : (P : List ℕ → Type 0) {made : held.Fate}
       → (fate : Fate) × (glyph_fate_of setting refused code glyph ≡ Ok fate) × IsFateOf fate made
       → ((due : Fate) (glyphs : List Glyph) → IsFateOf due made → AreOf code due → AreGlyphsOf (sketches_in due) glyphs
-      → AddsMore was now (flat_map glyph_text glyphs) r)
-      → AreLinesOf setting refused code glyph text → AddsMore was now text r
-  adds_fate r f w h =
+      → P (flat_map glyph_text glyphs))
+      → AreLinesOf setting refused code glyph text → P text
+  lines_fate P f w h =
       let here = rw (same_Ok h.fate f.0 h.is f.1) at h.drawn in
-      same_lines (sym h.text_is) (w f.0 h.glyphs f.2 (fate_code setting refused code glyph f.0 f.1) here)
-
-  -- a glyph that was drawn before was written
-  pub adds_drawn : {was now : TextView} {r : Result (Unit {0}) Refusal} (sketch : Sketch)
-      → glyph_sketch_of setting code glyph ≡ Ok sketch
-      → ((g : Glyph) → IsGlyphOf sketch g → AddsMore was now (glyph_text g) r)
-      → AreLinesOf setting refused code glyph text → AddsMore was now text r
-  adds_drawn sketch d w h =
-      let here = rw (same_Ok h.fate (drawn sketch) h.is (fate_of_sketch setting refused code glyph sketch d)) at h.drawn in
-      same_lines (sym h.text_is) (lines_of sketch h.glyphs w here)
+      subst P (sym h.text_is) (w f.0 h.glyphs f.2 (fate_code setting refused code glyph f.0 f.1) here)
 
 -- the lines of a character in the middle
 pub adds_part : {was now next : TextView} {all front lines : List ℕ} (back : List ℕ) {d : Refusal} → all ≡ front ++ (lines ++ back)
@@ -181,6 +179,19 @@ adds_part {was} {now} {next} {all} {front} {lines} back {d} e h g = same_lines (
       adds_text (sym (append_assoc front (lines ++ back) more ∙ ap (λ (t : List ℕ). front ++ t) (append_assoc lines back more)))
       (adds_then h (g.outcome (back ++ more) low));
 })
+
+-- lines after others
+pub adds_after : {was now next : TextView} {front lines all : List ℕ} (r : Result (Unit {0}) Refusal) → front ++ lines ≡ all
+    → Adds Stops was now front (Ok tt) → AddsMore now next lines r → AddsMore was next all r
+adds_after {front = front} {lines = lines} (Ok u) e h g = same_lines e (adds_all (adds_then h g.outcome))
+adds_after {front = front} {lines = lines} (Err d) e h g = same_lines e (record {
+  outcome = λ more l. adds_text (sym (append_assoc front lines more)) (adds_then h (g.outcome more l));
+})
+
+-- nothing after the lines at which a text stopped
+pub adds_before : {was now : TextView} {front all : List ℕ} (lines : List ℕ) {d : Refusal} → front ++ lines ≡ all
+    → Adds Stops was now front (Err d) → AddsMore was now all (Err d)
+adds_before lines e h = same_lines e (adds_stopped_at (adds_stopped lines h))
 
 -- ---- all characters
 

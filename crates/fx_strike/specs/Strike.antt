@@ -19,7 +19,7 @@ use Rattle.fx_hint.specs.Programmed.{hinting_of}
 use Rattle.fx_hint.specs.declared.fault.HintFault.{HintFault}
 use Rattle.fx_hint.specs.Outlines.{GlyphOutlineView, outline_with}
 use Rattle.fx_raster.specs.declared.rule.Rule.{Rule}
-use Rattle.fx_raster.specs.declared.rule.Closing.TheVariants.{Lower, Nearer}
+use Rattle.fx_raster.specs.Rules.{Lower, Nearer}
 use Rattle.fx_raster.specs.declared.rule.Rule.TheVariants.{Centres, Bridged}
 use Rattle.fx_request.specs.declared.request.Dropout.{Dropout}
 use Rattle.fx_request.specs.declared.request.Dropout.TheVariants.{Off, Left, Near, Font}

@@ -1,6 +1,7 @@
 -- What only private contracts cite.
 pub mod Drawing
 pub mod Gathering
+pub mod Keeping
 pub mod Lengths
 pub mod Mapping
 pub mod Surveying

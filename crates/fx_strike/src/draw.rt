@@ -2,14 +2,12 @@
 ghost use Rattle.std.specs.Prelude.{◌≡◌, ◌≤◌, ◌^◌, pos, unsigned_abs, IfOk, IfErr};
 ghost use Rattle.fx_fixed.specs.Numbers.{near_of};
 ghost use Rattle.fx_strike.specs.Strike.{Sketch, IsGlyphOf, setting_with, glyph_sketch_of};
-ghost use Rattle.fx_cache.specs.Cached.{AreDue};
-ghost use Rattle.fx_strike.specs.inner.Drawing.{IsSketchedOf, Draws, due_with};
+ghost use Rattle.fx_strike.specs.inner.Drawing.{IsSketchedOf, Draws};
 
 use crate::hinter::FontHinter;
 use crate::sketched::Sketched;
 use crate::tools::Tools;
 use fx_bdf::BitGlyph;
-use fx_cache::CacheReader;
 use fx_fixed::{F26, near_64};
 use fx_raster::{Scan, Scratch};
 use fx_request::Refusal;
@@ -53,17 +51,14 @@ impl<'a, S: Scan> Tools<'a, S> {
     pub(crate) fn draw(
         &self,
         hinter: &mut FontHinter<'_>,
-        cache: &mut CacheReader<'_>,
         code: u32,
         glyph: u16,
     ) -> Result<BitGlyph, Refusal>
-        requires cache { AreDue (due_with self.now.basis hinter.old) cache.old }
         ensures kept { hinter.new ≡ hinter.old }
-        ensures cache { AreDue (due_with self.now.basis hinter.old) cache.new }
         ensures sketch { Draws (glyph_sketch_of (setting_with self.now.basis hinter.old) code glyph) result }
         ensures code { IfOk result (λ g. g.code ≡ code) }
     {
-        let sketched = self.sketch_at(hinter, cache, glyph)?;
+        let sketched = self.sketch_at(hinter, glyph)?;
         glyph_of(self.alloc, self.scan, code, &sketched, &mut hinter.scratch)
     }
 }

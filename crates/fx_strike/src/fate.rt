@@ -1,20 +1,17 @@
 //! What becomes of a character: it is drawn, or it is refused, and drawn without hinting or left out.
 ghost use Rattle.std.specs.Prelude.{◌≡◌, ℕ, Option, None, Ok};
 ghost use Rattle.fx_machine.specs.Known.{Known};
-ghost use Rattle.fx_hint.specs.Outlines.{view_of_glyph_outline};
-ghost use Rattle.fx_cache.specs.Cached.{AreDue, MayAdd};
 ghost use Rattle.fx_strike.specs.Faults.{Fails};
 ghost use Rattle.fx_strike.specs.Strike.{setting_with, glyph_sketch_of, glyph_fate_of, halted_by, left_out_for, refused_by};
-ghost use Rattle.fx_strike.specs.inner.Drawing.{Decides, IsFateOf, Sketches, due_with};
+ghost use Rattle.fx_strike.specs.inner.Drawing.{Decides, IsFateOf, Sketches};
 
+use crate::characters::Mapped;
 use crate::hinter::FontHinter;
-use crate::sketch::{frame_at, outline_made, sketch_with};
+use crate::sketch::{outline_made, sketch_with};
 use crate::sketched::Sketched;
 use crate::tools::Tools;
-use fx_cache::{CacheReader, OutlineCache};
-use fx_hint::GlyphOutline;
 use fx_machine::Halt;
-use fx_raster::{Frame, Scan};
+use fx_raster::Scan;
 use fx_request::{Notice, OnRefused, Refusal};
 
 /// What becomes of a character that the font has.
@@ -28,76 +25,41 @@ pub(crate) enum Fate {
     LeftOut(Notice),
 }
 
-/// Puts an outline into the cache if it is to be kept.
-#[inline(always)]
-fn put_if(
-    kept: bool,
-    cache: &mut OutlineCache,
-    glyph: u16,
-    drawing: &GlyphOutline,
-    frame: Option<Frame>,
-)
-    ensures { MayAdd cache.old
-        (record { glyph = glyph; outline = view_of_glyph_outline drawing.now; frame = frame }) cache.new }
-{
-    if kept {
-        cache.put(glyph, drawing, frame);
-    }
-}
-
 impl<'a, S: Scan> Tools<'a, S> {
-    /// The glyph of this number before its bits. Its outline comes from the cache if it is the next one there, else it is made.
+    /// The glyph of this number before its bits. Its outline is made.
     pub(crate) fn sketch_at(
         &self,
         hinter: &mut FontHinter<'_>,
-        cache: &mut CacheReader<'_>,
         glyph: u16,
     ) -> Result<Sketched, Refusal>
-        requires cache { AreDue (due_with self.now.basis hinter.old) cache.old }
         ensures kept { hinter.new ≡ hinter.old }
-        ensures cache { AreDue (due_with self.now.basis hinter.old) cache.new }
         ensures sketch { (code : ℕ)
             → Sketches (glyph_sketch_of (setting_with self.now.basis hinter.old) code glyph) result }
     {
-        match cache.take(self.alloc, glyph) {
-            Some(kept) => sketch_with(&self.basis, glyph, kept.made, kept.frame),
-            None => self.sketch_anew(hinter, glyph),
+        let drawing = outline_made(self.alloc, hinter, &self.basis.opened, glyph)?;
+        sketch_with(&self.basis, glyph, drawing)
+    }
+
+    /// What becomes of a character that the font has; or the first cause that refuses the strike.
+    pub(crate) fn fate_of(
+        &self,
+        refused: OnRefused,
+        hinter: &mut FontHinter<'_>,
+        m: Mapped,
+    ) -> Result<Fate, Refusal>
+        ensures kept { hinter.new ≡ hinter.old }
+        ensures fate { Decides (glyph_fate_of (setting_with self.now.basis hinter.old) refused m.code m.glyph) result }
+    {
+        match self.sketch_at(hinter, m.glyph) {
+            Ok(sketched) => Ok(Fate::Drawn(sketched)),
+            Err(cause) => self.fate_refused(refused, m.code, m.glyph, cause),
         }
     }
 
-    /// The glyph of this number before its bits. Its outline is made.
-    fn sketch_anew(&self, hinter: &mut FontHinter<'_>, glyph: u16) -> Result<Sketched, Refusal>
-        ensures kept { hinter.new ≡ hinter.old }
-        ensures sketch { (code : ℕ)
-            → Sketches (glyph_sketch_of (setting_with self.now.basis hinter.old) code glyph) result }
-    {
-        let drawing = outline_made(self.alloc, hinter, &self.basis.opened, glyph)?;
-        let frame = frame_at(&self.basis, glyph, &drawing)?;
-        sketch_with(&self.basis, glyph, drawing, frame)
-    }
-
-    /// The glyph of this number before its bits. Its outline is made, and put into the cache if it is to be kept.
-    pub(crate) fn sketch_made(
-        &self,
-        hinter: &mut FontHinter<'_>,
-        cache: &mut OutlineCache,
-        glyph: u16,
-        kept: bool,
-    ) -> Result<Sketched, Refusal>
-        requires cache { AreDue (due_with self.now.basis hinter.old) cache.old }
-        ensures kept { hinter.new ≡ hinter.old }
-        ensures cache { AreDue (due_with self.now.basis hinter.old) cache.new }
-        ensures sketch { (code : ℕ)
-            → Sketches (glyph_sketch_of (setting_with self.now.basis hinter.old) code glyph) result }
-    {
-        let drawing = outline_made(self.alloc, hinter, &self.basis.opened, glyph)?;
-        let frame = frame_at(&self.basis, glyph, &drawing)?;
-        put_if(kept, cache, glyph, &drawing, frame);
-        sketch_with(&self.basis, glyph, drawing, frame)
-    }
-
-    /// What becomes of a code point that is refused for a cause. Out of memory is none.
-    pub(crate) fn fate_refused(
+    /// What becomes of a code point that is refused for a cause. Out of memory is none. Few code points are refused, so this code
+    /// is kept out of the loops over the others.
+    #[inline(never)]
+    fn fate_refused(
         &self,
         refused: OnRefused,
         code: u32,
@@ -141,11 +103,7 @@ impl<'a, S: Scan> Tools<'a, S> {
         ensures { Decides (Ok (halted_by code (Refusal.Halted halt)
             (glyph_sketch_of (setting_with self.now.basis None) code glyph))) result }
     {
-        match self.sketch_at(
-            &mut FontHinter::none(self.alloc),
-            &mut CacheReader::empty(),
-            glyph,
-        ) {
+        match self.sketch_at(&mut FontHinter::none(self.alloc), glyph) {
             Ok(sketched) => {
                 let notice = Notice {
                     code,

@@ -1,25 +1,29 @@
 //! The first pass over the characters: a survey of the strike.
 ghost use Rattle.std.specs.Prelude.{◌≡◌, ◌<◌, ◌≤◌, List, ℕ, neg_ℤ, unsigned_abs, length, IfErr, OnOk};
-ghost use Rattle.fx_request.specs.Limits.{max_characters};
+ghost use Rattle.fx_request.specs.Limits.{max_characters, max_code};
 ghost use Rattle.fx_request.specs.Characters.{rising};
-ghost use Rattle.fx_bdf.specs.Glyphs.{IsPlaced};
+ghost use Rattle.std.specs.List.{flat_map};
+ghost use Rattle.fx_bdf.specs.Glyphs.{Glyph, IsPlaced};
+ghost use Rattle.fx_bdf.specs.Text.{glyph_text};
 ghost use Rattle.fx_strike.specs.Title.{Title};
 ghost use Rattle.fx_request.specs.Notices.{HearsAll, Told};
 ghost use Rattle.fx_strike.specs.Strike as strikes;
-ghost use Rattle.fx_strike.specs.Faults.{Fails};
-ghost use Rattle.fx_strike.specs.Strike.{Sketch, pixels, setting_with, glyph_sketch_of, glyph_fate_of, notices_in, plan_with};
+ghost use Rattle.fx_strike.specs.Strike.{Sketch, AreGlyphsOf, IsGlyphOf, glyph_fate_of, notices_in, pixels};
+ghost use Rattle.fx_strike.specs.Strike.{plan_with, setting_with, sketches_in};
 ghost use Rattle.fx_strike.specs.Headline.{notices_of};
-ghost use Rattle.fx_strike.specs.inner.Drawing.{AreOf, IsFateOf, IsMemo, IsSketchedOf, MayKeep};
+ghost use Rattle.fx_strike.specs.inner.Drawing.{AreOf, IsFateOf, IsSketchedOf};
+ghost use Rattle.fx_strike.specs.inner.Keeping.{IsKept, IsOfNone, Keeps};
 ghost use Rattle.fx_strike.specs.inner.Mapping.{AreCharactersOf};
-ghost use Rattle.fx_strike.specs.inner.Surveying.{IsNarrow, Joins, Has, HasFate, SeesOne, Sees, Surveys, notices_about, notices_by};
+ghost use Rattle.fx_strike.specs.inner.Surveying.{AreChars, IsNarrow, Joins, Has, HasFate, SeesOne, Sees, Surveys};
+ghost use Rattle.fx_strike.specs.inner.Surveying.{notices_about, notices_by};
 ghost use Rattle.fx_strike.specs.inner.Surveying.{region_of, survey_from};
+ghost use Rattle.fx_strike.specs.inner.Writing.{AreLinesOf, AreSmall};
 
 use crate::characters::{Characters, Mapped};
 use crate::draw::glyph_of;
-use crate::drawn_glyphs::DrawnGlyphs;
 use crate::fate::Fate;
 use crate::hinter::FontHinter;
-use crate::memo::Memo;
+use crate::kept_text::{KeptBytes, KeptText};
 use crate::opened::Opened;
 use crate::seen::Seen;
 use crate::sketched::Sketched;
@@ -96,27 +100,31 @@ fn region_of(bounds: Bounds) -> Region
 }
 
 impl<'a, S: Scan> Tools<'a, S> {
-    /// The least box that holds a box and the box of a character's glyph. The glyph's bits are made if it is drawn early, or if its
-    /// shape does not lie in the box.
+    /// The least box that holds a box and the box of a character's glyph. As long as there is room for lines, the glyph's bits are
+    /// made and its lines kept; from then on its bits are made only if its shape does not lie in the box.
     fn bounds_with(
         &self,
         bounds: Bounds,
         m: Mapped,
         sketched: &Sketched,
         scratch: &mut Scratch,
-        drawn: &mut DrawnGlyphs,
+        kept: &mut KeptBytes,
     ) -> Result<Bounds, Refusal>
         requires placed { IsPlaced bounds }
+        requires code { m.code ≤ max_code }
         ensures joined { (sketch : Sketch) → IsSketchedOf sketch sketched.now → sketch.code ≡ m.code → Joins sketch bounds result }
-        ensures drawn { MayKeep m sketched.now drawn.old drawn.new }
+        ensures lines { (sketch : Sketch) (glyph : Glyph) → IsSketchedOf sketch sketched.now → sketch.code ≡ m.code
+            → IsGlyphOf sketch glyph → OnOk result (Keeps (glyph_text glyph) kept.old kept.new) }
         ensures fault { IfErr result (λ e. e ≡ Refusal.OutOfMemory) }
     {
-        if !drawn.is_early() && sketched.shape.lies_in(region_of(bounds)) {
+        if kept.is_full() && sketched.shape.lies_in(region_of(bounds)) {
             return Ok(bounds);
         }
+        fx_bdf::laws::trimmed();
         let made = glyph_of(self.alloc, self.scan, m.code, sketched, scratch)?;
         let joined = bounds.joined(made.bounds());
-        drawn.keep(m.glyph, made, scratch);
+        kept.keep(&made);
+        scratch.give_back(made.into_bitmap());
         Ok(joined)
     }
 
@@ -127,17 +135,19 @@ impl<'a, S: Scan> Tools<'a, S> {
         sketched: &Sketched,
         seen: &mut Seen,
         scratch: &mut Scratch,
-        drawn: &mut DrawnGlyphs,
+        kept: &mut KeptBytes,
     ) -> Result<(), Refusal>
+        requires code { m.code ≤ max_code }
         requires few { seen.old.glyphs < max_characters }
         requires placed { IsPlaced seen.old.bounds }
         requires narrow { IsNarrow seen.old }
         ensures seen { OnOk result ((sketch : Sketch) → IsSketchedOf sketch sketched.now → sketch.code ≡ m.code
             → Has sketch seen.old seen.new) }
-        ensures drawn { MayKeep m sketched.now drawn.old drawn.new }
+        ensures lines { (sketch : Sketch) (glyph : Glyph) → IsSketchedOf sketch sketched.now → sketch.code ≡ m.code
+            → IsGlyphOf sketch glyph → OnOk result (Keeps (glyph_text glyph) kept.old kept.new) }
         ensures fault { IfErr result (λ e. e ≡ Refusal.OutOfMemory) }
     {
-        let bounds = self.bounds_with(seen.bounds, m, sketched, scratch, drawn)?;
+        let bounds = self.bounds_with(seen.bounds, m, sketched, scratch, kept)?;
         seen.add(m.code, bounds, sketched);
         Ok(())
     }
@@ -149,8 +159,10 @@ impl<'a, S: Scan> Tools<'a, S> {
         fate: &Fate,
         seen: &mut Seen,
         scratch: &mut Scratch,
+        kept: &mut KeptBytes,
         listener: &mut L,
     ) -> Result<(), Refusal>
+        requires code { m.code ≤ max_code }
         requires few { seen.old.glyphs < max_characters }
         requires placed { IsPlaced seen.old.bounds }
         requires narrow { IsNarrow seen.old }
@@ -158,14 +170,15 @@ impl<'a, S: Scan> Tools<'a, S> {
             → HasFate due seen.old seen.new) }
         ensures heard { OnOk result ((due : strikes.Fate) → IsFateOf due fate.now
             → HearsAll L.Hears listener.old (notices_in due) listener.new) }
+        ensures lines { (due : strikes.Fate) (glyphs : List Glyph) → IsFateOf due fate.now → AreOf m.code due
+            → AreGlyphsOf (sketches_in due) glyphs → OnOk result (Keeps (flat_map glyph_text glyphs) kept.old kept.new) }
         ensures fault { IfErr result (λ e. e ≡ Refusal.OutOfMemory) }
         ensures unheard { IfErr result (λ _. listener.new ≡ listener.old) }
     {
-        let mut none = DrawnGlyphs::without_room(self.alloc);
         match fate {
-            Fate::Drawn(sketched) => self.see_drawn(m, sketched, seen, scratch, &mut none),
+            Fate::Drawn(sketched) => self.see_drawn(m, sketched, seen, scratch, kept),
             Fate::Unhinted(notice, sketched) => {
-                self.see_drawn(m, sketched, seen, scratch, &mut none)?;
+                self.see_drawn(m, sketched, seen, scratch, kept)?;
                 listener.hear(*notice);
                 Ok(())
             }
@@ -184,10 +197,10 @@ impl<'a, S: Scan> Tools<'a, S> {
         hinter: &mut FontHinter<'_>,
         m: Mapped,
         seen: &mut Seen,
-        memo: &mut Memo,
+        kept: &mut KeptBytes,
         listener: &mut L,
     ) -> Result<(), Refusal>
-        requires memo { IsMemo self.now.basis hinter.old memo.old.outlines memo.old.glyphs }
+        requires code { m.code ≤ max_code }
         requires few { seen.old.glyphs < max_characters }
         requires placed { IsPlaced seen.old.bounds }
         requires narrow { IsNarrow seen.old }
@@ -198,46 +211,13 @@ impl<'a, S: Scan> Tools<'a, S> {
             (notices_by (glyph_fate_of (setting_with self.now.basis hinter.old) refused m.code m.glyph))
             listener.new) }
         ensures unheard { IfErr result (λ _. listener.new ≡ listener.old) }
-        ensures memo { IsMemo self.now.basis hinter.old memo.new.outlines memo.new.glyphs }
+        ensures lines { (lines : List ℕ) → AreLinesOf (setting_with self.now.basis hinter.old) refused m.code m.glyph lines
+            → OnOk result (Keeps lines kept.old kept.new) }
     {
-        let kept = !memo.glyphs.is_early();
-        match self.sketch_made(hinter, &mut memo.outlines, m.glyph, kept) {
-            Ok(sketched) => {
-                let scratch = &mut hinter.scratch;
-                let drawn = self.see_drawn(m, &sketched, seen, scratch, &mut memo.glyphs);
-                hinter.spare.give_back(sketched.shape.into_outline());
-                drawn
-            }
-            Err(cause) => self.see_refused(refused, hinter, m, cause, seen, listener),
-        }
-    }
-
-    /// Adds what is seen of a character that is refused for a cause, and tells of it; or refuses the strike. Few characters are, so
-    /// its code is kept out of the loop over the others.
-    #[inline(never)]
-    fn see_refused<L: Listener>(
-        &self,
-        refused: OnRefused,
-        hinter: &mut FontHinter<'_>,
-        m: Mapped,
-        cause: Refusal,
-        seen: &mut Seen,
-        listener: &mut L,
-    ) -> Result<(), Refusal>
-        requires few { seen.old.glyphs < max_characters }
-        requires placed { IsPlaced seen.old.bounds }
-        requires narrow { IsNarrow seen.old }
-        requires cause { Fails cause (glyph_sketch_of (setting_with self.now.basis hinter.old) m.code m.glyph) }
-        ensures kept { hinter.new ≡ hinter.old }
-        ensures seen { SeesOne (glyph_fate_of (setting_with self.now.basis hinter.old) refused m.code m.glyph)
-            seen.old seen.new result }
-        ensures heard { OnOk result (HearsAll L.Hears listener.old
-            (notices_by (glyph_fate_of (setting_with self.now.basis hinter.old) refused m.code m.glyph))
-            listener.new) }
-        ensures unheard { IfErr result (λ _. listener.new ≡ listener.old) }
-    {
-        let fate = self.fate_refused(refused, m.code, m.glyph, cause)?;
-        self.see_fate(m, &fate, seen, &mut hinter.scratch, listener)
+        let fate = self.fate_of(refused, hinter, m)?;
+        let done = self.see_fate(m, &fate, seen, &mut hinter.scratch, kept, listener);
+        hinter.give_back(fate);
+        done
     }
 
     /// What is seen of characters, in their order; or the first cause that refuses the strike. Each one that is refused in spite
@@ -247,39 +227,44 @@ impl<'a, S: Scan> Tools<'a, S> {
         refused: OnRefused,
         hinter: &mut FontHinter<'_>,
         mapped: &[Mapped],
-        memo: &mut Memo,
+        kept: &mut KeptText,
         listener: &mut L,
     ) -> Result<Seen, Refusal>
         requires few { length mapped.now ≤ max_characters }
-        requires memo { IsMemo self.now.basis hinter.old memo.old.outlines memo.old.glyphs }
+        requires small { AreSmall mapped.now }
+        requires none { IsOfNone kept.old }
         ensures kept { hinter.new ≡ hinter.old }
         ensures seen { Sees (setting_with self.now.basis hinter.old) refused mapped.now result }
         ensures heard { Told L.Hears listener.old listener.new
             (notices_about (setting_with self.now.basis hinter.old) refused mapped.now) result }
-        ensures memo { IsMemo self.now.basis hinter.old memo.new.outlines memo.new.glyphs }
+        ensures lines { OnOk result (IsKept (setting_with self.now.basis hinter.old) refused mapped.now
+            (length mapped.now) kept.new) }
     {
         let mut seen = Seen::new();
-        // `seen` is what is seen of the characters before this one, and what there is to tell of them was told.
+        // `seen` is what is seen of the characters before this one, and what there is to tell of them was told. Their lines are
+        // kept, as long as there was room.
         'mapped: for m in mapped {
-            self.see_one(refused, hinter, *m, &mut seen, memo, listener)?;
+            self.see_one(refused, hinter, *m, &mut seen, &mut kept.bytes, listener)?;
+            kept.count_one();
         }
         Ok(seen)
     }
 
-    /// The survey of the strike of characters, whatever its title. Outlines, and glyphs that
-    /// are drawn, are put into the memo.
+    /// The survey of the strike of characters, whatever its title. The lines of the first characters are kept.
     pub(crate) fn survey_mapped<L: Listener>(
         &self,
         refused: OnRefused,
         hinter: &mut FontHinter<'_>,
         characters: &Characters,
-        memo: &mut Memo,
+        kept: &mut KeptText,
         listener: &mut L,
     ) -> Result<Survey, Refusal>
         requires few { length characters.now.mapped.items ≤ max_characters }
-        requires memo { IsMemo self.now.basis hinter.old memo.old.outlines memo.old.glyphs }
+        requires small { AreSmall characters.now.mapped.items }
+        requires none { IsOfNone kept.old }
         ensures kept { hinter.new ≡ hinter.old }
-        ensures memo { IsMemo self.now.basis hinter.old memo.new.outlines memo.new.glyphs }
+        ensures lines { OnOk result (IsKept (setting_with self.now.basis hinter.old) refused characters.now.mapped.items
+            (length characters.now.mapped.items) kept.new) }
         ensures survey { (title : Title) (chars : List ℕ)
             → AreCharactersOf self.now.basis.opened.map (rising chars) characters.now
             → Surveys (plan_with (setting_with self.now.basis hinter.old) title chars refused) result }
@@ -288,7 +273,7 @@ impl<'a, S: Scan> Tools<'a, S> {
             → Told L.Hears listener.old listener.new
             (notices_of (plan_with (setting_with self.now.basis hinter.old) title chars refused)) result }
     {
-        let seen = self.see(refused, hinter, &characters.mapped, memo, listener)?;
+        let seen = self.see(refused, hinter, &characters.mapped, kept, listener)?;
         let summary = seen.gathered.summary(seen.glyphs);
         let missing = characters.missing;
         Ok(survey_from(hinter, &self.basis.opened, seen, missing, summary))
@@ -301,13 +286,13 @@ impl<'a, S: Scan> Tools<'a, S> {
         hinter: &mut FontHinter<'_>,
         chars: &[u32],
     ) -> Result<Survey, Refusal>
-        requires few { length chars.now ≤ max_characters }
+        requires chars { AreChars chars.now }
         ensures kept { hinter.new ≡ hinter.old }
         ensures survey { (title : Title)
             → Surveys (plan_with (setting_with self.now.basis hinter.old) title chars.now refused) result }
     {
         let characters = self.characters(chars)?;
-        let mut memo = Memo::without_room(self.alloc);
-        self.survey_mapped(refused, hinter, &characters, &mut memo, &mut Deaf)
+        let mut none = KeptText::new(self.alloc, false);
+        self.survey_mapped(refused, hinter, &characters, &mut none, &mut Deaf)
     }
 }

@@ -6,6 +6,7 @@ ghost use Rattle.fx_request.specs.Faults.{of_machine};
 ghost use Rattle.fx_strike.specs.Faults.{Fails};
 ghost use Rattle.fx_strike.specs.Strike.{machine_for, prelude_by, wish_in};
 
+use crate::fate::Fate;
 use crate::opened::Opened;
 use fx_gstate::Dropout as Wish;
 use fx_hint::{
@@ -81,6 +82,19 @@ impl<'a> FontHinter<'a> {
         match &self.machine {
             Some(machine) => machine.machine().wish(),
             None => None,
+        }
+    }
+}
+
+impl<'a> FontHinter<'a> {
+    /// Takes the lists of a character's outline, which is done with, for the next one.
+    pub(crate) fn give_back(&mut self, fate: Fate)
+        ensures { self.new ≡ self.old }
+    {
+        match fate {
+            Fate::Drawn(sketched) => self.spare.give_back(sketched.shape.into_outline()),
+            Fate::Unhinted(_, sketched) => self.spare.give_back(sketched.shape.into_outline()),
+            Fate::LeftOut(_) => {}
         }
     }
 }

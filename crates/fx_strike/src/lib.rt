@@ -11,10 +11,11 @@
 //! is opened once, and makes characters and strikes one after the other; the other calls open one, and let it go.
 //!
 //! A strike is made in two passes over its characters: the first surveys it, so that no byte is written of a strike that is
-//! refused; the second makes each character again and writes it. Only few characters are held at a time. The first pass makes a
-//! glyph's bits only if its frame is not in the box of the glyphs so far, which they could not widen. `survey` is the first pass
-//! alone. `chosen` makes one glyph, chosen by a character or by its number, and `write_outline` writes the outline of one, which
-//! its bits are of. `listing_of` writes the listing of a program straight to the writer, and takes no memory.
+//! refused; the second writes it. The first pass keeps the lines of the first characters, up to 4 MiB; the second writes these,
+//! and makes the other characters again. Once nothing more is kept, the first pass makes a glyph's bits only if its frame is not
+//! in the box of the glyphs so far, which they could not widen. `survey` is the first pass alone. `chosen` makes one glyph,
+//! chosen by a character or by its number, and `write_outline` writes the outline of one, which its bits are of. `listing_of`
+//! writes the listing of a program straight to the writer, and takes no memory.
 #![tactic(auto)]
 
 mod basis;
@@ -23,16 +24,15 @@ mod characters;
 mod choices;
 mod draft;
 mod draw;
-mod drawn_glyphs;
 mod fate;
 mod faults;
 mod first_pass;
 mod gathered;
 mod hinter;
+mod kept_text;
 pub mod laws;
 mod listing;
 mod make;
-mod memo;
 mod numbered;
 mod numbers;
 mod one_character;

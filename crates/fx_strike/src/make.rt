@@ -14,12 +14,12 @@ use std::alloc::Global;
 
 /// Makes the strike of a font and writes its text, with a scan of the caller's choice.
 ///
-/// There are two passes over the characters: the first surveys the strike, and the second makes each character again and writes
-/// it. Hence nothing is written before every character was made once, and beside the font, its machine with the components that it
-/// keeps, and the code points only few characters are held at a time. The first cause is returned, in this order: the size, the
-/// characters, the name, the properties; the font's tables, its character map; with hinting on the halts of `fpgm`, then of
-/// `prep`; then, if the request stops at refused characters, the characters in rising order, each by its outline, then how far out
-/// it lies and how large it is.
+/// There are two passes over the characters: the first makes each, surveys the strike and keeps the lines of the first ones, up
+/// to 4 MiB; the second writes these, makes the others again and writes theirs. Hence nothing is written before every character
+/// was made once, and beside the font, its machine with the components that it keeps, the code points and those lines only few
+/// characters are held at a time. The first cause is returned, in this order: the size, the characters, the name, the properties;
+/// the font's tables, its character map; with hinting on the halts of `fpgm`, then of `prep`; then, if the request stops at
+/// refused characters, the characters in rising order, each by its outline, then how far out it lies and how large it is.
 /// `OutOfMemory` may be returned in place of any step after the character map, and of none before it. After `WriteFailed(n)` the
 /// writer holds the first n bytes of the text; after any other refusal but `OutOfMemory` nothing was written.
 pub fn make_strike_with<S: Scan, W: Sink>(

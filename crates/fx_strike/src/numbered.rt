@@ -9,7 +9,6 @@ use crate::hinter::FontHinter;
 use crate::striker::Striker;
 use crate::tools::Tools;
 use fx_bdf::BitGlyph;
-use fx_cache::CacheReader;
 use fx_raster::Scan;
 use fx_request::Refusal;
 
@@ -22,8 +21,7 @@ impl<'a, S: Scan> Tools<'a, S> {
         ensures kept { hinter.new ≡ hinter.old }
         ensures drawn { Draws (numbered_with (setting_with self.now.basis hinter.old) glyph) result }
     {
-        let mut none = CacheReader::empty();
-        self.draw(hinter, &mut none, NO_CODE, glyph)
+        self.draw(hinter, NO_CODE, glyph)
     }
 }
 

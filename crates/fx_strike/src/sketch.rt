@@ -4,11 +4,10 @@ ghost use Rattle.fx_fixed.specs.Chain.{map_ok, map_fault, GivesUnless};
 ghost use Rattle.fx_sfnt.specs.Glyphs.{metrics_of};
 ghost use Rattle.fx_machine.specs.Known.{Known};
 ghost use Rattle.fx_hint.specs.Outlines.{view_of_glyph_outline, outline_with};
-ghost use Rattle.fx_raster.specs.Frames.{HasFrame};
 ghost use Rattle.fx_raster.specs.Rules.{shape_of};
 ghost use Rattle.fx_request.specs.Faults.{of_font};
 ghost use Rattle.fx_strike.specs.Faults.{Fails, of_hint, of_raster};
-ghost use Rattle.fx_strike.specs.Strike.{hinting_by, rule_for, setting_with, thousandths, glyph_sketch_of};
+ghost use Rattle.fx_strike.specs.Strike.{hinting_by, setting_with, thousandths, glyph_sketch_of};
 ghost use Rattle.fx_strike.specs.inner.Drawing.{Sketches, due_in};
 
 use crate::basis::Basis;
@@ -19,7 +18,8 @@ use crate::rule::rule_for;
 use crate::sketched::Sketched;
 use fx_fixed::near;
 use fx_hint::{GlyphOutline, Spare, outline_in};
-use fx_raster::{Frame, Rule, Shape, frame_of};
+use fx_outline::Outline;
+use fx_raster::{Rule, Shape};
 use fx_request::Refusal;
 use fx_sfnt::Font;
 use std::alloc::Global;
@@ -47,28 +47,15 @@ pub(crate) fn outline_made(
     }
 }
 
-/// The rule by which an outline sets pixels: the drop-out control that is asked for, or that it asks for itself.
+/// The shape of an outline by a rule; `TooFar` if a point of it lies too far out, `GlyphTooLarge` if it has too many pixels.
 #[inline(always)]
-fn rule_of(basis: &Basis<'_>, drawing: &GlyphOutline) -> Rule
-    ensures { result ≡ rule_for basis.now.dropout drawing.now.wish }
+fn shape_at(glyph: u16, outline: Outline, rule: Rule) -> Result<Shape, Refusal>
+    ensures shape { IfOk result (λ shape. shape_of rule outline.ends.items outline.points.items ≡ Ok shape) }
+    ensures fault { IfErr result (λ d. Fails d
+        (map_fault (of_raster glyph) (shape_of rule outline.ends.items outline.points.items))) }
 {
-    rule_for(basis.dropout, drawing.wish)
-}
-
-/// The frame of an outline; `TooFar` if a point of it lies too far out, `GlyphTooLarge` if it has too many pixels.
-#[inline(always)]
-pub(crate) fn frame_at(
-    basis: &Basis<'_>,
-    glyph: u16,
-    drawing: &GlyphOutline,
-) -> Result<Option<Frame>, Refusal>
-    ensures frame { IfOk result (HasFrame (rule_for basis.now.dropout drawing.now.wish) drawing.now.outline.ends.items
-        drawing.now.outline.points.items) }
-    ensures fault { IfErr result (λ d. Fails d (map_fault (of_raster glyph) (shape_of
-        (rule_for basis.now.dropout drawing.now.wish) drawing.now.outline.ends.items drawing.now.outline.points.items))) }
-{
-    match frame_of(&drawing.outline, rule_of(basis, drawing)) {
-        Ok(frame) => Ok(frame),
+    match Shape::of(outline, rule) {
+        Ok(shape) => Ok(shape),
         Err(fault) => Err(of_raster(glyph, fault)),
     }
 }
@@ -83,20 +70,18 @@ fn thousandths_at(font: &Font<'_>, glyph: u16) -> Result<i32, Refusal>
     Ok(near(advance * 1000, i128::from(em)) as i32)
 }
 
-/// A glyph before its bits, by its outline and the frame of it, or the first cause why it has no advance.
+/// A glyph before its bits, by its outline, or the first cause why it has no shape or no advance.
 #[inline(always)]
 pub(crate) fn sketch_with(
     basis: &Basis<'_>,
     glyph: u16,
     drawing: GlyphOutline,
-    frame: Option<Frame>,
 ) -> Result<Sketched, Refusal>
-    requires { HasFrame (rule_for basis.now.dropout drawing.wish) drawing.outline.ends.items drawing.outline.points.items frame }
     ensures { (machine : Option Known) (code : ℕ) → due_in basis.now.opened machine glyph ≡ Ok (view_of_glyph_outline drawing)
         → Sketches (glyph_sketch_of (setting_with basis.now machine) code glyph) result }
 {
-    let rule = rule_of(basis, &drawing);
-    let shape = Shape::framed(drawing.outline, rule, frame);
+    let rule = rule_for(basis.dropout, drawing.wish);
+    let shape = shape_at(glyph, drawing.outline, rule)?;
     let swidth = thousandths_at(&basis.opened.font, glyph)?;
     Ok(Sketched {
         shape,

@@ -224,7 +224,7 @@ impl<'a, S: Scan> Striker<'a, S> {
         chars: &[u32],
         refused: OnRefused,
     ) -> Result<Survey, Refusal>
-        requires few { length chars.now ≤ max_characters }
+        requires chars { AreChars chars.now }
         ensures survey { SurveysNameless self.old chars.now refused result }
         ensures kept { self.new ≡ self.old }
     {

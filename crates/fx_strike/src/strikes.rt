@@ -10,10 +10,9 @@ ghost use Rattle.fx_strike.specs.inner.Surveying.{AreChars, IsChecked};
 
 use crate::draft::Draft;
 use crate::hinter::FontHinter;
-use crate::memo::Memo;
+use crate::kept_text::KeptText;
 use crate::tools::Tools;
 use fx_bdf::{BitGlyph, Title};
-use fx_cache::CacheReader;
 use fx_fixed::Sink;
 use fx_raster::Scan;
 use fx_request::{Listener, OnRefused, Refusal, Report};
@@ -33,8 +32,7 @@ impl<'a, S: Scan> Tools<'a, S> {
         if glyph == 0 {
             return Ok(None);
         }
-        let mut none = CacheReader::empty();
-        let drawn = self.draw(hinter, &mut none, code, glyph)?;
+        let drawn = self.draw(hinter, code, glyph)?;
         Ok(Some(drawn))
     }
 
@@ -59,8 +57,8 @@ impl<'a, S: Scan> Tools<'a, S> {
             (plan_with (setting_with self.now.basis hinter.old) (titled title.now) chars.now refused)) result }
     {
         let characters = self.characters(chars)?;
-        let mut memo = Memo::new(self.alloc, characters.mapped.len());
-        let survey = self.survey_mapped(refused, hinter, &characters, &mut memo, listener)?;
+        let mut kept = KeptText::new(self.alloc, true);
+        let survey = self.survey_mapped(refused, hinter, &characters, &mut kept, listener)?;
         let ppem = self.basis.opened.ppem;
         let header = survey.header(ppem);
         let properties = title.all_properties(self.alloc, ppem.pixels(), survey.summary)?;
@@ -71,8 +69,7 @@ impl<'a, S: Scan> Tools<'a, S> {
             mapped: &characters.mapped,
             refused,
         };
-        let mut reader = memo.reader();
-        self.write_text(hinter, &mut reader, &draft, out)?;
+        self.write_text(hinter, &kept, &draft, out)?;
         Ok(survey.report)
     }
 }

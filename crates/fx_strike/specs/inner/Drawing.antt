@@ -1,5 +1,5 @@
 -- What the steps on the way to a character's glyph return.
-use Rattle.std.specs.Prelude.{◌≡◌, ◌⊎◌, ℕ, pos, List, [], ◌∷◌, ◌++◌, All, Option, Result, Ok, Err}
+use Rattle.std.specs.Prelude.{◌≡◌, ℕ, pos, Option, Result, Ok, Err}
 use Rattle.fx_fixed.specs.Numbers.{near_of}
 use Rattle.fx_raster.specs.Laws.{IsOfOutline}
 use Rattle.fx_bdf.specs.Glyphs.{Glyph}
@@ -9,13 +9,8 @@ use Rattle.fx_strike.specs.Faults.{Fails}
 use Rattle.fx_machine.specs.Known.{Known}
 use Rattle.fx_hint.specs.Outlines.{GlyphOutlineView, outline_with}
 use Rattle.fx_hint.specs.declared.fault.HintFault.{HintFault}
-use Rattle.fx_raster.specs.Frames.{Frame, HasFrame}
 use Rattle.fx_strike.specs.declared.opened.Opened.{Opened}
-use Rattle.fx_cache.specs.Cached.{AreDue}
-use Rattle.fx_strike.specs.declared.basis.Basis.{Basis}
-use Rattle.fx_strike.specs.declared.characters.Mapped.{Mapped}
-use Rattle.fx_strike.specs.declared.drawn_glyphs.DrawnGlyph.{DrawnGlyph}
-use Rattle.fx_strike.specs.Strike.{Sketch, IsGlyphOf, Fate, drawn, unhinted, left_out, hinting_by, rule_for, setting_with, glyph_sketch_of}
+use Rattle.fx_strike.specs.Strike.{Sketch, IsGlyphOf, Fate, drawn, unhinted, left_out, hinting_by}
 use Rattle.fx_strike.specs.declared.fate.Fate as code
 use Rattle.fx_strike.specs.declared.fate.Fate.TheVariants.{Drawn, Unhinted, LeftOut}
 use Rattle.fx_strike.specs.Headline.{IsOneOf}
@@ -24,16 +19,6 @@ use Rattle.fx_strike.specs.Headline.{IsOneOf}
 abbrev pub due_in : Opened → Option Known → ℕ → Result GlyphOutlineView HintFault
 due_in opened machine = outline_with (hinting_by machine) opened.font opened.ppem
 
--- an outline is the one that is due for a glyph, and the frame is one of its pixels
-pub record IsDueWith (basis : Basis) (machine : Option Known) (glyph : ℕ) (outline : GlyphOutlineView) (frame : Option Frame)
-    : Type 0 where
-  pub due : due_in basis.opened machine glyph ≡ Ok outline
-  pub framed : HasFrame (rule_for basis.dropout outline.wish) outline.ends outline.points frame
-
--- those that a cache holds
-abbrev pub due_with : Basis → Option Known → ℕ → GlyphOutlineView → Option Frame → Type 0
-due_with basis machine glyph outline frame = IsDueWith basis machine glyph outline frame
-
 -- a glyph before its bits is that of its sketch
 pub record IsSketchedOf (sketch : Sketch) (sketched : Sketched) : Type 0 where
   pub shape : sketched.shape ≡ sketch.shape
@@ -41,27 +26,6 @@ pub record IsSketchedOf (sketch : Sketch) (sketched : Sketched) : Type 0 where
   pub swidth : sketched.swidth ≡ sketch.swidth
   pub dwidth : near_of sketched.advance (pos 64) ≡ sketch.dwidth
   pub usage : sketched.usage ≡ sketch.usage
-
--- a glyph is that of each sketch of a code point that this glyph before its bits is of
-pub record IsGlyphBy (code : ℕ) (sketched : Sketched) (glyph : Glyph) : Type 0 where
-  pub code_is : glyph.code ≡ code
-  pub of : (sketch : Sketch) → IsSketchedOf sketch sketched → sketch.code ≡ code → IsGlyphOf sketch glyph
-
--- a glyph before its bits was drawn, and its glyph may be kept after the others
-abbrev pub MayKeep : Mapped → Sketched → List DrawnGlyph → List DrawnGlyph → Type 0
-MayKeep m sketched old new = (new ≡ old)
-    ⊎ ((drawn : Glyph) × IsGlyphBy m.code sketched drawn × (new ≡ old ++ record { glyph = m.glyph; drawn = drawn } ∷ []))
-
--- a glyph that was drawn is the one that is due for its code point
-pub record IsDrawn (basis : Basis) (machine : Option Known) (d : DrawnGlyph) : Type 0 where
-  pub sketch : Sketch
-  pub due : glyph_sketch_of (setting_with basis machine) d.drawn.code d.glyph ≡ Ok sketch
-  pub of : IsGlyphOf sketch d.drawn
-
--- the outlines and the glyphs of a memo are due
-pub record IsMemo (basis : Basis) (machine : Option Known) (outlines : List ℕ) (glyphs : List DrawnGlyph) : Type 0 where
-  pub outlines_are : AreDue (due_with basis machine) outlines
-  pub glyphs_are : All (IsDrawn basis machine) glyphs
 
 -- a glyph before its bits is made if its sketch is due; a refusal is one that is due, or out of memory
 abbrev pub Sketches : Result Sketch Refusal → Result Sketched Refusal → Type 0

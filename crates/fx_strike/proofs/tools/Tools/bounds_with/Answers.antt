@@ -1,7 +1,8 @@
-use Rattle.std.proofs.Common.{ap, ◌∙◌}
+use Rattle.std.proofs.Common.{ap, sym, ◌∙◌}
 use Rattle.fx_bdf.specs.Glyphs.{Box, joined}
 use Rattle.fx_strike.proofs.Exits.{came}
-use Rattle.fx_strike.proofs.Drawn.{may_keep}
+use Rattle.fx_strike.proofs.Keeping.{keeps_full, keeps_lines}
+use Rattle.fx_strike.proofs.Lines.{drawn_lines}
 use Rattle.fx_strike.proofs.Enclosed.{skipped, joins_made}
 use Rattle.fx_strike.proofs.tools.Tools.bounds_with.Goals as goal
 
@@ -14,10 +15,12 @@ pub returns-in_err-made-clause-joined : goal.returns-in_err-made-clause-joined
 returns-in_err-made-clause-joined g c sketch is e =
     rw (came c.from_residual.result c.from_residual.ensures.1) c.in_err-made.ensures.fault
 
-pub returns-clause-drawn : goal.returns-clause-drawn
-returns-clause-drawn g c =
-    may_keep c.args.m c.in_ok-made.made (record { code_is = c.in_ok-made.ensures.code; of = c.in_ok-made.ensures.glyph })
-    c.keep.ensures
+pub returns-then-lies_in-clause-lines : goal.returns-then-lies_in-clause-lines
+returns-then-lies_in-clause-lines g c sketch glyph is e of = keeps_full c.args.kept.now (sym c.is_full.ensures ∙ c.if-is_full.true)
+
+pub returns-clause-lines : goal.returns-clause-lines
+returns-clause-lines g c sketch glyph is e of =
+    keeps_lines (drawn_lines c.trimmed.ensures sketch glyph (c.in_ok-made.ensures.glyph sketch is e) of) c.keep.ensures
 
 pub returns-clause-joined : goal.returns-clause-joined
 returns-clause-joined g c sketch is e =

@@ -1,13 +1,14 @@
-use Rattle.std.proofs.Common.{refl, ◌∙◌}
+use Rattle.std.proofs.Common.{refl, ◌∙◌, arith}
 use Rattle.fx_strike.proofs.Exits.{came}
-use Rattle.fx_strike.proofs.Seeing.{holds_none, seen_at, refused_at}
+use Rattle.fx_strike.proofs.Keeping.{kept_more, kept_none, lines_there}
+use Rattle.fx_strike.proofs.Seeing.{code_fits, holds_none, seen_at, refused_at}
 use Rattle.fx_strike.proofs.Telling.{heard_at, told_so_far}
 use Rattle.fx_strike.proofs.tools.Tools.see.Goals as goal
 
 pub mapped-init : goal.mapped-init
 mapped-init g c = record {
   kept = refl;
-  memo = c.requires.memo;
+  lines = kept_none _ c.requires.none;
   held = holds_none _ _ _ c.new-seen.ensures;
   heard = refl;
 }
@@ -34,12 +35,16 @@ mapped-preserved g c =
     let t = rw c.mapped.invariant.kept at (c.in_ok-see_one.ensures).heard in
     record {
       kept = (c.in_ok-see_one.ensures).kept ∙ c.mapped.invariant.kept;
-      memo = rw c.mapped.invariant.kept at (c.in_ok-see_one.ensures).memo;
+      lines = kept_more c.mapped-test.true c.mapped.invariant.lines (lines_there d)
+          (rw c.mapped.invariant.kept at (c.in_ok-see_one.ensures).lines) c.count_one.ensures;
       held = seen_at _ _ c.args.mapped.now c.mapped.m-index c.mapped.seen c.see_one.new.seen
           c.mapped-test.true c.mapped.invariant.held d;
       heard = heard_at _ _ _ _ _ _ c.args.mapped.now c.mapped.m-index c.mapped-test.true
           c.mapped.invariant.heard t;
     }
 
-pub see_one-requires-clause-memo : goal.see_one-requires-clause-memo
-see_one-requires-clause-memo g c = rw c.mapped.invariant.kept c.mapped.invariant.memo
+pub see_one-requires-clause-code : goal.see_one-requires-clause-code
+see_one-requires-clause-code g c = code_fits c.args.mapped.now c.mapped.m-index c.requires.small c.mapped-test.true
+
+pub count_one-requires : goal.count_one-requires
+count_one-requires g c = omega (arith, c.mapped.invariant.lines.few, c.mapped-test.true, c.requires.few)

@@ -1,19 +1,13 @@
-use Rattle.fx_cache.proofs.DueWords.{taken_due}
-use Rattle.fx_strike.specs.inner.Drawing.{due_with}
+use Rattle.fx_strike.specs.Strike.{setting_with}
+use Rattle.fx_strike.proofs.Exits.{came}
+use Rattle.fx_strike.proofs.Sketching.{no_outline}
 use Rattle.fx_strike.proofs.tools.Tools.sketch_at.Goals as goal
 
-pub sketch_with-requires : goal.sketch_with-requires
-sketch_with-requires g c =
-    (taken_due (due_with c.args.self.now.basis c.args.hinter.now) _ _ _ c.in-Some.ensures c.requires.cache).0.framed
+pub returns-in_err-drawing-clause-sketch : goal.returns-in_err-drawing-clause-sketch
+returns-in_err-drawing-clause-sketch g c code =
+    rw (came c.from_residual.result c.from_residual.ensures.1)
+    (no_outline (setting_with c.args.self.now.basis c.args.hinter.now) code c.args.glyph _
+    c.in_err-drawing.ensures.value)
 
-pub returns-in-Some-clause-cache : goal.returns-in-Some-clause-cache
-returns-in-Some-clause-cache g c =
-    (taken_due (due_with c.args.self.now.basis c.args.hinter.now) _ _ _ c.in-Some.ensures c.requires.cache).1
-
-pub returns-in-Some-clause-sketch : goal.returns-in-Some-clause-sketch
-returns-in-Some-clause-sketch g c code =
-    c.sketch_with.ensures c.args.hinter.now code
-    (taken_due (due_with c.args.self.now.basis c.args.hinter.now) _ _ _ c.in-Some.ensures c.requires.cache).0.due
-
-pub returns-in-None-clause-cache : goal.returns-in-None-clause-cache
-returns-in-None-clause-cache g c = rw c.in-None.ensures c.requires.cache
+pub returns-clause-sketch : goal.returns-clause-sketch
+returns-clause-sketch g c code = c.sketch_with.ensures c.args.hinter.now code c.in_ok-drawing.ensures.outline

@@ -1,13 +1,12 @@
-use Rattle.fx_strike.proofs.Drawn.{no_memo}
-use Rattle.fx_strike.proofs.Mapping.{few_characters}
+use Rattle.fx_strike.proofs.Mapping.{few_characters, small_characters}
 use Rattle.fx_strike.proofs.tools.Tools.survey_chars.Goals as goal
 
 pub survey_mapped-requires : goal.survey_mapped-requires
 survey_mapped-requires g c =
     record {
-      few = few_characters c.args.chars.now c.in_ok-characters.ensures.characters c.requires.few;
-      memo = rw (c.without_room-memo.ensures.outlines, c.without_room-memo.ensures.glyphs)
-          (no_memo c.args.self.now.basis c.args.hinter.now);
+      few = few_characters c.args.chars.now c.in_ok-characters.ensures.characters c.requires.chars.few;
+      small = small_characters c.args.chars.now c.in_ok-characters.ensures.characters c.requires.chars.small;
+      none = c.new-none.ensures;
     }
 
 pub returns-clause-survey : goal.returns-clause-survey

@@ -1,46 +1,41 @@
-use Rattle.std.proofs.Common.{refl, ◌∙◌, arith, List, [], ℕ}
-use Rattle.fx_fixed.proofs.Texts.{adds_nothing, adds_text, adds_then}
-use Rattle.fx_fixed.proofs.Writing.{parts, parts_more}
+use Rattle.std.proofs.Common.{arith, drop}
+use Rattle.fx_fixed.proofs.Texts.{adds_count, adds_piece, adds_text}
 use Rattle.fx_strike.proofs.Exits.{came}
-use Rattle.fx_strike.proofs.Lines.{adds_part}
-use Rattle.fx_strike.proofs.Seeing.{code_fits}
+use Rattle.fx_strike.proofs.Keeping.{lines_rest, lines_whole, small_rest, weaker}
+use Rattle.fx_strike.proofs.Lines.{added, adds_after, adds_before, unadded}
 use Rattle.fx_strike.proofs.tools.Tools.write_all.Goals as goal
 
-pub mapped-init : goal.mapped-init
-mapped-init g c = record {
-  kept = refl;
-  memo = c.requires.memo;
-  same = refl;
-  quiet = refl;
-  few = omega arith;
-  lines = λ lines h. adds_nothing;
-}
+pub write_made-requires-clause-small : goal.write_made-requires-clause-small
+write_made-requires-clause-small g c =
+    rw c.split_at.ensures.back (small_rest c.args.kept.now.count c.args.mapped.now c.requires.small)
 
-pub write_one-requires-clause-code : goal.write_one-requires-clause-code
-write_one-requires-clause-code g c =
-    code_fits c.args.mapped.now c.mapped.m-index c.requires.small c.mapped-test.true
+pub write_made-requires-clause-room : goal.write_made-requires-clause-room
+write_made-requires-clause-room g c =
+    omega (
+      arith,
+      adds_count (adds_piece c.text.ensures c.in_ok-add.ensures),
+      c.requires.lines.short,
+      c.requires.few,
+      c.split_at.ensures.back_len,
+      c.requires.room,
+    )
 
-pub returns-in_err-write_one-clause-lines : goal.returns-in_err-write_one-clause-lines
-returns-in_err-write_one-clause-lines g c lines h =
-    let w = rw c.mapped.invariant.kept at (c.in_err-write_one.ensures).lines in
+pub returns-in_err-add-clause-lines : goal.returns-in_err-add-clause-lines
+returns-in_err-add-clause-lines g c lines h =
     rw (came c.from_residual.result c.from_residual.ensures.1)
-    (adds_part _ (parts (λ (t : List ℕ). t) lines c.mapped.m-index [] (omega (arith, h.count, c.mapped-test.true)))
-    (c.mapped.invariant.lines lines h) (w _ (h.each _ c.mapped-test.true)))
+    (adds_before _ (lines_whole c.args.kept.now.count lines)
+    (adds_text (c.requires.lines.lines lines h) (unadded (adds_piece c.text.ensures c.in_err-add.ensures)
+    (omega (arith, c.requires.lines.short, c.requires.lines.few, c.requires.few, c.requires.room)))))
 
-pub mapped-preserved : goal.mapped-preserved
-mapped-preserved g c =
-    let w = rw c.mapped.invariant.kept at (c.in_ok-write_one.ensures).lines in
-    record {
-      kept = (c.in_ok-write_one.ensures).kept ∙ c.mapped.invariant.kept;
-      memo = rw c.mapped.invariant.kept at (c.in_ok-write_one.ensures).memo;
-      same = (c.in_ok-write_one.ensures).same ∙ c.mapped.invariant.same;
-      quiet = (c.in_ok-write_one.ensures).quiet ∙ c.mapped.invariant.quiet;
-      few = omega (arith, (c.in_ok-write_one.ensures).short, c.mapped.invariant.few);
-      lines = λ lines h.
-          adds_text (parts_more (λ (t : List ℕ). t) lines c.mapped.m-index [] (omega (arith, h.count, c.mapped-test.true)))
-          (adds_then (c.mapped.invariant.lines lines h)
-          (w _ (h.each _ c.mapped-test.true)).outcome);
-    }
+pub returns-clause-lines : goal.returns-clause-lines
+returns-clause-lines g c lines h =
+    adds_after _ (lines_whole c.args.kept.now.count lines)
+    (adds_text (c.requires.lines.lines lines h) (added (adds_piece c.text.ensures c.in_ok-add.ensures)))
+    (c.write_made.ensures.lines (drop c.args.kept.now.count lines) (rw c.split_at.ensures.back
+    (lines_rest c.args.kept.now.count c.args.mapped.now lines h)))
 
-pub write_one-requires-clause-memo : goal.write_one-requires-clause-memo
-write_one-requires-clause-memo g c = rw c.mapped.invariant.kept c.mapped.invariant.memo
+pub returns-clause-short : goal.returns-clause-short
+returns-clause-short g c =
+    let kept = adds_count (adds_piece c.text.ensures c.in_ok-add.ensures) in
+    weaker c.write_made.result (λ h. omega (arith, h, kept, c.requires.lines.short, c.requires.few, c.split_at.ensures.back_len))
+    c.write_made.ensures.short

@@ -1,4 +1,3 @@
-use Rattle.fx_strike.proofs.Drawn.{no_memo}
 use Rattle.std.proofs.Common.{◌∙◌, refl, Err, Ok}
 use Rattle.std.proofs.KnownBytes.{Keeps-refl}
 use Rattle.fx_strike.specs.Title.{titled}
@@ -12,7 +11,8 @@ use Rattle.fx_strike.proofs.tools.Tools.write_strike.Goals as goal
 pub survey_mapped-requires : goal.survey_mapped-requires
 survey_mapped-requires g c = record {
   few = few_characters c.args.chars.now c.in_ok-characters.ensures.characters c.requires.chars.few;
-  memo = rw (c.new-memo.ensures.outlines, c.new-memo.ensures.glyphs) (no_memo c.args.self.now.basis c.args.hinter.now);
+  small = small_characters c.args.chars.now c.in_ok-characters.ensures.characters c.requires.chars.small;
+  none = c.new-kept.ensures;
 }
 
 pub write_text-requires-clause-few : goal.write_text-requires-clause-few

@@ -1,4 +1,0 @@
-pub mod Limits
-pub mod Words
-pub mod Frames
-pub mod Cached

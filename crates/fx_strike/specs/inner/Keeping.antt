@@ -1,0 +1,34 @@
+-- The lines of the first characters, which the first pass keeps.
+use Rattle.std.specs.Prelude.{◌≡◌, ℕ, ◌+◌, ◌*◌, ◌<◌, ◌≤◌, List, [], ◌++◌, length, take}
+use Rattle.std.specs.List.{flat_map}
+use Rattle.fx_bdf.specs.Text.{longest_glyph}
+use Rattle.fx_request.specs.declared.request.OnRefused.{OnRefused}
+use Rattle.fx_strike.specs.declared.characters.Mapped.{Mapped}
+use Rattle.fx_strike.specs.declared.kept_text.KeptBytes.{KeptBytes}
+use Rattle.fx_strike.specs.declared.kept_text.KeptText.{KeptText}
+use Rattle.fx_strike.specs.Strike.{Setting}
+use Rattle.fx_strike.specs.inner.Writing.{AreAllLinesOf}
+
+-- lines were kept after the others; or nothing more is kept, and none of them
+pub record Keeps (lines : List ℕ) (old new : KeptBytes) : Type 0 where
+  pub all : new.faults ≡ 0 → (old.faults ≡ 0) × (new.bytes.items ≡ old.bytes.items ++ lines) × (length lines ≤ longest_glyph)
+  pub none : 0 < new.faults → new.bytes.items ≡ old.bytes.items
+
+-- one character more is counted, unless nothing more is kept
+pub record Counts (old new : KeptText) : Type 0 where
+  pub bytes : new.bytes ≡ old.bytes
+  pub one : old.bytes.faults ≡ 0 → new.count ≡ old.count + 1
+  pub none : 0 < old.bytes.faults → new.count ≡ old.count
+
+-- no lines, of no character
+pub record IsOfNone (kept : KeptText) : Type 0 where
+  pub bytes : kept.bytes.bytes.items ≡ []
+  pub count : kept.count ≡ 0
+
+-- of n characters that were seen the lines of the first ones are kept; of all, if more can be kept
+pub record IsKept (setting : Setting) (refused : OnRefused) (mapped : List Mapped) (n : ℕ) (kept : KeptText) : Type 0 where
+  pub few : kept.count ≤ n
+  pub all : kept.bytes.faults ≡ 0 → kept.count ≡ n
+  pub short : length kept.bytes.bytes.items ≤ kept.count * longest_glyph
+  pub lines : (lines : List (List ℕ)) → AreAllLinesOf setting refused mapped lines
+      → kept.bytes.bytes.items ≡ flat_map (λ t. t) (take kept.count lines)
