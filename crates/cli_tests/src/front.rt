@@ -191,7 +191,10 @@ fn lines_after_a_run(rt: HostRuntime) -> Result<(), Fail> {
         let mut err = MemorySink::new(rt.alloc(), 0, Limits::NONE)?;
         let words = ["mkstrike", "trace"];
         let parts = part(rt.alloc(), &words, false, "", &[])?;
-        let task = Task::of(&parts, Some("trace"));
+        let task = Task {
+            parts: &parts,
+            command: Some("trace"),
+        };
         say_after(rt.alloc(), &fake, &task, ended, false, &mut err);
         assert_eq!(rt; err.bytes(), want);
     }

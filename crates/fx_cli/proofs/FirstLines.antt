@@ -1,5 +1,5 @@
 -- A run whose arguments are in the first line of its input.
--- Serves the answers of `run_line`, `run_arguments` and `run_given`.
+-- Serves the answers of `run_line` and `run_arguments`.
 use Rattle.std.proofs.Common.{◌≡◌, ◌∙◌, ◌==◌, ◌⊎◌, inl, inr, ℕ, ◌+◌, ◌<◌, ◌≤◌, List, [], ◌∷◌, ◌++◌, length, take, drop}
 use Rattle.std.proofs.Common.{not, refl, sym, ap, arith, Option, Bool, true, false, cond, Result, Ok, Err}
 use Rattle.std.proofs.Common.{append-nil, length-append, Bor}
@@ -26,8 +26,7 @@ use Rattle.fx_arguments.specs.Commands.{CommandView, Refuses}
 use Rattle.fx_arguments.specs.ReadAhead.{ahead_of, nothing_ahead}
 use Rattle.fx_arguments.specs.Input.{line_of, rest_of, arguments_of_line}
 use Rattle.fx_cli.specs.Runs.{AreArguments, Ends, HasLine, IsReadForArguments, IsReason, IsSpared}
-use Rattle.fx_arguments.specs.Lines.{Tells, refusal_line}
-use Rattle.fx_cli.specs.Runs.{IsUnread, Does, Runs, Stops, font_bytes, has_arguments, called, text_of}
+use Rattle.fx_cli.specs.Runs.{IsUnread, Does, Stops, font_bytes, has_arguments, called, text_of}
 use Rattle.clap.specs.Walk.{Text}
 use Rattle.fx_cli.specs.Steps.{EndsAfter, IsReasonAfter, DoesAfter, StopsAfter}
 
@@ -284,19 +283,3 @@ given_ends given command source sink told some asks (Err (Early refusal)) s = re
   reason = given_reasons given command source s.more some asks refusal s.reason;
 }
 given_ends given command source sink told some asks (Err Usage) s = absurd s
-
--- a source or a sink that was not used
-abbrev pub unchanged : Option (List ℕ) → ℕ → Change
-unchanged bytes faults = record { bytes_before = bytes; bytes = bytes; faults_before = faults; faults = faults }
-
--- there was no memory for the arguments
-pub without_arguments : (given : List Text) (left held : Option (List ℕ)) (read_faults write_faults : ℕ) (err : Change)
-    (status : ℕ) → status ≡ 1 → Tells (refusal_line OutOfMemory) err
-    → Runs given (unchanged left read_faults) (unchanged held write_faults) err status
-without_arguments given left held read_faults write_faults err status e t = record {
-  outcome = Err (Early OutOfMemory);
-  notices = [];
-  ends = record { got = []; read = Consumes-nil left; spared = (Keeps-refl held, refl); silent = refl; reason = tt };
-  told = e;
-  lines = t;
-}

@@ -212,10 +212,6 @@ Ends given source sink told (Ok done) = Does given source sink told (Ok done)
 Ends given source sink told (Err (Late refusal)) = Does given source sink told (Err refusal)
 Ends given source sink told (Err fault) = Stops given source sink told fault
 
--- nothing was read or written
-abbrev pub IsUntouched : Change → Change → Type 0
-IsUntouched source sink = IsUnread source × (sink.bytes ≡ sink.bytes_before) × (sink.faults ≡ sink.faults_before)
-
 -- a run on these arguments, the program's name first: how it ended, its status, and its lines for people: one for each refused
 -- character that did not stop the strike, and then that of how the run ended
 pub record Runs (given : List Text) (source sink err : Change) (status : ℕ) : Type 0 where
@@ -229,9 +225,3 @@ pub record Runs (given : List Text) (source sink err : Change) (status : ℕ) : 
 abbrev pub unread_outcome : ErrorKind → Result Done Fault
 unread_outcome kind.OutOfMemory = Err (Early OutOfMemory)
 unread_outcome _ = Err Usage
-
--- the run on the arguments that the system gives, or only the status and the line if it gives none
-abbrev pub Starts : Result (List Text) ErrorKind → Change → Change → Change → ℕ → Type 0
-Starts (Ok given) source sink err status = Runs given source sink err status
-Starts (Err fault) source sink err status =
-    IsUntouched source sink × (status ≡ status_of (unread_outcome fault)) × Tells (outcome_line (unread_outcome fault)) err

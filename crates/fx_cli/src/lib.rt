@@ -12,5 +12,5 @@ mod watcher;
 
 pub use mkstrike::Mkstrike;
 pub use program::{run, run_watched};
-pub use start::{run_given, run_program};
+pub use start::{run_program, unread};
 pub use watcher::{Unwatched, Watcher};

@@ -8,16 +8,29 @@ use fx_arguments::{ItemFault, Task, read_arguments, wrong_item};
 use fx_fixed::{Sink, Source};
 use fx_front::{Facts, Program, Text};
 use std::alloc::{AllocError, Global};
+use std::marker::Model;
 
-/// The program, and what was seen of its last run.
+/// The program, and what was seen of its last run. It is seen as what a front is told.
 #[derive(Drop)]
 pub struct Mkstrike {
     watch: Watch,
 }
 
+impl Model for Mkstrike {
+    ghost use Rattle.fx_front.specs.declared.facts.Facts.{Facts};
+
+    ghost Value = { Facts };
+
+    ghost view = { λ m. m.watch.facts };
+}
+
 impl Mkstrike {
+    ghost use Rattle.fx_cli.specs.Watch.{unseen};
+
     /// The program before a run.
-    pub fn new(alloc: Global) -> Mkstrike {
+    pub fn new(alloc: Global) -> Mkstrike
+        ensures { result ≡ unseen }
+    {
         Mkstrike {
             watch: Watch::new(alloc),
         }
@@ -45,7 +58,9 @@ impl Program for Mkstrike {
         status
     }
 
-    fn facts(&self) -> &Facts {
+    fn facts(&self) -> &Facts
+        ensures { result.now ≡ self.now }
+    {
         &self.watch.facts
     }
 

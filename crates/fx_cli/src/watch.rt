@@ -1,4 +1,7 @@
 //! What a front is told of a run.
+ghost use Rattle.std.specs.Prelude.{◌≡◌, false};
+ghost use Rattle.fx_cli.specs.Watch.{unseen};
+
 use crate::watcher::Watcher;
 use fx_arguments::{Command, Done, Fault, Task};
 use fx_cmap::CharMap;
@@ -22,7 +25,10 @@ pub struct Watch {
 
 impl Watch {
     /// Nothing was seen yet.
-    pub fn new(alloc: Global) -> Watch {
+    pub(crate) fn new(alloc: Global) -> Watch
+        ensures facts { result.facts ≡ unseen }
+        ensures few { result.names_all ≡ false }
+    {
         Watch {
             facts: Facts {
                 strike: None,

@@ -1,6 +1,8 @@
 -- The lines that a front adds for people.
-use Rattle.std.specs.Prelude.{◌≡◌, ◌⊎◌, ◌<◌, ℕ, List, [], ◌∷◌, ◌++◌, codes, Result}
-use Rattle.std.specs.List.{All}
+use Rattle.std.specs.Prelude.{◌≡◌, ◌⊎◌, ◌<◌, ◌==◌, ◌||◌, ℕ, nat_lt, List, [], ◌∷◌, ◌++◌, map, codes, Result}
+use Rattle.std.specs.Prelude.{if◌then◌else◌}
+use Rattle.std.specs.Borrow.{Bor}
+use Rattle.std.specs.List.{All, flat_map}
 use Rattle.std.specs.Io.KnownBytes.{Keeps}
 use Rattle.fx_fixed.specs.Changes.{Change}
 use Rattle.fx_fixed.specs.Wrote.{Wrote}
@@ -9,6 +11,17 @@ use Rattle.fx_fixed.specs.declared.sink.WriteFailed.{WriteFailed}
 -- a text of one line: no control character is in it, so no LF
 abbrev pub IsLine : List ℕ → Type 0
 IsLine text = All (λ b. 31 < b) text
+
+-- what is shown of a byte: `?` for a control character
+abbrev pub shown : ℕ → ℕ
+shown byte = if nat_lt byte 32 || byte == 127 then 63 else byte
+
+abbrev pub shown_text : List ℕ → List ℕ
+shown_text bytes = map shown bytes
+
+-- that of pieces
+abbrev pub shown_pieces : List (Bor (List ℕ)) → List ℕ
+shown_pieces pieces = flat_map (λ piece. shown_text piece.now) pieces
 
 -- its line: the program's name, the text and LF
 abbrev pub line_of : List ℕ → List ℕ

@@ -1,4 +1,8 @@
 //! What a command line asks a front for.
+ghost use Rattle.std.specs.Prelude.{◌≡◌};
+ghost use Rattle.fx_words.specs.Parts.{texts};
+ghost use Rattle.fx_front.specs.inner.Asked.{asked_by, asked_by_word, has, seen_asked};
+
 use crate::meant::command_of;
 use fx_words::Parts;
 
@@ -22,18 +26,13 @@ pub struct Task<'t, 'a> {
 }
 
 impl<'t, 'a> Task<'t, 'a> {
-    /// The run of these parts.
-    pub fn of(parts: &'t Parts<'a>, command: Option<&'static str>) -> Task<'t, 'a> {
-        Task { parts, command }
-    }
-
     /// Whether this is the command.
-    pub fn is(&self, name: &str) -> bool {
+    pub(crate) fn is(&self, name: &str) -> bool {
         self.command == Some(name)
     }
 
     /// The list of characters among the words.
-    pub fn list(&self) -> Option<&'a str> {
+    pub(crate) fn list(&self) -> Option<&'a str> {
         let mut is_next = false;
         // `is_next` tells whether the word before this one is the option; none before has its value.
         'words: for word in self.parts.words.iter() {
@@ -50,28 +49,38 @@ impl<'t, 'a> Task<'t, 'a> {
 }
 
 /// What the words of a command line ask for, the program's name first.
-pub fn asked_by<'a>(words: &[&'a str], is_terminal: bool) -> Asked<'a> {
-    let Some(first) = words.get(1) else {
-        return if is_terminal {
-            Asked::Help(None)
-        } else {
-            Asked::Run
-        };
-    };
-    match *first {
-        "--version" | "-V" => Asked::Version,
-        "--help" | "-h" | "help" => Asked::Help(words.get(2).copied()),
-        word if command_of(word).is_some() && asks_help(words.get(2..).unwrap_or(&[])) =>
-            Asked::Help(Some(word)),
+pub(crate) fn asked_by<'a>(words: &[&'a str], is_terminal: bool) -> Asked<'a>
+    ensures { seen_asked result ≡ asked_by (texts words.now) is_terminal }
+{
+    match words {
+        [_, word, rest @ ..] => asked_by_word(word, rest),
+        _ if is_terminal => Asked::Help(None),
         _ => Asked::Run,
     }
 }
 
-/// Whether some word asks for help.
-fn asks_help(words: &[&str]) -> bool {
-    // No word so far does.
-    'words: for word in words {
-        if *word == "-h" || *word == "--help" {
+/// What a first word asks for that these follow.
+fn asked_by_word<'a>(word: &'a str, rest: &[&'a str]) -> Asked<'a>
+    ensures { seen_asked result ≡ asked_by_word word.entry.now (texts rest.now) }
+{
+    if word == "--version" || word == "-V" {
+        Asked::Version
+    } else if word == "--help" || word == "-h" || word == "help" {
+        Asked::Help(rest.first().copied())
+    } else if command_of(word).is_some() && (has(rest, "-h") || has(rest, "--help")) {
+        Asked::Help(Some(word))
+    } else {
+        Asked::Run
+    }
+}
+
+/// Whether a word is among words.
+fn has(words: &[&str], word: &str) -> bool
+    ensures { result ≡ has (texts words.now) word.now }
+{
+    // The word is among those that are left if it is among all.
+    'words: for each in words {
+        if *each == word {
             return true;
         }
     }

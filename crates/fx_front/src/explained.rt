@@ -5,7 +5,7 @@ ghost use Rattle.fx_front.specs.Says.{Says};
 
 use crate::asked::Task;
 use crate::facts::{Counts, Facts, Refused};
-use crate::kinds::kind_of;
+use crate::kinds::{KINDS, kind_of};
 use crate::lines::{leave, tell};
 use crate::meant::{is_among, meant_by, place_of};
 use crate::program::Program;
@@ -166,7 +166,7 @@ fn of_refusal<G: Program>(
 ) -> Result<Text, AllocError> {
     let advice = refused.advice;
     match (refused.number, &program.facts().start) {
-        (10, Some(start)) => Text::one(alloc, kind_of(start).unwrap_or(advice)),
+        (10, Some(start)) => Text::one(alloc, kind_of(&KINDS, start).unwrap_or(advice)),
         (17..=23, _) if task.is("make") => Text::of(
             alloc,
             &[advice, "; --refused leave-out does so"],

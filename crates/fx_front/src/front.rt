@@ -1,4 +1,6 @@
 //! A run as a command line asks for it.
+ghost use Rattle.fx_fixed.specs.Changes.{change_of};
+ghost use Rattle.fx_front.specs.Says.{Says};
 
 use crate::asked::{Asked, Task, asked_by};
 use crate::explained::say_after;
@@ -9,8 +11,9 @@ use crate::meant::command_of;
 use crate::output::{NO_FOLDER, Outlet, Output, output_of};
 use crate::program::Program;
 use crate::run::{Ended, run_to_place};
-use fx_fixed::{FromReader, ToSink, put_all};
+use fx_fixed::{FromReader, Sink, ToSink, put_all};
 use fx_words::{listed, part, set_in, whole};
+use std::alloc::Global;
 use std::fs::File;
 use std::io::IsTerminal;
 use std::{fs, io};
@@ -48,11 +51,11 @@ fn say(rt: &HostRuntime, pieces: &[&str]) {
 }
 
 /// Says why there are no words, after the line of a wrong command line.
-pub fn say_not_text(rt: &HostRuntime) {
-    say(
-        rt,
-        &["an argument is not UTF-8 text: give a font of such a name by standard input"],
-    );
+pub fn say_not_text<E: Sink>(alloc: Global, err: &mut E)
+    ensures { Says (change_of E.held E.fault_count err.old err.new) }
+{
+    let what = "an argument is not UTF-8 text: give a font of such a name by standard input";
+    lines::say(alloc, err, &[what]);
 }
 
 /// Runs the program on the words.
@@ -63,7 +66,15 @@ fn run_words<G: Program>(rt: &HostRuntime, program: &mut G, words: &[&str]) -> i
         Some(command) => run_command(rt, program, words, command, is_explain),
         None => {
             let parts = whole(rt.alloc(), words)?;
-            run_whole(rt, program, &Task::of(&parts, None), is_explain)
+            run_whole(
+                rt,
+                program,
+                &Task {
+                    parts: &parts,
+                    command: None,
+                },
+                is_explain,
+            )
         }
     }
 }
@@ -104,7 +115,10 @@ fn run_texts<G: Program>(
     let (before, after) = words.split_at(words.len().min(count));
     let before = before.get(1..).unwrap_or(&[]);
     let parts = part(rt.alloc(), before, command == "make", list, after)?;
-    let task = Task::of(&parts, Some(command));
+    let task = Task {
+        parts: &parts,
+        command: Some(command),
+    };
     if is_explain {
         run_whole(rt, program, &task, true)
     } else {

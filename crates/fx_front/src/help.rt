@@ -34,7 +34,7 @@ terminal, X11, a console, a boot screen and a small display; REFUSALS.md says wh
 ";
 
 /// What `mkstrike help COMMAND` prints.
-pub fn help_of(command: &str) -> Option<&'static str> {
+pub(crate) fn help_of(command: &str) -> Option<&'static str> {
     match command {
         "make" => Some(MAKE),
         "show" => Some(SHOW),

@@ -1,8 +1,11 @@
 //! What kind of file it is, by its first bytes.
+ghost use Rattle.std.specs.Prelude.{◌≡◌};
+ghost use Rattle.fx_words.specs.Parts.{text_in};
+ghost use Rattle.fx_front.specs.inner.Kinds.{is_hexadecimal, kind_among, kind_of, looks_hexadecimal};
 
 /// The first bytes of files that are no TrueType font, and what to do with each. The first row that fits counts. docs/REFUSALS.md
 /// has the same rows.
-const KINDS: [(&[u8], &str); 17] = [
+pub(crate) const KINDS: [(&[u8], &str); 17] = [
     (
         b"OTTO",
         "the file looks like an OpenType font with CFF outlines, which is not read: give a TrueType font",
@@ -70,30 +73,51 @@ const KINDS: [(&[u8], &str); 17] = [
     ),
 ];
 
-/// What a file looks like that begins so and is no TrueType font, and what to do.
-pub fn kind_of(start: &[u8]) -> Option<&'static str> {
+/// What a file looks like that begins so and is no TrueType font, and what to do, by such a table.
+pub(crate) fn kind_of(rows: &[(&'static [u8], &'static str)], start: &[u8]) -> Option<&'static str>
+    ensures { text_in result ≡ kind_of rows.now start.now }
+{
     if start.is_empty() {
         return Some("the file is empty: give a TrueType font");
     }
-    // No row so far fits.
-    'kinds: for (first, text) in KINDS.iter().copied() {
-        if start.starts_with(first) {
-            return Some(text);
+    match kind_among(rows, start) {
+        Some(text) => Some(text),
+        None if looks_hexadecimal(start) => {
+            Some("the file may be hexadecimal text: then add --hex")
         }
+        None => None,
     }
-    if looks_hexadecimal(start) {
-        return Some("the file may be hexadecimal text: then add --hex");
+}
+
+/// What is said in the first row whose bytes a file begins with.
+fn kind_among(rows: &[(&'static [u8], &'static str)], start: &[u8]) -> Option<&'static str>
+    ensures { text_in result ≡ kind_among rows.now start.now }
+{
+    // The first row that fits among those that are left is that among all.
+    'rows: for row in rows {
+        if start.starts_with(row.0) {
+            return Some(row.1);
+        }
     }
     None
 }
 
 /// Whether the first bytes are hexadecimal digits and blanks.
-fn looks_hexadecimal(start: &[u8]) -> bool {
-    // The bytes so far are.
+fn looks_hexadecimal(start: &[u8]) -> bool
+    ensures { result ≡ looks_hexadecimal start.now }
+{
+    // All are if those that are left are.
     'bytes: for byte in start {
-        if !byte.is_ascii_hexdigit() && !matches!(*byte, b' ' | b'\r' | b'\n') {
+        if !is_hexadecimal(*byte) {
             return false;
         }
     }
     true
+}
+
+/// Whether a byte is a hexadecimal digit or a blank.
+fn is_hexadecimal(byte: u8) -> bool
+    ensures { result ≡ is_hexadecimal byte }
+{
+    byte.is_ascii_hexdigit() || byte == b' ' || byte == b'\r' || byte == b'\n'
 }

@@ -36,7 +36,7 @@ impl<'p, P: Place> Late<'p, P> {
     }
 
     /// Whether a strike was written that has no pixel: then its box is empty.
-    pub fn is_blank(&self) -> bool {
+    pub(crate) fn is_blank(&self) -> bool {
         match str::from_utf8(self.start.get(..self.filled).unwrap_or(&[])) {
             Ok(text) => {
                 text.starts_with("STARTFONT") && text.contains("\nFONTBOUNDINGBOX 0 0 0 0\n")

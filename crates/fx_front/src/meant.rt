@@ -1,4 +1,8 @@
 //! Which word may be meant by one that is unknown, and what there is in its place.
+ghost use Rattle.std.specs.Prelude.{◌≡◌, map, option_map};
+ghost use Rattle.fx_words.specs.Parts.{text_in};
+ghost use Rattle.fx_front.specs.inner.Asked.{command_of, name_among};
+
 use crate::text::Text;
 use std::alloc::{AllocError, Global};
 use strsim::levenshtein;
@@ -78,23 +82,28 @@ const PLACES: [(&str, &str); 8] = [
 const STRIKE: &str =
     "the command strike of the package python3-mkstrike makes formats, cells, several sizes and texts: 'strike --help'";
 
-/// The first row of a table whose words have this one.
-fn row_of(
-    table: &[(&'static str, &'static str)],
-    word: &str,
-) -> Option<(&'static str, &'static str)> {
-    // No row so far has it.
-    'rows: for (words, value) in table.iter().copied() {
-        if is_among(word, words) {
-            return Some((words, value));
+/// The first row with a name, of a table of commands and options.
+fn row_of(rows: &[(&'static str, &'static str)], name: &str) -> Option<(&'static str, &'static str)>
+    ensures { option_map (λ row. row.0.now) result ≡ name_among (map (λ row. row.0.now) rows.now) name.now }
+{
+    // The first row with the name among those that are left is that among all.
+    'rows: for row in rows {
+        if row.0 == name {
+            return Some(*row);
         }
     }
     None
 }
 
 /// The command that takes a font, of its name.
-pub fn command_of(word: &str) -> Option<&'static str> {
-    Some(row_of(&OPTIONS, word)?.0)
+#[tactic(auto, unfolding(crate::specs::inner::Asked::command_of, crate::specs::inner::Asked::commands))]
+pub(crate) fn command_of(word: &str) -> Option<&'static str>
+    ensures { text_in result ≡ command_of word.now }
+{
+    match row_of(&OPTIONS, word) {
+        Some((command, _)) => Some(command),
+        None => None,
+    }
 }
 
 /// The options of a command; the commands if it is none.
@@ -106,13 +115,19 @@ fn options_of(command: &str) -> &'static str {
 }
 
 /// What there is in place of an option that others have.
-pub fn place_of(option: &str) -> Option<&'static str> {
-    Some(row_of(&PLACES, option)?.1)
+pub(crate) fn place_of(option: &str) -> Option<&'static str> {
+    // The option is in no row so far.
+    'rows: for (options, place) in PLACES.iter().copied() {
+        if is_among(option, options) {
+            return Some(place);
+        }
+    }
+    None
 }
 
 /// Which option of a command may be meant by a word, or which command if none is given, each in quotation marks. It is found by a
 /// usual word for it, or by the fewest letters that differ, and then there may be two. Nothing if none may be.
-pub fn meant_by(alloc: Global, word: &str, command: &str) -> Result<Text, AllocError> {
+pub(crate) fn meant_by(alloc: Global, word: &str, command: &str) -> Result<Text, AllocError> {
     let words = options_of(command);
     // The word is in no row so far that has one of the words.
     'rows: for (usual, meant) in USUAL.iter().copied() {
@@ -146,7 +161,7 @@ fn nearest(alloc: Global, word: &str, words: &str) -> Result<Text, AllocError> {
 }
 
 /// Whether a word is among others, which spaces part.
-pub fn is_among(word: &str, words: &str) -> bool {
+pub(crate) fn is_among(word: &str, words: &str) -> bool {
     // No word so far is.
     'words: for each in words.split(' ') {
         if each == word {

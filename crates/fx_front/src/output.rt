@@ -43,7 +43,7 @@ pub enum Opened {
 }
 
 /// Where the output of this name goes, or why it is not written. It is not written over the font.
-pub fn output_of(
+pub(crate) fn output_of(
     rt: &HostRuntime,
     name: Option<&str>,
     font: &str,

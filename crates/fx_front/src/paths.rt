@@ -8,7 +8,7 @@ use std::{fs, io};
 const LINKS: u32 = 40;
 
 /// The name of the folder of a file, with its slash; empty for the current one.
-pub fn folder_of(path: &str) -> &str {
+pub(crate) fn folder_of(path: &str) -> &str {
     match path.rfind('/') {
         Some(at) => path.get(..at + 1).unwrap_or(""),
         None => "",
@@ -16,7 +16,7 @@ pub fn folder_of(path: &str) -> &str {
 }
 
 /// The name that a chain of links at the end of a path leads to. None if one can't be followed. An error is that memory ran out.
-pub fn followed(rt: &HostRuntime, path: &str) -> io::Result<Option<String>> {
+pub(crate) fn followed(rt: &HostRuntime, path: &str) -> io::Result<Option<String>> {
     let mut name = String::from_str(rt.alloc(), path)?;
     // `name` is reached from the path by the links so far.
     'links: for _ in 0..LINKS {
@@ -38,7 +38,7 @@ pub fn followed(rt: &HostRuntime, path: &str) -> io::Result<Option<String>> {
 }
 
 /// Whether this is the file that a path leads to.
-pub fn is_same(rt: &HostRuntime, file: &Metadata, path: &str) -> bool {
+pub(crate) fn is_same(rt: &HostRuntime, file: &Metadata, path: &str) -> bool {
     match fs::metadata(rt, path) {
         Ok(other) => file.dev() == other.dev() && file.ino() == other.ino(),
         Err(_) => false,
@@ -47,7 +47,7 @@ pub fn is_same(rt: &HostRuntime, file: &Metadata, path: &str) -> bool {
 
 /// The same open file under a number above those of the standard streams. A file that is opened while one of these is closed gets
 /// its number, and what is written to the stream would go to the file.
-pub fn beside_streams(file: File) -> Option<File> {
+pub(crate) fn beside_streams(file: File) -> Option<File> {
     if file.as_raw_fd() > 2 {
         return Some(file);
     }

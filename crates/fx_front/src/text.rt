@@ -1,6 +1,9 @@
 //! Texts of one line.
-ghost use Rattle.std.specs.Prelude.{◌≡◌, ◌<◌};
-ghost use Rattle.fx_front.specs.Says.{IsLine};
+ghost use Rattle.std.specs.Prelude.{◌≡◌, ◌==◌, ◌<◌, ◌∷◌, ◌++◌, [], length, map, IfOk, OnOk};
+ghost use Rattle.std.specs.Char.{to_ascii_lowercase};
+ghost use Rattle.std.specs.Fmt.{decimal};
+ghost use Rattle.fx_fixed.specs.Lines.{hexadecimal};
+ghost use Rattle.fx_front.specs.Says.{IsLine, shown, shown_pieces, shown_text};
 
 use fx_fixed::Digits;
 use std::alloc::{AllocError, Global};
@@ -25,26 +28,36 @@ impl Model for Text {
 
 impl Text {
     /// A text without bytes.
-    pub fn new(alloc: Global) -> Text {
+    pub fn new(alloc: Global) -> Text
+        ensures { result ≡ [] }
+    {
         Text {
             bytes: Vec::new(alloc),
         }
     }
 
     /// A text of one piece.
-    pub fn one(alloc: Global, piece: &str) -> Result<Text, AllocError> {
-        Text::of(alloc, &[piece])
+    pub fn one(alloc: Global, piece: &str) -> Result<Text, AllocError>
+        ensures { IfOk result (λ text. text ≡ shown_text piece.now) }
+    {
+        let mut text = Text::new(alloc);
+        text.add(piece.as_bytes())?;
+        Ok(text)
     }
 
     /// The text of pieces.
-    pub fn of(alloc: Global, pieces: &[&str]) -> Result<Text, AllocError> {
+    pub fn of(alloc: Global, pieces: &[&str]) -> Result<Text, AllocError>
+        ensures { IfOk result (λ text. text ≡ shown_pieces pieces.now) }
+    {
         let mut text = Text::new(alloc);
         text.add_all(pieces)?;
         Ok(text)
     }
 
     /// Adds pieces.
-    pub fn add_all(&mut self, pieces: &[&str]) -> Result<(), AllocError> {
+    pub fn add_all(&mut self, pieces: &[&str]) -> Result<(), AllocError>
+        ensures { OnOk result (self.new ≡ self.old ++ shown_pieces pieces.now) }
+    {
         // The pieces so far were added.
         'pieces: for piece in pieces {
             self.add(piece.as_bytes())?;
@@ -53,30 +66,46 @@ impl Text {
     }
 
     /// Adds bytes.
-    pub fn add(&mut self, bytes: &[u8]) -> Result<(), AllocError> {
+    pub fn add(&mut self, bytes: &[u8]) -> Result<(), AllocError>
+        ensures { OnOk result (self.new ≡ self.old ++ shown_text bytes.now) }
+    {
         // The bytes so far were added.
         'bytes: for byte in bytes {
-            self.bytes.push(shown(*byte))?;
+            self.put(*byte)?;
         }
         Ok(())
     }
 
+    /// Adds a byte.
+    fn put(&mut self, byte: u8) -> Result<(), AllocError>
+        ensures { OnOk result (self.new ≡ self.old ++ shown byte ∷ []) }
+    {
+        self.bytes.push(shown(byte))?;
+        Ok(())
+    }
+
     /// Adds a number in decimal.
-    pub fn add_number(&mut self, number: u64) -> Result<(), AllocError> {
+    pub fn add_number(&mut self, number: u64) -> Result<(), AllocError>
+        ensures { OnOk result (self.new ≡ self.old ++ shown_text (decimal number)) }
+    {
         self.add(Digits::unsigned(number).text())
     }
 
     /// Adds a number in hexadecimal digits of lower case.
-    pub fn add_code(&mut self, code: u32) -> Result<(), AllocError> {
+    pub fn add_code(&mut self, code: u32) -> Result<(), AllocError>
+        ensures { OnOk result (self.new ≡ self.old ++ shown_text (map to_ascii_lowercase (hexadecimal 1 code))) }
+    {
         // The digits so far were added.
         'digits: for digit in Digits::hexadecimal(u64::from(code), 1).text() {
-            self.bytes.push(shown(digit.to_ascii_lowercase()))?;
+            self.put(digit.to_ascii_lowercase())?;
         }
         Ok(())
     }
 
     /// Whether there is nothing in it.
-    pub fn is_empty(&self) -> bool {
+    pub fn is_empty(&self) -> bool
+        ensures { result ≡ (length self.now == 0) }
+    {
         self.bytes.is_empty()
     }
 
@@ -91,7 +120,8 @@ impl Text {
 
 /// How a byte is shown.
 fn shown(byte: u8) -> u8
-    ensures { 31 < result }
+    ensures value { result ≡ shown byte }
+    ensures above { 31 < result }
 {
     if byte < 32 || byte == 127 { b'?' } else { byte }
 }

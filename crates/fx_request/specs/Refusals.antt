@@ -68,16 +68,21 @@ each_cause =
     cause.StackUnder ∷ cause.StackOver ∷ cause.BadOpcode ∷ cause.CodeEnd ∷ cause.BadJump ∷ cause.NoFunction ∷
     cause.CallDepth ∷ cause.StepLimit ∷ cause.DivideByZero ∷ cause.BadArgument ∷ cause.NestedDefinition ∷ cause.StrayEnd ∷ []
 
--- the name of the first of refusals that has a number
-abbrev pub name_among : List Refusal → ℕ → Option (List ℕ)
-name_among refusals number = option_map name_of (find (λ r. number_of r == number) refusals)
+-- the first of refusals, and the first of causes, that has a number
+abbrev pub refusal_among : List Refusal → ℕ → Option Refusal
+refusal_among refusals number = find (λ r. number_of r == number) refusals
 
-abbrev pub cause_name_among : List Cause → ℕ → Option (List ℕ)
-cause_name_among all number = option_map causes.name_of (find (λ c. causes.number_of c == number) all)
+abbrev pub cause_among : List Cause → ℕ → Option Cause
+cause_among all number = find (λ c. causes.number_of c == number) all
 
--- the name of the refusals that have a number, if there are any
+-- of the refusals that have a number, those of halts too, what is said of each, if there are any
+abbrev pub said_of : {X : Type 0} → (Refusal → X) → (Cause → X) → ℕ → Option X
+said_of of_refusal of_cause number = option_or (option_map of_refusal (refusal_among each_refusal number))
+    (option_map of_cause (cause_among each_cause number))
+
+-- their name
 unfoldable pub named : ℕ → Option (List ℕ)
-named number = option_or (name_among each_refusal number) (cause_name_among each_cause number)
+named number = said_of name_of causes.name_of number
 
 -- the law: it is the name of each refusal that has the number
 abbrev pub NumbersHaveNames : Type 0

@@ -1,11 +1,15 @@
 //! What to do after a refusal.
+ghost use Rattle.std.specs.Prelude.{◌≡◌};
+ghost use Rattle.fx_request.specs.Advice.{advice_of, after_halt};
 
 use crate::refusal::Refusal;
 use fx_machine::Cause;
 
 impl Refusal {
     /// What to do after this refusal.
-    pub fn advice(self) -> &'static str {
+    pub fn advice(self) -> &'static str
+        ensures { result.now ≡ advice_of self }
+    {
         match self {
             Refusal::NotTrueType =>
                 "give a TrueType font: OTTO (CFF) and an empty input are not read",
@@ -44,7 +48,9 @@ impl Refusal {
 }
 
 /// What to do about a program that halted for this cause.
-pub fn after_halt(cause: Cause) -> &'static str {
+pub(crate) fn after_halt(cause: Cause) -> &'static str
+    ensures { result.now ≡ after_halt cause }
+{
     match cause {
         Cause::StackUnder => {
             "push what the instruction needs first: the stack is empty when a program begins"

@@ -1,4 +1,5 @@
 //! What the definitions imply.
+ghost use Rattle.fx_request.specs.Advice.{AdvisedAreNamed, NumbersHaveAdvice};
 ghost use Rattle.fx_request.specs.Characters.{RisingAreRisen, RisenIsOne};
 ghost use Rattle.fx_request.specs.Refusals.{NumbersHaveNames};
 
@@ -11,4 +12,10 @@ pub fn rising()
 /// The name of a refusal's number is the refusal's name.
 pub fn names()
     ensures { NumbersHaveNames }
+{}
+
+/// What to do after a refusal's number is what to do after the refusal; and a number has advice exactly if it has a name.
+pub fn advice()
+    ensures numbers { NumbersHaveAdvice }
+    ensures named { AdvisedAreNamed }
 {}

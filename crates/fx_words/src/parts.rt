@@ -1,5 +1,5 @@
 //! The words of a command line, parted: the font, the output, and the words for the program.
-ghost use Rattle.std.specs.Prelude.{◌≡◌, false, true, IfOk, OnOk};
+ghost use Rattle.std.specs.Prelude.{◌≡◌, false, true, [], IfOk, OnOk};
 ghost use Rattle.fx_words.specs.Parts.{end, first, first_by, has_hyphen, has_joined_output, is_joined_set, is_option, is_path, joined_output};
 ghost use Rattle.fx_words.specs.Parts.{kept, kind_of, named_by, other_kind, parts_of, put_by, seen, step, step_by, takes_value, texts, without_equals};
 
@@ -95,7 +95,9 @@ pub fn part<'a>(
 }
 
 /// Words for the program alone.
-pub fn whole<'a>(alloc: Global, words: &[&'a str]) -> Result<Parts<'a>, AllocError> {
+pub fn whole<'a>(alloc: Global, words: &[&'a str]) -> Result<Parts<'a>, AllocError>
+    ensures { IfOk result (λ parts. seen parts ≡ parts_of (texts words.now) false [] []) }
+{
     part(alloc, words, false, "", &[])
 }
 
@@ -338,7 +340,7 @@ fn without_equals<'a>(name: &'a str) -> &'a str
 }
 
 /// Whether a word is `--set=NAMES`.
-fn is_joined_set(word: &str) -> bool
+pub(crate) fn is_joined_set(word: &str) -> bool
     ensures { result ≡ is_joined_set word.now }
 {
     match word.split_once('=') {

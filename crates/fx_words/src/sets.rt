@@ -1,4 +1,10 @@
 //! Sets of characters by name.
+ghost use Rattle.std.specs.Prelude.{◌≡◌, ◌==◌, IfOk};
+ghost use Rattle.std.specs.List.{after_first};
+ghost use Rattle.fx_words.specs.Parts.{text_in, texts};
+ghost use Rattle.fx_words.specs.Sets.{first_name, list_of, rows_of, set_in, sets, value_of};
+
+use crate::parts::is_joined_set;
 use std::alloc::{AllocError, Global};
 
 /// Each set: its name, and its characters as a list of hexadecimal numbers and ranges, without control characters.
@@ -56,19 +62,41 @@ const OTHERS: [(&str, &str); 8] = [
 ];
 
 /// The list of a set of this name, in letters of either case.
-pub fn list_of(alloc: Global, name: &str) -> Result<Option<&'static str>, AllocError> {
-    let mut lower = String::from_str(alloc, name)?;
-    lower.make_ascii_lowercase();
-    let found = value_of(&OTHERS, lower.as_str()).unwrap_or(lower.as_str());
-    Ok(value_of(&SETS, found))
+#[tactic(auto, unfolding(crate::specs::Sets::list_of))]
+pub fn list_of(alloc: Global, name: &str) -> Result<Option<&'static str>, AllocError>
+    ensures { IfOk result (λ list. text_in list ≡ list_of name.now) }
+{
+    let lower = name.to_ascii_lowercase(alloc)?;
+    Ok(named(first_name(lower.as_str())))
+}
+
+/// The list of the set of this name.
+#[tactic(auto, unfolding(crate::specs::Sets::sets))]
+fn named(name: &str) -> Option<&'static str>
+    ensures { text_in result ≡ value_of sets name.now }
+{
+    value_of(&SETS, name)
+}
+
+/// The name in the table of sets for another name; any other as it is.
+#[tactic(auto, unfolding(crate::specs::Sets::other_names))]
+fn first_name<'a>(name: &'a str) -> &'a str
+    ensures { result.now ≡ first_name name.entry.now }
+{
+    match value_of(&OTHERS, name) {
+        Some(first) => first,
+        None => name,
+    }
 }
 
 /// The value of a key in a table.
-fn value_of(table: &[(&'static str, &'static str)], key: &str) -> Option<&'static str> {
-    // The key is none of those so far.
-    'rows: for (each, value) in table.iter().copied() {
-        if each == key {
-            return Some(value);
+fn value_of(table: &[(&'static str, &'static str)], key: &str) -> Option<&'static str>
+    ensures { text_in result ≡ value_of (rows_of table.now) key.now }
+{
+    // The value in the rows that are left is that in all.
+    'rows: for row in table {
+        if row.0 == key {
+            return Some(row.1);
         }
     }
     None
@@ -90,17 +118,29 @@ pub fn listed(alloc: Global, names: &str) -> Result<String, AllocError> {
 }
 
 /// The value of `--set` among the words of a command line, empty if there is none.
-pub fn set_in<'a>(words: &[&'a str]) -> &'a str {
+pub fn set_in<'a>(words: &[&'a str]) -> &'a str
+    ensures { result.now ≡ set_in (texts words.now) }
+{
     let mut is_next = false;
     // `is_next` tells whether the word before this one is `--set`; none before has its value.
     'words: for word in words {
         if is_next {
             return word;
         }
-        if let Some(("--set", names)) = word.split_once('=') {
-            return names;
+        if is_joined_set(word) {
+            return after_equals(word);
         }
         is_next = *word == "--set";
     }
     ""
+}
+
+/// What follows the first `=` of a word.
+fn after_equals<'a>(word: &'a str) -> &'a str
+    ensures { result.now ≡ after_first (λ b. b == 61) word.entry.now }
+{
+    match word.split_once('=') {
+        Some((_, rest)) => rest,
+        None => "",
+    }
 }

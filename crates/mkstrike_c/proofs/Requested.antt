@@ -98,7 +98,8 @@ same_plan file ppem a b chars mode (inr none) =
 
 -- a font with a strike was opened
 pub opened_if_made : (file : FontFileView) (ppem : ℕ) (title : Title) (chars : List ℕ) (mode : Mode)
-    (refused : OnRefused) (plan : Plan) → plan_of file ppem title chars mode refused ≡ Ok plan → IsOk (opened_of file ppem title chars)
+    (refused : OnRefused) (plan : Plan) → plan_of file ppem title chars mode refused ≡ Ok plan
+    → IsOk (opened_of file ppem title chars)
 unfolding plan_of
 opened_if_made file ppem title chars mode refused plan made = by_opening (opened_of file ppem title chars) made
   where

@@ -9,6 +9,7 @@ pub mod Fonts
 pub mod Outlines
 pub mod Prepared
 pub mod inner
+pub use Rattle.fx_request.specs.Advice
 pub use Rattle.fx_request.specs.Refusals
 pub use Rattle.fx_strike.specs.Strike
 pub use Rattle.fx_strike.specs.Numbers

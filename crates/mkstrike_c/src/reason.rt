@@ -1,6 +1,6 @@
 //! The texts of a number, for C: its name, and what to do.
 ghost use Rattle.std.specs.Prelude.{◌≡◌, length};
-ghost use Rattle.mkstrike_c.specs.Reasons.{IsPut, IsSomeText, reason_of};
+ghost use Rattle.mkstrike_c.specs.Reasons.{IsPut, advice_of, reason_of};
 
 use crate::names::{advice, reason};
 
@@ -31,7 +31,8 @@ pub extern "C" fn mkstrike_reason(number: u32, text: &mut [u8]) -> usize
 /// it.
 #[unsafe(no_mangle)]
 pub extern "C" fn mkstrike_advice(number: u32, text: &mut [u8]) -> usize
-    ensures { IsSomeText result text.old text.new }
+    ensures text { IsPut (advice_of number) text.old text.new }
+    ensures size { result ≡ length (advice_of number) }
 {
     let to_do = advice(number).as_bytes();
     put_text(text, to_do);

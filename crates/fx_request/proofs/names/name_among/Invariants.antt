@@ -1,7 +1,0 @@
-use Rattle.std.proofs.Common.{◌≡◌, drop}
-use Rattle.fx_request.specs.Refusals.{name_among}
-use Rattle.fx_request.proofs.names.name_among.Given as goal
-
--- the first refusal with the number among those that are left is that among all
-abbrev pub invariant-refusals : goal.invariant-refusals
-invariant-refusals l = name_among (drop l.refusal-index l.refusals) l.fn.number ≡ name_among l.refusals l.fn.number
