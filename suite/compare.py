@@ -1,4 +1,5 @@
 """Compares a tool's answer with what a case expects."""
+import paths
 
 PARTS = ("advance", "outline", "bits")
 
@@ -15,6 +16,8 @@ def not_of_the_protocol(name, answer):
     contours = answer.get("outline", [])
     if not isinstance(contours, list) or not all(isinstance(c, list) and all(are_numbers(p, 3) for p in c) for c in contours):
         return "an outline that is not of the protocol"
+    if not paths.is_path(answer.get("path", [])):
+        return "a path that is not of the protocol"
     return None if isinstance(answer.get("advance", 0), int) else "an advance that is no whole number"
 
 
@@ -32,6 +35,9 @@ def are_rows(rows, box):
 
 def is_close(expected, answer, most):
     """Whether an answer's points and advance differ by at most so many 1/64 pixels. Bits are not looked at then."""
+    if "path" in answer and "outline" not in answer:
+        near = abs(answer.get("advance", expected["advance"]) - expected["advance"]) <= most
+        return near and paths.wrong(expected["outline"], answer["path"], most) is None
     if "outline" not in expected or "outline" not in answer:
         return False
     pairs = list(zip(flat(expected), flat(answer)))
@@ -57,10 +63,12 @@ def wrong(expected, answer, every=False):
     given = [part for part in PARTS if part in expected and part in answer]
     if every and len(given) < len([part for part in PARTS if part in expected]):
         return "a part of the answer is missing"
-    if not given:
+    has_path = "path" in answer and "outline" in expected
+    if not given and not has_path:
         return "no answer"
-    differing = [part for part in given if answer[part] != expected[part]]
-    return ", ".join(different(part, expected[part], answer[part]) for part in differing) or None
+    found = [different(part, expected[part], answer[part]) for part in given if answer[part] != expected[part]]
+    found += [paths.wrong(expected["outline"], answer["path"]) or ""] if has_path else []
+    return ", ".join(filter(None, found)) or None
 
 
 def wrong_refusal(expected, answer, every):

@@ -1,9 +1,14 @@
-"""Writes a page of the differences: pictures of expected and given pixels and points side by side."""
+"""Writes a folder of pages: an index, and a page for each group with its differences: expected, given, and where they differ."""
 import collections
 import html
+import json
+import os
 import re
 
-MOST = 400  # differences that are drawn
+import listing
+import paths
+
+MOST = 400  # differences that are drawn of a group
 SIDE = 260  # of a picture, in pixels of the screen
 STYLE = """
 body { font: 15px/1.45 system-ui, sans-serif; margin: 2rem auto; max-width: 62rem; padding: 0 1rem; color: #1c1c1c }
@@ -13,47 +18,104 @@ th:first-child, td:first-child { text-align: left }
 h2 { font-size: 1.05rem; margin: 2rem 0 .2rem } p { margin: .2rem 0 } .own { color: #6b4e00 } .wrong { color: #a01010 }
 .pair { display: flex; gap: 1.5rem; flex-wrap: wrap } figure { margin: .4rem 0 } figcaption { color: #555; font-size: .85rem }
 svg { background: #fafafa; border: 1px solid #ccc }
-pre { font-size: .8rem; overflow-x: auto; background: #f4f4f4; padding: .5rem }
+pre { font-size: .8rem; overflow-x: auto; background: #f4f4f4; padding: .5rem } ul.all { columns: 3; padding-left: 1rem }
 """
+HEAD = "<!doctype html><html lang=en><meta charset=utf-8><title>%s</title><style>%s</style>"
 
 
-def write(path, command, results):
-    """Writes the page."""
-    rows = collections.OrderedDict()
+def write(folder, command, results):
+    """Writes the pages."""
+    os.makedirs(folder, exist_ok=True)
+    groups = collections.OrderedDict()
     for result in results:
-        rows.setdefault(result.case["group"], collections.Counter())[result.kind] += 1
-    different = [result for result in results if result.fault]
-    different.sort(key=lambda result: result.kind != "wrong")
-    parts = ["<!doctype html><html lang=en><meta charset=utf-8><title>TrueType suite: %s</title><style>%s</style>"
-             % (html.escape(command), STYLE),
-             "<h1>TrueType suite</h1><p>Tool: <code>%s</code></p>" % html.escape(command), table(rows)]
-    if len(different) > MOST:
-        parts.append("<p>The first %d of %d differences:</p>" % (MOST, len(different)))
-    parts += [section(result) for result in different[:MOST]]
-    with open(path, "w", encoding="utf-8") as out:
+        groups.setdefault(result.case["group"], []).append(result)
+    put(folder, "index", [HEAD % ("TrueType suite: " + html.escape(command), STYLE),
+                          "<h1>TrueType suite</h1><p>Tool: <code>%s</code></p>" % html.escape(command), table(groups)])
+    for name, of in groups.items():
+        put(folder, name, page(name, of))
+
+
+def put(folder, name, parts):
+    """Writes one page."""
+    with open(os.path.join(folder, name + ".html"), "w", encoding="utf-8") as out:
         out.write("\n".join(parts))
 
 
-def table(rows):
-    """The summary by group."""
+def table(groups):
+    """The summary by group; the names are links."""
     lines = ["<table><tr><th>group<th>cases<th>passed<th>wrong<th>own choice<th>unsupported"]
-    for name, counts in rows.items():
-        cells = [sum(counts.values()), counts["passed"], counts["wrong"], counts["own"], counts["skipped"]]
-        lines.append("<tr><td>%s%s" % (html.escape(name), "".join("<td>%d" % cell for cell in cells)))
-    return "\n".join(lines) + "</table>"
+    total = collections.Counter()
+    for name, results in groups.items():
+        counts = collections.Counter(result.kind for result in results)
+        total += counts
+        lines.append("<tr><td><a href='%s.html'>%s</a>%s" % (name, html.escape(name), cells(counts)))
+    return "\n".join(lines) + "<tr><th>all%s</table>" % cells(total)
+
+
+def cells(counts):
+    """The cells of a row."""
+    return "".join("<td>%d" % count for count in (sum(counts.values()), counts["passed"], counts["wrong"], counts["own"], counts["skipped"]))
+
+
+def page(name, results):
+    """The page of a group: a list of the differences, and each of them."""
+    different = sorted((result for result in results if result.fault), key=lambda result: result.kind != "wrong")
+    parts = [HEAD % (html.escape(name), STYLE), "<h1>%s</h1><p><a href='index.html'>all groups</a></p>" % html.escape(name)]
+    parts.append("<p>%d cases, %d with a difference%s.</p>" % (len(results), len(different), ", of which the first %d are drawn" % MOST
+                                                               if len(different) > MOST else ""))
+    names = [html.escape(result.case["id"]) for result in different[:MOST]]
+    parts.append("<ul class=all>%s</ul>" % "".join("<li><a href='#%s'>%s</a>" % (it, it.partition("/")[2]) for it in names))
+    reasons = collections.Counter(result.skipped for result in results if result.skipped)
+    parts += ["<p>Unsupported: %s (%d)</p>" % (html.escape(str(reason)), count) for reason, count in reasons.items()]
+    return parts + [section(result) for result in different[:MOST]]
 
 
 def section(result):
-    """One difference."""
+    """One difference: what was asked, what differs, three pictures, and the programs."""
     case = result.case
-    which = "glyph %s" % case["glyph"] if "glyph" in case else "U+%04X" % case["char"]
-    mode = ("hinted" if case["hinted"] else "unhinted") + (", with drop-out control" if case["dropout"] else "")
+    asked = {key: case[key] for key in ("font", "face", "glyph", "char", "ppem", "hinted", "dropout") if key in case}
     own = "<p class=own>Own choice: %s</p>" % html.escape(case["own"]) if "own" in case else ""
-    return "<h2 id='%s'>%s</h2><p>%s. %s of %s at %d, %s.</p><p class=wrong>%s</p>%s<div class=pair>%s%s</div>" % (
-        html.escape(case["id"]), html.escape(case["id"]), html.escape(case["about"]), which, html.escape(case["font"]),
-        case["ppem"], mode,
-        html.escape(result.fault), own, figure("expected", case["expect"], case["expect"], result.answer),
-        figure("given", result.answer, case["expect"], result.answer))
+    given = result.answer if "outline" in result.answer or "path" not in result.answer \
+        else {**result.answer, "outline": points_of(result.answer["path"])}
+    return "<h2 id='%s'>%s</h2><p>%s. <code>%s</code></p><p class=wrong>%s</p>%s<div class=pair>%s%s%s</div>%s" % (
+        html.escape(case["id"]), html.escape(case["id"]), html.escape(case["about"]), html.escape(json.dumps(asked)),
+        html.escape(result.fault), own, figure("expected", case["expect"], case["expect"], given),
+        figure("given", given, case["expect"], given), difference(case["expect"], given), programs(case))
+
+
+def points_of(path):
+    """A path as contours of points, to be drawn."""
+    return [[[*piece[2 * k:2 * k + 2], int(k == 0)] for piece in contour for k in range(len(piece) // 2 - 1)] for contour in paths.of_path(path)]
+
+
+def programs(case):
+    """The listings of the programs that a case runs; a halt that is expected is marked."""
+    halt, found = case["expect"].get("refusal", {}), []
+    for title, lines in listing.programs(case):
+        here = title == "glyph %s" % halt.get("program") or title == halt.get("program")
+        text = "\n".join("%5d  %s%s" % (at, line, "    <- halts: %s" % halt["name"] if here and at == halt.get("address") else "")
+                         for at, line in lines)
+        is_open = " open" if title.startswith("glyph") else ""
+        found.append("<details%s><summary>%s</summary><pre>%s</pre></details>" % (is_open, title, html.escape(text)))
+    return "".join(found)
+
+
+def difference(expected, given):
+    """A picture of the pixels of both: those of both grey, those that are missing blue, those that are too many red."""
+    if not has_pixels(expected) and not has_pixels(given) or "bits" not in given:
+        return ""
+    one, other = pixel_set(expected), pixel_set(given)
+    places = [place for answer in (expected, given) for place in extent({"bits": answer.get("bits")})]
+    left, right = min(x for x, _ in places) - 32, max(x for x, _ in places) + 32
+    low, high = min(y for _, y in places) - 32, max(y for _, y in places) + 32
+    size = max(right - left, high - low, 1)
+    kinds = ((one & other, "#c4c4c4"), (one - other, "#3b7dd8"), (other - one, "#d9534f"))
+    body = "".join("<rect x=%d y=%d width=60 height=60 fill='%s'/>" % (64 * i + 2, -64 * (j + 1) + 2, colour)
+                   for pixels_of, colour in kinds for i, j in sorted(pixels_of))
+    return ("<figure><svg width=%d height=%d viewBox='%d %d %d %d' role=img aria-label='difference'>%s</svg>"
+            "<figcaption>difference: %d missing (blue), %d too many (red)</figcaption></figure>"
+            % (SIDE * (right - left) / size + 2, SIDE * (high - low) / size + 2, left, -high, right - left, high - low, body,
+               len(one - other), len(other - one)))
 
 
 def figure(title, one, *both):

@@ -106,7 +106,7 @@ def breaks(*_):
 
 BROKEN = Reading("broken", "stack halts", "the reference breaks down", lambda changes: changes.everywhere("made", lambda right: breaks))
 CASES = cases_by_group()
-DRAWING = {"scan", "dropout"}  # the groups of readings that change pixels of the same outline
+DRAWING = {"scan", "dropout", "nearer", "asked"}  # the groups of readings that change pixels of the same outline
 
 
 def main():

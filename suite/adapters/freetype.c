@@ -2,7 +2,8 @@
  *
  * A glyph is loaded twice: with FT_LOAD_PEDANTIC, which tells the errors of programs, and without it, which draws the glyph all the same.
  * What FreeType calls a reference to a point or value that is not there is no refusal here: the outline is answered. All other errors are.
- * Rule 3 is FreeType's drop-out mode 0; without drop-out control it is FT_OUTLINE_IGNORE_DROPOUTS. */
+ * Drop-out control by left pixels is FreeType's drop-out mode 0, by nearer ones its mode 4, and as the font asks it is what FreeType makes of
+ * what the programs asked for; without drop-out control it is FT_OUTLINE_IGNORE_DROPOUTS. */
 #include "request.h"
 
 #include <ft2build.h>
@@ -16,12 +17,13 @@
 static FT_Library library;
 static FT_Face faces[2];
 static char opened[1024];
+static long opened_face;
 
 /* Opens the request's font, once to load with pedantic checks and once without. */
 static FT_Error open_font(const struct request *r) {
     FT_Error error = 0;
     int k;
-    if (strcmp(opened, r->font) == 0)
+    if (strcmp(opened, r->font) == 0 && opened_face == r->face)
         return 0;
     for (k = 0; k < 2; k++) {
         if (faces[k])
@@ -30,9 +32,9 @@ static FT_Error open_font(const struct request *r) {
     }
     opened[0] = 0;
     for (k = 0; k < 2 && !error; k++)
-        error = FT_New_Face(library, r->font, 0, &faces[k]);
+        error = FT_New_Face(library, r->font, r->face, &faces[k]);
     if (!error)
-        strcpy(opened, r->font);
+        strcpy(opened, r->font), opened_face = r->face;
     return error;
 }
 
@@ -52,15 +54,24 @@ static void write_outline(const FT_Outline *o) {
     printf("]");
 }
 
-static FT_Error write_rendered(FT_GlyphSlot slot, int dropout) {
+/* Sets the drop-out mode of an outline, unless the font decides. Programs leave a mode in the tags and the flags. */
+static void set_mode(FT_Outline *outline, enum dropout dropout) {
+    int k;
+    if (dropout == DROPOUT_FONT)
+        return;
+    for (k = 0; k < outline->n_points; k++)
+        outline->tags[k] &= 3;
+    outline->flags &= ~(FT_OUTLINE_IGNORE_DROPOUTS | FT_OUTLINE_SMART_DROPOUTS | FT_OUTLINE_INCLUDE_STUBS);
+    outline->flags |= dropout == DROPOUT_OFF ? FT_OUTLINE_IGNORE_DROPOUTS : FT_OUTLINE_INCLUDE_STUBS;
+    if (dropout == DROPOUT_NEAR)
+        outline->flags |= FT_OUTLINE_SMART_DROPOUTS;
+}
+
+static FT_Error write_rendered(FT_GlyphSlot slot, enum dropout dropout) {
     FT_Error error;
     unsigned char *pixels;
     unsigned x, y;
-    int k;
-    for (k = 0; k < slot->outline.n_points; k++)
-        slot->outline.tags[k] &= 3; /* programs leave a drop-out mode in the tags */
-    slot->outline.flags &= ~(FT_OUTLINE_IGNORE_DROPOUTS | FT_OUTLINE_SMART_DROPOUTS | FT_OUTLINE_INCLUDE_STUBS);
-    slot->outline.flags |= dropout ? FT_OUTLINE_INCLUDE_STUBS : FT_OUTLINE_IGNORE_DROPOUTS;
+    set_mode(&slot->outline, dropout);
     error = FT_Render_Glyph(slot, FT_RENDER_MODE_MONO);
     if (error)
         return error;
@@ -115,6 +126,7 @@ int main(void) {
     FT_Error error;
     if (FT_Init_FreeType(&library) || FT_Property_Set(library, "truetype", "interpreter-version", &version))
         return 1;
+    say_version();
     while (next_request(&r)) {
         printf("{\"id\": \"%s\", ", r.id);
         error = answer(&r);

@@ -5,11 +5,20 @@
 #include <stdlib.h>
 #include <string.h>
 
+enum dropout { DROPOUT_OFF, DROPOUT_LEFT, DROPOUT_NEAR, DROPOUT_FONT };
+
 struct request {
     char id[256], font[1024];
-    long ppem, glyph, code; /* glyph or code is -1 if the request does not have it */
-    int hinted, dropout, bits;
+    long ppem, face, glyph, code; /* glyph or code is -1 if the request does not have it */
+    int hinted, bits;
+    enum dropout dropout;
 };
+
+/* Says which version of the protocol the adapter speaks. Called once, before the first request. */
+static void say_version(void) {
+    printf("{\"protocol\": 2}\n");
+    fflush(stdout);
+}
 
 /* The text after a key, or NULL. */
 static const char *after_key(const char *line, const char *key) {
@@ -40,6 +49,14 @@ static int is_true(const char *line, const char *key) {
     return from && strncmp(from, "true", 4) == 0;
 }
 
+static enum dropout dropout_of(const char *line) {
+    char word[16];
+    text_of(line, "dropout", word, sizeof word);
+    if (strncmp(after_key(line, "dropout"), "\"", 1) != 0)
+        return DROPOUT_OFF;
+    return strcmp(word, "left") == 0 ? DROPOUT_LEFT : strcmp(word, "near") == 0 ? DROPOUT_NEAR : DROPOUT_FONT;
+}
+
 /* Reads the next request; 0 at the end. */
 static int next_request(struct request *r) {
     static char line[8192];
@@ -48,10 +65,13 @@ static int next_request(struct request *r) {
     text_of(line, "id", r->id, sizeof r->id);
     text_of(line, "font", r->font, sizeof r->font);
     r->ppem = number_of(line, "ppem");
+    r->face = number_of(line, "face");
+    if (r->face < 0)
+        r->face = 0;
     r->glyph = number_of(line, "glyph");
     r->code = number_of(line, "char");
     r->hinted = is_true(line, "hinted");
-    r->dropout = is_true(line, "dropout");
+    r->dropout = dropout_of(line);
     r->bits = strstr(line, "\"bits\"") != NULL;
     return 1;
 }

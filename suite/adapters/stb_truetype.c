@@ -2,8 +2,8 @@
  *
  * stb_truetype draws grey and runs no programs. So its bits are taken from a drawing in which a pixel is 1/64 of one: a pixel is set if one of
  * the four little ones around its centre is at least half covered. stb_truetype leaves it to its callers to move a glyph by its left side
- * bearing, which is done here. It has no outlines in 26.6, so none are answered. Drop-out control and
- * hinted requests are unsupported. */
+ * bearing, which is done here. Its outlines are segments in FUnits, which are scaled here and answered as a path. Drop-out control and hinted
+ * requests are unsupported. */
 #include "request.h"
 
 #include <math.h>
@@ -13,13 +13,15 @@
 
 static unsigned char *data;
 static char opened[1024];
+static long opened_face;
 static stbtt_fontinfo font;
 
 /* Reads a font's file, with room behind it, since stb_truetype does not look where a table ends. */
-static int open_font(const char *path) {
+static int open_font(const char *path, long face) {
     FILE *file;
     long size;
-    if (strcmp(opened, path) == 0)
+    int offset;
+    if (strcmp(opened, path) == 0 && opened_face == face)
         return 1;
     opened[0] = 0;
     file = fopen(path, "rb");
@@ -30,12 +32,11 @@ static int open_font(const char *path) {
     rewind(file);
     free(data);
     data = calloc((size_t)size + 65536, 1);
-    if (fread(data, 1, (size_t)size, file) != (size_t)size || !stbtt_InitFont(&font, data, 0)) {
-        fclose(file);
-        return 0;
-    }
+    offset = fread(data, 1, (size_t)size, file) == (size_t)size ? stbtt_GetFontOffsetForIndex(data, (int)face) : -1;
     fclose(file);
-    strcpy(opened, path);
+    if (offset < 0 || !stbtt_InitFont(&font, data, offset))
+        return 0;
+    strcpy(opened, path), opened_face = face;
     return 1;
 }
 
@@ -64,6 +65,22 @@ static void write_drawn(int glyph, float scale, int moved) {
     free(pixels);
 }
 
+/* The segments of a glyph in 1/64 pixel, moved along x. */
+static void write_path(int glyph, double scale, double moved) {
+    stbtt_vertex *steps;
+    int count = stbtt_GetGlyphShape(&font, glyph, &steps), k;
+    printf(", \"path\": [");
+    for (k = 0; k < count; k++) {
+        const char *word = steps[k].type == STBTT_vmove ? "move" : steps[k].type == STBTT_vline ? "line" : "quad";
+        printf("%s[\"%s\"", k ? ", " : "", word);
+        if (steps[k].type == STBTT_vcurve)
+            printf(", %.3f, %.3f", steps[k].cx * scale + moved, steps[k].cy * scale);
+        printf(", %.3f, %.3f]", steps[k].x * scale + moved, steps[k].y * scale);
+    }
+    printf("]");
+    stbtt_FreeShape(&font, steps);
+}
+
 static void answer(const struct request *r) {
     int glyph = (int)r->glyph, advance, bearing, x0 = 0, y0, x1, y1;
     float scale;
@@ -71,7 +88,7 @@ static void answer(const struct request *r) {
         printf("\"unsupported\": \"%s\"", r->hinted ? "hinting" : "drop-out control");
         return;
     }
-    if (!open_font(r->font)) {
+    if (!open_font(r->font, r->face)) {
         printf("\"refusal\": {\"text\": \"stbtt_InitFont failed\"}");
         return;
     }
@@ -86,6 +103,7 @@ static void answer(const struct request *r) {
     stbtt_GetGlyphHMetrics(&font, glyph, &advance, &bearing);
     stbtt_GetGlyphBox(&font, glyph, &x0, &y0, &x1, &y1);
     printf("\"advance\": %d", (int)(advance * scale * 64 + 0.5f));
+    write_path(glyph, scale * 64, (bearing - x0) * scale * 64);
     if (r->bits) {
         printf(", ");
         write_drawn(glyph, scale, (int)floor((bearing - x0) * scale * 64 + 0.5));
@@ -94,6 +112,7 @@ static void answer(const struct request *r) {
 
 int main(void) {
     struct request r;
+    say_version();
     while (next_request(&r)) {
         printf("{\"id\": \"%s\", ", r.id);
         answer(&r);

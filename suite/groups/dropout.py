@@ -19,7 +19,7 @@ def make(suite):
     font = suite.font(FontMaker("dropout"))
     for name, contours, part, own in shapes():
         for turn, way in (("", contours), ("-reversed", [contour[::-1] for contour in contours])):
-            suite.case(name + turn, font, RULE % part, font.simple(way), hinted=False, dropout=True, own=own)
+            suite.case(name + turn, font, RULE % part, font.simple(way), hinted=False, dropout="left", own=own)
     make_random(suite, font)
     make_moved(suite, font)
 
@@ -71,13 +71,18 @@ def make_random(suite, font):
     """Thin outlines by a fixed sequence of random numbers."""
     chance = random.Random(20)
     for k in range(110):
-        grid, contours = chance.choice((1, 1, 8, 32)), []
-        for _ in range(chance.choice((1, 1, 2))):
-            count = chance.randrange(3, 7)
-            contours.append([(grid * chance.randrange(-60 // grid, 380 // grid), grid * chance.randrange(-60 // grid, 380 // grid),
-                              chance.choice((1, 1, 0))) for _ in range(count)])
-        suite.case("random-%d" % k, font, RULE % "outlines of lines and arcs", font.simple(contours), hinted=False, dropout=True,
+        suite.case("random-%d" % k, font, RULE % "outlines of lines and arcs", font.simple(some(chance)), hinted=False, dropout="left",
                    own=LEFT)
+
+
+def some(chance):
+    """One or two contours of lines and arcs at random."""
+    grid, contours = chance.choice((1, 1, 8, 32)), []
+    for _ in range(chance.choice((1, 1, 2))):
+        count = chance.randrange(3, 7)
+        contours.append([(grid * chance.randrange(-60 // grid, 380 // grid), grid * chance.randrange(-60 // grid, 380 // grid),
+                          chance.choice((1, 1, 0))) for _ in range(count)])
+    return contours
 
 
 def make_moved(suite, font):
@@ -86,4 +91,4 @@ def make_moved(suite, font):
     for dx in (-64, -33, -32, 0, 1, 31, 32, 64):
         for dy in (-32, 0, 1, 32):
             suite.case("moved-%d-%d" % (dx, dy), font, RULE % "places of centres",
-                       font.simple([[(x + dx, y + dy, on) for x, y, on in shape]]), hinted=False, dropout=True, own=LEFT)
+                       font.simple([[(x + dx, y + dy, on) for x, y, on in shape]]), hinted=False, dropout="left", own=LEFT)

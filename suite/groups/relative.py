@@ -11,12 +11,12 @@ TWILIGHT = "in the twilight zone MIRP first puts the point at the reference poin
     "freedom vector"
 NEGATIVE = "MIRP's control value -1 is a value of 0"
 SLANTED = ["8192 14189 SPVFS SFVTPV", "SVTCA:1 13107 9830 SFVFS"]
-# Point 1 is left of point 5, point 9 below point 2; a program moves reference points first, so that all distances differ.
+# Point 1 is left of point 5, point 9 below point 2; a program moves reference points first, so that all distances differ, and no row
+# leaves the outline as it was.
 TRIES = [("right", "SVTCA:1 1 20 SHPIX 1 SRP0 5"), ("left", "SVTCA:1 5 30 SHPIX 5 SRP0 1"), ("up", "SVTCA:0 9 -14 SHPIX 9 SRP0 2"),
-         ("down", "SVTCA:0 2 SRP0 9"),
-         ("near", "SVTCA:1 0 SRP0 1"), ("small", "SVTCA:1 3 SRP0 2"), ("rthg", "SVTCA:1 RTHG 2 SRP0 6"),
-         ("minimum", "SVTCA:1 400 SMD 3 SRP0 7"), ("width", "SVTCA:1 360 SSW 60 SSWCI 1 SRP0 5"),
-         ("auto flip off", "SVTCA:1 FLIPOFF 6 SRP0 2")]
+         ("down", "SVTCA:0 2 11 SHPIX 2 SRP0 9"), ("near", "SVTCA:1 0 9 SHPIX 0 SRP0 1"), ("small", "SVTCA:1 3 17 SHPIX 3 SRP0 2"),
+         ("rthg", "SVTCA:1 RTHG 2 -23 SHPIX 2 SRP0 6"), ("minimum", "SVTCA:1 400 SMD 3 19 SHPIX 3 SRP0 7"),
+         ("width", "SVTCA:1 360 SSW 60 SSWCI 1 SRP0 5"), ("auto flip off", "SVTCA:1 FLIPOFF 6 29 SHPIX 6 SRP0 2")]
 AFTER = "8 SHP:1 10 SHP:0 11 MDRP:0"  # shows what the three reference points are
 
 
@@ -43,7 +43,7 @@ def make_mdrp(suite):
                                     ("2 6 SDPVTL:0 SFVTCA:1 1 SRP0 5 MDRP:04", OFF_AXES),
                                     ("5 SRP0 5 MDRP:1C", None), ("100 SSW 2000 SSWCI 5 SRP0 5 MDRP:00", None),
                                     ("-100 SSW 2000 SSWCI 1 SRP0 5 MDRP:00", None),
-                                    ("-64 SMD 1 SRP0 0 MDRP:0C", None)]):
+                                    ("-64 SMD 1 21 SHPIX 1 SRP0 0 MDRP:0C", None)]):
         suite.case("more-%d" % k, font, MDRP, picture(font, "SVTCA:1 " + row), own=own, within=3 if own else None)
 
 

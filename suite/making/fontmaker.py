@@ -1,9 +1,9 @@
-"""Puts fonts together from glyphs, programs and tables. The tables themselves are laid out by tools/fonts.py of the repository."""
+"""Puts fonts together from glyphs, programs and tables. The tables themselves are laid out by tests/lib/fonts.py of the repository."""
 import os
 import struct
 import sys
 
-sys.path.insert(0, os.path.join(os.path.dirname(os.path.realpath(__file__)), "..", "..", "tools"))
+sys.path.insert(0, os.path.join(os.path.dirname(os.path.realpath(__file__)), "..", "..", "tests", "lib"))
 import fonts  # noqa: E402
 
 from .assembler import assemble  # noqa: E402
@@ -25,7 +25,7 @@ class FontMaker:
     """A font under way. Glyph 0 is a box, glyph 1 is empty. Its map has glyph G at U+E000 + G."""
 
     def __init__(self, name, upem=UPEM, cvt=(), fpgm="", prep="", long=True, **limits):
-        self.name, self.upem, self.long, self.limits = name, upem, long, {**LIMITS, **limits}
+        self.name, self.file, self.upem, self.long, self.limits = name, name + ".ttf", upem, long, {**LIMITS, **limits}
         self.programs = {"cvt ": struct.pack(">%dh" % len(cvt), *cvt), "fpgm": code_of(fpgm), "prep": code_of(prep)}
         self.tables, self.pairs, self.glyphs = {}, None, []
         self.add(fonts.simple([[(0, 0, 1), (0, 512, 1), (384, 512, 1), (384, 0, 1)]]), 512)
@@ -44,6 +44,10 @@ class FontMaker:
 
     def bytes(self):
         """The font's bytes."""
+        return fonts.assemble(self.all_tables())
+
+    def all_tables(self):
+        """The font's tables, in the order of their tags."""
         pairs = self.pairs or len(self.glyphs)
         tables = {"cmap": in_order(FIRST_CHAR + 1, len(self.glyphs) - 1),
                   **{tag: data for tag, data in self.programs.items() if data}}
@@ -54,7 +58,7 @@ class FontMaker:
         tables["hmtx"] = b"".join(struct.pack(">Hh", g.advance, g.bearing) for g in self.glyphs[:pairs]) \
             + b"".join(struct.pack(">h", g.bearing) for g in self.glyphs[pairs:])
         tables.update(self.tables)
-        return fonts.assemble({tag: tables[tag] for tag in sorted(tables) if tables[tag] is not None})
+        return {tag: tables[tag] for tag in sorted(tables) if tables[tag] is not None}
 
     def head(self):
         """`head`: the em square and the form of `loca`."""

@@ -14,7 +14,7 @@ class Case:
 
     def line(self, expected):
         """Its line of cases.jsonl."""
-        entry = {"id": self.name, "group": self.group, "font": self.font.name + ".ttf", **self.request, "about": self.about}
+        entry = {"id": self.name, "group": self.group, "font": self.font.file, **self.request, "about": self.about}
         if self.own:
             entry["own"] = self.own
         if self.within:
@@ -34,11 +34,12 @@ class Suite:
         self.fonts[maker.name] = maker
         return maker
 
-    def case(self, name, font, about, glyph=None, char=None, ppem=16, hinted=True, dropout=False, own=None, within=None, bits=True):
+    def case(self, name, font, about, glyph=None, char=None, ppem=16, hinted=True, dropout=False, own=None, within=None, bits=True,
+             face=None):
         """Adds a case of a glyph's number or a character.
 
         `own` is the decision if no text says the answer; with `within` only so many 1/64 pixels are open."""
-        named = {"char": char} if glyph is None else {"glyph": glyph}
+        named = {**({} if face is None else {"face": face}), **({"char": char} if glyph is None else {"glyph": glyph})}
         request = {"ppem": ppem, **named, "hinted": hinted, "dropout": dropout,
                    "want": ["outline", "bits"] if bits else ["outline"]}
         self.cases.append(Case("%s/%s" % (self.group, name), self.group, font, request, about, own, within))

@@ -56,7 +56,7 @@ for _em in (1000, 2048):
              lambda right, em=_em: lambda v, ppem, upem: right(v, ppem, em))
 
 
-@reading("y_downwards", "scan dropout grammar composites scaling phantoms maps iup", "y grows downwards")
+@reading("y_downwards", "scan dropout nearer grammar composites scaling phantoms maps iup", "y grows downwards")
 def _y_downwards(c):
     c.attribute(outline.Maker, "outline", lambda right: lambda maker, glyph: _upside_down(right(maker, glyph)))
 
@@ -66,7 +66,7 @@ def _upside_down(found):
     return ([(x, -y) for x, y in found[0]], *found[1:])
 
 
-@reading("refused_is_empty", "grammar maps composites scaling", "what is refused is an empty glyph")
+@reading("refused_is_empty", "grammar maps composites scaling faces", "what is refused is an empty glyph")
 def _refused_is_empty(c):
     def made(right):
         def lenient(data, request):
@@ -109,8 +109,8 @@ def _bad_tables(c):
 
 @reading("missing_tables_empty", "grammar", "a table that is missing is empty")
 def _missing_tables(c):
-    c.attribute(fontfile.Font, "directory", lambda right: lambda data: collections.defaultdict(bytes,
-        {**{tag: b"" for tag in fontfile.REQUIRED}, **right(data)}))
+    c.attribute(fontfile.Font, "directory", lambda right: lambda data, start: collections.defaultdict(bytes,
+        {**{tag: b"" for tag in fontfile.REQUIRED}, **right(data, start)}))
 
 
 replaced("zero_contours_composite", "grammar", "a glyph of 0 contours is a composite", "read_glyph",
@@ -299,29 +299,29 @@ def _upper(piece, p):
 
 
 # ---- drop-out control
-@reading("rule_three_always", "scan", "drop-out control is on, whether or not it is asked for")
+@reading("rule_three_always", "scan asked", "drop-out control is on, whether or not it is asked for")
 def _rule_three_always(c):
-    c.attribute(scan, "bits", lambda right: dropout.bits)
+    c.attribute(scan, "bits", lambda right: lambda pieces: dropout.bits(pieces, "left"))
 
 
-@reading("one_pixel_at_least", "dropout", "a glyph with contours has at least one pixel")
+@reading("one_pixel_at_least", "dropout nearer", "a glyph with contours has at least one pixel")
 def _one_pixel_at_least(c):
-    c.attribute(dropout, "bits", lambda right: lambda pieces: right(pieces) or {(0, 0)})
+    c.attribute(dropout, "bits", lambda right: lambda pieces, kind: right(pieces, kind) or {(0, 0)})
 
 
-@reading("rule_three_never", "dropout", "drop-out control is never on")
+@reading("rule_three_never", "dropout nearer", "drop-out control is never on")
 def _rule_three_never(c):
-    c.attribute(dropout, "bits", lambda right: scan.bits)
+    c.attribute(dropout, "bits", lambda right: lambda pieces, kind: scan.bits(pieces))
 
 
-replaced("centres_in_corners", "scan dropout", "a pixel's centre is its lower left corner", "centre",
+replaced("centres_in_corners", "scan dropout nearer", "a pixel's centre is its lower left corner", "centre",
          lambda right: lambda i, j: (128 * i, 128 * j))
-replaced("right_pixel", "dropout", "of a gap the right or upper pixel is set", "chosen", lambda right: lambda i: i + 1)
-replaced("touches_left_out", "dropout", "an outline that only touches a row does not pass there", "roots",
+replaced("right_pixel", "dropout", "of a gap the right or upper pixel is set", "left_pixel", lambda right: lambda pieces, i, j: i + 1)
+replaced("touches_left_out", "dropout nearer", "an outline that only touches a row does not pass there", "roots",
          lambda right: lambda k2, k1, k0: (
     root for root in right(k2, k1, k0) if k2 == 0 or k1 * k1 - 4 * k2 * k0 > 0))
-replaced("columns_left_out", "dropout", "drop-out control is of rows alone", "turned",
+replaced("columns_left_out", "dropout nearer", "drop-out control is of rows alone", "turned",
          lambda right: lambda place: place and (10 ** 6, 10 ** 6))
-replaced("no_frame_of_its_own", "dropout", "a glyph whose box holds no centre has no pixels", "frame",
+replaced("no_frame_of_its_own", "dropout nearer", "a glyph whose box holds no centre has no pixels", "frame",
          lambda right: lambda values: scan.kept(values))
-replaced("dropout_is_rule_one", "dropout", "drop-out control sets nothing more", "is_gap", lambda right: lambda *of: False)
+replaced("dropout_is_rule_one", "dropout nearer", "drop-out control sets nothing more", "is_gap", lambda right: lambda *of: False)

@@ -160,8 +160,8 @@ for _name, _less, _text in (("stack_of_max", 32, "the stack has room for maxStac
                             ("stack_below_max", 33, "the stack has to stay below maxStackElements")):
     def _stack(c, less=_less):
         def made(right):
-            def smaller(font, data):
-                right(font, data)
+            def smaller(font, data, face):
+                right(font, data, face)
                 font.room -= less
             return smaller
         c.attribute(fontfile.Font, "__init__", made)
@@ -305,16 +305,16 @@ control_reads("any_selector_turns_off", "INSTCTRL turns programs off, whatever i
               lambda m, value, selector, old: _other_operands(m, value, 1, old))
 
 
-@reading("glyph_programs_not_run", "flow functions state vectors points deltas mdrp halts", "glyphs have no programs")
+@reading("glyph_programs_not_run", "flow functions state vectors points deltas mdrp mirp halts asked", "glyphs have no programs")
 def _no_glyph_programs(c):
-    c.attribute(outline.Maker, "run", lambda right: lambda maker, made, number, program: None)
+    c.attribute(outline.Maker, "run", lambda right: lambda maker, made, number, program: maker.initial())
 
 
-@reading("prep_not_run", "state functions halts", "prep is not run")
+@reading("prep_not_run", "state functions halts asked", "prep is not run")
 def _prep_not_run(c):
     c.attribute(machine.Machine, "run", lambda right: lambda m, name, code: right(m, name, b"" if name == "prep" else code))
 
 
-@reading("unhinted_runs_programs", "halts scaling composites", "programs run without hinting too")
+@reading("unhinted_runs_programs", "halts scaling composites asked", "programs run without hinting too")
 def _unhinted_runs(c):
     c.attribute(outline.Maker, "__init__", lambda right: lambda maker, font, ppem, hinted: right(maker, font, ppem, True))

@@ -6,7 +6,8 @@ from .fontfile import Font
 from .outline import Maker
 
 FARTHEST = 1 << 21  # of a coordinate whose pixels are found
-_KEPT = {}
+_KEPT, _DRAWN = {}, {}
+MOST_DRAWN = 64  # drawings that are kept for requests to come
 
 
 def answer(data, request):
@@ -19,13 +20,13 @@ def answer(data, request):
         return {"refusal": {"name": str(halt), **halt.place}}
 
 
-def maker_of(data, ppem, hinted):
+def maker_of(data, face, ppem, hinted):
     """The maker of a font at a size; the last one is kept for the next request."""
-    key = hash(data), len(data), ppem, hinted
+    key = hash(data), len(data), face, ppem, hinted
     if key not in _KEPT:
         _KEPT.clear()
         try:
-            _KEPT[key] = Maker(Font(data), ppem, hinted)
+            _KEPT[key] = Maker(Font(data, face), ppem, hinted)
         except (Refused, Halt) as fault:
             _KEPT[key] = fault
     if isinstance(_KEPT[key], Exception):
@@ -34,17 +35,18 @@ def maker_of(data, ppem, hinted):
 
 
 def forget():
-    """Drops the maker that was kept."""
+    """Drops the maker and the drawings that were kept."""
     _KEPT.clear()
+    _DRAWN.clear()
 
 
 def made(data, request):
     """The answer, or a fault."""
     char = request.get("char")
-    glyph = request.get("glyph")
+    glyph, face = request.get("glyph"), request.get("face", 0)
     if char is not None:
-        glyph = CharMap(Font(data)).glyph(char)
-    maker = maker_of(data, request["ppem"], request["hinted"])
+        glyph = CharMap(Font(data, face)).glyph(char)
+    maker = maker_of(data, face, request["ppem"], request["hinted"])
     if glyph == 0 and char is not None:
         return {"missing": True}
     points, on, ends, advance = maker.outline(glyph)
@@ -52,8 +54,25 @@ def made(data, request):
     if "bits" in request["want"]:
         if any(abs(v) > FARTHEST for place in points for v in place):
             raise Refused("TooFar", glyph=glyph)
-        found["bits"] = packed((dropout if request["dropout"] else scan).bits(scan.pieces_of(points, on, ends)))
+        found["bits"] = drawn(scan.pieces_of(points, on, ends), kind_of(request["dropout"], maker.asked))
     return found
+
+
+def drawn(pieces, kind):
+    """The pixels of pieces with some drop-out control, or without."""
+    key = tuple(pieces), kind
+    if key not in _DRAWN:
+        if len(_DRAWN) >= MOST_DRAWN:
+            _DRAWN.clear()
+        _DRAWN[key] = packed(dropout.bits(pieces, kind) if kind else scan.bits(pieces))
+    return _DRAWN[key]
+
+
+def kind_of(dropout_asked, by_font):
+    """Which drop-out control: False, "left" or "near". `true` is version 1's word for "left"; a font that says nothing has "left"."""
+    if dropout_asked == "font":
+        return "left" if by_font is None else by_font
+    return "left" if dropout_asked is True else dropout_asked
 
 
 def contours_of(points, on, ends):

@@ -1,7 +1,8 @@
-"""Drop-out control, rule 3 of the manual: if an outline passes between two neighbouring centres and neither is set, one is set.
+"""Drop-out control: if an outline passes between two neighbouring centres and neither is set, one is set.
 
-Rows come first and set the left pixel; then columns, for pairs that are still unset, and set the lower one. Where an outline
-crosses a row is found by its roots, kept exact as (p + q * root(d)) / r.
+Rows come first, then columns, for pairs that are still unset. By rule 3 of the manual it is the left or the lower pixel; a "smart" font asks
+for the one to whose centre the stroke's middle is nearer. Where an outline crosses a row is found by its roots, kept exact as
+(p + q * root(d)) / r.
 """
 import math
 
@@ -79,19 +80,26 @@ def is_gap(pieces, so_far, i, j):
     return not {(i, j), (i + 1, j)} & so_far and any(meets(piece, centre(i, j), centre(i + 1, j)) for piece in pieces)
 
 
-def chosen(i):
-    """Which of the pixels i and i + 1 closes a gap."""
+def left_pixel(pieces, i, j):
+    """By rule 3 the left one of two pixels closes their gap."""
     return i
 
 
-def bridges(pieces, columns, rows, so_far):
+def nearer_pixel(pieces, i, j):
+    """Or the one on whose side more of the 126 places between the centres are covered, 1/128 pixel apart; the left one if as many are."""
+    (x, y), half = centre(i, j), range(1, 64)
+    left = sum(covered(pieces, (x + n, y)) for n in half)
+    return i + (sum(covered(pieces, (x + 64 + n, y)) for n in half) > left)
+
+
+def bridges(pieces, columns, rows, so_far, pixel):
     """The pixels that close the gaps of rows. If the one to set lies outside the frame, the other is set."""
     found = set()
     for j in rows:
         here = near_row(pieces, 128 * j + 64)
         for i in range(columns.start - 1, columns.stop):
             if here and is_gap(here, so_far, i, j):
-                pick = chosen(i)
+                pick = pixel(here, i, j)
                 found.add((pick if pick in columns else 2 * i + 1 - pick, j))
     return found
 
@@ -103,14 +111,15 @@ def frame(values):
     return inner if inner else range(pixel, pixel + 1)
 
 
-def bits(pieces):
-    """The set pixels with drop-out control."""
+def bits(pieces, kind):
+    """The set pixels with drop-out control, "left" or "near"."""
     if not pieces:
         return set()
     points = holding(pieces)
     columns, rows = frame([x for x, _ in points]), frame([y for _, y in points])
     so_far = {(i, j) for j in range(rows.start - 1, rows.stop + 1) for i in range(columns.start - 1, columns.stop + 1)
               if covered(near_row(pieces, 128 * j + 64), centre(i, j))}
-    so_far |= bridges(pieces, columns, rows, so_far)
+    pixel = nearer_pixel if kind == "near" else left_pixel
+    so_far |= bridges(pieces, columns, rows, so_far, pixel)
     other = [tuple(map(turned, piece)) for piece in pieces]
-    return so_far | {(i, j) for j, i in bridges(other, rows, columns, {(j, i) for i, j in so_far})}
+    return so_far | {(i, j) for j, i in bridges(other, rows, columns, {(j, i) for i, j in so_far}, pixel)}

@@ -22,11 +22,24 @@ def u32(data, at):
     return struct.unpack_from(">L", data, at)[0]
 
 
+def directory_offset(data, face):
+    """Where a face's directory begins: at the offset that the header of a collection has for it, or, in another file, at 0."""
+    if data[:4] != b"ttcf":
+        if face:
+            raise Refused("NoFace")
+        return 0
+    if len(data) < 12 or (u16(data, 4), u16(data, 6)) not in ((1, 0), (2, 0)) or len(data) < 12 + 4 * u32(data, 8):
+        raise Refused("NotTrueType")
+    if face >= u32(data, 8):
+        raise Refused("NoFace")
+    return u32(data, 12 + 4 * face)
+
+
 class Font:
     """A font's tables and fields. The first fault in order is the refusal."""
 
-    def __init__(self, data):
-        self.tables = self.directory(data)
+    def __init__(self, data, face=0):
+        self.tables = self.directory(data, directory_offset(data, face))
         missing = next((tag for tag in REQUIRED if tag not in self.tables), None)
         if missing:
             raise Refused("TableMissing")
@@ -55,14 +68,15 @@ class Font:
             raise Refused("TableShort", table=tag)
 
     @staticmethod
-    def directory(data):
-        """The tables by tag; the first record of a tag counts."""
-        if len(data) < 12 or u32(data, 0) not in (0x10000, 0x74727565) or len(data) < 12 + 16 * u16(data, 4):
+    def directory(data, start):
+        """The tables by tag, of the directory that begins there; the first record of a tag counts. Offsets count from the file's first byte."""
+        own = data[start:]
+        if len(own) < 12 or u32(own, 0) not in (0x10000, 0x74727565) or len(own) < 12 + 16 * u16(own, 4):
             raise Refused("NotTrueType")
         tables = {}
-        for k in range(u16(data, 4)):
-            at, length = u32(data, 12 + 16 * k + 8), u32(data, 12 + 16 * k + 12)
-            tables.setdefault(data[12 + 16 * k:16 + 16 * k].decode("latin-1"), data[at:at + length])
+        for k in range(u16(own, 4)):
+            at, length = u32(own, 12 + 16 * k + 8), u32(own, 12 + 16 * k + 12)
+            tables.setdefault(own[12 + 16 * k:16 + 16 * k].decode("latin-1"), data[at:at + length])
         return tables
 
     def advance(self, glyph):

@@ -17,13 +17,15 @@ class Made:
 
     def __init__(self, points, on, ends, phantoms, current):
         self.points, self.on, self.ends, self.phantoms, self.current = points, on, ends, phantoms, current
+        self.parts = 0  # the components that were joined so far
 
 
 class Maker:
     """Makes the outlines of a font at a size, hinted or not."""
+    machine_of = Machine
 
     def __init__(self, font, ppem, hinted):
-        self.font, self.ppem, self.hinted, self.machine = font, ppem, hinted, None
+        self.font, self.ppem, self.hinted, self.machine, self.asked = font, ppem, hinted, None, None
         if hinted:
             self.machine = self.prepared()
 
@@ -36,15 +38,24 @@ class Maker:
         font, tables = self.font, self.font.tables
         cvt = tables.get("cvt ", b"")
         values = [self.scale(i16(cvt, 2 * k)) for k in range(len(cvt) // 2)]
-        machine = Machine(TABLE, self.ppem, self.scale, values, font.storage, font.twilight, font.functions, font.room)
+        machine = self.machine_of(TABLE, self.ppem, self.scale, values, font.storage, font.twilight, font.functions, font.room)
         for name in ("fpgm", "prep"):
-            machine.gs = Graphics()
-            machine.run(name, tables.get(name, b""))
+            self.prepare(machine, name, tables.get(name, b""))
         return machine
+
+    def prepare(self, machine, name, code):
+        """Runs `fpgm` or `prep`."""
+        machine.gs = Graphics()
+        machine.run(name, code)
+
+    def begin(self, glyph):
+        """Begins a character's outline, whose root is a glyph."""
+        self.root, self.records, self.count = glyph, 0, 0
 
     def outline(self, glyph):
         """A character's outline: moved to its origin, with its advance."""
-        self.root, self.records, self.count = glyph, 0, 0
+        self.begin(glyph)
+        self.asked = asked_by(self.initial()) if self.hinted else None
         made = self.make(glyph, 0)
         left = made.current[0][0]
         points = [(w32(x - left), y) for x, y in made.points]
@@ -76,8 +87,10 @@ class Maker:
                 raise Refused("TooManyPoints", glyph=self.root)
             made.points = [(self.scale(x), self.scale(y)) for x, y, _ in glyph.points]
             made.on, made.ends = [on for _, _, on in glyph.points], list(glyph.ends)
-        if self.hinted and glyph.program:
-            self.run(made, number, glyph.program)
+        if self.hinted and glyph.program and not self.machine.no_programs:
+            gs = self.run(made, number, glyph.program)
+            if depth == 0:
+                self.asked = asked_by(gs)
         return made
 
     def add_part(self, made, number, part, depth):
@@ -107,19 +120,27 @@ class Maker:
             raise Refused("BadPointMatch", glyph=number)
         return made.points[a][0] - points[b][0], made.points[a][1] - points[b][1]
 
-    def run(self, made, number, program):
-        """Runs a glyph's program on its points and phantom points."""
-        if self.machine.no_programs:
-            return
-        machine = self.machine.fork()
-        gs = Graphics() if machine.default_state else machine.gs
+    def initial(self):
+        """The graphics state from which a glyph's program starts."""
+        gs = Graphics() if self.machine.default_state else self.machine.gs.copy()
         for name in ("pv", "fv", "dv", "rp", "zp", "loop", "round"):
             setattr(gs, name, getattr(Graphics, name))
-        machine.gs = gs
-        zone = Zone(made.points + made.phantoms, made.points + made.current, made.on + [1] * 4, made.ends)
+        return gs
+
+    def run(self, made, number, program):
+        """Runs a glyph's program on its points and phantom points. Returns the graphics state that it leaves."""
+        machine = self.machine.fork()
+        machine.gs = self.initial()
+        zone = Zone(made.points + made.phantoms, made.points + made.current, made.on + [0] * 4, made.ends)
         machine.zones[1] = zone
         machine.run(number, program)
         made.points, made.on, made.current = zone.cur[:-4], zone.on[:-4], zone.cur[-4:]
+        return machine.gs
+
+
+def asked_by(gs):
+    """What a graphics state asks of drop-out control: nothing (None), none (False), "left" or "near"."""
+    return gs.scan_type if gs.scan_control else gs.scan_control
 
 
 def transformed(place, matrix):

@@ -164,7 +164,7 @@ ROWS = {
 }
 for _opcode in (0x40, 0x41, *range(0xB0, 0xC0)):
     ROWS[_opcode] = push_data
-for _opcode in (0x4F, 0x7E, 0x7F, 0x85, 0x8D):  # DEBUG, SANGW, AA, SCANCTRL, SCANTYPE: one operand, nothing else
+for _opcode in (0x4F, 0x7E, 0x7F):  # DEBUG, SANGW, AA: one operand, nothing else
     ROWS[_opcode] = lambda m: m.pop(1)
 for _opcode in range(0x68, 0x6C):  # ROUND; without compensation by distance
     ROWS[_opcode] = lambda m: m.push(rounded(m.gs, m.pop(1)[0]))

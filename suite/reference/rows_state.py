@@ -120,6 +120,25 @@ def set_super_round(m):
     m.gs.round = super_round(m.pop(1)[0], (32, 64, 128, 64) if m.opcode == 0x76 else (22, 45, 90, 45))
 
 
+def scan_control(m):
+    """SCANCTRL: drop-out control on or off, by a threshold (bits 0 to 7) and flags. No glyph is rotated or stretched here."""
+    value, = m.pop(1)
+    threshold, on, off_above, off_unless_turned = value & 0xFF, value & 0x100, value & 0x800, value & 0x3000
+    if threshold in (0, 255):
+        m.gs.scan_control = threshold == 255
+    elif off_unless_turned or off_above and m.ppem > threshold:
+        m.gs.scan_control = False
+    elif on and m.ppem <= threshold:
+        m.gs.scan_control = True
+    else:
+        m.gs.scan_control = bool(m.gs.scan_control)
+
+
+def scan_type(m):
+    """SCANTYPE: which pixel of a gap, or none. No other number is a type, and it changes nothing."""
+    m.gs.scan_type = SCAN_TYPES.get(m.pop(1)[0], m.gs.scan_type)
+
+
 def delta_of(m, arg, step):
     """By how much a pair of a delta moves at this size, or None if it does not act."""
     if m.gs.base + step + (arg >> 4 & 15) != m.ppem:
@@ -145,6 +164,7 @@ def delta_cvt(m):
             write(m.cvt, k, read(m.cvt, k) + amount)
 
 
+SCAN_TYPES = {0: "left", 1: "left", 2: False, 3: False, 4: "near", 5: "near", 6: False, 7: False, 8: False}
 ROWS = {
     **{opcode: to_axis for opcode in range(6)}, **{opcode: to_line for opcode in range(6, 10)}, 0x86: dual_to_line,
         0x87: dual_to_line,
@@ -154,6 +174,7 @@ ROWS = {
     0x1E: set_value("width_cut_in"), 0x1F: set_width, 0x4D: lambda m: setattr(m.gs, "flip", True),
         0x4E: lambda m: setattr(m.gs, "flip", False),
     0x5E: set_value("base"), 0x5F: set_shift, 0x18: set_round(GRID), 0x19: set_round(HALF_GRID), 0x3D: set_round(DOUBLE),
-    0x7D: set_round(DOWN), 0x7C: set_round(UP), 0x7A: set_round(OFF), 0x76: set_super_round, 0x77: set_super_round,
+    0x7D: set_round(DOWN), 0x7C: set_round(UP), 0x7A: set_round(OFF), 0x76: set_super_round, 0x77: set_super_round, 0x85: scan_control,
+        0x8D: scan_type,
     **{opcode: delta_cvt for opcode in range(0x73, 0x76)},
 }

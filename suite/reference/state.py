@@ -10,7 +10,7 @@ class Zone:
 
     def __init__(self, org, cur, on=None, ends=()):
         self.org, self.cur, self.ends = list(org), list(cur), list(ends)
-        self.on = list(on) if on else [1] * len(self.org)
+        self.on = list(on) if on else [0] * len(self.org)
         self.touched = [[False, False] for _ in self.org]
 
     def copy(self):
@@ -47,6 +47,7 @@ class Graphics:
     loop, round, flip = 1, GRID, True
     cut_in, minimum, width, width_cut_in = 68, 64, 0, 0
     base, shift = 9, 3
+    scan_control, scan_type = None, "left"  # nothing was asked; the left or the lower pixel of a gap
 
     def copy(self):
         """The same state, by itself."""
