@@ -91,7 +91,8 @@ function blocks(count) {
 function refusals() {
   const at = asked(100);
   bytes(at, 100).fill(7);
-  for (const size of [1n << 39n, (1n << 40n) + 1n, 1n << 63n, (1n << 64n) - 1n]) {
+  // from 2 GiB on there is no place for it in 4 GiB, or the engine has a limit of its own
+  for (const size of [...Array.from({ length: 9 }, (_, k) => 1n << BigInt(31 + k)), (1n << 40n) + 1n, 1n << 63n, (1n << 64n) - 1n]) {
     calls.rattle_alloc(place, size, 16n);
     if (given()) say(`${size} bytes were given`);
     calls.rattle_realloc(place, at, 100n, size, 16n);
@@ -127,4 +128,14 @@ const before = calls.memory.buffer.byteLength;
 for (let k = 0; k < 3; k++) blocks(5000);
 if (calls.memory.buffer.byteLength > 2 * before) say('the memory grows without end');
 refusals();
+// When the memory is full, requests are refused and nothing traps; small ones may still find a free block.
+function full() {
+  const held = [];
+  for (let log = 28n; log >= 16n; log--) for (let at; (at = asked((1n << log) - 16n)); held.push([at, log])) view().setUint8(Number(at), Number(log));
+  if (held.length > 200 || calls.memory.buffer.byteLength > 2 ** 32) say(`${held.length} blocks of 64 KiB to 256 MiB, in a memory of ${calls.memory.buffer.byteLength}`);
+  if (held.some(([at, log]) => view().getUint8(Number(at)) !== Number(log))) say('a block of a full memory was written to by another');
+  held.forEach(([at]) => calls.rattle_dealloc(at));
+}
+
+full();
 console.log('40,000 products and shifts, 20,000 requests for memory');

@@ -1,7 +1,8 @@
-"""Makes the WebAssembly module of the page from LLVM bitcode.
+"""Makes the WebAssembly modules from LLVM bitcode: mkstrike.wasm with the calls of the C library, and program.wasm, the program.
 
-The bitcode is what the kit hands to its clang when it builds the proved crates/mkstrike_c for x86-64; here the same clang and
-linker make WebAssembly of it, with 64-bit memory. The kit's own target for WebAssembly refuses code that reaches the heap.
+The bitcode is what the kit hands to its clang when it builds the proved crates/mkstrike_c or crates/mkstrike for x86-64; here the same clang
+and linker make WebAssembly of it, with 64-bit memory, and web_memory32.py makes that 32-bit memory, which every engine has. The kit's own
+target for WebAssembly refuses code that reaches the heap.
 """
 import os
 import re
@@ -11,19 +12,21 @@ import zlib
 
 import prebuilt
 from prebuilt import TOP, Fault
+from web_memory32 import with_memory32
 
 WEB = os.path.join(TOP, "web")
-CRATE = os.path.join(TOP, "crates/mkstrike_c")
-MOST, MOST_PACKED = 212 * 1024, 86 * 1024  # bytes of the module, and of it compressed
-LEVELS = ("-O2", "-Os")  # of optimisation: the first with which the module is small enough; with -Os it takes up to twice the time
+LIBRARY, PROGRAM = prebuilt.MODULES
+MODULES = {LIBRARY: "mkstrike_c", PROGRAM: "mkstrike"}  # of each module the crate that it is made of
+BUILT = {"mkstrike_c": prebuilt.ARCHIVE, "mkstrike": prebuilt.BUILT}  # what the kit makes of the crate's bitcode
+MOST = {LIBRARY: (230, 92), PROGRAM: (680, 260)}  # KiB of the module, and of it compressed
 TARGET = ["--target=wasm64-unknown-unknown", "-mcpu=lime1", "-mllvm", "-expand-div-rem-bits=64", "-mllvm", "-expand-fp-convert-bits=64"]
 LINK = ["-flavor", "wasm", "-mwasm64", "--no-entry", "--stack-first", "-z", "stack-size=1048576", "--gc-sections", "--fatal-warnings",
-        "--strip-debug"]
+        "--strip-debug", "--compress-relocations"]
 # Of x86-64, in the attributes of functions: what a function does to grow the stack, and the processor.
 FOREIGN = re.compile(r'"(?:probe-stack|stack-probe-size|target-cpu|target-features)"="[^"]*"')
 # What web/module.c has for the bitcode.
-BESIDE = ("rattle_alloc", "rattle_realloc", "rattle_dealloc", "memset", "memcpy", "memmove", "memcmp", "__multi3", "__ashlti3", "__lshrti3", "__ashrti3")
-TABLE, ELEMENTS, NAMES = 4, 9, 0  # kinds of sections of a module
+BESIDE = ("rattle_alloc", "rattle_realloc", "rattle_dealloc", "memset", "memcpy", "memmove", "memcmp", "__multi3", "__ashlti3", "__lshrti3",
+          "__ashrti3")
 WORDS = """
 import os, sys
 sys.path.insert(0, sys.argv[1])
@@ -32,8 +35,8 @@ crate = rtlib.Crate(os.getcwd(), rtlib.root_above(os.getcwd()), {})
 print("\\n".join(it for it in crate.words(["--jobs", "2"]) if not it.startswith("rt: ")))
 """
 KEEPING_CLANG = """#!/bin/sh
-for it; do [ "$it" != module.bc ] || cp module.bc %s; done
-exec %s "$@"
+for it; do [ "$it" != module.bc ] || cp module.bc '%s'; done
+exec '%s' "$@"
 """
 
 
@@ -66,51 +69,31 @@ def toolchain_that_keeps(room, kit):
     return made
 
 
-def bitcode(due):
-    """The bitcode of mkstrike_c, whose archive is the one due. `rt lib` has to have proved the crate before."""
-    kit = kit_folder()
+def bitcode(crate):
+    """The bitcode of a crate. `rt lib` or `rt run` has to have proved and built it before."""
+    kit, folder, due = kit_folder(), os.path.join(TOP, "crates", crate), BUILT[crate]
     with tempfile.TemporaryDirectory() as room:
-        words = run(["python3", "-c", WORDS, os.path.join(kit, "bin")], CRATE).decode().split("\n")
-        archive = os.path.join(room, "libmkstrike_c.a")
-        run([os.path.join(kit, "bin/rattle"), "build", *[it for it in words if it and not it.startswith("rt: ")], "--toolchain",
-             toolchain_that_keeps(room, kit), "--backend", "llvm", "--incremental", "out/incremental", "-o", archive], CRATE)
-        if prebuilt.read(archive) != due:
-            raise Fault("the bitcode is that of another libmkstrike_c.a")
+        words = run(["python3", "-c", WORDS, os.path.join(kit, "bin")], folder).decode().split("\n")
+        made, toolchain = os.path.join(room, os.path.basename(due)), toolchain_that_keeps(room, kit)
+        built = made if due == prebuilt.ARCHIVE else made + ".o"
+        run([os.path.join(kit, "bin/rattle"), "build", *[it for it in words if it and not it.startswith("rt: ")], "--toolchain", toolchain,
+             "--backend", "llvm", "--incremental", "out/incremental", "-o", built], folder)
+        if built != made:
+            run([os.path.join(kit, "bin/rattle-link"), "--target", "x86_64-unknown-linux-gnu", "--toolchain", toolchain, "-o", made, built,
+                 *[os.path.join(kit, "c", it) for it in ("libos_c.a", "liblibc_c.a")]], folder)
+        if prebuilt.read(made) != prebuilt.read(due):
+            raise Fault("the bitcode is that of another %s" % os.path.basename(due))
         return prebuilt.read(os.path.join(room, "module.bc"))
 
 
-def number_at(data, at):
-    """A number in LEB128 and the place after it."""
-    value = shift = 0
-    while True:
-        value |= (data[at] & 127) << shift
-        at, shift = at + 1, shift + 7
-        if data[at - 1] < 128:
-            return value, at
-
-
-def sections_of(module):
-    """The sections of a module: their kinds, and their bytes with kind and size."""
-    at, found = 8, []
-    while at < len(module):
-        size, body = number_at(module, at + 1)
-        found.append((module[at], module[at:body + size]))
-        at = body + size
-    return found
-
-
-def trimmed(module):
-    """The module without its names, and without its table, if no call goes through it: older engines know no table of 64-bit memory."""
-    sections = sections_of(module)
-    left_out = {NAMES} | (set() if ELEMENTS in [kind for kind, _ in sections] else {TABLE})
-    return module[:8] + b"".join(data for kind, data in sections if kind not in left_out)
-
-
-def linked(room, objects, exports):
-    """The module that the kit's linker makes of objects in a folder."""
-    words = [os.path.join(kit_folder(), "toolchain/bin/ld.lld"), *LINK, *["--export=" + it for it in exports], *objects, "-o", "out.wasm"]
+def linked(room, objects, exports, imports=(), lower=with_memory32):
+    """The module that the kit's linker makes of objects in a folder, with 32-bit memory."""
+    with open(os.path.join(room, "imports"), "w", encoding="utf-8") as file:
+        file.write("".join("%s\n" % it for it in imports))
+    words = [os.path.join(kit_folder(), "toolchain/bin/ld.lld"), *LINK, *["--export=" + it for it in exports],
+             "--allow-undefined-file=imports", *objects, "-o", "out.wasm"]
     run(words, room)
-    return trimmed(prebuilt.read(os.path.join(room, "out.wasm")))
+    return lower(prebuilt.read(os.path.join(room, "out.wasm")))
 
 
 def compile_beside(room):
@@ -121,20 +104,27 @@ def compile_beside(room):
     run([clang, *TARGET, "-O2", "-ffreestanding", "-fno-builtin", "-Wall", "-Wextra", "-Werror", "-c", "beside.c", "-o", "beside.o"], room)
 
 
-def beside_alone():
+def beside_alone(lower=with_memory32):
     """A module of web/module.c alone, which exports its functions, for a test."""
     with tempfile.TemporaryDirectory() as room:
         compile_beside(room)
-        return linked(room, ["beside.o"], BESIDE)
+        return linked(room, ["beside.o"], BESIDE, lower=lower)
 
 
-def calls_of_page():
-    """The calls of the library that web/mkstrike.js makes: the module exports these, and has no others."""
-    return sorted(set(re.findall(r"\.calls\.(mkstrike_\w+)", prebuilt.read(os.path.join(WEB, "mkstrike.js")).decode())))
+def script(name):
+    return prebuilt.read(os.path.join(WEB, name)).decode()
 
 
-def module_of(code):
-    """The WebAssembly module of the bitcode of mkstrike_c."""
+def calls_of(name):
+    """What a module exports for its script, and what it imports from it: a call that the script does not make is left out."""
+    if name == PROGRAM:
+        table = re.search(r"^  const env = \{\n(.*?)^  \};", script("program.js"), re.M | re.S).group(1)
+        return ["main"], re.findall(r"^    (\w+): ", table, re.M)
+    return sorted(set(re.findall(r"\.calls\.(mkstrike_\w+)", script("mkstrike.js")))), []
+
+
+def module_of(name, code):
+    """The module of this name, of its crate's bitcode."""
     clang = os.path.join(kit_folder(), "toolchain/bin/clang")
     with tempfile.TemporaryDirectory() as room:
         with open(os.path.join(room, "module.bc"), "wb") as file:
@@ -144,16 +134,22 @@ def module_of(code):
         with open(os.path.join(room, "module.ll"), "w", encoding="latin-1") as file:
             file.write(text)
         compile_beside(room)
-        for level in LEVELS:
-            run([clang, *TARGET, level, "-x", "ir", "module.ll", "-c", "-o", "module.o"], room)
-            module = linked(room, ["module.o", "beside.o"], calls_of_page())
-            packed = len(zlib.compress(module, 9))
-            if len(module) <= MOST and packed <= MOST_PACKED:
-                return module
-    raise Fault("the module has %d bytes, %d compressed: at most %d and %d were meant" % (len(module), packed, MOST, MOST_PACKED))
+        run([clang, *TARGET, "-Os", "-x", "ir", "module.ll", "-c", "-o", "module.o"], room)
+        module = linked(room, ["module.o", "beside.o"], *calls_of(name))
+    sizes = len(module), len(zlib.compress(module, 9))
+    if any(size > most << 10 for size, most in zip(sizes, MOST[name])):
+        raise Fault("%s has %d bytes, %d compressed: at most %d and %d KiB were meant" % (name, *sizes, *MOST[name]))
+    return module
+
+
+def modules(folder=None):
+    """The modules by their names, of what the kit built, or of the bitcode in a folder."""
+    return {name: module_of(name, prebuilt.read(os.path.join(folder, crate + ".bc")) if folder else bitcode(crate))
+            for name, crate in MODULES.items()}
 
 
 def hash_of_sources():
-    """The hash of what the module is made of: the sources of mkstrike_c and below, web/module.c, this file, and the calls that it exports."""
-    own = [prebuilt.read(os.path.join(WEB, "module.c")), prebuilt.read(os.path.realpath(__file__))]
-    return prebuilt.sha256("\n".join([prebuilt.hash_of_sources("mkstrike_c"), *map(prebuilt.sha256, own), *calls_of_page()]).encode())
+    """The hash of what the modules are made of: the sources of their crates and below, what makes them, and the calls between them and scripts."""
+    own = [prebuilt.read(os.path.join(TOP, it)) for it in ("web/module.c", "tools/web_module.py", "tools/web_memory32.py")]
+    calls = [it for name in MODULES for words in calls_of(name) for it in words]
+    return prebuilt.sha256("\n".join([*map(prebuilt.hash_of_sources, MODULES.values()), *map(prebuilt.sha256, own), *calls]).encode())

@@ -11,7 +11,7 @@ import web_module
 from prebuilt import TOP, Fault
 
 WEB = os.path.join(TOP, "web")
-MODULE, PAGE = "mkstrike.wasm", "mkstrike.html"
+MODULE, PAGE = web_module.LIBRARY, "mkstrike.html"
 SHARED = ("mkstrike.js", "outputs.js", "refusals.js")  # what the page and the worker both need
 ALONE = ("woff.js", "page.js")  # what the page needs beside it
 
@@ -93,20 +93,22 @@ def put_page(module, say):
             say("%s, %d bytes" % (prebuilt.shown(path), len(data)))
 
 
-def put(module, say):
-    """Puts the module and the page into dist/, and the module's lines into the manifest."""
-    manifest = prebuilt.read_manifest()._replace(module_sources=web_module.hash_of_sources(), module=prebuilt.sha256(module))
-    prebuilt.write(os.path.join(prebuilt.DIST, MODULE), module)
+def put(modules, say):
+    """Puts the modules, by their names, and the page into dist/, and the modules' lines into the manifest."""
+    hashes = [prebuilt.sha256(modules[it]) for it in web_module.MODULES]
+    manifest = prebuilt.Manifest(*prebuilt.read_manifest()[:6], web_module.hash_of_sources(), *hashes)
+    for name, data in modules.items():
+        prebuilt.write(os.path.join(prebuilt.DIST, name), data)
+        say("dist/%s, %d bytes, %s" % (name, len(data), prebuilt.sha256(data)))
     prebuilt.write(os.path.join(prebuilt.DIST, "manifest"), prebuilt.manifest_of(manifest))
-    say("dist/%s, %d bytes, %s" % (MODULE, len(module), manifest.module))
-    put_page(module, say)
+    put_page(modules[MODULE], say)
 
 
 def faults(manifest):
     """What is wrong with the files that are made, in lines, if dist/ has a module."""
     found = ["%s is not what tools/make_web writes" % prebuilt.shown(path) for path, data in made_of_others() if prebuilt.read(path) != data]
     if manifest.module_sources != web_module.hash_of_sources():
-        found.append("dist/%s is of other sources: tools/make_web makes it anew" % MODULE)
+        found.append("the modules of dist/ are of other sources: tools/make_web makes them anew")
     if prebuilt.read(os.path.join(prebuilt.DIST, PAGE)) != page_of(prebuilt.read(os.path.join(prebuilt.DIST, MODULE))):
         found.append("dist/%s is not the page of web/ with that module: tools/make_web --page makes it anew" % PAGE)
     return found

@@ -110,7 +110,7 @@ class InBrowser:
     def steps(self):
         """All steps; each begins with a page that was just opened, and none may leave a complaint in the console."""
         for step in (self.first, self.controls, self.captions, self.strikes, self.files, self.kinds, self.fields, self.others, self.faces, self.whole_font,
-                     self.saves, self.headers, self.outlines, self.sizes, self.keys, self.contrast, self.small, self.large, self.without_memory,
+                     self.saves, self.headers, self.outlines, self.sizes, self.keys, self.contrast, self.small, self.large, self.without_engine,
                      self.from_server):
             def opened(step=step):
                 self.open()
@@ -667,14 +667,14 @@ class InBrowser:
         self.check.tell("%d MB, 20,000 characters: %.1f s, at most %.0f ms of processor time at once" % (os.path.getsize(path) >> 20, took, longest))
         os.remove(path)
 
-    def without_memory(self):
-        """Without 64-bit memory the page says which browsers have it."""
+    def without_engine(self):
+        """Without WebAssembly the page says which browsers have it."""
         script = self.browser.call("Page.addScriptToEvaluateOnNewDocument", source="WebAssembly.validate = () => false")["identifier"]
         self.browser.open("file://" + self.check.page)
-        self.browser.until("document.body.innerText.includes('Firefox from')", "saying which browsers have 64-bit memory")
+        self.browser.until("document.body.innerText.includes('since 2021')", "saying which browsers have WebAssembly")
         self.picture("without")
         self.browser.call("Page.removeScriptToEvaluateOnNewDocument", identifier=script)
-        self.check.tell("without 64-bit memory")
+        self.check.tell("without WebAssembly")
 
     def from_server(self):
         """The parts of web/ from a server, as a site would have them."""

@@ -23,9 +23,11 @@ export const NONE = 0xffffffff, FPGM = 0x10000, PREP = 0x10001; // in a refusal
 export const MOST_PPEM = 1024, MOST_BYTES = 67108864;
 const MOST_ROOM = 1 << 22; // bytes that a first call hands over at most; a second one hands over what the first asked for
 
-// Whether this engine has WebAssembly with 64-bit memory: the head of a module with such a memory.
-export function hasMemory64() {
-  return typeof WebAssembly === 'object' && WebAssembly.validate(new Uint8Array([0, 97, 115, 109, 1, 0, 0, 0, 5, 3, 1, 4, 1]));
+// Whether this engine can run the module: it has BigInt, and takes a module whose one function fills memory and widens a byte, which the
+// first WebAssembly lacked.
+export function canRun() {
+  return typeof WebAssembly === 'object' && typeof BigInt64Array === 'function' && WebAssembly.validate(new Uint8Array([0, 97, 115, 109, 1, 0,
+    0, 0, 1, 4, 1, 96, 0, 0, 3, 2, 1, 0, 5, 3, 1, 0, 1, 10, 17, 1, 15, 0, 65, 0, 65, 0, 192, 65, 0, 252, 11, 0, 66, 0, 26, 11]));
 }
 
 // How many fonts a file has: those of a collection, or one.
@@ -88,7 +90,7 @@ export class Mkstrike {
     this.font = { at, length: BigInt(bytes.length), face };
   }
 
-  // ---- memory: addresses are BigInts, as the module's memory has 64 bits
+  // ---- memory: addresses are BigInts, since the module's code has addresses of 64 bits
 
   room(size) {
     const at = this.calls.page_alloc(BigInt(Math.max(size, 1)));

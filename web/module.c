@@ -1,5 +1,5 @@
-/* What the WebAssembly module needs beside the bitcode of mkstrike_c, since a page has no C library: memory for the library and for the
- * page, memcpy and its kin, and products and shifts of 128 bits. No proof covers this file. For one thread.
+/* What a WebAssembly module needs beside the bitcode of mkstrike_c or mkstrike, since it has no C library: memory for that code and for the
+ * script, memcpy and its kin, and products and shifts of 128 bits. No proof covers this file. For one thread.
  *
  * Blocks of memory are powers of two, with a list of free ones for each size. The module's memory grows when no free block is large
  * enough, and never shrinks: a page that wants it back makes a new instance. */
@@ -7,7 +7,7 @@ typedef __SIZE_TYPE__ size_t; /* the kit's compiler has no headers */
 typedef __UINT64_TYPE__ uint64_t;
 #define NULL ((void *)0)
 
-_Static_assert(sizeof(size_t) == 8, "for WebAssembly with 64-bit memory");
+_Static_assert(sizeof(size_t) == 8, "for WebAssembly with addresses of 64 bits: tools/web_memory32.py makes the memory 32-bit");
 
 /* Whether memory was given, and where it is. */
 struct given {
@@ -82,13 +82,22 @@ struct given rattle_realloc(unsigned char *at, size_t kept, size_t size, size_t 
     return got;
 }
 
-/* Memory for what the page hands to a call and takes from it: its address, or 0 if there is none. */
+/* Memory for what the script hands to a call and takes from it: its address, or 0 if there is none. */
 __attribute__((export_name("page_alloc"))) unsigned char *page_alloc(size_t size) {
     struct given got = rattle_alloc(size, 16);
     return got.ok ? got.at : NULL;
 }
 
 __attribute__((export_name("page_free"))) void page_free(unsigned char *at) { rattle_dealloc(at); }
+
+/* What the program asks about the processor: it has all that there is to have. */
+const unsigned char *__x86_get_cpuid_feature_leaf(unsigned leaf);
+const unsigned char *__x86_get_cpuid_feature_leaf(unsigned leaf) {
+    static unsigned char all[64] __attribute__((aligned(16)));
+    (void)leaf;
+    __builtin_memset(all, 255, sizeof all);
+    return all;
+}
 
 /* Numbers of 128 bits, as two halves. */
 typedef union {

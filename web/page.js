@@ -1,5 +1,5 @@
 // The page: reads the controls, hands jobs to the worker, and draws what comes back.
-import { facesOf, hasMemory64, lineOf, HINTED, DROPOUT, DROPOUTS, MISSING, DONE, NONE, MOST_PPEM, MOST_BYTES } from './mkstrike.js';
+import { canRun, facesOf, lineOf, HINTED, DROPOUT, DROPOUTS, MISSING, DONE, NONE, MOST_PPEM, MOST_BYTES } from './mkstrike.js';
 import { SETS, boxOf, charsOf, charsOfText, curvesOf, eachPixel, identifierOf, listOf, nameOf, shownName } from './outputs.js';
 import { KINDS, REFUSALS } from './refusals.js';
 import { fromWoff, isWoff } from './woff.js';
@@ -725,10 +725,7 @@ function cannot(text) {
 }
 
 async function start() {
-  if (!hasMemory64()) {
-    return cannot('This browser has no WebAssembly with 64-bit memory, which this page needs. Chrome and Edge have it from version 133, '
-      + 'Firefox from 134.');
-  }
+  if (!canRun()) return cannot('This browser has no WebAssembly, or one that is too old for this page. Browsers have it since 2021.');
   try {
     state.module = await bytesOf('module', '../dist/mkstrike.wasm');
   } catch (fault) {
