@@ -18,9 +18,9 @@ gate:
 dist:
 	tools/make_dist
 
-# Debian packages and a tarball, of dist/
+# Debian packages, a wheel and a tarball, of dist/
 packages:
-	tools/package
+	packaging/build
 
 # the edits that must fail and that the gate leaves out, hours of proofs
 planted:

@@ -6,10 +6,11 @@
     library-sources SHA256     the hash of the sources of crates/mkstrike_c and of what it stands on
     libmkstrike_c.a SHA256     the hash of the file dist/libmkstrike_c.a
     libmkstrike_c-aarch64.a SHA256     that of the same library for 64-bit ARM, if dist/ has it
-    module-sources SHA256      the hash of what the module of the page is made of, as tools/web_module.py makes it
-    mkstrike.wasm SHA256       the hash of the file dist/mkstrike.wasm
+    module-sources SHA256      the hash of what the WebAssembly modules are made of, as tools/web_module.py makes them
+    mkstrike.wasm SHA256       the hash of the file dist/mkstrike.wasm, the library's calls
+    program.wasm SHA256        the hash of the file dist/program.wasm, the program
 
-The last two lines are there if the module is. dist/mkstrike.html needs none: tools/check_dist makes it anew from web/ and the module.
+The last lines are there if the modules are. dist/mkstrike.html needs none: tools/check_dist makes it anew from web/ and the module.
 """
 import collections
 import hashlib
@@ -28,11 +29,13 @@ MOST = 1000000  # bytes of a file of dist/
 FORM = re.compile(r"sources ([0-9a-f]{64})\nkit ([^\n]+)\nmkstrike ([0-9a-f]{64})\n"
                   r"library-sources ([0-9a-f]{64})\nlibmkstrike_c\.a ([0-9a-f]{64})\n"
                   r"(?:libmkstrike_c-aarch64\.a ([0-9a-f]{64})\n)?"
-                  r"(?:module-sources ([0-9a-f]{64})\nmkstrike\.wasm ([0-9a-f]{64})\n)?")
+                  r"(?:module-sources ([0-9a-f]{64})\nmkstrike\.wasm ([0-9a-f]{64})\n)?"
+                  r"(?:program\.wasm ([0-9a-f]{64})\n)?")
 PARTS = ("src", "specs", "proofs")  # the folders of a crate that have its sources
 
 FILES = ("manifest", "mkstrike", "libmkstrike_c.a")
-WEB_FILES = ("mkstrike.wasm", "mkstrike.html")
+MODULES = ("mkstrike.wasm", "program.wasm")
+WEB_FILES = ("mkstrike.html",) + MODULES
 
 
 class Fault(Exception):
@@ -119,8 +122,8 @@ def write(path, data, mode=0o644):
     os.replace(new, path)
 
 
-Manifest = collections.namedtuple("Manifest", "sources kit program library_sources library arm module_sources module",
-                                  defaults=(None, None, None))
+Manifest = collections.namedtuple("Manifest", "sources kit program library_sources library arm module_sources module program_module",
+                                  defaults=(None,) * 4)
 
 
 def manifest_of(manifest):
@@ -129,7 +132,9 @@ def manifest_of(manifest):
     if manifest.arm:
         text += "%s %s\n" % (ARM_ARCHIVE, manifest.arm)
     if manifest.module:
-        text += "module-sources %s\nmkstrike.wasm %s\n" % manifest[6:]
+        text += "module-sources %s\nmkstrike.wasm %s\n" % manifest[6:8]
+    if manifest.program_module:
+        text += "program.wasm %s\n" % manifest.program_module
     return text.encode()
 
 
@@ -144,7 +149,8 @@ def read_manifest():
 def look_at_dist():
     """Raises a fault unless dist/ has just its files, as they have to be, and the manifest is of the others."""
     manifest = read_manifest()
-    files = FILES + ((ARM_ARCHIVE,) if manifest.arm else ()) + (WEB_FILES if manifest.module else ())
+    named = ((ARM_ARCHIVE, manifest.arm), *zip(WEB_FILES, (manifest.module, manifest.module, manifest.program_module)))
+    files = FILES + tuple(name for name, it in named if it)
     for name in sorted(os.listdir(DIST)):
         if name not in FILES + (ARM_ARCHIVE,) + WEB_FILES:
             raise Fault("dist/%s has no place there" % name)
@@ -160,7 +166,7 @@ def look_at_dist():
         if (name == "mkstrike") != bool(seen.st_mode & 0o111):
             raise Fault("dist/%s is %sexecutable" % (name, "not " if name == "mkstrike" else ""))
     for name, named in (("mkstrike", manifest.program), ("libmkstrike_c.a", manifest.library), (ARM_ARCHIVE, manifest.arm),
-                        ("mkstrike.wasm", manifest.module)):
+                        *zip(MODULES, (manifest.module, manifest.program_module))):
         if named and named != sha256(read(os.path.join(DIST, name))):
             raise Fault("dist/%s is not the file that dist/manifest names by its hash" % name)
 

@@ -1,0 +1,879 @@
+/* Calls the C library as test_library.py asks, in place of a program that uses it. It has its own heap, which counts and can refuse.
+ *
+ *     check_c strike FONT PPEM MODE FIRST LAST      a strike, as `mkstrike make` writes it, with its line and its status; asked for with
+ *                                                   no room, with room enough, and with a byte too few
+ *     check_c glyphs FONT PPEM MODE FIRST LAST      each of these characters alone, packed and not, by its code point and by its glyph's
+ *                                                   number, against their strike
+ *     check_c many FONT PPEM MODE FIRST LAST        these characters in one call, in another order and some of them twice: each against
+ *                                                   mkstrike_glyph, its refusal too, and against their strike
+ *     check_c requests FONT                         requests of many characters that are refused before the font is opened
+ *     check_c calls FONT                            the other calls, what they refuse, unknown bits of modes, and NULL
+ *     check_c refuse FONT                           each request for memory refused in turn
+ *     check_c threads FONT                          eight threads at once
+ *     check_c stack FONT KIB                        in a thread with a stack of that many KiB
+ *     check_c reasons                               the name of each number
+ *
+ * With -DHEAP_BESIDE the heap is that of another file, and `refuse` is left out. */
+#define _POSIX_C_SOURCE 200112L
+#include "mkstrike.h"
+#include <pthread.h>
+#include <stdio.h>
+#include <stdlib.h>
+#include <string.h>
+
+/* ---- the heap */
+
+#ifndef HEAP_BESIDE
+
+struct given {
+    size_t ok;
+    void *at;
+};
+
+static char nothing[16];
+static __thread long asked, refused_at, held;
+
+static struct given given(void *at) {
+    struct given it;
+    it.ok = at != NULL;
+    it.at = at != NULL ? at : (void *)nothing;
+    return it;
+}
+
+#ifdef __cplusplus
+extern "C" {
+#endif
+struct given rattle_alloc(size_t size, size_t align);
+struct given rattle_realloc(void *at, size_t kept, size_t size, size_t align);
+void rattle_dealloc(void *at);
+
+struct given rattle_alloc(size_t size, size_t align) {
+    struct given it;
+    if (++asked == refused_at) return given(NULL);
+    it = given(malloc(size ? size : align));
+    held += it.ok != 0;
+    return it;
+}
+
+struct given rattle_realloc(void *at, size_t kept, size_t size, size_t align) {
+    (void)kept;
+    return ++asked == refused_at ? given(NULL) : given(realloc(at, size ? size : align));
+}
+
+void rattle_dealloc(void *at) {
+    held--;
+    free(at);
+}
+#ifdef __cplusplus
+}
+#endif
+#endif
+
+/* ---- what is asked for */
+
+struct request {
+    const uint8_t *font;
+    size_t font_len;
+    uint16_t ppem;
+    uint32_t mode;
+    uint32_t face;
+    uint32_t *chars;
+    size_t chars_len;
+    uint32_t *block;
+    size_t block_len;
+};
+
+/* A mode by the names of the header. Its letters are h for hinted, and d, n or f for drop-out control: by left pixels, by the nearer
+   ones, and as the font asks. */
+static uint32_t mode_of(const char *letters) {
+    uint32_t mode = 0;
+    for (; *letters != 0; letters++)
+        mode |= *letters == 'h'   ? MKSTRIKE_HINTED
+                : *letters == 'd' ? MKSTRIKE_DROPOUT
+                : *letters == 'n' ? MKSTRIKE_DROPOUT_NEAR
+                                  : MKSTRIKE_DROPOUT_FONT;
+    return mode;
+}
+
+static void stop(const char *why) {
+    printf("check_c: %s\n", why);
+    exit(3);
+}
+
+static void *bytes(size_t n) {
+    void *at = malloc(n ? n : 1);
+    if (at == NULL) stop("out of memory");
+    return at;
+}
+
+static struct request request_of(const char *name, int ppem, uint32_t mode, uint32_t first, uint32_t last) {
+    struct request r;
+    FILE *file = fopen(name, "rb");
+    uint8_t *font;
+    uint32_t i;
+    if (file == NULL || fseek(file, 0, SEEK_END) != 0) stop("no font");
+    r.font_len = (size_t)ftell(file);
+    rewind(file);
+    font = (uint8_t *)bytes(r.font_len);
+    if (fread(font, 1, r.font_len, file) != r.font_len) stop("no font");
+    fclose(file);
+    r.font = font;
+    r.face = 0;
+    r.ppem = (uint16_t)ppem;
+    r.mode = mode;
+    r.chars_len = last - first + 1;
+    r.chars = (uint32_t *)bytes(r.chars_len * sizeof *r.chars);
+    for (i = 0; i < r.chars_len; i++) r.chars[i] = first + i;
+    r.block = NULL;
+    r.block_len = 0;
+    return r;
+}
+
+/* The font's block, for calls by it. */
+static void prepare(struct request *r) {
+    if (mkstrike_prepare(r->font, r->font_len, r->face, r->ppem, r->mode, NULL, 0, &r->block_len, NULL) != 0) stop("no size of a block");
+    r->block = (uint32_t *)bytes(r->block_len * sizeof *r->block);
+    if (mkstrike_prepare(r->font, r->font_len, r->face, r->ppem, r->mode, r->block, r->block_len, &r->block_len, NULL) != 0) stop("no block");
+}
+
+static uint32_t make(const struct request *r, uint8_t *out, size_t out_len, struct mkstrike_told *told, struct mkstrike_refused *refused) {
+    return mkstrike_make(r->font, r->font_len, r->face, r->ppem, r->mode, r->chars, r->chars_len, "mkstrike", 8, out, out_len, told, refused);
+}
+
+/* A strike's text in as many bytes as it has. */
+static uint8_t *text_of(const struct request *r, size_t *len) {
+    struct mkstrike_told told;
+    struct mkstrike_refused refused;
+    uint8_t none = 7, *text;
+    if (make(r, &none, 0, &told, &refused) != 0 || none != 7) stop("no strike");
+    *len = told.bytes;
+    text = (uint8_t *)bytes(*len);
+    if (make(r, text, *len, &told, &refused) != 0 || told.bytes != *len) stop("no strike the second time");
+    return text;
+}
+
+/* ---- a strike */
+
+static void put_program(uint32_t program) {
+    if (program == MKSTRIKE_FPGM) fprintf(stderr, " fpgm");
+    else if (program == MKSTRIKE_PREP) fprintf(stderr, " prep");
+    else fprintf(stderr, " glyph %u", (unsigned)program);
+}
+
+/* The line that mkstrike writes of a refusal. */
+static void put_refusal(const struct mkstrike_refused *it) {
+    char name[21];
+    size_t len = mkstrike_reason(it->number, name, sizeof name);
+    int shift;
+    if (len != strlen(name)) stop("a name of another length");
+    fprintf(stderr, "mkstrike: %u %s", (unsigned)it->number, name);
+    if (it->table != 0) {
+        fputc(' ', stderr);
+        for (shift = 24; shift >= 0; shift -= 8) fputc((int)(it->table >> shift & 255), stderr);
+    }
+    if (it->glyph != MKSTRIKE_NONE) fprintf(stderr, " %u", (unsigned)it->glyph);
+    if (it->during != MKSTRIKE_NONE) {
+        fprintf(stderr, " during");
+        put_program(it->during);
+        fprintf(stderr, " in");
+        put_program(it->program);
+        fprintf(stderr, " at %llu opcode %02X", (unsigned long long)it->address, (unsigned)it->opcode);
+    }
+    fputc('\n', stderr);
+}
+
+/* With a byte too few the rest is the same, and what lies after the buffer is as it was. */
+static void make_short(const struct request *r, const uint8_t *text, size_t len, const struct mkstrike_told *whole) {
+    struct mkstrike_told told;
+    struct mkstrike_refused refused;
+    uint8_t *cut = (uint8_t *)bytes(len + 1);
+    size_t room;
+    for (room = len - 1; room <= len + 1; room++) {
+        memset(cut, 7, len + 1);
+        memset(&told, 0, sizeof told);
+        if (make(r, cut, room, &told, &refused) != 0) stop("a strike that is refused where there is no room");
+        if (memcmp(cut, text, room < len ? room : len) != 0) stop("not the beginning of the text");
+        if ((room < len && cut[room] != 7) || cut[len] != 7) stop("a byte after the text was changed");
+        if (told.bytes != whole->bytes || told.glyphs != whole->glyphs || told.steps != whole->steps) stop("other numbers");
+    }
+    free(cut);
+}
+
+static int strike(const struct request *r) {
+    struct mkstrike_told told, before;
+    struct mkstrike_refused refused, kept;
+    uint8_t none = 7, *text;
+    uint32_t status;
+    memset(&told, 1, sizeof told);
+    memset(&refused, 2, sizeof refused);
+    before = told;
+    kept = refused;
+    status = make(r, &none, 0, &told, &refused);
+    if (none != 7) stop("a byte after no room was changed");
+    if (status != 0) {
+        if (memcmp(&told, &before, sizeof told) != 0) stop("a refusal changed what is told");
+        if (refused.number != status) stop("two numbers of a refusal");
+        put_refusal(&refused);
+        return 1;
+    }
+    if (memcmp(&refused, &kept, sizeof refused) != 0) stop("a strike changed the refusal");
+    text = (uint8_t *)bytes(told.bytes);
+    if (make(r, text, told.bytes, &told, &refused) != 0) stop("refused the second time");
+    make_short(r, text, told.bytes, &told);
+    fwrite(text, 1, told.bytes, stdout);
+    fprintf(stderr, "mkstrike: glyphs %u missing %u strays %llu steps %llu\n", (unsigned)told.glyphs, (unsigned)told.missing,
+        (unsigned long long)told.strays, (unsigned long long)told.steps);
+    free(text);
+    return 0;
+}
+
+/* ---- glyphs */
+
+/* The lines of a glyph in a strike, from its numbers and packed pixels. */
+static size_t lines_of(char *to, uint32_t code, const struct mkstrike_glyph_info *g, const uint8_t *pixels) {
+    char *at = to;
+    size_t i, j;
+    at += sprintf(at, "STARTCHAR %s%04lX\nENCODING %lu\nSWIDTH %d 0\nDWIDTH %d 0\nBBX %u %u %d %d\nBITMAP\n", code > 0xFFFF ? "u" : "uni",
+        (unsigned long)code, (unsigned long)code, (int)g->swidth, (int)g->dwidth, (unsigned)g->width, (unsigned)g->height, (int)g->left,
+        (int)g->bottom);
+    for (i = 0; i < g->height; i++) {
+        for (j = 0; j < g->stride; j++) at += sprintf(at, "%02X", pixels[i * g->stride + j]);
+        *at++ = '\n';
+    }
+    at += sprintf(at, "ENDCHAR\n");
+    return (size_t)(at - to);
+}
+
+/* The bytes of pixels are the bits of packed ones. */
+static void same_pixels(const struct mkstrike_glyph_info *g, const uint8_t *packed, const uint8_t *pixels) {
+    size_t i, j;
+    for (i = 0; i < g->height; i++)
+        for (j = 0; j < g->width; j++)
+            if (pixels[i * g->width + j] != ((packed[i * g->stride + j / 8] >> (7 - j % 8) & 1) ? 255 : 0)) stop("other pixels");
+}
+
+static uint32_t one(const struct request *r, uint32_t code, uint32_t packed, uint8_t *pixels, size_t room, struct mkstrike_glyph_info *g) {
+    struct mkstrike_refused refused;
+    return mkstrike_glyph(r->font, r->font_len, r->face, r->ppem, r->mode | packed, code, pixels, room, g, &refused);
+}
+
+/* One character, packed or not, in a buffer of its own size; and with a byte too few, which must not be touched. */
+static uint8_t *pixels_of(const struct request *r, uint32_t code, uint32_t packed, struct mkstrike_glyph_info *g) {
+    uint8_t none = 7, *pixels;
+    size_t size, i;
+    if (one(r, code, packed, &none, 0, g) != 0) stop("no glyph");
+    if (g->stride != (packed ? (g->width + 7) / 8 : g->width)) stop("another stride");
+    size = (size_t)g->stride * g->height;
+    if (size == 0) return (uint8_t *)bytes(1);
+    if (none != 7) stop("a byte after no room was changed");
+    pixels = (uint8_t *)bytes(size);
+    memset(pixels, 7, size);
+    if (one(r, code, packed, pixels, size - 1, g) != 0) stop("no glyph without room");
+    for (i = 0; i < size; i++)
+        if (pixels[i] != 7) stop("pixels without room");
+    if (one(r, code, packed, pixels, size, g) != 0) stop("no glyph with room");
+    return pixels;
+}
+
+/* A character's glyph by its number is the character's. */
+static void same_by_id(const struct request *r, uint32_t code, const struct mkstrike_glyph_info *due, const uint8_t *pixels) {
+    size_t size = (size_t)due->stride * due->height;
+    uint8_t *found = (uint8_t *)bytes(size);
+    struct mkstrike_glyph_info g;
+    uint16_t glyph = 7;
+    if (mkstrike_glyph_ids(r->font, r->font_len, r->face, &code, 1, &glyph, 1, NULL) != 0 || glyph == 0) stop("no glyph of a character");
+    if (mkstrike_glyph_by_id(r->font, r->font_len, r->face, r->ppem, r->mode | MKSTRIKE_PACKED, glyph, found, size, &g, NULL) != 0)
+        stop("no glyph by its number");
+    if (memcmp(&g, due, sizeof g) != 0 || memcmp(found, pixels, size) != 0) stop("another glyph by its number");
+    free(found);
+}
+
+static int glyphs(const struct request *r) {
+    size_t len, at = 0, n, i;
+    uint8_t *text = text_of(r, &len);
+    char *lines = (char *)bytes(len + 300);
+    struct mkstrike_glyph_info g, h;
+    unsigned long count = 0;
+    while (at < len && memcmp(text + at, "STARTCHAR", 9) != 0) at++;
+    for (i = 0; i < r->chars_len; i++) {
+        uint8_t none = 7, *packed, *pixels;
+        uint32_t status = one(r, r->chars[i], MKSTRIKE_PACKED, &none, 1, &g);
+        if (status == MKSTRIKE_MISSING && none == 7) continue;
+        if (status != 0) stop("a character that the strike has is refused");
+        packed = pixels_of(r, r->chars[i], MKSTRIKE_PACKED, &g);
+        pixels = pixels_of(r, r->chars[i], 0, &h);
+        same_pixels(&g, packed, pixels);
+        if (count % 8 == 0) same_by_id(r, r->chars[i], &g, packed);
+        n = lines_of(lines, r->chars[i], &g, packed);
+        if (len - at < n || memcmp(text + at, lines, n) != 0) stop("a glyph that is not the strike's");
+        at += n;
+        count++;
+        free(packed);
+        free(pixels);
+    }
+    if (len - at != 8 || memcmp(text + at, "ENDFONT\n", 8) != 0) stop("glyphs of the strike are left");
+    free(text);
+    free(lines);
+    printf("%lu\n", count);
+    return 0;
+}
+
+/* ---- outlines */
+
+static uint32_t outlined(const struct request *r, uint32_t glyph, struct mkstrike_outline_point *points, size_t points_len, uint16_t *ends,
+    size_t ends_len, struct mkstrike_outlined *told, struct mkstrike_refused *refused) {
+    return mkstrike_outline(r->font, r->font_len, r->face, r->ppem, r->mode, glyph, points, points_len, ends, ends_len, told, refused);
+}
+
+/* With a point and a contour too few the others are the same, and what lies after them is as it was. */
+static void outline_short(const struct request *r, uint32_t glyph, const struct mkstrike_outline_point *points, const uint16_t *ends,
+    const struct mkstrike_outlined *whole) {
+    size_t n = whole->points, m = whole->contours;
+    struct mkstrike_outline_point *some = (struct mkstrike_outline_point *)bytes(n * sizeof *some);
+    uint16_t *few = (uint16_t *)bytes(m * sizeof *few);
+    struct mkstrike_outlined told;
+    if (n == 0 || m == 0) stop("an outline with points and no contours");
+    memset(some, 7, n * sizeof *some);
+    memset(few, 7, m * sizeof *few);
+    memset(&told, 0, sizeof told);
+    if (outlined(r, glyph, some, n - 1, few, m - 1, &told, NULL) != 0) stop("an outline that is refused where there is no room");
+    if (memcmp(some, points, (n - 1) * sizeof *some) != 0 || memcmp(few, ends, (m - 1) * sizeof *few) != 0) stop("other points without room");
+    if (some[n - 1].x != 0x07070707 || few[m - 1] != 0x0707) stop("points without room");
+    if (told.points != n || told.contours != m || told.advance != whole->advance) stop("other counts of an outline");
+    free(some);
+    free(few);
+}
+
+/* The outline of a glyph, in buffers of just its size, as mkstrike outline writes it. */
+static int outline(const struct request *r, uint32_t glyph) {
+    struct mkstrike_outlined told, again;
+    struct mkstrike_refused refused;
+    struct mkstrike_outline_point *points;
+    uint16_t *ends;
+    size_t i, contour = 0;
+    if (outlined(r, glyph, NULL, 0, NULL, 0, &told, &refused) != 0) {
+        put_refusal(&refused);
+        return 1;
+    }
+    points = (struct mkstrike_outline_point *)bytes(told.points * sizeof *points);
+    ends = (uint16_t *)bytes(told.contours * sizeof *ends);
+    if (outlined(r, glyph, points, told.points, ends, told.contours, &again, NULL) != 0) stop("no outline the second time");
+    if (again.points != told.points || again.contours != told.contours || again.advance != told.advance) stop("another outline");
+    if (told.points != 0) outline_short(r, glyph, points, ends, &told);
+    for (i = 0; i < told.points; i++) {
+        while (contour < told.contours && ends[contour] < i) contour++;
+        printf("%lu %lu %s %ld %ld\n", (unsigned long)contour, (unsigned long)i, points[i].on_curve == 1 ? "on" : "off", (long)points[i].x,
+            (long)points[i].y);
+    }
+    printf("advance %ld\n", (long)told.advance);
+    free(points);
+    free(ends);
+    return 0;
+}
+
+/* ---- many characters in one call */
+
+/* What a call of mkstrike_glyphs gave, in buffers of their own sizes. */
+struct many {
+    const uint32_t *chars;
+    size_t len;
+    uint32_t packed; /* MKSTRIKE_PACKED or 0 */
+    struct mkstrike_placed *glyphs;
+    uint8_t *pixels;
+    struct mkstrike_drawn drawn;
+    struct mkstrike_refused refused;
+};
+
+static uint32_t call_many(const struct request *r, struct many *it, size_t glyphs_len, size_t pixels_len) {
+    if (r->block != NULL)
+        return mkstrike_glyphs_prepared(r->font, r->font_len, r->face, r->ppem, r->mode | it->packed, r->block, r->block_len, it->chars, it->len,
+            it->glyphs, glyphs_len, it->pixels, pixels_len, &it->drawn, &it->refused);
+    return mkstrike_glyphs(r->font, r->font_len, r->face, r->ppem, r->mode | it->packed, it->chars, it->len, it->glyphs, glyphs_len,
+        it->pixels, pixels_len, &it->drawn, &it->refused);
+}
+
+/* With one entry or one byte too few all others are the same, and what lies after the buffer is as it was. */
+static void cut_many(const struct request *r, const struct many *whole) {
+    struct many it = *whole;
+    size_t glyphs = it.len * sizeof *it.glyphs, one = sizeof *it.glyphs;
+    if (it.len == 0 || it.drawn.bytes == 0) return;
+    it.glyphs = (struct mkstrike_placed *)bytes(glyphs);
+    it.pixels = (uint8_t *)bytes(it.drawn.bytes);
+    memset(it.glyphs, 7, glyphs);
+    memset(it.pixels, 7, it.drawn.bytes);
+    if (call_many(r, &it, it.len - 1, it.drawn.bytes - 1) != 0) stop("no glyphs in too small buffers");
+    if (memcmp(&it.drawn, &whole->drawn, sizeof it.drawn) != 0) stop("other counts in too small buffers");
+    if (memcmp(it.glyphs, whole->glyphs, glyphs - one) != 0) stop("other entries in too small a buffer");
+    if (memcmp(it.pixels, whole->pixels, it.drawn.bytes - 1) != 0) stop("other pixels in too small a buffer");
+    if (((uint8_t *)it.glyphs)[glyphs - one] != 7 || it.glyphs[it.len - 1].offset != (size_t)UINT64_C(0x0707070707070707))
+        stop("an entry after the buffer was changed");
+    if (it.pixels[it.drawn.bytes - 1] != 7) stop("a byte after the pixels was changed");
+    free(it.glyphs);
+    free(it.pixels);
+}
+
+/* These characters in one call; the status. The sizes are asked for first, with no room. */
+static uint32_t many_of(const struct request *r, struct many *it) {
+    struct mkstrike_placed no_entry;
+    uint8_t no_pixel = 7;
+    uint32_t status;
+    memset(&no_entry, 7, sizeof no_entry);
+    memset(&it->drawn, 7, sizeof it->drawn);
+    memset(&it->refused, 7, sizeof it->refused);
+    it->glyphs = &no_entry;
+    it->pixels = &no_pixel;
+    status = call_many(r, it, 0, 0);
+    if (no_pixel != 7 || no_entry.status != 0x07070707) stop("a buffer without room was changed");
+    if (status != 0) {
+        if (it->drawn.glyphs != 0x07070707 || it->refused.number != status) stop("another refusal of many");
+        it->glyphs = NULL;
+        it->pixels = NULL;
+        return status;
+    }
+    it->glyphs = (struct mkstrike_placed *)bytes(it->len * sizeof no_entry);
+    it->pixels = (uint8_t *)bytes(it->drawn.bytes);
+    memset(it->glyphs, 0, it->len * sizeof no_entry);
+    memset(&it->refused, 7, sizeof it->refused);
+    if (call_many(r, it, it->len, it->drawn.bytes) != 0) stop("no glyphs the second time");
+    cut_many(r, it);
+    return 0;
+}
+
+/* An entry is what mkstrike_glyph gives; returns what that returned, and the fields of its refusal. */
+static uint32_t same_entry(const struct request *r, uint32_t code, const struct many *it, const struct mkstrike_placed *entry,
+    struct mkstrike_refused *refused) {
+    struct mkstrike_glyph_info g, none = {0, 0, 0, 0, 0, 0, 0};
+    static uint8_t pixels[1 << 20];
+    uint32_t mode = r->mode | it->packed;
+    uint32_t status = mkstrike_glyph(r->font, r->font_len, r->face, r->ppem, mode, code, pixels, sizeof pixels, &g, refused);
+    if (status != entry->status) stop("another status of one of many");
+    if (memcmp(status == 0 ? &g : &none, &entry->glyph, sizeof g) != 0) stop("other numbers of one of many");
+    if (status == 0 && memcmp(it->pixels + entry->offset, pixels, (size_t)g.stride * g.height) != 0) stop("other pixels of one of many");
+    return status;
+}
+
+/* The first that was refused was told: as for it alone, with its index and its code point. If none was, nothing was told. */
+static void same_first(const struct many *it, size_t first, struct mkstrike_refused *due) {
+    if (first == it->len) {
+        memset(due, 7, sizeof *due);
+    } else {
+        if (due->index != MKSTRIKE_NONE || due->code != MKSTRIKE_NONE) stop("the index of one alone");
+        due->index = (uint32_t)first;
+        due->code = it->chars[first];
+    }
+    if (memcmp(due, &it->refused, sizeof *due) != 0) stop("another first refusal");
+}
+
+/* The entries lie one after the other, and the counts are theirs; each is what mkstrike_glyph gives. Of those that the font lacks only
+ * some are looked at, since each call runs the font's programs. */
+static void same_many(const struct request *r, const struct many *it) {
+    size_t i, at = 0, lacked = 0, refused = 0, first = it->len;
+    struct mkstrike_refused why, of_first;
+    for (i = 0; i < it->len; i++) {
+        const struct mkstrike_placed *entry = it->glyphs + i;
+        if (entry->offset != at) stop("pixels at another offset");
+        at += (size_t)entry->glyph.stride * entry->glyph.height;
+        lacked += entry->status == MKSTRIKE_MISSING;
+        refused += entry->status > MKSTRIKE_MISSING;
+        if (entry->status != MKSTRIKE_MISSING || lacked % 64 == 1)
+            if (same_entry(r, it->chars[i], it, entry, &why) > 1 && first == it->len) {
+                first = i;
+                of_first = why;
+            }
+    }
+    same_first(it, first, &of_first);
+    if (it->drawn.bytes != at || it->drawn.missing != lacked || it->drawn.refused != refused) stop("other counts of many");
+    if (it->drawn.glyphs != it->len - lacked - refused) stop("another count of glyphs");
+}
+
+/* A refusal of all is that of each alone. */
+static void same_refusal(const struct request *r, const struct many *it) {
+    struct mkstrike_refused due;
+    struct mkstrike_glyph_info g;
+    size_t i;
+    for (i = 0; i < it->len; i += 1 + it->len / 8) {
+        uint32_t status = mkstrike_glyph(r->font, r->font_len, r->face, r->ppem, r->mode, it->chars[i], NULL, 0, &g, &due);
+        if (status <= 1 || memcmp(&due, &it->refused, sizeof due) != 0) stop("many refused for another reason");
+    }
+}
+
+/* In rising order, each once, they are the strike's, or it is refused as the first of them is. */
+static void same_strike(const struct request *r, const struct many *it) {
+    size_t len, at = 0, n, i;
+    uint8_t *text;
+    char *lines;
+    if (it->drawn.refused != 0) {
+        struct mkstrike_refused refused;
+        if (make(r, NULL, 0, NULL, &refused) != it->refused.number) stop("another refusal of a strike");
+        refused.index = it->refused.index;
+        refused.code = it->refused.code;
+        if (memcmp(&refused, &it->refused, sizeof refused) != 0) stop("other fields of a strike's refusal");
+        return;
+    }
+    text = text_of(r, &len);
+    lines = (char *)bytes(len + 300);
+    while (at < len && memcmp(text + at, "STARTCHAR", 9) != 0 && memcmp(text + at, "ENDFONT", 7) != 0) at++;
+    for (i = 0; i < it->len; i++) {
+        const struct mkstrike_placed *entry = it->glyphs + i;
+        if (entry->status != 0) continue;
+        n = lines_of(lines, it->chars[i], &entry->glyph, it->pixels + entry->offset);
+        if (len - at < n || memcmp(text + at, lines, n) != 0) stop("one of many that is not the strike's");
+        at += n;
+    }
+    if (len - at != 8 || memcmp(text + at, "ENDFONT\n", 8) != 0) stop("many: glyphs of the strike are left");
+    free(text);
+    free(lines);
+}
+
+static void free_many(struct many *it) {
+    free(it->glyphs);
+    free(it->pixels);
+}
+
+/* The characters in an order that does not rise, and up to 500 of them again. */
+static uint32_t *shuffled(const struct request *r, size_t *len) {
+    size_t again = r->chars_len < 500 ? r->chars_len : 500, i;
+    uint32_t *chars, random = 41, swap;
+    if (r->chars_len + again > 65536) again = 65536 - r->chars_len;
+    *len = r->chars_len + again;
+    chars = (uint32_t *)bytes(*len * sizeof *chars);
+    for (i = 0; i < *len; i++) chars[i] = r->chars[i % r->chars_len];
+    for (i = *len - 1; i > 0; i--) {
+        size_t j = (random = random * 1664525 + 1013904223) % (i + 1);
+        swap = chars[i];
+        chars[i] = chars[j];
+        chars[j] = swap;
+    }
+    return chars;
+}
+
+static int many(const struct request *r) {
+    struct many it;
+    uint32_t *chars = shuffled(r, &it.len), status;
+    it.chars = chars;
+    it.packed = 0;
+    status = many_of(r, &it);
+    if (status != 0) same_refusal(r, &it);
+    else same_many(r, &it);
+    free_many(&it);
+    it.packed = MKSTRIKE_PACKED;
+    if (many_of(r, &it) != status) stop("another status packed");
+    if (status == 0) same_many(r, &it);
+    free_many(&it);
+    it.chars = r->chars;
+    it.len = r->chars_len;
+    if (many_of(r, &it) == 0) same_strike(r, &it);
+    else if (status == 0) stop("another status in another order");
+    printf("%u %lu %lu\n", (unsigned)status, status == 0 ? (unsigned long)it.drawn.glyphs : 0ul,
+        status == 0 ? (unsigned long)it.drawn.refused : 0ul);
+    free_many(&it);
+    free(chars);
+    return 0;
+}
+
+/* The size goes before the characters, the characters before the font, and nothing is written. */
+static int requests(struct request *r) {
+    static uint32_t chars[65537];
+    struct many it;
+    size_t font_len = r->font_len;
+    it.chars = chars;
+    it.packed = 0;
+    for (it.len = 0; it.len < 65537; it.len++) chars[it.len] = 0x20;
+    if (many_of(r, &it) != MKSTRIKE_BAD_CHARS) stop("too many characters");
+    r->font_len = 0;
+    if (many_of(r, &it) != MKSTRIKE_BAD_CHARS) stop("too many characters, and no font");
+    r->ppem = 0;
+    if (many_of(r, &it) != MKSTRIKE_BAD_SIZE) stop("no size");
+    r->mode = 16;
+    if (many_of(r, &it) != MKSTRIKE_BAD_MODE) stop("no mode");
+    r->mode = 0;
+    r->ppem = 16;
+    it.len = 65536;
+    if (many_of(r, &it) != MKSTRIKE_NOT_TRUE_TYPE) stop("no font");
+    r->font_len = font_len;
+    if (many_of(r, &it) != 0 || it.drawn.glyphs != 65536) stop("as many characters as there may be");
+    free_many(&it);
+    chars[65535] = 0x110000;
+    if (many_of(r, &it) != MKSTRIKE_BAD_CHARS) stop("a number that is no character");
+    it.len = 0;
+    if (many_of(r, &it) != 0 || it.drawn.bytes + it.drawn.glyphs + it.drawn.missing != 0) stop("no character");
+    free_many(&it);
+    return 0;
+}
+
+/* ---- the other calls */
+
+/* Each bit that is no mode, and two of drop-out control, are refused by each call that takes a mode, whatever else is wrong, and nothing else is written. */
+static void modes(const struct request *r) {
+    struct mkstrike_refused refused, due;
+    int bit, call;
+    memset(&due, 0xFF, sizeof due);
+    due.number = MKSTRIKE_BAD_MODE;
+    due.table = due.opcode = 0;
+    due.address = 0;
+    for (bit = 2; bit < 32; bit++)
+        for (call = 0; call < 5; call++) {
+            uint32_t mode = (UINT32_C(1) << bit) | (uint32_t)(bit & 3), status;
+            if (mode >> 8 == 1 && call != 0) continue; /* packed */
+            memset(&refused, 7, sizeof refused);
+            if (call == 0) status = mkstrike_make(r->font, 0, 0, 0, mode, NULL, 0, NULL, 0, NULL, 0, NULL, &refused);
+            else if (call == 1) status = mkstrike_glyph(r->font, 0, 0, 0, mode, 0xFFFFFFFF, NULL, 0, NULL, &refused);
+            else if (call == 2) status = mkstrike_glyph_by_id(r->font, 0, 0, 0, mode, 0, NULL, 0, NULL, &refused);
+            else if (call == 3) status = mkstrike_glyphs(r->font, 0, 0, 0, mode, NULL, 0, NULL, 0, NULL, 0, NULL, &refused);
+            else status = mkstrike_outline(r->font, 0, 0, 0, mode, 0, NULL, 0, NULL, 0, NULL, &refused);
+            if (status != MKSTRIKE_BAD_MODE || memcmp(&refused, &due, sizeof due) != 0) stop("a bit of a mode that is not refused");
+        }
+    for (call = 0; call < 4; call++) {
+        static const uint32_t several[] = {MKSTRIKE_DROPOUT | MKSTRIKE_DROPOUT_NEAR, MKSTRIKE_DROPOUT | MKSTRIKE_DROPOUT_FONT,
+            MKSTRIKE_DROPOUT_NEAR | MKSTRIKE_DROPOUT_FONT, MKSTRIKE_DROPOUT | MKSTRIKE_DROPOUT_NEAR | MKSTRIKE_DROPOUT_FONT};
+        if (mkstrike_glyph(r->font, 0, 0, 0, several[call], 0, NULL, 0, NULL, NULL) != MKSTRIKE_BAD_MODE)
+            stop("several bits of drop-out control");
+    }
+}
+
+/* The numbers of glyphs: each character's, as many as fit; and what is refused. */
+static void ids(const struct request *r) {
+    uint32_t chars[300], far = 0x110000;
+    uint16_t all[300], some[300];
+    struct mkstrike_refused refused;
+    struct mkstrike_glyph_info g;
+    size_t i, room;
+    for (i = 0; i < 300; i++) chars[i] = (uint32_t)(i * 37 % 300);
+    if (mkstrike_glyph_ids(r->font, r->font_len, r->face, chars, 300, all, 300, &refused) != 0) stop("no numbers of glyphs");
+    for (i = 0; i < 300; i++)
+        if ((all[i] == 0) != (one(r, chars[i], 0, NULL, 0, &g) == MKSTRIKE_MISSING)) stop("the number of a glyph that is not there");
+    for (room = 0; room < 300; room += 23) {
+        memset(some, 7, sizeof some);
+        if (mkstrike_glyph_ids(r->font, r->font_len, r->face, chars, 300, some, room, NULL) != 0) stop("no numbers in a small buffer");
+        if (memcmp(some, all, room * sizeof *some) != 0 || some[room] != 0x0707) stop("other numbers in a small buffer");
+    }
+    if (mkstrike_glyph_ids(r->font, r->font_len, r->face, &far, 1, all, 1, &refused) != MKSTRIKE_BAD_CHARS) stop("a number of no character");
+    if (mkstrike_glyph_ids(r->font, 0, r->face, chars, 1, all, 1, &refused) != MKSTRIKE_NOT_TRUE_TYPE) stop("numbers of no font");
+}
+
+/* What a font is: its numbers, and a glyph for each number below its count and for no other. */
+static void font_told(const struct request *r) {
+    struct mkstrike_font_info info;
+    struct mkstrike_glyph_info g;
+    struct mkstrike_refused refused;
+    uint32_t past[] = {0, 65535, 65536, 0xFFFFFFFF, 65536 + 3}, i;
+    if (mkstrike_font(r->font, r->font_len, r->face, r->ppem, &info, &refused) != 0) stop("nothing of a font");
+    if (info.glyphs == 0 || info.glyphs > 65535) stop("a number of glyphs");
+    printf("%d %d %d %u\n", (int)info.ascent, (int)info.descent, (int)info.line_gap, (unsigned)info.glyphs);
+    if (mkstrike_glyph_by_id(r->font, r->font_len, r->face, r->ppem, 0, info.glyphs - 1, NULL, 0, &g, &refused) != 0) stop("no last glyph");
+    past[0] = info.glyphs;
+    for (i = 0; i < sizeof past / sizeof *past; i++)
+        if (mkstrike_glyph_by_id(r->font, r->font_len, r->face, r->ppem, 0, past[i], NULL, 0, &g, &refused) != MKSTRIKE_BAD_GLYPH_NUMBER ||
+            refused.glyph != (past[i] < 65535 ? past[i] : 65535))
+            stop("a glyph that the font does not have");
+    if (mkstrike_font(r->font, r->font_len, r->face, 0, &info, &refused) != MKSTRIKE_BAD_SIZE) stop("a font without a size");
+    if (mkstrike_font(r->font, r->font_len, 1, 16, &info, &refused) != MKSTRIKE_NO_FACE) stop("a second font");
+}
+
+/* NULL for each buffer of nothing, and for each struct. */
+static void nulls(const struct request *r) {
+    struct mkstrike_glyph_info g;
+    struct mkstrike_drawn drawn;
+    struct mkstrike_told told;
+    size_t len = mkstrike_reason(52, NULL, 0);
+    uint32_t code = 'A', none = 0;
+    if (len != strlen("GlyphTooLarge")) stop("a name and no buffer");
+    if (mkstrike_font(NULL, 0, 0, 16, NULL, NULL) != MKSTRIKE_NOT_TRUE_TYPE) stop("NULL, mkstrike_font");
+    if (mkstrike_font(r->font, r->font_len, 0, 16, NULL, NULL) != 0) stop("NULL, mkstrike_font");
+    if (mkstrike_glyph_ids(r->font, r->font_len, 0, NULL, 0, NULL, 0, NULL) != 0) stop("NULL, mkstrike_glyph_ids");
+    if (mkstrike_glyph(r->font, r->font_len, 0, 16, 0, code, NULL, 0, &g, NULL) != 0 || g.height == 0) stop("NULL, mkstrike_glyph");
+    if (mkstrike_glyph(r->font, r->font_len, 0, 16, 0, code, NULL, 0, NULL, NULL) != 0) stop("NULL, mkstrike_glyph");
+    if (mkstrike_glyph(NULL, 0, 0, 16, 0, code, NULL, 0, NULL, NULL) != MKSTRIKE_NOT_TRUE_TYPE) stop("NULL, mkstrike_glyph");
+    if (mkstrike_glyph_by_id(r->font, r->font_len, 0, 16, 0, 0, NULL, 0, NULL, NULL) != 0) stop("NULL, mkstrike_glyph_by_id");
+    if (mkstrike_outline(r->font, r->font_len, 0, 16, 0, 0, NULL, 0, NULL, 0, NULL, NULL) != 0) stop("NULL, mkstrike_outline");
+    if (mkstrike_outline(NULL, 0, 0, 16, 0, 0, NULL, 0, NULL, 0, NULL, NULL) != MKSTRIKE_NOT_TRUE_TYPE) stop("NULL, mkstrike_outline");
+    if (mkstrike_glyphs(r->font, r->font_len, 0, 16, 0, &code, 1, NULL, 0, NULL, 0, &drawn, NULL) != 0 || drawn.bytes == 0)
+        stop("NULL, mkstrike_glyphs");
+    if (mkstrike_glyphs(r->font, r->font_len, 0, 16, 0, NULL, 0, NULL, 0, NULL, 0, NULL, NULL) != 0) stop("NULL, mkstrike_glyphs");
+    if (mkstrike_make(r->font, r->font_len, 0, 16, 0, &code, 1, "a", 1, NULL, 0, &told, NULL) != 0 || told.glyphs != 1)
+        stop("NULL, mkstrike_make");
+    if (mkstrike_make(r->font, r->font_len, 0, 16, 0, &none, 0, NULL, 0, NULL, 0, NULL, NULL) != MKSTRIKE_BAD_NAME)
+        stop("NULL, mkstrike_make");
+    if (mkstrike_make(r->font, r->font_len, 0, 16, 0, NULL, 0, "a", 1, NULL, 0, NULL, NULL) != 0) stop("NULL, mkstrike_make");
+}
+
+static int calls(const struct request *r) {
+    if (mkstrike_version() != MKSTRIKE_VERSION) stop("another release");
+    if (sizeof(void *) == 8 && (sizeof(struct mkstrike_refused) != 40 || sizeof(struct mkstrike_font_info) != 16 ||
+            sizeof(struct mkstrike_glyph_info) != 28 || sizeof(struct mkstrike_placed) != 40 || sizeof(struct mkstrike_drawn) != 24 ||
+            sizeof(struct mkstrike_told) != 32 || sizeof(struct mkstrike_outline_point) != 12 || sizeof(struct mkstrike_outlined) != 24))
+        stop("another size of a struct");
+    font_told(r);
+    ids(r);
+    modes(r);
+    nulls(r);
+    return 0;
+}
+
+/* ---- memory, threads and the stack */
+
+#ifndef HEAP_BESIDE
+/* Each request for memory is refused in turn; the call must say so, change nothing and give back what it took. A strike that has no memory
+   for the lines that it keeps is made all the same. */
+static long refuse_each(const struct request *r, char call) {
+    struct mkstrike_told told;
+    struct mkstrike_refused refused;
+    struct mkstrike_glyph_info g;
+    struct mkstrike_drawn drawn;
+    struct mkstrike_outlined told_of;
+    static struct mkstrike_outline_point points[256], points_before[256];
+    static uint16_t ends[64], ends_before[64];
+    static struct mkstrike_placed placed[256], placed_before[256];
+    static uint8_t out[1 << 20], before[1 << 20], whole[1 << 20];
+    size_t need;
+    long n;
+    memset(whole, 7, sizeof whole);
+    if (call == 'm' && make(r, whole, sizeof whole, &told, &refused) != 0) stop("no strike without refusals");
+    for (n = 1;; n++) {
+        uint32_t status;
+        memset(out, 7, sizeof out);
+        memset(before, 7, sizeof before);
+        memset(placed, 7, sizeof placed);
+        memset(placed_before, 7, sizeof placed);
+        memset(points, 7, sizeof points);
+        memset(points_before, 7, sizeof points);
+        memset(ends, 7, sizeof ends);
+        memset(ends_before, 7, sizeof ends);
+        asked = held = 0;
+        refused_at = n;
+        if (call == 'm')
+            status = make(r, out, sizeof out, &told, &refused);
+        else if (call == 'g')
+            status = mkstrike_glyph(r->font, r->font_len, r->face, r->ppem, r->mode | MKSTRIKE_PACKED, 'g', out, sizeof out, &g, &refused);
+        else if (call == 'p')
+            status = mkstrike_prepare(r->font, r->font_len, r->face, r->ppem, r->mode, (uint32_t *)(void *)out, sizeof out / 4, &need, &refused);
+        else if (call == 'b')
+            status = mkstrike_glyph_prepared(r->font, r->font_len, r->face, r->ppem, r->mode, r->block, r->block_len, 'g', out, sizeof out, &g,
+                &refused);
+        else if (call == 'i')
+            status = mkstrike_glyph_by_id(r->font, r->font_len, r->face, r->ppem, r->mode, 36, out, sizeof out, &g, &refused);
+        else if (call == 'o')
+            status = outlined(r, 36, points, 256, ends, 64, &told_of, &refused);
+        else
+            status = mkstrike_glyphs(r->font, r->font_len, r->face, r->ppem, r->mode, r->chars, r->chars_len, placed, 256, out,
+                sizeof out, &drawn, &refused);
+        refused_at = 0;
+        if (held != 0) stop("memory was kept");
+        if (asked < n && status == 0) return n - 1;
+        if (call == 'm' && status == 0 && memcmp(out, whole, sizeof out) == 0) continue;
+        if (status != MKSTRIKE_OUT_OF_MEMORY || refused.number != status) stop("another answer to refused memory");
+        if (memcmp(points, points_before, sizeof points) != 0 || memcmp(ends, ends_before, sizeof ends) != 0) stop("a refusal changed points");
+        if (memcmp(out, before, sizeof out) != 0 || memcmp(placed, placed_before, sizeof placed) != 0) stop("a refusal changed a buffer");
+    }
+}
+#endif
+
+static struct request shared;
+static uint8_t *shared_text;
+static size_t shared_len;
+static struct many shared_many;
+
+static void *work(void *given) {
+    uint8_t *mine = (uint8_t *)bytes(shared_len);
+    struct mkstrike_told told;
+    struct mkstrike_refused refused;
+    struct many glyphs = shared_many;
+    int i, rounds = *(int *)given;
+    for (i = 0; i < rounds; i++) {
+        memset(mine, 0, shared_len);
+        if (make(&shared, mine, shared_len, &told, &refused) != 0 || told.bytes != shared_len) stop("no strike in a thread");
+        if (memcmp(mine, shared_text, shared_len) != 0) stop("another strike in a thread");
+        if (many_of(&shared, &glyphs) != 0 || glyphs.drawn.bytes != shared_many.drawn.bytes) stop("no glyphs in a thread");
+        if (memcmp(glyphs.glyphs, shared_many.glyphs, glyphs.len * sizeof *glyphs.glyphs) != 0) stop("other entries in a thread");
+        if (memcmp(glyphs.pixels, shared_many.pixels, glyphs.drawn.bytes) != 0) stop("other glyphs in a thread");
+        free_many(&glyphs);
+    }
+    free(mine);
+    return NULL;
+}
+
+static void run_threads(int count, int rounds, size_t stack) {
+    pthread_t threads[8];
+    pthread_attr_t attributes;
+    int i;
+    shared_text = text_of(&shared, &shared_len);
+    shared_many.chars = shared.chars;
+    shared_many.len = shared.chars_len;
+    if (many_of(&shared, &shared_many) != 0) stop("no glyphs before the threads");
+    prepare(&shared); /* and the threads draw by one block, which they share */
+    pthread_attr_init(&attributes);
+    if (stack != 0 && pthread_attr_setstacksize(&attributes, stack) != 0) stop("no thread with such a stack");
+    for (i = 0; i < count; i++)
+        if (pthread_create(&threads[i], &attributes, work, &rounds) != 0) stop("no thread");
+    for (i = 0; i < count; i++) pthread_join(threads[i], NULL);
+}
+
+/* A text of a number is cut to each room, and nothing after it is changed. */
+static void text_of_number(size_t (*told)(uint32_t, char *, size_t), uint32_t number, char *text, size_t most) {
+    size_t room, len = told(number, text, most);
+    if (len >= most) stop("a longer text than the header says");
+    for (room = 0; room < most; room++) {
+        char cut[96];
+        memset(cut, 7, sizeof cut);
+        if (told(number, cut, room) != len) stop("another length of a text");
+        if (room > 0 && (strlen(cut) != (len < room ? len : room - 1) || memcmp(cut, text, strlen(cut)) != 0)) stop("another text");
+        if (cut[room] != 7) stop("a byte after a text was changed");
+    }
+}
+
+static int reasons(void) {
+    uint32_t i;
+    for (i = 0; i < 400; i++) {
+        char name[21], to_do[91];
+        text_of_number(mkstrike_reason, i, name, sizeof name);
+        text_of_number(mkstrike_advice, i, to_do, sizeof to_do);
+        printf("%u %s %s\n", (unsigned)i, name, to_do);
+    }
+    return 0;
+}
+
+int main(int argc, char **argv) {
+    const char *mode = argc > 1 ? argv[1] : "";
+    if (argc == 7 && (strcmp(mode, "strike") == 0 || strcmp(mode, "glyphs") == 0 || strcmp(mode, "many") == 0)) {
+        shared = request_of(argv[2], atoi(argv[3]), mode_of(argv[4]), (uint32_t)strtoul(argv[5], NULL, 16),
+            (uint32_t)strtoul(argv[6], NULL, 16));
+        return strcmp(mode, "strike") == 0 ? strike(&shared) : strcmp(mode, "glyphs") == 0 ? glyphs(&shared) : many(&shared);
+    }
+    if (argc == 6 && strcmp(mode, "outline") == 0) {
+        shared = request_of(argv[2], atoi(argv[3]), mode_of(argv[4]), 0x20, 0x20);
+        return outline(&shared, (uint32_t)strtoul(argv[5], NULL, 10));
+    }
+    if (argc == 3 && strcmp(mode, "requests") == 0) {
+        shared = request_of(argv[2], 16, 0, 0x20, 0x20);
+        return requests(&shared);
+    }
+    if (argc == 3 && strcmp(mode, "calls") == 0) {
+        shared = request_of(argv[2], 16, 0, 0x20, 0x20);
+        return calls(&shared);
+    }
+#ifndef HEAP_BESIDE
+    if (argc == 3 && strcmp(mode, "refuse") == 0) {
+        const char *call;
+        long count = 0;
+        static struct request second;
+        second = request_of(argv[2], 33, MKSTRIKE_DROPOUT, 0x20, 0x7E);
+        shared = request_of(argv[2], 16, MKSTRIKE_HINTED, 0x20, 0x7E);
+        prepare(&shared);
+        prepare(&second);
+        for (call = "mgpbios"; *call != 0; call++) count += refuse_each(&shared, *call) + refuse_each(&second, *call);
+        printf("%ld\n", count);
+        return 0;
+    }
+#endif
+    if (argc == 3 && strcmp(mode, "threads") == 0) {
+        shared = request_of(argv[2], 16, MKSTRIKE_HINTED, 0x20, 0x7E);
+        run_threads(8, 100, 0);
+        return 0;
+    }
+    if (argc == 4 && strcmp(mode, "stack") == 0) {
+        shared = request_of(argv[2], 100, MKSTRIKE_HINTED | MKSTRIKE_DROPOUT, 0x20, 0x17F);
+        run_threads(1, 1, (size_t)atoi(argv[3]) << 10);
+        return 0;
+    }
+    return strcmp(mode, "reasons") == 0 ? reasons() : 2;
+}

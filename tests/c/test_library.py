@@ -1,0 +1,557 @@
+"""Builds programs with the C library, and compares what it gives with what the program gives.
+
+The archive is the one that MKSTRIKE_ARCHIVE names, else dist/libmkstrike_c.a, if that is of these sources; else the one that `rt lib`
+makes, if the libraries below it are kept and that takes at most three minutes; else all is left out. The programs are the examples
+and check_c.c, as C99 and as C++, with all warnings as errors. Strikes of real and of damaged fonts must be the program's byte for byte,
+and refusals its lines; single glyphs must be those of the strike, and many in one call both; each request for memory is refused in
+turn; then eight threads, a small stack, a program without a C library, AddressSanitizer and valgrind. c/arena.c is looked at by calls
+of its own, and with c/heap.c each request of malloc and realloc is refused in turn. The archive for 64-bit ARM, that of dist/ or of
+MKSTRIKE_ARM_ARCHIVE, runs under qemu-user. With MKSTRIKE_LONG=1 blocks draw every font that is installed.
+"""
+import glob
+import itertools
+import os
+import random
+import re
+import shutil
+import signal
+import subprocess
+import sys
+import tempfile
+
+import compile_lines
+import fonts
+import prebuilt
+import pytest
+import stack
+from due import own_lines
+from made import Empty, Font, Simple
+from needs import REAL, left_out, real_font, tool
+from prebuilt import TOP
+
+HERE = os.path.dirname(__file__)
+CRATE = os.path.join(TOP, "crates/mkstrike_c")
+C = ["-O2", "-Wall", "-Wextra", "-Werror", "-I" + os.path.join(TOP, "include"), "-I" + os.path.join(TOP, "c")]
+C99, CPP = ["cc", "-std=c99"], ["c++", "-x", "c++", "-std=c++11"]
+ARM_CC, ARM_RUN = ["aarch64-linux-gnu-gcc"], "qemu-aarch64"
+CALLS = {"mkstrike_make", "mkstrike_glyph", "mkstrike_glyph_by_id", "mkstrike_outline", "mkstrike_glyphs", "mkstrike_glyph_ids", "mkstrike_font",
+         "mkstrike_prepare", "mkstrike_glyph_prepared", "mkstrike_glyph_by_id_prepared", "mkstrike_glyphs_prepared", "mkstrike_reason",
+         "mkstrike_advice", "mkstrike_version"}
+NEEDS = {"memcpy", "memmove", "memset", "__udivti3", "rattle_alloc", "rattle_realloc", "rattle_dealloc"}
+DAMAGED, SEED, LONG = 150, 41, os.environ.get("MKSTRIKE_LONG")
+SECONDS = 180  # that `rt lib` may take
+STACK = 25 << 9  # bytes that docs/LIBRARY.md promises to be enough for a call, beside those of memcpy and malloc
+# A mode is the letters of its bits, which check_c.c takes by the names of include/mkstrike.h.
+HINTED, DROPOUT, NEAR, ASKED = "h", "d", "n", "f"
+MODES = [hinted + closed for closed in ("", DROPOUT, NEAR, ASKED) for hinted in ("", HINTED)]
+
+
+class Wrong(AssertionError):
+    """What is wrong, in one line."""
+
+
+def run(words, data=None, status=0, **more):
+    """Runs a command, which must end with this status, if one is named; returns the finished process."""
+    done = subprocess.run(words, input=data, capture_output=True, timeout=600, **more)
+    if status is not None and done.returncode != status:
+        said = (done.stdout[-300:] + done.stderr[-900:]).decode("latin-1").strip()
+        raise Wrong("%s: status %d: %s" % (" ".join(os.path.basename(it) for it in words[:8]), done.returncode, said))
+    return done
+
+
+def flags(mode):
+    """The flags of mkstrike for a mode of the library."""
+    closed = ["--dropout"] if DROPOUT in mode else ["--dropout=near"] if NEAR in mode else ["--dropout=font"] if ASKED in mode else []
+    return ([] if HINTED in mode else ["--unhinted"]) + closed
+
+
+class Library:
+    """The programs built in a folder, and what was seen of them."""
+
+    def __init__(self, folder, program, archive):
+        self.folder, self.program, self.archive = str(folder), program, archive
+        self.real = [it for it in REAL.values() if os.path.exists(it)]
+
+    def at(self, name):
+        return os.path.join(self.folder, name)
+
+    def part(self, name, codes=(0x20, 0x41, 0x67, 0xE9, 0x25, 0x1EB4)):
+        """A file with a part of a real font, or the fixture where there is none."""
+        path = self.at("part of " + name)
+        with open(path, "wb") as file:
+            found = [it for it in self.real if os.path.basename(it) == name]
+            file.write(fonts.part_of(open(found[0], "rb").read(), list(codes)) if found else fonts.FIXTURE)
+        return path
+
+    def compile(self, compiler, source, name, *words):
+        """Compiles a source to an object file."""
+        run(compiler + C + list(words) + ["-c", os.path.join(TOP, source), "-o", self.at(name)])
+        return self.at(name)
+
+    def build(self):
+        """Builds all programs, and checks that they compile as C++ too."""
+        sources = ("c/heap.c", "c/arena.c", "examples/show.c", "examples/console.c", "tests/c/check_c.c", "tests/c/check_c_arena.c",
+                   "tests/c/check_c_blocks.c", "tests/c/check_c_heap.c")
+        for source in sources:
+            name = os.path.basename(source)[:-2] + ".o"
+            self.compile(C99, source, name)
+        if shutil.which("c++"):
+            for source in sources:
+                self.compile(CPP, source, os.path.basename(source)[:-2] + "++.o")
+            run(["c++", self.at("show++.o"), self.at("heap++.o"), self.archive, "-o", self.at("show++")])
+        for name, others in (("show", ["heap.o"]), ("console", ["arena.o"]), ("check_c_blocks", ["heap.o"])):
+            run(["cc", self.at(name + ".o")] + [self.at(it) for it in others] + [self.archive, "-o", self.at(name)])
+        run(["cc", "-pthread", self.at("check_c.o"), self.archive, "-o", self.at("check_c")])
+        self.compile(C99, "tests/c/check_c.c", "check_c_beside.o", "-DHEAP_BESIDE")
+        run(["cc", "-pthread", self.at("check_c_beside.o"), self.at("heap.o"), self.archive, "-o", self.at("check_heap")])
+
+    def make(self, font, ppem, mode, first, last, status=0):
+        """What mkstrike gives: status, text and line."""
+        words = [self.program, "make", "--ppem", str(ppem), "--chars", "%x-%x" % (first, last), "--name", "mkstrike"]
+        with open(font, "rb") as file:
+            done = run(words + flags(mode), file.read(), status)
+        return done.returncode, done.stdout, own_lines(done.stderr)
+
+    def same(self, font, ppem, mode, first, last, checker="check_c", status=0):
+        """A strike is the program's; returns the status of both."""
+        words = [self.at(checker), "strike", font, str(ppem), mode, "%x" % first, "%x" % last]
+        done = run(words, status=None)
+        due = self.make(font, ppem, mode, first, last, status=status)
+        if (done.returncode, done.stdout, done.stderr) != due:
+            raise Wrong("a strike of %s at %d that is not the program's: status %d %r, and %d %r is due" % (
+                os.path.basename(font), ppem, done.returncode, done.stderr[-200:] or done.stdout[-200:], due[0], due[2]))
+        return due[0]
+
+    def each_damaged(self):
+        """Damaged fonts one after the other: their path, a size, and a mode."""
+        draw, bases = random.Random(SEED), [fonts.FIXTURE]
+        bases += [open(self.part(os.path.basename(it)), "rb").read() for it in self.real]
+        path = self.at("damaged.ttf")
+        for k in range(DAMAGED):
+            font = bytearray(bases[k % len(bases)])
+            for _ in range(draw.choice((1, 1, 2, 5))):
+                at = draw.randrange(len(font) if draw.random() < 0.8 else 300)
+                font[at:at + 2] = draw.choice((bytes(2), b"\xff\xff", bytes([draw.randrange(256)]), bytes([font[at] ^ 1 << draw.randrange(8)])))
+            if draw.random() < 0.15:
+                del font[draw.randrange(len(font)):]
+            with open(path, "wb") as file:
+                file.write(font)
+            mode = draw.choice(MODES)
+            yield path, draw.choice((0, 1, 16, 33, 1024, 1025)) if k % 10 == 0 else 16, mode
+
+    def large_strike(self):
+        """A font whose one glyph has 8,192 by 8,192 pixels, all set: a strike of more than 16 MiB."""
+        path = self.at("large.ttf")
+        with open(path, "wb") as file:
+            file.write(Font([Empty(), Simple([(0, 0, 8192, 8192)])], {0x41: 1}, upem=1024).data())
+        return path
+
+    def refuse_each(self, library, font, mode, on):
+        """Refuses each request of a strike in turn, and all after it too if `on`. The call says so; or check_c.c does, of its own."""
+        words = [self.at("check_heap"), "strike", font, "16", mode, "61", "61"]
+        whole, told = run(words), []
+        answers = [(0, whole.stdout, whole.stderr), (1, b"", b"mkstrike: 90 OutOfMemory\n")]
+        answers += [(3, b"check_c: %s\n" % it, b"") for it in (b"out of memory", b"no font", b"refused the second time",
+                                                               b"a strike that is refused where there is no room")]
+        while True:
+            with tempfile.TemporaryFile() as mark:
+                env = {"LD_PRELOAD": library, "REFUSE_AT": str(len(told) + 1), "REFUSE_ON": str(on), "REFUSE_MARK": str(mark.fileno())}
+                done = run(words, status=None, env=env, pass_fds=[mark.fileno()])
+                was_refused = os.fstat(mark.fileno()).st_size != 0
+            answer = (done.returncode, done.stdout, done.stderr)
+            if answer not in answers or not was_refused and answer != answers[0]:
+                raise Wrong("c/heap.c with request %d refused: status %d, %r" % (len(told) + 1, done.returncode, (done.stderr or done.stdout)[-200:]))
+            if not was_refused:
+                break
+            told.append(done.returncode)
+        if told.count(1) < 10:
+            raise Wrong("90 in place of a strike only %d times: does the library take its memory another way?" % told.count(1))
+        return len(told)
+
+    def picture(self, font, ppem, character):
+        """The picture of a character that mkstrike shows."""
+        with open(font, "rb") as file:
+            return run([self.program, "show", "--ppem", str(ppem), "--char", "%x" % ord(character)], file.read()).stdout
+
+def archive_of():
+    """The path of the archive; if there is none, and rt would have to prove much for one, all is left out."""
+    named = os.environ.get("MKSTRIKE_ARCHIVE")
+    if named:
+        return os.path.abspath(named)
+    try:
+        prebuilt.library_of_dist()
+        return os.path.join(prebuilt.DIST, "libmkstrike_c.a")
+    except prebuilt.Fault as fault:
+        why = str(fault)
+    if not os.path.exists(os.path.join(TOP, "crates/fx_strike/out/rlib/stamp")):
+        pytest.skip(why)
+    with subprocess.Popen(["rt", "lib", "--jobs", "2"], cwd=CRATE, stdout=subprocess.PIPE, stderr=subprocess.STDOUT, text=True,
+                          start_new_session=True) as rt:
+        try:
+            said, _ = rt.communicate(timeout=SECONDS)
+        except subprocess.TimeoutExpired:
+            os.killpg(rt.pid, signal.SIGTERM)
+            pytest.skip("rt lib in crates/mkstrike_c had more to prove than %d seconds allow; %s" % (SECONDS, why))
+    if rt.returncode:
+        raise Wrong("rt lib failed: %s" % said[-600:])
+    return prebuilt.ARCHIVE
+
+
+@pytest.fixture(name="lib", scope="module")
+def library(program, tmp_path_factory):
+    """The programs, built with the library."""
+    tool("cc")
+    made = Library(tmp_path_factory.mktemp("c"), program, archive_of())
+    made.build()
+    return made
+
+
+@pytest.mark.parametrize("name", [*REAL, "c++"])
+def test_is_there(name):
+    """What some of these tests need, and go without."""
+    if name in REAL:
+        real_font(name)
+    else:
+        tool(name)
+
+
+def test_symbols(lib):
+    """The archive has these calls, needs these functions, and keeps no data that can be written."""
+    tool("nm")
+    lines = run(["nm", "-g", lib.archive]).stdout.decode().splitlines()
+    defined = {it.split()[2] for it in lines if re.match(r"[0-9a-f]+ [A-Z] ", it)}
+    needed = {it.split()[1] for it in lines if re.match(r" +U ", it)}
+    if not CALLS <= defined or {it for it in defined - CALLS if not it.startswith("_R")} or needed - NEEDS:
+        raise Wrong("the archive defines %s and needs %s" % (sorted(defined), sorted(needed)))
+    sections = run(["size", "-A", lib.archive]).stdout.decode().split("\n")
+    state = [it for it in sections if re.match(r"\.t?(data|bss)(?!\.rel\.ro)\S* +[1-9]", it)]
+    if state:
+        raise Wrong("the archive has data that can be written: %s" % state[:3])
+
+
+def test_reasons(lib):
+    """The names of docs/REFUSALS.md and of the header, by their numbers, and what to do."""
+    lines = run([lib.at("check_c"), "reasons"]).stdout.decode().splitlines()
+    given = {number: (name, to_do) for number, name, to_do in (it.split(" ", 2) for it in lines)}
+    with open(os.path.join(TOP, "docs/REFUSALS.md"), encoding="utf-8") as file:
+        rows = re.findall(r"^\| (\d+) \| (\w+)[^|]*\|[^|]*\| ([^|]*) \|$", file.read(), re.M)
+    due, all_due, above = {"0": "Done", "1": "Missing"}, {}, ""
+    for number, name, to_do in rows:
+        above = above if to_do == "the same" else to_do.replace("`", "")
+        due[number], all_due[number] = name, above
+    if given != {str(k): (due.get(str(k), "Unknown"), all_due.get(str(k), "")) for k in range(400)}:
+        raise Wrong("names or advice that are not those of docs/REFUSALS.md")
+    with open(os.path.join(TOP, "include/mkstrike.h"), encoding="utf-8") as file:
+        header = {number: name.replace("_", "").lower() for name, number in re.findall(r"MKSTRIKE_(\w+) = (\d+)", file.read())}
+    if any(due[number].lower() != name for number, name in header.items()):
+        raise Wrong("names of the header that are not those of docs/REFUSALS.md")
+
+
+def test_strikes(lib):
+    """All of real fonts, and each glyph alone. Hinted, two glyphs of DejaVu Sans halt, so that the whole is refused."""
+    for font in lib.real:
+        for ppem in (9, 16, 33):
+            lib.same(font, ppem, HINTED, 0, 0xFFFF, status=None)
+            for mode, first, last in ((HINTED, 0x20, 0x17F), (HINTED, 0x251, 0xFFFF), ("", 0, 0xFFFF), ("", 0x10000, 0x1FFFF),
+                                      (DROPOUT, 0x20, 0x17F), (HINTED + DROPOUT, 0x20, 0x17F), (HINTED + NEAR, 0x20, 0x17F),
+                                      (ASKED, 0x20, 0x17F), (HINTED + ASKED, 0x20, 0x17F)):
+                lib.same(font, ppem, mode, first, last)
+            words = [lib.at("check_c"), "glyphs", font, str(ppem)]
+            run(words + [HINTED, "20", "17f"])
+            run(words + ["", "20", "1fff"])
+
+
+def test_damaged(lib):
+    """Damaged fonts: the same strikes, refusals and fields."""
+    for path, ppem, mode in lib.each_damaged():
+        lib.same(path, ppem, mode, 0x20, 0xFF, status=None)
+
+
+def test_halts(lib):
+    """Programs that halt in the bytes of another: the fields tell apart which was started and in which the instruction is."""
+    body, call = bytes.fromhex("B0 00 2C B0 07 28 2D"), bytes.fromhex("B0 00 2B")  # at 5 an opcode that nothing defines
+    path, line = lib.at("halting.ttf"), [[(0, 0, 1), (90, 0, 1), (90, 90, 1)]]
+    for fpgm, prep, glyph, code, during, where in (
+            (body, b"", call, 0x41, "glyph 1", "fpgm"), (b"", body, call, 0x41, "glyph 1", "prep"), (body, call, b"", 0x41, "prep", "fpgm"),
+            (body, b"", call, 0x42, "glyph 1", "fpgm"), (body[3:], b"", b"", 0x41, "fpgm", "fpgm"), (b"", b"", body[3:], 0x41, "glyph 1", "glyph 1")):
+        glyphs = [b"", fonts.simple(line, glyph), fonts.composite([(1, 0, 0)])]
+        with open(path, "wb") as file:
+            file.write(fonts.font_of(glyphs, fonts.map_of([(0x41, 1), (0x42, 2)]), functions=1, stack=9, fpgm=fpgm, prep=prep))
+        at = 5 if during != where else 2
+        due = b"mkstrike: 32 BadOpcode during %s in %s at %d opcode 28\n" % (during.encode(), where.encode(), at)
+        done = run([lib.at("check_c"), "strike", path, "16", HINTED, "%x" % code, "%x" % code], status=1)
+        if (done.stdout, done.stderr) != (b"", due):
+            raise Wrong("a halt: %r, and %r is due" % (done.stderr, due))
+        lib.same(path, 16, HINTED, code, code, status=1)
+        run([lib.at("check_c"), "many", path, "16", HINTED, "%x" % code, "%x" % code])
+
+
+def test_many(lib):
+    """Many characters in one call: real fonts, the two characters of DejaVu Sans that halt, and damaged fonts."""
+    for font in lib.real:
+        for ppem, mode in zip((9, 9, 16, 16, 12, 33, 20, 33), MODES):
+            for first, last in ((0, 0xFFFF), (0x10000, 0x1F7FF)):
+                words = [lib.at("check_c"), "many", font, str(ppem), mode, "%x" % first, "%x" % last]
+                status, _, halted = map(int, run(words).stdout.split())
+                due = 2 if "DejaVu" in font and HINTED in mode and first == 0 else 0
+                if (status, halted) != (0, due):
+                    raise Wrong("many characters of %s: status %d, %d refused" % (os.path.basename(font), status, halted))
+        run([lib.at("check_c"), "requests", font])
+    for path, ppem, mode in lib.each_damaged():
+        run([lib.at("check_c"), "many", path, str(ppem), mode, "20", "ff"])
+
+
+def test_outlines(lib):
+    """Outlines of glyphs by their numbers: what mkstrike outline writes, composites, glyphs that halt and numbers past the last too."""
+    for font in lib.real:
+        for ppem, mode, step in ((16, HINTED, 97), (33, "", 331), (1024, HINTED, 997)):
+            for glyph in list(range(0, 2600, step)) + [350, 36, 65534, 65535]:
+                done = run([lib.at("check_c"), "outline", font, str(ppem), mode, str(glyph)], status=None)
+                words = [lib.program, "outline", "--ppem", str(ppem), "--glyph", str(glyph)]
+                with open(font, "rb") as file:
+                    due = run(words + flags(mode), file.read(), None)
+                if (done.returncode, done.stdout, done.stderr) != (due.returncode, due.stdout, own_lines(due.stderr)):
+                    raise Wrong("the outline of glyph %d of %s at %d that is not the program's" % (glyph, os.path.basename(font), ppem))
+
+
+def test_calls(lib):
+    """The other calls; what a font is told to be is what its file says."""
+    for font in lib.real + [lib.part("")]:
+        told = list(map(int, run([lib.at("check_c"), "calls", font]).stdout.split()))
+        with open(font, "rb") as file:
+            tables = fonts.tables_of(file.read())
+        upem = int.from_bytes(tables["head"][18:20], "big")
+        heights = [int.from_bytes(tables["hhea"][at:at + 2], "big", signed=True) for at in (4, 6, 8)]
+        near = [(abs(it) * 32 + upem) // (2 * upem) * (1 if it > 0 else -1) for it in (heights[0], -heights[1], heights[2])]
+        if told != near + [int.from_bytes(tables["maxp"][4:6], "big")]:
+            raise Wrong("%s is told to be %s" % (os.path.basename(font), told))
+
+
+def test_blocks(lib):
+    """By blocks all is as without them, in real fonts, with MKSTRIKE_LONG in every one that is installed, and in damaged ones; other blocks are
+    refused."""
+    found, damaged = lib.real or [lib.part("")], itertools.islice(lib.each_damaged(), DAMAGED if LONG else 30)
+    if LONG:
+        found = sorted(glob.glob("/usr/share/fonts/**/*.ttf", recursive=True)) or found
+    for font in found:
+        run([lib.at("check_c_blocks"), "same", font, "16", "20", "7e"])
+    for path, ppem, _ in damaged:
+        run([lib.at("check_c_blocks"), "same", path, str(ppem), "20", "ff"])
+    for font in lib.real:
+        for ppem in ("9", "33"):
+            run([lib.at("check_c_blocks"), "same", font, ppem, "20", "2ff"])
+    if len(lib.real) > 1:
+        for one, other in (lib.real, lib.real[::-1]):
+            run([lib.at("check_c_blocks"), "refused", one, "16", other])
+
+
+def test_memory(lib):
+    """Each request for memory refused in turn, on a real font or the fixture."""
+    font = lib.real[0] if lib.real else lib.part("")
+    run([lib.at("check_c"), "refuse", font])
+    run([lib.at("check_c"), "threads", font])
+    run([lib.at("check_c"), "stack", font, "64"])
+
+
+def test_stack(lib):
+    """The frames of the archive, added up: no call takes more stack than is promised."""
+    tool("objdump")
+    try:
+        bounds = stack.bounds(lib.archive, sorted(CALLS))
+    except stack.Fault as fault:
+        raise Wrong("the stack has no bound: %s" % fault)
+    most = max(bounds, key=bounds.get)
+    if bounds[most] > STACK:
+        raise Wrong("%s takes up to %d bytes of stack" % (most, bounds[most]))
+
+
+def sanitized(words, out):
+    """Builds a program with AddressSanitizer, or leaves the rest out."""
+    try:
+        run(C99 + C + ["-g", "-fsanitize=address,undefined", "-fno-sanitize-recover=all"] + words + ["-o", out])
+    except Wrong:
+        left_out("AddressSanitizer")
+
+
+def test_under_address_sanitizer(lib):
+    """Strikes and glyphs in buffers of just the size that is needed."""
+    font = lib.part("DejaVuSans.ttf", range(0x20, 0x7F))
+    sanitized(["-pthread", os.path.join(HERE, "check_c.c"), lib.archive], lib.at("check_asan"))
+    lib.same(font, 16, HINTED, 0x20, 0x7E, "check_asan")
+    run([lib.at("check_asan"), "glyphs", font, "16", HINTED, "20", "7e"])
+    run([lib.at("check_asan"), "many", font, "16", HINTED, "20", "7e"])
+    run([lib.at("check_asan"), "refuse", font])
+
+
+def under_valgrind(checker, requests):
+    """Runs requests under valgrind, which must find nothing."""
+    tool("valgrind")
+    for words in requests:
+        run(["valgrind", "-q", "--error-exitcode=9", "--leak-check=full", checker] + words)
+
+
+def test_under_valgrind(lib):
+    """The same."""
+    font = lib.part("DejaVuSans.ttf", range(0x20, 0x7F))
+    under_valgrind(lib.at("check_c"), (["strike", font, "16", HINTED, "20", "7e"], ["glyphs", font, "16", HINTED, "61", "6a"],
+                                       ["glyphs", font, "50", "", "20", "7e"], ["many", font, "16", HINTED, "61", "6a"]))
+
+
+@pytest.mark.parametrize("name", ["arena", "heap"])
+def test_direct(name, lib):
+    """c/arena.c and c/heap.c by calls of their own, again under AddressSanitizer where that is there."""
+    sources, out = [os.path.join(HERE, "check_c_%s.c" % name), os.path.join(TOP, "c/%s.c" % name)], lib.at("direct")
+    run(C99 + C + sources + ["-o", out])
+    run([out])
+    sanitized(sources, out)
+    run([out], env={**os.environ, "ASAN_OPTIONS": "allocator_may_return_null=1"})
+
+
+def test_heap_keeps_nothing(lib):
+    """c/heap.c keeps no data that can be written, which threads would share, but for what its name says is nothing."""
+    tool("nm")
+    lib.compile(C99, "c/heap.c", "heap0.o", "-O0")
+    assert set(re.findall(r" [bBdDcC] (\w+)", run(["nm", lib.at("heap0.o")]).stdout.decode())) == {"nothing"}
+
+
+def test_heap(lib):
+    """The library with c/heap.c: threads, a strike of more than 16 MiB, valgrind, and each request of the C library refused in turn."""
+    font = lib.part("DejaVuSans.ttf", range(0x20, 0x7F))
+    run([lib.at("check_heap"), "threads", font])
+    lib.same(font, 16, HINTED, 0x20, 0x7E, "check_heap")
+    lib.same(lib.large_strike(), 1024, "", 0x41, 0x41, "check_heap")
+    library = lib.at("refuse.so")
+    run(["cc", "-O2", "-shared", "-fPIC", "-o", library, os.path.join(HERE, "../program/refuse_memory.c")])
+    for mode in (HINTED, DROPOUT):
+        for on in (0, 1):
+            lib.refuse_each(library, font, mode, on)
+    under_valgrind(lib.at("check_heap"), (["strike", font, "16", HINTED, "61", "6a"], ["many", font, "16", HINTED, "61", "6a"]))
+
+
+def test_arm(lib):
+    """The archive for 64-bit ARM under qemu-user: the same strikes, refusals and glyphs."""
+    archive = os.environ.get("MKSTRIKE_ARM_ARCHIVE") or os.path.join(prebuilt.DIST, prebuilt.ARM_ARCHIVE)
+    if not os.path.exists(archive):
+        pytest.skip("no %s: tools/make_dist --arm makes it" % prebuilt.shown(archive))
+    tool(ARM_CC[0])
+    tool(ARM_RUN)
+    words = [os.path.join(HERE, "check_c.c"), archive]
+    run(ARM_CC + C + ["-std=c99", "-static", "-pthread"] + words + ["-o", lib.at("check_c_arm")])
+    program = [ARM_RUN, lib.at("check_c_arm")]
+    for font in lib.real:
+        for ppem, mode, first, last in ((9, HINTED, 0x20, 0x17F), (16, HINTED, 0, 0x24F), (33, NEAR, 0x20, 0x17F),
+                                        (16, HINTED + DROPOUT, 0x20, 0x7E)):
+            done = run(program + ["strike", font, str(ppem), mode, "%x" % first, "%x" % last], status=None)
+            if (done.returncode, done.stdout, done.stderr) != lib.make(font, ppem, mode, first, last, None):
+                raise Wrong("64-bit ARM: another strike of %s at %d" % (os.path.basename(font), ppem))
+        run(program + ["many", font, "16", HINTED, "180", "250"])
+    for path, ppem, mode in list(lib.each_damaged())[:30]:
+        done = run(program + ["strike", path, str(ppem), mode, "20", "7f"], status=None)
+        if (done.returncode, done.stdout, done.stderr) != lib.make(path, ppem, mode, 0x20, 0x7F, None):
+            raise Wrong("64-bit ARM: another answer to a damaged font")
+    font = lib.part("DejaVuSans.ttf", range(0x20, 0x7F))
+    for what in (["calls", font], ["glyphs", font, "16", HINTED, "20", "e9"], ["refuse", font], ["threads", font]):
+        run(program + what)
+    words = [os.path.join(HERE, "check_c_blocks.c"), os.path.join(TOP, "c/heap.c"), archive]
+    run(ARM_CC + C + ["-std=c99", "-static"] + words + ["-o", lib.at("check_c_blocks_arm")])
+    blocks = [ARM_RUN, lib.at("check_c_blocks_arm")]
+    run(blocks + ["same", font, "16", "20", "7e"])
+    run(blocks + ["refused", font, "16", lib.part("")])
+
+
+def test_examples(lib):
+    """The examples give what mkstrike gives."""
+    font = lib.part("DejaVuSans.ttf", range(0x20, 0x7F))
+    _, text, _ = lib.make(font, 16, HINTED, 0x20, 0x7E)
+    text = text.replace(b"FONT mkstrike\n", b"FONT strike\n")
+    shows = [it for it in ("show", "show++") if os.path.exists(lib.at(it))]
+    for show in shows:
+        if run([lib.at(show), font, "16", "20-7e"]).stdout != text:
+            raise Wrong("examples/show.c: another strike")
+    pictures = {c: lib.picture(font, 16, c) for c in "Aging"}
+    if any(run([lib.at("show"), font, "16", "%x" % ord(c)]).stdout != it for c, it in pictures.items()):
+        raise Wrong("examples/show.c: another picture")
+    if run([lib.at("show"), font, "0", "41"], status=1).stderr != b"refused: 60 BadSize\n":
+        raise Wrong("examples/show.c: another refusal")
+
+
+def test_console(lib):
+    """examples/console.c draws the pixels of a strike's glyphs."""
+    line, font = "Aging glyphs.", lib.part("DejaVuSans.ttf", range(0x20, 0x7F))
+    _, text, _ = lib.make(font, 16, HINTED, 0x20, 0x7E)
+    bits = run([lib.at("console"), font, "16", line]).stdout
+    width, height = map(int, bits.split(b"\n")[1].split())
+    body = bits.split(b"\n", 2)[2]
+    drawn = {(x, y) for y in range(height) for x in range(width) if body[y * ((width + 7) // 8) + x // 8] >> (7 - x % 8) & 1}
+    ascent = int(re.search(rb"FONT_ASCENT (-?\d+)", text).group(1))
+    glyphs = {int(it[0]): it for it in re.findall(
+        rb"ENCODING (\d+)\nSWIDTH \S+ 0\nDWIDTH (\S+) 0\nBBX (\S+) (\S+) (\S+) (\S+)\nBITMAP\n((?:[0-9A-F]*\n)*?)ENDCHAR", text)}
+    column, due = 0, set()
+    for character in line:
+        _, advance, _, high, left, bottom, rows = glyphs[ord(character)]
+        for i, row in enumerate(rows.split()):
+            for j in range(4 * len(row)):
+                if int(row, 16) >> (4 * len(row) - 1 - j) & 1:
+                    due.add((column + int(left) + j, ascent - int(bottom) - int(high) + i))
+        column += int(advance)
+    if drawn != {(x, y) for x, y in due if 0 <= x < width and 0 <= y < height} or width != column:
+        raise Wrong("examples/console.c: other pixels")
+
+
+def rows_only(out):
+    """The rows of a text of pictures."""
+    return b"".join(it + b"\n" for it in out.split(b"\n") if re.fullmatch(rb"[#.]+", it))
+
+
+def test_commands_of_examples(lib):
+    """Each example, built and run in a checkout by the command that it shows."""
+    font, folder = lib.part("DejaVuSans.ttf", range(0x20, 0x7F)), lib.at("checkout")
+    pictured = b"".join(lib.picture(font, 16, c) for c in "Aging")
+    for name in ("include", "examples", "c"):
+        shutil.copytree(os.path.join(TOP, name), os.path.join(folder, name))
+    os.makedirs(os.path.join(folder, "dist"))
+    shutil.copyfile(lib.archive, os.path.join(folder, "dist/libmkstrike_c.a"))
+    for line in ("cc -O2 -fPIC -c c/heap.c", "cp dist/libmkstrike_c.a libmkstrike.a", "ar rs libmkstrike.a heap.o"):
+        run(line.split(), cwd=folder)
+    run([os.path.join(TOP, "packaging/link"), folder, lib.archive])
+    soname, = (os.path.basename(it) for it in glob.glob(os.path.join(folder, "*.so.*")))
+    needed = re.findall(rb"NEEDED +(\S+)", run(["objdump", "-p", os.path.join(folder, soname)]).stdout)
+    if needed != [b"libc.so.6"]:
+        raise Wrong("the shared object needs %s" % needed)
+    shown = {it.split()[-1] for it in run(["nm", "-D", "--defined-only", os.path.join(folder, soname)]).stdout.decode().splitlines()}
+    if shown != CALLS:
+        raise Wrong("the shared object shows %s" % sorted(shown ^ CALLS))
+    env = {**os.environ, "GOCACHE": lib.at("go")}
+    printed, absent = compile_lines.tried(folder, font, env, True)
+    for name, text in printed.items():
+        if name.startswith("glyphs") and rows_only(text) != pictured:
+            raise Wrong("examples/%s: other pictures" % name)
+    script = [sys.executable, os.path.join(folder, "examples/glyphs.py"), os.path.join(folder, soname), font, "1025", "A"]
+    if run(script, status=1).stderr != b"refused: 60 BadSize\n":
+        raise Wrong("examples/glyphs.py: another refusal")
+    for name in sorted(absent):
+        tool(name)
+
+
+def test_boxes(lib):
+    """examples/console.c draws a box in place of a character that is refused, and the others as they are."""
+    real_font("DejaVuSans")
+    done = run([lib.at("console"), REAL["DejaVuSans"], "16", "ab\u0250c"])
+    others = run([lib.at("console"), REAL["DejaVuSans"], "16", "abc"])
+    if b"refused: 30 StackUnder U+0250\n" not in done.stderr or b"refused" in others.stderr:
+        raise Wrong("examples/console.c: another refusal: %r" % done.stderr)
+    wide, narrow = (int(it.stdout.split(b"\n")[1].split()[0]) for it in (done, others))
+    if wide != narrow + 16 // 2 + 3:
+        raise Wrong("examples/console.c: a line of %d columns, and %d without the refused character" % (wide, narrow))
+
+
+def test_bare(lib):
+    """A program without a C library, on x86-64 Linux."""
+    if (os.uname().sysname, os.uname().machine) != ("Linux", "x86_64"):
+        pytest.skip("not x86-64 Linux")
+    font = lib.part("DejaVuSans.ttf", range(0x20, 0x7F))
+    bare = ["cc", "-std=gnu99", "-O2", "-Wall", "-Wextra", "-Werror", "-ffreestanding", "-fno-stack-protector", "-nostdlib", "-static",
+            "-DMKSTRIKE_BARE", '-DFONT="%s"' % font] + C[4:]
+    run(bare + [os.path.join(HERE, "check_c_bare.c"), os.path.join(TOP, "c/arena.c"), lib.archive, "-lgcc", "-o", lib.at("bare")])
+    if run([lib.at("bare")]).stdout != lib.make(font, 16, HINTED, 0x20, 0x7E)[1]:
+        raise Wrong("another strike without a C library")

@@ -1,0 +1,71 @@
+"""The command as people type it; and each planted fault is found."""
+import os
+import shutil
+
+import pytest
+from front import CHECKS, Check
+from needs import real_font
+from prebuilt import TOP
+
+# Each planted fault: the check that must find it, and a program in place of the right one, which is $REAL; or a file, and what is replaced there by what.
+PLANTED = [
+    ("mistakes", '"$REAL" "$@"; at=$?; echo "mkstrike: more" >&2; exit $at'),
+    ("mistakes", '"$REAL" "$@" 2>&1 >&3 | head -n 1 >&2; exit ${PIPESTATUS[0]}'),
+    ("fonts_by", '"$REAL" "$@"; exit 0'),
+    ("fonts_by", '"$REAL" "$@" </dev/null'),
+    ("outputs_by", 'o=$("$REAL" "$@"; echo .); printf "%s" "${o%.}" | tr 8 9'),
+    ("outputs_by", '"$REAL" "$@"; at=$?; [ $at = 0 ] || rm -f "a strike.bdf"; exit $at'),
+    ("outputs_by", '"$REAL" "$@"; at=$?; : >.mkstrike-1; exit $at'),
+    ("outputs_that", '"$REAL" "$@"; at=$?; [ ! -e old.bdf ] || chmod 600 old.bdf; exit $at'),
+    ("outputs_that", '[ -e .mkstrike-$$ ] && exit 1; exec "$REAL" "$@"'),
+    ("traces", '"$REAL" "$@"; at=$?; [ $at = 0 ] || rm -f trace.txt; exit $at'),
+    ("signals", 'trap "" INT; "$REAL" "$@"'),
+    ("streams", '"$REAL" "$@" 2>&1'),
+    ("missing", '"$REAL" "$@" 2>&1 >&3 | sed s/4e00-4e02/4e00/ >&2; exit ${PIPESTATUS[0]}'),
+    ("explained", '[ "$1" = explain ] && exit 0; "$REAL" "$@"'),
+    ("help_and", '"$REAL" "$@" | sed s/--dropout/--drop-out/'),
+    ("pages_as", "docs/mkstrike-show.1", ".\\\" help: the glyph of a character, one", ".\\\" help: a glyph of a character, one"),
+    ("pages_as", "docs/mkstrike-dump.1", "A file that is no collection has face 0 alone.", "Others have face 0 alone."),
+    ("words_of", "crates/fx_request/src/advice.rt", '"give another name"', '"take another name"'),
+    ("words_of", "VERSION", "0.", "1."),
+    ("files_of", "docs/REFUSALS.md", "looks like a PDF |", "looks like a text |"),
+]
+
+
+@pytest.mark.parametrize("check", CHECKS)
+def test_front(check, program, tmp_path):
+    """Looks at one thing."""
+    it = Check(program, str(tmp_path), TOP)
+    check(it)
+    assert not it.wrong, "\n".join(it.wrong)
+
+
+def test_font_is_there():
+    """DejaVu Sans, without which less is looked at."""
+    real_font("DejaVuSans")
+
+
+@pytest.mark.parametrize("number", range(len(PLANTED)))
+def test_planted(number, program, tmp_path):
+    """A planted fault is found, in a copy of what is looked at."""
+    (name, *fault), top = PLANTED[number], tmp_path / "top"
+    for part in ("tools", "docs", "include", "dist", "crates/fx_request/src", "crates/fx_front/src"):
+        shutil.copytree(os.path.join(TOP, part), top / part)
+    for part in ("VERSION", "CHANGELOG.md"):
+        shutil.copy(os.path.join(TOP, part), top)
+    if len(fault) == 3:
+        path, text = top / fault[0], (top / fault[0]).read_text(encoding="utf-8")
+        assert text.count(fault[1]) == 1
+        path.write_text(text.replace(fault[1], fault[2]), encoding="utf-8")
+    else:
+        (top / "program").write_text("#!/bin/bash\nexec 3>&1\nREAL=%s\n%s\n" % (program, fault[0]))
+        (top / "program").chmod(0o755)
+    (tmp_path / "folder").mkdir()
+    it = Check(program if len(fault) == 3 else str(top / "program"), str(tmp_path / "folder"), str(top))
+    for check in CHECKS:
+        if name in check.__name__:
+            try:
+                check(it)
+            except Exception as fault:  # pylint: disable=broad-except
+                it.check(name, repr(fault))
+    assert it.wrong, "not found by %s" % name

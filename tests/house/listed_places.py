@@ -1,0 +1,133 @@
+"""The places of the sources that forms.py lets ask for room, or bind a name that nobody reads, and what it is tried on.
+
+A new place is looked at before it is listed. Room is for what is there or what the font says at the most: a length, a constant, a
+bound of the definitions, and sums of these; never a product that a font can make large, nor more than is used. A name that nobody
+reads is bound for the prover, and costs nothing: no loop, no call that walks a list.
+"""
+
+PLACES = {
+    "crates/fx_bdf/src/x11.rt": ["from_slice(alloc, self.properties)"],
+    "crates/fx_code/src/targets.rt": ["vec![in alloc; nothing; PLACES]"],
+    "crates/fx_arguments/src/chars.rt": ["resize(start + count, low)"],
+    "crates/fx_arguments/src/lines.rt": ["let _ = put_all(err, line.text())"],
+    "crates/fx_arguments/src/mistakes.rt": ["from_slice(alloc, before)"],
+    "crates/fx_arguments/src/read_ahead.rt": ["from_slice(alloc, self.text)", "resize(filled + PART, 0)"],
+    "crates/fx_cli/src/watch.rt": ["from_slice(alloc, start)"],
+    "crates/fx_front/src/lines.rt": ["let _ = put_all(err, line)", "from_slice(alloc, b\"mkstrike: \")"],
+    "crates/fx_front/src/output.rt": [
+        "let _ = fs::remove_file(rt, made.as_str())",
+        "let _ = file.set_permissions(like)",
+        "let _ = fs::remove_file(self.rt, made.as_str())",
+        "let _ = fs::remove_file(self.rt, made.as_str())",
+    ],
+    "crates/fx_words/src/parts.rt": ["from_slice(alloc, before)"],
+    "crates/fx_fixed/src/memory.rt": ["with_capacity(alloc, capacity)"],
+    "crates/fx_hint/src/kept_glyphs.rt": [
+        "with_capacity(alloc, PLACES)",
+        "let _ = &self.places",
+        "let _kept = places[usize::from(input.g) % PLACES].take(input, made, usage)",
+    ],
+    "crates/fx_hint/src/outlines.rt": ["resize(points.len(), BLANK)"],
+    "crates/fx_hint/src/part.rt": ["let _ends = zone.ends()"],
+    "crates/fx_hint/src/programmed.rt": ["let _count = zone.points().len()", "let _ends = made.zone.ends()"],
+    "crates/fx_machine/src/definitions.rt": ["vec![in alloc; None; count]"],
+    "crates/fx_machine/src/machine.rt": [
+        "Box::new(alloc, state)",
+        "Box::new(alloc, state)",
+        "Box::new(alloc, prepared)",
+        "Box::new(alloc, prepared)",
+    ],
+    "crates/fx_machine/src/prepared.rt": ["from_slice(alloc, zone.points())", "from_slice(alloc, zone.ends())"],
+    "crates/fx_machine/src/state.rt": ["vec![in alloc; point; usize::from(count)]"],
+    "crates/fx_machine/src/words.rt": [
+        "vec![in alloc; 0; words.len()]",
+        "with_capacity(alloc, count)",
+        "vec![in alloc; None; words.len()]",
+    ],
+    "crates/fx_request/src/characters.rt": ["from_slice(alloc, chars)", "from_slice(alloc, chars)"],
+    "crates/fx_rows/src/band.rt": ["let _ = words.pop()"],
+    "crates/fx_rows/src/lanes.rt": ["let _number = *number"],
+    "crates/fx_rows/src/rows.rt": ["reserve_exact(frame.height as usize * words_for(frame.width))"],
+    "crates/fx_scale/src/cvt.rt": ["with_capacity(alloc, bytes.len() / 2)"],
+    "crates/fx_scale/src/zone.rt": ["reserve(simple.point_count() as usize + PHANTOM_POINTS)", "reserve(usize::from(simple.contour_count()))"],
+    "crates/fx_stackops/src/table.rt": ["vec![in alloc; 0; count]"],
+    "crates/fx_strike/src/hinter.rt": ["Box::new(alloc, keeping)"],
+    "crates/fx_strike/src/kept_text.rt": ["reserve_exact(wanted.max(used + count) - used)"],
+    "crates/fx_winding/src/bitmap.rt": ["vec![in alloc; 0u32; count]"],
+    "crates/fx_winding/src/pieces.rt": ["with_capacity(alloc, capacity)", "reserve(capacity)"],
+    "crates/fx_winding/src/plain.rt": ["vec![in alloc; 0u32; words_for(frame.width)]"],
+    "crates/fx_winding/src/scratch.rt": ["vec![in alloc; 0i32; 32 * words]", "vec![in alloc; 0u32; words]"],
+    "crates/fx_winding/src/words.rt": ["reserve_exact(count)", "resize(count, word)"],
+    "crates/fx_zone/src/zone.rt": ["reserve(points.len())", "reserve(more.len())"],
+    "crates/mkstrike_c/src/block.rt": ["with_capacity(alloc, ORIGIN + words.len())"],
+    "crates/mkstrike_c/src/gathered.rt": [
+        "resize(start + size(glyph, packed), 0)",
+        "with_capacity(alloc, most.min(wanted.entries))",
+    ],
+}
+
+# Good code, by the path that it could have.
+GOOD = [
+    ("crates/fx_one/src/fault.rt", "impl From<AllocError> for Fault {\n    fn from(_e: AllocError) -> Fault { Fault::OutOfMemory }\n}"),
+    ("crates/fx_one/src/fault.rt", "pub enum Fault {\n    Full,\n    OutOfMemory,\n}"),
+    ("crates/fx_one/src/a.rt", "use std::alloc::{AllocError, Global};\nfn f(x: Vec<u8>) -> Result<Vec<u8>, AllocError> { Ok(x) }"),
+    ("crates/fx_one/src/a.rt", "fn f() { match g() { A::OutOfMemory => B::OutOfMemory, A::Full => B::Full, } }"),
+    ("crates/fx_one/src/a.rt", "fn f() { match g() { Err(A::OutOfMemory) => { h(); Err(B::OutOfMemory) } Ok(_) => Ok(()), } }"),
+    ("crates/fx_one/src/a.rt", "fn f() { match g() { B::OutOfMemory => (90, 1), B::Full | B::Far if h() => (1, 2), } }"),
+    ("crates/fx_one/src/a.rt", "fn f() { if let Err(A::OutOfMemory) = g() { h(); } if matches!(g(), Err(A::OutOfMemory)) { h(); } }"),
+    ("crates/fx_one/src/a.rt", "fn f()\n    ensures { OnErr result (λ e. e ≡ OutOfMemory) }\n{ g(); }"),
+    ("crates/fx_one/src/a.rt", "// Err(A::OutOfMemory), Vec::with_capacity(alloc, 9)\nfn f() { g(\"OutOfMemory\"); }"),
+    ("crates/fx_one/src/a.rt", "fn f() {}\n#[cfg(test)]\nmod tests { fn g() { Err(A::OutOfMemory) } }\n"),
+    ("crates/fx_rows/src/a.rt", "use fx_winding::{Piece, Tally};\nfn f(tally: &mut Tally) { g(tally); }"),
+    ("crates/fx_strike/src/a.rt", "fn f() { let mut tally = Tally::new(); g(&mut tally); }"),
+]
+
+# Faults, each alone in a source.
+PLANTED = [
+    # out of memory, told for no reason
+    ("crates/fx_one/src/a.rt", "fn f() { if g() { return Err(A::OutOfMemory); } }"),
+    ("crates/fx_one/src/a.rt", "fn f() { if g() { return Err(A:: OutOfMemory); } }"),
+    ("crates/fx_one/src/a.rt", "fn f() { if g() { return Err(A::\n    OutOfMemory); } }"),
+    ("crates/fx_one/src/a.rt", "use crate::fault::A::OutOfMemory;\nfn f() { g(); }"),
+    ("crates/fx_one/src/a.rt", "use crate::fault::A::{Full, OutOfMemory as Full2};\nfn f() { Err(Full2) }"),
+    ("crates/fx_one/src/a.rt", "use crate::fault::A::*;\nfn f() { Err(OutOfMemory) }"),
+    ("crates/fx_one/src/a.rt", "use std::alloc::{AllocError as Full, Global};\nfn f() { Err(Full) }"),
+    ("crates/fx_one/src/a.rt", "type Full = AllocError;\nfn f() { Err(Full {}) }"),
+    ("crates/fx_one/src/a.rt", "const FULL: A = A::OutOfMemory;"),
+    ("crates/fx_one/src/a.rt", "fn f() { g().ok_or(AllocError) }"),
+    ("crates/fx_one/src/a.rt", "fn f() { Option::ok_or(g(), AllocError) }"),
+    ("crates/fx_one/src/a.rt", "fn f() { Err(Fault { error: AllocError }) }"),
+    ("crates/fx_one/src/a.rt", "fn f() { g().map_err(|_| A::OutOfMemory) }"),
+    ("crates/fx_one/src/a.rt", "impl A { fn f() -> A { Self::OutOfMemory } }"),
+    ("crates/fx_one/src/a.rt", "fn f() { match g() { Ok(_) | Err(A::OutOfMemory) if h() => Err(B::OutOfMemory), _ => Ok(()), } }"),
+    ("crates/fx_one/src/a.rt", "fn f() { match g() { Err(A::Full) | Err(A::OutOfMemory) => Err(B::OutOfMemory), } }"),
+    ("crates/fx_one/src/a.rt", "fn f() { match g() { x if x != A::OutOfMemory => Err(B::OutOfMemory), } }"),
+    ("crates/fx_one/src/a.rt", "fn f() { match g() { Err(A::OutOfMemory) => Err(B::OutOfMemory), Ok(_) => Err(B::OutOfMemory), } }"),
+    ("crates/fx_one/src/a.rt", "fn f() { match g() { Err(A::OutOfMemory) => match h() { _ => Err(B::OutOfMemory), }, } }"),
+    ("crates/fx_one/src/a.rt", "fn f() { match g() { Err(A::OutOfMemory) => h(), _ => { if i() { return Err(B::OutOfMemory); } } } }"),
+    ("crates/fx_one/src/a.rt", "// #[cfg(test)]\n// mod tests\nfn f() { Err(A::OutOfMemory) }"),
+    ("crates/fx_one/src/a.rt", "#[cfg(test)]\nmod tests { fn g() {} }\nfn f() { Err(A::OutOfMemory) }"),
+    ("crates/fx_one/src/tests.rt", "fn f() { Err(A::OutOfMemory) }"),
+    # room
+    ("crates/fx_one/src/a.rt", "fn f() { g(Vec::with_capacity(alloc, 1 << 60)?); }"),
+    ("crates/fx_one/src/a.rt", "fn f() { g(Vec::<u8>::with_capacity(\n    alloc,\n    n * n,\n)?); }"),
+    ("crates/fx_one/src/a.rt", "fn f() { points.reserve(n.saturating_mul(m))?; }"),
+    ("crates/fx_one/src/a.rt", "fn f() { points.resize(n + 65_536, 0)?; }"),
+    ("crates/fx_one/src/a.rt", "fn f() { g(vec![in alloc; 0; n + 65_536]?); }"),
+    ("crates/fx_one/src/a.rt", "fn f() { n.and_then(Vec::with_capacity) }"),
+    ("crates/fx_one/src/a.rt", "fn f() { g(Vec::from_slice(alloc, all)?); }"),
+    ("crates/fx_one/src/a.rt", "fn f() { g(Box::new(alloc, large)?); }"),
+    # names that nobody reads
+    ("crates/fx_one/src/a.rt", "fn f() { let _again = points.contains(&points[left]); }"),
+    ("crates/fx_one/src/a.rt", "fn f() { let _room: Vec<u8> = g()?; }"),
+    ("crates/fx_one/src/a.rt", "fn f() { let _ = g(); }"),
+    ("crates/fx_one/src/a.rt", "fn f() { let\n    _again = g(); }"),
+    # tallies
+    ("crates/fx_dropout/src/a.rt", "fn f() { g(&mut Tally::new()); }"),
+    ("crates/fx_dropout/src/a.rt", "use fx_winding::Tally as Sum;\nfn f() { g(&mut Sum::new()); }"),
+    ("crates/fx_dropout/src/a.rt", "type Sum = Tally;\nfn f() { g(&mut Sum::new()); }"),
+    ("crates/fx_dropout/src/a.rt", "fn f() { let mut mine: Tally = Default::default(); g(&mut mine); }"),
+    ("crates/fx_rows/src/a.rt", "fn f() { g(<Tally>::new()); }"),
+    # code that looks like ghost code
+    ("crates/fx_one/src/a.rt", "ghost kept: fn f() { Err(A::OutOfMemory) }"),
+]

@@ -1,0 +1,119 @@
+"""tools/run_checks tells of made checks as they end, and leaves nothing behind; and the stand-in for pytest does what pytest does."""
+import contextlib
+import importlib.util
+import io
+import os
+import re
+import shlex
+import signal
+import subprocess
+import sys
+import tempfile
+import time
+from importlib.machinery import SourceFileLoader
+
+import pytest
+from prebuilt import TOP
+
+TOOL = os.path.join(TOP, "tools/run_checks")
+run_checks = importlib.util.module_from_spec(importlib.util.spec_from_loader("run_checks", SourceFileLoader("run_checks", TOOL)))
+run_checks.__spec__.loader.exec_module(run_checks)
+
+
+def told(commands):
+    """What is told of made commands, and the status."""
+    checks, said = [run_checks.Check(it, "/a program", False) for it in commands], io.StringIO()
+    with contextlib.redirect_stdout(said):
+        run_checks.run(checks, 2)
+        status = run_checks.count(checks, 0)
+    return said.getvalue(), status
+
+
+# Made checks, and what is told of each: one passes, one leaves out a part, one all, some fail, one is killed.
+MADE = [("test PROGRAM = '/a program'", "passed    test"), ("echo left out: x: no C compiler", "left out: x: no C compiler (Debian: gcc, libc6-dev)"),
+        ("sh -c 'echo made: left out, no Node; exit 3'", "left out, no Node (Debian: nodejs)"),
+        ("sh -c 'echo \"SKIPPED [1] a.py:1: no go (Debian: golang-go)\"; echo 1 skipped in 2s'", "no go (Debian: golang-go)"),
+        ("sh -c 'echo why it failed; exit 1'", "  why it failed"), ("sh -c 'kill -9 $$'", "status -9: sh -c"), ("/no/tool", "status 127: /no/tool")]
+
+
+def test_told():
+    """Each is told, and counted."""
+    text, status = told([it for it, _ in MADE])
+    missing = [word for _, word in MADE + [("", "2 passed, 3 failed ("), ("", "2 left out")] if word not in text]
+    assert not missing and status == 1, text
+
+
+def test_not_told():
+    """What only looks as if something was left out is not told."""
+    text, _ = told(["printf 'left %s U+0041: 33\\nx: 3 left %s, y\\n' out out"])
+    assert "left out U+0041" not in text and "3 left out" not in text
+
+
+def test_status():
+    """The status is 0 if all pass, and 1 if all is left out."""
+    assert told(["true"])[1] == 0 and told(["sh -c 'exit 3'"])[1] == 1
+
+
+def test_side_by_side():
+    """A check that waits for the next one is told after it."""
+    with tempfile.TemporaryDirectory() as folder:
+        made = os.path.join(folder, "made")
+        text, status = told([shlex.join(["timeout", "20", "sh", "-c", "until [ -e %s ]; do sleep 0.05; done" % shlex.quote(made)]),
+                             shlex.join(["sh", "-c", "sleep 0.1; touch %s" % shlex.quote(made)])])
+    assert status == 0 and text.index("touch") < text.index("until")
+
+
+def test_interrupt():
+    """An interrupt lets a check clean up, and ends what it started in a session of its own."""
+    with tempfile.TemporaryDirectory() as folder:
+        begun = os.path.join(folder, "begun")
+        child = os.fork()
+        if not child:
+            made = "trap 'rm %s; exit 1' INT; setsid sleep 1000 & echo $! > %s.new; mv %s.new %s; wait"
+            signal.signal(signal.SIGTERM, run_checks.stop)
+            try:
+                run_checks.run([run_checks.Check(shlex.join(["sh", "-c", made.replace("%s", shlex.quote(begun))]), None, False)], 1)
+            except SystemExit as ended:
+                os._exit(ended.code)
+        while not os.path.exists(begun):
+            time.sleep(0.02)
+        with open(begun, encoding="ascii") as file:
+            started = file.read().strip()
+        os.kill(child, signal.SIGTERM)
+        status = os.waitstatus_to_exitcode(os.waitpid(child, 0)[1])
+        assert status == 128 + signal.SIGTERM and not os.path.exists(begun) and not os.path.exists("/proc/" + started)
+
+
+STAND_IN = os.path.join(TOP, "tests/lib/without_pytest")
+MADE_TESTS = '''
+import pytest
+
+@pytest.fixture(name="two", scope="module")
+def two_of():
+    return 2
+
+@pytest.mark.parametrize("number", [1, 2, 3])
+def test_number(number, two, tmp_path):
+    assert number == two and tmp_path.is_dir()
+
+def test_left_out():
+    pytest.skip("no go")
+
+def test_failed():
+    pytest.fail("why", pytrace=False)
+'''
+
+
+@pytest.mark.parametrize("words", [[], ["-k", "number and not 1"], ["-k", "2"], ["-k", "out"], ["-k", "nothing"]])
+def test_stand_in(words, tmp_path):
+    """The stand-in counts made tests as pytest does, with the same status."""
+    (tmp_path / "test_made.py").write_text(MADE_TESTS)
+    (tmp_path / "test_ignored.py").write_text("import no_such_module\n")
+    (tmp_path / "conftest.py").write_text('collect_ignore_glob = ["test_i*.py"]\n')
+    answers = []
+    for words_of_it, more in (run_checks.pytest(), ([sys.executable, "-m", "pytest"], {"PYTHONPATH": STAND_IN})):
+        ran = subprocess.run([*words_of_it, *run_checks.HOW, str(tmp_path), *words], env={**os.environ, **more}, cwd=tmp_path,
+                             capture_output=True, text=True)
+        found = dict(map(reversed, re.findall(r"(\d+) (passed|failed|skipped)", ran.stdout.split("\n")[-2])))
+        answers.append((ran.returncode, found, "no go" in ran.stdout))
+    assert answers[0] == answers[1]

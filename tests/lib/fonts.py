@@ -1,0 +1,230 @@
+"""Makes fonts for tools and tests: a small fixture, parts of real fonts, and fonts written from nothing."""
+import struct
+
+# A font of four glyphs: two are empty, one is a square ring, one a single arc. Its map has 20, 41 and 42.
+FIXTURE = bytes.fromhex("""
+    00010000 0007 0040 0002 0030
+    636d6170 00000000 00000104 00000034  676c7966 00000000 00000144 0000003a  68656164 00000000 0000007c 00000036
+    68686561 00000000 000000d4 00000024  686d7478 00000000 000000f8 0000000c  6c6f6361 00000000 00000138 0000000a
+    6d617870 00000000 000000b4 00000020
+    00010000 00000000 00000000 5f0f3cf5 0000 0400 00000000 00000000 00000000 00000000
+    00000000 00000000 00000000 00000000 00000000
+    00010000 0004 0000 0000 0000 0000 0000 0001 0001 0000 0000 0000 0000 0000 0000
+    00010000 0320 ff20 0000 00000000 00000000 00000000 00000000 00000000 00000000 0002
+    0100 0000 0180 0000 0000 0000
+    0000 0001 0003 0001 0000000c 0004 0028 0000 0006 0004 0001 0002 0020 0042 ffff 0000 0020 0041 ffff ffe1 ffc1 0001
+    0000 0000 0000
+    0000 0000 0000 0012 001d 0000
+    0002 0000 0000 0140 0140 0003 0007 0000 31 21 11 21 17 35 33 15 0140 fec0 60 80 0140 e0 80 80 00
+    0001 0000 0000 0080 0080 0002 0000 31 36 17 40 40 80 80 00
+""")
+assert len(FIXTURE) == 382
+RING, ARC = FIXTURE[324:359], FIXTURE[360:381]  # its glyphs 2 and 3
+
+WORDS, OFFSETS, SCALE, MORE, TWO_SCALES, FOUR, PROGRAM = 1, 2, 8, 0x20, 0x40, 0x80, 0x100
+
+
+def tables_of(font):
+    """The tables of a font, by tag, in the directory's order."""
+    found = {}
+    for k in range(struct.unpack_from(">H", font, 4)[0]):
+        tag, _, at, length = struct.unpack_from(">4sLLL", font, 12 + 16 * k)
+        found.setdefault(tag.decode("latin-1"), font[at:at + length])
+    return found
+
+
+def assemble(tables):
+    """The bytes of a font with these tables, in this order. Checksums and search fields are 0."""
+    records, bodies, at = [], [], 12 + 16 * len(tables)
+    for tag, data in tables.items():
+        records.append(struct.pack(">4sLLL", tag.encode("latin-1"), 0, at, len(data)))
+        bodies.append(data + bytes(-len(data) % 4))
+        at += len(bodies[-1])
+    return b"".join([struct.pack(">LHHHH", 0x10000, len(tables), 0, 0, 0)] + records + bodies)
+
+
+def with_tables(font, **changed):
+    """The font with tables put in place of its own or added; `cvt` stands for the tag with a space."""
+    tables = tables_of(font)
+    for tag, data in changed.items():
+        tables[tag.ljust(4)] = data
+    return assemble(tables)
+
+
+def fixture_with(second=RING, third=ARC, bearing=0, **tables):
+    """The fixture with these bytes as glyphs 2 and 3, this left side bearing of glyph 2, and these tables."""
+    glyf, loca = b"", [0, 0, 0]
+    for glyph in (second, third):
+        glyf += glyph + bytes(len(glyph) % 2)
+        loca.append(len(glyf) // 2)
+    hmtx = tables_of(FIXTURE)["hmtx"]
+    tables = {"hmtx": hmtx[:8] + struct.pack(">h", bearing) + hmtx[10:], **tables}
+    return with_tables(FIXTURE, glyf=glyf, loca=struct.pack(">5H", *loca), **tables)
+
+
+def patched(font, at, data):
+    """The font with other bytes at a place."""
+    return font[:at] + data + font[at + len(data):]
+
+
+def map_of(pairs):
+    """A map of format 4, of pairs (code, glyph)."""
+    runs = []
+    for code, glyph in sorted(pairs):
+        if runs and code == runs[-1][1] + 1 and glyph - code == runs[-1][2]:
+            runs[-1][1] = code
+        else:
+            runs.append([code, code, glyph - code])
+    if not runs or runs[-1][1] != 0xFFFF:
+        runs.append([0xFFFF, 0xFFFF, 1])
+    n = len(runs)
+    out = struct.pack(">HHHHLHHHHHHH", 0, 1, 3, 1, 12, 4, 16 + 8 * n, 0, 2 * n, 0, 0, 0)
+    out += b"".join(struct.pack(">H", high) for _, high, _ in runs) + bytes(2)
+    out += b"".join(struct.pack(">H", low) for low, _, _ in runs)
+    return out + b"".join(struct.pack(">H", delta & 0xFFFF) for _, _, delta in runs) + bytes(2 * n)
+
+
+def map_to_one(glyph):
+    """A map that gives this glyph for each of the 65,536 codes: one segment, and its numbers one by one."""
+    return struct.pack(">HHHHLHHHHHHHHHHHH", 0, 1, 3, 1, 12, 4, 24, 0, 2, 0, 0, 0, 0xFFFF, 0, 0, 0, 2) + struct.pack(">H", glyph) * 65536
+
+
+def wide_map_of(pairs):
+    """A map of format 12, of pairs (code, glyph)."""
+    groups = []
+    for code, glyph in sorted(pairs):
+        if groups and code == groups[-1][1] + 1 and glyph - code == groups[-1][2] - groups[-1][0]:
+            groups[-1][1] = code
+        else:
+            groups.append([code, code, glyph])
+    out = struct.pack(">HHHHLHHLLL", 0, 1, 3, 10, 12, 12, 0, 16 + 12 * len(groups), 0, len(groups))
+    return out + b"".join(struct.pack(">LLL", *group) for group in groups)
+
+
+def simple(contours, program=b""):
+    """The bytes of a simple glyph. A contour is a list of points (x, y, on)."""
+    points = [point for contour in contours for point in contour]
+    xs, ys = [p[0] for p in points] or [0], [p[1] for p in points] or [0]
+    out = struct.pack(">hhhhh", len(contours), min(xs), min(ys), max(xs), max(ys))
+    end = -1
+    for contour in contours:
+        end += len(contour)
+        out += struct.pack(">H", end)
+    out += struct.pack(">H", len(program)) + program
+    out += bytes(1 if on else 0 for _, _, on in points)
+    for values in (xs, ys):
+        before = 0
+        for value in values[:len(points)]:
+            out += struct.pack(">H", (value - before) & 0xFFFF)
+            before = value
+    return out + bytes(len(out) % 2)
+
+
+def composite(parts, program=b""):
+    """The bytes of a composite. A part is (glyph, dx, dy), or (glyph, dx, dy, scale) with the scale in 1/16384."""
+    out = struct.pack(">hhhhh", -1, 0, 0, 0, 0)
+    for k, (glyph, dx, dy, *scale) in enumerate(parts):
+        last = k + 1 == len(parts)
+        flags = WORDS | OFFSETS | (SCALE if scale else 0) | (0 if last else MORE) | (PROGRAM if last and program else 0)
+        out += struct.pack(">HHhh", flags, glyph, dx, dy) + b"".join(struct.pack(">h", s) for s in scale)
+    if program:
+        out += struct.pack(">H", len(program)) + program
+    return out + bytes(len(out) % 2)
+
+
+def font_of(glyphs, cmap, upem=1000, twilight=0, storage=0, functions=0, stack=0, metrics=None, **programs):
+    """A font of these glyphs, each its bytes; glyph 0 is the first. `programs` are fpgm, prep and cvt.
+
+    `metrics` are pairs of an advance and a left side bearing, one for each glyph; else all have one advance, and the bearing 0."""
+    at, loca = 0, b""
+    for glyph in glyphs:
+        loca += struct.pack(">L", at)
+        at += len(glyph)
+    loca += struct.pack(">L", at)
+    head = struct.pack(">LLLLHH", 0x10000, 0, 0, 0x5F0F3CF5, 0, upem) + bytes(30) + struct.pack(">hh", 1, 0)
+    maxp = struct.pack(">LHHHHHHHHHHHHHH", 0x10000, len(glyphs), 0, 0, 0, 0, 2, twilight, storage, functions, 0, stack, 0, 0, 0)
+    hhea = struct.pack(">Lhh", 0x10000, 800, -200) + bytes(26) + struct.pack(">H", len(metrics) if metrics else 1)
+    hmtx = struct.pack(">Hh", upem & 0x7FFF, 0) + bytes(2 * (len(glyphs) - 1))
+    if metrics:
+        hmtx = b"".join(struct.pack(">Hh", *pair) for pair in metrics)
+    tables = {"cmap": cmap, "glyf": b"".join(glyphs), "head": head, "hhea": hhea, "hmtx": hmtx, "loca": loca, "maxp": maxp}
+    for tag, data in programs.items():
+        tables[tag.ljust(4)] = data
+    return assemble(tables)
+
+
+def components_at(glyph):
+    """The places in a glyph's bytes that hold a component's glyph number."""
+    if len(glyph) < 10 or glyph[0] < 0x80:
+        return []
+    at, places = 10, []
+    while True:
+        flags, = struct.unpack_from(">H", glyph, at)
+        places.append(at + 2)
+        at += 8 if flags & WORDS else 6
+        at += 2 if flags & SCALE else 4 if flags & TWO_SCALES else 8 if flags & FOUR else 0
+        if not flags & MORE:
+            return places
+
+
+def glyph_numbers(font):
+    """The font's map of format 4 for Windows, as a dict from code to glyph."""
+    cmap, found = tables_of(font)["cmap"], {}
+    for k in range(struct.unpack_from(">H", cmap, 2)[0]):
+        platform, encoding, at = struct.unpack_from(">HHL", cmap, 4 + 8 * k)
+        if (platform, encoding) != (3, 1) or struct.unpack_from(">H", cmap, at)[0] != 4:
+            continue
+        n = struct.unpack_from(">H", cmap, at + 6)[0] // 2
+        for s in range(n):
+            high, low, delta, jump = (struct.unpack_from(">H", cmap, at + off + 2 * s)[0] for off in (14, 16 + 2 * n, 16 + 4 * n, 16 + 6 * n))
+            for code in range(low, high + 1):
+                if jump in (0, 0xFFFF):
+                    glyph = (code + delta) & 0xFFFF
+                else:
+                    place = at + 16 + 6 * n + 2 * s + jump + 2 * (code - low)
+                    glyph = struct.unpack_from(">H", cmap, place)[0] if place + 2 <= len(cmap) else 0
+                    glyph = (glyph + delta) & 0xFFFF if glyph else 0
+                if glyph:
+                    found[code] = glyph
+        break
+    return found
+
+
+def part_of(font, codes, short=False):
+    """The font with the glyphs of these codes alone, and their components, numbered anew. Its programs stay."""
+    tables, numbers = tables_of(font), glyph_numbers(font)
+    long = struct.unpack_from(">h", tables["head"], 50)[0]
+    places = struct.unpack(">%d%s" % (len(tables["loca"]) // (4 if long else 2), "L" if long else "H"), tables["loca"])
+    def bytes_of(g):
+        return tables["glyf"][places[g] * (1 if long else 2):places[g + 1] * (1 if long else 2)]
+    kept = [0] + sorted({numbers[code] for code in codes if code in numbers})
+    for g in kept:  # grows while it is walked
+        for at in components_at(bytes_of(g)):
+            part, = struct.unpack_from(">H", bytes_of(g), at)
+            if part not in kept:
+                kept.append(part)
+    glyf, loca = b"", []
+    for g in kept:
+        data = bytearray(bytes_of(g))
+        for at in components_at(data):
+            struct.pack_into(">H", data, at, kept.index(struct.unpack_from(">H", data, at)[0]))
+        loca.append(len(glyf))
+        glyf += bytes(data) + bytes(-len(data) % 4)
+    loca.append(len(glyf))
+    pairs, = struct.unpack_from(">H", tables["hhea"], 34)
+    hmtx = b""
+    for g in kept:
+        bearing = 4 * g + 2 if g < pairs else 4 * pairs + 2 * (g - pairs)
+        hmtx += tables["hmtx"][4 * min(g, pairs - 1):][:2] + tables["hmtx"][bearing:][:2]
+    head, hhea, maxp = (bytearray(tables[tag]) for tag in ("head", "hhea", "maxp"))
+    struct.pack_into(">h", head, 50, 0 if short else 1)
+    struct.pack_into(">H", hhea, 34, len(kept))
+    struct.pack_into(">H", maxp, 4, len(kept))
+    made = {"cmap": map_of([(code, kept.index(numbers[code])) for code in codes if code in numbers]), "glyf": glyf, "head": bytes(head),
+            "hhea": bytes(hhea), "hmtx": hmtx, "maxp": bytes(maxp),
+            "loca": struct.pack(">%dH" % len(loca), *(at // 2 for at in loca)) if short else struct.pack(">%dL" % len(loca), *loca)}
+    for tag in ("cvt ", "fpgm", "prep"):
+        if tag in tables:
+            made[tag] = tables[tag]
+    order = ["head", "maxp", "hhea", "hmtx", "cmap", "cvt ", "fpgm", "prep", "loca", "glyf"]
+    return assemble({tag: made[tag] for tag in order if tag in made})

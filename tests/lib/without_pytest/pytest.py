@@ -1,0 +1,185 @@
+"""A small stand-in for pytest, where that is not installed: what these tests use of fixtures, parametrize, skip and -k, and no more.
+
+    PYTHONPATH=tests/lib/without_pytest python3 -m pytest tests/program -k face
+
+tools/run_checks does so, so that the gate needs no package of Python.
+"""
+import configparser
+import fnmatch
+import functools
+import glob
+import importlib.util
+import inspect
+import os
+import pathlib
+import re
+import runpy
+import sys
+import tempfile
+import time
+import traceback
+
+TOP = pathlib.Path(__file__).resolve().parents[3]
+
+
+class Outcome(BaseException):
+    """How a test ended before its end: left out, or failed with a text."""
+
+
+class Skipped(Outcome):
+    """Left out."""
+
+
+def skip(reason):
+    """Leaves a test out."""
+    raise Skipped(reason)
+
+
+def fail(reason, pytrace=True):
+    """Fails a test; `pytrace` is for the real pytest."""
+    del pytrace
+    raise Outcome(reason)
+
+
+def fixture(function=None, name=None, scope="function"):
+    """Marks a function as a fixture."""
+    def mark_it(made):
+        made.fixture = name or made.__name__, scope
+        return made
+    return mark_it(function) if function else mark_it
+
+
+class mark:
+    """The marks of tests."""
+
+    @staticmethod
+    def parametrize(name, values, ids=None):
+        """A test for each value of an argument."""
+        values = list(values)
+
+        def add(function):
+            function.values = name, values, ids or [getattr(it, "__name__", str(it)) for it in values]
+            return function
+        return add
+
+
+class Folders:
+    """The fixture tmp_path_factory."""
+
+    def __init__(self, top):
+        self.top = pathlib.Path(top)
+
+    def mktemp(self, name):
+        """A new folder."""
+        return pathlib.Path(tempfile.mkdtemp(prefix=name, dir=self.top))
+
+
+class Tests:
+    """The tests of files, and the fixtures that they share."""
+
+    def __init__(self, top):
+        self.fixtures, self.made, self.folders = {}, {}, Folders(top)
+
+    def load(self, path):
+        """Imports a file, and takes its fixtures."""
+        sys.path.insert(0, os.path.dirname(path))
+        name = os.path.basename(path)[:-3]
+        if name == "conftest":
+            spec = importlib.util.spec_from_file_location("conftest_%d" % len(self.fixtures), path)
+            module = importlib.util.module_from_spec(spec)
+            spec.loader.exec_module(module)
+        else:
+            module = importlib.import_module(name)
+        for it in vars(module).values():
+            if inspect.isfunction(it) and hasattr(it, "fixture"):
+                self.fixtures[it.fixture[0]] = it
+        return module
+
+    def value(self, name, module):
+        """What a fixture gives."""
+        if name == "tmp_path_factory":
+            return self.folders
+        if name == "tmp_path":
+            return self.folders.mktemp("test")
+        function = self.fixtures[name]
+        key = name, {"session": None, "module": module}.get(function.fixture[1], object())
+        if key not in self.made:
+            try:
+                self.made[key] = self.call(function, module)
+            except Skipped as left:
+                self.made[key] = left
+        if isinstance(self.made[key], Skipped):
+            raise self.made[key]
+        return self.made[key]
+
+    def call(self, function, module, **given):
+        """Calls a function with its fixtures."""
+        names = [it for it in inspect.signature(function).parameters if it not in given]
+        return function(**given, **{it: self.value(it, module) for it in names})
+
+    def of(self, path):
+        """The tests of a file: their names, and what runs them."""
+        module = self.load(path)
+        for name, function in [it for it in vars(module).items() if it[0].startswith("test_") and callable(it[1])]:
+            where = "%s::%s" % (os.path.relpath(path), name)
+            if not hasattr(function, "values"):
+                yield where, functools.partial(self.call, function, path)
+                continue
+            argument, values, ids = function.values
+            for value, text in zip(values, ids):
+                yield "%s[%s]" % (where, text), functools.partial(self.call, function, path, **{argument: value})
+
+
+def is_wanted(name, expression):
+    """Whether a test's name fits an expression of -k."""
+    def truth(word):
+        return word.group() if word.group() in ("and", "or", "not") else str(word.group().lower() in name.lower())
+    return not expression or eval(re.sub(r"[\w.\[\]-]+", truth, expression))  # pylint: disable=eval-used
+
+
+def files_of(paths, ignored):
+    """The files of tests below paths."""
+    found = []
+    for path in paths:
+        found += sorted(glob.glob(os.path.join(path, "**/test_*.py"), recursive=True)) if os.path.isdir(path) else [path]
+    return [it for it in map(os.path.abspath, found) if it not in map(os.path.abspath, ignored) and not is_left(it)]
+
+
+def is_left(path):
+    """Whether the conftest.py beside a file leaves it out."""
+    beside = pathlib.Path(path).with_name("conftest.py")
+    given = runpy.run_path(str(beside)).get("collect_ignore_glob", ()) if beside.exists() else ()
+    return any(fnmatch.fnmatch(os.path.basename(path), it) for it in given)
+
+
+def main(words):
+    """Runs the tests that the words of a command line name."""
+    expression = next((words[k + 1] for k, it in enumerate(words) if it == "-k"), "")
+    paths = [it for k, it in enumerate(words) if not it.startswith("-") and words[k - 1:k] not in (["-k"], ["-p"])]
+    ini, start, counts = configparser.ConfigParser(), time.monotonic(), {"failed": 0, "passed": 0, "skipped": 0}
+    ini.read(TOP / "pytest.ini")
+    sys.path[:0] = [str(TOP / it) for it in ini["pytest"]["pythonpath"].split()]
+    with tempfile.TemporaryDirectory() as folder:
+        tests = Tests(folder)
+        tests.load(str(TOP / "tests/conftest.py"))
+        for path in files_of(paths or [str(TOP / "tests")], [it.partition("=")[2] for it in words if it.startswith("--ignore=")]):
+            for name, run in [it for it in tests.of(path) if is_wanted(it[0], expression)]:
+                how, said = "passed", ""
+                try:
+                    run()
+                except Skipped as left:
+                    how, said = "skipped", "SKIPPED [1] %s: %s" % (name, left)
+                except Outcome as failed:
+                    how, said = "failed", "FAILED %s\n%s" % (name, failed)
+                except (Exception, SystemExit):  # pylint: disable=broad-except
+                    how, said = "failed", "FAILED %s\n%s" % (name, traceback.format_exc())
+                counts[how] += 1
+                print(said + "\n" if said else "", end="", flush=True)
+    told = ", ".join("%d %s" % (number, how) for how, number in counts.items() if number)
+    print("%s in %.2fs" % (told or "no tests ran", time.monotonic() - start))
+    return 1 if counts["failed"] else 0 if any(counts.values()) else 5
+
+
+if __name__ == "__main__":
+    import pytest  # the module that the tests import, not this one
+    sys.exit(pytest.main(sys.argv[1:]))

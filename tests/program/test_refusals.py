@@ -1,0 +1,280 @@
+"""Cases of the program: each refusal, with nothing on standard output, and which of several comes first."""
+import struct
+
+import due
+import fonts
+from cases import cases
+from due import halted, refused
+from made import Empty, Font, square
+from runs import Run
+from strikes import A, B
+
+WORDS = "make --ppem 16 --chars 41"
+PLAIN = WORDS + " --unhinted"
+TABLES = fonts.tables_of(fonts.FIXTURE)
+TRIANGLE = fonts.simple([[(0, 0, 1), (90, 0, 1), (90, 90, 1)]])
+
+
+def word(number):
+    """Two bytes."""
+    return struct.pack(">H", number & 0xFFFF)
+
+
+def long(number):
+    """Four bytes."""
+    return struct.pack(">L", number)
+
+
+def put(tag, at, data):
+    """The fixture with bytes of a table put in place of its own."""
+    table = TABLES[tag]
+    return fonts.with_tables(fonts.FIXTURE, **{tag.strip(): table[:at] + data + table[at + len(data):]})
+
+
+def cut(tag, length):
+    """The fixture with a table that ends early."""
+    return fonts.with_tables(fonts.FIXTURE, **{tag.strip(): TABLES[tag][:length]})
+
+
+def lacking(tag):
+    """The fixture without a table."""
+    return fonts.assemble({name: data for name, data in TABLES.items() if name != tag})
+
+
+def both(name, data, text):
+    """The refusal of a strike of A, hinted and not."""
+    for words in (WORDS, PLAIN):
+        yield Run("%s: %s" % (text, name), words, data, refused(text))
+
+
+# ---- files and tables ----
+
+def no_font():
+    """Files that are no TrueType font."""
+    fixture = fonts.FIXTURE
+    for name, data in (("no byte", b""), ("11 bytes", fixture[:11]), ("cut records", fixture[:123]),
+                       ("OTTO", b"OTTO" + fixture[4:]),
+                       ("a collection", b"ttcf" + fixture[4:]), ("text", fixture.hex().encode())):
+        yield name, data, "10 NotTrueType"
+
+
+def bad_tables():
+    """Tables that are missing, short or bad."""
+    for tag in ("head", "maxp", "hhea", "hmtx", "loca", "glyf"):
+        yield "none", lacking(tag), "11 TableMissing " + tag
+    for tag, length in (("head", 53), ("head", 0), ("maxp", 31), ("maxp", 6), ("hhea", 35), ("hmtx", 7), ("hmtx", 0)):
+        yield "%d bytes" % length, cut(tag, length), "12 TableShort " + tag
+    yield "no pair in it", put("hhea", 34, word(0)), "12 TableShort hmtx"
+    yield "another magic number", put("head", 12, b"\0"), "13 BadHead"
+    for upem in (0, 15, 16385, 65535):
+        yield "%d units an em" % upem, put("head", 18, word(upem)), "13 BadHead"
+    for form in (2, -1):
+        yield "format %d of loca" % form, put("head", 50, word(form)), "13 BadHead"
+    yield "version 0.5", put("maxp", 0, long(0x5000)), "14 BadMaxp"
+    yield "no glyph", put("maxp", 4, word(0)), "14 BadMaxp"
+
+
+def refusals_of_files():
+    """10 to 14: the directory and the tables that every font needs, for a strike, a picture and a listing."""
+    for name, data, text in [*no_font(), *bad_tables()]:
+        yield from both(name, data, text)
+        for words in ("dump --of prep", "show --ppem 16 --char 20"):
+            yield Run("%s: %s: %s" % (text, name, words), words, data, refused(text))
+
+
+# ---- maps ----
+
+def mapped(cmap):
+    """The fixture with another map."""
+    return fonts.with_tables(fonts.FIXTURE, cmap=cmap)
+
+
+def format_4(ends, starts):
+    """A map of one subtable of format 4, with segments of these end and start codes."""
+    n = len(ends)
+    head = struct.pack(">HHHHLHHHHHHH", 0, 1, 3, 1, 12, 4, 16 + 8 * n, 0, 2 * n, 0, 0, 0)
+    return head + b"".join(map(word, ends)) + bytes(2) + b"".join(map(word, starts)) + bytes(4 * n)
+
+
+def format_12(groups):
+    """A map of one subtable of format 12."""
+    head = struct.pack(">HHHHLHHLLL", 0, 1, 3, 10, 12, 12, 0, 16 + 12 * len(groups), 0, len(groups))
+    return head + b"".join(struct.pack(">LLL", *group) for group in groups)
+
+
+def bad_maps():
+    """Maps that are missing, cut or bad."""
+    own = TABLES["cmap"]
+    yield "none", lacking("cmap"), "15 NoCharMap"
+    for name, cmap in (("for another system", struct.pack(">HHHHL", 0, 1, 1, 0, 12) + own[12:]),
+                       ("no record", bytes(4)),
+                       ("of format 6", own[:12] + word(6) + own[14:])):
+        yield name, mapped(cmap), "15 NoCharMap"
+    for name, cmap in (("empty", b""), ("cut records", own[:11]), ("a cut head", own[:18]),
+                       ("cut segments", format_4([5, 9], [1, 7])[:-1]),
+                       ("falling ends", format_4([9, 5, 0xFFFF], [1, 7, 0xFFFF])),
+                       ("a cut head of format 12", format_12([])[:-1]),
+                       ("cut groups", format_12([(1, 5, 1), (7, 9, 1)])[:-1]),
+                       ("falling last codes", format_12([(7, 9, 1), (1, 5, 1)])),
+                       ("2^32 - 1 groups", format_12([])[:-4] + b"\xFF" * 4)):
+        yield name, mapped(cmap), "16 BadCharMap"
+
+
+def refusals_of_maps():
+    """15 and 16, which a listing doesn't have; and a map that names a glyph that is not there."""
+    for name, data, text in bad_maps():
+        yield from both(name, data, text)
+        yield Run("%s: %s, listed" % (text, name), "dump --of prep", data, due.listed([]))
+    for glyph in (4, 65535):
+        yield from both("in the map", mapped(fonts.wide_map_of([(A, glyph)])), "24 BadGlyphNumber %d" % glyph)
+
+
+# ---- glyphs ----
+
+def font_with(data, *more):
+    """A font with these bytes as glyph 2 and A, after a triangle, and further glyphs after it."""
+    return fonts.font_of([b"", TRIANGLE, data, *more], fonts.map_of([(A, 2), (B, 1)]), stack=9)
+
+
+def placed(offsets, short=False):
+    """The fixture with other offsets of glyphs."""
+    loca = b"".join(map(word if short else long, offsets))
+    head = TABLES["head"][:50] + word(0 if short else 1) + TABLES["head"][52:]
+    return fonts.with_tables(fonts.FIXTURE, loca=loca, head=head)
+
+
+def bad_offsets():
+    """Offsets of glyphs that are cut, fall, or lie past the glyphs."""
+    size = len(TABLES["glyf"])
+    yield "cut offsets", cut("loca", 7)
+    yield "falling offsets", placed([0, 0, 36, 20, 50])
+    yield "short offsets that fall", placed([0, 0, 18, 9, 30], True)
+    yield "an offset past glyf", placed([0, 0, size + 1, size + 9, size + 9])
+
+
+def bad_glyphs():
+    """Glyphs whose bytes are cut or bad, and bad components."""
+    for k in range(1, len(TRIANGLE) - 1):
+        yield "%d bytes" % k, font_with(TRIANGLE[:k]), "18 GlyphShort 2"
+    yield "32,767 contours", font_with(struct.pack(">h8x", 0x7FFF) + word(5) * 0x7FFE), "18 GlyphShort 2"
+    yield "a cut component", font_with(fonts.composite([(1, 0, 0)])[:17]), "18 GlyphShort 2"
+    yield "of a component", font_with(fonts.composite([(1, 0, 0), (3, 0, 0)]), TRIANGLE[:12]), "18 GlyphShort 3"
+    yield "falling end points", font_with(struct.pack(">h8xHH", 2, 5, 3) + bytes(99)), "19 BadContours 2"
+    yield "a component of none", font_with(fonts.composite([(9, 0, 0)])), "24 BadGlyphNumber 9"
+    yield "a component of itself", font_with(fonts.composite([(2, 0, 0)])), "20 ComponentDepth 2"
+    two = font_with(fonts.composite([(3, 0, 0)]), fonts.composite([(2, 0, 0)]))
+    yield "two of each other", two, "20 ComponentDepth 3"
+    matched = struct.pack(">h8xHHBBHHBB", -1, 0x20, 1, 0, 0, 0, 1, 3, 0)
+    yield "points that are not there", font_with(matched), "23 BadPointMatch 2"
+
+
+def refusals_of_glyphs():
+    """17 to 20, 23 and 24 of glyphs and their components."""
+    for name, data in bad_offsets():
+        yield from both(name, data, "17 BadLoca 2")
+    for name, data, text in bad_glyphs():
+        yield from both(name, data, text)
+    short, data = refused("18 GlyphShort 2"), font_with(TRIANGLE[:9])
+    yield Run("its listing", "dump --of 2", data, short)
+    yield Run("its picture", "show --ppem 16 --char 41", data, short)
+    yield Run("another listing", "dump --of 1", data, due.listed([]))
+    yield Run("a listing of no glyph", "dump --of 3", data, refused("24 BadGlyphNumber 3"))
+
+
+# ---- programs ----
+
+def programmed(fpgm=b"", prep=b"", glyph=b"", **numbers):
+    """A font with programs: a square with one is A, and a composite of it B."""
+    box = [[(0, 0, 1), (90, 0, 1), (90, 90, 1), (0, 90, 1)]]
+    made = [b"", fonts.simple(box, glyph), fonts.composite([(1, 5, 5)])]
+    return fonts.font_of(made, fonts.map_of([(A, 1), (B, 2)]), fpgm=fpgm, prep=prep, **numbers)
+
+
+# The cause, a program, and the address and the opcode of the instruction at which it halts.
+HALTS = (("30 StackUnder", "21", 0, 0x21), ("30 StackUnder", "B0 01 06", 2, 0x06),
+         ("30 StackUnder", "00 0F", 1, 0x0F), ("30 StackUnder", "B0 02 5D", 2, 0x5D),
+         ("30 StackUnder", "B0 05 17 B0 00 3C", 5, 0x3C), ("31 StackOver", "41 29" + " 0007" * 41, 0, 0x41),
+         ("32 BadOpcode", "28", 0, 0x28), ("32 BadOpcode", "B0 00 4F 91", 3, 0x91), ("33 CodeEnd", "B1 00", 0, 0xB1),
+         ("33 CodeEnd", "40", 0, 0x40), ("33 CodeEnd", "41 02 00 01 00", 0, 0x41),
+         ("33 CodeEnd", "B0 00 58", 2, 0x58), ("33 CodeEnd", "B0 00 2C 59", 2, 0x2C),
+         ("33 CodeEnd", "1B 00", 0, 0x1B), ("34 BadJump", "B0 02 1C", 2, 0x1C),
+         ("34 BadJump", "B8 FF FC 1C", 3, 0x1C), ("35 NoFunction", "B0 05 2B", 2, 0x2B),
+         ("35 NoFunction", "B8 FF FF 2B", 3, 0x2B), ("35 NoFunction", "B1 01 05 2A", 3, 0x2A),
+         ("36 CallDepth", "B0 00 2C B0 00 2B 2D B0 00 2B", 5, 0x2B), ("37 StepLimit", "B8 FF FD 1C", 0, 0xB8),
+         ("38 DivideByZero", "B1 40 00 62", 3, 0x62), ("39 BadArgument", "B0 00 25", 2, 0x25),
+         ("39 BadArgument", "B1 05 02 26", 3, 0x26), ("39 BadArgument", "B0 02 13", 2, 0x13),
+         ("39 BadArgument", "B0 07 5F", 2, 0x5F), ("39 BadArgument", "B8 FF FF 17", 3, 0x17),
+         ("39 BadArgument", "B0 40 2C 2D", 2, 0x2C), ("39 BadArgument", "B8 01 00 89 2D", 3, 0x89),
+         ("40 NestedDefinition", "B1 01 00 2C 2C 2D 2D", 3, 0x2C), ("40 NestedDefinition", "B0 01 2C 89", 2, 0x2C),
+         ("41 StrayEnd", "2D", 0, 0x2D))
+
+
+def halts():
+    """30 to 41: programs that halt, each as fpgm, as prep and as a glyph's program."""
+    for cause, text, at, opcode in HALTS:
+        code = bytes.fromhex(text)
+        for where, data in (("fpgm", programmed(fpgm=code)), ("prep", programmed(prep=code)),
+                            ("glyph 1", programmed(glyph=code))):
+            yield Run("%s: %s in %s" % (cause, text[:30], where), WORDS, data, halted(cause, where, where, at, opcode))
+        shown = halted(cause, "glyph 1", "glyph 1", at, opcode)
+        yield Run("%s: %s, shown" % (cause, text[:30]), "show --ppem 16 --char 41", programmed(glyph=code), shown)
+
+
+def halts_in_functions():
+    """Halts in functions of other programs, and at the end of their bytes."""
+    body = bytes.fromhex("B0 00 2C 4D 21 2D")  # function 0: FLIPON, POP
+    past = bytes.fromhex("B0 00 2C B0 04 1C 2D 4D 4D")  # function 0: a jump over its ENDF to the end of the bytes
+    farther = past.replace(b"\x04\x1C", b"\x05\x1C")
+    call = bytes.fromhex("B0 00 2B")
+    for data, answer in (
+            (programmed(fpgm=body, prep=call), halted("30 StackUnder", "prep", "fpgm", 4, 0x21)),
+            (programmed(fpgm=body, glyph=call), halted("30 StackUnder", "glyph 1", "fpgm", 4, 0x21)),
+            (programmed(prep=body, glyph=call), halted("30 StackUnder", "glyph 1", "prep", 4, 0x21)),
+            (programmed(fpgm=past, prep=call), halted("41 StrayEnd", "prep", "fpgm", 9, 0)),
+            (programmed(fpgm=past, glyph=call), halted("41 StrayEnd", "glyph 1", "fpgm", 9, 0)),
+            (programmed(fpgm=farther, glyph=call), halted("34 BadJump", "glyph 1", "fpgm", 5, 0x1C))):
+        yield Run(answer.err.decode().strip(), WORDS, data, answer)
+
+
+def which_programs_run():
+    """What halts depends on hinting, and on the characters that are asked for."""
+    square_font, pop = Font([Empty(), square(90)], {A: 1}), b"\x21"
+    places = ("fpgm", "prep", "glyph 1")
+    in_fpgm, in_prep, in_glyph = (halted("30 StackUnder", where, where, 0, 0x21) for where in places)
+    nothing = ["make", "--ppem", "16", "--chars", ""]
+    yield Run("a component's program", "make --ppem 16 --chars 42", programmed(glyph=pop), in_glyph)
+    yield Run("no program, unhinted", PLAIN, programmed(pop, pop, pop), square_font.make([A], 16, False))
+    yield Run("fpgm for no glyph", "make --ppem 16 --chars 43", programmed(fpgm=pop), in_fpgm)
+    yield Run("prep for no character", nothing, programmed(prep=pop), in_prep)
+    yield Run("no glyph for no character", nothing, programmed(glyph=pop), square_font.make([], 16))
+    yield Run("fpgm before prep", WORDS, programmed(fpgm=pop, prep=b"\x28"), in_fpgm)
+    yield Run("prep before a glyph", WORDS, programmed(prep=pop, glyph=b"\x28"), in_prep)
+
+
+def orders():
+    """Requests with several faults: the first in order is named."""
+    bad = programmed(fpgm=b"\x21")
+    for words, data, text in (
+            ("make --ppem 0 --chars 42-41", b"", "61 BadChars"),
+            ("make --ppem 0 --chars 110000 --hex", b"g", "72 BadHex"),
+            ("make --ppem 0 --chars 110000 --name=", b"", "60 BadSize"),
+            ("make --ppem 9 --chars 110000 --name=", b"", "61 BadChars"),
+            ("make --ppem 9 --chars 41 --name=", b"", "62 BadName"),
+            ("make --ppem 9 --chars 41 --name= --property a=1", b"", "62 BadName"),
+            ("make --ppem 9 --chars 41 --property a=1", b"", "63 BadProperty 1"),
+            ("make --ppem 9 --chars 41", b"", "10 NotTrueType"),
+            ("make --ppem 0 --chars 41", bad, "60 BadSize"),
+            ("show --ppem 0 --char 110000", b"", "60 BadSize"),
+            ("show --ppem 0 --char 42-41", b"", "61 BadChars"),
+            (WORDS, fonts.with_tables(bad, cmap=b""), "16 BadCharMap"),
+            (WORDS, bad, "30 StackUnder during fpgm in fpgm at 0 opcode 21")):
+        yield Run("%s first: %s" % (text, words), words, data, refused(text))
+    line = fonts.simple([[(0, 0, 1), (90, 0, 1)]], b"\x21")
+    several = fonts.font_of([b"", TRIANGLE[:5], line], fonts.map_of([(A, 2), (B, 1)]))
+    in_glyph = halted("30 StackUnder", "glyph 2", "glyph 2", 0, 0x21)
+    yield Run("the lower character first", "make --ppem 16 --chars 42,41", several, in_glyph)
+    yield Run("the other, unhinted", "make --ppem 16 --chars 42,41 --unhinted", several, refused("18 GlyphShort 1"))
+
+
+test_refusals = cases(refusals_of_files, refusals_of_glyphs, refusals_of_maps, halts, halts_in_functions, which_programs_run,
+                      orders)

@@ -1,0 +1,186 @@
+"""Traces of programs: worked by hand, and beside those of the suite's reference."""
+import os
+import subprocess
+
+import due
+import fonts
+import pytest
+import runs
+from cases import cases
+from needs import REAL, real_font
+from prebuilt import TOP
+from reference import fontfile as reference
+from reference.trace import Traces
+from runs import Run
+from test_faces import collection, face
+
+LINE = [[(0, 0, 1), (64, 0, 1), (64, 64, 1)]]
+A, B = 0x41, 0x42
+POP = bytes.fromhex("21")
+FPGM_HALTS, PREP_HALTS = ("30 StackUnder during %s in %s at 0 opcode 21" % (name, name) for name in ("fpgm", "prep"))
+
+
+def font(program=b"", fpgm=b"", prep=b"", more=()):
+    """A font whose glyph 1, the letter A, has this program; other glyphs follow it."""
+    glyphs = [b"", fonts.simple(LINE, program), *more]
+    chars = [(A, 1)] + [(B, 2)] * bool(more)
+    return fonts.font_of(glyphs, fonts.map_of(chars), functions=2, stack=16, fpgm=fpgm, prep=prep)
+
+
+def sized(program, **tables):
+    """A font of 1,024 FUnits an em, whose glyph 1 is the letter A: at 16 pixels an FUnit is 1/64 pixel, so its points are at 0,0, 64,0
+    and 64,64. Control value 0 is 100."""
+    glyphs = [b"", fonts.simple(LINE, bytes.fromhex(program))]
+    return fonts.font_of(glyphs, fonts.map_of([(A, 1)]), upem=1024, functions=2, stack=16, twilight=2, storage=2,
+                         cvt=bytes.fromhex("0064"), **tables)
+
+
+def worked(name, *rows):
+    """A program of the letter A by rows: its bytes in hexadecimal, and what its line has after the address."""
+    at, code, lines = 0, "", ["glyph 1 begins"]
+    for data, line in rows:
+        lines.append("glyph 1 %04X %s" % (at, line))
+        code += data
+        at += len(bytes.fromhex(data))
+    return Run(name, "trace --ppem 16 --glyph 1", sized(code), due.listed(lines))
+
+
+# Words of SCANCTRL and whether drop-out control is on after each, at 16 pixels an em, by the manual: bits 0 to 7 are a threshold, with which
+# bit 8 turns it on up to it and bit 11 off above it. Bits 9 and 10 turn it on, and 12 and 13 leave it on, for rotated and stretched glyphs
+# alone. The threshold 255 turns it on, 0 off; bits 14 and 15 mean nothing. Where no bit says so it is as it was: off at first.
+SCANCTRL = [(0x0110, 1), (0x0110, 1), (0x010F, 1), (0x090F, 0), (0x010F, 0), (0x0111, 1), (0x0810, 1), (0x080F, 0), (0x0810, 0), (0x0910, 1),
+            (0x0100, 0), (0x00FF, 1), (0x0000, 0), (0x3EFF, 1), (0x3F00, 0), (0x0210, 0), (0x0410, 0), (0x0610, 0), (0x0310, 1),
+            (0x0210, 1), (0x0410, 1), (0x1110, 0), (0x0510, 1), (0x2110, 0), (0x0110, 1), (0x1010, 0), (0x0110, 1), (0x2010, 0),
+            (0xC110, 1), (0xC00F, 1), (0x0010, 1), (0x000F, 1), (0x080F, 0), (0x0010, 0), (0xC0FF, 1), (0xFF00, 0)]
+
+# Types of SCANTYPE: 0 and 1 are simple, 4 and 5 smart, 2, 3 and 6 to 8 turn it off, which a trace shows as 0, 4 and 2. Others change nothing.
+SCANTYPE = [(4, 4), (0, 0), (5, 4), (1, 0), (2, 2), (4, 4), (3, 2), (5, 4), (6, 2), (4, 4), (7, 2), (4, 4), (8, 2), (4, 4), (9, 4), (0, 0), (10, 0),
+            (255, 0), (-1, 0), (-4, 0), (260, 0), (2, 2), (9, 2)]
+
+
+def set_in_turn(name, opcode, change, at_first, table):
+    """A program that executes an instruction with each number of a table, whose lines show what each changes."""
+    rows, was = [], at_first
+    for number, now in table:
+        rows.append(("B8 %04X" % (number & 0xFFFF), "B8 PUSHW %d | %d" % ((signed(number),) * 2)))
+        rows.append((opcode, "%s %s |%s" % (opcode, name, "" if now == was else "; %s %d %d" % (change, was, now))))
+        was = now
+    return worked(name, *rows)
+
+
+def signed(word):
+    """A number as PUSHW pushes its low word."""
+    return (word & 0xFFFF ^ 0x8000) - 0x8000
+
+
+def rows_of_drop_out_control():
+    """SCANCTRL and SCANTYPE, each with its words in turn; and each word of SCANCTRL that turns nothing on, as the first."""
+    yield set_in_turn("SCANCTRL", "85", "scan-control", -1, SCANCTRL)
+    yield set_in_turn("SCANTYPE", "8D", "scan-type", 0, SCANTYPE)
+    for first in (0x010F, 0x0810, 0x080F, 0x0210, 0x0410, 0x1110, 0x2110, 0x0010, 0x0000):
+        yield set_in_turn("SCANCTRL", "85", "scan-control", -1, [(first, 0), (0x0110, 1)])
+
+
+def halts():
+    """The lines until a halt, and then the refusal."""
+    begun = b"glyph 1 begins\nglyph 1 0000 B0 PUSHB 1 | 1\n"
+    yield Run("a halt", "trace --ppem 16 --char 41", font(bytes.fromhex("B0 01 60")),
+              due.refused("30 StackUnder during glyph 1 in glyph 1 at 2 opcode 60", begun))
+    data = font(bytes.fromhex("B0 01 21"), prep=POP)
+    yield Run("a halt in prep", "trace --ppem 16 --of prep", data, due.refused(PREP_HALTS, b"prep begins\n"))
+    for words in ("--char 41", "--glyph 1", "--of 1"):
+        yield Run("a halt before the glyph by %s" % words, "trace --ppem 16 " + words, data, due.refused(PREP_HALTS))
+
+
+def order():
+    """`fpgm`, then `prep`, then the glyph, or that there is none: the order of `show` and `outline`. `fpgm` has a trace of its own."""
+    fpgm, lines = bytes.fromhex("B0 01 21"), ["fpgm begins", "fpgm 0000 B0 PUSHB 1 | 1", "fpgm 0002 21 POP |"]
+    yield Run("a halt after fpgm", "trace --ppem 16 --of fpgm", font(fpgm=fpgm, prep=POP), due.listed(lines))
+    yield Run("a halt after no fpgm", "trace --ppem 16 --of fpgm", font(prep=POP), due.listed([]))
+    yield Run("no fpgm", "trace --ppem 16 --of fpgm", font(prep=fpgm), due.listed([]))
+    yield Run("no prep", "trace --ppem 16 --of prep", font(fpgm=fpgm), due.listed([]))
+    yield Run("a halt of fpgm", "trace --ppem 16 --of fpgm", font(fpgm=POP, prep=POP), due.refused(FPGM_HALTS, b"fpgm begins\n"))
+    for prep in (b"", POP, fpgm):
+        yield Run("a halt before prep", "trace --ppem 16 --of prep", font(fpgm=POP, prep=prep), due.refused(FPGM_HALTS))
+    for asked in ("--char 43", "--char 41", "--glyph 9"):
+        for tables, text in (({"prep": POP}, PREP_HALTS), ({"fpgm": POP}, FPGM_HALTS), ({"fpgm": POP, "prep": POP}, FPGM_HALTS)):
+            for command in ("trace", "show", "outline"):
+                yield Run("%s %s of a font whose %s halts" % (command, asked, " and ".join(tables)), "%s --ppem 16 %s" % (command, asked),
+                          font(**tables), due.refused(text))
+
+
+def refused():
+    """What is wrong before a program runs, and a character that the font lacks."""
+    data = font(bytes.fromhex("B0 01 21"))
+    for words, answer in (("--ppem 0 --char 41", due.refused("60 BadSize")), ("--ppem 16 --char 110000", due.refused("61 BadChars")),
+                          ("--ppem 16 --glyph 2", due.refused("24 BadGlyphNumber 2")), ("--ppem 16", due.usage()),
+                          ("--ppem 16 --char 41 --of prep", due.usage()), ("--ppem 16 --char 41 --glyph 1", due.usage()),
+                          ("--ppem 16 --of cvt", due.usage()), ("--ppem 16 --char 41 --unhinted", due.usage()),
+                          ("--ppem 16 --char 43", due.Due(due.DONE, b"mkstrike: missing\n"))):
+        yield Run("trace " + words, "trace " + words, data, answer)
+    yield Run("face 1", "trace --ppem 16 --char 41" + face(1), collection([font(), data]), due.listed(
+        ["glyph 1 begins", "glyph 1 0000 B0 PUSHB 1 | 1", "glyph 1 0002 21 POP |"]))
+
+
+def outputs_that_fail():
+    """70, with exactly the bytes that were taken."""
+    data = font(bytes.fromhex("B0 01 21") * 400)
+    lines = ["glyph 1 begins"]
+    for k in range(400):
+        lines += ["glyph 1 %04X B0 PUSHB 1 | 1" % (3 * k), "glyph 1 %04X 21 POP |" % (3 * k + 2)]
+    whole = due.listed(lines)
+    yield Run("a full device", "trace --ppem 16 --char 41", data, due.cut_after(whole, 0), way=runs.with_files(out=("/dev/full", os.O_WRONLY)))
+    for count in (0, 1, 4095, 4096, 4097, len(whole.out) - 1):
+        yield Run("a file of %d bytes" % count, "trace --ppem 16 --char 41", data, due.cut_after(whole, count), way=runs.into_file(count))
+
+
+test_traces = cases(rows_of_drop_out_control, halts, order, refused, outputs_that_fail)
+
+
+# ---- against the suite's reference, which runs each program by itself
+
+LONG = 260000  # lines of a font's long traces that are compared: those of one program that never ends
+
+
+def differences(program, data, ppem, glyphs):
+    """What the program tells otherwise than the reference, of `fpgm`, `prep` and these glyphs of a font at a size."""
+    traces, room = Traces(reference.Font(data), ppem), LONG
+    for of in ("fpgm", "prep", *glyphs):
+        words = ["--of", of] if isinstance(of, str) else ["--glyph", str(of)]
+        ran = subprocess.run([program, "trace", "--ppem", str(ppem), *words], input=data, capture_output=True, check=False)
+        seen = ran.stdout.decode().split("\n")[:-1]
+        if len(seen) > room:
+            continue
+        room -= len(seen) if len(seen) > 1000 else 0
+        lines = traces.trace(of)
+        told, fault = ran.stderr.decode().split("\n")[0], traces.told(of)
+        if seen != lines or (fault not in told if fault else ran.returncode):
+            k = next((k for k, (one, other) in enumerate(zip(seen, lines)) if one != other), min(len(seen), len(lines)))
+            yield "%s, line %d of %d and %d: %r, and %r is due; %r, and %r is due" % (of, k + 1, len(seen), len(lines), seen[k:k + 1], lines[k:k + 1],
+                                                                                  told, fault)
+
+
+# The suite's fonts of instructions, and of how many glyphs each is looked at: a font has each instruction with each flag, in many states.
+FONTS = {"arithmetic": 1, "calls": 1, "composites": 1, "cut-in": 3, "definitions": 1, "deltas": 3, "flow": 1, "halts": 1, "inherited": 1,
+         "instctrl-default-state": 1, "instctrl-no-programs": 1, "iup": 3, "iup-special": 1, "limits": 1, "mdrp": 5, "metrics": 1, "mirp": 7,
+         "points": 4, "prep-base": 1, "prep-cut-in": 1, "prep-flip": 1, "prep-points": 1, "prep-round": 1, "prep-vectors": 1, "prep-width": 1,
+         "rounding": 5, "small-stack": 1, "stack": 1, "state": 1, "vectors": 2, **{"fpgm-%d" % k: 1 for k in range(10)},
+         **{"prep-%d" % k: 1 for k in range(10)}}
+
+
+@pytest.mark.parametrize("name", FONTS)
+def test_fonts_of_the_suite(name, program):
+    """Each line is that of the reference, and so is the halt at its end."""
+    with open(os.path.join(TOP, "suite/fonts", name + ".ttf"), "rb") as file:
+        data = file.read()
+    wrong = list(differences(program, data, 16, range(0, reference.Font(data).glyphs, FONTS[name])))
+    assert not wrong, "\n".join(wrong[:9])
+
+
+@pytest.mark.parametrize("name", REAL)
+def test_real_fonts(name, program):
+    """Glyphs of real fonts, which call functions and have components; MKSTRIKE_LONG takes all."""
+    data = real_font(name)
+    glyphs = range(reference.Font(data).glyphs) if os.environ.get("MKSTRIKE_LONG") else range(0, 900, 23)
+    wrong = [it for ppem in (12, 16) for it in differences(program, data, ppem, glyphs)]
+    assert not wrong, "\n".join(wrong[:9])

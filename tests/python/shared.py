@@ -1,0 +1,85 @@
+"""What the tests share: the program to compare with, fonts, and the repository's own makers of fonts.
+
+They run against the installed package: test_installed.py installs it into a clean environment."""
+import os
+import re
+import subprocess
+import sys
+
+import pytest
+
+TOP = os.environ.get("MKSTRIKE_TOP") or os.path.dirname(os.path.dirname(os.path.dirname(os.path.realpath(__file__))))
+with open(os.path.join(TOP, "VERSION"), encoding="utf-8") as _file:
+    VERSION = _file.read().strip()
+PROGRAM = os.environ.get("MKSTRIKE_PROGRAM") or os.path.join(TOP, "dist/mkstrike")
+FOLDER = "/usr/share/fonts/truetype/"
+SANS = FOLDER + "dejavu/DejaVuSans.ttf"
+MONO = FOLDER + "dejavu/DejaVuSansMono.ttf"
+LIBERATION = FOLDER + "liberation/LiberationMono-Regular.ttf"
+CANDIDATES = [FOLDER + it for it in (
+    "dejavu/DejaVuSans.ttf", "dejavu/DejaVuSans-Bold.ttf", "dejavu/DejaVuSansMono.ttf", "dejavu/DejaVuSansMono-Bold.ttf",
+    "dejavu/DejaVuSerif.ttf", "dejavu/DejaVuSerif-Bold.ttf", "liberation/LiberationMono-Regular.ttf", "liberation/LiberationMono-Bold.ttf",
+    "liberation/LiberationSans-Regular.ttf", "liberation/LiberationSans-Bold.ttf", "liberation/LiberationSans-Italic.ttf",
+    "liberation/LiberationSansNarrow-Regular.ttf", "liberation/LiberationSerif-Regular.ttf", "liberation/LiberationSerif-Italic.ttf",
+    "dejavu/DejaVuSans-Oblique.ttf", "dejavu/DejaVuSansCondensed.ttf", "liberation/LiberationMono-Italic.ttf",
+    "liberation/LiberationSans-BoldItalic.ttf", "liberation/LiberationSerif-Bold.ttf", "noto/NotoSans-Regular.ttf",
+    "crosextra/Carlito-Regular.ttf", "freefont/FreeSans.ttf", "liberation/LiberationMono-BoldItalic.ttf",
+    "liberation/LiberationSerif-BoldItalic.ttf")]
+
+sys.path += [os.path.join(TOP, it) for it in ("tests/lib", "tests/program", "suite", "tools")]
+
+
+def needs_font(*paths):
+    """A mark that leaves a test out if a font is not installed."""
+    missing = [it for it in paths if not os.path.exists(it)]
+    return pytest.mark.skipif(bool(missing), reason="fonts-dejavu-core and fonts-liberation of Debian are not installed")
+
+
+def needs(module, package):
+    """A mark that leaves a test out if a module is not installed."""
+    try:
+        __import__(module)
+        return pytest.mark.skipif(False, reason="")
+    except ImportError:
+        return pytest.mark.skipif(True, reason="%s is not installed (Debian: %s)" % (module, package))
+
+
+needs_fonttools = needs("fontTools", "python3-fonttools")
+needs_pillow = needs("PIL", "python3-pil")
+
+
+def program(words, font):
+    """Runs the program on a font's bytes: its status, its output and its first line on standard error."""
+    ran = subprocess.run([PROGRAM, *words], input=font, capture_output=True, timeout=600, env={})
+    return ran.returncode, ran.stdout, ran.stderr.decode().split("\n")[0]
+
+
+def flags(hinted, dropout):
+    """The flags of the program for a mode."""
+    return ([] if hinted else ["--unhinted"]) + (["--dropout=" + dropout] if dropout in ("near", "font") else ["--dropout"] if dropout else [])
+
+
+def text_of(words, font):
+    """The strike that the program makes."""
+    status, out, said = program(["make", *words], font)
+    assert status == 0, said
+    return out
+
+
+def font_bytes(path):
+    """The bytes of a font."""
+    with open(path, "rb") as file:
+        return file.read()
+
+
+def words_of(run):
+    """The options of a request of the repository's cases, or None if it is no plain strike."""
+    words = run.words.split() if isinstance(run.words, str) else list(run.words)
+    found = re.fullmatch(r"make --ppem (\d+) --chars ([0-9a-f,-]+)((?: --unhinted| --dropout(?:=near|=font)?)*)", " ".join(words))
+    named = [name for name in ("near", "font") if "--dropout=" + name in words]
+    return found and (int(found.group(1)), found.group(2), "--unhinted" not in words, named[0] if named else "--dropout" in words)
+
+
+def pixels(glyph):
+    """The set pixels of a glyph, from its origin."""
+    return {(glyph.left + x, glyph.top - 1 - y) for y, row in enumerate(glyph) for x, it in enumerate(row) if it}

@@ -1,0 +1,116 @@
+"""Lists of characters."""
+import os
+import re
+
+import pytest
+from shared import SANS, TOP, needs_font
+
+import mkstrike
+from mkstrike import characters
+from mkstrike.charsets import ranges
+
+
+def test_sets():
+    """The sets that have names."""
+    assert mkstrike.character_sets() == {"ascii": 95, "latin-1": 191, "latin-9": 191, "wgl4": 652, "box": 128, "blocks": 32, "braille": 256, "cp437": 255}
+    for name, count in mkstrike.character_sets().items():
+        assert len(characters(name)) == count
+    assert characters("ascii") == list(range(0x20, 0x7F))
+    assert characters("latin-1") == [it for it in range(256) if not (it < 32 or 127 <= it < 160)]
+    cp437 = characters("cp437")
+    assert {ord(it) for it in "☺☻♥♦♣♠•◘○◙♂♀♪♫☼►◄↕‼¶§▬↨↑↓→←∟↔▲▼ ~⌂ÇüéâÿÜ¢£¥₧ƒáÑªº¿⌐¬½¼¡«»░▒▓│┤╡╬═█▄▌▐▀αßΓπΣσµτΦΘΩδ∞φε∩≡±≥≤⌠⌡÷≈°∙·√ⁿ²■\xa0"} <= set(cp437)
+
+
+def test_sets_of_the_command():
+    """A set has the same characters here and for `mkstrike make --set`."""
+    with open(os.path.join(TOP, "crates/fx_words/src/sets.rt"), encoding="utf-8") as file:
+        table = re.sub(r"\\\n\s*", "", file.read()).split("SETS", 1)[1].split("];")[0]
+    rows = re.findall(r'\(\s*"([^"]+)",\s*"([^"]+)",?\s*\)', table)
+    assert len(rows) == 11
+    for name, items in rows:
+        assert characters(name) == characters(items), name
+
+
+def test_codecs():
+    """Character sets of one byte that Python has."""
+    euro = 0x20AC
+    assert euro in characters("iso8859-15") and euro in characters("cp1252") and 0x416 in characters("koi8-r")
+    assert characters("ISO-8859-1") == characters("latin-1") and len(characters("cp850")) == 224 - 1
+    for name in ("utf-8", "gbk", "idna", "rot13"):
+        with pytest.raises(ValueError):
+            characters(name)
+
+
+def test_ranges_and_numbers():
+    """Numbers and ranges, in strings and not."""
+    assert characters("20-22,a0") == characters("U+20-U+22, U+00A0") == characters("0x20-0x22,0xa0") == [0x20, 0x21, 0x22, 0xA0]
+    assert characters("A") == [0x41] and characters("41") == [0x41] and characters(",") == [0x2C] and characters("") == []
+    assert characters(0x41) == [0x41] and characters(range(3)) == [0, 1, 2] and characters([5, "ascii", range(2), "é"])[:3] == [0, 1, 5]
+    assert characters({"b", "a"}) == [0x61, 0x62]
+
+    class Number:
+        """As numpy has them."""
+
+        def __index__(self):
+            return 7
+
+    assert characters(Number()) == characters([Number()]) == [7]
+    for wrong in ("Hello", "22-20", "110000", "20-", "-20", "20--22", "U+", "0x", "2_0", "+20", "caf\u00e9s", "20 21", "١-٢", "U+٤١",
+                  "²²"):
+        with pytest.raises(ValueError):
+            characters(wrong)
+
+
+def test_no_lists():
+    """What is no list of characters, or no text, is said by the name of the argument."""
+    for wrong in (None, 1.5, [1.5], ["A", None]):
+        with pytest.raises(TypeError, match="^chars: .* is no list of characters$"):
+            characters(wrong)
+    with pytest.raises(TypeError, match="^text is a string, not bytes$"):
+        characters(text=b"abc")
+
+
+def test_texts():
+    """The characters of a text."""
+    assert characters(text="Café 😀\r\n\tCafé\x7f") == sorted(map(ord, set("Café 😀")))
+    assert characters("ascii", text="é") == [*range(0x20, 0x7F), 0xE9]
+
+
+def test_lists_of_bdf2psf(tmp_path):
+    """Lists of bdf2psf, by path and by name."""
+    path = tmp_path / "my.set"
+    path.write_text("# a list\nU+0041 # A\nU+0007\n\nU+20AC\n")
+    assert characters(str(path)) == [0x41, 0x20AC] and characters("42,%s" % path) == [0x41, 0x42, 0x20AC]
+    path.write_text("U+0041\n41\n")
+    with pytest.raises(ValueError, match="'41' is no character"):
+        characters(str(path))
+    with pytest.raises(FileNotFoundError):
+        characters("./none.set")
+
+
+def test_named_lists(monkeypatch, tmp_path):
+    """A list by its name, from where Debian's package has them."""
+    (tmp_path / "Mine.256").write_text("U+0041\nU+0042\n")
+    monkeypatch.setattr("mkstrike.charsets.FOLDERS", (str(tmp_path),))
+    assert characters("Mine") == characters("Mine.256") == [0x41, 0x42]
+    with pytest.raises(ValueError, match="and no list of bdf2psf; for"):
+        characters("Other")
+    monkeypatch.setattr("mkstrike.charsets.FOLDERS", (str(tmp_path / "none"),))
+    with pytest.raises(ValueError, match=r"and bdf2psf with its lists is not installed \(Debian: bdf2psf\); for"):
+        characters("Mine")
+
+
+@needs_font(SANS)
+def test_strikes_as_lists(tmp_path):
+    """What another strike uses."""
+    strike = mkstrike.Font(SANS).strike(16, "20-40,20ac")
+    strike.save(tmp_path / "a.bdf")
+    assert characters(strike) == characters(str(tmp_path / "a.bdf")) == [*range(0x20, 0x41), 0x20AC]
+
+
+def test_ranges_for_people():
+    """Code points as people read them."""
+    assert ranges([0x41, 0x43, 0x42, 0x20AC]) == "U+0041-U+0043, U+20AC" and ranges([]) == ""
+    assert ranges(range(0, 200, 2), 3) == "U+0000, U+0002, U+0004 and 97 more"
+    runs = [code for first in range(0, 0x1000, 0x20) for code in range(first, first + 10)]  # what is left out is counted by characters
+    assert ranges(runs, 2) == "U+0000-U+0009, U+0020-U+0029 and 1260 more"

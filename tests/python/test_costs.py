@@ -1,0 +1,95 @@
+"""Threads, memory, and time."""
+import concurrent.futures
+import os
+import subprocess
+import sys
+import time
+
+from shared import LIBERATION, SANS, needs_font
+
+import mkstrike
+from mkstrike import _library, bdf
+
+
+@needs_font(SANS, LIBERATION)
+def test_threads():
+    """Strikes and glyphs from eight threads, on the same fonts, are those of one."""
+    fonts = [mkstrike.Font(it) for it in (SANS, LIBERATION)]
+
+    def made(k):
+        font = fonts[k % 2]
+        return font.strike(10 + k % 7, "latin-1", dropout=k % 3 == 0).text, font.glyph(10 + k % 7, "g"), font.strike(16, "180-250").refused.keys()
+
+    alone = [made(k) for k in range(42)]
+    with concurrent.futures.ThreadPoolExecutor(8) as pool:
+        assert list(pool.map(made, range(42))) == alone
+
+
+def resident():
+    """The bytes of memory that the process holds."""
+    with open("/proc/self/statm", encoding="ascii") as file:
+        return int(file.read().split()[1]) * os.sysconf("SC_PAGESIZE")
+
+
+@needs_font(SANS)
+def test_no_leak():
+    """10,000 glyphs, and 200 strikes, with refusals among them, take no memory that stays."""
+    font, chars = mkstrike.Font(SANS), "Ag%é W"
+
+    def some(count):
+        for k in range(count):
+            font.glyph(9 + k % 9, chars[k % len(chars)], hinted=k % 20 == 0)
+            if k % 50 == 0:
+                assert len(font.strike(9 + k % 9, "41-5a,19c", hinted=k % 500 == 0)) == (26 if k % 500 == 0 else 27)
+                try:
+                    font.glyph(16, "Ɯ")
+                except mkstrike.Refused:
+                    pass
+
+    some(1000)
+    before = resident()
+    some(10000)
+    assert resident() - before < 1 << 20
+
+
+@needs_font(SANS)
+def test_calls(monkeypatch):
+    """A strike is one call of the C library, and its text is read once; with refused characters it is made again, and each of these has a
+    call that tells why."""
+    library, calls, read = _library._c(), [], []
+
+    class Counted:
+        """The library, whose calls are counted."""
+
+        def __getattr__(self, name):
+            calls.append(name.replace("mkstrike_", ""))
+            return getattr(library, name)
+
+    parse = bdf.parse
+    monkeypatch.setattr(_library, "_c", Counted)
+    monkeypatch.setattr(bdf, "parse", lambda *words: read.append(1) or parse(*words))
+    font = mkstrike.Font(SANS)
+    start = time.process_time()
+    strike = font.strike(16, "latin-1")
+    assert not strike.missing and len(strike) == 191 and sum(it.width for it in strike.values()) and strike.box and strike.name
+    print("a strike of 191 characters, read: %.1f ms of the processor" % (1000 * (time.process_time() - start)))
+    assert calls == ["make"] and len(read) == 1
+    del calls[:]
+    strike = font.strike(16, "180-250")
+    assert len(strike.refused) == 2 and calls == ["make", "reason", "glyphs", *["glyph", "reason"] * 2, "make"]
+    del calls[:]
+    font.glyph(16, "g")
+    font.glyph_ids(range(0x20000))
+    assert calls == ["glyph", "glyph_ids", "glyph_ids"]
+
+
+def test_import():
+    """Importing takes less than 30 ms of processor time, and none of the large modules."""
+    code = "import sys, time; t = time.process_time(); import mkstrike; print(time.process_time() - t, *sys.modules)"
+    spent = []
+    for _ in range(7):
+        ran = subprocess.run([sys.executable, "-I", "-c", code], capture_output=True, text=True, check=True).stdout.split()
+        spent.append(float(ran[0]))
+    print("import mkstrike: %.1f ms" % (1000 * min(spent)))
+    assert min(spent) < 0.03
+    assert not {"fontTools", "PIL", "numpy", "typing", "argparse", "subprocess"} & set(ran[1:])

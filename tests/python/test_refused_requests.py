@@ -1,0 +1,224 @@
+"""Refusals, each with its number, its name and its fields, as the program prints them."""
+import os
+import pickle
+
+import pytest
+from shared import SANS, flags, font_bytes, needs_font, program, text_of, words_of
+
+import mkstrike
+
+
+def cases():
+    """Requests of the repository's own checks that are plain strikes, with the line that is due."""
+    import test_programs
+    import test_refusals
+    for test in (test_refusals.test_refusals, test_programs.test_programs):
+        for case in test.functions:
+            for run in case():
+                words = words_of(run)
+                if words and len(run.data) < 1 << 16 and not run.limits and b" 61 " not in run.due.err:
+                    yield words, run
+
+
+def test_each_refusal():
+    """The lines that are due, from fonts that are made for each."""
+    seen = set()
+    for (size, chars, hinted, dropout), run in cases():
+        font, line = mkstrike.Font(run.data), run.due.err.decode().strip()
+        try:
+            strike = font.strike(size, chars, hinted=hinted, dropout=dropout, strict=True)
+            said = "mkstrike: glyphs %d missing %d strays %d steps %d" % (len(strike), len(strike.missing), strike.strays, strike.steps)
+        except mkstrike.Refused as why:
+            said = "mkstrike: " + why.line
+            seen.add(why.number)
+            assert str(pickle.loads(pickle.dumps(why))) == str(why) and pickle.loads(pickle.dumps(why)).fields == why.fields
+        assert said == line, run.name
+    assert {*range(10, 25), *range(30, 42), 60} - seen == {21, 22}
+
+
+@pytest.mark.filterwarnings("ignore:the strike has no glyph")
+def test_limits():
+    """Glyphs past a limit."""
+    from made import Composite, Empty, Font, Simple, grid, square
+    for glyph, upem, line in ((Composite([(1, 0, 0)] * 257), 1000, "21 TooManyComponents 2"), (grid(4097, 64), 1024, "22 TooManyPoints 2"),
+                              (Simple([(0, 0, 1, 1), (32000, 0, 32001, 1)]), 16, "51 TooFar 2"), (Simple([(0, 0, 8193, 1)]), 1024, "52 GlyphTooLarge 2")):
+        font = mkstrike.Font(Font([Empty(), square(1), glyph], {0x41: 2, 0x42: 1}, upem=upem).data())
+        strike = font.strike(1024, "A")
+        assert {char: why.line for char, why in strike.refused.items()} == {"A": line}
+        with pytest.raises(mkstrike.Refused, match="^" + line) as found:
+            font.glyph(1024, "A")
+        assert found.value.glyph == 2 and found.value.is_of_character
+        assert list(font.strike(1024, ["A", "B"])) == ["B"]
+
+
+def test_fields():
+    """The fields of a refusal."""
+    import test_refusals as made
+    with pytest.raises(mkstrike.Refused) as found:
+        mkstrike.Font(made.lacking("head")).strike(16, "A")
+    assert (found.value.number, found.value.name, found.value.table, found.value.char) == (11, "TableMissing", "head", None)
+    assert found.value.fields == {"table": "head"} and not found.value.is_of_character
+
+
+@needs_font(SANS)
+def test_bad_requests():
+    """60 to 63, and what is no request at all."""
+    font = mkstrike.Font(SANS)
+    for size in (0, -1, 1025, 1 << 16, (1 << 16) + 16, 1 << 70):
+        for call in (lambda: font.strike(size, "A"), lambda: font.glyph(size, "A"), lambda: font.heights(size)):
+            with pytest.raises(mkstrike.Refused, match="^60 BadSize\n"):
+                call()
+    with pytest.raises(TypeError):
+        font.strike(12.5, "A")
+    for chars in ([0x110000], [-1], [1 << 40]):
+        with pytest.raises(mkstrike.Refused, match="^61 BadChars\n"):
+            font.strike(16, chars)
+    for name in ("", " a", "a ", "ä", "a\n", "x" * 256):
+        with pytest.raises(mkstrike.Refused, match="^62 BadName\n"):
+            font.strike(16, "A", name=name)
+    for properties in ({"lower": 1}, {"1A": 1}, {"": 1}, {"A" * 65: 1}, {"COMMENT": "a"}, {"FONT_ASCENT": 1}, {"A": "ä"}, {"A": "\n"},
+                       {"A": "x" * 32001}):
+        with pytest.raises(mkstrike.Refused, match="^63 BadProperty 2\n"):
+            font.strike(16, "A", properties={"FIRST": 1, **properties})
+    with pytest.raises(mkstrike.Refused, match="^63 BadProperty 65\n"):
+        font.strike(16, "A", properties={"A%d" % it: 1 for it in range(65)})
+
+
+@needs_font(SANS)
+def test_refused_characters_are_left_out():
+    """A character that is refused is named, and the others are made."""
+    font = mkstrike.Font(SANS)
+    strike = font.strike(16, "180-250,4e00")
+    assert list(strike.refused) == ["Ɯ", "ɐ"] and strike.missing == ("一",)
+    why = strike.refused["Ɯ"]
+    assert why.line == "30 StackUnder during glyph 350 in glyph 350 at 73 opcode 39" and why.is_of_character
+    assert why.fields == {"during": 350, "program": 350, "address": 73, "opcode": 0x39, "char": "Ɯ"}
+    assert strike.text == text_of(["--ppem", "16", "--chars", "180-19b,19d-24f,4e00"], font_bytes(SANS))
+    with pytest.raises(mkstrike.Refused, match="^30 StackUnder during glyph 350 in glyph 350 at 73 opcode 39\n") as found:
+        font.strike(16, "180-250", strict=True)
+    assert found.value.char == "Ɯ"
+    with pytest.raises(mkstrike.Refused) as found:
+        font.glyph(16, "ɐ")
+    assert found.value.char == "ɐ"
+    assert not font.strike(16, "180-250", hinted=False).refused
+
+
+@pytest.mark.filterwarnings("ignore:the strike has no glyph")
+def test_only_refused_characters():
+    """A strike of which nothing is left has no glyph; what meets all characters is raised."""
+    import test_refusals as made
+    import fonts
+    halting = fonts.with_tables(fonts.FIXTURE, prep=b"\x21")
+    with pytest.raises(mkstrike.Refused, match="^30 StackUnder during prep in prep at 0 opcode 21\n") as found:
+        mkstrike.Font(halting).strike(16, "A")
+    assert found.value.fields == {"during": "prep", "program": "prep", "address": 0, "opcode": 0x21}
+    damaged = next(run.data for case in made.test_refusals.functions for run in case() if run.due.err.startswith(b"mkstrike: 18 GlyphShort"))
+    strike = mkstrike.Font(damaged).strike(16, "41")
+    assert len(strike) == 0 and [it.number for it in strike.refused.values()] == [18] and strike.missing == ()
+
+
+@needs_font(SANS)
+def test_damaged_fonts():
+    """Fonts with bytes set at random: the program's answers."""
+    import random
+    import fonts
+    part = fonts.part_of(font_bytes(SANS), [0x20, 0x41, 0x67, 0xE9, 0x25, 0x1EB4])
+    choose, answers = random.Random(7), set()
+    for _ in range(150):
+        data = bytearray(part)
+        for _ in range(choose.choice((1, 1, 2, 20))):
+            data[choose.randrange(len(data))] = choose.choice((0, 255, choose.randrange(256)))
+        hinted, dropout = choose.random() < .5, choose.random() < .3
+        status, out, said = program(["make", "--ppem", "16", "--chars", "20-ff,1eb4", *flags(hinted, dropout)], bytes(data))
+        try:
+            strike = mkstrike.Font(data).strike(16, "20-ff,1eb4", hinted=hinted, dropout=dropout, strict=True)
+            assert (status, out) == (0, strike.text)
+        except mkstrike.Refused as why:
+            assert (status, said) == (1, "mkstrike: " + why.line)
+        answers.add(said.split()[1])
+    assert len(answers) > 4, os.linesep.join(answers)
+
+
+def test_advice():
+    """What to do after each refusal is what docs/REFUSALS.md says, where "the same" means the words above it."""
+    import re
+    from shared import TOP
+    from mkstrike import _library
+    with open(os.path.join(TOP, "docs/REFUSALS.md"), encoding="utf-8") as file:
+        rows = re.findall(r"^\| (\d+) \| (\w+)[^|]*\|[^|]*\| ([^|]*) \|$", file.read(), re.M)
+    assert len(rows) > 30 and sum(text == "the same" for _, _, text in rows) == 6
+    above = ""
+    for number, name, text in rows:
+        above = above if text == "the same" else text.replace("`", "")
+        assert mkstrike.Refused(int(number), name).advice == above
+        assert str(mkstrike.Refused(int(number), name)) == "%s %s\n%s" % (number, name, above)
+        assert name == _library.reason(int(number)) or 70 <= int(number) < 80
+    assert mkstrike.Refused(23, "x").advice == "leave the characters with that glyph out"
+    assert mkstrike.Refused(99, "x").advice == "" and str(mkstrike.Refused(99, "x")) == "99 x"
+
+
+def test_what_str_says():
+    """The program's line, then whose refusal it is, and what to do; the same after pickling."""
+    why = mkstrike.Refused(30, "StackUnder", during=350, program="fpgm", address=7, opcode=0x21, char="Ɯ")
+    assert str(why).split("\n") == ["30 StackUnder during glyph 350 in fpgm at 7 opcode 21", (
+        "U+019C: with hinted=False no program of the font runs; to mend the font, push what the instruction needs first: the stack is "
+        "empty when a program begins")]
+    assert why.line == str(why).split("\n")[0] and why.to_do("--unhinted").startswith("with --unhinted no program")
+    same = pickle.loads(pickle.dumps(why))
+    assert str(same) == str(why) and same.fields == why.fields and same.advice == why.advice
+    same = pickle.loads(pickle.dumps(mkstrike.Refused(10, "NotTrueType", start=b"%PDF-1")))
+    assert str(same) == "10 NotTrueType\nthe file looks like a PDF: give a TrueType font"
+
+
+@pytest.mark.parametrize("start, said", [
+    (b"", "the file is empty: give a TrueType font"), (b"OTTO\0", "CFF outlines, which is not read: give a TrueType font"),
+    (b"ttcf\0\1", "a collection of fonts: it is cut, or this one is no TrueType font"), (b"\x1f\x8b\x08", "gzip data: unpack it first"),
+    (b"PK\3\4", "a zip archive: unpack it first"), (b"%PDF-1.4", "a PDF: give"), (b"STARTFONT 2.1", "a BDF font: it is a bitmap font already"),
+    (b"\x80\1\0", "a Type 1 font"), (b"%!PS-Adobe", "a Type 1 font"), (b"\1fcp", "a PCF font"), (b"version https://git-lfs", "git lfs pull"),
+    (b"<!DOCTYPE html>", "a web page or XML"), (b"\0\0\1\0\0\0", r"a Macintosh font \(.dfont\)"), (b"\x89PNG\r\n", "a PNG picture"),
+    (b"\0\1\0\0\0\5", "shorter than its directory: it is cut"), (b"true", "shorter than its directory: it is cut")])
+def test_files_of_another_kind(start, said):
+    """What a file is that is no TrueType font, by the table of docs/REFUSALS.md; from bytes and from a file."""
+    font = mkstrike.Font(start)
+    for call in (lambda: font.strike(16, "A"), lambda: font.glyph(16, "A"), lambda: font.heights(16), lambda: font.glyph_ids("A"),
+                 lambda: font.glyph_count):
+        with pytest.raises(mkstrike.Refused, match="^10 NotTrueType\n.*" + said):
+            call()
+    other = mkstrike.Refused(12, "TableShort", table="head", start=start)
+    assert str(other) == "12 TableShort head\nthe file is cut"
+
+
+def test_kinds_are_those_of_the_document():
+    """Each row of the table is one that is read, but that of hexadecimal text."""
+    import re
+    from shared import TOP
+    from mkstrike.refused import kind_of
+    with open(os.path.join(TOP, "docs/REFUSALS.md"), encoding="utf-8") as file:
+        part = file.read().partition("## Files of another kind")[2].partition("\n## ")[0]
+    rows = [[it.strip() for it in line.split("|")[1:-1]] for line in part.split("\n") if line.startswith("|")][2:]
+    assert len(rows) == 19
+    for first, shown, what, to_do in rows:
+        data = bytes.fromhex(first.strip("`")) if re.fullmatch(r"`[0-9a-f ]+`", first) else {"none": b"", "hexadecimal digits alone": None}[first]
+        said = None if data is None else "the file %s: %s" % (what, to_do.replace("`", ""))
+        assert kind_of(data if data is not None else b"00010000") == said
+        assert not shown or shown.strip("`").encode() in data
+    assert kind_of(b"this is text") is None and mkstrike.Refused(10, "x", start=b"text").advice == mkstrike.Refused(10, "x").advice
+
+
+@needs_font(SANS)
+def test_wrong_arguments():
+    """What is no such argument is a TypeError or a ValueError that names it."""
+    font = mkstrike.Font(SANS)
+    for call, fault, said in (
+            (lambda: font.strike(16.0, "A"), TypeError, "^size is a whole number, not 16.0$"),
+            (lambda: font.heights("16"), TypeError, "^size is a whole number, not '16'$"),
+            (lambda: font.glyph(None, "A"), TypeError, "^size is a whole number"), (lambda: font.glyph_by_id("1", 1), TypeError, "^size is"),
+            (lambda: font.glyph(16, "ab"), TypeError, "^char is one character or a code point, not 'ab'$"),
+            (lambda: font.glyph(16, 1.5), TypeError, "^char is"), (lambda: font.glyph_by_id(16, "1"), TypeError, "^number is a whole number"),
+            (lambda: font.glyph_by_id(16, 99999), ValueError, "^number is 99999: glyphs have the numbers 0 to 65,535$"),
+            (lambda: font.glyph_by_id(16, -1), ValueError, "^number is -1: "), (lambda: font.strike(16, "A", name=5), TypeError, "^name is a string"),
+            (lambda: font.strike(16, range(65537)), ValueError, "^chars has 65,537 characters: a strike has at most 65,536$"),
+            (lambda: font.strike(16, "A", dropout="middle"), ValueError, "^dropout is False, True"),
+            (lambda: font.strike(16, None), TypeError, "^chars: None is no list")):
+        with pytest.raises(fault, match=said):
+            call()
