@@ -30,7 +30,8 @@ VALID = (
     "make|--ppem|0|--refused=leave-out|--chars|41|--unhinted", "make|--refused|unhinted|--ppem|0|--chars|41", "show|--ppem|0|--char|41",
     "show|--ppem|0|--char|41|--dropout", "show|--ppem|0|--dropout=left|--char|41", "show|--hex|--char=0000fF|--unhinted|--ppem=0",
     "show|--ppem|1025|--char|110000", "make|--face|0|--ppem|0|--chars|41", "make|--ppem|0|--chars|41|--face|4294967295",
-    "show|--ppem|0|--char|41|--face=00007", "show|--face|+7|--ppem|0|--char|41")
+    "show|--ppem|0|--char|41|--face=00007", "show|--face|+7|--ppem|0|--char|41",
+    "make|--ppem|0|--all", "make|--all|--name=a|--ppem=0|--hex")
 
 # Arguments that are not valid, beside those of test_input.
 NOT_VALID = (
@@ -47,7 +48,8 @@ NOT_VALID = (
     "outline|--ppem|0", "outline|--glyph|0", "outline|--ppem|0|--char|41|--glyph|0", "show|--ppem|0|--glyph|0|--char|41",
     "show|--ppem|0|--glyph|0|--glyph|0", "outline|--ppem|0|--glyph|-1", "outline|--ppem|0|--glyph=-1", "outline|--ppem|0|--glyph|65536",
     "show|--ppem|0|--glyph|1a", "outline|--ppem|0|--glyph|", "outline|--ppem|0|--glyph|0|--dropout", "outline|--ppem|65536|--glyph|0",
-    "make|--ppem|0|--glyph|0")
+    "make|--ppem|0|--glyph|0", "make|--ppem|0|--all|--chars|41", "make|--chars=|--ppem|0|--all", "make|--ppem|0|--all|--all",
+    "make|--ppem|0|--all|41", "make|--ppem|0|--all=", "show|--ppem|0|--all", "make|--ppem|0|--hex", "make|--ppem|0|--char|41|--all")
 
 
 def command_lines():
@@ -60,7 +62,9 @@ def command_lines():
             ("outline --ppem 16", "--char or --glyph is missing"),
             ("show --ppem 16 --char 41 --glyph 36", "--char and --glyph can't be given together"),
             ("outline --ppem 16 --glyph A", "--glyph takes a whole number from 0 to 65535, not 'A'"),
-            ("outline --ppem 16 --glyph 36 --dropout", "unknown option '--dropout'"), ("outline --glyph 36", "--ppem is missing")):
+            ("outline --ppem 16 --glyph 36 --dropout", "unknown option '--dropout'"), ("outline --glyph 36", "--ppem is missing"),
+            ("make --ppem 16", "--chars or --all is missing"), ("make --ppem 16 --all --chars 41", "--chars and --all can't be given together"),
+            ("make --ppem 16 --all=x", "--all takes no value")):
         yield Run("explain " + line, "explain " + line, b"", listed([text]))
     yield Run("explain what is right", "explain outline --ppem 16 --glyph 36 --hex", b"", listed([]))
 
