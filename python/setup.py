@@ -19,7 +19,7 @@ PLACES = (os.path.join(HERE, "top"), os.path.dirname(HERE))
 TOP = os.environ.get("MKSTRIKE_TOP") or next(it for it in PLACES if os.path.exists(os.path.join(it, "VERSION")))
 MACHINE = os.environ.get("MKSTRIKE_MACHINE") or os.uname().machine
 ARCHIVES = {"x86_64": "dist/libmkstrike_c.a", "aarch64": "dist/libmkstrike_c-aarch64.a"}
-USED = ("VERSION", "docs/PYTHON.md", "docs/REFUSALS.md", "packaging/link", "include/mkstrike.h", "c/heap.c", "c/mkstrike.map", *ARCHIVES.values())
+USED = ("VERSION", "docs/PYTHON.md", "docs/REFUSALS.md", "THIRD-PARTY.md", "packaging/link", "include/mkstrike.h", "c/heap.c", "c/mkstrike.map", *ARCHIVES.values())
 
 
 def text(name):
@@ -29,12 +29,13 @@ def text(name):
 
 
 class WithLibrary(build_py):
-    """Adds the shared object, and the page that says what to do after a refusal."""
+    """Adds the shared object, the page that says what to do after a refusal, and the notices of others."""
 
     def run(self):
         super().run()
         folder = os.path.join(self.build_lib, "mkstrike")
-        shutil.copyfile(os.path.join(TOP, "docs/REFUSALS.md"), os.path.join(folder, "REFUSALS.md"))
+        for name in ("docs/REFUSALS.md", "THIRD-PARTY.md"):
+            shutil.copyfile(os.path.join(TOP, name), os.path.join(folder, os.path.basename(name)))
         with tempfile.TemporaryDirectory() as made:
             shared = os.environ.get("MKSTRIKE_SHARED")
             if not shared:

@@ -53,6 +53,7 @@ def package(version, time, folder=prebuilt.DIST):
     tree = {os.path.relpath(it, PACKAGE): (prebuilt.read(it), 0o755 if os.access(it, os.X_OK) else 0o644) for it in paths}
     tree.update((it, (prebuilt.read(os.path.join(TOP, "web", it)), 0o644)) for it in SCRIPTS)
     tree.update((it, (prebuilt.read(os.path.join(folder, it)), 0o644)) for it in prebuilt.MODULES)
+    tree["THIRD-PARTY.md"] = prebuilt.read(os.path.join(TOP, "THIRD-PARTY.md")), 0o644
     tree["package.json"] = about(version), 0o644
     return "mkstrike-%s.tgz" % version, gzipped(tarred(tree, time))
 

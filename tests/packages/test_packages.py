@@ -82,10 +82,10 @@ def test_made_again(made, tmp_path):
 
 
 def test_lintian(made):
-    """Lintian is content but for the copyright, of which the owner has to say something: there is no licence yet."""
+    """Lintian is content."""
     for deb in made.glob("*.deb"):
         ran = subprocess.run([tool("lintian"), "--allow-root", str(deb)], stdin=subprocess.DEVNULL, capture_output=True, text=True, check=False)
-        said = [it for it in ran.stdout.splitlines() if re.match("[EW]: ", it) and "no-copyright-file" not in it]
+        said = [it for it in ran.stdout.splitlines() if re.match("[EW]: ", it)]
         assert not said and ran.returncode in (0, 2), "%s: %s %s" % (deb.name, said, ran.stderr[-300:])
 
 
