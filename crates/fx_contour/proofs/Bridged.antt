@@ -5,16 +5,16 @@ use Rattle.std.proofs.Common.{IsSomeAnd, option_map, arith}
 use Rattle.fx_fixed.proofs.Linear.{signed}
 use Rattle.fx_fixed.proofs.Order.{below_or_not_ℤ}
 use Rattle.fx_winding.specs.Area.{Place}
-use Rattle.fx_winding.specs.Dropout.{turned_place, turned_span}
+use Rattle.fx_winding.specs.Turned.{turned_place, turned_span}
 use Rattle.fx_winding.specs.Meets.{IsMet}
 use Rattle.fx_winding.specs.Outside.{HasAll}
 use Rattle.fx_winding.specs.Winding.{Span, centre}
 use Rattle.fx_winding.proofs.Aside.{left_not_met, right_not_met}
 use Rattle.fx_winding.proofs.Covers.{any_cases}
 use Rattle.fx_winding.proofs.Meeting.{above_not_met, below_not_met}
-use Rattle.fx_contour.specs.DropoutFrames.{x_of, y_of, IsExtent, IsKept, IsInDropoutFrame, MetRowsAreKept, MetColumnsAreKept}
+use Rattle.fx_contour.specs.DropoutFrames.{x_of, y_of, IsKept, MetRowsAreKept, MetColumnsAreKept}
 use Rattle.fx_contour.specs.Frames.{HasAny, HaveAny}
-use Rattle.fx_contour.proofs.Extents.{extents, low_at_most, high_at_least}
+use Rattle.fx_contour.proofs.Extents.{least_reaches, greatest_reaches}
 use Rattle.fx_contour.proofs.Kept.{kept_of_two, kept_across}
 use Rattle.fx_contour.proofs.Outside.{piece_either}
 
@@ -67,28 +67,25 @@ turned_back P (s ∷ ss) (inl (inr (inl h))) = inl (inr (inl (control s.b h)))
 next_centre : (i : ℤ) → (pos 128 *ℤ i +ℤ pos 64) ≤ℤ (pos 128 *ℤ (i +ℤ pos 1) +ℤ pos 64)
 next_centre i = omega (arith, signed)
 
-kept_along : (coord : Place → ℤ) (ss : List Span) (low high i : ℤ) → IsExtent coord ss low high
-    → HaveAny (λ e. coord e ≤ℤ (pos 128 *ℤ (i +ℤ pos 1) +ℤ pos 64)) ss → HaveAny (λ e. (pos 128 *ℤ i +ℤ pos 64) ≤ℤ coord e) ss
-    → IsKept coord ss i ⊎ IsKept coord ss (i +ℤ pos 1)
-kept_along coord ss low high i e l r =
-    elim (kept_of_two low high i (low_at_most coord ss low high _ e l) (high_at_least coord ss low high _ e r))
-    [ inl k ↦ inl (low, high, e, k) | inr k ↦ inr (low, high, e, k) ]
+kept_along : (coord : Place → ℤ) (s : Span) (ss : List Span) (i : ℤ)
+    → HaveAny (λ e. coord e ≤ℤ (pos 128 *ℤ (i +ℤ pos 1) +ℤ pos 64)) (s ∷ ss)
+    → HaveAny (λ e. (pos 128 *ℤ i +ℤ pos 64) ≤ℤ coord e) (s ∷ ss)
+    → IsKept coord (s ∷ ss) i ⊎ IsKept coord (s ∷ ss) (i +ℤ pos 1)
+kept_along coord s ss i l r = kept_of_two _ _ i ((least_reaches coord s ss _).0 l) ((greatest_reaches coord s ss _).0 r)
 
 pub met_rows_are_kept : MetRowsAreKept
 met_rows_are_kept [] i j (k, s, within, is, m) = absurd (omega (arith, within))
 met_rows_are_kept (s ∷ ss) i j a =
     let h = any_around (centre i j) (centre (i +ℤ pos 1) j) (s ∷ ss) refl (next_centre i) a in
-    let e = extents s ss in
-    let row = kept_across y_of (s ∷ ss) e.bottom e.top j e.up h.bottom h.top in
-    elim (kept_along x_of (s ∷ ss) e.left e.right i e.across h.left h.right) [ inl k ↦ inl (k, row) | inr k ↦ inr (k, row) ]
+    let row = kept_across y_of s ss j h.bottom h.top in
+    elim (kept_along x_of s ss i h.left h.right) [ inl k ↦ inl (k, row) | inr k ↦ inr (k, row) ]
 
 pub met_columns_are_kept : MetColumnsAreKept
 met_columns_are_kept [] i j (k, s, within, is, m) = absurd (omega (arith, within))
 met_columns_are_kept (s ∷ ss) i j a =
     let h = any_around (centre j i) (centre (j +ℤ pos 1) i) (map turned_span (s ∷ ss)) refl (next_centre j) a in
-    let e = extents s ss in
     let bottom = turned_back _ (s ∷ ss) h.bottom in
     let top = turned_back _ (s ∷ ss) h.top in
-    let column = kept_across x_of (s ∷ ss) e.left e.right i e.across bottom top in
-    elim (kept_along y_of (s ∷ ss) e.bottom e.top j e.up (turned_back _ (s ∷ ss) h.left) (turned_back _ (s ∷ ss) h.right))
+    let column = kept_across x_of s ss i bottom top in
+    elim (kept_along y_of s ss j (turned_back _ (s ∷ ss) h.left) (turned_back _ (s ∷ ss) h.right))
     [ inl k ↦ inl (column, k) | inr k ↦ inr (column, k) ]

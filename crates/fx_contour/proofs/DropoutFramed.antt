@@ -16,13 +16,13 @@ use Rattle.fx_contour.specs.declared.bounds.Bounds.{Bounds}
 use Rattle.fx_contour.specs.declared.fault.ContourFault.TheVariants.{TooFar, TooLarge}
 use Rattle.fx_contour.specs.declared.pixels.Pixels.{Pixels}
 use Rattle.fx_contour.specs.Bounds.{left_side, AreBounds, AreBoundsOf, AreKept, BoundsLeaveMargin, IsBoxOf}
-use Rattle.fx_contour.specs.DropoutFrames.{x_of, y_of, IsExtent, IsDropoutFrameFor, LeavesMargin, farthest_with_margin}
+use Rattle.fx_contour.specs.DropoutFrames.{x_of, y_of, IsKept, IsDropoutFrameFor, LeavesMargin, farthest_with_margin}
 use Rattle.fx_contour.specs.DropoutFrames.{leaves_margin, KeepsTooMany, keeps_too_many, dropout_framed_of}
 use Rattle.fx_contour.specs.Frames.{HaveAny, have_any}
 use Rattle.fx_contour.proofs.Decided.{some_one}
-use Rattle.fx_contour.proofs.Extents.{box_extents, in_extent}
+use Rattle.fx_contour.proofs.Extents.{IsExtent, box_extents, in_extent, low_is, high_is}
 use Rattle.fx_contour.proofs.Framed.{first_in, far_in, apart}
-use Rattle.fx_contour.proofs.Kept.{kept_in, kept_neighbours, nothing_kept, many_decides, margin_decides, margin_is_tested}
+use Rattle.fx_contour.proofs.Kept.{kept_in, kept_neighbours, many_decides, margin_decides, margin_is_tested}
 
 pub same_kept : (s : Pixels) (l h l' h' : ℤ) → l ≡ l' → h ≡ h' → AreKept s l h → AreKept s l' h'
 same_kept s l h l' h' e f k = subst (λ y. AreKept s l' y) f (subst (λ x. AreKept s x h) e k)
@@ -40,31 +40,30 @@ unfolding dropout_framed_of keeps_too_many
 none_framed ss e = rw e refl
 
 pub none_frame : (ss : List Span) → ss ≡ [] → IsDropoutFrameFor None ss
-none_frame ss e i j = (λ n. absurd n, λ k. nothing_kept x_of i (rw (← e) k.0))
+none_frame ss e i j = (λ n. absurd n, λ k. subst (λ (xs : List Span). IsKept x_of xs i) e k.0)
 
 -- ---- too far
 
--- a point of spans of which none lies too far out
-near : (ss : List Span) (q : Place) → ¬ (HaveAny (λ r. ¬ (LeavesMargin r)) ss) → ((R : Place → Type 0) → R q → HaveAny R ss)
-    → LeavesMargin q
-near ss q n m = by (leaves_margin q) refl
+-- a coordinate of a point of spans of which none lies too far out
+pub near : (coord : Place → ℤ) → ((q : Place) → LeavesMargin q → IsWithin farthest_with_margin (coord q)) → (ss : List Span)
+    → ¬ (HaveAny (λ r. ¬ (LeavesMargin r)) ss) → (z : ℤ) → HaveAny (λ q. coord q ≡ z) ss → IsWithin farthest_with_margin z
+near coord within ss n z h =
+    some_one (λ q. coord q ≡ z) (IsWithin farthest_with_margin z) ss h
+    (λ q k m. subst (IsWithin farthest_with_margin) k (within q (leaves q m (leaves_margin q) refl)))
   where
-    by : (t : Bool) → leaves_margin q ≡ t → LeavesMargin q
-    by true e = (margin_decides q).0 e
-    by false e = absurd (n (m (λ r. ¬ (LeavesMargin r)) (not_from_Decides (leaves_margin q) (margin_decides q) e)))
+    leaves : (q : Place) → ((R : Place → Type 0) → R q → HaveAny R ss) → (t : Bool) → leaves_margin q ≡ t → LeavesMargin q
+    leaves q m true e = (margin_decides q).0 e
+    leaves q m false e =
+        absurd (n (m (λ r. ¬ (LeavesMargin r)) (not_from_Decides (leaves_margin q) (margin_decides q) e)))
 
 bounds_leave : (b : Bounds) (ss : List Span) → AreBounds b ss → ¬ (HaveAny (λ r. ¬ (LeavesMargin r)) ss) → BoundsLeaveMargin b
 bounds_leave b ss a n =
     let e = box_extents b.left b.right b.bottom b.top ss a.sides in
-    ((x b.left e.0.low_is, x b.right e.0.high_is), (y b.bottom e.1.low_is, y b.top e.1.high_is))
-  where
-    x : (z : ℤ) → HaveAny (λ q. x_of q ≡ z) ss → IsWithin farthest_with_margin z
-    x z h = some_one (λ q. x_of q ≡ z) (IsWithin farthest_with_margin z) ss h
-        (λ q k m. subst (IsWithin farthest_with_margin) k (near ss q n m).0)
-
-    y : (z : ℤ) → HaveAny (λ q. y_of q ≡ z) ss → IsWithin farthest_with_margin z
-    y z h = some_one (λ q. y_of q ≡ z) (IsWithin farthest_with_margin z) ss h
-        (λ q k m. subst (IsWithin farthest_with_margin) k (near ss q n m).1)
+    let x = near x_of (λ q h. h.0) ss n in
+    let y = near y_of (λ q h. h.1) ss n in (
+      (x b.left (low_is x_of ss _ _ e.0), x b.right (high_is x_of ss _ _ e.0)),
+      (y b.bottom (low_is y_of ss _ _ e.1), y b.top (high_is y_of ss _ _ e.1)),
+    )
 
 within_between : (low high z : ℤ) → IsWithin farthest_with_margin low → IsWithin farthest_with_margin high
     → (low ≤ℤ z) × (z ≤ℤ high) → IsWithin farthest_with_margin z
@@ -124,8 +123,8 @@ large_framed b ss s r a l k m c =
     let e = box_extents b.left b.right b.bottom b.top ss a.sides in
     let t : (keeps_too_many x_of ss || keeps_too_many y_of ss) ≡ true =
     either_true (keeps_too_many x_of ss) (keeps_too_many y_of ss) (elim c [
-      | inl n ↦ inl ((many_decides x_of ss b.left b.right e.0).1 (many_kept x_of ss s b.left b.right e.0 k n))
-      | inr n ↦ inr ((many_decides y_of ss b.bottom b.top e.1).1 (many_kept y_of ss r b.bottom b.top e.1 m n))
+      | inl n ↦ inl ((many_decides x_of ss).1 (many_kept x_of ss s b.left b.right e.0 k n))
+      | inr n ↦ inr ((many_decides y_of ss).1 (many_kept y_of ss r b.bottom b.top e.1 m n))
     ]) in
     rw (not_far b ss a l, t) refl
 
@@ -136,10 +135,10 @@ near_framed b ss s r f a l k m o =
     let e = box_extents b.left b.right b.bottom b.top ss a.sides in
     let x : keeps_too_many x_of ss ≡ false =
     false_from_ne_true (keeps_too_many x_of ss) (λ t. few_kept x_of ss s b.left b.right e.0 k (rw (← o.width) f.columns.few)
-    ((many_decides x_of ss b.left b.right e.0).0 t)) in
+    ((many_decides x_of ss).0 t)) in
     let y : keeps_too_many y_of ss ≡ false =
     false_from_ne_true (keeps_too_many y_of ss) (λ t. few_kept y_of ss r b.bottom b.top e.1 m (rw (← o.height) f.rows.few)
-    ((many_decides y_of ss b.bottom b.top e.1).0 t)) in
+    ((many_decides y_of ss).0 t)) in
     rw (not_far b ss a l, x, y) refl
 
 -- ---- the frame

@@ -13,7 +13,7 @@ use Rattle.fx_contour.specs.Frames.{HasAny, HaveAny}
 use Rattle.fx_contour.specs.Bounds.{Side, left_side, right_side, bottom_side, top_side, IsOut, ReachOf, Reaches, Grows, AreBounds}
 use Rattle.fx_contour.specs.Bounds.{AreBoundsOf}
 
-least_is : (r l x t : ℤ) → r ≡ int_min l x → (r ≤ℤ t) ↔ ((l ≤ℤ t) ⊎ (x ≤ℤ t))
+pub least_is : (r l x t : ℤ) → r ≡ int_min l x → (r ≤ℤ t) ↔ ((l ≤ℤ t) ⊎ (x ≤ℤ t))
 least_is r l x t e = (λ h. grind (arith, ints, clamps), λ h. grind (arith, ints, clamps))
 
 greatest_is : (r l x t : ℤ) → r ≡ int_max l x → (t ≤ℤ r) ↔ ((t ≤ℤ l) ⊎ (t ≤ℤ x))

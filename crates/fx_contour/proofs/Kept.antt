@@ -1,6 +1,6 @@
 -- The columns and rows that drop-out control keeps.
 -- For `Pixels::kept`, `dropout_frame_around` and the law `dropout`.
-use Rattle.std.proofs.Common.{◌≡◌, ◌⊎◌, ◌↔◌, inl, inr, sym, subst, ℤ, pos, negsuc, ◌+ℤ◌, ◌-ℤ◌, ◌*ℤ◌, ◌≤ℤ◌}
+use Rattle.std.proofs.Common.{◌≡◌, ◌⊎◌, ◌↔◌, inl, inr, subst, ℤ, pos, negsuc, ◌+ℤ◌, ◌-ℤ◌, ◌*ℤ◌, ◌≤ℤ◌}
 use Rattle.std.proofs.Common.{◌<ℤ◌, int_le, not, List, [], ◌∷◌, Option, Decides, arith}
 use Rattle.std.proofs.lemmas.Int.{ints}
 use Rattle.std.proofs.lemmas.Bool.Decides.{Decides-like, Decides-and, Decides-not}
@@ -16,13 +16,13 @@ use Rattle.fx_winding.specs.Winding.{Span, centre}
 use Rattle.fx_contour.specs.declared.pixels.Pixels.{Pixels}
 use Rattle.fx_contour.specs.Bounds.{ArePixels, AreKept}
 use Rattle.fx_contour.specs.Contours.{is_within}
-use Rattle.fx_contour.specs.DropoutFrames.{x_of, y_of, IsExtent, IsMiddleOf, IsKeptIn, IsKept}
+use Rattle.fx_contour.specs.DropoutFrames.{x_of, y_of, least, greatest, IsMiddleOf, IsKeptIn, IsKept}
 use Rattle.fx_contour.specs.DropoutFrames.{IsDropoutFrameFor, LeavesMargin, farthest_with_margin, leaves_margin}
 use Rattle.fx_contour.specs.DropoutFrames.{KeepsTooMany, keeps_too_many}
 use Rattle.fx_contour.specs.DropoutFrames.{MarginIsTested, ManyIsTested, SomePixelIsKept, BoxIsKept, CoveredIsKept}
-use Rattle.fx_contour.specs.Frames.{HaveAny, IsCentreIn, AreNoPixels, NothingOutsideFrame, have_any, first_from}
-use Rattle.fx_contour.proofs.Decided.{some_one, more, le_decides, have_decides, within_decides, first_reaches, first_least}
-use Rattle.fx_contour.proofs.Extents.{extents, in_extent, low_at_most, high_at_least, one_extent}
+use Rattle.fx_contour.specs.Frames.{HaveAny, IsCentreIn, AreNoPixels, NothingOutsideFrame, first_from}
+use Rattle.fx_contour.proofs.Decided.{le_decides, have_decides, within_decides, first_reaches, first_least}
+use Rattle.fx_contour.proofs.Extents.{IsExtent, least_reaches, greatest_reaches}
 use Rattle.fx_contour.proofs.Framed.{first_in}
 use Rattle.fx_contour.proofs.Outside.{in_box}
 
@@ -135,38 +135,26 @@ kept_neighbours low high n a b (inr (e, (h, k))) =
 
 pub kept_in : (coord : Place → ℤ) (ss : List Span) (low high n : ℤ) → IsExtent coord ss low high
     → IsKept coord ss n ↔ IsKeptIn low high n
-kept_in coord ss low high n e = (
-  λ k. let s = one_extent coord ss k.0 k.1 low high k.2 e in
-      subst (λ h. IsKeptIn low h n) s.1 (subst (λ l. IsKeptIn l k.1 n) s.0 k.3),
-  λ h. (low, high, e, h),
-)
-
--- no span has nothing
-pub nothing_kept : (coord : Place → ℤ) (n : ℤ) → ¬ (IsKept coord [] n)
-nothing_kept coord n k = k.2.low_is
+kept_in coord [] low high n e = absurd e
+kept_in coord (s ∷ ss) low high n (e, f) =
+    subst (λ (z : ℤ × ℤ). IsKept coord (s ∷ ss) n ↔ IsKeptIn z.0 z.1 n) (λ i. (e i, f i)) (λ h. h, λ h. h)
 
 pub some_pixel_is_kept : SomePixelIsKept
 some_pixel_is_kept [] h = absurd (omega (arith, h))
 some_pixel_is_kept (s ∷ ss) h =
-    let e = extents s ss in
-    let i = kept_somewhere e.left e.right in
-    let j = kept_somewhere e.bottom e.top in
-    (i.0, j.0, ((e.left, e.right, e.across, i.1), (e.bottom, e.top, e.up, j.1)))
+    let i = kept_somewhere (least x_of s ss) (greatest x_of s ss) in
+    let j = kept_somewhere (least y_of s ss) (greatest y_of s ss) in
+    (i.0, j.0, (i.1, j.1))
 
 -- what the box comes to on both sides of its centre is kept
-pub kept_across : (coord : Place → ℤ) (ss : List Span) (low high j : ℤ) → IsExtent coord ss low high
-    → HaveAny (λ e. coord e ≤ℤ (pos 128 *ℤ j +ℤ pos 64)) ss → HaveAny (λ e. (pos 128 *ℤ j +ℤ pos 64) ≤ℤ coord e) ss
-    → IsKept coord ss j
-kept_across coord ss low high j e b t =
-    (low, high, e, inl (low_at_most coord ss low high _ e b, high_at_least coord ss low high _ e t))
+pub kept_across : (coord : Place → ℤ) (s : Span) (ss : List Span) (j : ℤ)
+    → HaveAny (λ e. coord e ≤ℤ (pos 128 *ℤ j +ℤ pos 64)) (s ∷ ss) → HaveAny (λ e. (pos 128 *ℤ j +ℤ pos 64) ≤ℤ coord e) (s ∷ ss)
+    → IsKept coord (s ∷ ss) j
+kept_across coord s ss j b t = inl ((least_reaches coord s ss _).0 b, (greatest_reaches coord s ss _).0 t)
 
 pub box_is_kept : BoxIsKept
 box_is_kept [] i j h = absurd h.left
-box_is_kept (s ∷ ss) i j h =
-    let e = extents s ss in (
-      kept_across x_of (s ∷ ss) e.left e.right i e.across h.left h.right,
-      kept_across y_of (s ∷ ss) e.bottom e.top j e.up h.bottom h.top,
-    )
+box_is_kept (s ∷ ss) i j h = (kept_across x_of s ss i h.left h.right, kept_across y_of s ss j h.bottom h.top)
 
 pub covered_is_kept : CoveredIsKept
 covered_is_kept ss o i j c = box_is_kept ss i j (in_box (centre i j) ss o c)
@@ -187,61 +175,32 @@ margin_is_tested ss =
 abbrev far_from : ℤ → ℤ
 far_from z = pos 128 *ℤ (first_from z +ℤ pos greatest_side) +ℤ pos 64
 
-abbrev ReachesFar : (Place → ℤ) → List Span → Type 0
-ReachesFar coord ss = HaveAny (λ q. HaveAny (λ r. far_from (coord q) ≤ℤ coord r) ss) ss
+-- the centre that far from the first one at the least or beyond is reached exactly if that pixel is kept
+far_kept : (low high : ℤ) → far_from low ≤ℤ high → (n : ℤ) × IsKeptIn low high n × IsKeptIn low high (n +ℤ pos greatest_side)
+far_kept low high h = by (first_from low) (first_reaches low) h
+  where
+    by : (n : ℤ) → low ≤ℤ (pos 128 *ℤ n +ℤ pos 64) → (pos 128 *ℤ (n +ℤ pos greatest_side) +ℤ pos 64) ≤ℤ high
+        → (n : ℤ) × IsKeptIn low high n × IsKeptIn low high (n +ℤ pos greatest_side)
+    by n c d = (n, inl (c, omega (arith, signed, d)), inl (omega (arith, signed, c), d))
 
-far_decides : (coord : Place → ℤ) (ss : List Span) → Decides (keeps_too_many coord ss) (ReachesFar coord ss)
+kept_far : (low high n : ℤ) → IsKeptIn low high n → IsKeptIn low high (n +ℤ pos greatest_side) → far_from low ≤ℤ high
+kept_far low high n k l = let c = far_apart low high n k l in by (first_from low) (first_least low n c.0.0) c.1.1
+  where
+    by : (m : ℤ) → m ≤ℤ n → (pos 128 *ℤ (n +ℤ pos greatest_side) +ℤ pos 64) ≤ℤ high
+        → (pos 128 *ℤ (m +ℤ pos greatest_side) +ℤ pos 64) ≤ℤ high
+    by m d c = omega (arith, signed, c, d)
+
+pub many_decides : (coord : Place → ℤ) (ss : List Span) → Decides (keeps_too_many coord ss) (KeepsTooMany coord ss)
 unfolding keeps_too_many
-far_decides coord ss =
-    have_decides (λ q. have_any (λ r. int_le (far_from (coord q)) (coord r)) ss)
-    (λ q. HaveAny (λ r. far_from (coord q) ≤ℤ coord r) ss)
-    (λ q. have_decides (λ r. int_le (far_from (coord q)) (coord r)) (λ r. far_from (coord q) ≤ℤ coord r)
-    (λ r. le_decides (far_from (coord q)) (coord r)) ss) ss
-
-far_kept : (coord : Place → ℤ) (ss : List Span) (low high : ℤ) → IsExtent coord ss low high → ReachesFar coord ss
-    → KeepsTooMany coord ss
-far_kept coord ss low high e h =
-    some_one (λ q. HaveAny (λ r. far_from (coord q) ≤ℤ coord r) ss) (KeepsTooMany coord ss) ss h
-    (λ q k m. some_one (λ r. far_from (coord q) ≤ℤ coord r) (KeepsTooMany coord ss) ss k
-    (λ r l n. by (coord q) (coord r) (first_from (coord q)) (in_extent coord ss low high e q m).0
-    (in_extent coord ss low high e r n).1 (first_reaches (coord q)) l))
-  where
-    by : (z t n : ℤ) → low ≤ℤ z → t ≤ℤ high → z ≤ℤ (pos 128 *ℤ n +ℤ pos 64)
-        → (pos 128 *ℤ (n +ℤ pos greatest_side) +ℤ pos 64) ≤ℤ t → KeepsTooMany coord ss
-    by z t n a b c d = (
-      n,
-      (low, high, e, inl (omega (arith, signed, a, c), omega (arith, signed, b, d))),
-      (low, high, e, inl (omega (arith, signed, a, c), omega (arith, signed, b, d))),
-    )
-
-kept_far : (coord : Place → ℤ) (ss : List Span) (low high : ℤ) → IsExtent coord ss low high → KeepsTooMany coord ss
-    → ReachesFar coord ss
-kept_far coord ss low high e (n, k, l) =
-    let m = n +ℤ pos greatest_side in
-    let c = far_apart low high n ((kept_in coord ss low high n e).0 k) ((kept_in coord ss low high m e).0 l) in
-    more (λ q. coord q ≡ low) (λ q. HaveAny (λ r. far_from (coord q) ≤ℤ coord r) ss) ss e.low_is
-    (λ q a. more (λ r. coord r ≡ high) (λ r. far_from (coord q) ≤ℤ coord r) ss e.high_is
-    (λ r b. by (coord q) (coord r) (first_from (coord q)) a b c.1.1
-    (first_least (coord q) n (subst (λ z. z ≤ℤ (pos 128 *ℤ n +ℤ pos 64)) (sym a) c.0.0))))
-  where
-    by : (z t m : ℤ) → z ≡ low → t ≡ high → (pos 128 *ℤ (n +ℤ pos greatest_side) +ℤ pos 64) ≤ℤ high → m ≤ℤ n
-        → (pos 128 *ℤ (m +ℤ pos greatest_side) +ℤ pos 64) ≤ℤ t
-    by z t m a b c d = omega (arith, signed, b, c, d)
-
-pub many_decides : (coord : Place → ℤ) (ss : List Span) (low high : ℤ) → IsExtent coord ss low high
-    → Decides (keeps_too_many coord ss) (KeepsTooMany coord ss)
-many_decides coord ss low high e =
-    Decides-like (keeps_too_many coord ss) (far_kept coord ss low high e) (kept_far coord ss low high e) (far_decides coord ss)
-
-pub none_decides : (coord : Place → ℤ) → Decides (keeps_too_many coord []) (KeepsTooMany coord [])
-none_decides coord =
-    Decides-like (keeps_too_many coord []) (λ n. absurd n) (λ k. nothing_kept coord k.0 k.1) (far_decides coord [])
+many_decides coord [] = (λ n. absurd (cc), λ k. absurd k.1)
+many_decides coord (s ∷ ss) =
+    let low = least coord s ss in
+    let high = greatest coord s ss in
+    Decides-like (int_le (far_from low) high) (far_kept low high) (λ k. kept_far low high k.0 k.1 k.2)
+    (le_decides (far_from low) high)
 
 pub many_is_tested : ManyIsTested
-many_is_tested [] = (none_decides x_of, none_decides y_of)
-many_is_tested (s ∷ ss) =
-    let e = extents s ss in
-    (many_decides x_of (s ∷ ss) e.left e.right e.across, many_decides y_of (s ∷ ss) e.bottom e.top e.up)
+many_is_tested ss = (many_decides x_of ss, many_decides y_of ss)
 
 -- ---- from the box
 

@@ -15,6 +15,4 @@ pub mod DropoutFramed
 pub mod Bridged
 pub mod Moving
 pub mod Shifted
-pub mod Mirrored
-pub mod MirroredFrames
 pub mod Reversed

@@ -1,18 +1,15 @@
 -- The pieces of an outline whose points are moved, where the places of its curve move along.
--- Serves the laws `shift`, `mirror`, `flip` and `exchange`.
-use Rattle.std.proofs.Common.{◌≡◌, refl, sym, ap, ◌∙◌, subst, Bool, true, false, ℕ, ◌+◌, ◌-◌, List, [], ◌∷◌, ◌++◌}
-use Rattle.std.proofs.Common.{Option, Some, None, map, take, drop, option_map, option_to_list, if◌then◌else◌, Ok, get_or}
+-- Serves the law `shift`, and the laws of `fx_symmetry`.
+use Rattle.std.proofs.Common.{◌≡◌, refl, sym, ap, ◌∙◌, Bool, true, false, ℕ, ◌+◌, ◌-◌, List, [], ◌∷◌, ◌++◌}
+use Rattle.std.proofs.Common.{Option, Some, None, map, take, drop, option_map, option_to_list, if◌then◌else◌, Ok}
 use Rattle.std.proofs.lemmas.List.{map-append, take-map, drop-map}
-use Rattle.std.proofs.lemmas.List.Elements.{All-map}
 use Rattle.fx_winding.specs.Area.{Place}
 use Rattle.fx_winding.specs.Winding.{Span}
-use Rattle.fx_winding.specs.Outside.{joined, AreOfOutline}
+use Rattle.fx_winding.specs.Outside.{joined}
 use Rattle.fx_outline.specs.declared.points.OutlinePoint.{OutlinePoint}
 use Rattle.fx_contour.specs.Curve.{doubled_of, middle_of, joint_of, span_at, first_or, last_or, spans_between, curve_of}
-use Rattle.fx_contour.specs.Contours.{IsInReach, contours_from, spans_of, drawn_of}
-use Rattle.fx_contour.proofs.Closed.{all_closed}
-use Rattle.fx_contour.proofs.Decided.{reach_is_tested}
-use Rattle.fx_contour.proofs.Drawn.{drawn_spans, drawn_from}
+use Rattle.fx_contour.specs.Contours.{contours_from, spans_of, drawn_of}
+use Rattle.fx_contour.proofs.Drawn.{drawn_spans}
 
 -- the places of moved points, and the middles between them, are the moved places
 pub record Follows (f : OutlinePoint → OutlinePoint) (g : Place → Place) : Type 0 where
@@ -106,24 +103,9 @@ moved_spans f g h ends points =
     ap (λ cs. joined (map curve_of cs)) (contours_moved f 0 ends points) ∙ all_moved f g h (contours_from 0 ends points)
 
 -- ---- within the limits
--- what an outline draws is closed, and what the moved one draws is moved
-pub drawn_closed : (ends : List ℕ) (points : List OutlinePoint) (ss : List Span) → drawn_of ends points ≡ Ok ss → AreOfOutline ss
-drawn_closed ends points ss d = subst AreOfOutline (drawn_spans ends points ss d).1 closed
-  where
-    closed : AreOfOutline (spans_of ends points)
-    closed = (map curve_of (contours_from 0 ends points), all_closed (contours_from 0 ends points), refl)
-
+-- what the moved outline draws is moved
 pub drawn_moved : (f : OutlinePoint → OutlinePoint) (g : Place → Place) → Follows f g → (ends : List ℕ) (points : List OutlinePoint)
     (ss ts : List Span) → drawn_of ends points ≡ Ok ss → drawn_of ends (map f points) ≡ Ok ts → map (moved g) ss ≡ ts
 drawn_moved f g h ends points ss ts d e =
     ap (map (moved g)) (sym (drawn_spans ends points ss d).1) ∙ sym (moved_spans f g h ends points)
     ∙ (drawn_spans ends (map f points) ts e).1
-
--- where each point stays within the limit, it draws
-pub still_drawn : (f : OutlinePoint → OutlinePoint) → ((p : OutlinePoint) → IsInReach p → IsInReach (f p)) → (ends : List ℕ)
-    (points : List OutlinePoint) (ss : List Span) → drawn_of ends points ≡ Ok ss
-    → drawn_of ends (map f points) ≡ Ok (spans_of ends (map f points))
-still_drawn f near ends points ss d =
-    let h = (reach_is_tested points).0 (drawn_spans ends points ss d).0 in
-    drawn_from ends (map f points) ((reach_is_tested (map f points)).1
-    (All-map IsInReach f points (λ k p l. near (get_or points k p) (h k p l))))

@@ -1,14 +1,16 @@
 -- The frame with drop-out control: each direction by itself keeps the pixels whose centres lie from the least to the greatest
 -- coordinate of the points of the spans; or, if there is no such pixel, the one in which the middle of the two lies. So a pixel is
 -- kept wherever there is a span, and of each gap a pixel is kept.
-use Rattle.std.specs.Prelude.{◌≡◌, ◌⊎◌, ◌↔◌, IsTrue, ℕ, ◌^◌, ◌-◌, ◌<◌, ℤ, pos, ◌+ℤ◌, ◌*ℤ◌, ◌≤ℤ◌, ◌<ℤ◌, int_le, Bool, not, ◌&&◌}
-use Rattle.std.specs.Prelude.{◌||◌, Result, List, map, length, Option, Some, None, Any}
+use Rattle.std.specs.Prelude.{◌⊎◌, ◌↔◌, IsTrue, ℕ, ◌^◌, ◌-◌, ◌<◌, ℤ, pos, ◌+ℤ◌, ◌*ℤ◌, ◌≤ℤ◌, ◌<ℤ◌, neg_ℤ, int_le, Bool, false, not}
+use Rattle.std.specs.Prelude.{◌&&◌, ◌||◌, Result, List, [], ◌∷◌, map, length, Option, Some, None, Any}
+use Rattle.std.specs.Int.{int_min}
+use Rattle.std.specs.Option.{option_map_or}
 use Rattle.fx_fixed.specs.Chain.{◌>>=◌, refuse}
 use Rattle.fx_fixed.specs.Ranges.{IsWithin}
 use Rattle.fx_winding.specs.Area.{Place}
 use Rattle.fx_winding.specs.Winding.{Span, centre, IsCovered}
 use Rattle.fx_winding.specs.Meets.{IsMet}
-use Rattle.fx_winding.specs.Dropout.{turned_span}
+use Rattle.fx_winding.specs.Turned.{turned_span}
 use Rattle.fx_winding.specs.declared.frame.Frame.{Frame}
 use Rattle.fx_winding.specs.Frames.{HasMargin}
 use Rattle.fx_winding.specs.Limits.{greatest_side}
@@ -26,12 +28,18 @@ x_of p = p.x
 abbrev pub y_of : Place → ℤ
 y_of p = p.y
 
--- the least and the greatest of a coordinate of the points of the spans, control points too
-pub record IsExtent (coord : Place → ℤ) (ss : List Span) (low high : ℤ) : Type 0 where
-  pub low_is : HaveAny (λ q. coord q ≡ low) ss
-  pub none_below : ¬ (HaveAny (λ q. coord q <ℤ low) ss)
-  pub high_is : HaveAny (λ q. coord q ≡ high) ss
-  pub none_above : ¬ (HaveAny (λ q. high <ℤ coord q) ss)
+-- the least of a coordinate of a span's points, the control point too
+abbrev pub least_of : (Place → ℤ) → Span → ℤ
+least_of coord s = int_min (coord s.a) (option_map_or (λ b. int_min (coord b) (coord s.c)) s.b (coord s.c))
+
+-- the least of a coordinate of the points of a span and of those after it
+abbrev pub least : (Place → ℤ) → Span → List Span → ℤ
+least coord s [] = least_of coord s
+least coord s (t ∷ ss) = int_min (least_of coord s) (least coord t ss)
+
+-- the greatest of one: the least with the signs changed
+abbrev pub greatest : (Place → ℤ) → Span → List Span → ℤ
+greatest coord s ss = neg_ℤ (least (λ q. neg_ℤ (coord q)) s ss)
 
 -- the middle of low and high lies in pixel n, which goes from 128n to before 128(n+1)
 abbrev pub IsMiddleOf : ℤ → ℤ → ℤ → Type 0
@@ -43,7 +51,8 @@ IsKeptIn low high n = IsCentreIn low high n ⊎ (AreNoPixels low high × IsMiddl
 
 -- column n, or row n, is kept
 abbrev pub IsKept : (Place → ℤ) → List Span → ℤ → Type 0
-IsKept coord ss n = (low : ℤ) × (high : ℤ) × IsExtent coord ss low high × IsKeptIn low high n
+IsKept coord [] n = ⊥
+IsKept coord (s ∷ ss) n = IsKeptIn (least coord s ss) (greatest coord s ss) n
 
 -- the pixel in column i and row j lies in the frame with drop-out control
 abbrev pub IsInDropoutFrame : List Span → ℤ → ℤ → Type 0
@@ -76,10 +85,11 @@ leaves_margin p = is_within farthest_with_margin p.x && is_within farthest_with_
 abbrev pub KeepsTooMany : (Place → ℤ) → List Span → Type 0
 KeepsTooMany coord ss = (n : ℤ) × IsKept coord ss n × IsKept coord ss (n +ℤ pos greatest_side)
 
--- one of the points lies at or beyond the centre that is as far as the greatest side from the first one right of, or above, another
+-- the greatest lies at or beyond the centre that is as far as the greatest side from the first one at the least or beyond
 unfoldable pub keeps_too_many : (Place → ℤ) → List Span → Bool
-keeps_too_many coord ss =
-    have_any (λ q. have_any (λ r. int_le (pos 128 *ℤ (first_from (coord q) +ℤ pos greatest_side) +ℤ pos 64) (coord r)) ss) ss
+keeps_too_many coord [] = false
+keeps_too_many coord (s ∷ ss) =
+    int_le (pos 128 *ℤ (first_from (least coord s ss) +ℤ pos greatest_side) +ℤ pos 64) (greatest coord s ss)
 
 -- whether each point leaves the margin and the frame keeps its limit; the first fault
 unfoldable pub dropout_framed_of : List Span → Result (Unit {0}) ContourFault

@@ -1,7 +1,6 @@
 pub mod Curve
 pub mod Contours
 pub mod Moves
-pub mod Mirrors
 pub mod Frames
 pub mod DropoutFrames
 pub mod Faults

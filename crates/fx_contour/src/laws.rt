@@ -4,8 +4,6 @@ ghost use Rattle.fx_contour.specs.Curve.{CurvesAreClosed, CurveIsByMidpoints};
 ghost use Rattle.fx_contour.specs.DropoutFrames.{MarginIsTested, ManyIsTested, SomePixelIsKept, BoxIsKept, CoveredIsKept};
 ghost use Rattle.fx_contour.specs.DropoutFrames.{MetRowsAreKept, MetColumnsAreKept};
 ghost use Rattle.fx_contour.specs.Frames.{LargeIsTested};
-ghost use Rattle.fx_contour.specs.Mirrors.{MirrorMovesSpans, MirrorMovesBits, MirrorMovesDropoutFrame};
-ghost use Rattle.fx_contour.specs.Mirrors.{FlipMovesSpans, FlipMovesBits, FlipMovesDropoutFrame, ExchangeMovesSpans, ExchangeMovesBits};
 ghost use Rattle.fx_contour.specs.Moves.{ShiftMovesSpans, ShiftMovesBits, ReversalReversesContours, ReversalReversesSpans, ReversalKeepsBits};
 
 /// The curve of a contour is a closed chain: each span begins where the one before it ends, the first where the last ends.
@@ -36,27 +34,6 @@ pub fn reversal()
     ensures contours { ReversalReversesContours }
     ensures spans { ReversalReversesSpans }
     ensures bits { ReversalKeepsBits }
-{}
-
-/// Mirroring every point at the upright axis mirrors the bits, and the mirrored outline is within the limits too. It mirrors the
-/// frame with drop-out control, unless that is one column of two between which the middle of the outline lies.
-pub fn mirror()
-    ensures spans { MirrorMovesSpans }
-    ensures bits { MirrorMovesBits }
-    ensures frame { MirrorMovesDropoutFrame }
-{}
-
-/// The same upside down, mirrored at the level axis.
-pub fn flip()
-    ensures spans { FlipMovesSpans }
-    ensures bits { FlipMovesBits }
-    ensures frame { FlipMovesDropoutFrame }
-{}
-
-/// Exchanging the coordinates of every point makes rows of columns.
-pub fn exchange()
-    ensures spans { ExchangeMovesSpans }
-    ensures bits { ExchangeMovesBits }
 {}
 
 /// The frame with drop-out control has a pixel wherever there is a piece, all pixels of the frame without, all that are covered,

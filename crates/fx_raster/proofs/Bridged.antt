@@ -2,7 +2,7 @@
 -- Serves `bitmap_of`, `lies_in` and the law that a picture exists.
 use Rattle.std.proofs.Common.{◌⊎◌, ◌↔◌, inl, inr, ℤ, List, map, Option}
 use Rattle.fx_winding.specs.Winding.{Span, IsCovered, centre}
-use Rattle.fx_winding.specs.Dropout.{turned_span}
+use Rattle.fx_winding.specs.Turned.{turned_span}
 use Rattle.fx_winding.specs.Outside.{AreOfOutline}
 use Rattle.fx_dropout.specs.declared.chooser.Closing.{Closing}
 use Rattle.fx_dropout.specs.Dropout.{IsNextChosen, IsSetIn}

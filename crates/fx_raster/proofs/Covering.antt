@@ -13,7 +13,7 @@ use Rattle.fx_winding.specs.Winding.{Span, weight_a, weight_b, weight_c, IsBetwe
 use Rattle.fx_winding.specs.Winding.{IsInRange, IsOnFlatArc, IsOnPart, IsOn, winding, IsCovered}
 use Rattle.fx_winding.specs.Winding.{IsAboveLow, IsBelowHigh, region_part, centre}
 use Rattle.fx_winding.specs.Meets.{IsWithinRow, IsReached, IsTip, IsTipPart, IsMet, turn, slope}
-use Rattle.fx_winding.specs.Dropout.{turned_span}
+use Rattle.fx_winding.specs.Turned.{turned_span}
 use Rattle.fx_dropout.specs.declared.chooser.Closing.{Closing}
 use Rattle.fx_dropout.specs.declared.chooser.Closing.TheVariants.{Lower, Nearer}
 use Rattle.fx_dropout.specs.Dropout.{IsCount, IsNextNearer, IsNextChosen, IsGap, IsBridged, IsRowSetIn, IsSetIn, IsClosedByLeft}
@@ -112,9 +112,12 @@ any_of : {X : Type 0} (P : X → Type 0) → ((x : X) → Test (P x)) → (xs : 
 any_of P t [] = (false, (λ e. absurd (cc), λ h. absurd (any_none P h)))
 any_of P t (x ∷ xs) = like (any_first P x xs) (any_where P x xs) (one (t x) (any_of P t xs))
 
+pub any_on : (p : Place) (ss : List Span) → Test (Any (IsOn p) ss)
+any_on p ss = any_of (IsOn p) (λ s. on_part s.a s.b s.c p) ss
+
 pub covered : (p : Place) (ss : List Span) → Test (IsCovered p ss)
 unfolding IsCovered
-covered p ss = one (any_of (IsOn p) (λ s. on_part s.a s.b s.c p) ss) (none (eq (winding p ss) (pos 0)))
+covered p ss = one (any_on p ss) (none (eq (winding p ss) (pos 0)))
 
 -- ---- with drop-out control
 

@@ -1,7 +1,7 @@
 -- Which pixels the frame with drop-out control keeps is decided; they lie near, less than the greatest side apart.
 -- Serves the law that a picture exists, with Existing.
-use Rattle.std.proofs.Common.{◌≡◌, inl, inr, refl, sym, ◌∙◌, subst, ℤ, pos, ◌+ℤ◌, ◌*ℤ◌, ◌≤ℤ◌, ◌<ℤ◌, Bool, true, false, not, ◌||◌}
-use Rattle.std.proofs.Common.{List, [], ◌∷◌, Ok, Decides, arith, true≢false}
+use Rattle.std.proofs.Common.{◌≡◌, inl, inr, refl, sym, ◌∙◌, ℤ, pos, ◌+ℤ◌, ◌*ℤ◌, ◌≤ℤ◌, ◌<ℤ◌, Bool, true, false, not, ◌||◌}
+use Rattle.std.proofs.Common.{List, [], ◌∷◌, Ok, arith, true≢false}
 use Rattle.std.proofs.lemmas.Bool.{or_parts}
 use Rattle.fx_fixed.specs.Ranges.{IsWithin}
 use Rattle.fx_fixed.specs.Chain.{refuse}
@@ -13,11 +13,12 @@ use Rattle.fx_winding.specs.Limits.{IsPixelNumber, greatest_side}
 use Rattle.fx_winding.specs.Winding.{Span}
 use Rattle.fx_contour.specs.declared.fault.ContourFault.TheVariants.{TooFar, TooLarge}
 use Rattle.fx_contour.specs.Frames.{HaveAny, IsCentreIn, AreNoPixels, have_any, first_from}
-use Rattle.fx_contour.specs.DropoutFrames.{x_of, y_of, IsExtent, IsMiddleOf, IsKeptIn, IsKept, IsInDropoutFrame, KeepsTooMany}
-use Rattle.fx_contour.specs.DropoutFrames.{LeavesMargin, leaves_margin, farthest_with_margin, keeps_too_many, dropout_framed_of}
-use Rattle.fx_contour.proofs.Decided.{first_reaches, first_least, some_one}
-use Rattle.fx_contour.proofs.Extents.{extents}
-use Rattle.fx_contour.proofs.Kept.{kept_in, nothing_kept, kept_neighbours, margin_decides, margin_is_tested, many_is_tested}
+use Rattle.fx_contour.specs.DropoutFrames.{x_of, y_of, least, greatest, IsMiddleOf, IsKeptIn, IsKept, IsInDropoutFrame}
+use Rattle.fx_contour.specs.DropoutFrames.{KeepsTooMany, LeavesMargin, leaves_margin, farthest_with_margin, keeps_too_many, dropout_framed_of}
+use Rattle.fx_contour.proofs.Decided.{first_reaches, first_least}
+use Rattle.fx_contour.proofs.DropoutFramed.{near}
+use Rattle.fx_contour.proofs.Extents.{low_is, high_is}
+use Rattle.fx_contour.proofs.Kept.{kept_neighbours, margin_is_tested, many_is_tested}
 use Rattle.fx_raster.proofs.Covering.{Test, both, one, none, like, le, lt}
 
 -- ---- decided
@@ -42,15 +43,10 @@ middle_of low high n = both (le (pos 256 *ℤ n) (low +ℤ high)) (lt (low +ℤ 
 kept_between : (low high n : ℤ) → Test (IsKeptIn low high n)
 kept_between low high n = one (centre_in low high n) (both (no_pixels low high) (middle_of low high n))
 
-kept_by : (coord : Place → ℤ) (ss : List Span) (low high n : ℤ) → IsExtent coord ss low high → Test (IsKept coord ss n)
-kept_by coord ss low high n e =
-    like (kept_in coord ss low high n e).1 (kept_in coord ss low high n e).0 (kept_between low high n)
-
 pub in_dropout_frame : (ss : List Span) (i j : ℤ) → Test (IsInDropoutFrame ss i j)
-in_dropout_frame [] i j = (false, (λ e. absurd (true≢false (sym e)), λ h. absurd (nothing_kept x_of i h.0)))
+in_dropout_frame [] i j = (false, (λ e. absurd (true≢false (sym e)), λ h. absurd h.0))
 in_dropout_frame (s ∷ ss) i j =
-    let e = extents s ss in
-    both (kept_by x_of (s ∷ ss) e.left e.right i e.across) (kept_by y_of (s ∷ ss) e.bottom e.top j e.up)
+    both (kept_between (least x_of s ss) (greatest x_of s ss) i) (kept_between (least y_of s ss) (greatest y_of s ss) j)
 
 -- ---- near, and not too many
 
@@ -76,34 +72,13 @@ are_framed ss h =
       rows = λ n. true≢false (sym ((many_is_tested ss).1.1 n) ∙ q.1);
     }
 
-within_x : (q : Place) → LeavesMargin q → IsWithin farthest_with_margin (x_of q)
-within_x q h = h.0
-
-within_y : (q : Place) → LeavesMargin q → IsWithin farthest_with_margin (y_of q)
-within_y q h = h.1
-
--- a place of which it can't be that it leaves no margin leaves one
-leaves : (q : Place) → ¬ (¬ (LeavesMargin q)) → LeavesMargin q
-leaves q n = by (leaves_margin q) (margin_decides q)
-  where
-    by : (b : Bool) → Decides b (LeavesMargin q) → LeavesMargin q
-    by true d = d.0 refl
-    by false d = absurd (n (λ h. true≢false (sym (d.1 h))))
-
--- the extent of spans that passed leaves a margin
-extent_within : (coord : Place → ℤ) → ((q : Place) → LeavesMargin q → IsWithin farthest_with_margin (coord q)) → (ss : List Span)
-    → ¬ (HaveAny (λ q. ¬ (LeavesMargin q)) ss) → (z : ℤ) → HaveAny (λ q. coord q ≡ z) ss → IsWithin farthest_with_margin z
-extent_within coord within ss margin z h =
-    let W : ℤ → Type 0 = λ y. IsWithin farthest_with_margin y in
-    some_one (λ q. coord q ≡ z) (W z) ss h
-    (λ q e m. subst W e (within q (leaves q (λ n. margin (m (λ r. ¬ (LeavesMargin r)) n)))))
-
 -- a column, or a row, that is kept has a number
 kept_number : (coord : Place → ℤ) → ((q : Place) → LeavesMargin q → IsWithin farthest_with_margin (coord q)) → (ss : List Span)
-    → IsFramed ss → (low high n : ℤ) → IsExtent coord ss low high → IsKept coord ss n → IsPixelNumber n
-kept_number coord within ss f low high n e k =
-    let p = kept_neighbours low high n (extent_within coord within ss f.margin low e.low_is)
-    (extent_within coord within ss f.margin high e.high_is) ((kept_in coord ss low high n e).0 k) in
+    → IsFramed ss → (n : ℤ) → IsKept coord ss n → IsPixelNumber n
+kept_number coord within [] f n k = absurd k
+kept_number coord within (s ∷ ss) f n k =
+    let p = kept_neighbours _ _ n (near coord within (s ∷ ss) f.margin _ (low_is coord (s ∷ ss) _ _ (refl, refl)))
+    (near coord within (s ∷ ss) f.margin _ (high_is coord (s ∷ ss) _ _ (refl, refl))) k in
     let a = p.0.0 in let b = p.1.1 in (omega (arith, signed_linear, a), omega (arith, signed_linear, b))
 
 -- what lies between two that are kept is kept
@@ -114,37 +89,29 @@ between_kept low high n k m p q r (inr h) (inl g) = absurd (h.0 m g)
 between_kept low high n k m p q r (inr h) (inr g) = let a = h.1.1 in let b = g.1.0 in absurd (omega (arith, signed, a, b, r))
 
 -- two that are kept are less than the greatest side apart
-kept_near : (coord : Place → ℤ) (ss : List Span) (low high n m : ℤ) → IsExtent coord ss low high → ¬ (KeepsTooMany coord ss)
-    → IsKept coord ss n → IsKept coord ss m → m <ℤ (n +ℤ pos greatest_side)
-kept_near coord ss low high n m e few h k = elim (below_or_not_ℤ m (n +ℤ pos greatest_side)) [
+kept_near : (coord : Place → ℤ) (ss : List Span) (n m : ℤ) → ¬ (KeepsTooMany coord ss) → IsKept coord ss n → IsKept coord ss m
+    → m <ℤ (n +ℤ pos greatest_side)
+kept_near coord [] n m few h k = absurd h
+kept_near coord (s ∷ ss) n m few h k = elim (below_or_not_ℤ m (n +ℤ pos greatest_side)) [
   | inl l ↦ l
   | inr far ↦ absurd (few (
     n,
     h,
-    (kept_in coord ss low high (n +ℤ pos greatest_side) e).1 (between_kept low high n (n +ℤ pos greatest_side) m
-        (omega (arith, signed_linear)) far (omega (arith, signed_linear, far)) ((kept_in coord ss low high n e).0 h)
-        ((kept_in coord ss low high m e).0 k)),
+    between_kept (least coord s ss) (greatest coord s ss) n (n +ℤ pos greatest_side) m (omega (arith, signed_linear)) far
+        (omega (arith, signed_linear, far)) h k,
   ))
 ]
 
 pub column_number : (ss : List Span) → IsFramed ss → (i j : ℤ) → IsInDropoutFrame ss i j → IsPixelNumber i
-column_number [] f i j h = absurd (nothing_kept x_of i h.0)
-column_number (s ∷ ss) f i j h =
-    let e = extents s ss in kept_number x_of within_x (s ∷ ss) f e.left e.right i e.across h.0
+column_number ss f i j h = kept_number x_of (λ q k. k.0) ss f i h.0
 
 pub row_number : (ss : List Span) → IsFramed ss → (i j : ℤ) → IsInDropoutFrame ss i j → IsPixelNumber j
-row_number [] f i j h = absurd (nothing_kept x_of i h.0)
-row_number (s ∷ ss) f i j h =
-    let e = extents s ss in kept_number y_of within_y (s ∷ ss) f e.bottom e.top j e.up h.1
+row_number ss f i j h = kept_number y_of (λ q k. k.1) ss f j h.1
 
 pub columns_near : (ss : List Span) → IsFramed ss → (i j k l : ℤ) → IsInDropoutFrame ss i j → IsInDropoutFrame ss k l
     → k <ℤ (i +ℤ pos greatest_side)
-columns_near [] f i j k l h g = absurd (nothing_kept x_of i h.0)
-columns_near (s ∷ ss) f i j k l h g =
-    let e = extents s ss in kept_near x_of (s ∷ ss) e.left e.right i k e.across f.columns h.0 g.0
+columns_near ss f i j k l h g = kept_near x_of ss i k f.columns h.0 g.0
 
 pub rows_near : (ss : List Span) → IsFramed ss → (i j k l : ℤ) → IsInDropoutFrame ss i j → IsInDropoutFrame ss k l
     → l <ℤ (j +ℤ pos greatest_side)
-rows_near [] f i j k l h g = absurd (nothing_kept x_of i h.0)
-rows_near (s ∷ ss) f i j k l h g =
-    let e = extents s ss in kept_near y_of (s ∷ ss) e.bottom e.top j l e.up f.rows h.1 g.1
+rows_near ss f i j k l h g = kept_near y_of ss j l f.rows h.1 g.1

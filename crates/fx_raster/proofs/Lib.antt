@@ -8,4 +8,3 @@ pub mod Inside
 pub mod Shaping
 pub mod Existing
 pub mod Moved
-pub mod Mirrored

@@ -1,7 +1,7 @@
 -- With drop-out control no gap stays open.
 -- Serves the law `bridged`.
 use Rattle.std.proofs.Common.{inl, map, false, true}
-use Rattle.fx_winding.specs.Dropout.{turned_span}
+use Rattle.fx_winding.specs.Turned.{turned_span}
 use Rattle.fx_winding.specs.Winding.{IsCovered, centre}
 use Rattle.fx_dropout.specs.Dropout.{IsNextChosen, IsRowSetIn}
 use Rattle.fx_dropout.proofs.SetPixels.{bridged_no_gap}

@@ -2,7 +2,7 @@
 use Rattle.std.specs.Prelude.{◌≡◌, ◌↔◌, IsTrue, ℕ, ℤ, pos, ◌+ℤ◌, ◌<ℤ◌, Bool, List, map, length, Ok, Any}
 use Rattle.fx_winding.specs.Winding.{Span, centre}
 use Rattle.fx_winding.specs.Meets.{IsMet}
-use Rattle.fx_winding.specs.Dropout.{turned_span}
+use Rattle.fx_winding.specs.Turned.{turned_span}
 use Rattle.fx_winding.specs.Limits.{IsPixelNumber, greatest_side}
 use Rattle.fx_outline.specs.declared.points.OutlinePoint.{OutlinePoint}
 use Rattle.fx_outline.specs.Ends.{AreEnds}

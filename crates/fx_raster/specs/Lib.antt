@@ -2,5 +2,4 @@ pub mod Faults
 pub mod Rules
 pub mod Frames
 pub mod Laws
-pub mod Mirrors
 pub mod inner

@@ -10,7 +10,7 @@ use Rattle.fx_fixed.proofs.Ring.{ring, *ℤ_comm}
 use Rattle.fx_fixed.proofs.Linear.{signed_linear}
 use Rattle.fx_fixed.proofs.Signs.{product_at_least_zero, product_above_zero}
 use Rattle.fx_winding.specs.Area.{Place, area, area_of}
-use Rattle.fx_winding.specs.Dropout.{turned_place}
+use Rattle.fx_winding.specs.Turned.{turned_place}
 use Rattle.fx_winding.specs.Winding.{sign, weight_a, weight_b, weight_c, region_part, is_right_of_chord}
 use Rattle.fx_winding.proofs.Beside.{total_above}
 use Rattle.fx_winding.proofs.Columns.{IsOnRising, end_ahead, end_behind, times_none, weight_up, weight_down}

@@ -8,7 +8,7 @@ use Rattle.fx_fixed.proofs.Ring.{ring, *ℤ_zero, one-*ℤ}
 use Rattle.fx_fixed.proofs.Linear.{signed_linear}
 use Rattle.fx_fixed.proofs.Signs.{product_at_least_zero, product_above_zero}
 use Rattle.fx_winding.specs.Area.{Place, area, area_of}
-use Rattle.fx_winding.specs.Dropout.{turned_place}
+use Rattle.fx_winding.specs.Turned.{turned_place}
 use Rattle.fx_winding.specs.Winding.{IsBetween, IsInRange, IsOnLine, IsOnFlatArc, chord_crossing}
 use Rattle.fx_winding.proofs.Crossings.{above, crossing_number, area_split_right, left_of_rising, right_of_rising}
 use Rattle.fx_winding.proofs.Crossings.{no_crossing}

@@ -5,7 +5,7 @@ use Rattle.std.proofs.Common.{◌≤ℤ◌, ◌<ℤ◌, Option, Some, None, arit
 use Rattle.std.proofs.lemmas.Int.{ints}
 use Rattle.fx_fixed.proofs.Linear.{signed_linear}
 use Rattle.fx_winding.specs.Area.{Place}
-use Rattle.fx_winding.specs.Dropout.{turned_place, turned_span}
+use Rattle.fx_winding.specs.Turned.{turned_place, turned_span}
 use Rattle.fx_winding.specs.Moves.{reversed}
 use Rattle.fx_winding.specs.Meets.{turn, IsWithinRow, IsMet, IsBetweenEnds}
 use Rattle.fx_winding.specs.Outside.{HasAll, OptionAll}

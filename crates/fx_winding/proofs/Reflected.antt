@@ -1,17 +1,13 @@
 -- Pieces whose places are moved so that each area changes its sign: what they add at a place, with what the pieces added.
--- Serves pieces mirrored at an axis, and those with their coordinates exchanged.
-use Rattle.std.proofs.Common.{zero, suc, ◌≡◌, ◌≢◌, refl, sym, ap, ◌∙◌, subst, ◌⊎◌, inl, inr, ℤ, pos, negsuc, ◌+ℤ◌, ◌-ℤ◌, ◌*ℤ◌}
-use Rattle.std.proofs.Common.{neg_ℤ, ◌≤ℤ◌, ◌<ℤ◌, [], ◌∷◌, Option, Some, None, option_map, arith}
-use Rattle.std.proofs.lemmas.Int.{ints, by_lt_z}
-use Rattle.fx_fixed.specs.Polynomial.{var, num, ◌⊞◌, ◌⊠◌, minus, ◌⊟◌}
+-- Serves pieces with their coordinates exchanged, and the laws of `fx_symmetry`.
+use Rattle.std.proofs.Common.{zero, suc, ◌≡◌, ◌≢◌, refl, sym, ap, ◌∙◌, ◌⊎◌, inl, inr, ℤ, pos, negsuc, ◌+ℤ◌, ◌-ℤ◌, ◌*ℤ◌}
+use Rattle.std.proofs.Common.{neg_ℤ, [], ◌∷◌, Option, Some, None, option_map, arith}
+use Rattle.std.proofs.lemmas.Int.{ints}
+use Rattle.fx_fixed.specs.Polynomial.{var, ◌⊠◌, minus}
 use Rattle.fx_fixed.proofs.Ring.{ring, one-*ℤ, neg-*ℤ}
 use Rattle.fx_fixed.proofs.Linear.{signed_linear}
-use Rattle.fx_fixed.proofs.Signs.{product_at_least_zero, product_above_zero}
 use Rattle.fx_winding.specs.Area.{Place, area}
-use Rattle.fx_winding.specs.Winding.{Span, sign, weight_a, weight_b, weight_c, is_right_of_chord, chord_crossing, region_part}
-use Rattle.fx_winding.specs.Winding.{IsBetween, IsBeforeTurn, IsAboveLow, IsBelowHigh, IsInRange, AreOnArc, IsOnPart, IsOn}
-use Rattle.fx_winding.proofs.Beside.{total_above}
-use Rattle.fx_winding.proofs.Columns.{IsOnRising, times_none, weight_up, weight_down}
+use Rattle.fx_winding.specs.Winding.{sign, weight_b, is_right_of_chord, chord_crossing, region_part}
 use Rattle.fx_winding.proofs.Crossings.{crossing_number}
 use Rattle.fx_winding.proofs.HalfAreas.{area_swap}
 use Rattle.fx_winding.proofs.Halved.{flat_region}
@@ -28,103 +24,14 @@ sign_reflected : (r : Place → Place) → Reflects r → (a b c : Place) → si
 sign_reflected r f a b c = ap sign (f.area_is a b c) ∙ sign_back (area a b c)
 
 -- they are the same
-weight_reflected : (r : Place → Place) → Reflects r → (a b c p q s : Place)
+pub weight_reflected : (r : Place → Place) → Reflects r → (a b c p q s : Place)
     → sign (area (r a) (r b) (r c)) *ℤ area (r p) (r q) (r s) ≡ sign (area a b c) *ℤ area p q s
 weight_reflected r f a b c p q s =
     (λ i. sign_reflected r f a b c i *ℤ f.area_is p q s i)
     ∙ ring (sign (area a b c) ∷ area p q s ∷ []) (minus (var 0) ⊠ minus (var 1)) (var 0 ⊠ var 1) tt
 
--- ---- on a piece
-none_reflected : (r : Place → Place) → Reflects r → (p q s : Place) → area p q s ≡ pos 0 → area (r p) (r q) (r s) ≡ pos 0
+pub none_reflected : (r : Place → Place) → Reflects r → (p q s : Place) → area p q s ≡ pos 0 → area (r p) (r q) (r s) ≡ pos 0
 none_reflected r f p q s z = f.area_is p q s ∙ ap neg_ℤ z
-
--- the ranges of coordinates go along
-pub record KeepsRanges (r : Place → Place) : Type 0 where
-  pub between : (a c p : Place) → IsBetween a.x c.x p.x → IsBetween a.y c.y p.y
-      → IsBetween (r a).x (r c).x (r p).x × IsBetween (r a).y (r c).y (r p).y
-  pub range : (a b c p : Place) → IsInRange a.x b.x c.x p.x → IsInRange a.y b.y c.y p.y
-      → IsInRange (r a).x (r b).x (r c).x (r p).x × IsInRange (r a).y (r b).y (r c).y (r p).y
-
-pub on_reflected : (r : Place → Place) → Reflects r → KeepsRanges r → (a : Place) (b : Option Place) (c p : Place)
-    → IsOnPart a b c p → IsOnPart (r a) (option_map r b) (r c) (r p)
-on_reflected r f k a None c p on = record {
-  collinear = none_reflected r f a c p on.collinear;
-  between_x = (k.between a c p on.between_x on.between_y).0;
-  between_y = (k.between a c p on.between_x on.between_y).1;
-}
-on_reflected r f k a (Some b) c p (inl on) = inl (record {
-  bent = λ e. on.bent (back (area a b c) (sym (f.area_is a b c) ∙ e));
-  on_arc = arc (weight_reflected r f a b c p b c) (weight_reflected r f a b c a p c) (weight_reflected r f a b c a b p) on.on_arc;
-})
-  where
-    back : (z : ℤ) → neg_ℤ z ≡ pos 0 → z ≡ pos 0
-    back z h = omega (arith, signed_linear, h)
-
-    arc : {u v w u' v' w' : ℤ} → u' ≡ u → v' ≡ v → w' ≡ w → AreOnArc u v w → AreOnArc u' v' w'
-    arc eu ev ew h = rw (eu, ev, ew) h
-on_reflected r f k a (Some b) c p (inr on) = inr (record {
-  flat = none_reflected r f a b c on.flat;
-  with_ab = none_reflected r f a b p on.with_ab;
-  with_bc = none_reflected r f b c p on.with_bc;
-  with_ac = none_reflected r f a c p on.with_ac;
-  range_x = (k.range a b c p on.range_x on.range_y).0;
-  range_y = (k.range a b c p on.range_x on.range_y).1;
-})
-
--- ---- numbers with their signs changed
-pub minus_minus : (z : ℤ) → neg_ℤ (neg_ℤ z) ≡ z
-minus_minus z = omega (arith, signed_linear)
-
-pub between_minus : (a c p : ℤ) → IsBetween a c p → IsBetween (neg_ℤ a) (neg_ℤ c) (neg_ℤ p)
-between_minus a c p (inl (h, k)) = inr (omega (arith, signed_linear, k), omega (arith, signed_linear, h))
-between_minus a c p (inr (h, k)) = inl (omega (arith, signed_linear, k), omega (arith, signed_linear, h))
-
-turn_minus : (a b c p : ℤ) → IsBeforeTurn a b c p → IsBeforeTurn (neg_ℤ a) (neg_ℤ b) (neg_ℤ c) (neg_ℤ p)
-turn_minus a b c p h =
-    let e : neg_ℤ a *ℤ neg_ℤ c -ℤ neg_ℤ b *ℤ neg_ℤ b ≡ a *ℤ c -ℤ b *ℤ b =
-    ring (a ∷ b ∷ c ∷ []) (minus (var 0) ⊠ minus (var 2) ⊟ minus (var 1) ⊠ minus (var 1)) (var 0 ⊠ var 2 ⊟ var 1 ⊠ var 1) tt in
-    let f : neg_ℤ p *ℤ (neg_ℤ a -ℤ pos 2 *ℤ neg_ℤ b +ℤ neg_ℤ c) ≡ p *ℤ (a -ℤ pos 2 *ℤ b +ℤ c) =
-    ring (a ∷ b ∷ c ∷ p ∷ []) (minus (var 3) ⊠ (minus (var 0) ⊟ num (pos 2) ⊠ minus (var 1) ⊞ minus (var 2)))
-    (var 3 ⊠ (var 0 ⊟ num (pos 2) ⊠ var 1 ⊞ var 2)) tt in
-    rw (e, f) h
-
-minus_order : (x y : ℤ) → x ≤ℤ y → neg_ℤ y ≤ℤ neg_ℤ x
-minus_order x y h = omega (arith, signed_linear, h)
-
-minus_strictly : (x y : ℤ) → x <ℤ y → neg_ℤ y <ℤ neg_ℤ x
-minus_strictly x y h = omega (arith, signed_linear, h)
-
-pub low_minus : (a b c p : ℤ) → IsAboveLow a b c p → IsBelowHigh (neg_ℤ a) (neg_ℤ b) (neg_ℤ c) (neg_ℤ p)
-low_minus a b c p (inl h) = inl (minus_order a p h)
-low_minus a b c p (inr (inl h)) = inr (inl (minus_order c p h))
-low_minus a b c p (inr (inr (h, k, t))) =
-    inr (inr (minus_strictly b a h, minus_strictly b c k, turn_minus a b c p t))
-
-pub high_minus : (a b c p : ℤ) → IsBelowHigh a b c p → IsAboveLow (neg_ℤ a) (neg_ℤ b) (neg_ℤ c) (neg_ℤ p)
-high_minus a b c p (inl h) = inl (minus_order p a h)
-high_minus a b c p (inr (inl h)) = inr (inl (minus_order p c h))
-high_minus a b c p (inr (inr (h, k, t))) =
-    inr (inr (minus_strictly a b h, minus_strictly c b k, turn_minus a b c p t))
-
-pub range_minus : (a b c p : ℤ) → IsInRange a b c p → IsInRange (neg_ℤ a) (neg_ℤ b) (neg_ℤ c) (neg_ℤ p)
-range_minus a b c p r = record { low = high_minus a b c p r.high; high = low_minus a b c p r.low }
-
--- ---- moved twice
--- a piece with its places moved
-abbrev pub reflected : (Place → Place) → Span → Span
-reflected r s = record { a = r s.a; b = option_map r s.b; c = r s.c }
-
-pub reflected_twice : (r : Place → Place) → ((p : Place) → r (r p) ≡ p) → (s : Span) → reflected r (reflected r s) ≡ s
-reflected_twice r e s = λ i. record { a = e s.a i; b = option s.b i; c = e s.c i }
-  where
-    option : (b : Option Place) → option_map r (option_map r b) ≡ b
-    option None = refl
-    option (Some b) = ap Some (e b)
-
-pub on_reflected_back : (r : Place → Place) → Reflects r → KeepsRanges r → ((p : Place) → r (r p) ≡ p) → (p : Place) (s : Span)
-    → IsOn (r p) (reflected r s) → IsOn p s
-on_reflected_back r f k e p s h = subst (λ (T : Type 0). T) (λ i. IsOn (e p i) (reflected_twice r e s i))
-    (on_reflected r f k (r s.a) (option_map r s.b) (r s.c) (r p) h)
 
 -- ---- regions
 -- off the chord's line the control point's weight is not 0
@@ -195,52 +102,6 @@ region_from r f a b c p (inr e) (inr (v, u, w, s)) = inr (
 pub regions_alike : (r : Place → Place) → Reflects r → (a b c p : Place) → IsAlike r a b c p
     → region_part (r a) (Some (r b)) (r c) (r p) +ℤ region_part a (Some b) c p ≡ pos 0
 regions_alike r f a b c p s = regions_cancel r f a b c p (region_to r f a b c p s) (region_from r f a b c p s)
-
--- ---- a place on the chord's line
--- a factor below 0 or at 0
-minus_first : (x y z : ℤ) → (y -ℤ x) *ℤ z ≡ neg_ℤ ((x -ℤ y) *ℤ z)
-minus_first x y z = ring (x ∷ y ∷ z ∷ []) ((var 1 ⊟ var 0) ⊠ var 2) (minus ((var 0 ⊟ var 1) ⊠ var 2)) tt
-
--- where the chord rises and the weights of its ends are above 0, the place is between the ends
-pub between_rising : (a b c p : Place) → a.y <ℤ c.y → area a b c ≢ pos 0 → area a c p ≡ pos 0
-    → (pos 0 <ℤ weight_a a b c p) × (pos 0 <ℤ weight_c a b c p) → IsOnRising a c p
-between_rising a b c p l n z (u, w) = record {
-  low = by_lt_z a.y p.y (λ k. k) (λ k. absurd (under k));
-  high = by_lt_z p.y c.y (λ k. k) (λ k. absurd (over k));
-  none = z;
-}
-  where
-    total : pos 0 <ℤ (sign (area a b c) *ℤ area a b c)
-    total = total_above (area a b c) n
-
-    long : pos 0 <ℤ (c.y -ℤ a.y)
-    long = omega (arith, signed_linear, l)
-
-    under : p.y ≤ℤ a.y → ⊥
-    under k =
-        let e = weight_up (sign (area a b c)) a.x a.y b.x b.y c.x c.y p.x p.y in
-        let y = times_none (b.y -ℤ a.y) _ (times_none (sign (area a b c)) _ z) in
-        let q = product_at_least_zero (a.y -ℤ p.y) (sign (area a b c) *ℤ area a b c) (omega (arith, signed_linear, k))
-        (omega (arith, signed_linear, total)) in
-        let m = minus_first a.y p.y (sign (area a b c) *ℤ area a b c) in
-        let g = product_above_zero (c.y -ℤ a.y) (weight_c a b c p) long w in
-        omega (arith, signed_linear, e, y, q, m, g)
-
-    over : c.y ≤ℤ p.y → ⊥
-    over k =
-        let e = weight_down (sign (area a b c)) a.x a.y b.x b.y c.x c.y p.x p.y in
-        let y = times_none (b.y -ℤ c.y) _ (times_none (sign (area a b c)) _ z) in
-        let q = product_at_least_zero (p.y -ℤ c.y) (sign (area a b c) *ℤ area a b c) (omega (arith, signed_linear, k))
-        (omega (arith, signed_linear, total)) in
-        let m = minus_first p.y c.y (sign (area a b c) *ℤ area a b c) in
-        let g = product_above_zero (c.y -ℤ a.y) (weight_a a b c p) long u in
-        omega (arith, signed_linear, e, y, q, m, g)
-
--- in the region of an arc with a place on the chord's line the weights of the ends are above 0
-pub region_ends : (a b c p : Place) → area a c p ≡ pos 0 → IsInRegion a b c p
-    → (pos 0 <ℤ weight_a a b c p) × (pos 0 <ℤ weight_c a b c p)
-region_ends a b c p z (inl (u, v, w, g)) = (u, w)
-region_ends a b c p z (inr (v, u, w, s)) = (u, w)
 
 -- ---- the whole
 -- a moved piece and the piece add k in all

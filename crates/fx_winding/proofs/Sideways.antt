@@ -3,7 +3,7 @@
 use Rattle.std.proofs.Common.{◌≡◌, inr, ℤ, ◌-ℤ◌, neg_ℤ, ◌<ℤ◌, Option, Some, None, arith}
 use Rattle.fx_fixed.proofs.Linear.{signed_linear}
 use Rattle.fx_winding.specs.Area.{Place}
-use Rattle.fx_winding.specs.Dropout.{turned_place, turned_span}
+use Rattle.fx_winding.specs.Turned.{turned_place, turned_span}
 use Rattle.fx_winding.specs.Meets.{turn}
 use Rattle.fx_winding.specs.Moves.{reversed}
 use Rattle.fx_winding.specs.Winding.{Span, IsOnPart, IsOn}

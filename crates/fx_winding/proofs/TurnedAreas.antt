@@ -4,7 +4,7 @@ use Rattle.std.proofs.Common.{◌≡◌, ap, ◌∙◌, ◌*ℤ◌, neg_ℤ, [],
 use Rattle.fx_fixed.specs.Polynomial.{var, ◌⊠◌, minus}
 use Rattle.fx_fixed.proofs.Ring.{ring}
 use Rattle.fx_winding.specs.Area.{Place, area}
-use Rattle.fx_winding.specs.Dropout.{turned_place}
+use Rattle.fx_winding.specs.Turned.{turned_place}
 use Rattle.fx_winding.specs.Winding.{sign}
 use Rattle.fx_winding.proofs.Reversal.{sign_back}
 use Rattle.fx_winding.proofs.Triangle.{area_expr, at, coordinates, area_at}

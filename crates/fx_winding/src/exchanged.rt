@@ -1,7 +1,7 @@
 //! Columns seen as rows: points, pieces and frames with their coordinates exchanged.
 
 ghost use Rattle.std.specs.Prelude.{◌≡◌, option_map, map, IfOk};
-ghost use Rattle.fx_winding.specs.Dropout.{turned_place, turned_span};
+ghost use Rattle.fx_winding.specs.Turned.{turned_place, turned_span};
 ghost use Rattle.fx_winding.specs.Winding.{place_of, maybe_place_of, span_of};
 
 use crate::frame::Frame;

@@ -1,6 +1,6 @@
 use Rattle.std.proofs.Common.{◌≡◌, ◌∙◌, ◌∷◌, [], ap, length, length-append, map, take, arith}
 use Rattle.std.proofs.Math.Seq.{take-length}
-use Rattle.fx_winding.specs.Dropout.{turned_span}
+use Rattle.fx_winding.specs.Turned.{turned_span}
 use Rattle.fx_winding.specs.Winding.{span_of}
 use Rattle.fx_winding.proofs.TurnedPieces.{turned_more, turned_all}
 use Rattle.fx_winding.proofs.pieces.Pieces.turned.Goals as goal

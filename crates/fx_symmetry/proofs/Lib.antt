@@ -1,0 +1,11 @@
+pub mod OnPieces
+pub mod ChordLine
+pub mod Mirrored
+pub mod Exchanged
+pub mod Covering
+pub mod Meeting
+pub mod Outlines
+pub mod Frames
+pub mod Reversed
+pub mod Near
+pub mod Shapes

@@ -1,0 +1,229 @@
+-- What drop-out control by the nearer pixel sets, mirrored or upside down.
+-- Serves the law `dropout`, and the pictures of moved outlines.
+use Rattle.std.proofs.Common.{◌≡◌, refl, sym, ap, ◌∙◌, subst, ◌↔◌, ◌⊎◌, inl, inr, ℕ, ◌+◌, ℤ, pos, ◌+ℤ◌, ◌*ℤ◌, ◌≤ℤ◌}
+use Rattle.std.proofs.Common.{Bool, true, false, List, [], ◌∷◌, map, arith}
+use Rattle.fx_fixed.specs.Polynomial.{var, num, ◌⊞◌, ◌⊠◌}
+use Rattle.fx_fixed.proofs.Ring.{ring}
+use Rattle.fx_fixed.proofs.Linear.{signed_linear}
+use Rattle.fx_winding.specs.Area.{Place, place}
+use Rattle.fx_winding.specs.Turned.{turned_span}
+use Rattle.fx_winding.specs.Frames.{IsInFrame}
+use Rattle.fx_winding.specs.Meets.{IsMet}
+use Rattle.fx_winding.specs.Outside.{AreOfOutline}
+use Rattle.fx_winding.specs.Winding.{Span, IsOn, IsCovered, centre}
+use Rattle.fx_dropout.specs.declared.chooser.Closing.TheVariants.{Nearer}
+use Rattle.fx_dropout.specs.Dropout.{IsGap, IsNextNearer, IsRowSetIn, IsSetIn, place_on}
+use Rattle.fx_dropout.proofs.SetPixels.{AreMet, IsMoved, closed_moved, nearer_along}
+use Rattle.fx_symmetry.specs.Symmetries.{Symmetry, Mirror, Flip, Exchange, place_in, span_in, col_in, row_in}
+use Rattle.fx_symmetry.specs.Dropout.{IsHereNearer, HasNoTieIn, MovesNearSet}
+use Rattle.fx_symmetry.proofs.Covering.{mirror, axis_mirrored, centre_in, moves_cover, moves_bits}
+use Rattle.fx_symmetry.proofs.Meeting.{mirror_meets, flip_meets}
+use Rattle.fx_symmetry.proofs.OnPieces.{turned_mirrored, turned_flipped}
+use Rattle.fx_symmetry.proofs.Reversed.{mirror_next, any_moved, back_along, nearer_reversed, one_nearer, bridged_mirrored}
+
+-- ---- gaps of a line
+-- what is set so far, in the line and in the moved one
+record AreSet (ss : List Span) (So At : ℤ → ℤ → Type 0) (m n : ℤ → ℤ) : Type 0 where
+  covered : (i j : ℤ) → IsCovered (centre i j) ss → So i j
+  moved : (i j : ℤ) → At (m i) (n j) ↔ So i j
+
+-- the segment to the right neighbour, mirrored, is that from the mirrored neighbour
+strokes_mirrored : (ss : List Span) (i j : ℤ) → ¬ (IsCovered (centre i j) ss) → ¬ (IsCovered (centre (i +ℤ pos 1) j) ss)
+    → AreMet (map (span_in Mirror) ss) (mirror (i +ℤ pos 1)) j ↔ AreMet ss i j
+strokes_mirrored ss i j np nq =
+    any_moved (span_in Mirror) (centre i j) (centre (i +ℤ pos 1) j) ss (IsMet (centre i j) (centre (i +ℤ pos 1) j))
+    (IsMet (centre (mirror (i +ℤ pos 1)) j) (centre (mirror (i +ℤ pos 1) +ℤ pos 1) j)) np nq one
+  where
+    one : (s : Span) → ¬ (IsOn (centre i j) s) → ¬ (IsOn (centre (i +ℤ pos 1) j) s)
+        → IsMet (centre (mirror (i +ℤ pos 1)) j) (centre (mirror (i +ℤ pos 1) +ℤ pos 1) j) (span_in Mirror s)
+        ↔ IsMet (centre i j) (centre (i +ℤ pos 1) j) s
+    one s n m = subst (λ (z : Place × Place). IsMet z.0 z.1 (span_in Mirror s) ↔ IsMet (centre i j) (centre (i +ℤ pos 1) j) s)
+        (λ t. (centre_in Mirror (i +ℤ pos 1) j t, (centre_in Mirror i j ∙ ap (λ z. centre z j) (sym (mirror_next i))) t))
+        (mirror_meets (centre i j) (centre (i +ℤ pos 1) j) s refl n m)
+
+gap_mirrored : (ss : List Span) (So At : ℤ → ℤ → Type 0) → AreSet ss So At mirror (λ j. j) → (i j : ℤ)
+    → IsGap (map (span_in Mirror) ss) At (mirror (i +ℤ pos 1)) j ↔ IsGap ss So i j
+gap_mirrored ss So At set i j = (from, to)
+  where
+    from : IsGap (map (span_in Mirror) ss) At (mirror (i +ℤ pos 1)) j → IsGap ss So i j
+    from g =
+        let np : ¬ (So i j) = λ c. g.next (subst (λ z. At z j) (sym (mirror_next i)) ((set.moved i j).1 c)) in
+        let nq : ¬ (So (i +ℤ pos 1) j) = λ c. g.here ((set.moved (i +ℤ pos 1) j).1 c) in
+        record {
+          here = np;
+          next = nq;
+          met = (strokes_mirrored ss i j (λ c. np (set.covered i j c)) (λ c. nq (set.covered (i +ℤ pos 1) j c))).0 g.met;
+        }
+
+    to : IsGap ss So i j → IsGap (map (span_in Mirror) ss) At (mirror (i +ℤ pos 1)) j
+    to g = record {
+      here = λ c. g.next ((set.moved (i +ℤ pos 1) j).0 c);
+      next = λ c. g.here ((set.moved i j).0 (subst (λ z. At z j) (mirror_next i) c));
+      met = (strokes_mirrored ss i j (λ c. g.here (set.covered i j c)) (λ c. g.next (set.covered (i +ℤ pos 1) j c))).1 g.met;
+    }
+
+-- upside down a line keeps its order
+strokes_flipped : (ss : List Span) (i j : ℤ) → ¬ (IsCovered (centre i j) ss) → ¬ (IsCovered (centre (i +ℤ pos 1) j) ss)
+    → AreMet (map (span_in Flip) ss) i (mirror j) ↔ AreMet ss i j
+strokes_flipped ss i j np nq =
+    any_moved (span_in Flip) (centre i j) (centre (i +ℤ pos 1) j) ss (IsMet (centre i j) (centre (i +ℤ pos 1) j))
+    (IsMet (centre i (mirror j)) (centre (i +ℤ pos 1) (mirror j))) np nq one
+  where
+    -- the centre of a pixel comes before that of the next one
+    below : (pos 128 *ℤ i +ℤ pos 64) ≤ℤ (pos 128 *ℤ (i +ℤ pos 1) +ℤ pos 64)
+    below =
+        let e : pos 128 *ℤ (i +ℤ pos 1) ≡ pos 128 *ℤ i +ℤ pos 128 =
+        ring (i ∷ []) (num (pos 128) ⊠ (var 0 ⊞ num (pos 1))) (num (pos 128) ⊠ var 0 ⊞ num (pos 128)) tt in
+        omega (arith, signed_linear, e)
+
+    one : (s : Span) → ¬ (IsOn (centre i j) s) → ¬ (IsOn (centre (i +ℤ pos 1) j) s)
+        → IsMet (centre i (mirror j)) (centre (i +ℤ pos 1) (mirror j)) (span_in Flip s)
+        ↔ IsMet (centre i j) (centre (i +ℤ pos 1) j) s
+    one s n m = subst (λ (z : Place × Place). IsMet z.0 z.1 (span_in Flip s) ↔ IsMet (centre i j) (centre (i +ℤ pos 1) j) s)
+        (λ t. (centre_in Flip i j t, centre_in Flip (i +ℤ pos 1) j t))
+        (flip_meets (centre i j) (centre (i +ℤ pos 1) j) s refl below n m)
+
+gap_flipped : (ss : List Span) (So At : ℤ → ℤ → Type 0) → AreSet ss So At (λ i. i) mirror
+    → IsMoved (λ i. i) (λ j. mirror j) (IsGap ss So) (IsGap (map (span_in Flip) ss) At)
+gap_flipped ss So At set = record { back = λ i j g. back i j g; on = λ i j g. on i j g }
+  where
+    back : (i j : ℤ) → IsGap (map (span_in Flip) ss) At i (mirror j) → IsGap ss So i j
+    back i j g =
+        let n : ¬ (So i j) = λ c. g.here ((set.moved i j).1 c) in
+        let m : ¬ (So (i +ℤ pos 1) j) = λ c. g.next ((set.moved (i +ℤ pos 1) j).1 c) in
+        record {
+          here = n;
+          next = m;
+          met = (strokes_flipped ss i j (λ c. n (set.covered i j c)) (λ c. m (set.covered (i +ℤ pos 1) j c))).0 g.met;
+        }
+
+    on : (i j : ℤ) → IsGap ss So i j → IsGap (map (span_in Flip) ss) At i (mirror j)
+    on i j g = record {
+      here = λ c. g.here ((set.moved i j).0 c);
+      next = λ c. g.next ((set.moved (i +ℤ pos 1) j).0 c);
+      met = (strokes_flipped ss i j (λ c. g.here (set.covered i j c)) (λ c. g.next (set.covered (i +ℤ pos 1) j c))).1 g.met;
+    }
+
+-- ---- a column is a row of the exchanged pieces
+turned_all : (m n : Symmetry) → ((s : Span) → span_in Exchange (span_in m s) ≡ span_in n (span_in Exchange s)) → (ss : List Span)
+    → map turned_span (map (span_in m) ss) ≡ map (span_in n) (map turned_span ss)
+turned_all m n one [] = refl
+turned_all m n one (s ∷ ss) = λ i. one s i ∷ turned_all m n one ss i
+
+-- ---- the nearer one
+-- along a line that keeps its order
+near_kept : (m : Symmetry) (up : Bool) (ss : List Span) → AreOfOutline ss → (i j k l : ℤ)
+    → ((n : ℕ) → place_in m (place_on up i j n) ≡ place_on up k l n)
+    → IsNextNearer up (map (span_in m) ss) k l ↔ IsNextNearer up ss i j
+near_kept m up ss o i j k l e = (
+  nearer_along up (map (span_in m) ss) ss k l i j covered,
+  nearer_along up ss (map (span_in m) ss) i j k l (λ n. let c = covered n in (c.1, c.0)),
+)
+  where
+    covered : (n : ℕ) → IsCovered (place_on up k l n) (map (span_in m) ss) ↔ IsCovered (place_on up i j n) ss
+    covered n = subst (λ p. IsCovered p (map (span_in m) ss) ↔ IsCovered (place_on up i j n) ss) (e n)
+        (moves_cover m (place_on up i j n) ss o)
+
+-- along one in reverse order
+near_reversed : (m : Symmetry) (up : Bool) (ss : List Span) → AreOfOutline ss → (i j k l : ℤ)
+    → ((a b : ℕ) → a + b ≡ 128 → place_in m (place_on up i j b) ≡ place_on up k l a)
+    → IsNextNearer up (map (span_in m) ss) k l ↔ IsHereNearer up ss i j
+near_reversed m up ss o i j k l e = nearer_reversed up ss (map (span_in m) ss) i j k l
+    (λ a b h. subst (λ p. IsCovered p (map (span_in m) ss) ↔ IsCovered (place_on up i j b) ss) (e a b h)
+    (moves_cover m (place_on up i j b) ss o))
+
+-- so a gap without a tie has one nearer pixel, mirrored or not
+one_of_both : (up : Bool) (ss ts : List Span) (i j k l : ℤ) → IsNextNearer up ts k l ↔ IsHereNearer up ss i j
+    → IsNextNearer up ss i j ⊎ IsHereNearer up ss i j → IsNextNearer up ss i j ⊎ IsNextNearer up ts k l
+one_of_both up ss ts i j k l e (inl n) = inl n
+one_of_both up ss ts i j k l e (inr h) = inr (e.1 h)
+
+-- ---- the whole
+pub near_set_moved : (m : Symmetry) (ss : List Span) (In To : ℤ → ℤ → Type 0) → AreOfOutline ss → HasNoTieIn m ss In
+    → ((i j : ℤ) → To (col_in m i j) (row_in m i j) ↔ In i j) → (i j : ℤ)
+    → IsSetIn Nearer (map (span_in m) ss) To (col_in m i j) (row_in m i j) ↔ IsSetIn Nearer ss In i j
+near_set_moved Exchange ss In To o tie inside i j = absurd tie
+near_set_moved Mirror ss In To o tie inside i j = (λ h. all.back j i h, λ h. all.on j i h)
+  where
+    ts : List Span
+    ts = map (span_in Mirror) ss
+
+    nearer : (i j : ℤ) → IsNextNearer false ts (mirror (i +ℤ pos 1)) j ↔ IsHereNearer false ss i j
+    nearer i j = near_reversed Mirror false ss o i j (mirror (i +ℤ pos 1)) j
+        (λ a b h t. place (back_along i a b h t) (pos 128 *ℤ j +ℤ pos 64))
+
+    row : (i j : ℤ) → IsRowSetIn Nearer ts To (mirror i) j ↔ IsRowSetIn Nearer ss In i j
+    row = bridged_mirrored ss ts In To (IsNextNearer false ss) (IsNextNearer false ts) (λ i j. IsCovered (centre i j) ss)
+        (λ i j. IsCovered (centre i j) ts) (record {
+          inside = inside;
+          set = λ i j. moves_bits Mirror i j ss o;
+          gap = gap_mirrored ss (λ i j. IsCovered (centre i j) ss) (λ i j. IsCovered (centre i j) ts)
+              (record { covered = λ i j c. c; moved = λ i j. moves_bits Mirror i j ss o });
+          one = λ i j g. one_of_both false ss ts i j (mirror (i +ℤ pos 1)) j (nearer i j) (tie i j g);
+          not_both = λ i j n f. one_nearer false ss i j n ((nearer i j).0 f);
+        })
+
+    upper : (i j : ℤ) → IsNextNearer true ts (mirror i) j ↔ IsNextNearer true ss i j
+    upper i j = near_kept Mirror true ss o i j (mirror i) j
+        (λ n t. place (axis_mirrored i t) ((pos 128 *ℤ j +ℤ pos 64) +ℤ pos n))
+
+    gaps : IsMoved (λ j. j) (λ i. mirror i) (IsGap (map turned_span ss) (λ j i. IsRowSetIn Nearer ss In i j))
+        (IsGap (map turned_span ts) (λ j i. IsRowSetIn Nearer ts To i j))
+    gaps = subst (λ (us : List Span). IsMoved (λ j. j) (λ i. mirror i) (IsGap (map turned_span ss)
+        (λ j i. IsRowSetIn Nearer ss In i j)) (IsGap us (λ j i. IsRowSetIn Nearer ts To i j)))
+        (sym (turned_all Mirror Flip turned_mirrored ss))
+        (gap_flipped (map turned_span ss) (λ j i. IsRowSetIn Nearer ss In i j) (λ j i. IsRowSetIn Nearer ts To i j) (record {
+          covered = λ j i c. inl ((moves_bits Exchange i j ss o).0 c);
+          moved = λ j i. row i j;
+        }))
+
+    all : IsMoved (λ j. j) (λ i. mirror i) (λ j i. IsSetIn Nearer ss In i j) (λ j i. IsSetIn Nearer ts To i j)
+    all = closed_moved (λ j. j) (λ i. mirror i) (λ j. refl) (λ j. refl) (map turned_span ss) (map turned_span ts)
+        (λ j i. In i j) (λ j i. To i j) (λ j i. IsNextNearer true ss i j) (λ j i. IsNextNearer true ts i j)
+        (λ j i. IsRowSetIn Nearer ss In i j) (λ j i. IsRowSetIn Nearer ts To i j)
+        (record { back = λ j i h. (inside i j).0 h; on = λ j i h. (inside i j).1 h })
+        (record { back = λ j i h. (upper i j).0 h; on = λ j i h. (upper i j).1 h })
+        (record { back = λ j i h. (row i j).0 h; on = λ j i h. (row i j).1 h })
+        gaps
+near_set_moved Flip ss In To o tie inside i j =
+    bridged_mirrored (map turned_span ss) (map turned_span ts) (λ j i. In i j) (λ j i. To i j)
+    (λ j i. IsNextNearer true ss i j) (λ j i. IsNextNearer true ts i j) (λ j i. IsRowSetIn Nearer ss In i j)
+    (λ j i. IsRowSetIn Nearer ts To i j) (record {
+      inside = λ j i. inside i j;
+      set = λ j i. (λ h. rows.back i j h, λ h. rows.on i j h);
+      gap = gaps;
+      one = λ j i g. one_of_both true ss ts i j i (mirror (j +ℤ pos 1)) (upper i j) (tie i j g);
+      not_both = λ j i n f. one_nearer true ss i j n ((upper i j).0 f);
+    }) j i
+  where
+    ts : List Span
+    ts = map (span_in Flip) ss
+
+    nearer : (i j : ℤ) → IsNextNearer false ts i (mirror j) ↔ IsNextNearer false ss i j
+    nearer i j = near_kept Flip false ss o i j i (mirror j)
+        (λ n t. place ((pos 128 *ℤ i +ℤ pos 64) +ℤ pos n) (axis_mirrored j t))
+
+    rows : IsMoved (λ i. i) (λ j. mirror j) (IsRowSetIn Nearer ss In) (IsRowSetIn Nearer ts To)
+    rows = closed_moved (λ i. i) (λ j. mirror j) (λ i. refl) (λ i. refl) ss ts In To (IsNextNearer false ss)
+        (IsNextNearer false ts) (λ i j. IsCovered (centre i j) ss) (λ i j. IsCovered (centre i j) ts)
+        (record { back = λ i j h. (inside i j).0 h; on = λ i j h. (inside i j).1 h })
+        (record { back = λ i j h. (nearer i j).0 h; on = λ i j h. (nearer i j).1 h })
+        (record { back = λ i j c. (moves_bits Flip i j ss o).0 c; on = λ i j c. (moves_bits Flip i j ss o).1 c })
+        (gap_flipped ss (λ i j. IsCovered (centre i j) ss) (λ i j. IsCovered (centre i j) ts)
+        (record { covered = λ i j c. c; moved = λ i j. moves_bits Flip i j ss o }))
+
+    upper : (i j : ℤ) → IsNextNearer true ts i (mirror (j +ℤ pos 1)) ↔ IsHereNearer true ss i j
+    upper i j = near_reversed Flip true ss o i j i (mirror (j +ℤ pos 1))
+        (λ a b h t. place (pos 128 *ℤ i +ℤ pos 64) (back_along j a b h t))
+
+    gaps : (j i : ℤ) → IsGap (map turned_span ts) (λ j i. IsRowSetIn Nearer ts To i j) (mirror (j +ℤ pos 1)) i
+        ↔ IsGap (map turned_span ss) (λ j i. IsRowSetIn Nearer ss In i j) j i
+    gaps j i = subst (λ (us : List Span). IsGap us (λ j i. IsRowSetIn Nearer ts To i j) (mirror (j +ℤ pos 1)) i
+        ↔ IsGap (map turned_span ss) (λ j i. IsRowSetIn Nearer ss In i j) j i) (sym (turned_all Flip Mirror turned_flipped ss))
+        (gap_mirrored (map turned_span ss) (λ j i. IsRowSetIn Nearer ss In i j) (λ j i. IsRowSetIn Nearer ts To i j) (record {
+          covered = λ j i c. inl ((moves_bits Exchange i j ss o).0 c);
+          moved = λ j i. (λ h. rows.back i j h, λ h. rows.on i j h);
+        }) j i)
+
+pub moves_near_set : MovesNearSet
+moves_near_set m ss f g o tie inside = near_set_moved m ss (IsInFrame f) (IsInFrame g) o tie inside

@@ -1,0 +1,5 @@
+pub mod Symmetries
+pub mod Pieces
+pub mod Outlines
+pub mod Dropout
+pub mod Shapes
