@@ -9,7 +9,7 @@ use Rattle.fx_winding.specs.declared.frame.Frame.{Frame}
 use Rattle.fx_rows.specs.declared.across.Across.{Across}
 use Rattle.fx_rows.specs.declared.placed.Placed.{Placed}
 use Rattle.fx_rows.specs.inner.Placing.{AreColumns, IsBoxed, IsPlaced}
-use Rattle.fx_rows.specs.inner.Points.{AreAcross, IsPointOf}
+use Rattle.fx_rows.specs.inner.Points.{IsPointOf}
 use Rattle.fx_rows.specs.inner.Upward.{IsFootX, IsHeadX}
 
 pub boxed : (f : Frame) (s : Span) (a : Across) → AreColumns f s a → IsBoxed f s
@@ -17,17 +17,6 @@ boxed f s a is = (
   λ x l q p. is.across.0 x (omega (arith, signed_linear, l, is.low)) q p,
   λ x l q p. is.across.1 x (omega (arith, signed_linear, l, is.high)) q p,
 )
-
--- the first column of a box is not past its end
-pub across_order : (s : Span) (first end : ℤ) → AreAcross s first end → first ≤ℤ end
-across_order s first end h = by (below_or_not_ℤ end first)
-  where
-    by : (end <ℤ first) ⊎ (first ≤ℤ end) → first ≤ℤ end
-    by (inr l) = l
-    by (inl l) =
-        let before = h.0 end l s.a (inl refl) in
-        let after = h.1 end (omega (arith, signed_linear)) s.a (inl refl) in
-        absurd (omega (arith, signed_linear, before, after))
 
 -- a place right of the column before a frame's left one, and left of the column after its last
 pub record IsNear (f : Frame) (x : ℤ) : Type 0 where

@@ -16,7 +16,7 @@ use Rattle.fx_winding.proofs.Aside.{left_not_met, right_not_met}
 use Rattle.fx_winding.proofs.Meeting.{above_not_met, below_not_met}
 use Rattle.fx_winding.proofs.Triangle.{area_expr}
 use Rattle.fx_winding.specs.Bitmaps.{word_bit}
-use Rattle.fx_winding.specs.Dropout.{turned_span}
+use Rattle.fx_winding.specs.Turned.{turned_span}
 use Rattle.fx_winding.specs.Notes.{pixel_number, words_noted, IsNotedAcross, IsNotedUp}
 use Rattle.fx_rows.specs.inner.Bulging.{HasLine, IsBeyond}
 use Rattle.fx_rows.specs.inner.Heights.{height_of, IsMissed}

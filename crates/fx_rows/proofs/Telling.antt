@@ -14,7 +14,7 @@ use Rattle.fx_winding.specs.declared.frame.Frame.{Frame}
 use Rattle.fx_winding.specs.Area.{Place}
 use Rattle.fx_winding.specs.Bitmaps.{word_bit}
 use Rattle.fx_winding.specs.Meets.{turn, IsMet}
-use Rattle.fx_winding.specs.Dropout.{turned_span}
+use Rattle.fx_winding.specs.Turned.{turned_span}
 use Rattle.fx_winding.specs.Notes.{AreExact, AreOff, pixel_number, IsMetUp, IsNotedUp, IsNoted}
 use Rattle.fx_winding.specs.Outside.{HasAll}
 use Rattle.fx_winding.specs.Winding.{Span, IsOn, centre}

@@ -1,13 +1,10 @@
--- The gap of an arc as the code holds it, and where it can be 0: not in its lowest bits, and not at one centre alone.
+-- The gap of an arc as the code holds it, and where it can be 0: not at one centre alone.
 -- Serves the gaps of columns, and whether an arc touches a centre.
-use Rattle.std.proofs.Common.{◌≡◌, ◌∙◌, sym, ap, ◌<◌, ℕ, suc, ◌*◌, ◌%◌, ◌^◌, ℤ, pos, negsuc, neg_ℤ, ◌+ℤ◌, ◌*ℤ◌, ◌-ℤ◌, IsTrue, true, false, nat_eq, FitsSigned, arith, w64}
+use Rattle.std.proofs.Common.{◌≡◌, ◌∙◌, sym, ap, suc, ◌%◌, ◌^◌, ℤ, pos, negsuc, neg_ℤ, ◌+ℤ◌, ◌*ℤ◌, ◌-ℤ◌, true, false, nat_eq, arith}
 use Rattle.std.proofs.Common.{to_z, of_z, [], ◌∷◌, Option, Some, None}
-use Rattle.std.proofs.lemmas.Int.{of_z-to_z, wrapping_mul-bits}
-use Rattle.std.proofs.Math.Facts.{Fits-lt-pow, Fits-of_z}
-use Rattle.std.specs.Int.{int_wrap}
 use Rattle.fx_fixed.specs.Polynomial.{Expr, var, num, ◌⊞◌, ◌⊠◌, ◌⊟◌}
 use Rattle.fx_fixed.proofs.Linear.{signed, signed_linear}
-use Rattle.fx_fixed.proofs.Ring.{ring, *ℤ_assoc}
+use Rattle.fx_fixed.proofs.Ring.{ring}
 use Rattle.fx_fixed.specs.Ranges.{IsWithin}
 use Rattle.fx_winding.specs.Area.{Place, area_of, gap_of}
 use Rattle.fx_winding.specs.Winding.{Span, centre}
@@ -25,35 +22,6 @@ gap_without_copies u v w x y hx hy ex ey =
     let b : to_z w128 (of_z w128 y) ≡ y = omega (arith, signed_linear) in
     let e : to_z w128 (of_z w128 (pos 4 *ℤ x -ℤ y)) ≡ pos 4 *ℤ x -ℤ y = omega (arith, signed) in
     (λ i. to_z w128 (of_z w128 (a i -ℤ b i))) ∙ e ∙ (λ i. pos 4 *ℤ ex i -ℤ ey i)
-
--- products of equal value are equal in their lowest 64 bits
-same_bits : (a b c : ℤ) (m n k : ℕ) → m < 2 ^ 64 → n < 2 ^ 64 → k < 2 ^ 64 → to_z w64 m ≡ a → to_z w64 n ≡ b → to_z w64 k ≡ c
-    → a *ℤ b ≡ c *ℤ c → m * n % 2 ^ 64 ≡ k * k % 2 ^ 64
-same_bits a b c m n k hm hn hk em en ek e =
-    let l = wrapping_mul-bits w64 m n hm hn ∙ (λ i. int_wrap w64 (em i *ℤ en i)) in
-    let r = wrapping_mul-bits w64 k k hk hk ∙ (λ i. int_wrap w64 (ek i *ℤ ek i)) in
-    let x = m * n % 2 ^ 64 in
-    let y = k * k % 2 ^ 64 in
-    let lx : x < 2 ^ 64 = omega arith in
-    let ly : y < 2 ^ 64 = omega arith in
-    sym (of_z-to_z w64 x lx) ∙ ap (of_z w64) (l ∙ ap (int_wrap w64) e ∙ sym r) ∙ of_z-to_z w64 y ly
-
-pub is_same : (m n : ℕ) → m ≡ n → IsTrue (nat_eq m n)
-is_same m n e = rw e grind arith
-
--- a gap of 0 is 0 in its lowest 64 bits
-pub low_zero : (u v w : ℤ) → IsWithin (2 ^ 48) u → IsWithin (2 ^ 48) v → IsWithin (2 ^ 48) w → gap_of u v w ≡ pos 0
-    → of_z w64 (pos 4 *ℤ to_z w64 (of_z w64 u)) * of_z w64 w % 2 ^ 64 ≡ of_z w64 v * of_z w64 v % 2 ^ 64
-low_zero u v w hu hv hw e =
-    let cu : to_z w64 (of_z w64 (pos 4 *ℤ to_z w64 (of_z w64 u))) ≡ pos 4 *ℤ u = omega (arith, signed) in
-    let cv : to_z w64 (of_z w64 v) ≡ v = omega (arith, signed_linear) in
-    let cw : to_z w64 (of_z w64 w) ≡ w = omega (arith, signed_linear) in
-    let fu : FitsSigned w64 (pos 4 *ℤ to_z w64 (of_z w64 u)) = omega (arith, signed) in
-    let fv : FitsSigned w64 v = omega (arith, signed_linear) in
-    let fw : FitsSigned w64 w = omega (arith, signed_linear) in
-    let same : pos 4 *ℤ (u *ℤ w) ≡ v *ℤ v = omega (arith, signed_linear, e) in
-    same_bits (pos 4 *ℤ u) w v _ _ _ (Fits-lt-pow (Fits-of_z fu)) (Fits-lt-pow (Fits-of_z fw)) (Fits-lt-pow (Fits-of_z fv))
-    cu cw cv (*ℤ_assoc (pos 4) u w ∙ same)
 
 -- ---- from centre to centre
 u_between : (bx by cx cy l r l' r' : ℤ)

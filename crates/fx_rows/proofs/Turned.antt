@@ -3,7 +3,7 @@
 use Rattle.std.proofs.Common.{◌≡◌, ◌∙◌, ap, subst, inl, inr, ℤ, pos, neg_ℤ, Option, Some, None, option_map, arith}
 use Rattle.fx_fixed.proofs.Linear.{signed_linear}
 use Rattle.fx_winding.specs.Area.{Place, area}
-use Rattle.fx_winding.specs.Dropout.{turned_place, turned_span}
+use Rattle.fx_winding.specs.Turned.{turned_place, turned_span}
 use Rattle.fx_winding.specs.Winding.{Span, IsOn, IsOnPart, AreOnArc}
 use Rattle.fx_winding.proofs.TurnedAreas.{area_turned, weight}
 

@@ -9,7 +9,7 @@ use Rattle.fx_fixed.proofs.Order.{below_or_not, below_same_above, below_or_not_�
 use Rattle.fx_fixed.proofs.Linear.{signed, signed_linear}
 use Rattle.fx_winding.specs.declared.frame.Frame.{Frame}
 use Rattle.fx_winding.specs.Area.{Place}
-use Rattle.fx_winding.specs.Dropout.{turned_place, turned_span}
+use Rattle.fx_winding.specs.Turned.{turned_place, turned_span}
 use Rattle.fx_winding.specs.Meets.{turn}
 use Rattle.fx_winding.specs.Notes.{IsMetUp}
 use Rattle.fx_winding.specs.Outside.{HasAll, OptionAll}
@@ -53,22 +53,13 @@ right_unmet s f first end r k h l m =
     below_not_met (turned_place (lower f r k)) (turned_place (upper f r k)) (turned_span s) refl
     (all_turned (λ e. e.y <ℤ column_of f k) s (to_all (λ q. q.x <ℤ column_of f k) s (h.1 (f.left +ℤ pos k) l))) m.met
 
--- the columns of the piece's box
-reach_within : (s : Span) (f : Frame) (first end : ℤ) (from to r : ℕ) → AreAcross s first end
-    → ((k : ℕ) → k < from → (f.left +ℤ pos k) <ℤ first) → ((k : ℕ) → to ≤ k → k < f.width → end ≤ℤ (f.left +ℤ pos k))
-    → AreMetWithin s f r from to
-reach_within s f first end from to r h left right k l m = (low (below_or_not k from), high (below_or_not k to))
+-- a box without columns
+pub none_within : (s : Span) (p : Placed) → IsPlaced s p → p.across.end ≤ℤ p.across.first → (r k : ℕ) → ¬ (IsMetUp s p.frame r k)
+none_within s p is none r k m = by (below_or_not_ℤ (p.frame.left +ℤ pos k) p.across.first)
   where
-    low : (k < from) ⊎ (from ≤ k) → from ≤ k
-    low (inl i) = absurd (left_unmet s f first end r k h (left k i) m)
-    low (inr i) = i
-
-    high : (k < to) ⊎ (to ≤ k) → k < to
-    high (inl i) = i
-    high (inr i) = absurd (right_unmet s f first end r k h (right k i l) m)
-
-pub reach_columns : (s : Span) (p : Placed) → IsPlaced s p → (r : ℕ) → AreMetWithin s p.frame r p.reach.first p.reach.end
-reach_columns s p is r = reach_within s p.frame p.across.first p.across.end p.reach.first p.reach.end r is.across is.left is.right
+    by : ((p.frame.left +ℤ pos k) <ℤ p.across.first) ⊎ (p.across.first ≤ℤ (p.frame.left +ℤ pos k)) → ⊥
+    by (inl l) = left_unmet s p.frame p.across.first p.across.end r k is.across l m
+    by (inr l) = right_unmet s p.frame p.across.first p.across.end r k is.across (omega (arith, signed_linear, none, l)) m
 
 -- ---- what it means that a piece does not bulge: its control point is on no other side of a line of centres than both its ends
 above_line : (s : Span) (row : ℤ) → ¬ (IsBulge s) → (pos 128 *ℤ row +ℤ pos 64) ≤ℤ s.a.y → (pos 128 *ℤ row +ℤ pos 64) ≤ℤ s.c.y

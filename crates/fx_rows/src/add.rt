@@ -4,7 +4,7 @@ ghost use Rattle.std.specs.Prelude.{◌≡◌, ℕ, ◌+◌, ◌-◌, ◌*◌, �
 ghost use Rattle.fx_winding.specs.Winding.{Span, span_of};
 ghost use Rattle.fx_rows.specs.inner.Arcs.{AreAreas};
 ghost use Rattle.fx_rows.specs.inner.Placing.{AreBetween, AreMet};
-ghost use Rattle.fx_rows.specs.inner.Strips.{base_place, IsBase};
+ghost use Rattle.fx_rows.specs.inner.Strips.{base_place};
 ghost use Rattle.fx_rows.specs.inner.Sides.{place_at};
 ghost use Rattle.fx_rows.specs.inner.Inside.{IsOnInside};
 ghost use Rattle.fx_rows.specs.inner.Cuts.{IsCut};
@@ -17,10 +17,8 @@ use crate::band::Band;
 use crate::bounded::{Bounded, bounds_of, rise_of};
 use crate::cells::Cut;
 use crate::chord::base_side;
-use crate::column::{is_one_column, strip_of_column};
 use crate::counts::{add_before, add_run};
-use crate::cut::ArcRow;
-use crate::cuts::{ArcCuts, ClearCuts, ColumnCuts, Cuts, FlatCuts, LineCuts};
+use crate::cuts::{ArcCuts, ClearCuts, Cuts, FlatCuts, LineCuts};
 use crate::heights::{Met, RowRange, rows_between, rows_met};
 use crate::intervals::met_part;
 use crate::marks::mark;
@@ -30,15 +28,9 @@ use crate::rest::is_right;
 use crate::strip::{Strip, areas_at, row_of, strip_of};
 use fx_winding::{Piece, Point, Tally, Weights};
 
-/// Adds what a piece gives to a row, in the general way. `near` is the region's run in the row below; that in this row is returned.
+/// Adds what a piece gives to a row, in the general way.
 #[tactic(auto, using(fx_fixed::proofs::Linear::signed_linear))]
-fn add_met(
-    bounded: &Bounded,
-    up: u32,
-    near: Option<Run>,
-    band: &mut Band,
-    tally: &mut Tally,
-) -> Option<Run>
+fn add_met(bounded: &Bounded, up: u32, band: &mut Band, tally: &mut Tally)
     requires up { up < band.old.frame.height }
     requires small { AreWithin (2 ^ 26) band.old.diff.items }
     ensures frame { band.new.frame ≡ band.old.frame }
@@ -48,7 +40,7 @@ fn add_met(
 {
     let frame = band.frame;
     let first = band.first_of(up);
-    let part = met_part(bounded, row_of(frame, up), frame, near, tally);
+    let part = met_part(bounded, row_of(frame, up), frame, tally);
     add_run(
         &mut band.diff,
         &mut band.touched,
@@ -58,7 +50,6 @@ fn add_met(
     );
     add_run(&mut band.diff, &mut band.touched, frame, first, part.region);
     mark(&mut band.marks, frame, first, part.on);
-    part.region
 }
 
 /// Adds what a piece gives to rows, in the general way. Few pieces need it, so its code is kept out of the others' loops.
@@ -71,10 +62,9 @@ fn add_general_rows(piece: &Piece, rows: RowRange, band: &mut Band, tally: &mut 
     ensures count { tally.new.count ≤ tally.old.count + 10 * (rows.end - rows.first) }
 {
     let bounded = bounds_of(piece, rise_of(piece));
-    let mut near = None;
     // The rows before `up` have what the piece adds.
     'rows: for up in rows.first..rows.end {
-        near = add_met(&bounded, up, near, band, tally);
+        add_met(&bounded, up, band, tally);
     }
 }
 
@@ -147,54 +137,6 @@ fn add_cuts<C: Cuts + Drop, N: Noting>(
     }
 }
 
-/// Adds what an arc gives to rows between its ends that has one column's centre in its box.
-#[inline(always)]
-fn add_column_rows<N: Noting>(
-    bounded: &Bounded,
-    b: Point,
-    rows: RowRange,
-    strip: Strip,
-    band: &mut Band,
-    noter: &mut N,
-    tally: &mut Tally,
-)
-    requires middle { bounded.now.piece.b ≡ Some b }
-    requires one { bounded.now.across.end ≡ bounded.now.across.first +ℤ pos 1 }
-    requires near { IsBase bounded.now.across.first 1 }
-    requires some { rows.first < rows.end }
-    requires rows { rows.end ≤ band.old.frame.height }
-    requires inner { AreInner bounded.now band.old.frame rows.first rows.end }
-    requires base { place_at strip 0 ≡ base_place band.old.frame rows.first }
-    requires small { AreWithin (2 ^ 25 + 4 * rows.first) band.old.diff.items }
-    ensures added { AreRowsAdded (N.IsTold noter.new) (bounded_span bounded.now) rows.first rows.end band.old band.new }
-    ensures kept { Keeps (N.Says noter.old) (N.Says noter.new) }
-    ensures count { tally.new.count ≤ tally.old.count + 11 * (rows.end - rows.first) }
-{
-    let column = bounded.across.first;
-    let own = strip_of_column(strip, column);
-    let areas = areas_at(&bounded.piece, own, 0, tally);
-    let total = total_of(areas);
-    if total == 0 {
-        let areas = areas_at(&bounded.piece, strip, 0, tally);
-        return add_cuts(bounded, FlatCuts { b, areas }, rows, band, noter, tally);
-    }
-    let arc = ArcRow {
-        b,
-        right: is_right(&bounded.piece, total),
-        touches: true,
-        areas,
-        side: base_side(&bounded.piece, own, areas),
-    };
-    add_cuts(
-        bounded,
-        ColumnCuts { arc, column },
-        rows,
-        band,
-        noter,
-        tally,
-    );
-}
-
 /// Adds what an arc gives to rows between its ends.
 fn add_curve_rows<N: Noting>(
     bounded: &Bounded,
@@ -226,33 +168,6 @@ fn add_curve_rows<N: Noting>(
     add_cuts(bounded, cuts, rows, band, noter, tally);
 }
 
-/// Adds what an arc gives to rows between its ends, by its areas at the column in its box, or at the base if it has more columns.
-fn add_arc_rows<N: Noting>(
-    bounded: &Bounded,
-    b: Point,
-    rows: RowRange,
-    strip: Strip,
-    band: &mut Band,
-    noter: &mut N,
-    tally: &mut Tally,
-)
-    requires middle { bounded.now.piece.b ≡ Some b }
-    requires some { rows.first < rows.end }
-    requires rows { rows.end ≤ band.old.frame.height }
-    requires inner { AreInner bounded.now band.old.frame rows.first rows.end }
-    requires base { place_at strip 0 ≡ base_place band.old.frame rows.first }
-    requires small { AreWithin (2 ^ 25 + 4 * rows.first) band.old.diff.items }
-    ensures added { AreRowsAdded (N.IsTold noter.new) (bounded_span bounded.now) rows.first rows.end band.old band.new }
-    ensures kept { Keeps (N.Says noter.old) (N.Says noter.new) }
-    ensures count { tally.new.count ≤ tally.old.count + 11 * (rows.end - rows.first) }
-{
-    if is_one_column(bounded.across, strip) {
-        return add_column_rows(bounded, b, rows, strip, band, noter, tally);
-    }
-    let areas = areas_at(&bounded.piece, strip, 0, tally);
-    add_curve_rows(bounded, b, rows, strip, areas, band, noter, tally);
-}
-
 /// Adds what a piece gives to rows between its ends.
 #[tactic(auto, using(fx_fixed::proofs::Linear::signed_linear))]
 fn add_inner_rows<N: Noting>(
@@ -274,13 +189,13 @@ fn add_inner_rows<N: Noting>(
         return add_cuts(bounded, ClearCuts, rows, band, noter, tally);
     }
     let strip = strip_of(band.frame, row_of(band.frame, rows.first));
+    let areas = areas_at(&bounded.piece, strip, 0, tally);
     match bounded.piece.b {
         None => {
-            let areas = areas_at(&bounded.piece, strip, 0, tally);
             let side = base_side(&bounded.piece, strip, areas);
             add_cuts(bounded, LineCuts { side }, rows, band, noter, tally);
         }
-        Some(b) => add_arc_rows(bounded, b, rows, strip, band, noter, tally),
+        Some(b) => add_curve_rows(bounded, b, rows, strip, areas, band, noter, tally),
     }
 }
 

@@ -104,14 +104,8 @@ pub(crate) fn is_bulge(piece: &Piece) -> bool
     }
 }
 
-/// Notes the segments of a row that a piece meets. `near` is the region's run in the row below; that in this row is returned.
-pub(crate) fn note_line(
-    bounded: &Bounded,
-    line: Line,
-    near: Option<Run>,
-    bits: &mut [u32],
-    tally: &mut Tally,
-) -> Option<Run>
+/// Notes the segments of a row that a piece meets.
+pub(crate) fn note_line(bounded: &Bounded, line: Line, bits: &mut [u32], tally: &mut Tally)
     requires row { IsFrom line.frame.bottom line.frame.height line.row }
     requires room { line.first + line.frame.width * line.step < 32 * length bits.old }
     ensures noted { IsRowSet (bounded_span bounded.now) line.frame line.row line.first line.step bits.new }
@@ -120,7 +114,7 @@ pub(crate) fn note_line(
     ensures count { tally.new.count ≤ tally.old.count + 55 }
 {
     let piece = &bounded.piece;
-    let part = met_part(bounded, line.row, line.frame, near, tally);
+    let part = met_part(bounded, line.row, line.frame, tally);
     note_run(piece, &part, line, part.crossing, bits, tally);
     note_run(piece, &part, line, part.region, bits, tally);
     note_end(piece, &part, line, piece.a, bits, tally);
@@ -128,7 +122,6 @@ pub(crate) fn note_line(
     note_tip(piece, &part, line, bits, tally);
     note_first(piece, bounded.across, line, bits, tally);
     note_last(piece, bounded.across, line, bits, tally);
-    part.region
 }
 
 /// Notes the segments of some rows of a frame that a piece meets. The bits of a row begin `row_step` bits after those of the row
@@ -153,7 +146,6 @@ fn note_met_lines(
     ensures only { AreOnly (IsRowsBit (bounded_span bounded.now) frame row_step step) bits.old bits.new }
     ensures count { tally.new.count ≤ tally.old.count + 55 * (rows.end - rows.first) }
 {
-    let mut near = None;
     // The segments of the rows before `up` are noted.
     'rows: for up in rows.first..rows.end {
         let line = Line {
@@ -162,7 +154,7 @@ fn note_met_lines(
             first: up as usize * row_step,
             step,
         };
-        near = note_line(bounded, line, near, bits, tally);
+        note_line(bounded, line, bits, tally);
     }
 }
 

@@ -1,7 +1,7 @@
 //! Rows between the ends of a slanted chord. There the crossing and the region of a piece together are one value before a column
 //! and 0 from it on, but for the columns on the piece, which are set anyway.
 
-ghost use Rattle.std.specs.Prelude.{◌≡◌, ◌≢◌, false, ℕ, ◌+◌, ◌-◌, ◌*◌, ◌^◌, ◌<◌, ◌≤◌, min, pos, ◌+ℤ◌, ◌-ℤ◌, ◌*ℤ◌, ◌<ℤ◌, ◌≤ℤ◌, IsTrue, ◌↔◌};
+ghost use Rattle.std.specs.Prelude.{◌≡◌, ◌≢◌, false, ℕ, ◌+◌, ◌-◌, ◌*◌, ◌^◌, ◌<◌, ◌≤◌, pos, ◌+ℤ◌, ◌-ℤ◌, ◌*ℤ◌, ◌<ℤ◌, ◌≤ℤ◌, IsTrue, ◌↔◌};
 ghost use Rattle.std.specs.Prelude.{Some, None};
 ghost use Rattle.fx_fixed.specs.Ranges.{IsWithin};
 ghost use Rattle.fx_winding.specs.Limits.{greatest_side};
@@ -22,7 +22,7 @@ use crate::chord::{edge_from, edge_of, slope_of};
 use crate::narrow::columns_before;
 use crate::on::{met_column, on_edge, on_one};
 use crate::part::OnRow;
-use crate::search::{moved, product, within};
+use crate::search::{middle, moved, product};
 use crate::strip::Strip;
 use fx_winding::{Frame, Piece, Point, Tally, Weights, first_from};
 
@@ -47,29 +47,12 @@ fn gap_in(bend: Bend, k: u32, side: i64) -> i128
     4 * product(u, w) - product(side, side)
 }
 
-/// Whether the gap at a column on this side can be 0, by the lowest 64 bits of its two products. Nearly all that are not 0 are told
-/// so, by half the work.
-fn may_meet(bend: Bend, k: u32, side: i64) -> bool
-    requires few { k < greatest_side + 2 }
-    requires side { side ≡ side_at bend.slope k }
-    requires size { IsWithin (2 ^ 48) side }
-    ensures { bent_gap bend k ≡ pos 0 → IsTrue result }
-{
-    let u = moved(bend.u, bend.step_u, k);
-    let w = moved(bend.w, bend.step_w, k);
-    (4 * u).wrapping_mul(w) == side.wrapping_mul(side)
-}
-
 /// Whether the gap at a column is 0.
 fn meets(bend: Bend, k: u32) -> bool
     requires { k < greatest_side + 2 }
     ensures { IsTrue result ↔ (bent_gap bend k ≡ pos 0) }
 {
-    let side = side_in(bend, k);
-    if !may_meet(bend, k, side) {
-        return false;
-    }
-    gap_in(bend, k, side) == 0
+    gap_in(bend, k, side_in(bend, k)) == 0
 }
 
 /// Whether a column on this side is left of the chord.
@@ -104,13 +87,11 @@ fn counts(bend: Bend, k: u32) -> bool
     }
 }
 
-/// Where the columns that count end: those before `low` count, and those from `high` on do not. The end is looked for from a
-/// column on.
+/// Where the columns that count end: those before `low` count, and those from `high` on do not.
 #[derive(Clone, Copy)]
 struct Window {
     low: u32,
     high: u32,
-    from: u32,
 }
 
 /// Whether the column before an end does not count.
@@ -147,13 +128,11 @@ fn window_before(bend: Bend, end: u32, stop: u32) -> Window
         return Window {
             low: 0,
             high: end - 1,
-            from: end.saturating_sub(2),
         };
     }
     Window {
         low: end,
         high: end,
-        from: end,
     }
 }
 
@@ -173,13 +152,11 @@ fn window_after(bend: Bend, end: u32, stop: u32) -> Window
         return Window {
             low: end + 1,
             high: stop,
-            from: end + 1,
         };
     }
     Window {
         low: end,
         high: end,
-        from: end,
     }
 }
 
@@ -204,11 +181,10 @@ fn window_of(bend: Bend, guess: u32, stop: u32) -> Window
     Window {
         low: end,
         high: end,
-        from: end,
     }
 }
 
-/// How many columns from the base count, looked for in a window by steps that double. It is to be in the loops too.
+/// How many columns from the base count, looked for in a window. It is to be in the loops too.
 #[inline(always)]
 #[tactic(auto, using(fx_fixed::proofs::Linear::signed_linear))]
 fn count_in(bend: Bend, window: Window, stop: u32) -> u32
@@ -224,20 +200,14 @@ fn count_in(bend: Bend, window: Window, stop: u32) -> u32
 {
     let mut low = window.low;
     let mut high = window.high;
-    let mut at = window.from;
-    let mut step = 1;
     // The columns before `low` count, and those from `high` on do not.
     'columns: while low < high {
-        let here = within(low, high, at);
-        let reach = step.min((high - low) / 2);
+        let here = middle(low, high);
         if counts(bend, here) {
             low = here + 1;
-            at = low + reach;
         } else {
             high = here;
-            at = here.saturating_sub(1 + reach);
         }
-        step = 2 * reach + 1;
     }
     low
 }

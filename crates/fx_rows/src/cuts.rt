@@ -8,13 +8,11 @@ ghost use Rattle.fx_rows.specs.inner.Sides.{place_at};
 ghost use Rattle.fx_rows.specs.inner.Points.{IsInner};
 ghost use Rattle.fx_rows.specs.inner.Bands.{bounded_span};
 ghost use Rattle.fx_rows.specs.inner.Cuts.{IsCut};
-ghost use Rattle.fx_rows.specs.inner.Strips.{IsBase};
 
 use crate::above::{arc_above, arc_areas_above, side_above};
 use crate::bounded::Bounded;
 use crate::cells::Cut;
 use crate::chord::base_side;
-use crate::column::{column_cut, strip_of_column};
 use crate::cut::{ArcRow, arc_cut, clear_cut, first_guess, flat_cut, line_cut};
 use crate::strip::Strip;
 use fx_winding::{Frame, Point, Tally, Weights, curve_gap};
@@ -157,31 +155,6 @@ impl ArcCuts {
             guess,
             last: guess,
         }
-    }
-}
-
-/// The cuts of a bent arc that has one column's centre in its box: the arc in the row, its areas those of this column.
-#[derive(Clone, Copy)]
-pub(crate) struct ColumnCuts {
-    pub arc: ArcRow,
-    pub column: i32,
-    ghost near: { IsBase column 1 },
-}
-
-impl Cuts for ColumnCuts {
-    ghost use Rattle.fx_rows.specs.inner.Cuts.{IsColumnArc};
-
-    ghost AreAt = { λ cuts b p. IsColumnArc cuts.arc cuts.column b p };
-
-    #[inline(always)]
-    fn cut(&mut self, bounded: &Bounded, strip: Strip, tally: &mut Tally) -> Cut {
-        column_cut(bounded, self.arc, self.column, strip, tally)
-    }
-
-    #[inline(always)]
-    fn move_up(&mut self, bounded: &Bounded, strip: Strip) {
-        let own = strip_of_column(strip, self.column);
-        self.arc = arc_above(&bounded.piece, own, self.arc);
     }
 }
 

@@ -74,7 +74,6 @@ fn note_rows(
     ensures only { AreOnly (IsBandBit (bounded_span bounded.now) placed.frame placed.below) across.old across.new }
     ensures count { tally.new.count ≤ tally.old.count + 55 * (rows.end - rows.first) }
 {
-    let mut near = None;
     // The segments of the rows before `up` are noted.
     'rows: for up in rows.first..rows.end {
         let line = Line {
@@ -83,7 +82,7 @@ fn note_rows(
             first: first_of(placed, up),
             step: 1,
         };
-        near = note_line(bounded, line, near, across, tally);
+        note_line(bounded, line, across, tally);
     }
 }
 

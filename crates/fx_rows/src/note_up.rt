@@ -315,7 +315,7 @@ pub(crate) fn note_up(
     ensures kept { AreKept up.old up.new }
     ensures count { tally.new.count ≤ tally.old.count + 4 }
 {
-    if placed.reach.end <= placed.reach.first {
+    if placed.across.end <= placed.across.first {
         return;
     }
     if is_on_line(piece) {

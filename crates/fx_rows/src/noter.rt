@@ -18,7 +18,6 @@ use crate::note_across::note_across;
 use crate::note_up::note_up;
 use crate::noting::Noting;
 use crate::placed::Placed;
-use crate::reach::reach_of;
 use fx_winding::{Frame, Notes, Piece, Scratch, Tally, words_noted};
 use std::alloc::{AllocError, Global};
 
@@ -80,7 +79,6 @@ fn placed_in(piece: &Piece, across: Across, frame: Frame, rows: RowRange, met: M
         below: rows.first as usize * words_noted(frame.width),
         met,
         across,
-        reach: reach_of(across, band),
         highest: rows.end == frame.height,
     }
 }

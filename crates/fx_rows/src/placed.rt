@@ -7,7 +7,6 @@ ghost use Rattle.fx_winding.specs.Notes.{words_noted as words_noted_of};
 
 use crate::across::Across;
 use crate::heights::Met;
-use crate::reach::Reach;
 use fx_winding::{Frame, words_noted};
 
 /// A piece in a band, which is some rows of a frame.
@@ -21,14 +20,10 @@ pub(crate) struct Placed {
     pub met: Met,
     /// The columns of the piece's box.
     pub across: Across,
-    /// Those of them that the band has.
-    pub reach: Reach,
     /// Whether the band has the frame's highest row.
     pub highest: bool,
     ghost few: { below ≤ 2 ^ 22 },
     ghost rows: { met.touched.end ≤ frame.height },
-    ghost order: { reach.first ≤ reach.end },
-    ghost columns: { reach.end ≤ frame.width },
     ghost margin: { HasMargin frame },
 }
 
@@ -43,7 +38,6 @@ pub(crate) fn copied(placed: Placed) -> Placed
         below: placed.below,
         met: placed.met,
         across: placed.across,
-        reach: placed.reach,
         highest: placed.highest,
     }
 }

@@ -8,7 +8,6 @@ use Rattle.fx_winding.specs.declared.point.Piece.{Piece}
 use Rattle.fx_rows.specs.declared.strip.Strip.{Strip}
 use Rattle.fx_rows.specs.declared.slope.Slope.{Slope}
 use Rattle.fx_rows.specs.declared.bend.Bend.{Bend}
-use Rattle.fx_rows.specs.declared.bounded.Bounded.{Bounded}
 use Rattle.fx_rows.specs.declared.cut.ArcRow.{ArcRow}
 use Rattle.fx_rows.specs.declared.cells.Cut.{Cut}
 use Rattle.fx_rows.specs.Parts.{IsBent}
@@ -51,16 +50,6 @@ pub record IsArcAt (arc : ArcRow) (piece : Piece) (p : Place) : Type 0 where
   pub areas : AreAreas (span_of piece) p arc.areas
   pub side : arc.side ≡ side (place_of piece.a) (place_of piece.c) p
   pub misses : arc.touches ≡ false → MissesCentres (span_of piece)
-
--- the centre of a column at the height of a place
-abbrev pub in_column : ℤ → Place → Place
-in_column column p = record { x = pos 128 *ℤ (column +ℤ pos 0) +ℤ pos 64; y = p.y }
-
--- a bent arc in the row that has a place at its base, by the areas of the only column whose centre is in its box
-pub record IsColumnArc (arc : ArcRow) (column : ℤ) (b : Bounded) (p : Place) : Type 0 where
-  pub there : IsArcAt arc b.piece (in_column column p)
-  pub first : b.across.first ≡ column
-  pub end : b.across.end ≡ column +ℤ pos 1
 
 -- what a piece adds to the columns of a strip that are not on it: a value to those before the end, and nothing to the others
 pub record IsCut (s : Span) (strip : Strip) (cut : Cut) : Type 0 where

@@ -51,5 +51,3 @@ pub record IsPlaced (s : Span) (p : Placed) : Type 0 where
   pub across : AreAcross s p.across.first p.across.end
   pub low : p.frame.left ≤ℤ p.across.first
   pub high : p.across.end ≤ℤ (p.frame.left +ℤ pos p.frame.width)
-  pub left : (k : ℕ) → k < p.reach.first → (p.frame.left +ℤ pos k) <ℤ p.across.first
-  pub right : (k : ℕ) → p.reach.end ≤ k → k < p.frame.width → p.across.end ≤ℤ (p.frame.left +ℤ pos k)

@@ -13,12 +13,12 @@ rows-init c = record {
   count = omega arith;
 }
 
-pub add_met-near-requires-clause-up : goal.add_met-near-requires-clause-up
-add_met-near-requires-clause-up c =
+pub add_met-requires-clause-up : goal.add_met-requires-clause-up
+add_met-requires-clause-up c =
     row_in c.args.band.now.frame c.rows.band.frame c.rows.up c.args.rows.end c.rows.invariant.frame c.requires.rows (omega arith)
 
-pub add_met-near-requires-clause-small : goal.add_met-near-requires-clause-small
-add_met-near-requires-clause-small c =
+pub add_met-requires-clause-small : goal.add_met-requires-clause-small
+add_met-requires-clause-small c =
     let few = c.args.band.now.few in
     let r = c.requires.rows in
     band_small (bounded_span c.bounds_of-bounded.result) c.args.band.now.frame c.args.rows.first c.rows.up c.args.band.now
@@ -29,12 +29,12 @@ rows-preserved c =
     let s = bounded_span c.bounds_of-bounded.result in
     let up = c.rows.up in
     let inv = c.rows.invariant in
-    let n = c.add_met-near.ensures.count in
+    let n = c.add_met.ensures.count in
     let m = inv.count in
     record {
-      frame = c.add_met-near.ensures.frame ∙ inv.frame;
+      frame = c.add_met.ensures.frame ∙ inv.frame;
       added = band_next s c.args.band.now.frame c.rows.band.frame (c.rows.band.frame.bottom +ℤ pos up) c.args.rows.first up
-          c.args.band.now c.rows.band c.add_met-near.new.band (omega arith) inv.frame refl inv.added c.add_met-near.ensures.added;
+          c.args.band.now c.rows.band c.add_met.new.band (omega arith) inv.frame refl inv.added c.add_met.ensures.added;
       count = omega (arith, n, m);
     }
 

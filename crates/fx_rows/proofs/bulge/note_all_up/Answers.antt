@@ -1,6 +1,6 @@
 use Rattle.std.proofs.Common.{◌≡◌, sym, ap, ◌*◌, ℕ, List, subst, arith}
 use Rattle.std.proofs.lemmas.List.{with_items_is}
-use Rattle.fx_winding.specs.Dropout.{turned_span}
+use Rattle.fx_winding.specs.Turned.{turned_span}
 use Rattle.fx_winding.specs.Notes.{words_noted, IsNotedUp}
 use Rattle.fx_winding.specs.Winding.{Span, span_of}
 use Rattle.fx_rows.specs.inner.Lines.{AreOnly, AreRowsSet, IsRowsBit}

@@ -13,22 +13,22 @@ rows-preserved c =
     let p = c.args.placed in
     let f = p.frame in
     let up = c.rows.up in
-    let now = c.note_line-near.new.bits in
+    let now = c.note_line.new.bits in
     let near = c.row_of.ensures.near in
     let row : to_z w32 (of_z w32 c.row_of.result) ≡ f.bottom +ℤ pos up =
     (omega (arith, signed_linear, near)) ∙ c.row_of.ensures.value in
     let first = c.first_of.ensures.value in
-    let n = c.note_line-near.ensures.count in
+    let n = c.note_line.ensures.count in
     let m = c.rows.invariant.count in
     let set : IsRowSet s f (f.bottom +ℤ pos up) (first_number f p.below up) 1 now =
-    subst (λ z. z) (λ i. IsRowSet s f (row i) (first i) 1 now) c.note_line-near.ensures.noted in
+    subst (λ z. z) (λ i. IsRowSet s f (row i) (first i) 1 now) c.note_line.ensures.noted in
     let only : AreOnly (IsLineBit s f (f.bottom +ℤ pos up) (first_number f p.below up) 1) c.rows.across now =
-    subst (λ z. z) (λ i. AreOnly (IsLineBit s f (row i) (first i) 1) c.rows.across now) c.note_line-near.ensures.only in
+    subst (λ z. z) (λ i. AreOnly (IsLineBit s f (row i) (first i) 1) c.rows.across now) c.note_line.ensures.only in
     record {
       noted = rows_more (AreSetAcross s f p.below now) c.args.rows.first up
-          (λ r l o. set_across_kept s f p.below r c.rows.across now c.note_line-near.ensures.kept (c.rows.invariant.noted r l o))
+          (λ r l o. set_across_kept s f p.below r c.rows.across now c.note_line.ensures.kept (c.rows.invariant.noted r l o))
           (set_across s f p.below up now set);
-      kept = kept_both _ _ _ c.rows.invariant.kept c.note_line-near.ensures.kept;
+      kept = kept_both _ _ _ c.rows.invariant.kept c.note_line.ensures.kept;
       only = only_both (IsBandBit s f p.below) _ _ _ c.rows.invariant.only
           (only_more (IsLineBit s f (f.bottom +ℤ pos up) (first_number f p.below up) 1) (IsBandBit s f p.below) c.rows.across now
           (λ n h. record { r = up; row = omega (arith, c.requires.rows); line = h }) only);

@@ -3,9 +3,7 @@ use Rattle.fx_fixed.proofs.Linear.{signed_linear}
 use Rattle.fx_winding.specs.Frames.{HasMargin}
 use Rattle.fx_winding.specs.declared.frame.Frame.{Frame}
 use Rattle.std.proofs.Math.Nat.{mul-le-mul_left}
-use Rattle.fx_winding.specs.Winding.{span_of}
 use Rattle.fx_rows.specs.inner.Telling.{IsPartOf}
-use Rattle.fx_rows.proofs.Boxed.{across_order}
 use Rattle.fx_rows.proofs.noter.placed_in.Goals as goal
 
 -- the columns and rows beside a band have numbers
@@ -33,21 +31,10 @@ band_margin f g from to part order m =
       );
     }
 
-pub reach_of-requires : goal.reach_of-requires
-reach_of-requires c =
-    let of = c.requires.columns in
-    let part = c.band_of-band.ensures in
-    record {
-      low = omega (arith, signed_linear, part.left, of.low);
-      order = across_order (span_of c.args.piece.now) c.args.across.first c.args.across.end of.across;
-      high = omega (arith, signed_linear, part.left, part.width, of.high);
-    }
-
 pub invariant_of-result : goal.invariant_of-result
 invariant_of-result c =
     let f = c.args.frame in
     let band = c.band_of-band.result in
-    let reach = c.reach_of.ensures in
     let wide = f.columns.few in
     let low = f.rows.few in
     let words : c.words_noted.result ≤ 257 = omega (arith, wide, c.words_noted.ensures) in
@@ -56,8 +43,6 @@ invariant_of-result c =
     record {
       few = omega (arith, all, low, c.args.rows.order, c.requires.rows);
       rows = (c.requires.met band c.band_of-band.ensures).within;
-      order = reach.order;
-      columns = reach.end;
       margin = band_margin f band c.args.rows.first c.args.rows.end part c.args.rows.order c.requires.margin;
     }
 
@@ -70,6 +55,4 @@ returns-clause-placed c =
       across = of.across;
       low = omega (arith, signed_linear, part.left, of.low);
       high = omega (arith, signed_linear, part.left, part.width, of.high);
-      left = c.reach_of.ensures.left;
-      right = c.reach_of.ensures.right;
     }
