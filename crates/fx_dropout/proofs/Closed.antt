@@ -1,18 +1,18 @@
 -- The words of a frame whose gaps are closed, by the definition of drop-out control.
 -- Serves `noted`.
 use Rattle.std.proofs.Common.{◌≡◌, ◌⊎◌, ◌↔◌, inl, inr, refl, sym, ap, ◌∙◌, subst, ℕ, zero, suc, ◌+◌, ◌-◌, ◌*◌, ◌/◌, ◌%◌, ◌<◌, ◌≤◌, ℤ, pos}
-use Rattle.std.proofs.Common.{◌+ℤ◌, ◌-ℤ◌, ◌≤ℤ◌, ◌<ℤ◌, Bool, true, false, IsTrue, List, ◌++◌, Any, map, take, drop, length, length-drop, unsigned_abs, arith}
+use Rattle.std.proofs.Common.{◌+ℤ◌, ◌-ℤ◌, Bool, true, false, IsTrue, List, ◌++◌, Any, map, take, drop, length, length-drop, unsigned_abs, arith}
 use Rattle.std.specs.Prelude.{◌==◌}
 use Rattle.std.specs.Int.{bit_at}
 use Rattle.std.proofs.lemmas.Bool.Decides.{nat_tests}
 use Rattle.std.proofs.lemmas.List.{get_or_past, length-take, take_at}
 use Rattle.std.proofs.lemmas.Nat.Bits.{bit_at-lt, bit_at-zero}
-use Rattle.fx_fixed.proofs.Order.{below_or_not, below_or_not_ℤ}
+use Rattle.fx_fixed.proofs.Order.{below_or_not}
 use Rattle.fx_fixed.proofs.Linear.{signed_linear}
 use Rattle.fx_winding.specs.declared.frame.Frame.{Frame}
 use Rattle.fx_winding.specs.Area.{Place}
 use Rattle.fx_winding.specs.Bitmaps.{Bits, AreWords, AreRowWords, IsScanOf, bit_number, bit_of, rows_of, words_for, word_bit}
-use Rattle.fx_winding.specs.Dropout.{turned_span}
+use Rattle.fx_winding.specs.Turned.{turned_span}
 use Rattle.fx_winding.specs.Frames.{IsFrom, IsInFrame, steps}
 use Rattle.fx_winding.specs.Notes.{AreExact, pixel_number, words_noted}
 use Rattle.fx_winding.specs.Winding.{Span, IsCovered, IsOn, centre}
@@ -20,9 +20,8 @@ use Rattle.fx_winding.proofs.Dotted.{bit_of-number}
 use Rattle.fx_winding.proofs.Grid.{cut-row, row_fits, steps_below}
 use Rattle.fx_winding.proofs.Scanned.{steps_back}
 use Rattle.fx_dropout.specs.declared.chooser.Closing.{Closing}
-use Rattle.fx_dropout.specs.Dropout.{IsGap, IsNextChosen, IsClosedByLeft, IsClosedByRight, IsBridged, IsRowSet, IsSet}
+use Rattle.fx_dropout.specs.Dropout.{IsNextChosen, IsRowSet, IsSet}
 use Rattle.fx_dropout.specs.inner.Closing.{IsOpenAt, IsReached, IsClosedBit, IsNextIn, AreClosedWords, bit_in, row_bit}
-use Rattle.fx_dropout.specs.inner.Pairs.{next_col, next_row}
 use Rattle.fx_dropout.proofs.Lines.{IsLine, line_closed}
 use Rattle.fx_dropout.proofs.Parts.{part_bit, part_word, past_part, unused_bit}
 
@@ -84,24 +83,19 @@ abbrev pub NoneOutside : Frame → List Span → Type 0
 NoneOutside f ss = (i j : ℤ) → ¬ (IsInFrame f i j) → ¬ (IsCovered (centre i j) ss)
 
 -- ---- the rows
-pub record IsGiven (IsNext : Bool → ℤ → ℤ → Type 0) (f : Frame) (ss : List Span) (across up old new : List ℕ) : Type 0 where
+pub record IsGiven (closing : Closing) (f : Frame) (ss : List Span) (across up old new : List ℕ) : Type 0 where
   pub words : AreWords f.height f.width old
   pub scanned : IsScanOf f ss (record { frame = f; rows = rows_of f.height f.width old })
   pub noted : AreExact f across up ss
-  pub closed : AreClosedWords IsNext f across up old new
-  pub within : (up : Bool) (i j : ℤ) → IsNext up i j → IsInFrame f (next_col up i) (next_row up j)
+  pub closed : AreClosedWords (IsNextIn closing ss f) f across up old new
 
--- a row is closed
-abbrev pub RowClosed : (Bool → ℤ → ℤ → Type 0) → Frame → List Span → ℤ → ℤ → Type 0
-RowClosed IsNext f ss = IsBridged ss (IsInFrame f) (IsNext false) (λ i j. IsCovered (centre i j) ss)
-
-row_line : (IsNext : Bool → ℤ → ℤ → Type 0) (f : Frame) (ss : List Span) (across up old new : List ℕ)
-    → IsGiven IsNext f ss across up old new → NoneOutside f ss → (r : ℕ) → r < f.height
-    → IsLine ss (IsInFrame f) (IsNext false) (λ i j. IsCovered (centre i j) ss) f.left (f.bottom +ℤ pos r) f.width
+row_line : (closing : Closing) (f : Frame) (ss : List Span) (across up old new : List ℕ)
+    → IsGiven closing f ss across up old new → NoneOutside f ss → (r : ℕ) → r < f.height
+    → IsLine ss (IsInFrame f) (IsNextChosen closing false ss) (λ i j. IsCovered (centre i j) ss) f.left (f.bottom +ℤ pos r) f.width
     (λ k. row_bit old (r * words_for f.width) (words_for f.width) k)
     (λ k. row_bit across (r * words_noted f.width) (words_noted f.width) k)
-    (λ k. IsNext false (f.left +ℤ pos k) (f.bottom +ℤ pos r))
-row_line IsNext f ss across up old new given outside r h = record {
+    (λ k. IsNextIn closing ss f false (f.left +ℤ pos k) (f.bottom +ℤ pos r))
+row_line closing f ss across up old new given outside r h = record {
   set = λ n l.
       let inside : IsInFrame f (f.left +ℤ pos n) (f.bottom +ℤ pos r) = record {
         column = from_in f.left f.width n l;
@@ -123,8 +117,8 @@ row_line IsNext f ss across up old new given outside r h = record {
       (λ t. is.0 (sym e ∙ t), λ a. e ∙ is.1 a);
   inside = λ n l. record { column = from_in f.left f.width n l; row = row_in };
   before = out_before;
+  after = out_after;
   right = λ n l. (λ t. t, λ t. t);
-  within = λ i t. given.within false i (f.bottom +ℤ pos r) t;
 }
   where
     row_in : IsFrom f.bottom f.height (f.bottom +ℤ pos r)
@@ -136,22 +130,22 @@ row_line IsNext f ss across up old new given outside r h = record {
     out_after : ¬ (IsInFrame f (f.left +ℤ pos f.width) (f.bottom +ℤ pos r))
     out_after i = let c = i.column in omega (arith, signed_linear, c)
 
-row_closed : (IsNext : Bool → ℤ → ℤ → Type 0) (f : Frame) (ss : List Span) (across up old new : List ℕ)
-    → (given : IsGiven IsNext f ss across up old new) → NoneOutside f ss → (r n : ℕ) → r < f.height → n < f.width
+row_closed : (closing : Closing) (f : Frame) (ss : List Span) (across up old new : List ℕ)
+    → (given : IsGiven closing f ss across up old new) → NoneOutside f ss → (r n : ℕ) → r < f.height → n < f.width
     → (row_bit given.closed.mid (r * words_for f.width) (words_for f.width) n ≡ 1)
-    ↔ RowClosed IsNext f ss (f.left +ℤ pos n) (f.bottom +ℤ pos r)
-row_closed IsNext f ss across up old new given outside r n h l =
-    line_closed ss (IsInFrame f) (IsNext false) (λ i j. IsCovered (centre i j) ss) f.left (f.bottom +ℤ pos r) f.width _ _ _
-    (row_line IsNext f ss across up old new given outside r h) n _ l (given.closed.rows r n h (omega (arith, l)))
+    ↔ IsRowSet closing ss f (f.left +ℤ pos n) (f.bottom +ℤ pos r)
+row_closed closing f ss across up old new given outside r n h l =
+    line_closed ss (IsInFrame f) (IsNextChosen closing false ss) (λ i j. IsCovered (centre i j) ss) f.left (f.bottom +ℤ pos r)
+    f.width _ _ _ (row_line closing f ss across up old new given outside r h) n _ l (given.closed.rows r n h (omega (arith, l)))
 
 -- the bits after the last pixel stay 0
-row_rest : (IsNext : Bool → ℤ → ℤ → Type 0) (f : Frame) (ss : List Span) (across up old new : List ℕ)
-    → (given : IsGiven IsNext f ss across up old new) → (r n : ℕ) → r < f.height → f.width ≤ n → n < 32 * words_for f.width
+row_rest : (closing : Closing) (f : Frame) (ss : List Span) (across up old new : List ℕ)
+    → (given : IsGiven closing f ss across up old new) → (r n : ℕ) → r < f.height → f.width ≤ n → n < 32 * words_for f.width
     → row_bit given.closed.mid (r * words_for f.width) (words_for f.width) n ≡ 0
-row_rest IsNext f ss across up old new given r n h w l =
+row_rest closing f ss across up old new given r n h w l =
     still (λ k. row_bit old (r * words_for f.width) (words_for f.width) k)
     (λ k. row_bit across (r * words_noted f.width) (words_noted f.width) k)
-    (λ k. IsNext false (f.left +ℤ pos k) (f.bottom +ℤ pos r)) n _ (given.closed.rows r n h l) (bit_at-lt _ _)
+    (λ k. IsNextIn closing ss f false (f.left +ℤ pos k) (f.bottom +ℤ pos r)) n _ (given.closed.rows r n h l) (bit_at-lt _ _)
     (unused_bit f old r n given.words h w) (after (suc n) (omega (arith, w))) (by n refl)
   where
     after : (k : ℕ) → f.width < k → row_bit across (r * words_noted f.width) (words_noted f.width) k ≡ 0
@@ -165,38 +159,34 @@ row_rest IsNext f ss across up old new given r n h w l =
     by : (m : ℕ) → m ≡ n
         → IsReached (λ k. row_bit old (r * words_for f.width) (words_for f.width) k)
         (λ k. row_bit across (r * words_noted f.width) (words_noted f.width) k)
-        (λ k. IsNext false (f.left +ℤ pos k) (f.bottom +ℤ pos r)) m → ⊥
+        (λ k. IsNextIn closing ss f false (f.left +ℤ pos k) (f.bottom +ℤ pos r)) m → ⊥
     by zero e o = omega (arith, e, w, l)
     by (suc m) e (o, next) = each (below_or_not f.width (suc m))
       where
         each : (f.width < suc m) ⊎ (suc m ≤ f.width) → ⊥
         each (inl a) = let x = o.noted_is in let y = after (suc m) a in omega (arith, x, y)
         each (inr a) =
-            let i = (given.within false (f.left +ℤ pos m) (f.bottom +ℤ pos r) next).column in
+            let i = next.1.column in
             omega (arith, signed_linear, i, a, e, w)
 
 -- ---- the columns
--- a column is closed
-abbrev pub ColumnClosed : (Bool → ℤ → ℤ → Type 0) → Frame → List Span → ℤ → ℤ → Type 0
-ColumnClosed IsNext f ss i j = IsBridged (map turned_span ss) (λ j i. IsInFrame f i j) (λ j i. IsNext true i j)
-    (λ j i. RowClosed IsNext f ss i j) j i
-
 -- outside the frame no row sets a pixel
-row_outside : (IsNext : Bool → ℤ → ℤ → Type 0) (f : Frame) (ss : List Span) → NoneOutside f ss → (i j : ℤ) → ¬ (IsInFrame f i j)
-    → ¬ (RowClosed IsNext f ss i j)
-row_outside IsNext f ss outside i j out (inl c) = outside i j out c
-row_outside IsNext f ss outside i j out (inr b) = out b.inside
+row_outside : (closing : Closing) (f : Frame) (ss : List Span) → NoneOutside f ss → (i j : ℤ) → ¬ (IsInFrame f i j)
+    → ¬ (IsRowSet closing ss f i j)
+row_outside closing f ss outside i j out (inl c) = outside i j out c
+row_outside closing f ss outside i j out (inr b) = out b.inside
 
-column_line : (IsNext : Bool → ℤ → ℤ → Type 0) (f : Frame) (ss : List Span) (across up old new : List ℕ)
-    → (given : IsGiven IsNext f ss across up old new) → NoneOutside f ss → (k : ℕ) → 0 < f.height → k < f.width
-    → IsLine (map turned_span ss) (λ j i. IsInFrame f i j) (λ j i. IsNext true i j) (λ j i. RowClosed IsNext f ss i j) f.bottom
-    (f.left +ℤ pos k) f.height (λ r. bit_in given.closed.mid (r * words_for f.width + k / 32) (31 - k % 32))
+column_line : (closing : Closing) (f : Frame) (ss : List Span) (across up old new : List ℕ)
+    → (given : IsGiven closing f ss across up old new) → NoneOutside f ss → (k : ℕ) → 0 < f.height → k < f.width
+    → IsLine (map turned_span ss) (λ j i. IsInFrame f i j) (λ j i. IsNextChosen closing true ss i j)
+    (λ j i. IsRowSet closing ss f i j) f.bottom (f.left +ℤ pos k) f.height
+    (λ r. bit_in given.closed.mid (r * words_for f.width + k / 32) (31 - k % 32))
     (λ r. bit_in up (r * words_noted f.width + k / 32) (31 - k % 32))
-    (λ r. IsNext true (f.left +ℤ pos (32 * (k / 32) + (31 - (31 - k % 32)))) (f.bottom +ℤ pos r))
-column_line IsNext f ss across up old new given outside k some l = record {
+    (λ r. IsNextIn closing ss f true (f.left +ℤ pos (32 * (k / 32) + (31 - (31 - k % 32)))) (f.bottom +ℤ pos r))
+column_line closing f ss across up old new given outside k some l = record {
   set = λ r h.
       let e = part_word given.closed.mid (r * words_for f.width) (words_for f.width) k (omega (arith, l)) in
-      let is = row_closed IsNext f ss across up old new given outside r k h l in
+      let is = row_closed closing f ss across up old new given outside r k h l in
       (λ t. is.0 (e ∙ t), λ c. sym e ∙ is.1 c);
   bits = λ r. bit_at-lt _ _;
   end =
@@ -204,8 +194,8 @@ column_line IsNext f ss across up old new given outside k some l = record {
       let m = given.words.long in
       ap (λ v. bit_at v (31 - k % 32)) (get_or_past given.closed.mid (f.height * words_for f.width + k / 32) 0
       (omega (arith, n, m))) ∙ bit_at-zero (31 - k % 32);
-  none_before = row_outside IsNext f ss outside (f.left +ℤ pos k) (f.bottom -ℤ pos 1) out_before;
-  none_after = row_outside IsNext f ss outside (f.left +ℤ pos k) (f.bottom +ℤ pos f.height) out_after;
+  none_before = row_outside closing f ss outside (f.left +ℤ pos k) (f.bottom -ℤ pos 1) out_before;
+  none_after = row_outside closing f ss outside (f.left +ℤ pos k) (f.bottom +ℤ pos f.height) out_after;
   tells = λ r h off off'.
       let e = noted_up f up r k (omega (arith, l)) in
       let is = given.noted.up r k some h l (record {
@@ -215,11 +205,11 @@ column_line IsNext f ss across up old new given outside k some l = record {
       (λ t. is.0 (sym e ∙ t), λ a. e ∙ is.1 a);
   inside = λ r h. record { column = from_in f.left f.width k l; row = from_in f.bottom f.height r h };
   before = out_before;
+  after = out_after;
   right = λ r h. (
-    subst (λ (n : ℕ). IsNext true (f.left +ℤ pos n) (f.bottom +ℤ pos r)) number,
-    subst (λ (n : ℕ). IsNext true (f.left +ℤ pos n) (f.bottom +ℤ pos r)) (sym number),
+    subst (λ (n : ℕ). IsNextIn closing ss f true (f.left +ℤ pos n) (f.bottom +ℤ pos r)) number,
+    subst (λ (n : ℕ). IsNextIn closing ss f true (f.left +ℤ pos n) (f.bottom +ℤ pos r)) (sym number),
   );
-  within = λ j t. given.within true (f.left +ℤ pos k) j t;
 }
   where
     number : 32 * (k / 32) + (31 - (31 - k % 32)) ≡ k
@@ -231,29 +221,30 @@ column_line IsNext f ss across up old new given outside k some l = record {
     out_after : ¬ (IsInFrame f (f.left +ℤ pos k) (f.bottom +ℤ pos f.height))
     out_after i = let c = i.row in omega (arith, signed_linear, c)
 
-column_closed : (IsNext : Bool → ℤ → ℤ → Type 0) (f : Frame) (ss : List Span) (across up old new : List ℕ)
-    → (given : IsGiven IsNext f ss across up old new) → NoneOutside f ss → (r k : ℕ) → r < f.height → k < f.width
+column_closed : (closing : Closing) (f : Frame) (ss : List Span) (across up old new : List ℕ)
+    → (given : IsGiven closing f ss across up old new) → NoneOutside f ss → (r k : ℕ) → r < f.height → k < f.width
     → (row_bit new (r * words_for f.width) (words_for f.width) k ≡ 1)
-    ↔ ColumnClosed IsNext f ss (f.left +ℤ pos k) (f.bottom +ℤ pos r)
-column_closed IsNext f ss across up old new given outside r k h l =
+    ↔ IsSet closing ss f (f.left +ℤ pos k) (f.bottom +ℤ pos r)
+column_closed closing f ss across up old new given outside r k h l =
     let e = part_word new (r * words_for f.width) (words_for f.width) k (omega (arith, l)) in
-    let is = line_closed (map turned_span ss) (λ j i. IsInFrame f i j) (λ j i. IsNext true i j) (λ j i. RowClosed IsNext f ss i j)
-    f.bottom (f.left +ℤ pos k) f.height _ _ _ (column_line IsNext f ss across up old new given outside k
+    let is = line_closed (map turned_span ss) (λ j i. IsInFrame f i j) (λ j i. IsNextChosen closing true ss i j)
+    (λ j i. IsRowSet closing ss f i j) f.bottom (f.left +ℤ pos k) f.height _ _ _
+    (column_line closing f ss across up old new given outside k
     (omega (arith, h)) l) r _ h
     (given.closed.columns r (k / 32) (31 - k % 32) h (omega (arith, l)) (omega arith)) in
     (λ t. is.0 (sym e ∙ t), λ c. e ∙ is.1 c)
 
-column_rest : (IsNext : Bool → ℤ → ℤ → Type 0) (f : Frame) (ss : List Span) (across up old new : List ℕ)
-    → (given : IsGiven IsNext f ss across up old new) → (r k : ℕ) → r < f.height → f.width ≤ k → k < 32 * words_for f.width
+column_rest : (closing : Closing) (f : Frame) (ss : List Span) (across up old new : List ℕ)
+    → (given : IsGiven closing f ss across up old new) → (r k : ℕ) → r < f.height → f.width ≤ k → k < 32 * words_for f.width
     → row_bit new (r * words_for f.width) (words_for f.width) k ≡ 0
-column_rest IsNext f ss across up old new given r k h w l =
+column_rest closing f ss across up old new given r k h w l =
     part_word new (r * words_for f.width) (words_for f.width) k l
     ∙ still (λ q. bit_in given.closed.mid (q * words_for f.width + k / 32) (31 - k % 32))
-    (λ q. bit_in up (q * words_noted f.width + k / 32) (31 - k % 32)) (λ q. IsNext true
+    (λ q. bit_in up (q * words_noted f.width + k / 32) (31 - k % 32)) (λ q. IsNextIn closing ss f true
     (f.left +ℤ pos (32 * (k / 32) + (31 - (31 - k % 32)))) (f.bottom +ℤ pos q)) r _
     (given.closed.columns r (k / 32) (31 - k % 32) h (omega (arith, l)) (omega arith)) (bit_at-lt _ _)
     (sym (part_word given.closed.mid (r * words_for f.width) (words_for f.width) k l)
-    ∙ row_rest IsNext f ss across up old new given r k h w l) (unnoted (suc r) (omega (arith, h))) (by r refl)
+    ∙ row_rest closing f ss across up old new given r k h w l) (unnoted (suc r) (omega (arith, h))) (by r refl)
   where
     unnoted : (q : ℕ) → q ≤ f.height → bit_in up (q * words_noted f.width + k / 32) (31 - k % 32) ≡ 0
     unnoted q o =
@@ -263,14 +254,14 @@ column_rest IsNext f ss across up old new given r k h w l =
     by : (m : ℕ) → m ≡ r
         → IsReached (λ q. bit_in given.closed.mid (q * words_for f.width + k / 32) (31 - k % 32))
         (λ q. bit_in up (q * words_noted f.width + k / 32) (31 - k % 32))
-        (λ q. IsNext true (f.left +ℤ pos (32 * (k / 32) + (31 - (31 - k % 32)))) (f.bottom +ℤ pos q)) m → ⊥
+        (λ q. IsNextIn closing ss f true (f.left +ℤ pos (32 * (k / 32) + (31 - (31 - k % 32)))) (f.bottom +ℤ pos q)) m → ⊥
     by zero e o = let x = o.noted_is in let y = unnoted 0 (omega arith) in omega (arith, x, y)
     by (suc m) e (o, next) = let x = o.noted_is in let y = unnoted (suc m) (omega (arith, e, h)) in omega (arith, x, y)
 
 -- ---- the bitmap
-pub closed_words : (IsNext : Bool → ℤ → ℤ → Type 0) (f : Frame) (ss : List Span) (across up old new : List ℕ)
-    → IsGiven IsNext f ss across up old new → length new ≡ length old → AreWords f.height f.width new
-closed_words IsNext f ss across up old new given same = record {
+pub closed_words : (closing : Closing) (f : Frame) (ss : List Span) (across up old new : List ℕ)
+    → IsGiven closing f ss across up old new → length new ≡ length old → AreWords f.height f.width new
+closed_words closing f ss across up old new given same = record {
   long = same ∙ given.words.long;
   rows = λ r h. subst (AreRowWords f.width) (sym (cut-row f.height (words_for f.width) new r h)) (row r h);
 }
@@ -285,101 +276,24 @@ closed_words IsNext f ss across up old new given same = record {
         omega (arith, fits, n, d, same, long) in
         record {
           count = count;
-          unused = λ k w l. column_rest IsNext f ss across up old new given r k h w (omega (arith, l, count));
+          unused = λ k w l. column_rest closing f ss across up old new given r k h w (omega (arith, l, count));
         }
 
-pub closed_pixels : (IsNext : Bool → ℤ → ℤ → Type 0) (f : Frame) (ss : List Span) (across up old new : List ℕ)
-    → IsGiven IsNext f ss across up old new → NoneOutside f ss → (i j : ℤ) → IsInFrame f i j
-    → IsTrue (bit_of (record { frame = f; rows = rows_of f.height f.width new }) i j) ↔ ColumnClosed IsNext f ss i j
-closed_pixels IsNext f ss across up old new given outside i j inside =
+pub closed_pixels : (closing : Closing) (f : Frame) (ss : List Span) (across up old new : List ℕ)
+    → IsGiven closing f ss across up old new → NoneOutside f ss → (i j : ℤ) → IsInFrame f i j
+    → IsTrue (bit_of (record { frame = f; rows = rows_of f.height f.width new }) i j) ↔ IsSet closing ss f i j
+closed_pixels closing f ss across up old new given outside i j inside =
     let k = steps f.left i in
     let r = steps f.bottom j in
     let l = steps_below f.left f.width i inside.column in
     let h = steps_below f.bottom f.height j inside.row in
     let bit = pixel_bit f new r k h l in
-    let is = column_closed IsNext f ss across up old new given outside r k h l in
+    let is = column_closed closing f ss across up old new given outside r k h l in
     let at : IsTrue (bit_of (record { frame = f; rows = rows_of f.height f.width new }) (f.left +ℤ pos k) (f.bottom +ℤ pos r))
-    ↔ ColumnClosed IsNext f ss (f.left +ℤ pos k) (f.bottom +ℤ pos r) = (λ t. is.0 (bit.0 t), λ c. bit.1 (is.1 c)) in
+    ↔ IsSet closing ss f (f.left +ℤ pos k) (f.bottom +ℤ pos r) = (λ t. is.0 (bit.0 t), λ c. bit.1 (is.1 c)) in
     subst (λ (z : ℤ × ℤ). IsTrue (bit_of (record { frame = f; rows = rows_of f.height f.width new }) z.0 z.1)
-    ↔ ColumnClosed IsNext f ss z.0 z.1)
+    ↔ IsSet closing ss f z.0 z.1)
     (λ t. (steps_back f.left f.width i inside.column t, steps_back f.bottom f.height j inside.row t)) at
-
--- ---- what drop-out control sets
-decided : (f : Frame) (i j : ℤ) → IsInFrame f i j ⊎ ¬ (IsInFrame f i j)
-decided f i j = by (below_or_not_ℤ i f.left) (below_or_not_ℤ i (f.left +ℤ pos f.width)) (below_or_not_ℤ j f.bottom)
-    (below_or_not_ℤ j (f.bottom +ℤ pos f.height))
-  where
-    by : (i <ℤ f.left) ⊎ (f.left ≤ℤ i) → (i <ℤ (f.left +ℤ pos f.width)) ⊎ ((f.left +ℤ pos f.width) ≤ℤ i)
-        → (j <ℤ f.bottom) ⊎ (f.bottom ≤ℤ j) → (j <ℤ (f.bottom +ℤ pos f.height)) ⊎ ((f.bottom +ℤ pos f.height) ≤ℤ j)
-        → IsInFrame f i j ⊎ ¬ (IsInFrame f i j)
-    by (inl a) b c d = inr (λ h. let x = h.column in omega (arith, signed_linear, x, a))
-    by (inr a) (inr b) c d = inr (λ h. let x = h.column in omega (arith, signed_linear, x, b))
-    by (inr a) (inl b) (inl c) d = inr (λ h. let x = h.row in omega (arith, signed_linear, x, c))
-    by (inr a) (inl b) (inr c) (inr d) = inr (λ h. let x = h.row in omega (arith, signed_linear, x, d))
-    by (inr a) (inl b) (inr c) (inl d) = inl (record { column = (a, b); row = (c, d) })
-
--- the same choice, where the neighbour is inside; and the same set so far
-chosen_inside : (ss : List Span) (In R S So To : ℤ → ℤ → Type 0) → ((i j : ℤ) → In i j ⊎ ¬ (In i j)) → ((i j : ℤ) → So i j ↔ To i j)
-    → ((i j : ℤ) → R i j → S i j) → ((i j : ℤ) → In (i +ℤ pos 1) j → S i j → R i j) → (i j : ℤ)
-    → IsBridged ss In R So i j ↔ IsBridged ss In S To i j
-chosen_inside ss In R S So To inside so on back i j = (to, from)
-  where
-    gap_to : (i j : ℤ) → IsGap ss So i j → IsGap ss To i j
-    gap_to i j g = record { here = λ t. g.here ((so i j).1 t); next = λ t. g.next ((so (i +ℤ pos 1) j).1 t); met = g.met }
-
-    gap_from : (i j : ℤ) → IsGap ss To i j → IsGap ss So i j
-    gap_from i j g = record { here = λ t. g.here ((so i j).0 t); next = λ t. g.next ((so (i +ℤ pos 1) j).0 t); met = g.met }
-
-    here : In i j → In ((i -ℤ pos 1) +ℤ pos 1) j
-    here = subst (λ z. In z j) (omega (arith, signed_linear))
-
-    to : IsBridged ss In R So i j → IsBridged ss In S To i j
-    to (inl t) = inl ((so i j).0 t)
-    to (inr b) = inr (record { inside = b.inside; closes = by b.closes })
-      where
-        left : ¬ (R i j) ⊎ ¬ (In (i +ℤ pos 1) j) → In (i +ℤ pos 1) j ⊎ ¬ (In (i +ℤ pos 1) j)
-            → ¬ (S i j) ⊎ ¬ (In (i +ℤ pos 1) j)
-        left (inr o) d = inr o
-        left (inl n) (inr o) = inr o
-        left (inl n) (inl h) = inl (λ s. n (back i j h s))
-
-        right : R (i -ℤ pos 1) j ⊎ ¬ (In (i -ℤ pos 1) j) → S (i -ℤ pos 1) j ⊎ ¬ (In (i -ℤ pos 1) j)
-        right (inl r) = inl (on (i -ℤ pos 1) j r)
-        right (inr o) = inr o
-
-        by : IsClosedByLeft ss In R So i j ⊎ IsClosedByRight ss In R So (i -ℤ pos 1) j
-            → IsClosedByLeft ss In S To i j ⊎ IsClosedByRight ss In S To (i -ℤ pos 1) j
-        by (inl c) = inl (record { gap = gap_to i j c.gap; chosen = left c.chosen (inside (i +ℤ pos 1) j) })
-        by (inr c) = inr (record { gap = gap_to (i -ℤ pos 1) j c.gap; chosen = right c.chosen })
-
-    from : IsBridged ss In S To i j → IsBridged ss In R So i j
-    from (inl t) = inl ((so i j).1 t)
-    from (inr b) = inr (record { inside = b.inside; closes = by b.closes })
-      where
-        left : ¬ (S i j) ⊎ ¬ (In (i +ℤ pos 1) j) → ¬ (R i j) ⊎ ¬ (In (i +ℤ pos 1) j)
-        left (inr o) = inr o
-        left (inl n) = inl (λ r. n (on i j r))
-
-        right : S (i -ℤ pos 1) j ⊎ ¬ (In (i -ℤ pos 1) j) → R (i -ℤ pos 1) j ⊎ ¬ (In (i -ℤ pos 1) j)
-        right (inl s) = inl (back (i -ℤ pos 1) j (here b.inside) s)
-        right (inr o) = inr o
-
-        by : IsClosedByLeft ss In S To i j ⊎ IsClosedByRight ss In S To (i -ℤ pos 1) j
-            → IsClosedByLeft ss In R So i j ⊎ IsClosedByRight ss In R So (i -ℤ pos 1) j
-        by (inl c) = inl (record { gap = gap_from i j c.gap; chosen = left c.chosen })
-        by (inr c) = inr (record { gap = gap_from (i -ℤ pos 1) j c.gap; chosen = right c.chosen })
-
-pub closing_pixels : (closing : Closing) (f : Frame) (ss : List Span) (i j : ℤ)
-    → ColumnClosed (IsNextIn closing ss f) f ss i j ↔ IsSet closing ss f i j
-closing_pixels closing f ss i j =
-    chosen_inside (map turned_span ss) (λ j i. IsInFrame f i j) (λ j i. IsNextIn closing ss f true i j)
-    (λ j i. IsNextChosen closing true ss i j) (λ j i. RowClosed (IsNextIn closing ss f) f ss i j)
-    (λ j i. IsRowSet closing ss f i j)
-    (λ j i. decided f i j)
-    (λ j i. chosen_inside ss (IsInFrame f) (IsNextIn closing ss f false) (IsNextChosen closing false ss)
-    (λ i j. IsCovered (centre i j) ss)
-    (λ i j. IsCovered (centre i j) ss) (decided f) (λ i j. (λ t. t, λ t. t)) (λ i j r. r.0) (λ i j h s. (s, h)) i j)
-    (λ j i r. r.0) (λ j i h s. (s, h)) j i
 
 -- ---- for `close_gaps`
 -- a list that was lent whole and came back
@@ -389,7 +303,7 @@ lent xs ys n e f = (λ t. take ((f ∙ sym e) t) (ys ++ drop (length ys) xs)) �
 pub given_of : (closing : Closing) (f : Frame) (ss : List Span) (b : Bits) (across up old new : List ℕ) → f ≡ b.frame
     → IsScanOf b.frame ss b → AreExact b.frame across up ss → AreWords b.frame.height b.frame.width old
     → b ≡ record { frame = b.frame; rows = rows_of b.frame.height b.frame.width old }
-    → AreClosedWords (IsNextIn closing ss f) f across up old new → IsGiven (IsNextIn closing ss f) f ss across up old new
+    → AreClosedWords (IsNextIn closing ss f) f across up old new → IsGiven closing f ss across up old new
 given_of closing f ss b across up old new e scan noted words value closed = record {
   words = subst (λ (g : Frame). AreWords g.height g.width old) (sym e) words;
   scanned =
@@ -398,16 +312,13 @@ given_of closing f ss b across up old new e scan noted words value closed = reco
       subst (λ (z : Frame × Bits). IsScanOf z.0 ss z.1) (λ t. (sym e t, same t)) scan;
   noted = subst (λ (g : Frame). AreExact g across up ss) (sym e) noted;
   closed = closed;
-  within = λ up i j h. h.1;
 }
 
 pub gaps_closed : (closing : Closing) (f : Frame) (ss : List Span) (across up old new : List ℕ)
-    → IsGiven (IsNextIn closing ss f) f ss across up old new → (b r : Bits) → f ≡ b.frame
+    → IsGiven closing f ss across up old new → (b r : Bits) → f ≡ b.frame
     → r ≡ record { frame = f; rows = rows_of f.height f.width new } → NoneOutside b.frame ss → (i j : ℤ) → IsInFrame b.frame i j
     → IsTrue (bit_of r i j) ↔ IsSet closing ss b.frame i j
 gaps_closed closing f ss across up old new given b r e value outside i j inside =
-    let a = closed_pixels (IsNextIn closing ss f) f ss across up old new given
-    (subst (λ (g : Frame). NoneOutside g ss) (sym e) outside) i j (subst (λ (g : Frame). IsInFrame g i j) (sym e) inside) in
-    let c = closing_pixels closing f ss i j in
     subst (λ (z : Bits × Frame). IsTrue (bit_of z.0 i j) ↔ IsSet closing ss z.1 i j) (λ t. (sym value t, e t))
-    (λ t. c.0 (a.0 t), λ s. a.1 (c.1 s))
+    (closed_pixels closing f ss across up old new given
+    (subst (λ (g : Frame). NoneOutside g ss) (sym e) outside) i j (subst (λ (g : Frame). IsInFrame g i j) (sym e) inside))

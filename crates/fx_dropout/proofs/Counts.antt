@@ -1,7 +1,7 @@
 -- How many places are covered.
 -- Serves `nearer`.
 use Rattle.std.proofs.Common.{◌≡◌, ◌↔◌, inl, inr, refl, sym, ap, ◌∙◌, subst, Bool, true, false, IsTrue, ℕ, zero, suc, ◌+◌}
-use Rattle.std.proofs.Common.{◌<◌, ◌≤◌, add-one, arith}
+use Rattle.std.proofs.Common.{◌<◌, ◌≤◌, arith}
 use Rattle.std.specs.Int.{from_bool}
 use Rattle.fx_winding.proofs.Places.{clash}
 use Rattle.fx_dropout.specs.Dropout.{IsCount}
@@ -47,31 +47,6 @@ count_iff P Q (suc n) m e (inl (p, l, d, h)) =
     inl ((e n (omega arith)).0 p, l, d, count_iff P Q n l (λ k b. e k (omega (arith, b))) h)
 count_iff P Q (suc n) m e (inr (p, h)) =
     inr (λ q. p ((e n (omega arith)).1 q), count_iff P Q n m (λ k b. e k (omega (arith, b))) h)
-
--- one more place below the others
-count_below : (P : ℕ → Type 0) (n m : ℕ) → P 0 → IsCount (λ k. P (k + 1)) n m → IsCount P (suc n) (suc m)
-unfolding IsCount
-count_below P zero m p h = inl (p, m, refl, h)
-count_below P (suc n) m p (inl (q, l, d, h)) =
-    inl (subst P (add-one n) q, m, refl, subst (λ (k : ℕ). IsCount P (suc n) k) (sym d) (count_below P n l p h))
-count_below P (suc n) m p (inr (q, h)) = inr (λ r. q (subst P (sym (add-one n)) r), count_below P n m p h)
-
-none_below : (P : ℕ → Type 0) (n m : ℕ) → ¬ (P 0) → IsCount (λ k. P (k + 1)) n m → IsCount P (suc n) m
-unfolding IsCount
-none_below P zero m p h = inr (p, h)
-none_below P (suc n) m p (inl (q, l, d, h)) = inl (subst P (add-one n) q, l, d, none_below P n l p h)
-none_below P (suc n) m p (inr (q, h)) = inr (λ r. q (subst P (sym (add-one n)) r), none_below P n m p h)
-
--- the same count of what holds together in reverse order
-pub count_reversed : (P Q : ℕ → Type 0) (n m : ℕ) → ((k l : ℕ) → k + l + 1 ≡ n → P k ↔ Q l) → IsCount P n m → IsCount Q n m
-unfolding IsCount
-count_reversed P Q zero m e h = h
-count_reversed P Q (suc n) m e (inl (p, l, d, h)) =
-    subst (λ (k : ℕ). IsCount Q (suc n) k) (sym d) (count_below Q n l ((e n 0 (omega arith)).0 p)
-    (count_reversed P (λ k. Q (k + 1)) n l (λ k i b. e k (i + 1) (omega (arith, b))) h))
-count_reversed P Q (suc n) m e (inr (p, h)) =
-    none_below Q n m (λ q. p ((e n 0 (omega arith)).1 q))
-    (count_reversed P (λ k. Q (k + 1)) n m (λ k i b. e k (i + 1) (omega (arith, b))) h)
 
 -- one more place, with a truth as a number
 pub count_from : (P : ℕ → Type 0) (n m k : ℕ) (b : Bool) → (IsTrue b ↔ P n) → k ≡ from_bool b → IsCount P n m

@@ -9,9 +9,6 @@ pub mod Closed
 pub mod Counts
 pub mod SetPixels
 pub mod Shifted
-pub mod Reversed
-pub mod NearMirror
-pub mod NearFlip
 pub mod Steps
-pub mod Alike
+pub mod Runs
 pub mod Sums

@@ -19,8 +19,8 @@ pub record IsLine (ss : List Span) (In Right So : ℤ → ℤ → Type 0) (first
       → (noted k ≡ 1) ↔ Any (IsMet (centre ((first -ℤ pos 1) +ℤ pos k) j) (centre (first +ℤ pos k) j)) ss
   pub inside : (n : ℕ) → n < count → In (first +ℤ pos n) j
   pub before : ¬ (In (first -ℤ pos 1) j)
-  pub right : (n : ℕ) → n < count → IsNext n ↔ Right (first +ℤ pos n) j
-  pub within : (i : ℤ) → Right i j → In (i +ℤ pos 1) j
+  pub after : ¬ (In (first +ℤ pos count) j)
+  pub right : (n : ℕ) → n < count → IsNext n ↔ (Right (first +ℤ pos n) j × In ((first +ℤ pos n) +ℤ pos 1) j)
 
 -- a bit of 0
 zero_of : (b : ℕ) (P : Type 0) → b < 2 → (b ≡ 1) ↔ P → ¬ P → b ≡ 0
@@ -139,25 +139,42 @@ line_closed ss In Right So first j count pixels noted IsNext line n new l is = (
         let r = line.right m (omega (arith, e, l)) in (
           λ o. record {
             gap = gap_before.0 (subst (IsOpenAt pixels noted) e o.0);
-            chosen = inl (subst (λ z. Right z j) at (r.0 o.1));
+            chosen = inl (subst (λ z. Right z j) at (r.0 o.1).0);
           },
           λ c. (subst (IsOpenAt pixels noted) (sym e) (gap_before.1 c.gap), by c.chosen),
         )
       where
         by : Right (i -ℤ pos 1) j ⊎ ¬ (In (i -ℤ pos 1) j) → IsNext m
-        by (inl h) = (line.right m (omega (arith, e, l))).1
-            (subst (λ z. Right z j) (omega (arith, signed_linear, e)) h)
+        by (inl h) = (line.right m (omega (arith, e, l))).1 (
+          subst (λ z. Right z j) (omega (arith, signed_linear, e)) h,
+          subst (λ z. In z j) (omega (arith, signed_linear, e)) (line.inside n l),
+        )
         by (inr h) = absurd (h (subst (λ z. In z j) (omega (arith, signed_linear, e)) (line.inside m (omega (arith, e, l)))))
 
     same : n ≡ n
     same = omega arith
+
+    order : (a b : ℕ) → (a < b) ⊎ (b ≤ a)
+    order a b = grind arith
+
+    left : ¬ (IsNext n) → ¬ (Right i j) ⊎ ¬ (In (i +ℤ pos 1) j)
+    left c = by (order (suc n) count)
+      where
+        next : first +ℤ pos (suc n) ≡ i +ℤ pos 1
+        next = omega (arith, signed_linear)
+
+        by : (suc n < count) ⊎ (count ≤ suc n) → ¬ (Right i j) ⊎ ¬ (In (i +ℤ pos 1) j)
+        by (inl m) = inl (λ h. c ((line.right n l).1 (h, subst (λ z. In z j) next (line.inside (suc n) m))))
+        by (inr m) =
+            let e : count ≡ suc n = omega (arith, l, m) in
+            inr (λ h. line.after (subst (λ (k : ℕ). In (first +ℤ pos k) j) (sym e) (subst (λ z. In z j) (sym next) h)))
 
     to : (pixels n ≡ 1) ⊎ ((IsOpenAt pixels noted (suc n) × ¬ (IsNext n)) ⊎ IsReached pixels noted IsNext n)
         → IsBridged ss In Right So i j
     to (inl e) = inl ((line.set n l).0 e)
     to (inr (inl (o, c))) = inr (record {
       inside = line.inside n l;
-      closes = inl (record { gap = gap_after.0 o; chosen = inl (λ h. c ((line.right n l).1 h)) });
+      closes = inl (record { gap = gap_after.0 o; chosen = left c });
     })
     to (inr (inr h)) = inr (record { inside = line.inside n l; closes = inr ((reached n same).0 h) })
 
@@ -168,9 +185,9 @@ line_closed ss In Right So first j count pixels noted IsNext line n new l is = (
       where
         by : IsClosedByLeft ss In Right So i j ⊎ IsClosedByRight ss In Right So (i -ℤ pos 1) j
             → (pixels n ≡ 1) ⊎ ((IsOpenAt pixels noted (suc n) × ¬ (IsNext n)) ⊎ IsReached pixels noted IsNext n)
-        by (inl c) = inr (inl (gap_after.1 c.gap, λ h. left c.chosen ((line.right n l).0 h)))
+        by (inl c) = inr (inl (gap_after.1 c.gap, λ h. neither c.chosen ((line.right n l).0 h)))
           where
-            left : ¬ (Right i j) ⊎ ¬ (In (i +ℤ pos 1) j) → Right i j → ⊥
-            left (inl r) h = r h
-            left (inr o) h = o (line.within i h)
+            neither : ¬ (Right i j) ⊎ ¬ (In (i +ℤ pos 1) j) → Right i j × In (i +ℤ pos 1) j → ⊥
+            neither (inl r) h = r h.0
+            neither (inr o) h = o h.1
         by (inr c) = inr (inr ((reached n same).1 c))

@@ -6,7 +6,7 @@ use Rattle.fx_fixed.specs.Polynomial.{var, num, ◌⊞◌, ◌⊠◌}
 use Rattle.fx_fixed.proofs.Ring.{ring}
 use Rattle.fx_fixed.proofs.Linear.{signed_linear}
 use Rattle.fx_winding.specs.Area.{Place, place}
-use Rattle.fx_winding.specs.Dropout.{turned_place, turned_span}
+use Rattle.fx_winding.specs.Turned.{turned_place, turned_span}
 use Rattle.fx_winding.specs.Frames.{IsInFrame}
 use Rattle.fx_winding.specs.Meets.{IsMet}
 use Rattle.fx_winding.specs.Moves.{shifted_place, shifted}

@@ -1,5 +1,5 @@
 -- Numbers that change by one step from place to place, and the gap 4uw - v² of three of them that add up to one total.
--- Serves `Alike`.
+-- Serves `Runs`.
 use Rattle.std.proofs.Common.{◌≡◌, ◌⊎◌, inl, inr, ℤ, pos, ◌+ℤ◌, ◌-ℤ◌, ◌*ℤ◌, ◌≤ℤ◌, ◌<ℤ◌, [], ◌∷◌, arith}
 use Rattle.fx_fixed.specs.Polynomial.{Expr, var, num, ◌⊞◌, ◌⊠◌, ◌⊟◌}
 use Rattle.fx_fixed.proofs.Ring.{ring}

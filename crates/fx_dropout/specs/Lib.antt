@@ -1,5 +1,4 @@
 pub mod Dropout
 pub mod Tests
 pub mod Laws
-pub mod Mirrors
 pub mod inner

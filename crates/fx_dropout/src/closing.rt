@@ -279,7 +279,7 @@ fn close_lines(
     close_columns(chooser, frame, up, words, tally);
 }
 
-/// The same, if there is any gap.
+/// Closes the gaps of all rows of a frame, and then those that are left in the columns, if it has any gap.
 #[inline(always)]
 pub(crate) fn close_words(
     chooser: &Chooser<'_>,

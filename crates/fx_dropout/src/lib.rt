@@ -6,9 +6,9 @@
 //! dot between four centres, which meets no segment from one centre to a neighbour's, is still lost.
 #![tactic(auto)]
 
+mod beside;
 mod chooser;
 mod closing;
-mod gaps;
 pub mod laws;
 mod look;
 mod nearer;

@@ -1,10 +1,9 @@
 //! Which of two neighbours is nearer to the stroke that passes between their centres.
 
-ghost use Rattle.std.specs.Prelude.{◌≡◌, ◌⊎◌, ◌↔◌, ℕ, ◌+◌, ◌*◌, ◌^◌, ◌≤◌, ◌<◌, ℤ, pos, IsTrue, length, map, get_or};
+ghost use Rattle.std.specs.Prelude.{◌≡◌, ◌≢◌, ◌↔◌, ℕ, ◌+◌, ◌*◌, ◌^◌, ◌≤◌, ◌<◌, pos, IsTrue, length, map, get_or};
 ghost use Rattle.fx_fixed.specs.Ranges.{IsWithin};
 ghost use Rattle.fx_winding.specs.Winding.{span_of};
 ghost use Rattle.fx_dropout.specs.Dropout.{IsCount, IsNextNearer};
-ghost use Rattle.fx_dropout.specs.inner.Runs.{IsCoveredBy};
 
 use crate::pair::Pair;
 use crate::places::{add_pieces, is_covered};
@@ -15,17 +14,16 @@ use fx_winding::{Pieces, Tally};
 const HALF: usize = 63;
 
 /// How many of the places from `from` on are covered, of the segment between the centres of two neighbours.
-fn count_covered(places: &[i32], base: i32, from: usize) -> u32
+fn count_covered(places: &[i32], from: usize) -> u32
     requires room { length places.now ≡ 128 }
     requires from { from ≤ 65 }
     requires small { (n : ℕ) → n < 128 → IsWithin (2 ^ 30 + 2 ^ 20) (get_or places.now n (pos 0)) }
-    requires size { IsWithin (2 ^ 17) base }
-    ensures { IsCount (λ n. IsCoveredBy base (get_or places.now (n + from) (pos 0))) 63 result }
+    ensures { IsCount (λ n. get_or places.now (n + from) (pos 0) ≢ pos 0) 63 result }
 {
     let mut count = 0;
     // `count` of the first n places are covered.
     'places: for n in 0..HALF {
-        count += u32::from(is_covered(places[n + from], base));
+        count += u32::from(is_covered(places[n + from]));
     }
     count
 }
@@ -36,8 +34,8 @@ pub(crate) fn is_next_nearer(pieces: &Pieces, pair: Pair, tally: &mut Tally) -> 
     ensures count { tally.new.count ≤ tally.old.count + 31 * 128 * length pieces.now }
 {
     let mut places = [0; PLACES];
-    let base = add_pieces(pieces.as_slice(), pair, &mut places, tally);
-    let here = count_covered(&places, base, 1);
-    let next = count_covered(&places, base, 65);
+    add_pieces(pieces.as_slice(), pair, &mut places, tally);
+    let here = count_covered(&places, 1);
+    let next = count_covered(&places, 65);
     here < next
 }

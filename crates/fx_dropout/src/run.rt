@@ -1,16 +1,17 @@
-//! Runs of places at which a piece is alike: it has all of them on it or none, and adds one number to their winding numbers.
+//! Runs of places at which a piece is on none, and adds one number to their winding numbers.
+//!
+//! How far a run may reach is guessed first: up to the next point of the piece, and to its chord. Then it is tested.
 
-ghost use Rattle.std.specs.Prelude.{◌≡◌, ◌≢◌, ◌⊎◌, ◌↔◌, ℕ, ◌+◌, ◌-◌, ◌*◌, ◌≤◌, ◌<◌, ◌^◌, pos, ◌+ℤ◌, ◌*ℤ◌, ◌≤ℤ◌, ◌<ℤ◌, IsTrue, Some, MatchOption};
+ghost use Rattle.std.specs.Prelude.{◌≡◌, ◌↔◌, ◌+◌, ◌≤◌, ◌<◌, ◌^◌, pos, ◌+ℤ◌, ◌<ℤ◌, IsTrue, Some, IfSome};
 ghost use Rattle.fx_fixed.specs.Ranges.{IsWithin};
-ghost use Rattle.fx_winding.specs.Area.{Place, gap_of};
-ghost use Rattle.fx_winding.specs.Meets.{turn};
-ghost use Rattle.fx_winding.specs.Winding.{place_of, span_of, areas_of, region, IsOn};
-ghost use Rattle.fx_dropout.specs.Dropout.{place_on};
-ghost use Rattle.fx_dropout.specs.inner.Runs.{HaveOneSign, IsAlikeTo, IsBelowTo, IsClear, IsPassed, step, gap_at as gap_of_piece};
+ghost use Rattle.fx_winding.specs.Winding.{place_of, span_of, areas_of, crossing as crossing_of};
+ghost use Rattle.fx_dropout.specs.inner.Runs.{HaveOneSign, IsBelowTo, IsClear, IsPart, IsPartTo, place_in, gap_at as gap_of_piece};
 
-use crate::gaps::turn_off;
+use crate::beside::{is_passed, turn_beside};
 use crate::pair::Pair;
-use fx_winding::{Piece, Point, Tally, Weights, areas, crossing, curve_gap, difference};
+use fx_winding::{
+    Piece, Point, Tally, Weights, areas, crossing, curve_gap, difference, on_piece, region,
+};
 
 /// How many places of a segment are looked at: the centre of its first pixel, and the 127 between the two centres.
 pub(crate) const PLACES: usize = 128;
@@ -23,16 +24,6 @@ struct Run {
     last: usize,
     ghost order: { first < last },
     ghost few: { last < 128 },
-}
-
-/// Whether a height is above the one of two others and not above the other.
-pub(crate) fn is_passed(y: i32, low: i32, high: i32) -> bool
-    ensures { IsTrue result ↔ IsPassed y low high }
-{
-    if y <= low {
-        return false;
-    }
-    y <= high
 }
 
 /// Whether two numbers are above 0, or both below.
@@ -49,7 +40,7 @@ fn have_one_sign(a: i64, b: i64) -> bool
 }
 
 /// The signed areas of a place with each two of a piece's points.
-pub(crate) fn areas_at(piece: &Piece, p: Point, tally: &mut Tally) -> Weights
+fn areas_at(piece: &Piece, p: Point, tally: &mut Tally) -> Weights
     ensures u { result.u ≡ (areas_of (span_of piece.now) (place_of p)).0 }
     ensures v { result.v ≡ (areas_of (span_of piece.now) (place_of p)).1 }
     ensures w { result.w ≡ (areas_of (span_of piece.now) (place_of p)).2 }
@@ -87,10 +78,8 @@ fn stays_below(
     tally: &mut Tally,
 ) -> bool
     requires middle { piece.now.b ≡ Some b }
-    requires first { first ≡ gap_of_piece (span_of piece.now)
-        (place_on run.pair.is_up run.pair.here.col run.pair.here.row run.first) }
-    requires last { last ≡ gap_of_piece (span_of piece.now)
-        (place_on run.pair.is_up run.pair.here.col run.pair.here.row run.last) }
+    requires first { first ≡ gap_of_piece (span_of piece.now) (place_in run.pair run.first) }
+    requires last { last ≡ gap_of_piece (span_of piece.now) (place_in run.pair run.last) }
     requires first_size { IsWithin (2 ^ 97) first }
     requires last_size { IsWithin (2 ^ 97) last }
     requires first_below { first <ℤ pos 0 }
@@ -112,75 +101,98 @@ fn is_on_side(at: Weights) -> bool
     have_one_sign(total_of(at), at.v)
 }
 
-/// Whether an arc's areas with a place show that the place is beyond its chord or outside its parabola.
-fn is_outside(at: Weights) -> bool
-    ensures { IsTrue result → (¬ (HaveOneSign (at.u +ℤ at.v +ℤ at.w) at.v)) ⊎ (gap_of at.u at.v at.w <ℤ pos 0) }
+/// Whether the first and the last place of a run are on that side of the line from an arc's control point to its end on which the
+/// arc is, by their areas.
+fn is_inner(p: Weights, q: Weights) -> bool
+    ensures { IsTrue result → HaveOneSign (p.u +ℤ p.v +ℤ p.w) p.u × HaveOneSign p.u q.u }
 {
-    if !is_on_side(at) {
-        return true;
-    }
-    curve_gap(at) < 0
-}
-
-/// Whether a piece's areas with a place show that the place is neither on the piece nor in its region.
-fn is_apart(piece: &Piece, at: Weights) -> bool
-    ensures { IsTrue result → (p : Place) → (at.u, at.v, at.w) ≡ areas_of (span_of piece.now) p →
-        (¬ (IsOn p (span_of piece.now))) × (region p (span_of piece.now) ≡ pos 0) }
-{
-    if at.v == 0 {
+    if !have_one_sign(total_of(p), p.u) {
         return false;
     }
-    match piece.b {
-        None => true,
-        Some(_) => is_outside(at),
-    }
+    have_one_sign(p.u, q.u)
 }
 
-/// What a piece adds to the winding number at p, by its areas there, or None if p is on it.
-pub(crate) fn turn_by(piece: &Piece, p: Point, at: Weights, tally: &mut Tally) -> Option<i32>
-    requires { (at.u, at.v, at.w) ≡ areas_of (span_of piece.now) (place_of p) }
-    ensures value { MatchOption result (IsOn (place_of p) (span_of piece.now))
-        (λ t. IsWithin 2 t × (t ≡ turn (place_of p) (span_of piece.now)) × ¬ (IsOn (place_of p) (span_of piece.now))) }
-    ensures count { tally.new.count ≤ tally.old.count + 3 }
-{
-    if is_apart(piece, at) {
-        return Some(crossing(piece, p.x, p.y, tally));
-    }
-    turn_off(piece, p, tally)
-}
-
-/// Whether a run on the arc's side of its chord is seen to lie within the arc's region or outside it.
-fn is_arc_alike(
+/// What an arc adds at each place of a run on one side of its chord, if the run is seen to lie beyond the chord, within the arc's
+/// region or outside it. `crossed` is what its chord adds at the first place.
+fn arc_turn(
     piece: &Piece,
     b: Point,
     run: Run,
     p: Weights,
     q: Weights,
+    crossed: i32,
     tally: &mut Tally,
-) -> bool
+) -> Option<i32>
     requires middle { piece.now.b ≡ Some b }
     requires clear { IsClear run.pair.is_up run.pair.here.col run.pair.here.row run.first run.last (span_of piece.now) }
-    requires first { (p.u, p.v, p.w) ≡
-        areas_of (span_of piece.now) (place_on run.pair.is_up run.pair.here.col run.pair.here.row run.first) }
-    requires last { (q.u, q.v, q.w) ≡
-        areas_of (span_of piece.now) (place_on run.pair.is_up run.pair.here.col run.pair.here.row run.last) }
-    requires side { HaveOneSign (p.u +ℤ p.v +ℤ p.w) p.v }
-    ensures alike { IsTrue result →
-        IsAlikeTo run.pair.is_up run.pair.here.col run.pair.here.row run.first (run.last + 1) (span_of piece.now) }
+    requires first { (p.u, p.v, p.w) ≡ areas_of (span_of piece.now) (place_in run.pair run.first) }
+    requires last { (q.u, q.v, q.w) ≡ areas_of (span_of piece.now) (place_in run.pair run.last) }
+    requires crossed { crossed ≡ crossing_of (place_in run.pair run.first) (span_of piece.now) }
+    requires size { IsWithin 1 crossed }
+    ensures part { IfSome result (λ t. IsPartTo run.pair run.first (run.last + 1) (span_of piece.now) (Some t)) }
     ensures count { tally.new.count ≤ tally.old.count + 2 }
 {
+    if !is_on_side(p) {
+        return Some(crossed);
+    }
     let first = curve_gap(p);
     let last = curve_gap(q);
     if first > 0 {
-        return last > 0 && have_one_sign(p.u, q.u);
+        if last <= 0 {
+            return None;
+        }
+        if !is_inner(p, q) {
+            return None;
+        }
+        let at = run.pair.place(run.first);
+        return Some(crossed + region(piece, at.x, at.y, tally));
     }
     if first >= 0 {
-        return false;
+        return None;
     }
     if last >= 0 {
+        return None;
+    }
+    if !stays_below(piece, b, run, first, last, tally) {
+        return None;
+    }
+    Some(crossed)
+}
+
+/// Whether no end of a piece is passed in a run, and its first and last place are on one side of the piece's chord.
+fn is_clear(piece: &Piece, run: Run, p: Weights, q: Weights) -> bool
+    requires first { (p.u, p.v, p.w) ≡ areas_of (span_of piece.now) (place_in run.pair run.first) }
+    requires last { (q.u, q.v, q.w) ≡ areas_of (span_of piece.now) (place_in run.pair run.last) }
+    ensures { IsTrue result → IsClear run.pair.is_up run.pair.here.col run.pair.here.row run.first run.last (span_of piece.now) }
+{
+    let low = run.pair.place(run.first);
+    let high = run.pair.place(run.last);
+    if is_passed(piece.a.y, low.y, high.y) {
         return false;
     }
-    stays_below(piece, b, run, first, last, tally)
+    if is_passed(piece.c.y, low.y, high.y) {
+        return false;
+    }
+    have_one_sign(p.v, q.v)
+}
+
+/// What a piece adds at each place of a run, if it is seen to be one number. `at` are its areas at the first place, and `crossed`
+/// is what its chord adds there.
+fn turn_along(piece: &Piece, run: Run, at: Weights, crossed: i32, tally: &mut Tally) -> Option<i32>
+    requires first { (at.u, at.v, at.w) ≡ areas_of (span_of piece.now) (place_in run.pair run.first) }
+    requires crossed { crossed ≡ crossing_of (place_in run.pair run.first) (span_of piece.now) }
+    requires size { IsWithin 1 crossed }
+    ensures part { IfSome result (λ t. IsPartTo run.pair run.first (run.last + 1) (span_of piece.now) (Some t)) }
+    ensures count { tally.new.count ≤ tally.old.count + 3 }
+{
+    let last = areas_at(piece, run.pair.place(run.last), tally);
+    if !is_clear(piece, run, at, last) {
+        return None;
+    }
+    match piece.b {
+        None => Some(crossed),
+        Some(b) => arc_turn(piece, b, run, at, last, crossed, tally),
+    }
 }
 
 /// How often `step` can be taken off `number` before it reaches 0, counting the start; at most 128.
@@ -189,9 +201,7 @@ fn steps_down(number: u64, step: u64) -> usize
     requires step { 0 < step }
     requires number_size { number ≤ 2 ^ 47 }
     requires step_size { step ≤ 2 ^ 23 }
-    ensures some { 0 < result }
-    ensures few { result ≤ 128 }
-    ensures before { (j : ℕ) → j < result → j * step < number }
+    ensures { 0 < result }
 {
     let steps = (number + step - 1) / step;
     steps.min(128) as usize
@@ -199,8 +209,7 @@ fn steps_down(number: u64, step: u64) -> usize
 
 /// How the area of a place with two points changes from place to place.
 fn area_step(b: Point, c: Point, is_up: bool) -> i64
-    ensures value { result ≡ step is_up (place_of b) (place_of c) }
-    ensures size { IsWithin (2 ^ 23) result }
+    ensures { IsWithin (2 ^ 23) result }
 {
     if is_up {
         difference(c.x, b.x)
@@ -209,40 +218,13 @@ fn area_step(b: Point, c: Point, is_up: bool) -> i64
     }
 }
 
-/// The number that an area comes to in `count` steps.
-fn stepped(area: i64, step: i64, count: usize) -> i64
-    requires area { IsWithin (2 ^ 47) area }
-    requires step { IsWithin (2 ^ 23) step }
-    requires few { count < 128 }
-    ensures { result ≡ area +ℤ pos count *ℤ step }
-{
-    area + count as i64 * step
-}
-
-/// The areas of the last place of a run with each two of an arc's points, by those of the first place.
-fn last_areas(piece: &Piece, b: Point, run: Run, first: Weights) -> Weights
-    requires middle { piece.now.b ≡ Some b }
-    requires first { (first.u, first.v, first.w) ≡
-        areas_of (span_of piece.now) (place_on run.pair.is_up run.pair.here.col run.pair.here.row run.first) }
-    ensures { (result.u, result.v, result.w) ≡
-        areas_of (span_of piece.now) (place_on run.pair.is_up run.pair.here.col run.pair.here.row run.last) }
-{
-    let up = run.pair.is_up;
-    let count = run.last - run.first;
-    Weights {
-        u: stepped(first.u, area_step(b, piece.c, up), count),
-        v: stepped(first.v, area_step(piece.c, piece.a, up), count),
-        w: stepped(first.w, area_step(piece.a, b, up), count),
-    }
-}
-
-/// How many places in a row lie on the same side of a piece's chord as the first, which is not on the chord's line.
+/// How many places there are before a piece's chord, by its areas at the first one.
 fn places_to_chord(piece: &Piece, is_up: bool, at: Weights) -> usize
-    requires { at.v ≢ pos 0 }
-    ensures some { 0 < result }
-    ensures side { (j : ℕ) → j < result →
-        HaveOneSign at.v (at.v +ℤ pos j *ℤ step is_up (place_of piece.now.c) (place_of piece.now.a)) }
+    ensures { 0 < result }
 {
+    if at.v == 0 {
+        return 1;
+    }
     let step = area_step(piece.c, piece.a, is_up);
     if at.v > 0 {
         if step < 0 {
@@ -256,106 +238,115 @@ fn places_to_chord(piece: &Piece, is_up: bool, at: Weights) -> usize
     PLACES
 }
 
-/// How many of `most` places, each a step above the one before, lie below an end of a piece; all of them if the first does not.
-fn before_end(end: Point, p: Point, most: usize) -> usize
+/// How many of `most` places, from p on, come before a point; all of them if the first does not.
+fn places_to_point(point: Point, p: Point, is_up: bool, most: usize) -> usize
     requires some { 0 < most }
     ensures some { 0 < result }
     ensures few { result ≤ most }
-    ensures before { (end.y ≤ℤ p.y) ⊎ ((p.y +ℤ pos result) ≤ℤ end.y) }
 {
-    if end.y <= p.y {
-        return most;
+    let far = if is_up { point.y - p.y } else { point.x - p.x };
+    if far <= 0 {
+        most
+    } else {
+        most.min(far as usize)
     }
-    most.min((end.y - p.y) as usize)
 }
 
-/// How many places from the place n on lie on one side of a piece's chord and pass neither of its ends. The first is not on the
-/// chord's line.
-fn most_alike(piece: &Piece, pair: Pair, n: usize, at: Weights) -> usize
+/// How many places from the place n on come before the next of a piece's points.
+fn places_to_points(piece: &Piece, pair: Pair, n: usize) -> usize
     requires before { n < 128 }
-    requires first { (at.u, at.v, at.w) ≡ areas_of (span_of piece.now) (place_on pair.is_up pair.here.col pair.here.row n) }
-    requires off { at.v ≢ pos 0 }
     ensures some { 0 < result }
     ensures few { n + result ≤ 128 }
-    ensures clear { IsClear pair.is_up pair.here.col pair.here.row n (n + result - 1) (span_of piece.now) }
 {
-    let most = places_to_chord(piece, pair.is_up, at).min(PLACES - n);
-    if pair.is_up {
-        let p = pair.place(n);
-        return before_end(piece.c, p, before_end(piece.a, p, most));
+    let p = pair.place(n);
+    let most = places_to_point(piece.a, p, pair.is_up, PLACES - n);
+    let most = places_to_point(piece.c, p, pair.is_up, most);
+    match piece.b {
+        None => most,
+        Some(b) => places_to_point(b, p, pair.is_up, most),
     }
-    most
 }
 
-/// How many places from the place n on are alike for an arc. At most `most` are tried, which lie on one side of its chord and pass
-/// neither of its ends. The number is found by halving, and may be less than the greatest.
-fn arc_alike_from(
-    piece: &Piece,
-    b: Point,
-    pair: Pair,
-    n: usize,
-    most: usize,
-    at: Weights,
-    tally: &mut Tally,
-) -> usize
-    requires middle { piece.now.b ≡ Some b }
+/// What a piece adds to the winding number at p, or None if p is on it.
+fn turn_at(piece: &Piece, p: Point, tally: &mut Tally) -> Option<i32>
+    ensures part { IsPart (place_of p) (span_of piece.now) result }
+    ensures count { tally.new.count ≤ tally.old.count + 3 }
+{
+    if on_piece(piece, p.x, p.y, tally) {
+        return None;
+    }
+    let crossed = crossing(piece, p.x, p.y, tally);
+    Some(crossed + region(piece, p.x, p.y, tally))
+}
+
+/// Places at which a piece adds the same.
+#[derive(Clone, Copy)]
+pub(crate) struct Part {
+    pub count: usize,
+    pub turn: Option<i32>,
+}
+
+/// What a piece adds at the place n alone.
+fn part_alone(piece: &Piece, pair: Pair, n: usize, tally: &mut Tally) -> Part
+    requires before { n < 128 }
+    ensures one { result.count ≡ 1 }
+    ensures part { IsPartTo pair n (n + result.count) (span_of piece.now) result.turn }
+    ensures count { tally.new.count ≤ tally.old.count + 3 }
+{
+    Part {
+        count: 1,
+        turn: turn_at(piece, pair.place(n), tally),
+    }
+}
+
+/// What a piece adds at the place n, and at how many of `most` places from there on it is seen to add that.
+fn part_along(piece: &Piece, pair: Pair, n: usize, most: usize, tally: &mut Tally) -> Part
     requires some { 0 < most }
     requires few { n + most ≤ 128 }
-    requires first { (at.u, at.v, at.w) ≡ areas_of (span_of piece.now) (place_on pair.is_up pair.here.col pair.here.row n) }
-    requires clear { IsClear pair.is_up pair.here.col pair.here.row n (n + most - 1) (span_of piece.now) }
-    ensures some { 0 < result }
-    ensures few { n + result ≤ 128 }
-    ensures alike { IsAlikeTo pair.is_up pair.here.col pair.here.row n (n + result) (span_of piece.now) }
-    ensures count { tally.new.count ≤ tally.old.count + 24 }
+    ensures some { 0 < result.count }
+    ensures few { n + result.count ≤ 128 }
+    ensures part { IsPartTo pair n (n + result.count) (span_of piece.now) result.turn }
+    ensures count { tally.new.count ≤ tally.old.count + 31 }
 {
-    if !is_on_side(at) {
-        return most;
-    }
-    let mut count = most;
-    let mut alike = 1;
-    let mut end = most + 1;
-    // The first `alike` places are alike. The next try is `count` places, fewer than `end`.
+    let first = pair.place(n);
+    let at = areas_at(piece, first, tally);
+    let crossed = crossing(piece, first.x, first.y, tally);
+    let mut count = places_to_chord(piece, pair.is_up, at).min(most);
+    // The next try is `count` places.
     'halves: for _ in 0..8usize {
-        if count <= alike {
-            return alike;
+        if count <= 1 {
+            return part_alone(piece, pair, n, tally);
         }
         let run = Run {
             pair,
             first: n,
             last: n + count - 1,
         };
-        let last = last_areas(piece, b, run, at);
-        if is_arc_alike(piece, b, run, at, last, tally) {
-            alike = count;
-        } else {
-            end = count;
+        if let Some(turn) = turn_along(piece, run, at, crossed, tally) {
+            return Part {
+                count,
+                turn: Some(turn),
+            };
         }
-        count = (alike + end) / 2;
+        count /= 2;
     }
-    alike
+    part_alone(piece, pair, n, tally)
 }
 
-/// How many places from the place n on are alike for a piece. The number may be less than the greatest, but is at least 1.
-pub(crate) fn alike_from(
-    piece: &Piece,
-    pair: Pair,
-    n: usize,
-    at: Weights,
-    tally: &mut Tally,
-) -> usize
+/// What a piece adds at the place n, and at how many places from there on it is seen to add that.
+pub(crate) fn next_part(piece: &Piece, pair: Pair, n: usize, tally: &mut Tally) -> Part
     requires before { n < 128 }
-    requires first { (at.u, at.v, at.w) ≡ areas_of (span_of piece.now) (place_on pair.is_up pair.here.col pair.here.row n) }
-    ensures some { 0 < result }
-    ensures few { n + result ≤ 128 }
-    ensures alike { IsAlikeTo pair.is_up pair.here.col pair.here.row n (n + result) (span_of piece.now) }
-    ensures count { tally.new.count ≤ tally.old.count + 24 }
+    ensures some { 0 < result.count }
+    ensures few { n + result.count ≤ 128 }
+    ensures part { IsPartTo pair n (n + result.count) (span_of piece.now) result.turn }
+    ensures count { tally.new.count ≤ tally.old.count + 31 }
 {
-    if at.v == 0 {
-        return 1;
+    let most = places_to_points(piece, pair, n);
+    if let Some(turn) = turn_beside(piece, pair.place(n), pair.place(n + most - 1)) {
+        return Part {
+            count: most,
+            turn: Some(turn),
+        };
     }
-    let most = most_alike(piece, pair, n, at);
-    match piece.b {
-        None => most,
-        Some(b) => arc_alike_from(piece, b, pair, n, most, at, tally),
-    }
+    part_along(piece, pair, n, most, tally)
 }

@@ -1,7 +1,6 @@
-use Rattle.std.proofs.Common.{◌≡◌, ◌↔◌, ◌+◌, ℕ, ℤ, pos, IsTrue, get_or, subst, arith, w32, to_z, of_z}
+use Rattle.std.proofs.Common.{◌≡◌, ◌≢◌, ◌↔◌, ◌+◌, ℕ, pos, IsTrue, get_or, subst, arith, w32, to_z, of_z}
 use Rattle.fx_fixed.proofs.Linear.{signed_linear}
 use Rattle.fx_dropout.specs.Dropout.{IsCount}
-use Rattle.fx_dropout.specs.inner.Runs.{IsCoveredBy}
 use Rattle.fx_dropout.proofs.Counts.{count_none, count_from, few_from}
 use Rattle.fx_dropout.proofs.nearer.count_covered.Goals as goal
 
@@ -11,21 +10,18 @@ places-init c = record { counted = count_none _; few = omega arith }
 pub places-preserved : goal.places-preserved
 places-preserved c =
     let inv = c.places.invariant in
-    let base = to_z w32 (of_z w32 c.args.base) in
     let place = get_or c.args.places.now (c.places.n + c.args.from) (pos 0) in
     let small = c.requires.small (c.places.n + c.args.from) (omega arith) in
     let e : to_z w32 (of_z w32 place) ≡ place = omega (arith, signed_linear, small) in
     record {
-      counted = count_from (λ n. IsCoveredBy base (get_or c.args.places.now (n + c.args.from) (pos 0))) c.places.n c.places.count
+      counted = count_from (λ n. get_or c.args.places.now (n + c.args.from) (pos 0) ≢ pos 0) c.places.n c.places.count
           c.from-count.result c.is_covered.result
-          (subst (λ z. IsTrue c.is_covered.result ↔ IsCoveredBy base z) e c.is_covered.ensures) c.from-count.ensures inv.counted;
+          (subst (λ z. IsTrue c.is_covered.result ↔ (z ≢ pos 0)) e c.is_covered.ensures) c.from-count.ensures inv.counted;
       few = few_from c.places.count c.places.n c.from-count.result c.is_covered.result c.from-count.ensures inv.few;
     }
 
 pub returns : goal.returns
 returns c =
-    let size = c.requires.size in
-    let e : to_z w32 (of_z w32 c.args.base) ≡ c.args.base = omega (arith, signed_linear, size) in
     let all : c.places.n ≡ 63 = omega arith in
-    subst (λ (z : ℤ × ℕ). IsCount (λ n. IsCoveredBy z.0 (get_or c.args.places.now (n + c.args.from) (pos 0))) z.1 c.places.count)
-    (λ i. (e i, all i)) c.places.invariant.counted
+    subst (λ (m : ℕ). IsCount (λ n. get_or c.args.places.now (n + c.args.from) (pos 0) ≢ pos 0) m c.places.count) all
+    c.places.invariant.counted

@@ -1,48 +1,41 @@
-use Rattle.std.proofs.Common.{◌↔◌, ◌+◌, ◌<◌, ℕ, ℤ, pos, subst, map, List, get_or, ◌≡◌, arith, w32, to_z, of_z}
+use Rattle.std.proofs.Common.{◌≢◌, ◌↔◌, ◌+◌, ◌<◌, ℕ, pos, subst, map, List, get_or, arith}
 use Rattle.std.proofs.lemmas.Bool.{lt-ltb, ltb-true}
 use Rattle.std.proofs.lemmas.List.{get_or-replicate}
-use Rattle.fx_fixed.proofs.Linear.{signed_linear}
 use Rattle.fx_winding.specs.declared.point.Piece.{Piece}
 use Rattle.fx_winding.specs.Winding.{span_of, IsCovered}
-use Rattle.fx_dropout.specs.Dropout.{IsCount, place_on}
-use Rattle.fx_dropout.specs.inner.Runs.{IsCoveredBy, IsSummed}
+use Rattle.fx_dropout.specs.Dropout.{place_on}
+use Rattle.fx_dropout.specs.inner.Runs.{IsSummed}
 use Rattle.fx_dropout.proofs.Counts.{count_iff, count_is_one}
 use Rattle.fx_dropout.proofs.Sums.{covered_by, summed_small}
 use Rattle.fx_dropout.proofs.nearer.is_next_nearer.Goals as goal
 
-pub add_pieces-base-requires-clause-none : goal.add_pieces-base-requires-clause-none
-add_pieces-base-requires-clause-none c = λ n l. get_or-replicate 128 n (pos 0) (pos 0) l
+pub add_pieces-requires-clause-none : goal.add_pieces-requires-clause-none
+add_pieces-requires-clause-none c = λ n l. get_or-replicate 128 n (pos 0) (pos 0) l
 
 pub count_covered-here-requires-clause-small : goal.count_covered-here-requires-clause-small
 count_covered-here-requires-clause-small c = λ n l.
-    summed_small _ _ _ 131072 (get_or c.add_pieces-base.new.places n (pos 0)) (omega arith) (c.add_pieces-base.ensures.summed n l)
+    summed_small _ _ 131072 (get_or c.add_pieces.new.places n (pos 0)) (omega arith) (c.add_pieces.ensures.summed n l)
 
 pub count_covered-next-requires-clause-small : goal.count_covered-next-requires-clause-small
 count_covered-next-requires-clause-small c = λ n l.
-    summed_small _ _ _ 131072 (get_or c.add_pieces-base.new.places n (pos 0)) (omega arith) (c.add_pieces-base.ensures.summed n l)
+    summed_small _ _ 131072 (get_or c.add_pieces.new.places n (pos 0)) (omega arith) (c.add_pieces.ensures.summed n l)
 
 pub returns-clause-value : goal.returns-clause-value
 returns-clause-value c =
     let ss = map span_of c.args.pieces.now in
     let p = c.args.pair in
-    let base = c.add_pieces-base.result in
-    let places = c.add_pieces-base.new.places in
+    let places = c.add_pieces.new.places in
     let At : ℕ → ℕ → Type 0 = λ from n. IsCovered (place_on p.is_up p.here.col p.here.row (n + from)) ss in
-    let By : ℕ → ℕ → Type 0 = λ from n. IsCoveredBy base (get_or places (n + from) (pos 0)) in
-    let size = c.add_pieces-base.ensures.size in
+    let By : ℕ → ℕ → Type 0 = λ from n. get_or places (n + from) (pos 0) ≢ pos 0 in
     let here = c.count_covered-here in
     let next = c.count_covered-next in
     let each : (from : ℕ) → from < 66 → (n : ℕ) → n < 63 → By from n ↔ At from n =
-    λ from l n m. covered_by (place_on p.is_up p.here.col p.here.row (n + from)) ss base (get_or places (n + from) (pos 0)) size
-    (subst (λ (ps : List Piece). IsSummed (place_on p.is_up p.here.col p.here.row (n + from)) (map span_of ps) base 131072
+    λ from l n m. covered_by (place_on p.is_up p.here.col p.here.row (n + from)) ss (get_or places (n + from) (pos 0))
+    (subst (λ (ps : List Piece). IsSummed (place_on p.is_up p.here.col p.here.row (n + from)) (map span_of ps) 131072
     (get_or places (n + from) (pos 0))) c.as_slice.ensures.value
-    (c.add_pieces-base.ensures.summed (n + from) (omega (arith, l, m)))) in
-    let e : to_z w32 (of_z w32 base) ≡ base = omega (arith, signed_linear, size) in
-    let counted : (from m : ℕ) → IsCount (λ n. IsCoveredBy (to_z w32 (of_z w32 base)) (get_or places (n + from) (pos 0))) 63 m →
-    IsCount (By from) 63 m =
-    λ from m h. subst (λ (b : ℤ). IsCount (λ n. IsCoveredBy b (get_or places (n + from) (pos 0))) 63 m) e h in
-    let h = count_iff (By 1) (At 1) 63 here.result (each 1 (omega arith)) (counted 1 here.result here.ensures) in
-    let k = count_iff (By 65) (At 65) 63 next.result (each 65 (omega arith)) (counted 65 next.result next.ensures) in (
+    (c.add_pieces.ensures.summed (n + from) (omega (arith, l, m)))) in
+    let h = count_iff (By 1) (At 1) 63 here.result (each 1 (omega arith)) here.ensures in
+    let k = count_iff (By 65) (At 65) 63 next.result (each 65 (omega arith)) next.ensures in (
       λ t. record {
         here = here.result;
         next = next.result;

@@ -17,7 +17,7 @@ back c =
     (same c) c.into_words-words.result.ok.0
 
 given : (c : goal.After-words-2-1)
-    → IsGiven (IsNextIn c.args.closing (map span_of c.args.pieces.now) c.frame-frame.result) c.frame-frame.result
+    → IsGiven c.args.closing c.frame-frame.result
     (map span_of c.args.pieces.now) c.args.notes.now.across.items c.args.notes.now.up.items c.into_words-words.result.items
     c.close_words.new.words
 given c =
@@ -33,7 +33,7 @@ pub from_words-requires : goal.from_words-requires
 from_words-requires c =
     let f = c.frame-frame.result in
     let ss = map span_of c.args.pieces.now in
-    subst (AreWords f.height f.width) (sym (back c)) (closed_words (IsNextIn c.args.closing ss f) f ss
+    subst (AreWords f.height f.width) (sym (back c)) (closed_words c.args.closing f ss
     c.args.notes.now.across.items
     c.args.notes.now.up.items c.into_words-words.result.items c.close_words.new.words (given c) (same c))
 

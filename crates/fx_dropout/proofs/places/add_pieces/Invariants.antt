@@ -1,5 +1,4 @@
 use Rattle.std.proofs.Common.{◌≡◌, ◌+◌, ◌*◌, ◌≤◌, ◌<◌, ℕ, pos, length, get_or, map, take}
-use Rattle.fx_fixed.specs.Ranges.{IsWithin}
 use Rattle.fx_winding.specs.Winding.{span_of}
 use Rattle.fx_dropout.specs.Dropout.{place_on}
 use Rattle.fx_dropout.specs.inner.Runs.{IsSummed}
@@ -7,9 +6,8 @@ use Rattle.fx_dropout.proofs.places.add_pieces.Given as goal
 
 abbrev pub invariant-pieces : goal.invariant-pieces
 invariant-pieces l = record {
-  size : IsWithin (2 * l.piece-index) l.base;
   length : length l.places ≡ 128;
   summed : (n : ℕ) → n < 128 → IsSummed (place_on l.pair.is_up l.pair.here.col l.pair.here.row n)
-      (take l.piece-index (map span_of l.pieces)) l.base (2 * l.piece-index) (get_or l.places n (pos 0));
+      (take l.piece-index (map span_of l.pieces)) (2 * l.piece-index) (get_or l.places n (pos 0));
   tests : l.tally.count ≤ l.fn.tally.count + 31 * 128 * l.piece-index;
 }

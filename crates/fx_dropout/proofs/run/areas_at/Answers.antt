@@ -6,7 +6,7 @@ use Rattle.fx_winding.specs.declared.point.Point.{Point}
 use Rattle.fx_winding.specs.Winding.{place_of, maybe_place_of, span_of, areas_of, areas_of_part}
 use Rattle.fx_winding.proofs.Sizes.{product_within}
 use Rattle.fx_winding.proofs.Swept.{moved}
-use Rattle.fx_dropout.proofs.Alike.{area_word, area_wider, coordinate_word}
+use Rattle.fx_dropout.proofs.Runs.{area_word, area_wider, coordinate_word}
 use Rattle.fx_dropout.proofs.run.areas_at.Goals as goal
 
 area_small : (p q r : Point) → IsWithin 140737488355328 (area_of p.x p.y q.x q.y r.x r.y)

@@ -8,7 +8,7 @@ use Rattle.fx_winding.specs.Area.{Place}
 use Rattle.fx_winding.specs.Winding.{place_of, maybe_place_of, span_of}
 use Rattle.fx_dropout.specs.Dropout.{place_on}
 use Rattle.fx_dropout.specs.inner.Runs.{gap_at}
-use Rattle.fx_dropout.proofs.Alike.{below_along, below_back}
+use Rattle.fx_dropout.proofs.Runs.{below_along, below_back}
 use Rattle.fx_dropout.proofs.run.stays_below.Goals as goal
 
 le_read : (x y : ℤ) → IsWithin (2 ^ 97) x → IsWithin (2 ^ 97) y

@@ -1,4 +1,4 @@
-use Rattle.std.proofs.Common.{◌≡◌, ◌↔◌, subst, ℕ, ◌-◌, ◌/◌, ◌%◌, ℤ, pos, ◌+ℤ◌, get_or, arith, w32, to_z, of_z, ◌+◌, ◌*◌, length}
+use Rattle.std.proofs.Common.{◌≡◌, ◌↔◌, subst, ℕ, ◌-◌, ◌/◌, ◌%◌, ℤ, pos, ◌+ℤ◌, get_or, arith, w32, to_z, of_z, ◌*◌, length}
 use Rattle.std.specs.Int.{bit_at}
 use Rattle.fx_winding.proofs.Grid.{word_zero}
 use Rattle.fx_winding.proofs.Scanned.{row_set_more}

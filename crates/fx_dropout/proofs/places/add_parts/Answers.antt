@@ -1,0 +1,40 @@
+use Rattle.std.proofs.Common.{inl, inr, sym, ◌∙◌, ap, subst, ◌+◌, ◌≤◌, ◌<◌, ℕ, pos, get_or, arith}
+use Rattle.fx_fixed.proofs.Order.{below_or_not}
+use Rattle.fx_winding.specs.Area.{Place}
+use Rattle.fx_winding.specs.Winding.{span_of}
+use Rattle.fx_dropout.specs.Dropout.{place_on}
+use Rattle.fx_dropout.specs.inner.Runs.{sum_of, IsJoined}
+use Rattle.fx_dropout.proofs.places.add_parts.Goals as goal
+
+pub parts-preserved : goal.parts-preserved
+parts-preserved c =
+    let s = span_of c.args.piece.now in
+    let a = c.args.pair in
+    let P : ℕ → Place = λ k. place_on a.is_up a.here.col a.here.row k in
+    let n = c.parts.n in
+    let part = c.next_part-part in
+    let count = part.result.count in
+    let old = c.args.places.now in
+    let new = c.add_run.new.places in
+    let inv = c.parts.invariant in
+    let some = part.ensures.some in
+    let tests = inv.tests in
+    let more = part.ensures.count in
+    let early : (k : ℕ) → k < n → IsJoined (P k) s (get_or old k (pos 0)) (get_or new k (pos 0)) =
+    λ k l. subst (λ v. IsJoined (P k) s (get_or old k (pos 0)) v) (sym (c.add_run.ensures.others k (inl l))) (inv.joined k l) in
+    let late : (k : ℕ) → n ≤ k → k < n + count → IsJoined (P k) s (get_or old k (pos 0)) (get_or new k (pos 0)) =
+    λ k low high. record {
+      part = part.result.turn;
+      is = part.ensures.part k low high;
+      sum = c.add_run.ensures.run k low high ∙ ap (λ v. sum_of v part.result.turn) (inv.others k low);
+    } in
+    record {
+      few = part.ensures.few;
+      length = c.add_run.ensures.length ∙ inv.length;
+      joined = λ k l. elim (below_or_not k n) [
+        | inl h ↦ early k h
+        | inr h ↦ late k h l
+      ];
+      others = λ k l. c.add_run.ensures.others k (inr l) ∙ inv.others k (omega (arith, l));
+      tests = omega (arith, tests, more, some);
+    }
