@@ -3,7 +3,7 @@
 use Rattle.std.proofs.Common.{◌≡◌, refl, sym, ap, ◌∙◌, ℕ, List, Bool, true, Option, Some, None, Result, Ok, Err}
 use Rattle.std.specs.Prelude.{option_map}
 use Rattle.fx_fixed.specs.Chain.{◌>>=◌, map_ok, map_fault}
-use Rattle.fx_sfnt.specs.Collections.{FontFileView}
+use Rattle.fx_fixed.proofs.Chain.{ok_injective}
 use Rattle.fx_sfnt.specs.Tables.{Face}
 use Rattle.fx_machine.specs.declared.halt.MachineFault.{MachineFault}
 use Rattle.fx_machine.specs.Known.{Known, MachineView, machine_of, font_ran, prepared_from}
@@ -11,24 +11,18 @@ use Rattle.fx_machine.specs.Blocks.{IsBlockOf}
 use Rattle.fx_machine.specs.declared.state.State.{State}
 use Rattle.fx_machine.specs.declared.usage.Usage.{Usage}
 use Rattle.fx_request.specs.Faults.{of_machine}
-use Rattle.fx_request.specs.declared.request.Mode.{Mode}
-use Rattle.fx_request.specs.declared.refusal.Refusal.{Refusal}
-use Rattle.fx_strike.specs.declared.basis.Basis.{Basis}
-use Rattle.fx_strike.specs.declared.opened.Opened.{Opened}
-use Rattle.fx_strike.specs.Strike.{basis_of, Setting, machine_for, opened_at, opened_many_of, setting_for, setting_in, setting_of}
-use Rattle.fx_strike.specs.Strike.{setting_with}
+use Rattle.fx_strike.specs.declared.opened.Basis.{Basis}
+use Rattle.fx_strike.specs.Strike.{basis_of, Setting, machine_for, opened_many_of, setting_for, setting_in, setting_with}
+use Rattle.fx_strike.specs.Strike.{FontFileView, Mode, Refusal, Opened}
 use Rattle.fx_strike.specs.Blocks.{IsBlockFor}
 
 -- ---- the machine
-
-same_known : (a b : Known) → ◌≡◌ {A = Result Known MachineFault} (Ok a) (Ok b) → a ≡ b
-same_known a b e = cc
 
 ran_is : (face : Face) (ppem : ℕ) (ran : Result (Usage × State) MachineFault) (known : Known)
     → (ran >>= λ r. Ok (record { face = face; ppem = ppem; prepared = prepared_from r.1; prelude = r.0 })) ≡ Ok known
     → (known.face ≡ face) × (known.ppem ≡ ppem)
 ran_is face ppem (Ok r) known e =
-    let same = same_known (record { face = face; ppem = ppem; prepared = prepared_from r.1; prelude = r.0 }) known e in
+    let same = ok_injective (record { face = face; ppem = ppem; prepared = prepared_from r.1; prelude = r.0 }) known e in
     (sym (ap (λ k. k.face) same), sym (ap (λ k. k.ppem) same))
 ran_is face ppem (Err f) known e = cc
 
@@ -38,9 +32,6 @@ machine_is_of : (face : Face) (ppem : ℕ) (known : Known) → machine_of face p
 unfolding machine_of
 machine_is_of face ppem known e = ran_is face ppem (font_ran face ppem) known e
 
-same_machine : {x y : Option Known} → ◌≡◌ {A = Result (Option Known) Refusal} (Ok x) (Ok y) → x ≡ y
-same_machine e = cc
-
 record IsRun (x : Result Known MachineFault) (machine : Option Known) : Type 0 where
   known : Known
   run : x ≡ Ok known
@@ -48,7 +39,7 @@ record IsRun (x : Result Known MachineFault) (machine : Option Known) : Type 0 w
 
 run_is : (x : Result Known MachineFault) (machine : Option Known) → map_ok Some (map_fault of_machine x) ≡ Ok machine
     → IsRun x machine
-run_is (Ok k) machine e = record { known = k; run = refl; machine_is = sym (same_machine e) }
+run_is (Ok k) machine e = record { known = k; run = refl; machine_is = sym (ok_injective _ _ e) }
 run_is (Err f) machine e = cc
 
 is_taken : (made : Option MachineView) (known : Known) → option_map (λ m. m.known) made ≡ Some known
@@ -85,18 +76,7 @@ known_is face ppem block machine e b =
       of_known = rw r.machine_is at b;
     }
 
-pub on_none : (machine : Option Known) (made : Option MachineView) → made ≡ None
-    → option_map (λ m. Some m.known) made ≡ Some machine → None ≡ Some machine
-on_none machine made n h = rw n at h
-
-pub on_some : (machine : Option Known) (made : Option MachineView) (m : MachineView) → made ≡ Some m
-    → option_map (λ m. Some m.known) made ≡ Some machine → Some (Some m.known) ≡ Some machine
-on_some machine made m s h = rw s at h
-
 -- ---- the setting
-
-same_setting : {x y : Setting} → ◌≡◌ {A = Result Setting Refusal} (Ok x) (Ok y) → x ≡ y
-same_setting e = cc
 
 pub record IsSet (t : Basis) (x : Result (Option Known) Refusal) (s : Setting) : Type 0 where
   pub machine : x ≡ Ok s.machine
@@ -106,7 +86,7 @@ parts : (t : Basis) (x : Result (Option Known) Refusal) (s : Setting)
     → (x >>= λ m. Ok (setting_with t m)) ≡ Ok s
     → IsSet t x s
 parts t (Ok m) s e =
-    let k : setting_with t m ≡ s = same_setting e in
+    let k : setting_with t m ≡ s = ok_injective _ _ e in
     let j : m ≡ s.machine = ap (λ t. t.machine) k in
     record { machine = ap Ok j; setting = ap (setting_with t) (sym j) ∙ k }
 parts t (Err d) s e = cc
@@ -117,24 +97,7 @@ unfolding setting_in
 setting_parts o mode s e = parts (basis_of o mode) (machine_for o.font o.ppem mode.hinting) s e
 
 -- the setting of a font file is that of the opened font
-pub of_opened : (file : FontFileView) (ppem : ℕ) (mode : Mode) (o : Opened) (s : Setting) → Ok o ≡ opened_at file ppem
-    → setting_of file ppem mode ≡ Ok s → setting_in o mode ≡ Ok s
-unfolding setting_of
-of_opened file ppem mode o s h e = rw (sym h) at e
-
 pub for_opened : (file : FontFileView) (ppem : ℕ) (chars : List ℕ) (mode : Mode) (o : Opened) (s : Setting)
     → Ok o ≡ opened_many_of file ppem chars → setting_for file ppem chars mode ≡ Ok s → setting_in o mode ≡ Ok s
 unfolding setting_for
 for_opened file ppem chars mode o s h e = rw (sym h) at e
-
-pub set_as : (t : Basis) (hinter : Option Known) (s : Setting) → hinter ≡ s.machine
-    → setting_with t s.machine ≡ s → setting_with t hinter ≡ s
-set_as t hinter s h e = rw h e
-
--- ---- what was made
-
-pub not_none : (made : Option (Option Known)) (m : Option Known) → made ≡ None → made ≡ Some m → ⊥
-not_none made m n s = let e : None ≡ Some m = sym n ∙ s in cc
-
-pub same_hinter : (made : Option (Option Known)) (m h : Option Known) → made ≡ Some h → made ≡ Some m → h ≡ m
-same_hinter made m h i j = let e : Some h ≡ Some m = sym i ∙ j in cc

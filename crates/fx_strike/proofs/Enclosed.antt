@@ -1,6 +1,6 @@
 -- A glyph whose shape lies in a box leaves that box as it is.
--- Serves `bounds_with` and `see_one`.
-use Rattle.std.proofs.Common.{◌≡◌, refl, sym, ap, ap₂, ◌∙◌, subst, inl, inr, ℕ, ◌<◌, ℤ, pos, ◌+ℤ◌, ◌≤ℤ◌, ◌<ℤ◌, Bool, true}
+-- Serves `bounds_with` and `see_drawn`.
+use Rattle.std.proofs.Common.{◌≡◌, refl, sym, ap, ◌∙◌, subst, inl, inr, ℕ, ◌<◌, ℤ, pos, ◌+ℤ◌, ◌≤ℤ◌, ◌<ℤ◌, Bool, true}
 use Rattle.std.proofs.Common.{false, ◌||◌, Ok, arith}
 use Rattle.std.specs.Prelude.{IsTrue, ◌==◌, if◌then◌else◌}
 use Rattle.std.specs.Int.{int_min, int_max}
@@ -8,18 +8,13 @@ use Rattle.std.proofs.lemmas.Bool.{eqb-true}
 use Rattle.std.proofs.lemmas.Int.{int_min_is, int_max_is}
 use Rattle.fx_fixed.proofs.Linear.{signed_linear}
 use Rattle.fx_winding.specs.Frames.{steps}
-use Rattle.fx_raster.specs.Rules.{ShapeView, IsInRegion, IsPixelSet}
-use Rattle.fx_bdf.specs.Glyphs.{Box, Glyph, HasSides, IsTight, IsPlaced, is_in_box, is_empty, around, joined, last_of}
+use Rattle.fx_raster.specs.Rules.{IsInRegion, IsPixelSet}
+use Rattle.fx_bdf.specs.Glyphs.{Box, HasSides, IsTight, IsPlaced, is_in_box, is_empty, around, joined, last_of}
 use Rattle.fx_bdf.specs.Glyphs.{glyph_bit}
 use Rattle.fx_bdf.proofs.Boxes.{steps_above, parts_of_place, lies_in_box}
-use Rattle.fx_strike.specs.declared.sketched.Sketched.{Sketched}
-use Rattle.fx_strike.specs.declared.seen.Seen.{Seen}
-use Rattle.fx_strike.specs.Strike.{Sketch, IsGlyphOf}
-use Rattle.fx_machine.specs.Usages.{usage_with}
-use Rattle.fx_strike.specs.inner.Drawing.{IsSketchedOf}
-use Rattle.fx_strike.specs.inner.Gathering.{gathered_with}
-use Rattle.fx_strike.specs.inner.Surveying.{Adds, Joins, Has, region_of}
-use Rattle.fx_strike.proofs.Existing.{glyph_of_shape}
+use Rattle.fx_strike.specs.Strike.{Sketch}
+use Rattle.fx_strike.specs.inner.Drawing.{CanBeDrawn}
+use Rattle.fx_strike.specs.inner.Surveying.{Adds, Joins, Has, region_of, Seen}
 
 -- ---- a box that holds the bits of another
 
@@ -90,36 +85,18 @@ joined_kept big box bit t h = elim t.sides [
 -- ---- a shape in a box
 
 -- a glyph whose shape lies in a box leaves the box as it is
-pub skipped : (sketch : Sketch) (made : Sketched) (box : Box)
-    → ((col row : ℤ) → IsPixelSet made.shape.rule made.shape.spans col row → IsInRegion (region_of box) col row)
-    → IsPlaced box → IsSketchedOf sketch made → Joins sketch box (Ok box)
-skipped sketch made box inside placed is =
-    let g = glyph_of_shape sketch is.outlined in
-    let P : ShapeView → Type 0 = λ s. (col row : ℤ) → IsPixelSet s.rule s.spans col row → IsInRegion (region_of box) col row in
-    let within = subst P is.shape inside in
-    let bits : (col row : ℤ) → IsTrue (glyph_bit g.0 col row) → IsTrue (is_in_box box col row) =
-    λ col row t. let r = within col row ((g.1.bits col row).0 t) in lies_in_box box col row r.0 r.1 in
-    (g.0, g.1, sym (joined_kept box g.0.box (glyph_bit g.0) g.1.tight bits), placed)
-
--- ---- the steps of the first pass
-
--- the box of a glyph that was made
-pub joins_made : (sketch : Sketch) (box new : Box) (g : Glyph) → IsGlyphOf sketch g → new ≡ joined box g.box → IsPlaced new
-    → Joins sketch box (Ok new)
-joins_made sketch box new g is e placed = (g, is, e, placed)
+pub skipped : (sketch : Sketch) (box : Box)
+    → ((col row : ℤ) → IsPixelSet sketch.shape.rule sketch.shape.spans col row → IsInRegion (region_of box) col row)
+    → IsPlaced box → CanBeDrawn sketch → Joins sketch box (Ok box)
+skipped sketch box inside placed h =
+    let bits : (col row : ℤ) → IsTrue (glyph_bit h.glyph col row) → IsTrue (is_in_box box col row) =
+    λ col row t. let r = inside col row ((h.is.bits col row).0 t) in lies_in_box box col row r.0 r.1 in
+    (h.glyph, h.is, sym (joined_kept box h.glyph.box (glyph_bit h.glyph) h.is.tight bits), placed)
 
 -- a character was added
-pub has_added : (sketch : Sketch) (made : Sketched) (old new : Seen) (code : ℕ) (box : Box) → IsSketchedOf sketch made
-    → sketch.code ≡ code → Joins sketch old.bounds (Ok box) → Adds old new code box made → Has sketch old new
-has_added sketch made old new code box is e j a =
+pub has_added : (sketch : Sketch) (old new : Seen) (box : Box) → Joins sketch old.bounds (Ok box) → Adds sketch box old new
+    → Has sketch old new
+has_added sketch old new box j a =
     let P : Box → Type 0 = λ b. IsPlaced b in
-    record {
-      glyph = j.0;
-      drawn = j.1;
-      bounds = a.bounds_is ∙ j.2;
-      placed = subst P (sym a.bounds_is) j.3;
-      gathered = a.gathered ∙ ap₂ (gathered_with old.gathered) (sym e) is.dwidth;
-      narrow = a.narrow;
-      glyphs = a.glyphs;
-      usage = a.usage ∙ ap (usage_with old.usage) is.usage;
-    }
+    let Q : Box → Type 0 = λ b. Adds sketch b old new in
+    record { glyph = j.0; drawn = j.1; placed = subst P (sym a.bounds_are) j.3; adds = subst Q j.2 a }

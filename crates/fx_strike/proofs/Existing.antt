@@ -1,6 +1,6 @@
 -- Where a plan is due there are glyphs of its sketches.
--- Serves the law that a strike exists, and `bounds_with`.
-use Rattle.std.proofs.Common.{◌≡◌, sym, ◌∙◌, ℕ, ℤ, pos, negsuc, ◌+ℤ◌, ◌<ℤ◌, Bool, not, List, [], ◌∷◌, ◌++◌, Ok, arith}
+-- Serves the law that a strike exists, `see_one` and `write_one`.
+use Rattle.std.proofs.Common.{◌≡◌, ℕ, ◌≤◌, ℤ, pos, negsuc, ◌+ℤ◌, ◌<ℤ◌, Bool, not, List, [], ◌∷◌, ◌++◌, Ok, arith}
 use Rattle.std.specs.Prelude.{filter}
 use Rattle.std.specs.List.{flat_map}
 use Rattle.std.proofs.lemmas.Int.{ints}
@@ -9,14 +9,13 @@ use Rattle.fx_cmap.specs.Lookup.{glyph_for}
 use Rattle.fx_raster.specs.Rules.{ShapeView}
 use Rattle.fx_raster.specs.Laws.{IsOfOutline, IsPicture}
 use Rattle.fx_raster.proofs.Existing.{picture_exists}
-use Rattle.fx_bdf.specs.Glyphs.{Glyph, glyph_bit}
-use Rattle.fx_request.specs.Characters.{rising}
-use Rattle.fx_request.specs.declared.request.OnRefused.{OnRefused}
 use Rattle.fx_strike.specs.Strike.{Sketch, Setting, IsGlyphOf, AreGlyphsOf, rule_in, sketch_from, glyph_sketch_of, is_missing}
-use Rattle.fx_strike.specs.Strike.{Fate, drawn, unhinted, left_out, sketches_in, machineless, glyph_fate_of, fate_of}
+use Rattle.fx_strike.specs.Strike.{Fate, sketches_in, machineless, glyph_fate_of, fate_of, Glyph, rising, max_code, OnRefused}
+use Rattle.fx_strike.specs.declared.fate.Fate.TheVariants.{Drawn, Unhinted, LeftOut}
+use Rattle.fx_strike.specs.inner.Drawing.{CanBeDrawn}
 use Rattle.fx_strike.specs.Laws.{StrikeExists}
-use Rattle.fx_strike.proofs.Sketching.{tight_along}
-use Rattle.fx_strike.proofs.OnePart.{chain_parts, has_sketch, parts_of, sketch_made}
+use Rattle.fx_strike.proofs.Sketching.{glyph_whole}
+use Rattle.fx_strike.proofs.OnePart.{chain_parts, has_sketch, parts_of, sketch_code, sketch_made}
 use Rattle.fx_strike.proofs.Trimming.{AreSmall, trimmed}
 
 -- the bits of a picture lie near
@@ -33,25 +32,11 @@ are_small shape bit p =
     }
 
 -- a sketch has a glyph
-pub glyph_of_shape : (s : Sketch) → IsOfOutline s.shape → (g : Glyph) × IsGlyphOf s g
+glyph_of_shape : (s : Sketch) → IsOfOutline s.shape → (g : Glyph) × IsGlyphOf s g
 glyph_of_shape s outlined =
     let p = picture_exists s.shape outlined in
     let t = trimmed p.0 (negsuc 32767) 65536 s.code s.swidth s.dwidth (are_small s.shape p.0 p.1) in
-    let bits : (col row : ℤ) → glyph_bit t.0 col row ≡ p.0 col row = t.1.bits in (
-      t.0,
-      record {
-        code = t.1.code_is;
-        swidth = t.1.swidth_is;
-        dwidth = t.1.dwidth_is;
-        bits = λ col row. (
-          λ h. (p.1.bits col row).0 (sym (bits col row) ∙ h),
-          λ h. bits col row ∙
-              (p.1.bits col row).1 h,
-        );
-        tight = tight_along t.0.box p.0 (glyph_bit t.0) (λ col row. sym (bits col row)) t.1.tight;
-        formed = t.1.formed;
-      },
-    )
+    (t.0, glyph_whole s p.0 t.0 p.1.bits t.1)
 
 -- the glyphs of sketches, and of more
 pub glyphs_append : (ss ts : List Sketch) (gs hs : List Glyph) → AreGlyphsOf ss gs → AreGlyphsOf ts hs
@@ -69,15 +54,21 @@ glyph_of_sketch setting code glyph s h =
     rw x.is (glyph_of_shape (sketch_from setting code x.drawing x.shape x.metrics)
     (rule_in setting x.drawing.wish, x.drawing.ends, x.drawing.points, x.shaped))
 
+pub drawable : (setting : Setting) (code glyph : ℕ) (s : Sketch) → glyph_sketch_of setting code glyph ≡ Ok s → code ≤ max_code
+    → CanBeDrawn s
+drawable setting code glyph s h low =
+    let g = glyph_of_sketch setting code glyph s h in
+    record { code = omega (arith, sketch_code setting code glyph s h, low); glyph = g.0; is = g.1 }
+
 -- a sketch that is due with hinting or without has a glyph
 glyphs_of_fate : (setting : Setting) (refused : OnRefused) (code glyph : ℕ) (f : Fate)
     → glyph_fate_of setting refused code glyph ≡ Ok f → (gs : List Glyph) × AreGlyphsOf (sketches_in f) gs
-glyphs_of_fate setting refused code glyph (drawn s) h =
-    let g = glyph_of_sketch setting code glyph s (has_sketch setting refused code glyph (drawn s) h) in (g.0 ∷ [], (g.1, tt))
-glyphs_of_fate setting refused code glyph (unhinted notice s) h =
-    let g = glyph_of_sketch (machineless setting) code glyph s (has_sketch setting refused code glyph (unhinted notice s) h) in
+glyphs_of_fate setting refused code glyph (Drawn s) h =
+    let g = glyph_of_sketch setting code glyph s (has_sketch setting refused code glyph (Drawn s) h) in (g.0 ∷ [], (g.1, tt))
+glyphs_of_fate setting refused code glyph (Unhinted notice s) h =
+    let g = glyph_of_sketch (machineless setting) code glyph s (has_sketch setting refused code glyph (Unhinted notice s) h) in
     (g.0 ∷ [], (g.1, tt))
-glyphs_of_fate setting refused code glyph (left_out notice) h = ([], tt)
+glyphs_of_fate setting refused code glyph (LeftOut notice) h = ([], tt)
 
 glyphs_of_fates : (setting : Setting) (refused : OnRefused) (codes : List ℕ) (fs : List Fate)
     → map_chain (fate_of setting refused) codes ≡ Ok fs → (gs : List Glyph) × AreGlyphsOf (flat_map sketches_in fs) gs

@@ -7,44 +7,25 @@ use Rattle.std.proofs.lemmas.Bool.Decides.{nat_tests}
 use Rattle.std.specs.List.{list_all, list_any}
 use Rattle.std.specs.Int.{w128}
 use Rattle.std.specs.Ordering.{int_eq}
+use Rattle.std.proofs.Math.Bool.{and-true, or-false}
 use Rattle.std.proofs.lemmas.List.{map-append}
+use Rattle.std.proofs.lemmas.List.Folds.{list_all-append, list_any-append}
 use Rattle.std.proofs.lemmas.List.Sums.{sum_by_push}
 use Rattle.std.proofs.lemmas.Int.{ints}
 use Rattle.std.proofs.lemmas.Nat.{div_below}
 use Rattle.fx_fixed.specs.Numbers.{near_of, near_size}
-use Rattle.fx_bdf.specs.Glyphs.{Glyph}
 use Rattle.fx_bdf.specs.X11.{are_one, mean_of, summary_of}
 use Rattle.fx_strike.specs.declared.gathered.Gathered.{Gathered}
-use Rattle.fx_strike.specs.Strike.{Sketch, AreGlyphsOf}
+use Rattle.fx_strike.specs.Strike.{Sketch, AreGlyphsOf, Glyph}
 use Rattle.fx_strike.specs.inner.Gathering.{IsGatheredOf, agrees, gathered_with, summary_with}
 
 -- ---- one element more
 
 any_push : {X : Type 0} (p : X → Bool) (xs : List X) (x : X) → list_any p (xs ++ x ∷ []) ≡ (list_any p xs || p x)
-any_push p [] x = by (p x)
-  where
-    by : (b : Bool) → (b || false) ≡ b
-    by true = refl
-    by false = refl
-any_push p (y ∷ ys) x = by (p y) (any_push p ys x)
-  where
-    by : (b : Bool) → list_any p (ys ++ x ∷ []) ≡ (list_any p ys || p x)
-        → (b || list_any p (ys ++ x ∷ [])) ≡ ((b || list_any p ys) || p x)
-    by true e = refl
-    by false e = e
+any_push p xs x = list_any-append p xs (x ∷ []) ∙ ap (λ (b : Bool). list_any p xs || b) (or-false (p x))
 
 all_push : {X : Type 0} (p : X → Bool) (xs : List X) (x : X) → list_all p (xs ++ x ∷ []) ≡ (list_all p xs && p x)
-all_push p [] x = by (p x)
-  where
-    by : (b : Bool) → (b && true) ≡ b
-    by true = refl
-    by false = refl
-all_push p (y ∷ ys) x = by (p y) (all_push p ys x)
-  where
-    by : (b : Bool) → list_all p (ys ++ x ∷ []) ≡ (list_all p ys && p x)
-        → (b && list_all p (ys ++ x ∷ [])) ≡ ((b && list_all p ys) && p x)
-    by true e = e
-    by false e = refl
+all_push p xs x = list_all-append p xs (x ∷ []) ∙ ap (λ (b : Bool). list_all p xs && b) (and-true (p x))
 
 one_push : (ns : List ℤ) (n : ℤ) → are_one (ns ++ n ∷ []) ≡ (are_one ns && agrees (slice_get ns 0) n)
 one_push [] n = refl
@@ -102,7 +83,7 @@ mean_small total count some few =
     let below = div_below (2 * (10 * total) + count) (2 * count) 335544321 (omega (arith, some)) (omega (arith, some, few)) in
     omega (arith, below)
 
-pub mean_fits : (total count : ℕ) → 0 < count → total ≤ 2 ^ 25 * count → FitsSigned w32 (near_of (pos (10 * total)) (pos count))
+mean_fits : (total count : ℕ) → 0 < count → total ≤ 2 ^ 25 * count → FitsSigned w32 (near_of (pos (10 * total)) (pos count))
 unfolding near_of
 mean_fits total count some few = omega (arith, ints, mean_small total count some few)
 
@@ -115,20 +96,12 @@ mean_some total count h = by (count == 0) (grind (arith, nat_tests))
     by true e = absurd (cc)
     by false e = refl
 
-pub mean_cast : (total count : ℕ) (n d r : ℤ) → r ≡ near_of n d → n ≡ pos (10 * total) → d ≡ pos count → 0 < count
-    → total ≤ 2 ^ 25 * count → FitsSigned w32 (to_z w128 (of_z w128 r))
-mean_cast total count n d r e en ed some few =
-    let is : r ≡ near_of (pos (10 * total)) (pos count) = e ∙ ap₂ near_of en ed in
-    cast_fits _ r (mean_fits total count some few) is
-  where
-    cast_fits : (z r : ℤ) → FitsSigned w32 z → r ≡ z → FitsSigned w32 (to_z w128 (of_z w128 r))
-    cast_fits z r h e = omega (arith, ints)
-
 pub mean_is : (total count : ℕ) (n d r : ℤ) → r ≡ near_of n d → n ≡ pos (10 * total) → d ≡ pos count → 0 < count
-    → total ≤ 2 ^ 25 * count → to_z w32 (of_z w32 (to_z w128 (of_z w128 r))) ≡ mean_of total count
+    → total ≤ 2 ^ 25 * count
+    → FitsSigned w32 (to_z w128 (of_z w128 r)) × (to_z w32 (of_z w32 (to_z w128 (of_z w128 r))) ≡ mean_of total count)
 mean_is total count n d r e en ed some few =
-    let is : r ≡ near_of (pos (10 * total)) (pos count) = e ∙ ap₂ near_of en ed in
-    cast_is _ r (mean_fits total count some few) is ∙ mean_some total count some
+    let cast = by _ (mean_fits total count some few) (e ∙ ap₂ near_of en ed) in (cast.0, cast.1 ∙ mean_some total count some)
   where
-    cast_is : (z r : ℤ) → FitsSigned w32 z → r ≡ z → to_z w32 (of_z w32 (to_z w128 (of_z w128 r))) ≡ z
-    cast_is z r h e = omega (arith, ints)
+    by : (z : ℤ) → FitsSigned w32 z → r ≡ z
+        → FitsSigned w32 (to_z w128 (of_z w128 r)) × (to_z w32 (of_z w32 (to_z w128 (of_z w128 r))) ≡ z)
+    by z h e = (omega (arith, ints), omega (arith, ints))

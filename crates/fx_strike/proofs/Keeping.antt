@@ -8,16 +8,11 @@ use Rattle.std.proofs.lemmas.Bool.{ltb-true, or_parts}
 use Rattle.std.proofs.lemmas.List.{append-nil}
 use Rattle.std.proofs.lemmas.Grind.{flat_map-append}
 use Rattle.fx_fixed.proofs.Writing.{parts_more}
-use Rattle.fx_request.specs.Limits.{max_code}
-use Rattle.fx_request.specs.declared.request.OnRefused.{OnRefused}
-use Rattle.fx_strike.specs.declared.characters.Mapped.{Mapped}
-use Rattle.fx_strike.specs.declared.kept_text.KeptBytes.{KeptBytes}
-use Rattle.fx_strike.specs.declared.kept_text.KeptText.{KeptText}
-use Rattle.fx_strike.specs.declared.seen.Seen.{Seen}
-use Rattle.fx_strike.specs.Strike.{Setting, Fate, drawn, unhinted, left_out, glyph_fate_of}
-use Rattle.fx_strike.specs.inner.Keeping.{Counts, IsKept, IsOfNone, Keeps}
-use Rattle.fx_strike.specs.inner.Mapping.{mapped_in}
-use Rattle.fx_strike.specs.inner.Surveying.{HasFate}
+use Rattle.fx_strike.specs.declared.fate.Fate.TheVariants.{Drawn, Unhinted, LeftOut}
+use Rattle.fx_strike.specs.Strike.{Setting, Fate, glyph_fate_of, max_code, OnRefused}
+use Rattle.fx_strike.specs.inner.Keeping.{Counts, IsKept, IsOfNone, Keeps, KeptBytes, KeptText}
+use Rattle.fx_strike.specs.inner.Mapping.{mapped_in, Mapped}
+use Rattle.fx_strike.specs.inner.Surveying.{HasFate, Seen}
 use Rattle.fx_strike.specs.inner.Writing.{AreLinesOf, AreAllLinesOf, AreSmall}
 
 -- ---- one character
@@ -50,11 +45,11 @@ kept_none kept h = record {
 pub lines_there : {setting : Setting} {refused : OnRefused} {code glyph : ℕ} {old new : Seen}
     → (fate : Fate) × (glyph_fate_of setting refused code glyph ≡ Ok fate) × HasFate fate old new
     → (text : List ℕ) × AreLinesOf setting refused code glyph text
-lines_there (drawn s, is, h) = (_, record { fate = drawn s; glyphs = h.glyph ∷ []; is = is; drawn = (h.drawn, tt); text_is = refl })
-lines_there (unhinted notice s, is, h) =
-    (_, record { fate = unhinted notice s; glyphs = h.glyph ∷ []; is = is; drawn = (h.drawn, tt); text_is = refl })
-lines_there (left_out notice, is, h) =
-    (_, record { fate = left_out notice; glyphs = []; is = is; drawn = tt; text_is = refl })
+lines_there (Drawn s, is, h) = (_, record { fate = Drawn s; glyphs = h.glyph ∷ []; is = is; drawn = (h.drawn, tt); text_is = refl })
+lines_there (Unhinted notice s, is, h) =
+    (_, record { fate = Unhinted notice s; glyphs = h.glyph ∷ []; is = is; drawn = (h.drawn, tt); text_is = refl })
+lines_there (LeftOut notice, is, h) =
+    (_, record { fate = LeftOut notice; glyphs = []; is = is; drawn = tt; text_is = refl })
 
 -- one character more
 module _ {setting : Setting} {refused : OnRefused} {mapped : List Mapped} {n : ℕ} {old new : KeptText} {bytes : KeptBytes} where

@@ -13,33 +13,19 @@ use Rattle.fx_fixed.proofs.Texts.{adds_stopped, adds_text, adds_then}
 use Rattle.fx_fixed.specs.declared.sink.WriteFailed.{WriteFailed as Failed}
 use Rattle.fx_fixed.proofs.Chain.{same_Ok}
 use Rattle.fx_bdf.specs.Glyphs.{Glyph, TrimmedIsOne}
-use Rattle.fx_bdf.specs.declared.header.Header.{Header}
 use Rattle.fx_bdf.specs.Properties.{PropertyView}
 use Rattle.fx_bdf.specs.Text.{header_text, glyph_text, end_text}
 use Rattle.fx_bdf.specs.X11.{all_properties}
 use Rattle.fx_bdf.specs.declared.summary.Summary.{Summary}
-use Rattle.fx_strike.specs.declared.surveyed.Survey.{Survey}
-use Rattle.fx_request.specs.Characters.{rising}
-use Rattle.fx_request.specs.declared.refusal.Refusal.{Refusal}
 use Rattle.fx_request.specs.declared.refusal.Refusal.TheVariants.{WriteFailed, ReadFailed, BadHex, InputTooLarge, OutOfMemory}
-use Rattle.fx_strike.specs.Faults.{Fails}
-use Rattle.fx_fixed.specs.Changes.{Change}
-use Rattle.fx_strike.specs.Title.{Title}
-use Rattle.fx_request.specs.declared.notice.Notice.{Notice}
-use Rattle.fx_request.specs.declared.request.OnRefused.{OnRefused}
-use Rattle.fx_strike.specs.declared.fate.Fate as held
 use Rattle.fx_strike.specs.declared.fate.Fate.TheVariants.{Drawn, Unhinted, LeftOut}
-use Rattle.fx_strike.specs.declared.sketched.Sketched.{Sketched}
-use Rattle.fx_strike.specs.Strike.{Sketch, Setting, Plan, Fate, drawn, unhinted, left_out, IsGlyphOf, AreGlyphsOf, sketches_in}
-use Rattle.fx_strike.specs.Strike.{glyph_fate_of, plan_with, properties_of, strike_text}
-use Rattle.fx_strike.specs.inner.Drawing.{AreOf, IsFateOf, IsSketchedOf}
-use Rattle.fx_strike.specs.Headline.{Surveyed, Leaves, surveyed_header}
+use Rattle.fx_strike.specs.Strike.{Sketch, Setting, Plan, Fate, IsGlyphOf, AreGlyphsOf, sketches_in, glyph_fate_of, plan_with}
+use Rattle.fx_strike.specs.Strike.{properties_of, strike_text, rising, Refusal, Fails, Title, OnRefused}
+use Rattle.fx_strike.specs.Headline.{Surveyed, Leaves, surveyed_header, Header, Survey, Change}
 use Rattle.fx_strike.specs.inner.Writing.{AddsMore, AreLinesOf, AreAllLinesOf, HasRoom, Stops, Writes}
 use Rattle.fx_strike.proofs.OnePart.{chain_parts, glyph_is_one, planned}
-use Rattle.fx_strike.proofs.Fates.{fate_code}
 use Rattle.fx_strike.proofs.Mapping.{fates_are}
-use Rattle.fx_strike.specs.declared.characters.Mapped.{Mapped}
-use Rattle.fx_strike.specs.inner.Mapping.{fates_in, mapped_fate_of, mapped_in, mapped_of}
+use Rattle.fx_strike.specs.inner.Mapping.{fates_in, mapped_fate_of, mapped_in, mapped_of, Mapped}
 
 -- ---- parts of a text
 
@@ -114,46 +100,17 @@ pub drawn_lines : {g : Glyph} → TrimmedIsOne → (sketch : Sketch) (glyph : Gl
 drawn_lines {g} one sketch glyph here is = ap glyph_text (glyph_is_one one sketch g glyph here is)
 
 -- what holds of the lines of each glyph of a sketch holds of those of its glyphs
-lines_of : (P : List ℕ → Type 0) (sketch : Sketch) (glyphs : List Glyph)
+pub lines_of : (P : List ℕ → Type 0) (sketch : Sketch) (glyphs : List Glyph)
     → ((glyph : Glyph) → IsGlyphOf sketch glyph → P (glyph_text glyph))
     → AreGlyphsOf (sketch ∷ []) glyphs → P (flat_map glyph_text glyphs)
 lines_of P sketch [] h g = absurd g
 lines_of P sketch (x ∷ []) h g = subst P (sym (append-nil (glyph_text x))) (h x g.0)
 lines_of P sketch (x ∷ y ∷ xs) h g = absurd g.1
 
--- what holds of the lines of a glyph that was made holds of the lines of a character, by what becomes of it
-module _ (P : List ℕ → Type 0) {code : ℕ} where
-  one_glyph : (made : Sketched) (sketch : Sketch) (glyphs : List Glyph)
-      → ((sketch : Sketch) (glyph : Glyph) → IsSketchedOf sketch made → sketch.code ≡ code → IsGlyphOf sketch glyph
-      → P (glyph_text glyph))
-      → IsSketchedOf sketch made → sketch.code ≡ code → AreGlyphsOf (sketch ∷ []) glyphs → P (flat_map glyph_text glyphs)
-  one_glyph made sketch glyphs h is e g = lines_of P sketch glyphs (λ x of. h sketch x is e of) g
-
-  pub lines_drawn : (made : Sketched)
-      → ((sketch : Sketch) (glyph : Glyph) → IsSketchedOf sketch made → sketch.code ≡ code → IsGlyphOf sketch glyph
-      → P (glyph_text glyph))
-      → (due : Fate) (glyphs : List Glyph) → IsFateOf due (Drawn made) → AreOf code due → AreGlyphsOf (sketches_in due) glyphs
-      → P (flat_map glyph_text glyphs)
-  lines_drawn made h (drawn s) glyphs is e g = one_glyph made s glyphs h is e g
-  lines_drawn made h (unhinted notice s) glyphs is e g = absurd is
-  lines_drawn made h (left_out notice) glyphs is e g = absurd is
-
-  pub lines_unhinted : (notice : Notice) (made : Sketched)
-      → ((sketch : Sketch) (glyph : Glyph) → IsSketchedOf sketch made → sketch.code ≡ code → IsGlyphOf sketch glyph
-      → P (glyph_text glyph))
-      → (due : Fate) (glyphs : List Glyph) → IsFateOf due (Unhinted notice made) → AreOf code due
-      → AreGlyphsOf (sketches_in due) glyphs → P (flat_map glyph_text glyphs)
-  lines_unhinted told made h (drawn s) glyphs is e g = absurd is
-  lines_unhinted told made h (unhinted notice s) glyphs is e g = one_glyph made s glyphs h is.1 e g
-  lines_unhinted told made h (left_out notice) glyphs is e g = absurd is
-
--- one that is left out has none
-pub lines_left_out : (P : List ℕ → Type 0) (due : Fate) (notice : Notice) (glyphs : List Glyph) → P []
-    → IsFateOf due (LeftOut notice) → AreGlyphsOf (sketches_in due) glyphs → P (flat_map glyph_text glyphs)
-lines_left_out P (drawn s) told glyphs h is g = absurd is
-lines_left_out P (unhinted notice s) told glyphs h is g = absurd is
-lines_left_out P (left_out notice) told [] h is g = h
-lines_left_out P (left_out notice) told (x ∷ xs) h is g = absurd g
+-- without a sketch there are none
+pub lines_none : (P : List ℕ → Type 0) (glyphs : List Glyph) → P [] → AreGlyphsOf [] glyphs → P (flat_map glyph_text glyphs)
+lines_none P [] h g = h
+lines_none P (x ∷ xs) h g = absurd g
 
 module _ {setting : Setting} {refused : OnRefused} {code glyph : ℕ} {text : List ℕ} where
   -- nothing was written of it when memory ran out
@@ -161,14 +118,11 @@ module _ {setting : Setting} {refused : OnRefused} {code glyph : ℕ} {text : Li
       → AreLinesOf setting refused code glyph text → AddsMore was was text (Err d)
   adds_undrawn d fails h = stopped_by text d (only_memory d _ h.fate h.is fails)
 
-  pub lines_fate : (P : List ℕ → Type 0) {made : held.Fate}
-      → (fate : Fate) × (glyph_fate_of setting refused code glyph ≡ Ok fate) × IsFateOf fate made
-      → ((due : Fate) (glyphs : List Glyph) → IsFateOf due made → AreOf code due → AreGlyphsOf (sketches_in due) glyphs
-      → P (flat_map glyph_text glyphs))
+  -- by what becomes of it
+  pub lines_fate : (P : List ℕ → Type 0) (fate : Fate) → glyph_fate_of setting refused code glyph ≡ Ok fate
+      → ((glyphs : List Glyph) → AreGlyphsOf (sketches_in fate) glyphs → P (flat_map glyph_text glyphs))
       → AreLinesOf setting refused code glyph text → P text
-  lines_fate P f w h =
-      let here = rw (same_Ok h.fate f.0 h.is f.1) at h.drawn in
-      subst P (sym h.text_is) (w f.0 h.glyphs f.2 (fate_code setting refused code glyph f.0 f.1) here)
+  lines_fate P fate e w h = subst P (sym h.text_is) (w h.glyphs (rw (same_Ok h.fate fate h.is e) at h.drawn))
 
 -- the lines of a character in the middle
 pub adds_part : {was now next : TextView} {all front lines : List ℕ} (back : List ℕ) {d : Refusal} → all ≡ front ++ (lines ++ back)
@@ -225,11 +179,11 @@ record Split (f : Fate) (fs : List Fate) (gs : List Glyph) : Type 0 where
   pub others : AreGlyphsOf (flat_map sketches_in fs) back
 
 split : (f : Fate) (fs : List Fate) (gs : List Glyph) → AreGlyphsOf (flat_map sketches_in (f ∷ fs)) gs → Split f fs gs
-split (drawn s) fs [] h = absurd h
-split (drawn s) fs (g ∷ gs) h = record { front = g ∷ []; back = gs; whole = refl; drawn = (h.0, tt); others = h.1 }
-split (unhinted notice s) fs [] h = absurd h
-split (unhinted notice s) fs (g ∷ gs) h = record { front = g ∷ []; back = gs; whole = refl; drawn = (h.0, tt); others = h.1 }
-split (left_out notice) fs gs h = record { front = []; back = gs; whole = refl; drawn = tt; others = h }
+split (Drawn s) fs [] h = absurd h
+split (Drawn s) fs (g ∷ gs) h = record { front = g ∷ []; back = gs; whole = refl; drawn = (h.0, tt); others = h.1 }
+split (Unhinted notice s) fs [] h = absurd h
+split (Unhinted notice s) fs (g ∷ gs) h = record { front = g ∷ []; back = gs; whole = refl; drawn = (h.0, tt); others = h.1 }
+split (LeftOut notice) fs gs h = record { front = []; back = gs; whole = refl; drawn = tt; others = h }
 
 pieces_of : (setting : Setting) (refused : OnRefused) (mapped : List Mapped) (fs : List Fate) (gs : List Glyph)
     → fates_in setting refused mapped ≡ Ok fs → AreGlyphsOf (flat_map sketches_in fs) gs → Pieces setting refused mapped gs

@@ -1,7 +1,7 @@
 -- From what was seen to a survey, and what a call leaves that was refused.
--- Serves `survey_mapped`, `survey_chars`, `write_strike`, `make_strike_with` and `whole_pixels`.
-use Rattle.std.proofs.Common.{refl, sym, ap, subst, ◌≡◌, ◌∙◌, arith, inl, ℕ, ◌+◌, ◌<◌, ◌≤◌, ◌^◌, ℤ, pos, List, map}
-use Rattle.std.proofs.Common.{Option, Result, Ok}
+-- Serves `survey_mapped`, `survey_chars`, `write_strike`, `make_strike_with` and `pixels`.
+use Rattle.std.proofs.Common.{refl, sym, ap, ◌≡◌, ◌∙◌, arith, inl, ℕ, ◌+◌, ◌<◌, ◌≤◌, ◌^◌, ℤ, pos, List, map}
+use Rattle.std.proofs.Common.{Result, Ok}
 use Rattle.std.proofs.Common.{Err, FitsSigned, w32, to_z, of_z, lit<}
 use Rattle.std.specs.Int.{w128}
 use Rattle.std.specs.Prelude.{◌*ℤ◌, neg_ℤ, unsigned_abs, IsOk, IfOk, IfErr, IsErrOf}
@@ -11,29 +11,14 @@ use Rattle.std.proofs.lemmas.Int.{ints, fits_signed_mul, fits_signed_from_abs, u
 use Rattle.std.proofs.Math.Nat.{mul-le-mul_left}
 use Rattle.fx_fixed.specs.Numbers.{near_of}
 use Rattle.fx_fixed.specs.Sizes.{IsPpem, max_ppem}
-use Rattle.fx_machine.specs.Known.{Known}
-use Rattle.fx_bdf.specs.declared.header.Header.{Header}
 use Rattle.fx_bdf.specs.Glyphs.{Box, bounds_of}
-use Rattle.fx_bdf.specs.declared.summary.Summary.{Summary}
-use Rattle.fx_request.specs.declared.refusal.Refusal.{Refusal}
 use Rattle.fx_request.specs.declared.refusal.Refusal.TheVariants.{WriteFailed, ReadFailed, BadHex, InputTooLarge, OutOfMemory}
-use Rattle.fx_strike.specs.declared.basis.Basis.{Basis}
-use Rattle.fx_strike.specs.declared.seen.Seen.{Seen}
-use Rattle.fx_request.specs.declared.request.Report.{Report}
-use Rattle.fx_strike.specs.declared.surveyed.Survey.{Survey}
-use Rattle.fx_strike.specs.Faults.{Fails}
-use Rattle.fx_fixed.specs.Changes.{Change}
-use Rattle.fx_request.specs.Characters.{rising}
 use Rattle.fx_fixed.specs.Numbers.{counted}
-use Rattle.fx_strike.specs.Title.{Title}
-use Rattle.fx_request.specs.declared.request.OnRefused.{OnRefused}
-use Rattle.fx_strike.specs.Strike.{Setting, Plan, sketches_in, setting_with, prelude_by, pixels, fates_of, plan_from, plan_with}
-use Rattle.fx_strike.specs.Headline.{IsCause, Surveyed, Leaves, Makes}
-use Rattle.fx_strike.specs.declared.characters.Characters.{Characters}
-use Rattle.fx_strike.specs.declared.characters.Mapped.{Mapped}
-use Rattle.fx_strike.specs.inner.Gathering.{summary_with}
-use Rattle.fx_strike.specs.inner.Mapping.{AreCharactersOf, fates_in, mapped_of}
-use Rattle.fx_strike.specs.inner.Surveying.{Holds, survey_from, Surveys}
+use Rattle.fx_strike.specs.Strike.{Setting, Plan, sketches_in, prelude_by, pixels, fates_of, plan_from, plan_with, Refusal, Fails}
+use Rattle.fx_strike.specs.Strike.{rising, Title, OnRefused}
+use Rattle.fx_strike.specs.Headline.{IsCause, Surveyed, Leaves, Makes, Header, Report, Survey, Change}
+use Rattle.fx_strike.specs.inner.Mapping.{AreCharactersOf, fates_in, mapped_of, Characters, Mapped}
+use Rattle.fx_strike.specs.inner.Surveying.{Holds, survey_from, Surveys, Seen}
 use Rattle.fx_strike.proofs.GatheredGlyphs.{as_many, summary_is}
 use Rattle.fx_strike.proofs.Mapping.{fates_are}
 use Rattle.fx_strike.proofs.Sketching.{fails_on}
@@ -66,23 +51,21 @@ unseen setting title chars mapped refused d c f =
 counted_on : (before after total : ℕ) → after ≡ counted total → counted (before + after) ≡ counted (before + total)
 counted_on before after total h = omega arith
 
-surveyed_here : (basis : Basis) (machine : Option Known) (title : Title) (chars : List ℕ)
-    (refused : OnRefused) (characters : Characters) (seen : Seen) → AreCharactersOf basis.opened.map (rising chars) characters
-    → Holds (setting_with basis machine) refused characters.mapped.items seen
-    → Surveyed (plan_with (setting_with basis machine) title chars refused)
-    (survey_from machine basis.opened seen characters.missing (summary_with seen.gathered seen.glyphs))
+pub surveyed : (setting : Setting) (title : Title) (chars : List ℕ) (refused : OnRefused) (characters : Characters) (seen : Seen)
+    → AreCharactersOf setting.map (rising chars) characters → Holds setting refused characters.mapped.items seen
+    → Surveyed (plan_with setting title chars refused) (survey_from setting seen characters.missing)
 unfolding plan_with
-surveyed_here basis machine title chars refused characters seen c g =
-    let planned = same_fates (setting_with basis machine) chars refused characters.mapped.items c.mapped ∙ g.planned in
+surveyed setting title chars refused characters seen c g =
+    let planned = same_fates setting chars refused characters.mapped.items c.mapped ∙ g.planned in
     let heading : Box → ℕ → Header = λ b n. record {
-      ppem = basis.opened.ppem;
+      ppem = setting.ppem;
       bounds = b;
-      ascent = pixels basis.opened.font.hhea.ascender basis.opened.ppem basis.opened.font.head.units_per_em;
-      descent = pixels (neg_ℤ basis.opened.font.hhea.descender) basis.opened.ppem basis.opened.font.head.units_per_em;
+      ascent = pixels setting.font.hhea.ascender setting.ppem setting.font.head.units_per_em;
+      descent = pixels (neg_ℤ setting.font.hhea.descender) setting.ppem setting.font.head.units_per_em;
       glyphs = n;
     } in
     record {
-      plan = plan_from (setting_with basis machine) title chars g.fates;
+      plan = plan_from setting title chars g.fates;
       glyphs = g.glyphs;
       is = rw planned;
       drawn = g.drawn;
@@ -94,21 +77,12 @@ surveyed_here basis machine title chars refused characters seen c g =
       told = record {
         glyphs = g.count;
         missing = c.missing;
-        strays = counted_on (prelude_by machine).strays seen.usage.strays
+        strays = counted_on (prelude_by setting.machine).strays seen.usage.strays
             (sum_by (λ s. s.usage.strays) (flat_map sketches_in g.fates)) g.strays;
-        steps = counted_on (prelude_by machine).steps seen.usage.steps
+        steps = counted_on (prelude_by setting.machine).steps seen.usage.steps
             (sum_by (λ s. s.usage.steps) (flat_map sketches_in g.fates)) g.steps;
       };
     }
-
-pub surveyed : (basis : Basis) (machine after : Option Known) (title : Title) (chars : List ℕ) (characters : Characters)
-    (mapped : List Mapped) (refused : OnRefused) (seen : Seen) (summary : Summary) (survey : Survey) → after ≡ machine
-    → AreCharactersOf basis.opened.map (rising chars) characters → mapped ≡ characters.mapped.items
-    → Holds (setting_with basis machine) refused mapped seen → summary ≡ summary_with seen.gathered seen.glyphs
-    → survey ≡ survey_from after basis.opened seen characters.missing summary
-    → Surveyed (plan_with (setting_with basis machine) title chars refused) survey
-surveyed basis machine after title chars characters mapped refused seen summary survey k c i g m e =
-    rw (e, k, m) (surveyed_here basis machine title chars refused characters seen c (rw i at g))
 
 -- ---- refusals that are due
 
@@ -173,24 +147,19 @@ pub most : {pixels ppem : ℕ} → pixels ≡ ppem → IsPpem pixels → ppem �
 most e h = omega (arith, e, h.most)
 
 -- FUnits in whole pixels, as the code casts them
-pub whole_is : (units : ℤ) (ppem em : ℕ) (f g h r : ℤ) → FitsSigned w32 units → unsigned_abs units ≤ 32768 → ppem ≤ max_ppem
+pub pixels_are : (units : ℤ) (ppem em : ℕ) (f g h r : ℤ) → FitsSigned w32 units → unsigned_abs units ≤ 32768 → ppem ≤ max_ppem
     → em < 2 ^ 16 → f ≡ to_z w32 (of_z w32 units) → g ≡ pos ppem → h ≡ pos em
     → r ≡ near_of (to_z w128 (of_z w128 (to_z w128 (of_z w128 f) *ℤ to_z w128 (of_z w128 g)))) (to_z w128 (of_z w128 h))
     → unsigned_abs r ≤ unsigned_abs (to_z w128 (of_z w128 (to_z w128 (of_z w128 f) *ℤ to_z w128 (of_z w128 g))))
     → to_z w32 (of_z w32 (to_z w128 (of_z w128 r))) ≡ pixels units ppem em
-whole_is units ppem em f g h r fits few size small p q s e b =
+pixels_are units ppem em f g h r fits few size small p q s e b =
     let one : to_z w128 (of_z w128 f) ≡ units = omega (arith, ints) in
     let two : to_z w128 (of_z w128 g) ≡ pos ppem = omega (arith, ints) in
     let three : to_z w128 (of_z w128 h) ≡ pos em = omega (arith, ints) in
     let product : FitsSigned w32 (units *ℤ pos ppem) = fits_signed_mul w32 units (pos ppem) 32768 max_ppem few size (lit< tt) in
     let wide : to_z w128 (of_z w128 (units *ℤ pos ppem)) ≡ units *ℤ pos ppem = cast_wide (units *ℤ pos ppem) product in
-    let whole : to_z w128 (of_z w128 (to_z w128 (of_z w128 f) *ℤ to_z w128 (of_z w128 g))) ≡ units *ℤ pos ppem
-    = ap (λ (z : ℤ). to_z w128 (of_z w128 (z *ℤ to_z w128 (of_z w128 g)))) one ∙ ap (λ (z : ℤ). to_z w128 (of_z w128 (units *ℤ z)))
-    two ∙ wide in
-    let near : r ≡ near_of (units *ℤ pos ppem) (pos em) =
-    e ∙ ap (λ (z : ℤ). near_of z (to_z w128 (of_z w128 h))) whole ∙ ap (near_of (units *ℤ pos ppem)) three in
-    let L : ℤ → Type 0 = λ z. unsigned_abs r ≤ unsigned_abs z in
-    let bound : unsigned_abs r ≤ unsigned_abs (units *ℤ pos ppem) = subst L whole b in
+    let near : r ≡ near_of (units *ℤ pos ppem) (pos em) = rw (one, two, three, wide) at e in
+    let bound : unsigned_abs r ≤ unsigned_abs (units *ℤ pos ppem) = rw (one, two, wide) at b in
     let few_pixels : unsigned_abs (units *ℤ pos ppem) ≤ 33554432 =
     omega (arith, unsigned_abs-mul units (pos ppem), mul-le-mul_left (unsigned_abs units) size) in
     cast_back r (pixels units ppem em) (fits_signed_from_abs w32 r (omega arith)) near

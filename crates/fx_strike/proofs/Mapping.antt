@@ -15,14 +15,9 @@ use Rattle.fx_fixed.specs.Chain.{map_chain}
 use Rattle.fx_cmap.specs.Lookup.{glyph_for}
 use Rattle.fx_cmap.specs.declared.mapping.Mapping.{Mapping}
 use Rattle.fx_request.proofs.Rising.{length_rising, small_rising}
-use Rattle.fx_request.specs.Characters.{rising}
-use Rattle.fx_request.specs.Limits.{max_characters, max_code}
-use Rattle.fx_request.specs.declared.refusal.Refusal.{Refusal}
-use Rattle.fx_request.specs.declared.request.OnRefused.{OnRefused}
-use Rattle.fx_strike.specs.declared.characters.Characters.{Characters}
-use Rattle.fx_strike.specs.declared.characters.Mapped.{Mapped}
-use Rattle.fx_strike.specs.Strike.{Setting, fates_of, is_missing}
-use Rattle.fx_strike.specs.inner.Mapping.{AreCharactersOf, fates_in, lacks, mapped_at, mapped_fate_of, mapped_of}
+use Rattle.fx_strike.specs.Strike.{Setting, fates_of, is_missing, rising, max_characters, max_code, Refusal, OnRefused}
+use Rattle.fx_strike.specs.inner.Mapping.{AreCharactersOf, fates_in, lacks, mapped_at, mapped_fate_of, mapped_of, Characters}
+use Rattle.fx_strike.specs.inner.Mapping.{Mapped}
 use Rattle.fx_strike.specs.inner.Writing.{AreSmall}
 
 -- ---- rising code points

@@ -9,17 +9,13 @@ use Rattle.fx_fixed.specs.Sizes.{ppem_of}
 use Rattle.fx_sfnt.specs.Tables.{Face}
 use Rattle.fx_cmap.specs.declared.mapping.Mapping.{Mapping}
 use Rattle.fx_cmap.specs.Lookup.{glyph_for}
-use Rattle.fx_request.specs.declared.request.Mode.{Mode}
 use Rattle.fx_request.specs.declared.request.OnRefused.TheVariants.{Stop}
-use Rattle.fx_request.specs.declared.refusal.Refusal.{Refusal}
 use Rattle.fx_request.specs.declared.refusal.Refusal.TheVariants.{BadSize}
-use Rattle.fx_request.specs.Characters.{rising}
-use Rattle.fx_strike.specs.declared.opened.Opened.{Opened}
-use Rattle.fx_strike.specs.Title.{Title}
-use Rattle.fx_strike.specs.Strike.{Sketch, Setting, Plan, Opening, sketch_of, is_missing, checked_chars, checked_text, checked_title}
-use Rattle.fx_strike.specs.Strike.{font_with_map, opened_after, opened_one_of, setting_in, plan_from, plan_with, plan_in, plan_of}
-use Rattle.fx_strike.specs.Strike.{Fate, drawn, sketches_in, fate_by, machineless, glyph_sketch_of, glyph_fate_of, fate_of}
-use Rattle.fx_strike.specs.Strike.{one_with, one_in, one_of}
+use Rattle.fx_strike.specs.Strike.{Sketch, Setting, Plan, Opening, sketch_of, is_missing, checked_chars, checked_text}
+use Rattle.fx_strike.specs.Strike.{checked_title, font_with_map, opened_after, opened_one_of, setting_in, plan_from, plan_with}
+use Rattle.fx_strike.specs.Strike.{plan_in, plan_of, Fate, sketches_in, fate_by, machineless, glyph_sketch_of, glyph_fate_of}
+use Rattle.fx_strike.specs.Strike.{fate_of, one_with, one_in, one_of, Mode, Refusal, rising, Opened, Title}
+use Rattle.fx_strike.specs.declared.fate.Fate.TheVariants.{Drawn}
 use Rattle.fx_strike.specs.Laws.{OneIsOfStrike, only_sketch}
 
 -- ---- an opened font
@@ -35,7 +31,7 @@ one_step first second code f last false is same = rw is (by_result first)
     by_result : (r : Result Sketch Refusal)
         → map_ok Some r ≡
         map_ok only_sketch ((fate_by Stop code second r >>= λ y. Ok [] >>= λ ys. Ok (y ∷ ys)) >>= λ fs. Ok (last fs))
-    by_result (Ok s) = ap (λ (ss : List Sketch). Ok (slice_get ss 0)) (sym (same (drawn s ∷ [])))
+    by_result (Ok s) = ap (λ (ss : List Sketch). Ok (slice_get ss 0)) (sym (same (Drawn s ∷ [])))
     by_result (Err e) = refl
 
 with_is : (setting : Setting) (title : Title) (code : ℕ)

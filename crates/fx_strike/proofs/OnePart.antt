@@ -10,23 +10,17 @@ use Rattle.fx_sfnt.specs.Glyphs.{metrics_of}
 use Rattle.fx_sfnt.specs.declared.records.Metrics.{Metrics}
 use Rattle.fx_hint.specs.Outlines.{GlyphOutlineView}
 use Rattle.fx_raster.specs.Rules.{ShapeView, shape_of}
-use Rattle.fx_sfnt.specs.Collections.{FontFileView}
 use Rattle.fx_bdf.specs.Glyphs.{Glyph, TrimmedIsOne, glyph_bit}
-use Rattle.fx_request.specs.declared.request.Mode.{Mode}
-use Rattle.fx_request.specs.declared.request.OnRefused.{OnRefused}
-use Rattle.fx_request.specs.declared.request.OnRefused.TheVariants.{Stop, LeaveOut, Unhinted}
-use Rattle.fx_request.specs.declared.refusal.Refusal.{Refusal}
+use Rattle.fx_request.specs.declared.request.OnRefused.TheVariants.{Stop, LeaveOut, Unhinted as DrawUnhinted}
+use Rattle.fx_strike.specs.declared.fate.Fate.TheVariants.{Drawn, Unhinted, LeftOut}
 use Rattle.fx_request.specs.declared.refusal.Refusal.TheVariants.{BadSize, Halted}
 use Rattle.fx_request.specs.Faults.{of_font}
 use Rattle.fx_strike.specs.Faults.{of_hint, of_raster}
-use Rattle.fx_request.specs.Characters.{rising}
-use Rattle.fx_strike.specs.Title.{Title}
 use Rattle.std.specs.List.{flat_map}
-use Rattle.fx_strike.specs.Strike.{Sketch, Setting, Plan, AreGlyphsOf, outline_in, rule_in, sketch_from}
-use Rattle.fx_strike.specs.Strike.{Fate, drawn, unhinted, left_out, sketches_in, fate_by, machineless, glyph_fate_of, fate_of, fates_of}
-use Rattle.fx_strike.specs.Strike.{glyph_sketch_of, is_missing, checked_text, opened_after, opened_of}
-use Rattle.fx_strike.specs.Strike.{opened_at, setting_in, setting_of, plan_from, plan_with, plan_in, plan_of}
-use Rattle.fx_strike.specs.Strike.{strike_text}
+use Rattle.fx_strike.specs.Strike.{Sketch, Setting, Plan, AreGlyphsOf, outline_in, rule_in, sketch_from, Fate, sketches_in}
+use Rattle.fx_strike.specs.Strike.{fate_by, machineless, glyph_fate_of, fate_of, fates_of, glyph_sketch_of, is_missing}
+use Rattle.fx_strike.specs.Strike.{checked_text, opened_after, opened_of, opened_at, setting_in, setting_of, plan_from, plan_with}
+use Rattle.fx_strike.specs.Strike.{plan_in, plan_of, strike_text, FontFileView, Mode, OnRefused, Refusal, rising, Title}
 use Rattle.fx_strike.specs.Laws.{GlyphIsOne, TextIsOne, PartIsOne}
 use Rattle.fx_strike.proofs.Sketching.{tight_along}
 
@@ -112,41 +106,41 @@ sketch_code setting code glyph s h = ap (λ (y : Sketch). y.code) (sketch_made s
 
 -- by its sketch, and its sketch without hinting
 abbrev FateFrom : Result Sketch Refusal → Result Sketch Refusal → Fate → Type 0
-FateFrom first second (drawn s) = first ≡ Ok s
-FateFrom first second (unhinted notice s) = second ≡ Ok s
-FateFrom first second (left_out notice) = Unit {0}
+FateFrom first second (Drawn s) = first ≡ Ok s
+FateFrom first second (Unhinted notice s) = second ≡ Ok s
+FateFrom first second (LeftOut notice) = Unit {0}
 
 fate_from : (refused : OnRefused) (code : ℕ) (second first : Result Sketch Refusal) (f : Fate)
     → fate_by refused code second first ≡ Ok f → FateFrom first second f
 fate_from refused code second (Ok s) f h =
     let P : Fate → Type 0 = λ x. FateFrom (Ok s) second x in
-    let e : drawn s ≡ f = cc in subst P e refl
+    let e : Drawn s ≡ f = cc in subst P e refl
 fate_from Stop code second (Err cause) f h = absurd (cc)
 fate_from LeaveOut code second (Err cause) f h =
     let P : Fate → Type 0 = λ x. FateFrom (Err cause) second x in
-    let e : left_out (record { code = code; cause = cause; unhinted = false }) ≡ f = cc in subst P e tt
-fate_from Unhinted code (Ok s) (Err (Halted halt)) f h =
+    let e : LeftOut (record { code = code; cause = cause; unhinted = false }) ≡ f = cc in subst P e tt
+fate_from DrawUnhinted code (Ok s) (Err (Halted halt)) f h =
     let P : Fate → Type 0 = λ x. FateFrom (Err (Halted halt)) (Ok s) x in
-    let e : unhinted (record { code = code; cause = Halted halt; unhinted = true }) s ≡ f = cc in subst P e refl
-fate_from Unhinted code (Err d) (Err (Halted halt)) f h =
+    let e : Unhinted (record { code = code; cause = Halted halt; unhinted = true }) s ≡ f = cc in subst P e refl
+fate_from DrawUnhinted code (Err d) (Err (Halted halt)) f h =
     let P : Fate → Type 0 = λ x. FateFrom (Err (Halted halt)) (Err d) x in
-    let e : left_out (record { code = code; cause = d; unhinted = false }) ≡ f = cc in subst P e tt
-fate_from Unhinted code second (Err cause) f h =
+    let e : LeftOut (record { code = code; cause = d; unhinted = false }) ≡ f = cc in subst P e tt
+fate_from DrawUnhinted code second (Err cause) f h =
     let P : Fate → Type 0 = λ x. FateFrom (Err cause) second x in
-    let e : left_out (record { code = code; cause = cause; unhinted = false }) ≡ f = cc in subst P e tt
+    let e : LeftOut (record { code = code; cause = cause; unhinted = false }) ≡ f = cc in subst P e tt
 
 -- its sketch is due, with hinting or without
 abbrev pub HasSketch : Setting → ℕ → ℕ → Fate → Type 0
-HasSketch setting code glyph (drawn s) = glyph_sketch_of setting code glyph ≡ Ok s
-HasSketch setting code glyph (unhinted notice s) = glyph_sketch_of (machineless setting) code glyph ≡ Ok s
-HasSketch setting code glyph (left_out notice) = Unit {0}
+HasSketch setting code glyph (Drawn s) = glyph_sketch_of setting code glyph ≡ Ok s
+HasSketch setting code glyph (Unhinted notice s) = glyph_sketch_of (machineless setting) code glyph ≡ Ok s
+HasSketch setting code glyph (LeftOut notice) = Unit {0}
 
 pub has_sketch : (setting : Setting) (refused : OnRefused) (code glyph : ℕ) (f : Fate)
     → glyph_fate_of setting refused code glyph ≡ Ok f → HasSketch setting code glyph f
 unfolding glyph_fate_of
-has_sketch setting refused code glyph (drawn s) h = fate_from refused code _ _ (drawn s) h
-has_sketch setting refused code glyph (unhinted notice s) h = fate_from refused code _ _ (unhinted notice s) h
-has_sketch setting refused code glyph (left_out notice) h = tt
+has_sketch setting refused code glyph (Drawn s) h = fate_from refused code _ _ (Drawn s) h
+has_sketch setting refused code glyph (Unhinted notice s) h = fate_from refused code _ _ (Unhinted notice s) h
+has_sketch setting refused code glyph (LeftOut notice) h = tt
 
 -- and is of the code point
 abbrev IsOf : ℕ → Fate → Type 0
@@ -154,13 +148,13 @@ IsOf code f = (s : Sketch) → sketches_in f ≡ s ∷ [] → s.code ≡ code
 
 is_of : (setting : Setting) (refused : OnRefused) (code glyph : ℕ) (f : Fate)
     → glyph_fate_of setting refused code glyph ≡ Ok f → IsOf code f
-is_of setting refused code glyph (drawn x) h s e =
-    let k : glyph_sketch_of setting code glyph ≡ Ok x = has_sketch setting refused code glyph (drawn x) h in
+is_of setting refused code glyph (Drawn x) h s e =
+    let k : glyph_sketch_of setting code glyph ≡ Ok x = has_sketch setting refused code glyph (Drawn x) h in
     let same : x ≡ s = cc (e) in rw (← same) (sketch_code setting code glyph x k)
-is_of setting refused code glyph (unhinted notice x) h s e =
-    let k : glyph_sketch_of (machineless setting) code glyph ≡ Ok x = has_sketch setting refused code glyph (unhinted notice x) h in
+is_of setting refused code glyph (Unhinted notice x) h s e =
+    let k : glyph_sketch_of (machineless setting) code glyph ≡ Ok x = has_sketch setting refused code glyph (Unhinted notice x) h in
     let same : x ≡ s = cc (e) in rw (← same) (sketch_code (machineless setting) code glyph x k)
-is_of setting refused code glyph (left_out notice) h s e = absurd (cc (e))
+is_of setting refused code glyph (LeftOut notice) h s e = absurd (cc (e))
 
 -- ---- chains
 
@@ -195,9 +189,9 @@ sketch_at f (c ∷ cs) fates h k d l =
     first : (x : Fate) (xs : List Fate) → f c ≡ Ok x
         → ((k : ℕ) (d : Sketch) → k < length (flat_map sketches_in xs) → Gives f (get_or (flat_map sketches_in xs) k d))
         → (k : ℕ) → k < length (flat_map sketches_in (x ∷ xs)) → Gives f (get_or (flat_map sketches_in (x ∷ xs)) k d)
-    first (drawn s) xs is more k l = one (drawn s) s xs is refl more k l
-    first (unhinted notice s) xs is more k l = one (unhinted notice s) s xs is refl more k l
-    first (left_out notice) xs is more k l = more k d l
+    first (Drawn s) xs is more k l = one (Drawn s) s xs is refl more k l
+    first (Unhinted notice s) xs is more k l = one (Unhinted notice s) s xs is refl more k l
+    first (LeftOut notice) xs is more k l = more k d l
 
 -- ---- plans
 

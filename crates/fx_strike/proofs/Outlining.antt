@@ -2,14 +2,12 @@
 -- Serves `run_task` of `fx_cli`.
 use Rattle.std.proofs.Common.{◌≡◌, ℕ, Option, Result, Err}
 use Rattle.std.specs.Prelude.{IsErrOf}
-use Rattle.fx_fixed.specs.Changes.{Change}
 use Rattle.fx_hint.specs.Outlines.{GlyphOutlineView}
-use Rattle.fx_request.specs.declared.refusal.Refusal.{Refusal}
 use Rattle.fx_request.specs.declared.refusal.Refusal.TheVariants.{OutOfMemory, WriteFailed}
-use Rattle.fx_strike.specs.Headline.{Late}
+use Rattle.fx_strike.specs.Headline.{Late, Change}
 use Rattle.fx_strike.specs.Listings.{IsNoFault}
 use Rattle.fx_strike.specs.Outlines.{IsNotOutlined, IsOutlinedTo, Outlines}
-use Rattle.fx_strike.specs.Strike.{Opening}
+use Rattle.fx_strike.specs.Strike.{Opening, Refusal}
 
 pub not_outlined : (opening : Opening) (due : Result (Option GlyphOutlineView) Refusal) (sink : Change)
     (r : Result (Unit {0}) Refusal) (d : Refusal) → r ≡ Err d → (IsNoFault d → IsNotOutlined due sink d)

@@ -2,15 +2,10 @@
 -- Serves `make_strike_with`, `survey_inner`, `one_inner`, `numbered_one` and the calls of `Striker`.
 use Rattle.std.proofs.Common.{◌≡◌, refl, sym, ℕ, List, Option, Result, Ok, Err}
 use Rattle.std.specs.Prelude.{IsOk, IfOk, IfErr}
-use Rattle.fx_sfnt.specs.Collections.{FontFileView}
-use Rattle.fx_bdf.specs.Glyphs.{Glyph}
-use Rattle.fx_request.specs.declared.request.Mode.{Mode}
-use Rattle.fx_request.specs.declared.request.OnRefused.{OnRefused}
-use Rattle.fx_request.specs.declared.refusal.Refusal.{Refusal}
-use Rattle.fx_strike.specs.declared.opened.Opened.{Opened}
-use Rattle.fx_strike.specs.Faults.{Fails}
-use Rattle.fx_strike.specs.Title.{Title}
-use Rattle.fx_strike.specs.Strike.{Sketch, Setting, opened_of, setting_in, plan_with, plan_in, plan_of}
+use Rattle.fx_fixed.specs.Chain.{GivesUnless}
+use Rattle.fx_fixed.proofs.Chain.{bind_ok}
+use Rattle.fx_strike.specs.Strike.{Sketch, Setting, opened_at, opened_of, setting_in, setting_of, plan_with, plan_in, plan_of, FontFileView, Glyph, Mode}
+use Rattle.fx_strike.specs.Strike.{OnRefused, Refusal, Opened, Fails, Title}
 use Rattle.fx_strike.specs.Headline.{IsOneOf}
 use Rattle.fx_strike.specs.Numbers.{IsDrawnOf}
 use Rattle.fx_strike.specs.inner.Drawing.{Draws, Finds}
@@ -19,6 +14,22 @@ use Rattle.fx_strike.proofs.Sketching.{fails_on}
 -- what passed
 pub is_ok : {A : Type 0} (a : Result A Refusal) (x : A) → Ok x ≡ a → IsOk a
 is_ok a x h = rw (sym h) refl
+
+pub gives_ok : {A B : Type 0} (view : A → B) (due : Result B Refusal) (r : Result A Refusal) → GivesUnless Fails view r due
+    → IfOk r (λ x. due ≡ Ok (view x))
+gives_ok view due (Ok x) h = h
+gives_ok view due (Err d) h = tt
+
+pub gives_cause : {A B : Type 0} (view : A → B) (due : Result B Refusal) (r : Result A Refusal) → GivesUnless Fails view r due
+    → IfErr r (λ d. Fails d due)
+gives_cause view due (Ok x) h = tt
+gives_cause view due (Err d) h = h
+
+pub opened_set : (file : FontFileView) (ppem : ℕ) (mode : Mode) (s : Setting) → setting_of file ppem mode ≡ Ok s
+    → IsOk (opened_at file ppem)
+unfolding setting_of
+opened_set file ppem mode s h =
+    let o = bind_ok (opened_at file ppem) (λ o. setting_in o mode) s h in is_ok (opened_at file ppem) o.0 (sym o.1)
 
 -- ---- a strike
 

@@ -10,19 +10,14 @@ use Rattle.std.proofs.lemmas.Grind.{flat_map-append}
 use Rattle.std.proofs.lemmas.List.Sums.{fold-append, sum_by-append}
 use Rattle.fx_fixed.specs.Chain.{map_chain}
 use Rattle.fx_bdf.specs.Glyphs.{Glyph, Box, IsPlaced, no_box, joined, bounds_of}
-use Rattle.fx_request.specs.declared.refusal.Refusal.{Refusal}
-use Rattle.fx_strike.specs.declared.seen.Seen.{Seen}
-use Rattle.fx_strike.specs.Faults.{Fails}
-use Rattle.fx_request.specs.Limits.{max_code}
-use Rattle.fx_request.specs.declared.request.OnRefused.{OnRefused}
-use Rattle.fx_strike.specs.Strike.{Sketch, Setting, Fate, drawn, unhinted, left_out, IsGlyphOf, AreGlyphsOf, sketches_in}
-use Rattle.fx_strike.specs.declared.characters.Mapped.{Mapped}
-use Rattle.fx_strike.specs.inner.Mapping.{fates_in, mapped_fate_of, mapped_in}
+use Rattle.fx_strike.specs.Strike.{Sketch, Setting, Fate, IsGlyphOf, AreGlyphsOf, sketches_in, Refusal, Fails, max_code, OnRefused}
+use Rattle.fx_strike.specs.declared.fate.Fate.TheVariants.{Drawn, Unhinted, LeftOut}
+use Rattle.fx_strike.specs.inner.Mapping.{fates_in, mapped_fate_of, mapped_in, Mapped}
 use Rattle.fx_strike.specs.inner.Writing.{AreSmall}
 use Rattle.fx_fixed.specs.Numbers.{counted}
 use Rattle.fx_machine.specs.declared.usage.Usage.{Usage}
 use Rattle.fx_strike.specs.inner.Gathering.{gathered_with}
-use Rattle.fx_strike.specs.inner.Surveying.{IsEmpty, Has, HasFate, Holds}
+use Rattle.fx_strike.specs.inner.Surveying.{IsEmpty, Has, HasFate, Holds, Seen}
 use Rattle.fx_strike.proofs.GatheredGlyphs.{gathered_push}
 use Rattle.fx_strike.proofs.OnePart.{chain_parts}
 use Rattle.fx_strike.proofs.Sketching.{fails_on}
@@ -123,19 +118,19 @@ holds_drawn setting refused mapped m old new fate sketch one h s a =
       glyphs = h.glyphs ++ a.glyph ∷ [];
       planned = chain_push (mapped_fate_of setting refused) mapped m h.fates fate h.planned s;
       drawn = subst P (sym more) (glyphs_push ss h.glyphs sketch a.glyph h.drawn a.drawn);
-      bounds = a.bounds ∙ ap (λ (b : Box). joined b a.glyph.box) h.bounds ∙ sym (bounds_push h.glyphs a.glyph);
+      bounds = a.adds.bounds_are ∙ ap (λ (b : Box). joined b a.glyph.box) h.bounds ∙ sym (bounds_push h.glyphs a.glyph);
       placed = a.placed;
       gathered = gathered_push h.glyphs a.glyph old.gathered new.gathered h.gathered
-          (a.gathered ∙ ap₂ (gathered_with old.gathered) (sym a.drawn.code) (sym a.drawn.dwidth));
-      narrow = a.narrow;
-      count = omega (arith, a.glyphs, h.count, length-append ss (sketch ∷ []), ap length more);
+          (a.adds.gathered ∙ ap₂ (gathered_with old.gathered) (sym a.drawn.code) (sym a.drawn.dwidth));
+      narrow = a.adds.narrow;
+      count = omega (arith, a.adds.glyphs, h.count, length-append ss (sketch ∷ []), ap length more);
       strays = sum_push (λ x. x.usage.strays) ss sketch old.usage.strays sketch.usage.strays new.usage.strays
-          h.strays refl (ap (λ (u : Usage). u.strays) a.usage) ∙
+          h.strays refl (ap (λ (u : Usage). u.strays) a.adds.usage) ∙
           ap (λ (xs : List Sketch). counted (sum_by (λ x. x.usage.strays) xs)) (sym more);
       steps = sum_push (λ x. x.usage.steps) ss sketch old.usage.steps sketch.usage.steps new.usage.steps
-          h.steps refl (ap (λ (u : Usage). u.steps) a.usage) ∙
+          h.steps refl (ap (λ (u : Usage). u.steps) a.adds.usage) ∙
           ap (λ (xs : List Sketch). counted (sum_by (λ x. x.usage.steps) xs)) (sym more);
-      each = omega (arith, a.glyphs, h.each, length-append mapped (m ∷ []));
+      each = omega (arith, a.adds.glyphs, h.each, length-append mapped (m ∷ []));
     }
 
 -- a character that is left out
@@ -165,13 +160,13 @@ holds_left_out setting refused mapped m seen fate none h s =
 holds_push : (setting : Setting) (refused : OnRefused) (mapped : List Mapped) (m : Mapped) (old new : Seen) (fate : Fate)
     → Holds setting refused mapped old → mapped_fate_of setting refused m ≡ Ok fate
     → HasFate fate old new → Holds setting refused (mapped ++ m ∷ []) new
-holds_push setting refused mapped m old new (drawn sketch) h s a =
-    holds_drawn setting refused mapped m old new (drawn sketch) sketch refl h s a
-holds_push setting refused mapped m old new (unhinted notice sketch) h s a =
-    holds_drawn setting refused mapped m old new (unhinted notice sketch) sketch refl h s a
-holds_push setting refused mapped m old new (left_out notice) h s a =
+holds_push setting refused mapped m old new (Drawn sketch) h s a =
+    holds_drawn setting refused mapped m old new (Drawn sketch) sketch refl h s a
+holds_push setting refused mapped m old new (Unhinted notice sketch) h s a =
+    holds_drawn setting refused mapped m old new (Unhinted notice sketch) sketch refl h s a
+holds_push setting refused mapped m old new (LeftOut notice) h s a =
     let P : Seen → Type 0 = λ x. Holds setting refused (mapped ++ m ∷ []) x in
-    subst P (sym a) (holds_left_out setting refused mapped m old (left_out notice) refl h s)
+    subst P (sym a) (holds_left_out setting refused mapped m old (LeftOut notice) refl h s)
 
 -- ---- the same at a place of the characters
 

@@ -8,21 +8,14 @@ use Rattle.std.proofs.Math.Seq.{take-append_seam, take-length}
 use Rattle.std.proofs.lemmas.List.{take_more, take-append-drop, append-nil}
 use Rattle.std.proofs.lemmas.Grind.{flat_map-append}
 use Rattle.fx_fixed.specs.Chain.{map_chain}
-use Rattle.fx_request.specs.declared.notice.Notice.{Notice}
-use Rattle.fx_request.specs.declared.refusal.Refusal.{Refusal}
 use Rattle.fx_request.specs.declared.refusal.Refusal.TheVariants.{Halted, WriteFailed, ReadFailed, BadHex, InputTooLarge, OutOfMemory}
-use Rattle.fx_request.specs.declared.request.OnRefused.{OnRefused}
 use Rattle.fx_request.specs.declared.request.OnRefused.TheVariants.{Stop, LeaveOut, Unhinted}
-use Rattle.fx_request.specs.Characters.{rising}
 use Rattle.fx_request.specs.Notices.{AreTold, HearsAll, Told}
-use Rattle.fx_strike.specs.Faults.{Fails}
 use Rattle.fx_strike.specs.Headline.{notices_of}
-use Rattle.fx_strike.specs.Title.{Title}
-use Rattle.fx_strike.specs.Strike.{Sketch, Setting, Plan, Fate, notices_in, fate_by, glyph_fate_of, fates_of}
-use Rattle.fx_strike.specs.Strike.{glyph_sketch_of, machineless, plan_with}
+use Rattle.fx_strike.specs.Strike.{Sketch, Setting, Plan, Fate, notices_in, fate_by, glyph_fate_of, fates_of, glyph_sketch_of}
+use Rattle.fx_strike.specs.Strike.{machineless, plan_with, Notice, Refusal, OnRefused, rising, Fails, Title}
 use Rattle.fx_strike.specs.inner.Surveying.{notices_by, notices_about}
-use Rattle.fx_strike.specs.declared.characters.Mapped.{Mapped}
-use Rattle.fx_strike.specs.inner.Mapping.{fates_in, mapped_fate_of, mapped_in, mapped_of}
+use Rattle.fx_strike.specs.inner.Mapping.{fates_in, mapped_fate_of, mapped_in, mapped_of, Mapped}
 use Rattle.fx_strike.proofs.OnePart.{chain_parts}
 use Rattle.fx_strike.proofs.Mapping.{fates_are}
 
@@ -42,43 +35,44 @@ silent : (code : ℕ) (second first : Result Sketch Refusal) → notices_by (fat
 silent code second (Ok s) = refl
 silent code second (Err cause) = refl
 
-never : (refused : OnRefused) (code : ℕ) (second first : Result Sketch Refusal) (cause : Refusal) → (refused ≡ Stop → ⊥)
-    → fate_by refused code second first ≡ Err cause → ⊥
-never Stop code second first cause s h = s refl
-never refused code second (Ok sketch) cause s h = absurd (cc)
-never LeaveOut code second (Err d) cause s h = absurd (cc)
-never Unhinted code second (Err (Halted halt)) cause s h = absurd (cc)
-never Unhinted code second (Err d) cause s h = absurd (cc)
+-- only a request that stops is refused for a character
+stops : (refused : OnRefused) (code : ℕ) (second first : Result Sketch Refusal) (cause : Refusal)
+    → fate_by refused code second first ≡ Err cause → refused ≡ Stop
+stops Stop code second first cause h = refl
+stops refused code second (Ok sketch) cause h = absurd (cc)
+stops LeaveOut code second (Err d) cause h = absurd (cc)
+stops Unhinted code second (Err (Halted halt)) cause h = absurd (cc)
+stops Unhinted code second (Err d) cause h = absurd (cc)
 
-never_of : (setting : Setting) (refused : OnRefused) (m : Mapped) (cause : Refusal) → (refused ≡ Stop → ⊥)
-    → mapped_fate_of setting refused m ≡ Err cause → ⊥
+stops_of : (setting : Setting) (refused : OnRefused) (m : Mapped) (cause : Refusal)
+    → mapped_fate_of setting refused m ≡ Err cause → refused ≡ Stop
 unfolding glyph_fate_of
-never_of setting refused m cause s h =
-    never refused m.code (glyph_sketch_of (machineless setting) m.code m.glyph) (glyph_sketch_of setting m.code m.glyph) cause s h
+stops_of setting refused m cause h =
+    stops refused m.code (glyph_sketch_of (machineless setting) m.code m.glyph) (glyph_sketch_of setting m.code m.glyph) cause h
 
 silent_of : (setting : Setting) (m : Mapped) → notices_by (mapped_fate_of setting Stop m) ≡ []
 unfolding glyph_fate_of
 silent_of setting m =
     silent m.code (glyph_sketch_of (machineless setting) m.code m.glyph) (glyph_sketch_of setting m.code m.glyph)
 
--- a chain whose steps are never refused is not
-one_refused : {A B : Type 0} (f : A → Result B Refusal) → ((x : A) (d : Refusal) → f x ≡ Err d → ⊥) → (x : A) (xs : List A)
-    (d : Refusal) → ((c : Refusal) → map_chain f xs ≡ Err c → ⊥) → map_chain f (x ∷ xs) ≡ Err d → ⊥
-one_refused {A} {B} f n x xs d rest h = by_first (f x) refl
+-- a chain is refused for one of its steps
+chain_failed : {A B : Type 0} (f : A → Result B Refusal) (xs : List A) (d : Refusal) → map_chain f xs ≡ Err d
+    → (x : A) × (f x ≡ Err d)
+chain_failed f [] d h = absurd (cc)
+chain_failed {A} {B} f (x ∷ xs) d h = by_first (f x) refl (λ k. chain_failed f xs d k)
   where
-    by_rest : (y : B) (r : Result (List B) Refusal) → f x ≡ Ok y → map_chain f xs ≡ r → ⊥
-    by_rest y (Ok ys) e g =
+    by_rest : (y : B) (r : Result (List B) Refusal) → f x ≡ Ok y → map_chain f xs ≡ r
+        → (map_chain f xs ≡ Err d → (z : A) × (f z ≡ Err d)) → (z : A) × (f z ≡ Err d)
+    by_rest y (Ok ys) e g rest =
         let k : map_chain f (x ∷ xs) ≡ Ok (y ∷ ys) = rw (e, g) refl in let m : Ok (y ∷ ys) ≡ Err d = sym k ∙ h in absurd (cc)
-    by_rest y (Err c) e g = rest c g
+    by_rest y (Err c) e g rest = let k : map_chain f (x ∷ xs) ≡ Err c = rw (e, g) refl in rest (g ∙ sym k ∙ h)
 
-    by_first : (r : Result B Refusal) → f x ≡ r → ⊥
-    by_first (Ok y) e = by_rest y (map_chain f xs) e refl
-    by_first (Err c) e = n x c e
-
-never_refused : {A B : Type 0} (f : A → Result B Refusal) → ((x : A) (d : Refusal) → f x ≡ Err d → ⊥) → (xs : List A) (d : Refusal)
-    → map_chain f xs ≡ Err d → ⊥
-never_refused f n [] d h = absurd (cc)
-never_refused f n (x ∷ xs) d h = one_refused f n x xs d (λ c g. never_refused f n xs c g) h
+    by_first : (r : Result B Refusal) → f x ≡ r → (map_chain f xs ≡ Err d → (z : A) × (f z ≡ Err d)) → (z : A) × (f z ≡ Err d)
+    by_first (Ok y) e rest = by_rest y (map_chain f xs) e refl rest
+    by_first (Err c) e rest =
+        let k : map_chain f (x ∷ xs) ≡ Err c = rw e refl in
+        let m : ◌≡◌ {A = Result (List B) Refusal} (Err c) (Err d) = sym k ∙ h in
+        let same : c ≡ d = cc in (x, e ∙ ap Err same)
 
 none_told : (setting : Setting) (mapped : List Mapped) → notices_about setting Stop mapped ≡ []
 none_told setting [] = refl
@@ -87,11 +81,9 @@ none_told setting (m ∷ ms) = rw (silent_of setting m) (none_told setting ms)
 -- if the strike is refused there is nothing to tell
 quiet : (setting : Setting) (refused : OnRefused) (mapped others : List Mapped) (d : Refusal)
     → fates_in setting refused mapped ≡ Err d → notices_about setting refused others ≡ []
-quiet setting Stop mapped others d h = none_told setting others
-quiet setting LeaveOut mapped others d h =
-    absurd (never_refused (mapped_fate_of setting LeaveOut) (λ x e. never_of setting LeaveOut x e (λ k. absurd (cc (k)))) _ d h)
-quiet setting Unhinted mapped others d h =
-    absurd (never_refused (mapped_fate_of setting Unhinted) (λ x e. never_of setting Unhinted x e (λ k. absurd (cc (k)))) _ d h)
+quiet setting refused mapped others d h =
+    let f = chain_failed (mapped_fate_of setting refused) mapped d h in
+    rw (stops_of setting refused f.0 d f.1) (none_told setting others)
 
 -- ---- the strike
 

@@ -4,7 +4,6 @@ use Rattle.std.proofs.Common.{◌≡◌, ℕ, Bool, false, List, length, take, O
 use Rattle.std.specs.Io.KnownBytes.{Appends}
 use Rattle.std.proofs.KnownBytes.{Appends-nil}
 use Rattle.std.proofs.lemmas.List.{take_all}
-use Rattle.fx_fixed.specs.Changes.{Change}
 use Rattle.fx_sfnt.specs.declared.fault.FontFault.{FontFault}
 use Rattle.fx_sfnt.specs.declared.fault.FontFault.TheVariants as font
 use Rattle.fx_glyf.specs.declared.fault.GlyphFault.{GlyphFault}
@@ -20,20 +19,14 @@ use Rattle.fx_request.specs.declared.refusal.Refusal.TheVariants.{WriteFailed, R
 use Rattle.fx_request.specs.Faults.{of_font, of_glyph}
 use Rattle.fx_strike.specs.declared.opened.Opened.{Opened}
 use Rattle.fx_strike.specs.Faults.{Fails, of_hint}
-use Rattle.fx_strike.specs.Headline.{IsCause}
+use Rattle.fx_strike.specs.Headline.{IsCause, Change}
 use Rattle.fx_strike.specs.Traces.{untold, told_by, told_from, end_with, Tells, refused_as}
 
 -- ---- no fault of programs is one of the writer
 
 not_font : (f : FontFault) (n : ℕ) → of_font f ≡ WriteFailed n → ⊥
 not_font font.NotTrueType n e = absurd cc
-not_font font.NoFace n e = absurd cc
-not_font (font.TableMissing tag) n e = absurd cc
-not_font (font.TableShort tag) n e = absurd cc
-not_font font.BadHead n e = absurd cc
-not_font font.BadMaxp n e = absurd cc
-not_font (font.BadLoca g) n e = absurd cc
-not_font (font.BadGlyphNumber g) n e = absurd cc
+not_font _ n e = absurd cc
 
 not_glyph : (f : GlyphFault) (n : ℕ) → of_glyph f ≡ WriteFailed n → ⊥
 not_glyph (glyf.GlyphShort g) n e = absurd cc
@@ -42,12 +35,7 @@ not_glyph (glyf.BadContours g) n e = absurd cc
 not_writer : (f : HintFault) (n : ℕ) → of_hint f ≡ WriteFailed n → ⊥
 not_writer (hint.Font f) n e = not_font f n e
 not_writer (hint.Glyph f) n e = not_glyph f n e
-not_writer (hint.ComponentDepth g) n e = absurd cc
-not_writer (hint.TooManyComponents g) n e = absurd cc
-not_writer (hint.TooManyPoints g) n e = absurd cc
-not_writer (hint.BadPointMatch g) n e = absurd cc
-not_writer (hint.Halted halt) n e = absurd cc
-not_writer hint.OutOfMemory n e = absurd cc
+not_writer _ n e = absurd cc
 
 same_refusal : {a b : Refusal} → ◌≡◌ {A = Result Bool Refusal} (Err a) (Err b) → a ≡ b
 same_refusal e = cc

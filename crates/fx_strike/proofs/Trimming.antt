@@ -1,17 +1,16 @@
 -- Bits of the plane that all lie in a square, less than the greatest side apart, have a glyph.
 -- Serves the law that a strike exists, with Existing.
 use Rattle.std.proofs.Common.{◌≡◌, refl, sym, ap, ap₂, ◌∙◌, subst, inl, inr, ◌⊎◌, ℕ, zero, suc, ◌+◌, ◌-◌, ◌<◌, ◌≤◌, ℤ, pos, negsuc}
-use Rattle.std.proofs.Common.{◌+ℤ◌, ◌≤ℤ◌, ◌<ℤ◌, Bool, true, false, ◌||◌, List, [], ◌∷◌, length, get_or, All, Decides, true≢false, arith}
-use Rattle.std.specs.Prelude.{if◌then◌else◌}
+use Rattle.std.proofs.Common.{◌+ℤ◌, ◌≤ℤ◌, ◌<ℤ◌, Bool, true, false, ◌||◌, [], Decides, true≢false, arith}
 use Rattle.std.proofs.lemmas.Bool.Decides.{Decides-below_or}
-use Rattle.std.proofs.lemmas.Int.{ints}
 use Rattle.fx_fixed.proofs.Linear.{signed_linear}
 use Rattle.fx_winding.specs.Limits.{greatest_side}
 use Rattle.fx_winding.specs.Frames.{steps}
-use Rattle.fx_bdf.specs.Glyphs.{Box, Glyph, HasSides, IsFormed, IsTrimmed, is_in_box, no_box, last_of, glyph_bit}
-use Rattle.fx_winding.proofs.Grid.{steps_below}
+use Rattle.fx_bdf.specs.Glyphs.{Box, Glyph, HasSides, IsBoxed, IsTrimmed, is_in_box, no_box, last_of, rows_in}
 use Rattle.fx_bdf.proofs.Cases.{split, not_set}
-use Rattle.fx_bdf.proofs.Boxes.{steps_above, parts_of_place, lies_in_box}
+use Rattle.fx_bdf.proofs.Boxes.{steps_above, lies_in_box}
+use Rattle.fx_bdf.proofs.Trimmed.{formed_of, shows_bits}
+use Rattle.fx_bdf.proofs.Trims.{none_boxed}
 
 not_both : (b : Bool) → b ≡ false → b ≡ true → ⊥
 not_both b h k = true≢false (sym k ∙ h)
@@ -78,26 +77,6 @@ some_decides : (p : ℕ → Bool) (n : ℕ) → Decides (some p n) ((k : ℕ) ×
 unfolding some
 some_decides p n = Decides-below_or p (λ k. p k ≡ true) (some p) (λ k. (λ e. e, λ e. e)) refl (λ n. refl) n
 
--- ---- lists by numbers
-
--- the values of a function at n numbers, from k on
-abbrev each_number : {X : Type 0} → (ℕ → X) → ℕ → ℕ → List X
-each_number f k zero = []
-each_number f k (suc more) = f k ∷ each_number f (suc k) more
-
-get_numbered : {X : Type 0} (f : ℕ → X) (s n k : ℕ) (d : X) → k < n → get_or (each_number f s n) k d ≡ f (s + k)
-get_numbered f s zero k d l = absurd (omega arith)
-get_numbered f s (suc n) zero d l = let e : s ≡ s + 0 = omega arith in ap f e
-get_numbered f s (suc n) (suc k) d l =
-    let e : suc s + k ≡ s + suc k = omega arith in get_numbered f (suc s) n k d (omega arith) ∙ ap f e
-
-length_numbered : {X : Type 0} (f : ℕ → X) (s n : ℕ) → length (each_number f s n) ≡ n
-length_numbered f s zero = refl
-length_numbered f s (suc n) = ap suc (length_numbered f (suc s) n)
-
-all_numbered : {X : Type 0} (P : X → Type 0) (f : ℕ → X) (s n : ℕ) → ((k : ℕ) → P (f k)) → All P (each_number f s n)
-all_numbered P f s n h k d l = subst P (sym (get_numbered f s n k d (omega (arith, length_numbered f s n)))) (h (s + k))
-
 -- ---- the glyph of bits
 
 record Offset (base : ℤ) (n : ℕ) (z : ℤ) : Type 0 where
@@ -118,50 +97,21 @@ pub record AreSmall (bit : ℤ → ℤ → Bool) (base : ℤ) (n : ℕ) : Type 0
   pub narrow : (col row col2 row2 : ℤ) → bit col row ≡ true → bit col2 row2 ≡ true → col2 <ℤ (col +ℤ pos greatest_side)
   pub low : (col row col2 row2 : ℤ) → bit col row ≡ true → bit col2 row2 ≡ true → row2 <ℤ (row +ℤ pos greatest_side)
 
-outside_box : (g : Glyph) (col row : ℤ) → is_in_box g.box col row ≡ false → glyph_bit g col row ≡ false
-unfolding glyph_bit
-outside_box g col row h = ap (λ (t : Bool). if t then get_or (get_or g.rows (g.box.height - 1 - steps g.box.bottom row) [])
-    (steps g.box.left col) false else false) h
-
-inside_box : (g : Glyph) (col row : ℤ) → is_in_box g.box col row ≡ true
-    → glyph_bit g col row ≡ get_or (get_or g.rows (g.box.height - 1 - steps g.box.bottom row) []) (steps g.box.left col) false
-unfolding glyph_bit
-inside_box g col row h = ap (λ (t : Bool). if t then get_or (get_or g.rows (g.box.height - 1 - steps g.box.bottom row) [])
-    (steps g.box.left col) false else false) h
-
-empty_box : (col row : ℤ) → is_in_box no_box col row ≡ false
-empty_box col row =
-    not_set (is_in_box no_box col row) (λ h. let p = parts_of_place no_box col row h in absurd (omega (arith, signed_linear)))
-
-bare : (bit : ℤ → ℤ → Bool) (code : ℕ) (swidth dwidth : ℤ) → ((col row : ℤ) → bit col row ≡ false)
+-- in their tight box
+trimmed_in : (code : ℕ) (swidth dwidth : ℤ) (bit : ℤ → ℤ → Bool) (box : Box) → IsBoxed box bit
     → (g : Glyph) × IsTrimmed code swidth dwidth bit g
-bare bit code swidth dwidth none =
-    let g : Glyph = record { code = code; swidth = swidth; dwidth = dwidth; box = no_box; rows = [] } in (
+trimmed_in code swidth dwidth bit box h =
+    let g : Glyph = record { code = code; swidth = swidth; dwidth = dwidth; box = box; rows = rows_in box bit } in (
       g,
       record {
         code_is = refl;
         swidth_is = refl;
         dwidth_is = refl;
-        bits = λ col row. outside_box g col row (empty_box col row) ∙ sym (none col row);
-        tight = record { holds = λ col row h. absurd (not_both (bit col row) (none col row) h); sides = inl refl };
-        formed = record {
-          height = refl;
-          width = λ k d l. absurd (omega arith);
-          high = omega arith;
-          wide = omega arith;
-          placed = record {
-            left = omega (arith, ints);
-            right = omega (arith, ints);
-            bottom = omega (arith, ints);
-            top = omega (arith, ints);
-          };
-        };
+        bits = shows_bits bit g refl h.tight;
+        tight = h.tight;
+        formed = formed_of bit g refl h.high h.wide h.placed;
       },
     )
-
--- the rows of the bits in a box
-abbrev line_of : (ℤ → ℤ → Bool) → Box → ℕ → List Bool
-line_of bit box k = each_number (λ c. bit (box.left +ℤ pos c) (box.bottom +ℤ pos (box.height - 1 - k))) 0 box.width
 
 module _ (bit : ℤ → ℤ → Bool) (base : ℤ) (n : ℕ) where
   -- the bit at these steps from the base
@@ -235,15 +185,8 @@ module _ (bit : ℤ → ℤ → Bool) (base : ℤ) (n : ℕ) where
         top = (base +ℤ pos top.0, ap (λ (z : ℤ). bit (base +ℤ pos top.0) z) (last_is r.first r.last r.order) ∙ top.2);
       }
 
-  formed_of : (code : ℕ) (swidth dwidth : ℤ) (c : Reach has_column n) (r : Reach has_row n) → AreSmall bit base n
-      → IsFormed (record {
-        code = code;
-        swidth = swidth;
-        dwidth = dwidth;
-        box = box_of c r;
-        rows = each_number (line_of bit (box_of c r)) 0 (r.last - r.first + 1);
-      })
-  formed_of code swidth dwidth c r s =
+  boxed_of : (c : Reach has_column n) (r : Reach has_row n) → AreSmall bit base n → IsBoxed (box_of c r) bit
+  boxed_of c r s =
       let left = column_of c.first c.at_first in
       let right = column_of c.last c.at_last in
       let bottom = row_of r.first r.at_first in
@@ -251,9 +194,7 @@ module _ (bit : ℤ → ℤ → Bool) (base : ℤ) (n : ℕ) where
       let wide = s.narrow (base +ℤ pos c.first) (base +ℤ pos left.0) (base +ℤ pos c.last) (base +ℤ pos right.0) left.2 right.2 in
       let high = s.low (base +ℤ pos bottom.0) (base +ℤ pos r.first) (base +ℤ pos top.0) (base +ℤ pos r.last) bottom.2 top.2 in
       record {
-        height = length_numbered (line_of bit (box_of c r)) 0 (r.last - r.first + 1);
-        width = all_numbered (λ (row : List Bool). length row ≡ c.last - c.first + 1) (line_of bit (box_of c r)) 0
-            (r.last - r.first + 1) (λ k. length_numbered _ 0 (c.last - c.first + 1));
+        tight = record { holds = holds_of c r s; sides = inr (sides_of c r) };
         high = omega (arith, signed_linear, high);
         wide = omega (arith, signed_linear, wide);
         placed = record {
@@ -264,66 +205,14 @@ module _ (bit : ℤ → ℤ → Bool) (base : ℤ) (n : ℕ) where
         };
       }
 
-  -- the bit of the glyph in its box
-  cell : (box : Box) (col row : ℤ) → is_in_box box col row ≡ true
-      → get_or (get_or (each_number (line_of bit box) 0 box.height) (box.height - 1 - steps box.bottom row) []) (steps box.left col)
-      false ≡ bit col row
-  cell box col row h =
-      let p = parts_of_place box col row h in
-      let across = steps_below box.left box.width col p.0 in
-      let up = steps_below box.bottom box.height row p.1 in
-      let col_is : box.left +ℤ pos (0 + steps box.left col) ≡ col =
-      let e = steps_above box.left col p.0.0 in omega (arith, signed_linear, e) in
-      let row_is : box.bottom +ℤ pos (box.height - 1 - (0 + (box.height - 1 - steps box.bottom row))) ≡ row
-      = let e = steps_above box.bottom row p.1.0 in omega (arith, signed_linear, e, up) in
-      ap (λ (l : List Bool). get_or l (steps box.left col) false)
-      (get_numbered (line_of bit box) 0 box.height (box.height - 1 - steps box.bottom row) [] (omega (arith, up)))
-      ∙ get_numbered (λ c. bit (box.left +ℤ pos c)
-      (box.bottom +ℤ pos (box.height - 1 - (0 + (box.height - 1 - steps box.bottom row))))) 0 box.width (steps box.left col)
-      false across
-      ∙ ap₂ bit col_is row_is
-
-  abbrev glyph_at : ℕ → ℤ → ℤ → Reach has_column n → Reach has_row n → Glyph
-  glyph_at code swidth dwidth c r =
-      record {
-        code = code;
-        swidth = swidth;
-        dwidth = dwidth;
-        box = box_of c r;
-        rows = each_number (line_of bit (box_of c r)) 0 (r.last - r.first + 1);
-      }
-
-  bits_at : (code : ℕ) (swidth dwidth : ℤ) (c : Reach has_column n) (r : Reach has_row n) → AreSmall bit base n
-      → (col row : ℤ) (t : Bool) → is_in_box (box_of c r) col row ≡ t
-      → glyph_bit (glyph_at code swidth dwidth c r) col row ≡ bit col row
-  bits_at code swidth dwidth c r s col row true e =
-      inside_box (glyph_at code swidth dwidth c r) col row e ∙ cell (box_of c r) col row e
-  bits_at code swidth dwidth c r s col row false e =
-      outside_box (glyph_at code swidth dwidth c r) col row e ∙
-      sym (not_set (bit col row) (λ h. not_both (is_in_box (box_of c r) col row) e (holds_of c r s col row h)))
-
-  glyph_in : (code : ℕ) (swidth dwidth : ℤ) (c : Reach has_column n) (r : Reach has_row n) → AreSmall bit base n
-      → (g : Glyph) × IsTrimmed code swidth dwidth bit g
-  glyph_in code swidth dwidth c r s = (
-    glyph_at code swidth dwidth c r,
-    record {
-      code_is = refl;
-      swidth_is = refl;
-      dwidth_is = refl;
-      bits = λ col row. bits_at code swidth dwidth c r s col row (is_in_box (box_of c r) col row) refl;
-      tight = record { holds = holds_of c r s; sides = inr (sides_of c r) };
-      formed = formed_of code swidth dwidth c r s;
-    },
-  )
-
   pub trimmed : (code : ℕ) (swidth dwidth : ℤ) → AreSmall bit base n → (g : Glyph) × IsTrimmed code swidth dwidth bit g
   trimmed code swidth dwidth s = elim (reach has_column n) [
-    | inl none ↦ bare bit code swidth dwidth (λ col row. not_set (bit col row) (λ h.
+    | inl none ↦ trimmed_in code swidth dwidth bit no_box (none_boxed bit (λ col row. not_set (bit col row) (λ h.
         let f = steps_of s col row h in not_both (has_column f.across.at) (none f.across.at f.across.below)
-        (in_column f.across.at f.up.at f.up.below f.here)))
+        (in_column f.across.at f.up.at f.up.below f.here))))
     | inr c ↦ elim (reach has_row n) [
       | inl none ↦ let j = column_of c.first c.at_first in
           absurd (not_both (has_row j.0) (none j.0 j.1) (in_row c.first j.0 (omega (arith, c.order, c.below)) j.2))
-      | inr r ↦ glyph_in code swidth dwidth c r s
+      | inr r ↦ trimmed_in code swidth dwidth bit (box_of c r) (boxed_of c r s)
     ]
   ]

@@ -1,10 +1,8 @@
 -- Blocks of opened fonts.
 use Rattle.std.specs.Prelude.{◌≡◌, List, ℕ, Bool, true, Option, Some, None}
 use Rattle.fx_sfnt.specs.Tables.{Face}
-use Rattle.fx_machine.specs.Known.{Known}
 use Rattle.fx_machine.specs.Blocks.{IsBlockOf, checksum_of, has_words}
-use Rattle.fx_strike.specs.declared.opened.Opened.{Opened}
-use Rattle.fx_strike.specs.Strike.{Setting}
+use Rattle.fx_strike.specs.Strike.{Setting, Known, Opened}
 
 -- words are a block of what a machine knows; any words are one with hinting off
 abbrev pub IsBlockFor : Option Known → List ℕ → Type 0

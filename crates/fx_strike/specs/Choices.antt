@@ -1,14 +1,11 @@
 -- One glyph of a font, chosen by a character or by its number.
 use Rattle.std.specs.Prelude.{ℕ, ◌==◌, if◌then◌else◌, [], ◌∷◌, Option, Some, None, Result, Ok}
 use Rattle.fx_fixed.specs.Chain.{map_ok}
-use Rattle.fx_sfnt.specs.Collections.{FontFileView}
 use Rattle.fx_cmap.specs.Lookup.{glyph_for}
 use Rattle.fx_cmap.specs.declared.mapping.Mapping.{Mapping}
 use Rattle.fx_request.specs.declared.request.Choice.{Choice}
 use Rattle.fx_request.specs.declared.request.Choice.TheVariants.{Character, Number}
-use Rattle.fx_request.specs.declared.request.Mode.{Mode}
-use Rattle.fx_request.specs.declared.refusal.Refusal.{Refusal}
-use Rattle.fx_strike.specs.Strike.{Opening, Sketch, checked_chars, one_of, opened_after}
+use Rattle.fx_strike.specs.Strike.{Opening, Sketch, checked_chars, one_of, opened_after, FontFileView, Mode, Refusal}
 use Rattle.fx_strike.specs.Numbers.{numbered_of}
 
 -- its number, if the font has the character

@@ -3,23 +3,19 @@ use Rattle.std.specs.Prelude.{◌≡◌, ℕ, ◌+◌, ◌<◌, List, [], ◌∷
 use Rattle.std.specs.Prelude.{Result, Ok, Err, IsOk, IfOk, IfErr, IsErrOf, ◌⊎◌}
 use Rattle.std.specs.Io.KnownBytes.{Appends, Keeps}
 use Rattle.std.specs.List.{sum_by}
-use Rattle.fx_sfnt.specs.Collections.{FontFileView}
-use Rattle.fx_bdf.specs.declared.header.Header.{Header}
-use Rattle.fx_bdf.specs.Glyphs.{Glyph}
+pub use Rattle.fx_bdf.specs.declared.header.Header.{Header}
 use Rattle.fx_bdf.specs.X11.{summary_of}
 use Rattle.fx_fixed.specs.Numbers.{counted}
 use Rattle.fx_fixed.specs.Chain.{◌>>=◌}
-use Rattle.fx_request.specs.declared.notice.Notice.{Notice}
-use Rattle.fx_request.specs.declared.refusal.Refusal.{Refusal}
 use Rattle.fx_request.specs.declared.refusal.Refusal.TheVariants.{WriteFailed, ReadFailed, BadHex, InputTooLarge, OutOfMemory}
 use Rattle.fx_request.specs.declared.request.OnRefused.TheVariants.{Stop}
-use Rattle.fx_request.specs.declared.request.Report.{Report}
+pub use Rattle.fx_request.specs.declared.request.Report.{Report}
 use Rattle.fx_request.specs.declared.request.Request.{Request}
-use Rattle.fx_strike.specs.declared.surveyed.Survey.{Survey}
-use Rattle.fx_fixed.specs.Changes.{Change}
+pub use Rattle.fx_strike.specs.declared.surveyed.Survey.{Survey}
+pub use Rattle.fx_fixed.specs.Changes.{Change}
 use Rattle.fx_strike.specs.Strike.{Sketch, Opening, Setting, Plan, IsGlyphOf, AreGlyphsOf, header_of, checked_chars, checked_text}
+use Rattle.fx_strike.specs.Strike.{opened_of, one_with, plan_with, plan_of, strike_text, FontFileView, Glyph, Notice, Refusal}
 use Rattle.fx_strike.specs.Title.{Title, no_title, title_of}
-use Rattle.fx_strike.specs.Strike.{opened_of, one_with, plan_with, plan_of, strike_text}
 
 -- the requested strike of a font file, or the first cause why there is none
 abbrev pub strike_of : FontFileView → Request → Result Plan Refusal

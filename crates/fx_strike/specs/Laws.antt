@@ -1,13 +1,9 @@
 -- What the definitions of a strike imply.
 use Rattle.std.specs.Prelude.{◌≡◌, ℕ, List, [], ◌∷◌, slice_get, Option, Ok, Contains}
 use Rattle.fx_fixed.specs.Chain.{map_ok}
-use Rattle.fx_sfnt.specs.Collections.{FontFileView}
-use Rattle.fx_bdf.specs.Glyphs.{Glyph}
-use Rattle.fx_request.specs.declared.request.Mode.{Mode}
-use Rattle.fx_request.specs.declared.request.OnRefused.{OnRefused}
 use Rattle.fx_request.specs.declared.request.OnRefused.TheVariants.{Stop}
-use Rattle.fx_strike.specs.Title.{Title}
-use Rattle.fx_strike.specs.Strike.{Sketch, Plan, IsGlyphOf, AreGlyphsOf, checked_title, plan_of, one_of, strike_text}
+use Rattle.fx_strike.specs.Strike.{Sketch, Plan, IsGlyphOf, AreGlyphsOf, checked_title, plan_of, one_of, strike_text, FontFileView}
+use Rattle.fx_strike.specs.Strike.{Glyph, Mode, OnRefused, Title}
 
 -- a sketch has one glyph
 abbrev pub GlyphIsOne : Type 0

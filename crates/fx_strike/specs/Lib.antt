@@ -1,5 +1,6 @@
 pub mod Faults
 pub mod Title
+pub mod Sketches
 pub mod Strike
 pub mod Numbers
 pub mod Choices

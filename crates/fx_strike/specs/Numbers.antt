@@ -2,15 +2,11 @@
 use Rattle.std.specs.Prelude.{◌≡◌, ℕ, ℤ, pos, neg_ℤ, List, codes, unwrap_or, Result, Ok}
 use Rattle.fx_fixed.specs.Chain.{◌>>=◌}
 use Rattle.fx_sfnt.specs.Fields.{signed_at}
-use Rattle.fx_sfnt.specs.Collections.{FontFileView}
 use Rattle.fx_sfnt.specs.Tables.{Face, table_or_empty}
 use Rattle.fx_cmap.specs.declared.mapping.Mapping.{Mapping}
-use Rattle.fx_bdf.specs.Glyphs.{Glyph}
-use Rattle.fx_request.specs.declared.request.Mode.{Mode}
-use Rattle.fx_request.specs.declared.refusal.Refusal.{Refusal}
-use Rattle.fx_strike.specs.declared.opened.Opened.{Opened}
 use Rattle.fx_strike.specs.declared.numbers.FontMetrics.{FontMetrics}
-use Rattle.fx_strike.specs.Strike.{Setting, Sketch, IsGlyphOf, glyph_sketch_of, setting_of, opened_at, font_with_map, checked_chars, pixels}
+use Rattle.fx_strike.specs.Strike.{Setting, Sketch, IsGlyphOf, glyph_sketch_of, setting_of, opened_at, font_with_map}
+use Rattle.fx_strike.specs.Strike.{checked_chars, pixels, FontFileView, Glyph, Mode, Refusal, Opened}
 
 -- ---- glyphs by their numbers
 

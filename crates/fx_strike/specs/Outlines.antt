@@ -5,17 +5,13 @@ use Rattle.std.specs.Io.KnownBytes.{Appends, Keeps}
 use Rattle.std.specs.List.{count_by}
 use Rattle.std.specs.Fmt.{decimal, signed_decimal}
 use Rattle.fx_fixed.specs.Chain.{◌>>=◌, map_ok, map_fault}
-use Rattle.fx_fixed.specs.Changes.{Change}
-use Rattle.fx_sfnt.specs.Collections.{FontFileView}
 use Rattle.fx_outline.specs.declared.points.OutlinePoint.{OutlinePoint}
 use Rattle.fx_hint.specs.Outlines.{GlyphOutlineView}
 use Rattle.fx_request.specs.declared.request.Choice.{Choice}
-use Rattle.fx_request.specs.declared.request.Mode.{Mode}
-use Rattle.fx_request.specs.declared.refusal.Refusal.{Refusal}
 use Rattle.fx_request.specs.declared.refusal.Refusal.TheVariants.{OutOfMemory, WriteFailed}
 use Rattle.fx_strike.specs.Faults.{Fails, of_hint}
-use Rattle.fx_strike.specs.Strike.{Opening, Setting, outline_in, setting_in, setting_of}
-use Rattle.fx_strike.specs.Headline.{Late}
+use Rattle.fx_strike.specs.Strike.{Opening, Setting, outline_in, setting_in, setting_of, FontFileView, Mode, Refusal}
+use Rattle.fx_strike.specs.Headline.{Late, Change}
 use Rattle.fx_strike.specs.Choices.{chosen_glyph, opened_choice_of}
 
 -- ---- an outline

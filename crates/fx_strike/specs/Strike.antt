@@ -5,13 +5,12 @@ use Rattle.std.specs.List.{list_any, count_by, flat_map}
 use Rattle.fx_fixed.specs.Chain.{◌>>=◌, refuse, wanted, map_ok, map_fault, map_chain}
 use Rattle.fx_fixed.specs.Numbers.{near_of}
 use Rattle.fx_fixed.specs.Sizes.{ppem_of}
-use Rattle.fx_sfnt.specs.Collections.{FontFileView}
 use Rattle.fx_sfnt.specs.Tables.{Face, font_of}
 use Rattle.fx_sfnt.specs.Glyphs.{metrics_of}
 use Rattle.fx_sfnt.specs.declared.records.Metrics.{Metrics}
 use Rattle.fx_cmap.specs.Lookup.{map_of, glyph_for}
 use Rattle.fx_cmap.specs.declared.mapping.Mapping.{Mapping}
-use Rattle.fx_machine.specs.Known.{Known, machine_of}
+use Rattle.fx_machine.specs.Known.{machine_of}
 use Rattle.fx_machine.specs.declared.usage.Usage.{Usage}
 use Rattle.fx_machine.specs.Usages.{no_usage}
 use Rattle.fx_hint.specs.Hinting.{Hinting, no_hinting}
@@ -28,23 +27,31 @@ use Rattle.fx_gstate.specs.declared.scan.Dropout as asked
 use Rattle.fx_gstate.specs.declared.scan.Dropout.TheVariants as wish
 use Rattle.fx_raster.specs.Rules.{ShapeView, IsPixelSet, shape_of}
 use Rattle.fx_bdf.specs.declared.header.Header.{Header}
-use Rattle.fx_bdf.specs.Glyphs.{Glyph, IsTight, IsFormed, glyph_bit, bounds_of}
+use Rattle.fx_bdf.specs.Glyphs.{IsTight, IsFormed, glyph_bit, bounds_of}
 use Rattle.fx_bdf.specs.Properties.{PropertyView, first_bad}
 use Rattle.fx_bdf.specs.Text.{is_name, header_text, glyph_text, end_text}
 use Rattle.fx_bdf.specs.X11.{all_properties, summary_of}
-use Rattle.fx_request.specs.declared.notice.Notice.{Notice}
-use Rattle.fx_request.specs.declared.request.Mode.{Mode}
-use Rattle.fx_request.specs.declared.request.OnRefused.{OnRefused}
 use Rattle.fx_request.specs.declared.request.OnRefused.TheVariants.{Stop, LeaveOut, Unhinted}
-use Rattle.fx_request.specs.declared.refusal.Refusal.{Refusal}
 use Rattle.fx_request.specs.declared.refusal.Refusal.TheVariants.{BadSize, BadChars, BadName, BadProperty, Halted}
 use Rattle.fx_request.specs.Faults.{of_font, of_char_map, of_machine}
-use Rattle.fx_strike.specs.declared.opened.Opened.{Opened}
-use Rattle.fx_strike.specs.declared.basis.Basis.{Basis}
+use Rattle.fx_strike.specs.declared.opened.Basis.{Basis}
+use Rattle.fx_strike.specs.declared.fate.Fate.TheVariants as fate
 use Rattle.fx_strike.specs.Faults.{of_hint, of_raster}
-use Rattle.fx_strike.specs.Title.{Title}
-use Rattle.fx_request.specs.Characters.{rising}
-use Rattle.fx_request.specs.Limits.{max_characters, max_code}
+-- what these definitions speak of, for all that speak of them
+pub use Rattle.fx_sfnt.specs.Collections.{FontFileView}
+pub use Rattle.fx_machine.specs.Known.{Known}
+pub use Rattle.fx_bdf.specs.Glyphs.{Glyph}
+unfoldable pub use Rattle.fx_request.specs.Characters.{rising}
+pub use Rattle.fx_request.specs.Limits.{max_characters, max_code}
+pub use Rattle.fx_request.specs.declared.notice.Notice.{Notice}
+pub use Rattle.fx_request.specs.declared.request.Mode.{Mode}
+pub use Rattle.fx_request.specs.declared.request.OnRefused.{OnRefused}
+pub use Rattle.fx_request.specs.declared.refusal.Refusal.{Refusal}
+pub use Rattle.fx_strike.specs.Faults.{Fails}
+pub use Rattle.fx_strike.specs.Title.{Title}
+pub use Rattle.fx_strike.specs.Sketches.{Sketch}
+pub use Rattle.fx_strike.specs.declared.opened.Opened.{Opened}
+pub use Rattle.fx_strike.specs.declared.fate.Fate.{Fate}
 
 -- ---- a font at a size
 
@@ -116,15 +123,6 @@ wish_in (Some known) = wish_of known.prepared.graphics
 
 -- ---- a character
 
--- a character of a strike before its bits: its code point, its advance in 1/1000 of an em and in pixels, the shape of its outline,
--- and what its glyph's programs used up
-pub record Sketch : Type 0 where
-  pub code : ℕ
-  pub swidth : ℤ
-  pub dwidth : ℤ
-  pub shape : ShapeView
-  pub usage : Usage
-
 -- an advance of FUnits in 1/1000 of an em, which is `em` FUnits
 abbrev pub thousandths : ℕ → ℕ → ℤ
 thousandths advance em = near_of (pos (advance * 1000)) (pos em)
@@ -165,32 +163,25 @@ one_with setting code = if is_missing setting code then Ok None else map_ok Some
 
 -- ---- characters that are refused
 
--- what becomes of a character that the font has: it is drawn; or it is refused, which is told, and drawn without hinting or
--- left out
-pub data Fate : Type 0 where
-  drawn : Sketch → Fate
-  unhinted : Notice → Sketch → Fate
-  left_out : Notice → Fate
-
--- its sketch, if it is in the strike
+-- the sketch of a character with this fate (`src/fate.rt`), if it is in the strike
 abbrev pub sketches_in : Fate → List Sketch
-sketches_in (drawn sketch) = sketch ∷ []
-sketches_in (unhinted notice sketch) = sketch ∷ []
-sketches_in (left_out notice) = []
+sketches_in (fate.Drawn sketch) = sketch ∷ []
+sketches_in (fate.Unhinted notice sketch) = sketch ∷ []
+sketches_in (fate.LeftOut notice) = []
 
 -- what is told of it
 abbrev pub notices_in : Fate → List Notice
-notices_in (drawn sketch) = []
-notices_in (unhinted notice sketch) = notice ∷ []
-notices_in (left_out notice) = notice ∷ []
+notices_in (fate.Drawn sketch) = []
+notices_in (fate.Unhinted notice sketch) = notice ∷ []
+notices_in (fate.LeftOut notice) = notice ∷ []
 
 -- a code point is left out for a cause
 abbrev pub left_out_for : ℕ → Refusal → Fate
-left_out_for code cause = left_out (record { code = code; cause = cause; unhinted = false })
+left_out_for code cause = fate.LeftOut (record { code = code; cause = cause; unhinted = false })
 
 -- a code point whose program halted, by its sketch without hinting, or the cause why it has none even so
 abbrev pub halted_by : ℕ → Refusal → Result Sketch Refusal → Fate
-halted_by code halt (Ok sketch) = unhinted (record { code = code; cause = halt; unhinted = true }) sketch
+halted_by code halt (Ok sketch) = fate.Unhinted (record { code = code; cause = halt; unhinted = true }) sketch
 halted_by code halt (Err cause) = left_out_for code cause
 
 -- a code point that is refused for a cause, as the request says; `second` is its sketch without hinting, or the cause why it has
@@ -203,7 +194,7 @@ refused_by Unhinted code second cause = Ok (left_out_for code cause)
 
 -- a code point by its sketch, or the first cause why it has none
 abbrev pub fate_by : OnRefused → ℕ → Result Sketch Refusal → Result Sketch Refusal → Result Fate Refusal
-fate_by refused code second (Ok sketch) = Ok (drawn sketch)
+fate_by refused code second (Ok sketch) = Ok (fate.Drawn sketch)
 fate_by refused code second (Err cause) = refused_by refused code second cause
 
 -- the setting without its machine

@@ -2,26 +2,22 @@
 use Rattle.std.specs.Prelude.{◌≡◌, ℕ, ◌+◌, ◌<◌, Bool, true, false, List, [], length, take, Option, Some, None}
 use Rattle.std.specs.Prelude.{Result, Ok, Err, IfOk, IfErr, IsErrOf}
 use Rattle.std.specs.Io.KnownBytes.{Appends}
-use Rattle.fx_fixed.specs.Changes.{Change}
 use Rattle.fx_fixed.specs.Chain.{map_fault}
 use Rattle.fx_fixed.specs.Texts.{after}
-use Rattle.fx_sfnt.specs.Collections.{FontFileView}
 use Rattle.fx_machine.specs.Known.{Known, machine_of}
 use Rattle.fx_hint.specs.declared.fault.HintFault.{HintFault}
 use Rattle.fx_trace.specs.declared.fault.TraceFault.{TraceFault}
 use Rattle.fx_trace.specs.declared.fault.TraceFault.TheVariants as trace
 use Rattle.fx_trace.specs.Traces.{Trace, fpgm_trace, prep_trace, glyph_trace}
 use Rattle.fx_request.specs.declared.request.Choice.TheVariants as choice
-use Rattle.fx_request.specs.declared.refusal.Refusal.{Refusal}
 use Rattle.fx_request.specs.declared.refusal.Refusal.TheVariants.{WriteFailed, OutOfMemory}
 use Rattle.fx_request.specs.Faults.{of_machine}
 use Rattle.fx_strike.specs.Choices.{chosen_glyph}
-use Rattle.fx_strike.specs.declared.opened.Opened.{Opened}
 use Rattle.fx_strike.specs.declared.trace.Traced.{Traced}
 use Rattle.fx_strike.specs.declared.trace.Traced.TheVariants.{Fpgm, Prep, Number, Character}
 use Rattle.fx_strike.specs.Faults.{of_hint}
-use Rattle.fx_strike.specs.Strike.{Opening, opened_at, opened_one_of}
-use Rattle.fx_strike.specs.Headline.{HasToName}
+use Rattle.fx_strike.specs.Strike.{Opening, opened_at, opened_one_of, FontFileView, Refusal, Opened}
+use Rattle.fx_strike.specs.Headline.{HasToName, Change}
 
 -- ---- the trace
 

@@ -1,20 +1,16 @@
 //! Blocks: a font that was opened at a size, as words, so that no program runs when it is opened again.
 ghost use Rattle.std.specs.Prelude.{◌≡◌, Option, Ok, Some, true, IfOk, IfErr, IfSome, IsSome, IsErrOf, OnOk, is_some};
-ghost use Rattle.fx_machine.specs.Known.{Known};
 ghost use Rattle.fx_machine.specs.Blocks.{IsBlockOf};
 ghost use Rattle.fx_request.specs.Faults.{of_machine};
-ghost use Rattle.fx_strike.specs.Faults.{Fails};
 ghost use Rattle.fx_strike.specs.Blocks.{IsBlockFor, IsBlockIn, IsOwn, has_block, opened_in};
-ghost use Rattle.fx_strike.specs.Strike.{Setting, checked_chars, machine_for, setting_for, setting_in, setting_of};
-ghost use Rattle.fx_strike.specs.Strike.{opened_at, opened_many_of};
+ghost use Rattle.fx_strike.specs.Strike.{Setting, checked_chars, machine_for, setting_for, setting_in, setting_of, opened_at};
+ghost use Rattle.fx_strike.specs.Strike.{opened_many_of, Known, Fails};
 ghost use Rattle.fx_strike.specs.Headline.{Late};
 
-use crate::basis::Basis;
 use crate::hinter::{FontHinter, keeping};
-use crate::open::{open_at, open_many};
-use crate::opened::Opened;
+use crate::open::open_many;
+use crate::opened::{Basis, Opened};
 use crate::striker::Striker;
-use crate::tools::Tools;
 use fx_machine::Machine;
 use fx_raster::{Rows, Scan};
 use fx_request::{Mode, Refusal};
@@ -61,12 +57,8 @@ fn striker_in<'a>(
     let Some(hinter) = hinter_in(alloc, &opened, mode.hinting, block)? else {
         return Ok(None);
     };
-    let tools = Tools {
-        alloc,
-        scan: &Rows,
-        basis: Basis::of(opened, mode),
-    };
-    Ok(Some(Striker { tools, hinter }))
+    let dropout = mode.dropout;
+    Ok(Some(Striker::with(alloc, &Rows, Basis { opened, dropout }, hinter)))
 }
 
 impl<'a> FontHinter<'a> {
@@ -90,6 +82,7 @@ impl<'a> Striker<'a, Rows> {
     ///
     /// The first cause is returned, in this order: the size; the font's tables, its character map. `OutOfMemory` may be returned
     /// after these.
+    #[tactic(auto, unfolding(crate::specs::Strike::checked_chars, crate::specs::Strike::setting_for, crate::specs::Strike::setting_of))]
     pub fn of_block(
         alloc: Global,
         font: &FontFile<'a>,
@@ -110,8 +103,7 @@ impl<'a> Striker<'a, Rows> {
         // The size is valid, and the font and its character map opened.
         ensures late { IsErrOf result Refusal.OutOfMemory → Late (opened_at font.now ppem) }
     {
-        let opened = open_at(font, ppem)?;
-        Ok(striker_in(alloc, opened, mode, block)?)
+        Striker::of_block_for(alloc, font, ppem, &[], mode, block)
     }
 
     /// Opens a font at a size for characters that are made one by one, as `open_for` does, by a block as `of_block`.
@@ -153,6 +145,6 @@ impl<'a, S: Scan> Striker<'a, S> {
         ensures block { IfOk result (λ made. IfSome made (λ words. IsBlockIn self.now words.items)) }
         ensures there { IfOk result (λ made. is_some made ≡ has_block self.now.machine) }
     {
-        self.hinter.block(self.tools.alloc)
+        self.hinter.block(self.alloc)
     }
 }

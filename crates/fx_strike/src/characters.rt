@@ -5,7 +5,7 @@ ghost use Rattle.fx_request.specs.Limits.{max_characters};
 ghost use Rattle.fx_request.specs.Characters.{rising};
 ghost use Rattle.fx_strike.specs.inner.Mapping.{AreCharactersOf, mapped_of};
 
-use crate::tools::Tools;
+use crate::striker::Striker;
 use fx_cmap::CharMap;
 use fx_raster::Scan;
 use fx_request::{Refusal, rising_codes};
@@ -71,11 +71,11 @@ fn look_up(alloc: Global, map: &CharMap<'_>, codes: &[u32]) -> Result<Vec<Mapped
     Ok(mapped)
 }
 
-impl<'a, S: Scan> Tools<'a, S> {
+impl<'a, S: Scan> Striker<'a, S> {
     /// The characters of a strike.
     pub(crate) fn characters(&self, chars: &[u32]) -> Result<Characters, Refusal>
         requires few { length chars.now ≤ max_characters }
-        ensures characters { IfOk result (λ c. AreCharactersOf self.now.basis.opened.map (rising chars.now) c) }
+        ensures characters { IfOk result (λ c. AreCharactersOf self.now.map (rising chars.now) c) }
         ensures fault { IfErr result (λ e. e ≡ Refusal.OutOfMemory) }
     {
         let codes = rising_codes(self.alloc, chars)?;

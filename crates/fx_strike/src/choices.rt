@@ -1,11 +1,10 @@
 //! One glyph of a font, chosen by a character or by its number.
 ghost use Rattle.std.specs.Prelude.{◌≡◌, IfOk, IfErr, IsErrOf};
-ghost use Rattle.fx_strike.specs.Faults.{Fails};
 ghost use Rattle.fx_strike.specs.Choices.{choice_of, chosen_glyph, opened_choice_of};
 ghost use Rattle.fx_strike.specs.Headline.{IsCause, IsOneOf, Late};
 ghost use Rattle.fx_strike.specs.Numbers.{numbered_of};
-ghost use Rattle.fx_strike.specs.Strike.{opened_at};
-ghost use Rattle.fx_strike.specs.inner.Drawing.{Draws, Finds};
+ghost use Rattle.fx_strike.specs.Strike.{opened_at, Fails};
+ghost use Rattle.fx_strike.specs.inner.Drawing.{Draws};
 
 use crate::one_character::one;
 use crate::open::{open_at, open_one};
@@ -13,7 +12,6 @@ use crate::opened::Opened;
 use crate::striker::Striker;
 use fx_bdf::BitGlyph;
 use fx_cmap::CharMap;
-use fx_raster::Rows;
 use fx_request::{Choice, Mode, Refusal};
 use fx_sfnt::FontFile;
 use std::alloc::Global;
@@ -58,8 +56,7 @@ fn numbered_one(
     ensures drawn { Draws (numbered_of font.now ppem glyph mode) result }
     ensures late { IsErrOf result Refusal.OutOfMemory → Late (opened_at font.now ppem) }
 {
-    let opened = open_at(font, ppem)?;
-    let mut striker = Striker::of(alloc, &Rows, opened, mode)?;
+    let mut striker = Striker::open(alloc, font, ppem, mode)?;
     striker.numbered(glyph)
 }
 

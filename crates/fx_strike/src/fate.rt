@@ -1,15 +1,11 @@
 //! What becomes of a character: it is drawn, or it is refused, and drawn without hinting or left out.
-ghost use Rattle.std.specs.Prelude.{◌≡◌, ℕ, Option, None, Ok};
-ghost use Rattle.fx_machine.specs.Known.{Known};
-ghost use Rattle.fx_strike.specs.Faults.{Fails};
-ghost use Rattle.fx_strike.specs.Strike.{setting_with, glyph_sketch_of, glyph_fate_of, halted_by, left_out_for, refused_by};
-ghost use Rattle.fx_strike.specs.inner.Drawing.{Decides, IsFateOf, Sketches};
+ghost use Rattle.std.specs.Prelude.{◌≡◌, Ok};
+ghost use Rattle.fx_fixed.specs.Chain.{GivesUnless};
+ghost use Rattle.fx_strike.specs.Strike.{glyph_sketch_of, glyph_fate_of, halted_by, left_out_for, machineless, refused_by, Fails};
 
 use crate::characters::Mapped;
-use crate::hinter::FontHinter;
-use crate::sketch::{outline_made, sketch_with};
-use crate::sketched::Sketched;
-use crate::tools::Tools;
+use crate::sketch::Sketch;
+use crate::striker::Striker;
 use fx_machine::Halt;
 use fx_raster::Scan;
 use fx_request::{Notice, OnRefused, Refusal};
@@ -18,109 +14,97 @@ use fx_request::{Notice, OnRefused, Refusal};
 #[derive(Drop)]
 pub(crate) enum Fate {
     /// It is drawn.
-    Drawn(Sketched),
+    Drawn(Sketch),
     /// Its program halted, and it is drawn without hinting.
-    Unhinted(Notice, Sketched),
+    Unhinted(Notice, Sketch),
     /// It is refused, and left out.
     LeftOut(Notice),
 }
 
-impl<'a, S: Scan> Tools<'a, S> {
-    /// The glyph of this number before its bits. Its outline is made.
-    pub(crate) fn sketch_at(
-        &self,
-        hinter: &mut FontHinter<'_>,
-        glyph: u16,
-    ) -> Result<Sketched, Refusal>
-        ensures kept { hinter.new ≡ hinter.old }
-        ensures sketch { (code : ℕ)
-            → Sketches (glyph_sketch_of (setting_with self.now.basis hinter.old) code glyph) result }
-    {
-        let drawing = outline_made(self.alloc, hinter, &self.basis.opened, glyph)?;
-        sketch_with(&self.basis, glyph, drawing)
-    }
-
+impl<'a, S: Scan> Striker<'a, S> {
     /// What becomes of a character that the font has; or the first cause that refuses the strike.
-    pub(crate) fn fate_of(
-        &self,
-        refused: OnRefused,
-        hinter: &mut FontHinter<'_>,
-        m: Mapped,
-    ) -> Result<Fate, Refusal>
-        ensures kept { hinter.new ≡ hinter.old }
-        ensures fate { Decides (glyph_fate_of (setting_with self.now.basis hinter.old) refused m.code m.glyph) result }
+    pub(crate) fn fate_of(&mut self, refused: OnRefused, m: Mapped) -> Result<Fate, Refusal>
+        ensures kept { self.new ≡ self.old }
+        ensures fate { GivesUnless Fails (λ f. f) result (glyph_fate_of self.old refused m.code m.glyph) }
     {
-        match self.sketch_at(hinter, m.glyph) {
-            Ok(sketched) => Ok(Fate::Drawn(sketched)),
-            Err(cause) => self.fate_refused(refused, m.code, m.glyph, cause),
+        match self.sketch_at(m.code, m.glyph) {
+            Ok(sketch) => Ok(Fate::Drawn(sketch)),
+            Err(cause) => self.fate_refused(refused, m, cause),
         }
     }
 
-    /// What becomes of a code point that is refused for a cause. Out of memory is none. Few code points are refused, so this code
-    /// is kept out of the loops over the others.
+    /// What becomes of a character that is refused for a cause. Out of memory is none. Few characters are refused, so this code is
+    /// kept out of the loops over the others.
     #[inline(never)]
     fn fate_refused(
-        &self,
+        &mut self,
         refused: OnRefused,
-        code: u32,
-        glyph: u16,
+        m: Mapped,
         cause: Refusal,
     ) -> Result<Fate, Refusal>
-        ensures { (machine : Option Known)
-            → Fails cause (glyph_sketch_of (setting_with self.now.basis machine) code glyph)
-            → Decides (glyph_fate_of (setting_with self.now.basis machine) refused code glyph) result }
+        ensures kept { self.new ≡ self.old }
+        ensures fate { Fails cause (glyph_sketch_of self.old m.code m.glyph)
+            → GivesUnless Fails (λ f. f) result (glyph_fate_of self.old refused m.code m.glyph) }
     {
         match cause {
             Refusal::OutOfMemory => Err(Refusal::OutOfMemory),
-            Refusal::Halted(halt) => self.fate_halted(refused, code, glyph, halt),
+            Refusal::Halted(halt) => self.fate_halted(refused, m, halt),
             _ => match refused {
                 OnRefused::Stop => Err(cause),
-                OnRefused::LeaveOut | OnRefused::Unhinted => Ok(left_out(code, cause)),
+                OnRefused::LeaveOut | OnRefused::Unhinted => Ok(left_out(m.code, cause)),
             }
         }
     }
 
-    /// What becomes of a code point whose program halted. If it may be drawn without hinting, it is if it has a glyph then.
-    fn fate_halted(
-        &self,
-        refused: OnRefused,
-        code: u32,
-        glyph: u16,
-        halt: Halt,
-    ) -> Result<Fate, Refusal>
-        ensures { Decides (refused_by refused code (glyph_sketch_of (setting_with self.now.basis None) code glyph)
-            (Refusal.Halted halt)) result }
+    /// What becomes of a character whose program halted. If it may be drawn without hinting, it is if it has a sketch then.
+    fn fate_halted(&mut self, refused: OnRefused, m: Mapped, halt: Halt) -> Result<Fate, Refusal>
+        ensures kept { self.new ≡ self.old }
+        ensures fate { GivesUnless Fails (λ f. f) result
+            (refused_by refused m.code (glyph_sketch_of (machineless self.old) m.code m.glyph) (Refusal.Halted halt)) }
     {
         match refused {
             OnRefused::Stop => Err(Refusal::Halted(halt)),
-            OnRefused::LeaveOut => Ok(left_out(code, Refusal::Halted(halt))),
-            OnRefused::Unhinted => self.fate_unhinted(code, glyph, halt),
+            OnRefused::LeaveOut => Ok(left_out(m.code, Refusal::Halted(halt))),
+            OnRefused::Unhinted => self.fate_unhinted(m, halt),
         }
     }
 
-    /// What becomes of a code point whose program halted, and that is drawn without hinting if it has a glyph then.
-    fn fate_unhinted(&self, code: u32, glyph: u16, halt: Halt) -> Result<Fate, Refusal>
-        ensures { Decides (Ok (halted_by code (Refusal.Halted halt)
-            (glyph_sketch_of (setting_with self.now.basis None) code glyph))) result }
+    /// What becomes of a character whose program halted, and that is drawn without hinting if it has a sketch then.
+    fn fate_unhinted(&mut self, m: Mapped, halt: Halt) -> Result<Fate, Refusal>
+        ensures kept { self.new ≡ self.old }
+        ensures fate { GivesUnless Fails (λ f. f) result
+            (Ok (halted_by m.code (Refusal.Halted halt) (glyph_sketch_of (machineless self.old) m.code m.glyph))) }
     {
-        match self.sketch_at(&mut FontHinter::none(self.alloc), glyph) {
-            Ok(sketched) => {
+        match self.sketch_unhinted(m.code, m.glyph) {
+            Ok(sketch) => {
                 let notice = Notice {
-                    code,
+                    code: m.code,
                     cause: Refusal::Halted(halt),
                     unhinted: true,
                 };
-                Ok(Fate::Unhinted(notice, sketched))
+                Ok(Fate::Unhinted(notice, sketch))
             }
             Err(Refusal::OutOfMemory) => Err(Refusal::OutOfMemory),
-            Err(cause) => Ok(left_out(code, cause)),
+            Err(cause) => Ok(left_out(m.code, cause)),
+        }
+    }
+
+    /// Takes the lists of a character's outline, which is done with, for the next one.
+    pub(crate) fn give_back(&mut self, fate: Fate)
+        ensures { self.new ≡ self.old }
+    {
+        match fate {
+            Fate::Drawn(sketch) | Fate::Unhinted(_, sketch) => {
+                self.spare.give_back(sketch.shape.into_outline())
+            }
+            Fate::LeftOut(_) => {}
         }
     }
 }
 
 /// A code point that is left out for a cause.
 fn left_out(code: u32, cause: Refusal) -> Fate
-    ensures { IsFateOf (left_out_for code cause) result }
+    ensures { result ≡ left_out_for code cause }
 {
     Fate::LeftOut(Notice {
         code,

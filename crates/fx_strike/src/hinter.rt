@@ -3,34 +3,24 @@ ghost use Rattle.std.specs.Prelude.{◌≡◌, Some, None, IfOk};
 ghost use Rattle.fx_fixed.specs.Chain.{map_fault, GivesUnless};
 ghost use Rattle.fx_machine.specs.Known.{machine_of};
 ghost use Rattle.fx_request.specs.Faults.{of_machine};
-ghost use Rattle.fx_strike.specs.Faults.{Fails};
-ghost use Rattle.fx_strike.specs.Strike.{machine_for, prelude_by, wish_in};
+ghost use Rattle.fx_strike.specs.Strike.{machine_for, prelude_by, wish_in, Fails};
 
-use crate::fate::Fate;
 use crate::opened::Opened;
 use fx_gstate::Dropout as Wish;
-use fx_hint::{
-    ComponentOf, GlyphInput, HintFault, Hinter, KeepingMachine, KeepingUnhinted, Made, Spare,
-};
+use fx_hint::{ComponentOf, GlyphInput, HintFault, Hinter, KeepingMachine, KeepingUnhinted, Made};
 use fx_machine::{Machine, Unwatched, Usage};
-use fx_raster::Scratch;
 use fx_request::Refusal;
 use std::alloc::{AllocError, Global};
 use std::marker::Model;
 
 /// What hints the glyphs of a font at a size: a machine of the font whose `fpgm` and `prep` ran, or nothing with hinting off.
 /// Either way components that come again are kept. The machine lies in a box, so that the functions that hand it on hold little.
-/// With it go the buffers that one glyph leaves to the next. Contracts see what stays as it is, whatever runs: what is known of
-/// the machine.
+/// Contracts see what stays as it is, whatever runs: what is known of the machine.
 #[derive(Drop)]
 pub(crate) struct FontHinter<'a> {
     pub(crate) machine: Option<Box<KeepingMachine<'a>>>,
     /// What assembles outlines if there is no machine.
     unhinted: KeepingUnhinted,
-    /// What scans work with.
-    pub scratch: Scratch,
-    /// The lists of an outline that is done with, which the next one takes over.
-    pub spare: Spare,
 }
 
 impl<'a> Model for FontHinter<'a> {
@@ -50,8 +40,6 @@ impl<'a> FontHinter<'a> {
         FontHinter {
             machine: None,
             unhinted: KeepingUnhinted::new(alloc),
-            scratch: Scratch::new(alloc),
-            spare: Spare::new(alloc),
         }
     }
 
@@ -82,19 +70,6 @@ impl<'a> FontHinter<'a> {
         match &self.machine {
             Some(machine) => machine.machine().wish(),
             None => None,
-        }
-    }
-}
-
-impl<'a> FontHinter<'a> {
-    /// Takes the lists of a character's outline, which is done with, for the next one.
-    pub(crate) fn give_back(&mut self, fate: Fate)
-        ensures { self.new ≡ self.old }
-    {
-        match fate {
-            Fate::Drawn(sketched) => self.spare.give_back(sketched.shape.into_outline()),
-            Fate::Unhinted(_, sketched) => self.spare.give_back(sketched.shape.into_outline()),
-            Fate::LeftOut(_) => {}
         }
     }
 }

@@ -108,7 +108,7 @@ pub(crate) struct KeptText {
 }
 
 impl KeptText {
-    /// No character; with room for some, or nothing is kept. No memory is taken.
+    /// No lines yet. Nothing is ever kept if there is to be no room. No memory is taken.
     pub(crate) fn new(alloc: Global, has_room: bool) -> KeptText
         ensures { IsOfNone result }
     {

@@ -18,11 +18,9 @@
 //! writes the listing of a program straight to the writer, and takes no memory.
 #![tactic(auto)]
 
-mod basis;
 mod block;
 mod characters;
 mod choices;
-mod draft;
 mod draw;
 mod fate;
 mod faults;
@@ -33,7 +31,6 @@ mod kept_text;
 pub mod laws;
 mod listing;
 mod make;
-mod numbered;
 mod numbers;
 mod one_character;
 mod open;
@@ -44,22 +41,18 @@ mod rule;
 mod second_pass;
 mod seen;
 mod sketch;
-mod sketched;
 mod striker;
 mod strikes;
 mod surveyed;
-mod surveying;
-mod tools;
 mod trace;
 
 pub use choices::chosen;
 pub use fx_bdf::Title;
 pub use listing::listing_of;
-pub use make::{make_strike, make_strike_telling, make_strike_with};
+pub use make::{make_strike, make_strike_telling, make_strike_with, survey};
 pub use numbers::{FontMetrics, font_metrics, map_for};
 pub use one_character::one;
 pub use outlines::{outline_numbered, outlined, write_outline};
 pub use striker::Striker;
 pub use surveyed::Survey;
-pub use surveying::survey;
 pub use trace::{Traced, trace_of};

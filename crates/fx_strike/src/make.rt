@@ -1,11 +1,13 @@
-//! From a font and a request to a strike.
-ghost use Rattle.std.specs.Prelude.{◌<◌, ◌^◌};
+//! From a font and a request to a strike, or to its survey.
+ghost use Rattle.std.specs.Prelude.{◌<◌, ◌^◌, IfOk, IfErr, IsErrOf};
 ghost use Rattle.fx_fixed.specs.Changes.{change_of};
 ghost use Rattle.fx_request.specs.Notices.{Told};
-ghost use Rattle.fx_strike.specs.Headline.{Makes, notices_of, opening_of, strike_of};
+ghost use Rattle.fx_strike.specs.Faults.{Fails};
+ghost use Rattle.fx_strike.specs.Headline.{Late, Makes, Surveyed, notices_of, opening_of, strike_of};
 
 use crate::open::open;
 use crate::striker::Striker;
+use crate::surveyed::Survey;
 use fx_fixed::Sink;
 use fx_raster::{Rows, Scan};
 use fx_request::{Deaf, Listener, Refusal, Report, Request};
@@ -91,11 +93,33 @@ fn make_inner<S: Scan, W: Sink, L: Listener>(
 {
     let opened = open(font, request)?;
     let mut striker = Striker::of(alloc, scan, opened, request.mode)?;
-    striker.write_checked(
+    striker.write_strike(
         &request.title,
         request.chars,
         request.on_refused,
         out,
         listener,
     )
+}
+
+/// Surveys the strike of a font: the numbers of its header, and what is counted over it, with a scan of the caller's choice.
+///
+/// It is refused as the strike is, but for the writer. `OutOfMemory` may be returned in place of any step after the character
+/// map, and of none before it.
+pub fn survey<S: Scan>(
+    alloc: Global,
+    scan: &S,
+    font: &FontFile<'_>,
+    request: &Request<'_>,
+) -> Result<Survey, Refusal>
+    // The strike exists, and these are its numbers.
+    ensures survey { IfOk result (Surveyed (strike_of font.now request.now)) }
+    // The first cause was named, or memory ran out.
+    ensures cause { IfErr result (λ refusal. Fails refusal (strike_of font.now request.now)) }
+    // The request passed its checks, and the font and its character map opened.
+    ensures late { IsErrOf result Refusal.OutOfMemory → Late (opening_of font.now request.now) }
+{
+    let opened = open(font, request)?;
+    let mut striker = Striker::of(alloc, scan, opened, request.mode)?;
+    striker.survey_chars(request.chars, request.on_refused)
 }

@@ -3,7 +3,7 @@ ghost use Rattle.std.specs.Prelude.{◌≡◌};
 ghost use Rattle.fx_strike.specs.Numbers.{font_metrics_of, line_gap_of, map_for, metrics_in};
 ghost use Rattle.fx_strike.specs.Strike.{pixels};
 
-use crate::first_pass::{ascent_of, descent_of, whole_pixels};
+use crate::first_pass::{ascent_of, descent_of, pixels};
 use crate::open::{check_chars, font_with_map, open_at};
 use crate::opened::Opened;
 use fx_cmap::CharMap;
@@ -39,7 +39,7 @@ fn metrics_in(opened: &Opened<'_>) -> FontMetrics
     FontMetrics {
         ascent: ascent_of(opened),
         descent: descent_of(opened),
-        line_gap: whole_pixels(line_gap, opened.ppem, em),
+        line_gap: pixels(line_gap, opened.ppem, em),
         glyphs: opened.font.maxp().num_glyphs,
     }
 }

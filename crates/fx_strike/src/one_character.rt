@@ -1,9 +1,7 @@
 //! One character of a font.
 ghost use Rattle.std.specs.Prelude.{IfOk, IfErr, IsErrOf};
-ghost use Rattle.fx_strike.specs.Faults.{Fails};
-ghost use Rattle.fx_strike.specs.Strike.{opened_one_of, one_of};
+ghost use Rattle.fx_strike.specs.Strike.{opened_one_of, one_of, Fails};
 ghost use Rattle.fx_strike.specs.Headline.{IsOneOf, Late};
-ghost use Rattle.fx_strike.specs.inner.Drawing.{Finds};
 
 use crate::open::open_one;
 use crate::striker::Striker;
@@ -33,21 +31,7 @@ pub fn one(
     // Memory is taken late: after the size and the code point are within their limits, and the font and its map opened.
     ensures late { IsErrOf result Refusal.OutOfMemory → Late (opened_one_of font.now ppem code) }
 {
-    one_inner(alloc, font, ppem, code, mode)
-}
-
-/// `one` with its clauses as two.
-fn one_inner(
-    alloc: Global,
-    font: &FontFile<'_>,
-    ppem: u16,
-    code: u32,
-    mode: Mode,
-) -> Result<Option<BitGlyph>, Refusal>
-    ensures due { Finds (one_of font.now ppem code mode) result }
-    ensures late { IsErrOf result Refusal.OutOfMemory → Late (opened_one_of font.now ppem code) }
-{
     let opened = open_one(font, ppem, code)?;
     let mut striker = Striker::of(alloc, &Rows, opened, mode)?;
-    striker.glyph_checked(code)
+    striker.one(code)
 }

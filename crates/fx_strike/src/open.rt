@@ -4,10 +4,9 @@ ghost use Rattle.std.specs.List.{list_any};
 ghost use Rattle.fx_fixed.specs.Chain.{wanted};
 ghost use Rattle.fx_fixed.specs.Sizes.{ppem_of};
 ghost use Rattle.fx_bdf.specs.Properties.{AreProperties, seen_properties};
-ghost use Rattle.fx_request.specs.Limits.{max_characters, max_code};
 ghost use Rattle.fx_strike.specs.Title.{title_of, titled};
 ghost use Rattle.fx_strike.specs.Strike.{checked_chars, checked_properties, checked_text, checked_title, font_with_map};
-ghost use Rattle.fx_strike.specs.Strike.{opened_many_of, opened_one_of, opened_at};
+ghost use Rattle.fx_strike.specs.Strike.{opened_many_of, opened_one_of, opened_at, max_characters, max_code};
 ghost use Rattle.fx_strike.specs.inner.Surveying.{AreChars, IsChecked};
 ghost use Rattle.fx_strike.specs.Headline.{IsCause, opening_of};
 
@@ -150,12 +149,10 @@ pub(crate) fn open_one<'a>(file: &FontFile<'a>, ppem: u16, code: u32) -> Result<
 }
 
 /// The size, the font and its character map, for no character yet.
-#[tactic(auto, unfolding(crate::specs::Strike::opened_after))]
+#[tactic(auto, unfolding(crate::specs::Strike::checked_chars))]
 pub(crate) fn open_at<'a>(file: &FontFile<'a>, ppem: u16) -> Result<Opened<'a>, Refusal>
     ensures due { result ≡ opened_at file.now ppem }
     ensures named { IfErr result IsCause }
 {
-    let ppem = sized(ppem)?;
-    let (font, map) = font_with_map(file)?;
-    Ok(Opened { ppem, font, map })
+    open_many(file, ppem, &[])
 }

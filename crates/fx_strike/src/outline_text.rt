@@ -1,11 +1,10 @@
 //! The outline of a glyph as text.
-ghost use Rattle.std.specs.Prelude.{◌≡◌, ◌+◌, ◌*◌, ◌<◌, ◌≤◌, ◌^◌, ℕ, [], length, option_map, Some, OnOk, IfErr};
+ghost use Rattle.std.specs.Prelude.{◌≡◌, ◌+◌, ◌*◌, ◌<◌, ◌≤◌, ◌^◌, [], length, option_map, Some, OnOk, IfErr};
 ghost use Rattle.std.specs.Fmt.{signed_decimal};
 ghost use Rattle.fx_fixed.specs.Changes.{change_of};
 ghost use Rattle.fx_fixed.specs.Texts.{Adds, Fails, length_of};
 ghost use Rattle.fx_fixed.specs.Wrote.{Wrote};
 ghost use Rattle.fx_hint.specs.Outlines.{view_of_glyph_outline};
-ghost use Rattle.fx_outline.specs.Ends.{AreEnds};
 ghost use Rattle.fx_strike.specs.Outlines.{advance_line, contour_at, curve_word, outline_text, point_line, point_lines};
 ghost use Rattle.fx_strike.specs.inner.Lengths.{longest_outline};
 
@@ -89,31 +88,30 @@ fn add_points<W: Sink>(
     ends: &[u16],
     text: &mut TextWriter<'_, W>,
 ) -> Result<(), WriteFailed>
-    requires ends { AreEnds 0 ends.now (length points.now) }
-    requires faults { text.old.faults < 2 ^ 63 }
+    requires { text.old.faults < 2 ^ 63 }
     ensures text { Adds Fails text.old text.new (point_lines ends.now 0 points.now) result }
     ensures short { IfErr result (λ e. e.0 ≤ length_of text.old + 88 * length points.now) }
     ensures few { OnOk result (length (point_lines ends.now 0 points.now) ≤ 88 * length points.now) }
 {
-    let mut contour = 0;
-    // The lines of the points before i were added, and at least `contour` contours end before it.
+    // The lines of the points before i were added.
     'points: for i in 0..points.len() {
-        contour = contour_of(ends, contour, i);
+        let contour = contour_at(ends, i);
         add_point(contour, i, &points[i], text)?;
     }
     Ok(())
 }
 
-/// The number of the contour that a point lies on, from one on that is not above it: how many end before the point.
-fn contour_of(ends: &[u16], from: usize, number: usize) -> usize
-    requires ends { (n : ℕ) × AreEnds 0 ends.now n }
-    requires from { from ≤ contour_at ends.now number }
+/// The contour of a point: how many end before it.
+#[tactic(auto, using(std::proofs::lemmas::List::Sums::count_by_more_yes, std::proofs::lemmas::List::Sums::count_by_more_no))]
+fn contour_at(ends: &[u16], number: usize) -> usize
     ensures { result ≡ contour_at ends.now number }
 {
-    let mut contour = from;
-    // The contours before this one end before the point.
-    'ended: while contour < ends.len() && usize::from(ends[contour]) < number {
-        contour += 1;
+    let mut contour = 0;
+    // `contour` is how many of the ends before this one lie before the point.
+    'ends: for last in ends {
+        if usize::from(*last) < number {
+            contour += 1;
+        }
     }
     contour
 }

@@ -3,57 +3,22 @@ ghost use Rattle.std.specs.Prelude.{◌≡◌, ◌<◌, ◌^◌, ℕ, Ok, option
 ghost use Rattle.fx_fixed.specs.Chain.{GivesUnless};
 ghost use Rattle.fx_fixed.specs.Changes.{change_of};
 ghost use Rattle.fx_hint.specs.Outlines.{view_of_glyph_outline};
-ghost use Rattle.fx_strike.specs.Faults.{Fails};
 ghost use Rattle.fx_strike.specs.Choices.{chosen_glyph, opened_choice_of};
 ghost use Rattle.fx_strike.specs.Headline.{Late};
 ghost use Rattle.fx_strike.specs.Listings.{IsNoFault};
 ghost use Rattle.fx_strike.specs.Outlines.{IsNotOutlined, IsOutlined, IsOutlinedTo, outline_numbered_of, outlined_for};
 ghost use Rattle.fx_strike.specs.Outlines.{outlined_of, outlined_with};
-ghost use Rattle.fx_strike.specs.Strike.{opened_at, setting_with};
+ghost use Rattle.fx_strike.specs.Strike.{opened_at, Fails};
 
 use crate::choices::{chosen_glyph, open_choice};
-use crate::hinter::FontHinter;
-use crate::open::open_at;
 use crate::outline_text::put_outline;
-use crate::sketch::outline_made;
 use crate::striker::Striker;
-use crate::tools::Tools;
 use fx_fixed::Sink;
 use fx_hint::GlyphOutline;
 use fx_raster::{Rows, Scan};
 use fx_request::{Choice, Mode, Refusal};
 use fx_sfnt::FontFile;
 use std::alloc::Global;
-
-impl<'a, S: Scan> Tools<'a, S> {
-    /// The outline of a glyph.
-    fn outlined(&self, hinter: &mut FontHinter<'_>, glyph: u16) -> Result<GlyphOutline, Refusal>
-        ensures kept { hinter.new ≡ hinter.old }
-        ensures outline { GivesUnless Fails view_of_glyph_outline result
-            (outlined_with (setting_with self.now.basis hinter.old) glyph) }
-    {
-        outline_made(self.alloc, hinter, &self.basis.opened, glyph)
-    }
-
-    /// The outline of a glyph; none if there is none.
-    fn outlined_for(
-        &self,
-        hinter: &mut FontHinter<'_>,
-        glyph: Option<u16>,
-    ) -> Result<Option<GlyphOutline>, Refusal>
-        ensures kept { hinter.new ≡ hinter.old }
-        ensures outline { GivesUnless Fails (option_map view_of_glyph_outline) result
-            (outlined_for (setting_with self.now.basis hinter.old) glyph) }
-    {
-        match glyph {
-            Some(glyph) => {
-                let outline = self.outlined(hinter, glyph)?;
-                Ok(Some(outline))
-            }
-            None => Ok(None),
-        }
-    }
-}
 
 impl<'a, S: Scan> Striker<'a, S> {
     /// Makes the outline of a glyph by its number: the points that its bits are of, scaled and hinted, and its advance.
@@ -68,14 +33,7 @@ impl<'a, S: Scan> Striker<'a, S> {
         // Nothing of it has a part in what is made next.
         ensures kept { self.new ≡ self.old }
     {
-        self.tools.outlined(&mut self.hinter, glyph)
-    }
-
-    /// `Striker::outline` with its clauses as one.
-    fn outline_due(&mut self, glyph: u16) -> Result<GlyphOutline, Refusal>
-        ensures { GivesUnless Fails view_of_glyph_outline result (outlined_with self.old glyph) }
-    {
-        self.tools.outlined(&mut self.hinter, glyph)
+        self.outline_made(glyph)
     }
 
     /// The outline of the glyph that is chosen; none if the font lacks the character.
@@ -83,8 +41,13 @@ impl<'a, S: Scan> Striker<'a, S> {
         ensures outline { GivesUnless Fails (option_map view_of_glyph_outline) result
             (outlined_for self.old (chosen_glyph self.old.map choice)) }
     {
-        let glyph = chosen_glyph(&self.tools.basis.opened.map, choice);
-        self.tools.outlined_for(&mut self.hinter, glyph)
+        match chosen_glyph(&self.basis.opened.map, choice) {
+            Some(glyph) => {
+                let outline = self.outline_made(glyph)?;
+                Ok(Some(outline))
+            }
+            None => Ok(None),
+        }
     }
 }
 
@@ -123,9 +86,8 @@ pub fn outline_numbered(
     // Memory is taken late: after the size is valid, and the font and its map opened.
     ensures late { IsErrOf result Refusal.OutOfMemory → Late (opened_at font.now ppem) }
 {
-    let opened = open_at(font, ppem)?;
-    let mut striker = Striker::of(alloc, &Rows, opened, mode)?;
-    striker.outline_due(glyph)
+    let mut striker = Striker::open(alloc, font, ppem, mode)?;
+    striker.outline_made(glyph)
 }
 
 /// Writes the outline of one glyph of a font at a size: a line for each point with the number of its contour, its own number, `on`

@@ -1,137 +1,136 @@
 //! The second pass over the characters: it writes the lines that the first pass kept, makes the other characters again, and writes
 //! theirs.
-ghost use Rattle.std.specs.Prelude.{◌≡◌, ◌≤◌, ◌<◌, ◌^◌, ◌+◌, ◌*◌, ◌++◌, ℕ, List, [], false, nat_lt, length, OnOk};
+ghost use Rattle.std.specs.Prelude.{◌≡◌, ◌≤◌, ◌<◌, ◌^◌, ◌+◌, ◌*◌, ◌++◌, ℕ, List, [], length, OnOk};
 ghost use Rattle.std.specs.List.{flat_map};
 ghost use Rattle.fx_fixed.specs.Texts.{Adds, length_of};
 ghost use Rattle.fx_bdf.specs.Properties.{AreLines, seen_properties};
 ghost use Rattle.fx_bdf.specs.Text.{IsName, header_text, glyph_text, end_text, longest_glyph};
-ghost use Rattle.fx_request.specs.Limits.{max_characters, max_code};
 ghost use Rattle.fx_fixed.specs.Changes.{change_of};
-ghost use Rattle.fx_strike.specs.Strike as strikes;
-ghost use Rattle.fx_strike.specs.Strike.{Sketch, AreGlyphsOf, IsGlyphOf, setting_with, sketches_in};
-ghost use Rattle.fx_bdf.specs.Glyphs.{Glyph};
-ghost use Rattle.fx_strike.specs.inner.Drawing.{AreOf, IsFateOf, IsSketchedOf};
+ghost use Rattle.fx_strike.specs.Strike.{AreGlyphsOf, IsGlyphOf, sketches_in, max_characters, max_code, Glyph};
+ghost use Rattle.fx_strike.specs.inner.Drawing.{CanBeDrawn, CanBeMade};
 ghost use Rattle.fx_strike.specs.inner.Keeping.{IsKept};
 ghost use Rattle.fx_strike.specs.inner.Writing.{AddsMore, AreLinesOf, AreAllLinesOf, AreSmall, HasRoom, Stops, Writes};
 ghost use Rattle.fx_strike.specs.inner.Writing.{longest_glyphs, longest_text};
 
 use crate::characters::Mapped;
-use crate::draft::Draft;
-use crate::draw::glyph_of;
 use crate::fate::Fate;
-use crate::hinter::FontHinter;
 use crate::kept_text::KeptText;
-use crate::sketched::Sketched;
-use crate::tools::Tools;
-use fx_bdf::{write_end, write_glyph, write_header};
+use crate::sketch::Sketch;
+use crate::striker::Striker;
+use fx_bdf::{Header, Property, write_end, write_glyph, write_header};
 use fx_fixed::{Sink, TextWriter};
-use fx_raster::{Scan, Scratch};
+use fx_raster::Scan;
 use fx_request::{OnRefused, Refusal};
 
-impl<'a, S: Scan> Tools<'a, S> {
+/// A strike that was surveyed, and is not written yet: its name, its properties beside FONT_ASCENT and
+/// FONT_DESCENT, the numbers of its header, its characters in rising order, and what becomes of refused characters.
+#[derive(Clone, Copy)]
+pub(crate) struct Draft<'d> {
+    pub name: &'d str,
+    pub properties: &'d [Property<'d>],
+    pub header: Header,
+    pub mapped: &'d [Mapped],
+    pub refused: OnRefused,
+}
+
+impl<'a, S: Scan> Striker<'a, S> {
     /// Writes the lines of a character with this fate. One that is left out has none.
     fn write_fate<W: Sink>(
-        &self,
-        code: u32,
+        &mut self,
         fate: &Fate,
-        scratch: &mut Scratch,
         text: &mut TextWriter<'_, W>,
     ) -> Result<(), Refusal>
         requires faults { text.old.faults < 2 ^ 63 }
         requires room { HasRoom text.old longest_glyph }
-        requires code { code ≤ max_code }
+        requires drawable { CanBeMade fate.now }
+        ensures kept { self.new ≡ self.old }
         ensures same { text.new.sink ≡ text.old.sink }
         ensures quiet { OnOk result (text.new.faults ≡ text.old.faults) }
         ensures short { OnOk result (length_of text.new ≤ length_of text.old + longest_glyph) }
-        ensures lines { (due : strikes.Fate) (glyphs : List Glyph) → IsFateOf due fate.now → AreOf code due
-            → AreGlyphsOf (sketches_in due) glyphs → AddsMore text.old text.new (flat_map glyph_text glyphs) result }
+        ensures lines { (glyphs : List Glyph) → AreGlyphsOf (sketches_in fate.now) glyphs
+            → AddsMore text.old text.new (flat_map glyph_text glyphs) result }
     {
         match fate {
-            Fate::Drawn(sketched) => self.write_drawn(code, sketched, scratch, text),
-            Fate::Unhinted(_, sketched) => self.write_drawn(code, sketched, scratch, text),
+            Fate::Drawn(sketch) => self.write_drawn(sketch, text),
+            Fate::Unhinted(_, sketch) => self.write_drawn(sketch, text),
             Fate::LeftOut(_) => Ok(()),
         }
     }
 
     /// Makes the bits of a character, and writes its lines.
     fn write_drawn<W: Sink>(
-        &self,
-        code: u32,
-        sketched: &Sketched,
-        scratch: &mut Scratch,
+        &mut self,
+        sketch: &Sketch,
         text: &mut TextWriter<'_, W>,
     ) -> Result<(), Refusal>
         requires faults { text.old.faults < 2 ^ 63 }
         requires room { HasRoom text.old longest_glyph }
-        requires code { code ≤ max_code }
+        requires drawable { CanBeDrawn sketch.now }
+        ensures kept { self.new ≡ self.old }
         ensures same { text.new.sink ≡ text.old.sink }
         ensures quiet { OnOk result (text.new.faults ≡ text.old.faults) }
         ensures short { OnOk result (length_of text.new ≤ length_of text.old + longest_glyph) }
-        ensures lines { (sketch : Sketch) (glyph : Glyph) → IsSketchedOf sketch sketched.now → sketch.code ≡ code
-            → IsGlyphOf sketch glyph → AddsMore text.old text.new (glyph_text glyph) result }
+        ensures lines { (glyph : Glyph) → IsGlyphOf sketch.now glyph → AddsMore text.old text.new (glyph_text glyph) result }
     {
         fx_bdf::laws::trimmed();
-        let drawn = glyph_of(self.alloc, self.scan, code, sketched, scratch)?;
+        let drawn = self.glyph_of(sketch)?;
         write_glyph(&drawn, text)?;
-        scratch.give_back(drawn.into_bitmap());
+        self.scratch.give_back(drawn.into_bitmap());
         Ok(())
     }
 
     /// Makes a character that the font has, and writes its lines.
     fn write_one<W: Sink>(
-        &self,
+        &mut self,
         refused: OnRefused,
-        hinter: &mut FontHinter<'_>,
         m: Mapped,
         text: &mut TextWriter<'_, W>,
     ) -> Result<(), Refusal>
         requires faults { text.old.faults < 2 ^ 63 }
         requires room { HasRoom text.old longest_glyph }
         requires code { m.code ≤ max_code }
-        ensures kept { hinter.new ≡ hinter.old }
+        ensures kept { self.new ≡ self.old }
         ensures same { text.new.sink ≡ text.old.sink }
         ensures quiet { OnOk result (text.new.faults ≡ text.old.faults) }
         ensures short { OnOk result (length_of text.new ≤ length_of text.old + longest_glyph) }
-        ensures lines { (lines : List ℕ) → AreLinesOf (setting_with self.now.basis hinter.old) refused m.code m.glyph lines
+        ensures lines { (lines : List ℕ) → AreLinesOf self.old refused m.code m.glyph lines
             → AddsMore text.old text.new lines result }
     {
-        let fate = self.fate_of(refused, hinter, m)?;
-        let written = self.write_fate(m.code, &fate, &mut hinter.scratch, text);
-        hinter.give_back(fate);
+        let fate = self.fate_of(refused, m)?;
+        let written = self.write_fate(&fate, text);
+        self.give_back(fate);
         written
     }
 
     /// Makes characters in their order, and writes their lines.
     fn write_made<W: Sink>(
-        &self,
+        &mut self,
         refused: OnRefused,
-        hinter: &mut FontHinter<'_>,
         mapped: &[Mapped],
         text: &mut TextWriter<'_, W>,
     ) -> Result<(), Refusal>
         requires faults { text.old.faults < 2 ^ 63 }
         requires room { HasRoom text.old (length mapped.now * longest_glyph) }
         requires small { AreSmall mapped.now }
-        ensures kept { hinter.new ≡ hinter.old }
+        ensures kept { self.new ≡ self.old }
         ensures same { text.new.sink ≡ text.old.sink }
         ensures quiet { OnOk result (text.new.faults ≡ text.old.faults) }
         ensures short { OnOk result (length_of text.new ≤ length_of text.old + length mapped.now * longest_glyph) }
         ensures lines { (lines : List (List ℕ))
-            → AreAllLinesOf (setting_with self.now.basis hinter.old) refused mapped.now lines
+            → AreAllLinesOf self.old refused mapped.now lines
             → AddsMore text.old text.new (flat_map (λ t. t) lines) result }
     {
         // The lines of the characters so far were written.
         'mapped: for m in mapped {
-            self.write_one(refused, hinter, *m, text)?;
+            self.write_one(refused, *m, text)?;
         }
         Ok(())
     }
 
     /// Writes the lines of all characters: those that the first pass kept, then those of the others, which are made.
     fn write_all<W: Sink>(
-        &self,
+        &mut self,
         refused: OnRefused,
-        hinter: &mut FontHinter<'_>,
         kept: &KeptText,
         mapped: &[Mapped],
         text: &mut TextWriter<'_, W>,
@@ -140,24 +139,23 @@ impl<'a, S: Scan> Tools<'a, S> {
         requires room { HasRoom text.old longest_glyphs }
         requires few { length mapped.now ≤ max_characters }
         requires small { AreSmall mapped.now }
-        requires lines { IsKept (setting_with self.now.basis hinter.old) refused mapped.now (length mapped.now) kept.now }
-        ensures kept { hinter.new ≡ hinter.old }
+        requires lines { IsKept self.old refused mapped.now (length mapped.now) kept.now }
+        ensures kept { self.new ≡ self.old }
         ensures same { text.new.sink ≡ text.old.sink }
         ensures quiet { OnOk result (text.new.faults ≡ text.old.faults) }
         ensures short { OnOk result (length_of text.new ≤ length_of text.old + longest_glyphs) }
         ensures lines { (lines : List (List ℕ))
-            → AreAllLinesOf (setting_with self.now.basis hinter.old) refused mapped.now lines
+            → AreAllLinesOf self.old refused mapped.now lines
             → AddsMore text.old text.new (flat_map (λ t. t) lines) result }
     {
         text.add(&[kept.text()])?;
         let (_, others) = mapped.split_at(kept.count);
-        self.write_made(refused, hinter, others, text)
+        self.write_made(refused, others, text)
     }
 
     /// Writes the header of a strike, the lines of its glyphs, and the end.
     fn write_parts<W: Sink>(
-        &self,
-        hinter: &mut FontHinter<'_>,
+        &mut self,
         kept: &KeptText,
         draft: &Draft<'_>,
         text: &mut TextWriter<'_, W>,
@@ -168,28 +166,27 @@ impl<'a, S: Scan> Tools<'a, S> {
         requires properties { AreLines (seen_properties draft.now.properties.now) }
         requires few { length draft.now.mapped.now ≤ max_characters }
         requires small { AreSmall draft.now.mapped.now }
-        requires lines { IsKept (setting_with self.now.basis hinter.old) draft.now.refused draft.now.mapped.now
+        requires lines { IsKept self.old draft.now.refused draft.now.mapped.now
             (length draft.now.mapped.now) kept.now }
-        ensures kept { hinter.new ≡ hinter.old }
+        ensures kept { self.new ≡ self.old }
         ensures same { text.new.sink ≡ text.old.sink }
         ensures ended { OnOk result (text.new.waiting ≡ []) }
         ensures lines { (lines : List (List ℕ))
-            → AreAllLinesOf (setting_with self.now.basis hinter.old) draft.now.refused draft.now.mapped.now lines
+            → AreAllLinesOf self.old draft.now.refused draft.now.mapped.now lines
             → Adds Stops text.old text.new
             (header_text draft.now.name.now (seen_properties draft.now.properties.now) draft.now.header
             ++ (flat_map (λ t. t) lines ++ end_text))
             result }
     {
         write_header(draft.name, draft.properties, &draft.header, text)?;
-        self.write_all(draft.refused, hinter, kept, draft.mapped, text)?;
+        self.write_all(draft.refused, kept, draft.mapped, text)?;
         write_end(text)?;
         Ok(text.end()?)
     }
 
     /// Writes the text of a strike.
     pub(crate) fn write_text<W: Sink>(
-        &self,
-        hinter: &mut FontHinter<'_>,
+        &mut self,
         kept: &KeptText,
         draft: &Draft<'_>,
         out: &mut W,
@@ -199,18 +196,18 @@ impl<'a, S: Scan> Tools<'a, S> {
         requires properties { AreLines (seen_properties draft.now.properties.now) }
         requires few { length draft.now.mapped.now ≤ max_characters }
         requires small { AreSmall draft.now.mapped.now }
-        requires lines { IsKept (setting_with self.now.basis hinter.old) draft.now.refused draft.now.mapped.now
+        requires lines { IsKept self.old draft.now.refused draft.now.mapped.now
             (length draft.now.mapped.now) kept.now }
-        ensures kept { hinter.new ≡ hinter.old }
+        ensures kept { self.new ≡ self.old }
         ensures text { (lines : List (List ℕ))
-            → AreAllLinesOf (setting_with self.now.basis hinter.old) draft.now.refused draft.now.mapped.now lines
+            → AreAllLinesOf self.old draft.now.refused draft.now.mapped.now lines
             → Writes (change_of W.held W.fault_count out.old out.new)
             (header_text draft.now.name.now (seen_properties draft.now.properties.now) draft.now.header
             ++ (flat_map (λ t. t) lines ++ end_text))
             result }
     {
         let mut text = TextWriter::new(out);
-        let result = self.write_parts(hinter, kept, draft, &mut text);
+        let result = self.write_parts(kept, draft, &mut text);
         text.close();
         result
     }

@@ -2,7 +2,7 @@
 
 use crate::draw::whole_pixels;
 use crate::gathered::Gathered;
-use crate::sketched::Sketched;
+use crate::sketch::Sketch;
 use fx_bdf::Bounds;
 use fx_machine::Usage;
 
@@ -33,16 +33,16 @@ impl Seen {
         }
     }
 
-    /// Adds a character: its code point, the box of the glyphs up to it, its advance, and what its programs counted.
-    pub(crate) fn add(&mut self, code: u32, bounds: Bounds, sketched: &Sketched)
+    /// Adds a character: its sketch, and the box of the glyphs up to it.
+    pub(crate) fn add(&mut self, sketch: &Sketch, bounds: Bounds)
         requires few { self.old.glyphs < max_characters }
         requires narrow { IsNarrow self.old }
-        ensures { Adds self.old self.new code bounds sketched.now }
+        ensures { Adds sketch.now bounds self.old self.new }
     {
-        let dwidth = whole_pixels(sketched.advance);
+        let dwidth = whole_pixels(sketch.advance);
         self.bounds = bounds;
-        self.gathered = self.gathered.with(code, dwidth);
+        self.gathered = self.gathered.with(sketch.code, dwidth);
         self.glyphs += 1;
-        self.usage = self.usage.plus(sketched.usage);
+        self.usage = self.usage.plus(sketch.usage);
     }
 }

@@ -1,48 +1,74 @@
-//! From a glyph's number to its outline, its shape and its advance.
-ghost use Rattle.std.specs.Prelude.{◌≡◌, ℕ, Option, Ok, IfOk, IfErr};
+//! From a glyph's number to its outline, its shape and its advance: a character before its bits.
+ghost use Rattle.std.specs.Prelude.{◌≡◌, Ok, IfOk, IfErr};
 ghost use Rattle.fx_fixed.specs.Chain.{map_ok, map_fault, GivesUnless};
 ghost use Rattle.fx_sfnt.specs.Glyphs.{metrics_of};
-ghost use Rattle.fx_machine.specs.Known.{Known};
 ghost use Rattle.fx_hint.specs.Outlines.{view_of_glyph_outline, outline_with};
 ghost use Rattle.fx_raster.specs.Rules.{shape_of};
 ghost use Rattle.fx_request.specs.Faults.{of_font};
 ghost use Rattle.fx_strike.specs.Faults.{Fails, of_hint, of_raster};
-ghost use Rattle.fx_strike.specs.Strike.{hinting_by, setting_with, thousandths, glyph_sketch_of};
-ghost use Rattle.fx_strike.specs.inner.Drawing.{Sketches, due_in};
+ghost use Rattle.fx_strike.specs.Outlines.{outlined_with};
+ghost use Rattle.fx_strike.specs.Strike.{hinting_by, machineless, setting_with, thousandths, glyph_sketch_of};
 
-use crate::basis::Basis;
 use crate::faults::{of_hint, of_raster};
 use crate::hinter::FontHinter;
-use crate::opened::Opened;
+use crate::opened::{Basis, Opened};
 use crate::rule::rule_for;
-use crate::sketched::Sketched;
-use fx_fixed::near;
+use crate::striker::Striker;
+use fx_fixed::{F26, near};
 use fx_hint::{GlyphOutline, Spare, outline_in};
+use fx_machine::Usage;
 use fx_outline::Outline;
-use fx_raster::{Rule, Shape};
+use fx_raster::{Rule, Scan, Shape};
 use fx_request::Refusal;
 use fx_sfnt::Font;
 use std::alloc::Global;
-use std::mem;
+use std::marker::Model;
+
+/// A character before its bits. Contracts see its advance in whole pixels.
+#[derive(Drop)]
+pub(crate) struct Sketch {
+    pub code: u32,
+    /// The advance in 1/1000 of an em.
+    pub swidth: i32,
+    /// The advance in pixels.
+    pub advance: F26,
+    /// The glyph's outline, scaled and hinted, with the rule by which it sets pixels.
+    pub shape: Shape,
+    /// What the glyph's programs used up.
+    pub usage: Usage,
+}
+
+impl Model for Sketch {
+    ghost use Rattle.std.specs.Prelude.{pos};
+    ghost use Rattle.fx_fixed.specs.Numbers.{near_of};
+    ghost use Rattle.fx_strike.specs.Sketches as sketches;
+
+    ghost Value = { sketches.Sketch };
+
+    ghost view = { λ s. record {
+      code = s.code;
+      swidth = s.swidth;
+      dwidth = near_of s.advance (pos 64);
+      shape = s.shape;
+      usage = s.usage;
+    } };
+}
 
 /// Makes the outline of a glyph, scaled and hinted. Its lists are those that an outline before left.
 #[inline(always)]
-pub(crate) fn outline_made(
+fn outline_by(
     alloc: Global,
+    spare: &mut Spare,
     hinter: &mut FontHinter<'_>,
     opened: &Opened<'_>,
     glyph: u16,
 ) -> Result<GlyphOutline, Refusal>
     ensures kept { hinter.new ≡ hinter.old }
-    ensures outline { IfOk result (λ o. due_in opened.now hinter.old glyph ≡ Ok (view_of_glyph_outline o)) }
-    ensures value { GivesUnless Fails view_of_glyph_outline result
+    ensures outline { GivesUnless Fails view_of_glyph_outline result
         (map_fault of_hint (outline_with (hinting_by hinter.old) opened.now.font opened.now.ppem glyph)) }
 {
-    let mut spare = mem::replace(&mut hinter.spare, Spare::new(alloc));
-    let made = outline_in(alloc, &mut spare, hinter, &opened.font, opened.ppem, glyph);
-    hinter.spare = spare;
-    match made {
-        Ok(made) => Ok(made),
+    match outline_in(alloc, spare, hinter, &opened.font, opened.ppem, glyph) {
+        Ok(outline) => Ok(outline),
         Err(fault) => Err(of_hint(fault)),
     }
 }
@@ -70,23 +96,75 @@ fn thousandths_at(font: &Font<'_>, glyph: u16) -> Result<i32, Refusal>
     Ok(near(advance * 1000, i128::from(em)) as i32)
 }
 
-/// A glyph before its bits, by its outline, or the first cause why it has no shape or no advance.
+/// The sketch of a code point by its glyph's number, or the first cause why it has none.
 #[inline(always)]
-pub(crate) fn sketch_with(
+fn sketch_by(
+    alloc: Global,
+    spare: &mut Spare,
+    hinter: &mut FontHinter<'_>,
     basis: &Basis<'_>,
+    code: u32,
     glyph: u16,
-    drawing: GlyphOutline,
-) -> Result<Sketched, Refusal>
-    ensures { (machine : Option Known) (code : ℕ) → due_in basis.now.opened machine glyph ≡ Ok (view_of_glyph_outline drawing)
-        → Sketches (glyph_sketch_of (setting_with basis.now machine) code glyph) result }
+) -> Result<Sketch, Refusal>
+    ensures kept { hinter.new ≡ hinter.old }
+    ensures sketch { GivesUnless Fails (λ s. s) result (glyph_sketch_of (setting_with basis.now hinter.old) code glyph) }
 {
-    let rule = rule_for(basis.dropout, drawing.wish);
-    let shape = shape_at(glyph, drawing.outline, rule)?;
+    let made = outline_by(alloc, spare, hinter, &basis.opened, glyph)?;
+    let rule = rule_for(basis.dropout, made.wish);
+    let shape = shape_at(glyph, made.outline, rule)?;
     let swidth = thousandths_at(&basis.opened.font, glyph)?;
-    Ok(Sketched {
-        shape,
-        advance: drawing.advance,
-        usage: drawing.usage,
+    Ok(Sketch {
+        code,
         swidth,
+        advance: made.advance,
+        shape,
+        usage: made.usage,
     })
+}
+
+impl<'a, S: Scan> Striker<'a, S> {
+    /// The outline of a glyph.
+    pub(crate) fn outline_made(&mut self, glyph: u16) -> Result<GlyphOutline, Refusal>
+        ensures kept { self.new ≡ self.old }
+        ensures outline { GivesUnless Fails view_of_glyph_outline result (outlined_with self.old glyph) }
+    {
+        outline_by(
+            self.alloc,
+            &mut self.spare,
+            &mut self.hinter,
+            &self.basis.opened,
+            glyph,
+        )
+    }
+
+    /// The sketch of a code point by its glyph's number.
+    pub(crate) fn sketch_at(&mut self, code: u32, glyph: u16) -> Result<Sketch, Refusal>
+        ensures kept { self.new ≡ self.old }
+        ensures sketch { GivesUnless Fails (λ s. s) result (glyph_sketch_of self.old code glyph) }
+    {
+        sketch_by(
+            self.alloc,
+            &mut self.spare,
+            &mut self.hinter,
+            &self.basis,
+            code,
+            glyph,
+        )
+    }
+
+    /// The same without hinting.
+    pub(crate) fn sketch_unhinted(&mut self, code: u32, glyph: u16) -> Result<Sketch, Refusal>
+        ensures kept { self.new ≡ self.old }
+        ensures sketch { GivesUnless Fails (λ s. s) result (glyph_sketch_of (machineless self.old) code glyph) }
+    {
+        let mut none = FontHinter::none(self.alloc);
+        sketch_by(
+            self.alloc,
+            &mut self.spare,
+            &mut none,
+            &self.basis,
+            code,
+            glyph,
+        )
+    }
 }

@@ -1,27 +1,22 @@
 //! A font at a size, ready to make its characters.
-ghost use Rattle.std.specs.Prelude.{◌≡◌, ◌<◌, ◌^◌, ◌≤◌, ℕ, List, [], ◌∷◌, Ok, IfOk, IfErr, IsErrOf, OnOk, length};
+ghost use Rattle.std.specs.Prelude.{◌≡◌, ◌<◌, ◌^◌, [], ◌∷◌, Ok, IfOk, IfErr, IsErrOf, OnOk};
 ghost use Rattle.fx_fixed.specs.Chain.{GivesUnless};
-ghost use Rattle.fx_request.specs.Limits.{max_characters};
-ghost use Rattle.fx_request.specs.Notices.{Told};
 ghost use Rattle.fx_fixed.specs.Changes.{change_of};
-ghost use Rattle.fx_strike.specs.Faults.{Fails};
 ghost use Rattle.fx_strike.specs.Title.{titled};
-ghost use Rattle.fx_strike.specs.Strike.{setting_for, setting_in, setting_of, opened_at, opened_many_of, checked_chars, checked_text};
-ghost use Rattle.fx_strike.specs.Strike.{plan_with, one_with};
-ghost use Rattle.fx_strike.specs.Headline.{IsOneOf, Surveyed, Makes, Leaves, Late, notices_of, strike_with, nameless_with, character_with};
-ghost use Rattle.fx_strike.specs.inner.Drawing.{Finds};
-ghost use Rattle.fx_strike.specs.inner.Surveying.{AreChars, IsChecked, SurveysNameless};
+ghost use Rattle.fx_strike.specs.Strike.{setting_for, setting_in, setting_of, opened_at, opened_many_of, checked_chars};
+ghost use Rattle.fx_strike.specs.Strike.{checked_text, setting_with, Fails};
+ghost use Rattle.fx_strike.specs.Numbers.{IsDrawnOf, numbered_with};
+ghost use Rattle.fx_strike.specs.Headline.{IsOneOf, Surveyed, Makes, Late, strike_with, nameless_with, character_with};
 
-use crate::basis::Basis;
 use crate::hinter::{FontHinter, hinter_at};
-use crate::open::{check_chars, check_text, open_at, open_many};
-use crate::opened::Opened;
+use crate::open::{check_chars, check_text, open_many};
+use crate::opened::{Basis, Opened};
 use crate::surveyed::Survey;
-use crate::tools::Tools;
 use fx_bdf::{BitGlyph, Title};
 use fx_fixed::Sink;
-use fx_raster::{Rows, Scan};
-use fx_request::{Deaf, Listener, Mode, OnRefused, Refusal, Report};
+use fx_hint::Spare;
+use fx_raster::{Rows, Scan, Scratch};
+use fx_request::{Deaf, Mode, OnRefused, Refusal, Report};
 use fx_sfnt::FontFile;
 use std::alloc::Global;
 use std::marker::Model;
@@ -31,8 +26,14 @@ use std::marker::Model;
 /// or refused, has no part in what is made next.
 #[derive(Drop)]
 pub struct Striker<'a, S: Scan> {
-    pub(crate) tools: Tools<'a, S>,
+    pub(crate) alloc: Global,
+    pub(crate) scan: &'a S,
+    pub(crate) basis: Basis<'a>,
     pub(crate) hinter: FontHinter<'a>,
+    /// What scans work with.
+    pub(crate) scratch: Scratch,
+    /// The lists of an outline that is done with, which the next one takes over.
+    pub(crate) spare: Spare,
 }
 
 impl<'a, S: Scan> Model for Striker<'a, S> {
@@ -40,7 +41,7 @@ impl<'a, S: Scan> Model for Striker<'a, S> {
 
     ghost Value = { Setting };
 
-    ghost view = { λ s. setting_with s.tools.basis s.hinter };
+    ghost view = { λ s. setting_with s.basis s.hinter };
 }
 
 impl<'a> Striker<'a, Rows> {
@@ -48,6 +49,7 @@ impl<'a> Striker<'a, Rows> {
     ///
     /// The first cause is returned, in this order: the size; the font's tables, its character map; with hinting on the halts of
     /// `fpgm`, then of `prep`. `OutOfMemory` may be returned in place of any step after the character map, and of none before it.
+    #[tactic(auto, unfolding(crate::specs::Strike::checked_chars, crate::specs::Strike::setting_for, crate::specs::Strike::setting_of))]
     pub fn open(
         alloc: Global,
         font: &FontFile<'a>,
@@ -61,7 +63,7 @@ impl<'a> Striker<'a, Rows> {
         // The size is valid, and the font and its character map opened.
         ensures late { IsErrOf result Refusal.OutOfMemory → Late (opened_at font.now ppem) }
     {
-        open_inner(alloc, font, ppem, mode)
+        Striker::open_for(alloc, font, ppem, &[], mode)
     }
 
     /// Opens a font at a size for characters that are made one by one, with the scan by rows; with hinting on, the font's programs
@@ -84,38 +86,9 @@ impl<'a> Striker<'a, Rows> {
         // The size is valid, the characters are within their limits, and the font and its character map opened.
         ensures late { IsErrOf result Refusal.OutOfMemory → Late (opened_many_of font.now ppem chars.now) }
     {
-        open_for_inner(alloc, font, ppem, chars, mode)
+        let opened = open_many(font, ppem, chars)?;
+        Striker::of(alloc, &Rows, opened, mode)
     }
-}
-
-/// `Striker::open` with its clauses as one.
-fn open_inner<'a>(
-    alloc: Global,
-    font: &FontFile<'a>,
-    ppem: u16,
-    mode: Mode,
-) -> Result<Striker<'a, Rows>, Refusal>
-    ensures due { GivesUnless Fails (λ s. s) result (setting_of font.now ppem mode) }
-    ensures late { IsErrOf result Refusal.OutOfMemory → Late (opened_at font.now ppem) }
-{
-    let opened = open_at(font, ppem)?;
-    Striker::of(alloc, &Rows, opened, mode)
-}
-
-/// `Striker::open_for` with its clauses as one.
-fn open_for_inner<'a>(
-    alloc: Global,
-    font: &FontFile<'a>,
-    ppem: u16,
-    chars: &[u32],
-    mode: Mode,
-) -> Result<Striker<'a, Rows>, Refusal>
-    ensures due { GivesUnless Fails (λ s. s) result (setting_for font.now ppem chars.now mode) }
-    ensures chars { OnOk result (Ok tt ≡ checked_chars chars.now) }
-    ensures late { IsErrOf result Refusal.OutOfMemory → Late (opened_many_of font.now ppem chars.now) }
-{
-    let opened = open_many(font, ppem, chars)?;
-    Striker::of(alloc, &Rows, opened, mode)
 }
 
 impl<'a, S: Scan> Striker<'a, S> {
@@ -130,26 +103,34 @@ impl<'a, S: Scan> Striker<'a, S> {
         ensures { GivesUnless Fails (λ s. s) result (setting_in opened.entry mode) }
     {
         let hinter = hinter_at(alloc, &opened, mode.hinting)?;
-        let tools = Tools {
+        let dropout = mode.dropout;
+        Ok(Striker::with(alloc, scan, Basis { opened, dropout }, hinter))
+    }
+
+    /// A striker with what glyphs depend on.
+    pub(crate) fn with(
+        alloc: Global,
+        scan: &'a S,
+        basis: Basis<'a>,
+        hinter: FontHinter<'a>,
+    ) -> Striker<'a, S>
+        ensures { result ≡ setting_with basis.entry hinter.entry }
+    {
+        Striker {
             alloc,
             scan,
-            basis: Basis::of(opened, mode),
-        };
-        Ok(Striker { tools, hinter })
+            basis,
+            hinter,
+            scratch: Scratch::new(alloc),
+            spare: Spare::new(alloc),
+        }
     }
 
     /// The striker with another scan.
     pub fn with_scan<T: Scan>(self, scan: &'a T) -> Striker<'a, T>
         ensures { result ≡ self.entry }
     {
-        Striker {
-            tools: Tools {
-                alloc: self.tools.alloc,
-                scan,
-                basis: self.tools.basis,
-            },
-            hinter: self.hinter,
-        }
+        Striker::with(self.alloc, scan, self.basis, self.hinter)
     }
 
     /// Makes the glyph of one character: its bits, in their tight box, and its advances. None if the font lacks the character.
@@ -167,7 +148,21 @@ impl<'a, S: Scan> Striker<'a, S> {
         ensures kept { self.new ≡ self.old }
     {
         check_chars(&[code])?;
-        self.glyph_checked(code)
+        self.one(code)
+    }
+
+    /// Makes a glyph by its number: its bits, in their tight box, and its advances. Its code point is 0.
+    ///
+    /// The first cause why it cannot be made is returned, such as `BadGlyphNumber` if the font does not have it, or `OutOfMemory`.
+    pub fn numbered(&mut self, glyph: u16) -> Result<BitGlyph, Refusal>
+        // It is the glyph of that number.
+        ensures glyph { IfOk result (IsDrawnOf (numbered_with self.old glyph)) }
+        // The first cause was named, or memory ran out.
+        ensures cause { IfErr result (λ refusal. Fails refusal (numbered_with self.old glyph)) }
+        // Nothing of it has a part in what is made next.
+        ensures kept { self.new ≡ self.old }
+    {
+        self.draw(0, glyph)
     }
 
     /// Surveys the strike of characters, whatever its name and properties: the numbers of its header, and what is counted over it.
@@ -184,7 +179,7 @@ impl<'a, S: Scan> Striker<'a, S> {
         ensures kept { self.new ≡ self.old }
     {
         check_chars(chars)?;
-        self.survey_checked(chars, OnRefused::Stop)
+        self.survey_chars(chars, OnRefused::Stop)
     }
 
     /// Makes the strike of characters and writes its text, in two passes as `make_strike_with` does.
@@ -207,49 +202,6 @@ impl<'a, S: Scan> Striker<'a, S> {
         ensures kept { self.new ≡ self.old }
     {
         check_text(title, chars)?;
-        self.write_checked(title, chars, OnRefused::Stop, out, &mut Deaf)
-    }
-
-    /// The glyph of a code point within the limit.
-    pub(crate) fn glyph_checked(&mut self, code: u32) -> Result<Option<BitGlyph>, Refusal>
-        ensures one { Finds (one_with self.old code) result }
-        ensures kept { self.new ≡ self.old }
-    {
-        self.tools.one(&mut self.hinter, code)
-    }
-
-    /// The survey of characters within their limits.
-    pub(crate) fn survey_checked(
-        &mut self,
-        chars: &[u32],
-        refused: OnRefused,
-    ) -> Result<Survey, Refusal>
-        requires chars { AreChars chars.now }
-        ensures survey { SurveysNameless self.old chars.now refused result }
-        ensures kept { self.new ≡ self.old }
-    {
-        self.tools.survey_chars(refused, &mut self.hinter, chars)
-    }
-
-    /// Writes the strike of characters and a title within their limits.
-    pub(crate) fn write_checked<W: Sink, L: Listener>(
-        &mut self,
-        title: &Title<'_>,
-        chars: &[u32],
-        refused: OnRefused,
-        out: &mut W,
-        listener: &mut L,
-    ) -> Result<Report, Refusal>
-        requires faults { W.fault_count out.old < 2 ^ 63 }
-        requires chars { AreChars chars.now }
-        requires title { IsChecked (titled title.now) }
-        ensures leaves { Leaves {Y = Unit {0}} (Ok tt) (plan_with self.old (titled title.now) chars.now refused)
-            (change_of W.held W.fault_count out.old out.new) result }
-        ensures heard { Told L.Hears listener.old listener.new
-            (notices_of (plan_with self.old (titled title.now) chars.now refused)) result }
-        ensures kept { self.new ≡ self.old }
-    {
-        self.tools
-            .write_strike(refused, &mut self.hinter, title, chars, out, listener)
+        self.write_strike(title, chars, OnRefused::Stop, out, &mut Deaf)
     }
 }

@@ -2,11 +2,10 @@
 use Rattle.std.specs.Prelude.{◌≡◌, ℕ, ◌+◌, ◌*◌, ◌<◌, ◌≤◌, List, [], ◌++◌, length, take}
 use Rattle.std.specs.List.{flat_map}
 use Rattle.fx_bdf.specs.Text.{longest_glyph}
-use Rattle.fx_request.specs.declared.request.OnRefused.{OnRefused}
 use Rattle.fx_strike.specs.declared.characters.Mapped.{Mapped}
-use Rattle.fx_strike.specs.declared.kept_text.KeptBytes.{KeptBytes}
-use Rattle.fx_strike.specs.declared.kept_text.KeptText.{KeptText}
-use Rattle.fx_strike.specs.Strike.{Setting}
+pub use Rattle.fx_strike.specs.declared.kept_text.KeptBytes.{KeptBytes}
+pub use Rattle.fx_strike.specs.declared.kept_text.KeptText.{KeptText}
+use Rattle.fx_strike.specs.Strike.{Setting, OnRefused}
 use Rattle.fx_strike.specs.inner.Writing.{AreAllLinesOf}
 
 -- lines were kept after the others; or nothing more is kept, and none of them

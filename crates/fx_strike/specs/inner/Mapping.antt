@@ -4,11 +4,9 @@ use Rattle.std.specs.List.{count_by}
 use Rattle.fx_fixed.specs.Chain.{map_chain}
 use Rattle.fx_cmap.specs.Lookup.{glyph_for}
 use Rattle.fx_cmap.specs.declared.mapping.Mapping.{Mapping}
-use Rattle.fx_request.specs.declared.refusal.Refusal.{Refusal}
-use Rattle.fx_request.specs.declared.request.OnRefused.{OnRefused}
-use Rattle.fx_strike.specs.declared.characters.Characters.{Characters}
-use Rattle.fx_strike.specs.declared.characters.Mapped.{Mapped}
-use Rattle.fx_strike.specs.Strike.{Setting, Fate, glyph_fate_of}
+pub use Rattle.fx_strike.specs.declared.characters.Characters.{Characters}
+pub use Rattle.fx_strike.specs.declared.characters.Mapped.{Mapped}
+use Rattle.fx_strike.specs.Strike.{Setting, Fate, glyph_fate_of, Refusal, OnRefused}
 
 -- a map has no glyph for a code point
 abbrev pub lacks : Mapping → ℕ → Bool

@@ -1,31 +1,20 @@
 -- What is seen of characters so far, before the first byte of a strike is written.
-use Rattle.std.specs.Prelude.{◌≡◌, neg_ℤ, pos, ℕ, ◌+◌, ◌*◌, ◌^◌, ◌≤◌, nat_lt, false, List, [], length, map, Option, Result, Ok, Err}
+use Rattle.std.specs.Prelude.{◌≡◌, neg_ℤ, ℕ, ◌+◌, ◌*◌, ◌^◌, ◌≤◌, nat_lt, false, List, [], length, map, Result, Ok, Err}
 use Rattle.std.specs.List.{sum_by, flat_map, list_any}
-use Rattle.fx_fixed.specs.Numbers.{counted, near_of}
+use Rattle.fx_fixed.specs.Numbers.{counted}
 use Rattle.fx_raster.specs.declared.region.Region.{Region}
 use Rattle.fx_bdf.specs.Glyphs.{Box, Glyph, IsPlaced, no_box, joined, bounds_of}
-use Rattle.fx_bdf.specs.declared.summary.Summary.{Summary}
 use Rattle.fx_bdf.specs.Properties.{AreProperties}
 use Rattle.fx_bdf.specs.Text.{IsName}
-use Rattle.fx_request.specs.declared.refusal.Refusal.{Refusal}
 use Rattle.fx_request.specs.declared.refusal.Refusal.TheVariants.{OutOfMemory}
-use Rattle.fx_machine.specs.Known.{Known}
 use Rattle.fx_machine.specs.Usages.{no_usage, usage_with}
-use Rattle.fx_strike.specs.declared.opened.Opened.{Opened}
-use Rattle.fx_strike.specs.declared.seen.Seen.{Seen}
-use Rattle.fx_strike.specs.declared.sketched.Sketched.{Sketched}
-use Rattle.fx_strike.specs.declared.surveyed.Survey.{Survey}
-use Rattle.fx_strike.specs.Faults.{Fails}
-use Rattle.fx_request.specs.Limits.{max_characters, max_code}
-use Rattle.fx_request.specs.declared.notice.Notice.{Notice}
-use Rattle.fx_request.specs.declared.request.OnRefused.{OnRefused}
-use Rattle.fx_strike.specs.Strike.{Sketch, Setting, Plan, Fate, drawn, unhinted, left_out, IsGlyphOf, AreGlyphsOf, sketches_in}
-use Rattle.fx_strike.specs.Strike.{notices_in, pixels, plan_with, prelude_by, wish_in}
-use Rattle.fx_strike.specs.Headline.{Surveyed}
-use Rattle.fx_strike.specs.Title.{Title}
-use Rattle.fx_strike.specs.inner.Gathering.{IsGatheredOf, gathered_with}
-use Rattle.fx_strike.specs.declared.characters.Mapped.{Mapped}
-use Rattle.fx_strike.specs.inner.Mapping.{fates_in, mapped_fate_of}
+pub use Rattle.fx_strike.specs.declared.seen.Seen.{Seen}
+use Rattle.fx_strike.specs.Strike.{Sketch, Setting, Plan, Fate, IsGlyphOf, AreGlyphsOf, sketches_in, notices_in, pixels, plan_with}
+use Rattle.fx_strike.specs.Strike.{prelude_by, wish_in, Refusal, Fails, max_characters, max_code, Notice, OnRefused, Title}
+use Rattle.fx_strike.specs.declared.fate.Fate.TheVariants.{Drawn, Unhinted, LeftOut}
+use Rattle.fx_strike.specs.Headline.{Surveyed, Survey}
+use Rattle.fx_strike.specs.inner.Gathering.{IsGatheredOf, gathered_with, summary_with}
+use Rattle.fx_strike.specs.inner.Mapping.{fates_in, mapped_fate_of, Mapped}
 
 -- characters within their limits
 pub record AreChars (chars : List ℕ) : Type 0 where
@@ -48,13 +37,13 @@ pub record IsEmpty (new : Seen) : Type 0 where
   pub glyphs : new.glyphs ≡ 0
   pub usage : new.usage ≡ no_usage
 
--- one character more: its code point, the box of the glyphs up to it, its advance, and what its programs used up
-pub record Adds (old new : Seen) (code : ℕ) (bounds : Box) (sketched : Sketched) : Type 0 where
-  pub bounds_is : new.bounds ≡ bounds
-  pub gathered : new.gathered ≡ gathered_with old.gathered code (near_of sketched.advance (pos 64))
+-- one character more: its sketch, and the box of the glyphs up to it
+pub record Adds (sketch : Sketch) (bounds : Box) (old new : Seen) : Type 0 where
+  pub bounds_are : new.bounds ≡ bounds
+  pub gathered : new.gathered ≡ gathered_with old.gathered sketch.code sketch.dwidth
   pub narrow : IsNarrow new
   pub glyphs : new.glyphs ≡ old.glyphs + 1
-  pub usage : new.usage ≡ usage_with old.usage sketched.usage
+  pub usage : new.usage ≡ usage_with old.usage sketch.usage
 
 -- the pixels of a box
 abbrev pub region_of : Box → Region
@@ -69,18 +58,14 @@ Joins sketch old (Err refusal) = refusal ≡ OutOfMemory
 pub record Has (sketch : Sketch) (old new : Seen) : Type 0 where
   pub glyph : Glyph
   pub drawn : IsGlyphOf sketch glyph
-  pub bounds : new.bounds ≡ joined old.bounds glyph.box
   pub placed : IsPlaced new.bounds
-  pub gathered : new.gathered ≡ gathered_with old.gathered sketch.code sketch.dwidth
-  pub narrow : IsNarrow new
-  pub glyphs : new.glyphs ≡ old.glyphs + 1
-  pub usage : new.usage ≡ usage_with old.usage sketch.usage
+  pub adds : Adds sketch (joined old.bounds glyph.box) old new
 
 -- a character with this fate was seen
 abbrev pub HasFate : Fate → Seen → Seen → Type 0
-HasFate (drawn sketch) old new = Has sketch old new
-HasFate (unhinted notice sketch) old new = Has sketch old new
-HasFate (left_out notice) old new = new ≡ old
+HasFate (Drawn sketch) old new = Has sketch old new
+HasFate (Unhinted notice sketch) old new = Has sketch old new
+HasFate (LeftOut notice) old new = new ≡ old
 
 -- a character is seen if what becomes of it is due; a refusal is one that is due, or out of memory
 abbrev pub SeesOne : Result Fate Refusal → Seen → Seen → Result (Unit {0}) Refusal → Type 0
@@ -119,19 +104,18 @@ notices_about setting refused mapped = flat_map (λ m. notices_by (mapped_fate_o
 
 -- ---- a survey
 
--- the survey of the characters that were seen, with the number of those that the font lacks, what `fpgm` and `prep` used up and
--- asked for, and what the glyphs settle
-abbrev pub survey_from : Option Known → Opened → Seen → ℕ → Summary → Survey
-survey_from machine opened seen missing summary = record {
+-- the survey of the characters that were seen, with the number of those that the font lacks
+abbrev pub survey_from : Setting → Seen → ℕ → Survey
+survey_from setting seen missing = record {
   bounds = seen.bounds;
-  summary = summary;
-  wish = wish_in machine;
-  ascent = pixels opened.font.hhea.ascender opened.ppem opened.font.head.units_per_em;
-  descent = pixels (neg_ℤ opened.font.hhea.descender) opened.ppem opened.font.head.units_per_em;
+  summary = summary_with seen.gathered seen.glyphs;
+  wish = wish_in setting.machine;
+  ascent = pixels setting.font.hhea.ascender setting.ppem setting.font.head.units_per_em;
+  descent = pixels (neg_ℤ setting.font.hhea.descender) setting.ppem setting.font.head.units_per_em;
   report = record {
     glyphs = seen.glyphs;
     missing = missing;
-    usage = usage_with (prelude_by machine) seen.usage;
+    usage = usage_with (prelude_by setting.machine) seen.usage;
   };
 }
 

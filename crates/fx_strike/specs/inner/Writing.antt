@@ -4,16 +4,12 @@ use Rattle.std.specs.Prelude.{Result, Ok, Err}
 use Rattle.std.specs.Io.KnownBytes.{Appends}
 use Rattle.std.specs.List.{flat_map, list_any}
 use Rattle.fx_fixed.specs.Texts.{TextView, Adds, after, length_of}
-use Rattle.fx_bdf.specs.Glyphs.{Glyph}
 use Rattle.fx_bdf.specs.Text.{glyph_text, end_text, longest_header, longest_glyph}
-use Rattle.fx_request.specs.Limits.{max_characters, max_code}
-use Rattle.fx_request.specs.declared.refusal.Refusal.{Refusal}
 use Rattle.fx_request.specs.declared.refusal.Refusal.TheVariants.{WriteFailed, OutOfMemory}
 use Rattle.fx_fixed.specs.Changes.{Change}
-use Rattle.fx_request.specs.declared.request.OnRefused.{OnRefused}
-use Rattle.fx_strike.specs.declared.characters.Mapped.{Mapped}
-use Rattle.fx_strike.specs.inner.Mapping.{mapped_in}
-use Rattle.fx_strike.specs.Strike.{Setting, Fate, AreGlyphsOf, sketches_in, glyph_fate_of}
+use Rattle.fx_strike.specs.inner.Mapping.{mapped_in, Mapped}
+use Rattle.fx_strike.specs.Strike.{Setting, Fate, AreGlyphsOf, sketches_in, glyph_fate_of, Glyph, max_characters, max_code}
+use Rattle.fx_strike.specs.Strike.{Refusal, OnRefused}
 
 -- ---- lines
 

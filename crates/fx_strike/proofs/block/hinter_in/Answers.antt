@@ -1,14 +1,14 @@
 use Rattle.std.proofs.Common.{ap, sym, ◌∙◌, rules, Some}
-use Rattle.fx_strike.proofs.BlockSettings.{on_is, on_none, on_some}
+use Rattle.fx_strike.proofs.BlockSettings.{on_is}
 use Rattle.fx_strike.proofs.block.hinter_in.Goals as goal
 
 pub returns-in_default-clause-taken : goal.returns-in_default-clause-taken
-returns-in_default-clause-taken c = λ machine e b. on_none machine c.in_ok-machine.field-0 c.in_default.is
+returns-in_default-clause-taken c = λ machine e b. rw c.in_default.is at
     (on_is c.args.opened.now.font c.args.opened.now.ppem c.args.hinting c.args.block.now machine c.in_ok-machine.field-0
     (search rules) e b (λ k f p w. c.in_ok-machine.ensures.known k (f ∙ sym c.shared.ensures) p w))
 
 pub returns-clause-taken : goal.returns-clause-taken
 returns-clause-taken c = λ machine e b. ap Some c.of.ensures ∙ ap (λ v. Some (Some v.known)) c.in_ok-machine-2.ensures
-    ∙ on_some machine c.in_ok-machine.field-0 c.in-Some.machine c.in-Some.is
+    ∙ (rw c.in-Some.is at
     (on_is c.args.opened.now.font c.args.opened.now.ppem c.args.hinting c.args.block.now machine c.in_ok-machine.field-0
-    (search rules) e b (λ k f p w. c.in_ok-machine.ensures.known k (f ∙ sym c.shared.ensures) p w))
+    (search rules) e b (λ k f p w. c.in_ok-machine.ensures.known k (f ∙ sym c.shared.ensures) p w)))

@@ -1,8 +1,18 @@
-use Rattle.std.proofs.Common.{rules, FitsSigned, w32}
-use Rattle.fx_strike.proofs.Sketching.{width_small}
+use Rattle.std.proofs.Common.{rules, ap, arith}
+use Rattle.std.specs.Prelude.{unsigned_abs}
+use Rattle.fx_strike.proofs.Sketching.{near_64_small, whole_is}
 use Rattle.fx_strike.proofs.draw.whole_pixels.Goals as goal
+
+pub overflow_cast-result : goal.overflow_cast-result
+overflow_cast-result c =
+    (whole_is c.advance.inside.0 c.from.result c.near_64.result (search rules) c.from.ensures c.near_64.ensures.value).0
+
+pub returns-clause-value : goal.returns-clause-value
+returns-clause-value c =
+    rw (← c.advance.view_is)
+    (whole_is c.advance.inside.0 c.from.result c.near_64.result (search rules) c.from.ensures c.near_64.ensures.value).1
 
 pub returns-clause-size : goal.returns-clause-size
 returns-clause-size c =
-    let fits : FitsSigned w32 c.advance.inside.0 = search rules in
-    width_small c.advance.inside.0 c.near_pixels.result fits c.near_pixels.ensures
+    let is = (whole_is c.advance.inside.0 c.from.result c.near_64.result (search rules) c.from.ensures c.near_64.ensures.value).1 in
+    omega (arith, ap unsigned_abs is, near_64_small c.advance.inside.0 (search rules))

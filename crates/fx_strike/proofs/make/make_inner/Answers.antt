@@ -24,9 +24,9 @@ returns-in_err-striker-clause-made g c =
 pub returns-clause-made : goal.returns-clause-made
 returns-clause-made g c =
     let opened = (c.in_ok-opened.ensures).due in
-    makes c.write_checked.result (λ m. is_ok _ _ opened)
+    makes c.write_strike.result (λ m. is_ok _ _ opened)
     (rw (plan_set _ _ _ _ c.args.request.now.mode _ _ _ opened c.in_ok-striker.ensures)
-    c.write_checked.ensures.leaves)
+    c.write_strike.ensures.leaves)
 
 pub returns-in_err-opened-clause-told : goal.returns-in_err-opened-clause-told
 returns-in_err-opened-clause-told g c =
@@ -44,4 +44,4 @@ returns-in_err-striker-clause-told g c =
 pub returns-clause-told : goal.returns-clause-told
 returns-clause-told g c =
     rw (plan_set _ _ _ _ c.args.request.now.mode _ _ _ (c.in_ok-opened.ensures).due c.in_ok-striker.ensures)
-    c.write_checked.ensures.heard
+    c.write_strike.ensures.heard

@@ -1,12 +1,11 @@
 use Rattle.std.proofs.Common.{◌*◌, ◌≤◌, length, take, Ok}
 use Rattle.fx_fixed.specs.Texts.{Adds, Fails}
-use Rattle.fx_strike.specs.Outlines.{contour_at, point_lines}
+use Rattle.fx_strike.specs.Outlines.{point_lines}
 use Rattle.fx_strike.proofs.outline_text.add_points.Given as goal
 
--- the lines of the points before i were added, and at least as many contours end before it
+-- the lines of the points before i were added
 abbrev pub invariant-points : goal.invariant-points
 invariant-points g l = record {
-  contour : l.contour ≤ contour_at l.ends l.i;
   added : Adds Fails l.fn.text l.text (point_lines l.ends 0 (take l.i l.points)) (Ok tt);
   few : length (point_lines l.ends 0 (take l.i l.points)) ≤ 88 * l.i;
 }

@@ -1,7 +1,6 @@
 use Rattle.std.proofs.Common.{Option, subst}
-use Rattle.fx_machine.specs.Known.{Known}
 use Rattle.fx_hint.specs.Hinting.{KeepsShape}
-use Rattle.fx_strike.specs.Strike.{hinting_by}
+use Rattle.fx_strike.specs.Strike.{hinting_by, Known}
 use Rattle.fx_strike.proofs.hinter.FontHinterHinter.law_keeps_shape.Goals as goal
 
 pub returns-in-Some : goal.returns-in-Some

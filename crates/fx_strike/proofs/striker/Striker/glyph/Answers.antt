@@ -14,9 +14,9 @@ returns-in_err-check_chars-clause-cause g c =
 pub returns-clause-glyph : goal.returns-clause-glyph
 unfolding character_with
 returns-clause-glyph g c =
-    rw (sym (c.in_ok-check_chars.ensures).due) (finds_ok _ c.glyph_checked.result c.glyph_checked.ensures.one)
+    rw (sym (c.in_ok-check_chars.ensures).due) (finds_ok _ c.one.result c.one.ensures.one)
 
 pub returns-clause-cause : goal.returns-clause-cause
 unfolding character_with
 returns-clause-cause g c =
-    rw (sym (c.in_ok-check_chars.ensures).due) (finds_cause _ c.glyph_checked.result c.glyph_checked.ensures.one)
+    rw (sym (c.in_ok-check_chars.ensures).due) (finds_cause _ c.one.result c.one.ensures.one)

@@ -14,9 +14,9 @@ returns-in_err-check_chars-clause-cause g c =
 pub returns-clause-survey : goal.returns-clause-survey
 unfolding nameless_with
 returns-clause-survey g c =
-    rw (sym (c.in_ok-check_chars.ensures).due) (surveys_ok _ c.survey_checked.result (c.survey_checked.ensures.survey no_title))
+    rw (sym (c.in_ok-check_chars.ensures).due) (surveys_ok _ c.survey_chars.result (c.survey_chars.ensures.survey no_title))
 
 pub returns-clause-cause : goal.returns-clause-cause
 unfolding nameless_with
 returns-clause-cause g c =
-    rw (sym (c.in_ok-check_chars.ensures).due) (surveys_cause _ c.survey_checked.result (c.survey_checked.ensures.survey no_title))
+    rw (sym (c.in_ok-check_chars.ensures).due) (surveys_cause _ c.survey_chars.result (c.survey_chars.ensures.survey no_title))

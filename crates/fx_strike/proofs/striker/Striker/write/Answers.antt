@@ -18,4 +18,4 @@ pub returns-clause-made : goal.returns-clause-made
 unfolding strike_with
 returns-clause-made g c =
     let checked = (c.in_ok-check_text.ensures).due in
-    makes c.write_checked.result (λ m. is_ok _ _ checked) (rw (sym checked) c.write_checked.ensures.leaves)
+    makes c.write_strike.result (λ m. is_ok _ _ checked) (rw (sym checked) c.write_strike.ensures.leaves)

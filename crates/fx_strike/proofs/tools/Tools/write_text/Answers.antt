@@ -1,8 +1,0 @@
-use Rattle.std.proofs.Common.{rules}
-use Rattle.fx_strike.proofs.Lines.{writes_closed}
-use Rattle.fx_strike.proofs.tools.Tools.write_text.Goals as goal
-
-pub returns-clause-text : goal.returns-clause-text
-returns-clause-text g c lines h =
-    writes_closed c.new-text.ensures (c.write_parts-result.ensures.lines lines h) c.write_parts-result.ensures.ended
-    (search rules) (search rules)
