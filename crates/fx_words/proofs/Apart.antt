@@ -1,6 +1,6 @@
 -- FONT and `-o FILE` leave the words for the program as they are.
 -- Serves `laws::names`.
-use Rattle.std.proofs.Common.{◌≡◌, ◌∙◌, refl, sym, ap, ℕ, List, [], ◌∷◌, Bool, true, false, codes, Option, Some, None, if◌then◌else◌}
+use Rattle.std.proofs.Common.{◌≡◌, ◌∙◌, refl, sym, ap, Bool, true, false, codes, Option, Some, None, if◌then◌else◌}
 use Rattle.std.specs.Prelude.{◌||◌, not}
 use Rattle.std.specs.Str.{bytes_eq}
 use Rattle.fx_words.specs.declared.parts.Kind.{Kind}

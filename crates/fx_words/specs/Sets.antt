@@ -1,9 +1,9 @@
 -- Sets of characters by name.
-use Rattle.std.specs.Prelude.{ℕ, ◌==◌, Bool, true, false, List, [], ◌∷◌, ◌++◌, codes, Option, Some, None, map, unwrap_or}
+use Rattle.std.specs.Prelude.{◌==◌, Bool, true, false, List, [], ◌∷◌, ◌++◌, codes, Option, Some, None, map, unwrap_or}
 use Rattle.std.specs.Prelude.{if◌then◌else◌}
 use Rattle.std.specs.Borrow.{Bor}
 use Rattle.std.specs.Char.{to_ascii_lowercase}
-use Rattle.std.specs.List.{after_first}
+use Rattle.std.specs.List.{after_first, join_by, slice_split}
 use Rattle.std.specs.Str.{bytes_eq}
 use Rattle.fx_words.specs.Parts.{Text, is_joined_set}
 
@@ -65,6 +65,14 @@ first_name name = unwrap_or (value_of other_names name) name
 -- the list of a set of this name, in letters of either case
 unfoldable pub list_of : Text → Option Text
 list_of name = value_of sets (first_name (map to_ascii_lowercase name))
+
+-- a set's name stands for its list, and anything else for itself
+abbrev pub meant : Text → Text
+meant part = unwrap_or (list_of part) part
+
+-- the list that names stand for: what is between commas is replaced by what it stands for
+abbrev pub listed : Text → Text
+listed names = join_by (λ list. list) (codes ",") (map meant (slice_split (λ b. b == 44) names))
 
 -- the value of `--set` among words, empty if there is none: what follows its `=`, or else the next word
 abbrev pub set_after : Bool → List Text → Text

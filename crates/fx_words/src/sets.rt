@@ -1,8 +1,8 @@
 //! Sets of characters by name.
-ghost use Rattle.std.specs.Prelude.{◌≡◌, ◌==◌, IfOk};
-ghost use Rattle.std.specs.List.{after_first};
+ghost use Rattle.std.specs.Prelude.{◌≡◌, ◌==◌, IfOk, string_bytes};
+ghost use Rattle.std.specs.List.{after_first, slice_split};
 ghost use Rattle.fx_words.specs.Parts.{text_in, texts};
-ghost use Rattle.fx_words.specs.Sets.{first_name, list_of, rows_of, set_in, sets, value_of};
+ghost use Rattle.fx_words.specs.Sets.{first_name, list_of, listed, rows_of, set_in, sets, value_of};
 
 use crate::parts::is_joined_set;
 use std::alloc::{AllocError, Global};
@@ -103,18 +103,23 @@ fn value_of(table: &[(&'static str, &'static str)], key: &str) -> Option<&'stati
 }
 
 /// The list of characters that a list of names, numbers and ranges stands for. What names no set stays as it is.
-pub fn listed(alloc: Global, names: &str) -> Result<String, AllocError> {
-    let mut list = String::new(alloc);
-    let mut is_first = true;
-    // `list` has what the names so far stand for.
-    'names: for name in names.split(',') {
-        if !is_first {
-            list.push_str(",")?;
-        }
-        is_first = false;
-        list.push_str(list_of(alloc, name)?.unwrap_or(name))?;
+pub fn listed(alloc: Global, names: &str) -> Result<String, AllocError>
+    ensures { IfOk result (λ list. string_bytes list ≡ listed names.now) }
+{
+    let parts = parts_of(alloc, names)?;
+    let mut lists = Vec::new(alloc);
+    // `lists` has what the parts so far stand for.
+    'parts: for part in &parts {
+        lists.push(list_of(alloc, part)?.unwrap_or(*part))?;
     }
-    Ok(list)
+    lists.join(alloc, ",")
+}
+
+/// What stands between the commas of a text.
+fn parts_of<'a>(alloc: Global, text: &'a str) -> Result<Vec<&'a str>, AllocError>
+    ensures { IfOk result (λ parts. texts parts.items ≡ slice_split (λ b. b == 44) text.entry.now) }
+{
+    text.split(',').collect(alloc)
 }
 
 /// The value of `--set` among the words of a command line, empty if there is none.
