@@ -1,4 +1,5 @@
 //! Arguments of the first line, and faults in their place.
+use crate::fonts::{FONT, STRIKE};
 use crate::runs::{BAD_SIZE, USAGE, ends};
 use fx_cli::unread;
 use fx_fixed::{Limits, MemorySink};
@@ -13,6 +14,24 @@ fn given_arguments(rt: HostRuntime) -> Result<(), Fail> {
     let line = b"make --ppem 0 --chars 41";
     ends(&rt, rt.alloc(), "mkstrike", line, Limits::NONE, &BAD_SIZE)?;
     ends(&rt, rt.alloc(), "mkstrike|show", line, Limits::NONE, &USAGE)?;
+    Ok(())
+}
+
+/// `--all` takes the characters of the font's map, and no list beside it.
+#[test]
+fn all_characters(rt: HostRuntime) -> Result<(), Fail> {
+    let all = "mkstrike|make|--hex|--ppem=16|--all|--name=F1";
+    let counts = b"mkstrike: glyphs 3 missing 0 strays 0 steps 0\n";
+    ends(
+        &rt,
+        rt.alloc(),
+        all,
+        FONT,
+        Limits::NONE,
+        &(0, STRIKE, counts),
+    )?;
+    let both = "mkstrike|make|--hex|--ppem=16|--all|--chars=41";
+    ends(&rt, rt.alloc(), both, FONT, Limits::NONE, &USAGE)?;
     Ok(())
 }
 

@@ -73,6 +73,7 @@ impl Fake {
                 is_variable: false,
                 missing: Text::new(alloc),
                 has_more: false,
+                is_cut: false,
             },
         }
     }
@@ -228,6 +229,7 @@ fn parted_words(rt: HostRuntime) -> Result<(), Fail> {
         ("--dropout|--hex|a", "--dropout|--hex", Some("a"), None),
         ("--set|latin1|--missing", "--chars|20-7e", None, None),
         ("--set=x|a", "--chars|20-7e", Some("a"), None),
+        ("--all|a", "--all", Some("a"), None),
         ("--name|--hex|a", "--name|--hex", Some("a"), None),
         ("", "", None, None),
     ] {

@@ -15,16 +15,16 @@ use Rattle.fx_arguments.specs.declared.fault.Fault.{Fault}
 use Rattle.fx_arguments.specs.declared.fault.Fault.TheVariants.{Usage, Early}
 use Rattle.fx_arguments.specs.declared.verb.Verb.{Verb}
 use Rattle.fx_arguments.specs.declared.verb.Verb.TheVariants.{Make, Show, Outline, Dump, Trace}
-use Rattle.fx_arguments.specs.Arguments.{dropout_by, mode_by, named_dropout}
+use Rattle.fx_arguments.specs.Arguments.{characters_by, dropout_by, is_given, mode_by, named_dropout, one_way}
 use Rattle.fx_arguments.specs.Arguments.{dump_app, dump_by, face_by, is_command, make_app, make_by, named_refused, refused_by, rows_by, show_app, show_by}
 use Rattle.fx_arguments.specs.Arguments.{choice_by, command_of_dump, command_of_make, command_of_outline, command_of_show, outline_app, outline_by, shown_by}
 use Rattle.fx_arguments.specs.Arguments.{command_of_trace, size_by, size_of, trace_app, trace_by, traced_by, unsigned_of, which_of}
-use Rattle.fx_arguments.specs.Chars.{number_of}
+use Rattle.fx_arguments.specs.Chars.{number_of, numbers_of_list}
 use Rattle.fx_arguments.specs.CommandLine.{MistakesAreUsage, command_of, command_of_explain}
-use Rattle.fx_arguments.specs.Commands.{CommandView}
+use Rattle.fx_arguments.specs.Commands.{CharactersView, CommandView, listed}
 use Rattle.fx_arguments.specs.Mistakes.{checked, checked_by, command_said, dropout_checked, dump_checked, face_checked, make_checked, properties_checked}
 use Rattle.fx_arguments.specs.Mistakes.{choice_checked, outline_checked, refused_checked, required, show_checked, shown_checked, size_checked, taken_if, verb_checked}
-use Rattle.fx_arguments.specs.Mistakes.{trace_checked, traced_checked}
+use Rattle.fx_arguments.specs.Mistakes.{trace_checked, traced_checked, way_checked}
 use Rattle.fx_arguments.specs.Properties.{properties_of, property_of}
 
 -- a step fails as usage and is explained, or passes and is not
@@ -50,10 +50,6 @@ last a b f (inr ((x, e), (y, d))) k = rw (e, d) (inr (k x, refl))
 same_value : {A : Type 0} (o : Option A) (line : Text) → Same (wanted o Usage) (refuse (not (is_some o)) line)
 same_value None line = inl (refl, (line, refl))
 same_value (Some x) line = inr ((x, refl), (tt, refl))
-
-same_required : (option : Text) (o : Option Text) → Same (wanted o Usage) (required option o)
-same_required option None = inl (refl, (_, refl))
-same_required option (Some text) = inr ((text, refl), (text, refl))
 
 same_size : (o : Option Text) → Same (size_by o) (size_checked o)
 unfolding size_checked
@@ -96,20 +92,31 @@ same_properties [] = inr (([], refl), (tt, refl))
 same_properties (text ∷ more) =
     both (property_of text) (properties_of more) _ (properties_checked more) (same_properties more)
 
+same_way : (all : Bool) (o : Option Text) → Same (one_way all o) (way_checked all o)
+same_way true None = inr ((tt, refl), (tt, refl))
+same_way false (Some list) = inr ((tt, refl), (tt, refl))
+same_way true (Some list) = inl (refl, (_, refl))
+same_way false None = inl (refl, (_, refl))
+
 -- no usage fault
-no_usage : {A C : Type 0} (o : Option A) (f : A → C) → (wanted o (Early BadChars) >>= λ x. Ok (f x)) ≡ Err Usage → ⊥
+listed_no_usage : {C : Type 0} (o : Option (List ℕ)) (f : CharactersView → C)
+    → (map_ok listed (wanted o (Early BadChars)) >>= λ x. Ok (f x)) ≡ Err Usage → ⊥
+listed_no_usage None f h = absurd (cc)
+listed_no_usage (Some numbers) f h = absurd (cc)
+
+no_usage : {C : Type 0} (list : Option Text) (f : CharactersView → C) → (characters_by list >>= λ x. Ok (f x)) ≡ Err Usage → ⊥
 no_usage None f h = absurd (cc)
-no_usage (Some x) f h = absurd (cc)
+no_usage (Some list) f h = listed_no_usage (numbers_of_list list) f h
 
 make_ends : (rows : List Row) → Ends (make_by rows) (make_checked rows)
 unfolding make_checked
 make_ends rows =
     step _ _ _ _ (same_size (first_of (codes "ppem") rows)) (λ _ _.
-    step _ _ _ _ (same_required (codes "chars") (first_of (codes "chars") rows)) (λ _ _.
+    step _ _ _ _ (same_way (is_given (codes "all") rows) (first_of (codes "chars") rows)) (λ _ _.
     step _ _ _ _ (same_properties (unwrap_or (all_of (codes "property") rows) [])) (λ _ _.
     step _ _ _ _ (same_refused (first_of (codes "refused") rows)) (λ _ _.
     step _ _ _ _ (same_face (first_of (codes "face") rows)) (λ _ _.
-    last _ _ _ (same_mode rows) (λ _. no_usage _ _))))))
+    last _ _ _ (same_mode rows) (λ _. no_usage (first_of (codes "chars") rows) _))))))
 
 -- a character, which may be malformed but is no usage fault
 character_ends : (o : Option ℕ) → Ends {B = Unit {0}} (map_ok Character (wanted o (Early BadChars))) (Ok tt)

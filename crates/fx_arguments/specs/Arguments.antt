@@ -1,6 +1,6 @@
 -- What the arguments of a command line ask for.
 use Rattle.std.specs.Prelude.{ℕ, ◌^◌, Bool, true, false, List, [], ◌∷◌, map, length, codes, Option, Some, None, unwrap_or, option_map}
-use Rattle.std.specs.Prelude.{option_and_then, if◌then◌else◌, nat_lt, drop, ◌&&◌, ◌||◌, not, Result, Ok, Err}
+use Rattle.std.specs.Prelude.{option_and_then, if◌then◌else◌, nat_lt, ◌&&◌, ◌||◌, not, Result, Ok, Err}
 use denote.Ref.{Bor}
 use Rattle.std.specs.List.{list_all, list_any}
 use Rattle.std.specs.Str.{bytes_eq}
@@ -29,7 +29,7 @@ use Rattle.fx_arguments.specs.declared.fault.Fault.{Fault}
 use Rattle.fx_arguments.specs.declared.fault.Fault.TheVariants.{Usage, Early}
 use Rattle.fx_arguments.specs.Chars.{number_of, numbers_of_list}
 use Rattle.fx_arguments.specs.Properties.{properties_of}
-use Rattle.fx_arguments.specs.Commands.{CommandView, strike, picture, outline, listing, trace}
+use Rattle.fx_arguments.specs.Commands.{CharactersView, CommandView, listed, listing, mapped, outline, picture, strike, trace}
 
 -- an option `--id VALUE`
 abbrev pub option_rule : Text → Rule
@@ -58,10 +58,10 @@ dropout_rule = choice_rule (codes "dropout") (codes "left")
 
 -- the command `make` with its options
 unfoldable pub make_app : App
-make_app = with_rule (with_rule (with_rule (with_rule (with_rule (with_rule (with_rule (with_rule (with_rule (with_rule
+make_app = with_rule (with_rule (with_rule (with_rule (with_rule (with_rule (with_rule (with_rule (with_rule (with_rule (with_rule
     (new_app (codes "make")) (option_rule (codes "ppem"))) (option_rule (codes "chars"))) (option_rule (codes "name")))
     (many_rule (codes "property"))) (flag_rule (codes "x11"))) (option_rule (codes "refused"))) (flag_rule (codes "unhinted")))
-    dropout_rule) (option_rule (codes "face"))) (flag_rule (codes "hex"))
+    dropout_rule) (option_rule (codes "face"))) (flag_rule (codes "hex"))) (flag_rule (codes "all"))
 
 -- the command `show` with its options
 unfoldable pub show_app : App
@@ -147,16 +147,28 @@ abbrev pub refused_by : Option Text → Result OnRefused Fault
 refused_by None = Ok Stop
 refused_by (Some text) = wanted (named_refused text) Usage
 
--- what the values of `make`'s options ask for: the size and the list are required
+-- characters are asked for by a list, or all of the font's map by a flag, and not both
+abbrev pub one_way : Bool → Option Text → Result (Unit {0}) Fault
+one_way true None = Ok tt
+one_way false (Some list) = Ok tt
+one_way true (Some list) = Err Usage
+one_way false None = Err Usage
+
+-- the characters of a list; without one all of the font's map
+abbrev pub characters_by : Option Text → Result CharactersView Fault
+characters_by None = Ok mapped
+characters_by (Some list) = map_ok listed (wanted (numbers_of_list list) (Early BadChars))
+
+-- what the values of `make`'s options ask for: the size is required, and a list or `--all`
 abbrev pub make_by : List Row → Result CommandView Fault
 make_by rows = do
   ppem ← size_by (first_of (codes "ppem") rows)
-  list ← wanted (first_of (codes "chars") rows) Usage
+  _ ← one_way (is_given (codes "all") rows) (first_of (codes "chars") rows)
   properties ← wanted (properties_of (unwrap_or (all_of (codes "property") rows) [])) Usage
   refused ← refused_by (first_of (codes "refused") rows)
   face ← face_by (first_of (codes "face") rows)
   mode ← mode_by rows
-  chars ← wanted (numbers_of_list list) (Early BadChars)
+  chars ← characters_by (first_of (codes "chars") rows)
   Ok (record {
     task = strike (record {
       ppem = ppem;

@@ -7,6 +7,8 @@ use Rattle.fx_request.specs.declared.request.Mode.{Mode}
 use Rattle.fx_request.specs.declared.request.OnRefused.{OnRefused}
 use Rattle.fx_request.specs.declared.request.Request.{Request}
 use Rattle.fx_request.specs.declared.refusal.Refusal.TheVariants.{BadChars, OutOfMemory}
+use Rattle.fx_arguments.specs.declared.command.Characters.{Characters}
+use Rattle.fx_arguments.specs.declared.command.Characters.TheVariants.{Listed, All}
 use Rattle.fx_arguments.specs.declared.command.Command.{Command}
 use Rattle.fx_arguments.specs.declared.command.Make.{Make}
 use Rattle.fx_arguments.specs.declared.command.Show.{Show}
@@ -16,11 +18,16 @@ use Rattle.fx_arguments.specs.declared.command.Task.TheVariants.{Strike, Picture
 use Rattle.fx_arguments.specs.declared.fault.Fault.{Fault}
 use Rattle.fx_arguments.specs.declared.fault.Fault.TheVariants.{Usage, Early}
 
+-- the characters of a strike: those of a list, or all that the font's map has
+pub data CharactersView : Type 0 where
+  listed : List ℕ → CharactersView
+  mapped : CharactersView
+
 -- a strike: its size, its characters, its name, its properties, whether it has those of X11 too, how outlines become pixels, and
 -- what becomes of refused characters
 pub record MakeView : Type 0 where
   pub ppem : ℕ
-  pub chars : List ℕ
+  pub chars : CharactersView
   pub name : Text
   pub properties : List PropertyView
   pub x11 : Bool
@@ -44,10 +51,14 @@ pub record CommandView : Type 0 where
   pub hex : Bool
 
 -- what the program holds of it
+abbrev pub seen_characters : Characters → CharactersView
+seen_characters (Listed chars) = listed chars.items
+seen_characters All = mapped
+
 abbrev pub seen_make : Make → MakeView
 seen_make make = record {
   ppem = make.ppem;
-  chars = make.chars.items;
+  chars = seen_characters make.chars;
   name = make.name.now;
   properties = seen_properties make.properties.items;
   x11 = make.x11;
@@ -55,10 +66,11 @@ seen_make make = record {
   on_refused = make.on_refused;
 }
 
-abbrev pub seen_request : Request → MakeView
-seen_request request = record {
+-- a request as what it asks for but its characters, which are these
+abbrev pub seen_request : CharactersView → Request → MakeView
+seen_request chars request = record {
   ppem = request.ppem;
-  chars = request.chars.now;
+  chars = chars;
   name = request.title.name.now;
   properties = seen_properties request.title.properties.now;
   x11 = request.title.x11;

@@ -1,6 +1,6 @@
 -- What is wrong first with the arguments of a command line, as a line for people: by what the commands read of them.
-use Rattle.std.specs.Prelude.{◌≡◌, ℕ, zero, suc, ◌==◌, not, Bool, false, List, [], ◌∷◌, ◌++◌, length, take, drop, codes, slice_index_or}
-use Rattle.std.specs.Prelude.{Option, Some, None, is_some, unwrap_or, Result, Ok, Err, if◌then◌else◌}
+use Rattle.std.specs.Prelude.{◌≡◌, ℕ, zero, suc, ◌==◌, not, Bool, true, false, List, [], ◌∷◌, ◌++◌, length, take, drop, codes}
+use Rattle.std.specs.Prelude.{slice_index_or, Option, Some, None, is_some, unwrap_or, Result, Ok, Err, if◌then◌else◌}
 use Rattle.std.specs.List.{flat_map, before_first}
 use Rattle.clap.specs.Walk.{Row, Text, all_of, first_of}
 use Rattle.clap.specs.Simple.{App}
@@ -11,8 +11,8 @@ use Rattle.fx_arguments.specs.declared.said.Said.{Said}
 use Rattle.fx_arguments.specs.declared.said.Said.TheVariants.{Line, Stopped}
 use Rattle.fx_arguments.specs.declared.verb.Verb.{Verb}
 use Rattle.fx_arguments.specs.declared.verb.Verb.TheVariants.{Make, Show, Outline, Dump, Trace}
-use Rattle.fx_arguments.specs.Arguments.{dump_app, is_command, make_app, named_dropout, named_refused, outline_app, rows_by, show_app, size_of, unsigned_of}
-use Rattle.fx_arguments.specs.Arguments.{trace_app, which_of}
+use Rattle.fx_arguments.specs.Arguments.{dump_app, is_command, is_given, make_app, named_dropout, named_refused, outline_app, rows_by, show_app, size_of}
+use Rattle.fx_arguments.specs.Arguments.{trace_app, unsigned_of, which_of}
 use Rattle.fx_arguments.specs.Properties.{property_of}
 
 -- a line of these pieces
@@ -69,11 +69,18 @@ properties_checked (given ∷ more) = do
   _ ← taken_if (is_some (property_of given)) (codes "property") (codes "KEY=VALUE") given
   properties_checked more
 
+-- a list of characters, or all of the font's map
+abbrev pub way_checked : Bool → Option Text → Result (Unit {0}) Text
+way_checked true None = Ok tt
+way_checked false (Some list) = Ok tt
+way_checked true (Some list) = Err (said (codes "--chars and --all can't be given together" ∷ []))
+way_checked false None = Err (said (codes "--chars or --all is missing" ∷ []))
+
 -- the values of `make`'s options
 unfoldable pub make_checked : List Row → Result (Unit {0}) Text
 make_checked rows = do
   _ ← size_checked (first_of (codes "ppem") rows)
-  _ ← required (codes "chars") (first_of (codes "chars") rows)
+  _ ← way_checked (is_given (codes "all") rows) (first_of (codes "chars") rows)
   _ ← properties_checked (unwrap_or (all_of (codes "property") rows) [])
   _ ← refused_checked (first_of (codes "refused") rows)
   _ ← face_checked (first_of (codes "face") rows)

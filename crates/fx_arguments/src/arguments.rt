@@ -3,15 +3,15 @@ ghost use Rattle.std.specs.Prelude.{◌≡◌, Ok, codes, drop, map, option_map,
 ghost use Rattle.std.specs.Str.{bytes_eq};
 ghost use Rattle.clap.specs.Words.{found_of, rows_of};
 ghost use Rattle.fx_fixed.specs.Chain.{GivesUnless, map_ok, wanted};
-ghost use Rattle.fx_arguments.specs.Arguments.{choice_by, command_of_dump, command_of_make, command_of_outline, command_of_show, command_of_trace};
-ghost use Rattle.fx_arguments.specs.Arguments.{dropout_by, dump_by, face_by, is_command, make_by, mode_by, named_dropout, named_refused, outline_by, refused_by, show_by};
-ghost use Rattle.fx_arguments.specs.Arguments.{shown_by, size_by, texts, trace_by, traced_by, which_of};
+ghost use Rattle.fx_arguments.specs.Arguments.{characters_by, choice_by, command_of_dump, command_of_make, command_of_outline, command_of_show, command_of_trace};
+ghost use Rattle.fx_arguments.specs.Arguments.{dropout_by, dump_by, face_by, is_command, make_by, mode_by, named_dropout, named_refused, one_way, outline_by, refused_by};
+ghost use Rattle.fx_arguments.specs.Arguments.{show_by, shown_by, size_by, texts, trace_by, traced_by, which_of};
 ghost use Rattle.fx_arguments.specs.CommandLine.{command_of, command_of_explain};
-ghost use Rattle.fx_arguments.specs.Commands.{Refuses, seen};
+ghost use Rattle.fx_arguments.specs.Commands.{Refuses, seen, seen_characters};
 ghost use Rattle.fx_arguments.specs.declared.fault.Fault.TheVariants.{Usage};
 
 use crate::chars::{number, parse_chars};
-use crate::command::{Command, Make, Show, Task, Trace, Traced};
+use crate::command::{Characters, Command, Make, Show, Task, Trace, Traced};
 use crate::commands::{dump_command, make_command, outline_command, show_command, trace_command};
 use crate::fault::Fault;
 use crate::mistakes::explain;
@@ -179,19 +179,44 @@ pub(crate) fn named_refused(name: &str) -> Option<OnRefused>
     }
 }
 
-/// What the values of `make` ask for: the size and the list of characters are required.
+/// Characters are asked for by a list, or all of the font's map by a flag, and not both.
+fn one_way(is_all: bool, list: Option<&str>) -> Result<(), Fault>
+    ensures { result ≡ one_way is_all (option_map (λ list. list.now) list.entry) }
+{
+    match (is_all, list) {
+        (true, None) | (false, Some(_)) => Ok(()),
+        (true, Some(_)) | (false, None) => Err(Fault::Usage),
+    }
+}
+
+/// The characters of a list; without one all of the font's map.
+fn characters_by(alloc: Global, list: Option<&str>) -> Result<Characters, Fault>
+    ensures { GivesUnless Refuses seen_characters result (characters_by (option_map (λ list. list.now) list.entry)) }
+{
+    match list {
+        Some(list) => {
+            let chars = parse_chars(alloc, list)?;
+            Ok(Characters::Listed(chars))
+        }
+        None => Ok(Characters::All),
+    }
+}
+
+/// What the values of `make` ask for: the size is required, and a list of characters or `--all`.
 fn make_of<'a>(alloc: Global, matches: &ArgMatches<'a>) -> Result<Command<'a>, Fault>
     ensures { GivesUnless Refuses seen result (make_by (rows_of (found_of matches.now))) }
 {
     let ppem = required_size(value(matches, "ppem"))?;
-    let list = value(matches, "chars").ok_or(Fault::Usage)?;
+    let list = value(matches, "chars");
+    one_way(is_given(matches, "all"), list)?;
     let properties = given_properties(alloc, values(matches, "property"))?;
     let on_refused = on_refused(value(matches, "refused"))?;
     let face = face_by(value(matches, "face"))?;
     let mode = mode_of(matches)?;
+    let chars = characters_by(alloc, list)?;
     let make = Make {
         ppem,
-        chars: parse_chars(alloc, list)?,
+        chars,
         name: value(matches, "name").unwrap_or("strike"),
         properties,
         x11: is_given(matches, "x11"),

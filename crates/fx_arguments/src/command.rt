@@ -29,12 +29,21 @@ pub enum Task<'a> {
     Explanation(Vec<u8>),
 }
 
+/// The characters of a strike.
+#[derive(Drop)]
+pub enum Characters {
+    /// Those of a list.
+    Listed(Vec<u32>),
+    /// All that the font's map has.
+    All,
+}
+
 /// A strike: its size in pixels an em, its characters, its name, its properties, whether it has those of X11 too, how outlines
 /// become pixels, and what becomes of refused characters.
 #[derive(Drop)]
 pub struct Make<'a> {
     pub ppem: u16,
-    pub chars: Vec<u32>,
+    pub chars: Characters,
     pub name: &'a str,
     pub properties: Vec<Property<'a>>,
     pub x11: bool,
@@ -54,9 +63,10 @@ impl<'a> Make<'a> {
     ghost use Rattle.std.specs.Prelude.{◌≡◌};
     ghost use Rattle.fx_arguments.specs.Commands.{seen_make, seen_request};
 
-    /// The request for the strike.
-    pub fn request(&self) -> Request<'_>
-        ensures { seen_request result ≡ seen_make self.now }
+    /// The request for the strike, with these characters.
+    pub fn request<'r>(&'r self, chars: &'r [u32]) -> Request<'r>
+        ensures made { seen_request (seen_make self.entry.now).chars result ≡ seen_make self.entry.now }
+        ensures chars { result.chars.now ≡ chars.entry.now }
     {
         Request {
             ppem: self.ppem,
@@ -65,7 +75,7 @@ impl<'a> Make<'a> {
                 properties: &self.properties,
                 x11: self.x11,
             },
-            chars: &self.chars,
+            chars,
             mode: self.mode,
             on_refused: self.on_refused,
         }

@@ -20,7 +20,8 @@ pub fn make_command<'a>(alloc: Global) -> Result<Command<'a>, AllocError>
         .arg(flag(alloc, "unhinted"))?
         .arg(dropout(alloc))?
         .arg(option(alloc, "face"))?
-        .arg(flag(alloc, "hex"))
+        .arg(flag(alloc, "hex"))?
+        .arg(flag(alloc, "all"))
 }
 
 /// `show` with its options.

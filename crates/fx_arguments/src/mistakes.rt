@@ -7,15 +7,15 @@ ghost use Rattle.fx_arguments.specs.Commands.{Refuses};
 ghost use Rattle.fx_arguments.specs.Mistakes.{IsSaid, SaysUnless, app_for, checked, checked_for, choice_checked, command_said, dropout_checked, dump_checked};
 ghost use Rattle.fx_arguments.specs.Mistakes.{face_checked, has_hyphen, is_taken, line_of, make_checked, name_in, option_said, properties_checked};
 ghost use Rattle.fx_arguments.specs.Mistakes.{outline_checked, refused_checked, shown_checked, trace_checked, traced_checked};
-ghost use Rattle.fx_arguments.specs.Mistakes.{required, show_checked, size_checked, taken_if, taken_words, value_said, verb_checked, word_said};
-ghost use Rattle.fx_arguments.specs.Mistakes.{words_said};
+ghost use Rattle.fx_arguments.specs.Mistakes.{required, show_checked, size_checked, taken_if, taken_words, value_said, verb_checked, way_checked};
+ghost use Rattle.fx_arguments.specs.Mistakes.{word_said, words_said};
 
 use crate::arguments::{is_command, named_dropout, named_refused, which_of};
 use crate::commands::{dump_command, make_command, outline_command, show_command, trace_command};
 use crate::fault::Fault;
 use crate::properties::property_of;
 use crate::said::{Said, say};
-use crate::values::{face_of, matches, size_of, value, values};
+use crate::values::{face_of, is_given, matches, size_of, value, values};
 use crate::verb::Verb;
 use clap::{ArgMatches, Command};
 use std::alloc::{AllocError, Global};
@@ -241,13 +241,24 @@ fn values_checked(alloc: Global, verb: Verb, matches: &ArgMatches<'_>) -> Result
     }
 }
 
+/// A list of characters, or all of the font's map.
+fn way_checked(alloc: Global, is_all: bool, list: Option<&str>) -> Result<(), Said>
+    ensures { SaysUnless (λ u. u) result (way_checked is_all (option_map (λ text. text.now) list.entry)) }
+{
+    match (is_all, list) {
+        (true, None) | (false, Some(_)) => Ok(()),
+        (true, Some(_)) => Err(say(alloc, &["--chars and --all can't be given together"])),
+        (false, None) => Err(say(alloc, &["--chars or --all is missing"])),
+    }
+}
+
 /// The values of `make`'s options.
 #[tactic(auto, unfolding(crate::specs::Mistakes::make_checked))]
 fn make_checked(alloc: Global, matches: &ArgMatches<'_>) -> Result<(), Said>
     ensures { SaysUnless (λ u. u) result (make_checked (rows_of (found_of matches.now))) }
 {
     size_checked(alloc, value(matches, "ppem"))?;
-    required(alloc, "chars", value(matches, "chars"))?;
+    way_checked(alloc, is_given(matches, "all"), value(matches, "chars"))?;
     properties_checked(alloc, values(matches, "property").unwrap_or(&[]))?;
     refused_checked(alloc, value(matches, "refused"))?;
     face_checked(alloc, value(matches, "face"))?;

@@ -2,3 +2,4 @@ pub mod Made
 pub mod FirstLines
 pub mod Pictures
 pub mod Telling
+pub mod AllMapped

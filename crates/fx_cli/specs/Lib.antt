@@ -1,3 +1,4 @@
+pub mod Mapped
 pub mod Pictures
 pub mod Runs
 pub mod Steps

@@ -32,13 +32,15 @@ use Rattle.fx_arguments.specs.declared.done.Done.TheVariants.{Strike, Picture, O
 use Rattle.fx_arguments.specs.declared.fault.Fault.{Fault}
 use Rattle.fx_arguments.specs.declared.fault.Fault.TheVariants.{Usage, Early, Late}
 use Rattle.fx_arguments.specs.CommandLine.{command_of}
-use Rattle.fx_arguments.specs.Commands.{CommandView, MakeView, TaskView, strike, picture, outline, listing, trace, explanation}
+use Rattle.fx_arguments.specs.Commands.{CharactersView, CommandView, MakeView, TaskView, explanation, listed, listing, mapped, outline, picture, strike}
+use Rattle.fx_arguments.specs.Commands.{trace}
 use Rattle.fx_arguments.specs.declared.command.Show.{Show}
 use Rattle.fx_arguments.specs.declared.command.Trace as asked
 use Rattle.fx_arguments.specs.declared.command.Traced.{Traced}
 use Rattle.fx_arguments.specs.declared.command.Traced.TheVariants.{Program, Glyph}
 use Rattle.fx_request.specs.declared.request.Choice.TheVariants.{Character, Number}
 use Rattle.fx_arguments.specs.Lines.{Tells, notice_line, outcome_line, status_of}
+use Rattle.fx_cli.specs.Mapped.{mapped_of}
 use Rattle.fx_cli.specs.Pictures.{Shows}
 use Rattle.fx_arguments.specs.Input.{bytes_of_hex, line_of, rest_of, arguments_of_line}
 
@@ -83,15 +85,32 @@ font_bytes false text = Some text
 abbrev pub title : MakeView → Title
 title make = record { name = make.name; properties = make.properties; x11 = make.x11 }
 
--- the strike that is asked for, or the first cause why there is none
-abbrev pub strike_for : MakeView → FontFileView → Result Plan Refusal
-strike_for make font = plan_of font make.ppem (title make) make.chars make.mode make.on_refused
+-- the strike that is asked for of these characters, or the first cause why there is none
+abbrev pub strike_for : MakeView → List ℕ → FontFileView → Result Plan Refusal
+strike_for make chars font = plan_of font make.ppem (title make) chars make.mode make.on_refused
 
--- what a call that makes the strike leaves of the sink, and what it told of refused characters
+-- what a call that makes the strike of these characters leaves of the sink, and what it told of refused ones
+abbrev pub StrikeLeaves : MakeView → List ℕ → FontFileView → Change → List Notice → Result Report Refusal → Type 0
+StrikeLeaves make chars font sink told answer =
+    Leaves (opened_of font make.ppem (title make) chars) (strike_for make chars font) sink answer
+    × AreTold (notices_of (strike_for make chars font)) told answer
+
+-- the sink is as it was
+abbrev pub IsSpared : Change → Type 0
+IsSpared sink = Keeps sink.bytes_before sink.bytes × (sink.faults ≡ sink.faults_before)
+
+-- there was no memory for the characters of the font's map: nothing was written or told
+abbrev pub NoRoom : Change → List Notice → Result Report Refusal → Type 0
+NoRoom sink told answer = (answer ≡ Err OutOfMemory) × IsSpared sink × (told ≡ [])
+
+-- the same of those that are asked for
+abbrev pub LeavesBy : CharactersView → MakeView → FontFileView → Change → List Notice → Result Report Refusal → Type 0
+LeavesBy (listed chars) make font sink told answer = StrikeLeaves make chars font sink told answer
+LeavesBy mapped make font sink told answer =
+    StrikeLeaves make (mapped_of font) font sink told answer ⊎ NoRoom sink told answer
+
 abbrev pub MakeLeaves : MakeView → FontFileView → Change → List Notice → Result Report Refusal → Type 0
-MakeLeaves make font sink told answer =
-    Leaves (opened_of font make.ppem (title make) make.chars) (strike_for make font) sink answer
-    × AreTold (notices_of (strike_for make font)) told answer
+MakeLeaves make font sink told answer = LeavesBy make.chars make font sink told answer
 
 -- what a call that shows a glyph leaves of it
 abbrev pub ShowLeaves : Show → FontFileView → Change → Result (Unit {0}) Refusal → Type 0
@@ -193,10 +212,6 @@ IsReason given got source (Early BadHex) =
 IsReason given got source (Early InputTooLarge) = max_input < length got
 IsReason given got source (Early OutOfMemory) = Unit {0}
 IsReason given got source _ = ⊥
-
--- the sink is as it was
-abbrev pub IsSpared : Change → Type 0
-IsSpared sink = Keeps sink.bytes_before sink.bytes × (sink.faults ≡ sink.faults_before)
 
 -- the sink is as it was, nothing was told of characters, and the reason is a true one
 pub record Stops (given : List Text) (source sink : Change) (told : List Notice) (fault : Fault) : Type 0 where

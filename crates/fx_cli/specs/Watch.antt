@@ -4,4 +4,4 @@ use Rattle.fx_front.specs.declared.facts.Facts.{Facts}
 
 -- before a run
 abbrev pub unseen : Facts
-unseen = record { strike = None; refused = None; start = None; is_variable = false; missing = []; has_more = false }
+unseen = record { strike = None; refused = None; start = None; is_variable = false; missing = []; has_more = false; is_cut = false }

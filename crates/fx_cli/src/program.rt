@@ -3,21 +3,22 @@ ghost use Rattle.std.specs.Prelude.{◌≡◌, ◌<◌, ◌≤◌, ◌^◌, leng
 ghost use Rattle.std.specs.Io.KnownBytes.{IsAtEnd};
 ghost use Rattle.fx_fixed.specs.Chain.{map_fault};
 ghost use Rattle.fx_arguments.specs.Arguments.{texts};
-ghost use Rattle.fx_arguments.specs.Commands.{seen, seen_task};
+ghost use Rattle.fx_arguments.specs.Commands.{seen, seen_make, seen_task};
 ghost use Rattle.fx_fixed.specs.Changes.{change_of};
 ghost use Rattle.fx_sfnt.specs.Collections.{face_in};
-ghost use Rattle.fx_cli.specs.Runs.{Ends, Runs, TaskLeaves, called, programs_of};
+ghost use Rattle.fx_cli.specs.Runs.{Ends, MakeLeaves, Runs, StrikeLeaves, TaskLeaves, called, programs_of};
 ghost use Rattle.fx_cli.specs.Steps.{EndsAfter, EndsText, Telling};
 
+use crate::mapped::mapped_of;
 use crate::show::put_picture;
 use crate::watcher::{Unwatched, Watcher};
 use fx_arguments::{
-    Command, Done, Fault, LINE_BUFFER, ReadAhead, Task, Teller, Traced, arguments_of_line,
-    decode_hex, read_arguments, read_line,
+    Characters, Command, Done, Fault, LINE_BUFFER, Make, ReadAhead, Task, Teller, Traced,
+    arguments_of_line, decode_hex, read_arguments, read_line,
 };
 use fx_fixed::{Sink, Source, put_all};
 use fx_machine::FontProgram;
-use fx_request::{Choice, Refusal};
+use fx_request::{Choice, Refusal, Report};
 use fx_sfnt::FontFile;
 use fx_strike::{listing_of, make_strike_telling, trace_of, write_outline};
 use std::alloc::Global;
@@ -228,7 +229,7 @@ fn run_task<O: Sink, E: Sink>(
 {
     match task {
         Task::Strike(make) => {
-            let report = make_strike_telling(alloc, font, &make.request(), out, teller)?;
+            let report = make_of(alloc, make, font, out, teller)?;
             Ok(Done::Strike(report))
         }
         Task::Picture(show) => {
@@ -252,6 +253,43 @@ fn run_task<O: Sink, E: Sink>(
             Ok(Done::Explanation)
         }
     }
+}
+
+/// Makes a strike.
+fn make_of<O: Sink, E: Sink>(
+    alloc: Global,
+    make: &Make<'_>,
+    font: &FontFile<'_>,
+    out: &mut O,
+    teller: &mut Teller<'_, E>,
+) -> Result<Report, Refusal>
+    requires { O.fault_count out.old < 2 ^ 63 }
+    ensures { Telling teller.old teller.new (λ told. MakeLeaves (seen_make make.now) font.now
+        (change_of O.held O.fault_count out.old out.new) told result) }
+{
+    match &make.chars {
+        Characters::Listed(chars) => strike_of(alloc, make, chars, font, out, teller),
+        Characters::All => {
+            let chars = mapped_of(alloc, font)?;
+            strike_of(alloc, make, &chars, font, out, teller)
+        }
+    }
+}
+
+/// Makes the strike of these characters.
+fn strike_of<O: Sink, E: Sink>(
+    alloc: Global,
+    make: &Make<'_>,
+    chars: &[u32],
+    font: &FontFile<'_>,
+    out: &mut O,
+    teller: &mut Teller<'_, E>,
+) -> Result<Report, Refusal>
+    requires { O.fault_count out.old < 2 ^ 63 }
+    ensures { Telling teller.old teller.new (λ told. StrikeLeaves (seen_make make.now) chars.now font.now
+        (change_of O.held O.fault_count out.old out.new) told result) }
+{
+    make_strike_telling(alloc, font, &make.request(chars), out, teller)
 }
 
 /// What is traced, as a trace is asked for.

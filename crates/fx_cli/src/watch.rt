@@ -2,12 +2,13 @@
 ghost use Rattle.std.specs.Prelude.{◌≡◌, false};
 ghost use Rattle.fx_cli.specs.Watch.{unseen};
 
+use crate::mapped::mapped_in;
 use crate::watcher::Watcher;
-use fx_arguments::{Command, Done, Fault, Task};
+use fx_arguments::{Characters, Command, Done, Fault, Task};
 use fx_cmap::CharMap;
 use fx_front::{Counts, Facts, Refused, Text};
 use fx_machine::FontProgram;
-use fx_request::{Place, Refusal, rising_codes};
+use fx_request::{MAX_CHARACTERS, Place, Refusal, Report, rising_codes};
 use fx_sfnt::{Font, FontFile};
 use std::alloc::{AllocError, Global};
 
@@ -37,8 +38,32 @@ impl Watch {
                 is_variable: false,
                 missing: Text::new(alloc),
                 has_more: false,
+                is_cut: false,
             },
             names_all: false,
+        }
+    }
+
+    /// Sees which characters of a list a font lacks, or whether it has more than a strike takes.
+    fn see_characters(
+        &mut self,
+        alloc: Global,
+        characters: &Characters,
+        report: Report,
+        map: &CharMap<'_>,
+    ) {
+        match characters {
+            Characters::Listed(chars) => {
+                if report.missing > 0 && self.see_missing(alloc, chars, map).is_err() {
+                    self.facts.missing = Text::new(alloc);
+                    self.facts.has_more = false;
+                }
+            }
+            Characters::All => {
+                if let Ok(codes) = mapped_in(alloc, map, MAX_CHARACTERS + 1) {
+                    self.facts.is_cut = codes.len() > MAX_CHARACTERS;
+                }
+            }
         }
     }
 
@@ -117,12 +142,9 @@ impl Watcher for Watch {
         self.facts.is_variable = !matches!(done, Done::Listing | Done::Explanation)
             && opened.table(*b"fvar").is_some();
         if let (Done::Strike(report), Task::Strike(make)) = (done, &command.task)
-            && report.missing > 0
             && let Ok(map) = CharMap::open(&opened)
-            && self.see_missing(alloc, &make.chars, &map).is_err()
         {
-            self.facts.missing = Text::new(alloc);
-            self.facts.has_more = false;
+            self.see_characters(alloc, &make.chars, *report, &map);
         }
     }
 

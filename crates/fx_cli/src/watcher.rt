@@ -10,28 +10,18 @@ pub trait Watcher {
     /// Sees what a command came to with a font.
     fn see(
         &mut self,
-        alloc: Global,
-        command: &Command<'_>,
-        font: &FontFile<'_>,
-        outcome: &Result<Done, Refusal>,
-    );
-
-    /// Sees how the run ended.
-    fn end(&mut self, outcome: &Result<Done, Fault>);
-}
-
-/// Nobody watches.
-#[derive(Clone, Copy)]
-pub struct Unwatched;
-
-impl Watcher for Unwatched {
-    fn see(
-        &mut self,
         _alloc: Global,
         _command: &Command<'_>,
         _font: &FontFile<'_>,
         _outcome: &Result<Done, Refusal>,
     ) {}
 
+    /// Sees how the run ended.
     fn end(&mut self, _outcome: &Result<Done, Fault>) {}
 }
+
+/// Nobody watches.
+#[derive(Clone, Copy)]
+pub struct Unwatched;
+
+impl Watcher for Unwatched {}

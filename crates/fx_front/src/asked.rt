@@ -75,7 +75,7 @@ fn asked_by_word<'a>(word: &'a str, rest: &[&'a str]) -> Asked<'a>
 }
 
 /// Whether a word is among words.
-fn has(words: &[&str], word: &str) -> bool
+pub(crate) fn has(words: &[&str], word: &str) -> bool
     ensures { result ≡ has (texts words.now) word.now }
 {
     // The word is among those that are left if it is among all.

@@ -3,7 +3,7 @@ ghost use Rattle.std.specs.Prelude.{◌≡◌};
 ghost use Rattle.fx_fixed.specs.Changes.{change_of};
 ghost use Rattle.fx_front.specs.Says.{Says};
 
-use crate::asked::Task;
+use crate::asked::{Task, has};
 use crate::facts::{Counts, Facts, Refused};
 use crate::kinds::{KINDS, kind_of};
 use crate::lines::{leave, tell};
@@ -26,6 +26,9 @@ const IS_VARIABLE: &str = "the font is a variable font, and this is its default 
 
 const LACKS_ALL: &str =
     "the font has no requested character; --chars is hexadecimal, and the letter A is 41";
+
+const IS_CUT: &str =
+    "the font has more than 65,536 characters, and the strike is of the first ones; --chars takes others";
 
 /// What there is for lists that are no numbers.
 const LISTS: &str =
@@ -121,7 +124,9 @@ fn of_strike(
     is_blank: bool,
 ) -> Result<Text, AllocError> {
     let none = "the strike has no glyph: ";
-    if counts.glyphs > 0 && counts.missing > 0 {
+    if facts.is_cut {
+        Text::one(alloc, IS_CUT)
+    } else if counts.glyphs > 0 && counts.missing > 0 {
         of_missing(alloc, facts, counts)
     } else if counts.glyphs > 0 && is_blank {
         Text::one(
@@ -134,6 +139,11 @@ fn of_strike(
         Text::of(alloc, &[none, LACKS_ALL])
     } else if task.list() == Some("") {
         Text::of(alloc, &[none, "the list of characters is empty"])
+    } else if has(&task.parts.words, "--all") {
+        Text::of(
+            alloc,
+            &[none, "the font has no character, or all are refused"],
+        )
     } else {
         Text::of(alloc, &[none, "the requested characters are refused"])
     }
@@ -255,7 +265,7 @@ fn of_list<G: Program>(
 /// Adds what there is for a list that has names or letters.
 fn add_names(alloc: Global, text: &mut Text, list: &str) -> Result<(), AllocError> {
     if list == "all" || list == "*" {
-        return text.add_all(&["; 20-d7ff,e000-fffd takes all up to U+FFFF"]);
+        return text.add_all(&["; --all takes all characters of the font"]);
     }
     let mut has_letter = false;
     // No item so far is the name of a set; `has_letter` tells whether one has a letter that is no digit, or is no word of ASCII.

@@ -37,4 +37,6 @@ pub struct Facts {
     /// Which characters are missing, as `4e00-4e10,5000`, and whether these are not all.
     pub missing: Text,
     pub has_more: bool,
+    /// Whether the font has more characters than the strike takes.
+    pub is_cut: bool,
 }

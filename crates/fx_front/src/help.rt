@@ -8,8 +8,8 @@ kit rattle-kit-13f logic dac8208d650f15bf
 /// What `mkstrike help` prints.
 pub const OVERVIEW: &str = "mkstrike makes a bitmap font (BDF 2.1) from a TrueType font.
 
-    mkstrike make --ppem N --chars LIST | --set NAMES [--name NAME] [--property KEY=VALUE]... [--x11] [--refused WHAT] [--missing]
-                  [--unhinted] [--dropout[=WHAT]] [--face N] [--hex] [FONT] [-o FILE]
+    mkstrike make --ppem N --chars LIST | --set NAMES | --all [--name NAME] [--property KEY=VALUE]... [--x11] [--refused WHAT]
+                  [--missing] [--unhinted] [--dropout[=WHAT]] [--face N] [--hex] [FONT] [-o FILE]
     mkstrike show --ppem N --char HEX | --glyph G [--unhinted] [--dropout[=WHAT]] [--face N] [--hex] [FONT] [-o FILE]
     mkstrike outline --ppem N --char HEX | --glyph G [--unhinted] [--face N] [--hex] [FONT] [-o FILE]
     mkstrike dump --of WHAT [--face N] [--hex] [FONT] [-o FILE]
@@ -48,11 +48,12 @@ pub(crate) fn help_of(command: &str) -> Option<&'static str> {
 
 const MAKE: &str = "mkstrike make writes a strike: the bitmaps of characters at one size.
 
-    mkstrike make --ppem N --chars LIST | --set NAMES [OPTION].. [FONT] [-o FILE]
+    mkstrike make --ppem N --chars LIST | --set NAMES | --all [OPTION].. [FONT] [-o FILE]
 
       --ppem N                the size in pixels per em, 1 to 1024
       --chars LIST            hexadecimal numbers and ranges, as 20-7e,a0,20ac; the letter A is 41
       --set NAMES             sets of characters by name, as ascii or latin-1,box, in place of --chars
+      --all                   all characters of the font's map, at most 65,536, in place of --chars
       --name NAME             the strike's name; one that begins with a hyphen is given as --name=-misc-..
       --property KEY=VALUE    add a property; may be given up to 64 times
       --x11                   add the properties that X11 and fontconfig look for

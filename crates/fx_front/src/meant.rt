@@ -11,7 +11,7 @@ use strsim::levenshtein;
 const OPTIONS: [(&str, &str); 5] = [
     (
         "make",
-        "--ppem --chars --set --name --property --x11 --refused --missing --unhinted --dropout --face --hex -o",
+        "--ppem --chars --set --all --name --property --x11 --refused --missing --unhinted --dropout --face --hex -o",
     ),
     (
         "show",
@@ -44,7 +44,7 @@ const USUAL: [(&str, &str); 8] = [
 ];
 
 /// What there is in place of options that others have.
-const PLACES: [(&str, &str); 8] = [
+const PLACES: [(&str, &str); 7] = [
     (
         "--pt --points --dpi --resolution -r",
         "--ppem is in pixels: points times the resolution, divided by 72",
@@ -60,10 +60,6 @@ const PLACES: [(&str, &str); 8] = [
     (
         "--antialias --aa --gray --grey --smooth",
         "a strike has one bit a pixel",
-    ),
-    (
-        "--all",
-        "--chars 20-d7ff,e000-fffd takes all characters up to U+FFFF",
     ),
     (
         "--encoding --charset --codepage",

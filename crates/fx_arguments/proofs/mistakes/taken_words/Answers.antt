@@ -1,4 +1,4 @@
-use Rattle.std.proofs.Common.{◌≡◌, ◌∙◌, ◌-◌, ap, arith, true, take, Ok}
+use Rattle.std.proofs.Common.{◌≡◌, ◌∙◌, ◌-◌, ap, arith, take, Ok}
 use Rattle.fx_arguments.specs.Arguments.{texts}
 use Rattle.fx_arguments.specs.Mistakes.{is_taken}
 use Rattle.fx_arguments.proofs.Saying.{taken_here, texts_take}

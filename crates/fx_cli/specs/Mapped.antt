@@ -1,0 +1,26 @@
+-- All characters of a font's map.
+use Rattle.std.specs.Prelude.{ℕ, zero, suc, ◌+◌, ◌==◌, List, [], ◌∷◌, ◌++◌, take, Result, Ok, Err, if◌then◌else◌}
+use Rattle.fx_sfnt.specs.Collections.{FontFileView}
+use Rattle.fx_sfnt.specs.Tables.{Face}
+use Rattle.fx_cmap.specs.Lookup.{glyph_for}
+use Rattle.fx_cmap.specs.declared.mapping.Mapping.{Mapping}
+use Rattle.fx_request.specs.Limits.{max_characters, max_code}
+use Rattle.fx_request.specs.declared.refusal.Refusal.{Refusal}
+use Rattle.fx_strike.specs.Strike.{font_with_map}
+
+-- the code points below n that have a glyph, in rising order
+unfoldable pub mapped_below : Mapping → ℕ → List ℕ
+mapped_below map zero = []
+mapped_below map (suc n) = if glyph_for map n == 0 then mapped_below map n else mapped_below map n ++ n ∷ []
+
+-- the first of all of them, up to a limit
+unfoldable pub mapped_in : Mapping → ℕ → List ℕ
+mapped_in map limit = take limit (mapped_below map (max_code + 1))
+
+-- those of a font, up to the limit of a list; none if it or its map can't be opened, and then there is no strike
+abbrev pub mapped_by : Result (Face × Mapping) Refusal → List ℕ
+mapped_by (Ok opened) = mapped_in opened.1 max_characters
+mapped_by (Err refusal) = []
+
+abbrev pub mapped_of : FontFileView → List ℕ
+mapped_of font = mapped_by (font_with_map font)
