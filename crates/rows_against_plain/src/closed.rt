@@ -3,7 +3,7 @@
 ghost use Rattle.std.specs.Prelude.{◌≡◌, ◌↔◌, IsTrue, pos, ◌+ℤ◌, ◌-ℤ◌, map};
 ghost use Rattle.fx_dropout.specs.declared.chooser.Closing.TheVariants.{Lower};
 ghost use Rattle.fx_dropout.specs.Dropout.{IsGap, IsRowSet, IsSet};
-ghost use Rattle.fx_winding.specs.Dropout.{turned_span};
+ghost use Rattle.fx_winding.specs.Turned.{turned_span};
 ghost use Rattle.fx_winding.specs.Frames.{IsInFrame, HasMargin};
 ghost use Rattle.fx_winding.specs.Limits.{IsPixelNumber};
 ghost use Rattle.fx_winding.specs.Winding.{place_of, span_of, centre as centre_of, IsCovered};

@@ -1,7 +1,7 @@
 use Rattle.std.proofs.Common.{◌∙◌, ap, refl, map}
 use Rattle.fx_dropout.specs.declared.chooser.Closing.TheVariants.{Lower}
 use Rattle.fx_dropout.specs.Dropout.{IsRowSet}
-use Rattle.fx_winding.specs.Dropout.{turned_place}
+use Rattle.fx_winding.specs.Turned.{turned_place}
 use Rattle.fx_winding.specs.Winding.{span_of, centre}
 use Rattle.fx_winding.proofs.Places.{no}
 use Rattle.rows_against_plain.proofs.Bridged.{moved, met_at, none}

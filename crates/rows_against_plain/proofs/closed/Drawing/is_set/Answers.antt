@@ -2,7 +2,7 @@ use Rattle.std.proofs.Common.{inl, inr, refl, map, ℤ, arith}
 use Rattle.fx_fixed.proofs.Linear.{signed_linear}
 use Rattle.fx_dropout.specs.declared.chooser.Closing.TheVariants.{Lower}
 use Rattle.fx_dropout.specs.Dropout.{IsGap, IsRowSet}
-use Rattle.fx_winding.specs.Dropout.{turned_span}
+use Rattle.fx_winding.specs.Turned.{turned_span}
 use Rattle.fx_winding.specs.Frames.{IsInFrame}
 use Rattle.fx_winding.specs.Winding.{span_of}
 use Rattle.fx_winding.proofs.Places.{no}
