@@ -12,28 +12,32 @@ from prebuilt import TOP, Fault
 
 WEB = os.path.join(TOP, "web")
 MODULE, PAGE = web_module.LIBRARY, "mkstrike.html"
-SHARED = ("mkstrike.js", "outputs.js", "refusals.js")  # what the page and the worker both need
-ALONE = ("woff.js", "page.js")  # what the page needs beside it
+SHARED = ("mkstrike.js", "tables.js", "outputs.js")  # what the page and the worker both need
+ALONE = ("names.js", "woff.js", "text.js", "page.js")  # what the page needs beside it
 
 
 def kinds():
     """Files of another kind, as docs/REFUSALS.md has them, without the options of the command: first bytes, what the file does, what to do."""
     part = prebuilt.read(os.path.join(TOP, "docs/REFUSALS.md")).decode().partition("\n## Files of another kind\n")[2].partition("\n## ")[0]
     rows = re.findall(r"^\| (none|`[0-9a-f ]+`) \|.*?\| ([^|]+) \| ([^|]+) \|$", part, re.M)
-    return [(re.sub("[^0-9a-f]", "", begins.replace("none", "")), seems, re.sub("; `--.*", "", todo)) for begins, seems, todo in rows]
+    return [(re.sub("[^0-9a-f]", "", begins.replace("none", "")), seems, re.sub("; `--.*", "", todo).replace("`", "")) for begins, seems, todo in rows]
 
 
-def refusals():
-    """web/refusals.js: the tables of docs/REFUSALS.md."""
-    rows, before = {}, ""
-    text = prebuilt.read(os.path.join(TOP, "docs/REFUSALS.md")).decode()
-    for number, name, means, todo in re.findall(r"^\| (\d+) \| (\w+)[^|]* \| (.+?) \| (.+?) \|$", text, re.M):
-        before = before if todo == "the same" else todo
-        rows[number] = {"name": name, "means": means, "todo": before}
-    lines = ["  %s: %s," % (number, json.dumps(row, ensure_ascii=False)) for number, row in rows.items()]
-    others = ["  %s," % json.dumps(dict(zip(("begins", "seems", "todo"), it)), ensure_ascii=False) for it in kinds()]
-    return ("// The tables of docs/REFUSALS.md, the refusals by number. Made by tools/make_web.\nexport const REFUSALS = {\n%s\n};\n\n"
-            "// Files of another kind, by their first bytes.\nexport const KINDS = [\n%s\n];\n" % ("\n".join(lines), "\n".join(others))).encode()
+def sets(table):
+    """A table of crates/fx_words/src/sets.rt: sets of characters by name (SETS), or other names of sets (OTHERS)."""
+    text = prebuilt.read(os.path.join(TOP, "crates/fx_words/src/sets.rt")).decode().partition("const %s:" % table)[2].partition("];")[0]
+    return re.findall(r'\(\s*"([^"]+)",\s*"([^"]+)",?\s*\)', re.sub(r"\\\n\s*", "", text))
+
+
+def tables():
+    """web/tables.js: what the page takes from other files."""
+    rows = ["  %s," % json.dumps(dict(zip(("begins", "seems", "todo"), it)), ensure_ascii=False) for it in kinds()]
+    made = ["// Tables of other files. Made by tools/make_web.", "// Files of another kind, by their first bytes, as docs/REFUSALS.md has them.",
+            "export const KINDS = [", *rows, "];"]
+    for name, table, what in (("SETS", "SETS", "Sets of characters by name, as `mkstrike make --set` takes them"), ("NAMES", "OTHERS", "Other names of sets")):
+        made += ["", "// %s (crates/fx_words)." % what, "export const %s = {" % name]
+        made += ["  %s: %s," % tuple(map(json.dumps, it)) for it in sets(table)] + ["};"]
+    return "".join("%s\n" % it for it in made).encode()
 
 
 def source(name):
@@ -46,7 +50,7 @@ def source(name):
 def policy(scripts):
     """What the page in one file may load: nothing but its own parts. So it can send nothing either."""
     hashes = " ".join("'sha256-%s'" % base64.b64encode(hashlib.sha256(it.encode()).digest()).decode() for it in scripts)
-    return ("default-src 'none'; script-src %s 'wasm-unsafe-eval'; worker-src blob:; style-src 'unsafe-inline'; base-uri 'none'; "
+    return ("default-src 'none'; script-src %s 'wasm-unsafe-eval'; worker-src blob:; style-src 'unsafe-inline'; img-src data:; base-uri 'none'; "
             "form-action 'none'" % hashes)
 
 
@@ -81,7 +85,7 @@ def page_of(module):
 
 def made_of_others():
     """The files of web/ that are made of other files: pairs of a path and its bytes."""
-    return [(os.path.join(WEB, "refusals.js"), refusals()), (os.path.join(WEB, "sample.ttf"), sample_font.sample())]
+    return [(os.path.join(WEB, "tables.js"), tables()), (os.path.join(WEB, "sample.ttf"), sample_font.sample())]
 
 
 def put_page(module, say):

@@ -1,7 +1,7 @@
 // The calls of the WebAssembly module dist/mkstrike.wasm: those of include/mkstrike.h, with JavaScript's values.
 // It runs in a page, in a worker and in Node, and reaches nothing outside the module's memory.
 
-// The structs of include/mkstrike.h, field by field; tools/check_web compares them with the header.
+// The structs of include/mkstrike.h, field by field; tests/web compares them with the header.
 export const STRUCTS = {
   mkstrike_refused: { number: 'u32', table: 'u32', glyph: 'u32', during: 'u32', program: 'u32', opcode: 'u32', index: 'u32', code: 'u32',
     address: 'u64' },
@@ -36,10 +36,10 @@ export function facesOf(bytes) {
   return isCollection ? new DataView(bytes.buffer, bytes.byteOffset).getUint32(8) : 1;
 }
 
-// What a refusal says, as the program's line says it after `mkstrike: `; `name` is that of its number.
-export function lineOf(refused, name) {
+// What a refusal says, as the program's line says it after `mkstrike: `.
+export function lineOf(refused) {
   const program = (it) => (it === FPGM ? 'fpgm' : it === PREP ? 'prep' : `glyph ${it}`);
-  let line = `${refused.number} ${name}`;
+  let line = `${refused.number} ${refused.name}`;
   if (refused.table) line += ` ${String.fromCharCode(...[24, 16, 8, 0].map((by) => (refused.table >>> by) & 255)).trimEnd()}`;
   if (refused.glyph !== NONE) line += ` ${refused.glyph}`;
   if (refused.during !== NONE) {
@@ -79,6 +79,7 @@ export class Mkstrike {
   constructor(calls) {
     this.calls = calls;
     this.font = null;
+    this.words = new Map(); // the name and the advice of a number
   }
 
   // Takes another font, in place of the one before; of a collection the font with this index.
@@ -139,13 +140,29 @@ export class Mkstrike {
 
   // ---- the calls
 
+  // The text that a call writes to an address, if it has room.
+  text(call) {
+    return this.within((take) => {
+      const at = take(128);
+      return new TextDecoder().decode(this.bytes(at, Number(call(at, 128n))).slice());
+    });
+  }
+
   // The name of what a call returned.
   reason(number) {
-    return this.within((take) => {
-      const at = take(32);
-      const length = Number(this.calls.mkstrike_reason(number, at, 32n));
-      return new TextDecoder().decode(this.bytes(at, length).slice());
-    });
+    return this.text((at, room) => this.calls.mkstrike_reason(number, at, room));
+  }
+
+  // What to do after it, as one line.
+  advice(number) {
+    return this.text((at, room) => this.calls.mkstrike_advice(number, at, room));
+  }
+
+  // The refusal at an address, with its name and its advice.
+  refusedAt(at) {
+    const refused = this.read('mkstrike_refused', at), { number } = refused;
+    if (!this.words.has(number)) this.words.set(number, { name: this.reason(number), advice: this.advice(number) });
+    return { ...refused, ...this.words.get(number) };
   }
 
   // The ascent, the descent and more of the font at a size; or `refused`.
@@ -153,7 +170,7 @@ export class Mkstrike {
     return this.within((take) => {
       const info = take(this.size('mkstrike_font_info')), refused = take(this.size('mkstrike_refused'));
       const status = this.calls.mkstrike_font(...this.ofFont(), ppem, info, refused);
-      return status ? { refused: this.read('mkstrike_refused', refused) } : this.read('mkstrike_font_info', info);
+      return status ? { refused: this.refusedAt(refused) } : this.read('mkstrike_font_info', info);
     });
   }
 
@@ -188,7 +205,7 @@ export class Mkstrike {
     return this.within((take) => {
       const info = take(this.size('mkstrike_glyph_info')), refused = take(this.size('mkstrike_refused'));
       const status = this.calls.mkstrike_glyph(...this.ofFont(), ppem, mode | PACKED, code, info, 0n, info, refused);
-      return status > MISSING ? this.read('mkstrike_refused', refused) : null;
+      return status > MISSING ? this.refusedAt(refused) : null;
     });
   }
 
@@ -207,7 +224,7 @@ export class Mkstrike {
       let status = call(pixels, room);
       const due = status || !withPixels ? 0 : this.read('mkstrike_drawn', drawn).bytes;
       if (due > room) status = call(pixels = take(due), room = due);
-      if (status) return { refused: this.read('mkstrike_refused', refused) };
+      if (status) return { refused: this.refusedAt(refused) };
       const glyphs = Array.from(chars, (code, k) => ({ code, ...this.read('mkstrike_placed', entries + BigInt(k * entry)) }));
       const made = { glyphs, pixels: this.bytes(pixels, due).slice() };
       for (const it of glyphs) if (it.status > MISSING) it.refused = this.refusalOf(ppem, mode, it.code);
@@ -221,7 +238,7 @@ export class Mkstrike {
       const codes = take(new Uint8Array(Uint32Array.from(chars).buffer)), count = BigInt(chars.length);
       const ids = take(2 * chars.length), refused = take(this.size('mkstrike_refused'));
       const status = this.calls.mkstrike_glyph_ids(...this.ofFont(), codes, count, ids, count, refused);
-      if (status) return { refused: this.read('mkstrike_refused', refused) };
+      if (status) return { refused: this.refusedAt(refused) };
       const found = new Uint16Array(this.calls.memory.buffer, Number(ids), chars.length);
       return { chars: chars.filter((_, k) => found[k]) };
     });
@@ -238,7 +255,7 @@ export class Mkstrike {
       let status = call(out, room);
       const size = status ? 0 : this.read('mkstrike_told', told).bytes;
       if (size > room) status = call(out = take(size), room = size);
-      if (status) return { refused: this.read('mkstrike_refused', refused) };
+      if (status) return { refused: this.refusedAt(refused) };
       return { text: this.bytes(out, size).slice(), told: this.read('mkstrike_told', told) };
     });
   }

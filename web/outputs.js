@@ -1,30 +1,10 @@
-// Lists of characters, and what a strike is saved as beside BDF: a PNG picture of all glyphs, and arrays for C.
+// Lists of characters, and what a strike is saved as beside BDF: pictures as PNG, and arrays for C.
+import { MOST_BYTES } from './mkstrike.js';
+import { NAMES, SETS } from './tables.js';
 
-// Sets of characters by name, each as a list of the form that `mkstrike make --chars` takes.
-export const SETS = {
-  ascii: ['ASCII', '20-7e'],
-  latin1: ['Latin-1', 'a0-ff'],
-  latina: ['Latin Extended-A', '100-17f'],
-  greek: ['Greek', '370-3ff'],
-  cyrillic: ['Cyrillic', '400-45f'],
-  hebrew: ['Hebrew', '590-5ff'],
-  arabic: ['Arabic', '600-6ff'],
-  thai: ['Thai', 'e00-e7f'],
-  punctuation: ['punctuation', '2010-2027,2030-205e'],
-  currency: ['currency signs', '20a0-20c0'],
-  arrows: ['arrows', '2190-21ff'],
-  math: ['mathematical signs', '2200-22ff'],
-  boxes: ['box drawing', '2500-257f'],
-  blocks: ['block elements', '2580-259f'],
-  shapes: ['geometric shapes', '25a0-25ff'],
-  braille: ['Braille', '2800-28ff'],
-  powerline: ['Powerline signs', 'e0a0-e0a2,e0b0-e0b3'],
-  kana: ['Hiragana and Katakana', '3040-30ff'],
-  han: ['Han', '4e00-9fff'],
-  hangul: ['Hangul', 'ac00-d7a3'],
-};
+export const MARGIN = 4; // pixels around a picture
 
-// The characters of a list, in rising order and each once: hexadecimal numbers, ranges, names of sets, `all` for those of the font,
+// The characters of a list, in rising order and each once: hexadecimal numbers, ranges, the program's names of sets, `all` for those of the font,
 // joined by commas or spaces. A list that can't be read is an Error with the reason.
 export function charsOf(list, ofFont = []) {
   const found = new Set();
@@ -33,7 +13,7 @@ export function charsOf(list, ofFont = []) {
       ofFont.forEach((code) => found.add(code));
       continue;
     }
-    for (const range of (SETS[part]?.[1] ?? part).split(',')) {
+    for (const range of (SETS[NAMES[part] ?? part] ?? part).split(',')) {
       const [low, high] = boundsOf(range);
       for (let code = low; code <= high && found.size <= 65536; code++) found.add(code);
     }
@@ -137,35 +117,18 @@ function chunkOf(kind, data) {
   return made;
 }
 
-// The width and height of a sheet in pixels: glyphs in cells as large as the box, with a pixel between cells and a margin of 4 around.
-export function sheetSize(count, box, columns, scale) {
-  const width = columns * (box.width + 1) - 1 + 8, height = Math.ceil(count / columns) * (box.height + 1) - 1 + 8;
-  return { width: width * scale, height: height * scale };
-}
-
-// The bytes of a PNG file of a sheet, as tools/picture draws one: 32 glyphs to a row, in rising order, a bit a pixel.
-export async function sheetPng({ glyphs, pixels }, scale = 3, columns = 32) {
-  const box = boxOf(glyphs), { width, height } = sheetSize(glyphs.length, box, columns, scale), stride = Math.ceil(width / 8);
-  const packer = new CompressionStream('deflate'), writer = packer.writable.getWriter();
+// The bytes of a PNG file, one bit a pixel: lines from the top, each with its pixels, which are not 0 for ink, and each pixel a square.
+export async function pngOf(columns, lines, scale) {
+  const width = columns * scale, packer = new CompressionStream('deflate'), writer = packer.writable.getWriter();
   const packed = new Response(packer.readable).arrayBuffer();
-  const ones = new Uint8Array(1 + stride).fill(255, 1), last = width & 7;
-  if (last) ones[stride] = (255 << (8 - last)) & 255;
-  const white = (rows) => {
-    for (let k = 0; k < rows * scale; k++) writer.write(ones.slice());
-  };
-  white(4);
-  for (let first = 0; first < glyphs.length; first += columns) {
-    const band = Array.from({ length: box.height }, () => ones.slice());
-    glyphs.slice(first, first + columns).forEach((glyph, at) => eachPixel(glyph, pixels, (column, row) => {
-      const line = band[box.bottom + box.height - glyph.bottom - glyph.height + row];
-      const from = (4 + at * (box.width + 1) + glyph.left - box.left + column) * scale;
-      for (let x = from; x < from + scale; x++) line[1 + (x >> 3)] &= ~(128 >> (x & 7));
-    }));
-    for (const line of band) for (let k = 0; k < scale; k++) writer.write(line.slice());
-    if (first + columns < glyphs.length) white(1);
+  let height = 0;
+  for (const line of lines) {
+    const bits = new Uint8Array(1 + Math.ceil(width / 8));
+    for (let x = 0; x < width; x++) if (!line[Math.floor(x / scale)]) bits[1 + (x >> 3)] |= 128 >> (x & 7);
+    for (let k = 0; k < scale; k++) writer.write(bits.slice());
+    height += scale;
     await writer.ready;
   }
-  white(4);
   writer.close();
   const head = new Uint8Array(13), view = new DataView(head.buffer);
   view.setUint32(0, width);
@@ -176,11 +139,31 @@ export async function sheetPng({ glyphs, pixels }, scale = 3, columns = 32) {
   return new Uint8Array(await new Blob(parts).arrayBuffer());
 }
 
-// ---- C
+// A sheet of glyphs, as tools/picture draws one: 32 to a row, in rising order, in cells as large as the box, with a pixel between cells and a
+// margin. Its columns and rows, and its lines one by one.
+export function sheetOf({ glyphs, pixels }) {
+  const across = 32, box = boxOf(glyphs), columns = across * (box.width + 1) - 1 + 2 * MARGIN;
+  function* lines() {
+    const blank = new Uint8Array(columns);
+    for (let k = 0; k < MARGIN; k++) yield blank;
+    for (let first = 0; first < glyphs.length; first += across) {
+      if (first) yield blank;
+      const band = Array.from({ length: box.height }, () => new Uint8Array(columns));
+      glyphs.slice(first, first + across).forEach((glyph, at) => eachPixel(glyph, pixels, (column, row) => {
+        band[box.bottom + box.height - glyph.bottom - glyph.height + row][MARGIN + at * (box.width + 1) + glyph.left - box.left + column] = 1;
+      }));
+      yield* band;
+    }
+    for (let k = 0; k < MARGIN; k++) yield blank;
+  }
+  return { columns, rows: Math.ceil(glyphs.length / across) * (box.height + 1) - 1 + 2 * MARGIN, lines };
+}
+
+// ---- C, as the command `strike` of the Python package writes it
 
 // A name as an identifier of C.
 export function identifierOf(name) {
-  return name.replace(/[^A-Za-z0-9]+/g, '_').replace(/^(?=[0-9]|$)/, 'font_').toLowerCase();
+  return (name.replace(/[^A-Za-z0-9_]+/g, '_').replace(/^_+|_+$/g, '') || 'strike').replace(/^(?=[0-9])/, '_');
 }
 
 // A text for a comment of C: printable ASCII, and nothing that ends the comment or joins lines.
@@ -188,33 +171,112 @@ function inComment(text) {
   return text.replace(/[^ -~]|[*/\\?]/gu, '_');
 }
 
-// A strike as a header file for C: the bits of all glyphs, and a table of them in rising order of characters.
-export function arraysForC({ glyphs, pixels }, name, heights, about) {
-  const it = identifierOf(name), lines = [];
-  for (let at = 0; at < pixels.length; at += 16) {
-    lines.push(`    ${Array.from(pixels.subarray(at, at + 16), (byte) => `0x${byte.toString(16).padStart(2, '0')},`).join(' ')}`);
-  }
-  const rows = glyphs.map((g) => `    {0x${g.code.toString(16)}, ${g.width}, ${g.height}, ${g.left}, ${g.bottom}, ${g.dwidth}, ${g.offset}},`);
-  return `/* ${inComment(about)}
+// A character for a comment of C: its code point, and itself if a comment can have it.
+function shown(code) {
+  const char = code > 32 && code < 127 ? String.fromCharCode(code) : '_';
+  return `U+${hexadecimal(code, 4)}${inComment(char) === char && (char !== '_' || code === 95) ? ` ${char}` : ''}`;
+}
+
+function hexadecimal(number, digits) {
+  return number.toString(16).toUpperCase().padStart(digits, '0');
+}
+
+// Items in lines of twelve.
+function inLines(items) {
+  const lines = [];
+  for (let at = 0; at < items.length; at += 12) lines.push(`    ${items.slice(at, at + 12).join(', ')},`);
+  return lines.join('\n');
+}
+
+// Every glyph in a cell that has room for all and for a line of text, its rows in whole bytes.
+export function arraysForC({ glyphs, pixels }, name, ppem, { ascent, descent }) {
+  const box = boxOf(glyphs), left = Math.min(box.left, 0), bottom = Math.min(box.bottom, -descent), it = identifierOf(name);
+  const width = glyphs.reduce((most, { dwidth }) => Math.max(most, dwidth), box.left + box.width) - left;
+  const height = Math.max(box.bottom + box.height, ascent) - bottom, stride = (width + 7) >> 3, guard = `${it.toUpperCase()}_H`;
+  if (6 * glyphs.length * height * stride > MOST_BYTES) throw new Error('The arrays take more than 67,108,864 bytes.');
+  const rows = glyphs.map((glyph) => {
+    const cell = new Uint8Array(height * stride);
+    eachPixel(glyph, pixels, (column, row) => {
+      const x = glyph.left - left + column, y = bottom + height - glyph.bottom - glyph.height + row;
+      cell[y * stride + (x >> 3)] |= 128 >> (x & 7);
+    });
+    return `    {${Array.from(cell, (byte) => `0x${hexadecimal(byte, 2)}`).join(', ')}}, /* ${shown(glyph.code)} */`;
+  });
+  return `/* ${glyphs.length} glyphs of ${inComment(name)} at ${ppem} pixels per em, as ${it}: made by mkstrike.
  *
- * The rows of a glyph go from the top, each in whole bytes, the leftmost pixel the highest bit. There are (width + 7) / 8 bytes to a
- * row, height rows, and the first byte of the glyph is at offset in ${it}_bits. left and bottom are the column and the row of the
- * box's lower left pixel, counted from the origin on the baseline, columns to the right and rows upwards. */
+ * Glyph k is the character ${it}_chars[k]; they rise. ${it}_rows[k] are its rows from the top: ${it}_HEIGHT rows of ${it}_STRIDE
+ * bytes, the leftmost pixel the highest bit. Draw the cell ${it}_LEFT columns right of the pen, with ${it}_ASCENT of its rows above
+ * the baseline; then move the pen by ${it}_advances[k]. */
+#ifndef ${guard}
+#define ${guard}
+
 #include <stdint.h>
 
-enum { ${it}_ascent = ${heights.ascent}, ${it}_descent = ${heights.descent}, ${it}_count = ${glyphs.length} };
-
-static const uint8_t ${it}_bits[] = {
-${lines.join('\n') || '    0,'}
+enum {
+    ${it}_COUNT = ${glyphs.length},
+    ${it}_WIDTH = ${width},
+    ${it}_HEIGHT = ${height},
+    ${it}_STRIDE = ${stride},
+    ${it}_LEFT = ${left},
+    ${it}_ASCENT = ${bottom + height}
 };
 
-static const struct ${it}_glyph {
-    uint32_t code; /* the character */
-    uint16_t width, height;
-    int16_t left, bottom, advance;
-    uint32_t offset;
-} ${it}_glyphs[] = {
-${rows.join('\n') || '    {0, 0, 0, 0, 0, 0, 0},'}
+static const ${glyphs.at(-1).code > 0xffff ? 'uint32_t' : 'uint16_t'} ${it}_chars[${it}_COUNT] = {
+${inLines(glyphs.map(({ code }) => `0x${hexadecimal(code, 4)}`))}
 };
+
+static const int16_t ${it}_advances[${it}_COUNT] = {
+${inLines(glyphs.map(({ dwidth }) => dwidth))}
+};
+
+static const uint8_t ${it}_rows[${it}_COUNT][${it}_HEIGHT * ${it}_STRIDE] = {
+${rows.join('\n')}
+};
+
+#endif
+`;
+}
+
+// What a field of a GFXglyph can hold.
+const GFX_FIELDS = [['the bytes before it', 0, 65535], ['its width', 0, 255], ['its height', 0, 255], ['its advance', 0, 255], ['its left', -128, 127],
+  ['its top', -128, 127]];
+
+// A font for the library Adafruit GFX: boxes packed bit by bit, from the first to the last character. What the strike lacks between is empty.
+export function gfxForC({ glyphs, pixels }, name, ppem, { ascent, descent }) {
+  const first = glyphs[0].code, last = glyphs.at(-1).code, lines = [], bytes = [], it = identifierOf(name), guard = `${it.toUpperCase()}_GFX_H`;
+  if (last > 0xffff || ascent + descent < 0 || ascent + descent > 255) {
+    throw new Error('A font for Adafruit GFX has characters up to U+FFFF and lines of at most 255 rows.');
+  }
+  const byCode = new Map(glyphs.map((glyph) => [glyph.code, glyph]));
+  for (let code = first; code <= last; code++) {
+    const glyph = byCode.get(code), { width = 0, height = 0, dwidth = 0, left = 0, bottom = 0 } = glyph ?? {};
+    const numbers = [glyph ? bytes.length : 0, width, height, dwidth, width ? left : 0, width ? 1 - bottom - height : 0];
+    const at = numbers.findIndex((number, k) => number < GFX_FIELDS[k][1] || number > GFX_FIELDS[k][2]);
+    if (at >= 0) throw new Error(`U+${hexadecimal(code, 4)} does not fit a font for Adafruit GFX: ${GFX_FIELDS[at].join(', ')}, and it is ${numbers[at]}.`);
+    const bits = new Uint8Array((width * height + 7) >> 3);
+    if (glyph) eachPixel(glyph, pixels, (x, y) => (bits[(y * width + x) >> 3] |= 128 >> ((y * width + x) & 7)));
+    bytes.push(...bits);
+    lines.push(`    {${numbers.join(', ')}}, /* ${shown(code)} */`);
+  }
+  return `/* ${glyphs.length} glyphs of ${inComment(name)} at ${ppem} pixels per em, as ${it} for Adafruit GFX: made by mkstrike. Include it after Adafruit_GFX.h, and say
+ * setFont(&${it}). */
+#ifndef ${guard}
+#define ${guard}
+
+#ifndef PROGMEM
+#define PROGMEM
+#endif
+
+const uint8_t ${it}Bitmaps[] PROGMEM = {
+${inLines((bytes.length ? bytes : [0]).map((byte) => `0x${hexadecimal(byte, 2)}`))}
+};
+
+const GFXglyph ${it}Glyphs[] PROGMEM = {
+${lines.join('\n')}
+};
+
+const GFXfont ${it} PROGMEM = {(uint8_t *)${it}Bitmaps, (GFXglyph *)${it}Glyphs, 0x${hexadecimal(first, 2)}, 0x${hexadecimal(last, 2)}, ${ascent + descent}};
+
+#endif
 `;
 }

@@ -1,15 +1,26 @@
 // The page: reads the controls, hands jobs to the worker, and draws what comes back.
-import { canRun, facesOf, lineOf, HINTED, DROPOUT, DROPOUTS, MISSING, DONE, NONE, MOST_PPEM, MOST_BYTES } from './mkstrike.js';
-import { SETS, boxOf, charsOf, charsOfText, curvesOf, eachPixel, identifierOf, listOf, nameOf, shownName } from './outputs.js';
-import { KINDS, REFUSALS } from './refusals.js';
+import { canRun, facesOf, lineOf, HINTED, DROPOUT, DROPOUTS, MISSING, DONE, MOST_PPEM, MOST_BYTES } from './mkstrike.js';
+import { MARGIN, boxOf, charsOf, charsOfText, curvesOf, eachPixel, identifierOf, listOf, nameOf, pngOf, shownName } from './outputs.js';
+import { KINDS, SETS } from './tables.js';
+import { MOST_TEXT, boxOfText, differencesOf, layOut, partAt, partOfText, withCodes } from './text.js';
+import { fontName } from './names.js';
 import { fromWoff, isWoff } from './woff.js';
 
 const $ = (id) => document.getElementById(id);
-const MOST_TEXT = 4000; // characters that are drawn as a text
 const MOST_FACES = 200; // of a collection, that can be chosen
 const MOST_ROWS = 200; // of the table of refused characters
 const MOST_HIGH = 16e6; // CSS pixels of what can be scrolled: browsers have room for some more
 const PATIENCE = 300; // milliseconds until the progress shows
+const MOST_LINE = 400; // characters of a line that is drawn in many sizes
+const LADDER = Array.from({ length: 17 }, (_, k) => 8 + k); // sizes that the text is drawn in, one below the other
+const NOT_IN_NAMES = /[\\/:*?"<>|]/g; // of files
+const MOST_PICTURE = 6e7; // pixels of a picture that is saved at the zoom
+const BAND = 64; // rows of it that are made at once
+// What the menu of characters has beside the sets by name: blocks of Unicode.
+const BLOCKS = { 'Latin Extended-A': '100-17f', 'Greek and Coptic': '370-3ff', Cyrillic: '400-4ff', Hebrew: '590-5ff', Arabic: '600-6ff',
+  Thai: 'e00-e7f', punctuation: '2000-206f', 'currency signs': '20a0-20cf', arrows: '2190-21ff', 'mathematical signs': '2200-22ff',
+  'geometric shapes': '25a0-25ff', 'Powerline signs': 'e0a0-e0a2, e0b0-e0b3', 'Hiragana and Katakana': '3040-30ff', Han: '4e00-9fff', Hangul: 'ac00-d7a3' };
+const KEPT = ['ppem', 'hinted', 'dropout', 'zoom', 'text', 'beside', 'differences', 'chars']; // the controls that the address keeps
 
 const state = {
   worker: null, module: null, font: null, jobs: 0,
@@ -20,6 +31,8 @@ const state = {
   pictures: {}, // that of the text, and that beside it: what is where in it, and its size
   sheet: { glyphs: [], refused: new Map(), missing: 0, chosen: -1, box: boxOf([]), columns: 1 },
   outline: null, // that of the chosen glyph, or of one before
+  ladder: { isSeen: false, id: 0, key: '', text: '', looks: [] }, // whether it is in sight, what it is of, and what the worker made so far
+  plain: {}, // the values of the controls that the address keeps, as the page begins
 };
 
 // ---- what the page is made of: in one file all parts are elements of it, else they lie beside it
@@ -44,6 +57,7 @@ function newWorker() {
 function startWorker() {
   state.worker?.terminate();
   state.hasWorked = false;
+  state.ladder.key = '';
   state.worker = newWorker();
   state.worker.onmessage = ({ data }) => receive[data.kind](data);
   state.worker.onerror = (event) => receive.failed({ text: event.message });
@@ -55,7 +69,7 @@ function startWorker() {
 
 // The bytes of a font's file, or of the font in a WOFF; or an Error with the reason.
 async function bytesOfFile(file) {
-  if (file.size > MOST_BYTES) throw new Error(`73 ${REFUSALS[73].name}, ${REFUSALS[73].means}`);
+  if (file.size > MOST_BYTES) throw new Error(`it has more than ${MOST_BYTES.toLocaleString('en')} bytes`);
   const bytes = await file.arrayBuffer().then((it) => new Uint8Array(it), () => null);
   if (!bytes) throw new Error('it is a folder, or a file that is gone or locked');
   return isWoff(bytes) ? fromWoff(bytes, MOST_BYTES) : bytes;
@@ -74,7 +88,7 @@ function handFont() {
 function takeFont(name, bytes) {
   const faces = Math.min(facesOf(bytes), MOST_FACES);
   $('face-row').hidden = faces < 2;
-  $('face').replaceChildren(...Array.from({ length: faces }, (_, k) => new Option(String(k))));
+  $('face').replaceChildren(...Array.from({ length: faces }, (_, k) => new Option(`${k}: ${shownName(fontName(bytes, k))}`.replace(/: $/, ''), k)));
   takeFace(name, bytes, 0);
 }
 
@@ -157,6 +171,7 @@ function draw() {
   state.started = performance.now();
   state.next = { id: ++state.jobs, look: look.main, glyphs: [], refused: new Map(), missing: 0 };
   state.worker.postMessage({ kind: 'draw', id: state.jobs, ...look, textChars, chars });
+  askLadder(look.main.mode);
   busy(isListing() ? 'looking which characters the font has' : 'drawing');
 }
 
@@ -164,16 +179,41 @@ function save(what) {
   const asked = request();
   if (!asked) return notSaved($('ppem-wrong').textContent || $('chars-wrong').textContent);
   const { look, chars } = asked;
+  if (what === 'text') return savePicture();
   const kept = $('leave').checked && !$('leave-row').hidden ? chars.filter((it) => !state.sheet.refused.has(it)) : chars;
-  const about = `${state.font.name} at ${wordsOf(look.main)}: made by mkstrike.`;
   $('saved').textContent = '';
-  state.worker.postMessage({ kind: 'save', id: state.jobs, what, ...look, chars: kept, name: $('name').value, about });
-  busy(`making the ${{ bdf: 'strike', png: 'picture', c: 'arrays' }[what]}`);
+  state.worker.postMessage({ kind: 'save', id: state.jobs, what, ...look, chars: kept, name: $('name').value });
+  busy('making what is saved');
 }
 
 function notSaved(why) {
-  putWords($('saved'), `Not saved. ${why}`);
+  $('saved').textContent = `Not saved. ${why}`;
   document.body.dataset.saved = `refused ${why}`;
+}
+
+// Hands bytes to the browser as a file.
+function saveBytes(name, bytes) {
+  const link = document.createElement('a');
+  link.href = URL.createObjectURL(new Blob([bytes], { type: 'application/octet-stream' }));
+  link.download = name;
+  link.click();
+  setTimeout(() => URL.revokeObjectURL(link.href), 60000);
+  $('saved').textContent = `${name}, ${bytes.length.toLocaleString('en')} bytes.`;
+  document.body.dataset.saved = name;
+}
+
+// Saves the text as it is drawn, whole, with a margin around.
+async function savePicture() {
+  if (!state.pictures.main?.placed.length) return notSaved('There is no text.');
+  const { left, top, columns, rows, placed, look } = state.pictures.main, width = columns + 2 * MARGIN;
+  function* lines() {
+    for (let from = -MARGIN; from < rows + MARGIN; from += BAND) {
+      const { words } = partOfText(placed, look, left - MARGIN, top + from, width, Math.min(BAND, rows + MARGIN - from));
+      for (let at = 0; at < words.length; at += width) yield words.subarray(at, at + width);
+    }
+  }
+  const zoom = Number($('zoom').value), isLarge = width * (rows + 2 * MARGIN) * zoom * zoom > MOST_PICTURE;
+  saveBytes(`${$('name').value.replace(NOT_IN_NAMES, '_')}-text.png`, await pngOf(width, lines(), isLarge ? 1 : zoom));
 }
 
 // Shows the progress after some time.
@@ -204,7 +244,7 @@ const receive = {
     if (data.id !== state.jobs) return;
     state.text = data;
     state.hasWorked = true;
-    for (const look of [data.main, data.other]) if (look) look.byCode = new Map(look.glyphs.filter((it) => it.status === DONE).map((it) => [it.code, it]));
+    [data.main, data.other].filter(Boolean).forEach(withCodes);
     for (const it of data.main.glyphs) if (it.refused) state.next.refused.set(it.code, it.refused);
     drawText();
     document.body.dataset.ms = (performance.now() - state.started).toFixed(1);
@@ -247,18 +287,18 @@ const receive = {
     $('progress').value = done;
   },
 
-  saved({ what, bytes, refused }) {
+  rung({ id, look }) {
+    if (id !== state.ladder.id) return;
+    showRung(look, state.ladder.looks.push(withCodes(look)) - 1);
+    document.body.dataset.ladder = `${id} ${state.ladder.looks.length}`;
+  },
+
+  saved({ what, bytes, refused, why }) {
     idle();
-    if (refused) return notSaved(`${lineOf(refused, REFUSALS[refused.number].name)}: ${sentenceOf(refused)}`);
-    if (!bytes) return notSaved('The strike has no glyph.');
-    const name = what === 'c' ? `${identifierOf($('name').value)}.h` : `${$('name').value.replace(/[\\/:*?"<>|]/g, '_')}.${what}`;
-    const link = document.createElement('a');
-    link.href = URL.createObjectURL(new Blob([bytes], { type: 'application/octet-stream' }));
-    link.download = name;
-    link.click();
-    setTimeout(() => URL.revokeObjectURL(link.href), 60000);
-    $('saved').textContent = `${name}, ${bytes.length.toLocaleString('en')} bytes.`;
-    document.body.dataset.saved = name;
+    if (refused) return notSaved(`${lineOf(refused)}: ${adviceOn(refused)}`);
+    if (!bytes) return notSaved(why ?? 'The strike has no glyph.');
+    const { value } = $('name'), endings = { c: '.h', gfx: '-gfx.h' };
+    saveBytes(endings[what] ? identifierOf(value) + endings[what] : `${value.replace(NOT_IN_NAMES, '_')}.${what}`, bytes);
   },
 
   failed({ text }) {
@@ -272,28 +312,11 @@ const receive = {
 
 // ---- refusals
 
-// Puts a text into an element, with what is between backticks as code.
-function putWords(element, text) {
-  element.replaceChildren(...text.split('`').map((it, k) => {
-    if (k % 2 === 0) return it;
-    return Object.assign(document.createElement('code'), { textContent: it });
-  }));
-  return element;
-}
-
-// The words of docs/REFUSALS.md; `g` in them is the glyph.
-function wordsOfRefusal({ number, glyph }) {
-  const words = REFUSALS[number];
-  return glyph === NONE ? words : { ...words, means: words.means.replace(/\bg\b/g, glyph) };
-}
-
-// The same in a sentence; of a file of another kind, what it is.
-function sentenceOf(refused) {
+// What to do about a refusal; of a file of another kind, what it is.
+function adviceOn(refused) {
   const first = Array.from(state.font.bytes.subarray(0, 8), (it) => it.toString(16).padStart(2, '0')).join('');
   const kind = refused.number === 10 && KINDS.find(({ begins }) => (begins ? first.startsWith(begins) : !first));
-  if (kind) return `the file ${kind.seems}: ${kind.todo}.`;
-  const { means, todo } = wordsOfRefusal(refused);
-  return `${means}. What to do: ${todo}.`;
+  return kind ? `the file ${kind.seems}: ${kind.todo}.` : `${refused.advice}.`;
 }
 
 // Shows what was refused: all, or some characters.
@@ -303,16 +326,16 @@ function showRefused(ofAll) {
   $('leave-row').hidden = $('refused-table').hidden = !each.length;
   $('refused-more').textContent = each.length > MOST_ROWS ? `and ${each.length - MOST_ROWS} more` : '';
   if (ofAll) {
-    $('refused-line').firstElementChild.textContent = lineOf(ofAll, REFUSALS[ofAll.number].name);
-    putWords($('refused-text'), `${shownName(state.font.name)}: ${sentenceOf(ofAll)}`);
+    $('refused-line').firstElementChild.textContent = lineOf(ofAll);
+    $('refused-text').textContent = `${shownName(state.font.name)}: ${adviceOn(ofAll)}`;
     return;
   }
   $('refused-line').firstElementChild.textContent = listOf(each.map(([code]) => code));
   const count = each.length === 1 ? '1 character is' : `${each.length.toLocaleString('en')} characters are`;
   $('refused-text').textContent = `${count} refused at this size. A strike with them can’t be saved.`;
   $('refused-table').tBodies[0].replaceChildren(...each.slice(0, MOST_ROWS).map(([code, refused]) => {
-    const { name, means, todo } = wordsOfRefusal(refused), row = document.createElement('tr');
-    for (const text of [nameOf(code), lineOf(refused, name), means, todo]) putWords(row.insertCell(), text);
+    const row = document.createElement('tr');
+    for (const text of [nameOf(code), lineOf(refused), refused.advice]) row.insertCell().textContent = text;
     return row;
   }));
 }
@@ -364,87 +387,6 @@ function paintInSight(canvas, columns, rows, side, part) {
   return shown;
 }
 
-// A part of a picture: its words, and how one is set by its place in the whole.
-function partAt(left, top, columns, rows, fill = 0) {
-  const words = new Uint32Array(columns * rows).fill(fill);
-  const set = (x, y, it) => {
-    if (x >= left && x < left + columns && y >= top && y < top + rows) words[(y - top) * columns + x - left] = it;
-  };
-  return { words, columns, rows, set };
-}
-
-// Where each character of a text is in a width: its origin's column, and the row of its line's baseline, counted from the top. One that the
-// look has no glyph of has a frame of a width.
-function layOut(text, look, width) {
-  const line = look.heights.ascent + look.heights.descent, frame = Math.max(2, look.ppem >> 1), placed = [];
-  let row = look.heights.ascent, pen = 0;
-  const advanceOf = (code) => look.byCode.get(code)?.dwidth ?? frame;
-  for (const part of text.slice(0, MOST_TEXT).split(/(\n|[^\S\n]+)/)) {
-    if (part === '\n') {
-      [pen, row] = [0, row + line];
-      continue;
-    }
-    const word = Array.from(part.replace(/\r/g, ''), (it) => it.codePointAt(0));
-    const long = word.reduce((sum, it) => sum + advanceOf(it), 0);
-    if (pen > 0 && pen + long > width && part.trim()) [pen, row] = [0, row + line];
-    for (const code of word) {
-      const advance = advanceOf(code);
-      if (pen > 0 && pen + advance > width && part.trim()) [pen, row] = [0, row + line];
-      placed.push({ code, column: pen, row, advance, frame: look.byCode.has(code) ? 0 : frame });
-      pen += advance;
-    }
-  }
-  return placed;
-}
-
-// The least box of columns and rows that holds a text's glyphs, its lines and their advances.
-function boxOfText(placed, { byCode, heights: { ascent, descent } }) {
-  let [left, top, right, bottom] = [0, 0, 0, 0];
-  for (const { code, column, row, advance } of [...placed, { column: 0, row: ascent, advance: 0 }]) {
-    const { left: by = 0, bottom: up = 0, width = 0, height = 0 } = byCode.get(code) ?? {};
-    left = Math.min(left, column + by);
-    right = Math.max(right, column + advance, column + by + width);
-    top = Math.min(top, row - up - height);
-    bottom = Math.max(bottom, row + descent, row - up);
-  }
-  return { left, top, columns: right - left, rows: bottom - top };
-}
-
-// A part of a text: 1 for ink, and 2 for the frame of a character without a glyph.
-function partOfText(placed, { byCode, pixels, heights: { ascent } }, ...place) {
-  const part = partAt(...place), [, top, , rows] = place;
-  for (const { code, column, row, frame } of placed) {
-    const glyph = byCode.get(code);
-    if (frame) {
-      for (let x = 1; x < frame; x++) for (const y of [row - 1, row - ascent]) part.set(column + x, y, 2);
-      for (let y = row - ascent; y < row; y++) for (const x of [1, frame - 1]) part.set(column + x, y, 2);
-    } else if (glyph && row - glyph.bottom > top && row - glyph.bottom - glyph.height < top + rows) {
-      eachPixel(glyph, pixels, (x, y) => part.set(column + glyph.left + x, row - glyph.bottom - glyph.height + y, 1));
-    }
-  }
-  return part;
-}
-
-// How many pixels of a text's glyphs only one of two looks sets.
-function differencesOf(placed, ...looks) {
-  const known = new Map();
-  const count = (code) => {
-    const box = boxOf(looks.flatMap((look) => look.byCode.get(code) ?? [])), bits = new Uint8Array(box.width * box.height);
-    let sum = 0;
-    for (const { byCode, pixels } of looks) {
-      const glyph = byCode.get(code);
-      if (!glyph) continue;
-      const from = (box.bottom + box.height - glyph.bottom - glyph.height) * box.width + glyph.left - box.left;
-      eachPixel(glyph, pixels, (x, y) => (sum += (bits[from + y * box.width + x] ^= 1) ? 1 : -1));
-    }
-    return sum;
-  };
-  return placed.reduce((sum, { code, frame }) => {
-    if (!known.has(code)) known.set(code, frame ? 0 : count(code));
-    return sum + known.get(code);
-  }, 0);
-}
-
 // Lays out the text, and beside it the same in another way.
 function drawText() {
   const { main, other } = state.text, text = $('text').value, side = sideOf(Number($('zoom').value));
@@ -456,7 +398,7 @@ function drawText() {
     if (!look) continue;
     let words = wordsOf(look);
     if (look.refused) {
-      words = `refused: ${look.refused.number} ${REFUSALS[look.refused.number].name}`;
+      words = `refused: ${look.refused.number} ${look.refused.name}`;
       state.pictures[id] = { columns: 0, rows: 0, side, placed: [], look };
     } else {
       const placed = layOut(text, marks ? main : look, width), box = boxOfText(placed, look);
@@ -478,15 +420,41 @@ function drawText() {
 
 // Draws what is in sight of the text, or of the other; returns whether any ink is.
 function showText(id) {
-  const { left, top, columns, rows, side, placed, look, against } = state.pictures[id], [paper, ink, only] = ['paper', 'ink', 'only'].map(word);
-  const shown = paintInSight($(id), columns, rows, side, (x, y, ...size) => {
-    const [part, other] = [look, against].map((it) => it && partOfText(placed, it, left + x, top + y, ...size));
-    part.words.forEach((it, at) => {
-      part.words[at] = !it ? paper : it === 2 || (other && !other.words[at]) ? only : ink;
-    });
-    return part;
-  });
+  const { left, top, columns, rows, side, placed, look, against } = state.pictures[id], paper = word('paper');
+  const shown = paintInSight($(id), columns, rows, side, (x, y, ...size) => coloured(
+    ...[look, against].map((it) => it && partOfText(placed, it, left + x, top + y, ...size))));
   return shown.words.some((it) => it !== paper);
+}
+
+// Gives a part of a text its colours: one of their own to frames, and to pixels that the other part lacks, if there is one.
+function coloured(part, other) {
+  const [paper, ink, only] = ['paper', 'ink', 'only'].map(word);
+  part.words.forEach((it, at) => {
+    part.words[at] = !it ? paper : it === 2 || (other && !other.words[at]) ? only : ink;
+  });
+  return part;
+}
+
+// Asks the worker for the first line of the text at the sizes of the ladder, if that is in sight and not there yet.
+function askLadder(mode) {
+  const text = ($('text').value.split('\n').find((it) => it.trim()) ?? '').slice(0, MOST_LINE), key = `${state.font.id} ${mode} ${text}`;
+  [...$('ladder').children].forEach((row, k) => row.firstChild.setAttribute('aria-pressed', String(LADDER[k] === $('ppem').valueAsNumber)));
+  if (!state.ladder.isSeen || key === state.ladder.key) return;
+  state.ladder = { isSeen: true, id: state.jobs, key, text, looks: [] };
+  state.worker.postMessage({ kind: 'ladder', id: state.jobs, mode, sizes: LADDER, textChars: charsOfText(text) });
+}
+
+// Draws the line at one of the sizes, as much of it as has room.
+function showRung(look, k) {
+  const row = $('ladder').children[k], [button, canvas] = row.children, side = sideOf(Math.min(Number($('zoom').value), 2));
+  if (look.refused) return paint(canvas, 0, 0, partAt(0, 0, 0, 0), 1);
+  const placed = layOut(state.ladder.text, look, Infinity), { left, top, columns, rows } = boxOfText(placed, look);
+  const wide = Math.max(1, Math.min(columns, Math.floor(((row.clientWidth - button.offsetWidth - 8) * ratio()) / side)));
+  return paint(canvas, wide * side, rows * side, coloured(partOfText(placed, look, left, top, wide, rows)), side);
+}
+
+function showLadder() {
+  state.ladder.looks.forEach(showRung);
 }
 
 function showTexts() {
@@ -617,7 +585,7 @@ function drawOutline(context, outline, left, top, side) {
 function drawGlyph() {
   const glyph = state.sheet.glyphs[state.sheet.chosen], numbers = $('glyph-numbers');
   if (!glyph || glyph.refused) {
-    $('glyph-name').textContent = glyph ? `${nameOf(glyph.code)}: refused, ${lineOf(glyph.refused, REFUSALS[glyph.refused.number].name)}` : 'no glyph';
+    $('glyph-name').textContent = glyph ? `${nameOf(glyph.code)}: refused, ${lineOf(glyph.refused)}` : 'no glyph';
     paint($('glyph'), 0, 0, partAt(0, 0, 0, 0), 1);
     return numbers.replaceChildren();
   }
@@ -655,6 +623,31 @@ function drawGlyph() {
     Object.assign(document.createElement('dt'), { textContent: name }), Object.assign(document.createElement('dd'), { textContent: String(value) })]));
 }
 
+// ---- the address, which keeps what of the controls is not as the page begins
+
+const valueOf = (id) => ($(id).type === 'checkbox' ? String($(id).checked) : $(id).value);
+
+// Sets the controls to what the address says. What a control can't have leaves it as it is.
+function readAddress() {
+  const asked = new URLSearchParams(location.hash.slice(1));
+  for (const id of KEPT) {
+    const it = $(id), value = asked.get(id) ?? state.plain[id];
+    if (it.type === 'checkbox') it.checked = value === 'true';
+    else if (!it.options || [...it.options].some((one) => one.value === value)) it.value = value;
+  }
+  $('ppem-slider').value = $('ppem').value;
+  $('zoom-value').value = $('zoom').value;
+}
+
+// Writes it, some time after the last change: browsers let a page do so some times in a second.
+function writeAddress() {
+  clearTimeout(state.writes);
+  state.writes = setTimeout(() => {
+    const kept = KEPT.map((id) => [id, valueOf(id)]).filter(([id, value]) => value !== state.plain[id]);
+    history.replaceState(null, '', `#${new URLSearchParams(kept)}`);
+  }, PATIENCE);
+}
+
 // ---- events
 
 function listen() {
@@ -673,8 +666,25 @@ function listen() {
     $('zoom-value').value = $('zoom').value;
     if (state.text) drawText();
     soon(drawSheet);
+    soon(showLadder);
     drawGlyph();
   };
+  for (const event of ['input', 'change']) document.addEventListener(event, writeAddress);
+  addEventListener('hashchange', () => {
+    readAddress();
+    draw();
+    redraw();
+  });
+  new IntersectionObserver(([{ isIntersecting }]) => {
+    state.ladder.isSeen = isIntersecting;
+    const asked = isIntersecting && request();
+    if (asked) askLadder(asked.look.main.mode);
+  }).observe($('ladder'));
+  on('ladder', 'click', ({ target }) => {
+    if (target.type !== 'button') return;
+    $('ppem').value = target.textContent;
+    $('ppem').dispatchEvent(new Event('input', { bubbles: true }));
+  });
   for (const id of ['zoom', 'differences']) on(id, 'input', redraw);
   document.querySelectorAll('.pair .sight').forEach((it) => it.addEventListener('scroll', () => soon(showTexts)));
   on('set', 'change', () => {
@@ -733,10 +743,17 @@ async function start() {
       + 'dist/mkstrike.html, which has all in one file; or run python3 -m http.server at the top of the repository, and open '
       + 'http://localhost:8000/web/.');
   }
-  for (const [key, [name]] of Object.entries(SETS)) $('set').append(new Option(name, key));
-  $('set').append(new Option('those of the text', 'text'), new Option('all of the font', 'all'));
+  $('set').append(...Object.keys(SETS).map((it) => new Option(it)), ...Object.entries(BLOCKS).map(([name, range]) => new Option(name, range)),
+    new Option('those of the text', 'text'), new Option('all of the font', 'all'));
   $('work').hidden = false;
+  $('ladder').append(...LADDER.map((ppem) => {
+    const row = document.createElement('div'), button = Object.assign(document.createElement('button'), { type: 'button', className: 'rung', textContent: ppem });
+    row.append(button, Object.assign(document.createElement('canvas'), { width: 0, height: 0 }));
+    return row;
+  }));
   if (innerWidth < 600) $('zoom').value = $('zoom-value').value = 2;
+  state.plain = Object.fromEntries(KEPT.map((id) => [id, valueOf(id)]));
+  readAddress();
   startWorker();
   listen();
   takeFont('sample.ttf', await bytesOf('sample', 'sample.ttf'));

@@ -1,6 +1,6 @@
 // Makes strikes beside the page, so that the page stays usable: it hands over jobs, and gets back glyphs part by part.
 import { Mkstrike, joined, DONE } from './mkstrike.js';
-import { sheetPng, sheetSize, arraysForC, boxOf } from './outputs.js';
+import { arraysForC, gfxForC, pngOf, sheetOf } from './outputs.js';
 
 const SLICE = 25; // milliseconds of work between two looks for messages
 const MOST_SCALED = 6e7; // pixels of a sheet whose glyphs are drawn three times as large
@@ -8,7 +8,7 @@ const CODES = 0x110000, AT_ONCE = 16384; // code points, and how many are looked
 
 let mkstrike = null;
 // The work under way, the most urgent first: each is a generator that yields between two slices.
-const under = { outline: null, draw: null, save: null, list: null };
+const under = { outline: null, draw: null, save: null, ladder: null, list: null };
 let isRunning = false;
 
 // Lets messages in that came meanwhile.
@@ -51,7 +51,7 @@ function* parts(ppem, mode, chars) {
 
 // The glyphs of a text's characters at a size and a mode, and the heights.
 function lookOf({ ppem, mode }, chars) {
-  const heights = mkstrike.heights(ppem), made = heights.refused || !chars.length ? heights : mkstrike.glyphs(ppem, mode, chars);
+  const heights = mkstrike.heights(ppem), made = heights.refused ? heights : mkstrike.glyphs(ppem, mode, chars);
   return { ppem, mode, heights, refused: made.refused, glyphs: made.glyphs ?? [], pixels: made.pixels };
 }
 
@@ -67,6 +67,14 @@ async function* draw({ id, main, other, textChars, chars }) {
     yield;
   }
   told({ kind: 'drawn', refused, took: performance.now() - start });
+}
+
+// A text's glyphs at sizes one after the other.
+async function* ladder({ id, mode, sizes, textChars }) {
+  for (const ppem of sizes) {
+    postMessage({ kind: 'rung', id, look: lookOf({ ppem, mode }, textChars) });
+    yield;
+  }
 }
 
 // The outline that a character's pixels are of.
@@ -86,7 +94,7 @@ async function* list({ id }) {
   postMessage({ kind: 'listed', id, chars: Uint32Array.from(found) });
 }
 
-async function* save({ id, what, main, chars, name, about }) {
+async function* save({ id, what, main, chars, name }) {
   const told = (given, transfer) => postMessage({ kind: 'saved', id, what, ...given }, transfer);
   postMessage({ kind: 'progress', id, done: 0, total: 0 });
   yield;
@@ -105,12 +113,16 @@ async function* save({ id, what, main, chars, name, about }) {
   const made = joined(all);
   made.glyphs = made.glyphs.filter((it) => it.status === DONE);
   if (!made.glyphs.length) return told({});
-  if (what === 'c') {
-    const text = arraysForC(made, name, mkstrike.heights(main.ppem), about);
-    return told({ bytes: new TextEncoder().encode(text) });
+  if (what === 'png') {
+    const { columns, rows, lines } = sheetOf(made);
+    return told({ bytes: await pngOf(columns, lines(), columns * rows * 9 > MOST_SCALED ? 1 : 3) });
   }
-  const { width, height } = sheetSize(made.glyphs.length, boxOf(made.glyphs), 32, 3);
-  return told({ bytes: await sheetPng(made, width * height > MOST_SCALED ? 1 : 3) });
+  try {
+    const text = { c: arraysForC, gfx: gfxForC }[what](made, name, main.ppem, mkstrike.heights(main.ppem));
+    return told({ bytes: new TextEncoder().encode(text) });
+  } catch (fault) {
+    return told({ why: fault.message });
+  }
 }
 
 async function take(data) {
@@ -121,7 +133,7 @@ async function take(data) {
     mkstrike.setFont(data.bytes, data.face);
     under.list = list(data);
   } else {
-    under[data.kind] = { draw, outline, save }[data.kind](data);
+    under[data.kind] = { draw, outline, save, ladder }[data.kind](data);
     run();
   }
 }

@@ -1,5 +1,6 @@
-/** Why a call was refused, and where: the struct mkstrike_refused of mkstrike.h. */
+/** Why a call was refused, and where: the struct mkstrike_refused of mkstrike.h; with the number's name, and what to do. */
 export interface Refused {
+  name: string; advice: string;
   number: number; table: number; glyph: number; during: number; program: number; opcode: number; index: number; code: number; address: number;
 }
 /** What a call that is refused gives in place of its answer. */
@@ -29,8 +30,8 @@ export const DONE: 0, MISSING: 1, NONE: 0xffffffff, FPGM: 0x10000, PREP: 0x10001
 export function canRun(): boolean;
 /** How many fonts a file has. */
 export function facesOf(bytes: Uint8Array): number;
-/** What a refusal says; `name` is that of its number. */
-export function lineOf(refused: Refused, name: string): string;
+/** What a refusal says. */
+export function lineOf(refused: Refused): string;
 /** Runs of glyphs, one after the other, as one. */
 export function joined(parts: Glyphs[]): { glyphs: Glyph[]; pixels: Uint8Array };
 
@@ -39,6 +40,7 @@ export class Mkstrike {
   static open(module: WebAssembly.Module | BufferSource): Promise<Mkstrike>;
   setFont(bytes: Uint8Array, face?: number): void;
   reason(number: number): string;
+  advice(number: number): string;
   heights(ppem: number): Heights | Refusal;
   glyphs(ppem: number, mode: number, chars: ArrayLike<number>, withPixels?: boolean): Glyphs | Refusal;
   present(chars: number[]): { chars: number[]; refused?: undefined } | Refusal;

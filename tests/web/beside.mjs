@@ -1,4 +1,4 @@
-// Tests the functions of web/module.c: node check_web_beside.mjs MODULE SEED, where the module is of that file alone. Says what is wrong, or how
+// Tests the functions of web/module.c: node beside.mjs MODULE SEED, where the module is of that file alone. Says what is wrong, or how
 // much was tried.
 import { readFileSync } from 'node:fs';
 
