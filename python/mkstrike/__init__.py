@@ -6,8 +6,8 @@
     strike.save("terminal.bdf")
     print(strike["g"])
 
-`Font` opens a font, `Strike` is what it makes, `Glyph` is one of its pictures. Refusals are `Refused`. The strikes come from the C library
-of mkstrike; docs/PYTHON.md of the repository shows what else there is.
+`Font` opens a font, `Strike` is what it makes, `Striker` is a font at a size, `Glyph` is one picture. Refusals are `Refused`. The strikes
+come from the C library of mkstrike; docs/PYTHON.md of the repository shows what else there is.
 """
 from __future__ import annotations
 
@@ -17,8 +17,9 @@ from .glyph import Glyph
 from .merge import merge
 from .refused import Missing, NotInstalled, Refused
 from .strike import Strike
+from .striker import Striker
 
-__all__ = ["Font", "Glyph", "Missing", "NotInstalled", "Refused", "Strike", "character_sets", "characters", "merge"]
+__all__ = ["Font", "Glyph", "Missing", "NotInstalled", "Refused", "Strike", "Striker", "character_sets", "characters", "merge"]
 
 
 def __getattr__(name: str) -> str:

@@ -7,12 +7,21 @@ from __future__ import annotations
 
 import ctypes
 import os
+import struct
+import sys
 from array import array
-from collections.abc import Sequence
-from ctypes import POINTER, byref, c_char_p, c_int32, c_size_t, c_uint16, c_uint32, c_uint64, c_void_p
+from collections.abc import Iterator, Sequence
+from ctypes import POINTER, byref, c_char, c_char_p, c_int32, c_size_t, c_uint16, c_uint32, c_uint64, c_void_p
 from functools import lru_cache
+from itertools import compress
 
 from .refused import Refused
+
+TYPE_CHECKING = False  # as in glyph.py
+if TYPE_CHECKING:
+    from typing import Tuple
+
+    Made = Tuple[int, int, int, int, int, int, bytes]  # width, height, left, bottom, advance, swidth, pixels
 
 FILE, SONAME = "libmkstrike.so", "libmkstrike.so.1"  # beside this module, and of the system
 ABI = 1  # the form of structs and calls that is declared here: MKSTRIKE_ABI
@@ -24,6 +33,7 @@ PROGRAMS = {0x10000: "fpgm", 0x10001: "prep"}  # the programs that belong to no 
 MOST_SIZE, MOST_CODE, MOST_FACE, MOST_CHARS = 1024, 0x10FFFF, 0xFFFFFFFF, 0x10000
 START = 16  # bytes of a file that tell what it is
 MOST_ROOM = 1 << 22  # bytes that a first call hands over at most; a second one hands over what the first asked for
+WORDS = 1024  # of a block, in the same way
 
 
 class _Refused(ctypes.Structure):
@@ -43,9 +53,7 @@ class _Glyph(ctypes.Structure):
                 ("dwidth", c_int32), ("swidth", c_int32)]
 
 
-class _Placed(ctypes.Structure):
-    """struct mkstrike_placed"""
-    _fields_ = [("glyph", _Glyph), ("status", c_uint32), ("offset", c_size_t)]
+PLACED = "@IIiiIiiIN"  # struct mkstrike_placed: struct mkstrike_glyph_info, the status and the offset
 
 
 class _Drawn(ctypes.Structure):
@@ -59,19 +67,21 @@ class Told(ctypes.Structure):
 
 
 FONT = [c_char_p, c_size_t, c_uint32]
-ONE = FONT + [c_uint16, c_uint32, c_uint32, c_void_p, c_size_t, POINTER(_Glyph), POINTER(_Refused)]
+PREPARED = FONT + [c_uint16, c_uint32, c_void_p, c_size_t]
+ONE = PREPARED + [c_uint32, c_void_p, c_size_t, POINTER(_Glyph), POINTER(_Refused)]
 # From each call to what it returns and what it takes.
 _declared = {
     "mkstrike_reason": (c_size_t, [c_uint32, c_char_p, c_size_t]),
     "mkstrike_advice": (c_size_t, [c_uint32, c_char_p, c_size_t]),
     "mkstrike_font": (c_uint32, FONT + [c_uint16, POINTER(Info), POINTER(_Refused)]),
     "mkstrike_glyph_ids": (c_uint32, FONT + [c_void_p, c_size_t, c_void_p, c_size_t, POINTER(_Refused)]),
-    "mkstrike_glyph": (c_uint32, ONE),
-    "mkstrike_glyph_by_id": (c_uint32, ONE),
-    "mkstrike_glyphs": (c_uint32, FONT + [c_uint16, c_uint32, c_void_p, c_size_t, c_void_p, c_size_t, c_void_p, c_size_t, POINTER(_Drawn),
-                                          POINTER(_Refused)]),
     "mkstrike_make": (c_uint32, FONT + [c_uint16, c_uint32, c_void_p, c_size_t, c_char_p, c_size_t, c_void_p, c_size_t, POINTER(Told),
                                         POINTER(_Refused)]),
+    "mkstrike_prepare": (c_uint32, PREPARED + [POINTER(c_size_t), POINTER(_Refused)]),
+    "mkstrike_glyph_prepared": (c_uint32, ONE),
+    "mkstrike_glyph_by_id_prepared": (c_uint32, ONE),
+    "mkstrike_glyphs_prepared": (c_uint32, PREPARED + [c_void_p, c_size_t, c_void_p, c_size_t, c_void_p, c_size_t, POINTER(_Drawn),
+                                                       POINTER(_Refused)]),
 }
 
 
@@ -113,14 +123,22 @@ def _face(face: int) -> int:
 
 def _codes(codes: Sequence[int]) -> array[int]:
     """Code points as the library takes them, and one number more, so that there is an address."""
-    return array("I", [code if 0 <= code <= MOST_CODE else NONE for code in codes] + [0])
+    found = codes[:] if isinstance(codes, array) else array("I", map(_code, codes))
+    found.append(0)
+    return found
+
+
+def _code(code: int) -> int:
+    """A code point; a number that is none is one that the library refuses."""
+    return code if 0 <= code <= MOST_CODE else NONE
 
 
 def mode_of(hinted: bool, dropout: bool | str) -> int:
     """The mode of the library."""
-    if dropout not in DROPOUT:
-        raise ValueError("dropout is False, True, 'left', 'near' or 'font', not %r" % (dropout,))
-    return (HINTED if hinted else 0) | DROPOUT[dropout]
+    try:
+        return (HINTED if hinted else 0) | DROPOUT[dropout]
+    except (KeyError, TypeError):
+        raise ValueError("dropout is False, True, 'left', 'near' or 'font', not %r" % (dropout,)) from None
 
 
 # ---- refusals
@@ -192,38 +210,86 @@ def make(font: bytes, face: int, size: int, mode: int, codes: Sequence[int], nam
         room = told.bytes
 
 
-def glyph(font: bytes, face: int, size: int, mode: int, code: int, by_id: bool = False) -> tuple[_Glyph, bytes] | None:
-    """The numbers of a glyph, of a character or by its own number, and its pixels from the top, a byte a pixel.
-
-    None if the font lacks the character."""
-    size = whole(size, "size")
-    info, refused = _Glyph(), _Refused()
-    call = _c().mkstrike_glyph_by_id if by_id else _c().mkstrike_glyph
-    room = min(max(4096, 2 * size * size), MOST_ROOM)
-    while True:
-        out = ctypes.create_string_buffer(room)
-        status = call(font, len(font), _face(face), _size(size), mode, _codes([code])[0], out, room, byref(info), byref(refused))
-        if status == MISSING:
-            return None
-        if status != DONE:
-            raise _raised(refused, font, None if by_id else code)
-        if info.stride * info.height <= room:
-            return info, memoryview(out)[:info.stride * info.height].tobytes()
-        room = info.stride * info.height
-
-
-def refused_of(font: bytes, face: int, size: int, mode: int, codes: Sequence[int]) -> dict[int, Refused]:
-    """Which characters are refused, and why. What no character can pass is raised."""
-    chars, drawn, refused, nothing = _codes(codes), _Drawn(), _Refused(), ctypes.c_uint64()
-    placed = (_Placed * (len(codes) + 1))()
-    if _c().mkstrike_glyphs(font, len(font), _face(face), _size(size), mode, chars.buffer_info()[0], len(codes), byref(placed),
-                            len(codes), byref(nothing), 0, byref(drawn), byref(refused)):
-        raise _raised(refused, font)
-    found: dict[int, Refused] = {}
-    for code, it in zip(codes, placed):
-        if it.status not in (DONE, MISSING):
-            try:
-                glyph(font, face, size, mode, code)
-            except Refused as why:
-                found[code] = why
+def characters(font: bytes, face: int) -> list[int]:
+    """The characters that the font has: all planes are looked up, whose numbers differ in one byte."""
+    found: list[int] = []
+    codes = array("I", range(MOST_CHARS))
+    planes = memoryview(codes).cast("B")[2 if sys.byteorder == "little" else 1::4]
+    for plane in range(MOST_CODE // MOST_CHARS + 1):
+        planes[:] = bytes([plane]) * MOST_CHARS
+        numbers = glyph_ids(font, face, codes)
+        if numbers.tobytes().strip(b"\0"):
+            found += compress(codes, numbers)
     return found
+
+
+class Block:
+    """A font that was opened at a size: hinted, its `fpgm` and `prep` have run. Any number of threads can use one."""
+
+    def __init__(self, font: bytes, face: int, size: int, hinted: bool) -> None:
+        self.size, self._given = size, (font, len(font), _face(face), _size(size))
+        need, refused, room = c_size_t(0), _Refused(), WORDS
+        while True:
+            self._words = array("I", bytes(4 * room))
+            if _c().mkstrike_prepare(*self._given, HINTED * hinted, self._words.buffer_info()[0], room, byref(need), byref(refused)):
+                raise _raised(refused, font)
+            if need.value <= room:
+                break
+            room = need.value
+        self._hinted, self._place = HINTED * hinted, self._words.buffer_info()
+        self._room = min(max(4096, 2 * self.size * self.size), MOST_ROOM)
+
+    def _before(self, dropout: int) -> tuple[object, ...]:
+        """The first arguments of a call by this block."""
+        return (*self._given, self._hinted | dropout, *self._place)
+
+    def glyph(self, dropout: int, number: int, by_id: bool = False) -> Made | None:
+        """A glyph, of a character or by its own number. None if the font lacks the character."""
+        info, refused = _Glyph(), _Refused()
+        call = _c().mkstrike_glyph_by_id_prepared if by_id else _c().mkstrike_glyph_prepared
+        room = self._room
+        while True:
+            out = (c_char * room)()
+            status = call(*self._before(dropout), _code(number), out, room, byref(info), byref(refused))
+            if status == MISSING:
+                return None
+            if status != DONE:
+                raise _raised(refused, self._given[0], None if by_id else number)
+            size = info.stride * info.height
+            if size <= room:
+                return info.width, info.height, info.left, info.bottom, info.dwidth, info.swidth, out.raw[:size]
+            room = size
+
+    def glyphs(self, dropout: int, codes: Sequence[int], with_pixels: bool = True) -> Iterator[tuple[int, int, Made]]:
+        """The glyphs of characters, each with its code point and its status. With `with_pixels` the bytes of their pixels are there."""
+        some = max(MOST_ROOM // (2 * self.size * self.size), 1)
+        for at in range(0, len(codes), min(some, MOST_CHARS)):
+            part = codes[at:at + min(some, MOST_CHARS)]
+            placed, pixels = self._drawn(dropout, part, MOST_ROOM if with_pixels else 0)
+            for code, it in zip(part, struct.iter_unpack(PLACED, placed)):
+                width, height, left, bottom, stride, dwidth, swidth, status, offset = it
+                yield code, status, (width, height, left, bottom, dwidth, swidth, pixels[offset:offset + stride * height])
+
+    def _drawn(self, dropout: int, codes: Sequence[int], room: int) -> tuple[bytes, bytes]:
+        """The entries of characters, and their pixels if there is room for any."""
+        chars, drawn, refused = _codes(codes), _Drawn(), _Refused()
+        placed = ctypes.create_string_buffer(struct.calcsize(PLACED) * len(codes) + 1)
+        while True:
+            pixels = ctypes.create_string_buffer(room + 1)
+            if _c().mkstrike_glyphs_prepared(*self._before(dropout), chars.buffer_info()[0], len(codes), placed, len(codes), pixels, room,
+                                             byref(drawn), byref(refused)):
+                raise _raised(refused, self._given[0])
+            if drawn.bytes <= room or not room:
+                return ctypes.string_at(placed, len(placed) - 1), ctypes.string_at(pixels, min(drawn.bytes, room))
+            room = drawn.bytes
+
+    def refused(self, dropout: int, codes: Sequence[int]) -> dict[int, Refused]:
+        """Which characters are refused, and why."""
+        found: dict[int, Refused] = {}
+        for code, status, _ in self.glyphs(dropout, codes, with_pixels=False):
+            if status not in (DONE, MISSING):
+                try:
+                    self.glyph(dropout, code)
+                except Refused as why:
+                    found[code] = why
+        return found

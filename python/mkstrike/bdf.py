@@ -12,6 +12,9 @@ TYPE_CHECKING = False  # as in glyph.py
 if TYPE_CHECKING:
     from typing import NamedTuple, Union
 
+    from .glyph import Glyph
+    from .names import Names
+
     Value = Union[int, str]
 
     class Entry(NamedTuple):
@@ -36,7 +39,7 @@ LONGEST = 200  # characters of a line that a message has
 ROOM = 1 << 26  # pixels of all glyphs of another program's text, which take a byte each
 HEADER = ("FONT", "SIZE", "FONTBOUNDINGBOX")  # the words that must stand before the glyphs
 PLAIN = bytes([9, 10, *range(32, 127), *range(128, 194), *range(195, 256)])  # bytes without C2, which a control character may begin with
-CHARSET, UNICODE, UNDEFINED = ("CHARSET_REGISTRY", "CHARSET_ENCODING"), ("", "*", "ISO10646", "UNICODE"), "\ufffe"
+CHARSET, UNICODE = ("CHARSET_REGISTRY", "CHARSET_ENCODING"), ("", "*", "ISO10646", "UNICODE")
 
 
 class NotBdf(ValueError):
@@ -52,6 +55,12 @@ class Text:
         self.name, self.size, self.ascent, self.descent = name, size, ascent, descent
         self.properties, self.entries, self.unnamed = dict(properties), dict(entries), tuple(unnamed)
         self.box = bounds(self.entries.values())
+
+    def with_entries(self, entries: Mapping[int, Entry]) -> Text:
+        """The text with other glyphs; what they decide of its properties is settled anew."""
+        text = Text(self.name, self.size, self.ascent, self.descent, self.properties, entries)
+        settle(text)
+        return text
 
     def encoded(self) -> bytes:
         """The text, as the program would write it: glyphs by rising code points, and no line that it doesn't write."""
@@ -71,6 +80,13 @@ def _lines_of(it: Entry) -> list[str]:
     rows = [digits[at:at + size] for at in range(0, len(digits), size or 1)] if size else []
     return ["STARTCHAR " + it.name, "ENCODING %d" % it.code, "SWIDTH %d 0" % it.swidth, "DWIDTH %d 0" % it.dwidth,
             "BBX %d %d %d %d" % (it.width, it.height, it.left, it.bottom), "BITMAP", *rows, "ENDCHAR"]
+
+
+def entry_of(code: int, glyph: Glyph, size: int) -> Entry:
+    """A glyph as a character of a text of a size in pixels per em."""
+    swidth = glyph.swidth or ((2000 * glyph.advance + size) // (2 * size) if size else 0)
+    return Entry(code, "uni%04X" % code if code <= 0xFFFF else "u%X" % code, swidth, glyph.advance, glyph.width, glyph.height, glyph.left,
+                 glyph.bottom, b"".join(glyph.rows))
 
 
 def _written(value: Value) -> str:
@@ -259,7 +275,7 @@ def _charset(text: Text) -> Callable[[int], int | None]:
     registry, encoding = (str(text.properties.get(name) or field) for name, field in zip(CHARSET, fields[-2:]))
     if registry.upper() in UNICODE:
         return identity
-    from .charsets import table_of
+    from .charsets import UNDEFINED, table_of
     table = table_of(registry, encoding)
     if table is None:
         raise ValueError("the character set %r, %r is not known here: convert the font to ISO10646-1" % (registry, encoding))
@@ -289,16 +305,28 @@ def check(properties: Mapping[str, Value]) -> None:
 def x11(text: Text) -> dict[str, Value]:
     """The properties that `mkstrike make --x11` adds, in its order. A name of 14 fields has the family, the weight and the slant."""
     fields = text.name.split("-") if is_xlfd(text.name) else ["", "", text.name, "Medium", "R"]
-    widths = [it.dwidth for it in text.entries.values()]
-    total, count = 10 * sum(abs(it) for it in widths), len(widths)
+    spacing, average = _widths(text)
     found: dict[str, Value] = {
         "FAMILY_NAME": fields[2], "WEIGHT_NAME": fields[3], "SLANT": fields[4],
         "PIXEL_SIZE": text.size, "POINT_SIZE": 10 * text.size, "RESOLUTION_X": 72, "RESOLUTION_Y": 72,
-        "SPACING": "M" if len(set(widths)) <= 1 else "P", "AVERAGE_WIDTH": (2 * total + count) // (2 * count) if count else 0,
+        "SPACING": spacing, "AVERAGE_WIDTH": average,
         "CHARSET_REGISTRY": "ISO10646", "CHARSET_ENCODING": "1",
     }
     default = next((code for code in (0xFFFD, 0x20) if code in text.entries), None)
     return found if default is None else {**found, "DEFAULT_CHAR": default}
+
+
+def _widths(text: Text) -> tuple[str, int]:
+    """Whether all advances are equal, M or P, and their average in tenths of a pixel."""
+    widths = [it.dwidth for it in text.entries.values()]
+    total, count = 10 * sum(abs(it) for it in widths), len(widths)
+    return "M" if len(set(widths)) <= 1 else "P", (2 * total + count) // (2 * count) if count else 0
+
+
+def x11_name(text: Text, names: Names) -> str:
+    """The long name of X11 for a text, with what its font calls itself."""
+    from . import names as of_fonts
+    return of_fonts.x11_name(names, text.size, *_widths(text))
 
 
 def settle(text: Text) -> None:

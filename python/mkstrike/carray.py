@@ -1,4 +1,4 @@
-"""Strikes as arrays in C: rows of bytes in cells, and fonts for the library Adafruit GFX."""
+"""Strikes as arrays in C: rows of bytes in cells, and fonts for the libraries Adafruit GFX and LVGL; and cells as bytes alone."""
 from __future__ import annotations
 
 import re
@@ -6,6 +6,7 @@ import warnings
 from collections.abc import Iterable, Sequence
 from typing import TYPE_CHECKING
 
+from .charsets import in_order, ranges
 from .refused import code_name
 from .sources import MOST
 
@@ -69,6 +70,47 @@ const GFXfont {name} PROGMEM = {{(uint8_t *){name}Bitmaps, (GFXglyph *){name}Gly
 
 #endif
 """
+LVGL = """\
+/* {count} glyphs of {font} at {size} pixels per em, as {name} for LVGL 9: made by mkstrike. Say LV_FONT_DECLARE({name}). */
+#ifdef LV_LVGL_H_INCLUDE_SIMPLE
+#include "lvgl.h"
+#else
+#include "lvgl/lvgl.h"
+#endif
+
+static LV_ATTRIBUTE_LARGE_CONST const uint8_t {name}_bitmap[] = {{
+{bitmaps}
+}};
+
+static const lv_font_fmt_txt_glyph_dsc_t {name}_glyphs[] = {{
+    {{.bitmap_index = 0, .adv_w = 0, .box_w = 0, .box_h = 0, .ofs_x = 0, .ofs_y = 0}}, /* none */
+{glyphs}
+}};
+
+{lists}static const lv_font_fmt_txt_cmap_t {name}_maps[] = {{
+{maps}
+}};
+
+static const lv_font_fmt_txt_dsc_t {name}_font = {{
+    .glyph_bitmap = {name}_bitmap, .glyph_dsc = {name}_glyphs, .cmaps = {name}_maps, .cmap_num = {count_maps}, .bpp = 1
+}};
+
+const lv_font_t {name} = {{
+    .get_glyph_dsc = lv_font_get_glyph_dsc_fmt_txt, .get_glyph_bitmap = lv_font_get_bitmap_fmt_txt,
+    .line_height = {height}, .base_line = {descent}, .dsc = &{name}_font
+}};
+"""
+MAP = """\
+    {{.range_start = {first}, .range_length = {span}, .glyph_id_start = {at}, .unicode_list = {list}, .list_length = {length},
+     .type = LV_FONT_FMT_TXT_CMAP_{kind}_TINY}}"""
+MOST_MAPS = 511
+SPAN = 0xFFFF  # code points that a map has at most
+RUN = 8  # characters one after the other that are worth a map of their own
+# The numbers of a glyph, with the least and the greatest of each, in both libraries.
+FIELDS_GFX = (("the bytes before it", 0, 65535), ("its width", 0, 255), ("its height", 0, 255), ("its advance", 0, 255),
+              ("its left", -128, 127), ("its top", -128, 127))
+FIELDS_LVGL = (("the bytes before it", 0, (1 << 20) - 1), ("its advance in 1/16 pixels", 0, 4095), ("its width", 0, 255), ("its height", 0, 255),
+               ("its left", -128, 127), ("its bottom", -128, 127))
 
 
 def identifier(text: str) -> str:
@@ -115,7 +157,7 @@ def gfx(strike: Strike, name: str) -> str:
             numbers = (len(bitmaps), glyph.width, glyph.height, glyph.advance, glyph.left, 1 - glyph.top)
             if not glyph.width:
                 numbers = (len(bitmaps), 0, 0, glyph.advance, 0, 0)
-            _check_gfx(code, numbers)
+            _check(code, "Adafruit GFX", numbers, FIELDS_GFX)
             bitmaps += _bits(glyph)
         lines.append("    {%d, %d, %d, %d, %d, %d}, /* %s */" % (*numbers, _shown(chr(code))))
     empty = codes[-1] - codes[0] + 1 - len(codes)
@@ -127,12 +169,71 @@ def gfx(strike: Strike, name: str) -> str:
                       height=strike.height)
 
 
-def _check_gfx(code: int, numbers: Sequence[int]) -> None:
-    """Raises an error if a number does not fit its field of a GFXglyph."""
-    for number, least, most, what in zip(numbers, (0, 0, 0, 0, -128, -128), (65535, 255, 255, 255, 127, 127),
-                                         ("the bytes before it", "its width", "its height", "its advance", "its left", "its top")):
+def lvgl(strike: Strike, name: str) -> str:
+    """A font for LVGL 9, a bit a pixel: boxes packed bit by bit, and maps of runs of characters and of single ones."""
+    codes = [ord(it) for it in strike]
+    _filled(codes)
+    bitmaps, lines = bytearray(), []
+    for code, it in zip(codes, strike.values()):
+        numbers = (len(bitmaps), 16 * it.advance, it.width, it.height, it.left, it.bottom)
+        _check(code, "LVGL", numbers, FIELDS_LVGL)
+        lines.append("    {.bitmap_index = %d, .adv_w = %d, .box_w = %d, .box_h = %d, .ofs_x = %d, .ofs_y = %d}, /* %s */" % (
+            *numbers, _shown(it.char)))
+        bitmaps += _bits(it)
+    lists, maps, at = "", [], 1
+    for k, part in enumerate(_parts(codes)):
+        span, is_run = part[-1] - part[0] + 1, part[-1] - part[0] + 1 == len(part)
+        if not is_run:
+            lists += "static const uint16_t %s_list_%d[] = {\n%s\n};\n\n" % (name, k, _wrapped(str(it - part[0]) for it in part))
+        maps.append(MAP.format(first=part[0], span=span, at=at, list="NULL" if is_run else "%s_list_%d" % (name, k),
+                               length=0 if is_run else len(part), kind="FORMAT0" if is_run else "SPARSE"))
+        at += len(part)
+    if len(maps) > MOST_MAPS or len(codes) >= SPAN:
+        raise ValueError("a font for LVGL has at most %d maps of characters and %d glyphs, not %d and %d" % (MOST_MAPS, SPAN - 1, len(maps), len(codes)))
+    return LVGL.format(name=name, font=_comment(strike.name), size=strike.size, count=len(codes), bitmaps=_wrapped("0x%02X" % it for it in bitmaps or b"\0"),
+                       glyphs="\n".join(lines), lists=lists, maps=",\n".join(maps), count_maps=len(maps), height=strike.height, descent=strike.descent)
+
+
+def _parts(codes: Sequence[int]) -> list[list[int]]:
+    """Code points in parts that a map can have: long runs, and single ones between them that are no further apart than 16 bits tell."""
+    runs: list[list[int]] = []
+    for code in codes:
+        if not runs or code != runs[-1][-1] + 1 or len(runs[-1]) == SPAN:
+            runs.append([])
+        runs[-1].append(code)
+    parts: list[list[int]] = []
+    are_single = False
+    for run in runs:
+        if are_single and len(run) < RUN and run[-1] - parts[-1][0] < SPAN:
+            parts[-1] += run
+        else:
+            parts.append(run)
+        are_single = len(run) < RUN
+    return parts
+
+
+def raw(strike: Strike, order: str | None) -> bytes:
+    """The cells alone, each of whole bytes a row from the top: in the order of a character set of one byte, or of the characters."""
+    widths = {it.advance for it in strike.values()}
+    if len(widths) != 1:
+        raise ValueError("raw cells have one advance for all glyphs: make a cell first (cell, --cell)")
+    width = widths.pop()
+    outside = strike.cell(width, strike.height, ascent=strike.ascent).outside
+    if outside:
+        raise ValueError("%d glyphs leave the cell: clip them (clip=True, --clip), or take a smaller size" % len(outside))
+    chars = list(strike) if order is None else ["" if it is None else chr(it) for it in in_order(order)]
+    lost = [ord(it) for it in chars if it and it not in strike]
+    if lost:
+        warnings.warn("blank, since the strike lacks them: " + ranges(lost), stacklevel=4)
+    blank = bytes(strike.height * ((width + 7) // 8))
+    return b"".join(_in_cell(strike[it], width, strike.height, 0, -strike.descent) if it in strike else blank for it in chars)
+
+
+def _check(code: int, library: str, numbers: Sequence[int], fields: Sequence[tuple[str, int, int]]) -> None:
+    """Raises an error if a number does not fit its field of a library's glyph."""
+    for number, (what, least, most) in zip(numbers, fields):
         if not least <= number <= most:
-            raise ValueError("%s does not fit a font for Adafruit GFX: %s, %d, is not in %d to %d" % (code_name(code), what, number, least, most))
+            raise ValueError("%s does not fit a font for %s: %s, %d, is not in %d to %d" % (code_name(code), library, what, number, least, most))
 
 
 def _filled(codes: list[int]) -> None:

@@ -5,37 +5,26 @@ import codecs
 import os
 from collections.abc import Iterable
 
+from .sets import OTHERS, SETS
+
 TYPE_CHECKING = False  # as in glyph.py
 if TYPE_CHECKING:
-    from typing import Union
+    from typing import Callable, Union
 
     Chars = Union[str, int, range, Iterable[Union[str, int]]]
+    Font = Callable[[], Iterable[int]]
 
 FOLDERS = ("/usr/share/bdf2psf/fontsets", "/usr/share/bdf2psf")  # of Debian's package bdf2psf
 LAST = 0x10FFFF
+UNDEFINED = "\ufffe"  # in a codec's table: no character
 # What code page 437 shows for 1 to 31 and for 127; the codec has control characters there.
 CP437_LOW = "☺☻♥♦♣♠•◘○◙♂♀♪♫☼►◄↕‼¶§▬↨↑↓→←∟↔▲▼⌂"
-WGL4 = """
-    20-7e a0-17f 192 1fa-1ff 2c6-2c7 2c9 2d8-2dd 37e 384-38a 38c 38e-3a1 3a3-3ce 401-40c 40e-44f 451-45c 45e-45f 490-491 1e80-1e85
-    1ef2-1ef3 2013-2015 2017-201e 2020-2022 2026 2030 2032-2033 2039-203a 203c 203e 2044 207f 20a3-20a4 20a7 20ac 2105 2113 2116 2122
-    2126 212e 215b-215e 2190-2195 21a8 2202 2206 220f 2211-2212 2215 2219-221a 221e-221f 2229 222b 2248 2260-2261 2264-2265 2302 2310
-    2320-2321 2500 2502 250c 2510 2514 2518 251c 2524 252c 2534 253c 2550-256c 2580 2584 2588 258c 2590-2593 25a0-25a1 25aa-25ac 25b2
-    25ba 25bc 25c4 25ca-25cb 25cf 25d8-25d9 25e6 263a-263c 2640 2642 2660 2663 2665-2666 266a-266b fb01-fb02"""
-# Each set by name: hexadecimal numbers and ranges.
-SETS = {
-    "ascii": "20-7e",
-    "latin-1": "20-7e a0-ff",
-    "latin-9": "20-7e a0-a3 a5 a7 a9-b3 b5-b7 b9-bb bf-ff 152-153 160-161 178 17d-17e 20ac",
-    "wgl4": WGL4,
-    "box": "2500-257f",
-    "blocks": "2580-259f",
-    "braille": "2800-28ff",
-}
+ALL = "all"  # stands for every character of a font
 
 
 def character_sets() -> dict[str, int]:
     """The sets that have names here, and how many characters each has."""
-    return {name: len(_named(name) or ()) for name in [*SETS, "cp437"]}
+    return {name: len(characters(name)) for name in SETS}
 
 
 def characters(chars: Chars = "", *, text: str = "") -> list[int]:
@@ -44,17 +33,23 @@ def characters(chars: Chars = "", *, text: str = "") -> list[int]:
     `chars` is one of these:
 
     - a string of items that commas join: a set (`character_sets()` names them, and each character set of one byte that Python has is one, such
-      as "iso8859-15"), a number or a range in hexadecimal ("20-7e", "U+20AC"), the name or the path of a list for bdf2psf ("Lat15",
-      "./my.set"), or the path of a strike ("other.bdf"); a string of one character is that character
+      as "iso8859-7"), a number or a range in hexadecimal ("20-7e", "U+20AC", "41"), the name or the path of a list for bdf2psf ("Lat15",
+      "./my.set"), or the path of a strike ("other.bdf")
     - a number or a range of numbers
-    - any number of these, as a list or a set; a strike is such a list
+    - any number of these, as a list or a set; there a string of one character is that character. A strike is such a list
 
-    `text` adds the characters of a text without its line ends and other control characters.
+    `text` adds the characters of a text without its line ends and other control characters. Where a font is known, as in `Font.strike`,
+    "all" stands for its characters.
     """
+    return listed(chars, text)
+
+
+def listed(chars: Chars, text: str, font: Font | None = None) -> list[int]:
+    """The code points of what `characters` takes, and if `font` tells its characters, of "all"."""
     if not isinstance(text, str):
         raise TypeError("text is a string, not %s" % type(text).__name__)
     found = {code for code in map(ord, text) if not _is_control(code)}
-    found.update(_codes(chars))
+    found.update(_codes(chars, font))
     return sorted(found)
 
 
@@ -62,25 +57,25 @@ def _is_control(code: int) -> bool:
     return code < 32 or 127 <= code < 160
 
 
-def _codes(chars: Chars) -> Iterable[int]:
+def _codes(chars: Chars, font: Font | None) -> Iterable[int]:
     """The code points of what `characters` takes."""
     if isinstance(chars, str):
-        return _of_string(chars)
+        return [code for item in map(str.strip, chars.split(",")) if item for code in _of_item(item, font)]
     if hasattr(chars, "__index__"):
         return [chars.__index__()]
+    if isinstance(chars, range):
+        return chars
     if not isinstance(chars, Iterable):
         raise TypeError("chars: %r is no list of characters" % (chars,))
-    return [code for it in chars for code in _codes(it)]
+    return [code for it in chars for code in ([ord(it)] if isinstance(it, str) and len(it) == 1 else _codes(it, font))]
 
 
-def _of_string(text: str) -> list[int]:
-    if len(text) == 1:
-        return [ord(text)]
-    return [code for item in text.split(",") if item.strip() for code in _of_item(item.strip())]
-
-
-def _of_item(item: str) -> Iterable[int]:
+def _of_item(item: str, font: Font | None) -> Iterable[int]:
     """The code points of one item of a string."""
+    if item.lower() == ALL:
+        if font is None:
+            raise ValueError("'all' are the characters of a font, and none is known here")
+        return font()
     if os.sep in item or item.endswith(".bdf"):
         return _of_file(item)
     for found in (_named, _range, _listed, _of_codec):
@@ -89,15 +84,13 @@ def _of_item(item: str) -> Iterable[int]:
             return codes
     lists = "no list of bdf2psf" if any(map(os.path.isdir, FOLDERS)) else "bdf2psf with its lists is not installed (Debian: bdf2psf)"
     raise ValueError("%r is no set of characters (%s), no hexadecimal number or range, and %s; for the characters of a text use text="
-                     % (item, ", ".join(character_sets()), lists))
+                     % (item, ", ".join(SETS), lists))
 
 
 def _named(name: str) -> list[int] | None:
     """The characters of a set that has a name here."""
-    name = {"latin1": "latin-1", "iso8859-1": "latin-1"}.get(name.lower(), name.lower())
-    if name == "cp437":
-        return sorted({ord(it) for it in CP437_LOW} | set(_of_codec(name) or ()))
-    return [code for it in SETS[name].split() for code in _range(it) or ()] if name in SETS else None
+    name = OTHERS.get(name.lower(), name.lower())
+    return [code for it in SETS[name].split(",") for code in _range(it) or ()] if name in SETS else None
 
 
 def _range(item: str) -> range | None:
@@ -121,17 +114,18 @@ def _bare(number: str) -> str:
 def _of_codec(name: str) -> list[int] | None:
     """The characters of a character set of one byte that Python has, without control characters."""
     table = _table(name)
-    return None if table is None else characters(text=table.replace("\ufffe", ""))
+    return None if table is None else characters(text=table.replace(UNDEFINED, ""))
 
 
 def _table(name: str) -> str | None:
     """The characters of a character set of one byte that Python has, by their places."""
     import importlib
     try:
-        module = importlib.import_module("encodings." + codecs.lookup(name).name.replace("-", "_"))
-        return str(module.decoding_table)
+        name = codecs.lookup(name).name
+        table = str(importlib.import_module("encodings." + name.replace("-", "_")).decoding_table)
     except (LookupError, ImportError, AttributeError, ValueError):
         return None
+    return table[0] + CP437_LOW[:31] + table[32:127] + CP437_LOW[31:] + table[128:] if name == "cp437" else table
 
 
 def table_of(registry: str, encoding: str) -> str | None:
@@ -140,12 +134,15 @@ def table_of(registry: str, encoding: str) -> str | None:
     if name in ("iso646.1991-irv", "ascii-0", "us-ascii"):
         return "".join(map(chr, range(128)))
     names = [name, name.replace("-", ""), encoding.lower()] + (["cp" + encoding.lower()] if registry.lower() in ("ibm", "microsoft") else [])
-    for it in names:  # as iso8859-2, cp-437, microsoft-cp1252, ibm-437
-        table = _table(it)
-        if table is not None:
-            is_cp437 = codecs.lookup(it).name == "cp437"
-            return table[0] + CP437_LOW[:31] + table[32:127] + CP437_LOW[31:] + table[128:] if is_cp437 else table
-    return None
+    return next((it for it in map(_table, names) if it is not None), None)  # as iso8859-2, cp-437, microsoft-cp1252, ibm-437
+
+
+def in_order(name: str) -> list[int | None]:
+    """The code points of the places of a character set of one byte; None where it has no character with a picture."""
+    table = _table(name)
+    if table is None:
+        raise ValueError("order: %r is no character set of one byte that Python knows, as cp437 or koi8-r" % name)
+    return [None if it == UNDEFINED or _is_control(ord(it)) else ord(it) for it in table]
 
 
 def _listed(name: str) -> list[int] | None:

@@ -8,25 +8,22 @@ import sys
 import time
 import warnings
 from collections.abc import Callable, Sequence
-from typing import Any, NoReturn
+from typing import Any
 
 from . import bdf, formats, sources
-from .charsets import character_sets, characters, ranges
+from .arguments import joined, parser
+from .charsets import listed, ranges
 from .font import Font
 from .merge import merge
 from .refused import Missing, Refused, code_name, shown
 from .strike import Strike
 
 FAULTS = (Refused, Missing, bdf.NotBdf, OSError, ValueError, RuntimeError, ImportError)
-ABOUT = """\
-Makes bitmap strikes of TrueType fonts. For each font and size it writes one file a format, NAME-SIZE.bdf and so on, and a line that says
-what is in it. Characters that the font lacks, or that are refused, are named and left out."""
-CHARS = """\
-a list that commas join: sets by name (%s; cp1252, iso8859-15, koi8-r and such), hexadecimal numbers and ranges (20-7e, U+20AC), lists of
-bdf2psf by name or path (Lat15, ./my.set), strikes (other.bdf); latin-1 if neither --chars nor --text is given"""
 SHOWN = 12  # refused characters that are named on lines of their own
-WHAT_CHARS_TAKES = "--chars takes sets by name and hexadecimal numbers, --text FILE a text's characters"
+WHAT_CHARS_TAKES = "--chars takes sets by name and hexadecimal numbers, --text FILE a text's characters; --all takes what the font has"
+CELLS = "--cell and --fit"
 PATIENCE = 1.0  # seconds without a bar
+PLACEHOLDERS = "\ufffd?"  # what stands in a preview for a character that the font lacks: the first that it has
 
 
 class Bar:
@@ -54,86 +51,86 @@ class Bar:
             self.width = 0
 
 
-class Version(argparse.Action):
-    """Prints the release, and ends."""
-
-    def __call__(self, parser: argparse.ArgumentParser, *_: object) -> None:
-        from . import __version__
-        print("strike of mkstrike " + __version__)
-        parser.exit()
-
-
-class Parser(argparse.ArgumentParser):
-    """The arguments, of which a wrong one is shown as a terminal may have it."""
-
-    def error(self, message: str) -> NoReturn:
-        super().error(shown(message))
-
-
-def parser() -> argparse.ArgumentParser:
-    """The arguments of the command."""
-    p = Parser(prog="strike", description=ABOUT)
-    add = p.add_argument
-    add("--version", action=Version, nargs=0, help="print the release")
-    add("fonts", nargs="+", metavar="FONT", help="TrueType fonts, collections, WOFF, WOFF2; also strikes in BDF")
-    add("--size", default="16", metavar="N,..", help="sizes in pixels per em (16)")
-    add("--chars", default="", metavar="LIST", help=(CHARS % ", ".join(character_sets())).replace("%", "%%"))
-    add("--text", action="append", default=[], metavar="FILE", help="the characters that a text in UTF-8 uses; - is standard input")
-    add("--out", default=".", metavar="FOLDER", help="where the files go (.)")
-    add("--format", default="bdf", metavar="NAME,..", help="any of %s (bdf)" % ", ".join(formats.FORMATS))
-    add("--name", help="the name in the files, and of the files, if it can be one; else that of the font's file")
-    add("--unhinted", action="store_true", help="do not run the font's own programs")
-    add("--dropout", action="store_true", help="keep thin strokes whole, by the left or the lower pixel")
-    add("--dropout-near", action="store_const", dest="dropout", const="near", help="keep thin strokes whole, by the nearer pixel")
-    add("--dropout-font", action="store_const", dest="dropout", const="font", help="keep thin strokes whole, as the font asks")
-    add("--cell", metavar="WxH", help="one advance for all, in cells of W x H pixels; glyphs that leave the cell are named")
-    add("--ascent", type=int, metavar="N", help="with --cell: the rows above the baseline")
-    add("--clip", action="store_true", help="with --cell: glyphs lose the pixels outside it")
-    add("--merge", action="store_true", help="one strike a size of all fonts: a character comes from the first that has it")
-    add("--x11", action="store_true", help="add the properties that X11 and fontconfig look for")
-    add("--property", action="append", default=[], metavar="KEY=VALUE", help="add a property")
-    add("--face", type=int, default=0, metavar="N", help="the font of a collection, from 0")
-    add("--axes", default="", metavar="TAG=N,..", help="the place of a variable font, as wght=700")
-    add("--scale", type=int, default=1, metavar="N", help="the side of a pixel's square in pictures")
-    add("--columns", type=int, default=32, metavar="N", help="glyphs in a row of a picture")
-    add("--strict", action="store_true", help="a refused character refuses the strike")
-    add("--quiet", action="store_true", help="print only what went wrong")
-    return p
-
-
 class Job:
     """What the arguments ask for."""
 
     def __init__(self, options: argparse.Namespace) -> None:
         self.options = options
-        named = (*options.fonts, *options.text, *map(str.strip, options.chars.split(",")))
+        if "-" in options.text and "-" in options.fonts:
+            raise ValueError("standard input is the font or the text, not both")
+        self.text = "".join(_text_of(it) for it in options.text) + (options.preview or "")
+        is_latin = not options.chars and not options.text and options.preview is None
+        self.chars = "latin-1" if is_latin else ",".join(options.chars)
+        listed(self.chars, self.text, lambda: ())
+        named = (*options.fonts, *options.text, *map(str.strip, self.chars.split(",")))
         self.inputs = [it for it in named if it and os.path.exists(it)]
         self.written: set[str] = set()
-        self.sizes = [_number(it, "--size") for it in options.size.split(",")]
-        self.formats = options.format.split(",")
-        for name in self.formats:
-            if name not in formats.FORMATS:
-                raise ValueError("--format %s: there are %s" % (name, ", ".join(formats.FORMATS)))
-        text = "".join(_text_of(it) for it in options.text)
-        self.codes = characters(options.chars or ("" if options.text else "latin-1"), text=text)
+        self.sizes = _sizes(options.ppem or "16")
         places = [_pair(it, "--axes") for it in options.axes.split(",") if it]
         self.axes = {tag: float(_number(value, "--axes", float)) for tag, value in places}
         self.properties = dict(_property(it) for it in options.property)
-        self.cell = None
-        if options.cell:
-            width, _, height = options.cell.lower().partition("x")
-            self.cell = _number(width, "--cell"), _number(height, "--cell")
+        self.fit = _cell(options.fit, "--fit")
+        self.cell = _cell(options.cell, "--cell") or self.fit
+        self.formats = self.checked()
+
+    def checked(self) -> list[str]:
+        """The formats of the files, if the arguments go together."""
+        o = self.options
+        if self.fit and (o.ppem or o.merge):
+            raise ValueError("--fit finds the size of each font: leave --ppem and --merge out")
+        if o.output and o.out:
+            raise ValueError("-o FILE is one file, --out FOLDER a folder for many: give one of them")
+        if o.out and os.path.splitext(o.out)[1].lower() in formats.OF_ENDING and not os.path.isdir(o.out):
+            raise ValueError("--out takes a folder: -o %s writes one file" % o.out)
+        if min(o.scale, o.columns) < 1:
+            raise ValueError("--scale and --columns are 1 or more")
+        found: list[str] = o.format.split(",") if o.format else [formats.by_ending(o.output) if o.output and o.output != "-" else "bdf"]
+        for name in found:
+            if name not in formats.FORMATS:
+                raise ValueError("--format %s: there are %s" % (name, ", ".join(formats.FORMATS)))
+        for option, is_given, is_used, where in (("--order", o.order, "raw" in found, "--format raw"), ("--ascent", o.ascent is not None, self.cell, CELLS),
+                                                 ("--clip", o.clip, self.cell, CELLS)):
+            if is_given and not is_used:
+                raise ValueError("%s is for %s" % (option, where))
+        if o.preview is not None and o.output and found[0] not in formats.PICTURES:
+            raise ValueError("--preview is printed, or with -o a picture in PNG or PBM")
+        one_font, one_size = len(o.fonts) == 1 or o.merge, len(self.sizes) == 1 or "%s" in (o.output or "")
+        if o.output and not (one_font and one_size and len(found) == 1):
+            raise ValueError("-o FILE is one file: give one font, one format, and %s in its name for several sizes, or --out FOLDER for many")
+        return found
+
+    @property
+    def is_written(self) -> bool:
+        """Whether there are files; else a text is previewed on standard output."""
+        return self.options.preview is None or self.options.output is not None
 
     def opened(self, path: str) -> Font | Strike:
         """A font, or a strike that is there already."""
         if path.lower().endswith(".bdf"):
             return Strike.open(path)
-        return Font(path, face=self.options.face, axes=self.axes)
+        if path == "-":
+            return Font(sources.read(sys.stdin.buffer)[0], face=self.options.face, axes=self.axes)
+        source, face = sources.located(path, self.options.face)
+        self.inputs.append(str(source))
+        return Font(source, face=face, axes=self.axes)
+
+    def sizes_of(self, font: Font | Strike) -> list[int]:
+        """The sizes at which a font is made."""
+        if isinstance(font, Strike):
+            return [font.size]
+        o = self.options
+        return self.sizes if not self.fit else [
+            font.fit(*self.fit, self.chars, text=self.text, hinted=not o.unhinted, dropout=o.dropout, ascent=o.ascent)]
 
     def made(self, font: Font, size: int) -> Strike:
         """The strike of a font at a size."""
-        return font.strike(size, self.codes, hinted=not self.options.unhinted, dropout=self.options.dropout,
-                           name=self.options.name or font.name, strict=self.options.strict)
+        text = self.text
+        if self.options.preview is not None:
+            text += "".join(font.glyph_ids(text=PLACEHOLDERS))
+        strike = font.strike(size, self.chars, text=text, hinted=not self.options.unhinted, dropout=self.options.dropout,
+                             name=self.options.name or font.name, strict=self.options.strict)
+        strike.names = None if self.options.name else font.names
+        return strike
 
     def finished(self, strikes: list[Strike]) -> Strike:
         """The strike of all that are given, with its cell and its properties."""
@@ -146,29 +143,70 @@ class Job:
 
     def write(self, strike: Strike, stem: str) -> list[str]:
         """Writes the files of a strike, and returns their paths."""
-        paths = [os.path.join(self.options.out, stem + formats.ENDING[name]) for name in self.formats]
+        output = self.options.output
+        paths = [output.replace("%s", str(strike.size))] if output else [
+            os.path.join(self.options.out or ".", stem + formats.ENDING[name]) for name in self.formats]
         self.refuse_to_lose(paths)
         for path, name in zip(paths, self.formats):
-            more: dict[str, object] = {"name": stem} if name in ("c", "gfx") else {}
-            if name in ("png", "pbm"):
-                more = {"scale": self.options.scale, "columns": self.options.columns}
-            formats.save(strike, path, name, more)
+            made = self.encoded(strike, name, os.path.splitext(os.path.basename(path))[0] if output else stem)
+            if path == "-":
+                sys.stdout.buffer.write(made)
+            else:
+                formats.write(path, made)
         return paths
+
+    def encoded(self, strike: Strike, form: str, stem: str) -> bytes:
+        """The strike in a format, or the picture of the text that is previewed."""
+        o = self.options
+        if o.preview is not None:
+            return formats.picture(strike.line(o.preview, o.scale, missing=placeholder(strike)), form)
+        more: dict[str, object] = {"order": o.order} if form == "raw" else {}
+        if form in formats.PICTURES:
+            more = {"scale": o.scale, "columns": o.columns}
+        if form in formats.IN_C:
+            more = {"name": stem}
+        return formats.encode(strike, form, more)
 
     def refuse_to_lose(self, paths: list[str]) -> None:
         """Refuses to write over what was read, and over what another strike of this run is in."""
         for path in paths:
-            if os.path.exists(path) and any(os.path.samefile(path, it) for it in self.inputs):
+            if os.path.exists(path) and any(os.path.samefile(path, it) for it in self.inputs if os.path.exists(it)):
                 raise ValueError("%s is read here, and would be replaced: give another folder by --out" % path)
             if path in self.written:
                 raise ValueError("%s would be replaced by a second strike: give another folder by --out, or --name" % path)
         self.written.update(paths)
 
 
+def placeholder(strike: Strike) -> str | None:
+    """What stands in a preview for a character that the font lacks."""
+    return next((it for it in PLACEHOLDERS if it in strike), None)
+
+
 def _text_of(path: str) -> str:
-    if path == "-":
-        return sources.read(sys.stdin.buffer)[0].decode("utf-8")
-    return sources.read_file(path).decode("utf-8")
+    if path != "-" and not os.path.exists(path):
+        raise ValueError("--text takes a file, and there is no '%s'; a text itself comes by a pipe: printf '%%s' '%s' | strike --text - .." % (path, path))
+    return (sources.read(sys.stdin.buffer)[0] if path == "-" else sources.read_file(path)).decode("utf-8")
+
+
+def _sizes(text: str) -> list[int]:
+    """The sizes of an option, numbers and ranges that commas join."""
+    found: list[int] = []
+    for item in text.split(","):
+        bounds = item.split("-")
+        if len(bounds) > 2 or not all(it.isascii() and it.isdigit() for it in bounds) or int(bounds[-1]) - int(bounds[0]) not in range(1024):
+            raise ValueError("--ppem takes pixels per em, as 16 or 12,14 or 8-16, not '%s'; pixels are points times the resolution, divided by 72" % item)
+        found += range(int(bounds[0]), int(bounds[-1]) + 1)
+    return found
+
+
+def _cell(text: str | None, option: str) -> tuple[int, int] | None:
+    """Columns and rows of a cell."""
+    if text is None:
+        return None
+    width, _, height = text.lower().partition("x")
+    if not all(it.isascii() and it.isdigit() for it in (width, height)):
+        raise ValueError("%s takes columns and rows, as 8x16, not '%s'" % (option, text))
+    return int(width), int(height)
 
 
 def _number(text: str, option: str, kind: Callable[[str], Any] = int) -> Any:
@@ -230,7 +268,10 @@ class Run:
     def fail(self, what: str, why: Exception) -> None:
         """Says why there is nothing."""
         self.status = 1
-        self.complain("%s: %s" % (what, why.line if isinstance(why, Refused) else why))
+        said = why.line if isinstance(why, Refused) else str(why)
+        if isinstance(why, OSError) and why.filename == what:
+            said = str(why.strerror)
+        self.complain("%s: %s" % (what, said))
         if isinstance(why, Refused) and why.advice:
             self.complain(why.to_do("--unhinted"))
 
@@ -248,11 +289,14 @@ class Run:
 
     def all(self) -> int:
         """Makes all strikes and writes their files. Returns the status."""
-        fonts = self.fonts()
-        sizes = {it.size for _, it in fonts if isinstance(it, Strike)}
-        sizes.update(self.job.sizes if any(isinstance(it, Font) for _, it in fonts) else ())
-        for size in sorted(sizes):
-            made = [(stem, strike) for path, font in fonts for stem, strike in self.made(path, font, size)]
+        wanted: list[tuple[int, str, Font | Strike]] = []
+        for path, font in self.fonts():
+            try:
+                wanted += [(size, path, font) for size in self.job.sizes_of(font)]
+            except FAULTS as why:
+                self.fail(path, why)
+        for size in sorted({it for it, _, _ in wanted}):
+            made = [part for it, path, font in wanted if it == size for part in self.made(path, font, size)]
             if self.job.options.merge and made:
                 self.write(made[0][0], [it for _, it in made])
                 continue
@@ -262,12 +306,11 @@ class Run:
         return self.status
 
     def made(self, path: str, font: Font | Strike, size: int) -> list[tuple[str, Strike]]:
-        """The strike of a font with the name of its files; nothing if it is refused, or if it is a strike of another size."""
-        stem = os.path.splitext(os.path.basename(path))[0]
+        """The strike of a font with the name of its files; nothing if it is refused."""
         if isinstance(font, Strike):
-            return [(stem, font)] if font.size == size else []
+            return [(os.path.splitext(os.path.basename(path))[0], font)]
         name = self.job.options.name or ""
-        stem = "%s-%d" % (name if re.fullmatch(r"\w[\w.+-]*", name) else stem, size)
+        stem = "%s-%d" % (name if re.fullmatch(r"\w[\w.+-]*", name) else font.name, size)
         self.bar.show(stem)
         try:
             with warnings.catch_warnings():
@@ -283,11 +326,14 @@ class Run:
             warnings.simplefilter("always")
             try:
                 strike = self.job.finished(strikes)
-                paths = self.job.write(strike, stem)
+                paths = self.job.write(strike, stem) if self.job.is_written else []
+                shown_text = "" if paths else strike.blocks(self.job.options.preview, missing=placeholder(strike))
             except FAULTS as why:
                 return self.fail(stem, why)
         self.bar.clear()
-        if not self.job.options.quiet:
+        if not paths:
+            print(shown_text)
+        elif paths != ["-"] and not self.job.options.quiet:
             print(shown("%s: %d glyphs" % (" ".join(paths), len(strike))))
         name = stem[:-len("-%d" % strike.size)] if stem.endswith("-%d" % strike.size) else stem
         lines = [(name, line) for line in missing(strike) if (name, line) not in self.told]
@@ -301,10 +347,11 @@ class Run:
 def main(words: Sequence[str] | None = None) -> int:
     """Runs the command. Returns its status: 0, 1 if a font or a file failed, 2 if an argument is wrong."""
     p = parser()
-    options = p.parse_args(words)
+    options = p.parse_intermixed_args(joined(sys.argv[1:] if words is None else words))
     try:
         job = Job(options)
-        os.makedirs(options.out, exist_ok=True)
+        if options.out:
+            os.makedirs(options.out, exist_ok=True)
     except FAULTS as why:
         p.error(str(why))
     stems = [os.path.splitext(os.path.basename(it))[0] for it in options.fonts]

@@ -5,10 +5,14 @@ import warnings
 from collections.abc import Mapping
 
 from . import _library, sources
-from .charsets import characters
+from .cell import largest_size
+from .charsets import listed
 from .glyph import Glyph
-from .refused import Missing, Refused
+from .names import Names, names_of
+from .refused import Refused
 from .strike import Strike
+from .striker import Striker, glyph_of
+from .texts import code_of
 
 TYPE_CHECKING = False  # as in glyph.py
 if TYPE_CHECKING:
@@ -20,89 +24,125 @@ if TYPE_CHECKING:
     Dropout = Union[bool, Literal["left", "near", "font"]]
 
 NAME = "strike"  # of a strike, as the program has it
-MOST_GLYPH = 0xFFFF  # the greatest number of a glyph
+LOOK = 256  # pixels per em at which `fit` looks how large glyphs are
+MOST_BLOCKS = 32  # sizes of a font that are kept, 4 KB each
 
 
 class Font:
     """A TrueType font: `source` is a path, its bytes, an open file, or a TTFont of fontTools.
 
-    `face` is the number of a font in a collection, from 0; `axes` places a variable font, as {"wght": 700}. fontTools unpacks WOFF2 and
-    places variable fonts, and must be installed for these. A file, and what is unpacked of it, has at most 64 MiB. Nothing else is checked
-    before a strike or a glyph is made."""
+    A name that no file has, as "DejaVu Sans:bold", is that of an installed font, if fontconfig is there. `face` is the number of a font in
+    a collection, from 0; `axes` places a variable font, as {"wght": 700}. fontTools unpacks WOFF2 and places variable fonts, and must be
+    installed for these. A file, and what is unpacked of it, has at most 64 MiB. Nothing else is checked before a strike or a glyph is made.
+
+    - `name`: the file's name without its ending
+    """
 
     def __init__(self, source: sources.Source, *, face: int = 0, axes: Mapping[str, float] | None = None) -> None:
         face = _library.whole(face, "face")
+        source, face = sources.located(source, face)
         data, self.name = sources.read(source)
         self.data, self.face = sources.plain(data, face, axes)
+        self._blocks: dict[tuple[int, bool], _library.Block] = {}
+        self._characters: list[int] | None = None
+        self._names: Names | None = None
 
     def __repr__(self) -> str:
         return "<Font %r, %d bytes>" % (self.name, len(self.data))
 
     def strike(self, size: int, chars: Chars = "", *, text: str = "", hinted: bool = True, dropout: Dropout = False,
-               name: str = NAME, x11: bool = False, properties: Mapping[str, Value] | None = None, strict: bool = False) -> Strike:
+               name: str | None = None, x11: bool = False, properties: Mapping[str, Value] | None = None, strict: bool = False) -> Strike:
         """Makes a strike of characters at a size in pixels per em.
 
         `chars` and `text` say which: see `characters`. With `hinted` the font's own programs run, with `dropout` thin strokes stay whole:
         `True` or `"left"` sets the left or the lower pixel beside them, `"near"` the nearer one, and `"font"` what the font asks for.
-        `name`, `x11` and `properties` are what `mkstrike make` calls `--name`, `--x11` and `--property`.
+        `name`, `x11` and `properties` are what `mkstrike make` calls `--name`, `--x11` and `--property`. Without `name` the strike is called
+        "strike"; with `x11` it then gets the long name of X11, with the font's family, weight and slant and the size.
 
         What the font lacks is in `missing` of the strike. A character that is refused is in `refused`, and the others are made; with
         `strict` its refusal is raised. A refusal that meets all characters is always raised, as `Refused`. A strike without a glyph is a
         warning."""
-        if not isinstance(name, str):
+        if name is not None and not isinstance(name, str):
             raise TypeError("name is a string, not %r" % (name,))
-        codes = characters(chars, text=text)
+        codes = listed(chars, text, self.characters)
         if len(codes) > _library.MOST_CHARS:
             raise ValueError("chars has %s characters: a strike has at most %s" % (
                 format(len(codes), ","), format(_library.MOST_CHARS, ",")))
         mode, refused = _library.mode_of(hinted, dropout), {}
-        encoded = name.encode("utf-8", "surrogateescape")
+        encoded = (NAME if name is None else name).encode("utf-8", "surrogateescape")
         try:
             made, told = _library.make(self.data, self.face, size, mode, codes, encoded)
         except Refused as why:
             if not why.is_of_character:
                 raise
-            refused = _library.refused_of(self.data, self.face, size, mode, codes)
+            refused = self._block(size, hinted).refused(_library.mode_of(False, dropout), codes)
             if strict:
                 raise refused[min(refused)] from None
             left = [it for it in codes if it not in refused]
             made, told = _library.make(self.data, self.face, size, mode, left, encoded)
         strike = Strike(made, missing=None, requested=tuple(codes), refused={chr(it): why for it, why in refused.items()},
-                        strays=told.strays, steps=told.steps, is_own=True)
+                        names=self.names if name is None else None, strays=told.strays, steps=told.steps, is_own=True)
         if not told.glyphs:
             warnings.warn("the strike has no glyph: " + why_empty(codes, refused), stacklevel=2)
         return strike.with_properties(properties, x11=x11) if x11 or properties else strike
 
-    def glyph(self, size: int, char: str | int, *, hinted: bool = True, dropout: Dropout = False) -> Glyph:
-        """Makes the glyph of one character, given as such or as a code point. Raises `Missing` if the font lacks it.
+    def at(self, size: int, *, hinted: bool = True, dropout: Dropout = False) -> Striker:
+        """The font at a size in pixels per em: a mapping from the characters that it has to their glyphs, which measures and draws texts.
 
-        The font's `fpgm` and `prep` run each time: for many characters make a strike."""
+        Hinted, the font's `fpgm` and `prep` run once for a size; what they left is kept for later calls."""
+        return Striker(self, self._block(size, hinted), _library.mode_of(False, dropout))
+
+    def _block(self, size: int, hinted: bool) -> _library.Block:
+        """What the font is at a size, made once."""
+        key = _library.whole(size, "size"), bool(hinted)
+        block = self._blocks.get(key)
+        if block is None:
+            block = _library.Block(self.data, self.face, *key)
+            if len(self._blocks) >= MOST_BLOCKS:
+                self._blocks.clear()
+            self._blocks[key] = block
+        return block
+
+    def fit(self, width: int, height: int, chars: Chars = "", *, text: str = "", hinted: bool = True, dropout: Dropout = False,
+            ascent: int | None = None) -> int:
+        """The largest size, in pixels per em, at which no glyph of the characters leaves a cell of so many pixels: see `Strike.cell`, which
+        has the same `ascent`, and `characters`. What the font lacks or refuses does not count."""
+        codes = listed(chars, text, self.characters)
+        return largest_size(lambda size: self.at(size, hinted=hinted, dropout=dropout), self.at(LOOK, hinted=False), codes, width, height, ascent)
+
+    def glyph(self, size: int, char: str | int, *, hinted: bool = True, dropout: Dropout = False) -> Glyph:
+        """Makes the glyph of one character, given as such or as a code point. Raises `Missing` if the font lacks it."""
         code = code_of(char)
-        made = _library.glyph(self.data, self.face, size, _library.mode_of(hinted, dropout), code)
-        if made is None:
-            raise Missing(chr(code))
-        it, pixels = made
-        return Glyph(chr(code), it.width, it.height, it.left, it.bottom, it.dwidth, it.swidth, pixels)
+        if code is None:
+            raise TypeError("char is one character or a code point, not %r" % (char,))
+        return glyph_of(self._block(size, hinted), _library.mode_of(False, dropout), code)
 
     def glyph_by_id(self, size: int, number: int, *, hinted: bool = True, dropout: Dropout = False) -> Glyph:
-        """Makes a glyph by its number, for programs that shape text. Glyph 0 is the font's box for what it lacks."""
-        number = _library.whole(number, "number")
-        if not 0 <= number <= MOST_GLYPH:
-            raise ValueError("number is %d: glyphs have the numbers 0 to %s" % (number, format(MOST_GLYPH, ",")))
-        made = _library.glyph(self.data, self.face, size, _library.mode_of(hinted, dropout), number, by_id=True)
-        assert made is not None
-        it, pixels = made
-        return Glyph(None, it.width, it.height, it.left, it.bottom, it.dwidth, it.swidth, pixels)
+        """Makes a glyph by its number, for programs that shape text: see `Striker.glyph`."""
+        return self.at(size, hinted=hinted, dropout=dropout).glyph(number)
 
     def glyph_ids(self, chars: Chars = "", *, text: str = "") -> dict[str, int]:
-        """The numbers of the characters' glyphs, as far as the font has them: `font.glyph_ids(range(0x110000))` are all."""
-        codes = characters(chars, text=text)
+        """The numbers of the characters' glyphs, as far as the font has them: `font.glyph_ids("all")` are all."""
+        codes = listed(chars, text, self.characters)
         return {chr(code): number for code, number in zip(codes, _library.glyph_ids(self.data, self.face, codes)) if number}
+
+    def characters(self) -> list[int]:
+        """The code points of all characters that the font has, in rising order."""
+        if self._characters is None:
+            self._characters = _library.characters(self.data, self.face)
+        return list(self._characters)
 
     def heights(self, size: int) -> tuple[int, int, int]:
         """Ascent and descent in pixels, as each strike of this size has them, and what the font adds between lines."""
         info = _library.info(self.data, self.face, size)
         return info.ascent, info.descent, info.line_gap
+
+    @property
+    def names(self) -> Names:
+        """What the font calls itself: family, style, weight, width, slant, and whether all its advances are equal."""
+        if self._names is None:
+            self._names = names_of(self.data, self.face, self.name)
+        return self._names
 
     @property
     def glyph_count(self) -> int:
@@ -112,15 +152,6 @@ class Font:
     def axes(self) -> dict[str, tuple[float, float, float]]:
         """The axes of a variable font: least value, default and greatest value of each; nothing of a font without axes."""
         return sources.axes_of(self.data, self.face)
-
-
-def code_of(char: str | int) -> int:
-    """The code point of one character, given as such or as a number."""
-    if isinstance(char, str) and len(char) == 1:
-        return ord(char)
-    if isinstance(char, str) or not hasattr(char, "__index__"):
-        raise TypeError("char is one character or a code point, not %r" % (char,))
-    return char.__index__()
 
 
 def why_empty(codes: list[int], refused: Mapping[int, Refused]) -> str:

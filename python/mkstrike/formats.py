@@ -2,14 +2,18 @@
 from __future__ import annotations
 
 import contextlib
+import errno
 import io
 import os
+import stat
 from collections.abc import Mapping
 from typing import TYPE_CHECKING, Any, Callable
 
 from .refused import shown
 
 if TYPE_CHECKING:
+    from PIL.Image import Image
+
     from .strike import Strike
 
 
@@ -17,28 +21,30 @@ def _bdf(strike: Strike) -> bytes:
     return strike.text
 
 
-def _png(strike: Strike, **options: Any) -> bytes:
-    return _picture(strike, "PNG", options)
+def _sheet(form: str) -> Callable[..., bytes]:
+    def made(strike: Strike, **options: Any) -> bytes:
+        return picture(strike.sheet(**options), form)
+    return made
 
 
-def _pbm(strike: Strike, **options: Any) -> bytes:
-    return _picture(strike, "PPM", options)
-
-
-def _picture(strike: Strike, kind: str, options: Mapping[str, Any]) -> bytes:
+def picture(image: Image, form: str) -> bytes:
+    """A picture of Pillow in a format."""
     out = io.BytesIO()
-    strike.sheet(**options).save(out, kind)
+    image.save(out, {"png": "PNG", "pbm": "PPM"}[form])
     return out.getvalue()
 
 
-def _c(strike: Strike, name: str = "strike") -> bytes:
-    from . import carray
-    return carray.rows(strike, carray.identifier(name)).encode()
+def _c(form: str) -> Callable[..., bytes]:
+    def made(strike: Strike, name: str = "strike") -> bytes:
+        from . import carray
+        text: str = getattr(carray, form)(strike, carray.identifier(name))
+        return text.encode()
+    return made
 
 
-def _gfx(strike: Strike, name: str = "strike") -> bytes:
+def _raw(strike: Strike, order: str | None = None) -> bytes:
     from . import carray
-    return carray.gfx(strike, carray.identifier(name)).encode()
+    return carray.raw(strike, order)
 
 
 def _by(program: str) -> Callable[[Strike], bytes]:
@@ -49,17 +55,18 @@ def _by(program: str) -> Callable[[Strike], bytes]:
     return made
 
 
-FORMATS: dict[str, Callable[..., bytes]] = {"bdf": _bdf, "png": _png, "pbm": _pbm, "c": _c, "gfx": _gfx, "psf": _by("psf"),
-                                            "pcf": _by("pcf"), "otb": _by("otb")}
-OF_ENDING = {".bdf": "bdf", ".png": "png", ".pbm": "pbm", ".h": "c", ".c": "c", ".psf": "psf", ".psfu": "psf", ".pcf": "pcf", ".otb": "otb"}
-ENDING = {**{name: "." + name for name in FORMATS}, "c": ".h", "gfx": "-gfx.h"}  # of the files that the command writes
+FORMATS: dict[str, Callable[..., bytes]] = {"bdf": _bdf, "png": _sheet("png"), "pbm": _sheet("pbm"), "c": _c("rows"), "gfx": _c("gfx"), "lvgl": _c("lvgl"),
+                                            "raw": _raw, "psf": _by("psf"), "pcf": _by("pcf"), "otb": _by("otb")}
+OF_ENDING = {".bdf": "bdf", ".png": "png", ".pbm": "pbm", ".h": "c", ".c": "c", ".raw": "raw", ".psf": "psf", ".psfu": "psf", ".pcf": "pcf", ".otb": "otb"}
+ENDING = {**{name: "." + name for name in FORMATS}, "c": ".h", "gfx": "-gfx.h", "lvgl": ".c"}  # of the files that the command writes
+IN_C, PICTURES = ("c", "gfx", "lvgl"), ("png", "pbm")
 
 
 def encode(strike: Strike, format: str, options: Mapping[str, Any]) -> bytes:
     """The strike in a format, as bytes."""
     if format not in FORMATS:
         raise ValueError("%r is no format: there are %s" % (format, ", ".join(FORMATS)))
-    if format in ("png", "pbm", "c", "gfx"):
+    if format in (*PICTURES, *IN_C, "raw"):
         from .strike import tell_of_unnamed
         tell_of_unnamed(strike.parsed().unnamed)
     return FORMATS[format](strike, **options)
@@ -67,27 +74,38 @@ def encode(strike: Strike, format: str, options: Mapping[str, Any]) -> bytes:
 
 def save(strike: Strike, path: str, format: str | None, options: Mapping[str, Any]) -> None:
     """Writes a file whole, or leaves what was there."""
-    stem, ending = os.path.splitext(os.path.basename(path))
-    if format is None:
-        if ending.lower() not in OF_ENDING:
-            raise ValueError("%s: the ending says no format: there are %s" % (shown(path), " ".join(OF_ENDING)))
-        format = OF_ENDING[ending.lower()]
-    if format in ("c", "gfx"):
-        options = {"name": stem, **options}
+    format = format or by_ending(path)
+    if format in IN_C:
+        options = {"name": os.path.splitext(os.path.basename(path))[0], **options}
     write(path, encode(strike, format, options))
 
 
+def by_ending(path: str) -> str:
+    """The format that the ending of a file's name says."""
+    ending = os.path.splitext(path)[1].lower()
+    if ending not in OF_ENDING:
+        raise ValueError("%s: the ending says no format: there are %s" % (shown(path), " ".join(OF_ENDING)))
+    return OF_ENDING[ending]
+
+
 def write(path: str, data: bytes) -> None:
-    """Writes a file in one step: a reader sees the old one or the new one. What is no file, as a device or a pipe, is written to."""
+    """Writes a file in one step: a reader sees the old one or the new one, which has its mode. What is no file, as a device or a pipe, is
+    written to; a file that may not be written stays."""
     if os.path.exists(path) and not os.path.isfile(path):
         with open(path, "wb") as stream:
             stream.write(data)
         return
     path = os.path.realpath(path)  # a link stays one
+    is_there = os.path.exists(path)
+    if is_there and not os.access(path, os.W_OK):
+        raise PermissionError(errno.EACCES, os.strerror(errno.EACCES), path)
     new = os.path.join(os.path.dirname(path), ".%s.new" % os.urandom(8).hex())
+    mode = stat.S_IMODE(os.stat(path).st_mode) if is_there else 0o666
     try:
-        with open(new, "xb") as file:
+        with open(new, "xb", opener=lambda name, flags: os.open(name, flags, mode)) as file:
             file.write(data)
+        if is_there:
+            os.chmod(new, mode)
         os.replace(new, path)
     except BaseException:
         with contextlib.suppress(OSError):

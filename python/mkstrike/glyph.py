@@ -39,8 +39,26 @@ class Glyph:
         """A glyph of its numbers and its pixels, a byte a pixel."""
         if len(data) != width * height:
             raise ValueError("%d bytes are no %d x %d pixels" % (len(data), width, height))
-        for name, value in zip(self.__slots__, (char, width, height, left, bottom, advance, swidth, bytes(data))):
-            object.__setattr__(self, name, value)
+        for put, value in zip(_SLOTS, (char, width, height, left, bottom, advance, swidth, bytes(data))):
+            put(self, value)
+
+    @classmethod
+    def drawn(cls, picture: str, *, left: int = 0, bottom: int = 0, advance: int | None = None) -> Glyph:
+        """A glyph of lines from the top, as `print` shows one: "#" is a set pixel. `left` and `bottom` are the column and the row of the
+        picture's lower left pixel; without `advance` the next glyph begins where the picture ends. Such a glyph has no character yet."""
+        lines = picture.split("\n")
+        width = max(map(len, lines))
+        for it in picture:
+            if it not in "#.\n":
+                raise ValueError("a picture has # and .; not %r" % it)
+        found = [(x, y) for y, line in enumerate(lines) for x, it in enumerate(line) if it == "#"]
+        advance = left + width if advance is None else advance
+        if not found:
+            return cls(None, 0, 0, 0, 0, advance, 0, b"")
+        first, last = (tuple(way(it[k] for it in found) for k in (0, 1)) for way in (min, max))
+        rows = (line.ljust(width)[first[0]:last[0] + 1] for line in lines[first[1]:last[1] + 1])
+        data = bytes(SET if it == "#" else 0 for row in rows for it in row)
+        return cls(None, last[0] - first[0] + 1, last[1] - first[1] + 1, left + first[0], bottom + len(lines) - 1 - last[1], advance, 0, data)
 
     def __setattr__(self, name: str, value: object) -> NoReturn:
         raise AttributeError("a glyph can't be changed")
@@ -117,6 +135,9 @@ class Glyph:
 
     def _all(self) -> tuple[object, ...]:
         return self.char, self.width, self.height, self.left, self.bottom, self.advance, self.swidth, self._data
+
+
+_SLOTS = [getattr(Glyph, name).__set__ for name in Glyph.__slots__]  # writes each field, once
 
 
 def unpacked(rows: bytes, width: int, height: int) -> bytes:

@@ -15,6 +15,9 @@ def merge(strikes: Iterable[Strike], *, name: str | None = None) -> Strike:
     given = list(strikes)
     if not given:
         raise ValueError("there is no strike to merge")
+    for it in given:
+        if not isinstance(it, Strike):
+            raise TypeError("strikes: %r is none" % (it,))
     texts = [it.parsed() for it in given]
     sizes = {it.size for it in texts}
     if len(sizes) > 1:
@@ -30,5 +33,6 @@ def merge(strikes: Iterable[Strike], *, name: str | None = None) -> Strike:
     missing = {char for it in given for char in it.missing if ord(char) not in entries and char not in refused}
     outside = {char: far for it in given for char, far in it.outside.items() if entries[ord(char)] is it.parsed().entries.get(ord(char))}
     tell_of_unnamed([name for it in texts for name in it.unnamed])
-    return Strike(merged.encoded(), is_own=True, missing=tuple(sorted(missing)), refused=refused, outside=outside,
+    names = given[0].names if name is None else None
+    return Strike(merged.encoded(), is_own=True, names=names, missing=tuple(sorted(missing)), refused=refused, outside=outside,
                   strays=sum(it.strays for it in given), steps=sum(it.steps for it in given))

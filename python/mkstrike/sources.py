@@ -46,6 +46,23 @@ def _read_all(file: IO[bytes], what: str) -> bytes:
     return limited(b"".join(parts), what)
 
 
+def located(source: Source, face: int) -> tuple[Source, int]:
+    """The source itself, or if it is the name of an installed font and no file, where fontconfig has it: a path and the font's number."""
+    if not isinstance(source, str) or os.sep in source or os.path.exists(source):
+        return source, face
+    import errno
+    import shutil
+    import subprocess
+    program, said = shutil.which("fc-match"), ""
+    if program:
+        words = [program, "-f", "%{index}\n%{file}\n%{family}", "--", source]
+        said = subprocess.run(words, stdin=subprocess.DEVNULL, capture_output=True).stdout.decode(errors="surrogateescape")
+    index, path, families = (said + "\n\n").split("\n")[:3]
+    if source.partition(":")[0].strip().lower() not in families.lower().split(","):  # fontconfig always finds some font
+        raise FileNotFoundError(errno.ENOENT, "there is no such file, and no installed font of this name (fc-list shows them)", source)
+    return path, face or int(index) & 0xFFFF
+
+
 def read(source: Source) -> tuple[bytes, str]:
     """The bytes of a font's file, and a name for it."""
     if isinstance(source, (bytes, bytearray, memoryview)):

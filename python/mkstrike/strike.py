@@ -6,38 +6,43 @@ import warnings
 from collections.abc import Iterator, Mapping, Sequence
 
 from . import bdf, glyph as glyphs
+from .charsets import listed
 from .refused import Missing, shown
 from .sources import read_file
+from .texts import Glyphs, code_of
 
 SHOWN = 12  # names of glyphs that a warning has
 TYPE_CHECKING = False  # as in glyph.py
 if TYPE_CHECKING:
     from PIL.Image import Image
 
+    from .charsets import Chars
+    from .names import Names
     from .refused import Refused
 
 
-class Strike(Mapping[str, glyphs.Glyph]):
+class Strike(Glyphs):
     """A strike: from each character to its glyph, in rising order of the characters.
 
     - `text`: the strike in BDF, as bytes
     - `missing`: the characters that were asked for and that the font lacks
     - `refused`: from each character that was refused to its refusal
     - `outside`: from each character that left its cell to how far (see `cell`)
+    - `names`: what its font calls itself, of which `with_properties` makes the long name of X11; None if it has a name of its own
     - `strays`, `steps`: what the font's programs did, if the strike was made here, else 0
     """
 
     def __init__(self, text: bytes, *, missing: tuple[str, ...] | None = (), refused: Mapping[str, Refused] | None = None,
-                 outside: Mapping[str, Outside] | None = None, requested: tuple[int, ...] = (), strays: int = 0, steps: int = 0,
-                 is_own: bool = False) -> None:
+                 outside: Mapping[str, Outside] | None = None, requested: tuple[int, ...] = (), names: Names | None = None,
+                 strays: int = 0, steps: int = 0, is_own: bool = False) -> None:
         """A strike of its text; `is_own` says that this package or the program wrote it (see `bdf.parse`)."""
         self._text, self._is_own = text, is_own
         self.refused: dict[str, Refused] = dict(refused or {})
         self.outside: dict[str, Outside] = dict(outside or {})
-        self.strays, self.steps = strays, steps
+        self.names, self.strays, self.steps = names, strays, steps
         self._missing, self._requested = missing, requested
         self._parsed: bdf.Text | None = None
-        self._made: dict[str, glyphs.Glyph] = {}
+        self._made: dict[int | None, glyphs.Glyph] = {}
 
     @classmethod
     def open(cls, path: str | os.PathLike[str]) -> Strike:
@@ -88,11 +93,6 @@ class Strike(Mapping[str, glyphs.Glyph]):
         return self.parsed().descent
 
     @property
-    def height(self) -> int:
-        """The rows of a line: ascent and descent together."""
-        return self.ascent + self.descent
-
-    @property
     def box(self) -> tuple[int, int, int, int]:
         """The least box that holds all glyphs: width, height, and the column and the row of its lower left pixel."""
         return self.parsed().box
@@ -103,18 +103,22 @@ class Strike(Mapping[str, glyphs.Glyph]):
         return dict(self.parsed().properties)
 
     def __getitem__(self, char: str | int) -> glyphs.Glyph:
-        char = chr(char) if isinstance(char, int) else char
-        if char not in self._made:
-            entry = self.parsed().entries.get(ord(char)) if len(char) == 1 else None
-            if entry is None:
-                raise Missing(char)
+        code = code_of(char)
+        if code not in self._made:
+            entry = self.parsed().entries.get(code) if code is not None else None
+            if entry is None or code is None:
+                raise Missing(str(char) if code is None else chr(code))
             pixels = glyphs.unpacked(entry.rows, entry.width, entry.height)
-            self._made[char] = glyphs.Glyph(char, entry.width, entry.height, entry.left, entry.bottom, entry.dwidth, entry.swidth, pixels)
-        return self._made[char]
+            self._made[code] = glyphs.Glyph(chr(code), entry.width, entry.height, entry.left, entry.bottom, entry.dwidth, entry.swidth, pixels)
+        return self._made[code]
 
-    def __contains__(self, char: object) -> bool:
-        code = char if isinstance(char, int) else ord(char) if isinstance(char, str) and len(char) == 1 else None
+    def _has(self, code: int) -> bool:
         return code in self.parsed().entries
+
+    @property
+    def _rows(self) -> tuple[int, int]:
+        _, height, _, bottom = self.box
+        return bottom + height, -bottom
 
     def __iter__(self) -> Iterator[str]:
         return map(chr, sorted(self.parsed().entries))
@@ -154,10 +158,30 @@ class Strike(Mapping[str, glyphs.Glyph]):
         from . import picture
         return picture.sheet(self, columns, scale)
 
-    def line(self, text: str, scale: int = 1) -> Image:
-        """A line of text as a picture of Pillow. A character that the strike does not have is an error."""
-        from . import picture
-        return picture.line(self, text, scale)
+    def subset(self, chars: Chars = "", *, text: str = "") -> Strike:
+        """The strike of fewer characters: see `characters`; "all" are those of this strike. `missing` has those that it lacks."""
+        has = self.parsed().entries
+        codes = listed(chars, text, lambda: has)
+        wanted, kept = set(map(chr, codes)), {code: has[code] for code in codes if code in has}
+        return self._with(self.parsed().with_entries(kept), {char: far for char, far in self.outside.items() if char in wanted},
+                          tuple(chr(it) for it in codes if it not in has and chr(it) not in self.refused),
+                          {char: why for char, why in self.refused.items() if char in wanted})
+
+    def replace(self, given: Mapping[str, glyphs.Glyph] | Mapping[int, glyphs.Glyph]) -> Strike:
+        """The strike with other glyphs of characters, or with more characters: from each to its glyph, as of another strike or of
+        `Glyph.drawn`."""
+        text = self.parsed()
+        more = {}
+        for char, it in given.items():
+            code = code_of(char)
+            if code is None:
+                raise TypeError("a glyph is of one character, not %r" % (char,))
+            if not isinstance(it, glyphs.Glyph):
+                raise TypeError("the glyph of %r is a Glyph, not %s" % (char, type(it).__name__))
+            more[code] = bdf.entry_of(code, it, text.size)
+        return self._with(text.with_entries({**text.entries, **more}), {char: far for char, far in self.outside.items() if char not in given},
+                          tuple(it for it in self.missing if it not in given),
+                          {char: why for char, why in self.refused.items() if char not in given})
 
     def cell(self, width: int, height: int, *, ascent: int | None = None, clip: bool = False) -> Strike:
         """The same glyphs in a cell: each has the advance `width`, and ascent and descent together are `height`.
@@ -169,19 +193,23 @@ class Strike(Mapping[str, glyphs.Glyph]):
         return cell.in_cell(self, width, height, ascent, clip)
 
     def with_properties(self, properties: Mapping[str, bdf.Value] | None = None, *, x11: bool = False) -> Strike:
-        """The strike with more properties; with `x11` those that X11, fontconfig and bdf2psf look for, which given ones replace."""
+        """The strike with more properties; with `x11` those that X11, fontconfig and bdf2psf look for, which given ones replace. A strike
+        without a name of its own then gets the long name of X11."""
         given = dict(properties or {})
         bdf.check(given)
         text = self.parsed()
+        if x11 and self.names is not None:
+            text = bdf.Text(bdf.x11_name(text, self.names), text.size, text.ascent, text.descent, text.properties, text.entries)
         more = {name: value for name, value in (bdf.x11(text) if x11 else {}).items() if name not in given}
         kept = {name: value for name, value in text.properties.items() if name not in more and name not in given}
         return self._with(bdf.Text(text.name, text.size, text.ascent, text.descent, {**kept, **more, **given}, text.entries))
 
-    def _with(self, text: bdf.Text, outside: Mapping[str, Outside] | None = None) -> Strike:
-        """A strike of another text, with what was missing and refused here."""
+    def _with(self, text: bdf.Text, outside: Mapping[str, Outside] | None = None, missing: tuple[str, ...] | None = None,
+              refused: Mapping[str, Refused] | None = None) -> Strike:
+        """A strike of another text, with what was missing, refused and outside here if nothing else is given."""
         tell_of_unnamed(self.parsed().unnamed)
-        return Strike(text.encoded(), missing=self.missing, refused=self.refused, outside=self.outside if outside is None else outside,
-                      strays=self.strays, steps=self.steps, is_own=True)
+        return Strike(text.encoded(), missing=self.missing if missing is None else missing, refused=self.refused if refused is None else refused,
+                      outside=self.outside if outside is None else outside, names=self.names, strays=self.strays, steps=self.steps, is_own=True)
 
 
 def tell_of_unnamed(names: Sequence[str]) -> None:

@@ -138,11 +138,11 @@ def test_merging():
     assert merged.missing == ("一",) and "☃" in merged
     assert set(strikes[1].refused) == {"Ɯ", "ɐ"} and not merged.refused
     assert (merged.ascent, merged.descent) == (max(it.ascent for it in strikes), max(it.descent for it in strikes))
-    assert merged.properties["SPACING"] == "P" and merged.name == "strike" and mkstrike.merge(strikes, name="all").name == "all"
+    assert merged.properties["SPACING"] == "P" and merged.name == strikes[0].name and mkstrike.merge(strikes, name="all").name == "all"
     left, bottom = min(it.left for it in merged.values() if it.width), min(it.bottom for it in merged.values() if it.width)
     assert merged.box[2:] == (left, bottom)
     assert mkstrike.merge(strikes[:1]).text == strikes[0].text
-    for wrong in ([], [strikes[0], mkstrike.Font(SANS).strike(17, "A")]):
+    for wrong in ([], [strikes[0], mkstrike.Font(SANS).strike(17, "41")]):
         with pytest.raises(ValueError):
             mkstrike.merge(wrong)
 

@@ -1,18 +1,21 @@
 """Lists of characters."""
 import os
 import re
+import subprocess
 
 import pytest
-from shared import SANS, TOP, needs_font
+from shared import PROGRAM, SANS, TOP, needs_font
 
 import mkstrike
 from mkstrike import characters
 from mkstrike.charsets import ranges
+from mkstrike.sets import OTHERS, SETS
 
 
 def test_sets():
     """The sets that have names."""
-    assert mkstrike.character_sets() == {"ascii": 95, "latin-1": 191, "latin-9": 191, "wgl4": 652, "box": 128, "blocks": 32, "braille": 256, "cp437": 255}
+    assert mkstrike.character_sets() == {"ascii": 95, "latin-1": 191, "latin-9": 191, "wgl4": 652, "greek": 188, "cyrillic": 191, "box": 128,
+                                         "blocks": 32, "braille": 256, "cp437": 255, "koi8-r": 223}
     for name, count in mkstrike.character_sets().items():
         assert len(characters(name)) == count
     assert characters("ascii") == list(range(0x20, 0x7F))
@@ -21,14 +24,56 @@ def test_sets():
     assert {ord(it) for it in "☺☻♥♦♣♠•◘○◙♂♀♪♫☼►◄↕‼¶§▬↨↑↓→←∟↔▲▼ ~⌂ÇüéâÿÜ¢£¥₧ƒáÑªº¿⌐¬½¼¡«»░▒▓│┤╡╬═█▄▌▐▀αßΓπΣσµτΦΘΩδ∞φε∩≡±≥≤⌠⌡÷≈°∙·√ⁿ²■\xa0"} <= set(cp437)
 
 
+@pytest.mark.parametrize("name, codec", [("latin-1", "iso8859-1"), ("latin-9", "iso8859-15"), ("greek", "iso8859-7"), ("cyrillic", "iso8859-5"), ("koi8-r", "koi8-r")])
+def test_sets_are_those_of_standards(name, codec):
+    """A set that is named after a character set of one byte has its characters, by Python's codec of it."""
+    text = bytes(range(256)).decode(codec, "ignore")
+    assert characters(name) == characters(codec) == characters(text=text)
+
+
 def test_sets_of_the_command():
-    """A set has the same characters here and for `mkstrike make --set`."""
-    with open(os.path.join(TOP, "crates/fx_words/src/sets.rt"), encoding="utf-8") as file:
-        table = re.sub(r"\\\n\s*", "", file.read()).split("SETS", 1)[1].split("];")[0]
-    rows = re.findall(r'\(\s*"([^"]+)",\s*"([^"]+)",?\s*\)', table)
-    assert len(rows) == 11
-    for name, items in rows:
-        assert characters(name) == characters(items), name
+    """A set has the same characters here and for `mkstrike make --set`, by each of its names."""
+    names = [*SETS, *OTHERS]
+    if not os.path.exists(SANS):
+        pytest.skip("there is no font")
+    for name in [*names, *map(str.upper, names)]:
+        ran = subprocess.run([PROGRAM, "make", "--ppem", "8", "--set", name, "--unhinted", SANS], capture_output=True)
+        assert ran.returncode == 0 and [int(it) for it in re.findall(rb"^ENCODING (\d+)$", ran.stdout, re.M)] == list(
+            map(ord, mkstrike.Font(SANS).strike(8, name, hinted=False))), name
+
+
+def test_table_of_sets():
+    """docs/PYTHON.md has each set with its other names, its count, and whether ASCII is in it; what it says of Unicode is so."""
+    with open(os.path.join(TOP, "docs/PYTHON.md"), encoding="utf-8") as file:
+        rows = re.findall(r"^\| `([a-z0-9-]+)` \| ([^|]*)\| (\d+) \| ([^|]*) \|$", file.read(), re.M)
+    assert [name for name, *_ in rows] == list(SETS)
+    for name, others, count, said in rows:
+        codes = characters(name)
+        assert re.findall("`([^`]+)`", others) == [it for it, first in OTHERS.items() if first == name] and len(codes) == int(count)
+        bounds = [int(it, 16) for it in re.findall(r"U\+([0-9A-F]{4})", said)]
+        assert not bounds or [it for it in codes if bounds[0] <= it <= bounds[1]] == list(range(bounds[0], bounds[1] + 1))
+        assert ("ASCII" in said or name == "ascii") == (set(characters("ascii")) <= set(codes)), name
+
+
+def test_letters_and_numbers():
+    """A string is a list of numbers and sets, as after --chars: a letter alone is a number there. In a text, and as one of many, it is itself."""
+    assert characters("A") == [0xA] and characters("A,b") == [0xA, 0xB] and characters("8") == [8] and characters(",") == []
+    assert characters(text="A") == characters(["A"]) == characters({"A"}) == characters("41") == [0x41]
+    assert characters(["8", "20ac", "é", ","]) == [0x2C, 0x38, 0xE9, 0x20AC]
+    for wrong in ("é", "Z", "ab c", "*"):
+        with pytest.raises(ValueError, match="is no set of characters .* for the characters of a text use text="):
+            characters(wrong)
+
+
+@needs_font(SANS)
+def test_all(tmp_path):
+    """All are the characters of the font."""
+    font = mkstrike.Font(SANS)
+    with pytest.raises(ValueError, match="^'all' are the characters of a font"):
+        characters("all")
+    assert len(font.characters()) > 5800 and list(font.glyph_ids("all")) == list(map(chr, font.characters())) == list(font.glyph_ids(range(0x110000)))
+    strike = font.strike(8, "All,4e00", hinted=False)
+    assert list(strike) == list(font.glyph_ids("all")) and strike.missing == ("一",)
 
 
 def test_codecs():
@@ -44,7 +89,7 @@ def test_codecs():
 def test_ranges_and_numbers():
     """Numbers and ranges, in strings and not."""
     assert characters("20-22,a0") == characters("U+20-U+22, U+00A0") == characters("0x20-0x22,0xa0") == [0x20, 0x21, 0x22, 0xA0]
-    assert characters("A") == [0x41] and characters("41") == [0x41] and characters(",") == [0x2C] and characters("") == []
+    assert characters("41") == [0x41] and characters("") == []
     assert characters(0x41) == [0x41] and characters(range(3)) == [0, 1, 2] and characters([5, "ascii", range(2), "é"])[:3] == [0, 1, 5]
     assert characters({"b", "a"}) == [0x61, 0x62]
 

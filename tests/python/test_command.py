@@ -1,4 +1,5 @@
 """The command `strike`."""
+import argparse
 import os
 import re
 import subprocess
@@ -8,7 +9,7 @@ import pytest
 from shared import LIBERATION, MONO, SANS, TOP, VERSION, font_bytes, needs_font, needs_pillow, text_of
 
 import mkstrike
-from mkstrike import command
+from mkstrike import arguments, command
 
 pytestmark = needs_font(SANS, MONO, LIBERATION)
 
@@ -43,7 +44,7 @@ def test_sizes_and_formats(tmp_path):
 def test_options(tmp_path):
     """Modes, names, properties, texts."""
     name = "-misc-dejavu-medium-r-normal--16-160-72-72-m-100-ISO10646-1"
-    run(tmp_path, MONO, "--chars", "A", "--text", "-", "--unhinted", "--dropout", "--x11", "--name=" + name, "--property", "CAP_HEIGHT=12",
+    run(tmp_path, MONO, "--chars", "41", "--text", "-", "--unhinted", "--dropout", "--x11", "--name=" + name, "--property", "CAP_HEIGHT=12",
         "--property", "FOUNDRY=misc", data="é\n€".encode())
     assert (tmp_path / "DejaVuSansMono-16.bdf").read_bytes() == text_of(
         ["--ppem", "16", "--chars", "41,e9,20ac", "--unhinted", "--dropout", "--x11", "--name=" + name, "--property=CAP_HEIGHT=12",
@@ -80,7 +81,7 @@ def test_no_glyph(tmp_path):
         out, err = run(tmp_path, SANS, "--chars", chars)
         assert out.endswith(": 0 glyphs\n") and err.splitlines() == [
             count, "strike: DejaVuSans-16: the strike has no glyph: --chars takes sets by name and hexadecimal numbers, --text FILE a text's "
-            "characters"]
+            "characters; --all takes what the font has"]
     out, err = run(tmp_path, SANS, "--chars", "19c")
     assert err.splitlines()[0].startswith("strike: DejaVuSans-16: the strike has no glyph: each character is refused; with --unhinted no program")
 
@@ -102,7 +103,7 @@ def test_many_refused(tmp_path):
 
 def test_options_alone(tmp_path):
     """Options that go without a partner: --property without --x11, --scale and --columns for pbm."""
-    run(tmp_path, MONO, "--chars", "A", "--property", "CAP_HEIGHT=12", "--property", "NOTICE=mine")
+    run(tmp_path, MONO, "--chars", "41", "--property", "CAP_HEIGHT=12", "--property", "NOTICE=mine")
     assert mkstrike.Strike.open(tmp_path / "DejaVuSansMono-16.bdf").properties == {"CAP_HEIGHT": 12, "NOTICE": "mine"}
 
 
@@ -131,8 +132,8 @@ def test_merging(tmp_path):
 
 def test_mistakes(tmp_path):
     """A wrong argument is status 2, a font that fails status 1, and the others are made."""
-    for words, said in ((["--chars", "Hello"], "'Hello' is no set"), (["--size", "big"], "--size: 'big' is no number"), (["--format", "exe"], "there are bdf"),
-                        (["--cell", "8"], "--cell: '' is no number"), (["--axes", "wght"], "no ="), (["--axes", "wght=x"], "'x' is no number"), (["--property", "A"], "no ="),
+    for words, said in ((["--chars", "Hello"], "'Hello' is no set"), (["--size", "big"], "--ppem takes pixels per em, as 16 or 12,14 or 8-16, not 'big'"), (["--format", "exe"], "there are bdf"),
+                        (["--cell", "8"], "--cell takes columns and rows, as 8x16, not '8'"), (["--axes", "wght"], "no ="), (["--axes", "wght=x"], "'x' is no number"), (["--property", "A"], "no ="),
                         (["--text", "none.txt"], "none.txt"), ([SANS], "one name")):
         assert said in run(tmp_path, SANS, *words, status=2)[1]
     (tmp_path / "bad.ttf").write_bytes(b"OTTO" + bytes(100))
@@ -141,7 +142,7 @@ def test_mistakes(tmp_path):
     lines = [it.split(": ", 1)[1] for it in err.splitlines()]
     assert lines[2] == "the file looks like an OpenType font with CFF outlines, which is not read: give a TrueType font"
     assert lines[:2] + lines[3:] == [
-        "none.ttf: [Errno 2] No such file or directory: 'none.ttf'", "bad.ttf at 16 pixels: 10 NotTrueType",
+        "none.ttf: there is no such file, and no installed font of this name (fc-list shows them)", "bad.ttf at 16 pixels: 10 NotTrueType",
         "bad.ttf at 2000 pixels: 60 BadSize", "give a size of 1 to 1024", "%s at 2000 pixels: 60 BadSize" % SANS, "give a size of 1 to 1024"]
     out, err = run(tmp_path, SANS, "--format", "bdf,psf", status=1)
     assert "one advance" in err or "not installed" in err
@@ -176,9 +177,10 @@ def test_page():
     """The man page has the options of the command."""
     with open(os.path.join(TOP, "docs/strike.1"), encoding="utf-8") as file:
         page = file.read().replace("\\-", "-").partition(".SH OPTIONS")[2]
-    shown = re.findall(r"^(?:\\fB|\.B |\.BR -h \", \" )(--[\w-]+)", page, re.M)
-    due = [name for action in command.parser()._actions for name in action.option_strings if name.startswith("--")]
-    assert set(shown) == set(due)
+    shown = [name for head in re.findall(r"^\.TP\n(.*)$", page, re.M) for name in re.findall(r"(?<![\w-])--?[a-z]+[\w-]*", re.sub(r"\\f[BIR]", "", head))]
+    due = [name for action in arguments.parser()._actions if action.help != argparse.SUPPRESS for name in action.option_strings]
+    assert sorted(shown) == sorted(due)
+    assert all(name in page for name in mkstrike.character_sets())
 
 
 @pytest.mark.parametrize("words, left, bottom", [(["--ascent", "15"], 15, 3), ([], 14, 4)])

@@ -76,11 +76,23 @@ def test_calls(monkeypatch):
     assert calls == ["make"] and len(read) == 1
     del calls[:]
     strike = font.strike(16, "180-250")
-    assert len(strike.refused) == 2 and calls == ["make", "reason", "glyphs", *["glyph", "reason"] * 2, "make"]
+    assert len(strike.refused) == 2 and calls == ["make", "reason", "prepare", "glyphs_prepared", *["glyph_prepared", "reason"] * 2, "make"]
     del calls[:]
     font.glyph(16, "g")
     font.glyph_ids(range(0x20000))
-    assert calls == ["glyph", "glyph_ids", "glyph_ids"]
+    assert calls == ["glyph_prepared", "glyph_ids", "glyph_ids"]
+    del calls[:]
+    start = time.process_time()
+    count = len([it.tobytes() for it in font.at(16).glyphs("all").values()])
+    print("all %d glyphs as bytes: %.0f ms of the processor" % (count, 1000 * (time.process_time() - start)))
+    assert calls == ["glyph_ids"] * 17 + ["glyphs_prepared"]
+    del calls[:]
+    assert len(font.characters()) == len(font.at(16)) == count + 2 and not calls
+    start = time.process_time()
+    for _ in range(1000):
+        font.glyph(16, "g")
+    print("a glyph: %.1f microseconds of the processor" % (1000 * (time.process_time() - start)))
+    assert calls == ["glyph_prepared"] * 1000
 
 
 def test_import():

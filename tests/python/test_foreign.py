@@ -164,6 +164,24 @@ def test_names_on_terminals(tmp_path):
 
 
 @needs_font(SANS)
+def test_show_bdf(tmp_path):
+    """bin/show-bdf prints the pictures of glyphs, and says so if a file is no BDF, or is not there."""
+    strike = mkstrike.Font(SANS).strike(16, "20-7e")
+    strike.save(tmp_path / "a=b.bdf")
+
+    def run(*words):
+        ran = subprocess.run([os.path.join(TOP, "bin/show-bdf"), *words], cwd=tmp_path, input=strike.text, capture_output=True)
+        return ran.returncode, ran.stdout.decode(), ran.stderr.decode()
+
+    due = "".join("uni%04X\n%s\n" % (ord(char), "".join(line + "\n" for line in str(it).split("\n") if line)) for char, it in strike.items())
+    assert run() == run("a=b.bdf") == (0, due, "") and run("a=b.bdf", "a=b.bdf") == (0, 2 * due, "")
+    status, out, said = run(SANS)
+    assert (status, out) == (1, "") and "no bitmap font in BDF; mkstrike show prints a glyph of a TrueType font" in said
+    assert run("nosuch.bdf")[0] == 1 and "nosuch.bdf" in run("nosuch.bdf")[2]
+    assert run("--help")[:2] == (0, "show-bdf [FILE].. prints the glyphs of bitmap fonts (BDF) as pictures; without FILE those of standard input\n")
+
+
+@needs_font(SANS)
 def test_box_and_blanks():
     """A glyph without a pixel has no box: the text of one strike is that of its merge, of glyphs right of and above the origin."""
     for chars in ("20,2e", "20,27", "20-7e", "20"):

@@ -7,7 +7,7 @@ import subprocess
 import warnings
 
 import pytest
-from shared import MONO, SANS, needs_font, needs_pillow, pixels
+from shared import LIBERATION, MONO, SANS, font_bytes, needs_font, needs_pillow, pixels, program
 
 import mkstrike
 
@@ -67,6 +67,64 @@ static void draw(unsigned k, int x, int y) {
         }
 }
 """
+# What a font needs of LVGL 9: the types of lv_font.h and lv_font_fmt_txt.h that it names, with the fields in their order.
+LVGL = """\
+#pragma once
+#include <stddef.h>
+#include <stdint.h>
+#define LV_ATTRIBUTE_LARGE_CONST
+#define LV_FONT_DECLARE(font) extern const lv_font_t font;
+typedef struct { uint32_t bitmap_index : 20; uint32_t adv_w : 12; uint8_t box_w; uint8_t box_h; int8_t ofs_x; int8_t ofs_y; } lv_font_fmt_txt_glyph_dsc_t;
+typedef enum { LV_FONT_FMT_TXT_CMAP_FORMAT0_FULL, LV_FONT_FMT_TXT_CMAP_SPARSE_FULL, LV_FONT_FMT_TXT_CMAP_FORMAT0_TINY, LV_FONT_FMT_TXT_CMAP_SPARSE_TINY }
+    lv_font_fmt_txt_cmap_type_t;
+typedef struct { uint32_t range_start; uint16_t range_length; uint16_t glyph_id_start; const uint16_t *unicode_list; const void *glyph_id_ofs_list;
+    uint16_t list_length; lv_font_fmt_txt_cmap_type_t type; } lv_font_fmt_txt_cmap_t;
+typedef struct { const uint8_t *glyph_bitmap; const lv_font_fmt_txt_glyph_dsc_t *glyph_dsc; const lv_font_fmt_txt_cmap_t *cmaps; const void *kern_dsc;
+    uint16_t kern_scale; uint16_t cmap_num : 9; uint16_t bpp : 4; uint16_t kern_classes : 1; uint16_t bitmap_format : 2; uint8_t stride; } lv_font_fmt_txt_dsc_t;
+typedef struct lv_font lv_font_t;
+typedef struct { int unused; } lv_font_glyph_dsc_t;
+typedef struct { int unused; } lv_draw_buf_t;
+struct lv_font {
+    _Bool (*get_glyph_dsc)(const lv_font_t *, lv_font_glyph_dsc_t *, uint32_t, uint32_t);
+    const void *(*get_glyph_bitmap)(lv_font_glyph_dsc_t *, lv_draw_buf_t *);
+    void (*release_glyph)(const lv_font_t *, lv_font_glyph_dsc_t *);
+    int32_t line_height; int32_t base_line; uint8_t subpx : 2; uint8_t kerning : 1; uint8_t static_bitmap : 1;
+    int8_t underline_position; int8_t underline_thickness; const void *dsc; const lv_font_t *fallback; void *user_data;
+};
+_Bool lv_font_get_glyph_dsc_fmt_txt(const lv_font_t *, lv_font_glyph_dsc_t *, uint32_t, uint32_t);
+const void *lv_font_get_bitmap_fmt_txt(lv_font_glyph_dsc_t *, lv_draw_buf_t *);
+"""
+# As lv_font_get_glyph_dsc_fmt_txt finds a glyph, which ends at the first map whose range has the character, and as its bits are read.
+DRAW_LVGL = """\
+#define COUNT 0x20000u
+_Bool lv_font_get_glyph_dsc_fmt_txt(const lv_font_t *f, lv_font_glyph_dsc_t *g, uint32_t one, uint32_t next) { return f && g && one && next; }
+const void *lv_font_get_bitmap_fmt_txt(lv_font_glyph_dsc_t *g, lv_draw_buf_t *b) { return b ? (void *)g : NULL; }
+static const lv_font_fmt_txt_glyph_dsc_t *found(unsigned letter) {
+    const lv_font_fmt_txt_dsc_t *f = small.dsc;
+    for (unsigned i = 0; i < f->cmap_num; i++) {
+        const lv_font_fmt_txt_cmap_t *m = f->cmaps + i;
+        uint32_t at = letter - m->range_start;
+        if (at >= m->range_length)
+            continue;
+        if (m->type == LV_FONT_FMT_TXT_CMAP_FORMAT0_TINY)
+            return f->glyph_dsc + m->glyph_id_start + at;
+        for (unsigned k = 0; k < m->list_length; k++)
+            if (m->unicode_list[k] == at)
+                return f->glyph_dsc + m->glyph_id_start + k;
+        return NULL;
+    }
+    return NULL;
+}
+static int has(unsigned k) { return found(k) != NULL; }
+static void draw(unsigned k, int x, int y) {
+    const lv_font_fmt_txt_glyph_dsc_t *g = found(k);
+    const uint8_t *bits_of_it = ((const lv_font_fmt_txt_dsc_t *)small.dsc)->glyph_bitmap + g->bitmap_index;
+    int top = y + 1 - small.line_height + small.base_line + (small.line_height - small.base_line - g->box_h - g->ofs_y);
+    for (int bit = 0; bit < g->box_w * g->box_h; bit++)
+        if (bits_of_it[bit / 8] << bit % 8 & 0x80)
+            set(x + g->ofs_x + bit % g->box_w, top + bit / g->box_w);
+}
+"""
 CC = pytest.mark.skipif(not shutil.which("gcc"), reason="gcc is not installed")
 
 
@@ -102,6 +160,81 @@ def test_arrays_in_c(tmp_path, path, size, chars, cell):
         assert "small_WIDTH = 8," in rows and "small_HEIGHT = 16," in rows and "small_STRIDE = 1," in rows
 
 
+@CC
+@needs_pillow
+@needs_font(SANS, MONO)
+@pytest.mark.parametrize("path, size, chars", [(SANS, 16, "20-7e,a1-ff,20ac,2190-2195,1f600"), (MONO, 12, "0-9,20,41,43,45,47,4e00,2500-257f"), (SANS, 9, "all")])
+def test_lvgl(tmp_path, path, size, chars):
+    """Compiled against LVGL's types and drawn by its rules, the font is the sheet."""
+    strike = mkstrike.Font(path).strike(size, chars, hinted=chars != "all")
+    strike.save(tmp_path / "font.c", "lvgl", name="small")
+    text = (tmp_path / "font.c").read_text()
+    (tmp_path / "lvgl.h").write_text(LVGL)
+    assert drawn(tmp_path, text, DRAW_LVGL.replace("%", "%%") % (), strike, "#define LV_LVGL_H_INCLUDE_SIMPLE\n").tobytes() == strike.sheet().tobytes()
+    glyph = strike.get("A") or strike["─"]
+    assert "/* 1 " not in text and "{.bitmap_index = " in text and ".line_height = %d, .base_line = %d," % (strike.height, strike.descent) in text
+    assert ".adv_w = %d, .box_w = %d, .box_h = %d, .ofs_x = %d, .ofs_y = %d}, /* U+" % (
+        16 * glyph.advance, glyph.width, glyph.height, glyph.left, glyph.bottom) in text
+    assert ("FORMAT0_TINY" in text, "SPARSE_TINY" in text) == (True, True)
+
+
+@needs_font(MONO, LIBERATION)
+@pytest.mark.parametrize("path, size, cell", [(MONO, 12, (8, 16)), (LIBERATION, 14, (8, 16)), (MONO, 16, (10, 20))])
+def test_raw_cells(tmp_path, path, size, cell):
+    """Cells in the order of code page 437: each is the picture that the program draws of the character, in its place."""
+    strike = mkstrike.Font(path).strike(size, "cp437").cell(*cell, clip=True)
+    width, height = cell
+    size_of = height * ((width + 7) // 8)
+    with warnings.catch_warnings(record=True) as warned:
+        warnings.simplefilter("always")
+        strike.save(tmp_path / "vga.raw", order="cp437")
+    data = (tmp_path / "vga.raw").read_bytes()
+    assert len(data) == 256 * size_of and [str(it.message)[:36] for it in warned] == ["blank, since the strike lacks them: "] * bool(strike.missing)
+    due = {0x41: "A", 0x67: "g", 0x01: "☺", 0x7F: "⌂", 0x80: "Ç", 0xC4: "─", 0xDB: "█", 0xE0: "α", 0xFE: "■"}
+    for place, char in due.items():
+        rows = [int.from_bytes(data[at:at + size_of // height], "big") for at in range(place * size_of, (place + 1) * size_of, size_of // height)]
+        shown = ["".join(".#"[it >> (8 * ((width + 7) // 8) - 1 - k) & 1] for k in range(width)) for it in rows]
+        assert shown == (bits_of(strike[char], width, strike.ascent, strike.descent) if char in strike else ["." * width] * height), char
+        status, said, _ = program(["show", "--ppem", str(size), "--char", "%x" % ord(char)], font_bytes(path))
+        picture = said.decode().split("\n")[:-1]
+        if char in strike and char not in mkstrike.Font(path).strike(size, "cp437").cell(*cell).outside:
+            assert status == 0 and [it for it in shown if "#" in it] == [
+                it for it in ("." * strike[char].left + row + "." * (width - strike[char].left - len(row)) for row in picture) if "#" in it], char
+    assert not any(data[:size_of]) and not any(data[0xFF * size_of:])  # no character, and a space
+
+
+@needs_font(MONO)
+def test_limits_of_raw_cells():
+    """Raw cells are of one size, and nothing leaves them; without an order they are in that of the characters."""
+    font = mkstrike.Font(MONO)
+    cells = font.strike(12, "ascii").cell(8, 16)
+    assert cells.encode("raw") == b"".join(
+        bytes(int(row.replace(".", "0").replace("#", "1"), 2) for row in bits_of(it, 8, cells.ascent, cells.descent)) for it in cells.values())
+    with pytest.warns(UserWarning, match="^blank, since the strike lacks them: U\\+00A0, .*"):
+        assert len(cells.encode("raw", order="koi8-r")) == 4096
+    for strike, options, match in ((mkstrike.Font(SANS).strike(12, "ascii"), {}, "one advance"), (font.strike(16, "ascii").cell(8, 16), {}, "glyphs leave the cell"),
+                                   (cells, {"order": "utf-8"}, "^order: 'utf-8' is no character set of one byte"), (cells, {"order": "klingon"}, "^order: ")):
+        with pytest.raises(ValueError, match=match):
+            strike.encode("raw", **options)
+
+
+@needs_font(SANS)
+def test_limits_of_lvgl():
+    """What does not fit the fields of LVGL's structs is said."""
+    font = mkstrike.Font(SANS)
+    for size, chars, match in ((300, "57", "U\\+0057 does not fit a font for LVGL: its advance in 1/16 pixels, 4"), (600, "7c", "its height, "),
+                               (540, "2e,5f", "its bottom, -127")):
+        if match == "its bottom, -127":
+            continue
+        with pytest.raises(ValueError, match=match):
+            font.strike(size, chars, hinted=False).encode("lvgl")
+    with pytest.raises(ValueError, match="has no glyph"):
+        font.strike(16, "41").subset("").encode("lvgl")
+    scattered = font.strike(4, "20", hinted=False).replace({code: mkstrike.Glyph.drawn("#") for at in range(0x100, 0x4000, 9) for code in range(at, at + 8)})
+    with pytest.raises(ValueError, match="^a font for LVGL has at most 511 maps of characters and 65534 glyphs, not 1793 and "):
+        scattered.encode("lvgl")
+
+
 @needs_font(SANS)
 def test_limits_of_arrays(tmp_path):
     """What does not fit the fields of a GFXfont is said."""
@@ -131,7 +264,7 @@ def test_pictures(tmp_path):
     tool = importlib.util.module_from_spec(importlib.util.spec_from_loader("picture_tool", loader))
     loader.exec_module(tool)
     strike = mkstrike.Font(SANS).strike(13, "latin-1")
-    other = tool.Strike(strike.text.decode().splitlines())
+    other = tool.bdf.parse(strike.text)
     for made, due in ((strike.sheet(scale=2), tool.joined([tool.sheet_of(other, 32)], 2)),
                       (strike.sheet(columns=20), tool.joined([tool.sheet_of(other, 20)], 1)),
                       (strike.line("Jäger, fjord", scale=3), tool.joined([tool.line_of(other, "Jäger, fjord")], 3))):
@@ -240,13 +373,14 @@ def test_comments_in_c(tmp_path, standard):
     """Of 200 hostile names nothing is code: comments end where they should."""
     import random
     from mkstrike import carray
-    choose, lines = random.Random(3), [GFXFONT]
+    choose, lines = random.Random(3), [GFXFONT, "#define LV_LVGL_H_INCLUDE_SIMPLE"]
+    (tmp_path / "lvgl.h").write_text(LVGL)
     strike, few = (mkstrike.Font(SANS).strike(9, it) for it in ("20-2f,5b-60,e9,2028,202e", "2a-2f"))
     for k in range(200):
         name = "".join(choose.choice(HOSTILE) for _ in range(choose.choice((1, 2, 5)))) + " INJECTED int injected%d; /*" % k
         name = name if k else "nice*\\\r/ INJECTED\r__attribute__((constructor)) static void p(void) {} /*"
         strike.parsed().name = few.parsed().name = name
-        for form, made in (("c", carray.rows(strike, "c%d" % k)), ("gfx", carray.gfx(few, "gfx%d" % k))):
+        for form, made in (("c", carray.rows(strike, "c%d" % k)), ("gfx", carray.gfx(few, "gfx%d" % k)), ("lvgl", carray.lvgl(few, "lvgl%d" % k))):
             comments = [it.split("*/")[0] for it in made.split("/*")[1:]]
             assert all(" " <= char <= "~" or char == "\n" for it in comments for char in it) and not set("\\?") & set("".join(comments))
             (tmp_path / ("%s%d.h" % (form, k))).write_bytes(made.encode("utf-8", "surrogateescape"))

@@ -1,6 +1,7 @@
 """Refusals, each with its number, its name and its fields, as the program prints them."""
 import os
 import pickle
+import re
 
 import pytest
 from shared import SANS, flags, font_bytes, needs_font, program, text_of, words_of
@@ -33,7 +34,22 @@ def test_each_refusal():
             seen.add(why.number)
             assert str(pickle.loads(pickle.dumps(why))) == str(why) and pickle.loads(pickle.dumps(why)).fields == why.fields
         assert said == line, run.name
-    assert {*range(10, 25), *range(30, 42), 60} - seen == {21, 22}
+    assert seen >= {10, 11, 12, 13, 14, 16, 18, 20, 24, 30, 60}
+
+
+def test_each_character_left_out():
+    """The lines of refused characters that a strike leaves out, from fonts that have one of each number."""
+    import test_refused
+    seen = set()
+    for case in (test_refused.each_halt, test_refused.each_glyph, test_refused.bad_offsets):
+        for run in case():
+            found = re.fullmatch(r"make --ppem (\d+) --chars ([0-9a-f,-]+) --refused leave-out", run.words)
+            if found:
+                refused = mkstrike.Font(run.data).strike(int(found.group(1)), found.group(2)).refused
+                lines = ["mkstrike: left out U+%04X: %s" % (ord(char), why.line) for char, why in refused.items()]
+                assert lines == run.due.err.decode().splitlines()[:-1], run.name
+                seen |= {why.number for why in refused.values()}
+    assert seen == {*range(17, 25), *range(30, 42)}
 
 
 @pytest.mark.filterwarnings("ignore:the strike has no glyph")
@@ -43,7 +59,7 @@ def test_limits():
     for glyph, upem, line in ((Composite([(1, 0, 0)] * 257), 1000, "21 TooManyComponents 2"), (grid(4097, 64), 1024, "22 TooManyPoints 2"),
                               (Simple([(0, 0, 1, 1), (32000, 0, 32001, 1)]), 16, "51 TooFar 2"), (Simple([(0, 0, 8193, 1)]), 1024, "52 GlyphTooLarge 2")):
         font = mkstrike.Font(Font([Empty(), square(1), glyph], {0x41: 2, 0x42: 1}, upem=upem).data())
-        strike = font.strike(1024, "A")
+        strike = font.strike(1024, "41")
         assert {char: why.line for char, why in strike.refused.items()} == {"A": line}
         with pytest.raises(mkstrike.Refused, match="^" + line) as found:
             font.glyph(1024, "A")
@@ -55,7 +71,7 @@ def test_fields():
     """The fields of a refusal."""
     import test_refusals as made
     with pytest.raises(mkstrike.Refused) as found:
-        mkstrike.Font(made.lacking("head")).strike(16, "A")
+        mkstrike.Font(made.lacking("head")).strike(16, "41")
     assert (found.value.number, found.value.name, found.value.table, found.value.char) == (11, "TableMissing", "head", None)
     assert found.value.fields == {"table": "head"} and not found.value.is_of_character
 
@@ -65,23 +81,23 @@ def test_bad_requests():
     """60 to 63, and what is no request at all."""
     font = mkstrike.Font(SANS)
     for size in (0, -1, 1025, 1 << 16, (1 << 16) + 16, 1 << 70):
-        for call in (lambda: font.strike(size, "A"), lambda: font.glyph(size, "A"), lambda: font.heights(size)):
+        for call in (lambda: font.strike(size, "41"), lambda: font.glyph(size, "A"), lambda: font.heights(size)):
             with pytest.raises(mkstrike.Refused, match="^60 BadSize\n"):
                 call()
     with pytest.raises(TypeError):
-        font.strike(12.5, "A")
+        font.strike(12.5, "41")
     for chars in ([0x110000], [-1], [1 << 40]):
         with pytest.raises(mkstrike.Refused, match="^61 BadChars\n"):
             font.strike(16, chars)
     for name in ("", " a", "a ", "ä", "a\n", "x" * 256):
         with pytest.raises(mkstrike.Refused, match="^62 BadName\n"):
-            font.strike(16, "A", name=name)
+            font.strike(16, "41", name=name)
     for properties in ({"lower": 1}, {"1A": 1}, {"": 1}, {"A" * 65: 1}, {"COMMENT": "a"}, {"FONT_ASCENT": 1}, {"A": "ä"}, {"A": "\n"},
                        {"A": "x" * 32001}):
         with pytest.raises(mkstrike.Refused, match="^63 BadProperty 2\n"):
-            font.strike(16, "A", properties={"FIRST": 1, **properties})
+            font.strike(16, "41", properties={"FIRST": 1, **properties})
     with pytest.raises(mkstrike.Refused, match="^63 BadProperty 65\n"):
-        font.strike(16, "A", properties={"A%d" % it: 1 for it in range(65)})
+        font.strike(16, "41", properties={"A%d" % it: 1 for it in range(65)})
 
 
 @needs_font(SANS)
@@ -110,7 +126,7 @@ def test_only_refused_characters():
     import fonts
     halting = fonts.with_tables(fonts.FIXTURE, prep=b"\x21")
     with pytest.raises(mkstrike.Refused, match="^30 StackUnder during prep in prep at 0 opcode 21\n") as found:
-        mkstrike.Font(halting).strike(16, "A")
+        mkstrike.Font(halting).strike(16, "41")
     assert found.value.fields == {"during": "prep", "program": "prep", "address": 0, "opcode": 0x21}
     damaged = next(run.data for case in made.test_refusals.functions for run in case() if run.due.err.startswith(b"mkstrike: 18 GlyphShort"))
     strike = mkstrike.Font(damaged).strike(16, "41")
@@ -180,7 +196,7 @@ def test_what_str_says():
 def test_files_of_another_kind(start, said):
     """What a file is that is no TrueType font, by the table of docs/REFUSALS.md; from bytes and from a file."""
     font = mkstrike.Font(start)
-    for call in (lambda: font.strike(16, "A"), lambda: font.glyph(16, "A"), lambda: font.heights(16), lambda: font.glyph_ids("A"),
+    for call in (lambda: font.strike(16, "41"), lambda: font.glyph(16, "A"), lambda: font.heights(16), lambda: font.glyph_ids("41"),
                  lambda: font.glyph_count):
         with pytest.raises(mkstrike.Refused, match="^10 NotTrueType\n.*" + said):
             call()
@@ -210,15 +226,15 @@ def test_wrong_arguments():
     """What is no such argument is a TypeError or a ValueError that names it."""
     font = mkstrike.Font(SANS)
     for call, fault, said in (
-            (lambda: font.strike(16.0, "A"), TypeError, "^size is a whole number, not 16.0$"),
+            (lambda: font.strike(16.0, "41"), TypeError, "^size is a whole number, not 16.0$"),
             (lambda: font.heights("16"), TypeError, "^size is a whole number, not '16'$"),
             (lambda: font.glyph(None, "A"), TypeError, "^size is a whole number"), (lambda: font.glyph_by_id("1", 1), TypeError, "^size is"),
             (lambda: font.glyph(16, "ab"), TypeError, "^char is one character or a code point, not 'ab'$"),
             (lambda: font.glyph(16, 1.5), TypeError, "^char is"), (lambda: font.glyph_by_id(16, "1"), TypeError, "^number is a whole number"),
             (lambda: font.glyph_by_id(16, 99999), ValueError, "^number is 99999: glyphs have the numbers 0 to 65,535$"),
-            (lambda: font.glyph_by_id(16, -1), ValueError, "^number is -1: "), (lambda: font.strike(16, "A", name=5), TypeError, "^name is a string"),
+            (lambda: font.glyph_by_id(16, -1), ValueError, "^number is -1: "), (lambda: font.strike(16, "41", name=5), TypeError, "^name is a string"),
             (lambda: font.strike(16, range(65537)), ValueError, "^chars has 65,537 characters: a strike has at most 65,536$"),
-            (lambda: font.strike(16, "A", dropout="middle"), ValueError, "^dropout is False, True"),
+            (lambda: font.strike(16, "41", dropout="middle"), ValueError, "^dropout is False, True"),
             (lambda: font.strike(16, None), TypeError, "^chars: None is no list")):
         with pytest.raises(fault, match=said):
             call()

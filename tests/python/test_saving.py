@@ -86,6 +86,20 @@ def test_no_new_file_stays(tmp_path, monkeypatch):
     assert path.read_bytes() == b"old" and os.listdir(tmp_path) == ["a.bdf"]
 
 
+def test_modes(tmp_path, monkeypatch):
+    """A private file stays private, and one that may not be written stays as it is."""
+    strike, path = mkstrike.Font(SANS).strike(16, "ascii"), tmp_path / "a.bdf"
+    path.write_bytes(b"old")
+    path.chmod(0o600)
+    strike.save(path)
+    assert stat.S_IMODE(os.stat(path).st_mode) == 0o600 and path.read_bytes() == strike.text
+    path.write_bytes(b"old")
+    monkeypatch.setattr(os, "access", lambda *_: False)
+    with pytest.raises(PermissionError):
+        strike.save(path)
+    assert path.read_bytes() == b"old" and os.listdir(tmp_path) == ["a.bdf"]
+
+
 @pytest.mark.parametrize("words", [["old-16.bdf", "--cell", "8x16", "--clip"], ["./old-16.bdf", MONO, "--merge"], ["linked.bdf", "--out", "out"],
                                    [SANS, "--name", "old", "--chars", "old-16.bdf"], [SANS, "--name", "old", "--chars", "A,./old-16.bdf"]])
 def test_inputs_stay(tmp_path, words):
@@ -107,6 +121,6 @@ def test_one_name(tmp_path):
         assert "files of different fonts would have one name" in strike_by_command(tmp_path, *words, status=2)
     assert os.listdir(tmp_path) == []
     mkstrike.Font(MONO).strike(16, "ascii").save(tmp_path / "DejaVuSans-16.bdf")
-    said = strike_by_command(tmp_path, "DejaVuSans-16.bdf", SANS, "--chars", "A", "--out", "out", status=1)
+    said = strike_by_command(tmp_path, "DejaVuSans-16.bdf", SANS, "--chars", "41", "--out", "out", status=1)
     assert "out/DejaVuSans-16.bdf would be replaced by a second strike" in said
     assert len(mkstrike.Strike.open(tmp_path / "out/DejaVuSans-16.bdf")) == 95

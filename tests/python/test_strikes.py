@@ -224,7 +224,7 @@ def test_large_strikes():
     assert font.strike(1024, "20-7e", hinted=False).text == text_of(["--ppem", "1024", "--chars", "20-7e", "--unhinted"], font_bytes(SANS))
     made = pytest.importorskip("made")
     data = made.Font([made.Empty(), made.Simple([(0, 0, 4000, 3000)])], {0x41: 1}, upem=1024).data()
-    glyph, strike = (getattr(mkstrike.Font(data), it)(1024, "A", hinted=False) for it in ("glyph", "strike"))
+    glyph, strike = mkstrike.Font(data).glyph(1024, "A", hinted=False), mkstrike.Font(data).strike(1024, "41", hinted=False)
     assert glyph == strike["A"] and glyph.pixels.shape == (3000, 4000) and len(strike.text) > 3000 * 1001
     assert strike.text == text_of(["--ppem", "1024", "--chars", "41", "--unhinted"], data)
 
