@@ -184,20 +184,11 @@ def lines(contours, size):
 
 
 def way_of(contour):
-    """A contour as the words of an SVG path, from a point on the curve or a middle of two that are off it."""
-    full = []
-    for (x, y, on), (nx, ny, next_on) in zip(contour, contour[1:] + contour[:1]):
-        full.append((x, -y, on))
-        if not on and not next_on:
-            full.append(((x + nx) / 2, -(y + ny) / 2, 1))
-    start = next((k for k, place in enumerate(full) if place[2]), 0)
-    full = full[start:] + full[:start + 1]
-    words = ["M%g %g" % full[0][:2]]
-    for k, (x, y, on) in enumerate(full[1:], 1):
-        if not on:
-            words.append("Q%g %g" % (x, y))
-        else:
-            words.append(("%g %g" if not full[k - 1][2] else "L%g %g") % (x, y))
+    """A contour as the words of an SVG path."""
+    pieces = paths.pieces(contour)
+    words = ["M%g %g" % (pieces[0][0], -pieces[0][1])]
+    for _, _, *numbers in pieces:
+        words.append(("L" if len(numbers) == 2 else "Q") + " ".join("%g" % (-v if k % 2 else v) for k, v in enumerate(numbers)))
     return " ".join(words)
 
 

@@ -6,14 +6,15 @@
  *   - each entry of many characters is what a call for it alone gives; boxes are tight, the bits that fill up a row are 0; by the number of
  *     its glyph a character gives the same;
  *   - the outline of a glyph is whole, fits the glyph's advance, and is refused as the glyph is;
- *   - by a block each character is the same, alone, in one call and by its glyph's number, also when memory is refused; and whatever words
- *     are given as a block, no call goes wrong;
+ *   - by a block each character is the same, alone, in one call and by its glyph's number, also when memory is refused; a block of
+ *     another font, face, size or mode, and one that is cut, is refused; and whatever words are given as a block, no call goes wrong;
  *   - what a refused call must leave is as it was, and nothing is written beside a buffer;
  *   - one request for memory, another one each time, is refused: the answer is 90, or the same;
  *   - all memory is given back.
  *
  * Each call of the header is made, in all modes. tools/fuzz_c builds and runs it. The archive has no marks of coverage, so statuses,
- * tables, opcodes and counts are the features. */
+ * tables, opcodes and counts are the features. With -DALONE it needs no libFuzzer: it looks at the inputs of the files that are named, and
+ * refuses each request for memory in turn (tests/c). */
 #define _GNU_SOURCE
 #include "mkstrike.h"
 #include <stdio.h>
@@ -43,6 +44,19 @@ static uint32_t draw(uint32_t below) {
     state ^= state >> 17;
     state ^= state << 5;
     return below ? state % below : 0;
+}
+
+/* The first and the last request for memory to refuse, of so many. */
+static long first_refused, last_refused;
+
+static int some_refused(long count) {
+#ifdef ALONE
+    first_refused = 1;
+    last_refused = count;
+#else
+    first_refused = last_refused = count > 0 ? 1 + (long)draw((uint32_t)count) : 0;
+#endif
+    return count > 0;
 }
 
 /* ---- blocks between pages that can't be touched */
@@ -223,10 +237,10 @@ static void strike(const struct asked *a, const struct mkstrike_font_info *info,
     struct block none = block_of(0, 1, at_front), whole;
     struct mkstrike_told told, again;
     uint32_t status, second;
-    long count;
+    long n;
     memset(&told, FILL, sizeof told);
     status = make(a, &none, &told, 0);
-    count = requests;
+    n = requests;
     if (status != 0) look(is_filled((uint8_t *)&told, sizeof told), "a refusal changed what is told");
     again = told;
     if (status == 0) {
@@ -242,11 +256,15 @@ static void strike(const struct asked *a, const struct mkstrike_font_info *info,
         feature(0x10000 + (uint32_t)__builtin_clzll(told.steps + 1) * 64 + (uint32_t)__builtin_clzll(told.bytes));
         free_block(&whole);
     }
-    if (count > 0) {
-        second = make(a, &none, &again, 1 + (long)draw((uint32_t)count));
-        look(second == MKSTRIKE_OUT_OF_MEMORY || second == status, "another answer to refused memory");
-        look(memcmp(&told, &again, sizeof told) == 0, "refused memory changed what is told");
-    }
+    if (some_refused(n))
+        for (n = first_refused; n <= last_refused; n++) {
+            whole = block_of(99, 1, 0);
+            second = make(a, &whole, &again, n);
+            look(second == MKSTRIKE_OUT_OF_MEMORY || second == status, "another answer to refused memory");
+            look(memcmp(&told, &again, sizeof told) == 0, "refused memory changed what is told");
+            look(second == 0 || is_filled(whole.at, whole.len), "refused memory changed a text");
+            free_block(&whole);
+        }
     free_block(&none);
 }
 
@@ -278,10 +296,10 @@ static void alone(const struct asked *a, uint32_t code, const struct mkstrike_pl
     size_t size = (size_t)entry->glyph.stride * entry->glyph.height, room = size - (size > 0 && draw(4) == 0);
     struct block out = block_of(room, 1, (int)draw(2));
     uint16_t id = 0;
-    long count;
+    long n;
     memset(&g, FILL, sizeof g);
     look(glyph(a, code, &out, &g, 0) == entry->status, "another status alone");
-    count = requests;
+    n = requests;
     if (entry->status == 0) {
         look(memcmp(&g, &entry->glyph, sizeof g) == 0, "other numbers alone");
         if (room == size) look(memcmp(out.at, pixels, size) == 0, "other pixels alone");
@@ -292,10 +310,14 @@ static void alone(const struct asked *a, uint32_t code, const struct mkstrike_pl
     } else {
         look(is_filled((uint8_t *)&g, sizeof g) && is_filled(out.at, room), "a buffer changed, and no glyph");
     }
-    if (count > 0) {
-        uint32_t status = glyph(a, code, &out, &g, 1 + (long)draw((uint32_t)count));
-        look(status == MKSTRIKE_OUT_OF_MEMORY || status == entry->status, "another answer to refused memory");
-    }
+    if (some_refused(n))
+        for (n = first_refused; n <= last_refused; n++) {
+            uint32_t status;
+            memset(out.at, FILL, room);
+            status = glyph(a, code, &out, &g, n);
+            look(status == MKSTRIKE_OUT_OF_MEMORY || status == entry->status, "another answer to refused memory");
+            look(status == 0 || is_filled(out.at, room), "refused memory changed pixels");
+        }
     free_block(&out);
 }
 
@@ -321,10 +343,10 @@ static void many(const struct asked *a) {
     struct mkstrike_drawn drawn, again;
     struct mkstrike_refused first;
     uint32_t status, second;
-    long count;
+    long n;
     memset(&drawn, 0, sizeof drawn);
     status = glyphs(a, &none, &none, &drawn, 0);
-    count = requests;
+    n = requests;
     first = why;
     if (status == 0) {
         uint32_t few = draw(a->chars_len + 1);
@@ -347,11 +369,17 @@ static void many(const struct asked *a) {
         free_block(&entries);
         free_block(&pixels);
     }
-    if (count > 0) {
-        memset(&again, 0, sizeof again);
-        second = glyphs(a, &none, &none, &again, 1 + (long)draw((uint32_t)count));
-        look(second == MKSTRIKE_OUT_OF_MEMORY || second == status, "another answer to refused memory");
-    }
+    if (some_refused(n))
+        for (n = first_refused; n <= last_refused; n++) {
+            entries = block_of(a->chars_len * sizeof(struct mkstrike_placed), 8, 0);
+            pixels = block_of(99, 1, 0);
+            memset(&again, 0, sizeof again);
+            second = glyphs(a, &entries, &pixels, &again, n);
+            look(second == MKSTRIKE_OUT_OF_MEMORY || second == status, "another answer to refused memory");
+            look(second == 0 || (is_filled(entries.at, entries.len) && is_filled(pixels.at, pixels.len)), "refused memory changed a buffer");
+            free_block(&entries);
+            free_block(&pixels);
+        }
     free_block(&none);
 }
 
@@ -396,11 +424,11 @@ static void outline(const struct asked *a, uint32_t id) {
     struct mkstrike_glyph_info info;
     struct mkstrike_refused of_outline;
     uint32_t status, drawn;
-    long count;
+    long n;
     memset(&told, FILL, sizeof told);
     status = outlined(a, id, &none, &none, &told, 0);
     of_outline = why;
-    count = requests;
+    n = requests;
     begin(0);
     drawn = mkstrike_glyph_by_id(a->font, a->font_len, a->face, a->ppem, a->mode, id, NULL, 0, &info, &why);
     drawn = ended(drawn, drawn != 0);
@@ -412,11 +440,13 @@ static void outline(const struct asked *a, uint32_t id) {
         if (drawn == 0) look(llabs(64 * (long long)info.dwidth - told.advance) <= 32, "another advance of an outline");
         look_at_outline(a, id, &told);
     }
-    if (count > 0) {
-        memset(&told, FILL, sizeof told);
-        drawn = outlined(a, id, &none, &none, &told, 1 + (long)draw((uint32_t)count));
-        look(drawn == MKSTRIKE_OUT_OF_MEMORY || drawn == status, "another answer to refused memory");
-    }
+    if (some_refused(n))
+        for (n = first_refused; n <= last_refused; n++) {
+            memset(&told, FILL, sizeof told);
+            drawn = outlined(a, id, &none, &none, &told, n);
+            look(drawn == MKSTRIKE_OUT_OF_MEMORY || drawn == status, "another answer to refused memory");
+            look(drawn == 0 || is_filled((uint8_t *)&told, sizeof told), "refused memory changed what is told");
+        }
     free_block(&none);
 }
 
@@ -444,7 +474,7 @@ static void same_by_block(const struct asked *a, const struct block *words, uint
     struct block pixels = block_of(4096, 1, (int)draw(2)), others = block_of(4096, 1, (int)draw(2));
     struct mkstrike_refused refused;
     uint32_t status;
-    long count;
+    long n;
     memset(&due, FILL, sizeof due);
     memset(&found, FILL, sizeof found);
     status = glyph(a, code, &pixels, &due, 0);
@@ -452,11 +482,11 @@ static void same_by_block(const struct asked *a, const struct block *words, uint
     look(by_block(a, words, code, &others, &found, 0) == status, "another status by a block");
     look(memcmp(&why, &refused, sizeof why) == 0, "another refusal by a block");
     look(memcmp(&due, &found, sizeof due) == 0 && memcmp(pixels.at, others.at, 4096) == 0, "another glyph by a block");
-    count = requests;
-    if (count > 0) {
-        uint32_t again = by_block(a, words, code, &others, &found, 1 + (long)draw((uint32_t)count));
-        look(again == MKSTRIKE_OUT_OF_MEMORY || again == status, "another answer to refused memory by a block");
-    }
+    if (some_refused(requests))
+        for (n = first_refused; n <= last_refused; n++) {
+            uint32_t again = by_block(a, words, code, &others, &found, n);
+            look(again == MKSTRIKE_OUT_OF_MEMORY || again == status, "another answer to refused memory by a block");
+        }
     free_block(&pixels);
     free_block(&others);
 }
@@ -526,24 +556,78 @@ static void changed_block(const struct asked *a, struct block *words, uint32_t c
     free_block(&pixels);
 }
 
+/* A block is refused by the calls for one character, for many and for a glyph's number, and nothing is changed. */
+static void refused_block(const struct asked *a, const struct block *words, size_t count, const char *what) {
+    struct mkstrike_glyph_info info;
+    struct mkstrike_placed placed;
+    struct mkstrike_drawn drawn;
+    struct block pixels = block_of(99, 1, (int)draw(2)), cut = *words;
+    const uint32_t code = 0x41, *block = (const uint32_t *)(const void *)words->at, mode = a->mode | a->packed;
+    memset(&info, FILL, sizeof info);
+    cut.len = count * 4;
+    look(by_block(a, &cut, code, &pixels, &info, 0) == MKSTRIKE_BAD_BLOCK, what);
+    look(why.glyph == MKSTRIKE_NONE && why.code == MKSTRIKE_NONE, "fields of a refused block");
+    look(is_filled((uint8_t *)&info, sizeof info) && is_filled(pixels.at, pixels.len), "a refused block changed a buffer");
+    look(mkstrike_glyphs_prepared(a->font, a->font_len, a->face, a->ppem, mode, block, count, &code, 1, &placed, 1, NULL, 0, &drawn, NULL)
+            == MKSTRIKE_BAD_BLOCK, what);
+    look(mkstrike_glyph_by_id_prepared(a->font, a->font_len, a->face, a->ppem, mode, block, count, 3, NULL, 0, NULL, NULL) == MKSTRIKE_BAD_BLOCK, what);
+    free_block(&pixels);
+}
+
+/* Blocks that are not the font's at this size, or not whole: each is refused, and so is one of whose first words one is another. */
+static void other_blocks(const struct asked *a, struct block *words) {
+    struct asked other = *a;
+    size_t count = words->len / 4, told = count < 11 ? count : 11, k;
+    uint32_t *at = (uint32_t *)(void *)words->at;
+    struct block font = block_of(a->font_len + 1, 1, 1);
+    for (k = 0; k < count; k += 1 + draw((uint32_t)count)) refused_block(a, words, k, "a block that is cut was taken");
+    other.ppem = (uint16_t)(a->ppem == 1024 ? 7 : a->ppem + 1);
+    refused_block(&other, words, count, "a block of another size was taken");
+    other = *a;
+    other.face = a->face + 1;
+    refused_block(&other, words, count, "a block of another face was taken");
+    other = *a;
+    other.mode ^= MKSTRIKE_HINTED;
+    refused_block(&other, words, count, "a block of another mode was taken");
+    other = *a;
+    memcpy(font.at, a->font, a->font_len);
+    font.at[a->font_len] = 0;
+    other.font = font.at;
+    other.font_len = font.len;
+    refused_block(&other, words, count, "a block of a longer font was taken");
+    for (k = 0; k < told; k++) {
+        uint32_t was = at[k], others[] = {was ^ 1, was + 1, ~was, 0xFFFFFFFF, 0, 0x80000000, was << 8};
+        at[k] = others[draw(7)];
+        if (at[k] != was) refused_block(a, words, count, "a block with another word was taken");
+        at[k] = was;
+    }
+    free_block(&font);
+}
+
 static void blocks(const struct asked *a) {
     struct block none = block_of(0, 4, at_front), words;
     struct mkstrike_glyph_info info;
     size_t need = 1, again = 1, i;
     uint32_t status = prepare(a, &none, &need, 0);
-    long count = requests;
+    long n = requests;
     look(status == 0 || need == 1, "a refusal changed the size of a block");
-    if (count > 0) {
-        uint32_t second = prepare(a, &none, &again, 1 + (long)draw((uint32_t)count));
-        look(second == MKSTRIKE_OUT_OF_MEMORY || second == status, "another answer to refused memory");
-    }
+    look(status != 0 || need == 6 || (a->mode & MKSTRIKE_HINTED) != 0, "an unhinted block of another length");
+    if (some_refused(n))
+        for (n = first_refused; n <= last_refused; n++) {
+            uint32_t second = prepare(a, &none, &again, n);
+            look(second == MKSTRIKE_OUT_OF_MEMORY || second == status, "another answer to refused memory");
+        }
     if (status == 0) {
+        struct block cut = block_of(draw((uint32_t)need) * 4, 4, 0);
         words = block_of(need * 4, 4, (int)draw(2));
         look(prepare(a, &words, &again, 0) == 0 && again == need, "another block the second time");
+        look(prepare(a, &cut, &again, 0) == 0 && again == need && memcmp(cut.at, words.at, cut.len) == 0, "another block in a small buffer");
+        free_block(&cut);
         for (i = 0; i < a->chars_len; i++)
             if (draw(2) == 0) same_by_block(a, &words, a->chars[i]);
         same_by_id(a, &words, draw(4) ? draw(12) : draw(70000));
         many_by_block(a, &words);
+        other_blocks(a, &words);
         if (a->chars_len > 0)
             for (i = 0; i < 4; i++) changed_block(a, &words, a->chars[draw(a->chars_len)]);
         free_block(&words);
@@ -605,6 +689,27 @@ int LLVMFuzzerTestOneInput(const uint8_t *input, size_t len) {
     return 0;
 }
 
+#ifdef ALONE
+
+int main(int argc, char **argv) {
+    int i;
+    for (i = 1; i < argc; i++) {
+        FILE *file = fopen(argv[i], "rb");
+        uint8_t *input;
+        long len;
+        look(file != NULL && fseek(file, 0, SEEK_END) == 0 && (len = ftell(file)) > 0, "no input");
+        rewind(file);
+        input = (uint8_t *)malloc((size_t)len);
+        look(input != NULL && fread(input, 1, (size_t)len, file) == (size_t)len, "no input");
+        fclose(file);
+        LLVMFuzzerTestOneInput(input, (size_t)len);
+        free(input);
+    }
+    return 0;
+}
+
+#else
+
 /* ---- how inputs are changed: mostly within a table */
 
 size_t LLVMFuzzerMutate(uint8_t *data, size_t len, size_t most);
@@ -644,3 +749,5 @@ size_t LLVMFuzzerCustomMutator(uint8_t *data, size_t len, size_t most, unsigned 
     state = before;
     return len;
 }
+
+#endif

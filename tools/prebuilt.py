@@ -77,12 +77,15 @@ def hash_of_sources(crate="mkstrike"):
     return sha256(b"".join(b"%s  %s\n" % (lines[it].encode(), os.fsencode(it)) for it in paths))
 
 
+def libraries_of_crates(text):
+    """From each crate to the libraries that it uses, by the text of crates.txt, in its order."""
+    rows = [line.partition("#")[0].partition(":") for line in text.split("\n")]
+    return {name.split()[0]: words.split() for name, _, words in rows if name.strip()}
+
+
 def crates_below(crate):
     """A crate and those of the repository that it stands on."""
-    with open(os.path.join(TOP, "crates.txt"), encoding="utf-8") as file:
-        rows = [line.partition("#")[0].partition(":") for line in file]
-    uses = {name.split()[0]: words.split() for name, _, words in rows if name.strip()}
-    found = [crate]
+    uses, found = libraries_of_crates(read(os.path.join(TOP, "crates.txt")).decode()), [crate]
     for name in found:
         found += [it for it in uses[name] if it in uses and it not in found]
     return found

@@ -1,6 +1,5 @@
 """Composite glyphs: each flag, matrices, matched points, nesting, metrics and programs."""
-import struct
-
+import fonts
 from making.assembler import assemble
 from making.boxes import fill_boxes
 from making.fontmaker import FontMaker
@@ -8,7 +7,7 @@ from making.probe import CONTOURS
 from making.suite import OPENTYPE
 
 ABOUT = OPENTYPE + "glyf, composite glyph description: %s"
-WORDS, XY, ROUND, SCALE, MORE, TWO, FOUR, PROGRAM, METRICS = 1, 2, 4, 8, 0x20, 0x40, 0x80, 0x100, 0x200
+WORDS, XY, ROUND, SCALE, TWO, FOUR, METRICS = 1, 2, 4, 8, 0x40, 0x80, 0x200
 ONE = 1 << 14
 HALVES = "an offset in the middle between two pixels goes away from zero"
 PRODUCTS = "a product of a 2.14 scale and a coordinate is rounded once, halves away from zero"
@@ -17,20 +16,9 @@ RESERVED = "flags that are not defined, or say nothing about the outline, are ig
 FRESH = "a composite's program starts with the points where its components put them, original and current alike"
 
 
-def record(flags, glyph, args, matrix=()):
-    """The bytes of a component."""
-    form = ("hh" if flags & XY else "HH") if flags & WORDS else ("bb" if flags & XY else "BB")
-    return struct.pack(">HH" + form, flags, glyph, *args) + b"".join(struct.pack(">h", int(v)) for v in matrix)
-
-
 def composite(records, program=""):
-    """The bytes of a composite: records without MORE_COMPONENTS, which is set here."""
-    parts = []
-    for k, (flags, *rest) in enumerate(records):
-        last = k + 1 == len(records)
-        parts.append(record(flags | (0 if last else MORE) | (PROGRAM if last and program else 0), *rest))
-    code = assemble(program)
-    return struct.pack(">hhhhh", -1, 0, 0, 0, 0) + b"".join(parts) + (struct.pack(">H", len(code)) + code if program else b"")
+    """The bytes of a composite of records without MORE_COMPONENTS."""
+    return fonts.components(records, assemble(program))
 
 
 def make(suite):

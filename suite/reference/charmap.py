@@ -7,15 +7,15 @@ NARROW = [(3, (1,)), (0, range(4)), (3, (0,))]
 
 
 class CharMap:
-    """The subtable that is preferred: format 12 before format 4."""
+    """The subtable that is preferred: format 12 before format 4, or of these formats alone."""
 
-    def __init__(self, font):
+    def __init__(self, font, formats=(12, 4)):
         if "cmap" not in font.tables:
             raise Refused("NoCharMap")
         self.data = font.tables["cmap"]
         if len(self.data) < 4 or len(self.data) < 4 + 8 * u16(self.data, 2):
             raise Refused("BadCharMap")
-        self.at, self.format = self.choose()
+        self.at, self.format = self.choose(formats)
         (self.check_groups if self.format == 12 else self.check_segments)()
 
     def records(self):
@@ -25,10 +25,10 @@ class CharMap:
             if at + 2 <= len(self.data):
                 yield u16(self.data, 4 + 8 * k), u16(self.data, 6 + 8 * k), at, u16(self.data, at)
 
-    def choose(self):
+    def choose(self, formats):
         """The first record of the best kind, and its format."""
-        for number, kinds in ((12, WIDE), (4, NARROW)):
-            for platform, encodings in kinds:
+        for number in formats:
+            for platform, encodings in WIDE if number == 12 else NARROW:
                 for p, e, at, form in self.records():
                     if form == number and p == platform and e in encodings:
                         return at, number
@@ -70,9 +70,13 @@ class CharMap:
         glyph = start + code - first
         return glyph if code >= first and glyph <= 0xFFFF else 0
 
+    def start(self, k):
+        """Format 4: the first code of a segment."""
+        return u16(self.data, self.at + 16 + 2 * (self.count + k))
+
     def by_segment(self, k, code):
         """Format 4: idDelta alone, or a glyph id through idRangeOffset and then idDelta."""
-        start, delta, offset = (u16(self.data, self.at + 16 + 2 * (self.count * part + k)) for part in (1, 2, 3))
+        start, delta, offset = self.start(k), *(u16(self.data, self.at + 16 + 2 * (self.count * part + k)) for part in (2, 3))
         if code < start or offset == 0xFFFF:
             return 0
         if offset == 0:

@@ -30,7 +30,6 @@ def crossings(piece, y):
     """Where a piece meets the height y: numbers (p, q, d, r) for (p + q root(d)) / r, r above 0. Of a level piece, its ends."""
     a, b, c = piece
     if b is None:
-        b, line = a, True
         quadratic = [0, c[1] - a[1], a[1] - y], [0, c[0] - a[0], a[0]]
     else:
         quadratic = [[a[k] - 2 * b[k] + c[k], 2 * (b[k] - a[k]), a[k] - (y if k else 0)] for k in (1, 0)]

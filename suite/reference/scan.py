@@ -97,8 +97,7 @@ def crossing(piece, p):
 
 def region(piece, p):
     """What the region between an arc and its chord adds."""
-    a, b, c = piece
-    if b is None:
+    if piece[1] is None:
         return 0
     turn, u, v, w = areas(piece, p)
     if turn and v > 0 and u > 0 and v * v < 4 * u * w:

@@ -1,73 +1,22 @@
-/* Calls the C library as test_library.py asks, in place of a program that uses it. It has its own heap, which counts and can refuse.
+/* Calls the C library as test_library.py asks, in place of a program that uses it, with the heap of c/heap.c. What agrees from call to call, and
+ * what refused calls leave, tools/fuzz_c.c looks at.
  *
  *     check_c strike FONT PPEM MODE FIRST LAST      a strike, as `mkstrike make` writes it, with its line and its status; asked for with
  *                                                   no room, with room enough, and with a byte too few
- *     check_c glyphs FONT PPEM MODE FIRST LAST      each of these characters alone, packed and not, by its code point and by its glyph's
- *                                                   number, against their strike
- *     check_c many FONT PPEM MODE FIRST LAST        these characters in one call, in another order and some of them twice: each against
- *                                                   mkstrike_glyph, its refusal too, and against their strike
+ *     check_c many FONT PPEM MODE FIRST LAST        these characters in one call, in another order and some of them twice, packed and not:
+ *                                                   each against mkstrike_glyph, its refusal too, and against their strike
+ *     check_c outline FONT PPEM MODE GLYPH          an outline, as `mkstrike outline` writes it
  *     check_c requests FONT                         requests of many characters that are refused before the font is opened
  *     check_c calls FONT                            the other calls, what they refuse, unknown bits of modes, and NULL
- *     check_c refuse FONT                           each request for memory refused in turn
  *     check_c threads FONT                          eight threads at once
  *     check_c stack FONT KIB                        in a thread with a stack of that many KiB
- *     check_c reasons                               the name of each number
- *
- * With -DHEAP_BESIDE the heap is that of another file, and `refuse` is left out. */
+ *     check_c reasons                               the name of each number */
 #define _POSIX_C_SOURCE 200112L
 #include "mkstrike.h"
 #include <pthread.h>
 #include <stdio.h>
 #include <stdlib.h>
 #include <string.h>
-
-/* ---- the heap */
-
-#ifndef HEAP_BESIDE
-
-struct given {
-    size_t ok;
-    void *at;
-};
-
-static char nothing[16];
-static __thread long asked, refused_at, held;
-
-static struct given given(void *at) {
-    struct given it;
-    it.ok = at != NULL;
-    it.at = at != NULL ? at : (void *)nothing;
-    return it;
-}
-
-#ifdef __cplusplus
-extern "C" {
-#endif
-struct given rattle_alloc(size_t size, size_t align);
-struct given rattle_realloc(void *at, size_t kept, size_t size, size_t align);
-void rattle_dealloc(void *at);
-
-struct given rattle_alloc(size_t size, size_t align) {
-    struct given it;
-    if (++asked == refused_at) return given(NULL);
-    it = given(malloc(size ? size : align));
-    held += it.ok != 0;
-    return it;
-}
-
-struct given rattle_realloc(void *at, size_t kept, size_t size, size_t align) {
-    (void)kept;
-    return ++asked == refused_at ? given(NULL) : given(realloc(at, size ? size : align));
-}
-
-void rattle_dealloc(void *at) {
-    held--;
-    free(at);
-}
-#ifdef __cplusplus
-}
-#endif
-#endif
 
 /* ---- what is asked for */
 
@@ -257,91 +206,11 @@ static uint32_t one(const struct request *r, uint32_t code, uint32_t packed, uin
     return mkstrike_glyph(r->font, r->font_len, r->face, r->ppem, r->mode | packed, code, pixels, room, g, &refused);
 }
 
-/* One character, packed or not, in a buffer of its own size; and with a byte too few, which must not be touched. */
-static uint8_t *pixels_of(const struct request *r, uint32_t code, uint32_t packed, struct mkstrike_glyph_info *g) {
-    uint8_t none = 7, *pixels;
-    size_t size, i;
-    if (one(r, code, packed, &none, 0, g) != 0) stop("no glyph");
-    if (g->stride != (packed ? (g->width + 7) / 8 : g->width)) stop("another stride");
-    size = (size_t)g->stride * g->height;
-    if (size == 0) return (uint8_t *)bytes(1);
-    if (none != 7) stop("a byte after no room was changed");
-    pixels = (uint8_t *)bytes(size);
-    memset(pixels, 7, size);
-    if (one(r, code, packed, pixels, size - 1, g) != 0) stop("no glyph without room");
-    for (i = 0; i < size; i++)
-        if (pixels[i] != 7) stop("pixels without room");
-    if (one(r, code, packed, pixels, size, g) != 0) stop("no glyph with room");
-    return pixels;
-}
-
-/* A character's glyph by its number is the character's. */
-static void same_by_id(const struct request *r, uint32_t code, const struct mkstrike_glyph_info *due, const uint8_t *pixels) {
-    size_t size = (size_t)due->stride * due->height;
-    uint8_t *found = (uint8_t *)bytes(size);
-    struct mkstrike_glyph_info g;
-    uint16_t glyph = 7;
-    if (mkstrike_glyph_ids(r->font, r->font_len, r->face, &code, 1, &glyph, 1, NULL) != 0 || glyph == 0) stop("no glyph of a character");
-    if (mkstrike_glyph_by_id(r->font, r->font_len, r->face, r->ppem, r->mode | MKSTRIKE_PACKED, glyph, found, size, &g, NULL) != 0)
-        stop("no glyph by its number");
-    if (memcmp(&g, due, sizeof g) != 0 || memcmp(found, pixels, size) != 0) stop("another glyph by its number");
-    free(found);
-}
-
-static int glyphs(const struct request *r) {
-    size_t len, at = 0, n, i;
-    uint8_t *text = text_of(r, &len);
-    char *lines = (char *)bytes(len + 300);
-    struct mkstrike_glyph_info g, h;
-    unsigned long count = 0;
-    while (at < len && memcmp(text + at, "STARTCHAR", 9) != 0) at++;
-    for (i = 0; i < r->chars_len; i++) {
-        uint8_t none = 7, *packed, *pixels;
-        uint32_t status = one(r, r->chars[i], MKSTRIKE_PACKED, &none, 1, &g);
-        if (status == MKSTRIKE_MISSING && none == 7) continue;
-        if (status != 0) stop("a character that the strike has is refused");
-        packed = pixels_of(r, r->chars[i], MKSTRIKE_PACKED, &g);
-        pixels = pixels_of(r, r->chars[i], 0, &h);
-        same_pixels(&g, packed, pixels);
-        if (count % 8 == 0) same_by_id(r, r->chars[i], &g, packed);
-        n = lines_of(lines, r->chars[i], &g, packed);
-        if (len - at < n || memcmp(text + at, lines, n) != 0) stop("a glyph that is not the strike's");
-        at += n;
-        count++;
-        free(packed);
-        free(pixels);
-    }
-    if (len - at != 8 || memcmp(text + at, "ENDFONT\n", 8) != 0) stop("glyphs of the strike are left");
-    free(text);
-    free(lines);
-    printf("%lu\n", count);
-    return 0;
-}
-
 /* ---- outlines */
 
 static uint32_t outlined(const struct request *r, uint32_t glyph, struct mkstrike_outline_point *points, size_t points_len, uint16_t *ends,
     size_t ends_len, struct mkstrike_outlined *told, struct mkstrike_refused *refused) {
     return mkstrike_outline(r->font, r->font_len, r->face, r->ppem, r->mode, glyph, points, points_len, ends, ends_len, told, refused);
-}
-
-/* With a point and a contour too few the others are the same, and what lies after them is as it was. */
-static void outline_short(const struct request *r, uint32_t glyph, const struct mkstrike_outline_point *points, const uint16_t *ends,
-    const struct mkstrike_outlined *whole) {
-    size_t n = whole->points, m = whole->contours;
-    struct mkstrike_outline_point *some = (struct mkstrike_outline_point *)bytes(n * sizeof *some);
-    uint16_t *few = (uint16_t *)bytes(m * sizeof *few);
-    struct mkstrike_outlined told;
-    if (n == 0 || m == 0) stop("an outline with points and no contours");
-    memset(some, 7, n * sizeof *some);
-    memset(few, 7, m * sizeof *few);
-    memset(&told, 0, sizeof told);
-    if (outlined(r, glyph, some, n - 1, few, m - 1, &told, NULL) != 0) stop("an outline that is refused where there is no room");
-    if (memcmp(some, points, (n - 1) * sizeof *some) != 0 || memcmp(few, ends, (m - 1) * sizeof *few) != 0) stop("other points without room");
-    if (some[n - 1].x != 0x07070707 || few[m - 1] != 0x0707) stop("points without room");
-    if (told.points != n || told.contours != m || told.advance != whole->advance) stop("other counts of an outline");
-    free(some);
-    free(few);
 }
 
 /* The outline of a glyph, in buffers of just its size, as mkstrike outline writes it. */
@@ -359,7 +228,6 @@ static int outline(const struct request *r, uint32_t glyph) {
     ends = (uint16_t *)bytes(told.contours * sizeof *ends);
     if (outlined(r, glyph, points, told.points, ends, told.contours, &again, NULL) != 0) stop("no outline the second time");
     if (again.points != told.points || again.contours != told.contours || again.advance != told.advance) stop("another outline");
-    if (told.points != 0) outline_short(r, glyph, points, ends, &told);
     for (i = 0; i < told.points; i++) {
         while (contour < told.contours && ends[contour] < i) contour++;
         printf("%lu %lu %s %ld %ld\n", (unsigned long)contour, (unsigned long)i, points[i].on_curve == 1 ? "on" : "off", (long)points[i].x,
@@ -392,26 +260,6 @@ static uint32_t call_many(const struct request *r, struct many *it, size_t glyph
         it->pixels, pixels_len, &it->drawn, &it->refused);
 }
 
-/* With one entry or one byte too few all others are the same, and what lies after the buffer is as it was. */
-static void cut_many(const struct request *r, const struct many *whole) {
-    struct many it = *whole;
-    size_t glyphs = it.len * sizeof *it.glyphs, one = sizeof *it.glyphs;
-    if (it.len == 0 || it.drawn.bytes == 0) return;
-    it.glyphs = (struct mkstrike_placed *)bytes(glyphs);
-    it.pixels = (uint8_t *)bytes(it.drawn.bytes);
-    memset(it.glyphs, 7, glyphs);
-    memset(it.pixels, 7, it.drawn.bytes);
-    if (call_many(r, &it, it.len - 1, it.drawn.bytes - 1) != 0) stop("no glyphs in too small buffers");
-    if (memcmp(&it.drawn, &whole->drawn, sizeof it.drawn) != 0) stop("other counts in too small buffers");
-    if (memcmp(it.glyphs, whole->glyphs, glyphs - one) != 0) stop("other entries in too small a buffer");
-    if (memcmp(it.pixels, whole->pixels, it.drawn.bytes - 1) != 0) stop("other pixels in too small a buffer");
-    if (((uint8_t *)it.glyphs)[glyphs - one] != 7 || it.glyphs[it.len - 1].offset != (size_t)UINT64_C(0x0707070707070707))
-        stop("an entry after the buffer was changed");
-    if (it.pixels[it.drawn.bytes - 1] != 7) stop("a byte after the pixels was changed");
-    free(it.glyphs);
-    free(it.pixels);
-}
-
 /* These characters in one call; the status. The sizes are asked for first, with no room. */
 static uint32_t many_of(const struct request *r, struct many *it) {
     struct mkstrike_placed no_entry;
@@ -435,7 +283,6 @@ static uint32_t many_of(const struct request *r, struct many *it) {
     memset(it->glyphs, 0, it->len * sizeof no_entry);
     memset(&it->refused, 7, sizeof it->refused);
     if (call_many(r, it, it->len, it->drawn.bytes) != 0) stop("no glyphs the second time");
-    cut_many(r, it);
     return 0;
 }
 
@@ -548,18 +395,26 @@ static uint32_t *shuffled(const struct request *r, size_t *len) {
 }
 
 static int many(const struct request *r) {
-    struct many it;
+    struct many it, packed;
     uint32_t *chars = shuffled(r, &it.len), status;
+    size_t i;
     it.chars = chars;
     it.packed = 0;
+    packed = it;
+    packed.packed = MKSTRIKE_PACKED;
     status = many_of(r, &it);
-    if (status != 0) same_refusal(r, &it);
-    else same_many(r, &it);
+    if (many_of(r, &packed) != status) stop("another status packed");
+    if (status == 0) {
+        same_many(r, &it);
+        same_many(r, &packed);
+        for (i = 0; i < it.len; i++)
+            same_pixels(&packed.glyphs[i].glyph, packed.pixels + packed.glyphs[i].offset, it.pixels + it.glyphs[i].offset);
+    } else {
+        same_refusal(r, &it);
+    }
     free_many(&it);
+    free_many(&packed);
     it.packed = MKSTRIKE_PACKED;
-    if (many_of(r, &it) != status) stop("another status packed");
-    if (status == 0) same_many(r, &it);
-    free_many(&it);
     it.chars = r->chars;
     it.len = r->chars_len;
     if (many_of(r, &it) == 0) same_strike(r, &it);
@@ -710,63 +565,7 @@ static int calls(const struct request *r) {
     return 0;
 }
 
-/* ---- memory, threads and the stack */
-
-#ifndef HEAP_BESIDE
-/* Each request for memory is refused in turn; the call must say so, change nothing and give back what it took. A strike that has no memory
-   for the lines that it keeps is made all the same. */
-static long refuse_each(const struct request *r, char call) {
-    struct mkstrike_told told;
-    struct mkstrike_refused refused;
-    struct mkstrike_glyph_info g;
-    struct mkstrike_drawn drawn;
-    struct mkstrike_outlined told_of;
-    static struct mkstrike_outline_point points[256], points_before[256];
-    static uint16_t ends[64], ends_before[64];
-    static struct mkstrike_placed placed[256], placed_before[256];
-    static uint8_t out[1 << 20], before[1 << 20], whole[1 << 20];
-    size_t need;
-    long n;
-    memset(whole, 7, sizeof whole);
-    if (call == 'm' && make(r, whole, sizeof whole, &told, &refused) != 0) stop("no strike without refusals");
-    for (n = 1;; n++) {
-        uint32_t status;
-        memset(out, 7, sizeof out);
-        memset(before, 7, sizeof before);
-        memset(placed, 7, sizeof placed);
-        memset(placed_before, 7, sizeof placed);
-        memset(points, 7, sizeof points);
-        memset(points_before, 7, sizeof points);
-        memset(ends, 7, sizeof ends);
-        memset(ends_before, 7, sizeof ends);
-        asked = held = 0;
-        refused_at = n;
-        if (call == 'm')
-            status = make(r, out, sizeof out, &told, &refused);
-        else if (call == 'g')
-            status = mkstrike_glyph(r->font, r->font_len, r->face, r->ppem, r->mode | MKSTRIKE_PACKED, 'g', out, sizeof out, &g, &refused);
-        else if (call == 'p')
-            status = mkstrike_prepare(r->font, r->font_len, r->face, r->ppem, r->mode, (uint32_t *)(void *)out, sizeof out / 4, &need, &refused);
-        else if (call == 'b')
-            status = mkstrike_glyph_prepared(r->font, r->font_len, r->face, r->ppem, r->mode, r->block, r->block_len, 'g', out, sizeof out, &g,
-                &refused);
-        else if (call == 'i')
-            status = mkstrike_glyph_by_id(r->font, r->font_len, r->face, r->ppem, r->mode, 36, out, sizeof out, &g, &refused);
-        else if (call == 'o')
-            status = outlined(r, 36, points, 256, ends, 64, &told_of, &refused);
-        else
-            status = mkstrike_glyphs(r->font, r->font_len, r->face, r->ppem, r->mode, r->chars, r->chars_len, placed, 256, out,
-                sizeof out, &drawn, &refused);
-        refused_at = 0;
-        if (held != 0) stop("memory was kept");
-        if (asked < n && status == 0) return n - 1;
-        if (call == 'm' && status == 0 && memcmp(out, whole, sizeof out) == 0) continue;
-        if (status != MKSTRIKE_OUT_OF_MEMORY || refused.number != status) stop("another answer to refused memory");
-        if (memcmp(points, points_before, sizeof points) != 0 || memcmp(ends, ends_before, sizeof ends) != 0) stop("a refusal changed points");
-        if (memcmp(out, before, sizeof out) != 0 || memcmp(placed, placed_before, sizeof placed) != 0) stop("a refusal changed a buffer");
-    }
-}
-#endif
+/* ---- threads and the stack */
 
 static struct request shared;
 static uint8_t *shared_text;
@@ -834,10 +633,10 @@ static int reasons(void) {
 
 int main(int argc, char **argv) {
     const char *mode = argc > 1 ? argv[1] : "";
-    if (argc == 7 && (strcmp(mode, "strike") == 0 || strcmp(mode, "glyphs") == 0 || strcmp(mode, "many") == 0)) {
+    if (argc == 7 && (strcmp(mode, "strike") == 0 || strcmp(mode, "many") == 0)) {
         shared = request_of(argv[2], atoi(argv[3]), mode_of(argv[4]), (uint32_t)strtoul(argv[5], NULL, 16),
             (uint32_t)strtoul(argv[6], NULL, 16));
-        return strcmp(mode, "strike") == 0 ? strike(&shared) : strcmp(mode, "glyphs") == 0 ? glyphs(&shared) : many(&shared);
+        return strcmp(mode, "strike") == 0 ? strike(&shared) : many(&shared);
     }
     if (argc == 6 && strcmp(mode, "outline") == 0) {
         shared = request_of(argv[2], atoi(argv[3]), mode_of(argv[4]), 0x20, 0x20);
@@ -851,20 +650,6 @@ int main(int argc, char **argv) {
         shared = request_of(argv[2], 16, 0, 0x20, 0x20);
         return calls(&shared);
     }
-#ifndef HEAP_BESIDE
-    if (argc == 3 && strcmp(mode, "refuse") == 0) {
-        const char *call;
-        long count = 0;
-        static struct request second;
-        second = request_of(argv[2], 33, MKSTRIKE_DROPOUT, 0x20, 0x7E);
-        shared = request_of(argv[2], 16, MKSTRIKE_HINTED, 0x20, 0x7E);
-        prepare(&shared);
-        prepare(&second);
-        for (call = "mgpbios"; *call != 0; call++) count += refuse_each(&shared, *call) + refuse_each(&second, *call);
-        printf("%ld\n", count);
-        return 0;
-    }
-#endif
     if (argc == 3 && strcmp(mode, "threads") == 0) {
         shared = request_of(argv[2], 16, MKSTRIKE_HINTED, 0x20, 0x7E);
         run_threads(8, 100, 0);

@@ -3,10 +3,10 @@
 The archive is the one that MKSTRIKE_ARCHIVE names, else dist/libmkstrike_c.a, if that is of these sources; else the one that `rt lib`
 makes, if the libraries below it are kept and that takes at most three minutes; else all is left out. The programs are the examples
 and check_c.c, as C99 and as C++, with all warnings as errors. Strikes of real and of damaged fonts must be the program's byte for byte,
-and refusals its lines; single glyphs must be those of the strike, and many in one call both; each request for memory is refused in
-turn; then eight threads, a small stack, a program without a C library, AddressSanitizer and valgrind. c/arena.c is looked at by calls
-of its own, and with c/heap.c each request of malloc and realloc is refused in turn. The archive for 64-bit ARM, that of dist/ or of
-MKSTRIKE_ARM_ARCHIVE, runs under qemu-user. With MKSTRIKE_LONG=1 blocks draw every font that is installed.
+and refusals its lines; many glyphs in one call must be those of the strike; tools/fuzz_c.c looks at what agrees from call to call, with each
+request for memory refused in turn; then eight threads, a small stack, a program without a C library, AddressSanitizer and valgrind. c/arena.c
+is looked at by calls of its own, and with c/heap.c each request of malloc and realloc is refused in turn. The archive for 64-bit ARM, that of
+dist/ or of MKSTRIKE_ARM_ARCHIVE, runs under qemu-user. With MKSTRIKE_LONG=1 fuzz_c.c looks at every font that is installed.
 """
 import glob
 import itertools
@@ -24,6 +24,7 @@ import fonts
 import prebuilt
 import pytest
 import stack
+from damage import Damaged
 from due import own_lines
 from made import Empty, Font, Simple
 from needs import REAL, left_out, real_font, tool
@@ -32,6 +33,7 @@ from prebuilt import TOP
 HERE = os.path.dirname(__file__)
 CRATE = os.path.join(TOP, "crates/mkstrike_c")
 C = ["-O2", "-Wall", "-Wextra", "-Werror", "-I" + os.path.join(TOP, "include"), "-I" + os.path.join(TOP, "c")]
+CALLER = ["-std=gnu99", "-DALONE", *C, os.path.join(TOP, "tools/fuzz_c.c")]  # what looks at the calls of an input
 C99, CPP = ["cc", "-std=c99"], ["c++", "-x", "c++", "-std=c++11"]
 ARM_CC, ARM_RUN = ["aarch64-linux-gnu-gcc"], "qemu-aarch64"
 CALLS = {"mkstrike_make", "mkstrike_glyph", "mkstrike_glyph_by_id", "mkstrike_outline", "mkstrike_glyphs", "mkstrike_glyph_ids", "mkstrike_font",
@@ -91,7 +93,7 @@ class Library:
     def build(self):
         """Builds all programs, and checks that they compile as C++ too."""
         sources = ("c/heap.c", "c/arena.c", "examples/show.c", "examples/console.c", "tests/c/check_c.c", "tests/c/check_c_arena.c",
-                   "tests/c/check_c_blocks.c", "tests/c/check_c_heap.c")
+                   "tests/c/check_c_heap.c")
         for source in sources:
             name = os.path.basename(source)[:-2] + ".o"
             self.compile(C99, source, name)
@@ -99,11 +101,9 @@ class Library:
             for source in sources:
                 self.compile(CPP, source, os.path.basename(source)[:-2] + "++.o")
             run(["c++", self.at("show++.o"), self.at("heap++.o"), self.archive, "-o", self.at("show++")])
-        for name, others in (("show", ["heap.o"]), ("console", ["arena.o"]), ("check_c_blocks", ["heap.o"])):
-            run(["cc", self.at(name + ".o")] + [self.at(it) for it in others] + [self.archive, "-o", self.at(name)])
-        run(["cc", "-pthread", self.at("check_c.o"), self.archive, "-o", self.at("check_c")])
-        self.compile(C99, "tests/c/check_c.c", "check_c_beside.o", "-DHEAP_BESIDE")
-        run(["cc", "-pthread", self.at("check_c_beside.o"), self.at("heap.o"), self.archive, "-o", self.at("check_heap")])
+        for name, other in (("show", "heap.o"), ("console", "arena.o"), ("check_c", "heap.o")):
+            run(["cc", "-pthread", self.at(name + ".o"), self.at(other), self.archive, "-o", self.at(name)])
+        run(["cc", *CALLER, self.archive, "-o", self.at("caller")])
 
     def make(self, font, ppem, mode, first, last, status=0):
         """What mkstrike gives: status, text and line."""
@@ -128,16 +128,20 @@ class Library:
         bases += [open(self.part(os.path.basename(it)), "rb").read() for it in self.real]
         path = self.at("damaged.ttf")
         for k in range(DAMAGED):
-            font = bytearray(bases[k % len(bases)])
-            for _ in range(draw.choice((1, 1, 2, 5))):
-                at = draw.randrange(len(font) if draw.random() < 0.8 else 300)
-                font[at:at + 2] = draw.choice((bytes(2), b"\xff\xff", bytes([draw.randrange(256)]), bytes([font[at] ^ 1 << draw.randrange(8)])))
-            if draw.random() < 0.15:
-                del font[draw.randrange(len(font)):]
             with open(path, "wb") as file:
-                file.write(font)
-            mode = draw.choice(MODES)
-            yield path, draw.choice((0, 1, 16, 33, 1024, 1025)) if k % 10 == 0 else 16, mode
+                file.write(Damaged(bases[k % len(bases)], draw, bases).data)
+            yield path, draw.choice((0, 1, 16, 33, 1024, 1025)) if k % 10 == 0 else 16, draw.choice(MODES)
+
+    def inputs(self, found, ways):
+        """Files for tools/fuzz_c.c: each font with what is asked after it, of a size, a mode and a kind of pixels, in so many ways."""
+        draw, paths = random.Random(SEED), []
+        for k, (font, way) in enumerate(itertools.product(found, ways)):
+            said = bytearray(draw.randbytes(24))
+            said[4], said[5], said[6], said[7], said[22] = draw.choice((22, 14, 31, 38)), way % 8, said[6] & ~2 | way // 8 * 2, 13, 1
+            paths.append(self.at("input%d" % k))
+            with open(paths[-1], "wb") as file:
+                file.write(font + said)
+        return paths
 
     def large_strike(self):
         """A font whose one glyph has 8,192 by 8,192 pixels, all set: a strike of more than 16 MiB."""
@@ -148,7 +152,7 @@ class Library:
 
     def refuse_each(self, library, font, mode, on):
         """Refuses each request of a strike in turn, and all after it too if `on`. The call says so; or check_c.c does, of its own."""
-        words = [self.at("check_heap"), "strike", font, "16", mode, "61", "61"]
+        words = [self.at("check_c"), "strike", font, "16", mode, "61", "61"]
         whole, told = run(words), []
         answers = [(0, whole.stdout, whole.stderr), (1, b"", b"mkstrike: 90 OutOfMemory\n")]
         answers += [(3, b"check_c: %s\n" % it, b"") for it in (b"out of memory", b"no font", b"refused the second time",
@@ -256,9 +260,6 @@ def test_strikes(lib):
                                       (DROPOUT, 0x20, 0x17F), (HINTED + DROPOUT, 0x20, 0x17F), (HINTED + NEAR, 0x20, 0x17F),
                                       (ASKED, 0x20, 0x17F), (HINTED + ASKED, 0x20, 0x17F)):
                 lib.same(font, ppem, mode, first, last)
-            words = [lib.at("check_c"), "glyphs", font, str(ppem)]
-            run(words + [HINTED, "20", "17f"])
-            run(words + ["", "20", "1fff"])
 
 
 def test_damaged(lib):
@@ -327,28 +328,22 @@ def test_calls(lib):
             raise Wrong("%s is told to be %s" % (os.path.basename(font), told))
 
 
-def test_blocks(lib):
-    """By blocks all is as without them, in real fonts, with MKSTRIKE_LONG in every one that is installed, and in damaged ones; other blocks are
-    refused."""
-    found, damaged = lib.real or [lib.part("")], itertools.islice(lib.each_damaged(), DAMAGED if LONG else 30)
-    if LONG:
-        found = sorted(glob.glob("/usr/share/fonts/**/*.ttf", recursive=True)) or found
-    for font in found:
-        run([lib.at("check_c_blocks"), "same", font, "16", "20", "7e"])
-    for path, ppem, _ in damaged:
-        run([lib.at("check_c_blocks"), "same", path, str(ppem), "20", "ff"])
-    for font in lib.real:
-        for ppem in ("9", "33"):
-            run([lib.at("check_c_blocks"), "same", font, ppem, "20", "2ff"])
-    if len(lib.real) > 1:
-        for one, other in (lib.real, lib.real[::-1]):
-            run([lib.at("check_c_blocks"), "refused", one, "16", other])
+def test_inputs(lib):
+    """What tools/fuzz_c.c looks at, of parts of real fonts in each mode, of whole ones, with MKSTRIKE_LONG of all that are installed, and of
+    damaged ones."""
+    parts = [open(lib.part(os.path.basename(it)), "rb").read() for it in lib.real] or [fonts.FIXTURE]
+    run([lib.at("caller"), *lib.inputs([fonts.FIXTURE, *parts], range(16))])
+    for font in sorted(glob.glob("/usr/share/fonts/**/*.ttf", recursive=True)) if LONG else lib.real:
+        with open(font, "rb") as file:
+            run([lib.at("caller"), *lib.inputs([file.read()], (1, 13, 4))])
+    draw = random.Random(SEED)
+    for way in range(16):
+        run([lib.at("caller"), *lib.inputs([bytes(Damaged(draw.choice(parts), draw, parts).data) for _ in range(20)], [way])])
 
 
-def test_memory(lib):
-    """Each request for memory refused in turn, on a real font or the fixture."""
+def test_threads(lib):
+    """Eight threads, and one with a small stack, of a real font or the fixture."""
     font = lib.real[0] if lib.real else lib.part("")
-    run([lib.at("check_c"), "refuse", font])
     run([lib.at("check_c"), "threads", font])
     run([lib.at("check_c"), "stack", font, "64"])
 
@@ -376,11 +371,9 @@ def sanitized(words, out):
 def test_under_address_sanitizer(lib):
     """Strikes and glyphs in buffers of just the size that is needed."""
     font = lib.part("DejaVuSans.ttf", range(0x20, 0x7F))
-    sanitized(["-pthread", os.path.join(HERE, "check_c.c"), lib.archive], lib.at("check_asan"))
+    sanitized(["-pthread", os.path.join(HERE, "check_c.c"), os.path.join(TOP, "c/heap.c"), lib.archive], lib.at("check_asan"))
     lib.same(font, 16, HINTED, 0x20, 0x7E, "check_asan")
-    run([lib.at("check_asan"), "glyphs", font, "16", HINTED, "20", "7e"])
     run([lib.at("check_asan"), "many", font, "16", HINTED, "20", "7e"])
-    run([lib.at("check_asan"), "refuse", font])
 
 
 def under_valgrind(checker, requests):
@@ -393,8 +386,8 @@ def under_valgrind(checker, requests):
 def test_under_valgrind(lib):
     """The same."""
     font = lib.part("DejaVuSans.ttf", range(0x20, 0x7F))
-    under_valgrind(lib.at("check_c"), (["strike", font, "16", HINTED, "20", "7e"], ["glyphs", font, "16", HINTED, "61", "6a"],
-                                       ["glyphs", font, "50", "", "20", "7e"], ["many", font, "16", HINTED, "61", "6a"]))
+    under_valgrind(lib.at("check_c"), (["strike", font, "16", HINTED, "20", "7e"], ["many", font, "50", "", "20", "7e"],
+                                       ["many", font, "16", HINTED, "61", "6a"]))
 
 
 @pytest.mark.parametrize("name", ["arena", "heap"])
@@ -415,17 +408,14 @@ def test_heap_keeps_nothing(lib):
 
 
 def test_heap(lib):
-    """The library with c/heap.c: threads, a strike of more than 16 MiB, valgrind, and each request of the C library refused in turn."""
+    """The library with c/heap.c: a strike of more than 16 MiB, and each request of the C library refused in turn."""
     font = lib.part("DejaVuSans.ttf", range(0x20, 0x7F))
-    run([lib.at("check_heap"), "threads", font])
-    lib.same(font, 16, HINTED, 0x20, 0x7E, "check_heap")
-    lib.same(lib.large_strike(), 1024, "", 0x41, 0x41, "check_heap")
+    lib.same(lib.large_strike(), 1024, "", 0x41, 0x41)
     library = lib.at("refuse.so")
     run(["cc", "-O2", "-shared", "-fPIC", "-o", library, os.path.join(HERE, "../program/refuse_memory.c")])
     for mode in (HINTED, DROPOUT):
         for on in (0, 1):
             lib.refuse_each(library, font, mode, on)
-    under_valgrind(lib.at("check_heap"), (["strike", font, "16", HINTED, "61", "6a"], ["many", font, "16", HINTED, "61", "6a"]))
 
 
 def test_arm(lib):
@@ -435,7 +425,7 @@ def test_arm(lib):
         pytest.skip("no %s: tools/make_dist --arm makes it" % prebuilt.shown(archive))
     tool(ARM_CC[0])
     tool(ARM_RUN)
-    words = [os.path.join(HERE, "check_c.c"), archive]
+    words = [os.path.join(HERE, "check_c.c"), os.path.join(TOP, "c/heap.c"), archive]
     run(ARM_CC + C + ["-std=c99", "-static", "-pthread"] + words + ["-o", lib.at("check_c_arm")])
     program = [ARM_RUN, lib.at("check_c_arm")]
     for font in lib.real:
@@ -450,13 +440,11 @@ def test_arm(lib):
         if (done.returncode, done.stdout, done.stderr) != lib.make(path, ppem, mode, 0x20, 0x7F, None):
             raise Wrong("64-bit ARM: another answer to a damaged font")
     font = lib.part("DejaVuSans.ttf", range(0x20, 0x7F))
-    for what in (["calls", font], ["glyphs", font, "16", HINTED, "20", "e9"], ["refuse", font], ["threads", font]):
+    for what in (["calls", font], ["threads", font]):
         run(program + what)
-    words = [os.path.join(HERE, "check_c_blocks.c"), os.path.join(TOP, "c/heap.c"), archive]
-    run(ARM_CC + C + ["-std=c99", "-static"] + words + ["-o", lib.at("check_c_blocks_arm")])
-    blocks = [ARM_RUN, lib.at("check_c_blocks_arm")]
-    run(blocks + ["same", font, "16", "20", "7e"])
-    run(blocks + ["refused", font, "16", lib.part("")])
+    run(ARM_CC + CALLER + ["-static", archive, "-o", lib.at("caller_arm")])
+    with open(font, "rb") as file:
+        run([ARM_RUN, lib.at("caller_arm"), *lib.inputs([file.read()], range(16))])
 
 
 def test_examples(lib):

@@ -174,7 +174,7 @@ def outputs_that_are_there(it):
         told = (status, said.split("\n")[0][:len(due[1])], os.stat(it.path("old.bdf")).st_mode & 0o777, it.read("old.bdf") == b"old")
         it.equal("-o over a file of mode %o" % mode, told, due)
         it.remove("old.bdf")
-    for what, taken in (("a file", "touch .mkstrike-$$"), ("a pipe", "mkfifo .mkstrike-$$"), ("a link", "ln -s copy.ttf .mkstrike-$$")):
+    for what, taken in (("a file", "touch .mkstrike-$$-0"), ("a pipe", "mkfifo .mkstrike-$$-0"), ("a link", "ln -s copy.ttf .mkstrike-$$-0")):
         status, _, said = it.shell(taken + '; exec "$0" "$@"', *MAKE, "copy.ttf", "-o", "new.bdf")
         it.equal("a new file whose name is taken by %s" % what, (status, (it.read("new.bdf") or b"")[-8:]), (0, b"ENDFONT\n"))
         it.remove("new.bdf")

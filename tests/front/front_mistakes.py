@@ -6,6 +6,8 @@ The input is a file of FILES, SANS for a real font, or bytes. A second line of '
 import collections
 import os
 
+from fonts import FIXTURE, wide_map_of, with_tables
+
 Mistake = collections.namedtuple("Mistake", "what words given status first second needs_font")
 
 # What stands for files that are no TrueType font: their first bytes.
@@ -14,6 +16,7 @@ FILES = {
     "web.woff2": b"wOF2\0\1\0\0" + bytes(60), "a.pdf": b"%PDF-1.4\n" + bytes(60), "a.bdf": b"STARTFONT 2.1\nFONT a\n", "a.gz": b"\x1f\x8b\x08\0" + bytes(40),
     "type1.pfb": b"\x80\1\0\0\0\0", "a.pcf": b"\1fcp", "page.ttf": b"<!DOCTYPE html>", "mac.dfont": b"\0\0\1\0\0\0",
     "lfs.ttf": b"version https://git-lfs.github.com/spec/v1\n",
+    "more.ttf": with_tables(FIXTURE, cmap=wide_map_of((code, 1 + code % 2) for code in range(65537))), "none.ttf": with_tables(FIXTURE, cmap=wide_map_of([])),
     "a.zip": b"PK\3\4" + bytes(40), "cut.ttf": b"\0\1\0\0\0\x10\1\0", "text": b"this is text, and no font\n", "hex.txt": b"0001 0000 0010\n0100 0004\n",
 }
 SANS = object()
@@ -104,7 +107,7 @@ ROWS = [
     ("ppem missing", ["make", "--chars", "41"], SANS, 2, USAGE, "--ppem is missing; 'mkstrike help make'"),
     ("ppem without value", ["make", "--chars", "41", "--ppem"], SANS, 2, USAGE, "--ppem takes a value"),
     ("ppem before another option", ["make", "--ppem", "--chars", "41"], SANS, 2, USAGE, "--ppem takes a value"),
-    ("chars missing", ["make", "--ppem", "16"], SANS, 2, USAGE, "--chars is missing"),
+    ("chars missing", ["make", "--ppem", "16"], SANS, 2, USAGE, "--chars or --all is missing"),
     # options and commands
     ("unknown option", ["--frobnicate"], SANS, 2, USAGE, "unknown option '--frobnicate'; 'mkstrike help make'"),
     ("--size", ["make", "--size", "16", "--chars", "41"], SANS, 2, USAGE, "unknown option '--size'; did you mean '--ppem'?"),
@@ -154,9 +157,15 @@ ROWS = [
     ("several sizes", ["make", "--ppem", "12,14,16", "--chars", "41"], SANS, 2, USAGE, "strike --size"),
     ("a range of sizes", ["make", "--ppem", "8-16", "--chars", "41"], SANS, 2, USAGE, "strike --size"),
     ("--sizes", ["make", "--sizes", "12,16", "--chars", "41"], SANS, 2, USAGE, "the command strike"),
-    ("--chars all", ["make", "--ppem", "16", "--chars", "all"], SANS, 1, "mkstrike: 61 BadChars", "20-d7ff,e000-fffd takes all up to U+FFFF"),
-    ("--chars *", ["make", "--ppem", "16", "--chars", "*"], SANS, 1, "mkstrike: 61 BadChars", "20-d7ff,e000-fffd takes all up to U+FFFF"),
-    ("--all", ["make", "--ppem", "16", "--all"], SANS, 2, USAGE, "20-d7ff,e000-fffd takes all characters up to U+FFFF"),
+    ("--chars all", ["make", "--ppem", "16", "--chars", "all"], SANS, 1, "mkstrike: 61 BadChars", "--all takes all characters of the font"),
+    ("--chars *", ["make", "--ppem", "16", "--chars", "*"], SANS, 1, "mkstrike: 61 BadChars", "--all takes all characters of the font"),
+    ("--all", ["make", "--ppem", "16", "--all", "--unhinted"], SANS, 0, r"mkstrike: glyphs \d+ missing 0 strays \d+ steps 0", NONE),
+    ("--all of a font that has more", ["make", "--ppem", "16", "--all", "-o", "all.bdf"], "more.ttf", 0, "mkstrike: glyphs 65536 missing 0 strays 0 steps 0",
+     "the font has more than 65,536 characters, and the strike is of the first ones"),
+    ("--all of a font without any", ["make", "--ppem", "16", "--all"], "none.ttf", 0, "mkstrike: glyphs 0 missing 0 strays 0 steps 0",
+     "the strike has no glyph: the font has no character, or all are refused"),
+    ("--all beside --chars", ["--all"], SANS, 2, USAGE, "--chars and --all can't be given together"),
+    ("--all beside --set", ["make", "--ppem", "16", "--all", "--set", "ascii"], SANS, 2, USAGE, "--chars and --all can't be given together"),
     ("--chars ascii", ["make", "--ppem", "16", "--chars", "ascii"], SANS, 1, "mkstrike: 61 BadChars", "--set ascii takes that set"),
     ("--chars latin1", ["make", "--ppem", "16", "--chars", "latin1"], SANS, 1, "mkstrike: 61 BadChars", "--set latin1 takes that set"),
     ("--set of no set", ["make", "--ppem", "16", "--set", "klingon"], SANS, 1, "mkstrike: 61 BadChars", "'klingon' in the list is no"),

@@ -40,7 +40,7 @@ DOCUMENTS = ("README.md", "docs/COOKBOOK.md", "docs/LIBRARY.md", "docs/PYTHON.md
              *sorted(os.path.relpath(it, TOP) for it in glob.glob(os.path.join(glob.escape(TOP), "docs/mkstrike-*.1"))))
 PICTURES = "docs/pictures"
 NUMBERED = "docs/DECISIONS.md"
-LONGEST = 60  # seconds that a block may take
+LONGEST = 300  # seconds that a block may take, on a machine that is busy with proofs too
 FONT = re.compile(r"/usr/share/fonts/[\w./-]+")
 MADE = re.compile(r"(?:(?<!\d)>|-o) *([\w./-]+)")
 COMMENT = re.compile(r"<!-- *(.*?) *-->$", re.DOTALL)
@@ -190,7 +190,8 @@ class Document:
         if "python" in block.marks:
             lines = self.python(lines)
         due = int(block.marks.get("status", 0))
-        env = {**os.environ, "PATH": self.tools + os.pathsep + os.environ["PATH"], "LC_ALL": "C.UTF-8", "HOME": self.folder}
+        # a program in Python prints at once too, as on a terminal
+        env = {**os.environ, "PATH": self.tools + os.pathsep + os.environ["PATH"], "LC_ALL": "C.UTF-8", "HOME": self.folder, "PYTHONUNBUFFERED": "1"}
         server = None
         try:
             if "display" in block.marks:

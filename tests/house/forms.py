@@ -1,9 +1,9 @@
 """Looks at the sources for forms that no contract can ask for.
 
 Out of memory is only passed on. No clause can say that there was memory enough, so a body that gives out of memory for no reason would
-be proved. So that a reader need not look for one, in each `src/` such a fault is made in three places alone: in an `impl From<..> for`,
-which turns one fault into another; in an arm whose pattern is that fault and no other; and in the functions of MAKERS. It has no second
-name: no `use` imports the variant, or renames it.
+be proved. So that a reader need not look for one, such a fault is named in each `src/` only where it is a type or an enum's variant, in an arm
+of one line whose pattern is that fault and no other, and in the lines of listed_places.py. It has no second name: no `use` imports the variant,
+or renames it.
 
 Room is asked for, and a name that nobody reads is bound, in the places of listed_places.py alone. No clause says how much memory is
 taken, nor how long a statement works whose value is dropped, so each such place is looked at once and listed there. One that is gone
@@ -11,7 +11,6 @@ has to go from the list too.
 
 No tally is made below a scan. A scan's bound on point tests speaks of the tally that it was given, so tests that are counted in
 another would not be in it: in the crates of TALLIED only the tally's own file makes one, and all others take it by reference.
-
 """
 import collections
 import glob
@@ -21,14 +20,12 @@ import re
 import listed_places
 from rattle_tokens import Source
 
-# Functions that find out for themselves that memory was refused, or that write the line which says so; and the list of refusals.
-MAKERS = {("crates/fx_arguments/src/chars.rt", "push_range"), ("crates/fx_arguments/src/lines.rt", "out_of_memory"),
-          ("crates/mkstrike_c/src/making.rt", "text_of"), ("crates/fx_request/src/refusal.rt", "EACH_REFUSAL")}
-
 # The crates that count point tests in the tally that they were given, less the file that defines it.
 TALLIED = re.compile(r"crates/(fx_winding|fx_rows|fx_dropout|fx_contour)/src/(?!tally\.rt$)")
 
 FAULTS = {"OutOfMemory", "AllocError", "AllocFailed"}
+# A variant of an enum, and an arm of one line whose pattern is such a fault alone.
+NAMED = re.compile(r"OutOfMemory,$|(Err\()?(\w+::)?(OutOfMemory|AllocError)\)? => [^{}]*,$")
 ROOM = {"with_capacity", "reserve", "reserve_exact", "resize", "resize_with", "repeat", "from_elem", "from_slice", "to_vec"}
 
 
@@ -42,46 +39,15 @@ def is_type(source, at):
     return before in "<&" or after == ">" or after == "<" and source.word(at - 1) in ",<"
 
 
-def is_pattern(source, at):
-    """Whether a word is in a pattern or a guard: before the `=>` of its arm, between `let` and `=`, or in a `matches!`."""
-    for level in source.levels(at):
-        following = source.after_at_level(level, stops=("=>", ",", ";") if source.is_block(level) else ("=>",))
-        if following == "=>":
-            return True
-        if source.word(source.before_at_level(level, ("let", "=", ";"))) == "let":
-            return True
-        if source.is_block(level):
-            return False
-        opening = source.parent[level]
-        if opening is not None and source.word(opening - 1) == "!" and source.word(opening - 2) == "matches":
-            return True
-    return False
-
-
-def passes_on(source, at):
-    """Whether a word is on the right of an arm whose pattern has such a fault, no `|` and no `if`."""
-    arrow = source.arrow_before(at)
-    if arrow is None:
-        return False
-    pattern = source.pattern_of(arrow)
-    return bool(FAULTS & set(pattern)) and not {"|", "if"} & set(pattern)
-
-
-def out_of_memory(path, source):
-    """The places in which out of memory is made, or gets another name, where it is not to be."""
+def out_of_memory(source, lines):
+    """The places in which out of memory is made, or gets another name: where they are, and their line."""
     for at, word in enumerate(source.words):
-        if word not in FAULTS:
-            continue
-        if source.is_import(at):
-            if word == "OutOfMemory" or source.word(at + 1) == "as":
-                yield at
-            continue
-        frame = source.frame(at)
-        if frame.kind == "enum" or "From" in frame.impl or (path, frame.function) in MAKERS:
-            continue
-        if word != "OutOfMemory" and is_type(source, at) or is_pattern(source, at) or passes_on(source, at):
-            continue
-        yield at
+        if word in FAULTS:
+            is_variant, (above, line) = word == "OutOfMemory", map(str.strip, ["", *lines][source.line(at) - 1:source.line(at) + 1])
+            if source.is_import(at) and (is_variant or source.word(at + 1) == "as"):
+                yield at, line
+            elif not (source.is_import(at) or not is_variant and is_type(source, at) or NAMED.match(line) and not above.endswith("|")):
+                yield at, line
 
 
 # ---- tallies, room, unread names
@@ -121,13 +87,12 @@ def faults_in(path, text, listed):
     source = Source(text)
     if not source.is_whole:
         return ["%s: this tool cannot read it: a bracket is open, or a function looks like ghost code" % path]
-    found = [at for rule in (out_of_memory, tallies) for at in rule(path, source)]
-    for at, place in [*rooms(source), *unread(source)]:
+    found, lines = list(tallies(path, source)), text.split("\n")
+    for at, place in [*out_of_memory(source, lines), *rooms(source), *unread(source)]:
         if listed[path, place]:
             listed[path, place] -= 1
         else:
             found.append(at)
-    lines = text.split("\n")
     return ["%s:%d: %s" % (path, source.line(at), lines[source.line(at) - 1].strip()) for at in sorted(set(found))]
 
 

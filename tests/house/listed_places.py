@@ -1,6 +1,7 @@
-"""The places of the sources that forms.py lets ask for room, or bind a name that nobody reads, and what it is tried on.
+"""The places of the sources that forms.py lets name out of memory, ask for room, or bind a name that nobody reads, and what it is tried on.
 
-A new place is looked at before it is listed. Room is for what is there or what the font says at the most: a length, a constant, a
+A new place is looked at before it is listed. Out of memory is made by a function that finds out for itself that memory was refused, by the `From`
+of another fault, or in a list of refusals. Room is for what is there or what the font says at the most: a length, a constant, a
 bound of the definitions, and sums of these; never a product that a font can make large, nor more than is used. A name that nobody
 reads is bound for the prover, and costs nothing: no loop, no call that walks a list.
 """
@@ -8,10 +9,12 @@ reads is bound for the prover, and costs nothing: no loop, no call that walks a 
 PLACES = {
     "crates/fx_bdf/src/x11.rt": ["from_slice(alloc, self.properties)"],
     "crates/fx_code/src/targets.rt": ["vec![in alloc; nothing; PLACES]"],
-    "crates/fx_arguments/src/chars.rt": ["resize(start + count, low)"],
-    "crates/fx_arguments/src/lines.rt": ["let _ = put_all(err, line.text())"],
+    "crates/fx_arguments/src/chars.rt": ["resize(start + count, low)", "return Err(Refusal::OutOfMemory);"],
+    "crates/fx_arguments/src/fault.rt": ["Fault::Early(Refusal::OutOfMemory)", "Fault::Early(Refusal::OutOfMemory)"],
+    "crates/fx_arguments/src/lines.rt": ["let _ = put_all(err, line.text())", "put_line(err, line_of_refusal(Refusal::OutOfMemory));"],
     "crates/fx_arguments/src/mistakes.rt": ["from_slice(alloc, before)"],
     "crates/fx_arguments/src/read_ahead.rt": ["from_slice(alloc, self.text)", "resize(filled + PART, 0)"],
+    "crates/fx_contour/src/fault.rt": ["ContourFault::OutOfMemory"],
     "crates/fx_cli/src/watch.rt": ["from_slice(alloc, start)"],
     "crates/fx_front/src/lines.rt": ["let _ = put_all(err, line)", "from_slice(alloc, b\"mkstrike: \")"],
     "crates/fx_front/src/output.rt": [
@@ -22,6 +25,7 @@ PLACES = {
     ],
     "crates/fx_words/src/parts.rt": ["from_slice(alloc, before)"],
     "crates/fx_fixed/src/memory.rt": ["with_capacity(alloc, capacity)"],
+    "crates/fx_hint/src/fault.rt": ["HintFault::OutOfMemory"],
     "crates/fx_hint/src/kept_glyphs.rt": [
         "with_capacity(alloc, PLACES)",
         "let _ = &self.places",
@@ -31,6 +35,7 @@ PLACES = {
     "crates/fx_hint/src/part.rt": ["let _ends = zone.ends()"],
     "crates/fx_hint/src/programmed.rt": ["let _count = zone.points().len()", "let _ends = made.zone.ends()"],
     "crates/fx_machine/src/definitions.rt": ["vec![in alloc; None; count]"],
+    "crates/fx_machine/src/halt.rt": ["MachineFault::OutOfMemory"],
     "crates/fx_machine/src/machine.rt": [
         "Box::new(alloc, state)",
         "Box::new(alloc, state)",
@@ -45,6 +50,8 @@ PLACES = {
         "vec![in alloc; None; words.len()]",
     ],
     "crates/fx_request/src/characters.rt": ["from_slice(alloc, chars)", "from_slice(alloc, chars)"],
+    "crates/fx_request/src/faults.rt": ["Refusal::OutOfMemory"],
+    "crates/fx_request/src/refusal.rt": ["Refusal::OutOfMemory,"],
     "crates/fx_rows/src/band.rt": ["let _ = words.pop()"],
     "crates/fx_rows/src/lanes.rt": ["let _number = *number"],
     "crates/fx_rows/src/rows.rt": ["reserve_exact(frame.height as usize * words_for(frame.width))"],
@@ -54,12 +61,14 @@ PLACES = {
     "crates/fx_strike/src/hinter.rt": ["Box::new(alloc, keeping)"],
     "crates/fx_strike/src/kept_text.rt": ["reserve_exact(wanted.max(used + count) - used)"],
     "crates/fx_winding/src/bitmap.rt": ["vec![in alloc; 0u32; count]"],
+    "crates/fx_winding/src/fault.rt": ["ScanFault::OutOfMemory"],
     "crates/fx_winding/src/pieces.rt": ["with_capacity(alloc, capacity)", "reserve(capacity)"],
     "crates/fx_winding/src/plain.rt": ["vec![in alloc; 0u32; words_for(frame.width)]"],
     "crates/fx_winding/src/scratch.rt": ["vec![in alloc; 0i32; 32 * words]", "vec![in alloc; 0u32; words]"],
     "crates/fx_winding/src/words.rt": ["reserve_exact(count)", "resize(count, word)"],
     "crates/fx_zone/src/zone.rt": ["reserve(points.len())", "reserve(more.len())"],
     "crates/mkstrike_c/src/block.rt": ["with_capacity(alloc, ORIGIN + words.len())"],
+    "crates/mkstrike_c/src/making.rt": ["Err(Refusal::WriteFailed(_)) => Err(Refusal::OutOfMemory),"],
     "crates/mkstrike_c/src/gathered.rt": [
         "resize(start + size(glyph, packed), 0)",
         "with_capacity(alloc, most.min(wanted.entries))",
@@ -68,13 +77,12 @@ PLACES = {
 
 # Good code, by the path that it could have.
 GOOD = [
-    ("crates/fx_one/src/fault.rt", "impl From<AllocError> for Fault {\n    fn from(_e: AllocError) -> Fault { Fault::OutOfMemory }\n}"),
+    ("crates/fx_one/src/fault.rt", "impl From<AllocError> for Fault {\n    fn from(_e: AllocError) -> Fault { g() }\n}"),
     ("crates/fx_one/src/fault.rt", "pub enum Fault {\n    Full,\n    OutOfMemory,\n}"),
     ("crates/fx_one/src/a.rt", "use std::alloc::{AllocError, Global};\nfn f(x: Vec<u8>) -> Result<Vec<u8>, AllocError> { Ok(x) }"),
-    ("crates/fx_one/src/a.rt", "fn f() { match g() { A::OutOfMemory => B::OutOfMemory, A::Full => B::Full, } }"),
-    ("crates/fx_one/src/a.rt", "fn f() { match g() { Err(A::OutOfMemory) => { h(); Err(B::OutOfMemory) } Ok(_) => Ok(()), } }"),
-    ("crates/fx_one/src/a.rt", "fn f() { match g() { B::OutOfMemory => (90, 1), B::Full | B::Far if h() => (1, 2), } }"),
-    ("crates/fx_one/src/a.rt", "fn f() { if let Err(A::OutOfMemory) = g() { h(); } if matches!(g(), Err(A::OutOfMemory)) { h(); } }"),
+    ("crates/fx_one/src/a.rt", "fn f() {\n    match g() {\n        A::OutOfMemory => B::OutOfMemory,\n        A::Full => B::Full,\n    }\n}"),
+    ("crates/fx_one/src/a.rt", "fn f() {\n    match g() {\n        Err(AllocError) => (Err(B::OutOfMemory), None),\n        Ok(_) => h(),\n    }\n}"),
+    ("crates/fx_one/src/a.rt", "fn f() {\n    match g() {\n        B::OutOfMemory => (90, 1),\n        B::Full | B::Far if h() => (1, 2),\n    }\n}"),
     ("crates/fx_one/src/a.rt", "fn f()\n    ensures { OnErr result (λ e. e ≡ OutOfMemory) }\n{ g(); }"),
     ("crates/fx_one/src/a.rt", "// Err(A::OutOfMemory), Vec::with_capacity(alloc, 9)\nfn f() { g(\"OutOfMemory\"); }"),
     ("crates/fx_one/src/a.rt", "fn f() {}\n#[cfg(test)]\nmod tests { fn g() { Err(A::OutOfMemory) } }\n"),
@@ -99,12 +107,13 @@ PLANTED = [
     ("crates/fx_one/src/a.rt", "fn f() { Err(Fault { error: AllocError }) }"),
     ("crates/fx_one/src/a.rt", "fn f() { g().map_err(|_| A::OutOfMemory) }"),
     ("crates/fx_one/src/a.rt", "impl A { fn f() -> A { Self::OutOfMemory } }"),
-    ("crates/fx_one/src/a.rt", "fn f() { match g() { Ok(_) | Err(A::OutOfMemory) if h() => Err(B::OutOfMemory), _ => Ok(()), } }"),
-    ("crates/fx_one/src/a.rt", "fn f() { match g() { Err(A::Full) | Err(A::OutOfMemory) => Err(B::OutOfMemory), } }"),
-    ("crates/fx_one/src/a.rt", "fn f() { match g() { x if x != A::OutOfMemory => Err(B::OutOfMemory), } }"),
-    ("crates/fx_one/src/a.rt", "fn f() { match g() { Err(A::OutOfMemory) => Err(B::OutOfMemory), Ok(_) => Err(B::OutOfMemory), } }"),
-    ("crates/fx_one/src/a.rt", "fn f() { match g() { Err(A::OutOfMemory) => match h() { _ => Err(B::OutOfMemory), }, } }"),
-    ("crates/fx_one/src/a.rt", "fn f() { match g() { Err(A::OutOfMemory) => h(), _ => { if i() { return Err(B::OutOfMemory); } } } }"),
+    ("crates/fx_one/src/a.rt", "fn f() {\n    match g() {\n        Ok(_) | Err(A::OutOfMemory) if h() => Err(B::OutOfMemory),\n        _ => Ok(()), } }"),
+    ("crates/fx_one/src/a.rt", "fn f() {\n    match g() {\n        Err(A::Full) | Err(A::OutOfMemory) => Err(B::OutOfMemory), } }"),
+    ("crates/fx_one/src/a.rt", "fn f() {\n    match g() {\n        Err(A::Full) |\n        Err(A::OutOfMemory) => Err(B::OutOfMemory), } }"),
+    ("crates/fx_one/src/a.rt", "fn f() {\n    match g() {\n        x if x != A::OutOfMemory => Err(B::OutOfMemory), } }"),
+    ("crates/fx_one/src/a.rt", "fn f() {\n    match g() {\n        Err(A::OutOfMemory) => Err(B::OutOfMemory),\n        Ok(_) => Err(B::OutOfMemory), } }"),
+    ("crates/fx_one/src/a.rt", "fn f() {\n    match g() {\n        Err(A::OutOfMemory) => match h() { _ => Err(B::OutOfMemory), }, } }"),
+    ("crates/fx_one/src/a.rt", "fn f() {\n    match g() {\n        Err(A::OutOfMemory) => h(),\n        _ => { if i() { return Err(B::OutOfMemory); } } } }"),
     ("crates/fx_one/src/a.rt", "// #[cfg(test)]\n// mod tests\nfn f() { Err(A::OutOfMemory) }"),
     ("crates/fx_one/src/a.rt", "#[cfg(test)]\nmod tests { fn g() {} }\nfn f() { Err(A::OutOfMemory) }"),
     ("crates/fx_one/src/tests.rt", "fn f() { Err(A::OutOfMemory) }"),

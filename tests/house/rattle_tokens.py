@@ -1,15 +1,10 @@
 """The words of a Rattle source, for forms.py: without comments, texts, ghost code, contracts and the tests at its end."""
-import collections
 import re
 
 TOKEN = re.compile(r"""(?P<skip>\s+|//[^\n]*|/\*.*?\*/)|(?P<text>b?"(?:[^"\\]|\\.)*"|b?'(?:[^'\\\n]|\\[^\n]{1,6})')|(?P<life>'\w+)
     |(?P<word>\w+)|(?P<mark>=>|->|::|==|!=|<=|>=|&&|\|\||\.\.=?|[^\w\s])""", re.X | re.S)
 PAIRS = {"(": ")", "[": "]", "{": "}"}
 GHOST = ("ensures", "requires", "ghost")
-HEADS = ("fn", "impl", "enum", "struct", "trait", "mod", "match", "use")
-
-# Where a word is: the kind of the innermost item, the name of the function, the words of the `impl`.
-Frame = collections.namedtuple("Frame", "kind function impl")
 
 
 def tokens_of(text):
@@ -100,88 +95,6 @@ class Source:
             if self.word(at) == "{" and self.word(at - 1) != "::":
                 return False
         return self.word(at) == "use"
-
-    def head_of(self, opening):
-        """The words before a brace, back to the end of what is before them, where they name an item."""
-        at, words = opening - 1, []
-        while at >= 0 and (self.words[at] not in (";", "{", "}") or self.parent[at] != self.parent[opening]):
-            if self.parent[at] == self.parent[opening]:
-                words.append(self.words[at])
-            at -= 1
-        return words[::-1]
-
-    def frame(self, at):
-        """The item, function (or constant) and `impl` that a place is in."""
-        kind, function, impl = "", "", []
-        opening = self.parent[at]
-        while opening is not None:
-            head = self.head_of(opening) if self.words[opening] in "{[" else []
-            if self.words[opening] == "[":
-                if "const" in head and not function:
-                    function = head[head.index("const") + 1]
-                head = []
-            item = next((it for it in head if it in HEADS), "")
-            kind = kind or item
-            if item == "fn" and not function:
-                function = head[head.index("fn") + 1]
-            if item == "impl":
-                impl = head[:head.index("for")] if "for" in head else []
-            opening = self.parent[opening]
-        return Frame(kind, function, impl)
-
-    # ---- the levels around a place
-
-    def is_block(self, at):
-        """Whether a place is straight in braces, or in nothing."""
-        return self.word(self.parent[at]) in ("", "{")
-
-    def levels(self, at):
-        """A place, and the brackets around it, up to and with the first that are straight in braces."""
-        while at is not None:
-            yield at
-            if self.is_block(at):
-                return
-            at = self.parent[at]
-
-    def after_at_level(self, at, stops):
-        """The first of some words after a place, within its brackets and not deeper."""
-        at = self.close.get(at, at) + 1
-        while at < len(self.words) and self.words[at] not in PAIRS.values():
-            if self.words[at] in stops:
-                return self.words[at]
-            at = self.close.get(at, at) + 1 if self.words[at] in PAIRS else at + 1
-        return ""
-
-    def before_at_level(self, at, stops):
-        """The place of the first of some words before a place, within its brackets and not deeper; None if there is none."""
-        inside, at = self.parent[at], at - 1
-        while at >= 0 and at != inside:
-            if self.parent[at] == inside and self.words[at] in stops:
-                return at
-            at -= 1
-        return None
-
-    def arrow_before(self, at):
-        """The place of the `=>` whose right side a place is on."""
-        while at is not None:
-            stop = self.before_at_level(at, ("=>", ";", ",") if self.is_block(at) else ("=>",))
-            if self.word(stop) == "=>":
-                return stop
-            opening = self.parent[at]
-            if opening is None or self.word(stop) == "," or self.word(opening) == "{" and self.word(opening - 1) != "=>":
-                return None
-            at = opening
-        return None
-
-    def pattern_of(self, arrow):
-        """The words of the pattern before a `=>`, with its guard."""
-        inside, at, words = self.parent[arrow], arrow - 1, []
-        while at >= 0 and at != inside:
-            if self.parent[at] == inside and self.words[at] in (",", "}"):
-                break
-            words.append(self.words[at])
-            at -= 1
-        return words
 
     # ---- texts
 

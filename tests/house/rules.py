@@ -9,6 +9,8 @@ import glob
 import os
 import re
 
+from prebuilt import libraries_of_crates
+
 # Each rule, and how many findings of it there may be: 0, or what is left of older times. A number here only ever goes down.
 WANTED = {
     "loops_labelled": 0,
@@ -36,6 +38,7 @@ WANTED = {
     "readme_short": 0,
     "sentences_of_pages": 0,
     "sentences_of_documents": 0,
+    "idioms": 0,
 }
 
 # The crates below `fx_raster` and the types by which they find pixels: `fx_strike` names none of them.
@@ -59,18 +62,21 @@ WORDS = {
     "stands behind": "comes after",
 }
 
-DOCUMENTS = ["README.md", "CONTRIBUTING.md", "SECURITY.md", "docs/*.md", "tools/README.md", "bench/README.md"]
+DOCUMENTS = ["README.md", "CONTRIBUTING.md", "SECURITY.md", "docs/*.md", "suite/*.md", "tools/README.md", "bench/README.md"]
 # What users read: no sentence of these is too long. The help is the texts of crates/fx_front/src/help.rt.
 PAGES = ["README.md", "SECURITY.md", "docs/COOKBOOK.md", "docs/LIBRARY.md", "docs/PYTHON.md", "docs/COMPARED.md", "docs/*.1", "crates/fx_front/src/help.rt"]
+
+# What stands for a noun or a clause that a plain sentence says.
+IDIOM = re.compile(r"\b(?:that|those)\s+of\b|\bones?\s+(?:that|which)\b|\bby\s+which\b", re.IGNORECASE)
 
 FUNCTION = re.compile(r"\s*(?:pub(?:\(\w+\))? )?(?:const )?(?:unsafe )?fn (\w+)")
 LOOP = re.compile(r"\s*(?:('\w+): )?(?:for\b.+\bin\b|while\b|loop\b)")
 COMMENT = re.compile(r"(?://|--)(.*)")
 
-# The table of the refusals, in the code: a row, and one of a cause of halts. What docs/REFUSALS.md writes for a place, and tools/damage.c.
+# The table of the refusals, in the code: a row, and one of a cause of halts. What docs/REFUSALS.md writes for a place.
 REFUSAL = re.compile(r'Refusal::\w+(?:\(\w+\))? => \((\d+), "(\w+)", Place::(\w+)')
 CAUSE = re.compile(r'Cause::\w+ => \((\d+), "(\w+)"\)')
-PLACES = {"Nowhere": ("", " "), "Table": (" tag", "t"), "Glyph": (" g", "g"), "Property": (" p", ""), "Bytes": (" n", ""), "Halt": ("", "h")}
+PLACES = {"Nowhere": "", "Table": " tag", "Glyph": " g", "Property": " p", "Bytes": " n", "Halt": ""}
 OF_THE_PROGRAM = range(70, 80)  # reading and writing, which no call from C does
 OF_C = ((64, "BadMode"), (65, "BadBlock"))  # which only calls from C give
 
@@ -139,9 +145,8 @@ class House:
 
     def crates(self):
         """From each crate to those of the repository that it stands on, in the order of crates.txt."""
-        rows = [line.partition(":") for line in self.text("crates.txt").split("\n") if ":" in line and not line.startswith("#")]
-        names = [name.split()[0] for name, _, _ in rows]
-        return {name.split()[0]: [it for it in libraries.split() if it in names] for name, _, libraries in rows}
+        uses = libraries_of_crates(self.text("crates.txt"))
+        return {name: [it for it in libraries if it in uses] for name, libraries in uses.items()}
 
 
 def without_tests(text):
@@ -367,31 +372,26 @@ def counts(house):
 
 
 def refusals(house):
-    """The refusals of docs/REFUSALS.md, of include/mkstrike.h and of tools/damage.c are those of the table in the code.
+    """The refusals of docs/REFUSALS.md and of include/mkstrike.h are those of the table in the code.
 
     `Refusal::entry` and `Cause::entry` are the table, by number, name and place; the definitions have it again, and the proof
     compares them. Users look refusals up in the document and name them by the header, which nothing else compares before the gate
-    has run for an hour. A tool may know fewer of them."""
+    has run for an hour."""
     table = {(int(number), name): place for number, name, place in REFUSAL.findall(house.text("crates/fx_request/src/refusal.rt"))}
     table.update(((int(number), name), "Halt") for number, name in CAUSE.findall(house.text("crates/fx_machine/src/halt.rt")))
     table.update((it, "Nowhere") for it in OF_C)
-    told = {"docs/REFUSALS.md": [], "include/mkstrike.h": [], "tools/damage.c": []}
-    for number, name, fields in re.findall(r"^\| (\d+) \| (\w+)([ \w]*) \|", house.text("docs/REFUSALS.md"), re.MULTILINE):
-        told["docs/REFUSALS.md"].append((int(number), name + fields))
-    for name, number in re.findall(r"\bMKSTRIKE_([A-Z_]+) = (\d\d)\b", house.text("include/mkstrike.h")):
-        told["include/mkstrike.h"].append((int(number), name))
-    for number, name, kind in re.findall(r'\{(\d+), "(\w+)", \'(.)\'\}', house.text("tools/damage.c")):
-        told["tools/damage.c"].append((int(number), name + ", " + kind))
+    told = {
+        "docs/REFUSALS.md": re.findall(r"^\| (\d+) \| (\w+[ \w]*) \|", house.text("docs/REFUSALS.md"), re.MULTILINE),
+        "include/mkstrike.h": [it[::-1] for it in re.findall(r"\bMKSTRIKE_([A-Z_]+) = (\d\d)\b", house.text("include/mkstrike.h"))],
+    }
     due = {
-        "docs/REFUSALS.md": [(number, name + PLACES[place][0]) for (number, name), place in table.items()],
-        "include/mkstrike.h": [(number, re.sub(r"(?<=[a-z])([A-Z])", r"_\1", name).upper()) for number, name in table
+        "docs/REFUSALS.md": [("%d" % number, name + PLACES[place]) for (number, name), place in table.items()],
+        "include/mkstrike.h": [("%d" % number, re.sub(r"(?<=[a-z])([A-Z])", r"_\1", name).upper()) for number, name in table
                                if number not in OF_THE_PROGRAM],
-        "tools/damage.c": [(number, name + ", " + PLACES[place][1]) for (number, name), place in table.items()],
     }
     for path, rows in due.items():
-        yield from ((path, 1, "%d %s is not in the table" % it) for it in told[path] if it not in rows)
-        if path != "tools/damage.c":
-            yield from ((path, 1, "%d %s of the table is not there" % it) for it in rows if it not in told[path])
+        yield from ((path, 1, "%s %s is not in the table" % it) for it in told[path] if it not in rows)
+        yield from ((path, 1, "%s %s of the table is not there" % it) for it in rows if it not in told[path])
 
 
 def number_of(text):
@@ -660,6 +660,15 @@ def sentences_of_pages(house):
 def sentences_of_documents(house):
     """No sentence of the other documents has more than 40 words; older ones are counted, and may only get fewer."""
     yield from long_sentences(house, [path for path in house.documents() + house.paths("CHANGELOG.md") if path not in pages(house)])
+
+
+def idioms(house):
+    """No document says "that of", "one that" or "by which"; those that are left are counted, and may only get fewer.
+
+    A reader has to look back for what they stand for. Name it, or begin with the actor."""
+    for path in house.documents() + house.paths("CHANGELOG.md") + house.paths("suite/*.md"):
+        for it in IDIOM.finditer(house.text(path)):
+            yield path, house.text(path).count("\n", 0, it.start()) + 1, " ".join(it.group(0).split())
 
 
 RULES = {name: globals()[name] for name in WANTED}

@@ -72,10 +72,10 @@ UNCOVERED = """{"id":"tables/uncovered","group":"tables","font":"scan.ttf","ppem
 
 
 # What a check needs to look at anything: without it its trials are left out.
-NEEDS = {"tests/c": "cc", "tests/program/test_work.py": "valgrind", "tests/python": "pytest", "tools/check_web": "chromium",
-         "tools/fuzz_c": "clang", "tools/damage": "cc", "tests/program/test_memory.py": "cc", "tests/packages": "dpkg-deb"}
+NEEDS = {"tests/c": "cc", "tests/program/test_work.py": "valgrind", "tests/python": "pytest", "tests/web -k 'not planted'": "chromium", "tests/web -k planted": "node",
+         "tools/fuzz_c": "clang", "tests/program/test_memory.py": "cc", "tests/packages": "dpkg-deb"}
 # Checks that look at dist/, and at nothing if it is of other sources.
-OF_DIST = {"tools/check_dist", "tests/c", "tests/python", "tools/check_web", "tools/fuzz_c", "tests/packages"}
+OF_DIST = {"tools/check_dist", "tests/c", "tests/python", "tests/web", "tools/fuzz_c", "tests/packages"}
 
 
 class Trial:
@@ -143,9 +143,10 @@ TRIALS = [
           ("python/mkstrike/glyph.py", "return self.bottom + self.height", "return self.bottom")),
     Trial("tests/packages", "another file each time", FAILED, "pytest tests/packages -k again",
           ("packaging/build", "# each package has the same time in all, however long this takes", "date +%N >\"$root/usr/share/doc/$1/now\"")),
-    Trial("tools/check_web", "another caption", r"the control differences|not within \d+ seconds",
-          "tools/check_web --program PROGRAM --modules dist --only controls",
+    Trial("tests/web -k 'not planted'", "another caption", FAILED, "env MKSTRIKE_MODULES=dist pytest tests/web -k controls",
           ("dist/mkstrike.html", "pixels differ", "pixels vary")),
+    Trial("tests/web -k planted", "a fault that is none", FAILED, "env MKSTRIKE_MODULES=dist pytest tests/web -k 'planted and unlink'",
+          ("tests/web/test_npm.py", '"system.unlinkSync(path(name))", "0")', '"0o1, O_RDWR", "0o1, O_RDWR")')),
     Trial("tools/fuzz_c", "a call that is not made", r"never calls mkstrike_version", "tools/fuzz_c --runs 1",
           ("tools/fuzz_c.c", "mkstrike_version()", "MKSTRIKE_VERSION")),
     Trial("tools/fuzz_c", "a fault of the library", r"a fault", "tools/fuzz_c --runs 400",

@@ -7,7 +7,7 @@ import pytest
 from documents import DOCUMENTS, NUMBERED, PICTURES, Document, blocks_of_man, blocks_of_markdown, repeated_numbers
 from prebuilt import TOP
 
-STRIKE = r"""printf 'FONTBOUNDINGBOX 2 1 0 0\nSTARTCHAR a\nENCODING 65\nDWIDTH 2 0\nBBX 2 1 0 0\nBITMAP\n80\nENDCHAR\n' > a.bdf"""
+STRIKE = r"""printf 'STARTFONT 2.1\nFONT a\nSIZE 1 72 72\nFONTBOUNDINGBOX 2 1 0 0\nCHARS 1\nSTARTCHAR a\nENCODING 65\nDWIDTH 2 0\nBBX 2 1 0 0\nBITMAP\n80\nENDCHAR\nENDFONT\n' > a.bdf"""
 GOOD = """# Made
 
     echo one; echo two; echo three

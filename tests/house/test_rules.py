@@ -98,7 +98,6 @@ pub fn is_packed(mode: u32) -> bool
     mode / 256 % 2 == 1
 }
 """,
-    "tools/damage.c": "    {17, \"BadLoca\", 'g'}, {30, \"StackUnder\", 'h'}};\n",
     "crates/fx_one/must-fail/difference.edit": "file: src/sum.rt\nold: saturating_add\nnew: saturating_sub\n",
     "crates/fx_one/planted/none.edit": "file: src/sum.rt\nold: 'numbers: for number in numbers\nnew: 'numbers: for number in none\n",
 }
@@ -129,7 +128,6 @@ PLANTED = [
     ("refusals", "docs/REFUSALS.md", "BadLoca g", "BadLoca"),
     ("refusals", "include/mkstrike.h", "BAD_LOCA", "BAD_LOCATION"),
     ("refusals", "include/mkstrike.h", "    MKSTRIKE_BAD_HEAD = 13,\n", ""),
-    ("refusals", "tools/damage.c", "'g'", "'t'"),
     ("header", "include/mkstrike.h", "NEAR UINT32_C(0x004)", "NEAR UINT32_C(0x008)"),
     ("header", "crates/mkstrike_c/src/mode.rt", "return Dropout::Near", "return Dropout::Font"),
     ("header", "crates/mkstrike_c/src/mode.rt", "mode / 256 ", "mode / 512 "),
@@ -153,6 +151,8 @@ PLANTED = [
     ("sentences_of_pages", "crates/fx_front/src/help.rt", "sums ends.", "sums " + "ends " * 40),
     ("sentences_of_documents", "CONTRIBUTING.md", "The code is", "The " + "good\n" * 40 + "code is"),
     ("sentences_of_documents", "docs/DEFINITIONS.md", "| sums", "| " + "and sums " * 21),
+    ("idioms", "CONTRIBUTING.md", "The code is", "The one\nthat adds is"),
+    ("idioms", "docs/DEFINITIONS.md", "| sums", "| those of sums"),
     ("twice", "crates/fx_one/specs/Sums.antt", "pub", "".join("fact%d\n" % k for k in range(8)) * 2 + "pub"),
 ]
 

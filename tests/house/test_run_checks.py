@@ -70,7 +70,8 @@ def test_interrupt():
         child = os.fork()
         if not child:
             made = "trap 'rm %s; exit 1' INT; setsid sleep 1000 & echo $! > %s.new; mv %s.new %s; wait"
-            signal.signal(signal.SIGTERM, run_checks.stop)
+            for it in (signal.SIGTERM, signal.SIGINT):  # which a script's background ignores
+                signal.signal(it, run_checks.stop)
             try:
                 run_checks.run([run_checks.Check(shlex.join(["sh", "-c", made.replace("%s", shlex.quote(begun))]), None, False)], 1)
             except SystemExit as ended:

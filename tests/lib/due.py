@@ -69,6 +69,14 @@ class Due:
         return None if out == self.out else difference(out, self.out)
 
 
+class Ends(Due):
+    """What is due of a request that is done: its line on standard error, and how its output ends."""
+
+    def wrong(self, answer):
+        ends = answer[1].endswith(self.out)
+        return Due.wrong(self, (answer[0], self.out if ends else answer[1], answer[2]))
+
+
 class Cut(Due):
     """What is due where the output fails at a place that the system chooses: exactly the bytes told of were taken."""
 
@@ -138,6 +146,11 @@ def usage():
 def refused(text, out=b""):
     """A refusal by its number, name and fields."""
     return Due(REFUSED, b"mkstrike: " + text.encode() + b"\n", out)
+
+
+def counted(glyphs=1, missing=0, strays=0, steps=0):
+    """The line of a strike with these counts."""
+    return b"mkstrike: glyphs %d missing %d strays %d steps %d\n" % (glyphs, missing, strays, steps)
 
 
 def halted(cause, during, where, at, opcode):
@@ -214,6 +227,12 @@ def name_of(code):
     return ("uni%04X" if code < 0x10000 else "u%X") % code
 
 
+def glyph_lines(code, box, *rows, swidth=375, dwidth=6):
+    """The lines of a glyph."""
+    head = ["STARTCHAR " + name_of(code), "ENCODING %d" % code, "SWIDTH %d 0" % swidth, "DWIDTH %d 0" % dwidth, "BBX " + box, "BITMAP"]
+    return "\n".join([*head, *rows, "ENDCHAR\n"])
+
+
 class Glyph:
     """A glyph as the text has it: bits, the advance of `hmtx` in FUnits, that of the outline, steps and strays."""
 
@@ -227,9 +246,8 @@ class Glyph:
 
     def tail(self, upem):
         """The lines after the code point."""
-        lines = ["SWIDTH %d 0" % near(self.advance * 1000, upem), "DWIDTH %d 0" % self.width,
-                 "BBX %d %d %d %d" % self.bits.box, "BITMAP"]
-        return "\n".join(lines + row_lines(self.bits) + ["ENDCHAR\n"])
+        lines = glyph_lines(0, "%d %d %d %d" % self.bits.box, *row_lines(self.bits), swidth=near(self.advance * 1000, upem), dwidth=self.width)
+        return lines[lines.index("SWIDTH"):]
 
 
 def x11_properties(name, ppem, widths):
@@ -273,5 +291,4 @@ def strike(font, ppem, found, missing, name=STRIKE, prelude=(0, 0), properties=(
     text += ["STARTCHAR %s\nENCODING %d\n%s" % (name_of(code), code, tail(glyph)) for code, glyph in found]
     text.append("ENDFONT\n")
     steps, strays = (prelude[0] + sum(g.steps for _, g in found), prelude[1] + sum(g.strays for _, g in found))
-    line = "mkstrike: glyphs %d missing %d strays %d steps %d\n" % (len(found), missing, strays, steps)
-    return Due(DONE, line.encode(), "".join(text).encode())
+    return Due(DONE, counted(len(found), missing, strays, steps), "".join(text).encode())

@@ -1,6 +1,9 @@
 """Makes fonts for tools and tests: a small fixture, parts of real fonts, and fonts written from nothing."""
 import struct
 
+from reference.charmap import CharMap
+from reference.fontfile import FOUR, MORE, OFFSETS, PROGRAM, SCALE, TWO, WORDS, Font
+
 # A font of four glyphs: two are empty, one is a square ring, one a single arc. Its map has 20, 41 and 42.
 FIXTURE = bytes.fromhex("""
     00010000 0007 0040 0002 0030
@@ -20,8 +23,6 @@ FIXTURE = bytes.fromhex("""
 """)
 assert len(FIXTURE) == 382
 RING, ARC = FIXTURE[324:359], FIXTURE[360:381]  # its glyphs 2 and 3
-
-WORDS, OFFSETS, SCALE, MORE, TWO_SCALES, FOUR, PROGRAM = 1, 2, 8, 0x20, 0x40, 0x80, 0x100
 
 
 def tables_of(font):
@@ -120,15 +121,19 @@ def simple(contours, program=b""):
     return out + bytes(len(out) % 2)
 
 
+def components(records, program=b""):
+    """The bytes of a composite of records: flags, a glyph, two arguments, and the numbers of a matrix. MORE_COMPONENTS is set here."""
+    out = struct.pack(">hhhhh", -1, 0, 0, 0, 0)
+    for k, (flags, glyph, args, *matrix) in enumerate(records):
+        form = ("hh" if flags & OFFSETS else "HH") if flags & WORDS else ("bb" if flags & OFFSETS else "BB")
+        flags |= MORE if k + 1 < len(records) else PROGRAM if program else 0
+        out += struct.pack(">HH" + form, flags, glyph, *args) + b"".join(struct.pack(">h", int(it)) for numbers in matrix for it in numbers)
+    return out + (struct.pack(">H", len(program)) + program if program else b"")
+
+
 def composite(parts, program=b""):
     """The bytes of a composite. A part is (glyph, dx, dy), or (glyph, dx, dy, scale) with the scale in 1/16384."""
-    out = struct.pack(">hhhhh", -1, 0, 0, 0, 0)
-    for k, (glyph, dx, dy, *scale) in enumerate(parts):
-        last = k + 1 == len(parts)
-        flags = WORDS | OFFSETS | (SCALE if scale else 0) | (0 if last else MORE) | (PROGRAM if last and program else 0)
-        out += struct.pack(">HHhh", flags, glyph, dx, dy) + b"".join(struct.pack(">h", s) for s in scale)
-    if program:
-        out += struct.pack(">H", len(program)) + program
+    out = components([(WORDS | OFFSETS | (SCALE if scale else 0), glyph, (dx, dy), scale) for glyph, dx, dy, *scale in parts], program)
     return out + bytes(len(out) % 2)
 
 
@@ -162,60 +167,36 @@ def components_at(glyph):
         flags, = struct.unpack_from(">H", glyph, at)
         places.append(at + 2)
         at += 8 if flags & WORDS else 6
-        at += 2 if flags & SCALE else 4 if flags & TWO_SCALES else 8 if flags & FOUR else 0
+        at += 2 if flags & SCALE else 4 if flags & TWO else 8 if flags & FOUR else 0
         if not flags & MORE:
             return places
 
 
 def glyph_numbers(font):
-    """The font's map of format 4 for Windows, as a dict from code to glyph."""
-    cmap, found = tables_of(font)["cmap"], {}
-    for k in range(struct.unpack_from(">H", cmap, 2)[0]):
-        platform, encoding, at = struct.unpack_from(">HHL", cmap, 4 + 8 * k)
-        if (platform, encoding) != (3, 1) or struct.unpack_from(">H", cmap, at)[0] != 4:
-            continue
-        n = struct.unpack_from(">H", cmap, at + 6)[0] // 2
-        for s in range(n):
-            high, low, delta, jump = (struct.unpack_from(">H", cmap, at + off + 2 * s)[0] for off in (14, 16 + 2 * n, 16 + 4 * n, 16 + 6 * n))
-            for code in range(low, high + 1):
-                if jump in (0, 0xFFFF):
-                    glyph = (code + delta) & 0xFFFF
-                else:
-                    place = at + 16 + 6 * n + 2 * s + jump + 2 * (code - low)
-                    glyph = struct.unpack_from(">H", cmap, place)[0] if place + 2 <= len(cmap) else 0
-                    glyph = (glyph + delta) & 0xFFFF if glyph else 0
-                if glyph:
-                    found[code] = glyph
-        break
-    return found
+    """The font's map of format 4, as a dict from code to glyph."""
+    found = CharMap(Font(font), (4,))
+    pairs = ((code, found.by_segment(k, code)) for k, end in enumerate(found.end_codes) for code in range(found.start(k), end + 1))
+    return {code: glyph for code, glyph in pairs if glyph}
 
 
 def part_of(font, codes, short=False):
     """The font with the glyphs of these codes alone, and their components, numbered anew. Its programs stay."""
-    tables, numbers = tables_of(font), glyph_numbers(font)
-    long = struct.unpack_from(">h", tables["head"], 50)[0]
-    places = struct.unpack(">%d%s" % (len(tables["loca"]) // (4 if long else 2), "L" if long else "H"), tables["loca"])
-    def bytes_of(g):
-        return tables["glyf"][places[g] * (1 if long else 2):places[g + 1] * (1 if long else 2)]
+    tables, numbers, whole = tables_of(font), glyph_numbers(font), Font(font)
     kept = [0] + sorted({numbers[code] for code in codes if code in numbers})
     for g in kept:  # grows while it is walked
-        for at in components_at(bytes_of(g)):
-            part, = struct.unpack_from(">H", bytes_of(g), at)
+        for at in components_at(whole.glyph_bytes(g)):
+            part, = struct.unpack_from(">H", whole.glyph_bytes(g), at)
             if part not in kept:
                 kept.append(part)
     glyf, loca = b"", []
     for g in kept:
-        data = bytearray(bytes_of(g))
+        data = bytearray(whole.glyph_bytes(g))
         for at in components_at(data):
             struct.pack_into(">H", data, at, kept.index(struct.unpack_from(">H", data, at)[0]))
         loca.append(len(glyf))
         glyf += bytes(data) + bytes(-len(data) % 4)
     loca.append(len(glyf))
-    pairs, = struct.unpack_from(">H", tables["hhea"], 34)
-    hmtx = b""
-    for g in kept:
-        bearing = 4 * g + 2 if g < pairs else 4 * pairs + 2 * (g - pairs)
-        hmtx += tables["hmtx"][4 * min(g, pairs - 1):][:2] + tables["hmtx"][bearing:][:2]
+    hmtx = b"".join(struct.pack(">Hh", whole.advance(g), whole.bearing(g)) for g in kept)
     head, hhea, maxp = (bytearray(tables[tag]) for tag in ("head", "hhea", "maxp"))
     struct.pack_into(">h", head, 50, 0 if short else 1)
     struct.pack_into(">H", hhea, 34, len(kept))

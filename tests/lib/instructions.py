@@ -1,4 +1,5 @@
 """Writes programs of fonts, and counts what they do: instructions executed, and numbers outside their tables."""
+import re
 
 from making import assembler
 from making.assembler import NAMES
@@ -6,19 +7,14 @@ from making.assembler import NAMES
 X_AXIS, IUP_X = NAMES["SVTCA"] + 1, NAMES["IUP"] + 1
 DUP, POP, CLEAR, CINDEX, LOOPCALL, CALL, FDEF, ENDF, IDEF = map(
     NAMES.get, "DUP POP CLEAR CINDEX LOOPCALL CALL FDEF ENDF IDEF".split())
-WS, RS, WCVTP, RCVT, GC, SCFS, SZP2, SZPS, SLOOP, EIF, ADD, MIAP, SHPIX, SCANCTRL, SCANTYPE = map(
-    NAMES.get, "WS RS WCVTP RCVT GC SCFS SZP2 SZPS SLOOP EIF ADD MIAP SHPIX SCANCTRL SCANTYPE".split())
+WS, RS, RCVT, GC, SCFS, SZP2, SZPS, SLOOP, EIF, ADD, MUL, MIAP, SHPIX = map(
+    NAMES.get, "WS RS RCVT GC SCFS SZP2 SZPS SLOOP EIF ADD MUL MIAP SHPIX".split())
 GREATEST_WORD = 32767
 
 
-def pushed(number):
-    """Instructions that leave any number of 32 bits: a word, or a word times 2^16 and a word that is added."""
-    if -GREATEST_WORD <= number + 1 and number <= GREATEST_WORD:
-        return b"\xB8" + (number & 0xFFFF).to_bytes(2, "big")
-    low = (number + 0x8000) % 0x10000 - 0x8000
-    high = (number - low >> 16) & 0xFFFF
-    # 2^14 * 2^14 is 2^22 in 26.6 pixels, and a product by that is one by 2^16
-    return b"\xB8" + high.to_bytes(2, "big") + bytes.fromhex("B9 4000 4000 63 63") + pushed(low) + bytes([ADD])
+def steps_of(text):
+    """How many instructions the text of a program has that is run once from end to end; numbers beside each other are one push."""
+    return len(re.findall(r"-?\d+(?: -?\d+)*|[A-Z]\S*", text))
 
 
 class Code:

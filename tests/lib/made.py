@@ -19,13 +19,9 @@ def bits_of_pixels(pixels):
     return due.bits_of([(64 * i + 32, 64 * j + 32) * 2 for i, j in pixels])
 
 
-# What drop-out control does if a program asks for this, or nothing asks for any.
-ASKED = {None: True, "off": False, "left": True, "near": "near"}
-
-
 class Empty:
-    """A glyph without bytes. What its program asks of drop-out control is in `asks`, one of ASKED."""
-    x_min, code, asks = 0, None, None
+    """A glyph without bytes."""
+    x_min, code = 0, None
 
     def data(self):
         """The glyph's bytes."""
@@ -47,9 +43,9 @@ class Empty:
         """Its contours of points (x, y, on) in 1/64 pixels, if its program moves none."""
         return []
 
-    def closed_bits(self, font, ppem, move, near):
-        """Its pixels with drop-out control, by the nearer pixels or not, found one by one."""
-        return bits_of_pixels(dropout.bits(self.pieces(font, ppem, move), "near" if near else "left"))
+    def closed_bits(self, font, ppem, move):
+        """Its pixels with drop-out control by left pixels, found one by one."""
+        return bits_of_pixels(dropout.bits(self.pieces(font, ppem, move), "left"))
 
     def pieces(self, font, ppem, move=0):
         """The lines and arcs of its contours."""
@@ -135,9 +131,7 @@ class Font:
     """A font of models of glyphs. `codes` is a dict from code points to glyph numbers, or one number for all to FFFF.
 
     `fpgm` and `prep` are programs, `cvt` is bytes, and the numbers are those of `maxp`. `metrics` are pairs of an advance and a
-    left side bearing, one for each glyph; else each has the font's advance, and the bearing 0. What `prep` asks of drop-out control
-    is in `asks`, one of ASKED."""
-    asks = None
+    left side bearing, one for each glyph; else each has the font's advance, and the bearing 0."""
 
     def __init__(self, glyphs, codes, upem=1000, fpgm=None, prep=None, cvt=None, wide=False, metrics=None, **numbers):
         self.glyphs, self.codes, self.upem, self.fpgm, self.prep = glyphs, codes, upem, fpgm, prep
@@ -156,6 +150,10 @@ class Font:
         data_of = functools.cache(lambda model: model.data())
         data = [data_of(model) for model in self.glyphs]
         return fonts.font_of(data, self.cmap(), upem=self.upem, metrics=self.metrics, **self.numbers, **programs)
+
+    def all_tables(self):
+        """The font's tables, for a collection."""
+        return fonts.tables_of(self.data())
 
     def cmap(self):
         """Its character map: of format 12 if it is wide."""
@@ -176,8 +174,7 @@ class Font:
         return self.counts_of_model(self.glyphs[number])
 
     def glyph(self, number, ppem, hinted, closed=False):
-        """A glyph at a size as the text has it; `closed` says whether with drop-out control, "near" by the nearer pixels, and "font" as
-        its program asks, or else `prep`."""
+        """A glyph at a size as the text has it; `closed` says whether with drop-out control."""
         advance, bearing = self.metrics_of(number)
         return self.glyph_of_model(self.glyphs[number], ppem, hinted, closed, advance, bearing)
 
@@ -195,8 +192,7 @@ class Font:
         """The same of a glyph's model, advance and left side bearing."""
         start, end = self.span(model, ppem, hinted, advance, bearing)
         steps, strays = self.counts_of_model(model) if hinted else (0, 0)
-        closed = ASKED[hinted and (model.asks or self.asks) or None] if closed == "font" else closed
-        bits = model.closed_bits(self, ppem, -start, closed == "near") if closed else model.bits(self, ppem, hinted, -start)
+        bits = model.closed_bits(self, ppem, -start) if closed else model.bits(self, ppem, hinted, -start)
         return due.Glyph(bits, advance, end - start, steps, strays)
 
     def make(self, codes, ppem, hinted=True, name=due.STRIKE, properties=(), x11=False, closed=False):

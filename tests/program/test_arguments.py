@@ -5,10 +5,10 @@ In lists of command lines a bar separates the arguments, since some are empty or
 import due
 import runs
 from cases import cases
-from due import listed, refused, usage
+from due import counted, glyph_lines, listed, refused, usage
 from fonts import FIXTURE, fixture_with, patched, simple, wide_map_of, with_tables
 from runs import Run
-from test_worked import NAMED, OF_ARC, OF_RING, SPACE, counted, glyph_lines, hexed, strike
+from test_worked import NAMED, OF_ARC, OF_RING, SPACE, hexed, strike
 
 BAD_SIZE, BAD_CHARS, BAD_HEX = refused("60 BadSize"), refused("61 BadChars"), refused("72 BadHex")
 READ_FAILED = refused("71 ReadFailed")
@@ -30,10 +30,22 @@ VALID = (
     "make|--ppem|0|--refused=leave-out|--chars|41|--unhinted", "make|--refused|unhinted|--ppem|0|--chars|41", "show|--ppem|0|--char|41",
     "show|--ppem|0|--char|41|--dropout", "show|--ppem|0|--dropout=left|--char|41", "show|--hex|--char=0000fF|--unhinted|--ppem=0",
     "show|--ppem|1025|--char|110000", "make|--face|0|--ppem|0|--chars|41", "make|--ppem|0|--chars|41|--face|4294967295",
-    "show|--ppem|0|--char|41|--face=00007", "show|--face|+7|--ppem|0|--char|41")
+    "show|--ppem|0|--char|41|--face=00007", "show|--face|+7|--ppem|0|--char|41",
+    "make|--ppem|0|--all", "make|--all|--name=a|--ppem=0|--hex")
 
-# Arguments that are not valid, beside those of test_input.
+WHOLE = "make|--ppem|16|--chars|41|--name|F1|--x11|--dropout|--unhinted|--hex"  # every option, but those that may be given more than once
+
+# Arguments that are not valid.
 NOT_VALID = (
+    "make", "", "Make", "x|" + WHOLE, "make|--ppem|16", "make|--ppem|16|--chars", "make|--chars|41", "--ppem|16|--chars|41",
+    *(WHOLE + more for more in ("|x|y", "|", "|-|-", "|--|x|y", "|--unhinted", "|--x11", "|--hex")),
+    *("make|--ppem|16|--chars|41|" + more for more in (
+        "--ppem|16", "--chars|41", "--name", "--name|-x", "--name|-|--hex", "--unhinted=yes", "--hex=", "--x11=1", "--X11", "--version", "--char|41",
+        "--of|prep", "--unhint", "font|more", "-o", "-o|a|-o|b", "--property", "--property|A", "--property=A", "--property=", "--property|-B=1")),
+    *("make|--chars|41|--ppem|" + size for size in ("65536", "-1", "1.0", "", "16x", " 16", "0x10", "99999999999999999999")),
+    "make|--ppem|16|--chars|-41", "make|--ppem|16|--chars|--hex", "show", "show|--ppem|16", "show|--char|41", "show|--ppem|16|--chars|41",
+    "show|--ppem|16|--char|41|42|43", "show|--ppem|65536|--char|41", "show|--ppem|16|--char|41|--x11", "outline|--of|1", "dump", "dump|--of",
+    "dump|--of|cvt", "dump|--of|65536", "dump|--of|-1", "dump|--of|2|--ppem|16", "dump|--of|2|--of|2", "dump|--of|1|--x11", "dump|2",
     "show|--ppem|0|--char", "show|--ppem|0|--char|-41", "show|--ppem|0|--char|41|--char|41",
     "show|--ppem|0|--char|41|--name|F1", "show|--ppem|0|--char|41|--of|prep", "show|--ppem||--char|41", "show|--ppem|0|--char|41|--refused|stop",
     "dump|--of|glyf", "dump|--of|", "dump|--of|3A", "dump|--of|prep|--of|prep", "dump|--of|prep|--ppem|16",
@@ -47,7 +59,8 @@ NOT_VALID = (
     "outline|--ppem|0", "outline|--glyph|0", "outline|--ppem|0|--char|41|--glyph|0", "show|--ppem|0|--glyph|0|--char|41",
     "show|--ppem|0|--glyph|0|--glyph|0", "outline|--ppem|0|--glyph|-1", "outline|--ppem|0|--glyph=-1", "outline|--ppem|0|--glyph|65536",
     "show|--ppem|0|--glyph|1a", "outline|--ppem|0|--glyph|", "outline|--ppem|0|--glyph|0|--dropout", "outline|--ppem|65536|--glyph|0",
-    "make|--ppem|0|--glyph|0")
+    "make|--ppem|0|--glyph|0", "make|--ppem|0|--all|--chars|41", "make|--chars=|--ppem|0|--all", "make|--ppem|0|--all|--all",
+    "make|--ppem|0|--all=", "show|--ppem|0|--all", "make|--ppem|0|--hex", "make|--ppem|0|--char|41|--all")
 
 
 def command_lines():
@@ -55,29 +68,16 @@ def command_lines():
     for line in VALID:
         yield Run(line, parted(line), b"", BAD_SIZE)
     for line in NOT_VALID:
-        yield Run(line, parted(line), b"", usage())
+        yield Run(line, parted(line), FIXTURE, usage())
     for line, text in (
             ("outline --ppem 16", "--char or --glyph is missing"),
             ("show --ppem 16 --char 41 --glyph 36", "--char and --glyph can't be given together"),
             ("outline --ppem 16 --glyph A", "--glyph takes a whole number from 0 to 65535, not 'A'"),
-            ("outline --ppem 16 --glyph 36 --dropout", "unknown option '--dropout'"), ("outline --glyph 36", "--ppem is missing")):
+            ("outline --ppem 16 --glyph 36 --dropout", "unknown option '--dropout'"), ("outline --glyph 36", "--ppem is missing"),
+            ("make --ppem 16", "--chars or --all is missing"), ("make --ppem 16 --all --chars 41", "--chars and --all can't be given together"),
+            ("make --ppem 16 --all=x", "--all takes no value")):
         yield Run("explain " + line, "explain " + line, b"", listed([text]))
     yield Run("explain what is right", "explain outline --ppem 16 --glyph 36 --hex", b"", listed([]))
-
-
-FIRST_LINES = (
-    (b"make --ppem 0 --chars 41", BAD_SIZE), (b"make --ppem 0 --chars 41\nfont", BAD_SIZE), (b"  make   --ppem  0 --chars=  \n\n", BAD_SIZE),
-    (b"make --ppem 0 --chars 41\r\n", BAD_CHARS), (b"make\t--ppem 0 --chars 41\n", usage()), (b"make --ppem 0\n--chars 41\n", usage()),
-    (b"make --ppem 0 --chars 41 \xff\n", usage()), (b"", usage()), (b"\nmake --ppem 0 --chars 41\n", usage()), (b"   \n", usage()),
-    (b"make --hex --ppem 16 --chars 41\n4 1\t4\r\n2 5", BAD_HEX), (b"make --hex --ppem 16 --chars 41\n4x", BAD_HEX),
-    (b"make --hex --ppem 0 --chars 41\n4 1\t4\r\n2", BAD_SIZE))
-
-
-def short_first_lines():
-    """At once, and by a pipe byte by byte."""
-    for given, answer in FIRST_LINES:
-        yield Run("the first line %r" % given, [], given, answer)
-        yield Run("the first line %r, byte by byte" % given, [], given, answer, feed=[1])
 
 
 # Arguments, and how a run ends whose input can't be read.
@@ -87,7 +87,8 @@ UNREAD = (
     ("show|--ppem|0|--char|0000041", BAD_CHARS), ("show|--ppem|0|--char|41-41", BAD_CHARS), ("show|--ppem|0|--char|41,41", BAD_CHARS),
     ("show|--ppem|0|--char|+41", BAD_CHARS), ("show|--ppem|0|--char|4g", BAD_CHARS), ("show|--ppem|0|--char|41", READ_FAILED),
     ("show|--ppem|16|--char|110000", READ_FAILED), ("make|--ppem|0|--chars|41", READ_FAILED), ("make|--ppem|16|--chars|110000", READ_FAILED),
-    ("dump|--of|prep", READ_FAILED))
+    ("dump|--of|prep", READ_FAILED), ("mak", usage()), ("make", usage()), ("make|--ppem|16|--chars|41|--x", usage()),
+    ("make|--ppem|16|--chars|41|x|y", usage()), ("dump|--of|cvt", usage()), ("show|--ppem|16|--char|41-42", BAD_CHARS))
 
 
 def what_is_refused_unread():
@@ -97,7 +98,8 @@ def what_is_refused_unread():
         yield Run(line, parted(line), b"", answer, way=runs.failing_after(b""))
         if answer is not READ_FAILED:
             yield Run("%s, and nothing is typed" % line, parted(line), b"", answer, way=runs.from_silent_pipe)
-    yield Run("no arguments", [], b"", READ_FAILED, way=runs.failing_after(b""))
+    for given, answer in ((b"", READ_FAILED), (b"make\n", usage()), (b"make --ppem 16 --chars 41,\n", BAD_CHARS), (b" " * 4097, usage())):
+        yield Run("no arguments, failing after %d bytes" % len(given), [], b"", answer, way=runs.failing_after(given))
     for line, answer in (("make --hex --ppem 16 --chars 4x", BAD_CHARS), ("make --hex --ppem 16 --chars 41", BAD_HEX),
                          ("show --hex --ppem 16 --char 4x", BAD_CHARS), ("show --hex --ppem 0 --char 110000", BAD_HEX)):
         yield Run("%s, of no text" % line, line, b"4x", answer)
@@ -121,6 +123,8 @@ GIVEN = (
     ((), ()), (("DEFAULT_CHAR=32",), ("DEFAULT_CHAR 32",)),
     (("CHARSET_REGISTRY=ISO10646", 'CHARSET_ENCODING="1"'), ('CHARSET_REGISTRY "ISO10646"', 'CHARSET_ENCODING "1"')),
     (("B=-2147483648", "A_9=2147483647", "C=007", "D=-0"), ("B -2147483648", "A_9 2147483647", "C 7", "D 0")),
+    (("N=2147483647", "X_=-7", "A1=0", "E=%s7" % ("0" * 40), "F=-007"), ("N 2147483647", "X_ -7", "A1 0", "E 7", "F -7")),
+    (('A=say "hi"', 'B=a b ', 'C=""""'), ('A "say ""hi"""', 'B "a b "', 'C """"""')), (("L" * 64 + "=" + "x" * 32000,), ("L" * 64 + ' "' + "x" * 32000 + '"',)),
     (("A=2147483648", "B=+1", "C=", "D=-", "E=a=b"), ('A "2147483648"', 'B "+1"', 'C ""', 'D "-"', 'E "a=b"')),
     (('A="', 'B=""', 'C="""', 'D=a"b"', 'E=" "', "F=x y~"), ('A """"', 'B ""', 'C """"', 'D "a""b"""', 'E " "', 'F "x y~"')),
     (("COMMENTS=1", "COMMEN=2", "ENDPROPERTY=3", "ENDPROPERTIES_=4", "CHARS=5"),
@@ -129,6 +133,7 @@ GIVEN = (
 
 # Properties of which one is bad, and which one.
 BAD = (
+    (("L" * 65 + "=1",), 1), (("A=" + "x" * 32001,), 1), (("A=a\tb",), 1), (("1A=1",), 1), (("_=1",), 1), (("-B=1",), 1), (("A=1", "b=1", "A=2"), 2),
     (("=1",), 1), (("a=1",), 1), (("9A=1",), 1), (("_A=1",), 1), (("A-B=1",), 1), (("A=1", "FONT_ASCENT=1"), 2), (("FONT_DESCENT=1", "=1"), 1),
     (("A=1", "B=1", "A=2", "b=1"), 3), (("A=1", "B=\x7f"), 2), (("A=\x1f",), 1), (("ENDPROPERTIES=1",), 1), (("A=1", "COMMENT=x"), 2),
     (tuple("P%d=%d" % (k, k) for k in range(65)), 65))
@@ -146,6 +151,8 @@ def properties_by_hand():
     both = ["--x11", '--property=COMMENT=""', "--property=ENDPROPERTIES="]
     yield Run("with X11", words_with(both), FIXTURE, refused("63 BadProperty 1"))
     yield Run("no KEY=VALUE", words_with(["--property", "=1", "--property", "A"]), FIXTURE, usage())
+    yield Run("in the first line", [], b"make --ppem 16 --chars 21 --name F1 --property A=1\n" + FIXTURE, with_lines("F1", "A 1"))
+    yield Run("more than X11 has room for", words_with(["--x11", *("--property=P%d=%d" % (k, k) for k in range(65))]), FIXTURE, refused("63 BadProperty 65"))
     for line, text in (("make|--ppem|0|--chars|21|--property|=|--name|", "60 BadSize"),
                        ("make|--ppem|1|--chars|110000|--property|=|--name|", "61 BadChars"),
                        ("make|--ppem|1|--chars|21|--property|=|--name|", "62 BadName")):
@@ -184,39 +191,12 @@ def x11_by_hand():
         yield Run("%s, %s" % (name, given), words, FIXTURE, with_lines(name, *lines))
 
 
-def widths():
-    """The font with a space of 6 pixels at 16 pixels an em, the ring and the arc of 5, and their glyphs at U+0020 to U+0022 too."""
-    font = FIXTURE
-    # `hmtx` has three metrics, and so 14 bytes, the last two of which are those that `cmap` begins with
-    for at, data in ((91, b"\x0E"), (246, b"\0\3"), (256, b"\1\x40"), (286, b"\0\x22")):
-        font = patched(font, at, data)
-    return font
-
-
-def x11_and_glyphs():
-    """One advance or several, their mean, and the character that stands for others: advances of 6 and 5 give 55; 6, 5 and 5 give 53 1/3;
-    6, 5, 5 and 5 give 52 1/2; 5 and 5 give 50."""
-    def narrow(code, of):
-        return glyph_lines(code, *of, swidth=313, dwidth=5)
-    ring, arc = ("5 5 0 0", "F8", "F8", "D8", "F8", "F8"), ("2 1 0 0", "C0")
-    a, b, more = narrow(0x41, ring), narrow(0x42, arc), [narrow(0x21, ring), narrow(0x22, arc)]
-    for chars, spacing, average, glyphs in (("20,41", "P", 55, [SPACE, a]), ("20,41-42", "P", 53, [SPACE, a, b]),
-                                            ("20-22,41", "P", 53, [SPACE, *more, a]), ("41-42", "M", 50, [a, b])):
-        lines = ['FAMILY_NAME "F"', 'WEIGHT_NAME "Medium"', *OF_SIZE, 'SPACING "%s"' % spacing, "AVERAGE_WIDTH %d" % average, *OF_CHARS,
-                 "DEFAULT_CHAR 65", 'SLANT "O"']
-        words = words_with(["--unhinted", "--x11", "--property", "DEFAULT_CHAR=65", "--property", "SLANT=O"], "F", chars)
-        text = strike(*glyphs, box="5 5 0 0", name="F", properties=lines)
-        yield Run("advances of %s" % chars, words, widths(), due.Due(due.DONE, counted(len(glyphs)), text))
+def x11_and_spaces():
+    """Another space, or a neighbour of U+0020 or U+FFFD, stands for no other character; and the mean of a very wide space."""
     lines = ['FAMILY_NAME "F1"', 'WEIGHT_NAME "Medium"', 'SLANT "R"', *OF_SIZE, 'SPACING "M"', "AVERAGE_WIDTH 60", *OF_CHARS]
     with_space = strike(SPACE, OF_RING, OF_ARC, box="5 5 0 0", properties=lines + ["DEFAULT_CHAR 32"])
     yield Run("a whole strike", ["make", "--ppem", "16", "--chars", "20,41-42", *NAMED.split(), "--x11"], FIXTURE,
               due.Due(due.DONE, counted(3), with_space))
-    # glyphs 2 and 3 at U+FFFD too, by one segment after the fixture's
-    for chars, own in (("41", []), ("20,41", ["DEFAULT_CHAR 32"]), ("41,fffd", ["DEFAULT_CHAR 65533"]), ("20,41,fffd", ["DEFAULT_CHAR 65533"])):
-        glyphs = [SPACE] * ("20" in chars) + [OF_RING] + [glyph_lines(0xFFFD, "2 1 0 0", "C0")] * ("fffd" in chars)
-        text = strike(*glyphs, box="5 5 0 0", properties=lines + own)
-        yield Run("the default character of %s" % chars, words_with(["--x11"], chars=chars), REPLACING, due.Due(due.DONE, counted(len(glyphs)), text))
-    # another space, or a neighbour of U+0020 or U+FFFD, stands for no other character
     others = (0x1F, 0x21, 0xA0, 0x2000, 0x3000, 0xFFFC, 0xFFFE)
     text = strike(*[glyph_lines(code, "5 5 0 0", "F8", "F8", "D8", "F8", "F8") for code in others], box="5 5 0 0", properties=lines)
     yield Run("other spaces", words_with(["--x11"], chars=",".join("%x" % code for code in others)),
@@ -242,10 +222,4 @@ def x11_backwards():
             due.DONE, counted(len(glyphs), steps=4 * len(glyphs)), strike(*glyphs, box="5 5 0 0", properties=lines)))
 
 
-# The fixture with a map of format 12: U+FFFD is the arc.
-REPLACING = FIXTURE[:20] + hexed("0000017e 00000040") + FIXTURE[28:] + hexed(
-    "0000 0001 0003 000a 0000000c 000c 0000 00000034 00000000 00000003 00000020 00000020 00000001 00000041 00000041 00000002"
-    " 0000fffd 0000fffd 00000003")
-
-test_arguments = cases(command_lines, short_first_lines, what_is_refused_unread, properties_by_hand, x11_by_hand, x11_and_glyphs,
-                       x11_backwards)
+test_arguments = cases(command_lines, what_is_refused_unread, properties_by_hand, x11_by_hand, x11_and_spaces, x11_backwards)

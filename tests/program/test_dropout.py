@@ -1,65 +1,20 @@
-"""Cases of the program: drop-out control, worked out by hand and by its definition."""
+"""Cases of the program: the option of drop-out control, its limits and its time. Which pixels it sets the suite says."""
 import math
-import random
 
 import due
 import fonts
-import instructions as ins
 from cases import cases
 from due import Counted, listed, usage
-from instructions import Code
-from made import Composite, Curved, Empty, Font, Simple, list_of, square
-from reference.scan import area
+from made import Empty, Font, Simple, list_of, square
 from runs import Run
-from strikes import A, B, MODES
-from test_programs import NOTHING
+from strikes import A, B
 
 PPEM = 16
-UNIT = 1024  # at 16 pixels an em one in 64 of a pixel, whose centre is at 32
 
-
-# ---- by hand ----
 
 def box(x0, y0, x1, y1):
     """A rectangle as a contour."""
     return [(x0, y0, 1), (x1, y0, 1), (x1, y1, 1), (x0, y1, 1)]
-
-
-def below(height):
-    """An arc on a level line from x = 100 to 140, whose lowest place is at x = 120 and halfway between 100 and this height."""
-    return [(100, 100, 1), (120, height, 0), (140, 100, 1)]
-
-
-# Of each outline its contours, and its pixels: the left and the lowest one, and rows from the top. Row 1 has its centres at y = 96,
-# row 2 at 160; column 1 has them at x = 96, column 2 at 160.
-BY_HAND = {
-    "a hairline above the centres of a row": ([box(0, 100, 640, 120)], 0, 1, ["#" * 10]),
-    "a hairline below them": ([box(0, 140, 640, 150)], 0, 2, ["#" * 10]),
-    "an upright hairline right of the centres of a column": ([box(100, 0, 120, 640)], 1, 0, ["#"] * 10),
-    "an upright hairline left of them": ([box(140, 0, 150, 640)], 2, 0, ["#"] * 10),
-    "a hairline along a row's centres": ([box(0, 96, 640, 96)], 0, 1, ["#" * 10]),
-    "a hairline of no width": ([[(100, 0, 1), (100, 640, 1)]], 1, 0, ["#"] * 10),
-    "a hairline on the border of two columns": ([box(126, 0, 130, 640)], 2, 0, ["#"] * 10),
-    "a hairline on the border of two rows": ([box(0, 123, 640, 133)], 0, 2, ["#" * 10]),
-    "one that lies more below it": ([box(0, 122, 640, 133)], 0, 1, ["#" * 10]),
-    "a slanted hairline": ([[(10, 0, 1), (14, 0, 1), (654, 640, 1), (650, 640, 1)]], 0, 0,
-                           ["." * k + "#" + "." * (9 - k) for k in range(9, -1, -1)]),
-    "a dot between four centres": ([box(100, 100, 120, 120)], 0, 0, []),
-    "a dot between two centres of a column": ([box(90, 100, 110, 120)], 1, 1, ["#"]),
-    "a dot between two centres of a row": ([box(100, 90, 120, 110)], 1, 1, ["#"]),
-    "a corner that touches a row": ([[(100, 100, 1), (140, 100, 1), (120, 96, 1)]], 1, 1, ["#"]),
-    "a corner that does not": ([[(100, 100, 1), (140, 100, 1), (120, 97, 1)]], 0, 0, []),
-    "the tip of an arc that touches a row": ([below(92)], 1, 1, ["#"]),
-    "one that crosses it": ([below(91)], 1, 1, ["#"]),
-    "one that does not reach it": ([below(93)], 0, 0, []),
-    "a thin stem at the left edge": ([box(65, 0, 70, 640), box(65, 0, 400, 70)], 1, 0, ["#...."] * 9 + ["#####"]),
-    "a thin stem at the right edge": ([box(395, 0, 400, 640), box(65, 0, 400, 70)], 1, 0, ["....#"] * 9 + ["#####"]),
-    "a thin stem between": ([box(230, 0, 235, 640), box(65, 0, 400, 70)], 1, 0, ["..#.."] * 9 + ["#####"]),
-    "a thin bar at the lower edge": ([box(0, 65, 640, 70), box(0, 65, 70, 400)], 0, 1, ["#" + "." * 9] * 4 + ["#" * 10]),
-    "a thin bar at the upper edge": ([box(0, 395, 640, 400), box(0, 65, 70, 400)], 0, 1, ["#" * 10] + ["#" + "." * 9] * 4),
-    "a spur beside a pixel": ([box(0, 0, 70, 70), box(60, 30, 90, 34)], 0, 0, ["#"]),
-    "a thick box": ([box(0, 0, 640, 640)], 0, 0, ["#" * 10] * 10),
-}
 
 
 class Drawn(Simple):
@@ -71,12 +26,12 @@ class Drawn(Simple):
         numbers = [int(row.replace("#", "1").replace(".", "0"), 2) for row in reversed(rows)]
         self.drawn = due.Bits(left, bottom, width, numbers) if rows else due.NO_BITS
 
-    def closed_bits(self, font, ppem, move, near):
-        assert move == 0 and not near
+    def closed_bits(self, font, ppem, move):
+        assert move == 0
         return self.drawn
 
 
-def unmoved(glyphs, codes, upem=UNIT):
+def unmoved(glyphs, codes, upem=1024):
     """A font of glyphs that stay where they are: their left side bearings are their least x."""
     return Font(glyphs, codes, upem=upem, metrics=[(upem, glyph.x_min) for glyph in glyphs])
 
@@ -84,105 +39,6 @@ def unmoved(glyphs, codes, upem=UNIT):
 def asked(ppem, codes, hinted=True, more="--dropout"):
     """The words of a strike with drop-out control."""
     return "make --ppem %d --chars %s %s%s" % (ppem, list_of(codes), more, "" if hinted else " --unhinted")
-
-
-def dropout_by_hand():
-    """Each outline alone, as a picture and in a strike, and all in one strike, hinted and not."""
-    glyphs = {name: Drawn(*drawn) for name, drawn in BY_HAND.items()}
-    every = unmoved([Empty(), *glyphs.values()], {A + k: 1 + k for k in range(len(glyphs))})
-    for hinted, mode in MODES:
-        name = "all, %s" % mode
-        yield Run(name, asked(PPEM, every.codes, hinted), every.data(), every.make(every.codes, PPEM, hinted, closed=True))
-        for name, glyph in glyphs.items():
-            font = unmoved([Empty(), glyph], {A: 1})
-            show = "show --ppem %d --char 41 --dropout%s" % (PPEM, "" if hinted else " --unhinted")
-            yield Run("%s, a picture, %s" % (name, mode), show, font.data(), font.show(A, PPEM, hinted, closed=True))
-            yield Run("%s, %s" % (name, mode), asked(PPEM, [A], hinted), font.data(), font.make([A], PPEM, hinted, closed=True))
-
-
-# ---- by the definition ----
-
-def random_contour(draw, width, height):
-    """A contour of lines and arcs in a box of this size."""
-    return [(draw.randint(0, width), draw.randint(0, height), draw.randint(0, 2) > 0) for _ in range(draw.randint(3, 7))]
-
-
-def is_bent(font, glyph, ppem):
-    """Whether each arc of a glyph is bent at this size."""
-    return all(b is None or area(a, b, c) != 0 for a, b, c in glyph.pieces(font, ppem))
-
-
-def random_outlines():
-    """Thin outlines of lines and arcs at random, with drop-out control and without."""
-    for seed in range(6):
-        draw = random.Random(seed)
-        sizes = [(draw.randint(20, 500), draw.randint(20, 500)) for _ in range(60)]
-        made = [Curved([random_contour(draw, width // draw.choice((1, 4, 16)), height // draw.choice((1, 4, 16)))
-                        for _ in range(draw.randint(1, 2))]) for width, height in sizes]
-        for ppem in (5, 8, 16, 24):
-            around = Font([Empty()], {}, upem=UNIT)
-            glyphs = [glyph for glyph in made if is_bent(around, glyph, ppem)]
-            font = unmoved([Empty(), *glyphs], {A + k: 1 + k for k in range(len(glyphs))})
-            for more, closed in (("--dropout", True), ("--dropout=near", "near"), ("--dropout=font", "font"), ("", False)):
-                yield Run("seed %d at %d %s" % (seed, ppem, more), asked(ppem, font.codes, False, more), font.data(),
-                          font.make(font.codes, ppem, False, closed=closed))
-
-
-def composites_with_dropout():
-    """Components whose thin strokes lie beside each other, hinted and not."""
-    stem, bar = Simple([(100, 0, 110, 640)], code=NOTHING), Simple([(0, 300, 640, 312)])
-    glyphs = [Empty(), stem, bar, Composite([(1, 0, 0), (2, 3, 5), (1, 300, 20)], NOTHING), Composite([(3, 7, 7), (2, 0, 200)])]
-    font = Font(glyphs, {A + k: 1 + k for k in range(4)}, upem=UNIT, stack=9)
-    for ppem in (7, 16, 31):
-        for hinted, mode in MODES:
-            yield Run("composites at %d, %s" % (ppem, mode), asked(ppem, font.codes, hinted), font.data(),
-                      font.make(font.codes, ppem, hinted, closed=True))
-
-
-# ---- as the font asks ----
-
-# Words of SCANCTRL: at all sizes; up to 16 pixels an em, and off above; at none.
-ALWAYS, UP_TO_16, NEVER = 0x01FF, 0x0910, 0
-
-# A word and a type of SCANTYPE, a size, and what a program asks for that executes both, without a `prep` and after one of type 4.
-PROGRAMS = [(ALWAYS, kind, PPEM, asks, asks) for kind, asks in enumerate(("left", "left", "off", "off", "near", "near", "off", "off", "off"))] + [
-    (UP_TO_16, 4, 16, "near", "near"), (UP_TO_16, 4, 17, "off", "off"), (NEVER, 4, PPEM, "off", "off"), (ALWAYS, None, PPEM, "left", "near"),
-    (ALWAYS, 9, PPEM, "left", "near"), (None, 0, PPEM, None, "left"), (None, 2, PPEM, None, "off"), (None, None, PPEM, None, None)]
-
-
-def asking(word, kind):
-    """A program that executes SCANCTRL with a word and SCANTYPE with a type, those that are given."""
-    code = Code()
-    for number, opcode in ((word, ins.SCANCTRL), (kind, ins.SCANTYPE)):
-        if number is not None:
-            code.push(number).do(opcode)
-    return code
-
-
-def with_asks(model, asks):
-    """The model, whose program asks for this."""
-    model.asks = asks
-    return model
-
-
-def stems(code=None):
-    """A bar, and thin stems on it, each between the centres of two columns: nearer to the left one, and to the right one."""
-    return Simple([(0, 0, 640, 80), (100, 0, 108, 640), (210, 0, 218, 640)], code=code)
-
-
-def as_the_font_asks():
-    """What a glyph's own program asks for, or else `prep`: not that of a component or of a glyph before it. With hinting off nothing is
-    asked for."""
-    for word, kind, ppem, *both in PROGRAMS:
-        for asks, prep, of_prep in ((both[0], None, None), (both[1], asking(ALWAYS, 4), "near")):
-            own, left = asking(word, kind), asking(ALWAYS, 0)
-            glyphs = [Empty(), stems(), with_asks(stems(own), asks), Composite([(2, 0, 0)]), with_asks(Composite([(2, 9, 0)], left), "left"),
-                      with_asks(Composite([(1, 9, 0)], own), asks), with_asks(stems(left), "left")]
-            font = Font(glyphs, {A + k: 1 + k for k in range(6)}, upem=UNIT * ppem // PPEM, stack=9, prep=prep)
-            font.asks = of_prep
-            for hinted, mode in MODES:
-                name = "SCANCTRL %s, SCANTYPE %s at %d, %s `prep`, %s" % (word, kind, ppem, "with a" if prep else "without a", mode)
-                yield Run(name, asked(ppem, font.codes, hinted, "--dropout=font"), font.data(), font.make(font.codes, ppem, hinted, closed="font"))
 
 
 # ---- the option ----
@@ -278,6 +134,4 @@ def distances_with_dropout():
         yield Run(name, asked(1024, [A], False), font.data(), answer)
 
 
-test_dropout = cases(random_outlines, dropout_by_hand, sizes_with_dropout, long_hairlines, many_hairlines,
-                     shapes_in_bounded_time, distances_with_dropout, composites_with_dropout, as_the_font_asks,
-                     words_with_dropout)
+test_dropout = cases(sizes_with_dropout, long_hairlines, many_hairlines, shapes_in_bounded_time, distances_with_dropout, words_with_dropout)

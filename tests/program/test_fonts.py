@@ -148,6 +148,9 @@ def distances():
         yield from both("a point 32,768 pixels out", one(Simple([box]), upem=16), 1024)
     for box in ((0, 0, 513, 0), (0, -513, 0, 0), (0, 0, 0, 513)):
         yield from both_refused("a point farther out", one(Simple([box]), upem=16), "51 TooFar 2", 1024)
+    lone = [one(Simple([], [[(0, 0, 1)], [(x, 0, 1)]]), upem=16) for x in (512, 513)]  # contours that draw nothing
+    yield from both("a lone point 32,768 pixels out", lone[0], 1024)
+    yield from both_refused("a lone point farther out", lone[1], "51 TooFar 2", 1024)
 
 
 # ---- characters and sizes ----
@@ -172,6 +175,13 @@ def characters_past_ffff():
     codes = [*range(0x100000, 0x10FFFD), 0x41, 0x1F600, 0x10FFFF]
     assert len(codes) == CHARACTERS
     yield from both("65,536 characters past FFFF", font, 17, codes)
+    yield Run("all characters of that font", "make --ppem 17 --all", font.data(), font.make(sorted(wide), 17))
+
+
+def more_characters():
+    """A map with more characters than a request may have: a strike of all of them has the first ones."""
+    font = Font([Empty(), square(900)], dict.fromkeys(range(2, CHARACTERS + 3), 1), wide=True)
+    yield Run("65,537 characters", "make --ppem 12 --all", font.data(), font.make(range(2, CHARACTERS + 2), 12))
 
 
 ALL_SIZES = (1, 2, 7, 12, 15, 16, 17, 31, 32, 33, 100, 127, 128, 129, 255, 256, 1023, 1024)
@@ -230,5 +240,5 @@ def memory_and_stack_at_128():
 
 
 test_fonts = cases(memory_and_stack_at_128, characters, memory_and_stack_at_16, kept_components, sides, characters_past_ffff,
-                   points, contours, glyphs_of_a_font, composites_of_contours, composites_of_points, sizes, 
+                   more_characters, points, contours, glyphs_of_a_font, composites_of_contours, composites_of_points, sizes,
                    arcs_far_to_the_right, greatest_inputs, sizes_of_fonts, components, depth, all_sides, distances)

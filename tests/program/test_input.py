@@ -1,6 +1,5 @@
 """Cases of the program: command lines, lists, names, and inputs."""
 import os
-import re
 
 import due
 import runs
@@ -21,32 +20,6 @@ FIRST = b"make --ppem 16 --chars 41"
 
 # ---- words ----
 
-# every option, but those that may be given more than once
-WHOLE = MAKE + ["--name", "F1", "--x11", "--dropout", "--unhinted", "--hex"]
-INCOMPLETE = [["make"], [""], ["Make"], ["x"] + WHOLE, MAKE[:3],
-              MAKE[:4], MAKE[:1] + MAKE[3:], MAKE[1:]]
-TOO_MANY = [WHOLE + more for more in (["x", "y"], [""], ["-", "-"], ["--", "x", "y"], ["--unhinted"])]
-BAD_ADDITIONS = ("--ppem 16", "--chars 41", "--hex --hex", "--name", "--name -x", "--name - --hex", "--unhinted=yes",
-                 "--hex=", "--version", "--char 41", "--of prep", "--unhint", "font more", "-o", "-o a -o b")
-BAD_SIZES = ("65536", "-1", "1.0", "", "16x", " 16", "0x10", "99999999999999999999")
-BAD_COMMANDS = ("make --ppem 16 --chars -41", "make --ppem 16 --chars --hex", "show", "show --ppem 16",
-                "show --char 41", "show --ppem 16 --chars 41", "show --ppem 16 --char 41 --name x",
-                "show --ppem 16 --char 41 42 43", "show --ppem 16 --char 41 --glyph 1", "outline --ppem 16", "outline --of 1",
-                "show --ppem 65536 --char 41", "dump", "dump --of",
-                "dump --of cvt", "dump --of 65536", "dump --of -1", "dump --of 2 --ppem 16", "dump --of 2 --of 2",
-                "dump 2")
-
-
-def words_that_do_not_parse():
-    """Command lines that are usage faults: one line, status 2, nothing written."""
-    data = SHORT.data()
-    lines = INCOMPLETE + TOO_MANY + [MAKE + more.split(" ") for more in BAD_ADDITIONS]
-    lines += [["make", "--ppem", size, "--chars", "41"] for size in BAD_SIZES]
-    lines += [line.split(" ") for line in BAD_COMMANDS]
-    for words in lines:
-        yield Run(repr(words), words, data, usage())
-
-
 def many_words():
     """Command lines of very many words of which only the last is wrong: each word counts."""
     for count in (64, 295, 296, 300, 3000, 60000):
@@ -55,14 +28,6 @@ def many_words():
             yield Run("%d words, then %s" % (len(words) - 1, last), words, SHORT.data(), usage())
     many = ["--property=A=1"] * 60000
     yield Run("60,005 words", MAKE + many, SHORT.data(), refused("63 BadProperty 2"))
-
-
-def words_before_the_input():
-    """Command lines that are told to be wrong before anything is read: the input is silent and open."""
-    for words, answer in ((["mak"], usage()), (["make"], usage()), (MAKE + ["--x"], usage()), (MAKE + ["x", "y"], usage()),
-                          (["dump", "--of", "cvt"], usage()), (MAKE[:4] + ["g"], refused("61 BadChars")),
-                          (["show", "--ppem", "16", "--char", "41-42"], refused("61 BadChars"))):
-        yield Run("%s, and nothing is typed" % words, words, b"", answer, way=runs.from_silent_pipe)
 
 
 def words_that_are_no_text():
@@ -92,7 +57,7 @@ def words_that_parse():
             ("make --ppem +16 --chars 000041", data, made),
             ("make --name strike --hex --chars 41 --ppem 16", text, made),
             ("make --ppem 16 --chars 41 --name=-misc-x --unhinted --hex", text, SHORT.make([A], 16, False, "-misc-x")),
-            (WHOLE, text, SHORT.make([A], 16, False, "F1", x11=True, closed=True)),
+            (MAKE + ["--name", "F1", "--x11", "--dropout", "--unhinted", "--hex"], text, SHORT.make([A], 16, False, "F1", x11=True, closed=True)),
             (MAKE[:4] + [""], data, nothing),
             ("make --ppem 16 --chars=", data, nothing),
             ("show --char 41 --ppem 16", data, SHORT.show(A, 16)),
@@ -133,11 +98,19 @@ def first_lines():
             (FIRST.replace(b" ", b"\t") + b"\n" + data, usage()),
             (b"\0" + FIRST + b"\n" + data, usage()),
             (b"\n" + FIRST + b"\n" + data, usage()),
+            (FIRST.replace(b"6 ", b"6\n") + b"\n", usage()),
+            (FIRST + b" \xff\n", usage()),
+            (FIRST + b" --hex\n4 1\t4\r\n2 5", refused("72 BadHex")),
+            (FIRST + b" --hex\n4x", refused("72 BadHex")),
+            (FIRST.replace(b"16", b"0") + b" --hex\n4 1\t4\r\n2", refused("60 BadSize")),
+            (b"  make   --ppem  0 --chars=  \n\n", refused("60 BadSize")),
             (b" " * 100000, usage()),
             (data, usage()),
             (b"\n", usage()),
+            (b"   \n", usage()),
             (b"", usage())):
         yield Run("the first line %r" % given[:60], [], given, answer)
+        yield Run("the first line %r, byte by byte" % given[:60], [], given, answer, feed=[1] if len(given) < LINE else [999])
 
 
 def long_lists_on_the_first_line():
@@ -197,59 +170,10 @@ def names():
         yield Run("the name %r" % name[:20], MAKE + ["--name=" + name], data, refused("62 BadName"))
 
 
-def properties():
-    """Properties, in the order given, and those that are refused."""
-    data, many = SHORT.data(), ["P%d=%d" % (k, k) for k in range(65)]
-    for given, lines in (
-            (["WEIGHT=10"], ["WEIGHT 10"]), (["X_=-7", "A1=0"], ["X_ -7", "A1 0"]), (["N=2147483647"], ["N 2147483647"]),
-            (["N=2147483648"], ['N "2147483648"']), (["N=-"], ['N "-"']), (["N=+1"], ['N "+1"']), (["N="], ['N ""']),
-            (['CHARSET_ENCODING="1"', "SPACING=M"], ['CHARSET_ENCODING "1"', 'SPACING "M"']), (["A=b=c"], ['A "b=c"']),
-            (['A=say "hi"'], ['A "say ""hi"""']), (['A="'], ['A """"']), (['A=""""'], ['A """"""']), (["B=a b "], ['B "a b "']),
-            (["L" * 64 + "=" + "x" * 32000], ["L" * 64 + ' "' + "x" * 32000 + '"']),
-            (["A=007", "B=-0", "C=%s7" % ("0" * 40)], ["A 7", "B 0", "C 7"]), (["A=", "B=-007"], ['A ""', "B -7"]),
-            (["COMMENTS=1", "COMMEN=2", "ENDPROPERTY=3", "CHARS=4"], ["COMMENTS 1", "COMMEN 2", "ENDPROPERTY 3", "CHARS 4"]), (many[:64], [p.replace("=", " ") for p in many[:64]])):
-        words = MAKE + ["--property=" + text for text in given]
-        yield Run("the properties %s" % ", ".join(given)[:40], words, data, SHORT.make([A], 16, properties=lines))
-    for given, position in (
-            (["a=1"], 1), (["=1"], 1), (["1A=1"], 1), (["_=1"], 1), (["A-B=1"], 1), (["FONT_ASCENT=1"], 1), (["A=1", "FONT_DESCENT=1"], 2),
-            (["A=1", "B=1", "A=2"], 3), (["A=1", "b=1", "A=2"], 2), (["L" * 65 + "=1"], 1), (["A=" + "x" * 32001], 1), (["A=a\x7Fb"], 1),
-            (["A=a\tb"], 1), (many, 65),
-            (["ENDPROPERTIES=1"], 1), (["COMMENT=x"], 1), (["A=1", "COMMENT=1"], 2), (["A=1", "ENDPROPERTIES="], 2), (["-B=1"], 1)):
-        words = MAKE + ["--property=" + text for text in given]
-        yield Run("the properties %s" % ", ".join(given)[:40], words, data, refused("63 BadProperty %d" % position))
-    for words in (["--property=A"], ["--property", "A"], ["--property="], ["--property", "-B=1"]):
-        yield Run("a property that is not KEY=VALUE: %s" % words, MAKE + words, data, usage())
-    yield Run("a property in the first line", [], b"make --ppem 16 --chars 41 --property A=1\n" + data,
-              SHORT.make([A], 16, properties=["A 1"]))
-
-
-# ---- properties of X11 ----
-
-LONG_NAME = "-misc-dejavu sans-bold-o-normal--16-160-75-75-c-100-ISO10646-1"
-X11_NAMES = (None, "x", "a b", LONG_NAME, "-" * 14, "-" * 13, "-" * 15, "misc" + LONG_NAME, LONG_NAME + "-", LONG_NAME[:-1],
-             '-misc-say "hi"-medium-i-n--1-2-3-4-m-5-a-b', 'say "hi"', "x" * 255)
-X11_OVER = (["PIXEL_SIZE=9"], ["SLANT=I", "A=1"], ["A=1", "DEFAULT_CHAR=65", "FAMILY_NAME=Mine"],
-            ["P%d=%d" % (k, k) for k in range(64)], ['CHARSET_ENCODING="0"', "SPACING=C", "AVERAGE_WIDTH=-7"])
-
-
 def font_of_advances(advances):
     """A font with a square for each code point, each of an advance of its own; 100 units are a pixel at 10 pixels an em."""
     metrics = [(1000, 0)] + [(advance, 0) for advance in advances.values()]
     return Font([Empty()] + [square(500)] * len(advances), {code: 1 + k for k, code in enumerate(advances)}, metrics=metrics)
-
-
-def lines_of(given):
-    """The lines of properties as they are given, whose values need no doubled quotation marks."""
-    return [text.replace("=", " ") if re.fullmatch("[^=]*=-?[0-9]+", text) else '%s "%s"' % (
-        text[:text.index("=")], text[text.index("=") + 1:].strip('"')) for text in given]
-
-
-def x11_by_name():
-    """What a name settles: of X11's form or not."""
-    data = SHORT.data()
-    for name in X11_NAMES:
-        words = MAKE + ["--x11"] + (["--name=" + name] if name else [])
-        yield Run("the name %r" % name, words, data, SHORT.make([A], 16, name=name or due.STRIKE, x11=True))
 
 
 def x11_by_glyphs():
@@ -265,21 +189,6 @@ def x11_by_glyphs():
                 yield Run("advances of %s at %d" % (sorted(set(advances.values())), ppem), words, font.data(), due_of)
     all_one, words = Font([Empty(), square(900)], 1), ["make", "--ppem", "12", "--chars", "0-ffff", "--x11"]
     yield Run("65,536 characters", words, all_one.data(), all_one.make(range(65536), 12, x11=True))
-
-
-def x11_and_properties():
-    """Properties that are given stand after those of X11, and in place of those of their name; they keep their own limits."""
-    data, many = SHORT.data(), ["P%d=%d" % (k, k) for k in range(65)]
-    for given in X11_OVER:
-        for words in (["--x11"] + ["--property=" + text for text in given], ["--property=" + text for text in given] + ["--x11"]):
-            yield Run("%s and X11" % given[:3], MAKE + words, data, SHORT.make([A], 16, properties=lines_of(given), x11=True))
-    for given, position in ((many, 65), (["PIXEL_SIZE=1", "PIXEL_SIZE=2"], 2), (["FONT_ASCENT=1"], 1)):
-        words = MAKE + ["--x11"] + ["--property=" + text for text in given]
-        yield Run("%s and X11" % given[:3], words, data, refused("63 BadProperty %d" % position))
-    for words in (MAKE + ["--x11", "--x11"], MAKE + ["--x11=1"], MAKE + ["--X11"], "show --ppem 16 --char 41 --x11",
-                  "dump --of 1 --x11"):
-        yield Run(repr(words), words, data, usage())
-    yield Run("X11 in the first line", [], FIRST + b" --x11\n" + data, SHORT.make([A], 16, x11=True))
 
 
 # ---- inputs ----
@@ -346,17 +255,5 @@ def broken_inputs():
         yield Run("a first line, failing after %d bytes" % len(given), [], b"", failed, way=runs.failing_after(given))
 
 
-def faults_before_the_input_breaks():
-    """What is told before an input that can't be read."""
-    for given, answer in ((b"make\n", usage()), (FIRST + b",\n", refused("61 BadChars")),
-                          (b" " * (LINE + 1), usage())):
-        yield Run("a first line, failing after %d bytes" % len(given), [], b"", answer, way=runs.failing_after(given))
-    for words, answer in (("make", usage()), ("make --ppem 16 --chars 42-41", refused("61 BadChars")),
-                          ("make --ppem 0 --chars 41", refused("71 ReadFailed"))):
-        yield Run(words, words, b"", answer, way=runs.failing_after(b""))
-
-
-test_input = cases(large_inputs_by_pipe, small_inputs_by_pipe, words_that_do_not_parse, many_words, words_before_the_input,
-                   words_that_are_no_text, calls_that_read, words_that_parse, first_lines, long_lists_on_the_first_line, lists,
-                   long_lists, names, properties, x11_by_name, x11_by_glyphs, x11_and_properties, hexadecimal, broken_inputs,
-                   faults_before_the_input_breaks)
+test_input = cases(large_inputs_by_pipe, small_inputs_by_pipe, many_words, words_that_are_no_text, calls_that_read, words_that_parse,
+                   first_lines, long_lists_on_the_first_line, lists, long_lists, names, x11_by_glyphs, hexadecimal, broken_inputs)

@@ -1,15 +1,13 @@
-"""Cases of the program: the outlines of glyphs, and glyphs by their numbers."""
+"""Cases of the program: large outlines, glyphs by their numbers, and outputs that fail. What an outline is the suite says."""
 import os
 
 import due
 import fonts
 import runs
 from cases import cases
-from made import Composite, Empty, Font, Simple, comb, fixture, grid, square
+from made import Empty, Font, Simple, comb, grid, square
 from runs import Run
-from strikes import A, B, MODES, one
-from test_faces import collection, face
-from test_programs import NOTHING
+from strikes import A, MODES, one
 
 POINTS = 16384
 
@@ -17,33 +15,6 @@ POINTS = 16384
 def asked(command, ppem, number, hinted=True):
     """The words that ask for a glyph by its number."""
     return "%s --ppem %d --glyph %d%s" % (command, ppem, number, "" if hinted else " --unhinted")
-
-
-def each_glyph(name, font, sizes, data=None):
-    """The outline and the picture of each glyph of a font, by its number, and by its character if it has one."""
-    data, codes = data or font.data(), {number: code for code, number in font.codes.items()}
-    for ppem in sizes:
-        for hinted, mode in MODES:
-            for number in range(len(font.glyphs)):
-                what = "%s: glyph %d at %d, %s" % (name, number, ppem, mode)
-                yield Run(what + ", its outline", asked("outline", ppem, number, hinted), data, font.outline(number, ppem, hinted))
-                yield Run(what + ", its picture", asked("show", ppem, number, hinted), data, font.show_number(number, ppem, hinted))
-                if number in codes:
-                    words = "outline --ppem %d --char %x%s" % (ppem, codes[number], "" if hinted else " --unhinted")
-                    yield Run(what + ", of its character", words, data, font.outline(number, ppem, hinted))
-
-
-def glyphs_by_number():
-    """Each glyph of small fonts: empty, simple, curved, composite; with metrics that move them, and with other em squares."""
-    small = fixture()
-    small.metrics = [(256, 0)] + [(384, 0)] * 3
-    yield from each_glyph("the fixture", small, (1, 4, 16, 17, 1024), fonts.FIXTURE)
-    parts = [Empty(), square(300), Simple([(-50, -70, 40, 30), (100, 0, 200, 900)]), Composite([(1, 10, -20), (2, 300, 7)], NOTHING),
-             Composite([(3, -5, 500), (1, 0, 0)])]
-    yield from each_glyph("composites", Font(parts, {A: 3, B: 4}, upem=1000), (1, 13, 333))
-    metrics = [(500, 0), (317, -31), (0, 10), (65535, 32767), (1, -32768)]
-    yield from each_glyph("metrics", Font(parts, {A: 3, B: 2}, upem=2048, metrics=metrics), (7, 16))
-    yield from each_glyph("an em of 16", Font(parts[:2], {A: 1}, upem=16), (1, 3))
 
 
 def large_outlines():
@@ -56,13 +27,6 @@ def large_outlines():
     for ppem in (1, 2, 100, 1024):
         yield Run("coordinates at %d" % ppem, asked("outline", ppem, 2), far.data(), far.outline(2, ppem))
     yield Run("whose pixels are refused", asked("show", 1024, 2), far.data(), due.refused("51 TooFar 2"))
-
-
-def faces():
-    """Glyphs of the faces of a collection."""
-    made = [Font([Empty(), square(500)], {A: 1}), Font([Empty(), square(300), Simple([(0, 0, 900, 90)])], {A: 2}, upem=2048)]
-    for k, font in enumerate(made):
-        yield Run("face %d" % k, asked("outline", 16, 1) + face(k), collection([it.data() for it in made]), font.outline(1, 16))
 
 
 def refused():
@@ -95,4 +59,4 @@ def outputs_that_fail():
         yield Run("a pipe closed after %d bytes" % count, asked("outline", 64, 2), data, due.Cut.of(whole), way=runs.into_closed_pipe(count))
 
 
-test_outlines = cases(glyphs_by_number, large_outlines, faces, refused, outputs_that_fail)
+test_outlines = cases(large_outlines, refused, outputs_that_fail)

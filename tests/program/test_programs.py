@@ -1,15 +1,18 @@
-"""Cases of the program: programs of fonts, and what they have, to its limit and one past it."""
+"""Cases of the program: programs of fonts, and what they have, to its limit and one past it. What each instruction does the suite says."""
 import due
+import fonts
 import instructions as ins
 from cases import cases
-from instructions import Code
-from made import Simple, comb, square
+from due import Ends, counted, glyph_lines
+from instructions import Code, steps_of
+from made import Composite, Empty, Font, Simple, comb, square
+from making.assembler import assemble
 from reference.machine import next_place
 from reference.trace import OPCODES, pushed
 from runs import Run
-from strikes import both, one, refusal, strike
+from strikes import A, B, both, one, refusal, strike, words
 
-POINTS, STEPS, CALLS, FUNCTIONS, ROOM = 16384, 250000, 32, 64, 32
+POINTS, STEPS, CALLS = 16384, 250000, 32
 UPEM = 1000
 SEEN = 640  # where the right side of a rectangle goes, in 1/64 pixels
 NOTHING = Code().push(1).do(ins.POP)
@@ -30,41 +33,21 @@ def with_stray(count, opcode):
 
 # ---- tables ----
 
-def control_values():
-    """The last entry gives the glyph its right side."""
-    for size in (0, 1, 2, 65, 128, 130, 300, 65534, 65535):
-        count = size // 2
-        values = [k * 37 % 800 for k in range(count - 1)] + [700] * min(count, 1)
-        cvt = b"".join(value.to_bytes(2, "big") for value in values) + b"\x7F" * (size % 2)
-        place = due.scaled(700, 16, UPEM) if values else 0
-        glyph = shown(with_stray(count, ins.RCVT), place)
-        glyph.code.push(count, 5).do(ins.WCVTP, strays=1)
-        yield from both("%d bytes of control values" % size, one(glyph, cvt=cvt, stack=16), 16)
-
-
-def storage():
-    """The control value program writes to the last cell, and the glyph's program reads it."""
-    for count in (0, 1, 64, 65, 256, 257, 65535):
-        prep = Code().number(max(count - 1, 0)).push(SEEN).do(ins.WS, strays=int(count == 0))
-        prep.number(count).push(64).do(ins.WS, strays=1)
-        glyph = shown(with_stray(count, ins.RS), SEEN if count else 0)
-        yield from both("a storage area of %d" % count, one(glyph, prep=prep, storage=count, stack=16), 16)
-
-
-def functions():
-    """The function of the last number gives the right side; the next number can't be defined, and is not there."""
-    body = Code().push(SEEN)
-    for count in (0, 1, 64, 65, 256, 257, 65535):
-        last = max(FUNCTIONS, count) - 1
-        font = one(shown(Code().call(last, body), SEEN), fpgm=Code().define(last, body), functions=count, stack=16)
-        yield from both("%d functions" % count, font, 16)
-        at = Code().number(last + 1).length
-        font = one(square(9), fpgm=Code().define(last + 1, body), functions=count, stack=16)
-        text = "39 BadArgument during fpgm in fpgm at %d opcode 2C" % at
-        yield refusal("one past %d functions defined" % count, font, text)
-        font = one(square(9), prep=Code().call(last + 1, body), functions=count, stack=16)
-        text = "35 NoFunction during prep in prep at %d opcode 2B" % at
-        yield refusal("one past %d functions called" % count, font, text)
+def greatest_tables():
+    """The last entry of each table, and the one past it, which is 0 and a stray: of tables that are as large as may be, and of none."""
+    for count in (0, 65535):
+        last, values, none = max(count - 1, 0), count // 2, int(count == 0)
+        prep = Code().number(last).push(100).do(ins.WS, strays=none).number(count).push(64).do(ins.WS, strays=1)
+        prep.do(ins.X_AXIS).push(0).do(ins.SZPS).number(last).push(max(values - 1, 0)).do(ins.MIAP, strays=2 * none)
+        prep.number(count).push(max(values - 1, 0)).do(ins.MIAP, strays=1 + none)
+        body = Code().push(50)
+        read = with_stray(count, ins.RS).join(with_stray(values, ins.RCVT)).do(ins.ADD).push(0).do(ins.SZP2).join(with_stray(count, ins.GC))
+        read.do(ins.ADD).push(1).do(ins.SZP2).call(max(63, last), body).do(ins.ADD)
+        place = 50 + (100 + 2 * due.scaled(700, 16, UPEM) if count else 0)
+        cvt = bytes(2 * max(values - 1, 0)) + (700).to_bytes(2, "big") * min(values, 1) + b"\x7F" * (count % 2)
+        font = one(shown(read, place), prep=prep, fpgm=Code().define(max(63, last), body), cvt=cvt, storage=count, twilight=count, functions=count,
+                   stack=16)
+        yield from both("tables of %d" % count, font, 16)
 
 
 def many_functions():
@@ -77,40 +60,46 @@ def many_functions():
     yield from both("4,000 functions", one(square(900), fpgm=fpgm, prep=prep, functions=4000, stack=16), 16)
 
 
-def defined_opcodes():
-    """Opcodes that have no instruction, each defined and executed."""
-    free = [0x28, 0x7B, 0x83, 0x84, *range(0x8F, 0xB0)]
-    fpgm, code = Code(), Code()
-    for opcode in free:
-        fpgm.push(opcode).add(bytes([ins.IDEF]) + NOTHING.bytes + bytes([ins.ENDF]), 1)
-        code.do(opcode).steps += NOTHING.steps + 1
-    yield from both("%d defined opcodes" % len(free), one(square(900, code), fpgm=fpgm, stack=16), 16)
+# Programs on a square, whose points are 0 to 3 and the phantom points 4 to 7, with four cells, four control values and two twilight points;
+# and how many numbers they name that are not there.
+STRAYS = (("8 MDAP:0", 1), ("12 0 -1 2 3 ISECT", 2), ("104 9 120 1 2 DELTAP1", 0), ("120 9 1 DELTAP1", 1), ("1 -1 MIRP:0", 0),
+          ("2 SLOOP 8 5 ALIGNRP", 1), ("4 SLOOP 1 2 1 8 FLIPPT", 1), ("3 8 FLIPRGOFF", 1), ("3 0 FLIPRGON", 0), ("9 SRP2", 0),
+          ("9 SRP2 2 SLOOP 8 2 SHP:0", 2), ("9 SRP2 0 SLOOP SHP:0", 1), ("0 SZPS 0 SHC:0", 1), ("1 8 MD:0", 1), ("9 GC:0", 1), ("4 9 WS", 1),
+          ("3 9 WS", 0), ("-1 RS", 1), ("4 9 WCVTP", 1), ("4 RCVT", 1), ("3 RCVT", 0), ("120 9 104 9 2 DELTAC1", 1))
+SQUARE = [[(0, 0, 1), (90, 0, 1), (90, 90, 1), (0, 90, 1)]]
 
 
-def twilight_points():
-    """The last twilight point is laid by a control value, and measured for the right side."""
-    for count in (0, 1, 16, 64, 65, 257, 65535):
-        prep = Code().do(ins.X_AXIS).push(0).do(ins.SZPS)
-        prep.number(max(count - 1, 0)).push(0).do(ins.MIAP, strays=int(count == 0))
-        prep.number(count).push(0).do(ins.MIAP, strays=1)
-        read = Code().push(0).do(ins.SZP2).join(with_stray(count, ins.GC)).push(1).do(ins.SZP2)
-        glyph = shown(read, due.scaled(700, 16, UPEM) if count else 0)
-        font = one(glyph, prep=prep, cvt=(700).to_bytes(2, "big"), twilight=count, stack=16)
-        yield from both("%d twilight points" % count, font, 16)
+def strays():
+    """A number that is not in its table is counted each time that an instruction names it, one of a delta only if the delta acts."""
+    for program, count in STRAYS:
+        data = fonts.font_of([b"", fonts.simple(SQUARE, assemble(program))], fonts.map_of([(A, 1)]), upem=1024, stack=4, storage=4, twilight=2,
+                             cvt=bytes(8))
+        yield Run(program, words(16, (A,)), data, Ends(due.DONE, counted(strays=count, steps=steps_of(program)), b"ENDFONT\n"))
 
 
-def stack_elements():
-    """The stack filled to its room, and its deepest element read; one more is refused."""
-    for count in (0, 1, 31, 32, 223, 224, 225, 1000, 65535):
-        room = count + ROOM
-        deep = min(room - 1, ins.GREATEST_WORD)
-        prep = Code().push(*[0] * (room - 1 - deep), SEEN, *[0] * (deep - 1)).push(deep)
-        prep.do(ins.CINDEX, ins.WS, ins.CLEAR)
-        font = one(shown(Code().push(0).do(ins.RS), SEEN), prep=prep, storage=1, stack=count)
-        yield from both("a stack of %d" % room, font, 16)
-        full = Code().push(*[0] * room)
-        text = "31 StackOver during prep in prep at %d opcode 20" % full.length
-        yield refusal("one past it", one(square(9), prep=full.do(ins.DUP), stack=count), text)
+# Programs that shift point 1 by a storage cell, by a control value and by the place of the twilight point, one that calls function 1, one that
+# writes all of these, and one that asks for no programs.
+BY_STORAGE, BY_CONTROL, BY_FUNCTION = "1 0 RS SHPIX", "1 0 RCVT SHPIX", "1 CALL"
+BY_TWILIGHT = "1 0 SZP2 0 GC:0 1 SZP2 SHPIX"
+WRITING = "1 FDEF ENDF 0 64 WS 0 64 WCVTP 0 SZPS 0 64 MSIRP:0"
+NO_PROGRAMS = "1 1 INSTCTRL"
+
+
+def nothing_is_kept_between_glyphs():
+    """A function, storage, a control value and the twilight point are written by one glyph, also by one that halts then; the glyphs after
+    it see nothing of it. So does a glyph that asks for no programs."""
+    programs = [WRITING, BY_STORAGE, BY_CONTROL, BY_TWILIGHT, BY_FUNCTION, WRITING + " #91", BY_STORAGE, BY_CONTROL, BY_TWILIGHT, BY_FUNCTION,
+                NO_PROGRAMS, BY_STORAGE]
+    glyphs = [fonts.simple(SQUARE, assemble(program)) for program in programs]
+    codes = {A + k: 1 + k for k in range(len(programs))}
+    data = fonts.font_of([b"", *glyphs], fonts.map_of(codes.items()), upem=1024, functions=2, stack=9, storage=1, twilight=1,
+                         metrics=[(384, 0)] * 13, cvt=bytes(2))
+    told = b"".join(b"mkstrike: left out U+%04X: %s\n" % (A + k, text) for k, text in (
+        (4, b"35 NoFunction during glyph 5 in glyph 5 at 2 opcode 2B"), (5, b"32 BadOpcode during glyph 6 in glyph 6 at 19 opcode 91"),
+        (9, b"35 NoFunction during glyph 10 in glyph 10 at 2 opcode 2B")))
+    text = "".join(glyph_lines(code, "1 1 0 0", "80") for code in codes if code - A not in (4, 5, 9)) + "ENDFONT\n"
+    yield Run("one after the other", "make --ppem 16 --chars 41-4c --refused leave-out", data,
+              Ends(due.DONE, told + counted(9, steps=10 + 3 + 3 + 7 + 3 + 3 + 7 + 2 + 3), text.encode()))
 
 
 # ---- lengths, steps and calls ----
@@ -144,6 +133,8 @@ def steps():
     fpgm, most = Code().define(0, body), Code().call_times(4, 0, body)
     most.fill(most.length + STEPS - most.steps)
     yield from both("a glyph of 250,000 instructions", one(square(900, most), fpgm=fpgm, stack=9), 16)
+    three = Font([Empty(), square(900, most), Composite([(1, 0, 0)] * 3)], {A: 2, B: 1}, fpgm=fpgm, stack=9)
+    yield from both("components of 250,000 instructions, each of them", three, 16, (A, B))
     over = Code().join(most).do(ins.EIF)
     text = "37 StepLimit during glyph 2 in glyph 2 at %d opcode 59" % most.length
     yield refusal("a glyph of one more", one(square(900, over), fpgm=fpgm, stack=9), text)
@@ -164,6 +155,10 @@ def calls():
     yield refusal("33 open calls", one(square(9, Code().call(CALLS, bodies[CALLS])), fpgm=fpgm, stack=9), text)
     font = one(square(900, Code().call_times(30000, 0, NOTHING)), fpgm=Code().define(0, NOTHING), stack=9)
     yield from both("a loop of 30,000 calls", font, 16)
+    # a function that is called twice jumps to the definition of another one of its number, which its second turn does not run
+    again = bytes.fromhex("b0 00 2c b0 09 1c 2d b1 02 00 2a b0 08 1c b0 00 2c b0 09 2d 2d")
+    data = fonts.with_tables(one(square(90), stack=9).data(), fpgm=again)
+    yield Run("a function that is defined anew while it runs", words(16, (A,)), data, Ends(due.DONE, counted(steps=16), b"ENDFONT\n"))
 
 
 # ---- points ----
@@ -184,6 +179,8 @@ def programmed_points():
         yield from both("%d points moved by a loop" % count, font(loop, all_moved), 1024)
         drawn = Code().do(ins.X_AXIS).push(count // 2, 128).do(ins.SHPIX, ins.IUP_X)
         yield from both("%d points drawn after one" % count, font(drawn, all_but_the_last_moved), 1024)
+    far = Code().do(ins.X_AXIS).push(0, 32767, 32767).do(ins.MUL, ins.SHPIX)
+    yield refusal("a point moved too far", one(square(90, far), stack=9), "51 TooFar 2")
 
 
 def last_widened(boxes, ppem):
@@ -235,5 +232,5 @@ def loops_of_many_points():
     yield strike("IUP of 16,000 points", font, 1024, limits={"RLIMIT_CPU": 3})
 
 
-test_programs = cases(programmed_points, loops_of_many_points, lengths_of_programs, functions, stack_elements, control_values,
-                      storage, twilight_points, many_functions, defined_opcodes, steps, calls, listings)
+test_programs = cases(programmed_points, loops_of_many_points, lengths_of_programs, greatest_tables, many_functions, steps, calls, strays,
+                      nothing_is_kept_between_glyphs, listings)

@@ -1,4 +1,4 @@
-"""Cases of the program: each refusal, with nothing on standard output, and which of several comes first."""
+"""Cases of the program: refusals, with nothing on standard output, and which of several comes first. The suite has more of each."""
 import struct
 
 import due
@@ -80,53 +80,8 @@ def refusals_of_files():
         yield from both(name, data, text)
         for words in ("dump --of prep", "show --ppem 16 --char 20"):
             yield Run("%s: %s: %s" % (text, name, words), words, data, refused(text))
-
-
-# ---- maps ----
-
-def mapped(cmap):
-    """The fixture with another map."""
-    return fonts.with_tables(fonts.FIXTURE, cmap=cmap)
-
-
-def format_4(ends, starts):
-    """A map of one subtable of format 4, with segments of these end and start codes."""
-    n = len(ends)
-    head = struct.pack(">HHHHLHHHHHHH", 0, 1, 3, 1, 12, 4, 16 + 8 * n, 0, 2 * n, 0, 0, 0)
-    return head + b"".join(map(word, ends)) + bytes(2) + b"".join(map(word, starts)) + bytes(4 * n)
-
-
-def format_12(groups):
-    """A map of one subtable of format 12."""
-    head = struct.pack(">HHHHLHHLLL", 0, 1, 3, 10, 12, 12, 0, 16 + 12 * len(groups), 0, len(groups))
-    return head + b"".join(struct.pack(">LLL", *group) for group in groups)
-
-
-def bad_maps():
-    """Maps that are missing, cut or bad."""
-    own = TABLES["cmap"]
-    yield "none", lacking("cmap"), "15 NoCharMap"
-    for name, cmap in (("for another system", struct.pack(">HHHHL", 0, 1, 1, 0, 12) + own[12:]),
-                       ("no record", bytes(4)),
-                       ("of format 6", own[:12] + word(6) + own[14:])):
-        yield name, mapped(cmap), "15 NoCharMap"
-    for name, cmap in (("empty", b""), ("cut records", own[:11]), ("a cut head", own[:18]),
-                       ("cut segments", format_4([5, 9], [1, 7])[:-1]),
-                       ("falling ends", format_4([9, 5, 0xFFFF], [1, 7, 0xFFFF])),
-                       ("a cut head of format 12", format_12([])[:-1]),
-                       ("cut groups", format_12([(1, 5, 1), (7, 9, 1)])[:-1]),
-                       ("falling last codes", format_12([(7, 9, 1), (1, 5, 1)])),
-                       ("2^32 - 1 groups", format_12([])[:-4] + b"\xFF" * 4)):
-        yield name, mapped(cmap), "16 BadCharMap"
-
-
-def refusals_of_maps():
-    """15 and 16, which a listing doesn't have; and a map that names a glyph that is not there."""
-    for name, data, text in bad_maps():
-        yield from both(name, data, text)
-        yield Run("%s: %s, listed" % (text, name), "dump --of prep", data, due.listed([]))
-    for glyph in (4, 65535):
-        yield from both("in the map", mapped(fonts.wide_map_of([(A, glyph)])), "24 BadGlyphNumber %d" % glyph)
+    wide = struct.pack(">HHHHLHHLLL", 0, 1, 3, 10, 12, 12, 0, 16, 0, 0xFFFFFFFF)
+    yield from both("2^32 - 1 groups", fonts.with_tables(fonts.FIXTURE, cmap=wide), "16 BadCharMap")
 
 
 # ---- glyphs ----
@@ -136,48 +91,27 @@ def font_with(data, *more):
     return fonts.font_of([b"", TRIANGLE, data, *more], fonts.map_of([(A, 2), (B, 1)]), stack=9)
 
 
-def placed(offsets, short=False):
-    """The fixture with other offsets of glyphs."""
-    loca = b"".join(map(word if short else long, offsets))
-    head = TABLES["head"][:50] + word(0 if short else 1) + TABLES["head"][52:]
-    return fonts.with_tables(fonts.FIXTURE, loca=loca, head=head)
-
-
-def bad_offsets():
-    """Offsets of glyphs that are cut, fall, or lie past the glyphs."""
-    size = len(TABLES["glyf"])
-    yield "cut offsets", cut("loca", 7)
-    yield "falling offsets", placed([0, 0, 36, 20, 50])
-    yield "short offsets that fall", placed([0, 0, 18, 9, 30], True)
-    yield "an offset past glyf", placed([0, 0, size + 1, size + 9, size + 9])
-
-
 def bad_glyphs():
-    """Glyphs whose bytes are cut or bad, and bad components."""
-    for k in range(1, len(TRIANGLE) - 1):
-        yield "%d bytes" % k, font_with(TRIANGLE[:k]), "18 GlyphShort 2"
+    """Glyphs whose bytes are cut or bad, and bad components, beside those of the suite."""
     yield "32,767 contours", font_with(struct.pack(">h8x", 0x7FFF) + word(5) * 0x7FFE), "18 GlyphShort 2"
-    yield "a cut component", font_with(fonts.composite([(1, 0, 0)])[:17]), "18 GlyphShort 2"
+    matrix = struct.pack(">h8xHHhh4h", -1, 0x183, 1, 5, 5, 0, 0x4000, 0x4000, 0) + b"\0\1\x4F"
+    for k in range(1, len(matrix)):
+        yield "%d bytes of a component" % k, font_with(matrix[:k]), "18 GlyphShort 2"
     yield "of a component", font_with(fonts.composite([(1, 0, 0), (3, 0, 0)]), TRIANGLE[:12]), "18 GlyphShort 3"
-    yield "falling end points", font_with(struct.pack(">h8xHH", 2, 5, 3) + bytes(99)), "19 BadContours 2"
     yield "a component of none", font_with(fonts.composite([(9, 0, 0)])), "24 BadGlyphNumber 9"
     yield "a component of itself", font_with(fonts.composite([(2, 0, 0)])), "20 ComponentDepth 2"
     two = font_with(fonts.composite([(3, 0, 0)]), fonts.composite([(2, 0, 0)]))
     yield "two of each other", two, "20 ComponentDepth 3"
-    matched = struct.pack(">h8xHHBBHHBB", -1, 0x20, 1, 0, 0, 0, 1, 3, 0)
-    yield "points that are not there", font_with(matched), "23 BadPointMatch 2"
 
 
 def refusals_of_glyphs():
-    """17 to 20, 23 and 24 of glyphs and their components."""
-    for name, data in bad_offsets():
-        yield from both(name, data, "17 BadLoca 2")
+    """18, 20 and 24 of glyphs and their components; a listing looks at no map, and at no other glyph."""
     for name, data, text in bad_glyphs():
         yield from both(name, data, text)
     short, data = refused("18 GlyphShort 2"), font_with(TRIANGLE[:9])
     yield Run("its listing", "dump --of 2", data, short)
     yield Run("its picture", "show --ppem 16 --char 41", data, short)
-    yield Run("another listing", "dump --of 1", data, due.listed([]))
+    yield Run("another listing", "dump --of 1", fonts.with_tables(data, cmap=b""), due.listed([]))
     yield Run("a listing of no glyph", "dump --of 3", data, refused("24 BadGlyphNumber 3"))
 
 
@@ -188,36 +122,6 @@ def programmed(fpgm=b"", prep=b"", glyph=b"", **numbers):
     box = [[(0, 0, 1), (90, 0, 1), (90, 90, 1), (0, 90, 1)]]
     made = [b"", fonts.simple(box, glyph), fonts.composite([(1, 5, 5)])]
     return fonts.font_of(made, fonts.map_of([(A, 1), (B, 2)]), fpgm=fpgm, prep=prep, **numbers)
-
-
-# The cause, a program, and the address and the opcode of the instruction at which it halts.
-HALTS = (("30 StackUnder", "21", 0, 0x21), ("30 StackUnder", "B0 01 06", 2, 0x06),
-         ("30 StackUnder", "00 0F", 1, 0x0F), ("30 StackUnder", "B0 02 5D", 2, 0x5D),
-         ("30 StackUnder", "B0 05 17 B0 00 3C", 5, 0x3C), ("31 StackOver", "41 29" + " 0007" * 41, 0, 0x41),
-         ("32 BadOpcode", "28", 0, 0x28), ("32 BadOpcode", "B0 00 4F 91", 3, 0x91), ("33 CodeEnd", "B1 00", 0, 0xB1),
-         ("33 CodeEnd", "40", 0, 0x40), ("33 CodeEnd", "41 02 00 01 00", 0, 0x41),
-         ("33 CodeEnd", "B0 00 58", 2, 0x58), ("33 CodeEnd", "B0 00 2C 59", 2, 0x2C),
-         ("33 CodeEnd", "1B 00", 0, 0x1B), ("34 BadJump", "B0 02 1C", 2, 0x1C),
-         ("34 BadJump", "B8 FF FC 1C", 3, 0x1C), ("35 NoFunction", "B0 05 2B", 2, 0x2B),
-         ("35 NoFunction", "B8 FF FF 2B", 3, 0x2B), ("35 NoFunction", "B1 01 05 2A", 3, 0x2A),
-         ("36 CallDepth", "B0 00 2C B0 00 2B 2D B0 00 2B", 5, 0x2B), ("37 StepLimit", "B8 FF FD 1C", 0, 0xB8),
-         ("38 DivideByZero", "B1 40 00 62", 3, 0x62), ("39 BadArgument", "B0 00 25", 2, 0x25),
-         ("39 BadArgument", "B1 05 02 26", 3, 0x26), ("39 BadArgument", "B0 02 13", 2, 0x13),
-         ("39 BadArgument", "B0 07 5F", 2, 0x5F), ("39 BadArgument", "B8 FF FF 17", 3, 0x17),
-         ("39 BadArgument", "B0 40 2C 2D", 2, 0x2C), ("39 BadArgument", "B8 01 00 89 2D", 3, 0x89),
-         ("40 NestedDefinition", "B1 01 00 2C 2C 2D 2D", 3, 0x2C), ("40 NestedDefinition", "B0 01 2C 89", 2, 0x2C),
-         ("41 StrayEnd", "2D", 0, 0x2D))
-
-
-def halts():
-    """30 to 41: programs that halt, each as fpgm, as prep and as a glyph's program."""
-    for cause, text, at, opcode in HALTS:
-        code = bytes.fromhex(text)
-        for where, data in (("fpgm", programmed(fpgm=code)), ("prep", programmed(prep=code)),
-                            ("glyph 1", programmed(glyph=code))):
-            yield Run("%s: %s in %s" % (cause, text[:30], where), WORDS, data, halted(cause, where, where, at, opcode))
-        shown = halted(cause, "glyph 1", "glyph 1", at, opcode)
-        yield Run("%s: %s, shown" % (cause, text[:30]), "show --ppem 16 --char 41", programmed(glyph=code), shown)
 
 
 def halts_in_functions():
@@ -276,5 +180,4 @@ def orders():
     yield Run("the other, unhinted", "make --ppem 16 --chars 42,41 --unhinted", several, refused("18 GlyphShort 1"))
 
 
-test_refusals = cases(refusals_of_files, refusals_of_glyphs, refusals_of_maps, halts, halts_in_functions, which_programs_run,
-                      orders)
+test_refusals = cases(refusals_of_files, refusals_of_glyphs, halts_in_functions, which_programs_run, orders)

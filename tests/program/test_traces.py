@@ -1,4 +1,4 @@
-"""Traces of programs: worked by hand, and beside those of the suite's reference."""
+"""Traces of programs: how they are asked for and end, and each line beside that of the suite's reference."""
 import os
 import subprocess
 
@@ -12,7 +12,6 @@ from prebuilt import TOP
 from reference import fontfile as reference
 from reference.trace import Traces
 from runs import Run
-from test_faces import collection, face
 
 LINE = [[(0, 0, 1), (64, 0, 1), (64, 64, 1)]]
 A, B = 0x41, 0x42
@@ -25,60 +24,6 @@ def font(program=b"", fpgm=b"", prep=b"", more=()):
     glyphs = [b"", fonts.simple(LINE, program), *more]
     chars = [(A, 1)] + [(B, 2)] * bool(more)
     return fonts.font_of(glyphs, fonts.map_of(chars), functions=2, stack=16, fpgm=fpgm, prep=prep)
-
-
-def sized(program, **tables):
-    """A font of 1,024 FUnits an em, whose glyph 1 is the letter A: at 16 pixels an FUnit is 1/64 pixel, so its points are at 0,0, 64,0
-    and 64,64. Control value 0 is 100."""
-    glyphs = [b"", fonts.simple(LINE, bytes.fromhex(program))]
-    return fonts.font_of(glyphs, fonts.map_of([(A, 1)]), upem=1024, functions=2, stack=16, twilight=2, storage=2,
-                         cvt=bytes.fromhex("0064"), **tables)
-
-
-def worked(name, *rows):
-    """A program of the letter A by rows: its bytes in hexadecimal, and what its line has after the address."""
-    at, code, lines = 0, "", ["glyph 1 begins"]
-    for data, line in rows:
-        lines.append("glyph 1 %04X %s" % (at, line))
-        code += data
-        at += len(bytes.fromhex(data))
-    return Run(name, "trace --ppem 16 --glyph 1", sized(code), due.listed(lines))
-
-
-# Words of SCANCTRL and whether drop-out control is on after each, at 16 pixels an em, by the manual: bits 0 to 7 are a threshold, with which
-# bit 8 turns it on up to it and bit 11 off above it. Bits 9 and 10 turn it on, and 12 and 13 leave it on, for rotated and stretched glyphs
-# alone. The threshold 255 turns it on, 0 off; bits 14 and 15 mean nothing. Where no bit says so it is as it was: off at first.
-SCANCTRL = [(0x0110, 1), (0x0110, 1), (0x010F, 1), (0x090F, 0), (0x010F, 0), (0x0111, 1), (0x0810, 1), (0x080F, 0), (0x0810, 0), (0x0910, 1),
-            (0x0100, 0), (0x00FF, 1), (0x0000, 0), (0x3EFF, 1), (0x3F00, 0), (0x0210, 0), (0x0410, 0), (0x0610, 0), (0x0310, 1),
-            (0x0210, 1), (0x0410, 1), (0x1110, 0), (0x0510, 1), (0x2110, 0), (0x0110, 1), (0x1010, 0), (0x0110, 1), (0x2010, 0),
-            (0xC110, 1), (0xC00F, 1), (0x0010, 1), (0x000F, 1), (0x080F, 0), (0x0010, 0), (0xC0FF, 1), (0xFF00, 0)]
-
-# Types of SCANTYPE: 0 and 1 are simple, 4 and 5 smart, 2, 3 and 6 to 8 turn it off, which a trace shows as 0, 4 and 2. Others change nothing.
-SCANTYPE = [(4, 4), (0, 0), (5, 4), (1, 0), (2, 2), (4, 4), (3, 2), (5, 4), (6, 2), (4, 4), (7, 2), (4, 4), (8, 2), (4, 4), (9, 4), (0, 0), (10, 0),
-            (255, 0), (-1, 0), (-4, 0), (260, 0), (2, 2), (9, 2)]
-
-
-def set_in_turn(name, opcode, change, at_first, table):
-    """A program that executes an instruction with each number of a table, whose lines show what each changes."""
-    rows, was = [], at_first
-    for number, now in table:
-        rows.append(("B8 %04X" % (number & 0xFFFF), "B8 PUSHW %d | %d" % ((signed(number),) * 2)))
-        rows.append((opcode, "%s %s |%s" % (opcode, name, "" if now == was else "; %s %d %d" % (change, was, now))))
-        was = now
-    return worked(name, *rows)
-
-
-def signed(word):
-    """A number as PUSHW pushes its low word."""
-    return (word & 0xFFFF ^ 0x8000) - 0x8000
-
-
-def rows_of_drop_out_control():
-    """SCANCTRL and SCANTYPE, each with its words in turn; and each word of SCANCTRL that turns nothing on, as the first."""
-    yield set_in_turn("SCANCTRL", "85", "scan-control", -1, SCANCTRL)
-    yield set_in_turn("SCANTYPE", "8D", "scan-type", 0, SCANTYPE)
-    for first in (0x010F, 0x0810, 0x080F, 0x0210, 0x0410, 0x1110, 0x2110, 0x0010, 0x0000):
-        yield set_in_turn("SCANCTRL", "85", "scan-control", -1, [(first, 0), (0x0110, 1)])
 
 
 def halts():
@@ -118,8 +63,6 @@ def refused():
                           ("--ppem 16 --of cvt", due.usage()), ("--ppem 16 --char 41 --unhinted", due.usage()),
                           ("--ppem 16 --char 43", due.Due(due.DONE, b"mkstrike: missing\n"))):
         yield Run("trace " + words, "trace " + words, data, answer)
-    yield Run("face 1", "trace --ppem 16 --char 41" + face(1), collection([font(), data]), due.listed(
-        ["glyph 1 begins", "glyph 1 0000 B0 PUSHB 1 | 1", "glyph 1 0002 21 POP |"]))
 
 
 def outputs_that_fail():
@@ -134,7 +77,7 @@ def outputs_that_fail():
         yield Run("a file of %d bytes" % count, "trace --ppem 16 --char 41", data, due.cut_after(whole, count), way=runs.into_file(count))
 
 
-test_traces = cases(rows_of_drop_out_control, halts, order, refused, outputs_that_fail)
+test_traces = cases(halts, order, refused, outputs_that_fail)
 
 
 # ---- against the suite's reference, which runs each program by itself
@@ -161,7 +104,7 @@ def differences(program, data, ppem, glyphs):
 
 
 # The suite's fonts of instructions, and of how many glyphs each is looked at: a font has each instruction with each flag, in many states.
-FONTS = {"arithmetic": 1, "calls": 1, "composites": 1, "cut-in": 3, "definitions": 1, "deltas": 3, "flow": 1, "halts": 1, "inherited": 1,
+FONTS = {"arithmetic": 1, "asked-off": 1, "asked-on": 1, "calls": 1, "composites": 1, "cut-in": 3, "definitions": 1, "deltas": 3, "flow": 1, "halts": 1, "inherited": 1,
          "instctrl-default-state": 1, "instctrl-no-programs": 1, "iup": 3, "iup-special": 1, "limits": 1, "mdrp": 5, "metrics": 1, "mirp": 7,
          "points": 4, "prep-base": 1, "prep-cut-in": 1, "prep-flip": 1, "prep-points": 1, "prep-round": 1, "prep-vectors": 1, "prep-width": 1,
          "rounding": 5, "small-stack": 1, "stack": 1, "state": 1, "vectors": 2, **{"fpgm-%d" % k: 1 for k in range(10)},

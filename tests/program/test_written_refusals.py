@@ -12,9 +12,9 @@ OF_C = {(b"64", b"BadMode"), (b"65", b"BadBlock")}  # which only calls from C gi
 
 
 def differ(page, lines):
-    """The refusals that are on the page alone, or alone in lines that are due."""
+    """The refusals that are on the page alone, or alone in lines that are due, of a request or of one of its characters."""
     listed = set(re.findall(rb"^\| (\d+) \| (\w+)", page, re.M)) - OF_C
-    return listed ^ {found.groups() for found in (re.match(rb"mkstrike: (\d+) (\w+)", line) for line in lines) if found}
+    return listed ^ set(re.findall(rb"^mkstrike: (?:\w[\w ]* U\+\w+: )?(\d+) (\w+)", b"".join(lines), re.M))
 
 
 def test_each_is_due():
