@@ -1,19 +1,14 @@
 -- All characters of a font's map.
-use Rattle.std.specs.Prelude.{ℕ, zero, suc, ◌+◌, ◌==◌, List, [], ◌∷◌, ◌++◌, take, Result, Ok, Err, if◌then◌else◌}
+use Rattle.std.specs.Prelude.{ℕ, ◌+◌, List, [], take, Result, Ok, Err}
 use Rattle.fx_sfnt.specs.Collections.{FontFileView}
 use Rattle.fx_sfnt.specs.Tables.{Face}
-use Rattle.fx_cmap.specs.Lookup.{glyph_for}
+use Rattle.fx_cmap.specs.Mapped.{mapped_below}
 use Rattle.fx_cmap.specs.declared.mapping.Mapping.{Mapping}
 use Rattle.fx_request.specs.Limits.{max_characters, max_code}
 use Rattle.fx_request.specs.declared.refusal.Refusal.{Refusal}
 use Rattle.fx_strike.specs.Strike.{font_with_map}
 
--- the code points below n that have a glyph, in rising order
-unfoldable pub mapped_below : Mapping → ℕ → List ℕ
-mapped_below map zero = []
-mapped_below map (suc n) = if glyph_for map n == 0 then mapped_below map n else mapped_below map n ++ n ∷ []
-
--- the first of all of them, up to a limit
+-- the code points that have a glyph, up to a limit
 unfoldable pub mapped_in : Mapping → ℕ → List ℕ
 mapped_in map limit = take limit (mapped_below map (max_code + 1))
 

@@ -2,13 +2,12 @@
 ghost use Rattle.std.specs.Prelude.{◌≡◌, false};
 ghost use Rattle.fx_cli.specs.Watch.{unseen};
 
-use crate::mapped::mapped_in;
 use crate::watcher::Watcher;
 use fx_arguments::{Characters, Command, Done, Fault, Task};
 use fx_cmap::CharMap;
 use fx_front::{Counts, Facts, Refused, Text};
 use fx_machine::FontProgram;
-use fx_request::{MAX_CHARACTERS, Place, Refusal, Report, rising_codes};
+use fx_request::{MAX_CHARACTERS, MAX_CODE, Place, Refusal, Report, rising_codes};
 use fx_sfnt::{Font, FontFile};
 use std::alloc::{AllocError, Global};
 
@@ -60,9 +59,7 @@ impl Watch {
                 }
             }
             Characters::All => {
-                if let Ok(codes) = mapped_in(alloc, map, MAX_CHARACTERS + 1) {
-                    self.facts.is_cut = codes.len() > MAX_CHARACTERS;
-                }
+                self.facts.is_cut = map.mapped_below(MAX_CODE + 1, &mut []) > MAX_CHARACTERS;
             }
         }
     }

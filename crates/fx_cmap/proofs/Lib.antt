@@ -1,2 +1,3 @@
 pub mod Searching
 pub mod Preferring
+pub mod AllMapped

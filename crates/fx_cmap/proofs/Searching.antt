@@ -1,7 +1,7 @@
 -- Codes in order, and the ranges that have them as their last codes.
 -- For `Codes`, `RisingCodes`, and the `find` and `gap_end` of segments and groups.
 use Rattle.std.proofs.Common.{◌≡◌, ℕ, zero, suc, ◌+◌, ◌*◌, ◌<◌, ◌≤◌, Bool, true, false, cond, nat_lt, nat_le, List, [], ◌∷◌}
-use Rattle.std.proofs.Common.{Option, Some, None, option_map, length, map, get_or, slice_get, not, refl, ap, ◌∙◌, arith}
+use Rattle.std.proofs.Common.{Option, Some, None, option_map, length, map, get_or, slice_get, not, refl, sym, ap, ◌∙◌, arith}
 use Rattle.std.specs.List.{find, position, position_or_len, range_with_len}
 use Rattle.std.proofs.lemmas.Bool.{or_parts, ltb-true, ltb-false, lt-ltb, lt-leb, le-leb, leb-true, leb-false, cond-true, cond-false}
 use Rattle.std.proofs.lemmas.List.{length-map}
@@ -107,6 +107,20 @@ pub found_on : {X : Type 0} (last : X → ℕ) (ranges : List X) (x : X) (code l
 found_on last [] x code later h le on = h
 found_on last (r ∷ more) x code later h le on =
     found_case last r x more code later (nat_le code (last r)) refl h le on (λ g. found_on last more x code later g le on)
+
+-- if no range counts for a code, none counts for a later one
+none_case : {X : Type 0} (last : X → ℕ) (r : X) (more : List X) (code later : ℕ) (reaches : Bool) → nat_le code (last r) ≡ reaches
+    → cond reaches (Some r) (find (λ y. nat_le code (last y)) more) ≡ None → code ≤ later
+    → (find (λ y. nat_le code (last y)) more ≡ None → find (λ y. nat_le later (last y)) more ≡ None)
+    → cond (nat_le later (last r)) (Some r) (find (λ y. nat_le later (last y)) more) ≡ None
+none_case last r more code later true e h le rest = absurd (none-some r (sym h))
+none_case last r more code later false e h le rest = grind (arith, cond-false, lt-leb, leb-false)
+
+pub none_on : {X : Type 0} (last : X → ℕ) (ranges : List X) (code later : ℕ) → find (λ y. nat_le code (last y)) ranges ≡ None
+    → code ≤ later → find (λ y. nat_le later (last y)) ranges ≡ None
+none_on last [] code later h le = refl
+none_on last (r ∷ more) code later h le =
+    none_case last r more code later (nat_le code (last r)) refl h le (λ g. none_on last more code later g le)
 
 -- the range that counts for a code reaches it
 reaches_case : {X : Type 0} (last : X → ℕ) (r x : X) (found : Option X) (code : ℕ) (reaches : Bool)

@@ -28,11 +28,11 @@ impl<'a> Model for CharMap<'a> {
 impl<'a> CharMap<'a> {
     /// Reads the character map of a font, or returns the first fault.
     ///
-    /// `NoCharMap` if there is no `cmap`; `BadCharMap` if its header or its records are cut; `NoCharMap` if no record that is
-    /// looked for has a subtable of its format; `BadCharMap` if `cmap` ends before the header of the subtable that is taken or
-    /// before the fields of its segments or groups do, or if its last codes fall. The subtable that is taken is that of the first
-    /// candidate that has one (`candidates.rt`): of format 12 for Windows with all of Unicode, else for Unicode; else of format 4
-    /// for Windows with Unicode, else for Unicode, else for Windows with symbols.
+    /// `NoCharMap` if there is no `cmap`; `BadCharMap` if its header or its records are truncated; `NoCharMap` if no record
+    /// that is looked for has a subtable of its format; `BadCharMap` if `cmap` ends before the header of the subtable that is
+    /// taken or before the fields of its segments or groups do, or if its end codes are not in ascending order. The subtable
+    /// that is taken is the first candidate's that has one (`candidates.rt`): of format 12 for Windows with all of Unicode,
+    /// else for Unicode; else of format 4 for Windows with Unicode, else for Unicode, else for Windows with symbols.
     #[tactic(auto, unfolding(crate::specs::Lookup::map_of))]
     pub fn open(font: &Font<'a>) -> Result<CharMap<'a>, CharMapFault>
         ensures { result ≡ map_of font.now }

@@ -42,7 +42,7 @@ impl<'m, 'a> Cursor<'m, 'a> {
     }
 
     /// A code up to which, from the given one on, no code has a glyph. If `glyph` returned 0 for the code just before, it is the
-    /// first code of the next segment or group; a number up to the code says nothing.
+    /// first code of the next segment or group, or the greatest number if there is none; a number up to the code says nothing.
     pub fn gap_end(&self, code: u32) -> u32
         ensures { (c : ℕ) → code ≤ c → c < result → glyph_for self.now c ≡ 0 }
     {

@@ -88,12 +88,13 @@ impl<'a> Subtable for Groups<'a> {
         }
     }
 
-    /// The first code of the group that counts for the given one.
+    /// The first code of the group that counts for the given one. If none does, none counts for a later one, and the result is
+    /// the greatest number.
     fn gap_end(&self, near: u32, code: u32) -> u32 {
         let mut near = near;
         match self.find(&mut near, code) {
             Some(group) => group.start_char_code.min(group.end_char_code),
-            None => 0,
+            None => u32::MAX,
         }
     }
 }

@@ -12,6 +12,7 @@ mod fault;
 mod group;
 mod groups;
 pub mod laws;
+mod mapped;
 mod mapping;
 mod records;
 mod rising;

@@ -92,12 +92,13 @@ impl<'a> Subtable for Segments<'a> {
         }
     }
 
-    /// The first code of the segment that counts for the given one.
+    /// The first code of the segment that counts for the given one. If none does, none counts for a later one, and the result is
+    /// the greatest number.
     fn gap_end(&self, near: u32, code: u32) -> u32 {
         let mut near = near;
         match self.find(&mut near, code) {
             Some(segment) => u32::from(segment.start_code.min(segment.end_code)),
-            None => 0,
+            None => u32::MAX,
         }
     }
 }

@@ -9,6 +9,6 @@ pub enum GlyphFault {
     #[error("the bytes of glyph {0} end too early")]
     GlyphShort(u16),
     /// An end point of a contour is below the one before it.
-    #[error("the end points of glyph {0} fall")]
+    #[error("the end points of glyph {0} decrease")]
     BadContours(u16),
 }

@@ -14,7 +14,7 @@ use fx_sfnt::u16_in;
 /// Reads the bytes of a glyph, whose number is g (OpenType, `glyf`).
 ///
 /// The result is the one glyph that the grammar finds in a front of the bytes, else the first
-/// fault: `GlyphShort` if the header or the end points are cut, else `BadContours` if an end point
+/// fault: `GlyphShort` if the header or the end points are truncated, else `BadContours` if an end point
 /// is below the one before it, else `GlyphShort`.
 #[tactic(auto, using(crate::proofs::Described::found_glyph, crate::proofs::Described::only_glyph, crate::proofs::Described::if_ok))]
 pub fn read<'a>(bytes: &'a [u8], g: u16) -> Result<Glyph<'a>, GlyphFault>

@@ -42,3 +42,13 @@ only_offset_of face = do
 unfoldable pub directory_offset_of : FontFileView → Result ℕ FontFault
 directory_offset_of file =
     if is_collection file.bytes then collection_offset_of file.bytes file.face else only_offset_of file.face
+
+-- how many faces a collection has: its numFonts
+unfoldable pub collection_count_of : List ℕ → Result ℕ FontFault
+collection_count_of bytes = do
+  _ ← refuse (not (is_collection_header bytes)) NotTrueType
+  Ok (field 4 bytes 8)
+
+-- how many faces a file has; one that is no collection has one
+unfoldable pub face_count_of : List ℕ → Result ℕ FontFault
+face_count_of bytes = if is_collection bytes then collection_count_of bytes else Ok 1

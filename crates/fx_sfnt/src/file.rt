@@ -1,8 +1,8 @@
 //! A font file, and which of its faces is meant (OpenType, "Font Collections").
 
 ghost use Rattle.std.specs.Prelude.{◌≡◌};
-ghost use Rattle.fx_sfnt.specs.Collections.{collection_offset_of, directory_offset_of, face_in, is_collection};
-ghost use Rattle.fx_sfnt.specs.Collections.{is_collection_header, only_offset_of};
+ghost use Rattle.fx_sfnt.specs.Collections.{collection_count_of, collection_offset_of, directory_offset_of, face_count_of, face_in};
+ghost use Rattle.fx_sfnt.specs.Collections.{is_collection, is_collection_header, only_offset_of};
 
 use crate::fault::FontFault;
 use crate::fields::u32_in;
@@ -47,10 +47,24 @@ impl<'a> FontFile<'a> {
         self.bytes
     }
 
+    /// How many faces the file has, whichever is meant: `numFonts` of a collection; 1 for any other file.
+    ///
+    /// `NotTrueType` if a collection's header is truncated or has a version other than 1.0 and 2.0.
+    #[tactic(auto, unfolding(crate::specs::Collections::face_count_of))]
+    pub fn face_count(&self) -> Result<u32, FontFault>
+        ensures { result ≡ face_count_of self.now.bytes }
+    {
+        if is_collection(self.bytes) {
+            collection_count(self.bytes)
+        } else {
+            Ok(1)
+        }
+    }
+
     /// Where the face's directory begins in the file.
     ///
-    /// `NotTrueType` if a collection's header is cut or has a version other than 1.0 and 2.0; then `NoFace` if there is no such
-    /// face.
+    /// `NotTrueType` if a collection's header is truncated or has a version other than 1.0 and 2.0; then `NoFace` if there is no
+    /// such face.
     #[tactic(auto, unfolding(crate::specs::Collections::directory_offset_of))]
     pub fn directory_offset(&self) -> Result<usize, FontFault>
         ensures { result ≡ directory_offset_of self.now }
@@ -80,6 +94,17 @@ fn is_collection_header(bytes: &[u8]) -> bool
     let version = u32_in(bytes, 4);
     let count = u32_in(bytes, 8) as usize;
     (version == 0x0001_0000 || version == 0x0002_0000) && 12 + 4 * count <= bytes.len()
+}
+
+/// How many faces a collection has.
+#[tactic(auto, unfolding(crate::specs::Collections::collection_count_of))]
+fn collection_count(bytes: &[u8]) -> Result<u32, FontFault>
+    ensures { result ≡ collection_count_of bytes.now }
+{
+    if !is_collection_header(bytes) {
+        return Err(FontFault::NotTrueType);
+    }
+    Ok(u32_in(bytes, 8))
 }
 
 /// Where a face's directory begins in a collection.

@@ -1,7 +1,7 @@
 use Rattle.std.proofs.Common.{◌<◌, ◌≤◌, sym, ap, ◌∙◌, arith}
 use Rattle.fx_cmap.specs.Segments.{glyph_by_segment}
 use Rattle.fx_cmap.specs.declared.segment.Segment.{Segment}
-use Rattle.fx_cmap.proofs.Searching.{found_on, none_below_segment}
+use Rattle.fx_cmap.proofs.Searching.{found_on, none_below_segment, none_on}
 use Rattle.fx_cmap.proofs.segments.SegmentsSubtable.gap_end.Goals as goal
 
 pub returns-in-Some : goal.returns-in-Some
@@ -13,3 +13,9 @@ returns-in-Some c x above below =
     ap (glyph_by_segment table.cmap x)
     (found_on (λ (r : Segment). r.end_code) table.segments s c.args.code x (sym c.find.ensures.value ∙ c.in-Some.is) above high)
     ∙ none_below_segment table.cmap s x low
+
+pub returns-in-None : goal.returns-in-None
+returns-in-None c x above below =
+    let table = c.args.self.now in
+    ap (glyph_by_segment table.cmap x)
+    (none_on (λ (r : Segment). r.end_code) table.segments c.args.code x (sym c.find.ensures.value ∙ c.in-None.is) above)
