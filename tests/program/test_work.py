@@ -32,13 +32,13 @@ REQUESTS = [
     (DEJAVU, "make --ppem 16 --chars 20-7e", 1220),
     (DEJAVU, "make --ppem 16 --chars 20-7e --unhinted", 1170),
     (DEJAVU, "make --ppem 8 --chars 20-7e --dropout --x11 --property A=1 --property B=x", 1225),
-    (DEJAVU, "make --ppem 128 --chars %s" % WHOLE, 6400),
-    (DEJAVU, "make --ppem 128 --chars %s --dropout --x11" % WHOLE, 6410),
+    (DEJAVU, "make --ppem 128 --chars %s" % WHOLE, 10880),
+    (DEJAVU, "make --ppem 128 --chars %s --dropout --x11" % WHOLE, 10890),
     (LIBERATION, "make --ppem 1024 --chars 40-57 --dropout --x11", 5720),
     (LIBERATION, "show --ppem 200 --char 41 --dropout", 450),
     (LIBERATION, "dump --of fpgm", 300),
     ("16,000 points", "make --ppem 1024 --chars 41-42 --dropout", 1380),
-    ("a square for all", "make --ppem 12 --chars 0-ffff --dropout --x11", 5680),
+    ("a square for all", "make --ppem 12 --chars 0-ffff --dropout --x11", 10180),
 ]
 # Fonts that are made here: as many points as a glyph may have, in two glyphs; and one glyph for each of 65,536 characters.
 MADE = {"16,000 points": lambda: Font([Empty(), comb(16000, Code().fill(9)), comb(16000)], {0x41: 1, 0x42: 2}, upem=8192, stack=9),
@@ -82,7 +82,7 @@ def counted(program, library, words, font):
         done = subprocess.run([program] + words.split(), stdin=given, stdout=subprocess.DEVNULL, stderr=subprocess.PIPE, timeout=120,
                               env={"LD_PRELOAD": library, "COUNT_TO": str(told.fileno())}, pass_fds=[told.fileno()])
         told.seek(0)
-        out, most, _, _, reads = map(int, told.read().split())
+        out, most, reads = map(int, told.read().split())
     if done.returncode:
         raise RuntimeError("status %d: %r" % (done.returncode, done.stderr[-200:]))
     return out, most, reads
@@ -97,7 +97,7 @@ def folder_of_fonts(tmp_path_factory):
 @pytest.fixture(name="library", scope="module")
 def library_that_counts(folder):
     """The library that counts."""
-    return compiled(os.path.join(HERE, "count_memory.c"), folder / "count.so", "-shared", "-fPIC")
+    return compiled(os.path.join(HERE, "memory.c"), folder / "memory.so", "-shared", "-fPIC")
 
 
 def path_of(font, folder):
@@ -141,9 +141,9 @@ def instructions(program, words, path):
 def fonts_to_run(code):
     """Fonts whose glyphs have a program, or none: a name, the font, its characters, and how often its programs are due to run."""
     codes, more = range(0x100, 0x100 + GLYPHS), {"fpgm": Code().define(0, BODY), "functions": 1, "stack": 9}
-    # The lines of these two have more bytes than a strike keeps: 4,000 rows of 4,000 pixels each.
-    large, each = [square(16000)] * 2, [square(500, code)] * GLYPHS
-    all_codes = range(0x100, 0x102 + GLYPHS)
+    # The lines of these three have more bytes than a strike keeps: 4,000 rows of 4,000 pixels each.
+    large, each = [square(16000)] * 3, [square(500, code)] * GLYPHS
+    all_codes = range(0x100, 0x103 + GLYPHS)
     yield "lines that fit", Font([Empty()] + each, {it: 1 + k for k, it in enumerate(codes)}, upem=1024, **more), codes, GLYPHS
     yield "lines that don't fit", Font([Empty()] + large + each, {it: 1 + k for k, it in enumerate(all_codes)}, upem=64,
                                        **more), all_codes, 2 * GLYPHS

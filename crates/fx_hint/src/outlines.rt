@@ -14,7 +14,7 @@ use crate::glyph_outline::GlyphOutline;
 use crate::hinter::{Hinter, NoHinter};
 use crate::made::Made;
 use crate::spare::Spare;
-use crate::walk::root_made;
+use crate::walk::Walk;
 use fx_fixed::{F26, Ppem};
 use fx_machine::{Machine, Usage};
 use fx_outline::{Outline, OutlinePoint};
@@ -91,8 +91,14 @@ pub fn outline_in<H: Hinter>(
 {
     let scale = Scale::of(font, ppem);
     hinter.law_keeps_shape();
+    let walk = Walk {
+        alloc,
+        font,
+        scale: &scale,
+        root: g,
+    };
     let zone = spare.take_zone(alloc);
-    let (made, usage) = root_made(alloc, zone, spare.component(), hinter, font, &scale, g)?;
+    let (made, usage) = walk.root_made(hinter, zone, spare.component())?;
     let outline = moved_outline(alloc, spare, made, usage)?;
     Ok(outline)
 }

@@ -1,15 +1,16 @@
 //! Lists that one outline leaves to the next.
 
-ghost use Rattle.std.specs.Prelude.{◌≡◌};
+ghost use Rattle.std.specs.Prelude.{◌≡◌, []};
 ghost use Rattle.fx_zone.specs.Figures.{empty_figure};
 
 use fx_outline::{Outline, OutlinePoint};
 use fx_zone::{Point, Zone};
 use std::alloc::Global;
+use std::marker::Model;
 use std::mem;
 
 /// The lists of an outline that is done with, which the next one fills anew, so that it asks for no memory. What they hold has no
-/// part in the next outline.
+/// part in the next outline. Contracts see the points and the contours of the outline that was given back.
 #[derive(Drop)]
 pub struct Spare {
     /// The points before they were moved.
@@ -20,9 +21,20 @@ pub struct Spare {
     ends: Vec<u16>,
 }
 
+impl Model for Spare {
+    ghost use Rattle.std.specs.Prelude.{ℕ, List};
+    ghost use Rattle.fx_outline.specs.declared.points.OutlinePoint.{OutlinePoint};
+
+    ghost Value = { List OutlinePoint × List ℕ };
+
+    ghost view = { λ s. (s.points.items, s.ends.items) };
+}
+
 impl Spare {
     /// Lists without memory.
-    pub fn new(alloc: Global) -> Spare {
+    pub fn new(alloc: Global) -> Spare
+        ensures { result ≡ ([], []) }
+    {
         Spare {
             zone: Vec::new(alloc),
             component: Zone::new(alloc),
@@ -33,7 +45,9 @@ impl Spare {
 
     /// Takes the lists of an outline that is done with.
     #[inline(always)]
-    pub fn give_back(&mut self, outline: Outline) {
+    pub fn give_back(&mut self, outline: Outline)
+        ensures { self.new ≡ (outline.points.items, outline.ends.items) }
+    {
         let Outline { points, ends } = outline;
         self.points = points;
         self.ends = ends;

@@ -81,11 +81,11 @@ fn run_on<H: Hinter>(
 /// A walk over the components below a root. A step that begins a glyph writes it to a `Made` of its caller, and returns the
 /// composite if it is one. So no large value is copied from step to step.
 #[derive(Clone, Copy)]
-struct Walk<'w, 'a> {
-    alloc: Global,
-    font: &'w Font<'a>,
-    scale: &'w Scale,
-    root: u16,
+pub struct Walk<'w, 'a> {
+    pub alloc: Global,
+    pub font: &'w Font<'a>,
+    pub scale: &'w Scale,
+    pub root: u16,
 }
 
 impl<'w, 'a> Walk<'w, 'a> {
@@ -114,76 +114,10 @@ impl<'w, 'a> Walk<'w, 'a> {
         Ok(())
     }
 
-    /// A glyph begun, which is no component: its number and bytes, its reading; and then it is assembled, or a composite that is
-    /// open.
-    #[tactic(auto, unfolding(crate::specs::inner::Steps::begun, crate::specs::inner::RunSteps::begun_runs))]
-    fn begun<H: Hinter>(
-        &self,
-        hinter: &mut H,
-        g: u16,
-        count: &mut Count,
-        made: &mut Made,
-    ) -> Result<Option<Composite<'a>>, HintFault>
-        requires points { count.old.points ≤ max_points }
-        ensures known { H.known hinter.new ≡ H.known hinter.old }
-        ensures kept { H.hinting hinter.new ≡ H.hinting hinter.old }
-        ensures leads { HasRun H.Leads hinter.old hinter.new result
-            (begun_runs (H.hinting hinter.old) self.now.font.now self.now.scale.now self.now.root None g count.old) }
-        ensures value { GivesUnless Fails (λ assembly. (step_of None g assembly made.new, count.new)) result
-            (begun (H.hinting hinter.old) self.now.font.now self.now.scale.now self.now.root None g count.old) }
-        ensures records { OnOk result (count.new.records ≡ count.old.records) }
-        ensures points { OnOk result (CountsPoints count.old made.new count.new) }
-    {
-        let metrics = self.font.metrics(g)?;
-        let bytes = self.font.glyph_bytes(g)?;
-        let glyph = read(bytes, g)?;
-        self.begun_by(hinter, None, g, metrics, glyph, count, made)
-    }
-
-    /// A glyph that has been read, begun: an empty or a simple one is assembled, a composite is open.
+    /// A simple glyph that has been read, assembled; the hinter may keep it if it is a component.
     #[inline(always)]
     #[tactic(auto, unfolding(crate::specs::inner::Steps::begun_by, crate::specs::inner::RunSteps::begun_by_runs))]
-    fn begun_by<H: Hinter>(
-        &self,
-        hinter: &mut H,
-        component: Option<ComponentOf>,
-        g: u16,
-        metrics: Metrics,
-        glyph: Glyph<'a>,
-        count: &mut Count,
-        made: &mut Made,
-    ) -> Result<Option<Composite<'a>>, HintFault>
-        requires points { count.old.points ≤ max_points }
-        ensures known { H.known hinter.new ≡ H.known hinter.old }
-        ensures kept { H.hinting hinter.new ≡ H.hinting hinter.old }
-        ensures leads { HasRun H.Leads hinter.old hinter.new result
-            (begun_by_runs (H.hinting hinter.old) self.now.scale.now self.now.root component g metrics glyph.entry count.old) }
-        ensures value { GivesUnless Fails (λ assembly. (step_of component g assembly made.new, count.new)) result
-            (begun_by (H.hinting hinter.old) self.now.scale.now self.now.root component g metrics glyph.entry count.old) }
-        ensures records { OnOk result (count.new.records ≡ count.old.records) }
-        ensures points { OnOk result (CountsPoints count.old made.new count.new) }
-    {
-        let on = hinter.is_on();
-        match glyph {
-            Glyph::Empty => {
-                make_empty(made, self.scale, on, 0, metrics);
-                Ok(None)
-            }
-            Glyph::Simple(simple) => {
-                self.simple_made(on, metrics, &simple, count, made)?;
-                run_on(hinter, component, g, simple.code(), made, count)?;
-                Ok(None)
-            }
-            Glyph::Composite(composite) => {
-                make_empty(made, self.scale, on, composite.x_min(), metrics);
-                Ok(Some(composite))
-            }
-        }
-    }
-
-    /// A simple component that has been read, assembled; the hinter may keep it.
-    #[tactic(auto, unfolding(crate::specs::inner::Steps::begun_by, crate::specs::inner::RunSteps::begun_by_runs))]
-    fn simple_kept<H: Hinter>(
+    fn simple_begun<H: Hinter>(
         &self,
         hinter: &mut H,
         component: Option<ComponentOf>,
@@ -208,6 +142,9 @@ impl<'w, 'a> Walk<'w, 'a> {
         let on = hinter.is_on();
         self.simple_made(on, input.metrics, simple, count, made)?;
         let usage = run_on(hinter, component, input.g, simple.code(), made, count)?;
+        if component.is_none() {
+            return Ok(());
+        }
         hinter.keep(input, made, usage);
         Ok(())
     }
@@ -226,9 +163,11 @@ impl<'w, 'a> Walk<'w, 'a> {
         Ok(())
     }
 
-    /// A glyph begun, which is a component: the hinter may recall it if it is simple, or keep it.
-    #[tactic(auto, unfolding(crate::specs::inner::Steps::begun, crate::specs::inner::RunSteps::begun_runs))]
-    fn begun_or_recalled<H: Hinter>(
+    /// A glyph begun: its number and bytes, its reading; and then it is assembled, or a composite that is open. The hinter may
+    /// recall a component if it is simple, or keep it.
+    #[inline(always)]
+    #[tactic(auto, unfolding(crate::specs::inner::Steps::begun, crate::specs::inner::Steps::begun_by, crate::specs::inner::RunSteps::begun_runs, crate::specs::inner::RunSteps::begun_by_runs))]
+    fn begun<H: Hinter>(
         &self,
         hinter: &mut H,
         component: Option<ComponentOf>,
@@ -254,17 +193,26 @@ impl<'w, 'a> Walk<'w, 'a> {
             metrics,
             bytes,
         };
-        if let Some(usage) = hinter.recall(&input, made) {
-            hinter.law_keeps_shape();
-            self.recalled(made, usage, count)?;
-            return Ok(None);
+        if component.is_some() {
+            if let Some(usage) = hinter.recall(&input, made) {
+                hinter.law_keeps_shape();
+                self.recalled(made, usage, count)?;
+                return Ok(None);
+            }
         }
         match read(bytes, g)? {
-            Glyph::Simple(simple) => {
-                self.simple_kept(hinter, component, &input, &simple, count, made)?;
+            Glyph::Empty => {
+                make_empty(made, self.scale, hinter.is_on(), 0, metrics);
                 Ok(None)
             }
-            glyph => self.begun_by(hinter, component, g, metrics, glyph, count, made),
+            Glyph::Simple(simple) => {
+                self.simple_begun(hinter, component, &input, &simple, count, made)?;
+                Ok(None)
+            }
+            Glyph::Composite(composite) => {
+                make_empty(made, self.scale, hinter.is_on(), composite.x_min(), metrics);
+                Ok(Some(composite))
+            }
         }
     }
 
@@ -296,7 +244,7 @@ impl<'w, 'a> Walk<'w, 'a> {
             return Err(HintFault::ComponentDepth(g));
         }
         count.one_component(self.root)?;
-        self.begun_or_recalled(hinter, component, g, count, made)
+        self.begun(hinter, component, g, count, made)
     }
 
     /// A waiting composite with its component.
@@ -337,7 +285,7 @@ impl<'w, 'a> Walk<'w, 'a> {
             self.now.root (count.old, [])) }
     {
         let mut made = blank;
-        match self.begun(hinter, self.root, count, &mut made)? {
+        match self.begun(hinter, None, self.root, count, &mut made)? {
             None => Ok(made),
             Some(glyph) => {
                 let open = OpenComposite::new(None, self.root, glyph, made);
@@ -412,36 +360,29 @@ impl<'w, 'a> Walk<'w, 'a> {
             }
         }
     }
-}
 
-/// A root assembled in the lists of a zone, and its components in those of another, whose points are lost; and what all programs
-/// together used up.
-#[tactic(auto, unfolding(crate::specs::Outlines::root_made, crate::specs::Runs::runs_of))]
-pub fn root_made<H: Hinter>(
-    alloc: Global,
-    zone: Zone,
-    lists: &mut Zone,
-    hinter: &mut H,
-    font: &Font<'_>,
-    scale: &Scale,
-    g: u16,
-) -> Result<(Made, Usage), HintFault>
-    ensures known { H.known hinter.new ≡ H.known hinter.old }
-    ensures kept { H.hinting hinter.new ≡ H.hinting hinter.old }
-    ensures leads { HasRun H.Leads hinter.old hinter.new result (runs_of (H.hinting hinter.old) font.now scale.now g) }
-    ensures value { GivesUnless Fails (λ r. (r.0, r.1)) result (root_made (H.hinting hinter.old) font.now scale.now g) }
-{
-    let walk = Walk {
-        alloc,
-        font,
-        scale,
-        root: g,
-    };
-    let mut count = Count {
-        records: 0,
-        points: 0,
-        usage: Usage::none(),
-    };
-    let made = walk.assembled(hinter, &mut count, Made::in_zone(zone), lists)?;
-    Ok((made, count.usage))
+    /// The root assembled in the lists of a zone, and its components in those of another, whose points are lost; and what all
+    /// programs together used up.
+    #[tactic(auto, unfolding(crate::specs::Outlines::root_made, crate::specs::Runs::runs_of))]
+    pub fn root_made<H: Hinter>(
+        &self,
+        hinter: &mut H,
+        zone: Zone,
+        lists: &mut Zone,
+    ) -> Result<(Made, Usage), HintFault>
+        ensures known { H.known hinter.new ≡ H.known hinter.old }
+        ensures kept { H.hinting hinter.new ≡ H.hinting hinter.old }
+        ensures leads { HasRun H.Leads hinter.old hinter.new result
+            (runs_of (H.hinting hinter.old) self.now.font.now self.now.scale.now self.now.root) }
+        ensures value { GivesUnless Fails (λ r. (r.0, r.1)) result
+            (root_made (H.hinting hinter.old) self.now.font.now self.now.scale.now self.now.root) }
+    {
+        let mut count = Count {
+            records: 0,
+            points: 0,
+            usage: Usage::none(),
+        };
+        let made = self.assembled(hinter, &mut count, Made::in_zone(zone), lists)?;
+        Ok((made, count.usage))
+    }
 }

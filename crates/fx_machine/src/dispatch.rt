@@ -8,8 +8,7 @@
 ghost use Rattle.std.specs.Prelude.{◌≡◌, ◌≢◌, ◌+◌, ◌/◌, ◌<◌, ◌≤◌, length};
 ghost use Rattle.fx_code.specs.Chain.{opcode_at};
 ghost use Rattle.fx_machine.specs.Actions.{Does, Leads};
-ghost use Rattle.fx_machine.specs.Table.{relative_row, row_here, opcodes_0x, opcodes_1x, opcodes_2x, opcodes_3x, opcodes_4x};
-ghost use Rattle.fx_machine.specs.Table.{opcodes_5x, opcodes_6x, opcodes_7x, opcodes_8x};
+ghost use Rattle.fx_machine.specs.Table.{relative_row, row_here, opcodes_0x, opcodes_1x, opcodes_3x, opcodes_6x, opcodes_7x, opcodes_8x};
 
 use crate::action::Action;
 use crate::flow::past_else;
@@ -193,22 +192,22 @@ impl State {
     #[tactic(auto, unfolding(crate::specs::Table::row_here, crate::specs::Table::row_of, crate::specs::Table::plain_of, crate::specs::Table::opcodes_2x, crate::specs::Table::opcodes_4x, crate::specs::Table::opcodes_5x, crate::specs::Table::opcodes_6x))]
     pub fn row(
         &mut self,
-        code: &Code<'_>,
+        bytes: &[u8],
         targets: &mut Targets<'_>,
         opcode: u8,
         program: Program,
         address: usize,
         next: usize,
     ) -> Result<Action, Cause>
-        requires inside { address < length code.now }
-        requires opcode { opcode ≡ opcode_at code.now address }
+        requires inside { address < length bytes.now }
+        requires opcode { opcode ≡ opcode_at bytes.now address }
         requires next { next ≡ address + 1 }
-        requires targets { program ≡ Program.Font → targets.old ≡ code.now }
-        ensures does { Leads (row_here opcode code.now program address) self.old self.new result }
+        requires targets { program ≡ Program.Font → targets.old ≡ bytes.now }
+        ensures does { Leads (row_here opcode bytes.now program address) self.old self.new result }
         ensures targets { targets.new ≡ targets.old }
     {
         match opcode {
-            PUSHB_1 => return self.pushb(code, PUSHB_1, address),
+            PUSHB_1 => return self.pushb(bytes, PUSHB_1, address),
             // 20 to 2F: the stack, calls, ALIGNPTS, UTP, MDAP.
             DUP => self.store.dup()?,
             POP => self.store.pop()?,
@@ -222,12 +221,12 @@ impl State {
             UTP => self.utp()?,
             LOOPCALL => return self.loopcall(next),
             CALL => return self.call(next),
-            FDEF => return self.fdef(code, program, next),
+            FDEF => return self.fdef(&Code::new(bytes), program, next),
             ENDF => return Ok(Action::Returned),
             MDAP_0 => self.mdap(false)?,
             MDAP_1 => self.mdap(true)?,
             // 40 to 4F: data, storage, control values, measuring, the size.
-            NPUSHB | NPUSHW => return self.push(code, address),
+            NPUSHB | NPUSHW => return self.push(&Code::new(bytes), address),
             WS => self.store.ws()?,
             RS => self.store.rs()?,
             WCVTP => self.store.wcvtp()?,
@@ -251,7 +250,7 @@ impl State {
             NEQ => self.store.neq()?,
             ODD => self.store.odd(&self.graphics)?,
             EVEN => self.store.even(&self.graphics)?,
-            IF => return self.if_else(code, targets, program, next),
+            IF => return self.if_else(&Code::new(bytes), targets, program, next),
             EIF => {}
             AND => self.store.and()?,
             OR => self.store.or()?,
@@ -268,7 +267,7 @@ impl State {
             NEG => self.store.neg()?,
             FLOOR => self.store.floor()?,
             CEILING => self.store.ceiling()?,
-            _ => return self.other_row(opcode, code, targets, program, address, next),
+            _ => return self.other_row(opcode, bytes, targets, program, address, next),
         }
         Ok(Action::Went(next))
     }
@@ -279,7 +278,7 @@ impl State {
     fn other_row(
         &mut self,
         opcode: u8,
-        code: &Code<'_>,
+        bytes: &[u8],
         targets: &mut Targets<'_>,
         program: Program,
         address: usize,
@@ -289,42 +288,42 @@ impl State {
         requires not_4x { opcode / 16 ≢ 4 }
         requires not_5x { opcode / 16 ≢ 5 }
         requires high_6x { opcode / 16 ≡ 6 → 0x68 ≤ opcode }
-        requires inside { address < length code.now }
-        requires opcode { opcode ≡ opcode_at code.now address }
+        requires inside { address < length bytes.now }
+        requires opcode { opcode ≡ opcode_at bytes.now address }
         requires next { next ≡ address + 1 }
-        requires targets { program ≡ Program.Font → targets.old ≡ code.now }
-        ensures does { Leads (row_here opcode code.now program address) self.old self.new result }
+        requires targets { program ≡ Program.Font → targets.old ≡ bytes.now }
+        ensures does { Leads (row_here opcode bytes.now program address) self.old self.new result }
         ensures targets { targets.new ≡ targets.old }
     {
         match opcode / 16 {
             0x0 => self.opcodes_0x(opcode)?,
             0x1 => match opcode {
                 ELSE => {
-                    let after = past_else(code, targets, program, next)?;
+                    let after = past_else(&Code::new(bytes), targets, program, next)?;
                     return Ok(Action::Went(after));
                 }
-                JMPR => return self.jmpr(code.len(), address),
+                JMPR => return self.jmpr(bytes.len(), address),
                 _ => self.opcodes_1x(opcode)?,
             },
             0x3 => self.opcodes_3x(opcode)?,
             0x6 => self.round_or_not(opcode)?,
             0x7 => match opcode {
-                JROT => return self.jrot(code.len(), address, next),
-                JROF => return self.jrof(code.len(), address, next),
+                JROT => return self.jrot(bytes.len(), address, next),
+                JROF => return self.jrof(bytes.len(), address, next),
                 UNDEFINED_7B => return self.undefined(opcode, next),
                 _ => self.opcodes_7x(opcode)?,
             },
             0x8 => match opcode {
                 UNDEFINED_83 | UNDEFINED_84 | UNDEFINED_8F => return self.undefined(opcode, next),
-                IDEF => return self.idef(code, program, next),
+                IDEF => return self.idef(&Code::new(bytes), program, next),
                 _ => self.opcodes_8x(opcode)?,
             },
             // PUSHB, PUSHW.
             0xB => {
                 if opcode <= PUSHB_8 {
-                    return self.pushb(code, opcode, address);
+                    return self.pushb(bytes, opcode, address);
                 }
-                return self.push(code, address);
+                return self.push(&Code::new(bytes), address);
             }
             // MDRP, MIRP.
             0xC | 0xD | 0xE | 0xF => self.move_relative(opcode)?,

@@ -248,17 +248,16 @@ impl State {
     #[tactic(auto, using(crate::proofs::Reading::bytes_whole, crate::proofs::Reading::bytes_cut))]
     pub(crate) fn pushb(
         &mut self,
-        code: &Code<'_>,
+        bytes: &[u8],
         opcode: u8,
         address: usize,
     ) -> Result<Action, Cause>
-        requires inside { address < length code.now }
-        requires opcode { opcode ≡ opcode_at code.now address }
+        requires inside { address < length bytes.now }
+        requires opcode { opcode ≡ opcode_at bytes.now address }
         requires first { PUSHB_1 ≤ opcode }
         requires last { opcode ≤ PUSHB_8 }
-        ensures { Leads (push_at code.now address) self.old self.new result }
+        ensures { Leads (push_at bytes.now address) self.old self.new result }
     {
-        let bytes = code.bytes();
         let first = address + 1;
         let next = first + usize::from(opcode - PUSHB_1) + 1;
         if next > bytes.len() {

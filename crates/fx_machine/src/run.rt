@@ -20,16 +20,20 @@ use arrayvec::ArrayVec;
 use fx_code::{Code, Targets};
 
 /// The bytes of a program, which are those at hand if it was not left.
-fn code_then<'a, 'b>(
-    programs: &'b Programs<'a>,
-    code: &'b Code<'a>,
+fn bytes_then<'a>(
+    programs: &Programs<'a>,
+    bytes: &'a [u8],
     program: Program,
     left: bool,
-) -> &'b Code<'a>
-    requires { left ≡ false → code.now ≡ texts programs.now program }
+) -> &'a [u8]
+    requires { left ≡ false → bytes.now ≡ texts programs.now program }
     ensures { result.now ≡ texts programs.now program }
 {
-    if left { programs.code(program) } else { code }
+    if left {
+        programs.code(program).bytes()
+    } else {
+        bytes
+    }
 }
 
 /// Shows a watcher an instruction that was executed.
@@ -37,14 +41,15 @@ fn code_then<'a, 'b>(
 fn tell<W: Watching>(
     watcher: &mut W,
     program: FontProgram,
-    code: &Code<'_>,
+    bytes: &[u8],
     address: usize,
     calls: &Calls,
     state: &State,
 )
-    ensures { W.Sees watcher.old (Executed program code.now address (length calls.now.frames.items) state.now) watcher.new }
+    ensures { W.Sees watcher.old (Executed program bytes.now address (length calls.now.frames.items) state.now) watcher.new }
 {
-    watcher.see(program, code, address, calls.frames.len(), state);
+    let code = Code::new(bytes);
+    watcher.see(program, &code, address, calls.frames.len(), state);
 }
 
 /// What a run comes to that has reached the end of a program, or is past it.
@@ -105,7 +110,7 @@ pub fn run<W: Watching>(
     let mut calls = Calls {
         frames: ArrayVec::new(),
     };
-    let mut code = programs.code(start);
+    let mut bytes = programs.code(start).bytes();
     let mut steps: u32 = 0;
     watcher.begin(programs.name(start), state);
     // The program's result is what comes of the cursor, the calls and the state after `steps` instructions. Once the watcher sees
@@ -113,19 +118,19 @@ pub fn run<W: Watching>(
     'steps: loop {
         let program = cursor.program;
         let address = cursor.address;
-        if address >= code.len() {
+        if address >= bytes.len() {
             return at_end(programs, start, &cursor, &calls, limit, steps);
         }
         if steps == limit {
             return Err(halted(programs, start, program, address, Cause::StepLimit));
         }
         let name = programs.name(program);
-        let left = match advance(&mut cursor, &mut calls, state, code, targets) {
+        let left = match advance(&mut cursor, &mut calls, state, bytes, targets) {
             Ok(left) => left,
             Err(cause) => return Err(halted(programs, start, program, address, cause)),
         };
-        tell(watcher, name, code, address, &calls, state);
-        code = code_then(programs, code, cursor.program, left);
+        tell(watcher, name, bytes, address, &calls, state);
+        bytes = bytes_then(programs, bytes, cursor.program, left);
         steps += 1;
     }
 }

@@ -13,29 +13,29 @@ use crate::frames::{Calls, Cursor};
 use crate::halt::Cause;
 use crate::program::Program;
 use crate::state::State;
-use fx_code::{Code, Targets};
+use fx_code::Targets;
 
 /// Executes the instruction at an address of a program with these bytes; if that faults, the points are as they were.
 #[inline(always)]
 #[tactic(auto, using(crate::proofs::Reading::row_there))]
 fn execute(
     state: &mut State,
-    code: &Code<'_>,
+    bytes: &[u8],
     targets: &mut Targets<'_>,
     program: Program,
     address: usize,
 ) -> Result<Action, Cause>
-    requires inside { address < length code.now }
-    requires targets { program ≡ Program.Font → targets.old ≡ code.now }
-    ensures value { settled (acts result state.new) ≡ row_in code.now program address state.old }
+    requires inside { address < length bytes.now }
+    requires targets { program ≡ Program.Font → targets.old ≡ bytes.now }
+    ensures value { settled (acts result state.new) ≡ row_in bytes.now program address state.old }
     ensures kept { OnErr result (state.new.zones ≡ state.old.zones) }
     ensures sizes { HasSizes state.old state.new }
     ensures targets { targets.new ≡ targets.old }
 {
     state.row(
-        code,
+        bytes,
         targets,
-        code.bytes()[address],
+        bytes[address],
         program,
         address,
         address + 1,
@@ -49,21 +49,21 @@ pub fn advance(
     cursor: &mut Cursor,
     calls: &mut Calls,
     state: &mut State,
-    code: &Code<'_>,
+    bytes: &[u8],
     targets: &mut Targets<'_>,
 ) -> Result<bool, Cause>
-    requires inside { cursor.old.address < length code.now }
-    requires targets { cursor.old.program ≡ Program.Font → targets.old ≡ code.now }
+    requires inside { cursor.old.address < length bytes.now }
+    requires targets { cursor.old.program ≡ Program.Font → targets.old ≡ bytes.now }
     ensures moved { MatchResult result
-        (λ _. moved_by (row_in code.now cursor.old.program cursor.old.address state.old) (calls_of calls.old) cursor.old.program
+        (λ _. moved_by (row_in bytes.now cursor.old.program cursor.old.address state.old) (calls_of calls.old) cursor.old.program
         ≡ Moves (config_of cursor.new calls.new state.new))
-        (λ cause. moved_by (row_in code.now cursor.old.program cursor.old.address state.old) (calls_of calls.old)
+        (λ cause. moved_by (row_in bytes.now cursor.old.program cursor.old.address state.old) (calls_of calls.old)
         cursor.old.program ≡ Stops cause) }
     ensures stays { IfOk result (λ left. left ≡ false → cursor.new.program ≡ cursor.old.program) }
     ensures shapes { HasShapes state.old.zones state.new.zones }
     ensures sizes { HasSizes state.old state.new }
     ensures targets { targets.new ≡ targets.old }
 {
-    let action = execute(state, code, targets, cursor.program, cursor.address)?;
+    let action = execute(state, bytes, targets, cursor.program, cursor.address)?;
     cursor.follow(calls, action)
 }

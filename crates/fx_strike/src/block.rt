@@ -7,7 +7,7 @@ ghost use Rattle.fx_strike.specs.Strike.{Setting, checked_chars, machine_for, se
 ghost use Rattle.fx_strike.specs.Strike.{opened_many_of, Known, Fails};
 ghost use Rattle.fx_strike.specs.Headline.{Late};
 
-use crate::hinter::{FontHinter, keeping};
+use crate::hinter::FontHinter;
 use crate::open::open_many;
 use crate::opened::{Basis, Opened};
 use crate::striker::Striker;
@@ -37,8 +37,8 @@ fn hinter_in<'a>(
     let Some(machine) = Machine::of_block(alloc, opened.font.shared(), opened.ppem, block)? else {
         return Ok(None);
     };
-    let machine = keeping(alloc, machine)?;
-    Ok(Some(FontHinter::of(alloc, machine)))
+    let hinter = FontHinter::of(alloc, machine)?;
+    Ok(Some(hinter))
 }
 
 /// The striker of an opened font, its hinter read from a block.
@@ -59,19 +59,6 @@ fn striker_in<'a>(
     };
     let dropout = mode.dropout;
     Ok(Some(Striker::with(alloc, &Rows, Basis { opened, dropout }, hinter)))
-}
-
-impl<'a> FontHinter<'a> {
-    /// The block of what its machine knows; no words with hinting off.
-    fn block(&self, alloc: Global) -> Result<Option<Vec<u32>>, AllocError>
-        ensures block { IfOk result (λ made. IfSome made (λ words. IsBlockFor self.now words.items)) }
-        ensures there { IfOk result (λ made. is_some made ≡ has_block self.now) }
-    {
-        match &self.machine {
-            Some(machine) => machine.machine().block(alloc),
-            None => Ok(Some(Vec::new(alloc))),
-        }
-    }
 }
 
 impl<'a> Striker<'a, Rows> {
@@ -145,6 +132,9 @@ impl<'a, S: Scan> Striker<'a, S> {
         ensures block { IfOk result (λ made. IfSome made (λ words. IsBlockIn self.now words.items)) }
         ensures there { IfOk result (λ made. is_some made ≡ has_block self.now.machine) }
     {
-        self.hinter.block(self.alloc)
+        match &self.hinter.machine {
+            Some(machine) => machine.machine().block(self.alloc),
+            None => Ok(Some(Vec::new(self.alloc))),
+        }
     }
 }

@@ -7,7 +7,7 @@ ghost use Rattle.fx_strike.specs.Strike.{opened_at, Fails};
 ghost use Rattle.fx_strike.specs.inner.Drawing.{Draws};
 
 use crate::one_character::one;
-use crate::open::{open_at, open_one};
+use crate::open::{open_at, open_many};
 use crate::opened::Opened;
 use crate::striker::Striker;
 use fx_bdf::BitGlyph;
@@ -83,7 +83,7 @@ pub(crate) fn open_choice<'a>(
     ensures named { IfErr result IsCause }
 {
     match choice {
-        Choice::Character(code) => open_one(file, ppem, code),
+        Choice::Character(code) => open_many(file, ppem, &[code]),
         Choice::Number(_) => open_at(file, ppem),
     }
 }

@@ -1,7 +1,7 @@
 //! What becomes of a character: it is drawn, or it is refused, and drawn without hinting or left out.
 ghost use Rattle.std.specs.Prelude.{◌≡◌, Ok};
 ghost use Rattle.fx_fixed.specs.Chain.{GivesUnless};
-ghost use Rattle.fx_strike.specs.Strike.{glyph_sketch_of, glyph_fate_of, halted_by, left_out_for, machineless, refused_by, Fails};
+ghost use Rattle.fx_strike.specs.Strike.{glyph_sketch_of, glyph_fate_of, left_out_for, machineless, refused_by, Fails};
 
 use crate::characters::Mapped;
 use crate::sketch::Sketch;
@@ -65,27 +65,18 @@ impl<'a, S: Scan> Striker<'a, S> {
         match refused {
             OnRefused::Stop => Err(Refusal::Halted(halt)),
             OnRefused::LeaveOut => Ok(left_out(m.code, Refusal::Halted(halt))),
-            OnRefused::Unhinted => self.fate_unhinted(m, halt),
-        }
-    }
-
-    /// What becomes of a character whose program halted, and that is drawn without hinting if it has a sketch then.
-    fn fate_unhinted(&mut self, m: Mapped, halt: Halt) -> Result<Fate, Refusal>
-        ensures kept { self.new ≡ self.old }
-        ensures fate { GivesUnless Fails (λ f. f) result
-            (Ok (halted_by m.code (Refusal.Halted halt) (glyph_sketch_of (machineless self.old) m.code m.glyph))) }
-    {
-        match self.sketch_unhinted(m.code, m.glyph) {
-            Ok(sketch) => {
-                let notice = Notice {
-                    code: m.code,
-                    cause: Refusal::Halted(halt),
-                    unhinted: true,
-                };
-                Ok(Fate::Unhinted(notice, sketch))
-            }
-            Err(Refusal::OutOfMemory) => Err(Refusal::OutOfMemory),
-            Err(cause) => Ok(left_out(m.code, cause)),
+            OnRefused::Unhinted => match self.sketch_unhinted(m.code, m.glyph) {
+                Ok(sketch) => {
+                    let notice = Notice {
+                        code: m.code,
+                        cause: Refusal::Halted(halt),
+                        unhinted: true,
+                    };
+                    Ok(Fate::Unhinted(notice, sketch))
+                }
+                Err(Refusal::OutOfMemory) => Err(Refusal::OutOfMemory),
+                Err(cause) => Ok(left_out(m.code, cause)),
+            },
         }
     }
 

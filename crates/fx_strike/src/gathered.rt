@@ -1,7 +1,7 @@
 //! What is gathered of the glyphs so far, for the properties of X11.
 ghost use Rattle.std.specs.Prelude.{◌≡◌, ◌*◌, ◌^◌, ◌<◌, ◌≤◌, []};
 ghost use Rattle.fx_bdf.specs.X11.{mean_of};
-ghost use Rattle.fx_strike.specs.inner.Gathering.{IsGatheredOf, agrees, gathered_with, summary_with};
+ghost use Rattle.fx_strike.specs.inner.Gathering.{IsGatheredOf, gathered_with, summary_with};
 
 use fx_bdf::Summary;
 use fx_fixed::near;
@@ -32,16 +32,6 @@ fn mean_of(total: u64, count: u32) -> i32
     near(10 * i128::from(total), i128::from(count)) as i32
 }
 
-/// Whether an advance is the first one, or none is before it.
-fn agrees(first: Option<i32>, dwidth: i32) -> bool
-    ensures { result ≡ agrees first dwidth }
-{
-    match first {
-        Some(first) => dwidth == first,
-        None => true,
-    }
-}
-
 impl Gathered {
     /// No glyph.
     pub(crate) fn new() -> Gathered
@@ -61,10 +51,11 @@ impl Gathered {
         requires { self.total < 2 ^ 63 }
         ensures { result ≡ gathered_with self code dwidth }
     {
+        let first = self.first.unwrap_or(dwidth);
         Gathered {
             total: self.total + u64::from(dwidth.unsigned_abs()),
-            first: Some(self.first.unwrap_or(dwidth)),
-            is_monospaced: self.is_monospaced && agrees(self.first, dwidth),
+            first: Some(first),
+            is_monospaced: self.is_monospaced && dwidth == first,
             has_replacement: self.has_replacement || code == 0xFFFD,
             has_space: self.has_space || code == 0x20,
         }

@@ -43,14 +43,15 @@ impl<'a> FontHinter<'a> {
         }
     }
 
-    /// This machine.
-    pub(crate) fn of(alloc: Global, machine: Box<KeepingMachine<'a>>) -> FontHinter<'a>
-        ensures { result ≡ Some machine.entry.value.machine.known }
+    /// This machine, which keeps components that come again.
+    pub(crate) fn of(alloc: Global, machine: Machine<'a>) -> Result<FontHinter<'a>, AllocError>
+        ensures { IfOk result (λ h. h ≡ Some machine.entry.known) }
     {
-        FontHinter {
-            machine: Some(machine),
+        let keeping = KeepingMachine::new(alloc, machine);
+        Ok(FontHinter {
+            machine: Some(Box::new(alloc, keeping)?),
             ..FontHinter::none(alloc)
-        }
+        })
     }
 
     /// What `fpgm` and `prep` used up.
@@ -133,31 +134,11 @@ impl<'a> Hinter for FontHinter<'a> {
     ghost leads_then = { λ _ _ _ _ _ _ _. tt };
 }
 
-/// A machine in a box, which keeps components that come again.
-pub(crate) fn keeping<'a>(
-    alloc: Global,
-    machine: Machine<'a>,
-) -> Result<Box<KeepingMachine<'a>>, AllocError>
-    ensures { IfOk result (λ b. b.value.machine ≡ machine.entry) }
-{
-    let keeping = KeepingMachine::new(alloc, machine);
-    Ok(Box::new(alloc, keeping)?)
-}
-
 /// The machine of an opened font: `fpgm` runs, then `prep`.
 pub(crate) fn machine_at<'a>(alloc: Global, opened: &Opened<'a>) -> Result<Machine<'a>, Refusal>
     ensures { GivesUnless Fails (λ m. m.known) result (map_fault of_machine (machine_of opened.now.font opened.now.ppem)) }
 {
     Ok(Machine::new(alloc, opened.font.shared(), opened.ppem, &mut Unwatched)?)
-}
-
-/// The same, which keeps components that come again.
-fn keeping_at<'a>(alloc: Global, opened: &Opened<'a>) -> Result<Box<KeepingMachine<'a>>, Refusal>
-    ensures { GivesUnless Fails (λ b. b.value.machine.known) result
-        (map_fault of_machine (machine_of opened.now.font opened.now.ppem)) }
-{
-    let machine = machine_at(alloc, opened)?;
-    Ok(keeping(alloc, machine)?)
 }
 
 /// The hinter of an opened font: the one place where hinting is on or off. With hinting on, the font's programs run first.
@@ -172,6 +153,6 @@ pub(crate) fn hinter_at<'a>(
     if !hinting {
         return Ok(FontHinter::none(alloc));
     }
-    let machine = keeping_at(alloc, opened)?;
-    Ok(FontHinter::of(alloc, machine))
+    let machine = machine_at(alloc, opened)?;
+    Ok(FontHinter::of(alloc, machine)?)
 }

@@ -10,11 +10,11 @@ use fx_bdf::{BitGlyph, write_glyph};
 use fx_fixed::{Sink, TextWriter, WriteFailed};
 use std::alloc::Global;
 
-/// The most bytes that are kept: 4 MiB, less what allocators add to a power of two.
-const MOST_BYTES: usize = 4_190_208;
+/// The most bytes that are kept: 8 MiB, less what allocators add to a power of two.
+const MOST_BYTES: usize = 8_384_512;
 
-/// How many bytes the buffer has room for at first. It grows in four steps, each to four times as much.
-const FIRST_BYTES: usize = MOST_BYTES / 256;
+/// How many bytes the buffer has room for at first. It grows in five steps, to four times as much and at last to twice.
+const FIRST_BYTES: usize = MOST_BYTES / 512;
 
 /// A sink that keeps at most `MOST_BYTES`. It is at fault once more comes, or memory is refused, and keeps nothing from then on.
 #[derive(Drop)]

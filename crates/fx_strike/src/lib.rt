@@ -11,7 +11,7 @@
 //! is opened once, and makes characters and strikes one after the other; the other calls open one, and let it go.
 //!
 //! A strike is made in two passes over its characters: the first surveys it, so that no byte is written of a strike that is
-//! refused; the second writes it. The first pass keeps the lines of the first characters, up to 4 MiB; the second writes these,
+//! refused; the second writes it. The first pass keeps the lines of the first characters, up to 8 MiB; the second writes these,
 //! and makes the other characters again. Once nothing more is kept, the first pass makes a glyph's bits only if its frame is not
 //! in the box of the glyphs so far, which they could not widen. `survey` is the first pass alone. `chosen` makes one glyph,
 //! chosen by a character or by its number, and `write_outline` writes the outline of one, which its bits are of. `listing_of`

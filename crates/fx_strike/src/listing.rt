@@ -23,16 +23,6 @@ fn code_of<'a>(glyph: &Glyph<'a>) -> &'a [u8]
     }
 }
 
-/// The program of a glyph.
-fn glyph_program<'a>(font: &Font<'a>, g: u16) -> Result<&'a [u8], Refusal>
-    ensures value { map_ok (λ p. p.now) result ≡ program_in font.now (FontProgram.Glyph g) }
-    ensures short { IfOk result (λ p. length p.now < 2 ^ 32) }
-    ensures named { IfErr result IsNoFault }
-{
-    let glyph = read(font.glyph_bytes(g)?, g)?;
-    Ok(code_of(&glyph))
-}
-
 /// A program of a font; an absent table is an empty one.
 fn program_in<'a>(font: &Font<'a>, what: FontProgram) -> Result<&'a [u8], Refusal>
     ensures value { map_ok (λ p. p.now) result ≡ program_in font.now what }
@@ -42,7 +32,10 @@ fn program_in<'a>(font: &Font<'a>, what: FontProgram) -> Result<&'a [u8], Refusa
     match what {
         FontProgram::Fpgm => Ok(font.table(*b"fpgm").unwrap_or(&[])),
         FontProgram::Prep => Ok(font.table(*b"prep").unwrap_or(&[])),
-        FontProgram::Glyph(g) => glyph_program(font, g),
+        FontProgram::Glyph(g) => {
+            let glyph = read(font.glyph_bytes(g)?, g)?;
+            Ok(code_of(&glyph))
+        }
     }
 }
 

@@ -17,7 +17,7 @@ use std::alloc::Global;
 /// Makes the strike of a font and writes its text, with a scan of the caller's choice.
 ///
 /// There are two passes over the characters: the first makes each, surveys the strike and keeps the lines of the first ones, up
-/// to 4 MiB; the second writes these, makes the others again and writes theirs. Hence nothing is written before every character
+/// to 8 MiB; the second writes these, makes the others again and writes theirs. Hence nothing is written before every character
 /// was made once, and beside the font, its machine with the components that it keeps, the code points and those lines only few
 /// characters are held at a time. The first cause is returned, in this order: the size, the characters, the name, the properties;
 /// the font's tables, its character map; with hinting on the halts of `fpgm`, then of `prep`; then, if the request stops at

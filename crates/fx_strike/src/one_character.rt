@@ -3,7 +3,7 @@ ghost use Rattle.std.specs.Prelude.{IfOk, IfErr, IsErrOf};
 ghost use Rattle.fx_strike.specs.Strike.{opened_one_of, one_of, Fails};
 ghost use Rattle.fx_strike.specs.Headline.{IsOneOf, Late};
 
-use crate::open::open_one;
+use crate::open::open_many;
 use crate::striker::Striker;
 use fx_bdf::BitGlyph;
 use fx_raster::Rows;
@@ -31,7 +31,7 @@ pub fn one(
     // Memory is taken late: after the size and the code point are within their limits, and the font and its map opened.
     ensures late { IsErrOf result Refusal.OutOfMemory → Late (opened_one_of font.now ppem code) }
 {
-    let opened = open_one(font, ppem, code)?;
+    let opened = open_many(font, ppem, &[code])?;
     let mut striker = Striker::of(alloc, &Rows, opened, mode)?;
     striker.one(code)
 }

@@ -1,17 +1,16 @@
 //! From a request and a file to a size, a font and its character map.
-ghost use Rattle.std.specs.Prelude.{◌≡◌, ◌||◌, nat_lt, length, Ok, IfErr, OnOk};
+ghost use Rattle.std.specs.Prelude.{◌≡◌, nat_lt, Ok, IfErr, OnOk};
 ghost use Rattle.std.specs.List.{list_any};
 ghost use Rattle.fx_fixed.specs.Chain.{wanted};
 ghost use Rattle.fx_fixed.specs.Sizes.{ppem_of};
-ghost use Rattle.fx_bdf.specs.Properties.{AreProperties, seen_properties};
 ghost use Rattle.fx_strike.specs.Title.{title_of, titled};
 ghost use Rattle.fx_strike.specs.Strike.{checked_chars, checked_properties, checked_text, checked_title, font_with_map};
-ghost use Rattle.fx_strike.specs.Strike.{opened_many_of, opened_one_of, opened_at, max_characters, max_code};
+ghost use Rattle.fx_strike.specs.Strike.{opened_many_of, opened_at, max_code};
 ghost use Rattle.fx_strike.specs.inner.Surveying.{AreChars, IsChecked};
 ghost use Rattle.fx_strike.specs.Headline.{IsCause, opening_of};
 
 use crate::opened::Opened;
-use fx_bdf::{Property, Title, check_name, first_bad};
+use fx_bdf::{Title, check_name, first_bad};
 use fx_cmap::CharMap;
 use fx_fixed::Ppem;
 use fx_request::{MAX_CHARACTERS, MAX_CODE, Refusal, Request};
@@ -27,13 +26,6 @@ fn is_past(chars: &[u32]) -> bool
         past |= MAX_CODE < *code;
     }
     past
-}
-
-/// Whether there are too many code points, or one past U+10FFFF.
-fn are_bad(chars: &[u32]) -> bool
-    ensures { result ≡ (nat_lt max_characters (length chars.now) || list_any (nat_lt max_code) chars.now) }
-{
-    MAX_CHARACTERS < chars.len() || is_past(chars)
 }
 
 /// A valid size.
@@ -54,40 +46,14 @@ pub(crate) fn check_chars(chars: &[u32]) -> Result<(), Refusal>
     ensures named { IfErr result IsCause }
     ensures passed { OnOk result (AreChars chars.now) }
 {
-    if are_bad(chars) {
+    if MAX_CHARACTERS < chars.len() || is_past(chars) {
         return Err(Refusal::BadChars);
     }
     Ok(())
 }
 
-/// Whether properties are good.
-#[tactic(auto, unfolding(crate::specs::Strike::checked_properties))]
-fn check_properties(properties: &[Property<'_>]) -> Result<(), Refusal>
-    ensures due { result ≡ checked_properties (seen_properties properties.now) }
-    ensures named { IfErr result IsCause }
-    ensures good { OnOk result (AreProperties (seen_properties properties.now)) }
-{
-    match first_bad(properties) {
-        Some(i) => Err(Refusal::BadProperty(i as u32 + 1)),
-        None => Ok(()),
-    }
-}
-
-/// Whether a name and properties are within their limits.
-#[tactic(auto, unfolding(crate::specs::Strike::checked_title))]
-fn check_title(title: &Title<'_>) -> Result<(), Refusal>
-    ensures due { result ≡ checked_title (titled title.now) }
-    ensures named { IfErr result IsCause }
-    ensures title { OnOk result (IsChecked (titled title.now)) }
-{
-    if check_name(title.name).is_err() {
-        return Err(Refusal::BadName);
-    }
-    check_properties(title.properties)
-}
-
 /// Whether characters, a name and properties are within their limits.
-#[tactic(auto, unfolding(crate::specs::Strike::checked_text))]
+#[tactic(auto, unfolding(crate::specs::Strike::checked_text, crate::specs::Strike::checked_title, crate::specs::Strike::checked_properties))]
 pub(crate) fn check_text(title: &Title<'_>, chars: &[u32]) -> Result<(), Refusal>
     ensures due { result ≡ checked_text (titled title.now) chars.now }
     ensures named { IfErr result IsCause }
@@ -95,7 +61,13 @@ pub(crate) fn check_text(title: &Title<'_>, chars: &[u32]) -> Result<(), Refusal
     ensures title { OnOk result (IsChecked (titled title.now)) }
 {
     check_chars(chars)?;
-    check_title(title)
+    if check_name(title.name).is_err() {
+        return Err(Refusal::BadName);
+    }
+    match first_bad(title.properties) {
+        Some(i) => Err(Refusal::BadProperty(i as u32 + 1)),
+        None => Ok(()),
+    }
 }
 
 /// A font with its character map.
@@ -138,14 +110,6 @@ pub(crate) fn open_many<'a>(
     check_chars(chars)?;
     let (font, map) = font_with_map(file)?;
     Ok(Opened { ppem, font, map })
-}
-
-/// The size, the font and its character map, for one character.
-pub(crate) fn open_one<'a>(file: &FontFile<'a>, ppem: u16, code: u32) -> Result<Opened<'a>, Refusal>
-    ensures due { result ≡ opened_one_of file.now ppem code }
-    ensures named { IfErr result IsCause }
-{
-    open_many(file, ppem, &[code])
 }
 
 /// The size, the font and its character map, for no character yet.

@@ -1,23 +1,13 @@
 //! Which pixels an outline sets.
 ghost use Rattle.std.specs.Prelude.{◌≡◌};
-ghost use Rattle.fx_strike.specs.Strike.{asked_rule, rule_for};
+ghost use Rattle.fx_strike.specs.Strike.{rule_for};
 
 use fx_gstate::Dropout as Wish;
 use fx_raster::{Closing, Rule};
 use fx_request::Dropout;
 
-/// Which pixels an outline sets, as its font's programs asked; the left or the lower one of a gap if they asked for nothing.
-fn asked_rule(wish: Option<Wish>) -> Rule
-    ensures { result ≡ asked_rule wish }
-{
-    match wish {
-        None | Some(Wish::Leftmost) => Rule::Bridged(Closing::Lower),
-        Some(Wish::Nearest) => Rule::Bridged(Closing::Nearer),
-        Some(Wish::Off) => Rule::Centres,
-    }
-}
-
-/// Which pixels an outline sets, with drop-out control or without; the same for all, or as its font asked.
+/// Which pixels an outline sets, with drop-out control or without; the same for all, or as its font's programs asked, and the left
+/// or the lower one of a gap if they asked for nothing.
 #[inline(always)]
 pub(crate) fn rule_for(choice: Dropout, wish: Option<Wish>) -> Rule
     ensures { result ≡ rule_for choice wish }
@@ -26,6 +16,10 @@ pub(crate) fn rule_for(choice: Dropout, wish: Option<Wish>) -> Rule
         Dropout::Off => Rule::Centres,
         Dropout::Left => Rule::Bridged(Closing::Lower),
         Dropout::Near => Rule::Bridged(Closing::Nearer),
-        Dropout::Font => asked_rule(wish),
+        Dropout::Font => match wish {
+            None | Some(Wish::Leftmost) => Rule::Bridged(Closing::Lower),
+            Some(Wish::Nearest) => Rule::Bridged(Closing::Nearer),
+            Some(Wish::Off) => Rule::Centres,
+        },
     }
 }

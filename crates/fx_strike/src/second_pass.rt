@@ -127,11 +127,12 @@ impl<'a, S: Scan> Striker<'a, S> {
         Ok(())
     }
 
-    /// Writes the lines of all characters: those that the first pass kept, then those of the others, which are made.
+    /// Writes the lines of all characters: those that the first pass kept, then those of the others, which are made once the memory
+    /// of those is given back.
     fn write_all<W: Sink>(
         &mut self,
         refused: OnRefused,
-        kept: &KeptText,
+        kept: KeptText,
         mapped: &[Mapped],
         text: &mut TextWriter<'_, W>,
     ) -> Result<(), Refusal>
@@ -139,7 +140,7 @@ impl<'a, S: Scan> Striker<'a, S> {
         requires room { HasRoom text.old longest_glyphs }
         requires few { length mapped.now ≤ max_characters }
         requires small { AreSmall mapped.now }
-        requires lines { IsKept self.old refused mapped.now (length mapped.now) kept.now }
+        requires lines { IsKept self.old refused mapped.now (length mapped.now) kept }
         ensures kept { self.new ≡ self.old }
         ensures same { text.new.sink ≡ text.old.sink }
         ensures quiet { OnOk result (text.new.faults ≡ text.old.faults) }
@@ -150,13 +151,14 @@ impl<'a, S: Scan> Striker<'a, S> {
     {
         text.add(&[kept.text()])?;
         let (_, others) = mapped.split_at(kept.count);
+        drop(kept);
         self.write_made(refused, others, text)
     }
 
     /// Writes the header of a strike, the lines of its glyphs, and the end.
     fn write_parts<W: Sink>(
         &mut self,
-        kept: &KeptText,
+        kept: KeptText,
         draft: &Draft<'_>,
         text: &mut TextWriter<'_, W>,
     ) -> Result<(), Refusal>
@@ -167,7 +169,7 @@ impl<'a, S: Scan> Striker<'a, S> {
         requires few { length draft.now.mapped.now ≤ max_characters }
         requires small { AreSmall draft.now.mapped.now }
         requires lines { IsKept self.old draft.now.refused draft.now.mapped.now
-            (length draft.now.mapped.now) kept.now }
+            (length draft.now.mapped.now) kept }
         ensures kept { self.new ≡ self.old }
         ensures same { text.new.sink ≡ text.old.sink }
         ensures ended { OnOk result (text.new.waiting ≡ []) }
@@ -187,7 +189,7 @@ impl<'a, S: Scan> Striker<'a, S> {
     /// Writes the text of a strike.
     pub(crate) fn write_text<W: Sink>(
         &mut self,
-        kept: &KeptText,
+        kept: KeptText,
         draft: &Draft<'_>,
         out: &mut W,
     ) -> Result<(), Refusal>
@@ -197,7 +199,7 @@ impl<'a, S: Scan> Striker<'a, S> {
         requires few { length draft.now.mapped.now ≤ max_characters }
         requires small { AreSmall draft.now.mapped.now }
         requires lines { IsKept self.old draft.now.refused draft.now.mapped.now
-            (length draft.now.mapped.now) kept.now }
+            (length draft.now.mapped.now) kept }
         ensures kept { self.new ≡ self.old }
         ensures text { (lines : List (List ℕ))
             → AreAllLinesOf self.old draft.now.refused draft.now.mapped.now lines

@@ -63,7 +63,7 @@ impl<'a, S: Scan> Striker<'a, S> {
             mapped: &characters.mapped,
             refused,
         };
-        self.write_text(&kept, &draft, out)?;
+        self.write_text(kept, &draft, out)?;
         Ok(survey.report)
     }
 }

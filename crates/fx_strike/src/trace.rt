@@ -1,18 +1,16 @@
 //! The trace of a font's programs.
 ghost use Rattle.std.specs.Prelude.{◌≡◌, ◌<◌, ◌^◌, ℕ, Ok, Err, IfOk, IfErr, IsErrOf};
 ghost use Rattle.fx_fixed.specs.Changes.{change_of};
-ghost use Rattle.fx_trace.specs.Traces.{fpgm_trace, glyph_trace, prep_trace};
 ghost use Rattle.fx_strike.specs.Headline.{HasToName, IsCause, Late};
-ghost use Rattle.fx_strike.specs.Traces.{IsTold, IsToldSome, IsToldTo, Tells, opening_for, refused_as, told_by, told_in, told_of};
-ghost use Rattle.fx_strike.specs.Traces.{told_with, trace_of};
+ghost use Rattle.fx_strike.specs.Traces.{IsTold, IsToldSome, IsToldTo, Tells, opening_for, refused_as, told_in, told_of};
+ghost use Rattle.fx_strike.specs.Traces.{trace_of};
 
 use crate::choices::chosen_glyph;
 use crate::faults::of_hint;
 use crate::hinter::machine_at;
-use crate::open::{open_at, open_one};
+use crate::open::{open_at, open_many};
 use crate::opened::Opened;
 use fx_fixed::Sink;
-use fx_machine::Machine;
 use fx_request::{Choice, Refusal};
 use fx_sfnt::FontFile;
 use fx_trace::{TraceFault, trace_fpgm, trace_glyph, trace_prep};
@@ -43,39 +41,6 @@ fn refused_as(traced: Result<(), TraceFault>) -> Result<bool, Refusal>
     }
 }
 
-/// Writes the trace of a glyph of an opened font, by what `prep` left.
-fn trace_number<W: Sink>(
-    alloc: Global,
-    machine: Machine<'_>,
-    opened: &Opened<'_>,
-    g: u16,
-    out: &mut W,
-) -> Result<bool, Refusal>
-    requires { W.fault_count out.old < 2 ^ 63 }
-    ensures { Tells (told_by (glyph_trace machine.entry.known opened.now.font opened.now.ppem g))
-        (change_of W.held W.fault_count out.old out.new) result }
-{
-    refused_as(trace_glyph(alloc, machine, &opened.font, opened.ppem, g, out))
-}
-
-/// Writes the trace of a glyph of an opened font, if there is one, by what `prep` left.
-#[tactic(auto, using(crate::proofs::TracesTold::untold_false))]
-fn trace_with<W: Sink>(
-    alloc: Global,
-    machine: Machine<'_>,
-    opened: &Opened<'_>,
-    glyph: Option<u16>,
-    out: &mut W,
-) -> Result<bool, Refusal>
-    requires { W.fault_count out.old < 2 ^ 63 }
-    ensures { Tells (told_with opened.now glyph machine.entry.known) (change_of W.held W.fault_count out.old out.new) result }
-{
-    match glyph {
-        Some(g) => trace_number(alloc, machine, opened, g, out),
-        None => Ok(false),
-    }
-}
-
 /// Writes the trace of a glyph of an opened font, if there is one, once `fpgm` and `prep` ran.
 fn trace_chosen<W: Sink>(
     alloc: Global,
@@ -87,23 +52,10 @@ fn trace_chosen<W: Sink>(
     ensures { Tells (told_of opened.now glyph) (change_of W.held W.fault_count out.old out.new) result }
 {
     let machine = machine_at(alloc, opened)?;
-    trace_with(alloc, machine, opened, glyph, out)
-}
-
-/// Writes the trace of `fpgm` of an opened font.
-fn trace_first<W: Sink>(alloc: Global, opened: &Opened<'_>, out: &mut W) -> Result<bool, Refusal>
-    requires { W.fault_count out.old < 2 ^ 63 }
-    ensures { Tells (told_by (fpgm_trace opened.now.font opened.now.ppem)) (change_of W.held W.fault_count out.old out.new) result }
-{
-    refused_as(trace_fpgm(alloc, &opened.font, opened.ppem, out))
-}
-
-/// Writes the trace of `prep` of an opened font.
-fn trace_second<W: Sink>(alloc: Global, opened: &Opened<'_>, out: &mut W) -> Result<bool, Refusal>
-    requires { W.fault_count out.old < 2 ^ 63 }
-    ensures { Tells (told_by (prep_trace opened.now.font opened.now.ppem)) (change_of W.held W.fault_count out.old out.new) result }
-{
-    refused_as(trace_prep(alloc, &opened.font, opened.ppem, out))
+    match glyph {
+        Some(g) => refused_as(trace_glyph(alloc, machine, &opened.font, opened.ppem, g, out)),
+        None => Ok(false),
+    }
 }
 
 /// Writes the trace of an opened font.
@@ -117,8 +69,8 @@ fn trace_in<W: Sink>(
     ensures { Tells (told_in opened.now traced) (change_of W.held W.fault_count out.old out.new) result }
 {
     match traced {
-        Traced::Fpgm => trace_first(alloc, opened, out),
-        Traced::Prep => trace_second(alloc, opened, out),
+        Traced::Fpgm => refused_as(trace_fpgm(alloc, &opened.font, opened.ppem, out)),
+        Traced::Prep => refused_as(trace_prep(alloc, &opened.font, opened.ppem, out)),
         Traced::Number(g) => trace_chosen(alloc, opened, Some(g), out),
         Traced::Character(code) => {
             let glyph = chosen_glyph(&opened.map, Choice::Character(code));
@@ -136,7 +88,7 @@ fn open_for<'a>(file: &FontFile<'a>, ppem: u16, traced: Traced) -> Result<Opened
         Traced::Fpgm => open_at(file, ppem),
         Traced::Prep => open_at(file, ppem),
         Traced::Number(_) => open_at(file, ppem),
-        Traced::Character(code) => open_one(file, ppem, code),
+        Traced::Character(code) => open_many(file, ppem, &[code]),
     }
 }
 

@@ -10,18 +10,18 @@ pub steps-init : goal.steps-init
 steps-init g c = record {
   answer = search rules;
   watched = seen_first _ (events_begin _ _ _ _ _ c.new.result.items (search rules)) (rw c.name.ensures at c.begin.ensures);
-  code = c.code-code.ensures;
+  bytes = cc;
   counted = omega arith;
   shapes = shapes_same c.args.state.now.zones;
   sizes = sized c.args.state.now;
   targets = c.requires;
 }
 
-pub returns-then-address-len-clause-value : goal.returns-then-address-len-clause-value
-returns-then-address-len-clause-value g c = rw c.steps.invariant.answer (c.at_end.ensures.value c.steps.state)
+pub returns-then-address-bytes-clause-value : goal.returns-then-address-bytes-clause-value
+returns-then-address-bytes-clause-value g c = rw c.steps.invariant.answer (c.at_end.ensures.value c.steps.state)
 
-pub returns-then-address-len-clause-watched : goal.returns-then-address-len-clause-watched
-returns-then-address-len-clause-watched g c = seen_all c.steps.invariant.watched
+pub returns-then-address-bytes-clause-watched : goal.returns-then-address-bytes-clause-watched
+returns-then-address-bytes-clause-watched g c = seen_all c.steps.invariant.watched
     (unseen_past _ _ c.args.start _ _ c.steps.calls.frames.items _ _ _ (grind arith))
 
 pub returns-then-steps-limit-clause-value : goal.returns-then-steps-limit-clause-value
@@ -35,13 +35,13 @@ returns-then-steps-limit-clause-watched g c = seen_all c.steps.invariant.watched
 pub returns-in-Err-clause-watched : goal.returns-in-Err-clause-watched
 returns-in-Err-clause-watched g c = seen_all c.steps.invariant.watched
     (unseen_halt _ _ c.args.start _ _ c.steps.calls.frames.items _ _ c.steps.state _
-    (rw c.steps.invariant.code at c.in-Err.ensures.moved))
+    (rw c.steps.invariant.bytes at c.in-Err.ensures.moved))
 
 pub returns-in-Err-clause-value : goal.returns-in-Err-clause-value
 returns-in-Err-clause-value g c =
     rw c.halted-in-Err.ensures
     (halted_here _ _ _ _ _ c.steps.state _ c.steps.calls.frames.items _ _ c.steps.invariant.answer _ (omega arith)
-    (rw c.steps.invariant.code at c.in-Err.ensures.moved))
+    (rw c.steps.invariant.bytes at c.in-Err.ensures.moved))
 
 pub returns-in-Err-clause-shapes : goal.returns-in-Err-clause-shapes
 returns-in-Err-clause-shapes g c = shapes_then _ _ _ c.steps.invariant.shapes c.in-Err.ensures.shapes
@@ -52,12 +52,12 @@ returns-in-Err-clause-sizes g c = sized_then c.steps.invariant.sizes c.in-Err.en
 pub steps-preserved : goal.steps-preserved
 steps-preserved g c = record {
   answer = stepped _ 0 _ _ _ _ _ c.steps.calls.frames.items _ _ c.steps.invariant.answer _ (omega arith)
-      (rw c.steps.invariant.code at c.in-Ok.ensures.moved);
+      (rw c.steps.invariant.bytes at c.in-Ok.ensures.moved);
   watched = seen_one c.steps.invariant.watched
       (one_event _ _ _ _ _ _ _ _ c.advance.new.calls.frames.items c.advance.new.cursor.program c.advance.new.cursor.address
-      c.advance.new.state _ refl (omega arith) (rw c.steps.invariant.code at c.in-Ok.ensures.moved))
-      (rw (c.name-name.ensures, c.steps.invariant.code) at c.tell.ensures);
-  code = c.code_then-code.ensures;
+      c.advance.new.state _ refl (omega arith) (rw c.steps.invariant.bytes at c.in-Ok.ensures.moved))
+      (rw (c.name-name.ensures, c.steps.invariant.bytes) at c.tell.ensures);
+  bytes = c.bytes_then-bytes.ensures;
   counted = omega arith;
   shapes = shapes_then _ _ _ c.steps.invariant.shapes c.in-Ok.ensures.shapes;
   sizes = sized_then c.steps.invariant.sizes c.in-Ok.ensures.sizes;

@@ -18,7 +18,7 @@ invariant-steps g l = record {
   watched : HasSeen g.W.Watching.Sees l.fn.watcher l.watcher
       (events_of (texts l.programs) l.programs.number l.limit l.start l.fn.state)
       (left_events (texts l.programs) l.programs.number (l.limit - l.steps) (config_of l.cursor l.calls l.state));
-  code : l.code ≡ texts l.programs l.cursor.program;
+  bytes : l.bytes ≡ texts l.programs l.cursor.program;
   counted : l.steps ≤ l.limit;
   shapes : HasShapes l.fn.state.zones l.state.zones;
   sizes : HasSizes l.fn.state l.state;

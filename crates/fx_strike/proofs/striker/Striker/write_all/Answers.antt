@@ -7,7 +7,7 @@ use Rattle.fx_strike.proofs.striker.Striker.write_all.Goals as goal
 
 pub write_made-requires-clause-small : goal.write_made-requires-clause-small
 write_made-requires-clause-small g c =
-    rw c.split_at.ensures.back (small_rest c.args.kept.now.count c.args.mapped.now c.requires.small)
+    rw c.split_at.ensures.back (small_rest c.args.kept.count c.args.mapped.now c.requires.small)
 
 pub write_made-requires-clause-room : goal.write_made-requires-clause-room
 write_made-requires-clause-room g c =
@@ -23,16 +23,16 @@ write_made-requires-clause-room g c =
 pub returns-in_err-add-clause-lines : goal.returns-in_err-add-clause-lines
 returns-in_err-add-clause-lines g c lines h =
     rw (came c.from_residual.result c.from_residual.ensures.1)
-    (adds_before _ (lines_whole c.args.kept.now.count lines)
+    (adds_before _ (lines_whole c.args.kept.count lines)
     (adds_text (c.requires.lines.lines lines h) (unadded (adds_piece c.text.ensures c.in_err-add.ensures)
     (omega (arith, c.requires.lines.short, c.requires.lines.few, c.requires.few, c.requires.room)))))
 
 pub returns-clause-lines : goal.returns-clause-lines
 returns-clause-lines g c lines h =
-    adds_after _ (lines_whole c.args.kept.now.count lines)
+    adds_after _ (lines_whole c.args.kept.count lines)
     (adds_text (c.requires.lines.lines lines h) (added (adds_piece c.text.ensures c.in_ok-add.ensures)))
-    (c.write_made.ensures.lines (drop c.args.kept.now.count lines) (rw c.split_at.ensures.back
-    (lines_rest c.args.kept.now.count c.args.mapped.now lines h)))
+    (c.write_made.ensures.lines (drop c.args.kept.count lines) (rw c.split_at.ensures.back
+    (lines_rest c.args.kept.count c.args.mapped.now lines h)))
 
 pub returns-clause-short : goal.returns-clause-short
 returns-clause-short g c =

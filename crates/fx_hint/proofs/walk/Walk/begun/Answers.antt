@@ -2,7 +2,7 @@ use Rattle.std.proofs.Common.{sym, Ok, Err}
 use Rattle.std.proofs.lemmas.Result.{err_from_is_err_and}
 use Rattle.fx_hint.proofs.KeptGlyphs.{begun_again}
 use Rattle.fx_hint.proofs.RunLaws.{recalls}
-use Rattle.fx_hint.proofs.walk.Walk.begun_or_recalled.Goals as goal
+use Rattle.fx_hint.proofs.walk.Walk.begun.Goals as goal
 
 pub returns-in_err-recalled-clause-leads : goal.returns-in_err-recalled-clause-leads
 returns-in_err-recalled-clause-leads g c =

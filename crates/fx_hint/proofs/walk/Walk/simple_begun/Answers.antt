@@ -1,5 +1,5 @@
 use Rattle.fx_hint.proofs.RunLaws.{simple_runs}
-use Rattle.fx_hint.proofs.walk.Walk.simple_kept.Goals as goal
+use Rattle.fx_hint.proofs.walk.Walk.simple_begun.Goals as goal
 
 pub returns-clause-leads : goal.returns-clause-leads
 returns-clause-leads g c =

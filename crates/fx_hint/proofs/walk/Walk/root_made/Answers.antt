@@ -2,7 +2,7 @@ use Rattle.std.proofs.lemmas.Result.{err_from_is_err_and}
 use Rattle.fx_hint.specs.Runs.{runs_of}
 use Rattle.fx_hint.proofs.Forgetting.{root_walked}
 use Rattle.fx_hint.proofs.RunLaws.{walk_leads}
-use Rattle.fx_hint.proofs.walk.root_made.Goals as goal
+use Rattle.fx_hint.proofs.walk.Walk.root_made.Goals as goal
 
 pub returns-in_err-made-clause-leads : goal.returns-in_err-made-clause-leads
 unfolding runs_of
