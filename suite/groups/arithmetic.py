@@ -7,7 +7,7 @@ from making.suite import APPLE
 ARITHMETIC = APPLE + "Instruction set, Arithmetic and math instructions: %s"
 LOGIC = APPLE + "Instruction set, Relational and logical functions: %s"
 HALVES = "a product is rounded to the nearest 1/64, halves away from zero"
-FRACTION = "a quotient is cut toward zero"
+FRACTION = "a quotient is rounded toward zero"
 WRAPS = "a result outside 32 bits is taken modulo 2^32"
 LEAST, MOST = -1 << 31, (1 << 31) - 1
 

@@ -8,7 +8,7 @@ from making.suite import OPENTYPE
 SIMPLE = OPENTYPE + "glyf, simple glyph description: %s"
 LOCA = OPENTYPE + "loca"
 LENIENT = "what follows the last coordinate is not looked at"
-FALLING = "end points that fall refuse the glyph"
+FALLING = "end points that decrease refuse the glyph"
 CUT = "a glyph whose bytes end early is refused"
 RUN = "a run of flags past the last point stops there"
 EMPTY = "a glyph of 0 contours is empty, whatever follows"
@@ -134,14 +134,14 @@ def make_loca(suite):
         names = {2: "usual", 3: "falling", 4: "after-falling", 5: "end-past-glyf", 6: "equal-past-glyf", 7: "start-past-glyf",
                  8: "start-past-and-falling"}
         for k, name in names.items():
-            own = None if k == 2 else "offsets that fall or begin past glyf refuse the glyph; an end past glyf is moved to its end"
+            own = None if k == 2 else "offsets that decrease or begin past glyf refuse the glyph; an end past glyf is moved to its end"
             suite.case("loca-%s-%s" % (kind, name), broken, LOCA, k, hinted=False, own=own)
         cut = suite.font(FontMaker("loca-%s-cut" % kind, long=long))
         for k in range(3):
             cut.add(with_box(square()))
         cut.tables["loca"] = cut.loca()[:-1]
         for k in (2, 3, 4):
-            own = "an offset that is cut refuses the glyph" if k == 4 else "a loca that is too short serves the glyphs that it has"
+            own = "a truncated offset refuses the glyph" if k == 4 else "a loca that is too short serves the glyphs that it has"
             suite.case("loca-%s-cut-%d" % (kind, k), cut, LOCA, k, hinted=False, own=own)
     font = suite.fonts["grammar"]
     suite.case("no-such-glyph", font, LOCA, 60000, hinted=False)

@@ -5,7 +5,7 @@ from making.suite import APPLE
 
 ABOUT = APPLE + "Instruction set, Managing outlines: %s"
 STRAY = "a point outside its zone reads as (0, 0), and what the row does to it is dropped"
-HALF = "ALIGNPTS moves the first point by half the distance, cut toward zero, and the second by the rest"
+HALF = "ALIGNPTS moves the first point by half the distance, rounded toward zero, and the second by the rest"
 PLACE = "the place where lines meet, and the middle of four ends, is rounded to the nearest 1/64 pixel"
 RESET = "IUP sets an untouched point from its original place, wherever it was moved before"
 EMPTY = "a range whose low point is above its high one is empty"

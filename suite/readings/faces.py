@@ -40,9 +40,9 @@ offset_is("version_not_looked_at", "a header of any version is read",
           lambda right, data, face: right(data[:4] + b"\0\1\0\0" + data[8:] if len(data) >= 8 else data, face))
 offset_is("minor_version_not_looked_at", "a header of version 1.1 is read as 1.0",
           lambda right, data, face: right(data[:6] + b"\0\0" + data[8:] if len(data) >= 8 else data, face))
-offset_is("header_as_far_as_needed", "the offsets after that of the face may be cut",
+offset_is("header_as_far_as_needed", "the offsets after the face's own may be truncated",
           lambda right, data, face: right(data[:8] + (face + 1).to_bytes(4, "big") + data[12:] if face < _count(data) else data, face))
-offset_is("header_cut_is_no_face", "a face whose offset is cut is not there", lambda right, data, face: _no_face(right, data, face))
+offset_is("header_cut_is_no_face", "a face whose offset is truncated is not there", lambda right, data, face: _no_face(right, data, face))
 offset_is("signature_required", "a header of version 2.0 has its signature fields",
           lambda right, data, face: right(data, face) if data[4:6] != b"\0\2" or _has_signature(data) else _refused())
 offset_is("signed_refused", "a signed collection is refused, unless the signature is looked at",
@@ -74,7 +74,7 @@ def _from_the_directory(c):
     c.attribute(fontfile.Font, "directory", lambda right: lambda data, start: right(data[start:], 0))
 
 
-@reading("directory_not_whole", "faces", "a directory that is cut has the tables of its whole records")
+@reading("directory_not_whole", "faces", "a truncated directory has the tables of its complete records")
 def _not_whole(c):
     def directory(right):
         def lenient(data, start):

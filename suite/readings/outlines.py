@@ -102,7 +102,7 @@ def _advance_of_hmtx(c):
         maker.scale(maker.font.advance(glyph)),))
 
 
-@reading("bad_tables_read", "grammar", "tables that are cut are read all the same")
+@reading("bad_tables_read", "grammar", "truncated tables are read all the same")
 def _bad_tables(c):
     c.attribute(fontfile.Font, "need", lambda right: lambda tag, table, length: None)
 
@@ -190,7 +190,7 @@ replaced("coordinates_absolute", "grammar", "coordinates are places, not distanc
          lambda right: lambda reader, flags, short, same: _differences(right(reader, flags, short, same)))
 replaced("repeat_counts_itself", "grammar", "a flag's repeat count includes the flag itself", "read_flags",
          lambda right: lambda reader, count: _repeat_less(reader, count))
-replaced("cut_bytes_are_zero", "grammar", "bytes that are cut are 0", "read_glyph",
+replaced("cut_bytes_are_zero", "grammar", "bytes that are missing are 0", "read_glyph",
          lambda right: lambda data, glyph: right(data + bytes(60) if data else data, glyph))
 
 
@@ -208,7 +208,7 @@ def _repeat_less(reader, count):
     return flags[:count]
 
 
-@reading("falling_loca_empty", "grammar", "offsets that fall make an empty glyph")
+@reading("falling_loca_empty", "grammar", "offsets that decrease make an empty glyph")
 def _falling_loca_empty(c):
     def glyph_bytes(right):
         def lenient(font, glyph):
@@ -247,7 +247,7 @@ def _start_ignored(c):
         fontfile.u32(self.data, self.at + 24 + 12 * k) + code - fontfile.u32(self.data, self.at + 16 + 12 * k)))
 
 
-@reading("broken_maps_empty", "maps", "a map that is cut or falls has no characters")
+@reading("broken_maps_empty", "maps", "a map that is truncated or not in ascending order has no characters")
 def _broken_maps(c):
     c.attribute(charmap.CharMap, "__init__", lambda right: lambda self, font: _lenient(right, self, font))
 

@@ -44,7 +44,7 @@ replaced("phantoms_unrounded", "phantoms points", "hinted phantom points stay be
 replaced("parity_without_rounding", "rounding", "ODD and EVEN do not round", "parity", lambda right: lambda gs, v: v % 128)
 
 # ---- vectors
-replaced("unit_truncated", "vectors", "a unit vector's parts are cut, not rounded", "part", lambda right: lambda v, s: _root(v, s))
+replaced("unit_truncated", "vectors", "a unit vector's parts are rounded toward zero, not to the nearest", "part", lambda right: lambda v, s: _root(v, s))
 replaced("vector_not_turned", "vectors", "a line's vector is not turned by its flag", "line_vector",
          lambda right: lambda m, p1, p2, original=False:
          numbers.unit(*state.minus(m.zone(1).get(p1, original), m.zone(2).get(p2, original))))

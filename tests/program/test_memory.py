@@ -184,7 +184,7 @@ def refuse_each(runner, request, whole):
 def runner_of(program, tmp_path_factory):
     """Runs the program under the library that refuses."""
     folder = tmp_path_factory.mktemp("memory")
-    library = compiled(os.path.join(os.path.dirname(__file__), "refuse_memory.c"), folder / "refuse.so", "-shared", "-fPIC")
+    library = compiled(os.path.join(os.path.dirname(__file__), "memory.c"), folder / "memory.so", "-shared", "-fPIC")
     return Runner(program, library, folder)
 
 

@@ -8,6 +8,7 @@ from instructions import Code, steps_of
 from made import Composite, Empty, Font, Simple, comb, square
 from making.assembler import assemble
 from reference.machine import next_place
+from reference.numbers import scaled
 from reference.trace import OPCODES, pushed
 from runs import Run
 from strikes import A, B, both, one, refusal, strike, words
@@ -20,7 +21,7 @@ NOTHING = Code().push(1).do(ins.POP)
 
 def shown(read, place):
     """A rectangle whose program puts its right side at the number that a program leaves; `place` is due there."""
-    def after(boxes, ppem):
+    def after(boxes):
         return [boxes[0][:2] + (place, boxes[0][3])] + boxes[1:]
     return Simple([(0, 0, 300, 500)], code=Code().right_side(read), after=after)
 
@@ -43,7 +44,7 @@ def greatest_tables():
         body = Code().push(50)
         read = with_stray(count, ins.RS).join(with_stray(values, ins.RCVT)).do(ins.ADD).push(0).do(ins.SZP2).join(with_stray(count, ins.GC))
         read.do(ins.ADD).push(1).do(ins.SZP2).call(max(63, last), body).do(ins.ADD)
-        place = 50 + (100 + 2 * due.scaled(700, 16, UPEM) if count else 0)
+        place = 50 + (100 + 2 * scaled(700, 16, UPEM) if count else 0)
         cvt = bytes(2 * max(values - 1, 0)) + (700).to_bytes(2, "big") * min(values, 1) + b"\x7F" * (count % 2)
         font = one(shown(read, place), prep=prep, fpgm=Code().define(max(63, last), body), cvt=cvt, storage=count, twilight=count, functions=count,
                    stack=16)
@@ -183,19 +184,19 @@ def programmed_points():
     yield refusal("a point moved too far", one(square(90, far), stack=9), "51 TooFar 2")
 
 
-def last_widened(boxes, ppem):
+def last_widened(boxes):
     """The last rectangle has its right side elsewhere."""
     return boxes[:-1] + [boxes[-1][:2] + (SEEN, boxes[-1][3])]
 
 
-def all_moved(boxes, ppem):
+def all_moved(boxes):
     """All rectangles moved by two pixels."""
     return [(x0 + 128, y0, x1 + 128, y1) for x0, y0, x1, y1 in boxes]
 
 
-def all_but_the_last_moved(boxes, ppem):
+def all_but_the_last_moved(boxes):
     """The same of all but the last."""
-    return all_moved(boxes[:-1], ppem) + boxes[-1:]
+    return all_moved(boxes[:-1]) + boxes[-1:]
 
 
 # ---- listings ----

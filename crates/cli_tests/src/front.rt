@@ -58,7 +58,7 @@ impl Fake {
     fn new(alloc: Global, text: &'static [u8], status: u8, is_halted: bool) -> Fake {
         let refused = Refused {
             number: 33,
-            advice: "mend\tit",
+            advice: "fix\tit",
             glyph: None,
             is_halted,
             is_halted_glyph: is_halted,
@@ -181,7 +181,7 @@ fn older_file_stays(rt: HostRuntime) -> Result<(), Fail> {
 fn lines_after_a_run(rt: HostRuntime) -> Result<(), Fail> {
     for (status, want) in [
         (0, b"".as_slice()),
-        (1, b"mkstrike: to mend the font, mend?it\n"),
+        (1, b"mkstrike: to fix the font, fix?it\n"),
         (
             2,
             b"mkstrike: unknown option '--esc?'; 'mkstrike help trace' shows how it is written\n",
@@ -259,6 +259,8 @@ fn sets_by_name(rt: HostRuntime) -> Result<(), Fail> {
         ("ascii", "20-7e"),
         ("Latin1,20ac", "20-7e,a0-ff,20ac"),
         ("box,blocks,braille", "2500-257f,2580-259f,2800-28ff"),
+        ("boxes,latin-a,CJK", "2500-257f,100-17f,4e00-9fff"),
+        ("437,20-7e", "437,20-7e"),
         ("all,20-7e", "all,20-7e"),
         ("", ""),
     ] {

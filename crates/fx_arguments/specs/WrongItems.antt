@@ -20,7 +20,7 @@ is_digits text = nat_lt 0 (length text) && list_all is_digit text
 abbrev pub fault_of_number : List ℕ → Option ItemFault
 fault_of_number text = if is_some (number_of text) then None else (if is_digits text then Some TooLong else Some NoNumber)
 
--- the first of two faults; with none, the numbers fall
+-- the first of two faults; with none, the second number is below the first
 abbrev pub fault_of_ends : Option ItemFault → Option ItemFault → ItemFault
 fault_of_ends (Some fault) high = fault
 fault_of_ends None high = unwrap_or high Falls

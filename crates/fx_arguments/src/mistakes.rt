@@ -188,10 +188,10 @@ fn option_said<'w>(
 ) -> Result<(), Said>
     ensures { SaysUnless (λ u. u) result (Err (option_said verb (texts before.now) word.now next.now)) }
 {
-    let mut mended = Vec::from_slice(alloc, before)?;
-    mended.push(word)?;
-    mended.push("0")?;
-    if is_taken(alloc, verb, &mended)? {
+    let mut completed = Vec::from_slice(alloc, before)?;
+    completed.push(word)?;
+    completed.push("0")?;
+    if is_taken(alloc, verb, &completed)? {
         return Err(value_said(alloc, word, next));
     }
     Err(say(alloc, &[word, " is given twice"]))

@@ -20,15 +20,15 @@ const OTHERS: &str = "psf psfu pcf otb png pbm h c gz pf2 fnt fon hex ttf";
 
 /// What is said of a file whose name has one of these.
 const IS_BDF: &str =
-    "' is BDF, as every strike; strike --format of the package python3-mkstrike makes psf, pcf, otb, png, c and gfx";
+    "' is BDF, like every strike; strike --format of the package python3-mkstrike makes psf, pcf, otb, png, c and gfx";
 
 const IS_VARIABLE: &str = "the font is a variable font, and this is its default instance";
 
 const LACKS_ALL: &str =
-    "the font has no requested character; --chars is hexadecimal, and the letter A is 41";
+    "the font has none of the requested characters; --chars is hexadecimal, and the letter A is 41";
 
 const IS_CUT: &str =
-    "the font has more than 65,536 characters, and the strike is of the first ones; --chars takes others";
+    "the font has more than 65,536 characters, and the strike has only the first of them; --chars chooses others";
 
 /// What there is for lists that are no numbers.
 const LISTS: &str =
@@ -200,7 +200,7 @@ fn of_halt(alloc: Global, task: &Task<'_, '_>, refused: Refused) -> Result<Text,
     if !task.is("trace") {
         text.add_all(&["with --unhinted no program of the font runs; "])?;
     }
-    text.add_all(&["to mend the font, ", refused.advice])?;
+    text.add_all(&["to fix the font, ", refused.advice])?;
     Ok(text)
 }
 

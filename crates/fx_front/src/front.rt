@@ -8,7 +8,7 @@ use crate::help::{OVERVIEW, VERSION, help_of};
 use crate::input::Input;
 use crate::lines;
 use crate::meant::command_of;
-use crate::output::{NO_FOLDER, Outlet, Output, output_of};
+use crate::output::{NO_FOLDER, Outlet, Output, output_of, why_closed};
 use crate::program::Program;
 use crate::run::{Ended, run_to_place};
 use fx_fixed::{FromReader, Sink, ToSink, put_all};
@@ -54,7 +54,7 @@ fn say(rt: &HostRuntime, pieces: &[&str]) {
 pub fn say_not_text<E: Sink>(alloc: Global, err: &mut E)
     ensures { Says (change_of E.held E.fault_count err.old err.new) }
 {
-    let what = "an argument is not UTF-8 text: give a font of such a name by standard input";
+    let what = "an argument is not UTF-8 text: give a font with such a name on standard input";
     lines::say(alloc, err, &[what]);
 }
 
@@ -176,7 +176,7 @@ fn input_of(rt: &HostRuntime, font: Option<&str>) -> Result<Input, &'static str>
         Ok(found) if found.is_dir() => Err("it is a folder"),
         Ok(_) => match File::open(rt, name) {
             Ok(file) => Ok(Input::File(file)),
-            Err(_) => Err("it may not be read"),
+            Err(fault) => Err(why_closed(&fault)),
         },
     }
 }

@@ -1,7 +1,7 @@
 //! What `mkstrike help` and `--version` print. Written by tools/make_pages from docs/mkstrike-*.1: change those.
 
 /// The release, and the kit that proved it.
-pub const VERSION: &str = "mkstrike 0.20261125
+pub const VERSION: &str = "mkstrike 0.20261128
 kit rattle-kit-13f logic dac8208d650f15bf
 ";
 
@@ -25,7 +25,7 @@ Examples:
     mkstrike show --ppem 16 --char 41 font.ttf
 
 Without FONT the font is read from standard input. Without -o the output goes to standard output. Without any argument the first
-line of standard input is the command line. 'mkstrike help make' lists the options of make, and so for the other commands.
+line of standard input is the command line. 'mkstrike help make' lists the options of make, and likewise for the other commands.
 
 The command `strike` (package python3-mkstrike) makes other formats, fixed cells and several sizes at once.
 
@@ -51,22 +51,22 @@ const MAKE: &str = "mkstrike make writes a strike: the bitmaps of characters at 
     mkstrike make --ppem N --chars LIST | --set NAMES | --all [OPTION].. [FONT] [-o FILE]
 
       --ppem N                the size in pixels per em, 1 to 1024
-      --chars LIST            hexadecimal numbers and ranges, as 20-7e,a0,20ac; the letter A is 41
-      --set NAMES             sets of characters by name, as ascii or latin-1,box, in place of --chars
+      --chars LIST            hexadecimal numbers and ranges, such as 20-7e,a0,20ac; the letter A is 41
+      --set NAMES             sets of characters by name, such as ascii or latin-1,box, in place of --chars
       --all                   all characters of the font's map, at most 65,536, in place of --chars
-      --name NAME             the strike's name; one that begins with a hyphen is given as --name=-misc-..
+      --name NAME             the strike's name; write one that begins with a hyphen as --name=-misc-..
       --property KEY=VALUE    add a property; may be given up to 64 times
       --x11                   add the properties that X11 and fontconfig look for
-      --refused WHAT          what becomes of a character that is refused: stop (the default, no strike), leave-out, or unhinted
-                              (drawn without hinting if its program halts, else left out)
-      --missing               name all missing characters on standard error, not the first alone
+      --refused WHAT          what to do with a character that can't be drawn: stop (no strike, the default), leave-out (a strike
+                              without it), or unhinted (drawn without hinting if its program halts, else left out)
+      --missing               name all missing characters on standard error, not only the first eight
       --unhinted              do not run the font's own programs
       --dropout[=WHAT]        keep thin strokes whole, by left pixels (left, the default), by nearer ones (near), or as the font
                               asks (font)
-      --face N                the font of a collection, counted from 0; without it the first
+      --face N                which font of a collection, counted from 0; the first by default
       --hex                   the font is hexadecimal text
-      -o FILE                 write to FILE, which appears only if all was done; without it, or if FILE is -, to standard output
-      FONT                    the font's file; else standard input
+      -o FILE                 write to FILE, which appears only when it is complete; - is standard output, the default
+      FONT                    the font's file; standard input by default
 
     mkstrike make --ppem 16 --chars 20-7e font.ttf -o font.bdf
 ";
@@ -81,15 +81,16 @@ const SHOW: &str = "mkstrike show writes the picture of one glyph.
       --unhinted          do not run the font's own programs
       --dropout[=WHAT]    keep thin strokes whole, by left pixels (left, the default), by nearer ones (near), or as the font asks
                           (font)
-      --face N            the font of a collection, counted from 0; without it the first
+      --face N            which font of a collection, counted from 0; the first by default
       --hex               the font is hexadecimal text
-      -o FILE             write to FILE, which appears only if all was done; without it, or if FILE is -, to standard output
-      FONT                the font's file; else standard input
+      -o FILE             write to FILE, which appears only when it is complete; - is standard output, the default
+      FONT                the font's file; standard input by default
 
     mkstrike show --ppem 16 --char 41 font.ttf
 ";
 
-const OUTLINE: &str = "mkstrike outline writes the outline of one glyph, which its bits are of.
+const OUTLINE: &str =
+    "mkstrike outline writes the outline of one glyph: the points behind its pixels.
 
     mkstrike outline --ppem N --char HEX | --glyph G [OPTION].. [FONT] [-o FILE]
 
@@ -97,10 +98,10 @@ const OUTLINE: &str = "mkstrike outline writes the outline of one glyph, which i
       --char HEX    the glyph of a character, one hexadecimal number; the letter A is 41
       --glyph G     a glyph by its number in the font, counted from 0, in place of --char
       --unhinted    do not run the font's own programs
-      --face N      the font of a collection, counted from 0; without it the first
+      --face N      which font of a collection, counted from 0; the first by default
       --hex         the font is hexadecimal text
-      -o FILE       write to FILE, which appears only if all was done; without it, or if FILE is -, to standard output
-      FONT          the font's file; else standard input
+      -o FILE       write to FILE, which appears only when it is complete; - is standard output, the default
+      FONT          the font's file; standard input by default
 
     mkstrike outline --ppem 12 --char 41 font.ttf
 ";
@@ -110,33 +111,33 @@ const DUMP: &str = "mkstrike dump lists one of the font's own programs.
     mkstrike dump --of WHAT [--face N] [--hex] [FONT] [-o FILE]
 
       --of WHAT    the program: fpgm, prep, or the number of a glyph
-      --face N     the font of a collection, counted from 0; without it the first
+      --face N     which font of a collection, counted from 0; the first by default
       --hex        the font is hexadecimal text
-      -o FILE      write to FILE, which appears only if all was done; without it, or if FILE is -, to standard output
-      FONT         the font's file; else standard input
+      -o FILE      write to FILE, which appears only when it is complete; - is standard output, the default
+      FONT         the font's file; standard input by default
 
     mkstrike dump --of fpgm font.ttf -o fpgm.txt
 ";
 
 const TRACE: &str =
-    "mkstrike trace writes one line for each instruction that a font's programs execute, in their order.
+    "mkstrike trace writes one line for each instruction that a font's programs execute, in order.
 
     mkstrike trace --ppem N --char HEX | --glyph G | --of WHAT [OPTION].. [FONT] [-o FILE]
 
       --ppem N      the size in pixels per em, 1 to 1024
       --char HEX    the programs of a character's glyph, one hexadecimal number; the letter A is 41
-      --glyph G     those of a glyph by its number in the font, counted from 0
+      --glyph G     the programs of a glyph, by its number in the font, counted from 0
       --of WHAT     the program fpgm or prep, or the number of a glyph
-      --face N      the font of a collection, counted from 0; without it the first
+      --face N      which font of a collection, counted from 0; the first by default
       --hex         the font is hexadecimal text
-      -o FILE       write to FILE, which appears only if all was done; without it, or if FILE is -, to standard output
-      FONT          the font's file; else standard input
+      -o FILE       write to FILE, which appears only when it is complete; - is standard output, the default
+      FONT          the font's file; standard input by default
 
     mkstrike trace --ppem 12 --char 6c font.ttf -o l.txt
 ";
 
 const EXPLAIN: &str =
-    "mkstrike explain writes what is wrong first with a command line, and nothing if it is right.
+    "mkstrike explain writes the first mistake in a command line to standard output, and nothing if there is none.
 
     mkstrike explain ARGUMENT...
 

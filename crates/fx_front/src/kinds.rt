@@ -12,7 +12,7 @@ pub(crate) const KINDS: [(&[u8], &str); 17] = [
     ),
     (
         b"ttcf",
-        "the file looks like a collection of fonts: it is cut, or this one is no TrueType font; --face takes another",
+        "the file looks like a collection of fonts: it is truncated, or this face is not a TrueType font; --face chooses another",
     ),
     (
         b"wOFF",
@@ -24,7 +24,7 @@ pub(crate) const KINDS: [(&[u8], &str); 17] = [
     ),
     (
         b"\x1f\x8b",
-        "the file looks like gzip data: unpack it first, as by gunzip",
+        "the file looks like gzip data: unpack it first, with gunzip",
     ),
     (
         b"PK\x03\x04",
@@ -45,11 +45,11 @@ pub(crate) const KINDS: [(&[u8], &str); 17] = [
     ),
     (
         b"\x01fcp",
-        "the file looks like a PCF font: it is a bitmap font already; pcf2bdf or FontForge make BDF of it",
+        "the file looks like a PCF font: it is a bitmap font already; pcf2bdf and FontForge convert it to BDF",
     ),
     (
         b"version ",
-        "the file is a pointer of Git LFS: get the font itself by git lfs pull",
+        "the file is a Git LFS pointer: run git lfs pull to get the font",
     ),
     (
         b"<",
@@ -57,7 +57,7 @@ pub(crate) const KINDS: [(&[u8], &str); 17] = [
     ),
     (
         b"\x00\x00\x01\x00\x00",
-        "the file looks like a Macintosh font (.dfont): FontForge or fondu take the .ttf out",
+        "the file looks like a Macintosh font (.dfont): extract the .ttf with FontForge or fondu",
     ),
     (
         b"\x89PNG",
@@ -65,11 +65,11 @@ pub(crate) const KINDS: [(&[u8], &str); 17] = [
     ),
     (
         b"\x00\x01\x00\x00",
-        "the file begins like a TrueType font, but is shorter than its directory: it is cut",
+        "the file begins like a TrueType font, but is shorter than its directory: it is truncated",
     ),
     (
         b"true",
-        "the file begins like a TrueType font, but is shorter than its directory: it is cut",
+        "the file begins like a TrueType font, but is shorter than its directory: it is truncated",
     ),
 ];
 
@@ -83,7 +83,7 @@ pub(crate) fn kind_of(rows: &[(&'static [u8], &'static str)], start: &[u8]) -> O
     match kind_among(rows, start) {
         Some(text) => Some(text),
         None if looks_hexadecimal(start) => {
-            Some("the file may be hexadecimal text: then add --hex")
+            Some("the file may be hexadecimal text: if so, add --hex")
         }
         None => None,
     }

@@ -55,7 +55,7 @@ const PLACES: [(&str, &str); 7] = [
     ),
     (
         "--bold --italic --oblique",
-        "give the font's file of that style, as DejaVuSans-Bold.ttf",
+        "give the font's file of that style, such as DejaVuSans-Bold.ttf",
     ),
     (
         "--antialias --aa --gray --grey --smooth",
@@ -63,7 +63,7 @@ const PLACES: [(&str, &str); 7] = [
     ),
     (
         "--encoding --charset --codepage",
-        "--set takes sets of characters by name, as latin-1 or cp437",
+        "--set takes sets of characters by name, such as latin-1 or cp437",
     ),
     (
         "--text --format --cell --clip --axes --merge --scale --columns --sizes --weight",

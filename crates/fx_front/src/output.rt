@@ -5,10 +5,9 @@ use std::fs::{File, Metadata, Permissions};
 use std::io::{ErrorKind, Stdout, Write};
 use std::{fs, io};
 
-/// Why an output is not written.
-const NOT_WRITTEN: &str = "it may not be written";
-
 pub const NO_FOLDER: &str = "no file can be made in its folder";
+
+const NOT_OPENED: &str = "the system can't open it";
 
 /// How many names are tried for a new file.
 const TRIES: u32 = 100;
@@ -42,6 +41,15 @@ pub enum Opened {
     New(File, String),
 }
 
+/// Why a file was not opened.
+pub(crate) fn why_closed(fault: &io::Error) -> &'static str {
+    if fault.kind() == ErrorKind::PermissionDenied {
+        "permission denied"
+    } else {
+        NOT_OPENED
+    }
+}
+
 /// Where the output of this name goes, or why it is not written. It is not written over the font.
 pub(crate) fn output_of(
     rt: &HostRuntime,
@@ -61,7 +69,7 @@ pub(crate) fn output_of(
             None => Ok(device_of(rt, name)),
         },
         Err(fault) if fault.kind() == ErrorKind::NotFound => new_file(rt, name, None),
-        Err(fault) if fault.kind() == ErrorKind::PermissionDenied => Ok(Err(NOT_WRITTEN)),
+        Err(fault) if fault.kind() == ErrorKind::PermissionDenied => Ok(Err(why_closed(&fault))),
         Err(_) => Ok(Err(NO_FOLDER)),
     }
 }
@@ -93,21 +101,25 @@ fn refused(rt: &HostRuntime, name: &str, font: &str, found: &Metadata) -> Option
     if is_same(rt, found, font) {
         return Some("it is the font");
     }
-    // the system is asked by the name as it is given, since it may guard a link
-    if found.permissions().readonly() || File::options().append(true).open(rt, name).is_err() {
-        return Some(NOT_WRITTEN);
+    if found.permissions().readonly() {
+        return Some("it is read-only");
     }
-    None
+    // the system is asked by the name as it is given, since it may guard a link
+    match File::options().append(true).open(rt, name) {
+        Ok(_) => None,
+        Err(fault) => Some(why_closed(&fault)),
+    }
 }
 
 /// A device or a pipe, or why it can't be written.
 fn device_of(rt: &HostRuntime, name: &str) -> Result<Output, &'static str> {
-    if let Ok(opened) = File::options().write(true).open(rt, name)
-        && let Some(file) = beside_streams(opened)
-    {
-        return Ok(Output::Device(file));
+    match File::options().write(true).open(rt, name) {
+        Ok(opened) => match beside_streams(opened) {
+            Some(file) => Ok(Output::Device(file)),
+            None => Err(NOT_OPENED),
+        },
+        Err(fault) => Err(why_closed(&fault)),
     }
-    Err(NOT_WRITTEN)
 }
 
 /// Makes a new file in the folder of the one of this name, with these permissions.

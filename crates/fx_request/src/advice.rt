@@ -11,37 +11,38 @@ impl Refusal {
         ensures { result.now ≡ advice_of self }
     {
         match self {
-            Refusal::NotTrueType =>
-                "give a TrueType font: OTTO (CFF) and an empty input are not read",
-            Refusal::TableMissing(_) => "the font is damaged, or no TrueType font with outlines",
-            Refusal::TableShort(_) => "the file is cut",
+            Refusal::NotTrueType => "give a TrueType font; CFF outlines (OTTO) are not read",
+            Refusal::TableMissing(_) => "the font is damaged, or has no TrueType outlines",
+            Refusal::TableShort(_) => "the file is truncated",
             Refusal::BadHead | Refusal::BadMaxp | Refusal::BadCharMap => "the font is damaged",
-            Refusal::NoCharMap => "convert the font's map to format 4 or 12",
+            Refusal::NoCharMap =>
+                "the font needs a Unicode character map: add a cmap subtable of format 4 or 12",
             Refusal::BadLoca(_)
             | Refusal::GlyphShort(_)
             | Refusal::BadContours(_)
             | Refusal::ComponentDepth(_)
             | Refusal::TooManyComponents(_)
             | Refusal::TooManyPoints(_)
-            | Refusal::BadPointMatch(_) => "leave the characters with that glyph out",
+            | Refusal::BadPointMatch(_) => "leave out the characters that use this glyph",
             Refusal::BadGlyphNumber(_) => {
-                "give a number below the number of glyphs; if none was given, the font is damaged"
+                "give a number below the number of glyphs; if you gave none, the font is damaged"
             }
             Refusal::NoFace => {
-                "give a number below the number of faces; a file that is no collection has face 0 alone"
+                "give a number below the number of faces; a file that is not a collection has only face 0"
             }
             Refusal::Halted(halt) => after_halt(halt.cause),
-            Refusal::TooFar(_) | Refusal::GlyphTooLarge(_) => "take a smaller size",
-            Refusal::BadSize => "give a size of 1 to 1024",
+            Refusal::TooFar(_) | Refusal::GlyphTooLarge(_) => "use a smaller size",
+            Refusal::BadSize => "give a size from 1 to 1024",
             Refusal::BadChars => {
-                "give hexadecimal numbers and ranges joined by commas, as 20-7e,a0"
+                "give hexadecimal numbers and ranges joined by commas, such as 20-7e,a0"
             }
             Refusal::BadName => "give another name",
             Refusal::BadProperty(_) => "give another name or text, or fewer properties",
-            Refusal::WriteFailed(_) => "make room, and run it again",
-            Refusal::ReadFailed => "look at the device or pipe that the input comes from",
-            Refusal::BadHex => "give the font itself without --hex, or its text by xxd -p",
-            Refusal::InputTooLarge => "no font of that size is read",
+            Refusal::WriteFailed(_) =>
+                "free disk space, or check the program that reads the output, and try again",
+            Refusal::ReadFailed => "check the device or pipe that the input comes from",
+            Refusal::BadHex => "give the font without --hex, or as the text that xxd -p prints",
+            Refusal::InputTooLarge => "use a font file of at most 64 MiB",
             Refusal::OutOfMemory => "free memory, or ask for fewer characters or a smaller size",
         }
     }
@@ -53,18 +54,18 @@ pub(crate) fn after_halt(cause: Cause) -> &'static str
 {
     match cause {
         Cause::StackUnder => {
-            "push what the instruction needs first: the stack is empty when a program begins"
+            "push enough numbers before this instruction: each program begins with an empty stack"
         }
         Cause::StackOver => "raise maxStackElements in maxp",
-        Cause::BadOpcode => "take the instruction out, or define it by an IDEF",
-        Cause::CodeEnd => "complete the program: the table or the glyph's program is cut",
-        Cause::BadJump => "mend the jump's offset; a jump to the end itself is allowed",
-        Cause::NoFunction => "define the function in fpgm or prep, or mend the number",
-        Cause::CallDepth => "end the recursion",
-        Cause::StepLimit => "look for a loop without end at the address that is named",
+        Cause::BadOpcode => "remove the instruction, or define its opcode with an IDEF",
+        Cause::CodeEnd => "complete the program: it is truncated, or an EIF or ENDF is missing",
+        Cause::BadJump => "fix the jump's offset; a jump to the end of the program is allowed",
+        Cause::NoFunction => "define the function in fpgm or prep, or fix its number",
+        Cause::CallDepth => "end the recursion, or nest fewer calls",
+        Cause::StepLimit => "look for an endless loop around this address",
         Cause::DivideByZero => "test the divisor first",
-        Cause::BadArgument => "mend the number that was pushed for the instruction",
+        Cause::BadArgument => "fix the number that was pushed for this instruction",
         Cause::NestedDefinition => "end the first definition with ENDF",
-        Cause::StrayEnd => "take the ENDF out, or end the function with one",
+        Cause::StrayEnd => "remove the ENDF, or end the function with one",
     }
 }

@@ -10,7 +10,7 @@ use thiserror::Error;
 /// Why there is no strike, or why it was not written completely. A `u16` is the number of a glyph.
 #[derive(Clone, Copy, PartialEq, Eq, Error)]
 pub enum Refusal {
-    /// The file is not a TrueType font, or its table directory or its header as a collection is cut.
+    /// The file is not a TrueType font, or its table directory or its header as a collection is truncated.
     NotTrueType,
     /// The font lacks a table.
     TableMissing([u8; 4]),
@@ -22,13 +22,13 @@ pub enum Refusal {
     BadMaxp,
     /// The font has no character map of format 12 or 4.
     NoCharMap,
-    /// The character map is cut, or its end codes fall.
+    /// The character map is truncated, or its end codes are not in ascending order.
     BadCharMap,
-    /// A glyph's offsets in `loca` are cut, fall, or lie past `glyf`.
+    /// A glyph's offsets in `loca` are truncated, decrease, or lie past `glyf`.
     BadLoca(u16),
     /// A glyph's bytes end too early.
     GlyphShort(u16),
-    /// A glyph's end points fall.
+    /// A glyph's end points decrease.
     BadContours(u16),
     /// A component is deeper than 8.
     ComponentDepth(u16),

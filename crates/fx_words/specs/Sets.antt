@@ -50,14 +50,32 @@ sets =
       codes "koi8-r",
       codes "20-7e,a0,a9,b0,b2,b7,f7,401,410-44f,451,2219-221a,2248,2264-2265,2320-2321,2500,2502,250c,2510,2514,2518,"
           ++ codes "251c,2524,252c,2534,253c,2550-256c,2580,2584,2588,258c,2590-2593,25a0",
-    ) ∷ []
+    ) ∷
+    (codes "latin-extended-a", codes "100-17f") ∷
+    (codes "greek-block", codes "370-3ff") ∷
+    (codes "cyrillic-block", codes "400-4ff") ∷
+    (codes "hebrew", codes "590-5ff") ∷
+    (codes "arabic", codes "600-6ff") ∷
+    (codes "thai", codes "e00-e7f") ∷
+    (codes "punctuation", codes "2000-206f") ∷
+    (codes "currency", codes "20a0-20cf") ∷
+    (codes "arrows", codes "2190-21ff") ∷
+    (codes "math", codes "2200-22ff") ∷
+    (codes "shapes", codes "25a0-25ff") ∷
+    (codes "kana", codes "3040-30ff") ∷
+    (codes "han", codes "4e00-9fff") ∷
+    (codes "hangul", codes "ac00-d7a3") ∷
+    (codes "powerline", codes "e0a0-e0a2,e0b0-e0b3") ∷ []
 
 -- other names of sets, and their names there
 unfoldable pub other_names : Table
 other_names =
     (codes "us-ascii", codes "ascii") ∷ (codes "latin1", codes "latin-1") ∷ (codes "iso8859-1", codes "latin-1") ∷
     (codes "iso-8859-1", codes "latin-1") ∷ (codes "latin9", codes "latin-9") ∷ (codes "iso8859-15", codes "latin-9") ∷
-    (codes "iso-8859-15", codes "latin-9") ∷ (codes "koi8r", codes "koi8-r") ∷ []
+    (codes "iso-8859-15", codes "latin-9") ∷ (codes "iso8859-7", codes "greek") ∷ (codes "iso-8859-7", codes "greek") ∷
+    (codes "iso8859-5", codes "cyrillic") ∷ (codes "iso-8859-5", codes "cyrillic") ∷ (codes "boxes", codes "box") ∷
+    (codes "ibm437", codes "cp437") ∷ (codes "koi8r", codes "koi8-r") ∷ (codes "latin-a", codes "latin-extended-a") ∷
+    (codes "cjk", codes "han") ∷ []
 
 abbrev pub first_name : Text → Text
 first_name name = unwrap_or (value_of other_names name) name

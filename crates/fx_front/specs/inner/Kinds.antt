@@ -23,4 +23,4 @@ looks_hexadecimal (byte ∷ start) = is_hexadecimal byte && looks_hexadecimal st
 abbrev pub kind_of : List (Bor (List ℕ) × Bor Text) → List ℕ → Option Text
 kind_of rows [] = Some (codes "the file is empty: give a TrueType font")
 kind_of rows (byte ∷ start) = option_or (kind_among rows (byte ∷ start))
-    (if looks_hexadecimal (byte ∷ start) then Some (codes "the file may be hexadecimal text: then add --hex") else None)
+    (if looks_hexadecimal (byte ∷ start) then Some (codes "the file may be hexadecimal text: if so, add --hex") else None)
