@@ -1,8 +1,8 @@
-/* The memory of libmkstrike_c.a from one block of the caller's, without a C library. Link this file or heap.c, not both.
+/* The memory of libmkstrike_c.a from one block of the caller's, without a C library. Link calls.c, and one of the two: this file or heap.c.
  *
  * Pieces are powers of two, with a list of free ones for each size, so that each request takes a bounded number of steps. Once the last
- * piece is given back, as at the end of each call, the block is whole again. For one thread at a time. With -DMKSTRIKE_BARE there are memcpy, memmove and memset too, which compilers call
- * and a machine without a C library lacks. */
+ * piece is given back, as at the end of each call, the block is whole again. For one thread at a time. With -DMKSTRIKE_BARE it has memcpy,
+ * memmove and memset too, which compilers call and a machine without a C library lacks. */
 #include "arena.h"
 #include <stdint.h>
 

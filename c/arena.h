@@ -8,12 +8,12 @@
 extern "C" {
 #endif
 
-/* Hands a block over. To be called before the first call of the library, and then whenever no call runs: what was handed over before is
- * the caller's again. Each call of the library begins with the whole block, whatever calls came before it. Without a block, calls of the
- * library return MKSTRIKE_OUT_OF_MEMORY. */
+/* Hands a block over. Call it before the first call of the library, and then whenever no call runs: the block before it is yours again.
+ * Each call of the library begins with the whole block, whatever calls came before it. Without a block, calls of the library return
+ * MKSTRIKE_OUT_OF_MEMORY. */
 void mkstrike_arena(void *block, size_t size);
 
-/* The most bytes of the block that were in use at once since it was handed over: a block of so many bytes would have done. */
+/* The most bytes of the block that were in use at once since it was handed over: a block of this size would have been enough. */
 size_t mkstrike_arena_used(void);
 
 #ifdef __cplusplus

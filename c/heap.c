@@ -1,4 +1,4 @@
-/* The memory of libmkstrike_c.a from the C library. Link this file or arena.c, not both. */
+/* The memory of libmkstrike_c.a from the C library. Link calls.c, and one of the two: this file or arena.c. */
 #include <stddef.h>
 #include <stdlib.h>
 

@@ -4,8 +4,8 @@
  * the font does not have, or that is refused, is a box. The memory is one block: no malloc, so this is also how a boot loader or firmware
  * uses the library.
  *
- * cc -I/usr/share/mkstrike console.c /usr/share/mkstrike/arena.c -lmkstrike_c -o console
- * In a checkout: cc -Iinclude -Ic examples/console.c c/arena.c dist/libmkstrike_c.a -o console */
+ * cc -I/usr/share/mkstrike console.c /usr/share/mkstrike/calls.c /usr/share/mkstrike/arena.c -lmkstrike_c -o console
+ * In a checkout: cc -Iinclude -Ic examples/console.c c/calls.c c/arena.c dist/libmkstrike_c.a -o console */
 #include "arena.h"
 #include "mkstrike.h"
 #include <stdio.h>

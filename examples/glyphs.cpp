@@ -2,6 +2,7 @@
 //
 // c++ -std=c++11 glyphs.cpp $(pkg-config --cflags --libs mkstrike) -o glyphs
 // In a checkout: c++ -std=c++11 -Iinclude examples/glyphs.cpp -L. -lmkstrike -o glyphs
+// docs/LIBRARY.md says how to make libmkstrike.a there.
 #include <clocale>
 #include <cstdio>
 #include <cstdlib>

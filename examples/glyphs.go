@@ -4,6 +4,7 @@
 //
 // prints the text as a picture, a character after the other.
 // In a checkout: CGO_CFLAGS=-I$PWD/include CGO_LDFLAGS=-L$PWD go run examples/glyphs.go FONT PPEM TEXT
+// docs/LIBRARY.md says how to make libmkstrike.a there.
 package main
 
 /*

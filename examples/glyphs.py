@@ -3,9 +3,11 @@
 
     python3 glyphs.py libmkstrike.so.1 FONT PPEM TEXT
 
-prints the text as a picture, a character after the other. docs/LIBRARY.md says how to make the shared object in a checkout:
+prints the text as a picture, a character after the other.
 
     In a checkout: python3 examples/glyphs.py ./libmkstrike.so.1 FONT PPEM TEXT
+
+docs/LIBRARY.md says how to make the shared object there.
 """
 import ctypes
 import sys

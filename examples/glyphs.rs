@@ -2,6 +2,7 @@
 //!
 //! rustc -O glyphs.rs -lmkstrike && ./glyphs FONT PPEM TEXT
 //! In a checkout: rustc -O examples/glyphs.rs -L. -lmkstrike && ./glyphs FONT PPEM TEXT
+//! docs/LIBRARY.md says how to make libmkstrike.a there.
 
 mod sys {
     #[repr(C)]

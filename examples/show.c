@@ -2,7 +2,7 @@
  * show FONT PPEM FIRST-LAST   a strike of those characters, to standard output
  *
  * cc show.c $(pkg-config --cflags --libs mkstrike) -o show
- * In a checkout: cc -Iinclude examples/show.c c/heap.c dist/libmkstrike_c.a -o show */
+ * In a checkout: cc -Iinclude examples/show.c c/calls.c c/heap.c dist/libmkstrike_c.a -o show */
 #include "mkstrike.h"
 #include <stdio.h>
 #include <stdlib.h>

@@ -1,37 +1,36 @@
-/* mkstrike 0.20261125 for C: strikes (BDF 2.1) and glyphs of a TrueType font, hinted by the font's own programs, black and white.
+/* mkstrike 0.20261128 for C: strikes (BDF 2.1) and glyphs of a TrueType font, hinted by the font's own programs, black and white.
  *
  * A call takes all that it needs and keeps nothing: there is no state, no handle, no lock, and nothing to close. Calls may run in
  * several threads at once, as long as no two write to the same bytes. A call gives back all memory that it takes before it returns. It
  * opens no file and prints nothing. docs/LIBRARY.md has the memory, the stack and the time that calls take.
  *
  * Units. A size is in pixels per em. Pixels are counted from the origin on the baseline, columns to the right, rows upwards; row 0 lies
- * above the baseline. A font is the bytes of its file, and `face` says which font of a collection: 0 is the first, and the only one of a
- * file that is no collection. A character is a code point of Unicode, a glyph a number of the font.
+ * above the baseline. A font is the bytes of its file, and `face` says which font of a collection: 0 is the first, and the only one of
+ * any other file. A character is a code point of Unicode, a glyph a number of the font.
  *
  * Errors. A call returns 0 when it is done, or a number that never changes its meaning (docs/REFUSALS.md; MKSTRIKE_ below). A refused
- * call writes the fields of the refusal and nothing else. A call that is done writes no refusal; mkstrike_glyphs alone then writes that of
- * the first refused character, if there is one.
+ * call writes the fields of the refusal and nothing else. A call that is done writes no refusal, except that mkstrike_glyphs writes the
+ * refusal of the first refused character, if there is one.
  *
  * Sizes. A call that makes a text or pixels tells how many bytes these have, even if your buffer is too small. So you can ask for the
  * size with a buffer of 0 bytes, as with snprintf.
  *
- * NULL. A buffer with a count of 0 may be NULL. A struct that you don't want to be written may be NULL, such as `refused`. The functions
- * at the end of this header see to it. They are for C and C++: a program that calls the symbols of the library by itself, from another
- * language, must not hand over NULL.
+ * NULL. A buffer that is NULL has no elements, whatever its count says. A struct or a count that you don't want to be written may be NULL,
+ * such as `refused`.
  *
  * What is promised. Numbers keep their meaning. The structs keep their size and their fields, and the calls their parameters, as long as
  * MKSTRIKE_ABI is the same. It is also the number in the shared object's name, libmkstrike.so.1. A release can add calls.
  *
  * What is trusted. The proofs say what each call does for all bytes, sizes and characters (docs/PROVED.md). The calls take this as given,
  * and nothing checks it:
- *   - each pointer has as many elements behind it as its count says, aligned, and nobody changes them during the call;
+ *   - each pointer that is not NULL has as many elements behind it as its count says, aligned, and nobody changes them during the call;
  *   - what a call writes to overlaps nothing else that the call is handed;
  *   - there is stack enough (docs/LIBRARY.md);
  *   - the processor has the instructions of x86-64-v2 (SSE4.2, POPCNT; from 2009 on): the calls do not look.
  *
- * Linking. libmkstrike.a or the shared object, which take memory by malloc; or libmkstrike_c.a with c/arena.c (a block that you hand over,
- * no C library) or c/heap.c. Beside these the archive needs memcpy, memmove and memset, and __udivti3 of the compiler's own library
- * (libgcc). */
+ * Linking. libmkstrike.a or the shared object, which take memory by malloc; or libmkstrike_c.a with c/calls.c, and with c/arena.c (a block
+ * that you hand over, no C library) or c/heap.c. Beside these the archive needs memcpy, memmove and memset, and __udivti3 of the compiler's
+ * own library (libgcc). */
 #ifndef MKSTRIKE_H
 #define MKSTRIKE_H
 
@@ -43,7 +42,7 @@ extern "C" {
 #endif
 
 /* The release, by its day; and the number that changes when structs or calls do. */
-#define MKSTRIKE_VERSION UINT32_C(20261125)
+#define MKSTRIKE_VERSION UINT32_C(20261128)
 #define MKSTRIKE_ABI UINT32_C(1)
 
 /* What a call returns. */
@@ -94,7 +93,7 @@ enum {
     MKSTRIKE_BAD_SIZE = 60,
     MKSTRIKE_BAD_CHARS = 61,
     MKSTRIKE_BAD_NAME = 62,
-    MKSTRIKE_BAD_PROPERTY = 63, /* no call gives it: a strike made here has no properties of its own */
+    MKSTRIKE_BAD_PROPERTY = 63, /* no call gives it: a strike made here has no properties of your own */
     MKSTRIKE_BAD_MODE = 64,     /* a bit of the mode that the call does not know, or two that can't be together */
     MKSTRIKE_BAD_BLOCK = 65,    /* the words are not a block of this font, face and size */
 
@@ -106,13 +105,15 @@ enum {
  * MKSTRIKE_DROPOUT_NEAR in place of MKSTRIKE_DROPOUT the one to which the outline is nearer is. With MKSTRIKE_DROPOUT_FONT each glyph has
  * the one that its font's programs ask for, or no drop-out control if they turn it off; unhinted, or if they ask for nothing, it is as with
  * MKSTRIKE_DROPOUT. Packed, a pixel is a bit, the leftmost the highest of its byte, and a row takes whole bytes, the last filled up with 0;
- * not packed, a pixel is a byte, 255 if it is set and 0 if not. All other bits, two bits of drop-out control together, and MKSTRIKE_PACKED
- * for mkstrike_make are refused by MKSTRIKE_BAD_MODE, before all else. */
+ * not packed, a pixel is a byte, 255 if it is set and 0 if not. With MKSTRIKE_X11 a strike has the properties that X11 looks for, as
+ * `mkstrike make --x11` writes them. All other bits, two bits of drop-out control together, MKSTRIKE_PACKED for mkstrike_make and
+ * MKSTRIKE_X11 for any other call are refused by MKSTRIKE_BAD_MODE, before all else. */
 #define MKSTRIKE_HINTED UINT32_C(0x001)
 #define MKSTRIKE_DROPOUT UINT32_C(0x002)
 #define MKSTRIKE_DROPOUT_NEAR UINT32_C(0x004)
 #define MKSTRIKE_DROPOUT_FONT UINT32_C(0x008)
 #define MKSTRIKE_PACKED UINT32_C(0x100)
+#define MKSTRIKE_X11 UINT32_C(0x200)
 
 /* In a refusal: no glyph, no program, no character; the font's two programs that belong to no glyph. */
 #define MKSTRIKE_NONE UINT32_C(0xFFFFFFFF)
@@ -146,12 +147,22 @@ size_t mkstrike_advice(uint32_t number, char *text, size_t text_len);
 /* A font at a size. */
 struct mkstrike_font_info {
     int32_t ascent, descent; /* in pixels; the descent is positive below the baseline */
-    int32_t line_gap;        /* in pixels: the font asks for so many more between two lines */
+    int32_t line_gap;        /* in pixels: what the font adds between two lines */
     uint32_t glyphs;         /* how many glyphs it has, at most 65,535 */
 };
 
 /* Tells about a font at a size of 1 to 1,024. */
 uint32_t mkstrike_font(const uint8_t *font, size_t font_len, uint32_t face, uint16_t ppem, struct mkstrike_font_info *info,
+    struct mkstrike_refused *refused);
+
+/* Tells how many fonts a file has: those of a collection, else 1. The fonts themselves are not checked. A collection whose header is
+ * damaged is refused by MKSTRIKE_NOT_TRUE_TYPE. */
+uint32_t mkstrike_faces(const uint8_t *font, size_t font_len, uint32_t *faces, struct mkstrike_refused *refused);
+
+/* Tells the characters of a font: the code points to which its character map gives a glyph other than 0, in rising order. As many of them
+ * as fit go to the front of `chars`, and what lies after them stays as it was. `count` tells how many there are, at most 1,114,112. So you
+ * can ask with a buffer of 0 elements. */
+uint32_t mkstrike_characters(const uint8_t *font, size_t font_len, uint32_t face, uint32_t *chars, size_t chars_len, size_t *count,
     struct mkstrike_refused *refused);
 
 /* Tells the glyphs of characters: as many of their numbers as fit go to the front of `glyphs`, in the order given, and what lies after
@@ -186,7 +197,7 @@ struct mkstrike_outline_point {
     uint32_t on_curve; /* 1 on the curve, 0 off it */
 };
 
-/* What is told of an outline. */
+/* The counts and the advance of an outline. */
 struct mkstrike_outlined {
     size_t points, contours; /* how many there are, also of those that did not fit */
     int32_t advance;         /* in 1/64 pixels */
@@ -209,7 +220,7 @@ struct mkstrike_placed {
     size_t offset;                    /* of its first byte in the pixels of all */
 };
 
-/* What is told of many characters. */
+/* The counts of a call for many characters. */
 struct mkstrike_drawn {
     size_t bytes;     /* of the pixels of all, also of those that did not fit */
     uint32_t glyphs;  /* characters that were made, repeats included */
@@ -235,21 +246,22 @@ uint32_t mkstrike_glyphs(const uint8_t *font, size_t font_len, uint32_t face, ui
 /* ---- blocks
  *
  * A block is a font that was opened at a size, as words. Hinted, a call without one runs the font's `fpgm` and `prep` first, which takes
- * most of the time of a single glyph. A block has what they left; a call by it gives the same answer, and runs neither. The words are yours:
- * copy them, share them between threads, keep them in ROM. They hold no pointer, and nothing has to be closed.
+ * most of the time of a single glyph. A block has what they left; a call by it gives the same result, and runs neither. The words are
+ * yours: copy them, share them between threads, keep them in ROM. They hold no pointer, and there is nothing to close.
  *
- * A block is for one font, face and size, and for hinted calls or for unhinted ones; the bits of drop-out control and MKSTRIKE_PACKED may differ
- * from those of mkstrike_prepare. Any other words are refused by MKSTRIKE_BAD_BLOCK, as far as words can tell: a block has the face, the size,
- * the length of the file and, hinted, the checksum that the font has in `head` and the lengths of `fpgm` and `prep`. Reading words is safe,
- * whatever they are. Unhinted, a block has 6 words and saves nothing; so one piece of code can serve both. */
+ * A block is for one font, face and size, and for hinted calls or for unhinted ones; the bits of drop-out control and MKSTRIKE_PACKED may
+ * differ from those of mkstrike_prepare. Any other words are refused by MKSTRIKE_BAD_BLOCK, as far as words can tell: a block has the
+ * face, the size, the length of the file and, hinted, the checksum that the font has in `head` and the lengths of `fpgm` and `prep`.
+ * Reading words is safe, whatever they are. Unhinted, a block has 6 words and saves nothing; so one piece of code can serve both. */
 
-/* Writes a block of a font at a size of 1 to 1,024: as many of its words as fit go to the front of `block`, and what lies after them stays
- * as it was. `need` tells how many it has, some 800 in most fonts and at most 3,393 in 326 of them. So you can ask with a buffer of
- * 0 words. A block that did not fit is of no use. MKSTRIKE_BAD_BLOCK is returned for a font of more than 1 GiB that defines a function past that. */
+/* Writes a block of a font at a size of 1 to 1,024: as many of its words as fit go to the front of `block`, and what lies after them
+ * stays as it was. `need` tells how many it has, some 800 in most fonts and at most 3,400 in 326 of them. So you can ask with a buffer of
+ * 0 words. A block that did not fit is of no use. A font of more than 1 GiB that defines a function past that is refused by
+ * MKSTRIKE_BAD_BLOCK. */
 uint32_t mkstrike_prepare(const uint8_t *font, size_t font_len, uint32_t face, uint16_t ppem, uint32_t mode, uint32_t *block,
     size_t block_len, size_t *need, struct mkstrike_refused *refused);
 
-/* The calls without `_prepared`, by a block: the same answers. Words may lie after the block. */
+/* The calls without `_prepared`, by a block: the same results. Words may lie after the block. */
 uint32_t mkstrike_glyph_prepared(const uint8_t *font, size_t font_len, uint32_t face, uint16_t ppem, uint32_t mode, const uint32_t *block,
     size_t block_len, uint32_t code, uint8_t *pixels, size_t pixels_len, struct mkstrike_glyph_info *info,
     struct mkstrike_refused *refused);
@@ -262,7 +274,7 @@ uint32_t mkstrike_glyphs_prepared(const uint8_t *font, size_t font_len, uint32_t
     size_t block_len, const uint32_t *chars, size_t chars_len, struct mkstrike_placed *glyphs, size_t glyphs_len, uint8_t *pixels,
     size_t pixels_len, struct mkstrike_drawn *drawn, struct mkstrike_refused *refused);
 
-/* What is told of a strike. */
+/* The counts of a strike. */
 struct mkstrike_told {
     size_t bytes;           /* of the whole text, also of one that did not fit */
     uint32_t glyphs;        /* one for each requested character that the font has */
@@ -276,159 +288,6 @@ struct mkstrike_told {
 uint32_t mkstrike_make(const uint8_t *font, size_t font_len, uint32_t face, uint16_t ppem, uint32_t mode, const uint32_t *chars,
     size_t chars_len, const char *name, size_t name_len, uint8_t *out, size_t out_len, struct mkstrike_told *told,
     struct mkstrike_refused *refused);
-
-/* ---- NULL
- *
- * The library wants an address for each pointer. In C and C++ the names of the calls stand for these functions, which hand over the address
- * of something of their own in place of NULL. */
-#if defined(__cplusplus) || (defined(__STDC_VERSION__) && __STDC_VERSION__ >= 199901L)
-#define MKSTRIKE_INLINE static inline
-#else
-#define MKSTRIKE_INLINE static __inline
-#endif
-
-/* A pointer, or if it is NULL the address of something else. */
-#ifdef __cplusplus
-#define MKSTRIKE_OR(type, pointer, other) ((pointer) != NULL ? (pointer) : reinterpret_cast<type *>(&(other)))
-#else
-#define MKSTRIKE_OR(type, pointer, other) ((pointer) != NULL ? (pointer) : (type *)(void *)&(other))
-#endif
-
-MKSTRIKE_INLINE size_t mkstrike_reason_or_null(uint32_t number, char *text, size_t text_len) {
-    uint64_t none = 0;
-    return mkstrike_reason(number, MKSTRIKE_OR(char, text, none), text_len);
-}
-
-MKSTRIKE_INLINE size_t mkstrike_advice_or_null(uint32_t number, char *text, size_t text_len) {
-    uint64_t none = 0;
-    return mkstrike_advice(number, MKSTRIKE_OR(char, text, none), text_len);
-}
-
-MKSTRIKE_INLINE uint32_t mkstrike_font_or_null(const uint8_t *font, size_t font_len, uint32_t face, uint16_t ppem,
-    struct mkstrike_font_info *info, struct mkstrike_refused *refused) {
-    uint64_t none = 0;
-    struct mkstrike_refused unwanted;
-    struct mkstrike_font_info no_info;
-    return mkstrike_font(MKSTRIKE_OR(const uint8_t, font, none), font_len, face, ppem,
-        MKSTRIKE_OR(struct mkstrike_font_info, info, no_info), MKSTRIKE_OR(struct mkstrike_refused, refused, unwanted));
-}
-
-MKSTRIKE_INLINE uint32_t mkstrike_glyph_ids_or_null(const uint8_t *font, size_t font_len, uint32_t face, const uint32_t *chars,
-    size_t chars_len, uint16_t *glyphs, size_t glyphs_len, struct mkstrike_refused *refused) {
-    uint64_t none = 0;
-    struct mkstrike_refused unwanted;
-    return mkstrike_glyph_ids(MKSTRIKE_OR(const uint8_t, font, none), font_len, face, MKSTRIKE_OR(const uint32_t, chars, none), chars_len,
-        MKSTRIKE_OR(uint16_t, glyphs, none), glyphs_len, MKSTRIKE_OR(struct mkstrike_refused, refused, unwanted));
-}
-
-MKSTRIKE_INLINE uint32_t mkstrike_glyph_or_null(const uint8_t *font, size_t font_len, uint32_t face, uint16_t ppem, uint32_t mode,
-    uint32_t code, uint8_t *pixels, size_t pixels_len, struct mkstrike_glyph_info *info, struct mkstrike_refused *refused) {
-    uint64_t none = 0;
-    struct mkstrike_refused unwanted;
-    struct mkstrike_glyph_info no_info;
-    return mkstrike_glyph(MKSTRIKE_OR(const uint8_t, font, none), font_len, face, ppem, mode, code, MKSTRIKE_OR(uint8_t, pixels, none),
-        pixels_len, MKSTRIKE_OR(struct mkstrike_glyph_info, info, no_info), MKSTRIKE_OR(struct mkstrike_refused, refused, unwanted));
-}
-
-MKSTRIKE_INLINE uint32_t mkstrike_glyph_by_id_or_null(const uint8_t *font, size_t font_len, uint32_t face, uint16_t ppem, uint32_t mode,
-    uint32_t glyph, uint8_t *pixels, size_t pixels_len, struct mkstrike_glyph_info *info, struct mkstrike_refused *refused) {
-    uint64_t none = 0;
-    struct mkstrike_refused unwanted;
-    struct mkstrike_glyph_info no_info;
-    return mkstrike_glyph_by_id(MKSTRIKE_OR(const uint8_t, font, none), font_len, face, ppem, mode, glyph,
-        MKSTRIKE_OR(uint8_t, pixels, none), pixels_len, MKSTRIKE_OR(struct mkstrike_glyph_info, info, no_info),
-        MKSTRIKE_OR(struct mkstrike_refused, refused, unwanted));
-}
-
-MKSTRIKE_INLINE uint32_t mkstrike_outline_or_null(const uint8_t *font, size_t font_len, uint32_t face, uint16_t ppem, uint32_t mode,
-    uint32_t glyph, struct mkstrike_outline_point *points, size_t points_len, uint16_t *ends, size_t ends_len,
-    struct mkstrike_outlined *outlined, struct mkstrike_refused *refused) {
-    uint64_t none = 0;
-    struct mkstrike_refused unwanted;
-    struct mkstrike_outlined not_told;
-    return mkstrike_outline(MKSTRIKE_OR(const uint8_t, font, none), font_len, face, ppem, mode, glyph,
-        MKSTRIKE_OR(struct mkstrike_outline_point, points, none), points_len, MKSTRIKE_OR(uint16_t, ends, none), ends_len,
-        MKSTRIKE_OR(struct mkstrike_outlined, outlined, not_told), MKSTRIKE_OR(struct mkstrike_refused, refused, unwanted));
-}
-
-MKSTRIKE_INLINE uint32_t mkstrike_glyphs_or_null(const uint8_t *font, size_t font_len, uint32_t face, uint16_t ppem, uint32_t mode,
-    const uint32_t *chars, size_t chars_len, struct mkstrike_placed *glyphs, size_t glyphs_len, uint8_t *pixels, size_t pixels_len,
-    struct mkstrike_drawn *drawn, struct mkstrike_refused *refused) {
-    uint64_t none = 0;
-    struct mkstrike_refused unwanted;
-    struct mkstrike_drawn not_told;
-    return mkstrike_glyphs(MKSTRIKE_OR(const uint8_t, font, none), font_len, face, ppem, mode, MKSTRIKE_OR(const uint32_t, chars, none),
-        chars_len, MKSTRIKE_OR(struct mkstrike_placed, glyphs, none), glyphs_len, MKSTRIKE_OR(uint8_t, pixels, none), pixels_len,
-        MKSTRIKE_OR(struct mkstrike_drawn, drawn, not_told), MKSTRIKE_OR(struct mkstrike_refused, refused, unwanted));
-}
-
-MKSTRIKE_INLINE uint32_t mkstrike_prepare_or_null(const uint8_t *font, size_t font_len, uint32_t face, uint16_t ppem, uint32_t mode,
-    uint32_t *block, size_t block_len, size_t *need, struct mkstrike_refused *refused) {
-    uint64_t none = 0;
-    struct mkstrike_refused unwanted;
-    size_t not_told;
-    return mkstrike_prepare(MKSTRIKE_OR(const uint8_t, font, none), font_len, face, ppem, mode, MKSTRIKE_OR(uint32_t, block, none), block_len,
-        MKSTRIKE_OR(size_t, need, not_told), MKSTRIKE_OR(struct mkstrike_refused, refused, unwanted));
-}
-
-MKSTRIKE_INLINE uint32_t mkstrike_glyph_prepared_or_null(const uint8_t *font, size_t font_len, uint32_t face, uint16_t ppem, uint32_t mode,
-    const uint32_t *block, size_t block_len, uint32_t code, uint8_t *pixels, size_t pixels_len, struct mkstrike_glyph_info *info,
-    struct mkstrike_refused *refused) {
-    uint64_t none = 0;
-    struct mkstrike_refused unwanted;
-    struct mkstrike_glyph_info no_info;
-    return mkstrike_glyph_prepared(MKSTRIKE_OR(const uint8_t, font, none), font_len, face, ppem, mode,
-        MKSTRIKE_OR(const uint32_t, block, none), block_len, code, MKSTRIKE_OR(uint8_t, pixels, none), pixels_len,
-        MKSTRIKE_OR(struct mkstrike_glyph_info, info, no_info), MKSTRIKE_OR(struct mkstrike_refused, refused, unwanted));
-}
-
-MKSTRIKE_INLINE uint32_t mkstrike_glyph_by_id_prepared_or_null(const uint8_t *font, size_t font_len, uint32_t face, uint16_t ppem,
-    uint32_t mode, const uint32_t *block, size_t block_len, uint32_t glyph, uint8_t *pixels, size_t pixels_len,
-    struct mkstrike_glyph_info *info, struct mkstrike_refused *refused) {
-    uint64_t none = 0;
-    struct mkstrike_refused unwanted;
-    struct mkstrike_glyph_info no_info;
-    return mkstrike_glyph_by_id_prepared(MKSTRIKE_OR(const uint8_t, font, none), font_len, face, ppem, mode,
-        MKSTRIKE_OR(const uint32_t, block, none), block_len, glyph, MKSTRIKE_OR(uint8_t, pixels, none), pixels_len,
-        MKSTRIKE_OR(struct mkstrike_glyph_info, info, no_info), MKSTRIKE_OR(struct mkstrike_refused, refused, unwanted));
-}
-
-MKSTRIKE_INLINE uint32_t mkstrike_glyphs_prepared_or_null(const uint8_t *font, size_t font_len, uint32_t face, uint16_t ppem, uint32_t mode,
-    const uint32_t *block, size_t block_len, const uint32_t *chars, size_t chars_len, struct mkstrike_placed *glyphs, size_t glyphs_len,
-    uint8_t *pixels, size_t pixels_len, struct mkstrike_drawn *drawn, struct mkstrike_refused *refused) {
-    uint64_t none = 0;
-    struct mkstrike_refused unwanted;
-    struct mkstrike_drawn not_told;
-    return mkstrike_glyphs_prepared(MKSTRIKE_OR(const uint8_t, font, none), font_len, face, ppem, mode,
-        MKSTRIKE_OR(const uint32_t, block, none), block_len, MKSTRIKE_OR(const uint32_t, chars, none), chars_len,
-        MKSTRIKE_OR(struct mkstrike_placed, glyphs, none), glyphs_len, MKSTRIKE_OR(uint8_t, pixels, none), pixels_len,
-        MKSTRIKE_OR(struct mkstrike_drawn, drawn, not_told), MKSTRIKE_OR(struct mkstrike_refused, refused, unwanted));
-}
-
-MKSTRIKE_INLINE uint32_t mkstrike_make_or_null(const uint8_t *font, size_t font_len, uint32_t face, uint16_t ppem, uint32_t mode,
-    const uint32_t *chars, size_t chars_len, const char *name, size_t name_len, uint8_t *out, size_t out_len, struct mkstrike_told *told,
-    struct mkstrike_refused *refused) {
-    uint64_t none = 0;
-    struct mkstrike_refused unwanted;
-    struct mkstrike_told not_told;
-    return mkstrike_make(MKSTRIKE_OR(const uint8_t, font, none), font_len, face, ppem, mode, MKSTRIKE_OR(const uint32_t, chars, none),
-        chars_len, MKSTRIKE_OR(const char, name, none), name_len, MKSTRIKE_OR(uint8_t, out, none), out_len,
-        MKSTRIKE_OR(struct mkstrike_told, told, not_told), MKSTRIKE_OR(struct mkstrike_refused, refused, unwanted));
-}
-
-#define mkstrike_reason mkstrike_reason_or_null
-#define mkstrike_advice mkstrike_advice_or_null
-#define mkstrike_font mkstrike_font_or_null
-#define mkstrike_glyph_ids mkstrike_glyph_ids_or_null
-#define mkstrike_glyph mkstrike_glyph_or_null
-#define mkstrike_glyph_by_id mkstrike_glyph_by_id_or_null
-#define mkstrike_outline mkstrike_outline_or_null
-#define mkstrike_glyphs mkstrike_glyphs_or_null
-#define mkstrike_make mkstrike_make_or_null
-#define mkstrike_prepare mkstrike_prepare_or_null
-#define mkstrike_glyph_prepared mkstrike_glyph_prepared_or_null
-#define mkstrike_glyph_by_id_prepared mkstrike_glyph_by_id_prepared_or_null
-#define mkstrike_glyphs_prepared mkstrike_glyphs_prepared_or_null
 
 #ifdef __cplusplus
 }

@@ -157,7 +157,7 @@ struct given rattle_realloc(void *at, size_t used, size_t size, size_t align) {
 struct asked {
     const uint8_t *font;
     size_t font_len;
-    uint32_t face, mode, packed;
+    uint32_t face, mode, packed, x11;
     uint16_t ppem;
     const uint32_t *chars;
     uint32_t chars_len;
@@ -202,7 +202,8 @@ static uint32_t ended(uint32_t status, int is_told) {
 static uint32_t make(const struct asked *a, struct block *out, struct mkstrike_told *told, long refused) {
     uint32_t status;
     begin(refused);
-    status = mkstrike_make(a->font, a->font_len, a->face, a->ppem, a->mode, a->chars, a->chars_len, "n", 1, out->at, out->len, told, &why);
+    status = mkstrike_make(a->font, a->font_len, a->face, a->ppem, a->mode | a->x11, a->chars, a->chars_len, "n", 1, out->at, out->len, told,
+        &why);
     return ended(status, status != 0);
 }
 
@@ -219,6 +220,32 @@ static uint32_t glyphs(const struct asked *a, struct block *entries, struct bloc
     status = mkstrike_glyphs(a->font, a->font_len, a->face, a->ppem, a->mode | a->packed, a->chars, a->chars_len,
         (struct mkstrike_placed *)(void *)entries->at, entries->len / sizeof(struct mkstrike_placed), pixels->at, pixels->len, drawn, &why);
     return ended(status, status != 0 || drawn->refused != 0);
+}
+
+/* ---- characters */
+
+/* The characters of a font in a buffer that may be small: they rise, and each has a glyph. A face that opens is one of the file's. */
+static void characters(const struct asked *a) {
+    struct block some = block_of(draw(64) * sizeof(uint32_t), 4, (int)draw(2));
+    const uint32_t *chars = (const uint32_t *)(const void *)some.at;
+    size_t room = some.len / sizeof(uint32_t), count = 0, i;
+    uint32_t status, of_file, faces = 0;
+    uint16_t id;
+    begin(0);
+    status = mkstrike_characters(a->font, a->font_len, a->face, (uint32_t *)(void *)some.at, room, &count, &why);
+    status = ended(status, status != 0);
+    look(requests == 0, "the characters of a font take memory");
+    if (count < room) look(is_filled(some.at + count * sizeof(uint32_t), (room - count) * sizeof(uint32_t)), "more than the characters");
+    for (i = 0; i < room && i < count; i++) {
+        look(chars[i] <= 0x10FFFF && (i == 0 || chars[i - 1] < chars[i]), "characters that do not rise");
+        look(mkstrike_glyph_ids(a->font, a->font_len, a->face, chars + i, 1, &id, 1, NULL) == 0 && id != 0, "a character without a glyph");
+    }
+    begin(0);
+    of_file = mkstrike_faces(a->font, a->font_len, &faces, &why);
+    ended(of_file, of_file != 0);
+    look(status != 0 || (of_file == 0 && a->face < faces), "characters of a face that is not there");
+    look(requests == 0, "the number of faces takes memory");
+    free_block(&some);
 }
 
 /* ---- strikes */
@@ -662,8 +689,9 @@ int LLVMFuzzerTestOneInput(const uint8_t *input, size_t len) {
     at_front = said[6] & 1;
     a.ppem = said[4] & 1 ? sizes[said[4] >> 1 & 15] : (uint16_t)(1 + said[4] % 40);
     a.mode = closed[said[5] >> 1 & 3] | (said[5] & 1 ? MKSTRIKE_HINTED : 0);
-    if (said[5] > 250) a.mode |= (UINT32_C(2) << draw(30)) & ~MKSTRIKE_PACKED;
+    if (said[5] > 250) a.mode |= (UINT32_C(2) << draw(30)) & ~(MKSTRIKE_PACKED | MKSTRIKE_X11);
     a.packed = said[6] & 2 ? MKSTRIKE_PACKED : 0;
+    a.x11 = said[6] & 16 ? MKSTRIKE_X11 : 0;
     a.face = said[22] % 8 == 0 ? said[22] / 8 : 0;
     a.chars_len = said[7] % MOST;
     chars = block_of(a.chars_len * sizeof(uint32_t), 4, said[6] & 4);
@@ -680,6 +708,7 @@ int LLVMFuzzerTestOneInput(const uint8_t *input, size_t len) {
     status = mkstrike_font(a.font, a.font_len, a.face, a.ppem, &info, &why);
     status = ended(status, status != 0);
     look(requests == 0, "a font's heights take memory");
+    characters(&a);
     strike(&a, &info, status);
     many(&a);
     for (i = 0; i < 3; i++) outline(&a, draw(8) ? draw(12) : draw(70000));

@@ -131,6 +131,7 @@ def module_of(name, code):
             file.write(code)
         run([clang, TARGET[0], "-Wno-override-module", "-x", "ir", "module.bc", "-O0", "-S", "-emit-llvm", "-o", "module.ll"], room)
         text = FOREIGN.sub("", prebuilt.read(os.path.join(room, "module.ll")).decode("latin-1"))
+        text = text.replace("@proved_mkstrike_", "@mkstrike_")  # the script hands over addresses alone, and needs no c/calls.c
         with open(os.path.join(room, "module.ll"), "w", encoding="latin-1") as file:
             file.write(text)
         compile_beside(room)

@@ -8,6 +8,7 @@
  *     check_c outline FONT PPEM MODE GLYPH          an outline, as `mkstrike outline` writes it
  *     check_c requests FONT                         requests of many characters that are refused before the font is opened
  *     check_c calls FONT                            the other calls, what they refuse, unknown bits of modes, and NULL
+ *     check_c characters FONT                       how many faces the file has, and the characters of the first, one a line
  *     check_c threads FONT                          eight threads at once
  *     check_c stack FONT KIB                        in a thread with a stack of that many KiB
  *     check_c reasons                               the name of each number */
@@ -32,14 +33,15 @@ struct request {
     size_t block_len;
 };
 
-/* A mode by the names of the header. Its letters are h for hinted, and d, n or f for drop-out control: by left pixels, by the nearer
-   ones, and as the font asks. */
+/* A mode by the names of the header. Its letters are h for hinted; d, n or f for drop-out control: by left pixels, by the nearer
+   ones, and as the font asks; and x for the properties of X11. */
 static uint32_t mode_of(const char *letters) {
     uint32_t mode = 0;
     for (; *letters != 0; letters++)
         mode |= *letters == 'h'   ? MKSTRIKE_HINTED
                 : *letters == 'd' ? MKSTRIKE_DROPOUT
                 : *letters == 'n' ? MKSTRIKE_DROPOUT_NEAR
+                : *letters == 'x' ? MKSTRIKE_X11
                                   : MKSTRIKE_DROPOUT_FONT;
     return mode;
 }
@@ -469,7 +471,7 @@ static void modes(const struct request *r) {
     for (bit = 2; bit < 32; bit++)
         for (call = 0; call < 5; call++) {
             uint32_t mode = (UINT32_C(1) << bit) | (uint32_t)(bit & 3), status;
-            if (mode >> 8 == 1 && call != 0) continue; /* packed */
+            if ((mode >> 8 == 1 && call != 0) || (mode >> 9 == 1 && call == 0)) continue; /* packed, and for X11 */
             memset(&refused, 7, sizeof refused);
             if (call == 0) status = mkstrike_make(r->font, 0, 0, 0, mode, NULL, 0, NULL, 0, NULL, 0, NULL, &refused);
             else if (call == 1) status = mkstrike_glyph(r->font, 0, 0, 0, mode, 0xFFFFFFFF, NULL, 0, NULL, &refused);
@@ -525,7 +527,38 @@ static void font_told(const struct request *r) {
     if (mkstrike_font(r->font, r->font_len, 1, 16, &info, &refused) != MKSTRIKE_NO_FACE) stop("a second font");
 }
 
-/* NULL for each buffer of nothing, and for each struct. */
+/* The faces of a file and the characters of its first font, in buffers that are large enough, too small and none. */
+static int characters(const struct request *r) {
+    uint32_t faces, *all, *some;
+    size_t count = 7, again, room, i;
+    struct mkstrike_refused refused;
+    if (mkstrike_faces(r->font, r->font_len, &faces, &refused) != 0) {
+        put_refusal(&refused);
+        return 1;
+    }
+    printf("faces %u\n", (unsigned)faces);
+    if (mkstrike_characters(r->font, r->font_len, 0, NULL, 0, &count, &refused) != 0) {
+        if (count != 7) stop("a refusal changed the count");
+        put_refusal(&refused);
+        return 1;
+    }
+    all = (uint32_t *)bytes((count + 1) * sizeof *all);
+    some = (uint32_t *)bytes((count + 1) * sizeof *some);
+    all[count] = 7;
+    if (mkstrike_characters(r->font, r->font_len, 0, all, count + 1, &again, NULL) != 0 || again != count || all[count] != 7)
+        stop("other characters with room for them");
+    for (room = 0; room < count; room += 1 + count / 7) {
+        some[room] = 7;
+        if (mkstrike_characters(r->font, r->font_len, 0, some, room, NULL, NULL) != 0) stop("no characters in a small buffer");
+        if (memcmp(some, all, room * sizeof *some) != 0 || some[room] != 7) stop("other characters in a small buffer");
+    }
+    for (i = 0; i < count; i++) printf("%lX\n", (unsigned long)all[i]);
+    free(all);
+    free(some);
+    return 0;
+}
+
+/* NULL for each buffer and for each struct, whatever its count. */
 static void nulls(const struct request *r) {
     struct mkstrike_glyph_info g;
     struct mkstrike_drawn drawn;
@@ -550,6 +583,11 @@ static void nulls(const struct request *r) {
     if (mkstrike_make(r->font, r->font_len, 0, 16, 0, &none, 0, NULL, 0, NULL, 0, NULL, NULL) != MKSTRIKE_BAD_NAME)
         stop("NULL, mkstrike_make");
     if (mkstrike_make(r->font, r->font_len, 0, 16, 0, NULL, 0, "a", 1, NULL, 0, NULL, NULL) != 0) stop("NULL, mkstrike_make");
+    if (mkstrike_make(r->font, r->font_len, 0, 16, 0, NULL, 9, "a", 1, NULL, 9, &told, NULL) != 0 || told.glyphs + told.missing != 0)
+        stop("NULL and a count, mkstrike_make");
+    if (mkstrike_glyph(NULL, 9, 0, 16, 0, code, NULL, 9, NULL, NULL) != MKSTRIKE_NOT_TRUE_TYPE) stop("NULL and a count, mkstrike_glyph");
+    if (mkstrike_characters(r->font, r->font_len, 0, NULL, 9, NULL, NULL) != 0) stop("NULL and a count, mkstrike_characters");
+    if (mkstrike_faces(r->font, r->font_len, NULL, NULL) != 0) stop("NULL, mkstrike_faces");
 }
 
 static int calls(const struct request *r) {
@@ -649,6 +687,10 @@ int main(int argc, char **argv) {
     if (argc == 3 && strcmp(mode, "calls") == 0) {
         shared = request_of(argv[2], 16, 0, 0x20, 0x20);
         return calls(&shared);
+    }
+    if (argc == 3 && strcmp(mode, "characters") == 0) {
+        shared = request_of(argv[2], 16, 0, 0x20, 0x20);
+        return characters(&shared);
     }
     if (argc == 3 && strcmp(mode, "threads") == 0) {
         shared = request_of(argv[2], 16, MKSTRIKE_HINTED, 0x20, 0x7E);

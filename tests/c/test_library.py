@@ -27,24 +27,29 @@ import stack
 from damage import Damaged
 from due import own_lines
 from made import Empty, Font, Simple
+from making import charmaps
+from making.collection import Collection
 from needs import REAL, left_out, real_font, tool
 from prebuilt import TOP
 
 HERE = os.path.dirname(__file__)
 CRATE = os.path.join(TOP, "crates/mkstrike_c")
 C = ["-O2", "-Wall", "-Wextra", "-Werror", "-I" + os.path.join(TOP, "include"), "-I" + os.path.join(TOP, "c")]
-CALLER = ["-std=gnu99", "-DALONE", *C, os.path.join(TOP, "tools/fuzz_c.c")]  # what looks at the calls of an input
+BESIDE = [os.path.join(TOP, "c/calls.c"), os.path.join(TOP, "c/heap.c")]  # what a program links beside the archive
+CALLER = ["-std=gnu99", "-DALONE", *C, os.path.join(TOP, "tools/fuzz_c.c"), BESIDE[0]]  # what looks at the calls of an input
 C99, CPP = ["cc", "-std=c99"], ["c++", "-x", "c++", "-std=c++11"]
 ARM_CC, ARM_RUN = ["aarch64-linux-gnu-gcc"], "qemu-aarch64"
 CALLS = {"mkstrike_make", "mkstrike_glyph", "mkstrike_glyph_by_id", "mkstrike_outline", "mkstrike_glyphs", "mkstrike_glyph_ids", "mkstrike_font",
+         "mkstrike_faces", "mkstrike_characters",
          "mkstrike_prepare", "mkstrike_glyph_prepared", "mkstrike_glyph_by_id_prepared", "mkstrike_glyphs_prepared", "mkstrike_reason",
          "mkstrike_advice", "mkstrike_version"}
+PROVED = {"proved_" + it for it in CALLS}  # those of the archive
 NEEDS = {"memcpy", "memmove", "memset", "__udivti3", "rattle_alloc", "rattle_realloc", "rattle_dealloc"}
 DAMAGED, SEED, LONG = 150, 41, os.environ.get("MKSTRIKE_LONG")
 SECONDS = 180  # that `rt lib` may take
 STACK = 25 << 9  # bytes that docs/LIBRARY.md promises to be enough for a call, beside those of memcpy and malloc
 # A mode is the letters of its bits, which check_c.c takes by the names of include/mkstrike.h.
-HINTED, DROPOUT, NEAR, ASKED = "h", "d", "n", "f"
+HINTED, DROPOUT, NEAR, ASKED, X11 = "h", "d", "n", "f", "x"
 MODES = [hinted + closed for closed in ("", DROPOUT, NEAR, ASKED) for hinted in ("", HINTED)]
 
 
@@ -64,7 +69,7 @@ def run(words, data=None, status=0, **more):
 def flags(mode):
     """The flags of mkstrike for a mode of the library."""
     closed = ["--dropout"] if DROPOUT in mode else ["--dropout=near"] if NEAR in mode else ["--dropout=font"] if ASKED in mode else []
-    return ([] if HINTED in mode else ["--unhinted"]) + closed
+    return ([] if HINTED in mode else ["--unhinted"]) + closed + (["--x11"] if X11 in mode else [])
 
 
 class Library:
@@ -92,7 +97,7 @@ class Library:
 
     def build(self):
         """Builds all programs, and checks that they compile as C++ too."""
-        sources = ("c/heap.c", "c/arena.c", "examples/show.c", "examples/console.c", "tests/c/check_c.c", "tests/c/check_c_arena.c",
+        sources = ("c/calls.c", "c/heap.c", "c/arena.c", "examples/show.c", "examples/console.c", "tests/c/check_c.c", "tests/c/check_c_arena.c",
                    "tests/c/check_c_heap.c")
         for source in sources:
             name = os.path.basename(source)[:-2] + ".o"
@@ -100,9 +105,9 @@ class Library:
         if shutil.which("c++"):
             for source in sources:
                 self.compile(CPP, source, os.path.basename(source)[:-2] + "++.o")
-            run(["c++", self.at("show++.o"), self.at("heap++.o"), self.archive, "-o", self.at("show++")])
+            run(["c++", *map(self.at, ("show++.o", "calls++.o", "heap++.o")), self.archive, "-o", self.at("show++")])
         for name, other in (("show", "heap.o"), ("console", "arena.o"), ("check_c", "heap.o")):
-            run(["cc", "-pthread", self.at(name + ".o"), self.at(other), self.archive, "-o", self.at(name)])
+            run(["cc", "-pthread", *map(self.at, (name + ".o", "calls.o", other)), self.archive, "-o", self.at(name)])
         run(["cc", *CALLER, self.archive, "-o", self.at("caller")])
 
     def make(self, font, ppem, mode, first, last, status=0):
@@ -172,6 +177,14 @@ class Library:
             raise Wrong("90 in place of a strike only %d times: does the library take its memory another way?" % told.count(1))
         return len(told)
 
+    def linked(self, name):
+        """A file of those that packaging/link makes."""
+        folder = self.at("linked")
+        if not os.path.exists(folder):
+            os.mkdir(folder)
+            run([os.path.join(TOP, "packaging/link"), folder, self.archive])
+        return glob.glob(os.path.join(folder, name))[0]
+
     def picture(self, font, ppem, character):
         """The picture of a character that mkstrike shows."""
         with open(font, "rb") as file:
@@ -225,7 +238,7 @@ def test_symbols(lib):
     lines = run(["nm", "-g", lib.archive]).stdout.decode().splitlines()
     defined = {it.split()[2] for it in lines if re.match(r"[0-9a-f]+ [A-Z] ", it)}
     needed = {it.split()[1] for it in lines if re.match(r" +U ", it)}
-    if not CALLS <= defined or {it for it in defined - CALLS if not it.startswith("_R")} or needed - NEEDS:
+    if not PROVED <= defined or {it for it in defined - PROVED if not it.startswith("_R")} or needed - NEEDS:
         raise Wrong("the archive defines %s and needs %s" % (sorted(defined), sorted(needed)))
     sections = run(["size", "-A", lib.archive]).stdout.decode().split("\n")
     state = [it for it in sections if re.match(r"\.t?(data|bss)(?!\.rel\.ro)\S* +[1-9]", it)]
@@ -258,7 +271,7 @@ def test_strikes(lib):
             lib.same(font, ppem, HINTED, 0, 0xFFFF, status=None)
             for mode, first, last in ((HINTED, 0x20, 0x17F), (HINTED, 0x251, 0xFFFF), ("", 0, 0xFFFF), ("", 0x10000, 0x1FFFF),
                                       (DROPOUT, 0x20, 0x17F), (HINTED + DROPOUT, 0x20, 0x17F), (HINTED + NEAR, 0x20, 0x17F),
-                                      (ASKED, 0x20, 0x17F), (HINTED + ASKED, 0x20, 0x17F)):
+                                      (ASKED, 0x20, 0x17F), (HINTED + ASKED, 0x20, 0x17F), (X11, 0x20, 0x7E), (HINTED + X11, 0x20, 0x17F)):
                 lib.same(font, ppem, mode, first, last)
 
 
@@ -328,6 +341,54 @@ def test_calls(lib):
             raise Wrong("%s is told to be %s" % (os.path.basename(font), told))
 
 
+def test_characters(lib):
+    """The faces of files and the characters of fonts, worked out by hand, and those of damaged fonts as the program has them."""
+    glyphs, path = [b"", fonts.simple([[(0, 0, 1), (90, 0, 1), (90, 90, 1)]])], lib.at("characters.ttf")
+    whole = [(at, min(at + 0xFFFE, 0x10FFFF), 1) for at in range(0, 0x110000, 0xFFFF)]  # glyphs 1 to 65,535, 18 times
+    for cmap, due in (
+            (fonts.map_of([(0x41, 1), (0x42, 1), (0x3042, 1)]), [0x41, 0x42, 0x3042]),  # and U+FFFF, whose glyph is 0
+            (fonts.map_of([(0x41, 0)]), []),
+            (fonts.wide_map_of([(0, 1), (0x10FFFF, 1)]), [0, 0x10FFFF]),
+            (charmaps.table((3, 10, charmaps.groups([(0x10FFFF, 0x110001, 1)]))), [0x10FFFF]),
+            (charmaps.table((3, 10, charmaps.groups([(0x41, 0x43, 65535)]))), [0x41]),  # the next numbers are no glyphs
+            (fonts.map_to_one(9), range(0x10000)),
+            (charmaps.table((3, 10, charmaps.groups(whole))), range(0x110000))):
+        with open(path, "wb") as file:
+            file.write(fonts.font_of(glyphs, cmap))
+        if run([lib.at("check_c"), "characters", path]).stdout != b"faces 1\n" + b"".join(b"%X\n" % it for it in due):
+            raise Wrong("other characters, and %r are due" % (due,))
+    made = Font([Empty(), Simple([(0, 0, 90, 90)])], {0x41: 1})
+    for file_of, status, due in ((Collection("", [made] * 3).bytes(), 0, b"faces 3\n41\n"), (Collection("", [], count=0).bytes(), 1, b"faces 0\n"),
+                                 (Collection("", [made], count=2, size=19).bytes(), 1, b""), (b"ttcf", 1, b""), (b"", 1, b"faces 1\n")):
+        with open(path, "wb") as file:
+            file.write(file_of)
+        done = run([lib.at("check_c"), "characters", path], status=status)
+        if done.stdout != due or status and done.stderr != b"mkstrike: %s\n" % (b"25 NoFace" if due == b"faces 0\n" else b"10 NotTrueType"):
+            raise Wrong("other faces: %r %r, and %r are due" % (done.stdout, done.stderr, due))
+    for path, _, _ in lib.each_damaged():
+        done = run([lib.at("check_c"), "characters", path], status=None)
+        with open(path, "rb") as file:
+            made = run([lib.program, "make", "--ppem", "8", "--all", "--unhinted", "--refused", "leave-out"], file.read(), status=None)
+        counted = made.stdout.count(b"STARTCHAR") + made.stderr.count(b"left out U+")
+        if done.stderr != own_lines(made.stderr) if done.returncode else len(done.stdout.split()) - 2 != counted:
+            raise Wrong("the characters of a damaged font: %r" % done.stderr)
+
+
+def test_null_at_symbols(lib):
+    """NULL that reaches the symbols of the shared object: each pointer is NULL, whatever is said of its elements."""
+    with open(os.path.join(TOP, "include/mkstrike.h"), encoding="utf-8") as file:
+        calls = dict(re.findall(r"^\w+ (mkstrike_\w+)\(([^)]*)\);", file.read(), re.M))
+    assert set(calls) == CALLS
+    due = {"mkstrike_reason": 13, "mkstrike_advice": 18, "mkstrike_faces": 0, "mkstrike_make": 62}  # of 52, GlyphTooLarge, how long; a name is missing
+    numbers = {"number": 52, "ppem": 16, "len": 9}
+    for name, taken in calls.items():
+        values = ["None" if "*" in it else "ctypes.c_size_t(%d)" % numbers.get(re.split("[ _]", it)[-1], 0) for it in taken.split(",")]
+        script = "import ctypes, sys; print(ctypes.CDLL(sys.argv[1]).%s(%s))" % (name, ", ".join(values))
+        if "*" in taken:
+            told = int(run([sys.executable, "-c", script, lib.linked("*.so.*")]).stdout)
+            assert told == due.get(name, 65 if name.endswith("_prepared") else 10), name
+
+
 def test_inputs(lib):
     """What tools/fuzz_c.c looks at, of parts of real fonts in each mode, of whole ones, with MKSTRIKE_LONG of all that are installed, and of
     damaged ones."""
@@ -349,10 +410,10 @@ def test_threads(lib):
 
 
 def test_stack(lib):
-    """The frames of the archive, added up: no call takes more stack than is promised."""
+    """The frames of the library, added up: no call takes more stack than is promised."""
     tool("objdump")
     try:
-        bounds = stack.bounds(lib.archive, sorted(CALLS))
+        bounds = stack.bounds(lib.linked("*.a"), sorted(CALLS))
     except stack.Fault as fault:
         raise Wrong("the stack has no bound: %s" % fault)
     most = max(bounds, key=bounds.get)
@@ -371,7 +432,7 @@ def sanitized(words, out):
 def test_under_address_sanitizer(lib):
     """Strikes and glyphs in buffers of just the size that is needed."""
     font = lib.part("DejaVuSans.ttf", range(0x20, 0x7F))
-    sanitized(["-pthread", os.path.join(HERE, "check_c.c"), os.path.join(TOP, "c/heap.c"), lib.archive], lib.at("check_asan"))
+    sanitized(["-pthread", os.path.join(HERE, "check_c.c"), *BESIDE, lib.archive], lib.at("check_asan"))
     lib.same(font, 16, HINTED, 0x20, 0x7E, "check_asan")
     run([lib.at("check_asan"), "many", font, "16", HINTED, "20", "7e"])
 
@@ -412,7 +473,7 @@ def test_heap(lib):
     font = lib.part("DejaVuSans.ttf", range(0x20, 0x7F))
     lib.same(lib.large_strike(), 1024, "", 0x41, 0x41)
     library = lib.at("refuse.so")
-    run(["cc", "-O2", "-shared", "-fPIC", "-o", library, os.path.join(HERE, "../program/refuse_memory.c")])
+    run(["cc", "-O2", "-shared", "-fPIC", "-o", library, os.path.join(HERE, "../program/memory.c")])
     for mode in (HINTED, DROPOUT):
         for on in (0, 1):
             lib.refuse_each(library, font, mode, on)
@@ -425,7 +486,7 @@ def test_arm(lib):
         pytest.skip("no %s: tools/make_dist --arm makes it" % prebuilt.shown(archive))
     tool(ARM_CC[0])
     tool(ARM_RUN)
-    words = [os.path.join(HERE, "check_c.c"), os.path.join(TOP, "c/heap.c"), archive]
+    words = [os.path.join(HERE, "check_c.c"), *BESIDE, archive]
     run(ARM_CC + C + ["-std=c99", "-static", "-pthread"] + words + ["-o", lib.at("check_c_arm")])
     program = [ARM_RUN, lib.at("check_c_arm")]
     for font in lib.real:
@@ -499,7 +560,7 @@ def test_commands_of_examples(lib):
         shutil.copytree(os.path.join(TOP, name), os.path.join(folder, name))
     os.makedirs(os.path.join(folder, "dist"))
     shutil.copyfile(lib.archive, os.path.join(folder, "dist/libmkstrike_c.a"))
-    for line in ("cc -O2 -fPIC -c c/heap.c", "cp dist/libmkstrike_c.a libmkstrike.a", "ar rs libmkstrike.a heap.o"):
+    for line in ("cc -O2 -fPIC -Iinclude -c c/calls.c c/heap.c", "cp dist/libmkstrike_c.a libmkstrike.a", "ar rs libmkstrike.a calls.o heap.o"):
         run(line.split(), cwd=folder)
     run([os.path.join(TOP, "packaging/link"), folder, lib.archive])
     soname, = (os.path.basename(it) for it in glob.glob(os.path.join(folder, "*.so.*")))
@@ -540,6 +601,6 @@ def test_bare(lib):
     font = lib.part("DejaVuSans.ttf", range(0x20, 0x7F))
     bare = ["cc", "-std=gnu99", "-O2", "-Wall", "-Wextra", "-Werror", "-ffreestanding", "-fno-stack-protector", "-nostdlib", "-static",
             "-DMKSTRIKE_BARE", '-DFONT="%s"' % font] + C[4:]
-    run(bare + [os.path.join(HERE, "check_c_bare.c"), os.path.join(TOP, "c/arena.c"), lib.archive, "-lgcc", "-o", lib.at("bare")])
+    run(bare + [os.path.join(HERE, "check_c_bare.c"), BESIDE[0], os.path.join(TOP, "c/arena.c"), lib.archive, "-lgcc", "-o", lib.at("bare")])
     if run([lib.at("bare")]).stdout != lib.make(font, 16, HINTED, 0x20, 0x7E)[1]:
         raise Wrong("another strike without a C library")

@@ -1,5 +1,5 @@
 -- What becomes of many characters, one after the other, as much of it as there is room for.
--- Serves `size`, `push_within`, `append_within`, `Gathered::new`, `Gathered::add`, `gather`, `gathered_of`, `mkstrike_glyphs`.
+-- Serves `size`, `push_within`, `append_within`, `Gathered`, `gather`, `gathered_of`, `proved_mkstrike_glyphs`.
 use Rattle.std.proofs.Common.{◌≡◌, refl, sym, ap, ◌∙◌, subst, arith, true≢false, ℕ, zero, suc, ◌+◌, ◌*◌, ◌<◌, ◌≤◌}
 use Rattle.std.proofs.Common.{Bool, true, false}
 use Rattle.std.proofs.Common.{List, [], ◌∷◌, ◌++◌, length, take, get_or, length-append, add-zero, zero-add}

@@ -23,7 +23,8 @@ use Rattle.fx_strike.specs.declared.opened.Opened.{Opened}
 use Rattle.fx_strike.specs.Title.{Title}
 use Rattle.fx_strike.specs.Strike.{Opening, Plan, checked_chars, checked_properties, checked_text, checked_title, font_with_map}
 use Rattle.fx_strike.specs.Strike.{opened_after, opened_of, plan_in, plan_of}
-use Rattle.mkstrike_c.specs.Made.{AreNamesAlike, plain}
+use Rattle.mkstrike_c.specs.Made.{AreNamesAlike, called}
+use Rattle.mkstrike_c.specs.Modes.{is_x11, mode_of}
 
 -- ---- a name that is none
 
@@ -69,30 +70,46 @@ stopped (Ok size) (Ok u) f g h = refl
 stopped (Ok size) (Err e) f g h = refl
 stopped (Err e) k f g h = refl
 
-none_checked : (a chars : List ℕ) → is_name a ≡ false → checked_text (plain a) chars ≡ (checked_chars chars >>= λ _. Err BadName)
+none_checked : (k : ℕ) (a chars : List ℕ) → is_name a ≡ false
+    → checked_text (called k a) chars ≡ (checked_chars chars >>= λ _. Err BadName)
 unfolding checked_text checked_title checked_properties first_bad_after
-none_checked a chars p = unnamed (checked_chars chars) (is_name a) p
+none_checked k a chars p = unnamed (checked_chars chars) (is_name a) p
 
-none_opened : (file : FontFileView) (ppem : ℕ) (a chars : List ℕ) → is_name a ≡ false
-    → opened_of file ppem (plain a) chars ≡ opened_after ppem (checked_chars chars >>= λ _. Err BadName) file
-none_opened file ppem a chars p =
-    ap (λ (k : Result (Unit {0}) Refusal). opened_after ppem k file) (none_checked a chars p)
+none_opened : (file : FontFileView) (ppem k : ℕ) (a chars : List ℕ) → is_name a ≡ false
+    → opened_of file ppem (called k a) chars ≡ opened_after ppem (checked_chars chars >>= λ _. Err BadName) file
+none_opened file ppem k a chars p =
+    ap (λ (k : Result (Unit {0}) Refusal). opened_after ppem k file) (none_checked k a chars p)
 
-pub same_opened : (file : FontFileView) (ppem : ℕ) (a b chars : List ℕ) → AreNamesAlike a b
-    → opened_of file ppem (plain b) chars ≡ opened_of file ppem (plain a) chars
-same_opened file ppem a b chars (inl same) = ap (λ (n : List ℕ). opened_of file ppem (plain n) chars) same
-same_opened file ppem a b chars (inr none) =
-    none_opened file ppem b chars none.1 ∙ sym (none_opened file ppem a chars none.0)
+pub same_opened : (file : FontFileView) (ppem k : ℕ) (a b chars : List ℕ) → AreNamesAlike a b
+    → opened_of file ppem (called k b) chars ≡ opened_of file ppem (called k a) chars
+same_opened file ppem k a b chars (inl same) = ap (λ (n : List ℕ). opened_of file ppem (called k n) chars) same
+same_opened file ppem k a b chars (inr none) =
+    none_opened file ppem k b chars none.1 ∙ sym (none_opened file ppem k a chars none.0)
 
-pub same_plan : (file : FontFileView) (ppem : ℕ) (a b chars : List ℕ) (mode : Mode) → AreNamesAlike a b
-    → plan_of file ppem (plain b) chars mode Stop ≡ plan_of file ppem (plain a) chars mode Stop
+pub same_plan : (file : FontFileView) (ppem k : ℕ) (a b chars : List ℕ) (mode : Mode) → AreNamesAlike a b
+    → plan_of file ppem (called k b) chars mode Stop ≡ plan_of file ppem (called k a) chars mode Stop
 unfolding opened_after plan_of
-same_plan file ppem a b chars mode (inl same) = ap (λ (n : List ℕ). plan_of file ppem (plain n) chars mode Stop) same
-same_plan file ppem a b chars mode (inr none) =
-    ap (λ (o : Opening). o >>= λ o. plan_in o (plain b) chars mode Stop) (none_opened file ppem b chars none.1)
-    ∙ stopped (wanted (ppem_of ppem) BadSize) (checked_chars chars) (font_with_map file) (λ o. plan_in o (plain b) chars mode Stop)
-    (λ o. plan_in o (plain a) chars mode Stop)
-    ∙ sym (ap (λ (o : Opening). o >>= λ o. plan_in o (plain a) chars mode Stop) (none_opened file ppem a chars none.0))
+same_plan file ppem k a b chars mode (inl same) = ap (λ (n : List ℕ). plan_of file ppem (called k n) chars mode Stop) same
+same_plan file ppem k a b chars mode (inr none) =
+    ap (λ (o : Opening). o >>= λ o. plan_in o (called k b) chars mode Stop) (none_opened file ppem k b chars none.1)
+    ∙ stopped (wanted (ppem_of ppem) BadSize) (checked_chars chars) (font_with_map file)
+    (λ o. plan_in o (called k b) chars mode Stop) (λ o. plan_in o (called k a) chars mode Stop)
+    ∙ sym (ap (λ (o : Opening). o >>= λ o. plan_in o (called k a) chars mode Stop) (none_opened file ppem k a chars none.0))
+
+-- ---- a number that says how
+
+-- a title and a mode made of a number's parts are those that it says
+pub asked_opened : (file : FontFileView) (ppem k : ℕ) (a chars : List ℕ) (x : Bool) → x ≡ is_x11 k
+    → opened_of file ppem (record { name = a; properties = []; x11 = x }) chars ≡ opened_of file ppem (called k a) chars
+asked_opened file ppem k a chars x e =
+    ap (λ (x : Bool). opened_of file ppem (record { name = a; properties = []; x11 = x }) chars) e
+
+pub asked_plan : (file : FontFileView) (ppem k : ℕ) (a chars : List ℕ) (x : Bool) (m : Mode) → x ≡ is_x11 k → m ≡ mode_of k
+    → plan_of file ppem (record { name = a; properties = []; x11 = x }) chars m Stop
+    ≡ plan_of file ppem (called k a) chars (mode_of k) Stop
+asked_plan file ppem k a chars x m e f =
+    ap (λ (x : Bool). plan_of file ppem (record { name = a; properties = []; x11 = x }) chars m Stop) e
+    ∙ ap (λ (m : Mode). plan_of file ppem (called k a) chars m Stop) f
 
 -- ---- a strike's opening
 

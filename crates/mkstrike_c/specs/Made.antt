@@ -8,6 +8,7 @@ use Rattle.fx_strike.specs.Title.{Title}
 use Rattle.fx_strike.specs.Strike.{Plan, AreGlyphsOf, strike_text}
 use Rattle.fx_strike.specs.Headline.{IsReportOf}
 use Rattle.mkstrike_c.specs.declared.making.Told.{Told}
+use Rattle.mkstrike_c.specs.Modes.{is_x11}
 
 -- the strike exists, and this is its text
 pub record IsTextOf (strike : Result Plan Refusal) (text : List ℕ) (report : Report) : Type 0 where
@@ -26,9 +27,9 @@ HoldsText strike held report = (text : List ℕ) × (held ≡ Some text) × IsTe
 abbrev pub AreNamesAlike : List ℕ → List ℕ → Type 0
 AreNamesAlike a b = (b ≡ a) ⊎ ((is_name a ≡ false) × (is_name b ≡ false))
 
--- what a strike of C is called: it has no properties beside FONT_ASCENT and FONT_DESCENT
-abbrev pub plain : List ℕ → Title
-plain name = record { name = name; properties = []; x11 = false }
+-- what a strike of C is called: it has no properties beside FONT_ASCENT and FONT_DESCENT, and those of X11 if the mode says so
+abbrev pub called : ℕ → List ℕ → Title
+called mode name = record { name = name; properties = []; x11 = is_x11 mode }
 
 -- what C is told of a strike
 abbrev pub told_of : List ℕ → Report → Told

@@ -134,7 +134,7 @@ fn block_of(
 /// Opens a font at a size and puts a block of it at the front of `block`, as many words of it as fit, and tells how many it has.
 /// Returns 0; or the number of a refusal, whose fields it puts into `refused`.
 #[unsafe(no_mangle)]
-pub extern "C" fn mkstrike_prepare(
+pub extern "C" fn proved_mkstrike_prepare(
     alloc: Global,
     font: &[u8],
     face: u32,

@@ -1,12 +1,14 @@
 //! A font at a size, for C.
 ghost use Rattle.std.specs.Prelude.{◌≡◌, ◌<◌, Ok};
-ghost use Rattle.fx_fixed.specs.Chain.{map_ok};
-ghost use Rattle.fx_sfnt.specs.Collections.{face_in};
+ghost use Rattle.fx_fixed.specs.Chain.{map_fault, map_ok};
+ghost use Rattle.fx_request.specs.Faults.{of_font};
+ghost use Rattle.fx_sfnt.specs.Collections.{face_count_of, face_in};
 ghost use Rattle.fx_strike.specs.Numbers.{font_metrics_of};
 ghost use Rattle.mkstrike_c.specs.Fonts.{font_info_of};
 ghost use Rattle.mkstrike_c.specs.Refused.{IsNamed};
 
 use crate::refused::{Refused, refuse};
+use fx_request::Refusal;
 use fx_sfnt::FontFile;
 use fx_strike::{FontMetrics, font_metrics};
 
@@ -37,7 +39,7 @@ fn font_info_of(metrics: FontMetrics) -> FontInfo
 
 /// Tells about a font at a size. Returns 0; or the number of a refusal, whose fields it puts into `refused`. It takes no memory.
 #[unsafe(no_mangle)]
-pub extern "C" fn mkstrike_font(
+pub extern "C" fn proved_mkstrike_font(
     font: &[u8],
     face: u32,
     ppem: u16,
@@ -58,5 +60,25 @@ pub extern "C" fn mkstrike_font(
             0
         }
         Err(refusal) => refuse(refusal, refused),
+    }
+}
+
+/// Tells how many faces a file has. Returns 0; or the number of a refusal, whose fields it puts into `refused`. It takes no memory.
+#[unsafe(no_mangle)]
+pub extern "C" fn proved_mkstrike_faces(font: &[u8], faces: &mut u32, refused: &mut Refused) -> u32
+    // This is how many faces the file has.
+    ensures faces { result ≡ 0 → face_count_of font.now ≡ Ok faces.new }
+    // The cause was named.
+    ensures refused { 0 < result → IsNamed (map_fault of_font (face_count_of font.now)) result refused.new }
+    // Nothing but what was named is written.
+    ensures kept { 0 < result → faces.new ≡ faces.old }
+    ensures silent { result ≡ 0 → refused.new ≡ refused.old }
+{
+    match FontFile::of(font).face_count() {
+        Ok(count) => {
+            *faces = count;
+            0
+        }
+        Err(fault) => refuse(Refusal::from(fault), refused),
     }
 }

@@ -111,7 +111,7 @@ pub fn tell(
 /// row from the top: a byte each, or packed, eight a byte. Returns 0; 1 if the font does not have the character; or the number of
 /// a refusal, whose fields it puts into `refused`.
 #[unsafe(no_mangle)]
-pub extern "C" fn mkstrike_glyph(
+pub extern "C" fn proved_mkstrike_glyph(
     alloc: Global,
     font: &[u8],
     face: u32,
@@ -169,7 +169,7 @@ fn found_by_id(
 
 /// Makes a glyph of a font by its number, as `mkstrike_glyph` makes that of a character.
 #[unsafe(no_mangle)]
-pub extern "C" fn mkstrike_glyph_by_id(
+pub extern "C" fn proved_mkstrike_glyph_by_id(
     alloc: Global,
     font: &[u8],
     face: u32,

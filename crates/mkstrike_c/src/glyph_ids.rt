@@ -26,7 +26,7 @@ fn put_ids(char_map: &CharMap<'_>, chars: &[u32], glyphs: &mut [u16])
 /// Tells the numbers of the glyphs of characters, in their order, 0 for one that the font does not have: as many of them as fit, at
 /// the front of `glyphs`. Returns 0; or the number of a refusal, whose fields it puts into `refused`. It takes no memory.
 #[unsafe(no_mangle)]
-pub extern "C" fn mkstrike_glyph_ids(
+pub extern "C" fn proved_mkstrike_glyph_ids(
     font: &[u8],
     face: u32,
     chars: &[u32],

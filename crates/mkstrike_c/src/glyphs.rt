@@ -115,7 +115,7 @@ pub fn tell(
 /// `refused` has the fields of the first one. Returns 0; or, if nothing can be made, the number of a refusal, whose fields it puts
 /// into `refused`.
 #[unsafe(no_mangle)]
-pub extern "C" fn mkstrike_glyphs(
+pub extern "C" fn proved_mkstrike_glyphs(
     alloc: Global,
     font: &[u8],
     face: u32,

@@ -3,16 +3,16 @@ ghost use Rattle.std.specs.Prelude.{◌≡◌, ◌<◌, ◌≤◌, true, IfOk, I
 ghost use Rattle.fx_sfnt.specs.Collections.{face_in};
 ghost use Rattle.fx_strike.specs.Strike.{opened_of, plan_of};
 ghost use Rattle.fx_strike.specs.Headline.{opening_of, strike_of};
-ghost use Rattle.mkstrike_c.specs.Made.{AreNamesAlike, HoldsText, IsMade, plain, told_of};
+ghost use Rattle.mkstrike_c.specs.Made.{AreNamesAlike, HoldsText, IsMade, called, told_of};
 ghost use Rattle.mkstrike_c.specs.Modes.{is_strike_mode, mode_of};
 ghost use Rattle.mkstrike_c.specs.Refused.{IsReason, IsRefused};
 
 use crate::buffer::put_front;
-use crate::mode::{is_strike_mode, mode_of};
+use crate::mode::{is_strike_mode, is_x11, mode_of};
 use crate::refused::{Refused, refuse, refuse_mode};
 use crate::sink::TextSink;
 use fx_fixed::Sink;
-use fx_request::{Mode, OnRefused, Refusal, Report, Request};
+use fx_request::{OnRefused, Refusal, Report, Request};
 use fx_sfnt::FontFile;
 use fx_strike::{Title, make_strike};
 use std::alloc::Global;
@@ -78,24 +78,25 @@ fn text_for<'r>(
     alloc: Global,
     font: &FontFile<'_>,
     ppem: u16,
-    mode: Mode,
+    mode: u32,
     chars: &'r [u32],
     name: &'r [u8],
 ) -> Result<(TextSink, Report), Refusal>
-    ensures text { IfOk result (λ made. HoldsText (plan_of font.now ppem (plain name.now) chars.now mode OnRefused.Stop)
+    ensures text { IfOk result (λ made. HoldsText
+        (plan_of font.now ppem (called mode name.now) chars.now (mode_of mode) OnRefused.Stop)
         (⟦<TextSink as Sink>⟧.held made.0) made.1) }
-    ensures refused { IfErr result (IsReason (opened_of font.now ppem (plain name.now) chars.now)
-        (plan_of font.now ppem (plain name.now) chars.now mode OnRefused.Stop)) }
+    ensures refused { IfErr result (IsReason (opened_of font.now ppem (called mode name.now) chars.now)
+        (plan_of font.now ppem (called mode name.now) chars.now (mode_of mode) OnRefused.Stop)) }
 {
     let request = Request {
         ppem,
         title: Title {
             name: name_of(name),
             properties: &[],
-            x11: false,
+            x11: is_x11(mode),
         },
         chars,
-        mode,
+        mode: mode_of(mode),
         on_refused: OnRefused::Stop,
     };
     text_of(alloc, font, &request)
@@ -104,7 +105,7 @@ fn text_for<'r>(
 /// Makes the strike of a font. Copies as much of its text to the front of `out` as fits, and tells of it; the number of bytes is
 /// that of the whole text. Returns 0; or the number of a refusal, whose fields it puts into `refused`.
 #[unsafe(no_mangle)]
-pub extern "C" fn mkstrike_make(
+pub extern "C" fn proved_mkstrike_make(
     alloc: Global,
     font: &[u8],
     face: u32,
@@ -120,12 +121,13 @@ pub extern "C" fn mkstrike_make(
     ensures known { result ≡ 0 → is_strike_mode mode ≡ true }
     // The strike exists, and as much of its text as fits was copied.
     ensures made { result ≡ 0 → IsMade
-        (plan_of (face_in font.now face) ppem (plain name.now) chars.now (mode_of mode) OnRefused.Stop) out.old out.new told.new }
+        (plan_of (face_in font.now face) ppem (called mode name.now) chars.now (mode_of mode) OnRefused.Stop)
+        out.old out.new told.new }
     // The mode was named; or the first cause; or memory was refused, after the request passed its checks and the font and its map
     // opened.
     ensures refused { 0 < result → IsRefused (is_strike_mode mode)
-        (opened_of (face_in font.now face) ppem (plain name.now) chars.now)
-        (plan_of (face_in font.now face) ppem (plain name.now) chars.now (mode_of mode) OnRefused.Stop) result refused.new }
+        (opened_of (face_in font.now face) ppem (called mode name.now) chars.now)
+        (plan_of (face_in font.now face) ppem (called mode name.now) chars.now (mode_of mode) OnRefused.Stop) result refused.new }
     // A refusal leaves the buffer and what is told as they were, and a strike the refusal's fields.
     ensures kept { 0 < result → (out.new ≡ out.old) × (told.new ≡ told.old) }
     ensures silent { result ≡ 0 → refused.new ≡ refused.old }
@@ -133,14 +135,7 @@ pub extern "C" fn mkstrike_make(
     if !is_strike_mode(mode) {
         return refuse_mode(refused);
     }
-    match text_for(
-        alloc,
-        &FontFile::new(font, face),
-        ppem,
-        mode_of(mode),
-        chars,
-        name,
-    ) {
+    match text_for(alloc, &FontFile::new(font, face), ppem, mode, chars, name) {
         Ok((sink, report)) => {
             put_front(out, sink.text());
             *told = told_of(sink.text(), report);

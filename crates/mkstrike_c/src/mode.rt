@@ -1,6 +1,7 @@
 //! How outlines become pixels, and in which form pixels are told, as C says it.
 ghost use Rattle.std.specs.Prelude.{◌≡◌};
-ghost use Rattle.mkstrike_c.specs.Modes.{dropout_of, is_mode, is_packed, is_strike_mode, mode_of};
+ghost use Rattle.mkstrike_c.specs.Modes.{dropout_of, is_mode, is_outline_mode, is_packed, is_strike_mode, is_x11};
+ghost use Rattle.mkstrike_c.specs.Modes.{mode_of};
 
 use fx_request::{Dropout, Mode};
 
@@ -9,12 +10,19 @@ use fx_request::{Dropout, Mode};
 pub fn is_mode(mode: u32) -> bool
     ensures { result ≡ is_mode mode }
 {
-    mode < 512 && is_strike_mode(mode % 256)
+    mode < 512 && is_outline_mode(mode % 256)
 }
 
-/// Whether a number is a mode for a strike, which has no form of pixels.
+/// Whether a number is a mode for a strike, which has no form of pixels, but may have properties for X11.
 pub fn is_strike_mode(mode: u32) -> bool
     ensures { result ≡ is_strike_mode mode }
+{
+    mode < 1024 && is_outline_mode(mode % 512)
+}
+
+/// Whether no bit is set but those of hinting and drop-out control, and at most one of the latter.
+fn is_outline_mode(mode: u32) -> bool
+    ensures { result ≡ is_outline_mode mode }
 {
     mode < 6 || mode / 2 == 4
 }
@@ -51,4 +59,11 @@ pub fn is_packed(mode: u32) -> bool
     ensures { result ≡ is_packed mode }
 {
     mode / 256 % 2 == 1
+}
+
+/// Whether a strike has the properties that X11 looks for.
+pub fn is_x11(mode: u32) -> bool
+    ensures { result ≡ is_x11 mode }
+{
+    mode / 512 % 2 == 1
 }

@@ -92,7 +92,7 @@ fn outline_by_id(
 /// numbers of its contours' last points as fit at the front of `ends`, and how many there are in all. Returns 0; or the number of a
 /// refusal, whose fields it puts into `refused`.
 #[unsafe(no_mangle)]
-pub extern "C" fn mkstrike_outline(
+pub extern "C" fn proved_mkstrike_outline(
     alloc: Global,
     font: &[u8],
     face: u32,

@@ -51,7 +51,7 @@ fn one_by(
 /// Makes the glyph of one character as `mkstrike_glyph` does, by a block. Returns also 65 if the words are not a block of this
 /// font, face and size, or if it was made hinted and the mode is unhinted, or the other way round.
 #[unsafe(no_mangle)]
-pub extern "C" fn mkstrike_glyph_prepared(
+pub extern "C" fn proved_mkstrike_glyph_prepared(
     alloc: Global,
     font: &[u8],
     face: u32,
@@ -133,7 +133,7 @@ fn numbered_by(
 
 /// Makes a glyph of a font by its number as `mkstrike_glyph_by_id` does, by a block as `mkstrike_glyph_prepared`.
 #[unsafe(no_mangle)]
-pub extern "C" fn mkstrike_glyph_by_id_prepared(
+pub extern "C" fn proved_mkstrike_glyph_by_id_prepared(
     alloc: Global,
     font: &[u8],
     face: u32,
@@ -205,7 +205,7 @@ fn gathered_by(
 
 /// Makes the glyphs of characters of a font as `mkstrike_glyphs` does, by a block as `mkstrike_glyph_prepared`.
 #[unsafe(no_mangle)]
-pub extern "C" fn mkstrike_glyphs_prepared(
+pub extern "C" fn proved_mkstrike_glyphs_prepared(
     alloc: Global,
     font: &[u8],
     face: u32,

@@ -18,7 +18,7 @@ fn put_text(buffer: &mut [u8], text: &[u8])
 
 /// Puts the name of what a call returned into a buffer, with a 0 after it: as much of it as fits. Returns the length of all of it.
 #[unsafe(no_mangle)]
-pub extern "C" fn mkstrike_reason(number: u32, text: &mut [u8]) -> usize
+pub extern "C" fn proved_mkstrike_reason(number: u32, text: &mut [u8]) -> usize
     ensures text { IsPut (reason_of number) text.old text.new }
     ensures size { result ≡ length (reason_of number) }
 {
@@ -30,7 +30,7 @@ pub extern "C" fn mkstrike_reason(number: u32, text: &mut [u8]) -> usize
 /// Puts what to do after what a call returned into a buffer, with a 0 after it: as much of it as fits. Returns the length of all of
 /// it.
 #[unsafe(no_mangle)]
-pub extern "C" fn mkstrike_advice(number: u32, text: &mut [u8]) -> usize
+pub extern "C" fn proved_mkstrike_advice(number: u32, text: &mut [u8]) -> usize
     ensures text { IsPut (advice_of number) text.old text.new }
     ensures size { result ≡ length (advice_of number) }
 {

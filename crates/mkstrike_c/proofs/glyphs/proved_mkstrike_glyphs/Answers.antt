@@ -4,7 +4,7 @@ use Rattle.fx_strike.specs.Strike.{setting_for}
 use Rattle.mkstrike_c.specs.declared.gathered.Wanted.{Wanted}
 use Rattle.mkstrike_c.specs.Modes.{is_packed, mode_of}
 use Rattle.mkstrike_c.proofs.Gathering.{all_drawn}
-use Rattle.mkstrike_c.proofs.glyphs.mkstrike_glyphs.Goals as goal
+use Rattle.mkstrike_c.proofs.glyphs.proved_mkstrike_glyphs.Goals as goal
 
 pub returns-clause-drawn : goal.returns-clause-drawn
 returns-clause-drawn c done =

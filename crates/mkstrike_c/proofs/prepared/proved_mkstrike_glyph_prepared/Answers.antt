@@ -1,7 +1,7 @@
 use Rattle.std.proofs.Common.{refl, sym, ◌∙◌}
 use Rattle.mkstrike_c.specs.Modes.{is_mode, mode_of}
 use Rattle.mkstrike_c.proofs.Preparing.{glyph_named, own_found}
-use Rattle.mkstrike_c.proofs.prepared.mkstrike_glyph_prepared.Goals as goal
+use Rattle.mkstrike_c.proofs.prepared.proved_mkstrike_glyph_prepared.Goals as goal
 
 pub returns-clause-own : goal.returns-clause-own
 returns-clause-own c small =

@@ -7,7 +7,7 @@ use Rattle.mkstrike_c.specs.Refused.{IsReason}
 use Rattle.mkstrike_c.specs.inner.Gathering.{IsGathered}
 use Rattle.mkstrike_c.proofs.Gathering.{all_drawn}
 use Rattle.mkstrike_c.proofs.Preparing.{found_due, glyphs_named, own_found}
-use Rattle.mkstrike_c.proofs.prepared.mkstrike_glyphs_prepared.Goals as goal
+use Rattle.mkstrike_c.proofs.prepared.proved_mkstrike_glyphs_prepared.Goals as goal
 
 pub returns-clause-own : goal.returns-clause-own
 returns-clause-own c done =
