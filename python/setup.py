@@ -19,7 +19,8 @@ PLACES = (os.path.join(HERE, "top"), os.path.dirname(HERE))
 TOP = os.environ.get("MKSTRIKE_TOP") or next(it for it in PLACES if os.path.exists(os.path.join(it, "VERSION")))
 MACHINE = os.environ.get("MKSTRIKE_MACHINE") or os.uname().machine
 ARCHIVES = {"x86_64": "dist/libmkstrike_c.a", "aarch64": "dist/libmkstrike_c-aarch64.a"}
-USED = ("VERSION", "docs/PYTHON.md", "docs/REFUSALS.md", "THIRD-PARTY.md", "packaging/link", "include/mkstrike.h", "c/heap.c", "c/mkstrike.map", *ARCHIVES.values())
+USED = ("VERSION", "docs/PYTHON.md", "docs/REFUSALS.md", "THIRD-PARTY.md", "packaging/link", "include/mkstrike.h", "c/calls.c",
+        "c/heap.c", "c/mkstrike.map", *ARCHIVES.values())
 
 
 def text(name):

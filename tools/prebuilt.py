@@ -77,6 +77,12 @@ def hash_of_sources(crate="mkstrike"):
     return sha256(b"".join(b"%s  %s\n" % (lines[it].encode(), os.fsencode(it)) for it in paths))
 
 
+def sets(table):
+    """A table of crates/fx_words/src/sets.rt: sets of characters by name (SETS), or other names of sets (OTHERS)."""
+    text = read(os.path.join(TOP, "crates/fx_words/src/sets.rt")).decode().partition("const %s:" % table)[2].partition("];")[0]
+    return re.findall(r'\(\s*"([^"]+)",\s*"([^"]+)",?\s*\)', re.sub(r"\\\n\s*", "", text))
+
+
 def libraries_of_crates(text):
     """From each crate to the libraries that it uses, by the text of crates.txt, in its order."""
     rows = [line.partition("#")[0].partition(":") for line in text.split("\n")]

@@ -23,12 +23,6 @@ def kinds():
     return [(re.sub("[^0-9a-f]", "", begins.replace("none", "")), seems, re.sub("; `--.*", "", todo).replace("`", "")) for begins, seems, todo in rows]
 
 
-def sets(table):
-    """A table of crates/fx_words/src/sets.rt: sets of characters by name (SETS), or other names of sets (OTHERS)."""
-    text = prebuilt.read(os.path.join(TOP, "crates/fx_words/src/sets.rt")).decode().partition("const %s:" % table)[2].partition("];")[0]
-    return re.findall(r'\(\s*"([^"]+)",\s*"([^"]+)",?\s*\)', re.sub(r"\\\n\s*", "", text))
-
-
 def tables():
     """web/tables.js: what the page takes from other files."""
     rows = ["  %s," % json.dumps(dict(zip(("begins", "seems", "todo"), it)), ensure_ascii=False) for it in kinds()]
@@ -36,7 +30,7 @@ def tables():
             "export const KINDS = [", *rows, "];"]
     for name, table, what in (("SETS", "SETS", "Sets of characters by name, as `mkstrike make --set` takes them"), ("NAMES", "OTHERS", "Other names of sets")):
         made += ["", "// %s (crates/fx_words)." % what, "export const %s = {" % name]
-        made += ["  %s: %s," % tuple(map(json.dumps, it)) for it in sets(table)] + ["};"]
+        made += ["  %s: %s," % tuple(map(json.dumps, it)) for it in prebuilt.sets(table)] + ["};"]
     return "".join("%s\n" % it for it in made).encode()
 
 

@@ -232,15 +232,15 @@ export class Mkstrike {
     });
   }
 
-  // Which of these characters the font has; or `refused`.
-  present(chars) {
+  // All characters of the font, in ascending order; or `refused`.
+  characters() {
     return this.within((take) => {
-      const codes = take(new Uint8Array(Uint32Array.from(chars).buffer)), count = BigInt(chars.length);
-      const ids = take(2 * chars.length), refused = take(this.size('mkstrike_refused'));
-      const status = this.calls.mkstrike_glyph_ids(...this.ofFont(), codes, count, ids, count, refused);
-      if (status) return { refused: this.refusedAt(refused) };
-      const found = new Uint16Array(this.calls.memory.buffer, Number(ids), chars.length);
-      return { chars: chars.filter((_, k) => found[k]) };
+      const count = take(8), refused = take(this.size('mkstrike_refused'));
+      const call = (chars, room) => this.calls.mkstrike_characters(...this.ofFont(), chars, BigInt(room), count, refused);
+      if (call(count, 0)) return { refused: this.refusedAt(refused) }; // an address, since the calls themselves know no NULL
+      const size = Number(new DataView(this.calls.memory.buffer, Number(count), 8).getBigUint64(0, true)), chars = take(4 * size);
+      call(chars, size);
+      return { chars: new Uint32Array(this.calls.memory.buffer, Number(chars), size).slice() };
     });
   }
 

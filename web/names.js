@@ -29,7 +29,7 @@ export function fontName(bytes, face = 0) {
       return (names[FULL] ?? [names[FAMILY], names[STYLE]].filter(Boolean).join(' ')).slice(0, 80);
     }
   } catch (fault) {
-    if (!(fault instanceof RangeError)) throw fault; // the file is cut
+    if (!(fault instanceof RangeError)) throw fault; // the file is truncated
   }
   return '';
 }

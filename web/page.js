@@ -16,10 +16,6 @@ const LADDER = Array.from({ length: 17 }, (_, k) => 8 + k); // sizes that the te
 const NOT_IN_NAMES = /[\\/:*?"<>|]/g; // of files
 const MOST_PICTURE = 6e7; // pixels of a picture that is saved at the zoom
 const BAND = 64; // rows of it that are made at once
-// What the menu of characters has beside the sets by name: blocks of Unicode.
-const BLOCKS = { 'Latin Extended-A': '100-17f', 'Greek and Coptic': '370-3ff', Cyrillic: '400-4ff', Hebrew: '590-5ff', Arabic: '600-6ff',
-  Thai: 'e00-e7f', punctuation: '2000-206f', 'currency signs': '20a0-20cf', arrows: '2190-21ff', 'mathematical signs': '2200-22ff',
-  'geometric shapes': '25a0-25ff', 'Powerline signs': 'e0a0-e0a2, e0b0-e0b3', 'Hiragana and Katakana': '3040-30ff', Han: '4e00-9fff', Hangul: 'ac00-d7a3' };
 const KEPT = ['ppem', 'hinted', 'dropout', 'zoom', 'text', 'beside', 'differences', 'chars']; // the controls that the address keeps
 
 const state = {
@@ -743,8 +739,7 @@ async function start() {
       + 'dist/mkstrike.html, which has all in one file; or run python3 -m http.server at the top of the repository, and open '
       + 'http://localhost:8000/web/.');
   }
-  $('set').append(...Object.keys(SETS).map((it) => new Option(it)), ...Object.entries(BLOCKS).map(([name, range]) => new Option(name, range)),
-    new Option('those of the text', 'text'), new Option('all of the font', 'all'));
+  $('set').append(...Object.keys(SETS).map((it) => new Option(it)), new Option('those of the text', 'text'), new Option('all of the font', 'all'));
   $('work').hidden = false;
   $('ladder').append(...LADDER.map((ppem) => {
     const row = document.createElement('div'), button = Object.assign(document.createElement('button'), { type: 'button', className: 'rung', textContent: ppem });

@@ -9,7 +9,7 @@ export function isWoff(bytes) {
 // The font's file that a WOFF holds; or an Error with the reason, also if the font has more than `most` bytes.
 export async function fromWoff(bytes, most) {
   const view = new DataView(bytes.buffer, bytes.byteOffset, bytes.length), count = bytes.length < HEADER ? 0 : view.getUint16(12);
-  if (!count || bytes.length < HEADER + ENTRY * count) throw new Error('the directory of the WOFF is cut');
+  if (!count || bytes.length < HEADER + ENTRY * count) throw new Error('the directory of the WOFF is truncated');
   let end = 12 + 16 * count;
   const entries = Array.from({ length: count }, (_, k) => {
     const [tag, from, packed, length, sum] = [0, 4, 8, 12, 16].map((by) => view.getUint32(HEADER + ENTRY * k + by)), at = end;
@@ -27,7 +27,7 @@ export async function fromWoff(bytes, most) {
 
 // Puts a table where the font has it.
 async function unpack(bytes, { from, packed, length, at }, made) {
-  if (from + packed > bytes.length) throw new Error('a table of the WOFF is cut');
+  if (from + packed > bytes.length) throw new Error('a table of the WOFF is truncated');
   const table = bytes.subarray(from, from + packed);
   if (packed === length) return made.set(table, at);
   let done = 0;

@@ -4,7 +4,6 @@ import { arraysForC, gfxForC, pngOf, sheetOf } from './outputs.js';
 
 const SLICE = 25; // milliseconds of work between two looks for messages
 const MOST_SCALED = 6e7; // pixels of a sheet whose glyphs are drawn three times as large
-const CODES = 0x110000, AT_ONCE = 16384; // code points, and how many are looked up in a slice
 
 let mkstrike = null;
 // The work under way, the most urgent first: each is a generator that yields between two slices.
@@ -82,16 +81,10 @@ async function* outline({ id, main, code }) {
   postMessage({ kind: 'outline', id, code, ...mkstrike.outline(main.ppem, main.mode, code) });
 }
 
-// The characters that the font has.
+// The characters that the font has; none if its map is refused.
 async function* list({ id }) {
-  const found = [];
-  for (let first = 0; first < CODES; first += AT_ONCE) {
-    const { chars, refused } = mkstrike.present(Uint32Array.from({ length: AT_ONCE }, (_, k) => first + k));
-    if (refused) break;
-    found.push(...chars);
-    yield;
-  }
-  postMessage({ kind: 'listed', id, chars: Uint32Array.from(found) });
+  const { chars = new Uint32Array() } = mkstrike.characters();
+  postMessage({ kind: 'listed', id, chars }, [chars.buffer]);
 }
 
 async function* save({ id, what, main, chars, name }) {

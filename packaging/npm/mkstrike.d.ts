@@ -43,7 +43,7 @@ export class Mkstrike {
   advice(number: number): string;
   heights(ppem: number): Heights | Refusal;
   glyphs(ppem: number, mode: number, chars: ArrayLike<number>, withPixels?: boolean): Glyphs | Refusal;
-  present(chars: number[]): { chars: number[]; refused?: undefined } | Refusal;
+  characters(): { chars: Uint32Array; refused?: undefined } | Refusal;
   refusalOf(ppem: number, mode: number, code: number): Refused | null;
   outline(ppem: number, mode: number, code: number): Partial<Outline>;
   make(ppem: number, mode: number, chars: ArrayLike<number>, name: string): Strike | Refusal;

@@ -8,12 +8,10 @@ from __future__ import annotations
 import ctypes
 import os
 import struct
-import sys
 from array import array
 from collections.abc import Iterator, Sequence
 from ctypes import POINTER, byref, c_char, c_char_p, c_int32, c_size_t, c_uint16, c_uint32, c_uint64, c_void_p
 from functools import lru_cache
-from itertools import compress
 
 from .refused import Refused
 
@@ -74,6 +72,7 @@ _declared = {
     "mkstrike_reason": (c_size_t, [c_uint32, c_char_p, c_size_t]),
     "mkstrike_advice": (c_size_t, [c_uint32, c_char_p, c_size_t]),
     "mkstrike_font": (c_uint32, FONT + [c_uint16, POINTER(Info), POINTER(_Refused)]),
+    "mkstrike_characters": (c_uint32, FONT + [c_void_p, c_size_t, POINTER(c_size_t), POINTER(_Refused)]),
     "mkstrike_glyph_ids": (c_uint32, FONT + [c_void_p, c_size_t, c_void_p, c_size_t, POINTER(_Refused)]),
     "mkstrike_make": (c_uint32, FONT + [c_uint16, c_uint32, c_void_p, c_size_t, c_char_p, c_size_t, c_void_p, c_size_t, POINTER(Told),
                                         POINTER(_Refused)]),
@@ -122,10 +121,8 @@ def _face(face: int) -> int:
 
 
 def _codes(codes: Sequence[int]) -> array[int]:
-    """Code points as the library takes them, and one number more, so that there is an address."""
-    found = codes[:] if isinstance(codes, array) else array("I", map(_code, codes))
-    found.append(0)
-    return found
+    """Code points as the library takes them."""
+    return array("I", map(_code, codes))
 
 
 def _code(code: int) -> int:
@@ -187,11 +184,11 @@ def glyph_ids(font: bytes, face: int, codes: Sequence[int]) -> array[int]:
     found = array("H")
     for at in range(0, len(codes), MOST_CHARS):
         part = codes[at:at + MOST_CHARS]
-        chars, numbers, refused = _codes(part), array("H", bytes(2 * len(part) + 2)), _Refused()
+        chars, numbers, refused = _codes(part), array("H", bytes(2 * len(part))), _Refused()
         if _c().mkstrike_glyph_ids(font, len(font), _face(face), chars.buffer_info()[0], len(part), numbers.buffer_info()[0], len(part),
                                    byref(refused)):
             raise _raised(refused, font)
-        found += numbers[:-1]
+        found += numbers
     return found
 
 
@@ -211,16 +208,15 @@ def make(font: bytes, face: int, size: int, mode: int, codes: Sequence[int], nam
 
 
 def characters(font: bytes, face: int) -> list[int]:
-    """The characters that the font has: all planes are looked up, whose numbers differ in one byte."""
-    found: list[int] = []
-    codes = array("I", range(MOST_CHARS))
-    planes = memoryview(codes).cast("B")[2 if sys.byteorder == "little" else 1::4]
-    for plane in range(MOST_CODE // MOST_CHARS + 1):
-        planes[:] = bytes([plane]) * MOST_CHARS
-        numbers = glyph_ids(font, face, codes)
-        if numbers.tobytes().strip(b"\0"):
-            found += compress(codes, numbers)
-    return found
+    """The characters that the font has, in rising order."""
+    count, refused, room = c_size_t(0), _Refused(), MOST_CHARS
+    while True:
+        found = array("I", bytes(4 * room))
+        if _c().mkstrike_characters(font, len(font), _face(face), found.buffer_info()[0], room, byref(count), byref(refused)):
+            raise _raised(refused, font)
+        if count.value <= room:
+            return found[:count.value].tolist()
+        room = count.value
 
 
 class Block:
@@ -261,33 +257,35 @@ class Block:
             room = size
 
     def glyphs(self, dropout: int, codes: Sequence[int], with_pixels: bool = True) -> Iterator[tuple[int, int, Made]]:
-        """The glyphs of characters, each with its code point and its status. With `with_pixels` the bytes of their pixels are there."""
+        """The glyphs of the characters that the font has, each with its code point and its status. With `with_pixels` the bytes of their pixels
+        are there."""
         some = max(MOST_ROOM // (2 * self.size * self.size), 1)
         for at in range(0, len(codes), min(some, MOST_CHARS)):
             part = codes[at:at + min(some, MOST_CHARS)]
             placed, pixels = self._drawn(dropout, part, MOST_ROOM if with_pixels else 0)
             for code, it in zip(part, struct.iter_unpack(PLACED, placed)):
                 width, height, left, bottom, stride, dwidth, swidth, status, offset = it
-                yield code, status, (width, height, left, bottom, dwidth, swidth, pixels[offset:offset + stride * height])
+                if status != MISSING:
+                    yield code, status, (width, height, left, bottom, dwidth, swidth, pixels[offset:offset + stride * height])
 
     def _drawn(self, dropout: int, codes: Sequence[int], room: int) -> tuple[bytes, bytes]:
         """The entries of characters, and their pixels if there is room for any."""
         chars, drawn, refused = _codes(codes), _Drawn(), _Refused()
-        placed = ctypes.create_string_buffer(struct.calcsize(PLACED) * len(codes) + 1)
+        placed = ctypes.create_string_buffer(struct.calcsize(PLACED) * len(codes))
         while True:
-            pixels = ctypes.create_string_buffer(room + 1)
+            pixels = ctypes.create_string_buffer(room)
             if _c().mkstrike_glyphs_prepared(*self._before(dropout), chars.buffer_info()[0], len(codes), placed, len(codes), pixels, room,
                                              byref(drawn), byref(refused)):
                 raise _raised(refused, self._given[0])
             if drawn.bytes <= room or not room:
-                return ctypes.string_at(placed, len(placed) - 1), ctypes.string_at(pixels, min(drawn.bytes, room))
+                return placed.raw, ctypes.string_at(pixels, min(drawn.bytes, room))
             room = drawn.bytes
 
     def refused(self, dropout: int, codes: Sequence[int]) -> dict[int, Refused]:
         """Which characters are refused, and why."""
         found: dict[int, Refused] = {}
         for code, status, _ in self.glyphs(dropout, codes, with_pixels=False):
-            if status not in (DONE, MISSING):
+            if status != DONE:
                 try:
                     self.glyph(dropout, code)
                 except Refused as why:

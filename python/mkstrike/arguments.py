@@ -28,7 +28,7 @@ WISHES = {
     **dict.fromkeys(("--antialias", "--gray", "--grey"), "a strike has one bit a pixel"),
     **dict.fromkeys(("--encoding", "--charset"), "--set takes sets of characters by name"),
     **dict.fromkeys(("--height", "--mono"), "--cell WxH makes cells, and --fit WxH takes the largest size for them"),
-    "--weight": "--axes wght=700 is a place of a variable font", "--output": "-o FILE writes one file", "--no-hinting": "--unhinted does that",
+    "--weight": "--axes wght=700 is an instance of a variable font", "--output": "-o FILE writes one file", "--no-hinting": "--unhinted does that",
 }
 
 
@@ -36,13 +36,13 @@ class Version(argparse.Action):
     """Prints the release, and ends."""
 
     def __call__(self, parser: argparse.ArgumentParser, *_: object) -> None:
-        from . import __version__
+        from . import __version__  # pylint: disable=no-name-in-module
         print("strike of mkstrike " + __version__)
         parser.exit()
 
 
 class Parser(argparse.ArgumentParser):
-    """The arguments, of which a wrong one is shown as a terminal may have it, with what leads on."""
+    """The arguments. A wrong one is shown as a terminal may have it, with what to do."""
 
     def error(self, message: str) -> NoReturn:
         unknown = message.partition("unrecognized arguments: ")[2].split()
@@ -80,7 +80,7 @@ def parser() -> argparse.ArgumentParser:
     add("--x11", action="store_true", help="add the properties that X11 and fontconfig look for, and without --name the font's long name")
     add("--property", action="append", default=[], metavar="KEY=VALUE", help="add a property")
     add("--face", type=int, default=0, metavar="N", help="the font of a collection, from 0")
-    add("--axes", default="", metavar="TAG=N,..", help="the place of a variable font, as wght=700")
+    add("--axes", default="", metavar="TAG=N,..", help="the instance of a variable font, as wght=700")
     add("--scale", type=int, default=1, metavar="N", help="the side of a pixel's square in pictures")
     add("--columns", type=int, default=32, metavar="N", help="glyphs in a row of a picture")
     add("--strict", action="store_true", help="a refused character refuses the strike")
@@ -89,7 +89,7 @@ def parser() -> argparse.ArgumentParser:
 
 
 def joined(words: Sequence[str]) -> list[str]:
-    """The arguments, of which --dropout has its value after =: left, unless the next one says otherwise."""
+    """The arguments, with the value of --dropout after =: left, unless the next argument says otherwise."""
     made: list[str] = []
     for word in words:
         if made and made[-1] == "--dropout":

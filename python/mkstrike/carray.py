@@ -220,7 +220,7 @@ def raw(strike: Strike, order: str | None) -> bytes:
     width = widths.pop()
     outside = strike.cell(width, strike.height, ascent=strike.ascent).outside
     if outside:
-        raise ValueError("%d glyphs leave the cell: clip them (clip=True, --clip), or take a smaller size" % len(outside))
+        raise ValueError("%d glyphs leave the cell: clip them (clip=True, --clip), or use a smaller size" % len(outside))
     chars = list(strike) if order is None else ["" if it is None else chr(it) for it in in_order(order)]
     lost = [ord(it) for it in chars if it and it not in strike]
     if lost:

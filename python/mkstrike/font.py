@@ -31,9 +31,9 @@ MOST_BLOCKS = 32  # sizes of a font that are kept, 4 KB each
 class Font:
     """A TrueType font: `source` is a path, its bytes, an open file, or a TTFont of fontTools.
 
-    A name that no file has, as "DejaVu Sans:bold", is that of an installed font, if fontconfig is there. `face` is the number of a font in
-    a collection, from 0; `axes` places a variable font, as {"wght": 700}. fontTools unpacks WOFF2 and places variable fonts, and must be
-    installed for these. A file, and what is unpacked of it, has at most 64 MiB. Nothing else is checked before a strike or a glyph is made.
+    If no file has the name, as "DejaVu Sans:bold", fontconfig finds an installed font. `face` is the number of a font in a collection, from
+    0; `axes` chooses an instance of a variable font, as {"wght": 700}. fontTools unpacks WOFF2 and makes these instances, and must be
+    installed for them. A file, and what is unpacked from it, has at most 64 MiB. Nothing else is checked before a strike or a glyph is made.
 
     - `name`: the file's name without its ending
     """
@@ -105,8 +105,8 @@ class Font:
 
     def fit(self, width: int, height: int, chars: Chars = "", *, text: str = "", hinted: bool = True, dropout: Dropout = False,
             ascent: int | None = None) -> int:
-        """The largest size, in pixels per em, at which no glyph of the characters leaves a cell of so many pixels: see `Strike.cell`, which
-        has the same `ascent`, and `characters`. What the font lacks or refuses does not count."""
+        """The largest size, in pixels per em, at which no glyph of the characters leaves a cell of this width and height: see `Strike.cell`,
+        which has the same `ascent`, and `characters`. What the font lacks or refuses does not count."""
         codes = listed(chars, text, self.characters)
         return largest_size(lambda size: self.at(size, hinted=hinted, dropout=dropout), self.at(LOOK, hinted=False), codes, width, height, ascent)
 

@@ -79,7 +79,7 @@ class Refused(Exception):
     def to_do(self, unhinted: str = "hinted=False") -> str:
         """What to do, and after a halt also how no program of the font runs."""
         halted = self.during is not None and self.advice
-        return "with %s no program of the font runs; to mend the font, %s" % (unhinted, self.advice) if halted else self.advice
+        return "with %s no program of the font runs; to fix the font, %s" % (unhinted, self.advice) if halted else self.advice
 
     def __str__(self) -> str:
         whose = code_name(ord(self.char)) + ": " if self.char is not None else ""

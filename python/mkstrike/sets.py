@@ -24,6 +24,21 @@ SETS = {
              "25d8-25d9,263a-263c,2640,2642,2660,2663,2665-2666,266a-266b",
     "koi8-r": "20-7e,a0,a9,b0,b2,b7,f7,401,410-44f,451,2219-221a,2248,2264-2265,2320-2321,2500,2502,250c,2510,"
               "2514,2518,251c,2524,252c,2534,253c,2550-256c,2580,2584,2588,258c,2590-2593,25a0",
+    "latin-extended-a": "100-17f",
+    "greek-block": "370-3ff",
+    "cyrillic-block": "400-4ff",
+    "hebrew": "590-5ff",
+    "arabic": "600-6ff",
+    "thai": "e00-e7f",
+    "punctuation": "2000-206f",
+    "currency": "20a0-20cf",
+    "arrows": "2190-21ff",
+    "math": "2200-22ff",
+    "shapes": "25a0-25ff",
+    "kana": "3040-30ff",
+    "han": "4e00-9fff",
+    "hangul": "ac00-d7a3",
+    "powerline": "e0a0-e0a2,e0b0-e0b3",
 }
 
 OTHERS = {
@@ -34,5 +49,13 @@ OTHERS = {
     "latin9": "latin-9",
     "iso8859-15": "latin-9",
     "iso-8859-15": "latin-9",
+    "iso8859-7": "greek",
+    "iso-8859-7": "greek",
+    "iso8859-5": "cyrillic",
+    "iso-8859-5": "cyrillic",
+    "boxes": "box",
+    "ibm437": "cp437",
     "koi8r": "koi8-r",
+    "latin-a": "latin-extended-a",
+    "cjk": "han",
 }

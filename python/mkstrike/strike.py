@@ -28,7 +28,7 @@ class Strike(Glyphs):
     - `missing`: the characters that were asked for and that the font lacks
     - `refused`: from each character that was refused to its refusal
     - `outside`: from each character that left its cell to how far (see `cell`)
-    - `names`: what its font calls itself, of which `with_properties` makes the long name of X11; None if it has a name of its own
+    - `names`: what its font calls itself, from which `with_properties` makes the long name of X11; None if it has a name of its own
     - `strays`, `steps`: what the font's programs did, if the strike was made here, else 0
     """
 
@@ -147,7 +147,8 @@ class Strike(Glyphs):
 
         - "bdf": its text
         - "png", "pbm": the sheet; the options are those of `sheet`
-        - "c": rows of bytes in C, every glyph in a cell; "gfx": a font for Adafruit GFX; `name` is that of the arrays
+        - "c": rows of bytes in C, every glyph in a cell; "gfx", "lvgl": a font for Adafruit GFX or LVGL; `name` is the name in C
+        - "raw": the cells alone; with `order`, such as "cp437", 256 of them in the order of that character set
         - "psf", "pcf", "otb": by bdf2psf, bdftopcf and fonttosfnt, which must be installed
         """
         from . import formats

@@ -24,7 +24,7 @@ def unpacked(data: bytes) -> bytes:
             raise ValueError("unpacked it has %s bytes, more than %s" % (format(total, ","), format(MOST, ",")))
         return _of_woff(data) if kind == "WOFF" else _of_woff2(data)
     except (ValueError, struct.error, zlib.error) as fault:
-        said = "its directory is cut" if isinstance(fault, struct.error) else reason_of(fault)
+        said = "its directory is truncated" if isinstance(fault, struct.error) else reason_of(fault)
         raise ValueError("the font can't be unpacked from %s: %s" % (kind, said)) from fault
 
 
@@ -51,7 +51,7 @@ def _table(tag: bytes, data: bytes, packed: int, length: int) -> bytes:
     """A table of as many bytes as the directory says: it is packed if that made it shorter."""
     name = shown(tag.decode("latin-1"))
     if len(data) < packed:
-        raise ValueError("the table '%s' is cut" % name)
+        raise ValueError("the table '%s' is truncated" % name)
     if packed != length:
         data = zlib.decompressobj().decompress(data, length + 1)
     if len(data) != length:
