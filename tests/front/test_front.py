@@ -25,9 +25,8 @@ PLANTED = [
     ("explained", '[ "$1" = explain ] && exit 0; "$REAL" "$@"'),
     ("help_and", '"$REAL" "$@" | sed s/--dropout/--drop-out/'),
     ("pages_as", "docs/mkstrike-show.1", ".\\\" help: the glyph of a character, one", ".\\\" help: a glyph of a character, one"),
-    ("pages_as", "docs/mkstrike-dump.1", "A file that is no collection has face 0 alone.", "Others have face 0 alone."),
-    ("words_of", "crates/fx_request/src/advice.rt", '"give another name"', '"take another name"'),
-    ("words_of", "VERSION", "0.", "1."),
+    ("pages_as", "docs/mkstrike-dump.1", "A file that is not a collection has only face 0.", "Others have face 0 alone."),
+    ("names_of", "VERSION", "0.", "1."),
     ("files_of", "docs/REFUSALS.md", "looks like a PDF |", "looks like a text |"),
 ]
 
@@ -49,7 +48,7 @@ def test_font_is_there():
 def test_planted(number, program, tmp_path):
     """A planted fault is found, in a copy of what is looked at."""
     (name, *fault), top = PLANTED[number], tmp_path / "top"
-    for part in ("tools", "docs", "include", "dist", "crates/fx_request/src", "crates/fx_front/src"):
+    for part in ("tools", "docs", "include", "dist", "crates/fx_front/src", "crates/fx_words/src", "python/mkstrike"):
         shutil.copytree(os.path.join(TOP, part), top / part)
     for part in ("VERSION", "CHANGELOG.md"):
         shutil.copy(os.path.join(TOP, part), top)

@@ -18,9 +18,7 @@ is between .EX and .EE in a man page. It is a block of commands, unless a commen
     <!-- not made: WHY -->       the picture that the next line shows is not made anew
 
 Marks are joined by semicolons; in a man page they are comments of it. What is not installed is named and left out, fonts too.
-No two entries of docs/DECISIONS.md may have one number.
 """
-import collections
 import glob
 import os
 import re
@@ -39,7 +37,6 @@ from program import python_with
 DOCUMENTS = ("README.md", "docs/COOKBOOK.md", "docs/LIBRARY.md", "docs/PYTHON.md", "docs/REFUSALS.md", "docs/TRACE.md", "docs/mkstrike.1",
              *sorted(os.path.relpath(it, TOP) for it in glob.glob(os.path.join(glob.escape(TOP), "docs/mkstrike-*.1"))))
 PICTURES = "docs/pictures"
-NUMBERED = "docs/DECISIONS.md"
 LONGEST = 300  # seconds that a block may take, on a machine that is busy with proofs too
 FONT = re.compile(r"/usr/share/fonts/[\w./-]+")
 MADE = re.compile(r"(?:(?<!\d)>|-o) *([\w./-]+)")
@@ -256,12 +253,6 @@ class Document:
                 self.fault(block, "stale: %s is not the picture that its commands make" % path)
         except (OSError, png.NoPicture) as fault:
             self.fault(block, "%s: %s" % (path, fault))
-
-
-def repeated_numbers(text):
-    """The numbers that two entries of a document of numbered entries have, such as docs/DECISIONS.md."""
-    counts = collections.Counter(re.findall(r"^(\d+)\. \*\*", text, re.MULTILINE))
-    return ["%s: two entries have the number %s" % (NUMBERED, number) for number, times in counts.items() if times > 1]
 
 
 def same_pixels(path, pixels):

@@ -39,6 +39,7 @@ WANTED = {
     "sentences_of_pages": 0,
     "sentences_of_documents": 0,
     "idioms": 0,
+    "doors": 0,
 }
 
 # The crates below `fx_raster` and the types by which they find pixels: `fx_strike` names none of them.
@@ -69,6 +70,10 @@ PAGES = ["README.md", "SECURITY.md", "docs/COOKBOOK.md", "docs/LIBRARY.md", "doc
 # What stands for a noun or a clause that a plain sentence says.
 IDIOM = re.compile(r"\b(?:that|those)\s+of\b|\bones?\s+(?:that|which)\b|\bby\s+which\b", re.IGNORECASE)
 
+# The columns of the table of the doors in docs/WORDS.md after the first, and the files that have the words of each.
+DOORS = (("crates/fx_front/src/*.rt", "crates/fx_bdf/src/*.rt"), ("python/mkstrike/*.py",), ("include/mkstrike.h",), ("python/mkstrike/*.py",),
+         ("web/index.html", "web/page.js"))
+
 FUNCTION = re.compile(r"\s*(?:pub(?:\(\w+\))? )?(?:const )?(?:unsafe )?fn (\w+)")
 LOOP = re.compile(r"\s*(?:('\w+): )?(?:for\b.+\bin\b|while\b|loop\b)")
 COMMENT = re.compile(r"(?://|--)(.*)")
@@ -89,6 +94,7 @@ CONSTANTS = {
     "DROPOUT_NEAR": ("mode.rt", r"mode / (\w+) % 2 == 1 \{\s+return Dropout::Near;"),
     "DROPOUT_FONT": ("mode.rt", r"mode / (\w+) % 2 == 1 \{\s+return Dropout::Font;"),
     "PACKED": ("mode.rt", r"fn is_packed[^{]*\{[^}]*\}\s*\{\s+mode / (\w+) % 2 == 1"),
+    "X11": ("mode.rt", r"fn is_x11[^{]*\{[^}]*\}\s*\{\s+mode / (\w+) % 2 == 1"),
     "NONE": ("refused.rt", r"const NONE: u32 = (\w+);"),
     "FPGM": ("refused.rt", r"const FPGM: u32 = (\w+);"),
     "PREP": ("refused.rt", r"const PREP: u32 = (\w+);"),
@@ -531,6 +537,8 @@ def edits_apply(house):
     Else the gate says so only after an hour, and `make planted` only before a release."""
     for path in [path for folder in EDITS for path in house.paths(folder)]:
         file = None
+        if not re.search(r"^old: .*\n+new: ", house.text(path), re.MULTILINE):
+            yield path, 1, "it replaces nothing"
         for number, line in house.lines(path):
             word, _, text = line.partition(": ")
             if word == "file":
@@ -669,6 +677,24 @@ def idioms(house):
     for path in house.documents() + house.paths("CHANGELOG.md") + house.paths("suite/*.md"):
         for it in IDIOM.finditer(house.text(path)):
             yield path, house.text(path).count("\n", 0, it.start()) + 1, " ".join(it.group(0).split())
+
+
+def doors(house):
+    """Each word in the table of docs/WORDS.md on the doors is a word of its door: the command, `strike`, C, Python, the page.
+
+    A word is what stands between backquotes; of the page it is what stands between commas."""
+    path = "docs/WORDS.md"
+    text = house.text(path) if house.exists(path) else ""
+    for number, line in enumerate(text.partition("## At the doors")[2].partition("\n## ")[0].split("\n"), text.partition("## At the doors")[0].count("\n") + 1):
+        cells = [it.strip() for it in line.strip("|").split("|")]
+        if len(cells) != len(DOORS) + 1 or cells[0] in ("What", "---"):
+            continue
+        for cell, files in zip(cells[1:], DOORS):
+            said = [it.split()[0] for it in re.findall("`([^`]+)`", cell)] if files != DOORS[-1] else cell.split(", ") if cell != "the same" else []
+            there = "\n".join(house.text(it) for pattern in files for it in house.paths(pattern))
+            for word in filter(None, (it.strip('"=.') for it in said)):
+                if word not in there:
+                    yield path, number, "%s of %s" % (word, cells[0])
 
 
 RULES = {name: globals()[name] for name in WANTED}

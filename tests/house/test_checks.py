@@ -14,9 +14,8 @@ import shutil
 import subprocess
 import tempfile
 
-import prebuilt
 import pytest
-from needs import left_out
+from needs import dist, left_out
 from prebuilt import TOP
 from test_run_checks import run_checks
 
@@ -97,7 +96,7 @@ TRIALS = [
           ("tests/house/rules.py", "        if not label:", "        if False:")),
     Trial("tests/house", "room that nobody listed", r"1 failed", "pytest tests/house/test_forms.py -k sources", (NEW, "", ROOM)),
     Trial("tests/house", "a rule of forms that finds nothing", FAILED, "pytest tests/house/test_forms.py",
-          ("tests/house/forms.py", 'FAULTS = {"OutOfMemory", "AllocError", "AllocFailed"}', 'FAULTS = {"Nothing"}')),
+          ("tests/house/forms.py", "(OutOfMemory|AllocError|AllocFailed)", "(Nothing)")),
     Trial("tests/house", "a failure is not told", FAILED, "pytest tests/house/test_run_checks.py -k told",
           ("tools/run_checks", "LEFT_OUT if all_left else FAILED if status else PASSED", "PASSED")),
     Trial("tests/house", "a stand-in that skips nothing", FAILED, "pytest tests/house/test_run_checks.py -k stand_in",
@@ -138,6 +137,7 @@ TRIALS = [
     Trial("tests/program/test_work.py", "another cost", r"and 1000000 are due", "pytest tests/program/test_work.py -k costs",
           ("tests/program/counted_work.txt", re.compile(rb"\d+(?= \d+ branches)"), "1000000")),
     Trial("tests/c", "a digit of a row", FAILED, "pytest tests/c -k damaged"),
+    Trial("tests/c", "NULL with its count", FAILED, "pytest tests/c -k null", ("c/calls.c", "it != NULL ? it##_len : 0", "it##_len")),
     Trial("tests/c", "an arena without large pieces", FAILED, "pytest tests/c -k direct", ("c/arena.c", "SIZES = 40", "SIZES = 24")),
     Trial("tests/python", "another method", r"1 failed", "env MKSTRIKE_TESTS=what_a_strike_says pytest tests/python",
           ("python/mkstrike/glyph.py", "return self.bottom + self.height", "return self.bottom")),
@@ -256,11 +256,7 @@ def look_for(what, trial):
     if not shutil.which(what):
         left_out(what)
     if trial.check.split()[0] in OF_DIST:
-        try:
-            prebuilt.program_of_dist()
-            prebuilt.library_of_dist()
-        except prebuilt.Fault as fault:
-            pytest.skip(str(fault))
+        dist()
 
 
 @pytest.mark.parametrize("trial", TRIALS, ids=["%s, %s" % (it.check, it.wrong.replace(" ", "_")) for it in TRIALS])

@@ -4,7 +4,7 @@ import os
 import documents
 import png
 import pytest
-from documents import DOCUMENTS, NUMBERED, PICTURES, Document, blocks_of_man, blocks_of_markdown, repeated_numbers
+from documents import DOCUMENTS, PICTURES, Document, blocks_of_man, blocks_of_markdown
 from prebuilt import TOP
 
 STRIKE = r"""printf 'STARTFONT 2.1\nFONT a\nSIZE 1 72 72\nFONTBOUNDINGBOX 2 1 0 0\nCHARS 1\nSTARTCHAR a\nENCODING 65\nDWIDTH 2 0\nBBX 2 1 0 0\nBITMAP\n80\nENDCHAR\nENDFONT\n' > a.bdf"""
@@ -100,13 +100,6 @@ def test_each_picture_is_shown():
                 if block.is_picture:
                     shown.add(os.path.normpath(os.path.join(os.path.dirname(path), block.lines[0])))
     assert not documents.pictures_not_shown(TOP, shown)
-
-
-def test_numbers():
-    """No two entries of docs/DECISIONS.md have one number."""
-    with open(os.path.join(TOP, NUMBERED), encoding="utf-8") as file:
-        assert not repeated_numbers(file.read())
-    assert not repeated_numbers("7. **One.**\n8. **Two.**\n") and repeated_numbers("7. **One.**\n7. **Two.**\n")
 
 
 def wrong_in(top, text, is_other=False):

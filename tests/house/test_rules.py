@@ -48,6 +48,8 @@ fn added(one: u32, other: u32) -> u32 {
             Refusal::ReadFailed => (71, "ReadFailed", Place::Nowhere),
 """,
     "crates/fx_machine/src/halt.rt": "//! Halts.\n            Cause::StackUnder => (30, \"StackUnder\"),\n",
+    "docs/WORDS.md": "# Words\n\n## At the doors\n\n| What | `sums` | | | | Page |\n|---|---|---|---|---|---|\n| a sum | `adds` N | | | | Number |\n",
+    "web/index.html": "<label>Number</label>\n",
     "docs/REFUSALS.md": "| 13 | BadHead | a |\n| 17 | BadLoca g | b |\n| 30 | StackUnder | c |\n| 64 | BadMode | d |\n| 65 | BadBlock | d |\n| 71 | ReadFailed | e |\n",
     "include/mkstrike.h": """/* libmkstrike.so.1. */
 #define MKSTRIKE_VERSION UINT32_C(20261125)
@@ -66,6 +68,7 @@ enum {
 #define MKSTRIKE_DROPOUT_NEAR UINT32_C(0x004)
 #define MKSTRIKE_DROPOUT_FONT UINT32_C(0x008)
 #define MKSTRIKE_PACKED UINT32_C(0x100)
+#define MKSTRIKE_X11 UINT32_C(0x200)
 #define MKSTRIKE_NONE UINT32_C(0xFFFFFFFF)
 #define MKSTRIKE_FPGM UINT32_C(0x10000)
 #define MKSTRIKE_PREP UINT32_C(0x10001)
@@ -96,6 +99,12 @@ pub fn is_packed(mode: u32) -> bool
     ensures { result ≡ is_packed mode }
 {
     mode / 256 % 2 == 1
+}
+/// For X11.
+pub fn is_x11(mode: u32) -> bool
+    ensures { result ≡ is_x11 mode }
+{
+    mode / 512 % 2 == 1
 }
 """,
     "crates/fx_one/must-fail/difference.edit": "file: src/sum.rt\nold: saturating_add\nnew: saturating_sub\n",
@@ -144,6 +153,7 @@ PLANTED = [
     ("lemmas_used", "crates/fx_one/proofs/sum/sum/Answers.antt", "total_least c", "refl"),
     ("edits_apply", "crates/fx_one/src/sum.rt", "saturating_add", "wrapping_add"),
     ("edits_apply", "crates/fx_one/planted/none.edit", "old: 'numbers", "old: 'figures"),
+    ("edits_apply", "crates/fx_one/planted/none.edit", "old: ", "older: "),
     ("readme_short", "README.md", "# Sums\n", "# Sums\n" * 100),
     ("sentences_of_pages", "README.md", "#sums). It", "#sums) " + "it " * 38),
     ("sentences_of_pages", "docs/mkstrike.1", "sums\n.PP", "sums\n" + "and\n.B on\n" * 20 + ".PP"),
@@ -153,6 +163,8 @@ PLANTED = [
     ("sentences_of_documents", "docs/DEFINITIONS.md", "| sums", "| " + "and sums " * 21),
     ("idioms", "CONTRIBUTING.md", "The code is", "The one\nthat adds is"),
     ("idioms", "docs/DEFINITIONS.md", "| sums", "| those of sums"),
+    ("doors", "docs/WORDS.md", "`adds`", "`sorts`"),
+    ("doors", "docs/WORDS.md", "Number", "Count"),
     ("twice", "crates/fx_one/specs/Sums.antt", "pub", "".join("fact%d\n" % k for k in range(8)) * 2 + "pub"),
 ]
 

@@ -7,6 +7,8 @@ pixels of lines and arcs in general are those of the suite's reference.
 import functools
 import re
 
+from reference.numbers import near
+
 DONE, REFUSED, USAGE_STATUS = 0, 1, 2
 USAGE = b"mkstrike: usage\n"
 STRIKE = "strike"
@@ -20,24 +22,6 @@ def own_lines(err):
 
 
 # ---- numbers ----
-
-def near(n, d):
-    """n/d rounded to the nearest whole number, halves away from zero."""
-    if d < 0:
-        n, d = -n, -d
-    size = (2 * abs(n) + d) // (2 * d)
-    return size if n >= 0 else -size
-
-
-def scaled(value, ppem, upem):
-    """A value in FUnits as 1/64 pixels."""
-    return near(value * ppem * 64, upem)
-
-
-def to_pixel(value):
-    """A place in 1/64 pixels at the nearest whole pixel."""
-    return 64 * near(value, 64)
-
 
 def first_from(place):
     """The first pixel whose centre does not lie before a place in 1/64 pixels."""

@@ -3,7 +3,7 @@ import functools
 
 import due
 import fonts
-from reference import dropout, scan
+from reference import dropout, numbers, scan
 
 
 def pieces_of(contours):
@@ -27,11 +27,11 @@ class Empty:
         """The glyph's bytes."""
         return b""
 
-    def boxes(self, font, ppem, hinted):
+    def boxes(self, _font, _ppem, _hinted):
         """Its rectangles in 1/64 pixels."""
         return []
 
-    def counts(self, font):
+    def counts(self, _font):
         """The steps and strays of its programs."""
         return (0, 0)
 
@@ -39,7 +39,7 @@ class Empty:
         """Its pixels, when its outline is moved to the right by so many 1/64 pixels."""
         return due.bits_of([(x0 + move, y0, x1 + move, y1) for x0, y0, x1, y1 in self.boxes(font, ppem, hinted)])
 
-    def placed(self, font, ppem):
+    def placed(self, _font, _ppem):
         """Its contours of points (x, y, on) in 1/64 pixels, if its program moves none."""
         return []
 
@@ -55,7 +55,7 @@ class Empty:
 class Simple(Empty):
     """A glyph of rectangles (x0, y0, x1, y1) in FUnits. Each is a contour, or contours of the same inside are given.
 
-    `after` gives its rectangles after its program, from those before and the size. The bytes are filled up to a
+    `after` gives its rectangles after its program, from those before. The bytes are filled up to a
     length, if one is given, by bytes that no reader looks at."""
 
     def __init__(self, boxes, contours=None, code=None, after=None, length=0):
@@ -72,16 +72,16 @@ class Simple(Empty):
         return fonts.simple(self.outline(), self.code.bytes if self.code else b"").ljust(self.length, b"\xA5")
 
     def boxes(self, font, ppem, hinted):
-        placed = [tuple(due.scaled(v, ppem, font.upem) for v in box) for box in self.in_units]
-        return self.after(placed, ppem) if hinted and self.after else placed
+        placed = [tuple(numbers.scaled(v, ppem, font.upem) for v in box) for box in self.in_units]
+        return self.after(placed) if hinted and self.after else placed
 
     def placed(self, font, ppem):
         def place(value):
-            return due.scaled(value, ppem, font.upem)
+            return numbers.scaled(value, ppem, font.upem)
         assert self.after is None
         return [[(place(x), place(y), on) for x, y, on in contour] for contour in self.outline()]
 
-    def counts(self, font):
+    def counts(self, _font):
         return (self.code.steps, self.code.strays) if self.code else (0, 0)
 
 
@@ -107,7 +107,7 @@ class Composite(Empty):
     def boxes(self, font, ppem, hinted):
         found = []
         for glyph, dx, dy in self.parts:
-            right, up = due.scaled(dx, ppem, font.upem), due.scaled(dy, ppem, font.upem)
+            right, up = numbers.scaled(dx, ppem, font.upem), numbers.scaled(dy, ppem, font.upem)
             placed = font.boxes_of(glyph, ppem, hinted)
             found += [(x0 + right, y0 + up, x1 + right, y1 + up) for x0, y0, x1, y1 in placed]
         return found
@@ -115,7 +115,7 @@ class Composite(Empty):
     def placed(self, font, ppem):
         found = []
         for glyph, dx, dy in self.parts:
-            right, up = due.scaled(dx, ppem, font.upem), due.scaled(dy, ppem, font.upem)
+            right, up = numbers.scaled(dx, ppem, font.upem), numbers.scaled(dy, ppem, font.upem)
             found += [[(x + right, y + up, on) for x, y, on in contour] for contour in font.glyphs[glyph].placed(font, ppem)]
         return found
 
@@ -184,9 +184,9 @@ class Font:
 
     def span(self, model, ppem, hinted, advance, bearing):
         """Where a glyph's origin and the next one's lie, in 1/64 pixels."""
-        start = due.scaled(model.x_min - bearing, ppem, self.upem)
-        end = start + due.scaled(advance, ppem, self.upem)
-        return (due.to_pixel(start), due.to_pixel(end)) if hinted else (start, end)
+        start = numbers.scaled(model.x_min - bearing, ppem, self.upem)
+        end = start + numbers.scaled(advance, ppem, self.upem)
+        return (numbers.to_pixel(start), numbers.to_pixel(end)) if hinted else (start, end)
 
     def look_of(self, model, ppem, hinted, closed, advance, bearing):
         """The same of a glyph's model, advance and left side bearing."""

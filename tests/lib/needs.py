@@ -3,6 +3,7 @@ import os
 import shutil
 import subprocess
 
+import prebuilt
 import pytest
 from debian import PACKAGES
 
@@ -18,6 +19,15 @@ def left_out(what):
 def tool(name):
     """The path of a tool."""
     return shutil.which(name) or left_out(name)
+
+
+def dist():
+    """Leaves a test out if the program or the library of dist/ is of other sources."""
+    try:
+        prebuilt.program_of_dist()
+        prebuilt.library_of_dist()
+    except prebuilt.Fault as fault:
+        pytest.skip(str(fault))
 
 
 def real_font(name):

@@ -102,12 +102,17 @@ def fed(program, run):
     """The input comes by a pipe, to which another thread writes it in pieces."""
     with memory_file() as out, memory_file() as err:
         child = start(program, run, subprocess.PIPE, out, err)
-        writer = threading.Thread(target=write_in_pieces, args=(child.stdin, run.data, run.feed))
-        writer.start()
-        try:
-            return end_of(child), read_again(out), read_again(err)
-        finally:
-            writer.join()
+        return while_written(child, out, err, write_in_pieces, child.stdin, run.data, run.feed)
+
+
+def while_written(child, out, err, write, *arguments):
+    """The answer of a program whose input another thread writes."""
+    writer = threading.Thread(target=write, args=arguments)
+    writer.start()
+    try:
+        return end_of(child), read_again(out), read_again(err)
+    finally:
+        writer.join()
 
 
 def write_in_pieces(pipe, data, sizes):
@@ -139,12 +144,7 @@ def in_packets(size):
         with writing, memory_file() as out, memory_file() as err:
             with reading:
                 child = start(program, run, reading, out, err)
-            writer = threading.Thread(target=send_packets, args=(writing, run.data, size))
-            writer.start()
-            try:
-                return end_of(child), read_again(out), read_again(err)
-            finally:
-                writer.join()
+            return while_written(child, out, err, send_packets, writing, run.data, size)
     return way
 
 

@@ -16,7 +16,7 @@ import other_machine
 import prebuilt
 import pytest
 import sample_font
-from needs import left_out, tool
+from needs import dist, left_out, tool
 from prebuilt import DIST, TOP
 from program import python_with
 
@@ -50,11 +50,7 @@ def packages(tmp_path_factory):
         tool(name)
     if (os.uname().sysname, os.uname().machine) != ("Linux", "x86_64"):
         pytest.skip("not x86-64 Linux")
-    try:
-        prebuilt.program_of_dist()
-        prebuilt.library_of_dist()
-    except prebuilt.Fault as fault:
-        pytest.skip(str(fault))
+    dist()
     folder = tmp_path_factory.mktemp("made")
     run([BUILD, str(folder)])
     return folder

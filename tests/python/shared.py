@@ -16,16 +16,6 @@ FOLDER = "/usr/share/fonts/truetype/"
 SANS = FOLDER + "dejavu/DejaVuSans.ttf"
 MONO = FOLDER + "dejavu/DejaVuSansMono.ttf"
 LIBERATION = FOLDER + "liberation/LiberationMono-Regular.ttf"
-CANDIDATES = [FOLDER + it for it in (
-    "dejavu/DejaVuSans.ttf", "dejavu/DejaVuSans-Bold.ttf", "dejavu/DejaVuSansMono.ttf", "dejavu/DejaVuSansMono-Bold.ttf",
-    "dejavu/DejaVuSerif.ttf", "dejavu/DejaVuSerif-Bold.ttf", "liberation/LiberationMono-Regular.ttf", "liberation/LiberationMono-Bold.ttf",
-    "liberation/LiberationSans-Regular.ttf", "liberation/LiberationSans-Bold.ttf", "liberation/LiberationSans-Italic.ttf",
-    "liberation/LiberationSansNarrow-Regular.ttf", "liberation/LiberationSerif-Regular.ttf", "liberation/LiberationSerif-Italic.ttf",
-    "dejavu/DejaVuSans-Oblique.ttf", "dejavu/DejaVuSansCondensed.ttf", "liberation/LiberationMono-Italic.ttf",
-    "liberation/LiberationSans-BoldItalic.ttf", "liberation/LiberationSerif-Bold.ttf", "noto/NotoSans-Regular.ttf",
-    "crosextra/Carlito-Regular.ttf", "freefont/FreeSans.ttf", "liberation/LiberationMono-BoldItalic.ttf",
-    "liberation/LiberationSerif-BoldItalic.ttf")]
-
 sys.path += [os.path.join(TOP, it) for it in ("tests/lib", "tests/program", "suite", "tools")]
 
 

@@ -65,35 +65,6 @@ def test_other_texts():
             mkstrike.Strike(wrong).parsed()
 
 
-@pytest.mark.filterwarnings("ignore:left out, since ENCODING gives no character")
-def test_damaged_texts():
-    """A damaged text is read, or is no BDF; never another error, and never much memory."""
-    import random
-    choose, read = random.Random(5), 0
-    for _ in range(3000):
-        data = bytearray(OTHER)
-        for _ in range(choose.choice((1, 2, 5))):
-            at, what = choose.randrange(len(data)), choose.randrange(4)
-            if what == 0:
-                data[at] = choose.randrange(256)
-            elif what == 1:
-                del data[at:at + choose.randrange(1, 30)]
-            elif what == 2:
-                data[at:at] = choose.choice((b"9", b"-", b"\n", b"99999999999 ", b"BBX ", b"ENDCHAR\n"))
-            else:
-                data[at:at] = data[choose.randrange(len(data)):][:40]
-        strike = mkstrike.Strike(bytes(data))
-        try:
-            strike.parsed()
-        except bdf.NotBdf:
-            continue
-        read += 1
-        for glyph in strike.values():
-            assert len(glyph.tobytes()) == glyph.width * glyph.height
-        assert strike.with_properties({}).parsed().encoded() == strike.with_properties({}).text
-    assert 500 < read < 2900
-
-
 @needs_font(MONO)
 def test_cells():
     """One advance for all, and the glyphs that leave the cell."""

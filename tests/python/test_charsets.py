@@ -15,7 +15,9 @@ from mkstrike.sets import OTHERS, SETS
 def test_sets():
     """The sets that have names."""
     assert mkstrike.character_sets() == {"ascii": 95, "latin-1": 191, "latin-9": 191, "wgl4": 652, "greek": 188, "cyrillic": 191, "box": 128,
-                                         "blocks": 32, "braille": 256, "cp437": 255, "koi8-r": 223}
+                                         "blocks": 32, "braille": 256, "cp437": 255, "koi8-r": 223, "latin-extended-a": 128, "greek-block": 144,
+                                         "cyrillic-block": 256, "hebrew": 112, "arabic": 256, "thai": 128, "punctuation": 112, "currency": 48, "arrows": 112, "math": 256,
+                                         "shapes": 96, "kana": 192, "han": 20992, "hangul": 11172, "powerline": 7}
     for name, count in mkstrike.character_sets().items():
         assert len(characters(name)) == count
     assert characters("ascii") == list(range(0x20, 0x7F))
@@ -66,7 +68,7 @@ def test_letters_and_numbers():
 
 
 @needs_font(SANS)
-def test_all(tmp_path):
+def test_all():
     """All are the characters of the font."""
     font = mkstrike.Font(SANS)
     with pytest.raises(ValueError, match="^'all' are the characters of a font"):

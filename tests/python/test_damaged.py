@@ -5,7 +5,7 @@ import sys
 
 from shared import LIBERATION, SANS, TOP, needs, needs_font, needs_fonttools
 
-COUNT = os.environ.get("MKSTRIKE_DAMAGED", "300")  # files
+COUNT = os.environ.get("MKSTRIKE_DAMAGED", "1200")  # files
 
 
 @needs_fonttools
@@ -18,5 +18,5 @@ def test_damaged_files():
     assert ran.returncode == 0, ran.stderr[-3000:]
     *answers, memory = ran.stdout.split("\n")[:-1]
     print(ran.stdout)
-    assert sum(int(it.split()[0]) for it in answers) == int(COUNT) and len(answers) >= 8, ran.stdout
+    assert sum(int(it.split()[0]) for it in answers) == int(COUNT) and len(answers) >= 7, ran.stdout
     assert all(int(it) < 300e6 for it in memory.split()[1:]), memory

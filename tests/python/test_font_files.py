@@ -105,7 +105,7 @@ def test_reasons_of_fonttools():
 
 
 @needs_font(SANS)
-def test_bounds_of_packed_fonts(monkeypatch):
+def test_bounds_of_packed_fonts():
     """What a packed font would unpack to is bounded before and while it is unpacked, and the bound is named."""
     import struct
     import tracemalloc
@@ -128,7 +128,7 @@ def test_bounds_of_packed_fonts(monkeypatch):
         mkstrike.Font(bomb)
     assert tracemalloc.get_traced_memory()[1] < 1 << 23
     tracemalloc.stop()
-    with pytest.raises(ValueError, match="the table 'glyf' is cut"):
+    with pytest.raises(ValueError, match="the table 'glyf' is truncated"):
         mkstrike.Font(bomb[:-9])
 
 

@@ -72,7 +72,7 @@ def test_unknown_character_sets(tmp_path):
 
 
 @needs_font(SANS)
-def test_own_names(tmp_path):
+def test_own_names():
     """A strike that is made here has code points, whatever set its name has."""
     name = "-misc-dejavu-medium-r-normal--16-160-72-72-p-100-koi8-r"
     strike = mkstrike.Font(SANS).strike(16, "430-44f", name=name)

@@ -8,9 +8,8 @@ import re
 import shutil
 import subprocess
 
-import prebuilt
 import pytest
-from needs import tool
+from needs import dist, tool
 from prebuilt import TOP
 from program import python_with
 
@@ -36,10 +35,7 @@ def test_in_a_clean_environment(program, tmp_path):
     if python is None:
         pytest.skip("no Python has %s (Debian: %s)" % (", ".join(NEEDED), ", ".join(NEEDED.values())))
     tool("cc")
-    try:
-        prebuilt.library_of_dist()
-    except prebuilt.Fault as fault:
-        pytest.skip(str(fault))
+    dist()
     shutil.copytree(os.path.join(TOP, "python"), tmp_path / "python")
     run([python, "setup.py", "-q", "bdist_wheel", "-d", str(tmp_path)], tmp_path / "python", MKSTRIKE_TOP=TOP)
     run([python, "-m", "venv", "--system-site-packages", "env"], tmp_path)

@@ -24,7 +24,7 @@ ROWS = [
     ("an OTF", ["cff.otf"], 1, "OpenType font with CFF outlines, which is not read: give a TrueType font"),
     ("a Type 1 font", ["type1.pfb"], 1, "Type 1 font"), ("a Type 1 font as text", ["type1.pfa"], 1, "Type 1 font"), ("a web page", ["page.ttf"], 1, "a web page or XML"),
     ("an empty file", ["empty.ttf"], 1, "the file is empty"), ("a PCF", ["a.pcf"], 1, "PCF font"), ("a Git LFS pointer", ["lfs.ttf"], 1, "git lfs pull"),
-    (".dfont", ["mac.dfont"], 1, "Macintosh font"), ("gzip", ["a.gz"], 1, "unpack it first"), ("a cut font", ["cut.ttf"], 1, "it is cut"),
+    (".dfont", ["mac.dfont"], 1, "Macintosh font"), ("gzip", ["a.gz"], 1, "unpack it first"), ("a truncated font", ["cut.ttf"], 1, "it is truncated"),
     ("a damaged WOFF2", ["web.woff2"], 1, "can't be unpacked from WOFF2: "), ("a damaged WOFF", ["web.woff"], 1, "16 pixels: 10 NotTrueType"),
     ("a damaged BDF", ["a.bdf"], 1, "no BDF file, or a damaged one: line 2: there is no CHARS"), ("text", ["text.ttf"], 1, "give a TrueType font"),
     ("a file that is not there", ["nosuch.ttf"], 1, "nosuch.ttf: there is no such file, and no installed font of this name (fc-list shows them)"),
@@ -34,7 +34,7 @@ ROWS = [
     # sizes
     ("points", ["FONT", "--size", "12pt"], 2, "not '12pt'; pixels are points times the resolution, divided by 72"), ("a word", ["FONT", "--ppem", "big"], 2, "not 'big'"),
     ("a cell as a size", ["FONT", "--ppem", "8x16"], 2, "not '8x16'"), ("a fraction", ["FONT", "--ppem", "12.5"], 2, "not '12.5'"), ("hexadecimal", ["FONT", "--size", "0x10"], 2, "not '0x10'"),
-    ("a negative size", ["FONT", "--ppem=-5"], 2, "not '-5'"), ("0", ["FONT", "--ppem", "0"], 1, "give a size of 1 to 1024"), ("2000", ["FONT", "--ppem", "2000"], 1, "give a size of 1 to 1024"),
+    ("a negative size", ["FONT", "--ppem=-5"], 2, "not '-5'"), ("0", ["FONT", "--ppem", "0"], 1, "give a size from 1 to 1024"), ("2000", ["FONT", "--ppem", "2000"], 1, "give a size from 1 to 1024"),
     ("a range that falls", ["FONT", "--ppem", "16-12"], 2, "not '16-12'"), ("too many sizes", ["FONT", "--ppem", "1-9999"], 2, "not '1-9999'"), ("--pt", ["FONT", "--pt", "12"], 2, "points times the resolution"),
     ("--dpi", ["FONT", "--dpi", "96"], 2, "points times the resolution"), ("-s", ["FONT", "-s", "16"], 2, "unrecognized arguments: -s"), ("--height", ["FONT", "--height", "16"], 2, "--fit WxH takes the largest size"),
     ("--fit and --ppem", ["FONT", "--fit", "8x16", "--ppem", "12"], 2, "leave --ppem and --merge out"), ("--fit of no cell", ["FONT", "--fit", "8"], 2, "--fit takes columns and rows, as 8x16, not '8'"),
@@ -48,7 +48,7 @@ ROWS = [
     ("a list that is not there", ["FONT", "--chars", "./my.set"], 2, "No such file or directory: './my.set'"), ("a list by @", ["FONT", "--chars", "@list.txt"], 2, "'@list.txt' is no set"),
     ("glyph names", ["FONT", "--chars", "A,B,space"], 2, "'space' is no set"), ("what the font lacks", ["FONT", "--chars", "4e00"], 0, "--all takes what the font has"), ("some that it lacks", ["FONT", "--chars", "41,4e00-4e02"], 0, "3 missing: U+4E00-U+4E02"),
     ("only refused ones", ["FONT", "--chars", "19c"], 0, "the strike has no glyph: each character is refused; with --unhinted no program of the font runs"), ("--strict", ["FONT", "--chars", "19c", "--strict"], 1, "30 StackUnder during glyph 350"),
-    ("a text as --text", ["FONT", "--text", "Hello"], 2, "--text takes a file, and there is no 'Hello'; a text itself comes by a pipe"), ("a text in Latin-1", ["FONT", "--text", "latin.txt"], 2, "'utf-8' codec can't decode"),
+    ("all up to FFFF", ["FONT", "--chars", "0-ffff"], 0, "refused: U+0250: 30 StackUnder during glyph 530"), ("a text as --text", ["FONT", "--text", "Hello"], 2, "--text takes a file, and there is no 'Hello'; a text itself comes by a pipe"), ("a text in Latin-1", ["FONT", "--text", "latin.txt"], 2, "'utf-8' codec can't decode"),
     ("--encoding", ["FONT", "--encoding", "latin1"], 2, "--set takes sets of characters by name"), ("--set of no set", ["FONT", "--set", "klingon"], 2, "'klingon' is no set"), ("no list of bdf2psf", ["FONT", "--chars", "Lat99"], 2, "bdf2psf"),
     # outputs
     ("--out of a file", ["FONT", "--out", "a.psf"], 2, "--out takes a folder: -o a.psf writes one file"), ("-o and --out", ["FONT", "-o", "a.bdf", "--out", "x"], 2, "give one of them"),
@@ -65,7 +65,7 @@ ROWS = [
     ("--bold", ["FONT", "--bold"], 2, "give the font of that style, as 'DejaVu Sans:bold'"), ("--italic", ["FONT", "--italic"], 2, "give the font of that style"), ("--weight", ["FONT", "--weight", "700"], 2, "--axes wght=700"),
     ("--hinted", ["FONT", "--hinted"], 2, "strikes are hinted if --unhinted is not given"), ("--no-hinting", ["FONT", "--no-hinting"], 2, "--unhinted does that"), ("--unhintd", ["FONT", "--unhintd"], 2, "did you mean --unhinted?"),
     ("--antialias", ["FONT", "--antialias"], 2, "a strike has one bit a pixel"), ("--mono", ["FONT", "--mono"], 2, "--cell WxH makes cells"), ("--dropout=middle", ["FONT", "--dropout=middle"], 2, "invalid choice: 'middle' (choose from 'left', 'near', 'font')"),
-    ("--dropout on", ["FONT", "--dropout", "on"], 1, "on: there is no such file"), ("axes of a plain font", ["FONT", "--axes", "wght=700"], 1, "the font has no axes"), ("axes by a word", ["FONT", "--axes", "bold"], 2, "--axes bold: it has no ="),
+    ("--dropout on", ["FONT", "--dropout", "on"], 1, "on: there is no such file"), ("axes of a plain font", ["FONT", "--axes", "wght=700"], 1, "the font has no axes"), ("axes by a word", ["FONT", "--axes", "bold"], 2, "--axes bold: it has no ="), ("axes by a letter", ["FONT", "--axes", "wght=x"], 2, "'x' is no number"),
     ("--face of one font", ["FONT", "--face", "1"], 1, "25 NoFace"), ("--face of a name", ["FONT", "--face", "Bold"], 2, "--face: invalid int value: 'Bold'"), ("--name with an umlaut", ["FONT", "--name", "Grüße"], 1, "62 BadName"),
     ("--property in small letters", ["FONT", "--property", "a=1"], 1, "63 BadProperty 1"), ("--property without =", ["FONT", "--property", "A"], 2, "--property A: it has no ="), ("--scale 0", ["FONT", "-o", "a.png", "--scale", "0"], 2, "--scale and --columns are 1 or more"),
 ]
@@ -101,7 +101,7 @@ def test_mistakes_at_the_command(strike, tmp_path, words, status, said):
 DONE = [
     (["--ppem", "12,14"], ["DejaVuSans-12.bdf", "DejaVuSans-14.bdf"]), (["--size", "8-10"], ["DejaVuSans-10.bdf", "DejaVuSans-8.bdf", "DejaVuSans-9.bdf"]),
     (["--set", "latin1"], ["DejaVuSans-16.bdf"]), (["--set", "box", "--chars", "41"], ["DejaVuSans-16.bdf"]), (["--chars", "KOI8-R"], ["DejaVuSans-16.bdf"]),
-    (["--all", "--unhinted", "--ppem", "6"], ["DejaVuSans-6.bdf"]), (["-o", "a.h"], ["a.h"]), (["-o", "a.BDF"], ["a.BDF"]), (["-o", "a-%s.c", "--format", "lvgl", "--ppem", "8,9"], ["a-8.c", "a-9.c"]),
+    (["--all", "--unhinted", "--ppem", "6"], ["DejaVuSans-6.bdf"]), (["--chars", "all", "--unhinted", "--ppem", "6"], ["DejaVuSans-6.bdf"]), (["-o", "a.h"], ["a.h"]), (["-o", "a.BDF"], ["a.BDF"]), (["-o", "a-%s.c", "--format", "lvgl", "--ppem", "8,9"], ["a-8.c", "a-9.c"]),
     (["--dropout", "--chars", "41"], ["DejaVuSans-16.bdf"]), (["--dropout", "near", "-o", "a.bdf"], ["a.bdf"]), (["--dropout-font", "-o", "a.bdf"], ["a.bdf"]), (["--out", "x/y"], ["x/y/DejaVuSans-16.bdf"]),
     (["--fit", "8x16", "--format", "raw", "--order", "cp437", "--chars", "cp437"], ["DejaVuSans-6.raw"]), (["--preview", "Hello"], []), (["-o", "-"], []),
 ]
@@ -134,7 +134,14 @@ def mistakes_in_python():
     at, strike = font.at(16), font.strike(16, "ascii")
     return [
         (lambda: mkstrike.Font("No Such Sans"), FileNotFoundError, "no installed font of this name"), (lambda: mkstrike.Font(16), TypeError, "^source is a path, bytes"),
-        (lambda: font.at("16"), TypeError, "^size is a whole number, not '16'$"),
+        (lambda: font.at("16"), TypeError, "^size is a whole number, not '16'$"), (lambda: font.heights("16"), TypeError, "^size is a whole number, not '16'$"),
+        (lambda: font.strike(16.0, "41"), TypeError, "^size is a whole number, not 16.0$"), (lambda: font.glyph(None, "A"), TypeError, "^size is a whole number"),
+        (lambda: font.glyph_by_id("1", 1), TypeError, "^size is"), (lambda: font.glyph(16, "ab"), TypeError, "^char is one character or a code point, not 'ab'$"),
+        (lambda: font.glyph(16, 1.5), TypeError, "^char is"), (lambda: font.glyph_by_id(16, "1"), TypeError, "^number is a whole number"),
+        (lambda: font.glyph_by_id(16, 99999), ValueError, "^number is 99999: glyphs have the numbers 0 to 65,535$"),
+        (lambda: font.glyph_by_id(16, -1), ValueError, "^number is -1: "), (lambda: font.strike(16, "41", name=5), TypeError, "^name is a string"),
+        (lambda: font.strike(16, range(65537)), ValueError, "^chars has 65,537 characters: a strike has at most 65,536$"),
+        (lambda: font.strike(16, None), TypeError, "^chars: None is no list"), (lambda: font.strike(16, "41", dropout="middle"), ValueError, "^dropout is False, True"),
         (lambda: font.at(16.0), TypeError, "^size is a whole number, not 16.0$"), (lambda: font.at(0), mkstrike.Refused, "^60 BadSize"), (lambda: font.at(2000), mkstrike.Refused, "^60 BadSize"),
         (lambda: font.at(16, dropout="middle"), ValueError, "^dropout is False, True"), (lambda: font.at(16, dropout=[]), ValueError, "^dropout is False, True"), (lambda: at["一"], KeyError, r"U\+4E00"), (lambda: at["ab"], KeyError, "there is no 'ab'"),
         (lambda: at.glyph("g"), TypeError, "^number is a whole number"), (lambda: at.measure("一"), mkstrike.Missing, r"U\+4E00"), (lambda: at.glyphs("Hello"), ValueError, "use text="),
@@ -146,7 +153,7 @@ def mistakes_in_python():
     ]
 
 
-@pytest.mark.parametrize("k", range(23))
+@pytest.mark.parametrize("k", range(36))
 def test_mistakes_in_python(k):
     """An error of a documented type, which names the argument."""
     call, kind, match = mistakes_in_python()[k]

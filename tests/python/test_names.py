@@ -91,12 +91,10 @@ def test_odd_names():
 def test_damaged_names():
     """Damage in the tables of names says nothing, or something else; it is never an error."""
     import fonts
+    from damage import Damaged
     part, choose = fonts.part_of(font_bytes(SANS), [0x41]), random.Random(2)
     for _ in range(500):
-        data = bytearray(part)
-        for _ in range(choose.choice((1, 5, 40))):
-            data[choose.randrange(choose.choice((300, len(data))))] = choose.choice((0, 255, choose.randrange(256)))
-        data = bytes(data[:choose.randrange(len(data))] if choose.random() < .3 else data)
+        data = bytes(Damaged(part, choose, [part]).data)
         names = mkstrike.Font(data, face=choose.choice((0, 1, 1 << 40))).names
         assert names.family.isprintable() and names.style.isprintable() and isinstance(names.is_monospace, bool)
     assert mkstrike.Font(b"", face=-9).names == ("font", "Regular", 400, 5, "R", False)

@@ -7,9 +7,10 @@ import subprocess
 import warnings
 
 import pytest
-from shared import LIBERATION, MONO, SANS, font_bytes, needs_font, needs_pillow, pixels, program
+from shared import LIBERATION, MONO, SANS, TOP, font_bytes, needs_font, needs_pillow, pixels, program
 
 import mkstrike
+from needs import tool
 
 GFXFONT = """\
 #include <stdint.h>
@@ -259,15 +260,14 @@ def test_pictures(tmp_path):
     """Sheets and lines are the pictures of tools/picture."""
     import importlib.machinery
     import importlib.util
-    from shared import TOP
     loader = importlib.machinery.SourceFileLoader("picture_tool", os.path.join(TOP, "tools/picture"))
-    tool = importlib.util.module_from_spec(importlib.util.spec_from_loader("picture_tool", loader))
-    loader.exec_module(tool)
+    picture = importlib.util.module_from_spec(importlib.util.spec_from_loader("picture_tool", loader))
+    loader.exec_module(picture)
     strike = mkstrike.Font(SANS).strike(13, "latin-1")
-    other = tool.bdf.parse(strike.text)
-    for made, due in ((strike.sheet(scale=2), tool.joined([tool.sheet_of(other, 32)], 2)),
-                      (strike.sheet(columns=20), tool.joined([tool.sheet_of(other, 20)], 1)),
-                      (strike.line("Jäger, fjord", scale=3), tool.joined([tool.line_of(other, "Jäger, fjord")], 3))):
+    other = picture.bdf.parse(strike.text)
+    for made, due in ((strike.sheet(scale=2), picture.joined([picture.sheet_of(other, 32)], 2)),
+                      (strike.sheet(columns=20), picture.joined([picture.sheet_of(other, 20)], 1)),
+                      (strike.line("Jäger, fjord", scale=3), picture.joined([picture.line_of(other, "Jäger, fjord")], 3))):
         assert made.size == (len(due[0]), len(due))
         assert [0 if it else 1 for it in made.getdata()] == [bit for row in due for bit in row]
     from PIL import Image
@@ -293,15 +293,10 @@ def bits_of(glyph, width, ascent, descent):
     return ["".join(it) for it in rows]
 
 
-def tool(name, package):
-    """A mark that leaves a test out if a program is not installed."""
-    return pytest.mark.skipif(not shutil.which(name), reason="%s is not installed (Debian: %s)" % (name, package))
-
-
-@tool("bdf2psf", "bdf2psf")
 @needs_font(MONO)
 def test_psf(tmp_path):
     """A font of the console, read back."""
+    tool("bdf2psf")
     strike = mkstrike.Font(MONO).strike(14, "ascii,box").cell(8, 16, clip=True)
     with warnings.catch_warnings():
         warnings.simplefilter("error")
@@ -324,10 +319,10 @@ def test_psf(tmp_path):
 
 @needs_pillow
 @needs_font(SANS)
-@pytest.mark.parametrize("name", [pytest.param("pcf", marks=tool("bdftopcf", "xfonts-utils")),
-                                  pytest.param("otb", marks=tool("fonttosfnt", "xfonts-utils"))])
-def test_read_by_freetype(tmp_path, name):
+@pytest.mark.parametrize("name, maker", [("pcf", "bdftopcf"), ("otb", "fonttosfnt")])
+def test_read_by_freetype(tmp_path, name, maker):
     """A font of the X server and an OpenType font of bitmaps, read back by the FreeType of Pillow."""
+    tool(maker)
     from PIL import ImageFont
     strike = mkstrike.Font(SANS).strike(16, "20-7e,a0-ac,ae-ff")  # Pillow leaves soft hyphens out
     strike.save(tmp_path / ("a." + name))

@@ -1,17 +1,18 @@
 """Strikes are the program's, byte for byte, and glyphs are those of strikes."""
+import glob
 import io
 import os
 import pickle
 import warnings
 
 import pytest
-from shared import CANDIDATES, LIBERATION, MONO, SANS, VERSION, flags, font_bytes, needs_font, program, text_of
+from shared import FOLDER, LIBERATION, MONO, SANS, VERSION, flags, font_bytes, needs_font, program, text_of
 
 import mkstrike
 
 MODES = [(hinted, dropout) for hinted in (True, False) for dropout in (False, True, "near", "font")]
 SOME = "20-7e,a0-ff,2500-251f"
-FONTS = [it for it in CANDIDATES if os.path.exists(it)][:20]
+FONTS = [it for family, count in (("dejavu", 6), ("freefont", 4), ("liberation", 10)) for it in sorted(glob.glob(FOLDER + family + "/*.ttf"))[:count]]
 
 
 def test_installed_package():
@@ -20,7 +21,7 @@ def test_installed_package():
     assert mkstrike.__version__ == VERSION
 
 
-@pytest.mark.skipif(len(FONTS) < 20, reason="%d of 20 fonts are installed (Debian: fonts-dejavu, fonts-liberation)" % len(FONTS))
+@pytest.mark.skipif(len(FONTS) < 20, reason="%d of 20 fonts are installed (Debian: fonts-dejavu-core, fonts-freefont-ttf, fonts-liberation)" % len(FONTS))
 def test_twenty_fonts():
     """There are as many fonts as wanted."""
     assert len(FONTS) == 20
@@ -185,7 +186,7 @@ def test_sources_of_other_types(tmp_path):
 
     class Text:
         """A stream of text."""
-        def read(self, count):
+        def read(self, _):
             return "a"
 
     with pytest.raises(TypeError, match="^source: .* gives str, not bytes: open it with 'rb'"):

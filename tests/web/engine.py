@@ -4,7 +4,6 @@ import glob
 import json
 import os
 import random
-import re
 import struct
 import subprocess
 import tempfile
@@ -15,6 +14,7 @@ import prebuilt
 import pytest
 import sample_font
 import web_page
+from damage import Damaged
 from making.collection import Collection
 from needs import REAL, left_out, tool
 from prebuilt import TOP
@@ -75,13 +75,7 @@ def damaged(folder):
     draw, bases = random.Random(SEED), [fonts.FIXTURE, sample_font.sample()]
     bases += [fonts.part_of(prebuilt.read(SANS), range(0x20, 0x60))] if os.path.exists(SANS) else []
     for k in range(DAMAGED):
-        font = bytearray(bases[k % len(bases)])
-        for _ in range(draw.choice((1, 1, 2, 5))):
-            at = draw.randrange(len(font) if draw.random() < 0.8 else 300)
-            font[at:at + 2] = draw.choice((bytes(2), b"\xff\xff", bytes([font[at] ^ 1 << draw.randrange(8)])))
-        if draw.random() < 0.15:
-            del font[draw.randrange(len(font)):]
-        yield put(folder, "damaged%d.ttf" % k, font)
+        yield put(folder, "damaged%d.ttf" % k, Damaged(bases[k % len(bases)], draw, bases).data)
 
 
 def squares(count):
@@ -140,22 +134,6 @@ def answer(font, ppem, mode, chars, name="strike", face=None):
 def outline(font, ppem, mode, code):
     """The outline of a character, as the program writes it."""
     return program(["outline", "--ppem", str(ppem), "--char", "%x" % code] + flags(mode & HINTED), font).stdout
-
-
-def glyphs_of(strike):
-    """Of each character of a strike the advance, the box, and the rows as texts of 0 and 1."""
-    made = {}
-    for part in strike.decode().split("STARTCHAR ")[1:]:
-        found = re.search(r"ENCODING (\d+)\n.*DWIDTH (-?\d+) 0\nBBX (\d+) (\d+) (-?\d+) (-?\d+)\n", part, re.S)
-        code, advance, width, height, left, bottom = map(int, found.groups())
-        rows = part.partition("BITMAP")[2].partition("ENDCHAR")[0].split()
-        made[chr(code)] = advance, (width, height, left, bottom), [bin(int("1" + row, 16))[3:3 + width] for row in rows]
-    return made
-
-
-def heights_of(strike):
-    """The ascent and the descent of a strike."""
-    return [int(re.search(rb"^FONT_%s (-?\d+)$" % it, strike, re.M).group(1)) for it in (b"ASCENT", b"DESCENT")]
 
 
 # ---- Node
