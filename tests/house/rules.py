@@ -682,7 +682,7 @@ def idioms(house):
 def doors(house):
     """Each word in the table of docs/WORDS.md on the doors is a word of its door: the command, `strike`, C, Python, the page.
 
-    A word is what stands between backquotes; of the page it is what stands between commas."""
+    A word is what is between backquotes; on the page it is what is between commas."""
     path = "docs/WORDS.md"
     text = house.text(path) if house.exists(path) else ""
     for number, line in enumerate(text.partition("## At the doors")[2].partition("\n## ")[0].split("\n"), text.partition("## At the doors")[0].count("\n") + 1):
