@@ -90,16 +90,25 @@ impl<'a> Targets<'a> {
     }
 
     /// Where a false `IF` continues, as `Code::skip_false` says.
+    #[inline(always)]
     pub fn skip_false(&mut self, address: usize) -> Result<usize, CodeFault>
         ensures value { result ≡ past_of stops_at_false self.old address }
         ensures kept { self.new ≡ self.old }
     {
-        let place = address % PLACES;
-        if let Some(after) = recalled(self.skips[place].false_if, address) {
+        if let Some(after) = recalled(self.skips[address % PLACES].false_if, address) {
             return Ok(after);
         }
+        self.search_false(address)
+    }
+
+    /// Searches where a false `IF` continues, and remembers it.
+    #[inline(never)]
+    fn search_false(&mut self, address: usize) -> Result<usize, CodeFault>
+        ensures value { result ≡ past_of stops_at_false self.old address }
+        ensures kept { self.new ≡ self.old }
+    {
         let after = self.code.skip_false(address)?;
-        self.skips[place].false_if = target_of(address, after);
+        self.skips[address % PLACES].false_if = target_of(address, after);
         Ok(after)
     }
 

@@ -1,4 +1,4 @@
--- What a machine that is read from a block begins with.
+-- A table of none, whose first functions are then written from words, is the table that these words say: `functions_written`.
 -- For `State::blank` and `Machine::of_block`.
 use Rattle.std.proofs.Common.{◌≡◌, ℕ, zero, suc, ◌-◌, ◌/◌, ◌<◌, ◌≤◌, List, [], ◌∷◌, ◌++◌, length, map, take, drop, replicate, Option, None}
 use Rattle.std.proofs.Common.{FitsSigned, refl, ap, sym, ◌∙◌, arith}

@@ -10,7 +10,7 @@ use Rattle.fx_pointops.proofs.Keeping.{shapes_same, shapes_then, rows_keep}
 use Rattle.fx_machine.specs.declared.program.Program.{Program}
 use Rattle.fx_machine.specs.declared.definitions.Function.{Function}
 use Rattle.fx_machine.specs.declared.halt.Cause.{Cause}
-use Rattle.fx_machine.specs.declared.frames.Frame.{Frame}
+use Rattle.fx_machine.specs.declared.calls.OpenCall.{OpenCall}
 use Rattle.fx_machine.specs.declared.action.Action.{Action}
 use Rattle.fx_machine.specs.declared.action.Action.TheVariants.{Went, Called, Returned}
 use Rattle.fx_machine.specs.declared.state.State.{State}
@@ -189,7 +189,7 @@ KeepsMove z Finishes = Unit {0}
 KeepsMove z (Stops c) = Unit {0}
 KeepsMove z (Moves d) = HasShapes z (state_of d).zones
 
-turned_keeps : (z : Zones) (k : ℕ) (f : Function) (next : ℕ) (K : List Frame) (w : Program) (t : State) → HasShapes z t.zones
+turned_keeps : (z : Zones) (k : ℕ) (f : Function) (next : ℕ) (K : List OpenCall) (w : Program) (t : State) → HasShapes z t.zones
     → HasShapes z (state_of (turned k f next K w t)).zones
 unfolding state_of
 turned_keeps z zero f next K w t h = h
@@ -199,7 +199,7 @@ move_if : (z : Zones) (b : Bool) (x y : Move) → KeepsMove z x → KeepsMove z 
 move_if z true x y h k = h
 move_if z false x y h k = k
 
-move_keeps : (z : Zones) (x : Effect) (K : List Frame) (w : Program) → KeepsEffect z x → KeepsMove z (moved_by x K w)
+move_keeps : (z : Zones) (x : Effect) (K : List OpenCall) (w : Program) → KeepsEffect z x → KeepsMove z (moved_by x K w)
 unfolding KeepsEffect KeepsMove state_of
 move_keeps z Ends [] w h = tt
 move_keeps z Ends (g ∷ K) w h = tt

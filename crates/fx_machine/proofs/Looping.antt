@@ -1,4 +1,4 @@
--- The loop's exits and its step.
+-- The loop returns what the definition gives: at the end (`finished_here`), a halt (`halted_here`) or the limit (`limit_here`).
 -- It serves the run of a program.
 use Rattle.std.proofs.Common.{◌≡◌, ◌≢◌, ◌≤◌, ℕ, suc, ◌+◌, ◌-◌, ◌<◌, List, [], ◌∷◌, length, reverse, Result, Ok, Err, inl, inr, refl, ◌∙◌}
 use Rattle.std.proofs.Common.{arith}
@@ -9,7 +9,7 @@ use Rattle.fx_code.specs.Chain.{next_address}
 use Rattle.fx_machine.specs.declared.program.Program.{Program}
 use Rattle.fx_machine.specs.declared.halt.Cause.{Cause}
 use Rattle.fx_machine.specs.declared.halt.Cause.TheVariants.{StepLimit, StrayEnd, CodeEnd}
-use Rattle.fx_machine.specs.declared.frames.Frame.{Frame}
+use Rattle.fx_machine.specs.declared.calls.OpenCall.{OpenCall}
 use Rattle.fx_machine.specs.declared.state.State.{State}
 use Rattle.fx_machine.specs.declared.halt.Halt.{Halt}
 use Rattle.fx_machine.specs.declared.action.Action.{Action}
@@ -25,7 +25,8 @@ use Rattle.fx_machine.specs.Events.{steps_from}
 use Rattle.fx_machine.proofs.Reading.{row_cut}
 use Rattle.fx_machine.proofs.Stepping.{none_left, none_after_end, none_after_halt, left_events, no_events}
 
-module _ (texts : Program → List ℕ) (g : ℕ) (start : Program) (limit n : ℕ) (items : List Frame) (w : Program) (p : ℕ) (now : State)
+module _ (texts : Program
+    → List ℕ) (g : ℕ) (start : Program) (limit n : ℕ) (items : List OpenCall) (w : Program) (p : ℕ) (now : State)
   where
     -- what is answered from here
     abbrev From : Result (ℕ × State) Halt
@@ -35,15 +36,15 @@ module _ (texts : Program → List ℕ) (g : ℕ) (start : Program) (limit n : �
     unfolding row_in
     at_end e = rw (eq-eqb p (length (texts w)) e) refl
 
-    no_calls : (K : List Frame) → length K ≡ 0 → moved_by Ends K w ≡ Finishes
+    no_calls : (K : List OpenCall) → length K ≡ 0 → moved_by Ends K w ≡ Finishes
     no_calls [] z = refl
     no_calls (g ∷ K) z = absurd (omega arith)
 
-    ends_only : (K : List Frame) → moved_by Ends K w ≡ Finishes → length K ≡ 0
+    ends_only : (K : List OpenCall) → moved_by Ends K w ≡ Finishes → length K ≡ 0
     ends_only [] e = refl
     ends_only (g ∷ K) e = absurd cc
 
-    some_calls : (K : List Frame) → 0 < length K → moved_by Ends K w ≡ Stops StrayEnd
+    some_calls : (K : List OpenCall) → 0 < length K → moved_by Ends K w ≡ Stops StrayEnd
     some_calls [] z = absurd (omega arith)
     some_calls (g ∷ K) z = refl
 
@@ -68,7 +69,7 @@ module _ (texts : Program → List ℕ) (g : ℕ) (start : Program) (limit n : �
     cut_here lt apart past = halted_from CodeEnd lt (rw (← row_cut w p now (texts w) apart past) refl)
 
     -- what comes of an instruction that is there is not the end
-    not_finished : (r : Result (Action × State) Cause) (K : List Frame) → moved_by (settled r) K w ≡ Finishes → ⊥
+    not_finished : (r : Result (Action × State) Cause) (K : List OpenCall) → moved_by (settled r) K w ≡ Finishes → ⊥
     not_finished (Err c) K e = absurd cc
     not_finished (Ok (Went q, t)) K e = absurd cc
     not_finished (Ok (Called k f next, t)) K e = elim (cases_lt (length K) CALL_LIMIT) [
@@ -78,13 +79,13 @@ module _ (texts : Program → List ℕ) (g : ℕ) (start : Program) (limit n : �
     not_finished (Ok (Returned, t)) [] e = absurd cc
     not_finished (Ok (Returned, t)) (g ∷ K) e = absurd cc
 
-    limit_by : (K : List Frame) (m : Move) → moved_by (row_at texts w p now) K w ≡ m → (m ≡ Finishes → ⊥)
+    limit_by : (K : List OpenCall) (m : Move) → moved_by (row_at texts w p now) K w ≡ m → (m ≡ Finishes → ⊥)
         → answer_from (row_at texts) 0 n (config K w p now) ≡ Exhausted w p
     limit_by K Finishes e none = absurd (none refl)
     limit_by K (Stops c) e none = go_none (row_at texts) n K w p now (Stops c) (record { is = e })
     limit_by K (Moves d) e none = go_none (row_at texts) n K w p now (Moves d) (record { is = e })
 
-    finishes_only : (K : List Frame) → moved_by (row_at texts w p now) K w ≡ Finishes → (p ≡ length (texts w)) × (length K ≡ 0)
+    finishes_only : (K : List OpenCall) → moved_by (row_at texts w p now) K w ≡ Finishes → (p ≡ length (texts w)) × (length K ≡ 0)
     unfolding row_in
     finishes_only K e = elim (eqb_tells p (length (texts w))) [
       | inl x ↦ (x.1, ends_only K (rw x.0 at e))
@@ -109,7 +110,7 @@ module _ (texts : Program → List ℕ) (g : ℕ) (start : Program) (limit n : �
     abbrev Nothing : Type 0
     Nothing = left_events texts g (limit - n) (config (reverse items) w p now) ≡ []
 
-    unseen_by : (K : List Frame) → row_at texts w p now ≡ Ends → steps_from (row_at texts) (limit - n) (config K w p now) ≡ []
+    unseen_by : (K : List OpenCall) → row_at texts w p now ≡ Ends → steps_from (row_at texts) (limit - n) (config K w p now) ≡ []
     unseen_by [] e = none_after_end (row_at texts) (limit - n) [] w p now (rw e refl)
     unseen_by (f ∷ K) e = none_after_halt (row_at texts) (limit - n) (f ∷ K) w p now StrayEnd (rw e refl)
 
@@ -131,7 +132,7 @@ module _ (texts : Program → List ℕ) (g : ℕ) (start : Program) (limit n : �
 
 -- ---- what is answered from here is due
 
-module _ (texts : Program → List ℕ) (g : ℕ) (start : Program) (limit : ℕ) (first now : State) (n : ℕ) (items : List Frame)
+module _ (texts : Program → List ℕ) (g : ℕ) (start : Program) (limit : ℕ) (first now : State) (n : ℕ) (items : List OpenCall)
     (w : Program) (p : ℕ)
     (h : answer_of (row_at texts) limit start first ≡ answer_from (row_at texts) (limit - n) n (config (reverse items) w p now))
   where

@@ -1,4 +1,4 @@
--- One number or point more, of words and to words.
+-- Points read from words, and then one more, are the points of that many more words: `points_more`.
 use Rattle.std.proofs.Common.{◌≡◌, ℕ, zero, suc, ◌+◌, ◌*◌, List, [], ◌∷◌, ◌++◌, drop, take, length, ◌<◌, refl, ap, sym, ◌∙◌}
 use Rattle.std.proofs.Common.{add-one, arith, append_assoc, map}
 use Rattle.std.proofs.lemmas.List.{drop-drop, take_more, map-append, append-nil}

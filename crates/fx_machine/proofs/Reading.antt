@@ -1,4 +1,4 @@
--- The row as code reads it.
+-- The row that code finds for an opcode is the row of the instruction with its data: `row_there`, `row_cut`.
 -- It serves the step: the row of the opcode alone is that of the instruction with its data; and PUSHB, which takes its bytes.
 use Rattle.std.proofs.Common.{◌≡◌, ◌≢◌, ℕ, ◌+◌, ◌-◌, ◌<◌, ◌≤◌, Bool, true, false, List, length, Result, Err, inl, inr, refl, arith}
 use Rattle.std.specs.List.{slice_range}

@@ -1,4 +1,4 @@
--- What a machine begins with.
+-- After `fpgm` and `prep` a machine is the one that the definition gives (`machine_is`), or they halted (`machine_halts`).
 -- Control values are numbers of 32 bits; the tables that hold what programs leave have the sizes of the first state's.
 use Rattle.std.proofs.Common.{◌≡◌, ℕ, ◌+◌, List, [], true, map, Result, Ok, Err, FitsSigned, refl}
 use Rattle.std.specs.List.{All}

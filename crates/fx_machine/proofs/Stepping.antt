@@ -1,10 +1,10 @@
--- The instructions that a run executes, one after the other.
+-- An instruction that moves a run is the next of those it executes (`one_step`); none comes after the last (`none_after_end`).
 -- It serves the loop of `run`, and the laws of what a watcher sees.
 use Rattle.std.proofs.Common.{◌≡◌, ℕ, zero, suc, ◌+◌, ◌-◌, ◌<◌, List, [], ◌∷◌, length, reverse, map, refl, arith}
 use Rattle.std.proofs.lemmas.List.{length-reverse}
 use Rattle.fx_machine.specs.declared.program.Program.{Program}
 use Rattle.fx_machine.specs.declared.halt.Cause.{Cause}
-use Rattle.fx_machine.specs.declared.frames.Frame.{Frame}
+use Rattle.fx_machine.specs.declared.calls.OpenCall.{OpenCall}
 use Rattle.fx_machine.specs.declared.state.State.{State}
 use Rattle.fx_machine.specs.Effects.{Effect}
 use Rattle.fx_machine.specs.Machine.{Config, config, Finishes, Stops, Moves, moved_by}
@@ -13,23 +13,23 @@ use Rattle.fx_machine.specs.Table.{row_at}
 use Rattle.fx_machine.specs.Events.{Event, Begins, Executed, steps_from, executed, events_of}
 
 module _ (row : Program → ℕ → State → Effect) where
-  pub none_left : (K : List Frame) (w : Program) (p : ℕ) (s : State) → steps_from row 0 (config K w p s) ≡ []
+  pub none_left : (K : List OpenCall) (w : Program) (p : ℕ) (s : State) → steps_from row 0 (config K w p s) ≡ []
   unfolding steps_from
   none_left K w p s = refl
 
-  pub none_after_end : (left : ℕ) (K : List Frame) (w : Program) (p : ℕ) (s : State) → moved_by (row w p s) K w ≡ Finishes
+  pub none_after_end : (left : ℕ) (K : List OpenCall) (w : Program) (p : ℕ) (s : State) → moved_by (row w p s) K w ≡ Finishes
       → steps_from row left (config K w p s) ≡ []
   unfolding steps_from
   none_after_end zero K w p s e = refl
   none_after_end (suc left) K w p s e = rw e refl
 
-  pub none_after_halt : (left : ℕ) (K : List Frame) (w : Program) (p : ℕ) (s : State) (c : Cause)
+  pub none_after_halt : (left : ℕ) (K : List OpenCall) (w : Program) (p : ℕ) (s : State) (c : Cause)
       → moved_by (row w p s) K w ≡ Stops c → steps_from row left (config K w p s) ≡ []
   unfolding steps_from
   none_after_halt zero K w p s c e = refl
   none_after_halt (suc left) K w p s c e = rw e refl
 
-  pub one_step : (left : ℕ) (K : List Frame) (w : Program) (p : ℕ) (s : State) (d : Config) → moved_by (row w p s) K w ≡ Moves d
+  pub one_step : (left : ℕ) (K : List OpenCall) (w : Program) (p : ℕ) (s : State) (d : Config) → moved_by (row w p s) K w ≡ Moves d
       → steps_from row (suc left) (config K w p s) ≡ record { program = w; address = p; to = d } ∷ steps_from row left d
   unfolding steps_from
   one_step left K w p s d e = rw e refl
@@ -41,7 +41,7 @@ module _ (texts : Program → List ℕ) (g : ℕ) where
   pub left_events : ℕ → Config → List Event
   left_events left c = map (executed texts g) (steps_from (row_at texts) left c)
 
-  pub events_begin : (limit : ℕ) (w : Program) (s : State) (items : List Frame) → items ≡ []
+  pub events_begin : (limit : ℕ) (w : Program) (s : State) (items : List OpenCall) → items ≡ []
       → events_of texts g limit w s ≡ Begins (named g w) s ∷ left_events (limit - 0) (config (reverse items) w 0 s)
   unfolding events_of left_events
   events_begin limit w s items none = let e : limit - 0 ≡ limit = omega arith in rw (e, none) refl
@@ -50,7 +50,7 @@ module _ (texts : Program → List ℕ) (g : ℕ) where
   unfolding left_events
   no_events left c e = rw e refl
 
-  pub one_event : (limit n : ℕ) (K : List Frame) (w : Program) (p : ℕ) (s : State) (items : List Frame) (v : Program) (q : ℕ)
+  pub one_event : (limit n : ℕ) (K : List OpenCall) (w : Program) (p : ℕ) (s : State) (items : List OpenCall) (v : Program) (q : ℕ)
       (t : State) (count : ℕ) → count ≡ length items → n < limit
       → moved_by (row_at texts w p s) K w ≡ Moves (config (reverse items) v q t)
       → left_events (limit - n) (config K w p s)

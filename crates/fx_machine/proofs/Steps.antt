@@ -1,4 +1,4 @@
--- The function's answer is the relation's, and there is no other.
+-- The function's answer is the relation's (`answer_is`), and there is no other (`one_answer`).
 -- Serves the laws of `answer_of` and the loop of `run`.
 use Rattle.std.proofs.Common.{◌≡◌, ◌⊎◌, inl, inr, ℕ, zero, suc, ◌+◌, ◌-◌, ◌<◌, ◌≤◌, List, [], ◌∷◌, length, refl, sym, ap, ◌∙◌, Some, subst}
 use Rattle.std.specs.Prelude.{slice_get}
@@ -9,7 +9,7 @@ use Rattle.fx_machine.specs.declared.program.Program.{Program}
 use Rattle.fx_machine.specs.declared.definitions.Function.{Function}
 use Rattle.fx_machine.specs.declared.halt.Cause.{Cause}
 use Rattle.fx_machine.specs.declared.halt.Cause.TheVariants.{CallDepth}
-use Rattle.fx_machine.specs.declared.frames.Frame.{Frame}
+use Rattle.fx_machine.specs.declared.calls.OpenCall.{OpenCall}
 use Rattle.fx_machine.specs.declared.state.State.{State}
 use Rattle.fx_machine.specs.Effects.{Effect, Ends, Fails, Goes, Calls, Returns}
 use Rattle.fx_machine.specs.Runs.{How, Ended, Returned, Faulted, Open, IsLast, Start, At, Turns, Runs, open_at, ends}
@@ -28,20 +28,20 @@ module _ (row : Program → ℕ → State → Effect) where
   -- ---- one instruction of the function
 
   -- what comes of the instruction at an address within these open calls
-  pub record Takes (K : List Frame) (w : Program) (p : ℕ) (s : State) (m : Move) : Type 0 where
+  pub record Takes (K : List OpenCall) (w : Program) (p : ℕ) (s : State) (m : Move) : Type 0 where
     pub is : moved_by (row w p s) K w ≡ m
 
-  pub go_none : (n : ℕ) (K : List Frame) (w : Program) (p : ℕ) (s : State) (m : Move) → Takes K w p s m
+  pub go_none : (n : ℕ) (K : List OpenCall) (w : Program) (p : ℕ) (s : State) (m : Move) → Takes K w p s m
       → go zero n (config K w p s) ≡ verdict_at_limit n w p s m
   unfolding answer_from
   go_none n K w p s m e = rw e.is refl
 
-  pub go_one : (left n : ℕ) (K : List Frame) (w : Program) (p : ℕ) (s : State) (m : Move) → Takes K w p s m
+  pub go_one : (left n : ℕ) (K : List OpenCall) (w : Program) (p : ℕ) (s : State) (m : Move) → Takes K w p s m
       → go (suc left) n (config K w p s) ≡ verdict_by (λ to. go left (suc n) to) n w p s m
   unfolding answer_from
   go_one left n K w p s m e = rw e.is refl
 
-  pub go_finishes : (left n : ℕ) (K : List Frame) (w : Program) (p : ℕ) (s : State) → Takes K w p s Finishes
+  pub go_finishes : (left n : ℕ) (K : List OpenCall) (w : Program) (p : ℕ) (s : State) → Takes K w p s Finishes
       → go left n (config K w p s) ≡ Finished n s
   go_finishes zero n K w p s e = go_none n K w p s Finishes e
   go_finishes (suc left) n K w p s e = go_one left n K w p s Finishes e
@@ -55,7 +55,8 @@ module _ (row : Program → ℕ → State → Effect) where
   skip_none : (c : Config) → Skips c 0 c
   skip_none c = record { skips = λ k m. rw (zero-add k, zero-add m) refl }
 
-  skip_one : {K : List Frame} {w : Program} {p : ℕ} {s : State} {d : Config} → Takes K w p s (Moves d) → Skips (config K w p s) 1 d
+  skip_one : {K : List OpenCall} {w : Program} {p : ℕ} {s : State} {d : Config} → Takes K w p s (Moves d)
+      → Skips (config K w p s) 1 d
   skip_one {K = K} {w = w} {p = p} {s = s} {d = d} e =
       record { skips = λ k m. rw (one-add k, one-add m) (go_one k m K w p s (Moves d) e) }
 
@@ -68,15 +69,15 @@ module _ (row : Program → ℕ → State → Effect) where
   }
 
   -- where a run leads, from a configuration within these open calls
-  Comes : Config → ℕ → List Frame → State → How → Type 0
+  Comes : Config → ℕ → List OpenCall → State → How → Type 0
   Comes c n K u Ended = (k m : ℕ) → go (n + k) m c ≡ Finished (n + m) u
   Comes c n K u (Faulted x v q) = (k m : ℕ) → go (n + suc k) m c ≡ Halted x v q
-  Comes c n K u (Open v q) = (L : List Frame) × Skips c n (config L v q u)
+  Comes c n K u (Open v q) = (L : List OpenCall) × Skips c n (config L v q u)
   Comes c n [] u Returned = ⊥
   Comes c n (g ∷ K) u Returned = Skips c n (turned g.left g.function g.next K g.program u)
 
   -- what comes of a later configuration comes of an earlier one
-  comes_before : {c d : Config} {m : ℕ} (n : ℕ) (K : List Frame) (u : State) (how : How) → Skips c m d → Comes d n K u how
+  comes_before : {c d : Config} {m : ℕ} (n : ℕ) (K : List OpenCall) (u : State) (how : How) → Skips c m d → Comes d n K u how
       → Comes c (m + n) K u how
   unfolding Comes
   comes_before {m = m} n K u Ended x y = λ k j.
@@ -90,12 +91,14 @@ module _ (row : Program → ℕ → State → Effect) where
   comes_before n [] u Returned x y = y
   comes_before n (g ∷ K) u Returned x y = skip_then x y
 
-  comes_step : {K' : List Frame} {w : Program} {p : ℕ} {s : State} {d : Config} (n : ℕ) (K : List Frame) (u : State) (how : How)
+  comes_step : {K' : List OpenCall} {w : Program} {p : ℕ} {s : State} {d : Config} (n : ℕ) (K : List OpenCall) (u : State)
+      (how : How)
       → Takes K' w p s (Moves d) → Comes d n K u how → Comes (config K' w p s) (suc n) K u how
   comes_step n K u how e x = rw (← one-add n) (comes_before n K u how (skip_one e) x)
 
   -- the calls do not matter to a run that does not come back
-  comes_last : (c : Config) (n : ℕ) (K L : List Frame) (u : State) (how : How) → IsLast how → Comes c n K u how → Comes c n L u how
+  comes_last : (c : Config) (n : ℕ) (K L : List OpenCall) (u : State) (how : How) → IsLast how → Comes c n K u how
+      → Comes c n L u how
   unfolding Comes
   comes_last c n K L u Ended l x = x
   comes_last c n K L u (Faulted y w p) l x = x
@@ -106,32 +109,32 @@ module _ (row : Program → ℕ → State → Effect) where
   unfolding Comes
   comes_end {w = w} {p = p} {s = s} e k m = rw (zero-add k, zero-add m) (go_finishes k m [] w p s e)
 
-  comes_fault : {K : List Frame} {w : Program} {p : ℕ} {s : State} {c : Cause} → Takes K w p s (Stops c)
+  comes_fault : {K : List OpenCall} {w : Program} {p : ℕ} {s : State} {c : Cause} → Takes K w p s (Stops c)
       → Comes (config K w p s) 0 K s (Faulted c w p)
   unfolding Comes
   comes_fault {K = K} {w = w} {p = p} {s = s} {c = c} e k m = rw (zero-add (suc k)) (go_one k m K w p s (Stops c) e)
 
   -- what an effect takes
-  takes : {K : List Frame} {w : Program} {p : ℕ} {s : State} {x : Effect} {m : Move} → row w p s ≡ x → moved_by x K w ≡ m
+  takes : {K : List OpenCall} {w : Program} {p : ℕ} {s : State} {x : Effect} {m : Move} → row w p s ≡ x → moved_by x K w ≡ m
       → Takes K w p s m
   takes e h = record { is = rw e h }
 
   -- the configuration of a start within these open calls
-  begun : Start → List Frame → Program → State → Config
+  begun : Start → List OpenCall → Program → State → Config
   begun (At p) K w s = config K w p s
   begun (Turns k f next) K w s = turned k f next K w s
 
-  called : (K : List Frame) (w : Program) (k : ℕ) (f : Function) (next : ℕ) (t : State) → length K < CALL_LIMIT
+  called : (K : List OpenCall) (w : Program) (k : ℕ) (f : Function) (next : ℕ) (t : State) → length K < CALL_LIMIT
       → moved_by (Calls k f next t) K w ≡ Moves (turned k f next K w t)
   called K w k f next t h = rw (lt-ltb (length K) CALL_LIMIT h) refl
 
-  deep : (K : List Frame) (w : Program) (k : ℕ) (f : Function) (next : ℕ) (t : State) → CALL_LIMIT ≤ length K
+  deep : (K : List OpenCall) (w : Program) (k : ℕ) (f : Function) (next : ℕ) (t : State) → CALL_LIMIT ≤ length K
       → moved_by (Calls k f next t) K w ≡ Stops CallDepth
   deep K w k f next t h = rw (le-ltb (length K) CALL_LIMIT h) refl
 
   -- a run of n instructions is n steps of the function, within any open calls
   comes_of : {w : Program} {st : Start} {d n : ℕ} {s u : State} {how : How} → Runs row w st d s n u how
-      → (K : List Frame) → length K ≡ d → Comes (begun st K w s) n K u how
+      → (K : List OpenCall) → length K ≡ d → Comes (begun st K w s) n K u how
   unfolding Comes begun
   comes_of (open_at {w = w} {p = p} {s = s}) K e = (K, skip_none (config K w p s))
   comes_of (ends x) [] e = comes_end (takes x refl)
@@ -158,7 +161,7 @@ module _ (row : Program → ℕ → State → Effect) where
   -- ---- from the function to runs
 
   -- what is left of the whole from a start within these open calls
-  Rest : List Frame → Program → Start → State → ℕ → State → How → Type 0
+  Rest : List OpenCall → Program → Start → State → ℕ → State → How → Type 0
   Rest [] w st s n u how = Runs row w st 0 s n u how
   Rest (g ∷ K) w st s n u how =
       (Runs row w st (suc (length K)) s n u how × IsLast how)
@@ -166,14 +169,14 @@ module _ (row : Program → ℕ → State → Effect) where
       t k u how × (n ≡ m + k))
 
   -- a run that does not come back is all that is left
-  rest_last : (K : List Frame) {w : Program} {st : Start} {s : State} {n : ℕ} {u : State} {how : How}
+  rest_last : (K : List OpenCall) {w : Program} {st : Start} {s : State} {n : ℕ} {u : State} {how : How}
       → Runs row w st (length K) s n u how → IsLast how → Rest K w st s n u how
   unfolding Rest
   rest_last [] r l = r
   rest_last (g ∷ K) r l = inl (r, l)
 
   -- what stands before a run stands before what is left
-  rest_before : (K : List Frame) {w w' : Program} {st st' : Start} {s s' : State} (j n : ℕ) (u : State) (how : How)
+  rest_before : (K : List OpenCall) {w w' : Program} {st st' : Start} {s s' : State} (j n : ℕ) (u : State) (how : How)
       → ((m : ℕ) (t : State) (h : How) → Runs row w st (length K) s m t h → Runs row w' st' (length K) s' (j + m) t h)
       → Rest K w st s n u how → Rest K w' st' s' (j + n) u how
   unfolding Rest
@@ -185,7 +188,7 @@ module _ (row : Program → ℕ → State → Effect) where
   Left : Config → ℕ → State → How → Type 0
   Left (config K w p s) n u how = Rest K w (At p) s n u how
 
-  rest_turned : (k : ℕ) (f : Function) (next : ℕ) (K : List Frame) (w : Program) (s : State) (n : ℕ) (u : State) (how : How)
+  rest_turned : (k : ℕ) (f : Function) (next : ℕ) (K : List OpenCall) (w : Program) (s : State) (n : ℕ) (u : State) (how : How)
       → Left (turned k f next K w s) n u how → Rest K w (Turns k f next) s n u how
   unfolding Left Rest
   rest_turned zero f next K w s n u how r = rw (← zero-add n) (rest_before K 0 n u how (λ m t h x. rw zero-add (done x)) r)
@@ -193,12 +196,12 @@ module _ (row : Program → ℕ → State → Effect) where
   rest_turned (suc k) f next K w s n u how (inr r) = rw r.5 (rest_before K r.0 r.1 u how (λ m t h x. turn r.3 x) r.4)
 
   -- what a move says of what is left
-  Leads : List Frame → Program → ℕ → State → Move → Type 0
+  Leads : List OpenCall → Program → ℕ → State → Move → Type 0
   Leads K w p s Finishes = Left (config K w p s) 0 s Ended
   Leads K w p s (Stops c) = Left (config K w p s) 0 s (Faulted c w p)
   Leads K w p s (Moves d) = (n : ℕ) (u : State) (how : How) → Left d n u how → Left (config K w p s) (suc n) u how
 
-  leads_call : (K : List Frame) (w : Program) (p : ℕ) (s : State) (k : ℕ) (f : Function) (next : ℕ) (t : State)
+  leads_call : (K : List OpenCall) (w : Program) (p : ℕ) (s : State) (k : ℕ) (f : Function) (next : ℕ) (t : State)
       → row w p s ≡ Calls k f next t → Leads K w p s (moved_by (Calls k f next t) K w)
   unfolding Leads Left
   leads_call K w p s k f next t e = elim (cases_lt (length K) CALL_LIMIT) [
@@ -208,7 +211,7 @@ module _ (row : Program → ℕ → State → Effect) where
     | inr h ↦ rw (le-ltb (length K) CALL_LIMIT h) (rest_last K (too_deep e h) tt)
   ]
 
-  leads : (K : List Frame) (w : Program) (p : ℕ) (s : State) (x : Effect) → row w p s ≡ x → Leads K w p s (moved_by x K w)
+  leads : (K : List OpenCall) (w : Program) (p : ℕ) (s : State) (x : Effect) → row w p s ≡ x → Leads K w p s (moved_by x K w)
   unfolding Leads Left Rest
   leads [] w p s Ends e = ends e
   leads (g ∷ K) w p s Ends e = inl (ends_inside e, tt)
@@ -226,7 +229,8 @@ module _ (row : Program → ℕ → State → Effect) where
         → Came left c n (Halted x v p)
     came_open : (u : State) {v : Program} {p : ℕ} → Left c left u (Open v p) → Came left c n (Exhausted v p)
 
-  came_step : {left n : ℕ} {K : List Frame} {w : Program} {p : ℕ} {s : State} {d : Config} {v : Verdict} → Leads K w p s (Moves d)
+  came_step : {left n : ℕ} {K : List OpenCall} {w : Program} {p : ℕ} {s : State} {d : Config} {v : Verdict}
+      → Leads K w p s (Moves d)
       → Came left d (suc n) v → Came (suc left) (config K w p s) n v
   unfolding Leads
   came_step {n = n} l (came_end k u h r) =
@@ -234,23 +238,23 @@ module _ (row : Program → ℕ → State → Effect) where
   came_step l (came_fault k u h r) = came_fault (suc k) u (omega arith) (l _ _ _ r)
   came_step l (came_open u r) = came_open u (l _ _ _ r)
 
-  came_here : (K : List Frame) (w : Program) (p : ℕ) (s : State) (n : ℕ) → Came zero (config K w p s) n (Exhausted w p)
+  came_here : (K : List OpenCall) (w : Program) (p : ℕ) (s : State) (n : ℕ) → Came zero (config K w p s) n (Exhausted w p)
   unfolding Left
   came_here K w p s n = came_open s (rest_last K open_at tt)
 
-  came_finish : (left n : ℕ) (K : List Frame) (w : Program) (p : ℕ) (s : State) → Leads K w p s Finishes
+  came_finish : (left n : ℕ) (K : List OpenCall) (w : Program) (p : ℕ) (s : State) → Leads K w p s Finishes
       → Came left (config K w p s) n (Finished n s)
   unfolding Leads
   came_finish left n K w p s l =
       let x : Came left (config K w p s) n (Finished (0 + n) s) = came_end 0 s (omega arith) l in rw (zero-add n) at x
 
-  came_none : (n : ℕ) (K : List Frame) (w : Program) (p : ℕ) (s : State) (m : Move) → Takes K w p s m → Leads K w p s m
+  came_none : (n : ℕ) (K : List OpenCall) (w : Program) (p : ℕ) (s : State) (m : Move) → Takes K w p s m → Leads K w p s m
       → Came zero (config K w p s) n (go zero n (config K w p s))
   came_none n K w p s Finishes e l = rw (go_finishes zero n K w p s e) (came_finish zero n K w p s l)
   came_none n K w p s (Stops c) e l = rw (go_none n K w p s (Stops c) e) (came_here K w p s n)
   came_none n K w p s (Moves d) e l = rw (go_none n K w p s (Moves d) e) (came_here K w p s n)
 
-  came_one : (left n : ℕ) (K : List Frame) (w : Program) (p : ℕ) (s : State) (m : Move) → Takes K w p s m → Leads K w p s m
+  came_one : (left n : ℕ) (K : List OpenCall) (w : Program) (p : ℕ) (s : State) (m : Move) → Takes K w p s m → Leads K w p s m
       → ((d : Config) → Came left d (suc n) (go left (suc n) d))
       → Came (suc left) (config K w p s) n (go (suc left) n (config K w p s))
   unfolding Leads
@@ -282,7 +286,7 @@ module _ (row : Program → ℕ → State → Effect) where
         let e : n + suc (limit - suc n) ≡ limit = omega arith in rw e at (comes_of r [] refl (limit - suc n) 0)
 
     answer_open : {u : State} {v : Program} {p : ℕ} → Runs row w (At 0) 0 s limit u (Open v p)
-        → (L : List Frame) × (go limit 0 top ≡ go 0 limit (config L v p u))
+        → (L : List OpenCall) × (go limit 0 top ≡ go 0 limit (config L v p u))
     unfolding Comes begun
     answer_open r = let x = comes_of r [] refl in (x.0, rw (add-zero limit) at (x.1.skips 0 0))
 
@@ -304,7 +308,7 @@ module _ (row : Program → ℕ → State → Effect) where
     answer_is = answer_came (go limit 0 top) refl (came limit 0 top)
 
     -- where the function is at the limit
-    at_limit : (n : ℕ) (K : List Frame) (v : Program) (p : ℕ) (t : State) (m : Move) → Takes K v p t m
+    at_limit : (n : ℕ) (K : List OpenCall) (v : Program) (p : ℕ) (t : State) (m : Move) → Takes K v p t m
         → (go 0 n (config K v p t) ≡ Exhausted v p) ⊎ (go 0 n (config K v p t) ≡ Finished n t)
     at_limit n K v p t Finishes e = inr (go_finishes zero n K v p t e)
     at_limit n K v p t (Stops c) e = inl (go_none n K v p t (Stops c) e)
@@ -344,22 +348,22 @@ module _ (row : Program → ℕ → State → Effect) where
   unfolding ToLeft Left
   open_here (config K w p s) = rest_last K open_at tt
 
-  to_left : (K : List Frame) (w : Program) (p : ℕ) (s : State) (d : Config) (n : ℕ) (e : Config) → Leads K w p s (Moves d)
+  to_left : (K : List OpenCall) (w : Program) (p : ℕ) (s : State) (d : Config) (n : ℕ) (e : Config) → Leads K w p s (Moves d)
       → ToLeft d n e → ToLeft (config K w p s) (suc n) e
   unfolding ToLeft Leads
   to_left K w p s d n (config L v q t) l x = l n t (Open v q) x
 
-  numbered_first : (K : List Frame) (w : Program) (p : ℕ) (s : State) (d : Config) → Leads K w p s (Moves d)
+  numbered_first : (K : List OpenCall) (w : Program) (p : ℕ) (s : State) (d : Config) → Leads K w p s (Moves d)
       → Numbered (config K w p s) 0 (record { program = w; address = p; to = d })
   unfolding Numbered Left
   numbered_first K w p s d l = ((s, rest_last K open_at tt), to_left K w p s d 0 d l (open_here d))
 
-  numbered_next : (K : List Frame) (w : Program) (p : ℕ) (s : State) (d : Config) (k : ℕ) (x : Step) → Leads K w p s (Moves d)
+  numbered_next : (K : List OpenCall) (w : Program) (p : ℕ) (s : State) (d : Config) (k : ℕ) (x : Step) → Leads K w p s (Moves d)
       → Numbered d k x → Numbered (config K w p s) (suc k) x
   unfolding Numbered Leads
   numbered_next K w p s d k x l y = ((y.0.0, l k y.0.0 (Open x.program x.address) y.0.1), to_left K w p s d (suc k) x.to l y.1)
 
-  numbered_in : (K : List Frame) (w : Program) (p : ℕ) (s : State) (d : Config) (xs : List Step) (k : ℕ) (x : Step)
+  numbered_in : (K : List OpenCall) (w : Program) (p : ℕ) (s : State) (d : Config) (xs : List Step) (k : ℕ) (x : Step)
       → Leads K w p s (Moves d) → ((j : ℕ) → slice_get xs j ≡ Some x → Numbered d j x)
       → slice_get (record { program = w; address = p; to = d } ∷ xs) k ≡ Some x → Numbered (config K w p s) k x
   numbered_in K w p s d xs zero x l more h =
@@ -371,7 +375,7 @@ module _ (row : Program → ℕ → State → Effect) where
   nowhere [] k x e h = absurd cc
   nowhere (y ∷ ys) k x e h = absurd cc
 
-  numbered_by : (left k : ℕ) (K : List Frame) (w : Program) (p : ℕ) (s : State) (x : Step) (m : Move) → Takes K w p s m
+  numbered_by : (left k : ℕ) (K : List OpenCall) (w : Program) (p : ℕ) (s : State) (x : Step) (m : Move) → Takes K w p s m
       → Leads K w p s m → ((d : Config) (j : ℕ) → slice_get (steps left d) j ≡ Some x → Numbered d j x)
       → slice_get (steps (suc left) (config K w p s)) k ≡ Some x → Numbered (config K w p s) k x
   numbered_by left k K w p s x Finishes e l more h = absurd (nowhere _ k x (none_after_end row (suc left) K w p s e.is) h)
@@ -392,14 +396,14 @@ module _ (row : Program → ℕ → State → Effect) where
   CountsFrom left n c m (Halted x v q) = (u : State) × Left c m u (Faulted x v q)
   CountsFrom left n c m (Exhausted v q) = m ≡ left
 
-  counts_more : (left n : ℕ) (K : List Frame) (w : Program) (p : ℕ) (s : State) (d : Config) (m : ℕ) (v : Verdict)
+  counts_more : (left n : ℕ) (K : List OpenCall) (w : Program) (p : ℕ) (s : State) (d : Config) (m : ℕ) (v : Verdict)
       → Leads K w p s (Moves d) → CountsFrom left (suc n) d m v → CountsFrom (suc left) n (config K w p s) (suc m) v
   unfolding CountsFrom Leads
   counts_more left n K w p s d m (Finished k t) l e = omega (arith, e)
   counts_more left n K w p s d m (Halted x v q) l e = (e.0, l m e.0 (Faulted x v q) e.1)
   counts_more left n K w p s d m (Exhausted v q) l e = omega (arith, e)
 
-  counts_one : (left n : ℕ) (K : List Frame) (w : Program) (p : ℕ) (s : State) (m : Move) → Takes K w p s m → Leads K w p s m
+  counts_one : (left n : ℕ) (K : List OpenCall) (w : Program) (p : ℕ) (s : State) (m : Move) → Takes K w p s m → Leads K w p s m
       → ((d : Config) → CountsFrom left (suc n) d (length (steps left d)) (go left (suc n) d))
       → CountsFrom (suc left) n (config K w p s) (length (steps (suc left) (config K w p s))) (go (suc left) n (config K w p s))
   unfolding CountsFrom Leads
@@ -411,7 +415,7 @@ module _ (row : Program → ℕ → State → Effect) where
       rw (go_one left n K w p s (Moves d) e, one_step row left K w p s d e.is)
       (counts_more left n K w p s d (length (steps left d)) (go left (suc n) d) l (more d))
 
-  counts_none : (n : ℕ) (K : List Frame) (w : Program) (p : ℕ) (s : State) (m : Move) → Takes K w p s m
+  counts_none : (n : ℕ) (K : List OpenCall) (w : Program) (p : ℕ) (s : State) (m : Move) → Takes K w p s m
       → CountsFrom zero n (config K w p s) 0 (go zero n (config K w p s))
   unfolding CountsFrom
   counts_none n K w p s Finishes e = rw (go_finishes zero n K w p s e) (omega arith)

@@ -1,4 +1,4 @@
--- Tables of functions of which the last part is empty.
+-- A table that took the functions of another one, and has no more, is that table: `copied`.
 -- For `FunctionTable`.
 use Rattle.std.proofs.Common.{◌≡◌, ℕ, ◌+◌, ◌-◌, ◌<◌, ◌≤◌, max, List, ◌++◌, length, take, drop, set, replicate}
 use Rattle.std.proofs.Common.{Option, None, ap, sym, ◌∙◌, arith}

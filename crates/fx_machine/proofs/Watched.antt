@@ -1,4 +1,4 @@
--- What a watcher has seen in the middle of a run.
+-- A watcher that saw some events, and then others, has seen both: `seen_both`.
 -- It serves the loop of `run`, and two programs that run one after the other.
 use Rattle.std.proofs.Common.{◌≡◌, List, [], ◌∷◌, ◌++◌, refl, subst, sym}
 use Rattle.fx_machine.specs.Events.{Event, Watches}

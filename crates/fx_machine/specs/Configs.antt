@@ -4,18 +4,18 @@ use Rattle.fx_code.specs.Chain.{opcode_at}
 use Rattle.fx_machine.specs.declared.program.Program.{Program}
 use Rattle.fx_machine.specs.declared.halt.Cause.{Cause}
 use Rattle.fx_machine.specs.declared.halt.Cause.TheVariants.{StepLimit}
-use Rattle.fx_machine.specs.declared.frames.Frame.{Frame}
+use Rattle.fx_machine.specs.declared.calls.OpenCall.{OpenCall}
 use Rattle.fx_machine.specs.declared.state.State.{State}
-use Rattle.fx_machine.specs.declared.frames.Cursor.{Cursor}
-use Rattle.fx_machine.specs.declared.frames.Calls.{Calls}
+use Rattle.fx_machine.specs.declared.calls.Cursor.{Cursor}
+use Rattle.fx_machine.specs.declared.calls.Calls.{Calls}
 use Rattle.fx_machine.specs.declared.halt.Halt.{Halt}
 use Rattle.fx_machine.specs.Programs.{named}
 use Rattle.fx_machine.specs.Runs.{Verdict, Finished, Halted, Exhausted}
 use Rattle.fx_machine.specs.Machine.{Config, config}
 
 -- the open calls, the innermost first
-abbrev pub calls_of : Calls → List Frame
-calls_of calls = reverse calls.frames.items
+abbrev pub calls_of : Calls → List OpenCall
+calls_of calls = reverse calls.open_calls.items
 
 abbrev pub config_of : Cursor → Calls → State → Config
 config_of cursor calls s = config (calls_of calls) cursor.program cursor.address s

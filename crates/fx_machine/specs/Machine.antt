@@ -1,10 +1,10 @@
--- The answer of a program as a function, beside the relation of Runs: the machine with explicit frames, one instruction at a time.
+-- The answer of a program as a function, beside the relation of Runs: the machine with its open calls, one instruction at a time.
 use Rattle.std.specs.Prelude.{◌≡◌, ℕ, zero, suc, nat_lt, if◌then◌else◌, List, [], ◌∷◌, length}
 use Rattle.fx_machine.specs.declared.program.Program.{Program}
 use Rattle.fx_machine.specs.declared.definitions.Function.{Function}
 use Rattle.fx_machine.specs.declared.halt.Cause.{Cause}
 use Rattle.fx_machine.specs.declared.halt.Cause.TheVariants.{CallDepth, StrayEnd}
-use Rattle.fx_machine.specs.declared.frames.Frame.{Frame}
+use Rattle.fx_machine.specs.declared.calls.OpenCall.{OpenCall}
 use Rattle.fx_machine.specs.declared.state.State.{State}
 use Rattle.fx_machine.specs.Effects.{Effect, Ends, Fails, Goes, Calls, Returns}
 use Rattle.fx_machine.specs.Runs.{Verdict, Finished, Halted, Exhausted, Answer}
@@ -12,10 +12,10 @@ use Rattle.fx_machine.specs.Limits.{CALL_LIMIT}
 
 -- the open calls, the innermost first, the address that the machine has reached, and its state
 pub data Config : Type 0 where
-  config : (calls : List Frame) (program : Program) (address : ℕ) (s : State) → Config
+  config : (calls : List OpenCall) (program : Program) (address : ℕ) (s : State) → Config
 
 -- before some turns of a function
-abbrev pub turned : ℕ → Function → ℕ → List Frame → Program → State → Config
+abbrev pub turned : ℕ → Function → ℕ → List OpenCall → Program → State → Config
 turned zero f next K w s = config K w next s
 turned (suc k) f next K w s = config (record { function = f; left = k; program = w; next = next } ∷ K) f.program f.address s
 
@@ -26,7 +26,7 @@ pub data Move : Type 0 where
   Moves : (to : Config) → Move
 
 -- what comes of an effect, within these open calls in a program
-abbrev pub moved_by : Effect → List Frame → Program → Move
+abbrev pub moved_by : Effect → List OpenCall → Program → Move
 moved_by Ends [] w = Finishes
 moved_by Ends (g ∷ K) w = Stops StrayEnd
 moved_by (Fails cause) K w = Stops cause

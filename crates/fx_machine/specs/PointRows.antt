@@ -1,7 +1,8 @@
 -- The rows that measure and move points, with their operands and the reference points that they set. All continue at the next
 -- address.
 -- Each comment has the opcode, the mnemonic, its name in the manual, what becomes of the stack, whose top is written last, and the
--- reference points that the row sets; what it does to the points is said in fx_pointops.
+-- reference points that the row sets. What it does to the points is said in fx_pointops, in the file of its family: of MIAP and
+-- MIRP in Indirect.
 -- Apple TrueType Reference Manual, "Instruction set".
 use Rattle.std.specs.Prelude.{ℕ, ℤ, negsuc, Bool, if◌then◌else◌, List, reverse, drop, Result, Ok}
 use Rattle.std.specs.Ordering.{int_eq}

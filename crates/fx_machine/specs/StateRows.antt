@@ -7,7 +7,7 @@ use Rattle.fx_fixed.specs.Chain.{◌>>=◌, map_fault}
 use Rattle.fx_gstate.specs.declared.state.GState.{GState}
 use Rattle.fx_gstate.specs.Vectors.{line_of}
 use Rattle.fx_stackops.specs.Store.{StoreView, two}
-use Rattle.fx_pointops.specs.declared.measure.Line.{Line}
+use Rattle.fx_pointops.specs.declared.measure.LineBetween.{LineBetween}
 use Rattle.fx_pointops.specs.declared.zones.Zones.{Zones}
 use Rattle.fx_pointops.specs.Measure.{line_between}
 use Rattle.fx_machine.specs.declared.halt.Cause.{Cause}
@@ -20,10 +20,10 @@ use Rattle.fx_machine.specs.Causes.{of_stack}
 -- 06-07 SPVTL[a], Set Projection Vector To Line: p1 p2 ->; 08-09 SFVTL[a], Set Freedom Vector To Line: p1 p2 ->
 -- 86-87 SDPVTL[a], Set Dual Projection Vector To Line: p1 p2 ->, which also sets the projection vector
 -- The line goes from p2, of zp2, to p1, of zp1. With 1 (a: turned) the vector goes across it, a quarter turn counter-clockwise.
-abbrev pub with_line : (Line → GState → GState) → Line × Zones → StoreView → State → State
+abbrev pub with_line : (LineBetween → GState → GState) → LineBetween × Zones → StoreView → State → State
 with_line set l t s = record s { store = t; zones = l.1; graphics = set l.0 s.graphics }
 
-abbrev pub by_line : (Line → GState → GState) → State → Result State Cause
+abbrev pub by_line : (LineBetween → GState → GState) → State → Result State Cause
 by_line set s = do
   x ← map_fault of_stack (two s.store)
   Ok (with_line set (line_between s.graphics x.0 x.1 s.zones) x.2 s)

@@ -1,4 +1,4 @@
--- The instruction table: what the instruction at an address of a program does. No row speaks of frames.
+-- The instruction table: what the instruction at an address of a program does. No row speaks of open calls.
 -- Apple TrueType Reference Manual, "Instruction set"; the rows by the high nibble of the opcode.
 use Rattle.std.specs.Prelude.{◌≡◌, ◌<◌, ℕ, ◌+◌, ◌/◌, [], true, false, Bool, ◌&&◌, ◌||◌, ◌==◌, nat_le, if◌then◌else◌, List, length}
 use Rattle.std.specs.Prelude.{codes, Result, Ok, Err}

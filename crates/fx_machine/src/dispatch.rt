@@ -1,9 +1,10 @@
-//! The instruction table. `row` has an arm for each opcode of 2x, 4x and 5x, for 60 to 67, and for PUSHB of one byte. Programs
-//! execute these most, and each takes one jump by table. `other_row` finds all others by the high nibble, as the definition does.
+//! The instruction table. `row` has an arm for each opcode of 2x and 5x, for 42 to 4F, 60 to 67 and PUSHB of one to three bytes,
+//! and for the first, from which on a table needs no subtraction. Programs execute these most, and each takes one jump by table.
+//! `other_row` finds all others by the high nibble, as the definition does.
 //!
-//! All of it is inlined into the loop of a run, so that no action goes through memory. Only the rows of `opcodes_0x`, `opcodes_3x`,
-//! `opcodes_7x` and `opcodes_8x`, and of ROUND and NROUND, are called: the compiler drops the hint to inline `row`, with no
-//! message, if it would grow very large. A program in which that happened has a symbol `State::row`.
+//! All of it is inlined into the loop of a run, so that no action goes through memory. Only `push`, ROUND, NROUND and the rows of
+//! `opcodes_0x`, `opcodes_3x`, `opcodes_7x` and `opcodes_8x` are called. Small functions need no hint: the compiler drops all
+//! hints, with no message, from `row` or `advance` if it would grow very large. The program then has a symbol of its name.
 
 ghost use Rattle.std.specs.Prelude.{◌≡◌, ◌≢◌, ◌+◌, ◌/◌, ◌<◌, ◌≤◌, length};
 ghost use Rattle.fx_code.specs.Chain.{opcode_at};
@@ -26,7 +27,6 @@ use fx_gstate::{DeltaForm, RoundState};
 
 impl State {
     /// MDRP and MIRP.
-    #[inline(always)]
     #[tactic(auto, unfolding(crate::specs::Table::relative_row))]
     fn move_relative(&mut self, opcode: u8) -> Result<(), Cause>
         ensures { Does (relative_row opcode) self.old self.new result }
@@ -189,7 +189,7 @@ impl State {
     ///
     /// It is one table, so it is one long function: the compiler makes one jump of it.
     #[inline(always)]
-    #[tactic(auto, unfolding(crate::specs::Table::row_here, crate::specs::Table::row_of, crate::specs::Table::plain_of, crate::specs::Table::opcodes_2x, crate::specs::Table::opcodes_4x, crate::specs::Table::opcodes_5x, crate::specs::Table::opcodes_6x))]
+    #[tactic(auto, unfolding(crate::specs::Table::row_here, crate::specs::Table::row_of, crate::specs::Table::plain_of, crate::specs::Table::opcodes_0x, crate::specs::Table::opcodes_2x, crate::specs::Table::opcodes_4x, crate::specs::Table::opcodes_5x, crate::specs::Table::opcodes_6x))]
     pub fn row(
         &mut self,
         bytes: &[u8],
@@ -208,6 +208,9 @@ impl State {
     {
         match opcode {
             PUSHB_1 => return self.pushb(bytes, PUSHB_1, address),
+            0xB1 => return self.pushb(bytes, 0xB1, address),
+            0xB2 => return self.pushb(bytes, 0xB2, address),
+            SVTCA_Y => self.graphics.set_vectors_to_axis(Axis::Y),
             // 20 to 2F: the stack, calls, ALIGNPTS, UTP, MDAP.
             DUP => self.store.dup()?,
             POP => self.store.pop()?,
@@ -225,8 +228,7 @@ impl State {
             ENDF => return Ok(Action::Returned),
             MDAP_0 => self.mdap(false)?,
             MDAP_1 => self.mdap(true)?,
-            // 40 to 4F: data, storage, control values, measuring, the size.
-            NPUSHB | NPUSHW => return self.push(&Code::new(bytes), address),
+            // 42 to 4F: storage, control values, measuring, the size.
             WS => self.store.ws()?,
             RS => self.store.rs()?,
             WCVTP => self.store.wcvtp()?,
@@ -285,7 +287,7 @@ impl State {
         next: usize,
     ) -> Result<Action, Cause>
         requires not_2x { opcode / 16 ≢ 2 }
-        requires not_4x { opcode / 16 ≢ 4 }
+        requires low_4x { opcode / 16 ≡ 4 → opcode ≤ 0x41 }
         requires not_5x { opcode / 16 ≢ 5 }
         requires high_6x { opcode / 16 ≡ 6 → 0x68 ≤ opcode }
         requires inside { address < length bytes.now }
@@ -318,13 +320,8 @@ impl State {
                 IDEF => return self.idef(&Code::new(bytes), program, next),
                 _ => self.opcodes_8x(opcode)?,
             },
-            // PUSHB, PUSHW.
-            0xB => {
-                if opcode <= PUSHB_8 {
-                    return self.pushb(bytes, opcode, address);
-                }
-                return self.push(&Code::new(bytes), address);
-            }
+            // NPUSHB, NPUSHW, PUSHB, PUSHW.
+            0x4 | 0xB => return self.push(&Code::new(bytes), address),
             // MDRP, MIRP.
             0xC | 0xD | 0xE | 0xF => self.move_relative(opcode)?,
             // 90 to AF.

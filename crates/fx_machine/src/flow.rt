@@ -213,7 +213,6 @@ impl State {
     }
 
     /// 28, 7B, 83, 84, 8F to AF, opcodes without a row: calls what an IDEF has defined.
-    #[inline(always)]
     #[tactic(auto, unfolding(crate::specs::Flow::undefined_row, crate::specs::Flow::called))]
     pub(crate) fn undefined(&mut self, opcode: u8, next: usize) -> Result<Action, Cause>
         ensures { Leads (undefined_row opcode next) self.old self.new result }
@@ -229,7 +228,6 @@ impl State {
     }
 
     /// Pushes bytes, and continues at an address.
-    #[inline(always)]
     fn push_bytes(&mut self, bytes: &[u8], next: usize) -> Result<Action, Cause>
         ensures { Leads (bytes_then next bytes.now) self.old self.new result }
     {
@@ -242,9 +240,8 @@ impl State {
         Ok(Action::Went(next))
     }
 
-    /// B0-B7 PUSHB[abc], PUSH Bytes: `-> ..`, 1 to 8 bytes. Programs push one byte more often than they do anything else, so
+    /// B0-B7 PUSHB[abc], PUSH Bytes: `-> ..`, 1 to 8 bytes. Programs push few bytes more often than they do anything else, so
     /// this is not left to `push`, which reads an instruction of any kind.
-    #[inline(always)]
     #[tactic(auto, using(crate::proofs::Reading::bytes_whole, crate::proofs::Reading::bytes_cut))]
     pub(crate) fn pushb(
         &mut self,
@@ -266,8 +263,8 @@ impl State {
         self.push_bytes(&bytes[first..next], next)
     }
 
-    /// 40 NPUSHB, 41 NPUSHW, B8-BF PUSHW[abc], PUSH Bytes or Words: `-> ..`, the data in order.
-    #[inline(always)]
+    /// 40 NPUSHB, 41 NPUSHW, B0-B7 PUSHB[abc], B8-BF PUSHW[abc], PUSH Bytes or Words: `-> ..`, the data in order.
+    #[inline(never)]
     #[tactic(auto, unfolding(crate::specs::Table::push_at, fx_code::specs::Chain::IsWhole))]
     pub(crate) fn push(&mut self, code: &Code<'_>, address: usize) -> Result<Action, Cause>
         ensures { Leads (push_at code.now address) self.old self.new result }

@@ -3,10 +3,10 @@
 
 mod action;
 mod block;
+mod calls;
 mod definitions;
 mod dispatch;
 mod flow;
-mod frames;
 mod graphics_rows;
 mod halt;
 pub mod laws;

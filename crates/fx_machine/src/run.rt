@@ -10,7 +10,7 @@ ghost use Rattle.fx_machine.specs.Machine.{answer_from, answer_of};
 ghost use Rattle.fx_machine.specs.Configs.{answered, config_of, sees};
 ghost use Rattle.fx_machine.specs.Events.{Watches, Executed, events_of};
 
-use crate::frames::{Calls, Cursor};
+use crate::calls::{Calls, Cursor};
 use crate::halt::{Cause, Halt, halted};
 use crate::program::{FontProgram, Program, Programs};
 use crate::state::State;
@@ -46,10 +46,10 @@ fn tell<W: Watching>(
     calls: &Calls,
     state: &State,
 )
-    ensures { W.Sees watcher.old (Executed program bytes.now address (length calls.now.frames.items) state.now) watcher.new }
+    ensures { W.Sees watcher.old (Executed program bytes.now address (length calls.now.open_calls.items) state.now) watcher.new }
 {
     let code = Code::new(bytes);
-    watcher.see(program, &code, address, calls.frames.len(), state);
+    watcher.see(program, &code, address, calls.open_calls.len(), state);
 }
 
 /// What a run comes to that has reached the end of a program, or is past it.
@@ -71,7 +71,7 @@ fn at_end(
     let program = cursor.program;
     let address = cursor.address;
     let ended = address == programs.code(program).len();
-    if ended && calls.frames.is_empty() {
+    if ended && calls.open_calls.is_empty() {
         return Ok(steps);
     }
     if steps == limit {
@@ -108,29 +108,29 @@ pub fn run<W: Watching>(
         address: 0,
     };
     let mut calls = Calls {
-        frames: ArrayVec::new(),
+        open_calls: ArrayVec::new(),
     };
     let mut bytes = programs.code(start).bytes();
-    let mut steps: u32 = 0;
+    let mut left = limit;
     watcher.begin(programs.name(start), state);
-    // The program's result is what comes of the cursor, the calls and the state after `steps` instructions. Once the watcher sees
-    // the instructions that are left, it has seen all.
+    // The program's result is what comes of the cursor, the calls and the state if `left` more instructions may be executed. Once
+    // the watcher sees the instructions that are left, it has seen all.
     'steps: loop {
         let program = cursor.program;
         let address = cursor.address;
         if address >= bytes.len() {
-            return at_end(programs, start, &cursor, &calls, limit, steps);
+            return at_end(programs, start, &cursor, &calls, limit, limit - left);
         }
-        if steps == limit {
+        if left == 0 {
             return Err(halted(programs, start, program, address, Cause::StepLimit));
         }
         let name = programs.name(program);
-        let left = match advance(&mut cursor, &mut calls, state, bytes, targets) {
-            Ok(left) => left,
+        let has_left = match advance(&mut cursor, &mut calls, state, bytes, targets) {
+            Ok(has_left) => has_left,
             Err(cause) => return Err(halted(programs, start, program, address, cause)),
         };
         tell(watcher, name, bytes, address, &calls, state);
-        bytes = bytes_then(programs, bytes, cursor.program, left);
-        steps += 1;
+        bytes = bytes_then(programs, bytes, cursor.program, has_left);
+        left -= 1;
     }
 }

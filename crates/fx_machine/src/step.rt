@@ -9,7 +9,7 @@ ghost use Rattle.fx_machine.specs.Machine.{moved_by, Moves, Stops};
 ghost use Rattle.fx_machine.specs.Configs.{calls_of, config_of};
 
 use crate::action::Action;
-use crate::frames::{Calls, Cursor};
+use crate::calls::{Calls, Cursor};
 use crate::halt::Cause;
 use crate::program::Program;
 use crate::state::State;

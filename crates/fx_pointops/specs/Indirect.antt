@@ -1,4 +1,5 @@
--- The rows that move points by control values. The control value v is handed in.
+-- The rows that move points by control values. The control value v is handed in by the rows of fx_machine/specs/PointRows, which
+-- take the operands and set the reference points.
 -- Apple TrueType Reference Manual, MIAP, MIRP. Each gives the zones.
 use Rattle.std.specs.Prelude.{ℤ, pos, int_lt, Bool, ◌&&◌, not, if◌then◌else◌}
 use Rattle.fx_fixed.specs.Numbers.{difference_of}

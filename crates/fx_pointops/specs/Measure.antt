@@ -7,7 +7,7 @@ use Rattle.fx_fixed.specs.declared.places.Place.{Place}
 use Rattle.fx_gstate.specs.declared.state.GState.{GState}
 use Rattle.fx_gstate.specs.declared.zones.ZonePointer.{ZonePointer}
 use Rattle.fx_gstate.specs.Vectors.{projection_of}
-use Rattle.fx_pointops.specs.declared.measure.Line.{Line}
+use Rattle.fx_pointops.specs.declared.measure.LineBetween.{LineBetween}
 use Rattle.fx_pointops.specs.declared.zones.Zones.{Zones}
 use Rattle.fx_pointops.specs.Zones.{point_at, counting, counting_two, org_of, cur_of}
 
@@ -50,7 +50,7 @@ md_of g original p q z = (
 
 -- 06-07 SPVTL[a], 08-09 SFVTL[a], 86-87 SDPVTL[a]: p1 p2 ->
 -- The line to p1, of zp1, from p2, of zp2: the difference of their original and of their current places.
-unfoldable pub line_between : GState → ℤ → ℤ → Zones → Line × Zones
+unfoldable pub line_between : GState → ℤ → ℤ → Zones → LineBetween × Zones
 line_between g p1 p2 z = (
   record {
     org = place_difference_of (org_at g.zp1 p1 z) (org_at g.zp2 p2 z);

@@ -23,5 +23,5 @@ mod shift_point;
 mod zones;
 
 pub use distances::Relative;
-pub use measure::Line;
+pub use measure::LineBetween;
 pub use zones::Zones;

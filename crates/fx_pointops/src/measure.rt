@@ -9,7 +9,7 @@ use fx_gstate::{GState, ZonePointer};
 
 /// The difference of two points' original and of their current places.
 #[derive(Clone, Copy, Debug, PartialEq, Eq)]
-pub struct Line {
+pub struct LineBetween {
     pub org: Place,
     pub cur: Place,
 }
@@ -79,13 +79,13 @@ impl Zones {
 
     /// 06-07 SPVTL[a], 08-09 SFVTL[a], 86-87 SDPVTL[a]: the line to p1, of zp1, from p2, of zp2.
     #[tactic(auto, unfolding(crate::specs::Measure::line_between))]
-    pub fn line(&mut self, g: &GState, p1: i32, p2: i32) -> Line
+    pub fn line(&mut self, g: &GState, p1: i32, p2: i32) -> LineBetween
         ensures { (result, self.new) ≡ line_between g.now p1 p2 self.old }
     {
         let to = self.point(g.zp1, p1);
         let from = self.point(g.zp2, p2);
         self.count_two(&to, &from);
-        Line {
+        LineBetween {
             org: org(&to).minus(org(&from)),
             cur: cur(&to).minus(cur(&from)),
         }

@@ -16,10 +16,16 @@ impl Store {
         ensures does { Does (push_row (numbers instr.now.opcode instr.now.pushed.now)) self.old self.new result }
         ensures kept { OnErr result (self.new ≡ self.old) }
     {
+        // Fields that stay in registers: for the compiler, the cells may lie where the instruction does.
+        let instr = Instr {
+            opcode: instr.opcode,
+            pushed: instr.pushed,
+            next: instr.next,
+        };
         if instr.count() > self.stack_room() - self.stack_len() {
             return Err(StackFault::StackOver);
         }
-        self.put_all(instr);
+        self.put_all(&instr);
         Ok(())
     }
 

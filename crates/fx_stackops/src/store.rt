@@ -271,6 +271,7 @@ impl Store {
     }
 
     /// Puts the numbers that an instruction pushes on the stack, which has room for them.
+    #[inline(always)]
     #[tactic(auto, using(crate::proofs::Stacks::pushed_at))]
     pub(crate) fn put_all(&mut self, instr: &Instr<'_>)
         requires { length self.old.stack + length (numbers instr.now.opcode instr.now.pushed.now) ≤ self.old.room }

@@ -26,18 +26,13 @@ impl Model for Table {
 }
 
 /// Writes the numbers that an instruction pushes to as many cells.
+#[inline(always)]
 fn put_each(cells: &mut [i32], instr: &Instr<'_>)
     requires size { length cells.old ≡ length (numbers instr.now.opcode instr.now.pushed.now) }
     requires fit { AreNumbers cells.old }
     ensures value { cells.new ≡ numbers instr.now.opcode instr.now.pushed.now }
     ensures fit { AreNumbers cells.new }
 {
-    // Fields that stay in registers: for the compiler, the cells may lie where the instruction does.
-    let instr = Instr {
-        opcode: instr.opcode,
-        pushed: instr.pushed,
-        next: instr.next,
-    };
     // The first i numbers are written.
     'numbers: for i in 0..cells.len() {
         cells[i] = instr.number(i);
@@ -93,6 +88,7 @@ impl Table {
     }
 
     /// Writes the numbers that an instruction pushes from an index on; there are cells for all.
+    #[inline(always)]
     #[tactic(auto, using(crate::proofs::Stacks::written_next))]
     pub(crate) fn put_numbers(&mut self, from: usize, instr: &Instr<'_>)
         requires { from + length (numbers instr.now.opcode instr.now.pushed.now) ≤ length self.old }

@@ -4,11 +4,11 @@ use Rattle.fx_machine.proofs.run.at_end.Goals as goal
 use Rattle.fx_machine.proofs.run.at_end.Goals.{else-ended-via-then-ended+else-is_empty, else-ended-via-else-ended}
 
 pub returns-then-is_empty-clause-value : goal.returns-then-is_empty-clause-value
-returns-then-is_empty-clause-value c = λ s. finished_here _ _ _ _ _ c.args.calls.now.frames.items _ _ s (cc) (grind arith)
+returns-then-is_empty-clause-value c = λ s. finished_here _ _ _ _ _ c.args.calls.now.open_calls.items _ _ s (cc) (grind arith)
 
 pub returns-then-steps-limit-clause-value : goal.returns-then-steps-limit-clause-value
 returns-then-steps-limit-clause-value c = λ s. rw c.halted.ensures
-    (limit_from _ _ _ _ _ c.args.calls.now.frames.items _ _ s c.if-steps-limit.true
+    (limit_from _ _ _ _ _ c.args.calls.now.open_calls.items _ _ s c.if-steps-limit.true
     (elim c.else-ended.branch [
       | else-ended-via-then-ended+else-is_empty w ↦ (λ e z. grind arith)
       | else-ended-via-else-ended w ↦ (λ e z. w.if-ended.false (cc))
@@ -16,7 +16,7 @@ returns-then-steps-limit-clause-value c = λ s. rw c.halted.ensures
 
 pub returns-then-ended-2-clause-value : goal.returns-then-ended-2-clause-value
 returns-then-ended-2-clause-value c = λ s. rw c.halted-then-ended-2.ensures
-    (stray_here _ _ _ _ _ c.args.calls.now.frames.items _ _ s (omega arith) (cc)
+    (stray_here _ _ _ _ _ c.args.calls.now.open_calls.items _ _ s (omega arith) (cc)
     (elim c.else-ended.branch [
       | else-ended-via-then-ended+else-is_empty w ↦ grind arith
       | else-ended-via-else-ended w ↦ absurd (w.if-ended.false c.if-ended-2.true)
@@ -24,4 +24,4 @@ returns-then-ended-2-clause-value c = λ s. rw c.halted-then-ended-2.ensures
 
 pub returns-clause-value : goal.returns-clause-value
 returns-clause-value c = λ s. rw c.halted-2.ensures
-    (cut_here _ _ _ _ _ c.args.calls.now.frames.items _ _ s (omega arith) (λ e. c.if-ended-2.false (cc)) c.requires.past)
+    (cut_here _ _ _ _ _ c.args.calls.now.open_calls.items _ _ s (omega arith) (λ e. c.if-ended-2.false (cc)) c.requires.past)

@@ -16,7 +16,7 @@ use arrayvec::ArrayVec;
 
 /// An open call: the turns of its function that are left after this one, and where it continues.
 #[derive(Clone, Copy, Debug, PartialEq, Eq, Default)]
-pub struct Frame {
+pub struct OpenCall {
     pub function: Function,
     pub left: u32,
     pub program: Program,
@@ -33,25 +33,25 @@ pub struct Cursor {
 /// The open calls.
 #[derive(Drop)]
 pub struct Calls {
-    pub frames: ArrayVec<Frame, CALL_LIMIT>,
+    pub open_calls: ArrayVec<OpenCall, CALL_LIMIT>,
 }
 
 impl Cursor {
     /// Begins another turn of a function, or continues after the last.
-    fn leave(&mut self, calls: &mut Calls, frame: Frame)
-        requires { array_vec_len calls.old.frames < CALL_LIMIT }
+    fn leave(&mut self, calls: &mut Calls, open_call: OpenCall)
+        requires { array_vec_len calls.old.open_calls < CALL_LIMIT }
         ensures { (s : the_state.State) → config_of self.new calls.new s
-            ≡ turned frame.left frame.function frame.next (calls_of calls.old) frame.program s }
+            ≡ turned open_call.left open_call.function open_call.next (calls_of calls.old) open_call.program s }
     {
-        if frame.left == 0 {
-            self.program = frame.program;
-            self.address = frame.next;
+        if open_call.left == 0 {
+            self.program = open_call.program;
+            self.address = open_call.next;
         } else {
-            self.program = frame.function.program;
-            self.address = frame.function.address;
-            calls.frames.push(Frame {
-                left: frame.left - 1,
-                ..frame
+            self.program = open_call.function.program;
+            self.address = open_call.function.address;
+            calls.open_calls.push(OpenCall {
+                left: open_call.left - 1,
+                ..open_call
             });
         }
     }
@@ -64,7 +64,7 @@ impl Cursor {
             (λ cause. (s : the_state.State) → moved_by (effect_of action s) (calls_of calls.old) self.old.program ≡ Stops cause) }
         ensures stays { IfOk result (λ left. left ≡ false → self.new.program ≡ self.old.program) }
     {
-        let depth = calls.frames.len();
+        let depth = calls.open_calls.len();
         match action {
             Action::Went(address) => {
                 self.address = address;
@@ -78,19 +78,19 @@ impl Cursor {
                 if depth == CALL_LIMIT {
                     return Err(Cause::CallDepth);
                 }
-                let frame = Frame {
+                let open_call = OpenCall {
                     function,
                     left: turns,
                     program: self.program,
                     next,
                 };
-                self.leave(calls, frame);
+                self.leave(calls, open_call);
                 Ok(true)
             }
-            Action::Returned => match calls.frames.pop() {
+            Action::Returned => match calls.open_calls.pop() {
                 None => Err(Cause::StrayEnd),
-                Some(frame) => {
-                    self.leave(calls, frame);
+                Some(open_call) => {
+                    self.leave(calls, open_call);
                     Ok(true)
                 }
             },
