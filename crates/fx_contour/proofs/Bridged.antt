@@ -1,7 +1,7 @@
 -- The frame with drop-out control has a pixel of each gap.
 -- For the law `dropout`.
-use Rattle.std.proofs.Common.{◌≡◌, ◌⊎◌, inl, inr, refl, ℤ, pos, ◌+ℤ◌, ◌*ℤ◌, ◌≤ℤ◌, ◌<ℤ◌, List, [], ◌∷◌, map, Any, Option, Some, None}
-use Rattle.std.proofs.Common.{IsSomeAnd, option_map, arith}
+use Rattle.std.proofs.Common.{◌≡◌, ◌⊎◌, inl, inr, refl, ℤ, pos, ◌+ℤ◌, ◌*ℤ◌, ◌≤ℤ◌, ◌<ℤ◌, List, [], ◌∷◌, map, Any}
+use Rattle.std.proofs.Common.{arith}
 use Rattle.fx_fixed.proofs.Linear.{signed}
 use Rattle.fx_fixed.proofs.Order.{below_or_not_ℤ}
 use Rattle.fx_winding.specs.Area.{Place}
@@ -56,11 +56,7 @@ turned_back P [] h = h
 turned_back P (s ∷ ss) (inr h) = inr (turned_back P ss h)
 turned_back P (s ∷ ss) (inl (inl h)) = inl (inl h)
 turned_back P (s ∷ ss) (inl (inr (inr h))) = inl (inr (inr h))
-turned_back P (s ∷ ss) (inl (inr (inl h))) = inl (inr (inl (control s.b h)))
-  where
-    control : (o : Option Place) → IsSomeAnd (option_map turned_place o) P → IsSomeAnd o (λ e. P (turned_place e))
-    control None n = n
-    control (Some b) k = k
+turned_back P (s ∷ ss) (inl (inr (inl h))) = grind (arith)
 
 -- ---- one of two neighbours is kept
 

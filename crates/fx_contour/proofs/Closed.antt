@@ -1,31 +1,25 @@
 -- The curve of a contour is a closed chain, and the one by midpoints.
 -- For the laws of `laws.rt`, and for the clause `closed` of `pieces`.
-use Rattle.std.proofs.Common.{◌≡◌, refl, sym, subst, ℤ, pos, Bool, true, false, List, [], ◌∷◌, ◌++◌, map, Some, None}
-use Rattle.std.proofs.Common.{option_to_list, if◌then◌else◌, ◌||◌}
+use Rattle.std.proofs.Common.{◌≡◌, refl, sym, subst, ℤ, pos, Bool, true, false, List, [], ◌∷◌, ◌++◌, map, Option, Some, None, arith}
+use Rattle.std.proofs.Common.{option_to_list}
 use Rattle.fx_winding.specs.Area.{Place}
 use Rattle.fx_winding.specs.Winding.{Span}
 use Rattle.fx_winding.specs.Outside.{Leads, IsOutline}
 use Rattle.fx_outline.specs.declared.points.OutlinePoint.{OutlinePoint}
-use Rattle.fx_contour.specs.Curve.{Knot, doubled_of, middle_of, joint_of, span_at, first_or, last_or, spans_between, curve_of}
+use Rattle.fx_contour.specs.Curve.{Knot, doubled_of, joint_of, span_at, first_or, last_or, spans_between, curve_of}
 use Rattle.fx_contour.specs.Curve.{CurvesAreClosed, knot_of, midpoint, with_midpoints, head_or, along, CurveIsByMidpoints}
+
+-- a line and an arc
+abbrev pub line_of : Place → Place → Option Span
+line_of a c = Some (record { a = a; b = None; c = c })
+
+abbrev pub arc_of : Place → Place → Place → Option Span
+arc_of a b c = Some (record { a = a; b = Some b; c = c })
 
 -- what q adds leads from the joint_of before it to the joint_of after it
 one_leads : (p q r : OutlinePoint) (ss : List Span) (y : Place) → Leads (joint_of q r) ss y
     → Leads (joint_of p q) (option_to_list (span_at p q r) ++ ss) y
-one_leads p q r ss y h = by p.on_curve q.on_curve r.on_curve h
-  where
-    by : (a b c : Bool) → Leads (if b then doubled_of q else (if c then doubled_of r else middle_of q r)) ss y
-        → Leads (if a then doubled_of p else (if b then doubled_of q else middle_of p q))
-        (option_to_list (if b then (if a then Some (record { a = doubled_of p; b = None; c = doubled_of q }) else None) else Some
-        (record {
-          a = if a then doubled_of p else (if b then doubled_of q else middle_of p q);
-          b = Some
-              (doubled_of q);
-          c = if b then doubled_of q else (if c then doubled_of r else middle_of q r);
-        })) ++ ss) y
-    by true true c h = (refl, h)
-    by false true c h = h
-    by a false c h = (refl, h)
+one_leads p q r ss y h = grind (arith, h)
 
 chain : (p : OutlinePoint) (qs : List OutlinePoint) (r : OutlinePoint)
     → Leads (joint_of p (first_or qs r)) (spans_between p qs r) (joint_of (last_or p qs) r)
@@ -42,14 +36,7 @@ abbrev next_knot : OutlinePoint → OutlinePoint → Knot
 next_knot q s = head_or (midpoint q s) (knot_of s)
 
 head_more : (q s : OutlinePoint) (qs : List OutlinePoint) (k : Knot) → head_or (with_midpoints q (s ∷ qs)) k ≡ next_knot q s
-head_more q s qs k = by q.on_curve s.on_curve
-  where
-    by : (a b : Bool) → head_or ((if a || b then [] else (record { at = middle_of q s; on_curve = true } ∷ [])) ++
-        (knot_of s ∷ with_midpoints s qs)) k ≡ head_or
-        (if a || b then [] else (record { at = middle_of q s; on_curve = true } ∷ [])) (knot_of s)
-    by true b = refl
-    by false true = refl
-    by false false = refl
+head_more q s qs k = grind (arith)
 
 head_with_midpoints : (q : OutlinePoint) (qs : List OutlinePoint) (r : OutlinePoint)
     → head_or (with_midpoints q qs) (next_knot (last_or q qs) r) ≡ next_knot q (first_or qs r)

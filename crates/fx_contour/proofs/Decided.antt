@@ -1,12 +1,11 @@
 -- The tests decide the facts that they test.
 -- For the clauses `exact` of `pieces` and `frame`, and for the law `tested`.
 use Rattle.std.proofs.Common.{◌≡◌, ◌↔◌, IsTrue, refl, sym, subst, inl, inr, ℤ, pos, negsuc, neg_ℤ, ◌+ℤ◌, ◌*ℤ◌, ◌≤ℤ◌, int_le, ℕ}
-use Rattle.std.proofs.Common.{◌⊎◌, Bool, true, false, ◌&&◌, ◌||◌, List, [], ◌∷◌, Option, Some, None, IsSomeAnd, All, Result, Ok}
+use Rattle.std.proofs.Common.{◌⊎◌, Bool, true, false, ◌&&◌, List, [], ◌∷◌, Option, All, Result, Ok}
 use Rattle.std.proofs.Common.{Err, Decides, IfOk, IfErr, arith}
 use Rattle.std.proofs.lemmas.Int.{ints}
 use Rattle.std.proofs.lemmas.Bool.Decides.{Decides-like, Decides-and, Decides-or, Decides-by_and}
 use Rattle.std.specs.List.{list_all}
-use Rattle.std.specs.Option.{option_map_or}
 use Rattle.std.specs.Int.{int_div_euclid}
 use Rattle.fx_fixed.specs.Chain.{map_ok}
 use Rattle.fx_fixed.proofs.Linear.{signed_linear}
@@ -14,7 +13,7 @@ use Rattle.std.proofs.lemmas.Bool.{false_from_ne_true}
 use Rattle.fx_winding.specs.declared.frame.Frame.{Frame}
 use Rattle.fx_contour.specs.declared.fault.ContourFault.{ContourFault}
 use Rattle.fx_contour.specs.declared.fault.ContourFault.TheVariants.{TooFar, TooLarge}
-use Rattle.fx_contour.proofs.Drawn.{drawn_from}
+use Rattle.fx_contour.proofs.DrawnSpans.{drawn_from}
 use Rattle.fx_contour.proofs.Framed.{frame_not_too_large}
 use Rattle.fx_fixed.specs.Ranges.{IsWithin}
 use Rattle.fx_winding.specs.Limits.{greatest_side}
@@ -40,13 +39,7 @@ reach_is_tested points =
 
 has_decides : (t : Place → Bool) (P : Place → Type 0) → ((q : Place) → Decides (t q) (P q)) → (s : Span)
     → Decides (has_any t s) (HasAny P s)
-has_decides t P d s =
-    Decides-or (t s.a) (option_map_or t s.b false || t s.c) (d s.a)
-    (Decides-or (option_map_or t s.b false) (t s.c) (option s.b) (d s.c))
-  where
-    option : (o : Option Place) → Decides (option_map_or t o false) (IsSomeAnd o P)
-    option None = (λ e. absurd (cc), λ n. absurd n)
-    option (Some b) = d b
+has_decides t P d s = grind (arith, signed_linear, d)
 
 pub have_decides : (t : Place → Bool) (P : Place → Type 0) → ((q : Place) → Decides (t q) (P q)) → (ss : List Span)
     → Decides (have_any t ss) (HaveAny P ss)
@@ -72,13 +65,7 @@ IsLargeFrom ss i j =
     (centre i (j +ℤ pos greatest_side)) ss)
 
 large_decides : (ss : List Span) (i j : ℤ) → Decides (is_large_from ss i j) (IsLargeFrom ss i j)
-large_decides ss i j =
-    Decides-and (is_in_bounding_box (centre i j) ss)
-    (is_in_bounding_box (centre (i +ℤ pos greatest_side) j) ss || is_in_bounding_box (centre i (j +ℤ pos greatest_side)) ss)
-    (box_decides (centre i j) ss)
-    (Decides-or (is_in_bounding_box (centre (i +ℤ pos greatest_side) j) ss)
-    (is_in_bounding_box (centre i (j +ℤ pos greatest_side)) ss)
-    (box_decides (centre (i +ℤ pos greatest_side) j) ss) (box_decides (centre i (j +ℤ pos greatest_side)) ss))
+large_decides ss i j = grind (arith, signed_linear, box_decides)
 
 -- a point that has P, and with it all that a point of the spans gives
 pub some_one : (P : Place → Type 0) (X : Type 0) (ss : List Span) → HaveAny P ss
@@ -87,11 +74,7 @@ some_one P X [] h f = absurd h
 some_one P X (s ∷ ss) (inr h) f = some_one P X ss h (λ q p m. f q p (λ R r. inr (m R r)))
 some_one P X (s ∷ ss) (inl (inl a)) f = f s.a a (λ R r. inl (inl r))
 some_one P X (s ∷ ss) (inl (inr (inr c))) f = f s.c c (λ R r. inl (inr (inr r)))
-some_one P X (s ∷ ss) (inl (inr (inl b))) f = by s.b b (λ q p m. f q p (λ R r. inl (inr (inl (m R r)))))
-  where
-    by : (o : Option Place) → IsSomeAnd o P → ((q : Place) → P q → ((R : Place → Type 0) → R q → IsSomeAnd o R) → X) → X
-    by None n g = absurd n
-    by (Some b) p g = g b p (λ R r. r)
+some_one P X (s ∷ ss) (inl (inr (inl b))) f = grind (arith, signed_linear, f)
 
 pub more : (P Q : Place → Type 0) (ss : List Span) → HaveAny P ss → ((q : Place) → P q → Q q) → HaveAny Q ss
 more P Q ss h f = some_one P (HaveAny Q ss) ss h (λ q p m. m Q (f q p))

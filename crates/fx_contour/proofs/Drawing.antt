@@ -42,7 +42,7 @@ take_or_drop P (suc n) (x ∷ xs) (inr h) = elim (take_or_drop P n xs h) [ inl a
 -- ---- all contours
 
 -- a place of the curves has a point as far out
-of_curves : (side : Side) (t : ℤ) (start : ℕ) (ends : List ℕ) (points : List OutlinePoint)
+pub of_curves : (side : Side) (t : ℤ) (start : ℕ) (ends : List ℕ) (points : List OutlinePoint)
     → HaveAny (IsOut side t) (joined (map curve_of (contours_from start ends points))) → HavePoint (IsOut side t) points
 of_curves side t start [] points h = absurd h
 of_curves side t start (e ∷ es) points h =
@@ -93,7 +93,7 @@ curves_reach reach ends points a two h = record {
 -- ---- the limit
 
 -- a point of the list has what all have
-point_with : (P : Place → Type 0) (Q : Type 0) (points : List OutlinePoint) → All IsInReach points
+pub point_with : (P : Place → Type 0) (Q : Type 0) (points : List OutlinePoint) → All IsInReach points
     → ((p : OutlinePoint) → IsInReach p → P (doubled_of p) → Q) → HavePoint P points → Q
 point_with P Q [] n f h = absurd h
 point_with P Q (p ∷ ps) n f (inl h) = f p (All-head IsInReach p ps n) h

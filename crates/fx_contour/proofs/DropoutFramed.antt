@@ -67,9 +67,7 @@ bounds_leave b ss a n =
 
 within_between : (low high z : ℤ) → IsWithin farthest_with_margin low → IsWithin farthest_with_margin high
     → (low ≤ℤ z) × (z ≤ℤ high) → IsWithin farthest_with_margin z
-within_between low high z a b h =
-    let p = a.0 in let q = b.1 in let l = h.0 in let r = h.1 in
-    (omega (arith, signed_linear, p, l), omega (arith, signed_linear, q, r))
+within_between low high z a b h = grind (arith, signed_linear, a, b, h)
 
 none_far : (b : Bounds) (ss : List Span) → AreBounds b ss → BoundsLeaveMargin b → ¬ (HaveAny (λ r. ¬ (LeavesMargin r)) ss)
 none_far b ss a l h =
@@ -98,12 +96,7 @@ not_far b ss a l =
 -- two that lie as far apart as the greatest side are kept
 many_kept : (coord : Place → ℤ) (ss : List Span) (s : Pixels) (low high : ℤ) → IsExtent coord ss low high → AreKept s low high
     → greatest_side < s.count → KeepsTooMany coord ss
-many_kept coord ss s low high e k c = (
-  s.first,
-  (kept_in coord ss low high s.first e).1 ((k s.first).0 (first_in s.first s.count s.some)),
-  (kept_in coord ss low high (s.first +ℤ pos greatest_side) e).1
-      ((k (s.first +ℤ pos greatest_side)).0 (far_in s.first s.count c)),
-)
+many_kept coord ss s low high e k c = grind (arith, signed_linear, e, k, c, kept_in, first_in, far_in)
 
 few_kept : (coord : Place → ℤ) (ss : List Span) (s : Pixels) (low high : ℤ) → IsExtent coord ss low high → AreKept s low high
     → s.count ≤ greatest_side → ¬ (KeepsTooMany coord ss)
@@ -112,9 +105,7 @@ few_kept coord ss s low high e k c (n, h, l) =
     ((k (n +ℤ pos greatest_side)).1 ((kept_in coord ss low high (n +ℤ pos greatest_side) e).0 l))
 
 either_true : (x y : Bool) → (x ≡ true) ⊎ (y ≡ true) → (x || y) ≡ true
-either_true true y h = refl
-either_true false y (inl h) = absurd (cc)
-either_true false y (inr h) = h
+either_true x y h = grind (arith, signed_linear, h)
 
 pub large_framed : (b : Bounds) (ss : List Span) (s r : Pixels) → AreBounds b ss → BoundsLeaveMargin b → AreKept s b.left b.right
     → AreKept r b.bottom b.top → greatest_side < s.count ⊎ greatest_side < r.count → Err TooLarge ≡ dropout_framed_of ss

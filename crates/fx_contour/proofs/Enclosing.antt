@@ -30,9 +30,7 @@ pub record Left (old b : Extent) (points rest : List OutlinePoint) : Type 0 wher
 -- what a contour of two points or more adds is what its points add
 along : (A C : Type 0) (side : Side) (t : ℤ) (points : List OutlinePoint) → 2 ≤ length points
     → C ↔ (A ⊎ HavePoint (IsOut side t) points) → C ↔ (A ⊎ HaveAny (IsOut side t) (curve_of points))
-along A C side t points h k =
-    let same = hull_of side t points h in
-    (λ x. elim (k.0 x) [ inl a ↦ inl a | inr b ↦ inr (same.1 b) ], λ x. k.1 (elim x [ inl a ↦ inl a | inr b ↦ inr (same.0 b) ]))
+along A C side t points h k = grind (arith, h, k, hull_of)
 
 pub grown_more : (b c : Extent) (points : List OutlinePoint) → 2 ≤ length points
     → Grows (Extends b) (Extends c) (λ P. HavePoint P points)

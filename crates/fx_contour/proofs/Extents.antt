@@ -1,9 +1,7 @@
 -- The least and the greatest coordinate of the points of spans.
 -- For `dropout_frame_around`, the law `dropout`, and moved outlines in `fx_symmetry`.
-use Rattle.std.proofs.Common.{◌≡◌, ◌⊎◌, inl, inr, refl, ℤ, ◌≤ℤ◌, neg_ℤ, List, [], ◌∷◌, Option, Some, None, ◌↔◌}
-use Rattle.std.proofs.Common.{IsSomeAnd, arith}
-use Rattle.std.specs.Int.{int_min}
-use Rattle.std.specs.Option.{option_map_or}
+use Rattle.std.proofs.Common.{◌≡◌, ◌⊎◌, inl, inr, refl, ℤ, ◌≤ℤ◌, neg_ℤ, List, [], ◌∷◌, ◌↔◌}
+use Rattle.std.proofs.Common.{arith}
 use Rattle.std.proofs.lemmas.Int.{ints}
 use Rattle.fx_fixed.proofs.Linear.{signed_linear}
 use Rattle.fx_winding.specs.Area.{Place}
@@ -20,15 +18,7 @@ either_reaches : (A B X Y C : Type 0) → A ↔ X → B ↔ Y → C ↔ (X ⊎ Y
 either_reaches A B X Y C h k m = (λ a. grind arith, λ c. grind arith)
 
 span_reaches : (coord : Place → ℤ) (s : Span) (t : ℤ) → HasAny (λ q. coord q ≤ℤ t) s ↔ (least_of coord s ≤ℤ t)
-span_reaches coord s t = part s.b
-  where
-    part : (b : Option Place) → (coord s.a ≤ℤ t) ⊎ (IsSomeAnd b (λ q. coord q ≤ℤ t) ⊎ (coord s.c ≤ℤ t))
-        ↔ (int_min (coord s.a) (option_map_or (λ b. int_min (coord b) (coord s.c)) b (coord s.c)) ≤ℤ t)
-    part None = either_reaches _ _ _ _ _ (λ h. h, λ h. h) (λ h. elim h [ inl n ↦ absurd n | inr c ↦ c ], λ c. inr c)
-        (least_is _ (coord s.a) (coord s.c) t refl)
-    part (Some b) = either_reaches _ _ _ _ _ (λ h. h, λ h. h)
-        (either_reaches _ _ _ _ _ (λ h. h, λ h. h) (λ h. h, λ h. h) (least_is _ (coord b) (coord s.c) t refl))
-        (least_is _ (coord s.a) (int_min (coord b) (coord s.c)) t refl)
+span_reaches coord s t = grind (arith, signed_linear, either_reaches, least_is)
 
 pub least_reaches : (coord : Place → ℤ) (s : Span) (ss : List Span) (t : ℤ)
     → HaveAny (λ q. coord q ≤ℤ t) (s ∷ ss) ↔ (least coord s ss ≤ℤ t)
@@ -79,23 +69,16 @@ box_extents l r d u (s ∷ ss) h = (
 
 pub low_at_most : (coord : Place → ℤ) (ss : List Span) (low high t : ℤ) → IsExtent coord ss low high
     → HaveAny (λ q. coord q ≤ℤ t) ss → low ≤ℤ t
-low_at_most coord [] low high t e h = absurd e
-low_at_most coord (s ∷ ss) low high t (e, f) h =
-    let l = (least_reaches coord s ss t).0 h in omega (arith, signed_linear, l, e)
+low_at_most coord ss low high t h i = grind (arith, signed_linear, h, i, least_reaches)
 
 pub high_at_least : (coord : Place → ℤ) (ss : List Span) (low high t : ℤ) → IsExtent coord ss low high
     → HaveAny (λ q. t ≤ℤ coord q) ss → t ≤ℤ high
-high_at_least coord [] low high t e h = absurd e
-high_at_least coord (s ∷ ss) low high t (e, f) h =
-    let l = (greatest_reaches coord s ss t).0 h in omega (arith, signed_linear, l, f)
+high_at_least coord ss low high t h i = grind (arith, signed_linear, h, i, greatest_reaches)
 
 -- each point lies in it
 pub in_extent : (coord : Place → ℤ) (ss : List Span) (low high : ℤ) → IsExtent coord ss low high → (q : Place)
     → ((R : Place → Type 0) → R q → HaveAny R ss) → (low ≤ℤ coord q) × (coord q ≤ℤ high)
-in_extent coord ss low high e q m = (
-  low_at_most coord ss low high (coord q) e (m (λ r. coord r ≤ℤ coord q) (omega (arith, ints))),
-  high_at_least coord ss low high (coord q) e (m (λ r. coord q ≤ℤ coord r) (omega (arith, ints))),
-)
+in_extent coord ss low high e q m = grind (arith, signed_linear, e, m, low_at_most, high_at_least)
 
 -- both are coordinates of points
 pub low_is : (coord : Place → ℤ) (ss : List Span) (low high : ℤ) → IsExtent coord ss low high → HaveAny (λ q. coord q ≡ low) ss

@@ -7,7 +7,7 @@ use Rattle.fx_winding.specs.Winding.{Span, centre}
 use Rattle.fx_contour.specs.declared.bounds.Bounds.{Bounds}
 use Rattle.fx_contour.specs.declared.pixels.Pixels.{Pixels}
 use Rattle.fx_winding.specs.declared.frame.Frame.{Frame}
-use Rattle.std.proofs.Common.{Option, Some, None, Result, Ok, Err, IfOk, IfErr}
+use Rattle.std.proofs.Common.{Option, None, Result, Ok, Err, IfOk, IfErr}
 use Rattle.std.specs.Prelude.{IsErrOf}
 use Rattle.fx_contour.specs.declared.fault.ContourFault.{ContourFault}
 use Rattle.fx_contour.specs.declared.fault.ContourFault.TheVariants.{TooLarge}
@@ -89,11 +89,7 @@ pub apart : (first : ℤ) (count : ℕ) (n : ℤ) → count ≤ greatest_side �
 apart first count n h (a, b) (c, d) = omega (arith, signed_linear)
 
 pub frame_not_too_large : (f : Option Frame) (ss : List Span) → IsFrameFor f ss → ¬ (AreTooLarge ss)
-frame_not_too_large None ss n (i, j, h, k) = n i j h
-frame_not_too_large (Some f) ss n (i, j, h, inl k) =
-    apart f.left f.width i f.columns.few ((n.pixels i j).1 h).column ((n.pixels (i +ℤ pos greatest_side) j).1 k).column
-frame_not_too_large (Some f) ss n (i, j, h, inr k) =
-    apart f.bottom f.height j f.rows.few ((n.pixels i j).1 h).row ((n.pixels i (j +ℤ pos greatest_side)).1 k).row
+frame_not_too_large f ss h i = grind (arith, signed_linear, h, i, apart)
 
 pub too_large_is : (r : Result (Option Frame) ContourFault) (ss : List Span) → IfOk r (λ f. IsFrameFor f ss)
     → IfErr r (λ e. (e ≡ TooLarge) × AreTooLarge ss) → IsErrOf r TooLarge ↔ AreTooLarge ss

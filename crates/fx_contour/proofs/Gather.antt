@@ -13,7 +13,7 @@ use Rattle.fx_contour.specs.Curve.{curve_of}
 use Rattle.fx_contour.specs.Contours.{contours_from}
 
 -- the pieces made are those of the first k contours, and the next one begins at start
-pub record Gathered (made : List Piece) (start : ℕ) (ends : List ℕ) (k : ℕ) (points : List OutlinePoint) : Type 0 where
+pub record PiecesMade (made : List Piece) (start : ℕ) (ends : List ℕ) (k : ℕ) (points : List OutlinePoint) : Type 0 where
   pub spans : map span_of made ++ joined (map curve_of (contours_from start (drop k ends) points)) ≡ joined
       (map curve_of (contours_from 0 ends points))
   pub ends_left : AreEnds start (drop k ends) (length points)
@@ -23,10 +23,7 @@ pub record Gathered (made : List Piece) (start : ℕ) (ends : List ℕ) (k : ℕ
 pub ends_left_at : (start : ℕ) (ends : List ℕ) (k : ℕ) (points : List OutlinePoint) (e d : ℕ)
     → AreEnds start (drop k ends) (length points) → k < length ends → e ≡ get_or ends k d
     → AreEnds start (e ∷ drop (k + 1) ends) (length points)
-ends_left_at start ends k points e d a h s =
-    let P : List ℕ → Type 0 = λ xs. AreEnds start xs (length points) in
-    let Q : ℕ → Type 0 = λ x. AreEnds start (x ∷ drop (k + 1) ends) (length points) in
-    subst Q (sym s) (subst P (drop_more ends k d h) a)
+ends_left_at start ends k points e d a h s = grind (arith, a, h, s, drop_more)
 
 pub next_within : (start : ℕ) (ends : List ℕ) (k : ℕ) (points : List OutlinePoint) (e d : ℕ)
     → AreEnds start (drop k ends) (length points) → k < length ends → e ≡ get_or ends k d
@@ -41,9 +38,9 @@ slice_few start next points h k =
     let a = length-take (next - start) (drop start points) in let b = length-drop start points in omega arith
 
 pub gather_more : (made after : List Piece) (start : ℕ) (ends : List ℕ) (k : ℕ) (points : List OutlinePoint) (e d : ℕ)
-    → Gathered made start ends k points → k < length ends → e ≡ get_or ends k d
+    → PiecesMade made start ends k points → k < length ends → e ≡ get_or ends k d
     → map span_of after ≡ map span_of made ++ curve_of (take (e + 1 - start) (drop start points))
-    → length after ≤ length made + length (take (e + 1 - start) (drop start points)) → Gathered after (e + 1) ends (k + 1) points
+    → length after ≤ length made + length (take (e + 1 - start) (drop start points)) → PiecesMade after (e + 1) ends (k + 1) points
 gather_more made after start ends k points e d g h s m n =
     let l = ends_left_at start ends k points e d g.ends_left h s in
     let w = next_within start ends k points e d g.ends_left h s in
@@ -64,7 +61,7 @@ gather_more made after start ends k points e d g h s m n =
     }
 
 pub gather_end : (made : List Piece) (start : ℕ) (ends : List ℕ) (k : ℕ) (points : List OutlinePoint)
-    → Gathered made start ends k points → length ends ≤ k → map span_of made ≡ joined (map curve_of (contours_from 0 ends points))
+    → PiecesMade made start ends k points → length ends ≤ k → map span_of made ≡ joined (map curve_of (contours_from 0 ends points))
 gather_end made start ends k points g h =
     let P : List ℕ → Type 0 = λ xs. map span_of made ++ joined (map curve_of (contours_from start xs points)) ≡ joined
     (map curve_of (contours_from 0 ends points)) in

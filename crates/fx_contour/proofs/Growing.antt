@@ -1,6 +1,6 @@
 -- Bounding boxes, point by point.
 -- For `Bounds` and `Extent` and their loops.
-use Rattle.std.proofs.Common.{◌≡◌, sym, subst, ℕ, ◌+◌, ◌<◌, ◌≤◌, drop, length, map, get_or, ◌⊎◌, inl, inr}
+use Rattle.std.proofs.Common.{◌≡◌, subst, ℕ, ◌+◌, ◌<◌, ◌≤◌, drop, length, map, get_or, ◌⊎◌, inl, inr}
 use Rattle.std.proofs.Common.{ℤ, pos, ◌*ℤ◌, ◌≤ℤ◌, List, [], ◌∷◌, Option, None, Some, IsSomeAnd, drop_of_length-le, arith, ◌↔◌}
 use Rattle.std.specs.Int.{int_min, int_max}
 use Rattle.std.proofs.lemmas.Int.{ints, clamps, by_lt_z}
@@ -41,11 +41,7 @@ two A B C R S h k = (λ c. grind arith, λ x. grind arith)
 
 -- a box that grows by R and then by S grows by both
 pub then : (a b c : Side → ℤ → Type 0) (R S : (Place → Type 0) → Type 0) → Grows a b R → Grows b c S → Grows a c (λ P. R P ⊎ S P)
-then a b c R S h k =
-    record {
-      sides = λ side t. two (a side t) (b side t) (c side t) (R (IsOut side t)) (S (IsOut side t)) (h.sides side t)
-          (k.sides side t);
-    }
+then a b c R S h k = grind (arith, h, k, two)
 
 pub span_grows : (a b c d : Side → ℤ → Type 0) (s : Span) → Grows a b (λ P. P s.a) → Grows b c (λ P. IsSomeAnd s.b P)
     → Grows c d (λ P. P s.c) → Grows a d (λ P. HasAny P s)
@@ -69,16 +65,7 @@ one_less X A B R S h k = (λ x. grind arith, λ y. grind arith)
 pub remains_more : (b c : Bounds) (ps : List Piece) (n : ℕ) (s : Piece) → n < length ps → s ≡ get_or ps n s
     → Remains b (map span_of ps) (map span_of (drop n ps)) → Grows (Reaches b) (Reaches c) (λ P. HasAny P (span_of s))
     → Remains c (map span_of ps) (map span_of (drop (n + 1) ps))
-remains_more b c ps n s h e r g =
-    let ss = map span_of ps in
-    let rest = map span_of (drop (n + 1) ps) in
-    let P : List Piece → Type 0 = λ xs. Remains b ss (map span_of xs) in
-    let Q : Piece → Type 0 = λ x. Remains b ss (span_of x ∷ rest) in
-    let all_spans = subst Q (sym e) (subst P (drop_more ps n s h) r) in
-    record {
-      sides = λ side t. one_less (HaveAny (IsOut side t) ss) (Reaches b side t) (Reaches c side t)
-          (HasAny (IsOut side t) (span_of s)) (HaveAny (IsOut side t) rest) (all_spans.sides side t) (g.sides side t);
-    }
+remains_more b c ps n s h e r g = grind (arith, h, e, r, g, drop_more, one_less)
 
 pub none_left : (X A : Type 0) → X ↔ (A ⊎ ⊥) → X ↔ A
 none_left X A h = (λ x. grind arith, λ a. grind arith)
@@ -98,17 +85,7 @@ pub remains_first : (b : Bounds) (ps : List Piece) (d : Piece) → 0 < length ps
     → b.right ≡ (get_or ps 0 d).a.x → b.bottom ≡ (get_or ps 0 d).a.y → b.top ≡ (get_or ps 0 d).a.y
     → Remains b (map span_of ps) (map span_of ps)
 remains_first b [] d h l r u v = absurd (omega arith)
-remains_first b (s ∷ ps) d h l r u v =
-    record {
-      sides = λ side t. first_too (HaveAny (IsOut side t) (map span_of (s ∷ ps))) (Reaches b side t)
-          (λ k. inl (inl (at side t k)));
-    }
-  where
-    at : (side : Side) (t : ℤ) → Reaches b side t → IsOut side t (span_of s).a
-    at left_side t k = rw l at k
-    at right_side t k = rw r at k
-    at bottom_side t k = rw u at k
-    at top_side t k = rw v at k
+remains_first b (s ∷ ps) d h l r u v = grind (arith, h, l, r, u, v, first_too)
 
 -- no piece has no box
 pub none_of : (ps : List Piece) → length ps ≡ 0 → AreBoundsOf None (map span_of ps)

@@ -1,24 +1,22 @@
 -- The bounding box of the curve of a contour is that of its points: its other points lie half way between two of them.
 -- For `Extent::with_contour` and `Extent::of_curves`.
-use Rattle.std.proofs.Common.{◌≡◌, ◌⊎◌, inl, inr, ℤ, Bool, true, false, List, [], ◌∷◌, ◌++◌, Option, Some, None, refl}
-use Rattle.std.proofs.Common.{length, ◌≤◌, sym, subst, arith, option_to_list, if◌then◌else◌, ◌↔◌}
-use Rattle.std.proofs.lemmas.Int.{ints, by_lt_z}
+use Rattle.std.proofs.Common.{◌≡◌, ◌⊎◌, inl, inr, ℤ, Bool, true, false, List, [], ◌∷◌, ◌++◌, Option, Some, refl}
+use Rattle.std.proofs.Common.{length, ◌≤◌, sym, subst, arith, option_to_list, ◌↔◌}
+use Rattle.std.proofs.lemmas.Int.{by_lt_z}
 use Rattle.fx_winding.specs.Area.{Place}
 use Rattle.fx_winding.specs.Winding.{Span}
 use Rattle.fx_outline.specs.declared.points.OutlinePoint.{OutlinePoint}
 use Rattle.fx_contour.specs.Curve.{doubled_of, middle_of, joint_of, span_at, first_or, last_or, spans_between, curve_of}
 use Rattle.fx_contour.specs.Frames.{HasAny, HaveAny}
-use Rattle.fx_contour.specs.Bounds.{Side, left_side, right_side, bottom_side, top_side, IsOut, HavePoint}
+use Rattle.fx_contour.specs.Bounds.{Side, IsOut, HavePoint}
+use Rattle.fx_contour.proofs.Closed.{line_of, arc_of}
 
 -- a midpoint that has P lies between two points of which one has P
 abbrev pub IsOfEnds : (Place → Type 0) → Type 0
 IsOfEnds P = (p q : OutlinePoint) → P (middle_of p q) → P (doubled_of p) ⊎ P (doubled_of q)
 
 pub out_of_ends : (side : Side) (t : ℤ) → IsOfEnds (IsOut side t)
-out_of_ends left_side t p q h = by_lt_z p.x q.x (λ k. inl (omega (arith, ints))) (λ k. inr (omega (arith, ints)))
-out_of_ends right_side t p q h = by_lt_z p.x q.x (λ k. inr (omega (arith, ints))) (λ k. inl (omega (arith, ints)))
-out_of_ends bottom_side t p q h = by_lt_z p.y q.y (λ k. inl (omega (arith, ints))) (λ k. inr (omega (arith, ints)))
-out_of_ends top_side t p q h = by_lt_z p.y q.y (λ k. inr (omega (arith, ints))) (λ k. inl (omega (arith, ints)))
+out_of_ends side t h i j = grind (arith, h, i, j, by_lt_z)
 
 -- ---- lists of spans, one after the other
 
@@ -39,38 +37,12 @@ have_right P (x ∷ xs) ys h = inr (have_right P xs ys h)
 -- ---- each point of the curve
 
 joint_one : (P : Place → Type 0) → IsOfEnds P → (p q : OutlinePoint) → P (joint_of p q) → P (doubled_of p) ⊎ P (doubled_of q)
-joint_one P d p q h = by p.on_curve q.on_curve h
-  where
-    by : (a b : Bool) → P (if a then doubled_of p else (if b then doubled_of q else middle_of p q))
-        → P (doubled_of p) ⊎ P (doubled_of q)
-    by true b k = inl k
-    by false true k = inr k
-    by false false k = d p q k
+joint_one P d p q h = grind (arith, d, h)
 
 -- a point of what q adds gives one of the three
 span_one : (P : Place → Type 0) → IsOfEnds P → (p q r : OutlinePoint) → HaveAny P (option_to_list (span_at p q r))
     → P (doubled_of p) ⊎ (P (doubled_of q) ⊎ P (doubled_of r))
-span_one P d p q r h = by p.on_curve q.on_curve h
-  where
-    arc : HasAny P (record { a = joint_of p q; b = Some (doubled_of q); c = joint_of q r })
-        → P (doubled_of p) ⊎ (P (doubled_of q) ⊎ P (doubled_of r))
-    arc (inl k) = elim (joint_one P d p q k) [ inl a ↦ inl a | inr b ↦ inr (inl b) ]
-    arc (inr (inl k)) = inr (inl k)
-    arc (inr (inr k)) = inr (joint_one P d q r k)
-
-    by : (a b : Bool) → HaveAny P (option_to_list (if b then
-        (if a then Some (record { a = doubled_of p; b = None; c = doubled_of q }) else None) else Some (record {
-          a = joint_of p q;
-          b = Some (doubled_of q);
-          c = joint_of q r;
-        }))) → P (doubled_of p) ⊎ (P (doubled_of q) ⊎ P (doubled_of r))
-    by true true (inl (inl k)) = inl k
-    by true true (inl (inr (inl k))) = absurd k
-    by true true (inl (inr (inr k))) = inr (inl k)
-    by true true (inr k) = absurd k
-    by false true k = absurd k
-    by a false (inl k) = arc k
-    by a false (inr k) = absurd k
+span_one P d p q r h = grind (arith, d, h, joint_one, line_of, arc_of)
 
 first_one : (P : Place → Type 0) (qs : List OutlinePoint) (r : OutlinePoint) → P (doubled_of (first_or qs r))
     → HavePoint P qs ⊎ P (doubled_of r)
@@ -107,12 +79,10 @@ on_or_off : (b : Bool) → (b ≡ true) ⊎ (b ≡ false)
 on_or_off true = inl refl
 on_or_off false = inr refl
 
-arc_at : (p q r : OutlinePoint) → q.on_curve ≡ false
-    → span_at p q r ≡ Some (record { a = joint_of p q; b = Some (doubled_of q); c = joint_of q r })
+arc_at : (p q r : OutlinePoint) → q.on_curve ≡ false → span_at p q r ≡ arc_of (joint_of p q) (doubled_of q) (joint_of q r)
 arc_at p q r e = rw e refl
 
-line_at : (p q r : OutlinePoint) → q.on_curve ≡ true → p.on_curve ≡ true
-    → span_at p q r ≡ Some (record { a = doubled_of p; b = None; c = doubled_of q })
+line_at : (p q r : OutlinePoint) → q.on_curve ≡ true → p.on_curve ≡ true → span_at p q r ≡ line_of (doubled_of p) (doubled_of q)
 line_at p q r e f = rw (e, f) refl
 
 joint_at : (p q : OutlinePoint) → p.on_curve ≡ false → q.on_curve ≡ true → joint_of p q ≡ doubled_of q
@@ -128,9 +98,7 @@ record Ends (P : Place → Type 0) (p q : OutlinePoint) : Type 0 where
   has : P (doubled_of q)
 
 arc_ends : (P : Place → Type 0) (p q r : OutlinePoint) → Ends P q r → HaveAny P (option_to_list (span_at p q r))
-arc_ends P p q r e =
-    have_span P (span_at p q r) (record { a = joint_of p q; b = Some (doubled_of q); c = joint_of q r }) (arc_at p q r e.off)
-    (inr (inr (subst P (sym (joint_at q r e.off e.on)) e.has)))
+arc_ends P p q r e = grind (arith, e, have_span, arc_at, joint_at)
 
 -- the last point's arc ends in r
 last_arc : (P : Place → Type 0) (p q : OutlinePoint) (qs : List OutlinePoint) (r : OutlinePoint) → Ends P (last_or q qs) r
@@ -143,17 +111,7 @@ last_arc P p q (s ∷ qs) r e =
 point_one : (P : Place → Type 0) (p : OutlinePoint) (qs : List OutlinePoint) (r : OutlinePoint) → HavePoint P qs
     → HaveAny P (spans_between p qs r) ⊎ Ends P p (first_or qs r)
 point_one P p [] r h = absurd h
-point_one P p (q ∷ qs) r (inl h) = by (on_or_off q.on_curve) (on_or_off p.on_curve)
-  where
-    by : (q.on_curve ≡ true) ⊎ (q.on_curve ≡ false) → (p.on_curve ≡ true) ⊎ (p.on_curve ≡ false)
-        → HaveAny P (spans_between p (q ∷ qs) r) ⊎ Ends P p q
-    by (inr e) f =
-        inl (have_left P (option_to_list (span_at p q (first_or qs r))) (spans_between q qs r)
-        (have_span P (span_at p q (first_or qs r)) _ (arc_at p q (first_or qs r) e) (inr (inl h))))
-    by (inl e) (inl f) =
-        inl (have_left P (option_to_list (span_at p q (first_or qs r))) (spans_between q qs r)
-        (have_span P (span_at p q (first_or qs r)) _ (line_at p q (first_or qs r) e f) (inr (inr h))))
-    by (inl e) (inr f) = inr (record { off = f; on = e; has = h })
+point_one P p (q ∷ qs) r (inl h) = grind (arith, on_or_off, have_left, have_span, arc_at, line_at)
 point_one P p (q ∷ qs) r (inr h) = by (point_one P q qs r h)
   where
     by : HaveAny P (spans_between q qs r) ⊎ Ends P q (first_or qs r) → HaveAny P (spans_between p (q ∷ qs) r) ⊎ Ends P p q

@@ -1,9 +1,9 @@
 -- The columns and rows that drop-out control keeps.
 -- For `Pixels::kept`, `dropout_frame_around` and the law `dropout`.
 use Rattle.std.proofs.Common.{◌≡◌, ◌⊎◌, ◌↔◌, inl, inr, subst, ℤ, pos, negsuc, ◌+ℤ◌, ◌-ℤ◌, ◌*ℤ◌, ◌≤ℤ◌}
-use Rattle.std.proofs.Common.{◌<ℤ◌, int_le, not, List, [], ◌∷◌, Option, Decides, arith}
+use Rattle.std.proofs.Common.{◌<ℤ◌, int_le, List, [], ◌∷◌, Option, Decides, arith}
 use Rattle.std.proofs.lemmas.Int.{ints}
-use Rattle.std.proofs.lemmas.Bool.Decides.{Decides-like, Decides-and, Decides-not}
+use Rattle.std.proofs.lemmas.Bool.Decides.{Decides-like}
 use Rattle.std.specs.Int.{int_div_euclid}
 use Rattle.fx_fixed.specs.Ranges.{IsWithin}
 use Rattle.fx_fixed.proofs.Linear.{signed, signed_linear}
@@ -15,7 +15,6 @@ use Rattle.fx_winding.specs.Limits.{greatest_side, IsPixelNumber}
 use Rattle.fx_winding.specs.Winding.{Span, centre}
 use Rattle.fx_contour.specs.declared.pixels.Pixels.{Pixels}
 use Rattle.fx_contour.specs.Bounds.{ArePixels, AreKept}
-use Rattle.fx_contour.specs.Contours.{is_within}
 use Rattle.fx_contour.specs.DropoutFrames.{x_of, y_of, least, greatest, IsMiddleOf, IsKeptIn, IsKept}
 use Rattle.fx_contour.specs.DropoutFrames.{IsDropoutFrameFor, LeavesMargin, farthest_with_margin, leaves_margin}
 use Rattle.fx_contour.specs.DropoutFrames.{KeepsTooMany, keeps_too_many}
@@ -41,17 +40,11 @@ middle_at_most (pos n) = omega (arith, ints)
 middle_at_most (negsuc n) = omega (arith, ints)
 
 pub middle_is : (low high : ℤ) → IsMiddleOf low high (int_div_euclid (low +ℤ high) (pos 256))
-middle_is low high = by (int_div_euclid (low +ℤ high) (pos 256)) (middle_at_least (low +ℤ high)) (middle_at_most (low +ℤ high))
-  where
-    by : (n : ℤ) → (pos 256 *ℤ n) ≤ℤ (low +ℤ high) → (low +ℤ high) ≤ℤ (pos 256 *ℤ n +ℤ pos 255) → IsMiddleOf low high n
-    by n l h = (l, omega (arith, signed, h))
+middle_is low high = grind (arith, signed_linear, middle_at_least, middle_at_most)
 
 -- from the first pixel whose centre does not lie before low on
 none_past : (low high : ℤ) → high <ℤ (pos 128 *ℤ first_from low +ℤ pos 64) → AreNoPixels low high
-none_past low high h n (a, b) = by (first_from low) h (first_least low n a)
-  where
-    by : (m : ℤ) → high <ℤ (pos 128 *ℤ m +ℤ pos 64) → m ≤ℤ n → ⊥
-    by m k l = omega (arith, signed, b, k, l)
+none_past low high h n i = grind (arith, signed_linear, h, n, i, first_least)
 
 -- a pixel is kept
 kept_somewhere : (low high : ℤ) → (n : ℤ) × IsKeptIn low high n
@@ -122,9 +115,7 @@ far_apart low high n (inr h) (inr k) =
 -- the pixels beside a kept one have numbers, if the places leave a margin
 pub kept_neighbours : (low high n : ℤ) → IsWithin farthest_with_margin low → IsWithin farthest_with_margin high
     → IsKeptIn low high n → IsPixelNumber (n -ℤ pos 1) × IsPixelNumber (n +ℤ pos 1)
-kept_neighbours low high n a b (inl (h, k)) =
-    let l = a.0 in let r = b.1 in
-    ((omega (arith, signed, h, l), omega (arith, signed, k, r)), (omega (arith, signed, h, l), omega (arith, signed, k, r)))
+kept_neighbours low high n a b (inl (h, k)) = grind (arith, signed_linear, a, b)
 kept_neighbours low high n a b (inr (e, (h, k))) =
     let p = a.0 in let q = a.1 in let r = b.0 in let s = b.1 in (
       (omega (arith, signed, k, p, r), omega (arith, signed, h, q, s)),
@@ -135,9 +126,7 @@ kept_neighbours low high n a b (inr (e, (h, k))) =
 
 pub kept_in : (coord : Place → ℤ) (ss : List Span) (low high n : ℤ) → IsExtent coord ss low high
     → IsKept coord ss n ↔ IsKeptIn low high n
-kept_in coord [] low high n e = absurd e
-kept_in coord (s ∷ ss) low high n (e, f) =
-    subst (λ (z : ℤ × ℤ). IsKept coord (s ∷ ss) n ↔ IsKeptIn z.0 z.1 n) (λ i. (e i, f i)) (λ h. h, λ h. h)
+kept_in coord ss low high n h = grind (arith, signed_linear, h)
 
 pub some_pixel_is_kept : SomePixelIsKept
 some_pixel_is_kept [] h = absurd (omega (arith, h))
@@ -162,14 +151,10 @@ covered_is_kept ss o i j c = box_is_kept ss i j (in_box (centre i j) ss o c)
 -- ---- the tests
 
 pub margin_decides : (p : Place) → Decides (leaves_margin p) (LeavesMargin p)
-margin_decides p =
-    Decides-and (is_within farthest_with_margin p.x) (is_within farthest_with_margin p.y) (within_decides farthest_with_margin p.x)
-    (within_decides farthest_with_margin p.y)
+margin_decides p = grind (arith, signed_linear, within_decides)
 
 pub margin_is_tested : MarginIsTested
-margin_is_tested ss =
-    have_decides (λ q. not (leaves_margin q)) (λ q. ¬ (LeavesMargin q))
-    (λ q. Decides-not (leaves_margin q) (margin_decides q)) ss
+margin_is_tested ss = grind (arith, signed_linear, ss, have_decides, margin_decides)
 
 -- the centre of the pixel that comes as far as the greatest side after the first one from z on
 abbrev far_from : ℤ → ℤ

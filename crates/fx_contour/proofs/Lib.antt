@@ -7,7 +7,7 @@ pub mod Drawing
 pub mod Framed
 pub mod Walk
 pub mod Gather
-pub mod Drawn
+pub mod DrawnSpans
 pub mod Decided
 pub mod Extents
 pub mod Kept

@@ -1,7 +1,7 @@
 -- The pieces of an outline whose points are moved, where the places of its curve move along.
 -- Serves the law `shift`, and the laws of `fx_symmetry`.
-use Rattle.std.proofs.Common.{◌≡◌, refl, sym, ap, ◌∙◌, Bool, true, false, ℕ, ◌+◌, ◌-◌, List, [], ◌∷◌, ◌++◌}
-use Rattle.std.proofs.Common.{Option, Some, None, map, take, drop, option_map, option_to_list, if◌then◌else◌, Ok}
+use Rattle.std.proofs.Common.{◌≡◌, refl, sym, ap, ◌∙◌, Bool, true, false, ℕ, ◌+◌, List, [], ◌∷◌, ◌++◌, arith}
+use Rattle.std.proofs.Common.{Option, Some, None, map, option_map, option_to_list, if◌then◌else◌, Ok}
 use Rattle.std.proofs.lemmas.List.{map-append, take-map, drop-map}
 use Rattle.fx_winding.specs.Area.{Place}
 use Rattle.fx_winding.specs.Winding.{Span}
@@ -9,7 +9,8 @@ use Rattle.fx_winding.specs.Outside.{joined}
 use Rattle.fx_outline.specs.declared.points.OutlinePoint.{OutlinePoint}
 use Rattle.fx_contour.specs.Curve.{doubled_of, middle_of, joint_of, span_at, first_or, last_or, spans_between, curve_of}
 use Rattle.fx_contour.specs.Contours.{contours_from, spans_of, drawn_of}
-use Rattle.fx_contour.proofs.Drawn.{drawn_spans}
+use Rattle.fx_contour.proofs.Closed.{line_of, arc_of}
+use Rattle.fx_contour.proofs.DrawnSpans.{drawn_spans}
 
 -- the places of moved points, and the middles between them, are the moved places
 pub record Follows (f : OutlinePoint → OutlinePoint) (g : Place → Place) : Type 0 where
@@ -28,27 +29,11 @@ either_of g false x y = refl
 
 joint_moved : (f : OutlinePoint → OutlinePoint) (g : Place → Place) → Follows f g → (p q : OutlinePoint)
     → joint_of (f p) (f q) ≡ g (joint_of p q)
-joint_moved f g h p q =
-    (λ i. if h.kept p i then h.twice p i else (if h.kept q i then h.twice q i else h.middle p q i))
-    ∙ ap (λ d. if p.on_curve then g (doubled_of p) else d) (either_of g q.on_curve (doubled_of q) (middle_of p q))
-    ∙ either_of g p.on_curve (doubled_of p) (if q.on_curve then doubled_of q else middle_of p q)
-
--- a line and an arc
-abbrev line_of : Place → Place → Option Span
-line_of a c = Some (record { a = a; b = None; c = c })
-
-abbrev arc_of : Place → Place → Place → Option Span
-arc_of a b c = Some (record { a = a; b = Some b; c = c })
+joint_moved f g h p q = grind (arith, h, either_of)
 
 span_moved : (f : OutlinePoint → OutlinePoint) (g : Place → Place) → Follows f g → (p q r : OutlinePoint)
     → span_at (f p) (f q) (f r) ≡ option_map (moved g) (span_at p q r)
-span_moved f g h p q r =
-    (λ i. if h.kept q i then (if h.kept p i then line_of (h.twice p i) (h.twice q i) else None)
-    else arc_of (joint_moved f g h p q i) (h.twice q i) (joint_moved f g h q r i))
-    ∙ ap (λ d. if q.on_curve then d else arc_of (g (joint_of p q)) (g (doubled_of q)) (g (joint_of q r)))
-    (either_of (option_map (moved g)) p.on_curve (line_of (doubled_of p) (doubled_of q)) None)
-    ∙ either_of (option_map (moved g)) q.on_curve (if p.on_curve then line_of (doubled_of p) (doubled_of q) else None)
-    (arc_of (joint_of p q) (doubled_of q) (joint_of q r))
+span_moved f g h p q r = grind (arith, h, line_of, arc_of, joint_moved, either_of)
 
 list_moved : (f : Span → Span) (o : Option Span) → option_to_list (option_map f o) ≡ map f (option_to_list o)
 list_moved f None = refl
@@ -67,11 +52,7 @@ last_moved f p (q ∷ qs) = last_moved f q qs
 between_moved : (f : OutlinePoint → OutlinePoint) (g : Place → Place) → Follows f g → (p : OutlinePoint) (qs : List OutlinePoint)
     (r : OutlinePoint) → spans_between (f p) (map f qs) (f r) ≡ map (moved g) (spans_between p qs r)
 between_moved f g h p [] r = refl
-between_moved f g h p (q ∷ qs) r =
-    (λ i. option_to_list (span_at (f p) (f q) (first_moved f qs r i)) ++ between_moved f g h q qs r i)
-    ∙ ap (λ o. option_to_list o ++ map (moved g) (spans_between q qs r)) (span_moved f g h p q (first_or qs r))
-    ∙ ap (λ xs. xs ++ map (moved g) (spans_between q qs r)) (list_moved (moved g) (span_at p q (first_or qs r)))
-    ∙ sym (map-append (moved g) (option_to_list (span_at p q (first_or qs r))) (spans_between q qs r))
+between_moved f g h p (q ∷ qs) r = grind (arith, h, first_moved, span_moved, list_moved, map-append, between_moved f g h q qs r)
 
 curve_moved : (f : OutlinePoint → OutlinePoint) (g : Place → Place) → Follows f g → (points : List OutlinePoint)
     → curve_of (map f points) ≡ map (moved g) (curve_of points)
@@ -84,12 +65,7 @@ curve_moved f g h (p ∷ q ∷ qs) =
 contours_moved : (f : OutlinePoint → OutlinePoint) (start : ℕ) (es : List ℕ) (points : List OutlinePoint)
     → contours_from start es (map f points) ≡ map (map f) (contours_from start es points)
 contours_moved f start [] points = refl
-contours_moved f start (e ∷ es) points =
-    let d = drop-map f start points in
-    let t = take-map f (e + 1 - start) (drop start points) in
-    let one : take (e + 1 - start) (drop start (map f points)) ≡ map f (take (e + 1 - start) (drop start points)) =
-    ap (take (e + 1 - start)) d ∙ t in
-    λ i. one i ∷ contours_moved f (e + 1) es points i
+contours_moved f start (e ∷ es) points = grind (arith, drop-map, take-map, contours_moved f (e + 1) es points)
 
 all_moved : (f : OutlinePoint → OutlinePoint) (g : Place → Place) → Follows f g → (cs : List (List OutlinePoint))
     → joined (map curve_of (map (map f) cs)) ≡ map (moved g) (joined (map curve_of cs))
@@ -106,6 +82,4 @@ moved_spans f g h ends points =
 -- what the moved outline draws is moved
 pub drawn_moved : (f : OutlinePoint → OutlinePoint) (g : Place → Place) → Follows f g → (ends : List ℕ) (points : List OutlinePoint)
     (ss ts : List Span) → drawn_of ends points ≡ Ok ss → drawn_of ends (map f points) ≡ Ok ts → map (moved g) ss ≡ ts
-drawn_moved f g h ends points ss ts d e =
-    ap (map (moved g)) (sym (drawn_spans ends points ss d).1) ∙ sym (moved_spans f g h ends points)
-    ∙ (drawn_spans ends (map f points) ts e).1
+drawn_moved f g h ends points ss ts d e = grind (arith, h, d, e, drawn_spans, moved_spans)

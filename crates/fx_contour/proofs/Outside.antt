@@ -1,24 +1,17 @@
 -- A pixel outside the frame is not covered, since a place that is covered is in the bounding box.
 -- For the clause `outside` of `frame`.
-use Rattle.std.proofs.Common.{subst, ◌⊎◌, inl, inr, ◌≤ℤ◌, ◌<ℤ◌, List, [], ◌∷◌, Option, Some, None, IsSomeAnd, All, arith}
+use Rattle.std.proofs.Common.{subst, ◌⊎◌, inl, inr, ◌≤ℤ◌, ◌<ℤ◌, List, [], ◌∷◌, Option, Some, None, All, arith}
 use Rattle.std.proofs.lemmas.List.Elements.{All-nil, All-cons}
 use Rattle.fx_fixed.proofs.Order.{below_or_not_ℤ}
 use Rattle.fx_winding.specs.Area.{Place}
 use Rattle.fx_winding.specs.Winding.{Span, centre, IsCovered}
-use Rattle.fx_winding.specs.Outside.{HasAll, OptionAll, IsBeside, joined, AreOfOutline}
+use Rattle.fx_winding.specs.Outside.{HasAll, IsBeside, joined, AreOfOutline}
 use Rattle.fx_winding.specs.declared.frame.Frame.{Frame}
 use Rattle.fx_winding.proofs.Beside.{nothing_outside}
 use Rattle.fx_contour.specs.Frames.{HasAny, HaveAny, IsInBoundingBox, IsFrameFor, NothingOutsideFrame}
 
 pub piece_either : (P Q : Place → Type 0) → ((q : Place) → P q ⊎ Q q) → (s : Span) → HasAll P s ⊎ HasAny Q s
-piece_either P Q d s = by (d s.a) (option s.b) (d s.c)
-  where
-    option : (b : Option Place) → OptionAll P b ⊎ IsSomeAnd b Q
-    option None = inl tt
-    option (Some b) = d b
-
-    by : P s.a ⊎ Q s.a → OptionAll P s.b ⊎ IsSomeAnd s.b Q → P s.c ⊎ Q s.c → HasAll P s ⊎ HasAny Q s
-    by a b c = grind arith
+piece_either P Q d s = grind (arith, d)
 
 either : (P Q : Place → Type 0) → ((q : Place) → P q ⊎ Q q) → (ss : List Span) → All (HasAll P) ss ⊎ HaveAny Q ss
 either P Q d [] = inl (All-nil (HasAll P))

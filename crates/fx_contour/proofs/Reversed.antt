@@ -1,10 +1,9 @@
 -- The pieces of an outline whose contours are reversed are its pieces reversed, in another order.
 -- For the law `reversal`.
-use Rattle.std.proofs.Common.{◌≡◌, refl, sym, ap, ◌∙◌, subst, ℤ, ◌+ℤ◌, Bool, true, false, ℕ, ◌+◌, ◌-◌, ◌≤◌, List, []}
+use Rattle.std.proofs.Common.{◌≡◌, refl, sym, ap, ◌∙◌, subst, ℤ, Bool, ℕ, ◌+◌, ◌-◌, ◌≤◌, List, []}
 use Rattle.std.proofs.Common.{◌∷◌, ◌++◌, Option, Some, None, All, map, take, drop, length, option_to_list, append_assoc, arith}
 use Rattle.std.specs.Prelude.{reverse, if◌then◌else◌}
 use Rattle.std.specs.List.Sorted.{IsPermutation}
-use Rattle.std.proofs.lemmas.Int.{ints}
 use Rattle.std.proofs.lemmas.List.{append-nil, map-append, reverse-append, length-append, length-reverse}
 use Rattle.std.proofs.lemmas.List.{take_at, drop_at}
 use Rattle.std.proofs.lemmas.List.Elements.{All-nil, All-append, All-take, All-drop}
@@ -21,21 +20,21 @@ use Rattle.fx_contour.specs.Curve.{doubled_of, middle_of, joint_of, span_at, fir
 use Rattle.fx_contour.specs.Contours.{contours_from, spans_of, IsInReach}
 use Rattle.fx_contour.specs.Moves.{reversed_from, reversed_points, ReversalReversesContours, ReversalReversesSpans}
 use Rattle.fx_contour.specs.Moves.{ReversalKeepsBits}
-use Rattle.fx_contour.proofs.Closed.{point}
+use Rattle.fx_contour.proofs.Closed.{point, line_of, arc_of}
 use Rattle.fx_contour.proofs.Decided.{reach_is_tested}
-use Rattle.fx_contour.proofs.Drawn.{drawn_spans, drawn_from}
+use Rattle.fx_contour.proofs.DrawnSpans.{drawn_spans, drawn_from}
 use Rattle.fx_contour.proofs.Gather.{slice_few}
 
 -- the line from p to q, if both are on the curve
 abbrev line : OutlinePoint → OutlinePoint → Option Span
 line p q = if q.on_curve then
-    (if p.on_curve then Some (record { a = doubled_of p; b = None; c = doubled_of q }) else None) else None
+    (if p.on_curve then line_of (doubled_of p) (doubled_of q) else None) else None
 
 -- what a point q between p and r adds where each line belongs to its start, and not to its end
 abbrev span_from : OutlinePoint → OutlinePoint → OutlinePoint → Option Span
 span_from p q r =
-    if q.on_curve then (if r.on_curve then Some (record { a = doubled_of q; b = None; c = doubled_of r }) else None)
-    else Some (record { a = joint_of p q; b = Some (doubled_of q); c = joint_of q r })
+    if q.on_curve then (if r.on_curve then line_of (doubled_of q) (doubled_of r) else None)
+    else arc_of (joint_of p q) (doubled_of q) (joint_of q r)
 
 abbrev spans_after : OutlinePoint → List OutlinePoint → OutlinePoint → List Span
 spans_after p [] r = []
@@ -48,12 +47,7 @@ one : (px py qx qy rx ry : ℤ) (a b c : Bool)
     ≡ option_to_list (span_at (point px py a) (point qx qy b) (point rx ry c)) ++ option_to_list
     (line (point qx qy b) (point rx ry c))
 unfolding point
-one px py qx qy rx ry true true true = refl
-one px py qx qy rx ry true true false = refl
-one px py qx qy rx ry false true true = refl
-one px py qx qy rx ry false true false = refl
-one px py qx qy rx ry a false true = refl
-one px py qx qy rx ry a false false = refl
+one px py qx qy rx ry a b c = grind (arith)
 
 one_at : (p q r : OutlinePoint)
     → option_to_list (line p q) ++ option_to_list (span_from p q r) ≡ option_to_list (span_at p q r) ++ option_to_list (line q r)
@@ -73,36 +67,13 @@ moved_lines p (q ∷ qs) r =
 
 -- ---- the points in reverse give the spans in reverse
 middle_back : (p q : OutlinePoint) → middle_of p q ≡ middle_of q p
-middle_back p q = λ i. record { x = sum_back p.x q.x i; y = sum_back p.y q.y i }
-  where
-    sum_back : (x y : ℤ) → x +ℤ y ≡ y +ℤ x
-    sum_back x y = omega (arith, ints)
+middle_back p q = grind (arith)
 
 turned : (px py qx qy rx ry : ℤ) (a b c : Bool)
     → option_to_list (span_at (point rx ry c) (point qx qy b) (point px py a)) ≡ reverse
     (map reversed (option_to_list (span_from (point px py a) (point qx qy b) (point rx ry c))))
 unfolding point
-turned px py qx qy rx ry a true true = refl
-turned px py qx qy rx ry a true false = refl
-turned px py qx qy rx ry true false true = refl
-turned px py qx qy rx ry true false false =
-    λ i. record {
-      a = middle_back (point rx ry false) (point qx qy false) i;
-      b = Some (doubled_of (point qx qy false));
-      c = doubled_of (point px py true);
-    } ∷ []
-turned px py qx qy rx ry false false true =
-    λ i. record {
-      a = doubled_of (point rx ry true);
-      b = Some (doubled_of (point qx qy false));
-      c = middle_back (point qx qy false) (point px py false) i;
-    } ∷ []
-turned px py qx qy rx ry false false false =
-    λ i. record {
-      a = middle_back (point rx ry false) (point qx qy false) i;
-      b = Some (doubled_of (point qx qy false));
-      c = middle_back (point qx qy false) (point px py false) i;
-    } ∷ []
+turned px py qx qy rx ry a b c = grind (arith, arc_of, middle_back, point)
 
 turned_at : (p q r : OutlinePoint) → option_to_list (span_at r q p) ≡ reverse (map reversed (option_to_list (span_from p q r)))
 unfolding point
@@ -159,9 +130,7 @@ rotated (Some l) xs (y ∷ ys) e =
 
 curve_cyclic : (xs : List OutlinePoint) (d : OutlinePoint) → 2 ≤ length xs
     → curve_of xs ≡ spans_between (last_or d xs) xs (first_or xs d)
-curve_cyclic [] d h = absurd (omega arith)
-curve_cyclic (x ∷ []) d h = absurd (omega arith)
-curve_cyclic (x ∷ y ∷ ys) d h = refl
+curve_cyclic xs d h = grind (arith, h)
 
 curve_back : (points : List OutlinePoint) → IsPermutation (map reversed (curve_of points)) (curve_of (reverse points))
 curve_back [] = IsPermutation-refl []
@@ -218,9 +187,7 @@ pub reversal_reverses_contours : ReversalReversesContours
 reversal_reverses_contours ends points h = contours_back [] 0 ends points refl h
 
 pub reversal_reverses_spans : ReversalReversesSpans
-reversal_reverses_spans ends points h =
-    subst (λ cs. IsPermutation (map reversed (spans_of ends points)) (joined (map curve_of cs)))
-    (sym (reversal_reverses_contours ends points h)) (all_back (contours_from 0 ends points))
+reversal_reverses_spans ends points h = grind (arith, ends, points, h, reversal_reverses_contours, all_back)
 
 -- ---- within the limits
 all_reversed : (start : ℕ) (es : List ℕ) (points : List OutlinePoint) → All IsInReach points

@@ -1,6 +1,6 @@
 -- The pieces of a moved outline are its pieces moved.
 -- For the law `shift`.
-use Rattle.std.proofs.Common.{◌≡◌, refl, subst, ◌↔◌, ℤ, pos, ◌+ℤ◌, ◌*ℤ◌, [], ◌∷◌}
+use Rattle.std.proofs.Common.{◌≡◌, subst, ◌↔◌, ℤ, pos, ◌+ℤ◌, ◌*ℤ◌, [], ◌∷◌, arith}
 use Rattle.fx_fixed.specs.Polynomial.{var, num, ◌⊞◌, ◌⊠◌}
 use Rattle.fx_fixed.proofs.Ring.{ring}
 use Rattle.fx_winding.specs.Area.{Place}
@@ -29,11 +29,7 @@ sum_moved x y k =
     tt
 
 follows : (k l : ℤ) → Follows (moved_point k l) (moved_place k l)
-follows k l = record {
-  kept = λ p. refl;
-  twice = λ p i. record { x = twice_moved p.x k i; y = twice_moved p.y l i };
-  middle = λ p q i. record { x = sum_moved p.x q.x k i; y = sum_moved p.y q.y l i };
-}
+follows k l = grind (arith, twice_moved, sum_moved)
 
 pub shift_moves_spans : ShiftMovesSpans
 shift_moves_spans k l = moved_spans (moved_point k l) (moved_place k l) (follows k l)

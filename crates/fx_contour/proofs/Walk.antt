@@ -58,9 +58,7 @@ option_few (Some s) = omega arith
 -- the pieces of a point added to those made
 added : (made after : List Piece) (piece : Option Piece) (o : Option Span) → option_map span_of piece ≡ o
     → after ≡ made ++ option_to_list piece → map span_of after ≡ map span_of made ++ option_to_list o
-added made after piece o s a =
-    ap (map span_of) a ∙ map-append span_of made (option_to_list piece) ∙ ap (λ (xs : List Span). map span_of made ++ xs)
-    (option_list piece ∙ ap option_to_list s)
+added made after piece o s a = grind (arith, s, a, map-append, option_list)
 
 pub walk_more : (made after start : List Piece) (points : List OutlinePoint) (i : ℕ) (before here next first d : OutlinePoint)
     (piece : Option Piece) → i < length points → next ≡ get_or points i d → option_map span_of piece ≡ span_at before here next

@@ -7,7 +7,7 @@ use Rattle.std.proofs.lemmas.Bool.{and_parts}
 use Rattle.std.proofs.lemmas.Int.{ints}
 use Rattle.fx_fixed.proofs.Linear.{signed_linear}
 use Rattle.fx_winding.specs.Winding.{Span, IsCovered, centre}
-use Rattle.fx_winding.specs.Frames.{IsFrom, IsInFrame, HasMargin, is_from}
+use Rattle.fx_winding.specs.Frames.{IsInFrame, HasMargin, is_from}
 use Rattle.fx_winding.specs.declared.frame.Frame.{Frame}
 use Rattle.fx_winding.specs.Bitmaps.{Bits, IsScanOf, bit_of}
 use Rattle.fx_winding.specs.Outside.{AreOfOutline}
@@ -39,51 +39,31 @@ is_in_frame f col row = is_from f.left f.width col && is_from f.bottom f.height 
 in_frame : (f : Frame) (col row : ℤ) → IsInFrame f col row → is_in_frame f col row ≡ true
 in_frame f col row i = let c = i.column in let r = i.row in grind (arith, ints)
 
-by_pixel : (S : ℤ → ℤ → Type 0) (b : Bits) (col row : ℤ) (t : Bool)
-    → (IsInFrame b.frame col row → IsTrue (bit_of b col row) ↔ S col row)
-    → (¬ (IsInFrame b.frame col row) → ¬ (S col row))
-    → is_in_frame b.frame col row ≡ t → IsTrue (bit_of b col row) ↔ S col row
-by_pixel S b col row true inside outside e =
-    let p = and_parts (is_from b.frame.left b.frame.width col) (is_from b.frame.bottom b.frame.height row) e in
-    inside (record {
-      column = from_true b.frame.left b.frame.width col p.0;
-      row = from_true b.frame.bottom b.frame.height row p.1;
-    })
-by_pixel S b col row false inside outside e =
-    neither (unset (bit_of b col row) (rw e refl)) (outside (λ i. true≢false (sym (in_frame b.frame col row i) ∙ e)))
+by_pixel : (S : ℤ → ℤ → Type 0) (b : Bits) (f : Frame) → b.frame ≡ f → (col row : ℤ) (t : Bool)
+    → (IsInFrame f col row → IsTrue (bit_of b col row) ↔ S col row) → (¬ (IsInFrame f col row) → ¬ (S col row))
+    → is_in_frame f col row ≡ t → IsTrue (bit_of b col row) ↔ S col row
+by_pixel S b f h col row t i j k = grind (arith, signed_linear, h, i, j, k, and_parts, from_true, neither, unset, in_frame)
 
 -- ---- all pixels
 
-in_its_frame : (rule : Rule) (ss : List Span) (b : Bits)
-    → ((col row : ℤ) → IsInFrame b.frame col row → IsTrue (bit_of b col row) ↔ IsPixelSet rule ss col row)
-    → IsFramedBy rule (Some b.frame) ss → NothingOutsideFrame (Some b.frame) ss → AreOfOutline ss → HasBitsOf rule ss b
-in_its_frame rule ss b inside framed outside closed =
-    record {
-      each = λ col row. by_pixel (IsPixelSet rule ss) b col row _ (inside col row)
-          (nothing_set rule (Some b.frame) ss framed outside closed col row) refl;
-    }
+in_its_frame : (rule : Rule) (f : Frame) (ss : List Span) (b : Bits) → b.frame ≡ f
+    → ((col row : ℤ) → IsInFrame f col row → IsTrue (bit_of b col row) ↔ IsPixelSet rule ss col row)
+    → IsFramedBy rule (Some f) ss → NothingOutsideFrame (Some f) ss → AreOfOutline ss → HasBitsOf rule ss b
+in_its_frame rule f ss b same inside framed outside closed = record {
+  each = λ col row. by_pixel (IsPixelSet rule ss) b f same col row _ (inside col row)
+      (nothing_set rule (Some f) ss framed outside closed col row) refl;
+}
 
 scan_has_bits : (f : Frame) (ss : List Span) (b : Bits) → IsScanOf f ss b → IsFramedBy Centres (Some f) ss
     → NothingOutsideFrame (Some f) ss → AreOfOutline ss → HasBitsOf Centres ss b
-scan_has_bits f ss b scan framed outside closed =
-    let I : Frame → Type 0
-    = λ g. (col row : ℤ) → IsInFrame g col row → IsTrue (bit_of b col row) ↔ IsCovered (centre col row) ss in
-    let F : Frame → Type 0 = λ g. IsFramedBy Centres (Some g) ss in
-    let N : Frame → Type 0 = λ g. NothingOutsideFrame (Some g) ss in
-    in_its_frame Centres ss b (subst I (sym scan.same) scan.bits) (subst F (sym scan.same) framed) (subst N (sym scan.same) outside)
-    closed
+scan_has_bits f ss b scan framed outside closed = in_its_frame Centres f ss b scan.same scan.bits framed outside closed
 
 -- the pixels of the frame are those of the frame with drop-out control
 bridged_has_bits : (closing : Closing) (f : Frame) (ss : List Span) (b : Bits) → IsBridgedScanOf closing f ss b
     → IsFramedBy (Bridged closing) (Some f) ss → NothingOutsideFrame (Some f) ss → AreOfOutline ss
     → HasBitsOf (Bridged closing) ss b
 bridged_has_bits closing f ss b scan framed outside closed =
-    let I : Frame → Type 0
-    = λ g. (col row : ℤ) → IsInFrame g col row → IsTrue (bit_of b col row) ↔ IsPixelSet (Bridged closing) ss col row in
-    let F : Frame → Type 0 = λ g. IsFramedBy (Bridged closing) (Some g) ss in
-    let N : Frame → Type 0 = λ g. NothingOutsideFrame (Some g) ss in
-    in_its_frame (Bridged closing) ss b (subst I (sym scan.same) each) (subst F (sym scan.same) framed)
-    (subst N (sym scan.same) outside) closed
+    in_its_frame (Bridged closing) f ss b scan.same each framed outside closed
   where
     set : (col row : ℤ) → IsSet closing ss f col row ↔ IsPixelSet (Bridged closing) ss col row
     set = set_along closing ss (IsInFrame f) (IsInDropoutFrame ss) framed.0
@@ -97,34 +77,20 @@ bridged_has_bits closing f ss b scan framed outside closed =
 empty_has_bits : (rule : Rule) (ss : List Span) (b : Bits) → b.frame.width ≡ 0 → IsFramedBy rule None ss
     → NothingOutsideFrame None ss → AreOfOutline ss → HasBitsOf rule ss b
 empty_has_bits rule ss b narrow framed outside closed =
-    record {
-      each = λ col row. by_pixel (IsPixelSet rule ss) b col row _ (λ i. absurd (no_column i.column))
-          (λ _. nothing_set rule None ss framed outside closed col row (λ x. x)) refl;
-    }
-  where
-    no_column : {first n : ℤ} → IsFrom first b.frame.width n → ⊥
-    no_column h = omega (arith, signed_linear, narrow, h.0, h.1)
+    grind (arith, signed_linear, narrow, framed, outside, closed, by_pixel, nothing_set)
 
 -- ---- for answers
 
 pub scanned_bits : {E : Type 0} (f : Frame) (ss : List Span) (r : Result Bits E) (rule : Rule) → rule ≡ Centres
     → IfOk r (IsScanOf f ss) → IsFramedBy rule (Some f) ss → NothingOutsideFrame (Some f) ss → AreOfOutline ss
     → IfOk r (HasBitsOf rule ss)
-scanned_bits f ss (Ok b) rule e scan framed outside closed =
-    let F : Rule → Type 0 = λ r. IsFramedBy r (Some f) ss in
-    let H : Rule → Type 0 = λ r. HasBitsOf r ss b in
-    subst H (sym e) (scan_has_bits f ss b scan (subst F e framed) outside closed)
-scanned_bits f ss (Err d) rule e scan framed outside closed = tt
+scanned_bits f ss r rule h i j k l = grind (arith, signed_linear, h, i, j, k, l, scan_has_bits)
 
 pub bridged_bits : {E : Type 0} (closing : Closing) (f : Frame) (ss : List Span) (r : Result Bits E) (rule : Rule)
     → rule ≡ Bridged closing → IfOk r (IsBridgedScanOf closing f ss) → IsFramedBy rule (Some f) ss
     → NothingOutsideFrame (Some f) ss → AreOfOutline ss
     → IfOk r (HasBitsOf rule ss)
-bridged_bits closing f ss (Ok b) rule e scan framed outside closed =
-    let F : Rule → Type 0 = λ r. IsFramedBy r (Some f) ss in
-    let H : Rule → Type 0 = λ r. HasBitsOf r ss b in
-    subst H (sym e) (bridged_has_bits closing f ss b scan (subst F e framed) outside closed)
-bridged_bits closing f ss (Err d) rule e scan framed outside closed = tt
+bridged_bits closing f ss r rule h i j k l = grind (arith, signed_linear, h, i, j, k, l, bridged_has_bits)
 
 -- a scan of the frame whose gaps are closed
 pub closed_scan : (closing : Closing) (f : Frame) (ss : List Span) (old new : Bits) → IsScanOf f ss old → new.frame ≡ old.frame

@@ -1,7 +1,7 @@
 -- The shape of an outline has a picture: its pixels are decided, and lie within the limits. It has only one.
 -- Serves the law `picture`, and the law of fx_strike that a strike exists.
 use Rattle.std.proofs.Common.{◌≡◌, ◌⊎◌, refl, subst, inl, inr, ℕ, ℤ, pos, negsuc, ◌+ℤ◌, ◌*ℤ◌, ◌≤ℤ◌, ◌<ℤ◌, Bool, true, false}
-use Rattle.std.proofs.Common.{List, Ok, arith}
+use Rattle.std.proofs.Common.{List, Ok, Decides, arith}
 use Rattle.std.specs.Prelude.{IsTrue}
 use Rattle.std.proofs.lemmas.Int.{ints}
 use Rattle.fx_fixed.specs.Chain.{◌>>=◌}
@@ -14,6 +14,8 @@ use Rattle.fx_outline.specs.declared.points.OutlinePoint.{OutlinePoint}
 use Rattle.fx_contour.specs.Contours.{drawn_of}
 use Rattle.fx_contour.specs.Frames.{IsInBoundingBox, AreTooLarge}
 use Rattle.fx_contour.specs.DropoutFrames.{IsInDropoutFrame}
+use Rattle.fx_contour.specs.Bounds.{left_side, right_side, bottom_side, top_side}
+use Rattle.fx_contour.proofs.Decided.{more}
 use Rattle.fx_contour.proofs.Kept.{covered_is_kept}
 use Rattle.fx_contour.proofs.Outside.{in_box}
 use Rattle.fx_dropout.specs.declared.chooser.Closing.{Closing}
@@ -22,35 +24,25 @@ use Rattle.fx_raster.specs.declared.rule.Rule.TheVariants.{Centres, Bridged}
 use Rattle.fx_raster.specs.Rules.{ShapeView, IsPixelSet, framed_by, shape_of}
 use Rattle.fx_raster.specs.Laws.{PictureExists, PictureIsOne}
 use Rattle.fx_raster.proofs.Bridged.{set_within}
-use Rattle.fx_raster.proofs.Covering.{Test, covered, set_in}
+use Rattle.fx_winding.proofs.Halved.{Known}
+use Rattle.fx_raster.proofs.Covering.{covered, set_in}
 use Rattle.fx_raster.proofs.Kept.{IsFramed, are_framed, in_dropout_frame, column_number, row_number, columns_near, rows_near}
-use Rattle.fx_raster.proofs.Near.{AreNear, AreDrawn, are_drawn, not_large, have_near, have_more}
+use Rattle.fx_raster.proofs.Near.{AreNear, AreDrawn, are_drawn, not_large}
 
 -- ---- the pixels that are covered
 
-column_from : (col row : ℤ) (ss : List Span) → AreNear ss → IsInBoundingBox (centre col row) ss → negsuc 32767 ≤ℤ col
-column_from col row ss n h = let q = have_near (λ q. q.x ≤ℤ (centre col row).x) ss h.left n in at q.0.x q.1 q.2.0.0
-  where
-    at : (x : ℤ) → x ≤ℤ (pos 128 *ℤ col +ℤ pos 64) → negsuc 4194303 ≤ℤ x → negsuc 32767 ≤ℤ col
-    at x h k = omega (arith, signed, h, k)
+first_pixel : (n : ℤ) → negsuc 4194303 ≤ℤ (pos 128 *ℤ n +ℤ pos 64) → negsuc 32767 ≤ℤ n
+first_pixel n h = omega (arith, signed, h)
 
-column_to : (col row : ℤ) (ss : List Span) → AreNear ss → IsInBoundingBox (centre col row) ss → col <ℤ pos 32768
-column_to col row ss n h = let q = have_near (λ q. (centre col row).x ≤ℤ q.x) ss h.right n in at q.0.x q.1 q.2.0.1
-  where
-    at : (x : ℤ) → (pos 128 *ℤ col +ℤ pos 64) ≤ℤ x → x ≤ℤ pos 4194304 → col <ℤ pos 32768
-    at x h k = omega (arith, signed, h, k)
+last_pixel : (n : ℤ) → (pos 128 *ℤ n +ℤ pos 64) ≤ℤ pos 4194304 → n <ℤ pos 32768
+last_pixel n h = omega (arith, signed, h)
 
-row_from : (col row : ℤ) (ss : List Span) → AreNear ss → IsInBoundingBox (centre col row) ss → negsuc 32767 ≤ℤ row
-row_from col row ss n h = let q = have_near (λ q. q.y ≤ℤ (centre col row).y) ss h.bottom n in at q.0.y q.1 q.2.1.0
-  where
-    at : (y : ℤ) → y ≤ℤ (pos 128 *ℤ row +ℤ pos 64) → negsuc 4194303 ≤ℤ y → negsuc 32767 ≤ℤ row
-    at y h k = omega (arith, signed, h, k)
-
-row_to : (col row : ℤ) (ss : List Span) → AreNear ss → IsInBoundingBox (centre col row) ss → row <ℤ pos 32768
-row_to col row ss n h = let q = have_near (λ q. (centre col row).y ≤ℤ q.y) ss h.top n in at q.0.y q.1 q.2.1.1
-  where
-    at : (y : ℤ) → (pos 128 *ℤ row +ℤ pos 64) ≤ℤ y → y ≤ℤ pos 4194304 → row <ℤ pos 32768
-    at y h k = omega (arith, signed, h, k)
+pixel_numbers : (col row : ℤ) (ss : List Span) → AreNear ss → IsInBoundingBox (centre col row) ss
+    → IsPixelNumber col × IsPixelNumber row
+pixel_numbers col row ss n h = (
+  (first_pixel col (n left_side (centre col row).x h.left), last_pixel col (n right_side (centre col row).x h.right)),
+  (first_pixel row (n bottom_side (centre col row).y h.bottom), last_pixel row (n top_side (centre col row).y h.top)),
+)
 
 -- a number that is moved up by no more than lies between two others
 up_from : (x a b : ℤ) → x ≤ℤ (pos 128 *ℤ a +ℤ pos 64) → a ≤ℤ b → x ≤ℤ (pos 128 *ℤ b +ℤ pos 64)
@@ -68,10 +60,10 @@ not_wide ss small col row col2 row2 h k = elim (below_or_not_ℤ col2 (col +ℤ 
     row,
     h,
     inl (record {
-      left = have_more (λ q. q.x ≤ℤ (centre col row).x) (λ q. q.x ≤ℤ (centre (col +ℤ pos greatest_side) row).x)
-          (λ q l. up_from q.x col (col +ℤ pos greatest_side) l (omega (arith, ints))) ss h.left;
-      right = have_more (λ q. (centre col2 row2).x ≤ℤ q.x) (λ q. (centre (col +ℤ pos greatest_side) row).x ≤ℤ q.x)
-          (λ q l. down_from q.x (col +ℤ pos greatest_side) col2 l far) ss k.right;
+      left = more (λ q. q.x ≤ℤ (centre col row).x) (λ q. q.x ≤ℤ (centre (col +ℤ pos greatest_side) row).x) ss h.left
+          (λ q l. up_from q.x col (col +ℤ pos greatest_side) l (omega (arith, ints)));
+      right = more (λ q. (centre col2 row2).x ≤ℤ q.x) (λ q. (centre (col +ℤ pos greatest_side) row).x ≤ℤ q.x) ss k.right
+          (λ q l. down_from q.x (col +ℤ pos greatest_side) col2 l far);
       bottom = h.bottom;
       top = h.top;
     }),
@@ -89,22 +81,31 @@ not_high ss small col row col2 row2 h k = elim (below_or_not_ℤ row2 (row +ℤ 
     inr (record {
       left = h.left;
       right = h.right;
-      bottom = have_more (λ q. q.y ≤ℤ (centre col row).y) (λ q. q.y ≤ℤ (centre col (row +ℤ pos greatest_side)).y)
-          (λ q l. up_from q.y row (row +ℤ pos greatest_side) l (omega (arith, ints))) ss h.bottom;
-      top = have_more (λ q. (centre col2 row2).y ≤ℤ q.y) (λ q. (centre col (row +ℤ pos greatest_side)).y ≤ℤ q.y)
-          (λ q l. down_from q.y (row +ℤ pos greatest_side) row2 l far) ss k.top;
+      bottom = more (λ q. q.y ≤ℤ (centre col row).y) (λ q. q.y ≤ℤ (centre col (row +ℤ pos greatest_side)).y) ss h.bottom
+          (λ q l. up_from q.y row (row +ℤ pos greatest_side) l (omega (arith, ints)));
+      top = more (λ q. (centre col2 row2).y ≤ℤ q.y) (λ q. (centre col (row +ℤ pos greatest_side)).y ≤ℤ q.y) ss k.top
+          (λ q l. down_from q.y (row +ℤ pos greatest_side) row2 l far);
     }),
   ))
 ]
 
--- the pixels that are set, as a test
-set_test : (rule : Rule) (ss : List Span) (col row : ℤ) → Test (IsPixelSet rule ss col row)
-set_test Centres ss col row = covered (centre col row) ss
-set_test (Bridged closing) ss col row = set_in closing ss (IsInDropoutFrame ss) (in_dropout_frame ss) col row
+-- whether a pixel is set, or not
+known_set : (rule : Rule) (ss : List Span) (col row : ℤ) → Known (IsPixelSet rule ss col row)
+known_set Centres ss col row = covered (centre col row) ss
+known_set (Bridged closing) ss col row = set_in closing ss (IsInDropoutFrame ss) (in_dropout_frame ss) col row
+
+-- what is known, as a bit
+abbrev holds : {P : Type 0} → Known P → Bool
+holds (inl h) = true
+holds (inr n) = false
+
+decides : {P : Type 0} (k : Known P) → Decides (holds k) P
+decides (inl h) = (λ t. h, λ p. refl)
+decides (inr n) = (λ t. absurd (cc), λ p. absurd (n p))
 
 -- the bits of spans
 abbrev bit_by : Rule → List Span → ℤ → ℤ → Bool
-bit_by rule ss col row = (set_test rule ss col row).0
+bit_by rule ss col row = holds (known_set rule ss col row)
 
 -- where they lie
 record AreSmall (bit : ℤ → ℤ → Bool) : Type 0 where
@@ -114,21 +115,14 @@ record AreSmall (bit : ℤ → ℤ → Bool) : Type 0 where
   low : (col row col2 row2 : ℤ) → IsTrue (bit col row) → IsTrue (bit col2 row2) → row2 <ℤ (row +ℤ pos greatest_side)
 
 are_covered : (ss : List Span) → AreDrawn ss → (AreTooLarge ss → ⊥) → AreSmall (bit_by Centres ss)
-are_covered ss d small =
-    let box : (col row : ℤ) → IsTrue (bit_by Centres ss col row) → IsInBoundingBox (centre col row) ss =
-    λ col row h. in_box (centre col row) ss d.closed ((set_test Centres ss col row).1.0 h) in
-    record {
-      columns = λ col row h. (column_from col row ss d.near (box col row h), column_to col row ss d.near (box col row h));
-      rows = λ col row h. (row_from col row ss d.near (box col row h), row_to col row ss d.near (box col row h));
-      narrow = λ col row col2 row2 h k. not_wide ss small col row col2 row2 (box col row h) (box col2 row2 k);
-      low = λ col row col2 row2 h k. not_high ss small col row col2 row2 (box col row h) (box col2 row2 k);
-    }
+are_covered ss d small = grind (arith, d, small, in_box, decides, known_set, pixel_numbers, not_wide, not_high)
 
 -- with drop-out control all of them are kept
 are_kept : (closing : Closing) (ss : List Span) → AreDrawn ss → IsFramed ss → AreSmall (bit_by (Bridged closing) ss)
 are_kept closing ss d f =
     let kept : (col row : ℤ) → IsTrue (bit_by (Bridged closing) ss col row) → IsInDropoutFrame ss col row =
-    λ col row h. by col row (set_within closing ss (IsInDropoutFrame ss) col row ((set_test (Bridged closing) ss col row).1.0 h)) in
+    λ col row h. by col row (set_within closing ss (IsInDropoutFrame ss) col row
+    ((decides (known_set (Bridged closing) ss col row)).0 h)) in
     record {
       columns = λ col row h. column_number ss f col row (kept col row h);
       rows = λ col row h. row_number ss f col row (kept col row h);
@@ -166,7 +160,7 @@ picture_exists shape (rule, ends, points, h) =
     let s = are_small shape.rule shape.spans c.drawn c.framed in (
       bit_by shape.rule shape.spans,
       record {
-        bits = λ col row. (set_test shape.rule shape.spans col row).1;
+        bits = λ col row. decides (known_set shape.rule shape.spans col row);
         columns = s.columns;
         rows = s.rows;
         narrow = s.narrow;
@@ -175,10 +169,7 @@ picture_exists shape (rule, ends, points, h) =
     )
 
 same_bit : (a b : Bool) → (IsTrue a → IsTrue b) → (IsTrue b → IsTrue a) → a ≡ b
-same_bit true true f g = refl
-same_bit true false f g = absurd (cc (f refl))
-same_bit false true f g = absurd (cc (g refl))
-same_bit false false f g = refl
+same_bit a b h i = grind (arith, h, i)
 
 pub picture_is_one : PictureIsOne
 picture_is_one shape bit other b o col row =

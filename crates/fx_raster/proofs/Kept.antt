@@ -19,32 +19,30 @@ use Rattle.fx_contour.proofs.Decided.{first_reaches, first_least}
 use Rattle.fx_contour.proofs.DropoutFramed.{near}
 use Rattle.fx_contour.proofs.Extents.{low_is, high_is}
 use Rattle.fx_contour.proofs.Kept.{kept_neighbours, margin_is_tested, many_is_tested}
-use Rattle.fx_raster.proofs.Covering.{Test, both, one, none, like, le, lt}
+use Rattle.fx_winding.proofs.Halved.{Known, known_either, known_as}
+use Rattle.fx_raster.proofs.Covering.{both, none, le, lt}
 
 -- ---- decided
 
-centre_in : (low high n : ℤ) → Test (IsCentreIn low high n)
+centre_in : (low high n : ℤ) → Known (IsCentreIn low high n)
 centre_in low high n = both (le low (pos 128 *ℤ n +ℤ pos 64)) (le (pos 128 *ℤ n +ℤ pos 64) high)
 
 -- if a pixel's centre lies between two places, so does that of the first one whose centre does not lie before the lesser
 first_centre : (low high n : ℤ) → IsCentreIn low high n → IsCentreIn low high (first_from low)
-first_centre low high n (h, k) = (first_reaches low, by (first_from low) (first_least low n h))
-  where
-    by : (m : ℤ) → m ≤ℤ n → (pos 128 *ℤ m +ℤ pos 64) ≤ℤ high
-    by m l = omega (arith, signed, k, l)
+first_centre low high n h = grind (arith, signed_linear, h, first_reaches, first_least)
 
-no_pixels : (low high : ℤ) → Test (AreNoPixels low high)
+no_pixels : (low high : ℤ) → Known (AreNoPixels low high)
 no_pixels low high =
-    like (λ n m h. n (first_centre low high m h)) (λ n. n (first_from low)) (none (centre_in low high (first_from low)))
+    known_as (λ n m h. n (first_centre low high m h)) (λ n. n (first_from low)) (none (centre_in low high (first_from low)))
 
-middle_of : (low high n : ℤ) → Test (IsMiddleOf low high n)
+middle_of : (low high n : ℤ) → Known (IsMiddleOf low high n)
 middle_of low high n = both (le (pos 256 *ℤ n) (low +ℤ high)) (lt (low +ℤ high) (pos 256 *ℤ (n +ℤ pos 1)))
 
-kept_between : (low high n : ℤ) → Test (IsKeptIn low high n)
-kept_between low high n = one (centre_in low high n) (both (no_pixels low high) (middle_of low high n))
+kept_between : (low high n : ℤ) → Known (IsKeptIn low high n)
+kept_between low high n = known_either (centre_in low high n) (both (no_pixels low high) (middle_of low high n))
 
-pub in_dropout_frame : (ss : List Span) (i j : ℤ) → Test (IsInDropoutFrame ss i j)
-in_dropout_frame [] i j = (false, (λ e. absurd (true≢false (sym e)), λ h. absurd h.0))
+pub in_dropout_frame : (ss : List Span) (i j : ℤ) → Known (IsInDropoutFrame ss i j)
+in_dropout_frame [] i j = inr (λ h. h.0)
 in_dropout_frame (s ∷ ss) i j =
     both (kept_between (least x_of s ss) (greatest x_of s ss) i) (kept_between (least y_of s ss) (greatest y_of s ss) j)
 

@@ -12,7 +12,7 @@ use Rattle.fx_contour.specs.Curve.{curve_of}
 use Rattle.fx_contour.specs.Contours.{IsInReach, contours_from, drawn_of, spans_of}
 use Rattle.fx_contour.specs.Frames.{NothingOutsideFrame}
 use Rattle.fx_contour.proofs.Closed.{all_closed}
-use Rattle.fx_contour.proofs.Drawn.{drawn_spans}
+use Rattle.fx_contour.proofs.DrawnSpans.{drawn_spans}
 use Rattle.fx_raster.specs.declared.rule.Rule.{Rule}
 use Rattle.fx_raster.specs.Rules.{framed_by, shape_of}
 use Rattle.fx_raster.specs.Frames.{HasFrame, IsFramedBy}

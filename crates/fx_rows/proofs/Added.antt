@@ -1,12 +1,12 @@
 -- What a piece adds to a row tells which of its segments it meets.
 -- Serves `meets_to` and `note_tip`.
-use Rattle.std.proofs.Common.{◌≡◌, sym, ◌∙◌, ℕ, ◌<◌, ℤ, pos, ◌+ℤ◌, ◌-ℤ◌, ap, Option, Some, None, arith}
-use Rattle.std.proofs.Common.{w64, to_z, of_z}
+use Rattle.std.proofs.Common.{◌≡◌, ℕ, ◌<◌, ℤ, pos, ◌+ℤ◌, ◌-ℤ◌, Option, Some, None, arith}
+use Rattle.std.proofs.Common.{w64, of_z}
 use Rattle.fx_fixed.proofs.Linear.{signed_linear}
 use Rattle.fx_winding.specs.Area.{Place}
 use Rattle.fx_winding.specs.Frames.{IsFrom}
 use Rattle.fx_winding.specs.Meets.{turn, IsTipPart, IsReached}
-use Rattle.fx_winding.specs.Winding.{Span, crossing, region, region_part, centre}
+use Rattle.fx_winding.specs.Winding.{Span, region_part, centre}
 use Rattle.fx_winding.specs.declared.frame.Frame.{Frame}
 use Rattle.fx_rows.specs.Parts.{IsRowPart}
 use Rattle.fx_rows.specs.declared.part.RowPart.{RowPart}
@@ -18,17 +18,11 @@ use Rattle.fx_rows.proofs.Counted.{run_at}
 -- what a piece adds at a column
 pub turn_at : (s : Span) (row : ℤ) (f : Frame) (part : RowPart) (col : ℤ) → IsRowPart s row f part → IsFrom f.left f.width col
     → value_at part.crossing col +ℤ value_at part.region col ≡ turn (centre col row) s
-turn_at s row f part col is i =
-    let crosses = run_at (λ x. crossing (centre x row) s) f part.crossing col is.crosses i in
-    let regions = run_at (λ x. region (centre x row) s) f part.region col is.regions i in
-    λ j. crosses j +ℤ regions j
+turn_at s row f part col is i = grind (arith, signed_linear, is, i, run_at)
 
 -- numbers with the same 64 bits are the same
 pub bits_tell : (a b x y : ℤ) → a ≡ x → b ≡ y → IsWithin 2 x → IsWithin 2 y → of_z w64 a ≡ of_z w64 b → x ≡ y
-bits_tell a b x y e f near_x near_y h =
-    let from_a : to_z w64 (of_z w64 a) ≡ x = omega (arith, signed_linear, e, near_x) in
-    let from_b : to_z w64 (of_z w64 b) ≡ y = omega (arith, signed_linear, f, near_y) in
-    sym from_a ∙ ap (to_z w64) h ∙ from_b
+bits_tell a b x y e f near_x near_y h = grind (arith, signed_linear, e, f, near_x, near_y, h)
 
 -- the ends of a segment within the frame are columns of it
 pub left_in : (f : Frame) (k : ℕ) → 0 < k → k < f.width → IsFrom f.left f.width ((f.left -ℤ pos 1) +ℤ pos k)

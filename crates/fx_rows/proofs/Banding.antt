@@ -1,4 +1,4 @@
--- What pieces add to a band, row by row.
+-- Rows that were added one after the other are all added: `band_both` joins some rows and those after them.
 -- Serves the rows of a piece, and the pieces of a band.
 use Rattle.std.proofs.Common.{◌≡◌, ◌⊎◌, inl, inr, refl, sym, ap, ◌∙◌, subst, ℕ, zero, suc, ◌+◌, ◌-◌, ◌*◌, ◌/◌, ◌<◌, ◌≤◌, ℤ}
 use Rattle.std.proofs.Common.{pos, ◌+ℤ◌, Bool, false, arith, IsTrue, List, length, get_or}
@@ -31,13 +31,7 @@ wide w = omega arith
 
 -- a row's words are among those of all rows and one more
 pub word_in : (up high w first n : ℕ) → up < high → first ≡ up * stride w → n ≡ high * words_for w + 1 → (first + w) / 32 < n
-word_in up high w first n h e l = by (words_for w) (omega arith) e l
-  where
-    by : (q : ℕ) → w ≤ 32 * q → first ≡ up * (32 * q) → n ≡ high * q + 1 → (first + w) / 32 < n
-    by q m f t =
-        let rows = row_before up high q h in
-        let at : up * (32 * q) ≡ 32 * (up * q) = grind arith in
-        omega (arith, rows, at, f, t, m)
+word_in up high w first n h e l = grind (arith, signed_linear, h, e, l, row_before)
 
 -- ---- what stays
 pub kept_none : (b : Band) (n : ℕ) → IsKept b b n
@@ -80,12 +74,7 @@ row_added s f row at old new d d' t t' m m' ed ed' et et' em em' h =
 -- ---- rows of one piece
 -- no row yet
 pub band_none : (s : Span) (f : Frame) (at : ℕ) (b : Band) → IsBandAdded s f at at b b
-band_none s f at b = record {
-  added = λ r k h l m. absurd (omega arith);
-  kept = λ n h. kept_none b n;
-  grown = λ n h. h;
-  touches = λ t. t;
-}
+band_none s f at b = grind (arith, signed_linear, kept_none)
 
 -- a number in a row before, or after
 beside_row : (w r t k : ℕ) → k < w → (r < t) ⊎ (t < r) → (r * stride w + k < t * stride w) ⊎ (t * stride w + w ≤ r * stride w + k)
@@ -167,11 +156,7 @@ band_missed s f from to b o h = record {
 pub band_three : (s : Span) (from low high to : ℕ) (old x y new : Band) → from ≤ low → low ≤ high → high ≤ to
     → x.frame ≡ old.frame → y.frame ≡ x.frame → IsBandAdded s old.frame from low old x → IsBandAdded s x.frame low high x y
     → IsBandAdded s y.frame high to y new → IsBandAdded s old.frame from to old new
-band_three s from low high to old x y new h k l ex ey a b c =
-    let f = old.frame in
-    let b' = subst (λ (g : Frame). IsBandAdded s g low high x y) ex b in
-    let c' = subst (λ (g : Frame). IsBandAdded s g high to y new) (ey ∙ ex) c in
-    band_both s f from high to old y new (omega arith) l (band_both s f from low high old x y h k a b') c'
+band_three s from low high to old x y new h k l ex ey a b c = grind (arith, signed_linear, h, k, l, ex, ey, a, b, c, band_both)
 
 -- ---- numbers of pixels, and the others
 abbrev pub IsNumber : ℕ → ℕ → ℕ → Type 0
@@ -208,23 +193,14 @@ after_last w high r k h l t z a =
     grind (arith, below_or_not r t, below_or_not t r, row_before r t (stride w), row_before t r (stride w), wide w)
 
 pub number_in : (up high w k n : ℕ) → up < high → k < stride w → n ≡ high * words_for w + 1 → up * stride w + k < 32 * n
-number_in up high w k n h l e = by (words_for w) l e
-  where
-    by : (q : ℕ) → k < 32 * q → n ≡ high * q + 1 → up * (32 * q) + k < 32 * n
-    by q m t =
-        let rows = row_before up high q h in
-        let at : up * (32 * q) ≡ 32 * (up * q) = grind arith in
-        omega (arith, rows, at, t, m)
+number_in up high w k n h l e = grind (arith, signed_linear, h, l, e, row_before)
 
 -- the numbers from the last row on are those of no pixel
 past_rows : (w high n : ℕ) → high * stride w ≤ n → (t : ℕ) → 0 ≤ t → t < high → (n < t * stride w) ⊎ (t * stride w + w ≤ n)
 past_rows w high n h t z a = let e = row_before t high (stride w) a in let x = wide w in inr (omega (arith, e, x))
 
 past_room : (high w n k : ℕ) → n ≡ high * words_for w + 1 → 32 * n ≤ k + 1 → high * stride w ≤ k
-past_room high w n k e h = by (words_for w) e
-  where
-    by : (q : ℕ) → n ≡ high * q + 1 → high * (32 * q) ≤ k
-    by q t = let at : high * (32 * q) ≡ 32 * (high * q) = grind arith in omega (arith, at, t)
+past_room high w n k e h = grind (arith, signed_linear, e, h)
 
 last_added : (xs : List ℤ) (k : ℕ) → before (k + 1) xs ≡ pos 0 → before (k + 2) xs ≡ pos 0 → get_or xs (k + 1) (pos 0) ≡ pos 0
 last_added xs k h l =
@@ -248,17 +224,7 @@ past_marks ss f b (suc k) e c h =
 
 -- ---- counts of tests
 pub tests_more : (p c u v : ℕ) → u ≤ v → p * (c * u) + p * (c * (v - u)) ≡ p * (c * v)
-tests_more p c u v h = by (v - u) (omega arith)
-  where
-    by : (n : ℕ) → u + n ≡ v → p * (c * u) + p * (c * n) ≡ p * (c * v)
-    by n e = sum n ∙ ap (λ (m : ℕ). p * (c * m)) e
-      where
-        sum : (n : ℕ) → p * (c * u) + p * (c * n) ≡ p * (c * (u + n))
-        sum n = grind arith
+tests_more p c u v h = grind (arith, signed_linear, h)
 
 pub tests_fit : (p c u h d : ℕ) → u ≤ h → p * (c * u) ≤ p * h * (6 * d + c)
-tests_fit p c u h d l =
-    let m = mul-le-mul_left c l in
-    let n = mul-le-mul_left p m in
-    let e : p * h * (6 * d + c) ≡ p * (c * h) + 6 * (p * h * d) = grind arith in
-    omega (arith, n, e)
+tests_fit p c u h d l = grind (arith, signed_linear, l, mul-le-mul_left)

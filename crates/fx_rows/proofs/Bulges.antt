@@ -1,10 +1,10 @@
--- Which segments of a row a piece can meet, by what it adds to the row.
+-- A segment that a piece meets is at an end of what the piece adds, or has an end of the piece or its tip within: `met_candidate`.
 -- Serves `note_line`.
-use Rattle.std.proofs.Common.{◌↔◌, IsTrue, Bool, ◌≡◌, ◌≢◌, ◌⊎◌, inl, inr, refl, sym, ap, ◌∙◌, subst, ℕ, zero, suc, ◌+◌, ◌*◌, ◌<◌, ◌≤◌, ℤ, pos, ◌+ℤ◌, ◌-ℤ◌, ◌*ℤ◌}
+use Rattle.std.proofs.Common.{◌↔◌, IsTrue, Bool, false, ◌≡◌, ◌≢◌, ◌⊎◌, inl, inr, refl, sym, ap, ◌∙◌, subst, ℕ, zero, suc, ◌+◌, ◌*◌, ◌<◌, ◌≤◌, ℤ, pos, ◌+ℤ◌, ◌-ℤ◌, ◌*ℤ◌}
 use Rattle.std.proofs.Common.{neg_ℤ, ◌≤ℤ◌, ◌<ℤ◌, Option, Some, None, List, [], ◌∷◌, arith}
 use Rattle.fx_fixed.specs.Polynomial.{var, num, ◌⊞◌, ◌⊠◌, ◌⊟◌, Expr}
 use Rattle.fx_fixed.proofs.Linear.{signed, signed_linear}
-use Rattle.fx_fixed.proofs.Order.{below_or_not, below_same_above, below_or_not_ℤ}
+use Rattle.fx_fixed.proofs.Order.{below_same_above, below_or_not_ℤ}
 use Rattle.fx_fixed.proofs.Ring.{ring}
 use Rattle.fx_winding.specs.Area.{Place}
 use Rattle.fx_winding.specs.Frames.{IsFrom}
@@ -14,16 +14,20 @@ use Rattle.fx_winding.specs.Winding.{Span, IsOn, crossing, region, centre}
 use Rattle.fx_winding.specs.declared.frame.Frame.{Frame}
 use Rattle.fx_winding.proofs.Aside.{left_not_met, right_not_met}
 use Rattle.fx_winding.proofs.Meeting.{above_not_met, below_not_met}
+use Rattle.fx_winding.proofs.Places.{clash}
 use Rattle.fx_winding.proofs.Triangle.{area_expr}
 use Rattle.fx_winding.specs.Bitmaps.{word_bit}
 use Rattle.fx_winding.specs.Turned.{turned_span}
 use Rattle.fx_winding.specs.Notes.{pixel_number, words_noted, IsNotedAcross, IsNotedUp}
 use Rattle.fx_rows.specs.inner.Bulging.{HasLine, IsBeyond}
-use Rattle.fx_rows.specs.inner.Heights.{height_of, IsMissed}
+use Rattle.fx_rows.specs.inner.Heights.{height_of}
+use Rattle.fx_rows.specs.declared.heights.Met.{Met}
+use Rattle.fx_rows.specs.inner.Placing.{AreMetIn}
 use Rattle.fx_rows.specs.inner.Points.{AreAcross}
 use Rattle.fx_rows.specs.inner.Sums.{IsInside}
 use Rattle.fx_rows.specs.inner.Told.{AreKept}
 use Rattle.fx_rows.specs.inner.Upward.{column_of}
+use Rattle.fx_rows.proofs.Kept.{rows_three}
 use Rattle.fx_rows.proofs.Points.{to_all}
 use Rattle.fx_rows.specs.Parts.{IsRun, IsRowPart}
 use Rattle.fx_rows.specs.declared.part.Run.{Run}
@@ -237,20 +241,20 @@ pub set_kept : (s : Span) (f : Frame) (row : ℤ) (first step k : ℕ) (a b : Li
     → IsSetTo s f row first step b k
 set_kept s f row first step k a b kept h met = kept (first + k * step) (h met)
 
--- ---- rows that the piece misses
-pub missed_set : (s : Span) (f : Frame) (r first step : ℕ) (bits : List ℕ) → IsMissed s (height_of f r)
-    → IsRowSet s f (f.bottom +ℤ pos r) first step bits
-missed_set s f r first step bits (inl h) k l met =
-    absurd (above_not_met (left_at f (f.bottom +ℤ pos r) k) (right_at f (f.bottom +ℤ pos r) k) s refl h met)
-missed_set s f r first step bits (inr h) k l met =
-    absurd (below_not_met (left_at f (f.bottom +ℤ pos r) k) (right_at f (f.bottom +ℤ pos r) k) s refl h met)
-
 -- ---- rows and columns of notes
-pub across_set : (s : Span) (f : Frame) (bits : List ℕ) → AreRowsSet s f (32 * words_noted f.width) 1 bits → (r : ℕ) → r < f.height
+-- the rows of a band that a piece can touch are noted, and it misses the others
+pub missed_across : (s : Span) (f : Frame) (from to : ℕ) (m : Met) (bits : List ℕ) → AreMetIn s f from to m
+    → ((r : ℕ) → m.touched.first ≤ r → r < m.touched.end → IsNotedAcross s f bits r) → (r : ℕ) → from ≤ r → r < to
     → IsNotedAcross s f bits r
-across_set s f bits h r l k m met =
-    let e : r * (32 * words_noted f.width) + k * 1 ≡ pixel_number f r k = omega arith in
-    subst (λ (n : ℕ). word_bit bits n ≡ 1) e (h r l k m met)
+missed_across s f from to m bits is h = rows_three (IsNotedAcross s f bits) from m.touched.first m.touched.end to
+    (λ r l o k w met. absurd (above_not_met (left_at f (f.bottom +ℤ pos r) k) (right_at f (f.bottom +ℤ pos r) k) s refl
+    (is.below r l o) met.met)) h
+    (λ r l o k w met. absurd (below_not_met (left_at f (f.bottom +ℤ pos r) k) (right_at f (f.bottom +ℤ pos r) k) s refl
+    (is.above r l o) met.met))
+
+pub across_set : (s : Span) (f : Frame) (r : ℕ) (bits : List ℕ) → AreSetIn s f r (r * (32 * words_noted f.width)) 1 bits
+    → IsNotedAcross s f bits r
+across_set s f r bits h k m met = grind (arith, signed_linear, h, k, m, met)
 
 pub up_set : (s : Span) (f g : Frame) (bits : List ℕ) → g.left ≡ f.bottom → g.bottom ≡ f.left → g.width ≡ f.height
     → g.height ≡ f.width → AreRowsSet (turned_span s) g 1 (32 * words_noted f.width) bits → (r : ℕ) → r ≤ f.height
@@ -310,41 +314,26 @@ pub in_kept : (s : Span) (f : Frame) (r first step : ℕ) (a b : List ℕ) → A
     → AreSetIn s f r first step b
 in_kept s f r first step a b kept h k l met = kept (first + k * step) (h k l met)
 
--- rows before some, these, and those after them
-pub rows_three : (s : Span) (f : Frame) (low m n high row_step step : ℕ) (bits : List ℕ)
-    → ((r : ℕ) → low ≤ r → r < m → AreSetIn s f r (r * row_step) step bits)
-    → ((r : ℕ) → m ≤ r → r < n → AreSetIn s f r (r * row_step) step bits)
-    → ((r : ℕ) → n ≤ r → r < high → AreSetIn s f r (r * row_step) step bits)
-    → (r : ℕ) → low ≤ r → r < high → AreSetIn s f r (r * row_step) step bits
-rows_three s f low m n high row_step step bits a b c r l h = by (below_or_not r m) (below_or_not r n)
-  where
-    by : (r < m) ⊎ (m ≤ r) → (r < n) ⊎ (n ≤ r) → AreSetIn s f r (r * row_step) step bits
-    by (inl x) y = a r l x
-    by (inr x) (inl y) = b r x y
-    by (inr x) (inr y) = c r y h
-
 -- the rows that a piece can touch are noted, and it misses the others
-pub all_rows_set : (s : Span) (f : Frame) (low high row_step step : ℕ) (bits : List ℕ)
-    → ((r : ℕ) → r < low → HasAll (λ q. height_of f r <ℤ q.y) s)
-    → ((r : ℕ) → high ≤ r → r < f.height → HasAll (λ q. q.y <ℤ height_of f r) s)
+pub all_rows_set : (s : Span) (f : Frame) (from low high to row_step step : ℕ) (bits : List ℕ)
+    → ((r : ℕ) → from ≤ r → r < low → HasAll (λ q. height_of f r <ℤ q.y) s)
+    → ((r : ℕ) → high ≤ r → r < to → HasAll (λ q. q.y <ℤ height_of f r) s)
     → ((r : ℕ) → low ≤ r → r < high → AreSetIn s f r (r * row_step) step bits)
-    → AreRowsSet s f row_step step bits
-all_rows_set s f low high row_step step bits below above h r l = by (below_or_not r low) (below_or_not r high)
-  where
-    by : (r < low) ⊎ (low ≤ r) → (r < high) ⊎ (high ≤ r) → AreSetIn s f r (r * row_step) step bits
-    by (inl a) b = set_in s f r (r * row_step) step bits (missed_set s f r (r * row_step) step bits (inl (below r a)))
-    by (inr a) (inl b) = h r a b
-    by (inr a) (inr b) = set_in s f r (r * row_step) step bits (missed_set s f r (r * row_step) step bits (inr (above r b l)))
+    → (r : ℕ) → from ≤ r → r < to → AreSetIn s f r (r * row_step) step bits
+all_rows_set s f from low high to row_step step bits below above h = rows_three (λ r. AreSetIn s f r (r * row_step) step bits)
+    from low high to (λ r l m k w met. absurd (above_not_met (left_at f (f.bottom +ℤ pos r) k) (right_at f (f.bottom +ℤ pos r) k) s
+    refl (below r l m) met.met)) h (λ r l m k w met. absurd (below_not_met (left_at f (f.bottom +ℤ pos r) k)
+    (right_at f (f.bottom +ℤ pos r) k) s refl (above r l m) met.met))
+
+-- ---- two tests, of which the first failed
+pub or_else : {A B : Type 0} (r t : Bool) → r ≡ false → (IsTrue r ↔ A) → (IsTrue t ↔ B) → IsTrue t ↔ (A ⊎ B)
+or_else r t e x y = (λ h. inr (y.0 h), λ h. elim h [ inl a ↦ absurd (clash r e (x.1 a)) | inr b ↦ y.1 b ])
 
 -- ---- a line of centres
 -- the first one from x on comes before the first one past y
 pub line_found : (x y n m : ℤ) → x ≤ℤ (pos 128 *ℤ n +ℤ pos 64)
     → ((j : ℤ) → j <ℤ m → (pos 128 *ℤ j +ℤ pos 64) <ℤ (y +ℤ pos 1)) → n <ℤ m → HasLine x y
-line_found x y n m from before l = record {
-  line = n;
-  from = from;
-  to = let b = before n l in omega (arith, signed_linear, b);
-}
+line_found x y n m from before l = grind (arith, signed_linear, from, before, l)
 
 pub line_lost : (x y n m : ℤ) → ((j : ℤ) → j <ℤ n → (pos 128 *ℤ j +ℤ pos 64) <ℤ x)
     → ((j : ℤ) → m ≤ℤ j → (y +ℤ pos 1) ≤ℤ (pos 128 *ℤ j +ℤ pos 64)) → HasLine x y → n <ℤ m

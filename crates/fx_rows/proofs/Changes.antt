@@ -1,12 +1,11 @@
--- Sums of differences, column by column and word by word.
+-- Columns settled one by one, at the differences that are not 0, give a word the bits of all its sums: `settled`.
 -- Serves the words that are settled.
 use Rattle.std.proofs.Common.{◌≡◌, ◌≢◌, ◌⊎◌, inl, inr, refl, sym, ap, ◌∙◌, ℕ, zero, suc, ◌+◌, ◌-◌, ◌*◌, ◌<◌, ◌≤◌, ℤ, pos, ◌+ℤ◌}
-use Rattle.std.proofs.Common.{List, length, get_or, set, arith, ◌/◌, ◌%◌, max, bit_or, Bool, true, false, cond}
+use Rattle.std.proofs.Common.{List, length, get_or, set, arith, ◌/◌, ◌%◌, max, bit_or}
 use Rattle.std.specs.Int.{bit_at}
-use Rattle.std.specs.Ordering.{int_eq}
 use Rattle.std.proofs.lemmas.List.{get_or-set_other, get_or-set_same}
 use Rattle.std.proofs.lemmas.Nat.Bits.{bit_at-zero, bit_at-lt, bit_at_or}
-use Rattle.fx_fixed.proofs.Order.{below_or_not, below_same_above}
+use Rattle.fx_fixed.proofs.Order.{below_or_not}
 use Rattle.fx_fixed.proofs.Linear.{signed_linear}
 use Rattle.fx_winding.specs.Bitmaps.{word_bit}
 use Rattle.fx_rows.specs.inner.Sums.{before, sum_of, count_bit}
@@ -87,10 +86,7 @@ settling_first diff from start count bits left c b f n = (
 -- the sum up to a column whose bit is the first that is set
 sum_to : (diff : List ℤ) (from : ℕ) (start count : ℤ) (bits left p k : ℕ) → Settling diff from start count bits left p
     → k < 32 → p ≤ k → ((i : ℕ) → i < k → bit_at left i ≡ 0) → count ≡ start +ℤ sum_of diff from k
-sum_to diff from start count bits left p k s l h b =
-    let e = sum_none diff from p k h (λ i x y. s.none i x (omega arith) (b i y)) in
-    let c = s.sum in
-    omega (arith, signed_linear, e, c)
+sum_to diff from start count bits left p k s l h b = grind (arith, signed_linear, s, l, h, b, sum_none)
 
 not_before : (left p k : ℕ) → ((i : ℕ) → i < p → bit_at left i ≡ 0) → bit_at left k ≡ 1 → p ≤ k
 not_before left p k v bit = grind (arith, below_or_not k p)
@@ -160,26 +156,15 @@ pub emptying_first : (old new : List ℤ) (from touched left : ℕ) → get_or n
     → ((i : ℕ) → 0 < i → i < 32 → bit_at touched i ≡ 0 → get_or old (from + i) (pos 0) ≡ pos 0)
     → ((i : ℕ) → i ≤ 0 → bit_at left i ≡ 0)
     → ((i : ℕ) → 0 < i → i < 32 → bit_at left i ≡ bit_at touched i) → Emptying old new from left
-emptying_first old new from touched left here same none gone rest = record {
-  due = λ i h b. grind (arith, below_or_not 0 i, same (from + i), gone i);
-  done = λ i h b. grind (arith, below_or_not 0 i, here, same (from + i), none i, rest i);
-  others = λ k h. let ne : k ≢ from = omega (arith, h) in same k ne;
-}
+emptying_first old new from touched left here same none gone rest = grind (arith, signed_linear, here, same, none, gone, rest)
 
 pub emptying_more : (old new new' : List ℤ) (from left left' c : ℕ) → Emptying old new from left
     → get_or new' (from + c) (pos 0) ≡ pos 0 → c < 32
     → ((k : ℕ) → k ≢ from + c → get_or new' k (pos 0) ≡ get_or new k (pos 0))
     → ((i : ℕ) → i < c → bit_at left i ≡ 0) → ((i : ℕ) → i ≤ c → bit_at left' i ≡ 0)
     → ((i : ℕ) → c < i → i < 32 → bit_at left' i ≡ bit_at left i) → Emptying old new' from left'
-emptying_more old new new' from left left' c s here few same before gone rest = record {
-  due = λ i h b. grind (arith, below_same_above i c, same (from + i), gone i, rest i, s.due i);
-  done = λ i h b. grind (arith, below_same_above i c, here, same (from + i), before i, rest i, s.done i);
-  others = λ k h. let ne : k ≢ from + c = omega (arith, h) in same k ne ∙ s.others k h;
-}
-
-pub emptied : (old new : List ℤ) (from left : ℕ) → left ≡ 0 → Emptying old new from left → (i : ℕ) → i < 32
-    → get_or new (from + i) (pos 0) ≡ pos 0
-emptied old new from left zeros s i h = s.done i h (ap (λ n. bit_at n i) zeros ∙ bit_at-zero i)
+emptying_more old new new' from left left' c s here few same before gone rest =
+    grind (arith, signed_linear, s, here, few, same, before, gone, rest)
 
 -- ---- a settled word
 pub record Settled (diff : List ℤ) (from : ℕ) (start count : ℤ) (bits : ℕ) : Type 0 where
@@ -188,24 +173,7 @@ pub record Settled (diff : List ℤ) (from : ℕ) (start count : ℤ) (bits : �
 
 pub settled : (diff : List ℤ) (from : ℕ) (start count : ℤ) (bits left : ℕ) → left ≡ 0
     → IsSettling diff from start count bits left → Settled diff from start count bits
-settled diff from start count bits left zeros (p, s) = record {
-  word = λ i h. by_bits i h (below_or_not i p);
-  sum = let e = flat 32 (omega arith) s.few in let m = s.sum in omega (arith, signed_linear, e, m);
-}
-  where
-    off : (i : ℕ) → p ≤ i → i < 32 → get_or diff (from + i) (pos 0) ≡ pos 0
-    off i h l = s.none i h l (ap (λ n. bit_at n i) zeros ∙ bit_at-zero i)
-
-    flat : (m : ℕ) → m ≤ 32 → p ≤ m → sum_of diff from m ≡ sum_of diff from p
-    flat m l h = sum_none diff from p m h (λ i x y. off i x (omega arith))
-
-    by_bits : (i : ℕ) → i < 32 → (i < p) ⊎ (p ≤ i) → bit_at bits (31 - i) ≡ count_bit (start +ℤ sum_of diff from (i + 1)) 0
-    by_bits i h (inl l) = s.done i l
-    by_bits i h (inr l) =
-        let e = flat (i + 1) (omega arith) (omega arith) in
-        let m = s.sum in
-        let same : count ≡ start +ℤ sum_of diff from (i + 1) = omega (arith, signed_linear, e, m) in
-        s.rest i l h ∙ ap (λ (z : ℤ). count_bit z 0) same
+settled diff from start count bits left zeros h = grind (arith, signed_linear, zeros, h, bit_at-zero, sum_none)
 
 -- ---- words, those before w settled
 pub record SettledTo (diff : List ℤ) (line lining : List ℕ) (count : ℤ) (w : ℕ) : Type 0 where
@@ -216,17 +184,10 @@ pub record SettledTo (diff : List ℤ) (line lining : List ℕ) (count : ℤ) (w
 -- a sum in the next word
 pub word_sum : (diff : List ℤ) (line lining : List ℕ) (count : ℤ) (w n : ℕ) → SettledTo diff line lining count w
     → count +ℤ sum_of diff (32 * w) n ≡ before (32 * w + n) diff
-word_sum diff line lining count w n s =
-    let more = before_sum diff (32 * w) n in
-    let sum = s.sum in
-    omega (arith, signed_linear, more, sum)
+word_sum diff line lining count w n s = grind (arith, signed_linear, s, before_sum)
 
 max_with_count_bit : (z : ℤ) (b d : ℕ) → b < 2 → d ≡ count_bit z 0 → max b d ≡ count_bit z b
-max_with_count_bit z b d h e = by (int_eq z (pos 0)) refl
-  where
-    by : (t : Bool) → int_eq z (pos 0) ≡ t → max b d ≡ cond {A = ℕ} t b 1
-    by true k = let f : d ≡ 0 = e ∙ ap (λ (t : Bool). cond {A = ℕ} t 0 1) k in omega arith
-    by false k = let f : d ≡ 1 = e ∙ ap (λ (t : Bool). cond {A = ℕ} t 0 1) k in omega arith
+max_with_count_bit z b d h e = grind (arith, signed_linear, h, e)
 
 pub settled_more : (diff : List ℤ) (line lining : List ℕ) (count count' : ℤ) (w word : ℕ)
     → SettledTo diff line lining count w → w < length lining

@@ -1,6 +1,6 @@
--- The columns that count of a row between the ends of a slanted chord.
+-- Between its ends a piece adds to a row one value before a column, and 0 from it on: `arc_is_cut`, `line_is_cut`.
 -- Serves what a bent arc or a line adds to such a row.
-use Rattle.std.proofs.Common.{◌≡◌, ◌≢◌, ◌⊎◌, inl, inr, refl, sym, ◌∙◌, subst, ℕ, ◌+◌, ◌≤◌, ◌<◌, ℤ, pos}
+use Rattle.std.proofs.Common.{◌≡◌, ◌≢◌, ◌⊎◌, inl, inr, refl, sym, ◌∙◌, subst, ℕ, ◌+◌, ◌≤◌, ◌<◌, min, ℤ, pos}
 use Rattle.std.proofs.Common.{◌+ℤ◌, ◌-ℤ◌, ◌*ℤ◌, ◌≤ℤ◌, ◌<ℤ◌, neg_ℤ, Bool, true, false, Option, Some, None, arith}
 use Rattle.fx_fixed.proofs.Order.{below_or_not, below_same_above, below_or_not_ℤ}
 use Rattle.fx_fixed.proofs.Linear.{signed_linear}
@@ -9,12 +9,11 @@ use Rattle.fx_winding.specs.Winding.{IsOn}
 use Rattle.fx_winding.specs.Winding.{Span, sign, weight_b, region_part, chord_crossing, IsOnPart}
 use Rattle.fx_rows.specs.declared.strip.Strip.{Strip}
 use Rattle.fx_rows.specs.declared.cells.Cut.{Cut}
-use Rattle.fx_rows.specs.declared.bend.Bend.{Bend}
 use Rattle.fx_rows.specs.Parts.{IsBent, IsBentPart}
 use Rattle.fx_rows.specs.inner.Sides.{place_at, side, IsAcross, IsEdge}
 use Rattle.fx_rows.specs.inner.Arcs.{gap, IsTurnedPart}
 use Rattle.fx_rows.specs.inner.Candidates.{IsOnStrip}
-use Rattle.fx_rows.specs.inner.Cuts.{side_at, bent_gap, Counts, CountsAt, CountsFirst, IsLast, IsCut}
+use Rattle.fx_rows.specs.inner.Cuts.{Counts, CountsAt, CountsFirst, IsEndOfCount, IsLast, IsCut}
 use Rattle.fx_winding.proofs.Beside.{left_off, right_off}
 use Rattle.fx_winding.proofs.Crossings.{crossing_left, left_of_rising, left_of_falling, right_of_rising, right_of_falling}
 use Rattle.fx_rows.specs.inner.Points.{IsPointOf, AreAcross, IsInner, IsRise}
@@ -182,144 +181,123 @@ on_left_first a b c p q bent inner row less t on =
         absurd (omega (arith, signed_linear, z))
 
 -- ---- along a row
-pub record Bends (a b c : Place) (strip : Strip) (d : Bend) : Type 0 where
+pub record Bends (a b c : Place) (r : Bool) (strip : Strip) : Type 0 where
   pub bent : area a b c ≢ pos 0
   pub inner : IsInner a.y c.y (pos 128 *ℤ strip.row +ℤ pos 64)
-  pub turned : IsTurnedPart a (Some b) c d.right
-  pub sides : (k : ℕ) → side_at d.slope k ≡ side a c (place_at strip k)
-  pub gaps : (k : ℕ) → bent_gap d k ≡ gap_w a b c (place_at strip k)
+  pub turned : IsTurnedPart a (Some b) c r
 
-abbrev real_at : Place → Place → Place → Strip → Bend → ℕ → Type 0
-real_at a b c strip d k = Counts d.right (side a c (place_at strip k)) (gap_w a b c (place_at strip k))
+abbrev arc : Place → Place → Place → Span
+arc a b c = record { a = a; b = Some b; c = c }
 
-real : (a b c : Place) (strip : Strip) (d : Bend) → Bends a b c strip d → (k : ℕ) → CountsAt d k → real_at a b c strip d k
-real a b c strip d h k = subst (λ z. z) (λ i. Counts d.right (h.sides k i) (h.gaps k i))
+abbrev real_at : Place → Place → Place → Bool → Strip → ℕ → Type 0
+real_at a b c r strip k = Counts r (side a c (place_at strip k)) (gap_w a b c (place_at strip k))
 
-unreal : (a b c : Place) (strip : Strip) (d : Bend) → Bends a b c strip d → (k : ℕ) → real_at a b c strip d k → CountsAt d k
-unreal a b c strip d h k = subst (λ z. z) (λ i. Counts d.right (sym (h.sides k) i) (sym (h.gaps k) i))
+real : (a b c : Place) (r : Bool) (strip : Strip) → Bends a b c r strip → (k : ℕ) → CountsAt (arc a b c) r strip k
+    → real_at a b c r strip k
+real a b c r strip h k =
+    subst (λ z. Counts r (side a c (place_at strip k)) z) (sym (gap_of_weights a b c (place_at strip k) h.bent))
+
+unreal : (a b c : Place) (r : Bool) (strip : Strip) → Bends a b c r strip → (k : ℕ) → real_at a b c r strip k
+    → CountsAt (arc a b c) r strip k
+unreal a b c r strip h k = subst (λ z. Counts r (side a c (place_at strip k)) z) (gap_of_weights a b c (place_at strip k) h.bent)
 
 equal_or : (i j : ℕ) → i ≤ j → (i < j) ⊎ (i ≡ j)
 equal_or i j h = grind arith
 
-pub counts_first : (a b c : Place) (strip : Strip) (d : Bend) (stop : ℕ) → Bends a b c strip d → CountsFirst d stop
-counts_first a b c strip d stop h i j l m counts = by (equal_or i j l)
+counts_first : (a b c : Place) (r : Bool) (strip : Strip) → Bends a b c r strip → CountsFirst (arc a b c) r strip
+counts_first a b c r strip h i j l counts = by (equal_or i j l)
   where
-    by : (i < j) ⊎ (i ≡ j) → CountsAt d i
-    by (inl n) = unreal a b c strip d h i (counts_left a b c (place_at strip i) (place_at strip j) d.right h.bent h.inner refl
-        (rises a c strip i j (slanted a.y c.y _ h.inner) n) h.turned (real a b c strip d h j counts))
-    by (inr e) = subst (CountsAt d) (sym e) counts
+    by : (i < j) ⊎ (i ≡ j) → CountsAt (arc a b c) r strip i
+    by (inl n) = unreal a b c r strip h i (counts_left a b c (place_at strip i) (place_at strip j) r h.bent h.inner refl
+        (rises a c strip i j (slanted a.y c.y _ h.inner) n) h.turned (real a b c r strip h j counts))
+    by (inr e) = subst (CountsAt (arc a b c) r strip) (sym e) counts
 
 -- the columns on the arc
-only_right : (a b c : Place) (strip : Strip) (d : Bend) (end : ℕ) → Bends a b c strip d → d.right ≡ true → end ≤ strip.stop
-    → ((k : ℕ) → k < end → CountsAt d k) → ((k : ℕ) → end ≤ k → k < strip.stop → ¬ (CountsAt d k)) → (k : ℕ) → k < strip.stop
-    → IsOnPart a (Some b) c (place_at strip k) → k + 1 ≡ end
-only_right a b c strip d end h e within inside outside k l on = by (below_or_not k end) (below_or_not (k + 1) end)
+only_right : (a b c : Place) (strip : Strip) (end : ℕ) → Bends a b c true strip → IsEndOfCount (arc a b c) true strip end → (k : ℕ)
+    → k < strip.stop → IsOnPart a (Some b) c (place_at strip k) → k + 1 ≡ end
+only_right a b c strip end h e k l on = by (below_or_not k end) (below_or_not (k + 1) end)
   where
-    t : IsTurnedPart a (Some b) c true
-    t = subst (IsTurnedPart a (Some b) c) e h.turned
+    here : CountsAt (arc a b c) true strip k
+    here = unreal a b c true strip h k (on_right a b c (place_at strip k) h.bent on)
 
-    here : CountsAt d k
-    here = unreal a b c strip d h k
-        (subst (λ r. Counts r (side a c (place_at strip k)) (gap_w a b c (place_at strip k))) (sym e)
-        (on_right a b c (place_at strip k) h.bent on))
-
-    next : ¬ (CountsAt d (k + 1))
+    next : ¬ (CountsAt (arc a b c) true strip (k + 1))
     next n = on_right_last a b c (place_at strip k) (place_at strip (k + 1)) h.bent h.inner refl
-        (rises a c strip k (k + 1) (slanted a.y c.y _ h.inner) (omega arith)) t on
-        (subst (λ r. Counts r (side a c (place_at strip (k + 1))) (gap_w a b c (place_at strip (k + 1)))) e
-        (real a b c strip d h (k + 1) n))
+        (rises a c strip k (k + 1) (slanted a.y c.y _ h.inner) (omega arith)) h.turned on (real a b c true strip h (k + 1) n)
 
     by : (k < end) ⊎ (end ≤ k) → (k + 1 < end) ⊎ (end ≤ k + 1) → k + 1 ≡ end
-    by (inr m) x = absurd (outside k m l here)
-    by (inl m) (inl n) = absurd (next (inside (k + 1) n))
+    by (inr m) x = absurd (e.outside k m l here)
+    by (inl m) (inl n) = absurd (next (e.inside (k + 1) n))
     by (inl m) (inr n) = omega arith
 
-only_left : (a b c : Place) (strip : Strip) (d : Bend) (end : ℕ) → Bends a b c strip d → d.right ≡ false → end ≤ strip.stop
-    → ((k : ℕ) → k < end → CountsAt d k) → ((k : ℕ) → end ≤ k → k < strip.stop → ¬ (CountsAt d k)) → (k : ℕ) → k < strip.stop
-    → IsOnPart a (Some b) c (place_at strip k) → k ≡ end
-only_left a b c strip d end h e within inside outside k l on = by (below_same_above k end)
+only_left : (a b c : Place) (strip : Strip) (end : ℕ) → Bends a b c false strip → IsEndOfCount (arc a b c) false strip end → (k : ℕ)
+    → k < strip.stop → IsOnPart a (Some b) c (place_at strip k) → k ≡ end
+only_left a b c strip end h e k l on = by (below_same_above k end)
   where
-    t : IsTurnedPart a (Some b) c false
-    t = subst (IsTurnedPart a (Some b) c) e h.turned
+    here : ¬ (CountsAt (arc a b c) false strip k)
+    here n = on_left a b c (place_at strip k) h.bent on (real a b c false strip h k n)
 
-    here : ¬ (CountsAt d k)
-    here n = on_left a b c (place_at strip k) h.bent on
-        (subst (λ r. Counts r (side a c (place_at strip k)) (gap_w a b c (place_at strip k))) e (real a b c strip d h k n))
-
-    before : (j : ℕ) → j < k → CountsAt d j
-    before j m = unreal a b c strip d h j
-        (subst (λ r. Counts r (side a c (place_at strip j)) (gap_w a b c (place_at strip j))) (sym e)
-        (on_left_first a b c (place_at strip k) (place_at strip j) h.bent h.inner refl
-        (rises a c strip j k (slanted a.y c.y _ h.inner) m) t on))
+    before : (j : ℕ) → j < k → CountsAt (arc a b c) false strip j
+    before j m = unreal a b c false strip h j (on_left_first a b c (place_at strip k) (place_at strip j) h.bent h.inner refl
+        (rises a c strip j k (slanted a.y c.y _ h.inner) m) h.turned on)
 
     by : (k < end) ⊎ ((k ≡ end) ⊎ (end < k)) → k ≡ end
-    by (inl m) = absurd (here (inside k m))
+    by (inl m) = absurd (here (e.inside k m))
     by (inr (inl m)) = m
-    by (inr (inr m)) = absurd (outside end (omega arith) (omega arith) (before end m))
+    by (inr (inr m)) = absurd (e.outside end (omega arith) (omega arith) (before end m))
 
-last_is : (r : Bool) (end k : ℕ) → (r ≡ true → k + 1 ≡ end) → (r ≡ false → k ≡ end) → IsLast r end k
-last_is true end k h l = h refl
-last_is false end k h l = l refl
-
-pub only_last : (a b c : Place) (strip : Strip) (d : Bend) (end : ℕ) → Bends a b c strip d → end ≤ strip.stop
-    → ((k : ℕ) → k < end → CountsAt d k) → ((k : ℕ) → end ≤ k → k < strip.stop → ¬ (CountsAt d k)) → (k : ℕ) → k < strip.stop
-    → IsOnPart a (Some b) c (place_at strip k) → IsLast d.right end k × (bent_gap d k ≡ pos 0)
-only_last a b c strip d end h within inside outside k l on = (
-  last_is d.right end k (λ e. only_right a b c strip d end h e within inside outside k l on)
-      (λ e. only_left a b c strip d end h e within inside outside k l on),
-  h.gaps k ∙ on_gap a b c (place_at strip k) h.bent on,
-)
+only_last : (a b c : Place) (r : Bool) (strip : Strip) (end : ℕ) → Bends a b c r strip → IsEndOfCount (arc a b c) r strip end
+    → (k : ℕ) → k < strip.stop → IsOnPart a (Some b) c (place_at strip k) → IsLast r end k
+only_last a b c true strip end h e k l on = only_right a b c strip end h e k l on
+only_last a b c false strip end h e k l on = only_left a b c strip end h e k l on
 
 -- ---- for a piece
-abbrev pub BendsPart : Place → Option Place → Place → Strip → Bend → Type 0
-BendsPart a None c strip d = ⊥
-BendsPart a (Some b) c strip d = Bends a b c strip d
+abbrev pub BendsPart : Place → Option Place → Place → Bool → Strip → Type 0
+BendsPart a None c r strip = ⊥
+BendsPart a (Some b) c r strip = Bends a b c r strip
 
-pub bends : (a : Place) (b : Option Place) (c : Place) (strip : Strip) (d : Bend) → IsBentPart a b c
-    → IsInner a.y c.y (pos 128 *ℤ strip.row +ℤ pos 64) → IsTurnedPart a b c d.right
-    → ((k : ℕ) → side_at d.slope k ≡ side a c (place_at strip k))
-    → ((k : ℕ) → bent_gap d k ≡ gap (record { a = a; b = b; c = c }) (place_at strip k)) → BendsPart a b c strip d
-bends a None c strip d bent inner turned sides gaps = absurd bent
-bends a (Some b) c strip d bent inner turned sides gaps = record {
-  bent = bent;
-  inner = inner;
-  turned = turned;
-  sides = sides;
-  gaps = λ k. gaps k ∙ sym (gap_of_weights a b c (place_at strip k) bent);
-}
+abbrev span : Place → Option Place → Place → Span
+span a b c = record { a = a; b = b; c = c }
 
-pub first_part : (a : Place) (b : Option Place) (c : Place) (strip : Strip) (d : Bend) (stop : ℕ) → BendsPart a b c strip d
-    → CountsFirst d stop
-first_part a None c strip d stop h = absurd h
-first_part a (Some b) c strip d stop h = counts_first a b c strip d stop h
+pub bends : (a : Place) (b : Option Place) (c : Place) (r : Bool) (strip : Strip) → IsBentPart a b c
+    → IsInner a.y c.y (pos 128 *ℤ strip.row +ℤ pos 64) → IsTurnedPart a b c r → BendsPart a b c r strip
+bends a None c r strip bent inner turned = absurd bent
+bends a (Some b) c r strip bent inner turned = record { bent = bent; inner = inner; turned = turned }
 
-pub last_part : (a : Place) (b : Option Place) (c : Place) (strip : Strip) (d : Bend) (end : ℕ) → BendsPart a b c strip d
-    → end ≤ strip.stop → ((k : ℕ) → k < end → CountsAt d k) → ((k : ℕ) → end ≤ k → k < strip.stop → ¬ (CountsAt d k)) → (k : ℕ)
-    → k < strip.stop → IsOnPart a b c (place_at strip k) → IsLast d.right end k × (bent_gap d k ≡ pos 0)
-last_part a None c strip d end h within inside outside k l on = absurd h
-last_part a (Some b) c strip d end h within inside outside k l on = only_last a b c strip d end h within inside outside k l on
+pub first_part : (a : Place) (b : Option Place) (c : Place) (r : Bool) (strip : Strip) → BendsPart a b c r strip
+    → CountsFirst (span a b c) r strip
+first_part a None c r strip h = absurd h
+first_part a (Some b) c r strip h = counts_first a b c r strip h
 
-pub inside_part : (a : Place) (b : Option Place) (c : Place) (strip : Strip) (d : Bend) (k : ℕ) → BendsPart a b c strip d
-    → ¬ (IsOnPart a b c (place_at strip k)) → CountsAt d k
+pub last_part : (a : Place) (b : Option Place) (c : Place) (r : Bool) (strip : Strip) (end : ℕ) → BendsPart a b c r strip
+    → IsEndOfCount (span a b c) r strip end → (k : ℕ) → k < strip.stop → IsOnPart a b c (place_at strip k)
+    → IsLast r end k × (gap (span a b c) (place_at strip k) ≡ pos 0)
+last_part a None c r strip end h e k l on = absurd h
+last_part a (Some b) c r strip end h e k l on = (
+  only_last a b c r strip end h e k l on,
+  sym (gap_of_weights a b c (place_at strip k) h.bent) ∙ on_gap a b c (place_at strip k) h.bent on,
+)
+
+inside_part : (a : Place) (b : Option Place) (c : Place) (r : Bool) (strip : Strip) (k : ℕ) → BendsPart a b c r strip
+    → ¬ (IsOnPart a b c (place_at strip k)) → CountsAt (span a b c) r strip k
     → chord_crossing a c (place_at strip k) +ℤ region_part a b c (place_at strip k) ≡ sign (c.y -ℤ a.y)
-inside_part a None c strip d k h off counts = absurd h
-inside_part a (Some b) c strip d k h off counts =
-    value_inside a b c (place_at strip k) d.right h.bent h.inner h.turned off (real a b c strip d h k counts)
+inside_part a None c r strip k h off counts = absurd h
+inside_part a (Some b) c r strip k h off counts =
+    value_inside a b c (place_at strip k) r h.bent h.inner h.turned off (real a b c r strip h k counts)
 
-pub outside_part : (a : Place) (b : Option Place) (c : Place) (strip : Strip) (d : Bend) (k : ℕ) → BendsPart a b c strip d
-    → ¬ (IsOnPart a b c (place_at strip k)) → ¬ (CountsAt d k)
+outside_part : (a : Place) (b : Option Place) (c : Place) (r : Bool) (strip : Strip) (k : ℕ) → BendsPart a b c r strip
+    → ¬ (IsOnPart a b c (place_at strip k)) → ¬ (CountsAt (span a b c) r strip k)
     → chord_crossing a c (place_at strip k) +ℤ region_part a b c (place_at strip k) ≡ pos 0
-outside_part a None c strip d k h off not = absurd h
-outside_part a (Some b) c strip d k h off not =
-    value_outside a b c (place_at strip k) d.right h.bent h.inner h.turned off (λ n. not (unreal a b c strip d h k n))
+outside_part a None c r strip k h off not = absurd h
+outside_part a (Some b) c r strip k h off not =
+    value_outside a b c (place_at strip k) r h.bent h.inner h.turned off (λ n. not (unreal a b c r strip h k n))
 
-pub arc_is_cut : (s : Span) (strip : Strip) (d : Bend) (cut : Cut) → BendsPart s.a s.b s.c strip d → cut.end ≤ strip.stop
-    → ((k : ℕ) → k < cut.end → CountsAt d k) → ((k : ℕ) → cut.end ≤ k → k < strip.stop → ¬ (CountsAt d k))
-    → cut.value ≡ sign (s.c.y -ℤ s.a.y) → IsOnStrip s strip cut.on → IsCut s strip cut
-arc_is_cut s strip d cut h within inside outside value on = record {
-  inside = λ k l m o off. inside_part s.a s.b s.c strip d k h off (inside k o) ∙ sym value;
-  outside = λ k l m o off. outside_part s.a s.b s.c strip d k h off (outside k o m);
-  within = within;
+pub arc_is_cut : (s : Span) (r : Bool) (strip : Strip) (end : ℕ) (cut : Cut) → BendsPart s.a s.b s.c r strip
+    → IsEndOfCount s r strip end → cut.end ≡ min end strip.stop → cut.value ≡ sign (s.c.y -ℤ s.a.y) → IsOnStrip s strip cut.on
+    → IsCut s strip cut
+arc_is_cut s r strip end cut h e at value on = record {
+  inside = λ k l m o off. inside_part s.a s.b s.c r strip k h off (e.inside k (omega (arith, at))) ∙ sym value;
+  outside = λ k l m o off. outside_part s.a s.b s.c r strip k h off (e.outside k (omega (arith, at)) m);
+  within = omega (arith, at);
   on = on;
 }
 
@@ -338,19 +316,11 @@ line_is_cut s strip cut flat inner e value on = record {
 
 -- ---- for a piece whose box has no column's centre in it
 pub left_crossing : (a c p : Place) → IsInner a.y c.y p.y → p.x <ℤ a.x → p.x <ℤ c.x → chord_crossing a c p ≡ sign (c.y -ℤ a.y)
-left_crossing a c p (inl h) l m =
-    let low : a.y ≤ℤ p.y = omega (arith, signed_linear, h.0) in
-    counted_up a.y c.y p.y (area a c p) low h.1 (left_of_rising a.x a.y c.x c.y p.x p.y low h.1 l m)
-    ∙ sym (sign_above (c.y -ℤ a.y) (omega (arith, signed_linear, h.0, h.1)))
-left_crossing a c p (inr h) l m =
-    let low : c.y ≤ℤ p.y = omega (arith, signed_linear, h.0) in
-    counted_down a.y c.y p.y (area a c p) low h.1 (left_of_falling a.x a.y c.x c.y p.x p.y low h.1 l m)
-    ∙ sym (sign_below (c.y -ℤ a.y) (omega (arith, signed_linear, h.0, h.1)))
+left_crossing a c p h i j =
+    grind (arith, signed_linear, h, i, j, counted_up, left_of_rising, sign_above, counted_down, left_of_falling, sign_below)
 
 pub right_crossing : (a c p : Place) → a.x <ℤ p.x → c.x <ℤ p.x → chord_crossing a c p ≡ pos 0
-right_crossing a c p l m = crossing_left a.y c.y p.y (area a c p)
-    (λ h k. right_of_rising a.x a.y c.x c.y p.x p.y h k l m)
-    (λ h k. right_of_falling a.x a.y c.x c.y p.x p.y h k l m)
+right_crossing a c p l m = grind (arith, signed_linear, l, m, crossing_left, right_of_rising, right_of_falling)
 
 pub clear_is_cut : (s : Span) (strip : Strip) (cut : Cut) (first end : ℤ) → AreAcross s first end → end ≤ℤ first
     → IsInner s.a.y s.c.y (pos 128 *ℤ strip.row +ℤ pos 64) → cut.end ≤ strip.stop
@@ -384,9 +354,4 @@ clear_is_cut s strip cut first end h clear inner within before rest value none =
 -- ---- the heights of a chord's ends
 pub rise_sign : (s : Span) (foot head value y : ℤ) → IsRise s foot head value → IsInner s.a.y s.c.y y
     → value ≡ sign (s.c.y -ℤ s.a.y)
-rise_sign s foot head value y h (inl i) =
-    let up : s.a.y <ℤ s.c.y = omega (arith, signed_linear, i.0, i.1) in
-    (h.up up).2 ∙ sym (sign_above (s.c.y -ℤ s.a.y) (omega (arith, signed_linear)))
-rise_sign s foot head value y h (inr i) =
-    let down : s.c.y ≤ℤ s.a.y = omega (arith, signed_linear, i.0, i.1) in
-    (h.down down).2 ∙ sym (sign_below (s.c.y -ℤ s.a.y) (omega (arith, signed_linear, i.0, i.1)))
+rise_sign s foot head value y h i = grind (arith, signed_linear, h, i, sign_above, sign_below)

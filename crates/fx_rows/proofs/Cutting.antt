@@ -1,4 +1,4 @@
--- Rows between the ends of a slanted chord.
+-- A place nearer to the chord than one that is not outside the parabola is inside it: `closer`.
 -- Serves what a bent arc or a line adds to such a row.
 use Rattle.std.proofs.Common.{◌≡◌, ◌≢◌, inl, inr, sym, ap, ◌∙◌, subst, ℤ, pos, ◌+ℤ◌, ◌-ℤ◌, ◌*ℤ◌}
 use Rattle.std.proofs.Common.{◌≤ℤ◌, ◌<ℤ◌, neg_ℤ, [], ◌∷◌, arith}

@@ -1,7 +1,7 @@
--- Which segments of a row a piece can meet.
+-- In a row between its ends a piece meets one segment at most, the one before the end of its cut: `met_end`.
 -- Serves `note_across`.
-use Rattle.std.proofs.Common.{◌≡◌, ◌⊎◌, inl, inr, refl, sym, ap, ◌∙◌, subst, ℕ, zero, suc, ◌<◌, ◌≤◌, ℤ, pos, ◌+ℤ◌, ◌-ℤ◌}
-use Rattle.std.proofs.Common.{◌≤ℤ◌, ◌<ℤ◌, List, arith}
+use Rattle.std.proofs.Common.{◌≡◌, ◌⊎◌, inl, inr, sym, ap, ◌∙◌, subst, ℕ, zero, suc, ◌-◌, ◌<◌, ◌≤◌, ℤ, pos, ◌+ℤ◌, ◌-ℤ◌}
+use Rattle.std.proofs.Common.{◌≤ℤ◌, ◌<ℤ◌, List, length, slice_index_or, arith}
 use Rattle.fx_fixed.proofs.Order.{below_or_not, below_same_above}
 use Rattle.fx_fixed.proofs.Linear.{signed_linear}
 use Rattle.std.proofs.lemmas.Int.{ints}
@@ -9,13 +9,12 @@ use Rattle.fx_winding.specs.declared.frame.Frame.{Frame}
 use Rattle.fx_winding.specs.Area.{Place}
 use Rattle.fx_winding.specs.Meets.{turn}
 use Rattle.fx_winding.specs.Notes.{IsMetAcross}
-use Rattle.fx_rows.specs.inner.Segments.{AreSetAcross}
 use Rattle.fx_winding.specs.Winding.{Span, centre, IsOn}
-use Rattle.fx_winding.proofs.Meeting.{inner_meets, above_not_met, below_not_met}
+use Rattle.fx_winding.proofs.Meeting.{inner_meets}
 use Rattle.fx_winding.proofs.Turning.{right_of_all, beside_turn}
-use Rattle.fx_rows.specs.declared.heights.Met.{Met}
-use Rattle.fx_rows.specs.inner.Heights.{height_of, IsMissed}
-use Rattle.fx_rows.specs.inner.Placing.{AreMet}
+use Rattle.fx_rows.specs.declared.piece_in_band.PieceInBand.{PieceInBand}
+use Rattle.fx_rows.specs.inner.Heights.{height_of}
+use Rattle.fx_rows.specs.inner.Placing.{AreEndsTold, IsInBand}
 use Rattle.fx_rows.specs.inner.Points.{IsInner, AreAcross}
 use Rattle.fx_rows.specs.inner.Told.{rise_value, IsEnd}
 use Rattle.fx_rows.proofs.Points.{to_all}
@@ -26,11 +25,6 @@ left_end f r k = centre ((f.left -ℤ pos 1) +ℤ pos k) (f.bottom +ℤ pos r)
 
 abbrev right_end : Frame → ℕ → ℕ → Place
 right_end f r k = centre (f.left +ℤ pos k) (f.bottom +ℤ pos r)
-
--- ---- rows that the piece misses
-missed_not_met : (s : Span) (f : Frame) (r k : ℕ) → IsMissed s (height_of f r) → ¬ (IsMetAcross s f r k)
-missed_not_met s f r k (inl h) m = above_not_met (left_end f r k) (right_end f r k) s refl h m.met
-missed_not_met s f r k (inr h) m = below_not_met (left_end f r k) (right_end f r k) s refl h m.met
 
 -- ---- the one segment of a row between the ends
 -- what the piece adds at the left end of a segment that goes to a column before the row's end, or to the end
@@ -82,23 +76,6 @@ met_end s f first end r n k h l w inner is m met = by (below_same_above k n)
     by (inr (inr o)) = absurd (changes (left_past_end s f r n k is o m met.off_left
         ∙ sym (right_past_end s f first end r n k h w is o m met.off_right)))
 
--- ---- all rows: those that the piece misses, those between its ends from m on and before n, and the others that it may touch
-pub all_across : (s : Span) (f : Frame) (met : Met) (m n : ℕ) (below : ℕ) (across : List ℕ) → AreMet s f met
-    → ((r : ℕ) → met.touched.first ≤ r → r < m → AreSetAcross s f below across r)
-    → ((r : ℕ) → m ≤ r → r < n → AreSetAcross s f below across r)
-    → ((r : ℕ) → n ≤ r → r < met.touched.end → AreSetAcross s f below across r)
-    → (r : ℕ) → r < f.height → AreSetAcross s f below across r
-all_across s f met m n below across is under ended over r h =
-    by (below_or_not r met.touched.first) (below_or_not r m) (below_or_not r n) (below_or_not r met.touched.end)
-  where
-    by : (r < met.touched.first) ⊎ (met.touched.first ≤ r) → (r < m) ⊎ (m ≤ r) → (r < n) ⊎ (n ≤ r)
-        → (r < met.touched.end) ⊎ (met.touched.end ≤ r) → AreSetAcross s f below across r
-    by (inl a) b c d = λ k w i. absurd (missed_not_met s f r k (inl (is.below r a)) i)
-    by (inr a) (inl b) c d = under r a b
-    by (inr a) (inr b) (inl c) d = ended r b c
-    by (inr a) (inr b) (inr c) (inl d) = over r c d
-    by (inr a) (inr b) (inr c) (inr d) = λ k w i. absurd (missed_not_met s f r k (inr (is.above r d h)) i)
-
 -- ---- the end's segment is met, at the frame's edge too
 value_not_zero : (s : Span) → rise_value s ≡ pos 0 → ⊥
 value_not_zero s e = grind (arith, ints)
@@ -121,3 +98,11 @@ end_met_too s f first end r n h l w inner is off off' = record {
   off_left = off;
   off_right = off';
 }
+
+-- ---- the end that is told of a row between the piece's ends
+pub end_told : (ends : List ℕ) (s : Span) (p : PieceInBand) → IsInBand s p → AreEndsTold ends s p → (r : ℕ) → p.met.inner.first ≤ r
+    → r < p.met.inner.end
+    → (r - p.rows.first < length ends) × IsEnd s p.frame r (slice_index_or ends (r - p.rows.first) 0)
+end_told ends s p is told r l m =
+    let t = told.rows r (omega (arith, l, p.first, p.met.from)) (omega (arith, m, p.end, p.met.to)) (is.met.inner r l m) in
+    (t.told.0, subst (IsEnd s p.frame r) (sym t.told.1) t.is)

@@ -1,13 +1,13 @@
--- The words of rows of pixels.
+-- Words of all rows, each with the bits of its covered pixels, are the bitmap that a scan gives: `scanned_bitmap`.
 -- Serves the bands of a scan, and its bitmap.
 use Rattle.std.proofs.Common.{◌≡◌, ◌⊎◌, ◌↔◌, inl, inr, refl, sym, ap, ◌∙◌, subst, ℕ, ◌+◌, ◌-◌, ◌*◌, ◌/◌, ◌%◌, ◌<◌, ◌≤◌, ℤ, pos}
-use Rattle.std.proofs.Common.{◌+ℤ◌, List, ◌++◌, length, take, drop, get_or, length-append, length-drop, arith}
+use Rattle.std.proofs.Common.{◌+ℤ◌, List, ◌++◌, length, take, drop, length-append, length-drop, arith}
 use Rattle.std.specs.Int.{bit_at}
 use Rattle.std.proofs.lemmas.List.{get_or-take, get_or-drop, get_or_append_left, get_or-append-add, length-take-le}
 use Rattle.fx_fixed.proofs.Order.{below_or_not}
 use Rattle.fx_fixed.proofs.Linear.{signed_linear}
 use Rattle.fx_winding.specs.Winding.{Span, IsCovered, centre}
-use Rattle.fx_winding.specs.Bitmaps.{words_for, word_bit, bits_in, rows_of, AreRowWords, AreWords, IsScanOf}
+use Rattle.fx_winding.specs.Bitmaps.{words_for, word_bit, bits_in, rows_of, AreWords, IsScanOf}
 use Rattle.fx_winding.specs.declared.frame.Frame.{Frame}
 use Rattle.fx_winding.proofs.Grid.{cut-row, row_fits, row_bits, rows_of-shape, length-bits_in}
 use Rattle.fx_winding.proofs.Scanned.{IsRowSet, row_set, scanned_all}
@@ -20,21 +20,13 @@ take_bit : (m k : ℕ) (words : List ℕ) → k / 32 < m → word_bit (take m wo
 take_bit m k words h = ap (λ w. bit_at w (31 - k % 32)) (get_or-take m words (k / 32) 0 h)
 
 part_bit : (a m k : ℕ) (words : List ℕ) → k / 32 < m → word_bit (take m (drop a words)) k ≡ word_bit words (32 * a + k)
-part_bit a m k words h =
-    let at : (32 * a + k) / 32 ≡ a + k / 32 = omega arith in
-    let place : (32 * a + k) % 32 ≡ k % 32 = omega arith in
-    ap (λ w. bit_at w (31 - k % 32)) (get_or-take m (drop a words) (k / 32) 0 h ∙ get_or-drop a words (k / 32) 0)
-    ∙ sym (λ i. bit_at (get_or words (at i) 0) (31 - place i))
+part_bit a m k words h = grind (arith, signed_linear, h, get_or-take, get_or-drop)
 
 left_bit : (xs ys : List ℕ) (k : ℕ) → k / 32 < length xs → word_bit (xs ++ ys) k ≡ word_bit xs k
 left_bit xs ys k h = ap (λ w. bit_at w (31 - k % 32)) (get_or_append_left xs ys 0 (k / 32) h)
 
 right_bit : (xs ys : List ℕ) (n k : ℕ) → n ≡ 32 * length xs + k → word_bit (xs ++ ys) n ≡ word_bit ys k
-right_bit xs ys n k e =
-    let at : n / 32 ≡ length xs + k / 32 = omega (arith, e) in
-    let place : n % 32 ≡ k % 32 = omega (arith, e) in
-    (λ i. bit_at (get_or (xs ++ ys) (at i) 0) (31 - place i))
-    ∙ ap (λ w. bit_at w (31 - k % 32)) (get_or-append-add xs ys (k / 32) 0)
+right_bit xs ys n k e = grind (arith, signed_linear, e, get_or-append-add)
 
 -- ---- where the bits of rows are, each of q words
 row_start : (r q k : ℕ) → 32 * (r * q) + k ≡ r * (32 * q) + k
@@ -58,20 +50,8 @@ scanned_marks : (ss : List Span) (left bottom : ℤ) (width high : ℕ) (marks w
     → (word_bit marks (r * stride width + k) ≡ 1) ↔ IsCovered (centre (left +ℤ pos k) (bottom +ℤ pos r)) ss)
     → ((r k : ℕ) → r < high → width ≤ k → k < stride width → word_bit marks (r * stride width + k) ≡ 0)
     → AreScanned ss left bottom width high words
-scanned_marks ss left bottom width high marks words e n bits unused = record {
-  long = ap length e ∙ length-take-le (high * words_for width) marks (omega (arith, n));
-  bits = λ r k h l.
-      let w = wide width in
-      subst (λ (m : ℕ). (m ≡ 1) ↔ IsCovered (centre (left +ℤ pos k) (bottom +ℤ pos r)) ss) (sym (same r k h (omega (arith, w))))
-      (bits r k h l);
-  unused = λ r k h w l. same r k h l ∙ unused r k h w l;
-}
-  where
-    same : (r k : ℕ) → r < high → k < stride width
-        → word_bit words (r * stride width + k) ≡ word_bit marks (r * stride width + k)
-    same r k h l =
-        ap (λ (ws : List ℕ). word_bit ws (r * stride width + k)) e
-        ∙ take_bit (high * words_for width) (r * stride width + k) marks (word_low r high (words_for width) k h l)
+scanned_marks ss left bottom width high marks words e n bits unused =
+    grind (arith, signed_linear, e, n, bits, unused, length-take-le, wide, take_bit, word_low)
 
 scanned_both : (ss : List Span) (left bottom low : ℤ) (width done more : ℕ) (old part : List ℕ) → bottom +ℤ pos done ≡ low
     → AreScanned ss left bottom width done old → AreScanned ss left low width more part
@@ -128,9 +108,7 @@ row_long up high q words h e =
 
 row_bit : (up width k : ℕ) (words : List ℕ) → k < stride width
     → word_bit (take (words_for width) (drop (up * words_for width) words)) k ≡ word_bit words (up * stride width + k)
-row_bit up width k words l =
-    part_bit (up * words_for width) (words_for width) k words (omega arith)
-    ∙ ap (word_bit words) (row_start up (words_for width) k)
+row_bit up width k words l = grind (arith, signed_linear, l, part_bit, row_start)
 
 -- the rows of a band after those below it
 pub scanned_band : (ss : List Span) (f g : Frame) (from to : ℕ) (marks old part new : List ℕ) → IsPartOf f from to g
@@ -147,18 +125,7 @@ scanned_band ss f g from to marks old part new of e room bits unused more below 
 
 pub scanned_words : (ss : List Span) (left bottom : ℤ) (width high : ℕ) (words : List ℕ)
     → AreScanned ss left bottom width high words → AreWords high width words
-scanned_words ss left bottom width high words h = record {
-  long = h.long;
-  rows = λ up l. subst (AreRowWords width) (sym (cut-row high (words_for width) words up l)) (row up l);
-}
-  where
-    row : (up : ℕ) → up < high → AreRowWords width (take (words_for width) (drop (up * words_for width) words))
-    row up l =
-        let n = row_long up high (words_for width) words l h.long in
-        record {
-          count = n;
-          unused = λ k w x. row_bit up width k words (omega (arith, n)) ∙ h.unused up k l w (omega (arith, n));
-        }
+scanned_words ss left bottom width high words h = grind (arith, signed_linear, h, cut-row, row_long, row_bit)
 
 pub scanned_bitmap : (ss : List Span) (f : Frame) (words : List ℕ) → AreScanned ss f.left f.bottom f.width f.height words
     → IsScanOf f ss (record { frame = f; rows = rows_of f.height f.width words })

@@ -1,4 +1,4 @@
--- Numbers and 0, and whether two numbers are equal.
+-- A number that is not below 0 is at least 0 (`not_below_zero`), and two numbers are equal or not (`equal_or_not`).
 -- Serves the lemmas on gaps, sides and marks.
 use Rattle.std.proofs.Common.{◌≡◌, ◌≢◌, ◌⊎◌, IsTrue, ℕ, ℤ, pos, ◌<ℤ◌, ◌≤ℤ◌, arith}
 use Rattle.std.specs.Int.Signed.{lt_z}

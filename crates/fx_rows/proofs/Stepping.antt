@@ -1,6 +1,6 @@
--- From one row of a band to the next: the frame, the row and the base of a strip, what the rows before have, what holds at a base.
+-- Rows of a band that are added, and then the next one, are the rows up to that one: `band_next`.
 -- Serves the loops over a piece's rows.
-use Rattle.std.proofs.Common.{◌≡◌, ◌∙◌, ap, sym, subst, ◌+◌, ◌*◌, ◌^◌, ◌<◌, ◌≤◌, ℕ, ℤ, pos, ◌+ℤ◌, ◌*ℤ◌, arith}
+use Rattle.std.proofs.Common.{◌≡◌, ◌∙◌, ap, subst, ◌+◌, ◌*◌, ◌^◌, ◌<◌, ◌≤◌, ℕ, ℤ, pos, ◌+ℤ◌, ◌*ℤ◌, arith}
 use Rattle.std.proofs.Common.{w32, to_z, of_z}
 use Rattle.fx_fixed.proofs.Linear.{signed_linear}
 use Rattle.fx_winding.specs.Limits.{IsPixelNumber}
@@ -37,9 +37,7 @@ rise_value b z e =
 
 pub inner_row : (b : Bounded) (f g : Frame) (from to up : ℕ) (row : ℤ) → g ≡ f → row ≡ g.bottom +ℤ pos up → AreInner b f from to
     → from ≤ up → up < to → IsInner b.piece.a.y b.piece.c.y (pos 128 *ℤ row +ℤ pos 64)
-inner_row b f g from to up row e h inner l m =
-    subst (λ (r : ℤ). IsInner b.piece.a.y b.piece.c.y (pos 128 *ℤ r +ℤ pos 64)) (sym (h ∙ ap (λ (x : Frame). x.bottom +ℤ pos up) e))
-    (inner up l m)
+inner_row b f g from to up row e h inner l m = grind (arith, signed_linear, e, h, inner, l, m)
 
 -- what the rows before have is small enough for one more
 pub band_small : (s : Span) (f : Frame) (from up : ℕ) (old now : Band) → IsBandAdded s f from up old now
@@ -55,9 +53,7 @@ cut_inside s strip frame cut first last h =
 pub band_next : (s : Span) (f g : Frame) (row : ℤ) (from up : ℕ) (old now new : Band) → from ≤ up → g ≡ f
     → row ≡ g.bottom +ℤ pos up → IsBandAdded s f from up old now → IsRowAdded s g row (up * stride g.width) now new
     → IsBandAdded s f from (up + 1) old new
-band_next s f g row from up old now new l e at h r =
-    band_more s f from up old now new l h (subst (λ (x : Frame). IsRowAdded s x (x.bottom +ℤ pos up) (up * stride x.width) now new)
-    e (subst (λ (y : ℤ). IsRowAdded s g y (up * stride g.width) now new) at r))
+band_next s f g row from up old now new l e at h r = grind (arith, signed_linear, l, e, at, h, r, band_more)
 
 -- all rows
 pub band_end : (s : Span) (f : Frame) (from up end : ℕ) (old new : Band) → up ≡ end → IsBandAdded s f from up old new
@@ -67,10 +63,7 @@ band_end s f from up end old new e h = subst (λ (n : ℕ). IsBandAdded s f from
 -- what holds at the base of a row holds at the base of its strip
 pub at_base : (P : Place → Type 0) (f g : Frame) (strip : Strip) (up : ℕ) → g ≡ f → strip.row ≡ g.bottom +ℤ pos up
     → strip.base ≡ base_of g.left → P (base_place f up) → P (centre (strip.base +ℤ pos 0) strip.row)
-at_base P f g strip up e at base h =
-    let row = at ∙ ap (λ (x : Frame). x.bottom +ℤ pos up) e in
-    let column = base ∙ ap (λ (x : Frame). base_of x.left) e in
-    subst (λ z. z) (λ i. P (centre (sym column i +ℤ pos 0) (sym row i))) h
+at_base P f g strip up e at base h = grind (arith, signed_linear, e, at, base, h)
 
 -- what holds at the base above a strip holds at the base of the next row
 pub at_base_above : (P : Place → Type 0) (f g : Frame) (strip : Strip) (up : ℕ) → g ≡ f → strip.row ≡ g.bottom +ℤ pos up

@@ -1,23 +1,23 @@
--- Lines between their ends.
--- Serves the centres on a line.
-use Rattle.std.proofs.Common.{◌↔◌, IsTrue, ◌≡◌, ◌⊎◌, inl, inr, sym, ap, ◌∙◌, subst, ℕ, ◌≤◌, ◌<◌, ℤ, pos, negsuc, ◌+ℤ◌}
-use Rattle.std.proofs.Common.{◌-ℤ◌, ◌*ℤ◌, neg_ℤ, ◌≤ℤ◌, ◌<ℤ◌, [], ◌∷◌, Bool, Option, None, arith}
-use Rattle.fx_fixed.specs.Polynomial.{var, ◌⊞◌, ◌⊠◌, minus, ◌⊟◌}
+-- Pieces that are no bent arc, between their ends.
+-- Serves the centres on them.
+use Rattle.std.proofs.Common.{◌↔◌, IsTrue, ◌≡◌, ◌≢◌, ◌⊎◌, inl, inr, sym, ap, ◌∙◌, ℕ, ◌≤◌, ◌<◌, ℤ, pos, negsuc, ◌+ℤ◌}
+use Rattle.std.proofs.Common.{◌-ℤ◌, ◌*ℤ◌, neg_ℤ, ◌≤ℤ◌, ◌<ℤ◌, [], ◌∷◌, Bool, Option, Some, None, arith}
+use Rattle.std.proofs.lemmas.Int.{ints}
+use Rattle.fx_fixed.specs.Polynomial.{Expr, var, ◌⊞◌, ◌⊠◌, minus, ◌⊟◌}
 use Rattle.fx_fixed.proofs.Ring.{ring}
-use Rattle.fx_fixed.proofs.Signs.{product_at_least_zero}
+use Rattle.fx_fixed.proofs.Signs.{product_at_least_zero, square_at_least_zero}
 use Rattle.fx_fixed.proofs.Order.{below_or_not_ℤ}
 use Rattle.fx_fixed.proofs.Linear.{signed, signed_linear}
 use Rattle.fx_winding.specs.Area.{Place, area, area_of}
-use Rattle.fx_winding.specs.Winding.{place_of, maybe_place_of, span_of, IsBetween, IsOnLine, IsOnPart, IsOn}
-use Rattle.fx_winding.specs.declared.point.Point.{Point}
-use Rattle.fx_winding.specs.declared.point.Piece.{Piece}
+use Rattle.fx_winding.specs.Winding.{Span, IsBetween, IsInRange, IsOnLine, IsOnPart, IsOn}
 use Rattle.fx_rows.specs.declared.strip.Strip.{Strip}
 use Rattle.fx_rows.specs.inner.Points.{IsInner}
 use Rattle.fx_rows.specs.inner.Sides.{place_at, side, IsEdge}
 use Rattle.fx_rows.proofs.Sides.{turned_area, sign_above, sign_below}
-use Rattle.fx_rows.proofs.Weights.{drop_factor}
+use Rattle.fx_rows.specs.Parts.{IsBent, IsBentPart}
+use Rattle.fx_rows.proofs.Weights.{drop_factor, zero_factor, zero_square, above_from}
 use Rattle.fx_rows.proofs.Cutting.{slanted}
-use Rattle.fx_rows.proofs.Flats.{line_not_bent, only_chord}
+use Rattle.fx_rows.proofs.Flats.{only_chord}
 
 -- ---- over plain numbers: d t = r q with t between 0 and r
 between_rest : (d q t r : ℤ) → pos 0 ≤ℤ d → pos 0 <ℤ t → t <ℤ r → d *ℤ t ≡ r *ℤ q → (pos 0 ≤ℤ q) × (q ≤ℤ d)
@@ -104,21 +104,62 @@ area_zero a c p inner z = from_turned (area a p c) (area a c p) (turned_area a.x
     by (inr h) = minus_zero _ _ (sign_below (c.y -ℤ a.y) (omega (arith, signed_linear, h.0, h.1))) z
 
 on_between_ends : (a c p : Place) → IsInner a.y c.y p.y → side a c p ≡ pos 0 → IsOnLine a c p
-on_between_ends a c p inner z =
-    let flat = area_zero a c p inner z in
-    record { collinear = flat; between_x = between_x a.x a.y c.x c.y p.x p.y inner flat; between_y = between_y a.y c.y p.y inner }
+on_between_ends a c p inner z = grind (arith, signed_linear, inner, z, area_zero, between_x, between_y)
 
-line_part : (a : Place) (o : Option Point) (c p : Place) → o ≡ None → IsOnLine a c p → IsOnPart a (maybe_place_of o) c p
-line_part a o c p e on = subst (λ t. IsOnPart a (maybe_place_of t) c p) (sym e) on
+-- ---- of an arc whose points are on one line
+side_rising : (ax ay bx by cx cy px py : ℤ)
+    → (cy -ℤ ay) *ℤ area_of ax ay bx by px py ≡ (by -ℤ ay) *ℤ area_of ax ay cx cy px py +ℤ (py -ℤ ay) *ℤ area_of ax ay bx by cx cy
+side_rising ax ay bx by cx cy px py =
+    let f : Expr → Expr → Expr → Expr → Expr = λ x x' y y'. (x ⊟ var 0) ⊠ (y' ⊟ var 1) ⊟ (x' ⊟ var 1) ⊠ (y ⊟ var 0) in
+    ring (ax ∷ ay ∷ bx ∷ by ∷ cx ∷ cy ∷ px ∷ py ∷ []) ((var 5 ⊟ var 1) ⊠ f (var 2) (var 3) (var 6) (var 7))
+    ((var 3 ⊟ var 1) ⊠ f (var 4) (var 5) (var 6) (var 7) ⊞ (var 7 ⊟ var 1) ⊠ f (var 2) (var 3) (var 4) (var 5)) tt
 
--- between its ends a line has each centre that the line through its ends meets
-pub line_met : (s : Piece) (strip : Strip) (edge : ℕ) (met : Bool) → s.b ≡ None
-    → IsInner s.a.y s.c.y (pos 128 *ℤ strip.row +ℤ pos 64) → IsEdge (place_of s.a) (place_of s.c) strip edge
-    → IsTrue met ↔ (side (place_of s.a) (place_of s.c) (place_at strip edge) ≡ pos 0) → (k : ℕ) → strip.start ≤ k → k < strip.stop
-    → IsOn (place_at strip k) (span_of s) ↔ ((k ≡ edge) × IsTrue met)
-line_met s strip edge met line inner e m k h l = (
-  λ on. only_chord (span_of s) strip edge met (line_not_bent s line) (slanted _ _ _ inner) e m k h l on,
-  λ x. line_part (place_of s.a) s.b (place_of s.c) (place_at strip k) line
-      (on_between_ends (place_of s.a) (place_of s.c) (place_at strip k) inner
-      (ap (λ t. side (place_of s.a) (place_of s.c) (place_at strip t)) x.0 ∙ m.0 x.1)),
+other_side : (ax ay bx by cx cy px py : ℤ)
+    → area_of bx by cx cy px py ≡ area_of ax ay bx by cx cy +ℤ area_of ax ay cx cy px py -ℤ area_of ax ay bx by px py
+other_side ax ay bx by cx cy px py =
+    let f : Expr → Expr → Expr → Expr → Expr → Expr → Expr = λ z z' x x' y y'. (x ⊟ z) ⊠ (y' ⊟ z') ⊟ (x' ⊟ z') ⊠ (y ⊟ z) in
+    ring (ax ∷ ay ∷ bx ∷ by ∷ cx ∷ cy ∷ px ∷ py ∷ []) (f (var 2) (var 3) (var 4) (var 5) (var 6) (var 7))
+    (f (var 0) (var 1) (var 2) (var 3) (var 4) (var 5) ⊞ f (var 0) (var 1) (var 4) (var 5) (var 6) (var 7) ⊟
+    f (var 0) (var 1) (var 2) (var 3) (var 6) (var 7)) tt
+
+no_parts : (x y z t : ℤ) → y ≡ pos 0 → t ≡ pos 0 → x *ℤ y +ℤ z *ℤ t ≡ pos 0
+no_parts x y z t ey et = (λ i. x *ℤ ey i +ℤ z *ℤ et i) ∙ omega (arith, ints)
+
+-- a product is 0 with one factor that is not
+factor_zero : (d z : ℤ) → d ≢ pos 0 → d *ℤ z ≡ pos 0 → z ≡ pos 0
+factor_zero d z n e = grind (arith, signed_linear, n, e, zero_square, zero_factor, above_from, square_at_least_zero)
+
+in_range : (a b c p : ℤ) → IsBetween a c p → IsInRange a b c p
+in_range a b c p (inl h) = record { low = inl h.0; high = inr (inl h.1) }
+in_range a b c p (inr h) = record { low = inr (inl h.0); high = inl h.1 }
+
+not_apart : (z : ℤ) → ¬ (z ≢ pos 0) → z ≡ pos 0
+not_apart z h = grind (arith, signed_linear, h)
+
+-- between its ends such a piece has each centre on the line through its ends
+on_straight : (a : Place) (b : Option Place) (c p : Place) → ¬ (IsBentPart a b c) → IsInner a.y c.y p.y → side a c p ≡ pos 0
+    → IsOnPart a b c p
+on_straight a None c p n inner z = on_between_ends a c p inner z
+on_straight a (Some b) c p n inner z =
+    let flat = not_apart (area a b c) n in
+    let ac = area_zero a c p inner z in
+    let ab = factor_zero (c.y -ℤ a.y) (area a b p) (λ e. slanted a.y c.y p.y inner (omega (arith, signed_linear, e)))
+    (side_rising a.x a.y b.x b.y c.x c.y p.x p.y ∙ no_parts _ _ _ _ ac flat) in
+    let bc = other_side a.x a.y b.x b.y c.x c.y p.x p.y in
+    inr (record {
+      flat = flat;
+      with_ab = ab;
+      with_bc = omega (arith, signed_linear, bc, flat, ac, ab);
+      with_ac = ac;
+      range_x = in_range a.x b.x c.x p.x (between_x a.x a.y c.x c.y p.x p.y inner ac);
+      range_y = in_range a.y b.y c.y p.y (between_y a.y c.y p.y inner);
+    })
+
+pub straight_met : (s : Span) (strip : Strip) (edge : ℕ) (met : Bool) → ¬ (IsBent s)
+    → IsInner s.a.y s.c.y (pos 128 *ℤ strip.row +ℤ pos 64) → IsEdge s.a s.c strip edge
+    → IsTrue met ↔ (side s.a s.c (place_at strip edge) ≡ pos 0) → (k : ℕ) → strip.start ≤ k → k < strip.stop
+    → IsOn (place_at strip k) s ↔ ((k ≡ edge) × IsTrue met)
+straight_met s strip edge met straight inner e m k h l = (
+  λ on. only_chord s strip edge met straight (slanted _ _ _ inner) e m k h l on,
+  λ x. on_straight s.a s.b s.c (place_at strip k) straight inner (ap (λ t. side s.a s.c (place_at strip t)) x.0 ∙ m.0 x.1),
 )

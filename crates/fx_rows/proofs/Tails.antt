@@ -1,11 +1,10 @@
--- The bits of a word from a column on.
+-- The word with all bits from a column on sets these bits (`set_from`) or clears them (`clear_from`), and no bit before.
 -- Serves the words whose bits change at a column.
-use Rattle.std.proofs.Common.{◌≡◌, ◌⊎◌, inl, inr, ◌∙◌, ap, sym, ℕ, zero, suc, ◌+◌, ◌-◌, ◌/◌, ◌*◌, ◌<◌, ◌≤◌, ◌^◌, min, arith}
-use Rattle.std.proofs.Common.{w32, bit_and, bit_or, ◌%◌}
+use Rattle.std.proofs.Common.{◌≡◌, ◌⊎◌, inl, inr, ◌∙◌, ap, sym, ℕ, zero, suc, ◌+◌, ◌-◌, ◌/◌, ◌*◌, ◌<◌, ◌≤◌, ◌^◌, arith}
+use Rattle.std.proofs.Common.{bit_and, bit_or, bit_xor, ◌%◌}
 use Rattle.std.specs.Int.{bit_at}
 use Rattle.std.proofs.lemmas.Nat.{and_le_l}
-use Rattle.std.proofs.Math.Nat.{div-le_self}
-use Rattle.std.proofs.lemmas.Nat.Bits.{bit_at_or, bit_at_and, bit_at_not, bit_at-lt, bit_at-suc, bit_at_lowest, bit_at_ones, bit_at_ones_above}
+use Rattle.std.proofs.lemmas.Nat.Bits.{bit_at_or, bit_at_and, bit_at_xor, bit_at-lt, bit_at-suc, bit_at_lowest, bit_at_ones, bit_at_ones_above}
 use Rattle.std.proofs.lemmas.Nat.Bits.{bit_at_mask_inside, bit_at_mask_below, ones_shr, ones_shl}
 use Rattle.fx_fixed.proofs.Order.{below_or_not}
 
@@ -20,29 +19,20 @@ tail_before c i h l =
 tail_from : (c i : ℕ) → c < 32 → c ≤ i → i < 32 → bit_at (tail c) (31 - i) ≡ 1
 tail_from c i h l k = ap (λ n. bit_at n (31 - i)) (ones_shr 32 c (omega arith)) ∙ bit_at_ones (32 - c) (31 - i) (omega arith)
 
-tail_fits : (c : ℕ) → c < 32 → tail c < 4294967296
-tail_fits c h = omega (arith, div-le_self 4294967295 (2 ^ c))
-
 pub set_before : (word c i : ℕ) → c < 32 → i < c → bit_at (bit_or word (tail c)) (31 - i) ≡ bit_at word (31 - i)
 set_before word c i h l = omega (arith, bit_at_or word (tail c) (31 - i), tail_before c i h l)
 
 pub set_from : (word c i : ℕ) → c < 32 → c ≤ i → i < 32 → bit_at (bit_or word (tail c)) (31 - i) ≡ 1
 set_from word c i h l k = omega (arith, bit_at_or word (tail c) (31 - i), tail_from c i h l k, bit_at-lt word (31 - i))
 
-kept : (word c i : ℕ) → c < 32 → i < 32
-    → bit_at (bit_and word (4294967295 - tail c)) (31 - i) ≡ min (bit_at word (31 - i)) (1 - bit_at (tail c) (31 - i))
-kept word c i h k =
-    bit_at_and word (4294967295 - tail c) (31 - i)
-    ∙ ap (min (bit_at word (31 - i))) (bit_at_not w32 (tail c) (31 - i) (tail_fits c h) (omega arith))
+pub clear_before : (word c i : ℕ) → c < 32 → i < c
+    → bit_at (bit_xor (bit_or word (tail c)) (tail c)) (31 - i) ≡ bit_at word (31 - i)
+clear_before word c i h l = grind (arith, h, l, bit_at_xor, set_before, tail_before, bit_at-lt)
 
-pub clear_before : (word c i : ℕ) → c < 32 → i < c → bit_at (bit_and word (4294967295 - tail c)) (31 - i) ≡ bit_at word (31 - i)
-clear_before word c i h l =
-    omega (arith, kept word c i h (omega arith), tail_before c i h l, bit_at-lt word (31 - i))
+pub clear_from : (word c i : ℕ) → c < 32 → c ≤ i → i < 32 → bit_at (bit_xor (bit_or word (tail c)) (tail c)) (31 - i) ≡ 0
+clear_from word c i h l k =
+    omega (arith, bit_at_xor (bit_or word (tail c)) (tail c) (31 - i), set_from word c i h l k, tail_from c i h l k)
 
-pub clear_from : (word c i : ℕ) → c < 32 → c ≤ i → i < 32 → bit_at (bit_and word (4294967295 - tail c)) (31 - i) ≡ 0
-clear_from word c i h l k = omega (arith, kept word c i h k, tail_from c i h l k)
-
--- the word of all bits after a column
 -- ---- the lowest bits of a word
 head_fits : (a : ℕ) → a < 32 → 4294967295 * 2 ^ a % 4294967296 ≡ 4294967296 - 2 ^ a
 head_fits a h = ones_shl 32 a (omega arith)
@@ -73,14 +63,7 @@ one_less_above (suc c) word (suc i) low one h =
 
 pub first_gone : (c word i : ℕ) → ((j : ℕ) → j < c → bit_at word j ≡ 0) → bit_at word c ≡ 1 → i ≤ c
     → bit_at (bit_and word (word - 1)) i ≡ 0
-first_gone c word i low one h = by (below_or_not i c)
-  where
-    by : (i < c) ⊎ (c ≤ i) → bit_at (bit_and word (word - 1)) i ≡ 0
-    by (inl l) = omega (arith, bit_at_and word (word - 1) i, low i l)
-    by (inr l) =
-        let e : c ≡ i = omega arith in
-        let z = ap (bit_at (word - 1)) (sym e) ∙ one_less c word low one in
-        omega (arith, bit_at_and word (word - 1) i, z)
+first_gone c word i low one h = grind (arith, low, one, h, bit_at_and, one_less, below_or_not i c)
 
 pub first_rest : (c word i : ℕ) → ((j : ℕ) → j < c → bit_at word j ≡ 0) → bit_at word c ≡ 1 → c < i
     → bit_at (bit_and word (word - 1)) i ≡ bit_at word i
@@ -118,11 +101,4 @@ between_outside b a i h k l (inr m) =
 
 -- a word without one of its bits is less
 pub fewer : (word m j : ℕ) → bit_at word j ≡ 1 → bit_at (bit_and word m) j ≡ 0 → bit_and word m < word
-fewer word m j h k = by (below_or_not (bit_and word m) word)
-  where
-    by : (bit_and word m < word) ⊎ (word ≤ bit_and word m) → bit_and word m < word
-    by (inl l) = l
-    by (inr l) =
-        let same : bit_and word m ≡ word = omega (arith, and_le_l word m) in
-        let bit = ap (λ n. bit_at n j) same in
-        absurd (omega (arith, h, k, bit))
+fewer word m j h k = grind (arith, h, k, and_le_l, below_or_not (bit_and word m) word)

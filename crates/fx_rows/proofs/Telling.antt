@@ -1,4 +1,4 @@
--- The ends of a piece's columns that are told, row by row, and the pieces that are noted.
+-- Rows between a piece's ends, told one by one, are all told (`added_met`), and the notes made of them are exact (`exact_of`).
 -- Serves the rows of a piece, and the pieces of a band.
 use Rattle.std.proofs.Common.{◌≡◌, ◌≢◌, ◌⊎◌, inl, inr, refl, sym, ap, ◌∙◌, subst, ℕ, ◌+◌, ◌-◌, ◌*◌, ◌<◌, ◌≤◌, ℤ, pos, ◌+ℤ◌, ◌-ℤ◌, ◌*ℤ◌}
 use Rattle.std.proofs.Common.{◌≤ℤ◌, ◌<ℤ◌, List, length, take, get_or, arith, Any}
@@ -15,7 +15,7 @@ use Rattle.fx_winding.specs.Area.{Place}
 use Rattle.fx_winding.specs.Bitmaps.{word_bit}
 use Rattle.fx_winding.specs.Meets.{turn, IsMet}
 use Rattle.fx_winding.specs.Turned.{turned_span}
-use Rattle.fx_winding.specs.Notes.{AreExact, AreOff, pixel_number, IsMetUp, IsNotedUp, IsNoted}
+use Rattle.fx_winding.specs.Notes.{AreExact, AreOff, pixel_number, IsMetUp}
 use Rattle.fx_winding.specs.Outside.{HasAll}
 use Rattle.fx_winding.specs.Winding.{Span, IsOn, centre}
 use Rattle.fx_rows.specs.declared.heights.Met.{Met}
@@ -26,12 +26,12 @@ use Rattle.fx_rows.specs.declared.band.Band.{Band}
 use Rattle.fx_rows.specs.declared.heights.RowRange.{RowRange}
 use Rattle.fx_rows.specs.inner.Bands.{stride, IsRowAdded, IsBandAdded}
 use Rattle.fx_rows.specs.inner.Heights.{height_of, IsAtMostEnds, IsAtLeastEnds, AreAmong}
-use Rattle.fx_rows.specs.inner.Placing.{AreBetween, AreMet}
+use Rattle.fx_rows.specs.inner.Placing.{AreBetween, AreMet, AreMetIn}
 use Rattle.fx_rows.specs.inner.Points.{IsInner, IsRise}
 use Rattle.fx_rows.specs.inner.Sides.{place_at}
 use Rattle.fx_rows.specs.inner.Told.{rise_value, IsEnd, IsEndOn}
 use Rattle.fx_rows.specs.inner.Telling.{AreMetBySome, IsAmong, IsRowTold, AreRowsTold, AreRowsAdded, IsPartOf, AreRowsNoted, AreNotedIn}
-use Rattle.fx_rows.specs.inner.Telling.{BitsSay, IsNotedUnless, Saying, noted, Way, across_row, up_to_row}
+use Rattle.fx_rows.specs.inner.Telling.{BitsSay, IsNoted, IsNotedUnless, Saying, noted, Way}
 use Rattle.fx_rows.proofs.Banding.{band_none, band_three, band_missed}
 use Rattle.fx_rows.proofs.Stepping.{band_next}
 
@@ -86,14 +86,7 @@ at_least_outside a c y h k i = omega (arith, signed_linear, i)
 told_beside : (T : ℕ → ℕ → Type 0) (s : Span) (f : Frame) (from low high to : ℕ)
     → ((r : ℕ) → from ≤ r → r < low → IsAtMostEnds s (height_of f r))
     → ((r : ℕ) → high ≤ r → r < to → IsAtLeastEnds s (height_of f r)) → AreRowsTold T s f low high → AreRowsTold T s f from to
-told_beside T s f from low high to under over h =
-    record { rows = λ r l m i. by r l m i (below_or_not r low) (below_or_not r high) }
-  where
-    by : (r : ℕ) → from ≤ r → r < to → IsInner s.a.y s.c.y (height_of f r) → (r < low) ⊎ (low ≤ r) → (r < high) ⊎ (high ≤ r)
-        → IsRowTold T s f r
-    by r l m i (inl x) o = let e = under r l x in absurd (at_most_outside _ _ _ e.0 e.1 i)
-    by r l m i (inr x) (inl y) = h.rows r x y i
-    by r l m i (inr x) (inr y) = let e = over r y m in absurd (at_least_outside _ _ _ e.0 e.1 i)
+told_beside T s f from low high to under over h = grind (arith, signed_linear, under, over, h, at_most_outside, at_least_outside)
 
 -- a height that is not above the lower end, or not below the upper one
 at_most_ends : (s : Span) (foot head value y : ℤ) → IsRise s foot head value → y ≤ℤ foot → IsAtMostEnds s y
@@ -114,13 +107,7 @@ rise_inner s foot head value y h l m = grind (arith, signed_linear, below_or_not
 
 pub between_of : (s : Span) (foot head value : ℤ) (f : Frame) (rows inner : RowRange) → IsRise s foot head value
     → AreAmong foot head f rows.first rows.end inner.first inner.end → AreBetween s f rows inner
-between_of s foot head value f rows inner rise h = record {
-  from = h.from;
-  to = h.to;
-  inner = λ r l m. rise_inner s foot head value (height_of f r) rise (h.foot r l m) (h.head r l m);
-  under = λ r l m. at_most_ends s foot head value (height_of f r) rise (h.under r l m);
-  over = λ r l m. at_least_ends s foot head value (height_of f r) rise (h.over r l m);
-}
+between_of s foot head value f rows inner rise h = grind (arith, signed_linear, rise, h, rise_inner, at_most_ends, at_least_ends)
 
 -- ---- what is added and told
 pub added_start : (T : ℕ → ℕ → Type 0) (s : Span) (at : ℕ) (b : Band) → AreRowsAdded T s at at b b
@@ -155,11 +142,8 @@ pub added_outside : (T : ℕ → ℕ → Type 0) (s : Span) (from low high to : 
     → new.frame ≡ old.frame → IsBandAdded s old.frame from to old new
     → ((r : ℕ) → from ≤ r → r < low → IsAtMostEnds s (height_of old.frame r))
     → ((r : ℕ) → high ≤ r → r < to → IsAtLeastEnds s (height_of old.frame r)) → AreRowsAdded T s from to old new
-added_outside T s from low high to old new l e a under over = record {
-  frame = e;
-  added = a;
-  told = told_beside T s old.frame from low high to under over (told_none T s old.frame low high l);
-}
+added_outside T s from low high to old new l e a under over =
+    grind (arith, signed_linear, l, e, a, under, over, told_beside, told_none)
 
 -- rows that a piece misses are not between its ends
 pub added_met : (T : ℕ → ℕ → Type 0) (s : Span) (rows : RowRange) (old new : Band) → rows.end ≤ old.frame.height
@@ -178,130 +162,88 @@ pub met_around : (s : Span) (f : Frame) (m : Met) → m.touched.end ≤ f.height
     → ((r : ℕ) → r < m.touched.first → HasAll (λ q. height_of f r <ℤ q.y) s)
     → ((r : ℕ) → m.touched.end ≤ r → r < f.height → HasAll (λ q. q.y <ℤ height_of f r) s)
     → AreBetween s f m.touched m.inner → AreMet s f m
-met_around s f m within below above h = record {
-  below = below;
-  above = above;
-  within = within;
-  inner = h.inner;
-  under = λ r l. under r l (below_or_not r m.touched.first);
-  over = λ r l o. over r l o (below_or_not r m.touched.end);
-}
-  where
-    under : (r : ℕ) → r < m.inner.first → (r < m.touched.first) ⊎ (m.touched.first ≤ r) → IsAtMostEnds s (height_of f r)
-    under r l (inl k) = above_all s (height_of f r) (below r k)
-    under r l (inr k) = h.under r k l
+met_around s f m within below above h = grind (arith, signed_linear, within, below, above, h, above_all, below_all)
 
-    over : (r : ℕ) → m.inner.end ≤ r → r < f.height → (r < m.touched.end) ⊎ (m.touched.end ≤ r)
-        → IsAtLeastEnds s (height_of f r)
-    over r l o (inl k) = h.over r l k
-    over r l o (inr k) = below_all s (height_of f r) (above r k o)
+-- ---- the rows g of a frame f from one to before another: a row of f that is among them
+row_of_part : (f g : Frame) (from to r : ℕ) → IsPartOf f from to g → from ≤ r → g.bottom +ℤ pos (r - from) ≡ f.bottom +ℤ pos r
+row_of_part f g from to r part l = let bottom = part.bottom in omega (arith, signed_linear, bottom, l)
 
--- ---- frames that are the same rows of a frame
-row_same : (f g h : Frame) (from to r : ℕ) → IsPartOf f from to g → IsPartOf f from to h
-    → g.bottom +ℤ pos r ≡ h.bottom +ℤ pos r
-row_same f g h from to r a b = ap (λ (z : ℤ). z +ℤ pos r) (a.bottom ∙ sym b.bottom)
+height_of_part : (f g : Frame) (from to r : ℕ) → IsPartOf f from to g → from ≤ r → height_of g (r - from) ≡ height_of f r
+height_of_part f g from to r part l = ap (λ (z : ℤ). pos 128 *ℤ z +ℤ pos 64) (row_of_part f g from to r part l)
 
-height_same : (f g h : Frame) (from to r : ℕ) → IsPartOf f from to g → IsPartOf f from to h → height_of g r ≡ height_of h r
-height_same f g h from to r a b = ap (λ (z : ℤ). pos 128 *ℤ z +ℤ pos 64) (row_same f g h from to r a b)
-
-rows_same : (f g h : Frame) (from to : ℕ) → IsPartOf f from to g → IsPartOf f from to h → g.height ≡ h.height
-rows_same f g h from to a b = let low = a.height in let high = b.height in omega (arith, low, high)
-
-end_same : (s : Span) (f g h : Frame) (from to r n : ℕ) → IsPartOf f from to g → IsPartOf f from to h → IsEnd s g r n
-    → IsEnd s h r n
-end_same s f g h from to r n a b is =
-    let wide : g.width ≡ h.width = a.width ∙ sym b.width in
-    let left : g.left ≡ h.left = a.left ∙ sym b.left in
-    let row = row_same f g h from to r a b in
-    let at : (k : ℕ) → centre (g.left +ℤ pos k) (g.bottom +ℤ pos r) ≡ centre (h.left +ℤ pos k) (h.bottom +ℤ pos r) =
-    λ k i. centre (left i +ℤ pos k) (row i) in
+-- the end of its columns there
+end_in_frame : (s : Span) (f g : Frame) (from to r n : ℕ) → IsPartOf f from to g → from ≤ r → IsEnd s g (r - from) n → IsEnd s f r n
+end_in_frame s f g from to r n part l is =
+    let at : (k : ℕ) → centre (g.left +ℤ pos k) (g.bottom +ℤ pos (r - from)) ≡ centre (f.left +ℤ pos k) (f.bottom +ℤ pos r) =
+    λ k i. centre (part.left i +ℤ pos k) (row_of_part f g from to r part l i) in
     record {
-      within = subst (λ (w : ℕ). n ≤ w) wide is.within;
+      within = subst (λ (w : ℕ). n ≤ w) part.width is.within;
       left = λ k m. subst (λ (q : Place). ¬ (IsOn q s) → turn q s ≡ rise_value s) (at k) (is.left k m);
       right = λ k m o. subst (λ (q : Place). ¬ (IsOn q s) → turn q s ≡ pos 0) (at k)
-          (is.right k m (subst (λ (w : ℕ). k < w) (sym wide) o));
+          (is.right k m (subst (λ (w : ℕ). k < w) (sym part.width) o));
     }
 
-pub told_same : (T : ℕ → ℕ → Type 0) (s : Span) (f g h : Frame) (from to : ℕ) → IsPartOf f from to g → IsPartOf f from to h
-    → AreRowsTold T s g 0 g.height → AreRowsTold T s h 0 h.height
-told_same T s f g h from to a b is = record { rows = λ r l m i. here r m i }
+pub told_in_frame : (T : ℕ → ℕ → Type 0) (s : Span) (f g : Frame) (from to : ℕ) → IsPartOf f from to g
+    → AreRowsTold T s g 0 g.height → AreRowsTold (λ r. T (r - from)) s f from to
+told_in_frame T s f g from to part is = record { rows = λ r l m i. here r l m i }
   where
-    here : (r : ℕ) → r < h.height → IsInner s.a.y s.c.y (height_of h r) → IsRowTold T s h r
-    here r m i =
-        let t = is.rows r (omega arith) (omega (arith, m, rows_same f g h from to a b))
-        (subst (IsInner s.a.y s.c.y) (sym (height_same f g h from to r a b)) i) in
-        record { end = t.end; told = t.told; is = end_same s f g h from to r t.end a b t.is }
+    here : (r : ℕ) → from ≤ r → r < to → IsInner s.a.y s.c.y (height_of f r) → IsRowTold (λ r. T (r - from)) s f r
+    here r l m i =
+        let t = is.rows (r - from) (omega arith) (omega (arith, l, m, part.height))
+        (subst (IsInner s.a.y s.c.y) (sym (height_of_part f g from to r part l)) i) in
+        record { end = t.end; told = t.told; is = end_in_frame s f g from to r t.end part l t.is }
 
-pub met_same : (s : Span) (f g h : Frame) (from to : ℕ) (m : Met) → IsPartOf f from to g → IsPartOf f from to h → AreMet s g m
-    → AreMet s h m
-met_same s f g h from to m a b is = record {
-  below = λ r l. subst (λ y. HasAll (λ q. y <ℤ q.y) s) (height_same f g h from to r a b) (is.below r l);
-  above = λ r l o. subst (λ y. HasAll (λ q. q.y <ℤ y) s) (height_same f g h from to r a b)
-      (is.above r l (omega (arith, o, rows_same f g h from to a b)));
-  within = let w = is.within in omega (arith, w, rows_same f g h from to a b);
-  inner = λ r l o. subst (IsInner s.a.y s.c.y) (height_same f g h from to r a b) (is.inner r l o);
-  under = λ r l. subst (IsAtMostEnds s) (height_same f g h from to r a b) (is.under r l);
-  over = λ r l o. subst (IsAtLeastEnds s) (height_same f g h from to r a b)
-      (is.over r l (omega (arith, o, rows_same f g h from to a b)));
+pub met_in_frame : (s : Span) (f g : Frame) (from to : ℕ) (m n : Met) → IsPartOf f from to g
+    → n.touched.first ≡ from + m.touched.first → n.touched.end ≡ from + m.touched.end → n.inner.first ≡ from + m.inner.first
+    → n.inner.end ≡ from + m.inner.end → AreMet s g m → AreMetIn s f from to n
+met_in_frame s f g from to m n part a b c d is = record {
+  low = omega (arith, a);
+  high = omega (arith, b, is.high, part.height);
+  below = λ r l o. subst (λ y. HasAll (λ q. y <ℤ q.y) s) (at r l) (is.below (r - from) (omega arith) (omega (arith, a, l, o)));
+  above = λ r l o.
+      let k : from ≤ r = omega (arith, b, l) in subst (λ y. HasAll (λ q. q.y <ℤ y) s) (at r k)
+      (is.above (r - from) (omega (arith, b, l)) (omega (arith, o, k, part.height)));
+  inner = λ r l o.
+      let k : from ≤ r = omega (arith, c, l) in subst (IsInner s.a.y s.c.y) (at r k)
+      (is.inner (r - from) (omega (arith, c, l)) (omega (arith, d, k, o)));
+  under = λ r l o. subst (IsAtMostEnds s) (at r l) (is.under (r - from) (omega arith) (omega (arith, c, l, o)));
+  over = λ r l o.
+      let k : from ≤ r = omega (arith, d, l) in subst (IsAtLeastEnds s) (at r k)
+      (is.over (r - from) (omega (arith, d, l)) (omega (arith, o, k, part.height)));
 }
+  where
+    at : (r : ℕ) → from ≤ r → height_of g (r - from) ≡ height_of f r
+    at r l = height_of_part f g from to r part l
 
 -- ---- the pieces that are noted
 -- no piece yet
-pub noted_start : (P : Saying → Type 0) (ss : List Span) (f : Frame) (from to : ℕ) → AreNotedIn P (take 0 ss) f from to
-noted_start P ss f from to k d h = absurd (omega (arith, h))
+pub noted_start : (P : Saying → Type 0) (ss : List Span) (from to : ℕ) → AreNotedIn P (take 0 ss) from to
+noted_start P ss from to k d h = absurd (omega (arith, h))
 
 -- what is noted stays so
-noted_also : (P Q : Saying → Type 0) (ss : List Span) (f : Frame) (from to : ℕ)
-    → ((s : Span) (w : Way) (r : ℕ) → P (noted s w r) → Q (noted s w r)) → AreNotedIn P ss f from to → AreNotedIn Q ss f from to
-noted_also P Q ss f from to kept h k d l =
-    let here = h k d l in
-    record {
-      across = λ r m n. kept _ across_row r (here.across r m n);
-      up = λ r m n. kept _ up_to_row r (here.up r m n);
-      top = λ e. kept _ up_to_row f.height (here.top e);
-    }
+noted_also : (P Q : Saying → Type 0) (ss : List Span) (from to : ℕ)
+    → ((s : Span) (w : Way) (r : ℕ) → P (noted s w r) → Q (noted s w r)) → AreNotedIn P ss from to → AreNotedIn Q ss from to
+noted_also P Q ss from to kept h k d l = grind (arith, signed_linear, kept, h, k, d, l)
 
 -- one more piece
-pub noted_more : (P Q : Saying → Type 0) (ss : List Span) (f : Frame) (from to at : ℕ) (s : Span) → at < length ss
+pub noted_more : (P Q : Saying → Type 0) (ss : List Span) (from to at : ℕ) (s : Span) → at < length ss
     → s ≡ get_or ss at s → ((t : Span) (w : Way) (r : ℕ) → P (noted t w r) → Q (noted t w r))
-    → AreNotedIn P (take at ss) f from to → AreRowsNoted Q s f from to → AreNotedIn Q (take (at + 1) ss) f from to
-noted_more P Q ss f from to at s l e kept h here =
-    All-more (λ t. AreRowsNoted Q t f from to) ss at s l (noted_also P Q (take at ss) f from to kept h)
-    (subst (λ t. AreRowsNoted Q t f from to) e here)
+    → AreNotedIn P (take at ss) from to → AreRowsNoted Q s from to → AreNotedIn Q (take (at + 1) ss) from to
+noted_more P Q ss from to at s l e kept h here =
+    All-more (λ t. AreRowsNoted Q t from to) ss at s l (noted_also P Q (take at ss) from to kept h)
+    (subst (λ t. AreRowsNoted Q t from to) e here)
 
--- rows, and then the rows after them
-pub noted_both : (P Q : Saying → Type 0) (ss : List Span) (f : Frame) (from mid to : ℕ)
+-- rows, and then some rows after them
+pub noted_both : (P Q : Saying → Type 0) (ss : List Span) (from mid to : ℕ) → mid < to
     → ((s : Span) (w : Way) (r : ℕ) → P (noted s w r) → Q (noted s w r))
-    → AreNotedIn P ss f from mid → AreNotedIn Q ss f mid to → AreNotedIn Q ss f from to
-noted_both P Q ss f from mid to kept a b k d l = record {
-  across = λ r m n. across r m n (below_or_not r mid);
-  up = λ r m n. up r m n (below_or_not r mid);
-  top = (b k d l).top;
-}
-  where
-    across : (r : ℕ) → from ≤ r → r < to → (r < mid) ⊎ (mid ≤ r) → Q (noted (get_or ss k d) across_row r)
-    across r m n (inl o) = kept (get_or ss k d) across_row r ((a k d l).across r m o)
-    across r m n (inr o) = (b k d l).across r o n
-
-    up : (r : ℕ) → from ≤ r → r < to → (r < mid) ⊎ (mid ≤ r) → Q (noted (get_or ss k d) up_to_row r)
-    up r m n (inl o) = kept (get_or ss k d) up_to_row r ((a k d l).up r m o)
-    up r m n (inr o) = (b k d l).up r o n
+    → AreNotedIn P ss from mid → AreNotedIn Q ss mid to → AreNotedIn Q ss from to
+noted_both P Q ss from mid to some kept a b k d l = grind (arith, signed_linear, some, kept, a, b, k, d, l)
 
 -- the same, but for what is noted apart
 pub noted_unless : (B : Span → Way → Type 0) (f : Frame) (rows columns : List ℕ) (ss : List Span)
-    → AreNotedIn (BitsSay B f rows columns) ss f 0 f.height
-    → All (λ s. IsNotedUnless (B s) s f rows columns) ss
-noted_unless B f rows columns ss h k d l = record {
-  across = λ no r m. (h k d l).across r (omega arith) m no;
-  up = λ no r m. by no r m (below_or_not r f.height);
-}
-  where
-    by : ¬ (B (get_or ss k d) up_to_row) → (r : ℕ) → r ≤ f.height → (r < f.height) ⊎ (f.height ≤ r)
-        → IsNotedUp (get_or ss k d) f columns r
-    by unless r m (inl o) = (h k d l).up r (omega arith) o unless
-    by unless r m (inr o) =
-        let e : f.height ≡ r = omega (arith, m, o) in
-        subst (IsNotedUp (get_or ss k d) f columns) e ((h k d l).top refl unless)
+    → AreNotedIn (BitsSay B f rows columns) ss 0 f.height → All (λ s. IsNotedUnless (B s) s f rows columns) ss
+noted_unless B f rows columns ss h k d l =
+    record { across = λ no r m. (h k d l).across r (omega arith) m no; up = λ no o r m. (h k d l).up o r (omega arith) m no }
 
 -- what is noted is exact, and stays so while these pieces are noted
 pub all_among : (ss : List Span) → All (λ s. IsAmong s ss) ss
@@ -323,7 +265,7 @@ exact_of f across up ss all h = record {
       p.met (off_one _ ss p.piece off.off_from p.among)
           (off_one _ ss p.piece off.off_to p.among),
     ),
-    λ (i, s, inside, is, met). (subst (λ (t : Span). IsNoted t f across up) is (all i s inside)).across r l k m (record {
+    λ (i, s, inside, is, met). (subst (λ (t : Span). IsNoted t f across up) is (all i s inside)).across (λ no. no) r l k m (record {
       met = met;
       off_left = λ on. off.off_from (i, s, inside, is, on);
       off_right = λ on. off.off_to (i, s, inside, is, on);
@@ -339,30 +281,20 @@ exact_of f across up ss all h = record {
           p.met (off_one _ ss p.piece off.off_from p.among)
               (off_one _ ss p.piece off.off_to p.among),
         ),
-    λ met. back r k l m off (any_unmap turned_span (λ s. IsMet (centre ((f.bottom -ℤ pos 1) +ℤ pos r) (f.left +ℤ pos k))
+    λ met. back r k some l m off (any_unmap turned_span (λ s. IsMet (centre ((f.bottom -ℤ pos 1) +ℤ pos r) (f.left +ℤ pos k))
         (centre (f.bottom +ℤ pos r) (f.left +ℤ pos k)) (turned_span s)) _ (λ s m. m) ss met),
   );
   rest_across = λ r k l m w. clear_unless across _ (λ e. let p = (h.rows r k w e).0 in omega (arith, p, m));
   rest_up = λ r k l m w. clear_unless up _ (λ e. let p = (h.columns r k w e).0 in omega (arith, p, m));
 }
   where
-    back : (r k : ℕ) → r ≤ f.height → k < f.width
+    back : (r k : ℕ) → 0 < f.height → r ≤ f.height → k < f.width
         → AreOff (centre (f.left +ℤ pos k) ((f.bottom -ℤ pos 1) +ℤ pos r)) (centre (f.left +ℤ pos k) (f.bottom +ℤ pos r)) ss
         → Any (λ s. IsMet (centre ((f.bottom -ℤ pos 1) +ℤ pos r) (f.left +ℤ pos k))
         (centre (f.bottom +ℤ pos r) (f.left +ℤ pos k)) (turned_span s)) ss → word_bit up (pixel_number f r k) ≡ 1
-    back r k l m off (i, s, inside, is, met) = (subst (λ (t : Span). IsNoted t f across up) is (all i s inside)).up r l k m
-        (record {
+    back r k some l m off (i, s, inside, is, met) =
+        (subst (λ (t : Span). IsNoted t f across up) is (all i s inside)).up (λ no. no) some r l k m (record {
           met = met;
           off_lower = λ on. off.off_from (i, s, inside, is, on);
           off_upper = λ on. off.off_to (i, s, inside, is, on);
         })
-
--- a frame without rows has no segments
-pub exact_without : (f : Frame) (across up : List ℕ) (ss : List Span) → f.height ≡ 0 → AreMetBySome f across up ss
-    → AreExact f across up ss
-exact_without f across up ss e h = record {
-  across = λ r k l m off. absurd (omega (arith, l, e));
-  up = λ r k some l m off. absurd (omega (arith, some, e));
-  rest_across = λ r k l m w. absurd (omega (arith, l, e));
-  rest_up = λ r k l m w. clear_unless up _ (λ t. let p = (h.columns r k w t).0 in omega (arith, p, m));
-}

@@ -1,4 +1,4 @@
--- Places on pieces, with the coordinates of both exchanged.
+-- A place is on a piece if, with the coordinates of both exchanged, it is on the piece: `on_turned`.
 -- Serves the columns of arcs that bulge.
 use Rattle.std.proofs.Common.{◌≡◌, ◌∙◌, ap, subst, inl, inr, ℤ, pos, neg_ℤ, Option, Some, None, option_map, arith}
 use Rattle.fx_fixed.proofs.Linear.{signed_linear}

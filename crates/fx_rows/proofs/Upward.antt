@@ -1,6 +1,6 @@
--- Which segments between neighbouring rows a piece meets that does not bulge.
+-- A piece that does not bulge meets segments up to a row in columns between its ends alone: `met_between`.
 -- Serves `note_up`.
-use Rattle.std.proofs.Common.{◌≡◌, ◌≢◌, ◌⊎◌, inl, inr, refl, sym, ap, ◌∙◌, subst, ℕ, zero, suc, ◌+◌, ◌<◌, ◌≤◌, min, max, ℤ, pos, negsuc}
+use Rattle.std.proofs.Common.{◌≡◌, ◌≢◌, ◌⊎◌, inl, inr, refl, sym, ap, ◌∙◌, subst, ℕ, ◌+◌, ◌-◌, ◌<◌, ◌≤◌, min, max, ℤ, pos, negsuc}
 use Rattle.std.proofs.Common.{◌+ℤ◌, ◌-ℤ◌, ◌*ℤ◌, ◌≤ℤ◌, ◌<ℤ◌, List, Option, Some, None, ◌^◌, arith}
 use Rattle.std.proofs.Common.{w32, to_z, of_z}
 use Rattle.fx_fixed.specs.Ranges.{IsWithin}
@@ -10,8 +10,9 @@ use Rattle.fx_fixed.proofs.Linear.{signed, signed_linear}
 use Rattle.fx_winding.specs.declared.frame.Frame.{Frame}
 use Rattle.fx_winding.specs.Area.{Place}
 use Rattle.fx_winding.specs.Turned.{turned_place, turned_span}
+use Rattle.fx_winding.specs.Limits.{IsPixelNumber}
 use Rattle.fx_winding.specs.Meets.{turn}
-use Rattle.fx_winding.specs.Notes.{IsMetUp}
+use Rattle.fx_winding.specs.Notes.{IsMetUp, IsNotedUp}
 use Rattle.fx_winding.specs.Outside.{HasAll, OptionAll}
 use Rattle.fx_winding.specs.Winding.{Span, centre, IsOn, IsBetween}
 use Rattle.fx_winding.proofs.Aside.{left_not_met, right_not_met}
@@ -21,16 +22,15 @@ use Rattle.fx_winding.proofs.Meeting.{above_not_met, below_not_met}
 use Rattle.fx_winding.proofs.Turning.{IsClearOf, IsClearOfFoot, IsClearOfHead, all_turned, inner_pair_not_met, from_foot_not_met}
 use Rattle.fx_winding.proofs.Turning.{to_foot_not_met, from_head_not_met, to_head_not_met}
 use Rattle.fx_rows.specs.declared.heights.Met.{Met}
-use Rattle.fx_rows.specs.declared.placed.Placed.{Placed}
+use Rattle.fx_rows.specs.declared.piece_in_band.PieceInBand.{PieceInBand}
 use Rattle.fx_rows.specs.declared.reach.Reach.{Reach}
-use Rattle.fx_rows.specs.inner.Bulging.{HasLine, IsBulge, IsBulgePart, IsOnLine}
+use Rattle.fx_rows.specs.inner.Bulging.{HasLine, IsBeyond, IsBulge, IsBulgePart, IsOnLine}
 use Rattle.fx_rows.specs.inner.Heights.{height_of, IsResting, IsHanging, IsAtMostEnds, IsAtLeastEnds, IsOneOver, IsOneUnder}
-use Rattle.fx_rows.specs.inner.Placing.{AreMet, IsPlaced}
+use Rattle.fx_rows.specs.inner.Placing.{AreMetIn, IsInBand}
 use Rattle.fx_rows.specs.inner.Points.{AreAcross, IsInner}
-use Rattle.fx_rows.specs.inner.Segments.{AreSetUp}
 use Rattle.fx_rows.specs.inner.Told.{rise_value}
 use Rattle.fx_rows.specs.inner.Upward.{column_of, height_below, AreMetBetween, AreMetWithin, AreAllMet, AreAt}
-use Rattle.fx_rows.specs.inner.Upward.{AreAtFoot, AreAtHead, IsFootX, IsHeadX, IsPassing, IsLow, IsHigh, IsLevel, ComesFrom}
+use Rattle.fx_rows.specs.inner.Upward.{AreAtFoot, AreAtHead, IsFootX, IsHeadX, IsPassing, IsLow, ComesFrom}
 use Rattle.fx_rows.proofs.Points.{to_all}
 
 -- the ends of a segment
@@ -54,51 +54,30 @@ right_unmet s f first end r k h l m =
     (all_turned (λ e. e.y <ℤ column_of f k) s (to_all (λ q. q.x <ℤ column_of f k) s (h.1 (f.left +ℤ pos k) l))) m.met
 
 -- a box without columns
-pub none_within : (s : Span) (p : Placed) → IsPlaced s p → p.across.end ≤ℤ p.across.first → (r k : ℕ) → ¬ (IsMetUp s p.frame r k)
+pub none_within : (s : Span) (p : PieceInBand) → IsInBand s p → p.across.end ≤ℤ p.across.first → (r k : ℕ)
+    → ¬ (IsMetUp s p.frame r k)
 none_within s p is none r k m = by (below_or_not_ℤ (p.frame.left +ℤ pos k) p.across.first)
   where
     by : ((p.frame.left +ℤ pos k) <ℤ p.across.first) ⊎ (p.across.first ≤ℤ (p.frame.left +ℤ pos k)) → ⊥
-    by (inl l) = left_unmet s p.frame p.across.first p.across.end r k is.across l m
-    by (inr l) = right_unmet s p.frame p.across.first p.across.end r k is.across (omega (arith, signed_linear, none, l)) m
+    by (inl l) = left_unmet s p.frame p.across.first p.across.end r k is.columns.across l m
+    by (inr l) = right_unmet s p.frame p.across.first p.across.end r k is.columns.across (omega (arith, signed_linear, none, l)) m
 
 -- ---- what it means that a piece does not bulge: its control point is on no other side of a line of centres than both its ends
+no_line_to : (a b c row : ℤ) → ¬ (IsBeyond a b c) → (pos 128 *ℤ row +ℤ pos 64) ≤ℤ a → (pos 128 *ℤ row +ℤ pos 64) ≤ℤ c
+    → b ≤ℤ (pos 128 *ℤ row +ℤ pos 64) → b <ℤ a → b <ℤ c → ⊥
+no_line_to a b c row plain to to' from l m = grind (arith, signed_linear, plain, to, to', from, l, m)
+
+no_line_from : (a b c row : ℤ) → ¬ (IsBeyond a b c) → a ≤ℤ (pos 128 *ℤ row +ℤ pos 64) → c ≤ℤ (pos 128 *ℤ row +ℤ pos 64)
+    → (pos 128 *ℤ row +ℤ pos 64) ≤ℤ b → a <ℤ b → c <ℤ b → ⊥
+no_line_from a b c row plain from from' to l m = grind (arith, signed_linear, plain, from, from', to, l, m)
+
 above_line : (s : Span) (row : ℤ) → ¬ (IsBulge s) → (pos 128 *ℤ row +ℤ pos 64) ≤ℤ s.a.y → (pos 128 *ℤ row +ℤ pos 64) ≤ℤ s.c.y
     → HasAll (λ q. (pos 128 *ℤ row +ℤ pos 64) ≤ℤ q.y) s
-above_line s row plain a c = (a, part s.b plain, c)
-  where
-    part : (b : Option Place) → ¬ (IsBulgePart s.a b s.c) → OptionAll (λ q. (pos 128 *ℤ row +ℤ pos 64) ≤ℤ q.y) b
-    part None n = tt
-    part (Some b) n = by (below_or_not_ℤ b.y (pos 128 *ℤ row +ℤ pos 64))
-      where
-        by : (b.y <ℤ (pos 128 *ℤ row +ℤ pos 64)) ⊎ ((pos 128 *ℤ row +ℤ pos 64) ≤ℤ b.y) → (pos 128 *ℤ row +ℤ pos 64) ≤ℤ b.y
-        by (inr l) = l
-        by (inl l) =
-            let from : b.y ≤ℤ (pos 128 *ℤ row +ℤ pos 64) = omega (arith, signed_linear, l) in
-            absurd (n (inr (inl (record {
-              below = omega (arith, signed_linear, l, a);
-              below_too = omega (arith, signed_linear, l, c);
-              line = record { line = row; from = from; to = a };
-              line_too = record { line = row; from = from; to = c };
-            }))))
+above_line s row plain a c = grind (arith, signed_linear, plain, a, c, no_line_to)
 
 below_line : (s : Span) (row : ℤ) → ¬ (IsBulge s) → s.a.y ≤ℤ (pos 128 *ℤ row +ℤ pos 64) → s.c.y ≤ℤ (pos 128 *ℤ row +ℤ pos 64)
     → HasAll (λ q. q.y ≤ℤ (pos 128 *ℤ row +ℤ pos 64)) s
-below_line s row plain a c = (a, part s.b plain, c)
-  where
-    part : (b : Option Place) → ¬ (IsBulgePart s.a b s.c) → OptionAll (λ q. q.y ≤ℤ (pos 128 *ℤ row +ℤ pos 64)) b
-    part None n = tt
-    part (Some b) n = by (below_or_not_ℤ (pos 128 *ℤ row +ℤ pos 64) b.y)
-      where
-        by : ((pos 128 *ℤ row +ℤ pos 64) <ℤ b.y) ⊎ (b.y ≤ℤ (pos 128 *ℤ row +ℤ pos 64)) → b.y ≤ℤ (pos 128 *ℤ row +ℤ pos 64)
-        by (inr l) = l
-        by (inl l) =
-            let to : (pos 128 *ℤ row +ℤ pos 64) ≤ℤ b.y = omega (arith, signed_linear, l) in
-            absurd (n (inr (inr (record {
-              above = omega (arith, signed_linear, l, a);
-              above_too = omega (arith, signed_linear, l, c);
-              line = record { line = row; from = a; to = to };
-              line_too = record { line = row; from = c; to = to };
-            }))))
+below_line s row plain a c = grind (arith, signed_linear, plain, a, c, no_line_from)
 
 -- a line of centres that is at both ends
 on_line : (a c row : ℤ) → a ≡ pos 128 *ℤ row +ℤ pos 64 → c ≡ pos 128 *ℤ row +ℤ pos 64 → (a ≡ c) × HasLine a a
@@ -114,24 +93,12 @@ on_line a c row e f = (
 -- a row that is below both ends, or at one of them
 pub resting : (s : Span) (row : ℤ) → ¬ (IsBulge s) → ¬ (IsOnLine s) → IsAtMostEnds s (pos 128 *ℤ row +ℤ pos 64)
     → IsResting s (pos 128 *ℤ row +ℤ pos 64)
-resting s row plain off h = (above_line s row plain h.0 h.1, one)
-  where
-    not : ¬ ((s.a.y ≡ pos 128 *ℤ row +ℤ pos 64) × (s.c.y ≡ pos 128 *ℤ row +ℤ pos 64))
-    not e = let is = on_line s.a.y s.c.y row e.0 e.1 in off (record { level = is.0; line = is.1 })
-
-    one : IsOneOver s (pos 128 *ℤ row +ℤ pos 64)
-    one = grind (arith, signed_linear, not, h)
+resting s row plain off h = grind (arith, signed_linear, plain, off, h, above_line, on_line)
 
 -- a row that is above both ends, or at one of them
 pub hanging : (s : Span) (row : ℤ) → ¬ (IsBulge s) → ¬ (IsOnLine s) → IsAtLeastEnds s (pos 128 *ℤ row +ℤ pos 64)
     → IsHanging s (pos 128 *ℤ row +ℤ pos 64)
-hanging s row plain off h = (below_line s row plain h.0 h.1, one)
-  where
-    not : ¬ ((s.a.y ≡ pos 128 *ℤ row +ℤ pos 64) × (s.c.y ≡ pos 128 *ℤ row +ℤ pos 64))
-    not e = let is = on_line s.a.y s.c.y row e.0 e.1 in off (record { level = is.0; line = is.1 })
-
-    one : IsOneUnder s (pos 128 *ℤ row +ℤ pos 64)
-    one = grind (arith, signed_linear, not, h)
+hanging s row plain off h = grind (arith, signed_linear, plain, off, h, below_line, on_line)
 
 -- it meets segments in columns between its ends alone
 pub met_between : (s : Span) (f : Frame) → ¬ (IsBulge s) → AreMetBetween s f
@@ -147,12 +114,8 @@ met_between s f plain r k l m =
       where
         each : (x <ℤ b.x) ⊎ (b.x ≤ℤ x) → x <ℤ b.x
         each (inl i) = i
-        each (inr i) = absurd (n (inl (inl (record {
-          below = omega (arith, signed_linear, i, a);
-          below_too = omega (arith, signed_linear, i, c);
-          line = record { line = f.left +ℤ pos k; from = i; to = omega (arith, signed_linear, a) };
-          line_too = record { line = f.left +ℤ pos k; from = i; to = omega (arith, signed_linear, c) };
-        }))))
+        each (inr i) = absurd (no_line_to s.a.x b.x s.c.x (f.left +ℤ pos k) (λ h. n (inl h)) (omega (arith, signed_linear, a))
+            (omega (arith, signed_linear, c)) i (omega (arith, signed_linear, i, a)) (omega (arith, signed_linear, i, c)))
 
     left_of : s.a.x <ℤ x → s.c.x <ℤ x → (b : Option Place) → ¬ (IsBulgePart s.a b s.c) → OptionAll (λ e. e.x <ℤ x) b
     left_of a c None n = tt
@@ -160,12 +123,8 @@ met_between s f plain r k l m =
       where
         each : (b.x <ℤ x) ⊎ (x ≤ℤ b.x) → b.x <ℤ x
         each (inl i) = i
-        each (inr i) = absurd (n (inl (inr (record {
-          above = omega (arith, signed_linear, i, a);
-          above_too = omega (arith, signed_linear, i, c);
-          line = record { line = f.left +ℤ pos k; from = omega (arith, signed_linear, a); to = i };
-          line_too = record { line = f.left +ℤ pos k; from = omega (arith, signed_linear, c); to = i };
-        }))))
+        each (inr i) = absurd (no_line_from s.a.x b.x s.c.x (f.left +ℤ pos k) (λ h. n (inl h)) (omega (arith, signed_linear, a))
+            (omega (arith, signed_linear, c)) i (omega (arith, signed_linear, i, a)) (omega (arith, signed_linear, i, c)))
 
     left : x <ℤ s.a.x → x <ℤ s.c.x → ⊥
     left a c = above_not_met (turned_place (lower f r k)) (turned_place (upper f r k)) (turned_span s) refl
@@ -190,13 +149,13 @@ hanging_unmet s f r k h m =
     from_head_not_met (lower f r k) (upper f r k) s refl (next_up f r) (record { all = h.0; one = h.1 }) m.off_lower m.met
 
 -- no end of it is below the upper row; or none is above the lower row
-pub set_under : (s : Span) (f : Frame) (below r : ℕ) (up : List ℕ) → ¬ (IsBulge s) → ¬ (IsOnLine s)
-    → IsAtMostEnds s (height_of f r) → AreSetUp s f below up r
-set_under s f below r up plain off h k w m = absurd (resting_unmet s f r k (resting s (f.bottom +ℤ pos r) plain off h) m)
+pub set_under : (s : Span) (f : Frame) (r : ℕ) (up : List ℕ) → ¬ (IsBulge s) → ¬ (IsOnLine s) → IsAtMostEnds s (height_of f r)
+    → IsNotedUp s f up r
+set_under s f r up plain off h k w m = absurd (resting_unmet s f r k (resting s (f.bottom +ℤ pos r) plain off h) m)
 
-pub set_over : (s : Span) (f : Frame) (below r : ℕ) (up : List ℕ) → ¬ (IsBulge s) → ¬ (IsOnLine s)
-    → IsAtLeastEnds s (height_below f r) → AreSetUp s f below up r
-set_over s f below r up plain off h k w m =
+pub set_over : (s : Span) (f : Frame) (r : ℕ) (up : List ℕ) → ¬ (IsBulge s) → ¬ (IsOnLine s) → IsAtLeastEnds s (height_below f r)
+    → IsNotedUp s f up r
+set_over s f r up plain off h k w m =
     absurd (hanging_unmet s f r k (hanging s ((f.bottom -ℤ pos 1) +ℤ pos r) plain off h) m)
 
 -- no line of centres comes between two neighbours
@@ -299,10 +258,7 @@ pass_met s f r c d low high k from to l off off' = record {
 clear : (s : Span) (f : Frame) (row x v : ℤ) (e : Place) (c d : Reach) (k : ℕ) → IsPassing s f row d → AreAt f x c → x ≡ e.x
     → rise_value s ≡ v → k < f.width → ¬ (IsOn (centre (f.left +ℤ pos k) row) s)
     → ((k < c.first) × (k < d.first)) ⊎ ((c.end ≤ k) × (d.end ≤ k)) → IsClearOf e v (centre (f.left +ℤ pos k) row) s
-clear s f row x v e c d k h is at rises l off (inl (a, b)) =
-    inl (subst (λ (z : ℤ). column_of f k <ℤ z) at (is.left k a), h.is.left k (omega (arith, b, h.same)) off ∙ rises)
-clear s f row x v e c d k h is at rises l off (inr (a, b)) =
-    inr (subst (λ (z : ℤ). z <ℤ column_of f k) at (is.right k a l), h.is.right k b l off)
+clear s f row x v e c d k h i j l m n o = grind (arith, signed_linear, h, i, j, l, m, n, o)
 
 past : (s : Span) (f : Frame) (row x v : ℤ) (e : Place) (c d : Reach) (k : ℕ) → IsPassing s f row d → AreAt f x c → x ≡ e.x
     → rise_value s ≡ v → k < f.width → ¬ (IsOn (centre (f.left +ℤ pos k) row) s) → min c.first d.first ≤ k → k < max c.end d.end
@@ -316,23 +272,18 @@ past s f row x v e c d k h is at rises l off from to = by (below_or_not k d.end)
     )
     by (inr b) = inr (subst (λ (z : ℤ). column_of f k ≤ℤ z) at (is.to k (omega (arith, b, to))), h.is.right k b l off)
 
+-- with a row between its ends a piece rises or falls
+sides : (s : Span) (y : ℤ) (P Q : Type 0) → IsInner s.a.y s.c.y y → (s.a.y <ℤ s.c.y → P) → (s.c.y <ℤ s.a.y → Q)
+    → ((s.a.y <ℤ s.c.y) × P) ⊎ ((s.c.y <ℤ s.a.y) × Q)
+sides s y P Q (inl (u, v)) p q = let up : s.a.y <ℤ s.c.y = omega (arith, signed_linear, u, v) in inl (up, p up)
+sides s y P Q (inr (u, v)) p q = let down : s.c.y <ℤ s.a.y = omega (arith, signed_linear, u, v) in inr (down, q down)
+
 -- from the lower end to a row between the ends
 foot_clear : (s : Span) (f : Frame) (row : ℤ) (c d : Reach) (k : ℕ) → AreAtFoot s f c → IsPassing s f row d → k < f.width
     → ¬ (IsOn (centre (f.left +ℤ pos k) row) s) → ((k < c.first) × (k < d.first)) ⊎ ((c.end ≤ k) × (d.end ≤ k))
     → IsClearOfFoot (centre (f.left +ℤ pos k) row) s
-foot_clear s f row c d k foot high l off aside = by high.inner
-  where
-    by : IsInner s.a.y s.c.y (pos 128 *ℤ row +ℤ pos 64) → IsClearOfFoot (centre (f.left +ℤ pos k) row) s
-    by (inl (u, v)) =
-        let up : s.a.y <ℤ s.c.y = omega (arith, signed_linear, u, v) in
-        inl (up, clear s f row foot.x (pos 1) s.a c d k high foot.at (foot.is.rising up) (value_rising s up) l off aside)
-    by (inr (u, v)) =
-        let down : s.c.y <ℤ s.a.y = omega (arith, signed_linear, u, v) in
-        inr (
-          down,
-          clear s f row foot.x (negsuc 0) s.c c d k high foot.at (foot.is.falling (omega (arith, signed_linear, down)))
-              (value_falling s down) l off aside,
-        )
+foot_clear s f row c d k foot high l off aside =
+    grind (arith, signed_linear, foot, high, l, off, aside, sides, clear, value_rising, value_falling)
 
 foot_within : (s : Span) (f : Frame) (r : ℕ) (c d : Reach) → AreMetBetween s f → IsResting s (height_below f r)
     → AreAtFoot s f c → IsPassing s f (f.bottom +ℤ pos r) d → AreMetWithin s f r (min c.first d.first) (max c.end d.end)
@@ -347,7 +298,11 @@ foot_within s f r c d between rests foot high k l met =
 foot_all : (s : Span) (f : Frame) (r : ℕ) (c d : Reach) → IsResting s (height_below f r) → AreAtFoot s f c
     → IsPassing s f (f.bottom +ℤ pos r) d → AreAllMet s f r (min c.first d.first) (max c.end d.end)
 foot_all s f r c d rests foot high k from to l off off' = record {
-  met = foot_met (lower f r k) (upper f r k) s refl (record { all = rests.0; one = rests.1 }) off high.inner off' (by high.inner);
+  met = foot_met (lower f r k) (upper f r k) s refl (record { all = rests.0; one = rests.1 }) off high.inner off'
+      (sides s (height_of f r) _ _ high.inner
+      (λ up. past s f row foot.x (pos 1) s.a c d k high foot.at (foot.is.rising up) (value_rising s up) l off' from to)
+      (λ down. past s f row foot.x (negsuc 0) s.c c d k high foot.at (foot.is.falling (omega (arith, signed_linear, down)))
+      (value_falling s down) l off' from to));
   off_lower = off;
   off_upper = off';
 }
@@ -355,36 +310,12 @@ foot_all s f r c d rests foot high k from to l off off' = record {
     row : ℤ
     row = f.bottom +ℤ pos r
 
-    by : IsInner s.a.y s.c.y (height_of f r) → ((s.a.y <ℤ s.c.y) × IsPastEnd s.a.x (pos 1) (upper f r k) s)
-        ⊎ ((s.c.y <ℤ s.a.y) × IsPastEnd s.c.x (negsuc 0) (upper f r k) s)
-    by (inl (u, v)) =
-        let up : s.a.y <ℤ s.c.y = omega (arith, signed_linear, u, v) in
-        inl (up, past s f row foot.x (pos 1) s.a c d k high foot.at (foot.is.rising up) (value_rising s up) l off' from to)
-    by (inr (u, v)) =
-        let down : s.c.y <ℤ s.a.y = omega (arith, signed_linear, u, v) in
-        inr (
-          down,
-          past s f row foot.x (negsuc 0) s.c c d k high foot.at (foot.is.falling (omega (arith, signed_linear, down)))
-              (value_falling s down) l off' from to,
-        )
-
 -- from a row between the ends to the upper end
 head_clear : (s : Span) (f : Frame) (row : ℤ) (c d : Reach) (k : ℕ) → AreAtHead s f c → IsPassing s f row d → k < f.width
     → ¬ (IsOn (centre (f.left +ℤ pos k) row) s) → ((k < c.first) × (k < d.first)) ⊎ ((c.end ≤ k) × (d.end ≤ k))
     → IsClearOfHead (centre (f.left +ℤ pos k) row) s
-head_clear s f row c d k head low l off aside = by low.inner
-  where
-    by : IsInner s.a.y s.c.y (pos 128 *ℤ row +ℤ pos 64) → IsClearOfHead (centre (f.left +ℤ pos k) row) s
-    by (inl (u, v)) =
-        let up : s.a.y <ℤ s.c.y = omega (arith, signed_linear, u, v) in
-        inl (up, clear s f row head.x (pos 1) s.c c d k low head.at (head.is.rising up) (value_rising s up) l off aside)
-    by (inr (u, v)) =
-        let down : s.c.y <ℤ s.a.y = omega (arith, signed_linear, u, v) in
-        inr (
-          down,
-          clear s f row head.x (negsuc 0) s.a c d k low head.at (head.is.falling (omega (arith, signed_linear, down)))
-              (value_falling s down) l off aside,
-        )
+head_clear s f row c d k head low l off aside =
+    grind (arith, signed_linear, head, low, l, off, aside, sides, clear, value_rising, value_falling)
 
 head_within : (s : Span) (f : Frame) (r : ℕ) (c d : Reach) → AreMetBetween s f
     → IsPassing s f ((f.bottom -ℤ pos 1) +ℤ pos r) c → IsHanging s (height_of f r) → AreAtHead s f d
@@ -400,7 +331,11 @@ head_within s f r c d between low hangs head k l met =
 head_all : (s : Span) (f : Frame) (r : ℕ) (c d : Reach) → IsPassing s f ((f.bottom -ℤ pos 1) +ℤ pos r) c
     → IsHanging s (height_of f r) → AreAtHead s f d → AreAllMet s f r (min c.first d.first) (max c.end d.end)
 head_all s f r c d low hangs head k from to l off off' = record {
-  met = head_met (lower f r k) (upper f r k) s refl low.inner off (record { all = hangs.0; one = hangs.1 }) off' (by low.inner);
+  met = head_met (lower f r k) (upper f r k) s refl low.inner off (record { all = hangs.0; one = hangs.1 }) off'
+      (sides s (height_below f r) _ _ low.inner
+      (λ up. past s f row head.x (pos 1) s.c d c k low head.at (head.is.rising up) (value_rising s up) l off from' to')
+      (λ down. past s f row head.x (negsuc 0) s.a d c k low head.at (head.is.falling (omega (arith, signed_linear, down)))
+      (value_falling s down) l off from' to'));
   off_lower = off;
   off_upper = off';
 }
@@ -414,50 +349,24 @@ head_all s f r c d low hangs head k from to l off off' = record {
     to' : k < max d.end c.end
     to' = omega (arith, to)
 
-    by : IsInner s.a.y s.c.y (height_below f r) → ((s.a.y <ℤ s.c.y) × IsPastEnd s.c.x (pos 1) (lower f r k) s)
-        ⊎ ((s.c.y <ℤ s.a.y) × IsPastEnd s.a.x (negsuc 0) (lower f r k) s)
-    by (inl (u, v)) =
-        let up : s.a.y <ℤ s.c.y = omega (arith, signed_linear, u, v) in
-        inl (up, past s f row head.x (pos 1) s.c d c k low head.at (head.is.rising up) (value_rising s up) l off from' to')
-    by (inr (u, v)) =
-        let down : s.c.y <ℤ s.a.y = omega (arith, signed_linear, u, v) in
-        inr (
-          down,
-          past s f row head.x (negsuc 0) s.a d c k low head.at (head.is.falling (omega (arith, signed_linear, down)))
-              (value_falling s down) l off from' to',
-        )
-
 -- from the lower end to the upper one, between two rows
 -- these are the ends' places, in one order or the other
 ends_between : (s : Span) (x y z : ℤ) → IsFootX s x → IsHeadX s y → (IsBetween s.a.x s.c.x z → IsBetween x y z)
     × (IsBetween x y z → IsBetween s.a.x s.c.x z)
-ends_between s x y z foot head = (
-  λ b. grind (arith, signed_linear, below_or_not_ℤ s.a.y s.c.y),
-  λ b. grind (arith, signed_linear, below_or_not_ℤ s.a.y s.c.y),
-)
+ends_between s x y z foot head = grind (arith, signed_linear, foot, head)
 
 through_within : (s : Span) (f : Frame) (r : ℕ) (c d : Reach) → AreMetBetween s f → AreAtFoot s f c → AreAtHead s f d
     → AreMetWithin s f r (min c.first d.first) (max c.end d.end)
 through_within s f r c d between foot head k l met =
-    not_aside c.first d.first c.end d.end k (λ o. left (foot.at.left k o.0) (head.at.left k o.1))
-    (λ o. right (foot.at.right k o.0 l) (head.at.right k o.1 l))
-  where
-    is : IsBetween foot.x head.x (column_of f k)
-    is = (ends_between s foot.x head.x (column_of f k) foot.is head.is).0 (between r k l met)
-
-    left : column_of f k <ℤ foot.x → column_of f k <ℤ head.x → ⊥
-    left a b = omega (arith, signed_linear, is)
-
-    right : foot.x <ℤ column_of f k → head.x <ℤ column_of f k → ⊥
-    right a b = omega (arith, signed_linear, is)
+    grind (arith, signed_linear, between, foot, head, k, l, met, not_aside, ends_between)
 
 through_all : (s : Span) (f : Frame) (r : ℕ) (c d : Reach) → IsResting s (height_below f r) → AreAtFoot s f c
     → IsHanging s (height_of f r) → AreAtHead s f d → AreAllMet s f r (min c.first d.first) (max c.end d.end)
 through_all s f r c d rests foot hangs head k from to l off off' = record {
   met = through_met (lower f r k) (upper f r k) s refl (record { all = rests.0; one = rests.1 }) off
       (record { all = hangs.0; one = hangs.1 }) off'
-      ((ends_between s foot.x head.x x foot.is head.is).1 (by (below_or_not_ℤ foot.x x) (below_or_not_ℤ head.x x)
-      (below_or_not_ℤ x foot.x) (below_or_not_ℤ x head.x)));
+      ((ends_between s foot.x head.x x foot.is head.is).1
+      (grind (arith, signed_linear, before, after, below_or_not_ℤ x foot.x, below_or_not_ℤ x head.x)));
   off_lower = off;
   off_upper = off';
 }
@@ -479,106 +388,69 @@ through_all s f r c d rests foot hangs head k from to l off off' = record {
         each (inl i) = let h = foot.at.to k i in absurd (omega (arith, signed_linear, h, a))
         each (inr i) = let h = head.at.to k (omega (arith, to, i)) in absurd (omega (arith, signed_linear, h, b))
 
-    by : (foot.x <ℤ x) ⊎ (x ≤ℤ foot.x) → (head.x <ℤ x) ⊎ (x ≤ℤ head.x) → (x <ℤ foot.x) ⊎ (foot.x ≤ℤ x)
-        → (x <ℤ head.x) ⊎ (head.x ≤ℤ x) → IsBetween foot.x head.x x
-    by (inl a) (inl b) u v = absurd (after a b)
-    by (inl a) (inr b) u v = inl (omega (arith, signed_linear, a), b)
-    by (inr a) (inl b) u v = inr (omega (arith, signed_linear, b), a)
-    by (inr a) (inr b) (inr u) v = inl (u, b)
-    by (inr a) (inr b) (inl u) (inr v) = inr (v, a)
-    by (inr a) (inr b) (inl u) (inl v) = absurd (before u v)
-
 -- ---- all four
-pub level_of : (s : Span) (p : Placed) (r : ℕ) (c d : Reach) → ¬ (IsBulge s) → IsLow s p.frame r c → IsHigh s p.frame r d
-    → IsLevel s p r (min c.first d.first) (max c.end d.end)
-level_of s p r c d plain (inl low) (inl high) = record {
-  within = pass_within s p.frame r c d (met_between s p.frame plain) low high;
-  all = pass_met s p.frame r c d low high;
+pub comes_from : (s : Span) (f : Frame) (r : ℕ) (c : Reach) → ¬ (IsBulge s) → IsLow s f r c → ComesFrom s f r c
+comes_from s f r c plain (inl low) d (inl high) =
+    record { within = pass_within s f r c d (met_between s f plain) low high; all = pass_met s f r c d low high }
+comes_from s f r c plain (inl low) d (inr (hangs, head)) = record {
+  within = head_within s f r c d (met_between s f plain) low hangs head;
+  all = head_all s f r c d low hangs head;
 }
-level_of s p r c d plain (inl low) (inr (hangs, head)) = record {
-  within = head_within s p.frame r c d (met_between s p.frame plain) low hangs head;
-  all = head_all s p.frame r c d low hangs head;
+comes_from s f r c plain (inr (rests, foot)) d (inl high) = record {
+  within = foot_within s f r c d (met_between s f plain) rests foot high;
+  all = foot_all s f r c d rests foot high;
 }
-level_of s p r c d plain (inr (rests, foot)) (inl high) = record {
-  within = foot_within s p.frame r c d (met_between s p.frame plain) rests foot high;
-  all = foot_all s p.frame r c d rests foot high;
+comes_from s f r c plain (inr (rests, foot)) d (inr (hangs, head)) = record {
+  within = through_within s f r c d (met_between s f plain) foot head;
+  all = through_all s f r c d rests foot hangs head;
 }
-level_of s p r c d plain (inr (rests, foot)) (inr (hangs, head)) = record {
-  within = through_within s p.frame r c d (met_between s p.frame plain) foot head;
-  all = through_all s p.frame r c d rests foot hangs head;
-}
-
-pub comes_from : (s : Span) (p : Placed) (r : ℕ) (c : Reach) → ¬ (IsBulge s) → IsLow s p.frame r c → ComesFrom s p r c
-comes_from s p r c plain low d high = level_of s p r c d plain low high
-
--- the same row, by its number
-passing_on : (s : Span) (f : Frame) (row row' : ℤ) (c : Reach) → row ≡ row' → IsPassing s f row c → IsPassing s f row' c
-passing_on s f row row' c e = subst (λ (y : ℤ). IsPassing s f y c) e
-
-pub comes_passing : (s : Span) (p : Placed) (r : ℕ) (c : Reach) → ¬ (IsBulge s) → IsPassing s p.frame (p.frame.bottom +ℤ pos r) c
-    → ComesFrom s p (r + 1) c
-comes_passing s p r c plain h =
-    comes_from s p (r + 1) c plain (inl (passing_on s p.frame (p.frame.bottom +ℤ pos r)
-    ((p.frame.bottom -ℤ pos 1) +ℤ pos (r + 1)) c (omega (arith, signed_linear)) h))
-
-pub comes_passing_below : (s : Span) (p : Placed) (r : ℕ) (c : Reach) → ¬ (IsBulge s) → r ≡ 0
-    → IsPassing s p.frame (p.frame.bottom -ℤ pos 1) c → ComesFrom s p r c
-comes_passing_below s p r c plain e h =
-    comes_from s p r c plain (inl (passing_on s p.frame (p.frame.bottom -ℤ pos 1)
-    ((p.frame.bottom -ℤ pos 1) +ℤ pos r) c (omega (arith, signed_linear, e)) h))
-
--- the row above the band, which the piece passes
-pub goes_passing : (s : Span) (p : Placed) (r : ℕ) (c d : Reach) → ComesFrom s p r c
-    → IsPassing s p.frame (p.frame.bottom +ℤ pos r) d → IsLevel s p r (min c.first d.first) (max c.end d.end)
-goes_passing s p r c d comes h = comes d (inl h)
 
 -- ---- the levels of a band
 -- the height of a row, as code holds it
 pub height_kept : (row : ℤ) → IsWithin (2 ^ 16) row
     → to_z w32 (of_z w32 (to_z w32 (of_z w32 (pos 128 *ℤ to_z w32 (of_z w32 row))) +ℤ pos 64)) ≡ pos 128 *ℤ row +ℤ pos 64
-height_kept row h =
-    let own : to_z w32 (of_z w32 row) ≡ row = omega (arith, signed_linear, h) in
-    let times : to_z w32 (of_z w32 (pos 128 *ℤ row)) ≡ pos 128 *ℤ row = omega (arith, signed, h) in
-    let all : to_z w32 (of_z w32 (pos 128 *ℤ row +ℤ pos 64)) ≡ pos 128 *ℤ row +ℤ pos 64 = omega (arith, signed, h) in
-    (λ i. to_z w32 (of_z w32 (to_z w32 (of_z w32 (pos 128 *ℤ own i)) +ℤ pos 64)))
-    ∙ (λ i. to_z w32 (of_z w32 (times i +ℤ pos 64))) ∙ all
+height_kept row h = grind (arith, signed_linear, h)
+
+-- a row of the plane, as code holds it
+pub row_own : {x row : ℤ} → x ≡ row → IsPixelNumber x → to_z w32 (of_z w32 x) ≡ row
+row_own {x} {row} e near = omega (arith, signed_linear, e, near)
+
+-- the row below the next is this one
+pub row_next : (f : Frame) (r : ℕ) → f.bottom +ℤ pos r ≡ (f.bottom -ℤ pos 1) +ℤ pos (r + 1)
+row_next f r = omega (arith, signed_linear)
+
+height_next : (f : Frame) (r : ℕ) → height_of f r ≡ height_below f (r + 1)
+height_next f r = ap (λ (z : ℤ). pos 128 *ℤ z +ℤ pos 64) (row_next f r)
 
 -- the row below the first one that is above the lower end
-pub level_under : (s : Span) (f : Frame) (first : ℕ) → IsAtMostEnds s (pos 128 *ℤ (f.bottom -ℤ pos 1) +ℤ pos 64)
-    → ((r : ℕ) → r < first → IsAtMostEnds s (height_of f r)) → IsAtMostEnds s (height_below f first)
-level_under s f first below under = by first refl
+pub level_under : (s : Span) (f : Frame) (from first : ℕ) → from ≤ first → IsAtMostEnds s (height_below f from)
+    → ((r : ℕ) → from ≤ r → r < first → IsAtMostEnds s (height_of f r)) → IsAtMostEnds s (height_below f first)
+level_under s f from first l below under = by (below_or_not from first)
   where
-    lowest : (b : ℤ) (n : ℕ) → n ≡ 0 → pos 128 *ℤ (b -ℤ pos 1) +ℤ pos 64 ≡ pos 128 *ℤ ((b -ℤ pos 1) +ℤ pos n) +ℤ pos 64
-    lowest b n e =
-        let same : b -ℤ pos 1 ≡ (b -ℤ pos 1) +ℤ pos n = omega (arith, signed_linear, e) in
-        ap (λ (z : ℤ). pos 128 *ℤ z +ℤ pos 64) same
-
-    next : (b : ℤ) (j n : ℕ) → n ≡ suc j → pos 128 *ℤ (b +ℤ pos j) +ℤ pos 64 ≡ pos 128 *ℤ ((b -ℤ pos 1) +ℤ pos n) +ℤ pos 64
-    next b j n e =
-        let same : b +ℤ pos j ≡ (b -ℤ pos 1) +ℤ pos n = omega (arith, signed_linear, e) in
-        ap (λ (z : ℤ). pos 128 *ℤ z +ℤ pos 64) same
-
-    by : (n : ℕ) → first ≡ n → IsAtMostEnds s (height_below f first)
-    by zero e = subst (IsAtMostEnds s) (lowest f.bottom first e) below
-    by (suc j) e = subst (IsAtMostEnds s) (next f.bottom j first e) (under j (omega (arith, e)))
+    by : (from < first) ⊎ (first ≤ from) → IsAtMostEnds s (height_below f first)
+    by (inl k) =
+        let same : first - 1 + 1 ≡ first = omega (arith, k) in
+        subst (λ (n : ℕ). IsAtMostEnds s (height_below f n)) same
+        (subst (IsAtMostEnds s) (height_next f (first - 1)) (under (first - 1) (omega (arith, k)) (omega (arith, k))))
+    by (inr k) = let e : from ≡ first = omega (arith, k, l) in subst (λ (n : ℕ). IsAtMostEnds s (height_below f n)) e below
 
 -- if an end is below the row below the band, no row of the band is at or below the lower end
-pub first_row : (s : Span) (f : Frame) (first : ℕ) → IsOneUnder s (pos 128 *ℤ (f.bottom -ℤ pos 1) +ℤ pos 64)
-    → ((r : ℕ) → r < first → IsAtMostEnds s (height_of f r)) → first ≡ 0
-first_row s f first one under = by first refl
+pub first_row : (s : Span) (f : Frame) (from first : ℕ) → from ≤ first → IsOneUnder s (height_below f from)
+    → ((r : ℕ) → from ≤ r → r < first → IsAtMostEnds s (height_of f r)) → from ≡ first
+first_row s f from first l one under = by (below_or_not from first)
   where
-    none : IsOneUnder s (pos 128 *ℤ (f.bottom -ℤ pos 1) +ℤ pos 64) → IsAtMostEnds s (height_of f 0) → ⊥
+    none : IsOneUnder s (height_below f from) → IsAtMostEnds s (height_of f from) → ⊥
     none (inl l) h = let a = h.0 in absurd (omega (arith, signed, l, a))
     none (inr l) h = let a = h.1 in absurd (omega (arith, signed, l, a))
 
-    by : (n : ℕ) → first ≡ n → first ≡ 0
-    by zero e = e
-    by (suc j) e = absurd (none one (under 0 (omega (arith, e))))
+    by : (from < first) ⊎ (first ≤ from) → from ≡ first
+    by (inl k) = absurd (none one (under from (omega arith) k))
+    by (inr k) = omega (arith, k, l)
 
 -- if an end is above the row above those between the ends, that is no row of the band
-pub last_row : (s : Span) (f : Frame) (end : ℕ) → end ≤ f.height → IsOneOver s (height_of f end)
-    → (end < f.height → IsAtLeastEnds s (height_of f end)) → end ≡ f.height
-last_row s f end l one over = grind (arith, signed_linear, below_or_not end f.height)
+pub last_row : (s : Span) (f : Frame) (to end : ℕ) → end ≤ to → IsOneOver s (height_of f end)
+    → (end < to → IsAtLeastEnds s (height_of f end)) → end ≡ to
+last_row s f to end l one over = grind (arith, signed_linear, below_or_not end to)
 
 -- one end below a height, and one above it
 pub one_each : (s : Span) (y : ℤ) → IsOneUnder s y → IsOneOver s y → IsInner s.a.y s.c.y y
@@ -591,30 +463,20 @@ at_least_more s y z l h = omega (arith, signed_linear)
 pub over_row : (f : Frame) (e r : ℕ) → e < r → height_of f e ≤ℤ height_below f r
 over_row f e r l = omega (arith, signed, l)
 
-pub over_lowest : (f : Frame) (r : ℕ) → (pos 128 *ℤ (f.bottom -ℤ pos 1) +ℤ pos 64) ≤ℤ height_below f r
-over_lowest f r = omega (arith, signed)
+pub over_lowest : (f : Frame) (from r : ℕ) → from ≤ r → height_below f from ≤ℤ height_below f r
+over_lowest f from r l = omega (arith, signed, l)
 
 -- up to each row of a band: those up to the first between the ends, those between, that above them, and those further up
-pub all_levels : (s : Span) (f : Frame) (m : Met) (below : ℕ) (up : List ℕ) → ¬ (IsBulge s) → ¬ (IsOnLine s) → AreMet s f m
-    → ((r : ℕ) → m.inner.first ≤ r → r < m.inner.end → AreSetUp s f below up r)
-    → (m.inner.end < f.height → AreSetUp s f below up m.inner.end) → (r : ℕ) → r < f.height → AreSetUp s f below up r
-all_levels s f m below up plain off is inner top r l = by (below_or_not r m.inner.first) (below_same_above r m.inner.end)
+pub all_levels : (s : Span) (f : Frame) (from to : ℕ) (m : Met) (up : List ℕ) → ¬ (IsBulge s) → ¬ (IsOnLine s)
+    → AreMetIn s f from to m → ((r : ℕ) → m.inner.first ≤ r → r < m.inner.end → IsNotedUp s f up r) → IsNotedUp s f up m.inner.end
+    → (r : ℕ) → from ≤ r → r ≤ to → IsNotedUp s f up r
+all_levels s f from to m up plain off is inner top r h l = by (below_or_not r m.inner.first) (below_same_above r m.inner.end)
   where
     by : (r < m.inner.first) ⊎ (m.inner.first ≤ r) → (r < m.inner.end) ⊎ ((r ≡ m.inner.end) ⊎ (m.inner.end < r))
-        → AreSetUp s f below up r
-    by (inl a) b = set_under s f below r up plain off (is.under r a)
+        → IsNotedUp s f up r
+    by (inl a) b = set_under s f r up plain off (is.under r h a)
     by (inr a) (inl b) = inner r a b
-    by (inr a) (inr (inl b)) = subst (AreSetUp s f below up) (sym b) (top (omega (arith, b, l)))
-    by (inr a) (inr (inr b)) = set_over s f below r up plain off
+    by (inr a) (inr (inl b)) = subst (IsNotedUp s f up) (sym b) top
+    by (inr a) (inr (inr b)) = set_over s f r up plain off
         (at_least_more s (height_of f m.inner.end) (height_below f r) (over_row f m.inner.end r b)
         (is.over m.inner.end (omega arith) (omega (arith, b, l))))
-
-pub top_level : (s : Span) (f : Frame) (m : Met) (below : ℕ) (up : List ℕ) → ¬ (IsBulge s) → ¬ (IsOnLine s) → AreMet s f m
-    → AreSetUp s f below up m.inner.end → m.inner.end ≤ f.height → AreSetUp s f below up f.height
-top_level s f m below up plain off is top l = by (below_or_not m.inner.end f.height)
-  where
-    by : (m.inner.end < f.height) ⊎ (f.height ≤ m.inner.end) → AreSetUp s f below up f.height
-    by (inl a) = set_over s f below f.height up plain off
-        (at_least_more s (height_of f m.inner.end) (height_below f f.height) (over_row f m.inner.end f.height a)
-        (is.over m.inner.end (omega arith) a))
-    by (inr a) = let e : m.inner.end ≡ f.height = omega (arith, a, l) in subst (AreSetUp s f below up) e top

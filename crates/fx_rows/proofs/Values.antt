@@ -1,4 +1,4 @@
--- A value that rises evenly, at a column, as code adds it.
+-- A value that rises evenly is, at each column, what the code's sums and products of words give: `value_held`.
 -- Serves `is_left`, `is_zero_at` and `moved`.
 use Rattle.std.proofs.Common.{◌≡◌, ◌∙◌, ℕ, ◌^◌, ◌<◌, ℤ, pos, ◌+ℤ◌, ◌*ℤ◌, FitsSigned, arith, w64, to_z, of_z}
 use Rattle.std.proofs.lemmas.Int.{to_z-of_z}

@@ -6,6 +6,7 @@ pub mod Sides
 pub mod Arcs
 pub mod Candidates
 pub mod Cuts
+pub mod Walks
 pub mod Inside
 pub mod Sums
 pub mod Bands
@@ -14,6 +15,5 @@ pub mod Told
 pub mod Telling
 pub mod Placing
 pub mod Upward
-pub mod Segments
 pub mod Lines
 pub mod Bulging

@@ -2,7 +2,7 @@
 
 ghost use Rattle.std.specs.Prelude.{◌≡◌, ℕ, ◌+◌, ◌-◌, ◌*◌, ◌^◌, ◌<◌, ◌≤◌, pos, ◌+ℤ◌, ◌<ℤ◌, Some};
 ghost use Rattle.fx_winding.specs.Winding.{Span, span_of};
-ghost use Rattle.fx_rows.specs.inner.Arcs.{AreAreas};
+ghost use Rattle.fx_rows.specs.Parts.{IsBent};
 ghost use Rattle.fx_rows.specs.inner.Placing.{AreBetween, AreMet};
 ghost use Rattle.fx_rows.specs.inner.Strips.{base_place};
 ghost use Rattle.fx_rows.specs.inner.Sides.{place_at};
@@ -12,21 +12,20 @@ ghost use Rattle.fx_rows.specs.inner.Sums.{AreWithin};
 ghost use Rattle.fx_rows.specs.inner.Bands.{stride, AreInner, IsRowAdded, IsBandAdded, bounded_span};
 ghost use Rattle.fx_rows.specs.inner.Telling.{AreRowsAdded, Keeps};
 
-use crate::arc::total_of;
 use crate::band::Band;
 use crate::bounded::{Bounded, bounds_of, rise_of};
 use crate::cells::Cut;
 use crate::chord::base_side;
 use crate::counts::{add_before, add_run};
-use crate::cuts::{ArcCuts, ClearCuts, Cuts, FlatCuts, LineCuts};
+use crate::cuts::{ClearCuts, Cuts, LineCuts};
 use crate::heights::{Met, RowRange, rows_between, rows_met};
 use crate::intervals::met_part;
 use crate::marks::mark;
 use crate::noting::Noting;
 use crate::part::Run;
-use crate::rest::is_right;
 use crate::strip::{Strip, areas_at, row_of, strip_of};
-use fx_winding::{Piece, Point, Tally, Weights};
+use crate::walk::arc_in;
+use fx_winding::{Piece, Point, Tally};
 
 /// Adds what a piece gives to a row, in the general way.
 #[tactic(auto, using(fx_fixed::proofs::Linear::signed_linear))]
@@ -137,35 +136,27 @@ fn add_cuts<C: Cuts + Drop, N: Noting>(
     }
 }
 
-/// Adds what an arc gives to rows between its ends.
-fn add_curve_rows<N: Noting>(
+/// Adds what a line gives to rows between its ends, or an arc whose points are on one.
+fn add_line_rows<N: Noting>(
     bounded: &Bounded,
-    b: Point,
     rows: RowRange,
     strip: Strip,
-    areas: Weights,
     band: &mut Band,
     noter: &mut N,
     tally: &mut Tally,
 )
-    requires middle { bounded.now.piece.b ≡ Some b }
-    requires some { rows.first < rows.end }
+    requires straight { ¬ (IsBent (bounded_span bounded.now)) }
     requires rows { rows.end ≤ band.old.frame.height }
     requires inner { AreInner bounded.now band.old.frame rows.first rows.end }
     requires base { place_at strip 0 ≡ base_place band.old.frame rows.first }
-    requires areas { AreAreas (bounded_span bounded.now) (place_at strip 0) areas }
     requires small { AreWithin (2 ^ 25 + 4 * rows.first) band.old.diff.items }
     ensures added { AreRowsAdded (N.IsTold noter.new) (bounded_span bounded.now) rows.first rows.end band.old band.new }
     ensures kept { Keeps (N.Says noter.old) (N.Says noter.new) }
-    ensures count { tally.new.count ≤ tally.old.count + 10 * (rows.end - rows.first) }
+    ensures count { tally.new.count ≤ tally.old.count + (1 + (rows.end - rows.first)) }
 {
-    let total = total_of(areas);
-    if total == 0 {
-        return add_cuts(bounded, FlatCuts { b, areas }, rows, band, noter, tally);
-    }
-    let right = is_right(&bounded.piece, total);
-    let cuts = ArcCuts::from_lowest(bounded, b, right, areas, strip, band.frame);
-    add_cuts(bounded, cuts, rows, band, noter, tally);
+    let areas = areas_at(&bounded.piece, strip, 0, tally);
+    let side = base_side(&bounded.piece, strip, areas);
+    add_cuts(bounded, LineCuts { side }, rows, band, noter, tally);
 }
 
 /// Adds what a piece gives to rows between its ends.
@@ -189,13 +180,9 @@ fn add_inner_rows<N: Noting>(
         return add_cuts(bounded, ClearCuts, rows, band, noter, tally);
     }
     let strip = strip_of(band.frame, row_of(band.frame, rows.first));
-    let areas = areas_at(&bounded.piece, strip, 0, tally);
-    match bounded.piece.b {
-        None => {
-            let side = base_side(&bounded.piece, strip, areas);
-            add_cuts(bounded, LineCuts { side }, rows, band, noter, tally);
-        }
-        Some(b) => add_curve_rows(bounded, b, rows, strip, areas, band, noter, tally),
+    match arc_in(&bounded.piece, strip, tally) {
+        Some(cuts) => add_cuts(bounded, cuts, rows, band, noter, tally),
+        None => add_line_rows(bounded, rows, strip, band, noter, tally),
     }
 }
 

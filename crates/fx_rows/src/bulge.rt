@@ -7,21 +7,24 @@ ghost use Rattle.fx_rows.specs.inner.Bulging.{HasLine, IsLineTo, IsLineFrom, IsB
 ghost use Rattle.fx_winding.specs.Frames.{HasMargin, IsFrom};
 ghost use Rattle.fx_winding.specs.Notes.{IsNotedAcross, IsNotedUp};
 ghost use Rattle.fx_winding.specs.Winding.{Span, span_of};
-ghost use Rattle.fx_rows.specs.inner.Bands.{bounded_span};
-ghost use Rattle.fx_rows.specs.inner.Heights.{height_of};
-ghost use Rattle.fx_rows.specs.inner.Points.{IsInner};
+ghost use Rattle.fx_rows.specs.inner.Bands.{bounded_span, AreInner};
+ghost use Rattle.fx_rows.specs.inner.Strips.{base_place};
 ghost use Rattle.fx_rows.specs.inner.Lines.{AreOnly, AreRowsSet, AreSetIn, IsLineBit, IsRowSet, IsRowsBit};
 ghost use Rattle.fx_rows.specs.inner.Telling.{AreMetBySome, IsAmong};
 ghost use Rattle.fx_rows.specs.inner.Told.{AreKept};
 
 use crate::apart::has_columns;
 use crate::bounded::{Bounded, bounds_of, rise_of};
+use crate::chord::base_side;
+use crate::cuts::{Cuts, LineCuts};
 use crate::heights::{RowRange, rows_between, rows_met};
 use crate::intervals::met_part;
-use crate::line::{Line, note_end, note_first, note_last, note_run, note_tip, set_segment};
+use crate::noted_row::{
+    NotedRow, note_end, note_first, note_last, note_run, note_tip, set_segment,
+};
 use crate::part::Run;
-use crate::passing::end_in;
-use crate::strip::row_of;
+use crate::strip::{areas_at, row_of, strip_of};
+use crate::walk::arc_in;
 use fx_winding::{Frame, Notes, Piece, Point, Tally, first_from, words_noted};
 
 /// Whether a line of centres comes from x on and up to y.
@@ -105,7 +108,7 @@ pub(crate) fn is_bulge(piece: &Piece) -> bool
 }
 
 /// Notes the segments of a row that a piece meets.
-pub(crate) fn note_line(bounded: &Bounded, line: Line, bits: &mut [u32], tally: &mut Tally)
+pub(crate) fn note_line(bounded: &Bounded, line: NotedRow, bits: &mut [u32], tally: &mut Tally)
     requires row { IsFrom line.frame.bottom line.frame.height line.row }
     requires room { line.first + line.frame.width * line.step < 32 * length bits.old }
     ensures noted { IsRowSet (bounded_span bounded.now) line.frame line.row line.first line.step bits.new }
@@ -126,7 +129,7 @@ pub(crate) fn note_line(bounded: &Bounded, line: Line, bits: &mut [u32], tally: 
 
 /// Notes the segments of some rows of a frame that a piece meets. The bits of a row begin `row_step` bits after those of the row
 /// below.
-fn note_met_lines(
+pub(crate) fn note_met_lines(
     bounded: &Bounded,
     rows: RowRange,
     frame: Frame,
@@ -148,7 +151,7 @@ fn note_met_lines(
 {
     // The segments of the rows before `up` are noted.
     'rows: for up in rows.first..rows.end {
-        let line = Line {
+        let line = NotedRow {
             frame,
             row: row_of(frame, up),
             first: up as usize * row_step,
@@ -158,7 +161,51 @@ fn note_met_lines(
     }
 }
 
-/// Notes the segments that a piece meets in rows of a frame that are between its ends: in each the one where it passes.
+/// Notes the segments that a piece meets in rows of a frame that are between its ends, each before the end of a cut. It is compiled
+/// once for each kind of cuts.
+fn note_cuts<C: Cuts + Drop>(
+    bounded: &Bounded,
+    cuts: C,
+    rows: RowRange,
+    frame: Frame,
+    row_step: usize,
+    step: usize,
+    bits: &mut [u32],
+    tally: &mut Tally,
+)
+    requires margin { HasMargin frame }
+    requires rows { rows.end ≤ frame.height }
+    requires inner { AreInner bounded.now frame rows.first rows.end }
+    requires at { C.AreAt cuts bounded.now (base_place frame rows.first) }
+    requires low { frame.left ≤ℤ bounded.now.across.first }
+    requires high { bounded.now.across.end ≤ℤ (frame.left +ℤ pos frame.width) }
+    requires row_few { row_step ≤ 2 ^ 16 }
+    requires few { step ≤ 2 ^ 16 }
+    requires room { (r : ℕ) → r < frame.height → r * row_step + frame.width * step < 32 * length bits.old }
+    ensures noted { (r : ℕ) → rows.first ≤ r → r < rows.end →
+        AreSetIn (bounded_span bounded.now) frame r (r * row_step) step bits.new }
+    ensures kept { AreKept bits.old bits.new }
+    ensures only { AreOnly (IsRowsBit (bounded_span bounded.now) frame row_step step) bits.old bits.new }
+    ensures count { tally.new.count ≤ tally.old.count + (rows.end - rows.first) }
+{
+    let mut cuts = cuts;
+    // The segments of the rows before `up` are noted, and the cuts stand at this row.
+    'rows: for up in rows.first..rows.end {
+        let row = row_of(frame, up);
+        let strip = strip_of(frame, row);
+        let cut = cuts.cut(bounded, strip, tally);
+        let line = NotedRow {
+            frame,
+            row,
+            first: up as usize * row_step,
+            step,
+        };
+        set_segment(line, cut.end.saturating_sub(strip.start), bits);
+        cuts.move_up(bounded, strip);
+    }
+}
+
+/// Notes the segments that a piece meets in rows of a frame that are between its ends.
 fn note_passed_lines(
     bounded: &Bounded,
     rows: RowRange,
@@ -170,8 +217,7 @@ fn note_passed_lines(
 )
     requires margin { HasMargin frame }
     requires rows { rows.end ≤ frame.height }
-    requires inner { (r : ℕ) → rows.first ≤ r → r < rows.end →
-        IsInner bounded.now.piece.a.y bounded.now.piece.c.y (height_of frame r) }
+    requires inner { AreInner bounded.now frame rows.first rows.end }
     requires low { frame.left ≤ℤ bounded.now.across.first }
     requires high { bounded.now.across.end ≤ℤ (frame.left +ℤ pos frame.width) }
     requires row_few { row_step ≤ 2 ^ 16 }
@@ -181,20 +227,29 @@ fn note_passed_lines(
         AreSetIn (bounded_span bounded.now) frame r (r * row_step) step bits.new }
     ensures kept { AreKept bits.old bits.new }
     ensures only { AreOnly (IsRowsBit (bounded_span bounded.now) frame row_step step) bits.old bits.new }
-    ensures count { tally.new.count ≤ tally.old.count + 2 * (rows.end - rows.first) }
+    ensures count { tally.new.count ≤ tally.old.count + 3 * (rows.end - rows.first) }
 {
-    // The segments of the rows before `up` are noted.
-    'rows: for up in rows.first..rows.end {
-        let row = row_of(frame, up);
-        let line = Line {
-            frame,
-            row,
-            first: up as usize * row_step,
-            step,
-        };
-        let end = end_in(bounded, frame, row, tally);
-        set_segment(line, end, bits);
+    if rows.first >= rows.end {
+        return;
     }
+    let piece = &bounded.piece;
+    let strip = strip_of(frame, row_of(frame, rows.first));
+    if let Some(cuts) = arc_in(piece, strip, tally) {
+        note_cuts(bounded, cuts, rows, frame, row_step, step, bits, tally);
+        return;
+    }
+    let areas = areas_at(piece, strip, 0, tally);
+    let side = base_side(piece, strip, areas);
+    note_cuts(
+        bounded,
+        LineCuts { side },
+        rows,
+        frame,
+        row_step,
+        step,
+        bits,
+        tally,
+    );
 }
 
 /// Notes the segments of a frame's rows that a piece meets.

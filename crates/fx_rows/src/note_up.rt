@@ -7,43 +7,39 @@ ghost use Rattle.std.specs.Prelude.{◌≡◌, ◌⊎◌, ℕ, ℤ, ◌+◌, ◌
 ghost use Rattle.std.specs.Prelude.{IsTrue, min, max, false};
 ghost use Rattle.fx_fixed.specs.Ranges.{IsWithin};
 ghost use Rattle.fx_winding.specs.Limits.{IsPixelNumber};
-ghost use Rattle.fx_winding.specs.Notes.{words_noted};
+ghost use Rattle.fx_winding.specs.Notes.{words_noted, IsNotedUp};
 ghost use Rattle.fx_winding.specs.Winding.{Span, span_of};
 ghost use Rattle.fx_rows.specs.inner.Bulging.{IsBulge, IsOnLine};
-ghost use Rattle.fx_rows.specs.inner.Heights.{IsAtLeastEnds, IsAtMostEnds, IsOneOver, IsOneUnder};
-ghost use Rattle.fx_rows.specs.inner.Lines.{AreOnly};
-ghost use Rattle.fx_rows.specs.inner.Placing.{IsPlaced};
+ghost use Rattle.fx_rows.specs.inner.Heights.{height_of, IsAtLeastEnds, IsAtMostEnds, IsOneOver, IsOneUnder};
+ghost use Rattle.fx_rows.specs.inner.Lines.{AreOnly, IsUpBit};
+ghost use Rattle.fx_rows.specs.inner.Placing.{AreEndsTold, IsInBand};
 ghost use Rattle.fx_rows.specs.inner.Points.{IsInner};
-ghost use Rattle.fx_rows.specs.inner.Segments.{AreSetUp, IsUpBit};
-ghost use Rattle.fx_rows.specs.inner.Telling.{AreRowsTold};
-ghost use Rattle.fx_rows.specs.inner.Told.{AreKept, IsEndIn};
-ghost use Rattle.fx_rows.specs.inner.Upward.{AreAllMet, AreAt, AreAtFoot, AreAtHead, AreMetWithin, ComesFrom};
+ghost use Rattle.fx_rows.specs.inner.Told.{AreKept};
+ghost use Rattle.fx_rows.specs.inner.Upward.{height_below, AreAllMet, AreAt, AreAtFoot, AreAtHead, AreMetWithin, ComesFrom};
 ghost use Rattle.fx_rows.specs.inner.Upward.{IsLevel, IsPassing};
 
 use crate::bounded::{bounds_of, foot_x, head_x, rise_of};
 use crate::bulge::has_line;
 use crate::marks::set_bits;
 use crate::passing::end_in;
-use crate::placed::{Placed, first_of, row_above, row_below};
+use crate::piece_in_band::{PieceInBand, first_of, row_above, row_below};
 use crate::reach::{Reach, columns_to};
 use fx_winding::{Frame, Piece, Tally, first_from};
 
 /// Notes the segments up to a row in some columns.
 #[inline(always)]
-fn note_columns(placed: Placed, row: u32, columns: Reach, up: &mut [u32])
-    requires row { row ≤ placed.frame.height }
-    requires columns { columns.end ≤ placed.frame.width }
-    requires room { placed.below + (placed.frame.height + 1) * words_noted placed.frame.width ≤ length up.old }
-    ensures noted { (s : Span) → AreMetWithin s placed.frame row columns.first columns.end →
-        AreSetUp s placed.frame placed.below up.new row }
-    ensures only { (s : Span) → AreAllMet s placed.frame row columns.first columns.end →
-        AreOnly (IsUpBit s placed) up.old up.new }
+fn note_columns(frame: Frame, row: u32, columns: Reach, up: &mut [u32])
+    requires row { row ≤ frame.height }
+    requires columns { columns.end ≤ frame.width }
+    requires room { length up.old ≡ (frame.height + 1) * words_noted frame.width }
+    ensures noted { (s : Span) → AreMetWithin s frame row columns.first columns.end → IsNotedUp s frame up.new row }
+    ensures only { (s : Span) → AreAllMet s frame row columns.first columns.end → AreOnly (IsUpBit s frame) up.old up.new }
     ensures kept { AreKept up.old up.new }
 {
     if columns.end <= columns.first {
         return;
     }
-    let first = first_of(placed, row);
+    let first = first_of(frame, row);
     set_bits(
         up,
         first + columns.first as usize,
@@ -73,8 +69,8 @@ fn columns_at(frame: Frame, x: i32) -> Reach
 
 /// The columns at the lower end of a piece.
 #[inline(always)]
-fn foot_columns(piece: &Piece, placed: Placed) -> Reach
-    requires { IsPlaced (span_of piece.now) placed }
+fn foot_columns(piece: &Piece, placed: PieceInBand) -> Reach
+    requires { IsInBand (span_of piece.now) placed }
     ensures { AreAtFoot (span_of piece.now) placed.frame result }
 {
     columns_at(placed.frame, foot_x(piece))
@@ -82,8 +78,8 @@ fn foot_columns(piece: &Piece, placed: Placed) -> Reach
 
 /// The columns at the upper end of a piece.
 #[inline(always)]
-fn head_columns(piece: &Piece, placed: Placed) -> Reach
-    requires { IsPlaced (span_of piece.now) placed }
+fn head_columns(piece: &Piece, placed: PieceInBand) -> Reach
+    requires { IsInBand (span_of piece.now) placed }
     ensures { AreAtHead (span_of piece.now) placed.frame result }
 {
     columns_at(placed.frame, head_x(piece))
@@ -151,12 +147,12 @@ fn is_under(piece: &Piece, row: i32) -> bool
 /// Whether no end of a piece is below the centres of the row below a band. If a row of the band is below those between the ends,
 /// that is known.
 #[inline(always)]
-fn starts_in(piece: &Piece, placed: Placed) -> bool
-    requires { IsPlaced (span_of piece.now) placed }
-    ensures over { IsTrue result → IsAtMostEnds (span_of piece.now) (pos 128 *ℤ (placed.frame.bottom -ℤ pos 1) +ℤ pos 64) }
-    ensures below { result ≡ false → IsOneUnder (span_of piece.now) (pos 128 *ℤ (placed.frame.bottom -ℤ pos 1) +ℤ pos 64) }
+fn starts_in(piece: &Piece, placed: PieceInBand) -> bool
+    requires { IsInBand (span_of piece.now) placed }
+    ensures over { IsTrue result → IsAtMostEnds (span_of piece.now) (height_below placed.frame placed.rows.first) }
+    ensures below { result ≡ false → IsOneUnder (span_of piece.now) (height_below placed.frame placed.rows.first) }
 {
-    if placed.met.inner.first > 0 {
+    if placed.met.inner.first > placed.rows.first {
         return true;
     }
     is_over(piece, row_below(placed))
@@ -164,12 +160,12 @@ fn starts_in(piece: &Piece, placed: Placed) -> bool
 
 /// Whether no end of a piece is above the centres of the row below a band.
 #[inline(always)]
-fn lies_under(piece: &Piece, placed: Placed) -> bool
-    requires { IsPlaced (span_of piece.now) placed }
-    ensures under { IsTrue result → IsAtLeastEnds (span_of piece.now) (pos 128 *ℤ (placed.frame.bottom -ℤ pos 1) +ℤ pos 64) }
-    ensures above { result ≡ false → IsOneOver (span_of piece.now) (pos 128 *ℤ (placed.frame.bottom -ℤ pos 1) +ℤ pos 64) }
+fn lies_under(piece: &Piece, placed: PieceInBand) -> bool
+    requires { IsInBand (span_of piece.now) placed }
+    ensures under { IsTrue result → IsAtLeastEnds (span_of piece.now) (height_below placed.frame placed.rows.first) }
+    ensures above { result ≡ false → IsOneOver (span_of piece.now) (height_below placed.frame placed.rows.first) }
 {
-    if placed.met.inner.first > 0 {
+    if placed.met.inner.first > placed.rows.first {
         return false;
     }
     is_under(piece, row_below(placed))
@@ -177,14 +173,12 @@ fn lies_under(piece: &Piece, placed: Placed) -> bool
 
 /// Whether no end of a piece is above the centres of the row above those between its ends. If the band has that row, it is so.
 #[inline(always)]
-fn ends_in(piece: &Piece, placed: Placed) -> bool
-    requires { IsPlaced (span_of piece.now) placed }
-    ensures under { IsTrue result →
-        IsAtLeastEnds (span_of piece.now) (pos 128 *ℤ (placed.frame.bottom +ℤ pos placed.met.inner.end) +ℤ pos 64) }
-    ensures above { result ≡ false →
-        IsOneOver (span_of piece.now) (pos 128 *ℤ (placed.frame.bottom +ℤ pos placed.met.inner.end) +ℤ pos 64) }
+fn ends_in(piece: &Piece, placed: PieceInBand) -> bool
+    requires { IsInBand (span_of piece.now) placed }
+    ensures under { IsTrue result → IsAtLeastEnds (span_of piece.now) (height_of placed.frame placed.met.inner.end) }
+    ensures above { result ≡ false → IsOneOver (span_of piece.now) (height_of placed.frame placed.met.inner.end) }
 {
-    if placed.met.inner.end < placed.frame.height {
+    if placed.met.inner.end < placed.rows.end {
         return true;
     }
     is_under(piece, row_above(placed))
@@ -192,14 +186,13 @@ fn ends_in(piece: &Piece, placed: Placed) -> bool
 
 /// Whether no end of a piece is below the centres of the row above a band, if no row of the band is above those between the ends.
 #[inline(always)]
-fn lies_over(piece: &Piece, placed: Placed) -> bool
-    requires { IsPlaced (span_of piece.now) placed }
-    ensures over { IsTrue result →
-        IsAtMostEnds (span_of piece.now) (pos 128 *ℤ (placed.frame.bottom +ℤ pos placed.met.inner.end) +ℤ pos 64) }
-    ensures below { result ≡ false → placed.met.inner.end ≡ placed.frame.height →
-        IsOneUnder (span_of piece.now) (pos 128 *ℤ (placed.frame.bottom +ℤ pos placed.met.inner.end) +ℤ pos 64) }
+fn lies_over(piece: &Piece, placed: PieceInBand) -> bool
+    requires { IsInBand (span_of piece.now) placed }
+    ensures over { IsTrue result → IsAtMostEnds (span_of piece.now) (height_of placed.frame placed.met.inner.end) }
+    ensures below { result ≡ false → placed.met.inner.end ≡ placed.rows.end →
+        IsOneUnder (span_of piece.now) (height_of placed.frame placed.met.inner.end) }
 {
-    if placed.met.inner.end < placed.frame.height {
+    if placed.met.inner.end < placed.rows.end {
         return false;
     }
     is_over(piece, row_above(placed))
@@ -219,13 +212,13 @@ fn is_on_line(piece: &Piece) -> bool
 
 /// The columns from which a piece comes up to the lowest row of a band that is between its ends, or to the lowest one above it.
 #[inline(always)]
-fn columns_below(piece: &Piece, placed: Placed, tally: &mut Tally) -> Reach
-    requires placed { IsPlaced (span_of piece.now) placed }
+fn columns_below(piece: &Piece, placed: PieceInBand, tally: &mut Tally) -> Reach
+    requires placed { IsInBand (span_of piece.now) placed }
     requires plain { ¬ (IsBulge (span_of piece.now)) }
     requires off { ¬ (IsOnLine (span_of piece.now)) }
-    requires over { IsOneOver (span_of piece.now) (pos 128 *ℤ (placed.frame.bottom -ℤ pos 1) +ℤ pos 64) }
+    requires over { IsOneOver (span_of piece.now) (height_below placed.frame placed.rows.first) }
     ensures columns { result.end ≤ placed.frame.width }
-    ensures from { ComesFrom (span_of piece.now) placed placed.met.inner.first result }
+    ensures from { ComesFrom (span_of piece.now) placed.frame placed.met.inner.first result }
     ensures count { tally.new.count ≤ tally.old.count + 2 }
 {
     if starts_in(piece, placed) {
@@ -236,15 +229,15 @@ fn columns_below(piece: &Piece, placed: Placed, tally: &mut Tally) -> Reach
 
 /// The columns to which a piece goes up to the row above those between its ends.
 #[inline(always)]
-fn columns_above(piece: &Piece, placed: Placed, tally: &mut Tally) -> Reach
-    requires placed { IsPlaced (span_of piece.now) placed }
+fn columns_above(piece: &Piece, placed: PieceInBand, tally: &mut Tally) -> Reach
+    requires placed { IsInBand (span_of piece.now) placed }
     requires plain { ¬ (IsBulge (span_of piece.now)) }
     requires off { ¬ (IsOnLine (span_of piece.now)) }
-    requires under { placed.met.inner.end ≡ placed.frame.height →
-        IsOneUnder (span_of piece.now) (pos 128 *ℤ (placed.frame.bottom +ℤ pos placed.met.inner.end) +ℤ pos 64) }
+    requires under { placed.met.inner.end ≡ placed.rows.end →
+        IsOneUnder (span_of piece.now) (height_of placed.frame placed.met.inner.end) }
     ensures columns { result.end ≤ placed.frame.width }
-    ensures to { (low : Reach) → ComesFrom (span_of piece.now) placed placed.met.inner.end low →
-        IsLevel (span_of piece.now) placed placed.met.inner.end (min low.first result.first) (max low.end result.end) }
+    ensures to { (low : Reach) → ComesFrom (span_of piece.now) placed.frame placed.met.inner.end low →
+        IsLevel (span_of piece.now) placed.frame placed.met.inner.end (min low.first result.first) (max low.end result.end) }
     ensures count { tally.new.count ≤ tally.old.count + 2 }
 {
     if ends_in(piece, placed) {
@@ -253,65 +246,59 @@ fn columns_above(piece: &Piece, placed: Placed, tally: &mut Tally) -> Reach
     columns_passed(piece, placed.frame, row_above(placed), tally)
 }
 
-/// Whether the segments up to the row above those between a piece's ends are those of the next band.
-#[inline(always)]
-fn leaves_band(placed: Placed) -> bool
-    ensures leaves { IsTrue result → placed.met.inner.end ≡ placed.frame.height }
-    ensures next { IsTrue result → placed.highest ≡ false }
-{
-    if placed.met.inner.end < placed.frame.height {
-        return false;
-    }
-    !placed.highest
-}
-
 /// Notes the segments that a piece meets up to the rows between its ends. Returns the columns from which it comes up to the row
 /// above them.
 #[inline(always)]
-fn note_passage(piece: &Piece, placed: Placed, ends: &[u32], low: Reach, up: &mut [u32]) -> Reach
-    requires placed { IsPlaced (span_of piece.now) placed }
+fn note_passage(
+    piece: &Piece,
+    placed: PieceInBand,
+    ends: &[u32],
+    low: Reach,
+    up: &mut [u32],
+) -> Reach
+    requires placed { IsInBand (span_of piece.now) placed }
     requires plain { ¬ (IsBulge (span_of piece.now)) }
     requires off { ¬ (IsOnLine (span_of piece.now)) }
-    requires told { AreRowsTold (IsEndIn ends.now) (span_of piece.now) placed.frame 0 placed.frame.height }
-    requires room { placed.below + (placed.frame.height + 1) * words_noted placed.frame.width ≤ length up.old }
+    requires told { AreEndsTold ends.now (span_of piece.now) placed }
+    requires room { length up.old ≡ (placed.frame.height + 1) * words_noted placed.frame.width }
     requires columns { low.end ≤ placed.frame.width }
-    requires from { ComesFrom (span_of piece.now) placed placed.met.inner.first low }
+    requires from { ComesFrom (span_of piece.now) placed.frame placed.met.inner.first low }
     ensures columns { result.end ≤ placed.frame.width }
-    ensures from { ComesFrom (span_of piece.now) placed placed.met.inner.end result }
+    ensures from { ComesFrom (span_of piece.now) placed.frame placed.met.inner.end result }
     ensures noted { (r : ℕ) → placed.met.inner.first ≤ r → r < placed.met.inner.end →
-        AreSetUp (span_of piece.now) placed.frame placed.below up.new r }
-    ensures only { AreOnly (IsUpBit (span_of piece.now) placed) up.old up.new }
+        IsNotedUp (span_of piece.now) placed.frame up.new r }
+    ensures only { AreOnly (IsUpBit (span_of piece.now) placed.frame) up.old up.new }
     ensures kept { AreKept up.old up.new }
 {
     let inner = placed.met.inner;
     let mut low = low;
     // The segments up to the rows before `row` are noted, and `low` is the columns from which the piece comes to this one.
     'rows: for row in inner.first..inner.end {
-        let end = ends[row as usize];
+        let at = (row - placed.rows.first) as usize;
+        let end = ends[at];
         let high = Reach { first: end, end };
-        note_columns(placed, row, joined(low, high), up);
+        note_columns(placed.frame, row, joined(low, high), up);
         low = high;
     }
     low
 }
 
-/// Notes the segments that a piece meets up to a band's rows, and of the highest band also those from its highest row up. `ends`
-/// has a number for each row of the band: in a row between the piece's ends it is the column where the piece passes.
+/// Notes the segments that a piece meets up to a band's rows, and from its highest row up. `ends` has a number for each row of the
+/// band: in a row between the piece's ends it is the column where the piece passes.
 #[inline(always)]
 pub(crate) fn note_up(
     piece: &Piece,
-    placed: Placed,
+    placed: PieceInBand,
     ends: &[u32],
     up: &mut [u32],
     tally: &mut Tally,
 )
-    requires placed { IsPlaced (span_of piece.now) placed }
+    requires placed { IsInBand (span_of piece.now) placed }
     requires plain { ¬ (IsBulge (span_of piece.now)) }
-    requires told { AreRowsTold (IsEndIn ends.now) (span_of piece.now) placed.frame 0 placed.frame.height }
-    requires room { placed.below + (placed.frame.height + 1) * words_noted placed.frame.width ≤ length up.old }
-    ensures noted { (r : ℕ) → r < placed.frame.height → AreSetUp (span_of piece.now) placed.frame placed.below up.new r }
-    ensures top { IsTrue placed.highest → AreSetUp (span_of piece.now) placed.frame placed.below up.new placed.frame.height }
-    ensures only { AreOnly (IsUpBit (span_of piece.now) placed) up.old up.new }
+    requires told { AreEndsTold ends.now (span_of piece.now) placed }
+    requires room { length up.old ≡ (placed.frame.height + 1) * words_noted placed.frame.width }
+    ensures noted { (r : ℕ) → placed.rows.first ≤ r → r ≤ placed.rows.end → IsNotedUp (span_of piece.now) placed.frame up.new r }
+    ensures only { AreOnly (IsUpBit (span_of piece.now) placed.frame) up.old up.new }
     ensures kept { AreKept up.old up.new }
     ensures count { tally.new.count ≤ tally.old.count + 4 }
 {
@@ -326,12 +313,9 @@ pub(crate) fn note_up(
     }
     let low = columns_below(piece, placed, tally);
     let low = note_passage(piece, placed, ends, low, up);
-    if leaves_band(placed) {
-        return;
-    }
     if lies_over(piece, placed) {
         return;
     }
     let high = columns_above(piece, placed, tally);
-    note_columns(placed, placed.met.inner.end, joined(low, high), up);
+    note_columns(placed.frame, placed.met.inner.end, joined(low, high), up);
 }

@@ -2,23 +2,20 @@
 
 ghost use Rattle.std.specs.Prelude.{◌≡◌, ◌≢◌, ℕ, ◌+◌, ◌*◌, ◌<◌, ◌≤◌, length, IfOk, IsTrue, List};
 ghost use Rattle.fx_winding.specs.Frames.{HasMargin};
-ghost use Rattle.fx_winding.specs.Notes.{words_noted as words_noted_of};
-ghost use Rattle.fx_winding.specs.Winding.{Span, span_of};
-ghost use Rattle.fx_winding.specs.declared.frame.Frame.{Frame};
-ghost use Rattle.fx_rows.specs.inner.Placing.{AreColumns, AreMet, IsApart, IsPlaced};
-ghost use Rattle.fx_rows.specs.inner.Telling.{AreMetBySome, BitsSay, IsPartOf};
+ghost use Rattle.fx_winding.specs.Winding.{Span};
+ghost use Rattle.fx_rows.specs.inner.Placing.{IsApart};
+ghost use Rattle.fx_rows.specs.inner.Telling.{AreMetBySome, BitsSay};
 ghost use Rattle.fx_rows.specs.inner.Told.{IsEndIn};
 
-use crate::across::Across;
 use crate::apart::columns_of;
 use crate::band::MOST_ROWS;
 use crate::bulge::is_bulge;
-use crate::heights::{Met, RowRange, band_of};
+use crate::heights::{Met, RowRange};
 use crate::note_across::note_across;
 use crate::note_up::note_up;
 use crate::noting::Noting;
-use crate::placed::Placed;
-use fx_winding::{Frame, Notes, Piece, Scratch, Tally, words_noted};
+use crate::piece_in_band::PieceInBand;
+use fx_winding::{Frame, Notes, Piece, Scratch, Tally};
 use std::alloc::{AllocError, Global};
 
 /// The segments noted so far, but for those that are noted apart, and whether there are such; and of the piece that is being added
@@ -60,29 +57,6 @@ impl Noter {
     }
 }
 
-/// A piece in some rows of a frame.
-#[inline(always)]
-fn placed_in(piece: &Piece, across: Across, frame: Frame, rows: RowRange, met: Met) -> Placed
-    requires rows { rows.end ≤ frame.height }
-    requires margin { HasMargin frame }
-    requires columns { AreColumns frame (span_of piece.now) across }
-    requires met { (g : Frame) → IsPartOf frame rows.first rows.end g → AreMet (span_of piece.now) g met }
-    ensures part { IsPartOf frame rows.first rows.end result.frame }
-    ensures below { result.below ≡ rows.first * words_noted_of frame.width }
-    ensures placed { IsPlaced (span_of piece.now) result }
-    ensures highest { IsTrue result.highest → rows.end ≡ frame.height }
-    ensures top { rows.end ≡ frame.height → IsTrue result.highest }
-{
-    let band = band_of(frame, rows);
-    Placed {
-        frame: band,
-        below: rows.first as usize * words_noted(frame.width),
-        met,
-        across,
-        highest: rows.end == frame.height,
-    }
-}
-
 impl Noting for Noter {
     ghost tests = { 59 };
 
@@ -98,13 +72,19 @@ impl Noting for Noter {
     }
 
     #[inline(always)]
-    fn note(&mut self, piece: &Piece, frame: Frame, rows: RowRange, met: Met, tally: &mut Tally) {
+    fn note(&mut self, piece: &Piece, _frame: Frame, rows: RowRange, met: Met, tally: &mut Tally) {
+        let frame = self.notes.frame;
         let Some(across) = columns_of(piece, frame) else {
             self.apart = true;
             return;
         };
         let bulging = is_bulge(piece);
-        let placed = placed_in(piece, across, frame, rows, met);
+        let placed = PieceInBand {
+            frame,
+            rows,
+            met,
+            across,
+        };
         note_across(piece, placed, &self.ends, &mut self.notes.across, tally);
         if bulging {
             self.apart = true;

@@ -7,9 +7,8 @@ use fx_winding::{Frame, Piece, Tally};
 pub(crate) trait Noting {
     ghost use Rattle.std.specs.Prelude.{◌≢◌, ℕ, ◌+◌, ◌-◌, ◌*◌, ◌<◌, ◌≤◌};
     ghost use Rattle.fx_winding.specs.Winding.{span_of};
-    ghost use Rattle.fx_winding.specs.declared.frame.Frame.{Frame};
-    ghost use Rattle.fx_rows.specs.inner.Placing.{AreMet};
-    ghost use Rattle.fx_rows.specs.inner.Telling.{AreRowsNoted, AreRowsTold, IsPartOf, Keeps, Lasts, Saying, of_frame};
+    ghost use Rattle.fx_rows.specs.inner.Placing.{AreMetIn};
+    ghost use Rattle.fx_rows.specs.inner.Telling.{AreRowsNoted, AreRowsTold, Keeps, Lasts, Saying, of_frame};
 
     // How many tests a row takes.
     ghost tests: { ℕ };
@@ -26,16 +25,15 @@ pub(crate) trait Noting {
         ensures others { (r n : ℕ) → r ≢ up → IsTold self.old r n → IsTold self.new r n };
 
     /// Notes the segments that a piece meets up to rows of a band and across them. The ends of the rows between the piece's ends
-    /// were told. `met` counts the rows from the band's lowest.
+    /// were told.
     fn note(&mut self, piece: &Piece, frame: Frame, rows: RowRange, met: Met, tally: &mut Tally)
         requires frame { Says self.old (of_frame frame) }
         requires rows { rows.end ≤ frame.height }
         requires some { rows.first < rows.end }
-        requires met { (g : Frame) → IsPartOf frame rows.first rows.end g → AreMet (span_of piece.now) g met }
-        requires told { (g : Frame) → IsPartOf frame rows.first rows.end g →
-            AreRowsTold (IsTold self.old) (span_of piece.now) g 0 g.height }
+        requires met { AreMetIn (span_of piece.now) frame rows.first rows.end met }
+        requires told { AreRowsTold (λ r. IsTold self.old (r - rows.first)) (span_of piece.now) frame rows.first rows.end }
         ensures kept { (x : Saying) → Lasts (span_of piece.now) x → Says self.old x → Says self.new x }
-        ensures noted { AreRowsNoted (Says self.new) (span_of piece.now) frame rows.first rows.end }
+        ensures noted { AreRowsNoted (Says self.new) (span_of piece.now) rows.first rows.end }
         ensures count { tally.new.count ≤ tally.old.count + tests * (rows.end - rows.first) };
 }
 

@@ -2,63 +2,46 @@
 
 ghost use Rattle.std.specs.Prelude.{◌≡◌, ◌+◌, ◌≤◌, pos, ◌*ℤ◌, ◌+ℤ◌, Some};
 ghost use Rattle.fx_winding.specs.Limits.{IsPixelNumber};
-ghost use Rattle.fx_rows.specs.inner.Arcs.{AreAreas};
+ghost use Rattle.fx_rows.specs.Parts.{IsBent};
 ghost use Rattle.fx_rows.specs.inner.Bands.{bounded_span};
 ghost use Rattle.fx_rows.specs.inner.Cuts.{IsCut};
 ghost use Rattle.fx_rows.specs.inner.Points.{IsInner};
-ghost use Rattle.fx_rows.specs.inner.Sides.{place_at};
 ghost use Rattle.fx_rows.specs.inner.Told.{IsEndOn};
 
-use crate::arc::total_of;
 use crate::bounded::Bounded;
 use crate::cells::Cut;
 use crate::chord::base_side;
-use crate::cuts::{ArcCuts, ClearCuts, Cuts, FlatCuts, LineCuts};
-use crate::rest::is_right;
+use crate::cut::{clear_cut, line_cut};
+use crate::cuts::Cuts;
 use crate::strip::{Strip, areas_at, strip_of};
-use fx_winding::{Frame, Point, Tally, Weights};
+use crate::walk::arc_in;
+use fx_winding::{Frame, Tally};
 
-/// The cut of an arc in a row between its ends.
-fn curve_cut(
-    bounded: &Bounded,
-    b: Point,
-    areas: Weights,
-    strip: Strip,
-    frame: Frame,
-    tally: &mut Tally,
-) -> Cut
-    requires middle { bounded.now.piece.b ≡ Some b }
-    requires areas { AreAreas (bounded_span bounded.now) (place_at strip 0) areas }
+/// The cut of a line in a row between its ends, or of an arc whose points are on one.
+fn straight_cut(bounded: &Bounded, strip: Strip, tally: &mut Tally) -> Cut
+    requires straight { ¬ (IsBent (bounded_span bounded.now)) }
     requires inner { IsInner bounded.now.piece.a.y bounded.now.piece.c.y (pos 128 *ℤ strip.row +ℤ pos 64) }
     ensures cut { IsCut (bounded_span bounded.now) strip result }
     ensures value { result.value ≡ bounded.now.rise.value }
     ensures count { tally.new.count ≤ tally.old.count + 1 }
 {
-    let total = total_of(areas);
-    if total == 0 {
-        return FlatCuts { b, areas }.cut(bounded, strip, tally);
-    }
-    let right = is_right(&bounded.piece, total);
-    ArcCuts::from_lowest(bounded, b, right, areas, strip, frame).cut(bounded, strip, tally)
+    let areas = areas_at(&bounded.piece, strip, 0, tally);
+    line_cut(bounded, strip, base_side(&bounded.piece, strip, areas))
 }
 
 /// The cut of a piece in a row between its ends.
-fn cut_in(bounded: &Bounded, strip: Strip, frame: Frame, tally: &mut Tally) -> Cut
+fn cut_in(bounded: &Bounded, strip: Strip, tally: &mut Tally) -> Cut
     requires inner { IsInner bounded.now.piece.a.y bounded.now.piece.c.y (pos 128 *ℤ strip.row +ℤ pos 64) }
     ensures cut { IsCut (bounded_span bounded.now) strip result }
     ensures value { result.value ≡ bounded.now.rise.value }
     ensures count { tally.new.count ≤ tally.old.count + 2 }
 {
     if bounded.across.end <= bounded.across.first {
-        return ClearCuts.cut(bounded, strip, tally);
+        return clear_cut(bounded, strip);
     }
-    let areas = areas_at(&bounded.piece, strip, 0, tally);
-    match bounded.piece.b {
-        None => {
-            let side = base_side(&bounded.piece, strip, areas);
-            LineCuts { side }.cut(bounded, strip, tally)
-        }
-        Some(b) => curve_cut(bounded, b, areas, strip, frame, tally),
+    match arc_in(&bounded.piece, strip, tally) {
+        Some(mut cuts) => cuts.cut(bounded, strip, tally),
+        None => straight_cut(bounded, strip, tally),
     }
 }
 
@@ -70,6 +53,6 @@ pub(crate) fn end_in(bounded: &Bounded, frame: Frame, row: i32, tally: &mut Tall
     ensures count { tally.new.count ≤ tally.old.count + 2 }
 {
     let strip = strip_of(frame, row);
-    let cut = cut_in(bounded, strip, frame, tally);
+    let cut = cut_in(bounded, strip, tally);
     cut.end.saturating_sub(strip.start)
 }

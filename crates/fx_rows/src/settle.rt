@@ -43,7 +43,8 @@ fn with_rest(word: u32, column: u32, set: bool) -> u32
     ensures rest { (i : ℕ) → column ≤ i → i < 32 → bit_at result (31 - i) ≡ cond set 1 0 }
 {
     let rest = u32::MAX >> column;
-    if set { word | rest } else { word & !rest }
+    let all = word | rest;
+    if set { all } else { all ^ rest }
 }
 
 /// The number at a place, which becomes 0.

@@ -1,7 +1,7 @@
 -- What moved pieces add, and what moved contours cover.
 -- Serves the law `pieces`, and the bits of moved outlines.
 use Rattle.std.proofs.Common.{◌≡◌, ◌≢◌, refl, sym, ap, ◌∙◌, subst, ◌↔◌, ◌⊎◌, inl, inr, ℤ, pos, negsuc, ◌+ℤ◌, ◌-ℤ◌, ◌*ℤ◌, neg_ℤ}
-use Rattle.std.proofs.Common.{int_lt, ◌&&◌, if◌then◌else◌, Bool, true, false, true≢false, Decides, List, [], ◌∷◌, ◌++◌, map, Any}
+use Rattle.std.proofs.Common.{int_lt, ◌&&◌, if◌then◌else◌, List, [], ◌∷◌, ◌++◌, map, Any}
 use Rattle.std.proofs.Common.{arith}
 use Rattle.std.specs.Ordering.{int_eq}
 use Rattle.std.proofs.lemmas.Int.{ints}
@@ -92,14 +92,6 @@ wound_moved m p (ss ∷ contours) ((x, l), o) off =
     closed x z = omega (arith, signed_linear)
 
 -- ---- what they cover
--- whether a place is on a piece is known
-known_any : (p : Place) (ss : List Span) → Any (IsOn p) ss ⊎ ¬ (Any (IsOn p) ss)
-known_any p ss = by (any_on p ss).0 (any_on p ss).1
-  where
-    by : (t : Bool) → Decides t (Any (IsOn p) ss) → Any (IsOn p) ss ⊎ ¬ (Any (IsOn p) ss)
-    by true d = inl (d.0 refl)
-    by false d = inr (λ h. true≢false (sym (d.1 h)))
-
 -- places on pieces are moved, and elsewhere the winding number changes its sign
 cover_by : (A B : Type 0) (w w' : ℤ) → A ⊎ ¬ A → B ↔ A → (¬ A → w' ≡ neg_ℤ w) → (B ⊎ (w' ≢ pos 0)) ↔ (A ⊎ (w ≢ pos 0))
 cover_by A B w w' known same turned = (from known, to known)
@@ -120,7 +112,7 @@ unfolding IsCovered
 cover_of m p contours o =
     let ss = joined contours in
     cover_by (Any (IsOn p) ss) (Any (IsOn (place_in m p)) (map (span_in m) ss)) (winding p ss)
-    (winding (place_in m p) (map (span_in m) ss)) (known_any p ss) (
+    (winding (place_in m p) (map (span_in m) ss)) (any_on p ss) (
       any_unmap (span_in m) (IsOn p) (IsOn (place_in m p)) (λ s. (on_moved m p s).0) ss,
       any_map (span_in m) (IsOn p) (IsOn (place_in m p)) (λ s. (on_moved m p s).1) ss,
     ) (wound_moved m p contours o)

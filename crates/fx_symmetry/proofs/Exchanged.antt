@@ -1,6 +1,6 @@
 -- What a piece adds with its coordinates exchanged, so that a ray up from a place tells what a ray to the right tells.
 -- Serves the law `pieces`.
-use Rattle.std.proofs.Common.{◌≡◌, sym, ap, ◌∙◌, subst, ◌⊎◌, inl, inr, ℤ, pos, ◌+ℤ◌, ◌-ℤ◌, ◌*ℤ◌, neg_ℤ, ◌≤ℤ◌}
+use Rattle.std.proofs.Common.{◌≡◌, sym, ap, ◌∙◌, subst, ◌⊎◌, inl, inr, ℤ, pos, ◌+ℤ◌, ◌-ℤ◌, ◌*ℤ◌, ◌≤ℤ◌}
 use Rattle.std.proofs.Common.{◌<ℤ◌, int_lt, ◌&&◌, if◌then◌else◌, [], ◌∷◌, Option, Some, None, arith}
 use Rattle.std.specs.Ordering.{int_eq}
 use Rattle.std.proofs.lemmas.Int.{ints}
@@ -10,12 +10,12 @@ use Rattle.fx_fixed.proofs.Linear.{signed_linear}
 use Rattle.fx_winding.specs.Area.{Place, area, area_of}
 use Rattle.fx_winding.specs.Meets.{turn}
 use Rattle.fx_winding.specs.Winding.{Span, chord_crossing, region_part, IsOn}
-use Rattle.fx_winding.proofs.Crossings.{above, crossing_number}
+use Rattle.fx_winding.proofs.Crossings.{crossing_number}
 use Rattle.fx_winding.proofs.EndsOn.{off_no_end}
 use Rattle.fx_winding.proofs.Products.{IsProduct, product}
 use Rattle.fx_winding.proofs.Reflected.{AddUp, add_up_line, add_up_arc, regions_cancel, none_reflected, reflected_crossings_none}
 use Rattle.fx_winding.proofs.Regions.{IsInRegion}
-use Rattle.fx_winding.proofs.Sideways.{turning, turned_rising, turned_falling}
+use Rattle.fx_winding.proofs.Sideways.{turning, corner, corners, turned_within}
 use Rattle.fx_winding.proofs.Triangle.{area_expr}
 use Rattle.fx_symmetry.specs.Symmetries.{Exchange, place_in, span_in}
 use Rattle.fx_symmetry.proofs.ChordLine.{IsAsideOf, area_start, aside_row, aside_column}
@@ -24,30 +24,8 @@ use Rattle.fx_symmetry.proofs.OnPieces.{on_moved, span_twice}
 abbrev turned_place : Place → Place
 turned_place = place_in Exchange
 
--- 1 if a place is above another and right of it
-abbrev corner : ℤ → ℤ → ℤ → ℤ → ℤ
-corner px py ex ey = if int_lt py ey && int_lt px ex then pos 1 else pos 0
-
--- what a piece and the exchanged one add in all
-abbrev Corners : Place → Place → Place → ℤ
-Corners p a c = corner p.x p.y c.x c.y -ℤ corner p.x p.y a.x a.y
-
 abbrev ExchangeAdds : Place → Span → Type 0
-ExchangeAdds p s = turn (turned_place p) (span_in Exchange s) ≡ Corners p s.a s.c -ℤ turn p s
-
--- ---- the row strictly between the ends
-between_rows : (p : Place) (s : Span) → ((s.a.y <ℤ p.y) × (p.y <ℤ s.c.y)) ⊎ ((s.c.y <ℤ p.y) × (p.y <ℤ s.a.y)) → ¬ (IsOn p s)
-    → ExchangeAdds p s
-between_rows p s (inl (h, k)) off =
-    turned_rising p s h k off ∙ ap (λ z. z -ℤ turn p s) (rising p.x p.y s.a.x s.a.y s.c.x s.c.y h k)
-  where
-    rising : (px py ax ay cx cy : ℤ) → ay <ℤ py → py <ℤ cy → above px cx ≡ corner px py cx cy -ℤ corner px py ax ay
-    rising px py ax ay cx cy h k = grind (arith, ints)
-between_rows p s (inr (h, k)) off =
-    turned_falling p s h k off ∙ ap (λ z. z -ℤ turn p s) (falling p.x p.y s.a.x s.a.y s.c.x s.c.y h k)
-  where
-    falling : (px py ax ay cx cy : ℤ) → cy <ℤ py → py <ℤ ay → neg_ℤ (above px ax) ≡ corner px py cx cy -ℤ corner px py ax ay
-    falling px py ax ay cx cy h k = grind (arith, ints)
+ExchangeAdds p s = turn (turned_place p) (span_in Exchange s) ≡ corners p s.a s.c -ℤ turn p s
 
 -- ---- the column strictly between them: that is a row of the exchanged piece
 between_columns : (p : Place) (s : Span) → ((s.a.x <ℤ p.x) × (p.x <ℤ s.c.x)) ⊎ ((s.c.x <ℤ p.x) × (p.x <ℤ s.a.x)) → ¬ (IsOn p s)
@@ -57,7 +35,7 @@ between_columns p s h off =
     (corner p.x p.y s.c.x s.c.y) (corner p.x p.y s.a.x s.a.y) (same p.x p.y s.c.x s.c.y) (same p.x p.y s.a.x s.a.y)
     (subst (λ r. turn p r
     ≡ (corner p.y p.x s.c.y s.c.x -ℤ corner p.y p.x s.a.y s.a.x) -ℤ turn (turned_place p) (span_in Exchange s))
-    (span_twice Exchange s) (between_rows (turned_place p) (span_in Exchange s) h (λ o. off ((on_moved Exchange p s).0 o))))
+    (span_twice Exchange s) (turned_within (turned_place p) (span_in Exchange s) h (λ o. off ((on_moved Exchange p s).0 o))))
   where
     same : (px py ex ey : ℤ) → corner py px ey ex ≡ corner px py ex ey
     same px py ex ey = grind (arith, ints)
@@ -124,14 +102,14 @@ sum_of ax ay cx cy px py (inr (h, k)) (inl (l, m)) n o = grind (arith, ints)
 sum_of ax ay cx cy px py (inr (h, k)) (inr (l, m)) n o = grind (arith, ints)
 
 crossings_at_corner : (a c p : Place) → IsCorner p a c
-    → chord_crossing (turned_place a) (turned_place c) (turned_place p) +ℤ chord_crossing a c p ≡ Corners p a c
+    → chord_crossing (turned_place a) (turned_place c) (turned_place p) +ℤ chord_crossing a c p ≡ corners p a c
 crossings_at_corner a c p h =
     (λ i. crossing_of (turned_place a) (turned_place c) (turned_place p) h.across i +ℤ crossing_of a c p h.up i)
     ∙ sum_of a.x a.y c.x c.y p.x p.y h.across h.up (λ e f. h.first (λ i. record { x = e i; y = f i }))
     (λ e f. h.last (λ i. record { x = e i; y = f i }))
 
 -- on the chord's line both are 0, and no region has the place
-none_at_corner : (a c p : Place) → IsCorner p a c → area a c p ≡ pos 0 → Corners p a c ≡ pos 0
+none_at_corner : (a c p : Place) → IsCorner p a c → area a c p ≡ pos 0 → corners p a c ≡ pos 0
 none_at_corner a c p h z = sym (crossings_at_corner a c p h) ∙ reflected_crossings_none turned_place turning a c p z
 
 no_region : (a b c p : Place) → IsCorner p a c → area a c p ≡ pos 0 → IsInRegion a b c p → ⊥
@@ -148,10 +126,10 @@ regions_at_corner a b c p h z = regions_cancel turned_place turning a b c p (λ 
     (λ r. absurd (no_region (turned_place a) (turned_place b) (turned_place c) (turned_place p) (corner_turned p a c h)
     (none_reflected turned_place turning a c p z) r))
 
-corner_part : (a : Place) (b : Option Place) (c p : Place) → IsCorner p a c → AddUp turned_place (Corners p a c) a b c p
-corner_part a None c p h = add_up_line turned_place turning (Corners p a c) a c p (λ n. crossings_at_corner a c p h)
+corner_part : (a : Place) (b : Option Place) (c p : Place) → IsCorner p a c → AddUp turned_place (corners p a c) a b c p
+corner_part a None c p h = add_up_line turned_place turning (corners p a c) a c p (λ n. crossings_at_corner a c p h)
     (λ z. none_at_corner a c p h z)
-corner_part a (Some b) c p h = add_up_arc turned_place turning (Corners p a c) a b c p (λ n. crossings_at_corner a c p h)
+corner_part a (Some b) c p h = add_up_arc turned_place turning (corners p a c) a b c p (λ n. crossings_at_corner a c p h)
     (λ y z. none_at_corner a c p h z) (λ n z. regions_at_corner a b c p h z ∙ sym (none_at_corner a c p h z))
 
 -- ---- the whole
@@ -163,7 +141,7 @@ exchanged_turn p s off = by (strictly_or_aside s.a.y s.c.y p.y) (strictly_or_asi
   where
     by : (((s.a.y <ℤ p.y) × (p.y <ℤ s.c.y)) ⊎ ((s.c.y <ℤ p.y) × (p.y <ℤ s.a.y))) ⊎ IsAsideOf s.a.y s.c.y p.y
         → (((s.a.x <ℤ p.x) × (p.x <ℤ s.c.x)) ⊎ ((s.c.x <ℤ p.x) × (p.x <ℤ s.a.x))) ⊎ IsAsideOf s.a.x s.c.x p.x → ExchangeAdds p s
-    by (inl h) k = between_rows p s h off
+    by (inl h) k = turned_within p s h off
     by (inr h) (inl k) = between_columns p s k off
     by (inr h) (inr k) = corner_part s.a s.b s.c p (record {
       across = k;

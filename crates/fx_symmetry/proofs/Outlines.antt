@@ -13,7 +13,7 @@ use Rattle.fx_contour.specs.Contours.{farthest, IsInReach, contours_from, spans_
 use Rattle.fx_contour.specs.Curve.{curve_of}
 use Rattle.fx_contour.proofs.Closed.{all_closed}
 use Rattle.fx_contour.proofs.Decided.{reach_is_tested}
-use Rattle.fx_contour.proofs.Drawn.{drawn_spans, drawn_from}
+use Rattle.fx_contour.proofs.DrawnSpans.{drawn_spans, drawn_from}
 use Rattle.fx_contour.proofs.Moving.{Follows, moved_spans, drawn_moved}
 use Rattle.fx_symmetry.specs.Symmetries.{Symmetry, Mirror, Flip, Exchange, place_in, col_in, row_in}
 use Rattle.fx_symmetry.specs.Outlines.{point_in, points_in, MovesSpans, MovesDrawn}

@@ -1,7 +1,7 @@
 -- Pieces that lie wholly left or right of the segment between two places of a row, and so do not meet it. One end may be in the
 -- column of the nearer place, if that place is not the end.
 -- Serves the frame with drop-out control in `fx_contour`, and `Turning`.
-use Rattle.std.proofs.Common.{◌≡◌, ◌≢◌, sym, ap, ◌∙◌, ◌⊎◌, inl, inr, ℤ, pos, ◌+ℤ◌, ◌-ℤ◌, ◌*ℤ◌, neg_ℤ, ◌≤ℤ◌, ◌<ℤ◌}
+use Rattle.std.proofs.Common.{◌≡◌, ◌≢◌, ◌∙◌, ◌⊎◌, inl, inr, ℤ, pos, ◌+ℤ◌, ◌-ℤ◌, ◌*ℤ◌, neg_ℤ, ◌≤ℤ◌, ◌<ℤ◌}
 use Rattle.std.proofs.Common.{[], ◌∷◌, Option, Some, None, arith}
 use Rattle.std.proofs.lemmas.Int.{ints}
 use Rattle.fx_fixed.specs.Polynomial.{Expr, var, num, ◌⊞◌, ◌⊠◌, ◌⊟◌}
@@ -30,13 +30,7 @@ same_place p e h k = λ i. record { x = h i; y = k i }
 
 -- an end at or below the height of p is left or right of p, or below its height while the other end is left or right of p
 apart : (p e : Place) (Past Other : Type 0) → p ≢ e → e.y ≤ℤ p.y → Past ⊎ (p.x ≡ e.x) → Past ⊎ Other → Past ⊎ ((e.y <ℤ p.y) × Other)
-apart p e Past Other n h (inl l) k = inl l
-apart p e Past Other n h (inr z) (inl l) = inl l
-apart p e Past Other n h (inr z) (inr l) = inr (by (below_or_not_ℤ e.y p.y), l)
-  where
-    by : (e.y <ℤ p.y) ⊎ (p.y ≤ℤ e.y) → e.y <ℤ p.y
-    by (inl k) = k
-    by (inr k) = absurd (n (same_place p e z (omega (arith, signed_linear, h, k))))
+apart p e Past Other h i j k = grind (arith, signed_linear, h, i, j, k, same_place)
 
 ahead_or_at : (x y : ℤ) → x ≤ℤ y → (x <ℤ y) ⊎ (x ≡ y)
 ahead_or_at x y h = grind (arith, ints)
@@ -120,11 +114,7 @@ pub all_left : (x : ℤ) (s : Span) → HasAll (λ e. e.x <ℤ x) s → EndsAt x
 all_left x s h = all_beyond (λ e. e.x ≤ℤ x) (λ e. e.x <ℤ x) (λ e l. omega (arith, signed_linear, l)) s h
 
 apart_x : (p e : Place) → (p.x <ℤ e.x) ⊎ (e.x <ℤ p.x) → p ≢ e
-apart_x p e h k = by p.x e.x h (λ i. (k i).x)
-  where
-    by : (x y : ℤ) → (x <ℤ y) ⊎ (y <ℤ x) → x ≢ y
-    by x y (inl l) e = omega (arith, signed_linear, l, e)
-    by x y (inr l) e = omega (arith, signed_linear, l, e)
+apart_x p e h k = let z : p.x ≡ e.x = λ i. (k i).x in omega (arith, signed_linear, h, z)
 
 pub right_no_end : (p : Place) (s : Span) → HasAll (λ e. p.x <ℤ e.x) s → IsNoEnd p s
 right_no_end p s h = record { first = apart_x p s.a (inl h.0); last = apart_x p s.c (inl h.2) }
@@ -161,16 +151,7 @@ middle_above ac ab bc h k l = omega (arith, signed)
 
 weights_above : (A B C : ℤ) → pos 0 <ℤ A → pos 0 ≤ℤ B → pos 0 <ℤ C → (A *ℤ C) ≤ℤ (B *ℤ B) → AreAbove A B C
 weights_above A B C a b c h =
-    let aa = product_above_zero A A a a in
-    let ab = product_at_least_zero A B (omega (arith, signed_linear, a)) b in
-    let ac = product_above_zero A C a c in
-    let bc = product_at_least_zero B C b (omega (arith, signed_linear, c)) in
-    let cc = product_above_zero C C c c in
-    record {
-      first = end_above (A *ℤ C) (B *ℤ B) (B *ℤ C) (C *ℤ C) ac h bc cc;
-      middle = middle_above (A *ℤ C) (A *ℤ B) (B *ℤ C) ac ab bc;
-      last = end_above (A *ℤ C) (B *ℤ B) (A *ℤ B) (A *ℤ A) ac h ab aa;
-    }
+    grind (arith, signed_linear, a, b, c, h, product_above_zero, product_at_least_zero, end_above, middle_above)
 
 -- the same as expressions
 abbrev first_expr : Expr → Expr → Expr → Expr
@@ -268,8 +249,7 @@ sum_below x y z u v w hx hy hz one hu hv hw =
 
 one_beyond : (x y z w : ℤ) → (y <ℤ x) ⊎ (w <ℤ z) → ((pos 0 <ℤ (x -ℤ y)) ⊎ (pos 0 <ℤ (z -ℤ w)))
     × (((y -ℤ x) <ℤ pos 0) ⊎ ((w -ℤ z) <ℤ pos 0))
-one_beyond x y z w (inl h) = (inl (omega (arith, signed_linear, h)), inl (omega (arith, signed_linear, h)))
-one_beyond x y z w (inr h) = (inr (omega (arith, signed_linear, h)), inr (omega (arith, signed_linear, h)))
+one_beyond x y z w h = (grind (arith, signed_linear), grind (arith, signed_linear))
 
 right_no_tip : (a : Place) (b : Option Place) (c p q : Place) → q.y ≡ p.y → q.x ≤ℤ a.x → OptionAll (λ e. q.x ≤ℤ e.x) b
     → q.x ≤ℤ c.x → (q.x <ℤ a.x) ⊎ (q.x <ℤ c.x) → ¬ (IsTipPart a b c p q)
@@ -303,20 +283,11 @@ further_left x y s l h = beyond_weaker (λ e. e.x ≤ℤ x) (λ e. e.x ≤ℤ y)
 -- a piece that lies right of the segment from p to q, or in the column of q, does not meet it
 pub right_end_not_met : (p q : Place) (s : Span) → q.y ≡ p.y → p.x ≤ℤ q.x → StartsFrom q.x s → IsNoEnd p s → IsNoEnd q s
     → ¬ (IsMet p q s)
-right_end_not_met p q s e l h np nq (inl k) = let m = h.all.0 in omega (arith, signed_linear, k.before, m)
-right_end_not_met p q s e l h np nq (inr (inl k)) = let m = h.all.2 in omega (arith, signed_linear, k.before, m)
-right_end_not_met p q s e l h np nq (inr (inr (inl n))) =
-    n (right_turn p s (further_right p.x q.x s l h) np ∙ ap (λ y. above y s.c.y -ℤ above y s.a.y) (sym e)
-    ∙ sym (right_turn q s h nq))
-right_end_not_met p q s e l h np nq (inr (inr (inr t))) =
-    right_no_tip s.a s.b s.c p q e h.all.0 h.all.1 h.all.2 h.one t
+right_end_not_met p q s h i j k l m = grind (arith, signed_linear, h, i, j, k, l, m, right_turn, further_right, above, right_no_tip)
 
 -- nor does one that lies left of it, or in the column of p
 pub left_end_not_met : (p q : Place) (s : Span) → p.x ≤ℤ q.x → EndsAt p.x s → IsNoEnd p s → IsNoEnd q s → ¬ (IsMet p q s)
-left_end_not_met p q s l h np nq (inl k) = let m = h.all.0 in omega (arith, signed_linear, k.after, m)
-left_end_not_met p q s l h np nq (inr (inl k)) = let m = h.all.2 in omega (arith, signed_linear, k.after, m)
-left_end_not_met p q s l h np nq (inr (inr (inl n))) = n (left_turn p s h np ∙ sym (left_turn q s (further_left p.x q.x s l h) nq))
-left_end_not_met p q s l h np nq (inr (inr (inr t))) = left_no_tip s.a s.b s.c p q h.all.0 h.all.1 h.all.2 h.one t
+left_end_not_met p q s h i j k l = grind (arith, signed_linear, h, i, j, k, l, left_turn, further_left, left_no_tip)
 
 -- where all points lie strictly to that side
 pub right_not_met : (p q : Place) (s : Span) → q.y ≡ p.y → p.x ≤ℤ q.x → HasAll (λ e. q.x <ℤ e.x) s → ¬ (IsMet p q s)

@@ -1,20 +1,22 @@
--- The regions of an arc and of the one with its coordinates exchanged, at a place on a chord that rises.
+-- On a chord that rises, the regions of an arc and of the exchanged one add up to 1 left of the upper end, else to 0: `regions_on`.
 -- Serves `Sideways`.
 use Rattle.std.proofs.Common.{◌≡◌, ◌≢◌, refl, ap, ◌∙◌, subst, inl, inr, ℤ, pos, negsuc, ◌+ℤ◌, ◌-ℤ◌, ◌*ℤ◌}
 use Rattle.std.proofs.Common.{neg_ℤ, ◌≤ℤ◌, ◌<ℤ◌, int_lt, int_le, Bool, true, false, ◌&&◌, ◌||◌, if◌then◌else◌}
 use Rattle.std.proofs.Common.{[], ◌∷◌, Option, Some, option_map, arith}
 use Rattle.std.specs.Ordering.{int_eq}
 use Rattle.std.proofs.lemmas.Int.{ints, by_lt_z}
-use Rattle.fx_fixed.specs.Polynomial.{var, ◌⊠◌, minus, ◌⊟◌}
+use Rattle.fx_fixed.specs.Polynomial.{var, ◌⊠◌, minus}
 use Rattle.fx_fixed.proofs.Ring.{ring, *ℤ_comm}
 use Rattle.fx_fixed.proofs.Linear.{signed_linear}
-use Rattle.fx_fixed.proofs.Signs.{product_at_least_zero, product_above_zero}
+use Rattle.fx_fixed.proofs.Signs.{product_above_zero}
 use Rattle.fx_winding.specs.Area.{Place, area, area_of}
 use Rattle.fx_winding.specs.Turned.{turned_place}
 use Rattle.fx_winding.specs.Winding.{sign, weight_a, weight_b, weight_c, region_part, is_right_of_chord}
 use Rattle.fx_winding.proofs.Beside.{total_above}
-use Rattle.fx_winding.proofs.Columns.{IsOnRising, end_ahead, end_behind, times_none, weight_up, weight_down}
+use Rattle.fx_winding.proofs.Columns.{IsAlong, sign_along, below_zero, IsOnRising, end_side, times_none}
+use Rattle.fx_winding.proofs.Columns.{weight_up, weight_down}
 use Rattle.fx_winding.proofs.Crossings.{above}
+use Rattle.fx_winding.proofs.Products.{product}
 use Rattle.fx_winding.proofs.TurnedAreas.{area_turned, sign_area_turned, weight}
 use Rattle.fx_winding.proofs.HalfAreas.{area_swap, sign_above}
 use Rattle.fx_winding.proofs.Places.{clash}
@@ -26,13 +28,7 @@ column_region a b c p = region_part (turned_place a) (option_map turned_place b)
 
 -- ---- the weights
 pub above_factor : (k z : ℤ) → pos 0 <ℤ k → pos 0 <ℤ (k *ℤ z) → pos 0 <ℤ z
-above_factor k z h m = by_lt_z (pos 0) z (λ l. l) (λ l. absurd (no l))
-  where
-    no : z ≤ℤ pos 0 → ⊥
-    no l =
-        let q = product_at_least_zero k (neg_ℤ z) (omega (arith, signed_linear, h)) (omega (arith, signed_linear, l)) in
-        let f : k *ℤ neg_ℤ z ≡ neg_ℤ (k *ℤ z) = ring (k ∷ z ∷ []) (var 0 ⊠ minus (var 1)) (minus (var 0 ⊠ var 1)) tt in
-        omega (arith, signed_linear, q, f, m)
+above_factor k z h m = let p = product k z in grind (arith, signed_linear)
 
 -- on the chord those of the ends are above 0
 pub record HasEnds (a b c p : Place) : Type 0 where
@@ -65,11 +61,7 @@ has_ends a b c p h n =
 -- exchanged, they are the same
 has_ends_turned : (a b c p : Place) → HasEnds a b c p
     → HasEnds (turned_place a) (turned_place b) (turned_place c) (turned_place p)
-has_ends_turned a b c p h = record {
-  of_a = rw (weight a b c p b c) h.of_a;
-  of_b = weight a b c a p c ∙ h.of_b;
-  of_c = rw (weight a b c a b p) h.of_c;
-}
+has_ends_turned a b c p h = grind (arith, signed_linear, h, weight)
 
 -- what belongs to the region on the chord: all or nothing
 abbrev pub chord_region : Place → Place → Place → ℤ
@@ -87,23 +79,6 @@ region_at a b c p h = by (is_right_of_chord a b c) refl
     by false e = region_out a b c p (apart e)
 
 -- ---- the sides
--- a product's sign is that of the way from x to y
-record IsAlong (m x y : ℤ) : Type 0 where
-  up : x <ℤ y → pos 0 <ℤ m
-  down : y <ℤ x → m <ℤ pos 0
-  level : x ≡ y → m ≡ pos 0
-
-sign_along : (k x y : ℤ) → pos 0 <ℤ k → IsAlong (k *ℤ (y -ℤ x)) x y
-sign_along k x y h = record {
-  up = λ l. product_above_zero k (y -ℤ x) h (omega (arith, signed_linear, l));
-  down = λ l.
-      let q = product_above_zero k (x -ℤ y) h (omega (arith, signed_linear, l)) in
-      let e : k *ℤ (x -ℤ y) ≡ neg_ℤ (k *ℤ (y -ℤ x)) =
-      ring (k ∷ x ∷ y ∷ []) (var 0 ⊠ (var 1 ⊟ var 2)) (minus (var 0 ⊠ (var 2 ⊟ var 1))) tt in
-      omega (arith, signed_linear, q, e);
-  level = λ e. times_none k (y -ℤ x) (omega (arith, signed_linear, e));
-}
-
 -- the control point of an arc whose chord is vertical, by the arc's area
 vertical : (ax ay bx by cx cy : ℤ) → ay <ℤ cy → ax ≡ cx → IsAlong (area_of ax ay bx by cx cy) ax bx
 vertical ax ay bx by cx cy h e = subst (λ z. IsAlong z ax bx) same (sign_along (cy -ℤ ay) ax bx (omega (arith, signed_linear, h)))
@@ -115,10 +90,10 @@ vertical ax ay bx by cx cy h e = subst (λ z. IsAlong z ax bx) same (sign_along 
         omega (arith, signed_linear, z, f)
 
 control_right : (ax ay bx by cx cy : ℤ) → ay <ℤ cy → pos 0 <ℤ area_of ax ay bx by cx cy → ax ≡ cx → ax <ℤ bx
-control_right ax ay bx by cx cy h d e = by_lt_z ax bx (λ l. l)
-    (λ l. by_lt_z bx ax (λ k. absurd (let m = (vertical ax ay bx by cx cy h e).down k in omega (arith, signed_linear, d, m)))
-    (λ k. absurd (let m = (vertical ax ay bx by cx cy h e).level (omega (arith, signed_linear, k, l)) in omega
-    (arith, signed_linear, d, m))))
+control_right ax ay bx by cx cy h d e = rises _ ax bx (vertical ax ay bx by cx cy h e) d
+  where
+    rises : (m x y : ℤ) → IsAlong m x y → pos 0 <ℤ m → x <ℤ y
+    rises m x y v d = grind (arith, signed_linear)
 
 control_left : (ax ay bx by cx cy : ℤ) → ay <ℤ cy → area_of ax ay bx by cx cy <ℤ pos 0 → ax ≡ cx → bx ≤ℤ ax
 control_left ax ay bx by cx cy h d e = by_lt_z ax bx
@@ -187,27 +162,21 @@ pub regions_on : (a b c p : Place) → IsOnRising a c p → area a b c ≢ pos 0
     → column_region a (Some b) c p +ℤ region_part a (Some b) c p ≡ above p.x c.x
 regions_on a b c p h n =
     (λ i. region_at _ _ _ _ (has_ends_turned a b c p ends) i +ℤ region_at a b c p ends i)
-    ∙ by_lt_z (pos 0) (area a b c) right (λ l. left (strictly (area a b c) n l))
+    ∙ by_lt_z (pos 0) (area a b c) right (λ l. left (below_zero (area a b c) n l))
   where
     ends : HasEnds a b c p
     ends = has_ends a b c p h n
 
-    ahead : a.x <ℤ c.x → p.x <ℤ c.x
-    ahead = end_ahead a.x a.y c.x c.y p.x p.y h.low h.high h.none
-
-    behind : c.x ≤ℤ a.x → c.x ≤ℤ p.x
-    behind = end_behind a.x a.y c.x c.y p.x p.y h.low h.high h.none
+    side : (a.x <ℤ c.x → p.x <ℤ c.x) × (c.x ≤ℤ a.x → c.x ≤ℤ p.x)
+    side = end_side a.x a.y c.x c.y p.x p.y h.low h.high h.none
 
     rises : a.y <ℤ c.y
     rises = let low = h.low in let high = h.high in omega (arith, signed_linear, low, high)
 
     right : pos 0 <ℤ area a b c
         → chord_region (turned_place a) (turned_place b) (turned_place c) +ℤ chord_region a b c ≡ above p.x c.x
-    right d = let r = regions_right a b c rises d in (λ i. r.0 i +ℤ r.1 i) ∙ total_right a.x c.x p.x ahead behind
+    right d = let r = regions_right a b c rises d in (λ i. r.0 i +ℤ r.1 i) ∙ total_right a.x c.x p.x side.0 side.1
 
     left : area a b c <ℤ pos 0
         → chord_region (turned_place a) (turned_place b) (turned_place c) +ℤ chord_region a b c ≡ above p.x c.x
-    left d = let r = regions_left a b c rises d in (λ i. r.0 i +ℤ r.1 i) ∙ total_left a.x c.x p.x ahead behind
-
-    strictly : (z : ℤ) → z ≢ pos 0 → z ≤ℤ pos 0 → z <ℤ pos 0
-    strictly z n h = grind (arith, ints)
+    left d = let r = regions_left a b c rises d in (λ i. r.0 i +ℤ r.1 i) ∙ total_left a.x c.x p.x side.0 side.1

@@ -1,65 +1,65 @@
--- A chord that rises and the one with its coordinates exchanged: their crossings, and places on them.
+-- Off a chord that rises, its crossing and that of the exchanged chord add up to 1 left of the upper end, else 0: `crossings_sum`.
 -- Serves `Sideways`.
-use Rattle.std.proofs.Common.{◌≡◌, ◌≢◌, refl, sym, ap, ◌∙◌, inl, inr, zero, suc, ℤ, pos, negsuc, ◌+ℤ◌, ◌-ℤ◌, ◌*ℤ◌}
+use Rattle.std.proofs.Common.{◌≡◌, ◌≢◌, sym, ap, ◌∙◌, inl, inr, ℤ, pos, ◌+ℤ◌, ◌-ℤ◌, ◌*ℤ◌}
 use Rattle.std.proofs.Common.{neg_ℤ, ◌≤ℤ◌, ◌<ℤ◌, [], ◌∷◌, arith}
 use Rattle.std.proofs.lemmas.Int.{ints, by_lt_z}
-use Rattle.fx_fixed.specs.Polynomial.{var, ◌⊞◌, ◌⊠◌, minus, ◌⊟◌}
+use Rattle.fx_fixed.specs.Polynomial.{var, ◌⊞◌, ◌⊠◌, ◌⊟◌}
 use Rattle.fx_fixed.proofs.Ring.{ring, *ℤ_zero, one-*ℤ}
 use Rattle.fx_fixed.proofs.Linear.{signed_linear}
-use Rattle.fx_fixed.proofs.Signs.{product_at_least_zero, product_above_zero}
 use Rattle.fx_winding.specs.Area.{Place, area, area_of}
 use Rattle.fx_winding.specs.Turned.{turned_place}
 use Rattle.fx_winding.specs.Winding.{IsBetween, IsInRange, IsOnLine, IsOnFlatArc, chord_crossing}
-use Rattle.fx_winding.proofs.Crossings.{above, crossing_number, area_split_right, left_of_rising, right_of_rising}
+use Rattle.fx_winding.proofs.Crossings.{above, crossing_number, area_split_right, left_of_rising}
 use Rattle.fx_winding.proofs.Crossings.{no_crossing}
 use Rattle.fx_winding.proofs.TurnedAreas.{area_turned}
 use Rattle.fx_winding.proofs.HalfAreas.{area_next}
+use Rattle.fx_winding.proofs.Products.{product}
 use Rattle.fx_winding.proofs.Triangle.{area_expr}
 
 -- ---- the row between the ends
-not_left_of_rising : (ax ay cx cy px py : ℤ) → ay <ℤ py → py <ℤ cy → ax ≤ℤ px → cx ≤ℤ px → area_of ax ay cx cy px py ≤ℤ pos 0
-not_left_of_rising ax ay cx cy px py h k m n =
-    let p = product_at_least_zero (cy -ℤ py) (px -ℤ ax) (omega (arith, signed_linear)) (omega (arith, signed_linear)) in
-    let q = product_at_least_zero (py -ℤ ay) (px -ℤ cx) (omega (arith, signed_linear)) (omega (arith, signed_linear)) in
-    let e = area_split_right ax ay cx cy px py in
-    omega (arith, signed_linear, p, q, e)
+-- a product's sign is that of the way from x to y
+pub record IsAlong (m x y : ℤ) : Type 0 where
+  pub up : x <ℤ y → pos 0 <ℤ m
+  pub down : y <ℤ x → m <ℤ pos 0
+  pub level : x ≡ y → m ≡ pos 0
+
+pub sign_along : (k x y : ℤ) → pos 0 <ℤ k → IsAlong (k *ℤ (y -ℤ x)) x y
+sign_along k x y h = let p = product k (y -ℤ x) in record {
+  up = λ l. p.both h (omega (arith, signed_linear, l));
+  down = λ l. p.low h (omega (arith, signed_linear, l));
+  level = λ e. p.level (omega (arith, signed_linear, e));
+}
+
+-- the area of a place with a chord that passes its row, as a sum with the signs of the ways from the ends
+record IsSplit (s ax cx px : ℤ) : Type 0 where
+  first : ℤ
+  last : ℤ
+  is : s ≡ neg_ℤ (first +ℤ last)
+  of_first : IsAlong first ax px
+  of_last : IsAlong last cx px
+
+split : (ax ay cx cy px py : ℤ) → ay <ℤ py → py <ℤ cy → IsSplit (area_of ax ay cx cy px py) ax cx px
+split ax ay cx cy px py h k = record {
+  first = (cy -ℤ py) *ℤ (px -ℤ ax);
+  last = (py -ℤ ay) *ℤ (px -ℤ cx);
+  is = area_split_right ax ay cx cy px py;
+  of_first = sign_along (cy -ℤ py) ax px (omega (arith, signed_linear, k));
+  of_last = sign_along (py -ℤ ay) cx px (omega (arith, signed_linear, h));
+}
 
 -- where the row meets the chord, the place is left of the chord's end if the chord goes right, else not
-pub end_ahead : (ax ay cx cy px py : ℤ) → ay <ℤ py → py <ℤ cy → area_of ax ay cx cy px py ≡ pos 0 → ax <ℤ cx → px <ℤ cx
-end_ahead ax ay cx cy px py h k z l = by_lt_z px cx (λ m. m) (λ m. absurd (no m))
+pub end_side : (ax ay cx cy px py : ℤ) → ay <ℤ py → py <ℤ cy → area_of ax ay cx cy px py ≡ pos 0
+    → (ax <ℤ cx → px <ℤ cx) × (cx ≤ℤ ax → cx ≤ℤ px)
+end_side ax ay cx cy px py h k z = by _ ax cx px (split ax ay cx cy px py h k) z
   where
-    no : cx ≤ℤ px → ⊥
-    no m =
-        let p = product_above_zero (cy -ℤ py) (px -ℤ ax) (omega (arith, signed_linear)) (omega (arith, signed_linear)) in
-        let q = product_at_least_zero (py -ℤ ay) (px -ℤ cx) (omega (arith, signed_linear)) (omega (arith, signed_linear)) in
-        let e = area_split_right ax ay cx cy px py in
-        omega (arith, signed_linear, p, q, e, z)
-
-pub end_behind : (ax ay cx cy px py : ℤ) → ay <ℤ py → py <ℤ cy → area_of ax ay cx cy px py ≡ pos 0 → cx ≤ℤ ax → cx ≤ℤ px
-end_behind ax ay cx cy px py h k z l = by_lt_z px cx (λ m. absurd (no m)) (λ m. m)
-  where
-    no : px <ℤ cx → ⊥
-    no m =
-        let p = left_of_rising ax ay cx cy px py (omega (arith, signed_linear)) k (omega (arith, signed_linear)) m in
-        omega (arith, signed_linear, p, z)
+    by : (s ax cx px : ℤ) → IsSplit s ax cx px → s ≡ pos 0 → (ax <ℤ cx → px <ℤ cx) × (cx ≤ℤ ax → cx ≤ℤ px)
+    by s ax cx px i z = (λ l. grind (arith, signed_linear), λ l. grind (arith, signed_linear))
 
 pub chord_between : (ax ay cx cy px py : ℤ) → ay <ℤ py → py <ℤ cy → area_of ax ay cx cy px py ≡ pos 0 → IsBetween ax cx px
-chord_between ax ay cx cy px py h k z = by_lt_z px ax before after
+chord_between ax ay cx cy px py h k z = by _ ax cx px (split ax ay cx cy px py h k) z
   where
-    before : px <ℤ ax → IsBetween ax cx px
-    before m = by_lt_z px cx
-        (λ n. absurd (let p = left_of_rising ax ay cx cy px py (omega (arith, signed_linear)) k m n in omega
-        (arith, signed_linear, p, z)))
-        (λ n. inr (n, omega (arith, signed_linear)))
-
-    after : ax ≤ℤ px → IsBetween ax cx px
-    after m = by_lt_z cx px (λ n. inr (omega (arith, signed_linear), at_first n)) (λ n. inl (m, n))
-      where
-        at_first : cx <ℤ px → px ≤ℤ ax
-        at_first n = by_lt_z ax px
-            (λ l. absurd (let p = right_of_rising ax ay cx cy px py (omega (arith, signed_linear)) k l n in omega
-            (arith, signed_linear, p, z)))
-            (λ l. l)
+    by : (s ax cx px : ℤ) → IsSplit s ax cx px → s ≡ pos 0 → IsBetween ax cx px
+    by s ax cx px i z = grind (arith, signed_linear)
 
 -- ---- the crossings
 -- the crossing of the exchanged chord
@@ -84,9 +84,11 @@ crossings_left ax ay cx cy px py h k s =
     let f = column_left ax cx px (neg_ℤ (area_of ax ay cx cy px py)) (omega (arith, signed_linear, s)) left in
     (λ i. f i +ℤ e i) ∙ back (above px cx)
   where
+    by : (s ax cx px : ℤ) → IsSplit s ax cx px → pos 0 <ℤ s → ax ≤ℤ px → px <ℤ cx
+    by s ax cx px i m l = grind (arith, signed_linear)
+
     left : ax ≤ℤ px → px <ℤ cx
-    left l = by_lt_z px cx (λ m. m)
-        (λ m. absurd (let n = not_left_of_rising ax ay cx cy px py h k l m in omega (arith, signed_linear, n, s)))
+    left l = by _ ax cx px (split ax ay cx cy px py h k) s l
 
     back : (z : ℤ) → (z -ℤ pos 1) +ℤ pos 1 ≡ z
     back z = omega (arith, signed_linear)
@@ -109,27 +111,20 @@ crossings_right ax ay cx cy px py h k s =
     same : (z : ℤ) → z +ℤ pos 0 ≡ z
     same z = omega (arith, signed_linear)
 
+pub below_zero : (z : ℤ) → z ≢ pos 0 → z ≤ℤ pos 0 → z <ℤ pos 0
+below_zero z n h = grind (arith, ints)
+
 -- off the chord's line the crossings of a piece and of the exchanged one add up to 1 where the place is left of the upper end
 pub crossings_sum : (a c p : Place) → a.y <ℤ p.y → p.y <ℤ c.y → area a c p ≢ pos 0
     → column_crossing a c p +ℤ chord_crossing a c p ≡ above p.x c.x
 crossings_sum a c p h k n =
     ap (λ t. crossing_number a.x c.x p.x t +ℤ chord_crossing a c p) (area_turned a c p)
     ∙ by_lt_z (pos 0) (area a c p) (crossings_left a.x a.y c.x c.y p.x p.y h k)
-    (λ l. crossings_right a.x a.y c.x c.y p.x p.y h k (strictly (area a c p) n l))
-  where
-    strictly : (z : ℤ) → z ≢ pos 0 → z ≤ℤ pos 0 → z <ℤ pos 0
-    strictly z n h = grind (arith, ints)
+    (λ l. crossings_right a.x a.y c.x c.y p.x p.y h k (below_zero (area a c p) n l))
 
 -- ---- on the chord
 pub none_factor : (k z : ℤ) → pos 0 <ℤ k → k *ℤ z ≡ pos 0 → z ≡ pos 0
-none_factor k (pos zero) h e = refl
-none_factor k (pos (suc n)) h e =
-    absurd (let p = product_above_zero k (pos (suc n)) h (omega (arith, ints)) in omega (arith, signed_linear, p, e))
-none_factor k (negsuc n) h e =
-    absurd (let p = product_above_zero k (neg_ℤ (negsuc n)) h (omega (arith, ints)) in
-    let m : k *ℤ neg_ℤ (negsuc n) ≡ neg_ℤ (k *ℤ negsuc n) =
-    ring (k ∷ negsuc n ∷ []) (var 0 ⊠ minus (var 1)) (minus (var 0 ⊠ var 1)) tt in
-    omega (arith, signed_linear, p, m, e))
+none_factor k z h e = let p = product k z in grind (arith, signed_linear)
 
 -- the weights of the ends, by those of the whole and of the control point; s is the sign of the whole
 pub weight_up : (s ax ay bx by cx cy px py : ℤ)
@@ -165,6 +160,10 @@ pub record IsOnRising (a c p : Place) : Type 0 where
 pub times_none : (s z : ℤ) → z ≡ pos 0 → s *ℤ z ≡ pos 0
 times_none s z e = ap (λ t. s *ℤ t) e ∙ *ℤ_zero s
 
+pub between_range : (a b c p : ℤ) → IsBetween a c p → IsInRange a b c p
+between_range a b c p (inl (h, k)) = record { low = inl h; high = inr (inl k) }
+between_range a b c p (inr (h, k)) = record { low = inr (inl h); high = inl k }
+
 -- so that it is on an arc whose points are on one line
 pub flat_on : (a b c p : Place) → IsOnRising a c p → area a b c ≡ pos 0 → IsOnFlatArc a b c p
 flat_on a b c p h z =
@@ -179,8 +178,8 @@ flat_on a b c p h z =
       with_bc = area_next p b c
           ∙ one_none _ (none_factor _ _ rise (f ∙ λ i. none (c.y -ℤ p.y) z i -ℤ none (b.y -ℤ c.y) h.none i));
       with_ac = h.none;
-      range_x = in_range a.x b.x c.x p.x (chord_between a.x a.y c.x c.y p.x p.y low high h.none);
-      range_y = in_range a.y b.y c.y p.y (inl (omega (arith, signed_linear, low), omega (arith, signed_linear, high)));
+      range_x = between_range a.x b.x c.x p.x (chord_between a.x a.y c.x c.y p.x p.y low high h.none);
+      range_y = between_range a.y b.y c.y p.y (inl (omega (arith, signed_linear, low), omega (arith, signed_linear, high)));
     }
   where
     one_none : (z : ℤ) → pos 1 *ℤ z ≡ pos 0 → z ≡ pos 0
@@ -189,17 +188,6 @@ flat_on a b c p h z =
     none : (k : ℤ) {z : ℤ} → z ≡ pos 0 → k *ℤ (pos 1 *ℤ z) ≡ pos 0
     none k e = times_none k _ (times_none (pos 1) _ e)
 
-    in_range : (a b c p : ℤ) → IsBetween a c p → IsInRange a b c p
-    in_range a b c p (inl (h, k)) = record { low = inl h; high = inr (inl k) }
-    in_range a b c p (inr (h, k)) = record { low = inr (inl h); high = inl k }
-
 -- and on a line
 pub line_on : (a c p : Place) → IsOnRising a c p → IsOnLine a c p
-line_on a c p h =
-    let low = h.low in
-    let high = h.high in
-    record {
-      collinear = h.none;
-      between_x = chord_between a.x a.y c.x c.y p.x p.y low high h.none;
-      between_y = inl (omega (arith, signed_linear, low), omega (arith, signed_linear, high));
-    }
+line_on a c p h = grind (arith, signed_linear, h, chord_between)

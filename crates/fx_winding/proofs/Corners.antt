@@ -1,4 +1,4 @@
--- The crossings of a triangle's sides, added up around it.
+-- The crossings of a triangle that turns left add up to 1 inside it (`around_inside`) and to 0 outside (`around_outside`).
 -- Serves the law of halves: the triangle of an arc's ends and the join.
 use Rattle.std.proofs.Common.{◌≡◌, ◌∙◌, ◌⊎◌, inl, inr, ℤ, pos, ◌+ℤ◌, ◌-ℤ◌, ◌*ℤ◌, ◌≤ℤ◌, ◌<ℤ◌}
 use Rattle.std.proofs.Common.{arith}
@@ -18,10 +18,7 @@ AreBalanced a j c p u v w = u *ℤ (a -ℤ p) +ℤ v *ℤ (j -ℤ p) +ℤ w *ℤ
 
 -- the sum around the triangle is the same from each corner
 pub around_turned : (a j c p u v w : ℤ) → around a j c p u v w ≡ around j c a p v w u
-around_turned a j c p u v w = turned (crossing_number a j p w) (crossing_number j c p u) (crossing_number c a p v)
-  where
-    turned : (x y z : ℤ) → (x +ℤ y) +ℤ z ≡ (y +ℤ z) +ℤ x
-    turned x y z = omega (arith, signed_linear)
+around_turned a j c p u v w = grind (arith, signed_linear)
 
 -- ---- weights and heights
 -- two weights of one sign, one of them not 0, leave the other sign to the third

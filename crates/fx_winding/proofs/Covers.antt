@@ -1,4 +1,4 @@
--- Coverage by the pieces of a list, whatever their order.
+-- Pieces cover the same places in any order: `covered_permutation`.
 -- Serves the laws of reversed, moved and halved pieces.
 use Rattle.std.proofs.Common.{◌≡◌, ◌≢◌, refl, sym, ap, ◌∙◌, subst, ◌↔◌, ◌⊎◌, inl, inr, ℕ, zero, suc, ◌+◌, ◌<◌, ℤ, pos, ◌+ℤ◌, List}
 use Rattle.std.proofs.Common.{[]}
@@ -9,7 +9,7 @@ use Rattle.std.proofs.Math.ListN.{get_or-map}
 use Rattle.std.proofs.lemmas.List.{length-map, get_or_default}
 use Rattle.std.proofs.lemmas.List.Sorted.{IsPermutation-sym, Contains-permutation, sum_by-IsPermutation}
 use Rattle.std.proofs.lemmas.List.Sums.{sum_by-cons}
-use borrow.Author.Differences.{up, down, same_in}
+use borrow.Author.Differences.{up, down}
 use Rattle.fx_fixed.proofs.Linear.{signed_linear}
 use Rattle.fx_winding.specs.Area.{Place}
 use Rattle.fx_winding.specs.Winding.{Span, IsOn, crossing, region, winding, IsCovered}
@@ -32,12 +32,7 @@ winding_parts p (s ∷ ss) =
     omega (arith, signed_linear, u, d, rest)
 
 pub winding_permutation : (p : Place) (ss ts : List Span) → IsPermutation ss ts → winding p ts ≡ winding p ss
-winding_permutation p ss ts h =
-    let u = sum_by-IsPermutation (parts_up p) ss ts h in
-    let d = sum_by-IsPermutation (parts_down p) ss ts h in
-    let l = winding_parts p ss in
-    let r = winding_parts p ts in
-    same_in _ _ (omega (arith, u, d, l, r))
+winding_permutation p ss ts h = grind (arith, signed_linear, h, sum_by-IsPermutation, parts_up, parts_down, winding_parts)
 
 pub any_permutation : (P : Span → Type 0) (ss ts : List Span) → IsPermutation ss ts → Any P ss → Any P ts
 any_permutation P ss ts h (k, s, within, is, holds) =
@@ -55,10 +50,7 @@ covered_permutation p ss ts h =
 
 pub any_map : {X Y : Type 0} (f : X → Y) (P : X → Type 0) (Q : Y → Type 0) → ((x : X) → P x → Q (f x)) → (xs : List X) → Any P xs
     → Any Q (map f xs)
-any_map f P Q to xs (k, x, within, is, holds) =
-    let n = length-map xs f in
-    let e = get_or-map f xs k x in
-    (k, f x, omega (arith, n, within), e ∙ ap f is, to x holds)
+any_map f P Q to xs h = grind (arith, signed_linear, to, h, length-map, get_or-map)
 
 pub any_unmap : {X Y : Type 0} (f : X → Y) (P : X → Type 0) (Q : Y → Type 0) → ((x : X) → Q (f x) → P x) → (xs : List X)
     → Any Q (map f xs) → Any P xs

@@ -1,9 +1,8 @@
--- One bit of a bitmap set.
+-- One bit set in a bitmap's words sets that pixel (`bit_here`) and changes no other (`bit_elsewhere`).
 -- Serves `set` of bitmaps.
-use Rattle.std.proofs.Common.{◌≡◌, ◌≢◌, ◌⊎◌, inl, inr, refl, sym, ap, ◌∙◌, ℕ, suc, ◌+◌, ◌-◌, ◌*◌, ◌/◌, ◌%◌, ◌<◌, ◌≤◌}
+use Rattle.std.proofs.Common.{◌≡◌, ◌≢◌, ◌⊎◌, inl, inr, refl, sym, ap, ◌∙◌, ℕ, suc, ◌+◌, ◌*◌, ◌/◌, ◌<◌, ◌≤◌}
 use Rattle.std.proofs.Common.{ℤ, Bool, true, false, List, [], length, take, drop, get_or, length-drop, arith}
 use Rattle.std.specs.Prelude.{◌==◌}
-use Rattle.std.specs.Int.{bit_at}
 use Rattle.std.proofs.lemmas.List.{length-take-le, get_or-take, get_or-drop, get_or-map}
 use Rattle.std.proofs.Math.Nat.{mul-le-mul_right}
 use Rattle.fx_fixed.proofs.Linear.{signed_linear}
@@ -15,11 +14,7 @@ use Rattle.fx_winding.proofs.Grid.{length-cut, cut-row, row_fits, bits_in-at, st
 use Rattle.fx_winding.proofs.Scanned.{from_is, steps_back}
 
 word_bit-part : (size n k : ℕ) (xs : List ℕ) → k < 32 * size → word_bit (take size (drop n xs)) k ≡ word_bit xs (32 * n + k)
-word_bit-part size n k xs h =
-    let word : get_or (take size (drop n xs)) (k / 32) 0 ≡ get_or xs ((32 * n + k) / 32) 0 =
-    get_or-take size (drop n xs) (k / 32) 0 (omega arith) ∙ get_or-drop n xs (k / 32) 0 ∙ ap (λ m. get_or xs m 0) (omega arith) in
-    let place : 31 - k % 32 ≡ 31 - (32 * n + k) % 32 = omega arith in
-    λ i. bit_at (word i) (place i)
+word_bit-part size n k xs h = grind (arith, signed_linear, h, get_or-take, get_or-drop)
 
 word_bit-cut : (count size up k : ℕ) (xs : List ℕ) → up < count → k < 32 * size
     → word_bit (get_or (cut count size xs) up []) k ≡ word_bit xs (32 * (up * size) + k)
@@ -98,10 +93,7 @@ bit_here f xs b col row seen c r h =
     ap (λ g. bit_of g col row) (sym seen) ∙ bit_of-number f xs col row c r ∙ ap (λ n. n == 1) h ∙ refl
 
 same_steps : (first : ℤ) (count : ℕ) (m n : ℤ) → IsFrom first count m → IsFrom first count n → steps first m ≡ steps first n → m ≡ n
-same_steps first count m n hm hn e =
-    let p = steps_back first count m hm in
-    let q = steps_back first count n hn in
-    omega (arith, signed_linear, p, q, e)
+same_steps first count m n hm hn e = grind (arith, signed_linear, hm, hn, e, steps_back)
 
 pub bit_elsewhere : (f : Frame) (xs ys : List ℕ) (a b : Bits) (col row : ℤ) → grid f xs ≡ a → grid f ys ≡ b
     → IsFrom f.left f.width col → IsFrom f.bottom f.height row
@@ -140,7 +132,4 @@ bit_elsewhere f xs ys a b col row seen seen' c r others i j n =
 -- where a bit is, and that the words have it
 pub number_within : (f : Frame) (col row : ℤ) → IsFrom f.left f.width col → IsFrom f.bottom f.height row
     → bit_number f col row / 32 < f.height * words_for f.width
-number_within f col row c r =
-    let p = row_fits (steps f.bottom row) f.height (words_for f.width) (steps_below f.bottom f.height row r) in
-    let held = words_hold f.width (steps f.left col) (steps_below f.left f.width col c) in
-    omega (arith, p, held)
+number_within f col row c r = grind (arith, signed_linear, c, r, row_fits, steps_below, words_hold)

@@ -1,14 +1,14 @@
--- The areas of an arc's halves with a place, and which places are on them, if the arc turns left.
+-- A place is on an arc that turns left exactly if it is on one of its halves: `curve_halves`.
 -- Serves the law of halves.
-use Rattle.std.proofs.Common.{◌≡◌, sym, ◌∙◌, subst, ◌↔◌, ◌⊎◌, inl, inr, zero, suc, ℤ, pos, negsuc, ◌+ℤ◌, ◌-ℤ◌, ◌*ℤ◌, neg_ℤ}
+use Rattle.std.proofs.Common.{◌≡◌, sym, ◌∙◌, ◌↔◌, ◌⊎◌, inl, inr, ℤ, pos, ◌+ℤ◌, ◌-ℤ◌, ◌*ℤ◌, neg_ℤ}
 use Rattle.std.proofs.Common.{refl, ◌≤ℤ◌, ◌<ℤ◌, List, [], ◌∷◌, arith}
-use Rattle.std.proofs.lemmas.Int.{ints, by_lt_z}
+use Rattle.std.proofs.lemmas.Int.{by_lt_z}
 use Rattle.fx_fixed.specs.Polynomial.{Expr, var, num, ◌⊞◌, ◌⊠◌, minus, ◌⊟◌}
 use Rattle.fx_fixed.proofs.Ring.{ring, one-*ℤ}
 use Rattle.fx_fixed.proofs.Linear.{signed_linear}
 use Rattle.fx_fixed.proofs.Signs.{product_at_least_zero, product_above_zero}
 use Rattle.fx_winding.specs.Area.{Place, area, gap_of}
-use Rattle.fx_winding.specs.Winding.{sign, weight_a, weight_b, weight_c, AreOnArc, IsOnCurve}
+use Rattle.fx_winding.specs.Winding.{sign, AreOnArc, IsOnCurve}
 use Rattle.fx_winding.proofs.Products.{IsProduct, product}
 use Rattle.fx_winding.proofs.Triangle.{ExprPlace, area_expr, at, coordinates, area_at}
 use Rattle.fx_winding.proofs.Middles.{beyond}
@@ -130,9 +130,7 @@ pub second_turns : (a m j : Place) → ((pos 0 <ℤ area a m j) ↔ (pos 0 <ℤ 
 second_turns a m j = second_sign _ _ (area_second a m j)
 
 pub sign_above : (z : ℤ) → pos 0 <ℤ z → sign z ≡ pos 1
-sign_above (pos zero) h = absurd (omega (arith, ints))
-sign_above (pos (suc n)) h = refl
-sign_above (negsuc n) h = absurd (omega (arith, ints))
+sign_above z h = grind (arith, signed_linear, h)
 
 -- ---- the gaps
 pub gap_whole : (e f g : ℤ) → gap_of (whole_u e f g) (whole_v f g) (whole_w g) ≡ twice (eight_times (gap_of e f g))
@@ -155,21 +153,12 @@ gap_above e f g hf hv hw he =
     ring (e ∷ f ∷ g ∷ []) ((two (two (var 0)) ⊞ var 1) ⊠ var 2 ⊞ minus (var 1) ⊠ (var 1 ⊞ var 2))
     (num (pos 4) ⊠ (var 0 ⊠ var 2) ⊟ var 1 ⊠ var 1) tt in
     by_lt_z f (pos 0)
-    (λ k. omega (
-      arith,
-      signed_linear,
-      s,
-      product_at_least_zero (four_times e +ℤ f) g hv (omega (arith, signed_linear)),
-      product_above_zero (neg_ℤ f) (f +ℤ g) (omega (arith, signed_linear, k)) hw,
-    ))
-    (λ k. omega (
-      arith,
-      signed_linear,
-      s,
-      product_above_zero (four_times e +ℤ f) g (omega (arith, signed_linear, k, he))
-          (omega (arith, signed_linear)),
-      product_at_least_zero (neg_ℤ f) (f +ℤ g) (omega (arith, signed_linear)) (omega (arith, signed_linear)),
-    ))
+    (λ k. let p = product_at_least_zero (four_times e +ℤ f) g hv (omega (arith, signed_linear)) in
+    let q = product_above_zero (neg_ℤ f) (f +ℤ g) (omega (arith, signed_linear, k)) hw in
+    omega (arith, signed_linear, s, p, q))
+    (λ k. let p = product_above_zero (four_times e +ℤ f) g (omega (arith, signed_linear, k, he)) (omega (arith, signed_linear)) in
+    let q = product_at_least_zero (neg_ℤ f) (f +ℤ g) (omega (arith, signed_linear)) (omega (arith, signed_linear)) in
+    omega (arith, signed_linear, s, p, q))
 
 -- ---- on an arc that turns left
 arc_of_halves : (e f g : ℤ) → AreOnArc e f g ⊎ AreOnArc (second_u e f g) (second_v e f) e
@@ -216,25 +205,7 @@ raw {s} {z} {u} es ez = (λ i. es i *ℤ ez i) ∙ one-*ℤ u
 -- the places on such an arc by its areas
 pub curve_is : {u v w : ℤ} (a b c p : Place) → pos 0 <ℤ area a b c → area p b c ≡ u → area a p c ≡ v → area a b p ≡ w
     → IsOnCurve a b c p ↔ AreOnArc u v w
-curve_is {u} {v} {w} a b c p d eu ev ew = (
-  λ on. subst (λ (T : Type 0). T) (λ i. AreOnArc (by_u i) (by_v i) (by_w i)) on.on_arc,
-  λ h. record {
-    bent = λ z. not_none (area a b c) d z;
-    on_arc = subst (λ (T : Type 0). T) (λ i. AreOnArc (sym by_u i) (sym by_v i) (sym by_w i)) h;
-  },
-)
-  where
-    not_none : (z : ℤ) → pos 0 <ℤ z → ¬ (z ≡ pos 0)
-    not_none z h e = omega (arith, signed_linear)
-
-    by_u : weight_a a b c p ≡ u
-    by_u = raw (sign_above (area a b c) d) eu
-
-    by_v : weight_b a b c p ≡ v
-    by_v = raw (sign_above (area a b c) d) ev
-
-    by_w : weight_c a b c p ≡ w
-    by_w = raw (sign_above (area a b c) d) ew
+curve_is {u} {v} {w} a b c p d eu ev ew = grind (arith, signed_linear, b, c, p, d, eu, ev, ew, raw, sign_above)
 
 pub curve_halves : (a m j p : Place) → pos 0 <ℤ area a m j
     → IsOnCurve a (control a m) (end a m j) p ↔ (IsOnCurve a m j p ⊎ IsOnCurve j (second_control m j) (end a m j) p)

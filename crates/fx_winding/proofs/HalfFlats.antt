@@ -106,14 +106,7 @@ at_value b c e = record { low = inl (omega (arith, signed_linear, e)); high = in
 
 -- ---- the places
 on_flat : {a b c p : Place} → IsFlat a b c p → IsInRange a.x b.x c.x p.x → IsInRange a.y b.y c.y p.y → IsOnFlatArc a b c p
-on_flat h x y = record {
-  flat = h.flat;
-  with_ab = h.with_ab;
-  with_bc = h.with_bc;
-  with_ac = h.with_ac;
-  range_x = x;
-  range_y = y;
-}
+on_flat h x y = grind (arith, signed_linear, h, x, y, range_y)
 
 flat_of : {a b c p : Place} → IsOnFlatArc a b c p → IsFlat a b c p
 flat_of on = record { flat = on.flat; with_ab = on.with_ab; with_bc = on.with_bc; with_ac = on.with_ac }

@@ -2,10 +2,8 @@
 -- triangle of the ends and the join, which is what their regions leave.
 -- Serves the law of halves.
 use Rattle.std.proofs.Common.{◌≡◌, refl, sym, ◌∙◌, ◌⊎◌, inl, inr, ℤ, pos, ◌+ℤ◌, ◌-ℤ◌, neg_ℤ, ◌≤ℤ◌, ◌<ℤ◌, Bool, true, false}
-use Rattle.std.proofs.Common.{[], ◌∷◌, arith}
+use Rattle.std.proofs.Common.{arith}
 use Rattle.std.proofs.lemmas.Int.{ints, by_lt_z}
-use Rattle.fx_fixed.specs.Polynomial.{var, num, ◌⊠◌, ◌⊟◌}
-use Rattle.fx_fixed.proofs.Ring.{ring}
 use Rattle.fx_fixed.proofs.Linear.{signed_linear}
 use Rattle.fx_winding.specs.Area.{gap_of}
 use Rattle.fx_winding.specs.Winding.{AreOnArc}
@@ -31,14 +29,7 @@ record IsCount (u v w gap : ℤ) (r : Bool) (x : ℤ) : Type 0 where
   no_gap : pos 0 <ℤ v → gap ≤ℤ pos 0 → x ≡ pos 0
 
 count : {u v w gap x : ℤ} {r : Bool} → gap_of u v w ≡ gap → Counts u v w r x → IsCount u v w gap r x
-count {u} {v} {w} {gap} {x} {r} e h = by u v w (gap_of u v w) gap x r e h
-  where
-    by : (u v w q gap x : ℤ) (r : Bool) → q ≡ gap
-        → ((((pos 0 <ℤ u) × (pos 0 <ℤ v) × (pos 0 <ℤ w) × (pos 0 <ℤ q))
-        ⊎ ((v ≡ pos 0) × (pos 0 <ℤ u) × (pos 0 <ℤ w) × (r ≡ true))) × (x ≡ pos 1))
-        ⊎ ((¬ (((pos 0 <ℤ u) × (pos 0 <ℤ v) × (pos 0 <ℤ w) × (pos 0 <ℤ q))
-        ⊎ ((v ≡ pos 0) × (pos 0 <ℤ u) × (pos 0 <ℤ w) × (r ≡ true)))) × (x ≡ pos 0)) → IsCount u v w gap r x
-    by u v w q gap x r e h = grind (arith, signed_linear)
+count {u} {v} {w} {gap} {x} {r} e h = grind (arith, ints, e, h)
 
 -- what the regions of an arc and of its halves count at a place with the weights e, f and g in the first half
 record AreCounted (e f g : ℤ) (r r1 r2 : Bool) (x x1 x2 : ℤ) : Type 0 where
@@ -92,15 +83,7 @@ beyond_second {e} {f} {g} {x} {x1} {x2} c h = omega (arith, signed_linear, none,
 
 -- on the other side of the arc's chord nothing counts
 under_chord : {e f g x x1 x2 : ℤ} {r r1 r2 : Bool} → AreCounted e f g r r1 r2 x x1 x2 → (f +ℤ g) <ℤ pos 0 → x1 +ℤ x2 ≡ x
-under_chord {e} {f} {g} {x} {x1} {x2} c h =
-    omega (arith, signed_linear, first, second, c.whole.no_v (omega (arith, signed_linear, h)))
-  where
-    first : x1 ≡ pos 0
-    first = by_lt_z f (pos 0) (λ k. c.first.no_v k) (λ k. c.first.no_w (omega (arith, signed_linear, h, k)))
-
-    second : x2 ≡ pos 0
-    second = by_lt_z (pos 0) (four_times e +ℤ f) (λ k. c.second.no_v (omega (arith, signed_linear, k)))
-        (λ k. c.second.no_u (omega (arith, signed_linear, h, k)))
+under_chord {e} {f} {g} {x} {x1} {x2} c h = grind (arith, ints, c, h)
 
 -- ---- whether an arc is right of its chord, by the heights of its start, control point and end
 pub record IsRight (a b c : ℤ) (r : Bool) : Type 0 where
@@ -121,10 +104,7 @@ beside_chord c a j b s r o h k = grind (arith, ints)
 
 -- no gap at the ends of an arc
 pub no_gap : (u v w : ℤ) → (u ≡ pos 0) ⊎ (w ≡ pos 0) → v ≡ pos 0 → gap_of u v w ≡ pos 0
-no_gap u v w (inl eu) ev = (λ i. gap_of (eu i) (ev i) w)
-    ∙ ring (w ∷ []) (num (pos 4) ⊠ (num (pos 0) ⊠ var 0) ⊟ num (pos 0) ⊠ num (pos 0)) (num (pos 0)) tt
-no_gap u v w (inr ew) ev = (λ i. gap_of u (ev i) (ew i))
-    ∙ ring (u ∷ []) (num (pos 4) ⊠ (var 0 ⊠ num (pos 0)) ⊟ num (pos 0) ⊠ num (pos 0)) (num (pos 0)) tt
+no_gap u v w h i = grind (arith, signed_linear, h, i)
 
 -- ---- the sum
 -- an arc and its halves by the heights of their points and of the place, with the place's weights in the first half
@@ -167,30 +147,24 @@ within_triangle {a} {m} {j} {b} {n} {c} {p} {e} {f} {g} h k lf hu hv =
 on_chord : {a m j b n c p e f g x x1 x2 : ℤ} {r r1 r2 : Bool} → AreHalves a m j b n c p e f g → AreCounted e f g r r1 r2 x x1 x2
     → IsRight a b c r → f <ℤ pos 0 → pos 0 <ℤ (four_times e +ℤ f) → f +ℤ g ≡ pos 0 → sides a j c p e f g +ℤ (x1 +ℤ x2) ≡ x
 on_chord {a} {m} {j} {b} {n} {c} {p} {e} {f} {g} {x} {x1} {x2} {r} h k right lf hu zv =
-    by (beside_chord c a j b _ r (around_side c a j p (neg_ℤ f) (four_times e +ℤ f) (whole_v f g)
+    by r (sides a j c p e f g) (around c a j p (neg_ℤ f) (four_times e +ℤ f) (whole_v f g)) x1 x2 x turned
+    (beside_chord c a j b _ r (around_side c a j p (neg_ℤ f) (four_times e +ℤ f) (whole_v f g)
     (omega (arith, signed_linear, h.balanced)) (omega (arith, signed_linear, lf)) hu (omega (arith, signed_linear, zv))) right
     (λ l. omega (arith, signed_linear, l, h.b_is, h.n_is, h.c_is)))
+    (k.first.no_v lf) (k.second.no_v (omega (arith, signed_linear, hu)))
+    (k.whole.on level (omega (arith, signed_linear, hu, zv)) (omega (arith, signed_linear, lf, zv))) (k.whole.off level)
   where
+    level : whole_v f g ≡ pos 0
+    level = omega (arith, signed_linear, zv)
+
     turned : sides a j c p e f g ≡ around c a j p (neg_ℤ f) (four_times e +ℤ f) (whole_v f g)
     turned = around_turned a j c p (four_times e +ℤ f) (whole_v f g) (neg_ℤ f)
         ∙ around_turned j c a p (whole_v f g) (neg_ℤ f) (four_times e +ℤ f)
 
-    none : x1 +ℤ x2 ≡ pos 0
-    none = omega (arith, signed_linear, k.first.no_v lf, k.second.no_v (omega (arith, signed_linear, hu)))
-
-    by : ((r ≡ true) × (around c a j p (neg_ℤ f) (four_times e +ℤ f) (whole_v f g) ≡ pos 1))
-        ⊎ ((r ≡ false) × (around c a j p (neg_ℤ f) (four_times e +ℤ f) (whole_v f g) ≡ pos 0))
-        → sides a j c p e f g +ℤ (x1 +ℤ x2) ≡ x
-    by (inl (t, s)) = omega (
-      arith,
-      signed_linear,
-      turned,
-      s,
-      none,
-      k.whole.on (omega (arith, signed_linear, zv))
-          (omega (arith, signed_linear, hu, zv)) (omega (arith, signed_linear, lf, zv)) t,
-    )
-    by (inr (t, s)) = omega (arith, signed_linear, turned, s, none, k.whole.off (omega (arith, signed_linear, zv)) t)
+    by : (r : Bool) (s t y z x : ℤ) → s ≡ t → ((r ≡ true) × (t ≡ pos 1)) ⊎ ((r ≡ false) × (t ≡ pos 0)) → y ≡ pos 0 → z ≡ pos 0
+        → (r ≡ true → x ≡ pos 1) → (r ≡ false → x ≡ pos 0) → s +ℤ (y +ℤ z) ≡ x
+    by r s t y z x e (inl (i, o)) hy hz on off = let q = on i in omega (arith, signed_linear)
+    by r s t y z x e (inr (i, o)) hy hz on off = let q = off i in omega (arith, signed_linear)
 
 -- on the chord of the first half
 on_first : {a m j b n c p e f g x x1 x2 : ℤ} {r r1 r2 : Bool} → AreHalves a m j b n c p e f g → AreCounted e f g r r1 r2 x x1 x2
@@ -244,18 +218,13 @@ on_second {a} {m} {j} {b} {n} {c} {p} {e} {f} {g} {x} {x1} {x2} {r2 = r2} h k ri
               (omega (arith, signed_linear, lf, hv)) (omega (arith, signed_linear, q)),
         )
 
+    on : r2 ≡ true → x2 ≡ pos 1
+    on = k.second.on (omega (arith, signed_linear, zu)) (omega (arith, signed_linear, zu, hv)) he
+
     by : ((r2 ≡ true) × (around j c a p (whole_v f g) (neg_ℤ f) (four_times e +ℤ f) ≡ pos 0))
         ⊎ ((r2 ≡ false) × (around j c a p (whole_v f g) (neg_ℤ f) (four_times e +ℤ f) ≡ pos 1))
         → sides a j c p e f g +ℤ (x1 +ℤ x2) ≡ x
-    by (inl (t, s)) = omega (
-      arith,
-      signed_linear,
-      turned,
-      s,
-      rest,
-      k.second.on (omega (arith, signed_linear, zu))
-          (omega (arith, signed_linear, zu, hv)) he t,
-    )
+    by (inl (t, s)) = omega (arith, signed_linear, turned, s, rest, on t)
     by (inr (t, s)) = omega (arith, signed_linear, turned, s, rest, k.second.off (omega (arith, signed_linear, zu)) t)
 
 -- the ends and the join are on the arc

@@ -17,7 +17,7 @@ use Rattle.fx_winding.specs.Halving.{HalvesMeet}
 use Rattle.fx_winding.proofs.Beside.{total_above}
 use Rattle.fx_winding.proofs.Crossings.{crossing_number}
 use Rattle.fx_winding.proofs.Products.{IsProduct, product}
-use Rattle.fx_winding.proofs.Regions.{IsIn, IsInRegion, region_cases, region_in, region_out}
+use Rattle.fx_winding.proofs.Regions.{IsInRegion, move_in, region_cases, region_in, region_out}
 use Rattle.fx_winding.proofs.Reversal.{crossing_back, area_back, on_part_back, region_part_back}
 use Rattle.fx_winding.proofs.Covers.{covered_permutation, any_here, any_there, any_cases}
 use Rattle.fx_winding.proofs.Middles.{beyond, Cut, halves_are}
@@ -31,16 +31,13 @@ use Rattle.fx_winding.proofs.HalfFlats.{flat_halves, line_start, line_end}
 use Rattle.fx_winding.proofs.HalfWindings.{Counts, IsRight, AreHalves, sides, no_gap, sum_of_halves}
 
 -- ---- regions by their areas, where the arc's area is above zero
-move_in : {u v w u' v' w' : ℤ} {r : Bool} → u ≡ u' → v ≡ v' → w ≡ w' → IsIn u v w r → IsIn u' v' w' r
-move_in {r = r} eu ev ew h = subst (λ (T : Type 0). T) (λ i. IsIn (eu i) (ev i) (ew i) r) h
-
 counts_of : (a b c p : Place) {u v w : ℤ} → sign (area a b c) ≡ pos 1 → area p b c ≡ u → area a p c ≡ v → area a b p ≡ w
     → Counts u v w (is_right_of_chord a b c) (region_part a (Some b) c p)
 counts_of a b c p {u} {v} {w} s eu ev ew = by (region_cases a b c p)
   where
     by : IsInRegion a b c p ⊎ (¬ (IsInRegion a b c p)) → Counts u v w (is_right_of_chord a b c) (region_part a (Some b) c p)
-    by (inl h) = inl (move_in (raw s eu) (raw s ev) (raw s ew) h, region_in a b c p h ∙ s)
-    by (inr n) = inr (λ k. n (move_in (sym (raw s eu)) (sym (raw s ev)) (sym (raw s ew)) k), region_out a b c p n)
+    by (inl h) = inl (move_in (raw s eu) (raw s ev) (raw s ew) refl h, region_in a b c p h ∙ s)
+    by (inr n) = inr (λ k. n (move_in (sym (raw s eu)) (sym (raw s ev)) (sym (raw s ew)) refl k), region_out a b c p n)
 
 right_of : (a b c : Place) → pos 0 <ℤ area a b c → IsRight a.y b.y c.y (is_right_of_chord a b c)
 right_of a b c d = by (area a b c) (c.y -ℤ a.y) _ a.y b.y c.y refl (product _ _) d
@@ -300,11 +297,7 @@ known_on a (Some b) c h e p = known_either (known_curve a b c p) (known_flat a b
 
 -- ---- the halves first in a list, and then anywhere
 any_either : (P : Span → Type 0) (s : Span) (ss : List Span) → Any P (s ∷ ss) ↔ (P s ⊎ Any P ss)
-any_either P s ss = (any_cases P s ss, by)
-  where
-    by : P s ⊎ Any P ss → Any P (s ∷ ss)
-    by (inl h) = any_here P s ss h
-    by (inr h) = any_there P s ss h
+any_either P s ss = grind (arith, signed_linear, any_cases, any_here, any_there)
 
 -- f and g in the place of s, where s is known to hold or not, and if not, N and M are one fact
 in_place : {S F G R A B C N M : Type 0} → Known S → S ↔ (F ⊎ G) → A ↔ (F ⊎ B) → B ↔ (G ⊎ R) → C ↔ (S ⊎ R) → (¬ S → N ↔ M)

@@ -1,7 +1,7 @@
--- The segments that a piece meets.
+-- A piece that lies above a row, or below it, meets no segment of it: `above_not_met`, `below_not_met`.
 -- Serves the law `meeting`, and `fx_dropout`, which asks no piece that lies beside a row.
-use Rattle.std.proofs.Common.{◌≡◌, ◌≢◌, sym, ap, ◌∙◌, ◌⊎◌, inl, inr, ℤ, pos, ◌+ℤ◌, ◌-ℤ◌, ◌*ℤ◌}
-use Rattle.std.proofs.Common.{◌<ℤ◌, ◌↔◌, neg_ℤ, ◌≤ℤ◌, [], ◌∷◌, Option, Some, None, option_map, List, arith}
+use Rattle.std.proofs.Common.{◌≡◌, ◌≢◌, sym, ◌∙◌, ◌⊎◌, inl, inr, ℤ, pos, ◌+ℤ◌, ◌-ℤ◌, ◌*ℤ◌}
+use Rattle.std.proofs.Common.{◌<ℤ◌, neg_ℤ, [], ◌∷◌, Option, Some, None, option_map, List, arith}
 use Rattle.std.proofs.lemmas.Int.{ints}
 use Rattle.fx_fixed.specs.Polynomial.{var, ◌⊞◌, ◌⊠◌, ◌⊟◌}
 use Rattle.fx_fixed.proofs.Ring.{ring}
@@ -14,10 +14,10 @@ use Rattle.fx_winding.specs.Meets.{turn, slope, IsWithinRow, IsReached, IsTipPar
 use Rattle.fx_winding.specs.Meets.{CrossingsCancel, InnerMeets, LinesAreMet}
 use Rattle.fx_winding.proofs.Crossings.{crossing_number, area_turn}
 use Rattle.fx_winding.specs.Outside.{HasAll, OptionAll}
-use Rattle.fx_winding.proofs.Beside.{HasAll-weaker, under_off, over_off}
+use Rattle.fx_winding.proofs.Beside.{under_off, over_off}
 use Rattle.fx_winding.proofs.Triangle.{area_expr, at, coordinates, slope_at, not_below_range, not_above_range}
 use Rattle.fx_winding.proofs.Reversal.{minus_sum, low_back, high_back, none_back, region_part_back, reversal_negates}
-use Rattle.fx_winding.proofs.Shifts.{area_shift, crossing_shift, region_part_shift, low_shift, high_shift}
+use Rattle.fx_winding.proofs.Shifts.{area_shift, crossing_shift, region_part_shift, low_shift, high_shift, unshifted}
 
 -- ---- reversed
 same_minus : (x y : ℤ) → neg_ℤ x ≡ neg_ℤ y → x ≡ y
@@ -28,8 +28,7 @@ added_back p s =
     let k = reversal_negates p s in (λ i. k.1 i +ℤ k.2 i) ∙ sym (minus_sum (crossing p s) (region p s))
 
 reached_back : (a b c p : ℤ) → IsReached a b c p → IsReached c b a p
-reached_back a b c p (inl (l, r, h)) = inl (r, l, high_back a b c p h)
-reached_back a b c p (inr (l, r, h)) = inr (r, l, low_back a b c p h)
+reached_back a b c p h = let k = high_back a b c p in let l = low_back a b c p in grind (arith, ints, h, k, l)
 
 slope_back : (a b c p : Place) → slope c b a p ≡ slope a b c p
 slope_back a b c p =
@@ -75,66 +74,40 @@ step_shift t m n = omega (arith, signed_linear)
 
 slope_shift : (x y : ℤ) (a b c p : Place)
     → slope (shifted_place x y a) (shifted_place x y b) (shifted_place x y c) (shifted_place x y p) ≡ slope a b c p
-slope_shift x y a b c p =
-    λ i. pos 2 *ℤ (step_shift y b.y c.y i *ℤ area_shift x y a b p i +ℤ step_shift y a.y b.y i *ℤ area_shift x y p b c i)
-    +ℤ step_shift y a.y c.y i *ℤ area_shift x y a p c i
+slope_shift x y a b c p = grind (arith, signed_linear, step_shift, area_shift)
 
-within_shift : (x y : ℤ) (p q e : Place)
-    → IsWithinRow (shifted_place x y p) (shifted_place x y q) (shifted_place x y e) ↔ IsWithinRow p q e
-within_shift x y p q e = omega (arith, signed_linear)
+within_shift : (x y : ℤ) (p q e : Place) → IsWithinRow p q e
+    → IsWithinRow (shifted_place x y p) (shifted_place x y q) (shifted_place x y e)
+within_shift x y p q e h = omega (arith, signed_linear, h)
 
-below_shift : (t m n : ℤ) → ((m +ℤ t) <ℤ (n +ℤ t)) ↔ (m <ℤ n)
-below_shift t m n = omega (arith, signed_linear)
+reached_shift : (t a b c p : ℤ) → IsReached a b c p → IsReached (a +ℤ t) (b +ℤ t) (c +ℤ t) (p +ℤ t)
+reached_shift t a b c p h = grind (arith, signed_linear, h, high_shift, low_shift)
 
-reached_shift : (t a b c p : ℤ) → IsReached (a +ℤ t) (b +ℤ t) (c +ℤ t) (p +ℤ t) ↔ IsReached a b c p
-reached_shift t a b c p = (λ h. from h, λ h. to h)
-  where
-    from : IsReached (a +ℤ t) (b +ℤ t) (c +ℤ t) (p +ℤ t) → IsReached a b c p
-    from (inl (l, r, h)) = inl ((below_shift t a p).0 l, (below_shift t c p).0 r, (high_shift t a b c p).0 h)
-    from (inr (l, r, h)) = inr ((below_shift t p a).0 l, (below_shift t p c).0 r, (low_shift t a b c p).0 h)
-
-    to : IsReached a b c p → IsReached (a +ℤ t) (b +ℤ t) (c +ℤ t) (p +ℤ t)
-    to (inl (l, r, h)) = inl ((below_shift t a p).1 l, (below_shift t c p).1 r, (high_shift t a b c p).1 h)
-    to (inr (l, r, h)) = inr ((below_shift t p a).1 l, (below_shift t p c).1 r, (low_shift t a b c p).1 h)
-
-tip_shift : (x y : ℤ) (a : Place) (b : Option Place) (c p q : Place)
+tip_shift : (x y : ℤ) (a : Place) (b : Option Place) (c p q : Place) → IsTipPart a b c p q
     → IsTipPart (shifted_place x y a) (option_map (shifted_place x y) b) (shifted_place x y c) (shifted_place x y p)
-    (shifted_place x y q) ↔ IsTipPart a b c p q
-tip_shift x y a None c p q = (λ h. h, λ h. h)
-tip_shift x y a (Some b) c p q = (
-  λ h. record {
-    reached = (reached_shift y a.y b.y c.y p.y).0 h.reached;
-    outside = sym (region_part_shift x y a (Some b) c p) ∙ h.outside;
-    rises = rw (← slope_shift x y a b c p) h.rises;
-    falls = rw (← slope_shift x y a b c q) h.falls;
-  },
-  λ h. record {
-    reached = (reached_shift y a.y b.y c.y p.y).1 h.reached;
-    outside = region_part_shift x y a (Some b) c p ∙ h.outside;
-    rises = rw (slope_shift x y a b c p) h.rises;
-    falls = rw (slope_shift x y a b c q) h.falls;
-  },
-)
+    (shifted_place x y q)
+tip_shift x y a None c p q h = h
+tip_shift x y a (Some b) c p q h = record {
+  reached = reached_shift y a.y b.y c.y p.y h.reached;
+  outside = region_part_shift x y a (Some b) c p ∙ h.outside;
+  rises = rw (slope_shift x y a b c p) h.rises;
+  falls = rw (slope_shift x y a b c q) h.falls;
+}
+
+met_shift : (x y : ℤ) (p q : Place) (s : Span) → IsMet p q s
+    → IsMet (shifted_place x y p) (shifted_place x y q) (shifted x y s)
+met_shift x y p q s h = grind (arith, signed_linear, h, within_shift, added_shift, tip_shift)
 
 pub shift_meets : ShiftMeets
-shift_meets x y p q s = (λ h. from h, λ h. to h)
-  where
-    from : IsMet (shifted_place x y p) (shifted_place x y q) (shifted x y s) → IsMet p q s
-    from (inl h) = inl ((within_shift x y p q s.a).0 h)
-    from (inr (inl h)) = inr (inl ((within_shift x y p q s.c).0 h))
-    from (inr (inr (inl n))) = inr (inr (inl (λ e. n (added_shift x y p s ∙ e ∙ sym (added_shift x y q s)))))
-    from (inr (inr (inr t))) = inr (inr (inr ((tip_shift x y s.a s.b s.c p q).0 t)))
-
-    to : IsMet p q s → IsMet (shifted_place x y p) (shifted_place x y q) (shifted x y s)
-    to (inl h) = inl ((within_shift x y p q s.a).1 h)
-    to (inr (inl h)) = inr (inl ((within_shift x y p q s.c).1 h))
-    to (inr (inr (inl n))) = inr (inr (inl (λ e. n (sym (added_shift x y p s) ∙ e ∙ added_shift x y q s))))
-    to (inr (inr (inr t))) = inr (inr (inr ((tip_shift x y s.a s.b s.c p q).1 t)))
+shift_meets x y p q s = (
+  λ h. unshifted IsMet x y p q s
+      (met_shift (neg_ℤ x) (neg_ℤ y) (shifted_place x y p) (shifted_place x y q) (shifted x y s) h),
+  met_shift x y p q s,
+)
 
 -- ---- on a row strictly between the ends
 between_not_reached : (a b c y : ℤ) → ((a <ℤ y) × (y <ℤ c)) ⊎ ((c <ℤ y) × (y <ℤ a)) → IsReached a b c y → ⊥
-between_not_reached a b c y i (inl (l, r, t)) = omega (arith, signed_linear, i, l, r)
-between_not_reached a b c y i (inr (l, r, t)) = omega (arith, signed_linear, i, l, r)
+between_not_reached a b c y i h = omega (arith, signed_linear, i, h)
 
 between_no_tip : (a : Place) (b : Option Place) (c p q : Place) → ((a.y <ℤ p.y) × (p.y <ℤ c.y)) ⊎ ((c.y <ℤ p.y) × (p.y <ℤ a.y))
     → IsTipPart a b c p q → ⊥
@@ -142,10 +115,7 @@ between_no_tip a None c p q i t = t
 between_no_tip a (Some b) c p q i t = between_not_reached a.y b.y c.y p.y i t.reached
 
 between_turns : (p q : Place) (s : Span) → IsBetweenEnds p s → IsMet p q s → turn p s ≢ turn q s
-between_turns p q s i (inl h) = absurd (omega (arith, signed_linear, i, h.level))
-between_turns p q s i (inr (inl h)) = absurd (omega (arith, signed_linear, i, h.level))
-between_turns p q s i (inr (inr (inl n))) = n
-between_turns p q s i (inr (inr (inr t))) = absurd (between_no_tip s.a s.b s.c p q i t)
+between_turns p q s h i = grind (arith, signed_linear, h, i, between_no_tip)
 
 pub inner_meets : InnerMeets
 inner_meets p q s i = (between_turns p q s i, λ n. inr (inr (inl n)))
@@ -159,7 +129,7 @@ area_along ax ay cx cy px rx y =
 
 rising_crossing_differs : (ay cy y sp sq : ℤ) → ay <ℤ y → y <ℤ cy → pos 0 <ℤ sp → sq <ℤ pos 0
     → ¬ (crossing_number ay cy y sp +ℤ pos 0 ≡ crossing_number ay cy y sq +ℤ pos 0)
-rising_crossing_differs ay cy y sp sq h1 h2 h3 h4 e = grind (arith, ints)
+rising_crossing_differs ay cy y sp sq h i j k e = grind (arith, ints)
 
 rising_line_crosses : (ax ay cx cy px qx rx y : ℤ) → px <ℤ rx → rx <ℤ qx → area_of ax ay cx cy rx y ≡ pos 0 → ay <ℤ y → y <ℤ cy
     → ¬ (crossing_number ay cy y (area_of ax ay cx cy px y) +ℤ pos 0 ≡ crossing_number ay cy y (area_of ax ay cx cy qx y) +ℤ pos 0)
@@ -176,9 +146,7 @@ crosses_on_row : (ax ay cx cy px qx py qy y : ℤ) → py ≡ y → qy ≡ y
     → ¬ (crossing_number ay cy y (area_of ax ay cx cy px y) +ℤ pos 0 ≡ crossing_number ay cy y (area_of ax ay cx cy qx y) +ℤ pos 0)
     → ¬ (crossing_number ay cy py (area_of ax ay cx cy px py) +ℤ pos 0 ≡
     crossing_number ay cy qy (area_of ax ay cx cy qx qy) +ℤ pos 0)
-crosses_on_row ax ay cx cy px qx py qy y ep eq n e =
-    n (ap (λ t. crossing_number ay cy t (area_of ax ay cx cy px t) +ℤ pos 0) (sym ep) ∙ e
-    ∙ ap (λ t. crossing_number ay cy t (area_of ax ay cx cy qx t) +ℤ pos 0) eq)
+crosses_on_row ax ay cx cy px qx py qy y ep eq n e = grind (arith, signed_linear, ep, eq, n, e, crossing_number)
 
 line_is_met : (a c p q r : Place) → p.y ≡ r.y → q.y ≡ r.y → p.x <ℤ r.x → r.x <ℤ q.x → area a c r ≡ pos 0 → a.y <ℤ r.y
     → r.y <ℤ c.y → IsMet p q (record { a = a; b = None; c = c })
@@ -196,54 +164,30 @@ lines_are_met a c p q r ep eq lp lq z (inr (h, k)) = met_back p q (record { a = 
 same_none : {w z w' z' : ℤ} → w ≡ pos 0 → z ≡ pos 0 → w' ≡ pos 0 → z' ≡ pos 0 → w +ℤ z ≡ w' +ℤ z'
 same_none e f g h = (λ i. e i +ℤ f i) ∙ sym (λ i. g i +ℤ h i)
 
-above_not_reached : (a b c y : ℤ) → y ≤ℤ a → y ≤ℤ b → ¬ (IsReached a b c y)
-above_not_reached a b c y ha hb (inl (l, r, h)) = omega (arith, signed_linear, l, ha)
-above_not_reached a b c y ha hb (inr (l, r, inl h)) = omega (arith, signed_linear, h, l)
-above_not_reached a b c y ha hb (inr (l, r, inr (inl h))) = omega (arith, signed_linear, h, r)
-above_not_reached a b c y ha hb (inr (l, r, inr (inr h))) = not_below_range a b c y hb h
+above_not_reached : (a b c y : ℤ) → y <ℤ a → y <ℤ b → ¬ (IsReached a b c y)
+above_not_reached a b c y ha hb h =
+    let n = not_below_range a b c y (omega (arith, signed_linear, hb)) in grind (arith, signed_linear, h, n)
 
-below_not_reached : (a b c y : ℤ) → a ≤ℤ y → b ≤ℤ y → ¬ (IsReached a b c y)
-below_not_reached a b c y ha hb (inl (l, r, inl h)) = omega (arith, signed_linear, h, l)
-below_not_reached a b c y ha hb (inl (l, r, inr (inl h))) = omega (arith, signed_linear, h, r)
-below_not_reached a b c y ha hb (inl (l, r, inr (inr h))) = not_above_range a b c y hb h
-below_not_reached a b c y ha hb (inr (l, r, h)) = omega (arith, signed_linear, l, ha)
+below_not_reached : (a b c y : ℤ) → a <ℤ y → b <ℤ y → ¬ (IsReached a b c y)
+below_not_reached a b c y ha hb h =
+    let n = not_above_range a b c y (omega (arith, signed_linear, hb)) in grind (arith, signed_linear, h, n)
 
-above_no_tip : (a : Place) (b : Option Place) (c p q : Place) → p.y ≤ℤ a.y → OptionAll (λ e. p.y ≤ℤ e.y) b
+-- the tip of an arc that lies above the row is not on the row
+above_no_tip : (a : Place) (b : Option Place) (c p q : Place) → p.y <ℤ a.y → OptionAll (λ e. p.y <ℤ e.y) b
     → ¬ (IsTipPart a b c p q)
 above_no_tip a None c p q ha hb t = t
 above_no_tip a (Some b) c p q ha hb t = above_not_reached a.y b.y c.y p.y ha hb t.reached
 
-below_no_tip : (a : Place) (b : Option Place) (c p q : Place) → a.y ≤ℤ p.y → OptionAll (λ e. e.y ≤ℤ p.y) b
+-- nor that of one that lies below it
+below_no_tip : (a : Place) (b : Option Place) (c p q : Place) → a.y <ℤ p.y → OptionAll (λ e. e.y <ℤ p.y) b
     → ¬ (IsTipPart a b c p q)
 below_no_tip a None c p q ha hb t = t
 below_no_tip a (Some b) c p q ha hb t = below_not_reached a.y b.y c.y p.y ha hb t.reached
 
--- the tip of an arc that lies above the row or rests on it is not on the row
-pub resting_no_tip : (p q : Place) (s : Span) → HasAll (λ e. p.y ≤ℤ e.y) s → ¬ (IsTipPart s.a s.b s.c p q)
-resting_no_tip p q s h = above_no_tip s.a s.b s.c p q h.0 h.1
-
--- nor that of one that lies below it or hangs from it
-pub hanging_no_tip : (p q : Place) (s : Span) → HasAll (λ e. e.y ≤ℤ p.y) s → ¬ (IsTipPart s.a s.b s.c p q)
-hanging_no_tip p q s h = below_no_tip s.a s.b s.c p q h.0 h.1
-
 -- a piece that lies above the row meets nothing of it
 pub above_not_met : (p q : Place) (s : Span) → q.y ≡ p.y → HasAll (λ e. p.y <ℤ e.y) s → ¬ (IsMet p q s)
-above_not_met p q s e h (inl k) = omega (arith, signed_linear, k.level, h.0)
-above_not_met p q s e h (inr (inl k)) = omega (arith, signed_linear, k.level, h.2)
-above_not_met p q s e h (inr (inr (inl n))) =
-    let i = under_off p s h in
-    let j = under_off q s (HasAll-weaker (λ e. p.y <ℤ e.y) (λ e. q.y <ℤ e.y) (λ o l. omega (arith, signed_linear, l, e)) s h) in
-    n (same_none i.0 i.1 j.0 j.1)
-above_not_met p q s e h (inr (inr (inr t))) =
-    resting_no_tip p q s (HasAll-weaker (λ e. p.y <ℤ e.y) (λ e. p.y ≤ℤ e.y) (λ o l. omega (arith, signed_linear, l)) s h) t
+above_not_met p q s h i j = grind (arith, signed_linear, h, i, j, under_off, same_none, above_no_tip)
 
 -- nor does one that lies below it
 pub below_not_met : (p q : Place) (s : Span) → q.y ≡ p.y → HasAll (λ e. e.y <ℤ p.y) s → ¬ (IsMet p q s)
-below_not_met p q s e h (inl k) = omega (arith, signed_linear, k.level, h.0)
-below_not_met p q s e h (inr (inl k)) = omega (arith, signed_linear, k.level, h.2)
-below_not_met p q s e h (inr (inr (inl n))) =
-    let i = over_off p s h in
-    let j = over_off q s (HasAll-weaker (λ e. e.y <ℤ p.y) (λ e. e.y <ℤ q.y) (λ o l. omega (arith, signed_linear, l, e)) s h) in
-    n (same_none i.0 i.1 j.0 j.1)
-below_not_met p q s e h (inr (inr (inr t))) =
-    hanging_no_tip p q s (HasAll-weaker (λ e. e.y <ℤ p.y) (λ e. e.y ≤ℤ p.y) (λ o l. omega (arith, signed_linear, l)) s h) t
+below_not_met p q s h i j = grind (arith, signed_linear, h, i, j, over_off, same_none, below_no_tip)

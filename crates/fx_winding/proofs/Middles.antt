@@ -1,11 +1,9 @@
--- The places half way between two, and the halves of an arc that they make.
+-- If an arc has halves, they are the two arcs over the middles of its points: `halves_are`.
 -- Serves `halves`, and the law of halves.
-use Rattle.std.proofs.Common.{◌≡◌, refl, sym, ap, ◌∙◌, ℤ, pos, ◌+ℤ◌, ◌-ℤ◌, ◌*ℤ◌, Bool, true, false, if◌then◌else◌, Option}
+use Rattle.std.proofs.Common.{◌≡◌, refl, sym, ap, ◌∙◌, ℤ, pos, ◌+ℤ◌, ◌-ℤ◌, ◌*ℤ◌, Option}
 use Rattle.std.proofs.Common.{Some}
 use Rattle.std.proofs.Common.{None, option_map, arith}
 use Rattle.std.specs.Prelude.{option_and_then}
-use Rattle.std.specs.Int.{int_div_euclid}
-use Rattle.std.specs.Ordering.{int_eq}
 use Rattle.std.proofs.lemmas.Int.{ints}
 use Rattle.fx_winding.specs.Area.{Place, place}
 use Rattle.fx_winding.specs.Winding.{Span}
@@ -29,11 +27,7 @@ abbrev pub beyond : Place → Place → Place
 beyond p q = place ((q.x +ℤ q.x) -ℤ p.x) ((q.y +ℤ q.y) -ℤ p.y)
 
 half_is : (z h : ℤ) → half_of z ≡ Some h → pos 2 *ℤ h ≡ z
-half_is z h e = by (int_div_euclid z (pos 2)) (int_eq (pos 2 *ℤ int_div_euclid z (pos 2)) z) refl e
-  where
-    by : (q : ℤ) (t : Bool) → int_eq (pos 2 *ℤ q) z ≡ t → ◌≡◌ {A = Option ℤ} (if t then Some q else None) (Some h) → pos 2 *ℤ h ≡ z
-    by q true t e = let k : q ≡ h = cc in let s : pos 2 *ℤ q ≡ z = grind (arith, ints) in ap (λ x. pos 2 *ℤ x) (sym k) ∙ s
-    by q false t e = absurd (cc)
+half_is z h e = grind (arith, e)
 
 -- a middle's second place is as far past it as the first is before it
 middle_is : (p q r : Place) → middle_of p q ≡ Some r → q ≡ beyond p r

@@ -1,4 +1,4 @@
--- The segments of a frame by their numbers, row after row, noted in this order.
+-- Notes whose bits, in the order of the segments' numbers, say what is met are exact: `exact_noted`.
 -- Serves `Notes::of`, and the tests of segments in the scan by rows.
 use Rattle.std.proofs.Common.{◌≡◌, ◌↔◌, sym, subst, ℕ, ◌+◌, ◌-◌, ◌*◌, ◌^◌, ◌/◌, ◌%◌, ◌<◌, ◌≤◌, ℤ, pos, ◌+ℤ◌, ◌-ℤ◌, List}
 use Rattle.std.proofs.Common.{Any, map, arith, w32, to_z, of_z}
@@ -12,7 +12,6 @@ use Rattle.fx_winding.specs.declared.frame.Frame.{Frame}
 use Rattle.fx_winding.specs.Bitmaps.{word_bit}
 use Rattle.fx_winding.specs.Turned.{turned_span}
 use Rattle.fx_winding.specs.Frames.{HasMargin}
-use Rattle.fx_winding.specs.Limits.{IsPixelNumber}
 use Rattle.fx_winding.specs.Meets.{IsMet}
 use Rattle.fx_winding.specs.Notes.{pixel_number, words_noted, AreExact, IsMetOf}
 use Rattle.fx_winding.specs.Winding.{Span, centre}
@@ -20,10 +19,7 @@ use Rattle.fx_winding.specs.Winding.{Span, centre}
 -- the ends of a segment as the code has them
 pub right_column : (f : Frame) (k : ℕ) → k ≤ f.width
     → to_z w32 (of_z w32 (to_z w32 (of_z w32 f.left) +ℤ to_z w32 k)) ≡ f.left +ℤ pos k
-right_column f k l =
-    let wide = f.columns.few in
-    let step : to_z w32 k ≡ pos k = to_z_pos w32 k (omega (arith, wide, l)) in
-    omega (arith, signed_linear, step, f.columns, l)
+right_column f k l = grind (arith, signed_linear, l, to_z_pos)
 
 pub left_column : (f : Frame) (k : ℕ) → k ≤ f.width
     → to_z w32 (of_z w32 (to_z w32 (of_z w32 (to_z w32 (of_z w32 f.left) +ℤ to_z w32 k)) -ℤ pos 1)) ≡ (f.left -ℤ pos 1) +ℤ pos k
@@ -33,10 +29,7 @@ left_column f k l =
 
 pub row_number : (f : Frame) (r : ℕ) → r < f.height
     → to_z w32 (of_z w32 (to_z w32 (of_z w32 f.bottom) +ℤ to_z w32 r)) ≡ f.bottom +ℤ pos r
-row_number f r l =
-    let high = f.rows.few in
-    let step : to_z w32 r ≡ pos r = to_z_pos w32 r (omega (arith, high, l)) in
-    omega (arith, signed_linear, step, f.rows, l)
+row_number f r l = grind (arith, signed_linear, l, to_z_pos)
 
 -- a bit that is not 1 is 0
 pub clear_unless : (words : List ℕ) (i : ℕ) → (word_bit words i ≡ 1 → ⊥) → word_bit words i ≡ 0
@@ -44,38 +37,22 @@ clear_unless words i h = let l = bit_at-lt (slice_index_or words (i / 32) 0) (31
 
 -- the segments of at most 8,193 rows take few words
 pub few_words : (f : Frame) (rows n : ℕ) → rows ≤ 8193 → n ≡ rows * words_noted f.width → n ≤ 2 ^ 32
-few_words f rows n h e =
-    let wide = f.columns.few in
-    let whole : rows * words_noted f.width ≤ 8193 * words_noted f.width = mul-le-mul_right (words_noted f.width) h in
-    omega (arith, wide, whole, e)
+few_words f rows n h e = grind (arith, signed_linear, h, e, mul-le-mul_right)
 
 -- a frame with its coordinates exchanged has numbers beside it too
 pub turned_margin : (f g : Frame) → g.left ≡ f.bottom → g.bottom ≡ f.left → g.width ≡ f.height → g.height ≡ f.width
     → HasMargin f → HasMargin g
-turned_margin f g left bottom width height m = record {
-  left = subst (λ z. IsPixelNumber (z -ℤ pos 1)) (sym left) m.bottom;
-  right = subst (λ (z : ℤ × ℕ). IsPixelNumber (z.0 +ℤ pos z.1)) (λ i. (sym left i, sym width i)) m.top;
-  bottom = subst (λ z. IsPixelNumber (z -ℤ pos 1)) (sym bottom) m.left;
-  top = subst (λ (z : ℤ × ℕ). IsPixelNumber (z.0 +ℤ pos z.1)) (λ i. (sym bottom i, sym height i)) m.right;
-}
+turned_margin f g left bottom width height m = grind (arith, signed_linear, left, bottom, width, height, m)
 
 -- the number of a segment of a row lies within the words of the rows
 inside : (r k rows words n : ℕ) → r < rows → k < 32 * words → n ≡ rows * words → r * (32 * words) + k < 32 * n
-inside r k rows words n h l e =
-    let whole : (r + 1) * words ≤ rows * words = mul-le-mul_right words (omega (arith, h)) in
-    let next : (r + 1) * words ≡ r * words + words = omega arith in
-    let at : r * (32 * words) ≡ 32 * (r * words) = omega arith in
-    omega (arith, whole, next, at, l, e)
+inside r k rows words n h l e = grind (arith, signed_linear, h, l, e, mul-le-mul_right)
 
 -- what holds of the bit of each number holds by the row and the column of each segment
 by_row : (P : ℕ → ℕ → Type 0) (rows words count : ℕ) (bits : List ℕ) → count ≡ rows * words
     → ((n : ℕ) → n < 32 * count → (word_bit bits n ≡ 1) ↔ P (n / (32 * words)) (n % (32 * words))) → (r k : ℕ) → r < rows
     → k < 32 * words → (word_bit bits (r * (32 * words) + k) ≡ 1) ↔ P r k
-by_row P rows words count bits long set r k l m =
-    let n = r * (32 * words) + k in
-    let e = div-mul-add r (32 * words) k m in
-    let d = mod-mul-add r (32 * words) k m in
-    subst (λ (z : ℕ × ℕ). (word_bit bits n ≡ 1) ↔ P z.0 z.1) (λ i. (e i, d i)) (set n (inside r k rows words count l m long))
+by_row P rows words count bits long set r k l m = grind (arith, signed_linear, long, set, l, m, div-mul-add, mod-mul-add, inside)
 
 -- the pieces' segments up, as the frame with its coordinates exchanged has them
 abbrev AnyUp : List Span → ℤ → ℤ → ℕ → ℕ → Type 0

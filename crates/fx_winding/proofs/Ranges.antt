@@ -217,10 +217,7 @@ passes_scaled k l a b c a' b' c' hk hl ea eb ec h = record {
     other x x' e = minus_last k x' ∙ ap neg_ℤ e ∙ sym (minus_last l x)
 
 passes_minus : {a b c : ℤ} → Passes a b c → Passes (neg_ℤ a) (neg_ℤ b) (neg_ℤ c)
-passes_minus {a} {b} {c} h = record { low = h.high; high = rw (twice a, twice b, twice c) h.low }
-  where
-    twice : (z : ℤ) → neg_ℤ (neg_ℤ z) ≡ z
-    twice z = omega (arith, signed_linear)
+passes_minus {a} {b} {c} h = grind (arith, signed_linear, h)
 
 pub by_zero : {P : Type 0} (z : ℤ) → (z ≡ pos 0 → P) → (z ≢ pos 0 → P) → P
 by_zero z f g = by_lt_z z (pos 0) (λ h. g (λ e. omega (arith, signed_linear, h, e)))

@@ -1,7 +1,7 @@
 -- Pieces whose places are moved so that each area changes its sign: what they add at a place, with what the pieces added.
 -- Serves pieces with their coordinates exchanged, and the laws of `fx_symmetry`.
-use Rattle.std.proofs.Common.{zero, suc, ◌≡◌, ◌≢◌, refl, sym, ap, ◌∙◌, ◌⊎◌, inl, inr, ℤ, pos, negsuc, ◌+ℤ◌, ◌-ℤ◌, ◌*ℤ◌}
-use Rattle.std.proofs.Common.{neg_ℤ, [], ◌∷◌, Option, Some, None, option_map, arith}
+use Rattle.std.proofs.Common.{◌≡◌, ◌≢◌, refl, sym, ap, ◌∙◌, ◌⊎◌, inl, inr, ℤ, pos, ◌+ℤ◌, ◌-ℤ◌, ◌*ℤ◌}
+use Rattle.std.proofs.Common.{neg_ℤ, [], ◌∷◌, Option, Some, None, option_map, Bool, arith}
 use Rattle.std.proofs.lemmas.Int.{ints}
 use Rattle.fx_fixed.specs.Polynomial.{var, ◌⊠◌, minus}
 use Rattle.fx_fixed.proofs.Ring.{ring, one-*ℤ, neg-*ℤ}
@@ -12,7 +12,7 @@ use Rattle.fx_winding.proofs.Crossings.{crossing_number}
 use Rattle.fx_winding.proofs.HalfAreas.{area_swap}
 use Rattle.fx_winding.proofs.Halved.{flat_region}
 use Rattle.fx_winding.proofs.Ranges.{by_zero}
-use Rattle.fx_winding.proofs.Regions.{IsInRegion, region_cases, region_in, region_out}
+use Rattle.fx_winding.proofs.Regions.{IsIn, IsInRegion, move_in, region_cases, region_in, region_out}
 use Rattle.fx_winding.proofs.Reversal.{sign_back}
 
 -- each area changes its sign
@@ -36,15 +36,7 @@ none_reflected r f p q s z = f.area_is p q s ∙ ap neg_ℤ z
 -- ---- regions
 -- off the chord's line the control point's weight is not 0
 middle_apart : (a b c p : Place) → area a b c ≢ pos 0 → area a c p ≢ pos 0 → weight_b a b c p ≢ pos 0
-middle_apart a b c p n m e = m (back (area a c p) (sym (area_swap a c p) ∙ signed_none (area a b c) (area a p c) n e))
-  where
-    back : (z : ℤ) → neg_ℤ z ≡ pos 0 → z ≡ pos 0
-    back z h = omega (arith, signed_linear, h)
-
-    signed_none : (d z : ℤ) → d ≢ pos 0 → sign d *ℤ z ≡ pos 0 → z ≡ pos 0
-    signed_none (pos zero) z n e = absurd (n refl)
-    signed_none (pos (suc k)) z n e = sym (one-*ℤ z) ∙ e
-    signed_none (negsuc k) z n e = back z (sym (neg-*ℤ z) ∙ e)
+middle_apart a b c p n m e = grind (arith, signed_linear, n, m, e, area_swap, one-*ℤ, neg-*ℤ)
 
 -- both regions cancel where the place is in both or in none
 pub regions_cancel : (r : Place → Place) → Reflects r → (a b c p : Place)
@@ -66,38 +58,17 @@ regions_cancel r f a b c p to from = by (region_cases a b c p)
 abbrev IsAlike : (Place → Place) → Place → Place → Place → Place → Type 0
 IsAlike r a b c p = (weight_b a b c p ≢ pos 0) ⊎ (is_right_of_chord (r a) (r b) (r c) ≡ is_right_of_chord a b c)
 
+off_chord : {u v w : ℤ} {r r' : Bool} → v ≢ pos 0 → IsIn u v w r → IsIn u v w r'
+off_chord n (inl k) = inl k
+off_chord n (inr k) = absurd (n k.0)
+
 region_to : (r : Place → Place) → Reflects r → (a b c p : Place) → IsAlike r a b c p → IsInRegion a b c p
     → IsInRegion (r a) (r b) (r c) (r p)
-region_to r f a b c p s (inl (u, v, w, g)) = inl (
-  rw (weight_reflected r f a b c p b c) u,
-  rw (weight_reflected r f a b c a p c) v,
-  rw (weight_reflected r f a b c a b p) w,
-  rw (weight_reflected r f a b c p b c, weight_reflected r f a b c a p c, weight_reflected r f a b c a b p) g,
-)
-region_to r f a b c p (inl n) (inr (v, u, w, s)) = absurd (n v)
-region_to r f a b c p (inr e) (inr (v, u, w, s)) =
-    inr (
-      weight_reflected r f a b c a p c ∙ v,
-      rw (weight_reflected r f a b c p b c) u,
-      rw (weight_reflected r f a b c a b p) w,
-      e ∙ s,
-    )
+region_to r h a b c p i j = grind (arith, signed_linear, h, i, j, move_in, weight_reflected, off_chord)
 
 region_from : (r : Place → Place) → Reflects r → (a b c p : Place) → IsAlike r a b c p → IsInRegion (r a) (r b) (r c) (r p)
     → IsInRegion a b c p
-region_from r f a b c p s (inl (u, v, w, g)) = inl (
-  rw (weight_reflected r f a b c p b c) at u,
-  rw (weight_reflected r f a b c a p c) at v,
-  rw (weight_reflected r f a b c a b p) at w,
-  rw (weight_reflected r f a b c p b c, weight_reflected r f a b c a p c, weight_reflected r f a b c a b p) at g,
-)
-region_from r f a b c p (inl n) (inr (v, u, w, s)) = absurd (n (sym (weight_reflected r f a b c a p c) ∙ v))
-region_from r f a b c p (inr e) (inr (v, u, w, s)) = inr (
-  sym (weight_reflected r f a b c a p c) ∙ v,
-  rw (weight_reflected r f a b c p b c) at u,
-  rw (weight_reflected r f a b c a b p) at w,
-  sym e ∙ s,
-)
+region_from r h a b c p i j = grind (arith, signed_linear, h, i, j, move_in, weight_reflected, off_chord)
 
 pub regions_alike : (r : Place → Place) → Reflects r → (a b c p : Place) → IsAlike r a b c p
     → region_part (r a) (Some (r b)) (r c) (r p) +ℤ region_part a (Some b) c p ≡ pos 0

@@ -1,7 +1,7 @@
 -- A reversed piece adds the negative of what the piece adds to a winding number, and has the same places on it.
 -- Serves the law `reversal`, and halves, the second of which is the first of the reversed arc.
-use Rattle.std.proofs.Common.{◌≡◌, refl, sym, ap, ◌∙◌, ◌⊎◌, inl, inr, zero, suc, ℤ, pos, negsuc, ◌+ℤ◌, ◌-ℤ◌}
-use Rattle.std.proofs.Common.{◌*ℤ◌, neg_ℤ, int_lt, ◌&&◌, ◌||◌, [], ◌∷◌, Option, Some, None, map}
+use Rattle.std.proofs.Common.{◌≡◌, refl, sym, ap, ◌∙◌, ◌⊎◌, inl, inr, ℤ, pos, ◌+ℤ◌, ◌-ℤ◌}
+use Rattle.std.proofs.Common.{◌*ℤ◌, neg_ℤ, Bool, int_lt, ◌&&◌, ◌||◌, [], ◌∷◌, Option, Some, None, map}
 use Rattle.std.proofs.Common.{arith}
 use Rattle.std.specs.Ordering.{int_eq}
 use Rattle.std.proofs.lemmas.Int.{ints}
@@ -15,7 +15,7 @@ use Rattle.fx_winding.specs.Winding.{IsBeforeTurn}
 use Rattle.fx_winding.specs.Moves.{reversed, ReversalNegates, ReversalKeepsCover}
 use Rattle.fx_winding.proofs.Crossings.{crossing_number, area_turn}
 use Rattle.fx_winding.proofs.Triangle.{at, coordinates, area_at}
-use Rattle.fx_winding.proofs.Regions.{IsInRegion, region_cases, region_in, region_out}
+use Rattle.fx_winding.proofs.Regions.{IsIn, IsInRegion, move_in, region_cases, region_in, region_out}
 use Rattle.fx_winding.proofs.Covers.{covered_permutation, covered_map}
 
 crossing_number_back : (ay cy py s : ℤ) → crossing_number cy ay py (neg_ℤ s) ≡ neg_ℤ (crossing_number ay cy py s)
@@ -26,9 +26,7 @@ crossing_back a c p =
     ap (crossing_number c.y a.y p.y) (area_turn c.x c.y a.x a.y p.x p.y) ∙ crossing_number_back a.y c.y p.y (area a c p)
 
 pub sign_back : (z : ℤ) → sign (neg_ℤ z) ≡ neg_ℤ (sign z)
-sign_back (pos zero) = refl
-sign_back (pos (suc n)) = refl
-sign_back (negsuc n) = refl
+sign_back z = grind (arith, signed_linear)
 
 pub area_back : (a b c : Place) → area c b a ≡ neg_ℤ (area a b c)
 area_back a b c =
@@ -65,22 +63,13 @@ right_back a b c = tests (area c b a *ℤ (a.y -ℤ c.y)) (area a b c *ℤ (c.y 
     tests d d' ay b cy e = grind (arith, ints)
 
 -- ---- the region
+in_back : (u v w : ℤ) (r : Bool) → IsIn u v w r → IsIn w v u r
+in_back u v w r (inl (k, l, m, g)) = inl (m, l, k, rw (gap_back u v w) g)
+in_back u v w r (inr (l, k, m, e)) = inr (l, m, k, e)
+
 pub in_region_back : (a b c p : Place) → IsInRegion a b c p → IsInRegion c b a p
-in_region_back a b c p (inl (u, v, w, g)) =
-    inl (
-      rw (weight_a-back a b c p) w,
-      rw (weight_b-back a b c p) v,
-      rw (weight_c-back a b c p) u,
-      rw (
-        weight_a-back a b c p,
-        weight_b-back a b c p,
-        weight_c-back a b c p,
-        gap_back (weight_a a b c p) (weight_b a b c p)
-            (weight_c a b c p),
-      ) g,
-    )
-in_region_back a b c p (inr (v, u, w, r)) =
-    inr (weight_b-back a b c p ∙ v, rw (weight_a-back a b c p) w, rw (weight_c-back a b c p) u, right_back a b c ∙ r)
+in_region_back a b c p h = move_in (sym (weight_a-back a b c p)) (sym (weight_b-back a b c p)) (sym (weight_c-back a b c p))
+    (sym (right_back a b c)) (in_back _ _ _ _ h)
 
 pub region_part_back : (a : Place) (b : Option Place) (c p : Place) → region_part c b a p ≡ neg_ℤ (region_part a b c p)
 region_part_back a None c p = refl
@@ -98,8 +87,7 @@ none_if_back : (z w : ℤ) → w ≡ neg_ℤ z → w ≡ pos 0 → z ≡ pos 0
 none_if_back z w e h = omega (arith, signed_linear)
 
 between_back : (a c p : ℤ) → IsBetween a c p → IsBetween c a p
-between_back a c p (inl h) = inr h
-between_back a c p (inr h) = inl h
+between_back a c p h = grind (arith, ints)
 
 turn_back : (a b c p : ℤ) → IsBeforeTurn a b c p → IsBeforeTurn c b a p
 turn_back a b c p h =
@@ -110,35 +98,20 @@ turn_back a b c p h =
     rw (e, f) h
 
 pub low_back : (a b c p : ℤ) → IsAboveLow a b c p → IsAboveLow c b a p
-low_back a b c p (inl h) = inr (inl h)
-low_back a b c p (inr (inl h)) = inl h
-low_back a b c p (inr (inr (k, l, t))) = inr (inr (l, k, turn_back a b c p t))
+low_back a b c p h = let t = turn_back a b c p in grind (arith, ints, t)
 
 pub high_back : (a b c p : ℤ) → IsBelowHigh a b c p → IsBelowHigh c b a p
-high_back a b c p (inl h) = inr (inl h)
-high_back a b c p (inr (inl h)) = inl h
-high_back a b c p (inr (inr (k, l, t))) = inr (inr (l, k, turn_back a b c p t))
+high_back a b c p h = let t = turn_back a b c p in grind (arith, ints, t)
 
 pub range_back : (a b c p : ℤ) → IsInRange a b c p → IsInRange c b a p
 range_back a b c p r = record { low = low_back a b c p r.low; high = high_back a b c p r.high }
 
 arc_back : (a b c p : Place) → AreOnArc (weight_a a b c p) (weight_b a b c p) (weight_c a b c p)
     → AreOnArc (weight_a c b a p) (weight_b c b a p) (weight_c c b a p)
-arc_back a b c p (u, v, w, g) = (
-  rw (weight_a-back a b c p) w,
-  rw (weight_b-back a b c p) v,
-  rw (weight_c-back a b c p) u,
-  rw (weight_a-back a b c p, weight_b-back a b c p, weight_c-back a b c p)
-      (gap_back (weight_a a b c p) (weight_b a b c p) (weight_c a b c p) ∙ g),
-)
+arc_back a b c p h = grind (arith, signed_linear, h, weight_a-back, weight_b-back, weight_c-back, gap_back)
 
 pub on_part_back : (a : Place) (b : Option Place) (c p : Place) → IsOnPart a b c p → IsOnPart c b a p
-on_part_back a None c p on =
-    record {
-      collinear = none_back (area a c p) (area c a p) (area_turn c.x c.y a.x a.y p.x p.y) on.collinear;
-      between_x = between_back a.x c.x p.x on.between_x;
-      between_y = between_back a.y c.y p.y on.between_y;
-    }
+on_part_back a None c p on = grind (arith, signed_linear, on, none_back, area_turn, between_back)
 on_part_back a (Some b) c p (inl on) =
     inl (record {
       bent = λ e. on.bent (none_if_back (area a b c) (area c b a) (area_back a b c) e);
@@ -156,11 +129,7 @@ on_part_back a (Some b) c p (inr on) =
     })
 
 pub reversal_negates : ReversalNegates
-reversal_negates p s = (
-  (λ h. on_part_back s.c s.b s.a p h, λ h. on_part_back s.a s.b s.c p h),
-  crossing_back s.a s.c p,
-  region_part_back s.a s.b s.c p,
-)
+reversal_negates p s = grind (arith, signed_linear, p, s, on_part_back, crossing_back, region_part_back)
 
 -- ---- all pieces of a list
 pub minus_sum : (x y : ℤ) → neg_ℤ (x +ℤ y) ≡ neg_ℤ x +ℤ neg_ℤ y

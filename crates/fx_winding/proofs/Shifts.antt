@@ -1,16 +1,16 @@
 -- A piece that is moved covers the places that it covered, moved with it.
 -- Serves the laws `shift` and `meeting`.
-use Rattle.std.proofs.Common.{◌≡◌, refl, sym, ap, ◌∙◌, subst, ◌↔◌, inl, inr, ℤ, pos, ◌+ℤ◌, ◌-ℤ◌, ◌*ℤ◌, ◌≤ℤ◌, int_lt}
-use Rattle.std.proofs.Common.{◌&&◌, ◌||◌, if◌then◌else◌, [], ◌∷◌, Option, Some, None, map, option_map, arith}
+use Rattle.std.proofs.Common.{◌≡◌, refl, ap, ◌∙◌, subst, ◌↔◌, inl, inr, ℤ, pos, ◌+ℤ◌, ◌-ℤ◌, ◌*ℤ◌, neg_ℤ, ◌≤ℤ◌, int_lt}
+use Rattle.std.proofs.Common.{◌&&◌, ◌||◌, [], ◌∷◌, Option, Some, None, map, option_map, arith}
 use Rattle.std.specs.Ordering.{int_eq}
 use Rattle.std.proofs.lemmas.Int.{ints}
 use Rattle.fx_fixed.specs.Polynomial.{var, num, ◌⊞◌, ◌⊠◌, ◌⊟◌}
 use Rattle.fx_fixed.proofs.Ring.{ring}
 use Rattle.fx_fixed.proofs.Linear.{signed_linear}
 use Rattle.fx_winding.specs.Area.{Place, area}
-use Rattle.fx_winding.specs.Winding.{sign, weight_a, weight_b, weight_c, is_inside, is_on_chord, is_right_of_chord, chord_crossing}
-use Rattle.fx_winding.specs.Winding.{region_part, IsOnPart, IsBetween, IsInRange, IsAboveLow, IsBelowHigh, AreOnArc}
-use Rattle.fx_winding.specs.Winding.{IsBeforeTurn, IsCovered, centre}
+use Rattle.fx_winding.specs.Winding.{sign, is_right_of_chord, chord_crossing}
+use Rattle.fx_winding.specs.Winding.{region_part, IsOnPart, IsBetween, IsInRange, IsAboveLow, IsBelowHigh}
+use Rattle.fx_winding.specs.Winding.{Span, IsBeforeTurn, IsOn, IsCovered, centre}
 use Rattle.fx_winding.specs.Moves.{shifted_place, shifted, ShiftMovesCover, ShiftMovesBits}
 use Rattle.fx_winding.proofs.Crossings.{crossing_number}
 use Rattle.fx_winding.proofs.Triangle.{area_expr, at, coordinates, area_at}
@@ -60,15 +60,11 @@ right_shift x y a b c =
 pub region_part_shift : (x y : ℤ) (a : Place) (b : Option Place) (c p : Place)
     → region_part (shifted_place x y a) (option_map (shifted_place x y) b) (shifted_place x y c) (shifted_place x y p) ≡ region_part
     a b c p
-region_part_shift x y a None c p = refl
-region_part_shift x y a (Some b) c p =
-    λ i. if is_inside (weight_shift x y a b c p b c i) (weight_shift x y a b c a p c i) (weight_shift x y a b c a b p i)
-    || (is_on_chord (weight_shift x y a b c p b c i) (weight_shift x y a b c a p c i) (weight_shift x y a b c a b p i)
-    && right_shift x y a b c i) then sign_shift x y a b c i else pos 0
+region_part_shift x y a b c p = grind (arith, signed_linear, weight_shift, right_shift, sign_shift)
 
 -- ---- on a piece
-between_shift : (t a c p : ℤ) → IsBetween (a +ℤ t) (c +ℤ t) (p +ℤ t) ↔ IsBetween a c p
-between_shift t a c p = (λ h. grind (arith, signed_linear), λ h. grind (arith, signed_linear))
+between_shift : (t a c p : ℤ) → IsBetween a c p → IsBetween (a +ℤ t) (c +ℤ t) (p +ℤ t)
+between_shift t a c p h = grind (arith, signed_linear)
 
 turn_shift : (t a b c p : ℤ) → IsBeforeTurn (a +ℤ t) (b +ℤ t) (c +ℤ t) (p +ℤ t) ↔ IsBeforeTurn a b c p
 turn_shift t a b c p =
@@ -92,78 +88,55 @@ pub high_shift : (t a b c p : ℤ) → IsBelowHigh (a +ℤ t) (b +ℤ t) (c +ℤ
 high_shift t a b c p = either (omega (arith, signed_linear)) (omega (arith, signed_linear)) (omega (arith, signed_linear))
     (omega (arith, signed_linear)) (turn_shift t a b c p)
 
-range_shift : (t a b c p : ℤ) → IsInRange (a +ℤ t) (b +ℤ t) (c +ℤ t) (p +ℤ t) ↔ IsInRange a b c p
-range_shift t a b c p = (
-  λ r. record { low = (low_shift t a b c p).0 r.low; high = (high_shift t a b c p).0 r.high },
-  λ r. record { low = (low_shift t a b c p).1 r.low; high = (high_shift t a b c p).1 r.high },
-)
+range_shift : (t a b c p : ℤ) → IsInRange a b c p → IsInRange (a +ℤ t) (b +ℤ t) (c +ℤ t) (p +ℤ t)
+range_shift t a b c p r = record { low = (low_shift t a b c p).1 r.low; high = (high_shift t a b c p).1 r.high }
 
-arc_shift : (x y : ℤ) (a b c p : Place)
-    → AreOnArc (weight_a (shifted_place x y a) (shifted_place x y b) (shifted_place x y c) (shifted_place x y p))
-    (weight_b (shifted_place x y a) (shifted_place x y b) (shifted_place x y c) (shifted_place x y p))
-    (weight_c (shifted_place x y a) (shifted_place x y b) (shifted_place x y c) (shifted_place x y p)) ↔ AreOnArc
-    (weight_a a b c p) (weight_b a b c p) (weight_c a b c p)
-arc_shift x y a b c p = same (weight_shift x y a b c p b c) (weight_shift x y a b c a p c) (weight_shift x y a b c a b p)
+on_part_shift : (x y : ℤ) (a : Place) (b : Option Place) (c p : Place) → IsOnPart a b c p
+    → IsOnPart (shifted_place x y a) (option_map (shifted_place x y) b) (shifted_place x y c) (shifted_place x y p)
+on_part_shift x y a None c p on = grind (arith, signed_linear, on, area_shift, between_shift)
+on_part_shift x y a (Some b) c p (inl on) = grind (arith, signed_linear, area_shift, weight_shift)
+on_part_shift x y a (Some b) c p (inr on) = inr (record {
+  flat = area_shift x y a b c ∙ on.flat;
+  with_ab = area_shift x y a b p ∙ on.with_ab;
+  with_bc = area_shift x y b c p ∙ on.with_bc;
+  with_ac = area_shift x y a c p ∙ on.with_ac;
+  range_x = range_shift x a.x b.x c.x p.x on.range_x;
+  range_y = range_shift y a.y b.y c.y p.y on.range_y;
+})
+
+-- ---- moved back
+place_back : (x y : ℤ) (p : Place) → shifted_place (neg_ℤ x) (neg_ℤ y) (shifted_place x y p) ≡ p
+place_back x y p = λ i. record { x = back p.x x i; y = back p.y y i }
   where
-    same : {u v w u' v' w' : ℤ} → u ≡ u' → v ≡ v' → w ≡ w' → AreOnArc u v w ↔ AreOnArc u' v' w'
-    same eu ev ew = (λ h. rw (← eu, ← ev, ← ew) h, λ h. rw (eu, ev, ew) h)
+    back : (z t : ℤ) → (z +ℤ t) +ℤ neg_ℤ t ≡ z
+    back z t = omega (arith, signed_linear)
 
-on_part_shift : (x y : ℤ) (a : Place) (b : Option Place) (c p : Place)
-    → IsOnPart (shifted_place x y a) (option_map (shifted_place x y) b) (shifted_place x y c)
-    (shifted_place x y p) ↔ IsOnPart a b c p
-on_part_shift x y a None c p = (
-  λ on. record {
-    collinear = sym (area_shift x y a c p) ∙ on.collinear;
-    between_x = (between_shift x a.x c.x p.x).0 on.between_x;
-    between_y = (between_shift y a.y c.y p.y).0 on.between_y;
-  },
-  λ on. record {
-    collinear = area_shift x y a c p ∙ on.collinear;
-    between_x = (between_shift x a.x c.x p.x).1 on.between_x;
-    between_y = (between_shift y a.y c.y p.y).1 on.between_y;
-  },
+span_back : (x y : ℤ) (s : Span) → shifted (neg_ℤ x) (neg_ℤ y) (shifted x y s) ≡ s
+span_back x y s = grind (arith, signed_linear, place_back)
+
+-- what holds of places and of a piece, all moved and moved back, holds of them
+pub unshifted : (P : Place → Place → Span → Type 0) (x y : ℤ) (p q : Place) (s : Span)
+    → P (shifted_place (neg_ℤ x) (neg_ℤ y) (shifted_place x y p)) (shifted_place (neg_ℤ x) (neg_ℤ y) (shifted_place x y q))
+    (shifted (neg_ℤ x) (neg_ℤ y) (shifted x y s)) → P p q s
+unshifted P x y p q s h =
+    subst (λ (T : Type 0). T) (λ i. P (place_back x y p i) (place_back x y q i) (span_back x y s i)) h
+
+on_shift : (x y : ℤ) (p : Place) (s : Span) → IsOn (shifted_place x y p) (shifted x y s) ↔ IsOn p s
+on_shift x y p s = (
+  λ h. unshifted (λ p q s. IsOn p s) x y p p s (on_part_shift (neg_ℤ x) (neg_ℤ y) (shifted x y s).a (shifted x y s).b
+      (shifted x y s).c (shifted_place x y p) h),
+  on_part_shift x y s.a s.b s.c p,
 )
-on_part_shift x y a (Some b) c p = (λ on. from on, λ on. to on)
-  where
-    from : IsOnPart (shifted_place x y a) (Some (shifted_place x y b)) (shifted_place x y c) (shifted_place x y p)
-        → IsOnPart a (Some b) c p
-    from (inl on) =
-        inl (record { bent = λ e. on.bent (area_shift x y a b c ∙ e); on_arc = (arc_shift x y a b c p).0 on.on_arc })
-    from (inr on) =
-        inr (record {
-          flat = sym (area_shift x y a b c) ∙ on.flat;
-          with_ab = sym (area_shift x y a b p) ∙ on.with_ab;
-          with_bc = sym (area_shift x y b c p) ∙ on.with_bc;
-          with_ac = sym (area_shift x y a c p) ∙ on.with_ac;
-          range_x = (range_shift x a.x b.x c.x p.x).0 on.range_x;
-          range_y = (range_shift y a.y b.y c.y p.y).0 on.range_y;
-        })
-
-    to : IsOnPart a (Some b) c p
-        → IsOnPart (shifted_place x y a) (Some (shifted_place x y b)) (shifted_place x y c) (shifted_place x y p)
-    to (inl on) =
-        inl (record { bent = λ e. on.bent (sym (area_shift x y a b c) ∙ e); on_arc = (arc_shift x y a b c p).1 on.on_arc })
-    to (inr on) =
-        inr (record {
-          flat = area_shift x y a b c ∙ on.flat;
-          with_ab = area_shift x y a b p ∙ on.with_ab;
-          with_bc = area_shift x y b c p ∙ on.with_bc;
-          with_ac = area_shift x y a c p ∙ on.with_ac;
-          range_x = (range_shift x a.x b.x c.x p.x).1 on.range_x;
-          range_y = (range_shift y a.y b.y c.y p.y).1 on.range_y;
-        })
 
 -- ---- all pieces of a list
 pub shift_moves_cover : ShiftMovesCover
 shift_moves_cover x y p ss =
-    covered_map p (shifted_place x y p) (shifted x y) (λ z. z) (λ m n. refl) refl (λ z e. e) (λ s. on_part_shift x y s.a s.b s.c p)
+    covered_map p (shifted_place x y p) (shifted x y) (λ z. z) (λ m n. refl) refl (λ z e. e) (on_shift x y p)
     (λ s. crossing_shift x y s.a s.c p) (λ s. region_part_shift x y s.a s.b s.c p) ss
 
 -- along an axis
 centre_along : (i k : ℤ) → (pos 128 *ℤ i +ℤ pos 64) +ℤ pos 128 *ℤ k ≡ pos 128 *ℤ (i +ℤ k) +ℤ pos 64
-centre_along i k =
-    ring (i ∷ k ∷ []) ((num (pos 128) ⊠ var 0 ⊞ num (pos 64)) ⊞ num (pos 128) ⊠ var 1)
-    (num (pos 128) ⊠ (var 0 ⊞ var 1) ⊞ num (pos 64)) tt
+centre_along i k = grind (arith, signed_linear)
 
 pub centre_shift : (k l i j : ℤ) → shifted_place (pos 128 *ℤ k) (pos 128 *ℤ l) (centre i j) ≡ centre (i +ℤ k) (j +ℤ l)
 centre_shift k l i j = λ t. record { x = centre_along i k t; y = centre_along j l t }

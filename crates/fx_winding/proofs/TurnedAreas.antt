@@ -1,4 +1,4 @@
--- Areas and weights of places with their coordinates exchanged.
+-- With coordinates exchanged an area changes its sign (`area_turned`), and an arc's weights stay as they are (`weight`).
 -- Serves pieces whose columns are rows, here and in `fx_dropout`.
 use Rattle.std.proofs.Common.{◌≡◌, ap, ◌∙◌, ◌*ℤ◌, neg_ℤ, [], ◌∷◌}
 use Rattle.fx_fixed.specs.Polynomial.{var, ◌⊠◌, minus}

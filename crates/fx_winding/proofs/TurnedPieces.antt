@@ -1,4 +1,4 @@
--- Pieces with their coordinates exchanged, one after the other.
+-- A list of pieces turned one after the other is the list of the turned pieces: `turned_all`.
 -- Serves `Pieces::turned`.
 use Rattle.std.proofs.Common.{◌≡◌, ◌∙◌, refl, sym, ap, ℕ, suc, ◌+◌, ◌<◌, List, [], ◌∷◌, ◌++◌, map, take, get_or, length, arith}
 use Rattle.std.proofs.Math.Seq.{take-suc}

@@ -40,11 +40,6 @@ IsNotedAcross s f across r = (k : ℕ) → k ≤ f.width → IsMetAcross s f r k
 abbrev pub IsNotedUp : Span → Frame → List ℕ → ℕ → Type 0
 IsNotedUp s f up r = (k : ℕ) → k < f.width → IsMetUp s f r k → word_bit up (pixel_number f r k) ≡ 1
 
--- all segments of a frame that a piece meets have their bits: those across each row, and those up to each row and from the highest
-pub record IsNoted (s : Span) (f : Frame) (rows columns : List ℕ) : Type 0 where
-  pub across : (r : ℕ) → r < f.height → IsNotedAcross s f rows r
-  pub up : (r : ℕ) → r ≤ f.height → IsNotedUp s f columns r
-
 -- a segment of a frame's rows is that to the pixel k right of the left one and r above the lowest row, and some piece meets it
 pub record IsMetOf (f : Frame) (ss : List Span) (r k : ℕ) : Type 0 where
   pub row : r < f.height

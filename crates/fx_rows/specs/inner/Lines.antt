@@ -3,7 +3,7 @@ use Rattle.std.specs.Prelude.{◌≡◌, ◌⊎◌, ℕ, ◌+◌, ◌*◌, ◌<�
 use Rattle.fx_winding.specs.Area.{Place}
 use Rattle.fx_winding.specs.Bitmaps.{word_bit}
 use Rattle.fx_winding.specs.Meets.{IsMet}
-use Rattle.fx_winding.specs.Notes.{IsMetAcross, IsMetUp}
+use Rattle.fx_winding.specs.Notes.{pixel_number, words_noted, IsMetAcross, IsMetUp}
 use Rattle.fx_winding.specs.Winding.{Span, IsOn, centre}
 use Rattle.fx_winding.specs.declared.frame.Frame.{Frame}
 use Rattle.fx_rows.specs.declared.part.Run.{Run}
@@ -61,3 +61,15 @@ pub record IsRowsBit (s : Span) (f : Frame) (row_step step n : ℕ) : Type 0 whe
 abbrev pub IsMetUnlessOn : Span → Frame → ℕ → ℕ → Type 0
 IsMetUnlessOn s f r k = ¬ (IsOn (centre (f.left +ℤ pos k) ((f.bottom -ℤ pos 1) +ℤ pos r)) s)
     → ¬ (IsOn (centre (f.left +ℤ pos k) (f.bottom +ℤ pos r)) s) → IsMetUp s f r k
+
+-- n is the bit of a segment across a row of a frame, or of one up to a row or from the highest, which a piece meets, unless an end
+-- of that is on it
+abbrev pub IsAcrossBit : Span → Frame → ℕ → Type 0
+IsAcrossBit s f n = IsRowsBit s f (32 * words_noted f.width) 1 n
+
+pub record IsUpBit (s : Span) (f : Frame) (n : ℕ) : Type 0 where
+  pub r : ℕ
+  pub k : ℕ
+  pub column : k < f.width
+  pub at : n ≡ pixel_number f r k
+  pub met : IsMetUnlessOn s f r k

@@ -1,16 +1,17 @@
 -- Pieces in a band of rows.
-use Rattle.std.specs.Prelude.{◌⊎◌, ℕ, ◌≤◌, ◌<◌, pos, ◌+ℤ◌, ◌≤ℤ◌, ◌<ℤ◌}
+use Rattle.std.specs.Prelude.{◌⊎◌, ℕ, ◌-◌, ◌≤◌, ◌<◌, List, pos, ◌+ℤ◌, ◌≤ℤ◌, ◌<ℤ◌}
 use Rattle.fx_winding.specs.declared.frame.Frame.{Frame}
 use Rattle.fx_winding.specs.Outside.{HasAll}
 use Rattle.fx_winding.specs.Winding.{Span}
 use Rattle.fx_rows.specs.declared.across.Across.{Across}
 use Rattle.fx_rows.specs.declared.heights.Met.{Met}
 use Rattle.fx_rows.specs.declared.heights.RowRange.{RowRange}
-use Rattle.fx_rows.specs.declared.placed.Placed.{Placed}
+use Rattle.fx_rows.specs.declared.piece_in_band.PieceInBand.{PieceInBand}
 use Rattle.fx_rows.specs.inner.Bulging.{IsBulge}
 use Rattle.fx_rows.specs.inner.Heights.{height_of, IsAtMostEnds, IsAtLeastEnds}
 use Rattle.fx_rows.specs.inner.Points.{IsInner, AreAcross}
-use Rattle.fx_rows.specs.inner.Telling.{Way, across_row, up_to_row}
+use Rattle.fx_rows.specs.inner.Telling.{AreRowsTold, Way, across_row, up_to_row}
+use Rattle.fx_rows.specs.inner.Told.{IsEndIn}
 
 -- of some rows of a frame these pass between the ends of a piece, and those before and after them do not
 pub record AreBetween (s : Span) (f : Frame) (rows part : RowRange) : Type 0 where
@@ -20,14 +21,19 @@ pub record AreBetween (s : Span) (f : Frame) (rows part : RowRange) : Type 0 whe
   pub under : (r : ℕ) → rows.first ≤ r → r < part.first → IsAtMostEnds s (height_of f r)
   pub over : (r : ℕ) → part.end ≤ r → r < rows.end → IsAtLeastEnds s (height_of f r)
 
--- the rows of a frame that a piece may touch, and those of them that pass between its ends
-pub record AreMet (s : Span) (f : Frame) (m : Met) : Type 0 where
-  pub below : (r : ℕ) → r < m.touched.first → HasAll (λ q. height_of f r <ℤ q.y) s
-  pub above : (r : ℕ) → m.touched.end ≤ r → r < f.height → HasAll (λ q. q.y <ℤ height_of f r) s
-  pub within : m.touched.end ≤ f.height
+-- the rows of a frame from one to before another that a piece may touch, and those of them that pass between its ends
+pub record AreMetIn (s : Span) (f : Frame) (from to : ℕ) (m : Met) : Type 0 where
+  pub low : from ≤ m.touched.first
+  pub high : m.touched.end ≤ to
+  pub below : (r : ℕ) → from ≤ r → r < m.touched.first → HasAll (λ q. height_of f r <ℤ q.y) s
+  pub above : (r : ℕ) → m.touched.end ≤ r → r < to → HasAll (λ q. q.y <ℤ height_of f r) s
   pub inner : (r : ℕ) → m.inner.first ≤ r → r < m.inner.end → IsInner s.a.y s.c.y (height_of f r)
-  pub under : (r : ℕ) → r < m.inner.first → IsAtMostEnds s (height_of f r)
-  pub over : (r : ℕ) → m.inner.end ≤ r → r < f.height → IsAtLeastEnds s (height_of f r)
+  pub under : (r : ℕ) → from ≤ r → r < m.inner.first → IsAtMostEnds s (height_of f r)
+  pub over : (r : ℕ) → m.inner.end ≤ r → r < to → IsAtLeastEnds s (height_of f r)
+
+-- the same of all rows
+abbrev pub AreMet : Span → Frame → Met → Type 0
+AreMet s f m = AreMetIn s f 0 f.height m
 
 -- a frame has all columns of a piece's box
 abbrev pub IsBoxed : Frame → Span → Type 0
@@ -45,9 +51,11 @@ pub record AreColumns (f : Frame) (s : Span) (a : Across) : Type 0 where
   pub low : f.left ≤ℤ a.first
   pub high : a.end ≤ℤ (f.left +ℤ pos f.width)
 
--- and the columns of its box, all of which the band has
-pub record IsPlaced (s : Span) (p : Placed) : Type 0 where
-  pub met : AreMet s p.frame p.met
-  pub across : AreAcross s p.across.first p.across.end
-  pub low : p.frame.left ≤ℤ p.across.first
-  pub high : p.across.end ≤ℤ (p.frame.left +ℤ pos p.frame.width)
+-- the rows of a band that a piece may touch, and the columns of its box, all of which the frame has
+pub record IsInBand (s : Span) (p : PieceInBand) : Type 0 where
+  pub met : AreMetIn s p.frame p.rows.first p.rows.end p.met
+  pub columns : AreColumns p.frame s p.across
+
+-- of a list with a number for each row of a band, where the columns end in the rows between the piece's ends
+abbrev pub AreEndsTold : List ℕ → Span → PieceInBand → Type 0
+AreEndsTold ends s p = AreRowsTold (λ r. IsEndIn ends (r - p.rows.first)) s p.frame p.rows.first p.rows.end

@@ -49,15 +49,14 @@ pub data Saying : Type 0 where
   of_pieces : List Span → Saying
   noted : Span → Way → ℕ → Saying
 
--- the rows of a frame from one to before another are noted in both ways, and with its highest row the segments up from that
-pub record AreRowsNoted (Says : Saying → Type 0) (s : Span) (f : Frame) (from to : ℕ) : Type 0 where
+-- the rows of a frame from one to before another are noted in both ways, and the segments up to the row after them
+pub record AreRowsNoted (Says : Saying → Type 0) (s : Span) (from to : ℕ) : Type 0 where
   pub across : (r : ℕ) → from ≤ r → r < to → Says (noted s across_row r)
-  pub up : (r : ℕ) → from ≤ r → r < to → Says (noted s up_to_row r)
-  pub top : to ≡ f.height → Says (noted s up_to_row f.height)
+  pub up : from < to → (r : ℕ) → from ≤ r → r ≤ to → Says (noted s up_to_row r)
 
 -- the same of each piece
-abbrev pub AreNotedIn : (Saying → Type 0) → List Span → Frame → ℕ → ℕ → Type 0
-AreNotedIn Says ss f from to = All (λ s. AreRowsNoted Says s f from to) ss
+abbrev pub AreNotedIn : (Saying → Type 0) → List Span → ℕ → ℕ → Type 0
+AreNotedIn Says ss from to = All (λ s. AreRowsNoted Says s from to) ss
 
 -- the segments of a row that a piece meets have their bits in the notes of a frame
 abbrev pub IsNotedBy : Frame → List ℕ → List ℕ → Span → Way → ℕ → Type 0
@@ -105,7 +104,11 @@ BitsSay IsApart f across up (noted s w r) = ¬ (IsApart s w) → IsNotedBy f acr
 -- all that a piece meets is noted, but for what is noted apart
 pub record IsNotedUnless (IsApart : Way → Type 0) (s : Span) (f : Frame) (rows columns : List ℕ) : Type 0 where
   pub across : ¬ (IsApart across_row) → (r : ℕ) → r < f.height → IsNotedAcross s f rows r
-  pub up : ¬ (IsApart up_to_row) → (r : ℕ) → r ≤ f.height → IsNotedUp s f columns r
+  pub up : ¬ (IsApart up_to_row) → 0 < f.height → (r : ℕ) → r ≤ f.height → IsNotedUp s f columns r
+
+-- and nothing is noted apart
+abbrev pub IsNoted : Span → Frame → List ℕ → List ℕ → Type 0
+IsNoted s f rows columns = IsNotedUnless (λ w. ⊥) s f rows columns
 
 -- what is said stays true while a piece is noted: all but that one of some pieces meets each segment, unless it is one of them
 abbrev pub Lasts : Span → Saying → Type 0

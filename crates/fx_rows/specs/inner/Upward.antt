@@ -3,7 +3,6 @@ use Rattle.std.specs.Prelude.{◌≡◌, ◌⊎◌, ℕ, ◌≤◌, ◌<◌, min
 use Rattle.fx_winding.specs.declared.frame.Frame.{Frame}
 use Rattle.fx_winding.specs.Notes.{IsMetUp}
 use Rattle.fx_winding.specs.Winding.{Span, IsBetween}
-use Rattle.fx_rows.specs.declared.placed.Placed.{Placed}
 use Rattle.fx_rows.specs.declared.reach.Reach.{Reach}
 use Rattle.fx_rows.specs.inner.Heights.{height_of, IsResting, IsHanging}
 use Rattle.fx_rows.specs.inner.Lines.{IsMetUnlessOn}
@@ -72,12 +71,11 @@ IsLow s f r c = IsPassing s f ((f.bottom -ℤ pos 1) +ℤ pos r) c ⊎ (IsRestin
 abbrev pub IsHigh : Span → Frame → ℕ → Reach → Type 0
 IsHigh s f r c = IsPassing s f (f.bottom +ℤ pos r) c ⊎ (IsHanging s (height_of f r) × AreAtHead s f c)
 
--- the segments up to a band's row that a piece meets are those in the columns from one on and before another
-pub record IsLevel (s : Span) (p : Placed) (r from to : ℕ) : Type 0 where
-  pub within : AreMetWithin s p.frame r from to
-  pub all : AreAllMet s p.frame r from to
+-- the segments up to a row that a piece meets are those in the columns from one on and before another
+pub record IsLevel (s : Span) (f : Frame) (r from to : ℕ) : Type 0 where
+  pub within : AreMetWithin s f r from to
+  pub all : AreAllMet s f r from to
 
--- a piece comes up to a band's row from these columns: to whichever columns it goes there
-abbrev pub ComesFrom : Span → Placed → ℕ → Reach → Type 0
-ComesFrom s p r low =
-    (c : Reach) → IsHigh s p.frame r c → IsLevel s p r (min low.first c.first) (max low.end c.end)
+-- a piece comes up to a row from these columns: to whichever columns it goes there
+abbrev pub ComesFrom : Span → Frame → ℕ → Reach → Type 0
+ComesFrom s f r low = (c : Reach) → IsHigh s f r c → IsLevel s f r (min low.first c.first) (max low.end c.end)

@@ -1,15 +1,9 @@
-use Rattle.std.proofs.Common.{length, ◌-◌, ◌∙◌, arith, refl}
+use Rattle.std.proofs.Common.{◌∙◌, arith}
 use Rattle.fx_contour.proofs.Walk.{walk_init, walk_more, item_near}
 use Rattle.fx_contour.proofs.curves.add_contour.Goals as goal
 
 pub points-init : goal.points-init
-points-init c = record {
-  walked = walk_init c.args.made.now.items c.args.points.now (length c.args.points.now - 1)
-      c.index-points-points.result c.index-points-0.result _ _
-      c.requires.near (omega arith) (omega arith) c.index-points-0.is c.index-points-points.is;
-  room = refl;
-  from = c.joint-from.ensures;
-}
+points-init c = grind (arith, c.requires.near, c.index-points-0.is, c.index-points-points.is, c.joint-from.ensures, walk_init)
 
 pub points-preserved : goal.points-preserved
 points-preserved c = record {

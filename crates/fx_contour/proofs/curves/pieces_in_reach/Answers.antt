@@ -9,13 +9,14 @@ use Rattle.fx_contour.proofs.curves.pieces_in_reach.Goals as goal
 
 pub contour-requires : goal.contour-requires
 contour-requires c =
-    let o = c.args.outline.now in
-    let ends = c.deref-end-items.ensures.value in
-    let points = ap length c.deref.ensures.value in
-    let inside : c.contours.end-index < length o.ends.items = (let e = ap length ends in omega arith) in
-    let w = next_within c.contours.start o.ends.items c.contours.end-index o.points.items c.from-next.result 0
-    c.contours.invariant.gathered.ends_left inside (c.from-next.ensures ∙ ap (λ xs. get_or xs c.contours.end-index 0) ends) in
-    record { order = w.0; within = omega (arith, w.1, points) }
+    grind (
+      arith,
+      c.deref-end-items.ensures.value,
+      c.deref.ensures.value,
+      c.contours.invariant.gathered.ends_left,
+      c.from-next.ensures,
+      next_within,
+    )
 
 pub contours-preserved : goal.contours-preserved
 contours-preserved c =
@@ -51,9 +52,4 @@ returns-clause-closed c =
     )
 
 pub returns-clause-ok : goal.returns-clause-ok
-returns-clause-ok c =
-    let o = c.args.outline.now in
-    let ends = ap length c.deref-end-items.ensures.value in
-    ap (map span_of) c.of_list.ensures
-    ∙ gather_end c.contours.made.items c.contours.start o.ends.items c.contours.end-index o.points.items
-    c.contours.invariant.gathered (omega arith)
+returns-clause-ok c = grind (arith, c.deref-end-items.ensures.value, c.of_list.ensures, c.contours.invariant.gathered, gather_end)

@@ -1,9 +1,9 @@
 use Rattle.std.proofs.Common.{◌≤◌, length, vec_capacity}
-use Rattle.fx_contour.proofs.Gather.{Gathered}
+use Rattle.fx_contour.proofs.Gather.{PiecesMade}
 use Rattle.fx_contour.proofs.curves.pieces_in_reach.Given as goal
 
 abbrev pub invariant-contours : goal.invariant-contours
 invariant-contours l = record {
-  gathered : Gathered l.made.items l.start l.outline.ends.items l.end-index l.outline.points.items;
+  gathered : PiecesMade l.made.items l.start l.outline.ends.items l.end-index l.outline.points.items;
   room : length l.outline.points.items ≤ vec_capacity l.made;
 }

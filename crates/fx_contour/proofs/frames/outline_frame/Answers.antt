@@ -1,40 +1,22 @@
-use Rattle.std.proofs.Common.{All, refl}
-use Rattle.std.proofs.lemmas.Result.{IfOk-weaker, err_from_is_err_and}
-use Rattle.fx_contour.specs.Contours.{spans_of, IsInReach}
-use Rattle.fx_contour.specs.Frames.{IsFrameFor, NothingOutsideFrame}
+use Rattle.std.proofs.Common.{arith}
+use Rattle.std.proofs.lemmas.Result.{err_from_is_err_and}
 use Rattle.fx_contour.proofs.Decided.{outline_framed_is}
 use Rattle.fx_contour.proofs.Outside.{nothing_outside_frame}
 use Rattle.fx_contour.proofs.frames.outline_frame.Goals as goal
 
 pub returns-in_err-outline_bounds-clause-exact : goal.returns-in_err-outline_bounds-clause-exact
 returns-in_err-outline_bounds-clause-exact c =
-    let p = err_from_is_err_and c.from_residual.result c.from_residual.ensures.1 in
-    rw (p.1, p.2, c.in_err-outline_bounds.ensures.fault) refl
+    grind (arith, c.from_residual.ensures.1, c.in_err-outline_bounds.ensures.fault, err_from_is_err_and)
 
 pub returns-clause-exact : goal.returns-clause-exact
 returns-clause-exact c =
-    let o = c.args.outline.now in
-    let ss = spans_of o.ends.items o.points.items in
-    let b = c.in_ok-outline_bounds.ensures in
-    outline_framed_is o.ends.items o.points.items c.frame_around.result b.reach (c.frame_around.ensures.ok ss b.ok)
-    (c.frame_around.ensures.fault ss b.ok)
+    grind (arith, c.in_ok-outline_bounds.ensures, c.frame_around.ensures.ok, c.frame_around.ensures.fault, outline_framed_is)
 
 pub returns-clause-ok : goal.returns-clause-ok
-returns-clause-ok c =
-    let o = c.args.outline.now in
-    c.frame_around.ensures.ok (spans_of o.ends.items o.points.items) c.in_ok-outline_bounds.ensures.ok
+returns-clause-ok c = grind (arith, c.frame_around.ensures.ok, c.in_ok-outline_bounds.ensures.ok)
 
 pub returns-clause-outside : goal.returns-clause-outside
-returns-clause-outside c =
-    let o = c.args.outline.now in
-    let ss = spans_of o.ends.items o.points.items in
-    IfOk-weaker c.frame_around.result (λ f. IsFrameFor f ss) (λ f. NothingOutsideFrame f ss) (nothing_outside_frame ss)
-    (c.frame_around.ensures.ok ss c.in_ok-outline_bounds.ensures.ok)
+returns-clause-outside c = grind (arith, c.frame_around.ensures.ok, c.in_ok-outline_bounds.ensures.ok, nothing_outside_frame)
 
 pub returns-clause-reach : goal.returns-clause-reach
-returns-clause-reach c =
-    let o = c.args.outline.now in
-    let ss = spans_of o.ends.items o.points.items in
-    let b = c.in_ok-outline_bounds.ensures in
-    IfOk-weaker c.frame_around.result (λ f. IsFrameFor f ss) (λ f. All IsInReach o.points.items) (λ f _. b.reach)
-    (c.frame_around.ensures.ok ss b.ok)
+returns-clause-reach c = grind (arith, c.in_ok-outline_bounds.ensures, c.frame_around.ensures.ok)

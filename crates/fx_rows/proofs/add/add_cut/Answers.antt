@@ -1,24 +1,16 @@
-use Rattle.std.proofs.Common.{◌≡◌, ◌∙◌, ap, sym, subst, arith, w32, to_z, of_z, ℤ, ℕ, ◌+ℤ◌, ◌+◌, ◌^◌, length}
+use Rattle.std.proofs.Common.{◌≡◌, ◌∙◌, ap, sym, subst, arith, w32, to_z, of_z, ℤ, ℕ, ◌+ℤ◌, ◌+◌}
 use Rattle.std.proofs.lemmas.List.{with_items_is}
 use Rattle.fx_fixed.proofs.Linear.{signed_linear}
-use Rattle.fx_rows.specs.inner.Sums.{before, AreWithin}
+use Rattle.fx_rows.specs.inner.Sums.{before}
 use Rattle.fx_rows.proofs.Counted.{Added, added_cut}
 use Rattle.fx_rows.proofs.Banding.{row_added}
 use Rattle.fx_rows.proofs.add.add_cut.Goals as goal
 
 pub add_before-requires-clause-small : goal.add_before-requires-clause-small
-add_before-requires-clause-small c = λ k.
-    let h = subst (AreWithin (2 ^ 26)) (sym c.deref_mut.ensures.value) c.requires.small k in
-    (omega (arith, signed_linear, h), omega (arith, signed_linear, h))
+add_before-requires-clause-small c = grind (arith, c.deref_mut.ensures.value, c.requires.small)
 
 pub invariant_of-band : goal.invariant_of-band
-invariant_of-band c =
-    let b = c.args.band.now in
-    let d = ap length (with_items_is b.diff c.add_before.new.diff (omega arith)) in
-    let t = ap length (with_items_is b.touched c.add_before.new.touched (omega arith)) in
-    let m = ap length (with_items_is b.marks c.mark.new.line (omega arith)) in
-    let e = ap length c.deref_mut-3.ensures.value in
-    record { few = b.few; room = omega (arith, m, e); words = omega (arith, t, m, e); cells = omega (arith, d, m, e) }
+invariant_of-band c = grind (arith, c.deref_mut-3.ensures.value, with_items_is)
 
 pub returns-clause-added : goal.returns-clause-added
 returns-clause-added c = λ s h.

@@ -6,36 +6,40 @@ use Rattle.fx_rows.proofs.Telling.{rise_told, cut_end, added_start, added_next}
 use Rattle.fx_rows.proofs.add.add_cuts.Goals as goal
 
 pub rows-init : goal.rows-init
-rows-init g c = record {
-  added = added_start _ _ _ _;
-  kept = λ x h. h;
-  count = omega arith;
-  at = λ h. c.requires.at;
-}
+rows-init g c = grind (arith, c.requires.at, added_start)
 
 pub row_of-requires : goal.row_of-requires
-row_of-requires g c =
-    row_in c.args.band.now.frame c.rows.band.frame c.rows.up c.args.rows.end c.rows.invariant.added.frame c.requires.rows
-    (omega arith)
+row_of-requires g c = grind (arith, c.rows.invariant.added.frame, c.requires.rows, row_in)
 
 pub cut-cut-requires-clause-inner : goal.cut-cut-requires-clause-inner
 cut-cut-requires-clause-inner g c =
-    let at = strip_row c.strip_of-strip.result c.row_of.result _ c.row_of.ensures.near c.strip_of-strip.ensures.row
-    c.row_of.ensures.value in
-    inner_row c.args.bounded.now c.args.band.now.frame c.rows.band.frame c.args.rows.first c.args.rows.end c.rows.up
-    c.strip_of-strip.result.row c.rows.invariant.added.frame at c.requires.inner (omega arith) (omega arith)
+    grind (
+      arith,
+      c.row_of.ensures.near,
+      c.strip_of-strip.ensures.row,
+      c.row_of.ensures.value,
+      c.rows.invariant.added.frame,
+      c.requires.inner,
+      strip_row,
+      inner_row,
+    )
 
 pub cut-cut-requires-clause-at : goal.cut-cut-requires-clause-at
 cut-cut-requires-clause-at g c =
-    let at = strip_row c.strip_of-strip.result c.row_of.result _ c.row_of.ensures.near c.strip_of-strip.ensures.row
-    c.row_of.ensures.value in
-    at_base (g.C.Cuts.AreAt c.rows.cuts c.args.bounded.now) c.args.band.now.frame c.rows.band.frame c.strip_of-strip.result
-    c.rows.up c.rows.invariant.added.frame at c.strip_of-strip.ensures.base (c.rows.invariant.at (omega arith))
+    grind (
+      arith,
+      c.row_of.ensures.near,
+      c.strip_of-strip.ensures.row,
+      c.row_of.ensures.value,
+      c.rows.invariant.added.frame,
+      c.strip_of-strip.ensures.base,
+      c.rows.invariant.at,
+      strip_row,
+      at_base,
+    )
 
 pub add_cut-requires-clause-up : goal.add_cut-requires-clause-up
-add_cut-requires-clause-up g c =
-    row_in c.args.band.now.frame c.rows.band.frame c.rows.up c.args.rows.end c.rows.invariant.added.frame c.requires.rows
-    (omega arith)
+add_cut-requires-clause-up g c = grind (arith, c.rows.invariant.added.frame, c.requires.rows, row_in)
 
 pub add_cut-requires-clause-small : goal.add_cut-requires-clause-small
 add_cut-requires-clause-small g c =

@@ -1,4 +1,4 @@
-use Rattle.std.proofs.Common.{◌≡◌, ◌∙◌, refl, subst, pos, ◌+ℤ◌, arith}
+use Rattle.std.proofs.Common.{◌≡◌, subst, arith}
 use Rattle.fx_winding.specs.Winding.{span_of}
 use Rattle.fx_winding.specs.declared.point.Piece.{Piece}
 use Rattle.fx_rows.specs.inner.Bands.{bounded_span, IsBandAdded}
@@ -7,11 +7,7 @@ use Rattle.fx_rows.proofs.Stepping.{row_in, band_small, band_next, band_end}
 use Rattle.fx_rows.proofs.add.add_general_rows.Goals as goal
 
 pub rows-init : goal.rows-init
-rows-init c = record {
-  frame = refl;
-  added = band_none (bounded_span c.bounds_of-bounded.result) c.args.band.now.frame c.args.rows.first c.args.band.now;
-  count = omega arith;
-}
+rows-init c = grind (arith, band_none)
 
 pub add_met-requires-clause-up : goal.add_met-requires-clause-up
 add_met-requires-clause-up c =
@@ -26,17 +22,7 @@ add_met-requires-clause-small c =
 
 pub rows-preserved : goal.rows-preserved
 rows-preserved c =
-    let s = bounded_span c.bounds_of-bounded.result in
-    let up = c.rows.up in
-    let inv = c.rows.invariant in
-    let n = c.add_met.ensures.count in
-    let m = inv.count in
-    record {
-      frame = c.add_met.ensures.frame ∙ inv.frame;
-      added = band_next s c.args.band.now.frame c.rows.band.frame (c.rows.band.frame.bottom +ℤ pos up) c.args.rows.first up
-          c.args.band.now c.rows.band c.add_met.new.band (omega arith) inv.frame refl inv.added c.add_met.ensures.added;
-      count = omega (arith, n, m);
-    }
+    grind (arith, c.rows.invariant, c.add_met.ensures.count, c.add_met.ensures.frame, c.add_met.ensures.added, band_next)
 
 pub returns-clause-frame : goal.returns-clause-frame
 returns-clause-frame c = c.rows.invariant.frame

@@ -1,11 +1,31 @@
-use Rattle.std.proofs.Common.{pos, ◌+ℤ◌}
+use Rattle.std.proofs.Common.{pos, ◌+ℤ◌, arith, subst}
+use Rattle.fx_winding.specs.Area.{Place}
 use Rattle.fx_winding.specs.Winding.{centre}
+use Rattle.fx_rows.specs.inner.Walks.{IsArcAt}
+use Rattle.fx_rows.proofs.Cutting.{slanted}
 use Rattle.fx_rows.proofs.Stepping.{strip_row}
 use Rattle.fx_rows.proofs.add.add_inner_rows.Goals as goal
 
-pub add_curve_rows-requires-clause-base : goal.add_curve_rows-requires-clause-base
-add_curve_rows-requires-clause-base g c =
+pub arc_in-requires : goal.arc_in-requires
+arc_in-requires g c =
+    let p = c.args.bounded.now.piece in
+    record { slanted = slanted p.a.y p.c.y _ (c.requires.inner c.args.rows.first (omega arith) (omega (arith, c.requires.some))) }
+
+pub add_cuts-requires-in-Some-clause-at : goal.add_cuts-requires-in-Some-clause-at
+add_cuts-requires-in-Some-clause-at g c =
     let at = strip_row c.strip_of-strip.result c.row_of.result _ c.row_of.ensures.near c.strip_of-strip.ensures.row
     c.row_of.ensures.value in
     let base = c.strip_of-strip.ensures.base in
-    λ i. centre (base i +ℤ pos 0) (at i)
+    subst (λ (p : Place). IsArcAt c.in-Some.cuts c.args.bounded.now.piece p) (λ i. centre (base i +ℤ pos 0) (at i))
+    c.in-Some.ensures.arc
+
+pub add_line_rows-requires-clause-base : goal.add_line_rows-requires-clause-base
+add_line_rows-requires-clause-base g c =
+    grind (
+      arith,
+      c.row_of.ensures.near,
+      c.strip_of-strip.ensures.row,
+      c.row_of.ensures.value,
+      c.strip_of-strip.ensures.base,
+      strip_row,
+    )

@@ -16,9 +16,7 @@ pub add_run-requires-2-clause-inside : goal.add_run-requires-2-clause-inside
 add_run-requires-2-clause-inside c = part_regions _ _ _ _ c.met_part-part.ensures.part
 
 pub add_run-requires-clause-small : goal.add_run-requires-clause-small
-add_run-requires-clause-small c = λ k.
-    let h = subst (AreWithin (2 ^ 26)) (sym c.deref_mut.ensures.value) c.requires.small k in
-    (omega (arith, signed_linear, h), omega (arith, signed_linear, h))
+add_run-requires-clause-small c = grind (arith, c.deref_mut.ensures.value, c.requires.small)
 
 pub invariant_of-band : goal.invariant_of-band
 invariant_of-band c =

@@ -1,9 +1,7 @@
-use Rattle.std.proofs.Common.{◌≡◌, ◌↔◌, ◌⊎◌, inl, inr, IsTrue, Bool, false, refl, ℤ, ◌^◌, arith, w32, to_z, of_z}
+use Rattle.std.proofs.Common.{◌≡◌, inl, refl, ℤ, ◌^◌, arith, w32, to_z, of_z}
 use Rattle.fx_fixed.specs.Ranges.{IsWithin}
 use Rattle.fx_fixed.proofs.Linear.{signed_linear}
-use Rattle.fx_winding.proofs.Places.{clash}
-use Rattle.fx_rows.specs.inner.Bulging.{IsBeyond}
-use Rattle.fx_rows.proofs.Bulges.{beyond_same}
+use Rattle.fx_rows.proofs.Bulges.{beyond_same, or_else}
 use Rattle.fx_rows.proofs.bulge.bulges.Goals as goal
 
 -- the values that the calls take are the points' own
@@ -26,10 +24,4 @@ returns c =
     let x = beyond_same c.is_beyond.result (own a.x a.near_x) (own b.x b.near_x) (own e.x e.near_x) c.is_beyond.ensures in
     let y = beyond_same c.is_beyond-2.result (own a.y a.near_y) (own b.y b.near_y) (own e.y e.near_y)
     c.is_beyond-2.ensures in
-    (λ t. inr (y.0 t), back c.is_beyond.result c.is_beyond-2.result c.if-is_beyond.false x y)
-  where
-    back : (r t : Bool) → r ≡ false → (IsTrue r ↔ IsBeyond c.args.a.x c.args.b.x c.args.c.x)
-        → (IsTrue t ↔ IsBeyond c.args.a.y c.args.b.y c.args.c.y)
-        → IsBeyond c.args.a.x c.args.b.x c.args.c.x ⊎ IsBeyond c.args.a.y c.args.b.y c.args.c.y → IsTrue t
-    back r t e x y (inl h) = absurd (clash r e (x.1 h))
-    back r t e x y (inr h) = y.1 h
+    or_else c.is_beyond.result c.is_beyond-2.result c.if-is_beyond.false x y

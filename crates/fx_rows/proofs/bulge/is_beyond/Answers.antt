@@ -1,7 +1,7 @@
-use Rattle.std.proofs.Common.{◌≡◌, ◌↔◌, inl, inr, IsTrue, Bool, false, subst, arith, w32, to_z, of_z}
+use Rattle.std.proofs.Common.{◌≡◌, ◌↔◌, IsTrue, subst, arith, w32, to_z, of_z}
 use Rattle.fx_fixed.proofs.Linear.{signed_linear}
-use Rattle.fx_winding.proofs.Places.{clash}
-use Rattle.fx_rows.specs.inner.Bulging.{IsLineTo, IsLineFrom, IsBeyond}
+use Rattle.fx_rows.specs.inner.Bulging.{IsLineTo, IsLineFrom}
+use Rattle.fx_rows.proofs.Bulges.{or_else}
 use Rattle.fx_rows.proofs.bulge.is_beyond.Goals as goal
 
 pub returns : goal.returns
@@ -13,9 +13,4 @@ returns c =
     subst (λ z. z) (λ i. IsTrue c.has_line_to.result ↔ IsLineTo (b i) (a i) (k i)) c.has_line_to.ensures in
     let from : IsTrue c.has_line_from.result ↔ IsLineFrom c.args.a c.args.c c.args.b =
     subst (λ z. z) (λ i. IsTrue c.has_line_from.result ↔ IsLineFrom (a i) (k i) (b i)) c.has_line_from.ensures in
-    (λ t. inr (from.0 t), back c.has_line_to.result c.has_line_from.result c.if-has_line_to.false to from)
-  where
-    back : (r t : Bool) → r ≡ false → (IsTrue r ↔ IsLineTo c.args.b c.args.a c.args.c)
-        → (IsTrue t ↔ IsLineFrom c.args.a c.args.c c.args.b) → IsBeyond c.args.a c.args.b c.args.c → IsTrue t
-    back r t e to from (inl h) = absurd (clash r e (to.1 h))
-    back r t e to from (inr h) = from.1 h
+    or_else c.has_line_to.result c.has_line_from.result c.if-has_line_to.false to from

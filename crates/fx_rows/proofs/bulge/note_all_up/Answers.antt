@@ -6,7 +6,7 @@ use Rattle.fx_winding.specs.Winding.{Span, span_of}
 use Rattle.fx_rows.specs.inner.Lines.{AreOnly, AreRowsSet, IsRowsBit}
 use Rattle.fx_rows.proofs.Bulges.{up_set}
 use Rattle.fx_rows.specs.inner.Telling.{AreMetUp}
-use Rattle.fx_rows.proofs.Segments.{some_columns}
+use Rattle.fx_rows.proofs.NotedSegments.{some_columns}
 use Rattle.fx_rows.proofs.bulge.note_all_up.Goals as goal
 
 pub returns-clause-noted : goal.returns-clause-noted

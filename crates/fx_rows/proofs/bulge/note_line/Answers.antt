@@ -2,7 +2,7 @@ use Rattle.std.proofs.Common.{◌≡◌, ◌⊎◌, inl, inr, ℕ, ℤ, subst, a
 use Rattle.fx_fixed.proofs.Linear.{signed_linear}
 use Rattle.fx_rows.specs.Parts.{IsRowPart}
 use Rattle.fx_rows.specs.inner.Bands.{bounded_span}
-use Rattle.fx_rows.specs.inner.Lines.{AreOnly, IsLineBit, IsSetTo}
+use Rattle.fx_rows.specs.inner.Lines.{IsSetTo}
 use Rattle.fx_rows.specs.inner.Told.{AreKept}
 use Rattle.fx_rows.proofs.Bulges.{row_set, set_kept}
 use Rattle.fx_rows.proofs.Kept.{only_both}
@@ -51,13 +51,14 @@ returns-clause-noted c =
 
 pub returns-clause-only : goal.returns-clause-only
 returns-clause-only c =
-    let line = c.args.line in
-    let s = bounded_span c.args.bounded.now in
-    let P = IsLineBit s line.frame line.row line.first line.step in
-    let first = c.args.bits.now in
-    let o2 : AreOnly P first c.note_run-2.new.bits = only_both P _ _ _ c.note_run.ensures.only c.note_run-2.ensures.only in
-    let o3 : AreOnly P first c.note_end.new.bits = only_both P _ _ _ o2 c.note_end.ensures.only in
-    let o4 : AreOnly P first c.note_end-2.new.bits = only_both P _ _ _ o3 c.note_end-2.ensures.only in
-    let o5 : AreOnly P first c.note_tip.new.bits = only_both P _ _ _ o4 c.note_tip.ensures.only in
-    let o6 : AreOnly P first c.note_first.new.bits = only_both P _ _ _ o5 c.note_first.ensures.only in
-    only_both P _ _ _ o6 c.note_last.ensures.only
+    grind (
+      arith,
+      c.note_run.ensures.only,
+      c.note_run-2.ensures.only,
+      c.note_end.ensures.only,
+      c.note_end-2.ensures.only,
+      c.note_tip.ensures.only,
+      c.note_first.ensures.only,
+      c.note_last.ensures.only,
+      only_both,
+    )

@@ -1,9 +1,8 @@
-use Rattle.std.proofs.Common.{◌*◌, ap, subst}
+use Rattle.std.proofs.Common.{◌*◌, ap, subst, arith}
 use Rattle.fx_winding.specs.Winding.{Span, span_of}
-use Rattle.fx_winding.specs.declared.point.Piece.{Piece}
-use Rattle.fx_rows.specs.inner.Lines.{AreOnly, AreSetIn, IsRowsBit}
-use Rattle.fx_rows.proofs.Bulges.{all_rows_set, in_kept, set_in, rows_three}
-use Rattle.fx_rows.proofs.Kept.{kept_both, only_both}
+use Rattle.fx_rows.specs.inner.Lines.{AreSetIn}
+use Rattle.fx_rows.proofs.Bulges.{all_rows_set, in_kept, set_in}
+use Rattle.fx_rows.proofs.Kept.{kept_both, only_both, rows_three}
 use Rattle.fx_rows.proofs.Telling.{between_of}
 use Rattle.fx_rows.proofs.bulge.note_lines.Goals as goal
 
@@ -20,15 +19,13 @@ returns-then-not-has_columns-clause-noted c =
     let rows = c.rows_met-rows.result in
     let bits = c.note_met_lines.new.bits in
     let same = ap span_of c.bounds_of-bounded.ensures.piece in
-    all_rows_set (span_of c.args.piece.now) f rows.first rows.end c.args.row_step c.args.step bits c.rows_met-rows.ensures.below
-    c.rows_met-rows.ensures.above
+    λ r o. all_rows_set (span_of c.args.piece.now) f 0 rows.first rows.end f.height c.args.row_step c.args.step bits
+    (λ r l. c.rows_met-rows.ensures.below r) c.rows_met-rows.ensures.above
     (λ r l m. subst (λ (t : Span). AreSetIn t f r (r * c.args.row_step) c.args.step bits) same
-    (set_in s f r (r * c.args.row_step) c.args.step bits (c.note_met_lines.ensures.noted r l m)))
+    (set_in s f r (r * c.args.row_step) c.args.step bits (c.note_met_lines.ensures.noted r l m))) r (omega arith) o
 
 pub returns-then-not-has_columns-clause-only : goal.returns-then-not-has_columns-clause-only
-returns-then-not-has_columns-clause-only c =
-    subst (λ (p : Piece). AreOnly (IsRowsBit (span_of p) c.args.frame c.args.row_step c.args.step) c.args.bits.now
-    c.note_met_lines.new.bits) c.bounds_of-bounded.ensures.piece c.note_met_lines.ensures.only
+returns-then-not-has_columns-clause-only c = grind (arith, c.bounds_of-bounded.ensures.piece, c.note_met_lines.ensures.only)
 
 pub returns-clause-noted : goal.returns-clause-noted
 returns-clause-noted c =
@@ -40,22 +37,24 @@ returns-clause-noted c =
     let last = c.note_met_lines-3.new.bits in
     let k2 = c.note_met_lines-3.ensures.kept in
     let same = ap span_of c.bounds_of-bounded.ensures.piece in
-    all_rows_set (span_of c.args.piece.now) f rows.first rows.end c.args.row_step step last c.rows_met-rows.ensures.below
-    c.rows_met-rows.ensures.above
+    λ r o. all_rows_set (span_of c.args.piece.now) f 0 rows.first rows.end f.height c.args.row_step step last
+    (λ r l. c.rows_met-rows.ensures.below r) c.rows_met-rows.ensures.above
     (λ r l m. subst (λ (t : Span). AreSetIn t f r (r * c.args.row_step) step last) same
-    (rows_three s f rows.first inner.first inner.end rows.end c.args.row_step step last
+    (rows_three (λ q. AreSetIn s f q (q * c.args.row_step) step last) rows.first inner.first inner.end rows.end
     (λ q a b. in_kept s f q (q * c.args.row_step) step c.note_met_lines-2.new.bits last
     (kept_both _ _ _ c.note_passed_lines.ensures.kept k2)
     (set_in s f q (q * c.args.row_step) step _ (c.note_met_lines-2.ensures.noted q a b)))
     (λ q a b. in_kept s f q (q * c.args.row_step) step c.note_passed_lines.new.bits last k2
     (c.note_passed_lines.ensures.noted q a b))
-    (λ q a b. set_in s f q (q * c.args.row_step) step last (c.note_met_lines-3.ensures.noted q a b)) r l m))
+    (λ q a b. set_in s f q (q * c.args.row_step) step last (c.note_met_lines-3.ensures.noted q a b)) r l m)) r (omega arith) o
 
 pub returns-clause-only : goal.returns-clause-only
 returns-clause-only c =
-    let s = span_of c.bounds_of-bounded.result.piece in
-    let P = IsRowsBit s c.args.frame c.args.row_step c.args.step in
-    subst (λ (p : Piece). AreOnly (IsRowsBit (span_of p) c.args.frame c.args.row_step c.args.step) c.args.bits.now
-    c.note_met_lines-3.new.bits) c.bounds_of-bounded.ensures.piece
-    (only_both P _ _ _ c.note_met_lines-2.ensures.only
-    (only_both P _ _ _ c.note_passed_lines.ensures.only c.note_met_lines-3.ensures.only))
+    grind (
+      arith,
+      c.bounds_of-bounded.ensures.piece,
+      c.note_met_lines-2.ensures.only,
+      c.note_passed_lines.ensures.only,
+      c.note_met_lines-3.ensures.only,
+      only_both,
+    )

@@ -7,9 +7,7 @@ use Rattle.fx_rows.proofs.Kept.{kept_both, rows_more, only_both, only_more}
 use Rattle.fx_rows.proofs.bulge.note_met_lines.Goals as goal
 
 pub note_line-requires-clause-room : goal.note_line-requires-clause-room
-note_line-requires-clause-room c =
-    let room = c.requires.room c.rows.up (omega (arith, c.requires.rows)) in
-    omega (arith, room)
+note_line-requires-clause-room c = grind (arith, c.requires.room, c.requires.rows)
 
 pub rows-preserved : goal.rows-preserved
 rows-preserved c =

@@ -1,68 +1,32 @@
-use Rattle.std.proofs.Common.{◌≡◌, ◌∙◌, ◌+◌, ◌*◌, ℕ, ℤ, pos, ◌+ℤ◌, ◌*ℤ◌, sym, subst, arith, w32, to_z, of_z}
+use Rattle.std.proofs.Common.{◌≡◌, ◌∙◌, ap, subst, pos, ◌+ℤ◌, arith, w64, to_z, of_z}
 use Rattle.fx_fixed.proofs.Linear.{signed_linear}
-use Rattle.fx_winding.specs.Bitmaps.{word_bit}
-use Rattle.fx_winding.specs.Winding.{Span, IsOn}
-use Rattle.fx_rows.specs.inner.Bands.{bounded_span}
-use Rattle.fx_rows.specs.inner.Lines.{left_at, right_at, AreOnly, AreSetIn, IsLineBit, IsMetTo, IsRowsBit, IsSetTo}
-use Rattle.fx_rows.specs.inner.Points.{IsInner}
-use Rattle.fx_rows.specs.inner.Told.{IsEnd, IsEndOn}
-use Rattle.fx_rows.proofs.Bulges.{in_kept}
-use Rattle.fx_rows.proofs.Kept.{kept_both, rows_more, only_both, only_more}
-use Rattle.fx_rows.proofs.RowMeets.{met_end, end_met_too}
+use Rattle.fx_winding.specs.Area.{Place}
+use Rattle.fx_winding.specs.Winding.{place_of, centre}
+use Rattle.fx_rows.specs.inner.Sides.{side}
+use Rattle.fx_rows.specs.inner.Walks.{IsArcAt}
+use Rattle.fx_rows.proofs.Cutting.{slanted}
+use Rattle.fx_rows.proofs.Stepping.{strip_row}
 use Rattle.fx_rows.proofs.bulge.note_passed_lines.Goals as goal
 
-pub end_in-end-requires-clause-inner : goal.end_in-end-requires-clause-inner
-end_in-end-requires-clause-inner c =
-    let b = c.args.bounded.now in
-    let near = c.row_of-row.ensures.near in
-    let row : to_z w32 (of_z w32 c.row_of-row.result) ≡ c.args.frame.bottom +ℤ pos c.rows.up =
-    (omega (arith, signed_linear, near)) ∙ c.row_of-row.ensures.value in
-    subst (λ (y : ℤ). IsInner b.piece.a.y b.piece.c.y (pos 128 *ℤ y +ℤ pos 64)) (sym row)
-    (c.requires.inner c.rows.up (omega arith) (omega arith))
+pub arc_in-requires : goal.arc_in-requires
+arc_in-requires c = grind (arith, signed_linear, c.requires.inner, slanted)
 
-pub set_segment-requires-clause-room : goal.set_segment-requires-clause-room
-set_segment-requires-clause-room c =
-    let room = c.requires.room c.rows.up (omega (arith, c.requires.rows)) in
-    omega (arith, room)
+pub note_cuts-requires-clause-at : goal.note_cuts-requires-clause-at
+note_cuts-requires-clause-at c =
+    let at = strip_row c.strip_of-strip.result c.row_of.result _ c.row_of.ensures.near c.strip_of-strip.ensures.row
+    c.row_of.ensures.value in
+    let base = c.strip_of-strip.ensures.base in
+    subst (λ (p : Place). IsArcAt c.in-Some.cuts c.args.bounded.now.piece p) (λ i. centre (base i +ℤ pos 0) (at i))
+    c.in-Some.ensures.arc
 
-pub rows-preserved : goal.rows-preserved
-rows-preserved c =
-    let b = c.args.bounded.now in
-    let s = bounded_span b in
-    let f = c.args.frame in
-    let up = c.rows.up in
-    let now = c.set_segment.new.bits in
-    let end = c.end_in-end.result in
-    let near = c.row_of-row.ensures.near in
-    let row : to_z w32 (of_z w32 c.row_of-row.result) ≡ f.bottom +ℤ pos up =
-    (omega (arith, signed_linear, near)) ∙ c.row_of-row.ensures.value in
-    let inner = c.requires.inner up (omega arith) (omega arith) in
-    let is : IsEnd s f up end = subst (λ (y : ℤ). IsEndOn s f y end) row c.end_in-end.ensures.end in
-    let set = subst (λ (y : ℤ). (t : Span) → IsSetTo t f y (up * c.args.row_step) c.args.step now end) row
-    c.set_segment.ensures.set in
-    let here : AreSetIn s f up (up * c.args.row_step) c.args.step now = λ k w met.
-    let e = met_end s f b.across.first b.across.end up end k b.between c.requires.low c.requires.high inner is w met in
-    subst (λ (j : ℕ). word_bit now (up * c.args.row_step + j * c.args.step) ≡ 1) (sym e)
-    (set s (subst (λ (j : ℕ). IsMetTo s f (f.bottom +ℤ pos up) j) e met.met)) in
-    let only : AreOnly (IsLineBit s f (f.bottom +ℤ pos up) (up * c.args.row_step) c.args.step) c.rows.bits now =
-    subst (λ (y : ℤ). AreOnly (IsLineBit s f y (up * c.args.row_step) c.args.step) c.rows.bits now) row
-    (c.set_segment.ensures.only s (subst (λ (y : ℤ). ¬ (IsOn (left_at f y end) s) → ¬ (IsOn (right_at f y end) s)
-    → IsMetTo s f y end) (sym row) (λ off off'. (end_met_too s f b.across.first b.across.end up end b.between c.requires.low
-    c.requires.high inner is off off').met))) in
-    let n = c.end_in-end.ensures.count in
-    let m = c.rows.invariant.count in
-    record {
-      noted = rows_more (λ r. AreSetIn s f r (r * c.args.row_step) c.args.step now) c.args.rows.first up
-          (λ r l o. in_kept s f r (r * c.args.row_step) c.args.step c.rows.bits now c.set_segment.ensures.kept
-          (c.rows.invariant.noted r l o)) here;
-      kept = kept_both _ _ _ c.rows.invariant.kept c.set_segment.ensures.kept;
-      only = only_both (IsRowsBit s f c.args.row_step c.args.step) _ _ _ c.rows.invariant.only
-          (only_more (IsLineBit s f (f.bottom +ℤ pos up) (up * c.args.row_step) c.args.step)
-          (IsRowsBit s f c.args.row_step c.args.step) c.rows.bits now
-          (λ n h. record { r = up; row = omega (arith, c.requires.rows); line = h }) only);
-      count = omega (arith, n, m);
-    }
-
-pub returns-clause-count : goal.returns-clause-count
-returns-clause-count c =
-    let e : c.rows.up ≡ c.args.rows.end = omega (arith, c.args.rows.order) in let m = c.rows.invariant.count in omega (arith, e, m)
+pub note_cuts-requires-2-clause-at : goal.note_cuts-requires-2-clause-at
+note_cuts-requires-2-clause-at c =
+    let p = c.args.bounded.now.piece in
+    let at = strip_row c.strip_of-strip.result c.row_of.result _ c.row_of.ensures.near c.strip_of-strip.ensures.row
+    c.row_of.ensures.value in
+    let base = c.strip_of-strip.ensures.base in
+    let size = c.base_side-side.ensures.size in
+    let word : to_z w64 (of_z w64 c.base_side-side.result) ≡ c.base_side-side.result = omega (arith, signed_linear, size) in (
+      c.in_default.ensures.arc,
+      word ∙ c.base_side-side.ensures.value ∙ ap (side (place_of p.a) (place_of p.c)) (λ i. centre (base i +ℤ pos 0) (at i)),
+    )

@@ -1,7 +1,6 @@
 use Rattle.fx_winding.specs.Winding.{span_of}
 use Rattle.fx_rows.proofs.Cutting.{slanted}
-use Rattle.fx_rows.proofs.Flats.{line_not_bent}
-use Rattle.fx_rows.proofs.Straight.{line_met}
+use Rattle.fx_rows.proofs.Straight.{straight_met}
 use Rattle.fx_rows.proofs.Stepping.{rise_value}
 use Rattle.fx_rows.proofs.Counting.{rise_sign, line_is_cut}
 use Rattle.fx_rows.proofs.cut.line_cut.Goals as goal
@@ -11,9 +10,9 @@ edge_from-edge-requires-clause-slanted c = slanted _ _ _ c.requires.inner
 
 pub returns-clause-cut : goal.returns-clause-cut
 returns-clause-cut c =
-    let s = c.args.bounded.now.piece in
+    let s = span_of c.args.bounded.now.piece in
     let edge = c.edge_from-edge.ensures in
-    line_is_cut (span_of s) c.args.strip _ (line_not_bent s c.requires.line) c.requires.inner edge.edge
+    line_is_cut s c.args.strip _ c.requires.straight c.requires.inner edge.edge
     (rise_value c.args.bounded.now _ (rise_sign _ _ _ _ _ c.args.bounded.now.rises c.requires.inner))
-    (c.met_column.ensures (span_of s) (line_met s c.args.strip c.edge_from-edge.result.at c.edge_from-edge.result.met
-    c.requires.line c.requires.inner edge.edge edge.met))
+    (c.met_column.ensures s (straight_met s c.args.strip c.edge_from-edge.result.at c.edge_from-edge.result.met
+    c.requires.straight c.requires.inner edge.edge edge.met))

@@ -5,11 +5,7 @@ use Rattle.fx_rows.proofs.Contacts.{none_on, one_on, two_on, not_first, not_last
 use Rattle.fx_rows.proofs.ends.on_ends.Goals as goal
 
 pub returns-then-not-on_last : goal.returns-then-not-on_last
-returns-then-not-on_last c = λ s e.
-    let t = c.args.strip in
-    let r = c.args.columns in
-    none_on s t (not_one s t r.last (λ on. clash c.args.on_last c.if-not-on_last.true (e.last.1 on))
-    (not_first s t r.first r.last (λ on. clash c.args.on_first c.if-not-on_first.true (e.first.1 on)) e.only))
+returns-then-not-on_last c = grind (arith, c.if-not-on_last.true, c.if-not-on_first.true, none_on, not_one, clash, not_first)
 
 pub returns-then-not-on_first : goal.returns-then-not-on_first
 returns-then-not-on_first c = λ s e.

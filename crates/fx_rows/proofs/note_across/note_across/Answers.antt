@@ -1,60 +1,34 @@
-use Rattle.std.proofs.Common.{ℕ, ◌<◌, ◌≤◌, sym, subst, arith}
+use Rattle.std.proofs.Common.{subst, ℕ, ◌<◌, ◌≤◌, arith}
+use Rattle.fx_winding.specs.Notes.{IsNotedAcross}
 use Rattle.fx_winding.specs.Winding.{span_of}
-use Rattle.fx_rows.specs.declared.placed.Placed.{Placed}
-use Rattle.fx_rows.specs.inner.Lines.{AreOnly}
-use Rattle.fx_rows.specs.inner.Segments.{AreSetAcross, IsBandBit}
-use Rattle.fx_rows.specs.inner.Told.{IsEndIn}
-use Rattle.fx_rows.proofs.Kept.{kept_both, only_both}
-use Rattle.fx_rows.proofs.RowMeets.{all_across, met_end}
+use Rattle.fx_rows.specs.declared.piece_in_band.PieceInBand.{PieceInBand}
+use Rattle.fx_rows.proofs.Kept.{kept_both, only_both, rows_three}
+use Rattle.fx_rows.proofs.Bulges.{missed_across}
+use Rattle.fx_rows.proofs.NotedSegments.{across_kept}
 use Rattle.fx_rows.proofs.note_across.note_across.Goals as goal
 
-pub note_ends-requires-clause-inner : goal.note_ends-requires-clause-inner
-note_ends-requires-clause-inner c = c.requires.placed.met.inner
-
-pub returns-then-touched-ended-clause-noted : goal.returns-then-touched-ended-clause-noted
-returns-then-touched-ended-clause-noted c =
+pub returns-then-touched-inner-clause-noted : goal.returns-then-touched-inner-clause-noted
+returns-then-touched-inner-clause-noted c =
     let s = span_of c.args.piece.now in
     let p = c.args.placed in
-    let is = c.requires.placed in
-    let ended = p.met.inner in
-    let across = c.note_others.new.across in
-    let below =
-    subst (λ (z : Placed). (r : ℕ) → z.met.touched.first ≤ r → r < ended.first → AreSetAcross s z.frame z.below across r)
-    c.copied.ensures c.note_others.ensures.below in
-    let above =
-    subst (λ (z : Placed). (r : ℕ) → ended.end ≤ r → r < z.met.touched.end → AreSetAcross s z.frame z.below across r)
-    c.copied.ensures c.note_others.ensures.above in
-    all_across s p.frame p.met ended.first ended.end p.below across is.met below
-    (λ r l m k w met.
-    let inner = is.met.inner r l m in
-    let t = c.requires.told.rows r (omega arith) (omega (arith, m, p.met.to, p.rows)) inner in
-    let e = met_end s p.frame p.across.first p.across.end r t.end k is.across is.low is.high inner t.is w met in
-    c.note_others.ensures.kept _ (c.note_ends.ensures.set r k l m
-    (subst (λ (j : ℕ). IsEndIn c.args.ends.now r j) (sym e) t.told)))
-    above
+    let new = c.note_others.new.across in
+    let others = subst (λ (z : PieceInBand). ((r : ℕ) → z.met.touched.first ≤ r → r < z.met.inner.first
+    → IsNotedAcross s z.frame new r)
+    × ((r : ℕ) → z.met.inner.end ≤ r → r < z.met.touched.end → IsNotedAcross s z.frame new r)) c.copied.ensures
+    (c.note_others.ensures.below, c.note_others.ensures.above) in
+    missed_across s p.frame p.rows.first p.rows.end p.met new c.requires.placed.met
+    (rows_three (IsNotedAcross s p.frame new) p.met.touched.first p.met.inner.first p.met.inner.end p.met.touched.end others.0
+    (λ r l m. across_kept s p.frame r _ new c.note_others.ensures.kept (c.note_ends.ensures.noted r l m)) others.1)
 
-pub returns-then-touched-ended-clause-kept : goal.returns-then-touched-ended-clause-kept
-returns-then-touched-ended-clause-kept c = kept_both _ _ _ c.note_ends.ensures.kept c.note_others.ensures.kept
+pub returns-then-touched-inner-clause-kept : goal.returns-then-touched-inner-clause-kept
+returns-then-touched-inner-clause-kept c = kept_both _ _ _ c.note_ends.ensures.kept c.note_others.ensures.kept
 
-pub returns-then-touched-ended-clause-only : goal.returns-then-touched-ended-clause-only
-returns-then-touched-ended-clause-only c =
-    let s = span_of c.args.piece.now in
+pub returns-then-touched-inner-clause-only : goal.returns-then-touched-inner-clause-only
+returns-then-touched-inner-clause-only c =
+    grind (arith, c.note_ends.ensures.only, c.copied.ensures, c.note_others.ensures.only, only_both)
+
+pub returns-else-inner-touched-clause-noted : goal.returns-else-inner-touched-clause-noted
+returns-else-inner-touched-clause-noted c =
     let p = c.args.placed in
-    let only = subst (λ (z : Placed). AreOnly (IsBandBit s z.frame z.below) c.note_ends.new.across c.note_others.new.across)
-    c.copied.ensures c.note_others.ensures.only in
-    only_both (IsBandBit s p.frame p.below) _ _ _ c.note_ends.ensures.only only
-
-pub returns-else-ended-touched-clause-noted : goal.returns-else-ended-touched-clause-noted
-returns-else-ended-touched-clause-noted c =
-    let s = span_of c.args.piece.now in
-    let p = c.args.placed in
-    let is = c.requires.placed in
-    let ended = p.met.inner in
-    all_across s p.frame p.met ended.first ended.end p.below c.note_ends.new.across is.met
-    (λ r l m. absurd (omega (arith, l, m)))
-    (λ r l m k w met.
-    let inner = is.met.inner r l m in
-    let t = c.requires.told.rows r (omega arith) (omega (arith, m, p.met.to, p.rows)) inner in
-    let e = met_end s p.frame p.across.first p.across.end r t.end k is.across is.low is.high inner t.is w met in
-    c.note_ends.ensures.set r k l m (subst (λ (j : ℕ). IsEndIn c.args.ends.now r j) (sym e) t.told))
-    (λ r l m. absurd (omega (arith, l, m)))
+    missed_across (span_of c.args.piece.now) p.frame p.rows.first p.rows.end p.met c.note_ends.new.across c.requires.placed.met
+    (λ r l m. c.note_ends.ensures.noted r (omega (arith, l)) (omega (arith, m)))

@@ -1,32 +1,58 @@
-use Rattle.std.proofs.Common.{subst}
+use Rattle.std.proofs.Common.{◌≡◌, ◌*◌, ℕ, length, ap, subst, arith}
+use Rattle.fx_winding.specs.Notes.{words_noted}
 use Rattle.fx_winding.specs.Winding.{span_of}
-use Rattle.fx_winding.specs.declared.point.Piece.{Piece}
-use Rattle.fx_rows.specs.inner.Lines.{AreOnly}
-use Rattle.fx_rows.specs.inner.Segments.{AreSetAcross, IsBandBit}
+use Rattle.fx_rows.specs.inner.Lines.{AreSetIn}
+use Rattle.fx_rows.proofs.Bulges.{across_set, set_in}
 use Rattle.fx_rows.proofs.Kept.{kept_both, only_both}
-use Rattle.fx_rows.proofs.Segments.{set_across_kept}
+use Rattle.fx_rows.proofs.NotedSegments.{across_kept, row_room}
 use Rattle.fx_rows.proofs.note_across.note_others.Goals as goal
+
+pub note_met_lines-requires-clause-room : goal.note_met_lines-requires-clause-room
+note_met_lines-requires-clause-room c = λ r l.
+    let f = c.args.placed.frame in
+    let room = row_room r f.height f.width _ (length c.args.across.now) l (ap (λ (w : ℕ). 32 * w) c.words_noted-row.ensures)
+    c.requires.room in
+    omega (arith, room)
+
+pub note_met_lines-requires-2-clause-room : goal.note_met_lines-requires-2-clause-room
+note_met_lines-requires-2-clause-room c = λ r l.
+    let f = c.args.placed.frame in
+    let room = row_room r f.height f.width _ (length c.args.across.now) l (ap (λ (w : ℕ). 32 * w) c.words_noted-row.ensures)
+    c.requires.room in
+    omega (arith, room)
 
 pub returns-clause-below : goal.returns-clause-below
 returns-clause-below c = λ r l m.
-    let p = c.args.placed in
-    set_across_kept (span_of c.args.piece.now) p.frame p.below r c.note_rows.new.across c.note_rows-2.new.across
-    c.note_rows-2.ensures.kept (subst (λ (q : Piece). AreSetAcross (span_of q) p.frame p.below c.note_rows.new.across r)
-    c.bounds_of-bounded.ensures.piece (c.note_rows.ensures.noted r l m))
+    let f = c.args.placed.frame in
+    let s = span_of c.args.piece.now in
+    let row : 32 * c.words_noted-row.result ≡ 32 * words_noted f.width = ap (λ (w : ℕ). 32 * w) c.words_noted-row.ensures in
+    across_kept s f r c.note_met_lines.new.bits c.note_met_lines-2.new.bits c.note_met_lines-2.ensures.kept
+    (across_set s f r c.note_met_lines.new.bits (subst (λ z. z) (λ i. AreSetIn (span_of (c.bounds_of-bounded.ensures.piece i)) f r
+    (r * row i) 1 c.note_met_lines.new.bits) (set_in (span_of c.bounds_of-bounded.result.piece) f r
+    (r * (32 * c.words_noted-row.result)) 1 c.note_met_lines.new.bits (c.note_met_lines.ensures.noted r l m))))
 
 pub returns-clause-above : goal.returns-clause-above
 returns-clause-above c = λ r l m.
-    let p = c.args.placed in
-    subst (λ (q : Piece). AreSetAcross (span_of q) p.frame p.below c.note_rows-2.new.across r)
-    c.bounds_of-bounded.ensures.piece (c.note_rows-2.ensures.noted r l m)
+    let f = c.args.placed.frame in
+    let row : 32 * c.words_noted-row.result ≡ 32 * words_noted f.width = ap (λ (w : ℕ). 32 * w) c.words_noted-row.ensures in
+    across_set (span_of c.args.piece.now) f r c.note_met_lines-2.new.bits (subst (λ z. z)
+    (λ i. AreSetIn (span_of (c.bounds_of-bounded.ensures.piece i)) f r (r * row i) 1 c.note_met_lines-2.new.bits)
+    (set_in (span_of c.bounds_of-bounded.result.piece) f r (r * (32 * c.words_noted-row.result)) 1 c.note_met_lines-2.new.bits
+    (c.note_met_lines-2.ensures.noted r l m)))
 
 pub returns-clause-kept : goal.returns-clause-kept
-returns-clause-kept c = kept_both _ _ _ c.note_rows.ensures.kept c.note_rows-2.ensures.kept
+returns-clause-kept c = kept_both _ _ _ c.note_met_lines.ensures.kept c.note_met_lines-2.ensures.kept
 
 pub returns-clause-only : goal.returns-clause-only
 returns-clause-only c =
-    let p = c.args.placed in
-    let s = c.bounds_of-bounded.result.piece in
-    subst (λ (q : Piece). AreOnly (IsBandBit (span_of q) p.frame p.below) c.args.across.now c.note_rows-2.new.across)
-    c.bounds_of-bounded.ensures.piece
-    (only_both (IsBandBit (span_of s) p.frame p.below) _ _ _ c.note_rows.ensures.only c.note_rows-2.ensures.only)
+    grind (
+      arith,
+      c.words_noted-row.ensures,
+      c.bounds_of-bounded.ensures.piece,
+      c.note_met_lines.ensures.only,
+      c.note_met_lines-2.ensures.only,
+      only_both,
+    )
+
+pub returns-clause-count : goal.returns-clause-count
+returns-clause-count c = grind (arith, c.note_met_lines.ensures.count, c.note_met_lines-2.ensures.count)

@@ -1,9 +1,9 @@
-use Rattle.std.proofs.Common.{◌≡◌, inr, sym, subst, ℤ, pos, ◌+ℤ◌, ◌*ℤ◌, arith, w32, to_z, of_z}
-use Rattle.fx_fixed.proofs.Linear.{signed_linear}
+use Rattle.std.proofs.Common.{inl, inr, sym, subst, ℤ, pos, ◌+ℤ◌, ◌*ℤ◌, arith}
 use Rattle.fx_winding.specs.Winding.{span_of}
+use Rattle.fx_rows.specs.inner.Heights.{height_of}
 use Rattle.fx_rows.specs.inner.Points.{IsInner}
 use Rattle.fx_rows.specs.inner.Upward.{IsPassing}
-use Rattle.fx_rows.proofs.Upward.{hanging, goes_passing, last_row, one_each}
+use Rattle.fx_rows.proofs.Upward.{hanging, last_row, one_each, row_own}
 use Rattle.fx_rows.proofs.note_up.columns_above.Goals as goal
 
 pub returns-then-ends_in-clause-columns : goal.returns-then-ends_in-clause-columns
@@ -11,10 +11,9 @@ returns-then-ends_in-clause-columns c = c.head_columns.ensures.at.within
 
 pub returns-then-ends_in-clause-to : goal.returns-then-ends_in-clause-to
 returns-then-ends_in-clause-to c = λ from comes.
-    let s = span_of c.args.piece.now in
     let p = c.args.placed in
     comes c.head_columns.result (inr (
-      hanging s (p.frame.bottom +ℤ pos p.met.inner.end) c.requires.plain c.requires.off
+      hanging (span_of c.args.piece.now) (p.frame.bottom +ℤ pos p.met.inner.end) c.requires.plain c.requires.off
           (c.ends_in.ensures.under c.if-ends_in.true),
       c.head_columns.ensures,
     ))
@@ -25,21 +24,16 @@ columns_passed-requires-clause-inner c =
     let s = span_of c.args.piece.now in
     let p = c.args.placed in
     let over = c.ends_in.ensures.above c.if-ends_in.false in
-    let last = last_row s p.frame p.met.inner.end (omega (arith, p.met.to, p.rows)) over
+    let last = last_row s p.frame p.rows.end p.met.inner.end (omega (arith, p.met.to, p.end)) over
     (c.requires.placed.met.over p.met.inner.end (omega arith)) in
-    let row : to_z w32 (of_z w32 c.row_above.result) ≡ c.args.placed.frame.bottom +ℤ pos c.args.placed.met.inner.end =
-    omega (arith, signed_linear, c.row_above.ensures.value, c.row_above.ensures.near) in
-    subst (λ (z : ℤ). IsInner s.a.y s.c.y (pos 128 *ℤ z +ℤ pos 64)) (sym row)
-    (one_each s (pos 128 *ℤ (p.frame.bottom +ℤ pos p.met.inner.end) +ℤ pos 64) (c.requires.under last) over)
+    subst (λ (z : ℤ). IsInner s.a.y s.c.y (pos 128 *ℤ z +ℤ pos 64))
+    (sym (row_own c.row_above.ensures.value c.row_above.ensures.near))
+    (one_each s (height_of p.frame p.met.inner.end) (c.requires.under last) over)
 
 pub returns-clause-columns : goal.returns-clause-columns
 returns-clause-columns c = c.columns_passed.ensures.passing.is.within
 
 pub returns-clause-to : goal.returns-clause-to
-returns-clause-to c = λ from comes.
-    let s = span_of c.args.piece.now in
-    let p = c.args.placed in
-    let row : to_z w32 (of_z w32 c.row_above.result) ≡ c.args.placed.frame.bottom +ℤ pos c.args.placed.met.inner.end =
-    omega (arith, signed_linear, c.row_above.ensures.value, c.row_above.ensures.near) in
-    goes_passing s p p.met.inner.end from c.columns_passed.result comes
-    (subst (λ (z : ℤ). IsPassing s p.frame z c.columns_passed.result) row c.columns_passed.ensures.passing)
+returns-clause-to c = λ from comes. comes c.columns_passed.result
+    (inl (subst (λ (z : ℤ). IsPassing (span_of c.args.piece.now) c.args.placed.frame z c.columns_passed.result)
+    (row_own c.row_above.ensures.value c.row_above.ensures.near) c.columns_passed.ensures.passing))

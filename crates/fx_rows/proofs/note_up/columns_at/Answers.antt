@@ -22,11 +22,7 @@ within c =
     c.requires.left c.requires.right
 
 pub columns_to-first-requires : goal.columns_to-first-requires
-columns_to-first-requires c =
-    let size = c.first_from-col.ensures.size in
-    let same : to_z w32 (of_z w32 c.first_from-col.result) ≡ c.first_from-col.result = omega (arith, signed_linear, size) in
-    let is = within c in
-    record { low = omega (arith, signed_linear, same, is.0); high = omega (arith, signed_linear, same, is.1) }
+columns_to-first-requires c = grind (arith, signed_linear, c.first_from-col.ensures.size)
 
 pub returns-then-col-x : goal.returns-then-col-x
 returns-then-col-x c =

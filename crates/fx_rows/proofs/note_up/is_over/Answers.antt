@@ -10,6 +10,4 @@ pub returns-then-piece-y-2-clause-below : goal.returns-then-piece-y-2-clause-bel
 returns-then-piece-y-2-clause-below c = λ e. let y = height_kept c.args.row c.requires in inr (omega (arith, signed_linear, y))
 
 pub returns-clause-over : goal.returns-clause-over
-returns-clause-over c = λ t.
-    let y = height_kept c.args.row c.requires in
-    (omega (arith, signed_linear, y), omega (arith, signed_linear, y))
+returns-clause-over c = grind (arith, signed_linear, c.requires, height_kept)

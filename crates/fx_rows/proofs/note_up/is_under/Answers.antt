@@ -10,6 +10,4 @@ pub returns-then-y-piece-2-clause-above : goal.returns-then-y-piece-2-clause-abo
 returns-then-y-piece-2-clause-above c = λ e. let y = height_kept c.args.row c.requires in inr (omega (arith, signed_linear, y))
 
 pub returns-clause-under : goal.returns-clause-under
-returns-clause-under c = λ t.
-    let y = height_kept c.args.row c.requires in
-    (omega (arith, signed_linear, y), omega (arith, signed_linear, y))
+returns-clause-under c = grind (arith, signed_linear, c.requires, height_kept)

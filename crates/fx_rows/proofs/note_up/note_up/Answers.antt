@@ -1,124 +1,67 @@
-use Rattle.std.proofs.Common.{pos, ◌+ℤ◌, ◌-ℤ◌, ◌*ℤ◌, arith}
+use Rattle.std.proofs.Common.{arith}
 use Rattle.fx_fixed.proofs.Linear.{signed_linear}
 use Rattle.fx_winding.specs.Winding.{span_of}
-use Rattle.fx_winding.proofs.Places.{clash}
-use Rattle.fx_rows.specs.inner.Segments.{IsUpBit}
+use Rattle.fx_rows.specs.inner.Lines.{IsUpBit}
 use Rattle.fx_rows.specs.inner.Upward.{height_below, IsLevel}
 use Rattle.fx_rows.proofs.Kept.{kept_both, only_both}
-use Rattle.fx_rows.proofs.Segments.{up_kept}
-use Rattle.fx_rows.proofs.Upward.{none_within, on_line_unmet, set_over, set_under, at_least_more, over_lowest, all_levels, top_level}
+use Rattle.fx_rows.proofs.NotedSegments.{up_kept}
+use Rattle.fx_rows.proofs.Upward.{none_within, on_line_unmet, set_over, set_under, at_least_more, over_lowest, all_levels}
 use Rattle.fx_rows.proofs.note_up.note_up.Goals as goal
 
 pub returns-then-placed-clause-noted : goal.returns-then-placed-clause-noted
-returns-then-placed-clause-noted c = λ r h k w m.
+returns-then-placed-clause-noted c = λ r h l k w m.
     absurd (none_within (span_of c.args.piece.now) c.args.placed c.requires.placed
     (omega (arith, signed_linear, c.if-placed.true)) r k m)
 
-pub returns-then-placed-clause-top : goal.returns-then-placed-clause-top
-returns-then-placed-clause-top c = λ t k w m.
-    absurd (none_within (span_of c.args.piece.now) c.args.placed c.requires.placed
-    (omega (arith, signed_linear, c.if-placed.true)) c.args.placed.frame.height k m)
-
 pub returns-then-is_on_line-clause-noted : goal.returns-then-is_on_line-clause-noted
-returns-then-is_on_line-clause-noted c = λ r h k w m. absurd (on_line_unmet (span_of c.args.piece.now) c.args.placed.frame r k
+returns-then-is_on_line-clause-noted c = λ r h l k w m. absurd (on_line_unmet (span_of c.args.piece.now) c.args.placed.frame r k
     c.requires.plain (c.is_on_line.ensures.on c.if-is_on_line.true) w m)
 
-pub returns-then-is_on_line-clause-top : goal.returns-then-is_on_line-clause-top
-returns-then-is_on_line-clause-top c = λ t k w m. absurd (on_line_unmet (span_of c.args.piece.now) c.args.placed.frame
-    c.args.placed.frame.height k c.requires.plain (c.is_on_line.ensures.on c.if-is_on_line.true) w m)
-
 pub returns-then-lies_under-clause-noted : goal.returns-then-lies_under-clause-noted
-returns-then-lies_under-clause-noted c = λ r h.
+returns-then-lies_under-clause-noted c = λ r h l.
     let s = span_of c.args.piece.now in
     let p = c.args.placed in
-    set_over s p.frame p.below r c.args.up.now c.requires.plain (c.is_on_line.ensures.off c.if-is_on_line.false)
-    (at_least_more s (pos 128 *ℤ (p.frame.bottom -ℤ pos 1) +ℤ pos 64) (height_below p.frame r) (over_lowest p.frame r)
-    (c.lies_under.ensures.under c.if-lies_under.true))
-
-pub returns-then-lies_under-clause-top : goal.returns-then-lies_under-clause-top
-returns-then-lies_under-clause-top c = λ t.
-    let s = span_of c.args.piece.now in
-    let p = c.args.placed in
-    set_over s p.frame p.below p.frame.height c.args.up.now c.requires.plain (c.is_on_line.ensures.off c.if-is_on_line.false)
-    (at_least_more s (pos 128 *ℤ (p.frame.bottom -ℤ pos 1) +ℤ pos 64) (height_below p.frame p.frame.height)
-    (over_lowest p.frame p.frame.height)
+    set_over s p.frame r c.args.up.now c.requires.plain (c.is_on_line.ensures.off c.if-is_on_line.false)
+    (at_least_more s (height_below p.frame p.rows.first) (height_below p.frame r) (over_lowest p.frame p.rows.first r h)
     (c.lies_under.ensures.under c.if-lies_under.true))
 
 pub columns_below-low-requires-clause-over : goal.columns_below-low-requires-clause-over
-columns_below-low-requires-clause-over c =
-    c.lies_under.ensures.above c.if-lies_under.false
-
-pub returns-then-leaves_band-clause-noted : goal.returns-then-leaves_band-clause-noted
-returns-then-leaves_band-clause-noted c = λ r h.
-    let s = span_of c.args.piece.now in
-    let p = c.args.placed in
-    let leaves = c.leaves_band.ensures.leaves c.if-leaves_band.true in
-    all_levels s p.frame p.met p.below c.note_passage-low.new.up c.requires.plain (c.is_on_line.ensures.off c.if-is_on_line.false)
-    c.requires.placed.met c.note_passage-low.ensures.noted (λ l. absurd (omega (arith, leaves, l))) r h
-
-pub returns-then-leaves_band-clause-top : goal.returns-then-leaves_band-clause-top
-returns-then-leaves_band-clause-top c = λ t.
-    absurd (clash c.args.placed.highest (c.leaves_band.ensures.next c.if-leaves_band.true) t)
+columns_below-low-requires-clause-over c = c.lies_under.ensures.above c.if-lies_under.false
 
 pub returns-then-lies_over-clause-noted : goal.returns-then-lies_over-clause-noted
-returns-then-lies_over-clause-noted c = λ r h.
+returns-then-lies_over-clause-noted c =
     let s = span_of c.args.piece.now in
     let p = c.args.placed in
     let up = c.note_passage-low.new.up in
     let off = c.is_on_line.ensures.off c.if-is_on_line.false in
-    all_levels s p.frame p.met p.below up c.requires.plain off c.requires.placed.met c.note_passage-low.ensures.noted
-    (λ l. set_under s p.frame p.below p.met.inner.end up c.requires.plain off (c.lies_over.ensures.over c.if-lies_over.true)) r h
-
-pub returns-then-lies_over-clause-top : goal.returns-then-lies_over-clause-top
-returns-then-lies_over-clause-top c = λ t.
-    let s = span_of c.args.piece.now in
-    let p = c.args.placed in
-    let up = c.note_passage-low.new.up in
-    let within = p.met.to in
-    let rows = p.rows in
-    let off = c.is_on_line.ensures.off c.if-is_on_line.false in
-    top_level s p.frame p.met p.below up c.requires.plain off c.requires.placed.met
-    (set_under s p.frame p.below p.met.inner.end up c.requires.plain off (c.lies_over.ensures.over c.if-lies_over.true))
-    (omega (arith, within, rows))
+    all_levels s p.frame p.rows.first p.rows.end p.met up c.requires.plain off c.requires.placed.met
+    c.note_passage-low.ensures.noted
+    (set_under s p.frame p.met.inner.end up c.requires.plain off (c.lies_over.ensures.over c.if-lies_over.true))
 
 pub columns_above-high-requires-clause-under : goal.columns_above-high-requires-clause-under
 columns_above-high-requires-clause-under c = c.lies_over.ensures.below c.if-lies_over.false
 
 pub returns-clause-noted : goal.returns-clause-noted
-returns-clause-noted c = λ r h.
+returns-clause-noted c =
     let s = span_of c.args.piece.now in
     let p = c.args.placed in
-    let mid = c.note_passage-low.new.up in
-    let up = c.note_columns.new.up in
-    let level : IsLevel s p p.met.inner.end c.joined.result.first c.joined.result.end =
+    let level : IsLevel s p.frame p.met.inner.end c.joined.result.first c.joined.result.end =
     rw (c.joined.ensures.first, c.joined.ensures.end)
     (c.columns_above-high.ensures.to c.note_passage-low.result c.note_passage-low.ensures.from) in
-    all_levels s p.frame p.met p.below up c.requires.plain (c.is_on_line.ensures.off c.if-is_on_line.false)
-    c.requires.placed.met
-    (λ q l m. up_kept s p.frame p.below q mid up (c.note_passage-low.ensures.noted q l m) c.note_columns.ensures.kept)
-    (λ l. c.note_columns.ensures.noted s level.within) r h
-
-pub returns-clause-top : goal.returns-clause-top
-returns-clause-top c = λ t.
-    let s = span_of c.args.piece.now in
-    let p = c.args.placed in
-    let up = c.note_columns.new.up in
-    let within = p.met.to in
-    let rows = p.rows in
-    let level : IsLevel s p p.met.inner.end c.joined.result.first c.joined.result.end =
-    rw (c.joined.ensures.first, c.joined.ensures.end)
-    (c.columns_above-high.ensures.to c.note_passage-low.result c.note_passage-low.ensures.from) in
-    top_level s p.frame p.met p.below up c.requires.plain (c.is_on_line.ensures.off c.if-is_on_line.false) c.requires.placed.met
-    (c.note_columns.ensures.noted s level.within) (omega (arith, within, rows))
+    all_levels s p.frame p.rows.first p.rows.end p.met c.note_columns.new.up c.requires.plain
+    (c.is_on_line.ensures.off c.if-is_on_line.false) c.requires.placed.met
+    (λ q l m. up_kept s p.frame q c.note_passage-low.new.up c.note_columns.new.up c.note_columns.ensures.kept
+    (c.note_passage-low.ensures.noted q l m))
+    (c.note_columns.ensures.noted s level.within)
 
 pub returns-clause-only : goal.returns-clause-only
 returns-clause-only c =
     let s = span_of c.args.piece.now in
     let p = c.args.placed in
-    let level : IsLevel s p p.met.inner.end c.joined.result.first c.joined.result.end =
+    let level : IsLevel s p.frame p.met.inner.end c.joined.result.first c.joined.result.end =
     rw (c.joined.ensures.first, c.joined.ensures.end)
     (c.columns_above-high.ensures.to c.note_passage-low.result c.note_passage-low.ensures.from) in
-    only_both (IsUpBit s p) _ _ _ c.note_passage-low.ensures.only (c.note_columns.ensures.only s level.all)
+    only_both (IsUpBit s p.frame) _ _ _ c.note_passage-low.ensures.only (c.note_columns.ensures.only s level.all)
 
 pub returns-clause-kept : goal.returns-clause-kept
 returns-clause-kept c = kept_both _ _ _ c.note_passage-low.ensures.kept c.note_columns.ensures.kept

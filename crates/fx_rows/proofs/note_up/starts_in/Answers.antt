@@ -1,22 +1,19 @@
-use Rattle.std.proofs.Common.{◌≡◌, subst, ℤ, pos, ◌+ℤ◌, ◌-ℤ◌, ◌*ℤ◌, arith, w32, to_z, of_z}
-use Rattle.fx_fixed.proofs.Linear.{signed, signed_linear}
+use Rattle.std.proofs.Common.{subst, ℤ, pos, ◌+ℤ◌, ◌*ℤ◌, arith}
+use Rattle.fx_fixed.proofs.Linear.{signed}
 use Rattle.fx_winding.specs.Winding.{span_of}
 use Rattle.fx_rows.specs.inner.Heights.{IsAtMostEnds, IsOneUnder}
+use Rattle.fx_rows.proofs.Upward.{row_own}
 use Rattle.fx_rows.proofs.note_up.starts_in.Goals as goal
 
-pub returns-then-placed-gt0-clause-over : goal.returns-then-placed-gt0-clause-over
-returns-then-placed-gt0-clause-over c = λ t.
-    let h = c.requires.met.under 0 (omega arith) in
+pub returns-then-placed-clause-over : goal.returns-then-placed-clause-over
+returns-then-placed-clause-over c = λ t.
+    let h = c.requires.met.under c.args.placed.rows.first (omega arith) (omega arith) in
     (omega (arith, signed, h.0), omega (arith, signed, h.1))
 
 pub returns-clause-over : goal.returns-clause-over
-returns-clause-over c = λ t.
-    let row : to_z w32 (of_z w32 c.row_below.result) ≡ c.args.placed.frame.bottom -ℤ pos 1 =
-    omega (arith, signed_linear, c.row_below.ensures.value, c.row_below.ensures.near) in
-    subst (λ (z : ℤ). IsAtMostEnds (span_of c.args.piece.now) (pos 128 *ℤ z +ℤ pos 64)) row (c.is_over.ensures.over t)
+returns-clause-over c = λ t. subst (λ (z : ℤ). IsAtMostEnds (span_of c.args.piece.now) (pos 128 *ℤ z +ℤ pos 64))
+    (row_own c.row_below.ensures.value c.row_below.ensures.near) (c.is_over.ensures.over t)
 
 pub returns-clause-below : goal.returns-clause-below
-returns-clause-below c = λ e.
-    let row : to_z w32 (of_z w32 c.row_below.result) ≡ c.args.placed.frame.bottom -ℤ pos 1 =
-    omega (arith, signed_linear, c.row_below.ensures.value, c.row_below.ensures.near) in
-    subst (λ (z : ℤ). IsOneUnder (span_of c.args.piece.now) (pos 128 *ℤ z +ℤ pos 64)) row (c.is_over.ensures.below e)
+returns-clause-below c = λ e. subst (λ (z : ℤ). IsOneUnder (span_of c.args.piece.now) (pos 128 *ℤ z +ℤ pos 64))
+    (row_own c.row_below.ensures.value c.row_below.ensures.near) (c.is_over.ensures.below e)

@@ -1,19 +1,19 @@
-use Rattle.std.proofs.Common.{◌≡◌, ◌⊎◌, inl, inr, refl, ◌∙◌, ℕ, zero, suc, ◌+◌, ◌*◌, ◌-◌, ◌^◌, ◌<◌, ◌≤◌, ◌↔◌, IsTrue, Any, subst, sym}
-use Rattle.std.proofs.Common.{ap, pos, ◌+ℤ◌, map, length, get_or, arith, List, false}
+use Rattle.std.proofs.Common.{◌≡◌, ◌⊎◌, inl, inr, ◌∙◌, ℕ, zero, suc, ◌+◌, ◌*◌, ◌-◌, ◌^◌, ◌<◌, ◌≤◌, subst, sym}
+use Rattle.std.proofs.Common.{ap, pos, ◌+ℤ◌, map, length, get_or, arith}
 use Rattle.std.proofs.Math.ListN.{get_or-map}
 use Rattle.std.proofs.lemmas.List.{length-map, take_all}
 use Rattle.fx_fixed.proofs.Linear.{signed_linear}
 use Rattle.fx_fixed.specs.Ranges.{IsWithin}
 use Rattle.fx_winding.specs.declared.frame.Frame.{Frame}
-use Rattle.fx_winding.specs.Winding.{Span, span_of, centre, winding, IsOn}
+use Rattle.fx_winding.specs.Winding.{Span, span_of, centre}
 use Rattle.fx_rows.specs.inner.Sums.{before, AreWithin}
 use Rattle.fx_rows.specs.inner.Bands.{stride, turns_at, mark_at, IsBandAdded}
 use Rattle.fx_rows.specs.inner.Placing.{AreMet}
-use Rattle.fx_rows.specs.inner.Telling.{AreRowsTold, AreNotedIn, Keeps, Lasts, noted, of_frame}
+use Rattle.fx_rows.specs.inner.Telling.{AreRowsTold, Keeps, Lasts, noted, of_frame}
 use Rattle.fx_rows.proofs.Counted.{counted_start, counted_more, counted_all, count_more, within_none}
 use Rattle.fx_rows.proofs.Banding.{IsNumber, number_or_not}
 use Rattle.fx_rows.proofs.Sums.{before_none}
-use Rattle.fx_rows.proofs.Telling.{told_same, met_same, noted_start, noted_more}
+use Rattle.fx_rows.proofs.Telling.{told_in_frame, noted_start, noted_more}
 use Rattle.fx_rows.proofs.rows.count_band.Goals as goal
 
 sum_times : (a b h : ℕ) → (a + b) * h ≡ a * h + b * h
@@ -21,23 +21,7 @@ sum_times a b h = omega arith
 
 pub pieces-init : goal.pieces-init
 pieces-init g c =
-    let b = c.args.band.now in
-    let f = b.frame in
-    let none : (n : ℕ) → turns_at b n ≡ pos 0 = λ n. before_none (n + 1) b.diff.items c.requires.clear.counts in
-    record {
-      frame = refl;
-      counted = λ r k h l. counted_start (centre (f.left +ℤ pos k) (f.bottom +ℤ pos r)) (map span_of c.args.pieces.now)
-          (mark_at b (r * stride f.width + k)) (turns_at b (r * stride f.width + k))
-          (c.requires.clear.marks (r * stride f.width + k)) (none (r * stride f.width + k));
-      rest = λ n h. none n;
-      unused = λ n h. c.requires.clear.marks n;
-      touched = λ k o z. c.requires.clear.counts k;
-      small = within_none b.diff.items c.requires.clear.counts;
-      kept = λ x _ h. h;
-      noted = noted_start (g.N.Noting.Says c.args.noter.now) (map span_of c.args.pieces.now) c.args.frame c.args.rows.first
-          c.args.rows.end;
-      count = omega arith;
-    }
+    grind (arith, c.requires.clear.counts, c.requires.clear.marks, before_none, counted_start, within_none, noted_start)
 
 pub add_piece-met-requires : goal.add_piece-met-requires
 add_piece-met-requires g c =
@@ -47,16 +31,16 @@ add_piece-met-requires g c =
     }
 
 pub note-requires-clause-met : goal.note-requires-clause-met
-note-requires-clause-met g c = λ f part.
-    let s = span_of c.piece-item.result in
-    met_same s c.args.frame c.args.band.now.frame f c.args.rows.first c.args.rows.end c.add_piece-met.result c.requires.part part
-    (subst (λ (f : Frame). AreMet s f c.add_piece-met.result) c.pieces.invariant.frame c.add_piece-met.ensures.met)
+note-requires-clause-met g c =
+    c.met_in_frame.ensures (span_of c.piece-item.result) c.args.frame c.args.band.now.frame c.requires.part
+    (subst (λ (f : Frame). AreMet (span_of c.piece-item.result) f c.add_piece-met.result) c.pieces.invariant.frame
+    c.add_piece-met.ensures.met)
 
 pub note-requires-clause-told : goal.note-requires-clause-told
-note-requires-clause-told g c = λ f part.
+note-requires-clause-told g c =
     let s = span_of c.piece-item.result in
     let T = g.N.Noting.IsTold c.add_piece-met.new.noter in
-    told_same T s c.args.frame c.args.band.now.frame f c.args.rows.first c.args.rows.end c.requires.part part
+    told_in_frame T s c.args.frame c.args.band.now.frame c.args.rows.first c.args.rows.end c.requires.part
     (subst (λ (f : Frame). AreRowsTold T s f 0 f.height) c.pieces.invariant.frame c.add_piece-met.ensures.added.told)
 
 pub note-requires-clause-frame : goal.note-requires-clause-frame
@@ -104,7 +88,7 @@ pieces-preserved g c =
           (omega (arith, signed_linear, e, few), omega (arith, signed_linear, e, few));
       kept = λ x lasts h. c.note.ensures.kept x (subst (λ (t : Span). Lasts t x) (sym is) (lasts here s inside))
           (kept x (inv.kept x lasts h));
-      noted = noted_more _ _ spans c.args.frame c.args.rows.first c.args.rows.end here s inside is
+      noted = noted_more _ _ spans c.args.rows.first c.args.rows.end here s inside is
           (λ t w r h. c.note.ensures.kept (noted t w r) tt (kept (noted t w r) h)) inv.noted c.note.ensures.noted;
       count = count_more c.args.tally.now.count c.pieces.tally.count c.note.new.tally.count here
           ((12 + g.N.Noting.tests) * f.height) inv.count all;
@@ -114,36 +98,19 @@ pub returns-clause-frame : goal.returns-clause-frame
 returns-clause-frame g c = c.pieces.invariant.frame
 
 pub returns-clause-counted : goal.returns-clause-counted
-returns-clause-counted g c = record {
-  turns = λ r k h l. (all r k h l).0;
-  marks = λ r k h l. (all r k h l).1;
-  rest = c.pieces.invariant.rest;
-  unused = c.pieces.invariant.unused;
-}
-  where
-    f : Frame
-    f = c.args.band.now.frame
-
-    spans : List Span
-    spans = map span_of c.args.pieces.now
-
-    all : (r k : ℕ) → r < f.height → k < f.width
-        → (mark_at c.pieces.band (r * stride f.width + k) ≡ false → turns_at c.pieces.band (r * stride f.width + k)
-        ≡ winding (centre (f.left +ℤ pos k) (f.bottom +ℤ pos r)) spans)
-        × (IsTrue (mark_at c.pieces.band (r * stride f.width + k)) ↔
-        Any (IsOn (centre (f.left +ℤ pos k) (f.bottom +ℤ pos r))) spans)
-    all r k h l =
-        let done : c.pieces.piece-index ≡ length spans = omega (arith, length-map c.args.pieces.now span_of) in
-        counted_all (centre (f.left +ℤ pos k) (f.bottom +ℤ pos r)) spans c.pieces.piece-index
-        (mark_at c.pieces.band (r * stride f.width + k)) (turns_at c.pieces.band (r * stride f.width + k)) done
-        (c.pieces.invariant.counted r k h l)
+returns-clause-counted g c =
+    grind (
+      arith,
+      signed_linear,
+      c.pieces.invariant.rest,
+      c.pieces.invariant.unused,
+      c.pieces.invariant.counted,
+      length-map,
+      counted_all,
+    )
 
 pub returns-clause-noted : goal.returns-clause-noted
-returns-clause-noted g c =
-    let spans = map span_of c.args.pieces.now in
-    let n = length-map c.args.pieces.now span_of in
-    subst (λ (ss : List Span). AreNotedIn (g.N.Noting.Says c.pieces.noter) ss c.args.frame c.args.rows.first c.args.rows.end)
-    (take_all c.pieces.piece-index spans (omega (arith, n))) c.pieces.invariant.noted
+returns-clause-noted g c = grind (arith, c.pieces.invariant.noted, length-map, take_all)
 
 pub returns-clause-small : goal.returns-clause-small
 returns-clause-small g c = λ n. by n
@@ -169,11 +136,7 @@ returns-clause-small g c = λ n. by n
         subst (λ (m : ℕ). IsWithin (2 ^ 20) (before m c.pieces.band.diff.items)) e (after n (number_or_not f.width f.height n))
 
 pub returns-clause-count : goal.returns-clause-count
-returns-clause-count g c =
-    let done : c.pieces.piece-index ≡ length c.args.pieces.now = omega arith in
-    let P : ℕ → Type 0 = λ n. c.pieces.tally.count ≤ c.args.tally.now.count + n *
-    ((12 + g.N.Noting.tests) * c.args.band.now.frame.height) in
-    subst P done c.pieces.invariant.count
+returns-clause-count g c = grind (arith, c.pieces.invariant.count)
 
 pub returns-clause-kept : goal.returns-clause-kept
 returns-clause-kept g c = c.pieces.invariant.kept

@@ -17,6 +17,6 @@ invariant-pieces g l = record {
   touched : AreTouched l.band.diff.items l.band.touched.items;
   small : AreWithin (512 * l.piece-index) l.band.diff.items;
   kept : KeepsAfter (map span_of l.pieces) (g.N.Noting.Says l.fn.noter) (g.N.Noting.Says l.noter);
-  noted : AreNotedIn (g.N.Noting.Says l.noter) (take l.piece-index (map span_of l.pieces)) l.frame l.rows.first l.rows.end;
+  noted : AreNotedIn (g.N.Noting.Says l.noter) (take l.piece-index (map span_of l.pieces)) l.rows.first l.rows.end;
   count : l.tally.count ≤ l.fn.tally.count + l.piece-index * ((12 + g.N.Noting.tests) * l.fn.band.frame.height);
 }

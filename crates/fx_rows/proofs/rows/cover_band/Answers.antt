@@ -1,4 +1,4 @@
-use Rattle.std.proofs.Common.{◌≡◌, ◌⊎◌, inl, inr, ◌∙◌, ℕ, ◌+◌, ◌*◌, ◌<◌, ◌≤◌, get_or, ◌↔◌, subst, sym, ap, pos, ◌+ℤ◌, map, arith, ℤ, List, length}
+use Rattle.std.proofs.Common.{◌≡◌, ◌∙◌, ℕ, ◌+◌, ◌*◌, ◌↔◌, subst, sym, ap, pos, ◌+ℤ◌, map, arith, ℤ, List, length}
 use Rattle.std.specs.Vec.{with_items}
 use Rattle.std.proofs.lemmas.List.{with_items_is}
 use Rattle.fx_winding.specs.Bitmaps.{words_for, word_bit}
@@ -10,7 +10,6 @@ use Rattle.fx_rows.proofs.Counted.{bit_covered}
 use Rattle.fx_rows.proofs.Marking.{bit_off}
 use Rattle.fx_rows.proofs.Banding.{number_in, after_last, past_marks}
 use Rattle.fx_fixed.proofs.Order.{below_or_not}
-use Rattle.fx_rows.specs.declared.band.Band.{Band}
 use Rattle.fx_rows.proofs.rows.cover_band.Goals as goal
 
 settled_bit : (new line marks marks' : List ℕ) (diff diff' : List ℤ) (n : ℕ) → new ≡ line → marks ≡ marks' → diff ≡ diff'
@@ -20,26 +19,19 @@ settled_bit new line marks marks' diff diff' n el em ed h =
     ap (λ (ws : List ℕ). word_bit ws n) el ∙ h ∙ (λ i. count_bit (before (n + 1) (ed i)) (word_bit (em i) n))
 
 pub returns-clause-clear : goal.returns-clause-clear
-returns-clause-clear g c = λ k. by k (below_or_not k (32 * length c.deref_mut-3.result.now))
-  where
-    b : Band
-    b = c.count_band.new.band
-
-    room : length b.marks.items ≡ c.args.band.now.frame.height * words_for c.args.band.now.frame.width + 1
-    room = b.room ∙ ap (λ (x : Frame). x.height * words_for x.width + 1) c.count_band.ensures.frame
-
-    same : (with_items b.diff c.settle.new.diff).items ≡ c.settle.new.diff
-    same = with_items_is b.diff c.settle.new.diff (omega arith)
-
-    by : (k : ℕ) → (k < 32 * length c.deref_mut-3.result.now) ⊎ (32 * length c.deref_mut-3.result.now ≤ k)
-        → get_or (with_items b.diff c.settle.new.diff).items k (pos 0) ≡ pos 0
-    by k (inl l) = ap (λ (xs : List ℤ). get_or xs k (pos 0)) same ∙ c.settle.ensures.zeros k l
-    by k (inr l) =
-        let long : length c.deref_mut-3.result.now ≡ length b.marks.items = ap length c.deref_mut-3.ensures.value in
-        ap (λ (xs : List ℤ). get_or xs k (pos 0)) same ∙ c.settle.ensures.others k l
-        ∙ ap (λ (xs : List ℤ). get_or xs k (pos 0)) c.deref_mut.ensures.value
-        ∙ past_marks (map span_of c.args.pieces.now) c.args.band.now.frame b k room c.count_band.ensures.counted
-        (omega (arith, long, l))
+returns-clause-clear g c =
+    grind (
+      arith,
+      c.count_band.ensures.frame,
+      c.settle.ensures.zeros,
+      c.deref_mut-3.ensures.value,
+      c.settle.ensures.others,
+      c.deref_mut.ensures.value,
+      c.count_band.ensures.counted,
+      below_or_not,
+      with_items_is,
+      past_marks,
+    )
 
 pub returns-clause-bits : goal.returns-clause-bits
 returns-clause-bits g c = λ r k h l.

@@ -4,13 +4,12 @@ use Rattle.std.proofs.Math.ListN.{get_or-map}
 use Rattle.std.proofs.lemmas.List.{length-map, take_all}
 use Rattle.std.proofs.lemmas.List.Elements.{All-more}
 use Rattle.fx_winding.specs.declared.frame.Frame.{Frame}
-use Rattle.fx_winding.specs.Notes.{IsNoted}
 use Rattle.fx_winding.specs.Winding.{Span, span_of}
 use Rattle.fx_rows.specs.inner.Placing.{IsApart}
-use Rattle.fx_rows.specs.inner.Telling.{AreMetBySome, IsNotedUnless}
+use Rattle.fx_rows.specs.inner.Telling.{AreMetBySome, IsNoted, IsNotedUnless}
 use Rattle.fx_rows.proofs.Counted.{count_more}
 use Rattle.fx_rows.proofs.Kept.{kept_both}
-use Rattle.fx_rows.proofs.Segments.{all_kept, unless_kept}
+use Rattle.fx_rows.proofs.NotedSegments.{unless_kept}
 use Rattle.fx_rows.proofs.rows.note_apart.Goals as goal
 
 pub pieces-preserved : goal.pieces-preserved
@@ -44,7 +43,8 @@ pieces-preserved c =
       across = kept_both _ _ _ inv.across done.across;
       up = kept_both _ _ _ inv.up done.up;
       noted = All-more (λ t. IsNoted t f new.across.items new.up.items) spans here s inside
-          (λ k d l. all_kept _ f old.across.items new.across.items old.up.items new.up.items done.across done.up (inv.noted k d l))
+          (λ k d l. unless_kept (λ w. ⊥) _ f old.across.items new.across.items old.up.items new.up.items done.across done.up
+          (inv.noted k d l))
           (subst (λ t. IsNoted t f new.across.items new.up.items) is this);
       only = λ h. subst (λ (g : Frame). AreMetBySome g new.across.items new.up.items spans) inv.frame (done.only spans
           (record { at = here; inside = inside; is = sym is })

@@ -1,8 +1,7 @@
 use Rattle.std.proofs.Common.{◌≡◌, ◌≤◌, ◌+◌, ◌*◌, map, take}
 use Rattle.std.specs.List.{All}
-use Rattle.fx_winding.specs.Notes.{IsNoted}
 use Rattle.fx_winding.specs.Winding.{span_of}
-use Rattle.fx_rows.specs.inner.Telling.{AreMetBySome}
+use Rattle.fx_rows.specs.inner.Telling.{AreMetBySome, IsNoted}
 use Rattle.fx_rows.specs.inner.Told.{AreKept}
 use Rattle.fx_rows.proofs.rows.note_apart.Given as goal
 

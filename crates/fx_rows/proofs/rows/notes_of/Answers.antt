@@ -1,12 +1,9 @@
-use Rattle.std.proofs.Common.{IsTrue, ap, not}
+use Rattle.std.proofs.Common.{arith}
 use Rattle.fx_winding.proofs.Places.{clash}
 use Rattle.fx_rows.proofs.rows.notes_of.Goals as goal
 
 pub returns-then-not-noter-clause-noted : goal.returns-then-not-noter-clause-noted
-returns-then-not-noter-clause-noted c = λ k d l.
-    let h = c.requires.noted k d l in
-    let none : ¬ (IsTrue c.args.noter.apart) = λ b. clash (not c.args.noter.apart) (ap not b) c.if-not-noter.true in
-    record { across = h.across (λ b. none b.1); up = h.up (λ b. none b.1) }
+returns-then-not-noter-clause-noted c = grind (arith, c.requires.noted, c.if-not-noter.true, clash)
 
 pub note_apart-requires : goal.note_apart-requires
 note_apart-requires c = record {

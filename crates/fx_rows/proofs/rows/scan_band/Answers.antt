@@ -49,10 +49,4 @@ returns-clause-words g c =
     is room c.cover_band.ensures.bits c.cover_band.ensures.unused e c.requires.words) c.joined.ensures
 
 pub returns-clause-count : goal.returns-clause-count
-returns-clause-count g c =
-    let rows = c.args.rows in
-    let high : c.in_ok-band.band.frame.height ≡ rows.end - rows.first =
-    ap (λ (y : Frame). y.height) c.in_ok-band.ensures.frame ∙ omega (arith, c.band_of.ensures.height) in
-    let tests = ap (λ n. length c.args.pieces.now * ((12 + g.N.Noting.tests) * n)) high in
-    let n = c.cover_band.ensures.count in
-    omega (arith, n, tests)
+returns-clause-count g c = grind (arith, c.in_ok-band.ensures.frame, c.band_of.ensures.height, c.cover_band.ensures.count)

@@ -1,4 +1,4 @@
-use Rattle.std.proofs.Common.{◌≤◌, ◌<◌, ◌+◌, ◌-◌, ◌*◌, length, map}
+use Rattle.std.proofs.Common.{◌≤◌, ◌+◌, ◌-◌, ◌*◌, length, map}
 use Rattle.fx_winding.specs.Winding.{span_of}
 use Rattle.fx_rows.specs.inner.Bands.{AreScanned}
 use Rattle.fx_rows.specs.inner.Telling.{AreNotedIn, KeepsAfter}
@@ -9,7 +9,7 @@ invariant-bands g l = record {
   within : l.from ≤ l.frame.height;
   scanned : AreScanned (map span_of l.pieces) l.frame.left l.frame.bottom l.frame.width l.from l.words.items;
   kept : KeepsAfter (map span_of l.pieces) (g.N.Noting.Says l.fn.noter) (g.N.Noting.Says l.noter);
-  noted : 0 < l.frame.height → AreNotedIn (g.N.Noting.Says l.noter) (map span_of l.pieces) l.frame 0 l.from;
+  noted : AreNotedIn (g.N.Noting.Says l.noter) (map span_of l.pieces) 0 l.from;
   count : l.tally.count ≤ l.fn.tally.count + length l.pieces * ((12 + g.N.Noting.tests) * l.from);
 }
 

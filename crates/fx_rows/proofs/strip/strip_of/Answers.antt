@@ -16,15 +16,7 @@ is_near : (first base : ℤ) → least_pixel ≤ℤ base → base ≤ℤ pos 327
 is_near first base l h b s = record { low = l; high = h; before = b; beside = s }
 
 pub overflow_sub-start : goal.overflow_sub-start
-overflow_sub-start c =
-    let b = to_z w32 c.if-frame-lt-LAST_BASE.base-bits in
-    let beside : IsNear c.args.frame.left b = elim c.if-frame-lt-LAST_BASE.branch [
-      | then-frame-lt-LAST_BASE w ↦ is_near _ _ (omega (arith, signed_linear)) (omega (arith, signed_linear))
-          (omega (arith, signed_linear)) (omega (arith, signed_linear))
-      | else-frame-lt-LAST_BASE w ↦ is_near _ _ (omega (arith, signed_linear)) (omega (arith, signed_linear))
-          (omega (arith, signed_linear)) (omega (arith, signed_linear))
-    ] in
-    omega (arith, signed_linear)
+overflow_sub-start c = grind (arith, then-frame-lt-LAST_BASE, else-frame-lt-LAST_BASE)
 
 pub overflow_cast-start : goal.overflow_cast-start
 overflow_cast-start c =
@@ -38,15 +30,7 @@ overflow_cast-start c =
     omega (arith, ints)
 
 pub overflow_add-result : goal.overflow_add-result
-overflow_add-result c =
-    let b = to_z w32 c.if-frame-lt-LAST_BASE.base-bits in
-    let beside : IsNear c.args.frame.left b = elim c.if-frame-lt-LAST_BASE.branch [
-      | then-frame-lt-LAST_BASE w ↦ is_near _ _ (omega (arith, signed_linear)) (omega (arith, signed_linear))
-          (omega (arith, signed_linear)) (omega (arith, signed_linear))
-      | else-frame-lt-LAST_BASE w ↦ is_near _ _ (omega (arith, signed_linear)) (omega (arith, signed_linear))
-          (omega (arith, signed_linear)) (omega (arith, signed_linear))
-    ] in
-    omega (arith, ints)
+overflow_add-result c = grind (arith, signed_linear, then-frame-lt-LAST_BASE, else-frame-lt-LAST_BASE)
 
 pub returns-clause-first : goal.returns-clause-first
 returns-clause-first c =
@@ -60,15 +44,7 @@ returns-clause-first c =
     omega (arith, ints)
 
 pub returns-clause-last : goal.returns-clause-last
-returns-clause-last c =
-    let b = to_z w32 c.if-frame-lt-LAST_BASE.base-bits in
-    let beside : IsNear c.args.frame.left b = elim c.if-frame-lt-LAST_BASE.branch [
-      | then-frame-lt-LAST_BASE w ↦ is_near _ _ (omega (arith, signed_linear)) (omega (arith, signed_linear))
-          (omega (arith, signed_linear)) (omega (arith, signed_linear))
-      | else-frame-lt-LAST_BASE w ↦ is_near _ _ (omega (arith, signed_linear)) (omega (arith, signed_linear))
-          (omega (arith, signed_linear)) (omega (arith, signed_linear))
-    ] in
-    omega (arith, ints)
+returns-clause-last c = grind (arith, signed_linear, then-frame-lt-LAST_BASE, else-frame-lt-LAST_BASE)
 
 pub returns-clause-row : goal.returns-clause-row
 returns-clause-row c = omega (arith, signed_linear)

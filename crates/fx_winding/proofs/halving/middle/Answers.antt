@@ -7,12 +7,7 @@ use Rattle.fx_winding.proofs.Middles.{middle_without_x, middle_without_y, middle
 use Rattle.fx_winding.proofs.halving.middle.Goals as goal
 
 pub returns-in_err-x : goal.returns-in_err-x
-returns-in_err-x c =
-    let p = c.args.p in
-    let q = c.args.q in
-    let sx : to_z w32 (of_z w32 (to_z w32 (of_z w32 p.x) +ℤ to_z w32 (of_z w32 q.x))) ≡ p.x +ℤ q.x = omega (arith, signed_linear) in
-    ap (option_map place_of) c.from_residual.ensures
-    ∙ sym (middle_without_x (place_of p) (place_of q) (ap half_of (sym sx) ∙ sym c.half.ensures.value ∙ c.in_err-x.was))
+returns-in_err-x c = grind (arith, signed_linear, c.from_residual.ensures, c.half.ensures.value, middle_without_x)
 
 pub returns-in_err-y : goal.returns-in_err-y
 returns-in_err-y c =

@@ -3,7 +3,4 @@ use Rattle.fx_fixed.proofs.Linear.{signed_linear}
 use Rattle.fx_winding.proofs.range.over_low.Goals as goal
 
 pub returns : goal.returns
-returns c = (
-  λ t. (omega (arith, signed_linear), omega (arith, signed_linear), c.above_low.ensures.0 t),
-  λ k. c.above_low.ensures.1 k.2,
-)
+returns c = grind (arith, signed_linear, c.above_low.ensures.0, c.above_low.ensures.1)

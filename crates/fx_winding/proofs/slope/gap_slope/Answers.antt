@@ -6,37 +6,20 @@ use Rattle.fx_winding.specs.Winding.{place_of}
 use Rattle.fx_winding.proofs.slope.gap_slope.Goals as goal
 use mir.Syntax.{w128}
 
-copied : (z : ℤ) → IsWithin (2 ^ 98) z → to_z w128 (of_z w128 z) ≡ z
-copied z h = omega (arith, signed_linear)
-
--- the terms and sums without their copies
-copies : (x y z : ℤ) → IsWithin (2 ^ 94) x → IsWithin (2 ^ 94) y → IsWithin (2 ^ 94) z
-    → (to_z w128 (of_z w128 x) ≡ x) × (to_z w128 (of_z w128 y) ≡ y) × (to_z w128 (of_z w128 z) ≡ z)
-    × (to_z w128 (of_z w128 (x +ℤ y)) ≡ x +ℤ y) × (to_z w128 (of_z w128 (pos 2 *ℤ (x +ℤ y))) ≡ pos 2 *ℤ (x +ℤ y))
-    × (to_z w128 (of_z w128 (pos 2 *ℤ (x +ℤ y) +ℤ z)) ≡ pos 2 *ℤ (x +ℤ y) +ℤ z)
-copies x y z hx hy hz = (
-  copied x (omega (arith, signed_linear)),
-  copied y (omega (arith, signed_linear)),
-  copied z (omega (arith, signed_linear)),
-  copied (x +ℤ y) (omega (arith, signed_linear)),
-  copied (pos 2 *ℤ (x +ℤ y)) (omega (arith, signed)),
-  copied (pos 2 *ℤ (x +ℤ y) +ℤ z) (omega (arith, signed)),
-)
-
 whole : (x y z : ℤ) → IsWithin (2 ^ 94) x → IsWithin (2 ^ 94) y → IsWithin (2 ^ 94) z
     → to_z w128 (of_z w128 (to_z w128 (of_z w128
     (pos 2 *ℤ to_z w128 (of_z w128 (to_z w128 (of_z w128 x) +ℤ to_z w128 (of_z w128 y))))) +ℤ to_z w128 (of_z w128 z))) ≡
     pos 2 *ℤ (x +ℤ y) +ℤ z
-whole x y z hx hy hz = let c = copies x y z hx hy hz in rw (c.0, c.1, c.2, c.3, c.4, c.5)
+whole x y z hx hy hz = omega (arith, signed)
 
 doubled : (x y : ℤ) → IsWithin (2 ^ 94) x → IsWithin (2 ^ 94) y
     → FitsSigned w128 (pos 2 *ℤ to_z w128 (of_z w128 (to_z w128 (of_z w128 x) +ℤ to_z w128 (of_z w128 y))))
-doubled x y hx hy = let c = copies x y x hx hy hx in rw (c.0, c.1, c.3) (omega (arith, signed))
+doubled x y hx hy = omega (arith, signed)
 
 added : (x y z : ℤ) → IsWithin (2 ^ 94) x → IsWithin (2 ^ 94) y → IsWithin (2 ^ 94) z
     → FitsSigned w128 (to_z w128 (of_z w128
     (pos 2 *ℤ to_z w128 (of_z w128 (to_z w128 (of_z w128 x) +ℤ to_z w128 (of_z w128 y))))) +ℤ to_z w128 (of_z w128 z))
-added x y z hx hy hz = let c = copies x y z hx hy hz in rw (c.0, c.1, c.2, c.3, c.4) (omega (arith, signed))
+added x y z hx hy hz = omega (arith, signed)
 
 pub wide_product-w-requires-clause-near_a : goal.wide_product-w-requires-clause-near_a
 wide_product-w-requires-clause-near_a c = (omega (arith, signed_linear), omega (arith, signed_linear))
@@ -93,6 +76,5 @@ returns-clause-value c =
 
 pub returns-clause-size : goal.returns-clause-size
 returns-clause-size c =
-    let e = whole c.wide_product-w.result c.wide_product-u.result c.wide_product-v.result c.wide_product-w.ensures.size
-    c.wide_product-u.ensures.size c.wide_product-v.ensures.size in
-    (omega (arith, signed, e), omega (arith, signed, e))
+    let w = c.wide_product-w.ensures.size in let u = c.wide_product-u.ensures.size in let v = c.wide_product-v.ensures.size in
+    (omega (arith, signed, w, u, v), omega (arith, signed, w, u, v))

@@ -1,6 +1,5 @@
-use Rattle.std.proofs.Common.{◌≡◌, ◌<◌, length, arith, ℕ, zero, suc, Bool, false, map, sym, ◌∙◌}
+use Rattle.std.proofs.Common.{◌≡◌, ◌<◌, length, arith, ℕ, zero, suc, Bool, false, sym, ◌∙◌}
 use Rattle.std.proofs.lemmas.Bool.{eqb-true}
-use Rattle.fx_winding.specs.Winding.{span_of}
 use Rattle.std.specs.Bool.{◌==◌}
 use Rattle.fx_contour.proofs.Growing.{remains_first, remains_more, remains_end, none_of, some_of}
 use Rattle.fx_contour.proofs.bounds.Bounds.of.Goals as goal
@@ -17,14 +16,11 @@ pieces-init c =
 
 pub pieces-preserved : goal.pieces-preserved
 pieces-preserved c =
-    remains_more c.pieces.bounds c.with_piece-bounds.result c.args.pieces.now c.pieces.piece-index c.piece-item.result
-    c.pieces-test.true c.piece-item.is c.pieces.invariant c.with_piece-bounds.ensures
+    grind (arith, c.pieces-test.true, c.piece-item.is, c.pieces.invariant, c.with_piece-bounds.ensures, remains_more)
 
 pub returns-then-is_empty : goal.returns-then-is_empty
 returns-then-is_empty c =
     none_of c.args.pieces.now (eqb-true (length c.args.pieces.now) 0 (sym c.is_empty.ensures ∙ c.if-is_empty.true))
 
 pub returns : goal.returns
-returns c =
-    some_of c.pieces.bounds (map span_of c.args.pieces.now)
-    (remains_end c.pieces.bounds c.args.pieces.now c.pieces.piece-index c.pieces-test.false c.pieces.invariant)
+returns c = grind (arith, c.pieces-test.false, c.pieces.invariant, some_of, remains_end)

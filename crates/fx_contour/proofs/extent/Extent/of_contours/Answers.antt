@@ -9,13 +9,14 @@ use Rattle.fx_contour.proofs.extent.Extent.of_contours.Goals as goal
 
 pub contour-requires : goal.contour-requires
 contour-requires c =
-    let o = c.args.outline.now in
-    let ends = c.deref-end-items.ensures.value in
-    let points = ap length c.deref.ensures.value in
-    let inside : c.contours.end-index < length o.ends.items = (let e = ap length ends in omega arith) in
-    let w = next_within c.contours.start o.ends.items c.contours.end-index o.points.items c.from-next.result 0
-    c.contours.invariant.ends_left inside (c.from-next.ensures ∙ ap (λ xs. get_or xs c.contours.end-index 0) ends) in
-    record { order = w.0; within = omega (arith, w.1, points) }
+    grind (
+      arith,
+      c.deref-end-items.ensures.value,
+      c.deref.ensures.value,
+      c.contours.invariant.ends_left,
+      c.from-next.ensures,
+      next_within,
+    )
 
 pub contours-preserved : goal.contours-preserved
 contours-preserved c =

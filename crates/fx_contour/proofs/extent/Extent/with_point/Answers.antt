@@ -5,11 +5,7 @@ use Rattle.fx_contour.proofs.Growing.{doubled_least, doubled_greatest, point_gro
 use Rattle.fx_contour.proofs.extent.Extent.with_point.Goals as goal
 
 pub invariant_of-result : goal.invariant_of-result
-invariant_of-result c =
-    let a = c.args.self.across in let u = c.args.self.up in record {
-      across = omega (arith, ints, clamps, a);
-      up = omega (arith, ints, clamps, u);
-    }
+invariant_of-result c = grind (arith, ints, clamps)
 
 pub returns : goal.returns
 returns c =

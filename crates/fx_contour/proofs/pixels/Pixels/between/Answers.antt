@@ -38,17 +38,16 @@ counted first end h k l =
     same (negsuc n) h = absurd (omega (arith, ints))
 
 pub returns-then-end-first : goal.returns-then-end-first
-returns-then-end-first c = λ n h.
-    let a = c.first_from-first.ensures in
-    let z = c.first_from-end.ensures in
-    let low =
-    first_at _ c.args.low c.first_from-first.result (omega (arith, signed_linear, c.requires.near_low)) a.size a.before a.from in
-    let high =
-    first_at _ (c.args.high +ℤ pos 1) c.first_from-end.result (omega (arith, signed_linear, c.requires.near_high)) z.size z.before
-    z.from in
-    let l = at_least _ _ n low h.0 in
-    let k = below _ _ n high (omega (arith, signed_linear, h.1)) in
-    absurd (omega (arith, signed_linear, l, k, c.if-end-first.true))
+returns-then-end-first c =
+    grind (
+      arith,
+      signed_linear,
+      c.first_from-first.ensures,
+      c.first_from-end.ensures,
+      c.requires.near_low,
+      c.requires.near_high,
+      c.if-end-first.true,
+    )
 
 pub returns : goal.returns
 returns c = λ n.

@@ -1,13 +1,12 @@
-use Rattle.std.proofs.Common.{IsTrue, sym, subst, map, List, arith}
+use Rattle.std.proofs.Common.{IsTrue, sym, subst, map, List}
 use Rattle.std.specs.List.{All}
 use Rattle.fx_winding.specs.declared.frame.Frame.{Frame}
 use Rattle.fx_winding.specs.declared.point.Piece.{Piece}
-use Rattle.fx_winding.specs.Notes.{IsNoted}
 use Rattle.fx_winding.specs.declared.notes.Notes.{Notes}
 use Rattle.fx_winding.specs.Winding.{Span, span_of}
 use Rattle.fx_rows.specs.inner.Placing.{IsApart}
-use Rattle.fx_rows.specs.inner.Telling.{AreMetBySome, AreNotedIn, BitsSay, IsNotedUnless, Way, of_pieces}
-use Rattle.fx_rows.proofs.Telling.{noted_unless, all_among, exact_of, exact_without}
+use Rattle.fx_rows.specs.inner.Telling.{AreMetBySome, AreNotedIn, BitsSay, IsNoted, IsNotedUnless, Way, of_pieces}
+use Rattle.fx_rows.proofs.Telling.{noted_unless, all_among, exact_of}
 use Rattle.fx_rows.proofs.rows.RowsScan.scan_noted.Goals as goal
 
 pub notes_of-notes-requires : goal.notes_of-notes-requires
@@ -20,21 +19,9 @@ notes_of-notes-requires c =
     record {
       noted = subst (λ (ps : List Piece). All (λ s. IsNotedUnless (left s) s n.frame n.across.items n.up.items) (map span_of ps))
           (sym c.as_slice.ensures.value) (noted_unless left n.frame n.across.items n.up.items ss
-          (subst (λ (f : Frame). AreNotedIn (BitsSay left n.frame n.across.items n.up.items) ss f 0 f.height) (sym same)
-          (c.in_ok-bitmap.ensures.noted (omega arith))));
+          (subst (λ (f : Frame). AreNotedIn (BitsSay left n.frame n.across.items n.up.items) ss 0 f.height) (sym same)
+          c.in_ok-bitmap.ensures.noted));
     }
-
--- with no rows nothing was noted
-pub returns-then-frame-eq0-clause-noted : goal.returns-then-frame-eq0-clause-noted
-returns-then-frame-eq0-clause-noted c =
-    let m = c.scan_noting.new.noter.notes in
-    let ss = map span_of c.args.pieces.now in
-    let none =
-    subst (λ (m : Notes). AreMetBySome m.frame m.across.items m.up.items ss) (sym c.of-noter.ensures)
-    (c.in_ok-notes.ensures.none ss) in
-    exact_without c.args.frame m.across.items m.up.items ss (c.if-frame-eq0.true)
-    (subst (λ (f : Frame). AreMetBySome f m.across.items m.up.items ss) c.scan_noting.ensures.of
-    (c.scan_noting.ensures.kept (of_pieces ss) (all_among ss) none))
 
 pub returns-clause-noted : goal.returns-clause-noted
 returns-clause-noted c =

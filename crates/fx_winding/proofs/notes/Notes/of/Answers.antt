@@ -8,25 +8,17 @@ use Rattle.fx_winding.proofs.Numbered.{exact_noted, few_words, turned_margin}
 use Rattle.fx_winding.proofs.notes.Notes.of.Goals as goal
 
 pub note_rows-requires-clause-few : goal.note_rows-requires-clause-few
-note_rows-requires-clause-few c =
-    let n = c.in_ok-notes.notes in
-    let high = n.frame.rows.few in
-    few_words n.frame n.frame.height _ (omega (arith, high)) (ap length c.deref_mut.ensures.value ∙ n.across_room)
+note_rows-requires-clause-few c = grind (arith, c.deref_mut.ensures.value, few_words)
 
 pub note_rows-requires-clause-clear : goal.note_rows-requires-clause-clear
 note_rows-requires-clause-clear c = λ i. ap (λ (ws : List ℕ). word_bit ws i) c.deref_mut.ensures.value
     ∙ c.in_ok-notes.ensures.across i
 
 pub note_columns-requires-clause-margin : goal.note_columns-requires-clause-margin
-note_columns-requires-clause-margin c =
-    let at = c.turned-columns.ensures in
-    turned_margin c.args.frame c.turned-columns.result at.left at.bottom at.width at.height c.requires
+note_columns-requires-clause-margin c = grind (arith, c.turned-columns.ensures, c.requires, turned_margin)
 
 pub note_columns-requires-clause-few : goal.note_columns-requires-clause-few
-note_columns-requires-clause-few c =
-    let n = c.in_ok-notes.notes in
-    let high = n.frame.rows.few in
-    few_words n.frame (n.frame.height + 1) _ (omega (arith, high)) (ap length c.deref_mut-2.ensures.value ∙ n.up_room)
+note_columns-requires-clause-few c = grind (arith, c.deref_mut-2.ensures.value, few_words)
 
 pub note_columns-requires-clause-clear : goal.note_columns-requires-clause-clear
 note_columns-requires-clause-clear c = λ i. ap (λ (ws : List ℕ). word_bit ws i) c.deref_mut-2.ensures.value

@@ -10,11 +10,13 @@ pieces-init c = record { long = ap length c.new-turned.ensures; same = ap (map s
 
 pub push-requires : goal.push-requires
 push-requires c =
-    let long = c.pieces.invariant.long in
-    let within = c.pieces-test.true in
-    let same = ap length c.as_slice-piece-items.ensures.value in
-    let few = c.as_slice-piece-items.ensures.few in
-    omega (arith, long, within, same, few)
+    grind (
+      arith,
+      c.pieces.invariant.long,
+      c.pieces-test.true,
+      c.as_slice-piece-items.ensures.value,
+      c.as_slice-piece-items.ensures.few,
+    )
 
 pub pieces-preserved : goal.pieces-preserved
 pieces-preserved c =

@@ -1,0 +1,139 @@
+-- The bits of a frame's notes that stay set, the room for them, and those of segments that some piece meets.
+-- Serves `note`, `note_across`, `note_up` and `note_apart`.
+use Rattle.std.proofs.Common.{◌≡◌, ◌⊎◌, inl, inr, ◌∙◌, sym, ap, subst, ℕ, ◌+◌, ◌*◌, ◌<◌, ◌≤◌, pos, ◌+ℤ◌, ◌-ℤ◌, List, arith}
+use Rattle.fx_fixed.proofs.Order.{below_same_above}
+use Rattle.std.proofs.Math.Nat.{mul-le-mul_right}
+use Rattle.fx_winding.specs.declared.frame.Frame.{Frame}
+use Rattle.fx_winding.specs.Bitmaps.{word_bit}
+use Rattle.fx_winding.specs.Turned.{turned_span}
+use Rattle.fx_winding.specs.Meets.{IsMet}
+use Rattle.fx_winding.specs.Notes.{pixel_number, words_noted, IsNotedAcross, IsNotedUp}
+use Rattle.fx_winding.specs.Winding.{Span, IsOn, centre}
+use Rattle.fx_rows.specs.inner.Lines.{left_at, right_at, AreOnly, IsAcrossBit, IsMetTo, IsMetUnlessOn, IsRowsBit, IsUpBit}
+use Rattle.fx_rows.specs.inner.Telling.{Way, across_row, up_to_row, IsNotedBy, IsNotedUnless, IsAmong, IsMetByOne, IsMetUpByOne}
+use Rattle.fx_rows.specs.inner.Telling.{AreMetAcross, AreMetUp}
+use Rattle.fx_rows.specs.inner.Told.{AreKept}
+use Rattle.fx_rows.proofs.Turned.{on_turned}
+
+-- ---- what stays noted
+pub across_kept : (s : Span) (f : Frame) (r : ℕ) (a b : List ℕ) → AreKept a b → IsNotedAcross s f a r → IsNotedAcross s f b r
+across_kept s f r a b kept h k l m = kept (pixel_number f r k) (h k l m)
+
+pub up_kept : (s : Span) (f : Frame) (r : ℕ) (a b : List ℕ) → AreKept a b → IsNotedUp s f a r → IsNotedUp s f b r
+up_kept s f r a b kept h k l m = kept (pixel_number f r k) (h k l m)
+
+pub noted_kept : (f : Frame) (a b u v : List ℕ) (s : Span) (w : Way) (r : ℕ) → AreKept a b → AreKept u v → IsNotedBy f a u s w r
+    → IsNotedBy f b v s w r
+noted_kept f a b u v s across_row r across up h = across_kept s f r a b across h
+noted_kept f a b u v s up_to_row r across up h = up_kept s f r u v up h
+
+pub unless_kept : (B : Way → Type 0) (s : Span) (f : Frame) (a b u v : List ℕ) → AreKept a b → AreKept u v
+    → IsNotedUnless B s f a u → IsNotedUnless B s f b v
+unless_kept B s f a b u v across up h = grind (arith, across, up, h, across_kept, up_kept)
+
+-- ---- the bits of a row lie in its words
+pub row_room : (r h width row n : ℕ) → r < h → row ≡ 32 * words_noted width → n ≡ h * words_noted width → r * row + width < 32 * n
+row_room r h width row n l e all =
+    let rows : (r + 1) * words_noted width ≤ h * words_noted width = mul-le-mul_right (words_noted width) (omega (arith, l)) in
+    let next : (r + 1) * words_noted width ≡ r * words_noted width + words_noted width = omega arith in
+    let at : r * row ≡ 32 * (r * words_noted width) = ap (λ (x : ℕ). r * x) e ∙ omega arith in
+    omega (arith, rows, next, at, all)
+
+-- ---- the bits are of segments that some piece meets
+same_cell : (w r q k j : ℕ) → k < w → j < w → r * w + k ≡ q * w + j → (r ≡ q) × (k ≡ j)
+same_cell w r q k j l m e = by (below_same_above r q)
+  where
+    by : (r < q) ⊎ ((r ≡ q) ⊎ (q < r)) → (r ≡ q) × (k ≡ j)
+    by (inl a) =
+        let n : (r + 1) * w ≤ q * w = mul-le-mul_right w (omega (arith, a)) in
+        let next : (r + 1) * w ≡ r * w + w = omega arith in
+        absurd (omega (arith, n, next, e, l))
+    by (inr (inl a)) = let same = ap (λ (x : ℕ). x * w) a in (a, omega (arith, same, e))
+    by (inr (inr a)) =
+        let n : (q + 1) * w ≤ r * w = mul-le-mul_right w (omega (arith, a)) in
+        let next : (q + 1) * w ≡ q * w + w = omega arith in
+        absurd (omega (arith, n, next, e, m))
+
+-- those across the rows of a frame
+pub some_rows : (s : Span) (ss : List Span) (f : Frame) (a b : List ℕ) → IsAmong s ss → AreOnly (IsAcrossBit s f) a b
+    → AreMetAcross f a ss → AreMetAcross f b ss
+some_rows s ss f a b among only old r k l set = by (only (pixel_number f r k) set)
+  where
+    by : (word_bit a (pixel_number f r k) ≡ 1) ⊎ IsAcrossBit s f (pixel_number f r k) → (k ≤ f.width) × IsMetByOne ss f r k
+    by (inl was) = old r k l was
+    by (inr new) =
+        let line = new.line in
+        let number : new.r * (32 * words_noted f.width) + line.k * 1 ≡ new.r * (32 * words_noted f.width) + line.k = omega arith in
+        let place = same_cell (32 * words_noted f.width) r new.r k line.k l (omega (arith, line.within)) (line.at ∙ number) in
+        let row = sym place.0 in
+        let column = sym place.1 in (
+          omega (arith, column, line.within),
+          record {
+            piece = s;
+            among = among;
+            met = subst (λ z. z) (λ i. ¬ (IsOn (left_at f (f.bottom +ℤ pos (row i)) (column i)) s)
+                → ¬ (IsOn (right_at f (f.bottom +ℤ pos (row i)) (column i)) s)
+                → IsMetTo s f (f.bottom +ℤ pos (row i)) (column i)) line.met;
+          },
+        )
+
+-- those up to the rows of a frame
+pub some_up : (s : Span) (ss : List Span) (f : Frame) (a b : List ℕ) → IsAmong s ss → AreOnly (IsUpBit s f) a b
+    → AreMetUp f a ss → AreMetUp f b ss
+some_up s ss f a b among only old r k w set = by (only (pixel_number f r k) set)
+  where
+    by : (word_bit a (pixel_number f r k) ≡ 1) ⊎ IsUpBit s f (pixel_number f r k) → (k < f.width) × IsMetUpByOne ss f r k
+    by (inl was) = old r k w was
+    by (inr new) =
+        let place = same_cell (32 * words_noted f.width) r new.r k new.k w (omega (arith, new.column)) new.at in
+        let row = sym place.0 in
+        let column = sym place.1 in (
+          omega (arith, column, new.column),
+          record {
+            piece = s;
+            among = among;
+            met = subst (λ z. z) (λ i. IsMetUnlessOn s f (row i) (column i)) new.met;
+          },
+        )
+
+-- the same of the columns of a frame, seen as rows of the exchanged piece
+pub some_columns : (s : Span) (ss : List Span) (f g : Frame) (a b : List ℕ) → g.left ≡ f.bottom → g.bottom ≡ f.left
+    → g.width ≡ f.height → g.height ≡ f.width → IsAmong s ss
+    → AreOnly (IsRowsBit (turned_span s) g 1 (32 * words_noted f.width)) a b → AreMetUp f a ss → AreMetUp f b ss
+some_columns s ss f g a b el eb ew eh among only old r k w set = by (only (pixel_number f r k) set)
+  where
+    by : (word_bit a (pixel_number f r k) ≡ 1) ⊎ IsRowsBit (turned_span s) g 1 (32 * words_noted f.width) (pixel_number f r k)
+        → (k < f.width) × IsMetUpByOne ss f r k
+    by (inl was) = old r k w was
+    by (inr new) =
+        let line = new.line in
+        let inside : new.r < f.width = subst (λ (n : ℕ). new.r < n) eh new.row in
+        let at = line.at in
+        let number : new.r * 1 + line.k * (32 * words_noted f.width) ≡ line.k * (32 * words_noted f.width) + new.r = omega arith in
+        let whole : r * (32 * words_noted f.width) + k ≡ line.k * (32 * words_noted f.width) + new.r = at ∙ number in
+        let place = same_cell (32 * words_noted f.width) r line.k k new.r w (omega (arith, inside)) whole in
+        let row = place.0 in
+        let column = place.1 in (
+          omega (arith, column, inside),
+          record {
+            piece = s;
+            among = among;
+            met = met new.r line.k row column line.met;
+          },
+        )
+      where
+        met : (j q : ℕ) → r ≡ q → k ≡ j
+            → (¬ (IsOn (left_at g (g.bottom +ℤ pos j) q) (turned_span s))
+            → ¬ (IsOn (right_at g (g.bottom +ℤ pos j) q) (turned_span s))
+            → IsMetTo (turned_span s) g (g.bottom +ℤ pos j) q) → IsMetUnlessOn s f r k
+        met j q row column h off off' = record {
+          met = subst (λ z. z) (λ i. IsMet (centre ((el i -ℤ pos 1) +ℤ pos (sym row i)) (eb i +ℤ pos (sym column i)))
+              (centre (el i +ℤ pos (sym row i)) (eb i +ℤ pos (sym column i))) (turned_span s))
+              (h (λ on. off (on_turned (centre (f.left +ℤ pos k) ((f.bottom -ℤ pos 1) +ℤ pos r)) s
+              (subst (λ z. z) (λ i. IsOn (centre ((el i -ℤ pos 1) +ℤ pos (sym row i)) (eb i +ℤ pos (sym column i)))
+              (turned_span s)) on)))
+              (λ on. off' (on_turned (centre (f.left +ℤ pos k) (f.bottom +ℤ pos r)) s
+              (subst (λ z. z) (λ i. IsOn (centre (el i +ℤ pos (sym row i)) (eb i +ℤ pos (sym column i))) (turned_span s)) on))));
+          off_lower = off;
+          off_upper = off';
+        }

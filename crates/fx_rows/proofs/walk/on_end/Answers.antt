@@ -1,0 +1,25 @@
+use Rattle.std.proofs.Common.{◌≡◌, ℕ, Bool, true, false, not, arith}
+use Rattle.fx_winding.specs.Winding.{span_of}
+use Rattle.fx_rows.specs.inner.Cuts.{IsLast}
+use Rattle.fx_rows.proofs.Contacts.{none_on}
+use Rattle.fx_rows.proofs.Walks.{step_before}
+use Rattle.fx_rows.proofs.walk.on_end.Goals as goal
+
+-- the column beside the end
+column_at : (r : Bool) (end k : ℕ) → not r ≡ true → IsLast r end k → k ≡ end
+column_at false end k e l = l
+column_at true end k e l = absurd (cc)
+
+pub on_column-requires-clause-only : goal.on_column-requires-clause-only
+on_column-requires-clause-only c = λ k l m on.
+    let h = c.requires.only k l m on in (column_at c.args.arc.right c.args.end.k k c.if-not-arc-2.true h.0, h.1)
+
+pub returns-then-end-eq0-clause-on : goal.returns-then-end-eq0-clause-on
+returns-then-end-eq0-clause-on c = grind (arith, c.if-not-arc-2.false, c.requires.only, c.if-end-eq0.true, none_on)
+
+pub on_column-requires-2-clause-only : goal.on_column-requires-2-clause-only
+on_column-requires-2-clause-only c = grind (arith, c.requires.only, c.if-not-arc-2.false, c.beside-last.ensures.column)
+
+pub beside-last-requires-clause-step : goal.beside-last-requires-clause-step
+beside-last-requires-clause-step c =
+    step_before (span_of c.args.piece.now) _ c.args.end.k c.args.arc.back (omega arith) c.requires.arc.back

@@ -1,0 +1,62 @@
+use Rattle.std.proofs.Common.{arith}
+use Rattle.fx_winding.specs.Winding.{span_of}
+use Rattle.fx_winding.proofs.Places.{clash}
+use Rattle.fx_rows.specs.inner.Sides.{place_at}
+use Rattle.fx_rows.proofs.Walks.{step_before}
+use Rattle.fx_rows.proofs.walk.to_end.Goals as goal
+
+pub beside-here-requires-clause-step : goal.beside-here-requires-clause-step
+beside-here-requires-clause-step c = c.requires.arc.next (place_at c.args.strip 0) c.args.spot.k
+
+pub right-init : goal.right-init
+right-init c =
+    let column = c.beside-here.ensures.column in
+    record {
+      at = c.beside-here.ensures.at;
+      inside = λ j h. c.requires.first j c.args.spot.k (omega (arith, h, column)) (c.is_short.ensures.short c.if-is_short.true).1;
+    }
+
+pub beside-here-requires-in-right-clause-step : goal.beside-here-requires-in-right-clause-step
+beside-here-requires-in-right-clause-step c = c.requires.arc.next (place_at c.args.strip 0) c.right.here.k
+
+pub right-preserved : goal.right-preserved
+right-preserved c =
+    let column = c.beside-here-in-right.ensures.column in
+    record {
+      at = c.beside-here-in-right.ensures.at;
+      inside = λ j h. c.requires.first j c.right.here.k (omega (arith, h, column))
+          (c.is_short-in-right.ensures.short c.right-test.true).1;
+    }
+
+pub returns-then-is_short-clause-end : goal.returns-then-is_short-clause-end
+returns-then-is_short-clause-end c = record {
+  inside = c.right.invariant.inside;
+  outside = λ j h l n. c.is_short-in-right.ensures.not (clash c.is_short-in-right.result c.right-test.false) (omega (arith, h, l))
+      (c.requires.first c.right.here.k j h n);
+}
+
+pub left-init : goal.left-init
+left-init c = record {
+  at = c.requires.at;
+  outside = λ j h l n. c.is_short.ensures.not (clash c.is_short.result c.if-is_short.false) (omega (arith, h, l))
+      (c.requires.first c.args.spot.k j h n);
+}
+
+pub beside-left-requires-clause-step : goal.beside-left-requires-clause-step
+beside-left-requires-clause-step c = step_before (span_of c.args.piece.now) (place_at c.args.strip 0) c.left.here.k c.args.arc.back
+    (omega arith) c.requires.arc.back
+
+pub returns-then-counts-clause-end : goal.returns-then-counts-clause-end
+returns-then-counts-clause-end c =
+    let column = c.beside-left.ensures.column in
+    record {
+      inside = λ j h. c.requires.first j c.beside-left.result.k (omega (arith, h, column)) (c.counts.ensures.0 c.if-counts.true);
+      outside = c.left.invariant.outside;
+    }
+
+pub left-preserved : goal.left-preserved
+left-preserved c = record {
+  at = c.beside-left.ensures.at;
+  outside = λ j h l n. clash c.counts.result c.if-counts.false (c.counts.ensures.1
+      (c.requires.first c.beside-left.result.k j h n));
+}

@@ -1,0 +1,336 @@
+//! The segments of one row, or of one column seen as a row, noted one by one.
+
+ghost use Rattle.std.specs.Prelude.{◌≡◌, ◌⊎◌, ℕ, ℤ, ◌+◌, ◌*◌, ◌^◌, ◌/◌, ◌<◌, ◌≤◌, length, pos, ◌+ℤ◌, ◌<ℤ◌, ◌↔◌, ◌≢◌, IsTrue};
+ghost use Rattle.fx_fixed.specs.Ranges.{IsWithin};
+ghost use Rattle.fx_winding.specs.Frames.{HasMargin};
+ghost use Rattle.fx_winding.specs.Limits.{IsPixelNumber};
+ghost use Rattle.fx_winding.specs.Meets.{turn, IsTipPart, IsWithinRow};
+ghost use Rattle.fx_winding.specs.Winding.{Span, IsOn, place_of, span_of};
+ghost use Rattle.fx_rows.specs.Parts.{IsRowPart};
+ghost use Rattle.fx_rows.specs.inner.Points.{AreAcross};
+ghost use Rattle.fx_rows.specs.inner.Lines.{left_at, right_at, AreOnly, IsLineBit, IsMetTo, IsRunEnd, IsSetTo};
+ghost use Rattle.fx_rows.specs.inner.Sums.{IsInside};
+ghost use Rattle.fx_rows.specs.inner.Told.{AreKept};
+
+use crate::across::Across;
+use crate::note_across::column_from;
+use crate::part::{RowPart, Run};
+use crate::reach::columns_under;
+use crate::strip::strip_of;
+use crate::tip::tip_column;
+use crate::turns::{is_between_ends, run_at, turn_in};
+use fx_winding::{Frame, Piece, Point, Tally, centre_of, meets, set_bit};
+
+/// A row of a frame, and where its segments have their bits: that to the frame's first column at `first`, and each further one
+/// `step` bits on.
+#[derive(Clone, Copy)]
+pub(crate) struct NotedRow {
+    pub frame: Frame,
+    pub row: i32,
+    pub first: usize,
+    pub step: usize,
+    ghost row_near: { IsPixelNumber row },
+    ghost margin: { HasMargin frame },
+    ghost low: { first ≤ 2 ^ 32 },
+    ghost few: { step ≤ 2 ^ 16 },
+}
+
+/// Sets the bit of the segment to a column.
+pub(crate) fn set_segment(line: NotedRow, k: u32, bits: &mut [u32])
+    requires column { k ≤ line.frame.width }
+    requires room { line.first + line.frame.width * line.step < 32 * length bits.old }
+    ensures set { (s : Span) → IsSetTo s line.frame line.row line.first line.step bits.new k }
+    ensures kept { AreKept bits.old bits.new }
+    ensures only { (s : Span) → (¬ (IsOn (left_at line.frame line.row k) s) →
+        ¬ (IsOn (right_at line.frame line.row k) s) → IsMetTo s line.frame line.row k) →
+        AreOnly (IsLineBit s line.frame line.row line.first line.step) bits.old bits.new }
+{
+    set_bit(bits, line.first + k as usize * line.step);
+}
+
+/// Whether a piece adds different numbers at the ends of the segment to a column within the frame, by what it adds to the row.
+fn changes_at(part: &RowPart, line: NotedRow, k: u32) -> bool
+    requires from { 0 < k }
+    requires to { k < line.frame.width }
+    ensures { (s : Span) → IsRowPart s line.row line.frame part.now →
+        IsTrue result ↔ (turn (left_at line.frame line.row k) s ≢ turn (right_at line.frame line.row k) s) }
+{
+    let right = line.frame.left + k as i32;
+    if turn_in(part, right - 1) == turn_in(part, right) {
+        return false;
+    }
+    true
+}
+
+/// Whether a piece meets the segment to a column, by tests of its ends.
+fn test_segment(piece: &Piece, line: NotedRow, k: u32, tally: &mut Tally) -> bool
+    requires to { k ≤ line.frame.width }
+    ensures value { IsTrue result ↔ IsMetTo (span_of piece.now) line.frame line.row k }
+    ensures count { tally.new.count ≤ tally.old.count + 5 }
+{
+    let right = line.frame.left + k as i32;
+    meets(
+        piece,
+        centre_of(right - 1, line.row),
+        centre_of(right, line.row),
+        tally,
+    )
+}
+
+/// Whether a piece meets the segment to a column within the frame. What it adds to the row tells that for nearly all segments.
+fn meets_to(piece: &Piece, part: &RowPart, line: NotedRow, k: u32, tally: &mut Tally) -> bool
+    requires part { IsRowPart (span_of piece.now) line.row line.frame part.now }
+    requires from { 0 < k }
+    requires to { k < line.frame.width }
+    ensures value { IsTrue result ↔ IsMetTo (span_of piece.now) line.frame line.row k }
+    ensures count { tally.new.count ≤ tally.old.count + 5 }
+{
+    if changes_at(part, line, k) {
+        return true;
+    }
+    if is_between_ends(piece, line.row) {
+        return false;
+    }
+    test_segment(piece, line, k, tally)
+}
+
+/// Notes the segment to a column within the frame, if a piece meets it.
+fn note_segment(
+    piece: &Piece,
+    part: &RowPart,
+    line: NotedRow,
+    k: u32,
+    bits: &mut [u32],
+    tally: &mut Tally,
+)
+    requires part { IsRowPart (span_of piece.now) line.row line.frame part.now }
+    requires room { line.first + line.frame.width * line.step < 32 * length bits.old }
+    ensures noted { 0 < k → k < line.frame.width →
+        IsSetTo (span_of piece.now) line.frame line.row line.first line.step bits.new k }
+    ensures kept { AreKept bits.old bits.new }
+    ensures only { AreOnly (IsLineBit (span_of piece.now) line.frame line.row line.first line.step) bits.old bits.new }
+    ensures count { tally.new.count ≤ tally.old.count + 5 }
+{
+    if k == 0 || line.frame.width <= k {
+        return;
+    }
+    if meets_to(piece, part, line, k, tally) {
+        set_segment(line, k, bits);
+    }
+}
+
+/// Notes the segment to a column of the plane, if a piece meets it.
+fn note_column(
+    piece: &Piece,
+    part: &RowPart,
+    line: NotedRow,
+    col: i32,
+    bits: &mut [u32],
+    tally: &mut Tally,
+)
+    requires part { IsRowPart (span_of piece.now) line.row line.frame part.now }
+    requires near { IsWithin (2 ^ 16) col }
+    requires room { line.first + line.frame.width * line.step < 32 * length bits.old }
+    ensures noted { (k : ℕ) → 0 < k → k < line.frame.width → line.frame.left +ℤ pos k ≡ col →
+        IsSetTo (span_of piece.now) line.frame line.row line.first line.step bits.new k }
+    ensures kept { AreKept bits.old bits.new }
+    ensures only { AreOnly (IsLineBit (span_of piece.now) line.frame line.row line.first line.step) bits.old bits.new }
+    ensures count { tally.new.count ≤ tally.old.count + 5 }
+{
+    note_segment(
+        piece,
+        part,
+        line,
+        columns_under(line.frame, col),
+        bits,
+        tally,
+    );
+}
+
+/// Notes the segments at the ends of a run of columns, if a piece meets them.
+pub(crate) fn note_run(
+    piece: &Piece,
+    part: &RowPart,
+    line: NotedRow,
+    run: Option<Run>,
+    bits: &mut [u32],
+    tally: &mut Tally,
+)
+    requires part { IsRowPart (span_of piece.now) line.row line.frame part.now }
+    requires inside { IsInside line.frame run }
+    requires room { line.first + line.frame.width * line.step < 32 * length bits.old }
+    ensures noted { (k : ℕ) → 0 < k → k < line.frame.width → IsRunEnd line.frame run k →
+        IsSetTo (span_of piece.now) line.frame line.row line.first line.step bits.new k }
+    ensures kept { AreKept bits.old bits.new }
+    ensures only { AreOnly (IsLineBit (span_of piece.now) line.frame line.row line.first line.step) bits.old bits.new }
+    ensures count { tally.new.count ≤ tally.old.count + 10 }
+{
+    if let Some(run) = run {
+        note_column(piece, part, line, run.first, bits, tally);
+        note_column(piece, part, line, run.last + 1, bits, tally);
+    }
+}
+
+/// Notes the segment that x is within, if a piece meets it.
+fn note_place(
+    piece: &Piece,
+    part: &RowPart,
+    line: NotedRow,
+    x: i32,
+    bits: &mut [u32],
+    tally: &mut Tally,
+)
+    requires part { IsRowPart (span_of piece.now) line.row line.frame part.now }
+    requires near { IsWithin (2 ^ 22) x }
+    requires room { line.first + line.frame.width * line.step < 32 * length bits.old }
+    ensures noted { (k : ℕ) → 0 < k → k < line.frame.width → (left_at line.frame line.row k).x <ℤ x →
+        x <ℤ (right_at line.frame line.row k).x →
+        IsSetTo (span_of piece.now) line.frame line.row line.first line.step bits.new k }
+    ensures kept { AreKept bits.old bits.new }
+    ensures only { AreOnly (IsLineBit (span_of piece.now) line.frame line.row line.first line.step) bits.old bits.new }
+    ensures count { tally.new.count ≤ tally.old.count + 5 }
+{
+    note_segment(piece, part, line, column_from(line.frame, x), bits, tally);
+}
+
+/// Notes the segment that a point is within, if a piece meets it.
+pub(crate) fn note_end(
+    piece: &Piece,
+    part: &RowPart,
+    line: NotedRow,
+    e: Point,
+    bits: &mut [u32],
+    tally: &mut Tally,
+)
+    requires part { IsRowPart (span_of piece.now) line.row line.frame part.now }
+    requires room { line.first + line.frame.width * line.step < 32 * length bits.old }
+    ensures noted { (k : ℕ) → 0 < k → k < line.frame.width →
+        IsWithinRow (left_at line.frame line.row k) (right_at line.frame line.row k) (place_of e) →
+        IsSetTo (span_of piece.now) line.frame line.row line.first line.step bits.new k }
+    ensures kept { AreKept bits.old bits.new }
+    ensures only { AreOnly (IsLineBit (span_of piece.now) line.frame line.row line.first line.step) bits.old bits.new }
+    ensures count { tally.new.count ≤ tally.old.count + 5 }
+{
+    if e.y != 128 * line.row + 64 {
+        return;
+    }
+    note_place(piece, part, line, e.x, bits, tally);
+}
+
+/// Notes the segment to a column, if the tip of an arc is within. If the left end is in the arc's region, it is not.
+fn note_outside(
+    piece: &Piece,
+    part: &RowPart,
+    line: NotedRow,
+    k: u32,
+    bits: &mut [u32],
+    tally: &mut Tally,
+)
+    requires part { IsRowPart (span_of piece.now) line.row line.frame part.now }
+    requires column { k ≤ line.frame.width }
+    requires room { line.first + line.frame.width * line.step < 32 * length bits.old }
+    ensures noted { 0 < k → k < line.frame.width →
+        IsTipPart (span_of piece.now).a (span_of piece.now).b (span_of piece.now).c (left_at line.frame line.row k)
+        (right_at line.frame line.row k) →
+        IsSetTo (span_of piece.now) line.frame line.row line.first line.step bits.new k }
+    ensures kept { AreKept bits.old bits.new }
+    ensures only { AreOnly (IsLineBit (span_of piece.now) line.frame line.row line.first line.step) bits.old bits.new }
+    ensures count { tally.new.count ≤ tally.old.count + 5 }
+{
+    if run_at(part.region, line.frame.left - 1 + k as i32) != 0 {
+        return;
+    }
+    note_segment(piece, part, line, k, bits, tally);
+}
+
+/// Notes the segment within which the tip of an arc is. There is none in a row between the ends of the arc.
+pub(crate) fn note_tip(
+    piece: &Piece,
+    part: &RowPart,
+    line: NotedRow,
+    bits: &mut [u32],
+    tally: &mut Tally,
+)
+    requires part { IsRowPart (span_of piece.now) line.row line.frame part.now }
+    requires room { line.first + line.frame.width * line.step < 32 * length bits.old }
+    ensures noted { (k : ℕ) → 0 < k → k < line.frame.width →
+        IsTipPart (span_of piece.now).a (span_of piece.now).b (span_of piece.now).c (left_at line.frame line.row k)
+        (right_at line.frame line.row k) →
+        IsSetTo (span_of piece.now) line.frame line.row line.first line.step bits.new k }
+    ensures kept { AreKept bits.old bits.new }
+    ensures only { AreOnly (IsLineBit (span_of piece.now) line.frame line.row line.first line.step) bits.old bits.new }
+    ensures count { tally.new.count ≤ tally.old.count + 5 }
+{
+    if is_between_ends(piece, line.row) {
+        return;
+    }
+    if let Some(b) = piece.b {
+        let strip = strip_of(line.frame, line.row);
+        let end = tip_column(piece, b, strip);
+        note_outside(
+            piece,
+            part,
+            line,
+            end.saturating_sub(strip.start),
+            bits,
+            tally,
+        );
+    }
+}
+
+/// Notes the segment to a column, if a piece meets it, by tests of its ends.
+fn note_tested(piece: &Piece, line: NotedRow, k: u32, bits: &mut [u32], tally: &mut Tally)
+    requires column { k ≤ line.frame.width }
+    requires room { line.first + line.frame.width * line.step < 32 * length bits.old }
+    ensures noted { IsSetTo (span_of piece.now) line.frame line.row line.first line.step bits.new k }
+    ensures kept { AreKept bits.old bits.new }
+    ensures only { AreOnly (IsLineBit (span_of piece.now) line.frame line.row line.first line.step) bits.old bits.new }
+    ensures count { tally.new.count ≤ tally.old.count + 5 }
+{
+    if test_segment(piece, line, k, tally) {
+        set_segment(line, k, bits);
+    }
+}
+
+/// Notes the segment that leads into the frame, if a piece meets it. The columns of its box must come that far.
+pub(crate) fn note_first(
+    piece: &Piece,
+    across: Across,
+    line: NotedRow,
+    bits: &mut [u32],
+    tally: &mut Tally,
+)
+    requires room { line.first + line.frame.width * line.step < 32 * length bits.old }
+    requires across { AreAcross (span_of piece.now) across.first across.end }
+    ensures noted { (k : ℕ) → k ≡ 0 → IsSetTo (span_of piece.now) line.frame line.row line.first line.step bits.new k }
+    ensures kept { AreKept bits.old bits.new }
+    ensures only { AreOnly (IsLineBit (span_of piece.now) line.frame line.row line.first line.step) bits.old bits.new }
+    ensures count { tally.new.count ≤ tally.old.count + 5 }
+{
+    if line.frame.left < across.first {
+        return;
+    }
+    note_tested(piece, line, 0, bits, tally);
+}
+
+/// Notes the segment that leads out of the frame, if a piece meets it. The columns of its box must come that far.
+pub(crate) fn note_last(
+    piece: &Piece,
+    across: Across,
+    line: NotedRow,
+    bits: &mut [u32],
+    tally: &mut Tally,
+)
+    requires room { line.first + line.frame.width * line.step < 32 * length bits.old }
+    requires across { AreAcross (span_of piece.now) across.first across.end }
+    ensures noted { (k : ℕ) → k ≡ line.frame.width →
+        IsSetTo (span_of piece.now) line.frame line.row line.first line.step bits.new k }
+    ensures kept { AreKept bits.old bits.new }
+    ensures only { AreOnly (IsLineBit (span_of piece.now) line.frame line.row line.first line.step) bits.old bits.new }
+    ensures count { tally.new.count ≤ tally.old.count + 5 }
+{
+    if across.end < line.frame.left + line.frame.width as i32 {
+        return;
+    }
+    note_tested(piece, line, line.frame.width, bits, tally);
+}
