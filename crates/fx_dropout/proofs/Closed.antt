@@ -1,7 +1,7 @@
--- The words of a frame whose gaps are closed, by the definition of drop-out control.
+-- Words of a frame whose rows and then columns were closed have the bits that drop-out control sets: `gaps_closed`.
 -- Serves `noted`.
 use Rattle.std.proofs.Common.{◌≡◌, ◌⊎◌, ◌↔◌, inl, inr, refl, sym, ap, ◌∙◌, subst, ℕ, zero, suc, ◌+◌, ◌-◌, ◌*◌, ◌/◌, ◌%◌, ◌<◌, ◌≤◌, ℤ, pos}
-use Rattle.std.proofs.Common.{◌+ℤ◌, ◌-ℤ◌, Bool, true, false, IsTrue, List, ◌++◌, Any, map, take, drop, length, length-drop, unsigned_abs, arith}
+use Rattle.std.proofs.Common.{◌+ℤ◌, ◌-ℤ◌, true, false, IsTrue, List, ◌++◌, Any, map, take, drop, length, length-drop, unsigned_abs, arith}
 use Rattle.std.specs.Prelude.{◌==◌}
 use Rattle.std.specs.Int.{bit_at}
 use Rattle.std.proofs.lemmas.Bool.Decides.{nat_tests}
@@ -11,7 +11,7 @@ use Rattle.fx_fixed.proofs.Order.{below_or_not}
 use Rattle.fx_fixed.proofs.Linear.{signed_linear}
 use Rattle.fx_winding.specs.declared.frame.Frame.{Frame}
 use Rattle.fx_winding.specs.Area.{Place}
-use Rattle.fx_winding.specs.Bitmaps.{Bits, AreWords, AreRowWords, IsScanOf, bit_number, bit_of, rows_of, words_for, word_bit}
+use Rattle.fx_winding.specs.Bitmaps.{Bits, AreWords, AreRowWords, IsScanOf, bit_of, rows_of, words_for, word_bit}
 use Rattle.fx_winding.specs.Turned.{turned_span}
 use Rattle.fx_winding.specs.Frames.{IsFrom, IsInFrame, steps}
 use Rattle.fx_winding.specs.Notes.{AreExact, pixel_number, words_noted}
@@ -21,7 +21,7 @@ use Rattle.fx_winding.proofs.Grid.{cut-row, row_fits, steps_below}
 use Rattle.fx_winding.proofs.Scanned.{steps_back}
 use Rattle.fx_dropout.specs.declared.chooser.Closing.{Closing}
 use Rattle.fx_dropout.specs.Dropout.{IsNextChosen, IsRowSet, IsSet}
-use Rattle.fx_dropout.specs.inner.Closing.{IsOpenAt, IsReached, IsClosedBit, IsNextIn, AreClosedWords, bit_in, row_bit}
+use Rattle.fx_dropout.specs.inner.Closing.{IsReached, IsClosedBit, IsNextIn, AreClosedWords, bit_in, row_bit}
 use Rattle.fx_dropout.proofs.Lines.{IsLine, line_closed}
 use Rattle.fx_dropout.proofs.Parts.{part_bit, part_word, past_part, unused_bit}
 
@@ -40,22 +40,12 @@ one n = grind (arith, nat_tests)
 pixel_bit : (f : Frame) (xs : List ℕ) (r k : ℕ) → r < f.height → k < f.width
     → IsTrue (bit_of (record { frame = f; rows = rows_of f.height f.width xs }) (f.left +ℤ pos k) (f.bottom +ℤ pos r))
     ↔ (row_bit xs (r * words_for f.width) (words_for f.width) k ≡ 1)
-pixel_bit f xs r k h l =
-    let col = f.left +ℤ pos k in
-    let row = f.bottom +ℤ pos r in
-    let read = bit_of-number f xs col row (from_in f.left f.width k l) (from_in f.bottom f.height r h) in
-    let number : bit_number f col row ≡ 32 * (r * words_for f.width) + k =
-    (λ t. 32 * (steps_of f.bottom r t * words_for f.width) + steps_of f.left k t) in
-    let here : word_bit xs (bit_number f col row) ≡ row_bit xs (r * words_for f.width) (words_for f.width) k =
-    ap (word_bit xs) number ∙ sym (part_bit xs (r * words_for f.width) (words_for f.width) k (omega (arith, l))) in
-    subst (λ (z : Bool × ℕ). IsTrue z.0 ↔ (z.1 ≡ 1)) (λ t. (sym read t, here t)) (one (word_bit xs (bit_number f col row)))
+pixel_bit f xs r k h l = grind (arith, h, l, bit_of-number, from_in, steps_of, part_bit, one)
 
 -- the bit of a segment of a row of notes
 noted_bit : (f : Frame) (xs : List ℕ) (r k : ℕ) → k < 32 * words_noted f.width
     → row_bit xs (r * words_noted f.width) (words_noted f.width) k ≡ word_bit xs (pixel_number f r k)
-noted_bit f xs r k l =
-    let e : 32 * (r * words_noted f.width) + k ≡ pixel_number f r k = grind arith in
-    part_bit xs (r * words_noted f.width) (words_noted f.width) k l ∙ ap (word_bit xs) e
+noted_bit f xs r k l = grind (arith, signed_linear, l, part_bit)
 
 noted_up : (f : Frame) (xs : List ℕ) (r k : ℕ) → k < 32 * words_noted f.width
     → bit_in xs (r * words_noted f.width + k / 32) (31 - k % 32) ≡ word_bit xs (pixel_number f r k)
@@ -67,12 +57,7 @@ not_one n l h = grind arith
 -- where nothing is set or noted, nothing is closed
 still : (pixels noted : ℕ → ℕ) (IsNext : ℕ → Type 0) (n new : ℕ) → IsClosedBit pixels noted IsNext n new → new < 2 → pixels n ≡ 0
     → noted (suc n) ≡ 0 → (IsReached pixels noted IsNext n → ⊥) → new ≡ 0
-still pixels noted IsNext n new is small z w none = not_one new small (λ e. by (is.0 e))
-  where
-    by : (pixels n ≡ 1) ⊎ ((IsOpenAt pixels noted (suc n) × ¬ (IsNext n)) ⊎ IsReached pixels noted IsNext n) → ⊥
-    by (inl e) = omega (arith, e, z)
-    by (inr (inl (o, c))) = let e = o.noted_is in omega (arith, e, w)
-    by (inr (inr h)) = none h
+still pixels noted IsNext n new is small z w none = grind (arith, is, small, z, w, none, not_one)
 
 on_covers : (p : Place) (ss : List Span) → Any (IsOn p) ss → IsCovered p ss
 unfolding IsCovered
@@ -304,15 +289,7 @@ pub given_of : (closing : Closing) (f : Frame) (ss : List Span) (b : Bits) (acro
     → IsScanOf b.frame ss b → AreExact b.frame across up ss → AreWords b.frame.height b.frame.width old
     → b ≡ record { frame = b.frame; rows = rows_of b.frame.height b.frame.width old }
     → AreClosedWords (IsNextIn closing ss f) f across up old new → IsGiven closing f ss across up old new
-given_of closing f ss b across up old new e scan noted words value closed = record {
-  words = subst (λ (g : Frame). AreWords g.height g.width old) (sym e) words;
-  scanned =
-      let same : b ≡ record { frame = f; rows = rows_of f.height f.width old } =
-      value ∙ (λ t. record { frame = sym e t; rows = rows_of (sym e t).height (sym e t).width old }) in
-      subst (λ (z : Frame × Bits). IsScanOf z.0 ss z.1) (λ t. (sym e t, same t)) scan;
-  noted = subst (λ (g : Frame). AreExact g across up ss) (sym e) noted;
-  closed = closed;
-}
+given_of closing f ss b across up old new e scan noted words value closed = grind (arith, e, scan, noted, words, value, closed)
 
 pub gaps_closed : (closing : Closing) (f : Frame) (ss : List Span) (across up old new : List ℕ)
     → IsGiven closing f ss across up old new → (b r : Bits) → f ≡ b.frame

@@ -1,6 +1,6 @@
--- The columns of words of a row, and pixels and their neighbours, as the code has them.
+-- The code's numbers of a pixel and its neighbour are their columns and rows in the plane: `pixel_column`, `next_inside`.
 -- Serves `close_row`, `close_level` and `chooser`.
-use Rattle.std.proofs.Common.{◌≡◌, ◌↔◌, ◌∙◌, ap, subst, IsTrue, Bool, true, false, ℕ, ◌+◌, ◌*◌, ◌<◌, ◌≤◌, ℤ, pos, ◌+ℤ◌, ◌*ℤ◌, arith, w32, to_z, of_z}
+use Rattle.std.proofs.Common.{◌≡◌, ◌↔◌, subst, IsTrue, Bool, true, false, ℕ, ◌+◌, ◌*◌, ◌<◌, ◌≤◌, ℤ, pos, ◌+ℤ◌, ◌*ℤ◌, arith, w32, to_z, of_z}
 use Rattle.std.proofs.lemmas.Int.{to_z_pos}
 use Rattle.fx_fixed.proofs.Linear.{signed, signed_linear}
 use Rattle.fx_winding.specs.declared.frame.Frame.{Frame}
@@ -19,12 +19,7 @@ all_of new old k n m e h = subst (λ (j : ℕ). new ≤ old + j * m) e h
 -- the first column of a word, as the code has it
 pub word_column : (left : ℤ) (w : ℕ) → IsPixelNumber left → w < 256 → IsPixelNumber (left +ℤ pos (32 * w))
     → to_z w32 (of_z w32 (to_z w32 (of_z w32 left) +ℤ to_z w32 (of_z w32 (pos 32 *ℤ to_z w32 w)))) ≡ left +ℤ pos (32 * w)
-word_column left w low few right =
-    let step : to_z w32 w ≡ pos w = to_z_pos w32 w (omega (arith, few)) in
-    let small : to_z w32 (of_z w32 (pos 32 *ℤ pos w)) ≡ pos (32 * w) = omega (arith, signed, few) in
-    let wide : to_z w32 (of_z w32 (pos 32 *ℤ to_z w32 w)) ≡ pos (32 * w) =
-    (λ t. to_z w32 (of_z w32 (pos 32 *ℤ step t))) ∙ small in
-    omega (arith, signed_linear, wide, low, right)
+word_column left w low few right = grind (arith, low, few, right, to_z_pos)
 
 -- the column of the pixel k of a word
 pub pixel_column : (left : ℤ) (k : ℕ) → IsPixelNumber left → k < 32
@@ -50,26 +45,12 @@ pub next_inside : (f : Frame) (up : Bool) (left row a b : ℤ) (k : ℕ) (r : Bo
     → (IsTrue r ↔ IsInFrame f (to_z w32 (of_z w32 a)) (to_z w32 (of_z w32 b)))
     → IsTrue r ↔ IsInFrame f (next_col up (left +ℤ pos k)) (next_row up row)
 next_inside f up left row a b k r low level few ea eb is =
-    let col = next_word up a left k low few (ea ∙ ap (next_col up) (pixel_column left k low few)) in
-    let at = next_word_up up b row level (eb ∙ ap (next_row up) (same_row row level)) in
-    subst (λ (z : ℤ × ℤ). IsTrue r ↔ IsInFrame f z.0 z.1) (λ t. (col t, at t)) is
+    grind (arith, signed, low, level, few, ea, eb, is, next_word, pixel_column, next_word_up, same_row)
 
 -- if it does, it and the pixel have numbers
 pub here_number : (f : Frame) (up : Bool) (left j : ℤ) (k : ℕ) → IsPixelNumber left → IsInFrame f (next_col up (left +ℤ pos k)) j
     → IsPixelNumber (left +ℤ pos k)
-here_number f false left j k low i =
-    let c = i.column in let to = f.columns.to in (omega (arith, signed_linear, low), omega (arith, signed_linear, c, to))
-here_number f true left j k low i =
-    let c = i.column in let to = f.columns.to in (omega (arith, signed_linear, low), omega (arith, signed_linear, c, to))
+here_number f up left j k h i = grind (arith, signed_linear, h, i)
 
 pub inside_numbers : (f : Frame) (i j : ℤ) → IsInFrame f i j → IsPixelNumber i × IsPixelNumber j
-inside_numbers f i j h =
-    let c = h.column in
-    let r = h.row in
-    let left = f.columns.from in
-    let right = f.columns.to in
-    let bottom = f.rows.from in
-    let top = f.rows.to in (
-      (omega (arith, signed_linear, c, left), omega (arith, signed_linear, c, right)),
-      (omega (arith, signed_linear, r, bottom), omega (arith, signed_linear, r, top)),
-    )
+inside_numbers f i j h = grind (arith, signed, h)

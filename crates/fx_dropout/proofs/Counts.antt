@@ -1,4 +1,4 @@
--- How many places are covered.
+-- Places with a property, counted one by one, have one count: `count_is_one`.
 -- Serves `nearer`.
 use Rattle.std.proofs.Common.{◌≡◌, ◌↔◌, inl, inr, refl, sym, ap, ◌∙◌, subst, Bool, true, false, IsTrue, ℕ, zero, suc, ◌+◌}
 use Rattle.std.proofs.Common.{◌<◌, ◌≤◌, arith}
@@ -23,13 +23,6 @@ count_same P n m p h =
     let e : suc n ≡ n + 1 = omega arith in
     subst (λ (k : ℕ). IsCount P k m) e (inr (p, h))
 
--- one more place, which is counted if it has P
-pub count_with : (P : ℕ → Type 0) (n m k : ℕ) (b : Bool) → (IsTrue b ↔ P n) → (IsTrue b → k ≡ m + 1) → (b ≡ false → k ≡ m)
-    → IsCount P n m → IsCount P (n + 1) k
-count_with P n m k true is more same h = subst (λ (j : ℕ). IsCount P (n + 1) j) (sym (more refl)) (count_more P n m (is.0 refl) h)
-count_with P n m k false is more same h =
-    subst (λ (j : ℕ). IsCount P (n + 1) j) (sym (same refl)) (count_same P n m (λ p. clash false refl (is.1 p)) h)
-
 -- there is one count
 pub count_is_one : (P : ℕ → Type 0) (n a b : ℕ) → IsCount P n a → IsCount P n b → a ≡ b
 unfolding IsCount
@@ -51,15 +44,7 @@ count_iff P Q (suc n) m e (inr (p, h)) =
 -- one more place, with a truth as a number
 pub count_from : (P : ℕ → Type 0) (n m k : ℕ) (b : Bool) → (IsTrue b ↔ P n) → k ≡ from_bool b → IsCount P n m
     → IsCount P (n + 1) (m + k)
-count_from P n m k b is e h = count_with P n m (m + k) b is (λ t. one b e t) (λ f. none b e f) h
-  where
-    one : (b : Bool) → k ≡ from_bool b → IsTrue b → m + k ≡ m + 1
-    one true e t = omega (arith, e)
-    one false e t = absurd (clash false refl t)
-
-    none : (b : Bool) → k ≡ from_bool b → b ≡ false → m + k ≡ m
-    none false e f = omega (arith, e)
-    none true e f = absurd (clash true f refl)
+count_from P n m k b h i j = grind (arith, h, i, j, count_more, count_same, clash)
 
 pub few_from : (m n k : ℕ) (b : Bool) → k ≡ from_bool b → m ≤ n → m + k ≤ n + 1
 few_from m n k true e h = omega (arith, e, h)

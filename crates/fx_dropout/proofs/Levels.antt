@@ -1,72 +1,34 @@
--- The words of a level, and of all levels, closed one after the other.
+-- Words of a level that are closed have the bits of their columns as the definition closes them: `column_bit`.
 -- Serves `close_level` and `close_columns`.
-use Rattle.std.proofs.Common.{◌≡◌, ◌⊎◌, ◌↔◌, inl, inr, refl, sym, ap, ◌∙◌, subst, ℕ, suc, ◌+◌, ◌*◌, ◌<◌, ◌≤◌}
+use Rattle.std.proofs.Common.{◌≡◌, ◌⊎◌, ◌↔◌, inl, inr, sym, ap, ◌∙◌, subst, ℕ, suc, ◌+◌, ◌*◌, ◌<◌, ◌≤◌}
 use Rattle.std.proofs.Common.{List, get_or, slice_set, length, arith}
 use Rattle.std.specs.Int.{bit_at}
 use Rattle.std.proofs.lemmas.List.{get_or-set_other}
 use Rattle.std.proofs.lemmas.Grind.{get_or-set_at}
 use Rattle.std.proofs.Math.Nat.{mul-le-mul_right}
 use Rattle.fx_fixed.proofs.Order.{below_or_not}
-use Rattle.fx_dropout.specs.inner.Closing.{bit_in, IsClosedBit, IsLevelClosed, IsOpen, IsOpenAt, IsReached}
+use Rattle.fx_dropout.specs.inner.Closing.{bit_in, IsClosedBit, IsLevelClosed, IsOpen, IsReached}
 
 -- one more word of each of two lists
 pub level_more : (C : ℕ → ℕ → ℕ → ℕ → Type 0) (words up : List ℕ) (p s w x y : ℕ) → p + w < length words → s + w < length up
     → ((k i : ℕ) → k < w → i < 32 → C k i (bit_in words (p + k) i) (bit_in up (s + k) i))
     → ((i : ℕ) → i < 32 → C w i (bit_at x i) (bit_at y i)) → (k i : ℕ) → k < w + 1 → i < 32
     → C k i (bit_in (slice_set words (p + w) x) (p + k) i) (bit_in (slice_set up (s + w) y) (s + k) i)
-level_more C words up p s w x y inside inside' before here k i l m = by (below_or_not k w)
-  where
-    by : (k < w) ⊎ (w ≤ k) → C k i (bit_in (slice_set words (p + w) x) (p + k) i) (bit_in (slice_set up (s + w) y) (s + k) i)
-    by (inl h) =
-        let a = get_or-set_other words (p + w) (p + k) x 0 (λ e. omega (arith, e, h)) in
-        let b = get_or-set_other up (s + w) (s + k) y 0 (λ e. omega (arith, e, h)) in
-        subst (λ (z : ℕ × ℕ). C k i (bit_at z.0 i) (bit_at z.1 i)) (λ t. (sym a t, sym b t)) (before k i h m)
-    by (inr h) =
-        let e : w ≡ k = omega (arith, l, h) in
-        let a = get_or-set_at words (p + w) (p + k) x 0 (omega (arith, e)) inside in
-        let b = get_or-set_at up (s + w) (s + k) y 0 (omega (arith, e)) inside' in
-        subst (λ (z : ℕ × ℕ). C k i (bit_at z.0 i) (bit_at z.1 i)) (λ t. (sym a t, sym b t))
-        (subst (λ (j : ℕ). C j i (bit_at x i) (bit_at y i)) e (here i m))
+level_more C words up p s w x y inside inside' before here k i l m =
+    grind (arith, below_or_not k w, get_or-set_other, get_or-set_at)
 
 -- a word of a level
 pub level_word : (here next noted reached gaps nexts x : ℕ) (Next : Type 0) → (gaps ≡ 1) ↔ IsOpen noted here next
     → (nexts ≡ 1) ↔ ((gaps ≡ 1) × Next)
     → (x ≡ 1) ↔ ((here ≡ 1) ⊎ (((gaps ≡ 1) × ¬ (nexts ≡ 1)) ⊎ (reached ≡ 1)))
     → IsLevelClosed here next noted reached Next x nexts
-level_word here next noted reached gaps nexts x Next gapped chosen is = record {
-  new_is = (λ t. to (is.0 t), λ h. is.1 (from h));
-  left_is = (λ t. let c = chosen.0 t in (gapped.0 c.0, c.1), λ h. chosen.1 (gapped.1 h.0, h.1));
-}
-  where
-    to : (here ≡ 1) ⊎ (((gaps ≡ 1) × ¬ (nexts ≡ 1)) ⊎ (reached ≡ 1))
-        → (here ≡ 1) ⊎ ((IsOpen noted here next × ¬ Next) ⊎ (reached ≡ 1))
-    to (inl e) = inl e
-    to (inr (inl (g, n))) = inr (inl (gapped.0 g, λ k. n (chosen.1 (g, k))))
-    to (inr (inr r)) = inr (inr r)
-
-    from : (here ≡ 1) ⊎ ((IsOpen noted here next × ¬ Next) ⊎ (reached ≡ 1))
-        → (here ≡ 1) ⊎ (((gaps ≡ 1) × ¬ (nexts ≡ 1)) ⊎ (reached ≡ 1))
-    from (inl e) = inl e
-    from (inr (inl (o, n))) = inr (inl (gapped.1 o, λ k. n (chosen.0 k).1))
-    from (inr (inr r)) = inr (inr r)
+level_word here next noted reached gaps nexts x Next gapped chosen is = grind (arith, gapped, chosen, is)
 
 -- a level of a column
 pub column_bit : (P Q : ℕ → ℕ) (Next : ℕ → Type 0) (r reached new left : ℕ)
     → IsLevelClosed (P r) (P (suc r)) (Q (suc r)) reached (Next r) new left → (reached ≡ 1) ↔ IsReached P Q Next r
     → IsClosedBit P Q Next r new × ((left ≡ 1) ↔ IsReached P Q Next (suc r))
-column_bit P Q Next r reached new left is from = ((λ t. to (is.new_is.0 t), λ h. is.new_is.1 (back h)), is.left_is)
-  where
-    to : (P r ≡ 1) ⊎ ((IsOpen (Q (suc r)) (P r) (P (suc r)) × ¬ (Next r)) ⊎ (reached ≡ 1))
-        → (P r ≡ 1) ⊎ ((IsOpenAt P Q (suc r) × ¬ (Next r)) ⊎ IsReached P Q Next r)
-    to (inl e) = inl e
-    to (inr (inl o)) = inr (inl o)
-    to (inr (inr h)) = inr (inr (from.0 h))
-
-    back : (P r ≡ 1) ⊎ ((IsOpenAt P Q (suc r) × ¬ (Next r)) ⊎ IsReached P Q Next r)
-        → (P r ≡ 1) ⊎ ((IsOpen (Q (suc r)) (P r) (P (suc r)) × ¬ (Next r)) ⊎ (reached ≡ 1))
-    back (inl e) = inl e
-    back (inr (inl o)) = inr (inl o)
-    back (inr (inr h)) = inr (inr (from.1 h))
+column_bit P Q Next r reached new left is from = grind (arith, is, from)
 
 -- ---- all levels, one after the other
 pub record ColumnsTo (wf wn row : ℕ) (W U words up : List ℕ) (N : ℕ → ℕ → ℕ → Type 0) : Type 0 where
@@ -133,12 +95,4 @@ columns_more wf wn row W U words up words' up' N wide old bits others notes = re
 pub columns_none : (wf wn : ℕ) (W U up : List ℕ) (N : ℕ → ℕ → ℕ → Type 0) → wf ≤ wn
     → ((w i : ℕ) → w < wf → i < 32 → (bit_in up w i ≡ 1) ↔ IsOpen (bit_in U w i) 0 (bit_in W w i))
     → ((k : ℕ) → wf ≤ k → get_or up k 0 ≡ get_or U k 0) → ColumnsTo wf wn 0 W U W up N
-columns_none wf wn W U up N wide bits others = record {
-  done = λ r w i l h m. absurd (omega (arith, l));
-  reached = λ w i h m.
-      let a : w ≡ 0 * wn + w = omega arith in
-      let b : w ≡ 0 * wf + w = omega arith in
-      subst (λ (z : ℕ × ℕ). (bit_in up z.0 i ≡ 1) ↔ IsOpen (bit_in U z.0 i) 0 (bit_in W z.1 i)) (λ t. (a t, b t)) (bits w i h m);
-  rest = λ k h. refl;
-  rest_up = λ k h. others k (omega (arith, h, wide));
-}
+columns_none wf wn W U up N wide bits others = grind (arith, wide, bits, others)

@@ -5,7 +5,8 @@ pub mod Levels
 pub mod Lines
 pub mod Parts
 pub mod NoneOpen
-pub mod Closed
+pub mod Areas
+mod Closed
 pub mod Counts
 pub mod SetPixels
 pub mod Shifted

@@ -1,10 +1,12 @@
--- A line of pixels whose gaps are closed, by the definition of drop-out control.
+-- In a line whose gaps are closed a pixel's bit is 1 exactly if the pixel is set or closes a gap: `line_closed`.
 -- Serves `noted`.
-use Rattle.std.proofs.Common.{◌≡◌, ◌⊎◌, ◌↔◌, inl, inr, sym, subst, ℕ, zero, suc, ◌<◌, ◌≤◌, ℤ, pos, ◌+ℤ◌, ◌-ℤ◌, List, Any, arith}
+use Rattle.std.proofs.Common.{◌≡◌, ◌⊎◌, ◌↔◌, inl, inr, refl, sym, subst, ℕ, zero, suc, ◌<◌, ◌≤◌, ℤ, pos, ◌+ℤ◌, ◌-ℤ◌, List, Any, arith}
+use Rattle.std.proofs.Math.Logic.{⊎_map}
 use Rattle.fx_fixed.proofs.Linear.{signed_linear}
+use Rattle.fx_fixed.proofs.Order.{below_or_not}
 use Rattle.fx_winding.specs.Meets.{IsMet}
 use Rattle.fx_winding.specs.Winding.{Span, centre}
-use Rattle.fx_dropout.specs.Dropout.{IsGap, IsClosedByLeft, IsClosedByRight, IsBridged}
+use Rattle.fx_dropout.specs.Dropout.{IsGap, IsClosedByRight, IsBridged}
 use Rattle.fx_dropout.specs.inner.Closing.{IsOpenAt, IsReached, IsClosedBit}
 
 -- bits of pixels and of segments, for what is set and what pieces meet in a row, from a column on
@@ -24,9 +26,7 @@ pub record IsLine (ss : List Span) (In Right So : ℤ → ℤ → Type 0) (first
 
 -- a bit of 0
 zero_of : (b : ℕ) (P : Type 0) → b < 2 → (b ≡ 1) ↔ P → ¬ P → b ≡ 0
-zero_of zero P l is none = omega arith
-zero_of (suc zero) P l is none = absurd (none (is.0 (omega arith)))
-zero_of (suc (suc b)) P l is none = absurd (omega (arith, l))
+zero_of b P h i j = grind (arith, signed_linear, h, i, j)
 
 unset : (b : ℕ) (P : Type 0) → (b ≡ 1) ↔ P → b ≡ 0 → ¬ P
 unset b P is z p = let e = is.1 p in omega (arith, e, z)
@@ -34,39 +34,20 @@ unset b P is z p = let e = is.1 p in omega (arith, e, z)
 -- a pixel of the line, or the one after its last: its bit is 0 exactly if it is not set
 clear : (ss : List Span) (In Right So : ℤ → ℤ → Type 0) (first j : ℤ) (count : ℕ) (pixels noted : ℕ → ℕ) (IsNext : ℕ → Type 0)
     → IsLine ss In Right So first j count pixels noted IsNext → (n : ℕ) → n ≤ count → (pixels n ≡ 0) ↔ ¬ (So (first +ℤ pos n) j)
-clear ss In Right So first j count pixels noted IsNext line n l = by (order n count)
-  where
-    order : (a b : ℕ) → (a < b) ⊎ (b ≤ a)
-    order a b = grind arith
-
-    by : (n < count) ⊎ (count ≤ n) → (pixels n ≡ 0) ↔ ¬ (So (first +ℤ pos n) j)
-    by (inl m) = (
-      λ z. unset (pixels n) (So (first +ℤ pos n) j) (line.set n m) z,
-      λ none. zero_of (pixels n) (So (first +ℤ pos n) j) (line.bits n) (line.set n m) none,
-    )
-    by (inr m) =
-        let e : count ≡ n = omega (arith, l, m) in
-        subst (λ (k : ℕ). (pixels k ≡ 0) ↔ ¬ (So (first +ℤ pos k) j)) e (λ z. line.none_after, λ none. line.end)
+clear ss In Right So first j count pixels noted IsNext line n l = grind (arith, signed_linear, below_or_not n count, unset, zero_of)
 
 gap_of : (ss : List Span) (So : ℤ → ℤ → Type 0) (i p q j : ℤ) → i ≡ p → i +ℤ pos 1 ≡ q → ¬ (So p j) → ¬ (So q j)
     → Any (IsMet (centre p j) (centre q j)) ss → IsGap ss So i j
-gap_of ss So i p q j e f here next met = record {
-  here = subst (λ z. ¬ (So z j)) (sym e) here;
-  next = subst (λ z. ¬ (So z j)) (sym f) next;
-  met = subst (λ (z : ℤ × ℤ). Any (IsMet (centre z.0 j) (centre z.1 j)) ss) (λ t. (sym e t, sym f t)) met;
-}
+gap_of ss So i p q j e f here next met = grind (arith, e, f, here, next, met)
 
 -- the segment k is open exactly if there is a gap
 pub is_gap : (ss : List Span) (In Right So : ℤ → ℤ → Type 0) (first j : ℤ) (count : ℕ) (pixels noted : ℕ → ℕ) (IsNext : ℕ → Type 0)
     → IsLine ss In Right So first j count pixels noted IsNext → (k : ℕ) (i : ℤ) → k ≤ count → i ≡ (first -ℤ pos 1) +ℤ pos k
     → IsOpenAt pixels noted k ↔ IsGap ss So i j
-is_gap ss In Right So first j count pixels noted IsNext line k i l e = by k refl_k
+is_gap ss In Right So first j count pixels noted IsNext line k i l e = by k refl
   where
     next : i +ℤ pos 1 ≡ first +ℤ pos k
     next = omega (arith, signed_linear, e)
-
-    refl_k : k ≡ k
-    refl_k = omega arith
 
     off : IsGap ss So i j → ¬ (So ((first -ℤ pos 1) +ℤ pos k) j)
     off g = subst (λ z. ¬ (So z j)) e g.here
@@ -151,14 +132,8 @@ line_closed ss In Right So first j count pixels noted IsNext line n new l is = (
         )
         by (inr h) = absurd (h (subst (λ z. In z j) (omega (arith, signed_linear, e)) (line.inside m (omega (arith, e, l)))))
 
-    same : n ≡ n
-    same = omega arith
-
-    order : (a b : ℕ) → (a < b) ⊎ (b ≤ a)
-    order a b = grind arith
-
     left : ¬ (IsNext n) → ¬ (Right i j) ⊎ ¬ (In (i +ℤ pos 1) j)
-    left c = by (order (suc n) count)
+    left c = by (below_or_not (suc n) count)
       where
         next : first +ℤ pos (suc n) ≡ i +ℤ pos 1
         next = omega (arith, signed_linear)
@@ -169,25 +144,18 @@ line_closed ss In Right So first j count pixels noted IsNext line n new l is = (
             let e : count ≡ suc n = omega (arith, l, m) in
             inr (λ h. line.after (subst (λ (k : ℕ). In (first +ℤ pos k) j) (sym e) (subst (λ z. In z j) (sym next) h)))
 
+    neither : ¬ (Right i j) ⊎ ¬ (In (i +ℤ pos 1) j) → Right i j × In (i +ℤ pos 1) j → ⊥
+    neither (inl r) h = r h.0
+    neither (inr o) h = o h.1
+
     to : (pixels n ≡ 1) ⊎ ((IsOpenAt pixels noted (suc n) × ¬ (IsNext n)) ⊎ IsReached pixels noted IsNext n)
         → IsBridged ss In Right So i j
-    to (inl e) = inl ((line.set n l).0 e)
-    to (inr (inl (o, c))) = inr (record {
+    to = ⊎_map (line.set n l).0 (λ h. record {
       inside = line.inside n l;
-      closes = inl (record { gap = gap_after.0 o; chosen = left c });
+      closes = ⊎_map (λ o. record { gap = gap_after.0 o.0; chosen = left o.1 }) (reached n refl).0 h;
     })
-    to (inr (inr h)) = inr (record { inside = line.inside n l; closes = inr ((reached n same).0 h) })
 
     from : IsBridged ss In Right So i j
         → (pixels n ≡ 1) ⊎ ((IsOpenAt pixels noted (suc n) × ¬ (IsNext n)) ⊎ IsReached pixels noted IsNext n)
-    from (inl s) = inl ((line.set n l).1 s)
-    from (inr b) = by b.closes
-      where
-        by : IsClosedByLeft ss In Right So i j ⊎ IsClosedByRight ss In Right So (i -ℤ pos 1) j
-            → (pixels n ≡ 1) ⊎ ((IsOpenAt pixels noted (suc n) × ¬ (IsNext n)) ⊎ IsReached pixels noted IsNext n)
-        by (inl c) = inr (inl (gap_after.1 c.gap, λ h. neither c.chosen ((line.right n l).0 h)))
-          where
-            neither : ¬ (Right i j) ⊎ ¬ (In (i +ℤ pos 1) j) → Right i j × In (i +ℤ pos 1) j → ⊥
-            neither (inl r) h = r h.0
-            neither (inr o) h = o h.1
-        by (inr c) = inr (inr ((reached n same).1 c))
+    from = ⊎_map (line.set n l).1 (λ b. ⊎_map
+        (λ c. (gap_after.1 c.gap, λ h. neither c.chosen ((line.right n l).0 h))) (reached n refl).1 b.closes)

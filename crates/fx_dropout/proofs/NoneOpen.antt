@@ -1,11 +1,10 @@
 -- If no segment of the words of a frame is open, none is of its rows and columns, and closing gaps changes nothing.
 -- Serves `look`, and `close_words`.
 use Rattle.std.proofs.Common.{◌≡◌, ◌⊎◌, ◌↔◌, inl, inr, refl, sym, ap, ◌∙◌, subst, ℕ, zero, suc, ◌+◌, ◌-◌, ◌*◌, ◌%◌, ◌<◌, ◌≤◌}
-use Rattle.std.proofs.Common.{ℤ, pos, ◌+ℤ◌, not, nat_eq, Bool, true, false, List, take, drop, get_or, length, bit_or, arith}
+use Rattle.std.proofs.Common.{ℤ, pos, ◌+ℤ◌, not, nat_eq, Bool, true, false, List, get_or, length, bit_or, arith}
 use Rattle.std.specs.Int.{bit_at}
 use Rattle.std.proofs.Math.Nat.{mul-le-mul_right}
 use Rattle.std.proofs.lemmas.Bool.Decides.{nat_tests}
-use Rattle.std.proofs.lemmas.List.{get_or-drop, get_or-take, length-drop, length-take}
 use Rattle.std.proofs.lemmas.Nat.{le_or_l, le_or_r}
 use Rattle.std.proofs.lemmas.Nat.Bits.{bit_at-zero}
 use Rattle.fx_fixed.proofs.Order.{below_or_not}
@@ -112,42 +111,33 @@ across_more noted words w gaps before left g old first inner gap = record {
         (at (omega (arith, a, e)) (n % 32) (omega arith))
 
 -- ---- words between two rows
-pub record UpTo (noted lower upper : List ℕ) (w gaps : ℕ) : Type 0 where
-  pub clear : gaps ≡ 0 → (k i : ℕ) → k < w → i < 32 → ¬ (IsOpen (bit_in noted k i) (bit_in lower k i) (bit_in upper k i))
+pub record UpTo (up words : List ℕ) (noted lower upper w gaps : ℕ) : Type 0 where
+  pub clear : gaps ≡ 0 → (k i : ℕ) → k < w → i < 32
+      → ¬ (IsOpen (bit_in up (noted + k) i) (bit_in words (lower + k) i) (bit_in words (upper + k) i))
 
-pub up_none : (noted lower upper : List ℕ) → UpTo noted lower upper 0 0
-up_none noted lower upper = record { clear = λ e k i l. absurd (omega (arith, l)) }
+pub up_none : (up words : List ℕ) (noted lower upper : ℕ) → UpTo up words noted lower upper 0 0
+up_none up words noted lower upper = record { clear = λ e k i l. absurd (omega (arith, l)) }
 
-pub up_more : (noted lower upper : List ℕ) (w gaps g : ℕ) → UpTo noted lower upper w gaps
-    → ((i : ℕ) → i < 32
-    → (bit_at g i ≡ 1) ↔ IsOpen (bit_at (get_or noted w 0) i) (bit_at (get_or lower w 0) i) (bit_at (get_or upper w 0) i))
-    → UpTo noted lower upper (w + 1) (bit_or gaps g)
-up_more noted lower upper w gaps g old gap = record { clear = λ e k i l m. by e k i l m (below_or_not k w) }
-  where
-    by : bit_or gaps g ≡ 0 → (k i : ℕ) → k < w + 1 → i < 32 → (k < w) ⊎ (w ≤ k)
-        → ¬ (IsOpen (bit_in noted k i) (bit_in lower k i) (bit_in upper k i))
-    by e k i l m (inl h) = let a = le_or_l gaps g in old.clear (omega (arith, a, e)) k i h m
-    by e k i l m (inr h) =
-        let a = le_or_r gaps g in
-        let z : g ≡ 0 = omega (arith, a, e) in
-        let same : w ≡ k = omega (arith, l, h) in
-        subst (λ (k : ℕ). ¬ (IsOpen (bit_in noted k i) (bit_in lower k i) (bit_in upper k i))) same
-        (λ o. let one = (gap i m).1 o in let none = ap (λ v. bit_at v i) z ∙ bit_at-zero i in omega (arith, one, none))
+pub up_more : (up words : List ℕ) (noted lower upper w gaps g : ℕ) → UpTo up words noted lower upper w gaps
+    → ((i : ℕ) → i < 32 → (bit_at g i ≡ 1)
+    ↔ IsOpen (bit_in up (noted + w) i) (bit_in words (lower + w) i) (bit_in words (upper + w) i))
+    → UpTo up words noted lower upper (w + 1) (bit_or gaps g)
+up_more up words noted lower upper w gaps g old gap = grind (arith, old, gap, le_or_l, le_or_r, bit_at-zero)
 
--- ---- the rows and columns of a frame, if a row has as many words of segments as of pixels
-pub record AreFlat (f : Frame) (across up words : List ℕ) : Type 0 where
+-- ---- the rows and columns of a frame, if a row has `size` words of segments, as many as of pixels
+pub record AreFlat (f : Frame) (across up words : List ℕ) (size : ℕ) : Type 0 where
   pub high : 0 < f.height
-  pub same : words_noted f.width ≡ words_for f.width
+  pub same : words_noted f.width ≡ size
   pub held : AreWords f.height f.width words
   pub rows : (n : ℕ) → n < 32 * length words → ¬ (IsOpenAt (λ k. word_bit words k) (λ k. word_bit across k) n)
-  pub first : (w i : ℕ) → w < words_for f.width → i < 32 → ¬ (IsOpen (bit_in up w i) (bit_in words w i) (bit_in words w i))
-  pub inner : (w i : ℕ) → w + words_for f.width < length words → i < 32
-      → ¬ (IsOpen (bit_in up (words_for f.width + w) i) (bit_in words w i) (bit_in words (words_for f.width + w) i))
-  pub last : (w i : ℕ) → w < words_for f.width → i < 32
-      → ¬ (IsOpen (bit_in up (length words + w) i) (bit_in words (length words - words_for f.width + w) i)
-      (bit_in words (length words - words_for f.width + w) i))
+  pub first : (w i : ℕ) → w < size → i < 32 → ¬ (IsOpen (bit_in up (0 + w) i) (bit_in words (0 + w) i) (bit_in words (0 + w) i))
+  pub inner : (w i : ℕ) → w < length words - size → i < 32
+      → ¬ (IsOpen (bit_in up (size + w) i) (bit_in words (0 + w) i) (bit_in words (size + w) i))
+  pub last : (w i : ℕ) → w < size → i < 32 → ¬ (IsOpen (bit_in up (size + (length words - size) + w) i)
+      (bit_in words (length words - size + w) i) (bit_in words (length words - size + w) i))
 
-pub none_open : (f : Frame) (across up words : List ℕ) → AreFlat f across up words → AreNoneOpen f across up words
+pub none_open : (f : Frame) (across up words : List ℕ) → AreFlat f across up words (words_for f.width)
+    → AreNoneOpen f across up words
 none_open f across up words flat = record { rows = λ r n h. row r n h (below_or_not n (32 * size)); columns = column }
   where
     size : ℕ
@@ -210,9 +200,9 @@ none_open f across up words flat = record { rows = λ r n h. row r n h (below_or
     column : (r w i : ℕ) → r ≤ f.height → w < size → i < 32
         → ¬ (IsOpenAt (λ k. bit_in words (k * size + w) i) (λ k. bit_in up (k * words_noted f.width + w) i) r)
     column zero w i h l m o =
-        let a : 0 * words_noted f.width + w ≡ w = omega arith in
-        let b : 0 * size + w ≡ w = omega arith in
-        let next : bit_in words w i ≡ 0 = (λ t. bit_in words (sym b t) i) ∙ o.next_is in
+        let a : 0 * words_noted f.width + w ≡ 0 + w = omega arith in
+        let b : 0 * size + w ≡ 0 + w = omega arith in
+        let next : bit_in words (0 + w) i ≡ 0 = (λ t. bit_in words (sym b t) i) ∙ o.next_is in
         flat.first w i l m (record { noted_is = (λ t. bit_in up (sym a t) i) ∙ o.noted_is; here_is = next; next_is = next })
     column (suc r) w i h l m o = by (below_or_not (suc r) f.height)
       where
@@ -232,75 +222,16 @@ none_open f across up words flat = record { rows = λ r n h. row r n h (below_or
         by (inl k) =
             let most : (r + 1 + 1) * size ≤ f.height * size = mul-le-mul_right size (omega (arith, k)) in
             let two : (r + 1 + 1) * size ≡ r * size + size + size = omega arith in
+            let from : r * size + w ≡ 0 + (r * size + w) = omega arith in
             flat.inner (r * size + w) i (omega (arith, most, two, long, l)) m (record {
               noted_is = noted;
-              here_is = o.here_is;
+              here_is = (λ t. bit_in words (sym from t) i) ∙ o.here_is;
               next_is = (λ t. bit_in words (sym at t) i) ∙ o.next_is;
             })
         by (inr k) =
             let e : r + 1 ≡ f.height = omega (arith, h, k) in
             let all : length words ≡ r * size + size = long ∙ sym (ap (λ (n : ℕ). n * size) e) ∙ one in
-            let a : size + (r * size + w) ≡ length words + w = omega (arith, all) in
+            let a : size + (r * size + w) ≡ size + (length words - size) + w = omega (arith, all) in
             let b : length words - size + w ≡ r * size + w = omega (arith, all) in
             let here : bit_in words (length words - size + w) i ≡ 0 = (λ t. bit_in words (b t) i) ∙ o.here_is in
             flat.last w i l m (record { noted_is = (λ t. bit_in up (sym a t) i) ∙ noted; here_is = here; next_is = here })
-
--- ---- for `may_be_open`
--- a bit of a part of a list
-part_of : (xs : List ℕ) (from n w i : ℕ) → w < n → bit_in (take n (drop from xs)) w i ≡ bit_in xs (from + w) i
-part_of xs from n w i l = ap (λ v. bit_at v i) (get_or-take n (drop from xs) w 0 l ∙ get_or-drop from xs w 0)
-
-pub flat_of : (f : Frame) (across up words : List ℕ) (step : ℕ) → step ≡ words_for f.width → 0 < f.height
-    → words_noted f.width ≤ step → length up ≡ (f.height + 1) * words_noted f.width → AreWords f.height f.width words
-    → ((n : ℕ) → n < 32 * length words → ¬ (IsOpenAt (λ k. word_bit words k) (λ k. word_bit across k) n))
-    → ((w i : ℕ) → w < length (take step up) → i < 32
-    → ¬ (IsOpen (bit_in (take step up) w i) (bit_in words w i) (bit_in words w i)))
-    → ((w i : ℕ) → w < length (take (length words - step) (drop step up)) → i < 32
-    → ¬ (IsOpen (bit_in (take (length words - step) (drop step up)) w i) (bit_in words w i)
-    (bit_in (take (length words - step) (drop step words)) w i)))
-    → ((w i : ℕ) → w < length (take (length up - length words) (drop (length words) up)) → i < 32
-    → ¬ (IsOpen (bit_in (take (length up - length words) (drop (length words) up)) w i)
-    (bit_in (take (length words - (length words - step)) (drop (length words - step) words)) w i)
-    (bit_in (take (length words - (length words - step)) (drop (length words - step) words)) w i)))
-    → AreFlat f across up words
-flat_of f across up words step e high few long held rows first inner last = record {
-  high = high;
-  same = same;
-  held = held;
-  rows = rows;
-  first = λ w i l m.
-      let t = length-take step up in
-      let b : bit_in (take step up) w i ≡ bit_in up w i = ap (λ v. bit_at v i) (get_or-take step up w 0 (omega (arith, l, e))) in
-      subst (λ (z : ℕ). ¬ (IsOpen z (bit_in words w i) (bit_in words w i))) b (first w i (omega (arith, t, l, e, most)) m);
-  inner = λ w i l m.
-      let t = length-take (length words - step) (drop step up) in
-      let d = length-drop step up in
-      let at : step + w ≡ words_for f.width + w = omega (arith, e) in
-      let a = part_of up step (length words - step) w i (omega (arith, l, e)) ∙ ap (λ (k : ℕ). bit_in up k i) at in
-      let b = part_of words step (length words - step) w i (omega (arith, l, e)) ∙ ap (λ (k : ℕ). bit_in words k i) at in
-      subst (λ (z : ℕ × ℕ). ¬ (IsOpen z.0 (bit_in words w i) z.1)) (λ t. (a t, b t))
-      (inner w i (omega (arith, t, d, l, e, most)) m);
-  last = λ w i l m.
-      let t = length-take (length up - length words) (drop (length words) up) in
-      let d = length-drop (length words) up in
-      let at : length words - step + w ≡ length words - words_for f.width + w = omega (arith, e) in
-      let a = part_of up (length words) (length up - length words) w i (omega (arith, l, most)) in
-      let b = part_of words (length words - step) (length words - (length words - step)) w i (omega (arith, l, e, some))
-      ∙ ap (λ (k : ℕ). bit_in words k i) at in
-      subst (λ (z : ℕ × ℕ). ¬ (IsOpen z.0 z.1 z.1)) (λ t. (a t, b t)) (last w i (omega (arith, t, d, l, most)) m);
-}
-  where
-    same : words_noted f.width ≡ words_for f.width
-    same = omega (arith, e, few)
-
-    most : length up ≡ length words + words_for f.width
-    most =
-        let one : (f.height + 1) * words_for f.width ≡ f.height * words_for f.width + words_for f.width = omega arith in
-        long ∙ ap (λ (n : ℕ). (f.height + 1) * n) same ∙ one ∙ ap (λ (n : ℕ). n + words_for f.width) (sym held.long)
-
-    some : words_for f.width ≤ length words
-    some =
-        let m : 1 * words_for f.width ≤ f.height * words_for f.width = mul-le-mul_right (words_for f.width)
-        (omega (arith, high)) in
-        let n = held.long in
-        omega (arith, m, n)

@@ -1,6 +1,6 @@
--- Bits of a part of a list of words.
+-- A bit of a part of a list of words is a bit of the list, counted from the part's first word: `part_bit`.
 -- Serves `may_be_open`, and `noted`.
-use Rattle.std.proofs.Common.{◌≡◌, ◌⊎◌, inl, inr, ap, ◌∙◌, subst, ℕ, ◌+◌, ◌-◌, ◌*◌, ◌/◌, ◌%◌, ◌<◌, ◌≤◌, List, take, drop, get_or, length, arith}
+use Rattle.std.proofs.Common.{◌≡◌, ◌⊎◌, inl, inr, ap, ◌∙◌, subst, ℕ, ◌+◌, ◌-◌, ◌*◌, ◌/◌, ◌%◌, ◌<◌, ◌≤◌, List, take, drop, length, arith}
 use Rattle.std.specs.Int.{bit_at}
 use Rattle.std.proofs.lemmas.List.{get_or-take, get_or-drop, get_or_past, length-take}
 use Rattle.std.proofs.lemmas.Nat.Bits.{bit_at-zero}
@@ -12,11 +12,7 @@ use Rattle.fx_dropout.specs.inner.Closing.{bit_in, row_bit}
 
 -- a part of a list of words
 pub part_bit : (xs : List ℕ) (from n k : ℕ) → k < 32 * n → word_bit (take n (drop from xs)) k ≡ word_bit xs (32 * from + k)
-part_bit xs from n k h =
-    let w : from + k / 32 ≡ (32 * from + k) / 32 = omega arith in
-    let c : k % 32 ≡ (32 * from + k) % 32 = omega arith in
-    ap (λ v. bit_at v (31 - k % 32)) (get_or-take n (drop from xs) (k / 32) 0 (omega (arith, h)) ∙ get_or-drop from xs (k / 32) 0)
-    ∙ (λ t. bit_at (get_or xs (w t) 0) (31 - c t))
+part_bit xs from n k h = grind (arith, h, get_or-take, get_or-drop)
 
 -- the same bit, by its word
 pub part_word : (xs : List ℕ) (from n k : ℕ) → k < 32 * n
@@ -30,9 +26,7 @@ past_bit xs k h =
     ap (λ v. bit_at v (31 - k % 32)) (get_or_past xs (k / 32) 0 (omega (arith, h))) ∙ bit_at-zero (31 - k % 32)
 
 pub past_part : (xs : List ℕ) (from n k : ℕ) → 32 * n ≤ k → word_bit (take n (drop from xs)) k ≡ 0
-past_part xs from n k h =
-    let l = length-take n (drop from xs) in
-    past_bit (take n (drop from xs)) k (omega (arith, l, h))
+past_part xs from n k h = grind (arith, h, length-take, past_bit)
 
 -- the bits after a row's last pixel are 0
 pub unused_bit : (f : Frame) (xs : List ℕ) (r k : ℕ) → AreWords f.height f.width xs → r < f.height → f.width ≤ k

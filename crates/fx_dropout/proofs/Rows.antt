@@ -1,6 +1,6 @@
--- The words of a row closed one after the other.
+-- Words of a row, each closed by the gaps beside its pixels (`word_closed`), are one after the other the closed row (`row_more`).
 -- Serves `close_row` and `close_rows`.
-use Rattle.std.proofs.Common.{◌≡◌, ◌⊎◌, ◌↔◌, inl, inr, refl, sym, ap, ◌∙◌, subst, ℕ, zero, suc, ◌+◌, ◌-◌, ◌*◌, ◌/◌, ◌%◌, ◌<◌, ◌≤◌}
+use Rattle.std.proofs.Common.{◌≡◌, ◌⊎◌, ◌↔◌, inl, inr, refl, sym, ap, ◌∙◌, subst, ℕ, zero, suc, ◌+◌, ◌-◌, ◌*◌, ◌<◌, ◌≤◌}
 use Rattle.std.proofs.Common.{List, ◌++◌, get_or, slice_set, take, drop, length, arith}
 use Rattle.std.specs.Int.{bit_at}
 use Rattle.std.proofs.Math.Nat.{mul-le-mul_right}
@@ -14,25 +14,12 @@ use Rattle.fx_dropout.specs.inner.Closing.{IsOpen, IsOpenAt, IsReached, IsClosed
 
 -- a bit of a word of a row, by its number
 pub bit_of_row : (row : List ℕ) (w c : ℕ) → c < 32 → bit_at (get_or row w 0) (31 - c) ≡ word_bit row (32 * w + c)
-bit_of_row row w c h =
-    let e : w ≡ (32 * w + c) / 32 = omega arith in
-    let f : c ≡ (32 * w + c) % 32 = omega arith in
-    λ t. bit_at (get_or row (e t) 0) (31 - f t)
+bit_of_row row w c h = grind (arith, h)
 
 -- the bits of right neighbours are the row's next bits
 pub next_bit : (row : List ℕ) (w r c : ℕ) → ((i : ℕ) → i < 31 → bit_at r (31 - i) ≡ bit_at (get_or row w 0) (30 - i))
     → bit_at r 0 ≡ bit_at (get_or row (w + 1) 0) 31 → c < 32 → bit_at r (31 - c) ≡ word_bit row (suc (32 * w + c))
-next_bit row w r c inner last l = by (below_or_not c 31)
-  where
-    by : (c < 31) ⊎ (31 ≤ c) → bit_at r (31 - c) ≡ word_bit row (suc (32 * w + c))
-    by (inl h) =
-        let e : 30 - c ≡ 31 - (c + 1) = omega (arith, h) in
-        let f : 32 * w + (c + 1) ≡ suc (32 * w + c) = omega arith in
-        inner c h ∙ ap (bit_at (get_or row w 0)) e ∙ bit_of_row row w (c + 1) (omega (arith, h)) ∙ ap (word_bit row) f
-    by (inr h) =
-        let z : 31 - c ≡ 0 = omega (arith, h) in
-        let f : 32 * (w + 1) + 0 ≡ suc (32 * w + c) = omega (arith, h, l) in
-        ap (bit_at r) z ∙ last ∙ bit_of_row row (w + 1) 0 (omega arith) ∙ ap (word_bit row) f
+next_bit row w r c inner last l = grind (arith, below_or_not c 31, bit_of_row)
 
 -- the gaps after the pixels of a word
 pub gaps_in : (old noted : List ℕ) (w here rn rp gaps : ℕ) → here ≡ get_or old w 0
@@ -52,9 +39,7 @@ pub reached_in : (P Q : ℕ → ℕ) (Next : ℕ → Type 0) (w gaps nexts befor
     → (bit_at before 0 ≡ 1) ↔ IsReached P Q Next (32 * w) → bit_at left 31 ≡ bit_at before 0
     → ((i : ℕ) → 0 < i → i < 32 → bit_at left (31 - i) ≡ bit_at nexts (32 - i)) → (c : ℕ) → c < 32
     → (bit_at left (31 - c) ≡ 1) ↔ IsReached P Q Next (32 * w + c)
-reached_in P Q Next w gaps nexts before left gapped chosen first lf li zero l =
-    let e : 32 * w ≡ 32 * w + 0 = omega arith in
-    subst (λ (z : ℕ × ℕ). (z.0 ≡ 1) ↔ IsReached P Q Next z.1) (λ t. (sym lf t, e t)) first
+reached_in P Q Next w gaps nexts before left gapped chosen first lf li zero l = grind (arith, gapped, chosen, first, lf, li, l)
 reached_in P Q Next w gaps nexts before left gapped chosen first lf li (suc d) l =
     let e : 32 - suc d ≡ 31 - d = omega (arith, l) in
     let n : suc (32 * w + d) ≡ 32 * w + suc d = omega arith in
@@ -72,39 +57,14 @@ pub word_closed : (P Q : ℕ → ℕ) (Next : ℕ → Type 0) (w here gaps nexts
     → ((c : ℕ) → c < 32 → (bit_at left (31 - c) ≡ 1) ↔ IsReached P Q Next (32 * w + c))
     → ((i : ℕ) → i < 32 → (bit_at x i ≡ 1) ↔ ((bit_at here i ≡ 1) ⊎ (((bit_at gaps i ≡ 1) × ¬ (bit_at nexts i ≡ 1))
     ⊎ (bit_at left i ≡ 1)))) → (c : ℕ) → c < 32 → IsClosedBit P Q Next (32 * w + c) (bit_at x (31 - c))
-word_closed P Q Next w here gaps nexts left x own gapped chosen reached all c l = (λ t. to (is.0 t), λ h. is.1 (from h))
-  where
-    is : (bit_at x (31 - c) ≡ 1) ↔ ((bit_at here (31 - c) ≡ 1) ⊎ (((bit_at gaps (31 - c) ≡ 1) × ¬ (bit_at nexts (31 - c) ≡ 1))
-        ⊎ (bit_at left (31 - c) ≡ 1)))
-    is = all (31 - c) (omega arith)
-
-    to : (bit_at here (31 - c) ≡ 1) ⊎ (((bit_at gaps (31 - c) ≡ 1) × ¬ (bit_at nexts (31 - c) ≡ 1)) ⊎ (bit_at left (31 - c) ≡ 1))
-        → (P (32 * w + c) ≡ 1) ⊎ ((IsOpenAt P Q (suc (32 * w + c)) × ¬ (Next (32 * w + c))) ⊎ IsReached P Q Next (32 * w + c))
-    to (inl e) = inl (sym (own c l) ∙ e)
-    to (inr (inl (g, n))) = inr (inl ((gapped c l).0 g, λ k. n ((chosen c l).1 (g, k))))
-    to (inr (inr h)) = inr (inr ((reached c l).0 h))
-
-    from : (P (32 * w + c) ≡ 1) ⊎ ((IsOpenAt P Q (suc (32 * w + c)) × ¬ (Next (32 * w + c))) ⊎ IsReached P Q Next (32 * w + c))
-        → (bit_at here (31 - c) ≡ 1) ⊎ (((bit_at gaps (31 - c) ≡ 1) × ¬ (bit_at nexts (31 - c) ≡ 1)) ⊎ (bit_at left (31 - c) ≡ 1))
-    from (inl e) = inl (own c l ∙ e)
-    from (inr (inl (o, n))) = inr (inl ((gapped c l).1 o, λ k. n ((chosen c l).0 k).1))
-    from (inr (inr h)) = inr (inr ((reached c l).1 h))
+word_closed P Q Next w here gaps nexts left x own gapped chosen reached all c l =
+    grind (arith, own, gapped, chosen, reached, all, l)
 
 -- the words of which w is the last are closed, if those before it are
 pub row_more : (C : ℕ → ℕ → Type 0) (row : List ℕ) (w x : ℕ) → w < length row
     → ((n : ℕ) → n < 32 * w → C n (word_bit row n)) → ((c : ℕ) → c < 32 → C (32 * w + c) (bit_at x (31 - c))) → (n : ℕ)
     → n < 32 * (w + 1) → C n (word_bit (slice_set row w x) n)
-row_more C row w x inside before here n l = by (below_or_not n (32 * w))
-  where
-    by : (n < 32 * w) ⊎ (32 * w ≤ n) → C n (word_bit (slice_set row w x) n)
-    by (inl h) =
-        let other : (n / 32 ≡ w → ⊥) = λ e. omega (arith, e, h) in
-        subst (C n) (sym (ap (λ v. bit_at v (31 - n % 32)) (get_or-set_other row w (n / 32) x 0 other))) (before n h)
-    by (inr h) =
-        let c : 32 * w + n % 32 ≡ n = omega (arith, h, l) in
-        let at : bit_at x (31 - n % 32) ≡ word_bit (slice_set row w x) n =
-        sym (ap (λ v. bit_at v (31 - n % 32)) (get_or-set_at row w (n / 32) x 0 (omega (arith, h, l)) inside)) in
-        subst (λ (z : ℕ × ℕ). C z.0 z.1) (λ t. (c t, at t)) (here (n % 32) (omega arith))
+row_more C row w x inside before here n l = grind (arith, below_or_not n (32 * w), get_or-set_other, get_or-set_at)
 
 -- ---- rows of words in one list, each put back closed
 pub record RowsTo (size row : ℕ) (C : ℕ → List ℕ → Type 0) (old words : List ℕ) : Type 0 where

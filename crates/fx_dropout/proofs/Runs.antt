@@ -8,7 +8,7 @@ use Rattle.std.proofs.lemmas.Int.{ints}
 use Rattle.fx_fixed.specs.Polynomial.{var, num, ◌⊞◌, ◌⊠◌, ◌⊟◌, minus}
 use Rattle.fx_fixed.proofs.Ring.{ring, one-*ℤ, neg-*ℤ}
 use Rattle.fx_fixed.proofs.Linear.{signed_linear}
-use Rattle.fx_fixed.proofs.Order.{below_or_not_ℤ}
+use Rattle.fx_fixed.proofs.Order.{below_or_not, below_or_not_ℤ}
 use Rattle.fx_winding.specs.Area.{Place, area, gap_of}
 use Rattle.fx_winding.specs.Outside.{HasAll}
 use Rattle.fx_winding.specs.declared.point.Piece.{Piece}
@@ -23,25 +23,18 @@ use Rattle.fx_winding.proofs.HalfAreas.{area_next, area_swap}
 use Rattle.fx_winding.proofs.Regions.{IsInRegion, region_cases, region_in, region_out, third_strictly}
 use Rattle.fx_winding.proofs.Triangle.{area_expr}
 use Rattle.fx_winding.proofs.Turning.{left_of_all, right_of_all}
+use Rattle.fx_dropout.specs.declared.pair.Pair.{Pair}
 use Rattle.fx_dropout.specs.Dropout.{place_on}
-use Rattle.fx_dropout.specs.inner.Runs.{HaveOneSign, IsPassed, IsClear, IsInBox, IsPart, IsPartIn}
+use Rattle.fx_dropout.specs.inner.Runs.{HaveOneSign, IsPassed, IsClear, IsPart, IsPartTo, IsJoined, place_in}
 use Rattle.fx_dropout.proofs.Steps.{linear_sign, gap_in, gap_step, gap_below, gap_above}
-
--- what a piece adds at places of a segment
-abbrev pub ArePartsTo : Bool → ℤ → ℤ → ℕ → ℕ → Span → Option ℤ → Type 0
-ArePartsTo up col row first end s part = (n : ℕ) → first ≤ n → n < end → IsPart (place_on up col row n) s part
 
 -- a height that does not come to be passed on the way from p to r
 pub record IsOneSide (y p r : ℤ) : Type 0 where
   pub both : ((y ≤ℤ p) × (y ≤ℤ r)) ⊎ ((p <ℤ y) × (r <ℤ y))
 
 pub one_side : (y low high p r : ℤ) → ¬ (IsPassed y low high) → low ≤ℤ p → p ≤ℤ high → low ≤ℤ r → r ≤ℤ high → IsOneSide y p r
-one_side y low high p r n a b c d = by (below_or_not_ℤ low y) (below_or_not_ℤ high y)
-  where
-    by : (low <ℤ y) ⊎ (y ≤ℤ low) → (high <ℤ y) ⊎ (y ≤ℤ high) → IsOneSide y p r
-    by (inr h) k = record { both = inl (omega (arith, signed_linear, h, a), omega (arith, signed_linear, h, c)) }
-    by (inl h) (inl k) = record { both = inr (omega (arith, signed_linear, k, b), omega (arith, signed_linear, k, d)) }
-    by (inl h) (inr k) = absurd (n (h, k))
+one_side y low high p r n a b c d =
+    record { both = grind (arith, signed_linear, n, a, b, c, d, below_or_not_ℤ low y, below_or_not_ℤ high y) }
 
 -- ---- what a chord adds
 crossing_same : (ay cy py ry s t : ℤ) → ((ay ≤ℤ py) × (ay ≤ℤ ry)) ⊎ ((py <ℤ ay) × (ry <ℤ ay))
@@ -90,12 +83,7 @@ above_if : (v : ℤ) → ¬ (v <ℤ pos 0) → v ≢ pos 0 → pos 0 <ℤ v
 above_if v n k = grind (arith, ints)
 
 signed_below : (d v : ℤ) → ¬ (HaveOneSign d v) → d ≢ pos 0 → v ≢ pos 0 → (sign d *ℤ v) <ℤ pos 0
-signed_below (pos zero) v n h k = absurd (h refl)
-signed_below (pos (suc d)) v n h k = rw (one-*ℤ v) (below_if v (λ m. n (inl (omega (arith, signed_linear), m))) k)
-signed_below (negsuc d) v n h k =
-    let e = neg-*ℤ v in
-    let l = above_if v (λ m. n (inr (omega (arith, signed_linear), m))) k in
-    omega (arith, signed_linear, e, l)
+signed_below d v h i j = grind (arith, signed_linear, h, i, j, one-*ℤ, below_if, neg-*ℤ, above_if)
 
 signed_gap : (d u v w : ℤ) → d ≢ pos 0 → gap_of (sign d *ℤ u) (sign d *ℤ v) (sign d *ℤ w) ≡ gap_of u v w
 signed_gap (pos zero) u v w h = absurd (h refl)
@@ -140,14 +128,10 @@ abbrev pub arc_gap : Place → Place → Place → Place → ℤ
 arc_gap a b c p = gap_of (area p b c) (area a p c) (area a b p)
 
 gap_off : (a b c p : Place) → area a p c ≢ pos 0 → arc_gap a b c p ≢ pos 0 → ¬ (IsOnPart a (Some b) c p)
-gap_off a b c p k g (inl o) =
-    g (sym (signed_gap (area a b c) (area p b c) (area a p c) (area a b p) o.bent) ∙ o.on_arc.3)
-gap_off a b c p k g (inr o) = k (none_back a c p o.with_ac)
+gap_off a b c p h i j = grind (arith, signed_linear, h, i, j, signed_gap, none_back)
 
 signed_not_none : (d v : ℤ) → d ≢ pos 0 → v ≢ pos 0 → sign d *ℤ v ≢ pos 0
-signed_not_none (pos zero) v h k e = h refl
-signed_not_none (pos (suc d)) v h k e = k (sym (one-*ℤ v) ∙ e)
-signed_not_none (negsuc d) v h k e = let f = neg-*ℤ v in k (omega (arith, signed_linear, e, f))
+signed_not_none d v h i j = grind (arith, signed_linear, h, i, j, one-*ℤ, neg-*ℤ)
 
 -- without the parabola
 without_region : (a b c p : Place) → area a b c ≢ pos 0 → area a p c ≢ pos 0 → arc_gap a b c p <ℤ pos 0
@@ -163,11 +147,7 @@ without_region a b c p h k g = region_out a b c p (λ i. no i)
 
 -- within it, on the arc's sides of the chord and of the line from b to c
 signed_above : (d x : ℤ) → HaveOneSign d x → pos 0 <ℤ (sign d *ℤ x)
-signed_above (pos zero) x k = absurd ((not_none (pos zero) x k).0 refl)
-signed_above (pos (suc n)) x (inl k) = rw (one-*ℤ x) k.1
-signed_above (pos (suc n)) x (inr k) = absurd (let m = k.0 in omega (arith, signed_linear, m))
-signed_above (negsuc n) x (inl k) = absurd (let m = k.0 in omega (arith, signed_linear, m))
-signed_above (negsuc n) x (inr k) = let e = neg-*ℤ x in let m = k.1 in omega (arith, signed_linear, e, m)
+signed_above d x h = grind (arith, signed_linear, h, not_none, one-*ℤ, neg-*ℤ)
 
 within_region : (a b c p : Place) → HaveOneSign (area a b c) (area p b c) → HaveOneSign (area a b c) (area a p c)
     → pos 0 <ℤ arc_gap a b c p → region_part a (Some b) c p ≡ sign (area a b c)
@@ -186,15 +166,15 @@ within_region a b c p su sv g =
 
 -- ---- areas along a segment: each changes by one step from place to place
 -- how far the place n is from the place k
-abbrev far : ℕ → ℕ → ℤ
+abbrev pub far : ℕ → ℕ → ℤ
 far k n = pos n -ℤ pos k
 
 -- how the area of a place with b and c changes from place to place
-abbrev step : Bool → Place → Place → ℤ
+abbrev pub step : Bool → Place → Place → ℤ
 step false b c = b.y -ℤ c.y
 step true b c = c.x -ℤ b.x
 
-u_along : (up : Bool) (col row : ℤ) (k n : ℕ) (b c : Place)
+pub u_along : (up : Bool) (col row : ℤ) (k n : ℕ) (b c : Place)
     → area (place_on up col row n) b c ≡ area (place_on up col row k) b c +ℤ far k n *ℤ step up b c
 u_along false col row k n b c =
     ring ((pos 128 *ℤ col +ℤ pos 64) ∷ (pos 128 *ℤ row +ℤ pos 64) ∷ pos k ∷ pos n ∷ b.x ∷ b.y ∷ c.x ∷ c.y ∷ [])
@@ -206,17 +186,13 @@ u_along true col row k n b c =
     (area_expr (var 0) (var 1 ⊞ var 2) (var 4) (var 5) (var 6) (var 7) ⊞ (var 3 ⊟ var 2) ⊠ (var 6 ⊟ var 4)) tt
 
 -- of the other two corners
-v_along : (up : Bool) (col row : ℤ) (k n : ℕ) (a c : Place)
-    → area a (place_on up col row n) c ≡ area a (place_on up col row k) c +ℤ far k n *ℤ step up c a
-v_along up col row k n a c =
-    sym (area_next a (place_on up col row n) c) ∙ u_along up col row k n c a
-    ∙ ap (λ z. z +ℤ far k n *ℤ step up c a) (area_next a (place_on up col row k) c)
+v_along : (pair : Pair) (k n : ℕ) (a c : Place)
+    → area a (place_in pair n) c ≡ area a (place_in pair k) c +ℤ far k n *ℤ step pair.is_up c a
+v_along pair k n a c = grind (arith, signed_linear, area_next, u_along)
 
-w_along : (up : Bool) (col row : ℤ) (k n : ℕ) (a b : Place)
-    → area a b (place_on up col row n) ≡ area a b (place_on up col row k) +ℤ far k n *ℤ step up a b
-w_along up col row k n a b =
-    area_next (place_on up col row n) a b ∙ u_along up col row k n a b
-    ∙ ap (λ z. z +ℤ far k n *ℤ step up a b) (sym (area_next (place_on up col row k) a b))
+w_along : (pair : Pair) (k n : ℕ) (a b : Place)
+    → area a b (place_in pair n) ≡ area a b (place_in pair k) +ℤ far k n *ℤ step pair.is_up a b
+w_along pair k n a b = grind (arith, signed_linear, area_next, u_along)
 
 -- the three add up to the arc's area
 pub middle_of_total : (a b c p : Place) → area a p c ≡ (area a b c -ℤ area p b c) -ℤ area a b p
@@ -241,170 +217,157 @@ arc_areas a b c p u v w e =
     record { first = x; middle = y; total = omega (arith, signed_linear, x, y, z, m) }
 
 -- the gap along a segment, from the place k on, or back from it
-gap_along : (up : Bool) (col row : ℤ) (k n : ℕ) (a b c : Place) → arc_gap a b c (place_on up col row n)
-    ≡ gap_step (area a b c) (area (place_on up col row k) b c) (area a b (place_on up col row k)) (step up b c) (step up a b)
+gap_along : (pair : Pair) (k n : ℕ) (a b c : Place) → arc_gap a b c (place_in pair n)
+    ≡ gap_step (area a b c) (area (place_in pair k) b c) (area a b (place_in pair k)) (step pair.is_up b c) (step pair.is_up a b)
     (far k n)
-gap_along up col row k n a b c =
-    ap (λ v. gap_of (area (place_on up col row n) b c) v (area a b (place_on up col row n)))
-    (middle_of_total a b c (place_on up col row n))
-    ∙ (λ i. gap_in (area a b c) (u_along up col row k n b c i) (w_along up col row k n a b i))
+gap_along pair k n a b c = grind (arith, middle_of_total, gap_in, u_along, w_along)
 
 far_back : (k n : ℕ) (d : ℤ) → far k n *ℤ d ≡ far n k *ℤ neg_ℤ d
 far_back k n d = ring (pos n ∷ pos k ∷ d ∷ []) ((var 0 ⊟ var 1) ⊠ var 2) ((var 1 ⊟ var 0) ⊠ minus (var 2)) tt
 
-gap_back : (up : Bool) (col row : ℤ) (k n : ℕ) (a b c : Place) → arc_gap a b c (place_on up col row n)
-    ≡ gap_step (area a b c) (area (place_on up col row k) b c) (area a b (place_on up col row k)) (neg_ℤ (step up b c))
-    (neg_ℤ (step up a b)) (far n k)
-gap_back up col row k n a b c =
-    gap_along up col row k n a b c
-    ∙ (λ i. gap_in (area a b c) (area (place_on up col row k) b c +ℤ far_back k n (step up b c) i)
-    (area a b (place_on up col row k) +ℤ far_back k n (step up a b) i))
+gap_back : (pair : Pair) (k n : ℕ) (a b c : Place) → arc_gap a b c (place_in pair n)
+    ≡ gap_step (area a b c) (area (place_in pair k) b c) (area a b (place_in pair k)) (neg_ℤ (step pair.is_up b c))
+    (neg_ℤ (step pair.is_up a b)) (far n k)
+gap_back pair k n a b c =
+    gap_along pair k n a b c
+    ∙ (λ i. gap_in (area a b c) (area (place_in pair k) b c +ℤ far_back k n (step pair.is_up b c) i)
+    (area a b (place_in pair k) +ℤ far_back k n (step pair.is_up a b) i))
 
 -- a run whose areas of one kind have one sign at both ends
 sign_along : (x d : ℤ) (k m n : ℕ) → k ≤ n → n ≤ m → HaveOneSign x (x +ℤ far k m *ℤ d) → HaveOneSign x (x +ℤ far k n *ℤ d)
 sign_along x d k m n low high h = linear_sign x d (far k n) (far k m) (omega (arith, signed_linear, low))
     (omega (arith, signed_linear, high)) h
 
-pub v_sign : (up : Bool) (col row : ℤ) (k m n : ℕ) (a c : Place) → k ≤ n → n ≤ m
-    → HaveOneSign (area a (place_on up col row k) c) (area a (place_on up col row m) c)
-    → HaveOneSign (area a (place_on up col row k) c) (area a (place_on up col row n) c)
-v_sign up col row k m n a c low high h =
-    subst (λ z. HaveOneSign (area a (place_on up col row k) c) z) (sym (v_along up col row k n a c))
-    (sign_along (area a (place_on up col row k) c) (step up c a) k m n low high
-    (subst (λ z. HaveOneSign (area a (place_on up col row k) c) z) (v_along up col row k m a c) h))
+pub v_sign : (pair : Pair) (k m n : ℕ) (a c : Place) → k ≤ n → n ≤ m
+    → HaveOneSign (area a (place_in pair k) c) (area a (place_in pair m) c)
+    → HaveOneSign (area a (place_in pair k) c) (area a (place_in pair n) c)
+v_sign pair k m n a c low high h =
+    subst (λ z. HaveOneSign (area a (place_in pair k) c) z) (sym (v_along pair k n a c))
+    (sign_along (area a (place_in pair k) c) (step pair.is_up c a) k m n low high
+    (subst (λ z. HaveOneSign (area a (place_in pair k) c) z) (v_along pair k m a c) h))
 
-u_sign : (up : Bool) (col row : ℤ) (k m n : ℕ) (b c : Place) → k ≤ n → n ≤ m
-    → HaveOneSign (area (place_on up col row k) b c) (area (place_on up col row m) b c)
-    → HaveOneSign (area (place_on up col row k) b c) (area (place_on up col row n) b c)
-u_sign up col row k m n b c low high h =
-    subst (λ z. HaveOneSign (area (place_on up col row k) b c) z) (sym (u_along up col row k n b c))
-    (sign_along (area (place_on up col row k) b c) (step up b c) k m n low high
-    (subst (λ z. HaveOneSign (area (place_on up col row k) b c) z) (u_along up col row k m b c) h))
+u_sign : (pair : Pair) (k m n : ℕ) (b c : Place) → k ≤ n → n ≤ m
+    → HaveOneSign (area (place_in pair k) b c) (area (place_in pair m) b c)
+    → HaveOneSign (area (place_in pair k) b c) (area (place_in pair n) b c)
+u_sign pair k m n b c low high h =
+    subst (λ z. HaveOneSign (area (place_in pair k) b c) z) (sym (u_along pair.is_up pair.here.col pair.here.row k n b c))
+    (sign_along (area (place_in pair k) b c) (step pair.is_up b c) k m n low high
+    (subst (λ z. HaveOneSign (area (place_in pair k) b c) z) (u_along pair.is_up pair.here.col pair.here.row k m b c) h))
 
 below_at : (x y : ℤ) → x ≡ y → y <ℤ pos 0 → x <ℤ pos 0
 below_at x y e h = omega (arith, signed_linear, e, h)
 
-far_one : (k : ℕ) → far k (k + 1) ≡ pos 1
-far_one k = omega (arith, signed_linear)
-
 far_none : (k : ℕ) → far k k ≡ pos 0
 far_none k = omega (arith, signed_linear)
 
--- the gap stays below 0 from the place k on, or back from it, if it does not grow at the next place
-pub below_along : (up : Bool) (col row : ℤ) (k n : ℕ) (a b c : Place) → arc_gap a b c (place_on up col row k) <ℤ pos 0
-    → arc_gap a b c (place_on up col row (k + 1)) ≤ℤ arc_gap a b c (place_on up col row k) → k ≤ n
-    → arc_gap a b c (place_on up col row n) <ℤ pos 0
-below_along up col row k n a b c h l low =
-    let G : ℤ → ℤ =
-    gap_step (area a b c) (area (place_on up col row k) b c) (area a b (place_on up col row k)) (step up b c) (step up a b) in
-    let e0 : arc_gap a b c (place_on up col row k) ≡ G (pos 0) = gap_along up col row k k a b c ∙ ap G (far_none k) in
-    let e1 : arc_gap a b c (place_on up col row (k + 1)) ≡ G (pos 1) = gap_along up col row k (k + 1) a b c ∙ ap G (far_one k) in
-    below_at (arc_gap a b c (place_on up col row n)) (G (far k n)) (gap_along up col row k n a b c)
-    (gap_below (area a b c) (area (place_on up col row k) b c) (area a b (place_on up col row k)) (step up b c) (step up a b)
-    (far k n) (subst (λ z. z <ℤ pos 0) e0 h) (subst (λ (z : ℤ × ℤ). z.0 ≤ℤ z.1) (λ i. (e1 i, e0 i)) l)
-    (omega (arith, signed_linear, low)))
+-- the gap stays below 0 from a place on, in either direction, if it does not grow at the next place
+below_from : (d u w s t z o f g0 g1 g : ℤ) → g0 ≡ gap_step d u w s t z → z ≡ pos 0 → g1 ≡ gap_step d u w s t o → o ≡ pos 1
+    → g ≡ gap_step d u w s t f → g0 <ℤ pos 0 → g1 ≤ℤ g0 → pos 0 ≤ℤ f → g <ℤ pos 0
+below_from d u w s t z o f g0 g1 g e0 none e1 one e h l some =
+    grind (arith, e0, none, e1, one, e, h, l, some, gap_step, below_at, gap_below)
 
-pub below_back : (up : Bool) (col row : ℤ) (k j n : ℕ) (a b c : Place) → arc_gap a b c (place_on up col row k) <ℤ pos 0 → k ≡ j + 1
-    → arc_gap a b c (place_on up col row j) ≤ℤ arc_gap a b c (place_on up col row k) → n ≤ k
-    → arc_gap a b c (place_on up col row n) <ℤ pos 0
-below_back up col row k j n a b c h is l high =
-    let G : ℤ → ℤ =
-    gap_step (area a b c) (area (place_on up col row k) b c) (area a b (place_on up col row k)) (neg_ℤ (step up b c))
-    (neg_ℤ (step up a b)) in
-    let one : far j k ≡ pos 1 = omega (arith, signed_linear, is) in
-    let e0 : arc_gap a b c (place_on up col row k) ≡ G (pos 0) = gap_back up col row k k a b c ∙ ap G (far_none k) in
-    let e1 : arc_gap a b c (place_on up col row j) ≡ G (pos 1) = gap_back up col row k j a b c ∙ ap G one in
-    below_at (arc_gap a b c (place_on up col row n)) (G (far n k)) (gap_back up col row k n a b c)
-    (gap_below (area a b c) (area (place_on up col row k) b c) (area a b (place_on up col row k)) (neg_ℤ (step up b c))
-    (neg_ℤ (step up a b)) (far n k)
-    (subst (λ z. z <ℤ pos 0) e0 h) (subst (λ (z : ℤ × ℤ). z.0 ≤ℤ z.1) (λ i. (e1 i, e0 i)) l) (omega (arith, signed_linear, high)))
+pub below_along : (pair : Pair) (k n : ℕ) (a b c : Place) → arc_gap a b c (place_in pair k) <ℤ pos 0
+    → arc_gap a b c (place_in pair (k + 1)) ≤ℤ arc_gap a b c (place_in pair k) → k ≤ n
+    → arc_gap a b c (place_in pair n) <ℤ pos 0
+below_along pair k n a b c h l low =
+    below_from _ _ _ _ _ (far k k) (far k (k + 1)) (far k n) _ _ _ (gap_along pair k k a b c) (far_none k)
+    (gap_along pair k (k + 1) a b c) (omega (arith, signed_linear)) (gap_along pair k n a b c) h l
+    (omega (arith, signed_linear, low))
+
+pub below_back : (pair : Pair) (k j n : ℕ) (a b c : Place) → arc_gap a b c (place_in pair k) <ℤ pos 0 → k ≡ j + 1
+    → arc_gap a b c (place_in pair j) ≤ℤ arc_gap a b c (place_in pair k) → n ≤ k
+    → arc_gap a b c (place_in pair n) <ℤ pos 0
+below_back pair k j n a b c h is l high =
+    below_from _ _ _ _ _ (far k k) (far j k) (far n k) _ _ _ (gap_back pair k k a b c) (far_none k)
+    (gap_back pair k j a b c) (omega (arith, signed_linear, is)) (gap_back pair k n a b c) h l
+    (omega (arith, signed_linear, high))
 
 above_at : (x y : ℤ) → x ≡ y → pos 0 <ℤ y → pos 0 <ℤ x
 above_at x y e h = omega (arith, signed_linear, e, h)
 
-above_along : (up : Bool) (col row : ℤ) (k m n : ℕ) (a b c : Place) → pos 0 <ℤ arc_gap a b c (place_on up col row k)
-    → pos 0 <ℤ arc_gap a b c (place_on up col row m) → k ≤ n → n ≤ m → k < m → pos 0 <ℤ arc_gap a b c (place_on up col row n)
-above_along up col row k m n a b c h l low high some =
+above_along : (pair : Pair) (k m n : ℕ) (a b c : Place) → pos 0 <ℤ arc_gap a b c (place_in pair k)
+    → pos 0 <ℤ arc_gap a b c (place_in pair m) → k ≤ n → n ≤ m → k < m → pos 0 <ℤ arc_gap a b c (place_in pair n)
+above_along pair k m n a b c h l low high some =
     let G : ℤ → ℤ =
-    gap_step (area a b c) (area (place_on up col row k) b c) (area a b (place_on up col row k)) (step up b c) (step up a b) in
-    let e0 : arc_gap a b c (place_on up col row k) ≡ G (pos 0) = gap_along up col row k k a b c ∙ ap G (far_none k) in
-    above_at (arc_gap a b c (place_on up col row n)) (G (far k n)) (gap_along up col row k n a b c)
-    (gap_above (area a b c) (area (place_on up col row k) b c) (area a b (place_on up col row k)) (step up b c) (step up a b)
-    (far k n) (far k m) (subst (λ z. pos 0 <ℤ z) e0 h) (subst (λ z. pos 0 <ℤ z) (gap_along up col row k m a b c) l)
+    gap_step (area a b c) (area (place_in pair k) b c) (area a b (place_in pair k)) (step pair.is_up b c) (step pair.is_up a b) in
+    let e0 : arc_gap a b c (place_in pair k) ≡ G (pos 0) = gap_along pair k k a b c ∙ ap G (far_none k) in
+    above_at (arc_gap a b c (place_in pair n)) (G (far k n)) (gap_along pair k n a b c)
+    (gap_above (area a b c) (area (place_in pair k) b c) (area a b (place_in pair k)) (step pair.is_up b c) (step pair.is_up a b)
+    (far k n) (far k m) (subst (λ z. pos 0 <ℤ z) e0 h) (subst (λ z. pos 0 <ℤ z) (gap_along pair k m a b c) l)
     (omega (arith, signed_linear, low)) (omega (arith, signed_linear, high)) (omega (arith, signed_linear, some)))
 
 -- ---- a run of places
-side_along : (up : Bool) (col row : ℤ) (k m n : ℕ) (y : ℤ) → k ≤ n → n ≤ m
-    → ¬ (IsPassed y (place_on up col row k).y (place_on up col row m).y)
-    → IsOneSide y (place_on up col row k).y (place_on up col row n).y
-side_along false col row k m n y low high h =
-    one_side y (pos 128 *ℤ row +ℤ pos 64) (pos 128 *ℤ row +ℤ pos 64) (pos 128 *ℤ row +ℤ pos 64) (pos 128 *ℤ row +ℤ pos 64) h
-    (omega (arith, signed_linear)) (omega (arith, signed_linear)) (omega (arith, signed_linear)) (omega (arith, signed_linear))
-side_along true col row k m n y low high h =
-    one_side y ((pos 128 *ℤ row +ℤ pos 64) +ℤ pos k) ((pos 128 *ℤ row +ℤ pos 64) +ℤ pos m) ((pos 128 *ℤ row +ℤ pos 64) +ℤ pos k)
-    ((pos 128 *ℤ row +ℤ pos 64) +ℤ pos n) h
-    (omega (arith, signed_linear)) (omega (arith, signed_linear, low, high)) (omega (arith, signed_linear, low))
-    (omega (arith, signed_linear, high))
+-- neither coordinate of its places falls
+pub heights_along : (up : Bool) (col row : ℤ) (k n : ℕ) → k ≤ n → (place_on up col row k).y ≤ℤ (place_on up col row n).y
+heights_along false col row k n l = omega (arith, signed_linear)
+heights_along true col row k n l = omega (arith, signed_linear, l)
+
+pub height_in_row : (up : Bool) (col row : ℤ) (n : ℕ) → up ≡ false → (place_on up col row n).y ≡ (place_on up col row 0).y
+height_in_row false col row n e = omega (arith, signed_linear)
+height_in_row true col row n e = absurd (clash true e refl)
+
+pub height_rises : (up : Bool) (col row : ℤ) (n : ℕ) → up ≡ true → (place_on up col row n).y ≡ (place_on up col row 0).y +ℤ pos n
+height_rises false col row n e = absurd (clash true (sym e) refl)
+height_rises true col row n e = omega (arith, signed_linear)
+
+pub columns_along : (up : Bool) (col row : ℤ) (k n : ℕ) → k ≤ n → (place_on up col row k).x ≤ℤ (place_on up col row n).x
+columns_along false col row k n l = omega (arith, signed_linear, l)
+columns_along true col row k n l = omega (arith, signed_linear)
+
+side_along : (pair : Pair) (k m n : ℕ) (y : ℤ) → k ≤ n → n ≤ m → ¬ (IsPassed y (place_in pair k).y (place_in pair m).y)
+    → IsOneSide y (place_in pair k).y (place_in pair n).y
+side_along pair k m n y low high h = grind (arith, ints, low, high, h, heights_along, one_side)
 
 before_end : (n m : ℕ) → n < m + 1 → n ≤ m
 before_end n m h = omega (arith, h)
 
-pub line_run : (up : Bool) (col row : ℤ) (k m : ℕ) (a c : Place) (t : ℤ) → IsWithin 1 t
-    → t ≡ chord_crossing a c (place_on up col row k) → IsClear up col row k m (record { a = a; b = None; c = c })
-    → ArePartsTo up col row k (m + 1) (record { a = a; b = None; c = c }) (Some t)
-line_run up col row k m a c t small is h n low high =
+pub line_run : (pair : Pair) (k m : ℕ) (a c : Place) (t : ℤ) → IsWithin 1 t
+    → t ≡ chord_crossing a c (place_in pair k) → IsClear pair k m (record { a = a; b = None; c = c })
+    → IsPartTo pair k (m + 1) (record { a = a; b = None; c = c }) (Some t)
+line_run pair k m a c t small is h n low high =
     let top = before_end n m high in
-    line_part a c (place_on up col row k) (place_on up col row n) t small is (side_along up col row k m n a.y low top h.start)
-    (side_along up col row k m n c.y low top h.end) (v_sign up col row k m n a c low top h.side)
+    line_part a c (place_in pair k) (place_in pair n) t small is (side_along pair k m n a.y low top h.start)
+    (side_along pair k m n c.y low top h.end) (v_sign pair k m n a c low top h.side)
 
 -- an arc off which the places are, and whose region counts one number at them
-arc_run : (up : Bool) (col row : ℤ) (k m : ℕ) (a b c : Place) (t g : ℤ) → IsWithin 2 t
-    → t ≡ chord_crossing a c (place_on up col row k) +ℤ g → IsClear up col row k m (record { a = a; b = Some b; c = c })
-    → ((n : ℕ) → k ≤ n → n ≤ m → (¬ (IsOnPart a (Some b) c (place_on up col row n))) ×
-    (region_part a (Some b) c (place_on up col row n) ≡ g))
-    → ArePartsTo up col row k (m + 1) (record { a = a; b = Some b; c = c }) (Some t)
-arc_run up col row k m a b c t g small is h all n low high =
+arc_run : (pair : Pair) (k m : ℕ) (a b c : Place) (t g : ℤ) → IsWithin 2 t
+    → t ≡ chord_crossing a c (place_in pair k) +ℤ g → IsClear pair k m (record { a = a; b = Some b; c = c })
+    → ((n : ℕ) → k ≤ n → n ≤ m → (¬ (IsOnPart a (Some b) c (place_in pair n))) ×
+    (region_part a (Some b) c (place_in pair n) ≡ g))
+    → IsPartTo pair k (m + 1) (record { a = a; b = Some b; c = c }) (Some t)
+arc_run pair k m a b c t g small is h all n low high =
     let top = before_end n m high in
     let here = all n low top in
-    arc_part a b c (place_on up col row k) (place_on up col row n) t g small is (side_along up col row k m n a.y low top h.start)
-    (side_along up col row k m n c.y low top h.end) (v_sign up col row k m n a c low top h.side) here.0 here.1
+    arc_part a b c (place_in pair k) (place_in pair n) t g small is (side_along pair k m n a.y low top h.start)
+    (side_along pair k m n c.y low top h.end) (v_sign pair k m n a c low top h.side) here.0 here.1
 
 -- the chord alone
 chord_alone : (t x : ℤ) → IsWithin 1 t → t ≡ x → IsWithin 2 t × (t ≡ x +ℤ pos 0)
-chord_alone t x small is = (
-  (omega (arith, signed_linear, small), omega (arith, signed_linear, small)),
-  omega (arith, signed_linear, is),
-)
+chord_alone t x small is = grind (arith, small, is)
 
 -- a number that has one sign with another that has one sign with a third
 same_sign : (d x y : ℤ) → HaveOneSign d x → HaveOneSign x y → HaveOneSign d y
-same_sign d x y (inl a) (inl b) = inl (a.0, b.1)
-same_sign d x y (inl a) (inr b) = absurd (let m = a.1 in let n = b.0 in omega (arith, signed_linear, m, n))
-same_sign d x y (inr a) (inl b) = absurd (let m = a.1 in let n = b.0 in omega (arith, signed_linear, m, n))
-same_sign d x y (inr a) (inr b) = inr (a.0, b.1)
+same_sign d x y h k = grind (arith, signed_linear, h, k)
 
 other_sign : (d x y : ℤ) → HaveOneSign x y → ¬ (HaveOneSign d x) → ¬ (HaveOneSign d y)
-other_sign d x y (inl k) n (inl l) = n (inl (l.0, k.0))
-other_sign d x y (inl k) n (inr l) = let a = k.1 in let b = l.1 in omega (arith, signed_linear, a, b)
-other_sign d x y (inr k) n (inl l) = let a = k.1 in let b = l.1 in omega (arith, signed_linear, a, b)
-other_sign d x y (inr k) n (inr l) = n (inr (l.0, k.0))
+other_sign d x y h n k = grind (arith, signed_linear, h, n, k)
 
-pub beyond_run : (up : Bool) (col row : ℤ) (k m : ℕ) (a b c : Place) (t : ℤ) → IsWithin 1 t
-    → t ≡ chord_crossing a c (place_on up col row k)
-    → IsClear up col row k m (record { a = a; b = Some b; c = c })
-    → ¬ (HaveOneSign (area a b c) (area a (place_on up col row k) c))
-    → ArePartsTo up col row k (m + 1) (record { a = a; b = Some b; c = c }) (Some t)
-beyond_run up col row k m a b c t small is h other =
-    let alone = chord_alone t (chord_crossing a c (place_on up col row k)) small is in
-    arc_run up col row k m a b c t (pos 0) alone.0 alone.1 h all
+pub beyond_run : (pair : Pair) (k m : ℕ) (a b c : Place) (t : ℤ) → IsWithin 1 t
+    → t ≡ chord_crossing a c (place_in pair k)
+    → IsClear pair k m (record { a = a; b = Some b; c = c })
+    → ¬ (HaveOneSign (area a b c) (area a (place_in pair k) c))
+    → IsPartTo pair k (m + 1) (record { a = a; b = Some b; c = c }) (Some t)
+beyond_run pair k m a b c t small is h other =
+    let alone = chord_alone t (chord_crossing a c (place_in pair k)) small is in
+    arc_run pair k m a b c t (pos 0) alone.0 alone.1 h all
   where
-    all : (n : ℕ) → k ≤ n → n ≤ m → (¬ (IsOnPart a (Some b) c (place_on up col row n))) ×
-        (region_part a (Some b) c (place_on up col row n) ≡ pos 0)
+    all : (n : ℕ) → k ≤ n → n ≤ m → (¬ (IsOnPart a (Some b) c (place_in pair n))) ×
+        (region_part a (Some b) c (place_in pair n) ≡ pos 0)
     all n low high =
-        let sign = v_sign up col row k m n a c low high h.side in
-        let apart = (not_none (area a (place_on up col row k) c) (area a (place_on up col row n) c) sign).1 in
-        let none = other_sign (area a b c) (area a (place_on up col row k) c) (area a (place_on up col row n) c) sign other in
-        (beyond_off a b c (place_on up col row n) apart none, beyond_region a b c (place_on up col row n) apart none)
+        let sign = v_sign pair k m n a c low high h.side in
+        let apart = (not_none (area a (place_in pair k) c) (area a (place_in pair n) c) sign).1 in
+        let none = other_sign (area a b c) (area a (place_in pair k) c) (area a (place_in pair n) c) sign other in
+        (beyond_off a b c (place_in pair n) apart none, beyond_region a b c (place_in pair n) apart none)
 
 below_apart : (x : ℤ) → x <ℤ pos 0 → x ≢ pos 0
 below_apart x h e = omega (arith, signed_linear, h, e)
@@ -412,109 +375,113 @@ below_apart x h e = omega (arith, signed_linear, h, e)
 above_apart : (x : ℤ) → pos 0 <ℤ x → x ≢ pos 0
 above_apart x h e = omega (arith, signed_linear, h, e)
 
-pub without_run : (up : Bool) (col row : ℤ) (k m : ℕ) (a b c : Place) (t : ℤ) → IsWithin 1 t
-    → t ≡ chord_crossing a c (place_on up col row k)
-    → IsClear up col row k m (record { a = a; b = Some b; c = c })
-    → HaveOneSign (area a b c) (area a (place_on up col row k) c)
-    → ((n : ℕ) → k ≤ n → n ≤ m → arc_gap a b c (place_on up col row n) <ℤ pos 0)
-    → ArePartsTo up col row k (m + 1) (record { a = a; b = Some b; c = c }) (Some t)
-without_run up col row k m a b c t small is h bent gap =
-    let alone = chord_alone t (chord_crossing a c (place_on up col row k)) small is in
-    arc_run up col row k m a b c t (pos 0) alone.0 alone.1 h all
+pub without_run : (pair : Pair) (k m : ℕ) (a b c : Place) (t : ℤ) → IsWithin 1 t
+    → t ≡ chord_crossing a c (place_in pair k)
+    → IsClear pair k m (record { a = a; b = Some b; c = c })
+    → HaveOneSign (area a b c) (area a (place_in pair k) c)
+    → ((n : ℕ) → k ≤ n → n ≤ m → arc_gap a b c (place_in pair n) <ℤ pos 0)
+    → IsPartTo pair k (m + 1) (record { a = a; b = Some b; c = c }) (Some t)
+without_run pair k m a b c t small is h bent gap =
+    let alone = chord_alone t (chord_crossing a c (place_in pair k)) small is in
+    arc_run pair k m a b c t (pos 0) alone.0 alone.1 h all
   where
-    all : (n : ℕ) → k ≤ n → n ≤ m → (¬ (IsOnPart a (Some b) c (place_on up col row n))) ×
-        (region_part a (Some b) c (place_on up col row n) ≡ pos 0)
+    all : (n : ℕ) → k ≤ n → n ≤ m → (¬ (IsOnPart a (Some b) c (place_in pair n))) ×
+        (region_part a (Some b) c (place_in pair n) ≡ pos 0)
     all n low high =
-        let P = place_on up col row n in
+        let P = place_in pair n in
         let g = gap n low high in
-        let apart = (not_none (area a (place_on up col row k) c) (area a P c) (v_sign up col row k m n a c low high h.side)).1 in (
+        let apart = (not_none (area a (place_in pair k) c) (area a P c) (v_sign pair k m n a c low high h.side)).1 in (
           gap_off a b c P apart (below_apart (arc_gap a b c P) g),
-          without_region a b c P (not_none (area a b c) (area a (place_on up col row k) c) bent).0 apart g,
+          without_region a b c P (not_none (area a b c) (area a (place_in pair k) c) bent).0 apart g,
         )
 
-pub within_run : (up : Bool) (col row : ℤ) (k m : ℕ) (a b c : Place) (t : ℤ) → IsWithin 2 t
-    → t ≡ chord_crossing a c (place_on up col row k) +ℤ region_part a (Some b) c (place_on up col row k) → k < m
-    → IsClear up col row k m (record { a = a; b = Some b; c = c })
-    → HaveOneSign (area a b c) (area a (place_on up col row k) c)
-    → HaveOneSign (area a b c) (area (place_on up col row k) b c)
-    → HaveOneSign (area (place_on up col row k) b c) (area (place_on up col row m) b c)
-    → pos 0 <ℤ arc_gap a b c (place_on up col row k) → pos 0 <ℤ arc_gap a b c (place_on up col row m)
-    → ArePartsTo up col row k (m + 1) (record { a = a; b = Some b; c = c }) (Some t)
-within_run up col row k m a b c t small is some h bent inner us gk gm =
-    let first = (all k (omega arith) (omega (arith, some))).1 in
-    arc_run up col row k m a b c t (sign (area a b c)) small (omega (arith, signed_linear, is, first)) h all
+pub within_run : (pair : Pair) (k m : ℕ) (a b c : Place) (t : ℤ) → IsWithin 2 t
+    → t ≡ chord_crossing a c (place_in pair k) +ℤ sign (area a b c) → k < m
+    → IsClear pair k m (record { a = a; b = Some b; c = c })
+    → HaveOneSign (area a b c) (area a (place_in pair k) c)
+    → HaveOneSign (area a b c) (area (place_in pair k) b c)
+    → HaveOneSign (area (place_in pair k) b c) (area (place_in pair m) b c)
+    → pos 0 <ℤ arc_gap a b c (place_in pair k) → pos 0 <ℤ arc_gap a b c (place_in pair m)
+    → IsPartTo pair k (m + 1) (record { a = a; b = Some b; c = c }) (Some t)
+within_run pair k m a b c t small is some h bent inner us gk gm =
+    arc_run pair k m a b c t (sign (area a b c)) small is h all
   where
-    all : (n : ℕ) → k ≤ n → n ≤ m → (¬ (IsOnPart a (Some b) c (place_on up col row n))) ×
-        (region_part a (Some b) c (place_on up col row n) ≡ sign (area a b c))
+    all : (n : ℕ) → k ≤ n → n ≤ m → (¬ (IsOnPart a (Some b) c (place_in pair n))) ×
+        (region_part a (Some b) c (place_in pair n) ≡ sign (area a b c))
     all n low high =
-        let P = place_on up col row n in
-        let side = v_sign up col row k m n a c low high h.side in
-        let g = above_along up col row k m n a b c gk gm low high some in (
-          gap_off a b c P (not_none (area a (place_on up col row k) c) (area a P c) side).1 (above_apart (arc_gap a b c P) g),
+        let P = place_in pair n in
+        let side = v_sign pair k m n a c low high h.side in
+        let g = above_along pair k m n a b c gk gm low high some in (
+          gap_off a b c P (not_none (area a (place_in pair k) c) (area a P c) side).1 (above_apart (arc_gap a b c P) g),
           within_region a b c P
-              (same_sign (area a b c) (area (place_on up col row k) b c) (area P b c) inner
-              (u_sign up col row k m n b c low high us))
-              (same_sign (area a b c) (area a (place_on up col row k) c) (area a P c) bent side) g,
+              (same_sign (area a b c) (area (place_in pair k) b c) (area P b c) inner
+              (u_sign pair k m n b c low high us))
+              (same_sign (area a b c) (area a (place_in pair k) c) (area a P c) bent side) g,
         )
 
--- ---- a piece to one side of a box
+-- ---- a piece to one side of all places
 none_part : (r : Place) (s : Span) → (crossing r s ≡ pos 0) × (region r s ≡ pos 0) × (¬ (IsOn r s)) → IsPart r s (Some (pos 0))
 none_part r s n =
     ((omega (arith, signed_linear), omega (arith, signed_linear)), sym (λ t. n.0 t +ℤ n.1 t), n.2)
 
-pub below_part : (p q : Place) (s : Span) → HasAll (λ e. q.y <ℤ e.y) s → IsPartIn p q s (pos 0)
-below_part p q s h r b = none_part r s (under_off r s (HasAll-weaker (λ e. q.y <ℤ e.y) (λ e. r.y <ℤ e.y)
-    (λ e l. let t = b.high in omega (arith, signed_linear, l, t)) s h))
+pub below_part : (q r : Place) (s : Span) → r.y ≤ℤ q.y → HasAll (λ e. q.y <ℤ e.y) s → IsPart r s (Some (pos 0))
+below_part q r s t h = none_part r s (under_off r s (HasAll-weaker (λ e. q.y <ℤ e.y) (λ e. r.y <ℤ e.y)
+    (λ e l. omega (arith, signed_linear, l, t)) s h))
 
-pub above_part : (p q : Place) (s : Span) → HasAll (λ e. e.y <ℤ p.y) s → IsPartIn p q s (pos 0)
-above_part p q s h r b = none_part r s (over_off r s (HasAll-weaker (λ e. e.y <ℤ p.y) (λ e. e.y <ℤ r.y)
-    (λ e l. let t = b.low in omega (arith, signed_linear, l, t)) s h))
+pub above_part : (p r : Place) (s : Span) → p.y ≤ℤ r.y → HasAll (λ e. e.y <ℤ p.y) s → IsPart r s (Some (pos 0))
+above_part p r s t h = none_part r s (over_off r s (HasAll-weaker (λ e. e.y <ℤ p.y) (λ e. e.y <ℤ r.y)
+    (λ e l. omega (arith, signed_linear, l, t)) s h))
 
-pub right_part : (p q : Place) (s : Span) → HasAll (λ e. e.x <ℤ p.x) s → IsPartIn p q s (pos 0)
-right_part p q s h r b =
+pub right_part : (p r : Place) (s : Span) → p.x ≤ℤ r.x → HasAll (λ e. e.x <ℤ p.x) s → IsPart r s (Some (pos 0))
+right_part p r s t h =
     ((omega (arith, signed_linear), omega (arith, signed_linear)), sym (right_of_all r s left), (right_off r s left).1)
   where
     left : HasAll (λ e. e.x <ℤ r.x) s
-    left = HasAll-weaker (λ e. e.x <ℤ p.x) (λ e. e.x <ℤ r.x) (λ e l. let t = b.left in omega (arith, signed_linear, l, t)) s h
+    left = HasAll-weaker (λ e. e.x <ℤ p.x) (λ e. e.x <ℤ r.x) (λ e l. omega (arith, signed_linear, l, t)) s h
 
-above_same : (y p r : ℤ) → ((y ≤ℤ p) × (y ≤ℤ r)) ⊎ ((p <ℤ y) × (r <ℤ y)) → above r y ≡ above p y
-above_same y p r h = grind (arith, ints)
+-- left of all points of a piece: its parts by the heights of its ends, as numbers of places below these
+between : (n a c : ℕ) (y ay cy : ℤ) → (n < a) ↔ (y <ℤ ay) → (n < c) ↔ (y <ℤ cy)
+    → (a ≤ n → n < c → above y cy -ℤ above y ay ≡ pos 1) × (c ≤ n → n < a → above y cy -ℤ above y ay ≡ negsuc 0)
+    × ((n < a) × (n < c) ⊎ ((a ≤ n) × (c ≤ n)) → above y cy -ℤ above y ay ≡ pos 0)
+between n a c y ay cy h k = (λ l m. grind (arith, ints), λ l m. grind (arith, ints), λ o. grind (arith, ints))
 
-above_small : (y h : ℤ) → (pos 0 ≤ℤ above y h) × (above y h ≤ℤ pos 1)
-above_small y h = (grind (arith, ints), grind (arith, ints))
-
-pub left_part : (p q : Place) (s : Span) → p.y ≤ℤ q.y → HasAll (λ e. q.x <ℤ e.x) s → ¬ (IsPassed s.a.y p.y q.y)
-    → ¬ (IsPassed s.c.y p.y q.y) → IsPartIn p q s (above p.y s.c.y -ℤ above p.y s.a.y)
-left_part p q s l h m n r b =
-    let x = above_small p.y s.c.y in
-    let y = above_small p.y s.a.y in (
-      (omega (arith, signed_linear, x, y), omega (arith, signed_linear, x, y)),
-      sym (left_of_all r s right
-          ∙ (λ i. above_same s.c.y p.y r.y (side s.c.y n).both i -ℤ above_same s.a.y p.y r.y (side s.a.y m).both i)),
-      (left_off r s right).1,
-    )
+left_part : (q r : Place) (s : Span) (t : ℤ) → r.x ≤ℤ q.x → HasAll (λ e. q.x <ℤ e.x) s → IsWithin 2 t
+    → above r.y s.c.y -ℤ above r.y s.a.y ≡ t → IsPart r s (Some t)
+left_part q r s t l h small e = (small, sym (left_of_all r s right ∙ e), (left_off r s right).1)
   where
     right : HasAll (λ e. r.x <ℤ e.x) s
-    right = HasAll-weaker (λ e. q.x <ℤ e.x) (λ e. r.x <ℤ e.x) (λ e l. let t = b.right in omega (arith, signed_linear, l, t)) s h
+    right = HasAll-weaker (λ e. q.x <ℤ e.x) (λ e. r.x <ℤ e.x) (λ e k. omega (arith, signed_linear, l, k)) s h
 
-    side : (y : ℤ) → ¬ (IsPassed y p.y q.y) → IsOneSide y p.y r.y
-    side y k = one_side y p.y q.y p.y r.y k (omega (arith, signed_linear)) l b.low b.high
+pub left_joined : (pair : Pair) (n a c : ℕ) (s : Span) (old new : ℤ) → n < 128 → HasAll (λ e. (place_in pair 127).x <ℤ e.x) s
+    → (n < a) ↔ ((place_in pair n).y <ℤ s.a.y) → (n < c) ↔ ((place_in pair n).y <ℤ s.c.y)
+    → (a ≤ n → n < c → new ≡ old +ℤ pos 1) → (c ≤ n → n < a → new ≡ old +ℤ negsuc 0)
+    → ((n < a) × (n < c) ⊎ ((a ≤ n) × (c ≤ n)) → new ≡ old) → IsJoined (place_in pair n) s old new
+left_joined pair n a c s old new l right h k rise fall none = by (below_or_not n a) (below_or_not n c)
+  where
+    turns : let y = (place_in pair n).y in (a ≤ n → n < c → above y s.c.y -ℤ above y s.a.y ≡ pos 1)
+        × (c ≤ n → n < a → above y s.c.y -ℤ above y s.a.y ≡ negsuc 0)
+        × ((n < a) × (n < c) ⊎ ((a ≤ n) × (c ≤ n)) → above y s.c.y -ℤ above y s.a.y ≡ pos 0)
+    turns = between n a c (place_in pair n).y s.a.y s.c.y h k
 
--- ---- the box of the places of a run
-pub in_box : (up : Bool) (col row : ℤ) (k m n : ℕ) → k ≤ n → n ≤ m
-    → IsInBox (place_on up col row k) (place_on up col row m) (place_on up col row n)
-in_box false col row k m n l h = record {
-  left = omega (arith, signed_linear, l);
-  right = omega (arith, signed_linear, h);
-  low = omega (arith, signed_linear);
-  high = omega (arith, signed_linear);
-}
-in_box true col row k m n l h = record {
-  left = omega (arith, signed_linear);
-  right = omega (arith, signed_linear);
-  low = omega (arith, signed_linear, l);
-  high = omega (arith, signed_linear, h);
-}
+    part : (t : ℤ) → IsWithin 2 t → above (place_in pair n).y s.c.y -ℤ above (place_in pair n).y s.a.y ≡ t → new ≡ old +ℤ t
+        → IsJoined (place_in pair n) s old new
+    part t small e sum = record {
+      part = Some t;
+      is = left_part (place_in pair 127) (place_in pair n) s t
+          (columns_along pair.is_up pair.here.col pair.here.row n 127 (omega (arith, l))) right small e;
+      sum = sum;
+    }
+
+    zero_part : (n < a) × (n < c) ⊎ ((a ≤ n) × (c ≤ n)) → IsJoined (place_in pair n) s old new
+    zero_part o =
+        let e = none o in
+        part (pos 0) (omega (arith, signed_linear), omega (arith, signed_linear)) (turns.2 o) (omega (arith, signed_linear, e))
+
+    by : (n < a) ⊎ (a ≤ n) → (n < c) ⊎ (c ≤ n) → IsJoined (place_in pair n) s old new
+    by (inl x) (inl y) = zero_part (inl (x, y))
+    by (inr x) (inr y) = zero_part (inr (x, y))
+    by (inr x) (inl y) = part (pos 1) (omega (arith, signed_linear), omega (arith, signed_linear)) (turns.0 x y) (rise x y)
+    by (inl x) (inr y) = part (negsuc 0) (omega (arith, signed_linear), omega (arith, signed_linear)) (turns.1 y x) (fall y x)
 
 -- a number that a piece adds, as the code has it
 pub part_as_stored : (p : Place) (s : Span) (t : ℤ) → IsPart p s (Some t) → IsPart p s (Some (to_z w32 (of_z w32 t)))
@@ -523,19 +490,11 @@ part_as_stored p s t part =
     let word : to_z w32 (of_z w32 t) ≡ t = omega (arith, signed_linear, size) in
     subst (λ z. IsPart p s (Some z)) (sym word) part
 
--- a piece that adds one number in the box of a run
-pub part_in_run : (up : Bool) (col row : ℤ) (k m : ℕ) (p q : Place) (s : Span) (t : ℤ) → p ≡ place_on up col row k
-    → q ≡ place_on up col row m → IsPartIn p q s t → (n : ℕ) → k ≤ n → n ≤ m
-    → IsPart (place_on up col row n) s (Some (to_z w32 (of_z w32 t)))
-part_in_run up col row k m p q s t e f h n low high =
-    part_as_stored (place_on up col row n) s t (h (place_on up col row n) (subst (λ (z : Place × Place).
-    IsInBox z.0 z.1 (place_on up col row n)) (λ i. (sym e i, sym f i)) (in_box up col row k m n low high)))
-
 -- one place alone
-pub part_alone : (up : Bool) (col row : ℤ) (n : ℕ) (s : Span) (v : Option ℤ) → IsPart (place_on up col row n) s v
-    → ArePartsTo up col row n (n + 1) s v
-part_alone up col row n s v h k low high =
-    let is : n ≡ k = omega (arith, low, high) in subst (λ (m : ℕ). IsPart (place_on up col row m) s v) is h
+pub part_alone : (pair : Pair) (n : ℕ) (s : Span) (v : Option ℤ) → IsPart (place_in pair n) s v
+    → IsPartTo pair n (n + 1) s v
+part_alone pair n s v h k low high =
+    let is : n ≡ k = omega (arith, low, high) in subst (λ (m : ℕ). IsPart (place_in pair m) s v) is h
 
 -- ---- coordinates and areas as words
 pub coordinate_word : (x : ℤ) → IsWithin 4194304 x → to_z w32 (of_z w32 x) ≡ x
@@ -550,12 +509,7 @@ area_wider x h = (omega (arith, signed_linear, h), omega (arith, signed_linear, 
 -- a test whether an end is passed has failed
 pub not_passed : (x : Bool) (end p q : Point) → (IsTrue x ↔ IsPassed (to_z w32 (of_z w32 end.y)) (to_z w32 (of_z w32 p.y))
     (to_z w32 (of_z w32 q.y))) → x ≡ false → ¬ (IsPassed end.y p.y q.y)
-not_passed x end p q h f k = clash x f (h.1 (subst (λ (z : ℤ × ℤ × ℤ). IsPassed z.0 z.1 z.2)
-    (λ i. (
-      sym (coordinate_word end.y end.near_y) i,
-      sym (coordinate_word p.y p.near_y) i,
-      sym (coordinate_word q.y q.near_y) i,
-    )) k))
+not_passed x end p q h f k = grind (arith, h, f, k, clash, coordinate_word)
 
 -- the areas of a place with a piece's ends
 part_middle : (a : Place) (b : Option Place) (c p : Place) → (areas_of_part a b c p).1 ≡ area a p c

@@ -1,7 +1,8 @@
--- What drop-out control sets.
+-- Between neighbours that drop-out control leaves unset no piece passes (`bridged_no_gap`), and what it sets moves (`set_moved`).
 -- Serves the laws of this crate, and the law `bridged` of fx_raster.
-use Rattle.std.proofs.Common.{◌≡◌, ◌⊎◌, ◌↔◌, inl, inr, refl, sym, subst, ℕ, ◌+◌, ℤ, pos, ◌+ℤ◌, ◌-ℤ◌, Bool, true, false, List, map, Any, arith}
+use Rattle.std.proofs.Common.{◌≡◌, ◌⊎◌, ◌↔◌, inl, inr, refl, sym, subst, ℕ, ℤ, pos, ◌+ℤ◌, ◌-ℤ◌, Bool, true, false, List, map, Any, arith}
 use Rattle.std.specs.List.Sorted.{IsPermutation}
+use Rattle.std.proofs.Math.Logic.{⊎_map}
 use Rattle.std.proofs.lemmas.List.Sorted.{IsPermutation-sym}
 use Rattle.fx_fixed.proofs.Linear.{signed_linear}
 use Rattle.fx_winding.specs.declared.frame.Frame.{Frame}
@@ -16,7 +17,7 @@ use Rattle.fx_winding.proofs.Meeting.{reversal_meets}
 use Rattle.fx_winding.proofs.Reversal.{reversal_keeps_cover}
 use Rattle.fx_dropout.specs.declared.chooser.Closing.{Closing}
 use Rattle.fx_dropout.specs.declared.chooser.Closing.TheVariants.{Lower, Nearer}
-use Rattle.fx_dropout.specs.Dropout.{IsGap, IsCount, IsNextChosen, IsNextNearer, IsBridged, IsRowSet, IsRowSetIn, IsSet, IsSetIn, IsClosedByLeft, IsClosedByRight, place_on}
+use Rattle.fx_dropout.specs.Dropout.{IsGap, IsNextChosen, IsNextNearer, IsBridged, IsRowSet, IsRowSetIn, IsSet, IsSetIn, IsClosedByLeft, IsClosedByRight, place_on}
 use Rattle.fx_dropout.proofs.Counts.{count_iff}
 use Rattle.fx_dropout.specs.Laws.{DropoutAdds, RowsHaveNoGap, ColumnsHaveNoGap, ReversalKeepsSet}
 
@@ -49,12 +50,7 @@ bridged_no_gap ss In Near So i j h n m a = by h
     by (inr l) = not_right l (inr left)
 
 pub dropout_adds : DropoutAdds
-dropout_adds closing ss f i j = (λ c. inl (inl c), λ s. within s)
-  where
-    within : IsSet closing ss f i j → IsCovered (centre i j) ss ⊎ IsInFrame f i j
-    within (inl (inl c)) = inl c
-    within (inl (inr b)) = inr b.inside
-    within (inr b) = inr b.inside
+dropout_adds closing ss f i j = grind (arith, closing, ss, f, i, j)
 
 pub rows_have_no_gap : RowsHaveNoGap
 rows_have_no_gap closing ss f i j h n m a =
@@ -72,19 +68,7 @@ columns_have_no_gap closing ss f i j h n m a =
 pub nearer_along : (up : Bool) (ss ts : List Span) (col row i j : ℤ)
     → ((n : ℕ) → IsCovered (place_on up col row n) ss ↔ IsCovered (place_on up i j n) ts) → IsNextNearer up ss col row
     → IsNextNearer up ts i j
-nearer_along up ss ts col row i j e h = record {
-  here = h.here;
-  next = h.next;
-  first_half = half 1 h.here h.first_half;
-  second_half = half 65 h.next h.second_half;
-  more = h.more;
-}
-  where
-    half : (m count : ℕ) → IsCount (λ n. IsCovered (place_on up col row (n + m)) ss) 63 count
-        → IsCount (λ n. IsCovered (place_on up i j (n + m)) ts) 63 count
-    half m count =
-        count_iff (λ n. IsCovered (place_on up col row (n + m)) ss) (λ n. IsCovered (place_on up i j (n + m)) ts) 63 count
-        (λ n below. e (n + m))
+nearer_along up ss ts col row i j e h = grind (arith, e, h, count_iff)
 
 pub chosen_along : (closing : Closing) (up : Bool) (ss ts : List Span) (col row i j : ℤ)
     → ((n : ℕ) → IsCovered (place_on up col row n) ss ↔ IsCovered (place_on up i j n) ts) → IsNextChosen closing up ss col row
@@ -110,54 +94,42 @@ closed_moved m n after before ss ts In To Near Far So At inside near so gap =
     record { back = λ i j b. from i j b; on = λ i j b. to i j b }
   where
     left_back : (i j : ℤ) → IsClosedByLeft ts To Far At (m i) (n j) → IsClosedByLeft ss In Near So i j
-    left_back i j c = record { gap = gap.back i j c.gap; chosen = by c.chosen }
-      where
-        by : ¬ (Far (m i) (n j)) ⊎ ¬ (To (m i +ℤ pos 1) (n j)) → ¬ (Near i j) ⊎ ¬ (In (i +ℤ pos 1) j)
-        by (inl k) = inl (λ h. k (near.on i j h))
-        by (inr k) = inr (λ h. k (subst (λ z. To z (n j)) (after i) (inside.on (i +ℤ pos 1) j h)))
+    left_back i j c = record {
+      gap = gap.back i j c.gap;
+      chosen = ⊎_map (λ k h. k (near.on i j h))
+          (λ k h. k (subst (λ z. To z (n j)) (after i) (inside.on (i +ℤ pos 1) j h))) c.chosen;
+    }
 
     left_on : (i j : ℤ) → IsClosedByLeft ss In Near So i j → IsClosedByLeft ts To Far At (m i) (n j)
-    left_on i j c = record { gap = gap.on i j c.gap; chosen = by c.chosen }
-      where
-        by : ¬ (Near i j) ⊎ ¬ (In (i +ℤ pos 1) j) → ¬ (Far (m i) (n j)) ⊎ ¬ (To (m i +ℤ pos 1) (n j))
-        by (inl k) = inl (λ h. k (near.back i j h))
-        by (inr k) = inr (λ h. k (inside.back (i +ℤ pos 1) j (subst (λ z. To z (n j)) (sym (after i)) h)))
+    left_on i j c = record {
+      gap = gap.on i j c.gap;
+      chosen = ⊎_map (λ k h. k (near.back i j h))
+          (λ k h. k (inside.back (i +ℤ pos 1) j (subst (λ z. To z (n j)) (sym (after i)) h))) c.chosen;
+    }
 
     right_back : (i j : ℤ) → IsClosedByRight ts To Far At (m i) (n j) → IsClosedByRight ss In Near So i j
-    right_back i j c = record { gap = gap.back i j c.gap; chosen = by c.chosen }
-      where
-        by : Far (m i) (n j) ⊎ ¬ (To (m i) (n j)) → Near i j ⊎ ¬ (In i j)
-        by (inl h) = inl (near.back i j h)
-        by (inr k) = inr (λ h. k (inside.on i j h))
+    right_back i j c =
+        record { gap = gap.back i j c.gap; chosen = ⊎_map (near.back i j) (λ k h. k (inside.on i j h)) c.chosen }
 
     right_on : (i j : ℤ) → IsClosedByRight ss In Near So i j → IsClosedByRight ts To Far At (m i) (n j)
-    right_on i j c = record { gap = gap.on i j c.gap; chosen = by c.chosen }
-      where
-        by : Near i j ⊎ ¬ (In i j) → Far (m i) (n j) ⊎ ¬ (To (m i) (n j))
-        by (inl h) = inl (near.on i j h)
-        by (inr k) = inr (λ h. k (inside.back i j h))
+    right_on i j c = record { gap = gap.on i j c.gap; chosen = ⊎_map (near.on i j) (λ k h. k (inside.back i j h)) c.chosen }
 
     from : (i j : ℤ) → IsBridged ts To Far At (m i) (n j) → IsBridged ss In Near So i j
-    from i j (inl s) = inl (so.back i j s)
-    from i j (inr b) = inr (record { inside = inside.back i j b.inside; closes = by b.closes })
-      where
-        by : IsClosedByLeft ts To Far At (m i) (n j) ⊎ IsClosedByRight ts To Far At (m i -ℤ pos 1) (n j)
-            → IsClosedByLeft ss In Near So i j ⊎ IsClosedByRight ss In Near So (i -ℤ pos 1) j
-        by (inl c) = inl (left_back i j c)
-        by (inr c) = inr (right_back (i -ℤ pos 1) j
-            (subst (λ z. IsClosedByRight ts To Far At z (n j)) (sym (before i)) c))
+    from i j = ⊎_map (so.back i j) (λ b. record {
+      inside = inside.back i j b.inside;
+      closes = ⊎_map (left_back i j)
+          (λ c. right_back (i -ℤ pos 1) j (subst (λ z. IsClosedByRight ts To Far At z (n j)) (sym (before i)) c)) b.closes;
+    })
 
     to : (i j : ℤ) → IsBridged ss In Near So i j → IsBridged ts To Far At (m i) (n j)
-    to i j (inl s) = inl (so.on i j s)
-    to i j (inr b) = inr (record { inside = inside.on i j b.inside; closes = by b.closes })
-      where
-        by : IsClosedByLeft ss In Near So i j ⊎ IsClosedByRight ss In Near So (i -ℤ pos 1) j
-            → IsClosedByLeft ts To Far At (m i) (n j) ⊎ IsClosedByRight ts To Far At (m i -ℤ pos 1) (n j)
-        by (inl c) = inl (left_on i j c)
-        by (inr c) = inr (subst (λ z. IsClosedByRight ts To Far At z (n j)) (before i) (right_on (i -ℤ pos 1) j c))
+    to i j = ⊎_map (so.on i j) (λ b. record {
+      inside = inside.on i j b.inside;
+      closes = ⊎_map (left_on i j)
+          (λ c. subst (λ z. IsClosedByRight ts To Far At z (n j)) (before i) (right_on (i -ℤ pos 1) j c)) b.closes;
+    })
 
 -- where what is met is moved, the gaps are
-pub bridged_moved : (m n : ℤ → ℤ) → ((i : ℤ) → m (i +ℤ pos 1) ≡ m i +ℤ pos 1) → ((i : ℤ) → m (i -ℤ pos 1) ≡ m i -ℤ pos 1)
+bridged_moved : (m n : ℤ → ℤ) → ((i : ℤ) → m (i +ℤ pos 1) ≡ m i +ℤ pos 1) → ((i : ℤ) → m (i -ℤ pos 1) ≡ m i -ℤ pos 1)
     → (ss ts : List Span) (In To Near Far So At : ℤ → ℤ → Type 0) → IsMoved m n In To → IsMoved m n Near Far
     → IsMoved m n So At → IsMoved m n (AreMet ss) (AreMet ts)
     → IsMoved m n (IsBridged ss In Near So) (IsBridged ts To Far At)

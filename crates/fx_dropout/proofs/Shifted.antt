@@ -1,12 +1,11 @@
--- What drop-out control sets, moved by whole pixels.
+-- Drop-out control sets, for pieces moved by whole pixels, the pixels that it sets for the pieces, moved: `shift_moves_set`.
 -- Serves the law `dropout`.
 use Rattle.std.proofs.Common.{◌≡◌, ◌↔◌, refl, ap, ◌∙◌, subst, ℕ, ℤ, pos, ◌+ℤ◌, ◌-ℤ◌, ◌*ℤ◌}
-use Rattle.std.proofs.Common.{Bool, true, false, List, [], ◌∷◌, Option, Some, None, option_map, map, arith}
-use Rattle.fx_fixed.specs.Polynomial.{var, num, ◌⊞◌, ◌⊠◌}
+use Rattle.std.proofs.Common.{Bool, true, false, List, [], ◌∷◌, map, arith}
 use Rattle.fx_fixed.proofs.Ring.{ring}
 use Rattle.fx_fixed.proofs.Linear.{signed_linear}
 use Rattle.fx_winding.specs.Area.{Place, place}
-use Rattle.fx_winding.specs.Turned.{turned_place, turned_span}
+use Rattle.fx_winding.specs.Turned.{turned_span}
 use Rattle.fx_winding.specs.Frames.{IsInFrame}
 use Rattle.fx_winding.specs.Meets.{IsMet}
 use Rattle.fx_winding.specs.Moves.{shifted_place, shifted}
@@ -20,9 +19,7 @@ use Rattle.fx_dropout.specs.Laws.{ShiftMovesSet}
 use Rattle.fx_dropout.proofs.SetPixels.{AreMet, IsMoved, KeepsNeighbours, chosen_along, set_moved}
 
 along : (i k : ℤ) → (pos 128 *ℤ i +ℤ pos 64) +ℤ pos 128 *ℤ k ≡ pos 128 *ℤ (i +ℤ k) +ℤ pos 64
-along i k =
-    ring (i ∷ k ∷ []) ((num (pos 128) ⊠ var 0 ⊞ num (pos 64)) ⊞ num (pos 128) ⊠ var 1)
-    (num (pos 128) ⊠ (var 0 ⊞ var 1) ⊞ num (pos 64)) tt
+along i k = grind (arith, signed_linear, ring)
 
 along_from : (i k : ℤ) (n : ℕ) → ((pos 128 *ℤ i +ℤ pos 64) +ℤ pos n) +ℤ pos 128 *ℤ k ≡ (pos 128 *ℤ (i +ℤ k) +ℤ pos 64) +ℤ pos n
 along_from i k n = let e = along i k in omega (arith, signed_linear, e)
@@ -45,9 +42,7 @@ before_shift i k = omega (arith, signed_linear)
 covered_shift : (up : Bool) (k l : ℤ) (ss : List Span) (i j : ℤ) (n : ℕ)
     → IsCovered (place_on up (i +ℤ k) (j +ℤ l) n) (map (shifted (pos 128 *ℤ k) (pos 128 *ℤ l)) ss) ↔
     IsCovered (place_on up i j n) ss
-covered_shift up k l ss i j n =
-    subst (λ p. IsCovered p (map (shifted (pos 128 *ℤ k) (pos 128 *ℤ l)) ss) ↔ IsCovered (place_on up i j n) ss)
-    (place_shift up k l i j n) (shift_moves_cover (pos 128 *ℤ k) (pos 128 *ℤ l) (place_on up i j n) ss)
+covered_shift up k l ss i j n = grind (arith, signed_linear, place_shift, shift_moves_cover)
 
 met_shift : (k l : ℤ) (s : Span) (i j : ℤ)
     → IsMet (centre (i +ℤ k) (j +ℤ l)) (centre ((i +ℤ k) +ℤ pos 1) (j +ℤ l)) (shifted (pos 128 *ℤ k) (pos 128 *ℤ l) s) ↔
@@ -70,26 +65,12 @@ any_met_shift k l ss i j = (
 
 turned_shift : (x y : ℤ) (ss : List Span) → map (shifted y x) (map turned_span ss) ≡ map turned_span (map (shifted x y) ss)
 turned_shift x y [] = refl
-turned_shift x y (s ∷ ss) = λ i. record {
-  a = turned_place (shifted_place x y s.a);
-  b = control s.b i;
-  c = turned_place (shifted_place x y s.c);
-} ∷ turned_shift x y ss i
-  where
-    control : (b : Option Place)
-        → option_map (shifted_place y x) (option_map turned_place b) ≡ option_map turned_place (option_map (shifted_place x y) b)
-    control None = refl
-    control (Some b) = refl
+turned_shift x y (s ∷ ss) = grind (arith, signed_linear, turned_shift x y ss)
 
 -- which of two neighbours is nearer
 chosen_shift : (closing : Closing) (up : Bool) (k l : ℤ) (ss : List Span) (i j : ℤ)
     → IsNextChosen closing up (map (shifted (pos 128 *ℤ k) (pos 128 *ℤ l)) ss) (i +ℤ k) (j +ℤ l) ↔ IsNextChosen closing up ss i j
-chosen_shift closing up k l ss i j = (
-  chosen_along closing up (map (shifted (pos 128 *ℤ k) (pos 128 *ℤ l)) ss) ss (i +ℤ k) (j +ℤ l) i j
-      (λ n. covered_shift up k l ss i j n),
-  chosen_along closing up ss (map (shifted (pos 128 *ℤ k) (pos 128 *ℤ l)) ss) i j (i +ℤ k) (j +ℤ l)
-      (λ n. let e = covered_shift up k l ss i j n in (e.1, e.0)),
-)
+chosen_shift closing up k l ss i j = grind (arith, chosen_along, covered_shift)
 
 as_moved : (k l : ℤ) (P Q : ℤ → ℤ → Type 0) → ((i j : ℤ) → Q (i +ℤ k) (j +ℤ l) ↔ P i j) → IsMoved (λ i. i +ℤ k) (λ j. j +ℤ l) P Q
 as_moved k l P Q e = record { back = λ i j h. (e i j).0 h; on = λ i j h. (e i j).1 h }

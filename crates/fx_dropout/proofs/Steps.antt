@@ -1,4 +1,4 @@
--- Numbers that change by one step from place to place, and the gap 4uw - v² of three of them that add up to one total.
+-- A gap 4uw - v² whose three numbers change evenly stays below 0 if it does not grow at the first step: `gap_below`.
 -- Serves `Runs`.
 use Rattle.std.proofs.Common.{◌≡◌, ◌⊎◌, inl, inr, ℤ, pos, ◌+ℤ◌, ◌-ℤ◌, ◌*ℤ◌, ◌≤ℤ◌, ◌<ℤ◌, [], ◌∷◌, arith}
 use Rattle.fx_fixed.specs.Polynomial.{Expr, var, num, ◌⊞◌, ◌⊠◌, ◌⊟◌}
@@ -23,14 +23,7 @@ linear_above x d j m low high a b = by (below_or_not_ℤ d (pos 0))
     by (inr h) = let p = product_at_least_zero j d low h in omega (arith, signed_linear, p, a)
 
 linear_below : (x d j m : ℤ) → pos 0 ≤ℤ j → j ≤ℤ m → x <ℤ pos 0 → (x +ℤ m *ℤ d) <ℤ pos 0 → (x +ℤ j *ℤ d) <ℤ pos 0
-linear_below x d j m low high a b =
-    let e : (n : ℤ) → n *ℤ (pos 0 -ℤ d) ≡ pos 0 -ℤ n *ℤ d =
-    λ n. ring (n ∷ d ∷ []) (var 0 ⊠ (num (pos 0) ⊟ var 1)) (num (pos 0) ⊟ var 0 ⊠ var 1) tt in
-    let em = e m in
-    let ej = e j in
-    let h = linear_above (pos 0 -ℤ x) (pos 0 -ℤ d) j m low high (omega (arith, signed_linear, a))
-    (omega (arith, signed_linear, em, b)) in
-    omega (arith, signed_linear, h, ej)
+linear_below x d j m low high a b = grind (arith, signed_linear, low, high, a, b, ring, linear_above)
 
 -- the same of one sign at both ends
 pub linear_sign : (x d j m : ℤ) → pos 0 ≤ℤ j → j ≤ℤ m → HaveOneSign x (x +ℤ m *ℤ d) → HaveOneSign x (x +ℤ j *ℤ d)
@@ -72,11 +65,7 @@ gap_bends t u w d e j m =
     bend_expr ⊠ (var 6 ⊠ (var 5 ⊠ (var 6 ⊟ var 5)))) tt
 
 below_by : (g h k j b : ℤ) → k ≡ (g +ℤ j *ℤ (h -ℤ g)) -ℤ b → g <ℤ pos 0 → h ≤ℤ g → pos 0 ≤ℤ j → pos 0 ≤ℤ b → k <ℤ pos 0
-below_by g h k j b e a l low up =
-    let p = product_at_least_zero j (g -ℤ h) low (omega (arith, signed_linear, l)) in
-    let s : j *ℤ (g -ℤ h) ≡ pos 0 -ℤ j *ℤ (h -ℤ g) =
-    ring (j ∷ g ∷ h ∷ []) (var 0 ⊠ (var 1 ⊟ var 2)) (num (pos 0) ⊟ var 0 ⊠ (var 2 ⊟ var 1)) tt in
-    omega (arith, signed_linear, e, a, up, p, s)
+below_by g h k j b e a l low up = grind (arith, signed_linear, e, a, l, low, up, product_at_least_zero, ring)
 
 -- so it stays below 0 if it is and does not grow at the first step
 pub gap_below : (t u w d e j : ℤ) → gap_step t u w d e (pos 0) <ℤ pos 0

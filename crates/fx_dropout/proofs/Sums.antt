@@ -1,4 +1,4 @@
--- What pieces add at places, added up piece by piece.
+-- A place is covered exactly if the numbers that pieces add there, one by one, do not come to 0: `covered_by`.
 -- Serves `places`.
 use Rattle.std.proofs.Common.{◌≡◌, ◌≢◌, ◌⊎◌, ◌↔◌, inl, inr, sym, ap, ◌∙◌, subst, ℕ, ◌+◌, ◌*◌, ◌<◌, ◌≤◌, ℤ, pos, ◌+ℤ◌}
 use Rattle.std.proofs.Common.{Option, Some, None}
@@ -15,24 +15,8 @@ use Rattle.fx_dropout.specs.inner.Runs.{IsJoined, IsPart, IsSummed, sum_of}
 
 -- ---- one piece more at the end
 any_last : (P : Span → Type 0) (ss : List Span) (s : Span) → Any P (ss ++ s ∷ []) ↔ (Any P ss ⊎ P s)
-any_last P [] s = (
-  λ a. elim (any_cases P s [] a) [ inl h ↦ inr h | inr h ↦ inl h ],
-  λ a. elim a [ inl h ↦ any_there P s [] h | inr h ↦ any_here P s [] h ],
-)
-any_last P (t ∷ ss) s =
-    let rest = any_last P ss s in (
-      λ a. elim (any_cases P t (ss ++ s ∷ []) a) [
-        | inl h ↦ inl (any_here P t ss h)
-        | inr h ↦ elim (rest.0 h) [ inl k ↦ inl (any_there P t ss k) | inr k ↦ inr k ]
-      ],
-      λ a. elim a [
-        | inl h ↦ elim (any_cases P t ss h) [
-          | inl k ↦ any_here P t (ss ++ s ∷ []) k
-          | inr k ↦ any_there P t (ss ++ s ∷ []) (rest.1 (inl k))
-        ]
-        | inr h ↦ any_there P t (ss ++ s ∷ []) (rest.1 (inr h))
-      ],
-    )
+any_last P [] s = grind (arith, signed_linear, any_cases, any_there, any_here)
+any_last P (t ∷ ss) s = grind (arith, signed_linear, any_cases, any_here, any_there, any_last P ss s)
 
 winding_last : (p : Place) (ss : List Span) (s : Span) → winding p (ss ++ s ∷ []) ≡ winding p ss +ℤ turn p s
 winding_last p ss s = let e = winding-append p ss (s ∷ []) in omega (arith, signed_linear, e)
@@ -71,9 +55,7 @@ more_summed p ss done s old new within is j h =
     twice = omega arith
 
 pub summed_wider : (p : Place) (ss : List Span) (k m : ℕ) (v : ℤ) → k ≤ m → IsSummed p ss k v → IsSummed p ss m v
-summed_wider p ss k m v l (inl (h, near)) = inl (h, (omega (arith, signed_linear, l, near), omega (arith, signed_linear, l, near)))
-summed_wider p ss k m v l (inr (n, near, e)) =
-    inr (n, (omega (arith, signed_linear, l, near), omega (arith, signed_linear, l, near)), e)
+summed_wider p ss k m v h i = grind (arith, signed_linear, h, i)
 
 -- what is known of a place is small enough for one piece more
 pub summed_small : (p : Place) (ss : List Span) (k : ℕ) (v : ℤ) → k ≤ 131072 → IsSummed p ss k v → IsWithin 1074790400 v

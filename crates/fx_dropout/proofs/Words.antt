@@ -1,6 +1,6 @@
--- Bits of words that are moved and joined.
+-- A word moved by one bit and joined with the next has the bits of the right neighbours (`right_inner`), or left (`left_inner`).
 -- Serves `closing`.
-use Rattle.std.proofs.Common.{◌≡◌, ◌⊎◌, ◌↔◌, inl, inr, sym, ap, ◌∙◌, ℕ, suc, ◌+◌, ◌-◌, ◌*◌, ◌/◌, ◌%◌, ◌<◌, ◌^◌, min, max, w32}
+use Rattle.std.proofs.Common.{◌≡◌, ◌⊎◌, ◌↔◌, sym, ap, ◌∙◌, ℕ, suc, ◌+◌, ◌-◌, ◌*◌, ◌/◌, ◌%◌, ◌<◌, ◌^◌, min, max, w32}
 use Rattle.std.proofs.Common.{bit_or, bit_and, arith}
 use Rattle.std.specs.Int.{bit_at}
 use Rattle.std.proofs.lemmas.Nat.{or_of_32, pow_pos, shr_split, mod_below}
@@ -18,9 +18,7 @@ moved_bit word i h l =
 
 -- the highest bit of a word, as its lowest
 pub last_bit : (n : ℕ) → bit_at (n / 2 ^ 31) 0 ≡ bit_at n 31
-last_bit n =
-    sym (bit_at_cat_high (n / 2 ^ 31) 31 (n % 2 ^ 31) 31 (mod_below n (2 ^ 31) (pow_pos 31)) (omega arith))
-    ∙ ap (λ m. bit_at m 31) (shr_split n 31)
+last_bit n = grind (arith, bit_at_cat_high, mod_below, pow_pos, shr_split)
 
 -- the bits of right neighbours
 pub right_inner : (word next i : ℕ) → next < 4294967296 → i < 31
@@ -42,11 +40,7 @@ carried : (before : ℕ) → before * 2147483648 % 4294967296 ≡ (before % 2) *
 carried before = omega arith
 
 carried_first : (before : ℕ) → bit_at (before * 2147483648 % 4294967296) 31 ≡ bit_at before 0
-carried_first before =
-    let two : before % 2 % 2 ≡ before % 2 = omega arith in
-    ap (λ n. bit_at n 31) (carried before)
-    ∙ bit_at_cat_high (before % 2) 31 0 31 (omega arith) (omega arith)
-    ∙ bit_at_lowest (before % 2) ∙ two ∙ sym (bit_at_lowest before)
+carried_first before = grind (arith, carried, bit_at_cat_high, bit_at_lowest)
 
 carried_rest : (before i : ℕ) → 0 < i → bit_at (before * 2147483648 % 4294967296) (31 - i) ≡ 0
 carried_rest before i h =
@@ -79,18 +73,11 @@ left_bit word t i fits l =
 
 open_of : (a noted here next : ℕ) → a ≡ min noted (1 - max here next) → noted < 2 → here < 2 → next < 2
     → (a ≡ 1) ↔ IsOpen noted here next
-open_of a noted here next e l m n = (
-  λ t. record { noted_is = omega (arith, e, t, l); here_is = omega (arith, e, t, m); next_is = omega (arith, e, t, n) },
-  λ h. let x = h.noted_is in let y = h.here_is in let z = h.next_is in omega (arith, e, x, y, z),
-)
+open_of a noted here next e l m n = grind (arith, e, l, m, n)
 
 pub open_bit : (noted here next i : ℕ) → here < 4294967296 → next < 4294967296 → i < 32
     → (bit_at (bit_and noted (4294967295 - bit_or here next)) i ≡ 1) ↔ IsOpen (bit_at noted i) (bit_at here i) (bit_at next i)
-open_bit noted here next i fh fn l =
-    open_of _ (bit_at noted i) (bit_at here i) (bit_at next i)
-    (left_bit noted (bit_or here next) i (or_of_32 here next fh fn) l ∙ ap (λ b. min (bit_at noted i) (1 - b))
-    (bit_at_or here next i))
-    (bit_at-lt noted i) (bit_at-lt here i) (bit_at-lt next i)
+open_bit noted here next i fh fn l = grind (arith, fh, fn, l, open_of, left_bit, or_of_32, bit_at_or, bit_at-lt)
 
 pub first_bit : (noted here : ℕ) → here < 4294967296
     → (bit_at (bit_and noted (4294967295 - here) / 2147483648) 0 ≡ 1) ↔ IsOpen (bit_at noted 31) 0 (bit_at here 31)
@@ -102,22 +89,9 @@ first_bit noted here fits =
 -- ---- a word whose gaps are closed
 closed_of : (a here gaps nexts reached : ℕ) → a ≡ max (max here (min gaps (1 - nexts))) reached → here < 2 → gaps < 2 → nexts < 2
     → reached < 2 → (a ≡ 1) ↔ ((here ≡ 1) ⊎ (((gaps ≡ 1) × ¬ (nexts ≡ 1)) ⊎ (reached ≡ 1)))
-closed_of a here gaps nexts reached e l m n o = (λ t. to t, λ h. from h)
-  where
-    to : a ≡ 1 → (here ≡ 1) ⊎ (((gaps ≡ 1) × ¬ (nexts ≡ 1)) ⊎ (reached ≡ 1))
-    to t = grind arith
-
-    from : (here ≡ 1) ⊎ (((gaps ≡ 1) × ¬ (nexts ≡ 1)) ⊎ (reached ≡ 1)) → a ≡ 1
-    from (inl x) = omega (arith, e, x, l, m, n, o)
-    from (inr (inl (x, y))) = grind arith
-    from (inr (inr x)) = omega (arith, e, x, l, m, n, o)
+closed_of a here gaps nexts reached e l m n o = grind (arith, e, l, m, n, o)
 
 pub closed_bit : (here gaps nexts reached i : ℕ) → nexts < 4294967296 → i < 32
     → (bit_at (bit_or (bit_or here (bit_and gaps (4294967295 - nexts))) reached) i ≡ 1)
     ↔ ((bit_at here i ≡ 1) ⊎ (((bit_at gaps i ≡ 1) × ¬ (bit_at nexts i ≡ 1)) ⊎ (bit_at reached i ≡ 1)))
-closed_bit here gaps nexts reached i fits l =
-    closed_of _ (bit_at here i) (bit_at gaps i) (bit_at nexts i) (bit_at reached i)
-    (bit_at_or (bit_or here (bit_and gaps (4294967295 - nexts))) reached i
-    ∙ ap (λ b. max b (bit_at reached i)) (bit_at_or here (bit_and gaps (4294967295 - nexts)) i
-    ∙ ap (max (bit_at here i)) (left_bit gaps nexts i fits l)))
-    (bit_at-lt here i) (bit_at-lt gaps i) (bit_at-lt nexts i) (bit_at-lt reached i)
+closed_bit here gaps nexts reached i fits l = grind (arith, fits, l, closed_of, bit_at_or, left_bit, bit_at-lt)

@@ -1,126 +1,76 @@
-//! Pieces beside places.
+//! Pieces beside all places of a segment.
 
-ghost use Rattle.std.specs.Prelude.{◌≡◌, ◌≤ℤ◌, pos, ◌<ℤ◌, ◌↔◌, IsTrue, IfSome};
+ghost use Rattle.std.specs.Prelude.{◌≡◌, pos, ◌<ℤ◌, IsTrue, Some};
 ghost use Rattle.fx_winding.specs.Outside.{HasAll};
 ghost use Rattle.fx_winding.specs.Winding.{place_of, span_of};
-ghost use Rattle.fx_dropout.specs.inner.Runs.{above as above_of, IsPartIn, IsPassed};
+ghost use Rattle.fx_dropout.specs.inner.Runs.{coordinate_of, place_in, IsPartTo};
 
+use crate::pair::Pair;
 use fx_winding::{Piece, Point};
 
-/// Whether all points of a piece lie above a height.
-fn is_above(piece: &Piece, y: i32) -> bool
-    ensures { IsTrue result → HasAll (λ e. y <ℤ e.y) (span_of piece.now) }
+/// A point's height or, with `false`, how far right it is.
+#[inline(always)]
+fn coordinate(p: Point, is_height: bool) -> i32
+    ensures { result ≡ coordinate_of is_height (place_of p) }
 {
-    if piece.a.y <= y {
+    if is_height { p.y } else { p.x }
+}
+
+/// Whether all points of a piece lie above another point or, with `false`, right of it.
+#[inline(always)]
+fn is_above(piece: &Piece, is_height: bool, limit: Point) -> bool
+    ensures { IsTrue result →
+        HasAll (λ e. coordinate_of is_height (place_of limit) <ℤ coordinate_of is_height e) (span_of piece.now) }
+{
+    if coordinate(piece.a, is_height) <= coordinate(limit, is_height) {
         return false;
     }
-    if piece.c.y <= y {
+    if coordinate(piece.c, is_height) <= coordinate(limit, is_height) {
         return false;
     }
     match piece.b {
         None => true,
-        Some(b) => b.y > y,
+        Some(b) => coordinate(b, is_height) > coordinate(limit, is_height),
     }
 }
 
-/// Whether all points of a piece lie below a height.
-fn is_below(piece: &Piece, y: i32) -> bool
-    ensures { IsTrue result → HasAll (λ e. e.y <ℤ y) (span_of piece.now) }
+/// Whether all lie below it or left of it.
+#[inline(always)]
+fn is_below(piece: &Piece, is_height: bool, limit: Point) -> bool
+    ensures { IsTrue result →
+        HasAll (λ e. coordinate_of is_height e <ℤ coordinate_of is_height (place_of limit)) (span_of piece.now) }
 {
-    if piece.a.y >= y {
+    if coordinate(piece.a, is_height) >= coordinate(limit, is_height) {
         return false;
     }
-    if piece.c.y >= y {
-        return false;
-    }
-    match piece.b {
-        None => true,
-        Some(b) => b.y < y,
-    }
-}
-
-/// Whether all points of a piece lie right of a column's centres.
-fn is_right(piece: &Piece, x: i32) -> bool
-    ensures { IsTrue result → HasAll (λ e. x <ℤ e.x) (span_of piece.now) }
-{
-    if piece.a.x <= x {
-        return false;
-    }
-    if piece.c.x <= x {
+    if coordinate(piece.c, is_height) >= coordinate(limit, is_height) {
         return false;
     }
     match piece.b {
         None => true,
-        Some(b) => b.x > x,
+        Some(b) => coordinate(b, is_height) < coordinate(limit, is_height),
     }
 }
 
-/// Whether all points of a piece lie left of a column's centres.
-fn is_left(piece: &Piece, x: i32) -> bool
-    ensures { IsTrue result → HasAll (λ e. e.x <ℤ x) (span_of piece.now) }
+/// Whether a piece lies above, below or left of all places, so that it adds nothing there.
+#[inline(always)]
+pub(crate) fn is_aside(piece: &Piece, pair: Pair) -> bool
+    ensures { IsTrue result → IsPartTo pair 0 128 (span_of piece.now) (Some (pos 0)) }
 {
-    if piece.a.x >= x {
-        return false;
+    let first = pair.place(0);
+    if is_above(piece, true, pair.place(127)) {
+        return true;
     }
-    if piece.c.x >= x {
-        return false;
+    if is_below(piece, true, first) {
+        return true;
     }
-    match piece.b {
-        None => true,
-        Some(b) => b.x < x,
-    }
+    is_below(piece, false, first)
 }
 
-/// Whether a height is above the one of two others and not above the other.
-pub(crate) fn is_passed(y: i32, low: i32, high: i32) -> bool
-    ensures { IsTrue result ↔ IsPassed y low high }
+/// Whether a piece lies right of all places.
+#[inline(always)]
+pub(crate) fn is_right(piece: &Piece, pair: Pair) -> bool
+    ensures { IsTrue result → HasAll (λ e. (place_in pair 127).x <ℤ e.x) (span_of piece.now) }
 {
-    if y <= low {
-        return false;
-    }
-    y <= high
-}
-
-/// 1 if a height is above another, else 0.
-fn above(y: i32, height: i32) -> i32
-    ensures value { result ≡ above_of y height }
-    ensures low { pos 0 ≤ℤ result }
-    ensures high { result ≤ℤ pos 1 }
-{
-    if y < height { 1 } else { 0 }
-}
-
-/// What a piece that lies right of a box adds to the winding number of each place there, if it is one number.
-fn turn_if_right(piece: &Piece, p: Point, q: Point) -> Option<i32>
-    requires high { p.y ≤ℤ q.y }
-    requires right { HasAll (λ e. q.x <ℤ e.x) (span_of piece.now) }
-    ensures { IfSome result (IsPartIn (place_of p) (place_of q) (span_of piece.now)) }
-{
-    if is_passed(piece.a.y, p.y, q.y) {
-        return None;
-    }
-    if is_passed(piece.c.y, p.y, q.y) {
-        return None;
-    }
-    Some(above(p.y, piece.c.y) - above(p.y, piece.a.y))
-}
-
-/// What a piece adds to the winding number of each place of a box, if it lies to one side of all, so that none is on it.
-pub(crate) fn turn_beside(piece: &Piece, p: Point, q: Point) -> Option<i32>
-    requires high { p.y ≤ℤ q.y }
-    ensures { IfSome result (IsPartIn (place_of p) (place_of q) (span_of piece.now)) }
-{
-    if is_above(piece, q.y) {
-        return Some(0);
-    }
-    if is_below(piece, p.y) {
-        return Some(0);
-    }
-    if is_left(piece, p.x) {
-        return Some(0);
-    }
-    if is_right(piece, q.x) {
-        return turn_if_right(piece, p, q);
-    }
-    None
+    is_above(piece, false, pair.place(127))
 }

@@ -9,6 +9,7 @@
 mod beside;
 mod chooser;
 mod closing;
+mod course;
 pub mod laws;
 mod look;
 mod nearer;

@@ -24,17 +24,26 @@ fn is_open_across(noted: &[u32], words: &[u32]) -> bool
     gaps != 0
 }
 
-/// Whether one of the segments between the pixels of some words and those above them is open.
-fn is_open_up(noted: &[u32], lower: &[u32], upper: &[u32]) -> bool
-    requires lower { length noted.now ≤ length lower.now }
-    requires upper { length noted.now ≤ length upper.now }
-    ensures { result ≡ false → (w i : ℕ) → w < length noted.now → i < 32 →
-        ¬ (IsOpen (bit_in noted.now w i) (bit_in lower.now w i) (bit_in upper.now w i)) }
+/// Whether one of the segments is open that lead from some words of pixels to others. The words of the segments, of the pixels that
+/// they come from, and of those that they lead to begin at three places.
+fn is_open_up(
+    up: &[u32],
+    noted: usize,
+    words: &[u32],
+    lower: usize,
+    upper: usize,
+    count: usize,
+) -> bool
+    requires noted { noted + count ≤ length up.now }
+    requires lower { lower + count ≤ length words.now }
+    requires upper { upper + count ≤ length words.now }
+    ensures { result ≡ false → (w i : ℕ) → w < count → i < 32 →
+        ¬ (IsOpen (bit_in up.now (noted + w) i) (bit_in words.now (lower + w) i) (bit_in words.now (upper + w) i)) }
 {
     let mut gaps = 0;
     // If there is no gap so far, no segment of the first w words is open.
-    'words: for w in 0..noted.len() {
-        gaps |= gaps_of(noted[w], lower[w], upper[w]);
+    'words: for w in 0..count {
+        gaps |= gaps_of(up[noted + w], words[lower + w], words[upper + w]);
     }
     gaps != 0
 }
@@ -53,16 +62,15 @@ pub(crate) fn may_be_open(frame: Frame, across: &[u32], up: &[u32], words: &[u32
     if words_noted(frame.width) > step {
         return true;
     }
-    let all = words.len();
-    let last = &words[all - step..];
+    let inner = words.len() - step;
     if is_open_across(across, words) {
         return true;
     }
-    if is_open_up(&up[..step], words, words) {
+    if is_open_up(up, 0, words, 0, 0, step) {
         return true;
     }
-    if is_open_up(&up[step..all], words, &words[step..]) {
+    if is_open_up(up, step, words, 0, step, inner) {
         return true;
     }
-    is_open_up(&up[all..], last, last)
+    is_open_up(up, step + inner, words, inner, inner, step)
 }

@@ -1,5 +1,5 @@
 -- What a piece adds at places of the segment between two neighbours.
-use Rattle.std.specs.Prelude.{◌≡◌, ◌⊎◌, ℕ, ◌≤◌, ◌<◌, ◌^◌, ℤ, pos, ◌+ℤ◌, ◌-ℤ◌, ◌≤ℤ◌, ◌<ℤ◌, int_lt, Bool, if◌then◌else◌, List, Option, Some, None, Any}
+use Rattle.std.specs.Prelude.{◌≡◌, ◌⊎◌, ℕ, ◌≤◌, ◌<◌, ◌^◌, ℤ, pos, ◌+ℤ◌, ◌-ℤ◌, ◌≤ℤ◌, ◌<ℤ◌, Bool, true, false, List, Option, Some, None, Any}
 use Rattle.fx_fixed.specs.Ranges.{IsWithin}
 use Rattle.fx_winding.specs.Area.{Place, area, gap_of}
 use Rattle.fx_winding.specs.Meets.{turn}
@@ -20,20 +20,10 @@ IsPart p s (Some t) = IsWithin 2 t × (t ≡ turn p s) × ¬ (IsOn p s)
 abbrev pub IsPartTo : Pair → ℕ → ℕ → Span → Option ℤ → Type 0
 IsPartTo pair first end s part = (n : ℕ) → first ≤ n → n < end → IsPart (place_in pair n) s part
 
--- a place lies in the box from p to q
-pub record IsInBox (p q r : Place) : Type 0 where
-  pub left : p.x ≤ℤ r.x
-  pub right : r.x ≤ℤ q.x
-  pub low : p.y ≤ℤ r.y
-  pub high : r.y ≤ℤ q.y
-
--- a piece adds one number at all places of the box
-abbrev pub IsPartIn : Place → Place → Span → ℤ → Type 0
-IsPartIn p q s t = (r : Place) → IsInBox p q r → IsPart r s (Some t)
-
--- 1 if a height is above another, else 0
-abbrev pub above : ℤ → ℤ → ℤ
-above y height = if int_lt y height then pos 1 else pos 0
+-- a place's height or, with `false`, how far right it is
+abbrev pub coordinate_of : Bool → Place → ℤ
+coordinate_of false p = p.x
+coordinate_of true p = p.y
 
 -- ---- runs
 -- two numbers are above 0, or both below
@@ -45,18 +35,18 @@ abbrev pub IsPassed : ℤ → ℤ → ℤ → Type 0
 IsPassed y low high = (low <ℤ y) × (y ≤ℤ high)
 
 -- between two places of a segment no end of a piece is passed, and both are strictly on one side of its chord's line
-pub record IsClear (up : Bool) (col row : ℤ) (first last : ℕ) (s : Span) : Type 0 where
-  pub start : ¬ (IsPassed s.a.y (place_on up col row first).y (place_on up col row last).y)
-  pub end : ¬ (IsPassed s.c.y (place_on up col row first).y (place_on up col row last).y)
-  pub side : HaveOneSign (area s.a (place_on up col row first) s.c) (area s.a (place_on up col row last) s.c)
+pub record IsClear (pair : Pair) (first last : ℕ) (s : Span) : Type 0 where
+  pub start : ¬ (IsPassed s.a.y (place_in pair first).y (place_in pair last).y)
+  pub end : ¬ (IsPassed s.c.y (place_in pair first).y (place_in pair last).y)
+  pub side : HaveOneSign (area s.a (place_in pair first) s.c) (area s.a (place_in pair last) s.c)
 
 -- the gap 4uw - v² of the areas of a place with a piece's points
 abbrev pub gap_at : Span → Place → ℤ
 gap_at s p = gap_of (areas_of s p).0 (areas_of s p).1 (areas_of s p).2
 
 -- the gap is below 0 at all places of a segment from the one to the other
-abbrev pub IsBelowTo : Bool → ℤ → ℤ → ℕ → ℕ → Span → Type 0
-IsBelowTo up col row first last s = (n : ℕ) → first ≤ n → n ≤ last → gap_at s (place_on up col row n) <ℤ pos 0
+abbrev pub IsBelowTo : Pair → ℕ → ℕ → Span → Type 0
+IsBelowTo pair first last s = (n : ℕ) → first ≤ n → n ≤ last → gap_at s (place_in pair n) <ℤ pos 0
 
 -- ---- sums
 -- a number that stands for a place on a piece; what other pieces add changes it, but not to one that a winding number can be

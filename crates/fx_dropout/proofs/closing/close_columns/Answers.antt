@@ -1,4 +1,4 @@
-use Rattle.std.proofs.Common.{◌≡◌, ◌⊎◌, ◌∙◌, refl, sym, ap, subst, ℕ, ◌+◌, ◌-◌, ◌*◌, ◌<◌, ◌≤◌, ℤ, pos, ◌+ℤ◌, length, get_or, true, arith, w32, to_z, of_z}
+use Rattle.std.proofs.Common.{◌≡◌, ◌⊎◌, ◌∙◌, sym, ap, subst, ℕ, ◌+◌, ◌-◌, ◌*◌, ◌<◌, ◌≤◌, ℤ, pos, ◌+ℤ◌, length, get_or, true, arith, w32, to_z, of_z}
 use Rattle.std.proofs.Math.Nat.{mul-le-mul_right}
 use Rattle.std.proofs.lemmas.Int.{to_z_pos}
 use Rattle.fx_fixed.proofs.Linear.{signed_linear}
@@ -10,11 +10,7 @@ use Rattle.fx_dropout.proofs.Levels.{columns_more, columns_none}
 use Rattle.fx_dropout.proofs.closing.close_columns.Goals as goal
 
 pub close_level-requires-clause-left : goal.close_level-requires-clause-left
-close_level-requires-clause-left c =
-    let low = c.args.frame.columns.from in
-    let high = c.args.frame.columns.to in
-    let some = c.requires.wide in
-    (omega (arith, signed_linear, low, high, some), omega (arith, signed_linear, low, high, some))
+close_level-requires-clause-left c = grind (arith, c.requires.wide)
 
 pub close_level-requires-clause-up : goal.close_level-requires-clause-up
 close_level-requires-clause-up c =
@@ -31,18 +27,7 @@ close_level-requires-clause-up c =
     omega (arith, all, m, next, last, less)
 
 pub rows-init : goal.rows-init
-rows-init c =
-    let cnt = c.words_for-count.ensures in
-    let low = c.reach_lowest.ensures in
-    let f = c.args.frame in
-    record {
-      long = refl;
-      count = omega arith;
-      up_long = low.length;
-      columns = columns_none (words_for f.width) (words_noted f.width) c.args.words.now c.args.up.now c.reach_lowest.new.up
-          (λ w i k. IsNext c.args.chooser.now true (f.left +ℤ pos (32 * w + (31 - i))) (f.bottom +ℤ pos k))
-          (omega arith) (λ w i h m. low.bits w i (omega (arith, h, cnt)) m) (λ k h. low.others k (omega (arith, h, cnt)));
-    }
+rows-init c = grind (arith, c.words_for-count.ensures, c.reach_lowest.ensures, columns_none)
 
 pub rows-preserved : goal.rows-preserved
 rows-preserved c =
@@ -89,6 +74,4 @@ pub returns-clause-bits : goal.returns-clause-bits
 returns-clause-bits c = λ r w i l h m. c.rows.invariant.columns.done r w i (omega (arith, l)) h m
 
 pub returns-clause-count : goal.returns-clause-count
-returns-clause-count c =
-    all_of c.rows.tally.count c.args.tally.now.count c.rows.row c.args.frame.height
-    (words_for c.args.frame.width * word_tests c.args.chooser.now) (omega arith) c.rows.invariant.count
+returns-clause-count c = grind (arith, c.rows.invariant.count, all_of)

@@ -1,20 +1,14 @@
-use Rattle.std.proofs.Common.{◌≡◌, ◌∙◌, inl, inr, sym, ap, subst, ℕ, ◌+◌, ◌-◌, ◌*◌, ◌<◌, ℤ, pos, ◌+ℤ◌, ◌*ℤ◌, get_or, true, arith, w32, to_z, of_z}
+use Rattle.std.proofs.Common.{◌≡◌, ◌∙◌, inl, inr, ap, subst, ℕ, ◌+◌, ◌-◌, ◌*◌, ◌<◌, ℤ, pos, ◌+ℤ◌, ◌*ℤ◌, get_or, true, arith, w32, to_z, of_z}
 use Rattle.std.specs.Int.{bit_at}
 use Rattle.std.proofs.lemmas.List.{get_or-set_other, length-set}
 use Rattle.fx_fixed.proofs.Linear.{signed_linear}
-use Rattle.fx_winding.specs.Limits.{IsPixelNumber}
 use Rattle.fx_dropout.specs.inner.Closing.{bit_in, IsLevelClosed, IsNext, word_tests}
 use Rattle.fx_dropout.proofs.Levels.{level_more, level_word}
 use Rattle.fx_dropout.proofs.Columns.{word_column, one_more, all_of}
 use Rattle.fx_dropout.proofs.closing.close_level.Goals as goal
 
 pub nexts-nexts-requires-clause-left : goal.nexts-nexts-requires-clause-left
-nexts-nexts-requires-clause-left c =
-    let w = c.words.w in
-    let few = c.requires.few in
-    let inside : w < c.args.level.count = omega arith in
-    let right = c.requires.right w inside in
-    subst IsPixelNumber (sym (word_column c.args.left w c.requires.left (omega (arith, few, inside)) right)) right
+nexts-nexts-requires-clause-left c = grind (arith, c.requires.few, c.requires.right, c.requires.left, word_column)
 
 pub words-preserved : goal.words-preserved
 words-preserved c =
@@ -65,17 +59,7 @@ words-preserved c =
     }
 
 pub returns-clause-count : goal.returns-clause-count
-returns-clause-count c =
-    all_of c.words.tally.count c.args.tally.now.count c.words.w c.args.level.count (word_tests c.args.chooser.now) (omega arith)
-    c.words.invariant.count
+returns-clause-count c = grind (arith, c.words.invariant.count, all_of)
 
 pub returns-clause-bits : goal.returns-clause-bits
-returns-clause-bits c = λ w i h l.
-    let v = c.args.level in
-    let left : to_z w32 (of_z w32 c.args.left) ≡ c.args.left = omega (arith, signed_linear, c.requires.left) in
-    let j : to_z w32 (of_z w32 c.args.j) ≡ c.args.j = omega (arith, signed_linear, c.requires.row) in
-    subst (λ (z : ℤ × ℤ). IsLevelClosed (bit_in c.args.words.now (v.pixels + w) i)
-    (bit_in c.args.words.now (v.pixels + v.count + w) i)
-    (bit_in c.args.up.now (v.segments + v.step + w) i) (bit_in c.args.up.now (v.segments + w) i)
-    (IsNext c.args.chooser.now true (z.0 +ℤ pos (32 * w + (31 - i))) z.1) (bit_in c.words.words (v.pixels + w) i)
-    (bit_in c.words.up (v.segments + v.step + w) i)) (λ t. (left t, j t)) (c.words.invariant.done w i (omega (arith, h)) l)
+returns-clause-bits c = grind (arith, signed_linear, c.requires.left, c.requires.row, c.words.invariant.done)

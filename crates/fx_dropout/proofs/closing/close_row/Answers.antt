@@ -1,8 +1,7 @@
-use Rattle.std.proofs.Common.{◌≡◌, ◌↔◌, ◌∙◌, sym, ap, subst, ℕ, suc, ◌+◌, ◌-◌, ◌*◌, ◌<◌, ℤ, pos, ◌+ℤ◌, get_or, length, false, arith, w32, to_z, of_z}
+use Rattle.std.proofs.Common.{◌≡◌, ◌↔◌, ◌∙◌, ap, subst, ℕ, suc, ◌+◌, ◌-◌, ◌*◌, ◌<◌, ℤ, pos, ◌+ℤ◌, get_or, length, false, arith, w32, to_z, of_z}
 use Rattle.std.proofs.lemmas.List.{get_or-set_other, length-set}
 use Rattle.std.specs.Int.{bit_at}
 use Rattle.fx_fixed.proofs.Linear.{signed_linear}
-use Rattle.fx_winding.specs.Limits.{IsPixelNumber}
 use Rattle.fx_winding.specs.Bitmaps.{word_bit}
 use Rattle.fx_dropout.specs.inner.Closing.{IsClosedBit, IsReached, IsNext, word_tests}
 use Rattle.fx_dropout.proofs.Rows.{bit_of_row, gaps_in, reached_in, row_more, word_closed}
@@ -11,11 +10,7 @@ use Rattle.fx_dropout.proofs.closing.close_row.Goals as goal
 
 pub nexts-nexts-requires-clause-left : goal.nexts-nexts-requires-clause-left
 nexts-nexts-requires-clause-left c =
-    let w = c.words.w in
-    let few = c.requires.few in
-    let inside : w < length c.args.row.now = omega (arith, c.words.invariant.length) in
-    let right = c.requires.right w inside in
-    subst IsPixelNumber (sym (word_column c.args.left w c.requires.left (omega (arith, few, inside)) right)) right
+    grind (arith, c.requires.few, c.words.invariant.length, c.requires.right, c.requires.left, word_column)
 
 pub words-preserved : goal.words-preserved
 words-preserved c =
@@ -64,9 +59,7 @@ words-preserved c =
     }
 
 pub returns-clause-count : goal.returns-clause-count
-returns-clause-count c =
-    all_of c.words.tally.count c.args.tally.now.count c.words.w (length c.args.row.now) (word_tests c.args.chooser.now)
-    (omega (arith, c.words.invariant.length)) c.words.invariant.count
+returns-clause-count c = grind (arith, c.words.invariant.length, c.words.invariant.count, all_of)
 
 pub returns-clause-bits : goal.returns-clause-bits
 returns-clause-bits c = λ n l.

@@ -69,9 +69,7 @@ rows-preserved c =
     }
 
 pub returns-clause-count : goal.returns-clause-count
-returns-clause-count c =
-    all_of c.rows.tally.count c.args.tally.now.count c.rows.up c.args.frame.height
-    (words_for c.args.frame.width * word_tests c.args.chooser.now) (omega arith) c.rows.invariant.count
+returns-clause-count c = grind (arith, c.rows.invariant.count, all_of)
 
 pub returns-clause-length : goal.returns-clause-length
 returns-clause-length c = c.rows.invariant.rows.long

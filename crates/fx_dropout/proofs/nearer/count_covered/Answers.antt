@@ -1,6 +1,5 @@
-use Rattle.std.proofs.Common.{◌≡◌, ◌≢◌, ◌↔◌, ◌+◌, ℕ, pos, IsTrue, get_or, subst, arith, w32, to_z, of_z}
+use Rattle.std.proofs.Common.{◌≡◌, ◌≢◌, ◌↔◌, ◌+◌, pos, IsTrue, get_or, subst, arith, w32, to_z, of_z}
 use Rattle.fx_fixed.proofs.Linear.{signed_linear}
-use Rattle.fx_dropout.specs.Dropout.{IsCount}
 use Rattle.fx_dropout.proofs.Counts.{count_none, count_from, few_from}
 use Rattle.fx_dropout.proofs.nearer.count_covered.Goals as goal
 
@@ -21,7 +20,4 @@ places-preserved c =
     }
 
 pub returns : goal.returns
-returns c =
-    let all : c.places.n ≡ 63 = omega arith in
-    subst (λ (m : ℕ). IsCount (λ n. get_or c.args.places.now (n + c.args.from) (pos 0) ≢ pos 0) m c.places.count) all
-    c.places.invariant.counted
+returns c = grind (arith, c.places.invariant.counted)

@@ -1,8 +1,7 @@
-use Rattle.std.proofs.Common.{◌≡◌, ◌∙◌, sym, ap, subst, map, List, ℕ, take, drop, length, ◌++◌, ◌+◌, ◌≤◌}
-use Rattle.fx_winding.specs.declared.frame.Frame.{Frame}
+use Rattle.std.proofs.Common.{arith}
+use Rattle.std.proofs.Common.{◌≡◌, ◌∙◌, sym, ap, subst, map, List, ℕ, take, drop, length, ◌++◌}
 use Rattle.fx_winding.specs.Bitmaps.{AreWords, rows_of}
 use Rattle.fx_winding.specs.Winding.{span_of}
-use Rattle.fx_dropout.specs.Tests.{closing_tests}
 use Rattle.fx_dropout.specs.inner.Closing.{AreClosedWords, IsNextIn}
 use Rattle.fx_dropout.proofs.Closed.{IsGiven, lent, given_of, closed_words, gaps_closed}
 use Rattle.fx_dropout.proofs.noted.close_gaps.Goals as goal
@@ -46,6 +45,4 @@ returns-clause-bits c =
     (c.from_words.ensures ∙ (λ t. record { frame = f; rows = rows_of f.height f.width (back c.before t) }))
 
 pub returns-clause-count : goal.returns-clause-count
-returns-clause-count c =
-    subst (λ (f : Frame). c.close_words.new.tally.count ≤ c.args.tally.now.count
-    + closing_tests c.args.closing (length c.args.pieces.now) f) c.frame-frame.ensures.value c.close_words.ensures.count
+returns-clause-count c = grind (arith, c.frame-frame.ensures.value, c.close_words.ensures.count)

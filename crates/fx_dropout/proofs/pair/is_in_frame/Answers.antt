@@ -1,12 +1,6 @@
-use Rattle.std.proofs.Common.{refl, arith}
+use Rattle.std.proofs.Common.{arith}
 use Rattle.fx_fixed.proofs.Linear.{signed_linear}
 use Rattle.fx_dropout.proofs.pair.is_in_frame.Goals as goal
 
 pub returns : goal.returns
-returns c = (
-  λ t. record {
-    column = (omega (arith, signed_linear), omega (arith, signed_linear));
-    row = (omega (arith, signed_linear), omega (arith, signed_linear));
-  },
-  λ h. refl,
-)
+returns c = grind (arith, signed_linear)

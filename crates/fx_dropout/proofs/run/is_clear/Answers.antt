@@ -1,16 +1,14 @@
 use Rattle.std.proofs.Common.{◌∙◌, ap, subst, sym, ℤ}
 use Rattle.fx_winding.specs.Area.{Place}
-use Rattle.fx_dropout.specs.Dropout.{place_on}
-use Rattle.fx_dropout.specs.inner.Runs.{HaveOneSign, IsPassed}
+use Rattle.fx_dropout.specs.inner.Runs.{HaveOneSign, IsPassed, place_in}
 use Rattle.fx_dropout.proofs.Runs.{area_wider, area_word, middle_is, not_passed}
 use Rattle.fx_dropout.proofs.run.is_clear.Goals as goal
 
 pub returns : goal.returns
 returns c = λ t.
-    let s = c.args.piece.now in
-    let pair = c.args.run.pair in
-    let P = place_on pair.is_up pair.here.col pair.here.row c.args.run.first in
-    let Q = place_on pair.is_up pair.here.col pair.here.row c.args.run.last in
+    let s = c.args.course.now.piece in
+    let P = place_in c.args.course.now.pair c.args.run.first in
+    let Q = place_in c.args.course.now.pair c.args.run.last in
     let p = c.args.p in
     let q = c.args.q in
     let low = ap (λ (r : Place). r.y) c.place-low.ensures in

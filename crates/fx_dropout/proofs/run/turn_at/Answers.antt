@@ -7,10 +7,7 @@ use Rattle.fx_dropout.proofs.Runs.{coordinate_word}
 use Rattle.fx_dropout.proofs.run.turn_at.Goals as goal
 
 pub returns-then-on_piece-clause-part : goal.returns-then-on_piece-clause-part
-returns-then-on_piece-clause-part c =
-    let p = c.args.p in
-    (moved_fact c.on_piece.result (λ q. IsOn q (span_of c.args.piece.now)) (coordinate_word p.x p.near_x)
-    (coordinate_word p.y p.near_y) c.on_piece.ensures.value).0 c.if-on_piece.true
+returns-then-on_piece-clause-part c = grind (arith, c.on_piece.ensures.value, c.if-on_piece.true, moved_fact, coordinate_word)
 
 pub returns-clause-part : goal.returns-clause-part
 returns-clause-part c =

@@ -1,9 +1,7 @@
-use Rattle.std.proofs.Common.{◌↔◌, IsTrue, sym, subst, map, ℤ, pos, ◌+ℤ◌}
+use Rattle.std.proofs.Common.{arith}
+use Rattle.std.proofs.Common.{sym, subst}
 use Rattle.fx_winding.specs.Limits.{IsPixelNumber}
-use Rattle.fx_winding.specs.Winding.{span_of}
 use Rattle.fx_winding.proofs.Places.{clash, no}
-use Rattle.fx_dropout.specs.declared.chooser.Closing.{Closing}
-use Rattle.fx_dropout.specs.Dropout.{IsNextChosen, IsNextNearer}
 use Rattle.fx_dropout.specs.inner.Pairs.{next_col, next_row}
 use Rattle.fx_dropout.proofs.Columns.{pixel_column, same_row, next_inside, here_number, inside_numbers}
 use Rattle.fx_dropout.proofs.chooser.Chooser.is_next.Goals as goal
@@ -44,18 +42,20 @@ invariant_of-is_next_nearer c =
 
 pub returns-clause-value : goal.returns-clause-value
 returns-clause-value c =
-    let f = c.args.self.now.frame in
-    let up = c.args.is_up in
-    let ss = map span_of c.args.self.now.pieces.now in
-    let inside = next_inside f up c.args.left c.args.row c.next_col.result c.next_row.result c.args.k c.is_in_frame.result
-    c.requires.left c.requires.row c.requires.place c.next_col.ensures c.next_row.ensures c.is_in_frame.ensures in
-    let bit = c.has_bit.ensures.0 c.if-not-has_bit.false in
-    let col = pixel_column c.args.left c.args.k c.requires.left c.requires.place in
-    let row = same_row c.args.row c.requires.row in
-    let near : IsTrue c.is_next_nearer.result ↔ IsNextNearer up ss (c.args.left +ℤ pos c.args.k) c.args.row =
-    subst (λ (z : ℤ × ℤ). IsTrue c.is_next_nearer.result ↔ IsNextNearer up ss z.0 z.1) (λ t. (col t, row t))
-    c.is_next_nearer.ensures.value in
-    let chosen = λ (closing : Closing). IsNextChosen closing up ss (c.args.left +ℤ pos c.args.k) c.args.row in (
-      λ t. (bit, (subst chosen (sym c.requires.nearer) (near.0 t), inside.0 c.if-not-is_in_frame.false)),
-      λ h. near.1 (subst chosen c.requires.nearer h.1.0),
+    grind (
+      arith,
+      c.requires.left,
+      c.requires.row,
+      c.requires.place,
+      c.next_col.ensures,
+      c.next_row.ensures,
+      c.is_in_frame.ensures,
+      c.has_bit.ensures.0,
+      c.if-not-has_bit.false,
+      c.is_next_nearer.ensures.value,
+      c.requires.nearer,
+      c.if-not-is_in_frame.false,
+      next_inside,
+      pixel_column,
+      same_row,
     )

@@ -7,10 +7,7 @@ use Rattle.fx_dropout.proofs.Columns.{same_row, one_more, all_of}
 use Rattle.fx_dropout.proofs.chooser.Chooser.nearer.Goals as goal
 
 pub pixels-init : goal.pixels-init
-pixels-init c = record {
-  bits = record { set = λ k l. absurd (omega (arith, l)); clear = λ k l. word_zero 1 k };
-  count = omega arith;
-}
+pixels-init c = grind (arith, word_zero)
 
 pub pixels-preserved : goal.pixels-preserved
 pixels-preserved c =
@@ -26,9 +23,7 @@ pixels-preserved c =
     }
 
 pub returns-clause-count : goal.returns-clause-count
-returns-clause-count c =
-    all_of c.pixels.tally.count c.args.tally.now.count c.pixels.k 32 (31 * 128 * length c.args.self.now.pieces.now) (omega arith)
-    c.pixels.invariant.count
+returns-clause-count c = grind (arith, c.pixels.invariant.count, all_of)
 
 pub returns-clause-bits : goal.returns-clause-bits
 returns-clause-bits c = λ i l.
