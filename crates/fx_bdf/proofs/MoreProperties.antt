@@ -1,9 +1,9 @@
 -- The properties of X11 before given ones, and how long they are.
 -- Serves `fields_from`, `push_untaken`, `x11_properties` and `all_properties`.
 use Rattle.std.proofs.Common.{◌≡◌, ℕ, ◌+◌, ◌*◌, ◌^◌, ◌<◌, ◌≤◌, zero, suc, Bool, true, false, not, cond, List, [], ◌∷◌, ◌++◌}
-use Rattle.std.proofs.Common.{length, refl, arith, lit≤, ℤ, pos, negsuc, FitsSigned}
+use Rattle.std.proofs.Common.{length, refl, arith, ℤ, pos, negsuc, FitsSigned}
 use Rattle.std.proofs.Common.{w32, length-append}
-use Rattle.std.specs.Prelude.{codes, filter, nat_le, if◌then◌else◌}
+use Rattle.std.specs.Prelude.{filter, nat_le, if◌then◌else◌}
 use Rattle.std.specs.List.{after_first, before_first, list_all, position_or_len}
 use Rattle.std.proofs.lemmas.Bool.{and_from, and_parts, le-leb, lt-ltb}
 use Rattle.std.proofs.lemmas.Int.{ints}
@@ -15,7 +15,7 @@ use Rattle.fx_bdf.specs.declared.summary.Summary.{Summary}
 use Rattle.fx_bdf.specs.Properties.{AreLines, AreProperties, PropertyView, is_integer, is_line, is_taken, longest_string}
 use Rattle.fx_bdf.specs.Properties.{seen_properties}
 use Rattle.fx_bdf.specs.Text.{IsName}
-use Rattle.fx_bdf.specs.X11.{before_given, charset_properties, default_properties, fields_from, is_font_name, is_hyphen}
+use Rattle.fx_bdf.specs.X11.{before_given, default_properties, fields_from, is_font_name, is_hyphen}
 use Rattle.fx_bdf.specs.X11.{name_properties, part_of, size_properties, spacing, width_properties, x11_properties}
 use Rattle.fx_bdf.proofs.GoodProperties.{few_and_short}
 use Rattle.fx_bdf.proofs.Parts.{name_short}
@@ -57,11 +57,7 @@ fits_integer (pos n) h = lt-ltb n (2 ^ 31) (omega (arith, ints))
 fits_integer (negsuc n) h = lt-ltb n (2 ^ 31) (omega (arith, ints))
 
 name_lines : (name : List ℕ) → IsName name → list_all is_line (name_properties name) ≡ true
-name_lines name named =
-    let few = name_short name named in
-    and_from _ _ (part_short 2 name name few few)
-    (and_from _ _ (part_short 3 (codes "Medium") name (lit≤ tt) few)
-    (and_from _ _ (part_short 4 (codes "R") name (lit≤ tt) few) refl))
+name_lines name named = grind (arith, ints, named, name_short, and_from, part_short)
 
 size_lines : (ppem : ℕ) → ppem < 2 ^ 16 → list_all is_line (size_properties ppem) ≡ true
 size_lines ppem small =
@@ -96,12 +92,7 @@ all-filter p q (x ∷ xs) h =
 x11_lines : (name : List ℕ) (ppem : ℕ) (summary : Summary) → IsName name → ppem < 2 ^ 16
     → FitsSigned w32 summary.average_width → list_all is_line (x11_properties name ppem summary) ≡ true
 x11_lines name ppem summary named small fits =
-    let last = default_properties summary.has_replacement summary.has_space in
-    all-append is_line (name_properties name) (size_properties ppem ++ (width_properties summary ++ (charset_properties ++ last)))
-    (name_lines name named)
-    (all-append is_line (size_properties ppem) (width_properties summary ++ (charset_properties ++ last)) (size_lines ppem small)
-    (all-append is_line (width_properties summary) (charset_properties ++ last) (width_lines summary fits)
-    (all-append is_line charset_properties last refl (default_lines summary.has_replacement summary.has_space).0)))
+    grind (arith, ints, named, small, fits, all-append, name_lines, size_lines, width_lines, default_lines)
 
 -- and so are those of all properties
 more_lines : (more given : List PropertyView) → length more ≤ 12 → list_all is_line more ≡ true → AreProperties given

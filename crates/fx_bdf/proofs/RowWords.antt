@@ -1,7 +1,7 @@
 -- Rows of pixels in words, from any bit on.
 -- Serves the rows of a glyph and their digits.
-use Rattle.std.proofs.Common.{◌≡◌, ◌⊎◌, inl, inr, refl, sym, ap, ◌∙◌, ℕ, zero, suc, ◌+◌, ◌-◌, ◌*◌, ◌/◌}
-use Rattle.std.proofs.Common.{◌%◌, ◌<◌, ◌≤◌, Bool, false, List, [], ◌∷◌}
+use Rattle.std.proofs.Common.{◌≡◌, refl, sym, ap, ◌∙◌, ℕ, zero, suc, ◌+◌, ◌-◌, ◌*◌, ◌/◌}
+use Rattle.std.proofs.Common.{◌%◌, ◌<◌, ◌≤◌, false, List, [], ◌∷◌}
 use Rattle.std.proofs.Common.{length, take, drop, get_or, arith, length-drop, get_or-drop, get_or-take}
 use Rattle.std.specs.Prelude.{◌==◌, if◌then◌else◌}
 use Rattle.std.specs.Int.{bit_at}
@@ -27,17 +27,8 @@ bit_or_none (suc (suc n)) h = absurd (omega arith)
 -- a pixel of the row is the bit of the words
 pub row_pixel : (width from : ℕ) (words : List ℕ) (i : ℕ) → HoldRow width from words
     → pixel (row_from width from words) i ≡ word_bit words (from + i)
-row_pixel width from words i h = by (below_or_not i width)
-  where
-    by : (i < width) ⊎ (width ≤ i) → pixel (row_from width from words) i ≡ word_bit words (from + i)
-    by (inl l) =
-        ap (λ (b : Bool). if b then 1 else 0)
-        (get_or-map-range_with_len (λ j. word_bit words (from + j) == 1) 0 width i i false l (omega arith))
-        ∙ bit_or_none (word_bit words (from + i)) (bit_at-lt (get_or words ((from + i) / 32) 0) (31 - (from + i) % 32))
-    by (inr l) =
-        ap (λ (b : Bool). if b then 1 else 0)
-        (get_or_past (row_from width from words) i false (omega (arith, length-row_from width from words)))
-        ∙ sym (h.unused i l)
+row_pixel width from words i h =
+    grind (arith, below_or_not i width, get_or-map-range_with_len, bit_or_none, bit_at-lt, get_or_past, length-row_from)
 
 -- a bit of the row is the bit of the words
 pub row_bit : (width from : ℕ) (words : List ℕ) (i at : ℕ) → i < width → at ≡ from + i

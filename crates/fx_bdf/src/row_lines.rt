@@ -102,16 +102,8 @@ fn put_short_lines(
     (end, i)
 }
 
-/// How many lines of this many digits fit into a room. A row's digits are written by whole words, so the last line needs up to 6
-/// bytes more than its own.
-fn fitting(room: usize, digits: usize) -> usize
-    requires { digits ≤ 2 ^ 11 }
-    ensures { (k : ℕ) → k < result → k * (digits + 1) + digits + 7 ≤ room }
-{
-    room.saturating_sub(6) / (digits + 1)
-}
-
-/// The row after the last one whose line fits into a room, of lines of this many digits from the row `first` on.
+/// The row after the last one whose line fits into a room, of lines of this many digits from the row `first` on. A row's digits are
+/// written by whole words, so the last line needs up to 6 bytes more than its own.
 fn last_fitting(room: usize, digits: usize, rows: &BoxRows<'_>, first: u32) -> u32
     requires digits { digits ≤ 2 ^ 11 }
     requires first { first ≤ length rows.now }
@@ -120,7 +112,8 @@ fn last_fitting(room: usize, digits: usize, rows: &BoxRows<'_>, first: u32) -> u
     ensures room { (k : ℕ) → k < result - first → k * (digits + 1) + digits + 7 ≤ room }
 {
     let left = rows.len() - first;
-    first + fitting(room, digits).min(left as usize) as u32
+    let fitting = room.saturating_sub(6) / (digits + 1);
+    first + fitting.min(left as usize) as u32
 }
 
 /// Writes the lines of rows from the row `first` on over the bytes from `start` on: as many as there is room for, or none if the

@@ -15,14 +15,14 @@ use Rattle.fx_glyf.specs.Points.{Cursor, x_short_vector, x_is_same_or_positive_x
 use Rattle.fx_glyf.specs.Points.{y_is_same_or_positive_y_short_vector, repeat_flag, next_flag, flags_from, delta_of, delta_by}
 use Rattle.fx_glyf.specs.Points.{deltas_from, glyph_points_of, start}
 use Rattle.fx_glyf.specs.Words.{with_front, has}
-use Rattle.fx_glyf.specs.Grammar.{Run, run_bytes, run_flags, AreRuns, SpellsBy, SpellsAll, DescribesPoints}
+use Rattle.fx_glyf.specs.Grammar.{FlagRun, run_bytes, run_flags, AreRuns, SpellsBy, SpellsAll, DescribesPoints}
 use Rattle.fx_glyf.proofs.Steps.{front_is}
 
 -- the state of reading flags
 abbrev cursor : ℕ → ℕ → List ℕ → Cursor
 cursor again flag bytes = record { again = again; flag = flag; bytes = bytes }
 
-abbrev run : ℕ → ℕ → Run
+abbrev run : ℕ → ℕ → FlagRun
 run flag again = record { flag = flag; again = again }
 
 -- a flag that is read is a run
@@ -52,13 +52,13 @@ run_one_by true flag f a rest h g = ap (λ (b : Bool). cond b (Some (cursor a f 
 run_one_by false flag f a [] h g = grind arith
 run_one_by false flag f a (x ∷ xs) h g = grind arith
 
-run_one : (flag : ℕ) (r : Run) (rest : List ℕ) → (has r.flag repeat_flag ≡ false → r.again ≡ 0)
+run_one : (flag : ℕ) (r : FlagRun) (rest : List ℕ) → (has r.flag repeat_flag ≡ false → r.again ≡ 0)
     → next_flag (cursor 0 flag (run_bytes r ++ rest)) ≡ Some (cursor r.again r.flag rest)
 run_one flag r rest h = run_one_by _ flag r.flag r.again rest refl h
 
 -- flags that are read are those of runs
 record Runs (n again flag : ℕ) (bytes fs rest : List ℕ) : Type 0 where
-  runs : List Run
+  runs : List FlagRun
   split : bytes ≡ flat_map run_bytes runs ++ rest
   are : AreRuns (n - again) runs
   flags : fs ≡ take n (replicate again flag ++ flat_map run_flags runs)
@@ -99,7 +99,7 @@ runs_of (suc n) zero flag bytes fs rest e =
     })
 
 -- runs are read
-runs_read : (n again flag : ℕ) (runs : List Run) (rest : List ℕ) → AreRuns (n - again) runs
+runs_read : (n again flag : ℕ) (runs : List FlagRun) (rest : List ℕ) → AreRuns (n - again) runs
     → flags_from n (cursor again flag (flat_map run_bytes runs ++ rest)) ≡ Some
     (take n (replicate again flag ++ flat_map run_flags runs), rest)
 unfolding flags_from next_flag

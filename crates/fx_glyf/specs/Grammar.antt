@@ -15,19 +15,19 @@ use Rattle.fx_glyf.specs.declared.glyph.Glyph.{Glyph}
 use Rattle.fx_glyf.specs.declared.glyph.Glyph.TheVariants.{Empty, Simple, Composite}
 
 -- a flag, and the number of further points with it
-pub record Run : Type 0 where
+pub record FlagRun : Type 0 where
   pub flag : ℕ
   pub again : ℕ
 
 -- a flag that repeats is followed by that number
-abbrev pub run_bytes : Run → List ℕ
+abbrev pub run_bytes : FlagRun → List ℕ
 run_bytes r = if has r.flag repeat_flag then r.flag ∷ r.again ∷ [] else r.flag ∷ []
 
-abbrev pub run_flags : Run → List ℕ
+abbrev pub run_flags : FlagRun → List ℕ
 run_flags r = replicate (suc r.again) r.flag
 
 -- runs for `left` points: each begins at a point that has no flag yet, and the last may go past the last point
-abbrev pub AreRuns : ℕ → List Run → Type 0
+abbrev pub AreRuns : ℕ → List FlagRun → Type 0
 AreRuns left [] = left ≡ 0
 AreRuns left (r ∷ rs) = (0 < left) × (has r.flag repeat_flag ≡ false → r.again ≡ 0) × AreRuns (left - suc r.again) rs
 
@@ -49,7 +49,7 @@ SpellsAll short same _ _ bytes = ⊥
 
 -- `count` points, as runs of flags, x deltas and y deltas
 pub record DescribesPoints (count : ℕ) (bytes : List ℕ) (points : List Point) : Type 0 where
-  pub runs : List Run
+  pub runs : List FlagRun
   pub flags : List ℕ
   pub dxs : List ℕ
   pub dys : List ℕ

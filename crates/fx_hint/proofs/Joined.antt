@@ -1,4 +1,4 @@
--- Zones after an empty one.
+-- A zone that is joined to an empty one is itself: `after_empty`.
 -- For the first component of a composite.
 use Rattle.std.proofs.Common.{◌≡◌, ℕ, ◌+◌, ◌<◌, List, [], ◌∷◌, length, map, refl, sym, ap, ◌∙◌, arith}
 use Rattle.std.specs.List.{All}

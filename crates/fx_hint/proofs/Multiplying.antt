@@ -1,4 +1,4 @@
--- Products of a number in 2.14 and a coordinate, which 128 bits hold.
+-- A number in 2.14 times a coordinate, in 128 bits, is the product without a bound: `product_is`.
 -- It serves the places of components that are transformed.
 use Rattle.std.proofs.Common.{◌≡◌, ◌≤◌, ◌^◌, ℤ, FitsSigned, unsigned_abs, to_z, of_z, arith, ◌*ℤ◌}
 use Rattle.std.proofs.lemmas.Int.{to_z-of_z, fits_signed_mul, unsigned_abs-mul, ints}

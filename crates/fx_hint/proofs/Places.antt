@@ -1,4 +1,4 @@
--- Places of a list, none of them empty.
+-- A list of full places has a value for each place (`present_length`), also with one more (`one_more`) or one less (`one_less`).
 -- For the list of composites that wait.
 use Rattle.std.proofs.Common.{◌≡◌, suc, ◌<◌, List, [], ◌∷◌, ◌++◌, length, Option, Some, None, refl, ap, arith}
 use Rattle.std.specs.Prelude.{IsSome, MatchOption}

@@ -1,4 +1,4 @@
--- The points of the composites that wait, and of one with one component more.
+-- A composite with one component more has the points of both: `part_adds_points`.
 -- For the walk over components: where one is joined to its composite, both have at most max_points points.
 use Rattle.std.proofs.Common.{◌≡◌, ℕ, ◌+◌, List, [], ◌∷◌, ◌++◌, length, map, Bool, Ok, ap, ◌∙◌, subst}
 use Rattle.std.proofs.Common.{arith, length-append}

@@ -1,4 +1,4 @@
--- Places that a transformation leaves where they are.
+-- A component without a transformation leaves each place where it is: `turned_itself`.
 -- For components without a transformation.
 use Rattle.std.proofs.Common.{◌≡◌, ◌^◌, ℤ, pos, ◌+ℤ◌, ◌-ℤ◌, ◌*ℤ◌, unsigned_abs, FitsSigned, arith}
 use Rattle.std.proofs.Common.{◌∙◌, ap, sym, refl, List, [], ◌∷◌, map}

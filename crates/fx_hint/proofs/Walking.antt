@@ -1,4 +1,4 @@
--- A simple glyph whose points are counted.
+-- What the walk makes of a simple glyph within the limits is what the definition makes of it: `simple_is`.
 -- For the walk over components.
 use Rattle.std.proofs.Common.{◌≡◌, ℕ, length, Bool, sym, ap, ◌∙◌, None, Result, Ok}
 use Rattle.std.proofs.lemmas.List.{length-map}

@@ -11,7 +11,8 @@ use crate::hinter::{Hinter, NoHinter};
 use crate::kept::GlyphInput;
 use crate::kept_glyphs::KeptGlyphs;
 use crate::made::Made;
-use fx_machine::{Machine, Usage};
+use crate::programmed::hint;
+use fx_machine::{Machine, Unwatched, Usage};
 use std::alloc::Global;
 use std::marker::Model;
 
@@ -89,12 +90,12 @@ impl<'a> Hinter for KeepingMachine<'a> {
 
     fn run(
         &mut self,
-        component: Option<ComponentOf>,
+        _component: Option<ComponentOf>,
         g: u16,
         code: &[u8],
         made: &mut Made,
     ) -> Result<Usage, HintFault> {
-        self.machine.run(component, g, code, made)
+        hint(&mut self.machine, g, code, made, &mut Unwatched)
     }
 
     fn recall(&self, input: &GlyphInput<'_>, made: &mut Made) -> Option<Usage> {

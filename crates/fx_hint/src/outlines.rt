@@ -22,6 +22,7 @@ use fx_scale::Scale;
 use fx_sfnt::Font;
 use fx_zone::Point;
 use std::alloc::{AllocError, Global};
+use std::mem;
 
 /// A point to be written over.
 const BLANK: OutlinePoint = OutlinePoint {
@@ -98,7 +99,7 @@ pub fn outline_in<H: Hinter>(
         root: g,
     };
     let zone = spare.take_zone(alloc);
-    let (made, usage) = walk.root_made(hinter, zone, spare.component())?;
+    let (made, usage) = walk.root_made(hinter, zone, &mut spare.component)?;
     let outline = moved_outline(alloc, spare, made, usage)?;
     Ok(outline)
 }
@@ -120,10 +121,11 @@ fn moved_outline(
         wish,
     } = made;
     let origin = phantoms.origin.cur.x;
-    let points = moved_points(spare.take_points(alloc), zone.points(), origin)?;
+    let buffer = mem::replace(&mut spare.points, Vec::new(alloc));
+    let points = moved_points(buffer, zone.points(), origin)?;
     let advance = phantoms.advance.cur.x.minus(origin);
     let (unmoved, ends) = zone.into_lists();
-    spare.give_back_zone(unmoved);
+    spare.zone = unmoved;
     let outline = Outline { points, ends };
     Ok(GlyphOutline {
         outline,

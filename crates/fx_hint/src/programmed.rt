@@ -5,7 +5,7 @@ ghost use Rattle.fx_fixed.specs.Chain.{GivesUnless};
 ghost use Rattle.fx_hint.specs.Faults.{Fails};
 ghost use Rattle.fx_machine.specs.Events.{Watches};
 ghost use Rattle.fx_hint.specs.Watched.{WatchesAll, events_for};
-ghost use Rattle.fx_hint.specs.Programmed.{point_or, point_at, phantoms_at, program_run, hinted, program_events, hinted_events, seen_by};
+ghost use Rattle.fx_hint.specs.Programmed.{point_or, point_at, phantoms_at, hinted, hinted_events, seen_by};
 
 use crate::component::ComponentOf;
 use crate::fault::HintFault;
@@ -44,35 +44,9 @@ fn phantoms_at(zone: &Zone, first: usize) -> PhantomPoints
     }
 }
 
-/// The program of a glyph runs on its points, with the phantom points after them.
-#[tactic(auto, unfolding(crate::specs::Programmed::program_run, crate::specs::Programmed::program_events))]
-fn run_program<W: Watching>(
-    machine: &mut Machine<'_>,
-    g: u16,
-    code: &[u8],
-    made: &mut Made,
-    watcher: &mut W,
-) -> Result<Usage, HintFault>
-    ensures kept { machine.new.known ≡ machine.old.known }
-    ensures value { GivesUnless Fails (λ usage. (made.new, usage)) result (program_run machine.old.known g code.now made.old) }
-    ensures watched { Watches W.Sees watcher.old (seen_by result
-        (program_events machine.old.known g code.now made.old)) watcher.new }
-{
-    let count = made.zone.len();
-    // For the prover: where the contours end.
-    let _ends = made.zone.ends();
-    let phantoms = made.phantoms.in_order();
-    made.zone.append(&phantoms, &[])?;
-    let ran = machine.run_glyph(g, Code::new(code), &mut made.zone, watcher)?;
-    made.phantoms = phantoms_at(&made.zone, count);
-    made.zone.truncate(count);
-    made.wish = ran.wish;
-    Ok(ran.usage)
-}
-
-/// The program of a glyph runs, unless there is none, or `prep` asked for none.
-#[tactic(auto, unfolding(crate::specs::Programmed::hinted, crate::specs::Programmed::hinted_events))]
-fn hint<W: Watching>(
+/// The program of a glyph runs on its points, with the phantom points after them; unless there is none, or `prep` asked for none.
+#[tactic(auto, unfolding(crate::specs::Programmed::hinted, crate::specs::Programmed::hinted_events, crate::specs::Programmed::program_run, crate::specs::Programmed::program_events))]
+pub(crate) fn hint<W: Watching>(
     machine: &mut Machine<'_>,
     g: u16,
     code: &[u8],
@@ -88,7 +62,16 @@ fn hint<W: Watching>(
         made.wish = machine.wish();
         return Ok(Usage::none());
     }
-    run_program(machine, g, code, made, watcher)
+    let count = made.zone.len();
+    // For the prover: where the contours end.
+    let _ends = made.zone.ends();
+    let phantoms = made.phantoms.in_order();
+    made.zone.append(&phantoms, &[])?;
+    let ran = machine.run_glyph(g, Code::new(code), &mut made.zone, watcher)?;
+    made.phantoms = phantoms_at(&made.zone, count);
+    made.zone.truncate(count);
+    made.wish = ran.wish;
+    Ok(ran.usage)
 }
 
 impl<'a> Hinter for Machine<'a> {

@@ -14,10 +14,10 @@ use std::mem;
 #[derive(Drop)]
 pub struct Spare {
     /// The points before they were moved.
-    zone: Vec<Point>,
+    pub(crate) zone: Vec<Point>,
     /// A component.
-    component: Zone,
-    points: Vec<OutlinePoint>,
+    pub(crate) component: Zone,
+    pub(crate) points: Vec<OutlinePoint>,
     ends: Vec<u16>,
 }
 
@@ -51,24 +51,6 @@ impl Spare {
         let Outline { points, ends } = outline;
         self.points = points;
         self.ends = ends;
-    }
-
-    /// A zone for a component. The caller overwrites what it holds.
-    #[inline(always)]
-    pub(crate) fn component(&mut self) -> &mut Zone {
-        &mut self.component
-    }
-
-    /// Takes the list of points of a zone that is done with.
-    #[inline(always)]
-    pub(crate) fn give_back_zone(&mut self, points: Vec<Point>) {
-        self.zone = points;
-    }
-
-    /// The list for an outline's points. The caller overwrites what it holds.
-    #[inline(always)]
-    pub(crate) fn take_points(&mut self, alloc: Global) -> Vec<OutlinePoint> {
-        mem::replace(&mut self.points, Vec::new(alloc))
     }
 
     /// An empty zone in the lists for points and contours.

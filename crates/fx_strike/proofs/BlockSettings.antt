@@ -1,6 +1,6 @@
 -- What is read from a block of a font's setting is its machine, and with it the setting.
 -- Serves the calls that open a font by a block.
-use Rattle.std.proofs.Common.{◌≡◌, refl, sym, ap, ◌∙◌, ℕ, List, Bool, true, Option, Some, None, Result, Ok, Err}
+use Rattle.std.proofs.Common.{◌≡◌, refl, sym, ap, ◌∙◌, ℕ, List, Bool, true, Option, Some, None, Result, Ok, Err, arith}
 use Rattle.std.specs.Prelude.{option_map}
 use Rattle.fx_fixed.specs.Chain.{◌>>=◌, map_ok, map_fault}
 use Rattle.fx_fixed.proofs.Chain.{ok_injective}
@@ -21,9 +21,7 @@ use Rattle.fx_strike.specs.Blocks.{IsBlockFor}
 ran_is : (face : Face) (ppem : ℕ) (ran : Result (Usage × State) MachineFault) (known : Known)
     → (ran >>= λ r. Ok (record { face = face; ppem = ppem; prepared = prepared_from r.1; prelude = r.0 })) ≡ Ok known
     → (known.face ≡ face) × (known.ppem ≡ ppem)
-ran_is face ppem (Ok r) known e =
-    let same = ok_injective (record { face = face; ppem = ppem; prepared = prepared_from r.1; prelude = r.0 }) known e in
-    (sym (ap (λ k. k.face) same), sym (ap (λ k. k.ppem) same))
+ran_is face ppem (Ok r) known e = grind (arith, e, ok_injective)
 ran_is face ppem (Err f) known e = cc
 
 -- the machine of a font at a size is of this font and size
@@ -85,10 +83,7 @@ pub record IsSet (t : Basis) (x : Result (Option Known) Refusal) (s : Setting) :
 parts : (t : Basis) (x : Result (Option Known) Refusal) (s : Setting)
     → (x >>= λ m. Ok (setting_with t m)) ≡ Ok s
     → IsSet t x s
-parts t (Ok m) s e =
-    let k : setting_with t m ≡ s = ok_injective _ _ e in
-    let j : m ≡ s.machine = ap (λ t. t.machine) k in
-    record { machine = ap Ok j; setting = ap (setting_with t) (sym j) ∙ k }
+parts t (Ok m) s e = grind (arith, e, ok_injective)
 parts t (Err d) s e = cc
 
 pub setting_parts : (o : Opened) (mode : Mode) (s : Setting) → setting_in o mode ≡ Ok s

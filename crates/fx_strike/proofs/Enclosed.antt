@@ -1,5 +1,5 @@
 -- A glyph whose shape lies in a box leaves that box as it is.
--- Serves `bounds_with` and `see_drawn`.
+-- Serves `see_drawn`.
 use Rattle.std.proofs.Common.{◌≡◌, refl, sym, ap, ◌∙◌, subst, inl, inr, ℕ, ◌<◌, ℤ, pos, ◌+ℤ◌, ◌≤ℤ◌, ◌<ℤ◌, Bool, true}
 use Rattle.std.proofs.Common.{false, ◌||◌, Ok, arith}
 use Rattle.std.specs.Prelude.{IsTrue, ◌==◌, if◌then◌else◌}
@@ -29,17 +29,7 @@ record Encloses (big small : Box) : Type 0 where
 
 encloses : (big small : Box) (bit : ℤ → ℤ → Bool) → HasSides small bit
     → ((col row : ℤ) → IsTrue (bit col row) → IsTrue (is_in_box big col row)) → Encloses big small
-encloses big small bit s h =
-    let x = (parts_of_place big _ _ (h _ _ s.left.1)).0 in
-    let y = (parts_of_place big _ _ (h _ _ s.bottom.1)).1 in
-    record {
-      left = x.0;
-      right = (parts_of_place big _ _ (h _ _ s.right.1)).0.1;
-      bottom = y.0;
-      top = (parts_of_place big _ _ (h _ _ s.top.1)).1.1;
-      wide = omega (arith, signed_linear, x);
-      high = omega (arith, signed_linear, y);
-    }
+encloses big small bit s h = grind (arith, signed_linear, s, h, parts_of_place)
 
 -- a run of numbers within another, together with it
 start_kept : (a b : ℤ) → a ≤ℤ b → int_min a b ≡ a
@@ -47,14 +37,7 @@ start_kept a b h = let m = int_min_is a b in omega (arith, signed_linear, h, m)
 
 count_kept : (a b : ℤ) (m n : ℕ) → a ≤ℤ b → last_of b n <ℤ (a +ℤ pos m)
     → steps (int_min a b) (int_max (a +ℤ pos m) (b +ℤ pos n)) ≡ m
-count_kept a b m n h k =
-    let s : int_min a b ≡ a = start_kept a b h in
-    let x = int_max_is (a +ℤ pos m) (b +ℤ pos n) in
-    let e : int_max (a +ℤ pos m) (b +ℤ pos n) ≡ a +ℤ pos m = omega (arith, signed_linear, x, k) in
-    let up : a +ℤ pos m ≡ a +ℤ pos (steps a (a +ℤ pos m)) =
-    steps_above a (a +ℤ pos m) (omega (arith, signed_linear)) in
-    ap (λ (z : ℤ). steps z (int_max (a +ℤ pos m) (b +ℤ pos n))) s ∙ ap (steps a) e ∙
-    (let c : steps a (a +ℤ pos m) ≡ m = omega (arith, signed_linear, up) in c)
+count_kept a b m n h k = grind (arith, signed_linear, h, k, start_kept, int_max_is, steps_above)
 
 around_kept : (big small : Box) → Encloses big small → around big small ≡ big
 unfolding around
@@ -77,26 +60,20 @@ joined_kept_by big small false false e f h = around_kept big small h
 -- a tight box all whose bits lie in another leaves that one as it is
 joined_kept : (big box : Box) (bit : ℤ → ℤ → Bool) → IsTight box bit
     → ((col row : ℤ) → IsTrue (bit col row) → IsTrue (is_in_box big col row)) → joined big box ≡ big
-joined_kept big box bit t h = elim t.sides [
-  | inl e ↦ let P : Box → Type 0 = λ b. joined big b ≡ big in subst P (sym e) refl
-  | inr s ↦ joined_kept_by big box (is_empty box) (is_empty big) refl refl (encloses big box bit s h)
-]
+joined_kept big box bit t h = grind (arith, signed_linear, t, h, joined_kept_by, encloses)
 
 -- ---- a shape in a box
 
 -- a glyph whose shape lies in a box leaves the box as it is
 pub skipped : (sketch : Sketch) (box : Box)
     → ((col row : ℤ) → IsPixelSet sketch.shape.rule sketch.shape.spans col row → IsInRegion (region_of box) col row)
-    → IsPlaced box → CanBeDrawn sketch → Joins sketch box (Ok box)
+    → IsPlaced box → CanBeDrawn sketch → Joins sketch box box
 skipped sketch box inside placed h =
     let bits : (col row : ℤ) → IsTrue (glyph_bit h.glyph col row) → IsTrue (is_in_box box col row) =
     λ col row t. let r = inside col row ((h.is.bits col row).0 t) in lies_in_box box col row r.0 r.1 in
     (h.glyph, h.is, sym (joined_kept box h.glyph.box (glyph_bit h.glyph) h.is.tight bits), placed)
 
 -- a character was added
-pub has_added : (sketch : Sketch) (old new : Seen) (box : Box) → Joins sketch old.bounds (Ok box) → Adds sketch box old new
+pub has_added : (sketch : Sketch) (old new : Seen) (box : Box) → Joins sketch old.bounds box → Adds sketch box old new
     → Has sketch old new
-has_added sketch old new box j a =
-    let P : Box → Type 0 = λ b. IsPlaced b in
-    let Q : Box → Type 0 = λ b. Adds sketch b old new in
-    record { glyph = j.0; drawn = j.1; placed = subst P (sym a.bounds_are) j.3; adds = subst Q j.2 a }
+has_added sketch old new box j a = grind (arith, signed_linear, j, a)

@@ -1,4 +1,4 @@
--- Where a plan is due there are glyphs of its sketches.
+-- If a plan is due, there are glyphs of all its sketches, and so a strike exists: `strike_exists`.
 -- Serves the law that a strike exists, `see_one` and `write_one`.
 use Rattle.std.proofs.Common.{◌≡◌, ℕ, ◌≤◌, ℤ, pos, negsuc, ◌+ℤ◌, ◌<ℤ◌, Bool, not, List, [], ◌∷◌, ◌++◌, Ok, arith}
 use Rattle.std.specs.Prelude.{filter}
@@ -20,16 +20,7 @@ use Rattle.fx_strike.proofs.Trimming.{AreSmall, trimmed}
 
 -- the bits of a picture lie near
 are_small : (shape : ShapeView) (bit : ℤ → ℤ → Bool) → IsPicture shape bit → AreSmall bit (negsuc 32767) 65536
-are_small shape bit p =
-    let to : (z : ℤ) → z <ℤ pos 32768 → z <ℤ (negsuc 32767 +ℤ pos 65536) = λ z h. h in
-    record {
-      from = omega (arith, ints);
-      to = omega (arith, ints);
-      columns = λ col row h. let n = p.columns col row h in (n.0, to col n.1);
-      rows = λ col row h. let n = p.rows col row h in (n.0, to row n.1);
-      narrow = p.narrow;
-      low = p.low;
-    }
+are_small shape bit p = grind (arith, p)
 
 -- a sketch has a glyph
 glyph_of_shape : (s : Sketch) → IsOfOutline s.shape → (g : Glyph) × IsGlyphOf s g
@@ -56,9 +47,7 @@ glyph_of_sketch setting code glyph s h =
 
 pub drawable : (setting : Setting) (code glyph : ℕ) (s : Sketch) → glyph_sketch_of setting code glyph ≡ Ok s → code ≤ max_code
     → CanBeDrawn s
-drawable setting code glyph s h low =
-    let g = glyph_of_sketch setting code glyph s h in
-    record { code = omega (arith, sketch_code setting code glyph s h, low); glyph = g.0; is = g.1 }
+drawable setting code glyph s h low = grind (arith, h, low, glyph_of_sketch, sketch_code)
 
 -- a sketch that is due with hinting or without has a glyph
 glyphs_of_fate : (setting : Setting) (refused : OnRefused) (code glyph : ℕ) (f : Fate)

@@ -1,4 +1,4 @@
--- What the exit of a `?` returns.
+-- A function that a `?` leaves returns the fault that came: `came`.
 -- Serves the answers at such exits.
 use Rattle.std.proofs.Common.{◌≡◌, ap, Result, Ok, Err}
 use Rattle.std.specs.Prelude.{IsErrAnd}

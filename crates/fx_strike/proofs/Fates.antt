@@ -1,4 +1,4 @@
--- What becomes of characters.
+-- The fate of a character that is refused is what its cause, and the choice for refused characters, say: `fate_by_cause`.
 -- Serves `fate_refused`, `see_one` and `write_one`.
 use Rattle.std.proofs.Common.{◌≡◌, refl, ◌∙◌, ℕ, ◌≤◌, Result, Ok, Err}
 use Rattle.std.specs.Prelude.{IfErr, OnOk}

@@ -1,4 +1,4 @@
--- What is gathered of glyphs, one after the other.
+-- What is gathered of glyphs and then of one more is what is gathered of them all: `gathered_push`.
 -- Serves `see`, `survey_codes` and the functions of `Gathered`.
 use Rattle.std.proofs.Common.{◌≡◌, ◌∙◌, ℕ, ◌+◌, ◌*◌, ◌^◌, ◌<◌, ◌≤◌, suc, ℤ, pos, Bool, true, false, ◌&&◌, ◌||◌, List, [], ◌∷◌, ◌++◌}
 use Rattle.std.proofs.Common.{length, map, refl, sym, ap, ap₂, arith, Option, Some, FitsSigned, w32, to_z, of_z}
@@ -39,23 +39,7 @@ first_push (m ∷ ms) n = refl
 
 pub gathered_push : (glyphs : List Glyph) (g : Glyph) (old new : Gathered) → IsGatheredOf glyphs old
     → new ≡ gathered_with old g.code g.dwidth → IsGatheredOf (glyphs ++ g ∷ []) new
-gathered_push glyphs g old new h e =
-    let dwidths = map (λ (x : Glyph). x.dwidth) glyphs in
-    let more : dwidths ++ g.dwidth ∷ [] ≡ map (λ (x : Glyph). x.dwidth) (glyphs ++ g ∷ []) =
-    sym (map-append (λ (x : Glyph). x.dwidth) glyphs (g ∷ [])) in
-    record {
-      total = ap (λ (x : Gathered). x.total) e ∙ ap (λ (n : ℕ). n + unsigned_abs g.dwidth) h.total
-          ∙ sym (sum_by_push (λ (x : Glyph). unsigned_abs x.dwidth) glyphs g);
-      first = ap (λ (x : Gathered). x.first) e ∙ ap (λ (o : Option ℤ). Some (unwrap_or o g.dwidth)) h.first
-          ∙ first_push dwidths g.dwidth ∙ ap (λ (ns : List ℤ). slice_get ns 0) more;
-      monospaced = ap (λ (x : Gathered). x.is_monospaced) e
-          ∙ ap₂ (λ (b : Bool) (o : Option ℤ). b && agrees o g.dwidth) h.monospaced h.first
-          ∙ sym (one_push dwidths g.dwidth) ∙ ap are_one more;
-      replacement = ap (λ (x : Gathered). x.has_replacement) e ∙ ap (λ (b : Bool). b || g.code == 65533) h.replacement
-          ∙ sym (any_push (λ (x : Glyph). x.code == 65533) glyphs g);
-      space = ap (λ (x : Gathered). x.has_space) e ∙ ap (λ (b : Bool). b || g.code == 32) h.space
-          ∙ sym (any_push (λ (x : Glyph). x.code == 32) glyphs g);
-    }
+gathered_push glyphs g old new h e = grind (arith, h, e, map-append, sum_by_push, first_push, one_push, any_push)
 
 -- ---- all glyphs
 
@@ -68,20 +52,13 @@ as_many (s ∷ ss) [] h = absurd h
 
 pub summary_is : (glyphs : List Glyph) (gathered : Gathered) (count : ℕ) → IsGatheredOf glyphs gathered → count ≡ length glyphs
     → summary_with gathered count ≡ summary_of glyphs
-summary_is glyphs gathered count h e = λ i. record {
-  is_monospaced = h.monospaced i;
-  average_width = ap₂ mean_of h.total e i;
-  has_replacement = h.replacement i;
-  has_space = h.space i;
-}
+summary_is glyphs gathered count h e = grind (arith, h, e)
 
 -- ---- the mean
 
 -- a mean of sizes of at most 2 ^ 25 pixels, ten times
 mean_small : (total count : ℕ) → 0 < count → total ≤ 2 ^ 25 * count → near_size (10 * total) count ≤ 335544320
-mean_small total count some few =
-    let below = div_below (2 * (10 * total) + count) (2 * count) 335544321 (omega (arith, some)) (omega (arith, some, few)) in
-    omega (arith, below)
+mean_small total count some few = grind (arith, some, few, div_below)
 
 mean_fits : (total count : ℕ) → 0 < count → total ≤ 2 ^ 25 * count → FitsSigned w32 (near_of (pos (10 * total)) (pos count))
 unfolding near_of
@@ -89,12 +66,7 @@ mean_fits total count some few = omega (arith, ints, mean_small total count some
 
 -- the mean as the code casts it
 mean_some : (total count : ℕ) → 0 < count → near_of (pos (10 * total)) (pos count) ≡ mean_of total count
-mean_some total count h = by (count == 0) (grind (arith, nat_tests))
-  where
-    by : (b : Bool) → b ≡ false
-        → near_of (pos (10 * total)) (pos count) ≡ (if b then pos 0 else near_of (pos (10 * total)) (pos count))
-    by true e = absurd (cc)
-    by false e = refl
+mean_some total count h = grind (arith, h, nat_tests)
 
 pub mean_is : (total count : ℕ) (n d r : ℤ) → r ≡ near_of n d → n ≡ pos (10 * total) → d ≡ pos count → 0 < count
     → total ≤ 2 ^ 25 * count

@@ -1,5 +1,5 @@
 -- The lines of the first characters: how they grow, and that what is written after them is the lines of the others.
--- Serves `bounds_with`, `see_fate`, `see` and `write_all`.
+-- Serves `see_drawn`, `see_fate`, `see` and `write_all`.
 use Rattle.std.proofs.Common.{◌≡◌, refl, sym, ap, ◌∙◌, subst, arith, ℕ, zero, suc, ◌+◌, ◌<◌, true, List, []}
 use Rattle.std.proofs.Common.{◌∷◌, ◌++◌, length, take, drop, get_or, length-append, take-append-drop, Result, Ok, Err, OnOk}
 use Rattle.std.specs.Prelude.{nat_lt}
@@ -34,12 +34,7 @@ keeps_lines {a} {b} {old} {new} e h = let P : List ℕ → Type 0 = λ t. Keeps 
 -- no character so far
 pub kept_none : {setting : Setting} {refused : OnRefused} {mapped : List Mapped} (kept : KeptText) → IsOfNone kept
     → IsKept setting refused mapped 0 kept
-kept_none kept h = record {
-  few = omega (arith, h.count);
-  all = λ _. h.count;
-  short = omega (arith, ap length h.bytes);
-  lines = λ lines _. rw (h.count, h.bytes) refl;
-}
+kept_none kept h = grind (arith, h)
 
 -- a character that was seen has lines
 pub lines_there : {setting : Setting} {refused : OnRefused} {code glyph : ℕ} {old new : Seen}

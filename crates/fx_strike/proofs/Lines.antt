@@ -1,4 +1,4 @@
--- What the second pass writes: of a character, of all characters, and of a strike.
+-- Lines that are written one after the other are the strike's text, or its beginning up to a fault: `strike_leaves`.
 -- Serves `write_one`, `write_all`, `write_text` and `write_strike`.
 use Rattle.std.proofs.Common.{◌≡◌, refl, sym, ap, ap₂, ◌∙◌, subst, append_assoc, arith, inr, ℕ, zero, suc, ◌-◌, ◌^◌, ◌<◌, OnOk, Bool, Option}
 use Rattle.std.proofs.Common.{List, [], ◌∷◌, ◌++◌, length, get_or, length-append, Result, Ok, Err}
@@ -49,14 +49,7 @@ pub writes_closed : {sink : GName} {old new : Option (List ℕ)} {faults_before 
     → faults ≡ now.faults
     → Writes (record { bytes_before = old; bytes = new; faults_before = faults_before; faults = faults }) text r
 writes_closed {sink} {old} {new} {faults_before} {faults} {was} {now} {text} {r} e h empty held count =
-    rw (held, count) (by r (rw e at h) empty)
-  where
-    by : (r : Result (Unit {0}) Refusal) → Adds Stops (begun sink old faults_before) now text r → OnOk r (now.waiting ≡ [])
-        → Writes (record { bytes_before = old; bytes = now.held; faults_before = faults_before; faults = now.faults }) text r
-    by (Ok u) h empty =
-        let whole : text ≡ h.outcome.0 = h.outcome.1 ∙ ap (λ (t : List ℕ). h.outcome.0 ++ t) empty ∙ append-nil h.outcome.0 in
-        record { outcome = rw whole (h.outcome.3, h.outcome.4) }
-    by (Err d) h empty = record { outcome = h.outcome }
+    grind (arith, e, h, empty, held, count, append-nil)
 
 -- ---- a character
 
@@ -228,37 +221,9 @@ survey_text setting title chars refused survey s =
 leaves_by : {due : Result Plan Refusal} {change : Change} {survey : Survey} (s : Surveyed due survey)
     (r : Result (Unit {0}) Refusal) → Writes change (strike_text s.plan s.glyphs) r
     → Leaves {Y = Unit {0}} (Ok tt) due change (map_ok (λ _. survey.report) r)
-leaves_by s (Ok u) w = record {
-  plan = s.plan;
-  glyphs = s.glyphs;
-  is = s.is;
-  drawn = s.drawn;
-  written = w.outcome.0;
-  quiet = w.outcome.1;
-  told = s.told;
-}
-leaves_by s (Err OutOfMemory) w =
-    let o = w.outcome in (
-      refl,
-      record {
-        begun = inr (o.0, record { plan = s.plan; glyphs = s.glyphs; is = s.is; drawn = s.drawn; short = o.1; written = o.2 });
-        quiet = o.3;
-      },
-    )
-leaves_by s (Err (WriteFailed n)) w =
-    let o = w.outcome in
-    let same : o.0 ≡ n = omega (arith, o.3.0, o.3.1) in
-    record {
-      begun = record {
-        plan = s.plan;
-        glyphs = s.glyphs;
-        is = s.is;
-        drawn = s.drawn;
-        short = omega (arith, o.1, same);
-        written = rw same at o.2;
-      };
-      fault = o.3.2;
-    }
+leaves_by s (Ok u) w = grind (arith, w)
+leaves_by s (Err OutOfMemory) w = grind (arith, w)
+leaves_by s (Err (WriteFailed n)) w = grind (arith, w)
 leaves_by s (Err d) w = absurd w.outcome.3
 
 -- the text of a strike was written, or a beginning of it

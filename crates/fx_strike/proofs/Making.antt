@@ -1,4 +1,4 @@
--- From what was seen to a survey, and what a call leaves that was refused.
+-- What was seen of all characters makes the survey that is due (`surveyed`); a refusal on the way writes nothing (`fails_leaves`).
 -- Serves `survey_mapped`, `survey_chars`, `write_strike`, `make_strike_with` and `pixels`.
 use Rattle.std.proofs.Common.{refl, sym, ap, ◌≡◌, ◌∙◌, arith, inl, ℕ, ◌+◌, ◌<◌, ◌≤◌, ◌^◌, ℤ, pos, List, map}
 use Rattle.std.proofs.Common.{Result, Ok}
@@ -112,34 +112,10 @@ fails_leaves due change d k q f = record { cause = tt; first = f; kept = k; quie
 -- clause by clause, where the checks passed if memory ran out
 pub makes : {Y : Type 0} {checks : Result Y Refusal} {due : Result Plan Refusal} {change : Change} (r : Result Report Refusal)
     → (IsErrOf r OutOfMemory → IsOk checks) → Leaves {Y = Unit {0}} (Ok tt) due change r → Makes checks due change r
-makes (Ok report) o h = record {
-  text = h;
-  cause = tt;
-  memory = λ e. absurd (cc);
-  late = o;
-  writer = λ n e. absurd (cc);
-}
-makes (Err OutOfMemory) o h = record {
-  text = tt;
-  cause = λ e. absurd e;
-  memory = λ e. h.1;
-  late = o;
-  writer = λ n e. absurd (cc);
-}
-makes (Err (WriteFailed m)) o h = record {
-  text = tt;
-  cause = λ e. absurd e;
-  memory = λ e. absurd (cc);
-  late = o;
-  writer = λ n e. let same : m ≡ n = cc in rw (← same) h;
-}
-makes (Err d) o h = record {
-  text = tt;
-  cause = λ e. h;
-  memory = λ e. absurd (cc);
-  late = o;
-  writer = λ n e. absurd (cc);
-}
+makes (Ok report) o h = grind (arith, o, h)
+makes (Err OutOfMemory) o h = grind (arith, o, h)
+makes (Err (WriteFailed m)) o h = grind (arith, o, h)
+makes (Err d) o h = grind (arith, o, h)
 
 -- ---- lemmas for answers
 

@@ -1,4 +1,4 @@
--- The characters that a font has, among code points.
+-- The characters found among rising code points are those of the map, and the others are counted: `others_counted`.
 -- Serves `run_below`, `look_up`, `characters`, `survey_mapped` and `write_strike`.
 use Rattle.std.proofs.Common.{◌≡◌, inl, inr, refl, sym, ap, ◌∙◌, subst, arith, ℕ, suc, zero, ◌+◌, ◌<◌, ◌≤◌, Bool, true, false, not}
 use Rattle.std.proofs.Common.{List, [], ◌∷◌, ◌++◌, map, length, take, get_or, Result, cond}
@@ -126,9 +126,7 @@ few_characters {table} chars are h =
 pub small_characters : {table : Mapping} (chars : List ℕ) {characters : Characters}
     → AreCharactersOf table (rising chars) characters
     → list_any (nat_lt max_code) chars ≡ false → AreSmall characters.mapped.items
-small_characters {table} chars are h =
-    let P : List Mapped → Type 0 = λ xs. AreSmall xs in
-    subst P (sym are.mapped) (small_mapped table (rising chars) (small_rising (nat_lt max_code) chars (rising chars) refl h))
+small_characters {table} chars are h = grind (arith, chars, are, h, small_mapped, small_rising)
 
 -- ---- what becomes of them
 

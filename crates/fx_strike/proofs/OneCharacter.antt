@@ -1,6 +1,6 @@
 -- What is made of one character is the part of a strike of that character alone.
 -- Serves the law `one`.
-use Rattle.std.proofs.Common.{◌≡◌, refl, sym, ap, ◌∙◌, ℕ, Bool, true, false, not, cond, List, [], ◌∷◌, Some, None}
+use Rattle.std.proofs.Common.{◌≡◌, refl, sym, ap, ◌∙◌, ℕ, Bool, true, false, not, cond, List, [], ◌∷◌, Some, None, arith}
 use Rattle.std.proofs.Common.{Result, Ok, Err}
 use Rattle.std.specs.Prelude.{slice_get, if◌then◌else◌}
 use Rattle.std.specs.List.{flat_map}
@@ -26,13 +26,7 @@ one_step : (first second : Result Sketch Refusal) (code : ℕ) (f : ℕ → Resu
     → (if b then Ok None else map_ok Some first) ≡
     map_ok only_sketch (map_chain f (cond (not b) (code ∷ []) []) >>= λ fs. Ok (last fs))
 one_step first second code f last true is same = ap (λ (ss : List Sketch). Ok (slice_get ss 0)) (sym (same []))
-one_step first second code f last false is same = rw is (by_result first)
-  where
-    by_result : (r : Result Sketch Refusal)
-        → map_ok Some r ≡
-        map_ok only_sketch ((fate_by Stop code second r >>= λ y. Ok [] >>= λ ys. Ok (y ∷ ys)) >>= λ fs. Ok (last fs))
-    by_result (Ok s) = ap (λ (ss : List Sketch). Ok (slice_get ss 0)) (sym (same (Drawn s ∷ [])))
-    by_result (Err e) = refl
+one_step first second code f last false is same = grind (arith, is, same)
 
 with_is : (setting : Setting) (title : Title) (code : ℕ)
     → one_with setting code ≡ map_ok only_sketch (plan_with setting title (code ∷ []) Stop)

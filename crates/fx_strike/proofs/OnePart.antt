@@ -112,22 +112,12 @@ FateFrom first second (LeftOut notice) = Unit {0}
 
 fate_from : (refused : OnRefused) (code : ℕ) (second first : Result Sketch Refusal) (f : Fate)
     → fate_by refused code second first ≡ Ok f → FateFrom first second f
-fate_from refused code second (Ok s) f h =
-    let P : Fate → Type 0 = λ x. FateFrom (Ok s) second x in
-    let e : Drawn s ≡ f = cc in subst P e refl
+fate_from refused code second (Ok s) f h = grind (arith, h)
 fate_from Stop code second (Err cause) f h = absurd (cc)
-fate_from LeaveOut code second (Err cause) f h =
-    let P : Fate → Type 0 = λ x. FateFrom (Err cause) second x in
-    let e : LeftOut (record { code = code; cause = cause; unhinted = false }) ≡ f = cc in subst P e tt
-fate_from DrawUnhinted code (Ok s) (Err (Halted halt)) f h =
-    let P : Fate → Type 0 = λ x. FateFrom (Err (Halted halt)) (Ok s) x in
-    let e : Unhinted (record { code = code; cause = Halted halt; unhinted = true }) s ≡ f = cc in subst P e refl
-fate_from DrawUnhinted code (Err d) (Err (Halted halt)) f h =
-    let P : Fate → Type 0 = λ x. FateFrom (Err (Halted halt)) (Err d) x in
-    let e : LeftOut (record { code = code; cause = d; unhinted = false }) ≡ f = cc in subst P e tt
-fate_from DrawUnhinted code second (Err cause) f h =
-    let P : Fate → Type 0 = λ x. FateFrom (Err cause) second x in
-    let e : LeftOut (record { code = code; cause = cause; unhinted = false }) ≡ f = cc in subst P e tt
+fate_from LeaveOut code second (Err cause) f h = grind (arith, h)
+fate_from DrawUnhinted code (Ok s) (Err (Halted halt)) f h = grind (arith, h)
+fate_from DrawUnhinted code (Err d) (Err (Halted halt)) f h = grind (arith, h)
+fate_from DrawUnhinted code second (Err cause) f h = grind (arith, h)
 
 -- its sketch is due, with hinting or without
 abbrev pub HasSketch : Setting → ℕ → ℕ → Fate → Type 0
@@ -161,9 +151,7 @@ is_of setting refused code glyph (LeftOut notice) h s e = absurd (cc (e))
 -- a chain with values gave its first, and then the others
 pub chain_parts : {A B : Type 0} (f : A → Result B Refusal) (x : A) (xs : List A) (ys : List B) → map_chain f (x ∷ xs) ≡ Ok ys
     → (z : B) × (zs : List B) × (f x ≡ Ok z) × (map_chain f xs ≡ Ok zs) × (ys ≡ z ∷ zs)
-chain_parts f x xs ys h =
-    let p = bind_ok (f x) (λ y. map_chain f xs >>= λ zs. Ok (y ∷ zs)) ys h in
-    let q = bind_ok (map_chain f xs) (λ zs. Ok (p.0 ∷ zs)) ys p.2 in (p.0, q.0, p.1, q.1, cc (q.2))
+chain_parts f x xs ys h = grind (arith, h, bind_ok)
 
 -- what becomes of a code point has this one sketch
 abbrev Gives : (ℕ → Result Fate Refusal) → Sketch → Type 0
@@ -264,9 +252,7 @@ sketch_there setting refused chars fates s p h =
 -- two sketches that are due for one code point are one
 due_is_one : (setting : Setting) (refused : OnRefused) (s t : Sketch) → IsDue setting refused s → IsDue setting refused t
     → s.code ≡ t.code → s ≡ t
-due_is_one setting refused s t p q e =
-    let same : p.0 ≡ q.0 = same_Ok p.0 q.0 p.1 (ap (fate_of setting refused) e ∙ q.1) in
-    let lists : s ∷ [] ≡ t ∷ [] = sym p.2 ∙ ap sketches_in same ∙ q.2 in cc (lists)
+due_is_one setting refused s t p q e = grind (arith, p, q, e, same_Ok)
 
 pub part_is_one : PartIsOne
 part_is_one file ppem mode refused title title2 chars chars2 plan plan2 h g s t i j e =

@@ -1,4 +1,4 @@
--- The lines of an outline's points, as they are written one after another.
+-- The line of one point more, after those before it, is the lines up to that point: `lines_more`.
 -- Serves `add_points`, `add_lines`, `add_text`.
 use Rattle.std.proofs.Common.{◌≡◌, ◌∙◌, refl, sym, ap, ap₂, arith, ℕ, zero, suc, ◌+◌, ◌<◌, ◌≤◌, List, [], ◌∷◌, ◌++◌, length, take, drop}
 use Rattle.std.proofs.Common.{get_or, append_assoc, append-nil, length-append}
@@ -56,10 +56,7 @@ lines_at ends k n (p ∷ ps) (suc i) d h e =
 pub lines_split : (ends : List ℕ) (ps : List OutlinePoint) (i c : ℕ) (p : OutlinePoint) → i < length ps → c ≡ contour_at ends i
     → p ≡ get_or ps i p
     → point_lines ends 0 ps ≡ point_lines ends 0 (take i ps) ++ (point_line c i p ++ point_lines ends (i + 1) (drop (suc i) ps))
-lines_split ends ps i c p h contour is =
-    lines_at ends 0 i ps i p h (omega arith)
-    ∙ ap₂ (λ (k : ℕ) (q : OutlinePoint). point_lines ends 0 (take i ps) ++
-    (point_line k i q ++ point_lines ends (i + 1) (drop (suc i) ps))) (sym contour) (sym is)
+lines_split ends ps i c p h contour is = grind (arith, h, contour, is, lines_at)
 
 -- a line more
 more_from : (ends : List ℕ) (k n : ℕ) (ps : List OutlinePoint) (i : ℕ) (d : OutlinePoint) → i < length ps → n ≡ k + i
@@ -76,7 +73,4 @@ more_from ends k n (p ∷ ps) (suc i) d h e =
 
 pub lines_more : (ends : List ℕ) (ps : List OutlinePoint) (i c : ℕ) (p : OutlinePoint) → i < length ps → c ≡ contour_at ends i
     → p ≡ get_or ps i p → point_lines ends 0 (take i ps) ++ point_line c i p ≡ point_lines ends 0 (take (i + 1) ps)
-lines_more ends ps i c p h contour is =
-    let next : suc i ≡ i + 1 = omega arith in
-    ap₂ (λ (k : ℕ) (q : OutlinePoint). point_lines ends 0 (take i ps) ++ point_line k i q) contour is
-    ∙ more_from ends 0 i ps i p h (omega arith) ∙ ap (λ (n : ℕ). point_lines ends 0 (take n ps)) next
+lines_more ends ps i c p h contour is = grind (arith, h, contour, is, more_from)

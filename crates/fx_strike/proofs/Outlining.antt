@@ -1,4 +1,4 @@
--- What a call that writes an outline leaves if it was refused.
+-- A call that was refused before it wrote an outline leaves what the definition says of its refusal: `not_outlined`.
 -- Serves `run_task` of `fx_cli`.
 use Rattle.std.proofs.Common.{◌≡◌, ℕ, Option, Result, Err}
 use Rattle.std.specs.Prelude.{IsErrOf}

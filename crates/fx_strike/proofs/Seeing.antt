@@ -1,4 +1,4 @@
--- What is seen of characters, one after the other.
+-- A character that is seen after others is one more of those seen: `seen_at`.
 -- Serves `see`, and what a call leaves (`Making`, `Writing`).
 use Rattle.std.proofs.Common.{◌≡◌, refl, sym, ap, ap₂, ◌∙◌, subst, arith, ℕ, suc, zero, ◌+◌, ◌<◌, ◌≤◌, List, []}
 use Rattle.std.proofs.Common.{◌∷◌, ◌++◌, map, length, take, drop, length-append, Result, Ok, Err}
@@ -70,14 +70,7 @@ bounds_push gs g = ap bounds_of (map-append (λ (h : Glyph). h.box) gs (g ∷ []
 
 sum_push : (f : Sketch → ℕ) (ss : List Sketch) (s : Sketch) (total more new : ℕ) → total ≡ counted (sum_by f ss) → more ≡ f s
     → new ≡ counted (total + more) → new ≡ counted (sum_by f (ss ++ s ∷ []))
-sum_push f ss s total more new h k e =
-    let a : sum_by f (ss ++ s ∷ []) ≡ sum_by f ss + (0 + f s) = sum_by-append f ss (s ∷ []) in
-    by_sum (sum_by f ss) (f s) (sum_by f (ss ++ s ∷ [])) total more new
-    (a ∙ (let b : sum_by f ss + (0 + f s) ≡ sum_by f ss + f s = omega arith in b)) h k e
-  where
-    by_sum : (a b c total more new : ℕ) → c ≡ a + b → total ≡ counted a → more ≡ b → new ≡ counted (total + more)
-        → new ≡ counted c
-    by_sum a b c total more new p h k e = omega arith
+sum_push f ss s total more new h k e = grind (arith, h, k, e, sum_by-append)
 
 sketches_push : (fates : List Fate) (fate : Fate)
     → flat_map sketches_in (fates ++ fate ∷ []) ≡ flat_map sketches_in fates ++ sketches_in fate
@@ -164,9 +157,7 @@ holds_push setting refused mapped m old new (Drawn sketch) h s a =
     holds_drawn setting refused mapped m old new (Drawn sketch) sketch refl h s a
 holds_push setting refused mapped m old new (Unhinted notice sketch) h s a =
     holds_drawn setting refused mapped m old new (Unhinted notice sketch) sketch refl h s a
-holds_push setting refused mapped m old new (LeftOut notice) h s a =
-    let P : Seen → Type 0 = λ x. Holds setting refused (mapped ++ m ∷ []) x in
-    subst P (sym a) (holds_left_out setting refused mapped m old (LeftOut notice) refl h s)
+holds_push setting refused mapped m old new (LeftOut notice) h s a = grind (arith, h, s, a, holds_left_out)
 
 -- ---- the same at a place of the characters
 

@@ -1,4 +1,4 @@
--- From a glyph's number to its bits: what each step says of the sketch that is due.
+-- If each step went well, what was made of a glyph's number is the sketch that is due: `sketch_whole`.
 -- Serves `sketch_by`, `draw` and `whole_pixels`, the first pass and the laws.
 use Rattle.std.proofs.Common.{◌≡◌, ◌≤◌, ◌^◌, inl, inr, refl, sym, ap, ◌∙◌, subst, arith, ℕ, ℤ, pos, negsuc, Bool, Result, Ok, Err}
 use Rattle.std.proofs.Common.{FitsSigned, w32, w64, to_z, of_z}
@@ -33,20 +33,7 @@ near_64_small (negsuc n) h = omega (arith, ints)
 -- ---- the glyph
 
 pub tight_along : (box : Box) (a b : ℤ → ℤ → Bool) → ((col row : ℤ) → a col row ≡ b col row) → IsTight box a → IsTight box b
-tight_along box a b e h =
-    let P : Bool → Type 0 = λ x. IsTrue x in
-    record {
-      holds = λ col row g. h.holds col row (subst P (sym (e col row)) g);
-      sides = elim h.sides [
-        | inl g ↦ inl g
-        | inr g ↦ inr (record {
-          left = (g.left.0, subst P (e box.left g.left.0) g.left.1);
-          right = (g.right.0, subst P (e _ g.right.0) g.right.1);
-          bottom = (g.bottom.0, subst P (e g.bottom.0 box.bottom) g.bottom.1);
-          top = (g.top.0, subst P (e g.top.0 _) g.top.1);
-        })
-      ];
-    }
+tight_along box a b e h = grind (arith, e, h)
 
 -- all steps went well: this is the sketch
 pub sketch_whole : (setting : Setting) (code glyph : ℕ) (outline : GlyphOutlineView) (shape : ShapeView) (swidth : ℤ)
@@ -87,19 +74,7 @@ drawn_whole due sketch (Err e) h of m = memory_fails e due m
 -- the glyph of a sketch, by its bits
 pub glyph_whole : (sketch : Sketch) (bit : ℤ → ℤ → Bool) (g : Glyph) → AreBitsOf sketch.shape bit
     → IsTrimmed sketch.code sketch.swidth sketch.dwidth bit g → IsGlyphOf sketch g
-glyph_whole sketch bit g b t =
-    let P : Bool → Type 0 = λ x. IsTrue x in
-    record {
-      code = t.code_is;
-      swidth = t.swidth_is;
-      dwidth = t.dwidth_is;
-      bits = λ col row. (
-        λ h. (b col row).0 (subst P (t.bits col row) h),
-        λ h. subst P (sym (t.bits col row)) ((b col row).1 h),
-      );
-      tight = tight_along g.box bit (glyph_bit g) (λ col row. sym (t.bits col row)) t.tight;
-      formed = t.formed;
-    }
+glyph_whole sketch bit g b t = grind (arith, b, t, tight_along)
 
 -- ---- a step was refused
 
@@ -127,9 +102,7 @@ font_fails _ due h = h
 refused_metrics : {Y : Type 0} (view : Metrics → ℤ) (m : Result Metrics FontFault) (d : Refusal) (due : Result Y Refusal)
     → Err d ≡ map_ok view (map_fault of_font m) → ((f : FontFault) → m ≡ Err f → due ≡ Err (of_font f)) → Fails d due
 refused_metrics view (Ok m) d due h g = absurd (cc)
-refused_metrics view (Err f) d due h g =
-    let P : Refusal → Type 0 = λ e. Fails e due in
-    let same : of_font f ≡ d = cc in subst P same (font_fails f due (g f refl))
+refused_metrics view (Err f) d due h g = grind (arith, h, g, font_fails)
 
 -- no advance
 pub no_advance : (setting : Setting) (code glyph : ℕ) (drawing : GlyphOutlineView) (shape : ShapeView) (d : Refusal)

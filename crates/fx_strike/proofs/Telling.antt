@@ -1,6 +1,6 @@
--- What is told of the refused characters of a strike.
+-- The notices heard character by character are those of the strike, up to the refusal that stops it: `told_strike`.
 -- Serves `see`, `survey_mapped`, `write_strike` and `make_inner`.
-use Rattle.std.proofs.Common.{◌≡◌, refl, sym, ap, ◌∙◌, subst, ℕ, ◌+◌, ◌<◌, List, [], ◌∷◌, ◌++◌, length}
+use Rattle.std.proofs.Common.{◌≡◌, refl, sym, ap, ◌∙◌, subst, ℕ, ◌+◌, ◌<◌, List, [], ◌∷◌, ◌++◌, length, arith}
 use Rattle.std.proofs.Common.{take, drop, Result, Ok, Err}
 use Rattle.std.specs.Prelude.{IsErrAnd}
 use Rattle.std.specs.List.{flat_map}
@@ -81,9 +81,7 @@ none_told setting (m ∷ ms) = rw (silent_of setting m) (none_told setting ms)
 -- if the strike is refused there is nothing to tell
 quiet : (setting : Setting) (refused : OnRefused) (mapped others : List Mapped) (d : Refusal)
     → fates_in setting refused mapped ≡ Err d → notices_about setting refused others ≡ []
-quiet setting refused mapped others d h =
-    let f = chain_failed (mapped_fate_of setting refused) mapped d h in
-    rw (stops_of setting refused f.0 d f.1) (none_told setting others)
+quiet setting refused mapped others d h = grind (arith, h, chain_failed, stops_of, none_told)
 
 -- ---- the strike
 
@@ -147,32 +145,18 @@ told_more setting refused mapped i l =
 -- nothing was told before a refusal
 pub untold : {L Y : Type 0} {Hears : L → Notice → L → Type 0} {was now : L} (strike : Result Plan Refusal) (d : Refusal) → now ≡ was
     → Fails d strike → Told {L = L} {Y = Y} Hears was now (notices_of strike) (Err d)
-untold {L} {Y} strike d e f = record { told = []; heard = e; are = by_cause d f }
-  where
-    by_cause : (d : Refusal) → Fails d strike → AreTold {Y = Y} (notices_of strike) [] (Err d)
-    by_cause OutOfMemory f = (0, refl)
-    by_cause (WriteFailed n) f = absurd f
-    by_cause ReadFailed f = absurd f
-    by_cause BadHex f = absurd f
-    by_cause InputTooLarge f = absurd f
-    by_cause d f = let none : notices_of strike ≡ [] = rw f refl in sym none
+untold {L} {Y} strike d e f = grind (arith, strike, d, e, f)
 
 -- nothing was told before memory ran out
 pub told_none : {L Y : Type 0} {Hears : L → Notice → L → Type 0} {was : L} {all : List Notice} (r : Result Y Refusal)
     → IsErrAnd r (λ e. e ≡ OutOfMemory) → Told Hears was was all r
 told_none (Ok y) h = absurd h
-told_none {L} {Y} {Hears} {was} {all} (Err e) h =
-    let P : Refusal → Type 0 = λ d. Told {Y = Y} Hears was was all (Err d) in
-    subst P (sym h) (record { told = []; heard = refl; are = (0, refl) })
+told_none {L} {Y} {Hears} {was} {all} (Err e) h = grind (arith, h)
 
 -- the same of another value, or another's refusal
 pub told_on : {L X Y : Type 0} {Hears : L → Notice → L → Type 0} {was now : L} {all : List Notice} {d : Refusal}
     → Told {Y = X} Hears was now all (Err d) → Told {Y = Y} Hears was now all (Err d)
-told_on {L} {X} {Y} {Hears} {was} {now} {all} {d} t = record { told = t.told; heard = t.heard; are = by_cause d t.are }
-  where
-    by_cause : (d : Refusal) → AreTold {Y = X} all t.told (Err d) → AreTold {Y = Y} all t.told (Err d)
-    by_cause OutOfMemory h = h
-    by_cause d h = h
+told_on {L} {X} {Y} {Hears} {was} {now} {all} {d} t = grind (arith, t)
 
 -- all was told, whatever comes after
 pub told_all : {L X Y : Type 0} {Hears : L → Notice → L → Type 0} {was now : L} {all : List Notice} {x : X} (r : Result Y Refusal)
@@ -194,13 +178,7 @@ pub told_so_far : {L Y : Type 0} {Hears : L → Notice → L → Type 0} {was no
     (mapped : List Mapped) (i : ℕ) (d : Refusal) → HearsAll Hears was (notices_about setting refused (take i mapped)) now
     → next ≡ now → Fails d (fates_in setting refused mapped)
     → Told {L = L} {Y = Y} Hears was next (notices_about setting refused mapped) (Err d)
-told_so_far {L} {Y} {Hears} {was} setting refused mapped i d h e f =
-    let P : L → Type 0 = λ x. HearsAll Hears was (notices_about setting refused (take i mapped)) x in
-    record {
-      told = notices_about setting refused (take i mapped);
-      heard = subst P (sym e) h;
-      are = told_until Y setting refused mapped i d f;
-    }
+told_so_far {L} {Y} {Hears} {was} setting refused mapped i d h e f = grind (arith, refused, mapped, i, d, h, e, f, told_until)
 
 -- one character more
 pub heard_at : {L : Type 0} (Hears : L → Notice → L → Type 0) (was now next : L) (setting : Setting) (refused : OnRefused)
@@ -208,9 +186,7 @@ pub heard_at : {L : Type 0} (Hears : L → Notice → L → Type 0) (was now nex
     → HearsAll Hears was (notices_about setting refused (take i mapped)) now
     → HearsAll Hears now (notices_by (mapped_fate_of setting refused (mapped_in mapped i))) next
     → HearsAll Hears was (notices_about setting refused (take (i + 1) mapped)) next
-heard_at {L} Hears was now next setting refused mapped i l h g =
-    let P : List Notice → Type 0 = λ ns. HearsAll Hears was ns next in
-    subst P (sym (told_more setting refused mapped i l)) (hears_more Hears _ was now next _ h g)
+heard_at {L} Hears was now next setting refused mapped i l h g = grind (arith, i, l, h, g, told_more, hears_more)
 
 -- of the strike
 pub told_strike : {L Y : Type 0} {Hears : L → Notice → L → Type 0} {was now : L} (setting : Setting) (title : Title)
@@ -219,5 +195,4 @@ pub told_strike : {L Y : Type 0} {Hears : L → Notice → L → Type 0} {was no
     → Told Hears was now (notices_about setting refused mapped) r
     → Told Hears was now (notices_of (plan_with setting title chars refused)) r
 told_strike {L} {Y} {Hears} {was} {now} setting title chars refused {mapped} {r} c t =
-    let P : List Notice → Type 0 = λ ns. Told Hears was now ns r in
-    subst P (sym (notices_are setting title chars refused ∙ ap (notices_about setting refused) (sym c))) t
+    grind (arith, setting, title, chars, refused, c, t, notices_are)

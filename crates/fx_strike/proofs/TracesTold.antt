@@ -1,4 +1,4 @@
--- A trace that was written, as one that ends with a refusal.
+-- A trace that was written tells what is due, with its fault as a refusal: `refused_tells`.
 -- It serves `trace_of`.
 use Rattle.std.proofs.Common.{◌≡◌, ℕ, Bool, false, List, length, take, Option, Result, Ok, Err, refl, sym, ap, ◌∙◌, subst, arith}
 use Rattle.std.specs.Io.KnownBytes.{Appends}
@@ -51,12 +51,7 @@ whole_text old new text h =
 
 pub refused_tells : (t : Trace) (change : Change) (r : Result (Unit {0}) TraceFault) → Traces t change r
     → Tells (told_by t) change (refused_as r)
-refused_tells t change (Ok u) h = record {
-  text = record { is = ap end_with h.end; written = h.written; quiet = h.quiet };
-  cause = tt;
-  memory = λ e. absurd cc;
-  writer = λ n e. absurd cc;
-}
+refused_tells t change (Ok u) h = grind (arith, h)
 refused_tells t change (Err (trace.Cause f)) h = record {
   text = tt;
   cause = λ named. record { is = ap end_with h.end; written = h.written; quiet = h.quiet };
@@ -68,24 +63,8 @@ refused_tells t change (Err (trace.Cause f)) h = record {
   };
   writer = λ n e. absurd (not_writer f n (same_refusal e));
 }
-refused_tells t change (Err trace.OutOfMemory) h = record {
-  text = tt;
-  cause = λ named. absurd named;
-  memory = λ e. record { count = h.count; written = h.written; quiet = h.quiet };
-  writer = λ n e. absurd cc;
-}
-refused_tells t change (Err (trace.WriteFailed n)) h = record {
-  text = tt;
-  cause = λ named. absurd named;
-  memory = λ e. absurd cc;
-  writer = λ m e. record {
-    count = h.count;
-    short = h.short;
-    number = sym (same_count (same_refusal e)) ∙ h.told;
-    written = h.written;
-    fault = h.fault;
-  };
-}
+refused_tells t change (Err trace.OutOfMemory) h = grind (arith, h)
+refused_tells t change (Err (trace.WriteFailed n)) h = grind (arith, h, same_count, same_refusal)
 
 -- ---- nothing was traced
 

@@ -32,37 +32,9 @@ one_more P n k l low here = split {P = P k} k n low (λ high. let same : n ≡ k
 reach_more : (p : ℕ → Bool) (n : ℕ) (b : Bool) → p n ≡ b → ((k : ℕ) → k < n → p k ≡ false) ⊎ Reach p n
     → ((k : ℕ) → k < suc n → p k ≡ false) ⊎ Reach p (suc n)
 reach_more p n false e (inl none) = inl (λ k l. one_more (λ i. p i ≡ false) n k l (none k) e)
-reach_more p n true e (inl none) = inr (record {
-  first = n;
-  last = n;
-  order = omega arith;
-  below = omega arith;
-  at_first = e;
-  at_last = e;
-  holds = λ k l h. split {P = (n ≤ k) × (k ≤ n)} k n (λ low. absurd (not_both (p k) (none k low) h))
-      (λ high. (high, omega arith));
-})
-reach_more p n false e (inr r) = inr (record {
-  first = r.first;
-  last = r.last;
-  order = r.order;
-  below = omega (arith, r.below);
-  at_first = r.at_first;
-  at_last = r.at_last;
-  holds = λ k l h.
-      let P : ℕ → Type 0 = λ i. p i ≡ true → (r.first ≤ i) × (i ≤ r.last) in
-      one_more P n k l (r.holds k) (λ g. absurd (not_both (p n) e g)) h;
-})
-reach_more p n true e (inr r) = inr (record {
-  first = r.first;
-  last = n;
-  order = omega (arith, r.order, r.below);
-  below = omega arith;
-  at_first = r.at_first;
-  at_last = e;
-  holds = λ k l h. split {P = (r.first ≤ k) × (k ≤ n)} k n (λ low. let s = r.holds k low h in (s.0, omega arith))
-      (λ high. (omega (arith, r.order, r.below), omega arith));
-})
+reach_more p n true e (inl none) = grind (arith, signed_linear, e, split, not_both)
+reach_more p n false e (inr r) = grind (arith, signed_linear, e, one_more, not_both)
+reach_more p n true e (inr r) = grind (arith, signed_linear, e, split)
 
 reach : (p : ℕ → Bool) (n : ℕ) → ((k : ℕ) → k < n → p k ≡ false) ⊎ Reach p n
 reach p zero = inl (λ k l. absurd (omega arith))

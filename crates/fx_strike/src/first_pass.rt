@@ -10,7 +10,7 @@ ghost use Rattle.fx_strike.specs.Headline.{notices_of};
 ghost use Rattle.fx_strike.specs.inner.Drawing.{CanBeDrawn, CanBeMade};
 ghost use Rattle.fx_strike.specs.inner.Keeping.{IsKept, IsOfNone, Keeps};
 ghost use Rattle.fx_strike.specs.inner.Mapping.{AreCharactersOf};
-ghost use Rattle.fx_strike.specs.inner.Surveying.{AreChars, IsNarrow, Joins, Has, HasFate, SeesOne, Sees, Surveys};
+ghost use Rattle.fx_strike.specs.inner.Surveying.{AreChars, IsNarrow, Has, HasFate, SeesOne, Sees, Surveys};
 ghost use Rattle.fx_strike.specs.inner.Surveying.{SurveysNameless, notices_about, notices_by, region_of, survey_from};
 ghost use Rattle.fx_strike.specs.inner.Writing.{AreLinesOf, AreSmall};
 
@@ -68,33 +68,8 @@ fn region_of(bounds: Bounds) -> Region
 }
 
 impl<'a, S: Scan> Striker<'a, S> {
-    /// The least box that holds a box and the box of a character's glyph. As long as there is room for lines, the glyph's bits are
-    /// made and its lines kept; from then on its bits are made only if its shape does not lie in the box.
-    fn bounds_with(
-        &mut self,
-        bounds: Bounds,
-        sketch: &Sketch,
-        kept: &mut KeptBytes,
-    ) -> Result<Bounds, Refusal>
-        requires placed { IsPlaced bounds }
-        requires drawable { CanBeDrawn sketch.now }
-        ensures kept { self.new ≡ self.old }
-        ensures joined { Joins sketch.now bounds result }
-        ensures lines { (glyph : Glyph) → IsGlyphOf sketch.now glyph → OnOk result (Keeps (glyph_text glyph) kept.old kept.new) }
-        ensures fault { IfErr result (λ e. e ≡ Refusal.OutOfMemory) }
-    {
-        if kept.is_full() && sketch.shape.lies_in(region_of(bounds)) {
-            return Ok(bounds);
-        }
-        fx_bdf::laws::trimmed();
-        let made = self.glyph_of(sketch)?;
-        let joined = bounds.joined(made.bounds());
-        kept.keep(&made);
-        self.scratch.give_back(made.into_bitmap());
-        Ok(joined)
-    }
-
-    /// Adds what is seen of a character that is drawn.
+    /// Adds what is seen of a character that is drawn. As long as there is room for lines, its glyph's bits are made and its lines
+    /// kept; from then on its bits are made only if its shape does not lie in the box of the glyphs so far.
     fn see_drawn(
         &mut self,
         sketch: &Sketch,
@@ -110,8 +85,16 @@ impl<'a, S: Scan> Striker<'a, S> {
         ensures lines { (glyph : Glyph) → IsGlyphOf sketch.now glyph → OnOk result (Keeps (glyph_text glyph) kept.old kept.new) }
         ensures fault { IfErr result (λ e. e ≡ Refusal.OutOfMemory) }
     {
-        let bounds = self.bounds_with(seen.bounds, sketch, kept)?;
-        seen.add(sketch, bounds);
+        if kept.is_full() && sketch.shape.lies_in(region_of(seen.bounds)) {
+            seen.add(sketch, seen.bounds);
+            return Ok(());
+        }
+        fx_bdf::laws::trimmed();
+        let made = self.glyph_of(sketch)?;
+        let joined = seen.bounds.joined(made.bounds());
+        kept.keep(&made);
+        self.scratch.give_back(made.into_bitmap());
+        seen.add(sketch, joined);
         Ok(())
     }
 

@@ -1,11 +1,10 @@
 //! From a glyph's number to its outline, its shape and its advance: a character before its bits.
-ghost use Rattle.std.specs.Prelude.{◌≡◌, Ok, IfOk, IfErr};
+ghost use Rattle.std.specs.Prelude.{◌≡◌};
 ghost use Rattle.fx_fixed.specs.Chain.{map_ok, map_fault, GivesUnless};
 ghost use Rattle.fx_sfnt.specs.Glyphs.{metrics_of};
 ghost use Rattle.fx_hint.specs.Outlines.{view_of_glyph_outline, outline_with};
-ghost use Rattle.fx_raster.specs.Rules.{shape_of};
 ghost use Rattle.fx_request.specs.Faults.{of_font};
-ghost use Rattle.fx_strike.specs.Faults.{Fails, of_hint, of_raster};
+ghost use Rattle.fx_strike.specs.Faults.{Fails, of_hint};
 ghost use Rattle.fx_strike.specs.Outlines.{outlined_with};
 ghost use Rattle.fx_strike.specs.Strike.{hinting_by, machineless, setting_with, thousandths, glyph_sketch_of};
 
@@ -17,8 +16,7 @@ use crate::striker::Striker;
 use fx_fixed::{F26, near};
 use fx_hint::{GlyphOutline, Spare, outline_in};
 use fx_machine::Usage;
-use fx_outline::Outline;
-use fx_raster::{Rule, Scan, Shape};
+use fx_raster::{Scan, Shape};
 use fx_request::Refusal;
 use fx_sfnt::Font;
 use std::alloc::Global;
@@ -73,19 +71,6 @@ fn outline_by(
     }
 }
 
-/// The shape of an outline by a rule; `TooFar` if a point of it lies too far out, `GlyphTooLarge` if it has too many pixels.
-#[inline(always)]
-fn shape_at(glyph: u16, outline: Outline, rule: Rule) -> Result<Shape, Refusal>
-    ensures shape { IfOk result (λ shape. shape_of rule outline.ends.items outline.points.items ≡ Ok shape) }
-    ensures fault { IfErr result (λ d. Fails d
-        (map_fault (of_raster glyph) (shape_of rule outline.ends.items outline.points.items))) }
-{
-    match Shape::of(outline, rule) {
-        Ok(shape) => Ok(shape),
-        Err(fault) => Err(of_raster(glyph, fault)),
-    }
-}
-
 /// The advance of a glyph in 1/1000 of an em.
 fn thousandths_at(font: &Font<'_>, glyph: u16) -> Result<i32, Refusal>
     ensures { result ≡ map_ok (λ m. thousandths m.advance_width font.now.head.units_per_em)
@@ -111,7 +96,10 @@ fn sketch_by(
 {
     let made = outline_by(alloc, spare, hinter, &basis.opened, glyph)?;
     let rule = rule_for(basis.dropout, made.wish);
-    let shape = shape_at(glyph, made.outline, rule)?;
+    let shape = match Shape::of(made.outline, rule) {
+        Ok(shape) => shape,
+        Err(fault) => return Err(of_raster(glyph, fault)),
+    };
     let swidth = thousandths_at(&basis.opened.font, glyph)?;
     Ok(Sketch {
         code,

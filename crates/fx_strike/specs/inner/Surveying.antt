@@ -50,9 +50,8 @@ abbrev pub region_of : Box → Region
 region_of box = record { left = box.left; bottom = box.bottom; width = box.width; height = box.height }
 
 -- the box of the glyph of a sketch is joined to a box; or memory ran out
-abbrev pub Joins : Sketch → Box → Result Box Refusal → Type 0
-Joins sketch old (Ok new) = (glyph : Glyph) × IsGlyphOf sketch glyph × (new ≡ joined old glyph.box) × IsPlaced new
-Joins sketch old (Err refusal) = refusal ≡ OutOfMemory
+abbrev pub Joins : Sketch → Box → Box → Type 0
+Joins sketch old new = (glyph : Glyph) × IsGlyphOf sketch glyph × (new ≡ joined old glyph.box) × IsPlaced new
 
 -- the character of a sketch was seen
 pub record Has (sketch : Sketch) (old new : Seen) : Type 0 where

@@ -1,5 +1,4 @@
-use Rattle.std.proofs.Common.{◌∙◌, ap, arith, sym, List}
-use Rattle.std.specs.List.{flat_map}
+use Rattle.std.proofs.Common.{◌∙◌, arith, sym}
 use Rattle.std.proofs.lemmas.List.{take_all}
 use Rattle.std.proofs.lemmas.List.Folds.{flat_map-map}
 use Rattle.std.proofs.lemmas.Result.{err_from_is_err_and}
@@ -22,8 +21,4 @@ properties-preserved g c =
     (adds_then c.properties.invariant c.in_ok-add_property.ensures)
 
 pub returns : goal.returns
-returns g c =
-    let all = flat_map-map property_text seen_property c.args.properties.now in
-    adds_text (ap (λ (ps : List Property). flat_map (λ p. property_text (seen_property p)) ps)
-    (take_all c.properties.i c.args.properties.now (omega (arith, c.properties-test.false))) ∙ sym all)
-    c.properties.invariant
+returns g c = grind (arith, c.properties-test.false, c.properties.invariant, flat_map-map, adds_text, take_all)

@@ -1,3 +1,4 @@
+use Rattle.std.proofs.Common.{arith}
 use Rattle.std.proofs.Common.{◌∙◌, ap}
 use Rattle.std.specs.Fmt.{decimal}
 use Rattle.std.proofs.lemmas.List.{length-map}
@@ -10,9 +11,16 @@ use Rattle.fx_bdf.proofs.header_lines.write_header.Goals as goal
 
 pub returns-in_err-add_front-clause-short : goal.returns-in_err-add_front-clause-short
 returns-in_err-add_front-clause-short g c =
-    header_long c.args.name.now c.args.properties.now c.args.header.now c.requires.properties
-    (c.text-glyphs.ensures.value ∙ c.unsigned-digits.ensures ∙ ap decimal c.from.ensures) c.text-glyphs.ensures.short
-    c.in_err-add_front.ensures.short
+    grind (
+      arith,
+      c.requires.properties,
+      c.text-glyphs.ensures.value,
+      c.unsigned-digits.ensures,
+      c.from.ensures,
+      c.text-glyphs.ensures.short,
+      c.in_err-add_front.ensures.short,
+      header_long,
+    )
 
 pub returns-in_err-add_properties-clause-text : goal.returns-in_err-add_properties-clause-text
 unfolding header_text
@@ -23,9 +31,16 @@ returns-in_err-add_properties-clause-text g c =
 
 pub returns-in_err-add_properties-clause-short : goal.returns-in_err-add_properties-clause-short
 returns-in_err-add_properties-clause-short g c =
-    header_long c.args.name.now c.args.properties.now c.args.header.now c.requires.properties
-    (c.text-glyphs.ensures.value ∙ c.unsigned-digits.ensures ∙ ap decimal c.from.ensures) c.text-glyphs.ensures.short
-    c.in_ok-add_front.ensures.short
+    grind (
+      arith,
+      c.requires.properties,
+      c.text-glyphs.ensures.value,
+      c.unsigned-digits.ensures,
+      c.from.ensures,
+      c.text-glyphs.ensures.short,
+      c.in_ok-add_front.ensures.short,
+      header_long,
+    )
 
 pub returns-clause-text : goal.returns-clause-text
 unfolding header_text
@@ -37,6 +52,13 @@ returns-clause-text g c =
 
 pub returns-clause-short : goal.returns-clause-short
 returns-clause-short g c =
-    header_long c.args.name.now c.args.properties.now c.args.header.now c.requires.properties
-    (c.text-glyphs.ensures.value ∙ c.unsigned-digits.ensures ∙ ap decimal c.from.ensures) c.text-glyphs.ensures.short
-    c.in_ok-add_front.ensures.short
+    grind (
+      arith,
+      c.requires.properties,
+      c.text-glyphs.ensures.value,
+      c.unsigned-digits.ensures,
+      c.from.ensures,
+      c.text-glyphs.ensures.short,
+      c.in_ok-add_front.ensures.short,
+      header_long,
+    )

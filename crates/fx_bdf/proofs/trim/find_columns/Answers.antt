@@ -4,7 +4,7 @@ use Rattle.std.specs.Ordering.{ord_max, nat_cmp}
 use Rattle.fx_winding.specs.declared.frame.Frame.{Frame}
 use Rattle.fx_winding.specs.Limits.{greatest_side}
 use Rattle.fx_winding.specs.Bitmaps.{Bits, word_bit}
-use Rattle.fx_bdf.specs.declared.lines.Axis.TheVariants.{Rows}
+use Rattle.fx_bdf.specs.declared.lines.LineKind.TheVariants.{Rows}
 use Rattle.fx_bdf.specs.Lines.{line_bit}
 use Rattle.fx_bdf.proofs.Packing.{Seen, seen_more, columns_span}
 use Rattle.fx_bdf.proofs.trim.find_columns.Goals as goal

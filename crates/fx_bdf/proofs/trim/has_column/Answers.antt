@@ -1,5 +1,5 @@
 use Rattle.std.proofs.Common.{◌≡◌, ◌∙◌, ℕ, false, sym, below_more}
-use Rattle.fx_bdf.specs.declared.lines.Axis.TheVariants.{Columns}
+use Rattle.fx_bdf.specs.declared.lines.LineKind.TheVariants.{Columns}
 use Rattle.fx_bdf.specs.Lines.{line_bit}
 use Rattle.fx_bdf.proofs.Packing.{set_bit_of_column}
 use Rattle.fx_bdf.proofs.trim.has_column.Goals as goal

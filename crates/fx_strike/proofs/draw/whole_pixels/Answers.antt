@@ -1,5 +1,4 @@
-use Rattle.std.proofs.Common.{rules, ap, arith}
-use Rattle.std.specs.Prelude.{unsigned_abs}
+use Rattle.std.proofs.Common.{rules, arith}
 use Rattle.fx_strike.proofs.Sketching.{near_64_small, whole_is}
 use Rattle.fx_strike.proofs.draw.whole_pixels.Goals as goal
 
@@ -13,6 +12,4 @@ returns-clause-value c =
     (whole_is c.advance.inside.0 c.from.result c.near_64.result (search rules) c.from.ensures c.near_64.ensures.value).1
 
 pub returns-clause-size : goal.returns-clause-size
-returns-clause-size c =
-    let is = (whole_is c.advance.inside.0 c.from.result c.near_64.result (search rules) c.from.ensures c.near_64.ensures.value).1 in
-    omega (arith, ap unsigned_abs is, near_64_small c.advance.inside.0 (search rules))
+returns-clause-size c = grind (arith, c.from.ensures, c.near_64.ensures.value, whole_is, near_64_small)

@@ -1,3 +1,4 @@
+use Rattle.std.proofs.Common.{arith}
 use Rattle.std.proofs.Common.{refl}
 use Rattle.std.proofs.KnownBytes.{Keeps-refl}
 use Rattle.fx_strike.proofs.Exits.{came}
@@ -23,25 +24,23 @@ returns-in_err-striker-clause-made g c =
 
 pub returns-clause-made : goal.returns-clause-made
 returns-clause-made g c =
-    let opened = (c.in_ok-opened.ensures).due in
-    makes c.write_strike.result (λ m. is_ok _ _ opened)
-    (rw (plan_set _ _ _ _ c.args.request.now.mode _ _ _ opened c.in_ok-striker.ensures)
-    c.write_strike.ensures.leaves)
+    grind (arith, c.in_ok-opened.ensures, c.in_ok-striker.ensures, c.write_strike.ensures.leaves, makes, is_ok, plan_set)
 
 pub returns-in_err-opened-clause-told : goal.returns-in_err-opened-clause-told
 returns-in_err-opened-clause-told g c =
-    let named = (c.in_err-opened.ensures).named in
-    rw (came c.from_residual.result c.from_residual.ensures.1)
-    (untold _ _ refl
-    (fails_cause _ _ named (plan_unopened _ _ _ _ c.args.request.now.mode _ _ (c.in_err-opened.ensures).due)))
+    grind (arith, c.in_err-opened.ensures, c.from_residual.ensures.1, came, untold, fails_cause, plan_unopened)
 
 pub returns-in_err-striker-clause-told : goal.returns-in_err-striker-clause-told
 returns-in_err-striker-clause-told g c =
-    rw (came c.from_residual-in_err-striker.result c.from_residual-in_err-striker.ensures.1)
-    (untold _ _ refl
-    (plan_unset _ _ _ _ c.args.request.now.mode _ _ _ (c.in_ok-opened.ensures).due c.in_err-striker.ensures))
+    grind (
+      arith,
+      c.from_residual-in_err-striker.ensures.1,
+      c.in_ok-opened.ensures,
+      c.in_err-striker.ensures,
+      came,
+      untold,
+      plan_unset,
+    )
 
 pub returns-clause-told : goal.returns-clause-told
-returns-clause-told g c =
-    rw (plan_set _ _ _ _ c.args.request.now.mode _ _ _ (c.in_ok-opened.ensures).due c.in_ok-striker.ensures)
-    c.write_strike.ensures.heard
+returns-clause-told g c = grind (arith, c.in_ok-opened.ensures, c.in_ok-striker.ensures, c.write_strike.ensures.heard, plan_set)

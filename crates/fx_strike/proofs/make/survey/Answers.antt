@@ -1,3 +1,4 @@
+use Rattle.std.proofs.Common.{arith}
 use Rattle.fx_strike.specs.Title.{title_of}
 use Rattle.fx_strike.proofs.Exits.{came}
 use Rattle.fx_strike.proofs.Making.{fails_cause, surveys_cause, surveys_ok}
@@ -11,8 +12,7 @@ returns-in_err-opened-clause-cause g c =
 
 pub returns-in_err-striker-clause-cause : goal.returns-in_err-striker-clause-cause
 returns-in_err-striker-clause-cause g c =
-    rw (came c.from_residual-in_err-striker.result c.from_residual-in_err-striker.ensures.1)
-    (plan_unset _ _ _ _ _ _ _ _ (c.in_ok-opened.ensures).due c.in_err-striker.ensures)
+    grind (arith, c.from_residual-in_err-striker.ensures.1, c.in_ok-opened.ensures, c.in_err-striker.ensures, came, plan_unset)
 
 pub returns-in_err-striker-clause-late : goal.returns-in_err-striker-clause-late
 returns-in_err-striker-clause-late g c memory = is_ok _ _ (c.in_ok-opened.ensures).due

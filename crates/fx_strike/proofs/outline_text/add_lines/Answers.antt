@@ -1,5 +1,4 @@
-use Rattle.std.proofs.Common.{◌+◌, ap, ap₂, arith, length, length-append, ℕ, List}
-use Rattle.fx_outline.specs.declared.points.OutlinePoint.{OutlinePoint}
+use Rattle.std.proofs.Common.{◌+◌, ap, arith, length, length-append}
 use Rattle.fx_fixed.specs.Texts.{length_of}
 use Rattle.fx_fixed.proofs.Texts.{adds_short, adds_text, adds_then}
 use Rattle.fx_strike.specs.Outlines.{advance_line, point_lines}
@@ -8,9 +7,15 @@ use Rattle.fx_strike.proofs.outline_text.add_lines.Goals as goal
 
 pub returns-clause-text : goal.returns-clause-text
 returns-clause-text g c =
-    let points = ap₂ (λ (es : List ℕ) (ps : List OutlinePoint). point_lines es 0 ps) c.deref-2.ensures.value
-    c.deref.ensures.value in
-    adds_then (adds_text points c.in_ok-add_points.ensures.text) c.add_advance.ensures.text
+    grind (
+      arith,
+      c.deref-2.ensures.value,
+      c.deref.ensures.value,
+      c.in_ok-add_points.ensures.text,
+      c.add_advance.ensures.text,
+      adds_then,
+      adds_text,
+    )
 
 pub returns-clause-short : goal.returns-clause-short
 returns-clause-short g c =

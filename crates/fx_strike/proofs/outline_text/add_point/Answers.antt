@@ -1,11 +1,22 @@
-use Rattle.std.proofs.Common.{◌∙◌}
+use Rattle.std.proofs.Common.{arith}
 use Rattle.fx_strike.proofs.OutlineLines.{line_short}
 use Rattle.fx_strike.proofs.outline_text.add_point.Goals as goal
 
 pub returns-clause-short : goal.returns-clause-short
 returns-clause-short g c =
-    line_short c.args.contour c.args.number c.args.point.now _ _ _ _ _
-    (c.text.ensures.value ∙ c.unsigned-contour.ensures) (c.text-2.ensures.value ∙ c.unsigned-number.ensures)
-    c.curve_word-word.ensures.value (c.text-3.ensures.value ∙ c.digits_of-x.ensures)
-    (c.text-4.ensures.value ∙ c.digits_of-y.ensures)
-    c.text.ensures.short c.text-2.ensures.short c.curve_word-word.ensures.short c.text-3.ensures.short c.text-4.ensures.short
+    grind (
+      arith,
+      c.text.ensures.value,
+      c.unsigned-contour.ensures,
+      c.text-2.ensures.value,
+      c.unsigned-number.ensures,
+      c.curve_word-word.ensures.value,
+      c.text-3.ensures.value,
+      c.digits_of-x.ensures,
+      c.text-4.ensures.value,
+      c.digits_of-y.ensures,
+      c.text.ensures.short,
+      c.text-2.ensures.short,
+      c.curve_word-word.ensures.short,
+      line_short,
+    )

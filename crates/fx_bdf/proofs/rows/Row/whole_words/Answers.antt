@@ -5,12 +5,7 @@ use Rattle.fx_bdf.proofs.RowWords.{whole_row, length-row_from}
 use Rattle.fx_bdf.proofs.rows.Row.whole_words.Goals as goal
 
 pub part-requires : goal.part-requires
-part-requires c =
-    let v = ap length c.self.view_is in
-    let n = length-row_from c.self.inside.width c.self.inside.from c.self.inside.words.now in
-    let i = c.self.invariant.inside in
-    let e = c.len.ensures.value in
-    omega (arith, v, n, i, e)
+part-requires c = grind (arith, c.self.invariant.inside, c.len.ensures.value, length-row_from)
 
 pub returns-then-self-eq0 : goal.returns-then-self-eq0
 returns-then-self-eq0 c =

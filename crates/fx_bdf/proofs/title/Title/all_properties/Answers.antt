@@ -1,3 +1,4 @@
+use Rattle.std.proofs.Common.{arith}
 use Rattle.std.proofs.Common.{◌≡◌, ◌∙◌, List, ap, rules, sym, subst, FitsSigned, w32}
 use Rattle.std.proofs.lemmas.Result.{IfOk-weaker}
 use Rattle.fx_bdf.specs.Properties.{AreLines, PropertyView, seen_properties}
@@ -17,7 +18,4 @@ returns-then-self-clause-lines c =
     (lines_with_x11 _ _ _ _ c.requires.name c.ranges.ppem.fits fits c.requires.properties)) c.before_given.ensures
 
 pub returns-clause-lines : goal.returns-clause-lines
-returns-clause-lines c =
-    let P : List PropertyView → Type 0 = λ ps. AreLines ps in
-    IfOk-weaker c.from_slice.result _ _
-    (λ all e. subst P (ap seen_properties (sym e)) (given_lines _ c.requires.properties)) c.from_slice.ensures.items
+returns-clause-lines c = grind (arith, c.requires.properties, c.from_slice.ensures.items, given_lines)

@@ -1,3 +1,4 @@
+use Rattle.std.proofs.Common.{arith}
 use Rattle.std.proofs.Common.{sym}
 use Rattle.fx_strike.specs.Strike.{setting_for}
 use Rattle.fx_strike.proofs.Exits.{came}
@@ -7,9 +8,7 @@ use Rattle.fx_strike.proofs.striker.Striker+Rows.open_for.Goals as goal
 
 pub returns-in_err-opened-clause-cause : goal.returns-in_err-opened-clause-cause
 unfolding setting_for
-returns-in_err-opened-clause-cause c =
-    rw (came c.from_residual.result c.from_residual.ensures.1)
-    (fails_cause _ _ (c.in_err-opened.ensures).named (rw (sym (c.in_err-opened.ensures).due)))
+returns-in_err-opened-clause-cause c = grind (arith, c.from_residual.ensures.1, c.in_err-opened.ensures, came, fails_cause)
 
 pub returns-clause-setting : goal.returns-clause-setting
 unfolding setting_for

@@ -10,34 +10,29 @@ look_up-requires g c = record {
 
 pub overflow_sub-missing : goal.overflow_sub-missing
 overflow_sub-missing g c =
-    omega (
+    grind (
       arith,
-      others_counted c.self.inside.basis.opened.map c.args.chars.now c.in_ok-codes.codes.items c.in_ok-mapped.mapped.items
-          c.len-requested.result c.len-found.result c.in_ok-codes.ensures (rw c.deref.ensures.value at c.in_ok-mapped.ensures)
-          (omega (arith, c.len-requested.ensures, c.in_ok-codes.codes.ok.0))
-          (omega (arith, c.len-found.ensures, c.in_ok-mapped.mapped.ok.0)),
+      c.in_ok-codes.ensures,
+      c.deref.ensures.value,
+      c.in_ok-mapped.ensures,
+      c.len-requested.ensures,
+      c.len-found.ensures,
+      others_counted,
     )
 
 pub overflow_cast-missing : goal.overflow_cast-missing
-overflow_cast-missing g c =
-    omega (
-      arith,
-      c.len-requested.ensures,
-      c.in_ok-codes.codes.ok.0,
-      few_rising c.args.chars.now c.in_ok-codes.codes.items c.in_ok-codes.ensures c.requires.few,
-    )
+overflow_cast-missing g c = grind (arith, c.len-requested.ensures, c.in_ok-codes.ensures, c.requires.few, few_rising)
 
 pub returns-clause-characters : goal.returns-clause-characters
-returns-clause-characters g c = rw (← c.self.view_is) (record {
-  mapped = rw (c.deref.ensures.value ∙ c.in_ok-codes.ensures) at c.in_ok-mapped.ensures;
-  missing = omega (
-    arith,
-    others_counted c.self.inside.basis.opened.map c.args.chars.now c.in_ok-codes.codes.items c.in_ok-mapped.mapped.items
-        c.len-requested.result c.len-found.result c.in_ok-codes.ensures (rw c.deref.ensures.value at c.in_ok-mapped.ensures)
-        (omega (arith, c.len-requested.ensures, c.in_ok-codes.codes.ok.0))
-        (omega (arith, c.len-found.ensures, c.in_ok-mapped.mapped.ok.0)),
-    c.len-requested.ensures,
-    c.in_ok-codes.codes.ok.0,
-    few_rising c.args.chars.now c.in_ok-codes.codes.items c.in_ok-codes.ensures c.requires.few,
-  );
-})
+returns-clause-characters g c =
+    grind (
+      arith,
+      c.deref.ensures.value,
+      c.in_ok-codes.ensures,
+      c.in_ok-mapped.ensures,
+      c.len-requested.ensures,
+      c.len-found.ensures,
+      c.requires.few,
+      others_counted,
+      few_rising,
+    )

@@ -1,4 +1,4 @@
-use Rattle.std.proofs.Common.{refl, ◌∙◌, arith}
+use Rattle.std.proofs.Common.{◌∙◌, arith}
 use Rattle.fx_strike.proofs.Exits.{came}
 use Rattle.fx_strike.proofs.Keeping.{kept_more, kept_none, lines_there}
 use Rattle.fx_strike.proofs.Seeing.{code_fits, holds_none, seen_at, refused_at}
@@ -6,12 +6,7 @@ use Rattle.fx_strike.proofs.Telling.{heard_at, told_so_far}
 use Rattle.fx_strike.proofs.striker.Striker.see.Goals as goal
 
 pub mapped-init : goal.mapped-init
-mapped-init g c = record {
-  kept = refl;
-  lines = kept_none _ c.requires.none;
-  held = holds_none _ _ _ c.new-seen.ensures;
-  heard = refl;
-}
+mapped-init g c = grind (arith, c.requires.none, c.new-seen.ensures, kept_none, holds_none)
 
 pub returns-in_err-see_one-clause-seen : goal.returns-in_err-see_one-clause-seen
 returns-in_err-see_one-clause-seen g c =

@@ -1,3 +1,4 @@
+use Rattle.std.proofs.Common.{arith}
 use Rattle.std.proofs.Common.{OnOk}
 use Rattle.fx_strike.specs.inner.Keeping.{Keeps}
 use Rattle.fx_strike.proofs.Exits.{came}
@@ -15,8 +16,7 @@ returns-in_err-fate-clause-seen g c =
 
 pub returns-clause-seen : goal.returns-clause-seen
 returns-clause-seen g c =
-    seen_fate c.args.seen.now c.see_fate-done.new.seen c.see_fate-done.result c.in_ok-fate.fate (c.in_ok-fate.ensures).fate
-    c.see_fate-done.ensures.seen c.see_fate-done.ensures.fault
+    grind (arith, c.in_ok-fate.ensures, c.see_fate-done.ensures.seen, c.see_fate-done.ensures.fault, seen_fate)
 
 pub returns-clause-heard : goal.returns-clause-heard
 returns-clause-heard g c = rw (c.in_ok-fate.ensures).fate c.see_fate-done.ensures.heard

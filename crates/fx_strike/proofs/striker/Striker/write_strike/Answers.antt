@@ -1,3 +1,4 @@
+use Rattle.std.proofs.Common.{arith}
 use Rattle.std.proofs.Common.{◌∙◌, ap, refl, Err, Ok}
 use Rattle.std.proofs.KnownBytes.{Keeps-refl}
 use Rattle.fx_strike.specs.Strike.{Setting}
@@ -10,11 +11,16 @@ use Rattle.fx_strike.proofs.Telling.{told_all, told_none, told_on}
 use Rattle.fx_strike.proofs.striker.Striker.write_strike.Goals as goal
 
 pub survey_mapped-requires : goal.survey_mapped-requires
-survey_mapped-requires g c = record {
-  few = few_characters c.args.chars.now c.in_ok-characters.ensures.characters c.requires.chars.few;
-  small = small_characters c.args.chars.now c.in_ok-characters.ensures.characters c.requires.chars.small;
-  none = c.new-kept.ensures;
-}
+survey_mapped-requires g c =
+    grind (
+      arith,
+      c.in_ok-characters.ensures.characters,
+      c.requires.chars.few,
+      c.requires.chars.small,
+      c.new-kept.ensures,
+      few_characters,
+      small_characters,
+    )
 
 pub write_text-requires-clause-few : goal.write_text-requires-clause-few
 write_text-requires-clause-few g c =
@@ -31,30 +37,27 @@ returns-in_err-survey-clause-leaves g c =
     ((c.in_err-survey.ensures).survey (titled c.args.title.now) c.args.chars.now c.in_ok-characters.ensures.characters))
 
 pub returns-in_err-characters-clause-heard : goal.returns-in_err-characters-clause-heard
-returns-in_err-characters-clause-heard g c =
-    rw (came c.from_residual.result c.from_residual.ensures.1)
-    (told_none (Err c.in_err-characters.field-0.0) (c.in_err-characters.ensures).fault)
+returns-in_err-characters-clause-heard g c = grind (arith, c.from_residual.ensures.1, c.in_err-characters.ensures, came, told_none)
 
 pub returns-in_err-survey-clause-heard : goal.returns-in_err-survey-clause-heard
 returns-in_err-survey-clause-heard g c =
-    rw (came c.from_residual-in_err-survey.result c.from_residual-in_err-survey.ensures.1)
-    (told_on ((c.in_err-survey.ensures).heard (titled c.args.title.now) c.args.chars.now
-    c.in_ok-characters.ensures.characters))
+    grind (
+      arith,
+      c.from_residual-in_err-survey.ensures.1,
+      c.in_err-survey.ensures,
+      c.in_ok-characters.ensures.characters,
+      came,
+      told_on,
+    )
 
 pub returns-in_err-properties-clause-heard : goal.returns-in_err-properties-clause-heard
-returns-in_err-properties-clause-heard g c =
-    told_all _ ((c.in_ok-survey.ensures).heard (titled c.args.title.now) c.args.chars.now
-    c.in_ok-characters.ensures.characters)
+returns-in_err-properties-clause-heard g c = grind (arith, c.in_ok-survey.ensures, c.in_ok-characters.ensures.characters, told_all)
 
 pub returns-in_err-write_text-clause-heard : goal.returns-in_err-write_text-clause-heard
-returns-in_err-write_text-clause-heard g c =
-    told_all _ ((c.in_ok-survey.ensures).heard (titled c.args.title.now) c.args.chars.now
-    c.in_ok-characters.ensures.characters)
+returns-in_err-write_text-clause-heard g c = grind (arith, c.in_ok-survey.ensures, c.in_ok-characters.ensures.characters, told_all)
 
 pub returns-clause-heard : goal.returns-clause-heard
-returns-clause-heard g c =
-    told_all _ ((c.in_ok-survey.ensures).heard (titled c.args.title.now) c.args.chars.now
-    c.in_ok-characters.ensures.characters)
+returns-clause-heard g c = grind (arith, c.in_ok-survey.ensures, c.in_ok-characters.ensures.characters, told_all)
 
 pub returns-in_err-write_text-clause-leaves : goal.returns-in_err-write_text-clause-leaves
 returns-in_err-write_text-clause-leaves g c =
