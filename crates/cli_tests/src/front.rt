@@ -1,7 +1,7 @@
 //! The front, with a place in memory and a program that does what it is told.
 use fx_fixed::{Limits, MemorySink, MemorySource, Sink, Source, put_all};
-use fx_front::{Ended, Facts, Place, Program, Refused, Task, Text, run_to_place, say_after};
-use fx_words::{listed, part};
+use fx_front::{Ended, Facts, Parts, Place, Program, Refused, Task, Text, run_to_place, say_after};
+use fx_words::{listed, part, whole};
 use std::alloc::{AllocError, Global};
 use std::test::Fail;
 
@@ -87,14 +87,13 @@ impl Program for Fake {
     fn run<R: Source, O: Sink, E: Sink>(
         &mut self,
         _alloc: Global,
-        _words: &[&str],
-        _names_all: bool,
+        _parts: &Parts<'_>,
         _reader: &mut R,
         out: &mut O,
         _err: &mut E,
     ) -> u8 {
         match put_all(out, self.text) {
-            Ok(()) => self.status,
+            Ok(()) => self.status.min(2),
             Err(_) => 1,
         }
     }
@@ -129,16 +128,12 @@ fn run_on_shelf(
     };
     let mut err = MemorySink::new(alloc, 0, Limits::NONE)?;
     let mut reader = MemorySource::new(&[], Limits::NONE);
-    let ended = run_to_place(
-        alloc,
-        fake,
-        &["mkstrike"],
-        false,
-        is_trace,
-        &mut reader,
-        &mut shelf,
-        &mut err,
-    );
+    let parts = whole(alloc, &["mkstrike"])?;
+    let task = Task {
+        parts: &parts,
+        command: if is_trace { Some("trace") } else { None },
+    };
+    let ended = run_to_place(alloc, fake, &task, &mut reader, &mut shelf, &mut err);
     Ok((ended, shelf.file))
 }
 

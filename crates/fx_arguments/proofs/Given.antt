@@ -154,7 +154,7 @@ after-nil : (o : Option (List PropertyView)) → o ≡ after [] o
 after-nil None = refl
 after-nil (Some ps) = refl
 
--- those of the texts from one on come after those before
+-- the properties of `all`, and after them those of the given texts from the index i
 abbrev pub rest_of : List Property → List (Bor Text) → ℕ → Option (List PropertyView)
 rest_of all given i = after (seen_properties all) (properties_of (drop i (texts given)))
 

@@ -1,5 +1,5 @@
 -- The options of the commands, as clap sees them.
--- Serves the arguments of the commands: `read_make`, `read_show`, `read_outline`, `read_dump`, `read_trace`, `size_of`, `face_of`.
+-- Serves the arguments of the commands: `read_values`, `matches`, `size_of`, `face_of`.
 use Rattle.std.proofs.Common.{◌≡◌, ◌∙◌, ℕ, ◌<◌, ◌^◌, List, [], ◌∷◌, length, refl, sym, ap, ap₂, Option, Some, None, Bool, true, false}
 use Rattle.std.proofs.Common.{Result, Ok, Err, ◌&&◌, ◌||◌, subst, ◌⊎◌, inl, inr}
 use Rattle.fx_fixed.specs.Chain.{◌>>=◌, GivesUnless, wanted}
@@ -168,8 +168,4 @@ not_taken of made app arguments fault e (inr (usage, none)) =
 
 pub ruleset rows_steps = (among_some, rows_of_bare, rows_of_fault, rows_of_taken)
 
-pub ruleset simple_apps = (make_is_simple, show_is_simple, outline_is_simple, dump_is_simple, trace_is_simple)
-
-pub ruleset free_apps = (make_is_free, show_is_free, outline_is_free, dump_is_free, trace_is_free)
-
-pub ruleset read_steps = (err_from_is_err_and, not_taken, taken, simple_apps, free_apps)
+pub ruleset read_steps = (err_from_is_err_and, not_taken, taken)

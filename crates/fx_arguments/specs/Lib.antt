@@ -11,3 +11,4 @@ pub mod Properties
 pub mod Lines
 pub mod Tellers
 pub mod Limits
+pub mod inner

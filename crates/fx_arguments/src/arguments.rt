@@ -3,20 +3,22 @@ ghost use Rattle.std.specs.Prelude.{◌≡◌, Ok, codes, drop, map, option_map,
 ghost use Rattle.std.specs.Str.{bytes_eq};
 ghost use Rattle.clap.specs.Words.{found_of, rows_of};
 ghost use Rattle.fx_fixed.specs.Chain.{GivesUnless, map_ok, wanted};
-ghost use Rattle.fx_arguments.specs.Arguments.{characters_by, choice_by, command_of_dump, command_of_make, command_of_outline, command_of_show, command_of_trace};
+ghost use Rattle.fx_arguments.specs.Arguments.{characters_by, choice_by};
 ghost use Rattle.fx_arguments.specs.Arguments.{dropout_by, dump_by, face_by, is_command, make_by, mode_by, named_dropout, named_refused, one_way, outline_by, refused_by};
 ghost use Rattle.fx_arguments.specs.Arguments.{show_by, shown_by, size_by, texts, trace_by, traced_by, which_of};
 ghost use Rattle.fx_arguments.specs.CommandLine.{command_of, command_of_explain};
+ghost use Rattle.fx_arguments.specs.inner.Verbs.{command_by};
 ghost use Rattle.fx_arguments.specs.Commands.{Refuses, seen, seen_characters};
 ghost use Rattle.fx_arguments.specs.declared.fault.Fault.TheVariants.{Usage};
 
 use crate::chars::{number, parse_chars};
 use crate::command::{Characters, Command, Make, Show, Task, Trace, Traced};
-use crate::commands::{dump_command, make_command, outline_command, show_command, trace_command};
+use crate::commands::command_for;
 use crate::fault::Fault;
 use crate::mistakes::explain;
 use crate::properties::given_properties;
 use crate::values::{face_of, is_given, matches, size_of, value, values};
+use crate::verb::{Verb, verb_of};
 use clap::ArgMatches;
 use fx_machine::FontProgram;
 use fx_request::{Choice, Dropout, Mode, OnRefused, Refusal};
@@ -26,14 +28,11 @@ use std::alloc::Global;
 pub fn read_arguments<'a>(alloc: Global, arguments: &'a [&'a str]) -> Result<Command<'a>, Fault>
     ensures { GivesUnless Refuses seen result (command_of (texts arguments.entry.now)) }
 {
-    match arguments.split_first() {
-        Some((_, rest)) if is_command("make", rest) => read_make(alloc, rest),
-        Some((_, rest)) if is_command("show", rest) => read_show(alloc, rest),
-        Some((_, rest)) if is_command("outline", rest) => read_outline(alloc, rest),
-        Some((_, rest)) if is_command("dump", rest) => read_dump(alloc, rest),
-        Some((_, rest)) if is_command("trace", rest) => read_trace(alloc, rest),
-        Some((_, rest)) if is_command("explain", rest) => read_explain(alloc, rest),
-        _ => Err(Fault::Usage),
+    let rest = arguments.get(1..).unwrap_or(&[]);
+    match verb_of(rest) {
+        Some(verb) => read_values(alloc, verb, rest),
+        None if is_command("explain", rest) => read_explain(alloc, rest),
+        None => Err(Fault::Usage),
     }
 }
 
@@ -47,49 +46,23 @@ pub fn is_command(name: &str, arguments: &[&str]) -> bool
     }
 }
 
-/// Reads the arguments from `make` on.
+/// Reads the arguments from the name of a command with options on.
 #[tactic(auto, using(crate::proofs::Options::read_steps))]
-fn read_make<'a>(alloc: Global, arguments: &'a [&'a str]) -> Result<Command<'a>, Fault>
-    ensures { GivesUnless Refuses seen result (command_of_make (texts arguments.entry.now)) }
+fn read_values<'a>(
+    alloc: Global,
+    verb: Verb,
+    arguments: &'a [&'a str],
+) -> Result<Command<'a>, Fault>
+    ensures { GivesUnless Refuses seen result (command_by verb (texts arguments.entry.now)) }
 {
-    let matches = matches(make_command(alloc)?, arguments)?;
-    make_of(alloc, &matches)
-}
-
-/// Reads the arguments from `show` on.
-#[tactic(auto, using(crate::proofs::Options::read_steps))]
-fn read_show<'a>(alloc: Global, arguments: &'a [&'a str]) -> Result<Command<'a>, Fault>
-    ensures { GivesUnless Refuses seen result (command_of_show (texts arguments.entry.now)) }
-{
-    let matches = matches(show_command(alloc)?, arguments)?;
-    show_of(&matches)
-}
-
-/// Reads the arguments from `outline` on.
-#[tactic(auto, using(crate::proofs::Options::read_steps))]
-fn read_outline<'a>(alloc: Global, arguments: &'a [&'a str]) -> Result<Command<'a>, Fault>
-    ensures { GivesUnless Refuses seen result (command_of_outline (texts arguments.entry.now)) }
-{
-    let matches = matches(outline_command(alloc)?, arguments)?;
-    outline_of(&matches)
-}
-
-/// Reads the arguments from `dump` on.
-#[tactic(auto, using(crate::proofs::Options::read_steps))]
-fn read_dump<'a>(alloc: Global, arguments: &'a [&'a str]) -> Result<Command<'a>, Fault>
-    ensures { GivesUnless Refuses seen result (command_of_dump (texts arguments.entry.now)) }
-{
-    let matches = matches(dump_command(alloc)?, arguments)?;
-    dump_of(&matches)
-}
-
-/// Reads the arguments from `trace` on.
-#[tactic(auto, using(crate::proofs::Options::read_steps))]
-fn read_trace<'a>(alloc: Global, arguments: &'a [&'a str]) -> Result<Command<'a>, Fault>
-    ensures { GivesUnless Refuses seen result (command_of_trace (texts arguments.entry.now)) }
-{
-    let matches = matches(trace_command(alloc)?, arguments)?;
-    trace_of(&matches)
+    let matches = matches(command_for(alloc, verb)?, arguments)?;
+    match verb {
+        Verb::Make => make_of(alloc, &matches),
+        Verb::Show => show_of(&matches),
+        Verb::Outline => outline_of(&matches),
+        Verb::Dump => dump_of(&matches),
+        Verb::Trace => trace_of(&matches),
+    }
 }
 
 /// Reads the arguments from `explain` on.

@@ -1,112 +1,121 @@
 //! The commands and their options.
-ghost use Rattle.std.specs.Prelude.{◌≡◌, codes, IfOk, false};
-ghost use Rattle.clap.specs.Words.{app_of, rule_of};
-ghost use Rattle.fx_arguments.specs.Arguments.{dropout_rule, dump_app, flag_rule, make_app, many_rule, option_rule, outline_app, show_app, trace_app};
+ghost use Rattle.std.specs.Prelude.{◌≡◌, IfOk, false};
+ghost use Rattle.clap.specs.Words.{app_of, new_app, rule_of};
+ghost use Rattle.fx_arguments.specs.Mistakes.{app_for};
+ghost use Rattle.fx_arguments.specs.inner.Verbs.{rule_taking, with_options};
 
+use crate::verb::Verb;
 use clap::{Arg, ArgAction, Command};
 use std::alloc::{AllocError, Global};
 
-/// `make` with its options.
-pub fn make_command<'a>(alloc: Global) -> Result<Command<'a>, AllocError>
-    ensures { IfOk result (λ command. app_of command ≡ make_app) }
-{
-    Command::new(alloc, "make")
-        .arg(option(alloc, "ppem"))?
-        .arg(option(alloc, "chars"))?
-        .arg(option(alloc, "name"))?
-        .arg(many(alloc, "property"))?
-        .arg(flag(alloc, "x11"))?
-        .arg(option(alloc, "refused"))?
-        .arg(flag(alloc, "unhinted"))?
-        .arg(dropout(alloc))?
-        .arg(option(alloc, "face"))?
-        .arg(flag(alloc, "hex"))?
-        .arg(flag(alloc, "all"))
+/// What an option takes.
+#[derive(Clone, Copy)]
+pub enum Takes {
+    /// Nothing: it is a flag.
+    Nothing,
+    /// A value.
+    Value,
+    /// A value, and it may be given many times.
+    Values,
+    /// A value after `=`; alone it stands for the value `left`.
+    Choice,
 }
 
-/// `show` with its options.
-pub fn show_command<'a>(alloc: Global) -> Result<Command<'a>, AllocError>
-    ensures { IfOk result (λ command. app_of command ≡ show_app) }
+/// The options of `make`.
+const MAKE: [(&str, Takes); 11] = [
+    ("ppem", Takes::Value),
+    ("chars", Takes::Value),
+    ("name", Takes::Value),
+    ("property", Takes::Values),
+    ("x11", Takes::Nothing),
+    ("refused", Takes::Value),
+    ("unhinted", Takes::Nothing),
+    ("dropout", Takes::Choice),
+    ("face", Takes::Value),
+    ("hex", Takes::Nothing),
+    ("all", Takes::Nothing),
+];
+
+/// The options of `show`.
+const SHOW: [(&str, Takes); 7] = [
+    ("ppem", Takes::Value),
+    ("char", Takes::Value),
+    ("glyph", Takes::Value),
+    ("unhinted", Takes::Nothing),
+    ("dropout", Takes::Choice),
+    ("face", Takes::Value),
+    ("hex", Takes::Nothing),
+];
+
+/// The options of `outline`.
+const OUTLINE: [(&str, Takes); 6] = [
+    ("ppem", Takes::Value),
+    ("char", Takes::Value),
+    ("glyph", Takes::Value),
+    ("unhinted", Takes::Nothing),
+    ("face", Takes::Value),
+    ("hex", Takes::Nothing),
+];
+
+/// The options of `dump`.
+const DUMP: [(&str, Takes); 3] = [
+    ("of", Takes::Value),
+    ("face", Takes::Value),
+    ("hex", Takes::Nothing),
+];
+
+/// The options of `trace`.
+const TRACE: [(&str, Takes); 6] = [
+    ("ppem", Takes::Value),
+    ("char", Takes::Value),
+    ("glyph", Takes::Value),
+    ("of", Takes::Value),
+    ("face", Takes::Value),
+    ("hex", Takes::Nothing),
+];
+
+/// A command with its options.
+pub fn command_for<'a>(alloc: Global, verb: Verb) -> Result<Command<'a>, AllocError>
+    ensures { IfOk result (λ command. app_of command ≡ app_for verb) }
 {
-    Command::new(alloc, "show")
-        .arg(option(alloc, "ppem"))?
-        .arg(option(alloc, "char"))?
-        .arg(option(alloc, "glyph"))?
-        .arg(flag(alloc, "unhinted"))?
-        .arg(dropout(alloc))?
-        .arg(option(alloc, "face"))?
-        .arg(flag(alloc, "hex"))
+    match verb {
+        Verb::Make => command_with(alloc, "make", &MAKE),
+        Verb::Show => command_with(alloc, "show", &SHOW),
+        Verb::Outline => command_with(alloc, "outline", &OUTLINE),
+        Verb::Dump => command_with(alloc, "dump", &DUMP),
+        Verb::Trace => command_with(alloc, "trace", &TRACE),
+    }
 }
 
-/// `outline` with its options.
-pub fn outline_command<'a>(alloc: Global) -> Result<Command<'a>, AllocError>
-    ensures { IfOk result (λ command. app_of command ≡ outline_app) }
+/// A command with options.
+fn command_with<'a>(
+    alloc: Global,
+    name: &'a str,
+    options: &[(&'a str, Takes)],
+) -> Result<Command<'a>, AllocError>
+    ensures { IfOk result (λ command. app_of command ≡ with_options (new_app name.entry.now) options.now) }
 {
-    Command::new(alloc, "outline")
-        .arg(option(alloc, "ppem"))?
-        .arg(option(alloc, "char"))?
-        .arg(option(alloc, "glyph"))?
-        .arg(flag(alloc, "unhinted"))?
-        .arg(option(alloc, "face"))?
-        .arg(flag(alloc, "hex"))
+    let mut command = Command::new(alloc, name);
+    // The command has the options so far.
+    'options: for option in options {
+        command = command.arg(option_of(alloc, option.0, option.1))?;
+    }
+    Ok(command)
 }
 
-/// `trace` with its options.
-pub fn trace_command<'a>(alloc: Global) -> Result<Command<'a>, AllocError>
-    ensures { IfOk result (λ command. app_of command ≡ trace_app) }
-{
-    Command::new(alloc, "trace")
-        .arg(option(alloc, "ppem"))?
-        .arg(option(alloc, "char"))?
-        .arg(option(alloc, "glyph"))?
-        .arg(option(alloc, "of"))?
-        .arg(option(alloc, "face"))?
-        .arg(flag(alloc, "hex"))
-}
-
-/// `dump` with its options.
-#[tactic(auto, unfolding(crate::specs::Arguments::dump_app))]
-pub fn dump_command<'a>(alloc: Global) -> Result<Command<'a>, AllocError>
-    ensures { IfOk result (λ command. app_of command ≡ dump_app) }
-{
-    Command::new(alloc, "dump")
-        .arg(option(alloc, "of"))?
-        .arg(option(alloc, "face"))?
-        .arg(flag(alloc, "hex"))
-}
-
-/// An option that takes a value.
-fn option<'a>(alloc: Global, id: &'a str) -> Arg<'a>
-    ensures rule { rule_of result ≡ option_rule id.entry.now }
+/// An option.
+fn option_of<'a>(alloc: Global, id: &'a str, takes: Takes) -> Arg<'a>
+    ensures rule { rule_of result ≡ rule_taking takes id.entry.now }
     ensures local { result.global ≡ false }
 {
-    Arg::new(alloc, id).long(id).action(ArgAction::Set)
-}
-
-/// An option that takes a value, and may be given many times.
-fn many<'a>(alloc: Global, id: &'a str) -> Arg<'a>
-    ensures rule { rule_of result ≡ many_rule id.entry.now }
-    ensures local { result.global ≡ false }
-{
-    Arg::new(alloc, id).long(id).action(ArgAction::Append)
-}
-
-/// `--dropout=WHAT`; alone it stands for `--dropout=left`.
-fn dropout<'a>(alloc: Global) -> Arg<'a>
-    ensures rule { rule_of result ≡ dropout_rule }
-    ensures local { result.global ≡ false }
-{
-    Arg::new(alloc, "dropout")
-        .long("dropout")
-        .action(ArgAction::Set)
-        .num_args(0..=1)
-        .default_missing_value("left")
-}
-
-/// A flag.
-fn flag<'a>(alloc: Global, id: &'a str) -> Arg<'a>
-    ensures rule { rule_of result ≡ flag_rule id.entry.now }
-    ensures local { result.global ≡ false }
-{
-    Arg::new(alloc, id).long(id).action(ArgAction::SetTrue)
+    let arg = Arg::new(alloc, id).long(id);
+    match takes {
+        Takes::Nothing => arg.action(ArgAction::SetTrue),
+        Takes::Value => arg.action(ArgAction::Set),
+        Takes::Values => arg.action(ArgAction::Append),
+        Takes::Choice => arg
+            .action(ArgAction::Set)
+            .num_args(0..=1)
+            .default_missing_value("left"),
+    }
 }

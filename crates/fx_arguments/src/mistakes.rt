@@ -1,24 +1,24 @@
 //! What is wrong first with arguments.
 ghost use Rattle.std.specs.Prelude.{◌≡◌, ◌≤◌, [], Ok, Err, IfOk, length, option_map, slice_index_or};
-ghost use Rattle.clap.specs.Words.{app_of, found_of, rows_of};
+ghost use Rattle.clap.specs.Words.{found_of, rows_of};
 ghost use Rattle.fx_fixed.specs.Chain.{GivesUnless};
 ghost use Rattle.fx_arguments.specs.Arguments.{texts};
 ghost use Rattle.fx_arguments.specs.Commands.{Refuses};
-ghost use Rattle.fx_arguments.specs.Mistakes.{IsSaid, SaysUnless, app_for, checked, checked_for, choice_checked, command_said, dropout_checked, dump_checked};
+ghost use Rattle.fx_arguments.specs.Mistakes.{IsSaid, SaysUnless, checked, checked_for, choice_checked, command_said, dropout_checked, dump_checked};
 ghost use Rattle.fx_arguments.specs.Mistakes.{face_checked, has_hyphen, is_taken, line_of, make_checked, name_in, option_said, properties_checked};
 ghost use Rattle.fx_arguments.specs.Mistakes.{outline_checked, refused_checked, shown_checked, trace_checked, traced_checked};
 ghost use Rattle.fx_arguments.specs.Mistakes.{required, show_checked, size_checked, taken_if, taken_words, value_said, verb_checked, way_checked};
 ghost use Rattle.fx_arguments.specs.Mistakes.{word_said, words_said};
 
 use crate::arguments::{is_command, named_dropout, named_refused, which_of};
-use crate::commands::{dump_command, make_command, outline_command, show_command, trace_command};
+use crate::commands::command_for;
 use crate::fault::Fault;
 use crate::properties::property_of;
 use crate::said::{Said, say};
 use crate::values::{face_of, is_given, matches, size_of, value, values};
-use crate::verb::Verb;
-use clap::{ArgMatches, Command};
-use std::alloc::{AllocError, Global};
+use crate::verb::{Verb, verb_of};
+use clap::ArgMatches;
+use std::alloc::Global;
 
 /// The line that says what is wrong first with the arguments after the program's name. It has no bytes if nothing is wrong.
 pub fn explain(alloc: Global, words: &[&str]) -> Result<Vec<u8>, Fault>
@@ -36,25 +36,11 @@ pub fn explain(alloc: Global, words: &[&str]) -> Result<Vec<u8>, Fault>
 fn checked(alloc: Global, words: &[&str]) -> Result<(), Said>
     ensures { SaysUnless (λ u. u) result (checked (texts words.now)) }
 {
-    if is_command("make", words) {
-        return verb_checked(alloc, Verb::Make, words);
+    match verb_of(words) {
+        Some(verb) => verb_checked(alloc, verb, words),
+        None if is_command("explain", words) => Ok(()),
+        None => command_said(alloc, words),
     }
-    if is_command("show", words) {
-        return verb_checked(alloc, Verb::Show, words);
-    }
-    if is_command("outline", words) {
-        return verb_checked(alloc, Verb::Outline, words);
-    }
-    if is_command("dump", words) {
-        return verb_checked(alloc, Verb::Dump, words);
-    }
-    if is_command("trace", words) {
-        return verb_checked(alloc, Verb::Trace, words);
-    }
-    if is_command("explain", words) {
-        return Ok(());
-    }
-    command_said(alloc, words)
 }
 
 /// There is no command of this name.
@@ -64,19 +50,6 @@ fn command_said(alloc: Global, words: &[&str]) -> Result<(), Said>
     match words.first() {
         Some(word) => Err(say(alloc, &["unknown command '", word, "'"])),
         None => Err(say(alloc, &["the command is missing"])),
-    }
-}
-
-/// A command with its options.
-fn command_for<'a>(alloc: Global, verb: Verb) -> Result<Command<'a>, AllocError>
-    ensures { IfOk result (λ command. app_of command ≡ app_for verb) }
-{
-    match verb {
-        Verb::Make => make_command(alloc),
-        Verb::Show => show_command(alloc),
-        Verb::Outline => outline_command(alloc),
-        Verb::Dump => dump_command(alloc),
-        Verb::Trace => trace_command(alloc),
     }
 }
 

@@ -1,4 +1,7 @@
 //! The commands that have options.
+ghost use Rattle.std.specs.Prelude.{◌≡◌};
+ghost use Rattle.fx_arguments.specs.Arguments.{texts};
+ghost use Rattle.fx_arguments.specs.inner.Verbs.{verb_named, verb_of};
 
 /// A command that has options.
 #[derive(Clone, Copy)]
@@ -13,4 +16,28 @@ pub enum Verb {
     Dump,
     /// `trace`.
     Trace,
+}
+
+/// The command that the first word names.
+pub fn verb_of(words: &[&str]) -> Option<Verb>
+    ensures { result ≡ verb_of (texts words.now) }
+{
+    match words.first() {
+        Some(word) => verb_named(word),
+        None => None,
+    }
+}
+
+/// The command of a name.
+fn verb_named(name: &str) -> Option<Verb>
+    ensures { result ≡ verb_named name.now }
+{
+    match name {
+        "make" => Some(Verb::Make),
+        "show" => Some(Verb::Show),
+        "outline" => Some(Verb::Outline),
+        "dump" => Some(Verb::Dump),
+        "trace" => Some(Verb::Trace),
+        _ => None,
+    }
 }

@@ -1,5 +1,5 @@
 -- A run whose arguments are in the first line of its input.
--- Serves the answers of `run_line` and `run_arguments`.
+-- Serves the answers of `run_line` and `run_told`.
 use Rattle.std.proofs.Common.{◌≡◌, ◌∙◌, ◌==◌, ◌⊎◌, inl, inr, ℕ, ◌+◌, ◌<◌, ◌≤◌, List, [], ◌∷◌, ◌++◌, length, take, drop}
 use Rattle.std.proofs.Common.{not, refl, sym, ap, arith, Option, Bool, true, false, cond, Result, Ok, Err}
 use Rattle.std.proofs.Common.{append-nil, length-append, Bor}
@@ -26,9 +26,9 @@ use Rattle.fx_arguments.specs.Commands.{CommandView, Refuses}
 use Rattle.fx_arguments.specs.ReadAhead.{ahead_of, nothing_ahead}
 use Rattle.fx_arguments.specs.Input.{line_of, rest_of, arguments_of_line}
 use Rattle.fx_cli.specs.Runs.{AreArguments, Ends, HasLine, IsReadForArguments, IsReason, IsSpared}
-use Rattle.fx_cli.specs.Runs.{IsUnread, Does, Stops, font_bytes, has_arguments, called, text_of}
+use Rattle.fx_cli.specs.Runs.{IsUnread, Completes, Stops, font_bytes, has_arguments, called, text_of}
 use Rattle.clap.specs.Walk.{Text}
-use Rattle.fx_cli.specs.Steps.{EndsAfter, IsReasonAfter, DoesAfter, StopsAfter}
+use Rattle.fx_cli.specs.Steps.{EndsAfter, IsReasonAfter, CompletesAfter, StopsAfter}
 
 abbrev is_end : ℕ → Bool
 is_end b = b == 10
@@ -118,21 +118,21 @@ does : {given : List Text} {first : List ℕ} {before : Option (List ℕ)} {argu
     (faults_before : ℕ) (command : CommandView) (source sink : Change) (told : List Notice) (answer : Result Done Refusal)
     → faults_before ≡ source.faults_before
     → IsFirst given first before source.bytes_before arguments → command_of arguments ≡ Ok command
-    → DoesAfter command (ahead_of first) source sink told answer
-    → Does given (from_start before faults_before source) sink told answer
+    → CompletesAfter command (ahead_of first) source sink told answer
+    → Completes given (from_start before faults_before source) sink told answer
 does {given} {first} {before} {arguments} faults_before command source sink told answer same f asks m = record {
   input = first ++ m.more;
   read = Consumes-trans before source.bytes_before source.bytes first m.more f.read m.read;
   whole = m.whole;
-  calm = m.calm ∙ sym same;
+  quiet = m.quiet ∙ sym same;
   fits = omega (arith, m.fits, ahead_size first, length-append first m.more, length-append (rest_of first) m.more);
   arguments = arguments;
   are = are_arguments m.more source.bytes f (λ e. (m.rest e, m.whole));
   command = command;
   asks = asks;
-  font = m.made.font;
-  decoded = ap (font_bytes command.hex) (text_is m.more f m.rest) ∙ m.made.decoded;
-  leaves = m.made.leaves;
+  font = m.font;
+  decoded = ap (font_bytes command.hex) (text_is m.more f m.rest) ∙ m.decoded;
+  leaves = m.leaves;
 }
 
 reasons : {given : List Text} {first : List ℕ} {before : Option (List ℕ)} {arguments : List Text}
@@ -243,21 +243,21 @@ unasked given source sink some same untouched fault why =
 
 -- what was asked for ends the run
 given_does : (given : List Text) (command : CommandView) (source sink : Change) (told : List Notice) (answer : Result Done Refusal)
-    → has_arguments given ≡ true → command_of given ≡ Ok command → DoesAfter command nothing_ahead source sink told answer
-    → Does given source sink told answer
+    → has_arguments given ≡ true → command_of given ≡ Ok command → CompletesAfter command nothing_ahead source sink told answer
+    → Completes given source sink told answer
 given_does given command source sink told answer some asks m = record {
   input = m.more;
   read = m.read;
   whole = m.whole;
-  calm = m.calm;
+  quiet = m.quiet;
   fits = omega (arith, m.fits);
   arguments = given;
   are = rw some refl;
   command = command;
   asks = asks;
-  font = m.made.font;
-  decoded = rw some m.made.decoded;
-  leaves = m.made.leaves;
+  font = m.font;
+  decoded = rw some m.decoded;
+  leaves = m.leaves;
 }
 
 given_reasons : (given : List Text) (command : CommandView) (source : Change) (more : List ℕ) → has_arguments given ≡ true

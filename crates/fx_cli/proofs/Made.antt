@@ -1,25 +1,23 @@
 -- The steps of a run.
 -- Serves the steps of a run that tells of characters.
-use Rattle.std.proofs.Common.{◌≡◌, refl, ℕ, List, [], Some, Result, Ok, Err}
+use Rattle.std.proofs.Common.{refl, List, [], Result, Ok, Err}
 use Rattle.fx_fixed.specs.Chain.{map_fault}
-use Rattle.fx_sfnt.specs.Collections.{face_in}
 use Rattle.fx_request.specs.declared.refusal.Refusal.{Refusal}
 use Rattle.fx_fixed.specs.Changes.{Change}
 use Rattle.fx_arguments.specs.declared.done.Done.{Done}
 use Rattle.fx_arguments.specs.declared.fault.Fault.TheVariants.{Late}
 use Rattle.fx_arguments.specs.Commands.{CommandView}
-use Rattle.fx_cli.specs.Runs.{TaskLeaves, font_bytes}
+use Rattle.fx_arguments.specs.ReadAhead.{ReadAheadView}
 use Rattle.fx_request.specs.declared.notice.Notice.{Notice}
 use Rattle.fx_arguments.specs.Tellers.{TellerView}
-use Rattle.fx_cli.specs.Steps.{EndsText, Telling}
+use Rattle.fx_cli.specs.Steps.{CompletesAfter, EndsAfter, Telling}
 
--- what comes of a font's bytes ends the run
-pub text_done : (command : CommandView) (text : List ℕ) (sink : Change) (told : List Notice) (font : List ℕ)
-    → font_bytes command.hex text ≡ Some font
-    → (answer : Result Done Refusal) → TaskLeaves command.task (face_in font command.face) sink told answer
-    → EndsText command text sink told (map_fault Late answer)
-text_done command text sink told font decoded (Ok done) leaves = record { font = font; decoded = decoded; leaves = leaves }
-text_done command text sink told font decoded (Err refusal) leaves = record { font = font; decoded = decoded; leaves = leaves }
+-- a task that was done, or was refused late, ends the run
+pub task_ends : {command : CommandView} {ahead : ReadAheadView} {source sink : Change} {told : List Notice}
+    → (answer : Result Done Refusal) → CompletesAfter command ahead source sink told answer
+    → EndsAfter command ahead source sink told (map_fault Late answer)
+task_ends (Ok done) h = h
+task_ends (Err refusal) h = h
 
 -- ---- what was told
 

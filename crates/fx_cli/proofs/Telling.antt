@@ -1,6 +1,7 @@
 -- Runs that tell of refused characters, and those that stop before.
 -- Serves `run`, `run_line`, `run_command` and `run_task`.
-use Rattle.std.proofs.Common.{◌≡◌, ◌∙◌, refl, sym, ap, subst, inl, ℕ, ◌+◌, Bool, true, false, List, [], ◌∷◌, ◌++◌, length, Option, Result, Ok, Err}
+use Rattle.std.proofs.Common.{arith, ◌≡◌, ◌∙◌, ◌⊎◌, refl, sym, ap, subst, inl, inr, ℕ, ◌+◌, Bool, true, false, List, [], ◌∷◌, ◌++◌, length}
+use Rattle.std.proofs.Common.{Option, None, Result, Ok, Err}
 use Rattle.std.specs.Prelude.{IsErrOf, IsErrAnd}
 use Rattle.std.specs.List.{flat_map}
 use Rattle.std.specs.Borrow.{GName}
@@ -10,21 +11,22 @@ use Rattle.fx_fixed.specs.Changes.{Change}
 use Rattle.fx_request.specs.declared.notice.Notice.{Notice}
 use Rattle.fx_request.specs.Notices.{HearsAll}
 use Rattle.fx_request.specs.declared.refusal.Refusal.{Refusal}
-use Rattle.fx_request.specs.declared.refusal.Refusal.TheVariants.{InputTooLarge, OutOfMemory, ReadFailed, WriteFailed}
+use Rattle.fx_request.specs.declared.refusal.Refusal.TheVariants.{BadHex, InputTooLarge, OutOfMemory, ReadFailed, WriteFailed}
 use Rattle.fx_sfnt.specs.Collections.{FontFileView}
 use Rattle.fx_strike.specs.declared.trace.Traced.{Traced}
 use Rattle.fx_strike.specs.Traces.{Tells as TellsTrace, trace_of}
 use Rattle.fx_strike.specs.Listings.{IsListedTo, IsNoFault, IsNotListed, Lists}
 use Rattle.fx_arguments.specs.declared.done.Done.{Done}
 use Rattle.fx_arguments.specs.declared.fault.Fault.{Fault}
-use Rattle.fx_arguments.specs.declared.fault.Fault.TheVariants.{Usage, Early}
+use Rattle.fx_arguments.specs.declared.fault.Fault.TheVariants.{Usage, Early, Late}
 use Rattle.fx_arguments.specs.Commands.{CommandView}
 use Rattle.fx_arguments.specs.Input.{IsLineCause, IsReadCause}
 use Rattle.fx_arguments.specs.Lines.{notice_line, outcome_line, status_of}
+use Rattle.fx_front.specs.Places.{IsStatus}
 use Rattle.fx_arguments.specs.ReadAhead.{ReadAheadView}
 use Rattle.fx_arguments.specs.Tellers.{TellerView, Tells, TellsBy, HearsLine, begun}
 use Rattle.fx_arguments.proofs.Telling.{tells_change, tells_notices, tells_then}
-use Rattle.fx_cli.specs.Runs.{Ends, IsSpared, Runs, has_arguments}
+use Rattle.fx_cli.specs.Runs.{Ends, IsSpared, Runs, font_bytes, has_arguments}
 use Rattle.fx_cli.specs.Steps.{EndsAfter, Telling}
 use Rattle.fx_cli.proofs.FirstLines.{for_line}
 
@@ -94,6 +96,26 @@ no_text command ahead source sink more read rest spared OutOfMemory h =
     record { more = more; read = read; rest = rest; spared = spared; silent = refl; reason = tt }
 no_text command ahead source sink more read rest spared _ h = absurd h
 
+-- the text of the input is no font's
+pub no_font : (command : CommandView) (ahead : ReadAheadView) (source sink : Change) (more text : List ℕ)
+    → Consumes source.bytes_before source.bytes more → IsAtEnd source.bytes → (ahead.ended ≡ true → more ≡ [])
+    → text ≡ ahead.text ++ more → IsSpared sink → (refusal : Refusal)
+    → (refusal ≡ OutOfMemory) ⊎ ((refusal ≡ BadHex) × (font_bytes command.hex text ≡ None))
+    → EndsAfter command ahead source sink [] (Err (Early refusal))
+no_font command ahead source sink more text read whole rest same spared refusal (inl h) =
+    subst (λ r. EndsAfter command ahead source sink [] (Err (Early r))) (sym h)
+    (record { more = more; read = read; rest = λ e. (rest e, whole); spared = spared; silent = refl; reason = tt })
+no_font command ahead source sink more text read whole rest same spared refusal (inr h) =
+    subst (λ r. EndsAfter command ahead source sink [] (Err (Early r))) (sym h.0)
+    (record {
+      more = more;
+      read = read;
+      rest = λ e. (rest e, whole);
+      spared = spared;
+      silent = refl;
+      reason = (whole, ap (font_bytes command.hex) (sym same) ∙ h.1);
+    })
+
 -- a listing was refused
 pub unlisted : (program : Result (List ℕ) Refusal) (sink : Change) (r : Result (Unit {0}) Refusal) (d : Refusal) → r ≡ Err d
     → (IsNoFault d → IsNotListed program sink d) → ((n : ℕ) → IsErrOf r (WriteFailed n) → IsListedTo program sink n)
@@ -105,3 +127,10 @@ unlisted program sink r d e c w = c tt
 pub traced_as : (font : FontFileView) (ppem : ℕ) (programs due : Traced) (change : Change) (answer : Result Bool Refusal)
     → programs ≡ due → TellsTrace (trace_of font ppem programs) change answer → TellsTrace (trace_of font ppem due) change answer
 traced_as font ppem programs due change answer e h = subst (λ z. TellsTrace (trace_of font ppem z) change answer) e h
+
+-- a run ends with a status of the three
+pub status_is : (outcome : Result Done Fault) → IsStatus (status_of outcome)
+status_is (Ok done) = omega arith
+status_is (Err Usage) = omega arith
+status_is (Err (Early refusal)) = omega arith
+status_is (Err (Late refusal)) = omega arith

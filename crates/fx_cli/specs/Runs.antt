@@ -162,13 +162,13 @@ TaskLeaves (explanation line) font sink told (Ok Explanation) = LineLeaves line 
 TaskLeaves (explanation line) font sink told (Err refusal) = LineLeaves line sink (Err refusal) × (told ≡ [])
 TaskLeaves task font sink told (Ok done) = ⊥
 
--- the arguments are valid, the source was read to its end, and the sink has what results from that font and request
-pub record Does (given : List Text) (source sink : Change) (told : List Notice) (answer : Result Done Refusal) : Type 0 where
+-- the arguments are valid, the source was read to its end without a fault, and the sink has what results from that font and request
+pub record Completes (given : List Text) (source sink : Change) (told : List Notice) (answer : Result Done Refusal) : Type 0 where
   pub input : List ℕ
   pub read : Consumes source.bytes_before source.bytes input
   pub whole : IsAtEnd source.bytes
   pub fits : length input ≤ max_input
-  pub calm : source.faults ≡ source.faults_before
+  pub quiet : source.faults ≡ source.faults_before
   pub arguments : List Text
   pub are : AreArguments given input source.bytes arguments
   pub command : CommandView
@@ -223,8 +223,8 @@ pub record Stops (given : List Text) (source sink : Change) (told : List Notice)
 
 -- how a run ends
 abbrev pub Ends : List Text → Change → Change → List Notice → Result Done Fault → Type 0
-Ends given source sink told (Ok done) = Does given source sink told (Ok done)
-Ends given source sink told (Err (Late refusal)) = Does given source sink told (Err refusal)
+Ends given source sink told (Ok done) = Completes given source sink told (Ok done)
+Ends given source sink told (Err (Late refusal)) = Completes given source sink told (Err refusal)
 Ends given source sink told (Err fault) = Stops given source sink told fault
 
 -- a run on these arguments, the program's name first: how it ended, its status, and its lines for people: one for each refused

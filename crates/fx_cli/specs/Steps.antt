@@ -1,5 +1,5 @@
 -- The steps of a run after its arguments.
-use Rattle.std.specs.Prelude.{◌≡◌, ◌⊎◌, ◌+◌, ◌<◌, ◌≤◌, ◌++◌, ℕ, true, List, [], length, Some, None, Result, Ok, Err}
+use Rattle.std.specs.Prelude.{◌≡◌, ◌+◌, ◌<◌, ◌≤◌, ◌++◌, ℕ, true, List, [], length, Some, None, Result, Ok, Err}
 use Rattle.std.specs.Io.KnownBytes.{Consumes, IsAtEnd}
 use Rattle.fx_sfnt.specs.Collections.{face_in}
 use Rattle.fx_request.specs.declared.refusal.Refusal.{Refusal}
@@ -16,37 +16,21 @@ use Rattle.fx_request.specs.Notices.{HearsAll}
 use Rattle.fx_arguments.specs.Tellers.{TellerView, HearsLine}
 use Rattle.fx_cli.specs.Runs.{IsSpared, TaskLeaves, font_bytes}
 
--- the font's text, hexadecimal if the command says so, was decoded, and the sink has what comes of it
-pub record DoesText (command : CommandView) (text : List ℕ) (sink : Change) (told : List Notice)
-    (answer : Result Done Refusal) : Type 0 where
-  pub font : List ℕ
-  pub decoded : font_bytes command.hex text ≡ Some font
-  pub leaves : TaskLeaves command.task (face_in font command.face) sink told answer
-
--- it was not
-pub record SparesText (command : CommandView) (text : List ℕ) (sink : Change) (told : List Notice)
-    (refusal : Refusal) : Type 0 where
-  pub spared : IsSpared sink
-  pub silent : told ≡ []
-  pub reason : (refusal ≡ OutOfMemory) ⊎ ((refusal ≡ BadHex) × (font_bytes command.hex text ≡ None))
-
-abbrev pub EndsText : CommandView → List ℕ → Change → List Notice → Result Done Fault → Type 0
-EndsText command text sink told (Ok done) = DoesText command text sink told (Ok done)
-EndsText command text sink told (Err (Late refusal)) = DoesText command text sink told (Err refusal)
-EndsText command text sink told (Err (Early refusal)) = SparesText command text sink told refusal
-EndsText command text sink told (Err Usage) = ⊥
-
--- the source was read on to its end, and what was asked for was done with its text
-pub record DoesAfter (command : CommandView) (ahead : ReadAheadView) (source sink : Change) (told : List Notice)
+-- the source was read to its end after what was read ahead, without a fault, its text was decoded if the command says so, and the
+-- sink has what the command's task leaves with that font
+pub record CompletesAfter (command : CommandView) (ahead : ReadAheadView) (source sink : Change) (told : List Notice)
     (answer : Result Done Refusal) : Type 0 where
   pub more : List ℕ
   pub read : Consumes source.bytes_before source.bytes more
   pub whole : IsAtEnd source.bytes
-  pub calm : source.faults ≡ source.faults_before
+  pub quiet : source.faults ≡ source.faults_before
   pub rest : ahead.ended ≡ true → more ≡ []
   pub fits : ahead.line + length (ahead.text ++ more) ≤ max_input
-  pub made : DoesText command (ahead.text ++ more) sink told answer
+  pub font : List ℕ
+  pub decoded : font_bytes command.hex (ahead.text ++ more) ≡ Some font
+  pub leaves : TaskLeaves command.task (face_in font command.face) sink told answer
 
+-- a refusal before the task is true: the reader failed, the text is no hexadecimal text, the input is too large, or memory ran out
 abbrev pub IsReasonAfter : CommandView → ReadAheadView → List ℕ → Change → Refusal → Type 0
 IsReasonAfter command ahead more source ReadFailed = source.faults ≡ source.faults_before + 1
 IsReasonAfter command ahead more source BadHex = IsAtEnd source.bytes × (font_bytes command.hex (ahead.text ++ more) ≡ None)
@@ -54,6 +38,7 @@ IsReasonAfter command ahead more source InputTooLarge = max_input < ahead.line +
 IsReasonAfter command ahead more source OutOfMemory = Unit {0}
 IsReasonAfter command ahead more source _ = ⊥
 
+-- the run stopped before the task, for a true reason: the sink is as it was, and nothing was told of characters
 pub record StopsAfter (command : CommandView) (ahead : ReadAheadView) (source sink : Change) (told : List Notice)
     (refusal : Refusal) : Type 0 where
   pub more : List ℕ
@@ -63,9 +48,10 @@ pub record StopsAfter (command : CommandView) (ahead : ReadAheadView) (source si
   pub silent : told ≡ []
   pub reason : IsReasonAfter command ahead more source refusal
 
+-- how a run ends once its command is known: it did the task, which may refuse late, or it stopped early
 abbrev pub EndsAfter : CommandView → ReadAheadView → Change → Change → List Notice → Result Done Fault → Type 0
-EndsAfter command ahead source sink told (Ok done) = DoesAfter command ahead source sink told (Ok done)
-EndsAfter command ahead source sink told (Err (Late refusal)) = DoesAfter command ahead source sink told (Err refusal)
+EndsAfter command ahead source sink told (Ok done) = CompletesAfter command ahead source sink told (Ok done)
+EndsAfter command ahead source sink told (Err (Late refusal)) = CompletesAfter command ahead source sink told (Err refusal)
 EndsAfter command ahead source sink told (Err (Early refusal)) = StopsAfter command ahead source sink told refusal
 EndsAfter command ahead source sink told (Err Usage) = ⊥
 

@@ -6,7 +6,7 @@ use crate::program::run_watched;
 use crate::watch::Watch;
 use fx_arguments::{ItemFault, Task, read_arguments, wrong_item};
 use fx_fixed::{Sink, Source};
-use fx_front::{Facts, Program, Text};
+use fx_front::{Facts, Parts, Program, Text};
 use std::alloc::{AllocError, Global};
 use std::marker::Model;
 
@@ -45,15 +45,14 @@ impl Program for Mkstrike {
     fn run<R: Source, O: Sink, E: Sink>(
         &mut self,
         alloc: Global,
-        words: &[&str],
-        names_all: bool,
+        parts: &Parts<'_>,
         reader: &mut R,
         out: &mut O,
         err: &mut E,
     ) -> u8 {
         let mut watch = Watch::new(alloc);
-        watch.names_all = names_all;
-        let status = run_watched(alloc, words, reader, out, err, &mut watch);
+        watch.names_all = parts.names_all;
+        let status = run_watched(alloc, &parts.words, reader, out, err, &mut watch);
         self.watch = watch;
         status
     }

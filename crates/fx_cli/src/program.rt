@@ -1,13 +1,13 @@
 //! A run of the program.
-ghost use Rattle.std.specs.Prelude.{◌≡◌, ◌<◌, ◌≤◌, ◌^◌, length, true};
+ghost use Rattle.std.specs.Prelude.{◌≡◌, ◌⊎◌, ◌<◌, ◌≤◌, ◌^◌, length, true, Some, None, IfOk, IfErr};
 ghost use Rattle.std.specs.Io.KnownBytes.{IsAtEnd};
 ghost use Rattle.fx_fixed.specs.Chain.{map_fault};
 ghost use Rattle.fx_arguments.specs.Arguments.{texts};
 ghost use Rattle.fx_arguments.specs.Commands.{seen, seen_make, seen_task};
 ghost use Rattle.fx_fixed.specs.Changes.{change_of};
-ghost use Rattle.fx_sfnt.specs.Collections.{face_in};
-ghost use Rattle.fx_cli.specs.Runs.{Ends, MakeLeaves, Runs, StrikeLeaves, TaskLeaves, called, programs_of};
-ghost use Rattle.fx_cli.specs.Steps.{EndsAfter, EndsText, Telling};
+ghost use Rattle.fx_request.specs.declared.refusal.Refusal.TheVariants.{BadHex, OutOfMemory};
+ghost use Rattle.fx_cli.specs.Runs.{Ends, MakeLeaves, Runs, StrikeLeaves, TaskLeaves, called, font_bytes, programs_of};
+ghost use Rattle.fx_cli.specs.Steps.{EndsAfter, Telling};
 
 use crate::mapped::mapped_of;
 use crate::show::put_picture;
@@ -63,7 +63,7 @@ pub fn run_watched<R: Source, O: Sink, E: Sink, W: Watcher>(
     status
 }
 
-/// Runs the program, and tells a teller of refused characters.
+/// Runs the program, and tells a teller of refused characters. If arguments are given, the input is the font.
 fn run_told<R: Source, O: Sink, E: Sink, W: Watcher>(
     alloc: Global,
     arguments: &[&str],
@@ -77,28 +77,10 @@ fn run_told<R: Source, O: Sink, E: Sink, W: Watcher>(
     ensures { Telling teller.old teller.new (λ told. Ends (texts arguments.now)
         (change_of R.left R.fault_count reader.old reader.new) (change_of O.held O.fault_count out.old out.new) told result) }
 {
-    if arguments.len() > 1 {
-        run_arguments(alloc, arguments, reader, out, teller, watcher)
-    } else {
-        run_line(alloc, arguments, reader, out, teller, watcher)
+    let count = arguments.len();
+    if count < 2 {
+        return run_line(alloc, arguments, reader, out, teller, watcher);
     }
-}
-
-/// The arguments are given, and the input is the font.
-fn run_arguments<R: Source, O: Sink, E: Sink, W: Watcher>(
-    alloc: Global,
-    arguments: &[&str],
-    reader: &mut R,
-    out: &mut O,
-    teller: &mut Teller<'_, E>,
-    watcher: &mut W,
-) -> Result<Done, Fault>
-    requires reader { R.fault_count reader.old < 2 ^ 63 }
-    requires out { O.fault_count out.old < 2 ^ 63 }
-    requires given { 1 < length arguments.now }
-    ensures { Telling teller.old teller.new (λ told. Ends (texts arguments.now)
-        (change_of R.left R.fault_count reader.old reader.new) (change_of O.held O.fault_count out.old out.new) told result) }
-{
     let command = read_arguments(alloc, arguments)?;
     run_command(
         alloc,
@@ -172,47 +154,24 @@ fn run_command<R: Source, O: Sink, E: Sink, W: Watcher>(
         (change_of R.left R.fault_count reader.old reader.new) (change_of O.held O.fault_count out.old out.new) told result) }
 {
     let text = ahead.read_on(alloc, reader)?;
-    run_text(alloc, command, &text, out, teller, watcher)
-}
-
-/// Does what a command asks for with a font's text.
-fn run_text<O: Sink, E: Sink, W: Watcher>(
-    alloc: Global,
-    command: &Command<'_>,
-    text: &[u8],
-    out: &mut O,
-    teller: &mut Teller<'_, E>,
-    watcher: &mut W,
-) -> Result<Done, Fault>
-    requires { O.fault_count out.old < 2 ^ 63 }
-    ensures { Telling teller.old teller.new (λ told. EndsText (seen command.now) text.now
-        (change_of O.held O.fault_count out.old out.new) told result) }
-{
-    if command.hex {
-        let font = decode_hex(alloc, text)?;
-        late(run_bytes(alloc, command, &font, out, teller, watcher))
-    } else {
-        late(run_bytes(alloc, command, text, out, teller, watcher))
-    }
-}
-
-/// Does what a command asks for with the bytes of a font file.
-fn run_bytes<O: Sink, E: Sink, W: Watcher>(
-    alloc: Global,
-    command: &Command<'_>,
-    bytes: &[u8],
-    out: &mut O,
-    teller: &mut Teller<'_, E>,
-    watcher: &mut W,
-) -> Result<Done, Refusal>
-    requires { O.fault_count out.old < 2 ^ 63 }
-    ensures { Telling teller.old teller.new (λ told. TaskLeaves (seen command.now).task (face_in bytes.now command.now.face)
-        (change_of O.held O.fault_count out.old out.new) told result) }
-{
-    let font = FontFile::new(bytes, command.face);
+    let bytes = font_bytes(alloc, command.hex, text)?;
+    let font = FontFile::new(&bytes, command.face);
     let outcome = run_task(alloc, &command.task, &font, out, teller);
     watcher.see(alloc, command, &font, &outcome);
-    outcome
+    late(outcome)
+}
+
+/// The bytes of the font that a text is, or that it writes in hexadecimal digits.
+fn font_bytes(alloc: Global, is_hex: bool, text: Vec<u8>) -> Result<Vec<u8>, Refusal>
+    ensures bytes { IfOk result (λ bytes. font_bytes is_hex text.items ≡ Some bytes.items) }
+    ensures refused { IfErr result (λ refusal. (refusal ≡ OutOfMemory)
+        ⊎ ((refusal ≡ BadHex) × (font_bytes is_hex text.items ≡ None))) }
+{
+    if is_hex {
+        decode_hex(alloc, &text)
+    } else {
+        Ok(text)
+    }
 }
 
 /// Does a task with a font.
@@ -268,16 +227,16 @@ fn make_of<O: Sink, E: Sink>(
         (change_of O.held O.fault_count out.old out.new) told result) }
 {
     match &make.chars {
-        Characters::Listed(chars) => strike_of(alloc, make, chars, font, out, teller),
+        Characters::Listed(chars) => make_from(alloc, make, chars, font, out, teller),
         Characters::All => {
             let chars = mapped_of(alloc, font)?;
-            strike_of(alloc, make, &chars, font, out, teller)
+            make_from(alloc, make, &chars, font, out, teller)
         }
     }
 }
 
-/// Makes the strike of these characters.
-fn strike_of<O: Sink, E: Sink>(
+/// Makes a strike of these characters.
+fn make_from<O: Sink, E: Sink>(
     alloc: Global,
     make: &Make<'_>,
     chars: &[u32],

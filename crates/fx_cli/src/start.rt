@@ -3,6 +3,7 @@ ghost use Rattle.std.specs.Prelude.{◌≡◌, ◌<◌, ◌^◌, map, string_byt
 ghost use Rattle.fx_fixed.specs.Changes.{change_of};
 ghost use Rattle.fx_arguments.specs.Arguments.{texts};
 ghost use Rattle.fx_arguments.specs.Lines.{Tells, outcome_line, status_of};
+ghost use Rattle.fx_front.specs.Places.{IsStatus};
 ghost use Rattle.fx_cli.specs.Runs.{unread_outcome};
 
 use crate::mkstrike::Mkstrike;
@@ -14,8 +15,10 @@ use std::io::ErrorKind;
 use std::{env, io};
 
 /// Runs the program on the arguments that the system gives, with its font and its output by name or on the standard streams.
-/// Returns the status. Nothing is buffered between it and the system's files, so that no byte is lost after it returns.
-pub fn run_program(rt: &HostRuntime) -> u8 {
+/// Returns the status: 0, 1 or 2. Nothing is buffered between it and the system's files, so that no byte is lost after it returns.
+pub fn run_program(rt: &HostRuntime) -> u8
+    ensures { IsStatus result }
+{
     match run_by_front(rt) {
         Ok(status) => status,
         Err(fault) => end_unread(rt, fault.kind()),
@@ -23,7 +26,10 @@ pub fn run_program(rt: &HostRuntime) -> u8 {
 }
 
 /// Says why there are no arguments, or no memory for them. Returns the status.
-fn end_unread(rt: &HostRuntime, kind: ErrorKind) -> u8 {
+#[tactic(auto, using(crate::proofs::Telling::status_is))]
+fn end_unread(rt: &HostRuntime, kind: ErrorKind) -> u8
+    ensures { IsStatus result }
+{
     let mut err = ToSink::new(rt.stderr());
     let status = unread(&mut err, kind);
     if status == 2 {
@@ -33,15 +39,12 @@ fn end_unread(rt: &HostRuntime, kind: ErrorKind) -> u8 {
 }
 
 /// Runs the program by its front. An error is that there are no arguments, or no memory before the program was run.
-fn run_by_front(rt: &HostRuntime) -> io::Result<u8> {
-    let arguments = arguments(rt)?;
+fn run_by_front(rt: &HostRuntime) -> io::Result<u8>
+    ensures { IfOk result IsStatus }
+{
+    let arguments: Vec<String> = env::args(rt)?.collect(rt.alloc())?;
     let texts = texts_of(rt.alloc(), &arguments)?;
     run_front(rt, &mut Mkstrike::new(rt.alloc()), &texts)
-}
-
-/// The arguments that the system gives, the program's name first.
-fn arguments(rt: &HostRuntime) -> io::Result<Vec<String>> {
-    Ok(env::args(rt)?.collect(rt.alloc())?)
 }
 
 /// The arguments as texts.

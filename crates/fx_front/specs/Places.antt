@@ -1,11 +1,22 @@
 -- A run whose output is a file that is made late, and gets its name at the end.
-use Rattle.std.specs.Prelude.{◌≡◌, ◌⊎◌, ℕ, Bool, true, false, List, Option, Some, None}
+use Rattle.std.specs.Prelude.{◌≡◌, ◌⊎◌, ◌≤◌, ℕ, Bool, true, false, List, Option, Some, None}
+use Rattle.std.specs.Str.{bytes_eq}
 use Rattle.fx_fixed.specs.Changes.{Change}
+use Rattle.fx_words.specs.Parts.{Text}
 
 -- what the file holds; before it is made, what a new one would hold
 abbrev pub held_by : {New : Type 0} → (New → Option (List ℕ)) → Option (List ℕ) → Option New → Option (List ℕ)
 held_by held fresh None = fresh
 held_by held fresh (Some new) = held new
+
+-- the status of a run: 0 it is done, 1 it is refused or failed, 2 its command line is wrong
+abbrev pub IsStatus : ℕ → Type 0
+IsStatus status = status ≤ 2
+
+-- whether a command, if there is one, has this name
+abbrev pub is_named : Option Text → Text → Bool
+is_named None name = false
+is_named (Some command) name = bytes_eq command name
 
 -- how a run ends whose file gets its name: it is done, or it is a trace, of which what comes before a halt is kept
 abbrev pub IsKept : Bool → ℕ → Type 0

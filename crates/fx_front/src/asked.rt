@@ -26,9 +26,22 @@ pub struct Task<'t, 'a> {
 }
 
 impl<'t, 'a> Task<'t, 'a> {
+    ghost use Rattle.fx_words.specs.Parts.{text_in};
+    ghost use Rattle.fx_front.specs.Places.{is_named};
+
     /// Whether this is the command.
-    pub(crate) fn is(&self, name: &str) -> bool {
-        self.command == Some(name)
+    pub(crate) fn is(&self, name: &str) -> bool
+        ensures { result ≡ is_named (text_in self.now.command) name.now }
+    {
+        match self.command {
+            Some(command) => command == name,
+            None => false,
+        }
+    }
+
+    /// Whether the list of characters is what `--set` stands for.
+    pub(crate) fn has_sets(&self, list: &str) -> bool {
+        !list.is_empty() && list == self.parts.listed
     }
 
     /// The list of characters among the words.

@@ -7,7 +7,7 @@ use crate::asked::{Task, has};
 use crate::facts::{Counts, Facts, Refused};
 use crate::kinds::{KINDS, kind_of};
 use crate::lines::{leave, tell};
-use crate::meant::{is_among, meant_by, place_of};
+use crate::meant::{is_among, meant_by, place_of, set_meant_by};
 use crate::program::Program;
 use crate::run::Ended;
 use crate::text::Text;
@@ -29,6 +29,8 @@ const LACKS_ALL: &str =
 
 const IS_CUT: &str =
     "the font has more than 65,536 characters, and the strike has only the first of them; --chars chooses others";
+
+const IS_BLANK: &str = "no pixel of the strike is set: its characters are blank";
 
 /// What there is for lists that are no numbers.
 const LISTS: &str =
@@ -55,103 +57,102 @@ pub fn say_after<G: Program, E: Sink>(
     ensures { (between : E) × Says (change_of E.held E.fault_count err.old between)
         × Says (change_of E.held E.fault_count between err.new) }
 {
-    say_text(
-        alloc,
-        of_font_and_file(alloc, program.facts(), task, ended),
-        err,
-    );
-    say_text(alloc, after(alloc, program, task, ended, is_file), err);
+    let mut text = Text::new(alloc);
+    let made = add_font_and_file(&mut text, program.facts(), task, ended);
+    say_text(alloc, &text, made, err);
+    let mut text = Text::new(alloc);
+    let made = add_after(alloc, &mut text, program, task, ended, is_file);
+    say_text(alloc, &text, made, err);
 }
 
 /// Says a text, if there was memory for it.
-fn say_text<E: Sink>(alloc: Global, text: Result<Text, AllocError>, err: &mut E)
+fn say_text<E: Sink>(alloc: Global, text: &Text, made: Result<(), AllocError>, err: &mut E)
     ensures { Says (change_of E.held E.fault_count err.old err.new) }
 {
-    match text {
-        Ok(text) => tell(alloc, err, &text),
+    match made {
+        Ok(()) => tell(alloc, err, text),
         Err(_) => leave(err),
     }
 }
 
-/// What is said of a file whose name promises another format, or of a variable font.
-fn of_font_and_file(
-    alloc: Global,
+/// Adds what is said of a file whose name promises another format, or of a variable font.
+fn add_font_and_file(
+    text: &mut Text,
     facts: &Facts,
     task: &Task<'_, '_>,
     ended: Ended,
-) -> Result<Text, AllocError> {
+) -> Result<(), AllocError> {
     if ended.status != 0 {
-        return Ok(Text::new(alloc));
+        return Ok(());
     }
     if let Some(name) = task.parts.output
         && task.is("make")
         && let Some((_, ending)) = name.rsplit_once('.')
         && is_among(ending, OTHERS)
     {
-        return Text::of(alloc, &["'", name, IS_BDF]);
+        return text.add_all(&["'", name, IS_BDF]);
     }
-    Text::one(alloc, if facts.is_variable { IS_VARIABLE } else { "" })
+    text.add_all(&[if facts.is_variable { IS_VARIABLE } else { "" }])
 }
 
-/// What is said after a run, without bytes if nothing is.
-fn after<G: Program>(
+/// Adds what is said after a run; nothing if nothing is.
+fn add_after<G: Program>(
     alloc: Global,
+    text: &mut Text,
     program: &G,
     task: &Task<'_, '_>,
     ended: Ended,
     is_file: bool,
-) -> Result<Text, AllocError> {
+) -> Result<(), AllocError> {
     let facts = program.facts();
     match ended.status {
         0 => match facts.strike {
-            Some(counts) => of_strike(alloc, task, facts, counts, ended.is_blank),
-            None => Ok(Text::new(alloc)),
+            Some(counts) => add_strike(text, task, facts, counts, ended.is_blank),
+            None => Ok(()),
         },
         1 => match facts.refused {
-            Some(refused) => of_refusal(alloc, program, task, refused),
-            None => Ok(Text::new(alloc)),
+            Some(refused) => add_refusal(alloc, text, program, task, refused),
+            None => Ok(()),
         },
-        _ => of_usage(alloc, program, task, is_file),
+        _ => add_usage(alloc, text, program, task, is_file),
     }
 }
 
-/// What is said of a strike.
-fn of_strike(
-    alloc: Global,
+/// Adds what is said of a strike.
+fn add_strike(
+    text: &mut Text,
     task: &Task<'_, '_>,
     facts: &Facts,
     counts: Counts,
     is_blank: bool,
-) -> Result<Text, AllocError> {
-    let none = "the strike has no glyph: ";
+) -> Result<(), AllocError> {
     if facts.is_cut {
-        Text::one(alloc, IS_CUT)
-    } else if counts.glyphs > 0 && counts.missing > 0 {
-        of_missing(alloc, facts, counts)
-    } else if counts.glyphs > 0 && is_blank {
-        Text::one(
-            alloc,
-            "no pixel of the strike is set: its characters are blank",
-        )
-    } else if counts.glyphs > 0 {
-        Ok(Text::new(alloc))
-    } else if counts.missing > 0 {
-        Text::of(alloc, &[none, LACKS_ALL])
+        return text.add_all(&[IS_CUT]);
+    }
+    if counts.glyphs == 0 {
+        return text.add_all(&["the strike has no glyph: ", why_none(task, counts)]);
+    }
+    if counts.missing > 0 {
+        return add_missing(text, facts, counts);
+    }
+    text.add_all(&[if is_blank { IS_BLANK } else { "" }])
+}
+
+/// Why a strike has no glyph.
+fn why_none(task: &Task<'_, '_>, counts: Counts) -> &'static str {
+    if counts.missing > 0 {
+        LACKS_ALL
     } else if task.list() == Some("") {
-        Text::of(alloc, &[none, "the list of characters is empty"])
+        "the list of characters is empty"
     } else if has(&task.parts.words, "--all") {
-        Text::of(
-            alloc,
-            &[none, "the font has no character, or all are refused"],
-        )
+        "the font has no character, or all are refused"
     } else {
-        Text::of(alloc, &[none, "the requested characters are refused"])
+        "the requested characters are refused"
     }
 }
 
-/// Which characters are missing.
-fn of_missing(alloc: Global, facts: &Facts, counts: Counts) -> Result<Text, AllocError> {
-    let mut text = Text::new(alloc);
+/// Adds which characters are missing.
+fn add_missing(text: &mut Text, facts: &Facts, counts: Counts) -> Result<(), AllocError> {
     text.add_number(u64::from(counts.missing))?;
     let be = if counts.missing == 1 { "is" } else { "are" };
     text.add_all(&[" of the requested characters ", be, " missing in the font"])?;
@@ -163,45 +164,40 @@ fn of_missing(alloc: Global, facts: &Facts, counts: Counts) -> Result<Text, Allo
         ",..; --missing names all"
     } else {
         ""
-    }])?;
-    Ok(text)
+    }])
 }
 
-/// What to do after a refusal.
-fn of_refusal<G: Program>(
+/// Adds what to do after a refusal.
+fn add_refusal<G: Program>(
     alloc: Global,
+    text: &mut Text,
     program: &G,
     task: &Task<'_, '_>,
     refused: Refused,
-) -> Result<Text, AllocError> {
+) -> Result<(), AllocError> {
     let advice = refused.advice;
     match (refused.number, &program.facts().start) {
-        (10, Some(start)) => Text::one(alloc, kind_of(&KINDS, start).unwrap_or(advice)),
-        (17..=23, _) if task.is("make") => Text::of(
-            alloc,
-            &[advice, "; --refused leave-out does so"],
-        ),
+        (10, Some(start)) => text.add_all(&[kind_of(&KINDS, start).unwrap_or(advice)]),
+        (17..=23, _) if task.is("make") => text.add_all(&[advice, "; --refused leave-out does so"]),
         (24, _) if names_glyph(task, refused.glyph) => {
-            Text::one(alloc, "the font has no glyph of that number")
+            text.add_all(&["the font has no glyph of that number"])
         }
-        (25, Some(start)) => of_faces(alloc, start),
-        (30..=41, _) => of_halt(alloc, task, refused),
-        (61, _) => of_list(alloc, program, task, advice),
-        _ => Text::one(alloc, advice),
+        (25, Some(start)) => add_faces(text, start),
+        (30..=41, _) => add_halt(text, task, refused),
+        (61, _) => add_list(alloc, text, program, task, advice),
+        _ => text.add_all(&[advice]),
     }
 }
 
-/// What to do after a halt. A trace runs the programs always.
-fn of_halt(alloc: Global, task: &Task<'_, '_>, refused: Refused) -> Result<Text, AllocError> {
-    let mut text = Text::new(alloc);
+/// Adds what to do after a halt. A trace runs the programs always.
+fn add_halt(text: &mut Text, task: &Task<'_, '_>, refused: Refused) -> Result<(), AllocError> {
     if task.is("make") && refused.is_halted_glyph {
         text.add_all(&["--refused unhinted draws such characters without hinting; "])?;
     }
     if !task.is("trace") {
         text.add_all(&["with --unhinted no program of the font runs; "])?;
     }
-    text.add_all(&["to fix the font, ", refused.advice])?;
-    Ok(text)
+    text.add_all(&["to fix the font, ", refused.advice])
 }
 
 /// Whether the glyph that is refused is one that the words name.
@@ -223,43 +219,69 @@ fn names_glyph(task: &Task<'_, '_>, glyph: Option<u16>) -> bool {
     false
 }
 
-/// Which faces a file has that begins so.
-fn of_faces(alloc: Global, start: &[u8]) -> Result<Text, AllocError> {
+/// Adds which faces a file has that begins so.
+fn add_faces(text: &mut Text, start: &[u8]) -> Result<(), AllocError> {
     let faces = match start {
         [b't', b't', b'c', b'f', _, _, _, _, a, b, c, d] => u32::from_be_bytes([*a, *b, *c, *d]),
-        _ => return Text::one(alloc, "the file is no collection: leave --face out"),
+        _ => return text.add_all(&["the file is no collection: leave --face out"]),
     };
     if faces == 0 {
-        return Text::one(alloc, "the collection has no font");
+        return text.add_all(&["the collection has no font"]);
     }
     if faces == 1 {
-        return Text::one(alloc, "the collection has one font: leave --face out");
+        return text.add_all(&["the collection has one font: leave --face out"]);
     }
-    let mut text = Text::one(alloc, "the collection has ")?;
+    text.add_all(&["the collection has "])?;
     text.add_number(u64::from(faces))?;
     text.add_all(&[" fonts: --face takes 0 to "])?;
-    text.add_number(u64::from(faces - 1))?;
-    Ok(text)
+    text.add_number(u64::from(faces - 1))
 }
 
-/// What is wrong with a list of characters, or with one.
-fn of_list<G: Program>(
+/// Adds what is wrong with a list of characters, or with one.
+fn add_list<G: Program>(
     alloc: Global,
+    text: &mut Text,
     program: &G,
     task: &Task<'_, '_>,
     advice: &str,
-) -> Result<Text, AllocError> {
+) -> Result<(), AllocError> {
     let Some(list) = task.list() else {
-        return Text::one(alloc, advice);
+        return text.add_all(&[advice]);
     };
     if !task.is("make") {
         let takes = "--char takes one hexadecimal number up to 10FFFF, not '";
-        return Text::of(alloc, &[takes, list, "'; the letter A is 41"]);
+        return text.add_all(&[takes, list, "'; the letter A is 41"]);
     }
-    let mut text = program.wrong_item(alloc, list)?;
+    if task.has_sets(list)
+        && let Some(name) = list.split(',').find(|item| is_word(item))
+    {
+        return add_set(alloc, text, name);
+    }
+    text.add(program.wrong_item(alloc, list)?.bytes())?;
     text.add_all(&[": ", advice, "; the letter A is 41"])?;
-    add_names(alloc, &mut text, list)?;
-    Ok(text)
+    add_names(alloc, text, list)
+}
+
+/// Adds what is said of a name that no set has.
+fn add_set(alloc: Global, text: &mut Text, name: &str) -> Result<(), AllocError> {
+    text.add_all(&["no set of characters has the name '", name, "'; "])?;
+    add_question(text, "", &set_meant_by(alloc, name)?, " ")?;
+    text.add_all(&["'mkstrike help sets' lists the sets"])
+}
+
+/// Adds the question whether words are meant, between two texts; nothing without words.
+fn add_question(
+    text: &mut Text,
+    before: &str,
+    meant: &Text,
+    after: &str,
+) -> Result<(), AllocError> {
+    if meant.is_empty() {
+        return Ok(());
+    }
+    text.add_all(&[before, "did you mean "])?;
+    text.add(meant.bytes())?;
+    text.add_all(&["?", after])
 }
 
 /// Adds what there is for a list that has names or letters.
@@ -292,45 +314,58 @@ fn is_word(item: &str) -> bool {
     is_word
 }
 
-/// What is wrong with a command line.
-fn of_usage<G: Program>(
+/// Adds what is wrong with a command line.
+fn add_usage<G: Program>(
     alloc: Global,
+    text: &mut Text,
     program: &G,
     task: &Task<'_, '_>,
     is_file: bool,
-) -> Result<Text, AllocError> {
+) -> Result<(), AllocError> {
     let Some(first) = task.parts.words.get(1) else {
-        return Text::one(alloc, WRONG_LINE);
+        return text.add_all(&[WRONG_LINE]);
     };
     match task.command {
-        Some(command) => of_words(alloc, program, task, command),
-        None => of_command(alloc, first, is_file),
+        Some(command) => {
+            let said = program.wrong(alloc, task.parts.words.get(1..).unwrap_or(&[]))?;
+            add_words(alloc, text, task, command, &said)
+        }
+        None => add_command(alloc, text, first, is_file),
     }
 }
 
-/// What is wrong with the words of a command.
-fn of_words<G: Program>(
+/// Adds what is wrong with the words of a command.
+fn add_words(
     alloc: Global,
-    program: &G,
+    text: &mut Text,
     task: &Task<'_, '_>,
     command: &str,
-) -> Result<Text, AllocError> {
-    let said = program.wrong(alloc, task.parts.words.get(1..).unwrap_or(&[]))?;
-    let wrong = str::from_utf8(&said).unwrap_or("").trim_end();
-    let mut text = Text::new(alloc);
+    said: &[u8],
+) -> Result<(), AllocError> {
+    let wrong = str::from_utf8(said).unwrap_or("").trim_end();
+    add_wrong(alloc, text, task, command, wrong)?;
+    text.add_all(&[" 'mkstrike help ", command, "' shows how it is written"])
+}
+
+/// Adds the line that says what is wrong with them, and what explains it further.
+fn add_wrong(
+    alloc: Global,
+    text: &mut Text,
+    task: &Task<'_, '_>,
+    command: &str,
+    wrong: &str,
+) -> Result<(), AllocError> {
     if wrong == "unknown option '-o'" {
-        text.add_all(&["-o takes the name of a file, and is given once;"])?;
-    } else if let Some(option) = wrong.strip_prefix("unknown option '") {
+        return text.add_all(&["-o takes the name of a file, and is given once;"]);
+    }
+    if let Some(option) = wrong.strip_prefix("unknown option '") {
         let option = option.strip_suffix("'").unwrap_or(option);
         text.add_all(&[wrong, ";"])?;
-        add_meant(alloc, &mut text, option, command)?;
-    } else {
-        text.add_all(&[wrong])?;
-        add_more(&mut text, wrong, task)?;
-        text.add_all(&[";"])?;
+        return add_meant(alloc, text, option, command);
     }
-    text.add_all(&[" 'mkstrike help ", command, "' shows how it is written"])?;
-    Ok(text)
+    text.add_all(&[wrong])?;
+    add_more(text, wrong, task)?;
+    text.add_all(&[";"])
 }
 
 /// Adds what there is in place of an unknown option, or which may be meant.
@@ -340,16 +375,10 @@ fn add_meant(
     option: &str,
     command: &str,
 ) -> Result<(), AllocError> {
-    if let Some(place) = place_of(option) {
-        return text.add_all(&[" ", place, ";"]);
+    match place_of(option) {
+        Some(place) => text.add_all(&[" ", place, ";"]),
+        None => add_question(text, " ", &meant_by(alloc, option, command)?, ""),
     }
-    let meant = meant_by(alloc, option, command)?;
-    if meant.is_empty() {
-        return Ok(());
-    }
-    text.add_all(&[" did you mean "])?;
-    text.add(meant.bytes())?;
-    text.add_all(&["?"])
 }
 
 /// Adds what explains a wrong word or value further.
@@ -373,32 +402,28 @@ fn add_more(text: &mut Text, wrong: &str, task: &Task<'_, '_>) -> Result<(), All
     }
 }
 
-/// What is wrong with the name of a command.
-fn of_command(alloc: Global, word: &str, is_file: bool) -> Result<Text, AllocError> {
+/// Adds what is wrong with the name of a command.
+fn add_command(
+    alloc: Global,
+    text: &mut Text,
+    word: &str,
+    is_file: bool,
+) -> Result<(), AllocError> {
     if word.starts_with('-') {
-        return Text::of(
-            alloc,
-            &[
-                NO_COMMAND,
-                word,
-                "'; 'mkstrike help' shows how it is written",
-            ],
-        );
+        return text.add_all(&[
+            NO_COMMAND,
+            word,
+            "'; 'mkstrike help' shows how it is written",
+        ]);
     }
     if is_file {
-        return Text::one(alloc, A_FILE);
+        return text.add_all(&[A_FILE]);
     }
-    let mut text = Text::of(alloc, &["unknown command '", word, "'; "])?;
+    text.add_all(&["unknown command '", word, "'; "])?;
     if word == "version" {
         text.add_all(&["did you mean '--version'? "])?;
     } else {
-        let meant = meant_by(alloc, word, "")?;
-        if !meant.is_empty() {
-            text.add_all(&["did you mean "])?;
-            text.add(meant.bytes())?;
-            text.add_all(&["? "])?;
-        }
+        add_question(text, "", &meant_by(alloc, word, "")?, " ")?;
     }
-    text.add_all(&["'mkstrike help' lists the commands"])?;
-    Ok(text)
+    text.add_all(&["'mkstrike help' lists the commands"])
 }

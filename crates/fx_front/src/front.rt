@@ -1,5 +1,7 @@
 //! A run as a command line asks for it.
+ghost use Rattle.std.specs.Prelude.{IfOk};
 ghost use Rattle.fx_fixed.specs.Changes.{change_of};
+ghost use Rattle.fx_front.specs.Places.{IsStatus};
 ghost use Rattle.fx_front.specs.Says.{Says};
 
 use crate::asked::{Asked, Task, asked_by};
@@ -18,9 +20,11 @@ use std::fs::File;
 use std::io::IsTerminal;
 use std::{fs, io};
 
-/// Does what a command line asks for, the program's name first. Returns the status. An error is that memory ran out before the
-/// program was run.
-pub fn run_front<G: Program>(rt: &HostRuntime, program: &mut G, words: &[&str]) -> io::Result<u8> {
+/// Does what a command line asks for, the program's name first. Returns the status: 0, 1 or 2. An error is that memory ran out
+/// before the program was run.
+pub fn run_front<G: Program>(rt: &HostRuntime, program: &mut G, words: &[&str]) -> io::Result<u8>
+    ensures { IfOk result IsStatus }
+{
     match asked_by(words, rt.stdin().is_terminal()) {
         Asked::Version => Ok(print(rt, VERSION)),
         Asked::Help(None) => Ok(print(rt, OVERVIEW)),
@@ -38,7 +42,9 @@ pub fn run_front<G: Program>(rt: &HostRuntime, program: &mut G, words: &[&str]) 
 }
 
 /// Prints a text. Returns the status.
-fn print(rt: &HostRuntime, text: &str) -> u8 {
+fn print(rt: &HostRuntime, text: &str) -> u8
+    ensures { IsStatus result }
+{
     match put_all(&mut ToSink::new(rt.stdout()), text.as_bytes()) {
         Ok(()) => 0,
         Err(_) => 1,
@@ -58,91 +64,59 @@ pub fn say_not_text<E: Sink>(alloc: Global, err: &mut E)
     lines::say(alloc, err, &[what]);
 }
 
-/// Runs the program on the words.
-fn run_words<G: Program>(rt: &HostRuntime, program: &mut G, words: &[&str]) -> io::Result<u8> {
+/// Runs the program on the words, or has it explain them without an input.
+fn run_words<G: Program>(rt: &HostRuntime, program: &mut G, words: &[&str]) -> io::Result<u8>
+    ensures { IfOk result IsStatus }
+{
     let is_explain = words.get(1).copied() == Some("explain");
-    let at = if is_explain { 2 } else { 1 };
-    match command_of(words.get(at).copied().unwrap_or("")) {
-        Some(command) => run_command(rt, program, words, command, is_explain),
+    let count = if is_explain { 3 } else { 2 };
+    match command_of(words.get(count - 1).copied().unwrap_or("")) {
+        Some(command) => run_command(rt, program, words, command, count),
         None => {
             let parts = whole(rt.alloc(), words)?;
-            run_whole(
-                rt,
-                program,
-                &Task {
-                    parts: &parts,
-                    command: None,
-                },
-                is_explain,
-            )
+            let task = Task {
+                parts: &parts,
+                command: None,
+            };
+            let input = if is_explain {
+                Input::Nothing
+            } else {
+                Input::Standard(rt.stdin())
+            };
+            run_from(rt, program, &task, input, Output::Standard)
         }
     }
 }
 
-/// Runs the program on the words of a command that takes a font, or has it explain them. The list that `--set` stands for is kept
-/// beside the words.
+/// Runs the program on the words of a command that takes a font, or has it explain them. The first `count` words go up to the
+/// command's name, which is the second or follows `explain`.
 fn run_command<G: Program>(
     rt: &HostRuntime,
     program: &mut G,
     words: &[&str],
     command: &'static str,
-    is_explain: bool,
-) -> io::Result<u8> {
-    let mut texts = Vec::new(rt.alloc());
-    texts.push(listed(rt.alloc(), set_in(words))?)?;
-    // The words so far are there.
-    'words: for word in words {
-        texts.push(String::from_str(rt.alloc(), word)?)?;
-    }
-    run_texts(rt, program, &texts, command, is_explain)
-}
-
-/// Runs the program on the words of a command, which follow the list that `--set` stands for.
-fn run_texts<G: Program>(
-    rt: &HostRuntime,
-    program: &mut G,
-    texts: &[String],
-    command: &'static str,
-    is_explain: bool,
-) -> io::Result<u8> {
-    let mut words = Vec::new(rt.alloc());
-    // The texts so far are there.
-    'texts: for text in texts {
-        words.push(text.as_str())?;
-    }
-    let count = if is_explain { 4 } else { 3 };
-    let list = words.first().copied().unwrap_or("");
+    count: usize,
+) -> io::Result<u8>
+    ensures { IfOk result IsStatus }
+{
+    let list = listed(rt.alloc(), set_in(words))?;
     let (before, after) = words.split_at(words.len().min(count));
-    let before = before.get(1..).unwrap_or(&[]);
-    let parts = part(rt.alloc(), before, command == "make", list, after)?;
+    let parts = part(rt.alloc(), before, command == "make", list.as_str(), after)?;
     let task = Task {
         parts: &parts,
         command: Some(command),
     };
-    if is_explain {
-        run_whole(rt, program, &task, true)
+    if count > 2 {
+        run_from(rt, program, &task, Input::Nothing, Output::Standard)
     } else {
         run_named(rt, program, &task)
     }
 }
 
-/// Runs the program from standard input, or to explain words without an input, to standard output.
-fn run_whole<G: Program>(
-    rt: &HostRuntime,
-    program: &mut G,
-    task: &Task<'_, '_>,
-    is_explain: bool,
-) -> io::Result<u8> {
-    let input = if is_explain {
-        Input::Nothing
-    } else {
-        Input::Standard(rt.stdin())
-    };
-    run_from(rt, program, task, input, Output::Standard)
-}
-
 /// Runs the program on the font and with the output that the words name.
-fn run_named<G: Program>(rt: &HostRuntime, program: &mut G, task: &Task<'_, '_>) -> io::Result<u8> {
+fn run_named<G: Program>(rt: &HostRuntime, program: &mut G, task: &Task<'_, '_>) -> io::Result<u8>
+    ensures { IfOk result IsStatus }
+{
     let input = match input_of(rt, task.parts.font) {
         Ok(input) => input,
         Err(why) => return refuse_font(rt, program, task, why),
@@ -187,39 +161,36 @@ fn refuse_font<G: Program>(
     program: &mut G,
     task: &Task<'_, '_>,
     why: &str,
-) -> io::Result<u8> {
+) -> io::Result<u8>
+    ensures { IfOk result IsStatus }
+{
     let wrong = program.wrong(rt.alloc(), task.parts.words.get(1..).unwrap_or(&[]))?;
     if !wrong.is_empty() {
         return run_from(rt, program, task, Input::Nothing, Output::Standard);
     }
-    let name = task.parts.font.unwrap_or("");
-    say(rt, &["can't open the font '", name, "': ", why]);
-    let names = "the first word that is neither an option nor its value names the font";
-    if name.contains('/') {
-        let command = task.command.unwrap_or("");
-        say(
-            rt,
-            &[
-                names,
-                "; 'mkstrike help ",
-                command,
-                "' shows how it is written",
-            ],
-        );
-    } else {
-        say(
-            rt,
-            &[
-                names,
-                "'s file; 'fc-list' shows the files of the installed fonts",
-            ],
-        );
-    }
+    say_closed(rt, task, why);
     Ok(1)
 }
 
+/// Says why a font can't be opened, and how it is named.
+fn say_closed(rt: &HostRuntime, task: &Task<'_, '_>, why: &str) {
+    let name = task.parts.font.unwrap_or("");
+    say(rt, &["can't open the font '", name, "': ", why]);
+    let (how, command, end) = if name.contains('/') {
+        let command = task.command.unwrap_or("");
+        ("; 'mkstrike help ", command, "' shows how it is written")
+    } else {
+        let how = "'s file; 'fc-list' shows the files of the installed fonts";
+        (how, "", "")
+    };
+    let names = "the first word that is neither an option nor its value names the font";
+    say(rt, &[names, how, command, end]);
+}
+
 /// Says why an output is not written. Returns the status.
-fn refuse_output(rt: &HostRuntime, task: &Task<'_, '_>, why: &str) -> u8 {
+fn refuse_output(rt: &HostRuntime, task: &Task<'_, '_>, why: &str) -> u8
+    ensures { IsStatus result }
+{
     let name = task.parts.output.unwrap_or("");
     say(rt, &["can't write '", name, "': ", why]);
     1
@@ -232,14 +203,14 @@ fn run_from<G: Program>(
     task: &Task<'_, '_>,
     input: Input,
     output: Output,
-) -> io::Result<u8> {
+) -> io::Result<u8>
+    ensures { IfOk result IsStatus }
+{
     let mut err = ToSink::new(rt.stderr());
     let ended = run_to_place(
         rt.alloc(),
         program,
-        &task.parts.words,
-        task.parts.names_all,
-        task.is("trace"),
+        task,
         &mut FromReader::new(input),
         &mut Outlet { rt, output },
         &mut err,
@@ -248,18 +219,24 @@ fn run_from<G: Program>(
 }
 
 /// Says what there is to say after a run. Returns the status.
-fn end<G: Program>(rt: &HostRuntime, program: &G, task: &Task<'_, '_>, ended: Ended) -> u8 {
+fn end<G: Program>(rt: &HostRuntime, program: &G, task: &Task<'_, '_>, ended: Ended) -> u8
+    requires { IsStatus ended.status }
+    ensures { IsStatus result }
+{
     if ended.is_unmade && ended.status == 1 {
         return refuse_output(rt, task, NO_FOLDER);
     }
     if ended.status == 0 && !ended.is_named {
         return refuse_output(rt, task, "the new file could not be given its name");
     }
-    let first = task.parts.words.get(1).copied().unwrap_or("");
-    let is_file = ended.status == 2
-        && task.command.is_none()
-        && matches!(fs::metadata(rt, first), Ok(found) if found.is_file());
+    let is_file = ended.status == 2 && task.command.is_none() && begins_with_file(rt, task);
     let mut err = ToSink::new(rt.stderr());
     say_after(rt.alloc(), program, task, ended, is_file, &mut err);
     ended.status
+}
+
+/// Whether the first word names a file.
+fn begins_with_file(rt: &HostRuntime, task: &Task<'_, '_>) -> bool {
+    let first = task.parts.words.get(1).copied().unwrap_or("");
+    matches!(fs::metadata(rt, first), Ok(found) if found.is_file())
 }

@@ -42,9 +42,21 @@ pub(crate) fn help_of(command: &str) -> Option<&'static str> {
         "dump" => Some(DUMP),
         "trace" => Some(TRACE),
         "explain" => Some(EXPLAIN),
+        "sets" => Some(SETS),
         _ => None,
     }
 }
+
+const SETS: &str =
+    "These are the sets of characters that --set of mkstrike make takes by name, in letters of either case:
+
+    ascii latin-1 latin-9 wgl4 greek cyrillic box blocks braille cp437 koi8-r latin-extended-a greek-block cyrillic-block hebrew
+    arabic thai punctuation currency arrows math shapes kana han hangul powerline
+
+    mkstrike make --ppem 16 --set latin-1,box font.ttf -o font.bdf
+
+'man mkstrike-make' says more about them.
+";
 
 const MAKE: &str = "mkstrike make writes a strike: the bitmaps of characters at one size.
 
@@ -52,7 +64,8 @@ const MAKE: &str = "mkstrike make writes a strike: the bitmaps of characters at 
 
       --ppem N                the size in pixels per em, 1 to 1024
       --chars LIST            hexadecimal numbers and ranges, such as 20-7e,a0,20ac; the letter A is 41
-      --set NAMES             sets of characters by name, such as ascii or latin-1,box, in place of --chars
+      --set NAMES             sets of characters by name, such as ascii or latin-1,box, in place of --chars; 'mkstrike help sets'
+                              lists all
       --all                   all characters of the font's map, at most 65,536, in place of --chars
       --name NAME             the strike's name; write one that begins with a hyphen as --name=-misc-..
       --property KEY=VALUE    add a property; may be given up to 64 times

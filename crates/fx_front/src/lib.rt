@@ -23,6 +23,7 @@ pub use asked::Task;
 pub use explained::say_after;
 pub use facts::{Counts, Facts, Refused};
 pub use front::{run_front, say_not_text};
+pub use fx_words::Parts;
 pub use place::Place;
 pub use program::Program;
 pub use run::{Ended, run_to_place};

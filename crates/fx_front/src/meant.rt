@@ -4,6 +4,7 @@ ghost use Rattle.fx_words.specs.Parts.{text_in};
 ghost use Rattle.fx_front.specs.inner.Asked.{command_of, name_among};
 
 use crate::text::Text;
+use fx_words::SETS;
 use std::alloc::{AllocError, Global};
 use strsim::levenshtein;
 
@@ -137,23 +138,51 @@ pub(crate) fn meant_by(alloc: Global, word: &str, command: &str) -> Result<Text,
     nearest(alloc, word, words)
 }
 
+/// Which set of characters may be meant by a name, in quotation marks, by the fewest letters that differ; there may be two. Nothing
+/// if none may be, or if the name is too short to tell.
+pub(crate) fn set_meant_by(alloc: Global, name: &str) -> Result<Text, AllocError> {
+    if name.len() < 4 {
+        return Ok(Text::new(alloc));
+    }
+    nearest(alloc, name, set_names(alloc)?.as_str())
+}
+
+/// The names of the sets, which spaces part.
+fn set_names(alloc: Global) -> Result<String, AllocError> {
+    let names: Vec<&str> = SETS.iter().map(|set| set.0).collect(alloc)?;
+    names.join(alloc, " ")
+}
+
 /// The words with the fewest letters that differ from one, at most two, each in quotation marks.
 fn nearest(alloc: Global, word: &str, words: &str) -> Result<Text, AllocError> {
-    let mut found = Text::new(alloc);
     let mut lower = String::from_str(alloc, word)?;
     lower.make_ascii_lowercase();
+    let mut found = Text::new(alloc);
+    find_nearest(alloc, &mut found, lower.as_str(), words)?;
+    Ok(found)
+}
+
+/// Puts the nearest words into a text without bytes.
+fn find_nearest(
+    alloc: Global,
+    found: &mut Text,
+    lower: &str,
+    words: &str,
+) -> Result<(), AllocError> {
     let mut nearest = 2;
     // `found` has the words so far that are nearest.
     'words: for each in words.split(' ') {
-        let distance = levenshtein(alloc, lower.as_str(), each)?;
-        if distance < nearest || (distance == nearest && found.is_empty()) {
-            found = Text::of(alloc, &["'", each, "'"])?;
+        let distance = levenshtein(alloc, lower, each)?;
+        if distance < nearest {
+            found.clear();
             nearest = distance;
-        } else if distance == nearest {
-            found.add_all(&[" or '", each, "'"])?;
+        }
+        if distance == nearest {
+            let before = if found.is_empty() { "'" } else { " or '" };
+            found.add_all(&[before, each, "'"])?;
         }
     }
-    Ok(found)
+    Ok(())
 }
 
 /// Whether a word is among others, which spaces part.

@@ -2,22 +2,25 @@
 use crate::facts::Facts;
 use crate::text::Text;
 use fx_fixed::{Sink, Source};
+use fx_words::Parts;
 use std::alloc::{AllocError, Global};
 
 /// A program with the words of a command line, an input, an output and lines for people.
 pub trait Program {
-    ghost use Rattle.std.specs.Prelude.{◌≡◌, ◌<◌, ◌^◌, ℕ, List, map};
+    ghost use Rattle.std.specs.Prelude.{◌≡◌, ◌<◌, ◌^◌, ℕ, List};
     ghost use Rattle.fx_fixed.specs.Changes.{Change, change_of};
+    ghost use Rattle.fx_words.specs.Parts.{texts};
+    ghost use Rattle.fx_front.specs.Places.{IsStatus};
 
     // A run on these words, the program's name first: what became of its source, its sink and its lines, and its status.
     ghost Ran: { List (List ℕ) → Change → Change → Change → ℕ → Type 0 };
 
-    /// Runs, and returns the status. The facts name all missing characters, or the first alone.
+    /// Runs on the words for the program, and returns the status. `names_all` of the parts tells whether the facts name all missing
+    /// characters, or the first alone.
     fn run<R: Source, O: Sink, E: Sink>(
         &mut self,
         alloc: Global,
-        words: &[&str],
-        names_all: bool,
+        parts: &Parts<'_>,
         reader: &mut R,
         out: &mut O,
         err: &mut E,
@@ -25,8 +28,9 @@ pub trait Program {
         requires reader { R.fault_count reader.old < 2 ^ 63 }
         requires out { O.fault_count out.old < 2 ^ 63 }
         requires err { E.fault_count err.old < 2 ^ 63 }
-        ensures { Ran (map (λ word. word.now) words.now) (change_of R.left R.fault_count reader.old reader.new)
-            (change_of O.held O.fault_count out.old out.new) (change_of E.held E.fault_count err.old err.new) result };
+        ensures ran { Ran (texts parts.now.words.items) (change_of R.left R.fault_count reader.old reader.new)
+            (change_of O.held O.fault_count out.old out.new) (change_of E.held E.fault_count err.old err.new) result }
+        ensures status { IsStatus result };
 
     /// What is told of the last run.
     fn facts(&self) -> &Facts;

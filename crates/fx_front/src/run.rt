@@ -1,8 +1,10 @@
 //! A run of a program, whose output is a new file at a place.
-ghost use Rattle.std.specs.Prelude.{◌≡◌, ◌⊎◌, ◌<◌, ◌^◌, map, true, false};
+ghost use Rattle.std.specs.Prelude.{◌≡◌, ◌⊎◌, ◌<◌, ◌^◌, codes, true, false};
 ghost use Rattle.fx_fixed.specs.Changes.{change_of};
-ghost use Rattle.fx_front.specs.Places.{RunsTo, held_by};
+ghost use Rattle.fx_words.specs.Parts.{text_in, texts};
+ghost use Rattle.fx_front.specs.Places.{IsStatus, RunsTo, held_by, is_named};
 
+use crate::asked::Task;
 use crate::late::Late;
 use crate::place::Place;
 use crate::program::Program;
@@ -27,26 +29,26 @@ pub struct Ended {
 pub fn run_to_place<G: Program, P: Place, R: Source, E: Sink>(
     alloc: Global,
     program: &mut G,
-    words: &[&str],
-    names_all: bool,
-    is_trace: bool,
+    task: &Task<'_, '_>,
     reader: &mut R,
     place: &mut P,
     err: &mut E,
 ) -> Ended
     requires reader { R.fault_count reader.old < 2 ^ 63 }
     requires err { E.fault_count err.old < 2 ^ 63 }
-    ensures { RunsTo (λ sink status. G.Ran (map (λ word. word.now) words.now) (change_of R.left R.fault_count reader.old reader.new)
-        sink (change_of E.held E.fault_count err.old err.new) status) P.Names P.Spares P.fresh place.old place.new
-        is_trace result.status result.is_named }
+    ensures run { RunsTo (λ sink status. G.Ran (texts task.now.parts.now.words.items)
+        (change_of R.left R.fault_count reader.old reader.new) sink (change_of E.held E.fault_count err.old err.new) status)
+        P.Names P.Spares P.fresh place.old place.new (is_named (text_in task.now.command) (codes "trace"))
+        result.status result.is_named }
+    ensures status { IsStatus result.status }
 {
     let mut late = Late::new(&*place);
-    let status = program.run(alloc, words, names_all, reader, &mut late, err);
+    let status = program.run(alloc, task.parts, reader, &mut late, err);
     let is_blank = late.is_blank();
     let has_faults = late.faults() > 0;
     let new = late.close();
     let is_unmade = has_faults && new.is_none();
-    let is_kept = keeps(program, is_trace, status);
+    let is_kept = keeps(program, task.is("trace"), status);
     Ended {
         status,
         is_blank,

@@ -36,15 +36,6 @@ impl Text {
         }
     }
 
-    /// A text of one piece.
-    pub fn one(alloc: Global, piece: &str) -> Result<Text, AllocError>
-        ensures { IfOk result (λ text. text ≡ shown_text piece.now) }
-    {
-        let mut text = Text::new(alloc);
-        text.add(piece.as_bytes())?;
-        Ok(text)
-    }
-
     /// The text of pieces.
     pub fn of(alloc: Global, pieces: &[&str]) -> Result<Text, AllocError>
         ensures { IfOk result (λ text. text ≡ shown_pieces pieces.now) }
@@ -100,6 +91,13 @@ impl Text {
             self.put(digit.to_ascii_lowercase())?;
         }
         Ok(())
+    }
+
+    /// Takes all bytes out.
+    pub fn clear(&mut self)
+        ensures { self.new ≡ [] }
+    {
+        self.bytes.clear();
     }
 
     /// Whether there is nothing in it.

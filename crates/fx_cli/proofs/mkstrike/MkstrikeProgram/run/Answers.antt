@@ -1,0 +1,8 @@
+use Rattle.std.proofs.Common.{subst, sym}
+use Rattle.fx_front.specs.Places.{IsStatus}
+use Rattle.fx_cli.proofs.Telling.{status_is}
+use Rattle.fx_cli.proofs.mkstrike.MkstrikeProgram.run.Goals as goal
+
+pub returns-clause-status : goal.returns-clause-status
+returns-clause-status g c =
+    let r = c.run_watched-status.ensures in subst IsStatus (sym r.told) (status_is r.outcome)
