@@ -12,6 +12,7 @@ PROVED(mkstrike_reason);
 PROVED(mkstrike_advice);
 PROVED(mkstrike_faces);
 PROVED(mkstrike_font);
+PROVED(mkstrike_name);
 PROVED(mkstrike_characters);
 PROVED(mkstrike_glyph_ids);
 PROVED(mkstrike_glyph);
@@ -50,6 +51,13 @@ uint32_t mkstrike_font(const uint8_t *font, size_t font_len, uint32_t face, uint
     struct mkstrike_refused no_refused;
     struct mkstrike_font_info no_info;
     return proved_mkstrike_font(BUFFER(font), face, ppem, STRUCT(info), STRUCT(refused));
+}
+
+uint32_t mkstrike_name(const uint8_t *font, size_t font_len, uint32_t face, uint32_t id, char *text, size_t text_len, size_t *count,
+    struct mkstrike_refused *refused) {
+    struct mkstrike_refused no_refused;
+    size_t no_count;
+    return proved_mkstrike_name(BUFFER(font), face, id, BUFFER(text), STRUCT(count), STRUCT(refused));
 }
 
 uint32_t mkstrike_characters(const uint8_t *font, size_t font_len, uint32_t face, uint32_t *chars, size_t chars_len, size_t *count,

@@ -48,7 +48,7 @@ extern "C" {
 /* What a call returns. */
 enum {
     MKSTRIKE_DONE = 0,
-    MKSTRIKE_MISSING = 1, /* mkstrike_glyph, and the entries of mkstrike_glyphs: the font does not have the character */
+    MKSTRIKE_MISSING = 1, /* mkstrike_glyph, and the entries of mkstrike_glyphs: the font does not have the character; mkstrike_name */
 
     /* the font */
     MKSTRIKE_NOT_TRUE_TYPE = 10,
@@ -158,6 +158,18 @@ uint32_t mkstrike_font(const uint8_t *font, size_t font_len, uint32_t face, uint
 /* Tells how many fonts a file has: those of a collection, else 1. The fonts themselves are not checked. A collection whose header is
  * damaged is refused by MKSTRIKE_NOT_TRUE_TYPE. */
 uint32_t mkstrike_faces(const uint8_t *font, size_t font_len, uint32_t *faces, struct mkstrike_refused *refused);
+
+/* Tells a name of a font, in UTF-8. `id` is its number in the table `name`: 1 is the family and 2 the style, as programs know them that list
+ * four styles a family. A family of more styles has 16 and 17 too; so ask for these first. 5 is the font's version.
+ *
+ * If the name and a 0 after it fit, the call writes both to the front of `text`, and what lies after them stays as it was; else it writes
+ * nothing there. `count` tells how many bytes the name has without the 0, at most 98,301. So you can ask with a buffer of 0 bytes. A name can
+ * have any character, also U+0000. Of several names of a number the English one (United States) of Windows goes first; then one of Unicode,
+ * another one of Windows, and one of the Macintosh in ASCII.
+ *
+ * Returns MKSTRIKE_MISSING and writes nothing if the font has no such name, or only an empty or a damaged one. */
+uint32_t mkstrike_name(const uint8_t *font, size_t font_len, uint32_t face, uint32_t id, char *text, size_t text_len, size_t *count,
+    struct mkstrike_refused *refused);
 
 /* Tells the characters of a font: the code points to which its character map gives a glyph other than 0, in rising order. As many of them
  * as fit go to the front of `chars`, and what lies after them stays as it was. `count` tells how many there are, at most 1,114,112. So you

@@ -1,5 +1,5 @@
 -- What becomes of many characters, one after the other, as much of it as there is room for.
--- Serves `size`, `push_within`, `append_within`, `Gathered`, `gather`, `gathered_of`, `proved_mkstrike_glyphs`.
+-- Serves `size`, `push_within`, `append_within`, `GlyphBuffers`, `gather`, `gathered_of`, `proved_mkstrike_glyphs`.
 use Rattle.std.proofs.Common.{◌≡◌, refl, sym, ap, ◌∙◌, subst, arith, true≢false, ℕ, zero, suc, ◌+◌, ◌*◌, ◌<◌, ◌≤◌}
 use Rattle.std.proofs.Common.{Bool, true, false}
 use Rattle.std.proofs.Common.{List, [], ◌∷◌, ◌++◌, length, take, get_or, length-append, add-zero, zero-add}
@@ -28,7 +28,7 @@ use Rattle.fx_strike.specs.Headline.{IsOneOf, Late, character_with}
 use Rattle.mkstrike_c.specs.declared.gathered.Drawn.{Drawn}
 use Rattle.mkstrike_c.specs.declared.gathered.Placed.{Placed}
 use Rattle.mkstrike_c.specs.declared.gathered.Wanted.{Wanted}
-use Rattle.mkstrike_c.specs.declared.gathered.Gathered.{Gathered}
+use Rattle.mkstrike_c.specs.declared.gathered.GlyphBuffers.{GlyphBuffers}
 use Rattle.mkstrike_c.specs.declared.refused.Refused.{Refused}
 use Rattle.mkstrike_c.specs.Refused.{IsReason}
 use Rattle.mkstrike_c.specs.Pixels.{row_byte, row_bytes, size_of, stride_of}
@@ -132,7 +132,7 @@ first_push i [] (p ∷ os) c o h = absurd (omega (arith, h))
 first_push i (x ∷ xs) [] c o h = absurd (omega (arith, h))
 
 -- what was added is what holds then
-pub holds_push : (wanted : Wanted) (codes : List ℕ) (outcomes : List Outcome) (code : ℕ) (o : Outcome) (old new : Gathered)
+pub holds_push : (wanted : Wanted) (codes : List ℕ) (outcomes : List Outcome) (code : ℕ) (o : Outcome) (old new : GlyphBuffers)
     → length codes ≡ length outcomes → Holds wanted codes outcomes old → new.wanted ≡ old.wanted
     → new.entries.items ≡ take old.wanted.entries (old.entries.items ++ entry_of old.wanted.packed old.drawn.bytes o ∷ [])
     → new.pixels.items ≡ take old.wanted.pixels (old.pixels.items ++ pixels_of old.wanted.packed o)
@@ -228,11 +228,11 @@ at_checked : (setting : Setting) (chars : List ℕ) (i : ℕ) → checked_chars 
 at_checked setting chars i h l = one_checked setting (get_or chars i 0) (code_fits chars i (chars_pass chars h).1 l)
 
 -- none is made yet
-pub none_made : (setting : Setting) (g : Gathered) → Holds g.wanted [] [] g → AreGathered setting [] g.wanted g
+pub none_made : (setting : Setting) (g : GlyphBuffers) → Holds g.wanted [] [] g → AreGathered setting [] g.wanted g
 none_made setting g h = record { outcomes = []; are = tt; holds = h }
 
 -- the character there was made and added
-pub made_at : (setting : Setting) (chars : List ℕ) (i : ℕ) (wanted : Wanted) (old new : Gathered) (o : Outcome)
+pub made_at : (setting : Setting) (chars : List ℕ) (i : ℕ) (wanted : Wanted) (old new : GlyphBuffers) (o : Outcome)
     → i < length chars → checked_chars chars ≡ Ok tt → AreGathered setting (take i chars) wanted old
     → IfOk o (IsOneOf (character_with setting (get_or chars i 0)))
     → IfErr o (λ d. Fails d (character_with setting (get_or chars i 0))) → is_memory o ≡ false
@@ -265,32 +265,32 @@ opened_late file ppem chars mode s h = by_opened (opened_many_of file ppem chars
 -- ---- why there are none
 
 -- the reason of a result
-abbrev pub HasReason : FontFileView → ℕ → List ℕ → Mode → Result Gathered Refusal → Type 0
+abbrev pub HasReason : FontFileView → ℕ → List ℕ → Mode → Result GlyphBuffers Refusal → Type 0
 HasReason file ppem chars mode r =
     IfErr r (IsReason (opened_many_of file ppem chars) (setting_for file ppem chars mode))
 
 -- a check did not pass, the font was not opened, or its programs halted
-pub refused_unset : (file : FontFileView) (ppem : ℕ) (chars : List ℕ) (mode : Mode) (r : Result Gathered Refusal)
+pub refused_unset : (file : FontFileView) (ppem : ℕ) (chars : List ℕ) (mode : Mode) (r : Result GlyphBuffers Refusal)
     (e d : Refusal) → r ≡ Err e → e ≡ d → Fails d (setting_for file ppem chars mode)
     → (d ≡ OutOfMemory → Late (opened_many_of file ppem chars)) → HasReason file ppem chars mode r
 refused_unset file ppem chars mode r e d p q f late =
-    let P : Result Gathered Refusal → Type 0 = λ r. HasReason file ppem chars mode r in
+    let P : Result GlyphBuffers Refusal → Type 0 = λ r. HasReason file ppem chars mode r in
     subst P (sym (p ∙ ap (λ (d : Refusal). Err d) q)) (f, late)
 
 -- memory was refused then
-pub refused_memory : (file : FontFileView) (ppem : ℕ) (chars : List ℕ) (mode : Mode) (s : Setting) (r : Result Gathered Refusal)
+pub refused_memory : (file : FontFileView) (ppem : ℕ) (chars : List ℕ) (mode : Mode) (s : Setting) (r : Result GlyphBuffers Refusal)
     (e : Refusal) → r ≡ Err e → e ≡ OutOfMemory → setting_for file ppem chars mode ≡ Ok s → HasReason file ppem chars mode r
 refused_memory file ppem chars mode s r e p q k =
     refused_unset file ppem chars mode r e OutOfMemory p q tt (λ m. opened_late file ppem chars mode s k)
 
-pub refused_later : (file : FontFileView) (ppem : ℕ) (chars : List ℕ) (mode : Mode) (s : Setting) (r : Result Gathered Refusal)
+pub refused_later : (file : FontFileView) (ppem : ℕ) (chars : List ℕ) (mode : Mode) (s : Setting) (r : Result GlyphBuffers Refusal)
     → setting_for file ppem chars mode ≡ Ok s → IfErr r (λ d. d ≡ OutOfMemory) → HasReason file ppem chars mode r
 refused_later file ppem chars mode s (Ok g) k f = tt
 refused_later file ppem chars mode s (Err d) k f = refused_memory file ppem chars mode s (Err d) d refl f k
 
 -- all are there
 pub gathered_from : (due : Result Setting Refusal) (codes : List ℕ) (s : Setting) (wanted : Wanted)
-    (r : Result Gathered Refusal) → due ≡ Ok s → IfOk r (AreGathered s codes wanted) → IfOk r (IsGathered wanted due codes)
+    (r : Result GlyphBuffers Refusal) → due ≡ Ok s → IfOk r (AreGathered s codes wanted) → IfOk r (IsGathered wanted due codes)
 gathered_from due codes s wanted (Ok g) k are = record { setting = s; is = k; are = are }
 gathered_from due codes s wanted (Err e) k are = tt
 
@@ -319,7 +319,7 @@ front_of whole copied old new is same h = by_length (nat_le (length whole) (leng
               ∙ sym (drop_all (length whole) old long);
         }
 
-pub all_drawn : (wanted : Wanted) (due : Result Setting Refusal) (codes : List ℕ) (found : Result Gathered Refusal)
+pub all_drawn : (wanted : Wanted) (due : Result Setting Refusal) (codes : List ℕ) (found : Result GlyphBuffers Refusal)
     (old_entries new_entries : List Placed) (old new : List ℕ) (drawn : Drawn) (old_refused new_refused : Refused) (result : ℕ)
     → wanted.entries ≡ length old_entries → wanted.pixels ≡ length old → length new_entries ≡ length old_entries
     → length new ≡ length old → IfOk found (IsGathered wanted due codes)

@@ -21,7 +21,7 @@ use Rattle.fx_strike.specs.Numbers.{numbered_with}
 use Rattle.fx_strike.proofs.BlockSettings.{known_is}
 use Rattle.fx_strike.proofs.Sketching.{fails_on}
 use Rattle.mkstrike_c.specs.declared.gathered.Drawn.{Drawn}
-use Rattle.mkstrike_c.specs.declared.gathered.Gathered.{Gathered}
+use Rattle.mkstrike_c.specs.declared.gathered.GlyphBuffers.{GlyphBuffers}
 use Rattle.mkstrike_c.specs.declared.gathered.Placed.{Placed}
 use Rattle.mkstrike_c.specs.declared.gathered.Wanted.{Wanted}
 use Rattle.fx_request.specs.Refusals.{number_of}
@@ -175,7 +175,8 @@ gathered_fails file ppem chars mode d f =
     (λ e k. ap (λ (o : Opening). o >>= λ o. setting_in o mode) k) f
 
 pub gathered_found : (file : FontFileView) (ppem : ℕ) (chars : List ℕ) (mode : Mode) (wanted : Wanted) (words : List ℕ)
-    (made : Option Setting) (striker : Setting) (r : Result Gathered Refusal) → made ≡ Some striker → Ok tt ≡ checked_chars chars
+    (made : Option Setting) (striker : Setting) (r : Result GlyphBuffers Refusal) → made ≡ Some striker
+    → Ok tt ≡ checked_chars chars
     → ((s : Setting) → setting_for file ppem chars mode ≡ Ok s → IsBlockIn s words → made ≡ Some s)
     → IfOk r (AreGathered striker chars wanted) → IfErr r (λ d. d ≡ OutOfMemory)
     → AreWordsOf file ppem mode.hinting words
@@ -186,7 +187,7 @@ gathered_found file ppem chars mode wanted words made striker r is pass t are me
     by_result r (gathered_from (setting_for file ppem chars mode) chars striker wanted r set are)
     (refused_later file ppem chars mode striker r set memory)
   where
-    by_result : (r : Result Gathered Refusal) → IfOk r (IsGathered wanted (setting_for file ppem chars mode) chars)
+    by_result : (r : Result GlyphBuffers Refusal) → IfOk r (IsGathered wanted (setting_for file ppem chars mode) chars)
         → IfErr r (IsReason (opened_many_of file ppem chars) (setting_for file ppem chars mode))
         → IsFoundBy (IsGathered wanted (setting_for file ppem chars mode) chars)
         (IsReason (opened_many_of file ppem chars) (setting_for file ppem chars mode)) (Some r)
@@ -315,7 +316,7 @@ glyph_named known packed old new old_info new_info (Err r) result refused k put 
 
 -- the same of many
 pub glyphs_named : (known : Bool) (old_entries new_entries : List Placed) (old new : List ℕ) (drawn : Drawn)
-    (old_refused refused : Refused) (found : Result Gathered Refusal) (result : ℕ) → known ≡ true
+    (old_refused refused : Refused) (found : Result GlyphBuffers Refusal) (result : ℕ) → known ≡ true
     → IfOk found (λ g. IsTold g old_entries new_entries old new drawn old_refused refused result)
     → IfErr found (λ r. (result ≡ number_of r) × (refused ≡ refused_of r)) → 0 < result → IsRefusedBy known result refused
 glyphs_named known old_entries new_entries old new drawn old_refused refused (Ok g) result k told named big =

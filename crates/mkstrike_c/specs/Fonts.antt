@@ -1,10 +1,15 @@
--- What a call from C returns and leaves that tells about a font, its characters, or their glyphs by their numbers.
-use Rattle.std.specs.Prelude.{◌≡◌, ℕ, ◌+◌, List, length, map, Result, Ok}
+-- What a call from C returns and leaves that tells about a font, its names, its characters, or their glyphs by their numbers.
+use Rattle.std.specs.Prelude.{◌≡◌, ◌<◌, ◌≤◌, ℕ, ◌+◌, List, ◌∷◌, ◌++◌, length, map, drop, Option, Some, Result, Ok}
 use Rattle.fx_cmap.specs.Lookup.{glyph_for}
 use Rattle.fx_cmap.specs.Mapped.{mapped_below}
 use Rattle.fx_cmap.specs.declared.mapping.Mapping.{Mapping}
+use Rattle.fx_fixed.specs.Chain.{map_ok}
+use Rattle.fx_names.specs.Names.{name_of}
 use Rattle.fx_request.specs.Limits.{max_code}
 use Rattle.fx_request.specs.declared.refusal.Refusal.{Refusal}
+use Rattle.fx_sfnt.specs.Collections.{FontFileView}
+use Rattle.fx_sfnt.specs.Tables.{font_of}
+use Rattle.fx_sfnt.specs.declared.fault.FontFault.{FontFault}
 use Rattle.fx_strike.specs.declared.numbers.FontMetrics.{FontMetrics}
 use Rattle.mkstrike_c.specs.declared.font.FontInfo.{FontInfo}
 use Rattle.mkstrike_c.specs.Drawn.{HasFront}
@@ -27,3 +32,20 @@ pub record AreCharacters (due : Result Mapping Refusal) (old new : List ℕ) (co
   pub is : due ≡ Ok mapping
   pub codes : HasFront (mapped_below mapping (max_code + 1)) old new
   pub count_is : count ≡ length (mapped_below mapping (max_code + 1))
+
+-- if a text and a 0 after it fit, they are at the front of the caller's buffer, and what lies after them is as it was; else all is
+-- as it was
+pub record HasText (text old new : List ℕ) : Type 0 where
+  pub whole : length text < length old → new ≡ text ++ 0 ∷ drop (length text + 1) old
+  pub small : length old ≤ length text → new ≡ old
+
+-- a name of a font by its number, if the font has it; or the first fault
+abbrev pub name_at : FontFileView → ℕ → Result (Option (List ℕ)) FontFault
+name_at file id = map_ok (λ face. name_of face id) (font_of file)
+
+-- the font has a name; the caller's buffer has its text, and the count is that of its bytes
+pub record HasName (due : Result (Option (List ℕ)) FontFault) (old new : List ℕ) (count : ℕ) : Type 0 where
+  pub name : List ℕ
+  pub is : due ≡ Ok (Some name)
+  pub text : HasText name old new
+  pub count_is : count ≡ length name

@@ -54,7 +54,7 @@ pub struct Wanted {
 
 /// What became of characters so far.
 #[derive(Drop)]
-pub struct Gathered {
+pub struct GlyphBuffers {
     wanted: Wanted,
     entries: Vec<Placed>,
     pixels: Vec<u8>,
@@ -203,13 +203,13 @@ fn with_one(drawn: Drawn, outcome: &Outcome, packed: bool) -> Drawn
     }
 }
 
-impl Gathered {
+impl GlyphBuffers {
     /// No character, before this many are made.
-    pub fn new(alloc: Global, wanted: Wanted, most: usize) -> Result<Gathered, AllocError>
+    pub fn new(alloc: Global, wanted: Wanted, most: usize) -> Result<GlyphBuffers, AllocError>
         ensures holds { IfOk result (Holds wanted [] []) }
         ensures counted { IfOk result (λ g. AreCounted g.drawn 0) }
     {
-        Ok(Gathered {
+        Ok(GlyphBuffers {
             wanted,
             entries: Vec::with_capacity(alloc, most.min(wanted.entries))?,
             pixels: Vec::new(alloc),

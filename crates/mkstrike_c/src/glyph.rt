@@ -35,8 +35,8 @@ pub struct GlyphInfo {
     pub swidth: i32,
 }
 
-/// The font does not have the character.
-const MISSING: u32 = 1;
+/// The font does not have the character, or the name.
+pub const MISSING: u32 = 1;
 
 /// The numbers of a glyph.
 pub fn info_of(glyph: &BitGlyph, packed: bool) -> GlyphInfo

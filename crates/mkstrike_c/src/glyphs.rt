@@ -9,7 +9,7 @@ ghost use Rattle.mkstrike_c.specs.Refused.{IsReason, IsRefused, refused_of};
 ghost use Rattle.mkstrike_c.specs.inner.Gathering.{AreCounted, AreGathered, Holds, IsGathered, IsTold, is_memory};
 
 use crate::buffer::put_front;
-use crate::gathered::{Drawn, Gathered, Outcome, Placed, Wanted};
+use crate::gathered::{Drawn, GlyphBuffers, Outcome, Placed, Wanted};
 use crate::mode::{is_mode, is_packed, mode_of};
 use crate::refused::{Refused, refuse, refuse_mode};
 use fx_request::{Mode, Refusal};
@@ -34,8 +34,8 @@ fn settled(outcome: Outcome) -> Result<Outcome, Refusal>
 fn gather(
     striker: &mut Striker<'_, Rows>,
     chars: &[u32],
-    none: Gathered,
-) -> Result<Gathered, Refusal>
+    none: GlyphBuffers,
+) -> Result<GlyphBuffers, Refusal>
     requires chars { Ok tt ≡ checked_chars chars.now }
     requires none { Holds none.wanted [] [] none }
     requires counted { AreCounted none.drawn 0 }
@@ -57,12 +57,12 @@ pub fn gathered_with(
     striker: &mut Striker<'_, Rows>,
     chars: &[u32],
     wanted: Wanted,
-) -> Result<Gathered, Refusal>
+) -> Result<GlyphBuffers, Refusal>
     requires chars { Ok tt ≡ checked_chars chars.now }
     ensures gathered { IfOk result (AreGathered striker.old chars.now wanted) }
     ensures memory { IfErr result (λ r. r ≡ Refusal.OutOfMemory) }
 {
-    let none = Gathered::new(alloc, wanted, chars.len())?;
+    let none = GlyphBuffers::new(alloc, wanted, chars.len())?;
     gather(striker, chars, none)
 }
 
@@ -74,7 +74,7 @@ fn gathered_of(
     mode: Mode,
     chars: &[u32],
     wanted: Wanted,
-) -> Result<Gathered, Refusal>
+) -> Result<GlyphBuffers, Refusal>
     ensures gathered { IfOk result (IsGathered wanted (setting_for font.now ppem chars.now mode) chars.now) }
     ensures refused { IfErr result (IsReason (opened_many_of font.now ppem chars.now)
         (setting_for font.now ppem chars.now mode)) }
@@ -85,7 +85,7 @@ fn gathered_of(
 
 /// Copies what was gathered to the front of the caller's buffers, or tells why there is nothing.
 pub fn tell(
-    found: Result<Gathered, Refusal>,
+    found: Result<GlyphBuffers, Refusal>,
     glyphs: &mut [Placed],
     pixels: &mut [u8],
     drawn: &mut Drawn,

@@ -15,7 +15,7 @@ ghost use Rattle.mkstrike_c.specs.inner.Gathering.{IsGathered};
 ghost use Rattle.mkstrike_c.specs.inner.Showing.{FindsById, IsFoundBy};
 
 use crate::block::words_for;
-use crate::gathered::{Drawn, Gathered, Placed, Wanted};
+use crate::gathered::{Drawn, GlyphBuffers, Placed, Wanted};
 use crate::glyph::{GlyphInfo, id_of, tell};
 use crate::glyphs::{gathered_with, tell as tell_all};
 use crate::mode::{is_mode, is_packed, mode_of};
@@ -190,7 +190,7 @@ fn gathered_by(
     words: &[u32],
     chars: &[u32],
     wanted: Wanted,
-) -> Option<Result<Gathered, Refusal>>
+) -> Option<Result<GlyphBuffers, Refusal>>
     ensures due { AreWordsOf font.now ppem mode.hinting words.now
         → IsFoundBy (IsGathered wanted (setting_for font.now ppem chars.now mode) chars.now)
         (IsReason (opened_many_of font.now ppem chars.now) (setting_for font.now ppem chars.now mode)) result }

@@ -7,7 +7,7 @@ use Rattle.fx_strike.specs.Strike.{Setting}
 use Rattle.mkstrike_c.specs.declared.gathered.Drawn.{Drawn}
 use Rattle.mkstrike_c.specs.declared.gathered.Placed.{Placed}
 use Rattle.mkstrike_c.specs.declared.gathered.Wanted.{Wanted}
-use Rattle.mkstrike_c.specs.declared.gathered.Gathered.{Gathered}
+use Rattle.mkstrike_c.specs.declared.gathered.GlyphBuffers.{GlyphBuffers}
 use Rattle.mkstrike_c.specs.declared.refused.Refused.{Refused}
 use Rattle.mkstrike_c.specs.Drawn.{AreOutcomesOf, HasFront, Outcome, all_pixels, drawn_of, entries_from, first_refused, is_made}
 use Rattle.mkstrike_c.specs.Drawn.{is_missing, is_refused, pixels_of}
@@ -36,7 +36,7 @@ with_one packed drawn outcome = record {
 }
 
 -- of these characters there are as many entries and pixels as there is room for, the counts of all, and the first that was refused
-pub record Holds (wanted : Wanted) (codes : List ℕ) (outcomes : List Outcome) (g : Gathered) : Type 0 where
+pub record Holds (wanted : Wanted) (codes : List ℕ) (outcomes : List Outcome) (g : GlyphBuffers) : Type 0 where
   pub wanted_is : g.wanted ≡ wanted
   pub entries : g.entries.items ≡ take wanted.entries (entries_from wanted.packed 0 outcomes)
   pub pixels : g.pixels.items ≡ take wanted.pixels (all_pixels wanted.packed outcomes)
@@ -44,19 +44,19 @@ pub record Holds (wanted : Wanted) (codes : List ℕ) (outcomes : List Outcome) 
   pub first : g.first ≡ first_refused 0 codes outcomes
 
 -- the characters of a setting were made
-pub record AreGathered (setting : Setting) (codes : List ℕ) (wanted : Wanted) (g : Gathered) : Type 0 where
+pub record AreGathered (setting : Setting) (codes : List ℕ) (wanted : Wanted) (g : GlyphBuffers) : Type 0 where
   pub outcomes : List Outcome
   pub are : AreOutcomesOf setting codes outcomes
   pub holds : Holds wanted codes outcomes g
 
 -- the setting is due, and they were made in it
-pub record IsGathered (wanted : Wanted) (due : Result Setting Refusal) (codes : List ℕ) (g : Gathered) : Type 0 where
+pub record IsGathered (wanted : Wanted) (due : Result Setting Refusal) (codes : List ℕ) (g : GlyphBuffers) : Type 0 where
   pub setting : Setting
   pub is : due ≡ Ok setting
   pub are : AreGathered setting codes wanted g
 
 -- what was gathered was copied and told
-pub record IsTold (g : Gathered) (old_entries new_entries : List Placed) (old new : List ℕ) (drawn : Drawn)
+pub record IsTold (g : GlyphBuffers) (old_entries new_entries : List Placed) (old new : List ℕ) (drawn : Drawn)
     (old_refused new_refused : Refused) (result : ℕ) : Type 0
   where
     pub done : result ≡ 0

@@ -4,7 +4,7 @@ use Rattle.mkstrike_c.specs.declared.gathered.Placed.{Placed}
 use Rattle.mkstrike_c.specs.declared.refused.Refused.{Refused}
 use Rattle.mkstrike_c.specs.Drawn.{refused_in}
 use Rattle.mkstrike_c.proofs.Gathering.{holds_push}
-use Rattle.mkstrike_c.proofs.gathered.Gathered.add.Goals as goal
+use Rattle.mkstrike_c.proofs.gathered.GlyphBuffers.add.Goals as goal
 
 pub returns-clause-holds : goal.returns-clause-holds
 returns-clause-holds c wanted codes outcomes long h =
