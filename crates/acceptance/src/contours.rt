@@ -9,7 +9,6 @@ use fx_contour::{ContourFault, frame, outline_frame, pieces};
 use fx_outline::{Outline, OutlinePoint};
 use fx_winding::{Frame, Piece};
 use std::alloc::{AllocError, Global};
-use std::process::Abort;
 use std::test::Fail;
 
 /// The outline of these points, with the number of each contour's last point.
@@ -53,19 +52,19 @@ pub(crate) fn has_sides(
     }
 }
 
-/// The pieces of an outline are these arcs, and both of its frames have these sides.
+/// Whether the pieces of an outline are these arcs, and both of its frames have these sides.
 fn makes(
-    rt: &impl Abort,
     alloc: Global,
     outline: &Outline,
     arcs: &[[(i32, i32); 3]],
     wanted: (i32, i32, u32, u32),
-) -> Result<(), Fail> {
+) -> Result<bool, ContourFault> {
     let made = pieces(alloc, outline)?;
-    assert!(rt; are_arcs(made.as_slice(), arcs));
-    assert!(rt; has_sides(frame(&made), wanted));
-    assert!(rt; has_sides(outline_frame(outline), wanted));
-    Ok(())
+    Ok(
+        are_arcs(made.as_slice(), arcs)
+            && has_sides(frame(&made), wanted)
+            && has_sides(outline_frame(outline), wanted),
+    )
 }
 
 #[test]
@@ -78,7 +77,8 @@ fn all_off_the_curve(rt: HostRuntime) -> Result<(), Fail> {
         [(512, 256), (512, 512), (256, 512)],
         [(256, 512), (0, 512), (0, 256)],
     ];
-    makes(&rt, rt.alloc(), &outline, &arcs, (0, 0, 4, 4))
+    assert!(rt; makes(rt.alloc(), &outline, &arcs, (0, 0, 4, 4))?);
+    Ok(())
 }
 
 #[test]
@@ -89,7 +89,8 @@ fn on_and_off_in_turn(rt: HostRuntime) -> Result<(), Fail> {
         [(0, 64), (128, 320), (256, 64)],
         [(256, 64), (128, -192), (0, 64)],
     ];
-    makes(&rt, rt.alloc(), &outline, &arcs, (0, -2, 2, 5))
+    assert!(rt; makes(rt.alloc(), &outline, &arcs, (0, -2, 2, 5))?);
+    Ok(())
 }
 
 #[test]
@@ -97,5 +98,6 @@ fn two_points_and_lone_points(rt: HostRuntime) -> Result<(), Fail> {
     let points = [on(0, 32), off(192, 32), on(900, 0), off(0, 900)];
     let outline = outline(rt.alloc(), &points, &[1, 2, 3])?;
     let arcs = [[(0, 64), (384, 64), (0, 64)]];
-    makes(&rt, rt.alloc(), &outline, &arcs, (0, 0, 3, 1))
+    assert!(rt; makes(rt.alloc(), &outline, &arcs, (0, 0, 3, 1))?);
+    Ok(())
 }

@@ -2,7 +2,6 @@
 use crate::curves::{Curve, add, frame, outline, piece};
 use fx_winding::{Bitmap, MAX_SIDE, Pieces, Plain, Scan, Tally, covered, halves};
 use std::alloc::{AllocError, Global};
-use std::process::Abort;
 use std::test::Fail;
 
 /// The outline with the halves of each arc that has any in its place.
@@ -36,11 +35,11 @@ fn cover(pieces: &Pieces, picture: [u8; 7]) -> bool {
     true
 }
 
-/// The outline covers these pixels, and with the halves of its arcs in their place it does so too.
-fn shows(rt: &impl Abort, alloc: Global, curves: &[Curve], picture: [u8; 7]) -> Result<(), Fail> {
-    assert!(rt; cover(&outline(alloc, curves)?, picture));
-    assert!(rt; cover(&halved_outline(alloc, curves)?, picture));
-    Ok(())
+/// Whether the outline covers these pixels, and with the halves of its arcs in their place does so too.
+fn shows(alloc: Global, curves: &[Curve], picture: [u8; 7]) -> Result<bool, AllocError> {
+    let whole = outline(alloc, curves)?;
+    let halved = halved_outline(alloc, curves)?;
+    Ok(cover(&whole, picture) && cover(&halved, picture))
 }
 
 const UNIT: [Curve; 4] = [
@@ -103,30 +102,34 @@ const CENTRES_ON_COMMON_CHORD: [Curve; 2] = [
     ((256, 64), Some((128, -192)), (0, 64)),
 ];
 
-#[test]
-fn lines(rt: HostRuntime) -> Result<(), Fail> {
-    let alloc = rt.alloc();
-    shows(&rt, alloc, &UNIT, [0, 0, 0, 0, 0, 0b0100000, 0])?;
-    let four = [0, 0, 0, 0, 0b0110000, 0b0110000, 0];
-    shows(&rt, alloc, &THROUGH_CENTRES, four)?;
-    let whole = 0b0111110;
-    let full = [0, whole, whole, whole, whole, whole, 0];
-    shows(&rt, alloc, &INNER_SAME_WAY, full)?;
-    let hole = [0, whole, whole, 0b0110110, whole, whole, 0];
-    shows(&rt, alloc, &INNER_OTHER_WAY, hole)
-}
+const ONE: [u8; 7] = [0, 0, 0, 0, 0, 0b0100000, 0];
+
+const TWO: [u8; 7] = [0, 0, 0, 0, 0, 0b0110000, 0];
+
+const FOUR: [u8; 7] = [0, 0, 0, 0, 0b0110000, 0b0110000, 0];
+
+const SIXTEEN: [u8; 7] = [0, 0, 0b0111100, 0b0111100, 0b0111100, 0b0111100, 0];
+
+const FULL: [u8; 7] = [0, 0b0111110, 0b0111110, 0b0111110, 0b0111110, 0b0111110, 0];
+
+const HOLE: [u8; 7] = [0, 0b0111110, 0b0111110, 0b0110110, 0b0111110, 0b0111110, 0];
 
 #[test]
-fn arcs(rt: HostRuntime) -> Result<(), Fail> {
-    let alloc = rt.alloc();
-    let two = [0, 0, 0, 0, 0, 0b0110000, 0];
-    shows(&rt, alloc, &WIDE_HILL, two)?;
-    shows(&rt, alloc, &NARROW_HILL, [0, 0, 0, 0, 0, 0b0100000, 0])?;
-    let row = 0b0111100;
-    let sixteen = [0, 0, row, row, row, row, 0];
-    shows(&rt, alloc, &CORNER_CENTRES_ON_ARCS, sixteen)?;
-    shows(&rt, alloc, &FLAT_ARC, two)?;
-    shows(&rt, alloc, &CENTRES_ON_COMMON_CHORD, two)
+fn lines_and_arcs(rt: HostRuntime) -> Result<(), Fail> {
+    for (curves, picture) in [
+        (UNIT.as_slice(), ONE),
+        (THROUGH_CENTRES.as_slice(), FOUR),
+        (INNER_SAME_WAY.as_slice(), FULL),
+        (INNER_OTHER_WAY.as_slice(), HOLE),
+        (WIDE_HILL.as_slice(), TWO),
+        (NARROW_HILL.as_slice(), ONE),
+        (CORNER_CENTRES_ON_ARCS.as_slice(), SIXTEEN),
+        (FLAT_ARC.as_slice(), TWO),
+        (CENTRES_ON_COMMON_CHORD.as_slice(), TWO),
+    ] {
+        assert!(rt; shows(rt.alloc(), curves, picture)?);
+    }
+    Ok(())
 }
 
 #[test]

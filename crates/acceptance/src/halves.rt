@@ -11,21 +11,25 @@ fn halves_at(curve: Curve) -> Option<([(i32, i32); 3], [(i32, i32); 3])> {
 
 #[test]
 fn places_of_halves(rt: HostRuntime) {
-    assert!(rt;
-        halves_at(((0, 0), Some((128, 256)), (256, 0)))
-            == Some((
+    for (curve, wanted) in [
+        (
+            ((0, 0), Some((128, 256)), (256, 0)),
+            Some((
                 [(0, 0), (64, 128), (128, 128)],
-                [(128, 128), (192, 128), (256, 0)]
-            ))
-    );
-    assert!(rt;
-        halves_at(((0, 64), Some((384, 64)), (0, 64)))
-            == Some((
+                [(128, 128), (192, 128), (256, 0)],
+            )),
+        ),
+        (
+            ((0, 64), Some((384, 64)), (0, 64)),
+            Some((
                 [(0, 64), (192, 64), (192, 64)],
-                [(192, 64), (192, 64), (0, 64)]
-            ))
-    );
-    assert!(rt; halves_at(((0, 0), Some((1, 0)), (2, 2))) == None);
+                [(192, 64), (192, 64), (0, 64)],
+            )),
+        ),
+        (((0, 0), Some((1, 0)), (2, 2)), None),
+    ] {
+        assert!(rt; halves_at(curve) == wanted);
+    }
     assert!(rt; halves(&piece(((0, 0), None, (128, 128)))).is_none());
 }
 

@@ -1,12 +1,12 @@
 //! Outlines of glyphs with components that come again.
 use crate::fonts::{font, patch};
+use crate::worked::machine;
 use fx_fixed::{F26, Ppem};
 use fx_hint::{GlyphOutline, KeepingMachine, outline_with};
-use fx_machine::{Machine, Unwatched, Usage};
+use fx_machine::Usage;
 use fx_outline::OutlinePoint;
 use fx_sfnt::{Font, FontFile};
 use std::alloc::Global;
-use std::process::Abort;
 use std::test::Fail;
 
 /// A point on the curve, in 1/64 pixel.
@@ -47,18 +47,11 @@ const TWICE: &str = "ffff 0000 0000 0080 0080 0022 0003 00 00 0002 0003 40 20";
 const READING_A_STRAY: &str =
     "0001 0000 0000 0080 0080 0002 0008 B0 63 43 21 B1 01 20 38 31 36 17 40 40 80 80 00";
 
-/// The outline of glyph 2 by a machine that keeps nothing.
-fn made_plainly(alloc: Global, font: &Font<'_>, ppem: Ppem) -> Result<GlyphOutline, Fail> {
-    let size = Ppem::new(16).ok_or("no size")?;
-    let mut machine = Machine::new(alloc, font.shared(), size, &mut Unwatched)?;
-    Ok(outline_with(alloc, &mut machine, font, ppem, 2)?)
-}
-
-/// A machine that keeps components, but has none yet.
-fn keeping_machine<'a>(alloc: Global, font: &Font<'a>) -> Result<KeepingMachine<'a>, Fail> {
-    let size = Ppem::new(16).ok_or("no size")?;
-    let machine = Machine::new(alloc, font.shared(), size, &mut Unwatched)?;
-    Ok(KeepingMachine::new(alloc, machine))
+/// The outline of glyph 2 of a font by a machine that keeps nothing.
+fn made_plainly(alloc: Global, file: &[u8], ppem: Ppem) -> Result<GlyphOutline, Fail> {
+    let mut machine = machine(alloc, file, 16)?;
+    let font = machine.font();
+    Ok(outline_with(alloc, &mut machine, &font, ppem, 2)?)
 }
 
 /// Whether two outlines are the same.
@@ -69,67 +62,63 @@ fn is_same(a: &GlyphOutline, b: &GlyphOutline) -> bool {
         && a.usage == b.usage
 }
 
-/// A machine that keeps components makes the outline of glyph 2 of a font as one that does not. Its programs name two numbers
-/// outside their tables, and execute ten instructions.
-fn outline_by_both(
-    rt: &impl Abort,
+/// What the programs of glyph 2 used up.
+const TEN_STEPS: Usage = Usage {
+    steps: 10,
+    strays: 2,
+};
+
+/// Whether a machine that keeps components makes the outline of glyph 2 of a font as one that does not. Its programs name two
+/// numbers outside their tables, and execute ten instructions.
+fn is_made_by_both(
     alloc: Global,
     keeping: &mut KeepingMachine<'_>,
-    font: &Font<'_>,
+    file: &[u8],
     pixels: u16,
-) -> Result<(), Fail> {
+) -> Result<bool, Fail> {
     let ppem = Ppem::new(pixels).ok_or("no size")?;
-    let made = made_plainly(alloc, font, ppem)?;
-    let again = outline_with(alloc, keeping, font, ppem, 2)?;
-    assert!(rt; is_same(&again, &made));
-    assert!(rt;
-        made.usage
-            == Usage {
-                steps: 10,
-                strays: 2
-            }
-    );
-    Ok(())
-}
-
-/// Glyph 3 is made once for each outline of glyph 2, and then it is kept; but neither another size nor another bearing nor other
-/// bytes recall it.
-fn outlines_by_both(
-    rt: &impl Abort,
-    alloc: Global,
-    keeping: &mut KeepingMachine<'_>,
-    file: &[u8],
-) -> Result<(), Fail> {
+    let made = made_plainly(alloc, file, ppem)?;
     let font = Font::open(&FontFile::of(file))?;
-    for pixels in [16, 16, 33, 16] {
-        outline_by_both(rt, alloc, keeping, &font, pixels)?;
-    }
-    // Of glyph 3: its left bearing, its last point's y, the cell that its program reads.
-    for (at, new) in [(258, 9), (374, 0x60), (361, 98)] {
-        outline_of_changed(rt, alloc, keeping, file, at, new)?;
-    }
-    Ok(())
+    let again = outline_with(alloc, keeping, &font, ppem, 2)?;
+    Ok(is_same(&again, &made) && made.usage == TEN_STEPS)
 }
 
-/// The same of a font with another byte at a place.
-fn outline_of_changed(
-    rt: &impl Abort,
-    alloc: Global,
-    keeping: &mut KeepingMachine<'_>,
-    file: &[u8],
-    at: usize,
-    new: u8,
-) -> Result<(), Fail> {
+/// A font with another byte at a place.
+fn changed(alloc: Global, file: &[u8], at: usize, new: u8) -> Result<Vec<u8>, Fail> {
     let mut changed = Vec::from_slice(alloc, file)?;
     patch(&mut changed, at, &[new])?;
-    let font = Font::open(&FontFile::of(changed.as_slice()))?;
-    outline_by_both(rt, alloc, keeping, &font, 16)
+    Ok(changed)
+}
+
+/// Whether glyph 3 is made once for each outline of glyph 2, and then kept, but neither another size nor another bearing nor other
+/// bytes recall it.
+fn are_made_by_both(
+    alloc: Global,
+    keeping: &mut KeepingMachine<'_>,
+    file: &[u8],
+) -> Result<bool, Fail> {
+    // The first byte stays. Of glyph 3 these are its left bearing, its last point's y, the cell that its program reads.
+    for (pixels, at, new) in [
+        (16, 0, 0),
+        (16, 0, 0),
+        (33, 0, 0),
+        (16, 0, 0),
+        (16, 258, 9),
+        (16, 374, 0x60),
+        (16, 361, 98),
+    ] {
+        let changed = changed(alloc, file, at, new)?;
+        if !is_made_by_both(alloc, keeping, changed.as_slice(), pixels)? {
+            return Ok(false);
+        }
+    }
+    Ok(true)
 }
 
 #[test]
 fn a_component_that_comes_again(rt: HostRuntime) -> Result<(), Fail> {
     let file = font(rt.alloc(), TWICE, READING_A_STRAY)?;
-    let font = Font::open(&FontFile::of(file.as_slice()))?;
-    let mut keeping = keeping_machine(rt.alloc(), &font)?;
-    outlines_by_both(&rt, rt.alloc(), &mut keeping, file.as_slice())
+    let mut keeping = KeepingMachine::new(rt.alloc(), machine(rt.alloc(), file.as_slice(), 16)?);
+    assert!(rt; are_made_by_both(rt.alloc(), &mut keeping, file.as_slice())?);
+    Ok(())
 }

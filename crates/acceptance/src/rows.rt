@@ -5,11 +5,10 @@ ghost use Rattle.fx_winding.specs.Frames.{HasMargin};
 use crate::curves::{At, Curve, add, frame, outline, piece};
 use fx_rows::{OnRow, RowPart, Rows, Run, interval};
 use fx_winding::{
-    Bitmap, Frame, MAX_SIDE, Piece, Pieces, Plain, Point, Scan, Scratch, Tally, crossing, on_piece,
-    region,
+    Bitmap, Frame, MAX_SIDE, Noted, Piece, Pieces, Plain, Point, Scan, ScanFault, Scratch, Tally,
+    crossing, on_piece, region,
 };
 use std::alloc::{AllocError, Global};
-use std::process::Abort;
 use std::test::Fail;
 
 /// What a piece adds to a row where it is not.
@@ -27,40 +26,42 @@ fn part(curve: Curve, row: i32, frame: Frame, tally: &mut Tally) -> RowPart {
     NOTHING
 }
 
+/// What a hill adds to a row.
+const UNDER_HILL: RowPart = RowPart {
+    region: Some(Run {
+        first: 0,
+        last: 1,
+        value: -1,
+    }),
+    ..NOTHING
+};
+
+/// What an arc through two centres adds to a row.
+const TWO_CENTRES: RowPart = RowPart {
+    on: OnRow::Two(0, 1),
+    ..NOTHING
+};
+
 #[test]
 fn parts_by_hand(rt: HostRuntime) {
     let mut tally = Tally::new();
     let low = frame(0, -2, 2, 5);
-    let under_hill = Run {
-        first: 0,
-        last: 1,
-        value: -1,
-    };
-    let hill = ((0, 64), Some((128, 320)), (256, 64));
-    assert!(rt;
-        part(hill, 0, low, &mut tally)
-            == RowPart {
-                region: Some(under_hill),
-                ..NOTHING
-            }
-    );
-    let dale = ((256, 64), Some((128, -192)), (0, 64));
-    assert!(rt; part(dale, 0, low, &mut tally) == NOTHING);
+    let row = frame(0, 0, 2, 1);
+    for (curve, frame, wanted) in [
+        (((0, 64), Some((128, 320)), (256, 64)), low, UNDER_HILL),
+        (((256, 64), Some((128, -192)), (0, 64)), low, NOTHING),
+        (((0, 16), Some((128, 144)), (256, 16)), row, TWO_CENTRES),
+    ] {
+        assert!(rt; part(curve, 0, frame, &mut tally) == wanted);
+    }
     let square = frame(0, 0, 4, 4);
-    let left = ((0, 256), Some((0, 0)), (256, 0));
-    assert!(rt; part(left, 0, square, &mut tally).on == OnRow::One(0));
-    let right = ((256, 0), Some((512, 0)), (512, 256));
-    assert!(rt; part(right, 0, square, &mut tally).on == OnRow::One(3));
-    let line = ((300, 64), None, (0, 64));
-    assert!(rt; part(line, 0, square, &mut tally).on == OnRow::Range(0, 1));
-    let both = ((0, 16), Some((128, 144)), (256, 16));
-    assert!(rt;
-        part(both, 0, frame(0, 0, 2, 1), &mut tally)
-            == RowPart {
-                on: OnRow::Two(0, 1),
-                ..NOTHING
-            }
-    );
+    for (curve, wanted) in [
+        (((0, 256), Some((0, 0)), (256, 0)), OnRow::One(0)),
+        (((256, 0), Some((512, 0)), (512, 256)), OnRow::One(3)),
+        (((300, 64), None, (0, 64)), OnRow::Range(0, 1)),
+    ] {
+        assert!(rt; part(curve, 0, square, &mut tally).on == wanted);
+    }
     assert!(rt; tally.tests() <= 60);
 }
 
@@ -133,7 +134,7 @@ fn all_agree(a: At, c: At) -> bool {
 fn parts_like_point_tests(rt: HostRuntime) {
     for a in PLACES {
         for c in PLACES {
-            assert!(rt; all_agree(a, c), "{a:?} {c:?}");
+            assert!(rt; all_agree(a, c));
         }
     }
 }
@@ -174,24 +175,23 @@ fn same_bits(a: &Bitmap, b: &Bitmap) -> bool {
     true
 }
 
-/// The scan by rows sets the bits that the scan by pixels sets, in the columns and rows from -20 to 19, by at most ten tests for
-/// each piece and row.
-fn scans_agree(rt: &impl Abort, alloc: Global, curves: &[Curve]) -> Result<(), Fail> {
-    let pieces = outline(alloc, curves)?;
+/// Whether the scan by rows sets the bits that the scan by pixels sets, in the columns and rows from -20 to 19, by at most ten
+/// tests for each piece and row.
+fn scans_agree(alloc: Global, pieces: &Pieces) -> Result<bool, ScanFault> {
     let frame = frame(-20, -20, 40, 40);
     let mut few = Tally::new();
-    let by_rows = Rows.scan(alloc, &pieces, frame, &mut few)?;
-    let mut many = Tally::new();
-    let by_pixels = Plain.scan(alloc, &pieces, frame, &mut many)?;
-    assert!(rt; same_bits(&by_rows, &by_pixels));
-    assert!(rt; few.tests() <= 400 * pieces.len() as u64);
-    Ok(())
+    let by_rows = Rows.scan(alloc, pieces, frame, &mut few)?;
+    let by_pixels = Plain.scan(alloc, pieces, frame, &mut Tally::new())?;
+    Ok(same_bits(&by_rows, &by_pixels) && few.tests() <= 400 * pieces.len() as u64)
 }
 
 #[test]
 fn rows_like_pixels(rt: HostRuntime) -> Result<(), Fail> {
-    scans_agree(&rt, rt.alloc(), &RING)?;
-    scans_agree(&rt, rt.alloc(), &CENTRES)
+    for curves in [RING.as_slice(), CENTRES.as_slice()] {
+        let pieces = outline(rt.alloc(), curves)?;
+        assert!(rt; scans_agree(rt.alloc(), &pieces)?);
+    }
+    Ok(())
 }
 
 /// A point at a place in pixels.
@@ -200,6 +200,16 @@ fn pixel(x: i16, y: i16) -> Point {
         x: 128 * i32::from(x),
         y: 128 * i32::from(y),
     }
+}
+
+/// Whether the first 8,192 pixels of row 0 are set.
+fn is_row_full(bitmap: &Bitmap) -> bool {
+    for col in 0..8192u32 {
+        if !bitmap.bit(col as i32, 0) {
+            return false;
+        }
+    }
+    true
 }
 
 /// The rectangle of 8,192 by 1 pixels.
@@ -223,10 +233,7 @@ fn tests_of_the_widest_row(rt: HostRuntime) -> Result<(), Fail> {
     let pieces = widest(rt.alloc())?;
     let mut tally = Tally::new();
     let bitmap = Rows.scan(rt.alloc(), &pieces, frame(0, 0, 8192, 1), &mut tally)?;
-    for col in 0..8192u32 {
-        assert!(rt; bitmap.bit(col as i32, 0), "{col}");
-    }
-    assert!(rt; tally.tests() <= 40);
+    assert!(rt; is_row_full(&bitmap) && tally.tests() <= 40);
     Ok(())
 }
 
@@ -236,18 +243,20 @@ fn memory_for_scans(rt: HostRuntime) -> Result<(), Fail> {
     let ring = outline(rt.alloc(), &RING)?;
     let mut tally = Tally::new();
     let empty = Rows.scan(rt.alloc(), &ring, frame(3, 4, 0, 0), &mut tally)?;
-    assert!(rt; !empty.bit(3, 4));
-    assert!(rt; tally.tests() == 0);
-    shows_ring(&rt, rt.alloc(), &ring, frame(-4096, -256, MAX_SIDE, 512))?;
-    shows_ring(&rt, rt.alloc(), &ring, frame(-256, -4096, 512, MAX_SIDE))
+    assert!(rt; !empty.bit(3, 4) && tally.tests() == 0);
+    for frame in [
+        frame(-4096, -256, MAX_SIDE, 512),
+        frame(-256, -4096, 512, MAX_SIDE),
+    ] {
+        let whole = Rows.scan(rt.alloc(), &ring, frame, &mut tally)?;
+        assert!(rt; shows_ring(&whole));
+    }
+    Ok(())
 }
 
-/// A scan of the ring by rows sets bits inside it, and none in its hole and outside.
-fn shows_ring(rt: &impl Abort, alloc: Global, ring: &Pieces, frame: Frame) -> Result<(), Fail> {
-    let mut tally = Tally::new();
-    let whole = Rows.scan(alloc, ring, frame, &mut tally)?;
-    assert!(rt; whole.bit(10, 0) && whole.bit(-15, 0) && !whole.bit(0, 0) && !whole.bit(30, 0));
-    Ok(())
+/// Whether bits inside the ring are set, and none in its hole and outside.
+fn shows_ring(whole: &Bitmap) -> bool {
+    whole.bit(10, 0) && whole.bit(-15, 0) && !whole.bit(0, 0) && !whole.bit(30, 0)
 }
 
 /// As many columns as rows, from -20 on.
@@ -258,23 +267,39 @@ fn square(side: u32) -> Frame
     frame(-20, -20, side, side)
 }
 
+/// Whether two scans gave the same bits and notes.
+fn is_same(used: &Noted, fresh: &Noted) -> bool {
+    used.bitmap.words() == fresh.bitmap.words()
+        && used.notes.across.as_slice() == fresh.notes.across.as_slice()
+        && used.notes.up.as_slice() == fresh.notes.up.as_slice()
+}
+
+/// Whether a scan in used buffers gives the bits and the notes of one in new ones. The buffers are given back.
+fn scans_again(
+    alloc: Global,
+    ring: &Pieces,
+    scratch: &mut Scratch,
+    pixels: Frame,
+) -> Result<bool, ScanFault>
+    requires { HasMargin pixels }
+{
+    let mut tally = Tally::new();
+    let used = Rows.scan_noted(alloc, ring, pixels, scratch, &mut tally)?;
+    let mut new = Scratch::new(alloc);
+    let fresh = Rows.scan_noted(alloc, ring, pixels, &mut new, &mut tally)?;
+    let same = is_same(&used, &fresh);
+    scratch.give_back(used.bitmap);
+    scratch.give_back_notes(used.notes);
+    Ok(same)
+}
+
 /// A scan in the buffers of scans before it, of larger and of smaller frames, gives the bits and the notes of one in new buffers.
 #[test]
 fn scans_in_used_buffers(rt: HostRuntime) -> Result<(), Fail> {
-    let alloc = rt.alloc();
-    let ring = outline(alloc, &RING)?;
-    let mut scratch = Scratch::new(alloc);
-    let mut tally = Tally::new();
+    let ring = outline(rt.alloc(), &RING)?;
+    let mut scratch = Scratch::new(rt.alloc());
     for side in [40, 8, 300, 64] {
-        let pixels = square(side);
-        let used = Rows.scan_noted(alloc, &ring, pixels, &mut scratch, &mut tally)?;
-        let mut new = Scratch::new(alloc);
-        let fresh = Rows.scan_noted(alloc, &ring, pixels, &mut new, &mut tally)?;
-        assert!(rt; used.bitmap.words() == fresh.bitmap.words());
-        assert!(rt; used.notes.across.as_slice() == fresh.notes.across.as_slice());
-        assert!(rt; used.notes.up.as_slice() == fresh.notes.up.as_slice());
-        scratch.give_back(used.bitmap);
-        scratch.give_back_notes(used.notes);
+        assert!(rt; scans_again(rt.alloc(), &ring, &mut scratch, square(side))?);
     }
     Ok(())
 }

@@ -9,19 +9,24 @@ use fx_winding::{Bitmap, Frame, Pieces, Plain, Scan, ScanFault, Tally};
 use std::alloc::Global;
 use std::test::Fail;
 
+/// Whether the strike of characters of the fixture, by a scan, is made or refused, and this is its text.
+fn writes_by<S: Scan>(
+    alloc: Global,
+    scan: &S,
+    chars: &[u32],
+    refusal: Option<Refusal>,
+    text: &str,
+) -> Result<bool, Fail> {
+    let font = fixture(alloc)?;
+    let mut out = MemorySink::new(alloc, 512, Limits::NONE)?;
+    let font = FontFile::of(font.as_slice());
+    let result = make_strike_with(alloc, scan, &font, &request(16, chars), &mut out);
+    Ok(result.err() == refusal && out.bytes() == text.as_bytes())
+}
+
 #[test]
 fn by_pixels(rt: HostRuntime) -> Result<(), Fail> {
-    let request = request(16, &[0x20, 0x41, 0x42]);
-    let font = fixture(rt.alloc())?;
-    let mut out = MemorySink::new(rt.alloc(), 512, Limits::NONE)?;
-    make_strike_with(
-        rt.alloc(),
-        &Plain,
-        &FontFile::of(font.as_slice()),
-        &request,
-        &mut out,
-    )?;
-    assert!(rt; out.bytes() == STRIKE.as_bytes());
+    assert!(rt; writes_by(rt.alloc(), &Plain, &[0x20, 0x41, 0x42], None, STRIKE)?);
     Ok(())
 }
 
@@ -42,19 +47,9 @@ impl Scan for Refusing {
 
 #[test]
 fn the_scan_is_asked(rt: HostRuntime) -> Result<(), Fail> {
-    let font = fixture(rt.alloc())?;
+    let refusal = Some(Refusal::OutOfMemory);
     for chars in [[0x41].as_slice(), [0x20, 0x41, 0x42].as_slice()] {
-        let request = request(16, chars);
-        let mut out = MemorySink::new(rt.alloc(), 512, Limits::NONE)?;
-        let result = make_strike_with(
-            rt.alloc(),
-            &Refusing,
-            &FontFile::of(font.as_slice()),
-            &request,
-            &mut out,
-        );
-        assert!(rt; result == Err(Refusal::OutOfMemory));
-        assert!(rt; out.bytes() == b"".as_slice());
+        assert!(rt; writes_by(rt.alloc(), &Refusing, chars, refusal, "")?);
     }
     Ok(())
 }

@@ -2,13 +2,12 @@
 use crate::fonts::{RING, font};
 use crate::strikes::request;
 use fx_fixed::{Limits, MemorySink};
-use fx_request::{Refusal, Request};
+use fx_request::Refusal;
 use fx_rows::Rows;
 use fx_sfnt::FontFile;
 use fx_strike::make_strike_with;
 use fx_winding::{Bitmap, Frame, Pieces, Scan, ScanFault, Tally};
 use std::alloc::Global;
-use std::process::Abort;
 use std::test::Fail;
 
 /// The scan by rows, if it makes at most this number of tests. For four pieces in one row the limit is 4 * 1 * (6 * digits + 12), with the
@@ -39,66 +38,48 @@ const WIDEST: &str =
 const WIDER: &str =
     "0001 0000 0000 0000 0000 0003 0000 01010101 0000 2001 0000 dfff 0000 0000 0001 0000";
 
-/// The end of a strike whose last glyph is one row of pixels, all set: whole bytes of the row, and what comes after them.
-fn one_row(alloc: Global, width: u32, bytes: usize, rest: &str) -> Result<String, Fail> {
+/// The end of a strike whose last glyph is one row of pixels, all set, which is this number of bytes.
+fn one_row(alloc: Global, width: u32, bytes: usize) -> Result<String, Fail> {
     let mut text = format!(in alloc; "BBX {width} 1 0 0\nBITMAP\n")?;
     for _ in 0..bytes {
         text.push_str("FF")?;
     }
-    text.push_str(rest)?;
     text.push_str("\nENDCHAR\nENDFONT\n")?;
     Ok(text)
 }
 
-/// A strike by a scan ends so.
+/// Whether a strike of a font with this glyph 3, by a scan, is made or refused, and its text ends so. The text of one that is
+/// refused is empty.
 fn ends_by(
-    rt: &impl Abort,
     alloc: Global,
     scan: &Few,
-    font: &[u8],
-    request: &Request,
+    glyph: &str,
+    ppem: u16,
+    refusal: Option<Refusal>,
     end: &str,
-) -> Result<(), Fail> {
+) -> Result<bool, Fail> {
+    let font = font(alloc, RING, glyph)?;
     let mut out = MemorySink::new(alloc, 4096, Limits::NONE)?;
-    let result = make_strike_with(alloc, scan, &FontFile::of(font), request, &mut out);
-    assert!(rt; result.is_ok());
-    assert!(rt; out.bytes().ends_with(end.as_bytes()));
-    Ok(())
-}
-
-/// A strike by a scan is refused, and nothing is written.
-fn refused_by(
-    rt: &impl Abort,
-    alloc: Global,
-    scan: &Few,
-    font: &[u8],
-    request: &Request,
-    refusal: Refusal,
-) -> Result<(), Fail> {
-    let mut out = MemorySink::new(alloc, 4096, Limits::NONE)?;
-    let result = make_strike_with(alloc, scan, &FontFile::of(font), request, &mut out);
-    assert!(rt; result == Err(refusal));
-    assert!(rt; out.bytes().is_empty());
-    Ok(())
+    let font = FontFile::of(font.as_slice());
+    let result = make_strike_with(alloc, scan, &font, &request(ppem, &[0x42]), &mut out);
+    let text = out.bytes();
+    Ok(
+        result.err() == refusal
+            && text.is_empty() == refusal.is_some()
+            && text.ends_with(end.as_bytes()),
+    )
 }
 
 #[test]
 fn the_widest_row(rt: HostRuntime) -> Result<(), Fail> {
-    let alloc = rt.alloc();
-    let request = request(1024, &[0x42]);
-    let widest = font(alloc, RING, WIDEST)?;
-    let end = one_row(alloc, 8192, 1024, "")?;
-    ends_by(
-        &rt,
-        alloc,
-        &Few(384),
-        widest.as_slice(),
-        &request,
-        end.as_str(),
-    )?;
-    let wider = font(alloc, RING, WIDER)?;
-    let refusal = Refusal::GlyphTooLarge(3);
-    refused_by(&rt, alloc, &Few(384), wider.as_slice(), &request, refusal)
+    let end = one_row(rt.alloc(), 8192, 1024)?;
+    for (glyph, refusal, end) in [
+        (WIDEST, None, end.as_str()),
+        (WIDER, Some(Refusal::GlyphTooLarge(3)), ""),
+    ] {
+        assert!(rt; ends_by(rt.alloc(), &Few(384), glyph, 1024, refusal, end)?);
+    }
+    Ok(())
 }
 
 /// A rectangle of 16,384 by 8 FUnits: 2,048 by 1 pixels at 128 pixels an em.
@@ -107,16 +88,7 @@ const WHOLE_WORDS: &str =
 
 #[test]
 fn a_row_of_2048_pixels(rt: HostRuntime) -> Result<(), Fail> {
-    let alloc = rt.alloc();
-    let font = font(alloc, RING, WHOLE_WORDS)?;
-    let end = one_row(alloc, 2048, 256, "")?;
-    let request = request(128, &[0x42]);
-    ends_by(
-        &rt,
-        alloc,
-        &Few(336),
-        font.as_slice(),
-        &request,
-        end.as_str(),
-    )
+    let end = one_row(rt.alloc(), 2048, 256)?;
+    assert!(rt; ends_by(rt.alloc(), &Few(336), WHOLE_WORDS, 128, None, end.as_str())?);
+    Ok(())
 }

@@ -8,8 +8,7 @@ use fx_request::{Refusal, Request};
 use fx_rows::Rows;
 use fx_sfnt::FontFile;
 use fx_strike::{Striker, make_strike, survey};
-use std::alloc::Global;
-use std::process::Abort;
+use std::alloc::{AllocError, Global};
 use std::test::Fail;
 
 /// The box of a character's glyph: its width and height, its left column and its lowest row; none if the font lacks it.
@@ -29,22 +28,19 @@ fn hinted(chars: &[u32]) -> Request<'_> {
     }
 }
 
-/// The striker writes the strike of a character as `make_strike` does, and with the same counts or the same refusal.
+/// Whether the striker writes the strike of a character as `make_strike` does, and with the same counts or the same refusal.
 fn writes_as_alone(
-    rt: &impl Abort,
     alloc: Global,
     striker: &mut Striker<'_, Rows>,
     font: &[u8],
     code: u32,
-) -> Result<(), Fail> {
+) -> Result<bool, AllocError> {
     let chars = [code];
     let mut alone = MemorySink::new(alloc, 1024, Limits::NONE)?;
     let due = make_strike(alloc, &FontFile::of(font), &hinted(&chars), &mut alone);
     let mut out = MemorySink::new(alloc, 1024, Limits::NONE)?;
     let told = striker.write(&named("F1"), &chars, &mut out);
-    assert!(rt; told == due);
-    assert!(rt; out.bytes() == alone.bytes(), "{code}");
-    Ok(())
+    Ok(told == due && out.bytes() == alone.bytes())
 }
 
 /// A ring whose program stores, and an arc whose program reads it.
@@ -57,19 +53,19 @@ fn of_storing(alloc: Global) -> Result<Vec<u8>, Fail> {
     with_tables(alloc, base.as_slice(), &tables)
 }
 
-/// The characters of such a font, in an order that is not theirs and each twice.
+/// The same of the characters of such a font, in an order that is not theirs and each twice.
 fn twice_as_alone(
-    rt: &impl Abort,
     alloc: Global,
     striker: &mut Striker<'_, Rows>,
     font: &[u8],
-) -> Result<(), Fail> {
+) -> Result<bool, AllocError> {
     for code in [0x42, 0x41, 0x42, 0x21, 0x41, 0x21] {
-        writes_as_alone(rt, alloc, striker, font, code)?;
-        assert!(rt; box_of(striker, 0x42) == Ok(Some((2, 1, 0, 0))));
+        let same = writes_as_alone(alloc, striker, font, code)?;
+        if !same || box_of(striker, 0x42) != Ok(Some((2, 1, 0, 0))) {
+            return Ok(false);
+        }
     }
-    assert!(rt; box_of(striker, 0x21) == Ok(None));
-    Ok(())
+    Ok(box_of(striker, 0x21) == Ok(None))
 }
 
 /// What one character's program stores is gone when that of the next begins.
@@ -77,7 +73,8 @@ fn twice_as_alone(
 fn characters_in_any_order(rt: HostRuntime) -> Result<(), Fail> {
     let font = of_storing(rt.alloc())?;
     let mut striker = Striker::open(rt.alloc(), &FontFile::of(font.as_slice()), 16, HINTED)?;
-    twice_as_alone(&rt, rt.alloc(), &mut striker, font.as_slice())
+    assert!(rt; twice_as_alone(rt.alloc(), &mut striker, font.as_slice())?);
+    Ok(())
 }
 
 /// An arc whose program divides by zero.
@@ -85,26 +82,21 @@ const DIVIDING: &str = "0001 0000 0000 0080 0080 0002 0004 B1 01 00 62 31 36 17 
 
 /// The number of the refusal of a character.
 fn refused_number(striker: &mut Striker<'_, Rows>, code: u32) -> Option<u8> {
-    match striker.glyph(code) {
-        Ok(_glyph) => None,
-        Err(refusal) => Some(refusal.number()),
-    }
+    box_of(striker, code).err().map(|refusal| refusal.number())
 }
 
 /// The square is two pixels wide only if its program runs; it does after a refusal too.
-fn refuses_twice(rt: &impl Abort, striker: &mut Striker<'_, Rows>) {
-    for _time in 0..2 {
-        assert!(rt; box_of(striker, 0x41) == Ok(Some((2, 1, 0, 0))));
-        assert!(rt; refused_number(striker, 0x42) == Some(38));
-    }
+fn refuses(striker: &mut Striker<'_, Rows>) -> bool {
+    box_of(striker, 0x41) == Ok(Some((2, 1, 0, 0))) && refused_number(striker, 0x42) == Some(38)
 }
 
 #[test]
 fn a_refusal_leaves_the_striker(rt: HostRuntime) -> Result<(), Fail> {
     let font = font(rt.alloc(), ROUNDED, DIVIDING)?;
     let mut striker = Striker::open(rt.alloc(), &FontFile::of(font.as_slice()), 16, HINTED)?;
-    refuses_twice(&rt, &mut striker);
-    writes_as_alone(&rt, rt.alloc(), &mut striker, font.as_slice(), 0x42)
+    assert!(rt; refuses(&mut striker) && refuses(&mut striker));
+    assert!(rt; writes_as_alone(rt.alloc(), &mut striker, font.as_slice(), 0x42)?);
+    Ok(())
 }
 
 /// The number of the refusal of a font that is opened at a size for a character.
@@ -126,37 +118,53 @@ fn fonts_that_do_not_open_for_characters(rt: HostRuntime) -> Result<(), Fail> {
     Ok(())
 }
 
+/// Whether nothing is written of the characters of a strike without a name, for this cause.
+fn writes_none(
+    alloc: Global,
+    striker: &mut Striker<'_, Rows>,
+    code: u32,
+    cause: Refusal,
+) -> Result<bool, AllocError> {
+    let mut out = MemorySink::new(alloc, 1024, Limits::NONE)?;
+    let result = striker.write(&named(""), &[code], &mut out);
+    Ok(result == Err(cause) && out.bytes().is_empty())
+}
+
+/// Whether a character past the last is refused, and then a name that is empty.
+fn refuses_characters_and_names(
+    alloc: Global,
+    striker: &mut Striker<'_, Rows>,
+) -> Result<bool, AllocError> {
+    Ok(
+        box_of(striker, 0x110000) == Err(Refusal::BadChars)
+            && striker.survey(&[0x41, 0x110000]) == Err(Refusal::BadChars)
+            && writes_none(alloc, striker, 0x110000, Refusal::BadChars)?
+            && writes_none(alloc, striker, 0x41, Refusal::BadName)?,
+    )
+}
+
 #[test]
 fn sizes_characters_and_names(rt: HostRuntime) -> Result<(), Fail> {
     let font = fixture(rt.alloc())?;
     let small = Striker::open(rt.alloc(), &FontFile::of(font.as_slice()), 0, UNHINTED).err();
     assert!(rt; small == Some(Refusal::BadSize));
     let mut striker = Striker::open(rt.alloc(), &FontFile::of(font.as_slice()), 16, UNHINTED)?;
-    assert!(rt; box_of(&mut striker, 0x110000) == Err(Refusal::BadChars));
-    let far = striker.survey(&[0x41, 0x110000]);
-    assert!(rt; far == Err(Refusal::BadChars));
-    let mut out = MemorySink::new(rt.alloc(), 1024, Limits::NONE)?;
-    let bad = striker.write(&named(""), &[0x110000], &mut out);
-    assert!(rt; bad == Err(Refusal::BadChars));
-    let nameless = striker.write(&named(""), &[0x41], &mut out);
-    assert!(rt; nameless == Err(Refusal::BadName));
-    assert!(rt; out.bytes().is_empty());
+    assert!(rt; refuses_characters_and_names(rt.alloc(), &mut striker)?);
     Ok(())
 }
 
-/// A survey by a striker is that of a request, once and again.
-fn surveys_as_alone(rt: &impl Abort, alloc: Global, striker: &mut Striker<'_, Rows>, font: &[u8]) {
+/// Whether a survey by a striker is that of a request, once and again.
+fn surveys_as_alone(alloc: Global, striker: &mut Striker<'_, Rows>, font: &[u8]) -> bool {
     let chars = [0x42, 0x41, 0x21, 0x41];
     let due = survey(alloc, &Rows, &FontFile::of(font), &hinted(&chars));
-    assert!(rt; striker.survey(&chars) == due);
-    assert!(rt; striker.survey(&chars) == due);
+    striker.survey(&chars) == due && striker.survey(&chars) == due
 }
 
 #[test]
 fn surveys_by_a_striker(rt: HostRuntime) -> Result<(), Fail> {
     let font = fixture(rt.alloc())?;
     let mut striker = Striker::open(rt.alloc(), &FontFile::of(font.as_slice()), 16, HINTED)?;
-    surveys_as_alone(&rt, rt.alloc(), &mut striker, font.as_slice());
+    assert!(rt; surveys_as_alone(rt.alloc(), &mut striker, font.as_slice()));
     Ok(())
 }
 

@@ -108,21 +108,13 @@ impl Scan for OfWideFrames {
 #[test]
 fn a_survey_scans_what_may_widen_its_box(rt: HostRuntime) -> Result<(), Fail> {
     let font = fixture(rt.alloc())?;
-    let both = request(16, &[0x41, 0x42]);
-    let told = survey(
-        rt.alloc(),
-        &OfWideFrames,
-        &FontFile::of(font.as_slice()),
-        &both,
-    );
-    assert!(rt; told.map(|told| told.bounds) == Ok(OF_RING));
-    let alone = request(16, &[0x42]);
-    let refused = survey(
-        rt.alloc(),
-        &OfWideFrames,
-        &FontFile::of(font.as_slice()),
-        &alone,
-    );
-    assert!(rt; refused == Err(Refusal::OutOfMemory));
+    let font = FontFile::of(font.as_slice());
+    for (chars, wanted) in [
+        ([0x41, 0x42].as_slice(), Ok(OF_RING)),
+        ([0x42].as_slice(), Err(Refusal::OutOfMemory)),
+    ] {
+        let told = survey(rt.alloc(), &OfWideFrames, &font, &request(16, chars));
+        assert!(rt; told.map(|told| told.bounds) == wanted);
+    }
     Ok(())
 }

@@ -1,13 +1,13 @@
 //! The drop-out control that glyphs come with: what `prep` asked for, or a glyph's own program.
 use crate::fonts::{ARC, bytes, font};
 use crate::tables::{NO_TABLES, Tables, with_tables};
+use crate::worked::machine;
 use fx_fixed::Ppem;
 use fx_gstate::Dropout;
-use fx_hint::outline;
-use fx_machine::{Machine, Unwatched};
+use fx_hint::{HintFault, outline};
+use fx_machine::Machine;
 use fx_sfnt::{Font, FontFile};
 use std::alloc::Global;
-use std::process::Abort;
 use std::test::Fail;
 
 /// An outline of three points with a program.
@@ -23,25 +23,51 @@ const PLAIN: &str = "ffff 0000 0000 0080 0080 0002 0003 00 00";
 
 const WITH_TYPE_2: &str = "ffff 0000 0000 0080 0080 0102 0003 00 00 0003 B0 02 8D";
 
-/// What glyphs 3, 2 and 3 again come with, at a size, with hinting on.
-fn wishes(
+/// The font of a `prep`, with these glyphs 2 and 3.
+fn with_prep(
     alloc: Global,
     prep: &'static str,
     second: &str,
-    program: &str,
+    third: &str,
+) -> Result<Vec<u8>, Fail> {
+    let base = font(alloc, second, third)?;
+    with_tables(alloc, base.as_slice(), &Tables { prep, ..NO_TABLES })
+}
+
+/// What a glyph comes with, made by a machine of its font and size.
+fn wish(
+    alloc: Global,
+    machine: &mut Machine<'_>,
+    glyph: u16,
+) -> Result<Option<Dropout>, HintFault> {
+    let made = outline(alloc, &machine.font(), machine.ppem(), Some(machine), glyph)?;
+    Ok(made.wish)
+}
+
+/// Whether glyphs 3, 2 and 3 again come with these.
+fn come_with(
+    alloc: Global,
+    machine: &mut Machine<'_>,
+    wanted: [Option<Dropout>; 3],
+) -> Result<bool, HintFault> {
+    let [first, second, again] = wanted;
+    for (glyph, wanted) in [(3, first), (2, second), (3, again)] {
+        if wish(alloc, machine, glyph)? != wanted {
+            return Ok(false);
+        }
+    }
+    Ok(true)
+}
+
+/// The same of the glyphs of a font, at a size, with hinting on.
+fn glyphs_come_with(
+    alloc: Global,
+    file: &[u8],
     pixels: u16,
-) -> Result<[Option<Dropout>; 3], Fail> {
-    let third = arc_with(alloc, program)?;
-    let base = font(alloc, second, third.as_str())?;
-    let tables = Tables { prep, ..NO_TABLES };
-    let file = with_tables(alloc, base.as_slice(), &tables)?;
-    let font = Font::open(&FontFile::of(file.as_slice()))?;
-    let ppem = Ppem::new(pixels).ok_or("no size")?;
-    let mut machine = Machine::new(alloc, font.shared(), ppem, &mut Unwatched)?;
-    let first = outline(alloc, &font, ppem, Some(&mut machine), 3)?.wish;
-    let second = outline(alloc, &font, ppem, Some(&mut machine), 2)?.wish;
-    let again = outline(alloc, &font, ppem, Some(&mut machine), 3)?.wish;
-    Ok([first, second, again])
+    wanted: [Option<Dropout>; 3],
+) -> Result<bool, Fail> {
+    let mut machine = machine(alloc, file, pixels)?;
+    Ok(come_with(alloc, &mut machine, wanted)?)
 }
 
 /// Drop-out control at all sizes, of type 4; and up to 16 pixels an em, of type 0.
@@ -122,20 +148,19 @@ const WISHES: [(&str, &str, &str, u16, [Option<Dropout>; 3]); 12] = [
 #[test]
 fn what_glyphs_ask_for(rt: HostRuntime) -> Result<(), Fail> {
     for (prep, second, program, pixels, want) in WISHES {
-        let got = wishes(rt.alloc(), prep, second, program, pixels)?;
-        assert!(rt; got == want, "{prep} / {program} at {pixels}");
+        let third = arc_with(rt.alloc(), program)?;
+        let file = with_prep(rt.alloc(), prep, second, third.as_str())?;
+        assert!(rt;
+            glyphs_come_with(rt.alloc(), file.as_slice(), pixels, want)?,
+            "{prep} / {program}"
+        );
     }
     Ok(())
 }
 
 #[test]
 fn unhinted_glyphs_ask_for_nothing(rt: HostRuntime) -> Result<(), Fail> {
-    let base = font(rt.alloc(), PLAIN, ARC)?;
-    let tables = Tables {
-        prep: SMART,
-        ..NO_TABLES
-    };
-    let file = with_tables(rt.alloc(), base.as_slice(), &tables)?;
+    let file = with_prep(rt.alloc(), SMART, PLAIN, ARC)?;
     let font = Font::open(&FontFile::of(file.as_slice()))?;
     let ppem = Ppem::new(16).ok_or("no size")?;
     let made = outline(rt.alloc(), &font, ppem, None, 3)?;
@@ -143,47 +168,44 @@ fn unhinted_glyphs_ask_for_nothing(rt: HostRuntime) -> Result<(), Fail> {
     Ok(())
 }
 
-/// What `prep` left asked for, by the machine of a block.
+/// What `prep` left asked for, by the machine of a block of a font at 16 pixels an em.
 fn wish_of_block(
     alloc: Global,
-    font: &Font<'_>,
-    ppem: Ppem,
+    font: Font<'_>,
     block: &[u32],
 ) -> Result<Option<Option<Dropout>>, Fail> {
-    let machine = Machine::of_block(alloc, font.shared(), ppem, block)?;
-    Ok(machine.map(|machine| machine.wish()))
+    let ppem = Ppem::new(16).ok_or("no size")?;
+    let Some(machine) = Machine::of_block(alloc, font, ppem, block)? else {
+        return Ok(None);
+    };
+    Ok(Some(machine.wish()))
 }
 
-/// A block keeps what `prep` left asked for; one of the form before is none.
-fn block_keeps(
-    rt: &impl Abort,
-    alloc: Global,
-    prep: &'static str,
-    want: Option<Dropout>,
-) -> Result<(), Fail> {
-    let base = font(alloc, PLAIN, ARC)?;
-    let tables = Tables { prep, ..NO_TABLES };
-    let file = with_tables(alloc, base.as_slice(), &tables)?;
-    let font = Font::open(&FontFile::of(file.as_slice()))?;
-    let ppem = Ppem::new(16).ok_or("no size")?;
-    let machine = Machine::new(alloc, font.shared(), ppem, &mut Unwatched)?;
+/// Whether a machine's block keeps what `prep` left asked for, and one of the form before is none.
+fn block_keeps(alloc: Global, machine: &Machine<'_>, want: Option<Dropout>) -> Result<bool, Fail> {
     let mut block = machine.block(alloc)?.ok_or("no block")?;
-    assert!(rt;
-        wish_of_block(alloc, &font, ppem, block.as_slice())? == Some(want),
-        "{prep}"
-    );
+    let kept = wish_of_block(alloc, machine.font(), block.as_slice())?;
     block[0] = 0x6D6B_7301;
-    assert!(rt;
-        wish_of_block(alloc, &font, ppem, block.as_slice())?.is_none(),
-        "{prep}"
-    );
-    Ok(())
+    let former = wish_of_block(alloc, machine.font(), block.as_slice())?;
+    Ok(kept == Some(want) && former.is_none())
+}
+
+/// The same of a font at 16 pixels an em.
+fn blocks_keep(alloc: Global, file: &[u8], want: Option<Dropout>) -> Result<bool, Fail> {
+    let machine = machine(alloc, file, 16)?;
+    block_keeps(alloc, &machine, want)
 }
 
 #[test]
 fn blocks_keep_what_is_asked_for(rt: HostRuntime) -> Result<(), Fail> {
-    block_keeps(&rt, rt.alloc(), "", None)?;
-    block_keeps(&rt, rt.alloc(), "B0 00 85", Some(Dropout::Off))?;
-    block_keeps(&rt, rt.alloc(), UP_TO_16, Some(Dropout::Leftmost))?;
-    block_keeps(&rt, rt.alloc(), SMART, Some(Dropout::Nearest))
+    for (prep, want) in [
+        ("", None),
+        ("B0 00 85", Some(Dropout::Off)),
+        (UP_TO_16, Some(Dropout::Leftmost)),
+        (SMART, Some(Dropout::Nearest)),
+    ] {
+        let file = with_prep(rt.alloc(), prep, PLAIN, ARC)?;
+        assert!(rt; blocks_keep(rt.alloc(), file.as_slice(), want)?, "{prep}");
+    }
+    Ok(())
 }

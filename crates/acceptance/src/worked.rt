@@ -1,4 +1,6 @@
 //! Worked rows of calls of a machine: the stack that a program leaves, and an outline.
+ghost use Rattle.std.specs.Prelude.{◌<◌, length};
+
 use crate::fonts::{RING, ROUNDED, bytes, fixture, font};
 use crate::outlines::{is_outline, on};
 use fx_code::Code;
@@ -8,18 +10,14 @@ use fx_machine::{Machine, Unwatched};
 use fx_outline::OutlinePoint;
 use fx_sfnt::{Font, FontFile};
 use fx_zone::{Point, Zone};
-use std::alloc::Global;
-use std::process::Abort;
+use std::alloc::{AllocError, Global};
 use std::test::Fail;
 
-/// The machine of a font of which no program halts, at 16 pixels an em.
-fn machine<'a>(alloc: Global, file: &'a [u8]) -> Result<Machine<'a>, Fail> {
-    Ok(Machine::new(
-        alloc,
-        Font::open(&FontFile::of(file))?,
-        Ppem::new(16).ok_or("no size")?,
-        &mut Unwatched,
-    )?)
+/// The machine of a font of which no program halts, at a size.
+pub fn machine<'a>(alloc: Global, file: &'a [u8], pixels: u16) -> Result<Machine<'a>, Fail> {
+    let font = Font::open(&FontFile::of(file))?;
+    let ppem = Ppem::new(pixels).ok_or("no size")?;
+    Ok(Machine::new(alloc, font, ppem, &mut Unwatched)?)
 }
 
 /// A point at rest on the curve.
@@ -31,8 +29,17 @@ fn at(x: i32, y: i32) -> Point {
     Point::resting(place, true)
 }
 
+/// A zone of points, of which the first four are one contour.
+fn zone_of(alloc: Global, points: &[Point]) -> Result<Zone, AllocError>
+    requires { 3 < length points.now }
+{
+    let mut zone = Zone::new(alloc);
+    zone.append(points, &[3])?;
+    Ok(zone)
+}
+
 /// The square from (0, 0) to (90, 90), with its phantom points.
-fn square(alloc: Global) -> Result<Zone, Fail> {
+fn square(alloc: Global) -> Result<Zone, AllocError> {
     let points = [
         at(0, 0),
         at(90, 0),
@@ -43,33 +50,20 @@ fn square(alloc: Global) -> Result<Zone, Fail> {
         at(0, 800),
         at(0, -224),
     ];
-    let mut zone = Zone::new(alloc);
-    zone.append(&points, &[3])?;
-    Ok(zone)
+    zone_of(alloc, &points)
 }
 
-/// Runs the program of a glyph on a square, and compares the stack that it leaves.
+/// Whether the program of a glyph, run on a square, leaves a stack.
 fn leaves(
-    rt: &impl Abort,
     alloc: Global,
     machine: &mut Machine<'_>,
     program: &str,
     stack: &[i32],
-) -> Result<(), Fail> {
+) -> Result<bool, Fail> {
     let code = bytes(alloc, program)?;
     let mut zone = square(alloc)?;
     let ran = machine.run_glyph(3, Code::new(code.as_slice()), &mut zone, &mut Unwatched);
-    assert!(rt;
-        ran.is_ok() && machine.final_stack() == Some(stack),
-        "{program}"
-    );
-    Ok(())
-}
-
-/// The stacks that programs with and without their last EIF leave.
-fn leave_stacks(rt: &impl Abort, alloc: Global, machine: &mut Machine<'_>) -> Result<(), Fail> {
-    leaves(rt, alloc, machine, "b0 00 58 b1 59 1b 1b b0 07 59", &[7])?;
-    leaves(rt, alloc, machine, "b0 00 58 b1 59 1b 1b b0 07", &[7])
+    Ok(ran.is_ok() && machine.final_stack() == Some(stack))
 }
 
 /// A false IF passes over pushed bytes that look like EIF and ELSE; what comes after its ELSE pushes 7, with the last EIF and
@@ -77,8 +71,17 @@ fn leave_stacks(rt: &impl Abort, alloc: Global, machine: &mut Machine<'_>) -> Re
 #[test]
 fn the_stack_that_a_program_leaves(rt: HostRuntime) -> Result<(), Fail> {
     let file = fixture(rt.alloc())?;
-    let mut machine = machine(rt.alloc(), file.as_slice())?;
-    leave_stacks(&rt, rt.alloc(), &mut machine)
+    let mut machine = machine(rt.alloc(), file.as_slice(), 16)?;
+    for program in [
+        "b0 00 58 b1 59 1b 1b b0 07 59",
+        "b0 00 58 b1 59 1b 1b b0 07",
+    ] {
+        assert!(rt;
+            leaves(rt.alloc(), &mut machine, program, &[7])?,
+            "{program}"
+        );
+    }
+    Ok(())
 }
 
 /// The outline of glyph 3 by a machine of its font and size.
@@ -88,7 +91,7 @@ fn outline_by(alloc: Global, machine: &mut Machine<'_>) -> Result<GlyphOutline, 
 
 /// The outline of glyph 3 of a font by a machine.
 fn hinted_outline(alloc: Global, file: &[u8]) -> Result<GlyphOutline, Fail> {
-    let mut machine = machine(alloc, file)?;
+    let mut machine = machine(alloc, file, 16)?;
     outline_by(alloc, &mut machine)
 }
 

@@ -25,8 +25,8 @@ fn sinks_that_take_little(rt: HostRuntime) -> Result<(), Fail> {
         };
         let mut out = MemorySink::new(rt.alloc(), 200, limits)?;
         let sent = send(&rt, &PROGRAM, &mut out);
-        assert!(rt; sent.is_ok() == (bytes == LISTING.len()), "{bytes}");
-        assert!(rt; LISTING.get(..bytes) == Some(out.bytes()), "{bytes}");
+        assert!(rt; sent.is_ok() == (bytes == LISTING.len()));
+        assert!(rt; LISTING.get(..bytes) == Some(out.bytes()));
     }
     Ok(())
 }

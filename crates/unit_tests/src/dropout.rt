@@ -2,7 +2,6 @@
 use fx_dropout::{Closing, close_gaps};
 use fx_winding::{Bitmap, Frame, Noted, Piece, Pieces, Plain, Point, Scan, Scratch, Tally, meets};
 use std::alloc::{AllocError, Global};
-use std::process::Abort;
 use std::test::Fail;
 
 /// A place in 1/128 pixel.
@@ -111,8 +110,11 @@ fn closed(
     Ok(close_gaps(&pieces, &mut notes, bitmap, closing, &mut tally))
 }
 
-/// Whether the set pixels of a bitmap in the columns and rows from -1 to 3 are exactly these: the top row first.
-fn looks(bitmap: &Bitmap, picture: &[&[u8; 5]; 5]) -> bool {
+/// The pixels in the columns and rows from -1 to 3, the top row first: `#` if they are set.
+type Picture = [&'static [u8; 5]; 5];
+
+/// Whether the set pixels of a bitmap are exactly these.
+fn looks(bitmap: &Bitmap, picture: &Picture) -> bool {
     for down in 0..5usize {
         for across in 0..5usize {
             let wanted = picture[down][across] == b'#';
@@ -122,6 +124,17 @@ fn looks(bitmap: &Bitmap, picture: &[&[u8; 5]; 5]) -> bool {
         }
     }
     true
+}
+
+/// Whether a scan of an outline in a frame, with its gaps closed, sets exactly these pixels.
+fn shows(
+    alloc: Global,
+    curves: &[Curve],
+    frame: Corner,
+    closing: Closing,
+    picture: &Picture,
+) -> Result<bool, Fail> {
+    Ok(looks(&closed(alloc, curves, frame, closing)?, picture))
 }
 
 /// All pixels from column and row -1 to 3.
@@ -171,46 +184,43 @@ const TIP: [Curve; 2] = [
 /// both gaps.
 const ROW_AND_COLUMN: [Curve; 2] = [((118, 86), None, (46, -2)), ((46, -2), None, (118, 86))];
 
+const ONE: Picture = [b".....", b".....", b".....", b".#...", b"....."];
+
+const NONE: Picture = [b"....."; 5];
+
+const LEFT: Picture = [b".....", b".#...", b".#...", b".#...", b"....."];
+
+const RIGHT: Picture = [b".....", b"..#..", b"..#..", b"..#..", b"....."];
+
+const LOWER: Picture = [b".....", b".....", b".....", b".###.", b"....."];
+
+const UPPER: Picture = [b".....", b".....", b".###.", b".....", b"....."];
+
 #[test]
 fn gaps(rt: HostRuntime) -> Result<(), Fail> {
-    let alloc = rt.alloc();
-    let one = [b".....", b".....", b".....", b".#...", b"....."];
-    let none = [b"....."; 5];
-    let rows = [b".....", b".....", b".....", b".###.", b"....."];
-    let columns = [b".....", b".#...", b".#...", b".#...", b"....."];
-    assert!(rt; looks(&closed(alloc, &BETWEEN_ROWS, ALL, Closing::Lower)?, &rows));
-    assert!(rt;
-        looks(
-            &closed(alloc, &BETWEEN_COLUMNS, ALL, Closing::Lower)?,
-            &columns
-        )
-    );
-    assert!(rt; looks(&closed(alloc, &DOT, ALL, Closing::Lower)?, &none));
-    assert!(rt; looks(&closed(alloc, &DOT_ON_ROW, ALL, Closing::Lower)?, &one));
-    assert!(rt; looks(&closed(alloc, &TOUCH, ALL, Closing::Lower)?, &one));
-    assert!(rt; looks(&closed(alloc, &TIP, ALL, Closing::Lower)?, &one));
-    assert!(rt; looks(&closed(alloc, &ROW_AND_COLUMN, ALL, Closing::Lower)?, &one));
+    for (curves, picture) in [
+        (BETWEEN_ROWS.as_slice(), LOWER),
+        (BETWEEN_COLUMNS.as_slice(), LEFT),
+        (DOT.as_slice(), NONE),
+        (DOT_ON_ROW.as_slice(), ONE),
+        (TOUCH.as_slice(), ONE),
+        (TIP.as_slice(), ONE),
+        (ROW_AND_COLUMN.as_slice(), ONE),
+    ] {
+        assert!(rt; shows(rt.alloc(), curves, ALL, Closing::Lower, &picture)?);
+    }
     Ok(())
 }
 
 /// Where the left or the lower pixel of a gap lies outside the frame, the other is set.
 #[test]
 fn clamped(rt: HostRuntime) -> Result<(), Fail> {
-    let alloc = rt.alloc();
-    let right = [b".....", b"..#..", b"..#..", b"..#..", b"....."];
-    let upper = [b".....", b".....", b".###.", b".....", b"....."];
-    assert!(rt;
-        looks(
-            &closed(alloc, &BETWEEN_COLUMNS, (10, 8, 3, 5), Closing::Lower)?,
-            &right
-        )
-    );
-    assert!(rt;
-        looks(
-            &closed(alloc, &BETWEEN_ROWS, (8, 10, 5, 3), Closing::Lower)?,
-            &upper
-        )
-    );
+    for (curves, frame, picture) in [
+        (BETWEEN_COLUMNS, (10, 8, 3, 5), RIGHT),
+        (BETWEEN_ROWS, (8, 10, 5, 3), UPPER),
+    ] {
+        assert!(rt; shows(rt.alloc(), &curves, frame, Closing::Lower, &picture)?);
+    }
     Ok(())
 }
 
@@ -238,38 +248,23 @@ fn bar(lower: i16, upper: i16) -> [Curve; 4] {
 /// 136 covers eight of each, so that the left pixel is set; one of 121 to 136 seven and eight.
 #[test]
 fn nearer(rt: HostRuntime) -> Result<(), Fail> {
-    let alloc = rt.alloc();
-    let left = [b".....", b".#...", b".#...", b".#...", b"....."];
-    let right = [b".....", b"..#..", b"..#..", b"..#..", b"....."];
-    let lower = [b".....", b".....", b".....", b".###.", b"....."];
-    let upper = [b".....", b".....", b".###.", b".....", b"....."];
     for (from, to, picture) in [
-        (100, 110, &left),
-        (126, 128, &left),
-        (120, 136, &left),
-        (121, 136, &right),
-        (128, 130, &right),
-        (190, 191, &right),
+        (100, 110, LEFT),
+        (126, 128, LEFT),
+        (120, 136, LEFT),
+        (121, 136, RIGHT),
+        (128, 130, RIGHT),
+        (190, 191, RIGHT),
     ] {
-        assert!(rt;
-            looks(
-                &closed(alloc, &stem(from, to), ALL, Closing::Nearer)?,
-                picture
-            )
-        );
+        assert!(rt; shows(rt.alloc(), &stem(from, to), ALL, Closing::Nearer, &picture)?);
     }
     for (from, to, picture) in [
-        (100, 110, &lower),
-        (120, 136, &lower),
-        (121, 136, &upper),
-        (190, 191, &upper),
+        (100, 110, LOWER),
+        (120, 136, LOWER),
+        (121, 136, UPPER),
+        (190, 191, UPPER),
     ] {
-        assert!(rt;
-            looks(
-                &closed(alloc, &bar(from, to), ALL, Closing::Nearer)?,
-                picture
-            )
-        );
+        assert!(rt; shows(rt.alloc(), &bar(from, to), ALL, Closing::Nearer, &picture)?);
     }
     Ok(())
 }
@@ -277,35 +272,14 @@ fn nearer(rt: HostRuntime) -> Result<(), Fail> {
 /// If the nearer pixel of a gap lies outside the frame, the other is set.
 #[test]
 fn nearer_clamped(rt: HostRuntime) -> Result<(), Fail> {
-    let alloc = rt.alloc();
-    let left = [b".....", b".#...", b".#...", b".#...", b"....."];
-    let right = [b".....", b"..#..", b"..#..", b"..#..", b"....."];
-    let lower = [b".....", b".....", b".....", b".###.", b"....."];
-    let upper = [b".....", b".....", b".###.", b".....", b"....."];
-    assert!(rt;
-        looks(
-            &closed(alloc, &stem(140, 150), (8, 8, 2, 5), Closing::Nearer)?,
-            &left
-        )
-    );
-    assert!(rt;
-        looks(
-            &closed(alloc, &stem(100, 110), (10, 8, 3, 5), Closing::Nearer)?,
-            &right
-        )
-    );
-    assert!(rt;
-        looks(
-            &closed(alloc, &bar(140, 150), (8, 8, 5, 2), Closing::Nearer)?,
-            &lower
-        )
-    );
-    assert!(rt;
-        looks(
-            &closed(alloc, &bar(100, 110), (8, 10, 5, 3), Closing::Nearer)?,
-            &upper
-        )
-    );
+    for (curves, frame, picture) in [
+        (stem(140, 150), (8, 8, 2, 5), LEFT),
+        (stem(100, 110), (10, 8, 3, 5), RIGHT),
+        (bar(140, 150), (8, 8, 5, 2), LOWER),
+        (bar(100, 110), (8, 10, 5, 3), UPPER),
+    ] {
+        assert!(rt; shows(rt.alloc(), &curves, frame, Closing::Nearer, &picture)?);
+    }
     Ok(())
 }
 
@@ -325,11 +299,6 @@ const TWO_STEMS: [Curve; 8] = [
 #[test]
 fn two_gaps(rt: HostRuntime) -> Result<(), Fail> {
     let both = [b".....", b"..##.", b"..##.", b"..##.", b"....."];
-    assert!(rt;
-        looks(
-            &closed(rt.alloc(), &TWO_STEMS, ALL, Closing::Nearer)?,
-            &both
-        )
-    );
+    assert!(rt; shows(rt.alloc(), &TWO_STEMS, ALL, Closing::Nearer, &both)?);
     Ok(())
 }

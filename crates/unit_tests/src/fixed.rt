@@ -47,7 +47,7 @@ fn directions(rt: HostRuntime) {
         (least, least, (-11585, -11585)),
     ] {
         let (F2(a), F2(b)) = unit(x, y);
-        assert!(rt; (a, b) == want, "{x} {y}");
+        assert!(rt; (a, b) == want);
     }
 }
 
@@ -186,22 +186,34 @@ impl Read for Broken {
     }
 }
 
+/// Whether a source gives this number of bytes, and has had this number of faults then.
+fn gives<S: Source>(
+    source: &mut S,
+    buffer: &mut [u8; 4],
+    bytes: Option<usize>,
+    faults: u64,
+) -> bool {
+    source.faults() < 100 && source.take(buffer) == bytes && source.faults() == faults
+}
+
 #[test]
 fn sources_give_and_fail(rt: HostRuntime) -> Result<(), Fail> {
     let mut buffer = [0u8; 4];
     let mut broken = FromReader::new(Broken);
-    assert!(rt; broken.take(&mut buffer) == None && broken.faults() == 1);
+    assert!(rt; gives(&mut broken, &mut buffer, None, 1));
     let limits = Limits {
         bytes: 5,
         step: 3,
         hiccup: None,
     };
     let mut source = MemorySource::new(b"F1.ttf", limits);
-    assert!(rt; source.take(&mut buffer) == Some(3));
-    assert!(rt; source.take(&mut buffer) == Some(2));
+    assert!(rt; gives(&mut source, &mut buffer, Some(3), 0));
+    assert!(rt; gives(&mut source, &mut buffer, Some(2), 0));
     assert!(rt; buffer == *b"tt.\0");
-    assert!(rt; source.take(&mut buffer) == None && source.faults() == 1);
+    assert!(rt; gives(&mut source, &mut buffer, None, 1));
     let mut whole = MemorySource::new(b"F1", Limits::NONE);
-    assert!(rt; whole.take(&mut buffer) == Some(2) && whole.take(&mut buffer) == Some(0));
+    for bytes in [2, 0] {
+        assert!(rt; gives(&mut whole, &mut buffer, Some(bytes), 0));
+    }
     Ok(())
 }
