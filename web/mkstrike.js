@@ -30,12 +30,6 @@ export function canRun() {
     0, 0, 1, 4, 1, 96, 0, 0, 3, 2, 1, 0, 5, 3, 1, 0, 1, 10, 17, 1, 15, 0, 65, 0, 65, 0, 192, 65, 0, 252, 11, 0, 66, 0, 26, 11]));
 }
 
-// How many fonts a file has: those of a collection, or one.
-export function facesOf(bytes) {
-  const isCollection = bytes.length >= 12 && String.fromCharCode(...bytes.subarray(0, 4)) === 'ttcf';
-  return isCollection ? new DataView(bytes.buffer, bytes.byteOffset).getUint32(8) : 1;
-}
-
 // What a refusal says, as the program's line says it after `mkstrike: `.
 export function lineOf(refused) {
   const program = (it) => (it === FPGM ? 'fpgm' : it === PREP ? 'prep' : `glyph ${it}`);
@@ -122,6 +116,11 @@ export class Mkstrike {
     } finally {
       held.forEach((it) => this.calls.page_free(it));
     }
+  }
+
+  // The number of 64 bits at an address.
+  count(at) {
+    return Number(new DataView(this.calls.memory.buffer, Number(at), 8).getBigUint64(0, true));
   }
 
   // The struct at an address, as an object of numbers.
@@ -232,13 +231,34 @@ export class Mkstrike {
     });
   }
 
+  // How many fonts the file has; or `refused`.
+  faces() {
+    return this.within((take) => {
+      const count = take(4), refused = take(this.size('mkstrike_refused'));
+      if (this.calls.mkstrike_faces(this.font.at, this.font.length, count, refused)) return { refused: this.refusedAt(refused) };
+      return { count: new Uint32Array(this.calls.memory.buffer, Number(count), 1)[0] };
+    });
+  }
+
+  // A name of the font, or of another one of the file, by its number in the table `name`; empty if it has none, or can't be read.
+  name(number, face = this.font.face) {
+    return this.within((take) => {
+      const count = take(8), refused = take(this.size('mkstrike_refused'));
+      const call = (text, room) => this.calls.mkstrike_name(this.font.at, this.font.length, face, number, text, BigInt(room), count, refused);
+      if (call(count, 0)) return '';
+      const size = this.count(count), text = take(size + 1);
+      call(text, size + 1);
+      return new TextDecoder().decode(this.bytes(text, size));
+    });
+  }
+
   // All characters of the font, in ascending order; or `refused`.
   characters() {
     return this.within((take) => {
       const count = take(8), refused = take(this.size('mkstrike_refused'));
       const call = (chars, room) => this.calls.mkstrike_characters(...this.ofFont(), chars, BigInt(room), count, refused);
       if (call(count, 0)) return { refused: this.refusedAt(refused) }; // an address, since the calls themselves know no NULL
-      const size = Number(new DataView(this.calls.memory.buffer, Number(count), 8).getBigUint64(0, true)), chars = take(4 * size);
+      const size = this.count(count), chars = take(4 * size);
       call(chars, size);
       return { chars: new Uint32Array(this.calls.memory.buffer, Number(chars), size).slice() };
     });

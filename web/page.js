@@ -1,13 +1,11 @@
 // The page: reads the controls, hands jobs to the worker, and draws what comes back.
-import { canRun, facesOf, lineOf, HINTED, DROPOUT, DROPOUTS, MISSING, DONE, MOST_PPEM, MOST_BYTES } from './mkstrike.js';
+import { canRun, lineOf, HINTED, DROPOUT, DROPOUTS, MISSING, DONE, MOST_PPEM, MOST_BYTES } from './mkstrike.js';
 import { MARGIN, boxOf, charsOf, charsOfText, curvesOf, eachPixel, identifierOf, listOf, nameOf, pngOf, shownName } from './outputs.js';
 import { KINDS, SETS } from './tables.js';
 import { MOST_TEXT, boxOfText, differencesOf, layOut, partAt, partOfText, withCodes } from './text.js';
-import { fontName } from './names.js';
 import { fromWoff, isWoff } from './woff.js';
 
 const $ = (id) => document.getElementById(id);
-const MOST_FACES = 200; // of a collection, that can be chosen
 const MOST_ROWS = 200; // of the table of refused characters
 const MOST_HIGH = 16e6; // CSS pixels of what can be scrolled: browsers have room for some more
 const PATIENCE = 300; // milliseconds until the progress shows
@@ -81,14 +79,7 @@ function handFont() {
   state.worker.postMessage({ kind: 'font', id, bytes, face });
 }
 
-function takeFont(name, bytes) {
-  const faces = Math.min(facesOf(bytes), MOST_FACES);
-  $('face-row').hidden = faces < 2;
-  $('face').replaceChildren(...Array.from({ length: faces }, (_, k) => new Option(`${k}: ${shownName(fontName(bytes, k))}`.replace(/: $/, ''), k)));
-  takeFace(name, bytes, 0);
-}
-
-function takeFace(name, bytes, face) {
+function takeFont(name, bytes, face = 0) {
   state.font = { name, bytes, face, chars: null, id: (state.font?.id ?? 0) + 1 };
   showFont();
   tell('file');
@@ -228,6 +219,13 @@ function idle() {
 // ---- what the worker tells
 
 const receive = {
+  faces({ id, names }) {
+    if (id !== state.font.id) return;
+    $('face-row').hidden = names.length < 2;
+    $('face').replaceChildren(...names.map((it, k) => new Option(it ? `${k}: ${shownName(it)}` : k, k)));
+    $('face').value = state.font.face;
+  },
+
   listed({ id, chars }) {
     if (id !== state.font?.id) return;
     state.font.chars = chars;
@@ -697,7 +695,7 @@ function listen() {
     startWorker();
   });
   on('file', 'change', () => $('file').files.length && takeFile($('file').files[0]));
-  on('face', 'input', () => takeFace(state.font.name, state.font.bytes, Number($('face').value)));
+  on('face', 'input', () => takeFont(state.font.name, state.font.bytes, Number($('face').value)));
   on('own', 'click', async () => takeFont('sample.ttf', await bytesOf('sample', 'sample.ttf')));
   on('sheet-scroll', 'scroll', () => soon(drawSheet));
   on('sheet', 'click', (event) => {

@@ -1,4 +1,4 @@
-// Tables of other files. Made by tools/make_web.
+// Tables of other files. Made by tools/make_dist --page.
 // Files of another kind, by their first bytes, as docs/REFUSALS.md has them.
 export const KINDS = [
   {"begins": "", "seems": "is empty", "todo": "give a TrueType font"},

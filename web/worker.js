@@ -3,6 +3,8 @@ import { Mkstrike, joined, DONE } from './mkstrike.js';
 import { arraysForC, gfxForC, pngOf, sheetOf } from './outputs.js';
 
 const SLICE = 25; // milliseconds of work between two looks for messages
+const MOST_FACES = 200, MOST_NAME = 80; // fonts of a collection that can be chosen; characters of a name
+const FULL = 4, FAMILY = 1, STYLE = 2; // numbers of names
 const MOST_SCALED = 6e7; // pixels of a sheet whose glyphs are drawn three times as large
 
 let mkstrike = null;
@@ -81,6 +83,12 @@ async function* outline({ id, main, code }) {
   postMessage({ kind: 'outline', id, code, ...mkstrike.outline(main.ppem, main.mode, code) });
 }
 
+// The names of the fonts of a file: the full one, or family and style.
+function faceNames() {
+  return Array.from({ length: Math.min(mkstrike.faces().count ?? 1, MOST_FACES) }, (_, face) => (
+    mkstrike.name(FULL, face) || [FAMILY, STYLE].map((it) => mkstrike.name(it, face)).filter(Boolean).join(' ')).slice(0, MOST_NAME));
+}
+
 // The characters that the font has; none if its map is refused.
 async function* list({ id }) {
   const { chars = new Uint32Array() } = mkstrike.characters();
@@ -124,6 +132,7 @@ async function take(data) {
   } else if (data.kind === 'font') {
     forget();
     mkstrike.setFont(data.bytes, data.face);
+    postMessage({ kind: 'faces', id: data.id, names: faceNames() });
     under.list = list(data);
   } else {
     under[data.kind] = { draw, outline, save, ladder }[data.kind](data);

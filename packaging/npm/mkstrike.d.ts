@@ -4,7 +4,7 @@ export interface Refused {
   number: number; table: number; glyph: number; during: number; program: number; opcode: number; index: number; code: number; address: number;
 }
 /** What a call that is refused gives in place of its answer. */
-export type Refusal = { refused: Refused } & { [field in Exclude<keyof Heights | keyof Glyphs | keyof Strike | 'chars', 'refused'>]?: undefined };
+export type Refusal = { refused: Refused } & { [field in Exclude<keyof Heights | keyof Glyphs | keyof Strike | 'chars' | 'count', 'refused'>]?: undefined };
 
 export interface Heights { ascent: number; descent: number; line_gap: number; glyphs: number; refused?: undefined }
 
@@ -28,8 +28,6 @@ export const DONE: 0, MISSING: 1, NONE: 0xffffffff, FPGM: 0x10000, PREP: 0x10001
 
 /** Whether this engine can run the modules. */
 export function canRun(): boolean;
-/** How many fonts a file has. */
-export function facesOf(bytes: Uint8Array): number;
 /** What a refusal says. */
 export function lineOf(refused: Refused): string;
 /** Runs of glyphs, one after the other, as one. */
@@ -43,6 +41,8 @@ export class Mkstrike {
   advice(number: number): string;
   heights(ppem: number): Heights | Refusal;
   glyphs(ppem: number, mode: number, chars: ArrayLike<number>, withPixels?: boolean): Glyphs | Refusal;
+  faces(): { count: number; refused?: undefined } | Refusal;
+  name(number: number, face?: number): string;
   characters(): { chars: Uint32Array; refused?: undefined } | Refusal;
   refusalOf(ppem: number, mode: number, code: number): Refused | null;
   outline(ppem: number, mode: number, code: number): Partial<Outline>;

@@ -32,6 +32,7 @@ MOST_SIZE, MOST_CODE, MOST_FACE, MOST_CHARS = 1024, 0x10FFFF, 0xFFFFFFFF, 0x1000
 START = 16  # bytes of a file that tell what it is
 MOST_ROOM = 1 << 22  # bytes that a first call hands over at most; a second one hands over what the first asked for
 WORDS = 1024  # of a block, in the same way
+NAME = 256  # bytes of a name, in the same way
 
 
 class _Refused(ctypes.Structure):
@@ -72,6 +73,7 @@ _declared = {
     "mkstrike_reason": (c_size_t, [c_uint32, c_char_p, c_size_t]),
     "mkstrike_advice": (c_size_t, [c_uint32, c_char_p, c_size_t]),
     "mkstrike_font": (c_uint32, FONT + [c_uint16, POINTER(Info), POINTER(_Refused)]),
+    "mkstrike_name": (c_uint32, FONT + [c_uint32, c_char_p, c_size_t, POINTER(c_size_t), POINTER(_Refused)]),
     "mkstrike_characters": (c_uint32, FONT + [c_void_p, c_size_t, POINTER(c_size_t), POINTER(_Refused)]),
     "mkstrike_glyph_ids": (c_uint32, FONT + [c_void_p, c_size_t, c_void_p, c_size_t, POINTER(_Refused)]),
     "mkstrike_make": (c_uint32, FONT + [c_uint16, c_uint32, c_void_p, c_size_t, c_char_p, c_size_t, c_void_p, c_size_t, POINTER(Told),
@@ -217,6 +219,18 @@ def characters(font: bytes, face: int) -> list[int]:
         if count.value <= room:
             return found[:count.value].tolist()
         room = count.value
+
+
+def name(font: bytes, face: int, number: int) -> str:
+    """A name of the font by its number in the table `name`; nothing if it has none, or is refused."""
+    count, room = c_size_t(0), NAME
+    while True:
+        text = ctypes.create_string_buffer(room)
+        if _c().mkstrike_name(font, len(font), _face(face), number, text, room, byref(count), None):
+            return ""
+        if count.value < room:
+            return text.raw[:count.value].decode()
+        room = count.value + 1
 
 
 class Block:

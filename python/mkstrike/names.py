@@ -4,6 +4,7 @@ from __future__ import annotations
 import struct
 from collections import namedtuple
 
+from . import _library
 from .refused import shown
 
 TYPE_CHECKING = False  # as in glyph.py
@@ -24,7 +25,6 @@ else:
 
 LONGEST = 60  # characters of a family in X11's name
 FAMILY, STYLE = (16, 1), (17, 2)  # numbers of names in `name`; the first wins
-ENGLISH = 0x409
 ITALIC, BOLD, OBLIQUE = 1, 32, 512  # bits of fsSelection in `OS/2`
 # X11's words, each from its weight on (OS/2, usWeightClass), and for each width from 1 on.
 WEIGHTS = ((0, "Thin"), (150, "ExtraLight"), (250, "Light"), (350, "Medium"), (550, "DemiBold"), (650, "Bold"), (750, "ExtraBold"), (850, "Black"))
@@ -33,12 +33,11 @@ WIDTHS = ("UltraCondensed", "ExtraCondensed", "Condensed", "SemiCondensed", "Nor
 
 def names_of(data: bytes, face: int, otherwise: str) -> Names:
     """The names of a font of a file; its family is `otherwise` if it has none."""
-    os2, post, named = (_table(data, face, tag) for tag in (b"OS/2", b"post", b"name"))
+    os2, post = (_table(data, face, tag) for tag in (b"OS/2", b"post"))
     weight, width = _numbers(">HH", os2, 4) or (400, 5)
     (selection,) = _numbers(">H", os2, 62) or (0,)
     (fixed,) = _numbers(">I", post, 12) or (0,)
-    said = _names(named)
-    family, style = (next((said[it] for it in numbers if said.get(it)), "") for numbers in (FAMILY, STYLE))
+    family, style = (next(filter(None, (_said(data, face, it) for it in numbers)), "") for numbers in (FAMILY, STYLE))
     slant = "O" if selection & OBLIQUE or "oblique" in style.lower() else "I" if selection & ITALIC else "R"
     is_bold = selection & BOLD and not 550 <= weight <= 1000
     return Names(family or otherwise, style or "Regular", 700 if is_bold else weight, width, slant, bool(fixed))
@@ -69,15 +68,6 @@ def _table(data: bytes, face: int, tag: bytes) -> bytes:
     return b""
 
 
-def _names(data: bytes) -> dict[int, str]:
-    """The names of `name`, by their numbers: English ones of Windows before others."""
-    _, count, start = _numbers(">HHH", data, 0) or (0, 0, 0)
-    found: dict[int, tuple[int, str]] = {}
-    for k in range(count):
-        platform, _, language, number, length, at = _numbers(">6H", data, 6 + 12 * k) or (9, 0, 0, 0, 0, 0)
-        rank = {3: 3 if language == ENGLISH else 1, 0: 2, 1: 0}.get(platform, -1)
-        if number in FAMILY + STYLE and rank > found.get(number, (-1, ""))[0]:
-            raw = data[start + at:start + at + length]
-            text = raw.decode("mac-roman" if platform == 1 else "utf-16-be", "replace")
-            found[number] = rank, shown(" ".join(text.split()))
-    return {number: text for number, (_, text) in found.items()}
+def _said(data: bytes, face: int, number: int) -> str:
+    """A name by its number, on one line."""
+    return shown(" ".join(_library.name(data, face, number).split()))
