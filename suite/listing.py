@@ -55,12 +55,12 @@ def programs(case):
         font = Font(data, case.get("face", 0))
     except Refused:
         return []
-    found = of_glyph(font, glyph_of(data, font, case), 0)
+    found = of_glyph(font, glyph_of(font, case), 0)
     found += [(name, font.tables.get(name, b"")) for name in ("prep", "fpgm")]
     return [(title, list(listed(code))) for title, code in found if code]
 
 
-def glyph_of(data, font, case):
+def glyph_of(font, case):
     """The number of a case's glyph; 0 if its character can't be looked up."""
     if "glyph" in case:
         return case["glyph"]

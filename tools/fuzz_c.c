@@ -3,6 +3,7 @@
  * fonts can't be written to. On each input:
  *
  *   - what a strike, its cut text and its numbers are agrees from call to call, and with what is told of the font;
+ *   - a name of the font is written whole, with a 0 after it, or not;
  *   - each entry of many characters is what a call for it alone gives; boxes are tight, the bits that fill up a row are 0; by the number of
  *     its glyph a character gives the same;
  *   - the outline of a glyph is whole, fits the glyph's advance, and is refused as the glyph is;
@@ -199,6 +200,11 @@ static uint32_t ended(uint32_t status, int is_told) {
     return status;
 }
 
+/* A number that is no mode is refused before all else, and no mode is. */
+static void same_mode(const struct asked *a, uint32_t status) {
+    look(is_mode(a->mode) == (status != MKSTRIKE_BAD_MODE), "a number that is no mode was taken, or a mode refused");
+}
+
 static uint32_t make(const struct asked *a, struct block *out, struct mkstrike_told *told, long refused) {
     uint32_t status;
     begin(refused);
@@ -207,11 +213,23 @@ static uint32_t make(const struct asked *a, struct block *out, struct mkstrike_t
     return ended(status, status != 0);
 }
 
-static uint32_t glyph(const struct asked *a, uint32_t code, struct block *pixels, struct mkstrike_glyph_info *info, long refused) {
-    uint32_t status;
+/* A character or, if `is_id`, a glyph by its number; by a block, unless that is NULL. */
+static uint32_t one(const struct asked *a, const struct block *words, int is_id, uint32_t number, struct block *pixels,
+    struct mkstrike_glyph_info *info, long refused) {
+    const uint32_t *block = words != NULL ? (const uint32_t *)(const void *)words->at : NULL;
+    uint32_t mode = a->mode | a->packed, status;
     begin(refused);
-    status = mkstrike_glyph(a->font, a->font_len, a->face, a->ppem, a->mode | a->packed, code, pixels->at, pixels->len, info, &why);
+    if (words != NULL)
+        status = (is_id ? mkstrike_glyph_by_id_prepared : mkstrike_glyph_prepared)(a->font, a->font_len, a->face, a->ppem, mode, block,
+            words->len / 4, number, pixels->at, pixels->len, info, &why);
+    else
+        status = (is_id ? mkstrike_glyph_by_id : mkstrike_glyph)(a->font, a->font_len, a->face, a->ppem, mode, number, pixels->at, pixels->len,
+            info, &why);
     return ended(status, status > 1);
+}
+
+static uint32_t glyph(const struct asked *a, uint32_t code, struct block *pixels, struct mkstrike_glyph_info *info, long refused) {
+    return one(a, NULL, 0, code, pixels, info, refused);
 }
 
 static uint32_t glyphs(const struct asked *a, struct block *entries, struct block *pixels, struct mkstrike_drawn *drawn, long refused) {
@@ -248,6 +266,23 @@ static void characters(const struct asked *a) {
     free_block(&some);
 }
 
+/* ---- names */
+
+/* A name of a font in a buffer that may be small: whole with a 0 after it, or not written. */
+static void name(const struct asked *a) {
+    struct block text = block_of(draw(40), 1, (int)draw(2));
+    size_t count = 0;
+    uint32_t status;
+    begin(0);
+    status = mkstrike_name(a->font, a->font_len, a->face, draw(20), (char *)text.at, text.len, &count, &why);
+    status = ended(status, status > MKSTRIKE_MISSING);
+    look(requests == 0, "the name of a font takes memory");
+    look((status == 0) == (count != 0) && count <= 98301, "the length of a name");
+    if (status != 0 || count >= text.len) look(is_filled(text.at, text.len), "a part of a name");
+    else look(text.at[count] == 0 && is_filled(text.at + count + 1, text.len - count - 1), "no 0 after a name, or more");
+    free_block(&text);
+}
+
 /* ---- strikes */
 
 /* The text in a buffer of this length is the beginning of the whole text. */
@@ -268,6 +303,7 @@ static void strike(const struct asked *a, const struct mkstrike_font_info *info,
     memset(&told, FILL, sizeof told);
     status = make(a, &none, &told, 0);
     n = requests;
+    same_mode(a, status);
     if (status != 0) look(is_filled((uint8_t *)&told, sizeof told), "a refusal changed what is told");
     again = told;
     if (status == 0) {
@@ -332,7 +368,7 @@ static void alone(const struct asked *a, uint32_t code, const struct mkstrike_pl
         if (room == size) look(memcmp(out.at, pixels, size) == 0, "other pixels alone");
         begin(0);
         look(mkstrike_glyph_ids(a->font, a->font_len, a->face, &code, 1, &id, 1, NULL) == 0 && id != 0, "no glyph of a character");
-        look(mkstrike_glyph_by_id(a->font, a->font_len, a->face, a->ppem, a->mode | a->packed, id, out.at, room, &g, &why) == 0, "none by id");
+        look(one(a, NULL, 1, id, &out, &g, 0) == 0, "none by id");
         look(memcmp(&g, &entry->glyph, sizeof g) == 0 && (room < size || memcmp(out.at, pixels, size) == 0), "another glyph by id");
     } else {
         look(is_filled((uint8_t *)&g, sizeof g) && is_filled(out.at, room), "a buffer changed, and no glyph");
@@ -368,6 +404,7 @@ static void each(const struct asked *a, const struct mkstrike_placed *entries, c
 static void many(const struct asked *a) {
     struct block none = block_of(0, 8, at_front), entries, pixels;
     struct mkstrike_drawn drawn, again;
+    struct mkstrike_glyph_info info;
     struct mkstrike_refused first;
     uint32_t status, second;
     long n;
@@ -375,6 +412,9 @@ static void many(const struct asked *a) {
     status = glyphs(a, &none, &none, &drawn, 0);
     n = requests;
     first = why;
+    same_mode(a, status);
+    if (status != 0 && status != MKSTRIKE_BAD_CHARS && a->chars_len > 0)
+        look(glyph(a, a->chars[0], &none, &info, 0) == status && memcmp(&first, &why, sizeof why) == 0, "many refused for another reason than one");
     if (status == 0) {
         uint32_t few = draw(a->chars_len + 1);
         entries = block_of(a->chars_len * sizeof(struct mkstrike_placed), 8, (int)draw(2));
@@ -385,6 +425,10 @@ static void many(const struct asked *a) {
             look(why.index < a->chars_len && why.code == a->chars[why.index] &&
                      ((struct mkstrike_placed *)(void *)entries.at)[why.index].status == why.number,
                 "the first refusal of another character");
+        if (drawn.refused != 0) {
+            first.index = first.code = MKSTRIKE_NONE;
+            look(glyph(a, why.code, &none, &info, 0) == first.number && memcmp(&first, &why, sizeof why) == 0, "other fields of the first refusal");
+        }
         each(a, (const struct mkstrike_placed *)(const void *)entries.at, pixels.at, &drawn);
         if (few < a->chars_len) {
             struct block cut = block_of(few * sizeof(struct mkstrike_placed), 8, 0), cut_pixels = block_of(draw((uint32_t)drawn.bytes + 1), 1, 0);
@@ -456,9 +500,8 @@ static void outline(const struct asked *a, uint32_t id) {
     status = outlined(a, id, &none, &none, &told, 0);
     of_outline = why;
     n = requests;
-    begin(0);
-    drawn = mkstrike_glyph_by_id(a->font, a->font_len, a->face, a->ppem, a->mode, id, NULL, 0, &info, &why);
-    drawn = ended(drawn, drawn != 0);
+    same_mode(a, status);
+    drawn = one(a, NULL, 1, id, &none, &info, 0);
     if (status != 0) {
         look(is_filled((uint8_t *)&told, sizeof told), "a refused outline changed what is told");
         look(memcmp(&of_outline, &why, sizeof why) == 0, "a glyph that is not refused as its outline");
@@ -486,56 +529,25 @@ static uint32_t prepare(const struct asked *a, struct block *words, size_t *need
     return ended(status, status != 0);
 }
 
-static uint32_t by_block(const struct asked *a, const struct block *words, uint32_t code, struct block *pixels, struct mkstrike_glyph_info *info,
-    long refused) {
-    uint32_t status;
-    begin(refused);
-    status = mkstrike_glyph_prepared(a->font, a->font_len, a->face, a->ppem, a->mode | a->packed, (const uint32_t *)(const void *)words->at,
-        words->len / 4, code, pixels->at, pixels->len, info, &why);
-    return ended(status, status > 1);
-}
-
-/* A character by its font's block: the answer is that of a call without it. */
-static void same_by_block(const struct asked *a, const struct block *words, uint32_t code) {
+/* A character, or a glyph by its number, by its font's block: the answer is that of a call without it. */
+static void same_by_block(const struct asked *a, const struct block *words, int is_id, uint32_t number) {
     struct mkstrike_glyph_info due, found;
     struct block pixels = block_of(4096, 1, (int)draw(2)), others = block_of(4096, 1, (int)draw(2));
     struct mkstrike_refused refused;
-    uint32_t status;
+    uint32_t status, again;
     long n;
     memset(&due, FILL, sizeof due);
     memset(&found, FILL, sizeof found);
-    status = glyph(a, code, &pixels, &due, 0);
+    status = one(a, NULL, is_id, number, &pixels, &due, 0);
     refused = why;
-    look(by_block(a, words, code, &others, &found, 0) == status, "another status by a block");
+    look(one(a, words, is_id, number, &others, &found, 0) == status, "another status by a block");
     look(memcmp(&why, &refused, sizeof why) == 0, "another refusal by a block");
     look(memcmp(&due, &found, sizeof due) == 0 && memcmp(pixels.at, others.at, 4096) == 0, "another glyph by a block");
     if (some_refused(requests))
         for (n = first_refused; n <= last_refused; n++) {
-            uint32_t again = by_block(a, words, code, &others, &found, n);
+            again = one(a, words, is_id, number, &others, &found, n);
             look(again == MKSTRIKE_OUT_OF_MEMORY || again == status, "another answer to refused memory by a block");
         }
-    free_block(&pixels);
-    free_block(&others);
-}
-
-/* The same of a glyph by its number. */
-static void same_by_id(const struct asked *a, const struct block *words, uint32_t id) {
-    struct mkstrike_glyph_info due, found;
-    struct block pixels = block_of(4096, 1, (int)draw(2)), others = block_of(4096, 1, (int)draw(2));
-    struct mkstrike_refused refused;
-    uint32_t status, mode = a->mode | a->packed;
-    memset(&due, FILL, sizeof due);
-    memset(&found, FILL, sizeof found);
-    begin(0);
-    status = mkstrike_glyph_by_id(a->font, a->font_len, a->face, a->ppem, mode, id, pixels.at, pixels.len, &due, &why);
-    status = ended(status, status != 0);
-    refused = why;
-    begin(0);
-    look(mkstrike_glyph_by_id_prepared(a->font, a->font_len, a->face, a->ppem, mode, (const uint32_t *)(const void *)words->at, words->len / 4, id,
-             others.at, others.len, &found, &why) == status, "another status by a number and a block");
-    ended(status, status != 0);
-    look(memcmp(&why, &refused, sizeof why) == 0, "another refusal by a number and a block");
-    look(memcmp(&due, &found, sizeof due) == 0 && memcmp(pixels.at, others.at, 4096) == 0, "another glyph by a number and a block");
     free_block(&pixels);
     free_block(&others);
 }
@@ -577,7 +589,7 @@ static void changed_block(const struct asked *a, struct block *words, uint32_t c
         if (k < count) at[k] = draw(2) ? values[draw(8)] : draw(2) ? at[k] ^ 1u << draw(32) : draw(0);
     }
     memset(&info, FILL, sizeof info);
-    status = by_block(a, words, code, &pixels, &info, 0);
+    status = one(a, words, 0, code, &pixels, &info, 0);
     feature(0x20000 + status);
     if (status != 0) look(is_filled((uint8_t *)&info, sizeof info) && is_filled(pixels.at, 4096), "a refused block changed a buffer");
     free_block(&pixels);
@@ -592,12 +604,12 @@ static void refused_block(const struct asked *a, const struct block *words, size
     const uint32_t code = 0x41, *block = (const uint32_t *)(const void *)words->at, mode = a->mode | a->packed;
     memset(&info, FILL, sizeof info);
     cut.len = count * 4;
-    look(by_block(a, &cut, code, &pixels, &info, 0) == MKSTRIKE_BAD_BLOCK, what);
+    look(one(a, &cut, 0, code, &pixels, &info, 0) == MKSTRIKE_BAD_BLOCK, what);
     look(why.glyph == MKSTRIKE_NONE && why.code == MKSTRIKE_NONE, "fields of a refused block");
     look(is_filled((uint8_t *)&info, sizeof info) && is_filled(pixels.at, pixels.len), "a refused block changed a buffer");
     look(mkstrike_glyphs_prepared(a->font, a->font_len, a->face, a->ppem, mode, block, count, &code, 1, &placed, 1, NULL, 0, &drawn, NULL)
             == MKSTRIKE_BAD_BLOCK, what);
-    look(mkstrike_glyph_by_id_prepared(a->font, a->font_len, a->face, a->ppem, mode, block, count, 3, NULL, 0, NULL, NULL) == MKSTRIKE_BAD_BLOCK, what);
+    look(one(a, &cut, 1, 3, &pixels, &info, 0) == MKSTRIKE_BAD_BLOCK, what);
     free_block(&pixels);
 }
 
@@ -637,6 +649,7 @@ static void blocks(const struct asked *a) {
     size_t need = 1, again = 1, i;
     uint32_t status = prepare(a, &none, &need, 0);
     long n = requests;
+    same_mode(a, status);
     look(status == 0 || need == 1, "a refusal changed the size of a block");
     look(status != 0 || need == 6 || (a->mode & MKSTRIKE_HINTED) != 0, "an unhinted block of another length");
     if (some_refused(n))
@@ -651,8 +664,8 @@ static void blocks(const struct asked *a) {
         look(prepare(a, &cut, &again, 0) == 0 && again == need && memcmp(cut.at, words.at, cut.len) == 0, "another block in a small buffer");
         free_block(&cut);
         for (i = 0; i < a->chars_len; i++)
-            if (draw(2) == 0) same_by_block(a, &words, a->chars[i]);
-        same_by_id(a, &words, draw(4) ? draw(12) : draw(70000));
+            if (draw(2) == 0) same_by_block(a, &words, 0, a->chars[i]);
+        same_by_block(a, &words, 1, draw(4) ? draw(12) : draw(70000));
         many_by_block(a, &words);
         other_blocks(a, &words);
         if (a->chars_len > 0)
@@ -660,7 +673,7 @@ static void blocks(const struct asked *a) {
         free_block(&words);
     } else if (a->chars_len > 0 && is_mode(a->mode)) {
         memset(&info, FILL, sizeof info);
-        look(by_block(a, &none, a->chars[0], &none, &info, 0) == MKSTRIKE_BAD_BLOCK, "no words were taken for a block");
+        look(one(a, &none, 0, a->chars[0], &none, &info, 0) == MKSTRIKE_BAD_BLOCK, "no words were taken for a block");
     }
     free_block(&none);
 }
@@ -709,6 +722,7 @@ int LLVMFuzzerTestOneInput(const uint8_t *input, size_t len) {
     status = ended(status, status != 0);
     look(requests == 0, "a font's heights take memory");
     characters(&a);
+    name(&a);
     strike(&a, &info, status);
     many(&a);
     for (i = 0; i < 3; i++) outline(&a, draw(8) ? draw(12) : draw(70000));

@@ -13,7 +13,7 @@ from prebuilt import TOP, Fault
 WEB = os.path.join(TOP, "web")
 MODULE, PAGE = web_module.LIBRARY, "mkstrike.html"
 SHARED = ("mkstrike.js", "tables.js", "outputs.js")  # what the page and the worker both need
-ALONE = ("names.js", "woff.js", "text.js", "page.js")  # what the page needs beside it
+ALONE = ("woff.js", "text.js", "page.js")  # what the page needs beside it
 
 
 def kinds():
@@ -26,7 +26,7 @@ def kinds():
 def tables():
     """web/tables.js: what the page takes from other files."""
     rows = ["  %s," % json.dumps(dict(zip(("begins", "seems", "todo"), it)), ensure_ascii=False) for it in kinds()]
-    made = ["// Tables of other files. Made by tools/make_web.", "// Files of another kind, by their first bytes, as docs/REFUSALS.md has them.",
+    made = ["// Tables of other files. Made by tools/make_dist --page.", "// Files of another kind, by their first bytes, as docs/REFUSALS.md has them.",
             "export const KINDS = [", *rows, "];"]
     for name, table, what in (("SETS", "SETS", "Sets of characters by name, as `mkstrike make --set` takes them"), ("NAMES", "OTHERS", "Other names of sets")):
         made += ["", "// %s (crates/fx_words)." % what, "export const %s = {" % name]
@@ -104,9 +104,9 @@ def put(modules, say):
 
 def faults(manifest):
     """What is wrong with the files that are made, in lines, if dist/ has a module."""
-    found = ["%s is not what tools/make_web writes" % prebuilt.shown(path) for path, data in made_of_others() if prebuilt.read(path) != data]
+    found = ["%s is not what tools/make_dist --page writes" % prebuilt.shown(path) for path, data in made_of_others() if prebuilt.read(path) != data]
     if manifest.module_sources != web_module.hash_of_sources():
-        found.append("the modules of dist/ are of other sources: tools/make_web makes them anew")
+        found.append("the modules of dist/ are of other sources: tools/make_dist --web makes them anew")
     if prebuilt.read(os.path.join(prebuilt.DIST, PAGE)) != page_of(prebuilt.read(os.path.join(prebuilt.DIST, MODULE))):
-        found.append("dist/%s is not the page of web/ with that module: tools/make_web --page makes it anew" % PAGE)
+        found.append("dist/%s is not the page of web/ with that module: tools/make_dist --page makes it anew" % PAGE)
     return found

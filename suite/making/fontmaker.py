@@ -53,8 +53,7 @@ class FontMaker:
                   **{tag: data for tag, data in self.programs.items() if data}}
         tables.update({"glyf": b"".join(g.data for g in self.glyphs), "head": self.head(), "loca": self.loca(),
                        "maxp": self.maxp()})
-        tables["hhea"] = struct.pack(">Lhhh", 0x10000, ASCENDER * self.upem // UPEM, DESCENDER * self.upem // UPEM, 0) \
-            + bytes(24) + struct.pack(">H", pairs)
+        tables["hhea"] = fonts.hhea_of(ASCENDER * self.upem // UPEM, DESCENDER * self.upem // UPEM, pairs)
         tables["hmtx"] = b"".join(struct.pack(">Hh", g.advance, g.bearing) for g in self.glyphs[:pairs]) \
             + b"".join(struct.pack(">h", g.bearing) for g in self.glyphs[pairs:])
         tables.update(self.tables)
@@ -62,7 +61,7 @@ class FontMaker:
 
     def head(self):
         """`head`: the em square and the form of `loca`."""
-        return struct.pack(">LLLLHH", 0x10000, 0, 0, 0x5F0F3CF5, 0, self.upem) + bytes(30) + struct.pack(">hh", int(self.long), 0)
+        return fonts.head_of(self.upem, self.long)
 
     def loca(self):
         """`loca`: the offsets of all glyphs."""

@@ -173,7 +173,7 @@ def _halves_are_equal(pieces, i, j):
 
 @reading("gaps_one_by_one", "nearer", "gaps of a row are closed one after the other, from the left")
 def _one_by_one(c):
-    def bridges(right):
+    def bridges(_right):
         def close(pieces, columns, rows, so_far, pixel):
             found = set()
             for j in rows:

@@ -232,7 +232,7 @@ def _floored(right, zone, axis, o, b, a):
     return zone.cur[low][axis] + part * (zone.cur[high][axis] - zone.cur[low][axis]) // whole
 
 
-def _by_first(right, zone, axis, points):
+def _by_first(_right, zone, axis, points):
     """All untouched points move as the first touched one did."""
     touched = [p for p in points if zone.touched[p][axis]]
     for p in points if touched else []:

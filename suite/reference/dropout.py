@@ -79,7 +79,7 @@ def is_gap(pieces, so_far, i, j):
     return not {(i, j), (i + 1, j)} & so_far and any(meets(piece, centre(i, j), centre(i + 1, j)) for piece in pieces)
 
 
-def left_pixel(pieces, i, j):
+def left_pixel(_pieces, i, _j):
     """By rule 3 the left one of two pixels closes their gap."""
     return i
 

@@ -1,14 +1,13 @@
 /* Calls the C library as test_library.py asks, in place of a program that uses it, with the heap of c/heap.c. What agrees from call to call, and
  * what refused calls leave, tools/fuzz_c.c looks at.
  *
- *     check_c strike FONT PPEM MODE FIRST LAST      a strike, as `mkstrike make` writes it, with its line and its status; asked for with
- *                                                   no room, with room enough, and with a byte too few
- *     check_c many FONT PPEM MODE FIRST LAST        these characters in one call, in another order and some of them twice, packed and not:
- *                                                   each against mkstrike_glyph, its refusal too, and against their strike
+ *     check_c strike FONT PPEM MODE FIRST LAST      a strike, as `mkstrike make` writes it, with its line and its status
+ *     check_c many FONT PPEM MODE FIRST LAST        these characters in one call, packed and not, against their strike
  *     check_c outline FONT PPEM MODE GLYPH          an outline, as `mkstrike outline` writes it
  *     check_c requests FONT                         requests of many characters that are refused before the font is opened
- *     check_c calls FONT                            the other calls, what they refuse, unknown bits of modes, and NULL
+ *     check_c calls FONT                            the other calls, and what they refuse
  *     check_c characters FONT                       how many faces the file has, and the characters of the first, one a line
+ *     check_c name FONT FACE NUMBER                 a name of a font, in buffers that are large enough, too small and none; or "missing"
  *     check_c threads FONT                          eight threads at once
  *     check_c stack FONT KIB                        in a thread with a stack of that many KiB
  *     check_c reasons                               the name of each number */
@@ -133,23 +132,6 @@ static void put_refusal(const struct mkstrike_refused *it) {
     fputc('\n', stderr);
 }
 
-/* With a byte too few the rest is the same, and what lies after the buffer is as it was. */
-static void make_short(const struct request *r, const uint8_t *text, size_t len, const struct mkstrike_told *whole) {
-    struct mkstrike_told told;
-    struct mkstrike_refused refused;
-    uint8_t *cut = (uint8_t *)bytes(len + 1);
-    size_t room;
-    for (room = len - 1; room <= len + 1; room++) {
-        memset(cut, 7, len + 1);
-        memset(&told, 0, sizeof told);
-        if (make(r, cut, room, &told, &refused) != 0) stop("a strike that is refused where there is no room");
-        if (memcmp(cut, text, room < len ? room : len) != 0) stop("not the beginning of the text");
-        if ((room < len && cut[room] != 7) || cut[len] != 7) stop("a byte after the text was changed");
-        if (told.bytes != whole->bytes || told.glyphs != whole->glyphs || told.steps != whole->steps) stop("other numbers");
-    }
-    free(cut);
-}
-
 static int strike(const struct request *r) {
     struct mkstrike_told told, before;
     struct mkstrike_refused refused, kept;
@@ -170,7 +152,6 @@ static int strike(const struct request *r) {
     if (memcmp(&refused, &kept, sizeof refused) != 0) stop("a strike changed the refusal");
     text = (uint8_t *)bytes(told.bytes);
     if (make(r, text, told.bytes, &told, &refused) != 0) stop("refused the second time");
-    make_short(r, text, told.bytes, &told);
     fwrite(text, 1, told.bytes, stdout);
     fprintf(stderr, "mkstrike: glyphs %u missing %u strays %llu steps %llu\n", (unsigned)told.glyphs, (unsigned)told.missing,
         (unsigned long long)told.strays, (unsigned long long)told.steps);
@@ -201,11 +182,6 @@ static void same_pixels(const struct mkstrike_glyph_info *g, const uint8_t *pack
     for (i = 0; i < g->height; i++)
         for (j = 0; j < g->width; j++)
             if (pixels[i * g->width + j] != ((packed[i * g->stride + j / 8] >> (7 - j % 8) & 1) ? 255 : 0)) stop("other pixels");
-}
-
-static uint32_t one(const struct request *r, uint32_t code, uint32_t packed, uint8_t *pixels, size_t room, struct mkstrike_glyph_info *g) {
-    struct mkstrike_refused refused;
-    return mkstrike_glyph(r->font, r->font_len, r->face, r->ppem, r->mode | packed, code, pixels, room, g, &refused);
 }
 
 /* ---- outlines */
@@ -288,64 +264,6 @@ static uint32_t many_of(const struct request *r, struct many *it) {
     return 0;
 }
 
-/* An entry is what mkstrike_glyph gives; returns what that returned, and the fields of its refusal. */
-static uint32_t same_entry(const struct request *r, uint32_t code, const struct many *it, const struct mkstrike_placed *entry,
-    struct mkstrike_refused *refused) {
-    struct mkstrike_glyph_info g, none = {0, 0, 0, 0, 0, 0, 0};
-    static uint8_t pixels[1 << 20];
-    uint32_t mode = r->mode | it->packed;
-    uint32_t status = mkstrike_glyph(r->font, r->font_len, r->face, r->ppem, mode, code, pixels, sizeof pixels, &g, refused);
-    if (status != entry->status) stop("another status of one of many");
-    if (memcmp(status == 0 ? &g : &none, &entry->glyph, sizeof g) != 0) stop("other numbers of one of many");
-    if (status == 0 && memcmp(it->pixels + entry->offset, pixels, (size_t)g.stride * g.height) != 0) stop("other pixels of one of many");
-    return status;
-}
-
-/* The first that was refused was told: as for it alone, with its index and its code point. If none was, nothing was told. */
-static void same_first(const struct many *it, size_t first, struct mkstrike_refused *due) {
-    if (first == it->len) {
-        memset(due, 7, sizeof *due);
-    } else {
-        if (due->index != MKSTRIKE_NONE || due->code != MKSTRIKE_NONE) stop("the index of one alone");
-        due->index = (uint32_t)first;
-        due->code = it->chars[first];
-    }
-    if (memcmp(due, &it->refused, sizeof *due) != 0) stop("another first refusal");
-}
-
-/* The entries lie one after the other, and the counts are theirs; each is what mkstrike_glyph gives. Of those that the font lacks only
- * some are looked at, since each call runs the font's programs. */
-static void same_many(const struct request *r, const struct many *it) {
-    size_t i, at = 0, lacked = 0, refused = 0, first = it->len;
-    struct mkstrike_refused why, of_first;
-    for (i = 0; i < it->len; i++) {
-        const struct mkstrike_placed *entry = it->glyphs + i;
-        if (entry->offset != at) stop("pixels at another offset");
-        at += (size_t)entry->glyph.stride * entry->glyph.height;
-        lacked += entry->status == MKSTRIKE_MISSING;
-        refused += entry->status > MKSTRIKE_MISSING;
-        if (entry->status != MKSTRIKE_MISSING || lacked % 64 == 1)
-            if (same_entry(r, it->chars[i], it, entry, &why) > 1 && first == it->len) {
-                first = i;
-                of_first = why;
-            }
-    }
-    same_first(it, first, &of_first);
-    if (it->drawn.bytes != at || it->drawn.missing != lacked || it->drawn.refused != refused) stop("other counts of many");
-    if (it->drawn.glyphs != it->len - lacked - refused) stop("another count of glyphs");
-}
-
-/* A refusal of all is that of each alone. */
-static void same_refusal(const struct request *r, const struct many *it) {
-    struct mkstrike_refused due;
-    struct mkstrike_glyph_info g;
-    size_t i;
-    for (i = 0; i < it->len; i += 1 + it->len / 8) {
-        uint32_t status = mkstrike_glyph(r->font, r->font_len, r->face, r->ppem, r->mode, it->chars[i], NULL, 0, &g, &due);
-        if (status <= 1 || memcmp(&due, &it->refused, sizeof due) != 0) stop("many refused for another reason");
-    }
-}
-
 /* In rising order, each once, they are the strike's, or it is refused as the first of them is. */
 static void same_strike(const struct request *r, const struct many *it) {
     size_t len, at = 0, n, i;
@@ -379,52 +297,29 @@ static void free_many(struct many *it) {
     free(it->pixels);
 }
 
-/* The characters in an order that does not rise, and up to 500 of them again. */
-static uint32_t *shuffled(const struct request *r, size_t *len) {
-    size_t again = r->chars_len < 500 ? r->chars_len : 500, i;
-    uint32_t *chars, random = 41, swap;
-    if (r->chars_len + again > 65536) again = 65536 - r->chars_len;
-    *len = r->chars_len + again;
-    chars = (uint32_t *)bytes(*len * sizeof *chars);
-    for (i = 0; i < *len; i++) chars[i] = r->chars[i % r->chars_len];
-    for (i = *len - 1; i > 0; i--) {
-        size_t j = (random = random * 1664525 + 1013904223) % (i + 1);
-        swap = chars[i];
-        chars[i] = chars[j];
-        chars[j] = swap;
-    }
-    return chars;
-}
-
 static int many(const struct request *r) {
     struct many it, packed;
-    uint32_t *chars = shuffled(r, &it.len), status;
+    struct mkstrike_refused refused;
+    uint32_t status;
     size_t i;
-    it.chars = chars;
+    it.chars = r->chars;
+    it.len = r->chars_len;
     it.packed = 0;
     packed = it;
     packed.packed = MKSTRIKE_PACKED;
     status = many_of(r, &it);
     if (many_of(r, &packed) != status) stop("another status packed");
     if (status == 0) {
-        same_many(r, &it);
-        same_many(r, &packed);
         for (i = 0; i < it.len; i++)
             same_pixels(&packed.glyphs[i].glyph, packed.pixels + packed.glyphs[i].offset, it.pixels + it.glyphs[i].offset);
-    } else {
-        same_refusal(r, &it);
+        same_strike(r, &packed);
+    } else if (make(r, NULL, 0, NULL, &refused) != status || memcmp(&refused, &it.refused, sizeof refused) != 0) {
+        stop("many refused for another reason than the strike");
     }
-    free_many(&it);
-    free_many(&packed);
-    it.packed = MKSTRIKE_PACKED;
-    it.chars = r->chars;
-    it.len = r->chars_len;
-    if (many_of(r, &it) == 0) same_strike(r, &it);
-    else if (status == 0) stop("another status in another order");
     printf("%u %lu %lu\n", (unsigned)status, status == 0 ? (unsigned long)it.drawn.glyphs : 0ul,
         status == 0 ? (unsigned long)it.drawn.refused : 0ul);
     free_many(&it);
-    free(chars);
+    free_many(&packed);
     return 0;
 }
 
@@ -460,34 +355,6 @@ static int requests(struct request *r) {
 
 /* ---- the other calls */
 
-/* Each bit that is no mode, and two of drop-out control, are refused by each call that takes a mode, whatever else is wrong, and nothing else is written. */
-static void modes(const struct request *r) {
-    struct mkstrike_refused refused, due;
-    int bit, call;
-    memset(&due, 0xFF, sizeof due);
-    due.number = MKSTRIKE_BAD_MODE;
-    due.table = due.opcode = 0;
-    due.address = 0;
-    for (bit = 2; bit < 32; bit++)
-        for (call = 0; call < 5; call++) {
-            uint32_t mode = (UINT32_C(1) << bit) | (uint32_t)(bit & 3), status;
-            if ((mode >> 8 == 1 && call != 0) || (mode >> 9 == 1 && call == 0)) continue; /* packed, and for X11 */
-            memset(&refused, 7, sizeof refused);
-            if (call == 0) status = mkstrike_make(r->font, 0, 0, 0, mode, NULL, 0, NULL, 0, NULL, 0, NULL, &refused);
-            else if (call == 1) status = mkstrike_glyph(r->font, 0, 0, 0, mode, 0xFFFFFFFF, NULL, 0, NULL, &refused);
-            else if (call == 2) status = mkstrike_glyph_by_id(r->font, 0, 0, 0, mode, 0, NULL, 0, NULL, &refused);
-            else if (call == 3) status = mkstrike_glyphs(r->font, 0, 0, 0, mode, NULL, 0, NULL, 0, NULL, 0, NULL, &refused);
-            else status = mkstrike_outline(r->font, 0, 0, 0, mode, 0, NULL, 0, NULL, 0, NULL, &refused);
-            if (status != MKSTRIKE_BAD_MODE || memcmp(&refused, &due, sizeof due) != 0) stop("a bit of a mode that is not refused");
-        }
-    for (call = 0; call < 4; call++) {
-        static const uint32_t several[] = {MKSTRIKE_DROPOUT | MKSTRIKE_DROPOUT_NEAR, MKSTRIKE_DROPOUT | MKSTRIKE_DROPOUT_FONT,
-            MKSTRIKE_DROPOUT_NEAR | MKSTRIKE_DROPOUT_FONT, MKSTRIKE_DROPOUT | MKSTRIKE_DROPOUT_NEAR | MKSTRIKE_DROPOUT_FONT};
-        if (mkstrike_glyph(r->font, 0, 0, 0, several[call], 0, NULL, 0, NULL, NULL) != MKSTRIKE_BAD_MODE)
-            stop("several bits of drop-out control");
-    }
-}
-
 /* The numbers of glyphs: each character's, as many as fit; and what is refused. */
 static void ids(const struct request *r) {
     uint32_t chars[300], far = 0x110000;
@@ -498,7 +365,8 @@ static void ids(const struct request *r) {
     for (i = 0; i < 300; i++) chars[i] = (uint32_t)(i * 37 % 300);
     if (mkstrike_glyph_ids(r->font, r->font_len, r->face, chars, 300, all, 300, &refused) != 0) stop("no numbers of glyphs");
     for (i = 0; i < 300; i++)
-        if ((all[i] == 0) != (one(r, chars[i], 0, NULL, 0, &g) == MKSTRIKE_MISSING)) stop("the number of a glyph that is not there");
+        if ((all[i] == 0) != (mkstrike_glyph(r->font, r->font_len, r->face, r->ppem, r->mode, chars[i], NULL, 0, &g, NULL) == MKSTRIKE_MISSING))
+            stop("the number of a glyph that is not there");
     for (room = 0; room < 300; room += 23) {
         memset(some, 7, sizeof some);
         if (mkstrike_glyph_ids(r->font, r->font_len, r->face, chars, 300, some, room, NULL) != 0) stop("no numbers in a small buffer");
@@ -558,36 +426,26 @@ static int characters(const struct request *r) {
     return 0;
 }
 
-/* NULL for each buffer and for each struct, whatever its count. */
-static void nulls(const struct request *r) {
-    struct mkstrike_glyph_info g;
-    struct mkstrike_drawn drawn;
-    struct mkstrike_told told;
-    size_t len = mkstrike_reason(52, NULL, 0);
-    uint32_t code = 'A', none = 0;
-    if (len != strlen("GlyphTooLarge")) stop("a name and no buffer");
-    if (mkstrike_font(NULL, 0, 0, 16, NULL, NULL) != MKSTRIKE_NOT_TRUE_TYPE) stop("NULL, mkstrike_font");
-    if (mkstrike_font(r->font, r->font_len, 0, 16, NULL, NULL) != 0) stop("NULL, mkstrike_font");
-    if (mkstrike_glyph_ids(r->font, r->font_len, 0, NULL, 0, NULL, 0, NULL) != 0) stop("NULL, mkstrike_glyph_ids");
-    if (mkstrike_glyph(r->font, r->font_len, 0, 16, 0, code, NULL, 0, &g, NULL) != 0 || g.height == 0) stop("NULL, mkstrike_glyph");
-    if (mkstrike_glyph(r->font, r->font_len, 0, 16, 0, code, NULL, 0, NULL, NULL) != 0) stop("NULL, mkstrike_glyph");
-    if (mkstrike_glyph(NULL, 0, 0, 16, 0, code, NULL, 0, NULL, NULL) != MKSTRIKE_NOT_TRUE_TYPE) stop("NULL, mkstrike_glyph");
-    if (mkstrike_glyph_by_id(r->font, r->font_len, 0, 16, 0, 0, NULL, 0, NULL, NULL) != 0) stop("NULL, mkstrike_glyph_by_id");
-    if (mkstrike_outline(r->font, r->font_len, 0, 16, 0, 0, NULL, 0, NULL, 0, NULL, NULL) != 0) stop("NULL, mkstrike_outline");
-    if (mkstrike_outline(NULL, 0, 0, 16, 0, 0, NULL, 0, NULL, 0, NULL, NULL) != MKSTRIKE_NOT_TRUE_TYPE) stop("NULL, mkstrike_outline");
-    if (mkstrike_glyphs(r->font, r->font_len, 0, 16, 0, &code, 1, NULL, 0, NULL, 0, &drawn, NULL) != 0 || drawn.bytes == 0)
-        stop("NULL, mkstrike_glyphs");
-    if (mkstrike_glyphs(r->font, r->font_len, 0, 16, 0, NULL, 0, NULL, 0, NULL, 0, NULL, NULL) != 0) stop("NULL, mkstrike_glyphs");
-    if (mkstrike_make(r->font, r->font_len, 0, 16, 0, &code, 1, "a", 1, NULL, 0, &told, NULL) != 0 || told.glyphs != 1)
-        stop("NULL, mkstrike_make");
-    if (mkstrike_make(r->font, r->font_len, 0, 16, 0, &none, 0, NULL, 0, NULL, 0, NULL, NULL) != MKSTRIKE_BAD_NAME)
-        stop("NULL, mkstrike_make");
-    if (mkstrike_make(r->font, r->font_len, 0, 16, 0, NULL, 0, "a", 1, NULL, 0, NULL, NULL) != 0) stop("NULL, mkstrike_make");
-    if (mkstrike_make(r->font, r->font_len, 0, 16, 0, NULL, 9, "a", 1, NULL, 9, &told, NULL) != 0 || told.glyphs + told.missing != 0)
-        stop("NULL and a count, mkstrike_make");
-    if (mkstrike_glyph(NULL, 9, 0, 16, 0, code, NULL, 9, NULL, NULL) != MKSTRIKE_NOT_TRUE_TYPE) stop("NULL and a count, mkstrike_glyph");
-    if (mkstrike_characters(r->font, r->font_len, 0, NULL, 9, NULL, NULL) != 0) stop("NULL and a count, mkstrike_characters");
-    if (mkstrike_faces(r->font, r->font_len, NULL, NULL) != 0) stop("NULL, mkstrike_faces");
+/* A name of a font, in buffers that are large enough, too small and none. */
+static int name(const struct request *r, uint32_t id) {
+    struct mkstrike_refused refused;
+    size_t count = 7, again, i;
+    char *text;
+    uint32_t status = mkstrike_name(r->font, r->font_len, r->face, id, NULL, 0, &count, &refused);
+    if (status != 0 && count != 7) stop("no name, and a count");
+    if (status == MKSTRIKE_MISSING) printf("missing");
+    else if (status != 0) put_refusal(&refused);
+    if (status != 0) return status != MKSTRIKE_MISSING;
+    text = (char *)bytes(count + 2);
+    memset(text, 7, count + 2);
+    if (mkstrike_name(r->font, r->font_len, r->face, id, text, count, &again, NULL) != 0 || again != count) stop("no name in a small buffer");
+    for (i = 0; i < count; i++)
+        if (text[i] != 7) stop("a part of a name");
+    if (mkstrike_name(r->font, r->font_len, r->face, id, text, count + 2, NULL, NULL) != 0) stop("no name in a large buffer");
+    if (text[count] != 0 || text[count + 1] != 7) stop("no 0 after a name, or more");
+    fwrite(text, 1, count, stdout);
+    free(text);
+    return 0;
 }
 
 static int calls(const struct request *r) {
@@ -598,8 +456,6 @@ static int calls(const struct request *r) {
         stop("another size of a struct");
     font_told(r);
     ids(r);
-    modes(r);
-    nulls(r);
     return 0;
 }
 
@@ -691,6 +547,11 @@ int main(int argc, char **argv) {
     if (argc == 3 && strcmp(mode, "characters") == 0) {
         shared = request_of(argv[2], 16, 0, 0x20, 0x20);
         return characters(&shared);
+    }
+    if (argc == 5 && strcmp(mode, "name") == 0) {
+        shared = request_of(argv[2], 16, 0, 0x20, 0x20);
+        shared.face = (uint32_t)strtoul(argv[3], NULL, 10);
+        return name(&shared, (uint32_t)strtoul(argv[4], NULL, 10));
     }
     if (argc == 3 && strcmp(mode, "threads") == 0) {
         shared = request_of(argv[2], 16, MKSTRIKE_HINTED, 0x20, 0x7E);

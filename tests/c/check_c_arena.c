@@ -2,65 +2,19 @@
  * from the others and aligned; what surrounds the block is kept; the counts are exact; nothing of an earlier block is handed out; a refusal
  * says so and changes nothing. test_library.py builds and runs it. It names the first thing that is wrong, and ends with status 1. */
 #include "arena.h"
-#include <stdint.h>
-#include <stdio.h>
-#include <stdlib.h>
-#include <string.h>
-
-struct given {
-    size_t ok;
-    void *at;
-};
-
-#ifdef __cplusplus
-extern "C" {
-#endif
-struct given rattle_alloc(size_t size, size_t align);
-struct given rattle_realloc(void *at, size_t kept, size_t size, size_t align);
-void rattle_dealloc(void *at);
-#ifdef __cplusplus
-}
-#endif
+#include "direct.h"
 
 enum { ROOM = 1 << 16, MOST = 4096, AROUND = 0xA5 };
 
 static unsigned char *room;
 
-static void look(int is_right, const char *what) {
-    if (!is_right) {
-        printf("check_c_arena: %s\n", what);
-        exit(1);
-    }
-}
-
-/* A request: whether it was given, told as 1 or 0 and nothing else, and always an address that is aligned. */
-static unsigned char *ask(size_t size, int *is_given) {
+static unsigned char *must(size_t size) {
     struct given it = rattle_alloc(size, 16);
-    look(it.ok == 0 || it.ok == 1, "an answer that is neither yes nor no");
-    look(it.at != NULL && ((uintptr_t)it.at & 15) == 0, "an address that is not aligned");
-    *is_given = it.ok == 1;
+    look(is_given(it), "a request refused that there is room for");
     return (unsigned char *)it.at;
 }
 
-static unsigned char *must(size_t size) {
-    int is_given;
-    unsigned char *at = ask(size, &is_given);
-    look(is_given, "a request refused that there is room for");
-    return at;
-}
-
-static void must_not(size_t size, const char *what) {
-    int is_given;
-    (void)ask(size, &is_given);
-    look(!is_given, what);
-}
-
-static int all_are(const unsigned char *from, size_t count, int byte) {
-    size_t i;
-    for (i = 0; i < count; i++)
-        if (from[i] != byte) return 0;
-    return 1;
-}
+static void must_not(size_t size, const char *what) { look(!is_given(rattle_alloc(size, 16)), what); }
 
 static size_t size_of(size_t n) { return (n * 37) % 200; }
 
@@ -76,11 +30,11 @@ static unsigned char *block_at(size_t at, size_t size) {
 static void fill(size_t at, size_t size) {
     static unsigned char *got[MOST];
     size_t i, n, used;
-    int is_given;
     unsigned char *block = block_at(at, size);
     for (n = 0;; n++) {
-        unsigned char *it = ask(size_of(n), &is_given);
-        if (!is_given) break;
+        struct given answer = rattle_alloc(size_of(n), 16);
+        unsigned char *it = (unsigned char *)answer.at;
+        if (!is_given(answer)) break;
         look(it >= block && it + size_of(n) <= block + size, "a piece that is not inside the block");
         memset(it, (int)(n & 127), size_of(n));
         got[n] = it;

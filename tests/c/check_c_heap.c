@@ -1,48 +1,13 @@
 /* Looks at c/heap.c by calls of its own, as the library makes them: pieces of each size at once, pieces that grow and get smaller, and
  * requests that no machine can meet, which are refused, say so, and leave what was there. test_library.py builds and runs it. It names the
  * first thing that is wrong, and ends with status 1. */
-#include <stdint.h>
-#include <stdio.h>
-#include <stdlib.h>
-#include <string.h>
-
-struct given {
-    size_t ok;
-    void *at;
-};
-
-#ifdef __cplusplus
-extern "C" {
-#endif
-struct given rattle_alloc(size_t size, size_t align);
-struct given rattle_realloc(void *at, size_t kept, size_t size, size_t align);
-void rattle_dealloc(void *at);
-#ifdef __cplusplus
-}
-#endif
+#include "direct.h"
 
 enum { PIECES = 600 };
 
-static void look(int is_right, const char *what) {
-    if (!is_right) {
-        printf("check_c_heap: %s\n", what);
-        exit(1);
-    }
-}
-
-/* What every answer is: 1 or 0 and nothing else, and an address that is aligned, also if nothing was given. */
-static unsigned char *answer(struct given it, size_t due) {
-    look(it.ok == 0 || it.ok == 1, "an answer that is neither yes nor no");
-    look(it.at != NULL && ((uintptr_t)it.at & 15) == 0, "an address that is not aligned");
-    look(it.ok == due, due ? "a request refused that there is room for" : "a huge request given");
+static unsigned char *answer(struct given it, int due) {
+    look(is_given(it) == due, due ? "a request refused that there is room for" : "a huge request given");
     return (unsigned char *)it.at;
-}
-
-static int all_are(const unsigned char *from, size_t count, int byte) {
-    size_t i;
-    for (i = 0; i < count; i++)
-        if (from[i] != byte) return 0;
-    return 1;
 }
 
 /* Pieces of many sizes at once, of which none is another's, also of no byte. */

@@ -32,6 +32,9 @@ from making.collection import Collection
 from needs import REAL, left_out, real_font, tool
 from prebuilt import TOP
 
+sys.path.append(os.path.join(TOP, "python"))
+from mkstrike import Strike  # noqa: E402
+
 HERE = os.path.dirname(__file__)
 CRATE = os.path.join(TOP, "crates/mkstrike_c")
 C = ["-O2", "-Wall", "-Wextra", "-Werror", "-I" + os.path.join(TOP, "include"), "-I" + os.path.join(TOP, "c")]
@@ -40,7 +43,7 @@ CALLER = ["-std=gnu99", "-DALONE", *C, os.path.join(TOP, "tools/fuzz_c.c"), BESI
 C99, CPP = ["cc", "-std=c99"], ["c++", "-x", "c++", "-std=c++11"]
 ARM_CC, ARM_RUN = ["aarch64-linux-gnu-gcc"], "qemu-aarch64"
 CALLS = {"mkstrike_make", "mkstrike_glyph", "mkstrike_glyph_by_id", "mkstrike_outline", "mkstrike_glyphs", "mkstrike_glyph_ids", "mkstrike_font",
-         "mkstrike_faces", "mkstrike_characters",
+         "mkstrike_faces", "mkstrike_name", "mkstrike_characters",
          "mkstrike_prepare", "mkstrike_glyph_prepared", "mkstrike_glyph_by_id_prepared", "mkstrike_glyphs_prepared", "mkstrike_reason",
          "mkstrike_advice", "mkstrike_version"}
 PROVED = {"proved_" + it for it in CALLS}  # those of the archive
@@ -138,11 +141,13 @@ class Library:
             yield path, draw.choice((0, 1, 16, 33, 1024, 1025)) if k % 10 == 0 else 16, draw.choice(MODES)
 
     def inputs(self, found, ways):
-        """Files for tools/fuzz_c.c: each font with what is asked after it, of a size, a mode and a kind of pixels, in so many ways."""
+        """Files for tools/fuzz_c.c: each font with what is asked after it, of a size, a mode and a kind of pixels, in so many ways.
+
+        From way 16 on the mode has an unknown bit."""
         draw, paths = random.Random(SEED), []
         for k, (font, way) in enumerate(itertools.product(found, ways)):
             said = bytearray(draw.randbytes(24))
-            said[4], said[5], said[6], said[7], said[22] = draw.choice((22, 14, 31, 38)), way % 8, said[6] & ~2 | way // 8 * 2, 13, 1
+            said[4], said[5], said[6], said[7], said[22] = draw.choice((22, 14, 31, 38)), way % 8 if way < 16 else 251 + way % 5, said[6] & ~2 | way // 8 * 2, 13, 1
             paths.append(self.at("input%d" % k))
             with open(paths[-1], "wb") as file:
                 file.write(font + said)
@@ -160,8 +165,7 @@ class Library:
         words = [self.at("check_c"), "strike", font, "16", mode, "61", "61"]
         whole, told = run(words), []
         answers = [(0, whole.stdout, whole.stderr), (1, b"", b"mkstrike: 90 OutOfMemory\n")]
-        answers += [(3, b"check_c: %s\n" % it, b"") for it in (b"out of memory", b"no font", b"refused the second time",
-                                                               b"a strike that is refused where there is no room")]
+        answers += [(3, b"check_c: %s\n" % it, b"") for it in (b"out of memory", b"no font", b"refused the second time")]
         while True:
             with tempfile.TemporaryFile() as mark:
                 env = {"LD_PRELOAD": library, "REFUSE_AT": str(len(told) + 1), "REFUSE_ON": str(on), "REFUSE_MARK": str(mark.fileno())}
@@ -214,13 +218,18 @@ def archive_of():
     return prebuilt.ARCHIVE
 
 
-@pytest.fixture(name="lib", scope="module")
+@pytest.fixture(name="unbuilt", scope="module")
 def library(program, tmp_path_factory):
-    """The programs, built with the library."""
+    """The library, for tests that build all that they need."""
     tool("cc")
-    made = Library(tmp_path_factory.mktemp("c"), program, archive_of())
-    made.build()
-    return made
+    return Library(tmp_path_factory.mktemp("c"), program, archive_of())
+
+
+@pytest.fixture(name="lib", scope="module")
+def programs(unbuilt):
+    """The same with the programs."""
+    unbuilt.build()
+    return unbuilt
 
 
 @pytest.mark.parametrize("name", [*REAL, "c++"])
@@ -232,15 +241,15 @@ def test_is_there(name):
         tool(name)
 
 
-def test_symbols(lib):
+def test_symbols(unbuilt):
     """The archive has these calls, needs these functions, and keeps no data that can be written."""
     tool("nm")
-    lines = run(["nm", "-g", lib.archive]).stdout.decode().splitlines()
+    lines = run(["nm", "-g", unbuilt.archive]).stdout.decode().splitlines()
     defined = {it.split()[2] for it in lines if re.match(r"[0-9a-f]+ [A-Z] ", it)}
     needed = {it.split()[1] for it in lines if re.match(r" +U ", it)}
     if not PROVED <= defined or {it for it in defined - PROVED if not it.startswith("_R")} or needed - NEEDS:
         raise Wrong("the archive defines %s and needs %s" % (sorted(defined), sorted(needed)))
-    sections = run(["size", "-A", lib.archive]).stdout.decode().split("\n")
+    sections = run(["size", "-A", unbuilt.archive]).stdout.decode().split("\n")
     state = [it for it in sections if re.match(r"\.t?(data|bss)(?!\.rel\.ro)\S* +[1-9]", it)]
     if state:
         raise Wrong("the archive has data that can be written: %s" % state[:3])
@@ -374,26 +383,76 @@ def test_characters(lib):
             raise Wrong("the characters of a damaged font: %r" % done.stderr)
 
 
-def test_null_at_symbols(lib):
-    """NULL that reaches the symbols of the shared object: each pointer is NULL, whatever is said of its elements."""
+def test_names(lib):
+    """The names of fonts, worked out by hand: which record goes first, what counts as a text, and damaged tables; and of real fonts."""
+    english, german, unicode, mac = (3, 1, 0x409), (3, 1, 0x407), (0, 3, 0), (1, 0, 0)
+
+    def wide(text):
+        return text.encode("utf-16-be")
+
+    table, path = fonts.name_table, lib.at("names.ttf")
+    long = "\uffff" * 32767  # the longest string that has whole code units
+    for number, made, due in (
+            (1, table((*mac, 1, b"m"), (*german, 1, wide("g")), (*unicode, 1, wide("u")), (*english, 1, wide("e")), (*english, 1, wide("f"))), "e"),
+            (1, table((*mac, 1, b"m"), (*german, 1, wide("g")), (*unicode, 1, wide("u")), (*unicode, 1, wide("v"))), "u"),
+            (1, table((*mac, 1, b"m"), (3, 10, 0x407, 1, wide("g")), (3, 0, 0x409, 2, wide("e"))), "g"),
+            (1, table((1, 1, 11, 1, b"j"), (2, 1, 0x409, 1, wide("i")), (*mac, 2, b"s"), (*mac, 1, b"m")), "m"),
+            (2, table((*english, 1, wide("a")), (*english, 2, wide("b")), (*english, 16, wide("c"))), "b"),
+            (16, table((*english, 1, wide("a")), (*english, 2, wide("b")), (*english, 16, wide("c"))), "c"),
+            (65535, table((*english, 65535, wide("a"))), "a"),
+            (65536 + 1, table((*english, 1, wide("a"))), None),
+            (1, table((*english, 1, wide("A\u00e9\u3042\U00010000\U0010ffff\ufffd\0z"))), "A\u00e9\u3042\U00010000\U0010ffff\ufffd\0z"),
+            (1, table((*english, 1, b"\xd8\x00")), "\ufffd"),
+            (1, table((*english, 1, b"\xd8\x00\0a\xdc\x00\xd8\x00\xd8\x01\xdc\x02")), "\ufffda\ufffd\ufffd\U00010402"),
+            (1, table((*english, 1, b"\xdb\xff\xdf\xff\xd7\xff\xe0\x00")), "\U0010ffff\ud7ff\ue000"),
+            (1, table((*english, 1, wide(long))), long),
+            (1, table((*english, 1, b"\0ab"), (*german, 1, wide("g"))), "g"),  # an odd length
+            (1, table((*english, 1, b""), (*unicode, 1, wide("u"))), "u"),
+            (1, table((*mac, 1, b"\x80"), (*mac, 1, b"\x7f\0 ")), "\x7f\0 "),
+            (1, table((*mac, 1, b"m"), (*english, 1, wide("a")))[:-1], "m"),  # the last string is cut
+            (1, table((*english, 1, wide("a")), storage=17), "\0"),  # the last byte of the record, and the first of "a"
+            (1, table((*english, 1, wide("a")), storage=19), None),
+            (1, table((*english, 1, wide("a")), storage=0xFFFF), None),
+            (1, table((*english, 1, wide("a")), count=2), None),
+            (1, table((*english, 2, wide("a")), (*english, 1, wide("b")), count=1), None),
+            (1, table((*english, 1, wide("a")), count=0), None),
+            (1, table(), None), (1, b"\0" * 5, None), (1, b"", None), (1, None, None)):
+        with open(path, "wb") as file:
+            file.write(fonts.font_of([b""], fonts.map_of([(0x41, 0)]), **({} if made is None else {"name": made})))
+        said = run([lib.at("check_c"), "name", path, "0", str(number)]).stdout
+        if said != (b"missing" if due is None else due.encode()):
+            raise Wrong("another name %d: %r, and %r is due" % (number, said[:90], due and due[:90]))
+    for font, number, due in (("DejaVuSans", 1, b"DejaVu Sans"), ("DejaVuSans", 2, b"Book"), ("DejaVuSans", 17, b"Book"),
+                              ("LiberationSans-Regular", 1, b"Liberation Sans"), ("LiberationSans-Regular", 17, b"missing")):
+        if REAL[font] in lib.real and run([lib.at("check_c"), "name", REAL[font], "0", str(number)]).stdout != due:
+            raise Wrong("another name %d of %s" % (number, font))
+    if run([lib.at("check_c"), "name", path, "1", "1"], status=1).stderr != b"mkstrike: 25 NoFace\n":
+        raise Wrong("a name of a face that is not there")
+
+
+def test_null_at_symbols(unbuilt):
+    """NULL that reaches the symbols of the shared object, whatever is said of its elements: for each pointer, and for all but the font and a name."""
     with open(os.path.join(TOP, "include/mkstrike.h"), encoding="utf-8") as file:
         calls = dict(re.findall(r"^\w+ (mkstrike_\w+)\(([^)]*)\);", file.read(), re.M))
     assert set(calls) == CALLS
-    due = {"mkstrike_reason": 13, "mkstrike_advice": 18, "mkstrike_faces": 0, "mkstrike_make": 62}  # of 52, GlyphTooLarge, how long; a name is missing
-    numbers = {"number": 52, "ppem": 16, "len": 9}
-    for name, taken in calls.items():
-        values = ["None" if "*" in it else "ctypes.c_size_t(%d)" % numbers.get(re.split("[ _]", it)[-1], 0) for it in taken.split(",")]
-        script = "import ctypes, sys; print(ctypes.CDLL(sys.argv[1]).%s(%s))" % (name, ", ".join(values))
-        if "*" in taken:
-            told = int(run([sys.executable, "-c", script, lib.linked("*.so.*")]).stdout)
-            assert told == due.get(name, 65 if name.endswith("_prepared") else 10), name
+    told = {"mkstrike_reason": 13, "mkstrike_advice": 18}  # of 52, GlyphTooLarge, how long
+    numbers = {"number": 52, "ppem": 16, "code": 0x41, "name_len": 1}
+    for given, due, otherwise in (({}, {"mkstrike_faces": 0, "mkstrike_make": 62}, 10),  # of those that refuse, a name is missing first
+                                  ({"font": repr(fonts.FIXTURE), "font_len": len(fonts.FIXTURE), "name": "b'a'"}, {"mkstrike_name": 1}, 0)):
+        for name, taken in calls.items():
+            parts = [(it, re.search(r"\w+$", it).group()) for it in taken.split(",") if "*" in taken]
+            values = [given[part] if "*" in it and part in given else "None" if "*" in it else
+                      "ctypes.c_size_t(%d)" % given.get(part, numbers.get(part, 9 if part.endswith("_len") else 0)) for it, part in parts]
+            script = "import ctypes, sys; print(ctypes.CDLL(sys.argv[1]).%s(%s))" % (name, ", ".join(values))
+            seen = int(run([sys.executable, "-c", script, unbuilt.linked("*.so.*")]).stdout)
+            assert not parts or seen == {**told, **due}.get(name, 65 if name.endswith("_prepared") else otherwise), name
 
 
 def test_inputs(lib):
     """What tools/fuzz_c.c looks at, of parts of real fonts in each mode, of whole ones, with MKSTRIKE_LONG of all that are installed, and of
     damaged ones."""
     parts = [open(lib.part(os.path.basename(it)), "rb").read() for it in lib.real] or [fonts.FIXTURE]
-    run([lib.at("caller"), *lib.inputs([fonts.FIXTURE, *parts], range(16))])
+    run([lib.at("caller"), *lib.inputs([fonts.FIXTURE, *parts], range(20))])
     for font in sorted(glob.glob("/usr/share/fonts/**/*.ttf", recursive=True)) if LONG else lib.real:
         with open(font, "rb") as file:
             run([lib.at("caller"), *lib.inputs([file.read()], (1, 13, 4))])
@@ -409,11 +468,11 @@ def test_threads(lib):
     run([lib.at("check_c"), "stack", font, "64"])
 
 
-def test_stack(lib):
+def test_stack(unbuilt):
     """The frames of the library, added up: no call takes more stack than is promised."""
     tool("objdump")
     try:
-        bounds = stack.bounds(lib.linked("*.a"), sorted(CALLS))
+        bounds = stack.bounds(unbuilt.linked("*.a"), sorted(CALLS))
     except stack.Fault as fault:
         raise Wrong("the stack has no bound: %s" % fault)
     most = max(bounds, key=bounds.get)
@@ -452,20 +511,20 @@ def test_under_valgrind(lib):
 
 
 @pytest.mark.parametrize("name", ["arena", "heap"])
-def test_direct(name, lib):
+def test_direct(name, unbuilt):
     """c/arena.c and c/heap.c by calls of their own, again under AddressSanitizer where that is there."""
-    sources, out = [os.path.join(HERE, "check_c_%s.c" % name), os.path.join(TOP, "c/%s.c" % name)], lib.at("direct")
+    sources, out = [os.path.join(HERE, "check_c_%s.c" % name), os.path.join(TOP, "c/%s.c" % name)], unbuilt.at("direct")
     run(C99 + C + sources + ["-o", out])
     run([out])
     sanitized(sources, out)
     run([out], env={**os.environ, "ASAN_OPTIONS": "allocator_may_return_null=1"})
 
 
-def test_heap_keeps_nothing(lib):
+def test_heap_keeps_nothing(unbuilt):
     """c/heap.c keeps no data that can be written, which threads would share, but for what its name says is nothing."""
     tool("nm")
-    lib.compile(C99, "c/heap.c", "heap0.o", "-O0")
-    assert set(re.findall(r" [bBdDcC] (\w+)", run(["nm", lib.at("heap0.o")]).stdout.decode())) == {"nothing"}
+    unbuilt.compile(C99, "c/heap.c", "heap0.o", "-O0")
+    assert set(re.findall(r" [bBdDcC] (\w+)", run(["nm", unbuilt.at("heap0.o")]).stdout.decode())) == {"nothing"}
 
 
 def test_heap(lib):
@@ -532,17 +591,10 @@ def test_console(lib):
     width, height = map(int, bits.split(b"\n")[1].split())
     body = bits.split(b"\n", 2)[2]
     drawn = {(x, y) for y in range(height) for x in range(width) if body[y * ((width + 7) // 8) + x // 8] >> (7 - x % 8) & 1}
-    ascent = int(re.search(rb"FONT_ASCENT (-?\d+)", text).group(1))
-    glyphs = {int(it[0]): it for it in re.findall(
-        rb"ENCODING (\d+)\nSWIDTH \S+ 0\nDWIDTH (\S+) 0\nBBX (\S+) (\S+) (\S+) (\S+)\nBITMAP\n((?:[0-9A-F]*\n)*?)ENDCHAR", text)}
-    column, due = 0, set()
-    for character in line:
-        _, advance, _, high, left, bottom, rows = glyphs[ord(character)]
-        for i, row in enumerate(rows.split()):
-            for j in range(4 * len(row)):
-                if int(row, 16) >> (4 * len(row) - 1 - j) & 1:
-                    due.add((column + int(left) + j, ascent - int(bottom) - int(high) + i))
-        column += int(advance)
+    strike, column, due = Strike(text), 0, set()
+    for it in map(strike.get, line):
+        due |= {(column + it.left + x, strike.ascent - it.top + y) for y, row in enumerate(it) for x, byte in enumerate(row) if byte}
+        column += it.advance
     if drawn != {(x, y) for x, y in due if 0 <= x < width and 0 <= y < height} or width != column:
         raise Wrong("examples/console.c: other pixels")
 
@@ -552,17 +604,17 @@ def rows_only(out):
     return b"".join(it + b"\n" for it in out.split(b"\n") if re.fullmatch(rb"[#.]+", it))
 
 
-def test_commands_of_examples(lib):
+def test_commands_of_examples(unbuilt):
     """Each example, built and run in a checkout by the command that it shows."""
-    font, folder = lib.part("DejaVuSans.ttf", range(0x20, 0x7F)), lib.at("checkout")
-    pictured = b"".join(lib.picture(font, 16, c) for c in "Aging")
+    font, folder = unbuilt.part("DejaVuSans.ttf", range(0x20, 0x7F)), unbuilt.at("checkout")
+    pictured = b"".join(unbuilt.picture(font, 16, c) for c in "Aging")
     for name in ("include", "examples", "c"):
         shutil.copytree(os.path.join(TOP, name), os.path.join(folder, name))
     os.makedirs(os.path.join(folder, "dist"))
-    shutil.copyfile(lib.archive, os.path.join(folder, "dist/libmkstrike_c.a"))
+    shutil.copyfile(unbuilt.archive, os.path.join(folder, "dist/libmkstrike_c.a"))
     for line in ("cc -O2 -fPIC -Iinclude -c c/calls.c c/heap.c", "cp dist/libmkstrike_c.a libmkstrike.a", "ar rs libmkstrike.a calls.o heap.o"):
         run(line.split(), cwd=folder)
-    run([os.path.join(TOP, "packaging/link"), folder, lib.archive])
+    run([os.path.join(TOP, "packaging/link"), folder, unbuilt.archive])
     soname, = (os.path.basename(it) for it in glob.glob(os.path.join(folder, "*.so.*")))
     needed = re.findall(rb"NEEDED +(\S+)", run(["objdump", "-p", os.path.join(folder, soname)]).stdout)
     if needed != [b"libc.so.6"]:
@@ -570,7 +622,7 @@ def test_commands_of_examples(lib):
     shown = {it.split()[-1] for it in run(["nm", "-D", "--defined-only", os.path.join(folder, soname)]).stdout.decode().splitlines()}
     if shown != CALLS:
         raise Wrong("the shared object shows %s" % sorted(shown ^ CALLS))
-    env = {**os.environ, "GOCACHE": lib.at("go")}
+    env = {**os.environ, "GOCACHE": unbuilt.at("go")}
     printed, absent = compile_lines.tried(folder, font, env, True)
     for name, text in printed.items():
         if name.startswith("glyphs") and rows_only(text) != pictured:
@@ -594,13 +646,13 @@ def test_boxes(lib):
         raise Wrong("examples/console.c: a line of %d columns, and %d without the refused character" % (wide, narrow))
 
 
-def test_bare(lib):
+def test_bare(unbuilt):
     """A program without a C library, on x86-64 Linux."""
     if (os.uname().sysname, os.uname().machine) != ("Linux", "x86_64"):
         pytest.skip("not x86-64 Linux")
-    font = lib.part("DejaVuSans.ttf", range(0x20, 0x7F))
+    font = unbuilt.part("DejaVuSans.ttf", range(0x20, 0x7F))
     bare = ["cc", "-std=gnu99", "-O2", "-Wall", "-Wextra", "-Werror", "-ffreestanding", "-fno-stack-protector", "-nostdlib", "-static",
             "-DMKSTRIKE_BARE", '-DFONT="%s"' % font] + C[4:]
-    run(bare + [os.path.join(HERE, "check_c_bare.c"), BESIDE[0], os.path.join(TOP, "c/arena.c"), lib.archive, "-lgcc", "-o", lib.at("bare")])
-    if run([lib.at("bare")]).stdout != lib.make(font, 16, HINTED, 0x20, 0x7E)[1]:
+    run(bare + [os.path.join(HERE, "check_c_bare.c"), BESIDE[0], os.path.join(TOP, "c/arena.c"), unbuilt.archive, "-lgcc", "-o", unbuilt.at("bare")])
+    if run([unbuilt.at("bare")]).stdout != unbuilt.make(font, 16, HINTED, 0x20, 0x7E)[1]:
         raise Wrong("another strike without a C library")

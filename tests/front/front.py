@@ -4,6 +4,7 @@ Mistakes of users (front_mistakes.py), each with the line that leads out; fonts 
 a full disk and with closed streams; which characters are missing; help and version; that the help and the man pages are what
 tools/make_pages writes; files of another kind; and that VERSION is what others say.
 """
+import fcntl
 import glob
 import os
 import re
@@ -11,6 +12,7 @@ import resource
 import shutil
 import signal
 import subprocess
+import termios
 import time
 
 import front_mistakes
@@ -204,7 +206,8 @@ def signals(it):
                                preexec_fn=as_started)
         ran.stdin.write(b"\0\1\0\0")
         ran.stdin.flush()
-        time.sleep(0.05)
+        while any(fcntl.ioctl(ran.stdin, termios.FIONREAD, bytes(4))) and ran.poll() is None:  # until it reads
+            time.sleep(0.01)
         ran.send_signal(end)
         it.equal("signal %d" % end, (ran.wait(timeout=20), it.read("old.bdf")), (-end, b"old"))
         ran.stdin.close()
@@ -245,11 +248,11 @@ def help_and_version(it):
     texts = {name.lower(): re.sub(r"\\(.)", r"\1", text).encode() for name, text in found}
     asked = [("overview", [word]) for word in ("--help", "-h", "help")] + [("version", [word]) for word in ("--version", "-V")]
     for name in set(texts) - {"overview", "version"}:
-        asked += [(name, ["help", name]), (name, ["--help", name])] + [(name, [name, word]) for word in ("--help", "-h") if name != "explain"]
+        asked += [(name, ["help", name]), (name, ["--help", name])] + [(name, [name, word]) for word in ("--help", "-h") if name not in ("explain", "sets")]
     for name, words in asked:
         it.equal(" ".join(words), it.run(words), (0, texts[name], ""))
     it.equal("help of what is no command", it.run(["help", "nothing"])[0], 2)
-    it.check("the commands", "" if len(texts) == 8 else sorted(texts))
+    it.check("the commands and the sets", "" if len(texts) == 9 else sorted(texts))
 
 
 def pages_as_written(it):

@@ -123,7 +123,7 @@ ROWS = [
     ("huge property", ["--property", "A=" + "x" * 40000], SANS, 1, "mkstrike: 63 BadProperty 1", "give another name or text"),
     ("umlaut property", ["--property", "A=\xe4"], SANS, 1, "mkstrike: 63 BadProperty 1", "give another name or text"),
     # what the front takes
-    ("--help", ["--help"], b"", 0, "", NONE), ("-h", ["-h"], b"", 0, "", NONE), ("help make", ["help", "make"], b"", 0, "", NONE),
+    ("--help", ["--help"], b"", 0, "", NONE), ("-h", ["-h"], b"", 0, "", NONE), ("help make", ["help", "make"], b"", 0, "", NONE), ("help sets", ["help", "sets"], b"", 0, "", NONE),
     ("--version", ["--version"], b"", 0, "", NONE), ("-V", ["-V"], b"", 0, "", NONE), ("make --help", ["--help"], b"", 0, "", NONE),
     # wishes that lead elsewhere
     ("font by its family name", ["DejaVu Sans"], b"", 1, "mkstrike: can't open the font 'DejaVu Sans': there is no such file", "'fc-list' shows the files"),
@@ -146,7 +146,9 @@ ROWS = [
     ("--all beside --set", ["make", "--ppem", "16", "--all", "--set", "ascii"], SANS, 2, USAGE, "--chars and --all can't be given together"),
     ("--chars ascii", "ascii", SANS, 1, "mkstrike: 61 BadChars", "--set ascii takes that set"),
     ("--chars latin1", "latin1", SANS, 1, "mkstrike: 61 BadChars", "--set latin1 takes that set"),
-    ("--set of no set", ["make", "--ppem", "16", "--set", "klingon"], SANS, 1, "mkstrike: 61 BadChars", "'klingon' in the list is no"),
+    ("--set of no set", ["make", "--ppem", "16", "--set", "klingon"], SANS, 1, "mkstrike: 61 BadChars", "no set of characters has the name 'klingon'; 'mkstrike help sets' lists the sets"),
+    ("--set with a wrong letter", ["make", "--ppem", "16", "--set=box,Latn-1"], SANS, 1, BAD_LIST, "has the name 'Latn-1'; did you mean 'latin-1'?"),
+    ("--set of a wrong number", ["make", "--ppem", "16", "--set", "box,110000"], SANS, 1, BAD_LIST, "'110000' in the list is above 10FFFF"),
     ("--set and --chars", ["--set", "ascii"], SANS, 2, USAGE, "--chars is given twice"),
     ("--set for show", ["show", "--ppem", "16", "--set", "ascii"], SANS, 2, USAGE, "unknown option '--set'"),
     ("--encoding", ["make", "--ppem", "16", "--encoding", "latin1"], SANS, 2, USAGE, "--set takes sets of characters by name"),

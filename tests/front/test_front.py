@@ -25,7 +25,7 @@ PLANTED = [
     ("explained", '[ "$1" = explain ] && exit 0; "$REAL" "$@"'),
     ("help_and", '"$REAL" "$@" | sed s/--dropout/--drop-out/'),
     ("pages_as", "docs/mkstrike-show.1", ".\\\" help: the glyph of a character, one", ".\\\" help: a glyph of a character, one"),
-    ("pages_as", "docs/mkstrike-dump.1", "A file that is not a collection has only face 0.", "Others have face 0 alone."),
+    ("pages_as", "docs/mkstrike-dump.1", "the first by default.", "the first one without it."),
     ("names_of", "VERSION", "0.", "1."),
     ("files_of", "docs/REFUSALS.md", "looks like a PDF |", "looks like a text |"),
 ]
@@ -46,21 +46,21 @@ def test_font_is_there():
 
 @pytest.mark.parametrize("number", range(len(PLANTED)))
 def test_planted(number, program, tmp_path):
-    """A planted fault is found, in a copy of what is looked at."""
+    """A planted fault is found, in a copy of what is looked at if it is one of a file."""
     (name, *fault), top = PLANTED[number], tmp_path / "top"
-    for part in ("tools", "docs", "include", "dist", "crates/fx_front/src", "crates/fx_words/src", "python/mkstrike"):
-        shutil.copytree(os.path.join(TOP, part), top / part)
-    for part in ("VERSION", "CHANGELOG.md"):
-        shutil.copy(os.path.join(TOP, part), top)
     if len(fault) == 3:
+        for part in ("tools", "docs", "include", "dist", "crates/fx_front/src", "crates/fx_words/src", "python/mkstrike"):
+            shutil.copytree(os.path.join(TOP, part), top / part)
+        for part in ("VERSION", "CHANGELOG.md"):
+            shutil.copy(os.path.join(TOP, part), top)
         path, text = top / fault[0], (top / fault[0]).read_text(encoding="utf-8")
         assert text.count(fault[1]) == 1
         path.write_text(text.replace(fault[1], fault[2]), encoding="utf-8")
     else:
-        (top / "program").write_text("#!/bin/bash\nexec 3>&1\nREAL=%s\n%s\n" % (program, fault[0]))
-        (top / "program").chmod(0o755)
+        (tmp_path / "program").write_text("#!/bin/bash\nexec 3>&1\nREAL=%s\n%s\n" % (program, fault[0]))
+        (tmp_path / "program").chmod(0o755)
     (tmp_path / "folder").mkdir()
-    it = Check(program if len(fault) == 3 else str(top / "program"), str(tmp_path / "folder"), str(top))
+    it = Check(program if len(fault) == 3 else str(tmp_path / "program"), str(tmp_path / "folder"), str(top if len(fault) == 3 else TOP))
     for check in CHECKS:
         if name in check.__name__:
             try:

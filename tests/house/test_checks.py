@@ -2,9 +2,9 @@
 
 A check that finds faults but ends with 0, or compares too little, passes everything from then on, and nobody sees it. TRIALS has for each
 check at least one thing that is wrong: a program that turns a digit of a row, loses the last byte, ends with status 1, sleeps or tells
-another number; a tool for the suite that answers nothing, or otherwise; a copy of this repository in which one thing is other. A trial
-also says a word that must be in what the check prints, so that it has ended for that fault and no other. Each check that the gate names
-(tools/run_checks --list) must have a trial, and each that has one must be in the gate.
+another number; or a copy of this repository in which one thing is other. A trial also says a word that must be in what the check prints, so
+that it has ended for that fault and no other. Each check that the gate names (tools/run_checks --list) must have a trial, and each that has
+one must be in the gate. A trial runs the part of a check that finds its fault, since some checks take minutes.
 """
 import contextlib
 import os
@@ -41,26 +41,6 @@ PROGRAMS = {
     "sleeps": "time.sleep(600)",
     "another number": r"""told = re.sub(rb"\d(?=\n$)", lambda it: b"%d" % (int(it.group()) ^ 1), told)""",
 }
-# A tool of the suite that changes what the reference answers, or answers nothing.
-TOOL = """#!/usr/bin/env python3
-import json, os, sys
-sys.path.insert(0, SUITE)
-from reference.answer import answer
-for line in sys.stdin:
-    request = json.loads(line)
-    with open(request["font"], "rb") as font:
-        found = answer(font.read(), request)
-    CHANGE
-    print(json.dumps({"id": request["id"], **found}), flush=True)
-"""
-TOOLS = {
-    "nothing": 'found = {"unsupported": "this"}',
-    "another address": 'found.get("refusal", {})["address"] = found.get("refusal", {}).get("address", 0) + 1',
-    "no address": 'found.get("refusal", {}).pop("address", 0)',
-    "another pixel": 'found["bits"] = {"box": [1, 1, 0, 0], "rows": ["80"]} if "bits" in found else None',
-    "no pixels": 'found.pop("bits", None)',
-}
-
 # A loop without a label, and room that nobody listed: faults of the first rule of rules.py, and of one of forms.py.
 LOOP = "//! Loops.\n\n/// A loop.\nfn endless() {\n    // It goes on.\n    loop {}\n}\n"
 ROOM = "//! Room.\n\n/// Room.\nfn room() -> Vec<u8> {\n    vec![0; 9]\n}\n"
@@ -80,7 +60,7 @@ OF_DIST = {"tools/check_dist", "tests/c", "tests/python", "tests/web", "tools/fu
 class Trial:
     """A check, what is wrong, a word of what it must print, its command, and what is changed in a copy of the repository.
 
-    In a command PROGRAM is the right program and WRONG the wrong one, or the wrong tool. A change is a path, what is replaced there, and by
+    In a command PROGRAM is the right program and WRONG the wrong one. A change is a path, what is replaced there, and by
     what; where nothing is replaced the text is put at the end, or is a new file."""
 
     def __init__(self, check, wrong, word, command, *changes):
@@ -90,7 +70,7 @@ class Trial:
 FAILED = r"[1-9]\d* failed"
 TRIALS = [
     Trial("tests/house", "a fault of the first rule", FAILED, "pytest tests/house/test_rules.py -k loops_labelled", (NEW, "", LOOP)),
-    Trial("tests/house", "bits of the mode exchanged", r"MKSTRIKE_DROPOUT_NEAR is 8", "pytest tests/house/test_rules.py -k test_rule",
+    Trial("tests/house", "bits of the mode exchanged", r"MKSTRIKE_DROPOUT_NEAR is 8", "pytest tests/house/test_rules.py -k 'header and not planted'",
           ("include/mkstrike.h", "NEAR UINT32_C(0x004)", "NEAR UINT32_C(0x008)")),
     Trial("tests/house", "a rule that finds nothing", r"1 failed", "pytest tests/house/test_rules.py -k 'planted and loops'",
           ("tests/house/rules.py", "        if not label:", "        if False:")),
@@ -99,20 +79,20 @@ TRIALS = [
           ("tests/house/forms.py", "(OutOfMemory|AllocError|AllocFailed)", "(Nothing)")),
     Trial("tests/house", "a failure is not told", FAILED, "pytest tests/house/test_run_checks.py -k told",
           ("tools/run_checks", "LEFT_OUT if all_left else FAILED if status else PASSED", "PASSED")),
-    Trial("tests/house", "a stand-in that skips nothing", FAILED, "pytest tests/house/test_run_checks.py -k stand_in",
+    Trial("tests/house", "a stand-in that skips nothing", FAILED, "pytest tests/house/test_run_checks.py -k 'stand_in and out'",
           ("tests/lib/without_pytest/pytest.py", 'how, said = "skipped", ', 'how, said = "passed", ')),
     Trial("tests/house/test_documents.py -k 'not planted'", "a digit of a row", FAILED, "pytest tests/house/test_documents.py -k show"),
     Trial("tests/house/test_documents.py -k 'not planted'", "status 1", FAILED, "pytest tests/house/test_documents.py -k show"),
-    Trial("tests/house/test_documents.py -k planted", "outputs are not compared", FAILED, "pytest tests/house/test_documents.py -k planted",
+    Trial("tests/house/test_documents.py -k planted", "outputs are not compared", FAILED, "pytest tests/house/test_documents.py -k planted[1]",
           ("tests/house/documents.py", "        return shown == printed", "        return True")),
     Trial("tools/check_dist --sources", "another byte", r"is not the file that dist/manifest names", "tools/check_dist --sources",
           ("dist/mkstrike", "", "x")),
     Trial("tools/check_dist", "another program", r"are of the same sources, and differ", "tools/check_dist --program WRONG"),
-    Trial("tests/program", "a digit of a row", FAILED, "pytest tests/program -k names"),
-    Trial("tests/program", "the last byte lost", FAILED, "pytest tests/program -k names"),
-    Trial("tests/program", "status 1", FAILED, "pytest tests/program -k names"),
-    Trial("tests/program", "another number", FAILED, "pytest tests/program -k names"),
-    Trial("tests/program", "sleeps", r"no end within 60 seconds", "pytest tests/program -k moved"),
+    Trial("tests/program", "a digit of a row", FAILED, "pytest tests/program/test_input.py -k names"),
+    Trial("tests/program", "the last byte lost", FAILED, "pytest tests/program/test_input.py -k names"),
+    Trial("tests/program", "status 1", FAILED, "pytest tests/program/test_input.py -k names"),
+    Trial("tests/program", "another number", FAILED, "pytest tests/program/test_input.py -k names"),
+    Trial("tests/program", "sleeps", r"no end within 3 seconds", "env MKSTRIKE_PATIENCE=3 pytest tests/program/test_time.py -k programs_that_run_once"),
     Trial("suite/make --check --reference", "an answer of cases.jsonl", r"differs: cases.jsonl", "suite/make --check --reference --only stack",
           ("suite/cases.jsonl", '"id":"stack/dup-0",', '"id":"stack/dup-00",')),
     Trial("suite/wrong_readings.py --cover", "a case that falls under no reading", r"1 fall under no reading",
@@ -120,29 +100,25 @@ TRIALS = [
     Trial("suite/wrong_readings.py --cover", "a reference that breaks down counts", r"although the reference broke down",
           "suite/wrong_readings.py --cover --only tables",
           ("suite/wrong_readings.py", "        answer.forget()\n        return False", "        answer.forget()\n        return True")),
-    Trial("suite/check_runner", "paths off by one pass", r"[1-9]\d* wrong", "suite/check_runner",
+    Trial("suite/check_runner", "paths off by one pass", r"[1-9]\d* wrong", "suite/check_runner --only 'paths off'",
           ("suite/paths.py", "NEAR = 1 ", "NEAR = 2 ")),
     Trial("tools/third_party --check", "another notice", r"not as the kit has it", "tools/third_party --check",
           ("THIRD-PARTY.md", "Danny Guo", "Danny")),
-    Trial("suite/run --every", "nothing", r" 36 wrong", "suite/run --every --only stack --with WRONG"),
-    Trial("suite/run --every", "another address", r"[1-9]\d* wrong", "suite/run --every --only halts/pop --with WRONG"),
-    Trial("suite/run --every", "no address", r"[1-9]\d* wrong", "suite/run --every --only halts/pop --with WRONG"),
-    Trial("suite/run --every", "another pixel", r"[1-9]\d* wrong", "suite/run --every --only stack --with WRONG"),
-    Trial("suite/run --every", "no pixels", r"[1-9]\d* wrong", "suite/run --every --only scan/box --with WRONG"),
-    Trial("tests/front -k 'not planted'", "status 1", FAILED, "pytest tests/front -k 'mistakes and not planted'"),
-    Trial("tests/front -k planted", "failures are not kept", FAILED, "pytest tests/front -k planted",
+    Trial("suite/run --every", "a digit of a row", r"[1-9]\d* wrong", "suite/run --every --only scan/box-0 --with suite/adapters/mkstrike"),
+    Trial("tests/front -k 'not planted'", "status 1", FAILED, "pytest tests/front -k 'fonts_by and not planted'"),
+    Trial("tests/front -k planted", "failures are not kept", FAILED, "pytest tests/front -k planted[17]",
           ("tests/front/front.py", 'self.wrong += ["%s: %s" % (what, wrong)] if wrong else []', "self.wrong += []")),
     Trial("tests/program/test_memory.py", "a program that does nothing", FAILED, "env MKSTRIKE_PROGRAM=/bin/true pytest tests/program/test_memory.py"),
     Trial("tests/program/test_work.py", "a program that does nothing", FAILED, "env MKSTRIKE_PROGRAM=/bin/true pytest tests/program/test_work.py -k memory"),
-    Trial("tests/program/test_work.py", "another cost", r"and 1000000 are due", "pytest tests/program/test_work.py -k costs",
+    Trial("tests/program/test_work.py", "another cost", r"and 1000000 are due", "pytest tests/program/test_work.py -k costs[9]",
           ("tests/program/counted_work.txt", re.compile(rb"\d+(?= \d+ branches)"), "1000000")),
-    Trial("tests/c", "a digit of a row", FAILED, "pytest tests/c -k damaged"),
+    Trial("tests/c", "a digit of a row", FAILED, "pytest tests/c -k bare"),
     Trial("tests/c", "NULL with its count", FAILED, "pytest tests/c -k null", ("c/calls.c", "it != NULL ? it##_len : 0", "it##_len")),
-    Trial("tests/c", "an arena without large pieces", FAILED, "pytest tests/c -k direct", ("c/arena.c", "SIZES = 40", "SIZES = 24")),
+    Trial("tests/c", "an arena without large pieces", FAILED, "pytest tests/c -k direct[arena]", ("c/arena.c", "SIZES = 40", "SIZES = 24")),
     Trial("tests/python", "another method", r"1 failed", "env MKSTRIKE_TESTS=what_a_strike_says pytest tests/python",
           ("python/mkstrike/glyph.py", "return self.bottom + self.height", "return self.bottom")),
     Trial("tests/packages", "another file each time", FAILED, "pytest tests/packages -k again",
-          ("packaging/build", "# each package has the same time in all, however long this takes", "date +%N >\"$root/usr/share/doc/$1/now\"")),
+          ("packaging/build", "deb mkstrike amd64 dist/mkstrike\n", "date +%N >\"$tree/now\"\ndeb mkstrike amd64 dist/mkstrike\nexit\n")),
     Trial("tests/web -k 'not planted'", "another caption", FAILED, "env MKSTRIKE_MODULES=dist pytest tests/web -k controls",
           ("dist/mkstrike.html", "pixels differ", "pixels vary")),
     Trial("tests/web -k planted", "a fault that is none", FAILED, "env MKSTRIKE_MODULES=dist pytest tests/web -k 'planted and unlink'",
@@ -219,14 +195,8 @@ def change(source, target, old, new):
 
 
 def wrong_one(trial, folder, program):
-    """The path of the wrong program, or of the wrong tool of the suite."""
-    path = os.path.join(folder, "wrong")
-    if trial.wrong in PROGRAMS:
-        text = WRAPPER.replace("PROGRAM", repr(program)).replace("CHANGE", PROGRAMS[trial.wrong])
-    elif trial.wrong in TOOLS:
-        text = TOOL.replace("SUITE", repr(os.path.join(TOP, "suite"))).replace("CHANGE", TOOLS[trial.wrong])
-    else:
-        text = WRAPPER.replace("PROGRAM", repr(program)).replace("CHANGE", "pass")
+    """The path of the wrong program."""
+    path, text = os.path.join(folder, "wrong"), WRAPPER.replace("PROGRAM", repr(program)).replace("CHANGE", PROGRAMS.get(trial.wrong, "pass"))
     with open(path, "w", encoding="utf-8") as file:
         file.write(text)
     os.chmod(path, 0o755)

@@ -105,7 +105,8 @@ def test_failed():
 '''
 
 
-@pytest.mark.parametrize("words", [[], ["-k", "number and not 1"], ["-k", "2"], ["-k", "out"], ["-k", "nothing"]])
+@pytest.mark.parametrize("words", [[], ["-k", "number and not 1"], ["-k", "2"], ["-k", "out"], ["-k", "nothing"]],
+                         ids=["all", "not", "two", "out", "nothing"])
 def test_stand_in(words, tmp_path):
     """The stand-in counts made tests as pytest does, with the same status."""
     (tmp_path / "test_made.py").write_text(MADE_TESTS)

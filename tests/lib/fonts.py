@@ -1,6 +1,7 @@
 """Makes fonts for tools and tests: a small fixture, parts of real fonts, and fonts written from nothing."""
 import struct
 
+from making import charmaps
 from reference.charmap import CharMap
 from reference.fontfile import FOUR, MORE, OFFSETS, PROGRAM, SCALE, TWO, WORDS, Font
 
@@ -27,11 +28,7 @@ RING, ARC = FIXTURE[324:359], FIXTURE[360:381]  # its glyphs 2 and 3
 
 def tables_of(font):
     """The tables of a font, by tag, in the directory's order."""
-    found = {}
-    for k in range(struct.unpack_from(">H", font, 4)[0]):
-        tag, _, at, length = struct.unpack_from(">4sLLL", font, 12 + 16 * k)
-        found.setdefault(tag.decode("latin-1"), font[at:at + length])
-    return found
+    return Font.directory(font, 0)
 
 
 def assemble(tables):
@@ -68,21 +65,21 @@ def patched(font, at, data):
     return font[:at] + data + font[at + len(data):]
 
 
-def map_of(pairs):
-    """A map of format 4, of pairs (code, glyph)."""
+def runs_of(pairs):
+    """The runs of pairs (code, glyph) in which both rise by one: the first code, the last, and the first glyph."""
     runs = []
     for code, glyph in sorted(pairs):
-        if runs and code == runs[-1][1] + 1 and glyph - code == runs[-1][2]:
+        if runs and code == runs[-1][1] + 1 and glyph - code == runs[-1][2] - runs[-1][0]:
             runs[-1][1] = code
         else:
-            runs.append([code, code, glyph - code])
-    if not runs or runs[-1][1] != 0xFFFF:
-        runs.append([0xFFFF, 0xFFFF, 1])
-    n = len(runs)
-    out = struct.pack(">HHHHLHHHHHHH", 0, 1, 3, 1, 12, 4, 16 + 8 * n, 0, 2 * n, 0, 0, 0)
-    out += b"".join(struct.pack(">H", high) for _, high, _ in runs) + bytes(2)
-    out += b"".join(struct.pack(">H", low) for low, _, _ in runs)
-    return out + b"".join(struct.pack(">H", delta & 0xFFFF) for _, _, delta in runs) + bytes(2 * n)
+            runs.append([code, code, glyph])
+    return runs
+
+
+def map_of(pairs):
+    """A map of format 4, of pairs (code, glyph)."""
+    rows = [(first, last, glyph - first, 0) for first, last, glyph in runs_of(pairs)]
+    return charmaps.table((3, 1, charmaps.segments(rows + [charmaps.LAST] * (not rows or rows[-1][1] != 0xFFFF))))
 
 
 def map_to_one(glyph):
@@ -92,14 +89,7 @@ def map_to_one(glyph):
 
 def wide_map_of(pairs):
     """A map of format 12, of pairs (code, glyph)."""
-    groups = []
-    for code, glyph in sorted(pairs):
-        if groups and code == groups[-1][1] + 1 and glyph - code == groups[-1][2] - groups[-1][0]:
-            groups[-1][1] = code
-        else:
-            groups.append([code, code, glyph])
-    out = struct.pack(">HHHHLHHLLL", 0, 1, 3, 10, 12, 12, 0, 16 + 12 * len(groups), 0, len(groups))
-    return out + b"".join(struct.pack(">LLL", *group) for group in groups)
+    return charmaps.table((3, 10, charmaps.groups(runs_of(pairs))))
 
 
 def simple(contours, program=b""):
@@ -137,6 +127,16 @@ def composite(parts, program=b""):
     return out + bytes(len(out) % 2)
 
 
+def head_of(upem, long=True):
+    """`head`: the em square and the form of `loca`."""
+    return struct.pack(">LLLLHH", 0x10000, 0, 0, 0x5F0F3CF5, 0, upem) + bytes(30) + struct.pack(">hh", int(long), 0)
+
+
+def hhea_of(ascender, descender, pairs):
+    """`hhea`: the heights and the number of pairs in `hmtx`."""
+    return struct.pack(">Lhh", 0x10000, ascender, descender) + bytes(26) + struct.pack(">H", pairs)
+
+
 def font_of(glyphs, cmap, upem=1000, twilight=0, storage=0, functions=0, stack=0, metrics=None, **programs):
     """A font of these glyphs, each its bytes; glyph 0 is the first. `programs` are fpgm, prep and cvt.
 
@@ -146,16 +146,24 @@ def font_of(glyphs, cmap, upem=1000, twilight=0, storage=0, functions=0, stack=0
         loca += struct.pack(">L", at)
         at += len(glyph)
     loca += struct.pack(">L", at)
-    head = struct.pack(">LLLLHH", 0x10000, 0, 0, 0x5F0F3CF5, 0, upem) + bytes(30) + struct.pack(">hh", 1, 0)
     maxp = struct.pack(">LHHHHHHHHHHHHHH", 0x10000, len(glyphs), 0, 0, 0, 0, 2, twilight, storage, functions, 0, stack, 0, 0, 0)
-    hhea = struct.pack(">Lhh", 0x10000, 800, -200) + bytes(26) + struct.pack(">H", len(metrics) if metrics else 1)
+    hhea = hhea_of(800, -200, len(metrics) if metrics else 1)
     hmtx = struct.pack(">Hh", upem & 0x7FFF, 0) + bytes(2 * (len(glyphs) - 1))
     if metrics:
         hmtx = b"".join(struct.pack(">Hh", *pair) for pair in metrics)
-    tables = {"cmap": cmap, "glyf": b"".join(glyphs), "head": head, "hhea": hhea, "hmtx": hmtx, "loca": loca, "maxp": maxp}
+    tables = {"cmap": cmap, "glyf": b"".join(glyphs), "head": head_of(upem), "hhea": hhea, "hmtx": hmtx, "loca": loca, "maxp": maxp}
     for tag, data in programs.items():
         tables[tag.ljust(4)] = data
     return assemble(tables)
+
+
+def name_table(*records, count=None, storage=None):
+    """A table `name`: records of a platform, an encoding, a language, a number and bytes; with another count, or another storageOffset."""
+    texts = b"".join(it[-1] for it in records)
+    ends = [sum(len(it[-1]) for it in records[:k]) for k in range(len(records))]
+    header = 0, len(records) if count is None else count, 6 + 12 * len(records) if storage is None else storage
+    return struct.pack(">HHH", *header) + b"".join(
+        struct.pack(">HHHHHH", *it[:4], len(it[-1]), at) for it, at in zip(records, ends)) + texts
 
 
 def components_at(glyph):

@@ -262,10 +262,4 @@ def comb(points, code=None, after=None):
 
 def list_of(codes):
     """A list of characters for the command line: ranges of code points."""
-    runs = []
-    for code in sorted(codes):
-        if runs and code == runs[-1][1] + 1:
-            runs[-1][1] = code
-        else:
-            runs.append([code, code])
-    return ",".join("%x" % low if low == high else "%x-%x" % (low, high) for low, high in runs)
+    return ",".join("%x" % low if low == high else "%x-%x" % (low, high) for low, high, _ in fonts.runs_of((it, it) for it in codes))

@@ -10,7 +10,7 @@ import subprocess
 import tempfile
 import threading
 
-SECONDS = 60
+SECONDS = int(os.environ.get("MKSTRIKE_PATIENCE", 60))  # that a run may take
 KIB = 1024
 
 

@@ -1,15 +1,13 @@
-"""Cases of the program: the option of drop-out control, its limits and its time. Which pixels it sets the suite says."""
+"""Cases of the program: drop-out control, its limits and its time. Which pixels it sets the suite says."""
 import math
 
 import due
 import fonts
 from cases import cases
-from due import Counted, listed, usage
+from due import Counted
 from made import Empty, Font, Simple, list_of, square
 from runs import Run
 from strikes import A, B
-
-PPEM = 16
 
 
 def box(x0, y0, x1, y1):
@@ -39,33 +37,6 @@ def unmoved(glyphs, codes, upem=1024):
 def asked(ppem, codes, hinted=True, more="--dropout"):
     """The words of a strike with drop-out control."""
     return "make --ppem %d --chars %s %s%s" % (ppem, list_of(codes), more, "" if hinted else " --unhinted")
-
-
-# ---- the option ----
-
-def words_with_dropout():
-    """Where the option may be, and where not."""
-    font = Font([Empty(), Simple([(0, 0, 1000, 10)])], {A: 1})
-    data, made, plain = font.data(), font.make([A], PPEM, closed=True), font.make([A], PPEM)
-    assert made.out != plain.out
-    for words, given, answer in (
-            ("make --ppem 16 --chars 41 --dropout", data, made), ("make --dropout --chars 41 --ppem 16", data, made),
-            ("make --ppem 16 --chars 41", data, plain),
-            ("show --dropout --ppem 16 --char 41", data, font.show(A, PPEM, closed=True)),
-            ("show --ppem 16 --char 41 --dropout", data, listed(["#" * 16])), ("show --ppem 16 --char 41", data, listed(["empty"])),
-            ("make --ppem 16 --chars 41 --dropout --hex", data.hex().encode(), made),
-            ("", b"make --ppem 16 --chars 41 --dropout\n" + data, made),
-            ("show --ppem 16 --char 42 --dropout", data, listed(["missing"])),
-            ("make --ppem 16 --chars 41 --dropout=left", data, made), ("make --ppem 16 --chars 41 --dropout=near", data, made),
-            ("make --ppem 16 --chars 41 --dropout --dropout", data, usage()),
-            ("make --ppem 16 --chars 41 --dropout=near --dropout", data, usage()),
-            ("make --ppem 16 --chars 41 --dropout=1", data, usage()), ("make --ppem 16 --chars 41 --dropout=", data, usage()),
-            ("make --ppem 16 --chars 41 --dropout=font", data, made), ("make --ppem 16 --chars 41 --dropout font", data, made),
-            ("show --ppem 16 --char 41 --dropout=font", data, listed(["#" * 16])),
-            ("make --ppem 16 --chars 41 --dropout=fonts", data, usage()), ("make --ppem 16 --chars 41 --dropout=Font", data, usage()),
-            ("make --ppem 16 --chars 41 --dropout=left,font", data, usage()), ("dump --of 1 --dropout", data, usage()),
-            ("make --ppem 16 --chars 41 --drop-out", data, usage())):
-        yield Run(words or "on the first line", words, given, answer)
 
 
 def sizes_with_dropout():
@@ -134,4 +105,4 @@ def distances_with_dropout():
         yield Run(name, asked(1024, [A], False), font.data(), answer)
 
 
-test_dropout = cases(sizes_with_dropout, long_hairlines, many_hairlines, shapes_in_bounded_time, distances_with_dropout, words_with_dropout)
+test_dropout = cases(sizes_with_dropout, long_hairlines, many_hairlines, shapes_in_bounded_time, distances_with_dropout)

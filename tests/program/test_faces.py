@@ -2,7 +2,7 @@
 import struct
 
 from cases import cases
-from due import listed, refused, usage
+from due import listed, refused
 from made import Composite, Empty, Font, Simple, square
 from making.collection import Collection
 from runs import Run
@@ -28,19 +28,13 @@ def collection(made, offsets=None):
 
 
 def ways_to_ask():
-    """A face by hexadecimal text, by a first line, and by other spellings of its number; none is the first; and what is wrong before."""
+    """A face by hexadecimal text and by a first line; none is the first."""
     made = some_fonts()
     data, answer = collection(made), made[1].make((A, B, C), 16)
     yield Run("none", ASKED, data, made[0].make((A, B, C), 16))
     yield Run("hexadecimal text", ASKED + " --hex --face 1", data.hex().encode(), answer)
     yield Run("a first line", "", (ASKED + " --face 1\n").encode() + data, answer)
-    for words in ("--face=1", "--face 0001", "--face +1"):
-        yield Run(words, "%s %s" % (ASKED, words), data, answer)
-    for words in ("--face", "--face -1", "--face=-0", "--face 1.0", "--face 0x1", "--face one", "--face 4294967296", "--face 1 --face 1",
-                  "--faces 1"):
-        yield Run(words, "%s %s" % (ASKED, words), data, usage())
-    yield Run("no size", "make --ppem 0 --chars 41 --face 9", data, refused("60 BadSize"))
-    yield Run("a bad list", "make --ppem 0 --chars g --face 9", data, refused("61 BadChars"))
+    yield Run("another spelling", ASKED + " --face=+01", data, answer)
 
 
 def each_command():

@@ -153,7 +153,7 @@ def distances():
     yield from both_refused("a lone point farther out", lone[1], "51 TooFar 2", 1024)
 
 
-# ---- characters and sizes ----
+# ---- characters ----
 
 def characters():
     """As many characters as a request may have, and one more."""
@@ -182,20 +182,6 @@ def more_characters():
     """A map with more characters than a request may have: a strike of all of them has the first ones."""
     font = Font([Empty(), square(900)], dict.fromkeys(range(2, CHARACTERS + 3), 1), wide=True)
     yield Run("65,537 characters", "make --ppem 12 --all", font.data(), font.make(range(2, CHARACTERS + 2), 12))
-
-
-ALL_SIZES = (1, 2, 7, 12, 15, 16, 17, 31, 32, 33, 100, 127, 128, 129, 255, 256, 1023, 1024)
-
-
-def sizes():
-    """A font of several shapes at sizes to the limit and past it."""
-    shapes = [square(900, NOTHING), grid(30, 5, 100, 37), Composite([(1, 7, 3), (2, 200, -150)]),
-              Simple([(-120, -300, 40, 500), (33, 0, 700, 21)])]
-    font = Font([Empty()] + shapes, {0x31 + k: k + 1 for k in range(len(shapes))}, stack=9)
-    for ppem in ALL_SIZES:
-        yield from both("%d pixels an em" % ppem, font, ppem, range(0x30, 0x37))
-    for ppem in (0, 1025, 65535):
-        yield from both_refused("%d pixels an em" % ppem, font, "60 BadSize", ppem)
 
 
 def arcs_far_to_the_right():
@@ -240,5 +226,5 @@ def memory_and_stack_at_128():
 
 
 test_fonts = cases(memory_and_stack_at_128, characters, memory_and_stack_at_16, kept_components, sides, characters_past_ffff,
-                   more_characters, points, contours, glyphs_of_a_font, composites_of_contours, composites_of_points, sizes,
+                   more_characters, points, contours, glyphs_of_a_font, composites_of_contours, composites_of_points,
                    arcs_far_to_the_right, greatest_inputs, sizes_of_fonts, components, depth, all_sides, distances)

@@ -128,9 +128,6 @@ def long_lists_on_the_first_line():
 
 # ---- lists and names ----
 
-BAD_LISTS = (",", "41,", ",41", "41,,42", "41-", "-", "42-41", "41-42-43", "0000041", "1234567", "g", "0x41", " 41",
-             "41 ", "41;42", "+41", "41\n", "0-10000", "0-ffff,0", "0-10ffff", "0-7fff,0-8000", "ffffff-ffffff,g",
-             "110000", "41,ffffff", "10ffff-110000")
 GOOD_LISTS = {"41": [A], "41,41,41-41": [A], "42,41": [B, A], "000041-000043,61": [0x41, 0x42, 0x43, 0x61],
               "aB-Ab,AC-ac": [0xAB, 0xAC], "10FFFF,0,10fffe-10ffff": [0x10FFFF, 0, 0x10FFFE],
               "7ff,7fe,20-22": [0x7FF, 0x7FE, 0x20, 0x21, 0x22], "0-ffff": range(0x10000),
@@ -138,14 +135,12 @@ GOOD_LISTS = {"41": [A], "41,41,41-41": [A], "42,41": [B, A], "000041-000043,61"
 
 
 def lists():
-    """Lists of characters, and the one character of a picture."""
+    """Lists of characters. Those that are refused are in tests/front and in crates/cli_tests."""
     data = LONG.data()
-    for text in BAD_LISTS:
+    for text in ("0-10000", "0-ffff,0", "ffffff-ffffff,g", "110000"):
         yield Run("the list %r" % text, MAKE[:3] + ["--chars=" + text], data, refused("61 BadChars"))
     for text, codes in GOOD_LISTS.items():
         yield Run("the list %r" % text, MAKE[:4] + [text], data, LONG.make(codes, 16))
-    for text in ("", "41-42", "41,42", "g", "0000041", "41 ", "110000"):
-        yield Run("the character %r" % text, ["show", "--ppem", "16", "--char", text], data, refused("61 BadChars"))
 
 
 def long_lists():

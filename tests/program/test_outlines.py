@@ -1,13 +1,12 @@
-"""Cases of the program: large outlines, glyphs by their numbers, and outputs that fail. What an outline is the suite says."""
+"""Cases of the program: large outlines, and outputs that fail. What an outline is the suite says."""
 import os
 
 import due
-import fonts
 import runs
 from cases import cases
-from made import Empty, Font, Simple, comb, grid, square
+from made import Simple, comb, grid
 from runs import Run
-from strikes import A, MODES, one
+from strikes import MODES, one
 
 POINTS = 16384
 
@@ -29,25 +28,6 @@ def large_outlines():
     yield Run("whose pixels are refused", asked("show", 1024, 2), far.data(), due.refused("51 TooFar 2"))
 
 
-def refused():
-    """Numbers that the font does not have, characters that it lacks, damaged glyphs, and what is wrong before."""
-    font = Font([Empty(), square(500), square(900)], {A: 2})
-    data = font.data()
-    for command in ("outline", "show"):
-        for number in (3, 4, 65534, 65535):
-            yield Run("%s of no glyph" % command, asked(command, 16, number), data, due.refused("24 BadGlyphNumber %d" % number))
-        for words, answer in ((" --ppem 0 --glyph 9", due.refused("60 BadSize")), (" --ppem 1025 --char 41", due.refused("60 BadSize")),
-                              (" --ppem 16 --char 110000", due.refused("61 BadChars")), (" --ppem 16 --char x", due.refused("61 BadChars")),
-                              (" --ppem 16 --glyph 65536", due.usage()), (" --ppem 16 --glyph 1 --char 41", due.usage()),
-                              (" --ppem 16", due.usage()), (" --ppem 16 --glyph=", due.usage()), (" --glyph 1", due.usage()),
-                              (" --ppem 16 --char 43", due.listed(["missing"]))):
-            yield Run(command + words, command + words, data, answer)
-    yield Run("outline --dropout", "outline --ppem 16 --glyph 1 --dropout", data, due.usage())
-    yield Run("a strike of a number", "make --ppem 16 --glyph 1", data, due.usage())
-    bad = fonts.font_of([b"", fonts.simple([[(0, 0, 1), (9, 0, 1), (9, 9, 1)]], b"")[:-3]], fonts.map_of([(A, 1)]))
-    yield Run("a cut glyph", asked("outline", 16, 1), bad, due.refused("18 GlyphShort 1"))
-
-
 def outputs_that_fail():
     """70, with exactly the bytes that were taken."""
     font = one(comb(801), upem=8192)
@@ -59,4 +39,4 @@ def outputs_that_fail():
         yield Run("a pipe closed after %d bytes" % count, asked("outline", 64, 2), data, due.Cut.of(whole), way=runs.into_closed_pipe(count))
 
 
-test_outlines = cases(large_outlines, refused, outputs_that_fail)
+test_outlines = cases(large_outlines, outputs_that_fail)

@@ -7,9 +7,7 @@ from due import Ends, counted, glyph_lines
 from instructions import Code, steps_of
 from made import Composite, Empty, Font, Simple, comb, square
 from making.assembler import assemble
-from reference.machine import next_place
 from reference.numbers import scaled
-from reference.trace import OPCODES, pushed
 from runs import Run
 from strikes import A, B, both, one, refusal, strike, words
 
@@ -199,27 +197,6 @@ def all_but_the_last_moved(boxes):
     return all_moved(boxes[:-1]) + boxes[-1:]
 
 
-# ---- listings ----
-
-def listing_of(code):
-    """What is due of the listing of a program of pushes and EIF."""
-    lines, at, data = [], 0, code.bytes
-    while at < len(data):
-        lines.append(" ".join(["%04X %02X %s" % (at, data[at], OPCODES[data[at]]), *map(str, pushed(data, at))]))
-        at = next_place(data, at)
-    return due.listed(lines)
-
-
-def listings():
-    """Listings of long programs."""
-    numbers = Code().push(*range(300)).push(-5).fill(1000)
-    for length in (1, 256, 257, 60000, 70000):
-        font = one(square(9), fpgm=Code().fill(length), prep=numbers)
-        yield Run("a listing of %d bytes" % length, "dump --of fpgm", font.data(), listing_of(font.fpgm))
-    yield Run("a listing of numbers", "dump --of prep", font.data(), listing_of(numbers))
-    yield Run("a listing of no program", "dump --of 1", font.data(), due.listed([]))
-
-
 def loops_of_many_points():
     """Instructions that take 32,000 points each, twenty times: the work is so many points, and no square of them. FLIPPT turns
     each of 16,000 points twice, and SHPIX shifts it by 0."""
@@ -234,4 +211,4 @@ def loops_of_many_points():
 
 
 test_programs = cases(programmed_points, loops_of_many_points, lengths_of_programs, greatest_tables, many_functions, steps, calls, strays,
-                      nothing_is_kept_between_glyphs, listings)
+                      nothing_is_kept_between_glyphs)

@@ -49,39 +49,18 @@ def both(name, data, text):
 
 # ---- files and tables ----
 
-def no_font():
-    """Files that are no TrueType font."""
-    fixture = fonts.FIXTURE
-    for name, data in (("no byte", b""), ("11 bytes", fixture[:11]), ("cut records", fixture[:123]),
-                       ("OTTO", b"OTTO" + fixture[4:]),
-                       ("a collection", b"ttcf" + fixture[4:]), ("text", fixture.hex().encode())):
-        yield name, data, "10 NotTrueType"
-
-
-def bad_tables():
-    """Tables that are missing, short or bad."""
-    for tag in ("head", "maxp", "hhea", "hmtx", "loca", "glyf"):
-        yield "none", lacking(tag), "11 TableMissing " + tag
-    for tag, length in (("head", 53), ("head", 0), ("maxp", 31), ("maxp", 6), ("hhea", 35), ("hmtx", 7), ("hmtx", 0)):
-        yield "%d bytes" % length, cut(tag, length), "12 TableShort " + tag
-    yield "no pair in it", put("hhea", 34, word(0)), "12 TableShort hmtx"
-    yield "another magic number", put("head", 12, b"\0"), "13 BadHead"
-    for upem in (0, 15, 16385, 65535):
-        yield "%d units an em" % upem, put("head", 18, word(upem)), "13 BadHead"
-    for form in (2, -1):
-        yield "format %d of loca" % form, put("head", 50, word(form)), "13 BadHead"
-    yield "version 0.5", put("maxp", 0, long(0x5000)), "14 BadMaxp"
-    yield "no glyph", put("maxp", 4, word(0)), "14 BadMaxp"
-
-
 def refusals_of_files():
-    """10 to 14: the directory and the tables that every font needs, for a strike, a picture and a listing."""
-    for name, data, text in [*no_font(), *bad_tables()]:
+    """10 to 14 and 16: the directory and the tables that every font needs, for a strike, a picture and a listing."""
+    fixture = fonts.FIXTURE
+    for name, data, text in (("OTTO", b"OTTO" + fixture[4:], "10 NotTrueType"), ("text", fixture.hex().encode(), "10 NotTrueType"),
+                             *(("none", lacking(tag), "11 TableMissing " + tag) for tag in ("head", "maxp", "hhea", "hmtx", "loca", "glyf")),
+                             ("53 bytes", cut("head", 53), "12 TableShort head"), ("another magic number", put("head", 12, b"\0"), "13 BadHead"),
+                             ("no glyph", put("maxp", 4, word(0)), "14 BadMaxp")):
         yield from both(name, data, text)
         for words in ("dump --of prep", "show --ppem 16 --char 20"):
             yield Run("%s: %s: %s" % (text, name, words), words, data, refused(text))
     wide = struct.pack(">HHHHLHHLLL", 0, 1, 3, 10, 12, 12, 0, 16, 0, 0xFFFFFFFF)
-    yield from both("2^32 - 1 groups", fonts.with_tables(fonts.FIXTURE, cmap=wide), "16 BadCharMap")
+    yield from both("2^32 - 1 groups", fonts.with_tables(fixture, cmap=wide), "16 BadCharMap")
 
 
 # ---- glyphs ----
@@ -93,7 +72,6 @@ def font_with(data, *more):
 
 def bad_glyphs():
     """Glyphs whose bytes are cut or bad, and bad components, beside those of the suite."""
-    yield "32,767 contours", font_with(struct.pack(">h8x", 0x7FFF) + word(5) * 0x7FFE), "18 GlyphShort 2"
     matrix = struct.pack(">h8xHHhh4h", -1, 0x183, 1, 5, 5, 0, 0x4000, 0x4000, 0) + b"\0\1\x4F"
     for k in range(1, len(matrix)):
         yield "%d bytes of a component" % k, font_with(matrix[:k]), "18 GlyphShort 2"
@@ -122,22 +100,6 @@ def programmed(fpgm=b"", prep=b"", glyph=b"", **numbers):
     box = [[(0, 0, 1), (90, 0, 1), (90, 90, 1), (0, 90, 1)]]
     made = [b"", fonts.simple(box, glyph), fonts.composite([(1, 5, 5)])]
     return fonts.font_of(made, fonts.map_of([(A, 1), (B, 2)]), fpgm=fpgm, prep=prep, **numbers)
-
-
-def halts_in_functions():
-    """Halts in functions of other programs, and at the end of their bytes."""
-    body = bytes.fromhex("B0 00 2C 4D 21 2D")  # function 0: FLIPON, POP
-    past = bytes.fromhex("B0 00 2C B0 04 1C 2D 4D 4D")  # function 0: a jump over its ENDF to the end of the bytes
-    farther = past.replace(b"\x04\x1C", b"\x05\x1C")
-    call = bytes.fromhex("B0 00 2B")
-    for data, answer in (
-            (programmed(fpgm=body, prep=call), halted("30 StackUnder", "prep", "fpgm", 4, 0x21)),
-            (programmed(fpgm=body, glyph=call), halted("30 StackUnder", "glyph 1", "fpgm", 4, 0x21)),
-            (programmed(prep=body, glyph=call), halted("30 StackUnder", "glyph 1", "prep", 4, 0x21)),
-            (programmed(fpgm=past, prep=call), halted("41 StrayEnd", "prep", "fpgm", 9, 0)),
-            (programmed(fpgm=past, glyph=call), halted("41 StrayEnd", "glyph 1", "fpgm", 9, 0)),
-            (programmed(fpgm=farther, glyph=call), halted("34 BadJump", "glyph 1", "fpgm", 5, 0x1C))):
-        yield Run(answer.err.decode().strip(), WORDS, data, answer)
 
 
 def which_programs_run():
@@ -180,4 +142,4 @@ def orders():
     yield Run("the other, unhinted", "make --ppem 16 --chars 42,41 --unhinted", several, refused("18 GlyphShort 1"))
 
 
-test_refusals = cases(refusals_of_files, refusals_of_glyphs, halts_in_functions, which_programs_run, orders)
+test_refusals = cases(refusals_of_files, refusals_of_glyphs, which_programs_run, orders)

@@ -5,7 +5,7 @@ import due
 import fonts
 import runs
 from cases import cases
-from due import cut_after, refused, usage
+from due import cut_after, refused
 from made import Composite, Empty, Font, Simple, comb, fixture, list_of, square
 from runs import Run
 from strikes import A, B, C
@@ -212,18 +212,6 @@ def stopped():
         yield Run("no size, %s" % way, words(0, (A, B), way), data, refused("60 BadSize"))
 
 
-def options():
-    """Command lines that do not parse."""
-    data = fonts.FIXTURE
-    for text in ("--refused", "--refused=", "--refused halt", "--refused Stop", "--refused leave_out", "--refused stop --refused stop",
-                 "--refused unhinted,stop"):
-        yield Run("make %s" % text, "make --ppem 16 --chars 41 " + text, data, usage())
-    yield Run("show --refused", "show --ppem 16 --char 41 --refused unhinted", data, usage())
-    yield Run("dump --refused", "dump --of prep --refused unhinted", data, usage())
-    for way in WAYS:
-        yield Run("both spellings", "make --ppem 16 --refused=%s --chars 41" % way, data, fixture().make([A], 16))
-
-
 # ---- outputs that fail ----
 
 def some_refused():
@@ -249,4 +237,4 @@ def failing():
 
 
 test_refused = cases(many, each_place, each_halt, each_glyph, bad_offsets, far_and_large, components, properties_of_the_drawn,
-                     stopped, options, failing)
+                     stopped, failing)

@@ -75,17 +75,6 @@ def test_what_is_left_out(tmp_path):
         "begins with an empty stack"]
 
 
-def test_no_glyph(tmp_path):
-    """A strike without a glyph is told, with the way out."""
-    for chars, count in (("face", "strike: DejaVuSans: 1 missing: U+FACE"), ("12", "strike: DejaVuSans: 1 missing: U+0012")):
-        out, err = run(tmp_path, SANS, "--chars", chars)
-        assert out.endswith(": 0 glyphs\n") and err.splitlines() == [
-            count, "strike: DejaVuSans-16: the strike has no glyph: --chars takes sets by name and hexadecimal numbers, --text FILE a text's "
-            "characters; --all takes what the font has"]
-    out, err = run(tmp_path, SANS, "--chars", "19c")
-    assert err.splitlines()[0].startswith("strike: DejaVuSans-16: the strike has no glyph: each character is refused; with --unhinted no program")
-
-
 def test_many_refused(tmp_path):
     """Twelve refused characters have a line each, and the others one line with their number."""
     import test_refusals as made

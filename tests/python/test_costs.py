@@ -54,8 +54,8 @@ def test_no_leak():
 
 @needs_font(SANS)
 def test_calls(monkeypatch):
-    """A strike is one call of the C library, and its text is read once; with refused characters it is made again, and each of these has a
-    call that tells why."""
+    """A strike is one call of the C library, beside two for the font's names, once, and its text is read once; with refused characters it is
+    made again, and each of these has a call that tells why."""
     library, calls, read = _library._c(), [], []
 
     class Counted:
@@ -69,6 +69,8 @@ def test_calls(monkeypatch):
     monkeypatch.setattr(_library, "_c", Counted)
     monkeypatch.setattr(bdf, "parse", lambda *words: read.append(1) or parse(*words))
     font = mkstrike.Font(SANS)
+    assert font.names.family == "DejaVu Sans" and calls == ["name"] * 2
+    del calls[:]
     start = time.process_time()
     strike = font.strike(16, "latin-1")
     assert not strike.missing and len(strike) == 191 and sum(it.width for it in strike.values()) and strike.box and strike.name

@@ -1,4 +1,5 @@
 """Collections, WOFF, WOFF2 and variable fonts."""
+import importlib.util
 import io
 
 import pytest
@@ -20,10 +21,12 @@ def packed(data, flavor):
 
 
 @needs_font(SANS)
-@pytest.mark.parametrize("flavor", ["woff", pytest.param("woff2", marks=needs("brotli", "python3-brotli"))])
+@pytest.mark.parametrize("flavor", ["woff", "woff2"])
 def test_packed_fonts(flavor):
     """WOFF and WOFF2 give the strikes of the font itself."""
     import fonts
+    if flavor == "woff2" and importlib.util.find_spec("brotli") is None:
+        pytest.skip("brotli is not installed (Debian: python3-brotli)")
     part = fonts.part_of(font_bytes(SANS), range(0x250))
     data = packed(part, flavor)
     assert data[:4] == (b"wOFF" if flavor == "woff" else b"wOF2")

@@ -14,7 +14,7 @@ from prebuilt import TOP
 from program import python_with
 
 # Modules that Python needs for it, and Debian's packages.
-NEEDED = {"ensurepip": "python3-venv", "pytest": "python3-pytest", "setuptools": "python3-setuptools", "wheel": "python3-wheel"}
+NEEDED = {"pip": "python3-pip", "pytest": "python3-pytest", "setuptools": "python3-setuptools", "wheel": "python3-wheel"}
 
 
 def clean():
@@ -38,9 +38,9 @@ def test_in_a_clean_environment(program, tmp_path):
     dist()
     shutil.copytree(os.path.join(TOP, "python"), tmp_path / "python")
     run([python, "setup.py", "-q", "bdist_wheel", "-d", str(tmp_path)], tmp_path / "python", MKSTRIKE_TOP=TOP)
-    run([python, "-m", "venv", "--system-site-packages", "env"], tmp_path)
+    run([python, "-m", "venv", "--without-pip", "--system-site-packages", "env"], tmp_path)
     own = str(tmp_path / "env/bin/python")
-    run([own, "-m", "pip", "install", "--no-index", "--disable-pip-version-check", "-q", *map(str, tmp_path.glob("*.whl"))], tmp_path)
+    run([python, "-m", "pip", "--python", own, "install", "--no-index", "--disable-pip-version-check", "-q", *map(str, tmp_path.glob("*.whl"))], tmp_path)
     env = {**clean(), "MKSTRIKE_PROGRAM": program, "MKSTRIKE_TOP": TOP, "PATH": os.path.dirname(own) + os.pathsep + os.environ["PATH"]}
     word = os.environ.get("MKSTRIKE_TESTS")
     ran = subprocess.run([own, "-m", "pytest", "-p", "no:cacheprovider", "-q", "-rs", "--tb=short", os.path.dirname(__file__),

@@ -58,7 +58,7 @@ def test_fonts_of_the_x_server(tmp_path):
         "-misc-liberation mono-bold-r-normal--%d-%d-72-72" % (size, 10 * size) for size in (10, 12, 14)]
 
 
-def named(family, style="Regular", **os2):
+def named(family, style="Regular", large=(), **os2):
     """A font of such names, by fontTools."""
     from test_font_files import MASTERS, built
     from fontTools.ttLib import TTFont
@@ -68,6 +68,8 @@ def named(family, style="Regular", **os2):
     font["name"].setName(style, 2, 3, 1, 0x409)
     font["name"].setName("Other", 1, 3, 1, 0x407)
     font["name"].setName("Mac", 1, 1, 0, 0)
+    for number, text in large:
+        font["name"].setName(text, number, 3, 1, 0x409)
     for name, value in os2.items():
         setattr(font["OS/2"], name, value)
     font.save(out)
@@ -84,6 +86,8 @@ def test_odd_names():
     for weight, due in ((100, "Thin"), (300, "Light"), (400, "Medium"), (500, "Medium"), (600, "DemiBold"), (700, "Bold"), (900, "Black"), (0, "Thin")):
         assert mkstrike.Font(named("A", usWeightClass=weight)).strike(16, "41", x11=True).name.split("-")[3] == due
     assert mkstrike.Font(named("A", fsSelection=32)).names.weight == 700 and mkstrike.Font(named("A", fsSelection=1)).names.slant == "I"
+    assert mkstrike.Font(named("A Thin", large=((16, "A"), (17, "Thin")))).names[:2] == ("A", "Thin")
+    assert mkstrike.Font(named("A", large=((16, " "),))).names[:2] == ("A", "Regular")
     assert mkstrike.Font(named("A", usWidthClass=9)).names.width == 9 and mkstrike.Font(named("A\x1b[2J")).names.family == "A\\x1b[2J"
 
 

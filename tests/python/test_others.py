@@ -1,4 +1,4 @@
-"""Pictures, arrays in C, and formats of other programs."""
+"""Pictures, arrays in C, formats of other programs, and the example of the package. The examples of docs/PYTHON.md are tried by tests/house."""
 import io
 import os
 import shutil
@@ -223,10 +223,7 @@ def test_limits_of_raw_cells():
 def test_limits_of_lvgl():
     """What does not fit the fields of LVGL's structs is said."""
     font = mkstrike.Font(SANS)
-    for size, chars, match in ((300, "57", "U\\+0057 does not fit a font for LVGL: its advance in 1/16 pixels, 4"), (600, "7c", "its height, "),
-                               (540, "2e,5f", "its bottom, -127")):
-        if match == "its bottom, -127":
-            continue
+    for size, chars, match in ((300, "57", "U\\+0057 does not fit a font for LVGL: its advance in 1/16 pixels, 4"), (600, "7c", "its height, ")):
         with pytest.raises(ValueError, match=match):
             font.strike(size, chars, hinted=False).encode("lvgl")
     with pytest.raises(ValueError, match="has no glyph"):
@@ -415,3 +412,13 @@ def test_places_of_the_console(tmp_path, monkeypatch, count, places):
     for code in sorted(chosen.parsed().entries)[count:]:
         del chosen.parsed().entries[code]
     assert len(chosen) == count and chosen.encode("psf") == b"%d\n" % places
+
+
+@needs_pillow
+@needs_font(SANS)
+def test_example_of_the_package(tmp_path, monkeypatch):
+    """The docstring of the package."""
+    monkeypatch.chdir(tmp_path)
+    code = "\n".join(line[4:] for line in mkstrike.__doc__.split("\n") if line.startswith("    "))
+    exec(compile(code.replace("DejaVuSans.ttf", SANS), "the package", "exec"), {})
+    assert os.path.getsize("terminal.bdf") > 10000

@@ -21,7 +21,7 @@ def test_glyphs(hinted, dropout):
         assert at.glyphs("20-ff,2603,4e00") == dict(strike) and at.glyphs(text="g\n") == {"g": strike["g"]} and at.glyphs() == {}
         for char, number in font.glyph_ids("41-4a,e9,2603").items():
             one, same = at[char], at.glyph(number)
-            assert one == strike[char] == font.glyph(size, char, hinted=hinted, dropout=dropout)
+            assert one == strike[char] == font.glyph(size, char, hinted=hinted, dropout=dropout) and hash(one) == hash(strike[char])
             assert same.char is None and same.rows == one.rows and same.advance == one.advance
 
 

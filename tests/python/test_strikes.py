@@ -43,19 +43,6 @@ def test_strikes_are_the_programs(path):
             assert not strike.refused
 
 
-@needs_font(SANS)
-@pytest.mark.parametrize("hinted, dropout", MODES)
-def test_glyphs_are_those_of_strikes(hinted, dropout):
-    """One by one, and in a strike."""
-    font = mkstrike.Font(SANS)
-    for size in (7, 20):
-        strike = font.strike(size, "latin-1", hinted=hinted, dropout=dropout)
-        assert len(strike) == 191
-        for char, glyph in strike.items():
-            one = font.glyph(size, char, hinted=hinted, dropout=dropout)
-            assert one == glyph and one.rows == glyph.rows and hash(one) == hash(glyph)
-
-
 @pytest.mark.filterwarnings("ignore:the strike has no glyph")
 @needs_font(MONO, SANS)
 @pytest.mark.parametrize("name", ["strike", "-misc-dejavu-bold-i-normal--16-160-72-72-m-100-ISO10646-1", "two words", "-a-b"])

@@ -19,16 +19,6 @@ MOST_PACKED = 330  # KiB of the package
 MAKE = ["make", "--ppem", "16", "--chars", "20-7e", SAMPLE, "-o", "new.bdf"]
 
 
-def fonts_by_name(it):
-    """A font by an odd name gives what it gives by standard input; names of no font are told."""
-    due = it.run(MAKE[:-3], SAMPLE)
-    odd = "".join(map(chr, range(1, 127))).replace("/", "") + "\xe4"
-    shutil.copy(SAMPLE, it.path(odd))
-    it.equal("a font of an odd name", it.run(MAKE[:-3] + ["./" + odd]), due)
-    for name, why in (("no such.ttf", "there is no such file"), (".", "it is a folder")):
-        it.equal(name, it.run(MAKE[:-3] + [name])[2].split("\n")[0], "mkstrike: can't open the font '%s': %s" % (name, why))
-
-
 def full_disk(it):
     """Outputs that take nothing are told, and a disk that takes no more leaves no new file."""
     before = it.files()
@@ -47,7 +37,7 @@ def taken_name(it):
 
 
 # What the command must do as the program does, most of it by the checks of tests/front.
-CHECKS = (front.outputs_by_name, front.outputs_that_are_there, fonts_by_name, full_disk, taken_name)
+CHECKS = (front.outputs_by_name, front.outputs_that_are_there, front.fonts_by_name, full_disk, taken_name)
 # Faults of web/program.js: the check that must find each, a text, and what takes its place.
 FAULTS = [(full_disk, "system.unlinkSync(path(name))", "0"), (taken_name, "O_EXCL: 0o200, ", "")]
 

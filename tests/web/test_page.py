@@ -49,17 +49,9 @@ def opened_browser(tmp_path_factory):
     return page
 
 
-def names_of(*records):
-    """A table `name`: records of a platform, an encoding, a language, a number and bytes."""
-    texts = b"".join(it[-1] for it in records)
-    ends = [sum(len(it[-1]) for it in records[:k]) for k in range(len(records))]
-    return struct.pack(">HHH", 0, len(records), 6 + 12 * len(records)) + b"".join(
-        struct.pack(">HHHHHH", *it[:4], len(it[-1]), at) for it, at in zip(records, ends)) + texts
-
-
-# Of one font the English name counts, of the other the one for an old Macintosh, family and style.
-NAMED = names_of((1, 0, 0, 4, b"Wrong"), (3, 1, 0x407, 4, "Falsch".encode("utf-16-be")), (3, 1, 0x409, 4, "Mine \u00c4 Bold".encode("utf-16-be")))
-NAMED_OF_OLD = names_of((1, 0, 0, 1, "Old \u00e4".encode("mac-roman")), (1, 0, 0, 2, b"One\7"), (2, 0, 0, 4, b"Wrong"))
+# Of one font the English name counts, of the other those for an old Macintosh, family and style.
+NAMED = fonts.name_table((1, 0, 0, 4, b"Wrong"), (3, 1, 0x407, 4, "Falsch".encode("utf-16-be")), (3, 1, 0x409, 4, "Mine \u00c4 Bold".encode("utf-16-be")))
+NAMED_OF_OLD = fonts.name_table((1, 0, 0, 1, b"Old"), (1, 0, 0, 2, b"One\7"), (2, 0, 0, 4, b"Wrong"))
 
 
 def pixels_of(glyph):
@@ -333,7 +325,7 @@ def faces(page):
     path = page.dropped("three.ttc", engine.collection_of(members))
     page.set("chars", "20-42")
     names = page.browser.evaluate("[...document.getElementById('face').options].map((it) => it.textContent)")
-    assert names == ["0", "1: Mine \u00c4 Bold", "2: Old \u00e4 One\\u{7}"], "the fonts of a collection: %s" % names
+    assert names == ["0", "1: Mine \u00c4 Bold", "2: Old One\\u{7}"], "the fonts of a collection: %s" % names
     for face in ("0", "1", "2", "0"):
         page.set("face", face)
         assert not page.compare(path, 16, HINTED, "20-42", face), "font %s of a collection is refused" % face
