@@ -22,6 +22,6 @@ dist:
 packages:
 	packaging/build
 
-# the edits that must fail and that the gate leaves out, hours of proofs
+# the edits that must fail and that the gate leaves out, over the proofs that `rt check` kept here
 planted:
 	tools/try_planted
