@@ -1,6 +1,6 @@
 -- Digits in the lanes of a vector: each byte of a word stands in two neighbouring lanes.
 -- Serves the digits of a word.
-use Rattle.std.proofs.Common.{◌≡◌, ℕ, ◌+◌, ◌*◌, ◌/◌, ◌%◌, ◌^◌, ◌<◌, List, [], ◌∷◌, ◌++◌, Bool, true, false, get_or, ap, ◌∙◌, refl, arith}
+use Rattle.std.proofs.Common.{◌≡◌, ℕ, zero, suc, ◌+◌, ◌*◌, ◌/◌, ◌%◌, ◌^◌, ◌<◌, List, [], ◌∷◌, ◌++◌, Bool, true, false, get_or, ap, ◌∙◌, refl, arith}
 use Rattle.std.proofs.Common.{w32, w64, nat_lt}
 use Rattle.std.proofs.lemmas.Bool.{ltb-true, ltb-false}
 use Rattle.std.proofs.lemmas.Nat.{and_mask}
@@ -42,43 +42,35 @@ low_is x q e =
     let is : low_lane x ≡ q = (λ i. bit_or (and_zero_r (x / 16) i) (and_mask x 4 i)) ∙ e in
     ap digit_lane is ∙ digit_is q (omega (arith, e))
 
--- the two lanes of the byte at k
-abbrev lanes : List ℕ → ℕ → List ℕ → List ℕ
-lanes bytes k rest = digit_lane (high_lane (get_or bytes k 0)) ∷ digit_lane (low_lane (get_or bytes k 0)) ∷ rest
+-- the two lanes of a byte
+abbrev lanes : ℕ → List ℕ → List ℕ
+lanes b rest = digit_lane (high_lane b) ∷ digit_lane (low_lane b) ∷ rest
 
-byte_text : (bytes : List ℕ) (k high low : ℕ) (rest more : List ℕ) → get_or bytes k 0 / 16 % 16 ≡ high
-    → get_or bytes k 0 % 16 ≡ low → rest ≡ more
-    → lanes bytes k rest ≡ digit_glyph true high ∷ digit_glyph true low ∷ more
-byte_text bytes k high low rest more h l e =
-    λ i. high_is (get_or bytes k 0) high h i ∷ low_is (get_or bytes k 0) low l i ∷ e i
+byte_text : (b high low : ℕ) (rest more : List ℕ) → b / 16 % 16 ≡ high → b % 16 ≡ low → rest ≡ more
+    → lanes b rest ≡ digit_glyph true high ∷ digit_glyph true low ∷ more
+byte_text b high low rest more h l e = λ i. high_is b high h i ∷ low_is b low l i ∷ e i
 
--- the lanes of the four bytes from k on are a word's digits
-four_bytes : (w k : ℕ) (bytes rest more : List ℕ) → get_or bytes k 0 ≡ w % 256 → get_or bytes (k + 1) 0 ≡ w / 256 % 256
-    → get_or bytes (k + 2) 0 ≡ w / 65536 % 256 → get_or bytes (k + 3) 0 ≡ w / 16777216 % 256 → rest ≡ more
-    → lanes bytes (k + 3) (lanes bytes (k + 2) (lanes bytes (k + 1) (lanes bytes k rest))) ≡ word_text w ++ more
-four_bytes w k bytes rest more b0 b1 b2 b3 e =
-    byte_text bytes (k + 3) (w / 2 ^ 28 % 16) (w / 2 ^ 24 % 16) _ _ (omega (arith, b3)) (omega (arith, b3))
-    (byte_text bytes (k + 2) (w / 2 ^ 20 % 16) (w / 2 ^ 16 % 16) _ _ (omega (arith, b2)) (omega (arith, b2))
-    (byte_text bytes (k + 1) (w / 2 ^ 12 % 16) (w / 2 ^ 8 % 16) _ _ (omega (arith, b1)) (omega (arith, b1))
-    (byte_text bytes k (w / 2 ^ 4 % 16) (w % 16) rest more (omega (arith, b0)) (omega (arith, b0)) e)))
+-- the lanes of the four bytes of a word are its digits
+four_bytes : (w a b c d : ℕ) (rest more : List ℕ) → a ≡ w / 16777216 % 256 → b ≡ w / 65536 % 256 → c ≡ w / 256 % 256 → d ≡ w % 256
+    → rest ≡ more → lanes a (lanes b (lanes c (lanes d rest))) ≡ word_text w ++ more
+four_bytes w a b c d rest more b3 b2 b1 b0 e =
+    byte_text a (w / 2 ^ 28 % 16) (w / 2 ^ 24 % 16) _ _ (omega (arith, b3)) (omega (arith, b3))
+    (byte_text b (w / 2 ^ 20 % 16) (w / 2 ^ 16 % 16) _ _ (omega (arith, b2)) (omega (arith, b2))
+    (byte_text c (w / 2 ^ 12 % 16) (w / 2 ^ 8 % 16) _ _ (omega (arith, b1)) (omega (arith, b1))
+    (byte_text d (w / 2 ^ 4 % 16) (w % 16) rest more (omega (arith, b0)) (omega (arith, b0)) e)))
 
--- the lanes of a word
-pub lanes_text : (w : ℕ) (bytes : List ℕ) → w < 4294967296 → bytes ≡ to_le_bytes w32 w
-    → lanes (bytes ++ bytes) 3 (lanes (bytes ++ bytes) 2 (lanes (bytes ++ bytes) 1 (lanes (bytes ++ bytes) 0 []))) ≡ word_text w
-lanes_text w bytes h is =
-    let at : (k : ℕ) → get_or (bytes ++ bytes) k 0 ≡ get_or (to_le_bytes w32 w ++ to_le_bytes w32 w) k 0 =
-    λ k. ap (λ (l : List ℕ). get_or (l ++ l) k 0) is in
-    four_bytes w 0 (bytes ++ bytes) [] [] (at 0) (at 1) (at 2) (at 3) refl
+-- a byte of a number, counted from the lowest
+abbrev byte_at : ℕ → ℕ → ℕ
+byte_at p zero = p % 256
+byte_at p (suc k) = byte_at (p / 256) k
 
--- the lanes of two words
-pub pair_text : (v w : ℕ) (bytes : List ℕ) → v < 4294967296 → w < 4294967296 → bytes ≡ to_le_bytes w64 (w * 4294967296 + v)
-    → lanes (bytes ++ bytes) 3 (lanes (bytes ++ bytes) 2 (lanes (bytes ++ bytes) 1 (lanes (bytes ++ bytes) 0
-    (lanes (bytes ++ bytes) 7 (lanes (bytes ++ bytes) 6 (lanes (bytes ++ bytes) 5 (lanes (bytes ++ bytes) 4 [])))))))
+-- the lanes of two words: a number holds the first in its lower half
+pub pair_text : (v w : ℕ) → v < 4294967296 → w < 4294967296 → let p = v + 4294967296 * (w + 0) in
+    lanes (byte_at p 3) (lanes (byte_at p 2) (lanes (byte_at p 1) (lanes (byte_at p 0)
+    (lanes (byte_at p 7) (lanes (byte_at p 6) (lanes (byte_at p 5) (lanes (byte_at p 4) [])))))))
     ≡ word_text v ++ word_text w
-pair_text v w bytes h k is =
-    let p = w * 4294967296 + v in
-    let at : (k : ℕ) → get_or (bytes ++ bytes) k 0 ≡ get_or (to_le_bytes w64 p ++ to_le_bytes w64 p) k 0 =
-    λ k. ap (λ (l : List ℕ). get_or (l ++ l) k 0) is in
-    four_bytes v 0 (bytes ++ bytes) _ _ (omega (arith, at 0)) (omega (arith, at 1)) (omega (arith, at 2)) (omega (arith, at 3))
-    (four_bytes w 4 (bytes ++ bytes) [] [] (omega (arith, at 4)) (omega (arith, at 5)) (omega (arith, at 6)) (omega (arith, at 7))
-    refl)
+pair_text v w h k =
+    let p = v + 4294967296 * (w + 0) in
+    four_bytes v (byte_at p 3) (byte_at p 2) (byte_at p 1) (byte_at p 0) _ _ (omega arith) (omega arith) (omega arith) (omega arith)
+    (four_bytes w (byte_at p 7) (byte_at p 6) (byte_at p 5) (byte_at p 4) [] [] (omega arith) (omega arith) (omega arith)
+    (omega arith) refl)

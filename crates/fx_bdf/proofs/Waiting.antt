@@ -1,7 +1,7 @@
 -- Lines of rows written over the bytes of a buffer.
 -- Serves `put_word`, `put_pair`, the lines of rows and `add_rows`.
 use Rattle.std.proofs.Common.{◌≡◌, ℕ, suc, ◌+◌, ◌-◌, ◌*◌, ◌/◌, ◌<◌, ◌≤◌, refl, List, [], ◌∷◌, ◌++◌, Bool, length}
-use Rattle.std.proofs.Common.{take, drop, get_or, sym, ap, ◌∙◌, arith}
+use Rattle.std.proofs.Common.{take, drop, get_or, sym, ap, ◌∙◌, arith, min}
 use Rattle.std.proofs.Common.{append_assoc, length-drop, get_or-drop, Ok}
 use Rattle.std.specs.List.{flat_map}
 use Rattle.std.specs.Simd.Lanes.{put_chunk}
@@ -11,13 +11,13 @@ use Rattle.std.proofs.lemmas.Grind.{flat_map-append}
 use Rattle.std.proofs.lemmas.List.{take-append-drop, take-append-le, length-take-le, take_at, take_all}
 use Rattle.std.proofs.Math.Nat.{le-div_iff_mul-le}
 use Rattle.std.proofs.Math.Seq.{take-append-add, take-add}
-use Rattle.fx_bdf.specs.Text.{row_text}
+use Rattle.fx_bdf.specs.Text.{row_digits, row_text}
 use Rattle.fx_fixed.specs.Texts.{TextView, Adds, Fails, with_more}
 use Rattle.fx_fixed.proofs.Texts.{adds_then, adds_text, adds_more}
 use Rattle.fx_fixed.proofs.Writing.{parts_more}
 use Rattle.fx_bdf.specs.inner.Lines.{lines_between, word_text}
-use Rattle.fx_bdf.specs.inner.RowWords.{AreWordsOf}
-use Rattle.fx_bdf.proofs.RowDigits.{digits_whole}
+use Rattle.fx_bdf.specs.inner.RowWords.{AreWordsFrom, AreWordsOf}
+use Rattle.fx_bdf.proofs.RowDigits.{digits_all, digits_more, digits_whole}
 
 -- the first bytes of those that were written after `used` bytes
 front : (used count m : ℕ) (old mid digits : List ℕ) → used ≤ length old → count ≤ m → used + m ≤ length mid
@@ -42,21 +42,24 @@ piece_over at m now piece rest new front done more inside long text n joined =
     ∙ append_assoc front done piece
     ∙ ap (λ (t : List ℕ). front ++ t) joined
 
--- the byte after them was written over
-line_added : (used count m : ℕ) (old mid new digits rest : List ℕ) → used ≤ length old → count ≤ m → used + m ≤ length mid
-    → take (used + m) mid ≡ take used old ++ digits → new ≡ take (used + count) mid ++ 10 ∷ rest
-    → take (used + count + 1) new ≡ take used old ++ (take count digits ++ 10 ∷ [])
-line_added used count m old mid new digits rest inside few fits e n =
-    piece_over (used + count) 1 mid (10 ∷ []) rest new (take used old) (take count digits) _ (omega arith) refl
-    (front used count m old mid digits inside few fits e) n refl
-
--- the same, with the end of the line as the next line's start
-pub line_ended : (used count m : ℕ) (old mid new digits rest : List ℕ) → used ≤ length old → count ≤ m → used + m ≤ length mid
+-- the byte after the first of them was written over
+pub short_line_ended : (used count m : ℕ) (old mid new digits rest : List ℕ) → used ≤ length old → count ≤ m → used + m ≤ length mid
     → take (used + m) mid ≡ take used old ++ digits → new ≡ take (used + count) mid ++ 10 ∷ rest
     → take (used + (count + 1)) new ≡ take used old ++ (take count digits ++ 10 ∷ [])
-line_ended used count m old mid new digits rest inside few fits e n =
+short_line_ended used count m old mid new digits rest inside few fits e n =
     let end : used + (count + 1) ≡ used + count + 1 = omega arith in
-    ap (λ (i : ℕ). take i new) end ∙ line_added used count m old mid new digits rest inside few fits e n
+    ap (λ (i : ℕ). take i new) end
+    ∙ piece_over (used + count) 1 mid (10 ∷ []) rest new (take used old) (take count digits) _ (omega arith) refl
+    (front used count m old mid digits inside few fits e) n refl
+
+-- the same after the digits of a row
+pub line_ended : (used count : ℕ) (row : List Bool) (old mid new rest : List ℕ) → used ≤ length old → used + count ≤ length mid
+    → take (used + count) mid ≡ take used old ++ row_digits row → new ≡ take (used + count) mid ++ 10 ∷ rest
+    → take (used + (count + 1)) new ≡ take used old ++ row_text row
+line_ended used count row old mid new rest inside fits e n =
+    let end : used + (count + 1) ≡ used + count + 1 = omega arith in
+    ap (λ (i : ℕ). take i new) end
+    ∙ piece_over (used + count) 1 mid (10 ∷ []) rest new (take used old) (row_digits row) _ fits refl e n refl
 
 -- the lanes of a vector were written over bytes
 pub lanes_over : (at m : ℕ) (old lanes piece : List ℕ) → lanes ≡ piece → length piece ≡ m → at + m ≤ length old
@@ -68,12 +71,6 @@ lanes_over at m old lanes piece e long fits =
     ∙ ap (λ (rest : List ℕ). take at old ++ (piece ++ rest)) (drop-drop m at old)
 
 -- ---- digits of words one after the other
-
--- the digits of one word
-one_word : (words : List ℕ) → length words ≡ 1 → flat_map word_text words ≡ word_text (get_or words 0 0)
-one_word [] h = absurd (omega (arith, h))
-one_word (w ∷ []) h = refl
-one_word (w ∷ v ∷ ws) h = absurd (omega (arith, h))
 
 -- the last word of all
 pub word_over : (start k : ℕ) (now piece rest new front words : List ℕ) → start + 8 * length words ≤ length now
@@ -131,19 +128,43 @@ pub line_inside : (start p digits end now long : ℕ) → end ≡ start + p → 
 line_inside start p digits end now long e n h = omega (arith, e, n, h)
 
 -- a row's digits by its words
-pub row_by_words : (row : List Bool) (words before : List ℕ) (digits : ℕ) → AreWordsOf row words
-    → (length row + 7) / 8 * 2 ≡ digits → before ++ (take digits (flat_map word_text words) ++ 10 ∷ []) ≡ before ++ row_text row
-row_by_words row words before digits w d =
-    ap (λ (t : List ℕ). before ++ (t ++ 10 ∷ [])) (digits_whole row words digits w (sym d))
+pub digits_by_words : (start digits : ℕ) (row : List Bool) (words old new : List ℕ) → digits ≡ (length row + 7) / 8 * 2
+    → AreWordsOf row words → start + digits + 7 ≤ length old → length new ≡ length old
+    → take (start + 8 * length words) new ≡ take start old ++ flat_map word_text words
+    → take (start + digits) new ≡ take start old ++ row_digits row
+digits_by_words start digits row words old new d w room long text =
+    let count = w.count in
+    front start digits (8 * length words) old new (flat_map word_text words) (omega (arith, room)) (omega (arith, d, count))
+    (omega (arith, d, count, room, long)) text
+    ∙ ap (λ (t : List ℕ). take start old ++ t) (digits_whole row words digits w d)
 
--- and by its only word
-pub row_by_word : (row : List Bool) (words lanes before : List ℕ) (digits : ℕ) → AreWordsOf row words → 0 < digits → digits ≤ 8
-    → (length row + 7) / 8 * 2 ≡ digits → lanes ≡ word_text (get_or words 0 0)
+-- a row's line by its only word
+pub row_by_word : (row : List Bool) (w : ℕ) (lanes before : List ℕ) (digits : ℕ) → AreWordsFrom 0 row (w ∷ []) → digits ≤ 8
+    → (length row + 7) / 8 * 2 ≡ digits → lanes ≡ word_text w
     → before ++ (take digits lanes ++ 10 ∷ []) ≡ before ++ row_text row
-row_by_word row words lanes before digits w some few d is =
-    let one : length words ≡ 1 = omega (arith, w.count, some, few, d) in
-    ap (λ (t : List ℕ). before ++ (take digits t ++ 10 ∷ [])) (is ∙ sym (one_word words one))
-    ∙ row_by_words row words before digits w d
+row_by_word row w lanes before digits word few d is =
+    ap (λ (t : List ℕ). before ++ (t ++ 10 ∷ []))
+    (ap (take digits) is ∙ digits_more row (w ∷ []) 0 digits word (omega (arith, few, d)) ∙ digits_all row 1 (omega (arith, few, d)))
+
+-- one word of a row more
+pub row_word_over : (start k digits w : ℕ) (row : List Bool) (old now new rest : List ℕ) → digits ≡ (length row + 7) / 8 * 2
+    → 8 * k < digits → AreWordsFrom k row (w ∷ []) → start + digits ≤ length now
+    → take (start + min (8 * k) digits) now ≡ take start old ++ take (8 * k) (row_digits row)
+    → new ≡ take (start + 8 * k) now ++ (word_text w ++ rest)
+    → take (start + min (8 * (k + 1)) digits) new ≡ take start old ++ take (8 * (k + 1)) (row_digits row)
+row_word_over start k digits w row old now new rest d some word inside text n =
+    let count = min (digits - 8 * k) 8 in
+    let here : start + min (8 * k) digits ≡ start + 8 * k = omega (arith, some) in
+    let at : start + min (8 * (k + 1)) digits ≡ start + 8 * k + count = omega (arith, some) in
+    let piece = take count (word_text w) in
+    let left : List ℕ = drop count (word_text w) ++ rest in
+    ap (λ (i : ℕ). take i new) at
+    ∙ piece_over (start + 8 * k) count now piece left new (take start old) (take (8 * k) (row_digits row)) _ (omega arith)
+    (length-take-le count (word_text w) (omega arith)) (ap (λ (i : ℕ). take i now) (sym here) ∙ text)
+    (n
+    ∙ ap (λ (t : List ℕ). take (start + 8 * k) now ++ (t ++ rest)) (sym (take-append-drop count (word_text w)))
+    ∙ ap (λ (t : List ℕ). take (start + 8 * k) now ++ t) (append_assoc piece (drop count (word_text w)) rest))
+    (digits_more row (w ∷ []) k count word (omega (arith, d)))
 
 -- the lines before a row and from it on
 pub lines_split : (rows : List (List Bool)) (i : ℕ)

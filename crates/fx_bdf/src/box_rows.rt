@@ -13,8 +13,6 @@ use std::marker::Model;
 
 /// The rows of the tight box of a bitmap's set bits, from the top, seen as their bits. The bitmap's rows have `stride` words each,
 /// and `top` of them end with the box's highest. The box's rows begin `from` pixels to the right of the bitmap's.
-///
-/// What a loop over the rows needs lies here and not behind a reference, so that the loop reads it once.
 #[derive(Drop)]
 pub struct BoxRows<'a> {
     words: &'a [u32],
@@ -51,6 +49,20 @@ impl<'a> BoxRows<'a> {
             from: distance(frame.left, bounds.left) as usize,
             width: bounds.width,
             height: bounds.height,
+        }
+    }
+
+    /// The same rows once more, as a value that no reference leads to: a loop that writes bytes need not read it again.
+    pub fn copied(&self) -> BoxRows<'a>
+        ensures { result ≡ self.now }
+    {
+        BoxRows {
+            words: self.words,
+            stride: self.stride,
+            top: self.top,
+            from: self.from,
+            width: self.width,
+            height: self.height,
         }
     }
 

@@ -3,10 +3,12 @@
 ghost use Rattle.std.specs.Prelude.{◌≡◌, ◌+◌, ◌-◌, ◌*◌, ◌/◌, ◌++◌, ◌∷◌, [], ◌<◌, ◌≤◌, ◌^◌, ℕ, take, length, slice_index_or};
 ghost use Rattle.std.specs.List.{flat_map};
 ghost use Rattle.fx_fixed.specs.Texts.{with_more};
+ghost use Rattle.fx_bdf.specs.Text.{row_digits, row_text};
 ghost use Rattle.fx_bdf.specs.inner.Lines.{word_text, lines_between};
 
 use crate::box_rows::BoxRows;
 use crate::digits::{put_pair, put_word, two_lanes};
+use crate::rows::Row;
 use fx_fixed::{Fill, Sink, TextWriter, put_over};
 use std::simd::prelude::*;
 
@@ -28,21 +30,39 @@ fn put_words(bytes: &mut [u8], start: usize, words: &[u32])
     }
 }
 
-/// Writes the first `digits` digits of words and LF over the bytes from `start` on; returns where the line ends.
+/// Writes the digits of a row over the bytes from `start` on, by whole words.
 #[inline(always)]
-fn put_line(bytes: &mut [u8], start: usize, words: &[u32], digits: usize) -> usize
-    requires room { start + 8 * length words.now < length bytes.old }
-    requires few { digits ≤ 8 * length words.now }
+fn put_digits(bytes: &mut [u8], start: usize, row: &Row<'_>, digits: usize)
+    requires digits { digits ≡ (length row.now + 7) / 8 * 2 }
+    requires room { start + digits + 7 ≤ length bytes.old }
+    ensures long { length bytes.new ≡ length bytes.old }
+    ensures text { take (start + digits) bytes.new ≡ take start bytes.old ++ row_digits row.now }
+{
+    if let Some(words) = row.whole_words() {
+        put_words(bytes, start, words);
+        return;
+    }
+    // The digits of the words before k were written.
+    'words: for k in 0..row.len() {
+        put_word(bytes, start + 8 * k, row.word(k));
+    }
+}
+
+/// Writes the line of a row over the bytes from `start` on; returns where it ends.
+#[inline(always)]
+fn put_row(bytes: &mut [u8], start: usize, row: &Row<'_>, digits: usize) -> usize
+    requires digits { digits ≡ (length row.now + 7) / 8 * 2 }
+    requires room { start + digits + 7 ≤ length bytes.old }
     ensures long { length bytes.new ≡ length bytes.old }
     ensures end { result ≡ start + (digits + 1) }
-    ensures text { take result bytes.new ≡ take start bytes.old ++ (take digits (flat_map word_text words.now) ++ 10 ∷ []) }
+    ensures text { take result bytes.new ≡ take start bytes.old ++ row_text row.now }
 {
-    put_words(bytes, start, words);
+    put_digits(bytes, start, row, digits);
     put_over(bytes, start + digits, b"\n");
     start + (digits + 1)
 }
 
-/// Writes the first `digits` of the eight digits of a word and LF, as `put_line` does.
+/// Writes the first `digits` of the eight digits of a word and LF over the bytes from `start` on; returns where the line ends.
 #[inline(always)]
 fn put_short_line(bytes: &mut [u8], start: usize, word: u8x8, digits: usize) -> usize
     requires word { length word ≡ 8 }
@@ -58,8 +78,8 @@ fn put_short_line(bytes: &mut [u8], start: usize, word: u8x8, digits: usize) -> 
 }
 
 /// Writes the lines of rows of one word each from `first` up to `last`, but perhaps the last one, over the bytes from `start` on:
-/// two at a time, so that their digits are made together. Writes none if the rows have more words, or do not begin with a word's
-/// first bit. Returns where the lines end, and the number of the row after them.
+/// two at a time, so that their digits are made together. Writes none if the rows have more words. Returns where the lines end,
+/// and the number of the row after them.
 #[inline(always)]
 fn put_short_lines(
     bytes: &mut [u8],
@@ -88,13 +108,7 @@ fn put_short_lines(
     let mut i = first;
     // The lines of the rows before i were written, up to `end`.
     'pairs: while last - i > 1 {
-        let Some(above) = rows.row(i).whole_words() else {
-            break;
-        };
-        let Some(below) = rows.row(i + 1).whole_words() else {
-            break;
-        };
-        let (upper, lower) = two_lanes(above[0], below[0]);
+        let (upper, lower) = two_lanes(rows.row(i).word(0), rows.row(i + 1).word(0));
         end = put_short_line(bytes, end, upper, digits);
         end = put_short_line(bytes, end, lower, digits);
         i += 2;
@@ -116,8 +130,8 @@ fn last_fitting(room: usize, digits: usize, rows: &BoxRows<'_>, first: u32) -> u
     first + fitting.min(left as usize) as u32
 }
 
-/// Writes the lines of rows from the row `first` on over the bytes from `start` on: as many as there is room for, or none if the
-/// rows do not begin with a word's first bit. Returns where they end, and the number of the row after them.
+/// Writes the lines of rows from the row `first` on over the bytes from `start` on: as many as there is room for. Returns where
+/// they end, and the number of the row after them.
 fn put_lines(bytes: &mut [u8], start: usize, rows: &BoxRows<'_>, first: u32) -> (usize, u32)
     requires { start ≤ length bytes.old }
     ensures long { length bytes.new ≡ length bytes.old }
@@ -134,10 +148,7 @@ fn put_lines(bytes: &mut [u8], start: usize, rows: &BoxRows<'_>, first: u32) -> 
     let (mut end, next) = put_short_lines(bytes, start, rows, digits, first, last);
     // The lines of the rows before i were written, up to `end`.
     'rows: for i in next..last {
-        let Some(words) = rows.row(i).whole_words() else {
-            return (end, i);
-        };
-        end = put_line(bytes, end, words, digits);
+        end = put_row(bytes, end, &rows.row(i), digits);
     }
     (end, last)
 }
@@ -158,14 +169,13 @@ impl<'a, 'b> Fill for RowLines<'a, 'b> {
     ghost Fills = { λ old new. (old.next ≤ new.next) × (old.next ≤ length old.rows.now → new.next ≤ length old.rows.now) };
 
     fn fill(&mut self, bytes: &mut [u8], start: usize) -> usize {
-        let (end, next) = put_lines(bytes, start, self.rows, self.next);
+        let (end, next) = put_lines(bytes, start, &self.rows.copied(), self.next);
         self.next = next;
         end
     }
 }
 
-/// Adds the lines of rows from the row `first` on: as many as there is room for, up to a row that does not begin with a word's
-/// first bit. Returns the number of the row after them.
+/// Adds the lines of rows from the row `first` on: as many as there is room for. Returns the number of the row after them.
 pub fn add_lines<W: Sink>(rows: &BoxRows<'_>, first: u32, text: &mut TextWriter<'_, W>) -> u32
     requires { first ≤ length rows.now }
     ensures order { first ≤ result }

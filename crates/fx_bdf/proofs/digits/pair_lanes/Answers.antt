@@ -3,5 +3,4 @@ use Rattle.fx_bdf.proofs.Lanes.{pair_text}
 use Rattle.fx_bdf.proofs.digits.pair_lanes.Goals as goal
 
 pub returns : goal.returns
-returns c = pair_text c.args.first c.args.second c.to_le_bytes-bytes.result (omega arith) (omega arith)
-    (rw (c.from.ensures, c.from-2.ensures) at c.to_le_bytes-bytes.ensures)
+returns c = pair_text c.args.first c.args.second (omega arith) (omega arith)

@@ -5,4 +5,4 @@ use Rattle.fx_bdf.proofs.digits.put_word.Goals as goal
 
 pub returns : goal.returns
 returns c =
-    lanes_over c.args.start 8 c.args.bytes.now c.word_lanes.result (word_text c.args.word) c.word_lanes.ensures refl c.requires
+    lanes_over c.args.start 8 c.args.bytes.now c.two_lanes.result.0 (word_text c.args.word) c.two_lanes.ensures.first refl c.requires

@@ -1,5 +1,5 @@
 use Rattle.std.proofs.Common.{arith}
-use Rattle.fx_bdf.proofs.Waiting.{line_end, line_inside, lines_more, row_by_words}
+use Rattle.fx_bdf.proofs.Waiting.{line_end, line_inside, lines_more}
 use Rattle.fx_bdf.proofs.row_lines.put_lines.Goals as goal
 
 pub rows-preserved : goal.rows-preserved
@@ -7,8 +7,8 @@ rows-preserved c =
     grind (
       arith,
       c.rows.invariant.long,
-      c.put_line-end.ensures.long,
-      c.put_line-end.ensures.end,
+      c.put_row-end.ensures.long,
+      c.put_row-end.ensures.end,
       c.last_fitting-last.ensures.inside,
       c.rows-test.true,
       c.last_fitting-last.ensures.room,
@@ -21,5 +21,4 @@ rows-preserved c =
       line_inside,
       line_end,
       lines_more,
-      row_by_words,
     )

@@ -1,6 +1,6 @@
 use Rattle.std.proofs.Common.{arith}
 use Rattle.std.proofs.lemmas.Simd.{length-put_chunk, take_more_put_chunk}
-use Rattle.fx_bdf.proofs.Waiting.{line_ended}
+use Rattle.fx_bdf.proofs.Waiting.{short_line_ended}
 use Rattle.fx_bdf.proofs.row_lines.put_short_line.Goals as goal
 
 pub returns-clause-text : goal.returns-clause-text
@@ -11,7 +11,7 @@ returns-clause-text c =
       c.requires.few,
       c.requires.word,
       c.put_over.ensures,
-      line_ended,
+      short_line_ended,
       length-put_chunk,
       take_more_put_chunk,
     )
