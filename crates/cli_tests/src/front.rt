@@ -40,9 +40,7 @@ impl Place for Shelf {
         self.names
     }
 
-    fn remove(&mut self, _new: Vec<u8>) {}
-
-    fn leave(&mut self) {}
+    fn remove(&mut self, _new: Option<Vec<u8>>) {}
 }
 
 /// A program that writes a text and ends with a status.

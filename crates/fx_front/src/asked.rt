@@ -39,11 +39,6 @@ impl<'t, 'a> Task<'t, 'a> {
         }
     }
 
-    /// Whether the list of characters is what `--set` stands for.
-    pub(crate) fn has_sets(&self, list: &str) -> bool {
-        !list.is_empty() && list == self.parts.listed
-    }
-
     /// The list of characters among the words.
     pub(crate) fn list(&self) -> Option<&'a str> {
         let mut is_next = false;

@@ -6,7 +6,7 @@ ghost use Rattle.fx_front.specs.Says.{Says};
 use crate::asked::{Task, has};
 use crate::facts::{Counts, Facts, Refused};
 use crate::kinds::{KINDS, kind_of};
-use crate::lines::{leave, tell};
+use crate::lines::tell;
 use crate::meant::{is_among, meant_by, place_of, set_meant_by};
 use crate::program::Program;
 use crate::run::Ended;
@@ -57,65 +57,49 @@ pub fn say_after<G: Program, E: Sink>(
     ensures { (between : E) × Says (change_of E.held E.fault_count err.old between)
         × Says (change_of E.held E.fault_count between err.new) }
 {
-    let mut text = Text::new(alloc);
-    let made = add_font_and_file(&mut text, program.facts(), task, ended);
-    say_text(alloc, &text, made, err);
-    let mut text = Text::new(alloc);
-    let made = add_after(alloc, &mut text, program, task, ended, is_file);
-    say_text(alloc, &text, made, err);
+    let font_or_file = of_font_or_file(alloc, program.facts(), task, ended);
+    tell(alloc, err, font_or_file);
+    let run = of_run(alloc, program, task, ended, is_file);
+    tell(alloc, err, run);
 }
 
-/// Says a text, if there was memory for it.
-fn say_text<E: Sink>(alloc: Global, text: &Text, made: Result<(), AllocError>, err: &mut E)
-    ensures { Says (change_of E.held E.fault_count err.old err.new) }
-{
-    match made {
-        Ok(()) => tell(alloc, err, text),
-        Err(_) => leave(err),
-    }
-}
-
-/// Adds what is said of a file whose name promises another format, or of a variable font.
-fn add_font_and_file(
-    text: &mut Text,
+/// What is said of a file whose name promises another format, or of a variable font.
+fn of_font_or_file(
+    alloc: Global,
     facts: &Facts,
     task: &Task<'_, '_>,
     ended: Ended,
-) -> Result<(), AllocError> {
+) -> Result<Text, AllocError> {
     if ended.status != 0 {
-        return Ok(());
+        return Ok(Text::new(alloc));
     }
     if let Some(name) = task.parts.output
         && task.is("make")
         && let Some((_, ending)) = name.rsplit_once('.')
         && is_among(ending, OTHERS)
     {
-        return text.add_all(&["'", name, IS_BDF]);
+        return Text::of(alloc, &["'", name, IS_BDF]);
     }
-    text.add_all(&[if facts.is_variable { IS_VARIABLE } else { "" }])
+    Text::of(alloc, &[if facts.is_variable { IS_VARIABLE } else { "" }])
 }
 
-/// Adds what is said after a run; nothing if nothing is.
-fn add_after<G: Program>(
+/// What is said of the run; nothing if nothing is.
+fn of_run<G: Program>(
     alloc: Global,
-    text: &mut Text,
     program: &G,
     task: &Task<'_, '_>,
     ended: Ended,
     is_file: bool,
-) -> Result<(), AllocError> {
+) -> Result<Text, AllocError> {
+    let mut text = Text::new(alloc);
     let facts = program.facts();
-    match ended.status {
-        0 => match facts.strike {
-            Some(counts) => add_strike(text, task, facts, counts, ended.is_blank),
-            None => Ok(()),
-        },
-        1 => match facts.refused {
-            Some(refused) => add_refusal(alloc, text, program, task, refused),
-            None => Ok(()),
-        },
-        _ => add_usage(alloc, text, program, task, is_file),
+    match (ended.status, facts.strike, facts.refused) {
+        (0, Some(counts), _) => add_strike(&mut text, task, facts, counts, ended.is_blank)?,
+        (1, _, Some(refused)) => add_refusal(alloc, &mut text, program, task, refused)?,
+        (0 | 1, _, _) => {}
+        _ => add_usage(alloc, &mut text, program, task, is_file)?,
     }
+    Ok(text)
 }
 
 /// Adds what is said of a strike.
@@ -130,25 +114,21 @@ fn add_strike(
         return text.add_all(&[IS_CUT]);
     }
     if counts.glyphs == 0 {
-        return text.add_all(&["the strike has no glyph: ", why_none(task, counts)]);
+        let why = if counts.missing > 0 {
+            LACKS_ALL
+        } else if task.list() == Some("") {
+            "the list of characters is empty"
+        } else if has(&task.parts.words, "--all") {
+            "the font has no character, or all are refused"
+        } else {
+            "the requested characters are refused"
+        };
+        return text.add_all(&["the strike has no glyph: ", why]);
     }
     if counts.missing > 0 {
         return add_missing(text, facts, counts);
     }
     text.add_all(&[if is_blank { IS_BLANK } else { "" }])
-}
-
-/// Why a strike has no glyph.
-fn why_none(task: &Task<'_, '_>, counts: Counts) -> &'static str {
-    if counts.missing > 0 {
-        LACKS_ALL
-    } else if task.list() == Some("") {
-        "the list of characters is empty"
-    } else if has(&task.parts.words, "--all") {
-        "the font has no character, or all are refused"
-    } else {
-        "the requested characters are refused"
-    }
 }
 
 /// Adds which characters are missing.
@@ -252,21 +232,16 @@ fn add_list<G: Program>(
         let takes = "--char takes one hexadecimal number up to 10FFFF, not '";
         return text.add_all(&[takes, list, "'; the letter A is 41"]);
     }
-    if task.has_sets(list)
+    if list == task.parts.listed
         && let Some(name) = list.split(',').find(|item| is_word(item))
     {
-        return add_set(alloc, text, name);
+        text.add_all(&["no set of characters has the name '", name, "'; "])?;
+        add_question(text, "", &set_meant_by(alloc, name)?, " ")?;
+        return text.add_all(&["'mkstrike help sets' lists the sets"]);
     }
     text.add(program.wrong_item(alloc, list)?.bytes())?;
     text.add_all(&[": ", advice, "; the letter A is 41"])?;
     add_names(alloc, text, list)
-}
-
-/// Adds what is said of a name that no set has.
-fn add_set(alloc: Global, text: &mut Text, name: &str) -> Result<(), AllocError> {
-    text.add_all(&["no set of characters has the name '", name, "'; "])?;
-    add_question(text, "", &set_meant_by(alloc, name)?, " ")?;
-    text.add_all(&["'mkstrike help sets' lists the sets"])
 }
 
 /// Adds the question whether words are meant, between two texts; nothing without words.
@@ -322,32 +297,21 @@ fn add_usage<G: Program>(
     task: &Task<'_, '_>,
     is_file: bool,
 ) -> Result<(), AllocError> {
-    let Some(first) = task.parts.words.get(1) else {
+    let words = task.parts.words.get(1..).unwrap_or(&[]);
+    let Some((first, _)) = words.split_first() else {
         return text.add_all(&[WRONG_LINE]);
     };
-    match task.command {
-        Some(command) => {
-            let said = program.wrong(alloc, task.parts.words.get(1..).unwrap_or(&[]))?;
-            add_words(alloc, text, task, command, &said)
-        }
-        None => add_command(alloc, text, first, is_file),
-    }
-}
-
-/// Adds what is wrong with the words of a command.
-fn add_words(
-    alloc: Global,
-    text: &mut Text,
-    task: &Task<'_, '_>,
-    command: &str,
-    said: &[u8],
-) -> Result<(), AllocError> {
-    let wrong = str::from_utf8(said).unwrap_or("").trim_end();
+    let Some(command) = task.command else {
+        return add_command(alloc, text, first, is_file);
+    };
+    let said = program.wrong(alloc, words)?;
+    let wrong = str::from_utf8(&said).unwrap_or("").trim_end();
     add_wrong(alloc, text, task, command, wrong)?;
     text.add_all(&[" 'mkstrike help ", command, "' shows how it is written"])
 }
 
-/// Adds the line that says what is wrong with them, and what explains it further.
+/// Adds the line that says what is wrong with the words of a command, and what explains it further: what there is in place of an
+/// unknown option, or which may be meant.
 fn add_wrong(
     alloc: Global,
     text: &mut Text,
@@ -361,24 +325,14 @@ fn add_wrong(
     if let Some(option) = wrong.strip_prefix("unknown option '") {
         let option = option.strip_suffix("'").unwrap_or(option);
         text.add_all(&[wrong, ";"])?;
-        return add_meant(alloc, text, option, command);
+        return match place_of(option) {
+            Some(place) => text.add_all(&[" ", place, ";"]),
+            None => add_question(text, " ", &meant_by(alloc, option, command)?, ""),
+        };
     }
     text.add_all(&[wrong])?;
     add_more(text, wrong, task)?;
     text.add_all(&[";"])
-}
-
-/// Adds what there is in place of an unknown option, or which may be meant.
-fn add_meant(
-    alloc: Global,
-    text: &mut Text,
-    option: &str,
-    command: &str,
-) -> Result<(), AllocError> {
-    match place_of(option) {
-        Some(place) => text.add_all(&[" ", place, ";"]),
-        None => add_question(text, " ", &meant_by(alloc, option, command)?, ""),
-    }
 }
 
 /// Adds what explains a wrong word or value further.

@@ -8,11 +8,12 @@ use crate::asked::{Asked, Task, asked_by};
 use crate::explained::say_after;
 use crate::help::{OVERVIEW, VERSION, help_of};
 use crate::input::Input;
-use crate::lines;
+use crate::lines::tell;
 use crate::meant::command_of;
 use crate::output::{NO_FOLDER, Outlet, Output, output_of, why_closed};
 use crate::program::Program;
-use crate::run::{Ended, run_to_place};
+use crate::run::run_to_place;
+use crate::text::Text;
 use fx_fixed::{FromReader, Sink, ToSink, put_all};
 use fx_words::{listed, part, set_in, whole};
 use std::alloc::Global;
@@ -53,7 +54,8 @@ fn print(rt: &HostRuntime, text: &str) -> u8
 
 /// Says pieces in a line.
 fn say(rt: &HostRuntime, pieces: &[&str]) {
-    lines::say(rt.alloc(), &mut ToSink::new(rt.stderr()), pieces);
+    let mut err = ToSink::new(rt.stderr());
+    tell(rt.alloc(), &mut err, Text::of(rt.alloc(), pieces));
 }
 
 /// Says why there are no words, after the line of a wrong command line.
@@ -61,7 +63,7 @@ pub fn say_not_text<E: Sink>(alloc: Global, err: &mut E)
     ensures { Says (change_of E.held E.fault_count err.old err.new) }
 {
     let what = "an argument is not UTF-8 text: give a font with such a name on standard input";
-    lines::say(alloc, err, &[what]);
+    tell(alloc, err, Text::of(alloc, &[what]));
 }
 
 /// Runs the program on the words, or has it explain them without an input.
@@ -83,7 +85,7 @@ fn run_words<G: Program>(rt: &HostRuntime, program: &mut G, words: &[&str]) -> i
             } else {
                 Input::Standard(rt.stdin())
             };
-            run_from(rt, program, &task, input, Output::Standard)
+            Ok(run_from(rt, program, &task, input, Output::Standard))
         }
     }
 }
@@ -106,11 +108,11 @@ fn run_command<G: Program>(
         parts: &parts,
         command: Some(command),
     };
-    if count > 2 {
-        run_from(rt, program, &task, Input::Nothing, Output::Standard)
-    } else {
-        run_named(rt, program, &task)
+    if count == 2 {
+        return run_named(rt, program, &task);
     }
+    let input = Input::Nothing;
+    Ok(run_from(rt, program, &task, input, Output::Standard))
 }
 
 /// Runs the program on the font and with the output that the words name.
@@ -126,7 +128,7 @@ fn run_named<G: Program>(rt: &HostRuntime, program: &mut G, task: &Task<'_, '_>)
         _ => "/dev/stdin",
     };
     match output_of(rt, task.parts.output, font)? {
-        Ok(output) => run_from(rt, program, task, input, output),
+        Ok(output) => Ok(run_from(rt, program, task, input, output)),
         Err(why) => Ok(refuse_output(rt, task, why)),
     }
 }
@@ -155,7 +157,7 @@ fn input_of(rt: &HostRuntime, font: Option<&str>) -> Result<Input, &'static str>
     }
 }
 
-/// Says why a font can't be opened; or what is wrong with the other words, if something is. Returns the status.
+/// Says why a font can't be opened, and how it is named; or what is wrong with the other words. Returns the status.
 fn refuse_font<G: Program>(
     rt: &HostRuntime,
     program: &mut G,
@@ -166,14 +168,9 @@ fn refuse_font<G: Program>(
 {
     let wrong = program.wrong(rt.alloc(), task.parts.words.get(1..).unwrap_or(&[]))?;
     if !wrong.is_empty() {
-        return run_from(rt, program, task, Input::Nothing, Output::Standard);
+        let input = Input::Nothing;
+        return Ok(run_from(rt, program, task, input, Output::Standard));
     }
-    say_closed(rt, task, why);
-    Ok(1)
-}
-
-/// Says why a font can't be opened, and how it is named.
-fn say_closed(rt: &HostRuntime, task: &Task<'_, '_>, why: &str) {
     let name = task.parts.font.unwrap_or("");
     say(rt, &["can't open the font '", name, "': ", why]);
     let (how, command, end) = if name.contains('/') {
@@ -185,6 +182,7 @@ fn say_closed(rt: &HostRuntime, task: &Task<'_, '_>, why: &str) {
     };
     let names = "the first word that is neither an option nor its value names the font";
     say(rt, &[names, how, command, end]);
+    Ok(1)
 }
 
 /// Says why an output is not written. Returns the status.
@@ -203,8 +201,8 @@ fn run_from<G: Program>(
     task: &Task<'_, '_>,
     input: Input,
     output: Output,
-) -> io::Result<u8>
-    ensures { IfOk result IsStatus }
+) -> u8
+    ensures { IsStatus result }
 {
     let mut err = ToSink::new(rt.stderr());
     let ended = run_to_place(
@@ -215,28 +213,15 @@ fn run_from<G: Program>(
         &mut Outlet { rt, output },
         &mut err,
     );
-    Ok(end(rt, program, task, ended))
-}
-
-/// Says what there is to say after a run. Returns the status.
-fn end<G: Program>(rt: &HostRuntime, program: &G, task: &Task<'_, '_>, ended: Ended) -> u8
-    requires { IsStatus ended.status }
-    ensures { IsStatus result }
-{
     if ended.is_unmade && ended.status == 1 {
         return refuse_output(rt, task, NO_FOLDER);
     }
     if ended.status == 0 && !ended.is_named {
         return refuse_output(rt, task, "the new file could not be given its name");
     }
-    let is_file = ended.status == 2 && task.command.is_none() && begins_with_file(rt, task);
-    let mut err = ToSink::new(rt.stderr());
+    let first = task.parts.words.get(1).copied().unwrap_or("");
+    let is_file = ended.status == 2
+        && matches!(fs::metadata(rt, first), Ok(found) if found.is_file());
     say_after(rt.alloc(), program, task, ended, is_file, &mut err);
     ended.status
-}
-
-/// Whether the first word names a file.
-fn begins_with_file(rt: &HostRuntime, task: &Task<'_, '_>) -> bool {
-    let first = task.parts.words.get(1).copied().unwrap_or("");
-    matches!(fs::metadata(rt, first), Ok(found) if found.is_file())
 }

@@ -1,7 +1,8 @@
 //! What kind of file it is, by its first bytes.
 ghost use Rattle.std.specs.Prelude.{◌≡◌};
+ghost use Rattle.std.specs.List.{list_all};
 ghost use Rattle.fx_words.specs.Parts.{text_in};
-ghost use Rattle.fx_front.specs.inner.Kinds.{is_hexadecimal, kind_among, kind_of, looks_hexadecimal};
+ghost use Rattle.fx_front.specs.inner.Kinds.{is_hexadecimal, kind_among, kind_of};
 
 /// The first bytes of files that are no TrueType font, and what to do with each. The first row that fits counts. docs/REFUSALS.md
 /// has the same rows.
@@ -81,11 +82,10 @@ pub(crate) fn kind_of(rows: &[(&'static [u8], &'static str)], start: &[u8]) -> O
         return Some("the file is empty: give a TrueType font");
     }
     match kind_among(rows, start) {
-        Some(text) => Some(text),
         None if looks_hexadecimal(start) => {
             Some("the file may be hexadecimal text: if so, add --hex")
         }
-        None => None,
+        kind => kind,
     }
 }
 
@@ -104,20 +104,9 @@ fn kind_among(rows: &[(&'static [u8], &'static str)], start: &[u8]) -> Option<&'
 
 /// Whether the first bytes are hexadecimal digits and blanks.
 fn looks_hexadecimal(start: &[u8]) -> bool
-    ensures { result ≡ looks_hexadecimal start.now }
+    ensures { result ≡ list_all is_hexadecimal start.now }
 {
-    // All are if those that are left are.
-    'bytes: for byte in start {
-        if !is_hexadecimal(*byte) {
-            return false;
-        }
-    }
-    true
-}
-
-/// Whether a byte is a hexadecimal digit or a blank.
-fn is_hexadecimal(byte: u8) -> bool
-    ensures { result ≡ is_hexadecimal byte }
-{
-    byte.is_ascii_hexdigit() || byte == b' ' || byte == b'\r' || byte == b'\n'
+    start.iter().all(|byte| {
+        byte.is_ascii_hexdigit() || *byte == b' ' || *byte == b'\r' || *byte == b'\n'
+    })
 }

@@ -103,14 +103,6 @@ pub(crate) fn command_of(word: &str) -> Option<&'static str>
     }
 }
 
-/// The options of a command; the commands if it is none.
-fn options_of(command: &str) -> &'static str {
-    match row_of(&OPTIONS, command) {
-        Some((_, options)) => options,
-        None => COMMANDS,
-    }
-}
-
 /// What there is in place of an option that others have.
 pub(crate) fn place_of(option: &str) -> Option<&'static str> {
     // The option is in no row so far.
@@ -125,7 +117,7 @@ pub(crate) fn place_of(option: &str) -> Option<&'static str> {
 /// Which option of a command may be meant by a word, or which command if none is given, each in quotation marks. It is found by a
 /// usual word for it, or by the fewest letters that differ, and then there may be two. Nothing if none may be.
 pub(crate) fn meant_by(alloc: Global, word: &str, command: &str) -> Result<Text, AllocError> {
-    let words = options_of(command);
+    let words = row_of(&OPTIONS, command).map_or(COMMANDS, |row| row.1);
     // The word is in no row so far that has one of the words.
     'rows: for (usual, meant) in USUAL.iter().copied() {
         if is_among(word, usual) && is_among(meant, words) {
@@ -144,13 +136,8 @@ pub(crate) fn set_meant_by(alloc: Global, name: &str) -> Result<Text, AllocError
     if name.len() < 4 {
         return Ok(Text::new(alloc));
     }
-    nearest(alloc, name, set_names(alloc)?.as_str())
-}
-
-/// The names of the sets, which spaces part.
-fn set_names(alloc: Global) -> Result<String, AllocError> {
     let names: Vec<&str> = SETS.iter().map(|set| set.0).collect(alloc)?;
-    names.join(alloc, " ")
+    nearest(alloc, name, names.join(alloc, " ")?.as_str())
 }
 
 /// The words with the fewest letters that differ from one, at most two, each in quotation marks.
@@ -158,21 +145,10 @@ fn nearest(alloc: Global, word: &str, words: &str) -> Result<Text, AllocError> {
     let mut lower = String::from_str(alloc, word)?;
     lower.make_ascii_lowercase();
     let mut found = Text::new(alloc);
-    find_nearest(alloc, &mut found, lower.as_str(), words)?;
-    Ok(found)
-}
-
-/// Puts the nearest words into a text without bytes.
-fn find_nearest(
-    alloc: Global,
-    found: &mut Text,
-    lower: &str,
-    words: &str,
-) -> Result<(), AllocError> {
     let mut nearest = 2;
     // `found` has the words so far that are nearest.
     'words: for each in words.split(' ') {
-        let distance = levenshtein(alloc, lower, each)?;
+        let distance = levenshtein(alloc, lower.as_str(), each)?;
         if distance < nearest {
             found.clear();
             nearest = distance;
@@ -182,7 +158,7 @@ fn find_nearest(
             found.add_all(&[before, each, "'"])?;
         }
     }
-    Ok(())
+    Ok(found)
 }
 
 /// Whether a word is among others, which spaces part.

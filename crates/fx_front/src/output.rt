@@ -1,8 +1,9 @@
 //! The output by its name.
-use crate::paths::{beside_streams, folder_of, followed, is_same};
+use crate::paths::{beside_streams, folder_of, followed};
 use crate::place::Place;
 use std::fs::{File, Metadata, Permissions};
 use std::io::{ErrorKind, Stdout, Write};
+use std::os::unix::fs::MetadataExt;
 use std::{fs, io};
 
 pub const NO_FOLDER: &str = "no file can be made in its folder";
@@ -98,7 +99,9 @@ fn refused(rt: &HostRuntime, name: &str, font: &str, found: &Metadata) -> Option
     if !found.is_file() {
         return None;
     }
-    if is_same(rt, found, font) {
+    if let Ok(other) = fs::metadata(rt, font)
+        && (found.dev(), found.ino()) == (other.dev(), other.ino())
+    {
         return Some("it is the font");
     }
     if found.permissions().readonly() {
@@ -179,14 +182,14 @@ impl<'a> Place for Outlet<'a> {
         false
     }
 
-    fn remove(&mut self, new: Opened) {
-        if let Opened::New(file, made) = new {
+    fn remove(&mut self, new: Option<Opened>)
+        ensures { ⊤ }
+    {
+        if let Some(Opened::New(file, made)) = new {
             drop(file);
             let _ = fs::remove_file(self.rt, made.as_str());
         }
     }
-
-    fn leave(&mut self) {}
 }
 
 impl Write for Opened {

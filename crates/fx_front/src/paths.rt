@@ -1,7 +1,6 @@
 //! Names of files.
-use std::fs::{File, Metadata};
+use std::fs::File;
 use std::os::fd::AsRawFd;
-use std::os::unix::fs::MetadataExt;
 use std::{fs, io};
 
 /// How many links are followed, as by the system.
@@ -35,14 +34,6 @@ pub(crate) fn followed(rt: &HostRuntime, path: &str) -> io::Result<Option<String
         }
     }
     Ok(None)
-}
-
-/// Whether this is the file that a path leads to.
-pub(crate) fn is_same(rt: &HostRuntime, file: &Metadata, path: &str) -> bool {
-    match fs::metadata(rt, path) {
-        Ok(other) => file.dev() == other.dev() && file.ino() == other.ino(),
-        Err(_) => false,
-    }
 }
 
 /// The same open file under a number above those of the standard streams. A file that is opened while one of these is closed gets

@@ -26,11 +26,7 @@ pub trait Place {
         ensures named { result ≡ true → Names self.old (Self.New.contents new) self.new }
         ensures spared { result ≡ false → Spares self.old self.new };
 
-    /// Removes the file.
-    fn remove(&mut self, new: Self::New)
-        ensures { Spares self.old self.new };
-
-    /// Makes no file.
-    fn leave(&mut self)
+    /// Removes the file, if one was made.
+    fn remove(&mut self, new: Option<Self::New>)
         ensures { Spares self.old self.new };
 }

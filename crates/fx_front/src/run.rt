@@ -65,35 +65,21 @@ fn keeps<G: Program>(program: &G, is_trace: bool, status: u8) -> bool
     is_trace && status == 1 && matches!(program.facts().refused, Some(refused) if refused.is_halted)
 }
 
-/// Gives a new file its name if the status is 0 or if it is kept, and else removes it. Returns whether it got its name.
+/// Gives a new file its name if the status is 0, also if nothing was written, or if it is kept; else removes it. Returns whether it
+/// got its name.
 fn settle<P: Place>(place: &mut P, new: Option<P::New>, status: u8, is_kept: bool) -> bool
     ensures due { result ≡ true → (status ≡ 0) ⊎ (is_kept ≡ true) }
     ensures named { result ≡ true → P.Names place.old (held_by P.New.contents P.fresh new) place.new }
     ensures spared { result ≡ false → P.Spares place.old place.new }
 {
+    let new = match new {
+        None if status == 0 => place.make(),
+        made => made,
+    };
     match new {
         Some(new) if status == 0 || is_kept => place.name(new),
-        Some(new) => {
-            place.remove(new);
-            false
-        }
-        None if status == 0 => name_empty(place),
-        None => {
-            place.leave();
-            false
-        }
-    }
-}
-
-/// Makes a file to which nothing was written, and gives it its name.
-fn name_empty<P: Place>(place: &mut P) -> bool
-    ensures named { result ≡ true → P.Names place.old P.fresh place.new }
-    ensures spared { result ≡ false → P.Spares place.old place.new }
-{
-    match place.make() {
-        Some(new) => place.name(new),
-        None => {
-            place.leave();
+        unnamed => {
+            place.remove(unnamed);
             false
         }
     }

@@ -1,8 +1,8 @@
 -- What kind of file it is, by its first bytes.
-use Rattle.std.specs.Prelude.{ℕ, ◌==◌, ◌&&◌, ◌||◌, nat_eq, Bool, true, List, [], ◌∷◌, codes, Option, Some, None, if◌then◌else◌}
+use Rattle.std.specs.Prelude.{ℕ, ◌==◌, ◌||◌, nat_eq, Bool, List, [], ◌∷◌, codes, Option, Some, None, if◌then◌else◌}
 use Rattle.std.specs.Borrow.{Bor}
 use Rattle.std.specs.Char.{is_ascii_hexdigit}
-use Rattle.std.specs.List.{starts_with}
+use Rattle.std.specs.List.{list_all, starts_with}
 use Rattle.std.specs.Option.{option_or}
 use Rattle.fx_words.specs.Parts.{Text}
 
@@ -15,12 +15,8 @@ kind_among (row ∷ rows) start = if starts_with nat_eq start row.0.now then Som
 abbrev pub is_hexadecimal : ℕ → Bool
 is_hexadecimal byte = is_ascii_hexdigit byte || (byte == 32 || (byte == 13 || byte == 10))
 
-abbrev pub looks_hexadecimal : List ℕ → Bool
-looks_hexadecimal [] = true
-looks_hexadecimal (byte ∷ start) = is_hexadecimal byte && looks_hexadecimal start
-
 -- what a file looks like that begins so, if it is in no row either
 abbrev pub kind_of : List (Bor (List ℕ) × Bor Text) → List ℕ → Option Text
 kind_of rows [] = Some (codes "the file is empty: give a TrueType font")
 kind_of rows (byte ∷ start) = option_or (kind_among rows (byte ∷ start))
-    (if looks_hexadecimal (byte ∷ start) then Some (codes "the file may be hexadecimal text: if so, add --hex") else None)
+    (if list_all is_hexadecimal (byte ∷ start) then Some (codes "the file may be hexadecimal text: if so, add --hex") else None)
