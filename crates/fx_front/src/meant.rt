@@ -150,7 +150,7 @@ fn nearest(alloc: Global, word: &str, words: &str) -> Result<Text, AllocError> {
     'words: for each in words.split(' ') {
         let distance = levenshtein(alloc, lower.as_str(), each)?;
         if distance < nearest {
-            found.clear();
+            found = Text::new(alloc);
             nearest = distance;
         }
         if distance == nearest {

@@ -93,13 +93,6 @@ impl Text {
         Ok(())
     }
 
-    /// Takes all bytes out.
-    pub fn clear(&mut self)
-        ensures { self.new ≡ [] }
-    {
-        self.bytes.clear();
-    }
-
     /// Whether there is nothing in it.
     pub fn is_empty(&self) -> bool
         ensures { result ≡ (length self.now == 0) }
