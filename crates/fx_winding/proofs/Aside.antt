@@ -78,8 +78,7 @@ minus_below s t e h = omega (arith, signed_linear, e, h)
 
 -- one that lies right of p or in its column
 pub right_turn : (p : Place) (s : Span) → StartsFrom p.x s → IsNoEnd p s → turn p s ≡ above p.y s.c.y -ℤ above p.y s.a.y
-right_turn p s h n =
-    (λ i. crossing_right s.a.y s.c.y p.y (area s.a s.c p) up down i +ℤ left_no_region p s h i)
+right_turn p s h n = (λ i. crossing_right s.a.y s.c.y p.y (area s.a s.c p) up down i +ℤ left_no_region p s h i)
     ∙ same (above p.y s.c.y -ℤ above p.y s.a.y)
   where
     up : s.a.y ≤ℤ p.y → p.y <ℤ s.c.y → pos 0 <ℤ area s.a s.c p
@@ -141,12 +140,10 @@ record AreAbove (A B C : ℤ) : Type 0 where
   last : pos 0 <ℤ weight_last A B C
 
 -- the weight of an end, and of the control point, by the products in it
-end_above : (ac bb x y : ℤ) → pos 0 <ℤ ac → ac ≤ℤ bb → pos 0 ≤ℤ x → pos 0 <ℤ y
-    → pos 0 <ℤ ((pos 2 *ℤ bb -ℤ ac) +ℤ pos 2 *ℤ x +ℤ y)
+end_above : (ac bb x y : ℤ) → pos 0 <ℤ ac → ac ≤ℤ bb → pos 0 ≤ℤ x → pos 0 <ℤ y → pos 0 <ℤ ((pos 2 *ℤ bb -ℤ ac) +ℤ pos 2 *ℤ x +ℤ y)
 end_above ac bb x y h k l m = omega (arith, signed)
 
-middle_above : (ac ab bc : ℤ) → pos 0 <ℤ ac → pos 0 ≤ℤ ab → pos 0 ≤ℤ bc
-    → pos 0 <ℤ (pos 4 *ℤ ac +ℤ pos 2 *ℤ ab +ℤ pos 2 *ℤ bc)
+middle_above : (ac ab bc : ℤ) → pos 0 <ℤ ac → pos 0 ≤ℤ ab → pos 0 ≤ℤ bc → pos 0 <ℤ (pos 4 *ℤ ac +ℤ pos 2 *ℤ ab +ℤ pos 2 *ℤ bc)
 middle_above ac ab bc h k l = omega (arith, signed)
 
 weights_above : (A B C : ℤ) → pos 0 <ℤ A → pos 0 ≤ℤ B → pos 0 <ℤ C → (A *ℤ C) ≤ℤ (B *ℤ B) → AreAbove A B C
@@ -169,17 +166,14 @@ weighted a b c p A B C =
     (a.x -ℤ p.x) *ℤ weight_first A B C +ℤ (b.x -ℤ p.x) *ℤ weight_middle A B C +ℤ (c.x -ℤ p.x) *ℤ weight_last A B C
 
 abbrev weighted_at : Expr → Expr → Expr → Expr
-weighted_at A B C =
-    (var 0 ⊟ var 6) ⊠ first_expr A B C ⊞ (var 2 ⊟ var 6) ⊠ middle_expr A B C ⊞ (var 4 ⊟ var 6) ⊠ last_expr A B C
+weighted_at A B C = (var 0 ⊟ var 6) ⊠ first_expr A B C ⊞ (var 2 ⊟ var 6) ⊠ middle_expr A B C ⊞ (var 4 ⊟ var 6) ⊠ last_expr A B C
 
 slope_from_below : (a b c p : Place) → slope a b c p ≡ weighted a b c p (p.y -ℤ a.y) (b.y -ℤ p.y) (p.y -ℤ c.y)
-slope_from_below a b c p =
-    ring (coordinates (a ∷ b ∷ c ∷ p ∷ []) []) (slope_at (at 0) (at 1) (at 2) (at 3))
+slope_from_below a b c p = ring (coordinates (a ∷ b ∷ c ∷ p ∷ []) []) (slope_at (at 0) (at 1) (at 2) (at 3))
     (weighted_at (var 7 ⊟ var 1) (var 3 ⊟ var 7) (var 7 ⊟ var 5)) tt
 
 slope_from_above : (a b c p : Place) → slope a b c p ≡ weighted a b c p (a.y -ℤ p.y) (p.y -ℤ b.y) (c.y -ℤ p.y)
-slope_from_above a b c p =
-    ring (coordinates (a ∷ b ∷ c ∷ p ∷ []) []) (slope_at (at 0) (at 1) (at 2) (at 3))
+slope_from_above a b c p = ring (coordinates (a ∷ b ∷ c ∷ p ∷ []) []) (slope_at (at 0) (at 1) (at 2) (at 3))
     (weighted_at (var 1 ⊟ var 7) (var 7 ⊟ var 3) (var 5 ⊟ var 7)) tt
 
 -- the turn of a quadratic that goes past the row and back

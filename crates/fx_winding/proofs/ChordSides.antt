@@ -1,8 +1,7 @@
 -- On a chord that rises, the regions of an arc and of the exchanged one add up to 1 left of the upper end, else to 0: `regions_on`.
 -- Serves `Sideways`.
-use Rattle.std.proofs.Common.{◌≡◌, ◌≢◌, refl, ap, ◌∙◌, subst, inl, inr, ℤ, pos, negsuc, ◌+ℤ◌, ◌-ℤ◌, ◌*ℤ◌}
-use Rattle.std.proofs.Common.{neg_ℤ, ◌≤ℤ◌, ◌<ℤ◌, int_lt, int_le, Bool, true, false, ◌&&◌, ◌||◌, if◌then◌else◌}
-use Rattle.std.proofs.Common.{[], ◌∷◌, Option, Some, option_map, arith}
+use Rattle.std.proofs.Common.{◌≡◌, ◌≢◌, refl, ap, ◌∙◌, subst, inl, inr, ℤ, pos, negsuc, ◌+ℤ◌, ◌-ℤ◌, ◌*ℤ◌, neg_ℤ, ◌≤ℤ◌, ◌<ℤ◌, int_lt}
+use Rattle.std.proofs.Common.{int_le, Bool, true, false, ◌&&◌, ◌||◌, if◌then◌else◌, [], ◌∷◌, Option, Some, option_map, arith}
 use Rattle.std.specs.Ordering.{int_eq}
 use Rattle.std.proofs.lemmas.Int.{ints, by_lt_z}
 use Rattle.fx_fixed.specs.Polynomial.{var, ◌⊠◌, minus}
@@ -13,8 +12,7 @@ use Rattle.fx_winding.specs.Area.{Place, area, area_of}
 use Rattle.fx_winding.specs.Turned.{turned_place}
 use Rattle.fx_winding.specs.Winding.{sign, weight_a, weight_b, weight_c, region_part, is_right_of_chord}
 use Rattle.fx_winding.proofs.Beside.{total_above}
-use Rattle.fx_winding.proofs.Columns.{IsAlong, sign_along, below_zero, IsOnRising, end_side, times_none}
-use Rattle.fx_winding.proofs.Columns.{weight_up, weight_down}
+use Rattle.fx_winding.proofs.Columns.{IsAlong, sign_along, below_zero, IsOnRising, end_side, times_none, weight_up, weight_down}
 use Rattle.fx_winding.proofs.Crossings.{above}
 use Rattle.fx_winding.proofs.Products.{product}
 use Rattle.fx_winding.proofs.TurnedAreas.{area_turned, sign_area_turned, weight}
@@ -45,22 +43,19 @@ has_ends a b c p h n =
     let some = total_above (area a b c) n in
     let rise : pos 0 <ℤ (c.y -ℤ a.y) = omega (arith, signed_linear, low, high) in
     record {
-      of_a = above_factor (c.y -ℤ a.y) (weight_a a b c p) rise
-          (let e = weight_down s a.x a.y b.x b.y c.x c.y p.x p.y in
+      of_a = above_factor (c.y -ℤ a.y) (weight_a a b c p) rise (let e = weight_down s a.x a.y b.x b.y c.x c.y p.x p.y in
           let y = times_none (b.y -ℤ c.y) _ z in
           let q = product_above_zero (c.y -ℤ p.y) _ (omega (arith, signed_linear, high)) some in
           omega (arith, signed_linear, e, y, q));
       of_b = times_none s _ (area_swap a c p ∙ ap neg_ℤ h.none);
-      of_c = above_factor (c.y -ℤ a.y) (weight_c a b c p) rise
-          (let e = weight_up s a.x a.y b.x b.y c.x c.y p.x p.y in
+      of_c = above_factor (c.y -ℤ a.y) (weight_c a b c p) rise (let e = weight_up s a.x a.y b.x b.y c.x c.y p.x p.y in
           let y = times_none (b.y -ℤ a.y) _ z in
           let q = product_above_zero (p.y -ℤ a.y) _ (omega (arith, signed_linear, low)) some in
           omega (arith, signed_linear, e, y, q));
     }
 
 -- exchanged, they are the same
-has_ends_turned : (a b c p : Place) → HasEnds a b c p
-    → HasEnds (turned_place a) (turned_place b) (turned_place c) (turned_place p)
+has_ends_turned : (a b c p : Place) → HasEnds a b c p → HasEnds (turned_place a) (turned_place b) (turned_place c) (turned_place p)
 has_ends_turned a b c p h = grind (arith, signed_linear, h, weight)
 
 -- what belongs to the region on the chord: all or nothing
@@ -160,8 +155,7 @@ regions_left a b c h d =
 -- they add up to 1 where the place is left of the upper end
 pub regions_on : (a b c p : Place) → IsOnRising a c p → area a b c ≢ pos 0
     → column_region a (Some b) c p +ℤ region_part a (Some b) c p ≡ above p.x c.x
-regions_on a b c p h n =
-    (λ i. region_at _ _ _ _ (has_ends_turned a b c p ends) i +ℤ region_at a b c p ends i)
+regions_on a b c p h n = (λ i. region_at _ _ _ _ (has_ends_turned a b c p ends) i +ℤ region_at a b c p ends i)
     ∙ by_lt_z (pos 0) (area a b c) right (λ l. left (below_zero (area a b c) n l))
   where
     ends : HasEnds a b c p

@@ -1,7 +1,6 @@
 -- Off a chord that rises, its crossing and that of the exchanged chord add up to 1 left of the upper end, else 0: `crossings_sum`.
 -- Serves `Sideways`.
-use Rattle.std.proofs.Common.{◌≡◌, ◌≢◌, sym, ap, ◌∙◌, inl, inr, ℤ, pos, ◌+ℤ◌, ◌-ℤ◌, ◌*ℤ◌}
-use Rattle.std.proofs.Common.{neg_ℤ, ◌≤ℤ◌, ◌<ℤ◌, [], ◌∷◌, arith}
+use Rattle.std.proofs.Common.{◌≡◌, ◌≢◌, sym, ap, ◌∙◌, inl, inr, ℤ, pos, ◌+ℤ◌, ◌-ℤ◌, ◌*ℤ◌, neg_ℤ, ◌≤ℤ◌, ◌<ℤ◌, [], ◌∷◌, arith}
 use Rattle.std.proofs.lemmas.Int.{ints, by_lt_z}
 use Rattle.fx_fixed.specs.Polynomial.{var, ◌⊞◌, ◌⊠◌, ◌⊟◌}
 use Rattle.fx_fixed.proofs.Ring.{ring, *ℤ_zero, one-*ℤ}
@@ -9,8 +8,7 @@ use Rattle.fx_fixed.proofs.Linear.{signed_linear}
 use Rattle.fx_winding.specs.Area.{Place, area, area_of}
 use Rattle.fx_winding.specs.Turned.{turned_place}
 use Rattle.fx_winding.specs.Winding.{IsBetween, IsInRange, IsOnLine, IsOnFlatArc, chord_crossing}
-use Rattle.fx_winding.proofs.Crossings.{above, crossing_number, area_split_right, left_of_rising}
-use Rattle.fx_winding.proofs.Crossings.{no_crossing}
+use Rattle.fx_winding.proofs.Crossings.{above, crossing_number, area_split_right, left_of_rising, no_crossing}
 use Rattle.fx_winding.proofs.TurnedAreas.{area_turned}
 use Rattle.fx_winding.proofs.HalfAreas.{area_next}
 use Rattle.fx_winding.proofs.Products.{product}
@@ -103,8 +101,7 @@ crossings_right ax ay cx cy px py h k s =
     (λ i. f i +ℤ e i) ∙ same (above px cx)
   where
     right : px <ℤ cx → ax ≤ℤ px
-    right m = by_lt_z px ax
-        (λ l. absurd (let n = left_of_rising ax ay cx cy px py (omega (arith, signed_linear, h)) k l m in omega
+    right m = by_lt_z px ax (λ l. absurd (let n = left_of_rising ax ay cx cy px py (omega (arith, signed_linear, h)) k l m in omega
         (arith, signed_linear, n, s)))
         (λ l. l)
 
@@ -117,8 +114,7 @@ below_zero z n h = grind (arith, ints)
 -- off the chord's line the crossings of a piece and of the exchanged one add up to 1 where the place is left of the upper end
 pub crossings_sum : (a c p : Place) → a.y <ℤ p.y → p.y <ℤ c.y → area a c p ≢ pos 0
     → column_crossing a c p +ℤ chord_crossing a c p ≡ above p.x c.x
-crossings_sum a c p h k n =
-    ap (λ t. crossing_number a.x c.x p.x t +ℤ chord_crossing a c p) (area_turned a c p)
+crossings_sum a c p h k n = ap (λ t. crossing_number a.x c.x p.x t +ℤ chord_crossing a c p) (area_turned a c p)
     ∙ by_lt_z (pos 0) (area a c p) (crossings_left a.x a.y c.x c.y p.x p.y h k)
     (λ l. crossings_right a.x a.y c.x c.y p.x p.y h k (below_zero (area a c p) n l))
 
@@ -175,8 +171,7 @@ flat_on a b c p h z =
     record {
       flat = z;
       with_ab = one_none _ (none_factor _ _ rise (e ∙ λ i. none (p.y -ℤ a.y) z i +ℤ none (b.y -ℤ a.y) h.none i));
-      with_bc = area_next p b c
-          ∙ one_none _ (none_factor _ _ rise (f ∙ λ i. none (c.y -ℤ p.y) z i -ℤ none (b.y -ℤ c.y) h.none i));
+      with_bc = area_next p b c ∙ one_none _ (none_factor _ _ rise (f ∙ λ i. none (c.y -ℤ p.y) z i -ℤ none (b.y -ℤ c.y) h.none i));
       with_ac = h.none;
       range_x = between_range a.x b.x c.x p.x (chord_between a.x a.y c.x c.y p.x p.y low high h.none);
       range_y = between_range a.y b.y c.y p.y (inl (omega (arith, signed_linear, low), omega (arith, signed_linear, high)));

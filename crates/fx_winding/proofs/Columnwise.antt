@@ -1,7 +1,6 @@
 -- A piece meets a column's segment if it adds other numbers at its two ends: `up_met`. A column is a row of the exchanged piece.
 -- Serves the segments that a scan by rows notes: they are no more than the pieces meet.
-use Rattle.std.proofs.Common.{◌≡◌, ◌≢◌, sym, ◌∙◌, ◌⊎◌, inl, inr, ℤ, pos, negsuc, ◌-ℤ◌}
-use Rattle.std.proofs.Common.{◌≤ℤ◌, ◌<ℤ◌, arith}
+use Rattle.std.proofs.Common.{◌≡◌, ◌≢◌, sym, ◌∙◌, ◌⊎◌, inl, inr, ℤ, pos, negsuc, ◌-ℤ◌, ◌≤ℤ◌, ◌<ℤ◌, arith}
 use Rattle.std.proofs.lemmas.Int.{ints}
 use Rattle.fx_fixed.proofs.Linear.{signed_linear}
 use Rattle.fx_winding.specs.Area.{Place}
@@ -98,8 +97,7 @@ head_met p q s e i np h nq past = by past
         (λ l. inr (inl (end_within p q s.c e (sym l) (off_no_end p s np).last (off_no_end q s nq).last
         (omega (arith, signed_linear, i, r)) h.all.2)))
         (λ n. apart (inl (r, (k, n))))
-    by (inr (r, k)) = by_same p.x s.a.x
-        (λ l. inl (end_within p q s.a e (sym l) (off_no_end p s np).first (off_no_end q s nq).first
+    by (inr (r, k)) = by_same p.x s.a.x (λ l. inl (end_within p q s.a e (sym l) (off_no_end p s np).first (off_no_end q s nq).first
         (omega (arith, signed_linear, i, r)) h.all.0))
         (λ n. apart (inr (r, (k, n))))
 

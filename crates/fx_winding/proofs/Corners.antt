@@ -1,7 +1,6 @@
 -- The crossings of a triangle that turns left add up to 1 inside it (`around_inside`) and to 0 outside (`around_outside`).
 -- Serves the law of halves: the triangle of an arc's ends and the join.
-use Rattle.std.proofs.Common.{◌≡◌, ◌∙◌, ◌⊎◌, inl, inr, ℤ, pos, ◌+ℤ◌, ◌-ℤ◌, ◌*ℤ◌, ◌≤ℤ◌, ◌<ℤ◌}
-use Rattle.std.proofs.Common.{arith}
+use Rattle.std.proofs.Common.{◌≡◌, ◌∙◌, ◌⊎◌, inl, inr, ℤ, pos, ◌+ℤ◌, ◌-ℤ◌, ◌*ℤ◌, ◌≤ℤ◌, ◌<ℤ◌, arith}
 use Rattle.std.proofs.lemmas.Int.{ints, by_lt_z}
 use Rattle.fx_fixed.proofs.Linear.{signed_linear}
 use Rattle.fx_fixed.proofs.Signs.{product_above_zero}
@@ -106,9 +105,7 @@ wound_pit a j c p u v w e ha hj lc = record {
 }
 
 wound : (a j c p u v w : ℤ) → AreBalanced a j c p u v w → IsWound a j c p u v w
-wound a j c p u v w e =
-    by_lt_z p a
-    (λ x. by_lt_z p j
+wound a j c p u v w e = by_lt_z p a (λ x. by_lt_z p j
     (λ y. by_lt_z p c (λ z. wound_level a j c p u v w e (inr (x, y, z))) (λ z. wound_pit a j c p u v w e x y z))
     (λ y. by_lt_z p c (λ z. turn (turn (wound_pit c a j p w u v twice z x y))) (λ z. turn (wound_peak j c a p v w u once y z x))))
     (λ x. by_lt_z p j
@@ -143,14 +140,12 @@ around_inside a j c p u v w e hu hv hw bent = (wound a j c p u v w e).inside hu 
 
 -- what the sum is on the side from a to j, between its ends
 abbrev pub OnSide : ℤ → ℤ → ℤ → ℤ → Type 0
-OnSide a j c sum =
-    ((a <ℤ j) × (sum ≡ pos 0)) ⊎ (((j <ℤ a) × (sum ≡ pos 1))
+OnSide a j c sum = ((a <ℤ j) × (sum ≡ pos 0)) ⊎ (((j <ℤ a) × (sum ≡ pos 1))
     ⊎ (((a ≡ j) × (a <ℤ c) × (sum ≡ pos 1)) ⊎ ((a ≡ j) × (c ≤ℤ a) × (sum ≡ pos 0))))
 
 pub around_side : (a j c p u v w : ℤ) → AreBalanced a j c p u v w → pos 0 <ℤ u → pos 0 <ℤ v → w ≡ pos 0
     → OnSide a j c (around a j c p u v w)
-around_side a j c p u v w e hu hv hw =
-    side a j c p u v w (λ x y. let q = low x y in omega (arith, signed_linear, q)) high hu hv hw
+around_side a j c p u v w e hu hv hw = side a j c p u v w (λ x y. let q = low x y in omega (arith, signed_linear, q)) high hu hv hw
   where
     side : (a j c p u v w : ℤ) → (a ≤ℤ p → j ≤ℤ p → (a ≡ p) × (j ≡ p)) → (p <ℤ a → p <ℤ j → ⊥) → pos 0 <ℤ u → pos 0 <ℤ v
         → w ≡ pos 0 → OnSide a j c (around a j c p u v w)

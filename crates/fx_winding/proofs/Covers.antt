@@ -1,8 +1,7 @@
 -- Pieces cover the same places in any order: `covered_permutation`.
 -- Serves the laws of reversed, moved and halved pieces.
 use Rattle.std.proofs.Common.{◌≡◌, ◌≢◌, refl, sym, ap, ◌∙◌, subst, ◌↔◌, ◌⊎◌, inl, inr, ℕ, zero, suc, ◌+◌, ◌<◌, ℤ, pos, ◌+ℤ◌, List}
-use Rattle.std.proofs.Common.{[]}
-use Rattle.std.proofs.Common.{◌∷◌, Any, map, length, get_or, arith}
+use Rattle.std.proofs.Common.{[], ◌∷◌, Any, map, length, get_or, arith}
 use Rattle.std.specs.List.{sum_by}
 use Rattle.std.specs.List.Sorted.{IsPermutation}
 use Rattle.std.proofs.Math.ListN.{get_or-map}
@@ -45,8 +44,7 @@ covered_one_way p ss ts h (inr n) = inr (λ e. n (sym (winding_permutation p ss 
 
 -- the order of the pieces is of no account
 pub covered_permutation : (p : Place) (ss ts : List Span) → IsPermutation ss ts → IsCovered p ts ↔ IsCovered p ss
-covered_permutation p ss ts h =
-    (λ k. covered_one_way p ts ss (IsPermutation-sym ss ts h) k, λ k. covered_one_way p ss ts h k)
+covered_permutation p ss ts h = (λ k. covered_one_way p ts ss (IsPermutation-sym ss ts h) k, λ k. covered_one_way p ss ts h k)
 
 pub any_map : {X Y : Type 0} (f : X → Y) (P : X → Type 0) (Q : Y → Type 0) → ((x : X) → P x → Q (f x)) → (xs : List X) → Any P xs
     → Any Q (map f xs)
@@ -72,8 +70,7 @@ covered_map p q f g sum none only on cross reg ss = (λ k. from k, λ k. to k)
   where
     wound : (ss : List Span) → winding q (map f ss) ≡ g (winding p ss)
     wound [] = sym none
-    wound (s ∷ ss) =
-        (λ i. (cross s i +ℤ reg s i) +ℤ wound ss i)
+    wound (s ∷ ss) = (λ i. (cross s i +ℤ reg s i) +ℤ wound ss i)
         ∙ sym (sum (crossing p s +ℤ region p s) (winding p ss) ∙ ap (λ z. z +ℤ g (winding p ss)) (sum (crossing p s) (region p s)))
 
     from : Any (IsOn q) (map f ss) ⊎ (winding q (map f ss) ≢ pos 0) → Any (IsOn p) ss ⊎ (winding p ss ≢ pos 0)

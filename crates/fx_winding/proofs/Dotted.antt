@@ -8,8 +8,7 @@ use Rattle.std.proofs.Math.Nat.{mul-le-mul_right}
 use Rattle.fx_fixed.proofs.Linear.{signed_linear}
 use Rattle.fx_winding.specs.declared.frame.Frame.{Frame}
 use Rattle.fx_winding.specs.Frames.{IsFrom, is_from, steps}
-use Rattle.fx_winding.specs.Bitmaps.{Bits, AreWords, words_for, word_bit, bits_in, cut, rows_of, bit_of}
-use Rattle.fx_winding.specs.Bitmaps.{bit_number}
+use Rattle.fx_winding.specs.Bitmaps.{Bits, AreWords, words_for, word_bit, bits_in, cut, rows_of, bit_of, bit_number}
 use Rattle.fx_winding.proofs.Grid.{length-cut, cut-row, row_fits, bits_in-at, steps_below, from_true, grid}
 use Rattle.fx_winding.proofs.Scanned.{from_is, steps_back}
 
@@ -18,8 +17,7 @@ word_bit-part size n k xs h = grind (arith, signed_linear, h, get_or-take, get_o
 
 word_bit-cut : (count size up k : ℕ) (xs : List ℕ) → up < count → k < 32 * size
     → word_bit (get_or (cut count size xs) up []) k ≡ word_bit xs (32 * (up * size) + k)
-word_bit-cut count size up k xs h l =
-    ap (λ ys. word_bit ys k) (cut-row count size xs up h) ∙ word_bit-part size (up * size) k xs l
+word_bit-cut count size up k xs h l = ap (λ ys. word_bit ys k) (cut-row count size xs up h) ∙ word_bit-part size (up * size) k xs l
 
 pub words_hold : (width across : ℕ) → across < width → across < 32 * words_for width
 words_hold width across h = omega arith
@@ -106,8 +104,7 @@ bit_elsewhere f xs ys a b col row seen seen' c r others i j n =
     size : ℕ
     size = words_for f.width
 
-    apart : IsFrom f.left f.width i → IsFrom f.bottom f.height j → (i ≢ col) ⊎ (j ≢ row)
-        → bit_number f i j ≢ bit_number f col row
+    apart : IsFrom f.left f.width i → IsFrom f.bottom f.height j → (i ≢ col) ⊎ (j ≢ row) → bit_number f i j ≢ bit_number f col row
     apart ci rj n e =
         let wi = words_hold f.width (steps f.left i) (steps_below f.left f.width i ci) in
         let wc = words_hold f.width (steps f.left col) (steps_below f.left f.width col c) in

@@ -87,8 +87,7 @@ area_second a m j = ring (env a m j j) (area_at (at 2) N C) (area_at (at 0) (at 
 area_whole : (a m j : Place) → area a (control a m) (end a m j) ≡ eight_times (area a m j)
 area_whole a m j = ring (env a m j j) (area_at (at 0) B C) (two (two (two (area_at (at 0) (at 1) (at 2))))) tt
 
-pub area_u : (a m j p : Place)
-    → area p (control a m) (end a m j) ≡ whole_u (area p m j) (area a p j) (area a m p)
+pub area_u : (a m j p : Place) → area p (control a m) (end a m j) ≡ whole_u (area p m j) (area a p j) (area a m p)
 area_u a m j p = ring (env a m j p) (area_at (at 3) B C) (two ((two (two E) ⊞ two F) ⊞ G)) tt
 
 pub area_v : (a m j p : Place) → area a p (end a m j) ≡ whole_v (area a p j) (area a m p)
@@ -97,8 +96,7 @@ area_v a m j p = ring (env a m j p) (area_at (at 0) (at 3) C) (two (two (F ⊞ G
 pub area_w : (a m j p : Place) → area a (control a m) p ≡ whole_w (area a m p)
 area_w a m j p = ring (env a m j p) (area_at (at 0) B (at 3)) (two G) tt
 
-pub area_u2 : (a m j p : Place)
-    → area p (second_control m j) (end a m j) ≡ second_u (area p m j) (area a p j) (area a m p)
+pub area_u2 : (a m j p : Place) → area p (second_control m j) (end a m j) ≡ second_u (area p m j) (area a p j) (area a m p)
 area_u2 a m j p = ring (env a m j p) (area_at (at 3) N C) ((two (two E) ⊞ two F) ⊞ G) tt
 
 pub area_v2 : (a m j p : Place) → area j p (end a m j) ≡ second_v (area p m j) (area a p j)
@@ -231,12 +229,10 @@ area_chord_back a m j p = ring (env a m j p) (area_at C (at 0) (at 3)) (two (two
 pub heights_balance : (a m j p : Place)
     → (four_times (area p m j) +ℤ area a p j) *ℤ (a.y -ℤ p.y) +ℤ whole_v (area a p j) (area a m p) *ℤ (j.y -ℤ p.y) +ℤ
     neg_ℤ (area a p j) *ℤ ((end a m j).y -ℤ p.y) ≡ pos 0
-heights_balance a m j p =
-    ring (env a m j p)
+heights_balance a m j p = ring (env a m j p)
     ((two (two E) ⊞ F) ⊠ (var 1 ⊟ var 7) ⊞ two (two (F ⊞ G)) ⊠ (var 5 ⊟ var 7) ⊞ minus F ⊠ (C.y ⊟ var 7)) (num (pos 0)) tt
 
 -- an arc with all heights the same is flat
 pub area_level : (a m j : Place) → a.y ≡ m.y → a.y ≡ j.y → area a m j ≡ pos 0
-area_level a m j h k =
-    (λ i. area (record { x = a.x; y = a.y }) (record { x = m.x; y = sym h i }) (record { x = j.x; y = sym k i }))
+area_level a m j h k = (λ i. area (record { x = a.x; y = a.y }) (record { x = m.x; y = sym h i }) (record { x = j.x; y = sym k i }))
     ∙ ring (a.x ∷ m.x ∷ j.x ∷ a.y ∷ []) (area_expr (var 0) (var 3) (var 1) (var 3) (var 2) (var 3)) (num (pos 0)) tt

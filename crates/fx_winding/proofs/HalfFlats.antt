@@ -71,8 +71,7 @@ middles : (a m j : ℤ) → Middles a ((m +ℤ m) -ℤ a) ((((j +ℤ j) -ℤ m) 
 middles a m j = omega (arith, signed_linear)
 
 -- two places on the line through a and b: their differences are in one proportion
-on_line : (a b p q : Place) → area a b p ≡ pos 0 → area a b q ≡ pos 0
-    → (b.x -ℤ a.x) *ℤ (q.y -ℤ p.y) ≡ (b.y -ℤ a.y) *ℤ (q.x -ℤ p.x)
+on_line : (a b p q : Place) → area a b p ≡ pos 0 → area a b q ≡ pos 0 → (b.x -ℤ a.x) *ℤ (q.y -ℤ p.y) ≡ (b.y -ℤ a.y) *ℤ (q.x -ℤ p.x)
 on_line a b p q hp hq = balance _ _ _ _ hp hq (ring (coordinates (a ∷ b ∷ p ∷ q ∷ []) [])
     ((var 2 ⊟ var 0) ⊠ (var 7 ⊟ var 5) ⊟ (var 3 ⊟ var 1) ⊠ (var 6 ⊟ var 4))
     (area_at (at 0) (at 1) (at 3) ⊟ area_at (at 0) (at 1) (at 2)) tt)
@@ -89,9 +88,7 @@ line_end a b = ring (coordinates (a ∷ b ∷ []) []) (area_at (at 0) (at 1) (at
 -- along a line on which a and another of the points differ in x, the range of x tells that of y
 range_y : (a b c p : Place) → IsFlat a b c p → ¬ ((b.x -ℤ a.x ≡ pos 0) × (c.x -ℤ a.x ≡ pos 0)) → IsInRange a.x b.x c.x p.x
     → IsInRange a.y b.y c.y p.y
-range_y a b c p h wide r =
-    by_zero (b.x -ℤ a.x)
-    (λ z. by_zero (c.x -ℤ a.x) (λ w. absurd (wide (z, w)))
+range_y a b c p h wide r = by_zero (b.x -ℤ a.x) (λ z. by_zero (c.x -ℤ a.x) (λ w. absurd (wide (z, w)))
     (λ n. range_along (c.x -ℤ a.x) (c.y -ℤ a.y) a.x b.x c.x p.x a.y b.y c.y p.y n (on_line a c p a h.with_ac (line_start a c))
     (on_line a c p b h.with_ac (none_by_minus (area_swap a b c) h.flat)) (on_line a c p c h.with_ac (line_end a c)) r))
     (λ n. range_along (b.x -ℤ a.x) (b.y -ℤ a.y) a.x b.x c.x p.x a.y b.y c.y p.y n (on_line a b p a h.with_ab (line_start a b))
@@ -122,8 +119,7 @@ in_halves a m j p on =
     second : IsFlat j (second_control m j) (end a m j) p
     second = (flat_alike a m j p).1.1 first
 
-    wide : ¬ ((m.x -ℤ a.x ≡ pos 0) × (j.x -ℤ a.x ≡ pos 0))
-        → IsOnFlatArc a m j p ⊎ IsOnFlatArc j (second_control m j) (end a m j) p
+    wide : ¬ ((m.x -ℤ a.x ≡ pos 0) × (j.x -ℤ a.x ≡ pos 0)) → IsOnFlatArc a m j p ⊎ IsOnFlatArc j (second_control m j) (end a m j) p
     wide n = by (range_halves _ _ _ _ _ _ p.x (middles a.x m.x j.x) on.range_x)
       where
         other : (a m j : ℤ) → (((j +ℤ j) -ℤ m) -ℤ j ≡ pos 0)
@@ -135,8 +131,7 @@ in_halves a m j p on =
         by (inl r) = inl (on_flat first r (range_y a m j p first n r))
         by (inr r) = inr (on_flat second r (range_y _ _ _ p second (λ k. n (other a.x m.x j.x k)) r))
 
-    upright : m.x -ℤ a.x ≡ pos 0 → j.x -ℤ a.x ≡ pos 0
-        → IsOnFlatArc a m j p ⊎ IsOnFlatArc j (second_control m j) (end a m j) p
+    upright : m.x -ℤ a.x ≡ pos 0 → j.x -ℤ a.x ≡ pos 0 → IsOnFlatArc a m j p ⊎ IsOnFlatArc j (second_control m j) (end a m j) p
     upright z w = by (range_halves _ _ _ _ _ _ p.y (middles a.y m.y j.y) on.range_y)
       where
         at_start : p.x ≡ a.x

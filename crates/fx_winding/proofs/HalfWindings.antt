@@ -1,8 +1,7 @@
 -- Off an arc, the crossings and the regions of its halves add up to the arc's: what the chords of the halves leave is the
 -- triangle of the ends and the join, which is what their regions leave.
 -- Serves the law of halves.
-use Rattle.std.proofs.Common.{◌≡◌, refl, sym, ◌∙◌, ◌⊎◌, inl, inr, ℤ, pos, ◌+ℤ◌, ◌-ℤ◌, neg_ℤ, ◌≤ℤ◌, ◌<ℤ◌, Bool, true, false}
-use Rattle.std.proofs.Common.{arith}
+use Rattle.std.proofs.Common.{◌≡◌, refl, sym, ◌∙◌, ◌⊎◌, inl, inr, ℤ, pos, ◌+ℤ◌, ◌-ℤ◌, neg_ℤ, ◌≤ℤ◌, ◌<ℤ◌, Bool, true, false, arith}
 use Rattle.std.proofs.lemmas.Int.{ints, by_lt_z}
 use Rattle.fx_fixed.proofs.Linear.{signed_linear}
 use Rattle.fx_winding.specs.Area.{gap_of}
@@ -49,8 +48,7 @@ beyond_first {e} {f} {g} {x} {x1} {x2} c hf = omega (arith, signed_linear, none,
     none = by_lt_z (pos 0) e (λ k. c.second.no_v (omega (arith, signed_linear, k, hf))) (λ k. c.second.no_w k)
 
     above : pos 0 <ℤ g → x1 ≡ x
-    above k = by_lt_z (pos 0) (gap_of e f g)
-        (λ l. let m = first_strictly e f g k l in c.first.inner m hf k l
+    above k = by_lt_z (pos 0) (gap_of e f g) (λ l. let m = first_strictly e f g k l in c.first.inner m hf k l
         ∙ sym (c.whole.inner (omega (arith, signed_linear, m, hf, k))
         (omega (arith, signed_linear, hf, k)) (omega (arith, signed_linear, k)) (omega (arith, signed_linear, l))))
         (λ l. c.first.no_gap hf l ∙ sym (c.whole.no_gap (omega (arith, signed_linear, hf, k)) (omega (arith, signed_linear, l))))
@@ -67,8 +65,7 @@ beyond_second {e} {f} {g} {x} {x1} {x2} c h = omega (arith, signed_linear, none,
     none = by_lt_z (pos 0) e (λ k. c.first.no_v (omega (arith, signed_linear, k, h))) (λ k. c.first.no_u k)
 
     inner : pos 0 <ℤ second_u e f g → pos 0 <ℤ gap_of e f g → x2 ≡ x
-    inner k l = by_lt_z (pos 0) e
-        (λ m. let n = third_strictly e f g m l in c.second.inner k (omega (arith, signed_linear, h)) m l
+    inner k l = by_lt_z (pos 0) e (λ m. let n = third_strictly e f g m l in c.second.inner k (omega (arith, signed_linear, h)) m l
         ∙ sym (c.whole.inner (omega (arith, signed_linear, k)) (omega (arith, signed_linear, h, k))
         (omega (arith, signed_linear, n)) (omega (arith, signed_linear, l))))
         (λ m. c.second.no_w m ∙ sym (c.whole.no_w (by_lt_z (pos 0) g
@@ -174,8 +171,7 @@ on_first {a} {m} {j} {b} {n} {c} {p} {e} {f} {g} {x} {x1} {x2} {r1 = r1} h k rig
     (omega (arith, signed_linear, zf, he)) (omega (arith, signed_linear, zf, hg)) (omega (arith, signed_linear, zf))) right
     (λ l. (
       λ o. omega (arith, signed_linear, l, o, h.b_is, h.n_is, h.c_is),
-      λ o. by_lt_z a m (λ q. q)
-          (λ q. absurd (h.bent (omega (arith, signed_linear, l, o, q, h.b_is, h.n_is, h.c_is)))),
+      λ o. by_lt_z a m (λ q. q) (λ q. absurd (h.bent (omega (arith, signed_linear, l, o, q, h.b_is, h.n_is, h.c_is)))),
     )))
   where
     rest : (x2 ≡ pos 0) × (x ≡ pos 1)
@@ -200,8 +196,7 @@ on_second {a} {m} {j} {b} {n} {c} {p} {e} {f} {g} {x} {x1} {x2} {r2 = r2} h k ri
     (omega (arith, signed_linear, h.balanced)) (omega (arith, signed_linear, hv)) (omega (arith, signed_linear, lf)) zu) right
     (λ l. (
       λ o. omega (arith, signed_linear, l, o, h.b_is, h.n_is, h.c_is),
-      λ o. by_lt_z j n (λ q. q)
-          (λ q. absurd (h.bent (omega (arith, signed_linear, l, o, q, h.b_is, h.n_is, h.c_is)))),
+      λ o. by_lt_z j n (λ q. q) (λ q. absurd (h.bent (omega (arith, signed_linear, l, o, q, h.b_is, h.n_is, h.c_is)))),
     )))
   where
     he : pos 0 <ℤ e
@@ -258,20 +253,17 @@ sum_of_halves {a} {m} {j} {b} {n} {c} {p} {e} {f} {g} {x} {x1} {x2} {r} {r1} {r2
       arith,
       signed_linear,
       s,
-      around_outside a j c p (four_times e +ℤ f) (whole_v f g) (neg_ℤ f) h.balanced
-          (omega (arith, signed_linear, h.some)) out,
+      around_outside a j c p (four_times e +ℤ f) (whole_v f g) (neg_ℤ f) h.balanced (omega (arith, signed_linear, h.some)) out,
     )
 
     below : f <ℤ pos 0 → pos 0 ≤ℤ (four_times e +ℤ f) → pos 0 ≤ℤ (f +ℤ g) → sides a j c p e f g +ℤ (x1 +ℤ x2) ≡ x
-    below lf nu nv = by_lt_z (pos 0) (four_times e +ℤ f)
-        (λ hu. by_lt_z (pos 0) (f +ℤ g) (λ hv. within_triangle h all lf hu hv)
+    below lf nu nv = by_lt_z (pos 0) (four_times e +ℤ f) (λ hu. by_lt_z (pos 0) (f +ℤ g) (λ hv. within_triangle h all lf hu hv)
         (λ zv. on_chord h all right lf hu (omega (arith, signed_linear, nv, zv))))
         (λ zu. by_lt_z (pos 0) (f +ℤ g) (λ hv. on_second h all right2 lf (omega (arith, signed_linear, nu, zu)) hv)
         (λ zv. absurd (no_end h lf (omega (arith, signed_linear, nu, zu)) (omega (arith, signed_linear, nv, zv)))))
 
     level : f ≡ pos 0 → pos 0 ≤ℤ (four_times e +ℤ f) → pos 0 ≤ℤ (f +ℤ g) → sides a j c p e f g +ℤ (x1 +ℤ x2) ≡ x
-    level zf nu nv = by_lt_z (pos 0) e
-        (λ he. by_lt_z (pos 0) g (λ hg. on_first h all right1 zf he hg)
+    level zf nu nv = by_lt_z (pos 0) e (λ he. by_lt_z (pos 0) g (λ hg. on_first h all right1 zf he hg)
         (λ zg. absurd (no_start h zf (omega (arith, signed_linear, zf, nu)) (omega (arith, signed_linear, zf, nv))
         (inr (omega (arith, signed_linear, zf, nv, zg))))))
         (λ ze. absurd (no_start h zf (omega (arith, signed_linear, zf, nu)) (omega (arith, signed_linear, zf, nv))

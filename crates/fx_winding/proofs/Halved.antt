@@ -1,8 +1,7 @@
 -- An arc's halves have its places on them, and elsewhere add up to it; so pieces cover the same places with them in its stead.
 -- For the law `subdivision`.
-use Rattle.std.proofs.Common.{◌≡◌, ◌≢◌, refl, sym, ap, ◌∙◌, subst, ◌↔◌, ◌⊎◌, inl, inr, ℤ, pos, ◌+ℤ◌, ◌-ℤ◌, ◌*ℤ◌, neg_ℤ}
-use Rattle.std.proofs.Common.{◌≤ℤ◌, ◌<ℤ◌, int_lt, Bool, true, false, ◌&&◌, ◌||◌, if◌then◌else◌, List, ◌∷◌, ◌++◌, Option}
-use Rattle.std.proofs.Common.{Some, None, Any, arith}
+use Rattle.std.proofs.Common.{◌≡◌, ◌≢◌, refl, sym, ap, ◌∙◌, subst, ◌↔◌, ◌⊎◌, inl, inr, ℤ, pos, ◌+ℤ◌, ◌-ℤ◌, ◌*ℤ◌, neg_ℤ, ◌≤ℤ◌, ◌<ℤ◌}
+use Rattle.std.proofs.Common.{int_lt, Bool, true, false, ◌&&◌, ◌||◌, if◌then◌else◌, List, ◌∷◌, ◌++◌, Option, Some, None, Any, arith}
 use Rattle.std.specs.Ordering.{int_eq}
 use Rattle.std.proofs.lemmas.Int.{ints, by_lt_z}
 use Rattle.std.proofs.lemmas.List.Sorted.{IsPermutation-middle, IsPermutation-cons, IsPermutation-trans}
@@ -23,10 +22,9 @@ use Rattle.fx_winding.proofs.Covers.{covered_permutation, any_here, any_there, a
 use Rattle.fx_winding.proofs.Middles.{beyond, Cut, halves_are}
 use Rattle.fx_winding.proofs.Ranges.{by_zero}
 use Rattle.fx_winding.proofs.Corners.{around, around_flat}
-use Rattle.fx_winding.proofs.HalfAreas.{control, second_control, end, four_times, whole_v, sign_above, raw}
-use Rattle.fx_winding.proofs.HalfAreas.{area_first, area_u, area_v, area_w, area_u2, area_v2, area_w2, whole_turns, second_turns}
-use Rattle.fx_winding.proofs.HalfAreas.{curve_is, curve_halves, area_first_side, area_second_side, area_chord_back, heights_balance}
-use Rattle.fx_winding.proofs.HalfAreas.{area_level}
+use Rattle.fx_winding.proofs.HalfAreas.{second_control, area_u, area_first_side, area_second_side, area_chord_back, heights_balance}
+use Rattle.fx_winding.proofs.HalfAreas.{four_times, sign_above, area_first, whole_turns, second_turns, curve_halves, area_level}
+use Rattle.fx_winding.proofs.HalfAreas.{control, end, whole_v, raw, area_v, area_w, area_u2, area_v2, area_w2, curve_is}
 use Rattle.fx_winding.proofs.HalfFlats.{flat_halves, line_start, line_end}
 use Rattle.fx_winding.proofs.HalfWindings.{Counts, IsRight, AreHalves, sides, no_gap, sum_of_halves}
 
@@ -54,16 +52,14 @@ right_of a b c d = by (area a b c) (c.y -ℤ a.y) _ a.y b.y c.y refl (product _ 
 -- ---- the sums
 -- the crossings and regions of a j with m and of j c with n add up to those of a c with b
 abbrev Adds : Place → Place → Place → Place → Place → Place → Place → Type 0
-Adds a b c m n j p =
-    (chord_crossing a j p +ℤ region_part a (Some m) j p) +ℤ
+Adds a b c m n j p = (chord_crossing a j p +ℤ region_part a (Some m) j p) +ℤ
     (chord_crossing j c p +ℤ region_part j (Some n) c p) ≡ chord_crossing a c p
     +ℤ region_part a (Some b) c p
 
 around_is : (a m j p : Place)
     → (chord_crossing a j p +ℤ chord_crossing j (end a m j) p) +ℤ chord_crossing (end a m j) a p ≡ around a.y j.y (end a m j).y p.y
     (four_times (area p m j) +ℤ area a p j) (whole_v (area a p j) (area a m p)) (neg_ℤ (area a p j))
-around_is a m j p =
-    λ i. (crossing_number a.y j.y p.y (area_first_side a m j p i) +ℤ crossing_number j.y (end a m j).y p.y
+around_is a m j p = λ i. (crossing_number a.y j.y p.y (area_first_side a m j p i) +ℤ crossing_number j.y (end a m j).y p.y
     (area_second_side a m j p i)) +ℤ crossing_number (end a m j).y a.y p.y (area_chord_back a m j p i)
 
 joined_sum : (k1 k2 k3 k x1 x2 x s : ℤ) → (k1 +ℤ k2) +ℤ k3 ≡ s → s +ℤ (x1 +ℤ x2) ≡ x → k3 ≡ neg_ℤ k
@@ -75,8 +71,7 @@ not_none z h e = omega (arith, signed_linear)
 
 adds_left : (a m j p : Place) → pos 0 <ℤ area a m j → ¬ (IsOnPart a (Some (control a m)) (end a m j) p)
     → Adds a (control a m) (end a m j) m (second_control m j) j p
-adds_left a m j p d off =
-    joined_sum (chord_crossing a j p) (chord_crossing j c p) (chord_crossing c a p) (chord_crossing a c p)
+adds_left a m j p d off = joined_sum (chord_crossing a j p) (chord_crossing j c p) (chord_crossing c a p) (chord_crossing a c p)
     (region_part a (Some m) j p) (region_part j (Some n) c p) (region_part a (Some b) c p)
     (sides a.y j.y c.y p.y e f g) (around_is a m j p)
     (sum_of_halves halves (right_of a b c whole_left) (right_of a m j d) (right_of j n c second_left)
@@ -155,8 +150,7 @@ flat_region a b c p h = ap (λ s. if is_in_region a b c p then s else pos 0) (ap
     by false = refl
 
 adds_flat : (a m j p : Place) → area a m j ≡ pos 0 → Adds a (control a m) (end a m j) m (second_control m j) j p
-adds_flat a m j p d =
-    flat_sum (chord_crossing a j p) (chord_crossing j (end a m j) p) (chord_crossing (end a m j) a p)
+adds_flat a m j p d = flat_sum (chord_crossing a j p) (chord_crossing j (end a m j) p) (chord_crossing (end a m j) a p)
     (chord_crossing a (end a m j) p)
     (region_part a (Some m) j p) (region_part j (Some (second_control m j)) (end a m j) p)
     (region_part a (Some (control a m)) (end a m j) p)
@@ -183,8 +177,7 @@ both_kinds : {X Y Z X' Y' Z' : Type 0} → X ↔ (Y ⊎ Z) → X' ↔ (Y' ⊎ Z'
 both_kinds f g = (λ k. grind arith, λ k. grind arith)
 
 halved_left : (a m j p : Place) → pos 0 <ℤ area a m j → AreHalved a (control a m) (end a m j) m (second_control m j) j p
-halved_left a m j p d =
-    record { on = both_kinds (curve_halves a m j p d) (flat_halves a m j p); adds = adds_left a m j p d }
+halved_left a m j p d = record { on = both_kinds (curve_halves a m j p d) (flat_halves a m j p); adds = adds_left a m j p d }
 
 halved_flat : (a m j p : Place) → area a m j ≡ pos 0 → AreHalved a (control a m) (end a m j) m (second_control m j) j p
 halved_flat a m j p d = record { on = both_kinds (to, from) (flat_halves a m j p); adds = λ off. adds_flat a m j p d }
@@ -210,8 +203,7 @@ halved_back a b c m n j p h = record {
     by x y z f = (λ k. grind arith, λ k. grind arith)
 
 halved_right : (a m j p : Place) → area a m j <ℤ pos 0 → AreHalved a (control a m) (end a m j) m (second_control m j) j p
-halved_right a m j p d =
-    halved_back a b c m n j p (subst (λ (T : Type 0). T)
+halved_right a m j p d = halved_back a b c m n j p (subst (λ (T : Type 0). T)
     (λ i. AreHalved c (mirror_b b n i) (mirror_a a m j i) n (mirror_b m j i) j p) (halved_left c n j p left))
   where
     b : Place
@@ -242,8 +234,7 @@ by_middles a None c f g e p = absurd (cc)
 by_middles a (Some b) c f g e p = by (halves_are a b c f g e)
   where
     Fact : Span × Span → Type 0
-    Fact h =
-        (IsOnPart a (Some b) c p ↔ (IsOn p h.0 ⊎ IsOn p h.1)) × ((¬ (IsOnPart a (Some b) c p))
+    Fact h = (IsOnPart a (Some b) c p ↔ (IsOn p h.0 ⊎ IsOn p h.1)) × ((¬ (IsOnPart a (Some b) c p))
         → (crossing p h.0 +ℤ region p h.0) +ℤ (crossing p h.1 +ℤ region p h.1) ≡ chord_crossing a c p +ℤ region_part a (Some b) c p)
 
     by : (m : Place) × (n : Place) × (j : Place) × Cut a b c m n j × ((f, g) ≡ two_arcs a m j n c) → Fact (f, g)
@@ -273,8 +264,7 @@ known_range : (a b c p : ℤ) → Known (IsInRange a b c p)
 known_range a b c p = grind (arith, ints)
 
 pub known_curve : (a b c p : Place) → Known (IsOnCurve a b c p)
-known_curve a b c p =
-    known_as (λ k. record { bent = k.0; on_arc = k.1 }) (λ on. (on.bent, on.on_arc))
+known_curve a b c p = known_as (λ k. record { bent = k.0; on_arc = k.1 }) (λ on. (on.bent, on.on_arc))
     (by (area a b c) (weight_a a b c p) (weight_b a b c p) (weight_c a b c p) _)
   where
     by : (d u v w q : ℤ) → Known ((d ≢ pos 0) × ((pos 0 ≤ℤ u) × (pos 0 ≤ℤ v) × (pos 0 ≤ℤ w) × (q ≡ pos 0)))
@@ -286,8 +276,7 @@ known_flat a b c p =
     (λ on. (on.flat, on.with_ab, on.with_bc, on.with_ac, on.range_x, on.range_y))
     (by (area a b c) (area a b p) (area b c p) (area a c p) (known_range a.x b.x c.x p.x) (known_range a.y b.y c.y p.y))
   where
-    by : {P Q : Type 0} (x y z w : ℤ) → Known P → Known Q
-        → Known ((x ≡ pos 0) × (y ≡ pos 0) × (z ≡ pos 0) × (w ≡ pos 0) × P × Q)
+    by : {P Q : Type 0} (x y z w : ℤ) → Known P → Known Q → Known ((x ≡ pos 0) × (y ≡ pos 0) × (z ≡ pos 0) × (w ≡ pos 0) × P × Q)
     by x y z w p q = grind (arith, ints)
 
 known_on : (a : Place) (b : Option Place) (c : Place) (h : Span × Span) → halves_of_part a b c ≡ Some h → (p : Place)

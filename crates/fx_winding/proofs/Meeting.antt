@@ -36,13 +36,12 @@ slope_back a b c p =
 
 tip_back : (a : Place) (b : Option Place) (c p q : Place) → IsTipPart a b c p q → IsTipPart c b a p q
 tip_back a None c p q h = absurd h
-tip_back a (Some b) c p q h =
-    record {
-      reached = reached_back a.y b.y c.y p.y h.reached;
-      outside = none_back (region_part a (Some b) c p) _ (region_part_back a (Some b) c p) h.outside;
-      rises = rw (slope_back a b c p) h.rises;
-      falls = rw (slope_back a b c q) h.falls;
-    }
+tip_back a (Some b) c p q h = record {
+  reached = reached_back a.y b.y c.y p.y h.reached;
+  outside = none_back (region_part a (Some b) c p) _ (region_part_back a (Some b) c p) h.outside;
+  rises = rw (slope_back a b c p) h.rises;
+  falls = rw (slope_back a b c q) h.falls;
+}
 
 met_back : (p q : Place) (s : Span) → IsMet p q s → IsMet p q (reversed s)
 met_back p q s (inl h) = inr (inl h)
@@ -94,14 +93,12 @@ tip_shift x y a (Some b) c p q h = record {
   falls = rw (slope_shift x y a b c q) h.falls;
 }
 
-met_shift : (x y : ℤ) (p q : Place) (s : Span) → IsMet p q s
-    → IsMet (shifted_place x y p) (shifted_place x y q) (shifted x y s)
+met_shift : (x y : ℤ) (p q : Place) (s : Span) → IsMet p q s → IsMet (shifted_place x y p) (shifted_place x y q) (shifted x y s)
 met_shift x y p q s h = grind (arith, signed_linear, h, within_shift, added_shift, tip_shift)
 
 pub shift_meets : ShiftMeets
 shift_meets x y p q s = (
-  λ h. unshifted IsMet x y p q s
-      (met_shift (neg_ℤ x) (neg_ℤ y) (shifted_place x y p) (shifted_place x y q) (shifted x y s) h),
+  λ h. unshifted IsMet x y p q s (met_shift (neg_ℤ x) (neg_ℤ y) (shifted_place x y p) (shifted_place x y q) (shifted x y s) h),
   met_shift x y p q s,
 )
 
@@ -150,8 +147,7 @@ crosses_on_row ax ay cx cy px qx py qy y ep eq n e = grind (arith, signed_linear
 
 line_is_met : (a c p q r : Place) → p.y ≡ r.y → q.y ≡ r.y → p.x <ℤ r.x → r.x <ℤ q.x → area a c r ≡ pos 0 → a.y <ℤ r.y
     → r.y <ℤ c.y → IsMet p q (record { a = a; b = None; c = c })
-line_is_met a c p q r ep eq lp lq z h k =
-    inr (inr (inl (crosses_on_row a.x a.y c.x c.y p.x q.x p.y q.y r.y ep eq
+line_is_met a c p q r ep eq lp lq z h k = inr (inr (inl (crosses_on_row a.x a.y c.x c.y p.x q.x p.y q.y r.y ep eq
     (rising_line_crosses a.x a.y c.x c.y p.x q.x r.x r.y lp lq z h k))))
 
 -- one that falls is met if the reversed line is
@@ -173,14 +169,12 @@ below_not_reached a b c y ha hb h =
     let n = not_above_range a b c y (omega (arith, signed_linear, hb)) in grind (arith, signed_linear, h, n)
 
 -- the tip of an arc that lies above the row is not on the row
-above_no_tip : (a : Place) (b : Option Place) (c p q : Place) → p.y <ℤ a.y → OptionAll (λ e. p.y <ℤ e.y) b
-    → ¬ (IsTipPart a b c p q)
+above_no_tip : (a : Place) (b : Option Place) (c p q : Place) → p.y <ℤ a.y → OptionAll (λ e. p.y <ℤ e.y) b → ¬ (IsTipPart a b c p q)
 above_no_tip a None c p q ha hb t = t
 above_no_tip a (Some b) c p q ha hb t = above_not_reached a.y b.y c.y p.y ha hb t.reached
 
 -- nor that of one that lies below it
-below_no_tip : (a : Place) (b : Option Place) (c p q : Place) → a.y <ℤ p.y → OptionAll (λ e. e.y <ℤ p.y) b
-    → ¬ (IsTipPart a b c p q)
+below_no_tip : (a : Place) (b : Option Place) (c p q : Place) → a.y <ℤ p.y → OptionAll (λ e. e.y <ℤ p.y) b → ¬ (IsTipPart a b c p q)
 below_no_tip a None c p q ha hb t = t
 below_no_tip a (Some b) c p q ha hb t = below_not_reached a.y b.y c.y p.y ha hb t.reached
 

@@ -1,8 +1,6 @@
 -- If an arc has halves, they are the two arcs over the middles of its points: `halves_are`.
 -- Serves `halves`, and the law of halves.
-use Rattle.std.proofs.Common.{◌≡◌, refl, sym, ap, ◌∙◌, ℤ, pos, ◌+ℤ◌, ◌-ℤ◌, ◌*ℤ◌, Option}
-use Rattle.std.proofs.Common.{Some}
-use Rattle.std.proofs.Common.{None, option_map, arith}
+use Rattle.std.proofs.Common.{◌≡◌, refl, sym, ap, ◌∙◌, ℤ, pos, ◌+ℤ◌, ◌-ℤ◌, ◌*ℤ◌, Option, Some, None, option_map, arith}
 use Rattle.std.specs.Prelude.{option_and_then}
 use Rattle.std.proofs.lemmas.Int.{ints}
 use Rattle.fx_winding.specs.Area.{Place, place}
@@ -13,13 +11,11 @@ pub middle_without_x : (p q : Place) → half_of (p.x +ℤ q.x) ≡ None → mid
 middle_without_x p q h = ap (option_and_then (λ x. option_map (place x) (half_of (p.y +ℤ q.y)))) h
 
 pub middle_without_y : (p q : Place) (x : ℤ) → half_of (p.x +ℤ q.x) ≡ Some x → half_of (p.y +ℤ q.y) ≡ None → middle_of p q ≡ None
-middle_without_y p q x h k =
-    ap (option_and_then (λ x. option_map (place x) (half_of (p.y +ℤ q.y)))) h ∙ ap (option_map (place x)) k
+middle_without_y p q x h k = ap (option_and_then (λ x. option_map (place x) (half_of (p.y +ℤ q.y)))) h ∙ ap (option_map (place x)) k
 
 pub middle_with : (p q : Place) (x y : ℤ) → half_of (p.x +ℤ q.x) ≡ Some x → half_of (p.y +ℤ q.y) ≡ Some y
     → middle_of p q ≡ Some (place x y)
-middle_with p q x y h k =
-    ap (option_and_then (λ x. option_map (place x) (half_of (p.y +ℤ q.y)))) h ∙ ap (option_map (place x)) k
+middle_with p q x y h k = ap (option_and_then (λ x. option_map (place x) (half_of (p.y +ℤ q.y)))) h ∙ ap (option_map (place x)) k
 
 -- ---- what halves are
 -- the place as far past q as q is from p
@@ -48,8 +44,7 @@ middle_is p q r e = by (half_of (p.x +ℤ q.x)) (half_of (p.y +ℤ q.y)) refl re
         let hy = half_is (p.y +ℤ q.y) y k in
         λ i. record {
           x = (apart p.x q.x r.x (ap (λ z. pos 2 *ℤ z) (sym ex) ∙ hx)) i;
-          y =
-              (apart p.y q.y r.y (ap (λ z. pos 2 *ℤ z) (sym ey) ∙ hy)) i;
+          y = (apart p.y q.y r.y (ap (λ z. pos 2 *ℤ z) (sym ey) ∙ hy)) i;
         }
 
 -- the middles of an arc that has halves

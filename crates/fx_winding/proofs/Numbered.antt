@@ -56,8 +56,7 @@ by_row P rows words count bits long set r k l m = grind (arith, signed_linear, l
 
 -- the pieces' segments up, as the frame with its coordinates exchanged has them
 abbrev AnyUp : List Span → ℤ → ℤ → ℕ → ℕ → Type 0
-AnyUp ss x y r k =
-    Any (IsMet (centre ((y -ℤ pos 1) +ℤ pos r) (x +ℤ pos k)) (centre (y +ℤ pos r) (x +ℤ pos k))) (map turned_span ss)
+AnyUp ss x y r k = Any (IsMet (centre ((y -ℤ pos 1) +ℤ pos r) (x +ℤ pos k)) (centre (y +ℤ pos r) (x +ℤ pos k))) (map turned_span ss)
 
 pub exact_noted : (f g : Frame) (ss : List Span) (rows columns : List ℕ) (m n : ℕ) → g.left ≡ f.bottom → g.bottom ≡ f.left
     → g.width ≡ f.height → g.height ≡ f.width → m ≡ f.height * words_noted f.width → n ≡ (f.height + 1) * words_noted f.width

@@ -30,16 +30,13 @@ either a b c d e = (λ h. grind arith, λ h. grind arith)
 
 -- a value is in the range if the values counted from it pass 0
 passes : (a b c p : ℤ) → IsInRange a b c p ↔ Passes (a -ℤ p) (b -ℤ p) (c -ℤ p)
-passes a b c p =
-    (λ h. record { low = low.0 h.low; high = high.0 h.high }, λ h. record { low = low.1 h.low; high = high.1 h.high })
+passes a b c p = (λ h. record { low = low.0 h.low; high = high.0 h.high }, λ h. record { low = low.1 h.low; high = high.1 h.high })
   where
     turn : p *ℤ (a -ℤ pos 2 *ℤ b +ℤ c) -ℤ (a *ℤ c -ℤ b *ℤ b) ≡ (b -ℤ p) *ℤ (b -ℤ p) -ℤ (a -ℤ p) *ℤ (c -ℤ p)
-    turn = ring (a ∷ b ∷ c ∷ p ∷ [])
-        (var 3 ⊠ (var 0 ⊟ num (pos 2) ⊠ var 1 ⊞ var 2) ⊟ (var 0 ⊠ var 2 ⊟ var 1 ⊠ var 1))
+    turn = ring (a ∷ b ∷ c ∷ p ∷ []) (var 3 ⊠ (var 0 ⊟ num (pos 2) ⊠ var 1 ⊞ var 2) ⊟ (var 0 ⊠ var 2 ⊟ var 1 ⊠ var 1))
         ((var 1 ⊟ var 3) ⊠ (var 1 ⊟ var 3) ⊟ (var 0 ⊟ var 3) ⊠ (var 2 ⊟ var 3)) tt
 
-    minus : (b -ℤ p) *ℤ (b -ℤ p) -ℤ (a -ℤ p) *ℤ (c -ℤ p) ≡
-        neg_ℤ (b -ℤ p) *ℤ neg_ℤ (b -ℤ p) -ℤ neg_ℤ (a -ℤ p) *ℤ neg_ℤ (c -ℤ p)
+    minus : (b -ℤ p) *ℤ (b -ℤ p) -ℤ (a -ℤ p) *ℤ (c -ℤ p) ≡ neg_ℤ (b -ℤ p) *ℤ neg_ℤ (b -ℤ p) -ℤ neg_ℤ (a -ℤ p) *ℤ neg_ℤ (c -ℤ p)
     minus = λ i. sym (both_minus (b -ℤ p) (b -ℤ p)) i -ℤ sym (both_minus (a -ℤ p) (c -ℤ p)) i
 
     low : IsAboveLow a b c p ↔ ComesDown (a -ℤ p) (b -ℤ p) (c -ℤ p)
@@ -63,8 +60,7 @@ abbrev four : ℤ → ℤ
 four z = (z +ℤ z) +ℤ (z +ℤ z)
 
 -- four times a j - m² is a c - b²
-first_turn : (a b c m j : ℤ) → m +ℤ m ≡ a +ℤ b → j +ℤ j +ℤ j +ℤ j ≡ a +ℤ b +ℤ b +ℤ c
-    → four (a *ℤ j -ℤ m *ℤ m) ≡ a *ℤ c -ℤ b *ℤ b
+first_turn : (a b c m j : ℤ) → m +ℤ m ≡ a +ℤ b → j +ℤ j +ℤ j +ℤ j ≡ a +ℤ b +ℤ b +ℤ c → four (a *ℤ j -ℤ m *ℤ m) ≡ a *ℤ c -ℤ b *ℤ b
 first_turn a b c m j hm hj =
     let d = var 0 ⊠ var 2 ⊟ var 1 ⊠ var 1 in
     let e : four (a *ℤ j -ℤ m *ℤ m) ≡ a *ℤ (j +ℤ j +ℤ j +ℤ j) -ℤ (m +ℤ m) *ℤ (m +ℤ m) =
@@ -242,8 +238,7 @@ passes_along k l a b c a' b' c' hk ea eb ec h = by_lt_z (pos 0) l (λ u. passes_
 -- the coordinates of a line's points are in one proportion, so that one's range tells the other's
 pub range_along : (k l ax bx cx px ay by cy py : ℤ) → k ≢ pos 0 → k *ℤ (ay -ℤ py) ≡ l *ℤ (ax -ℤ px)
     → k *ℤ (by -ℤ py) ≡ l *ℤ (bx -ℤ px) → k *ℤ (cy -ℤ py) ≡ l *ℤ (cx -ℤ px) → IsInRange ax bx cx px → IsInRange ay by cy py
-range_along k l ax bx cx px ay by cy py nk ea eb ec r =
-    by_lt_z (pos 0) k (λ h. rising k l h ea eb ec)
+range_along k l ax bx cx px ay by cy py nk ea eb ec r = by_lt_z (pos 0) k (λ h. rising k l h ea eb ec)
     (λ h. rising (neg_ℤ k) (neg_ℤ l) (omega (arith, signed_linear, nk, h)) (turned (ay -ℤ py) (ax -ℤ px) ea)
     (turned (by -ℤ py) (bx -ℤ px) eb) (turned (cy -ℤ py) (cx -ℤ px) ec))
   where

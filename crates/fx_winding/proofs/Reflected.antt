@@ -26,8 +26,7 @@ sign_reflected r f a b c = ap sign (f.area_is a b c) ∙ sign_back (area a b c)
 -- they are the same
 pub weight_reflected : (r : Place → Place) → Reflects r → (a b c p q s : Place)
     → sign (area (r a) (r b) (r c)) *ℤ area (r p) (r q) (r s) ≡ sign (area a b c) *ℤ area p q s
-weight_reflected r f a b c p q s =
-    (λ i. sign_reflected r f a b c i *ℤ f.area_is p q s i)
+weight_reflected r f a b c p q s = (λ i. sign_reflected r f a b c i *ℤ f.area_is p q s i)
     ∙ ring (sign (area a b c) ∷ area p q s ∷ []) (minus (var 0) ⊠ minus (var 1)) (var 0 ⊠ var 1) tt
 
 pub none_reflected : (r : Place → Place) → Reflects r → (p q s : Place) → area p q s ≡ pos 0 → area (r p) (r q) (r s) ≡ pos 0
@@ -77,8 +76,7 @@ regions_alike r f a b c p s = regions_cancel r f a b c p (region_to r f a b c p 
 -- ---- the whole
 -- a moved piece and the piece add k in all
 abbrev pub AddUp : (Place → Place) → ℤ → Place → Option Place → Place → Place → Type 0
-AddUp r k a b c p =
-    chord_crossing (r a) (r c) (r p) +ℤ region_part (r a) (option_map r b) (r c) (r p)
+AddUp r k a b c p = chord_crossing (r a) (r c) (r p) +ℤ region_part (r a) (option_map r b) (r c) (r p)
     ≡ k -ℤ (chord_crossing a c p +ℤ region_part a b c p)
 
 -- so do the crossings off the chord's line

@@ -1,8 +1,7 @@
 -- A place in an arc's region counts by the sign of the arc's area (`region_in`), and any other not at all (`region_out`).
 -- Serves the laws of reversed, moved and halved pieces.
-use Rattle.std.proofs.Common.{◌≡◌, refl, ap, subst, ◌⊎◌, inl, inr, ℤ, pos, ◌<ℤ◌, Bool, true, false}
-use Rattle.std.proofs.Common.{◌&&◌, ◌||◌}
-use Rattle.std.proofs.Common.{if◌then◌else◌, Some, arith}
+use Rattle.std.proofs.Common.{◌≡◌, refl, ap, subst, ◌⊎◌, inl, inr, ℤ, pos, ◌<ℤ◌, Bool, true, false, ◌&&◌, ◌||◌, if◌then◌else◌, Some}
+use Rattle.std.proofs.Common.{arith}
 use Rattle.std.proofs.lemmas.Int.{by_lt_z}
 use Rattle.fx_fixed.proofs.Signs.{square_at_least_zero}
 use Rattle.fx_fixed.proofs.Linear.{signed_linear}
@@ -14,8 +13,7 @@ use Rattle.fx_winding.proofs.Triangle.{third_above}
 
 -- a place with these weights is strictly between the arc and its chord, or on a chord that belongs to the region
 abbrev pub IsIn : ℤ → ℤ → ℤ → Bool → Type 0
-IsIn u v w right =
-    ((pos 0 <ℤ u) × (pos 0 <ℤ v) × (pos 0 <ℤ w) × (pos 0 <ℤ gap_of u v w))
+IsIn u v w right = ((pos 0 <ℤ u) × (pos 0 <ℤ v) × (pos 0 <ℤ w) × (pos 0 <ℤ gap_of u v w))
     ⊎ ((v ≡ pos 0) × (pos 0 <ℤ u) × (pos 0 <ℤ w) × (right ≡ true))
 
 -- p is in the region of the arc

@@ -1,17 +1,15 @@
 -- A reversed piece adds the negative of what the piece adds to a winding number, and has the same places on it.
 -- Serves the law `reversal`, and halves, the second of which is the first of the reversed arc.
-use Rattle.std.proofs.Common.{◌≡◌, refl, sym, ap, ◌∙◌, ◌⊎◌, inl, inr, ℤ, pos, ◌+ℤ◌, ◌-ℤ◌}
-use Rattle.std.proofs.Common.{◌*ℤ◌, neg_ℤ, Bool, int_lt, ◌&&◌, ◌||◌, [], ◌∷◌, Option, Some, None, map}
-use Rattle.std.proofs.Common.{arith}
+use Rattle.std.proofs.Common.{◌≡◌, refl, sym, ap, ◌∙◌, ◌⊎◌, inl, inr, ℤ, pos, ◌+ℤ◌, ◌-ℤ◌, ◌*ℤ◌, neg_ℤ, Bool, int_lt, ◌&&◌, ◌||◌, []}
+use Rattle.std.proofs.Common.{◌∷◌, Option, Some, None, map, arith}
 use Rattle.std.specs.Ordering.{int_eq}
 use Rattle.std.proofs.lemmas.Int.{ints}
 use Rattle.fx_fixed.specs.Polynomial.{var, num, ◌⊞◌, ◌⊠◌, minus, ◌⊟◌}
 use Rattle.fx_fixed.proofs.Ring.{ring}
 use Rattle.fx_fixed.proofs.Linear.{signed_linear}
 use Rattle.fx_winding.specs.Area.{Place, area, gap_of}
-use Rattle.fx_winding.specs.Winding.{sign, weight_a, weight_b, weight_c, is_right_of_chord, chord_crossing}
-use Rattle.fx_winding.specs.Winding.{region_part, IsOnPart, IsBetween, IsInRange, IsAboveLow, IsBelowHigh, AreOnArc}
-use Rattle.fx_winding.specs.Winding.{IsBeforeTurn}
+use Rattle.fx_winding.specs.Winding.{sign, weight_a, weight_b, weight_c, is_right_of_chord, chord_crossing, region_part, IsOnPart}
+use Rattle.fx_winding.specs.Winding.{IsBetween, IsInRange, IsAboveLow, IsBelowHigh, AreOnArc, IsBeforeTurn}
 use Rattle.fx_winding.specs.Moves.{reversed, ReversalNegates, ReversalKeepsCover}
 use Rattle.fx_winding.proofs.Crossings.{crossing_number, area_turn}
 use Rattle.fx_winding.proofs.Triangle.{at, coordinates, area_at}
@@ -29,8 +27,7 @@ pub sign_back : (z : ℤ) → sign (neg_ℤ z) ≡ neg_ℤ (sign z)
 sign_back z = grind (arith, signed_linear)
 
 pub area_back : (a b c : Place) → area c b a ≡ neg_ℤ (area a b c)
-area_back a b c =
-    ring (coordinates (a ∷ b ∷ c ∷ []) []) (area_at (at 2) (at 1) (at 0)) (minus (area_at (at 0) (at 1) (at 2))) tt
+area_back a b c = ring (coordinates (a ∷ b ∷ c ∷ []) []) (area_at (at 2) (at 1) (at 0)) (minus (area_at (at 0) (at 1) (at 2))) tt
 
 minus_times_minus : (x y : ℤ) → neg_ℤ x *ℤ neg_ℤ y ≡ x *ℤ y
 minus_times_minus x y = ring (x ∷ y ∷ []) (minus (var 0) ⊠ minus (var 1)) (var 0 ⊠ var 1) tt
@@ -112,21 +109,18 @@ arc_back a b c p h = grind (arith, signed_linear, h, weight_a-back, weight_b-bac
 
 pub on_part_back : (a : Place) (b : Option Place) (c p : Place) → IsOnPart a b c p → IsOnPart c b a p
 on_part_back a None c p on = grind (arith, signed_linear, on, none_back, area_turn, between_back)
-on_part_back a (Some b) c p (inl on) =
-    inl (record {
-      bent = λ e. on.bent (none_if_back (area a b c) (area c b a) (area_back a b c) e);
-      on_arc =
-          arc_back a b c p on.on_arc;
-    })
-on_part_back a (Some b) c p (inr on) =
-    inr (record {
-      flat = none_back (area a b c) (area c b a) (area_back a b c) on.flat;
-      with_ab = none_back (area b c p) (area c b p) (area_turn c.x c.y b.x b.y p.x p.y) on.with_bc;
-      with_bc = none_back (area a b p) (area b a p) (area_turn b.x b.y a.x a.y p.x p.y) on.with_ab;
-      with_ac = none_back (area a c p) (area c a p) (area_turn c.x c.y a.x a.y p.x p.y) on.with_ac;
-      range_x = range_back a.x b.x c.x p.x on.range_x;
-      range_y = range_back a.y b.y c.y p.y on.range_y;
-    })
+on_part_back a (Some b) c p (inl on) = inl (record {
+  bent = λ e. on.bent (none_if_back (area a b c) (area c b a) (area_back a b c) e);
+  on_arc = arc_back a b c p on.on_arc;
+})
+on_part_back a (Some b) c p (inr on) = inr (record {
+  flat = none_back (area a b c) (area c b a) (area_back a b c) on.flat;
+  with_ab = none_back (area b c p) (area c b p) (area_turn c.x c.y b.x b.y p.x p.y) on.with_bc;
+  with_bc = none_back (area a b p) (area b a p) (area_turn b.x b.y a.x a.y p.x p.y) on.with_ab;
+  with_ac = none_back (area a c p) (area c a p) (area_turn c.x c.y a.x a.y p.x p.y) on.with_ac;
+  range_x = range_back a.x b.x c.x p.x on.range_x;
+  range_y = range_back a.y b.y c.y p.y on.range_y;
+})
 
 pub reversal_negates : ReversalNegates
 reversal_negates p s = grind (arith, signed_linear, p, s, on_part_back, crossing_back, region_part_back)

@@ -8,9 +8,8 @@ use Rattle.fx_fixed.specs.Polynomial.{var, num, ◌⊞◌, ◌⊠◌, ◌⊟◌}
 use Rattle.fx_fixed.proofs.Ring.{ring}
 use Rattle.fx_fixed.proofs.Linear.{signed_linear}
 use Rattle.fx_winding.specs.Area.{Place, area}
-use Rattle.fx_winding.specs.Winding.{sign, is_right_of_chord, chord_crossing}
-use Rattle.fx_winding.specs.Winding.{region_part, IsOnPart, IsBetween, IsInRange, IsAboveLow, IsBelowHigh}
-use Rattle.fx_winding.specs.Winding.{Span, IsBeforeTurn, IsOn, IsCovered, centre}
+use Rattle.fx_winding.specs.Winding.{sign, is_right_of_chord, chord_crossing, region_part, IsOnPart, IsBetween, IsInRange}
+use Rattle.fx_winding.specs.Winding.{IsAboveLow, IsBelowHigh, Span, IsBeforeTurn, IsOn, IsCovered, centre}
 use Rattle.fx_winding.specs.Moves.{shifted_place, shifted, ShiftMovesCover, ShiftMovesBits}
 use Rattle.fx_winding.proofs.Crossings.{crossing_number}
 use Rattle.fx_winding.proofs.Triangle.{area_expr, at, coordinates, area_at}
@@ -18,8 +17,7 @@ use Rattle.fx_winding.proofs.Covers.{covered_map}
 use Rattle.fx_winding.proofs.Ranges.{either}
 
 pub area_shift : (x y : ℤ) (a b c : Place) → area (shifted_place x y a) (shifted_place x y b) (shifted_place x y c) ≡ area a b c
-area_shift x y a b c =
-    ring (coordinates (a ∷ b ∷ c ∷ []) (x ∷ y ∷ []))
+area_shift x y a b c = ring (coordinates (a ∷ b ∷ c ∷ []) (x ∷ y ∷ []))
     (area_expr (var 0 ⊞ var 6) (var 1 ⊞ var 7) (var 2 ⊞ var 6) (var 3 ⊞ var 7) (var 4 ⊞ var 6) (var 5 ⊞ var 7))
     (area_at (at 0) (at 1) (at 2)) tt
 
@@ -36,15 +34,13 @@ sign_shift : (x y : ℤ) (a b c : Place)
     → sign (area (shifted_place x y a) (shifted_place x y b) (shifted_place x y c)) ≡ sign (area a b c)
 sign_shift x y a b c = ap sign (area_shift x y a b c)
 
-weight_shift : (x y : ℤ) (a b c p q r : Place)
-    → sign (area (shifted_place x y a) (shifted_place x y b) (shifted_place x y c))
+weight_shift : (x y : ℤ) (a b c p q r : Place) → sign (area (shifted_place x y a) (shifted_place x y b) (shifted_place x y c))
     *ℤ area (shifted_place x y p) (shifted_place x y q) (shifted_place x y r) ≡ sign (area a b c) *ℤ area p q r
 weight_shift x y a b c p q r = λ i. sign_shift x y a b c i *ℤ area_shift x y p q r i
 
 right_shift : (x y : ℤ) (a b c : Place)
     → is_right_of_chord (shifted_place x y a) (shifted_place x y b) (shifted_place x y c) ≡ is_right_of_chord a b c
-right_shift x y a b c =
-    tests (area (shifted_place x y a) (shifted_place x y b) (shifted_place x y c) *ℤ ((c.y +ℤ y) -ℤ (a.y +ℤ y)))
+right_shift x y a b c = tests (area (shifted_place x y a) (shifted_place x y b) (shifted_place x y c) *ℤ ((c.y +ℤ y) -ℤ (a.y +ℤ y)))
     (area a b c *ℤ (c.y -ℤ a.y)) a.y b.y c.y y same
   where
     same : area (shifted_place x y a) (shifted_place x y b) (shifted_place x y c) *ℤ ((c.y +ℤ y) -ℤ (a.y +ℤ y)) ≡ area a b c *ℤ
@@ -118,8 +114,7 @@ span_back x y s = grind (arith, signed_linear, place_back)
 pub unshifted : (P : Place → Place → Span → Type 0) (x y : ℤ) (p q : Place) (s : Span)
     → P (shifted_place (neg_ℤ x) (neg_ℤ y) (shifted_place x y p)) (shifted_place (neg_ℤ x) (neg_ℤ y) (shifted_place x y q))
     (shifted (neg_ℤ x) (neg_ℤ y) (shifted x y s)) → P p q s
-unshifted P x y p q s h =
-    subst (λ (T : Type 0). T) (λ i. P (place_back x y p i) (place_back x y q i) (span_back x y s i)) h
+unshifted P x y p q s h = subst (λ (T : Type 0). T) (λ i. P (place_back x y p i) (place_back x y q i) (span_back x y s i)) h
 
 on_shift : (x y : ℤ) (p : Place) (s : Span) → IsOn (shifted_place x y p) (shifted x y s) ↔ IsOn p s
 on_shift x y p s = (
@@ -142,6 +137,5 @@ pub centre_shift : (k l i j : ℤ) → shifted_place (pos 128 *ℤ k) (pos 128 *
 centre_shift k l i j = λ t. record { x = centre_along i k t; y = centre_along j l t }
 
 pub shift_moves_bits : ShiftMovesBits
-shift_moves_bits k l i j ss =
-    subst (λ q. IsCovered q (map (shifted (pos 128 *ℤ k) (pos 128 *ℤ l)) ss) ↔ IsCovered (centre i j) ss)
+shift_moves_bits k l i j ss = subst (λ q. IsCovered q (map (shifted (pos 128 *ℤ k) (pos 128 *ℤ l)) ss) ↔ IsCovered (centre i j) ss)
     (centre_shift k l i j) (shift_moves_cover (pos 128 *ℤ k) (pos 128 *ℤ l) (centre i j) ss)

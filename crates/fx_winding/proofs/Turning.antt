@@ -47,8 +47,7 @@ same_corners p q s e h k = corners_same s.a.x s.a.y s.c.x s.c.y p.x p.y q.x q.y 
 -- what adds the same in both does so in the column
 turned_inner : (p q : Place) (s : Span) → p.x ≡ q.x → IsBetweenEnds p s → IsBetweenEnds q s → ¬ (IsOn p s) → ¬ (IsOn q s)
     → turn p s ≡ turn q s → turn (turned_place p) (turned_span s) ≡ turn (turned_place q) (turned_span s)
-turned_inner p q s e h k np nq t =
-    turned_within p s h np ∙ (λ i. same_corners p q s e h k i -ℤ t i) ∙ sym (turned_within q s k nq)
+turned_inner p q s e h k np nq t = turned_within p s h np ∙ (λ i. same_corners p q s e h k i -ℤ t i) ∙ sym (turned_within q s k nq)
 
 -- ---- a row strictly between the ends, and one beyond
 -- the place lies left of an end, where the piece adds this value, or right of it, where the piece adds nothing
@@ -57,13 +56,11 @@ IsClearOf end value q s = ((q.x <ℤ end.x) × (turn q s ≡ value)) ⊎ ((end.x
 
 -- so of the lower end
 abbrev pub IsClearOfFoot : Place → Span → Type 0
-IsClearOfFoot q s =
-    ((s.a.y <ℤ s.c.y) × IsClearOf s.a (pos 1) q s) ⊎ ((s.c.y <ℤ s.a.y) × IsClearOf s.c (negsuc 0) q s)
+IsClearOfFoot q s = ((s.a.y <ℤ s.c.y) × IsClearOf s.a (pos 1) q s) ⊎ ((s.c.y <ℤ s.a.y) × IsClearOf s.c (negsuc 0) q s)
 
 -- so of the upper end
 abbrev pub IsClearOfHead : Place → Span → Type 0
-IsClearOfHead q s =
-    ((s.a.y <ℤ s.c.y) × IsClearOf s.c (pos 1) q s) ⊎ ((s.c.y <ℤ s.a.y) × IsClearOf s.a (negsuc 0) q s)
+IsClearOfHead q s = ((s.a.y <ℤ s.c.y) × IsClearOf s.c (pos 1) q s) ⊎ ((s.c.y <ℤ s.a.y) × IsClearOf s.a (negsuc 0) q s)
 
 -- the same by numbers: an end at one, a place at another that adds a third
 abbrev IsClear : ℤ → ℤ → ℤ → ℤ → Type 0
@@ -101,8 +98,7 @@ turned_below p s h off =
     right_turn (turned_place p) (turned_span s) (starts_turned p.y s h) (no_end_turned p s (off_no_end p s off))
 
 pub turned_above : (p : Place) (s : Span) → HangsFrom p.y s → ¬ (IsOn p s) → turn (turned_place p) (turned_span s) ≡ pos 0
-turned_above p s h off =
-    left_turn (turned_place p) (turned_span s) (ends_turned p.y s h) (no_end_turned p s (off_no_end p s off))
+turned_above p s h off = left_turn (turned_place p) (turned_span s) (ends_turned p.y s h) (no_end_turned p s (off_no_end p s off))
 
 -- the piece rests on the row of p
 turned_foot : (p q : Place) (s : Span) → p.x ≡ q.x → RestsOn p.y s → ¬ (IsOn p s) → IsBetweenEnds q s → ¬ (IsOn q s)
@@ -133,8 +129,7 @@ column_not_met p q s h i j k l = grind (arith, signed_linear, h, i, j, k, l, col
 pub inner_pair_not_met : (p q : Place) (s : Span) → p.x ≡ q.x → IsBetweenEnds p s → IsBetweenEnds q s → ¬ (IsOn p s)
     → ¬ (IsOn q s) → turn p s ≡ turn q s → IsBetween s.a.x s.c.x p.x
     → ¬ (IsMet (turned_place p) (turned_place q) (turned_span s))
-inner_pair_not_met p q s e hp hq np nq t h =
-    column_not_met p q s h (λ k. none s.a.y s.c.y p.y q.y hp hq k.after k.before)
+inner_pair_not_met p q s e hp hq np nq t h = column_not_met p q s h (λ k. none s.a.y s.c.y p.y q.y hp hq k.after k.before)
     (λ k. none s.c.y s.a.y p.y q.y (swapped hp) (swapped hq) k.after k.before) (turned_inner p q s e hp hq np nq t)
   where
     none : (a c y z : ℤ) → ((a <ℤ y) × (y <ℤ c)) ⊎ ((c <ℤ y) × (y <ℤ a)) → ((a <ℤ z) × (z <ℤ c)) ⊎ ((c <ℤ z) × (z <ℤ a))
@@ -153,8 +148,7 @@ from_foot_not_met p q s e h np i nq c b =
         → (ax ≡ px → ay <ℤ y → ⊥) × (cx ≡ px → cy <ℤ y → ⊥)
     under ax ay cx cy px x y t e i c = (
       λ l m. omega (arith, signed_linear, e, i, c, l, m),
-      λ l m. omega
-          (arith, signed_linear, e, i, c, l, m),
+      λ l m. omega (arith, signed_linear, e, i, c, l, m),
     )
 
 -- from a row between the ends to the one from which the piece hangs

@@ -6,8 +6,7 @@ use Rattle.fx_winding.specs.Winding.{place_of}
 use Rattle.fx_winding.proofs.slope.gap_slope.Goals as goal
 use mir.Syntax.{w128}
 
-whole : (x y z : ℤ) → IsWithin (2 ^ 94) x → IsWithin (2 ^ 94) y → IsWithin (2 ^ 94) z
-    → to_z w128 (of_z w128 (to_z w128 (of_z w128
+whole : (x y z : ℤ) → IsWithin (2 ^ 94) x → IsWithin (2 ^ 94) y → IsWithin (2 ^ 94) z → to_z w128 (of_z w128 (to_z w128 (of_z w128
     (pos 2 *ℤ to_z w128 (of_z w128 (to_z w128 (of_z w128 x) +ℤ to_z w128 (of_z w128 y))))) +ℤ to_z w128 (of_z w128 z))) ≡
     pos 2 *ℤ (x +ℤ y) +ℤ z
 whole x y z hx hy hz = omega (arith, signed)
@@ -16,8 +15,7 @@ doubled : (x y : ℤ) → IsWithin (2 ^ 94) x → IsWithin (2 ^ 94) y
     → FitsSigned w128 (pos 2 *ℤ to_z w128 (of_z w128 (to_z w128 (of_z w128 x) +ℤ to_z w128 (of_z w128 y))))
 doubled x y hx hy = omega (arith, signed)
 
-added : (x y z : ℤ) → IsWithin (2 ^ 94) x → IsWithin (2 ^ 94) y → IsWithin (2 ^ 94) z
-    → FitsSigned w128 (to_z w128 (of_z w128
+added : (x y z : ℤ) → IsWithin (2 ^ 94) x → IsWithin (2 ^ 94) y → IsWithin (2 ^ 94) z → FitsSigned w128 (to_z w128 (of_z w128
     (pos 2 *ℤ to_z w128 (of_z w128 (to_z w128 (of_z w128 x) +ℤ to_z w128 (of_z w128 y))))) +ℤ to_z w128 (of_z w128 z))
 added x y z hx hy hz = omega (arith, signed)
 
@@ -33,8 +31,7 @@ overflow_add-result-2 c = added c.wide_product-w.result c.wide_product-u.result 
     c.wide_product-w.ensures.size c.wide_product-u.ensures.size c.wide_product-v.ensures.size
 
 pub returns-clause-value : goal.returns-clause-value
-returns-clause-value c =
-    whole c.wide_product-w.result c.wide_product-u.result c.wide_product-v.result c.wide_product-w.ensures.size
+returns-clause-value c = whole c.wide_product-w.result c.wide_product-u.result c.wide_product-v.result c.wide_product-w.ensures.size
     c.wide_product-u.ensures.size c.wide_product-v.ensures.size
     ∙ (λ i. pos 2 *ℤ (x i +ℤ y i) +ℤ z i)
   where

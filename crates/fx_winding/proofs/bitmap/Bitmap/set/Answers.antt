@@ -26,9 +26,7 @@ number c =
 
 others : (c : goal.After-self-1) (k : ℕ) → k ≢ bit_number c.self.inside.frame c.args.col c.args.row
     → word_bit c.set_bit.new.words k ≡ word_bit c.self.inside.words.items k
-others c k n =
-    c.set_bit.ensures.others k (λ e. n (e ∙ number c))
-    ∙ ap (λ (l : List ℕ). word_bit l k) c.deref_mut.ensures.value
+others c k n = c.set_bit.ensures.others k (λ e. n (e ∙ number c)) ∙ ap (λ (l : List ℕ). word_bit l k) c.deref_mut.ensures.value
 
 pub invariant_of-self : goal.invariant_of-self
 invariant_of-self c =

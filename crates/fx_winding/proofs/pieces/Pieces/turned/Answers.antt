@@ -9,14 +9,13 @@ pub pieces-init : goal.pieces-init
 pieces-init c = record { long = ap length c.new-turned.ensures; same = ap (map span_of) c.new-turned.ensures }
 
 pub push-requires : goal.push-requires
-push-requires c =
-    grind (
-      arith,
-      c.pieces.invariant.long,
-      c.pieces-test.true,
-      c.as_slice-piece-items.ensures.value,
-      c.as_slice-piece-items.ensures.few,
-    )
+push-requires c = grind (
+  arith,
+  c.pieces.invariant.long,
+  c.pieces-test.true,
+  c.as_slice-piece-items.ensures.value,
+  c.as_slice-piece-items.ensures.few,
+)
 
 pub pieces-preserved : goal.pieces-preserved
 pieces-preserved c =
