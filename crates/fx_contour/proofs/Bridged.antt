@@ -1,7 +1,6 @@
 -- The frame with drop-out control has a pixel of each gap.
 -- For the law `dropout`.
-use Rattle.std.proofs.Common.{◌≡◌, ◌⊎◌, inl, inr, refl, ℤ, pos, ◌+ℤ◌, ◌*ℤ◌, ◌≤ℤ◌, ◌<ℤ◌, List, [], ◌∷◌, map, Any}
-use Rattle.std.proofs.Common.{arith}
+use Rattle.std.proofs.Common.{◌≡◌, ◌⊎◌, inl, inr, refl, ℤ, pos, ◌+ℤ◌, ◌*ℤ◌, ◌≤ℤ◌, ◌<ℤ◌, List, [], ◌∷◌, map, Any, arith}
 use Rattle.fx_fixed.proofs.Linear.{signed}
 use Rattle.fx_fixed.proofs.Order.{below_or_not_ℤ}
 use Rattle.fx_winding.specs.Area.{Place}
@@ -46,8 +45,7 @@ around_later p q s ss h = record { left = inr h.left; right = inr h.right; botto
 
 any_around : (p q : Place) (ss : List Span) → q.y ≡ p.y → p.x ≤ℤ q.x → Any (IsMet p q) ss → IsAround p q (λ P. HaveAny P ss)
 any_around p q [] e l (k, s, within, is, m) = absurd (omega (arith, within))
-any_around p q (s ∷ ss) e l a =
-    elim (any_cases (IsMet p q) s ss a)
+any_around p q (s ∷ ss) e l a = elim (any_cases (IsMet p q) s ss a)
     [ inl m ↦ around_first p q s ss (piece_around p q s e l m) | inr r ↦ around_later p q s ss (any_around p q ss e l r) ]
 
 -- a point of turned spans is a point of the spans

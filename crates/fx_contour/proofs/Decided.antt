@@ -1,8 +1,7 @@
 -- The tests decide the facts that they test.
 -- For the clauses `exact` of `pieces` and `frame`, and for the law `tested`.
-use Rattle.std.proofs.Common.{◌≡◌, ◌↔◌, IsTrue, refl, sym, subst, inl, inr, ℤ, pos, negsuc, neg_ℤ, ◌+ℤ◌, ◌*ℤ◌, ◌≤ℤ◌, int_le, ℕ}
-use Rattle.std.proofs.Common.{◌⊎◌, Bool, true, false, ◌&&◌, List, [], ◌∷◌, Option, All, Result, Ok}
-use Rattle.std.proofs.Common.{Err, Decides, IfOk, IfErr, arith}
+use Rattle.std.proofs.Common.{◌≡◌, ◌↔◌, IsTrue, refl, sym, subst, inl, inr, ℤ, pos, negsuc, neg_ℤ, ◌+ℤ◌, ◌*ℤ◌, ◌≤ℤ◌, int_le, ℕ, ◌⊎◌}
+use Rattle.std.proofs.Common.{Bool, true, false, ◌&&◌, List, [], ◌∷◌, Option, All, Result, Ok, Err, Decides, IfOk, IfErr, arith}
 use Rattle.std.proofs.lemmas.Int.{ints}
 use Rattle.std.proofs.lemmas.Bool.Decides.{Decides-like, Decides-and, Decides-or, Decides-by_and}
 use Rattle.std.specs.List.{list_all}
@@ -21,9 +20,8 @@ use Rattle.fx_winding.specs.Area.{Place}
 use Rattle.fx_winding.specs.Winding.{Span, centre}
 use Rattle.fx_outline.specs.declared.points.OutlinePoint.{OutlinePoint}
 use Rattle.fx_contour.specs.Contours.{farthest, IsInReach, is_within, is_in_reach, ReachIsTested, spans_of, drawn_of}
-use Rattle.fx_contour.specs.Frames.{HasAny, HaveAny, IsInBoundingBox, AreTooLarge, has_any, have_any, is_in_bounding_box}
-use Rattle.fx_contour.specs.Frames.{first_from, is_large_from, is_too_large, LargeIsTested, IsFrameFor, framed_of}
-use Rattle.fx_contour.specs.Frames.{outline_framed_of}
+use Rattle.fx_contour.specs.Frames.{IsInBoundingBox, is_in_bounding_box, is_large_from, LargeIsTested, framed_of, outline_framed_of}
+use Rattle.fx_contour.specs.Frames.{HasAny, HaveAny, AreTooLarge, has_any, have_any, first_from, is_too_large, IsFrameFor}
 
 pub le_decides : (x y : ℤ) → Decides (int_le x y) (x ≤ℤ y)
 le_decides x y = (λ t. omega (arith, ints), λ h. sym (omega (arith, ints)))
@@ -32,8 +30,7 @@ pub within_decides : (n : ℕ) (z : ℤ) → Decides (is_within n z) (IsWithin n
 within_decides n z = Decides-and (int_le (neg_ℤ (pos n)) z) (int_le z (pos n)) (le_decides (neg_ℤ (pos n)) z) (le_decides z (pos n))
 
 pub reach_is_tested : ReachIsTested
-reach_is_tested points =
-    Decides-by_and is_in_reach IsInReach (list_all is_in_reach)
+reach_is_tested points = Decides-by_and is_in_reach IsInReach (list_all is_in_reach)
     (λ p. Decides-and (is_within farthest p.x) (is_within farthest p.y) (within_decides farthest p.x)
     (within_decides farthest p.y)) refl (λ x xs. refl) points
 
@@ -60,8 +57,7 @@ box_decides p ss =
     (have_decides (λ q. int_le p.y q.y) (λ q. p.y ≤ℤ q.y) (λ q. le_decides p.y q.y) ss))))
 
 abbrev IsLargeFrom : List Span → ℤ → ℤ → Type 0
-IsLargeFrom ss i j =
-    IsInBoundingBox (centre i j) ss × (IsInBoundingBox (centre (i +ℤ pos greatest_side) j) ss ⊎ IsInBoundingBox
+IsLargeFrom ss i j = IsInBoundingBox (centre i j) ss × (IsInBoundingBox (centre (i +ℤ pos greatest_side) j) ss ⊎ IsInBoundingBox
     (centre i (j +ℤ pos greatest_side)) ss)
 
 large_decides : (ss : List Span) (i j : ℤ) → Decides (is_large_from ss i j) (IsLargeFrom ss i j)
@@ -130,8 +126,7 @@ row ss q = have_any (λ r. is_large_from ss (first_from q.x) (first_from r.y)) s
 
 pub large_is_tested : LargeIsTested
 unfolding is_too_large
-large_is_tested ss =
-    Decides-like (have_any (row ss) ss) there back
+large_is_tested ss = Decides-like (have_any (row ss) ss) there back
     (have_decides (row ss) (Row ss) (λ q. have_decides (λ r. is_large_from ss (first_from q.x) (first_from r.y))
     (λ r. IsLargeFrom ss (first_from q.x) (first_from r.y)) (λ r. large_decides ss (first_from q.x) (first_from r.y)) ss) ss)
   where
@@ -141,8 +136,7 @@ large_is_tested ss =
         (λ r l n. (first_from q.x, first_from r.y, l.0, l.1)))
 
     back : AreTooLarge ss → HaveAny (Row ss) ss
-    back (i, j, h, k) =
-        some_one (λ q. q.x ≤ℤ (centre i j).x) (HaveAny (Row ss) ss) ss h.left (λ q x m.
+    back (i, j, h, k) = some_one (λ q. q.x ≤ℤ (centre i j).x) (HaveAny (Row ss) ss) ss h.left (λ q x m.
         some_one (λ r. r.y ≤ℤ (centre i j).y) (HaveAny (Row ss) ss) ss h.bottom (λ r y n.
         m (Row ss) (n (λ r. IsLargeFrom ss (first_from q.x) (first_from r.y))
         (large_at ss i j (first_from q.x) (first_from r.y) q r (h, k) m n (first_least q.x i x) (first_least r.y j y)

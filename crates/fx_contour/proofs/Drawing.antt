@@ -1,8 +1,7 @@
 -- The curves of an outline reach as far as its points do, if each contour has two points or more.
 -- For `Extent::of_curves`, `Bounds::of_outline`, and the limit in `are_in_reach` and `outline_frame`.
-use Rattle.std.proofs.Common.{◌≡◌, subst, ap, ◌∙◌, ℕ, zero, suc, ◌+◌, ◌-◌, ◌≤◌, drop, take, length, map, ◌⊎◌}
-use Rattle.std.proofs.Common.{inl, inr, ℤ, pos, neg_ℤ, ◌*ℤ◌, ◌≤ℤ◌, List, [], ◌∷◌, Option, Some, None, arith, ◌↔◌, All}
-use Rattle.std.proofs.Common.{drop_of_length-le, Bool, IsTrue}
+use Rattle.std.proofs.Common.{subst, ℕ, zero, drop, take, length, neg_ℤ, ◌*ℤ◌, ◌≤ℤ◌, List, Option, arith, drop_of_length-le, IsTrue}
+use Rattle.std.proofs.Common.{◌≡◌, ap, ◌∙◌, suc, ◌+◌, ◌-◌, ◌≤◌, map, ◌⊎◌, inl, inr, ℤ, pos, [], ◌∷◌, Some, None, ◌↔◌, All, Bool}
 use Rattle.std.proofs.lemmas.Int.{ints}
 use Rattle.std.proofs.lemmas.List.{drop-drop, length-take, length-drop}
 use Rattle.std.proofs.lemmas.List.Elements.{All-nil, All-cons, All-head, All-tail}
@@ -124,8 +123,7 @@ extent_keeps e points h n = ((left, right), (bottom, top))
 -- the extent of the curves keeps the limit, if the points are within it
 pub curves_keep : (e : Extent) (ends : List ℕ) (points : List OutlinePoint)
     → IsLeast (Extends e) (λ P. HaveAny P (spans_of ends points)) → All IsInReach points → KeepsLimit e
-curves_keep e ends points h n =
-    extent_keeps e points (λ side t k. of_curves side t 0 ends points ((h.sides side t).1 k)) n
+curves_keep e ends points h n = extent_keeps e points (λ side t k. of_curves side t 0 ends points ((h.sides side t).1 k)) n
 
 -- points that an extent holds are within the limit, if it is
 all_near : (e : Extent) (points : List OutlinePoint) → KeepsLimit e

@@ -47,14 +47,12 @@ none_frame ss e i j = (λ n. absurd n, λ k. subst (λ (xs : List Span). IsKept 
 -- a coordinate of a point of spans of which none lies too far out
 pub near : (coord : Place → ℤ) → ((q : Place) → LeavesMargin q → IsWithin farthest_with_margin (coord q)) → (ss : List Span)
     → ¬ (HaveAny (λ r. ¬ (LeavesMargin r)) ss) → (z : ℤ) → HaveAny (λ q. coord q ≡ z) ss → IsWithin farthest_with_margin z
-near coord within ss n z h =
-    some_one (λ q. coord q ≡ z) (IsWithin farthest_with_margin z) ss h
+near coord within ss n z h = some_one (λ q. coord q ≡ z) (IsWithin farthest_with_margin z) ss h
     (λ q k m. subst (IsWithin farthest_with_margin) k (within q (leaves q m (leaves_margin q) refl)))
   where
     leaves : (q : Place) → ((R : Place → Type 0) → R q → HaveAny R ss) → (t : Bool) → leaves_margin q ≡ t → LeavesMargin q
     leaves q m true e = (margin_decides q).0 e
-    leaves q m false e =
-        absurd (n (m (λ r. ¬ (LeavesMargin r)) (not_from_Decides (leaves_margin q) (margin_decides q) e)))
+    leaves q m false e = absurd (n (m (λ r. ¬ (LeavesMargin r)) (not_from_Decides (leaves_margin q) (margin_decides q) e)))
 
 bounds_leave : (b : Bounds) (ss : List Span) → AreBounds b ss → ¬ (HaveAny (λ r. ¬ (LeavesMargin r)) ss) → BoundsLeaveMargin b
 bounds_leave b ss a n =
@@ -100,8 +98,7 @@ many_kept coord ss s low high e k c = grind (arith, signed_linear, e, k, c, kept
 
 few_kept : (coord : Place → ℤ) (ss : List Span) (s : Pixels) (low high : ℤ) → IsExtent coord ss low high → AreKept s low high
     → s.count ≤ greatest_side → ¬ (KeepsTooMany coord ss)
-few_kept coord ss s low high e k c (n, h, l) =
-    apart s.first s.count n c ((k n).1 ((kept_in coord ss low high n e).0 h))
+few_kept coord ss s low high e k c (n, h, l) = apart s.first s.count n c ((k n).1 ((kept_in coord ss low high n e).0 h))
     ((k (n +ℤ pos greatest_side)).1 ((kept_in coord ss low high (n +ℤ pos greatest_side) e).0 l))
 
 either_true : (x y : Bool) → (x ≡ true) ⊎ (y ≡ true) → (x || y) ≡ true

@@ -12,8 +12,7 @@ use Rattle.fx_contour.specs.declared.extent.Extent.{Extent}
 use Rattle.fx_contour.specs.Curve.{curve_of}
 use Rattle.fx_contour.specs.Contours.{contours_from, spans_of}
 use Rattle.fx_contour.specs.Frames.{HaveAny}
-use Rattle.fx_contour.specs.Bounds.{Side, IsOut, Grows, IsLeast, Extends, DoesExtend}
-use Rattle.fx_contour.specs.Bounds.{HavePoint}
+use Rattle.fx_contour.specs.Bounds.{Side, IsOut, Grows, IsLeast, Extends, DoesExtend, HavePoint}
 use Rattle.fx_contour.proofs.Gather.{ends_left_at, next_within}
 use Rattle.fx_contour.proofs.Growing.{one_less, none_left}
 use Rattle.fx_contour.proofs.Hull.{hull_of, have_either, have_left, have_right}
@@ -89,11 +88,10 @@ enclosed_more b c start ends k points e d x h s g =
 pub enclosed_end : (b : Option Extent) (start : ℕ) (ends : List ℕ) (k : ℕ) (points : List OutlinePoint)
     → Enclosed b start ends k points → length ends ≤ k
     → IsLeast (DoesExtend b) (λ P. HaveAny P (spans_of ends points))
-enclosed_end b start ends k points x h =
-    record {
-      sides = λ side t.
-          let X = HaveAny (IsOut side t) (spans_of ends points) in
-          let P : List ℕ → Type 0 =
-          λ xs. X ↔ (DoesExtend b side t ⊎ HaveAny (IsOut side t) (joined (map curve_of (contours_from start xs points)))) in
-          none_left X (DoesExtend b side t) (subst P (drop_of_length-le ends h) (x.sides side t));
-    }
+enclosed_end b start ends k points x h = record {
+  sides = λ side t.
+      let X = HaveAny (IsOut side t) (spans_of ends points) in
+      let P : List ℕ → Type 0 =
+      λ xs. X ↔ (DoesExtend b side t ⊎ HaveAny (IsOut side t) (joined (map curve_of (contours_from start xs points)))) in
+      none_left X (DoesExtend b side t) (subst P (drop_of_length-le ends h) (x.sides side t));
+}

@@ -1,7 +1,6 @@
 -- The least and the greatest coordinate of the points of spans.
 -- For `dropout_frame_around`, the law `dropout`, and moved outlines in `fx_symmetry`.
-use Rattle.std.proofs.Common.{◌≡◌, ◌⊎◌, inl, inr, refl, ℤ, ◌≤ℤ◌, neg_ℤ, List, [], ◌∷◌, ◌↔◌}
-use Rattle.std.proofs.Common.{arith}
+use Rattle.std.proofs.Common.{◌≡◌, ◌⊎◌, inl, inr, refl, ℤ, ◌≤ℤ◌, neg_ℤ, List, [], ◌∷◌, ◌↔◌, arith}
 use Rattle.std.proofs.lemmas.Int.{ints}
 use Rattle.fx_fixed.proofs.Linear.{signed_linear}
 use Rattle.fx_winding.specs.Area.{Place}
@@ -24,8 +23,7 @@ pub least_reaches : (coord : Place → ℤ) (s : Span) (ss : List Span) (t : ℤ
     → HaveAny (λ q. coord q ≤ℤ t) (s ∷ ss) ↔ (least coord s ss ≤ℤ t)
 least_reaches coord s [] t =
     let h = span_reaches coord s t in (λ k. elim k [ inl a ↦ h.0 a | inr n ↦ absurd n ], λ k. inl (h.1 k))
-least_reaches coord s (u ∷ ss) t =
-    either_reaches _ _ _ _ _ (span_reaches coord s t) (least_reaches coord u ss t)
+least_reaches coord s (u ∷ ss) t = either_reaches _ _ _ _ _ (span_reaches coord s t) (least_reaches coord u ss t)
     (least_is _ (least_of coord s) (least coord u ss) t refl)
 
 pub greatest_reaches : (coord : Place → ℤ) (s : Span) (ss : List Span) (t : ℤ)
@@ -46,8 +44,7 @@ IsExtent coord [] low high = ⊥
 IsExtent coord (s ∷ ss) low high = (least coord s ss ≡ low) × (greatest coord s ss ≡ high)
 
 -- a box that reaches as far as the points of the spans has their extents
-pub box_extents : (l r d u : ℤ) (ss : List Span)
-    → ((side : Side) (t : ℤ) → HaveAny (IsOut side t) ss ↔ ReachOf l r d u side t)
+pub box_extents : (l r d u : ℤ) (ss : List Span) → ((side : Side) (t : ℤ) → HaveAny (IsOut side t) ss ↔ ReachOf l r d u side t)
     → IsExtent x_of ss l r × IsExtent y_of ss d u
 box_extents l r d u [] h = absurd ((h left_side l).1 (omega (arith, ints)))
 box_extents l r d u (s ∷ ss) h = (
@@ -90,8 +87,7 @@ low_is coord (s ∷ ss) low high e =
 
 pub high_is : (coord : Place → ℤ) (ss : List Span) (low high : ℤ) → IsExtent coord ss low high → HaveAny (λ q. coord q ≡ high) ss
 high_is coord [] low high e = absurd e
-high_is coord (s ∷ ss) low high e =
-    some_one (λ q. high ≤ℤ coord q) _ (s ∷ ss)
+high_is coord (s ∷ ss) low high e = some_one (λ q. high ≤ℤ coord q) _ (s ∷ ss)
     ((greatest_reaches coord s ss high).1 (let f = e.1 in omega (arith, signed_linear, f)))
     (λ q k m. m (λ q. coord q ≡ high)
     (let i = (in_extent coord (s ∷ ss) low high e q m).1 in omega (arith, signed_linear, i, k)))

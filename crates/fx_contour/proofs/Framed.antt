@@ -13,8 +13,7 @@ use Rattle.fx_contour.specs.declared.fault.ContourFault.{ContourFault}
 use Rattle.fx_contour.specs.declared.fault.ContourFault.TheVariants.{TooLarge}
 use Rattle.fx_contour.specs.Frames.{IsInBoundingBox, IsFrameOf, IsFrameFor, IsCentreIn, AreNoPixels, HaveNoPixel, AreTooLarge}
 use Rattle.fx_winding.specs.Frames.{IsFrom}
-use Rattle.fx_contour.specs.Bounds.{left_side, right_side, bottom_side, top_side, AreBounds, AreBoundsOf}
-use Rattle.fx_contour.specs.Bounds.{ArePixels, IsBoxOf}
+use Rattle.fx_contour.specs.Bounds.{left_side, right_side, bottom_side, top_side, AreBounds, AreBoundsOf, ArePixels, IsBoxOf}
 
 pub same_pixels : (s : Pixels) (l h l' h' : ℤ) → l ≡ l' → h ≡ h' → ArePixels s l h → ArePixels s l' h'
 same_pixels s l h l' h' e f k = subst (λ (T : Type 0). T) (λ i. ArePixels s (e i) (f i)) k

@@ -60,8 +60,7 @@ of_either f g h k = grind arith
 between_one : (P : Place → Type 0) → IsOfEnds P → (p : OutlinePoint) (qs : List OutlinePoint) (r : OutlinePoint)
     → HaveAny P (spans_between p qs r) → P (doubled_of p) ⊎ (HavePoint P qs ⊎ P (doubled_of r))
 between_one P d p [] r h = absurd h
-between_one P d p (q ∷ qs) r h =
-    of_either (span_one P d p q (first_or qs r)) (first_one P qs r) (between_one P d q qs r)
+between_one P d p (q ∷ qs) r h = of_either (span_one P d p q (first_or qs r)) (first_one P qs r) (between_one P d q qs r)
     (have_either P (option_to_list (span_at p q (first_or qs r))) (spans_between q qs r) h)
 
 curve_point : (P : Place → Type 0) → IsOfEnds P → (p q : OutlinePoint) (qs : List OutlinePoint) → HaveAny P (curve_of (p ∷ q ∷ qs))
@@ -104,8 +103,7 @@ arc_ends P p q r e = grind (arith, e, have_span, arc_at, joint_at)
 last_arc : (P : Place → Type 0) (p q : OutlinePoint) (qs : List OutlinePoint) (r : OutlinePoint) → Ends P (last_or q qs) r
     → HaveAny P (spans_between p (q ∷ qs) r)
 last_arc P p q [] r e = have_left P (option_to_list (span_at p q r)) [] (arc_ends P p q r e)
-last_arc P p q (s ∷ qs) r e =
-    have_right P (option_to_list (span_at p q s)) (spans_between q (s ∷ qs) r) (last_arc P q s qs r e)
+last_arc P p q (s ∷ qs) r e = have_right P (option_to_list (span_at p q s)) (spans_between q (s ∷ qs) r) (last_arc P q s qs r e)
 
 -- a point of the list is one of a span, or p's arc ends in it
 point_one : (P : Place → Type 0) (p : OutlinePoint) (qs : List OutlinePoint) (r : OutlinePoint) → HavePoint P qs
@@ -116,8 +114,7 @@ point_one P p (q ∷ qs) r (inr h) = by (point_one P q qs r h)
   where
     by : HaveAny P (spans_between q qs r) ⊎ Ends P q (first_or qs r) → HaveAny P (spans_between p (q ∷ qs) r) ⊎ Ends P p q
     by (inl k) = inl (have_right P (option_to_list (span_at p q (first_or qs r))) (spans_between q qs r) k)
-    by (inr e) =
-        inl (have_left P (option_to_list (span_at p q (first_or qs r))) (spans_between q qs r)
+    by (inr e) = inl (have_left P (option_to_list (span_at p q (first_or qs r))) (spans_between q qs r)
         (arc_ends P p q (first_or qs r) e))
 
 point_curve : (P : Place → Type 0) (p q : OutlinePoint) (qs : List OutlinePoint) → HavePoint P (p ∷ q ∷ qs)

@@ -15,9 +15,8 @@ use Rattle.fx_winding.specs.Limits.{greatest_side, IsPixelNumber}
 use Rattle.fx_winding.specs.Winding.{Span, centre}
 use Rattle.fx_contour.specs.declared.pixels.Pixels.{Pixels}
 use Rattle.fx_contour.specs.Bounds.{ArePixels, AreKept}
-use Rattle.fx_contour.specs.DropoutFrames.{x_of, y_of, least, greatest, IsMiddleOf, IsKeptIn, IsKept}
-use Rattle.fx_contour.specs.DropoutFrames.{IsDropoutFrameFor, LeavesMargin, farthest_with_margin, leaves_margin}
-use Rattle.fx_contour.specs.DropoutFrames.{KeepsTooMany, keeps_too_many}
+use Rattle.fx_contour.specs.DropoutFrames.{x_of, y_of, least, greatest, IsMiddleOf, IsKeptIn, IsKept, IsDropoutFrameFor}
+use Rattle.fx_contour.specs.DropoutFrames.{LeavesMargin, farthest_with_margin, leaves_margin, KeepsTooMany, keeps_too_many}
 use Rattle.fx_contour.specs.DropoutFrames.{MarginIsTested, ManyIsTested, SomePixelIsKept, BoxIsKept, CoveredIsKept}
 use Rattle.fx_contour.specs.Frames.{HaveAny, IsCentreIn, AreNoPixels, NothingOutsideFrame, first_from}
 use Rattle.fx_contour.proofs.Decided.{le_decides, have_decides, within_decides, first_reaches, first_least}

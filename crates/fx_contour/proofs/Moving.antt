@@ -58,8 +58,7 @@ curve_moved : (f : OutlinePoint → OutlinePoint) (g : Place → Place) → Foll
     → curve_of (map f points) ≡ map (moved g) (curve_of points)
 curve_moved f g h [] = refl
 curve_moved f g h (p ∷ []) = refl
-curve_moved f g h (p ∷ q ∷ qs) =
-    ap (λ d. spans_between d (map f (p ∷ q ∷ qs)) (f p)) (last_moved f q qs)
+curve_moved f g h (p ∷ q ∷ qs) = ap (λ d. spans_between d (map f (p ∷ q ∷ qs)) (f p)) (last_moved f q qs)
     ∙ between_moved f g h (last_or q qs) (p ∷ q ∷ qs) p
 
 contours_moved : (f : OutlinePoint → OutlinePoint) (start : ℕ) (es : List ℕ) (points : List OutlinePoint)

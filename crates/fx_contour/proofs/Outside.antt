@@ -24,9 +24,7 @@ either P Q d (s ∷ ss) = by (piece_either P Q d s) (either P Q d ss)
 
 -- a place is in the bounding box, or beside it
 in_or_beside : (p : Place) (ss : List Span) → IsInBoundingBox p ss ⊎ IsBeside p ss
-in_or_beside p ss =
-    by
-    (either (λ q. p.x <ℤ q.x) (λ q. q.x ≤ℤ p.x) (λ q. below_or_not_ℤ p.x q.x) ss)
+in_or_beside p ss = by (either (λ q. p.x <ℤ q.x) (λ q. q.x ≤ℤ p.x) (λ q. below_or_not_ℤ p.x q.x) ss)
     (either (λ q. q.x <ℤ p.x) (λ q. p.x ≤ℤ q.x) (λ q. below_or_not_ℤ q.x p.x) ss)
     (either (λ q. p.y <ℤ q.y) (λ q. q.y ≤ℤ p.y) (λ q. below_or_not_ℤ p.y q.y) ss)
     (either (λ q. q.y <ℤ p.y) (λ q. p.y ≤ℤ q.y) (λ q. below_or_not_ℤ q.y p.y) ss)

@@ -4,8 +4,7 @@ use Rattle.std.proofs.Common.{◌≡◌, refl, sym, ap, ◌∙◌, subst, ℤ, B
 use Rattle.std.proofs.Common.{◌∷◌, ◌++◌, Option, Some, None, All, map, take, drop, length, option_to_list, append_assoc, arith}
 use Rattle.std.specs.Prelude.{reverse, if◌then◌else◌}
 use Rattle.std.specs.List.Sorted.{IsPermutation}
-use Rattle.std.proofs.lemmas.List.{append-nil, map-append, reverse-append, length-append, length-reverse}
-use Rattle.std.proofs.lemmas.List.{take_at, drop_at}
+use Rattle.std.proofs.lemmas.List.{append-nil, map-append, reverse-append, length-append, length-reverse, take_at, drop_at}
 use Rattle.std.proofs.lemmas.List.Elements.{All-nil, All-append, All-take, All-drop}
 use Rattle.std.proofs.lemmas.List.Sorted.{IsPermutation-refl, IsPermutation-sym, IsPermutation-trans, IsPermutation-map}
 use Rattle.std.proofs.lemmas.List.Sorted.{IsPermutation-reverse, IsPermutation-append, IsPermutation-to_front, All-permutation}
@@ -27,13 +26,11 @@ use Rattle.fx_contour.proofs.Gather.{slice_few}
 
 -- the line from p to q, if both are on the curve
 abbrev line : OutlinePoint → OutlinePoint → Option Span
-line p q = if q.on_curve then
-    (if p.on_curve then line_of (doubled_of p) (doubled_of q) else None) else None
+line p q = if q.on_curve then (if p.on_curve then line_of (doubled_of p) (doubled_of q) else None) else None
 
 -- what a point q between p and r adds where each line belongs to its start, and not to its end
 abbrev span_from : OutlinePoint → OutlinePoint → OutlinePoint → Option Span
-span_from p q r =
-    if q.on_curve then (if r.on_curve then line_of (doubled_of q) (doubled_of r) else None)
+span_from p q r = if q.on_curve then (if r.on_curve then line_of (doubled_of q) (doubled_of r) else None)
     else arc_of (joint_of p q) (doubled_of q) (joint_of q r)
 
 abbrev spans_after : OutlinePoint → List OutlinePoint → OutlinePoint → List Span
@@ -41,8 +38,7 @@ spans_after p [] r = []
 spans_after p (q ∷ qs) r = option_to_list (span_from p q (first_or qs r)) ++ spans_after q qs r
 
 -- ---- lines by their ends and by their starts differ by the first line and the last
-one : (px py qx qy rx ry : ℤ) (a b c : Bool)
-    → option_to_list (line (point px py a) (point qx qy b)) ++ option_to_list
+one : (px py qx qy rx ry : ℤ) (a b c : Bool) → option_to_list (line (point px py a) (point qx qy b)) ++ option_to_list
     (span_from (point px py a) (point qx qy b) (point rx ry c))
     ≡ option_to_list (span_at (point px py a) (point qx qy b) (point rx ry c)) ++ option_to_list
     (line (point qx qy b) (point rx ry c))
@@ -69,8 +65,7 @@ moved_lines p (q ∷ qs) r =
 middle_back : (p q : OutlinePoint) → middle_of p q ≡ middle_of q p
 middle_back p q = grind (arith)
 
-turned : (px py qx qy rx ry : ℤ) (a b c : Bool)
-    → option_to_list (span_at (point rx ry c) (point qx qy b) (point px py a)) ≡ reverse
+turned : (px py qx qy rx ry : ℤ) (a b c : Bool) → option_to_list (span_at (point rx ry c) (point qx qy b) (point px py a)) ≡ reverse
     (map reversed (option_to_list (span_from (point px py a) (point qx qy b) (point rx ry c))))
 unfolding point
 turned px py qx qy rx ry a b c = grind (arith, arc_of, middle_back, point)
@@ -101,8 +96,7 @@ last_back d (x ∷ xs) = ap (last_or d) (reverse_more x xs) ∙ last_push d (rev
 between_push : (p : OutlinePoint) (xs : List OutlinePoint) (q r : OutlinePoint)
     → spans_between p (xs ++ q ∷ []) r ≡ spans_between p xs q ++ option_to_list (span_at (last_or p xs) q r)
 between_push p [] q r = append-nil (option_to_list (span_at p q r))
-between_push p (x ∷ xs) q r =
-    (λ i. option_to_list (span_at p x (first_push xs q r i)) ++ between_push x xs q r i)
+between_push p (x ∷ xs) q r = (λ i. option_to_list (span_at p x (first_push xs q r i)) ++ between_push x xs q r i)
     ∙ sym (append_assoc (option_to_list (span_at p x (first_or xs q))) (spans_between x xs q)
     (option_to_list (span_at (last_or x xs) q r)))
 
@@ -154,16 +148,14 @@ curve_back (p ∷ q ∷ qs) =
 all_back : (cs : List (List OutlinePoint))
     → IsPermutation (map reversed (joined (map curve_of cs))) (joined (map curve_of (map reverse cs)))
 all_back [] = IsPermutation-refl []
-all_back (c ∷ cs) =
-    subst (λ xs. IsPermutation xs (curve_of (reverse c) ++ joined (map curve_of (map reverse cs))))
+all_back (c ∷ cs) = subst (λ xs. IsPermutation xs (curve_of (reverse c) ++ joined (map curve_of (map reverse cs))))
     (sym (map-append reversed (curve_of c) (joined (map curve_of cs))))
     (IsPermutation-append (map reversed (curve_of c)) (curve_of (reverse c)) (map reversed (joined (map curve_of cs)))
     (joined (map curve_of (map reverse cs))) (curve_back c) (all_back cs))
 
 length_part : (start next : ℕ) (points : List OutlinePoint) → start ≤ next → next ≤ length points
     → length (reverse (take (next - start) (drop start points))) ≡ next - start
-length_part start next points h k =
-    length-reverse (take (next - start) (drop start points)) ∙ slice_few start next points h k
+length_part start next points h k = length-reverse (take (next - start) (drop start points)) ∙ slice_few start next points h k
 
 contours_back : (before : List OutlinePoint) (start : ℕ) (es : List ℕ) (points : List OutlinePoint) → length before ≡ start
     → AreEnds start es (length points)

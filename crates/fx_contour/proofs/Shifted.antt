@@ -19,12 +19,10 @@ abbrev moved_place : ℤ → ℤ → Place → Place
 moved_place k l = shifted_place (pos 128 *ℤ k) (pos 128 *ℤ l)
 
 twice_moved : (x k : ℤ) → pos 2 *ℤ (x +ℤ pos 64 *ℤ k) ≡ pos 2 *ℤ x +ℤ pos 128 *ℤ k
-twice_moved x k =
-    ring (x ∷ k ∷ []) (num (pos 2) ⊠ (var 0 ⊞ num (pos 64) ⊠ var 1)) (num (pos 2) ⊠ var 0 ⊞ num (pos 128) ⊠ var 1) tt
+twice_moved x k = ring (x ∷ k ∷ []) (num (pos 2) ⊠ (var 0 ⊞ num (pos 64) ⊠ var 1)) (num (pos 2) ⊠ var 0 ⊞ num (pos 128) ⊠ var 1) tt
 
 sum_moved : (x y k : ℤ) → (x +ℤ pos 64 *ℤ k) +ℤ (y +ℤ pos 64 *ℤ k) ≡ (x +ℤ y) +ℤ pos 128 *ℤ k
-sum_moved x y k =
-    ring (x ∷ y ∷ k ∷ []) ((var 0 ⊞ num (pos 64) ⊠ var 2) ⊞ (var 1 ⊞ num (pos 64) ⊠ var 2))
+sum_moved x y k = ring (x ∷ y ∷ k ∷ []) ((var 0 ⊞ num (pos 64) ⊠ var 2) ⊞ (var 1 ⊞ num (pos 64) ⊠ var 2))
     ((var 0 ⊞ var 1) ⊞ num (pos 128) ⊠ var 2)
     tt
 

@@ -4,8 +4,7 @@ use Rattle.fx_contour.proofs.Drawing.{some_extent, reach_tested, no_points_near}
 use Rattle.fx_contour.proofs.curves.are_in_reach.Goals as goal
 
 pub returns-in-None : goal.returns-in-None
-returns-in-None c =
-    (λ _. no_points_near c.of.result c.args.points.now c.in-None.is c.of.ensures, λ _. refl)
+returns-in-None c = (λ _. no_points_near c.of.result c.args.points.now c.in-None.is c.of.ensures, λ _. refl)
 
 pub returns-in-Some : goal.returns-in-Some
 returns-in-Some c =

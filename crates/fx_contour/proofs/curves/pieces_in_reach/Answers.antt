@@ -8,15 +8,14 @@ use Rattle.fx_contour.proofs.Closed.{all_closed}
 use Rattle.fx_contour.proofs.curves.pieces_in_reach.Goals as goal
 
 pub contour-requires : goal.contour-requires
-contour-requires c =
-    grind (
-      arith,
-      c.deref-end-items.ensures.value,
-      c.deref.ensures.value,
-      c.contours.invariant.gathered.ends_left,
-      c.from-next.ensures,
-      next_within,
-    )
+contour-requires c = grind (
+  arith,
+  c.deref-end-items.ensures.value,
+  c.deref.ensures.value,
+  c.contours.invariant.gathered.ends_left,
+  c.from-next.ensures,
+  next_within,
+)
 
 pub contours-preserved : goal.contours-preserved
 contours-preserved c =
@@ -45,8 +44,7 @@ returns-clause-closed c =
     let contours = contours_from 0 o.ends.items o.points.items in (
       map curve_of contours,
       all_closed contours,
-      sym
-          (ap (map span_of) c.of_list.ensures
+      sym (ap (map span_of) c.of_list.ensures
           ∙ gather_end c.contours.made.items c.contours.start o.ends.items c.contours.end-index o.points.items
           c.contours.invariant.gathered (omega arith)),
     )

@@ -38,16 +38,15 @@ counted first end h k l =
     same (negsuc n) h = absurd (omega (arith, ints))
 
 pub returns-then-end-first : goal.returns-then-end-first
-returns-then-end-first c =
-    grind (
-      arith,
-      signed_linear,
-      c.first_from-first.ensures,
-      c.first_from-end.ensures,
-      c.requires.near_low,
-      c.requires.near_high,
-      c.if-end-first.true,
-    )
+returns-then-end-first c = grind (
+  arith,
+  signed_linear,
+  c.first_from-first.ensures,
+  c.first_from-end.ensures,
+  c.requires.near_low,
+  c.requires.near_high,
+  c.if-end-first.true,
+)
 
 pub returns : goal.returns
 returns c = λ n.

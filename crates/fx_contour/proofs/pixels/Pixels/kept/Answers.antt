@@ -14,8 +14,7 @@ alone_at low high l h r t e f g none k n =
     subst (λ (z : ℤ × ℤ × ℤ). IsFrom z.2 1 n ↔ IsKeptIn z.0 z.1 n) (λ i. (e i, f i, sym g i)) (kept_alone l h r none k n)
 
 pub returns-in-Some : goal.returns-in-Some
-returns-in-Some c =
-    kept_pixels c.in-Some.pixels c.args.low c.args.high
+returns-in-Some c = kept_pixels c.in-Some.pixels c.args.low c.args.high
     (same_pixels c.in-Some.pixels _ _ c.args.low c.args.high (omega (arith, signed_linear)) (omega (arith, signed_linear))
     c.in-Some.ensures)
 
