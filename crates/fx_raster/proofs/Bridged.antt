@@ -49,8 +49,7 @@ set_within closing ss In i j (inr b) = inr b.inside
 pub nothing_set : (rule : Rule) (f : Option Frame) (ss : List Span) → IsFramedBy rule f ss → NothingOutsideFrame f ss
     → AreOfOutline ss → (col row : ℤ) → ¬ (IsInside f col row) → ¬ (IsPixelSet rule ss col row)
 nothing_set Centres f ss framed outside closed col row n s = outside closed col row n s
-nothing_set (Bridged closing) f ss framed outside closed col row n s =
-    by (set_within closing ss (IsInDropoutFrame ss) col row s)
+nothing_set (Bridged closing) f ss framed outside closed col row n s = by (set_within closing ss (IsInDropoutFrame ss) col row s)
   where
     by : IsCovered (centre col row) ss ⊎ IsInDropoutFrame ss col row → ⊥
     by (inl c) = outside closed col row n c

@@ -63,16 +63,14 @@ covered p ss = known_either (any_on p ss) (none (eq (winding p ss) (pos 0)))
 -- ---- with drop-out control
 
 within_row : (p q e : Place) → Known (IsWithinRow p q e)
-within_row p q e =
-    known_as (λ h. record { level = h.0; after = h.1; before = h.2 }) (λ h. (h.level, h.after, h.before))
+within_row p q e = known_as (λ h. record { level = h.0; after = h.1; before = h.2 }) (λ h. (h.level, h.after, h.before))
     (three (eq e.y p.y) (lt p.x e.x) (lt e.x q.x))
 
 reached : (a b c p : ℤ) → Known (IsReached a b c p)
 reached a b c p = grind (arith, ints)
 
 tip : (a b c p q : Place) → Known (IsTip a b c p q)
-tip a b c p q =
-    known_as (λ h. record { reached = h.0.0; outside = h.0.1; rises = h.1.0; falls = h.1.1 })
+tip a b c p q = known_as (λ h. record { reached = h.0.0; outside = h.0.1; rises = h.1.0; falls = h.1.1 })
     (λ h. ((h.reached, h.outside), (h.rises, h.falls)))
     (both (both (reached a.y b.y c.y p.y) (eq (region_part a (Some b) c p) (pos 0)))
     (both (lt (pos 0) (slope a b c p)) (lt (slope a b c q) (pos 0))))
@@ -86,8 +84,7 @@ met p q s = known_either (within_row p q s.a) (known_either (within_row p q s.c)
     (known_either (none (eq (turn p s) (turn q s))) (tip_part s.a s.b s.c p q)))
 
 gap : (ss : List Span) (So : ℤ → ℤ → Type 0) → ((i j : ℤ) → Known (So i j)) → (i j : ℤ) → Known (IsGap ss So i j)
-gap ss So so i j =
-    known_as (λ h. record { here = h.0; next = h.1; met = h.2 }) (λ h. (h.here, h.next, h.met))
+gap ss So so i j = known_as (λ h. record { here = h.0; next = h.1; met = h.2 }) (λ h. (h.here, h.next, h.met))
     (three (none (so i j)) (none (so (i +ℤ pos 1) j))
     (any_of (IsMet (centre i j) (centre (i +ℤ pos 1) j)) (met (centre i j) (centre (i +ℤ pos 1) j)) ss))
 

@@ -4,13 +4,11 @@ use Rattle.fx_raster.proofs.Bitmaps.{scanned_bits, bridged_bits, framed_margin, 
 use Rattle.fx_raster.proofs.bits.bitmap_of.Goals as goal
 
 pub returns-in_default : goal.returns-in_default
-returns-in_default g c =
-    empty_bits (map span_of c.args.pieces.now) _ c.args.rule c.empty_bitmap.ensures
+returns-in_default g c = empty_bits (map span_of c.args.pieces.now) _ c.args.rule c.empty_bitmap.ensures
     (rw c.in_default.is at c.requires.framed) (rw c.in_default.is at c.requires.outside) c.requires.closed
 
 pub returns-in-Centres : goal.returns-in-Centres
-returns-in-Centres g c =
-    scanned_bits _ (map span_of c.args.pieces.now) _ c.args.rule c.in-Centres.is c.scanned.ensures
+returns-in-Centres g c = scanned_bits _ (map span_of c.args.pieces.now) _ c.args.rule c.in-Centres.is c.scanned.ensures
     (rw c.in-Some.is at c.requires.framed) (rw c.in-Some.is at c.requires.outside) c.requires.closed
 
 pub bridged-requires-clause-margin : goal.bridged-requires-clause-margin
