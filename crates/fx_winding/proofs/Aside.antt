@@ -4,6 +4,7 @@
 use Rattle.std.proofs.Common.{◌≡◌, ◌≢◌, ◌∙◌, ◌⊎◌, inl, inr, ℤ, pos, ◌+ℤ◌, ◌-ℤ◌, ◌*ℤ◌, neg_ℤ, ◌≤ℤ◌, ◌<ℤ◌}
 use Rattle.std.proofs.Common.{[], ◌∷◌, Option, Some, None, arith}
 use Rattle.std.proofs.lemmas.Int.{ints}
+use Rattle.std.proofs.Math.Logic.{⊎_swap}
 use Rattle.fx_fixed.specs.Polynomial.{Expr, var, num, ◌⊞◌, ◌⊠◌, ◌⊟◌}
 use Rattle.fx_fixed.proofs.Ring.{ring, *ℤ_comm}
 use Rattle.fx_fixed.proofs.Linear.{signed, signed_linear}
@@ -36,10 +37,6 @@ apart_right p e x h i j k = grind (arith, signed_linear, h, i, j, k, same_place)
 apart_left : (p e : Place) (x : ℤ) → p ≢ e → e.y ≤ℤ p.y → e.x ≤ℤ p.x → (e.x <ℤ p.x) ⊎ (x <ℤ p.x)
     → (e.x <ℤ p.x) ⊎ ((e.y <ℤ p.y) × (x <ℤ p.x))
 apart_left p e x h i j k = grind (arith, signed_linear, h, i, j, k, same_place)
-
-pub swapped : {P Q : Type 0} → P ⊎ Q → Q ⊎ P
-swapped (inl h) = inr h
-swapped (inr h) = inl h
 
 -- a sum of two products, of which one is above 0
 one_above : (x u y v : ℤ) → (pos 0 ≤ℤ x) × (pos 0 ≤ℤ u) × (pos 0 ≤ℤ y) × (pos 0 ≤ℤ v)
@@ -74,7 +71,7 @@ right_turn p s h n =
     down : s.c.y ≤ℤ p.y → p.y <ℤ s.a.y → area s.a s.c p <ℤ pos 0
     down k l = let z = area_turn s.a.x s.a.y s.c.x s.c.y p.x p.y in
         let w = left_of_rising_end s.c.x s.c.y s.a.x s.a.y p.x p.y k l h.all.2 h.all.0
-        (apart_right p s.c s.a.x n.last k h.all.2 (swapped h.one)) in omega (arith, signed_linear)
+        (apart_right p s.c s.a.x n.last k h.all.2 (⊎_swap h.one)) in omega (arith, signed_linear)
 
 -- one that lies left of p or in its column: nothing
 pub left_turn : (p : Place) (s : Span) → EndsAt p.x s → IsNoEnd p s → turn p s ≡ pos 0
@@ -88,7 +85,7 @@ left_turn p s h n =
     down : s.c.y ≤ℤ p.y → p.y <ℤ s.a.y → pos 0 <ℤ area s.a s.c p
     down k l = let z = area_turn s.a.x s.a.y s.c.x s.c.y p.x p.y in
         let w = right_of_rising_end s.c.x s.c.y s.a.x s.a.y p.x p.y k l h.all.2 h.all.0
-        (apart_left p s.c s.a.x n.last k h.all.2 (swapped h.one)) in omega (arith, signed_linear)
+        (apart_left p s.c s.a.x n.last k h.all.2 (⊎_swap h.one)) in omega (arith, signed_linear)
 
 -- ---- strictly to one side
 -- all points of a piece are right of the column x

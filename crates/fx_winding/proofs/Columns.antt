@@ -12,7 +12,7 @@ use Rattle.fx_winding.proofs.Crossings.{above, crossing_number, area_split_right
 use Rattle.fx_winding.proofs.TurnedAreas.{area_turned}
 use Rattle.fx_winding.proofs.HalfAreas.{area_next}
 use Rattle.fx_winding.proofs.Products.{product}
-use Rattle.fx_winding.proofs.Triangle.{area_expr}
+use Rattle.fx_winding.proofs.Triangle.{at, area_at}
 
 -- ---- the row between the ends
 -- a product's sign is that of the way from x to y
@@ -126,26 +126,16 @@ none_factor k z h e = let p = product k z in grind (arith, signed_linear)
 pub weight_up : (s ax ay bx by cx cy px py : ℤ)
     → (cy -ℤ ay) *ℤ (s *ℤ area_of ax ay bx by px py) ≡ (py -ℤ ay) *ℤ (s *ℤ area_of ax ay bx by cx cy) +ℤ
     (by -ℤ ay) *ℤ (s *ℤ area_of ax ay cx cy px py)
-weight_up s ax ay bx by cx cy px py =
-    let a = var 0 in let a' = var 1 in
-    let b = var 2 in let b' = var 3 in
-    let c = var 4 in let c' = var 5 in
-    let p = var 6 in let p' = var 7 in
-    let t = var 8 in
-    ring (ax ∷ ay ∷ bx ∷ by ∷ cx ∷ cy ∷ px ∷ py ∷ s ∷ []) ((c' ⊟ a') ⊠ (t ⊠ area_expr a a' b b' p p'))
-    ((p' ⊟ a') ⊠ (t ⊠ area_expr a a' b b' c c') ⊞ (b' ⊟ a') ⊠ (t ⊠ area_expr a a' c c' p p')) tt
+weight_up s ax ay bx by cx cy px py = ring (ax ∷ ay ∷ bx ∷ by ∷ cx ∷ cy ∷ px ∷ py ∷ s ∷ [])
+    ((var 5 ⊟ var 1) ⊠ (var 8 ⊠ area_at (at 0) (at 1) (at 3))) ((var 7 ⊟ var 1) ⊠ (var 8 ⊠ area_at (at 0) (at 1) (at 2)) ⊞
+    (var 3 ⊟ var 1) ⊠ (var 8 ⊠ area_at (at 0) (at 2) (at 3))) tt
 
 pub weight_down : (s ax ay bx by cx cy px py : ℤ)
     → (cy -ℤ ay) *ℤ (s *ℤ area_of px py bx by cx cy) ≡ (cy -ℤ py) *ℤ (s *ℤ area_of ax ay bx by cx cy) -ℤ
     (by -ℤ cy) *ℤ (s *ℤ area_of ax ay cx cy px py)
-weight_down s ax ay bx by cx cy px py =
-    let a = var 0 in let a' = var 1 in
-    let b = var 2 in let b' = var 3 in
-    let c = var 4 in let c' = var 5 in
-    let p = var 6 in let p' = var 7 in
-    let t = var 8 in
-    ring (ax ∷ ay ∷ bx ∷ by ∷ cx ∷ cy ∷ px ∷ py ∷ s ∷ []) ((c' ⊟ a') ⊠ (t ⊠ area_expr p p' b b' c c'))
-    ((c' ⊟ p') ⊠ (t ⊠ area_expr a a' b b' c c') ⊟ (b' ⊟ c') ⊠ (t ⊠ area_expr a a' c c' p p')) tt
+weight_down s ax ay bx by cx cy px py = ring (ax ∷ ay ∷ bx ∷ by ∷ cx ∷ cy ∷ px ∷ py ∷ s ∷ [])
+    ((var 5 ⊟ var 1) ⊠ (var 8 ⊠ area_at (at 3) (at 1) (at 2))) ((var 5 ⊟ var 7) ⊠ (var 8 ⊠ area_at (at 0) (at 1) (at 2)) ⊟
+    (var 3 ⊟ var 5) ⊠ (var 8 ⊠ area_at (at 0) (at 2) (at 3))) tt
 
 -- p is on the chord, strictly between its ends, the first of which is the lower one
 pub record IsOnRising (a c p : Place) : Type 0 where

@@ -5,6 +5,7 @@ use Rattle.std.proofs.Common.{ℤ, Bool, true, false, List, [], length, take, dr
 use Rattle.std.specs.Prelude.{◌==◌}
 use Rattle.std.proofs.lemmas.List.{length-take-le, get_or-take, get_or-drop, get_or-map}
 use Rattle.std.proofs.Math.Nat.{mul-le-mul_right}
+use Rattle.std.proofs.lemmas.Bool.{cases_order}
 use Rattle.fx_fixed.proofs.Linear.{signed_linear}
 use Rattle.fx_winding.specs.declared.frame.Frame.{Frame}
 use Rattle.fx_winding.specs.Frames.{IsFrom, is_from, steps}
@@ -42,15 +43,11 @@ bit_of-number f xs col row c r =
 
 -- no two pixels of rows of one length have one number
 numbers_apart : (a b size i k : ℕ) → i < 32 * size → k < 32 * size → 32 * (a * size) + i ≡ 32 * (b * size) + k → (a ≡ b) × (i ≡ k)
-numbers_apart a b size i k hi hk e = by (order a b)
-  where
-    order : (a b : ℕ) → (a < b) ⊎ ((a ≡ b) ⊎ (b < a))
-    order a b = grind arith
-
-    by : (a < b) ⊎ ((a ≡ b) ⊎ (b < a)) → (a ≡ b) × (i ≡ k)
-    by (inl l) = let p : suc a * size ≤ b * size = mul-le-mul_right size (omega arith) in absurd (omega (arith, p, e, hi, hk))
-    by (inr (inl s)) = let p : a * size ≡ b * size = ap (λ n. n * size) s in (s, omega (arith, p, e))
-    by (inr (inr l)) = let p : suc b * size ≤ a * size = mul-le-mul_right size (omega arith) in absurd (omega (arith, p, e, hi, hk))
+numbers_apart a b size i k hi hk e = elim (cases_order a b) [
+  | inl s ↦ let p : a * size ≡ b * size = ap (λ n. n * size) s in (s, omega (arith, p, e))
+  | inr (inl l) ↦ let p : suc a * size ≤ b * size = mul-le-mul_right size (omega arith) in absurd (omega (arith, p, e, hi, hk))
+  | inr (inr l) ↦ let p : suc b * size ≤ a * size = mul-le-mul_right size (omega arith) in absurd (omega (arith, p, e, hi, hk))
+]
 
 past_width : {i across width : ℕ} → i ≡ across → width ≤ i → across < width → ⊥
 past_width e l w = omega (arith, e, l, w)
@@ -109,11 +106,10 @@ bit_elsewhere f xs ys a b col row seen seen' c r others i j n =
         let wi = words_hold f.width (steps f.left i) (steps_below f.left f.width i ci) in
         let wc = words_hold f.width (steps f.left col) (steps_below f.left f.width col c) in
         let s = numbers_apart (steps f.bottom j) (steps f.bottom row) size (steps f.left i) (steps f.left col) wi wc e in
-        other n (same_steps f.left f.width i col ci c s.1) (same_steps f.bottom f.height j row rj r s.0)
-      where
-        other : (i ≢ col) ⊎ (j ≢ row) → i ≡ col → j ≡ row → ⊥
-        other (inl n) e _ = n e
-        other (inr n) _ e = n e
+        elim n [
+          | inl m ↦ m (same_steps f.left f.width i col ci c s.1)
+          | inr m ↦ m (same_steps f.bottom f.height j row rj r s.0)
+        ]
 
     by : (x y : Bool) → is_from f.left f.width i ≡ x → is_from f.bottom f.height j ≡ y
         → bit_of (grid f ys) i j ≡ bit_of (grid f xs) i j

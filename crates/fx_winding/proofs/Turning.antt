@@ -3,6 +3,7 @@
 use Rattle.std.proofs.Common.{◌≡◌, sym, ap, ◌∙◌, ◌⊎◌, ℤ, pos, negsuc, ◌-ℤ◌, ◌≤ℤ◌, ◌<ℤ◌}
 use Rattle.std.proofs.Common.{int_lt, if◌then◌else◌, Option, option_map, arith}
 use Rattle.std.proofs.lemmas.Int.{ints}
+use Rattle.std.proofs.Math.Logic.{⊎_swap}
 use Rattle.fx_fixed.proofs.Linear.{signed_linear}
 use Rattle.fx_winding.specs.Area.{Place}
 use Rattle.fx_winding.specs.Turned.{turned_place, turned_span}
@@ -10,7 +11,7 @@ use Rattle.fx_winding.specs.Meets.{turn, IsWithinRow, IsTipPart, IsMet, IsBetwee
 use Rattle.fx_winding.specs.Outside.{HasAll}
 use Rattle.fx_winding.specs.Winding.{Span, IsBetween, IsOn}
 use Rattle.fx_winding.proofs.Aside.{IsNoEnd, same_place, right_turn, left_turn, all_right, all_left, right_no_end, left_no_end}
-use Rattle.fx_winding.proofs.Aside.{right_end_not_met, left_end_not_met, swapped}
+use Rattle.fx_winding.proofs.Aside.{right_end_not_met, left_end_not_met}
 use Rattle.fx_winding.proofs.Beside.{StartsFrom, EndsAt, RestsOn, HangsFrom}
 use Rattle.fx_winding.proofs.Crossings.{above}
 use Rattle.fx_winding.proofs.EndsOn.{off_no_end}
@@ -130,7 +131,7 @@ pub inner_pair_not_met : (p q : Place) (s : Span) → p.x ≡ q.x → IsBetweenE
     → ¬ (IsOn q s) → turn p s ≡ turn q s → IsBetween s.a.x s.c.x p.x
     → ¬ (IsMet (turned_place p) (turned_place q) (turned_span s))
 inner_pair_not_met p q s e hp hq np nq t h = column_not_met p q s h (λ k. none s.a.y s.c.y p.y q.y hp hq k.after k.before)
-    (λ k. none s.c.y s.a.y p.y q.y (swapped hp) (swapped hq) k.after k.before) (turned_inner p q s e hp hq np nq t)
+    (λ k. none s.c.y s.a.y p.y q.y (⊎_swap hp) (⊎_swap hq) k.after k.before) (turned_inner p q s e hp hq np nq t)
   where
     none : (a c y z : ℤ) → ((a <ℤ y) × (y <ℤ c)) ⊎ ((c <ℤ y) × (y <ℤ a)) → ((a <ℤ z) × (z <ℤ c)) ⊎ ((c <ℤ z) × (z <ℤ a))
         → y <ℤ a → a <ℤ z → ⊥
