@@ -146,8 +146,7 @@ middle_expr A B C = num (pos 4) ⊠ (A ⊠ C) ⊞ num (pos 2) ⊠ (A ⊠ B) ⊞ 
 
 -- the slope as a sum of how far the arc's points lie right of p, each with its weight
 abbrev weighted : Place → Place → Place → Place → ℤ → ℤ → ℤ → ℤ
-weighted a b c p A B C =
-    (a.x -ℤ p.x) *ℤ weight_end A B C +ℤ (b.x -ℤ p.x) *ℤ weight_middle A B C +ℤ (c.x -ℤ p.x) *ℤ weight_end C B A
+weighted a b c p A B C = (a.x -ℤ p.x) *ℤ weight_end A B C +ℤ (b.x -ℤ p.x) *ℤ weight_middle A B C +ℤ (c.x -ℤ p.x) *ℤ weight_end C B A
 
 abbrev weighted_at : Expr → Expr → Expr → Expr
 weighted_at A B C = (var 0 ⊟ var 6) ⊠ end_expr A B C ⊞ (var 2 ⊟ var 6) ⊠ middle_expr A B C ⊞ (var 4 ⊟ var 6) ⊠ end_expr C B A
@@ -157,8 +156,7 @@ slope_weighted a b c p = ring (coordinates (a ∷ b ∷ c ∷ p ∷ []) []) (slo
     (weighted_at (var 7 ⊟ var 1) (var 3 ⊟ var 7) (var 7 ⊟ var 5)) tt
 
 -- the turn of a quadratic that goes past the row and back
-turn_past : (a b c p : ℤ) → (a *ℤ c -ℤ b *ℤ b) ≤ℤ (p *ℤ (a -ℤ pos 2 *ℤ b +ℤ c))
-    → ((p -ℤ a) *ℤ (p -ℤ c)) ≤ℤ ((b -ℤ p) *ℤ (b -ℤ p))
+turn_past : (a b c p : ℤ) → (a *ℤ c -ℤ b *ℤ b) ≤ℤ (p *ℤ (a -ℤ pos 2 *ℤ b +ℤ c)) → ((p -ℤ a) *ℤ (p -ℤ c)) ≤ℤ ((b -ℤ p) *ℤ (b -ℤ p))
 turn_past a b c p h =
     let e : (a *ℤ c -ℤ b *ℤ b) -ℤ p *ℤ (a -ℤ pos 2 *ℤ b +ℤ c) ≡ (p -ℤ a) *ℤ (p -ℤ c) -ℤ (b -ℤ p) *ℤ (b -ℤ p) =
     ring (a ∷ b ∷ c ∷ p ∷ []) ((var 0 ⊠ var 2 ⊟ var 1 ⊠ var 1) ⊟ var 3 ⊠ (var 0 ⊟ num (pos 2) ⊠ var 1 ⊞ var 2))

@@ -15,7 +15,8 @@ use Rattle.fx_winding.proofs.Beside.{total_above}
 use Rattle.fx_winding.proofs.Columns.{IsAlong, sign_along, below_zero, IsOnRising, end_side, times_none, weight_up, weight_down}
 use Rattle.fx_winding.proofs.Crossings.{above}
 use Rattle.fx_winding.proofs.Products.{product}
-use Rattle.fx_winding.proofs.TurnedAreas.{area_turned, sign_area_turned, weight}
+use Rattle.fx_winding.proofs.Reflected.{sign_reflected}
+use Rattle.fx_winding.proofs.TurnedAreas.{area_turned, turning, weight}
 use Rattle.fx_winding.proofs.HalfAreas.{area_swap, sign_above}
 use Rattle.fx_winding.proofs.Places.{clash}
 use Rattle.fx_winding.proofs.Regions.{IsInRegion, region_in, region_out}
@@ -131,7 +132,7 @@ regions_right a b c h d =
     let r = ap (λ z. int_lt (pos 0) z || (int_eq a.x c.x && int_lt a.x b.x)) e
     ∙ column_arc_right (area a b c *ℤ (c.x -ℤ a.x)) a.x b.x c.x m.up m.down (control_right a.x a.y b.x b.y c.x c.y h d) in
     let q = product_above_zero (area a b c) (c.y -ℤ a.y) d (omega (arith, signed_linear, h)) in (
-      λ i. if r i then (sign_area_turned a b c ∙ ap neg_ℤ s) i else pos 0,
+      λ i. if r i then (sign_reflected turned_place turning a b c ∙ ap neg_ℤ s) i else pos 0,
       λ i. if chord_right (area a b c *ℤ (c.y -ℤ a.y)) a.y b.y c.y q i then s i else pos 0,
     )
 

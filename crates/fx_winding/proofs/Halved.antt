@@ -31,11 +31,10 @@ use Rattle.fx_winding.proofs.HalfWindings.{Counts, IsRight, AreHalves, sides, no
 -- ---- regions by their areas, where the arc's area is above zero
 counts_of : (a b c p : Place) {u v w : ℤ} → sign (area a b c) ≡ pos 1 → area p b c ≡ u → area a p c ≡ v → area a b p ≡ w
     → Counts u v w (is_right_of_chord a b c) (region_part a (Some b) c p)
-counts_of a b c p {u} {v} {w} s eu ev ew = by (region_cases a b c p)
-  where
-    by : IsInRegion a b c p ⊎ (¬ (IsInRegion a b c p)) → Counts u v w (is_right_of_chord a b c) (region_part a (Some b) c p)
-    by (inl h) = inl (move_in (raw s eu) (raw s ev) (raw s ew) refl h, region_in a b c p h ∙ s)
-    by (inr n) = inr (λ k. n (move_in (sym (raw s eu)) (sym (raw s ev)) (sym (raw s ew)) refl k), region_out a b c p n)
+counts_of a b c p {u} {v} {w} s eu ev ew = elim (region_cases a b c p) [
+  | inl h ↦ inl (move_in (raw s eu) (raw s ev) (raw s ew) refl h, region_in a b c p h ∙ s)
+  | inr n ↦ inr (λ k. n (move_in (sym (raw s eu)) (sym (raw s ev)) (sym (raw s ew)) refl k), region_out a b c p n)
+]
 
 right_of : (a b c : Place) → pos 0 <ℤ area a b c → IsRight a.y b.y c.y (is_right_of_chord a b c)
 right_of a b c d = by (area a b c) (c.y -ℤ a.y) _ a.y b.y c.y refl (product _ _) d
@@ -129,17 +128,18 @@ mirror_b b n = λ i. record { x = back b.x n.x i; y = back b.y n.y i }
 mirror_a : (a m j : Place) → end (end a m j) (second_control m j) j ≡ a
 mirror_a a m j = (λ i. beyond (mirror_b (control a m) (second_control m j) i) (mirror_b m j i)) ∙ mirror_b a m
 
-turned_sum : (k1 k2 k x1 x2 x k1' k2' k' x1' x2' x' : ℤ) → (k2' +ℤ x2') +ℤ (k1' +ℤ x1') ≡ k' +ℤ x' → k1' ≡ neg_ℤ k1
-    → k2' ≡ neg_ℤ k2 → k' ≡ neg_ℤ k → x1' ≡ neg_ℤ x1 → x2' ≡ neg_ℤ x2 → x' ≡ neg_ℤ x → (k1 +ℤ x1) +ℤ (k2 +ℤ x2) ≡ k +ℤ x
-turned_sum k1 k2 k x1 x2 x k1' k2' k' x1' x2' x' e a b c d f g = omega (arith, signed_linear)
-
 adds_back : (a b c m n j p : Place) → Adds c b a n m j p → Adds a b c m n j p
-adds_back a b c m n j p h =
-    turned_sum (chord_crossing a j p) (chord_crossing j c p) (chord_crossing a c p) (region_part a (Some m) j p)
-    (region_part j (Some n) c p) (region_part a (Some b) c p) (chord_crossing j a p) (chord_crossing c j p) (chord_crossing c a p)
-    (region_part j (Some m) a p) (region_part c (Some n) j p) (region_part c (Some b) a p) h (crossing_back a j p)
-    (crossing_back j c p)
-    (crossing_back a c p) (region_part_back a (Some m) j p) (region_part_back j (Some n) c p) (region_part_back a (Some b) c p)
+adds_back a b c m n j p h = omega (
+  arith,
+  signed_linear,
+  h,
+  crossing_back a j p,
+  crossing_back j c p,
+  crossing_back a c p,
+  region_part_back a (Some m) j p,
+  region_part_back j (Some n) c p,
+  region_part_back a (Some b) c p,
+)
 
 -- a flat arc has no region, and its chord and those of its halves cross alike
 pub flat_region : (a b c p : Place) → area a b c ≡ pos 0 → region_part a (Some b) c p ≡ pos 0

@@ -3,6 +3,7 @@
 use Rattle.std.proofs.Common.{◌≡◌, refl, sym, ap, ◌∙◌, ℤ, pos, ◌+ℤ◌, ◌-ℤ◌, ◌*ℤ◌, Option, Some, None, option_map, arith}
 use Rattle.std.specs.Prelude.{option_and_then}
 use Rattle.std.proofs.lemmas.Int.{ints}
+use Rattle.std.proofs.lemmas.Option.{option_and_then_some}
 use Rattle.fx_winding.specs.Area.{Place, place}
 use Rattle.fx_winding.specs.Winding.{Span}
 use Rattle.fx_winding.specs.Halving.{half_of, middle_of, two_arcs, halves_of_part}
@@ -25,27 +26,20 @@ beyond p q = place ((q.x +ℤ q.x) -ℤ p.x) ((q.y +ℤ q.y) -ℤ p.y)
 half_is : (z h : ℤ) → half_of z ≡ Some h → pos 2 *ℤ h ≡ z
 half_is z h e = grind (arith, e)
 
+map_some : {A B P : Type 0} (f : A → B) (o : Option A) (y : B) → option_map f o ≡ Some y → ((x : A) → o ≡ Some x → f x ≡ y → P) → P
+map_some f None y e k = absurd (cc)
+map_some f (Some x) y e k = k x refl (cc)
+
 -- a middle's second place is as far past it as the first is before it
 middle_is : (p q r : Place) → middle_of p q ≡ Some r → q ≡ beyond p r
-middle_is p q r e = by (half_of (p.x +ℤ q.x)) (half_of (p.y +ℤ q.y)) refl refl e
+middle_is p q r e = option_and_then_some (λ x. option_map (place x) (half_of (p.y +ℤ q.y))) (half_of (p.x +ℤ q.x)) r e
+    (λ x h s. map_some (place x) (half_of (p.y +ℤ q.y)) r s (λ y k t i. record {
+      x = apart p.x q.x x r.x (ap (λ t. t.x) t) (half_is (p.x +ℤ q.x) x h) i;
+      y = apart p.y q.y y r.y (ap (λ t. t.y) t) (half_is (p.y +ℤ q.y) y k) i;
+    }))
   where
-    apart : (x y z : ℤ) → pos 2 *ℤ z ≡ x +ℤ y → y ≡ (z +ℤ z) -ℤ x
-    apart x y z e = omega (arith, ints)
-
-    by : (m n : Option ℤ) → half_of (p.x +ℤ q.x) ≡ m → half_of (p.y +ℤ q.y) ≡ n
-        → option_and_then (λ x. option_map (place x) n) m ≡ Some r → q ≡ beyond p r
-    by None n h k e = absurd (cc)
-    by (Some x) None h k e = absurd (cc)
-    by (Some x) (Some y) h k e =
-        let s : place x y ≡ r = cc in
-        let ex : x ≡ r.x = ap (λ t. t.x) s in
-        let ey : y ≡ r.y = ap (λ t. t.y) s in
-        let hx = half_is (p.x +ℤ q.x) x h in
-        let hy = half_is (p.y +ℤ q.y) y k in
-        λ i. record {
-          x = (apart p.x q.x r.x (ap (λ z. pos 2 *ℤ z) (sym ex) ∙ hx)) i;
-          y = (apart p.y q.y r.y (ap (λ z. pos 2 *ℤ z) (sym ey) ∙ hy)) i;
-        }
+    apart : (x y z u : ℤ) → z ≡ u → pos 2 *ℤ z ≡ x +ℤ y → y ≡ (u +ℤ u) -ℤ x
+    apart x y z u s e = omega (arith, ints)
 
 -- the middles of an arc that has halves
 pub record Cut (a b c m n j : Place) : Type 0 where
@@ -55,18 +49,8 @@ pub record Cut (a b c m n j : Place) : Type 0 where
 
 pub halves_are : (a b c : Place) (f g : Span) → halves_of_part a (Some b) c ≡ Some (f, g)
     → (m : Place) × (n : Place) × (j : Place) × Cut a b c m n j × ((f, g) ≡ two_arcs a m j n c)
-halves_are a b c f g e = by (middle_of a b) (middle_of b c) refl refl e
-  where
-    join : (m n : Place) (j : Option Place) → middle_of a b ≡ Some m → middle_of b c ≡ Some n → middle_of m n ≡ j
-        → option_map (λ j. two_arcs a m j n c) j ≡ Some (f, g)
-        → (m : Place) × (n : Place) × (j : Place) × Cut a b c m n j × ((f, g) ≡ two_arcs a m j n c)
-    join m n None h k l e = absurd (cc)
-    join m n (Some j) h k l e =
-        (m, n, j, record { b_is = middle_is a b m h; n_is = middle_is m n j l; c_is = middle_is b c n k }, (cc))
-
-    by : (m n : Option Place) → middle_of a b ≡ m → middle_of b c ≡ n
-        → option_and_then (λ m. option_and_then (λ n. option_map (λ j. two_arcs a m j n c) (middle_of m n)) n) m ≡ Some (f, g)
-        → (m : Place) × (n : Place) × (j : Place) × Cut a b c m n j × ((f, g) ≡ two_arcs a m j n c)
-    by None n h k e = absurd (cc)
-    by (Some m) None h k e = absurd (cc)
-    by (Some m) (Some n) h k e = join m n (middle_of m n) h k refl e
+halves_are a b c f g e = option_and_then_some
+    (λ m. option_and_then (λ n. option_map (λ j. two_arcs a m j n c) (middle_of m n)) (middle_of b c)) (middle_of a b) (f, g) e
+    (λ m h r. option_and_then_some (λ n. option_map (λ j. two_arcs a m j n c) (middle_of m n)) (middle_of b c) (f, g) r
+    (λ n k s. map_some (λ j. two_arcs a m j n c) (middle_of m n) (f, g) s (λ j l t.
+    (m, n, j, record { b_is = middle_is a b m h; n_is = middle_is m n j l; c_is = middle_is b c n k }, sym t))))

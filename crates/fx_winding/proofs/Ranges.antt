@@ -9,7 +9,7 @@ use Rattle.fx_fixed.proofs.Linear.{signed_linear}
 use Rattle.fx_fixed.proofs.Signs.{product_at_least_zero, product_above_zero, square_at_least_zero}
 use Rattle.fx_winding.specs.Winding.{IsInRange, IsAboveLow, IsBelowHigh}
 use Rattle.fx_winding.proofs.Products.{product}
-use Rattle.fx_winding.proofs.Reversal.{range_back}
+use Rattle.fx_winding.proofs.Reversal.{both_minus, range_back}
 
 -- the quadratic with these control values comes down to 0
 abbrev ComesDown : ℤ → ℤ → ℤ → Type 0
@@ -19,9 +19,6 @@ ComesDown a b c = (a ≤ℤ pos 0) ⊎ ((c ≤ℤ pos 0) ⊎ ((b <ℤ a) × (b <
 record Passes (a b c : ℤ) : Type 0 where
   low : ComesDown a b c
   high : ComesDown (neg_ℤ a) (neg_ℤ b) (neg_ℤ c)
-
-both_minus : (x y : ℤ) → neg_ℤ x *ℤ neg_ℤ y ≡ x *ℤ y
-both_minus x y = ring (x ∷ y ∷ []) (minus (var 0) ⊠ minus (var 1)) (var 0 ⊠ var 1) tt
 
 -- each of the ways to come down follows its facts
 pub either : {A B C D E A' B' C' D' E' : Type 0} → A ↔ A' → B ↔ B' → C ↔ C' → D ↔ D' → E ↔ E'

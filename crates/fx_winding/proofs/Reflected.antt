@@ -3,8 +3,7 @@
 use Rattle.std.proofs.Common.{◌≡◌, ◌≢◌, refl, sym, ap, ◌∙◌, ◌⊎◌, inl, inr, ℤ, pos, ◌+ℤ◌, ◌-ℤ◌, ◌*ℤ◌}
 use Rattle.std.proofs.Common.{neg_ℤ, [], ◌∷◌, Option, Some, None, option_map, Bool, arith}
 use Rattle.std.proofs.lemmas.Int.{ints}
-use Rattle.fx_fixed.specs.Polynomial.{var, ◌⊠◌, minus}
-use Rattle.fx_fixed.proofs.Ring.{ring, one-*ℤ, neg-*ℤ}
+use Rattle.fx_fixed.proofs.Ring.{one-*ℤ, neg-*ℤ}
 use Rattle.fx_fixed.proofs.Linear.{signed_linear}
 use Rattle.fx_winding.specs.Area.{Place, area}
 use Rattle.fx_winding.specs.Winding.{sign, weight_b, is_right_of_chord, chord_crossing, region_part}
@@ -13,21 +12,20 @@ use Rattle.fx_winding.proofs.HalfAreas.{area_swap}
 use Rattle.fx_winding.proofs.Halved.{flat_region}
 use Rattle.fx_winding.proofs.Ranges.{by_zero}
 use Rattle.fx_winding.proofs.Regions.{IsIn, IsInRegion, move_in, region_cases, region_in, region_out}
-use Rattle.fx_winding.proofs.Reversal.{sign_back}
+use Rattle.fx_winding.proofs.Reversal.{both_minus, sign_back}
 
 -- each area changes its sign
 pub record Reflects (r : Place → Place) : Type 0 where
   pub area_is : (p q s : Place) → area (r p) (r q) (r s) ≡ neg_ℤ (area p q s)
 
 -- ---- weights
-sign_reflected : (r : Place → Place) → Reflects r → (a b c : Place) → sign (area (r a) (r b) (r c)) ≡ neg_ℤ (sign (area a b c))
+pub sign_reflected : (r : Place → Place) → Reflects r → (a b c : Place) → sign (area (r a) (r b) (r c)) ≡ neg_ℤ (sign (area a b c))
 sign_reflected r f a b c = ap sign (f.area_is a b c) ∙ sign_back (area a b c)
 
 -- they are the same
 pub weight_reflected : (r : Place → Place) → Reflects r → (a b c p q s : Place)
     → sign (area (r a) (r b) (r c)) *ℤ area (r p) (r q) (r s) ≡ sign (area a b c) *ℤ area p q s
-weight_reflected r f a b c p q s = (λ i. sign_reflected r f a b c i *ℤ f.area_is p q s i)
-    ∙ ring (sign (area a b c) ∷ area p q s ∷ []) (minus (var 0) ⊠ minus (var 1)) (var 0 ⊠ var 1) tt
+weight_reflected r f a b c p q s = (λ i. sign_reflected r f a b c i *ℤ f.area_is p q s i) ∙ both_minus (sign (area a b c)) (area p q s)
 
 pub none_reflected : (r : Place → Place) → Reflects r → (p q s : Place) → area p q s ≡ pos 0 → area (r p) (r q) (r s) ≡ pos 0
 none_reflected r f p q s z = f.area_is p q s ∙ ap neg_ℤ z
@@ -42,16 +40,10 @@ pub regions_cancel : (r : Place → Place) → Reflects r → (a b c p : Place)
     → (IsInRegion a b c p → IsInRegion (r a) (r b) (r c) (r p))
     → (IsInRegion (r a) (r b) (r c) (r p) → IsInRegion a b c p)
     → region_part (r a) (Some (r b)) (r c) (r p) +ℤ region_part a (Some b) c p ≡ pos 0
-regions_cancel r f a b c p to from = by (region_cases a b c p)
-  where
-    none : (z : ℤ) → neg_ℤ z +ℤ z ≡ pos 0
-    none z = omega (arith, signed_linear)
-
-    by : IsInRegion a b c p ⊎ (¬ (IsInRegion a b c p))
-        → region_part (r a) (Some (r b)) (r c) (r p) +ℤ region_part a (Some b) c p ≡ pos 0
-    by (inl h) = (λ i. (region_in (r a) (r b) (r c) (r p) (to h) ∙ sign_reflected r f a b c) i +ℤ region_in a b c p h i)
-        ∙ none (sign (area a b c))
-    by (inr n) = λ i. region_out (r a) (r b) (r c) (r p) (λ h. n (from h)) i +ℤ region_out a b c p n i
+regions_cancel r f a b c p to from = elim (region_cases a b c p) [
+  | inl h ↦ omega (arith, signed_linear, region_in (r a) (r b) (r c) (r p) (to h), sign_reflected r f a b c, region_in a b c p h)
+  | inr n ↦ λ i. region_out (r a) (r b) (r c) (r p) (λ h. n (from h)) i +ℤ region_out a b c p n i
+]
 
 -- which they are where the control point's weight is not 0, or the arc lies on the same side of its chord
 abbrev IsAlike : (Place → Place) → Place → Place → Place → Place → Type 0
@@ -83,12 +75,6 @@ AddUp r k a b c p = chord_crossing (r a) (r c) (r p) +ℤ region_part (r a) (opt
 abbrev pub CrossingsAddUp : (Place → Place) → ℤ → Place → Place → Place → Type 0
 CrossingsAddUp r k a c p = area a c p ≢ pos 0 → chord_crossing (r a) (r c) (r p) +ℤ chord_crossing a c p ≡ k
 
-total : (x y z w k c d : ℤ) → x +ℤ z ≡ c → y +ℤ w ≡ d → c +ℤ d ≡ k → x +ℤ y ≡ k -ℤ (z +ℤ w)
-total x y z w k c d e f g = omega (arith, signed_linear, e, f, g)
-
-no_more : (k : ℤ) → k +ℤ pos 0 ≡ k
-no_more k = omega (arith, signed_linear)
-
 -- on it both are 0
 pub reflected_crossings_none : (r : Place → Place) → Reflects r → (a c p : Place) → area a c p ≡ pos 0
     → chord_crossing (r a) (r c) (r p) +ℤ chord_crossing a c p ≡ pos 0
@@ -102,18 +88,11 @@ reflected_crossings_none r f a c p z =
 add_up_off : (r : Place → Place) (k : ℤ) (a : Place) (b : Option Place) (c p : Place)
     → chord_crossing (r a) (r c) (r p) +ℤ chord_crossing a c p ≡ k
     → region_part (r a) (option_map r b) (r c) (r p) +ℤ region_part a b c p ≡ pos 0 → AddUp r k a b c p
-add_up_off r k a b c p e f =
-    total (chord_crossing (r a) (r c) (r p)) (region_part (r a) (option_map r b) (r c) (r p)) (chord_crossing a c p)
-    (region_part a b c p) k k (pos 0) e f (no_more k)
+add_up_off r k a b c p e f = omega (arith, signed_linear, e, f)
 
 add_up_on : (r : Place → Place) → Reflects r → (k : ℤ) (a : Place) (b : Option Place) (c p : Place) → area a c p ≡ pos 0
     → region_part (r a) (option_map r b) (r c) (r p) +ℤ region_part a b c p ≡ k → AddUp r k a b c p
-add_up_on r f k a b c p z e =
-    total (chord_crossing (r a) (r c) (r p)) (region_part (r a) (option_map r b) (r c) (r p)) (chord_crossing a c p)
-    (region_part a b c p) k (pos 0) k (reflected_crossings_none r f a c p z) e (less k)
-  where
-    less : (k : ℤ) → pos 0 +ℤ k ≡ k
-    less k = omega (arith, signed_linear)
+add_up_on r f k a b c p z e = omega (arith, signed_linear, e, reflected_crossings_none r f a c p z)
 
 -- a line
 pub add_up_line : (r : Place → Place) → Reflects r → (k : ℤ) (a c p : Place) → CrossingsAddUp r k a c p

@@ -29,20 +29,20 @@ sign_back z = grind (arith, signed_linear)
 pub area_back : (a b c : Place) → area c b a ≡ neg_ℤ (area a b c)
 area_back a b c = ring (coordinates (a ∷ b ∷ c ∷ []) []) (area_at (at 2) (at 1) (at 0)) (minus (area_at (at 0) (at 1) (at 2))) tt
 
-minus_times_minus : (x y : ℤ) → neg_ℤ x *ℤ neg_ℤ y ≡ x *ℤ y
-minus_times_minus x y = ring (x ∷ y ∷ []) (minus (var 0) ⊠ minus (var 1)) (var 0 ⊠ var 1) tt
+pub both_minus : (x y : ℤ) → neg_ℤ x *ℤ neg_ℤ y ≡ x *ℤ y
+both_minus x y = ring (x ∷ y ∷ []) (minus (var 0) ⊠ minus (var 1)) (var 0 ⊠ var 1) tt
 
 pub sign_area_back : (a b c : Place) → sign (area c b a) ≡ neg_ℤ (sign (area a b c))
 sign_area_back a b c = ap sign (area_back a b c) ∙ sign_back (area a b c)
 
 pub weight_a-back : (a b c p : Place) → weight_a c b a p ≡ weight_c a b c p
-weight_a-back a b c p = (λ i. sign_area_back a b c i *ℤ area_back a b p i) ∙ minus_times_minus (sign (area a b c)) (area a b p)
+weight_a-back a b c p = (λ i. sign_area_back a b c i *ℤ area_back a b p i) ∙ both_minus (sign (area a b c)) (area a b p)
 
 pub weight_b-back : (a b c p : Place) → weight_b c b a p ≡ weight_b a b c p
-weight_b-back a b c p = (λ i. sign_area_back a b c i *ℤ area_back a p c i) ∙ minus_times_minus (sign (area a b c)) (area a p c)
+weight_b-back a b c p = (λ i. sign_area_back a b c i *ℤ area_back a p c i) ∙ both_minus (sign (area a b c)) (area a p c)
 
 pub weight_c-back : (a b c p : Place) → weight_c c b a p ≡ weight_a a b c p
-weight_c-back a b c p = (λ i. sign_area_back a b c i *ℤ area_back p b c i) ∙ minus_times_minus (sign (area a b c)) (area p b c)
+weight_c-back a b c p = (λ i. sign_area_back a b c i *ℤ area_back p b c i) ∙ both_minus (sign (area a b c)) (area p b c)
 
 pub gap_back : (u v w : ℤ) → gap_of w v u ≡ gap_of u v w
 gap_back u v w =
@@ -70,11 +70,10 @@ in_region_back a b c p h = move_in (sym (weight_a-back a b c p)) (sym (weight_b-
 
 pub region_part_back : (a : Place) (b : Option Place) (c p : Place) → region_part c b a p ≡ neg_ℤ (region_part a b c p)
 region_part_back a None c p = refl
-region_part_back a (Some b) c p = by (region_cases a b c p)
-  where
-    by : IsInRegion a b c p ⊎ (¬ (IsInRegion a b c p)) → region_part c (Some b) a p ≡ neg_ℤ (region_part a (Some b) c p)
-    by (inl h) = region_in c b a p (in_region_back a b c p h) ∙ sign_area_back a b c ∙ ap neg_ℤ (sym (region_in a b c p h))
-    by (inr n) = region_out c b a p (λ h. n (in_region_back c b a p h)) ∙ ap neg_ℤ (sym (region_out a b c p n))
+region_part_back a (Some b) c p = elim (region_cases a b c p) [
+  | inl h ↦ region_in c b a p (in_region_back a b c p h) ∙ sign_area_back a b c ∙ ap neg_ℤ (sym (region_in a b c p h))
+  | inr n ↦ region_out c b a p (λ h. n (in_region_back c b a p h)) ∙ ap neg_ℤ (sym (region_out a b c p n))
+]
 
 -- ---- on a piece
 pub none_back : (z w : ℤ) → w ≡ neg_ℤ z → z ≡ pos 0 → w ≡ pos 0

@@ -13,12 +13,9 @@ use Rattle.fx_winding.proofs.ChordSides.{regions_on}
 use Rattle.fx_winding.proofs.Columns.{crossings_sum, flat_on, line_on}
 use Rattle.fx_winding.proofs.Crossings.{above}
 use Rattle.fx_winding.proofs.Meeting.{added_back}
-use Rattle.fx_winding.proofs.Reflected.{Reflects, AddUp, add_up_line, add_up_arc}
+use Rattle.fx_winding.proofs.Reflected.{AddUp, add_up_line, add_up_arc}
 use Rattle.fx_winding.proofs.Reversal.{reversal_negates}
-use Rattle.fx_winding.proofs.TurnedAreas.{area_turned}
-
-pub turning : Reflects turned_place
-turning = record { area_is = area_turned }
+use Rattle.fx_winding.proofs.TurnedAreas.{turning}
 
 -- both pieces add 1 in all where the place is left of the upper end, else nothing
 rising_part : (a : Place) (b : Option Place) (c p : Place) → a.y <ℤ p.y → p.y <ℤ c.y → ¬ (IsOnPart a b c p)

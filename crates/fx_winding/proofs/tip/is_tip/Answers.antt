@@ -1,21 +1,12 @@
-use Rattle.std.proofs.Common.{◌≡◌, ◌∙◌, sym, ap, ℤ, pos, ◌≤ℤ◌, ◌<ℤ◌, true, false, IsTrue, FitsSigned, Some, arith}
-use Rattle.std.proofs.Common.{w32, to_z, of_z, int_lt, ◌^◌}
+use Rattle.std.proofs.Common.{◌≡◌, ◌∙◌, sym, ap, ℤ, pos, ◌<ℤ◌, IsTrue, Some, arith, w32, to_z, of_z, int_lt, ◌^◌}
 use mir.Syntax.{w128}
 use Rattle.fx_fixed.specs.Ranges.{IsWithin}
-use Rattle.std.proofs.lemmas.Int.{to_z-of_z, ints}
+use Rattle.std.proofs.lemmas.Int.{ints}
 use Rattle.fx_fixed.proofs.Linear.{signed_linear}
 use Rattle.fx_winding.specs.Winding.{place_of, maybe_place_of, span_of, region, region_part}
+use Rattle.fx_winding.proofs.Places.{no, zero_bits}
 use Rattle.fx_winding.proofs.Swept.{moved}
 use Rattle.fx_winding.proofs.tip.is_tip.Goals as goal
-
-not_above : (z : ℤ) → z ≤ℤ pos 0 → pos 0 <ℤ z → ⊥
-not_above z h k = omega (arith, signed_linear)
-
-never : false ≡ true → ⊥
-never e = cc
-
-zero_bits_w32 : (z : ℤ) → FitsSigned w32 z → of_z w32 z ≡ 0 → z ≡ pos 0
-zero_bits_w32 z f e = sym (to_z-of_z w32 z f) ∙ ap (to_z w32) e
 
 falling : (z : ℤ) → IsWithin (2 ^ 97) z → z <ℤ pos 0 → IsTrue (int_lt (to_z w128 (of_z w128 z)) (pos 0))
 falling z h k =
@@ -24,8 +15,7 @@ falling z h k =
 
 pub returns-then-gap_slope-le0-clause-value : goal.returns-then-gap_slope-le0-clause-value
 returns-then-gap_slope-le0-clause-value c =
-    let low : c.gap_slope.result ≤ℤ pos 0 = omega (arith, signed_linear) in
-    (λ t. absurd (never t), λ k. absurd (not_above c.gap_slope.result low (rw (c.gap_slope.ensures.value) k.rises)))
+    no (λ k. let r : pos 0 <ℤ c.gap_slope.result = rw (c.gap_slope.ensures.value) k.rises in omega (arith, signed_linear))
 
 pub returns-clause-value : goal.returns-clause-value
 returns-clause-value c =
@@ -36,7 +26,7 @@ returns-clause-value c =
     let x : to_z w32 (of_z w32 c.args.p.x) ≡ c.args.p.x = omega (arith, signed_linear) in
     let y : to_z w32 (of_z w32 c.args.p.y) ≡ c.args.p.y = omega (arith, signed_linear) in
     let part : c.region.result ≡ region p s = c.region.ensures.value ∙ moved (λ q. region q s) x y in
-    let zero : c.region.result ≡ pos 0 = zero_bits_w32 c.region.result (omega (arith, signed_linear)) c.if-region-ne0.false in
+    let zero : c.region.result ≡ pos 0 = zero_bits w32 c.region.result (omega (arith, signed_linear)) c.if-region-ne0.false in
     let bent : region p s ≡ region_part a (Some (place_of c.args.b)) e p =
     ap (λ m. region_part a (maybe_place_of m) e p) c.requires.middle in
     let high : pos 0 <ℤ c.gap_slope.result = omega (arith, signed_linear) in (
