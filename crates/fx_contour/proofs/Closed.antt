@@ -52,12 +52,7 @@ step : (px py qx qy sx sy : ℤ) (a b c : Bool) (ks : List Knot) (k : Knot) (ss 
     → along (knot_of (point px py a)) (midpoint (point px py a) (point qx qy b) ++ (knot_of (point qx qy b) ∷ ks)) k ≡
     option_to_list (span_at (point px py a) (point qx qy b) (point sx sy c)) ++ ss
 unfolding point
-step px py qx qy sx sy true true c ks k ss e h = cc
-step px py qx qy sx sy false true c ks k ss e h = e
-step px py qx qy sx sy true false true ks k ss e h = cc
-step px py qx qy sx sy true false false ks k ss e h = cc
-step px py qx qy sx sy false false true ks k ss e h = cc
-step px py qx qy sx sy false false false ks k ss e h = cc
+step px py qx qy sx sy a b c ks k ss e h = grind (arith, e, h)
 
 same : (p : OutlinePoint) (qs : List OutlinePoint) (r : OutlinePoint)
     → along (knot_of p) (with_midpoints p qs) (next_knot (last_or p qs) r) ≡ spans_between p qs r

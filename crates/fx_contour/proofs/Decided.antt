@@ -145,24 +145,17 @@ large_is_tested ss = Decides-like (have_any (row ss) ss) there back
 pub drawn_near : (ends : List ℕ) (points xs : List OutlinePoint) (r : Bool) (ss : List Span) → xs ≡ points
     → (IsTrue r ↔ All IsInReach xs) → r ≡ true → ss ≡ spans_of ends points → drawn_of ends points ≡ Ok ss
 unfolding drawn_of
-drawn_near ends points xs r ss e d t s =
-    let h : list_all is_in_reach points ≡ true = (reach_is_tested points).1 (subst (All IsInReach) e (d.0 t)) in
-    rw (h, s) refl
+drawn_near ends points xs r ss e d t s = grind (arith, e, d, t, s, reach_is_tested)
 
 pub drawn_far : (ends : List ℕ) (points xs : List OutlinePoint) (r : Bool) → xs ≡ points → (IsTrue r ↔ All IsInReach xs) → r ≡ false
     → drawn_of ends points ≡ Err TooFar
 unfolding drawn_of
-drawn_far ends points xs r e d f =
-    let h : list_all is_in_reach points ≡ false = false_from_ne_true (list_all is_in_reach points)
-    (λ t. let k = d.1 (subst (All IsInReach) (sym e) ((reach_is_tested points).0 t)) in absurd (cc)) in
-    rw h refl
+drawn_far ends points xs r e d f = grind (arith, e, d, f, false_from_ne_true, reach_is_tested)
 
 pub framed_is : (r : Result (Option Frame) ContourFault) (ss : List Span) → IfOk r (λ f. IsFrameFor f ss)
     → IfErr r (λ e. (e ≡ TooLarge) × AreTooLarge ss) → map_ok (λ _. tt) r ≡ framed_of ss
 unfolding framed_of
-framed_is (Ok f) ss h k =
-    rw (false_from_ne_true (is_too_large ss) (λ e. frame_not_too_large f ss h ((large_is_tested ss).0 e))) refl
-framed_is (Err e) ss h k = rw ((large_is_tested ss).1 k.1, k.0) refl
+framed_is r ss h k = grind (arith, h, k, false_from_ne_true, frame_not_too_large, large_is_tested)
 
 pub drawn_in_reach : (ends : List ℕ) (points : List OutlinePoint) → All IsInReach points
     → drawn_of ends points ≡ Ok (spans_of ends points)

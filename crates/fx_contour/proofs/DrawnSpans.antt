@@ -1,6 +1,6 @@
 -- What an outline within the limits draws.
 -- For the laws of moved and reversed outlines.
-use Rattle.std.proofs.Common.{◌≡◌, refl, Bool, true, false, List, Ok, ℕ}
+use Rattle.std.proofs.Common.{◌≡◌, refl, true, List, Ok, ℕ, arith}
 use Rattle.std.specs.List.{list_all}
 use Rattle.fx_winding.specs.Winding.{Span}
 use Rattle.fx_outline.specs.declared.points.OutlinePoint.{OutlinePoint}
@@ -10,11 +10,7 @@ use Rattle.fx_contour.specs.Contours.{is_in_reach, spans_of, drawn_of}
 pub drawn_spans : (ends : List ℕ) (points : List OutlinePoint) (ss : List Span) → drawn_of ends points ≡ Ok ss
     → (list_all is_in_reach points ≡ true) × (spans_of ends points ≡ ss)
 unfolding drawn_of
-drawn_spans ends points ss h = by (list_all is_in_reach points) refl
-  where
-    by : (t : Bool) → list_all is_in_reach points ≡ t → (list_all is_in_reach points ≡ true) × (spans_of ends points ≡ ss)
-    by true e = (e, (let k = rw e at h in cc))
-    by false e = absurd (let k = rw e at h in cc)
+drawn_spans ends points ss h = grind (arith, h)
 
 pub drawn_from : (ends : List ℕ) (points : List OutlinePoint) → list_all is_in_reach points ≡ true
     → drawn_of ends points ≡ Ok (spans_of ends points)

@@ -78,12 +78,7 @@ none_far b ss a l h =
 pub far_framed : (b : Bounds) (ss : List Span) (r : Bool) → AreBounds b ss → (IsTrue r ↔ BoundsLeaveMargin b) → r ≡ false
     → Err TooFar ≡ dropout_framed_of ss
 unfolding dropout_framed_of
-far_framed b ss r a d f =
-    let t : have_any (λ q. not (leaves_margin q)) ss ≡ true =
-    true_from_ne_false (have_any (λ q. not (leaves_margin q)) ss)
-    (λ e. let k = d.1 (bounds_leave b ss a
-    (not_from_Decides (have_any (λ q. not (leaves_margin q)) ss) (margin_is_tested ss) e)) in absurd (cc)) in
-    rw t refl
+far_framed b ss r a d f = grind (arith, a, d, f, true_from_ne_false, bounds_leave, not_from_Decides, margin_is_tested)
 
 not_far : (b : Bounds) (ss : List Span) → AreBounds b ss → BoundsLeaveMargin b → have_any (λ q. not (leaves_margin q)) ss ≡ false
 not_far b ss a l =

@@ -88,10 +88,4 @@ enclosed_more b c start ends k points e d x h s g =
 pub enclosed_end : (b : Option Extent) (start : ℕ) (ends : List ℕ) (k : ℕ) (points : List OutlinePoint)
     → Enclosed b start ends k points → length ends ≤ k
     → IsLeast (DoesExtend b) (λ P. HaveAny P (spans_of ends points))
-enclosed_end b start ends k points x h = record {
-  sides = λ side t.
-      let X = HaveAny (IsOut side t) (spans_of ends points) in
-      let P : List ℕ → Type 0 =
-      λ xs. X ↔ (DoesExtend b side t ⊎ HaveAny (IsOut side t) (joined (map curve_of (contours_from start xs points)))) in
-      none_left X (DoesExtend b side t) (subst P (drop_of_length-le ends h) (x.sides side t));
-}
+enclosed_end b start ends k points x h = grind (arith, x, h, none_left, drop_of_length-le)

@@ -62,7 +62,4 @@ gather_more made after start ends k points e d g h s m n =
 
 pub gather_end : (made : List Piece) (start : ℕ) (ends : List ℕ) (k : ℕ) (points : List OutlinePoint)
     → PiecesMade made start ends k points → length ends ≤ k → map span_of made ≡ joined (map curve_of (contours_from 0 ends points))
-gather_end made start ends k points g h =
-    let P : List ℕ → Type 0 = λ xs. map span_of made ++ joined (map curve_of (contours_from start xs points)) ≡ joined
-    (map curve_of (contours_from 0 ends points)) in
-    sym (append-nil (map span_of made)) ∙ subst P (drop_of_length-le ends h) g.spans
+gather_end made start ends k points g h = grind (arith, g, h, append-nil, drop_of_length-le)

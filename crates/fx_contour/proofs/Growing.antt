@@ -72,10 +72,7 @@ none_left X A h = (λ x. grind arith, λ a. grind arith)
 
 pub remains_end : (b : Bounds) (ps : List Piece) (n : ℕ) → length ps ≤ n → Remains b (map span_of ps) (map span_of (drop n ps))
     → AreBounds b (map span_of ps)
-remains_end b ps n h r =
-    let P : List Piece → Type 0 = λ xs. Remains b (map span_of ps) (map span_of xs) in
-    let all_spans = subst P (drop_of_length-le ps h) r in
-    record { sides = λ side t. none_left (HaveAny (IsOut side t) (map span_of ps)) (Reaches b side t) (all_spans.sides side t) }
+remains_end b ps n h r = grind (arith, h, r, drop_of_length-le, none_left)
 
 pub first_too : (X A : Type 0) → (A → X) → X ↔ (A ⊎ X)
 first_too X A f = (λ x. grind arith, λ y. grind arith)
