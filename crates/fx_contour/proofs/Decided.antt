@@ -106,17 +106,13 @@ large_at : (ss : List Span) (i j i' j' : ℤ) (q r : Place) → IsLargeFrom ss i
 large_at ss i j i' j' q r h m n x y kx ky = (
   before (centre i j) (centre i' j') ss q r h.0 m n (omega (arith, ints)) (omega (arith, ints)) (omega (arith, ints))
       (omega (arith, ints)),
-  by h.1,
+  elim h.1 [
+    | inl k ↦ inl (before (centre (i +ℤ pos greatest_side) j) (centre (i' +ℤ pos greatest_side) j') ss q r k m n
+        (omega (arith, ints)) (omega (arith, ints)) (omega (arith, ints)) (omega (arith, ints)))
+    | inr k ↦ inr (before (centre i (j +ℤ pos greatest_side)) (centre i' (j' +ℤ pos greatest_side)) ss q r k m n
+        (omega (arith, ints)) (omega (arith, ints)) (omega (arith, ints)) (omega (arith, ints)))
+  ],
 )
-  where
-    by : IsInBoundingBox (centre (i +ℤ pos greatest_side) j) ss ⊎ IsInBoundingBox (centre i (j +ℤ pos greatest_side)) ss
-        → IsInBoundingBox (centre (i' +ℤ pos greatest_side) j') ss ⊎ IsInBoundingBox (centre i' (j' +ℤ pos greatest_side)) ss
-    by (inl k) = inl (before (centre (i +ℤ pos greatest_side) j) (centre (i' +ℤ pos greatest_side) j') ss q r k m n
-        (omega (arith, ints))
-        (omega (arith, ints)) (omega (arith, ints)) (omega (arith, ints)))
-    by (inr k) = inr (before (centre i (j +ℤ pos greatest_side)) (centre i' (j' +ℤ pos greatest_side)) ss q r k m n
-        (omega (arith, ints))
-        (omega (arith, ints)) (omega (arith, ints)) (omega (arith, ints)))
 
 abbrev Row : List Span → Place → Type 0
 Row ss q = HaveAny (λ r. IsLargeFrom ss (first_from q.x) (first_from r.y)) ss

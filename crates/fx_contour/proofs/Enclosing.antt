@@ -56,10 +56,7 @@ pub record Enclosed (b : Option Extent) (start : ℕ) (ends : List ℕ) (k : ℕ
 
 split : (X A : Type 0) (P : Place → Type 0) (xs ys : List Span) → X ↔ (A ⊎ HaveAny P (xs ++ ys))
     → X ↔ (A ⊎ (HaveAny P xs ⊎ HaveAny P ys))
-split X A P xs ys h = by h (have_either P xs ys) (have_left P xs ys) (have_right P xs ys)
-  where
-    by : {X A B C D : Type 0} → X ↔ (A ⊎ B) → (B → C ⊎ D) → (C → B) → (D → B) → X ↔ (A ⊎ (C ⊎ D))
-    by h f g k = (λ x. grind arith, λ x. grind arith)
+split X A P xs ys h = grind (arith, h, have_either P xs ys, have_left P xs ys, have_right P xs ys)
 
 pub enclosed_more : (b c : Option Extent) (start : ℕ) (ends : List ℕ) (k : ℕ) (points : List OutlinePoint) (e d : ℕ)
     → Enclosed b start ends k points → k < length ends → e ≡ get_or ends k d

@@ -65,12 +65,7 @@ between_one P d p (q ∷ qs) r h = of_either (span_one P d p q (first_or qs r)) 
 
 curve_point : (P : Place → Type 0) → IsOfEnds P → (p q : OutlinePoint) (qs : List OutlinePoint) → HaveAny P (curve_of (p ∷ q ∷ qs))
     → HavePoint P (p ∷ q ∷ qs)
-curve_point P d p q qs h = by (between_one P d (last_or q qs) (p ∷ q ∷ qs) p h)
-  where
-    by : P (doubled_of (last_or q qs)) ⊎ (HavePoint P (p ∷ q ∷ qs) ⊎ P (doubled_of p)) → HavePoint P (p ∷ q ∷ qs)
-    by (inl k) = inr (last_one P q qs k)
-    by (inr (inl k)) = k
-    by (inr (inr k)) = inl k
+curve_point P d p q qs h = grind (arith, between_one P d (last_or q qs) (p ∷ q ∷ qs) p h, last_one P q qs)
 
 -- ---- each point of the contour
 
@@ -110,20 +105,17 @@ point_one : (P : Place → Type 0) (p : OutlinePoint) (qs : List OutlinePoint) (
     → HaveAny P (spans_between p qs r) ⊎ Ends P p (first_or qs r)
 point_one P p [] r h = absurd h
 point_one P p (q ∷ qs) r (inl h) = grind (arith, on_or_off, have_left, have_span, arc_at, line_at)
-point_one P p (q ∷ qs) r (inr h) = by (point_one P q qs r h)
-  where
-    by : HaveAny P (spans_between q qs r) ⊎ Ends P q (first_or qs r) → HaveAny P (spans_between p (q ∷ qs) r) ⊎ Ends P p q
-    by (inl k) = inl (have_right P (option_to_list (span_at p q (first_or qs r))) (spans_between q qs r) k)
-    by (inr e) = inl (have_left P (option_to_list (span_at p q (first_or qs r))) (spans_between q qs r)
-        (arc_ends P p q (first_or qs r) e))
+point_one P p (q ∷ qs) r (inr h) = elim (point_one P q qs r h) [
+      | inl k ↦ inl (have_right P (option_to_list (span_at p q (first_or qs r))) (spans_between q qs r) k)
+      | inr e ↦ inl (have_left P (option_to_list (span_at p q (first_or qs r))) (spans_between q qs r) (arc_ends P p q (first_or qs r) e))
+    ]
 
 point_curve : (P : Place → Type 0) (p q : OutlinePoint) (qs : List OutlinePoint) → HavePoint P (p ∷ q ∷ qs)
     → HaveAny P (curve_of (p ∷ q ∷ qs))
-point_curve P p q qs h = by (point_one P (last_or q qs) (p ∷ q ∷ qs) p h)
-  where
-    by : HaveAny P (curve_of (p ∷ q ∷ qs)) ⊎ Ends P (last_or q qs) p → HaveAny P (curve_of (p ∷ q ∷ qs))
-    by (inl k) = k
-    by (inr e) = last_arc P (last_or q qs) p (q ∷ qs) p e
+point_curve P p q qs h = elim (point_one P (last_or q qs) (p ∷ q ∷ qs) p h) [
+      | inl k ↦ k
+      | inr e ↦ last_arc P (last_or q qs) p (q ∷ qs) p e
+    ]
 
 -- a side of the curve is one of its points
 pub hull_of : (side : Side) (t : ℤ) (points : List OutlinePoint) → 2 ≤ length points

@@ -47,12 +47,10 @@ none_past low high h n i = grind (arith, signed_linear, h, n, i, first_least)
 
 -- a pixel is kept
 kept_somewhere : (low high : ℤ) → (n : ℤ) × IsKeptIn low high n
-kept_somewhere low high = by (below_or_not_ℤ high (pos 128 *ℤ first_from low +ℤ pos 64))
-  where
-    by : (high <ℤ (pos 128 *ℤ first_from low +ℤ pos 64)) ⊎ ((pos 128 *ℤ first_from low +ℤ pos 64) ≤ℤ high)
-        → (n : ℤ) × IsKeptIn low high n
-    by (inl h) = (int_div_euclid (low +ℤ high) (pos 256), inr (none_past low high h, middle_is low high))
-    by (inr h) = (first_from low, inl (first_reaches low, h))
+kept_somewhere low high = elim (below_or_not_ℤ high (pos 128 *ℤ first_from low +ℤ pos 64)) [
+      | inl h ↦ (int_div_euclid (low +ℤ high) (pos 256), inr (none_past low high h, middle_is low high))
+      | inr h ↦ (first_from low, inl (first_reaches low, h))
+    ]
 
 -- of two neighbours between whose centres the box comes one is kept
 pub kept_of_two : (low high n : ℤ) → low ≤ℤ (pos 128 *ℤ (n +ℤ pos 1) +ℤ pos 64) → (pos 128 *ℤ n +ℤ pos 64) ≤ℤ high
@@ -75,25 +73,17 @@ kept_of_two low high n h k =
 
 -- the middle one alone, where no centre is
 pub kept_alone : (low high n : ℤ) → AreNoPixels low high → IsMiddleOf low high n → (m : ℤ) → IsFrom n 1 m ↔ IsKeptIn low high m
-kept_alone low high n none k m = (λ h. inr (none, subst (IsMiddleOf low high) (at h) k), λ h. back h)
-  where
-    at : IsFrom n 1 m → n ≡ m
-    at h = let a = h.0 in let b = h.1 in omega (arith, signed_linear, a, b)
-
-    back : IsKeptIn low high m → IsFrom n 1 m
-    back (inl h) = absurd (none m h)
-    back (inr h) =
-        let a = middle_one low high n m k h.1 in
-        let b = middle_one low high m n h.1 k in
-        (a, omega (arith, signed_linear, b))
+kept_alone low high n none k m = (
+  λ h. let e : n ≡ m = omega (arith, signed_linear, h) in inr (none, subst (IsMiddleOf low high) e k),
+  λ h. elim h [
+    | inl i ↦ absurd (none m i)
+    | inr i ↦ let a = middle_one low high n m k i.1 in let b = middle_one low high m n i.1 k in (a, omega (arith, signed_linear, b))
+  ],
+)
 
 -- the pixels whose centres are there, where there is one
 pub kept_pixels : (s : Pixels) (low high : ℤ) → ArePixels s low high → AreKept s low high
-kept_pixels s low high p n = (λ h. inl ((p n).0 h), λ h. back h)
-  where
-    back : IsKeptIn low high n → IsFrom s.first s.count n
-    back (inl h) = (p n).1 h
-    back (inr h) = absurd (h.0 s.first ((p s.first).0 (first_in s.first s.count s.some)))
+kept_pixels s low high p n = let f = (p s.first).0 (first_in s.first s.count s.some) in let h = p n in grind (arith)
 
 -- the middle pixel's number
 pub middle_size : (low high n : ℤ) → IsWithin farthest_with_margin low → IsWithin farthest_with_margin high
@@ -161,18 +151,12 @@ far_from z = pos 128 *ℤ (first_from z +ℤ pos greatest_side) +ℤ pos 64
 
 -- the centre that far from the first one at the least or beyond is reached exactly if that pixel is kept
 far_kept : (low high : ℤ) → far_from low ≤ℤ high → (n : ℤ) × IsKeptIn low high n × IsKeptIn low high (n +ℤ pos greatest_side)
-far_kept low high h = by (first_from low) (first_reaches low) h
-  where
-    by : (n : ℤ) → low ≤ℤ (pos 128 *ℤ n +ℤ pos 64) → (pos 128 *ℤ (n +ℤ pos greatest_side) +ℤ pos 64) ≤ℤ high
-        → (n : ℤ) × IsKeptIn low high n × IsKeptIn low high (n +ℤ pos greatest_side)
-    by n c d = (n, inl (c, omega (arith, signed, d)), inl (omega (arith, signed, c), d))
+far_kept low high h =
+    let c = first_reaches low in (first_from low, inl (c, omega (arith, signed, h)), inl (omega (arith, signed, c), h))
 
 kept_far : (low high n : ℤ) → IsKeptIn low high n → IsKeptIn low high (n +ℤ pos greatest_side) → far_from low ≤ℤ high
-kept_far low high n k l = let c = far_apart low high n k l in by (first_from low) (first_least low n c.0.0) c.1.1
-  where
-    by : (m : ℤ) → m ≤ℤ n → (pos 128 *ℤ (n +ℤ pos greatest_side) +ℤ pos 64) ≤ℤ high
-        → (pos 128 *ℤ (m +ℤ pos greatest_side) +ℤ pos 64) ≤ℤ high
-    by m d c = omega (arith, signed, c, d)
+kept_far low high n k l =
+    let c = far_apart low high n k l in let d = first_least low n c.0.0 in let e = c.1.1 in omega (arith, signed, d, e)
 
 pub many_decides : (coord : Place → ℤ) (ss : List Span) → Decides (keeps_too_many coord ss) (KeepsTooMany coord ss)
 unfolding keeps_too_many

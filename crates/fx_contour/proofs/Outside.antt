@@ -15,29 +15,16 @@ piece_either P Q d s = grind (arith, d)
 
 either : (P Q : Place → Type 0) → ((q : Place) → P q ⊎ Q q) → (ss : List Span) → All (HasAll P) ss ⊎ HaveAny Q ss
 either P Q d [] = inl (All-nil (HasAll P))
-either P Q d (s ∷ ss) = by (piece_either P Q d s) (either P Q d ss)
-  where
-    by : HasAll P s ⊎ HasAny Q s → All (HasAll P) ss ⊎ HaveAny Q ss → All (HasAll P) (s ∷ ss) ⊎ HaveAny Q (s ∷ ss)
-    by (inl h) (inl hs) = inl (All-cons (HasAll P) s ss h hs)
-    by (inr h) r = inr (inl h)
-    by (inl h) (inr hs) = inr (inr hs)
+either P Q d (s ∷ ss) = grind (arith, piece_either P Q d s, either P Q d ss, All-cons)
 
 -- a place is in the bounding box, or beside it
 in_or_beside : (p : Place) (ss : List Span) → IsInBoundingBox p ss ⊎ IsBeside p ss
-in_or_beside p ss = by (either (λ q. p.x <ℤ q.x) (λ q. q.x ≤ℤ p.x) (λ q. below_or_not_ℤ p.x q.x) ss)
-    (either (λ q. q.x <ℤ p.x) (λ q. p.x ≤ℤ q.x) (λ q. below_or_not_ℤ q.x p.x) ss)
-    (either (λ q. p.y <ℤ q.y) (λ q. q.y ≤ℤ p.y) (λ q. below_or_not_ℤ p.y q.y) ss)
-    (either (λ q. q.y <ℤ p.y) (λ q. p.y ≤ℤ q.y) (λ q. below_or_not_ℤ q.y p.y) ss)
-  where
-    by : All (HasAll (λ q. p.x <ℤ q.x)) ss ⊎ HaveAny (λ q. q.x ≤ℤ p.x) ss
-        → All (HasAll (λ q. q.x <ℤ p.x)) ss ⊎ HaveAny (λ q. p.x ≤ℤ q.x) ss
-        → All (HasAll (λ q. p.y <ℤ q.y)) ss ⊎ HaveAny (λ q. q.y ≤ℤ p.y) ss
-        → All (HasAll (λ q. q.y <ℤ p.y)) ss ⊎ HaveAny (λ q. p.y ≤ℤ q.y) ss → IsInBoundingBox p ss ⊎ IsBeside p ss
-    by (inl a) b c d = inr (inl a)
-    by (inr a) (inl b) c d = inr (inr (inl b))
-    by (inr a) (inr b) (inl c) d = inr (inr (inr (inl c)))
-    by (inr a) (inr b) (inr c) (inl d) = inr (inr (inr (inr d)))
-    by (inr a) (inr b) (inr c) (inr d) = inl (record { left = a; right = b; bottom = c; top = d })
+in_or_beside p ss =
+    let a = either (λ q. p.x <ℤ q.x) (λ q. q.x ≤ℤ p.x) (λ q. below_or_not_ℤ p.x q.x) ss in
+    let b = either (λ q. q.x <ℤ p.x) (λ q. p.x ≤ℤ q.x) (λ q. below_or_not_ℤ q.x p.x) ss in
+    let c = either (λ q. p.y <ℤ q.y) (λ q. q.y ≤ℤ p.y) (λ q. below_or_not_ℤ p.y q.y) ss in
+    let d = either (λ q. q.y <ℤ p.y) (λ q. p.y ≤ℤ q.y) (λ q. below_or_not_ℤ q.y p.y) ss in
+    grind arith
 
 -- a place that is covered is in the bounding box
 pub in_box : (p : Place) (ss : List Span) → AreOfOutline ss → IsCovered p ss → IsInBoundingBox p ss
