@@ -15,7 +15,8 @@ use Rattle.fx_winding.proofs.EndsOn.{off_no_end}
 use Rattle.fx_winding.proofs.Products.{IsProduct, product}
 use Rattle.fx_winding.proofs.Reflected.{AddUp, add_up_line, add_up_arc, regions_cancel, none_reflected, reflected_crossings_none}
 use Rattle.fx_winding.proofs.Regions.{IsInRegion}
-use Rattle.fx_winding.proofs.Sideways.{turning, corner, corners, turned_within}
+use Rattle.fx_winding.proofs.TurnedAreas.{turning}
+use Rattle.fx_winding.proofs.Sideways.{corner, corners, turned_within}
 use Rattle.fx_winding.proofs.Triangle.{area_expr}
 use Rattle.fx_symmetry.specs.Symmetries.{Exchange, place_in, span_in}
 use Rattle.fx_symmetry.proofs.ChordLine.{IsAsideOf, area_start, aside_row, aside_column}
