@@ -8,7 +8,7 @@ ghost use Rattle.fx_scale.specs.Zones.{scaled_point, zone_of_simple};
 
 use crate::factor::Factor;
 use crate::scale::Scale;
-use fx_fixed::{F26, Place};
+use fx_fixed::Place;
 use fx_glyf::Simple;
 use fx_zone::Zone;
 use std::alloc::{AllocError, Global};
@@ -44,41 +44,38 @@ fn scaled_points(
     ensures { IfOk result (λ v. v.items ≡ map (scaled_point scale.now) simple.now.points) }
 {
     let mut scaled = list;
-    scaled.clear();
-    scaled.reserve(simple.point_count() as usize + PHANTOM_POINTS)?;
+    let count = simple.point_count() as usize;
+    let blank = fx_zone::Point::resting(Place::origin(), false);
+    scaled.resize(count + PHANTOM_POINTS, blank)?;
+    scaled.truncate(count);
     let factor = scale.factor();
-    // The points so far are scaled, and there is room for those that are left.
+    let mut number = 0;
+    // The points before `number` are scaled, and those from it on are left.
     'points: for point in simple.points() {
-        scaled.push_reserved(scaled_point(&factor, point));
+        write_scaled(&mut scaled[number], &factor, point);
+        number += 1;
     }
     Ok(scaled)
 }
 
-/// A point scaled: original and current place alike, untouched.
+/// Writes a point scaled, original and current place alike, untouched, over another point, field by field: a whole point would be
+/// written with its padding.
 #[inline(always)]
-fn scaled_point(factor: &Factor, point: fx_glyf::Point) -> fx_zone::Point
-    ensures { result ≡ resting (record {
+fn write_scaled(scaled: &mut fx_zone::Point, factor: &Factor, point: fx_glyf::Point)
+    ensures { scaled.new ≡ resting (record {
       x = scaled_of point.x factor.now.ppem factor.now.units_per_em;
       y = scaled_of point.y factor.now.ppem factor.now.units_per_em;
     }) point.on_curve }
 {
     let x = factor.apply(i32::from(point.x));
     let y = factor.apply(i32::from(point.y));
-    resting(x, y, point.on_curve)
-}
-
-/// An untouched point with original and current place alike.
-#[inline(always)]
-fn resting(x: F26, y: F26, on: bool) -> fx_zone::Point
-    ensures { result ≡ resting (record { x = x; y = y }) on }
-{
-    fx_zone::Point {
-        org: Place { x, y },
-        cur: Place { x, y },
-        on,
-        touched_x: false,
-        touched_y: false,
-    }
+    scaled.org.x = x;
+    scaled.org.y = y;
+    scaled.cur.x = x;
+    scaled.cur.y = y;
+    scaled.on = point.on_curve;
+    scaled.touched_x = false;
+    scaled.touched_y = false;
 }
 
 /// The number of each contour's last point, in a list whose numbers are lost.

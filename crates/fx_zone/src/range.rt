@@ -56,6 +56,6 @@ pub fn rest_points(points: &mut [Point], by: &Place)
 {
     // The points before `point` are done.
     'points: for point in points.iter_mut() {
-        *point = point.rested(*by);
+        point.rest_shifted(by);
     }
 }
