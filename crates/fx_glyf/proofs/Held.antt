@@ -1,5 +1,5 @@
 -- Flags and deltas that bytes are known to hold: how many bytes they take, and which they are.
--- For `next_flag`, `delta` and the iterators over flags and points.
+-- For `next_flag`, `moved` and the iterators over flags and points.
 use Rattle.std.proofs.Common.{◌≡◌, ◌∙◌, ℕ, zero, suc, ◌+◌, ◌-◌, ◌<◌, ◌≤◌, ◌%◌, List, [], ◌∷◌, length, drop, get_or}
 use Rattle.std.proofs.Common.{Option, Some, None}
 use Rattle.std.proofs.Common.{Bool, true, false, cond, refl, sym, ap, subst, arith, add-zero}
@@ -8,6 +8,7 @@ use Rattle.std.proofs.lemmas.Bool.{cases_lt, lt-ltb, le-ltb}
 use Rattle.std.proofs.lemmas.List.{get_or-drop, drop-drop, length-drop}
 use Rattle.fx_sfnt.specs.Fields.{field}
 use Rattle.fx_glyf.specs.Words.{has, with_front}
+use Rattle.fx_glyf.specs.inner.Moves.{moved_by}
 use Rattle.fx_glyf.specs.Points.{Cursor, start, repeat_flag, next_flag, flags_from, delta_by, delta_of, deltas_from}
 
 -- ---- flags
@@ -109,26 +110,28 @@ word_held true same bytes e f h = absurd (cc)
 word_held false true bytes e f h = absurd (cc)
 word_held false false bytes e f h = grind (arith, cases_lt, lt-ltb)
 
-pub short_is : (short same positive : Bool) (bytes rest : List ℕ) (by : ℕ) → short ≡ true → positive ≡ same
+pub short_moves : (short same positive : Bool) (bytes rest : List ℕ) (at to : ℕ) → short ≡ true → positive ≡ same
     → 1 ≤ length bytes → rest ≡ drop 1 bytes
-    → by ≡ cond positive (get_or bytes 0 0) ((65536 - get_or bytes 0 0) % 65536)
-    → Some (by, rest) ≡ delta_by short same bytes
+    → to ≡ cond positive ((at + get_or bytes 0 0) % 65536) ((at + (65536 - get_or bytes 0 0) % 65536) % 65536)
+    → Some (to, rest) ≡ moved_by at (delta_by short same bytes)
 unfolding delta_by
-short_is false same positive bytes rest by e f h r b = absurd (cc)
-short_is true same positive [] rest by e f h r b = absurd (omega arith)
-short_is true same positive (x ∷ bytes) rest by e f h r b = rw (b, r, f) refl
+short_moves false same positive bytes rest at to e f h r b = absurd (cc)
+short_moves true same positive [] rest at to e f h r b = absurd (omega arith)
+short_moves true same true (x ∷ bytes) rest at to e f h r b = rw (b, r, sym f) refl
+short_moves true same false (x ∷ bytes) rest at to e f h r b = rw (b, r, sym f) refl
 
-pub same_is : (short same : Bool) (bytes : List ℕ) → short ≡ false → same ≡ true → Some (0, bytes) ≡ delta_by short same bytes
+pub same_moves : (short same : Bool) (bytes : List ℕ) (at : ℕ) → short ≡ false → same ≡ true → at ≤ 65535
+    → Some (at, bytes) ≡ moved_by at (delta_by short same bytes)
 unfolding delta_by
-same_is true same bytes e f = absurd (cc)
-same_is false true bytes e f = refl
-same_is false false bytes e f = absurd (cc)
+same_moves true same bytes at e f h = absurd (cc)
+same_moves false true bytes at e f h = let k : (at + 0) % 65536 ≡ at = omega arith in rw k refl
+same_moves false false bytes at e f h = absurd (cc)
 
-pub word_is : (short same : Bool) (bytes rest : List ℕ) (by : ℕ) → short ≡ false → same ≡ false → 2 ≤ length bytes
-    → by ≡ field 2 bytes 0 → rest ≡ drop 2 bytes → Some (by, rest) ≡ delta_by short same bytes
+pub word_moves : (short same : Bool) (bytes rest : List ℕ) (at to : ℕ) → short ≡ false → same ≡ false → 2 ≤ length bytes
+    → to ≡ (at + field 2 bytes 0) % 65536 → rest ≡ drop 2 bytes → Some (to, rest) ≡ moved_by at (delta_by short same bytes)
 unfolding delta_by field
-word_is true same bytes rest by e f h b r = absurd (cc)
-word_is false true bytes rest by e f h b r = absurd (cc)
-word_is false false bytes rest by e f h b r = grind (arith, le-ltb)
+word_moves true same bytes rest at to e f h b r = absurd (cc)
+word_moves false true bytes rest at to e f h b r = absurd (cc)
+word_moves false false bytes rest at to e f h b r = grind (arith, le-ltb)
 
-pub ruleset delta_steps = (short_held, word_held, short_is, same_is, word_is)
+pub ruleset delta_steps = (short_held, word_held, short_moves, same_moves, word_moves)

@@ -5,6 +5,7 @@ use Rattle.std.specs.Prelude.{IsSome, option_map, option_and_then}
 use Rattle.std.proofs.lemmas.Option.{same_Some, none-some}
 use Rattle.fx_glyf.specs.declared.point.Point.{Point}
 use Rattle.fx_glyf.specs.Words.{with_front, list_in}
+use Rattle.fx_glyf.specs.inner.Moves.{moved_by}
 use Rattle.fx_glyf.specs.Points.{Cursor, x_short_vector, x_is_same_or_positive_x_short_vector, y_short_vector}
 use Rattle.fx_glyf.specs.Points.{y_is_same_or_positive_y_short_vector, next_flag, flags_from, delta_of, deltas_from, points_of}
 use Rattle.fx_glyf.specs.Points.{point_at}
@@ -86,24 +87,24 @@ unfolding points_of
 points_none dxs dys x y = refl
 
 -- the first point, and those after it
-pub points_step : (f : ℕ) (fs xs ys xs' ys' : List ℕ) (dx dy x y : ℕ)
+points_step : (f : ℕ) (fs xs ys xs' ys' : List ℕ) (dx dy x y x' y' : ℕ) (p : Point)
     → Some (dx, xs') ≡ delta_of x_short_vector x_is_same_or_positive_x_short_vector f xs
     → Some (dy, ys') ≡ delta_of y_short_vector y_is_same_or_positive_y_short_vector f ys
     → IsSome (deltas_from x_short_vector x_is_same_or_positive_x_short_vector (f ∷ fs) xs)
     → IsSome (deltas_from y_short_vector y_is_same_or_positive_y_short_vector (f ∷ fs) ys)
+    → x' ≡ (x + dx) % 65536 → y' ≡ (y + dy) % 65536 → p ≡ point_at x' y' f
     → points_of (f ∷ fs) (list_in (deltas_from x_short_vector x_is_same_or_positive_x_short_vector (f ∷ fs) xs))
-    (list_in (deltas_from y_short_vector y_is_same_or_positive_y_short_vector (f ∷ fs) ys)) x y
-    ≡ point_at ((x + dx) % 65536) ((y + dy) % 65536) f ∷ points_of fs
+    (list_in (deltas_from y_short_vector y_is_same_or_positive_y_short_vector (f ∷ fs) ys)) x y ≡ p ∷ points_of fs
     (list_in (deltas_from x_short_vector x_is_same_or_positive_x_short_vector fs xs'))
-    (list_in (deltas_from y_short_vector y_is_same_or_positive_y_short_vector fs ys')) ((x + dx) % 65536) ((y + dy) % 65536)
-points_step f fs xs ys xs' ys' dx dy x y ex ey hx hy =
+    (list_in (deltas_from y_short_vector y_is_same_or_positive_y_short_vector fs ys')) x' y'
+points_step f fs xs ys xs' ys' dx dy x y x' y' p ex ey hx hy nx ny np =
     let sx = stepped _ _ _ (deltas_at x_short_vector x_is_same_or_positive_x_short_vector f fs xs dx xs' ex) hx in
     let sy = stepped _ _ _ (deltas_at y_short_vector y_is_same_or_positive_y_short_vector f fs ys dy ys' ey) hy in
     ap (λ (ds : List ℕ). points_of (f ∷ fs) ds
     (list_in (deltas_from y_short_vector y_is_same_or_positive_y_short_vector (f ∷ fs) ys)) x y) sx.list
     ∙ ap (λ (ds : List ℕ). points_of (f ∷ fs)
     (dx ∷ list_in (deltas_from x_short_vector x_is_same_or_positive_x_short_vector fs xs')) ds x y) sy.list
-    ∙ points_at f fs dx dy _ _ x y
+    ∙ points_at f fs dx dy _ _ x y ∙ (rw (np, nx, ny) refl)
 
 pub deltas_done : (short same : ℕ) (bytes : List ℕ) → option_map (λ r. r.1) (deltas_from short same [] bytes) ≡ Some bytes
 unfolding deltas_from
@@ -112,21 +113,29 @@ deltas_done short same bytes = refl
 pub points_end : (fs dxs dys : List ℕ) (x y : ℕ) → fs ≡ [] → points_of fs dxs dys x y ≡ []
 points_end fs dxs dys x y e = ap (λ (gs : List ℕ). points_of gs dxs dys x y) e ∙ points_none dxs dys x y
 
+-- a coordinate that was moved came by a delta
+pub came_by : (at to : ℕ) (o : Option (ℕ × List ℕ)) (rest : List ℕ) → Some (to, rest) ≡ moved_by at o
+    → (d : ℕ) × (Some (d, rest) ≡ o) × (to ≡ (at + d) % 65536)
+came_by at to None rest e = absurd (none-some _ (sym e))
+came_by at to (Some p) rest e =
+    let q = same_Some _ _ e in
+    (p.0, ap (λ (r : List ℕ). Some (p.0, r)) (ap (λ (y : ℕ × List ℕ). y.1) q), ap (λ (y : ℕ × List ℕ). y.0) q)
+
 -- the same as `points_step`, for values that are known by equations
-pub points_first : (gs : List ℕ) (f : ℕ) (fs xs ys xs' ys' : List ℕ) (dx dy x y x' y' : ℕ) (p : Point) → gs ≡ f ∷ fs
-    → Some (dx, xs') ≡ delta_of x_short_vector x_is_same_or_positive_x_short_vector f xs
-    → Some (dy, ys') ≡ delta_of y_short_vector y_is_same_or_positive_y_short_vector f ys
+pub points_first : (gs : List ℕ) (f : ℕ) (fs xs ys xs' ys' : List ℕ) (x y x' y' : ℕ) (p : Point) → gs ≡ f ∷ fs
+    → Some (x', xs') ≡ moved_by x (delta_of x_short_vector x_is_same_or_positive_x_short_vector f xs)
+    → Some (y', ys') ≡ moved_by y (delta_of y_short_vector y_is_same_or_positive_y_short_vector f ys)
     → IsSome (deltas_from x_short_vector x_is_same_or_positive_x_short_vector gs xs)
-    → IsSome (deltas_from y_short_vector y_is_same_or_positive_y_short_vector gs ys)
-    → x' ≡ (x + dx) % 65536 → y' ≡ (y + dy) % 65536 → p ≡ point_at x' y' f
+    → IsSome (deltas_from y_short_vector y_is_same_or_positive_y_short_vector gs ys) → p ≡ point_at x' y' f
     → points_of gs (list_in (deltas_from x_short_vector x_is_same_or_positive_x_short_vector gs xs))
     (list_in (deltas_from y_short_vector y_is_same_or_positive_y_short_vector gs ys)) x y ≡ p ∷ points_of fs
     (list_in (deltas_from x_short_vector x_is_same_or_positive_x_short_vector fs xs'))
     (list_in (deltas_from y_short_vector y_is_same_or_positive_y_short_vector fs ys')) x' y'
-points_first gs f fs xs ys xs' ys' dx dy x y x' y' p e ex ey hx hy nx ny np =
+points_first gs f fs xs ys xs' ys' x y x' y' p e mx my hx hy np =
     let P : List ℕ → Type 0 = λ hs. IsSome (deltas_from x_short_vector x_is_same_or_positive_x_short_vector hs xs) in
     let Q : List ℕ → Type 0 = λ hs. IsSome (deltas_from y_short_vector y_is_same_or_positive_y_short_vector hs ys) in
+    let dx = came_by x x' _ xs' mx in
+    let dy = came_by y y' _ ys' my in
     ap (λ (hs : List ℕ). points_of hs (list_in (deltas_from x_short_vector x_is_same_or_positive_x_short_vector hs xs))
     (list_in (deltas_from y_short_vector y_is_same_or_positive_y_short_vector hs ys)) x y) e
-    ∙ points_step f fs xs ys xs' ys' dx dy x y ex ey (subst P e hx) (subst Q e hy)
-    ∙ (rw (np, nx, ny) refl)
+    ∙ points_step f fs xs ys xs' ys' dx.0 dy.0 x y x' y' p dx.1 dy.1 (subst P e hx) (subst Q e hy) dx.2 dy.2 np

@@ -3,6 +3,7 @@
 ghost use Rattle.std.specs.Prelude.{◌≡◌, ◌+◌, ◌-◌, ◌%◌, ◌≤◌, ◌∷◌, [], IsSome, MatchOption, length, drop, option_map};
 ghost use Rattle.fx_glyf.specs.Words.{list_in};
 ghost use Rattle.fx_glyf.specs.Points.{x_short_vector, y_short_vector, x_is_same_or_positive_x_short_vector, y_is_same_or_positive_y_short_vector, delta_of, deltas_from, points_of, point_at, points_seen};
+ghost use Rattle.fx_glyf.specs.inner.Moves.{moved_by};
 
 use crate::flags::{
     Flags, ON_CURVE_POINT, X_IS_SAME_OR_POSITIVE_X_SHORT_VECTOR, X_SHORT_VECTOR,
@@ -13,25 +14,25 @@ use fx_fixed::after;
 use fx_sfnt::u16_in;
 use std::marker::Model;
 
-/// The delta of one coordinate of a point, and the bytes after it; the bytes hold it.
+/// One coordinate moved by the delta of a point, modulo 2 ^ 16, and the bytes after the delta; the bytes hold it.
 #[tactic(auto, using(crate::proofs::Held::delta_steps))]
-fn delta(short: u8, same: u8, flag: u8, bytes: &[u8]) -> (u16, &[u8])
+fn moved(short: u8, same: u8, flag: u8, at: u16, bytes: &[u8]) -> (u16, &[u8])
     requires { IsSome (delta_of short same flag bytes.now) }
-    ensures { Some (result.0, result.1.now) ≡ delta_of short same flag bytes.now }
+    ensures { Some (result.0, result.1.now) ≡ moved_by at (delta_of short same flag bytes.now) }
 {
     if has(flag, short) {
         let size = u16::from(bytes[0]);
-        let by = if has(flag, same) {
-            size
+        let to = if has(flag, same) {
+            at.wrapping_add(size)
         } else {
-            opposite(size)
+            at.wrapping_sub(size)
         };
-        return (by, after(bytes, 1));
+        return (to, after(bytes, 1));
     }
     if has(flag, same) {
-        return (0, bytes);
+        return (at, bytes);
     }
-    (u16_in(bytes, 0), after(bytes, 2))
+    (at.wrapping_add(u16_in(bytes, 0)), after(bytes, 2))
 }
 
 /// The points that are left.
@@ -92,40 +93,26 @@ impl<'a> Iterator for Points<'a> {
         let Some(flag) = self.flags.next() else {
             return None;
         };
-        let (dx, xs) = delta(
+        let (x, xs) = moved(
             X_SHORT_VECTOR,
             X_IS_SAME_OR_POSITIVE_X_SHORT_VECTOR,
             flag,
+            self.x,
             self.xs,
         );
-        let (dy, ys) = delta(
+        let (y, ys) = moved(
             Y_SHORT_VECTOR,
             Y_IS_SAME_OR_POSITIVE_Y_SHORT_VECTOR,
             flag,
+            self.y,
             self.ys,
         );
-        let x = moved(self.x, dx);
-        let y = moved(self.y, dy);
         self.xs = xs;
         self.ys = ys;
         self.x = x;
         self.y = y;
         Some(point(x, y, flag))
     }
-}
-
-/// A coordinate moved by a delta, modulo 2 ^ 16.
-fn moved(at: u16, by: u16) -> u16
-    ensures { result ≡ (at + by) % 65536 }
-{
-    at.wrapping_add(by)
-}
-
-/// The delta back, modulo 2 ^ 16.
-fn opposite(by: u16) -> u16
-    ensures { result ≡ (65536 - by) % 65536 }
-{
-    if by == 0 { 0 } else { u16::MAX - by + 1 }
 }
 
 /// A point at coordinates modulo 2 ^ 16, which are signed.
