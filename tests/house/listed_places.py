@@ -58,7 +58,7 @@ PLACES = {
     "crates/fx_rows/src/lanes.rt": ["let _number = *number"],
     "crates/fx_rows/src/rows.rt": ["reserve_exact(frame.height as usize * words_for(frame.width))"],
     "crates/fx_scale/src/cvt.rt": ["with_capacity(alloc, bytes.len() / 2)"],
-    "crates/fx_scale/src/zone.rt": ["reserve(simple.point_count() as usize + PHANTOM_POINTS)", "reserve(usize::from(simple.contour_count()))"],
+    "crates/fx_scale/src/zone.rt": ["resize(count + PHANTOM_POINTS, blank)", "reserve(usize::from(simple.contour_count()))"],
     "crates/fx_stackops/src/table.rt": ["vec![in alloc; 0; count]"],
     "crates/fx_strike/src/hinter.rt": ["Box::new(alloc, keeping)"],
     "crates/fx_strike/src/kept_text.rt": ["reserve_exact(wanted.max(used + count) - used)"],

@@ -10,6 +10,7 @@ use Rattle.fx_glyf.specs.declared.glyph.Glyph as glyf
 use Rattle.fx_glyf.specs.declared.glyph.Glyph.TheVariants.{Empty, Simple, Composite}
 use Rattle.fx_glyf.specs.Glyphs.{glyph_of}
 use Rattle.fx_scale.specs.declared.scale.Scale.{Scale}
+use Rattle.fx_scale.specs.Scaling.{scale_of}
 use Rattle.fx_hint.specs.declared.component.ComponentOf.{ComponentOf}
 use Rattle.fx_hint.specs.declared.count.Count.{Count}
 use Rattle.fx_hint.specs.declared.made.Made.{Made}
@@ -20,7 +21,7 @@ use Rattle.fx_hint.specs.Limits.{max_depth}
 use Rattle.fx_hint.specs.Hinting.{Hinting}
 use Rattle.fx_hint.specs.Parts.{with_part}
 use Rattle.fx_hint.specs.Outlines.{Maker, one_component, simple_made, run_on, with_parts, made_of, assembled, component}
-use Rattle.fx_hint.specs.Outlines.{nothing_counted, root_made}
+use Rattle.fx_hint.specs.Outlines.{nothing_counted, root_made, moved_outline_of, outline_with}
 use Rattle.fx_hint.specs.Runs.{ProgramRun, Logged, LoggedFault, LoggedMaker, after, with_run, plain}
 use Rattle.fx_hint.specs.Runs.{logged_one, logged_simple, logged_run, logged_parts, logged_made_of, logged_assembled, logged_component}
 use Rattle.fx_hint.specs.inner.RunSteps.{Walks}
@@ -104,14 +105,27 @@ module _ (h : Hinting) (face : Face) (s : Scale) (root : ℕ) where
       (λ w k d. plain_component levels w k d)
 
 -- a root that is walked is made as the definition of an outline says
-pub root_walked : {S : Type 0} (Leads : S → List ProgramRun → S → Type 0) (was now : S) (r : Result Made HintFault) (count : Count)
-    (h : Hinting) (face : Face) (s : Scale) (g : ℕ)
-    → Walks Leads was now r count
+pub root_walked : {S : Type 0} (Leads : S → List ProgramRun → S → Type 0) (was now : S) (made : Made)
+    (r : Result (Unit {0}) HintFault) (count : Count) (h : Hinting) (face : Face) (s : Scale) (g : ℕ)
+    → Walks Leads was now made r count
     (logged_assembled h face s g (logged_component h face s g max_depth) None g (nothing_counted, []))
-    → GivesUnless Fails (λ (made : Made). (made, count.usage)) r (root_made h face s g)
+    → GivesUnless Fails (λ _. (made, count.usage)) r (root_made h face s g)
 unfolding root_made
-root_walked Leads was now (Ok made) count h face s g w =
+root_walked Leads was now made (Ok x) count h face s g w =
     rw (sym (plain_root h face s g max_depth None g (nothing_counted, [])) ∙ ap plain w.by.2) refl
-root_walked Leads was now (Err OutOfMemory) count h face s g w = tt
-root_walked Leads was now (Err e) count h face s g w =
+root_walked Leads was now made (Err OutOfMemory) count h face s g w = tt
+root_walked Leads was now made (Err e) count h face s g w =
     rw (sym (plain_root h face s g max_depth None g (nothing_counted, [])) ∙ ap plain w.by.2) refl
+
+-- and so its outline is
+pub outline_walked : {S : Type 0} (Leads : S → List ProgramRun → S → Type 0) (was now : S) (made : Made)
+    (r : Result (Unit {0}) HintFault) (count : Count) (h : Hinting) (face : Face) (ppem g : ℕ)
+    → Walks Leads was now made r count (logged_assembled h face (scale_of face ppem) g
+    (logged_component h face (scale_of face ppem) g max_depth) None g (nothing_counted, []))
+    → GivesUnless Fails (λ _. moved_outline_of made count.usage) r (outline_with h face ppem g)
+unfolding outline_with
+outline_walked Leads was now made (Ok x) count h face ppem g w =
+    rw (root_walked Leads was now made (Ok x) count h face (scale_of face ppem) g w) refl
+outline_walked Leads was now made (Err OutOfMemory) count h face ppem g w = tt
+outline_walked Leads was now made (Err e) count h face ppem g w =
+    rw (root_walked Leads was now made (Err e) count h face (scale_of face ppem) g w) refl

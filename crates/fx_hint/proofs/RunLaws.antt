@@ -370,18 +370,19 @@ module _ (h : Hinting) (face : Face) (s : Scale) (root : ℕ) where
 
 -- ---- what a hinter has run
 
-pub stops_here : {S A : Type 0} (Leads : S → List ProgramRun → S → Type 0) (was now : S) (e : HintFault) (r : Result A HintFault)
-    (runs : List ProgramRun) (count : Count) (due : LoggedOutcome) → Leads was runs now → AreFirst runs (runs_in due)
-    → Fails e r → ((d : HintFault) → r ≡ Err d → due ≡ Err (d, runs)) → Walks Leads was now (Err e) count due
-stops_here Leads was now OutOfMemory r runs count due l a f h = record { by = (runs, l, a) }
-stops_here Leads was now e r runs count due l a f h = record { by = (runs, l, h e f) }
+pub stops_here : {S A : Type 0} (Leads : S → List ProgramRun → S → Type 0) (was now : S) (made : Made) (e : HintFault)
+    (r : Result A HintFault) (runs : List ProgramRun) (count : Count) (due : LoggedOutcome) → Leads was runs now
+    → AreFirst runs (runs_in due) → Fails e r → ((d : HintFault) → r ≡ Err d → due ≡ Err (d, runs))
+    → Walks Leads was now made (Err e) count due
+stops_here Leads was now made OutOfMemory r runs count due l a f h = record { by = (runs, l, a) }
+stops_here Leads was now made e r runs count due l a f h = record { by = (runs, l, h e f) }
 
 pub stops_on : {S A : Type 0} (Leads : S → List ProgramRun → S → Type 0)
     (then : (x y z : S) (some more : List ProgramRun) → Leads x some y → Leads y more z → Leads x (some ++ more) z)
-    (was mid now : S) (e : HintFault) (r : Result A HintFault) (runs more : List ProgramRun) (count : Count) (due : LoggedOutcome)
-    → Leads was runs mid → StopsAfter Leads mid now e more → AreFirst (runs ++ more) (runs_in due)
-    → Fails e r → ((d : HintFault) → r ≡ Err d → due ≡ Err (d, runs ++ more)) → Walks Leads was now (Err e) count due
-stops_on Leads then was mid now OutOfMemory r runs more count due l s a f h = record {
+    (was mid now : S) (made : Made) (e : HintFault) (r : Result A HintFault) (runs more : List ProgramRun) (count : Count)
+    (due : LoggedOutcome) → Leads was runs mid → StopsAfter Leads mid now e more → AreFirst (runs ++ more) (runs_in due)
+    → Fails e r → ((d : HintFault) → r ≡ Err d → due ≡ Err (d, runs ++ more)) → Walks Leads was now made (Err e) count due
+stops_on Leads then was mid now made OutOfMemory r runs more count due l s a f h = record {
   by = (
     runs ++ s.0,
     then was mid now runs s.0 l s.2,
@@ -389,7 +390,7 @@ stops_on Leads then was mid now OutOfMemory r runs more count due l s a f h = re
         (s.1.0, append_assoc runs s.0 s.1.0 ∙ ap (λ (t : List ProgramRun). runs ++ t) s.1.1) a,
   );
 }
-stops_on Leads then was mid now e r runs more count due l s a f h =
+stops_on Leads then was mid now made e r runs more count due l s a f h =
     record { by = (runs ++ more, then was mid now runs more l s, h e f) }
 
 -- ---- a glyph that is begun
@@ -446,19 +447,21 @@ recalls Leads x r h face s root component g count n one =
 -- no program, and then a walk
 pub none_then : {S : Type 0} (Leads : S → List ProgramRun → S → Type 0)
     (then : (x y z : S) (some more : List ProgramRun) → Leads x some y → Leads y more z → Leads x (some ++ more) z)
-    (was mid now : S) (r : Result Made HintFault) (count : Count) (due : LoggedOutcome) → Leads was [] mid
-    → Walks Leads mid now r count due → Walks Leads was now r count due
-none_then Leads then was mid now (Ok x) count due n w = record { by = (w.by.0, then was mid now [] w.by.0 n w.by.1, w.by.2) }
-none_then Leads then was mid now (Err OutOfMemory) count due n w =
+    (was mid now : S) (made : Made) (r : Result (Unit {0}) HintFault) (count : Count) (due : LoggedOutcome) → Leads was [] mid
+    → Walks Leads mid now made r count due → Walks Leads was now made r count due
+none_then Leads then was mid now made (Ok x) count due n w = record { by = (w.by.0, then was mid now [] w.by.0 n w.by.1, w.by.2) }
+none_then Leads then was mid now made (Err OutOfMemory) count due n w =
     record { by = (w.by.0, then was mid now [] w.by.0 n w.by.1, w.by.2) }
-none_then Leads then was mid now (Err e) count due n w = record { by = (w.by.0, then was mid now [] w.by.0 n w.by.1, w.by.2) }
+none_then Leads then was mid now made (Err e) count due n w =
+    record { by = (w.by.0, then was mid now [] w.by.0 n w.by.1, w.by.2) }
 
 -- what a walk has run
-pub walk_leads : {S : Type 0} (Leads : S → List ProgramRun → S → Type 0) (was now : S) (r : Result Made HintFault) (count : Count)
-    (due : LoggedOutcome) → Walks Leads was now r count due → HasRun Leads was now r (runs_in due)
-walk_leads Leads was now (Ok made) count due w = rw w.by.2 w.by.1
-walk_leads Leads was now (Err OutOfMemory) count due w = (w.by.0, w.by.2, w.by.1)
-walk_leads Leads was now (Err e) count due w = rw w.by.2 w.by.1
+pub walk_leads : {S : Type 0} (Leads : S → List ProgramRun → S → Type 0) (was now : S) (made : Made)
+    (r : Result (Unit {0}) HintFault) (count : Count) (due : LoggedOutcome) → Walks Leads was now made r count due
+    → HasRun Leads was now r (runs_in due)
+walk_leads Leads was now made (Ok x) count due w = rw w.by.2 w.by.1
+walk_leads Leads was now made (Err OutOfMemory) count due w = (w.by.0, w.by.2, w.by.1)
+walk_leads Leads was now made (Err e) count due w = rw w.by.2 w.by.1
 
 pub stops_started : {S : Type 0} (Leads : S → List ProgramRun → S → Type 0) (was now : S) (e : HintFault) (run : ProgramRun)
     → Leads was (started_by e run) now → StopsAfter Leads was now e (run ∷ [])

@@ -9,18 +9,19 @@ ghost use Rattle.fx_scale.specs.Scaling.{scale_of};
 ghost use Rattle.fx_hint.specs.Runs.{HasRun, runs_of};
 ghost use Rattle.fx_hint.specs.Machines.{hinting_with, IfMachine, IsOf, KnowsSame};
 
+use crate::count::Count;
 use crate::fault::HintFault;
 use crate::glyph_outline::GlyphOutline;
 use crate::hinter::{Hinter, NoHinter};
 use crate::made::Made;
-use crate::spare::Spare;
+use crate::spare::{Spare, no_outline};
 use crate::walk::Walk;
 use fx_fixed::{F26, Ppem};
 use fx_machine::{Machine, Usage};
 use fx_outline::{Outline, OutlinePoint};
 use fx_scale::Scale;
 use fx_sfnt::Font;
-use fx_zone::Point;
+use fx_zone::{Point, Zone};
 use std::alloc::{AllocError, Global};
 use std::mem;
 
@@ -75,7 +76,7 @@ pub fn outline_with<H: Hinter>(
 }
 
 /// The same outline, in lists that the caller gives. The list of its points before they were moved is left there for the next one.
-#[tactic(auto, unfolding(crate::specs::Outlines::outline_with))]
+#[tactic(auto, unfolding(crate::specs::Outlines::outline_with, crate::specs::Runs::runs_of))]
 pub fn outline_in<H: Hinter>(
     alloc: Global,
     spare: &mut Spare,
@@ -98,52 +99,55 @@ pub fn outline_in<H: Hinter>(
         scale: &scale,
         root: g,
     };
-    let zone = spare.take_zone(alloc);
-    let (made, usage) = walk.root_made(hinter, zone, &mut spare.component)?;
-    let outline = moved_outline(alloc, spare, made, usage)?;
+    let mut count = Count {
+        records: 0,
+        points: 0,
+        usage: Usage::none(),
+    };
+    walk.assembled(hinter, &mut count, &mut spare.root, &mut spare.component)?;
+    let lists = mem::replace(&mut spare.outline, no_outline(alloc));
+    let outline = moved_outline(alloc, &mut spare.root, lists, count.usage)?;
     Ok(outline)
 }
 
-/// The outline moved, so that its first phantom point lies at x = 0, in spare lists. The list of the points as they were is left.
+/// The outline of the root, moved so that its first phantom point lies at x = 0, in the lists of one that is done with. The root
+/// keeps its points as they were, and gets a list for contours.
 #[tactic(auto, unfolding(crate::specs::Outlines::moved_outline_of))]
 fn moved_outline(
     alloc: Global,
-    spare: &mut Spare,
-    made: Made,
+    root: &mut Made,
+    lists: Outline,
     usage: Usage,
 ) -> Result<GlyphOutline, AllocError>
-    requires { IsSound made }
-    ensures { IfOk result (λ o. view_of_glyph_outline o ≡ moved_outline_of made usage) }
+    requires { IsSound root.old }
+    ensures { IfOk result (λ o. view_of_glyph_outline o ≡ moved_outline_of root.old usage) }
 {
-    let Made {
-        zone,
-        phantoms,
-        wish,
-    } = made;
-    let origin = phantoms.origin.cur.x;
-    let buffer = mem::replace(&mut spare.points, Vec::new(alloc));
-    let points = moved_points(buffer, zone.points(), origin)?;
-    let advance = phantoms.advance.cur.x.minus(origin);
-    let (unmoved, ends) = zone.into_lists();
-    spare.zone = unmoved;
+    let origin = root.phantoms.origin.cur.x;
+    let advance = root.phantoms.advance.cur.x.minus(origin);
+    let Outline { points, ends } = lists;
+    let points = moved_points(points, root.zone.points(), origin)?;
+    let mut none = ends;
+    none.clear();
+    let (unmoved, ends) = mem::replace(&mut root.zone, Zone::new(alloc)).into_lists();
+    root.zone = Zone::of(unmoved, none);
     let outline = Outline { points, ends };
     Ok(GlyphOutline {
         outline,
         advance,
         usage,
-        wish,
+        wish: root.wish,
     })
 }
 
-/// The points moved, in their order, in a buffer whose points are lost.
+/// The points, moved so that the origin lies at x = 0, in their order, in a list whose points are lost.
 fn moved_points(
-    buffer: Vec<OutlinePoint>,
+    list: Vec<OutlinePoint>,
     points: &[Point],
     origin: F26,
 ) -> Result<Vec<OutlinePoint>, AllocError>
     ensures { IfOk result (λ v. v.items ≡ map (moved_point origin) points.now) }
 {
-    let mut moved = buffer;
+    let mut moved = list;
     moved.resize(points.len(), BLANK)?;
     // There are as many moved points as points, and those before `number` are these points moved.
     'points: for number in 0..points.len() {

@@ -8,13 +8,13 @@ ghost use Rattle.fx_zone.specs.Figures.{empty_figure};
 ghost use Rattle.fx_scale.specs.Phantoms.{phantoms_of};
 ghost use Rattle.fx_hint.specs.Faults.{Fails};
 ghost use Rattle.fx_hint.specs.declared.fault.HintFault.{HintFault as TheFault};
-ghost use Rattle.fx_hint.specs.Outlines.{scaled_simple, simple_made, run_on, root_made};
-ghost use Rattle.fx_hint.specs.Runs.{HasRun, logged_assembled, logged_component, runs_of};
+ghost use Rattle.fx_hint.specs.Outlines.{scaled_simple, simple_made, run_on};
+ghost use Rattle.fx_hint.specs.Runs.{HasRun, logged_assembled, logged_component};
 ghost use Rattle.fx_outline.specs.Limits.{max_points};
 ghost use Rattle.fx_hint.specs.Limits.{max_components, max_depth};
 ghost use Rattle.fx_hint.specs.Parts.{with_part};
 ghost use Rattle.fx_hint.specs.inner.RunSteps.{begun_runs, begun_by_runs, begun_component_runs, logged_left, Walks};
-ghost use Rattle.fx_hint.specs.inner.Steps.{Assembled, step_of, CountsPoints, begun, begun_by, begun_component, counted_made};
+ghost use Rattle.fx_hint.specs.inner.Steps.{Assembled, step_of, CountsPoints, begun, begun_by, begun_component, counted_made, opened};
 
 use crate::below::{Below, OpenComposite, Waiting};
 use crate::component::ComponentOf;
@@ -29,7 +29,6 @@ use fx_glyf::{Composite, Glyph, Simple, read};
 use fx_machine::Usage;
 use fx_scale::{PhantomPoints, Scale, fill_zone};
 use fx_sfnt::{Font, Metrics};
-use fx_zone::Zone;
 use std::alloc::Global;
 use std::mem;
 
@@ -261,61 +260,59 @@ impl<'w, 'a> Walk<'w, 'a> {
     {
         let Waiting { part, composite } = waiting;
         let mut composite = composite;
+        let mut made = made;
         let g = composite.g;
-        add_part(&mut composite.base, self.scale, hinted, g, &part, made)?;
+        add_part(&mut composite.base, self.scale, hinted, g, &part, &mut made)?;
         Ok(composite)
     }
 
-    /// The root assembled, in the lists of a glyph that is written over. Components are made in the lists of a zone, whose points
-    /// are lost.
-    fn assembled<H: Hinter>(
+    /// The root assembled in `made`. Components are assembled in `component`. What both held before is lost.
+    #[inline(always)]
+    pub fn assembled<H: Hinter>(
         &self,
         hinter: &mut H,
         count: &mut Count,
-        blank: Made,
-        lists: &mut Zone,
-    ) -> Result<Made, HintFault>
+        made: &mut Made,
+        component: &mut Made,
+    ) -> Result<(), HintFault>
         requires records { count.old.records ≤ max_components }
         requires points { count.old.points ≤ max_points }
         ensures known { H.known hinter.new ≡ H.known hinter.old }
         ensures kept { H.hinting hinter.new ≡ H.hinting hinter.old }
-        ensures walks { Walks H.Leads hinter.old hinter.new result count.new
+        ensures walks { Walks H.Leads hinter.old hinter.new made.new result count.new
             (logged_assembled (H.hinting hinter.old) self.now.font.now self.now.scale.now self.now.root
             (logged_component (H.hinting hinter.old) self.now.font.now self.now.scale.now self.now.root max_depth) None
             self.now.root (count.old, [])) }
     {
-        let mut made = blank;
-        match self.begun(hinter, None, self.root, count, &mut made)? {
-            None => Ok(made),
-            Some(glyph) => {
-                let open = OpenComposite::new(None, self.root, glyph, made);
-                self.closed(hinter, open, count, lists)
-            }
+        match self.begun(hinter, None, self.root, count, made)? {
+            None => Ok(()),
+            Some(glyph) => self.closed(hinter, glyph, count, made, component),
         }
     }
 
-    /// An open root assembled, step by step: the composites that wait for a component lie in a list, so that the walk is one loop.
-    /// Each component is made in the lists of a zone, and leaves lists there for the next one.
+    /// A root that is a composite assembled, step by step: the composites that wait for a component lie in a list, so that the walk
+    /// is one loop. `made` has its phantom points. Components are assembled in `component`.
     fn closed<H: Hinter>(
         &self,
         hinter: &mut H,
-        root: OpenComposite<'a>,
+        glyph: Composite<'a>,
         count: &mut Count,
-        lists: &mut Zone,
-    ) -> Result<Made, HintFault>
+        made: &mut Made,
+        component: &mut Made,
+    ) -> Result<(), HintFault>
         requires records { count.old.records ≤ max_components }
         requires points { count.old.points ≤ max_points }
-        requires counted { length root.base.zone.points ≤ count.old.points }
-        requires fresh { root.before ≡ 0 }
+        requires counted { length made.old.zone.points ≤ count.old.points }
         ensures known { H.known hinter.new ≡ H.known hinter.old }
         ensures kept { H.hinting hinter.new ≡ H.hinting hinter.old }
-        ensures walks { Walks H.Leads hinter.old hinter.new result count.new
-            (logged_left (H.hinting hinter.old) self.now.font.now self.now.scale.now self.now.root max_depth root.entry
-            (count.old, [])) }
+        ensures walks { Walks H.Leads hinter.old hinter.new made.new result count.new
+            (logged_left (H.hinting hinter.old) self.now.font.now self.now.scale.now self.now.root max_depth
+            (opened None self.now.root glyph.entry made.old) (count.old, [])) }
     {
         let on = hinter.is_on();
         let mut below = Below::new(self.alloc);
-        let mut open = root;
+        let base = mem::replace(made, Made::empty(self.alloc));
+        let mut open = OpenComposite::new(None, self.root, glyph, base);
         // What the root gives stays the same: what the innermost open composite gives with its components that are left, and then
         // each composite that waits, with what is assembled below it. The points of all these were counted, and so were the
         // components that they began.
@@ -323,23 +320,19 @@ impl<'w, 'a> Walk<'w, 'a> {
             match open.parts.next() {
                 Some(part) => {
                     let levels = levels_below(&below);
-                    let component = ComponentOf {
-                        composite: open.g,
-                        number: (open.before + 1) as u16,
-                    };
                     open.before += 1;
-                    let component = Some(component);
-                    let g = part.glyph;
-                    let zone = mem::replace(lists, Zone::new(self.alloc));
-                    let mut made = Made::in_zone(zone);
-                    match self.begun_component(hinter, levels, component, g, count, &mut made)? {
+                    let of = Some(ComponentOf {
+                        composite: open.g,
+                        number: open.before as u16,
+                    });
+                    match self.begun_component(hinter, levels, of, part.glyph, count, component)? {
                         None => {
                             let g = open.g;
-                            let left = add_part(&mut open.base, self.scale, on, g, &part, made)?;
-                            *lists = left;
+                            add_part(&mut open.base, self.scale, on, g, &part, component)?;
                         }
                         Some(glyph) => {
-                            let deeper = OpenComposite::new(component, g, glyph, made);
+                            let whole = mem::replace(component, Made::empty(self.alloc));
+                            let deeper = OpenComposite::new(of, part.glyph, glyph, whole);
                             below.push(Waiting {
                                 part,
                                 composite: open,
@@ -349,40 +342,17 @@ impl<'w, 'a> Walk<'w, 'a> {
                     }
                 }
                 None => {
-                    let (component, g) = (open.component, open.g);
                     let code = open.glyph.code();
-                    run_on(hinter, component, g, code, &mut open.base, count)?;
+                    run_on(hinter, open.component, open.g, code, &mut open.base, count)?;
                     match below.pop() {
-                        None => return Ok(open.base),
+                        None => {
+                            *made = open.base;
+                            return Ok(());
+                        }
                         Some(waiting) => open = self.joined(on, waiting, open.base)?,
                     }
                 }
             }
         }
-    }
-
-    /// The root assembled in the lists of a zone, and its components in those of another, whose points are lost; and what all
-    /// programs together used up.
-    #[tactic(auto, unfolding(crate::specs::Outlines::root_made, crate::specs::Runs::runs_of))]
-    pub fn root_made<H: Hinter>(
-        &self,
-        hinter: &mut H,
-        zone: Zone,
-        lists: &mut Zone,
-    ) -> Result<(Made, Usage), HintFault>
-        ensures known { H.known hinter.new ≡ H.known hinter.old }
-        ensures kept { H.hinting hinter.new ≡ H.hinting hinter.old }
-        ensures leads { HasRun H.Leads hinter.old hinter.new result
-            (runs_of (H.hinting hinter.old) self.now.font.now self.now.scale.now self.now.root) }
-        ensures value { GivesUnless Fails (λ r. (r.0, r.1)) result
-            (root_made (H.hinting hinter.old) self.now.font.now self.now.scale.now self.now.root) }
-    {
-        let mut count = Count {
-            records: 0,
-            points: 0,
-            usage: Usage::none(),
-        };
-        let made = self.assembled(hinter, &mut count, Made::in_zone(zone), lists)?;
-        Ok((made, count.usage))
     }
 }

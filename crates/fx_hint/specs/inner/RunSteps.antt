@@ -96,15 +96,16 @@ logged_rest_of h face s root levels (w ∷ ws) r =
 abbrev pub HasRunSome : {S : Type 0} → (S → List ProgramRun → S → Type 0) → S → S → (List ProgramRun → Type 0) → Type 0
 HasRunSome Leads was now Holds = (runs : List ProgramRun) × Leads was runs now × Holds runs
 
--- a walk has come to `now` from `was` and returns this: what is due, by the programs that are due; if memory ran out, by the first
--- of them
-abbrev pub WalksBy : {S : Type 0} → (S → List ProgramRun → S → Type 0) → S → S → Result Made HintFault → Count → LoggedOutcome
-    → Type 0
-WalksBy Leads was now (Ok made) count due = (runs : List ProgramRun) × Leads was runs now × (due ≡ Ok (made, (count, runs)))
-WalksBy Leads was now (Err OutOfMemory) count due = (some : List ProgramRun) × Leads was some now × AreFirst some (runs_in due)
-WalksBy Leads was now (Err e) count due = (runs : List ProgramRun) × Leads was runs now × (due ≡ Err (e, runs))
+-- a walk has come to `now` from `was`, has made this and returns this: what is due, by the programs that are due; if memory ran
+-- out, by the first of them
+abbrev pub WalksBy : {S : Type 0} → (S → List ProgramRun → S → Type 0) → S → S → Made → Result (Unit {0}) HintFault → Count
+    → LoggedOutcome → Type 0
+WalksBy Leads was now made (Ok _) count due = (runs : List ProgramRun) × Leads was runs now × (due ≡ Ok (made, (count, runs)))
+WalksBy Leads was now made (Err OutOfMemory) count due =
+    (some : List ProgramRun) × Leads was some now × AreFirst some (runs_in due)
+WalksBy Leads was now made (Err e) count due = (runs : List ProgramRun) × Leads was runs now × (due ≡ Err (e, runs))
 
 -- the same as a record, so that a proof finds its arguments
-pub record Walks {S : Type 0} (Leads : S → List ProgramRun → S → Type 0) (was now : S) (result : Result Made HintFault)
-    (count : Count) (due : LoggedOutcome) : Type 0 where
-  pub by : WalksBy Leads was now result count due
+pub record Walks {S : Type 0} (Leads : S → List ProgramRun → S → Type 0) (was now : S) (made : Made)
+    (result : Result (Unit {0}) HintFault) (count : Count) (due : LoggedOutcome) : Type 0 where
+  pub by : WalksBy Leads was now made result count due

@@ -8,7 +8,7 @@ pub returns-in_err-begun-clause-walks : goal.returns-in_err-begun-clause-walks
 returns-in_err-begun-clause-walks g c =
     let p = err_from_is_err_and c.from_residual.result c.from_residual.ensures.1 in
     let f = first_of_root _ _ _ _ _ _ _ _ _ (begun_is _ _ _ _ None _ _ [] _ refl) in
-    rw (p.1, p.2) (stops_on g.H.Hinter.Leads g.met.H.Hinter.leads_then _ _ _ c.in_err-begun.field-0.0 _ [] _ _ _
+    rw (p.1, p.2) (stops_on g.H.Hinter.Leads g.met.H.Hinter.leads_then _ _ _ _ c.in_err-begun.field-0.0 _ [] _ _ _
     (g.met.H.Hinter.leads_same _) c.in_err-begun.ensures.leads f c.in_err-begun.ensures.value
     (λ e b. not_begun _ _ _ _ _ _ _ _ (begun_is _ _ _ _ None _ _ [] _ b)))
 
@@ -22,5 +22,5 @@ returns-in-Some-clause-walks g c =
     let v = rw c.in-Some.is at c.in_ok-begun.ensures.value in
     let o = opened _ _ _ _ _ _ _ _ _ v in
     let n = rw o.0 at c.in_ok-begun.ensures.leads in
-    rw o.1 (none_then g.H.Hinter.Leads g.met.H.Hinter.leads_then _ _ _ _ _ _ n
-    (rw (c.in_ok-begun.ensures.kept, c.new-open.ensures) at c.closed.ensures.walks))
+    rw o.1 (none_then g.H.Hinter.Leads g.met.H.Hinter.leads_then _ _ _ _ _ _ _ n
+    (rw c.in_ok-begun.ensures.kept at c.closed.ensures.walks))

@@ -1,7 +1,8 @@
-use Rattle.std.proofs.Common.{rules, arith, refl, [], ◌∷◌, length, ap, length-append}
+use Rattle.std.proofs.Common.{rules, arith, refl, None, [], ◌∷◌, length, ap, length-append}
 use Rattle.std.proofs.lemmas.Result.{err_from_is_err_and}
 use Rattle.fx_fixed.proofs.Chain.{map_ok_ok}
 use Rattle.fx_hint.specs.declared.below.OpenComposite.{OpenComposite}
+use Rattle.fx_hint.specs.inner.Steps.{opened}
 use Rattle.fx_hint.specs.declared.below.Waiting.{Waiting}
 use Rattle.fx_hint.proofs.Steps.{with_next, opens, joins, not_joined, runs, not_run, descends, not_descended, fills, not_filled, done}
 use Rattle.fx_hint.proofs.RunLaws.{logged_is, run_is, first_of_begun, first_of_closed, stops_here, stops_on}
@@ -12,11 +13,18 @@ pub steps-init : goal.steps-init
 steps-init g c = record {
   known = search rules;
   kept = search rules;
-  ran = ([], g.met.H.Hinter.leads_same _, opens _ _ _ _ _ c.args.root (c.args.count.now, []) c.new-below.ensures);
+  ran = (
+    [],
+    g.met.H.Hinter.leads_same _,
+    rw (c.new-open.ensures, c.replace-base.ensures.value) (opens _ _ _ _ _
+        (opened None c.args.self.now.root c.args.glyph c.args.made.now) (c.args.count.now, []) c.new-below.ensures),
+  );
   deep = rw c.new-below.ensures (omega arith);
   few = c.requires.records;
-  numbered = let n = c.requires.fresh in rw c.new-below.ensures (omega (arith, n));
-  counted = let n = c.requires.counted in rw c.new-below.ensures (omega (arith, n));
+  numbered = rw (c.new-below.ensures, c.new-open.ensures) (omega arith);
+  counted =
+      let n = c.requires.counted in
+      rw (c.new-below.ensures, c.new-open.ensures, c.replace-base.ensures.value) (omega (arith, n));
   points = c.requires.points;
 }
 
@@ -42,16 +50,16 @@ returns-in_err-begun_component-in-Some-clause-walks g c =
     let f = first_of_begun _ _ _ _ _ _ c.steps.open c.in-Some.part c.next.new.self _ _ _ _
     c.steps.invariant.ran.2 c.in-Some.ensures.steps c.levels_below-levels.ensures
     (logged_is _ _ _ _ _ _ _ _ c.steps.invariant.ran.0 _ refl) in
-    rw (p.1, p.2) (stops_on g.H.Hinter.Leads g.met.H.Hinter.leads_then _ _ _ c.in_err-begun_component-in-Some.field-0.0 _
+    rw (p.1, p.2) (stops_on g.H.Hinter.Leads g.met.H.Hinter.leads_then _ _ _ _ c.in_err-begun_component-in-Some.field-0.0 _
     c.steps.invariant.ran.0 _ _ _ c.steps.invariant.ran.1 led f v
     (λ e b. not_descended _ _ _ _ _ _ c.steps.open c.in-Some.part c.next.new.self _ _ _
     c.steps.invariant.ran.2 c.in-Some.ensures.steps c.levels_below-levels.ensures
     (logged_is _ _ _ _ _ _ _ _ c.steps.invariant.ran.0 _ b)))
 
-pub steps-preserved-in-None-2 : goal.steps-preserved-in-None-2
-steps-preserved-in-None-2 g c =
+pub steps-preserved-in-Continue-branch-3 : goal.steps-preserved-in-Continue-branch-3
+steps-preserved-in-Continue-branch-3 g c =
     let v = rw (c.steps.invariant.kept, c.in-None-2.is) at c.in_ok-begun_component-in-Some.ensures.value in
-    let a = rw c.is_on-on.ensures at c.in_ok-left-in-None-2.ensures in
+    let a = rw c.is_on-on.ensures at c.in_ok-add_part-in-None-2.ensures in
     let m = c.steps.invariant.counted in
     let n = c.in_ok-begun_component-in-Some.ensures.points in
     let s = part_adds_points _ _ _ _ _ _ _ a in
@@ -75,18 +83,18 @@ steps-preserved-in-None-2 g c =
       points = n.1;
     }
 
-pub returns-in_err-left-in-None-2-clause-walks : goal.returns-in_err-left-in-None-2-clause-walks
-returns-in_err-left-in-None-2-clause-walks g c =
-    let p = err_from_is_err_and c.from_residual-in_err-left-in-None-2.result
-    c.from_residual-in_err-left-in-None-2.ensures.1 in
+pub returns-in_err-add_part-in-None-2-clause-walks : goal.returns-in_err-add_part-in-None-2-clause-walks
+returns-in_err-add_part-in-None-2-clause-walks g c =
+    let p = err_from_is_err_and c.from_residual-in_err-add_part-in-None-2.result
+    c.from_residual-in_err-add_part-in-None-2.ensures.1 in
     let v = rw (c.steps.invariant.kept, c.in-None-2.is) at c.in_ok-begun_component-in-Some.ensures.value in
-    let a = rw c.is_on-on.ensures at c.in_err-left-in-None-2.ensures in
+    let a = rw c.is_on-on.ensures at c.in_err-add_part-in-None-2.ensures in
     let led = rw c.steps.invariant.kept at c.in_ok-begun_component-in-Some.ensures.leads in
     let lv = logged_is _ _ _ _ _ _ _ _ c.steps.invariant.ran.0 _ v in
     let f = first_of_begun _ _ _ _ _ _ c.steps.open c.in-Some.part c.next.new.self _ _ _ _
     c.steps.invariant.ran.2 c.in-Some.ensures.steps c.levels_below-levels.ensures
     (logged_is _ _ _ _ _ _ _ _ c.steps.invariant.ran.0 _ refl) in
-    rw (p.1, p.2) (stops_here g.H.Hinter.Leads _ _ c.in_err-left-in-None-2.field-0.0 _ _ _ _
+    rw (p.1, p.2) (stops_here g.H.Hinter.Leads _ _ _ c.in_err-add_part-in-None-2.field-0.0 _ _ _ _
     (g.met.H.Hinter.leads_then _ _ _ _ _ c.steps.invariant.ran.1 led) f a
     (λ e b. not_filled _ _ _ _ _ _ c.steps.open c.in-Some.part c.next.new.self _ _ _ _ e
     c.steps.invariant.ran.2 c.in-Some.ensures.steps c.levels_below-levels.ensures lv b))
@@ -103,7 +111,7 @@ steps-preserved-in-Some-2 g c =
     let s = points_with_one_more c.steps.below w in
     let b = begun_with_one_more c.steps.below w in
     let lv = logged_is _ _ _ _ _ _ _ _ c.steps.invariant.ran.0 _ v in
-    rw c.new-deeper.ensures (record {
+    rw (c.new-deeper.ensures, c.replace-whole.ensures.value) (record {
       known = search rules;
       kept = search rules;
       ran = (
@@ -137,7 +145,7 @@ returns-in_err-run_on-in-None-clause-walks g c =
     let led = rw c.code-code.ensures.value at c.in_err-run_on-in-None.ensures.leads in
     let f = first_of_closed _ _ _ _ _ _ c.steps.open _ _ _ _ c.steps.invariant.ran.2 c.in-None.ensures.steps.0
     (run_is _ _ _ _ _ _ c.steps.invariant.ran.0 _ refl) in
-    rw (p.1, p.2) (stops_on g.H.Hinter.Leads g.met.H.Hinter.leads_then _ _ _ c.in_err-run_on-in-None.field-0.0 _
+    rw (p.1, p.2) (stops_on g.H.Hinter.Leads g.met.H.Hinter.leads_then _ _ _ _ c.in_err-run_on-in-None.field-0.0 _
     c.steps.invariant.ran.0 _ _ _ c.steps.invariant.ran.1 led f v
     (λ e b. not_run _ _ _ _ _ _ c.steps.open _ _ _ c.steps.invariant.ran.2 c.in-None.ensures.steps.0
     (run_is _ _ _ _ _ _ c.steps.invariant.ran.0 _ b)))
@@ -194,6 +202,6 @@ returns-in_err-open-in-Some-pop-clause-walks g c =
     let j = rw c.is_on-on.ensures at c.in_err-open-in-Some-pop.ensures in
     let f = first_of_closed _ _ _ _ _ _ c.steps.open _ _ _ _ c.steps.invariant.ran.2 c.in-None.ensures.steps.0
     (run_is _ _ _ _ _ _ c.steps.invariant.ran.0 _ refl) in
-    rw (p.1, p.2) (stops_here g.H.Hinter.Leads _ _ c.in_err-open-in-Some-pop.field-0.0 _ _ _ _
+    rw (p.1, p.2) (stops_here g.H.Hinter.Leads _ _ _ c.in_err-open-in-Some-pop.field-0.0 _ _ _ _
     (g.met.H.Hinter.leads_then _ _ _ _ _ c.steps.invariant.ran.1 led) f j
     (λ e b. not_joined _ _ _ _ _ _ _ _ _ _ e ran c.in-Some-pop.ensures b))

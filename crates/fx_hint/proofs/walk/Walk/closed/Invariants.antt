@@ -1,6 +1,7 @@
-use Rattle.std.proofs.Common.{◌≡◌, ◌+◌, ◌-◌, ◌*◌, ◌≤◌, length, []}
+use Rattle.std.proofs.Common.{◌≡◌, ◌+◌, ◌-◌, ◌*◌, ◌≤◌, length, [], None}
 use Rattle.fx_outline.specs.Limits.{max_points}
 use Rattle.fx_hint.specs.Limits.{max_components, max_depth}
+use Rattle.fx_hint.specs.inner.Steps.{opened}
 use Rattle.fx_hint.specs.inner.RunSteps.{HasRunSome, logged_left, logged_rest_of}
 use Rattle.fx_hint.proofs.Totals.{points_waiting, begun_waiting}
 use Rattle.fx_hint.proofs.walk.Walk.closed.Given as goal
@@ -14,8 +15,8 @@ invariant-steps g l = record {
       (λ runs. logged_rest_of (g.H.Hinter.hinting l.fn.hinter) l.self.font.now l.self.scale.now l.self.root max_depth l.below
       (logged_left (g.H.Hinter.hinting l.fn.hinter) l.self.font.now l.self.scale.now l.self.root (max_depth - length l.below)
       l.open (l.count, runs))
-      ≡ logged_left (g.H.Hinter.hinting l.fn.hinter) l.self.font.now l.self.scale.now l.self.root max_depth l.fn.root
-      (l.fn.count, []));
+      ≡ logged_left (g.H.Hinter.hinting l.fn.hinter) l.self.font.now l.self.scale.now l.self.root max_depth
+      (opened None l.self.root l.fn.glyph l.fn.made) (l.fn.count, []));
   deep : length l.below ≤ max_depth;
   few : l.count.records ≤ max_components;
   numbered : begun_waiting l.below + l.open.before ≤ l.count.records;
