@@ -17,6 +17,7 @@ use Rattle.fx_rows.specs.inner.Cuts.{IsAdded}
 use Rattle.fx_rows.proofs.Counted.{Added}
 use Rattle.fx_rows.proofs.Parts.{missed}
 use Rattle.fx_rows.specs.inner.Bands.{stride, turns_at, mark_at, IsKept, IsRowAdded, IsBandAdded, IsCounted}
+use Rattle.fx_rows.specs.inner.Telling.{with_first}
 
 -- ---- numbers of different rows
 next_row : (r s : ℕ) → (r + 1) * s ≡ r * s + s
@@ -223,8 +224,25 @@ past_marks ss f b (suc k) e c h =
     ∙ last_added b.diff.items k one (sym (ap (λ (n : ℕ). before n b.diff.items) t) ∙ two)
 
 -- ---- counts of tests
-pub tests_more : (p c u v : ℕ) → u ≤ v → p * (c * u) + p * (c * (v - u)) ≡ p * (c * v)
+tests_more : (p c u v : ℕ) → u ≤ v → p * (c * u) + p * (c * (v - u)) ≡ p * (c * v)
 tests_more p c u v h = grind (arith, signed_linear, h)
+
+pub with_later : (r n : ℕ) → 0 < r → with_first r n ≡ 0
+with_later zero n h = absurd (omega (arith, h))
+with_later (suc r) n h = refl
+
+-- the tests of the rows before u and of those before v, and with the first row n more for each piece
+pub bands_more : {X : Type 0} (old now new c n u v : ℕ) (ps qs : List X) → ps ≡ qs → u < v
+    → now + length qs * with_first u n ≤ old + (length qs * (c * u) + length qs * n)
+    → new ≤ now + length ps * (c * (v - u) + with_first u n)
+    → new + length qs * with_first v n ≤ old + (length qs * (c * v) + length qs * n)
+bands_more old now new c n u v ps qs same some before more =
+    let p = length qs in
+    let none : p * with_first v n ≡ 0 = ap (λ x. p * x) (with_later v n (omega (arith, some))) ∙ omega arith in
+    let all = tests_more p c u v (omega (arith, some)) in
+    let sum : length ps * (c * (v - u) + with_first u n) ≡ p * (c * (v - u)) + p * with_first u n =
+    ap (λ xs. length xs * (c * (v - u) + with_first u n)) same ∙ omega arith in
+    omega (arith, none, all, sum, before, more)
 
 pub tests_fit : (p c u h d : ℕ) → u ≤ h → p * (c * u) ≤ p * h * (6 * d + c)
 tests_fit p c u h d l = grind (arith, signed_linear, l, mul-le-mul_left)

@@ -1,5 +1,5 @@
 -- The bits of a frame's notes that stay set, the room for them, and those of segments that some piece meets.
--- Serves `note`, `note_across`, `note_up` and `note_apart`.
+-- Serves `note`, `note_across` and `note_up`.
 use Rattle.std.proofs.Common.{◌≡◌, ◌⊎◌, inl, inr, ◌∙◌, sym, ap, subst, ℕ, ◌+◌, ◌*◌, ◌<◌, ◌≤◌, pos, ◌+ℤ◌, ◌-ℤ◌, List, arith}
 use Rattle.fx_fixed.proofs.Order.{below_same_above}
 use Rattle.std.proofs.Math.Nat.{mul-le-mul_right}
@@ -10,8 +10,8 @@ use Rattle.fx_winding.specs.Meets.{IsMet}
 use Rattle.fx_winding.specs.Notes.{pixel_number, words_noted, IsNotedAcross, IsNotedUp}
 use Rattle.fx_winding.specs.Winding.{Span, IsOn, centre}
 use Rattle.fx_rows.specs.inner.Lines.{left_at, right_at, AreOnly, IsAcrossBit, IsMetTo, IsMetUnlessOn, IsRowsBit, IsUpBit}
-use Rattle.fx_rows.specs.inner.Telling.{Way, across_row, up_to_row, IsNotedBy, IsNotedUnless, IsAmong, IsMetByOne, IsMetUpByOne}
-use Rattle.fx_rows.specs.inner.Telling.{AreMetAcross, AreMetUp}
+use Rattle.fx_rows.specs.inner.Telling.{Way, across_row, up_to_row, IsNotedBy, IsAmong, IsMetByOne, IsMetUpByOne, AreMetAcross, AreMetUp}
+use Rattle.fx_rows.specs.inner.Telling.{BitsSay, Lasts, Saying, of_frame, of_pieces, noted}
 use Rattle.fx_rows.specs.inner.Told.{AreKept}
 use Rattle.fx_rows.proofs.Turned.{on_turned}
 
@@ -24,12 +24,8 @@ up_kept s f r a b kept h k l m = kept (pixel_number f r k) (h k l m)
 
 pub noted_kept : (f : Frame) (a b u v : List ℕ) (s : Span) (w : Way) (r : ℕ) → AreKept a b → AreKept u v → IsNotedBy f a u s w r
     → IsNotedBy f b v s w r
-noted_kept f a b u v s across_row r across up h = across_kept s f r a b across h
-noted_kept f a b u v s up_to_row r across up h = up_kept s f r u v up h
-
-pub unless_kept : (B : Way → Type 0) (s : Span) (f : Frame) (a b u v : List ℕ) → AreKept a b → AreKept u v
-    → IsNotedUnless B s f a u → IsNotedUnless B s f b v
-unless_kept B s f a b u v across up h = grind (arith, across, up, h, across_kept, up_kept)
+noted_kept f a b u v s across_row r across up h = λ l. across_kept s f r a b across (h l)
+noted_kept f a b u v s up_to_row r across up h = λ l. up_kept s f r u v up (h l)
 
 -- ---- the bits of a row lie in its words
 pub row_room : (r h width row n : ℕ) → r < h → row ≡ 32 * words_noted width → n ≡ h * words_noted width → r * row + width < 32 * n
@@ -96,44 +92,35 @@ some_up s ss f a b among only old r k w set = by (only (pixel_number f r k) set)
           },
         )
 
--- the same of the columns of a frame, seen as rows of the exchanged piece
-pub some_columns : (s : Span) (ss : List Span) (f g : Frame) (a b : List ℕ) → g.left ≡ f.bottom → g.bottom ≡ f.left
-    → g.width ≡ f.height → g.height ≡ f.width → IsAmong s ss
-    → AreOnly (IsRowsBit (turned_span s) g 1 (32 * words_noted f.width)) a b → AreMetUp f a ss → AreMetUp f b ss
-some_columns s ss f g a b el eb ew eh among only old r k w set = by (only (pixel_number f r k) set)
-  where
-    by : (word_bit a (pixel_number f r k) ≡ 1) ⊎ IsRowsBit (turned_span s) g 1 (32 * words_noted f.width) (pixel_number f r k)
-        → (k < f.width) × IsMetUpByOne ss f r k
-    by (inl was) = old r k w was
-    by (inr new) =
-        let line = new.line in
-        let inside : new.r < f.width = subst (λ (n : ℕ). new.r < n) eh new.row in
-        let at = line.at in
-        let number : new.r * 1 + line.k * (32 * words_noted f.width) ≡ line.k * (32 * words_noted f.width) + new.r = omega arith in
-        let whole : r * (32 * words_noted f.width) + k ≡ line.k * (32 * words_noted f.width) + new.r = at ∙ number in
-        let place = same_cell (32 * words_noted f.width) r line.k k new.r w (omega (arith, inside)) whole in
-        let row = place.0 in
-        let column = place.1 in (
-          omega (arith, column, inside),
-          record {
-            piece = s;
-            among = among;
-            met = met new.r line.k row column line.met;
-          },
-        )
-      where
-        met : (j q : ℕ) → r ≡ q → k ≡ j
-            → (¬ (IsOn (left_at g (g.bottom +ℤ pos j) q) (turned_span s))
-            → ¬ (IsOn (right_at g (g.bottom +ℤ pos j) q) (turned_span s))
-            → IsMetTo (turned_span s) g (g.bottom +ℤ pos j) q) → IsMetUnlessOn s f r k
-        met j q row column h off off' = record {
-          met = subst (λ z. z) (λ i. IsMet (centre ((el i -ℤ pos 1) +ℤ pos (sym row i)) (eb i +ℤ pos (sym column i)))
-              (centre (el i +ℤ pos (sym row i)) (eb i +ℤ pos (sym column i))) (turned_span s))
-              (h (λ on. off (on_turned (centre (f.left +ℤ pos k) ((f.bottom -ℤ pos 1) +ℤ pos r)) s
-              (subst (λ z. z) (λ i. IsOn (centre ((el i -ℤ pos 1) +ℤ pos (sym row i)) (eb i +ℤ pos (sym column i)))
-              (turned_span s)) on)))
-              (λ on. off' (on_turned (centre (f.left +ℤ pos k) (f.bottom +ℤ pos r)) s
-              (subst (λ z. z) (λ i. IsOn (centre (el i +ℤ pos (sym row i)) (eb i +ℤ pos (sym column i))) (turned_span s)) on))));
-          off_lower = off;
-          off_upper = off';
-        }
+-- the bit of a segment of a column, seen as a row of the exchanged piece
+pub up_bit : (s : Span) (f g : Frame) (n : ℕ) → g.left ≡ f.bottom → g.bottom ≡ f.left → g.width ≡ f.height → g.height ≡ f.width
+    → IsRowsBit (turned_span s) g 1 (32 * words_noted f.width) n → IsUpBit s f n
+up_bit s f g n el eb ew eh new =
+    let line = new.line in
+    let at = line.at in record {
+      r = line.k;
+      k = new.r;
+      column = subst (λ (n : ℕ). new.r < n) eh new.row;
+      at = omega (arith, at);
+      met = λ off off'. record {
+        met = subst (λ z. z) (λ i. IsMet (centre ((el i -ℤ pos 1) +ℤ pos line.k) (eb i +ℤ pos new.r))
+            (centre (el i +ℤ pos line.k) (eb i +ℤ pos new.r)) (turned_span s))
+            (line.met (λ on. off (on_turned (centre (f.left +ℤ pos new.r) ((f.bottom -ℤ pos 1) +ℤ pos line.k)) s
+            (subst (λ z. z) (λ i. IsOn (centre ((el i -ℤ pos 1) +ℤ pos line.k) (eb i +ℤ pos new.r)) (turned_span s)) on)))
+            (λ on. off' (on_turned (centre (f.left +ℤ pos new.r) (f.bottom +ℤ pos line.k)) s
+            (subst (λ z. z) (λ i. IsOn (centre (el i +ℤ pos line.k) (eb i +ℤ pos new.r)) (turned_span s)) on))));
+        off_lower = off;
+        off_upper = off';
+      };
+    }
+
+-- ---- what is said after a piece is noted
+pub says_more : (A : Span → Way → Type 0) (s : Span) (f : Frame) (a b u v : List ℕ) → AreKept a b → AreOnly (IsAcrossBit s f) a b
+    → AreKept u v → AreOnly (IsUpBit s f) u v → (x : Saying) → Lasts s x → BitsSay A f a u x → BitsSay A f b v x
+says_more A s f a b u v kept only kept' only' (of_frame g) lasts old = old
+says_more A s f a b u v kept only kept' only' (of_pieces ss) among old =
+    record { rows = some_rows s ss f a b among only old.rows; columns = some_up s ss f u v among only' old.columns }
+says_more A s f a b u v kept only kept' only' (noted t w r) lasts old = (
+  noted_kept f a b u v t w r kept kept' old.0,
+  λ apart q. noted_kept f a b u v t w q kept kept' (old.1 apart q),
+)

@@ -1,6 +1,6 @@
 -- Rows between a piece's ends, told one by one, are all told (`added_met`), and the notes made of them are exact (`exact_of`).
 -- Serves the rows of a piece, and the pieces of a band.
-use Rattle.std.proofs.Common.{◌≡◌, ◌≢◌, ◌⊎◌, inl, inr, refl, sym, ap, ◌∙◌, subst, ℕ, ◌+◌, ◌-◌, ◌*◌, ◌<◌, ◌≤◌, ℤ, pos, ◌+ℤ◌, ◌-ℤ◌, ◌*ℤ◌}
+use Rattle.std.proofs.Common.{◌≡◌, ◌≢◌, ◌⊎◌, inl, inr, refl, sym, ap, ◌∙◌, subst, ℕ, zero, suc, ◌+◌, ◌-◌, ◌*◌, ◌<◌, ◌≤◌, ℤ, pos, ◌+ℤ◌, ◌-ℤ◌, ◌*ℤ◌}
 use Rattle.std.proofs.Common.{◌≤ℤ◌, ◌<ℤ◌, List, length, take, get_or, arith, Any}
 use Rattle.std.specs.List.{All}
 use Rattle.std.proofs.lemmas.Int.{ints}
@@ -31,7 +31,7 @@ use Rattle.fx_rows.specs.inner.Points.{IsInner, IsRise}
 use Rattle.fx_rows.specs.inner.Sides.{place_at}
 use Rattle.fx_rows.specs.inner.Told.{rise_value, IsEnd, IsEndOn}
 use Rattle.fx_rows.specs.inner.Telling.{AreMetBySome, IsAmong, IsRowTold, AreRowsTold, AreRowsAdded, IsPartOf, AreRowsNoted, AreNotedIn}
-use Rattle.fx_rows.specs.inner.Telling.{BitsSay, IsNoted, IsNotedUnless, Saying, noted, Way}
+use Rattle.fx_rows.specs.inner.Telling.{BitsSay, IsNotedBy, Saying, noted, Way, across_row, up_to_row, with_first}
 use Rattle.fx_rows.proofs.Banding.{band_none, band_three, band_missed}
 use Rattle.fx_rows.proofs.Stepping.{band_next}
 
@@ -216,34 +216,45 @@ met_in_frame s f g from to m n part a b c d is = record {
     at r l = height_of_part f g from to r part l
 
 -- ---- the pieces that are noted
--- no piece yet
-pub noted_start : (P : Saying → Type 0) (ss : List Span) (from to : ℕ) → AreNotedIn P (take 0 ss) from to
-noted_start P ss from to k d h = absurd (omega (arith, h))
+-- no piece yet, or no row
+pub noted_start : (P : Saying → Type 0) (ss : List Span) (to : ℕ) → AreNotedIn P (take 0 ss) to
+noted_start P ss to k d h = absurd (omega (arith, h))
+
+pub noted_none : (P : Saying → Type 0) (ss : List Span) → AreNotedIn P ss 0
+noted_none P ss k d h = record { across = λ r l. absurd (omega (arith, l)); up = λ l. absurd (omega (arith, l)) }
 
 -- what is noted stays so
-noted_also : (P Q : Saying → Type 0) (ss : List Span) (from to : ℕ)
-    → ((s : Span) (w : Way) (r : ℕ) → P (noted s w r) → Q (noted s w r)) → AreNotedIn P ss from to → AreNotedIn Q ss from to
-noted_also P Q ss from to kept h k d l = grind (arith, signed_linear, kept, h, k, d, l)
+pub rows_also : (P Q : Saying → Type 0) (s : Span) (to : ℕ)
+    → ((t : Span) (w : Way) (r : ℕ) → P (noted t w r) → Q (noted t w r)) → AreRowsNoted P s to → AreRowsNoted Q s to
+rows_also P Q s to kept h = record { across = λ r l. kept s _ r (h.across r l); up = λ o r l. kept s _ r (h.up o r l) }
 
 -- one more piece
-pub noted_more : (P Q : Saying → Type 0) (ss : List Span) (from to at : ℕ) (s : Span) → at < length ss
+pub noted_more : (P Q : Saying → Type 0) (ss : List Span) (to at : ℕ) (s : Span) → at < length ss
     → s ≡ get_or ss at s → ((t : Span) (w : Way) (r : ℕ) → P (noted t w r) → Q (noted t w r))
-    → AreNotedIn P (take at ss) from to → AreRowsNoted Q s from to → AreNotedIn Q (take (at + 1) ss) from to
-noted_more P Q ss from to at s l e kept h here =
-    All-more (λ t. AreRowsNoted Q t from to) ss at s l (noted_also P Q (take at ss) from to kept h)
-    (subst (λ t. AreRowsNoted Q t from to) e here)
+    → AreNotedIn P (take at ss) to → AreRowsNoted Q s to → AreNotedIn Q (take (at + 1) ss) to
+noted_more P Q ss to at s l e kept h here =
+    All-more (λ t. AreRowsNoted Q t to) ss at s l (λ k d m. rows_also P Q _ to kept (h k d m))
+    (subst (λ t. AreRowsNoted Q t to) e here)
 
 -- rows, and then some rows after them
-pub noted_both : (P Q : Saying → Type 0) (ss : List Span) (from mid to : ℕ) → mid < to
-    → ((s : Span) (w : Way) (r : ℕ) → P (noted s w r) → Q (noted s w r))
-    → AreNotedIn P ss from mid → AreNotedIn Q ss mid to → AreNotedIn Q ss from to
-noted_both P Q ss from mid to some kept a b k d l = grind (arith, signed_linear, some, kept, a, b, k, d, l)
+pub rows_noted : (P Q : Saying → Type 0) (s : Span) (mid to : ℕ) → ((w : Way) (r : ℕ) → P (noted s w r) → Q (noted s w r))
+    → AreRowsNoted P s mid → ((r : ℕ) → mid ≤ r → r < to → Q (noted s across_row r))
+    → ((r : ℕ) → mid ≤ r → r ≤ to → Q (noted s up_to_row r)) → AreRowsNoted Q s to
+rows_noted P Q s mid to kept h across up = record {
+  across = λ r l. elim (below_or_not r mid) [ inl m ↦ kept across_row r (h.across r m) | inr m ↦ across r m l ];
+  up = λ o r l. elim (below_or_not r mid) [ inl m ↦ kept up_to_row r (h.up (omega (arith, m)) r (omega (arith, m))) | inr m ↦ up r m l ];
+}
 
--- the same, but for what is noted apart
-pub noted_unless : (B : Span → Way → Type 0) (f : Frame) (rows columns : List ℕ) (ss : List Span)
-    → AreNotedIn (BitsSay B f rows columns) ss 0 f.height → All (λ s. IsNotedUnless (B s) s f rows columns) ss
-noted_unless B f rows columns ss h k d l =
-    record { across = λ no r m. (h k d l).across r (omega arith) m no; up = λ no o r m. (h k d l).up o r (omega arith) m no }
+pub with_sum : (r a b : ℕ) → with_first r (a + b) ≡ with_first r a + with_first r b
+with_sum zero a b = refl
+with_sum (suc r) a b = refl
+
+-- with one row of what is noted apart, all are noted
+pub row_apart : (A : Span → Way → Type 0) (f : Frame) (a u : List ℕ) (s : Span) (w : Way) (first : ℕ) → A s w
+    → (first ≡ 0 → (q : ℕ) → IsNotedBy f a u s w q) → AreRowsNoted (BitsSay A f a u) s first → (q : ℕ) → IsNotedBy f a u s w q
+row_apart A f a u s w zero of all before = all refl
+row_apart A f a u s across_row (suc n) of all before = (before.across 0 (omega arith)).1 of
+row_apart A f a u s up_to_row (suc n) of all before = (before.up (omega arith) 0 (omega arith)).1 of
 
 -- what is noted is exact, and stays so while these pieces are noted
 pub all_among : (ss : List Span) → All (λ s. IsAmong s ss) ss
@@ -253,9 +264,9 @@ all_among ss k d l = record { at = k; inside = l; is = get_or_default ss k _ d l
 off_one : (p : Place) (ss : List Span) (s : Span) → ¬ (Any (IsOn p) ss) → IsAmong s ss → ¬ (IsOn p s)
 off_one p ss s off among on = off (among.at, s, among.inside, among.is, on)
 
-pub exact_of : (f : Frame) (across up : List ℕ) (ss : List Span) → All (λ s. IsNoted s f across up) ss
-    → AreMetBySome f across up ss → AreExact f across up ss
-exact_of f across up ss all h = record {
+pub exact_of : (A : Span → Way → Type 0) (f : Frame) (across up : List ℕ) (ss : List Span)
+    → AreNotedIn (BitsSay A f across up) ss f.height → AreMetBySome f across up ss → AreExact f across up ss
+exact_of A f across up ss all h = record {
   across = λ r k l m off. (
     λ e. let p = (h.rows r k (omega (arith, m)) e).1 in (
       p.among.at,
@@ -265,7 +276,7 @@ exact_of f across up ss all h = record {
       p.met (off_one _ ss p.piece off.off_from p.among)
           (off_one _ ss p.piece off.off_to p.among),
     ),
-    λ (i, s, inside, is, met). (subst (λ (t : Span). IsNoted t f across up) is (all i s inside)).across (λ no. no) r l k m (record {
+    λ (i, s, inside, is, met). ((subst (λ t. AreRowsNoted (BitsSay A f across up) t f.height) is (all i s inside)).across r l).0 l k m (record {
       met = met;
       off_left = λ on. off.off_from (i, s, inside, is, on);
       off_right = λ on. off.off_to (i, s, inside, is, on);
@@ -293,7 +304,7 @@ exact_of f across up ss all h = record {
         → Any (λ s. IsMet (centre ((f.bottom -ℤ pos 1) +ℤ pos r) (f.left +ℤ pos k))
         (centre (f.bottom +ℤ pos r) (f.left +ℤ pos k)) (turned_span s)) ss → word_bit up (pixel_number f r k) ≡ 1
     back r k some l m off (i, s, inside, is, met) =
-        (subst (λ (t : Span). IsNoted t f across up) is (all i s inside)).up (λ no. no) some r l k m (record {
+        ((subst (λ t. AreRowsNoted (BitsSay A f across up) t f.height) is (all i s inside)).up some r l).0 l k m (record {
           met = met;
           off_lower = λ on. off.off_from (i, s, inside, is, on);
           off_upper = λ on. off.off_to (i, s, inside, is, on);

@@ -22,11 +22,10 @@ use Rattle.fx_winding.proofs.Meeting.{above_not_met, below_not_met}
 use Rattle.fx_winding.proofs.Turning.{IsClearOf, IsClearOfFoot, IsClearOfHead, all_turned, inner_pair_not_met, from_foot_not_met}
 use Rattle.fx_winding.proofs.Turning.{to_foot_not_met, from_head_not_met, to_head_not_met}
 use Rattle.fx_rows.specs.declared.heights.Met.{Met}
-use Rattle.fx_rows.specs.declared.piece_in_band.PieceInBand.{PieceInBand}
 use Rattle.fx_rows.specs.declared.reach.Reach.{Reach}
 use Rattle.fx_rows.specs.inner.Bulging.{HasLine, IsBeyond, IsBulge, IsBulgePart, IsOnLine}
 use Rattle.fx_rows.specs.inner.Heights.{height_of, IsResting, IsHanging, IsAtMostEnds, IsAtLeastEnds, IsOneOver, IsOneUnder}
-use Rattle.fx_rows.specs.inner.Placing.{AreMetIn, IsInBand}
+use Rattle.fx_rows.specs.inner.Placing.{AreMetIn}
 use Rattle.fx_rows.specs.inner.Points.{AreAcross, IsInner}
 use Rattle.fx_rows.specs.inner.Told.{rise_value}
 use Rattle.fx_rows.specs.inner.Upward.{column_of, height_below, AreMetBetween, AreMetWithin, AreAllMet, AreAt}
@@ -54,13 +53,11 @@ right_unmet s f first end r k h l m =
     (all_turned (λ e. e.y <ℤ column_of f k) s (to_all (λ q. q.x <ℤ column_of f k) s (h.1 (f.left +ℤ pos k) l))) m.met
 
 -- a box without columns
-pub none_within : (s : Span) (p : PieceInBand) → IsInBand s p → p.across.end ≤ℤ p.across.first → (r k : ℕ)
-    → ¬ (IsMetUp s p.frame r k)
-none_within s p is none r k m = by (below_or_not_ℤ (p.frame.left +ℤ pos k) p.across.first)
-  where
-    by : ((p.frame.left +ℤ pos k) <ℤ p.across.first) ⊎ (p.across.first ≤ℤ (p.frame.left +ℤ pos k)) → ⊥
-    by (inl l) = left_unmet s p.frame p.across.first p.across.end r k is.columns.across l m
-    by (inr l) = right_unmet s p.frame p.across.first p.across.end r k is.columns.across (omega (arith, signed_linear, none, l)) m
+pub none_within : (s : Span) (f : Frame) (first end : ℤ) → AreAcross s first end → end ≤ℤ first → (r k : ℕ) → ¬ (IsMetUp s f r k)
+none_within s f first end is none r k m = elim (below_or_not_ℤ (f.left +ℤ pos k) first) [
+  | inl l ↦ left_unmet s f first end r k is l m
+  | inr l ↦ right_unmet s f first end r k is (omega (arith, signed_linear, none, l)) m
+]
 
 -- ---- what it means that a piece does not bulge: its control point is on no other side of a line of centres than both its ends
 no_line_to : (a b c row : ℤ) → ¬ (IsBeyond a b c) → (pos 128 *ℤ row +ℤ pos 64) ≤ℤ a → (pos 128 *ℤ row +ℤ pos 64) ≤ℤ c

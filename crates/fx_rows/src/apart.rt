@@ -1,4 +1,4 @@
-//! Pieces whose columns a frame has. The others are noted apart, when all bands are done.
+//! Pieces whose columns a frame has. The others are noted apart, with the first band.
 
 ghost use Rattle.std.specs.Prelude.{◌≡◌, pos, ◌+ℤ◌, ◌≤ℤ◌, IfNone, IfSome, IsTrue, false};
 ghost use Rattle.fx_winding.specs.Winding.{span_of};
@@ -32,15 +32,4 @@ pub(crate) fn columns_of(piece: &Piece, frame: Frame) -> Option<Across>
         return None;
     }
     Some(across)
-}
-
-/// Whether a frame has all columns of a piece's box.
-pub(crate) fn is_boxed(piece: &Piece, frame: Frame) -> bool
-    ensures boxed { IsTrue result → IsBoxed frame (span_of piece.now) }
-    ensures lacks { result ≡ false → ¬ (IsBoxed frame (span_of piece.now)) }
-{
-    match columns_of(piece, frame) {
-        None => false,
-        Some(_across) => true,
-    }
 }

@@ -1,16 +1,16 @@
 //! Arcs that bulge: the box of one is larger than that of its chord. What they meet up to rows is noted column by column, as rows
 //! of the arc with its coordinates exchanged.
 
-ghost use Rattle.std.specs.Prelude.{◌≡◌, ◌⊎◌, ℕ, ◌+◌, ◌*◌, ◌^◌, ◌-◌, ◌<◌, ◌≤◌, length, pos, ◌+ℤ◌, ◌≤ℤ◌, ◌↔◌, IsTrue, List};
+ghost use Rattle.std.specs.Prelude.{◌≡◌, ◌⊎◌, ℕ, ◌+◌, ◌*◌, ◌^◌, ◌-◌, ◌<◌, ◌≤◌, length, pos, ◌+ℤ◌, ◌≤ℤ◌, ◌↔◌, IsTrue};
 ghost use Rattle.fx_fixed.specs.Ranges.{IsWithin};
 ghost use Rattle.fx_rows.specs.inner.Bulging.{HasLine, IsLineTo, IsLineFrom, IsBeyond, IsBulge};
 ghost use Rattle.fx_winding.specs.Frames.{HasMargin, IsFrom};
-ghost use Rattle.fx_winding.specs.Notes.{IsNotedAcross, IsNotedUp};
-ghost use Rattle.fx_winding.specs.Winding.{Span, span_of};
+ghost use Rattle.fx_winding.specs.Notes.{words_noted as words_noted_of, IsNotedAcross, IsNotedUp};
+ghost use Rattle.fx_winding.specs.Winding.{span_of};
 ghost use Rattle.fx_rows.specs.inner.Bands.{bounded_span, AreInner};
 ghost use Rattle.fx_rows.specs.inner.Strips.{base_place};
-ghost use Rattle.fx_rows.specs.inner.Lines.{AreOnly, AreRowsSet, AreSetIn, IsLineBit, IsRowSet, IsRowsBit};
-ghost use Rattle.fx_rows.specs.inner.Telling.{AreMetBySome, IsAmong};
+ghost use Rattle.fx_rows.specs.inner.Lines.{AreOnly, AreRowsSet, AreSetIn, IsAcrossBit, IsLineBit, IsRowSet, IsRowsBit, IsUpBit};
+ghost use Rattle.fx_rows.specs.inner.Telling.{with_first};
 ghost use Rattle.fx_rows.specs.inner.Told.{AreKept};
 
 use crate::apart::has_columns;
@@ -25,7 +25,7 @@ use crate::noted_row::{
 use crate::part::Run;
 use crate::strip::{areas_at, row_of, strip_of};
 use crate::walk::arc_in;
-use fx_winding::{Frame, Notes, Piece, Point, Tally, first_from, words_noted};
+use fx_winding::{Frame, Piece, Point, Tally, first_from, words_noted};
 
 /// Whether a line of centres comes from x on and up to y.
 #[inline(always)]
@@ -290,47 +290,49 @@ fn note_lines(
     note_met_lines(&bounded, above, frame, row_step, step, bits, tally);
 }
 
-/// Notes the segments that a piece meets across rows, and so what no band has noted.
+/// Notes the segments that a piece meets across all rows, with the first band.
 #[inline(never)]
-pub(crate) fn note_all_across(piece: &Piece, notes: &mut Notes, tally: &mut Tally)
-    requires margin { HasMargin notes.old.frame }
-    ensures frame { notes.new.frame ≡ notes.old.frame }
-    ensures noted { (r : ℕ) → r < notes.old.frame.height →
-        IsNotedAcross (span_of piece.now) notes.old.frame notes.new.across.items r }
-    ensures across { AreKept notes.old.across.items notes.new.across.items }
-    ensures up { AreKept notes.old.up.items notes.new.up.items }
-    ensures only { (ss : List Span) → IsAmong (span_of piece.now) ss →
-        AreMetBySome notes.old.frame notes.old.across.items notes.old.up.items ss →
-        AreMetBySome notes.old.frame notes.new.across.items notes.new.up.items ss }
-    ensures count { tally.new.count ≤ tally.old.count + 55 * notes.old.frame.height }
+pub(crate) fn note_all_across(
+    piece: &Piece,
+    rows: RowRange,
+    frame: Frame,
+    across: &mut [u32],
+    tally: &mut Tally,
+)
+    requires margin { HasMargin frame }
+    requires room { length across.old ≡ frame.height * words_noted_of frame.width }
+    ensures noted { rows.first ≡ 0 → (r : ℕ) → r < frame.height → IsNotedAcross (span_of piece.now) frame across.new r }
+    ensures kept { AreKept across.old across.new }
+    ensures only { AreOnly (IsAcrossBit (span_of piece.now) frame) across.old across.new }
+    ensures count { tally.new.count ≤ tally.old.count + with_first rows.first (55 * frame.height) }
 {
-    let frame = notes.frame;
+    if rows.first > 0 {
+        return;
+    }
     let row = 32 * words_noted(frame.width);
-    note_lines(piece, frame, row, 1, &mut notes.across, tally);
+    note_lines(piece, frame, row, 1, across, tally);
 }
 
-/// Notes the segments that a piece meets up to rows, as those across rows of the piece with its coordinates exchanged.
+/// Notes the segments that a piece meets up to all rows, with the first band, as those across rows of the piece with its coordinates
+/// exchanged.
 #[inline(never)]
-pub(crate) fn note_all_up(piece: &Piece, notes: &mut Notes, tally: &mut Tally)
-    requires margin { HasMargin notes.old.frame }
-    ensures frame { notes.new.frame ≡ notes.old.frame }
-    ensures noted { (r : ℕ) → r ≤ notes.old.frame.height →
-        IsNotedUp (span_of piece.now) notes.old.frame notes.new.up.items r }
-    ensures across { AreKept notes.old.across.items notes.new.across.items }
-    ensures up { AreKept notes.old.up.items notes.new.up.items }
-    ensures only { (ss : List Span) → IsAmong (span_of piece.now) ss →
-        AreMetBySome notes.old.frame notes.old.across.items notes.old.up.items ss →
-        AreMetBySome notes.old.frame notes.new.across.items notes.new.up.items ss }
-    ensures count { tally.new.count ≤ tally.old.count + 55 * notes.old.frame.width }
+pub(crate) fn note_all_up(
+    piece: &Piece,
+    rows: RowRange,
+    frame: Frame,
+    up: &mut [u32],
+    tally: &mut Tally,
+)
+    requires margin { HasMargin frame }
+    requires room { length up.old ≡ (frame.height + 1) * words_noted_of frame.width }
+    ensures noted { rows.first ≡ 0 → (r : ℕ) → r ≤ frame.height → IsNotedUp (span_of piece.now) frame up.new r }
+    ensures kept { AreKept up.old up.new }
+    ensures only { AreOnly (IsUpBit (span_of piece.now) frame) up.old up.new }
+    ensures count { tally.new.count ≤ tally.old.count + with_first rows.first (55 * frame.width) }
 {
-    let frame = notes.frame;
+    if rows.first > 0 {
+        return;
+    }
     let row = 32 * words_noted(frame.width);
-    note_lines(
-        &piece.turned(),
-        frame.turned(),
-        1,
-        row,
-        &mut notes.up,
-        tally,
-    );
+    note_lines(&piece.turned(), frame.turned(), 1, row, up, tally);
 }

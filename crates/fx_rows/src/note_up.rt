@@ -302,9 +302,6 @@ pub(crate) fn note_up(
     ensures kept { AreKept up.old up.new }
     ensures count { tally.new.count ≤ tally.old.count + 4 }
 {
-    if placed.across.end <= placed.across.first {
-        return;
-    }
     if is_on_line(piece) {
         return;
     }

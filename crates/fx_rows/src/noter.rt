@@ -9,7 +9,7 @@ ghost use Rattle.fx_rows.specs.inner.Told.{IsEndIn};
 
 use crate::apart::columns_of;
 use crate::band::MOST_ROWS;
-use crate::bulge::is_bulge;
+use crate::bulge::{is_bulge, note_all_across, note_all_up};
 use crate::heights::{Met, RowRange};
 use crate::note_across::note_across;
 use crate::note_up::note_up;
@@ -18,12 +18,10 @@ use crate::piece_in_band::PieceInBand;
 use fx_winding::{Frame, Notes, Piece, Scratch, Tally};
 use std::alloc::{AllocError, Global};
 
-/// The segments noted so far, but for those that are noted apart, and whether there are such; and of the piece that is being added
-/// to a band, the ends of its rows, from the band's lowest.
+/// The segments noted so far; and of the piece that is being added to a band, the ends of its rows, from the band's lowest.
 #[derive(Drop)]
 pub(crate) struct Noter {
     pub notes: Notes,
-    pub apart: bool,
     ends: [u32; MOST_ROWS as usize],
     ghost many: { length ends ≡ 128 },
     ghost margin: { HasMargin notes.frame },
@@ -51,7 +49,6 @@ impl Noter {
     {
         Noter {
             notes,
-            apart: false,
             ends: [0; MOST_ROWS as usize],
         }
     }
@@ -60,9 +57,9 @@ impl Noter {
 impl Noting for Noter {
     ghost tests = { 59 };
 
-    // What is noted apart, if there is any, is noted when all bands are done.
-    ghost Says = { λ n x.
-        BitsSay (λ s w. IsApart n.notes.frame s w × IsTrue n.apart) n.notes.frame n.notes.across.items n.notes.up.items x };
+    ghost more = { λ f. 55 * (f.height + f.width) };
+
+    ghost Says = { λ n x. BitsSay (IsApart n.notes.frame) n.notes.frame n.notes.across.items n.notes.up.items x };
 
     ghost IsTold = { λ n up end. IsEndIn n.ends up end };
 
@@ -75,10 +72,10 @@ impl Noting for Noter {
     fn note(&mut self, piece: &Piece, _frame: Frame, rows: RowRange, met: Met, tally: &mut Tally) {
         let frame = self.notes.frame;
         let Some(across) = columns_of(piece, frame) else {
-            self.apart = true;
+            note_all_across(piece, rows, frame, &mut self.notes.across, tally);
+            note_all_up(piece, rows, frame, &mut self.notes.up, tally);
             return;
         };
-        let bulging = is_bulge(piece);
         let placed = PieceInBand {
             frame,
             rows,
@@ -86,8 +83,11 @@ impl Noting for Noter {
             across,
         };
         note_across(piece, placed, &self.ends, &mut self.notes.across, tally);
-        if bulging {
-            self.apart = true;
+        if across.end <= across.first {
+            return;
+        }
+        if is_bulge(piece) {
+            note_all_up(piece, rows, frame, &mut self.notes.up, tally);
             return;
         }
         note_up(piece, placed, &self.ends, &mut self.notes.up, tally);

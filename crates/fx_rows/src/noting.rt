@@ -7,11 +7,14 @@ use fx_winding::{Frame, Piece, Tally};
 pub(crate) trait Noting {
     ghost use Rattle.std.specs.Prelude.{◌≢◌, ℕ, ◌+◌, ◌-◌, ◌*◌, ◌<◌, ◌≤◌};
     ghost use Rattle.fx_winding.specs.Winding.{span_of};
+    ghost use Rattle.fx_winding.specs.declared.frame.Frame.{Frame};
     ghost use Rattle.fx_rows.specs.inner.Placing.{AreMetIn};
-    ghost use Rattle.fx_rows.specs.inner.Telling.{AreRowsNoted, AreRowsTold, Keeps, Lasts, Saying, of_frame};
+    ghost use Rattle.fx_rows.specs.inner.Telling.{AreRowsNoted, AreRowsTold, Keeps, Lasts, Saying, of_frame, with_first};
 
-    // How many tests a row takes.
+    // How many tests a row takes, and how many more a piece with the frame's first row.
     ghost tests: { ℕ };
+
+    ghost more: { Frame → ℕ };
     // What is so of the notes.
     ghost Says: { Self → Saying → Type 0 };
     // The end of a row of the band is told.
@@ -25,16 +28,17 @@ pub(crate) trait Noting {
         ensures others { (r n : ℕ) → r ≢ up → IsTold self.old r n → IsTold self.new r n };
 
     /// Notes the segments that a piece meets up to rows of a band and across them. The ends of the rows between the piece's ends
-    /// were told.
+    /// were told, and the rows below the band are noted.
     fn note(&mut self, piece: &Piece, frame: Frame, rows: RowRange, met: Met, tally: &mut Tally)
         requires frame { Says self.old (of_frame frame) }
         requires rows { rows.end ≤ frame.height }
         requires some { rows.first < rows.end }
         requires met { AreMetIn (span_of piece.now) frame rows.first rows.end met }
         requires told { AreRowsTold (λ r. IsTold self.old (r - rows.first)) (span_of piece.now) frame rows.first rows.end }
+        requires before { AreRowsNoted (Says self.old) (span_of piece.now) rows.first }
         ensures kept { (x : Saying) → Lasts (span_of piece.now) x → Says self.old x → Says self.new x }
-        ensures noted { AreRowsNoted (Says self.new) (span_of piece.now) rows.first rows.end }
-        ensures count { tally.new.count ≤ tally.old.count + tests * (rows.end - rows.first) };
+        ensures noted { AreRowsNoted (Says self.new) (span_of piece.now) rows.end }
+        ensures count { tally.new.count ≤ tally.old.count + (tests * (rows.end - rows.first) + with_first rows.first (more frame)) };
 }
 
 /// Nothing is noted.
@@ -43,6 +47,8 @@ pub(crate) struct NoNotes;
 
 impl Noting for NoNotes {
     ghost tests = { 0 };
+
+    ghost more = { λ _. 0 };
 
     ghost Says = { λ _ _. Unit {0} };
 

@@ -1,5 +1,5 @@
 -- What is told and noted of pieces while they are added to the rows of a band.
-use Rattle.std.specs.Prelude.{◌≡◌, ℕ, ◌+◌, ◌*◌, ◌≤◌, ◌<◌, pos, ◌+ℤ◌, List, All, length, get_or}
+use Rattle.std.specs.Prelude.{◌≡◌, ℕ, zero, suc, ◌+◌, ◌*◌, ◌≤◌, ◌<◌, pos, ◌+ℤ◌, List, All, length, get_or}
 use Rattle.fx_winding.specs.declared.frame.Frame.{Frame}
 use Rattle.fx_winding.specs.Bitmaps.{word_bit}
 use Rattle.fx_winding.specs.Notes.{pixel_number, words_noted, IsNotedAcross, IsNotedUp}
@@ -49,19 +49,24 @@ pub data Saying : Type 0 where
   of_pieces : List Span → Saying
   noted : Span → Way → ℕ → Saying
 
--- the rows of a frame from one to before another are noted in both ways, and the segments up to the row after them
-pub record AreRowsNoted (Says : Saying → Type 0) (s : Span) (from to : ℕ) : Type 0 where
-  pub across : (r : ℕ) → from ≤ r → r < to → Says (noted s across_row r)
-  pub up : from < to → (r : ℕ) → from ≤ r → r ≤ to → Says (noted s up_to_row r)
+-- the rows of a frame before one are noted in both ways, and if there are any, the segments up to that one
+pub record AreRowsNoted (Says : Saying → Type 0) (s : Span) (to : ℕ) : Type 0 where
+  pub across : (r : ℕ) → r < to → Says (noted s across_row r)
+  pub up : 0 < to → (r : ℕ) → r ≤ to → Says (noted s up_to_row r)
 
 -- the same of each piece
-abbrev pub AreNotedIn : (Saying → Type 0) → List Span → ℕ → ℕ → Type 0
-AreNotedIn Says ss from to = All (λ s. AreRowsNoted Says s from to) ss
+abbrev pub AreNotedIn : (Saying → Type 0) → List Span → ℕ → Type 0
+AreNotedIn Says ss to = All (λ s. AreRowsNoted Says s to) ss
 
--- the segments of a row that a piece meets have their bits in the notes of a frame
+-- a number of tests that are made for the first row alone
+abbrev pub with_first : ℕ → ℕ → ℕ
+with_first zero n = n
+with_first (suc r) n = 0
+
+-- the segments of a frame's row that a piece meets have their bits in its notes
 abbrev pub IsNotedBy : Frame → List ℕ → List ℕ → Span → Way → ℕ → Type 0
-IsNotedBy f across up s across_row r = IsNotedAcross s f across r
-IsNotedBy f across up s up_to_row r = IsNotedUp s f up r
+IsNotedBy f across up s across_row r = r < f.height → IsNotedAcross s f across r
+IsNotedBy f across up s up_to_row r = r ≤ f.height → IsNotedUp s f up r
 
 -- a piece is one of some
 pub record IsAmong (s : Span) (ss : List Span) : Type 0 where
@@ -95,20 +100,12 @@ pub record AreMetBySome (f : Frame) (across up : List ℕ) (ss : List Span) : Ty
   pub rows : AreMetAcross f across ss
   pub columns : AreMetUp f up ss
 
--- what the bits of a frame's segments say, if some pieces are noted apart
+-- what the bits of a frame's segments say: with one row of a piece that is noted apart, they say all
 abbrev pub BitsSay : (Span → Way → Type 0) → Frame → List ℕ → List ℕ → Saying → Type 0
 BitsSay IsApart f across up (of_frame g) = f ≡ g
 BitsSay IsApart f across up (of_pieces ss) = AreMetBySome f across up ss
-BitsSay IsApart f across up (noted s w r) = ¬ (IsApart s w) → IsNotedBy f across up s w r
-
--- all that a piece meets is noted, but for what is noted apart
-pub record IsNotedUnless (IsApart : Way → Type 0) (s : Span) (f : Frame) (rows columns : List ℕ) : Type 0 where
-  pub across : ¬ (IsApart across_row) → (r : ℕ) → r < f.height → IsNotedAcross s f rows r
-  pub up : ¬ (IsApart up_to_row) → 0 < f.height → (r : ℕ) → r ≤ f.height → IsNotedUp s f columns r
-
--- and nothing is noted apart
-abbrev pub IsNoted : Span → Frame → List ℕ → List ℕ → Type 0
-IsNoted s f rows columns = IsNotedUnless (λ w. ⊥) s f rows columns
+BitsSay IsApart f across up (noted s w r) =
+    IsNotedBy f across up s w r × (IsApart s w → (q : ℕ) → IsNotedBy f across up s w q)
 
 -- what is said stays true while a piece is noted: all but that one of some pieces meets each segment, unless it is one of them
 abbrev pub Lasts : Span → Saying → Type 0

@@ -1,17 +1,10 @@
-use Rattle.std.proofs.Common.{arith}
-use Rattle.fx_fixed.proofs.Linear.{signed_linear}
 use Rattle.fx_winding.specs.Winding.{span_of}
 use Rattle.fx_rows.specs.inner.Lines.{IsUpBit}
 use Rattle.fx_rows.specs.inner.Upward.{height_below, IsLevel}
 use Rattle.fx_rows.proofs.Kept.{kept_both, only_both}
 use Rattle.fx_rows.proofs.NotedSegments.{up_kept}
-use Rattle.fx_rows.proofs.Upward.{none_within, on_line_unmet, set_over, set_under, at_least_more, over_lowest, all_levels}
+use Rattle.fx_rows.proofs.Upward.{on_line_unmet, set_over, set_under, at_least_more, over_lowest, all_levels}
 use Rattle.fx_rows.proofs.note_up.note_up.Goals as goal
-
-pub returns-then-placed-clause-noted : goal.returns-then-placed-clause-noted
-returns-then-placed-clause-noted c = λ r h l k w m.
-    absurd (none_within (span_of c.args.piece.now) c.args.placed c.requires.placed
-    (omega (arith, signed_linear, c.if-placed.true)) r k m)
 
 pub returns-then-is_on_line-clause-noted : goal.returns-then-is_on_line-clause-noted
 returns-then-is_on_line-clause-noted c = λ r h l k w m. absurd (on_line_unmet (span_of c.args.piece.now) c.args.placed.frame r k

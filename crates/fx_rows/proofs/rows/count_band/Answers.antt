@@ -9,11 +9,11 @@ use Rattle.fx_winding.specs.Winding.{Span, span_of, centre}
 use Rattle.fx_rows.specs.inner.Sums.{before, AreWithin}
 use Rattle.fx_rows.specs.inner.Bands.{stride, turns_at, mark_at, IsBandAdded}
 use Rattle.fx_rows.specs.inner.Placing.{AreMet}
-use Rattle.fx_rows.specs.inner.Telling.{AreRowsTold, Keeps, Lasts, noted, of_frame}
+use Rattle.fx_rows.specs.inner.Telling.{AreRowsNoted, AreRowsTold, Keeps, Lasts, noted, of_frame, with_first}
 use Rattle.fx_rows.proofs.Counted.{counted_start, counted_more, counted_all, count_more, within_none}
 use Rattle.fx_rows.proofs.Banding.{IsNumber, number_or_not}
 use Rattle.fx_rows.proofs.Sums.{before_none}
-use Rattle.fx_rows.proofs.Telling.{told_in_frame, noted_start, noted_more}
+use Rattle.fx_rows.proofs.Telling.{told_in_frame, noted_start, noted_more, rows_also}
 use Rattle.fx_rows.proofs.rows.count_band.Goals as goal
 
 sum_times : (a b h : ℕ) → (a + b) * h ≡ a * h + b * h
@@ -47,6 +47,18 @@ pub note-requires-clause-frame : goal.note-requires-clause-frame
 note-requires-clause-frame g c =
     c.add_piece-met.ensures.kept (of_frame c.args.frame) (c.pieces.invariant.kept _ (λ k d l. tt) c.requires.of)
 
+pub note-requires-clause-before : goal.note-requires-clause-before
+note-requires-clause-before g c =
+    let spans = map span_of c.args.pieces.now in
+    let here = c.pieces.piece-index in
+    let piece = c.piece-item.result in
+    let s = span_of piece in
+    let inside : here < length spans = omega (arith, length-map c.args.pieces.now span_of) in
+    let is : get_or spans here s ≡ s = get_or-map span_of c.args.pieces.now here piece ∙ sym (ap span_of c.piece-item.is) in
+    rows_also _ _ s c.args.rows.first
+    (λ t w r h. c.add_piece-met.ensures.kept (noted t w r) (c.pieces.invariant.kept (noted t w r) (λ k d l. tt) h))
+    (subst (λ t. AreRowsNoted (g.N.Noting.Says c.args.noter.now) t c.args.rows.first) is (c.requires.before here s inside))
+
 pub pieces-preserved : goal.pieces-preserved
 pieces-preserved g c =
     let f = c.args.band.now.frame in
@@ -72,8 +84,8 @@ pieces-preserved g c =
     let sum : (12 + g.N.Noting.tests) * f.height ≡ 12 * f.height + g.N.Noting.tests * f.height =
     sum_times 12 g.N.Noting.tests f.height in
     let m = c.note.ensures.count in
-    let all : c.note.new.tally.count ≤ c.pieces.tally.count + (12 + g.N.Noting.tests) * f.height =
-    omega (arith, each, m, tests, sum) in
+    let most = (12 + g.N.Noting.tests) * f.height + with_first c.args.rows.first (g.N.Noting.more c.args.frame) in
+    let all : c.note.new.tally.count ≤ c.pieces.tally.count + most = omega (arith, each, m, tests, sum) in
     let kept : Keeps (g.N.Noting.Says c.pieces.noter) (g.N.Noting.Says c.add_piece-met.new.noter) = c.add_piece-met.ensures.kept in
     record {
       frame = c.add_piece-met.ensures.added.frame ∙ inv.frame;
@@ -88,10 +100,10 @@ pieces-preserved g c =
           (omega (arith, signed_linear, e, few), omega (arith, signed_linear, e, few));
       kept = λ x lasts h. c.note.ensures.kept x (subst (λ (t : Span). Lasts t x) (sym is) (lasts here s inside))
           (kept x (inv.kept x lasts h));
-      noted = noted_more _ _ spans c.args.rows.first c.args.rows.end here s inside is
+      noted = noted_more _ _ spans c.args.rows.end here s inside is
           (λ t w r h. c.note.ensures.kept (noted t w r) tt (kept (noted t w r) h)) inv.noted c.note.ensures.noted;
       count = count_more c.args.tally.now.count c.pieces.tally.count c.note.new.tally.count here
-          ((12 + g.N.Noting.tests) * f.height) inv.count all;
+          most inv.count all;
     }
 
 pub returns-clause-frame : goal.returns-clause-frame

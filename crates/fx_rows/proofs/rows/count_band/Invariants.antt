@@ -2,7 +2,7 @@ use Rattle.std.proofs.Common.{◌≡◌, ℕ, ◌+◌, ◌*◌, ◌<◌, ◌≤�
 use Rattle.fx_winding.specs.Winding.{span_of, centre}
 use Rattle.fx_rows.specs.inner.Sums.{AreWithin, AreTouched}
 use Rattle.fx_rows.specs.inner.Bands.{stride, turns_at, mark_at, IsBeside}
-use Rattle.fx_rows.specs.inner.Telling.{AreNotedIn, KeepsAfter}
+use Rattle.fx_rows.specs.inner.Telling.{AreNotedIn, KeepsAfter, with_first}
 use Rattle.fx_rows.proofs.Counted.{Counted}
 use Rattle.fx_rows.proofs.rows.count_band.Given as goal
 
@@ -17,6 +17,7 @@ invariant-pieces g l = record {
   touched : AreTouched l.band.diff.items l.band.touched.items;
   small : AreWithin (512 * l.piece-index) l.band.diff.items;
   kept : KeepsAfter (map span_of l.pieces) (g.N.Noting.Says l.fn.noter) (g.N.Noting.Says l.noter);
-  noted : AreNotedIn (g.N.Noting.Says l.noter) (take l.piece-index (map span_of l.pieces)) l.rows.first l.rows.end;
-  count : l.tally.count ≤ l.fn.tally.count + l.piece-index * ((12 + g.N.Noting.tests) * l.fn.band.frame.height);
+  noted : AreNotedIn (g.N.Noting.Says l.noter) (take l.piece-index (map span_of l.pieces)) l.rows.end;
+  count : l.tally.count ≤ l.fn.tally.count + l.piece-index *
+      ((12 + g.N.Noting.tests) * l.fn.band.frame.height + with_first l.rows.first (g.N.Noting.more l.frame));
 }

@@ -1,21 +1,37 @@
-use Rattle.std.proofs.Common.{◌≡◌, map, sym, subst, arith}
+use Rattle.std.proofs.Common.{◌≡◌, ◌+◌, length, map, sym, subst, arith}
+use Rattle.fx_rows.specs.Parts.{digits}
 use Rattle.fx_winding.specs.Winding.{span_of}
 use Rattle.fx_winding.specs.Bitmaps.{IsScanOf}
 use Rattle.fx_rows.specs.inner.Bands.{AreScanned}
-use Rattle.fx_rows.proofs.Banding.{tests_more, tests_fit}
+use Rattle.fx_rows.proofs.Banding.{bands_more, tests_fit}
 use Rattle.fx_rows.proofs.Scanning.{scanned_words, scanned_bitmap}
-use Rattle.fx_rows.proofs.Telling.{noted_both}
 use Rattle.fx_rows.proofs.rows.scan_noting.Goals as goal
 
 pub scan_band-requires-clause-words : goal.scan_band-requires-clause-words
 scan_band-requires-clause-words g c = grind (arith, c.as_slice.ensures.value, c.bands.invariant.scanned)
 
 pub bands-preserved : goal.bands-preserved
-bands-preserved g c = grind (arith, c.as_slice.ensures.value, c.bands.invariant, c.in_ok-words-2.ensures, tests_more, noted_both)
+bands-preserved g c =
+    let count = bands_more c.args.tally.now.count c.bands.tally.count c.scan_band.new.tally.count (12 + g.N.Noting.tests)
+    (g.N.Noting.more c.args.frame) c.bands.from c.band_end.result c.as_slice.result.now c.args.pieces.now
+    c.as_slice.ensures.value (omega arith) c.bands.invariant.count c.scan_band.ensures.count in
+    grind (arith, c.as_slice.ensures.value, c.bands.invariant, c.in_ok-words-2.ensures, count)
 
 pub returns-in_err-words-2-clause-count : goal.returns-in_err-words-2-clause-count
 returns-in_err-words-2-clause-count g c =
-    grind (arith, c.bands.invariant.count, c.as_slice.ensures.value, c.scan_band.ensures.count, tests_more, tests_fit)
+    let count = bands_more c.args.tally.now.count c.bands.tally.count c.scan_band.new.tally.count (12 + g.N.Noting.tests)
+    (g.N.Noting.more c.args.frame) c.bands.from c.band_end.result c.as_slice.result.now c.args.pieces.now
+    c.as_slice.ensures.value (omega arith) c.bands.invariant.count c.scan_band.ensures.count in
+    let fit = tests_fit (length c.args.pieces.now) (12 + g.N.Noting.tests) c.band_end.result c.args.frame.height
+    (digits c.args.frame.width) (omega arith) in
+    omega (arith, count, fit)
+
+pub returns-clause-count : goal.returns-clause-count
+returns-clause-count g c =
+    let count = c.bands.invariant.count in
+    let fit = tests_fit (length c.args.pieces.now) (12 + g.N.Noting.tests) c.bands.from c.args.frame.height
+    (digits c.args.frame.width) (omega arith) in
+    omega (arith, count, fit)
 
 pub from_words-requires : goal.from_words-requires
 from_words-requires g c =
