@@ -25,7 +25,6 @@ PLACES = {
         "let _ = fs::remove_file(self.rt, made.as_str())",
     ],
     "crates/fx_words/src/parts.rt": ["from_slice(alloc, before)"],
-    "crates/fx_dropout/src/course.rt": ["let _place = self.pair.place(n)"],
     "crates/fx_fixed/src/memory.rt": ["with_capacity(alloc, capacity)"],
     "crates/fx_hint/src/fault.rt": ["HintFault::OutOfMemory"],
     "crates/fx_hint/src/kept_glyphs.rt": [

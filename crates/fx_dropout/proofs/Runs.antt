@@ -2,31 +2,31 @@
 -- Serves `beside` and `run`.
 use Rattle.std.proofs.Common.{◌≡◌, ◌≢◌, ◌⊎◌, inl, inr, refl, sym, ap, ◌∙◌, subst, ℕ, ◌+◌, ◌≤◌, ◌<◌, ℤ, pos, negsuc, zero, suc}
 use Rattle.std.proofs.Common.{◌+ℤ◌, ◌-ℤ◌, ◌*ℤ◌, neg_ℤ, ◌≤ℤ◌, ◌<ℤ◌, Bool, true, false, Some, None, [], ◌∷◌, arith}
-use Rattle.std.proofs.Common.{◌↔◌, IsTrue, Option, w32, w64, to_z, of_z}
+use Rattle.std.proofs.Common.{◌↔◌, IsTrue, Option, int_lt, if◌then◌else◌, w32, w64, to_z, of_z}
+use Rattle.std.specs.Int.{from_bool}
 use Rattle.fx_fixed.specs.Ranges.{IsWithin}
 use Rattle.std.proofs.lemmas.Int.{ints}
-use Rattle.fx_fixed.specs.Polynomial.{var, num, ◌⊞◌, ◌⊠◌, ◌⊟◌, minus}
+use Rattle.fx_fixed.specs.Polynomial.{var, num, ◌⊞◌, ◌⊠◌, ◌⊟◌}
 use Rattle.fx_fixed.proofs.Ring.{ring, one-*ℤ, neg-*ℤ}
 use Rattle.fx_fixed.proofs.Linear.{signed_linear}
-use Rattle.fx_fixed.proofs.Order.{below_or_not, below_or_not_ℤ}
+use Rattle.fx_fixed.proofs.Order.{below_or_not_ℤ}
+use Rattle.fx_fixed.proofs.Signs.{product_at_least_zero, square_at_least_zero}
 use Rattle.fx_winding.specs.Area.{Place, area, gap_of}
 use Rattle.fx_winding.specs.Outside.{HasAll}
-use Rattle.fx_winding.specs.declared.point.Piece.{Piece}
 use Rattle.fx_winding.specs.declared.point.Point.{Point}
-use Rattle.fx_winding.specs.declared.weights.Weights.{Weights}
-use Rattle.fx_winding.specs.Winding.{place_of, maybe_place_of, span_of, areas_of, areas_of_part}
-use Rattle.fx_winding.proofs.Places.{clash}
-use Rattle.fx_winding.specs.Winding.{Span, IsOn, IsOnPart, crossing, chord_crossing, region, region_part, sign, weight_b}
+use Rattle.fx_winding.specs.Winding.{Span, IsOn, IsOnPart, areas_of, areas_of_part, crossing, chord_crossing, region, region_part, sign}
+use Rattle.fx_winding.specs.Winding.{weight_a, weight_b, weight_c}
 use Rattle.fx_winding.proofs.Beside.{HasAll-weaker, left_off, right_off, under_off, over_off}
 use Rattle.fx_winding.proofs.Crossings.{above, crossing_number}
 use Rattle.fx_winding.proofs.HalfAreas.{area_next, area_swap}
-use Rattle.fx_winding.proofs.Regions.{IsInRegion, region_cases, region_in, region_out, third_strictly}
+use Rattle.fx_winding.proofs.Places.{clash}
+use Rattle.fx_winding.proofs.Regions.{IsInRegion, region_in, region_out, third_strictly}
 use Rattle.fx_winding.proofs.Triangle.{area_expr}
 use Rattle.fx_winding.proofs.Turning.{left_of_all, right_of_all}
 use Rattle.fx_dropout.specs.declared.pair.Pair.{Pair}
 use Rattle.fx_dropout.specs.Dropout.{place_on}
-use Rattle.fx_dropout.specs.inner.Runs.{HaveOneSign, IsPassed, IsClear, IsPart, IsPartTo, IsJoined, place_in}
-use Rattle.fx_dropout.proofs.Steps.{linear_sign, gap_in, gap_step, gap_below, gap_above}
+use Rattle.fx_dropout.specs.inner.Runs.{HaveOneSign, IsPassed, IsBelowTo, IsClear, IsPart, IsPartTo, IsRegionTo, gap_at, place_in}
+use Rattle.fx_dropout.proofs.Steps.{bend, linear_sign, gap_step, gap_back, gap_below, gap_above}
 
 -- a height that does not come to be passed on the way from p to r
 pub record IsOneSide (y p r : ℤ) : Type 0 where
@@ -58,32 +58,29 @@ not_none x y (inr (a, b)) = (λ e. omega (arith, signed_linear, e, a), λ e. ome
 none_back : (a c p : Place) → area a c p ≡ pos 0 → area a p c ≡ pos 0
 none_back a c p e = let f = area_swap a c p in omega (arith, signed_linear, e, f)
 
--- ---- a line
-pub line_part : (a c p r : Place) (t : ℤ) → IsWithin 1 t → t ≡ chord_crossing a c p → IsOneSide a.y p.y r.y → IsOneSide c.y p.y r.y
-    → HaveOneSign (area a p c) (area a r c) → IsPart r (record { a = a; b = None; c = c }) (Some t)
-line_part a c p r t small is h k l =
-    let e : t ≡ chord_crossing a c p +ℤ pos 0 = omega (arith, signed_linear, is) in
-    let n = not_none (area a p c) (area a r c) l in (
-      (omega (arith, signed_linear, small), omega (arith, signed_linear, small)),
-      e ∙ (λ i. chord_same a c p r h k l i +ℤ pos 0),
-      λ o. n.1 (none_back a c r o.collinear),
-    )
+-- ---- what the region adds at a place off the chord's line
+-- the areas of a place with a piece's ends
+middle_of : (a : Place) (b : Option Place) (c p : Place) → (areas_of_part a b c p).1 ≡ area a p c
+middle_of a None c p = refl
+middle_of a (Some b) c p = refl
 
--- ---- an arc that is off a place, and whose region there counts a number
-arc_part : (a b c p r : Place) (t g : ℤ) → IsWithin 2 t → t ≡ chord_crossing a c p +ℤ g → IsOneSide a.y p.y r.y
-    → IsOneSide c.y p.y r.y → HaveOneSign (area a p c) (area a r c) → ¬ (IsOnPart a (Some b) c r)
-    → region_part a (Some b) c r ≡ g → IsPart r (record { a = a; b = Some b; c = c }) (Some t)
-arc_part a b c p r t g small is h k l off region = (small, is ∙ (λ i. chord_same a c p r h k l i +ℤ sym region i), off)
+-- the sum of three numbers
+abbrev sum : ℤ × ℤ × ℤ → ℤ
+sum x = x.0 +ℤ x.1 +ℤ x.2
 
--- a place that is off the chord's line is not on the arc if its weight at b is below 0, or its gap is not 0
-below_if : (v : ℤ) → ¬ (pos 0 <ℤ v) → v ≢ pos 0 → v <ℤ pos 0
-below_if v n k = grind (arith, ints)
+abbrev gap : ℤ × ℤ × ℤ → ℤ
+gap x = gap_of x.0 x.1 x.2
 
-above_if : (v : ℤ) → ¬ (v <ℤ pos 0) → v ≢ pos 0 → pos 0 <ℤ v
-above_if v n k = grind (arith, ints)
+-- the three add up to the arc's area
+pub middle_of_total : (a b c p : Place) → area a p c ≡ (area a b c -ℤ area p b c) -ℤ area a b p
+middle_of_total a b c p =
+    ring (a.x ∷ a.y ∷ b.x ∷ b.y ∷ c.x ∷ c.y ∷ p.x ∷ p.y ∷ [])
+    (area_expr (var 0) (var 1) (var 6) (var 7) (var 4) (var 5))
+    ((area_expr (var 0) (var 1) (var 2) (var 3) (var 4) (var 5) ⊟ area_expr (var 6) (var 7) (var 2) (var 3) (var 4) (var 5)) ⊟
+    area_expr (var 0) (var 1) (var 2) (var 3) (var 6) (var 7)) tt
 
-signed_below : (d v : ℤ) → ¬ (HaveOneSign d v) → d ≢ pos 0 → v ≢ pos 0 → (sign d *ℤ v) <ℤ pos 0
-signed_below d v h i j = grind (arith, signed_linear, h, i, j, one-*ℤ, below_if, neg-*ℤ, above_if)
+total_is : (a b c p : Place) → sum (areas_of_part a (Some b) c p) ≡ area a b c
+total_is a b c p = let m = middle_of_total a b c p in omega (arith, signed_linear, m)
 
 signed_gap : (d u v w : ℤ) → d ≢ pos 0 → gap_of (sign d *ℤ u) (sign d *ℤ v) (sign d *ℤ w) ≡ gap_of u v w
 signed_gap (pos zero) u v w h = absurd (h refl)
@@ -93,76 +90,109 @@ signed_gap (negsuc d) u v w h =
     (num (pos 4) ⊠ ((num (negsuc 0) ⊠ var 0) ⊠ (num (negsuc 0) ⊠ var 2)) ⊟ (num (negsuc 0) ⊠ var 1) ⊠ (num (negsuc 0) ⊠ var 1))
     (num (pos 4) ⊠ (var 0 ⊠ var 2) ⊟ var 1 ⊠ var 1) tt
 
--- beyond the chord, seen from b
-beyond_off : (a b c p : Place) → area a p c ≢ pos 0 → ¬ (HaveOneSign (area a b c) (area a p c)) → ¬ (IsOnPart a (Some b) c p)
-beyond_off a b c p k n (inl o) =
-    let h = o.on_arc.1 in
-    let l = signed_below (area a b c) (area a p c) n o.bent k in
-    omega (arith, signed_linear, h, l)
-beyond_off a b c p k n (inr o) = k (none_back a c p o.with_ac)
-
-is_flat : (d : ℤ) → (d ≡ pos 0) ⊎ (d ≢ pos 0)
-is_flat d = grind (arith, ints)
-
-beyond_region : (a b c p : Place) → area a p c ≢ pos 0 → ¬ (HaveOneSign (area a b c) (area a p c))
-    → region_part a (Some b) c p ≡ pos 0
-beyond_region a b c p k n = by (is_flat (area a b c))
-  where
-    by : (area a b c ≡ pos 0) ⊎ (area a b c ≢ pos 0) → region_part a (Some b) c p ≡ pos 0
-    by (inl e) = of (region_cases a b c p)
-      where
-        of : IsInRegion a b c p ⊎ (¬ (IsInRegion a b c p)) → region_part a (Some b) c p ≡ pos 0
-        of (inl i) = region_in a b c p i ∙ ap sign e
-        of (inr o) = region_out a b c p o
-    by (inr h) = region_out a b c p (λ i. no i)
-      where
-        l : weight_b a b c p <ℤ pos 0
-        l = signed_below (area a b c) (area a p c) n h k
-
-        no : IsInRegion a b c p → ⊥
-        no (inl i) = let m = i.1 in omega (arith, signed_linear, l, m)
-        no (inr i) = let m = i.0 in omega (arith, signed_linear, l, m)
-
--- the gap of the areas of a place with an arc's points
-abbrev pub arc_gap : Place → Place → Place → Place → ℤ
-arc_gap a b c p = gap_of (area p b c) (area a p c) (area a b p)
-
-gap_off : (a b c p : Place) → area a p c ≢ pos 0 → arc_gap a b c p ≢ pos 0 → ¬ (IsOnPart a (Some b) c p)
-gap_off a b c p h i j = grind (arith, signed_linear, h, i, j, signed_gap, none_back)
-
 signed_not_none : (d v : ℤ) → d ≢ pos 0 → v ≢ pos 0 → sign d *ℤ v ≢ pos 0
 signed_not_none d v h i j = grind (arith, signed_linear, h, i, j, one-*ℤ, neg-*ℤ)
 
--- without the parabola
-without_region : (a b c p : Place) → area a b c ≢ pos 0 → area a p c ≢ pos 0 → arc_gap a b c p <ℤ pos 0
-    → region_part a (Some b) c p ≡ pos 0
-without_region a b c p h k g = region_out a b c p (λ i. no i)
-  where
-    no : IsInRegion a b c p → ⊥
-    no (inl i) =
-        let m = i.3 in
-        let same = signed_gap (area a b c) (area p b c) (area a p c) (area a b p) h in
-        omega (arith, signed_linear, same, m, g)
-    no (inr i) = signed_not_none (area a b c) (area a p c) h k i.0
+-- a weight that is not below 0 has its area's sign
+signed_side : (d v : ℤ) → d ≢ pos 0 → v ≢ pos 0 → pos 0 ≤ℤ (sign d *ℤ v) → HaveOneSign d v
+signed_side d v h i l = grind (arith, signed_linear, h, i, l, one-*ℤ, neg-*ℤ, ints)
 
--- within it, on the arc's sides of the chord and of the line from b to c
+bent_if : (d x : ℤ) → pos 0 <ℤ (sign d *ℤ x) → d ≢ pos 0
+bent_if d x h e =
+    let z = (λ t. sign (e t) *ℤ x) ∙ ring (x ∷ []) (num (pos 0) ⊠ var 0) (num (pos 0)) tt in omega (arith, signed_linear, z, h)
+
 signed_above : (d x : ℤ) → HaveOneSign d x → pos 0 <ℤ (sign d *ℤ x)
 signed_above d x h = grind (arith, signed_linear, h, not_none, one-*ℤ, neg-*ℤ)
 
-within_region : (a b c p : Place) → HaveOneSign (area a b c) (area p b c) → HaveOneSign (area a b c) (area a p c)
-    → pos 0 <ℤ arc_gap a b c p → region_part a (Some b) c p ≡ sign (area a b c)
-within_region a b c p su sv g =
-    let d = area a b c in
-    let u = signed_above d (area p b c) su in
-    let same = signed_gap d (area p b c) (area a p c) (area a b p) (not_none d (area p b c) su).0 in
-    let gap : pos 0 <ℤ gap_of (sign d *ℤ area p b c) (sign d *ℤ area a p c) (sign d *ℤ area a b p) =
-    omega (arith, signed_linear, same, g) in
-    region_in a b c p (inl (
-      u,
-      signed_above d (area a p c) sv,
-      third_strictly (sign d *ℤ area p b c) (sign d *ℤ area a p c) (sign d *ℤ area a b p) u gap,
-      gap,
-    ))
+-- beyond the chord, seen from b, or outside the parabola, the piece is not there and its region adds nothing
+outside : (a : Place) (b : Option Place) (c p : Place) → area a p c ≢ pos 0
+    → (HaveOneSign (sum (areas_of_part a b c p)) (area a p c) → gap (areas_of_part a b c p) <ℤ pos 0)
+    → (¬ (IsOnPart a b c p)) × (region_part a b c p ≡ pos 0)
+outside a None c p k h = (λ o. k (none_back a c p o.collinear), refl)
+outside a (Some b) c p k h = (off, region_out a b c p out)
+  where
+    d : ℤ
+    d = area a b c
+
+    below : d ≢ pos 0 → pos 0 ≤ℤ weight_b a b c p → gap_of (weight_a a b c p) (weight_b a b c p) (weight_c a b c p) <ℤ pos 0
+    below n l =
+        let e = signed_gap d (area p b c) (area a p c) (area a b p) n in
+        let g = h (subst (λ z. HaveOneSign z (area a p c)) (sym (total_is a b c p)) (signed_side d (area a p c) n k l)) in
+        omega (arith, signed_linear, e, g)
+
+    off : ¬ (IsOnPart a (Some b) c p)
+    off (inl o) = let l = below o.bent o.on_arc.1 in let z = o.on_arc.3 in omega (arith, signed_linear, l, z)
+    off (inr o) = k (none_back a c p o.with_ac)
+
+    out : ¬ (IsInRegion a b c p)
+    out (inl i) =
+        let v = i.1 in
+        let l = below (bent_if d (area p b c) i.0) (omega (arith, signed_linear, v)) in
+        let g = i.3 in
+        omega (arith, signed_linear, l, g)
+    out (inr i) = signed_not_none d (area a p c) (bent_if d (area p b c) i.1) k i.0
+
+-- within the parabola, on the arc's side of the chord, the first area has that sign too
+inner_above : (u v w : ℤ) → pos 0 <ℤ (u +ℤ v +ℤ w) → pos 0 <ℤ v → pos 0 <ℤ gap_of u v w → pos 0 <ℤ u
+inner_above u v w d h g = by (below_or_not_ℤ (pos 0) u) (below_or_not_ℤ (v -ℤ u -ℤ w) (pos 0))
+  where
+    turned : gap_of u v w ≡ pos 0 -ℤ ((v -ℤ u -ℤ w) *ℤ (u +ℤ v +ℤ w) +ℤ (u -ℤ w) *ℤ (u -ℤ w))
+    turned = ring (u ∷ v ∷ w ∷ []) (num (pos 4) ⊠ (var 0 ⊠ var 2) ⊟ var 1 ⊠ var 1)
+        (num (pos 0) ⊟ ((var 1 ⊟ var 0 ⊟ var 2) ⊠ (var 0 ⊞ var 1 ⊞ var 2) ⊞ (var 0 ⊟ var 2) ⊠ (var 0 ⊟ var 2))) tt
+
+    by : (pos 0 <ℤ u) ⊎ (u ≤ℤ pos 0) → ((v -ℤ u -ℤ w) <ℤ pos 0) ⊎ (pos 0 ≤ℤ (v -ℤ u -ℤ w)) → pos 0 <ℤ u
+    by (inl l) o = l
+    by (inr l) (inr o) =
+        let p = product_at_least_zero (v -ℤ u -ℤ w) (u +ℤ v +ℤ w) o (omega (arith, signed_linear, d)) in
+        let q = square_at_least_zero (u -ℤ w) in
+        absurd (omega (arith, signed_linear, turned, p, q, g))
+    by (inr l) (inl o) =
+        let p = product_at_least_zero (pos 0 -ℤ u) w (omega (arith, signed_linear, l)) (omega (arith, signed_linear, l, o, h)) in
+        let q = square_at_least_zero v in
+        let e : gap_of u v w ≡ pos 0 -ℤ ((((pos 0 -ℤ u) *ℤ w +ℤ (pos 0 -ℤ u) *ℤ w) +ℤ ((pos 0 -ℤ u) *ℤ w +ℤ (pos 0 -ℤ u) *ℤ w))
+        +ℤ v *ℤ v) = ring (u ∷ v ∷ w ∷ []) (num (pos 4) ⊠ (var 0 ⊠ var 2) ⊟ var 1 ⊠ var 1) (num (pos 0) ⊟
+        (((((num (pos 0) ⊟ var 0) ⊠ var 2) ⊞ ((num (pos 0) ⊟ var 0) ⊠ var 2)) ⊞ (((num (pos 0) ⊟ var 0) ⊠ var 2) ⊞
+        ((num (pos 0) ⊟ var 0) ⊠ var 2))) ⊞ var 1 ⊠ var 1)) tt in
+        absurd (omega (arith, signed_linear, p, e, q, g))
+
+inner : (u v w : ℤ) → HaveOneSign (u +ℤ v +ℤ w) v → pos 0 <ℤ gap_of u v w → HaveOneSign (u +ℤ v +ℤ w) u
+inner u v w (inl (d, h)) g = inl (d, inner_above u v w d h g)
+inner u v w (inr (d, h)) g =
+    let e : gap_of (pos 0 -ℤ u) (pos 0 -ℤ v) (pos 0 -ℤ w) ≡ gap_of u v w =
+    ring (u ∷ v ∷ w ∷ []) (num (pos 4) ⊠ ((num (pos 0) ⊟ var 0) ⊠ (num (pos 0) ⊟ var 2)) ⊟
+    (num (pos 0) ⊟ var 1) ⊠ (num (pos 0) ⊟ var 1)) (num (pos 4) ⊠ (var 0 ⊠ var 2) ⊟ var 1 ⊠ var 1) tt in
+    let l = inner_above (pos 0 -ℤ u) (pos 0 -ℤ v) (pos 0 -ℤ w) (omega (arith, signed_linear, d))
+    (omega (arith, signed_linear, h)) (omega (arith, signed_linear, e, g)) in
+    inr (d, omega (arith, signed_linear, l))
+
+-- so it is in the region, and not on the arc
+within : (a b c p : Place) → let x = areas_of_part a (Some b) c p in HaveOneSign (sum x) x.1 → pos 0 <ℤ gap x
+    → (¬ (IsOnPart a (Some b) c p)) × (region_part a (Some b) c p ≡ sign (area a b c))
+within a b c p side g = (off, region_in a b c p (inl (u, v, w, up)))
+  where
+    d : ℤ
+    d = area a b c
+
+    bent : HaveOneSign d (area a p c)
+    bent = subst (λ z. HaveOneSign z (area a p c)) (total_is a b c p) side
+
+    u : pos 0 <ℤ weight_a a b c p
+    u = signed_above d (area p b c) (subst (λ z. HaveOneSign z (area p b c)) (total_is a b c p)
+        (inner (area p b c) (area a p c) (area a b p) side g))
+
+    v : pos 0 <ℤ weight_b a b c p
+    v = signed_above d (area a p c) bent
+
+    up : pos 0 <ℤ gap_of (weight_a a b c p) (weight_b a b c p) (weight_c a b c p)
+    up = let e = signed_gap d (area p b c) (area a p c) (area a b p) (not_none d (area a p c) bent).0 in
+        omega (arith, signed_linear, e, g)
+
+    w : pos 0 <ℤ weight_c a b c p
+    w = third_strictly (weight_a a b c p) (weight_b a b c p) (weight_c a b c p) u up
+
+    off : ¬ (IsOnPart a (Some b) c p)
+    off (inl o) = let z = o.on_arc.3 in omega (arith, signed_linear, z, up)
+    off (inr o) = (not_none d (area a p c) bent).1 (none_back a c p o.with_ac)
 
 -- ---- areas along a segment: each changes by one step from place to place
 -- how far the place n is from the place k
@@ -194,121 +224,97 @@ w_along : (pair : Pair) (k n : ℕ) (a b : Place)
     → area a b (place_in pair n) ≡ area a b (place_in pair k) +ℤ far k n *ℤ step pair.is_up a b
 w_along pair k n a b = grind (arith, signed_linear, area_next, u_along)
 
--- the three add up to the arc's area
-pub middle_of_total : (a b c p : Place) → area a p c ≡ (area a b c -ℤ area p b c) -ℤ area a b p
-middle_of_total a b c p =
-    ring (a.x ∷ a.y ∷ b.x ∷ b.y ∷ c.x ∷ c.y ∷ p.x ∷ p.y ∷ [])
-    (area_expr (var 0) (var 1) (var 6) (var 7) (var 4) (var 5))
-    ((area_expr (var 0) (var 1) (var 2) (var 3) (var 4) (var 5) ⊟ area_expr (var 6) (var 7) (var 2) (var 3) (var 4) (var 5)) ⊟
-    area_expr (var 0) (var 1) (var 2) (var 3) (var 6) (var 7)) tt
+-- all three
+abbrev pub moved : ℤ × ℤ × ℤ → ℤ → ℤ × ℤ × ℤ → ℤ × ℤ × ℤ
+moved x j d = (x.0 +ℤ j *ℤ d.0, x.1 +ℤ j *ℤ d.1, x.2 +ℤ j *ℤ d.2)
 
--- the areas of a place with an arc's points
-pub record AreArcAreas (a b c p : Place) (u v w : ℤ) : Type 0 where
-  pub first : u ≡ area p b c
-  pub middle : v ≡ area a p c
-  pub total : u +ℤ v +ℤ w ≡ area a b c
+abbrev area_steps : Bool → Place → Option Place → Place → ℤ × ℤ × ℤ
+area_steps up a None c = (pos 0, step up c a, pos 0)
+area_steps up a (Some b) c = (step up b c, step up c a, step up a b)
 
-pub arc_areas : (a b c p : Place) (u v w : ℤ) → (u, v, w) ≡ areas_of_part a (Some b) c p → AreArcAreas a b c p u v w
-arc_areas a b c p u v w e =
-    let x : u ≡ area p b c = ap (λ (x : ℤ × ℤ × ℤ). x.0) e in
-    let y : v ≡ area a p c = ap (λ (x : ℤ × ℤ × ℤ). x.1) e in
-    let z : w ≡ area a b p = ap (λ (x : ℤ × ℤ × ℤ). x.2) e in
-    let m = middle_of_total a b c p in
-    record { first = x; middle = y; total = omega (arith, signed_linear, x, y, z, m) }
+none_along : (j : ℤ) → pos 0 ≡ pos 0 +ℤ j *ℤ pos 0
+none_along j = ring (j ∷ []) (num (pos 0)) (num (pos 0) ⊞ var 0 ⊠ num (pos 0)) tt
 
--- the gap along a segment, from the place k on, or back from it
-gap_along : (pair : Pair) (k n : ℕ) (a b c : Place) → arc_gap a b c (place_in pair n)
-    ≡ gap_step (area a b c) (area (place_in pair k) b c) (area a b (place_in pair k)) (step pair.is_up b c) (step pair.is_up a b)
-    (far k n)
-gap_along pair k n a b c = grind (arith, middle_of_total, gap_in, u_along, w_along)
+areas_along : (pair : Pair) (k n : ℕ) (a : Place) (b : Option Place) (c : Place) → areas_of_part a b c (place_in pair n)
+    ≡ moved (areas_of_part a b c (place_in pair k)) (far k n) (area_steps pair.is_up a b c)
+areas_along pair k n a None c = λ t. (none_along (far k n) t, v_along pair k n a c t, none_along (far k n) t)
+areas_along pair k n a (Some b) c = λ t. (
+  u_along pair.is_up pair.here.col pair.here.row k n b c t,
+  v_along pair k n a c t,
+  w_along pair k n a b t,
+)
 
-far_back : (k n : ℕ) (d : ℤ) → far k n *ℤ d ≡ far n k *ℤ neg_ℤ d
-far_back k n d = ring (pos n ∷ pos k ∷ d ∷ []) ((var 0 ⊟ var 1) ⊠ var 2) ((var 1 ⊟ var 0) ⊠ minus (var 2)) tt
+-- their gap bends down
+square_of : (d f e : ℤ) → e ≡ pos 0 -ℤ (d +ℤ f) → pos 0 ≤ℤ bend d e f
+square_of d f e h =
+    let q = square_at_least_zero (d -ℤ f) in
+    let s : bend d (pos 0 -ℤ (d +ℤ f)) f ≡ (d -ℤ f) *ℤ (d -ℤ f) =
+    ring (d ∷ f ∷ []) ((num (pos 0) ⊟ (var 0 ⊞ var 1)) ⊠ (num (pos 0) ⊟ (var 0 ⊞ var 1)) ⊟ num (pos 4) ⊠ (var 0 ⊠ var 1))
+    ((var 0 ⊟ var 1) ⊠ (var 0 ⊟ var 1)) tt in
+    rw h (omega (arith, signed_linear, q, s))
 
-gap_back : (pair : Pair) (k n : ℕ) (a b c : Place) → arc_gap a b c (place_in pair n)
-    ≡ gap_step (area a b c) (area (place_in pair k) b c) (area a b (place_in pair k)) (neg_ℤ (step pair.is_up b c))
-    (neg_ℤ (step pair.is_up a b)) (far n k)
-gap_back pair k n a b c =
-    gap_along pair k n a b c
-    ∙ (λ i. gap_in (area a b c) (area (place_in pair k) b c +ℤ far_back k n (step pair.is_up b c) i)
-    (area a b (place_in pair k) +ℤ far_back k n (step pair.is_up a b) i))
+steps_bend : (up : Bool) (a : Place) (b : Option Place) (c : Place) → let d = area_steps up a b c in pos 0 ≤ℤ bend d.0 d.1 d.2
+steps_bend up a None c = let q = square_at_least_zero (step up c a) in omega (arith, signed_linear, q)
+steps_bend false a (Some b) c = square_of (b.y -ℤ c.y) (a.y -ℤ b.y) (c.y -ℤ a.y) (omega (arith, signed_linear))
+steps_bend true a (Some b) c = square_of (c.x -ℤ b.x) (b.x -ℤ a.x) (a.x -ℤ c.x) (omega (arith, signed_linear))
 
--- a run whose areas of one kind have one sign at both ends
-sign_along : (x d : ℤ) (k m n : ℕ) → k ≤ n → n ≤ m → HaveOneSign x (x +ℤ far k m *ℤ d) → HaveOneSign x (x +ℤ far k n *ℤ d)
-sign_along x d k m n low high h = linear_sign x d (far k n) (far k m) (omega (arith, signed_linear, low))
-    (omega (arith, signed_linear, high)) h
+-- ---- the gap along a segment
+-- the gap j places from the place k on
+abbrev gap_from : Pair → ℕ → Span → ℤ → ℤ
+gap_from pair k s j = gap (moved (areas_of s (place_in pair k)) j (area_steps pair.is_up s.a s.b s.c))
 
-pub v_sign : (pair : Pair) (k m n : ℕ) (a c : Place) → k ≤ n → n ≤ m
-    → HaveOneSign (area a (place_in pair k) c) (area a (place_in pair m) c)
-    → HaveOneSign (area a (place_in pair k) c) (area a (place_in pair n) c)
-v_sign pair k m n a c low high h =
-    subst (λ z. HaveOneSign (area a (place_in pair k) c) z) (sym (v_along pair k n a c))
-    (sign_along (area a (place_in pair k) c) (step pair.is_up c a) k m n low high
-    (subst (λ z. HaveOneSign (area a (place_in pair k) c) z) (v_along pair k m a c) h))
+gap_along : (pair : Pair) (k n : ℕ) (s : Span) (j : ℤ) → j ≡ far k n → gap_at s (place_in pair n) ≡ gap_from pair k s j
+gap_along pair k n s j e = ap gap (areas_along pair k n s.a s.b s.c) ∙ (λ t. gap_from pair k s (sym e t))
 
-u_sign : (pair : Pair) (k m n : ℕ) (b c : Place) → k ≤ n → n ≤ m
-    → HaveOneSign (area (place_in pair k) b c) (area (place_in pair m) b c)
-    → HaveOneSign (area (place_in pair k) b c) (area (place_in pair n) b c)
-u_sign pair k m n b c low high h =
-    subst (λ z. HaveOneSign (area (place_in pair k) b c) z) (sym (u_along pair.is_up pair.here.col pair.here.row k n b c))
-    (sign_along (area (place_in pair k) b c) (step pair.is_up b c) k m n low high
-    (subst (λ z. HaveOneSign (area (place_in pair k) b c) z) (u_along pair.is_up pair.here.col pair.here.row k m b c) h))
+-- it stays below 0 from a place on, in either direction, if it does not grow at the next place
+pub below_along : (pair : Pair) (k n : ℕ) (s : Span) → gap_at s (place_in pair k) <ℤ pos 0
+    → gap_at s (place_in pair (k + 1)) ≤ℤ gap_at s (place_in pair k) → k ≤ n → gap_at s (place_in pair n) <ℤ pos 0
+below_along pair k n s h l low =
+    let x = areas_of s (place_in pair k) in
+    let d = area_steps pair.is_up s.a s.b s.c in
+    let here = gap_along pair k k s (pos 0) (omega (arith, signed_linear)) in
+    let next = gap_along pair k (k + 1) s (pos 1) (omega (arith, signed_linear)) in
+    subst (λ z. z <ℤ pos 0) (sym (gap_along pair k n s (far k n) refl))
+    (gap_below x.0 x.1 x.2 d.0 d.1 d.2 (far k n) (steps_bend pair.is_up s.a s.b s.c) (subst (λ z. z <ℤ pos 0) here h)
+    (subst (λ (z : ℤ × ℤ). z.0 ≤ℤ z.1) (λ t. (next t, here t)) l) (omega (arith, signed_linear, low)))
 
-below_at : (x y : ℤ) → x ≡ y → y <ℤ pos 0 → x <ℤ pos 0
-below_at x y e h = omega (arith, signed_linear, e, h)
+pub below_back : (pair : Pair) (k j n : ℕ) (s : Span) → gap_at s (place_in pair k) <ℤ pos 0 → k ≡ j + 1
+    → gap_at s (place_in pair j) ≤ℤ gap_at s (place_in pair k) → n ≤ k → gap_at s (place_in pair n) <ℤ pos 0
+below_back pair k j n s h is l high =
+    let x = areas_of s (place_in pair k) in
+    let d = area_steps pair.is_up s.a s.b s.c in
+    let back : (i : ℤ) → gap_from pair k s i
+    ≡ gap_step x.0 x.1 x.2 (pos 0 -ℤ d.0) (pos 0 -ℤ d.1) (pos 0 -ℤ d.2) (pos 0 -ℤ i) =
+    λ i. gap_back x.0 x.1 x.2 d.0 d.1 d.2 i in
+    let here = gap_along pair k k s (pos 0) (omega (arith, signed_linear)) ∙ back (pos 0) in
+    let next = gap_along pair k j s (negsuc 0) (omega (arith, signed_linear, is)) ∙ back (negsuc 0) in
+    let bent = steps_bend pair.is_up s.a s.b s.c in
+    let same : bend (pos 0 -ℤ d.0) (pos 0 -ℤ d.1) (pos 0 -ℤ d.2) ≡ bend d.0 d.1 d.2 =
+    ring (d.0 ∷ d.1 ∷ d.2 ∷ []) ((num (pos 0) ⊟ var 1) ⊠ (num (pos 0) ⊟ var 1) ⊟
+    num (pos 4) ⊠ ((num (pos 0) ⊟ var 0) ⊠ (num (pos 0) ⊟ var 2)))
+    (var 1 ⊠ var 1 ⊟ num (pos 4) ⊠ (var 0 ⊠ var 2)) tt in
+    subst (λ z. z <ℤ pos 0) (sym (gap_along pair k n s (far k n) refl ∙ back (far k n)))
+    (gap_below x.0 x.1 x.2 (pos 0 -ℤ d.0) (pos 0 -ℤ d.1) (pos 0 -ℤ d.2) (pos 0 -ℤ far k n)
+    (omega (arith, signed_linear, same, bent))
+    (subst (λ z. z <ℤ pos 0) here h) (subst (λ (z : ℤ × ℤ). z.0 ≤ℤ z.1) (λ t. (next t, here t)) l)
+    (omega (arith, signed_linear, high)))
 
-far_none : (k : ℕ) → far k k ≡ pos 0
-far_none k = omega (arith, signed_linear)
-
--- the gap stays below 0 from a place on, in either direction, if it does not grow at the next place
-below_from : (d u w s t z o f g0 g1 g : ℤ) → g0 ≡ gap_step d u w s t z → z ≡ pos 0 → g1 ≡ gap_step d u w s t o → o ≡ pos 1
-    → g ≡ gap_step d u w s t f → g0 <ℤ pos 0 → g1 ≤ℤ g0 → pos 0 ≤ℤ f → g <ℤ pos 0
-below_from d u w s t z o f g0 g1 g e0 none e1 one e h l some =
-    grind (arith, e0, none, e1, one, e, h, l, some, gap_step, below_at, gap_below)
-
-pub below_along : (pair : Pair) (k n : ℕ) (a b c : Place) → arc_gap a b c (place_in pair k) <ℤ pos 0
-    → arc_gap a b c (place_in pair (k + 1)) ≤ℤ arc_gap a b c (place_in pair k) → k ≤ n
-    → arc_gap a b c (place_in pair n) <ℤ pos 0
-below_along pair k n a b c h l low =
-    below_from _ _ _ _ _ (far k k) (far k (k + 1)) (far k n) _ _ _ (gap_along pair k k a b c) (far_none k)
-    (gap_along pair k (k + 1) a b c) (omega (arith, signed_linear)) (gap_along pair k n a b c) h l
-    (omega (arith, signed_linear, low))
-
-pub below_back : (pair : Pair) (k j n : ℕ) (a b c : Place) → arc_gap a b c (place_in pair k) <ℤ pos 0 → k ≡ j + 1
-    → arc_gap a b c (place_in pair j) ≤ℤ arc_gap a b c (place_in pair k) → n ≤ k
-    → arc_gap a b c (place_in pair n) <ℤ pos 0
-below_back pair k j n a b c h is l high =
-    below_from _ _ _ _ _ (far k k) (far j k) (far n k) _ _ _ (gap_back pair k k a b c) (far_none k)
-    (gap_back pair k j a b c) (omega (arith, signed_linear, is)) (gap_back pair k n a b c) h l
-    (omega (arith, signed_linear, high))
-
-above_at : (x y : ℤ) → x ≡ y → pos 0 <ℤ y → pos 0 <ℤ x
-above_at x y e h = omega (arith, signed_linear, e, h)
-
-above_along : (pair : Pair) (k m n : ℕ) (a b c : Place) → pos 0 <ℤ arc_gap a b c (place_in pair k)
-    → pos 0 <ℤ arc_gap a b c (place_in pair m) → k ≤ n → n ≤ m → k < m → pos 0 <ℤ arc_gap a b c (place_in pair n)
-above_along pair k m n a b c h l low high some =
-    let G : ℤ → ℤ =
-    gap_step (area a b c) (area (place_in pair k) b c) (area a b (place_in pair k)) (step pair.is_up b c) (step pair.is_up a b) in
-    let e0 : arc_gap a b c (place_in pair k) ≡ G (pos 0) = gap_along pair k k a b c ∙ ap G (far_none k) in
-    above_at (arc_gap a b c (place_in pair n)) (G (far k n)) (gap_along pair k n a b c)
-    (gap_above (area a b c) (area (place_in pair k) b c) (area a b (place_in pair k)) (step pair.is_up b c) (step pair.is_up a b)
-    (far k n) (far k m) (subst (λ z. pos 0 <ℤ z) e0 h) (subst (λ z. pos 0 <ℤ z) (gap_along pair k m a b c) l)
-    (omega (arith, signed_linear, low)) (omega (arith, signed_linear, high)) (omega (arith, signed_linear, some)))
+above_along : (pair : Pair) (k m n : ℕ) (s : Span) → pos 0 <ℤ gap_at s (place_in pair k) → pos 0 <ℤ gap_at s (place_in pair m)
+    → k ≤ n → n ≤ m → k < m → pos 0 <ℤ gap_at s (place_in pair n)
+above_along pair k m n s h l low high some =
+    let x = areas_of s (place_in pair k) in
+    let d = area_steps pair.is_up s.a s.b s.c in
+    let here = gap_along pair k k s (pos 0) (omega (arith, signed_linear)) in
+    subst (λ z. pos 0 <ℤ z) (sym (gap_along pair k n s (far k n) refl))
+    (gap_above x.0 x.1 x.2 d.0 d.1 d.2 (far k n) (far k m) (steps_bend pair.is_up s.a s.b s.c) (subst (λ z. pos 0 <ℤ z) here h)
+    (subst (λ z. pos 0 <ℤ z) (gap_along pair k m s (far k m) refl) l) (omega (arith, signed_linear, low))
+    (omega (arith, signed_linear, high)) (omega (arith, signed_linear, some)))
 
 -- ---- a run of places
 -- neither coordinate of its places falls
 pub heights_along : (up : Bool) (col row : ℤ) (k n : ℕ) → k ≤ n → (place_on up col row k).y ≤ℤ (place_on up col row n).y
 heights_along false col row k n l = omega (arith, signed_linear)
 heights_along true col row k n l = omega (arith, signed_linear, l)
-
-pub height_in_row : (up : Bool) (col row : ℤ) (n : ℕ) → up ≡ false → (place_on up col row n).y ≡ (place_on up col row 0).y
-height_in_row false col row n e = omega (arith, signed_linear)
-height_in_row true col row n e = absurd (clash true e refl)
-
-pub height_rises : (up : Bool) (col row : ℤ) (n : ℕ) → up ≡ true → (place_on up col row n).y ≡ (place_on up col row 0).y +ℤ pos n
-height_rises false col row n e = absurd (clash true (sym e) refl)
-height_rises true col row n e = omega (arith, signed_linear)
 
 pub columns_along : (up : Bool) (col row : ℤ) (k n : ℕ) → k ≤ n → (place_on up col row k).x ≤ℤ (place_on up col row n).x
 columns_along false col row k n l = omega (arith, signed_linear, l)
@@ -321,103 +327,89 @@ side_along pair k m n y low high h = grind (arith, ints, low, high, h, heights_a
 before_end : (n m : ℕ) → n < m + 1 → n ≤ m
 before_end n m h = omega (arith, h)
 
-pub line_run : (pair : Pair) (k m : ℕ) (a c : Place) (t : ℤ) → IsWithin 1 t
-    → t ≡ chord_crossing a c (place_in pair k) → IsClear pair k m (record { a = a; b = None; c = c })
-    → IsPartTo pair k (m + 1) (record { a = a; b = None; c = c }) (Some t)
-line_run pair k m a c t small is h n low high =
-    let top = before_end n m high in
-    line_part a c (place_in pair k) (place_in pair n) t small is (side_along pair k m n a.y low top h.start)
-    (side_along pair k m n c.y low top h.end) (v_sign pair k m n a c low top h.side)
+-- the side of the chord along a run
+side_sign : (pair : Pair) (k m n : ℕ) (s : Span) → IsClear pair k m s → k ≤ n → n ≤ m
+    → HaveOneSign (area s.a (place_in pair k) s.c) (area s.a (place_in pair n) s.c)
+side_sign pair k m n s h low high =
+    subst (HaveOneSign (area s.a (place_in pair k) s.c)) (sym (v_along pair k n s.a s.c))
+    (linear_sign _ (step pair.is_up s.c s.a) (far k n) (far k m) (omega (arith, signed_linear, low))
+    (omega (arith, signed_linear, high)) (subst (λ (z : ℤ × ℤ). HaveOneSign z.0 z.1) (λ t. (
+      middle_of s.a s.b s.c (place_in pair k) t,
+      (middle_of s.a s.b s.c (place_in pair m) ∙ v_along pair k m s.a s.c) t,
+    )) h.side))
 
--- an arc off which the places are, and whose region counts one number at them
-arc_run : (pair : Pair) (k m : ℕ) (a b c : Place) (t g : ℤ) → IsWithin 2 t
-    → t ≡ chord_crossing a c (place_in pair k) +ℤ g → IsClear pair k m (record { a = a; b = Some b; c = c })
-    → ((n : ℕ) → k ≤ n → n ≤ m → (¬ (IsOnPart a (Some b) c (place_in pair n))) ×
-    (region_part a (Some b) c (place_in pair n) ≡ g))
-    → IsPartTo pair k (m + 1) (record { a = a; b = Some b; c = c }) (Some t)
-arc_run pair k m a b c t g small is h all n low high =
+-- where the chord and the region of a piece add one number each, so does the piece
+pub part_run : (pair : Pair) (k m : ℕ) (s : Span) (t x g : ℤ) → IsClear pair k m s → x ≡ crossing (place_in pair k) s
+    → IsRegionTo pair k m s g → IsWithin 1 x → IsWithin 1 g → t ≡ x +ℤ g → IsPartTo pair k (m + 1) s (Some t)
+part_run pair k m s t x g h crossed region small few is n low high =
     let top = before_end n m high in
-    let here = all n low top in
-    arc_part a b c (place_in pair k) (place_in pair n) t g small is (side_along pair k m n a.y low top h.start)
-    (side_along pair k m n c.y low top h.end) (v_sign pair k m n a c low top h.side) here.0 here.1
-
--- the chord alone
-chord_alone : (t x : ℤ) → IsWithin 1 t → t ≡ x → IsWithin 2 t × (t ≡ x +ℤ pos 0)
-chord_alone t x small is = grind (arith, small, is)
+    let here = region n low top in
+    let same = chord_same s.a s.c (place_in pair k) (place_in pair n) (side_along pair k m n s.a.y low top h.start)
+    (side_along pair k m n s.c.y low top h.end) (side_sign pair k m n s h low top) in (
+      (omega (arith, signed_linear, small, few, is), omega (arith, signed_linear, small, few, is)),
+      is ∙ (λ i. (crossed ∙ same) i +ℤ sym here.1 i),
+      here.0,
+    )
 
 -- a number that has one sign with another that has one sign with a third
 same_sign : (d x y : ℤ) → HaveOneSign d x → HaveOneSign x y → HaveOneSign d y
 same_sign d x y h k = grind (arith, signed_linear, h, k)
 
-other_sign : (d x y : ℤ) → HaveOneSign x y → ¬ (HaveOneSign d x) → ¬ (HaveOneSign d y)
-other_sign d x y h n k = grind (arith, signed_linear, h, n, k)
+first_sign : (d x y : ℤ) → HaveOneSign d y → HaveOneSign x y → HaveOneSign d x
+first_sign d x y h k = grind (arith, signed_linear, h, k)
 
-pub beyond_run : (pair : Pair) (k m : ℕ) (a b c : Place) (t : ℤ) → IsWithin 1 t
-    → t ≡ chord_crossing a c (place_in pair k)
-    → IsClear pair k m (record { a = a; b = Some b; c = c })
-    → ¬ (HaveOneSign (area a b c) (area a (place_in pair k) c))
-    → IsPartTo pair k (m + 1) (record { a = a; b = Some b; c = c }) (Some t)
-beyond_run pair k m a b c t small is h other =
-    let alone = chord_alone t (chord_crossing a c (place_in pair k)) small is in
-    arc_run pair k m a b c t (pos 0) alone.0 alone.1 h all
-  where
-    all : (n : ℕ) → k ≤ n → n ≤ m → (¬ (IsOnPart a (Some b) c (place_in pair n))) ×
-        (region_part a (Some b) c (place_in pair n) ≡ pos 0)
-    all n low high =
-        let sign = v_sign pair k m n a c low high h.side in
-        let apart = (not_none (area a (place_in pair k) c) (area a (place_in pair n) c) sign).1 in
-        let none = other_sign (area a b c) (area a (place_in pair k) c) (area a (place_in pair n) c) sign other in
-        (beyond_off a b c (place_in pair n) apart none, beyond_region a b c (place_in pair n) apart none)
+-- beyond the chord, seen from b, or outside the parabola
+same_total : (a : Place) (b : Option Place) (c p r : Place) → HaveOneSign (area a p c) (area a r c)
+    → HaveOneSign (sum (areas_of_part a b c r)) (area a r c)
+    → HaveOneSign (sum (areas_of_part a b c p)) (areas_of_part a b c p).1
+same_total a None c p r (inl h) k = inl (omega (arith, signed_linear, h), h.0)
+same_total a None c p r (inr h) k = inr (omega (arith, signed_linear, h), h.0)
+same_total a (Some b) c p r h k = subst (λ z. HaveOneSign z (area a p c)) (total_is a b c r ∙ sym (total_is a b c p))
+    (first_sign (sum (areas_of_part a (Some b) c r)) (area a p c) (area a r c) k h)
 
-below_apart : (x : ℤ) → x <ℤ pos 0 → x ≢ pos 0
-below_apart x h e = omega (arith, signed_linear, h, e)
+outside_run : (pair : Pair) (k m : ℕ) (s : Span) → IsClear pair k m s
+    → ((n : ℕ) → k ≤ n → n ≤ m → HaveOneSign (sum (areas_of s (place_in pair n))) (area s.a (place_in pair n) s.c)
+    → gap_at s (place_in pair n) <ℤ pos 0) → IsRegionTo pair k m s (pos 0)
+outside_run pair k m s h below n low high =
+    outside s.a s.b s.c (place_in pair n) (not_none _ _ (side_sign pair k m n s h low high)).1 (below n low high)
 
-above_apart : (x : ℤ) → pos 0 <ℤ x → x ≢ pos 0
-above_apart x h e = omega (arith, signed_linear, h, e)
+pub beyond_run : (pair : Pair) (k m : ℕ) (s : Span) → IsClear pair k m s
+    → ¬ (HaveOneSign (sum (areas_of s (place_in pair k))) (areas_of s (place_in pair k)).1) → IsRegionTo pair k m s (pos 0)
+beyond_run pair k m s h other = outside_run pair k m s h
+    (λ n low high o. absurd (other (same_total s.a s.b s.c _ _ (side_sign pair k m n s h low high) o)))
 
-pub without_run : (pair : Pair) (k m : ℕ) (a b c : Place) (t : ℤ) → IsWithin 1 t
-    → t ≡ chord_crossing a c (place_in pair k)
-    → IsClear pair k m (record { a = a; b = Some b; c = c })
-    → HaveOneSign (area a b c) (area a (place_in pair k) c)
-    → ((n : ℕ) → k ≤ n → n ≤ m → arc_gap a b c (place_in pair n) <ℤ pos 0)
-    → IsPartTo pair k (m + 1) (record { a = a; b = Some b; c = c }) (Some t)
-without_run pair k m a b c t small is h bent gap =
-    let alone = chord_alone t (chord_crossing a c (place_in pair k)) small is in
-    arc_run pair k m a b c t (pos 0) alone.0 alone.1 h all
-  where
-    all : (n : ℕ) → k ≤ n → n ≤ m → (¬ (IsOnPart a (Some b) c (place_in pair n))) ×
-        (region_part a (Some b) c (place_in pair n) ≡ pos 0)
-    all n low high =
-        let P = place_in pair n in
-        let g = gap n low high in
-        let apart = (not_none (area a (place_in pair k) c) (area a P c) (v_sign pair k m n a c low high h.side)).1 in (
-          gap_off a b c P apart (below_apart (arc_gap a b c P) g),
-          without_region a b c P (not_none (area a b c) (area a (place_in pair k) c) bent).0 apart g,
-        )
+pub without_run : (pair : Pair) (k m : ℕ) (s : Span) → IsClear pair k m s → IsBelowTo pair k m s → IsRegionTo pair k m s (pos 0)
+without_run pair k m s h below = outside_run pair k m s h (λ n low high o. below n low high)
 
-pub within_run : (pair : Pair) (k m : ℕ) (a b c : Place) (t : ℤ) → IsWithin 2 t
-    → t ≡ chord_crossing a c (place_in pair k) +ℤ sign (area a b c) → k < m
-    → IsClear pair k m (record { a = a; b = Some b; c = c })
-    → HaveOneSign (area a b c) (area a (place_in pair k) c)
-    → HaveOneSign (area a b c) (area (place_in pair k) b c)
-    → HaveOneSign (area (place_in pair k) b c) (area (place_in pair m) b c)
-    → pos 0 <ℤ arc_gap a b c (place_in pair k) → pos 0 <ℤ arc_gap a b c (place_in pair m)
-    → IsPartTo pair k (m + 1) (record { a = a; b = Some b; c = c }) (Some t)
-within_run pair k m a b c t small is some h bent inner us gk gm =
-    arc_run pair k m a b c t (sign (area a b c)) small is h all
-  where
-    all : (n : ℕ) → k ≤ n → n ≤ m → (¬ (IsOnPart a (Some b) c (place_in pair n))) ×
-        (region_part a (Some b) c (place_in pair n) ≡ sign (area a b c))
-    all n low high =
-        let P = place_in pair n in
-        let side = v_sign pair k m n a c low high h.side in
-        let g = above_along pair k m n a b c gk gm low high some in (
-          gap_off a b c P (not_none (area a (place_in pair k) c) (area a P c) side).1 (above_apart (arc_gap a b c P) g),
-          within_region a b c P
-              (same_sign (area a b c) (area (place_in pair k) b c) (area P b c) inner
-              (u_sign pair k m n b c low high us))
-              (same_sign (area a b c) (area a (place_in pair k) c) (area a P c) bent side) g,
-        )
+-- within it
+abbrev span : Place → Option Place → Place → Span
+span a b c = record { a = a; b = b; c = c }
+
+pub within_run : (pair : Pair) (k m : ℕ) (a : Place) (b : Option Place) (c : Place) → k < m → IsClear pair k m (span a b c)
+    → HaveOneSign (sum (areas_of_part a b c (place_in pair k))) (areas_of_part a b c (place_in pair k)).1
+    → pos 0 <ℤ gap_at (span a b c) (place_in pair k) → pos 0 <ℤ gap_at (span a b c) (place_in pair m)
+    → IsRegionTo pair k m (span a b c) (sign (sum (areas_of_part a b c (place_in pair k))))
+within_run pair k m a None c some h side gk gm n low high =
+    let q = square_at_least_zero (area a (place_in pair k) c) in absurd (omega (arith, signed_linear, gk, q))
+within_run pair k m a (Some b) c some h side gk gm n low high =
+    let s = span a (Some b) c in
+    let P = place_in pair k in
+    let R = place_in pair n in
+    let same : sum (areas_of s P) ≡ sum (areas_of s R) = total_is a b c P ∙ sym (total_is a b c R) in
+    let is = within a b c R (same_sign (sum (areas_of s R)) (area a P c) (area a R c)
+    (subst (λ z. HaveOneSign z (area a P c)) same side)
+    (side_sign pair k m n s h low high)) (above_along pair k m n s gk gm low high some) in
+    (is.0, is.1 ∙ ap sign (sym (total_is a b c P)))
+
+-- ---- coordinates and areas as words
+pub coordinate_word : (x : ℤ) → IsWithin 4194304 x → to_z w32 (of_z w32 x) ≡ x
+coordinate_word x h = omega (arith, signed_linear, h)
+
+pub area_word : (x : ℤ) → IsWithin 562949953421312 x → to_z w64 (of_z w64 x) ≡ x
+area_word x h = omega (arith, signed_linear, h)
+
+pub area_wider : (x : ℤ) → IsWithin 140737488355328 x → IsWithin 562949953421312 x
+area_wider x h = (omega (arith, signed_linear, h), omega (arith, signed_linear, h))
 
 -- ---- a piece to one side of all places
 none_part : (r : Place) (s : Span) → (crossing r s ≡ pos 0) × (region r s ≡ pos 0) × (¬ (IsOn r s)) → IsPart r s (Some (pos 0))
@@ -439,49 +431,41 @@ right_part p r s t h =
     left : HasAll (λ e. e.x <ℤ r.x) s
     left = HasAll-weaker (λ e. e.x <ℤ p.x) (λ e. e.x <ℤ r.x) (λ e l. omega (arith, signed_linear, l, t)) s h
 
--- left of all points of a piece: its parts by the heights of its ends, as numbers of places below these
-between : (n a c : ℕ) (y ay cy : ℤ) → (n < a) ↔ (y <ℤ ay) → (n < c) ↔ (y <ℤ cy)
-    → (a ≤ n → n < c → above y cy -ℤ above y ay ≡ pos 1) × (c ≤ n → n < a → above y cy -ℤ above y ay ≡ negsuc 0)
-    × ((n < a) × (n < c) ⊎ ((a ≤ n) × (c ≤ n)) → above y cy -ℤ above y ay ≡ pos 0)
-between n a c y ay cy h k = (λ l m. grind (arith, ints), λ l m. grind (arith, ints), λ o. grind (arith, ints))
+-- left of all points of a piece, between the same heights of its ends
+above_same : (y p r : ℤ) → IsOneSide y p r → above p y ≡ above r y
+above_same y p r h = grind (arith, ints, h.both)
 
-left_part : (q r : Place) (s : Span) (t : ℤ) → r.x ≤ℤ q.x → HasAll (λ e. q.x <ℤ e.x) s → IsWithin 2 t
-    → above r.y s.c.y -ℤ above r.y s.a.y ≡ t → IsPart r s (Some t)
-left_part q r s t l h small e = (small, sym (left_of_all r s right ∙ e), (left_off r s right).1)
+-- whether an end is above, as a number that the code has
+of_bool : (b : Bool) → pos (from_bool b) ≡ (if b then pos 1 else pos 0)
+of_bool true = refl
+of_bool false = refl
+
+pub above_is : (x p q y : ℤ) → x ≡ pos (from_bool (int_lt (to_z w32 (of_z w32 p)) (to_z w32 (of_z w32 y)))) → IsWithin 4194304 p
+    → IsWithin 4194304 y → p ≡ q → x ≡ above q y
+above_is x p q y is h k e = is ∙ (λ t. pos (from_bool (int_lt (coordinate_word p h t) (coordinate_word y k t))))
+    ∙ of_bool (int_lt p y) ∙ (λ t. above (e t) y)
+
+pub above_small : (x p y : ℤ) → x ≡ above p y → (pos 0 ≤ℤ x) × (x ≤ℤ pos 1)
+above_small x p y e = grind (arith, ints, e)
+
+pub left_part : (pair : Pair) (n : ℕ) (s : Span) (t : ℤ) → n < 128 → HasAll (λ e. (place_in pair 127).x <ℤ e.x) s
+    → ¬ (IsPassed s.a.y (place_in pair 0).y (place_in pair 127).y) → ¬ (IsPassed s.c.y (place_in pair 0).y (place_in pair 127).y)
+    → IsWithin 1 t → t ≡ above (place_in pair 0).y s.c.y -ℤ above (place_in pair 0).y s.a.y → IsPart (place_in pair n) s (Some t)
+left_part pair n s t l h start end small is = (
+  (omega (arith, signed_linear, small), omega (arith, signed_linear, small)),
+  is ∙ (λ i. same s.c.y end i -ℤ same s.a.y start i) ∙ sym (left_of_all (place_in pair n) s right),
+  (left_off (place_in pair n) s right).1,
+)
   where
-    right : HasAll (λ e. r.x <ℤ e.x) s
-    right = HasAll-weaker (λ e. q.x <ℤ e.x) (λ e. r.x <ℤ e.x) (λ e k. omega (arith, signed_linear, l, k)) s h
+    same : (y : ℤ) → ¬ (IsPassed y (place_in pair 0).y (place_in pair 127).y)
+        → above (place_in pair 0).y y ≡ above (place_in pair n).y y
+    same y h =
+        above_same y (place_in pair 0).y (place_in pair n).y (side_along pair 0 127 n y (omega arith) (before_end n 127 l) h)
 
-pub left_joined : (pair : Pair) (n a c : ℕ) (s : Span) (old new : ℤ) → n < 128 → HasAll (λ e. (place_in pair 127).x <ℤ e.x) s
-    → (n < a) ↔ ((place_in pair n).y <ℤ s.a.y) → (n < c) ↔ ((place_in pair n).y <ℤ s.c.y)
-    → (a ≤ n → n < c → new ≡ old +ℤ pos 1) → (c ≤ n → n < a → new ≡ old +ℤ negsuc 0)
-    → ((n < a) × (n < c) ⊎ ((a ≤ n) × (c ≤ n)) → new ≡ old) → IsJoined (place_in pair n) s old new
-left_joined pair n a c s old new l right h k rise fall none = by (below_or_not n a) (below_or_not n c)
-  where
-    turns : let y = (place_in pair n).y in (a ≤ n → n < c → above y s.c.y -ℤ above y s.a.y ≡ pos 1)
-        × (c ≤ n → n < a → above y s.c.y -ℤ above y s.a.y ≡ negsuc 0)
-        × ((n < a) × (n < c) ⊎ ((a ≤ n) × (c ≤ n)) → above y s.c.y -ℤ above y s.a.y ≡ pos 0)
-    turns = between n a c (place_in pair n).y s.a.y s.c.y h k
-
-    part : (t : ℤ) → IsWithin 2 t → above (place_in pair n).y s.c.y -ℤ above (place_in pair n).y s.a.y ≡ t → new ≡ old +ℤ t
-        → IsJoined (place_in pair n) s old new
-    part t small e sum = record {
-      part = Some t;
-      is = left_part (place_in pair 127) (place_in pair n) s t
-          (columns_along pair.is_up pair.here.col pair.here.row n 127 (omega (arith, l))) right small e;
-      sum = sum;
-    }
-
-    zero_part : (n < a) × (n < c) ⊎ ((a ≤ n) × (c ≤ n)) → IsJoined (place_in pair n) s old new
-    zero_part o =
-        let e = none o in
-        part (pos 0) (omega (arith, signed_linear), omega (arith, signed_linear)) (turns.2 o) (omega (arith, signed_linear, e))
-
-    by : (n < a) ⊎ (a ≤ n) → (n < c) ⊎ (c ≤ n) → IsJoined (place_in pair n) s old new
-    by (inl x) (inl y) = zero_part (inl (x, y))
-    by (inr x) (inr y) = zero_part (inr (x, y))
-    by (inr x) (inl y) = part (pos 1) (omega (arith, signed_linear), omega (arith, signed_linear)) (turns.0 x y) (rise x y)
-    by (inl x) (inr y) = part (negsuc 0) (omega (arith, signed_linear), omega (arith, signed_linear)) (turns.1 y x) (fall y x)
+    right : HasAll (λ e. (place_in pair n).x <ℤ e.x) s
+    right = HasAll-weaker (λ e. (place_in pair 127).x <ℤ e.x) (λ e. (place_in pair n).x <ℤ e.x)
+        (λ e k. let c = columns_along pair.is_up pair.here.col pair.here.row n 127 (omega (arith, l)) in
+        omega (arith, signed_linear, c, k)) s h
 
 -- a number that a piece adds, as the code has it
 pub part_as_stored : (p : Place) (s : Span) (t : ℤ) → IsPart p s (Some t) → IsPart p s (Some (to_z w32 (of_z w32 t)))
@@ -496,26 +480,7 @@ pub part_alone : (pair : Pair) (n : ℕ) (s : Span) (v : Option ℤ) → IsPart 
 part_alone pair n s v h k low high =
     let is : n ≡ k = omega (arith, low, high) in subst (λ (m : ℕ). IsPart (place_in pair m) s v) is h
 
--- ---- coordinates and areas as words
-pub coordinate_word : (x : ℤ) → IsWithin 4194304 x → to_z w32 (of_z w32 x) ≡ x
-coordinate_word x h = omega (arith, signed_linear, h)
-
-pub area_word : (x : ℤ) → IsWithin 562949953421312 x → to_z w64 (of_z w64 x) ≡ x
-area_word x h = omega (arith, signed_linear, h)
-
-pub area_wider : (x : ℤ) → IsWithin 140737488355328 x → IsWithin 562949953421312 x
-area_wider x h = (omega (arith, signed_linear, h), omega (arith, signed_linear, h))
-
 -- a test whether an end is passed has failed
 pub not_passed : (x : Bool) (end p q : Point) → (IsTrue x ↔ IsPassed (to_z w32 (of_z w32 end.y)) (to_z w32 (of_z w32 p.y))
     (to_z w32 (of_z w32 q.y))) → x ≡ false → ¬ (IsPassed end.y p.y q.y)
 not_passed x end p q h f k = grind (arith, h, f, k, clash, coordinate_word)
-
--- the areas of a place with a piece's ends
-part_middle : (a : Place) (b : Option Place) (c p : Place) → (areas_of_part a b c p).1 ≡ area a p c
-part_middle a None c p = refl
-part_middle a (Some b) c p = refl
-
-pub middle_is : (s : Piece) (p : Place) (v : Weights) → (v.u, v.v, v.w) ≡ areas_of (span_of s) p
-    → v.v ≡ area (place_of s.a) p (place_of s.c)
-middle_is s p v h = ap (λ (z : ℤ × ℤ × ℤ). z.1) h ∙ part_middle (place_of s.a) (maybe_place_of s.b) (place_of s.c) p

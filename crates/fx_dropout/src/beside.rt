@@ -1,11 +1,13 @@
 //! Pieces beside all places of a segment.
 
-ghost use Rattle.std.specs.Prelude.{◌≡◌, pos, ◌<ℤ◌, IsTrue, Some};
+ghost use Rattle.std.specs.Prelude.{◌≡◌, pos, ◌<ℤ◌, IsTrue, Some, IfSome};
+ghost use Rattle.fx_fixed.specs.Ranges.{IsWithin};
 ghost use Rattle.fx_winding.specs.Outside.{HasAll};
 ghost use Rattle.fx_winding.specs.Winding.{place_of, span_of};
-ghost use Rattle.fx_dropout.specs.inner.Runs.{coordinate_of, place_in, IsPartTo};
+ghost use Rattle.fx_dropout.specs.inner.Runs.{coordinate_of, IsPartTo};
 
 use crate::pair::Pair;
+use crate::run::is_passed;
 use fx_winding::{Piece, Point};
 
 /// A point's height or, with `false`, how far right it is.
@@ -52,25 +54,32 @@ fn is_below(piece: &Piece, is_height: bool, limit: Point) -> bool
     }
 }
 
-/// Whether a piece lies above, below or left of all places, so that it adds nothing there.
+/// What a piece adds at all places, if it lies beside them: nothing if it is above, below or left of them, and else 1 or -1
+/// between the heights of its ends; or None.
 #[inline(always)]
-pub(crate) fn is_aside(piece: &Piece, pair: Pair) -> bool
-    ensures { IsTrue result → IsPartTo pair 0 128 (span_of piece.now) (Some (pos 0)) }
+pub(crate) fn turn_beside(piece: &Piece, pair: Pair) -> Option<i32>
+    ensures size { IfSome result (IsWithin 1) }
+    ensures part { IfSome result (λ t. IsPartTo pair 0 128 (span_of piece.now) (Some t)) }
 {
     let first = pair.place(0);
-    if is_above(piece, true, pair.place(127)) {
-        return true;
+    let last = pair.place(127);
+    if is_above(piece, true, last) {
+        return Some(0);
     }
     if is_below(piece, true, first) {
-        return true;
+        return Some(0);
     }
-    is_below(piece, false, first)
-}
-
-/// Whether a piece lies right of all places.
-#[inline(always)]
-pub(crate) fn is_right(piece: &Piece, pair: Pair) -> bool
-    ensures { IsTrue result → HasAll (λ e. (place_in pair 127).x <ℤ e.x) (span_of piece.now) }
-{
-    is_above(piece, false, pair.place(127))
+    if is_below(piece, false, first) {
+        return Some(0);
+    }
+    if !is_above(piece, false, last) {
+        return None;
+    }
+    if is_passed(piece.a.y, first.y, last.y) {
+        return None;
+    }
+    if is_passed(piece.c.y, first.y, last.y) {
+        return None;
+    }
+    Some(i32::from(first.y < piece.c.y) - i32::from(first.y < piece.a.y))
 }

@@ -9,7 +9,6 @@
 mod beside;
 mod chooser;
 mod closing;
-mod course;
 pub mod laws;
 mod look;
 mod nearer;

@@ -1,17 +1,15 @@
 //! What pieces add to the winding numbers of the places between the centres of two neighbours.
 
-ghost use Rattle.std.specs.Prelude.{◌≡◌, ◌≢◌, ◌↔◌, ◌⊎◌, ℕ, ◌+◌, ◌*◌, ◌^◌, ◌≤◌, ◌<◌, pos, IsTrue, Some, ◌<ℤ◌, length, map, get_or, IfSome};
+ghost use Rattle.std.specs.Prelude.{◌≡◌, ◌⊎◌, ℕ, ◌+◌, ◌*◌, ◌^◌, ◌≤◌, ◌<◌, pos, ◌+ℤ◌, IsTrue, Some, length, map, get_or, IfSome};
 ghost use Rattle.fx_fixed.specs.Ranges.{IsWithin};
 ghost use Rattle.fx_winding.specs.Limits.{most_pieces};
-ghost use Rattle.fx_winding.specs.Outside.{HasAll};
 ghost use Rattle.fx_winding.specs.Winding.{span_of};
 ghost use Rattle.fx_dropout.specs.inner.Runs.{place_in, sum_of, IsJoined, IsSummed};
 
-use crate::beside::{is_aside, is_right};
-use crate::course::Course;
+use crate::beside::turn_beside;
 use crate::pair::Pair;
 use crate::run::{PLACES, next_part};
-use fx_winding::{Piece, Point, Tally};
+use fx_winding::{Piece, Tally};
 
 /// Marks a place that is on a piece. Pieces that come later change the mark, but it stays far above any winding number.
 const MARK: i32 = 1 << 30;
@@ -58,41 +56,6 @@ fn add_run(places: &mut [i32], first: usize, count: usize, added: Option<i32>)
     }
 }
 
-/// How many of a segment's places lie below the height of a point.
-#[inline(always)]
-fn places_below(pair: Pair, end: Point) -> usize
-    ensures few { result ≤ 128 }
-    ensures below { (n : ℕ) → n < 128 → (n < result) ↔ ((place_in pair n).y <ℤ end.y) }
-{
-    let far = end.y - pair.place(0).y;
-    if far <= 0 {
-        return 0;
-    }
-    if pair.is_up {
-        return PLACES.min(far as usize);
-    }
-    PLACES
-}
-
-/// Adds what a piece right of all places adds at each: 1 or -1 between the heights of its ends.
-#[inline(always)]
-fn add_right(piece: &Piece, pair: Pair, places: &mut [i32])
-    requires room { length places.old ≡ 128 }
-    requires small { (n : ℕ) → n < 128 → IsWithin (2 ^ 30 + 2 ^ 20) (get_or places.old n (pos 0)) }
-    requires right { HasAll (λ e. (place_in pair 127).x <ℤ e.x) (span_of piece.now) }
-    ensures length { length places.new ≡ 128 }
-    ensures joined { (n : ℕ) → n < 128 → IsJoined (place_in pair n) (span_of piece.now)
-        (get_or places.old n (pos 0)) (get_or places.new n (pos 0)) }
-{
-    let a = places_below(pair, piece.a);
-    let c = places_below(pair, piece.c);
-    if a < c {
-        add_run(places, a, c - a, Some(1));
-    } else {
-        add_run(places, c, a - c, Some(-1));
-    }
-}
-
 /// Adds what a piece adds at each place, run by run.
 #[inline(never)]
 fn add_parts(piece: &Piece, pair: Pair, places: &mut [i32], tally: &mut Tally)
@@ -103,57 +66,49 @@ fn add_parts(piece: &Piece, pair: Pair, places: &mut [i32], tally: &mut Tally)
         (get_or places.old n (pos 0)) (get_or places.new n (pos 0)) }
     ensures count { tally.new.count ≤ tally.old.count + 31 * 128 }
 {
-    let course = Course::of(piece, pair, tally);
     let mut n = 0;
     // What the piece adds at the first n places has been added.
     'parts: while n < PLACES {
-        let part = next_part(&course, n, tally);
+        let part = next_part(piece, pair, n, tally);
         add_run(places, n, part.count, part.turn);
         n += part.count;
     }
 }
 
-/// Adds what a piece adds at each place. Most pieces lie to one side.
+/// Adds what a piece adds at each place, but returns what it adds at all places if it lies beside them, as most do.
 #[inline(always)]
-fn add_piece(piece: &Piece, pair: Pair, places: &mut [i32], tally: &mut Tally)
+fn add_piece(piece: &Piece, pair: Pair, places: &mut [i32], tally: &mut Tally) -> i32
     requires room { length places.old ≡ 128 }
     requires small { (n : ℕ) → n < 128 → IsWithin (2 ^ 30 + 2 ^ 20) (get_or places.old n (pos 0)) }
     ensures length { length places.new ≡ 128 }
+    ensures size { IsWithin 1 result }
     ensures joined { (n : ℕ) → n < 128 → IsJoined (place_in pair n) (span_of piece.now)
-        (get_or places.old n (pos 0)) (get_or places.new n (pos 0)) }
+        (get_or places.old n (pos 0)) (get_or places.new n (pos 0) +ℤ result) }
     ensures count { tally.new.count ≤ tally.old.count + 31 * 128 }
 {
-    if is_aside(piece, pair) {
-        return;
+    match turn_beside(piece, pair) {
+        Some(turn) => turn,
+        None => {
+            add_parts(piece, pair, places, tally);
+            0
+        }
     }
-    if is_right(piece, pair) {
-        add_right(piece, pair, places);
-        return;
-    }
-    add_parts(piece, pair, places, tally);
 }
 
-/// Adds what the pieces add at each place.
-pub(crate) fn add_pieces(pieces: &[Piece], pair: Pair, places: &mut [i32], tally: &mut Tally)
+/// Adds what the pieces add at each place, but returns what those beside all places add at each.
+pub(crate) fn add_pieces(pieces: &[Piece], pair: Pair, places: &mut [i32], tally: &mut Tally) -> i32
     requires few { length pieces.now ≤ most_pieces }
     requires room { length places.old ≡ 128 }
     requires none { (n : ℕ) → n < 128 → get_or places.old n (pos 0) ≡ pos 0 }
     ensures length { length places.new ≡ 128 }
     ensures summed { (n : ℕ) → n < 128 → IsSummed (place_in pair n) (map span_of pieces.now)
-        (2 ^ 17) (get_or places.new n (pos 0)) }
+        (2 ^ 18) (get_or places.new n (pos 0)) result }
     ensures count { tally.new.count ≤ tally.old.count + 31 * 128 * length pieces.now }
 {
+    let mut all = 0;
     // What the pieces before this one add is known at each place.
     'pieces: for piece in pieces {
-        add_piece(piece, pair, places, tally);
+        all += add_piece(piece, pair, places, tally);
     }
-}
-
-/// Whether a place is on a piece, or has a winding number other than 0.
-#[inline(always)]
-pub(crate) fn is_covered(place: i32) -> bool
-    requires { IsWithin (2 ^ 30 + 2 ^ 20) place }
-    ensures { IsTrue result ↔ (place ≢ pos 0) }
-{
-    place != 0
+    all
 }

@@ -1,14 +1,17 @@
 //! Runs of places at which a piece is on none, and adds one number to their winding numbers.
 //!
-//! How far a run may reach is guessed first: up to the next end of the piece, to its chord, and to its arc. Then it is tested.
+//! How far a run may reach is guessed first: up to the next end of the piece and to its chord, and then to its arc. Then it is
+//! tested. A line is an arc whose first and last area are 0: its gap is below 0 off the line.
 
 ghost use Rattle.std.specs.Prelude.{◌≡◌, ◌↔◌, ◌+◌, ◌≤◌, ◌<◌, ◌^◌, pos, ◌+ℤ◌, ◌<ℤ◌, IsTrue, Some, IfSome};
 ghost use Rattle.fx_fixed.specs.Ranges.{IsWithin};
-ghost use Rattle.fx_winding.specs.Winding.{place_of, sign, span_of, areas_of, crossing as crossing_of};
-ghost use Rattle.fx_dropout.specs.inner.Runs.{HaveOneSign, IsBelowTo, IsClear, IsPart, IsPartTo, IsPassed, place_in, gap_at};
+ghost use Rattle.fx_winding.specs.Winding.{place_of, sign, span_of, areas_of};
+ghost use Rattle.fx_dropout.specs.inner.Runs.{HaveOneSign, IsBelowTo, IsClear, IsPart, IsPartTo, IsPassed, IsRegionTo, place_in, gap_at};
 
-use crate::course::Course;
-use fx_winding::{Piece, Point, Tally, Weights, crossing, curve_gap, on_piece, region};
+use crate::pair::Pair;
+use fx_winding::{
+    Piece, Point, Tally, Weights, areas, crossing, curve_gap, difference, on_piece, region,
+};
 
 /// How many places of a segment are looked at: the centre of its first pixel, and the 127 between the two centres.
 pub(crate) const PLACES: usize = 128;
@@ -20,6 +23,18 @@ struct PlaceRun {
     last: usize,
     ghost order: { first < last },
     ghost few: { last < 128 },
+}
+
+/// The areas of a place of a segment with each two of a piece's points.
+#[inline(always)]
+fn areas_at(piece: &Piece, pair: Pair, n: usize, tally: &mut Tally) -> Weights
+    requires { n < 128 }
+    ensures value { (result.u, result.v, result.w) ≡ areas_of (span_of piece.now) (place_in pair n) }
+    ensures count { tally.new.count ≤ tally.old.count + 1 }
+{
+    let p = pair.place(n);
+    let (u, v, w) = areas(piece, p.x, p.y, tally);
+    Weights { u, v, w }
 }
 
 /// Whether two numbers are above 0, or both below.
@@ -57,24 +72,6 @@ fn sign_of(d: i64) -> i32
     }
 }
 
-/// Whether the gap of an arc, below 0 at both ends of a run, is seen to stay below: it does not grow from one of the ends inward,
-/// and along a line it bends down.
-fn stays_below(course: &Course, b: Point, run: PlaceRun, first: i128, last: i128) -> bool
-    requires middle { course.now.piece.b ≡ Some b }
-    requires first { first ≡ gap_at (span_of course.now.piece) (place_in course.now.pair run.first) }
-    requires last { last ≡ gap_at (span_of course.now.piece) (place_in course.now.pair run.last) }
-    requires first_size { IsWithin (2 ^ 97) first }
-    requires last_size { IsWithin (2 ^ 97) last }
-    requires first_below { first <ℤ pos 0 }
-    requires last_below { last <ℤ pos 0 }
-    ensures { IsTrue result → IsBelowTo course.now.pair run.first run.last (span_of course.now.piece) }
-{
-    if curve_gap(course.at(run.first + 1)) <= first {
-        return true;
-    }
-    curve_gap(course.at(run.last - 1)) <= last
-}
-
 /// Whether a place is on that side of an arc's chord on which the arc is, by its areas.
 fn is_on_side(at: Weights) -> bool
     ensures { IsTrue result ↔ HaveOneSign (at.u +ℤ at.v +ℤ at.w) at.v }
@@ -82,37 +79,50 @@ fn is_on_side(at: Weights) -> bool
     have_one_sign(total_of(at), at.v)
 }
 
-/// Whether the first and the last place of a run are on that side of the line from an arc's control point to its end on which the
-/// arc is, by their areas.
-fn is_inner(p: Weights, q: Weights) -> bool
-    ensures { IsTrue result → HaveOneSign (p.u +ℤ p.v +ℤ p.w) p.u × HaveOneSign p.u q.u }
+/// Whether the gap of a piece, below 0 at both ends of a run, is seen to stay below: it does not grow from one of the ends inward,
+/// and along a line it bends down.
+fn stays_below(
+    piece: &Piece,
+    pair: Pair,
+    run: PlaceRun,
+    first: i128,
+    last: i128,
+    tally: &mut Tally,
+) -> bool
+    requires first { first ≡ gap_at (span_of piece.now) (place_in pair run.first) }
+    requires last { last ≡ gap_at (span_of piece.now) (place_in pair run.last) }
+    requires first_size { IsWithin (2 ^ 97) first }
+    requires last_size { IsWithin (2 ^ 97) last }
+    requires first_below { first <ℤ pos 0 }
+    requires last_below { last <ℤ pos 0 }
+    ensures below { IsTrue result → IsBelowTo pair run.first run.last (span_of piece.now) }
+    ensures count { tally.new.count ≤ tally.old.count + 2 }
 {
-    if !have_one_sign(total_of(p), p.u) {
-        return false;
+    if curve_gap(areas_at(piece, pair, run.first + 1, tally)) <= first {
+        return true;
     }
-    have_one_sign(p.u, q.u)
+    curve_gap(areas_at(piece, pair, run.last - 1, tally)) <= last
 }
 
-/// What an arc adds at each place of a run on one side of its chord, if the run is seen to lie beyond the chord, within the arc's
-/// region or outside it. `crossed` is what its chord adds at the first place.
-fn arc_turn(
-    course: &Course,
-    b: Point,
+/// What the region of an arc adds at each place of a run on one side of its chord, if the run is seen to lie beyond the chord,
+/// within the arc or outside it, by the areas at its ends.
+fn region_along(
+    piece: &Piece,
+    pair: Pair,
     run: PlaceRun,
     p: Weights,
     q: Weights,
-    crossed: i32,
+    tally: &mut Tally,
 ) -> Option<i32>
-    requires middle { course.now.piece.b ≡ Some b }
-    requires clear { IsClear course.now.pair run.first run.last (span_of course.now.piece) }
-    requires first { (p.u, p.v, p.w) ≡ areas_of (span_of course.now.piece) (place_in course.now.pair run.first) }
-    requires last { (q.u, q.v, q.w) ≡ areas_of (span_of course.now.piece) (place_in course.now.pair run.last) }
-    requires crossed { crossed ≡ crossing_of (place_in course.now.pair run.first) (span_of course.now.piece) }
-    requires size { IsWithin 1 crossed }
-    ensures { IfSome result (λ t. IsPartTo course.now.pair run.first (run.last + 1) (span_of course.now.piece) (Some t)) }
+    requires clear { IsClear pair run.first run.last (span_of piece.now) }
+    requires first { (p.u, p.v, p.w) ≡ areas_of (span_of piece.now) (place_in pair run.first) }
+    requires last { (q.u, q.v, q.w) ≡ areas_of (span_of piece.now) (place_in pair run.last) }
+    ensures size { IfSome result (IsWithin 1) }
+    ensures region { IfSome result (IsRegionTo pair run.first run.last (span_of piece.now)) }
+    ensures count { tally.new.count ≤ tally.old.count + 2 }
 {
     if !is_on_side(p) {
-        return Some(crossed);
+        return Some(0);
     }
     let first = curve_gap(p);
     let last = curve_gap(q);
@@ -120,10 +130,7 @@ fn arc_turn(
         if last <= 0 {
             return None;
         }
-        if !is_inner(p, q) {
-            return None;
-        }
-        return Some(crossed + sign_of(total_of(p)));
+        return Some(sign_of(total_of(p)));
     }
     if first >= 0 {
         return None;
@@ -131,14 +138,14 @@ fn arc_turn(
     if last >= 0 {
         return None;
     }
-    if !stays_below(course, b, run, first, last) {
+    if !stays_below(piece, pair, run, first, last, tally) {
         return None;
     }
-    Some(crossed)
+    Some(0)
 }
 
 /// Whether a height is above the one of two others and not above the other.
-fn is_passed(y: i32, low: i32, high: i32) -> bool
+pub(crate) fn is_passed(y: i32, low: i32, high: i32) -> bool
     ensures { IsTrue result ↔ IsPassed y low high }
 {
     if y <= low {
@@ -148,71 +155,71 @@ fn is_passed(y: i32, low: i32, high: i32) -> bool
 }
 
 /// Whether no end of a piece is passed in a run, and its first and last place are on one side of the piece's chord.
-fn is_clear(course: &Course, run: PlaceRun, p: Weights, q: Weights) -> bool
-    requires first { (p.u, p.v, p.w) ≡ areas_of (span_of course.now.piece) (place_in course.now.pair run.first) }
-    requires last { (q.u, q.v, q.w) ≡ areas_of (span_of course.now.piece) (place_in course.now.pair run.last) }
-    ensures { IsTrue result → IsClear course.now.pair run.first run.last (span_of course.now.piece) }
+fn is_clear(piece: &Piece, pair: Pair, run: PlaceRun, p: Weights, q: Weights) -> bool
+    requires first { (p.u, p.v, p.w) ≡ areas_of (span_of piece.now) (place_in pair run.first) }
+    requires last { (q.u, q.v, q.w) ≡ areas_of (span_of piece.now) (place_in pair run.last) }
+    ensures { IsTrue result → IsClear pair run.first run.last (span_of piece.now) }
 {
-    let low = course.pair.place(run.first);
-    let high = course.pair.place(run.last);
-    if is_passed(course.piece.a.y, low.y, high.y) {
+    let low = pair.place(run.first);
+    let high = pair.place(run.last);
+    if is_passed(piece.a.y, low.y, high.y) {
         return false;
     }
-    if is_passed(course.piece.c.y, low.y, high.y) {
+    if is_passed(piece.c.y, low.y, high.y) {
         return false;
     }
     have_one_sign(p.v, q.v)
 }
 
-/// What a piece adds at each place of a run, if it is seen to be one number. `at` are its areas at the first place, and `crossed`
-/// is what its chord adds there.
-fn turn_along(course: &Course, run: PlaceRun, at: Weights, crossed: i32) -> Option<i32>
-    requires first { (at.u, at.v, at.w) ≡ areas_of (span_of course.now.piece) (place_in course.now.pair run.first) }
-    requires crossed { crossed ≡ crossing_of (place_in course.now.pair run.first) (span_of course.now.piece) }
-    requires size { IsWithin 1 crossed }
-    ensures { IfSome result (λ t. IsPartTo course.now.pair run.first (run.last + 1) (span_of course.now.piece) (Some t)) }
+/// What a piece adds at each place of a run, if it is seen to be one number. `p` are its areas at the first place.
+fn turn_along(
+    piece: &Piece,
+    pair: Pair,
+    run: PlaceRun,
+    p: Weights,
+    tally: &mut Tally,
+) -> Option<i32>
+    requires first { (p.u, p.v, p.w) ≡ areas_of (span_of piece.now) (place_in pair run.first) }
+    ensures part { IfSome result (λ t. IsPartTo pair run.first (run.last + 1) (span_of piece.now) (Some t)) }
+    ensures count { tally.new.count ≤ tally.old.count + 4 }
 {
-    let last = course.at(run.last);
-    if !is_clear(course, run, at, last) {
+    let q = areas_at(piece, pair, run.last, tally);
+    if !is_clear(piece, pair, run, p, q) {
         return None;
     }
-    match course.piece.b {
-        None => Some(crossed),
-        Some(b) => arc_turn(course, b, run, at, last, crossed),
+    let first = pair.place(run.first);
+    let crossed = crossing(piece, first.x, first.y, tally);
+    match region_along(piece, pair, run, p, q, tally) {
+        None => None,
+        Some(added) => Some(crossed + added),
     }
 }
 
-/// How often `step` can be taken off `number` before it reaches 0, counting the start; at most 128.
-fn steps_down(number: u64, step: u64) -> usize
-    requires number { 0 < number }
-    requires step { 0 < step }
-    requires number_size { number ≤ 2 ^ 47 }
-    requires step_size { step ≤ 2 ^ 48 }
-    ensures { 0 < result }
+/// How the area of a place with a piece's ends changes from place to place.
+fn chord_step(piece: &Piece, is_up: bool) -> i64
+    ensures { IsWithin (2 ^ 23) result }
 {
-    let steps = (number + step - 1) / step;
-    steps.min(128) as usize
+    if is_up {
+        difference(piece.a.x, piece.c.x)
+    } else {
+        difference(piece.c.y, piece.a.y)
+    }
 }
 
 /// How often a step can be added to a number before it reaches 0, counting the start; at most 128.
 fn steps_to_zero(number: i64, step: i64) -> usize
     requires number { IsWithin (2 ^ 47) number }
-    requires step { IsWithin (2 ^ 48) step }
+    requires step { IsWithin (2 ^ 23) step }
     ensures { 0 < result }
 {
     if number == 0 {
         return 1;
     }
-    if number > 0 {
-        if step < 0 {
-            return steps_down(number as u64, -step as u64);
-        }
+    if step == 0 || (number > 0) == (step > 0) {
         return PLACES;
     }
-    if step > 0 {
-        return steps_down(-number as u64, step as u64);
-    }
-    PLACES
+    let most = number.unsigned_abs() - 1;
+    (most / step.unsigned_abs() + 1).min(128) as usize
 }
 
 /// How many of `most` places, from one at the height y on, come before the height of a point; all of them if the first does not.
@@ -231,18 +238,27 @@ fn places_to_end(end: Point, y: i32, most: usize) -> usize
 }
 
 /// How many places from the place n on come before the height of the next of a piece's ends; all of them in a row.
-fn places_to_ends(course: &Course, n: usize) -> usize
+fn places_to_ends(piece: &Piece, pair: Pair, n: usize) -> usize
     requires before { n < 128 }
     ensures some { 0 < result }
     ensures few { n + result ≤ 128 }
 {
     let most = PLACES - n;
-    if !course.pair.is_up {
+    if !pair.is_up {
         return most;
     }
-    let p = course.pair.place(n);
-    let most = places_to_end(course.piece.a, p.y, most);
-    places_to_end(course.piece.c, p.y, most)
+    let y = pair.place(n).y;
+    places_to_end(piece.c, y, places_to_end(piece.a, y, most))
+}
+
+/// How many places from the place n on come before a piece's next end and its chord, by the area of that place with the chord.
+fn places_to_chord(piece: &Piece, pair: Pair, n: usize, area: i64) -> usize
+    requires before { n < 128 }
+    requires size { IsWithin (2 ^ 47) area }
+    ensures some { 0 < result }
+    ensures few { n + result ≤ 128 }
+{
+    steps_to_zero(area, chord_step(piece, pair.is_up)).min(places_to_ends(piece, pair, n))
 }
 
 /// Whether two numbers are above 0, both below, or both 0.
@@ -250,42 +266,34 @@ fn are_alike(a: i128, b: i128) -> bool {
     (a > 0) == (b > 0) && (a < 0) == (b < 0)
 }
 
-/// How many of `count` places, from the place n on, come before the arc: before the gap's sign changes, if it does. `gap` is the
-/// one of the place n.
-fn places_to_arc(course: &Course, gap: i128, n: usize, count: usize) -> usize
+/// How many of `count` places, from the place n on, come before the arc, as a guess: before the gap's sign changes, if it does.
+/// `at` are the areas of the place n.
+fn places_to_arc(
+    piece: &Piece,
+    pair: Pair,
+    n: usize,
+    at: Weights,
+    count: usize,
+    tally: &mut Tally,
+) -> usize
     requires some { 0 < count }
     requires few { n + count ≤ 128 }
-    ensures some { 0 < result }
     ensures few { result ≤ count }
+    ensures count { tally.new.count ≤ tally.old.count + 7 }
 {
-    if are_alike(gap, curve_gap(course.at(n + count - 1))) {
-        return count;
-    }
+    let gap = curve_gap(at);
     let mut low = 0;
     let mut high = count;
     // The sign is that of `gap` at `low` places after n, and may be another one at `high`, if that is less than `count`.
-    'halves: while low + 1 < high {
+    'halves: for _step in 0..7usize {
         let middle = (low + high) / 2;
-        if are_alike(gap, curve_gap(course.at(n + middle))) {
+        if are_alike(gap, curve_gap(areas_at(piece, pair, n + middle, tally))) {
             low = middle;
         } else {
             high = middle;
         }
     }
     high
-}
-
-/// How many places from the place n on have one part, as a guess. `at` are the piece's areas there.
-fn places_alike(course: &Course, n: usize, at: Weights) -> usize
-    requires before { n < 128 }
-    ensures some { 0 < result }
-    ensures few { n + result ≤ 128 }
-{
-    let count = steps_to_zero(at.v, course.chord_step()).min(places_to_ends(course, n));
-    if count == 1 || !is_on_side(at) {
-        return count;
-    }
-    places_to_arc(course, curve_gap(at), n, count)
 }
 
 /// What a piece adds to the winding number at p, or None if p is on it.
@@ -308,47 +316,49 @@ pub(crate) struct Part {
 }
 
 /// What a piece adds at the place n alone.
-fn part_alone(course: &Course, n: usize, tally: &mut Tally) -> Part
+fn part_alone(piece: &Piece, pair: Pair, n: usize, tally: &mut Tally) -> Part
     requires before { n < 128 }
     ensures one { result.count ≡ 1 }
-    ensures part { IsPartTo course.now.pair n (n + result.count) (span_of course.now.piece) result.turn }
+    ensures part { IsPartTo pair n (n + result.count) (span_of piece.now) result.turn }
     ensures count { tally.new.count ≤ tally.old.count + 3 }
 {
     Part {
         count: 1,
-        turn: turn_at(&course.piece, course.pair.place(n), tally),
+        turn: turn_at(piece, pair.place(n), tally),
     }
 }
 
 /// What a piece adds at the place n, and at how many places from there on it is seen to add that.
 #[inline(always)]
-pub(crate) fn next_part(course: &Course, n: usize, tally: &mut Tally) -> Part
+pub(crate) fn next_part(piece: &Piece, pair: Pair, n: usize, tally: &mut Tally) -> Part
     requires before { n < 128 }
     ensures some { 0 < result.count }
     ensures few { n + result.count ≤ 128 }
-    ensures part { IsPartTo course.now.pair n (n + result.count) (span_of course.now.piece) result.turn }
-    ensures count { tally.new.count ≤ tally.old.count + 4 }
+    ensures part { IsPartTo pair n (n + result.count) (span_of piece.now) result.turn }
+    ensures count { tally.new.count ≤ tally.old.count + 31 }
 {
-    let first = course.pair.place(n);
-    let at = course.at(n);
-    let crossed = crossing(&course.piece, first.x, first.y, tally);
-    let mut count = places_alike(course, n, at);
+    let at = areas_at(piece, pair, n, tally);
+    let mut count = places_to_chord(piece, pair, n, at.v);
     // The next try is `count` places.
-    'halves: for _ in 0..8usize {
+    'tries: for tries in 0..5usize {
         if count <= 1 {
-            return part_alone(course, n, tally);
+            return part_alone(piece, pair, n, tally);
         }
         let run = PlaceRun {
             first: n,
             last: n + count - 1,
         };
-        if let Some(turn) = turn_along(course, run, at, crossed) {
+        if let Some(turn) = turn_along(piece, pair, run, at, tally) {
             return Part {
                 count,
                 turn: Some(turn),
             };
         }
-        count /= 2;
+        count = if tries == 0 {
+            places_to_arc(piece, pair, n, at, count, tally)
+        } else {
+            count / 4
+        };
     }
-    part_alone(course, n, tally)
+    part_alone(piece, pair, n, tally)
 }

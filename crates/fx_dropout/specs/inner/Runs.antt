@@ -1,9 +1,9 @@
 -- What a piece adds at places of the segment between two neighbours.
 use Rattle.std.specs.Prelude.{◌≡◌, ◌⊎◌, ℕ, ◌≤◌, ◌<◌, ◌^◌, ℤ, pos, ◌+ℤ◌, ◌-ℤ◌, ◌≤ℤ◌, ◌<ℤ◌, Bool, true, false, List, Option, Some, None, Any}
 use Rattle.fx_fixed.specs.Ranges.{IsWithin}
-use Rattle.fx_winding.specs.Area.{Place, area, gap_of}
+use Rattle.fx_winding.specs.Area.{Place, gap_of}
 use Rattle.fx_winding.specs.Meets.{turn}
-use Rattle.fx_winding.specs.Winding.{Span, IsOn, areas_of, winding}
+use Rattle.fx_winding.specs.Winding.{Span, IsOn, areas_of, region, winding}
 use Rattle.fx_dropout.specs.declared.pair.Pair.{Pair}
 use Rattle.fx_dropout.specs.Dropout.{place_on}
 
@@ -38,7 +38,7 @@ IsPassed y low high = (low <ℤ y) × (y ≤ℤ high)
 pub record IsClear (pair : Pair) (first last : ℕ) (s : Span) : Type 0 where
   pub start : ¬ (IsPassed s.a.y (place_in pair first).y (place_in pair last).y)
   pub end : ¬ (IsPassed s.c.y (place_in pair first).y (place_in pair last).y)
-  pub side : HaveOneSign (area s.a (place_in pair first) s.c) (area s.a (place_in pair last) s.c)
+  pub side : HaveOneSign (areas_of s (place_in pair first)).1 (areas_of s (place_in pair last)).1
 
 -- the gap 4uw - v² of the areas of a place with a piece's points
 abbrev pub gap_at : Span → Place → ℤ
@@ -47,6 +47,11 @@ gap_at s p = gap_of (areas_of s p).0 (areas_of s p).1 (areas_of s p).2
 -- the gap is below 0 at all places of a segment from the one to the other
 abbrev pub IsBelowTo : Pair → ℕ → ℕ → Span → Type 0
 IsBelowTo pair first last s = (n : ℕ) → first ≤ n → n ≤ last → gap_at s (place_in pair n) <ℤ pos 0
+
+-- none of the places is on a piece, and its region adds one number at each
+abbrev pub IsRegionTo : Pair → ℕ → ℕ → Span → ℤ → Type 0
+IsRegionTo pair first last s g =
+    (n : ℕ) → first ≤ n → n ≤ last → (¬ (IsOn (place_in pair n) s)) × (region (place_in pair n) s ≡ g)
 
 -- ---- sums
 -- a number that stands for a place on a piece; what other pieces add changes it, but not to one that a winding number can be
@@ -64,7 +69,8 @@ pub record IsJoined (p : Place) (s : Span) (old new : ℤ) : Type 0 where
   pub is : IsPart p s part
   pub sum : new ≡ sum_of old part
 
--- what pieces add at a place is known: one of them is there, and the number is within k of the mark; or it is their winding
--- number, within k
-abbrev pub IsSummed : Place → List Span → ℕ → ℤ → Type 0
-IsSummed p ss k v = (Any (IsOn p) ss × IsWithin k (v -ℤ mark)) ⊎ ((¬ (Any (IsOn p) ss)) × IsWithin k v × (v ≡ winding p ss))
+-- what pieces add at a place is known, as a number v and one that all places have: one of them is there, and the sum is near the
+-- mark; or the sum is their winding number
+pub record IsSummed (p : Place) (ss : List Span) (k : ℕ) (v all : ℤ) : Type 0 where
+  pub few : IsWithin k all
+  pub known : (Any (IsOn p) ss × IsWithin k (v -ℤ mark)) ⊎ ((¬ (Any (IsOn p) ss)) × IsWithin k v × (v +ℤ all ≡ winding p ss))

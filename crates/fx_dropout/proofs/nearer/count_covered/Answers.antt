@@ -1,5 +1,6 @@
-use Rattle.std.proofs.Common.{◌≡◌, ◌≢◌, ◌↔◌, ◌+◌, pos, IsTrue, get_or, subst, arith, w32, to_z, of_z}
+use Rattle.std.proofs.Common.{◌≡◌, ◌≢◌, ◌↔◌, IsTrue, ℕ, ◌+◌, ℤ, pos, ◌+ℤ◌, get_or, subst, arith, w32, to_z, of_z}
 use Rattle.fx_fixed.proofs.Linear.{signed_linear}
+use Rattle.fx_dropout.specs.Dropout.{IsCount}
 use Rattle.fx_dropout.proofs.Counts.{count_none, count_from, few_from}
 use Rattle.fx_dropout.proofs.nearer.count_covered.Goals as goal
 
@@ -10,14 +11,21 @@ pub places-preserved : goal.places-preserved
 places-preserved c =
     let inv = c.places.invariant in
     let place = get_or c.args.places.now (c.places.n + c.args.from) (pos 0) in
+    let all = to_z w32 (of_z w32 c.args.all) in
+    let few = c.requires.few in
     let small = c.requires.small (c.places.n + c.args.from) (omega arith) in
-    let e : to_z w32 (of_z w32 place) ≡ place = omega (arith, signed_linear, small) in
+    let word : all ≡ c.args.all = omega (arith, signed_linear, few) in
+    let sum : to_z w32 (of_z w32 (to_z w32 (of_z w32 place) +ℤ all)) ≡ place +ℤ all = omega (arith, signed_linear, small, word) in
     record {
-      counted = count_from (λ n. get_or c.args.places.now (n + c.args.from) (pos 0) ≢ pos 0) c.places.n c.places.count
+      counted = count_from (λ n. (get_or c.args.places.now (n + c.args.from) (pos 0) +ℤ all) ≢ pos 0) c.places.n c.places.count
           c.from-count.result c.is_covered.result
-          (subst (λ z. IsTrue c.is_covered.result ↔ (z ≢ pos 0)) e c.is_covered.ensures) c.from-count.ensures inv.counted;
+          (subst (λ z. IsTrue c.is_covered.result ↔ (z ≢ pos 0)) sum c.is_covered.ensures) c.from-count.ensures inv.counted;
       few = few_from c.places.count c.places.n c.from-count.result c.is_covered.result c.from-count.ensures inv.few;
     }
 
 pub returns : goal.returns
-returns c = grind (arith, c.places.invariant.counted)
+returns c =
+    let few = c.requires.few in
+    subst (λ (z : ℤ). IsCount (λ n. (get_or c.args.places.now (n + c.args.from) (pos 0) +ℤ z) ≢ pos 0) 63 c.places.count)
+    (omega (arith, signed_linear, few)) (subst (λ (k : ℕ). IsCount (λ n. (get_or c.args.places.now (n + c.args.from) (pos 0)
+    +ℤ to_z w32 (of_z w32 c.args.all)) ≢ pos 0) k c.places.count) (omega arith) c.places.invariant.counted)

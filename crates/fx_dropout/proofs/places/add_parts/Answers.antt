@@ -2,9 +2,7 @@ use Rattle.std.proofs.Common.{inl, inr, sym, ◌∙◌, ap, subst, ◌+◌, ◌�
 use Rattle.fx_fixed.proofs.Order.{below_or_not}
 use Rattle.fx_winding.specs.Area.{Place}
 use Rattle.fx_winding.specs.Winding.{span_of}
-use Rattle.fx_winding.specs.declared.point.Piece.{Piece}
-use Rattle.fx_dropout.specs.declared.pair.Pair.{Pair}
-use Rattle.fx_dropout.specs.inner.Runs.{place_in, sum_of, IsJoined, IsPart}
+use Rattle.fx_dropout.specs.inner.Runs.{place_in, sum_of, IsJoined}
 use Rattle.fx_dropout.proofs.places.add_parts.Goals as goal
 
 pub parts-preserved : goal.parts-preserved
@@ -26,14 +24,11 @@ parts-preserved c =
     let late : (k : ℕ) → n ≤ k → k < n + count → IsJoined (P k) s (get_or old k (pos 0)) (get_or new k (pos 0)) =
     λ k low high. record {
       part = part.result.turn;
-      is = subst (λ (z : Piece × Pair). IsPart (place_in z.1 k) (span_of z.0) part.result.turn) (λ i. (inv.piece i, inv.pair i))
-          (part.ensures.part k low high);
+      is = part.ensures.part k low high;
       sum = c.add_run.ensures.run k low high ∙ ap (λ v. sum_of v part.result.turn) (inv.others k low);
     } in
     record {
       few = part.ensures.few;
-      piece = inv.piece;
-      pair = inv.pair;
       length = c.add_run.ensures.length ∙ inv.length;
       joined = λ k l. elim (below_or_not k n) [
         | inl h ↦ early k h

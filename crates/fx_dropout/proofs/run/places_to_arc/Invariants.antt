@@ -1,8 +1,10 @@
-use Rattle.std.proofs.Common.{◌-◌, ◌≤◌, ◌<◌}
+use Rattle.std.proofs.Common.{◌+◌, ◌≤◌, ◌<◌}
 use Rattle.fx_dropout.proofs.run.places_to_arc.Given as goal
 
 abbrev pub invariant-halves : goal.invariant-halves
-invariant-halves l = record { order : l.low < l.high; few : l.high ≤ l.count }
-
-abbrev pub decreases-halves : goal.decreases-halves
-decreases-halves l = l.high - l.low
+invariant-halves l = record {
+  order : l.low ≤ l.high;
+  low : l.low < l.count;
+  few : l.high ≤ l.count;
+  tests : l.tally.count ≤ l.fn.tally.count + l._step;
+}
