@@ -1,6 +1,6 @@
 -- The loop returns what the definition gives: at the end (`finished_here`), a halt (`halted_here`) or the limit (`limit_here`).
 -- It serves the run of a program.
-use Rattle.std.proofs.Common.{◌≡◌, ◌≢◌, ◌≤◌, ℕ, suc, ◌+◌, ◌-◌, ◌<◌, List, [], ◌∷◌, length, reverse, Result, Ok, Err, inl, inr, refl, ◌∙◌}
+use Rattle.std.proofs.Common.{◌≡◌, ◌≢◌, ◌≤◌, ℕ, suc, ◌+◌, ◌-◌, ◌<◌, List, [], ◌∷◌, length, reverse, Result, Ok, Err, inl, inr, refl, subst, ◌∙◌}
 use Rattle.std.proofs.Common.{arith}
 use Rattle.std.proofs.lemmas.Bool.{eq-eqb, cases_lt, lt-ltb, le-ltb}
 use Rattle.std.proofs.lemmas.Bool.Decides.{eqb_tells, leb_tells}
@@ -26,11 +26,11 @@ use Rattle.fx_machine.proofs.Reading.{row_cut}
 use Rattle.fx_machine.proofs.Stepping.{none_left, none_after_end, none_after_halt, left_events, no_events}
 
 module _ (texts : Program
-    → List ℕ) (g : ℕ) (start : Program) (limit n : ℕ) (items : List OpenCall) (w : Program) (p : ℕ) (now : State)
+    → List ℕ) (g : ℕ) (start : Program) (left n : ℕ) (items : List OpenCall) (w : Program) (p : ℕ) (now : State)
   where
     -- what is answered from here
     abbrev From : Result (ℕ × State) Halt
-    From = answered texts g start (answer_from (row_at texts) (limit - n) n (config (reverse items) w p now))
+    From = answered texts g start (answer_from (row_at texts) left n (config (reverse items) w p now))
 
     at_end : p ≡ length (texts w) → row_at texts w p now ≡ Ends
     unfolding row_in
@@ -52,20 +52,20 @@ module _ (texts : Program
     finished_here e z =
         let t : Takes (row_at texts) (reverse items) w p now Finishes =
         record { is = rw (at_end e) (no_calls (reverse items) (rw length-reverse z)) } in
-        rw (go_finishes (row_at texts) (limit - n) n (reverse items) w p now t) refl
+        rw (go_finishes (row_at texts) left n (reverse items) w p now t) refl
 
-    pub halted_from : (cause : Cause) → n < limit → moved_by (row_at texts w p now) (reverse items) w ≡ Stops cause
+    pub halted_from : (cause : Cause) → 0 < left → moved_by (row_at texts w p now) (reverse items) w ≡ Stops cause
         → Err (halt_at texts g start w p cause) ≡ From
     halted_from cause lt m =
-        let e : limit - n ≡ suc (limit - suc n) = omega arith in
-        rw (e, go_one (row_at texts) (limit - suc n) n (reverse items) w p now (Stops cause) (record { is = m })) refl
+        let e : left ≡ suc (left - 1) = omega arith in
+        rw (e, go_one (row_at texts) (left - 1) n (reverse items) w p now (Stops cause) (record { is = m })) refl
 
-    pub stray_here : n < limit → p ≡ length (texts w) → 0 < length items
+    pub stray_here : 0 < left → p ≡ length (texts w) → 0 < length items
         → Err (halt_at texts g start w p StrayEnd) ≡ From
     stray_here lt e z = halted_from StrayEnd lt (rw (at_end e) (some_calls (reverse items) (rw length-reverse z)))
 
     -- past the end the bytes are cut
-    pub cut_here : n < limit → p ≢ length (texts w) → length (texts w) ≤ p → Err (halt_at texts g start w p CodeEnd) ≡ From
+    pub cut_here : 0 < left → p ≢ length (texts w) → length (texts w) ≤ p → Err (halt_at texts g start w p CodeEnd) ≡ From
     cut_here lt apart past = halted_from CodeEnd lt (rw (← row_cut w p now (texts w) apart past) refl)
 
     -- what comes of an instruction that is there is not the end
@@ -95,12 +95,11 @@ module _ (texts : Program
       ]
     ]
 
-    pub limit_from : n ≡ limit → (p ≡ length (texts w) → length items ≡ 0 → ⊥)
+    pub limit_from : left ≡ 0 → (p ≡ length (texts w) → length items ≡ 0 → ⊥)
         → Err (halt_at texts g start w p StepLimit) ≡ From
     limit_from e none =
-        let z : limit - n ≡ 0 = omega arith in
         rw (
-          z,
+          e,
           limit_by (reverse items) (moved_by (row_at texts w p now) (reverse items) w) refl
               (λ f. let x = finishes_only (reverse items) f in none x.0 (rw length-reverse at x.1)),
         ) refl
@@ -108,48 +107,47 @@ module _ (texts : Program
     -- ---- what is left for a watcher
 
     abbrev Nothing : Type 0
-    Nothing = left_events texts g (limit - n) (config (reverse items) w p now) ≡ []
+    Nothing = left_events texts g left (config (reverse items) w p now) ≡ []
 
-    unseen_by : (K : List OpenCall) → row_at texts w p now ≡ Ends → steps_from (row_at texts) (limit - n) (config K w p now) ≡ []
-    unseen_by [] e = none_after_end (row_at texts) (limit - n) [] w p now (rw e refl)
-    unseen_by (f ∷ K) e = none_after_halt (row_at texts) (limit - n) (f ∷ K) w p now StrayEnd (rw e refl)
+    unseen_by : (K : List OpenCall) → row_at texts w p now ≡ Ends → steps_from (row_at texts) left (config K w p now) ≡ []
+    unseen_by [] e = none_after_end (row_at texts) left [] w p now (rw e refl)
+    unseen_by (f ∷ K) e = none_after_halt (row_at texts) left (f ∷ K) w p now StrayEnd (rw e refl)
 
     pub unseen_halt : (cause : Cause) → moved_by (row_at texts w p now) (reverse items) w ≡ Stops cause → Nothing
-    unseen_halt cause m = no_events texts g (limit - n) (config (reverse items) w p now)
-        (none_after_halt (row_at texts) (limit - n) (reverse items) w p now cause m)
+    unseen_halt cause m = no_events texts g left (config (reverse items) w p now)
+        (none_after_halt (row_at texts) left (reverse items) w p now cause m)
 
     -- nothing is left at the end of a program or past it
     pub unseen_past : length (texts w) ≤ p → Nothing
     unseen_past past = elim (eqb_tells p (length (texts w))) [
-      | inl x ↦ no_events texts g (limit - n) (config (reverse items) w p now) (unseen_by (reverse items) (at_end x.1))
+      | inl x ↦ no_events texts g left (config (reverse items) w p now) (unseen_by (reverse items) (at_end x.1))
       | inr x ↦ unseen_halt CodeEnd (rw (← row_cut w p now (texts w) x.1 past) refl)
     ]
 
-    pub unseen_limit : n ≡ limit → Nothing
+    pub unseen_limit : left ≡ 0 → Nothing
     unseen_limit e =
-        let z : limit - n ≡ 0 = omega arith in
-        no_events texts g (limit - n) (config (reverse items) w p now) (rw z (none_left (row_at texts) (reverse items) w p now))
+        no_events texts g left (config (reverse items) w p now) (rw e (none_left (row_at texts) (reverse items) w p now))
 
 -- ---- what is answered from here is due
 
-module _ (texts : Program → List ℕ) (g : ℕ) (start : Program) (limit : ℕ) (first now : State) (n : ℕ) (items : List OpenCall)
-    (w : Program) (p : ℕ)
-    (h : answer_of (row_at texts) limit start first ≡ answer_from (row_at texts) (limit - n) n (config (reverse items) w p now))
+module _ (texts : Program → List ℕ) (g : ℕ) (start : Program) (limit : ℕ) (first now : State) (left n : ℕ)
+    (items : List OpenCall) (w : Program) (p : ℕ)
+    (h : answer_of (row_at texts) limit start first ≡ answer_from (row_at texts) left n (config (reverse items) w p now))
   where
     abbrev Due : Result (ℕ × State) Halt
     Due = answered texts g start (answer_of (row_at texts) limit start first)
 
-    pub halted_here : (cause : Cause) → n < limit → moved_by (row_at texts w p now) (reverse items) w ≡ Stops cause
+    pub halted_here : (cause : Cause) → 0 < left → moved_by (row_at texts w p now) (reverse items) w ≡ Stops cause
         → Err (halt_at texts g start w p cause) ≡ Due
-    halted_here cause lt m = rw h (halted_from texts g start limit n items w p now cause lt m)
+    halted_here cause lt m = rw h (halted_from texts g start left n items w p now cause lt m)
 
-    pub limit_here : n ≡ limit → p < length (texts w) → Err (halt_at texts g start w p StepLimit) ≡ Due
-    limit_here e inside = rw h (limit_from texts g start limit n items w p now e (λ x z. omega (arith, inside, x)))
+    pub limit_here : left ≡ 0 → p < length (texts w) → Err (halt_at texts g start w p StepLimit) ≡ Due
+    limit_here e inside = rw h (limit_from texts g start left n items w p now e (λ x z. omega (arith, inside, x)))
 
-    pub stepped : (d : Config) → n < limit → moved_by (row_at texts w p now) (reverse items) w ≡ Moves d
-        → answer_of (row_at texts) limit start first ≡ answer_from (row_at texts) (limit - (n + 1)) (n + 1) d
+    pub stepped : (d : Config) → 0 < left → moved_by (row_at texts w p now) (reverse items) w ≡ Moves d
+        → answer_of (row_at texts) limit start first ≡ answer_from (row_at texts) (left - 1) (n + 1) d
     stepped d lt m =
-        let e : limit - n ≡ suc (limit - suc n) = omega arith in
+        let e : suc (left - 1) ≡ left = omega arith in
         let q : n + 1 ≡ suc n = omega arith in
-        let x = go_one (row_at texts) (limit - suc n) n (reverse items) w p now (Moves d) (record { is = m }) in
-        rw q (h ∙ rw e x)
+        rw q (h ∙ subst (λ k. answer_from (row_at texts) k n (config (reverse items) w p now) ≡ answer_from (row_at texts)
+        (left - 1) (suc n) d) e (go_one (row_at texts) (left - 1) n (reverse items) w p now (Moves d) (record { is = m })))

@@ -42,20 +42,21 @@ module _ (texts : Program → List ℕ) (g : ℕ) where
   left_events left c = map (executed texts g) (steps_from (row_at texts) left c)
 
   pub events_begin : (limit : ℕ) (w : Program) (s : State) (items : List OpenCall) → items ≡ []
-      → events_of texts g limit w s ≡ Begins (named g w) s ∷ left_events (limit - 0) (config (reverse items) w 0 s)
+      → events_of texts g limit w s ≡ Begins (named g w) s ∷ left_events limit (config (reverse items) w 0 s)
   unfolding events_of left_events
-  events_begin limit w s items none = let e : limit - 0 ≡ limit = omega arith in rw (e, none) refl
+  events_begin limit w s items none = rw none refl
 
   pub no_events : (left : ℕ) (c : Config) → steps_from (row_at texts) left c ≡ [] → left_events left c ≡ []
   unfolding left_events
   no_events left c e = rw e refl
 
-  pub one_event : (limit n : ℕ) (K : List OpenCall) (w : Program) (p : ℕ) (s : State) (items : List OpenCall) (v : Program) (q : ℕ)
-      (t : State) (count : ℕ) → count ≡ length items → n < limit
+  pub one_event : (left : ℕ) (K : List OpenCall) (w : Program) (p : ℕ) (s : State) (items : List OpenCall) (v : Program) (q : ℕ)
+      (t : State) (count : ℕ) → count ≡ length items → 0 < left
       → moved_by (row_at texts w p s) K w ≡ Moves (config (reverse items) v q t)
-      → left_events (limit - n) (config K w p s)
-      ≡ Executed (named g w) (texts w) p count t ∷ left_events (limit - (n + 1)) (config (reverse items) v q t)
+      → left_events left (config K w p s)
+      ≡ Executed (named g w) (texts w) p count t ∷ left_events (left - 1) (config (reverse items) v q t)
   unfolding left_events
-  one_event limit n K w p s items v q t count ec lt m =
-      let e : limit - n ≡ suc (limit - (n + 1)) = omega (arith, lt) in
-      rw (ec, e, one_step (row_at texts) (limit - (n + 1)) K w p s (config (reverse items) v q t) m, length-reverse items) refl
+  one_event zero K w p s items v q t count ec lt m = absurd (omega (arith, lt))
+  one_event (suc left) K w p s items v q t count ec lt m =
+      let e : suc left - 1 ≡ left = omega arith in
+      rw (ec, e, one_step (row_at texts) left K w p s (config (reverse items) v q t) m, length-reverse items) refl

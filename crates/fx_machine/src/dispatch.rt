@@ -1,5 +1,6 @@
-//! The instruction table. `row` has an arm for each opcode of 2x and 5x, for 42 to 4F, 60 to 67 and PUSHB of one to three bytes,
-//! and for the first, from which on a table needs no subtraction. Programs execute these most, and each takes one jump by table.
+//! The instruction table. `row` has an arm for each opcode of 2x, for PUSHB of one to three bytes, and for the first opcode, from
+//! which on a table needs no subtraction; `row_5x` and `row_4x_6x` have those of 5x, 42 to 4F and 60 to 67. Programs execute these
+//! most. Each of the three does nothing before its match, so that the compiler makes one table of them: it takes one jump.
 //! `other_row` finds all others by the high nibble, as the definition does.
 //!
 //! All of it is inlined into the loop of a run, so that no action goes through memory. Only `push`, ROUND, NROUND and the rows of
@@ -24,6 +25,14 @@ use fx_code::opcode::*;
 use fx_code::{Code, Targets};
 use fx_fixed::Axis;
 use fx_gstate::{DeltaForm, RoundState};
+
+/// The address after that of an instruction without data. It is worked out where it is needed, so that it takes no register before.
+fn after(bytes: &[u8], address: usize) -> usize
+    requires { address < length bytes.now }
+    ensures { result ≡ address + 1 }
+{
+    address + 1
+}
 
 impl State {
     /// MDRP and MIRP.
@@ -189,7 +198,7 @@ impl State {
     ///
     /// It is one table, so it is one long function: the compiler makes one jump of it.
     #[inline(always)]
-    #[tactic(auto, unfolding(crate::specs::Table::row_here, crate::specs::Table::row_of, crate::specs::Table::plain_of, crate::specs::Table::opcodes_0x, crate::specs::Table::opcodes_2x, crate::specs::Table::opcodes_4x, crate::specs::Table::opcodes_5x, crate::specs::Table::opcodes_6x))]
+    #[tactic(auto, unfolding(crate::specs::Table::row_here, crate::specs::Table::row_of, crate::specs::Table::plain_of, crate::specs::Table::opcodes_0x, crate::specs::Table::opcodes_2x))]
     pub fn row(
         &mut self,
         bytes: &[u8],
@@ -197,11 +206,9 @@ impl State {
         opcode: u8,
         program: Program,
         address: usize,
-        next: usize,
     ) -> Result<Action, Cause>
         requires inside { address < length bytes.now }
         requires opcode { opcode ≡ opcode_at bytes.now address }
-        requires next { next ≡ address + 1 }
         requires targets { program ≡ Program.Font → targets.old ≡ bytes.now }
         ensures does { Leads (row_here opcode bytes.now program address) self.old self.new result }
         ensures targets { targets.new ≡ targets.old }
@@ -211,7 +218,6 @@ impl State {
             0xB1 => return self.pushb(bytes, 0xB1, address),
             0xB2 => return self.pushb(bytes, 0xB2, address),
             SVTCA_Y => self.graphics.set_vectors_to_axis(Axis::Y),
-            // 20 to 2F: the stack, calls, ALIGNPTS, UTP, MDAP.
             DUP => self.store.dup()?,
             POP => self.store.pop()?,
             CLEAR => self.store.clear(),
@@ -220,15 +226,79 @@ impl State {
             CINDEX => self.store.cindex()?,
             MINDEX => self.store.mindex()?,
             ALIGNPTS => self.alignpts()?,
-            UNDEFINED_28 => return self.undefined(opcode, next),
+            UNDEFINED_28 => return self.undefined(opcode, address + 1),
             UTP => self.utp()?,
-            LOOPCALL => return self.loopcall(next),
-            CALL => return self.call(next),
-            FDEF => return self.fdef(&Code::new(bytes), program, next),
+            LOOPCALL => return self.loopcall(address + 1),
+            CALL => return self.call(address + 1),
+            FDEF => return self.fdef(&Code::new(bytes), program, address + 1),
             ENDF => return Ok(Action::Returned),
             MDAP_0 => self.mdap(false)?,
             MDAP_1 => self.mdap(true)?,
-            // 42 to 4F: storage, control values, measuring, the size.
+            _ => return self.row_5x(bytes, targets, opcode, program, address),
+        }
+        Ok(Action::Went(after(bytes, address)))
+    }
+
+    /// The row of an opcode that is not of 2x.
+    #[inline(always)]
+    #[tactic(auto, unfolding(crate::specs::Table::row_here, crate::specs::Table::row_of, crate::specs::Table::plain_of, crate::specs::Table::opcodes_5x))]
+    fn row_5x(
+        &mut self,
+        bytes: &[u8],
+        targets: &mut Targets<'_>,
+        opcode: u8,
+        program: Program,
+        address: usize,
+    ) -> Result<Action, Cause>
+        requires not_2x { opcode / 16 ≢ 2 }
+        requires inside { address < length bytes.now }
+        requires opcode { opcode ≡ opcode_at bytes.now address }
+        requires targets { program ≡ Program.Font → targets.old ≡ bytes.now }
+        ensures does { Leads (row_here opcode bytes.now program address) self.old self.new result }
+        ensures targets { targets.new ≡ targets.old }
+    {
+        match opcode {
+            LT => self.store.lt()?,
+            LTEQ => self.store.lteq()?,
+            GT => self.store.gt()?,
+            GTEQ => self.store.gteq()?,
+            EQ => self.store.eq()?,
+            NEQ => self.store.neq()?,
+            ODD => self.store.odd(&self.graphics)?,
+            EVEN => self.store.even(&self.graphics)?,
+            IF => return self.if_else(&Code::new(bytes), targets, program, address + 1),
+            EIF => {}
+            AND => self.store.and()?,
+            OR => self.store.or()?,
+            NOT => self.store.not()?,
+            DELTAP1 => self.deltap(DeltaForm::First)?,
+            SDB => sdb(&mut self.store, &mut self.graphics)?,
+            SDS => sds(&mut self.store, &mut self.graphics)?,
+            _ => return self.row_4x_6x(bytes, targets, opcode, program, address),
+        }
+        Ok(Action::Went(after(bytes, address)))
+    }
+
+    /// The row of an opcode that is not of 2x or 5x.
+    #[inline(always)]
+    #[tactic(auto, unfolding(crate::specs::Table::row_here, crate::specs::Table::row_of, crate::specs::Table::plain_of, crate::specs::Table::opcodes_4x, crate::specs::Table::opcodes_6x))]
+    fn row_4x_6x(
+        &mut self,
+        bytes: &[u8],
+        targets: &mut Targets<'_>,
+        opcode: u8,
+        program: Program,
+        address: usize,
+    ) -> Result<Action, Cause>
+        requires not_2x { opcode / 16 ≢ 2 }
+        requires not_5x { opcode / 16 ≢ 5 }
+        requires inside { address < length bytes.now }
+        requires opcode { opcode ≡ opcode_at bytes.now address }
+        requires targets { program ≡ Program.Font → targets.old ≡ bytes.now }
+        ensures does { Leads (row_here opcode bytes.now program address) self.old self.new result }
+        ensures targets { targets.new ≡ targets.old }
+    {
+        match opcode {
             WS => self.store.ws()?,
             RS => self.store.rs()?,
             WCVTP => self.store.wcvtp()?,
@@ -243,24 +313,6 @@ impl State {
             FLIPON => self.graphics.set_auto_flip(true),
             FLIPOFF => self.graphics.set_auto_flip(false),
             DEBUG => self.store.ignored()?,
-            // 50 to 5F: comparisons, logic, IF, deltas.
-            LT => self.store.lt()?,
-            LTEQ => self.store.lteq()?,
-            GT => self.store.gt()?,
-            GTEQ => self.store.gteq()?,
-            EQ => self.store.eq()?,
-            NEQ => self.store.neq()?,
-            ODD => self.store.odd(&self.graphics)?,
-            EVEN => self.store.even(&self.graphics)?,
-            IF => return self.if_else(&Code::new(bytes), targets, program, next),
-            EIF => {}
-            AND => self.store.and()?,
-            OR => self.store.or()?,
-            NOT => self.store.not()?,
-            DELTAP1 => self.deltap(DeltaForm::First)?,
-            SDB => sdb(&mut self.store, &mut self.graphics)?,
-            SDS => sds(&mut self.store, &mut self.graphics)?,
-            // 60 to 6F: arithmetic.
             ADD => self.store.add()?,
             SUB => self.store.sub()?,
             DIV => self.store.div()?,
@@ -269,9 +321,9 @@ impl State {
             NEG => self.store.neg()?,
             FLOOR => self.store.floor()?,
             CEILING => self.store.ceiling()?,
-            _ => return self.other_row(opcode, bytes, targets, program, address, next),
+            _ => return self.other_row(bytes, targets, opcode, program, address),
         }
-        Ok(Action::Went(next))
+        Ok(Action::Went(after(bytes, address)))
     }
 
     /// The row of an opcode that has no arm in `row`.
@@ -279,12 +331,11 @@ impl State {
     #[tactic(auto, unfolding(crate::specs::Table::row_here, crate::specs::Table::row_of, crate::specs::Table::plain_of))]
     fn other_row(
         &mut self,
-        opcode: u8,
         bytes: &[u8],
         targets: &mut Targets<'_>,
+        opcode: u8,
         program: Program,
         address: usize,
-        next: usize,
     ) -> Result<Action, Cause>
         requires not_2x { opcode / 16 ≢ 2 }
         requires low_4x { opcode / 16 ≡ 4 → opcode ≤ 0x41 }
@@ -292,7 +343,6 @@ impl State {
         requires high_6x { opcode / 16 ≡ 6 → 0x68 ≤ opcode }
         requires inside { address < length bytes.now }
         requires opcode { opcode ≡ opcode_at bytes.now address }
-        requires next { next ≡ address + 1 }
         requires targets { program ≡ Program.Font → targets.old ≡ bytes.now }
         ensures does { Leads (row_here opcode bytes.now program address) self.old self.new result }
         ensures targets { targets.new ≡ targets.old }
@@ -301,7 +351,7 @@ impl State {
             0x0 => self.opcodes_0x(opcode)?,
             0x1 => match opcode {
                 ELSE => {
-                    let after = past_else(&Code::new(bytes), targets, program, next)?;
+                    let after = past_else(&Code::new(bytes), targets, program, address + 1)?;
                     return Ok(Action::Went(after));
                 }
                 JMPR => return self.jmpr(bytes.len(), address),
@@ -310,23 +360,26 @@ impl State {
             0x3 => self.opcodes_3x(opcode)?,
             0x6 => self.round_or_not(opcode)?,
             0x7 => match opcode {
-                JROT => return self.jrot(bytes.len(), address, next),
-                JROF => return self.jrof(bytes.len(), address, next),
-                UNDEFINED_7B => return self.undefined(opcode, next),
+                JROT => return self.jrot(bytes.len(), address, address + 1),
+                JROF => return self.jrof(bytes.len(), address, address + 1),
+                UNDEFINED_7B => return self.undefined(opcode, address + 1),
                 _ => self.opcodes_7x(opcode)?,
             },
             0x8 => match opcode {
-                UNDEFINED_83 | UNDEFINED_84 | UNDEFINED_8F => return self.undefined(opcode, next),
-                IDEF => return self.idef(&Code::new(bytes), program, next),
+                UNDEFINED_83 | UNDEFINED_84 | UNDEFINED_8F => return self.undefined(
+                    opcode,
+                    address + 1,
+                ),
+                IDEF => return self.idef(&Code::new(bytes), program, address + 1),
                 _ => self.opcodes_8x(opcode)?,
             },
             // NPUSHB, NPUSHW, PUSHB, PUSHW.
-            0x4 | 0xB => return self.push(&Code::new(bytes), address),
+            0x4 | 0xB => return self.push(bytes, address),
             // MDRP, MIRP.
             0xC | 0xD | 0xE | 0xF => self.move_relative(opcode)?,
             // 90 to AF.
-            _ => return self.undefined(opcode, next),
+            _ => return self.undefined(opcode, address + 1),
         }
-        Ok(Action::Went(next))
+        Ok(Action::Went(after(bytes, address)))
     }
 }

@@ -110,6 +110,7 @@ impl State {
     }
 
     /// 78 JROT, Jump Relative On True: `o e ->`. Jumps if e is not 0.
+    #[inline(always)]
     #[tactic(auto, unfolding(crate::specs::Flow::jrot_row))]
     pub(crate) fn jrot(&mut self, size: usize, address: usize, next: usize) -> Result<Action, Cause>
         ensures { Leads (jrot_row size address next) self.old self.new result }
@@ -122,6 +123,7 @@ impl State {
     }
 
     /// 79 JROF, Jump Relative On False: `o e ->`. Jumps if e is 0.
+    #[inline(always)]
     #[tactic(auto, unfolding(crate::specs::Flow::jrof_row))]
     pub(crate) fn jrof(&mut self, size: usize, address: usize, next: usize) -> Result<Action, Cause>
         ensures { Leads (jrof_row size address next) self.old self.new result }
@@ -264,9 +266,16 @@ impl State {
     }
 
     /// 40 NPUSHB, 41 NPUSHW, B0-B7 PUSHB[abc], B8-BF PUSHW[abc], PUSH Bytes or Words: `-> ..`, the data in order.
+    pub(crate) fn push(&mut self, bytes: &[u8], address: usize) -> Result<Action, Cause>
+        ensures { Leads (push_at bytes.now address) self.old self.new result }
+    {
+        self.push_apart(&Code::new(bytes), address)
+    }
+
+    /// The same, not inlined. Its result goes through memory, which `push` clears, so that no other instruction waits for it.
     #[inline(never)]
     #[tactic(auto, unfolding(crate::specs::Table::push_at, fx_code::specs::Chain::IsWhole))]
-    pub(crate) fn push(&mut self, code: &Code<'_>, address: usize) -> Result<Action, Cause>
+    fn push_apart(&mut self, code: &Code<'_>, address: usize) -> Result<Action, Cause>
         ensures { Leads (push_at code.now address) self.old self.new result }
     {
         let instr = code.at(address)?;

@@ -60,21 +60,21 @@ fn at_end(
     cursor: &Cursor,
     calls: &Calls,
     limit: u32,
-    steps: u32,
+    left: u32,
 ) -> Result<u32, Halt>
     requires past { length (texts programs.now cursor.now.program) ≤ cursor.now.address }
-    requires counted { steps ≤ limit }
+    requires counted { left ≤ limit }
     ensures value { (s : the_state.State) → sees result s ≡ answered (texts programs.now) programs.now.number start
-        (answer_from (row_at (texts programs.now)) (limit - steps) steps (config_of cursor.now calls.now s)) }
+        (answer_from (row_at (texts programs.now)) left (limit - left) (config_of cursor.now calls.now s)) }
     ensures few { IfOk result (λ n. n ≤ limit) }
 {
     let program = cursor.program;
     let address = cursor.address;
     let ended = address == programs.code(program).len();
     if ended && calls.open_calls.is_empty() {
-        return Ok(steps);
+        return Ok(limit - left);
     }
-    if steps == limit {
+    if left == 0 {
         return Err(halted(programs, start, program, address, Cause::StepLimit));
     }
     if ended {
@@ -119,7 +119,7 @@ pub fn run<W: Watching>(
         let program = cursor.program;
         let address = cursor.address;
         if address >= bytes.len() {
-            return at_end(programs, start, &cursor, &calls, limit, limit - left);
+            return at_end(programs, start, &cursor, &calls, limit, left);
         }
         if left == 0 {
             return Err(halted(programs, start, program, address, Cause::StepLimit));

@@ -32,14 +32,7 @@ fn execute(
     ensures sizes { HasSizes state.old state.new }
     ensures targets { targets.new ≡ targets.old }
 {
-    state.row(
-        bytes,
-        targets,
-        bytes[address],
-        program,
-        address,
-        address + 1,
-    )
+    state.row(bytes, targets, bytes[address], program, address)
 }
 
 /// Executes the instruction at the cursor, and says whether the program may have changed. It and what it calls are inlined into

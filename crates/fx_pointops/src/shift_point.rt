@@ -24,8 +24,14 @@ pub fn move_point(g: &GState, d: F26, point: &mut Point)
     ensures { point.new ≡ moved_by g.now d point.old }
 {
     match g.axis() {
-        Some(Axis::X) => *point = point.shifted(g.shift_place(d), true, false),
-        Some(Axis::Y) => *point = point.shifted(g.shift_place(d), false, true),
+        Some(Axis::X) => {
+            point.cur = point.cur.plus(g.shift_place(d));
+            point.touched_x = true;
+        }
+        Some(Axis::Y) => {
+            point.cur = point.cur.plus(g.shift_place(d));
+            point.touched_y = true;
+        }
         None => move_aslant(g, d, point),
     }
 }

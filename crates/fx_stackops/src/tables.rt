@@ -19,8 +19,8 @@ impl Store {
     {
         let (i, value) = self.two()?;
         let strays = self.storage().stray(i);
-        self.put_storage(i, value);
         self.add_strays(strays);
+        self.put_storage(i, value);
         Ok(())
     }
 
@@ -119,7 +119,7 @@ impl Store {
         ensures sizes { HasSizes self.old self.new }
     {
         let strays = self.control_stray(number);
-        self.put_control(number, x);
         self.add_strays(strays);
+        self.put_control(number, x);
     }
 }

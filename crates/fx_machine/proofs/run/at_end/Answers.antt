@@ -6,9 +6,9 @@ use Rattle.fx_machine.proofs.run.at_end.Goals.{else-ended-via-then-ended+else-is
 pub returns-then-is_empty-clause-value : goal.returns-then-is_empty-clause-value
 returns-then-is_empty-clause-value c = λ s. finished_here _ _ _ _ _ c.args.calls.now.open_calls.items _ _ s (cc) (grind arith)
 
-pub returns-then-steps-limit-clause-value : goal.returns-then-steps-limit-clause-value
-returns-then-steps-limit-clause-value c = λ s. rw c.halted.ensures
-    (limit_from _ _ _ _ _ c.args.calls.now.open_calls.items _ _ s c.if-steps-limit.true
+pub returns-then-left-eq0-clause-value : goal.returns-then-left-eq0-clause-value
+returns-then-left-eq0-clause-value c = λ s. rw c.halted.ensures
+    (limit_from _ _ _ _ _ c.args.calls.now.open_calls.items _ _ s c.if-left-eq0.true
     (elim c.else-ended.branch [
       | else-ended-via-then-ended+else-is_empty w ↦ (λ e z. grind arith)
       | else-ended-via-else-ended w ↦ (λ e z. w.if-ended.false (cc))

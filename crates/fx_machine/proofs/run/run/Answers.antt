@@ -8,12 +8,10 @@ use Rattle.fx_machine.proofs.run.run.Goals as goal
 
 pub steps-init : goal.steps-init
 steps-init g c =
-    let whole : c.args.limit - (c.args.limit - c.args.limit) ≡ c.args.limit = omega arith in
     let none : c.args.limit - c.args.limit ≡ 0 = omega arith in
     record {
-      answer = rw (whole, none) (search rules);
-      watched = rw none
-          (seen_first _ (events_begin _ _ _ _ _ c.new.result.items (search rules)) (rw c.name.ensures at c.begin.ensures));
+      answer = rw none (search rules);
+      watched = seen_first _ (events_begin _ _ _ _ _ c.new.result.items (search rules)) (rw c.name.ensures at c.begin.ensures);
       bytes = cc;
       counted = omega arith;
       shapes = shapes_same c.args.state.now.zones;
@@ -26,25 +24,25 @@ returns-then-address-bytes-clause-value g c = rw c.steps.invariant.answer (c.at_
 
 pub returns-then-address-bytes-clause-watched : goal.returns-then-address-bytes-clause-watched
 returns-then-address-bytes-clause-watched g c = seen_all c.steps.invariant.watched
-    (unseen_past _ _ c.args.start _ _ c.steps.calls.open_calls.items _ _ _ (grind arith))
+    (unseen_past _ _ c.args.start _ 0 c.steps.calls.open_calls.items _ _ _ (grind arith))
 
 pub returns-then-left-eq0-clause-value : goal.returns-then-left-eq0-clause-value
 returns-then-left-eq0-clause-value g c = rw c.halted.ensures
-    (limit_here _ _ _ _ _ _ _ c.steps.calls.open_calls.items _ _ c.steps.invariant.answer (omega arith) (grind arith))
+    (limit_here _ _ _ _ _ _ _ _ c.steps.calls.open_calls.items _ _ c.steps.invariant.answer (omega arith) (grind arith))
 
 pub returns-then-left-eq0-clause-watched : goal.returns-then-left-eq0-clause-watched
 returns-then-left-eq0-clause-watched g c = seen_all c.steps.invariant.watched
-    (unseen_limit _ _ c.args.start _ _ c.steps.calls.open_calls.items _ _ _ (omega arith))
+    (unseen_limit _ _ c.args.start _ 0 c.steps.calls.open_calls.items _ _ _ (omega arith))
 
 pub returns-in-Err-clause-watched : goal.returns-in-Err-clause-watched
 returns-in-Err-clause-watched g c = seen_all c.steps.invariant.watched
-    (unseen_halt _ _ c.args.start _ _ c.steps.calls.open_calls.items _ _ c.steps.state _
+    (unseen_halt _ _ c.args.start _ 0 c.steps.calls.open_calls.items _ _ c.steps.state _
     (rw c.steps.invariant.bytes at c.in-Err.ensures.moved))
 
 pub returns-in-Err-clause-value : goal.returns-in-Err-clause-value
 returns-in-Err-clause-value g c =
     rw c.halted-in-Err.ensures
-    (halted_here _ _ _ _ _ c.steps.state _ c.steps.calls.open_calls.items _ _ c.steps.invariant.answer _ (omega arith)
+    (halted_here _ _ _ _ _ c.steps.state _ _ c.steps.calls.open_calls.items _ _ c.steps.invariant.answer _ (omega arith)
     (rw c.steps.invariant.bytes at c.in-Err.ensures.moved))
 
 pub returns-in-Err-clause-shapes : goal.returns-in-Err-clause-shapes
@@ -57,12 +55,12 @@ pub steps-preserved : goal.steps-preserved
 steps-preserved g c =
     let next : c.args.limit - (c.steps.left - 1) ≡ c.args.limit - c.steps.left + 1 = omega arith in
     record {
-      answer = rw next (stepped _ 0 _ _ _ _ _ c.steps.calls.open_calls.items _ _ c.steps.invariant.answer _ (omega arith)
+      answer = rw next (stepped _ 0 _ _ _ _ _ _ c.steps.calls.open_calls.items _ _ c.steps.invariant.answer _ (omega arith)
           (rw c.steps.invariant.bytes at c.in-Ok.ensures.moved));
-      watched = rw next (seen_one c.steps.invariant.watched
-          (one_event _ _ _ _ _ _ _ _ c.advance.new.calls.open_calls.items c.advance.new.cursor.program c.advance.new.cursor.address
+      watched = seen_one c.steps.invariant.watched
+          (one_event _ _ _ _ _ _ _ c.advance.new.calls.open_calls.items c.advance.new.cursor.program c.advance.new.cursor.address
           c.advance.new.state _ refl (omega arith) (rw c.steps.invariant.bytes at c.in-Ok.ensures.moved))
-          (rw (c.name-name.ensures, c.steps.invariant.bytes) at c.tell.ensures));
+          (rw (c.name-name.ensures, c.steps.invariant.bytes) at c.tell.ensures);
       bytes = c.bytes_then-bytes.ensures;
       counted = omega arith;
       shapes = shapes_then _ _ _ c.steps.invariant.shapes c.in-Ok.ensures.shapes;

@@ -14,10 +14,10 @@ use Rattle.fx_machine.proofs.run.run.Given as goal
 abbrev pub invariant-steps : goal.invariant-steps
 invariant-steps g l = record {
   answer : answer_of (row_at (texts l.programs)) l.limit l.start l.fn.state ≡ answer_from (row_at (texts l.programs))
-      (l.limit - (l.limit - l.left)) (l.limit - l.left) (config_of l.cursor l.calls l.state);
+      l.left (l.limit - l.left) (config_of l.cursor l.calls l.state);
   watched : HasSeen g.W.Watching.Sees l.fn.watcher l.watcher
       (events_of (texts l.programs) l.programs.number l.limit l.start l.fn.state)
-      (left_events (texts l.programs) l.programs.number (l.limit - (l.limit - l.left)) (config_of l.cursor l.calls l.state));
+      (left_events (texts l.programs) l.programs.number l.left (config_of l.cursor l.calls l.state));
   bytes : l.bytes ≡ texts l.programs l.cursor.program;
   counted : l.left ≤ l.limit;
   shapes : HasShapes l.fn.state.zones l.state.zones;
