@@ -1,5 +1,5 @@
 -- Lines of rows written over the bytes of a buffer.
--- Serves `put_word`, `put_pair`, the lines of rows and `add_rows`.
+-- Serves `put_words`, the lines of rows and `add_rows`.
 use Rattle.std.proofs.Common.{◌≡◌, ℕ, suc, ◌+◌, ◌-◌, ◌*◌, ◌/◌, ◌<◌, ◌≤◌, refl, List, [], ◌∷◌, ◌++◌, Bool, length}
 use Rattle.std.proofs.Common.{take, drop, get_or, sym, ap, ◌∙◌, arith, min}
 use Rattle.std.proofs.Common.{append_assoc, length-drop, get_or-drop, Ok}

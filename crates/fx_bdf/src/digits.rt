@@ -1,6 +1,6 @@
 //! Words of pixels as hexadecimal digits.
 
-ghost use Rattle.std.specs.Prelude.{◌≡◌, ◌≤◌, ◌+◌, ◌++◌, length, take, drop};
+ghost use Rattle.std.specs.Prelude.{◌≡◌, ◌++◌};
 ghost use Rattle.fx_bdf.specs.inner.Lines.{word_text};
 
 use std::simd::prelude::*;
@@ -9,7 +9,7 @@ use std::simd::prelude::*;
 ///
 /// Each byte of the words stands in two neighbouring lanes: the first keeps its high four bits, the second its low four.
 #[inline(always)]
-fn pair_lanes(first: u32, second: u32) -> u8x16
+pub fn pair_lanes(first: u32, second: u32) -> u8x16
     ensures { result ≡ word_text first ++ word_text second }
 {
     let bytes = u32x2::from_array([first, second]).to_le_bytes();
@@ -36,26 +36,8 @@ pub fn two_lanes(first: u32, second: u32) -> (u8x8, u8x8)
 
 /// The eight digits of a word.
 #[inline(always)]
-pub fn word_digits(word: u32) -> [u8; 8]
+pub fn word_lanes(word: u32) -> u8x8
     ensures { result ≡ word_text word }
 {
-    two_lanes(word, 0).0.to_array()
-}
-
-/// Writes the eight digits of a word over the bytes from `start` on.
-#[inline(always)]
-pub fn put_word(bytes: &mut [u8], start: usize, word: u32)
-    requires { start + 8 ≤ length bytes.old }
-    ensures { bytes.new ≡ take start bytes.old ++ (word_text word ++ drop (start + 8) bytes.old) }
-{
-    two_lanes(word, 0).0.copy_to_slice(&mut bytes[start..]);
-}
-
-/// Writes the sixteen digits of two words over the bytes from `start` on.
-#[inline(always)]
-pub fn put_pair(bytes: &mut [u8], start: usize, first: u32, second: u32)
-    requires { start + 16 ≤ length bytes.old }
-    ensures { bytes.new ≡ take start bytes.old ++ ((word_text first ++ word_text second) ++ drop (start + 16) bytes.old) }
-{
-    pair_lanes(first, second).copy_to_slice(&mut bytes[start..]);
+    pair_lanes(word, 0).extract::<0, 8>()
 }

@@ -3,8 +3,8 @@
 ghost use Rattle.std.specs.Prelude.{◌≡◌, ◌+◌, ◌<◌, ◌≤◌, ◌^◌, length};
 ghost use Rattle.std.specs.List.{flat_map};
 ghost use Rattle.fx_fixed.specs.Texts.{Adds, Fails};
-ghost use Rattle.fx_bdf.specs.Properties.{AreLines, doubled, most_more, most_properties, property_text, quoted, seen_properties};
-ghost use Rattle.fx_bdf.specs.Properties.{seen_property, seen_value, value_text};
+ghost use Rattle.fx_bdf.specs.Properties.{AreLines, doubled, most_more, most_properties, property_text, seen_properties};
+ghost use Rattle.fx_bdf.specs.Properties.{seen_property};
 ghost use Rattle.fx_bdf.specs.Text.{IsName, front_text, header_text, longest_header};
 
 use crate::header::Header;
@@ -71,29 +71,8 @@ fn add_doubled<W: Sink>(string: &[u8], text: &mut TextWriter<'_, W>) -> Result<(
     Ok(())
 }
 
-/// Adds a text between quotation marks.
+/// Adds the line of a property. A text stands between quotation marks.
 #[tactic(auto, unfolding(crate::specs::Properties::quoted))]
-fn add_quoted<W: Sink>(string: &str, text: &mut TextWriter<'_, W>) -> Result<(), WriteFailed>
-    requires { text.old.faults < 2 ^ 63 }
-    ensures { Adds Fails text.old text.new (quoted string.now) result }
-{
-    text.add(&[b"\""])?;
-    add_doubled(string.as_bytes(), text)?;
-    text.add(&[b"\""])
-}
-
-/// Adds a property's value.
-fn add_value<W: Sink>(value: Value<'_>, text: &mut TextWriter<'_, W>) -> Result<(), WriteFailed>
-    requires { text.old.faults < 2 ^ 63 }
-    ensures { Adds Fails text.old text.new (value_text (seen_value value.entry)) result }
-{
-    match value {
-        Value::Number(number) => text.add(&[Digits::signed(number).text()]),
-        Value::Text(string) => add_quoted(string, text),
-    }
-}
-
-/// Adds the line of a property.
 fn add_property<W: Sink>(
     property: &Property<'_>,
     text: &mut TextWriter<'_, W>,
@@ -101,9 +80,15 @@ fn add_property<W: Sink>(
     requires { text.old.faults < 2 ^ 63 }
     ensures { Adds Fails text.old text.new (property_text (seen_property property.now)) result }
 {
-    text.add(&[property.name.as_bytes(), b" "])?;
-    add_value(property.value, text)?;
-    text.add(&[b"\n"])
+    let name = property.name.as_bytes();
+    match property.value {
+        Value::Number(number) => text.add(&[name, b" ", Digits::signed(number).text(), b"\n"]),
+        Value::Text(string) => {
+            text.add(&[name, b" \""])?;
+            add_doubled(string.as_bytes(), text)?;
+            text.add(&[b"\"\n"])
+        }
+    }
 }
 
 /// Adds the lines of properties.

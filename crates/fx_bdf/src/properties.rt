@@ -2,7 +2,7 @@
 
 ghost use Rattle.std.specs.Prelude.{◌≡◌, ◌≤◌, length, IfSome};
 ghost use Rattle.std.specs.List.{list_all};
-ghost use Rattle.fx_bdf.specs.Properties.{first_bad, is_letter, is_reserved, is_string, is_taken, is_value, is_word, is_word_part};
+ghost use Rattle.fx_bdf.specs.Properties.{first_bad, is_letter, is_reserved, is_taken, is_value, is_word, is_word_part};
 ghost use Rattle.fx_bdf.specs.Properties.{may_follow, most_properties, seen_properties, seen_property, seen_value};
 
 use crate::name::all_printed;
@@ -58,22 +58,14 @@ fn is_word(name: &str) -> bool
     is_letter(text[0]) && !is_reserved(name)
 }
 
-/// Whether a property's value can be this text.
-#[tactic(auto, unfolding(crate::specs::Properties::is_string))]
-fn is_string(text: &str) -> bool
-    ensures { result ≡ is_string text.now }
-{
-    let text = text.as_bytes();
-    text.len() <= LONGEST_STRING && all_printed(text)
-}
-
 /// Whether a property can have this value.
+#[tactic(auto, unfolding(crate::specs::Properties::is_string))]
 fn is_value(value: Value<'_>) -> bool
     ensures { result ≡ is_value (seen_value value.entry) }
 {
     match value {
         Value::Number(_) => true,
-        Value::Text(text) => is_string(text),
+        Value::Text(text) => text.len() <= LONGEST_STRING && all_printed(text.as_bytes()),
     }
 }
 

@@ -7,7 +7,7 @@ ghost use Rattle.fx_bdf.specs.Text.{row_digits, row_text};
 ghost use Rattle.fx_bdf.specs.inner.Lines.{word_text, lines_between};
 
 use crate::box_rows::BoxRows;
-use crate::digits::{put_pair, put_word, two_lanes};
+use crate::digits::{pair_lanes, two_lanes, word_lanes};
 use crate::rows::Row;
 use fx_fixed::{Fill, Sink, TextWriter, put_over};
 use std::simd::prelude::*;
@@ -22,11 +22,11 @@ fn put_words(bytes: &mut [u8], start: usize, words: &[u32])
     let mut k = 0;
     // The digits of the words before k were written.
     'pairs: while words.len() - k > 1 {
-        put_pair(bytes, start + 8 * k, words[k], words[k + 1]);
+        pair_lanes(words[k], words[k + 1]).copy_to_slice(&mut bytes[start + 8 * k..]);
         k += 2;
     }
     if k < words.len() {
-        put_word(bytes, start + 8 * k, words[k]);
+        word_lanes(words[k]).copy_to_slice(&mut bytes[start + 8 * k..]);
     }
 }
 
@@ -44,7 +44,7 @@ fn put_digits(bytes: &mut [u8], start: usize, row: &Row<'_>, digits: usize)
     }
     // The digits of the words before k were written.
     'words: for k in 0..row.len() {
-        put_word(bytes, start + 8 * k, row.word(k));
+        word_lanes(row.word(k)).copy_to_slice(&mut bytes[start + 8 * k..]);
     }
 }
 

@@ -24,16 +24,6 @@ fn after_hyphen(text: &str) -> &str
     }
 }
 
-/// What is before the first hyphen of a text; all of it if it has none.
-fn before_hyphen(text: &str) -> &str
-    ensures { result.now ≡ before_first is_hyphen text.entry.now }
-{
-    match text.split_once('-') {
-        Some((front, _)) => front,
-        None => text,
-    }
-}
-
 /// A text from field n on, where a hyphen is before each field but field 0.
 fn fields_from(text: &str, n: u32) -> &str
     ensures { result.now ≡ fields_from n text.entry.now }
@@ -59,10 +49,13 @@ fn is_font_name(name: &str) -> bool
 fn part_of<'a>(name: &'a str, n: u32, instead: &'a str) -> &'a str
     ensures { result.now ≡ part_of n instead.entry.now name.entry.now }
 {
-    if is_font_name(name) {
-        before_hyphen(fields_from(name, n))
-    } else {
-        instead
+    if !is_font_name(name) {
+        return instead;
+    }
+    let rest = fields_from(name, n);
+    match rest.split_once('-') {
+        Some((field, _)) => field,
+        None => rest,
     }
 }
 
@@ -104,9 +97,9 @@ fn name_properties(name: &str) -> [Property<'_>; 3]
     ]
 }
 
-/// The properties that a size settles.
-fn size_properties(ppem: u16) -> [Property<'static>; 4]
-    ensures { seen_properties result ≡ size_properties ppem }
+/// The properties that a size and advances settle, and those that all strikes have.
+fn size_properties(ppem: u16, summary: Summary) -> [Property<'static>; 8]
+    ensures { seen_properties result ≡ size_properties ppem ++ (width_properties summary ++ charset_properties) }
 {
     let pixels = i32::from(ppem);
     [
@@ -114,34 +107,11 @@ fn size_properties(ppem: u16) -> [Property<'static>; 4]
         number("POINT_SIZE", 10 * pixels),
         number("RESOLUTION_X", 72),
         number("RESOLUTION_Y", 72),
-    ]
-}
-
-/// The properties that advances settle.
-fn width_properties(summary: Summary) -> [Property<'static>; 2]
-    ensures { seen_properties result ≡ width_properties summary }
-{
-    [
         text("SPACING", spacing(summary.is_monospaced)),
         number("AVERAGE_WIDTH", summary.average_width),
-    ]
-}
-
-/// The properties that all strikes have.
-fn charset_properties() -> [Property<'static>; 2]
-    ensures { seen_properties result ≡ charset_properties }
-{
-    [
         text("CHARSET_REGISTRY", "ISO10646"),
         text("CHARSET_ENCODING", "1"),
     ]
-}
-
-/// Adds properties.
-fn push_all<'a>(all: &mut Vec<Property<'a>>, more: &[Property<'a>]) -> Result<(), AllocError>
-    ensures { OnOk result (seen_properties all.new.items ≡ seen_properties all.old.items ++ seen_properties more.now) }
-{
-    all.extend_from_slice(more)
 }
 
 /// Adds the property of a character that stands for those that the strike lacks, if there is one.
@@ -150,12 +120,12 @@ fn push_default(all: &mut Vec<Property<'_>>, summary: Summary) -> Result<(), All
         ++ default_properties summary.has_replacement summary.has_space) }
 {
     if summary.has_replacement {
-        push_all(all, &[number("DEFAULT_CHAR", 0xFFFD)])
-    } else if summary.has_space {
-        push_all(all, &[number("DEFAULT_CHAR", 0x20)])
-    } else {
-        Ok(())
+        return Ok(all.push(number("DEFAULT_CHAR", 0xFFFD))?);
     }
+    if summary.has_space {
+        return Ok(all.push(number("DEFAULT_CHAR", 0x20))?);
+    }
+    Ok(())
 }
 
 /// The properties of X11 by a name, a size, and what the glyphs settle.
@@ -167,11 +137,8 @@ fn x11_properties<'a>(
 ) -> Result<Vec<Property<'a>>, AllocError>
     ensures { IfOk result (λ all. seen_properties all.items ≡ x11_properties name.entry.now ppem summary) }
 {
-    let mut all = Vec::new(alloc);
-    push_all(&mut all, &name_properties(name))?;
-    push_all(&mut all, &size_properties(ppem))?;
-    push_all(&mut all, &width_properties(summary))?;
-    push_all(&mut all, &charset_properties())?;
+    let mut all = Vec::from_slice(alloc, &name_properties(name))?;
+    all.extend_from_slice(&size_properties(ppem, summary))?;
     push_default(&mut all, summary)?;
     Ok(all)
 }
@@ -206,7 +173,7 @@ fn before_given<'a>(
 {
     let mut all = Vec::new(alloc);
     push_untaken(&mut all, more, given)?;
-    push_all(&mut all, given)?;
+    all.extend_from_slice(given)?;
     Ok(all)
 }
 

@@ -1,17 +1,22 @@
-use Rattle.std.proofs.Common.{◌≡◌, ◌+◌, ◌*◌, ◌∙◌, ◌++◌, ap, arith, length-append, length-drop, List, ℕ, min, sym, take}
-use Rattle.std.proofs.lemmas.List.{length-take-le}
+use Rattle.std.proofs.Common.{◌≡◌, ◌<◌, ◌+◌, ◌*◌, ◌∙◌, ◌++◌, ap, arith, List, ℕ, min, refl, take}
+use Rattle.std.proofs.lemmas.Simd.{length-put_chunk}
+use Rattle.fx_bdf.specs.inner.Lines.{word_text}
 use Rattle.fx_bdf.proofs.RowDigits.{digits_all}
-use Rattle.fx_bdf.proofs.Waiting.{digits_by_words, row_word_over}
+use Rattle.fx_bdf.proofs.Waiting.{digits_by_words, lanes_over, row_word_over}
 use Rattle.fx_bdf.proofs.row_lines.put_digits.Goals as goal
 
 pub words-preserved : goal.words-preserved
-words-preserved c = record {
-  long = grind (arith, c.put_word.ensures, c.words.invariant.long, length-append, length-take-le, length-drop);
-  text = row_word_over c.args.start c.words.k c.args.digits c.word.result c.args.row.now c.args.bytes.now c.words.bytes
-      c.put_word.new.bytes _ c.requires.digits
-      (omega (arith, c.words-test.true, c.len-k-end.ensures.value, c.requires.digits)) c.word.ensures
-      (omega (arith, c.requires.room, c.words.invariant.long)) c.words.invariant.text c.put_word.ensures;
-}
+words-preserved c =
+    let k = c.words.k in
+    let some : 8 * k < c.args.digits = omega (arith, c.words-test.true, c.len-k-end.ensures.value, c.requires.digits) in
+    let long = c.words.invariant.long in
+    let over = lanes_over (c.args.start + 8 * k) 8 c.words.bytes c.word_lanes.result (word_text c.word.result) c.word_lanes.ensures
+    refl (omega (arith, c.requires.room, long, some)) in
+    record {
+      long = grind (arith, long, length-put_chunk);
+      text = row_word_over c.args.start k c.args.digits c.word.result c.args.row.now c.args.bytes.now c.words.bytes _ _
+          c.requires.digits some c.word.ensures (omega (arith, c.requires.room, long)) c.words.invariant.text over;
+    }
 
 pub returns-clause-text : goal.returns-clause-text
 returns-clause-text c =

@@ -13,7 +13,7 @@ returns-in_err-make_room g c =
 
 pub words-preserved : goal.words-preserved
 words-preserved g c =
-    adds_text (ap (λ (t : List ℕ). take (8 * c.words.k) (row_digits c.args.row.now) ++ take c.min.result t) c.word_digits.ensures
+    adds_text (ap (λ (t : List ℕ). take (8 * c.words.k) (row_digits c.args.row.now) ++ take c.min.result t) c.word_lanes.ensures
     ∙ digits_more c.args.row.now (c.word.result ∷ []) c.words.k c.min.result c.word.ensures
     (omega (arith, c.min.ensures, c.digits-count.ensures)))
     (adds_then (adds_ended c.words.invariant c.in_ok-make_room.ensures.adds) (adds_more c.push_first.ensures))
