@@ -14,6 +14,7 @@ PLACES = {
     "crates/fx_arguments/src/lines.rt": ["let _ = put_all(err, line.text())", "put_line(err, line_of_refusal(Refusal::OutOfMemory));"],
     "crates/fx_arguments/src/mistakes.rt": ["from_slice(alloc, before)"],
     "crates/fx_arguments/src/read_ahead.rt": ["from_slice(alloc, self.text)", "resize(filled + PART, 0)"],
+    "crates/fx_arguments/src/wrong.rt": ["Wrong::Refused(Refusal::OutOfMemory)"],
     "crates/fx_contour/src/fault.rt": ["ContourFault::OutOfMemory"],
     "crates/fx_cli/src/mapped.rt": ["vec![in alloc; 0u32; count]"],
     "crates/fx_cli/src/watch.rt": ["from_slice(alloc, start)"],

@@ -1,8 +1,8 @@
 -- The properties that arguments ask for.
--- Serves `read_properties` and what it calls.
+-- Serves `properties_by` and what it calls.
 use Rattle.std.proofs.Common.{◌≡◌, ◌∙◌, ℕ, ◌+◌, ◌<◌, ◌≤◌, ◌^◌, ℤ, pos, negsuc, List, [], ◌∷◌, ◌++◌, length, refl, sym, ap, ap₂, arith, Bool, true}
-use Rattle.std.proofs.Common.{false, Option, Some, None, Result, Ok, Err, option_map, append-nil, append_assoc, drop, get_or}
-use Rattle.std.specs.Prelude.{nat_lt, ◌==◌, ◌&&◌, if◌then◌else◌, FitsSigned, MatchOption, option_and_then}
+use Rattle.std.proofs.Common.{false, Option, Some, None, Result, Ok, Err, codes, option_map, append-nil, append_assoc, drop, get_or}
+use Rattle.std.specs.Prelude.{nat_lt, ◌==◌, ◌&&◌, if◌then◌else◌, FitsSigned, MatchOption}
 use Rattle.std.specs.List.{list_all, position_or_len, before_first, after_first}
 use Rattle.std.specs.Result.{result_ok}
 use Rattle.std.specs.Char.{digit_value}
@@ -11,12 +11,13 @@ use Rattle.std.specs.Borrow.{Bor}
 use Rattle.std.proofs.lemmas.List.{drop-map, drop_all, drop_more, length-map, map-append}
 use Rattle.std.proofs.lemmas.Bool.{and_parts, eqb-true, lt-ltb, le-ltb, ltb-true}
 use Rattle.clap.specs.Walk.{Text}
-use Rattle.fx_fixed.specs.Chain.{wanted}
+use Rattle.fx_fixed.specs.Chain.{◌>>=◌, map_ok}
 use mir.Syntax.{w32}
 use Rattle.fx_bdf.specs.Properties.{PropertyView, ValueView, is_integer, seen_properties, seen_property}
 use Rattle.fx_bdf.specs.declared.property.Property.{Property}
-use Rattle.fx_arguments.specs.Arguments.{texts}
-use Rattle.fx_arguments.specs.Properties.{before_mark, between_marks, has_plus, properties_of, property_of, value_of, whole_of}
+use Rattle.fx_arguments.specs.Arguments.{properties_by, texts}
+use Rattle.fx_arguments.specs.Properties.{before_mark, between_marks, has_plus, property_of, value_of, whole_of}
+use Rattle.fx_arguments.specs.Wrong.{WrongView, not_taken}
 use Rattle.fx_arguments.proofs.Options.{digits_tested, tests_digits}
 
 -- ---- between quotation marks
@@ -132,39 +133,24 @@ property_whole given none =
 
 -- ---- one after another
 
-abbrev pub after : List PropertyView → Option (List PropertyView) → Option (List PropertyView)
-after before = option_map (λ more. before ++ more)
-
-properties-cons : (given : Text) (more : List Text)
-    → properties_of (given ∷ more)
-    ≡ option_and_then (λ property. option_map (λ properties. property ∷ properties) (properties_of more)) (property_of given)
-unfolding properties_of
-properties-cons given more = refl
-
-properties-nil : properties_of [] ≡ Some []
-unfolding properties_of
-properties-nil = refl
-
-after-more : (before : List PropertyView) (p : PropertyView) (o : Option (List PropertyView))
-    → after before (option_map (λ properties. p ∷ properties) o) ≡ after (before ++ p ∷ []) o
-after-more before p None = refl
-after-more before p (Some ps) = ap (λ (l : List PropertyView). Some l) (sym (append_assoc before (p ∷ []) ps))
-
-after-nil : (o : Option (List PropertyView)) → o ≡ after [] o
-after-nil None = refl
-after-nil (Some ps) = refl
+abbrev pub after : List PropertyView → Result (List PropertyView) WrongView → Result (List PropertyView) WrongView
+after before = map_ok (λ more. before ++ more)
 
 -- the properties of `all`, and after them those of the given texts from the index i
-abbrev pub rest_of : List Property → List (Bor Text) → ℕ → Option (List PropertyView)
-rest_of all given i = after (seen_properties all) (properties_of (drop i (texts given)))
+abbrev pub rest_of : List Property → List (Bor Text) → ℕ → Result (List PropertyView) WrongView
+rest_of all given i = after (seen_properties all) (properties_by (drop i (texts given)))
 
-pub rest_all : (all : List Property) (given : List (Bor Text)) → all ≡ [] → properties_of (texts given) ≡ rest_of all given 0
-rest_all all given e =
-    after-nil (properties_of (texts given)) ∙ ap (λ (ps : List Property). rest_of ps given 0) (sym e)
+after-nil : (r : Result (List PropertyView) WrongView) → r ≡ after [] r
+after-nil (Ok ps) = refl
+after-nil (Err w) = refl
 
--- none were given
-pub none_given : {E : Type 0} (fault : E) → wanted (properties_of []) fault ≡ Ok []
-none_given fault = ap (λ (o : Option (List PropertyView)). wanted o fault) properties-nil
+after-more : (before : List PropertyView) (p : PropertyView) (r : Result (List PropertyView) WrongView)
+    → after before (r >>= λ ps. Ok (p ∷ ps)) ≡ after (before ++ p ∷ []) r
+after-more before p (Ok ps) = ap Ok (sym (append_assoc before (p ∷ []) ps))
+after-more before p (Err w) = refl
+
+pub rest_all : (all : List Property) (given : List (Bor Text)) → all ≡ [] → properties_by (texts given) ≡ rest_of all given 0
+rest_all all given e = rw e (after-nil (properties_by (texts given)))
 
 pub next_text : (given : List (Bor Text)) (i : ℕ) (d : Bor Text) → i < length given
     → drop i (texts given) ≡ (get_or given i d).now ∷ drop (i + 1) (texts given)
@@ -172,39 +158,25 @@ next_text given i d h =
     drop-map (λ (t : Bor Text). t.now) i given ∙ ap texts (drop_more given i d h)
     ∙ ap (λ (ts : List Text). (get_or given i d).now ∷ ts) (sym (drop-map (λ (t : Bor Text). t.now) (i + 1) given))
 
-abbrev joined : Option PropertyView → Option (List PropertyView) → Option (List PropertyView)
-joined one more = option_and_then (λ property. option_map (λ properties. property ∷ properties) more) one
-
-rest_is : (all : List Property) (given : List (Bor Text)) (i : ℕ) (d : Bor Text) (one : Option PropertyView) → i < length given
-    → one ≡ property_of (get_or given i d).now
-    → rest_of all given i ≡ after (seen_properties all) (joined one (properties_of (drop (i + 1) (texts given))))
-rest_is all given i d one h e =
-    ap (λ (ts : List Text). after (seen_properties all) (properties_of ts)) (next_text given i d h)
-    ∙ ap (after (seen_properties all)) (properties-cons (get_or given i d).now (drop (i + 1) (texts given))
-    ∙ ap (λ (o : Option PropertyView). joined o (properties_of (drop (i + 1) (texts given)))) (sym e))
-
 -- one more
 pub rest_more : (all next : List Property) (given : List (Bor Text)) (i : ℕ) (d : Bor Text) (p : Property) → i < length given
     → Some (seen_property p) ≡ property_of (get_or given i d).now → next ≡ all ++ p ∷ []
     → rest_of all given i ≡ rest_of next given (i + 1)
 rest_more all next given i d p h e n =
-    rest_is all given i d (Some (seen_property p)) h e
-    ∙ after-more (seen_properties all) (seen_property p) (properties_of (drop (i + 1) (texts given)))
-    ∙ ap (λ (ps : List PropertyView). after ps (properties_of (drop (i + 1) (texts given)))) (sym (map-append seen_property all (p ∷ [])))
-    ∙ ap (λ (ps : List Property). rest_of ps given (i + 1)) (sym n)
+    rw (next_text given i d h, sym e, n, map-append seen_property all (p ∷ []))
+    (after-more (seen_properties all) (seen_property p) (properties_by (drop (i + 1) (texts given))))
 
 -- one that is none
 pub rest_none : (all : List Property) (given : List (Bor Text)) (i : ℕ) (d : Bor Text) → i < length given
-    → None ≡ property_of (get_or given i d).now → rest_of all given i ≡ None
-rest_none all given i d h e = rest_is all given i d None h e
+    → None ≡ property_of (get_or given i d).now
+    → rest_of all given i ≡ Err (not_taken (codes "--property takes KEY=VALUE") (get_or given i d).now)
+rest_none all given i d h e = rw (next_text given i d h, sym e)
 
 -- none is left
 pub rest_done : (all : List Property) (given : List (Bor Text)) (i : ℕ) → length given ≤ i
-    → rest_of all given i ≡ Some (seen_properties all)
+    → rest_of all given i ≡ Ok (seen_properties all)
 rest_done all given i h =
-    ap (λ (ts : List Text). after (seen_properties all) (properties_of ts))
-    (drop_all i (texts given) (omega (arith, h, length-map given (λ (t : Bor Text). t.now))))
-    ∙ ap (after (seen_properties all)) properties-nil
-    ∙ ap (λ (ps : List PropertyView). Some ps) (append-nil (seen_properties all))
+    let none = drop_all i (texts given) (omega (arith, h, length-map given (λ (t : Bor Text). t.now))) in
+    rw none (ap Ok (append-nil (seen_properties all)))
 
 pub ruleset rest_steps = (rest_all, rest_done, rest_more, rest_none)

@@ -4,6 +4,5 @@ pub mod Buffers
 pub mod Options
 pub mod Given
 pub mod Saying
-pub mod Verbs
 pub mod Mistaken
 pub mod Telling

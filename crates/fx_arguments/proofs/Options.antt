@@ -1,65 +1,48 @@
 -- The options of the commands, as clap sees them.
 -- Serves the arguments of the commands: `read_values`, `matches`, `size_of`, `face_of`.
 use Rattle.std.proofs.Common.{◌≡◌, ◌∙◌, ℕ, ◌<◌, ◌^◌, List, [], ◌∷◌, length, refl, sym, ap, ap₂, Option, Some, None, Bool, true, false}
-use Rattle.std.proofs.Common.{Result, Ok, Err, ◌&&◌, ◌||◌, subst, ◌⊎◌, inl, inr}
-use Rattle.fx_fixed.specs.Chain.{◌>>=◌, GivesUnless, wanted}
-use Rattle.fx_request.specs.declared.refusal.Refusal.TheVariants.{OutOfMemory}
-use Rattle.fx_arguments.specs.declared.fault.Fault.{Fault}
-use Rattle.fx_arguments.specs.declared.fault.Fault.TheVariants.{Usage, Early}
-use Rattle.fx_arguments.specs.declared.command.Command.{Command}
+use Rattle.std.proofs.Common.{Result, Ok, Err, ◌&&◌, ◌||◌, ◌⊎◌, inl, inr}
 use Rattle.std.specs.Prelude.{nat_lt, if◌then◌else◌}
 use Rattle.std.specs.List.{list_all, list_any}
 use Rattle.std.specs.Result.{result_ok}
 use Rattle.std.specs.Char.{digit_value}
 use Rattle.std.specs.Str.Parse.{AllDigits, IsNumeral, ParsesUnsigned, digits_value, without_leading_plus}
 use Rattle.std.proofs.lemmas.Bool.{ltb-true, lt-ltb}
+use Rattle.std.proofs.lemmas.Result.{err_from_is_err_and}
 use Rattle.clap.proofs.OnLiterals.{clap_on_literals}
 use Rattle.clap.proofs.WalkLemmas.{both}
 use Rattle.clap.specs.Words.{App, IsAmong, Kinds, Row, Text, fault_of, is_simple, is_simple_and_free, matches_of}
 use Rattle.clap.specs.declared.error.kind.ErrorKind.{ErrorKind}
-use Rattle.fx_arguments.specs.Arguments.{dump_app, is_bare, is_some_kind, make_app, outline_app, rows_by, show_app, trace_app, unsigned_of}
-use Rattle.fx_arguments.specs.Commands.{CommandView, Refuses, seen}
-use Rattle.std.proofs.lemmas.Result.{err_from_is_err_and}
+use Rattle.clap.specs.declared.error.kind.ErrorKind.TheVariants as memory
+use Rattle.fx_request.specs.declared.refusal.Refusal.{Refusal}
+use Rattle.fx_request.specs.declared.refusal.Refusal.TheVariants.{BadChars, OutOfMemory}
+use Rattle.fx_arguments.specs.declared.fault.Fault.{Fault}
+use Rattle.fx_arguments.specs.declared.fault.Fault.TheVariants.{Usage, Early}
+use Rattle.fx_arguments.specs.declared.verb.Verb.{Verb}
+use Rattle.fx_arguments.specs.declared.verb.Verb.TheVariants.{Make, Show, Outline, Dump, Trace}
+use Rattle.fx_arguments.specs.Arguments.{app_for, asked_for, dump_app, is_bare, is_some_kind, make_app, outline_app, rows_by, show_app, trace_app}
+use Rattle.fx_arguments.specs.Arguments.{unsigned_of}
+use Rattle.fx_arguments.specs.CommandLine.{command_by}
+use Rattle.fx_arguments.specs.Commands.{CommandView, Refuses}
+use Rattle.fx_arguments.specs.Mistakes.{asked_by}
+use Rattle.fx_arguments.specs.Wrong.{malformed, wrong}
 
-pub make_is_simple : is_simple make_app ≡ true
-unfolding make_app clap_on_literals
-make_is_simple = refl
+-- the commands are those that clap reads as its definitions say
+free_for : (verb : Verb) → is_simple_and_free (app_for verb) ≡ true
+unfolding make_app show_app outline_app dump_app trace_app clap_on_literals
+free_for Make = refl
+free_for Show = refl
+free_for Outline = refl
+free_for Dump = refl
+free_for Trace = refl
 
-pub make_is_free : is_simple_and_free make_app ≡ true
-unfolding make_app clap_on_literals
-make_is_free = refl
-
-pub show_is_simple : is_simple show_app ≡ true
-unfolding show_app clap_on_literals
-show_is_simple = refl
-
-pub show_is_free : is_simple_and_free show_app ≡ true
-unfolding show_app clap_on_literals
-show_is_free = refl
-
-pub outline_is_simple : is_simple outline_app ≡ true
-unfolding outline_app clap_on_literals
-outline_is_simple = refl
-
-pub outline_is_free : is_simple_and_free outline_app ≡ true
-unfolding outline_app clap_on_literals
-outline_is_free = refl
-
-pub dump_is_simple : is_simple dump_app ≡ true
-unfolding dump_app clap_on_literals
-dump_is_simple = refl
-
-pub dump_is_free : is_simple_and_free dump_app ≡ true
-unfolding dump_app clap_on_literals
-dump_is_free = refl
-
-pub trace_is_simple : is_simple trace_app ≡ true
-unfolding trace_app clap_on_literals
-trace_is_simple = refl
-
-pub trace_is_free : is_simple_and_free trace_app ≡ true
-unfolding trace_app clap_on_literals
-trace_is_free = refl
+simple_for : (verb : Verb) → is_simple (app_for verb) ≡ true
+unfolding make_app show_app outline_app dump_app trace_app clap_on_literals
+simple_for Make = refl
+simple_for Show = refl
+simple_for Outline = refl
+simple_for Dump = refl
+simple_for Trace = refl
 
 -- decimal digits, as a test
 pub tests_digits : (ds : List ℕ) → AllDigits 10 ds → list_all (λ d. nat_lt (digit_value d) 10) ds ≡ true
@@ -107,65 +90,71 @@ unsigned_parsed bits text (Err e) h =
 
 -- ---- the values that arguments give a command's options
 
-pub among_some : (k : ErrorKind) (ks : Kinds) → IsAmong k ks → ks ≡ [] → ⊥
-among_some k ks h e = let P : Kinds → Type 0 = λ xs. IsAmong k xs in subst P e h
-
-abbrev chosen : Bool → List Row → Option (List Row)
-chosen b rows = if b then None else Some rows
-
-rows_by-is : (app : App) (arguments : List Text)
-    → rows_by app arguments
-    ≡ chosen (list_any is_bare arguments || is_some_kind (fault_of app arguments)) (matches_of app arguments)
-unfolding rows_by
-rows_by-is app arguments = refl
+among_some : (kind : ErrorKind) (kinds : Kinds) → IsAmong kind kinds → is_some_kind kinds ≡ true
+among_some kind [] h = absurd h
+among_some kind (first ∷ kinds) h = refl
 
 or_true : (b : Bool) → b || true ≡ true
 or_true true = refl
 or_true false = refl
 
-length_some : (ks : Kinds) → (ks ≡ [] → ⊥) → is_some_kind ks ≡ true
-length_some [] h = absurd (h refl)
-length_some (k ∷ ks) h = refl
+pub rows_of_bare : (verb : Verb) (words : List Text) → list_any is_bare words ≡ true → rows_by verb words ≡ None
+unfolding rows_by
+rows_of_bare verb words bare = rw bare
 
-pub rows_of_bare : (app : App) (arguments : List Text) → list_any is_bare arguments ≡ true → rows_by app arguments ≡ None
-rows_of_bare app arguments bare =
-    rows_by-is app arguments
-    ∙ ap (λ (b : Bool). chosen (b || is_some_kind (fault_of app arguments)) (matches_of app arguments)) bare
+-- clap takes the words
+pub rows_taken : {S : Type 0} (verb : Verb) (app : App) (words : List Text) (rows : List Row) → app ≡ app_for verb
+    → list_any is_bare words ≡ false → (is_simple app ≡ true → (rows ≡ matches_of app words) × S)
+    → (is_simple_and_free app ≡ true → fault_of app words ≡ []) → rows_by verb words ≡ Some rows
+unfolding rows_by
+rows_taken verb app words rows e bare found none =
+    let no_fault = none (ap is_simple_and_free e ∙ free_for verb) in
+    let are = found (ap is_simple e ∙ simple_for verb) in
+    rw (are.0, e, bare, sym (ap (λ (a : App). fault_of a words) e) ∙ no_fault)
 
-pub rows_of_fault : (app : App) (arguments : List Text) → (fault_of app arguments ≡ [] → ⊥) → rows_by app arguments ≡ None
-rows_of_fault app arguments fault =
-    rows_by-is app arguments
-    ∙ ap (λ (b : Bool). chosen (list_any is_bare arguments || b) (matches_of app arguments))
-    (length_some (fault_of app arguments) fault)
-    ∙ ap (λ (b : Bool). chosen b (matches_of app arguments)) (or_true (list_any is_bare arguments))
-
-pub rows_of_taken : (app : App) (arguments : List Text) → list_any is_bare arguments ≡ false → fault_of app arguments ≡ []
-    → rows_by app arguments ≡ Some (matches_of app arguments)
-rows_of_taken app arguments bare fault =
-    rows_by-is app arguments
-    ∙ ap₂ (λ (b : Bool) (ks : Kinds). chosen (b || is_some_kind ks) (matches_of app arguments)) bare fault
+-- it refuses them
+pub rows_refused : (verb : Verb) (app : App) (words : List Text) (kind : ErrorKind) (fault : Fault) → app ≡ app_for verb
+    → (is_simple_and_free app ≡ true → (kind ≡ memory.OutOfMemory) ⊎ IsAmong kind (fault_of app words))
+    → (kind ≡ memory.OutOfMemory → fault ≡ Early OutOfMemory) → (fault ≡ Early OutOfMemory) ⊎ (fault ≡ Usage)
+    → (fault ≡ Early OutOfMemory) ⊎ ((fault ≡ Usage) × (rows_by verb words ≡ None))
+unfolding rows_by
+rows_refused verb app words kind fault e fails out cases =
+    elim (fails (ap is_simple_and_free e ∙ free_for verb)) [
+      | inl memory ↦ inl (out memory)
+      | inr among ↦ elim cases [
+        | inl early ↦ inl early
+        | inr usage ↦
+            let some = among_some kind (fault_of app words) among in
+            let same : is_some_kind (fault_of (app_for verb) words) ≡ true = rw e at some in
+            inr (usage, rw (same, or_true (list_any is_bare words)))
+      ]
+    ]
 
 -- ---- what they ask for
 
--- clap takes the arguments
-pub taken : (of : List Row → Result CommandView Fault) (made app : App) (arguments : List Text) (rows : List Row)
-    (result : Result Command Fault) → made ≡ app → rows_by made arguments ≡ Some rows → GivesUnless Refuses seen result (of rows)
-    → GivesUnless Refuses seen result (wanted (rows_by app arguments) Usage >>= of)
-taken of made app arguments rows result e are h =
-    let P : Option (List Row) → Type 0 = λ r. GivesUnless Refuses seen result (wanted r Usage >>= of) in
-    subst P (sym are ∙ ap (λ (a : App). rows_by a arguments) e) h
+-- clap refuses the words
+pub not_read : (verb : Verb) (words : List Text) (fault : Fault)
+    → (fault ≡ Early OutOfMemory) ⊎ ((fault ≡ Usage) × (rows_by verb words ≡ None)) → Refuses fault (command_by (Some verb) words)
+unfolding asked_by
+not_read verb words fault (inl memory) = rw memory tt
+not_read verb words fault (inr (usage, none)) = rw (usage, none)
 
--- it refuses them
-pub not_taken : (of : List Row → Result CommandView Fault) (made app : App) (arguments : List Text) (fault : Fault) → made ≡ app
-    → (fault ≡ Early OutOfMemory) ⊎ ((fault ≡ Usage) × (rows_by made arguments ≡ None))
-    → Refuses fault (wanted (rows_by app arguments) Usage >>= of)
-not_taken of made app arguments fault e (inl memory) =
-    let P : Fault → Type 0 = λ f. Refuses f (wanted (rows_by app arguments) Usage >>= of) in subst P (sym memory) tt
-not_taken of made app arguments fault e (inr (usage, none)) =
-    let P : Fault → Type 0 = λ f. Refuses f (wanted (rows_by app arguments) Usage >>= of) in
-    let no_rows = sym (ap (λ (a : App). rows_by a arguments) e) ∙ none in
-    subst P (sym usage) (ap (λ (r : Option (List Row)). wanted r Usage >>= of) no_rows)
+-- it takes them
+pub read_ok : (verb : Verb) (words : List Text) (rows : List Row) (command : CommandView) → rows_by verb words ≡ Some rows
+    → asked_for verb rows ≡ Ok command → command_by (Some verb) words ≡ Ok command
+unfolding asked_by
+read_ok verb words rows command e d = rw (e, d)
 
-pub ruleset rows_steps = (among_some, rows_of_bare, rows_of_fault, rows_of_taken)
+pub read_wrong : (verb : Verb) (words : List Text) (rows : List Row) (text : Text) → rows_by verb words ≡ Some rows
+    → asked_for verb rows ≡ Err (wrong text) → command_by (Some verb) words ≡ Err Usage
+unfolding asked_by
+read_wrong verb words rows text e d = rw (e, d)
 
-pub ruleset read_steps = (err_from_is_err_and, not_taken, taken)
+pub read_refused : (verb : Verb) (words : List Text) (rows : List Row) (refusal : Refusal) → rows_by verb words ≡ Some rows
+    → (refusal ≡ OutOfMemory) ⊎ ((refusal ≡ BadChars) × (asked_for verb rows ≡ Err malformed))
+    → Refuses (Early refusal) (command_by (Some verb) words)
+unfolding asked_by
+read_refused verb words rows refusal e (inl memory) = rw memory tt
+read_refused verb words rows refusal e (inr (bad, d)) = rw (bad, e, d)
+
+pub ruleset read_steps = (err_from_is_err_and, not_read, read_ok, read_wrong, read_refused)

@@ -1,7 +1,8 @@
 -- What the arguments of a command line ask for.
 use Rattle.std.specs.Prelude.{ℕ, ◌^◌, Bool, true, false, List, [], ◌∷◌, map, length, codes, Option, Some, None, unwrap_or, option_map}
-use Rattle.std.specs.Prelude.{option_and_then, if◌then◌else◌, nat_lt, ◌&&◌, ◌||◌, not, Result, Ok, Err}
+use Rattle.std.specs.Prelude.{if◌then◌else◌, nat_lt, ◌&&◌, ◌||◌, not, Result, Ok, Err}
 use denote.Ref.{Bor}
+use Rattle.std.specs.Prelude.{fold}
 use Rattle.std.specs.List.{list_all, list_any}
 use Rattle.std.specs.Str.{bytes_eq}
 use Rattle.std.specs.Char.{digit_value}
@@ -11,7 +12,8 @@ use Rattle.clap.specs.Simple.{App, new_app, new_rule, with_rule, matches_of}
 use Rattle.clap.specs.Faults.{fault_of}
 use Rattle.clap.specs.Kinds.{Kinds}
 use Rattle.clap.specs.declared.builder.action.ArgAction.TheVariants.{Append, Set, SetTrue}
-use Rattle.fx_fixed.specs.Chain.{◌>>=◌, map_ok, wanted}
+use Rattle.fx_fixed.specs.Chain.{◌>>=◌, map_chain, map_ok, wanted}
+use Rattle.fx_bdf.specs.Properties.{PropertyView}
 use Rattle.fx_machine.specs.declared.program.FontProgram.{FontProgram}
 use Rattle.fx_machine.specs.declared.program.FontProgram.TheVariants.{Fpgm, Prep, Glyph}
 use Rattle.fx_request.specs.declared.request.Choice.{Choice}
@@ -21,15 +23,15 @@ use Rattle.fx_request.specs.declared.request.Dropout.TheVariants.{Off, Left, Nea
 use Rattle.fx_request.specs.declared.request.Mode.{Mode}
 use Rattle.fx_request.specs.declared.request.OnRefused.{OnRefused}
 use Rattle.fx_request.specs.declared.request.OnRefused.TheVariants.{Stop, LeaveOut, Unhinted}
-use Rattle.fx_request.specs.declared.refusal.Refusal.TheVariants.{BadChars}
 use Rattle.fx_arguments.specs.declared.command.Show.{Show}
 use Rattle.fx_arguments.specs.declared.command.Traced.{Traced}
 use Rattle.fx_arguments.specs.declared.command.Traced.TheVariants as traced
-use Rattle.fx_arguments.specs.declared.fault.Fault.{Fault}
-use Rattle.fx_arguments.specs.declared.fault.Fault.TheVariants.{Usage, Early}
+use Rattle.fx_arguments.specs.declared.verb.Verb.{Verb}
+use Rattle.fx_arguments.specs.declared.verb.Verb.TheVariants as verbs
 use Rattle.fx_arguments.specs.Chars.{number_of, numbers_of_list}
-use Rattle.fx_arguments.specs.Properties.{properties_of}
-use Rattle.fx_arguments.specs.Commands.{CharactersView, CommandView, listed, listing, mapped, outline, picture, strike, trace}
+use Rattle.fx_arguments.specs.Properties.{property_of}
+use Rattle.fx_arguments.specs.Wrong.{WrongView, malformed, not_taken, says}
+use Rattle.fx_arguments.specs.Commands.{CharactersView, CommandView, TaskView, listed, listing, mapped, outline, picture, strike, trace}
 
 -- an option `--id VALUE`
 abbrev pub option_rule : Text → Rule
@@ -58,33 +60,39 @@ dropout_rule = choice_rule (codes "dropout") (codes "left")
 
 -- the command `make` with its options
 unfoldable pub make_app : App
-make_app = with_rule (with_rule (with_rule (with_rule (with_rule (with_rule (with_rule (with_rule (with_rule (with_rule (with_rule
-    (new_app (codes "make")) (option_rule (codes "ppem"))) (option_rule (codes "chars"))) (option_rule (codes "name")))
-    (many_rule (codes "property"))) (flag_rule (codes "x11"))) (option_rule (codes "refused"))) (flag_rule (codes "unhinted")))
-    dropout_rule) (option_rule (codes "face"))) (flag_rule (codes "hex"))) (flag_rule (codes "all"))
+make_app = fold with_rule (new_app (codes "make"))
+    (option_rule (codes "ppem") ∷ option_rule (codes "chars") ∷ option_rule (codes "name") ∷ many_rule (codes "property") ∷
+    flag_rule (codes "x11") ∷ option_rule (codes "refused") ∷ flag_rule (codes "unhinted") ∷ dropout_rule ∷
+    option_rule (codes "face") ∷ flag_rule (codes "hex") ∷ flag_rule (codes "all") ∷ [])
 
 -- the command `show` with its options
 unfoldable pub show_app : App
-show_app = with_rule (with_rule (with_rule (with_rule (with_rule (with_rule (with_rule (new_app (codes "show"))
-    (option_rule (codes "ppem"))) (option_rule (codes "char"))) (option_rule (codes "glyph"))) (flag_rule (codes "unhinted")))
-    dropout_rule) (option_rule (codes "face"))) (flag_rule (codes "hex"))
+show_app = fold with_rule (new_app (codes "show"))
+    (option_rule (codes "ppem") ∷ option_rule (codes "char") ∷ option_rule (codes "glyph") ∷ flag_rule (codes "unhinted") ∷
+    dropout_rule ∷ option_rule (codes "face") ∷ flag_rule (codes "hex") ∷ [])
 
 -- the command `outline` with its options
 unfoldable pub outline_app : App
-outline_app = with_rule (with_rule (with_rule (with_rule (with_rule (with_rule (new_app (codes "outline"))
-    (option_rule (codes "ppem"))) (option_rule (codes "char"))) (option_rule (codes "glyph"))) (flag_rule (codes "unhinted")))
-    (option_rule (codes "face"))) (flag_rule (codes "hex"))
+outline_app = fold with_rule (new_app (codes "outline"))
+    (option_rule (codes "ppem") ∷ option_rule (codes "char") ∷ option_rule (codes "glyph") ∷ flag_rule (codes "unhinted") ∷
+    option_rule (codes "face") ∷ flag_rule (codes "hex") ∷ [])
 
 -- the command `dump` with its options
 unfoldable pub dump_app : App
-dump_app = with_rule (with_rule (with_rule (new_app (codes "dump")) (option_rule (codes "of"))) (option_rule (codes "face")))
-    (flag_rule (codes "hex"))
+dump_app = fold with_rule (new_app (codes "dump")) (option_rule (codes "of") ∷ option_rule (codes "face") ∷ flag_rule (codes "hex") ∷ [])
 
 -- the command `trace` with its options
 unfoldable pub trace_app : App
-trace_app = with_rule (with_rule (with_rule (with_rule (with_rule (with_rule (new_app (codes "trace"))
-    (option_rule (codes "ppem"))) (option_rule (codes "char"))) (option_rule (codes "glyph"))) (option_rule (codes "of")))
-    (option_rule (codes "face"))) (flag_rule (codes "hex"))
+trace_app = fold with_rule (new_app (codes "trace"))
+    (option_rule (codes "ppem") ∷ option_rule (codes "char") ∷ option_rule (codes "glyph") ∷ option_rule (codes "of") ∷
+    option_rule (codes "face") ∷ flag_rule (codes "hex") ∷ [])
+
+abbrev pub app_for : Verb → App
+app_for verbs.Make = make_app
+app_for verbs.Show = show_app
+app_for verbs.Outline = outline_app
+app_for verbs.Dump = dump_app
+app_for verbs.Trace = trace_app
 
 -- ---- what is asked for
 
@@ -118,24 +126,25 @@ named_dropout text =
     else (if bytes_eq text (codes "font") then Some Font else None))
 
 -- drop-out control is off unless `--dropout` was given
-abbrev pub dropout_by : Option Text → Result Dropout Fault
+abbrev pub dropout_by : Option Text → Result Dropout WrongView
 dropout_by None = Ok Off
-dropout_by (Some text) = wanted (named_dropout text) Usage
+dropout_by (Some text) = wanted (named_dropout text) (not_taken (codes "--dropout takes left, near or font") text)
 
 -- how outlines become pixels: the font's programs run unless `--unhinted` was given
-abbrev pub mode_by : List Row → Result Mode Fault
+abbrev pub mode_by : List Row → Result Mode WrongView
 mode_by rows = do
   dropout ← dropout_by (first_of (codes "dropout") rows)
   Ok (record { hinting = not (is_given (codes "unhinted") rows); dropout = dropout })
 
 -- a size that is required
-abbrev pub size_by : Option Text → Result ℕ Fault
-size_by text = wanted (option_and_then size_of text) Usage
+abbrev pub size_by : Option Text → Result ℕ WrongView
+size_by None = Err (says (codes "--ppem is missing"))
+size_by (Some text) = wanted (size_of text) (not_taken (codes "--ppem takes a whole number from 1 to 1024") text)
 
 -- the number of a face, counted from 0; 0 if it is not given
-abbrev pub face_by : Option Text → Result ℕ Fault
+abbrev pub face_by : Option Text → Result ℕ WrongView
 face_by None = Ok 0
-face_by (Some text) = wanted (unsigned_of 32 text) Usage
+face_by (Some text) = wanted (unsigned_of 32 text) (not_taken (codes "--face takes a whole number, counted from 0") text)
 
 -- what becomes of refused characters, by its name
 abbrev pub named_refused : Text → Option OnRefused
@@ -143,28 +152,35 @@ named_refused text = if bytes_eq text (codes "stop") then Some Stop else (if byt
     else (if bytes_eq text (codes "unhinted") then Some Unhinted else None))
 
 -- the first one refuses the strike unless something else is asked for
-abbrev pub refused_by : Option Text → Result OnRefused Fault
+abbrev pub refused_by : Option Text → Result OnRefused WrongView
 refused_by None = Ok Stop
-refused_by (Some text) = wanted (named_refused text) Usage
+refused_by (Some text) = wanted (named_refused text) (not_taken (codes "--refused takes stop, leave-out or unhinted") text)
 
 -- characters are asked for by a list, or all of the font's map by a flag, and not both
-abbrev pub one_way : Bool → Option Text → Result (Unit {0}) Fault
+abbrev pub one_way : Bool → Option Text → Result (Unit {0}) WrongView
 one_way true None = Ok tt
 one_way false (Some list) = Ok tt
-one_way true (Some list) = Err Usage
-one_way false None = Err Usage
+one_way true (Some list) = Err (says (codes "--chars and --all can't be given together"))
+one_way false None = Err (says (codes "--chars or --all is missing"))
 
 -- the characters of a list; without one all of the font's map
-abbrev pub characters_by : Option Text → Result CharactersView Fault
+abbrev pub characters_by : Option Text → Result CharactersView WrongView
 characters_by None = Ok mapped
-characters_by (Some list) = map_ok listed (wanted (numbers_of_list list) (Early BadChars))
+characters_by (Some list) = map_ok listed (wanted (numbers_of_list list) malformed)
+
+-- properties, each KEY=VALUE
+abbrev pub property_by : Text → Result PropertyView WrongView
+property_by given = wanted (property_of given) (not_taken (codes "--property takes KEY=VALUE") given)
+
+abbrev pub properties_by : List Text → Result (List PropertyView) WrongView
+properties_by given = map_chain property_by given
 
 -- what the values of `make`'s options ask for: the size is required, and a list or `--all`
-abbrev pub make_by : List Row → Result CommandView Fault
+abbrev pub make_by : List Row → Result CommandView WrongView
 make_by rows = do
   ppem ← size_by (first_of (codes "ppem") rows)
   _ ← one_way (is_given (codes "all") rows) (first_of (codes "chars") rows)
-  properties ← wanted (properties_of (unwrap_or (all_of (codes "property") rows) [])) Usage
+  properties ← properties_by (unwrap_or (all_of (codes "property") rows) [])
   refused ← refused_by (first_of (codes "refused") rows)
   face ← face_by (first_of (codes "face") rows)
   mode ← mode_by rows
@@ -184,60 +200,73 @@ make_by rows = do
   })
 
 -- how a glyph is chosen: by a character or by its number, and not by both
-abbrev pub choice_by : Option Text → Option Text → Result Choice Fault
-choice_by (Some character) None = map_ok Character (wanted (number_of character) (Early BadChars))
-choice_by None (Some number) = map_ok Number (wanted (size_of number) Usage)
-choice_by None None = Err Usage
-choice_by (Some character) (Some number) = Err Usage
+abbrev pub choice_by : Option Text → Option Text → Result Choice WrongView
+choice_by (Some character) None = map_ok Character (wanted (number_of character) malformed)
+choice_by None (Some number) =
+    map_ok Number (wanted (size_of number) (not_taken (codes "--glyph takes a whole number from 0 to 65535") number))
+choice_by None None = Err (says (codes "--char or --glyph is missing"))
+choice_by (Some character) (Some number) = Err (says (codes "--char and --glyph can't be given together"))
 
--- the glyph that the values of `show`'s or `outline`'s options ask for: the size and the choice are required
-abbrev pub shown_by : List Row → Result Show Fault
-shown_by rows = do
+-- the picture of a glyph, or its outline
+abbrev pub shown_as : Bool → Show → TaskView
+shown_as false show = picture show
+shown_as true show = outline show
+
+-- what the values of `show`'s or `outline`'s options ask for: the size and the choice are required
+abbrev pub glyph_by : Bool → List Row → Result CommandView WrongView
+glyph_by is_outline rows = do
+  face ← face_by (first_of (codes "face") rows)
   ppem ← size_by (first_of (codes "ppem") rows)
   mode ← mode_by rows
   choice ← choice_by (first_of (codes "char") rows) (first_of (codes "glyph") rows)
-  Ok (record { ppem = ppem; choice = choice; mode = mode })
-
--- what the values of `show`'s options ask for
-abbrev pub show_by : List Row → Result CommandView Fault
-show_by rows = do
-  face ← face_by (first_of (codes "face") rows)
-  show ← shown_by rows
-  Ok (record { task = picture show; face = face; hex = is_given (codes "hex") rows })
-
--- what those of `outline`'s ask for
-abbrev pub outline_by : List Row → Result CommandView Fault
-outline_by rows = do
-  face ← face_by (first_of (codes "face") rows)
-  show ← shown_by rows
-  Ok (record { task = outline show; face = face; hex = is_given (codes "hex") rows })
+  Ok (record {
+    task = shown_as is_outline (record { ppem = ppem; choice = choice; mode = mode });
+    face = face;
+    hex = is_given (codes "hex") rows;
+  })
 
 -- a program's name: `fpgm`, `prep`, or the number of a glyph
 abbrev pub which_of : Text → Option FontProgram
 which_of text = if bytes_eq text (codes "fpgm") then Some Fpgm else (if bytes_eq text (codes "prep") then Some Prep
     else option_map Glyph (size_of text))
 
+-- a program by its name
+abbrev pub program_by : Text → Result FontProgram WrongView
+program_by name = wanted (which_of name) (not_taken (codes "--of takes fpgm, prep or the number of a glyph") name)
+
 -- what the values of `dump`'s options ask for: the program's name is required
-abbrev pub dump_by : List Row → Result CommandView Fault
+abbrev pub dump_by : List Row → Result CommandView WrongView
 dump_by rows = do
-  what ← wanted (option_and_then which_of (first_of (codes "of") rows)) Usage
+  name ← wanted (first_of (codes "of") rows) (says (codes "--of is missing"))
+  what ← program_by name
   face ← face_by (first_of (codes "face") rows)
   Ok (record { task = listing what; face = face; hex = is_given (codes "hex") rows })
 
 -- what is traced: a glyph, or a program by its name, and not both
-abbrev pub traced_by : Option Text → Option Text → Option Text → Result Traced Fault
-traced_by character number None = map_ok traced.Glyph (choice_by character number)
-traced_by None None (Some name) = map_ok traced.Program (wanted (which_of name) Usage)
-traced_by (Some character) number (Some name) = Err Usage
-traced_by None (Some number) (Some name) = Err Usage
+abbrev pub traced_by : Option Text → Option Text → Option Text → Result Traced WrongView
+traced_by None None None = Err (says (codes "--char, --glyph or --of is missing"))
+traced_by (Some character) number None = map_ok traced.Glyph (choice_by (Some character) number)
+traced_by None (Some number) None = map_ok traced.Glyph (choice_by None (Some number))
+traced_by None None (Some name) = map_ok traced.Program (program_by name)
+traced_by (Some character) number (Some name) = Err (says (codes "--of can't be given with --char or --glyph"))
+traced_by None (Some number) (Some name) = Err (says (codes "--of can't be given with --char or --glyph"))
 
 -- what the values of `trace`'s options ask for
-abbrev pub trace_by : List Row → Result CommandView Fault
+abbrev pub trace_by : List Row → Result CommandView WrongView
 trace_by rows = do
   face ← face_by (first_of (codes "face") rows)
   ppem ← size_by (first_of (codes "ppem") rows)
   traced ← traced_by (first_of (codes "char") rows) (first_of (codes "glyph") rows) (first_of (codes "of") rows)
   Ok (record { task = trace (record { ppem = ppem; traced = traced }); face = face; hex = is_given (codes "hex") rows })
+
+abbrev pub asked_for : Verb → List Row → Result CommandView WrongView
+asked_for verbs.Make = make_by
+asked_for verbs.Show = glyph_by false
+asked_for verbs.Outline = glyph_by true
+asked_for verbs.Dump = dump_by
+asked_for verbs.Trace = trace_by
+
+-- ---- the words
 
 -- an argument that has only hyphens
 abbrev pub is_bare : Text → Bool
@@ -248,28 +277,22 @@ abbrev pub is_some_kind : Kinds → Bool
 is_some_kind [] = false
 is_some_kind (kind ∷ kinds) = true
 
--- the values that arguments give a command's options, by clap
-unfoldable pub rows_by : App → List Text → Option (List Row)
-rows_by app arguments =
-    if list_any is_bare arguments || is_some_kind (fault_of app arguments) then None else Some (matches_of app arguments)
+-- the values that words give the options of a command, its name first, by clap
+unfoldable pub rows_by : Verb → List Text → Option (List Row)
+rows_by verb words = if list_any is_bare words || is_some_kind (fault_of (app_for verb) words) then None
+    else Some (matches_of (app_for verb) words)
 
--- the arguments from a command's name on
-abbrev pub command_of_make : List Text → Result CommandView Fault
-command_of_make arguments = wanted (rows_by make_app arguments) Usage >>= make_by
-
-abbrev pub command_of_show : List Text → Result CommandView Fault
-command_of_show arguments = wanted (rows_by show_app arguments) Usage >>= show_by
-
-abbrev pub command_of_outline : List Text → Result CommandView Fault
-command_of_outline arguments = wanted (rows_by outline_app arguments) Usage >>= outline_by
-
-abbrev pub command_of_dump : List Text → Result CommandView Fault
-command_of_dump arguments = wanted (rows_by dump_app arguments) Usage >>= dump_by
-
-abbrev pub command_of_trace : List Text → Result CommandView Fault
-command_of_trace arguments = wanted (rows_by trace_app arguments) Usage >>= trace_by
-
--- the first argument is the name
+-- the first word is the name
 abbrev pub is_command : Text → List Text → Bool
 is_command name [] = false
-is_command name (argument ∷ arguments) = bytes_eq argument name
+is_command name (word ∷ words) = bytes_eq word name
+
+-- the command with options that the first word names
+abbrev pub verb_named : Text → Option Verb
+verb_named name = if bytes_eq name (codes "make") then Some verbs.Make else (if bytes_eq name (codes "show") then Some verbs.Show
+    else (if bytes_eq name (codes "outline") then Some verbs.Outline else (if bytes_eq name (codes "dump") then Some verbs.Dump
+    else (if bytes_eq name (codes "trace") then Some verbs.Trace else None))))
+
+abbrev pub verb_of : List Text → Option Verb
+verb_of [] = None
+verb_of (word ∷ words) = verb_named word

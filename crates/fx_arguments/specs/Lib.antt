@@ -1,5 +1,6 @@
 pub mod Parts
 pub mod Chars
+pub mod Wrong
 pub mod Arguments
 pub mod Mistakes
 pub mod CommandLine

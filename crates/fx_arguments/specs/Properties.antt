@@ -1,6 +1,6 @@
 -- The properties that arguments ask for: each NAME=VALUE.
-use Rattle.std.specs.Prelude.{ℤ, Bool, false, ◌==◌, ◌&&◌, nat_lt, List, [], ◌∷◌, length, Option, Some, None, option_map}
-use Rattle.std.specs.Prelude.{option_and_then, if◌then◌else◌}
+use Rattle.std.specs.Prelude.{ℤ, Bool, false, ◌==◌, ◌&&◌, nat_lt, [], ◌∷◌, length, Option, Some, None, option_map}
+use Rattle.std.specs.Prelude.{if◌then◌else◌}
 use Rattle.std.specs.List.{list_all, position_or_len, before_first, after_first}
 use Rattle.std.specs.Char.{digit_value}
 use Rattle.std.specs.Str.Parse.{signed_digits_value, without_leading_sign}
@@ -52,9 +52,3 @@ property_of given =
       name = before_first (λ b. b == 61) given;
       value = value_of (after_first (λ b. b == 61) given);
     }) else None
-
--- those of all texts, in their order; none if one has no `=`
-unfoldable pub properties_of : List Text → Option (List PropertyView)
-properties_of [] = Some []
-properties_of (given ∷ more) =
-    option_and_then (λ property. option_map (λ properties. property ∷ properties) (properties_of more)) (property_of given)

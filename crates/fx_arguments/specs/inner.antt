@@ -1,1 +1,1 @@
-pub mod Verbs
+pub mod Options

@@ -1,24 +1,21 @@
 //! The arguments of a command line.
-ghost use Rattle.std.specs.Prelude.{◌≡◌, Ok, codes, drop, map, option_map, option_and_then};
-ghost use Rattle.std.specs.Str.{bytes_eq};
+ghost use Rattle.std.specs.Prelude.{◌≡◌, Ok, Some, drop, option_map};
 ghost use Rattle.clap.specs.Words.{found_of, rows_of};
-ghost use Rattle.fx_fixed.specs.Chain.{GivesUnless, map_ok, wanted};
-ghost use Rattle.fx_arguments.specs.Arguments.{characters_by, choice_by};
-ghost use Rattle.fx_arguments.specs.Arguments.{dropout_by, dump_by, face_by, is_command, make_by, mode_by, named_dropout, named_refused, one_way, outline_by, refused_by};
-ghost use Rattle.fx_arguments.specs.Arguments.{show_by, shown_by, size_by, texts, trace_by, traced_by, which_of};
-ghost use Rattle.fx_arguments.specs.CommandLine.{command_of, command_of_explain};
-ghost use Rattle.fx_arguments.specs.inner.Verbs.{command_by};
+ghost use Rattle.fx_fixed.specs.Chain.{GivesUnless, wanted};
+ghost use Rattle.fx_arguments.specs.Arguments.{asked_for, characters_by, choice_by, dropout_by, dump_by, face_by, glyph_by, is_command, make_by};
+ghost use Rattle.fx_arguments.specs.Arguments.{mode_by, one_way, program_by, refused_by, size_by, texts, trace_by, traced_by};
+ghost use Rattle.fx_arguments.specs.CommandLine.{command_by, command_of, command_of_explain};
 ghost use Rattle.fx_arguments.specs.Commands.{Refuses, seen, seen_characters};
-ghost use Rattle.fx_arguments.specs.declared.fault.Fault.TheVariants.{Usage};
+ghost use Rattle.fx_arguments.specs.Wrong.{Reads, not_taken};
 
 use crate::chars::{number, parse_chars};
 use crate::command::{Characters, Command, Make, Show, Task, Trace, Traced};
-use crate::commands::command_for;
 use crate::fault::Fault;
 use crate::mistakes::explain;
-use crate::properties::given_properties;
+use crate::properties::properties_by;
 use crate::values::{face_of, is_given, matches, size_of, value, values};
 use crate::verb::{Verb, verb_of};
+use crate::wrong::Wrong;
 use clap::ArgMatches;
 use fx_machine::FontProgram;
 use fx_request::{Choice, Dropout, Mode, OnRefused, Refusal};
@@ -28,100 +25,118 @@ use std::alloc::Global;
 pub fn read_arguments<'a>(alloc: Global, arguments: &'a [&'a str]) -> Result<Command<'a>, Fault>
     ensures { GivesUnless Refuses seen result (command_of (texts arguments.entry.now)) }
 {
-    let rest = arguments.get(1..).unwrap_or(&[]);
-    match verb_of(rest) {
-        Some(verb) => read_values(alloc, verb, rest),
-        None if is_command("explain", rest) => read_explain(alloc, rest),
+    let words = arguments.get(1..).unwrap_or(&[]);
+    match verb_of(words) {
+        Some(verb) => read_values(alloc, verb, words),
+        None if is_command("explain", words) => read_explain(alloc, words),
         None => Err(Fault::Usage),
     }
 }
 
-/// Whether the first argument is this one.
-pub fn is_command(name: &str, arguments: &[&str]) -> bool
-    ensures { result ≡ is_command name.now (texts arguments.now) }
+/// Whether the first word is this one.
+pub fn is_command(name: &str, words: &[&str]) -> bool
+    ensures { result ≡ is_command name.now (texts words.now) }
 {
-    match arguments.first() {
-        Some(argument) => *argument == name,
+    match words.first() {
+        Some(word) => *word == name,
         None => false,
     }
 }
 
-/// Reads the arguments from the name of a command with options on.
+/// Reads the words from the name of a command with options on.
 #[tactic(auto, using(crate::proofs::Options::read_steps))]
-fn read_values<'a>(
-    alloc: Global,
-    verb: Verb,
-    arguments: &'a [&'a str],
-) -> Result<Command<'a>, Fault>
-    ensures { GivesUnless Refuses seen result (command_by verb (texts arguments.entry.now)) }
+fn read_values<'a>(alloc: Global, verb: Verb, words: &'a [&'a str]) -> Result<Command<'a>, Fault>
+    ensures { GivesUnless Refuses seen result (command_by (Some verb) (texts words.entry.now)) }
 {
-    let matches = matches(command_for(alloc, verb)?, arguments)?;
-    match verb {
-        Verb::Make => make_of(alloc, &matches),
-        Verb::Show => show_of(&matches),
-        Verb::Outline => outline_of(&matches),
-        Verb::Dump => dump_of(&matches),
-        Verb::Trace => trace_of(&matches),
+    let matches = matches(alloc, verb, words)?;
+    match asked_for(alloc, verb, &matches) {
+        Ok(command) => Ok(command),
+        Err(Wrong::Refused(refusal)) => Err(Fault::Early(refusal)),
+        Err(Wrong::Says(_) | Wrong::NotTaken(..)) => Err(Fault::Usage),
     }
 }
 
-/// Reads the arguments from `explain` on.
-fn read_explain<'a>(alloc: Global, arguments: &[&'a str]) -> Result<Command<'a>, Fault>
-    ensures { GivesUnless Refuses seen result (Ok (command_of_explain (drop 1 (texts arguments.now)))) }
+/// Reads the words from `explain` on.
+fn read_explain<'a>(alloc: Global, words: &[&'a str]) -> Result<Command<'a>, Fault>
+    ensures { GivesUnless Refuses seen result (Ok (command_of_explain (drop 1 (texts words.now)))) }
 {
-    let words = arguments.get(1..).unwrap_or(&[]);
+    let line = explain(alloc, words.get(1..).unwrap_or(&[]))?;
     Ok(Command {
-        task: Task::Explanation(explain(alloc, words)?),
+        task: Task::Explanation(line),
         face: 0,
         hex: false,
     })
 }
 
+/// What the values of a command's options ask for.
+pub fn asked_for<'a>(
+    alloc: Global,
+    verb: Verb,
+    matches: &ArgMatches<'a>,
+) -> Result<Command<'a>, Wrong<'a>>
+    ensures { Reads seen result (asked_for verb (rows_of (found_of matches.now))) }
+{
+    match verb {
+        Verb::Make => make_of(alloc, matches),
+        Verb::Show => glyph_of(matches, false),
+        Verb::Outline => glyph_of(matches, true),
+        Verb::Dump => dump_of(matches),
+        Verb::Trace => trace_of(matches),
+    }
+}
+
+/// The value of an option, or what the option takes if a text has none.
+fn taken<'a, T: Copy>(value: Option<T>, takes: &'a str, text: &'a str) -> Result<T, Wrong<'a>>
+    ensures { Reads (λ x. x) result (wanted value (not_taken takes.entry.now text.entry.now)) }
+{
+    match value {
+        Some(value) => Ok(value),
+        None => Err(Wrong::NotTaken(takes, text)),
+    }
+}
+
 /// A size that is required.
-fn required_size(text: Option<&str>) -> Result<u16, Fault>
-    ensures { result ≡ size_by (option_map (λ text. text.now) text.entry) }
+fn size_by(text: Option<&str>) -> Result<u16, Wrong<'_>>
+    ensures { Reads (λ size. size) result (size_by (option_map (λ text. text.now) text.entry)) }
 {
     match text {
-        Some(text) => size_of(text).ok_or(Fault::Usage),
-        None => Err(Fault::Usage),
+        Some(text) => {
+            let takes = "--ppem takes a whole number from 1 to 1024";
+            taken(size_of(text), takes, text)
+        }
+        None => Err(Wrong::Says("--ppem is missing")),
     }
 }
 
 /// The number of a face; 0 if it is not given.
-fn face_by(text: Option<&str>) -> Result<u32, Fault>
-    ensures { result ≡ face_by (option_map (λ text. text.now) text.entry) }
+fn face_by(text: Option<&str>) -> Result<u32, Wrong<'_>>
+    ensures { Reads (λ face. face) result (face_by (option_map (λ text. text.now) text.entry)) }
 {
     match text {
-        Some(text) => face_of(text).ok_or(Fault::Usage),
+        Some(text) => {
+            let takes = "--face takes a whole number, counted from 0";
+            taken(face_of(text), takes, text)
+        }
         None => Ok(0),
     }
 }
 
-/// Which pixels drop-out control sets, by its name.
-pub(crate) fn named_dropout(name: &str) -> Option<Dropout>
-    ensures { result ≡ named_dropout name.now }
-{
-    match name {
-        "left" => Some(Dropout::Left),
-        "near" => Some(Dropout::Near),
-        "font" => Some(Dropout::Font),
-        _ => None,
-    }
-}
-
 /// Which pixels drop-out control sets; none if it is not given.
-fn dropout_by(name: Option<&str>) -> Result<Dropout, Fault>
-    ensures { result ≡ dropout_by (option_map (λ name. name.now) name.entry) }
+fn dropout_by(name: Option<&str>) -> Result<Dropout, Wrong<'_>>
+    ensures { Reads (λ dropout. dropout) result (dropout_by (option_map (λ name. name.now) name.entry)) }
 {
     match name {
-        Some(name) => named_dropout(name).ok_or(Fault::Usage),
         None => Ok(Dropout::Off),
+        Some("left") => Ok(Dropout::Left),
+        Some("near") => Ok(Dropout::Near),
+        Some("font") => Ok(Dropout::Font),
+        Some(name) => Err(Wrong::NotTaken("--dropout takes left, near or font", name)),
     }
 }
 
 /// How outlines become pixels, by the options of `make`, `show` and `outline`.
-fn mode_of(matches: &ArgMatches<'_>) -> Result<Mode, Fault>
-    ensures { result ≡ mode_by (rows_of (found_of matches.now)) }
+fn mode_of<'a>(matches: &ArgMatches<'a>) -> Result<Mode, Wrong<'a>>
+    ensures { Reads (λ mode. mode) result (mode_by (rows_of (found_of matches.now))) }
 {
     let dropout = dropout_by(value(matches, "dropout"))?;
     Ok(Mode {
@@ -131,40 +146,31 @@ fn mode_of(matches: &ArgMatches<'_>) -> Result<Mode, Fault>
 }
 
 /// What becomes of refused characters, by its name; if none is given, the first one refuses the strike.
-fn on_refused(name: Option<&str>) -> Result<OnRefused, Fault>
-    ensures { result ≡ refused_by (option_map (λ name. name.now) name.entry) }
+fn refused_by(name: Option<&str>) -> Result<OnRefused, Wrong<'_>>
+    ensures { Reads (λ refused. refused) result (refused_by (option_map (λ name. name.now) name.entry)) }
 {
     match name {
-        Some(name) => named_refused(name).ok_or(Fault::Usage),
-        None => Ok(OnRefused::Stop),
-    }
-}
-
-/// What becomes of refused characters, by its name.
-pub(crate) fn named_refused(name: &str) -> Option<OnRefused>
-    ensures { result ≡ named_refused name.now }
-{
-    match name {
-        "stop" => Some(OnRefused::Stop),
-        "leave-out" => Some(OnRefused::LeaveOut),
-        "unhinted" => Some(OnRefused::Unhinted),
-        _ => None,
+        None | Some("stop") => Ok(OnRefused::Stop),
+        Some("leave-out") => Ok(OnRefused::LeaveOut),
+        Some("unhinted") => Ok(OnRefused::Unhinted),
+        Some(name) => Err(Wrong::NotTaken("--refused takes stop, leave-out or unhinted", name)),
     }
 }
 
 /// Characters are asked for by a list, or all of the font's map by a flag, and not both.
-fn one_way(is_all: bool, list: Option<&str>) -> Result<(), Fault>
-    ensures { result ≡ one_way is_all (option_map (λ list. list.now) list.entry) }
+fn one_way<'a>(is_all: bool, list: Option<&str>) -> Result<(), Wrong<'a>>
+    ensures { Reads (λ u. u) result (one_way is_all (option_map (λ list. list.now) list.entry)) }
 {
     match (is_all, list) {
         (true, None) | (false, Some(_)) => Ok(()),
-        (true, Some(_)) | (false, None) => Err(Fault::Usage),
+        (true, Some(_)) => Err(Wrong::Says("--chars and --all can't be given together")),
+        (false, None) => Err(Wrong::Says("--chars or --all is missing")),
     }
 }
 
 /// The characters of a list; without one all of the font's map.
-fn characters_by(alloc: Global, list: Option<&str>) -> Result<Characters, Fault>
-    ensures { GivesUnless Refuses seen_characters result (characters_by (option_map (λ list. list.now) list.entry)) }
+fn characters_by<'a>(alloc: Global, list: Option<&str>) -> Result<Characters, Wrong<'a>>
+    ensures { Reads seen_characters result (characters_by (option_map (λ list. list.now) list.entry)) }
 {
     match list {
         Some(list) => {
@@ -176,14 +182,14 @@ fn characters_by(alloc: Global, list: Option<&str>) -> Result<Characters, Fault>
 }
 
 /// What the values of `make` ask for: the size is required, and a list of characters or `--all`.
-fn make_of<'a>(alloc: Global, matches: &ArgMatches<'a>) -> Result<Command<'a>, Fault>
-    ensures { GivesUnless Refuses seen result (make_by (rows_of (found_of matches.now))) }
+fn make_of<'a>(alloc: Global, matches: &ArgMatches<'a>) -> Result<Command<'a>, Wrong<'a>>
+    ensures { Reads seen result (make_by (rows_of (found_of matches.now))) }
 {
-    let ppem = required_size(value(matches, "ppem"))?;
+    let ppem = size_by(value(matches, "ppem"))?;
     let list = value(matches, "chars");
     one_way(is_given(matches, "all"), list)?;
-    let properties = given_properties(alloc, values(matches, "property"))?;
-    let on_refused = on_refused(value(matches, "refused"))?;
+    let properties = properties_by(alloc, values(matches, "property").unwrap_or(&[]))?;
+    let on_refused = refused_by(value(matches, "refused"))?;
     let face = face_by(value(matches, "face"))?;
     let mode = mode_of(matches)?;
     let chars = characters_by(alloc, list)?;
@@ -204,65 +210,64 @@ fn make_of<'a>(alloc: Global, matches: &ArgMatches<'a>) -> Result<Command<'a>, F
 }
 
 /// How a glyph is chosen: by a character or by its number, and not by both.
-fn choice_of(character: Option<&str>, glyph: Option<&str>) -> Result<Choice, Fault>
-    ensures { GivesUnless Refuses (λ choice. choice) result
+fn choice_of<'a>(character: Option<&str>, glyph: Option<&'a str>) -> Result<Choice, Wrong<'a>>
+    ensures { Reads (λ choice. choice) result
         (choice_by (option_map (λ text. text.now) character.entry) (option_map (λ text. text.now) glyph.entry)) }
 {
     match (character, glyph) {
         (Some(character), None) => match number(character) {
             Some(code) => Ok(Choice::Character(code)),
-            None => Err(Fault::Early(Refusal::BadChars)),
+            None => Err(Wrong::Refused(Refusal::BadChars)),
         },
-        (None, Some(glyph)) => match size_of(glyph) {
-            Some(number) => Ok(Choice::Number(number)),
-            None => Err(Fault::Usage),
-        },
-        _ => Err(Fault::Usage),
+        (None, Some(glyph)) => {
+            let takes = "--glyph takes a whole number from 0 to 65535";
+            Ok(Choice::Number(taken(size_of(glyph), takes, glyph)?))
+        }
+        (None, None) => Err(Wrong::Says("--char or --glyph is missing")),
+        (Some(_), Some(_)) => Err(Wrong::Says("--char and --glyph can't be given together")),
     }
 }
 
-/// The glyph that the values of `show` or `outline` ask for: the size and the choice are required.
-fn shown_of(matches: &ArgMatches<'_>) -> Result<Show, Fault>
-    ensures { GivesUnless Refuses (λ show. show) result (shown_by (rows_of (found_of matches.now))) }
+/// What the values of `show` or `outline` ask for: the size and the choice are required.
+fn glyph_of<'a>(matches: &ArgMatches<'a>, is_outline: bool) -> Result<Command<'a>, Wrong<'a>>
+    ensures { Reads seen result (glyph_by is_outline (rows_of (found_of matches.now))) }
 {
-    let ppem = required_size(value(matches, "ppem"))?;
+    let face = face_by(value(matches, "face"))?;
+    let ppem = size_by(value(matches, "ppem"))?;
     let mode = mode_of(matches)?;
     let choice = choice_of(value(matches, "char"), value(matches, "glyph"))?;
-    Ok(Show { ppem, choice, mode })
-}
-
-/// What the values of `show` ask for.
-fn show_of<'a>(matches: &ArgMatches<'a>) -> Result<Command<'a>, Fault>
-    ensures { GivesUnless Refuses seen result (show_by (rows_of (found_of matches.now))) }
-{
-    let face = face_by(value(matches, "face"))?;
-    let show = shown_of(matches)?;
+    let show = Show { ppem, choice, mode };
     Ok(Command {
-        task: Task::Picture(show),
+        task: if is_outline {
+            Task::Outline(show)
+        } else {
+            Task::Picture(show)
+        },
         face,
         hex: is_given(matches, "hex"),
     })
 }
 
-/// What the values of `outline` ask for.
-fn outline_of<'a>(matches: &ArgMatches<'a>) -> Result<Command<'a>, Fault>
-    ensures { GivesUnless Refuses seen result (outline_by (rows_of (found_of matches.now))) }
+/// A program by its name: `fpgm`, `prep`, or the number of a glyph.
+fn program_by(name: &str) -> Result<FontProgram, Wrong<'_>>
+    ensures { Reads (λ program. program) result (program_by name.entry.now) }
 {
-    let face = face_by(value(matches, "face"))?;
-    let show = shown_of(matches)?;
-    Ok(Command {
-        task: Task::Outline(show),
-        face,
-        hex: is_given(matches, "hex"),
-    })
+    match name {
+        "fpgm" => Ok(FontProgram::Fpgm),
+        "prep" => Ok(FontProgram::Prep),
+        _ => {
+            let takes = "--of takes fpgm, prep or the number of a glyph";
+            Ok(FontProgram::Glyph(taken(size_of(name), takes, name)?))
+        }
+    }
 }
 
 /// What the values of `dump` ask for: the name of the program is required.
-fn dump_of<'a>(matches: &ArgMatches<'a>) -> Result<Command<'a>, Fault>
-    ensures { GivesUnless Refuses seen result (dump_by (rows_of (found_of matches.now))) }
+fn dump_of<'a>(matches: &ArgMatches<'a>) -> Result<Command<'a>, Wrong<'a>>
+    ensures { Reads seen result (dump_by (rows_of (found_of matches.now))) }
 {
-    let name = value(matches, "of").ok_or(Fault::Usage)?;
-    let what = which_of(name).ok_or(Fault::Usage)?;
+    let name = value(matches, "of").ok_or(Wrong::Says("--of is missing"))?;
+    let what = program_by(name)?;
     let face = face_by(value(matches, "face"))?;
     Ok(Command {
         task: Task::Listing(what),
@@ -272,11 +277,11 @@ fn dump_of<'a>(matches: &ArgMatches<'a>) -> Result<Command<'a>, Fault>
 }
 
 /// What the values of `trace` ask for: the size and what is traced are required.
-fn trace_of<'a>(matches: &ArgMatches<'a>) -> Result<Command<'a>, Fault>
-    ensures { GivesUnless Refuses seen result (trace_by (rows_of (found_of matches.now))) }
+fn trace_of<'a>(matches: &ArgMatches<'a>) -> Result<Command<'a>, Wrong<'a>>
+    ensures { Reads seen result (trace_by (rows_of (found_of matches.now))) }
 {
     let face = face_by(value(matches, "face"))?;
-    let ppem = required_size(value(matches, "ppem"))?;
+    let ppem = size_by(value(matches, "ppem"))?;
     let traced = traced_of(
         value(matches, "char"),
         value(matches, "glyph"),
@@ -290,34 +295,18 @@ fn trace_of<'a>(matches: &ArgMatches<'a>) -> Result<Command<'a>, Fault>
 }
 
 /// What is traced: a glyph, or a program by its name, and not both.
-fn traced_of(
+fn traced_of<'a>(
     character: Option<&str>,
-    glyph: Option<&str>,
-    name: Option<&str>,
-) -> Result<Traced, Fault>
-    ensures { GivesUnless Refuses (λ traced. traced) result (traced_by (option_map (λ text. text.now) character.entry)
+    glyph: Option<&'a str>,
+    name: Option<&'a str>,
+) -> Result<Traced, Wrong<'a>>
+    ensures { Reads (λ traced. traced) result (traced_by (option_map (λ text. text.now) character.entry)
         (option_map (λ text. text.now) glyph.entry) (option_map (λ text. text.now) name.entry)) }
 {
     match (character, glyph, name) {
-        (character, glyph, None) => {
-            let choice = choice_of(character, glyph)?;
-            Ok(Traced::Glyph(choice))
-        }
-        (None, None, Some(name)) => match which_of(name) {
-            Some(program) => Ok(Traced::Program(program)),
-            None => Err(Fault::Usage),
-        },
-        _ => Err(Fault::Usage),
-    }
-}
-
-/// The program of a name.
-pub fn which_of(name: &str) -> Option<FontProgram>
-    ensures { result ≡ which_of name.now }
-{
-    match name {
-        "fpgm" => Some(FontProgram::Fpgm),
-        "prep" => Some(FontProgram::Prep),
-        _ => size_of(name).map(FontProgram::Glyph),
+        (None, None, None) => Err(Wrong::Says("--char, --glyph or --of is missing")),
+        (character, glyph, None) => Ok(Traced::Glyph(choice_of(character, glyph)?)),
+        (None, None, Some(name)) => Ok(Traced::Program(program_by(name)?)),
+        _ => Err(Wrong::Says("--of can't be given with --char or --glyph")),
     }
 }

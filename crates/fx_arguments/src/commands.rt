@@ -1,8 +1,8 @@
 //! The commands and their options.
-ghost use Rattle.std.specs.Prelude.{◌≡◌, IfOk, false};
+ghost use Rattle.std.specs.Prelude.{◌≡◌, IfOk, false, fold};
 ghost use Rattle.clap.specs.Words.{app_of, new_app, rule_of};
-ghost use Rattle.fx_arguments.specs.Mistakes.{app_for};
-ghost use Rattle.fx_arguments.specs.inner.Verbs.{rule_taking, with_options};
+ghost use Rattle.fx_arguments.specs.Arguments.{app_for};
+ghost use Rattle.fx_arguments.specs.inner.Options.{rule_taking, with_option};
 
 use crate::verb::Verb;
 use clap::{Arg, ArgAction, Command};
@@ -93,7 +93,7 @@ fn command_with<'a>(
     name: &'a str,
     options: &[(&'a str, Takes)],
 ) -> Result<Command<'a>, AllocError>
-    ensures { IfOk result (λ command. app_of command ≡ with_options (new_app name.entry.now) options.now) }
+    ensures { IfOk result (λ command. app_of command ≡ fold with_option (new_app name.entry.now) options.now) }
 {
     let mut command = Command::new(alloc, name);
     // The command has the options so far.

@@ -24,6 +24,7 @@ mod said;
 mod teller;
 mod values;
 mod verb;
+mod wrong;
 mod wrong_items;
 
 pub use arguments::read_arguments;

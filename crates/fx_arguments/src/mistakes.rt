@@ -1,23 +1,20 @@
 //! What is wrong first with arguments.
-ghost use Rattle.std.specs.Prelude.{◌≡◌, ◌≤◌, [], Ok, Err, IfOk, length, option_map, slice_index_or};
+ghost use Rattle.std.specs.Prelude.{◌≡◌, ◌≤◌, [], Ok, Err, IfOk, length, slice_index_or};
 ghost use Rattle.clap.specs.Words.{found_of, rows_of};
 ghost use Rattle.fx_fixed.specs.Chain.{GivesUnless};
-ghost use Rattle.fx_arguments.specs.Arguments.{texts};
+ghost use Rattle.fx_arguments.specs.Arguments.{asked_for, texts};
 ghost use Rattle.fx_arguments.specs.Commands.{Refuses};
-ghost use Rattle.fx_arguments.specs.Mistakes.{IsSaid, SaysUnless, checked, checked_for, choice_checked, command_said, dropout_checked, dump_checked};
-ghost use Rattle.fx_arguments.specs.Mistakes.{face_checked, has_hyphen, is_taken, line_of, make_checked, name_in, option_said, properties_checked};
-ghost use Rattle.fx_arguments.specs.Mistakes.{outline_checked, refused_checked, shown_checked, trace_checked, traced_checked};
-ghost use Rattle.fx_arguments.specs.Mistakes.{required, show_checked, size_checked, taken_if, taken_words, value_said, verb_checked, way_checked};
-ghost use Rattle.fx_arguments.specs.Mistakes.{word_said, words_said};
+ghost use Rattle.fx_arguments.specs.Mistakes.{IsSaid, SaysUnless, asked_by, checked, command_said, explained, has_hyphen, is_taken, line_of};
+ghost use Rattle.fx_arguments.specs.Mistakes.{name_in, option_said, taken_words, value_said, word_said, words_said};
 
-use crate::arguments::{is_command, named_dropout, named_refused, which_of};
-use crate::commands::command_for;
+use crate::arguments::{asked_for, is_command};
 use crate::fault::Fault;
-use crate::properties::property_of;
 use crate::said::{Said, say};
-use crate::values::{face_of, is_given, matches, size_of, value, values};
+use crate::values::matches;
 use crate::verb::{Verb, verb_of};
+use crate::wrong::Wrong;
 use clap::ArgMatches;
+use fx_request::Refusal;
 use std::alloc::Global;
 
 /// The line that says what is wrong first with the arguments after the program's name. It has no bytes if nothing is wrong.
@@ -32,7 +29,6 @@ pub fn explain(alloc: Global, words: &[&str]) -> Result<Vec<u8>, Fault>
 }
 
 /// Whether something is wrong with the arguments after the program's name.
-#[tactic(auto, unfolding(crate::specs::Mistakes::checked))]
 fn checked(alloc: Global, words: &[&str]) -> Result<(), Said>
     ensures { SaysUnless (λ u. u) result (checked (texts words.now)) }
 {
@@ -54,12 +50,11 @@ fn command_said(alloc: Global, words: &[&str]) -> Result<(), Said>
 }
 
 /// Words from the name of a command on.
-#[tactic(auto, unfolding(crate::specs::Mistakes::verb_checked))]
+#[tactic(auto, unfolding(crate::specs::Mistakes::asked_by))]
 fn verb_checked(alloc: Global, verb: Verb, words: &[&str]) -> Result<(), Said>
-    ensures { SaysUnless (λ u. u) result (verb_checked verb (texts words.now)) }
+    ensures { SaysUnless (λ u. u) result (explained (asked_by verb (texts words.now))) }
 {
-    let command = command_for(alloc, verb)?;
-    match matches(command, words) {
+    match matches(alloc, verb, words) {
         Ok(matches) => values_checked(alloc, verb, &matches),
         Err(Fault::Usage) => words_said(alloc, verb, words),
         Err(fault) => Err(Said::Stopped(fault)),
@@ -70,8 +65,7 @@ fn verb_checked(alloc: Global, verb: Verb, words: &[&str]) -> Result<(), Said>
 fn is_taken(alloc: Global, verb: Verb, words: &[&str]) -> Result<bool, Said>
     ensures { SaysUnless (λ b. b) result (Ok (is_taken verb (texts words.now))) }
 {
-    let command = command_for(alloc, verb)?;
-    match matches(command, words) {
+    match matches(alloc, verb, words) {
         Ok(_matches) => Ok(true),
         Err(Fault::Usage) => Ok(false),
         Err(fault) => Err(Said::Stopped(fault)),
@@ -203,222 +197,12 @@ fn name_in(word: &str) -> &str
 
 /// The values of a command's options.
 fn values_checked(alloc: Global, verb: Verb, matches: &ArgMatches<'_>) -> Result<(), Said>
-    ensures { SaysUnless (λ u. u) result (checked_for verb (rows_of (found_of matches.now))) }
+    ensures { SaysUnless (λ u. u) result (explained (asked_for verb (rows_of (found_of matches.now)))) }
 {
-    match verb {
-        Verb::Make => make_checked(alloc, matches),
-        Verb::Show => show_checked(alloc, matches),
-        Verb::Outline => outline_checked(alloc, matches),
-        Verb::Dump => dump_checked(alloc, matches),
-        Verb::Trace => trace_checked(alloc, matches),
+    match asked_for(alloc, verb, matches) {
+        Ok(_) | Err(Wrong::Refused(Refusal::BadChars)) => Ok(()),
+        Err(Wrong::Refused(refusal)) => Err(Said::Stopped(Fault::Early(refusal))),
+        Err(Wrong::Says(what)) => Err(say(alloc, &[what])),
+        Err(Wrong::NotTaken(takes, text)) => Err(say(alloc, &[takes, ", not '", text, "'"])),
     }
-}
-
-/// A list of characters, or all of the font's map.
-fn way_checked(alloc: Global, is_all: bool, list: Option<&str>) -> Result<(), Said>
-    ensures { SaysUnless (λ u. u) result (way_checked is_all (option_map (λ text. text.now) list.entry)) }
-{
-    match (is_all, list) {
-        (true, None) | (false, Some(_)) => Ok(()),
-        (true, Some(_)) => Err(say(alloc, &["--chars and --all can't be given together"])),
-        (false, None) => Err(say(alloc, &["--chars or --all is missing"])),
-    }
-}
-
-/// The values of `make`'s options.
-#[tactic(auto, unfolding(crate::specs::Mistakes::make_checked))]
-fn make_checked(alloc: Global, matches: &ArgMatches<'_>) -> Result<(), Said>
-    ensures { SaysUnless (λ u. u) result (make_checked (rows_of (found_of matches.now))) }
-{
-    size_checked(alloc, value(matches, "ppem"))?;
-    way_checked(alloc, is_given(matches, "all"), value(matches, "chars"))?;
-    properties_checked(alloc, values(matches, "property").unwrap_or(&[]))?;
-    refused_checked(alloc, value(matches, "refused"))?;
-    face_checked(alloc, value(matches, "face"))?;
-    dropout_checked(alloc, value(matches, "dropout"))
-}
-
-/// The values of `show`'s options.
-#[tactic(auto, unfolding(crate::specs::Mistakes::show_checked))]
-fn show_checked(alloc: Global, matches: &ArgMatches<'_>) -> Result<(), Said>
-    ensures { SaysUnless (λ u. u) result (show_checked (rows_of (found_of matches.now))) }
-{
-    face_checked(alloc, value(matches, "face"))?;
-    shown_checked(alloc, matches)
-}
-
-/// The values of `outline`'s options.
-#[tactic(auto, unfolding(crate::specs::Mistakes::outline_checked))]
-fn outline_checked(alloc: Global, matches: &ArgMatches<'_>) -> Result<(), Said>
-    ensures { SaysUnless (λ u. u) result (outline_checked (rows_of (found_of matches.now))) }
-{
-    face_checked(alloc, value(matches, "face"))?;
-    shown_checked(alloc, matches)
-}
-
-/// A size and a glyph.
-#[tactic(auto, unfolding(crate::specs::Mistakes::shown_checked))]
-fn shown_checked(alloc: Global, matches: &ArgMatches<'_>) -> Result<(), Said>
-    ensures { SaysUnless (λ u. u) result (shown_checked (rows_of (found_of matches.now))) }
-{
-    size_checked(alloc, value(matches, "ppem"))?;
-    dropout_checked(alloc, value(matches, "dropout"))?;
-    choice_checked(alloc, value(matches, "char"), value(matches, "glyph"))
-}
-
-/// A glyph that is chosen by a character or by its number.
-fn choice_checked(alloc: Global, character: Option<&str>, glyph: Option<&str>) -> Result<(), Said>
-    ensures { SaysUnless (λ u. u) result (choice_checked (option_map (λ text. text.now) character.entry)
-        (option_map (λ text. text.now) glyph.entry)) }
-{
-    match (character, glyph) {
-        (Some(_), None) => Ok(()),
-        (None, Some(text)) => {
-            let kind = "a whole number from 0 to 65535";
-            taken_if(alloc, size_of(text).is_some(), "glyph", kind, text)
-        }
-        (None, None) => Err(say(alloc, &["--char or --glyph is missing"])),
-        (Some(_), Some(_)) => Err(say(alloc, &["--char and --glyph can't be given together"])),
-    }
-}
-
-/// The values of `dump`'s options.
-#[tactic(auto, unfolding(crate::specs::Mistakes::dump_checked))]
-fn dump_checked(alloc: Global, matches: &ArgMatches<'_>) -> Result<(), Said>
-    ensures { SaysUnless (λ u. u) result (dump_checked (rows_of (found_of matches.now))) }
-{
-    let name = required(alloc, "of", value(matches, "of"))?;
-    let kind = "fpgm, prep or the number of a glyph";
-    taken_if(alloc, which_of(name).is_some(), "of", kind, name)?;
-    face_checked(alloc, value(matches, "face"))
-}
-
-/// The values of `trace`'s options.
-#[tactic(auto, unfolding(crate::specs::Mistakes::trace_checked))]
-fn trace_checked(alloc: Global, matches: &ArgMatches<'_>) -> Result<(), Said>
-    ensures { SaysUnless (λ u. u) result (trace_checked (rows_of (found_of matches.now))) }
-{
-    face_checked(alloc, value(matches, "face"))?;
-    size_checked(alloc, value(matches, "ppem"))?;
-    traced_checked(
-        alloc,
-        value(matches, "char"),
-        value(matches, "glyph"),
-        value(matches, "of"),
-    )
-}
-
-/// A glyph that is traced, or a program by its name.
-fn traced_checked(
-    alloc: Global,
-    character: Option<&str>,
-    glyph: Option<&str>,
-    name: Option<&str>,
-) -> Result<(), Said>
-    ensures { SaysUnless (λ u. u) result (traced_checked (option_map (λ text. text.now) character.entry)
-        (option_map (λ text. text.now) glyph.entry) (option_map (λ text. text.now) name.entry)) }
-{
-    match (character, glyph, name) {
-        (None, None, None) => Err(say(alloc, &["--char, --glyph or --of is missing"])),
-        (character, glyph, None) => choice_checked(alloc, character, glyph),
-        (None, None, Some(name)) => {
-            let kind = "fpgm, prep or the number of a glyph";
-            taken_if(alloc, which_of(name).is_some(), "of", kind, name)
-        }
-        _ => Err(say(alloc, &["--of can't be given with --char or --glyph"])),
-    }
-}
-
-/// An option that is required.
-fn required<'a>(alloc: Global, option: &str, given: Option<&'a str>) -> Result<&'a str, Said>
-    ensures { SaysUnless (λ text. text.now) result (required option.now (option_map (λ text. text.now) given.entry)) }
-{
-    match given {
-        Some(text) => Ok(text),
-        None => Err(say(alloc, &["--", option, " is missing"])),
-    }
-}
-
-/// An option takes values of a kind, and this is one, or it is not.
-fn taken_if<'w>(
-    alloc: Global,
-    is_one: bool,
-    option: &'w str,
-    kind: &'w str,
-    text: &'w str,
-) -> Result<(), Said>
-    ensures { SaysUnless (λ u. u) result (taken_if is_one option.now kind.now text.now) }
-{
-    if is_one {
-        return Ok(());
-    }
-    let pieces = ["--", option, " takes ", kind, ", not '", text, "'"];
-    Err(say(alloc, &pieces))
-}
-
-/// A size that is required.
-#[tactic(auto, unfolding(crate::specs::Mistakes::size_checked))]
-fn size_checked(alloc: Global, given: Option<&str>) -> Result<(), Said>
-    ensures { SaysUnless (λ u. u) result (size_checked (option_map (λ text. text.now) given.entry)) }
-{
-    let text = required(alloc, "ppem", given)?;
-    let kind = "a whole number from 1 to 1024";
-    taken_if(alloc, size_of(text).is_some(), "ppem", kind, text)
-}
-
-/// The number of a face, if it is given.
-fn face_checked(alloc: Global, given: Option<&str>) -> Result<(), Said>
-    ensures { SaysUnless (λ u. u) result (face_checked (option_map (λ text. text.now) given.entry)) }
-{
-    match given {
-        Some(text) => {
-            let kind = "a whole number, counted from 0";
-            taken_if(alloc, face_of(text).is_some(), "face", kind, text)
-        }
-        None => Ok(()),
-    }
-}
-
-/// What becomes of refused characters, if it is given.
-fn refused_checked(alloc: Global, given: Option<&str>) -> Result<(), Said>
-    ensures { SaysUnless (λ u. u) result (refused_checked (option_map (λ text. text.now) given.entry)) }
-{
-    match given {
-        Some(text) => {
-            let kind = "stop, leave-out or unhinted";
-            taken_if(alloc, named_refused(text).is_some(), "refused", kind, text)
-        }
-        None => Ok(()),
-    }
-}
-
-/// Which pixels drop-out control sets, if it is given.
-fn dropout_checked(alloc: Global, given: Option<&str>) -> Result<(), Said>
-    ensures { SaysUnless (λ u. u) result (dropout_checked (option_map (λ text. text.now) given.entry)) }
-{
-    match given {
-        Some(text) => {
-            let kind = "left, near or font";
-            taken_if(alloc, named_dropout(text).is_some(), "dropout", kind, text)
-        }
-        None => Ok(()),
-    }
-}
-
-/// Properties, each `KEY=VALUE`.
-#[tactic(auto, using(crate::proofs::Saying::checked_no_more))]
-fn properties_checked(alloc: Global, given: &[&str]) -> Result<(), Said>
-    ensures { SaysUnless (λ u. u) result (properties_checked (texts given.now)) }
-{
-    // The properties of the texts so far are some.
-    'given: for text in given {
-        taken_if(
-            alloc,
-            property_of(text).is_some(),
-            "property",
-            "KEY=VALUE",
-            text,
-        )?;
-    }
-    Ok(())
 }

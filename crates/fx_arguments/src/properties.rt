@@ -1,42 +1,24 @@
 //! Properties as arguments.
-ghost use Rattle.std.specs.Prelude.{◌≡◌, [], option_map, unwrap_or};
+ghost use Rattle.std.specs.Prelude.{◌≡◌, option_map};
 ghost use Rattle.fx_bdf.specs.Properties.{seen_properties, seen_property, seen_value};
-ghost use Rattle.fx_fixed.specs.Chain.{GivesUnless, wanted};
-ghost use Rattle.fx_arguments.specs.Arguments.{texts};
-ghost use Rattle.fx_arguments.specs.Commands.{Refuses};
-ghost use Rattle.fx_arguments.specs.Properties.{before_mark, between_marks, has_plus, properties_of, property_of, value_of, whole_of};
-ghost use Rattle.fx_arguments.specs.declared.fault.Fault.TheVariants.{Usage};
+ghost use Rattle.fx_arguments.specs.Arguments.{properties_by, texts};
+ghost use Rattle.fx_arguments.specs.Properties.{before_mark, between_marks, has_plus, property_of, value_of, whole_of};
+ghost use Rattle.fx_arguments.specs.Wrong.{Reads};
 
-use crate::fault::Fault;
+use crate::wrong::Wrong;
 use fx_bdf::{Property, Value};
 use std::alloc::Global;
 
-/// The properties that are asked for; none if no option asks for one.
-#[tactic(auto, using(crate::proofs::Given::none_given))]
-pub fn given_properties<'a>(
-    alloc: Global,
-    given: Option<&[&'a str]>,
-) -> Result<Vec<Property<'a>>, Fault>
-    ensures { GivesUnless Refuses (λ all. seen_properties all.items) result
-        (wanted (properties_of (unwrap_or (option_map (λ given. texts given.now) given.entry) [])) Usage) }
-{
-    match given {
-        Some(given) => read_properties(alloc, given),
-        None => Ok(Vec::new(alloc)),
-    }
-}
-
-/// The properties of texts, each `NAME=VALUE`. One without `=` is a usage fault.
+/// The properties of texts, each `KEY=VALUE`.
 #[tactic(auto, using(crate::proofs::Given::rest_steps))]
-fn read_properties<'a>(alloc: Global, given: &[&'a str]) -> Result<Vec<Property<'a>>, Fault>
-    ensures { GivesUnless Refuses (λ all. seen_properties all.items) result
-        (wanted (properties_of (texts given.entry.now)) Usage) }
+pub fn properties_by<'a>(alloc: Global, given: &[&'a str]) -> Result<Vec<Property<'a>>, Wrong<'a>>
+    ensures { Reads (λ all. seen_properties all.items) result (properties_by (texts given.entry.now)) }
 {
     let mut all = Vec::new(alloc);
     // The properties of the texts so far were pushed.
     'given: for text in given {
         let Some(property) = property_of(text) else {
-            return Err(Fault::Usage);
+            return Err(Wrong::NotTaken("--property takes KEY=VALUE", text));
         };
         all.push(property)?;
     }
@@ -45,7 +27,7 @@ fn read_properties<'a>(alloc: Global, given: &[&'a str]) -> Result<Vec<Property<
 
 /// A name, and a value after the first `=`.
 #[tactic(auto, using(crate::proofs::Given::property_whole))]
-pub fn property_of(text: &str) -> Option<Property<'_>>
+fn property_of(text: &str) -> Option<Property<'_>>
     ensures { option_map seen_property result ≡ property_of text.entry.now }
 {
     match text.split_once('=') {

@@ -1,7 +1,8 @@
 //! Lines that say what is wrong with arguments.
 ghost use Rattle.std.specs.Prelude.{◌≡◌, IfOk};
 ghost use Rattle.fx_arguments.specs.Arguments.{texts};
-ghost use Rattle.fx_arguments.specs.Mistakes.{IsSaid, said};
+ghost use Rattle.fx_arguments.specs.Mistakes.{IsSaid};
+ghost use Rattle.fx_arguments.specs.Wrong.{said};
 ghost use Rattle.fx_arguments.specs.declared.fault.Fault.TheVariants.{Early};
 ghost use Rattle.fx_arguments.specs.declared.said.Said.TheVariants.{Stopped};
 ghost use Rattle.fx_request.specs.declared.refusal.Refusal.TheVariants.{OutOfMemory};

@@ -2,51 +2,45 @@
 ghost use Rattle.std.specs.Prelude.{◌≡◌, ◌⊎◌, ◌==◌, ◌||◌, None, Some, true, map, option_map, IfOk, IfErr};
 ghost use Rattle.std.specs.List.{list_any};
 ghost use Rattle.std.specs.Str.{bytes_eq};
-ghost use Rattle.clap.specs.Words.{all_of, app_of, first_of, found_of, is_simple, is_simple_and_free, rows_of};
+ghost use Rattle.clap.specs.Words.{all_of, first_of, found_of, rows_of};
 ghost use Rattle.fx_arguments.specs.Arguments.{is_bare, is_given, rows_by, size_of, texts, unsigned_of};
 
+use crate::commands::command_for;
 use crate::fault::Fault;
+use crate::verb::Verb;
+use clap::ArgMatches;
 use clap::error::ErrorKind;
-use clap::{ArgMatches, Command};
 use fx_request::Refusal;
+use std::alloc::Global;
 
-/// The values of a command's options.
-#[tactic(auto, using(crate::proofs::Options::rows_steps))]
-pub fn matches<'a>(command: Command<'a>, arguments: &'a [&'a str]) -> Result<ArgMatches<'a>, Fault>
-    requires simple { is_simple (app_of command) ≡ true }
-    requires free { is_simple_and_free (app_of command) ≡ true }
-    ensures taken { IfOk result (λ m.
-        rows_by (app_of command.entry) (texts arguments.entry.now) ≡ Some (rows_of (found_of m))) }
+/// The values that words give the options of a command, its name first.
+#[tactic(auto, using(crate::proofs::Options::rows_of_bare))]
+pub fn matches<'a>(alloc: Global, verb: Verb, words: &'a [&'a str]) -> Result<ArgMatches<'a>, Fault>
+    ensures taken { IfOk result (λ m. rows_by verb (texts words.entry.now) ≡ Some (rows_of (found_of m))) }
     ensures refused { IfErr result (λ fault. (fault ≡ Fault.Early Refusal.OutOfMemory)
-        ⊎ ((fault ≡ Fault.Usage) × (rows_by (app_of command.entry) (texts arguments.entry.now) ≡ None))) }
+        ⊎ ((fault ≡ Fault.Usage) × (rows_by verb (texts words.entry.now) ≡ None))) }
 {
-    if has_bare(arguments) {
+    if has_bare(words) {
         return Err(Fault::Usage);
     }
-    match command.try_get_matches_from(arguments) {
+    let command = command_for(alloc, verb)?;
+    match command.try_get_matches_from(words) {
         Ok(matches) => Ok(matches),
         Err(error) => Err(fault_of(error.kind())),
     }
 }
 
-/// Whether some argument has only hyphens.
-fn has_bare(arguments: &[&str]) -> bool
-    ensures { result ≡ list_any is_bare (texts arguments.now) }
+/// Whether some word has only hyphens, which clap would take.
+fn has_bare(words: &[&str]) -> bool
+    ensures { result ≡ list_any is_bare (texts words.now) }
 {
-    // None of the arguments so far has only hyphens.
-    'arguments: for argument in arguments {
-        if is_bare(argument) {
+    // None of the words so far has only hyphens.
+    'words: for word in words {
+        if *word == "-" || *word == "--" {
             return true;
         }
     }
     false
-}
-
-/// Whether an argument has only hyphens, which clap would take.
-fn is_bare(argument: &str) -> bool
-    ensures { result ≡ is_bare argument.now }
-{
-    argument == "-" || argument == "--"
 }
 
 /// The fault of arguments that clap refuses.

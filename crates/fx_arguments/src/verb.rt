@@ -1,7 +1,6 @@
 //! The commands that have options.
 ghost use Rattle.std.specs.Prelude.{◌≡◌};
-ghost use Rattle.fx_arguments.specs.Arguments.{texts};
-ghost use Rattle.fx_arguments.specs.inner.Verbs.{verb_named, verb_of};
+ghost use Rattle.fx_arguments.specs.Arguments.{texts, verb_named, verb_of};
 
 /// A command that has options.
 #[derive(Clone, Copy)]
