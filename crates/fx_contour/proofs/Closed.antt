@@ -1,6 +1,6 @@
 -- The curve of a contour is a closed chain, and the one by midpoints.
 -- For the laws of `laws.rt`, and for the clause `closed` of `pieces`.
-use Rattle.std.proofs.Common.{◌≡◌, refl, sym, subst, ℤ, pos, Bool, true, false, List, [], ◌∷◌, ◌++◌, map, Option, Some, None, arith}
+use Rattle.std.proofs.Common.{◌≡◌, refl, sym, subst, ℤ, pos, Bool, List, [], ◌∷◌, ◌++◌, map, Option, Some, None, arith}
 use Rattle.std.proofs.Common.{option_to_list}
 use Rattle.fx_winding.specs.Area.{Place}
 use Rattle.fx_winding.specs.Winding.{Span}

@@ -1,6 +1,6 @@
 -- The tests decide the facts that they test.
 -- For the clauses `exact` of `pieces` and `frame`, and for the law `tested`.
-use Rattle.std.proofs.Common.{◌≡◌, ◌↔◌, IsTrue, refl, sym, subst, inl, inr, ℤ, pos, negsuc, neg_ℤ, ◌+ℤ◌, ◌*ℤ◌, ◌≤ℤ◌, int_le, ℕ, ◌⊎◌}
+use Rattle.std.proofs.Common.{◌≡◌, ◌↔◌, IsTrue, refl, sym, inl, inr, ℤ, pos, negsuc, neg_ℤ, ◌+ℤ◌, ◌*ℤ◌, ◌≤ℤ◌, int_le, ℕ, ◌⊎◌}
 use Rattle.std.proofs.Common.{Bool, true, false, ◌&&◌, List, [], ◌∷◌, Option, All, Result, Ok, Err, Decides, IfOk, IfErr, arith}
 use Rattle.std.proofs.lemmas.Int.{ints}
 use Rattle.std.proofs.lemmas.Bool.Decides.{Decides-like, Decides-and, Decides-or, Decides-by_and}

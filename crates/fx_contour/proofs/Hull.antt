@@ -106,16 +106,16 @@ point_one : (P : Place → Type 0) (p : OutlinePoint) (qs : List OutlinePoint) (
 point_one P p [] r h = absurd h
 point_one P p (q ∷ qs) r (inl h) = grind (arith, on_or_off, have_left, have_span, arc_at, line_at)
 point_one P p (q ∷ qs) r (inr h) = elim (point_one P q qs r h) [
-      | inl k ↦ inl (have_right P (option_to_list (span_at p q (first_or qs r))) (spans_between q qs r) k)
-      | inr e ↦ inl (have_left P (option_to_list (span_at p q (first_or qs r))) (spans_between q qs r) (arc_ends P p q (first_or qs r) e))
-    ]
+  | inl k ↦ inl (have_right P (option_to_list (span_at p q (first_or qs r))) (spans_between q qs r) k)
+  | inr e ↦ inl (have_left P (option_to_list (span_at p q (first_or qs r))) (spans_between q qs r) (arc_ends P p q (first_or qs r) e))
+]
 
 point_curve : (P : Place → Type 0) (p q : OutlinePoint) (qs : List OutlinePoint) → HavePoint P (p ∷ q ∷ qs)
     → HaveAny P (curve_of (p ∷ q ∷ qs))
 point_curve P p q qs h = elim (point_one P (last_or q qs) (p ∷ q ∷ qs) p h) [
-      | inl k ↦ k
-      | inr e ↦ last_arc P (last_or q qs) p (q ∷ qs) p e
-    ]
+  | inl k ↦ k
+  | inr e ↦ last_arc P (last_or q qs) p (q ∷ qs) p e
+]
 
 -- a side of the curve is one of its points
 pub hull_of : (side : Side) (t : ℤ) (points : List OutlinePoint) → 2 ≤ length points

@@ -48,9 +48,9 @@ none_past low high h n i = grind (arith, signed_linear, h, n, i, first_least)
 -- a pixel is kept
 kept_somewhere : (low high : ℤ) → (n : ℤ) × IsKeptIn low high n
 kept_somewhere low high = elim (below_or_not_ℤ high (pos 128 *ℤ first_from low +ℤ pos 64)) [
-      | inl h ↦ (int_div_euclid (low +ℤ high) (pos 256), inr (none_past low high h, middle_is low high))
-      | inr h ↦ (first_from low, inl (first_reaches low, h))
-    ]
+  | inl h ↦ (int_div_euclid (low +ℤ high) (pos 256), inr (none_past low high h, middle_is low high))
+  | inr h ↦ (first_from low, inl (first_reaches low, h))
+]
 
 -- of two neighbours between whose centres the box comes one is kept
 pub kept_of_two : (low high n : ℤ) → low ≤ℤ (pos 128 *ℤ (n +ℤ pos 1) +ℤ pos 64) → (pos 128 *ℤ n +ℤ pos 64) ≤ℤ high

@@ -1,21 +1,17 @@
 -- Pieces that lie wholly left or right of the segment between two places of a row, and so do not meet it. One end may be in the
 -- column of the nearer place, if that place is not the end.
 -- Serves the frame with drop-out control in `fx_contour`, and `Turning`.
-use Rattle.std.proofs.Common.{◌≡◌, ◌≢◌, ◌∙◌, ◌⊎◌, inl, inr, ℤ, pos, ◌+ℤ◌, ◌-ℤ◌, ◌*ℤ◌, neg_ℤ, ◌≤ℤ◌, ◌<ℤ◌}
-use Rattle.std.proofs.Common.{[], ◌∷◌, Option, Some, None, arith}
-use Rattle.std.proofs.lemmas.Int.{ints}
+use Rattle.std.proofs.Common.{◌≡◌, ◌≢◌, ◌⊎◌, inl, inr, ℤ, pos, ◌+ℤ◌, ◌-ℤ◌, ◌*ℤ◌, ◌≤ℤ◌, ◌<ℤ◌, [], ◌∷◌, Option, Some, None, arith}
 use Rattle.std.proofs.Math.Logic.{⊎_swap}
 use Rattle.fx_fixed.specs.Polynomial.{Expr, var, num, ◌⊞◌, ◌⊠◌, ◌⊟◌}
 use Rattle.fx_fixed.proofs.Ring.{ring, *ℤ_comm}
 use Rattle.fx_fixed.proofs.Linear.{signed, signed_linear}
-use Rattle.fx_fixed.proofs.Order.{below_or_not_ℤ}
 use Rattle.fx_fixed.proofs.Signs.{product_at_least_zero, product_above_zero}
 use Rattle.fx_winding.specs.Area.{Place, area, area_of}
 use Rattle.fx_winding.specs.Winding.{Span}
 use Rattle.fx_winding.specs.Outside.{HasAll, OptionAll}
 use Rattle.fx_winding.specs.Meets.{turn, slope, IsReached, IsTipPart, IsMet}
-use Rattle.fx_winding.proofs.Beside.{HasAll-weaker, all_beyond, beyond_weaker, StartsFrom, EndsAt, left_no_region}
-use Rattle.fx_winding.proofs.Beside.{right_no_region, at_least_zero}
+use Rattle.fx_winding.proofs.Beside.{HasAll-weaker, all_beyond, beyond_weaker, StartsFrom, EndsAt, left_no_region, right_no_region}
 use Rattle.fx_winding.proofs.Crossings.{above, crossing_right, crossing_left, area_split, area_split_right, area_turn}
 use Rattle.fx_winding.proofs.Products.{product}
 use Rattle.fx_winding.proofs.Triangle.{at, coordinates, slope_at, not_below_range, not_above_range}

@@ -16,7 +16,7 @@ use Rattle.fx_winding.specs.Halving.{HalvesMeet}
 use Rattle.fx_winding.proofs.Beside.{total_above}
 use Rattle.fx_winding.proofs.Crossings.{crossing_number}
 use Rattle.fx_winding.proofs.Products.{IsProduct, product}
-use Rattle.fx_winding.proofs.Regions.{IsInRegion, move_in, region_cases, region_in, region_out}
+use Rattle.fx_winding.proofs.Regions.{move_in, region_cases, region_in, region_out}
 use Rattle.fx_winding.proofs.Reversal.{crossing_back, area_back, on_part_back, region_part_back}
 use Rattle.fx_winding.proofs.Covers.{covered_permutation, any_here, any_there, any_cases}
 use Rattle.fx_winding.proofs.Middles.{beyond, Cut, halves_are}

@@ -1,7 +1,7 @@
 -- Pieces whose places are moved so that each area changes its sign: what they add at a place, with what the pieces added.
 -- Serves pieces with their coordinates exchanged, and the laws of `fx_symmetry`.
 use Rattle.std.proofs.Common.{◌≡◌, ◌≢◌, refl, sym, ap, ◌∙◌, ◌⊎◌, inl, inr, ℤ, pos, ◌+ℤ◌, ◌-ℤ◌, ◌*ℤ◌}
-use Rattle.std.proofs.Common.{neg_ℤ, [], ◌∷◌, Option, Some, None, option_map, Bool, arith}
+use Rattle.std.proofs.Common.{neg_ℤ, Option, Some, None, option_map, Bool, arith}
 use Rattle.std.proofs.lemmas.Int.{ints}
 use Rattle.fx_fixed.proofs.Ring.{one-*ℤ, neg-*ℤ}
 use Rattle.fx_fixed.proofs.Linear.{signed_linear}

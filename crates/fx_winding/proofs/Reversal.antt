@@ -1,6 +1,6 @@
 -- A reversed piece adds the negative of what the piece adds to a winding number, and has the same places on it.
 -- Serves the law `reversal`, and halves, the second of which is the first of the reversed arc.
-use Rattle.std.proofs.Common.{◌≡◌, refl, sym, ap, ◌∙◌, ◌⊎◌, inl, inr, ℤ, pos, ◌+ℤ◌, ◌-ℤ◌, ◌*ℤ◌, neg_ℤ, Bool, int_lt, ◌&&◌, ◌||◌, []}
+use Rattle.std.proofs.Common.{◌≡◌, refl, sym, ap, ◌∙◌, inl, inr, ℤ, pos, ◌+ℤ◌, ◌-ℤ◌, ◌*ℤ◌, neg_ℤ, Bool, int_lt, ◌&&◌, ◌||◌, []}
 use Rattle.std.proofs.Common.{◌∷◌, Option, Some, None, map, arith}
 use Rattle.std.specs.Ordering.{int_eq}
 use Rattle.std.proofs.lemmas.Int.{ints}

@@ -1,3 +1,4 @@
+use Rattle.std.proofs.lemmas.Int.{to_z-of_z}
 use Rattle.std.proofs.Common.{◌≡◌, sym, subst, ℤ, pos, ◌+ℤ◌, w32, to_z, of_z, arith}
 use Rattle.std.specs.Int.{int_div_euclid}
 use Rattle.fx_fixed.specs.Ranges.{IsWithin}
@@ -15,18 +16,7 @@ kept_in_word : (r : ℤ) → IsWithin 32767 r → r ≡ to_z w32 (of_z w32 r)
 kept_in_word r h = omega (arith, signed_linear, h)
 
 pub returns-clause-middle : goal.returns-clause-middle
-returns-clause-middle c =
-    let a = c.requires.near_low in
-    let b = c.requires.near_high in
-    let r = c.div_euclid.result in
-    let m = middle_at c.args.low c.args.high _ r c.div_euclid.ensures (omega (arith, signed_linear, a, b)) in
-    subst (IsMiddleOf c.args.low c.args.high) (kept_in_word r (middle_size c.args.low c.args.high r a b m)) m
+returns-clause-middle c = grind (arith, c.requires, c.div_euclid.ensures, middle_is, middle_size, to_z-of_z)
 
 pub returns-clause-size : goal.returns-clause-size
-returns-clause-size c =
-    let a = c.requires.near_low in
-    let b = c.requires.near_high in
-    let r = c.div_euclid.result in
-    let m = middle_at c.args.low c.args.high _ r c.div_euclid.ensures (omega (arith, signed_linear, a, b)) in
-    let s = middle_size c.args.low c.args.high r a b m in
-    subst (IsWithin 32767) (kept_in_word r s) s
+returns-clause-size c = grind (arith, c.requires, c.div_euclid.ensures, middle_is, middle_size, to_z-of_z)

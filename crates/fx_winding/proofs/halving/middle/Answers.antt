@@ -1,4 +1,5 @@
-use Rattle.std.proofs.Common.{◌≡◌, ◌+ℤ◌, w32, to_z, of_z, option_map, Some, ap, ◌∙◌, sym, arith}
+use Rattle.std.proofs.lemmas.Int.{to_z-of_z}
+use Rattle.std.proofs.Common.{◌≡◌, ◌+ℤ◌, w32, to_z, of_z, Some, ap, ◌∙◌, sym, arith}
 use Rattle.fx_fixed.proofs.Linear.{signed_linear}
 use Rattle.fx_winding.specs.Area.{place}
 use Rattle.fx_winding.specs.Halving.{half_of}
@@ -10,14 +11,7 @@ pub returns-in_err-x : goal.returns-in_err-x
 returns-in_err-x c = grind (arith, signed_linear, c.from_residual.ensures, c.half.ensures.value, middle_without_x)
 
 pub returns-in_err-y : goal.returns-in_err-y
-returns-in_err-y c =
-    let p = c.args.p in
-    let q = c.args.q in
-    let sx : to_z w32 (of_z w32 (to_z w32 (of_z w32 p.x) +ℤ to_z w32 (of_z w32 q.x))) ≡ p.x +ℤ q.x = omega (arith, signed_linear) in
-    let sy : to_z w32 (of_z w32 (to_z w32 (of_z w32 p.y) +ℤ to_z w32 (of_z w32 q.y))) ≡ p.y +ℤ q.y = omega (arith, signed_linear) in
-    ap (option_map place_of) c.from_residual-in_err-y.ensures
-    ∙ sym (middle_without_y (place_of p) (place_of q) c.in_ok-x.x (ap half_of (sym sx) ∙ sym c.half.ensures.value ∙ c.in_ok-x.was)
-    (ap half_of (sym sy) ∙ sym c.half-2.ensures.value ∙ c.in_err-y.was))
+returns-in_err-y c = grind (arith, c.in_ok-x.ensures, c.from_residual-in_err-y.ensures, c.half.ensures.value, c.in_ok-x.was, c.half-2.ensures.value, c.in_err-y.was, middle_without_y, to_z-of_z)
 
 pub returns : goal.returns
 returns c =

@@ -1,8 +1,7 @@
-use Rattle.std.proofs.Common.{◌≡◌, ◌∙◌, ◌^◌, ℤ, pos, ◌+ℤ◌, ◌-ℤ◌, ◌*ℤ◌, arith, w64, to_z, of_z, FitsSigned}
+use Rattle.std.proofs.lemmas.Int.{to_z-of_z}
+use Rattle.std.proofs.Common.{◌≡◌, ◌^◌, ℤ, pos, ◌+ℤ◌, ◌*ℤ◌, arith, to_z, of_z, FitsSigned}
 use Rattle.fx_fixed.proofs.Linear.{signed, signed_linear}
 use Rattle.fx_fixed.specs.Ranges.{IsWithin}
-use Rattle.fx_winding.specs.Area.{Place, area}
-use Rattle.fx_winding.specs.Winding.{place_of}
 use Rattle.fx_winding.proofs.slope.gap_slope.Goals as goal
 use mir.Syntax.{w128}
 
@@ -31,45 +30,7 @@ overflow_add-result-2 c = added c.wide_product-w.result c.wide_product-u.result 
     c.wide_product-w.ensures.size c.wide_product-u.ensures.size c.wide_product-v.ensures.size
 
 pub returns-clause-value : goal.returns-clause-value
-returns-clause-value c = whole c.wide_product-w.result c.wide_product-u.result c.wide_product-v.result c.wide_product-w.ensures.size
-    c.wide_product-u.ensures.size c.wide_product-v.ensures.size
-    ∙ (λ i. pos 2 *ℤ (x i +ℤ y i) +ℤ z i)
-  where
-    copy : (t : ℤ) → IsWithin (2 ^ 47) t → to_z w64 (of_z w64 t) ≡ t
-    copy t h = omega (arith, signed_linear)
-
-    a : Place
-    a = place_of c.args.a
-
-    b : Place
-    b = place_of c.args.b
-
-    e : Place
-    e = place_of c.args.c
-
-    p : Place
-    p = place_of c.args.p
-
-    dw : to_z w64 (of_z w64 c.difference.result) ≡ b.y -ℤ e.y
-    dw = omega (arith, signed_linear)
-
-    du : to_z w64 (of_z w64 c.difference-2.result) ≡ a.y -ℤ b.y
-    du = omega (arith, signed_linear)
-
-    dv : to_z w64 (of_z w64 c.difference-3.result) ≡ a.y -ℤ e.y
-    dv = omega (arith, signed_linear)
-
-    x : c.wide_product-w.result ≡ (b.y -ℤ e.y) *ℤ area a b p
-    x = c.wide_product-w.ensures.value
-        ∙ (λ i. dw i *ℤ (copy c.signed_area.result c.signed_area.ensures.size ∙ c.signed_area.ensures.value) i)
-
-    y : c.wide_product-u.result ≡ (a.y -ℤ b.y) *ℤ area p b e
-    y = c.wide_product-u.ensures.value
-        ∙ (λ i. du i *ℤ (copy c.signed_area-2.result c.signed_area-2.ensures.size ∙ c.signed_area-2.ensures.value) i)
-
-    z : c.wide_product-v.result ≡ (a.y -ℤ e.y) *ℤ area a p e
-    z = c.wide_product-v.ensures.value
-        ∙ (λ i. dv i *ℤ (copy c.signed_area-3.result c.signed_area-3.ensures.size ∙ c.signed_area-3.ensures.value) i)
+returns-clause-value c = grind (arith, c.wide_product-w.ensures, c.wide_product-u.ensures, c.wide_product-v.ensures, c.signed_area.ensures, c.signed_area-2.ensures, c.signed_area-3.ensures, c.difference.ensures, c.difference-2.ensures, c.difference-3.ensures, whole, to_z-of_z)
 
 pub returns-clause-size : goal.returns-clause-size
 returns-clause-size c =
