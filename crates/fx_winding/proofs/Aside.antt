@@ -192,7 +192,8 @@ right_no_tip a None c p q e ha hb hc one t = t
 right_no_tip a (Some b) c p q e ha hb hc one t =
     let w = reached_above a.y b.y c.y q.y (rw e t.reached) in
     let s = sum_above (a.x -ℤ q.x) (b.x -ℤ q.x) (c.x -ℤ q.x) _ _ _ (omega (arith, signed_linear))
-    (elim one [ inl l ↦ inl (omega (arith, signed_linear, l)) | inr l ↦ inr (omega (arith, signed_linear, l)) ]) w.first w.middle w.last in
+    (elim one [ inl l ↦ inl (omega (arith, signed_linear, l)) | inr l ↦ inr (omega (arith, signed_linear, l)) ]) w.first w.middle
+    w.last in
     let k = t.falls in omega (arith, signed_linear, s, k, slope_weighted a b c q)
 
 left_no_tip : (a : Place) (b : Option Place) (c p q : Place) → a.x ≤ℤ p.x → OptionAll (λ e. e.x ≤ℤ p.x) b → c.x ≤ℤ p.x
@@ -201,7 +202,8 @@ left_no_tip a None c p q ha hb hc one t = t
 left_no_tip a (Some b) c p q ha hb hc one t =
     let w = reached_above a.y b.y c.y p.y t.reached in
     let s = sum_below (a.x -ℤ p.x) (b.x -ℤ p.x) (c.x -ℤ p.x) _ _ _ (omega (arith, signed_linear))
-    (elim one [ inl l ↦ inl (omega (arith, signed_linear, l)) | inr l ↦ inr (omega (arith, signed_linear, l)) ]) w.first w.middle w.last in
+    (elim one [ inl l ↦ inl (omega (arith, signed_linear, l)) | inr l ↦ inr (omega (arith, signed_linear, l)) ]) w.first w.middle
+    w.last in
     let k = t.rises in omega (arith, signed_linear, s, k, slope_weighted a b c p)
 
 -- ---- not met

@@ -25,7 +25,8 @@ sign_reflected r f a b c = ap sign (f.area_is a b c) ∙ sign_back (area a b c)
 -- they are the same
 pub weight_reflected : (r : Place → Place) → Reflects r → (a b c p q s : Place)
     → sign (area (r a) (r b) (r c)) *ℤ area (r p) (r q) (r s) ≡ sign (area a b c) *ℤ area p q s
-weight_reflected r f a b c p q s = (λ i. sign_reflected r f a b c i *ℤ f.area_is p q s i) ∙ both_minus (sign (area a b c)) (area p q s)
+weight_reflected r f a b c p q s = (λ i. sign_reflected r f a b c i *ℤ f.area_is p q s i)
+    ∙ both_minus (sign (area a b c)) (area p q s)
 
 pub none_reflected : (r : Place → Place) → Reflects r → (p q s : Place) → area p q s ≡ pos 0 → area (r p) (r q) (r s) ≡ pos 0
 none_reflected r f p q s z = f.area_is p q s ∙ ap neg_ℤ z

@@ -11,7 +11,9 @@ pub returns-in_err-x : goal.returns-in_err-x
 returns-in_err-x c = grind (arith, signed_linear, c.from_residual.ensures, c.half.ensures.value, middle_without_x)
 
 pub returns-in_err-y : goal.returns-in_err-y
-returns-in_err-y c = grind (arith, c.in_ok-x.ensures, c.from_residual-in_err-y.ensures, c.half.ensures.value, c.in_ok-x.was, c.half-2.ensures.value, c.in_err-y.was, middle_without_y, to_z-of_z)
+returns-in_err-y c =
+    let a = c.in_ok-x.ensures in let b = c.from_residual-in_err-y.ensures in let d = c.half.ensures.value in
+    let e = c.in_ok-x.was in let f = c.half-2.ensures.value in let g = c.in_err-y.was in grind (arith, middle_without_y, to_z-of_z)
 
 pub returns : goal.returns
 returns c =

@@ -30,7 +30,11 @@ overflow_add-result-2 c = added c.wide_product-w.result c.wide_product-u.result 
     c.wide_product-w.ensures.size c.wide_product-u.ensures.size c.wide_product-v.ensures.size
 
 pub returns-clause-value : goal.returns-clause-value
-returns-clause-value c = grind (arith, c.wide_product-w.ensures, c.wide_product-u.ensures, c.wide_product-v.ensures, c.signed_area.ensures, c.signed_area-2.ensures, c.signed_area-3.ensures, c.difference.ensures, c.difference-2.ensures, c.difference-3.ensures, whole, to_z-of_z)
+returns-clause-value c =
+    let a = c.wide_product-w.ensures in let b = c.wide_product-u.ensures in let d = c.wide_product-v.ensures in
+    let e = c.signed_area.ensures in let f = c.signed_area-2.ensures in let g = c.signed_area-3.ensures in
+    let h = c.difference.ensures in let i = c.difference-2.ensures in let j = c.difference-3.ensures in
+    grind (arith, whole, to_z-of_z)
 
 pub returns-clause-size : goal.returns-clause-size
 returns-clause-size c =

@@ -9,13 +9,9 @@ pub pieces-init : goal.pieces-init
 pieces-init c = record { long = ap length c.new-turned.ensures; same = ap (map span_of) c.new-turned.ensures }
 
 pub push-requires : goal.push-requires
-push-requires c = grind (
-  arith,
-  c.pieces.invariant.long,
-  c.pieces-test.true,
-  c.as_slice-piece-items.ensures.value,
-  c.as_slice-piece-items.ensures.few,
-)
+push-requires c =
+    let a = c.pieces.invariant.long in let b = c.pieces-test.true in let d = c.as_slice-piece-items.ensures.value in
+    let e = c.as_slice-piece-items.ensures.few in grind (arith)
 
 pub pieces-preserved : goal.pieces-preserved
 pieces-preserved c =
