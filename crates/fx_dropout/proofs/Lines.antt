@@ -68,26 +68,13 @@ is_gap ss In Right So first j count pixels noted IsNext line k i l e = by k refl
     after_is g = (clear ss In Right So first j count pixels noted IsNext line k l).1 (off' g)
 
     by : (m : ℕ) → m ≡ k → IsOpenAt pixels noted m ↔ IsGap ss So i j
-    by zero s = (
-      λ o. to (subst (λ z. ¬ (So z j)) (omega (arith, signed_linear, s)) line.none_before)
-          (subst (λ (m : ℕ). noted m ≡ 1) s o.noted_is) (subst (λ (m : ℕ). pixels m ≡ 0) s o.next_is),
-      λ g. record {
-        noted_is = subst (λ (m : ℕ). noted m ≡ 1) (sym s) (noted_is g);
-        here_is = omega arith;
-        next_is = subst (λ (m : ℕ). pixels m ≡ 0) (sym s) (after_is g);
-      },
-    )
+    by zero s =
+        let before : ¬ (So ((first -ℤ pos 1) +ℤ pos k) j) = subst (λ z. ¬ (So z j)) (omega (arith, signed_linear, s)) line.none_before in
+        (λ o. grind (arith, s, o, to before), λ g. grind (arith, s, g, noted_is g, after_is g))
     by (suc n) s =
         let here : first +ℤ pos n ≡ (first -ℤ pos 1) +ℤ pos k = omega (arith, signed_linear, s) in
-        let is = clear ss In Right So first j count pixels noted IsNext line n (omega (arith, s, l)) in (
-          λ o. to (subst (λ z. ¬ (So z j)) here (is.0 o.here_is)) (subst (λ (m : ℕ). noted m ≡ 1) s o.noted_is)
-              (subst (λ (m : ℕ). pixels m ≡ 0) s o.next_is),
-          λ g. record {
-            noted_is = subst (λ (m : ℕ). noted m ≡ 1) (sym s) (noted_is g);
-            here_is = is.1 (subst (λ z. ¬ (So z j)) (sym here) (off g));
-            next_is = subst (λ (m : ℕ). pixels m ≡ 0) (sym s) (after_is g);
-          },
-        )
+        let is = clear ss In Right So first j count pixels noted IsNext line n (omega (arith, s, l)) in
+        (λ o. grind (arith, s, o, here, is, to), λ g. grind (arith, s, g, here, is, off g, noted_is g, after_is g))
 
 -- so the bit of a pixel is 1 exactly if it is set, or closes a gap
 pub line_closed : (ss : List Span) (In Right So : ℤ → ℤ → Type 0) (first j : ℤ) (count : ℕ) (pixels noted : ℕ → ℕ)

@@ -34,13 +34,10 @@ bridged_no_gap ss In Near So i j h n m a = by h
     gap = record { here = λ s. n (inl s); next = λ s. m (inl s); met = a }
 
     not_right : In (i +ℤ pos 1) j → Near i j ⊎ ¬ (In i j) → ⊥
-    not_right k c = m (inr (record {
-      inside = k;
-      closes = inr (subst (λ (i : ℤ). IsClosedByRight ss In Near So i j) (column_before i) (record { gap = gap; chosen = c }));
-    }))
+    not_right k c = grind (arith, k, c, gap, m, column_before i)
 
     not_left : In i j → ¬ (Near i j) ⊎ ¬ (In (i +ℤ pos 1) j) → ⊥
-    not_left k c = n (inr (record { inside = k; closes = inl (record { gap = gap; chosen = c }) }))
+    not_left k c = grind (arith, k, c, gap, n)
 
     left : In i j → ⊥
     left k = not_left k (inl (λ x. not_left k (inr (λ l. not_right l (inl x)))))
@@ -135,21 +132,10 @@ bridged_moved : (m n : ℤ → ℤ) → ((i : ℤ) → m (i +ℤ pos 1) ≡ m i 
     → IsMoved m n (IsBridged ss In Near So) (IsBridged ts To Far At)
 bridged_moved m n after before ss ts In To Near Far So At inside near so met =
     closed_moved m n after before ss ts In To Near Far So At inside near so
-    (record { back = λ i j g. gap_back i j g; on = λ i j g. gap_on i j g })
-  where
-    gap_back : (i j : ℤ) → IsGap ts At (m i) (n j) → IsGap ss So i j
-    gap_back i j g = record {
-      here = λ s. g.here (so.on i j s);
-      next = λ s. g.next (subst (λ z. At z (n j)) (after i) (so.on (i +ℤ pos 1) j s));
-      met = met.back i j g.met;
-    }
-
-    gap_on : (i j : ℤ) → IsGap ss So i j → IsGap ts At (m i) (n j)
-    gap_on i j g = record {
-      here = λ s. g.here (so.back i j s);
-      next = λ s. g.next (so.back (i +ℤ pos 1) j (subst (λ z. At z (n j)) (sym (after i)) s));
-      met = met.on i j g.met;
-    }
+    (record {
+      back = λ i j g. grind (arith, g, after i, so.on i j, so.on (i +ℤ pos 1) j, met.back i j);
+      on = λ i j g. grind (arith, g, after i, so.back i j, so.back (i +ℤ pos 1) j, met.on i j);
+    })
 
 -- a move of columns, or of rows, that keeps neighbours
 pub record KeepsNeighbours (m : ℤ → ℤ) : Type 0 where

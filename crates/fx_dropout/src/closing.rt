@@ -16,6 +16,7 @@ use crate::look::may_be_open;
 use fx_winding::{Frame, Tally, words_for, words_noted};
 
 /// The bits of the right neighbours of a word's pixels. That of its last one is the first of the next word.
+#[tactic(auto, using(crate::proofs::Words::right_inner, crate::proofs::Words::right_last))]
 #[inline(always)]
 fn right_of(word: u32, next: u32) -> u32
     ensures inner { (i : ℕ) → i < 31 → bit_at result (31 - i) ≡ bit_at word (30 - i) }
@@ -25,6 +26,7 @@ fn right_of(word: u32, next: u32) -> u32
 }
 
 /// The bits of the left neighbours of a word's pixels. That of its first one is the last of the word before.
+#[tactic(auto, using(crate::proofs::Words::left_first, crate::proofs::Words::left_inner))]
 #[inline(always)]
 pub(crate) fn left_of(before: u32, word: u32) -> u32
     ensures first { bit_at result 31 ≡ bit_at before 0 }
@@ -42,6 +44,7 @@ fn word_at(words: &[u32], w: usize) -> u32
 }
 
 /// The segments that are open, by the bits of the segments that are noted and of the pixels at their ends.
+#[tactic(auto, using(crate::proofs::Words::open_bit))]
 #[inline(always)]
 pub(crate) fn gaps_of(noted: u32, here: u32, next: u32) -> u32
     ensures { (i : ℕ) → i < 32 → (bit_at result i ≡ 1) ↔ IsOpen (bit_at noted i) (bit_at here i) (bit_at next i) }
@@ -51,6 +54,7 @@ pub(crate) fn gaps_of(noted: u32, here: u32, next: u32) -> u32
 
 /// A word of pixels whose gaps are closed: those that were set, those that close the segments after them, unless the next pixels
 /// do, and those that close the segments before them.
+#[tactic(auto, using(crate::proofs::Words::closed_bit))]
 #[inline(always)]
 fn closed(here: u32, gaps: u32, nexts: u32, reached: u32) -> u32
     ensures { (i : ℕ) → i < 32 → (bit_at result i ≡ 1) ↔
@@ -60,6 +64,7 @@ fn closed(here: u32, gaps: u32, nexts: u32, reached: u32) -> u32
 }
 
 /// The first pixel of a row, if it closes the segment that leads to it: its bit in an else empty word before the row.
+#[tactic(auto, using(crate::proofs::Words::first_bit))]
 #[inline(always)]
 fn first_reached(noted: &[u32], row: &[u32]) -> u32
     ensures { (bit_at result 0 ≡ 1) ↔ IsOpen (word_bit noted.now 0) 0 (word_bit row.now 0) }
@@ -280,6 +285,7 @@ fn close_lines(
 }
 
 /// Closes the gaps of all rows of a frame, and then those that are left in the columns, if it has any gap.
+#[tactic(auto, using(crate::proofs::NoneOpen::none_closed))]
 #[inline(always)]
 pub(crate) fn close_words(
     chooser: &Chooser<'_>,

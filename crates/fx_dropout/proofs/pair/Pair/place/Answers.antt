@@ -26,9 +26,10 @@ stepped q x n e h k few =
 
 at : (p : Pair) (h : Point) → place_of h ≡ centre_at (to_z w32 (of_z w32 p.here.col)) (to_z w32 (of_z w32 p.here.row))
     → (h.x ≡ pos 128 *ℤ p.here.col +ℤ pos 64) × (h.y ≡ pos 128 *ℤ p.here.row +ℤ pos 64)
-at p h e =
-    ((λ t. (e t).x) ∙ (λ t. pos 128 *ℤ same_row p.here.col p.here.col_number t +ℤ pos 64),
-    (λ t. (e t).y) ∙ (λ t. pos 128 *ℤ same_row p.here.row p.here.row_number t +ℤ pos 64))
+at p h e = (
+  (λ t. (e t).x) ∙ (λ t. pos 128 *ℤ same_row p.here.col p.here.col_number t +ℤ pos 64),
+  (λ t. (e t).y) ∙ (λ t. pos 128 *ℤ same_row p.here.row p.here.row_number t +ℤ pos 64),
+)
 
 pub invariant_of-result : goal.invariant_of-result
 invariant_of-result c =
