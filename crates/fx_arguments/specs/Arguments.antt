@@ -79,7 +79,8 @@ outline_app = fold with_rule (new_app (codes "outline"))
 
 -- the command `dump` with its options
 unfoldable pub dump_app : App
-dump_app = fold with_rule (new_app (codes "dump")) (option_rule (codes "of") ∷ option_rule (codes "face") ∷ flag_rule (codes "hex") ∷ [])
+dump_app = fold with_rule (new_app (codes "dump"))
+    (option_rule (codes "of") ∷ option_rule (codes "face") ∷ flag_rule (codes "hex") ∷ [])
 
 -- the command `trace` with its options
 unfoldable pub trace_app : App

@@ -3,7 +3,7 @@ ghost use Rattle.std.specs.Prelude.{◌≡◌, ◌∷◌, [], ◌++◌, ◌+◌,
 ghost use Rattle.fx_request.specs.declared.refusal.Refusal.TheVariants.{OutOfMemory};
 ghost use Rattle.fx_fixed.specs.Changes.{change_of};
 ghost use Rattle.fx_arguments.specs.declared.line.TheConstants.{CAPACITY};
-ghost use Rattle.fx_arguments.specs.Lines.{code_word, counts_of, fate_words, halt_words, notice_line, place_words, program_words};
+ghost use Rattle.fx_arguments.specs.Lines.{code_word, halt_words, notice_line, place_words, program_words};
 ghost use Rattle.fx_arguments.specs.Lines.{Tells, missing_line, refusal_line, refusal_words, report_line, spaced, usage_line};
 
 use crate::line::Line;
@@ -67,7 +67,14 @@ pub(crate) fn line_of_report(report: Report) -> Line
     ensures room { length result < CAPACITY }
 {
     let mut line = Line::new();
-    add_counts(&mut line, report);
+    line.word(b"glyphs");
+    line.number(u64::from(report.glyphs));
+    line.word(b"missing");
+    line.number(u64::from(report.missing));
+    line.word(b"strays");
+    line.number(report.usage.strays);
+    line.word(b"steps");
+    line.number(report.usage.steps);
     line
 }
 
@@ -77,24 +84,14 @@ pub(crate) fn line_of_notice(notice: Notice) -> Line
     ensures room { length result < CAPACITY }
 {
     let mut line = Line::new();
-    add_fate(&mut line, notice.unhinted);
+    line.word(if notice.unhinted {
+        b"unhinted"
+    } else {
+        b"left out"
+    });
     add_code(&mut line, notice.code);
     add_refusal(&mut line, notice.cause);
     line
-}
-
-/// Adds what became of a character.
-fn add_fate(line: &mut Line, unhinted: bool)
-    requires { length line.old ≤ 9 }
-    ensures text { line.new ≡ line.old ++ spaced (fate_words unhinted) }
-    ensures short { length line.new ≤ 18 }
-{
-    if unhinted {
-        line.word(b"unhinted");
-    } else {
-        line.word(b"left");
-        line.word(b"out");
-    }
 }
 
 /// Adds a code point.
@@ -168,22 +165,6 @@ fn add_program(line: &mut Line, program: FontProgram)
             line.number(u64::from(g));
         }
     }
-}
-
-/// Adds what was counted over a strike.
-fn add_counts(line: &mut Line, report: Report)
-    requires { length line.old ≤ 60 }
-    ensures text { line.new ≡ line.old ++ spaced (counts_of report) }
-    ensures room { length line.new < CAPACITY }
-{
-    line.word(b"glyphs");
-    line.number(u64::from(report.glyphs));
-    line.word(b"missing");
-    line.number(u64::from(report.missing));
-    line.word(b"strays");
-    line.number(report.usage.strays);
-    line.word(b"steps");
-    line.number(report.usage.steps);
 }
 
 /// Ends a line, and writes it. A fault of the sink is ignored.

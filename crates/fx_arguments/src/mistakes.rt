@@ -4,8 +4,8 @@ ghost use Rattle.clap.specs.Words.{found_of, rows_of};
 ghost use Rattle.fx_fixed.specs.Chain.{GivesUnless};
 ghost use Rattle.fx_arguments.specs.Arguments.{asked_for, texts};
 ghost use Rattle.fx_arguments.specs.Commands.{Refuses};
-ghost use Rattle.fx_arguments.specs.Mistakes.{IsSaid, SaysUnless, asked_by, checked, command_said, explained, has_hyphen, is_taken, line_of};
-ghost use Rattle.fx_arguments.specs.Mistakes.{name_in, option_said, taken_words, value_said, word_said, words_said};
+ghost use Rattle.fx_arguments.specs.Mistakes.{SaysUnless, asked_by, checked, command_said, explained, has_hyphen, is_taken, line_of};
+ghost use Rattle.fx_arguments.specs.Mistakes.{name_in, option_said, taken_words, word_said, words_said};
 
 use crate::arguments::{asked_for, is_command};
 use crate::fault::Fault;
@@ -158,21 +158,14 @@ fn option_said<'w>(
     let mut completed = Vec::from_slice(alloc, before)?;
     completed.push(word)?;
     completed.push("0")?;
-    if is_taken(alloc, verb, &completed)? {
-        return Err(value_said(alloc, word, next));
+    if !is_taken(alloc, verb, &completed)? {
+        return Err(say(alloc, &[word, " is given twice"]));
     }
-    Err(say(alloc, &[word, " is given twice"]))
-}
-
-/// An option has no value.
-fn value_said<'w>(alloc: Global, word: &'w str, next: &'w str) -> Said
-    ensures { IsSaid result (value_said word.now next.now) }
-{
     if has_hyphen(next) {
         let given_as = " takes a value; one that begins with '-' is given as ";
-        return say(alloc, &[word, given_as, word, "=", next]);
+        return Err(say(alloc, &[word, given_as, word, "=", next]));
     }
-    say(alloc, &[word, " takes a value"])
+    Err(say(alloc, &[word, " takes a value"]))
 }
 
 /// Whether a word begins with a hyphen.

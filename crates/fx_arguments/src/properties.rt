@@ -2,7 +2,7 @@
 ghost use Rattle.std.specs.Prelude.{◌≡◌, option_map};
 ghost use Rattle.fx_bdf.specs.Properties.{seen_properties, seen_property, seen_value};
 ghost use Rattle.fx_arguments.specs.Arguments.{properties_by, texts};
-ghost use Rattle.fx_arguments.specs.Properties.{before_mark, between_marks, has_plus, property_of, value_of, whole_of};
+ghost use Rattle.fx_arguments.specs.Properties.{between_marks, has_plus, property_of, value_of, whole_of};
 ghost use Rattle.fx_arguments.specs.Wrong.{Reads};
 
 use crate::wrong::Wrong;
@@ -53,21 +53,13 @@ fn value_of(value: &str) -> Value<'_>
 }
 
 /// The text between the quotation mark that begins a text and the one that ends it.
-#[tactic(auto, using(std::proofs::lemmas::Str::Pattern::strip_prefix_char, crate::proofs::Given::mark_first))]
 fn between_marks(value: &str) -> Option<&str>
     ensures { option_map (λ string. string.now) result ≡ between_marks value.entry.now }
 {
     match value.strip_prefix('"') {
-        Some(rest) => before_mark(rest),
+        Some(rest) => rest.strip_suffix('"'),
         None => None,
     }
-}
-
-/// A text before the quotation mark that ends it.
-fn before_mark(rest: &str) -> Option<&str>
-    ensures { option_map (λ string. string.now) result ≡ before_mark rest.entry.now }
-{
-    rest.strip_suffix('"')
 }
 
 /// Whether a text begins with a plus.

@@ -1,7 +1,7 @@
 //! Which item of a list of characters is wrong, and why.
 ghost use Rattle.std.specs.Prelude.{◌≡◌, option_map};
 ghost use Rattle.std.specs.List.{list_all};
-ghost use Rattle.fx_arguments.specs.WrongItems.{fault_of_item, fault_of_number, fault_of_range, is_digit, is_digits, seen_item, wrong_item_of};
+ghost use Rattle.fx_arguments.specs.WrongItems.{fault_of_item, fault_of_number, fault_of_range, is_digit, seen_item, wrong_item_of};
 
 use crate::chars::{digit_value, number, range};
 use crate::parts::first_part;
@@ -66,30 +66,16 @@ fn fault_of_number(text: &str) -> Option<ItemFault>
 {
     if number(text).is_some() {
         None
-    } else if is_digits(text) {
+    } else if !text.is_empty() && are_digits(text.as_bytes()) {
         Some(ItemFault::TooLong)
     } else {
         Some(ItemFault::NoNumber)
     }
 }
 
-/// Whether a text has hexadecimal digits alone, and at least one.
-fn is_digits(text: &str) -> bool
-    ensures { result ≡ is_digits text.now }
-{
-    !text.is_empty() && are_digits(text.as_bytes())
-}
-
 /// Whether all bytes are hexadecimal digits.
 fn are_digits(bytes: &[u8]) -> bool
     ensures { result ≡ list_all is_digit bytes.now }
 {
-    bytes.iter().all(|byte| is_digit(*byte))
-}
-
-/// Whether a byte is a hexadecimal digit.
-fn is_digit(byte: u8) -> bool
-    ensures { result ≡ is_digit byte }
-{
-    digit_value(byte).is_some()
+    bytes.iter().all(|byte| digit_value(*byte).is_some())
 }
