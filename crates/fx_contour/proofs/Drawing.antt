@@ -15,7 +15,7 @@ use Rattle.fx_contour.specs.Curve.{doubled_of, curve_of}
 use Rattle.fx_contour.specs.Contours.{contours_from, spans_of, farthest, IsInReach}
 use Rattle.fx_contour.specs.Frames.{HaveAny}
 use Rattle.fx_contour.specs.Bounds.{Side, left_side, right_side, bottom_side, top_side, IsOut, IsLeast, Extends, DoesExtend}
-use Rattle.fx_contour.specs.Bounds.{HavePoint, HaveTwo, KeepsLimit, ReachOf, AreBoundsOf}
+use Rattle.fx_contour.specs.Bounds.{HavePoint, HaveTwo, KeepsLimit, AreBoundsOf}
 use Rattle.fx_contour.proofs.Hull.{hull_of, of_curve, have_either, have_left, have_right}
 
 -- ---- parts of a list of points
@@ -176,7 +176,3 @@ no_points_no_bounds o ends points s h =
     let P : Option Extent → Type 0 = λ x. IsLeast (DoesExtend x) (λ P. HavePoint P points) in
     let g = subst P s h in
     record { sides = λ side t. (λ k. (g.sides side t).0 (of_curves side t 0 ends points k), λ n. absurd n) }
-
-pub doubled_reaches : (l r d u l' r' d' u' : ℤ) → l' ≡ l → r' ≡ r → d' ≡ d → u' ≡ u → (side : Side) (t : ℤ)
-    → ReachOf l' r' d' u' side t ↔ ReachOf l r d u side t
-doubled_reaches l r d u l' r' d' u' el er ed eu side t = rw (el, er, ed, eu) ((λ h. h), (λ h. h))

@@ -107,7 +107,7 @@ point_one P p [] r h = absurd h
 point_one P p (q ∷ qs) r (inl h) = grind (arith, on_or_off, have_left, have_span, arc_at, line_at)
 point_one P p (q ∷ qs) r (inr h) = elim (point_one P q qs r h) [
   | inl k ↦ inl (have_right P (option_to_list (span_at p q (first_or qs r))) (spans_between q qs r) k)
-  | inr e ↦ inl (have_left P (option_to_list (span_at p q (first_or qs r))) (spans_between q qs r) (arc_ends P p q (first_or qs r) e))
+  | inr e ↦ inl (have_left P _ (spans_between q qs r) (arc_ends P p q (first_or qs r) e))
 ]
 
 point_curve : (P : Place → Type 0) (p q : OutlinePoint) (qs : List OutlinePoint) → HavePoint P (p ∷ q ∷ qs)

@@ -7,11 +7,6 @@ returns-then-not-are_in_reach-clause-exact c =
     grind (arith, c.deref.ensures.value, c.are_in_reach.ensures, c.if-not-are_in_reach.true, drawn_far)
 
 pub returns-clause-exact : goal.returns-clause-exact
-returns-clause-exact c = grind (
-  arith,
-  c.deref.ensures.value,
-  c.are_in_reach.ensures,
-  c.if-not-are_in_reach.false,
-  c.in_ok-pieces_in_reach.ensures.ok,
-  drawn_near,
-)
+returns-clause-exact c =
+    let a = c.deref.ensures.value in let b = c.are_in_reach.ensures in let d = c.if-not-are_in_reach.false in
+    let e = c.in_ok-pieces_in_reach.ensures.ok in grind (arith, drawn_near)

@@ -8,14 +8,9 @@ use Rattle.fx_contour.proofs.Enclosing.{enclosed_more, enclosed_end}
 use Rattle.fx_contour.proofs.extent.Extent.of_contours.Goals as goal
 
 pub contour-requires : goal.contour-requires
-contour-requires c = grind (
-  arith,
-  c.deref-end-items.ensures.value,
-  c.deref.ensures.value,
-  c.contours.invariant.ends_left,
-  c.from-next.ensures,
-  next_within,
-)
+contour-requires c =
+    let a = c.deref-end-items.ensures.value in let b = c.deref.ensures.value in let d = c.contours.invariant.ends_left in
+    let e = c.from-next.ensures in grind (arith, next_within)
 
 pub contours-preserved : goal.contours-preserved
 contours-preserved c =

@@ -38,15 +38,9 @@ counted first end h k l =
     same (negsuc n) h = absurd (omega (arith, ints))
 
 pub returns-then-end-first : goal.returns-then-end-first
-returns-then-end-first c = grind (
-  arith,
-  signed_linear,
-  c.first_from-first.ensures,
-  c.first_from-end.ensures,
-  c.requires.near_low,
-  c.requires.near_high,
-  c.if-end-first.true,
-)
+returns-then-end-first c =
+    let a = c.first_from-first.ensures in let b = c.first_from-end.ensures in let d = c.requires.near_low in
+    let e = c.requires.near_high in let f = c.if-end-first.true in grind (arith, signed_linear)
 
 pub returns : goal.returns
 returns c = λ n.
