@@ -1,28 +1,20 @@
-use Rattle.std.proofs.Common.{◌≡◌, ◌≢◌, ◌∙◌, ap, sym, subst, arith, w32, to_z, of_z, length, List, ℕ}
+use Rattle.std.proofs.lemmas.Int.{to_z-of_z}
+use Rattle.std.proofs.Common.{◌≡◌, ◌≢◌, ◌∙◌, ap, sym, arith, length, List, ℕ}
 use Rattle.std.proofs.lemmas.List.{with_items_is}
-use Rattle.fx_fixed.proofs.Linear.{signed_linear}
-use Rattle.fx_winding.specs.declared.frame.Frame.{Frame}
-use Rattle.fx_winding.specs.Bitmaps.{AreWords, bit_number, word_bit}
+use Rattle.fx_winding.specs.Bitmaps.{bit_number, word_bit}
 use Rattle.fx_winding.specs.Frames.{IsFrom}
 use Rattle.fx_winding.proofs.Dotted.{words_with_bit, bit_here, bit_elsewhere}
 use Rattle.fx_winding.proofs.Grid.{grid}
 use Rattle.fx_winding.proofs.bitmap.Bitmap.set.Goals as goal
 
 column : (c : goal.After-self-1) → IsFrom c.self.inside.frame.left c.self.inside.frame.width c.args.col
-column c =
-    let frame : c.self.inside.frame ≡ c.args.self.now.frame = ap (λ b. b.frame) c.self.view_is in
-    subst (λ (g : Frame). IsFrom g.left g.width c.args.col) (sym frame) c.requires.col
+column c = grind (arith, c.self.view_is, c.requires.col)
 
 row : (c : goal.After-self-1) → IsFrom c.self.inside.frame.bottom c.self.inside.frame.height c.args.row
-row c =
-    let frame : c.self.inside.frame ≡ c.args.self.now.frame = ap (λ b. b.frame) c.self.view_is in
-    subst (λ (g : Frame). IsFrom g.bottom g.height c.args.row) (sym frame) c.requires.row
+row c = grind (arith, c.self.view_is, c.requires.row)
 
 number : (c : goal.After-self-1) → c.bit_number-number.result ≡ bit_number c.self.inside.frame c.args.col c.args.row
-number c =
-    let at : to_z w32 (of_z w32 c.args.col) ≡ c.args.col = omega (arith, signed_linear) in
-    let up : to_z w32 (of_z w32 c.args.row) ≡ c.args.row = omega (arith, signed_linear) in
-    c.bit_number-number.ensures.value ∙ (λ i. bit_number c.self.inside.frame (at i) (up i))
+number c = grind (arith, c.bit_number-number.ensures.value, to_z-of_z)
 
 others : (c : goal.After-self-1) (k : ℕ) → k ≢ bit_number c.self.inside.frame c.args.col c.args.row
     → word_bit c.set_bit.new.words k ≡ word_bit c.self.inside.words.items k
@@ -30,12 +22,8 @@ others c k n = c.set_bit.ensures.others k (λ e. n (e ∙ number c)) ∙ ap (λ 
 
 pub invariant_of-self : goal.invariant_of-self
 invariant_of-self c =
-    let f = c.self.inside.frame in
-    let l = ap length c.deref_mut.ensures.value in
-    let whole = with_items_is c.self.inside.words c.set_bit.new.words (omega arith) in
-    subst (λ (l : List ℕ). AreWords f.height f.width l) (sym whole)
-    (words_with_bit f c.self.inside.words.items c.set_bit.new.words c.args.col c.args.row (column c) (row c) c.self.invariant
-    (omega (arith, l)) (others c))
+    let a = column c in let b = row c in let d = others c in let e = c.self.invariant in let f = c.deref_mut.ensures.value in
+    grind (arith, words_with_bit, with_items_is)
 
 pub returns-clause-here : goal.returns-clause-here
 returns-clause-here c =

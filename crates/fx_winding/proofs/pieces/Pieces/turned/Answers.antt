@@ -1,4 +1,4 @@
-use Rattle.std.proofs.Common.{◌≡◌, ◌∙◌, ◌∷◌, [], ap, length, length-append, map, take, arith}
+use Rattle.std.proofs.Common.{◌≡◌, ◌∙◌, ap, length, length-append, map, take, arith}
 use Rattle.std.proofs.Math.Seq.{take-length}
 use Rattle.fx_winding.specs.Turned.{turned_span}
 use Rattle.fx_winding.specs.Winding.{span_of}
@@ -15,14 +15,8 @@ push-requires c =
 
 pub pieces-preserved : goal.pieces-preserved
 pieces-preserved c =
-    let long = c.pieces.invariant.long in
-    let more = length-append c.pieces.turned (c.turned.result ∷ []) in
-    record {
-      long = ap length c.in_ok-push.ensures.ok ∙ omega (arith, long, more);
-      same = ap (map span_of) c.in_ok-push.ensures.ok
-          ∙ turned_more c.as_slice-piece-items.result.now c.pieces.turned c.pieces.piece-index c.piece-item.result
-          c.turned.result c.pieces-test.true c.piece-item.is c.turned.ensures c.pieces.invariant.same;
-    }
+    let a = c.pieces.invariant in let b = c.in_ok-push.ensures.ok in let d = c.pieces-test.true in let e = c.piece-item.is in
+    let f = c.turned.ensures in grind (arith, length-append, turned_more)
 
 pub returns : goal.returns
 returns c =
