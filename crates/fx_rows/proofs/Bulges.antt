@@ -190,21 +190,21 @@ in_order f row k =
 
 pub met_first : (s : Span) (f : Frame) (first end row : ℤ) (k : ℕ) → AreAcross s first end → IsMetTo s f row k
     → first ≤ℤ (f.left +ℤ pos k)
-met_first s f first end row k h m = by (below_or_not_ℤ (f.left +ℤ pos k) first)
-  where
-    by : ((f.left +ℤ pos k) <ℤ first) ⊎ (first ≤ℤ (f.left +ℤ pos k)) → first ≤ℤ (f.left +ℤ pos k)
-    by (inl l) = absurd (right_not_met (left_at f row k) (right_at f row k) s refl (in_order f row k)
-        (to_all (λ q. (right_at f row k).x <ℤ q.x) s (h.0 (f.left +ℤ pos k) l)) m)
-    by (inr l) = l
+met_first s f first end row k h m = elim (below_or_not_ℤ (f.left +ℤ pos k) first) [
+  | inl l ↦
+      absurd (right_not_met (left_at f row k) (right_at f row k) s refl (in_order f row k)
+      (to_all (λ q. (right_at f row k).x <ℤ q.x) s (h.0 (f.left +ℤ pos k) l)) m)
+  | inr l ↦ l
+]
 
 pub met_last : (s : Span) (f : Frame) (first end row : ℤ) (k : ℕ) → AreAcross s first end → IsMetTo s f row k
     → ((f.left -ℤ pos 1) +ℤ pos k) <ℤ end
-met_last s f first end row k h m = by (below_or_not_ℤ ((f.left -ℤ pos 1) +ℤ pos k) end)
-  where
-    by : (((f.left -ℤ pos 1) +ℤ pos k) <ℤ end) ⊎ (end ≤ℤ ((f.left -ℤ pos 1) +ℤ pos k)) → ((f.left -ℤ pos 1) +ℤ pos k) <ℤ end
-    by (inl l) = l
-    by (inr l) = absurd (left_not_met (left_at f row k) (right_at f row k) s (in_order f row k)
-        (to_all (λ q. q.x <ℤ (left_at f row k).x) s (h.1 ((f.left -ℤ pos 1) +ℤ pos k) l)) m)
+met_last s f first end row k h m = elim (below_or_not_ℤ ((f.left -ℤ pos 1) +ℤ pos k) end) [
+  | inl l ↦ l
+  | inr l ↦
+      absurd (left_not_met (left_at f row k) (right_at f row k) s (in_order f row k)
+      (to_all (λ q. q.x <ℤ (left_at f row k).x) s (h.1 ((f.left -ℤ pos 1) +ℤ pos k) l)) m)
+]
 
 -- ---- a whole row
 pub row_set : (s : Span) (f : Frame) (row : ℤ) (part : RowPart) (first step : ℕ) (bits : List ℕ) → IsRowPart s row f part
@@ -292,11 +292,10 @@ column_is f col n k under rest w e = grind (arith, signed_linear, below_same_abo
 -- the ends of a run
 pub run_end : {X : Type 0} (f : Frame) (run : Option Run) (r : Run) (k : ℕ) → run ≡ Some r → IsRunEnd f run k
     → (f.left +ℤ pos k ≡ r.first → X) → (f.left +ℤ pos k ≡ r.last +ℤ pos 1 → X) → X
-run_end {X} f run r k is end first last = by (subst (λ (o : Option Run). IsRunEnd f o k) is end)
-  where
-    by : (f.left +ℤ pos k ≡ r.first) ⊎ (f.left +ℤ pos k ≡ r.last +ℤ pos 1) → X
-    by (inl e) = first e
-    by (inr e) = last e
+run_end {X} f run r k is end first last = elim (subst (λ (o : Option Run). IsRunEnd f o k) is end) [
+  | inl e ↦ first e
+  | inr e ↦ last e
+]
 
 pub run_column : (f : Frame) (run : Option Run) (r : Run) → run ≡ Some r → IsInside f run
     → IsFrom f.left f.width r.first × IsFrom f.left f.width r.last

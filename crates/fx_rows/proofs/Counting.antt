@@ -205,12 +205,12 @@ equal_or : (i j : ℕ) → i ≤ j → (i < j) ⊎ (i ≡ j)
 equal_or i j h = grind arith
 
 counts_first : (a b c : Place) (r : Bool) (strip : Strip) → Bends a b c r strip → CountsFirst (arc a b c) r strip
-counts_first a b c r strip h i j l counts = by (equal_or i j l)
-  where
-    by : (i < j) ⊎ (i ≡ j) → CountsAt (arc a b c) r strip i
-    by (inl n) = unreal a b c r strip h i (counts_left a b c (place_at strip i) (place_at strip j) r h.bent h.inner refl
-        (rises a c strip i j (slanted a.y c.y _ h.inner) n) h.turned (real a b c r strip h j counts))
-    by (inr e) = subst (CountsAt (arc a b c) r strip) (sym e) counts
+counts_first a b c r strip h i j l counts = elim (equal_or i j l) [
+  | inl n ↦
+      unreal a b c r strip h i (counts_left a b c (place_at strip i) (place_at strip j) r h.bent h.inner refl
+      (rises a c strip i j (slanted a.y c.y _ h.inner) n) h.turned (real a b c r strip h j counts))
+  | inr e ↦ subst (CountsAt (arc a b c) r strip) (sym e) counts
+]
 
 -- the columns on the arc
 only_right : (a b c : Place) (strip : Strip) (end : ℕ) → Bends a b c true strip → IsEndOfCount (arc a b c) true strip end → (k : ℕ)

@@ -1,16 +1,15 @@
 -- The bits of a frame's notes that stay set, the room for them, and those of segments that some piece meets.
 -- Serves `note`, `note_across` and `note_up`.
-use Rattle.std.proofs.Common.{◌≡◌, ◌⊎◌, inl, inr, ◌∙◌, sym, ap, subst, ℕ, ◌+◌, ◌*◌, ◌<◌, ◌≤◌, pos, ◌+ℤ◌, ◌-ℤ◌, List, arith}
+use Rattle.std.proofs.Common.{◌≡◌, inl, inr, ◌∙◌, sym, ap, subst, ℕ, ◌+◌, ◌*◌, ◌<◌, ◌≤◌, pos, ◌+ℤ◌, ◌-ℤ◌, List, arith}
 use Rattle.fx_fixed.proofs.Order.{below_same_above}
 use Rattle.std.proofs.Math.Nat.{mul-le-mul_right}
 use Rattle.fx_winding.specs.declared.frame.Frame.{Frame}
-use Rattle.fx_winding.specs.Bitmaps.{word_bit}
 use Rattle.fx_winding.specs.Turned.{turned_span}
 use Rattle.fx_winding.specs.Meets.{IsMet}
 use Rattle.fx_winding.specs.Notes.{pixel_number, words_noted, IsNotedAcross, IsNotedUp}
 use Rattle.fx_winding.specs.Winding.{Span, IsOn, centre}
 use Rattle.fx_rows.specs.inner.Lines.{left_at, right_at, AreOnly, IsAcrossBit, IsMetTo, IsMetUnlessOn, IsRowsBit, IsUpBit}
-use Rattle.fx_rows.specs.inner.Telling.{Way, across_row, up_to_row, IsNotedBy, IsAmong, IsMetByOne, IsMetUpByOne, AreMetAcross, AreMetUp}
+use Rattle.fx_rows.specs.inner.Telling.{Way, across_row, up_to_row, IsNotedBy, IsAmong, AreMetAcross, AreMetUp}
 use Rattle.fx_rows.specs.inner.Telling.{BitsSay, Lasts, Saying, of_frame, of_pieces, noted}
 use Rattle.fx_rows.specs.inner.Told.{AreKept}
 use Rattle.fx_rows.proofs.Turned.{on_turned}
@@ -37,60 +36,57 @@ row_room r h width row n l e all =
 
 -- ---- the bits are of segments that some piece meets
 same_cell : (w r q k j : ℕ) → k < w → j < w → r * w + k ≡ q * w + j → (r ≡ q) × (k ≡ j)
-same_cell w r q k j l m e = by (below_same_above r q)
-  where
-    by : (r < q) ⊎ ((r ≡ q) ⊎ (q < r)) → (r ≡ q) × (k ≡ j)
-    by (inl a) =
-        let n : (r + 1) * w ≤ q * w = mul-le-mul_right w (omega (arith, a)) in
-        let next : (r + 1) * w ≡ r * w + w = omega arith in
-        absurd (omega (arith, n, next, e, l))
-    by (inr (inl a)) = let same = ap (λ (x : ℕ). x * w) a in (a, omega (arith, same, e))
-    by (inr (inr a)) =
-        let n : (q + 1) * w ≤ r * w = mul-le-mul_right w (omega (arith, a)) in
-        let next : (q + 1) * w ≡ q * w + w = omega arith in
-        absurd (omega (arith, n, next, e, m))
+same_cell w r q k j l m e = elim (below_same_above r q) [
+  | inl a ↦
+      let n : (r + 1) * w ≤ q * w = mul-le-mul_right w (omega (arith, a)) in
+      let next : (r + 1) * w ≡ r * w + w = omega arith in
+      absurd (omega (arith, n, next, e, l))
+  | inr (inl a) ↦ let same = ap (λ (x : ℕ). x * w) a in (a, omega (arith, same, e))
+  | inr (inr a) ↦
+      let n : (q + 1) * w ≤ r * w = mul-le-mul_right w (omega (arith, a)) in
+      let next : (q + 1) * w ≡ q * w + w = omega arith in
+      absurd (omega (arith, n, next, e, m))
+]
 
 -- those across the rows of a frame
 pub some_rows : (s : Span) (ss : List Span) (f : Frame) (a b : List ℕ) → IsAmong s ss → AreOnly (IsAcrossBit s f) a b
     → AreMetAcross f a ss → AreMetAcross f b ss
-some_rows s ss f a b among only old r k l set = by (only (pixel_number f r k) set)
-  where
-    by : (word_bit a (pixel_number f r k) ≡ 1) ⊎ IsAcrossBit s f (pixel_number f r k) → (k ≤ f.width) × IsMetByOne ss f r k
-    by (inl was) = old r k l was
-    by (inr new) =
-        let line = new.line in
-        let number : new.r * (32 * words_noted f.width) + line.k * 1 ≡ new.r * (32 * words_noted f.width) + line.k = omega arith in
-        let place = same_cell (32 * words_noted f.width) r new.r k line.k l (omega (arith, line.within)) (line.at ∙ number) in
-        let row = sym place.0 in
-        let column = sym place.1 in (
-          omega (arith, column, line.within),
-          record {
-            piece = s;
-            among = among;
-            met = subst (λ z. z) (λ i. ¬ (IsOn (left_at f (f.bottom +ℤ pos (row i)) (column i)) s)
-                → ¬ (IsOn (right_at f (f.bottom +ℤ pos (row i)) (column i)) s)
-                → IsMetTo s f (f.bottom +ℤ pos (row i)) (column i)) line.met;
-          },
-        )
+some_rows s ss f a b among only old r k l set = elim (only (pixel_number f r k) set) [
+  | inl was ↦ old r k l was
+  | inr new ↦
+      let line = new.line in
+      let number : new.r * (32 * words_noted f.width) + line.k * 1 ≡ new.r * (32 * words_noted f.width) + line.k = omega arith in
+      let place = same_cell (32 * words_noted f.width) r new.r k line.k l (omega (arith, line.within)) (line.at ∙ number) in
+      let row = sym place.0 in
+      let column = sym place.1 in (
+        omega (arith, column, line.within),
+        record {
+          piece = s;
+          among = among;
+          met = subst (λ z. z) (λ i. ¬ (IsOn (left_at f (f.bottom +ℤ pos (row i)) (column i)) s)
+              → ¬ (IsOn (right_at f (f.bottom +ℤ pos (row i)) (column i)) s)
+              → IsMetTo s f (f.bottom +ℤ pos (row i)) (column i)) line.met;
+        },
+      )
+]
 
 -- those up to the rows of a frame
 pub some_up : (s : Span) (ss : List Span) (f : Frame) (a b : List ℕ) → IsAmong s ss → AreOnly (IsUpBit s f) a b
     → AreMetUp f a ss → AreMetUp f b ss
-some_up s ss f a b among only old r k w set = by (only (pixel_number f r k) set)
-  where
-    by : (word_bit a (pixel_number f r k) ≡ 1) ⊎ IsUpBit s f (pixel_number f r k) → (k < f.width) × IsMetUpByOne ss f r k
-    by (inl was) = old r k w was
-    by (inr new) =
-        let place = same_cell (32 * words_noted f.width) r new.r k new.k w (omega (arith, new.column)) new.at in
-        let row = sym place.0 in
-        let column = sym place.1 in (
-          omega (arith, column, new.column),
-          record {
-            piece = s;
-            among = among;
-            met = subst (λ z. z) (λ i. IsMetUnlessOn s f (row i) (column i)) new.met;
-          },
-        )
+some_up s ss f a b among only old r k w set = elim (only (pixel_number f r k) set) [
+  | inl was ↦ old r k w was
+  | inr new ↦
+      let place = same_cell (32 * words_noted f.width) r new.r k new.k w (omega (arith, new.column)) new.at in
+      let row = sym place.0 in
+      let column = sym place.1 in (
+        omega (arith, column, new.column),
+        record {
+          piece = s;
+          among = among;
+          met = subst (λ z. z) (λ i. IsMetUnlessOn s f (row i) (column i)) new.met;
+        },
+      )
+]
 
 -- the bit of a segment of a column, seen as a row of the exchanged piece
 pub up_bit : (s : Span) (f g : Frame) (n : ℕ) → g.left ≡ f.bottom → g.bottom ≡ f.left → g.width ≡ f.height → g.height ≡ f.width

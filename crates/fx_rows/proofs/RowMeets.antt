@@ -53,12 +53,12 @@ left_past_end s f r n (suc j) is l m off =
 -- at the right end of such a one
 right_past_end : (s : Span) (f : Frame) (first end : ℤ) (r n k : ℕ) → AreAcross s first end → end ≤ℤ (f.left +ℤ pos f.width)
     → IsEnd s f r n → n < k → k ≤ f.width → ¬ (IsOn (right_end f r k) s) → turn (right_end f r k) s ≡ pos 0
-right_past_end s f first end r n k h w is l m off = by (below_or_not k f.width)
-  where
-    by : (k < f.width) ⊎ (f.width ≤ k) → turn (right_end f r k) s ≡ pos 0
-    by (inl i) = is.right k (omega (arith, l)) i off
-    by (inr i) = right_of_all (right_end f r k) s (to_all (λ q. q.x <ℤ (right_end f r k).x) s
-        (h.1 (f.left +ℤ pos k) (omega (arith, signed_linear, w, i))))
+right_past_end s f first end r n k h w is l m off = elim (below_or_not k f.width) [
+  | inl i ↦ is.right k (omega (arith, l)) i off
+  | inr i ↦
+      right_of_all (right_end f r k) s (to_all (λ q. q.x <ℤ (right_end f r k).x) s
+      (h.1 (f.left +ℤ pos k) (omega (arith, signed_linear, w, i))))
+]
 
 -- a row between the piece's ends, of a frame that has all columns of its box
 pub met_end : (s : Span) (f : Frame) (first end : ℤ) (r n k : ℕ) → AreAcross s first end → f.left ≤ℤ first
@@ -82,12 +82,12 @@ value_not_zero s e = grind (arith, ints)
 
 right_at_end : (s : Span) (f : Frame) (first end : ℤ) (r n : ℕ) → AreAcross s first end → end ≤ℤ (f.left +ℤ pos f.width)
     → IsEnd s f r n → ¬ (IsOn (right_end f r n) s) → turn (right_end f r n) s ≡ pos 0
-right_at_end s f first end r n h w is off = by (below_or_not n f.width)
-  where
-    by : (n < f.width) ⊎ (f.width ≤ n) → turn (right_end f r n) s ≡ pos 0
-    by (inl i) = is.right n (omega arith) i off
-    by (inr i) = right_of_all (right_end f r n) s (to_all (λ q. q.x <ℤ (right_end f r n).x) s
-        (h.1 (f.left +ℤ pos n) (omega (arith, signed_linear, w, i))))
+right_at_end s f first end r n h w is off = elim (below_or_not n f.width) [
+  | inl i ↦ is.right n (omega arith) i off
+  | inr i ↦
+      right_of_all (right_end f r n) s (to_all (λ q. q.x <ℤ (right_end f r n).x) s
+      (h.1 (f.left +ℤ pos n) (omega (arith, signed_linear, w, i))))
+]
 
 pub end_met_too : (s : Span) (f : Frame) (first end : ℤ) (r n : ℕ) → AreAcross s first end → f.left ≤ℤ first
     → end ≤ℤ (f.left +ℤ pos f.width) → IsInner s.a.y s.c.y (height_of f r) → IsEnd s f r n → ¬ (IsOn (left_end f r n) s)

@@ -1,6 +1,6 @@
 -- Pieces that are no bent arc, between their ends.
 -- Serves the centres on them.
-use Rattle.std.proofs.Common.{◌↔◌, IsTrue, ◌≡◌, ◌≢◌, ◌⊎◌, inl, inr, sym, ap, ◌∙◌, ℕ, ◌≤◌, ◌<◌, ℤ, pos, negsuc, ◌+ℤ◌}
+use Rattle.std.proofs.Common.{◌↔◌, IsTrue, ◌≡◌, ◌≢◌, inl, inr, sym, ap, ◌∙◌, ℕ, ◌≤◌, ◌<◌, ℤ, pos, negsuc, ◌+ℤ◌}
 use Rattle.std.proofs.Common.{◌-ℤ◌, ◌*ℤ◌, neg_ℤ, ◌≤ℤ◌, ◌<ℤ◌, [], ◌∷◌, Bool, Option, Some, None, arith}
 use Rattle.std.proofs.lemmas.Int.{ints}
 use Rattle.fx_fixed.specs.Polynomial.{Expr, var, ◌⊞◌, ◌⊠◌, minus, ◌⊟◌}
@@ -39,16 +39,15 @@ product_turned : (r q : ℤ) → r *ℤ neg_ℤ q ≡ neg_ℤ (r *ℤ q)
 product_turned r q = ring (r ∷ q ∷ []) (var 0 ⊠ minus (var 1)) (minus (var 0 ⊠ var 1)) tt
 
 between_part : (ax cx px t r : ℤ) → pos 0 <ℤ t → t <ℤ r → (cx -ℤ ax) *ℤ t ≡ r *ℤ (px -ℤ ax) → IsBetween ax cx px
-between_part ax cx px t r some less e = by (below_or_not_ℤ cx ax)
-  where
-    by : (cx <ℤ ax) ⊎ (ax ≤ℤ cx) → IsBetween ax cx px
-    by (inr h) =
-        let b = between_rest (cx -ℤ ax) (px -ℤ ax) t r (omega (arith, signed_linear)) some less e in
-        inl (omega (arith, signed_linear, b.0), omega (arith, signed_linear, b.1))
-    by (inl h) =
-        let b = between_rest (neg_ℤ (cx -ℤ ax)) (neg_ℤ (px -ℤ ax)) t r (omega (arith, signed_linear)) some less
-        (turned_product (cx -ℤ ax) t ∙ ap neg_ℤ e ∙ sym (product_turned r (px -ℤ ax))) in
-        inr (omega (arith, signed_linear, b.1), omega (arith, signed_linear, b.0))
+between_part ax cx px t r some less e = elim (below_or_not_ℤ cx ax) [
+  | inr h ↦
+      let b = between_rest (cx -ℤ ax) (px -ℤ ax) t r (omega (arith, signed_linear)) some less e in
+      inl (omega (arith, signed_linear, b.0), omega (arith, signed_linear, b.1))
+  | inl h ↦
+      let b = between_rest (neg_ℤ (cx -ℤ ax)) (neg_ℤ (px -ℤ ax)) t r (omega (arith, signed_linear)) some less
+      (turned_product (cx -ℤ ax) t ∙ ap neg_ℤ e ∙ sym (product_turned r (px -ℤ ax))) in
+      inr (omega (arith, signed_linear, b.1), omega (arith, signed_linear, b.0))
+]
 
 -- ---- of a place on the chord's line
 rising_area : (ax ay cx cy px py : ℤ)

@@ -260,14 +260,14 @@ clear s f row x v e c d k h i j l m n o = grind (arith, signed_linear, h, i, j, 
 past : (s : Span) (f : Frame) (row x v : ℤ) (e : Place) (c d : Reach) (k : ℕ) → IsPassing s f row d → AreAt f x c → x ≡ e.x
     → rise_value s ≡ v → k < f.width → ¬ (IsOn (centre (f.left +ℤ pos k) row) s) → min c.first d.first ≤ k → k < max c.end d.end
     → IsPastEnd e.x v (centre (f.left +ℤ pos k) row) s
-past s f row x v e c d k h is at rises l off from to = by (below_or_not k d.end)
-  where
-    by : (k < d.end) ⊎ (d.end ≤ k) → IsPastEnd e.x v (centre (f.left +ℤ pos k) row) s
-    by (inl b) = inl (
-      subst (λ (z : ℤ). z ≤ℤ column_of f k) at (is.from k (omega (arith, b, from, h.same)) l),
-      h.is.left k b off ∙ rises,
-    )
-    by (inr b) = inr (subst (λ (z : ℤ). column_of f k ≤ℤ z) at (is.to k (omega (arith, b, to))), h.is.right k b l off)
+past s f row x v e c d k h is at rises l off from to = elim (below_or_not k d.end) [
+  | inl b ↦
+      inl (
+        subst (λ (z : ℤ). z ≤ℤ column_of f k) at (is.from k (omega (arith, b, from, h.same)) l),
+        h.is.left k b off ∙ rises,
+      )
+  | inr b ↦ inr (subst (λ (z : ℤ). column_of f k ≤ℤ z) at (is.to k (omega (arith, b, to))), h.is.right k b l off)
+]
 
 -- with a row between its ends a piece rises or falls
 sides : (s : Span) (y : ℤ) (P Q : Type 0) → IsInner s.a.y s.c.y y → (s.a.y <ℤ s.c.y → P) → (s.c.y <ℤ s.a.y → Q)
@@ -422,14 +422,13 @@ height_next f r = ap (λ (z : ℤ). pos 128 *ℤ z +ℤ pos 64) (row_next f r)
 -- the row below the first one that is above the lower end
 pub level_under : (s : Span) (f : Frame) (from first : ℕ) → from ≤ first → IsAtMostEnds s (height_below f from)
     → ((r : ℕ) → from ≤ r → r < first → IsAtMostEnds s (height_of f r)) → IsAtMostEnds s (height_below f first)
-level_under s f from first l below under = by (below_or_not from first)
-  where
-    by : (from < first) ⊎ (first ≤ from) → IsAtMostEnds s (height_below f first)
-    by (inl k) =
-        let same : first - 1 + 1 ≡ first = omega (arith, k) in
-        subst (λ (n : ℕ). IsAtMostEnds s (height_below f n)) same
-        (subst (IsAtMostEnds s) (height_next f (first - 1)) (under (first - 1) (omega (arith, k)) (omega (arith, k))))
-    by (inr k) = let e : from ≡ first = omega (arith, k, l) in subst (λ (n : ℕ). IsAtMostEnds s (height_below f n)) e below
+level_under s f from first l below under = elim (below_or_not from first) [
+  | inl k ↦
+      let same : first - 1 + 1 ≡ first = omega (arith, k) in
+      subst (λ (n : ℕ). IsAtMostEnds s (height_below f n)) same
+      (subst (IsAtMostEnds s) (height_next f (first - 1)) (under (first - 1) (omega (arith, k)) (omega (arith, k))))
+  | inr k ↦ let e : from ≡ first = omega (arith, k, l) in subst (λ (n : ℕ). IsAtMostEnds s (height_below f n)) e below
+]
 
 -- if an end is below the row below the band, no row of the band is at or below the lower end
 pub first_row : (s : Span) (f : Frame) (from first : ℕ) → from ≤ first → IsOneUnder s (height_below f from)

@@ -15,7 +15,7 @@ use Rattle.fx_rows.specs.declared.strip.Strip.{Strip}
 use Rattle.fx_rows.specs.inner.Arcs.{gap, AreAreas}
 use Rattle.fx_rows.specs.inner.Cuts.{Counts, CountsAt}
 use Rattle.fx_rows.specs.inner.Sides.{place_at}
-use Rattle.fx_rows.specs.inner.Walks.{AreSmall, IsSum, AreTurned, u_at, v_at, w_at, AreSided, IsStep, right_of}
+use Rattle.fx_rows.specs.inner.Walks.{AreSmall, IsSum, AreTurned, AreSided, IsStep, right_of}
 use Rattle.fx_rows.proofs.Sides.{areas_near, sign_times, middle}
 use Rattle.fx_rows.proofs.Weights.{gap_scaled, sign_square}
 use Rattle.fx_rows.proofs.Narrows.{changed}
@@ -121,15 +121,12 @@ step_up s b plain step is eu ev ew t l r k =
     (eu ∙ along_y _ _ (s.c.x -ℤ b.x) (b.y -ℤ s.c.y) x y) (ev ∙ along_y _ _ (s.a.x -ℤ s.c.x) (s.c.y -ℤ s.a.y) x y)
     (ew ∙ along_y _ _ (b.x -ℤ s.a.x) (s.a.y -ℤ b.y) x y) t)
 
-back_is : (x y t n : ℤ) → y ≡ x +ℤ t → n ≡ neg_ℤ t → x ≡ y +ℤ n
-back_is x y t n e f = omega (arith, signed_linear, e, f)
-
-pub step_back : (s : Span) (p q : Place) (step back : Weights) → IsStep s p q step → back.u ≡ neg_ℤ step.u → back.v ≡ neg_ℤ step.v
+step_back : (s : Span) (p q : Place) (step back : Weights) → IsStep s p q step → back.u ≡ neg_ℤ step.u → back.v ≡ neg_ℤ step.v
     → back.w ≡ neg_ℤ step.w → IsStep s q p back
 step_back s p q step back h eu ev ew = record {
-  u = back_is (u_at s p) (u_at s q) step.u back.u h.u eu;
-  v = back_is (v_at s p) (v_at s q) step.v back.v h.v ev;
-  w = back_is (w_at s p) (w_at s q) step.w back.w h.w ew;
+  u = omega (arith, signed_linear, h.u, eu);
+  v = omega (arith, signed_linear, h.v, ev);
+  w = omega (arith, signed_linear, h.w, ew);
 }
 
 -- ---- the areas of a place
@@ -160,7 +157,9 @@ pub counts_at : (s : Piece) (r : Bool) (strip : Strip) (k : ℕ) (areas : Weight
 counts_at s r strip k areas slanted h = grind (arith, signed_linear, slanted, h, column_place, middle, gap_at_column)
 
 -- the step to the column before
-pub step_before : (s : Span) (p : Place) (k : ℕ) (back : Weights) → 0 < k
-    → ((q : Place) (j : ℕ) → IsStep s (right_of q (j + 1)) (right_of q j) back) → IsStep s (right_of p k) (right_of p (k - 1)) back
-step_before s p k back some h =
-    let e : (k - 1) + 1 ≡ k = omega (arith, some) in subst (λ n. IsStep s (right_of p n) (right_of p (k - 1)) back) e (h p (k - 1))
+pub step_before : (s : Span) (p : Place) (k : ℕ) (step back : Weights) → 0 < k
+    → ((q : Place) (j : ℕ) → IsStep s (right_of q j) (right_of q (j + 1)) step) → back.u ≡ neg_ℤ step.u → back.v ≡ neg_ℤ step.v
+    → back.w ≡ neg_ℤ step.w → IsStep s (right_of p k) (right_of p (k - 1)) back
+step_before s p k step back some h eu ev ew =
+    let e : (k - 1) + 1 ≡ k = omega (arith, some) in subst (λ n. IsStep s (right_of p n) (right_of p (k - 1)) back) e
+    (step_back s (right_of p (k - 1)) (right_of p ((k - 1) + 1)) step back (h p (k - 1)) eu ev ew)

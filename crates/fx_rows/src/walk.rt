@@ -24,7 +24,7 @@ use crate::on::on_one;
 use crate::part::OnRow;
 use crate::rest::is_right;
 use crate::strip::{Strip, areas_at};
-use fx_winding::{Piece, Point, Tally, Weights, curve_gap, difference, first_from, turned};
+use fx_winding::{Piece, Point, Tally, Weights, curve_gap, first_from};
 
 /// Whether an arc can touch the centre of a pixel, from its areas at one. From centre to centre the areas change by multiples of
 /// 128, and so their gap changes by multiples of 256. If the gap is no such multiple at one centre, it is 0 at none. If it is one,
@@ -48,28 +48,41 @@ fn after(areas: Weights, step: Weights) -> Weights
     }
 }
 
-/// Areas with the sign of the chord's rise.
+/// The changes the other way.
 #[inline(always)]
-fn turned_areas(piece: &Piece, areas: Weights) -> Weights
-    ensures { AreTurned (piece.now.c.y -ℤ piece.now.a.y) areas result }
+fn reversed(step: Weights) -> Weights
+    ensures u { result.u ≡ neg_ℤ step.u }
+    ensures v { result.v ≡ neg_ℤ step.v }
+    ensures w { result.w ≡ neg_ℤ step.w }
 {
-    let rise = difference(piece.c.y, piece.a.y);
     Weights {
-        u: turned(rise, areas.u),
-        v: turned(rise, areas.v),
-        w: turned(rise, areas.w),
+        u: -step.u,
+        v: -step.v,
+        w: -step.w,
     }
 }
 
+/// Areas with the sign of the chord's rise.
+#[inline(always)]
+#[tactic(auto, using(fx_fixed::proofs::Linear::signed_linear, crate::proofs::Sides::sign_above, crate::proofs::Sides::sign_below))]
+fn turned_areas(piece: &Piece, areas: Weights) -> Weights
+    requires slanted { piece.now.a.y ≢ piece.now.c.y }
+    ensures { AreTurned (piece.now.c.y -ℤ piece.now.a.y) areas result }
+{
+    if piece.a.y < piece.c.y {
+        return areas;
+    }
+    reversed(areas)
+}
+
 /// A bent arc: whether it lies right of its chord, whether it can touch a centre, and the changes of a column's areas to the next
-/// column, to the one before and to the row above. All areas have the sign of the chord's rise, so that the second is the column's
+/// column and to the row above. All areas have the sign of the chord's rise, so that the second is the column's
 /// side of the chord.
 #[derive(Clone, Copy)]
 pub(crate) struct Arc {
     right: bool,
     touches: bool,
     next: Weights,
-    back: Weights,
     up: Weights,
 }
 
@@ -170,7 +183,7 @@ fn to_end(piece: &Piece, arc: Arc, spot: Spot, strip: Strip) -> Spot
     }
     // The columns from this one on do not count.
     'left: while here.k > 0 {
-        let left = beside(piece, here, strip, here.k - 1, arc.back);
+        let left = beside(piece, here, strip, here.k - 1, reversed(arc.next));
         if counts(piece, arc.right, left, strip) {
             return here;
         }
@@ -221,7 +234,7 @@ fn on_end(piece: &Piece, arc: Arc, end: Spot, strip: Strip, tally: &mut Tally) -
     if end.k == 0 {
         return OnRow::None;
     }
-    let last = beside(piece, end, strip, end.k - 1, arc.back);
+    let last = beside(piece, end, strip, end.k - 1, reversed(arc.next));
     on_column(piece, last, strip, tally)
 }
 
@@ -264,19 +277,6 @@ fn across_of(piece: &Piece, b: Point) -> Weights
     }
 }
 
-/// The changes the other way.
-fn reversed(step: Weights) -> Weights
-    ensures u { result.u ≡ neg_ℤ step.u }
-    ensures v { result.v ≡ neg_ℤ step.v }
-    ensures w { result.w ≡ neg_ℤ step.w }
-{
-    Weights {
-        u: -step.u,
-        v: -step.v,
-        w: -step.w,
-    }
-}
-
 /// The changes of an arc's areas from row to row.
 fn up_of(piece: &Piece, b: Point) -> Weights
     ensures u { result.u ≡ pos 128 *ℤ (piece.now.c.x -ℤ b.x) }
@@ -295,17 +295,16 @@ fn up_of(piece: &Piece, b: Point) -> Weights
 fn arc_at(piece: &Piece, b: Point, right: bool, strip: Strip, k: u32, areas: Weights) -> ArcCuts
     requires middle { piece.now.b ≡ Some b }
     requires bent { IsBent (span_of piece.now) }
+    requires slanted { piece.now.a.y ≢ piece.now.c.y }
     requires right { IsTurned (span_of piece.now) right }
     requires near { (strip.base +ℤ pos k) <ℤ end_of_pixels }
     requires areas { AreAreas (span_of piece.now) (place_at strip k) areas }
     ensures { IsArcAt result piece.now (place_at strip 0) }
 {
-    let next = turned_areas(piece, across_of(piece, b));
     let arc = Arc {
         right,
         touches: may_touch(areas),
-        next,
-        back: reversed(next),
+        next: turned_areas(piece, across_of(piece, b)),
         up: turned_areas(piece, up_of(piece, b)),
     };
     let spot = Spot {

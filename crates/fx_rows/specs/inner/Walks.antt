@@ -60,7 +60,6 @@ pub record IsArc (arc : Arc) (piece : Piece) : Type 0 where
   pub bent : IsBent (span_of piece)
   pub turned : IsTurned (span_of piece) arc.right
   pub next : (q : Place) (k : ℕ) → IsStep (span_of piece) (right_of q k) (right_of q (k + 1)) arc.next
-  pub back : (q : Place) (k : ℕ) → IsStep (span_of piece) (right_of q (k + 1)) (right_of q k) arc.back
   pub up : (l r : ℤ) (k : ℕ) → IsStep (span_of piece) (right_of (centre l r) k) (right_of (centre l (r +ℤ pos 1)) k) arc.up
   pub misses : arc.touches ≡ false → MissesCentres (span_of piece)
 

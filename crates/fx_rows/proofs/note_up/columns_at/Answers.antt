@@ -1,4 +1,4 @@
-use Rattle.std.proofs.Common.{◌≡◌, pos, ◌+ℤ◌, ◌*ℤ◌, ◌<ℤ◌, ◌≤ℤ◌, ℤ, ap, sym, ◌∙◌, inl, inr, ◌⊎◌, arith, w32, to_z, of_z}
+use Rattle.std.proofs.Common.{◌≡◌, pos, ◌+ℤ◌, ◌*ℤ◌, ◌<ℤ◌, ◌≤ℤ◌, ℤ, ap, sym, ◌∙◌, inl, inr, arith, w32, to_z, of_z}
 use Rattle.fx_fixed.proofs.Linear.{signed, signed_linear}
 use Rattle.fx_fixed.proofs.Order.{below_or_not_ℤ}
 use Rattle.fx_rows.proofs.Boxed.{first_near}
@@ -6,11 +6,7 @@ use Rattle.fx_rows.proofs.note_up.columns_at.Goals as goal
 
 -- what is not right of a place and not at it is left of it
 left_of : (x y : ℤ) → x ≤ℤ y → ¬ (y ≡ x) → x <ℤ y
-left_of x y l n = by (below_or_not_ℤ x y)
-  where
-    by : (x <ℤ y) ⊎ (y ≤ℤ x) → x <ℤ y
-    by (inl h) = h
-    by (inr h) = absurd (n (omega (arith, signed_linear, l, h)))
+left_of x y l n = elim (below_or_not_ℤ x y) [ inl h ↦ h | inr h ↦ absurd (n (omega (arith, signed_linear, l, h))) ]
 
 within : (c : goal.After-first_from-col)
     → (c.args.frame.left ≤ℤ c.first_from-col.result) × (c.first_from-col.result ≤ℤ (c.args.frame.left +ℤ pos c.args.frame.width))

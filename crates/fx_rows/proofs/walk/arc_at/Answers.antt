@@ -1,8 +1,7 @@
-use Rattle.std.proofs.Common.{◌+◌, pos, ◌+ℤ◌, arith}
+use Rattle.std.proofs.Common.{pos, ◌+ℤ◌, arith}
 use Rattle.fx_fixed.proofs.Linear.{signed}
 use Rattle.fx_winding.specs.Winding.{span_of}
-use Rattle.fx_rows.specs.inner.Walks.{right_of}
-use Rattle.fx_rows.proofs.Walks.{sided, step_next, step_back, step_up, column_place}
+use Rattle.fx_rows.proofs.Walks.{sided, step_next, step_up, column_place}
 use Rattle.fx_rows.proofs.walk.arc_at.Goals as goal
 
 pub returns : goal.returns
@@ -10,22 +9,18 @@ returns c =
     let s = c.args.piece.now in
     let near = c.requires.near in
     let across = c.across_of.ensures in
-    let next = step_next s c.args.b c.across_of.result c.turned_areas-next.result c.requires.middle across.u across.v across.w
-    c.turned_areas-next.ensures in
-    let back = c.reversed.ensures in
     let up = c.up_of.ensures in
     record {
       arc = record {
         bent = c.requires.bent;
         turned = c.requires.right;
-        next = next;
-        back = λ q k. step_back (span_of s) (right_of q k) (right_of q (k + 1)) c.turned_areas-next.result c.reversed.result
-            (next q k) back.u back.v back.w;
-        up = step_up s c.args.b c.up_of.result c.turned_areas.result c.requires.middle up.u up.v up.w c.turned_areas.ensures;
+        next = step_next s c.args.b c.across_of.result c.turned_areas.result c.requires.middle across.u across.v across.w
+            c.turned_areas.ensures;
+        up = step_up s c.args.b c.up_of.result c.turned_areas-2.result c.requires.middle up.u up.v up.w c.turned_areas-2.ensures;
         misses = c.may_touch.ensures (span_of s) (c.args.strip.base +ℤ pos c.args.k) c.args.strip.row c.requires.areas;
       };
       spot = record {
-        areas = sided (span_of s) _ _ c.args.areas c.turned_areas-2.result c.requires.areas c.turned_areas-2.ensures
+        areas = sided (span_of s) _ _ c.args.areas c.turned_areas-3.result c.requires.areas c.turned_areas-3.ensures
             (column_place c.args.strip c.args.k);
         near = omega (arith, signed, near);
       };

@@ -22,4 +22,5 @@ on_column-requires-2-clause-only c = grind (arith, c.requires.only, c.if-not-arc
 
 pub beside-last-requires-clause-step : goal.beside-last-requires-clause-step
 beside-last-requires-clause-step c =
-    step_before (span_of c.args.piece.now) _ c.args.end.k c.args.arc.back (omega arith) c.requires.arc.back
+    step_before (span_of c.args.piece.now) _ c.args.end.k c.args.arc.next c.reversed.result (omega arith) c.requires.arc.next
+    c.reversed.ensures.u c.reversed.ensures.v c.reversed.ensures.w

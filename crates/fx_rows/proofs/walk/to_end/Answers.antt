@@ -43,8 +43,8 @@ left-init c = record {
 }
 
 pub beside-left-requires-clause-step : goal.beside-left-requires-clause-step
-beside-left-requires-clause-step c = step_before (span_of c.args.piece.now) (place_at c.args.strip 0) c.left.here.k c.args.arc.back
-    (omega arith) c.requires.arc.back
+beside-left-requires-clause-step c = step_before (span_of c.args.piece.now) (place_at c.args.strip 0) c.left.here.k c.args.arc.next
+    c.reversed.result (omega arith) c.requires.arc.next c.reversed.ensures.u c.reversed.ensures.v c.reversed.ensures.w
 
 pub returns-then-counts-clause-end : goal.returns-then-counts-clause-end
 returns-then-counts-clause-end c =
