@@ -13,30 +13,11 @@ row_of-requires g c = grind (arith, c.rows.invariant.added.frame, c.requires.row
 
 pub cut-cut-requires-clause-inner : goal.cut-cut-requires-clause-inner
 cut-cut-requires-clause-inner g c =
-    grind (
-      arith,
-      c.row_of.ensures.near,
-      c.strip_of-strip.ensures.row,
-      c.row_of.ensures.value,
-      c.rows.invariant.added.frame,
-      c.requires.inner,
-      strip_row,
-      inner_row,
-    )
+    grind (arith, c.row_of.ensures, c.strip_of-strip.ensures, c.rows.invariant, c.requires.inner, strip_row, inner_row)
 
 pub cut-cut-requires-clause-at : goal.cut-cut-requires-clause-at
 cut-cut-requires-clause-at g c =
-    grind (
-      arith,
-      c.row_of.ensures.near,
-      c.strip_of-strip.ensures.row,
-      c.row_of.ensures.value,
-      c.rows.invariant.added.frame,
-      c.strip_of-strip.ensures.base,
-      c.rows.invariant.at,
-      strip_row,
-      at_base,
-    )
+    grind (arith, c.row_of.ensures, c.strip_of-strip.ensures, c.rows.invariant, strip_row, at_base)
 
 pub add_cut-requires-clause-up : goal.add_cut-requires-clause-up
 add_cut-requires-clause-up g c = grind (arith, c.rows.invariant.added.frame, c.requires.rows, row_in)

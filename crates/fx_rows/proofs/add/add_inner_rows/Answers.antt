@@ -21,11 +21,4 @@ add_cuts-requires-in-Some-clause-at g c =
 
 pub add_line_rows-requires-clause-base : goal.add_line_rows-requires-clause-base
 add_line_rows-requires-clause-base g c =
-    grind (
-      arith,
-      c.row_of.ensures.near,
-      c.strip_of-strip.ensures.row,
-      c.row_of.ensures.value,
-      c.strip_of-strip.ensures.base,
-      strip_row,
-    )
+    grind (arith, c.row_of.ensures, c.strip_of-strip.ensures, strip_row)

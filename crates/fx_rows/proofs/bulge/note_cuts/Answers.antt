@@ -24,16 +24,7 @@ cut-cut-requires-clause-inner g c =
 
 pub cut-cut-requires-clause-at : goal.cut-cut-requires-clause-at
 cut-cut-requires-clause-at g c =
-    grind (
-      arith,
-      c.row_of-row.ensures.near,
-      c.strip_of-strip.ensures.row,
-      c.row_of-row.ensures.value,
-      c.strip_of-strip.ensures.base,
-      c.rows.invariant.at,
-      strip_row,
-      at_base,
-    )
+    grind (arith, c.row_of-row.ensures, c.strip_of-strip.ensures, c.rows.invariant, strip_row, at_base)
 
 pub set_segment-requires-clause-room : goal.set_segment-requires-clause-room
 set_segment-requires-clause-room g c = grind (arith, c.requires.room, c.requires.rows)

@@ -53,12 +53,12 @@ pub returns-clause-only : goal.returns-clause-only
 returns-clause-only c =
     grind (
       arith,
-      c.note_run.ensures.only,
-      c.note_run-2.ensures.only,
-      c.note_end.ensures.only,
-      c.note_end-2.ensures.only,
-      c.note_tip.ensures.only,
-      c.note_first.ensures.only,
-      c.note_last.ensures.only,
+      c.note_run.ensures,
+      c.note_run-2.ensures,
+      c.note_end.ensures,
+      c.note_end-2.ensures,
+      c.note_tip.ensures,
+      c.note_first.ensures,
+      c.note_last.ensures,
       only_both,
     )

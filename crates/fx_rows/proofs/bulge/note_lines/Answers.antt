@@ -52,9 +52,9 @@ pub returns-clause-only : goal.returns-clause-only
 returns-clause-only c =
     grind (
       arith,
-      c.bounds_of-bounded.ensures.piece,
-      c.note_met_lines-2.ensures.only,
-      c.note_passed_lines.ensures.only,
-      c.note_met_lines-3.ensures.only,
+      c.bounds_of-bounded.ensures,
+      c.note_met_lines-2.ensures,
+      c.note_passed_lines.ensures,
+      c.note_met_lines-3.ensures,
       only_both,
     )

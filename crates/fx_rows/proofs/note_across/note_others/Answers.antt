@@ -48,9 +48,9 @@ returns-clause-only c =
     grind (
       arith,
       c.words_noted-row.ensures,
-      c.bounds_of-bounded.ensures.piece,
-      c.note_met_lines.ensures.only,
-      c.note_met_lines-2.ensures.only,
+      c.bounds_of-bounded.ensures,
+      c.note_met_lines.ensures,
+      c.note_met_lines-2.ensures,
       only_both,
     )
 

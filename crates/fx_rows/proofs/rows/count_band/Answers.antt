@@ -111,15 +111,7 @@ returns-clause-frame g c = c.pieces.invariant.frame
 
 pub returns-clause-counted : goal.returns-clause-counted
 returns-clause-counted g c =
-    grind (
-      arith,
-      signed_linear,
-      c.pieces.invariant.rest,
-      c.pieces.invariant.unused,
-      c.pieces.invariant.counted,
-      length-map,
-      counted_all,
-    )
+    grind (arith, signed_linear, c.pieces.invariant, length-map, counted_all)
 
 pub returns-clause-noted : goal.returns-clause-noted
 returns-clause-noted g c = grind (arith, c.pieces.invariant.noted, length-map, take_all)

@@ -22,12 +22,10 @@ pub returns-clause-clear : goal.returns-clause-clear
 returns-clause-clear g c =
     grind (
       arith,
-      c.count_band.ensures.frame,
-      c.settle.ensures.zeros,
+      c.count_band.ensures,
+      c.settle.ensures,
       c.deref_mut-3.ensures.value,
-      c.settle.ensures.others,
       c.deref_mut.ensures.value,
-      c.count_band.ensures.counted,
       below_or_not,
       with_items_is,
       past_marks,

@@ -17,7 +17,7 @@ returns-then-curve_gap-ne0-clause-on c =
     grind (
       arith,
       c.requires.only,
-      c.curve_gap.ensures.value,
+      c.curve_gap.ensures,
       c.requires.slanted,
       c.requires.at.areas,
       c.if-curve_gap-ne0.true,

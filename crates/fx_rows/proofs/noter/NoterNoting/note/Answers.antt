@@ -22,10 +22,8 @@ returns-in_default-clause-kept c x lasts old =
       says_more,
       lasts,
       old,
-      c.note_all_across.ensures.kept,
-      c.note_all_across.ensures.only,
-      c.note_all_up.ensures.kept,
-      c.note_all_up.ensures.only,
+      c.note_all_across.ensures,
+      c.note_all_up.ensures,
       c.deref_mut.ensures.value,
       c.deref_mut-in_default.ensures.value,
       with_items_is,
@@ -71,16 +69,7 @@ note_up-requires-clause-told c =
 -- those with no column in their box
 pub returns-then-across-clause-kept : goal.returns-then-across-clause-kept
 returns-then-across-clause-kept c x lasts old =
-    grind (
-      arith,
-      says_more,
-      lasts,
-      old,
-      c.note_across.ensures.kept,
-      c.note_across.ensures.only,
-      c.deref_mut-2.ensures.value,
-      with_items_is,
-    )
+    grind (arith, says_more, lasts, old, c.note_across.ensures, c.deref_mut-2.ensures.value, with_items_is)
 
 pub returns-then-across-clause-noted : goal.returns-then-across-clause-noted
 returns-then-across-clause-noted c =
@@ -103,10 +92,8 @@ returns-then-is_bulge-clause-kept c x lasts old =
       says_more,
       lasts,
       old,
-      c.note_across.ensures.kept,
-      c.note_across.ensures.only,
-      c.note_all_up-then-is_bulge.ensures.kept,
-      c.note_all_up-then-is_bulge.ensures.only,
+      c.note_across.ensures,
+      c.note_all_up-then-is_bulge.ensures,
       c.deref_mut-2.ensures.value,
       c.deref_mut-then-is_bulge.ensures.value,
       with_items_is,
@@ -137,10 +124,8 @@ returns-clause-kept c x lasts old =
       says_more,
       lasts,
       old,
-      c.note_across.ensures.kept,
-      c.note_across.ensures.only,
-      c.note_up.ensures.kept,
-      c.note_up.ensures.only,
+      c.note_across.ensures,
+      c.note_up.ensures,
       c.deref_mut-2.ensures.value,
       c.deref_mut-3.ensures.value,
       with_items_is,
