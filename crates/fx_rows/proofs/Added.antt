@@ -1,16 +1,17 @@
 -- What a piece adds to a row tells which of its segments it meets.
 -- Serves `meets_to` and `note_tip`.
-use Rattle.std.proofs.Common.{◌≡◌, ℕ, ◌<◌, ℤ, pos, ◌+ℤ◌, ◌-ℤ◌, Option, Some, None, arith}
+use Rattle.std.proofs.Common.{◌≡◌, ◌⊎◌, inl, inr, ℕ, ◌<◌, ◌<ℤ◌, ◌≤ℤ◌, ℤ, pos, ◌+ℤ◌, ◌-ℤ◌, Option, Some, None, arith}
 use Rattle.std.proofs.Common.{w64, of_z}
 use Rattle.fx_fixed.proofs.Linear.{signed_linear}
+use Rattle.fx_fixed.proofs.Order.{below_or_not_ℤ}
 use Rattle.fx_winding.specs.Area.{Place}
 use Rattle.fx_winding.specs.Frames.{IsFrom}
-use Rattle.fx_winding.specs.Meets.{turn, IsTipPart, IsReached}
+use Rattle.fx_winding.specs.Meets.{turn, IsTipPart}
 use Rattle.fx_winding.specs.Winding.{Span, region_part, centre}
 use Rattle.fx_winding.specs.declared.frame.Frame.{Frame}
 use Rattle.fx_rows.specs.Parts.{IsRowPart}
 use Rattle.fx_rows.specs.declared.part.RowPart.{RowPart}
-use Rattle.fx_rows.specs.inner.Points.{IsInner}
+use Rattle.fx_rows.specs.inner.Points.{IsRise}
 use Rattle.fx_rows.specs.inner.Sums.{value_at}
 use Rattle.fx_fixed.specs.Ranges.{IsWithin}
 use Rattle.fx_rows.proofs.Counted.{run_at}
@@ -31,13 +32,17 @@ left_in f k o l = (omega (arith, signed_linear, o), omega (arith, signed_linear,
 pub right_in : (f : Frame) (k : ℕ) → k < f.width → IsFrom f.left f.width (f.left +ℤ pos k)
 right_in f k l = (omega (arith, signed_linear), omega (arith, signed_linear, l))
 
--- a row strictly between the ends of an arc has no tip
-reached_not_inner : (a b c y : ℤ) → IsInner a c y → ¬ (IsReached a b c y)
-reached_not_inner a b c y i r = omega (arith, signed_linear, i, r)
+-- the row of a tip is above both ends of the arc, or below both
+tip_beyond : (a : Place) (b : Option Place) (c p q : Place) → IsTipPart a b c p q
+    → ((a.y <ℤ p.y) × (c.y <ℤ p.y)) ⊎ ((p.y <ℤ a.y) × (p.y <ℤ c.y))
+tip_beyond a None c p q t = absurd t
+tip_beyond a (Some b) c p q t = elim t.reached [ inl h ↦ inl (h.0, h.1) | inr h ↦ inr (h.0, h.1) ]
 
-pub inner_no_tip : (a : Place) (b : Option Place) (c p q : Place) → IsInner a.y c.y p.y → ¬ (IsTipPart a b c p q)
-inner_no_tip a None c p q h t = t
-inner_no_tip a (Some b) c p q h t = reached_not_inner a.y b.y c.y p.y h t.reached
+pub among_no_tip : (s : Span) (foot head value : ℤ) (p q : Place) → IsRise s foot head value → foot ≤ℤ p.y → p.y ≤ℤ head
+    → ¬ (IsTipPart s.a s.b s.c p q)
+among_no_tip s foot head value p q rise low high tip =
+    let beyond = tip_beyond s.a s.b s.c p q tip in
+    grind (arith, signed_linear, rise, low, high, beyond, below_or_not_ℤ s.a.y s.c.y)
 
 -- a tip comes after a place that is not in the region
 pub tip_outside : (a : Place) (b : Option Place) (c p q : Place) → IsTipPart a b c p q → region_part a b c p ≡ pos 0

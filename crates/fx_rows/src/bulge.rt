@@ -122,7 +122,7 @@ pub(crate) fn note_line(bounded: &Bounded, line: NotedRow, bits: &mut [u32], tal
     note_run(piece, &part, line, part.region, bits, tally);
     note_end(piece, &part, line, piece.a, bits, tally);
     note_end(piece, &part, line, piece.c, bits, tally);
-    note_tip(piece, &part, line, bits, tally);
+    note_tip(piece, bounded.rise, &part, line, bits, tally);
     note_first(piece, bounded.across, line, bits, tally);
     note_last(piece, bounded.across, line, bits, tally);
 }

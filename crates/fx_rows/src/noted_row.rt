@@ -7,18 +7,19 @@ ghost use Rattle.fx_winding.specs.Limits.{IsPixelNumber};
 ghost use Rattle.fx_winding.specs.Meets.{turn, IsTipPart, IsWithinRow};
 ghost use Rattle.fx_winding.specs.Winding.{Span, IsOn, place_of, span_of};
 ghost use Rattle.fx_rows.specs.Parts.{IsRowPart};
-ghost use Rattle.fx_rows.specs.inner.Points.{AreAcross};
+ghost use Rattle.fx_rows.specs.inner.Points.{AreAcross, IsRise};
 ghost use Rattle.fx_rows.specs.inner.Lines.{left_at, right_at, AreOnly, IsLineBit, IsMetTo, IsRunEnd, IsSetTo};
 ghost use Rattle.fx_rows.specs.inner.Sums.{IsInside};
 ghost use Rattle.fx_rows.specs.inner.Told.{AreKept};
 
 use crate::across::Across;
+use crate::bounded::Rise;
 use crate::note_across::column_from;
 use crate::part::{RowPart, Run};
 use crate::reach::columns_under;
 use crate::strip::strip_of;
 use crate::tip::tip_column;
-use crate::turns::{is_between_ends, run_at, turn_in};
+use crate::turns::{is_among, is_between_ends, run_at, turn_in};
 use fx_winding::{Frame, Piece, Point, Tally, centre_of, meets, set_bit};
 
 /// A row of a frame, and where its segments have their bits: that to the frame's first column at `first`, and each further one
@@ -243,14 +244,16 @@ fn note_outside(
     note_segment(piece, part, line, k, bits, tally);
 }
 
-/// Notes the segment within which the tip of an arc is. There is none in a row between the ends of the arc.
+/// Notes the segment within which the tip of an arc is. There is none in a row between the ends of the arc, or at one.
 pub(crate) fn note_tip(
     piece: &Piece,
+    rise: Rise,
     part: &RowPart,
     line: NotedRow,
     bits: &mut [u32],
     tally: &mut Tally,
 )
+    requires rise { IsRise (span_of piece.now) rise.foot rise.head rise.value }
     requires part { IsRowPart (span_of piece.now) line.row line.frame part.now }
     requires room { line.first + line.frame.width * line.step < 32 * length bits.old }
     ensures noted { (k : ℕ) → 0 < k → k < line.frame.width →
@@ -261,7 +264,7 @@ pub(crate) fn note_tip(
     ensures only { AreOnly (IsLineBit (span_of piece.now) line.frame line.row line.first line.step) bits.old bits.new }
     ensures count { tally.new.count ≤ tally.old.count + 5 }
 {
-    if is_between_ends(piece, line.row) {
+    if is_among(rise, line.row) {
         return;
     }
     if let Some(b) = piece.b {

@@ -1,10 +1,11 @@
 //! What a piece adds to the winding number at the columns of a row, as what it adds to the row tells it.
 
-ghost use Rattle.std.specs.Prelude.{◌≡◌, pos, ◌+ℤ◌, ◌*ℤ◌, IsTrue};
+ghost use Rattle.std.specs.Prelude.{◌≡◌, pos, ◌+ℤ◌, ◌*ℤ◌, ◌≤ℤ◌, IsTrue};
 ghost use Rattle.fx_winding.specs.Limits.{IsPixelNumber};
 ghost use Rattle.fx_rows.specs.inner.Points.{IsInner};
 ghost use Rattle.fx_rows.specs.inner.Sums.{value_at};
 
+use crate::bounded::Rise;
 use crate::part::{RowPart, Run};
 use fx_winding::Piece;
 
@@ -44,4 +45,17 @@ pub(crate) fn is_between_ends(piece: &Piece, row: i32) -> bool
         return y < piece.a.y;
     }
     false
+}
+
+/// Whether the centres of a row are between the ends of a chord, or at the height of one.
+#[tactic(auto, using(fx_fixed::proofs::Linear::signed, fx_fixed::proofs::Linear::signed_linear))]
+pub(crate) fn is_among(rise: Rise, row: i32) -> bool
+    requires { IsPixelNumber row }
+    ensures { IsTrue result → (rise.foot ≤ℤ (pos 128 *ℤ row +ℤ pos 64)) × ((pos 128 *ℤ row +ℤ pos 64) ≤ℤ rise.head) }
+{
+    let y = 128 * row + 64;
+    if y < rise.foot {
+        return false;
+    }
+    y <= rise.head
 }

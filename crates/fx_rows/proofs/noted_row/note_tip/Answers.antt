@@ -1,9 +1,9 @@
 use Rattle.std.proofs.Common.{◌≡◌, ◌∙◌, ◌+◌, ◌-◌, ◌+ℤ◌, ◌-ℤ◌, ◌<◌, ℕ, pos, subst, sym, arith, w32, to_z, of_z}
-use Rattle.fx_fixed.proofs.Linear.{signed_linear}
+use Rattle.fx_fixed.proofs.Linear.{signed, signed_linear}
 use Rattle.fx_winding.specs.Meets.{IsTipPart}
 use Rattle.fx_winding.specs.Winding.{span_of, centre}
 use Rattle.fx_rows.specs.inner.Lines.{left_at, right_at, IsSetTo}
-use Rattle.fx_rows.proofs.Added.{inner_no_tip}
+use Rattle.fx_rows.proofs.Added.{among_no_tip}
 use Rattle.fx_rows.specs.inner.Sides.{place_at}
 use Rattle.fx_rows.proofs.noted_row.note_tip.Goals as goal
 
@@ -26,6 +26,11 @@ returns-in-Some-clause-noted c = λ k o l tip.
     subst (λ (n : ℕ). 0 < n → n < f.width → IsTipPart p.a p.b p.c (left_at f line.row n) (right_at f line.row n)
     → IsSetTo p f line.row line.first line.step c.note_outside.new.bits n) e c.note_outside.ensures.noted o l tip
 
-pub returns-then-is_between_ends-clause-noted : goal.returns-then-is_between_ends-clause-noted
-returns-then-is_between_ends-clause-noted c =
-    grind (arith, signed_linear, c.is_between_ends.ensures, c.if-is_between_ends.true, inner_no_tip)
+pub returns-then-is_among-clause-noted : goal.returns-then-is_among-clause-noted
+returns-then-is_among-clause-noted c = λ k o l tip.
+    let line = c.args.line in
+    let r = c.args.rise in
+    let is = c.is_among.ensures c.if-is_among.true in
+    absurd (among_no_tip (span_of c.args.piece.now) r.foot r.head r.value (left_at line.frame line.row k)
+    (right_at line.frame line.row k) c.requires.rise (omega (arith, signed, is, line.row_near))
+    (omega (arith, signed, is, line.row_near)) tip)
