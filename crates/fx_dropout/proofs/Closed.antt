@@ -146,13 +146,8 @@ row_rest closing f ss across up old new given r n h w l =
         (λ k. row_bit across (r * words_noted f.width) (words_noted f.width) k)
         (λ k. IsNextIn closing ss f false (f.left +ℤ pos k) (f.bottom +ℤ pos r)) m → ⊥
     by zero e o = omega (arith, e, w, l)
-    by (suc m) e (o, next) = each (below_or_not f.width (suc m))
-      where
-        each : (f.width < suc m) ⊎ (suc m ≤ f.width) → ⊥
-        each (inl a) = let x = o.noted_is in let y = after (suc m) a in omega (arith, x, y)
-        each (inr a) =
-            let i = next.1.column in
-            omega (arith, signed_linear, i, a, e, w)
+    by (suc m) e (o, next) =
+        grind (arith, signed_linear, e, w, o.noted_is, next.1.column, after (suc m), below_or_not f.width (suc m))
 
 -- ---- the columns
 -- outside the frame no row sets a pixel
@@ -272,13 +267,13 @@ closed_pixels closing f ss across up old new given outside i j inside =
     let r = steps f.bottom j in
     let l = steps_below f.left f.width i inside.column in
     let h = steps_below f.bottom f.height j inside.row in
-    let bit = pixel_bit f new r k h l in
-    let is = column_closed closing f ss across up old new given outside r k h l in
-    let at : IsTrue (bit_of (record { frame = f; rows = rows_of f.height f.width new }) (f.left +ℤ pos k) (f.bottom +ℤ pos r))
-    ↔ IsSet closing ss f (f.left +ℤ pos k) (f.bottom +ℤ pos r) = (λ t. is.0 (bit.0 t), λ c. bit.1 (is.1 c)) in
-    subst (λ (z : ℤ × ℤ). IsTrue (bit_of (record { frame = f; rows = rows_of f.height f.width new }) z.0 z.1)
-    ↔ IsSet closing ss f z.0 z.1)
-    (λ t. (steps_back f.left f.width i inside.column t, steps_back f.bottom f.height j inside.row t)) at
+    grind (
+      arith,
+      pixel_bit f new r k h l,
+      column_closed closing f ss across up old new given outside r k h l,
+      steps_back f.left f.width i inside.column,
+      steps_back f.bottom f.height j inside.row,
+    )
 
 -- ---- for `close_gaps`
 -- a list that was lent whole and came back

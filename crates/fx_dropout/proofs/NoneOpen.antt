@@ -11,7 +11,7 @@ use Rattle.fx_fixed.proofs.Order.{below_or_not}
 use Rattle.fx_winding.specs.declared.frame.Frame.{Frame}
 use Rattle.fx_winding.specs.Bitmaps.{AreWords, words_for, word_bit}
 use Rattle.fx_winding.specs.Notes.{words_noted}
-use Rattle.fx_dropout.specs.inner.Closing.{IsOpen, IsOpenAt, IsReached, IsClosedBit, AreClosedWords, AreNoneOpen, bit_in, row_bit}
+use Rattle.fx_dropout.specs.inner.Closing.{IsOpen, IsOpenAt, IsClosedBit, AreClosedWords, AreNoneOpen, bit_in, row_bit}
 use Rattle.fx_dropout.proofs.Parts.{part_bit, past_part, unused_bit}
 use Rattle.fx_dropout.proofs.Rows.{bit_of_row}
 
@@ -31,16 +31,8 @@ open_back P Q (suc n) o = o
 
 -- where no segment is open, each pixel kept_as_is as it is
 kept_as_is : (P Q : ℕ → ℕ) (Next : ℕ → Type 0) (n : ℕ) → ((k : ℕ) → k ≤ suc n → ¬ (IsOpenAt P Q k)) → IsClosedBit P Q Next n (P n)
-kept_as_is P Q Next n none = (λ e. inl e, back)
-  where
-    reached : (m : ℕ) → m ≡ n → IsReached P Q Next m → ⊥
-    reached zero e o = none 0 (omega arith) o
-    reached (suc m) e o = none (suc m) (omega (arith, e)) o.0
-
-    back : (P n ≡ 1) ⊎ ((IsOpenAt P Q (suc n) × ¬ (Next n)) ⊎ IsReached P Q Next n) → P n ≡ 1
-    back (inl e) = e
-    back (inr (inl o)) = absurd (none (suc n) (omega arith) o.0)
-    back (inr (inr h)) = absurd (reached n refl h)
+kept_as_is P Q Next zero none = grind (arith, none 0, none 1)
+kept_as_is P Q Next (suc n) none = grind (arith, none (suc n), none (suc (suc n)))
 
 pub none_closed : (IsNext : Bool → ℤ → ℤ → Type 0) (f : Frame) (across up words : List ℕ) → AreNoneOpen f across up words
     → AreClosedWords IsNext f across up words words
@@ -90,16 +82,16 @@ across_more noted words w gaps before left g old first inner gap = record {
         ∙ ap (before_of (λ k. word_bit words k)) n
 
     at : g ≡ 0 → (c : ℕ) → c < 32 → ¬ (IsOpenAt (λ k. word_bit words k) (λ k. word_bit noted k) (32 * w + c))
-    at z c l o =
-        let is = open_at (λ k. word_bit words k) (λ k. word_bit noted k) (32 * w + c) o in
-        let a = bit_of_row noted w c l in
-        let b = left_is c l in
-        let d = bit_of_row words w c l in
-        let here : IsOpen (bit_at (get_or noted w 0) (31 - c)) (bit_at left (31 - c)) (bit_at (get_or words w 0) (31 - c)) =
-        record { noted_is = a ∙ is.noted_is; here_is = b ∙ is.here_is; next_is = d ∙ is.next_is } in
-        let one = (gap (31 - c) (omega arith)).1 here in
-        let none = ap (λ v. bit_at v (31 - c)) z ∙ bit_at-zero (31 - c) in
-        omega (arith, one, none)
+    at z c l o = grind (
+      arith,
+      z,
+      open_at (λ k. word_bit words k) (λ k. word_bit noted k) (32 * w + c) o,
+      bit_of_row noted w c l,
+      left_is c l,
+      bit_of_row words w c l,
+      gap (31 - c),
+      bit_at-zero (31 - c),
+    )
 
     by : bit_or gaps g ≡ 0 → (n : ℕ) → n < 32 * (w + 1) → (n < 32 * w) ⊎ (32 * w ≤ n)
         → ¬ (IsOpenAt (λ k. word_bit words k) (λ k. word_bit noted k) n)
@@ -174,11 +166,14 @@ none_open f across up words flat = record { rows = λ r n h. row r n h (below_or
         → ¬ (IsOpenAt (λ k. row_bit words (r * size) size k) (λ k. row_bit across (r * words_noted f.width)
         (words_noted f.width) k) n)
     row r n h (inr l) o =
-        let same = flat.same in
-        let is = (open_at (λ k. row_bit words (r * size) size k)
-        (λ k. row_bit across (r * words_noted f.width) (words_noted f.width) k) n o).noted_is in
-        let none = past_part across (r * words_noted f.width) (words_noted f.width) n (omega (arith, l, same)) in
-        omega (arith, is, none)
+        grind (
+          arith,
+          l,
+          flat.same,
+          open_at (λ k. row_bit words (r * size) size k)
+              (λ k. row_bit across (r * words_noted f.width) (words_noted f.width) k) n o,
+          past_part across (r * words_noted f.width) (words_noted f.width) n,
+        )
     row r n h (inl l) o =
         let same = flat.same in
         let is = open_at (λ k. row_bit words (r * size) size k)
@@ -199,11 +194,7 @@ none_open f across up words flat = record { rows = λ r n h. row r n h (below_or
 
     column : (r w i : ℕ) → r ≤ f.height → w < size → i < 32
         → ¬ (IsOpenAt (λ k. bit_in words (k * size + w) i) (λ k. bit_in up (k * words_noted f.width + w) i) r)
-    column zero w i h l m o =
-        let a : 0 * words_noted f.width + w ≡ 0 + w = omega arith in
-        let b : 0 * size + w ≡ 0 + w = omega arith in
-        let next : bit_in words (0 + w) i ≡ 0 = (λ t. bit_in words (sym b t) i) ∙ o.next_is in
-        flat.first w i l m (record { noted_is = (λ t. bit_in up (sym a t) i) ∙ o.noted_is; here_is = next; next_is = next })
+    column zero w i h l m o = grind (arith, o, flat.first w i l m)
     column (suc r) w i h l m o = by (below_or_not (suc r) f.height)
       where
         one : (r + 1) * size ≡ r * size + size
@@ -222,16 +213,10 @@ none_open f across up words flat = record { rows = λ r n h. row r n h (below_or
         by (inl k) =
             let most : (r + 1 + 1) * size ≤ f.height * size = mul-le-mul_right size (omega (arith, k)) in
             let two : (r + 1 + 1) * size ≡ r * size + size + size = omega arith in
-            let from : r * size + w ≡ 0 + (r * size + w) = omega arith in
-            flat.inner (r * size + w) i (omega (arith, most, two, long, l)) m (record {
-              noted_is = noted;
-              here_is = (λ t. bit_in words (sym from t) i) ∙ o.here_is;
-              next_is = (λ t. bit_in words (sym at t) i) ∙ o.next_is;
-            })
+            let inner = flat.inner (r * size + w) i (omega (arith, most, two, long, l)) m in
+            grind (arith, o, noted, at, inner)
         by (inr k) =
             let e : r + 1 ≡ f.height = omega (arith, h, k) in
             let all : length words ≡ r * size + size = long ∙ sym (ap (λ (n : ℕ). n * size) e) ∙ one in
-            let a : size + (r * size + w) ≡ size + (length words - size) + w = omega (arith, all) in
-            let b : length words - size + w ≡ r * size + w = omega (arith, all) in
-            let here : bit_in words (length words - size + w) i ≡ 0 = (λ t. bit_in words (b t) i) ∙ o.here_is in
-            flat.last w i l m (record { noted_is = (λ t. bit_in up (sym a t) i) ∙ noted; here_is = here; next_is = here })
+            let last = flat.last w i l m in
+            grind (arith, o, noted, all, last)

@@ -41,13 +41,7 @@ pub reached_in : (P Q : ℕ → ℕ) (Next : ℕ → Type 0) (w gaps nexts befor
     → (bit_at left (31 - c) ≡ 1) ↔ IsReached P Q Next (32 * w + c)
 reached_in P Q Next w gaps nexts before left gapped chosen first lf li zero l = grind (arith, gapped, chosen, first, lf, li, l)
 reached_in P Q Next w gaps nexts before left gapped chosen first lf li (suc d) l =
-    let e : 32 - suc d ≡ 31 - d = omega (arith, l) in
-    let n : suc (32 * w + d) ≡ 32 * w + suc d = omega arith in
-    let bit : bit_at left (31 - suc d) ≡ bit_at nexts (31 - d) = li (suc d) (omega arith) l ∙ ap (bit_at nexts) e in
-    let is = chosen d (omega (arith, l)) in
-    let at = gapped d (omega (arith, l)) in
-    subst (λ (z : ℕ × ℕ). (z.0 ≡ 1) ↔ IsReached P Q Next z.1) (λ t. (sym bit t, n t))
-    (λ h. (at.0 (is.0 h).0, (is.0 h).1), λ r. is.1 (at.1 r.0, r.1))
+    grind (arith, l, chosen d, gapped d, li (suc d))
 
 -- a word that is closed
 pub word_closed : (P Q : ℕ → ℕ) (Next : ℕ → Type 0) (w here gaps nexts left x : ℕ)
@@ -115,10 +109,7 @@ rows_more size row C old words part so_far fits same closed = record {
 
     by : (r : ℕ) → r < row + 1 → (r < row) ⊎ (row ≤ r) → C r (take size (drop (r * size) (put_mid (row * size) size words part)))
     by r l (inl h) = subst (C r) (sym (below r h)) (so_far.done r h)
-    by r l (inr h) =
-        let e : row ≡ r = omega (arith, l, h) in
-        subst (λ (k : ℕ). C k (take size (drop (k * size) (put_mid (row * size) size words part)))) e
-        (subst (C row) (sym here) closed)
+    by r l (inr h) = grind (arith, l, h, here, closed)
 
 pub rows_none : (size : ℕ) (C : ℕ → List ℕ → Type 0) (old : List ℕ) → RowsTo size 0 C old old
 rows_none size C old = record { long = refl; done = λ r l. absurd (omega (arith, l)); rest = refl }

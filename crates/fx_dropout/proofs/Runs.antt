@@ -14,7 +14,7 @@ use Rattle.fx_fixed.proofs.Signs.{product_at_least_zero, square_at_least_zero}
 use Rattle.fx_winding.specs.Area.{Place, area, gap_of}
 use Rattle.fx_winding.specs.Outside.{HasAll}
 use Rattle.fx_winding.specs.declared.point.Point.{Point}
-use Rattle.fx_winding.specs.Winding.{Span, IsOn, IsOnPart, areas_of, areas_of_part, crossing, chord_crossing, region, region_part, sign}
+use Rattle.fx_winding.specs.Winding.{Span, place_of, IsOn, IsOnPart, areas_of, areas_of_part, crossing, chord_crossing, region, region_part, sign}
 use Rattle.fx_winding.specs.Winding.{weight_a, weight_b, weight_c}
 use Rattle.fx_winding.proofs.Beside.{HasAll-weaker, left_off, right_off, under_off, over_off}
 use Rattle.fx_winding.proofs.Crossings.{above, crossing_number}
@@ -405,11 +405,8 @@ within_run pair k m a (Some b) c some h side gk gm n low high =
 pub coordinate_word : (x : ℤ) → IsWithin 4194304 x → to_z w32 (of_z w32 x) ≡ x
 coordinate_word x h = omega (arith, signed_linear, h)
 
-pub area_word : (x : ℤ) → IsWithin 562949953421312 x → to_z w64 (of_z w64 x) ≡ x
+pub area_word : (x : ℤ) → IsWithin 140737488355328 x → to_z w64 (of_z w64 x) ≡ x
 area_word x h = omega (arith, signed_linear, h)
-
-pub area_wider : (x : ℤ) → IsWithin 140737488355328 x → IsWithin 562949953421312 x
-area_wider x h = (omega (arith, signed_linear, h), omega (arith, signed_linear, h))
 
 -- ---- a piece to one side of all places
 none_part : (r : Place) (s : Span) → (crossing r s ≡ pos 0) × (region r s ≡ pos 0) × (¬ (IsOn r s)) → IsPart r s (Some (pos 0))
@@ -481,6 +478,8 @@ part_alone pair n s v h k low high =
     let is : n ≡ k = omega (arith, low, high) in subst (λ (m : ℕ). IsPart (place_in pair m) s v) is h
 
 -- a test whether an end is passed has failed
-pub not_passed : (x : Bool) (end p q : Point) → (IsTrue x ↔ IsPassed (to_z w32 (of_z w32 end.y)) (to_z w32 (of_z w32 p.y))
-    (to_z w32 (of_z w32 q.y))) → x ≡ false → ¬ (IsPassed end.y p.y q.y)
-not_passed x end p q h f k = grind (arith, h, f, k, clash, coordinate_word)
+pub not_passed : (x : Bool) (end p q : Point) (P Q : Place) → place_of p ≡ P → place_of q ≡ Q
+    → (IsTrue x ↔ IsPassed (to_z w32 (of_z w32 end.y)) (to_z w32 (of_z w32 p.y)) (to_z w32 (of_z w32 q.y))) → x ≡ false
+    → ¬ (IsPassed end.y P.y Q.y)
+not_passed x end p q P Q e g h f = subst (λ (z : Place × Place). ¬ (IsPassed end.y z.0.y z.1.y)) (λ i. (e i, g i))
+    (λ k. grind (arith, h, f, k, clash, coordinate_word))

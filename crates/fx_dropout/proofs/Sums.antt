@@ -69,16 +69,7 @@ summed_wider p ss k m v all h i = grind (arith, signed_linear, h, i)
 -- what is known of a place is small enough for one piece more
 pub summed_small : (p : Place) (ss : List Span) (k : ℕ) (v all : ℤ) → k ≤ 262144 → IsSummed p ss k v all
     → IsWithin 1074790400 v × IsWithin 1074790400 (v +ℤ all)
-summed_small p ss k v all l h = let few = h.few in elim h.known [
-  | inl i ↦ let near = i.1 in (
-    (omega (arith, signed_linear, l, near), omega (arith, signed_linear, l, near)),
-    (omega (arith, signed_linear, l, near, few), omega (arith, signed_linear, l, near, few)),
-  )
-  | inr i ↦ let near = i.1 in (
-    (omega (arith, signed_linear, l, near), omega (arith, signed_linear, l, near)),
-    (omega (arith, signed_linear, l, near, few), omega (arith, signed_linear, l, near, few)),
-  )
-]
+summed_small p ss k v all l h = grind (arith, signed_linear, l, h)
 
 -- all pieces
 pub covered_by : (p : Place) (ss : List Span) (v all : ℤ) → IsSummed p ss 262144 v all → ((v +ℤ all) ≢ pos 0) ↔ IsCovered p ss

@@ -1,11 +1,11 @@
-use Rattle.std.proofs.Common.{◌≡◌, ◌∙◌, ap, sym, subst, ◌<ℤ◌, ◌-ℤ◌, ℤ, w32, to_z, of_z, arith}
+use Rattle.std.proofs.Common.{◌≡◌, ◌∙◌, ap, subst, ◌<ℤ◌, ◌-ℤ◌, w32, to_z, of_z, arith}
 use Rattle.fx_fixed.specs.Ranges.{IsWithin}
 use Rattle.fx_fixed.proofs.Linear.{signed_linear}
 use Rattle.fx_winding.specs.Area.{Place}
 use Rattle.fx_winding.specs.Outside.{HasAll}
 use Rattle.fx_winding.specs.Winding.{span_of}
 use Rattle.fx_winding.proofs.Crossings.{above}
-use Rattle.fx_dropout.specs.inner.Runs.{IsPassed, place_in}
+use Rattle.fx_dropout.specs.inner.Runs.{place_in}
 use Rattle.fx_dropout.proofs.Runs.{above_part, below_part, right_part, left_part, heights_along, columns_along, not_passed, above_is, above_small}
 use Rattle.fx_dropout.proofs.beside.turn_beside.Goals as goal
 
@@ -54,13 +54,11 @@ pub returns-clause-part : goal.returns-clause-part
 returns-clause-part c = λ n low high.
     let a = c.args.pair in
     let s = c.args.piece.now in
-    let first = ap (λ (r : Place). r.y) c.place-first.ensures in
-    let last = ap (λ (r : Place). r.y) c.place-last.ensures in
     left_part a n (span_of s) _ high
     (subst (λ (q : Place). HasAll (λ e. q.x <ℤ e.x) (span_of s)) c.place-last.ensures
     (c.is_above-2.ensures c.if-not-is_above.false))
-    (λ h. not_passed c.is_passed.result s.a c.place-first.result c.place-last.result c.is_passed.ensures c.if-is_passed.false
-    (subst (λ (z : ℤ × ℤ). IsPassed s.a.y z.0 z.1) (λ i. (sym first i, sym last i)) h))
-    (λ h. not_passed c.is_passed-2.result s.c c.place-first.result c.place-last.result c.is_passed-2.ensures c.if-is_passed-2.false
-    (subst (λ (z : ℤ × ℤ). IsPassed s.c.y z.0 z.1) (λ i. (sym first i, sym last i)) h))
+    (not_passed c.is_passed.result s.a c.place-first.result c.place-last.result _ _ c.place-first.ensures c.place-last.ensures
+    c.is_passed.ensures c.if-is_passed.false)
+    (not_passed c.is_passed-2.result s.c c.place-first.result c.place-last.result _ _ c.place-first.ensures c.place-last.ensures
+    c.is_passed-2.ensures c.if-is_passed-2.false)
     (rise c).0 ((rise c).1 ∙ (λ i. up c i -ℤ down c i))
