@@ -59,15 +59,8 @@ rows-preserved c =
       columns = columns_more (words_for f.width) (words_noted f.width) row c.args.words.now c.args.up.now words up words' up'
           (λ w i k. IsNext c.args.chooser.now true (f.left +ℤ pos (32 * w + (31 - i))) (f.bottom +ℤ pos k))
           (omega arith) inv.columns
-          (λ w i h m. subst (λ (z : ℕ × ℕ × ℤ × ℤ). IsLevelClosed (bit_in words (row * z.0 + w) i)
-          (bit_in words (row * z.0 + z.0 + w) i)
-          (bit_in up (row * z.1 + z.1 + w) i) (bit_in up (row * z.1 + w) i)
-          (IsNext c.args.chooser.now true (z.2 +ℤ pos (32 * w + (31 - i))) z.3) (bit_in words' (row * z.0 + w) i)
-          (bit_in up' (row * z.1 + z.1 + w) i)) (λ t. (cnt t, st t, left t, at t)) (lv.bits w i (omega (arith, h, cnt)) m))
-          (subst (λ (z : ℕ). (k : ℕ) → (k < row * z) ⊎ (row * z + z ≤ k)
-          → get_or words' k 0 ≡ get_or words k 0) cnt lv.other_words)
-          (subst (λ (z : ℕ × ℕ). (k : ℕ) → (k < row * z.1 + z.1) ⊎ (row * z.1 + z.1 + z.0 ≤ k)
-          → get_or up' k 0 ≡ get_or up k 0) (λ t. (cnt t, st t)) lv.other_notes);
+          (λ w i h m. grind (arith, cnt, st, left, at, lv.bits w i (omega (arith, h, cnt)) m))
+          (λ k h. grind (arith, cnt, h, lv.other_words k)) (λ k h. grind (arith, cnt, st, h, lv.other_notes k));
     }
 
 pub returns-clause-bits : goal.returns-clause-bits

@@ -53,9 +53,7 @@ rows-preserved c =
     let ens = c.close_row.ensures in
     let closed : (n : ℕ) → n < 32 * p → IsClosedBit (λ k. row_bit old (r * p) p k) (λ k. row_bit across (r * s) s k)
     (λ k. IsNext c.args.chooser.now false (f.left +ℤ pos k) (f.bottom +ℤ pos r)) n (word_bit new n) =
-    λ n l. subst (λ (z : List ℕ × List ℕ × ℤ × ℤ). IsClosedBit (λ k. word_bit z.0 k) (λ k. word_bit z.1 k)
-    (λ k. IsNext c.args.chooser.now false (z.2 +ℤ pos k) z.3) n (word_bit new n)) (λ t. (row t, noted t, left t, at t))
-    (ens.bits n (omega (arith, l, count))) in
+    λ n l. grind (arith, row, noted, left, at, ens.bits n (omega (arith, l, count))) in
     record {
       rows = subst (λ (z : ℕ × ℕ). RowsTo p (r + 1) (λ r part. (n : ℕ) → n < 32 * p → IsClosedBit (λ k. row_bit old (r * p) p k)
           (λ k. row_bit across (r * s) s k) (λ k. IsNext c.args.chooser.now false (f.left +ℤ pos k) (f.bottom +ℤ pos r)) n
