@@ -5,7 +5,6 @@ ghost use Rattle.fx_winding.specs.Bitmaps.{bit_of};
 ghost use Rattle.fx_bdf.specs.Glyphs.{IsBoxed, rows_in};
 
 use crate::bounds::Bounds;
-use crate::numbers::distance;
 use crate::rows::Row;
 use crate::words::part;
 use fx_winding::{Bitmap, words_for};
@@ -41,12 +40,12 @@ impl<'a> BoxRows<'a> {
         ensures { result ≡ rows_in bounds (bit_of bitmap.now) }
     {
         let frame = bitmap.frame();
-        let top = distance(frame.bottom, bounds.bottom) + bounds.height;
+        let top = bounds.bottom.abs_diff(frame.bottom) + bounds.height;
         BoxRows {
             words: bitmap.words(),
             stride: words_for(frame.width),
             top: top as usize,
-            from: distance(frame.left, bounds.left) as usize,
+            from: bounds.left.abs_diff(frame.left) as usize,
             width: bounds.width,
             height: bounds.height,
         }

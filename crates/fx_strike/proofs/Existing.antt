@@ -1,9 +1,8 @@
 -- If a plan is due, there are glyphs of all its sketches, and so a strike exists: `strike_exists`.
 -- Serves the law that a strike exists, `see_one` and `write_one`.
-use Rattle.std.proofs.Common.{◌≡◌, ℕ, ◌≤◌, ℤ, pos, negsuc, ◌+ℤ◌, ◌<ℤ◌, Bool, not, List, [], ◌∷◌, ◌++◌, Ok, arith}
+use Rattle.std.proofs.Common.{◌≡◌, ℕ, ◌≤◌, ℤ, negsuc, Bool, not, List, [], ◌∷◌, ◌++◌, Ok, arith}
 use Rattle.std.specs.Prelude.{filter}
 use Rattle.std.specs.List.{flat_map}
-use Rattle.std.proofs.lemmas.Int.{ints}
 use Rattle.fx_fixed.specs.Chain.{map_chain}
 use Rattle.fx_cmap.specs.Lookup.{glyph_for}
 use Rattle.fx_raster.specs.Rules.{ShapeView}

@@ -15,7 +15,6 @@ use Rattle.fx_strike.specs.Strike.{Sketch, Setting, Plan, Opening, sketch_of, is
 use Rattle.fx_strike.specs.Strike.{checked_title, font_with_map, opened_after, opened_one_of, setting_in, plan_from, plan_with}
 use Rattle.fx_strike.specs.Strike.{plan_in, plan_of, Fate, sketches_in, fate_by, machineless, glyph_sketch_of, glyph_fate_of}
 use Rattle.fx_strike.specs.Strike.{fate_of, one_with, one_in, one_of, Mode, Refusal, rising, Opened, Title}
-use Rattle.fx_strike.specs.declared.fate.Fate.TheVariants.{Drawn}
 use Rattle.fx_strike.specs.Laws.{OneIsOfStrike, only_sketch}
 
 -- ---- an opened font

@@ -1,6 +1,6 @@
 -- The line of one point more, after those before it, is the lines up to that point: `lines_more`.
 -- Serves `add_points`, `add_lines`, `add_text`.
-use Rattle.std.proofs.Common.{◌≡◌, ◌∙◌, refl, sym, ap, ap₂, arith, ℕ, zero, suc, ◌+◌, ◌<◌, ◌≤◌, List, [], ◌∷◌, ◌++◌, length, take, drop}
+use Rattle.std.proofs.Common.{◌≡◌, ◌∙◌, refl, sym, ap, arith, ℕ, zero, suc, ◌+◌, ◌<◌, ◌≤◌, List, [], ◌∷◌, ◌++◌, length, take, drop}
 use Rattle.std.proofs.Common.{get_or, append_assoc, append-nil, length-append}
 use Rattle.std.specs.Fmt.{decimal, signed_decimal}
 use Rattle.fx_outline.specs.declared.points.OutlinePoint.{OutlinePoint}

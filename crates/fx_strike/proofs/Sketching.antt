@@ -1,8 +1,8 @@
 -- If each step went well, what was made of a glyph's number is the sketch that is due: `sketch_whole`.
 -- Serves `sketch_by`, `draw` and `whole_pixels`, the first pass and the laws.
-use Rattle.std.proofs.Common.{◌≡◌, ◌≤◌, ◌^◌, inl, inr, refl, sym, ap, ◌∙◌, subst, arith, ℕ, ℤ, pos, negsuc, Bool, Result, Ok, Err}
+use Rattle.std.proofs.Common.{◌≡◌, ◌≤◌, ◌^◌, refl, sym, ap, ◌∙◌, subst, arith, ℕ, ℤ, pos, negsuc, Bool, Result, Ok, Err}
 use Rattle.std.proofs.Common.{FitsSigned, w32, w64, to_z, of_z}
-use Rattle.std.specs.Prelude.{IsTrue, IfOk, IfErr, unsigned_abs}
+use Rattle.std.specs.Prelude.{IfOk, IfErr, unsigned_abs}
 use Rattle.std.proofs.lemmas.Int.{ints}
 use Rattle.fx_fixed.specs.Chain.{map_ok, map_fault}
 use Rattle.fx_fixed.specs.Numbers.{near_of}
@@ -16,7 +16,7 @@ use Rattle.fx_raster.specs.Rules.{ShapeView, shape_of}
 use Rattle.fx_raster.specs.Laws.{AreBitsOf}
 use Rattle.fx_raster.specs.Faults.{RasterFault}
 use Rattle.fx_raster.specs.Faults as raster
-use Rattle.fx_bdf.specs.Glyphs.{Box, Glyph, IsTight, IsTrimmed, glyph_bit}
+use Rattle.fx_bdf.specs.Glyphs.{Box, Glyph, IsTight, IsTrimmed}
 use Rattle.fx_request.specs.declared.refusal.Refusal.TheVariants.{OutOfMemory, WriteFailed, ReadFailed, BadHex, InputTooLarge}
 use Rattle.fx_request.specs.Faults.{of_font}
 use Rattle.fx_strike.specs.Faults.{Fails, of_hint, of_raster}

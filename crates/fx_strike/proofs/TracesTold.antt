@@ -1,6 +1,6 @@
 -- A trace that was written tells what is due, with its fault as a refusal: `refused_tells`.
 -- It serves `trace_of`.
-use Rattle.std.proofs.Common.{◌≡◌, ℕ, Bool, false, List, length, take, Option, Result, Ok, Err, refl, sym, ap, ◌∙◌, subst, arith}
+use Rattle.std.proofs.Common.{◌≡◌, ℕ, Bool, false, List, length, take, Option, Result, Ok, Err, refl, sym, ap, subst, arith}
 use Rattle.std.specs.Io.KnownBytes.{Appends}
 use Rattle.std.proofs.KnownBytes.{Appends-nil}
 use Rattle.std.proofs.lemmas.List.{take_all}

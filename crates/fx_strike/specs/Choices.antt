@@ -1,12 +1,12 @@
 -- One glyph of a font, chosen by a character or by its number.
 use Rattle.std.specs.Prelude.{ℕ, ◌==◌, if◌then◌else◌, [], ◌∷◌, Option, Some, None, Result, Ok}
-use Rattle.fx_fixed.specs.Chain.{map_ok}
+use Rattle.fx_fixed.specs.Chain.{◌>>=◌, map_ok}
 use Rattle.fx_cmap.specs.Lookup.{glyph_for}
 use Rattle.fx_cmap.specs.declared.mapping.Mapping.{Mapping}
 use Rattle.fx_request.specs.declared.request.Choice.{Choice}
 use Rattle.fx_request.specs.declared.request.Choice.TheVariants.{Character, Number}
-use Rattle.fx_strike.specs.Strike.{Opening, Sketch, checked_chars, one_of, opened_after, FontFileView, Mode, Refusal}
-use Rattle.fx_strike.specs.Numbers.{numbered_of}
+use Rattle.fx_strike.specs.Strike.{Opening, Setting, Sketch, checked_chars, one_with, opened_after, setting_in, FontFileView, Mode, Refusal}
+use Rattle.fx_strike.specs.Numbers.{numbered_with}
 
 -- its number, if the font has the character
 abbrev pub chosen_glyph : Mapping → Choice → Option ℕ
@@ -23,6 +23,13 @@ abbrev pub opened_choice_of : FontFileView → ℕ → Choice → Opening
 opened_choice_of file ppem choice = opened_after ppem (checked_choice choice) file
 
 -- its sketch, none if the font lacks the character; or the first cause
-abbrev pub choice_of : FontFileView → ℕ → Choice → Mode → Result (Option Sketch) Refusal
-choice_of file ppem (Character code) mode = one_of file ppem code mode
-choice_of file ppem (Number glyph) mode = map_ok Some (numbered_of file ppem glyph mode)
+abbrev pub choice_with : Setting → Choice → Result (Option Sketch) Refusal
+choice_with setting (Character code) = one_with setting code
+choice_with setting (Number glyph) = map_ok Some (numbered_with setting glyph)
+
+-- the same of a font file at a size
+unfoldable pub choice_of : FontFileView → ℕ → Choice → Mode → Result (Option Sketch) Refusal
+choice_of file ppem choice mode = do
+  opened ← opened_choice_of file ppem choice
+  setting ← setting_in opened mode
+  choice_with setting choice

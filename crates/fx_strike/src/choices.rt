@@ -1,17 +1,16 @@
 //! One glyph of a font, chosen by a character or by its number.
 ghost use Rattle.std.specs.Prelude.{◌≡◌, IfOk, IfErr, IsErrOf};
-ghost use Rattle.fx_strike.specs.Choices.{choice_of, chosen_glyph, opened_choice_of};
+ghost use Rattle.fx_strike.specs.Choices.{choice_of, choice_with, chosen_glyph, opened_choice_of};
 ghost use Rattle.fx_strike.specs.Headline.{IsCause, IsOneOf, Late};
-ghost use Rattle.fx_strike.specs.Numbers.{numbered_of};
-ghost use Rattle.fx_strike.specs.Strike.{opened_at, Fails};
-ghost use Rattle.fx_strike.specs.inner.Drawing.{Draws};
+ghost use Rattle.fx_strike.specs.Strike.{Fails};
+ghost use Rattle.fx_strike.specs.inner.Drawing.{Finds};
 
-use crate::one_character::one;
 use crate::open::{open_at, open_many};
 use crate::opened::Opened;
 use crate::striker::Striker;
 use fx_bdf::BitGlyph;
 use fx_cmap::CharMap;
+use fx_raster::{Rows, Scan};
 use fx_request::{Choice, Mode, Refusal};
 use fx_sfnt::FontFile;
 use std::alloc::Global;
@@ -36,28 +35,21 @@ pub fn chosen(
     // Memory is taken late: after the size and the choice are within their limits, and the font and its map opened.
     ensures late { IsErrOf result Refusal.OutOfMemory → Late (opened_choice_of font.now ppem choice) }
 {
-    match choice {
-        Choice::Character(code) => one(alloc, font, ppem, code, mode),
-        Choice::Number(glyph) => {
-            let made = numbered_one(alloc, font, ppem, glyph, mode)?;
-            Ok(Some(made))
-        }
-    }
+    let opened = open_choice(font, ppem, choice)?;
+    let mut striker = Striker::of(alloc, &Rows, opened, mode)?;
+    striker.chosen(choice)
 }
 
-/// A glyph by its number.
-fn numbered_one(
-    alloc: Global,
-    font: &FontFile<'_>,
-    ppem: u16,
-    glyph: u16,
-    mode: Mode,
-) -> Result<BitGlyph, Refusal>
-    ensures drawn { Draws (numbered_of font.now ppem glyph mode) result }
-    ensures late { IsErrOf result Refusal.OutOfMemory → Late (opened_at font.now ppem) }
-{
-    let mut striker = Striker::open(alloc, font, ppem, mode)?;
-    striker.numbered(glyph)
+impl<'a, S: Scan> Striker<'a, S> {
+    /// The glyph that is chosen; none if the font lacks the character.
+    fn chosen(&mut self, choice: Choice) -> Result<Option<BitGlyph>, Refusal>
+        ensures { Finds (choice_with self.old choice) result }
+    {
+        match choice {
+            Choice::Character(code) => self.one(code),
+            Choice::Number(glyph) => Ok(Some(self.draw(0, glyph)?)),
+        }
+    }
 }
 
 /// The number of the glyph that is chosen; none if the font lacks the character.

@@ -1,7 +1,7 @@
 //! What is gathered of the glyphs so far, for the properties of X11.
-ghost use Rattle.std.specs.Prelude.{◌≡◌, ◌*◌, ◌^◌, ◌<◌, ◌≤◌, []};
+ghost use Rattle.std.specs.Prelude.{◌≡◌, ◌*◌, ◌^◌, ◌<◌, ◌≤◌};
 ghost use Rattle.fx_bdf.specs.X11.{mean_of};
-ghost use Rattle.fx_strike.specs.inner.Gathering.{IsGatheredOf, gathered_with, summary_with};
+ghost use Rattle.fx_strike.specs.inner.Gathering.{gathered_with, summary_with};
 
 use fx_bdf::Summary;
 use fx_fixed::near;
@@ -33,19 +33,6 @@ fn mean_of(total: u64, count: u32) -> i32
 }
 
 impl Gathered {
-    /// No glyph.
-    pub(crate) fn new() -> Gathered
-        ensures { IsGatheredOf [] result }
-    {
-        Gathered {
-            total: 0,
-            first: None,
-            is_monospaced: true,
-            has_replacement: false,
-            has_space: false,
-        }
-    }
-
     /// One glyph more: its code point, and its advance in pixels.
     pub(crate) fn with(self, code: u32, dwidth: i32) -> Gathered
         requires { self.total < 2 ^ 63 }

@@ -19,7 +19,7 @@ const FIRST_BYTES: usize = MOST_BYTES / 512;
 /// A sink that keeps at most `MOST_BYTES`. It is at fault once more comes, or memory is refused, and keeps nothing from then on.
 #[derive(Drop)]
 pub(crate) struct KeptBytes {
-    bytes: Vec<u8>,
+    pub bytes: Vec<u8>,
     faults: u64,
 }
 
@@ -127,12 +127,5 @@ impl KeptText {
         if !self.bytes.is_full() {
             self.count += 1;
         }
-    }
-
-    /// The lines.
-    pub(crate) fn text(&self) -> &[u8]
-        ensures { result.now ≡ self.now.bytes.bytes.items }
-    {
-        self.bytes.bytes.as_slice()
     }
 }

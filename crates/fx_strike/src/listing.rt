@@ -2,7 +2,7 @@
 ghost use Rattle.std.specs.Prelude.{◌≡◌, ◌<◌, ◌^◌, ℕ, length, IfOk, IfErr, IsErrOf};
 ghost use Rattle.fx_fixed.specs.Chain.{map_ok};
 ghost use Rattle.fx_fixed.specs.Changes.{change_of};
-ghost use Rattle.fx_strike.specs.Listings.{program_in, program_of, code_of, IsListed, IsListedTo, IsNotListed, IsNoFault};
+ghost use Rattle.fx_strike.specs.Listings.{program_of, IsListed, IsListedTo, IsNotListed, IsNoFault};
 
 use fx_code::Code;
 use fx_fixed::Sink;
@@ -11,35 +11,7 @@ use fx_machine::FontProgram;
 use fx_request::Refusal;
 use fx_sfnt::{Font, FontFile};
 
-/// The program in a glyph's description; an empty glyph has none.
-fn code_of<'a>(glyph: &Glyph<'a>) -> &'a [u8]
-    ensures value { result.now ≡ code_of glyph.now }
-    ensures short { length result.now < 2 ^ 16 }
-{
-    match glyph {
-        Glyph::Empty => &[],
-        Glyph::Simple(simple) => simple.code(),
-        Glyph::Composite(composite) => composite.code(),
-    }
-}
-
-/// A program of a font; an absent table is an empty one.
-fn program_in<'a>(font: &Font<'a>, what: FontProgram) -> Result<&'a [u8], Refusal>
-    ensures value { map_ok (λ p. p.now) result ≡ program_in font.now what }
-    ensures short { IfOk result (λ p. length p.now < 2 ^ 32) }
-    ensures named { IfErr result IsNoFault }
-{
-    match what {
-        FontProgram::Fpgm => Ok(font.table(*b"fpgm").unwrap_or(&[])),
-        FontProgram::Prep => Ok(font.table(*b"prep").unwrap_or(&[])),
-        FontProgram::Glyph(g) => {
-            let glyph = read(font.glyph_bytes(g)?, g)?;
-            Ok(code_of(&glyph))
-        }
-    }
-}
-
-/// A program of a font file.
+/// A program of a font file; an absent table, or an empty glyph's, is an empty one.
 #[tactic(auto, unfolding(crate::specs::Listings::program_of))]
 fn program_of<'a>(font: &FontFile<'a>, what: FontProgram) -> Result<&'a [u8], Refusal>
     ensures value { map_ok (λ p. p.now) result ≡ program_of font.now what }
@@ -47,7 +19,15 @@ fn program_of<'a>(font: &FontFile<'a>, what: FontProgram) -> Result<&'a [u8], Re
     ensures named { IfErr result IsNoFault }
 {
     let font = Font::open(font)?;
-    program_in(&font, what)
+    match what {
+        FontProgram::Fpgm => Ok(font.table(*b"fpgm").unwrap_or(&[])),
+        FontProgram::Prep => Ok(font.table(*b"prep").unwrap_or(&[])),
+        FontProgram::Glyph(g) => match read(font.glyph_bytes(g)?, g)? {
+            Glyph::Empty => Ok(&[]),
+            Glyph::Simple(simple) => Ok(simple.code()),
+            Glyph::Composite(composite) => Ok(composite.code()),
+        },
+    }
 }
 
 /// Writes the listing of one of a font's programs: a line for each instruction, with its address, its opcode, its name and the

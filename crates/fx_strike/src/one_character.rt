@@ -3,11 +3,9 @@ ghost use Rattle.std.specs.Prelude.{IfOk, IfErr, IsErrOf};
 ghost use Rattle.fx_strike.specs.Strike.{opened_one_of, one_of, Fails};
 ghost use Rattle.fx_strike.specs.Headline.{IsOneOf, Late};
 
-use crate::open::open_many;
-use crate::striker::Striker;
+use crate::choices::chosen;
 use fx_bdf::BitGlyph;
-use fx_raster::Rows;
-use fx_request::{Mode, Refusal};
+use fx_request::{Choice, Mode, Refusal};
 use fx_sfnt::FontFile;
 use std::alloc::Global;
 
@@ -17,6 +15,7 @@ use std::alloc::Global;
 /// The first cause is returned, as for the strike of that one character: the size, the code point; the font's tables, its
 /// character map; with hinting on `fpgm`, then `prep`; then the character. `OutOfMemory` may be returned in place of any step
 /// after the character map, and of none before it.
+#[tactic(auto, unfolding(crate::specs::Strike::one_of, crate::specs::Strike::one_in, crate::specs::Choices::choice_of))]
 pub fn one(
     alloc: Global,
     font: &FontFile<'_>,
@@ -31,7 +30,5 @@ pub fn one(
     // Memory is taken late: after the size and the code point are within their limits, and the font and its map opened.
     ensures late { IsErrOf result Refusal.OutOfMemory → Late (opened_one_of font.now ppem code) }
 {
-    let opened = open_many(font, ppem, &[code])?;
-    let mut striker = Striker::of(alloc, &Rows, opened, mode)?;
-    striker.one(code)
+    chosen(alloc, font, ppem, Choice::Character(code), mode)
 }

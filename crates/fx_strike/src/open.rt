@@ -1,8 +1,6 @@
 //! From a request and a file to a size, a font and its character map.
 ghost use Rattle.std.specs.Prelude.{◌≡◌, nat_lt, Ok, IfErr, OnOk};
 ghost use Rattle.std.specs.List.{list_any};
-ghost use Rattle.fx_fixed.specs.Chain.{wanted};
-ghost use Rattle.fx_fixed.specs.Sizes.{ppem_of};
 ghost use Rattle.fx_strike.specs.Title.{title_of, titled};
 ghost use Rattle.fx_strike.specs.Strike.{checked_chars, checked_properties, checked_text, checked_title, font_with_map};
 ghost use Rattle.fx_strike.specs.Strike.{opened_many_of, opened_at, max_code};
@@ -26,17 +24,6 @@ fn is_past(chars: &[u32]) -> bool
         past |= MAX_CODE < *code;
     }
     past
-}
-
-/// A valid size.
-fn sized(ppem: u16) -> Result<Ppem, Refusal>
-    ensures due { result ≡ wanted (ppem_of ppem) Refusal.BadSize }
-    ensures named { IfErr result IsCause }
-{
-    match Ppem::new(ppem) {
-        Some(ppem) => Ok(ppem),
-        None => Err(Refusal::BadSize),
-    }
 }
 
 /// Whether characters are within their limits.
@@ -89,7 +76,7 @@ pub(crate) fn open<'a>(file: &FontFile<'a>, request: &Request<'_>) -> Result<Ope
     ensures passed { OnOk result (AreChars request.now.chars.now) }
     ensures title { OnOk result (IsChecked (title_of request.now)) }
 {
-    let ppem = sized(request.ppem)?;
+    let ppem = Ppem::new(request.ppem).ok_or(Refusal::BadSize)?;
     check_text(&request.title, request.chars)?;
     let (font, map) = font_with_map(file)?;
     Ok(Opened { ppem, font, map })
@@ -106,7 +93,7 @@ pub(crate) fn open_many<'a>(
     ensures named { IfErr result IsCause }
     ensures passed { OnOk result (Ok tt ≡ checked_chars chars.now) }
 {
-    let ppem = sized(ppem)?;
+    let ppem = Ppem::new(ppem).ok_or(Refusal::BadSize)?;
     check_chars(chars)?;
     let (font, map) = font_with_map(file)?;
     Ok(Opened { ppem, font, map })

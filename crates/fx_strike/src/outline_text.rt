@@ -1,6 +1,5 @@
 //! The outline of a glyph as text.
 ghost use Rattle.std.specs.Prelude.{◌≡◌, ◌+◌, ◌*◌, ◌<◌, ◌≤◌, ◌^◌, [], length, option_map, Some, OnOk, IfErr};
-ghost use Rattle.std.specs.Fmt.{signed_decimal};
 ghost use Rattle.fx_fixed.specs.Changes.{change_of};
 ghost use Rattle.fx_fixed.specs.Texts.{Adds, Fails, length_of};
 ghost use Rattle.fx_fixed.specs.Wrote.{Wrote};
@@ -58,13 +57,13 @@ fn add_outline<W: Sink>(
     }
 }
 
-/// Adds the line of an advance.
+/// Adds the line of an advance in 1/64 pixels.
 fn add_advance<W: Sink>(advance: F26, text: &mut TextWriter<'_, W>) -> Result<(), WriteFailed>
     requires { text.old.faults < 2 ^ 63 }
     ensures text { Adds Fails text.old text.new (advance_line advance) result }
     ensures short { length (advance_line advance) ≤ 29 }
 {
-    let digits = digits_of(advance);
+    let digits = Digits::signed(advance.0);
     text.add(&[b"advance ", digits.text(), b"\n"])
 }
 
@@ -130,8 +129,8 @@ fn add_point<W: Sink>(
     let contour = Digits::unsigned(contour as u64);
     let number = Digits::unsigned(number as u64);
     let word = curve_word(point.on_curve);
-    let x = digits_of(point.x);
-    let y = digits_of(point.y);
+    let x = Digits::signed(point.x.0);
+    let y = Digits::signed(point.y.0);
     text.add(&[
         contour.text(),
         b" ",
@@ -142,13 +141,6 @@ fn add_point<W: Sink>(
         y.text(),
         b"\n",
     ])
-}
-
-/// A coordinate in 1/64 pixels, in decimal.
-fn digits_of(value: F26) -> Digits
-    ensures { result ≡ signed_decimal value }
-{
-    Digits::signed(value.0)
 }
 
 /// Whether a point is on the curve, as a word.

@@ -7,7 +7,7 @@ ghost use Rattle.fx_strike.specs.Choices.{chosen_glyph, opened_choice_of};
 ghost use Rattle.fx_strike.specs.Headline.{Late};
 ghost use Rattle.fx_strike.specs.Listings.{IsNoFault};
 ghost use Rattle.fx_strike.specs.Outlines.{IsNotOutlined, IsOutlined, IsOutlinedTo, outline_numbered_of, outlined_for};
-ghost use Rattle.fx_strike.specs.Outlines.{outlined_of, outlined_with};
+ghost use Rattle.fx_strike.specs.Outlines.{outlined_of};
 ghost use Rattle.fx_strike.specs.Strike.{opened_at, Fails};
 
 use crate::choices::{chosen_glyph, open_choice};
@@ -21,21 +21,6 @@ use fx_sfnt::FontFile;
 use std::alloc::Global;
 
 impl<'a, S: Scan> Striker<'a, S> {
-    /// Makes the outline of a glyph by its number: the points that its bits are of, scaled and hinted, and its advance.
-    ///
-    /// The first cause why it cannot be made is returned, such as `BadGlyphNumber` if the font does not have it, or `OutOfMemory`.
-    /// How far out the points lie and how many pixels the glyph has is not looked at: `TooFar` and `GlyphTooLarge` are no causes.
-    pub fn outline(&mut self, glyph: u16) -> Result<GlyphOutline, Refusal>
-        // It is the outline of that glyph.
-        ensures outline { IfOk result (λ o. outlined_with self.old glyph ≡ Ok (view_of_glyph_outline o)) }
-        // The first cause was named, or memory ran out.
-        ensures cause { IfErr result (λ refusal. Fails refusal (outlined_with self.old glyph)) }
-        // Nothing of it has a part in what is made next.
-        ensures kept { self.new ≡ self.old }
-    {
-        self.outline_made(glyph)
-    }
-
     /// The outline of the glyph that is chosen; none if the font lacks the character.
     fn outline_chosen(&mut self, choice: Choice) -> Result<Option<GlyphOutline>, Refusal>
         ensures outline { GivesUnless Fails (option_map view_of_glyph_outline) result
@@ -43,7 +28,7 @@ impl<'a, S: Scan> Striker<'a, S> {
     {
         match chosen_glyph(&self.basis.opened.map, choice) {
             Some(glyph) => {
-                let outline = self.outline_made(glyph)?;
+                let outline = self.outline(glyph)?;
                 Ok(Some(outline))
             }
             None => Ok(None),
@@ -87,7 +72,7 @@ pub fn outline_numbered(
     ensures late { IsErrOf result Refusal.OutOfMemory → Late (opened_at font.now ppem) }
 {
     let mut striker = Striker::open(alloc, font, ppem, mode)?;
-    striker.outline_made(glyph)
+    striker.outline(glyph)
 }
 
 /// Writes the outline of one glyph of a font at a size: a line for each point with the number of its contour, its own number, `on`

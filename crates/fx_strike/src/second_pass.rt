@@ -149,7 +149,7 @@ impl<'a, S: Scan> Striker<'a, S> {
             → AreAllLinesOf self.old refused mapped.now lines
             → AddsMore text.old text.new (flat_map (λ t. t) lines) result }
     {
-        text.add(&[kept.text()])?;
+        text.add(&[kept.bytes.bytes.as_slice()])?;
         let (_, others) = mapped.split_at(kept.count);
         drop(kept);
         self.write_made(refused, others, text)

@@ -27,7 +27,13 @@ impl Seen {
     {
         Seen {
             bounds: Bounds::NONE,
-            gathered: Gathered::new(),
+            gathered: Gathered {
+                total: 0,
+                first: None,
+                is_monospaced: true,
+                has_replacement: false,
+                has_space: false,
+            },
             glyphs: 0,
             usage: Usage::none(),
         }

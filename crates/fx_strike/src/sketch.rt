@@ -111,10 +111,15 @@ fn sketch_by(
 }
 
 impl<'a, S: Scan> Striker<'a, S> {
-    /// The outline of a glyph.
-    pub(crate) fn outline_made(&mut self, glyph: u16) -> Result<GlyphOutline, Refusal>
-        ensures kept { self.new ≡ self.old }
+    /// Makes the outline of a glyph by its number: the points that its bits are of, scaled and hinted, and its advance.
+    ///
+    /// The first cause why it cannot be made is returned, such as `BadGlyphNumber` if the font does not have it, or `OutOfMemory`.
+    /// How far out the points lie and how many pixels the glyph has is not looked at: `TooFar` and `GlyphTooLarge` are no causes.
+    pub fn outline(&mut self, glyph: u16) -> Result<GlyphOutline, Refusal>
+        // It is the outline of that glyph; or the first cause was named, or memory ran out.
         ensures outline { GivesUnless Fails view_of_glyph_outline result (outlined_with self.old glyph) }
+        // Nothing of it has a part in what is made next.
+        ensures kept { self.new ≡ self.old }
     {
         outline_by(
             self.alloc,

@@ -2,7 +2,7 @@
 ghost use Rattle.std.specs.Prelude.{◌≡◌, ◌<◌, ◌^◌, ℕ, Ok, Err, IfOk, IfErr, IsErrOf};
 ghost use Rattle.fx_fixed.specs.Changes.{change_of};
 ghost use Rattle.fx_strike.specs.Headline.{HasToName, IsCause, Late};
-ghost use Rattle.fx_strike.specs.Traces.{IsTold, IsToldSome, IsToldTo, Tells, opening_for, refused_as, told_in, told_of};
+ghost use Rattle.fx_strike.specs.Traces.{IsTold, IsToldSome, IsToldTo, Tells, opening_for, refused_as, told_of};
 ghost use Rattle.fx_strike.specs.Traces.{trace_of};
 
 use crate::choices::chosen_glyph;
@@ -58,27 +58,6 @@ fn trace_chosen<W: Sink>(
     }
 }
 
-/// Writes the trace of an opened font.
-fn trace_in<W: Sink>(
-    alloc: Global,
-    opened: &Opened<'_>,
-    traced: Traced,
-    out: &mut W,
-) -> Result<bool, Refusal>
-    requires { W.fault_count out.old < 2 ^ 63 }
-    ensures { Tells (told_in opened.now traced) (change_of W.held W.fault_count out.old out.new) result }
-{
-    match traced {
-        Traced::Fpgm => refused_as(trace_fpgm(alloc, &opened.font, opened.ppem, out)),
-        Traced::Prep => refused_as(trace_prep(alloc, &opened.font, opened.ppem, out)),
-        Traced::Number(g) => trace_chosen(alloc, opened, Some(g), out),
-        Traced::Character(code) => {
-            let glyph = chosen_glyph(&opened.map, Choice::Character(code));
-            trace_chosen(alloc, opened, glyph, out)
-        }
-    }
-}
-
 /// The size, the font and its character map, for what is traced.
 fn open_for<'a>(file: &FontFile<'a>, ppem: u16, traced: Traced) -> Result<Opened<'a>, Refusal>
     ensures due { result ≡ opening_for file.now ppem traced }
@@ -106,7 +85,15 @@ fn trace_inner<W: Sink>(
     ensures late { IsErrOf result Refusal.OutOfMemory → Late (opening_for font.now ppem traced) }
 {
     let opened = open_for(font, ppem, traced)?;
-    trace_in(alloc, &opened, traced, out)
+    match traced {
+        Traced::Fpgm => refused_as(trace_fpgm(alloc, &opened.font, opened.ppem, out)),
+        Traced::Prep => refused_as(trace_prep(alloc, &opened.font, opened.ppem, out)),
+        Traced::Number(g) => trace_chosen(alloc, &opened, Some(g), out),
+        Traced::Character(code) => {
+            let glyph = chosen_glyph(&opened.map, Choice::Character(code));
+            trace_chosen(alloc, &opened, glyph, out)
+        }
+    }
 }
 
 /// Writes the trace of a font's programs at a size: a line when a program begins, and one for each instruction that was executed.

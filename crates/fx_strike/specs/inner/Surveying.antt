@@ -6,7 +6,6 @@ use Rattle.fx_raster.specs.declared.region.Region.{Region}
 use Rattle.fx_bdf.specs.Glyphs.{Box, Glyph, IsPlaced, no_box, joined, bounds_of}
 use Rattle.fx_bdf.specs.Properties.{AreProperties}
 use Rattle.fx_bdf.specs.Text.{IsName}
-use Rattle.fx_request.specs.declared.refusal.Refusal.TheVariants.{OutOfMemory}
 use Rattle.fx_machine.specs.Usages.{no_usage, usage_with}
 pub use Rattle.fx_strike.specs.declared.seen.Seen.{Seen}
 use Rattle.fx_strike.specs.Strike.{Sketch, Setting, Plan, Fate, IsGlyphOf, AreGlyphsOf, sketches_in, notices_in, pixels, plan_with}

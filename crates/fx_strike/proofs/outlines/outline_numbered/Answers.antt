@@ -11,7 +11,7 @@ returns-in_err-striker-clause-outline c =
 
 pub returns-clause-outline : goal.returns-clause-outline
 unfolding outline_numbered_of
-returns-clause-outline c = rw (c.in_ok-striker.ensures).setting c.outline_made.ensures.outline
+returns-clause-outline c = rw (c.in_ok-striker.ensures).setting c.outline.ensures.outline
 
 pub returns-clause-late : goal.returns-clause-late
 returns-clause-late c memory = opened_set _ _ _ _ (c.in_ok-striker.ensures).setting

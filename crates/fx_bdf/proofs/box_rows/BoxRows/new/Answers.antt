@@ -7,8 +7,8 @@ use Rattle.fx_bdf.specs.inner.BoxRows.{AreInBox, rows_held}
 use Rattle.fx_bdf.proofs.HeldRows.{LieIn, are_in_box, held_rows_are}
 use Rattle.fx_bdf.proofs.box_rows.BoxRows.new.Goals as goal
 
-lie : (c : goal.After-distance-2) → LieIn c.args.bitmap.now c.args.bounds c.words.result.now
-    (c.distance.result + c.args.bounds.height) c.distance-2.result
+lie : (c : goal.After-abs_diff-2) → LieIn c.args.bitmap.now c.args.bounds c.words.result.now
+    (c.abs_diff.result + c.args.bounds.height) c.abs_diff-2.result
 lie c =
     let f = c.frame-frame.result in
     let b = c.args.bounds in
@@ -20,24 +20,24 @@ lie c =
       rows = c.words.ensures.words;
       bits = c.words.ensures.value;
       boxed = c.requires;
-      high = ap (λ n. n + b.height) (c.distance.ensures ∙ (λ i. steps (bottom i) (low i))
+      high = ap (λ n. n + b.height) (c.abs_diff.ensures ∙ (λ i. steps (bottom i) (low i))
           ∙ ap (λ (g : Frame). steps g.bottom b.bottom) c.frame-frame.ensures.value);
-      start = c.distance-2.ensures ∙ (λ i. steps (left i) (first i))
+      start = c.abs_diff-2.ensures ∙ (λ i. steps (left i) (first i))
           ∙ ap (λ (g : Frame). steps g.left b.left) c.frame-frame.ensures.value;
     }
 
-stride : (c : goal.After-distance-2) → c.words_for.result ≡ words_for c.args.bitmap.now.frame.width
+stride : (c : goal.After-abs_diff-2) → c.words_for.result ≡ words_for c.args.bitmap.now.frame.width
 stride c = c.words_for.ensures ∙ ap (λ (f : Frame). words_for f.width) c.frame-frame.ensures.value
 
 pub invariant_of-result : goal.invariant_of-result
 invariant_of-result c =
-    subst (λ (n : ℕ). AreInBox c.words.result.now n (c.distance.result + c.args.bounds.height) c.distance-2.result
+    subst (λ (n : ℕ). AreInBox c.words.result.now n (c.abs_diff.result + c.args.bounds.height) c.abs_diff-2.result
     c.args.bounds.width c.args.bounds.height) (sym (stride c))
-    (are_in_box c.args.bitmap.now c.args.bounds c.words.result.now (c.distance.result + c.args.bounds.height) c.distance-2.result
+    (are_in_box c.args.bitmap.now c.args.bounds c.words.result.now (c.abs_diff.result + c.args.bounds.height) c.abs_diff-2.result
     (lie c))
 
 pub returns : goal.returns
 returns c =
-    let top = c.distance.result + c.args.bounds.height in
-    ap (λ (n : ℕ). rows_held c.words.result.now n top c.distance-2.result c.args.bounds.width c.args.bounds.height) (stride c)
-    ∙ held_rows_are c.args.bitmap.now c.args.bounds c.words.result.now top c.distance-2.result (lie c)
+    let top = c.abs_diff.result + c.args.bounds.height in
+    ap (λ (n : ℕ). rows_held c.words.result.now n top c.abs_diff-2.result c.args.bounds.width c.args.bounds.height) (stride c)
+    ∙ held_rows_are c.args.bitmap.now c.args.bounds c.words.result.now top c.abs_diff-2.result (lie c)
