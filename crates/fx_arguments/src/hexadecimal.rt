@@ -30,19 +30,12 @@ fn refusal_of(fault: FromHexError) -> Refusal
     }
 }
 
-/// The text without its blanks.
+/// The text without its blanks: spaces, tabs, CR and LF.
 fn digits(alloc: Global, text: &[u8]) -> Result<Vec<u8>, AllocError>
     ensures { IfOk result (λ digits. digits.items ≡ filter (λ b. not (is_blank b)) text.now) }
 {
     text.iter()
         .copied()
-        .filter(|b| !is_blank(*b))
+        .filter(|b| !(*b == b' ' || *b == b'\t' || *b == b'\r' || *b == b'\n'))
         .collect(alloc)
-}
-
-/// Whether a byte is a space, a tab, CR or LF.
-fn is_blank(b: u8) -> bool
-    ensures { result ≡ is_blank b }
-{
-    b == b' ' || b == b'\t' || b == b'\r' || b == b'\n'
 }

@@ -1,8 +1,7 @@
 //! What is wrong first with arguments.
 ghost use Rattle.std.specs.Prelude.{◌≡◌, ◌≤◌, [], Ok, Err, IfOk, length, slice_index_or};
-ghost use Rattle.clap.specs.Words.{found_of, rows_of};
 ghost use Rattle.fx_fixed.specs.Chain.{GivesUnless};
-ghost use Rattle.fx_arguments.specs.Arguments.{asked_for, texts};
+ghost use Rattle.fx_arguments.specs.Arguments.{texts};
 ghost use Rattle.fx_arguments.specs.Commands.{Refuses};
 ghost use Rattle.fx_arguments.specs.Mistakes.{SaysUnless, asked_by, checked, command_said, explained, has_hyphen, is_taken, line_of};
 ghost use Rattle.fx_arguments.specs.Mistakes.{name_in, option_said, taken_words, word_said, words_said};
@@ -13,7 +12,6 @@ use crate::said::{Said, say};
 use crate::values::matches;
 use crate::verb::{Verb, verb_of};
 use crate::wrong::Wrong;
-use clap::ArgMatches;
 use fx_request::Refusal;
 use std::alloc::Global;
 
@@ -55,7 +53,12 @@ fn verb_checked(alloc: Global, verb: Verb, words: &[&str]) -> Result<(), Said>
     ensures { SaysUnless (λ u. u) result (explained (asked_by verb (texts words.now))) }
 {
     match matches(alloc, verb, words) {
-        Ok(matches) => values_checked(alloc, verb, &matches),
+        Ok(matches) => match asked_for(alloc, verb, &matches) {
+            Ok(_) | Err(Wrong::Refused(Refusal::BadChars)) => Ok(()),
+            Err(Wrong::Refused(refusal)) => Err(Said::Stopped(Fault::Early(refusal))),
+            Err(Wrong::Says(what)) => Err(say(alloc, &[what])),
+            Err(Wrong::NotTaken(takes, text)) => Err(say(alloc, &[takes, ", not '", text, "'"])),
+        },
         Err(Fault::Usage) => words_said(alloc, verb, words),
         Err(fault) => Err(Said::Stopped(fault)),
     }
@@ -185,17 +188,5 @@ fn name_in(word: &str) -> &str
     match word.split_once('=') {
         Some((name, _)) => name,
         None => word,
-    }
-}
-
-/// The values of a command's options.
-fn values_checked(alloc: Global, verb: Verb, matches: &ArgMatches<'_>) -> Result<(), Said>
-    ensures { SaysUnless (λ u. u) result (explained (asked_for verb (rows_of (found_of matches.now)))) }
-{
-    match asked_for(alloc, verb, matches) {
-        Ok(_) | Err(Wrong::Refused(Refusal::BadChars)) => Ok(()),
-        Err(Wrong::Refused(refusal)) => Err(Said::Stopped(Fault::Early(refusal))),
-        Err(Wrong::Says(what)) => Err(say(alloc, &[what])),
-        Err(Wrong::NotTaken(takes, text)) => Err(say(alloc, &[takes, ", not '", text, "'"])),
     }
 }
