@@ -15,8 +15,7 @@ use Rattle.fx_winding.proofs.Triangle.{area_expr, balance_x, balance_y}
 
 -- the area with a place in the row of an end
 pub area_start : (ax ay cx cy px : ℤ) → area_of ax ay cx cy px ay ≡ (cy -ℤ ay) *ℤ (ax -ℤ px)
-area_start ax ay cx cy px =
-    ring (ax ∷ ay ∷ cx ∷ cy ∷ px ∷ []) (area_expr (var 0) (var 1) (var 2) (var 3) (var 4) (var 1))
+area_start ax ay cx cy px = ring (ax ∷ ay ∷ cx ∷ cy ∷ px ∷ []) (area_expr (var 0) (var 1) (var 2) (var 3) (var 4) (var 1))
     ((var 3 ⊟ var 1) ⊠ (var 0 ⊟ var 4)) tt
 
 -- on the chord's line the distances of the ends from a place balance by their weights
@@ -83,8 +82,7 @@ aside_row a b c p z h s =
     let w = region_ends a b c p z h in
     none_aside (weight_a a b c p) (weight_c a b c p) a.y c.y p.y w.0 w.1 (ends_balance a b c p z).1 s
 
-pub aside_column : (a b c p : Place) → area a c p ≡ pos 0 → IsInRegion a b c p → IsAsideOf a.x c.x p.x
-    → (p.x ≡ a.x) × (p.x ≡ c.x)
+pub aside_column : (a b c p : Place) → area a c p ≡ pos 0 → IsInRegion a b c p → IsAsideOf a.x c.x p.x → (p.x ≡ a.x) × (p.x ≡ c.x)
 aside_column a b c p z h s =
     let w = region_ends a b c p z h in
     none_aside (weight_a a b c p) (weight_c a b c p) a.x c.x p.x w.0 w.1 (ends_balance a b c p z).0 s

@@ -1,8 +1,7 @@
 -- What moved pieces add, and what moved contours cover.
 -- Serves the law `pieces`, and the bits of moved outlines.
 use Rattle.std.proofs.Common.{◌≡◌, ◌≢◌, refl, sym, ap, ◌∙◌, subst, ◌↔◌, ◌⊎◌, inl, inr, ℤ, pos, negsuc, ◌+ℤ◌, ◌-ℤ◌, ◌*ℤ◌, neg_ℤ}
-use Rattle.std.proofs.Common.{int_lt, ◌&&◌, if◌then◌else◌, List, [], ◌∷◌, ◌++◌, map, Any}
-use Rattle.std.proofs.Common.{arith}
+use Rattle.std.proofs.Common.{int_lt, ◌&&◌, if◌then◌else◌, List, [], ◌∷◌, ◌++◌, map, Any, arith}
 use Rattle.std.specs.Ordering.{int_eq}
 use Rattle.std.proofs.lemmas.Int.{ints}
 use Rattle.fx_fixed.specs.Polynomial.{var, num, ◌⊞◌, ◌⊠◌, minus, ◌⊟◌}
@@ -32,8 +31,7 @@ pub turn_in : (m : Symmetry) (p : Place) (s : Span) → ¬ (IsOn p s)
     → turn (place_in m p) (span_in m s) ≡ (end_in m p s.c -ℤ end_in m p s.a) -ℤ turn p s
 turn_in Mirror p s off = mirrored_turn p s off
 turn_in Exchange p s off = exchanged_turn p s off
-turn_in Flip p s off =
-    ap (turn (place_in Flip p)) (sym (turned_mirrored t ∙ ap (span_in Flip) (span_twice Exchange s)))
+turn_in Flip p s off = ap (turn (place_in Flip p)) (sym (turned_mirrored t ∙ ap (span_in Flip) (span_twice Exchange s)))
     ∙ sum (end_in Exchange r u.a) (end_in Exchange r u.c) (end_in Mirror q t.a) (end_in Mirror q t.c) (end_in Exchange p s.a)
     (end_in Exchange p s.c) (end_in Flip p s.a) (end_in Flip p s.c) (turn p s) (turn q t) (turn r u) _ (ends p.x p.y s.a.x s.a.y)
     (ends p.x p.y s.c.x s.c.y) (exchanged_turn p s off) (mirrored_turn q t off_t) (exchanged_turn r u off_u)
@@ -84,8 +82,7 @@ chain_moved m p (s ∷ ss) rest x y (e, l) off more =
 wound_moved : (m : Symmetry) (p : Place) (contours : List (List Span)) → IsOutline contours → ¬ (Any (IsOn p) (joined contours))
     → winding (place_in m p) (map (span_in m) (joined contours)) ≡ neg_ℤ (winding p (joined contours))
 wound_moved m p [] o off = refl
-wound_moved m p (ss ∷ contours) ((x, l), o) off =
-    chain_moved m p ss (joined contours) x x l off (wound_moved m p contours o)
+wound_moved m p (ss ∷ contours) ((x, l), o) off = chain_moved m p ss (joined contours) x x l off (wound_moved m p contours o)
     ∙ closed (end_in m p x) (winding p (ss ++ joined contours))
   where
     closed : (x z : ℤ) → (x -ℤ x) -ℤ z ≡ neg_ℤ z
@@ -127,8 +124,7 @@ abbrev pub mirror : ℤ → ℤ
 mirror i = negsuc 0 -ℤ i
 
 pub axis_mirrored : (i : ℤ) → neg_ℤ (pos 128 *ℤ i +ℤ pos 64) ≡ pos 128 *ℤ mirror i +ℤ pos 64
-axis_mirrored i =
-    ring (i ∷ []) (minus (num (pos 128) ⊠ var 0 ⊞ num (pos 64)))
+axis_mirrored i = ring (i ∷ []) (minus (num (pos 128) ⊠ var 0 ⊞ num (pos 64)))
     (num (pos 128) ⊠ (num (negsuc 0) ⊟ var 0) ⊞ num (pos 64)) tt
 
 pub centre_in : (m : Symmetry) (i j : ℤ) → place_in m (centre i j) ≡ centre (col_in m i j) (row_in m i j)

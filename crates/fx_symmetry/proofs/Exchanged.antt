@@ -89,8 +89,7 @@ crossing_of a c p aside = crossing_at_ends a.x a.y c.x c.y p.x p.y (area a c p) 
     (sym (ap (area_of a.x a.y c.x c.y p.x) e ∙ area_end a.x a.y c.x c.y p.x)) (product (c.y -ℤ a.y) (c.x -ℤ p.x)))
   where
     area_end : (ax ay cx cy px : ℤ) → area_of ax ay cx cy px cy ≡ (cy -ℤ ay) *ℤ (cx -ℤ px)
-    area_end ax ay cx cy px =
-        ring (ax ∷ ay ∷ cx ∷ cy ∷ px ∷ []) (area_expr (var 0) (var 1) (var 2) (var 3) (var 4) (var 3))
+    area_end ax ay cx cy px = ring (ax ∷ ay ∷ cx ∷ cy ∷ px ∷ []) (area_expr (var 0) (var 1) (var 2) (var 3) (var 4) (var 3))
         ((var 3 ⊟ var 1) ⊠ (var 2 ⊟ var 4)) tt
 
 -- the rows and the columns that a chord and the exchanged one so pass

@@ -35,8 +35,7 @@ least_moved r coord s (t ∷ ss) = λ i. int_min (one_moved r coord s i) (least_
 kept_moved : (r : Place → Place) (coord : Place → ℤ) (ss : List Span) (n : ℤ)
     → IsKept coord (map (moved r) ss) n ≡ IsKept (λ q. coord (r q)) ss n
 kept_moved r coord [] n = refl
-kept_moved r coord (s ∷ ss) n =
-    λ i. IsKeptIn (least_moved r coord s ss i) (neg_ℤ (least_moved r (λ q. neg_ℤ (coord q)) s ss i)) n
+kept_moved r coord (s ∷ ss) n = λ i. IsKeptIn (least_moved r coord s ss i) (neg_ℤ (least_moved r (λ q. neg_ℤ (coord q)) s ss i)) n
 
 -- ---- a coordinate with its sign changed
 none_mirrored : (low high : ℤ) → AreNoPixels low high → AreNoPixels (neg_ℤ high) (neg_ℤ low)
@@ -44,12 +43,10 @@ none_mirrored low high none n (h, k) =
     let e = axis_mirrored n in none (mirror n) (omega (arith, signed_linear, k, e), omega (arith, signed_linear, h, e))
 
 before_of : (n : ℤ) → pos 256 *ℤ mirror n ≡ neg_ℤ (pos 256 *ℤ (n +ℤ pos 1))
-before_of n =
-    ring (n ∷ []) (num (pos 256) ⊠ (num (negsuc 0) ⊟ var 0)) (minus (num (pos 256) ⊠ (var 0 ⊞ num (pos 1)))) tt
+before_of n = ring (n ∷ []) (num (pos 256) ⊠ (num (negsuc 0) ⊟ var 0)) (minus (num (pos 256) ⊠ (var 0 ⊞ num (pos 1)))) tt
 
 after_of : (n : ℤ) → pos 256 *ℤ (mirror n +ℤ pos 1) ≡ neg_ℤ (pos 256 *ℤ n)
-after_of n =
-    ring (n ∷ []) (num (pos 256) ⊠ ((num (negsuc 0) ⊟ var 0) ⊞ num (pos 1))) (minus (num (pos 256) ⊠ var 0)) tt
+after_of n = ring (n ∷ []) (num (pos 256) ⊠ ((num (negsuc 0) ⊟ var 0) ⊞ num (pos 1))) (minus (num (pos 256) ⊠ var 0)) tt
 
 kept_in_minus : (low high n : ℤ) → (AreNoPixels low high → low +ℤ high ≢ pos 256 *ℤ n) → IsKeptIn low high n
     → IsKeptIn (neg_ℤ high) (neg_ℤ low) (mirror n)
@@ -102,7 +99,6 @@ moves_dropout_frame Flip ss middle i j =
     subst (λ (T : Type 0). T ↔ IsInDropoutFrame ss i j)
     (λ t. sym (kept_moved (place_in Flip) x_of ss i) t × sym (kept_moved (place_in Flip) y_of ss (mirror j)) t)
     (λ h. (h.0, y.0 h.1), λ h. (h.0, y.1 h.1))
-moves_dropout_frame Exchange ss middle i j =
-    subst (λ (T : Type 0). T ↔ IsInDropoutFrame ss i j)
+moves_dropout_frame Exchange ss middle i j = subst (λ (T : Type 0). T ↔ IsInDropoutFrame ss i j)
     (λ t. sym (kept_moved (place_in Exchange) x_of ss j) t × sym (kept_moved (place_in Exchange) y_of ss i) t)
     (λ h. (h.1, h.0), λ h. (h.1, h.0))

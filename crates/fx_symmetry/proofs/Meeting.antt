@@ -29,8 +29,7 @@ outside_moved : (m : Symmetry) (a b c p : Place) → IsReached a.y b.y c.y p.y
     → IsReached (place_in m a).y (place_in m b).y (place_in m c).y (place_in m p).y → end_in m p a ≡ end_in m p c
     → ¬ (IsOn p (record { a = a; b = Some b; c = c })) → region_part a (Some b) c p ≡ pos 0
     → region_part (place_in m a) (Some (place_in m b)) (place_in m c) (place_in m p) ≡ pos 0
-outside_moved m a b c p h k same off e =
-    none (chord_crossing a c p) (region_part a (Some b) c p) _ _ (end_in m p a) (end_in m p c)
+outside_moved m a b c p h k same off e = none (chord_crossing a c p) (region_part a (Some b) c p) _ _ (end_in m p a) (end_in m p c)
     (reached_crossing a.y b.y c.y p.y (area a c p) h) e
     (reached_crossing (place_in m a).y (place_in m b).y (place_in m c).y (place_in m p).y
     (area (place_in m a) (place_in m c) (place_in m p)) k) same (turn_in m p (record { a = a; b = Some b; c = c }) off)
@@ -50,8 +49,7 @@ mirrored_at p = record { x = minus p.x; y = p.y }
 slope_mirrored : (a b c p : Place) → slope (place_in Mirror a) (place_in Mirror b) (place_in Mirror c) (place_in Mirror p)
     ≡ neg_ℤ (slope a b c p)
 unfolding mirrored_at
-slope_mirrored a b c p =
-    ring (coordinates (a ∷ b ∷ c ∷ p ∷ []) [])
+slope_mirrored a b c p = ring (coordinates (a ∷ b ∷ c ∷ p ∷ []) [])
     (slope_at (mirrored_at (at 0)) (mirrored_at (at 1)) (mirrored_at (at 2)) (mirrored_at (at 3)))
     (minus (slope_at (at 0) (at 1) (at 2) (at 3))) tt
 
@@ -66,8 +64,7 @@ within_mirrored p q e k h = record {
 -- what both ends of a segment add tells what the mirrored ones add
 same_added : (p q : Place) (s : Span) → p.y ≡ q.y → ¬ (IsOn p s) → ¬ (IsOn q s)
     → turn (place_in Mirror q) (span_in Mirror s) ≡ turn (place_in Mirror p) (span_in Mirror s) → turn p s ≡ turn q s
-same_added p q s k np nq e =
-    by (above p.y s.c.y -ℤ above p.y s.a.y) (above q.y s.c.y -ℤ above q.y s.a.y) (turn p s) (turn q s)
+same_added p q s k np nq e = by (above p.y s.c.y -ℤ above p.y s.a.y) (above q.y s.c.y -ℤ above q.y s.a.y) (turn p s) (turn q s)
     (turn (place_in Mirror p) (span_in Mirror s)) (turn (place_in Mirror q) (span_in Mirror s))
     (ap (λ y. above y s.c.y -ℤ above y s.a.y) k) (turn_in Mirror p s np) (turn_in Mirror q s nq) e
   where
@@ -132,8 +129,7 @@ flipped_at p = record { x = p.x; y = minus p.y }
 
 slope_flipped : (a b c p : Place) → slope (place_in Flip a) (place_in Flip b) (place_in Flip c) (place_in Flip p) ≡ slope a b c p
 unfolding flipped_at
-slope_flipped a b c p =
-    ring (coordinates (a ∷ b ∷ c ∷ p ∷ []) [])
+slope_flipped a b c p = ring (coordinates (a ∷ b ∷ c ∷ p ∷ []) [])
     (slope_at (flipped_at (at 0)) (flipped_at (at 1)) (flipped_at (at 2)) (flipped_at (at 3)))
     (slope_at (at 0) (at 1) (at 2) (at 3)) tt
 
@@ -164,8 +160,7 @@ end_sides p q e k l np nq = by (known p.x p.y q.x q.y e.x e.y k l (λ x y. np (�
 
 turns_flipped : (p q : Place) (s : Span) → p.y ≡ q.y → p.x ≤ℤ q.x → ¬ (IsOn p s) → ¬ (IsOn q s) → turn p s ≢ turn q s
     → IsMet (place_in Flip p) (place_in Flip q) (span_in Flip s)
-turns_flipped p q s k l np nq n =
-    by (end_sides p q s.a k l (off_no_end p s np).first (off_no_end q s nq).first)
+turns_flipped p q s k l np nq n = by (end_sides p q s.a k l (off_no_end p s np).first (off_no_end q s nq).first)
     (end_sides p q s.c k l (off_no_end p s np).last (off_no_end q s nq).last)
   where
     same : (x y z w t r t' r' : ℤ) → x ≡ z → y ≡ w → t' ≡ (y -ℤ x) -ℤ t → r' ≡ (w -ℤ z) -ℤ r → t' ≡ r' → t ≡ r
@@ -199,11 +194,9 @@ tip_flipped p q a (Some b) c np t = record {
 
     level : (px ax ay b cx cy py : ℤ) → IsReached ay b cy py → (if int_eq ay py && int_lt px ax then negsuc 0 else pos 0)
         ≡ (if int_eq cy py && int_lt px cx then negsuc 0 else pos 0)
-    level px ax ay b cx cy py (inl (l, r, t)) =
-        other_row px py ax ay (λ e. omega (arith, signed_linear, e, l))
+    level px ax ay b cx cy py (inl (l, r, t)) = other_row px py ax ay (λ e. omega (arith, signed_linear, e, l))
         ∙ sym (other_row px py cx cy (λ e. omega (arith, signed_linear, e, r)))
-    level px ax ay b cx cy py (inr (l, r, t)) =
-        other_row px py ax ay (λ e. omega (arith, signed_linear, e, l))
+    level px ax ay b cx cy py (inr (l, r, t)) = other_row px py ax ay (λ e. omega (arith, signed_linear, e, l))
         ∙ sym (other_row px py cx cy (λ e. omega (arith, signed_linear, e, r)))
 
 met_flipped : (p q : Place) (s : Span) → p.y ≡ q.y → p.x ≤ℤ q.x → ¬ (IsOn p s) → ¬ (IsOn q s) → IsMet p q s
@@ -222,15 +215,13 @@ flip_meets p q s k l np nq = (
 
 -- ---- up a column
 pub mirror_meets_up : MirrorMeetsUp
-mirror_meets_up p q s k l np nq =
-    subst (λ t. IsMet (turned_place (place_in Mirror p)) (turned_place (place_in Mirror q)) t
+mirror_meets_up p q s k l np nq = subst (λ t. IsMet (turned_place (place_in Mirror p)) (turned_place (place_in Mirror q)) t
     ↔ IsMet (turned_place p) (turned_place q) (turned_span s)) (sym (turned_mirrored s))
     (flip_meets (turned_place p) (turned_place q) (turned_span s) k l (λ o. np ((on_moved Exchange p s).0 o))
     (λ o. nq ((on_moved Exchange q s).0 o)))
 
 pub flip_meets_up : FlipMeetsUp
-flip_meets_up p q s k np nq =
-    subst (λ t. IsMet (turned_place (place_in Flip q)) (turned_place (place_in Flip p)) t
+flip_meets_up p q s k np nq = subst (λ t. IsMet (turned_place (place_in Flip q)) (turned_place (place_in Flip p)) t
     ↔ IsMet (turned_place p) (turned_place q) (turned_span s)) (sym (turned_flipped s))
     (mirror_meets (turned_place p) (turned_place q) (turned_span s) k (λ o. np ((on_moved Exchange p s).0 o))
     (λ o. nq ((on_moved Exchange q s).0 o)))

@@ -35,8 +35,7 @@ both_sides : (ay cy py s : ℤ) → s ≢ pos 0
 both_sides ay cy py s n = grind (arith, ints)
 
 mirror_crossings : (a c p : Place) → CrossingsAddUp mirrored_place (above p.y c.y -ℤ above p.y a.y) a c p
-mirror_crossings a c p n =
-    ap (λ z. crossing_number a.y c.y p.y z +ℤ chord_crossing a c p) (mirror_reflects.area_is a c p)
+mirror_crossings a c p n = ap (λ z. crossing_number a.y c.y p.y z +ℤ chord_crossing a c p) (mirror_reflects.area_is a c p)
     ∙ both_sides a.y c.y p.y (area a c p) n
 
 -- on its line and in the row of an end the place is that end
@@ -66,8 +65,7 @@ no_rise a c p l z off first = by_lt_z a.y c.y
 -- on a level chord's line the regions cancel
 level_alike : (a b c : Place) → a.y ≤ℤ c.y → c.y ≤ℤ a.y
     → is_right_of_chord (mirrored_place a) (mirrored_place b) (mirrored_place c) ≡ is_right_of_chord a b c
-level_alike a b c l k =
-    ap (λ z. int_lt (pos 0) z || (int_eq a.y c.y && int_lt a.y b.y))
+level_alike a b c l k = ap (λ z. int_lt (pos 0) z || (int_eq a.y c.y && int_lt a.y b.y))
     (times_none (area (mirrored_place a) (mirrored_place b) (mirrored_place c)) (c.y -ℤ a.y) none
     ∙ sym (times_none (area a b c) (c.y -ℤ a.y) none))
   where
@@ -81,8 +79,7 @@ RegionsAdd k a b c p =
 
 -- on a chord that rises one of the arcs is right of it
 on_rising_chord : (a b c p : Place) → IsOnRising a c p → area a b c ≢ pos 0 → RegionsAdd (pos 1) a b c p
-on_rising_chord a b c p h n =
-    (λ i. region_at (mirrored_place a) (mirrored_place b) (mirrored_place c) (mirrored_place p)
+on_rising_chord a b c p h n = (λ i. region_at (mirrored_place a) (mirrored_place b) (mirrored_place c) (mirrored_place p)
     (has_ends (mirrored_place a) (mirrored_place b) (mirrored_place c) (mirrored_place p) other apart) i
     +ℤ region_at a b c p (has_ends a b c p h n) i)
     ∙ by_lt_z (pos 0) (area a b c) right (λ l. left (strictly (area a b c) n l))
@@ -110,8 +107,7 @@ on_rising_chord a b c p h n =
         λ i. (regions_left (mirrored_place a) (mirrored_place b) (mirrored_place c) rises m).1 i
         +ℤ (regions_right a b c rises d).1 i
 
-    left : area a b c <ℤ pos 0
-        → chord_region (mirrored_place a) (mirrored_place b) (mirrored_place c) +ℤ chord_region a b c ≡ pos 1
+    left : area a b c <ℤ pos 0 → chord_region (mirrored_place a) (mirrored_place b) (mirrored_place c) +ℤ chord_region a b c ≡ pos 1
     left d =
         let m : pos 0 <ℤ area (mirrored_place a) (mirrored_place b) (mirrored_place c) =
         rw turned (omega (arith, signed_linear, d)) in
@@ -122,10 +118,8 @@ on_rising_chord a b c p h n =
     strictly z n h = grind (arith, ints)
 
 -- beside it neither counts
-off_chord : (a b c p : Place) → a.y <ℤ c.y → area a c p ≡ pos 0 → ¬ (IsOnRising a c p)
-    → RegionsAdd (pos 0) a b c p
-off_chord a b c p l z off = regions_cancel mirrored_place mirror_reflects a b c p
-    (λ h. absurd (off (between_rising a b c p l z h)))
+off_chord : (a b c p : Place) → a.y <ℤ c.y → area a c p ≡ pos 0 → ¬ (IsOnRising a c p) → RegionsAdd (pos 0) a b c p
+off_chord a b c p l z off = regions_cancel mirrored_place mirror_reflects a b c p (λ h. absurd (off (between_rising a b c p l z h)))
     (λ h. absurd (off (back (between_rising (mirrored_place a) (mirrored_place b) (mirrored_place c) (mirrored_place p) l none h))))
   where
     none : area (mirrored_place a) (mirrored_place c) (mirrored_place p) ≡ pos 0
@@ -154,8 +148,7 @@ mirror_regions a b c p l first n z = by_lt_z a.y c.y rising level
         one : (a c y : ℤ) → a <ℤ y → y <ℤ c → pos 1 ≡ above y c -ℤ above y a
         one a c y h m = grind (arith, ints)
 
-        by : ((a.y <ℤ p.y) × (p.y <ℤ c.y)) ⊎ ((a.y <ℤ p.y → p.y <ℤ c.y → ⊥))
-            → RegionsAdd (above p.y c.y -ℤ above p.y a.y) a b c p
+        by : ((a.y <ℤ p.y) × (p.y <ℤ c.y)) ⊎ ((a.y <ℤ p.y → p.y <ℤ c.y → ⊥)) → RegionsAdd (above p.y c.y -ℤ above p.y a.y) a b c p
         by (inl (h, m)) = on_rising_chord a b c p (record { low = h; high = m; none = z }) n ∙ one a.y c.y p.y h m
         by (inr o) = let off : ¬ (IsOnRising a c p) = λ h. o h.low h.high in
             off_chord a b c p k z off ∙ sym (no_rise a c p l z off first)
@@ -185,8 +178,7 @@ mirrored_turn p s off = by_lt_z s.c.y s.a.y (λ l. falling (strictly s.c.y s.a.y
     back x y t r t' r' e f g = omega (arith, signed_linear, e, f, g)
 
     falling : s.c.y ≤ℤ s.a.y → turn (mirrored_place p) (span_in Mirror s) ≡ (end_in Mirror p s.c -ℤ end_in Mirror p s.a) -ℤ turn p s
-    falling l =
-        back (end_in Mirror p s.a) (end_in Mirror p s.c) (turn (mirrored_place p) (span_in Mirror s)) (turn p s)
+    falling l = back (end_in Mirror p s.a) (end_in Mirror p s.c) (turn (mirrored_place p) (span_in Mirror s)) (turn p s)
         (turn (mirrored_place p) (span_in Mirror (reversed s))) (turn p (reversed s))
         (mirror_rising p (reversed s) l (λ h. off ((reversal_negates p s).0.0 h)))
         (added_back (mirrored_place p) (span_in Mirror s)) (added_back p s)

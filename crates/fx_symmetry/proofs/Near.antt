@@ -164,8 +164,7 @@ near_set_moved Mirror ss In To o tie inside i j = (λ h. all.back j i h, λ h. a
         })
 
     upper : (i j : ℤ) → IsNextNearer true ts (mirror i) j ↔ IsNextNearer true ss i j
-    upper i j = near_kept Mirror true ss o i j (mirror i) j
-        (λ n t. place (axis_mirrored i t) ((pos 128 *ℤ j +ℤ pos 64) +ℤ pos n))
+    upper i j = near_kept Mirror true ss o i j (mirror i) j (λ n t. place (axis_mirrored i t) ((pos 128 *ℤ j +ℤ pos 64) +ℤ pos n))
 
     gaps : IsMoved (λ j. j) (λ i. mirror i) (IsGap (map turned_span ss) (λ j i. IsRowSetIn Nearer ss In i j))
         (IsGap (map turned_span ts) (λ j i. IsRowSetIn Nearer ts To i j))
@@ -200,8 +199,7 @@ near_set_moved Flip ss In To o tie inside i j =
     ts = map (span_in Flip) ss
 
     nearer : (i j : ℤ) → IsNextNearer false ts i (mirror j) ↔ IsNextNearer false ss i j
-    nearer i j = near_kept Flip false ss o i j i (mirror j)
-        (λ n t. place ((pos 128 *ℤ i +ℤ pos 64) +ℤ pos n) (axis_mirrored j t))
+    nearer i j = near_kept Flip false ss o i j i (mirror j) (λ n t. place ((pos 128 *ℤ i +ℤ pos 64) +ℤ pos n) (axis_mirrored j t))
 
     rows : IsMoved (λ i. i) (λ j. mirror j) (IsRowSetIn Nearer ss In) (IsRowSetIn Nearer ts To)
     rows = closed_moved (λ i. i) (λ j. mirror j) (λ i. refl) (λ i. refl) ss ts In To (IsNextNearer false ss)

@@ -51,14 +51,12 @@ minus_strictly x y h = omega (arith, signed_linear, h)
 pub low_minus : (a b c p : ℤ) → IsAboveLow a b c p → IsBelowHigh (neg_ℤ a) (neg_ℤ b) (neg_ℤ c) (neg_ℤ p)
 low_minus a b c p (inl h) = inl (minus_order a p h)
 low_minus a b c p (inr (inl h)) = inr (inl (minus_order c p h))
-low_minus a b c p (inr (inr (h, k, t))) =
-    inr (inr (minus_strictly b a h, minus_strictly b c k, turn_minus a b c p t))
+low_minus a b c p (inr (inr (h, k, t))) = inr (inr (minus_strictly b a h, minus_strictly b c k, turn_minus a b c p t))
 
 pub high_minus : (a b c p : ℤ) → IsBelowHigh a b c p → IsAboveLow (neg_ℤ a) (neg_ℤ b) (neg_ℤ c) (neg_ℤ p)
 high_minus a b c p (inl h) = inl (minus_order p a h)
 high_minus a b c p (inr (inl h)) = inr (inl (minus_order p c h))
-high_minus a b c p (inr (inr (h, k, t))) =
-    inr (inr (minus_strictly a b h, minus_strictly c b k, turn_minus a b c p t))
+high_minus a b c p (inr (inr (h, k, t))) = inr (inr (minus_strictly a b h, minus_strictly c b k, turn_minus a b c p t))
 
 range_minus : (a b c p : ℤ) → IsInRange a b c p → IsInRange (neg_ℤ a) (neg_ℤ b) (neg_ℤ c) (neg_ℤ p)
 range_minus a b c p r = record { low = high_minus a b c p r.high; high = low_minus a b c p r.low }
@@ -145,6 +143,5 @@ turned_mirrored s = λ i. record {
 
 -- and the other way round
 pub turned_flipped : (s : Span) → span_in Exchange (span_in Flip s) ≡ span_in Mirror (span_in Exchange s)
-turned_flipped s =
-    ap (λ t. span_in Exchange (span_in Flip t)) (sym (span_twice Exchange s))
+turned_flipped s = ap (λ t. span_in Exchange (span_in Flip t)) (sym (span_twice Exchange s))
     ∙ ap (span_in Exchange) (sym (turned_mirrored (span_in Exchange s))) ∙ span_twice Exchange (span_in Mirror (span_in Exchange s))

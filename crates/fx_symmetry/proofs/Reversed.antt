@@ -64,8 +64,7 @@ count_reversed P Q zero m e h = h
 count_reversed P Q (suc n) m e (inl (p, l, d, h)) =
     subst (λ (k : ℕ). IsCount Q (suc n) k) (sym d) (count_below Q n l ((e n 0 (omega arith)).0 p)
     (count_reversed P (λ k. Q (k + 1)) n l (λ k i b. e k (i + 1) (omega (arith, b))) h))
-count_reversed P Q (suc n) m e (inr (p, h)) =
-    none_below Q n m (λ q. p ((e n 0 (omega arith)).1 q))
+count_reversed P Q (suc n) m e (inr (p, h)) = none_below Q n m (λ q. p ((e n 0 (omega arith)).1 q))
     (count_reversed P (λ k. Q (k + 1)) n m (λ k i b. e k (i + 1) (omega (arith, b))) h)
 
 -- ---- the nearer one
