@@ -28,7 +28,8 @@ areas_small : (a : Point) (b : Option Point) (c p : Point)
     → let t = areas_of_part (place_of a) (maybe_place_of b) (place_of c) (place_of p) in
     IsWithin 140737488355328 t.0 × IsWithin 140737488355328 t.1 × IsWithin 140737488355328 t.2
 areas_small a None c p =
-    let z : IsWithin 140737488355328 (pos 0) = (omega (arith, signed_linear), omega (arith, signed_linear)) in (z, area_small a p c, z)
+    let z : IsWithin 140737488355328 (pos 0) = (omega (arith, signed_linear), omega (arith, signed_linear)) in
+    (z, area_small a p c, z)
 areas_small a (Some b) c p = (area_small p b c, area_small a p c, area_small a b p)
 
 -- a number as a word is another one, and small

@@ -69,7 +69,8 @@ is_gap ss In Right So first j count pixels noted IsNext line k i l e = by k refl
 
     by : (m : ℕ) → m ≡ k → IsOpenAt pixels noted m ↔ IsGap ss So i j
     by zero s =
-        let before : ¬ (So ((first -ℤ pos 1) +ℤ pos k) j) = subst (λ z. ¬ (So z j)) (omega (arith, signed_linear, s)) line.none_before in
+        let before : ¬ (So ((first -ℤ pos 1) +ℤ pos k) j) =
+        subst (λ z. ¬ (So z j)) (omega (arith, signed_linear, s)) line.none_before in
         (λ o. grind (arith, s, o, to before), λ g. grind (arith, s, g, noted_is g, after_is g))
     by (suc n) s =
         let here : first +ℤ pos n ≡ (first -ℤ pos 1) +ℤ pos k = omega (arith, signed_linear, s) in

@@ -175,22 +175,19 @@ none_open f across up words flat = record { rows = λ r n h. row r n h (below_or
           past_part across (r * words_noted f.width) (words_noted f.width) n,
         )
     row r n h (inl l) o =
-        let same = flat.same in
-        let is = open_at (λ k. row_bit words (r * size) size k)
-        (λ k. row_bit across (r * words_noted f.width) (words_noted f.width) k) n o in
-        let step : r * words_noted f.width ≡ r * size = ap (λ (s : ℕ). r * s) same in
-        let noted : word_bit across (32 * (r * size) + n) ≡ 1 =
-        sym (λ t. word_bit across (32 * step t + n))
-        ∙ sym (part_bit across (r * words_noted f.width) (words_noted f.width) n (omega (arith, l, same))) ∙ is.noted_is in
         let m : (r + 1) * size ≤ f.height * size = mul-le-mul_right size (omega (arith, h)) in
         let one : (r + 1) * size ≡ r * size + size = omega arith in
-        flat.rows (32 * (r * size) + n) (omega (arith, l, m, one, long))
-        (open_back (λ k. word_bit words k) (λ k. word_bit across k)
-        (32 * (r * size) + n) (record {
-          noted_is = noted;
-          here_is = sym (before r n h l) ∙ is.here_is;
-          next_is = sym (pixel r n l) ∙ is.next_is;
-        }))
+        grind (
+          arith,
+          flat.same,
+          open_at (λ k. row_bit words (r * size) size k)
+              (λ k. row_bit across (r * words_noted f.width) (words_noted f.width) k) n o,
+          before r n h l,
+          pixel r n l,
+          part_bit across (r * words_noted f.width) (words_noted f.width) n,
+          flat.rows (32 * (r * size) + n) (omega (arith, l, m, one, long)),
+          open_back (λ k. word_bit words k) (λ k. word_bit across k) (32 * (r * size) + n),
+        )
 
     column : (r w i : ℕ) → r ≤ f.height → w < size → i < 32
         → ¬ (IsOpenAt (λ k. bit_in words (k * size + w) i) (λ k. bit_in up (k * words_noted f.width + w) i) r)

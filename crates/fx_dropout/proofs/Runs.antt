@@ -324,7 +324,7 @@ side_along : (pair : Pair) (k m n : ℕ) (y : ℤ) → k ≤ n → n ≤ m → �
     → IsOneSide y (place_in pair k).y (place_in pair n).y
 side_along pair k m n y low high h = grind (arith, ints, low, high, h, heights_along, one_side)
 
-before_end : (n m : ℕ) → n < m + 1 → n ≤ m
+pub before_end : (n m : ℕ) → n < m + 1 → n ≤ m
 before_end n m h = omega (arith, h)
 
 -- the side of the chord along a run
@@ -445,23 +445,23 @@ above_is x p q y is h k e = is ∙ (λ t. pos (from_bool (int_lt (coordinate_wor
 pub above_small : (x p y : ℤ) → x ≡ above p y → (pos 0 ≤ℤ x) × (x ≤ℤ pos 1)
 above_small x p y e = grind (arith, ints, e)
 
-pub left_part : (pair : Pair) (n : ℕ) (s : Span) (t : ℤ) → n < 128 → HasAll (λ e. (place_in pair 127).x <ℤ e.x) s
-    → ¬ (IsPassed s.a.y (place_in pair 0).y (place_in pair 127).y) → ¬ (IsPassed s.c.y (place_in pair 0).y (place_in pair 127).y)
-    → IsWithin 1 t → t ≡ above (place_in pair 0).y s.c.y -ℤ above (place_in pair 0).y s.a.y → IsPart (place_in pair n) s (Some t)
-left_part pair n s t l h start end small is = (
+pub left_part : (pair : Pair) (k m n : ℕ) (s : Span) (t : ℤ) → k ≤ n → n ≤ m → m < 128
+    → HasAll (λ e. (place_in pair 127).x <ℤ e.x) s → ¬ (IsPassed s.a.y (place_in pair k).y (place_in pair m).y)
+    → ¬ (IsPassed s.c.y (place_in pair k).y (place_in pair m).y) → IsWithin 1 t
+    → t ≡ above (place_in pair k).y s.c.y -ℤ above (place_in pair k).y s.a.y → IsPart (place_in pair n) s (Some t)
+left_part pair k m n s t low high few h start end small is = (
   (omega (arith, signed_linear, small), omega (arith, signed_linear, small)),
   is ∙ (λ i. same s.c.y end i -ℤ same s.a.y start i) ∙ sym (left_of_all (place_in pair n) s right),
   (left_off (place_in pair n) s right).1,
 )
   where
-    same : (y : ℤ) → ¬ (IsPassed y (place_in pair 0).y (place_in pair 127).y)
-        → above (place_in pair 0).y y ≡ above (place_in pair n).y y
-    same y h =
-        above_same y (place_in pair 0).y (place_in pair n).y (side_along pair 0 127 n y (omega arith) (before_end n 127 l) h)
+    same : (y : ℤ) → ¬ (IsPassed y (place_in pair k).y (place_in pair m).y)
+        → above (place_in pair k).y y ≡ above (place_in pair n).y y
+    same y h = above_same y (place_in pair k).y (place_in pair n).y (side_along pair k m n y low high h)
 
     right : HasAll (λ e. (place_in pair n).x <ℤ e.x) s
     right = HasAll-weaker (λ e. (place_in pair 127).x <ℤ e.x) (λ e. (place_in pair n).x <ℤ e.x)
-        (λ e k. let c = columns_along pair.is_up pair.here.col pair.here.row n 127 (omega (arith, l)) in
+        (λ e k. let c = columns_along pair.is_up pair.here.col pair.here.row n 127 (omega (arith, high, few)) in
         omega (arith, signed_linear, c, k)) s h
 
 -- a number that a piece adds, as the code has it

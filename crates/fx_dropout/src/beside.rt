@@ -1,13 +1,12 @@
 //! Pieces beside all places of a segment.
 
-ghost use Rattle.std.specs.Prelude.{◌≡◌, pos, ◌<ℤ◌, IsTrue, Some, IfSome};
+ghost use Rattle.std.specs.Prelude.{◌≡◌, ◌↔◌, ◌+◌, ◌≤◌, ◌<◌, pos, ◌<ℤ◌, IsTrue, Some, IfSome};
 ghost use Rattle.fx_fixed.specs.Ranges.{IsWithin};
 ghost use Rattle.fx_winding.specs.Outside.{HasAll};
 ghost use Rattle.fx_winding.specs.Winding.{place_of, span_of};
-ghost use Rattle.fx_dropout.specs.inner.Runs.{coordinate_of, IsPartTo};
+ghost use Rattle.fx_dropout.specs.inner.Runs.{coordinate_of, IsPartTo, IsPassed};
 
 use crate::pair::Pair;
-use crate::run::is_passed;
 use fx_winding::{Piece, Point};
 
 /// A point's height or, with `false`, how far right it is.
@@ -54,16 +53,47 @@ fn is_below(piece: &Piece, is_height: bool, limit: Point) -> bool
     }
 }
 
-/// What a piece adds at all places, if it lies beside them: nothing if it is above, below or left of them, and else 1 or -1
-/// between the heights of its ends; or None.
+/// Whether a height is above the one of two others and not above the other.
+pub(crate) fn is_passed(y: i32, low: i32, high: i32) -> bool
+    ensures { IsTrue result ↔ IsPassed y low high }
+{
+    if y <= low {
+        return false;
+    }
+    y <= high
+}
+
+/// What a piece adds at each place of a run, if it lies right of the segment and no end of it is passed in the run: 1 or -1 between
+/// the heights of its ends.
+#[inline(always)]
+pub(crate) fn turn_right(piece: &Piece, pair: Pair, first: usize, last: usize) -> Option<i32>
+    requires order { first ≤ last }
+    requires few { last < 128 }
+    ensures size { IfSome result (IsWithin 1) }
+    ensures part { IfSome result (λ t. IsPartTo pair first (last + 1) (span_of piece.now) (Some t)) }
+{
+    if !is_above(piece, false, pair.place(127)) {
+        return None;
+    }
+    let low = pair.place(first);
+    let high = pair.place(last);
+    if is_passed(piece.a.y, low.y, high.y) {
+        return None;
+    }
+    if is_passed(piece.c.y, low.y, high.y) {
+        return None;
+    }
+    Some(i32::from(low.y < piece.c.y) - i32::from(low.y < piece.a.y))
+}
+
+/// What a piece adds at all places, if it lies beside them: nothing if it is above, below or left of them.
 #[inline(always)]
 pub(crate) fn turn_beside(piece: &Piece, pair: Pair) -> Option<i32>
     ensures size { IfSome result (IsWithin 1) }
     ensures part { IfSome result (λ t. IsPartTo pair 0 128 (span_of piece.now) (Some t)) }
 {
     let first = pair.place(0);
-    let last = pair.place(127);
-    if is_above(piece, true, last) {
+    if is_above(piece, true, pair.place(127)) {
         return Some(0);
     }
     if is_below(piece, true, first) {
@@ -72,14 +102,5 @@ pub(crate) fn turn_beside(piece: &Piece, pair: Pair) -> Option<i32>
     if is_below(piece, false, first) {
         return Some(0);
     }
-    if !is_above(piece, false, last) {
-        return None;
-    }
-    if is_passed(piece.a.y, first.y, last.y) {
-        return None;
-    }
-    if is_passed(piece.c.y, first.y, last.y) {
-        return None;
-    }
-    Some(i32::from(first.y < piece.c.y) - i32::from(first.y < piece.a.y))
+    turn_right(piece, pair, 0, 127)
 }

@@ -8,6 +8,7 @@ ghost use Rattle.fx_fixed.specs.Ranges.{IsWithin};
 ghost use Rattle.fx_winding.specs.Winding.{place_of, sign, span_of, areas_of};
 ghost use Rattle.fx_dropout.specs.inner.Runs.{HaveOneSign, IsBelowTo, IsClear, IsPart, IsPartTo, IsPassed, IsRegionTo, place_in, gap_at};
 
+use crate::beside::{is_passed, turn_right};
 use crate::pair::Pair;
 use fx_winding::{
     Piece, Point, Tally, Weights, areas, crossing, curve_gap, difference, on_piece, region,
@@ -144,16 +145,6 @@ fn region_along(
     Some(0)
 }
 
-/// Whether a height is above the one of two others and not above the other.
-pub(crate) fn is_passed(y: i32, low: i32, high: i32) -> bool
-    ensures { IsTrue result ↔ IsPassed y low high }
-{
-    if y <= low {
-        return false;
-    }
-    y <= high
-}
-
 /// Whether no end of a piece is passed in a run, and its first and last place are on one side of the piece's chord.
 fn is_clear(piece: &Piece, pair: Pair, run: PlaceRun, p: Weights, q: Weights) -> bool
     requires first { (p.u, p.v, p.w) ≡ areas_of (span_of piece.now) (place_in pair run.first) }
@@ -251,16 +242,6 @@ fn places_to_ends(piece: &Piece, pair: Pair, n: usize) -> usize
     places_to_end(piece.c, y, places_to_end(piece.a, y, most))
 }
 
-/// How many places from the place n on come before a piece's next end and its chord, by the area of that place with the chord.
-fn places_to_chord(piece: &Piece, pair: Pair, n: usize, area: i64) -> usize
-    requires before { n < 128 }
-    requires size { IsWithin (2 ^ 47) area }
-    ensures some { 0 < result }
-    ensures few { n + result ≤ 128 }
-{
-    steps_to_zero(area, chord_step(piece, pair.is_up)).min(places_to_ends(piece, pair, n))
-}
-
 /// Whether two numbers are above 0, both below, or both 0.
 fn are_alike(a: i128, b: i128) -> bool {
     (a > 0) == (b > 0) && (a < 0) == (b < 0)
@@ -286,6 +267,9 @@ fn places_to_arc(
     let mut high = count;
     // The sign is that of `gap` at `low` places after n, and may be another one at `high`, if that is less than `count`.
     'halves: for _step in 0..7usize {
+        if low + 1 >= high {
+            return high;
+        }
         let middle = (low + high) / 2;
         if are_alike(gap, curve_gap(areas_at(piece, pair, n + middle, tally))) {
             low = middle;
@@ -337,8 +321,15 @@ pub(crate) fn next_part(piece: &Piece, pair: Pair, n: usize, tally: &mut Tally) 
     ensures part { IsPartTo pair n (n + result.count) (span_of piece.now) result.turn }
     ensures count { tally.new.count ≤ tally.old.count + 31 }
 {
+    let most = places_to_ends(piece, pair, n);
+    if let Some(turn) = turn_right(piece, pair, n, n + most - 1) {
+        return Part {
+            count: most,
+            turn: Some(turn),
+        };
+    }
     let at = areas_at(piece, pair, n, tally);
-    let mut count = places_to_chord(piece, pair, n, at.v);
+    let mut count = steps_to_zero(at.v, chord_step(piece, pair.is_up)).min(most);
     // The next try is `count` places.
     'tries: for tries in 0..5usize {
         if count <= 1 {

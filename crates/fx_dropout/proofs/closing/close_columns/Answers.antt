@@ -1,10 +1,10 @@
-use Rattle.std.proofs.Common.{◌≡◌, ◌⊎◌, ◌∙◌, sym, ap, subst, ℕ, ◌+◌, ◌-◌, ◌*◌, ◌<◌, ◌≤◌, ℤ, pos, ◌+ℤ◌, length, get_or, true, arith, w32, to_z, of_z}
+use Rattle.std.proofs.Common.{◌≡◌, ◌∙◌, sym, ap, ℕ, ◌+◌, ◌-◌, ◌*◌, ◌≤◌, pos, ◌+ℤ◌, length, true, arith, w32, to_z, of_z}
 use Rattle.std.proofs.Math.Nat.{mul-le-mul_right}
 use Rattle.std.proofs.lemmas.Int.{to_z_pos}
 use Rattle.fx_fixed.proofs.Linear.{signed_linear}
 use Rattle.fx_winding.specs.Bitmaps.{words_for}
 use Rattle.fx_winding.specs.Notes.{words_noted}
-use Rattle.fx_dropout.specs.inner.Closing.{bit_in, IsLevelClosed, IsNext, word_tests}
+use Rattle.fx_dropout.specs.inner.Closing.{IsNext, word_tests}
 use Rattle.fx_dropout.proofs.Columns.{one_more, all_of}
 use Rattle.fx_dropout.proofs.Levels.{columns_more, columns_none}
 use Rattle.fx_dropout.proofs.closing.close_columns.Goals as goal

@@ -1,4 +1,4 @@
-use Rattle.std.proofs.Common.{◌≡◌, ◌∙◌, inl, inr, ap, subst, ℕ, ◌+◌, ◌-◌, ◌*◌, ◌<◌, ℤ, pos, ◌+ℤ◌, ◌*ℤ◌, get_or, true, arith, w32, to_z, of_z}
+use Rattle.std.proofs.Common.{◌≡◌, ◌∙◌, inl, inr, ap, ℕ, ◌+◌, ◌-◌, ◌*◌, ◌<◌, pos, ◌+ℤ◌, ◌*ℤ◌, get_or, true, arith, w32, to_z, of_z}
 use Rattle.std.specs.Int.{bit_at}
 use Rattle.std.proofs.lemmas.List.{get_or-set_other, length-set}
 use Rattle.fx_fixed.proofs.Linear.{signed_linear}
@@ -40,11 +40,17 @@ words-preserved c =
     λ i l.
     let number : to_z w32 (of_z w32 (left +ℤ to_z w32 (of_z w32 (pos 32 *ℤ to_z w32 w)))) +ℤ pos (31 - i)
     ≡ left +ℤ pos (32 * w + (31 - i)) = omega (arith, signed_linear, col, own_left) in
-    subst (λ (z : ℕ × ℕ × ℕ × ℕ × ℤ). IsLevelClosed (bit_at z.0 i) (bit_at z.1 i) (bit_at z.2 i) (bit_at z.3 i)
-    (IsNext c.args.chooser.now true z.4 j) (bit_at c.closed.result i) (bit_at c.nexts-nexts.result i))
-    (λ t. (here t, next t, above t, below t, number t))
-    (level_word _ _ _ _ (bit_at c.gaps_of-gaps.result i) (bit_at c.nexts-nexts.result i) (bit_at c.closed.result i) _
-    (c.gaps_of-gaps.ensures i l) (c.nexts-nexts.ensures.bits i l) (c.closed.ensures i l)) in
+    grind (
+      arith,
+      here,
+      next,
+      above,
+      below,
+      number,
+      level_word _ _ _ _ (bit_at c.gaps_of-gaps.result i)
+          (bit_at c.nexts-nexts.result i) (bit_at c.closed.result i) _ (c.gaps_of-gaps.ensures i l) (c.nexts-nexts.ensures.bits i l)
+          (c.closed.ensures i l),
+    ) in
     record {
       long = length-set c.words.words (v.pixels + w) c.closed.result ∙ inv.long;
       up_long = length-set c.words.up (v.segments + v.step + w) c.nexts-nexts.result ∙ inv.up_long;

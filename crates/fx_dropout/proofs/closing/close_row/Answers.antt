@@ -65,6 +65,4 @@ pub returns-clause-bits : goal.returns-clause-bits
 returns-clause-bits c = λ n l.
     let left : to_z w32 (of_z w32 c.args.left) ≡ c.args.left = omega (arith, signed_linear, c.requires.left) in
     let j : to_z w32 (of_z w32 c.args.j) ≡ c.args.j = omega (arith, signed_linear, c.requires.row) in
-    subst (λ (z : ℤ × ℤ). IsClosedBit (λ k. word_bit c.args.row.now k) (λ k. word_bit c.args.noted.now k)
-    (λ k. IsNext c.args.chooser.now false (z.0 +ℤ pos k) z.1) n (word_bit c.words.row n)) (λ t. (left t, j t))
-    (c.words.invariant.done n (omega (arith, l, c.words.invariant.length)))
+    grind (arith, left, j, c.words.invariant.done n (omega (arith, l, c.words.invariant.length)))

@@ -1,4 +1,4 @@
-use Rattle.std.proofs.Common.{◌≡◌, ◌↔◌, subst, ℕ, ◌-◌, ◌/◌, ◌%◌, ℤ, pos, ◌+ℤ◌, get_or, arith, w32, to_z, of_z, ◌*◌, length}
+use Rattle.std.proofs.Common.{◌≡◌, ◌-◌, ◌/◌, ◌%◌, pos, ◌+ℤ◌, arith, w32, to_z, of_z, ◌*◌, length}
 use Rattle.std.specs.Int.{bit_at}
 use Rattle.fx_winding.proofs.Grid.{word_zero}
 use Rattle.fx_winding.proofs.Scanned.{row_set_more}
@@ -32,6 +32,4 @@ returns-clause-bits c = λ i l.
     let b : 31 - (31 - i) % 32 ≡ i = omega (arith, l) in
     let left = same_row c.args.left c.requires.left in
     let row = same_row c.args.row c.requires.row in
-    subst (λ (z : ℕ × ℕ × ℕ × ℤ × ℤ). (bit_at (get_or c.pixels.found z.0 0) z.1 ≡ 1) ↔ ((bit_at c.args.gaps z.2 ≡ 1)
-    × IsNext c.args.self.now c.args.is_up (z.3 +ℤ pos (31 - i)) z.4)) (λ t. (w t, b t, j t, left t, row t))
-    (c.pixels.invariant.bits.set (31 - i) (omega arith))
+    grind (arith, w, b, j, left, row, c.pixels.invariant.bits.set (31 - i) (omega arith))

@@ -11,12 +11,14 @@ use Rattle.fx_dropout.proofs.Columns.{same_row}
 use Rattle.fx_dropout.proofs.pair.Pair.place.Goals as goal
 
 -- a coordinate of a pixel's centre, and the one n steps on, as the code has them
-stays : (q x : ℤ) → x ≡ pos 128 *ℤ q +ℤ pos 64 → IsPixelNumber q → (to_z w32 (of_z w32 x) ≡ pos 128 *ℤ q +ℤ pos 64) × IsWithin 4194304 (to_z w32 (of_z w32 x))
-stays q x e h =
+stays_there : (q x : ℤ) → x ≡ pos 128 *ℤ q +ℤ pos 64 → IsPixelNumber q
+    → (to_z w32 (of_z w32 x) ≡ pos 128 *ℤ q +ℤ pos 64) × IsWithin 4194304 (to_z w32 (of_z w32 x))
+stays_there q x e h =
     (omega (arith, signed, e, h.0, h.1), (omega (arith, signed, e, h.0, h.1), omega (arith, signed, e, h.0, h.1)))
 
 stepped : (q x : ℤ) (n : ℕ) → x ≡ pos 128 *ℤ q +ℤ pos 64 → IsPixelNumber q → IsPixelNumber (q +ℤ pos 1) → n ≤ 128
-    → let s = to_z w32 (of_z w32 (to_z w32 (of_z w32 x) +ℤ to_z w32 n)) in (s ≡ (pos 128 *ℤ q +ℤ pos 64) +ℤ pos n) × IsWithin 4194304 s
+    → let s = to_z w32 (of_z w32 (to_z w32 (of_z w32 x) +ℤ to_z w32 n)) in
+    (s ≡ (pos 128 *ℤ q +ℤ pos 64) +ℤ pos n) × IsWithin 4194304 s
 stepped q x n e h k few =
     let step : to_z w32 n ≡ pos n = to_z_pos w32 n (omega (arith, few)) in
     let most : ((pos 128 *ℤ q +ℤ pos 64) +ℤ pos n) ≤ℤ pos 4194304 = omega (arith, signed, k.1, few) in
@@ -35,7 +37,7 @@ pub invariant_of-result : goal.invariant_of-result
 invariant_of-result c =
     let p = c.args.self in
     let z = at p c.centre_of-here.result c.centre_of-here.ensures in record {
-      near_x = (stays p.here.col _ z.0 p.here.col_number).1;
+      near_x = (stays_there p.here.col _ z.0 p.here.col_number).1;
       near_y = (stepped p.here.row _ c.args.n z.1 p.here.row_number (rw c.if-self.true at p.next_row_number) c.requires).1;
     }
 
@@ -43,7 +45,7 @@ pub returns-then-self : goal.returns-then-self
 returns-then-self c =
     let p = c.args.self in
     let z = at p c.centre_of-here.result c.centre_of-here.ensures in
-    let x = (stays p.here.col _ z.0 p.here.col_number).0 in
+    let x = (stays_there p.here.col _ z.0 p.here.col_number).0 in
     let y = (stepped p.here.row _ c.args.n z.1 p.here.row_number (rw c.if-self.true at p.next_row_number) c.requires).0 in
     rw (c.if-self.true) (λ t. place (x t) (y t))
 
@@ -52,7 +54,7 @@ invariant_of-result-2 c =
     let p = c.args.self in
     let z = at p c.centre_of-here.result c.centre_of-here.ensures in record {
       near_x = (stepped p.here.col _ c.args.n z.0 p.here.col_number (rw c.if-self.false at p.next_col_number) c.requires).1;
-      near_y = (stays p.here.row _ z.1 p.here.row_number).1;
+      near_y = (stays_there p.here.row _ z.1 p.here.row_number).1;
     }
 
 pub returns : goal.returns
@@ -60,5 +62,5 @@ returns c =
     let p = c.args.self in
     let z = at p c.centre_of-here.result c.centre_of-here.ensures in
     let x = (stepped p.here.col _ c.args.n z.0 p.here.col_number (rw c.if-self.false at p.next_col_number) c.requires).0 in
-    let y = (stays p.here.row _ z.1 p.here.row_number).0 in
+    let y = (stays_there p.here.row _ z.1 p.here.row_number).0 in
     rw (c.if-self.false) (λ t. place (x t) (y t))
