@@ -261,29 +261,6 @@ fn close_columns(
     }
 }
 
-/// Closes the gaps of all rows of a frame, and then those that are left in the columns.
-fn close_lines(
-    chooser: &Chooser<'_>,
-    frame: Frame,
-    across: &[u32],
-    up: &mut [u32],
-    words: &mut [u32],
-    tally: &mut Tally,
-)
-    requires wide { 0 < frame.width }
-    requires some { 0 < frame.height }
-    requires across { length across.now ≡ frame.height * words_noted_of frame.width }
-    requires up { length up.old ≡ (frame.height + 1) * words_noted_of frame.width }
-    requires pixels { length words.old ≡ frame.height * words_for_of frame.width }
-    ensures up_length { length up.new ≡ length up.old }
-    ensures length { length words.new ≡ length words.old }
-    ensures closed { AreClosedWords (IsNext chooser.now) frame across.now up.old words.old words.new }
-    ensures count { tally.new.count ≤ tally.old.count + 2 * (frame.height * (words_for_of frame.width * word_tests chooser.now)) }
-{
-    close_rows(chooser, frame, across, words, tally);
-    close_columns(chooser, frame, up, words, tally);
-}
-
 /// Closes the gaps of all rows of a frame, and then those that are left in the columns, if it has any gap.
 #[tactic(auto, using(crate::proofs::NoneOpen::none_closed))]
 #[inline(always)]
@@ -309,5 +286,6 @@ pub(crate) fn close_words(
     if !may_be_open(frame, across, up, words) {
         return;
     }
-    close_lines(chooser, frame, across, up, words, tally);
+    close_rows(chooser, frame, across, words, tally);
+    close_columns(chooser, frame, up, words, tally);
 }

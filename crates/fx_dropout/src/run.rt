@@ -299,19 +299,6 @@ pub(crate) struct Part {
     pub turn: Option<i32>,
 }
 
-/// What a piece adds at the place n alone.
-fn part_alone(piece: &Piece, pair: Pair, n: usize, tally: &mut Tally) -> Part
-    requires before { n < 128 }
-    ensures one { result.count ≡ 1 }
-    ensures part { IsPartTo pair n (n + result.count) (span_of piece.now) result.turn }
-    ensures count { tally.new.count ≤ tally.old.count + 3 }
-{
-    Part {
-        count: 1,
-        turn: turn_at(piece, pair.place(n), tally),
-    }
-}
-
 /// What a piece adds at the place n, and at how many places from there on it is seen to add that.
 #[inline(always)]
 pub(crate) fn next_part(piece: &Piece, pair: Pair, n: usize, tally: &mut Tally) -> Part
@@ -333,7 +320,7 @@ pub(crate) fn next_part(piece: &Piece, pair: Pair, n: usize, tally: &mut Tally) 
     // The next try is `count` places.
     'tries: for tries in 0..5usize {
         if count <= 1 {
-            return part_alone(piece, pair, n, tally);
+            break;
         }
         let run = PlaceRun {
             first: n,
@@ -351,5 +338,8 @@ pub(crate) fn next_part(piece: &Piece, pair: Pair, n: usize, tally: &mut Tally) 
             count / 4
         };
     }
-    part_alone(piece, pair, n, tally)
+    Part {
+        count: 1,
+        turn: turn_at(piece, pair.place(n), tally),
+    }
 }

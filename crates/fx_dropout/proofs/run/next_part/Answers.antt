@@ -1,6 +1,7 @@
-use Rattle.std.proofs.Common.{arith}
+use Rattle.std.proofs.Common.{subst, arith}
 use Rattle.fx_winding.specs.Winding.{span_of}
-use Rattle.fx_dropout.proofs.Runs.{part_as_stored}
+use Rattle.fx_dropout.specs.inner.Runs.{IsPart}
+use Rattle.fx_dropout.proofs.Runs.{part_alone, part_as_stored}
 use Rattle.fx_dropout.proofs.run.next_part.Goals as goal
 
 pub returns-in-Some-clause-part : goal.returns-in-Some-clause-part
@@ -11,3 +12,9 @@ pub returns-in-Some-turn_along-clause-part : goal.returns-in-Some-turn_along-cla
 returns-in-Some-turn_along-clause-part c = λ n low high.
     part_as_stored _ (span_of c.args.piece.now) c.in-Some-turn_along.turn
     (c.in-Some-turn_along.ensures.part n low (omega (arith, high)))
+
+pub returns-clause-part : goal.returns-clause-part
+returns-clause-part c =
+    let s = span_of c.args.piece.now in
+    part_alone c.args.pair c.args.n s c.turn_at.result
+    (subst (λ p. IsPart p s c.turn_at.result) c.place.ensures c.turn_at.ensures.part)
