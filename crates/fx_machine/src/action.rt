@@ -3,7 +3,7 @@
 use crate::definitions::Function;
 
 /// What an instruction did, beside what it did to the state.
-#[derive(Clone, Copy, Debug, PartialEq, Eq)]
+#[derive(Clone, Copy)]
 pub enum Action {
     /// The program continues at an address.
     Went(usize),

@@ -15,7 +15,7 @@ use crate::program::Program;
 use arrayvec::ArrayVec;
 
 /// An open call: the turns of its function that are left after this one, and where it continues.
-#[derive(Clone, Copy, Debug, PartialEq, Eq, Default)]
+#[derive(Clone, Copy, Default)]
 pub struct OpenCall {
     pub function: Function,
     pub left: u32,

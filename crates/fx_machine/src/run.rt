@@ -124,6 +124,7 @@ pub fn run<W: Watching>(
         if left == 0 {
             return Err(halted(programs, start, program, address, Cause::StepLimit));
         }
+        left -= 1;
         let name = programs.name(program);
         let has_left = match advance(&mut cursor, &mut calls, state, bytes, targets) {
             Ok(has_left) => has_left,
@@ -131,6 +132,5 @@ pub fn run<W: Watching>(
         };
         tell(watcher, name, bytes, address, &calls, state);
         bytes = bytes_then(programs, bytes, cursor.program, has_left);
-        left -= 1;
     }
 }
