@@ -52,19 +52,12 @@ row_cut w p s code n h =
 bytes_size : (code : List ℕ) (p : ℕ) → 0xB0 ≤ opcode_at code p → opcode_at code p ≤ 0xB7
     → size_at code p ≡ 1 + (opcode_at code p - 0xB0 + 1)
 unfolding size_at
-bytes_size code p l h =
-    let op = opcode_at code p in
-    rw (
-      ne_eqb op 0x40 (λ z. omega (arith, l, z)),
-      ne_eqb op 0x41 (λ z. omega (arith, l, z)),
-      le-leb 0xB0 op l,
-      le-leb op 0xB7 h,
-    ) refl
+bytes_size code p l h = grind arith
 
 -- the opcode says no more of them
 bytes_alike : (op : ℕ) (bytes : List ℕ) → 0xB0 ≤ op → op ≤ 0xB7 → numbers 0xB0 bytes ≡ numbers op bytes
 unfolding numbers
-bytes_alike op bytes l h = rw (ne_eqb op 0x41 (λ z. omega (arith, l, z)), lt-leb 0xB8 op (omega (arith, h))) refl
+bytes_alike op bytes l h = grind arith
 
 -- its row, if its data are there
 whole_here : (code : List ℕ) (p next : ℕ) (s t : State) (r : Result Action Cause) → 0xB0 ≤ opcode_at code p
@@ -90,9 +83,7 @@ whole_here code p next s t r l h e m k =
 cut_here : (code : List ℕ) (p next : ℕ) (s : State) → 0xB0 ≤ opcode_at code p → opcode_at code p ≤ 0xB7
     → next ≡ p + 1 + (opcode_at code p - 0xB0) + 1 → length code < next → Err CodeEnd ≡ push_at code p s
 unfolding push_at
-cut_here code p next s l h e m =
-    let n : next_address code p ≡ next = omega (arith, e, bytes_size code p l h) in
-    rw (n, lt-leb next (length code) m) refl
+cut_here code p next s l h e m = grind (arith, bytes_size code p l h)
 
 -- both by the opcode as code has it
 pub bytes_whole : (code : List ℕ) (p op next : ℕ) (s t : State) (r : Result Action Cause) → op ≡ opcode_at code p → 0xB0 ≤ op
