@@ -42,10 +42,9 @@ none_after zero (w ∷ ws) h =
       none_after zero ws (λ k i j. h (suc k) (omega arith) (omega (arith, j))),
       e,
     ) refl
-none_after (suc used) [] h = let e : 0 ≡ 0 - suc used = omega arith in ap (λ (n : ℕ). replicate n None) e
+none_after (suc used) [] h = grind arith
 none_after (suc used) (w ∷ ws) h =
-    let e : suc (length ws) - suc used ≡ length ws - used = omega arith in
-    none_after used ws (λ k i j. h (suc k) (omega (arith, i)) (omega (arith, j))) ∙ ap (λ (n : ℕ). replicate n None) (sym e)
+    grind (arith, none_after used ws (λ k i j. h (suc k) (omega (arith, i)) (omega (arith, j))))
 
 -- of functions that are those of words, there are none from there on
 pub empty_from : (used : ℕ) (ws : List ℕ) (items : List (Option Function)) → items ≡ map function_in ws

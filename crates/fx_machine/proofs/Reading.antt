@@ -29,9 +29,7 @@ there_by true w p s code e h = elim (leb_tells (next_address code p) (length cod
   | inl y ↦ rw (e, ne_eqb p (length code) (λ z. omega arith), y.0) refl
   | inr y ↦ rw (e, ne_eqb p (length code) (λ z. omega arith), y.0) refl
 ]
-there_by false w p s code e h =
-    let z : p + 1 ≤ length code = omega arith in
-    rw (e, lone code p e, ne_eqb p (length code) (λ z. omega arith), le-leb (p + 1) (length code) z) refl
+there_by false w p s code e h = grind (arith, lone code p e)
 
 -- the row of the opcode at an address inside
 pub row_there : (w : Program) (p : ℕ) (s : State) (x : Result (Action × State) Cause) (code : List ℕ) (op : ℕ)
@@ -42,9 +40,7 @@ row_there w p s x code op h eo m = rw (m, eo) (there_by (is_push (opcode_at code
 pub row_cut : (w : Program) (p : ℕ) (s : State) (code : List ℕ) → p ≢ length code → length code ≤ p
     → Fails CodeEnd ≡ row_in code w p s
 unfolding row_in
-row_cut w p s code n h =
-    let past : length code < next_address code p = omega (arith, next_above code p) in
-    rw (ne_eqb p (length code) n, lt-leb (next_address code p) (length code) past) refl
+row_cut w p s code n h = grind (arith, next_above code p)
 
 -- ---- the bytes of PUSHB
 
