@@ -137,7 +137,8 @@ fn x11_properties<'a>(
 ) -> Result<Vec<Property<'a>>, AllocError>
     ensures { IfOk result (λ all. seen_properties all.items ≡ x11_properties name.entry.now ppem summary) }
 {
-    let mut all = Vec::from_slice(alloc, &name_properties(name))?;
+    let mut all = Vec::new(alloc);
+    all.extend_from_slice(&name_properties(name))?;
     all.extend_from_slice(&size_properties(ppem, summary))?;
     push_default(&mut all, summary)?;
     Ok(all)

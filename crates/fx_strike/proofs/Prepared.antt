@@ -1,5 +1,5 @@
 -- What is due once a font opened, its programs ran and the checks passed is what is due before.
--- Serves `make_strike_with`, `survey_inner`, `one_inner`, `numbered_one` and the calls of `Striker`.
+-- Serves the calls that make a strike, its survey or one glyph, and those of `Striker`.
 use Rattle.std.proofs.Common.{◌≡◌, refl, sym, ℕ, List, Option, Result, Ok, Err}
 use Rattle.std.specs.Prelude.{IsOk, IfOk, IfErr}
 use Rattle.fx_fixed.specs.Chain.{GivesUnless}
@@ -7,8 +7,7 @@ use Rattle.fx_fixed.proofs.Chain.{bind_ok}
 use Rattle.fx_strike.specs.Strike.{Sketch, Setting, opened_at, opened_of, setting_in, setting_of, plan_with, plan_in, plan_of, FontFileView, Glyph, Mode}
 use Rattle.fx_strike.specs.Strike.{OnRefused, Refusal, Opened, Fails, Title}
 use Rattle.fx_strike.specs.Headline.{IsOneOf}
-use Rattle.fx_strike.specs.Numbers.{IsDrawnOf}
-use Rattle.fx_strike.specs.inner.Drawing.{Draws, Finds}
+use Rattle.fx_strike.specs.inner.Drawing.{Finds}
 use Rattle.fx_strike.proofs.Sketching.{fails_on}
 
 -- what passed
@@ -63,10 +62,3 @@ pub finds_cause : (due : Result (Option Sketch) Refusal) (r : Result (Option Gly
     → IfErr r (λ d. Fails d due)
 finds_cause due (Ok glyph) h = tt
 finds_cause due (Err d) h = h
-
--- ---- a glyph by its number
-
-pub draws_by : (due : Result Sketch Refusal) (r : Result Glyph Refusal) → IfOk r (IsDrawnOf due) → IfErr r (λ d. Fails d due)
-    → Draws due r
-draws_by due (Ok glyph) h f = h
-draws_by due (Err d) h f = f

@@ -12,8 +12,8 @@ pairs-preserved c =
       text = pair_over c.args.start k c.pairs.bytes _ _ _ (take c.args.start c.args.bytes.now) words (omega (arith, c.requires))
           (omega arith) c.pairs.invariant.text
           (lanes_over (c.args.start + 8 * k) 16 c.pairs.bytes c.pair_lanes.result
-          (word_text (get_or words k 0) ++ word_text (get_or words (k + 1) 0)) c.pair_lanes.ensures refl (omega (arith, c.requires)))
-          refl;
+          (word_text (get_or words k 0) ++ word_text (get_or words (k + 1) 0)) c.pair_lanes.ensures refl
+          (omega (arith, c.requires))) refl;
     }
 
 pub returns-then-k-words-clause-text : goal.returns-then-k-words-clause-text
