@@ -216,12 +216,9 @@ met_in_frame s f g from to m n part a b c d is = record {
     at r l = height_of_part f g from to r part l
 
 -- ---- the pieces that are noted
--- no piece yet, or no row
+-- no piece yet
 pub noted_start : (P : Saying → Type 0) (ss : List Span) (to : ℕ) → AreNotedIn P (take 0 ss) to
 noted_start P ss to k d h = absurd (omega (arith, h))
-
-pub noted_none : (P : Saying → Type 0) (ss : List Span) → AreNotedIn P ss 0
-noted_none P ss k d h = record { across = λ r l. absurd (omega (arith, l)); up = λ l. absurd (omega (arith, l)) }
 
 -- what is noted stays so
 pub rows_also : (P Q : Saying → Type 0) (s : Span) (to : ℕ)
@@ -242,7 +239,10 @@ pub rows_noted : (P Q : Saying → Type 0) (s : Span) (mid to : ℕ) → ((w : W
     → ((r : ℕ) → mid ≤ r → r ≤ to → Q (noted s up_to_row r)) → AreRowsNoted Q s to
 rows_noted P Q s mid to kept h across up = record {
   across = λ r l. elim (below_or_not r mid) [ inl m ↦ kept across_row r (h.across r m) | inr m ↦ across r m l ];
-  up = λ o r l. elim (below_or_not r mid) [ inl m ↦ kept up_to_row r (h.up (omega (arith, m)) r (omega (arith, m))) | inr m ↦ up r m l ];
+  up = λ o r l. elim (below_or_not r mid) [
+    | inl m ↦ kept up_to_row r (h.up (omega (arith, m)) r (omega (arith, m)))
+    | inr m ↦ up r m l
+  ];
 }
 
 pub with_sum : (r a b : ℕ) → with_first r (a + b) ≡ with_first r a + with_first r b
@@ -276,11 +276,12 @@ exact_of A f across up ss all h = record {
       p.met (off_one _ ss p.piece off.off_from p.among)
           (off_one _ ss p.piece off.off_to p.among),
     ),
-    λ (i, s, inside, is, met). ((subst (λ t. AreRowsNoted (BitsSay A f across up) t f.height) is (all i s inside)).across r l).0 l k m (record {
-      met = met;
-      off_left = λ on. off.off_from (i, s, inside, is, on);
-      off_right = λ on. off.off_to (i, s, inside, is, on);
-    }),
+    λ (i, s, inside, is, met). ((subst (λ t. AreRowsNoted (BitsSay A f across up) t f.height) is
+        (all i s inside)).across r l).0 l k m (record {
+          met = met;
+          off_left = λ on. off.off_from (i, s, inside, is, on);
+          off_right = λ on. off.off_to (i, s, inside, is, on);
+        }),
   );
   up = λ r k some l m off. (
     λ e. let p = (h.columns r k (omega (arith, m)) e).1 in

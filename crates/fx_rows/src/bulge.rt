@@ -313,8 +313,8 @@ pub(crate) fn note_all_across(
     note_lines(piece, frame, row, 1, across, tally);
 }
 
-/// Notes the segments that a piece meets up to all rows, with the first band, as those across rows of the piece with its coordinates
-/// exchanged.
+/// Notes the segments that a piece meets up to all rows, with the first band, as those across rows of the piece with its
+/// coordinates exchanged.
 #[inline(never)]
 pub(crate) fn note_all_up(
     piece: &Piece,

@@ -38,7 +38,8 @@ pub(crate) trait Noting {
         requires before { AreRowsNoted (Says self.old) (span_of piece.now) rows.first }
         ensures kept { (x : Saying) → Lasts (span_of piece.now) x → Says self.old x → Says self.new x }
         ensures noted { AreRowsNoted (Says self.new) (span_of piece.now) rows.end }
-        ensures count { tally.new.count ≤ tally.old.count + (tests * (rows.end - rows.first) + with_first rows.first (more frame)) };
+        ensures count { tally.new.count ≤ tally.old.count +
+            (tests * (rows.end - rows.first) + with_first rows.first (more frame)) };
 }
 
 /// Nothing is noted.

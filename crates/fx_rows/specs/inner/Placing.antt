@@ -39,8 +39,8 @@ AreMet s f m = AreMetIn s f 0 f.height m
 abbrev pub IsBoxed : Frame → Span → Type 0
 IsBoxed f s = AreAcross s f.left (f.left +ℤ pos f.width)
 
--- what a piece meets in a way is noted apart from the rest: if the frame lacks a column of its box, and up to rows also if it is an
--- arc that bulges
+-- what a piece meets in a way is noted apart, for all rows with the first band: if the frame lacks a column of its box, and up to
+-- rows also if it is an arc that bulges
 abbrev pub IsApart : Frame → Span → Way → Type 0
 IsApart f s across_row = ¬ (IsBoxed f s)
 IsApart f s up_to_row = IsBulge s ⊎ ¬ (IsBoxed f s)
