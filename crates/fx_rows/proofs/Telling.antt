@@ -237,13 +237,7 @@ noted_more P Q ss to at s l e kept h here =
 pub rows_noted : (P Q : Saying → Type 0) (s : Span) (mid to : ℕ) → ((w : Way) (r : ℕ) → P (noted s w r) → Q (noted s w r))
     → AreRowsNoted P s mid → ((r : ℕ) → mid ≤ r → r < to → Q (noted s across_row r))
     → ((r : ℕ) → mid ≤ r → r ≤ to → Q (noted s up_to_row r)) → AreRowsNoted Q s to
-rows_noted P Q s mid to kept h across up = record {
-  across = λ r l. elim (below_or_not r mid) [ inl m ↦ kept across_row r (h.across r m) | inr m ↦ across r m l ];
-  up = λ o r l. elim (below_or_not r mid) [
-    | inl m ↦ kept up_to_row r (h.up (omega (arith, m)) r (omega (arith, m)))
-    | inr m ↦ up r m l
-  ];
-}
+rows_noted P Q s mid to kept h across up = grind (arith, signed_linear, kept, h, across, up, below_or_not)
 
 pub with_sum : (r a b : ℕ) → with_first r (a + b) ≡ with_first r a + with_first r b
 with_sum zero a b = refl

@@ -1,13 +1,11 @@
-use Rattle.std.proofs.Common.{inl, inr, sym, subst, ℕ, ◌-◌, List, arith}
+use Rattle.std.proofs.Common.{inl, inr, sym, subst, ℕ, List, arith}
 use Rattle.std.proofs.lemmas.List.{with_items_is}
 use Rattle.fx_fixed.proofs.Linear.{signed_linear}
 use Rattle.fx_winding.proofs.Places.{clash}
-use Rattle.fx_winding.specs.declared.frame.Frame.{Frame}
 use Rattle.fx_winding.specs.Notes.{IsNotedAcross, IsNotedUp}
 use Rattle.fx_winding.specs.Winding.{span_of}
-use Rattle.fx_rows.specs.inner.Placing.{IsApart, AreMetIn}
-use Rattle.fx_rows.specs.inner.Telling.{AreRowsTold, noted, across_row, up_to_row}
-use Rattle.fx_rows.specs.inner.Told.{IsEndIn}
+use Rattle.fx_rows.specs.inner.Placing.{IsApart}
+use Rattle.fx_rows.specs.inner.Telling.{noted, across_row, up_to_row}
 use Rattle.fx_rows.proofs.Boxed.{boxed}
 use Rattle.fx_rows.proofs.NotedSegments.{says_more}
 use Rattle.fx_rows.proofs.Telling.{rows_also, rows_noted, row_apart, with_sum}
@@ -50,21 +48,13 @@ returns-in_default-clause-count c =
 
 -- ---- the others
 pub note_across-requires-clause-placed : goal.note_across-requires-clause-placed
-note_across-requires-clause-placed c = record {
-  met = subst (λ (f : Frame). AreMetIn (span_of c.args.piece.now) f c.args.rows.first c.args.rows.end c.args.met)
-      (sym c.requires.frame) c.requires.met;
-  columns = c.in-Some.ensures.columns;
-}
+note_across-requires-clause-placed c = grind (arith, c.requires.frame, c.requires.met, c.in-Some.ensures.columns)
 
 pub note_across-requires-clause-told : goal.note_across-requires-clause-told
-note_across-requires-clause-told c =
-    subst (λ (f : Frame). AreRowsTold (λ r. IsEndIn c.args.self.now.ends (r - c.args.rows.first)) (span_of c.args.piece.now) f
-    c.args.rows.first c.args.rows.end) (sym c.requires.frame) c.requires.told
+note_across-requires-clause-told c = grind (arith, c.requires.frame, c.requires.told)
 
 pub note_up-requires-clause-told : goal.note_up-requires-clause-told
-note_up-requires-clause-told c =
-    subst (λ (f : Frame). AreRowsTold (λ r. IsEndIn c.args.self.now.ends (r - c.args.rows.first)) (span_of c.args.piece.now) f
-    c.args.rows.first c.args.rows.end) (sym c.requires.frame) c.requires.told
+note_up-requires-clause-told c = grind (arith, c.requires.frame, c.requires.told)
 
 -- those with no column in their box
 pub returns-then-across-clause-kept : goal.returns-then-across-clause-kept
