@@ -2,7 +2,7 @@
 -- It serves the step: the row of the opcode alone is that of the instruction with its data; and PUSHB, which takes its bytes.
 use Rattle.std.proofs.Common.{◌≡◌, ◌≢◌, ℕ, ◌+◌, ◌-◌, ◌<◌, ◌≤◌, Bool, true, false, List, length, Result, Err, inl, inr, refl, arith}
 use Rattle.std.specs.List.{slice_range}
-use Rattle.std.proofs.lemmas.Bool.{ne_eqb, le-leb, lt-leb}
+use Rattle.std.proofs.lemmas.Bool.{ne_eqb, le-leb}
 use Rattle.std.proofs.lemmas.Bool.Decides.{leb_tells}
 use Rattle.fx_code.specs.Chain.{opcode_at, next_address, size_at}
 use Rattle.fx_code.specs.Numbers.{numbers}
@@ -75,13 +75,7 @@ whole_here code p next s t r l h e m k =
       sizes = k.sizes;
     }
 
--- and if they are cut
-cut_here : (code : List ℕ) (p next : ℕ) (s : State) → 0xB0 ≤ opcode_at code p → opcode_at code p ≤ 0xB7
-    → next ≡ p + 1 + (opcode_at code p - 0xB0) + 1 → length code < next → Err CodeEnd ≡ push_at code p s
-unfolding push_at
-cut_here code p next s l h e m = grind (arith, bytes_size code p l h)
-
--- both by the opcode as code has it
+-- the same by the opcode as code has it, and where they are cut
 pub bytes_whole : (code : List ℕ) (p op next : ℕ) (s t : State) (r : Result Action Cause) → op ≡ opcode_at code p → 0xB0 ≤ op
     → op ≤ 0xB7 → next ≡ p + 1 + (op - 0xB0) + 1 → next ≤ length code
     → Leads (bytes_then next (slice_range code (p + 1) next)) s t r → Leads (push_at code p) s t r
@@ -89,4 +83,5 @@ bytes_whole code p op next s t r o l h e m k = whole_here code p next s t r (rw 
 
 pub bytes_cut : (code : List ℕ) (p op next : ℕ) (s : State) → op ≡ opcode_at code p → 0xB0 ≤ op → op ≤ 0xB7
     → next ≡ p + 1 + (op - 0xB0) + 1 → length code < next → Err CodeEnd ≡ push_at code p s
-bytes_cut code p op next s o l h e m = cut_here code p next s (rw o at l) (rw o at h) (rw o at e) m
+unfolding push_at
+bytes_cut code p op next s o l h e m = grind (arith, o, bytes_size code p (rw o at l) (rw o at h))
