@@ -1,5 +1,5 @@
 -- The dots of a glyph's rows.
--- Serves the writer of a picture: `put_dots`, `add_shown`.
+-- Serves the writer of a picture: `put_dots`, `add_glyph`.
 use Rattle.std.proofs.Common.{◌≡◌, ◌∙◌, ℕ, ◌+◌, ◌<◌, ◌≤◌, List, [], ◌∷◌, ◌++◌, Bool, true, false, length, get_or, set}
 use Rattle.std.proofs.Common.{take, map, sym, arith, length-append}
 use Rattle.std.specs.Prelude.{codes, if◌then◌else◌}

@@ -5,7 +5,7 @@ ghost use Rattle.fx_fixed.specs.Changes.{change_of};
 ghost use Rattle.fx_fixed.specs.Texts.{Adds, Fails, length_of};
 ghost use Rattle.fx_fixed.specs.Wrote.{Wrote};
 ghost use Rattle.fx_winding.specs.Limits.{greatest_side};
-ghost use Rattle.fx_cli.specs.Pictures.{dot_of, longest_picture, picture_of, row_line, shown_of};
+ghost use Rattle.fx_cli.specs.Pictures.{dot_of, longest_picture, row_line, shown_of};
 
 use fx_bdf::BitGlyph;
 use fx_fixed::{Sink, TextWriter, WriteFailed};
@@ -39,34 +39,24 @@ fn add_shown<O: Sink>(
     text.end()
 }
 
-/// Adds the picture of a glyph, or `missing`.
+/// Adds the picture of a glyph: the rows of its tight box from the top, or `empty`; `missing` if there is no glyph.
+#[tactic(auto, unfolding(crate::specs::Pictures::picture_of))]
 fn add_glyph<O: Sink>(
     glyph: &Option<BitGlyph>,
     text: &mut TextWriter<'_, O>,
 ) -> Result<(), WriteFailed>
     requires { text.old.faults < 2 ^ 63 }
     ensures text { Adds Fails text.old text.new (shown_of glyph.now) result }
+    // So the number of a fault is exact.
     ensures short { length (shown_of glyph.now) ≤ longest_picture }
 {
-    match glyph {
-        Some(glyph) => add_picture(glyph, text),
-        None => text.add(&[b"missing\n"]),
-    }
-}
-
-/// Adds the picture of a glyph: the rows of its tight box from the top, or `empty`.
-#[tactic(auto, unfolding(crate::specs::Pictures::picture_of))]
-fn add_picture<O: Sink>(glyph: &BitGlyph, text: &mut TextWriter<'_, O>) -> Result<(), WriteFailed>
-    requires { text.old.faults < 2 ^ 63 }
-    ensures text { Adds Fails text.old text.new (picture_of glyph.now) result }
-    // So the number of a fault is exact.
-    ensures short { length (picture_of glyph.now) ≤ longest_picture }
-{
+    let Some(glyph) = glyph else {
+        return text.add(&[b"missing\n"]);
+    };
     if glyph.bounds().is_empty() {
-        text.add(&[b"empty\n"])
-    } else {
-        add_rows(glyph, text)
+        return text.add(&[b"empty\n"]);
     }
+    add_rows(glyph, text)
 }
 
 /// Adds the rows of a glyph from the top, a line a row.

@@ -16,26 +16,21 @@ use std::{env, io};
 
 /// Runs the program on the arguments that the system gives, with its font and its output by name or on the standard streams.
 /// Returns the status: 0, 1 or 2. Nothing is buffered between it and the system's files, so that no byte is lost after it returns.
+#[tactic(auto, using(crate::proofs::Telling::status_is))]
 pub fn run_program(rt: &HostRuntime) -> u8
     ensures { IsStatus result }
 {
     match run_by_front(rt) {
         Ok(status) => status,
-        Err(fault) => end_unread(rt, fault.kind()),
+        Err(fault) => {
+            let mut err = ToSink::new(rt.stderr());
+            let status = unread(&mut err, fault.kind());
+            if status == 2 {
+                say_not_text(rt.alloc(), &mut err);
+            }
+            status
+        }
     }
-}
-
-/// Says why there are no arguments, or no memory for them. Returns the status.
-#[tactic(auto, using(crate::proofs::Telling::status_is))]
-fn end_unread(rt: &HostRuntime, kind: ErrorKind) -> u8
-    ensures { IsStatus result }
-{
-    let mut err = ToSink::new(rt.stderr());
-    let status = unread(&mut err, kind);
-    if status == 2 {
-        say_not_text(rt.alloc(), &mut err);
-    }
-    status
 }
 
 /// Runs the program by its front. An error is that there are no arguments, or no memory before the program was run.

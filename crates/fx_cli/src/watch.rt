@@ -7,7 +7,7 @@ use fx_arguments::{Characters, Command, Done, Fault, Task};
 use fx_cmap::CharMap;
 use fx_front::{Counts, Facts, Refused, Text};
 use fx_machine::FontProgram;
-use fx_request::{MAX_CHARACTERS, MAX_CODE, Place, Refusal, Report, rising_codes};
+use fx_request::{MAX_CHARACTERS, MAX_CODE, Place, Refusal, rising_codes};
 use fx_sfnt::{Font, FontFile};
 use std::alloc::{AllocError, Global};
 
@@ -40,27 +40,6 @@ impl Watch {
                 is_cut: false,
             },
             names_all: false,
-        }
-    }
-
-    /// Sees which characters of a list a font lacks, or whether it has more than a strike takes.
-    fn see_characters(
-        &mut self,
-        alloc: Global,
-        characters: &Characters,
-        report: Report,
-        map: &CharMap<'_>,
-    ) {
-        match characters {
-            Characters::Listed(chars) => {
-                if report.missing > 0 && self.see_missing(alloc, chars, map).is_err() {
-                    self.facts.missing = Text::new(alloc);
-                    self.facts.has_more = false;
-                }
-            }
-            Characters::All => {
-                self.facts.is_cut = map.mapped_below(MAX_CODE + 1, &mut []) > MAX_CHARACTERS;
-            }
         }
     }
 
@@ -138,10 +117,22 @@ impl Watcher for Watch {
         };
         self.facts.is_variable = !matches!(done, Done::Listing | Done::Explanation)
             && opened.table(*b"fvar").is_some();
-        if let (Done::Strike(report), Task::Strike(make)) = (done, &command.task)
-            && let Ok(map) = CharMap::open(&opened)
-        {
-            self.see_characters(alloc, &make.chars, *report, &map);
+        let (Done::Strike(report), Task::Strike(make)) = (done, &command.task) else {
+            return;
+        };
+        let Ok(map) = CharMap::open(&opened) else {
+            return;
+        };
+        match &make.chars {
+            Characters::Listed(chars) => {
+                if report.missing > 0 && self.see_missing(alloc, chars, &map).is_err() {
+                    self.facts.missing = Text::new(alloc);
+                    self.facts.has_more = false;
+                }
+            }
+            Characters::All => {
+                self.facts.is_cut = map.mapped_below(MAX_CODE + 1, &mut []) > MAX_CHARACTERS;
+            }
         }
     }
 
@@ -155,26 +146,21 @@ impl Watcher for Watch {
             }
             Ok(_) | Err(Fault::Usage) => {}
             Err(Fault::Early(refusal)) | Err(Fault::Late(refusal)) => {
-                self.facts.refused = Some(refused(*refusal));
+                let place = refusal.place();
+                self.facts.refused = Some(Refused {
+                    number: refusal.number(),
+                    advice: refusal.advice(),
+                    glyph: match place {
+                        Place::Glyph(glyph) => Some(glyph),
+                        _ => None,
+                    },
+                    is_halted: matches!(place, Place::Halt(_)),
+                    is_halted_glyph: match place {
+                        Place::Halt(halt) => matches!(halt.during, FontProgram::Glyph(_)),
+                        _ => false,
+                    },
+                });
             }
         }
-    }
-}
-
-/// What is told of a refusal.
-fn refused(refusal: Refusal) -> Refused {
-    let place = refusal.place();
-    Refused {
-        number: refusal.number(),
-        advice: refusal.advice(),
-        glyph: match place {
-            Place::Glyph(glyph) => Some(glyph),
-            _ => None,
-        },
-        is_halted: matches!(place, Place::Halt(_)),
-        is_halted_glyph: match place {
-            Place::Halt(halt) => matches!(halt.during, FontProgram::Glyph(_)),
-            _ => false,
-        },
     }
 }
