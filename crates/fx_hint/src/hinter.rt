@@ -52,14 +52,18 @@ pub trait Hinter {
     fn recall(&self, input: &GlyphInput<'_>, made: &mut Made) -> Option<Usage>
         ensures value { IfSome result (λ usage. IsMadeAlone (hinting self.now) input.now.scale input.now.g input.now.metrics
             input.now.bytes.now made.new usage) }
-        ensures leads { IfSome result (λ _. (run : ProgramRun) → Leads self.now (run ∷ []) self.now) };
+        ensures leads { IfSome result (λ _. (run : ProgramRun) → Leads self.now (run ∷ []) self.now) }
+    {
+        None
+    }
 
     /// Takes notice of a simple glyph that was made, and may keep it.
     fn keep(&mut self, input: &GlyphInput<'_>, made: &Made, usage: Usage)
         requires { IsMadeAlone (hinting self.old) input.now.scale input.now.g input.now.metrics input.now.bytes.now made.now usage }
         ensures known { known self.new ≡ known self.old }
         ensures kept { hinting self.new ≡ hinting self.old }
-        ensures leads { Leads self.old [] self.new };
+        ensures leads { Leads self.old [] self.new }
+    {}
 
     /// The law: no program changes the number of points or the contours.
     fn law_keeps_shape(&self)
@@ -99,12 +103,6 @@ impl Hinter for NoHinter {
     ) -> Result<Usage, HintFault> {
         Ok(Usage::none())
     }
-
-    fn recall(&self, _input: &GlyphInput<'_>, _made: &mut Made) -> Option<Usage> {
-        None
-    }
-
-    fn keep(&mut self, _input: &GlyphInput<'_>, _made: &Made, _usage: Usage) {}
 
     fn law_keeps_shape(&self) {}
 

@@ -68,17 +68,6 @@ fn are_same(one: &[u8], other: &[u8]) -> bool
     same
 }
 
-impl KeptFields {
-    /// Whether the glyph has this number, size and metrics.
-    fn are_of(&self, input: &GlyphInput<'_>) -> bool
-        ensures number { IsTrue result → self.now.g ≡ input.now.g }
-        ensures scale { IsTrue result → self.now.scale ≡ input.now.scale }
-        ensures metrics { IsTrue result → self.now.metrics ≡ input.now.metrics }
-    {
-        self.g == input.g && self.metrics == input.metrics && self.scale == input.scale
-    }
-}
-
 impl KeptGlyph {
     /// Nothing is kept.
     pub fn new(alloc: Global) -> KeptGlyph
@@ -142,7 +131,10 @@ impl KeptGlyph {
         let Some(fields) = &self.fields else {
             return None;
         };
-        if !fields.are_of(input) || !are_same(&self.bytes, input.bytes) {
+        if fields.g != input.g || fields.metrics != input.metrics || fields.scale != input.scale {
+            return None;
+        }
+        if !are_same(&self.bytes, input.bytes) {
             return None;
         }
         made.zone.refill(&self.points, &self.ends).ok()?;

@@ -139,7 +139,7 @@ fn moved_outline(
     })
 }
 
-/// The points, moved so that the origin lies at x = 0, in their order, in a list whose points are lost.
+/// The points at their current places, moved so that the origin lies at x = 0, in their order, in a list whose points are lost.
 fn moved_points(
     list: Vec<OutlinePoint>,
     points: &[Point],
@@ -149,20 +149,12 @@ fn moved_points(
 {
     let mut moved = list;
     moved.resize(points.len(), BLANK)?;
-    // There are as many moved points as points, and those before `number` are these points moved.
+    // There are as many moved points as points, and those before `number` are these points moved. They are written field by field:
+    // a whole point would be written with its padding.
     'points: for number in 0..points.len() {
-        write_moved(&mut moved[number], &points[number], origin);
+        moved[number].x = points[number].cur.x.minus(origin);
+        moved[number].y = points[number].cur.y;
+        moved[number].on_curve = points[number].on;
     }
     Ok(moved)
-}
-
-/// Writes a point at its current place, moved so that the origin lies at x = 0, over another point, field by field: a whole point
-/// would be written with its padding.
-#[inline(always)]
-fn write_moved(moved: &mut OutlinePoint, point: &Point, origin: F26)
-    ensures { moved.new ≡ moved_point origin point.now }
-{
-    moved.x = point.cur.x.minus(origin);
-    moved.y = point.cur.y;
-    moved.on_curve = point.on;
 }

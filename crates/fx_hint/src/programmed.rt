@@ -10,7 +10,6 @@ ghost use Rattle.fx_hint.specs.Programmed.{point_or, point_at, phantoms_at, hint
 use crate::component::ComponentOf;
 use crate::fault::HintFault;
 use crate::hinter::Hinter;
-use crate::kept::GlyphInput;
 use crate::made::Made;
 use crate::watcher::{RunWatcher, RunWatching};
 use fx_code::Code;
@@ -100,12 +99,6 @@ impl<'a> Hinter for Machine<'a> {
         hint(self, g, code, made, &mut Unwatched)
     }
 
-    fn recall(&self, _input: &GlyphInput<'_>, _made: &mut Made) -> Option<Usage> {
-        None
-    }
-
-    fn keep(&mut self, _input: &GlyphInput<'_>, _made: &Made, _usage: Usage) {}
-
     fn law_keeps_shape(&self) {}
 
     ghost leads_same = { λ _. tt };
@@ -165,12 +158,6 @@ impl<'a, W: RunWatching> Hinter for WatchedMachine<'a, W> {
     fn is_on(&self) -> bool {
         true
     }
-
-    fn recall(&self, _input: &GlyphInput<'_>, _made: &mut Made) -> Option<Usage> {
-        None
-    }
-
-    fn keep(&mut self, _input: &GlyphInput<'_>, _made: &Made, _usage: Usage) {}
 
     fn law_keeps_shape(&self) {}
 

@@ -14,8 +14,8 @@ points-preserved c =
     record {
       points = ap (λ (f : Figure). f.points) c.set.ensures.value
           ∙ more_written (laid c.args.part.now c.args.offset.now) c.args.zone.now.points c.points.zone.points c.points.number
-          c.laid-point.result c.index-points-number.result inside c.points.invariant.points
-          (c.laid-point.ensures ∙ ap (laid c.args.part.now c.args.offset.now) read);
+          c.resting-point.result c.index-points-number.result inside c.points.invariant.points
+          (rw (c.plus.ensures, c.turned.ensures) at c.resting-point.ensures ∙ ap (laid c.args.part.now c.args.offset.now) read);
       ends = ap (λ (f : Figure). f.ends) c.set.ensures.value ∙ c.points.invariant.ends;
       count = c.set.ensures.shape.points ∙ c.points.invariant.count;
     }
