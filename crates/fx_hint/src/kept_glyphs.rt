@@ -1,11 +1,11 @@
 //! Places for simple glyphs that were made.
 
-ghost use Rattle.std.specs.Prelude.{◌≡◌, ◌≤◌, replicate, length, option_map, None, IfOk, IfSome, IsTrue};
+ghost use Rattle.std.specs.Prelude.{◌≡◌, replicate, length, option_map, None, IfOk, IfSome};
 ghost use Rattle.std.specs.List.{All};
 ghost use Rattle.fx_hint.specs.Hinting.{Hinting};
 ghost use Rattle.fx_hint.specs.Kept.{IsMadeAlone, IsTrueOf, IsSmall};
 ghost use Rattle.fx_hint.specs.inner.Kept.{places_of};
-ghost use Rattle.fx_hint.specs.Limits.{max_places, max_kept_points, max_kept_bytes};
+ghost use Rattle.fx_hint.specs.Limits.{max_places};
 
 use crate::kept::{GlyphInput, KeptGlyph};
 use crate::made::Made;
@@ -39,17 +39,6 @@ fn places_made(alloc: Global) -> Option<Vec<KeptGlyph>>
     ensures { places_of (option_map (λ v. v.items) result) ≡ replicate max_places None }
 {
     empty_places(alloc).ok()
-}
-
-/// Whether a glyph is small enough to be kept.
-fn is_small(bytes: &[u8], made: &Made) -> bool
-    ensures bytes { IsTrue result → length bytes.now ≤ max_kept_bytes }
-    ensures points { IsTrue result → length made.now.zone.points ≤ max_kept_points }
-    ensures ends { IsTrue result → length made.now.zone.ends ≤ max_kept_points }
-{
-    bytes.len() <= KEPT_BYTES
-        && made.zone.len() <= KEPT_POINTS
-        && made.zone.ends().len() <= KEPT_POINTS
 }
 
 /// Simple glyphs that a hinter made, so that a component that comes again soon is copied and not made again. A glyph has its place
@@ -115,7 +104,11 @@ impl KeptGlyphs {
             → IsMadeAlone h input.now.scale input.now.g input.now.metrics input.now.bytes.now made.now usage
             → All (IsTrueOf h) self.new }
     {
-        if is_small(input.bytes, made) {
+        let contours = made.zone.ends().len();
+        if input.bytes.len() <= KEPT_BYTES
+            && made.zone.len() <= KEPT_POINTS
+            && contours <= KEPT_POINTS
+        {
             self.make_places();
             if let Some(places) = &mut self.places {
                 // Out of memory: it is not kept, and made again when it is asked for.

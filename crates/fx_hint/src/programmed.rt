@@ -4,7 +4,6 @@ ghost use Rattle.std.specs.Prelude.{◌≡◌, ◌≤◌, length};
 ghost use Rattle.fx_fixed.specs.Chain.{GivesUnless};
 ghost use Rattle.fx_hint.specs.Faults.{Fails};
 ghost use Rattle.fx_machine.specs.Events.{Watches};
-ghost use Rattle.fx_hint.specs.Watched.{WatchesAll, events_for};
 ghost use Rattle.fx_hint.specs.Programmed.{point_or, point_at, phantoms_at, hinted, hinted_events, seen_by};
 
 use crate::component::ComponentOf;
@@ -113,25 +112,6 @@ pub struct WatchedMachine<'a, W> {
     pub watcher: RunWatcher<W>,
 }
 
-impl<'a, W: RunWatching> WatchedMachine<'a, W> {
-    /// Runs the program of glyph `g` as `run` does, and says what the watcher sees.
-    pub fn run_watched(
-        &mut self,
-        component: Option<ComponentOf>,
-        g: u16,
-        code: &[u8],
-        made: &mut Made,
-    ) -> Result<Usage, HintFault>
-        ensures kept { self.new.machine.known ≡ self.old.machine.known }
-        ensures value { GivesUnless Fails (λ usage. (made.new, usage)) result (hinted self.old.machine.known g code.now made.old) }
-        ensures watched { WatchesAll W.Sees self.old.watcher.watcher (events_for component
-            (seen_by result (hinted_events self.old.machine.known g code.now made.old))) self.new.watcher.watcher }
-    {
-        self.watcher.component = component;
-        hint(&mut self.machine, g, code, made, &mut self.watcher)
-    }
-}
-
 impl<'a, W: RunWatching> Hinter for WatchedMachine<'a, W> {
     ghost use Rattle.fx_machine.specs.Known.{Known};
     ghost use Rattle.fx_hint.specs.Programmed.{hinting_of};
@@ -152,7 +132,8 @@ impl<'a, W: RunWatching> Hinter for WatchedMachine<'a, W> {
         code: &[u8],
         made: &mut Made,
     ) -> Result<Usage, HintFault> {
-        self.run_watched(component, g, code, made)
+        self.watcher.component = component;
+        hint(&mut self.machine, g, code, made, &mut self.watcher)
     }
 
     fn is_on(&self) -> bool {
