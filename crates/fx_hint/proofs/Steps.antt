@@ -3,9 +3,8 @@
 use Rattle.std.proofs.Common.{◌≡◌, ℕ, zero, suc, ◌+◌, ◌-◌, List, [], ◌∷◌, ◌++◌, length, Option, Some, refl, sym}
 use Rattle.std.proofs.Common.{ap, ◌∙◌, subst, Result, Ok, Err, arith}
 use Rattle.std.proofs.Common.{length-append}
-use Rattle.fx_fixed.proofs.Chain.{map_ok_ok}
 use Rattle.fx_hint.specs.Limits.{max_depth}
-use Rattle.fx_fixed.specs.Chain.{◌>>=◌, map_fault, map_ok}
+use Rattle.fx_fixed.specs.Chain.{◌>>=◌, map_fault}
 use Rattle.fx_sfnt.specs.declared.records.Metrics.{Metrics}
 use Rattle.fx_sfnt.specs.Tables.{Face}
 use Rattle.fx_sfnt.specs.Glyphs.{metrics_of, glyph_bytes_of}
@@ -182,37 +181,25 @@ module _ (h : Hinting) (face : Face) (s : Scale) (root : ℕ) where
       sym (rest_after max_depth below w (Ok (made, count)))
       ∙ sym (ap (λ (ws : List Waiting). logged_rest_of h face s root max_depth ws (Ok (made, count))) e) ∙ i
 
-  pub joins : (below all : List Waiting) (w : Waiting) (made : Made) (count : Logged) (c : OpenComposite) (due : LoggedOutcome)
+  pub joins : (below all : List Waiting) (w : Waiting) (made more : Made) (count : Logged) (due : LoggedOutcome)
       → logged_rest_of h face s root max_depth all (Ok (made, count)) ≡ due → all ≡ below ++ w ∷ []
-      → map_ok (λ more. record w.composite { base = more }) (with_part s h.on w.composite.g w.part w.composite.base made) ≡ Ok c
+      → with_part s h.on w.composite.g w.part w.composite.base made ≡ Ok more
       → logged_rest_of h face s root max_depth below (logged_given_by h face s root (max_depth - length below)
-      (Open c, count)) ≡ due
-  joins below all w made count c due i e j =
-      let p = map_ok_ok (λ more. record w.composite { base = more })
-      (with_part s h.on w.composite.g w.part w.composite.base made) c j in
-      ap (λ (d : OpenComposite). logged_rest_of h face s root max_depth below (logged_left h face s root
-      (max_depth - length below) d count))
-      (sym p.2)
-      ∙ sym (ap (λ (q : Result Made HintFault). logged_rest_of h face s root max_depth below
+      (Open (record w.composite { base = more }), count)) ≡ due
+  joins below all w made more count due i e j =
+      sym (ap (λ (q : Result Made HintFault). logged_rest_of h face s root max_depth below
       (after count.1 q >>= λ more. logged_left h face s root (max_depth - length below)
-      (record w.composite { base = more }) count)) p.1)
+      (record w.composite { base = more }) count)) j)
       ∙ into below all w made count due i e
-
-  map_ok_err : {A B : Type 0} (view : A → B) (r : Result A HintFault) (e : HintFault) → map_ok view r ≡ Err e → r ≡ Err e
-  map_ok_err view (Ok x) e h = absurd (cc)
-  map_ok_err view (Err d) e h = cc
 
   pub not_joined : (below all : List Waiting) (w : Waiting) (made : Made) (count : Logged) (due : LoggedOutcome) (d : HintFault)
       → logged_rest_of h face s root max_depth all (Ok (made, count)) ≡ due → all ≡ below ++ w ∷ []
-      → map_ok (λ more. record w.composite { base = more }) (with_part s h.on w.composite.g w.part w.composite.base made) ≡ Err d
-      → due ≡ Err (d, count.1)
+      → with_part s h.on w.composite.g w.part w.composite.base made ≡ Err d → due ≡ Err (d, count.1)
   not_joined below all w made count due d i e j =
-      let p = map_ok_err (λ more. record w.composite { base = more })
-      (with_part s h.on w.composite.g w.part w.composite.base made) d j in
       sym (into below all w made count due i e)
       ∙ ap (λ (q : Result Made HintFault). logged_rest_of h face s root max_depth below
       (after count.1 q >>= λ more. logged_left h face s root (max_depth - length below)
-      (record w.composite { base = more }) count)) p
+      (record w.composite { base = more }) count)) j
       ∙ rest_refused max_depth below (d, count.1)
 
   -- no component is left: the program runs
@@ -302,9 +289,8 @@ module _ (h : Hinting) (face : Face) (s : Scale) (root : ℕ) where
       (logged_given_by h face s root (max_depth - length below) (Open (record (with_next c parts) { base = more }), counted)) ≡ due
   fills below levels c part parts made more count counted due i e l b j =
       let w : Waiting = record { part = part; composite = with_next c parts } in
-      joins below (below ++ w ∷ []) w made counted (record (with_next c parts) { base = more }) due
-      (descends below (below ++ w ∷ []) levels c part parts (Assembled made) count counted due i e l b refl) refl
-      (ap (map_ok (λ (m : Made). record w.composite { base = m })) j)
+      joins below (below ++ w ∷ []) w made more counted due
+      (descends below (below ++ w ∷ []) levels c part parts (Assembled made) count counted due i e l b refl) refl j
 
   pub not_filled : (below : List Waiting) (levels : ℕ) (c : OpenComposite) (part : Part) (parts : List Part) (made : Made)
       (count counted : Logged) (due : LoggedOutcome) (d : HintFault)
@@ -316,8 +302,7 @@ module _ (h : Hinting) (face : Face) (s : Scale) (root : ℕ) where
   not_filled below levels c part parts made count counted due d i e l b j =
       let w : Waiting = record { part = part; composite = with_next c parts } in
       not_joined below (below ++ w ∷ []) w made counted due d
-      (descends below (below ++ w ∷ []) levels c part parts (Assembled made) count counted due i e l b refl) refl
-      (ap (map_ok (λ (m : Made). record w.composite { base = m })) j)
+      (descends below (below ++ w ∷ []) levels c part parts (Assembled made) count counted due i e l b refl) refl j
 
   -- no composite waits: the root is assembled
   pub done : (all : List Waiting) (made : Made) (count : Logged) (due : LoggedOutcome)

@@ -1,7 +1,7 @@
 //! The walk over components.
 
 ghost use Rattle.std.specs.Prelude.{[], ◌∷◌, ◌≡◌, ◌+◌, ◌-◌, ◌<◌, ◌≤◌, None, Ok, Err, IfOk, OnOk, length};
-ghost use Rattle.fx_fixed.specs.Chain.{GivesUnless, map_ok};
+ghost use Rattle.fx_fixed.specs.Chain.{GivesUnless};
 ghost use Rattle.fx_glyf.specs.declared.glyph.Glyph.TheVariants as glyph;
 ghost use Rattle.fx_glyf.specs.Glyphs.{glyph_of};
 ghost use Rattle.fx_zone.specs.Figures.{empty_figure};
@@ -12,7 +12,6 @@ ghost use Rattle.fx_hint.specs.Outlines.{scaled_simple, simple_made, run_on};
 ghost use Rattle.fx_hint.specs.Runs.{HasRun, logged_assembled, logged_component};
 ghost use Rattle.fx_outline.specs.Limits.{max_points};
 ghost use Rattle.fx_hint.specs.Limits.{max_components, max_depth};
-ghost use Rattle.fx_hint.specs.Parts.{with_part};
 ghost use Rattle.fx_hint.specs.inner.RunSteps.{begun_runs, begun_by_runs, begun_component_runs, logged_left, Walks};
 ghost use Rattle.fx_hint.specs.inner.Steps.{Assembled, step_of, CountsPoints, begun, begun_by, begun_component, counted_made, opened};
 
@@ -246,26 +245,6 @@ impl<'w, 'a> Walk<'w, 'a> {
         self.begun(hinter, component, g, count, made)
     }
 
-    /// A waiting composite with its component.
-    #[inline(always)]
-    fn joined(
-        &self,
-        hinted: bool,
-        waiting: Waiting<'a>,
-        made: Made,
-    ) -> Result<OpenComposite<'a>, HintFault>
-        requires { length waiting.composite.base.zone.points + length made.zone.points ≤ max_points }
-        ensures { GivesUnless Fails (λ c. c) result (map_ok (λ more. record waiting.entry.composite { base = more })
-            (with_part self.now.scale.now hinted waiting.entry.composite.g waiting.entry.part waiting.entry.composite.base made)) }
-    {
-        let Waiting { part, composite } = waiting;
-        let mut composite = composite;
-        let mut made = made;
-        let g = composite.g;
-        add_part(&mut composite.base, self.scale, hinted, g, &part, &mut made)?;
-        Ok(composite)
-    }
-
     /// The root assembled in `made`. Components are assembled in `component`. What both held before is lost.
     #[inline(always)]
     pub fn assembled<H: Hinter>(
@@ -349,7 +328,14 @@ impl<'w, 'a> Walk<'w, 'a> {
                             *made = open.base;
                             return Ok(());
                         }
-                        Some(waiting) => open = self.joined(on, waiting, open.base)?,
+                        Some(waiting) => {
+                            let Waiting { part, composite } = waiting;
+                            let mut above = composite;
+                            let mut made = open.base;
+                            let g = above.g;
+                            add_part(&mut above.base, self.scale, on, g, &part, &mut made)?;
+                            open = above;
+                        }
                     }
                 }
             }

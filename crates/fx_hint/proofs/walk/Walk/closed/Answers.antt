@@ -1,7 +1,5 @@
-use Rattle.std.proofs.Common.{rules, arith, refl, None, [], ◌∷◌, length, ap, length-append}
+use Rattle.std.proofs.Common.{rules, arith, refl, None, [], ◌∷◌, length-append}
 use Rattle.std.proofs.lemmas.Result.{err_from_is_err_and}
-use Rattle.fx_fixed.proofs.Chain.{map_ok_ok}
-use Rattle.fx_hint.specs.declared.below.OpenComposite.{OpenComposite}
 use Rattle.fx_hint.specs.inner.Steps.{opened}
 use Rattle.fx_hint.specs.declared.below.Waiting.{Waiting}
 use Rattle.fx_hint.proofs.Steps.{with_next, opens, joins, not_joined, runs, not_run, descends, not_descended, fills, not_filled, done}
@@ -34,8 +32,8 @@ add_part-requires g c =
     let m = c.steps.invariant.counted in
     omega (arith, n.0, n.1, m)
 
-pub joined-requires : goal.joined-requires
-joined-requires g c =
+pub add_part-requires-in-Some-pop : goal.add_part-requires-in-Some-pop
+add_part-requires-in-Some-pop g c =
     let ran = c.in_ok-run_on-in-None.ensures.points in
     let all = rw c.in-Some-pop.ensures at c.steps.invariant.counted in
     let one = points_with_one_more c.pop.new.self c.in-Some-pop.waiting in
@@ -162,17 +160,14 @@ returns-in-None-pop-clause-walks g c =
 pub steps-preserved : goal.steps-preserved
 steps-preserved g c =
     let v = rw (c.steps.invariant.kept, c.code-code.ensures.value) at c.in_ok-run_on-in-None.ensures.value in
-    let j = rw c.is_on-on.ensures at c.in_ok-open-in-Some-pop.ensures in
+    let j = rw c.is_on-on.ensures at c.in_ok-add_part-in-Some-pop.ensures in
     let n = length-append c.pop.new.self (c.in-Some-pop.waiting ∷ []) in
     let d = rw c.in-Some-pop.ensures at c.steps.invariant.deep in
     let kept = c.in_ok-run_on-in-None.ensures.points in
     let all = rw c.in-Some-pop.ensures at c.steps.invariant.counted in
     let one = points_with_one_more c.pop.new.self c.in-Some-pop.waiting in
-    let q = map_ok_ok _ _ _ j in
-    let s = part_adds_points _ _ _ _ _ _ _ q.1 in
-    let e = ap (λ (o : OpenComposite). length o.base.zone.points) q.2 in
+    let s = part_adds_points _ _ _ _ _ _ _ j in
     let b = begun_with_one_more c.pop.new.self c.in-Some-pop.waiting in
-    let f = ap (λ (o : OpenComposite). o.before) q.2 in
     let numbers = rw c.in-Some-pop.ensures at c.steps.invariant.numbered in
     let led = rw c.code-code.ensures.value at c.in_ok-run_on-in-None.ensures.leads in
     let lv = run_is _ _ _ _ _ _ c.steps.invariant.ran.0 _ v in
@@ -187,21 +182,22 @@ steps-preserved g c =
       );
       deep = omega arith;
       few = rw c.in_ok-run_on-in-None.ensures.records c.steps.invariant.few;
-      numbered = let r = c.in_ok-run_on-in-None.ensures.records in omega (arith, numbers, b, f, r);
-      counted = omega (arith, all, one, kept.0, kept.1, s, e);
+      numbered = let r = c.in_ok-run_on-in-None.ensures.records in omega (arith, numbers, b, r);
+      counted = omega (arith, all, one, kept.0, kept.1, s);
       points = let few = c.steps.invariant.points in omega (arith, few, kept.1);
     }
 
-pub returns-in_err-open-in-Some-pop-clause-walks : goal.returns-in_err-open-in-Some-pop-clause-walks
-returns-in_err-open-in-Some-pop-clause-walks g c =
-    let p = err_from_is_err_and c.from_residual-in_err-open-in-Some-pop.result c.from_residual-in_err-open-in-Some-pop.ensures.1 in
+pub returns-in_err-add_part-in-Some-pop-clause-walks : goal.returns-in_err-add_part-in-Some-pop-clause-walks
+returns-in_err-add_part-in-Some-pop-clause-walks g c =
+    let p = err_from_is_err_and c.from_residual-in_err-add_part-in-Some-pop.result
+    c.from_residual-in_err-add_part-in-Some-pop.ensures.1 in
     let v = rw (c.steps.invariant.kept, c.code-code.ensures.value) at c.in_ok-run_on-in-None.ensures.value in
     let led = rw c.code-code.ensures.value at c.in_ok-run_on-in-None.ensures.leads in
     let lv = run_is _ _ _ _ _ _ c.steps.invariant.ran.0 _ v in
     let ran = runs _ _ _ _ _ _ c.steps.open _ _ _ _ c.steps.invariant.ran.2 c.in-None.ensures.steps.0 lv in
-    let j = rw c.is_on-on.ensures at c.in_err-open-in-Some-pop.ensures in
+    let j = rw c.is_on-on.ensures at c.in_err-add_part-in-Some-pop.ensures in
     let f = first_of_closed _ _ _ _ _ _ c.steps.open _ _ _ _ c.steps.invariant.ran.2 c.in-None.ensures.steps.0
     (run_is _ _ _ _ _ _ c.steps.invariant.ran.0 _ refl) in
-    rw (p.1, p.2) (stops_here g.H.Hinter.Leads _ _ _ c.in_err-open-in-Some-pop.field-0.0 _ _ _ _
+    rw (p.1, p.2) (stops_here g.H.Hinter.Leads _ _ _ c.in_err-add_part-in-Some-pop.field-0.0 _ _ _ _
     (g.met.H.Hinter.leads_then _ _ _ _ _ c.steps.invariant.ran.1 led) f j
     (λ e b. not_joined _ _ _ _ _ _ _ _ _ _ e ran c.in-Some-pop.ensures b))
