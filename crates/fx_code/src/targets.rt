@@ -11,7 +11,7 @@ use std::alloc::{AllocError, Global};
 use std::marker::Model;
 
 /// How many skips of each kind are remembered at a time.
-const PLACES: usize = 256;
+const PLACES: usize = 1024;
 
 /// Where the search from an address ended: at the byte before `after`. An `after` of 0 says nothing.
 #[derive(Clone, Copy)]
@@ -44,7 +44,7 @@ impl<'a> Model for Targets<'a> {
 
     ghost view = { λ t. t.code };
 
-    ghost invariant = { λ t. All (AreSkips t.code) t.skips.items × (length t.skips.items ≡ 256) };
+    ghost invariant = { λ t. All (AreSkips t.code) t.skips.items × (length t.skips.items ≡ 1024) };
 }
 
 /// Where the search from an address ended, if that is remembered.
