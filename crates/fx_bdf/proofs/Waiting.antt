@@ -144,7 +144,9 @@ pub row_by_word : (row : List Bool) (w : ℕ) (lanes before : List ℕ) (digits 
     → before ++ (take digits lanes ++ 10 ∷ []) ≡ before ++ row_text row
 row_by_word row w lanes before digits word few d is =
     ap (λ (t : List ℕ). before ++ (t ++ 10 ∷ []))
-    (ap (take digits) is ∙ digits_more row (w ∷ []) 0 digits word (omega (arith, few, d)) ∙ digits_all row 1 (omega (arith, few, d)))
+    (ap (take digits) is
+    ∙ digits_more row (w ∷ []) 0 digits word (omega (arith, few, d))
+    ∙ digits_all row 1 (omega (arith, few, d)))
 
 -- one word of a row more
 pub row_word_over : (start k digits w : ℕ) (row : List Bool) (old now new rest : List ℕ) → digits ≡ (length row + 7) / 8 * 2

@@ -33,13 +33,15 @@ pairs-preserved c =
     let above = lines_more rows first i c.row.result front (take c.pairs.end c.pairs.bytes) (take upper.result upper.new.bytes)
     order high c.pairs.invariant.text c.row.ensures
     (upper.ensures.text
-    ∙ row_by_word c.row.result c.word.result c.two_lanes.result.0 (take c.pairs.end c.pairs.bytes) digits c.word.ensures few (ap (λ (row : List Bool). (length row + 7) / 8 * 2) c.row.ensures ∙ c.requires.digits i high)
+    ∙ row_by_word c.row.result c.word.result c.two_lanes.result.0 (take c.pairs.end c.pairs.bytes) digits c.word.ensures few
+    (ap (λ (row : List Bool). (length row + 7) / 8 * 2) c.row.ensures ∙ c.requires.digits i high)
     c.two_lanes.ensures.first) in
     let below = lines_more rows first (i + 1) c.row-in-pairs.result front (take upper.result upper.new.bytes)
     (take lower.result lower.new.bytes) (omega (arith, order)) low above c.row-in-pairs.ensures
     (lower.ensures.text
     ∙ row_by_word c.row-in-pairs.result c.word-in-pairs.result c.two_lanes.result.1 (take upper.result upper.new.bytes) digits
-    c.word-in-pairs.ensures few (ap (λ (row : List Bool). (length row + 7) / 8 * 2) c.row-in-pairs.ensures ∙ c.requires.digits (i + 1) low)
+    c.word-in-pairs.ensures few
+    (ap (λ (row : List Bool). (length row + 7) / 8 * 2) c.row-in-pairs.ensures ∙ c.requires.digits (i + 1) low)
     c.two_lanes.ensures.second) in
     let fits = c.requires.room (i + 1 - first) (omega (arith, order, c.pairs-test.true)) in
     let long = c.pairs.invariant.long in
