@@ -40,7 +40,9 @@ impl Place for Shelf {
         self.names
     }
 
-    fn remove(&mut self, _new: Option<Vec<u8>>) {}
+    fn remove(&mut self, _new: Option<Vec<u8>>)
+        ensures { self.new.file ≡ self.old.file }
+    {}
 }
 
 /// A program that writes a text and ends with a status.
