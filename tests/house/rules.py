@@ -79,7 +79,7 @@ LOOP = re.compile(r"\s*(?:('\w+): )?(?:for\b.+\bin\b|while\b|loop\b)")
 COMMENT = re.compile(r"(?://|--)(.*)")
 
 # The table of the refusals, in the code: a row, and one of a cause of halts. What docs/REFUSALS.md writes for a place.
-REFUSAL = re.compile(r'Refusal::\w+(?:\(\w+\))? => \((\d+), "(\w+)", Place::(\w+)')
+REFUSAL = re.compile(r'Refusal::\w+(?:\(\w+\))? => \((\d+), "(\w+)", Location::(\w+)')
 CAUSE = re.compile(r'Cause::\w+ => \((\d+), "(\w+)"\)')
 PLACES = {"Nowhere": "", "Table": " tag", "Glyph": " g", "Property": " p", "Bytes": " n", "Halt": ""}
 OF_THE_PROGRAM = range(70, 80)  # reading and writing, which no call from C does

@@ -43,9 +43,9 @@ fn added(one: u32, other: u32) -> u32 {
     "total_more : ℕ → ℕ\ntotal_more n = n\n",
     "crates/fx_one/proofs/sum/sum/Answers.antt": "pub returns : goal.returns\nreturns c = total_least c\n",
     "crates/fx_request/src/refusal.rt": """//! Refusals.
-            Refusal::BadHead => (13, "BadHead", Place::Nowhere),
-            Refusal::BadLoca(g) => (17, "BadLoca", Place::Glyph(g)),
-            Refusal::ReadFailed => (71, "ReadFailed", Place::Nowhere),
+            Refusal::BadHead => (13, "BadHead", Location::Nowhere),
+            Refusal::BadLoca(g) => (17, "BadLoca", Location::Glyph(g)),
+            Refusal::ReadFailed => (71, "ReadFailed", Location::Nowhere),
 """,
     "crates/fx_machine/src/halt.rt": "//! Halts.\n            Cause::StackUnder => (30, \"StackUnder\"),\n",
     "docs/WORDS.md": "# Words\n\n## At the doors\n\n| What | `sums` | | | | Page |\n|---|---|---|---|---|---|\n| a sum | `adds` N | | | | Number |\n",

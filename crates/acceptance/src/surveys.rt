@@ -3,7 +3,7 @@ use crate::fonts::fixture;
 use crate::strikes::{HINTED, UNHINTED, request};
 use crate::tables::{NO_TABLES, Tables, with_tables};
 use fx_bdf::{Bounds, Summary};
-use fx_gstate::Dropout;
+use fx_gstate::ScanType;
 use fx_machine::Usage;
 use fx_request::{Refusal, Report, Request};
 use fx_sfnt::FontFile;
@@ -72,8 +72,8 @@ fn a_survey_tells_what_prep_asked(rt: HostRuntime) -> Result<(), Fail> {
     let font = with_tables(rt.alloc(), base.as_slice(), &tables)?;
     let font = FontFile::of(font.as_slice());
     for (mode, ppem, wish) in [
-        (HINTED, 16, Some(Dropout::Nearest)),
-        (HINTED, 17, Some(Dropout::Off)),
+        (HINTED, 16, Some(ScanType::Nearest)),
+        (HINTED, 17, Some(ScanType::Off)),
         (UNHINTED, 16, None),
     ] {
         let request = Request {

@@ -3,7 +3,7 @@ use crate::fonts::{ARC, bytes, font};
 use crate::tables::{NO_TABLES, Tables, with_tables};
 use crate::worked::machine;
 use fx_fixed::Ppem;
-use fx_gstate::Dropout;
+use fx_gstate::ScanType;
 use fx_hint::{HintFault, outline};
 use fx_machine::Machine;
 use fx_sfnt::{Font, FontFile};
@@ -39,7 +39,7 @@ fn wish(
     alloc: Global,
     machine: &mut Machine<'_>,
     glyph: u16,
-) -> Result<Option<Dropout>, HintFault> {
+) -> Result<Option<ScanType>, HintFault> {
     let made = outline(alloc, &machine.font(), machine.ppem(), Some(machine), glyph)?;
     Ok(made.wish)
 }
@@ -48,7 +48,7 @@ fn wish(
 fn come_with(
     alloc: Global,
     machine: &mut Machine<'_>,
-    wanted: [Option<Dropout>; 3],
+    wanted: [Option<ScanType>; 3],
 ) -> Result<bool, HintFault> {
     let [first, second, again] = wanted;
     for (glyph, wanted) in [(3, first), (2, second), (3, again)] {
@@ -64,7 +64,7 @@ fn glyphs_come_with(
     alloc: Global,
     file: &[u8],
     pixels: u16,
-    wanted: [Option<Dropout>; 3],
+    wanted: [Option<ScanType>; 3],
 ) -> Result<bool, Fail> {
     let mut machine = machine(alloc, file, pixels)?;
     Ok(come_with(alloc, &mut machine, wanted)?)
@@ -76,15 +76,15 @@ const SMART: &str = "B8 01FF 85 B0 04 8D";
 const UP_TO_16: &str = "B8 0110 85";
 
 /// Programs of `prep` and of glyph 3, glyph 2, a size, and what glyphs 3, 2 and 3 again come with.
-const WISHES: [(&str, &str, &str, u16, [Option<Dropout>; 3]); 12] = [
+const WISHES: [(&str, &str, &str, u16, [Option<ScanType>; 3]); 12] = [
     // Nothing was asked; a type alone asks for nothing.
     ("", PLAIN, "", 16, [None, None, None]),
     ("B0 04 8D", PLAIN, "", 16, [None, None, None]),
     // Glyphs without a program take what `prep` left.
-    (SMART, PLAIN, "", 16, [Some(Dropout::Nearest); 3]),
-    (UP_TO_16, PLAIN, "", 15, [Some(Dropout::Leftmost); 3]),
-    (UP_TO_16, PLAIN, "", 16, [Some(Dropout::Leftmost); 3]),
-    (UP_TO_16, PLAIN, "", 17, [Some(Dropout::Off); 3]),
+    (SMART, PLAIN, "", 16, [Some(ScanType::Nearest); 3]),
+    (UP_TO_16, PLAIN, "", 15, [Some(ScanType::Leftmost); 3]),
+    (UP_TO_16, PLAIN, "", 16, [Some(ScanType::Leftmost); 3]),
+    (UP_TO_16, PLAIN, "", 17, [Some(ScanType::Off); 3]),
     // A glyph's program changes its own copy: not that of a composite, nor that of the glyph after it.
     (
         SMART,
@@ -92,9 +92,9 @@ const WISHES: [(&str, &str, &str, u16, [Option<Dropout>; 3]); 12] = [
         "B0 01 8D",
         16,
         [
-            Some(Dropout::Leftmost),
-            Some(Dropout::Nearest),
-            Some(Dropout::Leftmost),
+            Some(ScanType::Leftmost),
+            Some(ScanType::Nearest),
+            Some(ScanType::Leftmost),
         ],
     ),
     (
@@ -103,9 +103,9 @@ const WISHES: [(&str, &str, &str, u16, [Option<Dropout>; 3]); 12] = [
         "B0 00 85",
         16,
         [
-            Some(Dropout::Off),
-            Some(Dropout::Nearest),
-            Some(Dropout::Off),
+            Some(ScanType::Off),
+            Some(ScanType::Nearest),
+            Some(ScanType::Off),
         ],
     ),
     // Type 0 is the default of a program that turns it on.
@@ -114,7 +114,7 @@ const WISHES: [(&str, &str, &str, u16, [Option<Dropout>; 3]); 12] = [
         PLAIN,
         "B8 01FF 85",
         16,
-        [Some(Dropout::Leftmost), None, Some(Dropout::Leftmost)],
+        [Some(ScanType::Leftmost), None, Some(ScanType::Leftmost)],
     ),
     // A composite's own program counts.
     (
@@ -123,9 +123,9 @@ const WISHES: [(&str, &str, &str, u16, [Option<Dropout>; 3]); 12] = [
         "",
         16,
         [
-            Some(Dropout::Nearest),
-            Some(Dropout::Off),
-            Some(Dropout::Nearest),
+            Some(ScanType::Nearest),
+            Some(ScanType::Off),
+            Some(ScanType::Nearest),
         ],
     ),
     // INSTCTRL: no program of a glyph runs; all start from the default state.
@@ -134,7 +134,7 @@ const WISHES: [(&str, &str, &str, u16, [Option<Dropout>; 3]); 12] = [
         WITH_TYPE_2,
         "B0 01 8D",
         16,
-        [Some(Dropout::Nearest); 3],
+        [Some(ScanType::Nearest); 3],
     ),
     (
         "B8 01FF 85 B0 04 8D B1 01 02 8E",
@@ -173,7 +173,7 @@ fn wish_of_block(
     alloc: Global,
     font: Font<'_>,
     block: &[u32],
-) -> Result<Option<Option<Dropout>>, Fail> {
+) -> Result<Option<Option<ScanType>>, Fail> {
     let ppem = Ppem::new(16).ok_or("no size")?;
     let Some(machine) = Machine::of_block(alloc, font, ppem, block)? else {
         return Ok(None);
@@ -182,7 +182,7 @@ fn wish_of_block(
 }
 
 /// Whether a machine's block keeps what `prep` left asked for, and one of the form before is none.
-fn block_keeps(alloc: Global, machine: &Machine<'_>, want: Option<Dropout>) -> Result<bool, Fail> {
+fn block_keeps(alloc: Global, machine: &Machine<'_>, want: Option<ScanType>) -> Result<bool, Fail> {
     let mut block = machine.block(alloc)?.ok_or("no block")?;
     let kept = wish_of_block(alloc, machine.font(), block.as_slice())?;
     block[0] = 0x6D6B_7301;
@@ -191,7 +191,7 @@ fn block_keeps(alloc: Global, machine: &Machine<'_>, want: Option<Dropout>) -> R
 }
 
 /// The same of a font at 16 pixels an em.
-fn blocks_keep(alloc: Global, file: &[u8], want: Option<Dropout>) -> Result<bool, Fail> {
+fn blocks_keep(alloc: Global, file: &[u8], want: Option<ScanType>) -> Result<bool, Fail> {
     let machine = machine(alloc, file, 16)?;
     block_keeps(alloc, &machine, want)
 }
@@ -200,9 +200,9 @@ fn blocks_keep(alloc: Global, file: &[u8], want: Option<Dropout>) -> Result<bool
 fn blocks_keep_what_is_asked_for(rt: HostRuntime) -> Result<(), Fail> {
     for (prep, want) in [
         ("", None),
-        ("B0 00 85", Some(Dropout::Off)),
-        (UP_TO_16, Some(Dropout::Leftmost)),
-        (SMART, Some(Dropout::Nearest)),
+        ("B0 00 85", Some(ScanType::Off)),
+        (UP_TO_16, Some(ScanType::Leftmost)),
+        (SMART, Some(ScanType::Nearest)),
     ] {
         let file = with_prep(rt.alloc(), prep, PLAIN, ARC)?;
         assert!(rt; blocks_keep(rt.alloc(), file.as_slice(), want)?, "{prep}");

@@ -9,7 +9,7 @@ use fx_hint::{GlyphOutline, outline};
 use fx_machine::{Machine, Unwatched};
 use fx_outline::OutlinePoint;
 use fx_sfnt::{Font, FontFile};
-use fx_zone::{Point, Zone};
+use fx_zone::{ZonePoint, Zone};
 use std::alloc::{AllocError, Global};
 use std::test::Fail;
 
@@ -21,16 +21,16 @@ pub fn machine<'a>(alloc: Global, file: &'a [u8], pixels: u16) -> Result<Machine
 }
 
 /// A point at rest on the curve.
-fn at(x: i32, y: i32) -> Point {
+fn at(x: i32, y: i32) -> ZonePoint {
     let place = Place {
         x: F26(x),
         y: F26(y),
     };
-    Point::resting(place, true)
+    ZonePoint::resting(place, true)
 }
 
 /// A zone of points, of which the first four are one contour.
-fn zone_of(alloc: Global, points: &[Point]) -> Result<Zone, AllocError>
+fn zone_of(alloc: Global, points: &[ZonePoint]) -> Result<Zone, AllocError>
     requires { 3 < length points.now }
 {
     let mut zone = Zone::new(alloc);

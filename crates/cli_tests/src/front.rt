@@ -1,6 +1,6 @@
 //! The front, with a place in memory and a program that does what it is told.
 use fx_fixed::{Limits, MemorySink, MemorySource, Sink, Source, put_all};
-use fx_front::{Ended, Facts, Parts, Place, Program, Refused, Task, Text, run_to_place, say_after};
+use fx_front::{Ended, Facts, Parts, Destination, Tool, RefusalFacts, AskedRun, Text, run_to_place, say_after};
 use fx_words::{listed, part, whole};
 use std::alloc::{AllocError, Global};
 use std::test::Fail;
@@ -14,7 +14,7 @@ struct Shelf {
     names: bool,
 }
 
-impl Place for Shelf {
+impl Destination for Shelf {
     ghost use Rattle.std.specs.Prelude.{◌≡◌, [], Some, option_map};
 
     type New = Vec<u8>;
@@ -56,7 +56,7 @@ struct Fake {
 impl Fake {
     /// A program that writes this and ends so; after a status of 1 a program of the font halted, if `is_halted` says so.
     fn new(alloc: Global, text: &'static [u8], status: u8, is_halted: bool) -> Fake {
-        let refused = Refused {
+        let refused = RefusalFacts {
             number: 33,
             advice: "fix\tit",
             glyph: None,
@@ -79,7 +79,7 @@ impl Fake {
     }
 }
 
-impl Program for Fake {
+impl Tool for Fake {
     ghost use Rattle.std.specs.Prelude.{⊤};
 
     ghost Ran = { λ _ _ _ _ _. ⊤ };
@@ -129,7 +129,7 @@ fn run_on_shelf(
     let mut err = MemorySink::new(alloc, 0, Limits::NONE)?;
     let mut reader = MemorySource::new(&[], Limits::NONE);
     let parts = whole(alloc, &["mkstrike"])?;
-    let task = Task {
+    let task = AskedRun {
         parts: &parts,
         command: if is_trace { Some("trace") } else { None },
     };
@@ -187,7 +187,7 @@ fn lines_after_a_run(rt: HostRuntime) -> Result<(), Fail> {
         let mut err = MemorySink::new(rt.alloc(), 0, Limits::NONE)?;
         let words = ["mkstrike", "trace"];
         let parts = part(rt.alloc(), &words, false, "", &[])?;
-        let task = Task {
+        let task = AskedRun {
             parts: &parts,
             command: Some("trace"),
         };

@@ -24,14 +24,14 @@ use Rattle.fx_request.specs.declared.request.Mode.{Mode}
 use Rattle.fx_request.specs.declared.request.OnRefused.{OnRefused}
 use Rattle.fx_request.specs.declared.request.OnRefused.TheVariants.{Stop, LeaveOut, Unhinted}
 use Rattle.fx_arguments.specs.declared.command.Show.{Show}
-use Rattle.fx_arguments.specs.declared.command.Traced.{Traced}
-use Rattle.fx_arguments.specs.declared.command.Traced.TheVariants as traced
+use Rattle.fx_arguments.specs.declared.command.TraceSubject.{TraceSubject}
+use Rattle.fx_arguments.specs.declared.command.TraceSubject.TheVariants as traced
 use Rattle.fx_arguments.specs.declared.verb.Verb.{Verb}
 use Rattle.fx_arguments.specs.declared.verb.Verb.TheVariants as verbs
 use Rattle.fx_arguments.specs.Chars.{number_of, numbers_of_list}
 use Rattle.fx_arguments.specs.Properties.{property_of}
 use Rattle.fx_arguments.specs.Wrong.{WrongView, malformed, not_taken, says}
-use Rattle.fx_arguments.specs.Commands.{CharactersView, CommandView, TaskView, listed, listing, mapped, outline, picture, strike, trace}
+use Rattle.fx_arguments.specs.Commands.{CharacterChoiceView, CommandView, TaskView, listed, listing, mapped, outline, picture, strike, trace}
 
 -- an option `--id VALUE`
 abbrev pub option_rule : Text → Rule
@@ -165,7 +165,7 @@ one_way true (Some list) = Err (says (codes "--chars and --all can't be given to
 one_way false None = Err (says (codes "--chars or --all is missing"))
 
 -- the characters of a list; without one all of the font's map
-abbrev pub characters_by : Option Text → Result CharactersView WrongView
+abbrev pub characters_by : Option Text → Result CharacterChoiceView WrongView
 characters_by None = Ok mapped
 characters_by (Some list) = map_ok listed (wanted (numbers_of_list list) malformed)
 
@@ -244,7 +244,7 @@ dump_by rows = do
   Ok (record { task = listing what; face = face; hex = is_given (codes "hex") rows })
 
 -- what is traced: a glyph, or a program by its name, and not both
-abbrev pub traced_by : Option Text → Option Text → Option Text → Result Traced WrongView
+abbrev pub traced_by : Option Text → Option Text → Option Text → Result TraceSubject WrongView
 traced_by None None None = Err (says (codes "--char, --glyph or --of is missing"))
 traced_by (Some character) number None = map_ok traced.Glyph (choice_by (Some character) number)
 traced_by None (Some number) None = map_ok traced.Glyph (choice_by None (Some number))

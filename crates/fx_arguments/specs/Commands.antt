@@ -7,8 +7,8 @@ use Rattle.fx_request.specs.declared.request.Mode.{Mode}
 use Rattle.fx_request.specs.declared.request.OnRefused.{OnRefused}
 use Rattle.fx_request.specs.declared.request.Request.{Request}
 use Rattle.fx_request.specs.declared.refusal.Refusal.TheVariants.{BadChars, OutOfMemory}
-use Rattle.fx_arguments.specs.declared.command.Characters.{Characters}
-use Rattle.fx_arguments.specs.declared.command.Characters.TheVariants.{Listed, All}
+use Rattle.fx_arguments.specs.declared.command.CharacterChoice.{CharacterChoice}
+use Rattle.fx_arguments.specs.declared.command.CharacterChoice.TheVariants.{Listed, All}
 use Rattle.fx_arguments.specs.declared.command.Command.{Command}
 use Rattle.fx_arguments.specs.declared.command.Make.{Make}
 use Rattle.fx_arguments.specs.declared.command.Show.{Show}
@@ -19,15 +19,15 @@ use Rattle.fx_arguments.specs.declared.fault.Fault.{Fault}
 use Rattle.fx_arguments.specs.declared.fault.Fault.TheVariants.{Usage, Early}
 
 -- the characters of a strike: those of a list, or all that the font's map has
-pub data CharactersView : Type 0 where
-  listed : List ℕ → CharactersView
-  mapped : CharactersView
+pub data CharacterChoiceView : Type 0 where
+  listed : List ℕ → CharacterChoiceView
+  mapped : CharacterChoiceView
 
 -- a strike: its size, its characters, its name, its properties, whether it has those of X11 too, how outlines become pixels, and
 -- what becomes of refused characters
 pub record MakeView : Type 0 where
   pub ppem : ℕ
-  pub chars : CharactersView
+  pub chars : CharacterChoiceView
   pub name : Text
   pub properties : List PropertyView
   pub x11 : Bool
@@ -51,7 +51,7 @@ pub record CommandView : Type 0 where
   pub hex : Bool
 
 -- what the program holds of it
-abbrev pub seen_characters : Characters → CharactersView
+abbrev pub seen_characters : CharacterChoice → CharacterChoiceView
 seen_characters (Listed chars) = listed chars.items
 seen_characters All = mapped
 
@@ -67,7 +67,7 @@ seen_make make = record {
 }
 
 -- a request as what it asks for but its characters, which are these
-abbrev pub seen_request : CharactersView → Request → MakeView
+abbrev pub seen_request : CharacterChoiceView → Request → MakeView
 seen_request chars request = record {
   ppem = request.ppem;
   chars = chars;

@@ -9,8 +9,8 @@ use Rattle.fx_fixed.specs.Wrote.{Wrote}
 use Rattle.fx_machine.specs.declared.halt.Halt.{Halt}
 use Rattle.fx_machine.specs.declared.program.FontProgram.{FontProgram}
 use Rattle.fx_machine.specs.declared.program.FontProgram.TheVariants.{Fpgm, Prep, Glyph}
-use Rattle.fx_request.specs.declared.place.Place.{Place}
-use Rattle.fx_request.specs.declared.place.Place.TheVariants as place
+use Rattle.fx_request.specs.declared.location.Location.{Location}
+use Rattle.fx_request.specs.declared.location.Location.TheVariants as place
 use Rattle.fx_request.specs.declared.notice.Notice.{Notice}
 use Rattle.fx_request.specs.declared.refusal.Refusal.{Refusal}
 use Rattle.fx_request.specs.declared.request.Report.{Report}
@@ -61,7 +61,7 @@ halt_words halt =
 
 -- where it is: a table's tag, the number of a glyph, the position of a property, the number of bytes written, or where a program
 -- halted
-abbrev pub place_words : Place → List (List ℕ)
+abbrev pub place_words : Location → List (List ℕ)
 place_words place.Nowhere = []
 place_words (place.Table tag) = tag ∷ []
 place_words (place.Glyph g) = decimal g ∷ []

@@ -6,7 +6,7 @@ use Rattle.clap.specs.Walk.{Row, Text}
 use Rattle.fx_request.specs.declared.refusal.Refusal.TheVariants.{OutOfMemory}
 use Rattle.fx_arguments.specs.declared.fault.Fault.TheVariants.{Early}
 use Rattle.fx_arguments.specs.declared.said.Said.{Said}
-use Rattle.fx_arguments.specs.declared.said.Said.TheVariants.{Line, Stopped}
+use Rattle.fx_arguments.specs.declared.said.Said.TheVariants.{MessageLine, Stopped}
 use Rattle.fx_arguments.specs.declared.verb.Verb.{Verb}
 use Rattle.fx_arguments.specs.Arguments.{asked_for, is_command, rows_by, verb_of}
 use Rattle.fx_arguments.specs.Commands.{CommandView}
@@ -14,13 +14,13 @@ use Rattle.fx_arguments.specs.Wrong.{WrongView, malformed, said, wrong}
 
 -- the line, or out of memory
 abbrev pub IsSaid : Said → Text → Type 0
-IsSaid (Line line) text = line.items ≡ text
+IsSaid (MessageLine line) text = line.items ≡ text
 IsSaid (Stopped fault) text = fault ≡ Early OutOfMemory
 
 -- a line, or out of memory, where a value or a line is due
 abbrev pub SaysUnless : {A B : Type 0} → (A → B) → Result A Said → Result B Text → Type 0
 SaysUnless view (Ok x) due = due ≡ Ok (view x)
-SaysUnless view (Err (Line line)) due = due ≡ Err line.items
+SaysUnless view (Err (MessageLine line)) due = due ≡ Err line.items
 SaysUnless view (Err (Stopped fault)) due = fault ≡ Early OutOfMemory
 
 -- a command takes these words, its name first

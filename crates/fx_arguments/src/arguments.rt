@@ -9,7 +9,7 @@ ghost use Rattle.fx_arguments.specs.Commands.{Refuses, seen, seen_characters};
 ghost use Rattle.fx_arguments.specs.Wrong.{Reads, not_taken};
 
 use crate::chars::{number, parse_chars};
-use crate::command::{Characters, Command, Make, Show, Task, Trace, Traced};
+use crate::command::{CharacterChoice, Command, Make, Show, Task, Trace, TraceSubject};
 use crate::fault::Fault;
 use crate::mistakes::explain;
 use crate::properties::properties_by;
@@ -169,15 +169,15 @@ fn one_way<'a>(is_all: bool, list: Option<&str>) -> Result<(), Wrong<'a>>
 }
 
 /// The characters of a list; without one all of the font's map.
-fn characters_by<'a>(alloc: Global, list: Option<&str>) -> Result<Characters, Wrong<'a>>
+fn characters_by<'a>(alloc: Global, list: Option<&str>) -> Result<CharacterChoice, Wrong<'a>>
     ensures { Reads seen_characters result (characters_by (option_map (λ list. list.now) list.entry)) }
 {
     match list {
         Some(list) => {
             let chars = parse_chars(alloc, list)?;
-            Ok(Characters::Listed(chars))
+            Ok(CharacterChoice::Listed(chars))
         }
-        None => Ok(Characters::All),
+        None => Ok(CharacterChoice::All),
     }
 }
 
@@ -299,14 +299,14 @@ fn traced_of<'a>(
     character: Option<&str>,
     glyph: Option<&'a str>,
     name: Option<&'a str>,
-) -> Result<Traced, Wrong<'a>>
+) -> Result<TraceSubject, Wrong<'a>>
     ensures { Reads (λ traced. traced) result (traced_by (option_map (λ text. text.now) character.entry)
         (option_map (λ text. text.now) glyph.entry) (option_map (λ text. text.now) name.entry)) }
 {
     match (character, glyph, name) {
         (None, None, None) => Err(Wrong::Says("--char, --glyph or --of is missing")),
-        (character, glyph, None) => Ok(Traced::Glyph(choice_of(character, glyph)?)),
-        (None, None, Some(name)) => Ok(Traced::Program(program_by(name)?)),
+        (character, glyph, None) => Ok(TraceSubject::Glyph(choice_of(character, glyph)?)),
+        (None, None, Some(name)) => Ok(TraceSubject::Program(program_by(name)?)),
         _ => Err(Wrong::Says("--of can't be given with --char or --glyph")),
     }
 }

@@ -31,7 +31,7 @@ pub enum Task<'a> {
 
 /// The characters of a strike.
 #[derive(Drop)]
-pub enum Characters {
+pub enum CharacterChoice {
     /// Those of a list.
     Listed(Vec<u32>),
     /// All that the font's map has.
@@ -43,7 +43,7 @@ pub enum Characters {
 #[derive(Drop)]
 pub struct Make<'a> {
     pub ppem: u16,
-    pub chars: Characters,
+    pub chars: CharacterChoice,
     pub name: &'a str,
     pub properties: Vec<Property<'a>>,
     pub x11: bool,
@@ -86,12 +86,12 @@ impl<'a> Make<'a> {
 #[derive(Clone, Copy)]
 pub struct Trace {
     pub ppem: u16,
-    pub traced: Traced,
+    pub traced: TraceSubject,
 }
 
 /// What is traced.
 #[derive(Clone, Copy)]
-pub enum Traced {
+pub enum TraceSubject {
     /// A program of the font, by its name or the number of its glyph.
     Program(FontProgram),
     /// The programs of a glyph and of its components.

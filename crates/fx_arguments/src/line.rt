@@ -11,12 +11,12 @@ pub const CAPACITY: usize = 256;
 
 /// A line so far, seen as its bytes.
 #[derive(Drop)]
-pub struct Line {
+pub struct MessageLine {
     bytes: [u8; CAPACITY],
     used: usize,
 }
 
-impl Model for Line {
+impl Model for MessageLine {
     ghost use Rattle.std.specs.Prelude.{ℕ, List, ◌≤◌, take};
     ghost use Rattle.fx_arguments.specs.declared.line.TheConstants.{CAPACITY};
 
@@ -27,12 +27,12 @@ impl Model for Line {
     ghost invariant = { λ l. l.used ≤ CAPACITY };
 }
 
-impl Line {
+impl MessageLine {
     /// The program's name.
-    pub fn new() -> Line
+    pub fn new() -> MessageLine
         ensures { result ≡ codes "mkstrike:" }
     {
-        let mut line = Line {
+        let mut line = MessageLine {
             bytes: [0; CAPACITY],
             used: 0,
         };

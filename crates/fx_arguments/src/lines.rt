@@ -6,10 +6,10 @@ ghost use Rattle.fx_arguments.specs.declared.line.TheConstants.{CAPACITY};
 ghost use Rattle.fx_arguments.specs.Lines.{code_word, halt_words, notice_line, place_words, program_words};
 ghost use Rattle.fx_arguments.specs.Lines.{Tells, missing_line, refusal_line, refusal_words, report_line, spaced, usage_line};
 
-use crate::line::Line;
+use crate::line::MessageLine;
 use fx_fixed::{Digits, Sink, put_all};
 use fx_machine::{FontProgram, Halt};
-use fx_request::{Notice, Place, Refusal, Report};
+use fx_request::{Location, Notice, Refusal, Report};
 
 /// Writes the line of invalid arguments, and returns the status.
 pub fn usage<E: Sink>(err: &mut E) -> u8
@@ -32,41 +32,41 @@ pub fn out_of_memory<E: Sink>(err: &mut E) -> u8
 }
 
 /// The line of invalid arguments, but for its end.
-pub(crate) fn line_of_usage() -> Line
+pub(crate) fn line_of_usage() -> MessageLine
     ensures text { result ++ 10 ∷ [] ≡ usage_line }
     ensures room { length result < CAPACITY }
 {
-    let mut line = Line::new();
+    let mut line = MessageLine::new();
     line.word(b"usage");
     line
 }
 
 /// The line of a character that the font lacks, but for its end.
-pub(crate) fn line_of_missing() -> Line
+pub(crate) fn line_of_missing() -> MessageLine
     ensures text { result ++ 10 ∷ [] ≡ missing_line }
     ensures room { length result < CAPACITY }
 {
-    let mut line = Line::new();
+    let mut line = MessageLine::new();
     line.word(b"missing");
     line
 }
 
 /// The line of a refusal, but for its end.
-pub(crate) fn line_of_refusal(refusal: Refusal) -> Line
+pub(crate) fn line_of_refusal(refusal: Refusal) -> MessageLine
     ensures text { result ++ 10 ∷ [] ≡ refusal_line refusal }
     ensures room { length result < CAPACITY }
 {
-    let mut line = Line::new();
+    let mut line = MessageLine::new();
     add_refusal(&mut line, refusal);
     line
 }
 
 /// The line of what was counted over a strike, but for its end.
-pub(crate) fn line_of_report(report: Report) -> Line
+pub(crate) fn line_of_report(report: Report) -> MessageLine
     ensures text { result ++ 10 ∷ [] ≡ report_line report }
     ensures room { length result < CAPACITY }
 {
-    let mut line = Line::new();
+    let mut line = MessageLine::new();
     line.word(b"glyphs");
     line.number(u64::from(report.glyphs));
     line.word(b"missing");
@@ -79,11 +79,11 @@ pub(crate) fn line_of_report(report: Report) -> Line
 }
 
 /// The line of a character that was refused, but for its end.
-pub(crate) fn line_of_notice(notice: Notice) -> Line
+pub(crate) fn line_of_notice(notice: Notice) -> MessageLine
     ensures text { result ++ 10 ∷ [] ≡ notice_line notice }
     ensures room { length result < CAPACITY }
 {
-    let mut line = Line::new();
+    let mut line = MessageLine::new();
     line.word(if notice.unhinted {
         b"unhinted"
     } else {
@@ -96,7 +96,7 @@ pub(crate) fn line_of_notice(notice: Notice) -> Line
 
 /// Adds a code point.
 #[tactic(auto, using(crate::proofs::Telling::in_pieces))]
-fn add_code(line: &mut Line, code: u32)
+fn add_code(line: &mut MessageLine, code: u32)
     requires { length line.old ≤ 18 }
     ensures text { line.new ≡ line.old ++ spaced (code_word code ∷ []) }
     ensures short { length line.new ≤ 42 }
@@ -108,7 +108,7 @@ fn add_code(line: &mut Line, code: u32)
 
 /// Adds a refusal: its number, its name and where it is.
 #[tactic(auto, using(crate::proofs::Telling::name_short))]
-fn add_refusal(line: &mut Line, refusal: Refusal)
+fn add_refusal(line: &mut MessageLine, refusal: Refusal)
     requires { length line.old ≤ 42 }
     ensures text { line.new ≡ line.old ++ spaced (refusal_words refusal) }
     ensures room { length line.new < CAPACITY }
@@ -120,23 +120,23 @@ fn add_refusal(line: &mut Line, refusal: Refusal)
 }
 
 /// Adds where a refusal is.
-fn add_place(line: &mut Line, place: Place)
+fn add_place(line: &mut MessageLine, place: Location)
     requires { length line.old ≤ 90 }
     ensures text { line.new ≡ line.old ++ spaced (place_words place) }
     ensures room { length line.new < CAPACITY }
 {
     match place {
-        Place::Nowhere => {}
-        Place::Table(tag) => line.word(&tag),
-        Place::Glyph(g) => line.number(u64::from(g)),
-        Place::Property(i) => line.number(u64::from(i)),
-        Place::Bytes(n) => line.number(n),
-        Place::Halt(halt) => add_halt(line, halt),
+        Location::Nowhere => {}
+        Location::Table(tag) => line.word(&tag),
+        Location::Glyph(g) => line.number(u64::from(g)),
+        Location::Property(i) => line.number(u64::from(i)),
+        Location::Bytes(n) => line.number(n),
+        Location::Halt(halt) => add_halt(line, halt),
     }
 }
 
 /// Adds where a program halted.
-fn add_halt(line: &mut Line, halt: Halt)
+fn add_halt(line: &mut MessageLine, halt: Halt)
     requires { length line.old ≤ 90 }
     ensures text { line.new ≡ line.old ++ spaced (halt_words halt) }
     ensures room { length line.new < CAPACITY }
@@ -152,7 +152,7 @@ fn add_halt(line: &mut Line, halt: Halt)
 }
 
 /// Adds which program of the font.
-fn add_program(line: &mut Line, program: FontProgram)
+fn add_program(line: &mut MessageLine, program: FontProgram)
     requires { length line.old ≤ 200 }
     ensures text { line.new ≡ line.old ++ spaced (program_words program) }
     ensures short { length line.new ≤ length line.old + 27 }
@@ -168,7 +168,7 @@ fn add_program(line: &mut Line, program: FontProgram)
 }
 
 /// Ends a line, and writes it. A fault of the sink is ignored.
-fn put_line<E: Sink>(err: &mut E, mut line: Line)
+fn put_line<E: Sink>(err: &mut E, mut line: MessageLine)
     requires fault { E.fault_count err.old < 2 ^ 63 }
     requires room { length line < CAPACITY }
     ensures { Tells (line ++ 10 ∷ []) (change_of E.held E.fault_count err.old err.new) }

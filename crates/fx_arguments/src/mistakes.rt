@@ -21,7 +21,7 @@ pub fn explain(alloc: Global, words: &[&str]) -> Result<Vec<u8>, Fault>
 {
     match checked(alloc, words) {
         Ok(()) => Ok(Vec::new(alloc)),
-        Err(Said::Line(line)) => Ok(line),
+        Err(Said::MessageLine(line)) => Ok(line),
         Err(Said::Stopped(fault)) => Err(fault),
     }
 }

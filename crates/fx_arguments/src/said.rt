@@ -14,7 +14,7 @@ use std::alloc::{AllocError, AllocFailed, Global};
 #[derive(Drop)]
 pub enum Said {
     /// The line, with its end.
-    Line(Vec<u8>),
+    MessageLine(Vec<u8>),
     /// Out of memory.
     Stopped(Fault),
 }
@@ -53,7 +53,7 @@ pub fn say(alloc: Global, pieces: &[&str]) -> Said
     ensures { IsSaid result (said (texts pieces.now)) }
 {
     match line_of(alloc, pieces) {
-        Ok(line) => Said::Line(line),
+        Ok(line) => Said::MessageLine(line),
         Err(fault) => Said::from(fault),
     }
 }

@@ -6,7 +6,7 @@ ghost use Rattle.fx_arguments.specs.Tellers.{Tells, begun};
 
 use crate::done::Done;
 use crate::fault::Fault;
-use crate::line::Line;
+use crate::line::MessageLine;
 use crate::lines::{
     line_of_missing, line_of_notice, line_of_refusal, line_of_report, line_of_usage,
 };
@@ -51,7 +51,7 @@ impl<'e, E: Sink> Teller<'e, E> {
     }
 
     /// Tells a line.
-    fn tell(&mut self, mut line: Line)
+    fn tell(&mut self, mut line: MessageLine)
         requires { length line < CAPACITY }
         ensures { Tells self.old self.new (line ++ 10 ∷ []) }
     {

@@ -32,12 +32,12 @@ use Rattle.fx_arguments.specs.declared.done.Done.TheVariants.{Strike, Picture, O
 use Rattle.fx_arguments.specs.declared.fault.Fault.{Fault}
 use Rattle.fx_arguments.specs.declared.fault.Fault.TheVariants.{Usage, Early, Late}
 use Rattle.fx_arguments.specs.CommandLine.{command_of}
-use Rattle.fx_arguments.specs.Commands.{CharactersView, CommandView, MakeView, TaskView, explanation, listed, listing, mapped, outline, picture, strike}
+use Rattle.fx_arguments.specs.Commands.{CharacterChoiceView, CommandView, MakeView, TaskView, explanation, listed, listing, mapped, outline, picture, strike}
 use Rattle.fx_arguments.specs.Commands.{trace}
 use Rattle.fx_arguments.specs.declared.command.Show.{Show}
 use Rattle.fx_arguments.specs.declared.command.Trace as asked
-use Rattle.fx_arguments.specs.declared.command.Traced.{Traced}
-use Rattle.fx_arguments.specs.declared.command.Traced.TheVariants.{Program, Glyph}
+use Rattle.fx_arguments.specs.declared.command.TraceSubject.{TraceSubject}
+use Rattle.fx_arguments.specs.declared.command.TraceSubject.TheVariants.{Program, Glyph}
 use Rattle.fx_request.specs.declared.request.Choice.TheVariants.{Character, Number}
 use Rattle.fx_arguments.specs.Lines.{Tells, notice_line, outcome_line, status_of}
 use Rattle.fx_cli.specs.Mapped.{mapped_of}
@@ -104,7 +104,7 @@ abbrev pub NoRoom : Change → List Notice → Result Report Refusal → Type 0
 NoRoom sink told answer = (answer ≡ Err OutOfMemory) × IsSpared sink × (told ≡ [])
 
 -- the same of those that are asked for
-abbrev pub LeavesBy : CharactersView → MakeView → FontFileView → Change → List Notice → Result Report Refusal → Type 0
+abbrev pub LeavesBy : CharacterChoiceView → MakeView → FontFileView → Change → List Notice → Result Report Refusal → Type 0
 LeavesBy (listed chars) make font sink told answer = StrikeLeaves make chars font sink told answer
 LeavesBy mapped make font sink told answer =
     StrikeLeaves make (mapped_of font) font sink told answer ⊎ NoRoom sink told answer
@@ -128,7 +128,7 @@ ListingLeaves what font sink answer =
     Lists (program_of font what) sink answer
 
 -- what is traced, as a trace is asked for
-abbrev pub programs_of : Traced → strike_trace.Traced
+abbrev pub programs_of : TraceSubject → strike_trace.Traced
 programs_of (Program font.Fpgm) = strike_trace.TheVariants.Fpgm
 programs_of (Program font.Prep) = strike_trace.TheVariants.Prep
 programs_of (Program (font.Glyph g)) = strike_trace.TheVariants.Number g

@@ -14,4 +14,4 @@ mod watcher;
 pub use mkstrike::Mkstrike;
 pub use program::{run, run_watched};
 pub use start::{run_program, unread};
-pub use watcher::{Unwatched, Watcher};
+pub use watcher::{NoWatcher, Watcher};

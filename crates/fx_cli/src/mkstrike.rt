@@ -6,7 +6,7 @@ use crate::program::run_watched;
 use crate::watch::Watch;
 use fx_arguments::{ItemFault, Task, read_arguments, wrong_item};
 use fx_fixed::{Sink, Source};
-use fx_front::{Facts, Parts, Program, Text};
+use fx_front::{Facts, Parts, Text, Tool};
 use std::alloc::{AllocError, Global};
 use std::marker::Model;
 
@@ -37,7 +37,7 @@ impl Mkstrike {
     }
 }
 
-impl Program for Mkstrike {
+impl Tool for Mkstrike {
     ghost use Rattle.fx_cli.specs.Runs.{Runs};
 
     ghost Ran = { Runs };

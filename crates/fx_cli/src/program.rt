@@ -11,10 +11,10 @@ ghost use Rattle.fx_cli.specs.Steps.{EndsAfter, Telling};
 
 use crate::mapped::mapped_of;
 use crate::show::put_picture;
-use crate::watcher::{Unwatched, Watcher};
+use crate::watcher::{NoWatcher, Watcher};
 use fx_arguments::{
-    Characters, Command, Done, Fault, LINE_BUFFER, Make, ReadAhead, Task, Teller, Traced,
-    arguments_of_line, decode_hex, read_arguments, read_line,
+    CharacterChoice, Command, Done, Fault, LINE_BUFFER, Make, ReadAhead, Task, Teller,
+    TraceSubject, arguments_of_line, decode_hex, read_arguments, read_line,
 };
 use fx_fixed::{Sink, Source, put_all};
 use fx_machine::FontProgram;
@@ -37,7 +37,7 @@ pub fn run<R: Source, O: Sink, E: Sink>(
     ensures { Runs (texts arguments.now) (change_of R.left R.fault_count reader.old reader.new)
         (change_of O.held O.fault_count out.old out.new) (change_of E.held E.fault_count err.old err.new) result }
 {
-    run_watched(alloc, arguments, reader, out, err, &mut Unwatched)
+    run_watched(alloc, arguments, reader, out, err, &mut NoWatcher)
 }
 
 /// The same, and a watcher sees what was done.
@@ -227,8 +227,8 @@ fn make_of<O: Sink, E: Sink>(
         (change_of O.held O.fault_count out.old out.new) told result) }
 {
     match &make.chars {
-        Characters::Listed(chars) => make_from(alloc, make, chars, font, out, teller),
-        Characters::All => {
+        CharacterChoice::Listed(chars) => make_from(alloc, make, chars, font, out, teller),
+        CharacterChoice::All => {
             let chars = mapped_of(alloc, font)?;
             make_from(alloc, make, &chars, font, out, teller)
         }
@@ -252,15 +252,15 @@ fn make_from<O: Sink, E: Sink>(
 }
 
 /// What is traced, as a trace is asked for.
-fn programs_of(traced: Traced) -> fx_strike::Traced
+fn programs_of(traced: TraceSubject) -> fx_strike::Traced
     ensures { result ≡ programs_of traced }
 {
     match traced {
-        Traced::Program(FontProgram::Fpgm) => fx_strike::Traced::Fpgm,
-        Traced::Program(FontProgram::Prep) => fx_strike::Traced::Prep,
-        Traced::Program(FontProgram::Glyph(number)) => fx_strike::Traced::Number(number),
-        Traced::Glyph(Choice::Number(number)) => fx_strike::Traced::Number(number),
-        Traced::Glyph(Choice::Character(code)) => fx_strike::Traced::Character(code),
+        TraceSubject::Program(FontProgram::Fpgm) => fx_strike::Traced::Fpgm,
+        TraceSubject::Program(FontProgram::Prep) => fx_strike::Traced::Prep,
+        TraceSubject::Program(FontProgram::Glyph(number)) => fx_strike::Traced::Number(number),
+        TraceSubject::Glyph(Choice::Number(number)) => fx_strike::Traced::Number(number),
+        TraceSubject::Glyph(Choice::Character(code)) => fx_strike::Traced::Character(code),
     }
 }
 

@@ -3,11 +3,11 @@ ghost use Rattle.std.specs.Prelude.{◌≡◌, false};
 ghost use Rattle.fx_cli.specs.Watch.{unseen};
 
 use crate::watcher::Watcher;
-use fx_arguments::{Characters, Command, Done, Fault, Task};
+use fx_arguments::{CharacterChoice, Command, Done, Fault, Task};
 use fx_cmap::CharMap;
-use fx_front::{Counts, Facts, Refused, Text};
+use fx_front::{Counts, Facts, RefusalFacts, Text};
 use fx_machine::FontProgram;
-use fx_request::{MAX_CHARACTERS, MAX_CODE, Place, Refusal, rising_codes};
+use fx_request::{Location, MAX_CHARACTERS, MAX_CODE, Refusal, rising_codes};
 use fx_sfnt::{Font, FontFile};
 use std::alloc::{AllocError, Global};
 
@@ -124,13 +124,13 @@ impl Watcher for Watch {
             return;
         };
         match &make.chars {
-            Characters::Listed(chars) => {
+            CharacterChoice::Listed(chars) => {
                 if report.missing > 0 && self.see_missing(alloc, chars, &map).is_err() {
                     self.facts.missing = Text::new(alloc);
                     self.facts.has_more = false;
                 }
             }
-            Characters::All => {
+            CharacterChoice::All => {
                 self.facts.is_cut = map.mapped_below(MAX_CODE + 1, &mut []) > MAX_CHARACTERS;
             }
         }
@@ -147,16 +147,16 @@ impl Watcher for Watch {
             Ok(_) | Err(Fault::Usage) => {}
             Err(Fault::Early(refusal)) | Err(Fault::Late(refusal)) => {
                 let place = refusal.place();
-                self.facts.refused = Some(Refused {
+                self.facts.refused = Some(RefusalFacts {
                     number: refusal.number(),
                     advice: refusal.advice(),
                     glyph: match place {
-                        Place::Glyph(glyph) => Some(glyph),
+                        Location::Glyph(glyph) => Some(glyph),
                         _ => None,
                     },
-                    is_halted: matches!(place, Place::Halt(_)),
+                    is_halted: matches!(place, Location::Halt(_)),
                     is_halted_glyph: match place {
-                        Place::Halt(halt) => matches!(halt.during, FontProgram::Glyph(_)),
+                        Location::Halt(halt) => matches!(halt.during, FontProgram::Glyph(_)),
                         _ => false,
                     },
                 });

@@ -22,6 +22,6 @@ pub trait Watcher {
 
 /// Nobody watches.
 #[derive(Clone, Copy)]
-pub struct Unwatched;
+pub struct NoWatcher;
 
-impl Watcher for Unwatched {}
+impl Watcher for NoWatcher {}

@@ -3,8 +3,8 @@
 ghost use Rattle.std.specs.Prelude.{◌≡◌, ℕ, ◌<◌, ◌≤◌};
 ghost use Rattle.fx_cmap.specs.Lookup.{char_map_of, map_of, glyph_for};
 
-use crate::cursor::Cursor;
 use crate::fault::CharMapFault;
+use crate::map_reader::MapReader;
 use crate::mapping::Mapping;
 use crate::records::chosen;
 use crate::subtable::Subtable;
@@ -60,10 +60,10 @@ impl<'a> CharMap<'a> {
     }
 
     /// A cursor, by which looking up codes in rising order is quick.
-    pub fn cursor(&self) -> Cursor<'_, 'a>
+    pub fn cursor(&self) -> MapReader<'_, 'a>
         ensures { result ≡ self.now }
     {
-        Cursor::new(self)
+        MapReader::new(self)
     }
 
     /// The glyph of a character code, 0 if it has none; for every number (OpenType, "Format 4" and "Format 12").

@@ -7,11 +7,11 @@
 mod candidates;
 mod char_map;
 mod codes;
-mod cursor;
 mod fault;
 mod group;
 mod groups;
 pub mod laws;
+mod map_reader;
 mod mapped;
 mod mapping;
 mod records;
@@ -21,5 +21,5 @@ mod segments;
 mod subtable;
 
 pub use char_map::CharMap;
-pub use cursor::Cursor;
 pub use fault::CharMapFault;
+pub use map_reader::MapReader;

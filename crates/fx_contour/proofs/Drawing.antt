@@ -1,5 +1,5 @@
 -- The curves of an outline reach as far as its points do, if each contour has two points or more.
--- For `Extent::of_curves`, `Bounds::of_outline`, and the limit in `are_in_reach` and `outline_frame`.
+-- For `Extent::of_curves`, `PieceBounds::of_outline`, and the limit in `are_in_reach` and `outline_frame`.
 use Rattle.std.proofs.Common.{subst, ℕ, zero, drop, take, length, neg_ℤ, ◌*ℤ◌, ◌≤ℤ◌, List, Option, arith, drop_of_length-le, IsTrue}
 use Rattle.std.proofs.Common.{◌≡◌, ap, ◌∙◌, suc, ◌+◌, ◌-◌, ◌≤◌, map, ◌⊎◌, inl, inr, ℤ, pos, [], ◌∷◌, Some, None, ◌↔◌, All, Bool}
 use Rattle.std.proofs.lemmas.Int.{ints}

@@ -12,7 +12,7 @@ use Rattle.fx_winding.specs.Frames.{HasMargin}
 use Rattle.fx_winding.specs.Limits.{greatest_side, IsPixelNumber}
 use Rattle.fx_winding.specs.Winding.{Span}
 use Rattle.fx_winding.specs.declared.frame.Frame.{Frame}
-use Rattle.fx_contour.specs.declared.bounds.Bounds.{Bounds}
+use Rattle.fx_contour.specs.declared.bounds.PieceBounds.{PieceBounds}
 use Rattle.fx_contour.specs.declared.fault.ContourFault.TheVariants.{TooFar, TooLarge}
 use Rattle.fx_contour.specs.declared.pixels.Pixels.{Pixels}
 use Rattle.fx_contour.specs.Bounds.{left_side, AreBounds, AreBoundsOf, AreKept, BoundsLeaveMargin, IsBoxOf}
@@ -29,10 +29,10 @@ same_kept s l h l' h' e f k = subst (λ y. AreKept s l' y) f (subst (λ x. AreKe
 
 -- ---- no span
 
-pub no_span : (o : Option Bounds) (ss : List Span) → o ≡ None → AreBoundsOf o ss → ss ≡ []
+pub no_span : (o : Option PieceBounds) (ss : List Span) → o ≡ None → AreBoundsOf o ss → ss ≡ []
 no_span o [] e a = refl
 no_span o (s ∷ ss) e a =
-    let P : Option Bounds → Type 0 = λ x. AreBoundsOf x (s ∷ ss) in
+    let P : Option PieceBounds → Type 0 = λ x. AreBoundsOf x (s ∷ ss) in
     absurd (((subst P e a).sides left_side s.a.x).0 (inl (inl (omega (arith, ints)))))
 
 pub none_framed : (ss : List Span) → ss ≡ [] → Ok tt ≡ dropout_framed_of ss
@@ -54,7 +54,7 @@ near coord within ss n z h = some_one (λ q. coord q ≡ z) (IsWithin farthest_w
     leaves q m true e = (margin_decides q).0 e
     leaves q m false e = absurd (n (m (λ r. ¬ (LeavesMargin r)) (not_from_Decides (leaves_margin q) (margin_decides q) e)))
 
-bounds_leave : (b : Bounds) (ss : List Span) → AreBounds b ss → ¬ (HaveAny (λ r. ¬ (LeavesMargin r)) ss) → BoundsLeaveMargin b
+bounds_leave : (b : PieceBounds) (ss : List Span) → AreBounds b ss → ¬ (HaveAny (λ r. ¬ (LeavesMargin r)) ss) → BoundsLeaveMargin b
 bounds_leave b ss a n =
     let e = box_extents b.left b.right b.bottom b.top ss a.sides in
     let x = near x_of (λ q h. h.0) ss n in
@@ -67,7 +67,7 @@ within_between : (low high z : ℤ) → IsWithin farthest_with_margin low → Is
     → (low ≤ℤ z) × (z ≤ℤ high) → IsWithin farthest_with_margin z
 within_between low high z a b h = grind (arith, signed_linear, a, b, h)
 
-none_far : (b : Bounds) (ss : List Span) → AreBounds b ss → BoundsLeaveMargin b → ¬ (HaveAny (λ r. ¬ (LeavesMargin r)) ss)
+none_far : (b : PieceBounds) (ss : List Span) → AreBounds b ss → BoundsLeaveMargin b → ¬ (HaveAny (λ r. ¬ (LeavesMargin r)) ss)
 none_far b ss a l h =
     let e = box_extents b.left b.right b.bottom b.top ss a.sides in
     some_one (λ r. ¬ (LeavesMargin r)) ⊥ ss h (λ q n m. n (
@@ -75,12 +75,13 @@ none_far b ss a l h =
       within_between b.bottom b.top q.y l.1.0 l.1.1 (in_extent y_of ss b.bottom b.top e.1 q m),
     ))
 
-pub far_framed : (b : Bounds) (ss : List Span) (r : Bool) → AreBounds b ss → (IsTrue r ↔ BoundsLeaveMargin b) → r ≡ false
+pub far_framed : (b : PieceBounds) (ss : List Span) (r : Bool) → AreBounds b ss → (IsTrue r ↔ BoundsLeaveMargin b) → r ≡ false
     → Err TooFar ≡ dropout_framed_of ss
 unfolding dropout_framed_of
 far_framed b ss r a d f = grind (arith, a, d, f, true_from_ne_false, bounds_leave, not_from_Decides, margin_is_tested)
 
-not_far : (b : Bounds) (ss : List Span) → AreBounds b ss → BoundsLeaveMargin b → have_any (λ q. not (leaves_margin q)) ss ≡ false
+not_far : (b : PieceBounds) (ss : List Span) → AreBounds b ss → BoundsLeaveMargin b
+  → have_any (λ q. not (leaves_margin q)) ss ≡ false
 not_far b ss a l =
     false_from_ne_true (have_any (λ q. not (leaves_margin q)) ss) (λ e. none_far b ss a l ((margin_is_tested ss).0 e))
 
@@ -99,7 +100,8 @@ few_kept coord ss s low high e k c (n, h, l) = apart s.first s.count n c ((k n).
 either_true : (x y : Bool) → (x ≡ true) ⊎ (y ≡ true) → (x || y) ≡ true
 either_true x y h = grind (arith, signed_linear, h)
 
-pub large_framed : (b : Bounds) (ss : List Span) (s r : Pixels) → AreBounds b ss → BoundsLeaveMargin b → AreKept s b.left b.right
+pub large_framed : (b : PieceBounds) (ss : List Span) (s r : Pixels) → AreBounds b ss → BoundsLeaveMargin b
+    → AreKept s b.left b.right
     → AreKept r b.bottom b.top → greatest_side < s.count ⊎ greatest_side < r.count → Err TooLarge ≡ dropout_framed_of ss
 unfolding dropout_framed_of
 large_framed b ss s r a l k m c =
@@ -111,7 +113,7 @@ large_framed b ss s r a l k m c =
     ]) in
     rw (not_far b ss a l, t) refl
 
-pub near_framed : (b : Bounds) (ss : List Span) (s r : Pixels) (f : Frame) → AreBounds b ss → BoundsLeaveMargin b
+pub near_framed : (b : PieceBounds) (ss : List Span) (s r : Pixels) (f : Frame) → AreBounds b ss → BoundsLeaveMargin b
     → AreKept s b.left b.right → AreKept r b.bottom b.top → IsBoxOf f s r → Ok tt ≡ dropout_framed_of ss
 unfolding dropout_framed_of
 near_framed b ss s r f a l k m o =
@@ -126,7 +128,7 @@ near_framed b ss s r f a l k m o =
 
 -- ---- the frame
 
-pub dropout_frame_is : (b : Bounds) (ss : List Span) (s r : Pixels) (f : Frame) → AreBounds b ss → AreKept s b.left b.right
+pub dropout_frame_is : (b : PieceBounds) (ss : List Span) (s r : Pixels) (f : Frame) → AreBounds b ss → AreKept s b.left b.right
     → AreKept r b.bottom b.top → IsBoxOf f s r → IsDropoutFrameFor (Some f) ss
 dropout_frame_is b ss s r f a k m o i j =
     let e = box_extents b.left b.right b.bottom b.top ss a.sides in
@@ -158,7 +160,7 @@ sides_kept s low high p q k =
     let z = kept_neighbours low high last p q ((k last).0 (last_in s, omega (arith, signed_linear))) in
     (a.0, before_end (s.first +ℤ pos s.count) z.1)
 
-pub frame_margin : (b : Bounds) (s r : Pixels) (f : Frame) → BoundsLeaveMargin b → AreKept s b.left b.right
+pub frame_margin : (b : PieceBounds) (s r : Pixels) (f : Frame) → BoundsLeaveMargin b → AreKept s b.left b.right
     → AreKept r b.bottom b.top → IsBoxOf f s r → HasMargin f
 frame_margin b s r f l k m o =
     let x = sides_kept s b.left b.right l.0.0 l.0.1 k in

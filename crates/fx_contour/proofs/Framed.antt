@@ -4,7 +4,7 @@ use Rattle.std.proofs.Common.{◌≡◌, ◌⊎◌, subst, ℕ, ◌<◌, ◌≤�
 use Rattle.fx_fixed.proofs.Linear.{signed_linear}
 use Rattle.fx_winding.specs.Limits.{greatest_side}
 use Rattle.fx_winding.specs.Winding.{Span, centre}
-use Rattle.fx_contour.specs.declared.bounds.Bounds.{Bounds}
+use Rattle.fx_contour.specs.declared.bounds.PieceBounds.{PieceBounds}
 use Rattle.fx_contour.specs.declared.pixels.Pixels.{Pixels}
 use Rattle.fx_winding.specs.declared.frame.Frame.{Frame}
 use Rattle.std.proofs.Common.{Option, None, Result, Ok, Err, IfOk, IfErr}
@@ -21,7 +21,7 @@ same_pixels s l h l' h' e f k = subst (λ (T : Type 0). T) (λ i. ArePixels s (e
 pub same_none : (l h l' h' : ℤ) → l ≡ l' → h ≡ h' → AreNoPixels l h → AreNoPixels l' h'
 same_none l h l' h' e f k = subst (λ (T : Type 0). T) (λ i. AreNoPixels (e i) (f i)) k
 
-box_from : (b : Bounds) (ss : List Span) (i j : ℤ) → AreBounds b ss → IsCentreIn b.left b.right i → IsCentreIn b.bottom b.top j
+box_from : (b : PieceBounds) (ss : List Span) (i j : ℤ) → AreBounds b ss → IsCentreIn b.left b.right i → IsCentreIn b.bottom b.top j
     → IsInBoundingBox (centre i j) ss
 box_from b ss i j a x y = record {
   left = (a.sides left_side (centre i j).x).1 x.0;
@@ -30,20 +30,22 @@ box_from b ss i j a x y = record {
   top = (a.sides top_side (centre i j).y).1 y.1;
 }
 
-column_in : (b : Bounds) (ss : List Span) (i j : ℤ) → AreBounds b ss → IsInBoundingBox (centre i j) ss → IsCentreIn b.left b.right i
+column_in : (b : PieceBounds) (ss : List Span) (i j : ℤ) → AreBounds b ss → IsInBoundingBox (centre i j) ss
+  → IsCentreIn b.left b.right i
 column_in b ss i j a h = ((a.sides left_side (centre i j).x).0 h.left, (a.sides right_side (centre i j).x).0 h.right)
 
-row_in : (b : Bounds) (ss : List Span) (i j : ℤ) → AreBounds b ss → IsInBoundingBox (centre i j) ss → IsCentreIn b.bottom b.top j
+row_in : (b : PieceBounds) (ss : List Span) (i j : ℤ) → AreBounds b ss → IsInBoundingBox (centre i j) ss
+  → IsCentreIn b.bottom b.top j
 row_in b ss i j a h = ((a.sides bottom_side (centre i j).y).0 h.bottom, (a.sides top_side (centre i j).y).0 h.top)
 
-pub no_box : (o : Option Bounds) (ss : List Span) → o ≡ None → AreBoundsOf o ss → HaveNoPixel ss
+pub no_box : (o : Option PieceBounds) (ss : List Span) → o ≡ None → AreBoundsOf o ss → HaveNoPixel ss
 no_box o ss e a col row h =
-    let P : Option Bounds → Type 0 = λ x. AreBoundsOf x ss in ((subst P e a).sides left_side (centre col row).x).0 h.left
+    let P : Option PieceBounds → Type 0 = λ x. AreBoundsOf x ss in ((subst P e a).sides left_side (centre col row).x).0 h.left
 
-pub no_columns : (b : Bounds) (ss : List Span) → AreBounds b ss → AreNoPixels b.left b.right → HaveNoPixel ss
+pub no_columns : (b : PieceBounds) (ss : List Span) → AreBounds b ss → AreNoPixels b.left b.right → HaveNoPixel ss
 no_columns b ss a n col row h = n col (column_in b ss col row a h)
 
-pub no_rows : (b : Bounds) (ss : List Span) → AreBounds b ss → AreNoPixels b.bottom b.top → HaveNoPixel ss
+pub no_rows : (b : PieceBounds) (ss : List Span) → AreBounds b ss → AreNoPixels b.bottom b.top → HaveNoPixel ss
 no_rows b ss a n col row h = n row (row_in b ss col row a h)
 
 pub first_in : (first : ℤ) (count : ℕ) → 0 < count → IsFrom first count first
@@ -53,7 +55,7 @@ pub far_in : (first : ℤ) (count : ℕ) → greatest_side < count → IsFrom fi
 far_in first count h = (omega (arith, signed_linear), omega (arith, signed_linear))
 
 -- too many columns or rows
-pub too_large : (b : Bounds) (ss : List Span) (s r : Pixels) → AreBounds b ss → ArePixels s b.left b.right
+pub too_large : (b : PieceBounds) (ss : List Span) (s r : Pixels) → AreBounds b ss → ArePixels s b.left b.right
     → ArePixels r b.bottom b.top → greatest_side < s.count ⊎ greatest_side < r.count → AreTooLarge ss
 too_large b ss s r a h k many =
     let column = (h s.first).0 (first_in s.first s.count s.some) in
@@ -69,7 +71,7 @@ too_large b ss s r a h k many =
       ],
     )
 
-pub is_frame : (b : Bounds) (ss : List Span) (s r : Pixels) (f : Frame) → AreBounds b ss → ArePixels s b.left b.right
+pub is_frame : (b : PieceBounds) (ss : List Span) (s r : Pixels) (f : Frame) → AreBounds b ss → ArePixels s b.left b.right
     → ArePixels r b.bottom b.top → IsBoxOf f s r → IsFrameOf f ss
 is_frame b ss s r f a h k e = record {
   columns = rw e.width s.some;

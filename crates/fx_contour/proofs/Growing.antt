@@ -1,5 +1,5 @@
 -- Bounding boxes, point by point.
--- For `Bounds` and `Extent` and their loops.
+-- For `PieceBounds` and `Extent` and their loops.
 use Rattle.std.proofs.Common.{◌≡◌, subst, ℕ, ◌+◌, ◌<◌, ◌≤◌, drop, length, map, get_or, ◌⊎◌, inl, inr}
 use Rattle.std.proofs.Common.{ℤ, pos, ◌*ℤ◌, ◌≤ℤ◌, List, [], ◌∷◌, Option, None, Some, IsSomeAnd, drop_of_length-le, arith, ◌↔◌}
 use Rattle.std.specs.Int.{int_min, int_max}
@@ -8,7 +8,7 @@ use Rattle.std.proofs.lemmas.List.{drop_more}
 use Rattle.fx_winding.specs.Area.{Place}
 use Rattle.fx_winding.specs.declared.point.Piece.{Piece}
 use Rattle.fx_winding.specs.Winding.{Span, span_of}
-use Rattle.fx_contour.specs.declared.bounds.Bounds.{Bounds}
+use Rattle.fx_contour.specs.declared.bounds.PieceBounds.{PieceBounds}
 use Rattle.fx_contour.specs.Frames.{HasAny, HaveAny}
 use Rattle.fx_contour.specs.Bounds.{Side, left_side, right_side, bottom_side, top_side, IsOut, ReachOf, Reaches, Grows, AreBounds}
 use Rattle.fx_contour.specs.Bounds.{AreBoundsOf}
@@ -56,13 +56,13 @@ pub no_control : (o : Option Place) → o ≡ None → (P : Place → Type 0) �
 no_control o e P n = absurd (subst (λ (x : Option Place). IsSomeAnd x P) e n)
 
 -- the box so far and the points of the spans that are left give the box of all
-pub record Remains (b : Bounds) (ss rest : List Span) : Type 0 where
+pub record Remains (b : PieceBounds) (ss rest : List Span) : Type 0 where
   pub sides : (side : Side) (t : ℤ) → HaveAny (IsOut side t) ss ↔ (Reaches b side t ⊎ HaveAny (IsOut side t) rest)
 
 pub one_less : (X A B R S : Type 0) → X ↔ (A ⊎ (R ⊎ S)) → B ↔ (A ⊎ R) → X ↔ (B ⊎ S)
 one_less X A B R S h k = (λ x. grind arith, λ y. grind arith)
 
-pub remains_more : (b c : Bounds) (ps : List Piece) (n : ℕ) (s : Piece) → n < length ps → s ≡ get_or ps n s
+pub remains_more : (b c : PieceBounds) (ps : List Piece) (n : ℕ) (s : Piece) → n < length ps → s ≡ get_or ps n s
     → Remains b (map span_of ps) (map span_of (drop n ps)) → Grows (Reaches b) (Reaches c) (λ P. HasAny P (span_of s))
     → Remains c (map span_of ps) (map span_of (drop (n + 1) ps))
 remains_more b c ps n s h e r g = grind (arith, h, e, r, g, drop_more, one_less)
@@ -70,7 +70,7 @@ remains_more b c ps n s h e r g = grind (arith, h, e, r, g, drop_more, one_less)
 pub none_left : (X A : Type 0) → X ↔ (A ⊎ ⊥) → X ↔ A
 none_left X A h = (λ x. grind arith, λ a. grind arith)
 
-pub remains_end : (b : Bounds) (ps : List Piece) (n : ℕ) → length ps ≤ n → Remains b (map span_of ps) (map span_of (drop n ps))
+pub remains_end : (b : PieceBounds) (ps : List Piece) (n : ℕ) → length ps ≤ n → Remains b (map span_of ps) (map span_of (drop n ps))
     → AreBounds b (map span_of ps)
 remains_end b ps n h r = grind (arith, h, r, drop_of_length-le, none_left)
 
@@ -78,7 +78,7 @@ pub first_too : (X A : Type 0) → (A → X) → X ↔ (A ⊎ X)
 first_too X A f = (λ x. grind arith, λ y. grind arith)
 
 -- the first piece's first point lies in the box of all
-pub remains_first : (b : Bounds) (ps : List Piece) (d : Piece) → 0 < length ps → b.left ≡ (get_or ps 0 d).a.x
+pub remains_first : (b : PieceBounds) (ps : List Piece) (d : Piece) → 0 < length ps → b.left ≡ (get_or ps 0 d).a.x
     → b.right ≡ (get_or ps 0 d).a.x → b.bottom ≡ (get_or ps 0 d).a.y → b.top ≡ (get_or ps 0 d).a.y
     → Remains b (map span_of ps) (map span_of ps)
 remains_first b [] d h l r u v = absurd (omega arith)
@@ -90,9 +90,9 @@ none_of [] h = record { sides = λ side t. (λ n. n, λ n. n) }
 none_of (s ∷ ps) h = absurd (omega arith)
 
 -- a box around the spans
-pub some_of : (b : Bounds) (ss : List Span) → AreBounds b ss → AreBoundsOf (Some b) ss
+pub some_of : (b : PieceBounds) (ss : List Span) → AreBounds b ss → AreBoundsOf (Some b) ss
 some_of b ss h = record { sides = h.sides }
 
-pub some_bounds : (o : Option Bounds) (b : Bounds) (ss : List Span) → o ≡ Some b → AreBoundsOf o ss → AreBounds b ss
+pub some_bounds : (o : Option PieceBounds) (b : PieceBounds) (ss : List Span) → o ≡ Some b → AreBoundsOf o ss → AreBounds b ss
 some_bounds o b ss e a =
-    let P : Option Bounds → Type 0 = λ x. AreBoundsOf x ss in let h = subst P e a in record { sides = h.sides }
+    let P : Option PieceBounds → Type 0 = λ x. AreBoundsOf x ss in let h = subst P e a in record { sides = h.sides }

@@ -4,7 +4,7 @@ use Rattle.fx_winding.specs.Area.{Place}
 use Rattle.fx_winding.specs.Winding.{Span}
 use Rattle.fx_winding.specs.declared.frame.Frame.{Frame}
 use Rattle.fx_winding.specs.Frames.{IsFrom}
-use Rattle.fx_contour.specs.declared.bounds.Bounds.{Bounds}
+use Rattle.fx_contour.specs.declared.bounds.PieceBounds.{PieceBounds}
 use Rattle.fx_contour.specs.declared.extent.Extent.{Extent}
 use Rattle.fx_contour.specs.declared.pixels.Pixels.{Pixels}
 use Rattle.fx_outline.specs.declared.points.OutlinePoint.{OutlinePoint}
@@ -36,7 +36,7 @@ ReachOf left right bottom top bottom_side t = bottom ≤ℤ t
 ReachOf left right bottom top top_side t = t ≤ℤ top
 
 -- the box b reaches t on this side
-abbrev pub Reaches : Bounds → Side → ℤ → Type 0
+abbrev pub Reaches : PieceBounds → Side → ℤ → Type 0
 Reaches b = ReachOf b.left b.right b.bottom b.top
 
 -- a box that reaches as `new` tells is the least one around the box of `old` and the points of which R tells that one has P
@@ -48,16 +48,16 @@ pub record IsLeast (reach : Side → ℤ → Type 0) (R : (Place → Type 0) →
   pub sides : (side : Side) (t : ℤ) → R (IsOut side t) ↔ reach side t
 
 -- b is the least box around the points of the spans
-pub record AreBounds (b : Bounds) (ss : List Span) : Type 0 where
+pub record AreBounds (b : PieceBounds) (ss : List Span) : Type 0 where
   pub sides : (side : Side) (t : ℤ) → HaveAny (IsOut side t) ss ↔ Reaches b side t
 
 -- the box, if there is one, reaches t on this side
-abbrev pub DoesReach : Option Bounds → Side → ℤ → Type 0
+abbrev pub DoesReach : Option PieceBounds → Side → ℤ → Type 0
 DoesReach None side t = ⊥
 DoesReach (Some b) side t = Reaches b side t
 
 -- b is the least box around the points of the spans, and none if they have no point
-pub record AreBoundsOf (b : Option Bounds) (ss : List Span) : Type 0 where
+pub record AreBoundsOf (b : Option PieceBounds) (ss : List Span) : Type 0 where
   pub sides : (side : Side) (t : ℤ) → HaveAny (IsOut side t) ss ↔ DoesReach b side t
 
 -- one of the points, in 1/128 pixel, has P
@@ -92,7 +92,7 @@ abbrev pub AreKept : Pixels → ℤ → ℤ → Type 0
 AreKept s low high = (n : ℤ) → IsFrom s.first s.count n ↔ IsKeptIn low high n
 
 -- each side of the box leaves the margin that drop-out control needs
-abbrev pub BoundsLeaveMargin : Bounds → Type 0
+abbrev pub BoundsLeaveMargin : PieceBounds → Type 0
 BoundsLeaveMargin b =
     (IsWithin farthest_with_margin b.left × IsWithin farthest_with_margin b.right) ×
     (IsWithin farthest_with_margin b.bottom × IsWithin farthest_with_margin b.top)

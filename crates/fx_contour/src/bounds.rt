@@ -14,7 +14,7 @@ const FARTHEST_WITH_MARGIN: i32 = (1 << 22) - 256;
 
 /// The least box that holds some points, in 1/128 pixel.
 #[derive(Clone, Copy)]
-pub(crate) struct Bounds {
+pub(crate) struct PieceBounds {
     pub left: i32,
     pub right: i32,
     pub bottom: i32,
@@ -25,7 +25,7 @@ pub(crate) struct Bounds {
     ghost near_top: { IsWithin (2 ^ 22) top },
 }
 
-impl Bounds {
+impl PieceBounds {
     ghost use Rattle.fx_winding.specs.Winding.{place_of, maybe_place_of, span_of};
     ghost use Rattle.fx_contour.specs.Contours.{IsInReach, spans_of};
     ghost use Rattle.fx_contour.specs.Frames.{HasAny, HaveAny};
@@ -33,13 +33,13 @@ impl Bounds {
     ghost use Rattle.fx_contour.specs.Bounds.{BoundsLeaveMargin};
 
     /// The box of one point.
-    fn around(p: Point) -> Bounds
+    fn around(p: Point) -> PieceBounds
         ensures left { result.left ≡ p.x }
         ensures right { result.right ≡ p.x }
         ensures bottom { result.bottom ≡ p.y }
         ensures top { result.top ≡ p.y }
     {
-        Bounds {
+        PieceBounds {
             left: p.x,
             right: p.x,
             bottom: p.y,
@@ -48,10 +48,10 @@ impl Bounds {
     }
 
     /// The least box that holds this one and a point.
-    fn with_point(self, p: Point) -> Bounds
+    fn with_point(self, p: Point) -> PieceBounds
         ensures { Grows (Reaches self) (Reaches result) (λ P. P (place_of p)) }
     {
-        Bounds {
+        PieceBounds {
             left: self.left.min(p.x),
             right: self.right.max(p.x),
             bottom: self.bottom.min(p.y),
@@ -60,7 +60,7 @@ impl Bounds {
     }
 
     /// The least box that holds this one and the control point, if there is one.
-    fn with_control(self, control: Option<Point>) -> Bounds
+    fn with_control(self, control: Option<Point>) -> PieceBounds
         ensures { Grows (Reaches self) (Reaches result) (λ P. IsSomeAnd (maybe_place_of control) P) }
     {
         match control {
@@ -70,7 +70,7 @@ impl Bounds {
     }
 
     /// The least box that holds this one and the points of a piece, its control point too.
-    fn with_piece(self, piece: &Piece) -> Bounds
+    fn with_piece(self, piece: &Piece) -> PieceBounds
         ensures { Grows (Reaches self) (Reaches result) (λ P. HasAny P (span_of piece.now)) }
     {
         self.with_point(piece.a)
@@ -79,13 +79,13 @@ impl Bounds {
     }
 
     /// The bounding box of all points of the pieces, control points too.
-    pub(crate) fn of(pieces: &[Piece]) -> Option<Bounds>
+    pub(crate) fn of(pieces: &[Piece]) -> Option<PieceBounds>
         ensures { AreBoundsOf result (map span_of pieces.now) }
     {
         if pieces.is_empty() {
             return None;
         }
-        let mut bounds = Bounds::around(pieces[0].a);
+        let mut bounds = PieceBounds::around(pieces[0].a);
         // The box is that of the pieces so far.
         'pieces: for piece in pieces {
             bounds = bounds.with_piece(piece);
@@ -94,11 +94,11 @@ impl Bounds {
     }
 
     /// An extent in 1/128 pixel.
-    fn doubled(extent: Extent) -> Bounds
+    fn doubled(extent: Extent) -> PieceBounds
         requires { KeepsLimit extent }
         ensures { (side : Side) (t : ℤ) → Reaches result side t ↔ Extends extent side t }
     {
-        Bounds {
+        PieceBounds {
             left: twice(extent.left),
             right: twice(extent.right),
             bottom: twice(extent.bottom),
@@ -107,14 +107,14 @@ impl Bounds {
     }
 
     /// The bounding box of all points of the pieces of an outline, whose points have the extent `all`.
-    pub(crate) fn of_outline(outline: &Outline, all: Extent) -> Option<Bounds>
+    pub(crate) fn of_outline(outline: &Outline, all: Extent) -> Option<PieceBounds>
         requires all { IsLeast (Extends all) (λ P. HavePoint P outline.now.points.items) }
         requires reach { All IsInReach outline.now.points.items }
         ensures { AreBoundsOf result (spans_of outline.now.ends.items outline.now.points.items) }
     {
         match Extent::of_curves(outline, all) {
             None => None,
-            Some(extent) => Some(Bounds::doubled(extent)),
+            Some(extent) => Some(PieceBounds::doubled(extent)),
         }
     }
 

@@ -8,7 +8,7 @@ ghost use Rattle.fx_contour.specs.Contours.{spans_of, IsInReach};
 ghost use Rattle.fx_contour.specs.Frames.{NothingOutsideFrame};
 ghost use Rattle.fx_contour.specs.DropoutFrames.{IsDropoutFrameFor, HaveMargin, dropout_framed_of, outline_dropout_framed_of};
 
-use crate::bounds::Bounds;
+use crate::bounds::PieceBounds;
 use crate::fault::ContourFault;
 use crate::frames::{box_of, outline_bounds};
 use crate::pixels::Pixels;
@@ -36,11 +36,11 @@ pub fn pieces_dropout_frame(pieces: &Pieces) -> Result<Option<Frame>, ContourFau
     ensures outside { IfOk result (λ f. NothingOutsideFrame f (map span_of pieces.now)) }
     ensures margin { IfOk result HaveMargin }
 {
-    dropout_frame_around(Bounds::of(pieces.as_slice()))
+    dropout_frame_around(PieceBounds::of(pieces.as_slice()))
 }
 
 /// The frame with drop-out control of the spans that have this bounding box, if they have one.
-fn dropout_frame_around(bounds: Option<Bounds>) -> Result<Option<Frame>, ContourFault>
+fn dropout_frame_around(bounds: Option<PieceBounds>) -> Result<Option<Frame>, ContourFault>
     ensures exact { (ss : List Span) → AreBoundsOf bounds ss → map_ok (λ _. tt) result ≡ dropout_framed_of ss }
     ensures ok { (ss : List Span) → AreBoundsOf bounds ss → IfOk result (λ f. IsDropoutFrameFor f ss) }
     ensures margin { IfOk result HaveMargin }

@@ -8,7 +8,7 @@ ghost use Rattle.fx_contour.specs.Bounds.{AreBoundsOf, IsBoxOf};
 ghost use Rattle.fx_contour.specs.Contours.{spans_of, IsInReach, drawn_of};
 ghost use Rattle.fx_contour.specs.Frames.{IsFrameFor, AreTooLarge, NothingOutsideFrame, framed_of, outline_framed_of};
 
-use crate::bounds::Bounds;
+use crate::bounds::PieceBounds;
 use crate::extent::Extent;
 use crate::fault::ContourFault;
 use crate::pixels::Pixels;
@@ -24,7 +24,7 @@ pub fn frame(pieces: &Pieces) -> Result<Option<Frame>, ContourFault>
     ensures fault { IfErr result (λ e. (e ≡ ContourFault.TooLarge) × AreTooLarge (map span_of pieces.now)) }
     ensures exact { map_ok (λ _. tt) result ≡ framed_of (map span_of pieces.now) }
 {
-    frame_around(Bounds::of(pieces.as_slice()))
+    frame_around(PieceBounds::of(pieces.as_slice()))
 }
 
 /// The frame of the pieces of an outline, as `frame` returns it, or `TooFar` if a point of any contour lies too far out. It
@@ -40,7 +40,7 @@ pub fn outline_frame(outline: &Outline) -> Result<Option<Frame>, ContourFault>
 
 /// The bounding box of the pieces of an outline, if it has any pieces, or `TooFar` if a point of any contour lies too far out.
 #[inline(always)]
-pub(crate) fn outline_bounds(outline: &Outline) -> Result<Option<Bounds>, ContourFault>
+pub(crate) fn outline_bounds(outline: &Outline) -> Result<Option<PieceBounds>, ContourFault>
     ensures ok { IfOk result (λ b. AreBoundsOf b (spans_of outline.now.ends.items outline.now.points.items)) }
     ensures reach { IfOk result (λ _. All IsInReach outline.now.points.items) }
     ensures fault { IfErr result (λ e. drawn_of outline.now.ends.items outline.now.points.items ≡ Err e) }
@@ -51,11 +51,11 @@ pub(crate) fn outline_bounds(outline: &Outline) -> Result<Option<Bounds>, Contou
     if !all.keeps_limit() {
         return Err(ContourFault::TooFar);
     }
-    Ok(Bounds::of_outline(outline, all))
+    Ok(PieceBounds::of_outline(outline, all))
 }
 
 /// The frame of the spans that have this bounding box, if they have one.
-fn frame_around(bounds: Option<Bounds>) -> Result<Option<Frame>, ContourFault>
+fn frame_around(bounds: Option<PieceBounds>) -> Result<Option<Frame>, ContourFault>
     ensures ok { (ss : List Span) → AreBoundsOf bounds ss → IfOk result (λ f. IsFrameFor f ss) }
     ensures fault { (ss : List Span) → AreBoundsOf bounds ss → IfErr result (λ e. (e ≡ ContourFault.TooLarge) × AreTooLarge ss) }
 {

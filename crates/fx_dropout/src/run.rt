@@ -294,14 +294,14 @@ fn turn_at(piece: &Piece, p: Point, tally: &mut Tally) -> Option<i32>
 
 /// Places at which a piece adds the same.
 #[derive(Clone, Copy)]
-pub(crate) struct Part {
+pub(crate) struct Stretch {
     pub count: usize,
     pub turn: Option<i32>,
 }
 
 /// What a piece adds at the place n, and at how many places from there on it is seen to add that.
 #[inline(always)]
-pub(crate) fn next_part(piece: &Piece, pair: Pair, n: usize, tally: &mut Tally) -> Part
+pub(crate) fn next_part(piece: &Piece, pair: Pair, n: usize, tally: &mut Tally) -> Stretch
     requires before { n < 128 }
     ensures some { 0 < result.count }
     ensures few { n + result.count ≤ 128 }
@@ -310,7 +310,7 @@ pub(crate) fn next_part(piece: &Piece, pair: Pair, n: usize, tally: &mut Tally) 
 {
     let most = places_to_ends(piece, pair, n);
     if let Some(turn) = turn_right(piece, pair, n, n + most - 1) {
-        return Part {
+        return Stretch {
             count: most,
             turn: Some(turn),
         };
@@ -327,7 +327,7 @@ pub(crate) fn next_part(piece: &Piece, pair: Pair, n: usize, tally: &mut Tally) 
             last: n + count - 1,
         };
         if let Some(turn) = turn_along(piece, pair, run, at, tally) {
-            return Part {
+            return Stretch {
                 count,
                 turn: Some(turn),
             };
@@ -338,7 +338,7 @@ pub(crate) fn next_part(piece: &Piece, pair: Pair, n: usize, tally: &mut Tally) 
             count / 4
         };
     }
-    Part {
+    Stretch {
         count: 1,
         turn: turn_at(piece, pair.place(n), tally),
     }

@@ -18,14 +18,14 @@ pub enum Asked<'a> {
 
 /// A run, with what its second line is made from.
 #[derive(Clone, Copy)]
-pub struct Task<'t, 'a> {
+pub struct AskedRun<'t, 'a> {
     /// The arguments, parted.
     pub parts: &'t Parts<'a>,
     /// The command, if there is one that takes a font.
     pub command: Option<&'static str>,
 }
 
-impl<'t, 'a> Task<'t, 'a> {
+impl<'t, 'a> AskedRun<'t, 'a> {
     ghost use Rattle.fx_words.specs.Parts.{text_in};
     ghost use Rattle.fx_front.specs.Places.{is_named};
 

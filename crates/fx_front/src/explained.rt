@@ -3,14 +3,14 @@ ghost use Rattle.std.specs.Prelude.{◌≡◌};
 ghost use Rattle.fx_fixed.specs.Changes.{change_of};
 ghost use Rattle.fx_front.specs.Says.{Says};
 
-use crate::asked::{Task, has};
-use crate::facts::{Counts, Facts, Refused};
+use crate::asked::{AskedRun, has};
+use crate::facts::{Counts, Facts, RefusalFacts};
 use crate::kinds::{KINDS, kind_of};
 use crate::lines::tell;
 use crate::meant::{is_among, meant_by, place_of, set_meant_by};
-use crate::program::Program;
 use crate::run::Ended;
 use crate::text::Text;
+use crate::tool::Tool;
 use fx_fixed::{Digits, Sink};
 use fx_words::list_of;
 use std::alloc::{AllocError, Global};
@@ -46,10 +46,10 @@ const A_FILE: &str =
     "the first word is the command: 'mkstrike make --ppem 16 --chars 20-7e FONT' makes a strike";
 
 /// Says what there is to say after a run: at most two lines. `is_file` tells whether the first word names a file.
-pub fn say_after<G: Program, E: Sink>(
+pub fn say_after<G: Tool, E: Sink>(
     alloc: Global,
     program: &G,
-    task: &Task<'_, '_>,
+    task: &AskedRun<'_, '_>,
     ended: Ended,
     is_file: bool,
     err: &mut E,
@@ -67,7 +67,7 @@ pub fn say_after<G: Program, E: Sink>(
 fn of_font_or_file(
     alloc: Global,
     facts: &Facts,
-    task: &Task<'_, '_>,
+    task: &AskedRun<'_, '_>,
     ended: Ended,
 ) -> Result<Text, AllocError> {
     if ended.status != 0 {
@@ -84,10 +84,10 @@ fn of_font_or_file(
 }
 
 /// What is said of the run; nothing if nothing is.
-fn of_run<G: Program>(
+fn of_run<G: Tool>(
     alloc: Global,
     program: &G,
-    task: &Task<'_, '_>,
+    task: &AskedRun<'_, '_>,
     ended: Ended,
     is_file: bool,
 ) -> Result<Text, AllocError> {
@@ -105,7 +105,7 @@ fn of_run<G: Program>(
 /// Adds what is said of a strike.
 fn add_strike(
     text: &mut Text,
-    task: &Task<'_, '_>,
+    task: &AskedRun<'_, '_>,
     facts: &Facts,
     counts: Counts,
     is_blank: bool,
@@ -148,12 +148,12 @@ fn add_missing(text: &mut Text, facts: &Facts, counts: Counts) -> Result<(), All
 }
 
 /// Adds what to do after a refusal.
-fn add_refusal<G: Program>(
+fn add_refusal<G: Tool>(
     alloc: Global,
     text: &mut Text,
     program: &G,
-    task: &Task<'_, '_>,
-    refused: Refused,
+    task: &AskedRun<'_, '_>,
+    refused: RefusalFacts,
 ) -> Result<(), AllocError> {
     let advice = refused.advice;
     match (refused.number, &program.facts().start) {
@@ -170,7 +170,11 @@ fn add_refusal<G: Program>(
 }
 
 /// Adds what to do after a halt. A trace runs the programs always.
-fn add_halt(text: &mut Text, task: &Task<'_, '_>, refused: Refused) -> Result<(), AllocError> {
+fn add_halt(
+    text: &mut Text,
+    task: &AskedRun<'_, '_>,
+    refused: RefusalFacts,
+) -> Result<(), AllocError> {
     if task.is("make") && refused.is_halted_glyph {
         text.add_all(&["--refused unhinted draws such characters without hinting; "])?;
     }
@@ -181,7 +185,7 @@ fn add_halt(text: &mut Text, task: &Task<'_, '_>, refused: Refused) -> Result<()
 }
 
 /// Whether the glyph that is refused is one that the words name.
-fn names_glyph(task: &Task<'_, '_>, glyph: Option<u16>) -> bool {
+fn names_glyph(task: &AskedRun<'_, '_>, glyph: Option<u16>) -> bool {
     let Some(glyph) = glyph else {
         return false;
     };
@@ -218,11 +222,11 @@ fn add_faces(text: &mut Text, start: &[u8]) -> Result<(), AllocError> {
 }
 
 /// Adds what is wrong with a list of characters, or with one.
-fn add_list<G: Program>(
+fn add_list<G: Tool>(
     alloc: Global,
     text: &mut Text,
     program: &G,
-    task: &Task<'_, '_>,
+    task: &AskedRun<'_, '_>,
     advice: &str,
 ) -> Result<(), AllocError> {
     let Some(list) = task.list() else {
@@ -290,11 +294,11 @@ fn is_word(item: &str) -> bool {
 }
 
 /// Adds what is wrong with a command line.
-fn add_usage<G: Program>(
+fn add_usage<G: Tool>(
     alloc: Global,
     text: &mut Text,
     program: &G,
-    task: &Task<'_, '_>,
+    task: &AskedRun<'_, '_>,
     is_file: bool,
 ) -> Result<(), AllocError> {
     let words = task.parts.words.get(1..).unwrap_or(&[]);
@@ -315,7 +319,7 @@ fn add_usage<G: Program>(
 fn add_wrong(
     alloc: Global,
     text: &mut Text,
-    task: &Task<'_, '_>,
+    task: &AskedRun<'_, '_>,
     command: &str,
     wrong: &str,
 ) -> Result<(), AllocError> {
@@ -336,7 +340,7 @@ fn add_wrong(
 }
 
 /// Adds what explains a wrong word or value further.
-fn add_more(text: &mut Text, wrong: &str, task: &Task<'_, '_>) -> Result<(), AllocError> {
+fn add_more(text: &mut Text, wrong: &str, task: &AskedRun<'_, '_>) -> Result<(), AllocError> {
     if let Some(font) = task.parts.font
         && wrong.starts_with("one word too many")
     {

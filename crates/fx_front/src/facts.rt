@@ -10,7 +10,7 @@ pub struct Counts {
 
 /// What is told of a refusal.
 #[derive(Clone, Copy)]
-pub struct Refused {
+pub struct RefusalFacts {
     /// Its number.
     pub number: u8,
     /// What to do.
@@ -29,7 +29,7 @@ pub struct Facts {
     /// The strike that was made.
     pub strike: Option<Counts>,
     /// The refusal.
-    pub refused: Option<Refused>,
+    pub refused: Option<RefusalFacts>,
     /// The first bytes of the font's file, if it was read and is not hexadecimal text.
     pub start: Option<Vec<u8>>,
     /// Whether the font is a variable font.

@@ -4,16 +4,16 @@ ghost use Rattle.fx_fixed.specs.Changes.{change_of};
 ghost use Rattle.fx_front.specs.Places.{IsStatus};
 ghost use Rattle.fx_front.specs.Says.{Says};
 
-use crate::asked::{Asked, Task, asked_by};
+use crate::asked::{Asked, AskedRun, asked_by};
 use crate::explained::say_after;
 use crate::help::{OVERVIEW, VERSION, help_of};
 use crate::input::Input;
 use crate::lines::tell;
 use crate::meant::command_of;
 use crate::output::{NO_FOLDER, Outlet, Output, output_of, why_closed};
-use crate::program::Program;
 use crate::run::run_to_place;
 use crate::text::Text;
+use crate::tool::Tool;
 use fx_fixed::{FromReader, Sink, ToSink, put_all};
 use fx_words::{listed, part, set_in, whole};
 use std::alloc::Global;
@@ -23,7 +23,7 @@ use std::{fs, io};
 
 /// Does what a command line asks for, the program's name first. Returns the status: 0, 1 or 2. An error is that memory ran out
 /// before the program was run.
-pub fn run_front<G: Program>(rt: &HostRuntime, program: &mut G, words: &[&str]) -> io::Result<u8>
+pub fn run_front<G: Tool>(rt: &HostRuntime, program: &mut G, words: &[&str]) -> io::Result<u8>
     ensures { IfOk result IsStatus }
 {
     match asked_by(words, rt.stdin().is_terminal()) {
@@ -67,7 +67,7 @@ pub fn say_not_text<E: Sink>(alloc: Global, err: &mut E)
 }
 
 /// Runs the program on the words, or has it explain them without an input.
-fn run_words<G: Program>(rt: &HostRuntime, program: &mut G, words: &[&str]) -> io::Result<u8>
+fn run_words<G: Tool>(rt: &HostRuntime, program: &mut G, words: &[&str]) -> io::Result<u8>
     ensures { IfOk result IsStatus }
 {
     let is_explain = words.get(1).copied() == Some("explain");
@@ -76,7 +76,7 @@ fn run_words<G: Program>(rt: &HostRuntime, program: &mut G, words: &[&str]) -> i
         Some(command) => run_command(rt, program, words, command, count),
         None => {
             let parts = whole(rt.alloc(), words)?;
-            let task = Task {
+            let task = AskedRun {
                 parts: &parts,
                 command: None,
             };
@@ -92,7 +92,7 @@ fn run_words<G: Program>(rt: &HostRuntime, program: &mut G, words: &[&str]) -> i
 
 /// Runs the program on the words of a command that takes a font, or has it explain them. The first `count` words go up to the
 /// command's name, which is the second or follows `explain`.
-fn run_command<G: Program>(
+fn run_command<G: Tool>(
     rt: &HostRuntime,
     program: &mut G,
     words: &[&str],
@@ -104,7 +104,7 @@ fn run_command<G: Program>(
     let list = listed(rt.alloc(), set_in(words))?;
     let (before, after) = words.split_at(words.len().min(count));
     let parts = part(rt.alloc(), before, command == "make", list.as_str(), after)?;
-    let task = Task {
+    let task = AskedRun {
         parts: &parts,
         command: Some(command),
     };
@@ -116,7 +116,7 @@ fn run_command<G: Program>(
 }
 
 /// Runs the program on the font and with the output that the words name.
-fn run_named<G: Program>(rt: &HostRuntime, program: &mut G, task: &Task<'_, '_>) -> io::Result<u8>
+fn run_named<G: Tool>(rt: &HostRuntime, program: &mut G, task: &AskedRun<'_, '_>) -> io::Result<u8>
     ensures { IfOk result IsStatus }
 {
     let input = match input_of(rt, task.parts.font) {
@@ -158,10 +158,10 @@ fn input_of(rt: &HostRuntime, font: Option<&str>) -> Result<Input, &'static str>
 }
 
 /// Says why a font can't be opened, and how it is named; or what is wrong with the other words. Returns the status.
-fn refuse_font<G: Program>(
+fn refuse_font<G: Tool>(
     rt: &HostRuntime,
     program: &mut G,
-    task: &Task<'_, '_>,
+    task: &AskedRun<'_, '_>,
     why: &str,
 ) -> io::Result<u8>
     ensures { IfOk result IsStatus }
@@ -186,7 +186,7 @@ fn refuse_font<G: Program>(
 }
 
 /// Says why an output is not written. Returns the status.
-fn refuse_output(rt: &HostRuntime, task: &Task<'_, '_>, why: &str) -> u8
+fn refuse_output(rt: &HostRuntime, task: &AskedRun<'_, '_>, why: &str) -> u8
     ensures { IsStatus result }
 {
     let name = task.parts.output.unwrap_or("");
@@ -195,10 +195,10 @@ fn refuse_output(rt: &HostRuntime, task: &Task<'_, '_>, why: &str) -> u8
 }
 
 /// Runs the program from an input to an output, and says what there is to say. Returns the status.
-fn run_from<G: Program>(
+fn run_from<G: Tool>(
     rt: &HostRuntime,
     program: &mut G,
-    task: &Task<'_, '_>,
+    task: &AskedRun<'_, '_>,
     input: Input,
     output: Output,
 ) -> u8

@@ -1,6 +1,6 @@
 //! A sink whose file is made when the first byte comes.
 
-use crate::place::Place;
+use crate::destination::Destination;
 use fx_fixed::Sink;
 use std::io::Write;
 
@@ -9,7 +9,7 @@ const ROOM: usize = 512;
 
 /// A sink whose file is made at a place when the first byte comes. It keeps the first bytes.
 #[derive(Drop)]
-pub struct Late<'p, P: Place> {
+pub struct Late<'p, P: Destination> {
     place: &'p P,
     new: Option<P::New>,
     faults: u64,
@@ -17,7 +17,7 @@ pub struct Late<'p, P: Place> {
     filled: usize,
 }
 
-impl<'p, P: Place> Late<'p, P> {
+impl<'p, P: Destination> Late<'p, P> {
     ghost use Rattle.std.specs.Prelude.{◌≡◌};
     ghost use Rattle.fx_front.specs.Places.{held_by};
 
@@ -53,7 +53,7 @@ impl<'p, P: Place> Late<'p, P> {
     }
 }
 
-impl<'p, P: Place> Sink for Late<'p, P> {
+impl<'p, P: Destination> Sink for Late<'p, P> {
     ghost use Rattle.fx_front.specs.Places.{held_by};
 
     ghost held = { λ s. held_by P.New.contents P.fresh s.new };

@@ -1,8 +1,9 @@
 //! The front of a run of `mkstrike`: the font and the output by their names, help, and after the lines of the run at most two that
-//! say what to do. It knows nothing of fonts: what it runs is a `Program`, and what it says comes of the `Facts` of a run.
+//! say what to do. It knows nothing of fonts: what it runs is a `Tool`, and what it says comes of the `Facts` of a run.
 #![tactic(auto)]
 
 mod asked;
+mod destination;
 mod explained;
 mod facts;
 mod front;
@@ -14,17 +15,16 @@ mod lines;
 mod meant;
 mod output;
 mod paths;
-mod place;
-mod program;
 mod run;
 mod text;
+mod tool;
 
-pub use asked::Task;
+pub use asked::AskedRun;
+pub use destination::Destination;
 pub use explained::say_after;
-pub use facts::{Counts, Facts, Refused};
+pub use facts::{Counts, Facts, RefusalFacts};
 pub use front::{run_front, say_not_text};
 pub use fx_words::Parts;
-pub use place::Place;
-pub use program::Program;
 pub use run::{Ended, run_to_place};
 pub use text::Text;
+pub use tool::Tool;

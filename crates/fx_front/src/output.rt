@@ -1,6 +1,6 @@
 //! The output by its name.
+use crate::destination::Destination;
 use crate::paths::{beside_streams, folder_of, followed};
-use crate::place::Place;
 use std::fs::{File, Metadata, Permissions};
 use std::io::{ErrorKind, Stdout, Write};
 use std::os::unix::fs::MetadataExt;
@@ -33,7 +33,7 @@ pub struct Outlet<'a> {
 
 /// An output that is open.
 #[derive(Drop)]
-pub enum Opened {
+pub enum OpenOutput {
     /// Standard output.
     Standard(Stdout),
     /// A device or a pipe.
@@ -126,7 +126,7 @@ fn device_of(rt: &HostRuntime, name: &str) -> Result<Output, &'static str> {
 }
 
 /// Makes a new file in the folder of the one of this name, with these permissions.
-fn make_beside(rt: &HostRuntime, name: &str, like: &Option<Permissions>) -> Option<Opened> {
+fn make_beside(rt: &HostRuntime, name: &str, like: &Option<Permissions>) -> Option<OpenOutput> {
     let number = std::process::id(rt.process());
     // The names so far are taken.
     'tries: for n in 0..TRIES {
@@ -142,7 +142,7 @@ fn make_beside(rt: &HostRuntime, name: &str, like: &Option<Permissions>) -> Opti
                 {
                     let _ = file.set_permissions(like);
                 }
-                return Some(Opened::New(file, made));
+                return Some(OpenOutput::New(file, made));
             }
             Err(fault) if fault.kind() == ErrorKind::AlreadyExists => {}
             Err(_) => return None,
@@ -151,10 +151,10 @@ fn make_beside(rt: &HostRuntime, name: &str, like: &Option<Permissions>) -> Opti
     None
 }
 
-impl<'a> Place for Outlet<'a> {
+impl<'a> Destination for Outlet<'a> {
     ghost use Rattle.std.specs.Prelude.{⊤, None};
 
-    type New = Opened;
+    type New = OpenOutput;
 
     ghost fresh = { None };
 
@@ -162,16 +162,16 @@ impl<'a> Place for Outlet<'a> {
 
     ghost Spares = { λ _ _. ⊤ };
 
-    fn make(&self) -> Option<Opened> {
+    fn make(&self) -> Option<OpenOutput> {
         match &self.output {
-            Output::Standard => Some(Opened::Standard(self.rt.stdout())),
-            Output::Device(file) => Some(Opened::Device(file.try_clone().ok()?)),
+            Output::Standard => Some(OpenOutput::Standard(self.rt.stdout())),
+            Output::Device(file) => Some(OpenOutput::Device(file.try_clone().ok()?)),
             Output::New(name, like) => make_beside(self.rt, name.as_str(), like),
         }
     }
 
-    fn name(&mut self, new: Opened) -> bool {
-        let (Opened::New(file, made), Output::New(name, _)) = (new, &self.output) else {
+    fn name(&mut self, new: OpenOutput) -> bool {
+        let (OpenOutput::New(file, made), Output::New(name, _)) = (new, &self.output) else {
             return true;
         };
         drop(file);
@@ -182,30 +182,30 @@ impl<'a> Place for Outlet<'a> {
         false
     }
 
-    fn remove(&mut self, new: Option<Opened>)
+    fn remove(&mut self, new: Option<OpenOutput>)
         ensures { ⊤ }
     {
-        if let Some(Opened::New(file, made)) = new {
+        if let Some(OpenOutput::New(file, made)) = new {
             drop(file);
             let _ = fs::remove_file(self.rt, made.as_str());
         }
     }
 }
 
-impl Write for Opened {
+impl Write for OpenOutput {
     fn write(&mut self, piece: &[u8]) -> io::Result<usize> {
         match self {
-            Opened::Standard(out) => out.write(piece),
-            Opened::Device(file) => file.write(piece),
-            Opened::New(file, _) => file.write(piece),
+            OpenOutput::Standard(out) => out.write(piece),
+            OpenOutput::Device(file) => file.write(piece),
+            OpenOutput::New(file, _) => file.write(piece),
         }
     }
 
     fn flush(&mut self) -> io::Result<()> {
         match self {
-            Opened::Standard(out) => out.flush(),
-            Opened::Device(file) => file.flush(),
-            Opened::New(file, _) => file.flush(),
+            OpenOutput::Standard(out) => out.flush(),
+            OpenOutput::Device(file) => file.flush(),
+            OpenOutput::New(file, _) => file.flush(),
         }
     }
 }

@@ -4,10 +4,10 @@ ghost use Rattle.fx_fixed.specs.Changes.{change_of};
 ghost use Rattle.fx_words.specs.Parts.{text_in, texts};
 ghost use Rattle.fx_front.specs.Places.{IsStatus, RunsTo, held_by, is_named};
 
-use crate::asked::Task;
+use crate::asked::AskedRun;
+use crate::destination::Destination;
 use crate::late::Late;
-use crate::place::Place;
-use crate::program::Program;
+use crate::tool::Tool;
 use fx_fixed::{Sink, Source};
 use std::alloc::Global;
 
@@ -26,10 +26,10 @@ pub struct Ended {
 
 /// Runs a program whose output is a new file at a place. It gets its name if the status is 0, or after the halt of a trace if
 /// something was traced; else it is removed.
-pub fn run_to_place<G: Program, P: Place, R: Source, E: Sink>(
+pub fn run_to_place<G: Tool, P: Destination, R: Source, E: Sink>(
     alloc: Global,
     program: &mut G,
-    task: &Task<'_, '_>,
+    task: &AskedRun<'_, '_>,
     reader: &mut R,
     place: &mut P,
     err: &mut E,
@@ -58,7 +58,7 @@ pub fn run_to_place<G: Program, P: Place, R: Source, E: Sink>(
 }
 
 /// Whether what a run wrote is kept after it failed: what was traced until a halt.
-fn keeps<G: Program>(program: &G, is_trace: bool, status: u8) -> bool
+fn keeps<G: Tool>(program: &G, is_trace: bool, status: u8) -> bool
     ensures trace { result ≡ true → is_trace ≡ true }
     ensures status { result ≡ true → status ≡ 1 }
 {
@@ -67,7 +67,7 @@ fn keeps<G: Program>(program: &G, is_trace: bool, status: u8) -> bool
 
 /// Gives a new file its name if the status is 0, also if nothing was written, or if it is kept; else removes it. Returns whether it
 /// got its name.
-fn settle<P: Place>(place: &mut P, new: Option<P::New>, status: u8, is_kept: bool) -> bool
+fn settle<P: Destination>(place: &mut P, new: Option<P::New>, status: u8, is_kept: bool) -> bool
     ensures due { result ≡ true → (status ≡ 0) ⊎ (is_kept ≡ true) }
     ensures named { result ≡ true → P.Names place.old (held_by P.New.contents P.fresh new) place.new }
     ensures spared { result ≡ false → P.Spares place.old place.new }

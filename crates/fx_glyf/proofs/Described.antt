@@ -10,8 +10,8 @@ use Rattle.byteorder.specs.Numbers.{big_from-take}
 use Rattle.fx_fixed.specs.Chain.{map_ok}
 use Rattle.fx_fixed.proofs.Chain.{refuse_ok, wanted_ok, map_ok_ok, ok_injective}
 use Rattle.fx_sfnt.specs.Fields.{field}
-use Rattle.fx_glyf.specs.declared.point.Point.{Point}
-use Rattle.fx_glyf.specs.declared.part.Part.{Part}
+use Rattle.fx_glyf.specs.declared.point.GlyphPoint.{GlyphPoint}
+use Rattle.fx_glyf.specs.declared.component.Component.{Component}
 use Rattle.fx_glyf.specs.declared.fault.GlyphFault.{GlyphFault}
 use Rattle.fx_glyf.specs.declared.glyph.Glyph.{Glyph}
 use Rattle.fx_glyf.specs.declared.glyph.Glyph.TheVariants.{Empty, Simple, Composite}
@@ -72,7 +72,7 @@ found_simple bytes g s long low high h =
     })
 
 -- reading, if the parts are found
-simple_there : (contours : ℕ) (bytes : List ℕ) (g count : ℕ) (code rest : List ℕ) (points : List Point)
+simple_there : (contours : ℕ) (bytes : List ℕ) (g count : ℕ) (code rest : List ℕ) (points : List GlyphPoint)
     → 2 * contours ≤ length (drop 10 bytes) → count_from 0 (words contours (drop 10 bytes)) ≡ Some count
     → program_of (drop (2 * contours) (drop 10 bytes)) ≡ Some (code, rest) → glyph_points_of count rest ≡ Some points
     → simple_of contours bytes g ≡ Ok (record
@@ -134,7 +134,7 @@ found_composite bytes g s long high h =
       program_is = program.2;
     })
 
-composite_there : (bytes : List ℕ) (g : ℕ) (parts : List Part) (behind code rest : List ℕ)
+composite_there : (bytes : List ℕ) (g : ℕ) (parts : List Component) (behind code rest : List ℕ)
     → parts_in true (drop 10 bytes) ≡ Some (parts, behind) → announced_of (has_program parts) behind ≡ Some (code, rest)
     → composite_of bytes g ≡ Ok (record { components = parts; x_min = x_min_of bytes; code = code })
 unfolding composite_of

@@ -5,17 +5,17 @@ use Rattle.std.proofs.Common.{eq-zero-or-pos, eqb→eq, cond}
 use lib.Ieee.Fits.{and_l, and_r}
 use Rattle.fx_glyf.specs.Words.{has}
 use Rattle.fx_glyf.specs.inner.Sizes.{delta_size, AreSizes}
-use Rattle.fx_glyf.specs.declared.flags.Sizes.{Sizes}
+use Rattle.fx_glyf.specs.declared.flags.DeltaSizes.{DeltaSizes}
 use Rattle.fx_glyf.specs.declared.flags.TheConstants.{SIZES}
 
 -- the first n flags have their sizes in the table
-abbrev are_sizes : Sizes → ℕ → Bool
+abbrev are_sizes : DeltaSizes → ℕ → Bool
 are_sizes d zero = true
 are_sizes d (suc f) =
     (eqb (get_or SIZES (f / 2 % 32) d).xs (cond (has f 2) 1 (cond (has f 16) 0 2))
     && eqb (get_or SIZES (f / 2 % 32) d).ys (cond (has f 4) 1 (cond (has f 32) 0 2))) && are_sizes d f
 
-below : (d : Sizes) (n f : ℕ) → T (are_sizes d n) → f < n
+below : (d : DeltaSizes) (n f : ℕ) → T (are_sizes d n) → f < n
     → AreSizes f (get_or SIZES (f / 2 % 32) d).xs (get_or SIZES (f / 2 % 32) d).ys
 unfolding delta_size
 below d zero f t h = absurd (omega arith)
@@ -28,7 +28,7 @@ below d (suc n) f t h =
       | inr g ↦ below d n f (and_r _ (are_sizes d n) t) (omega arith)
     ]
 
-pub sizes_at : (d : Sizes) (f half : ℕ) → f < 256 → half ≡ f / 2
+pub sizes_at : (d : DeltaSizes) (f half : ℕ) → f < 256 → half ≡ f / 2
     → AreSizes f (get_or SIZES (half % 32) d).xs (get_or SIZES (half % 32) d).ys
 sizes_at d f half h e = rw e (below d 256 f tt h)
 

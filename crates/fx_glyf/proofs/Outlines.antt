@@ -1,9 +1,9 @@
 -- When the bytes of a glyph's points are complete.
--- For `Outline::read` and what it keeps.
+-- For `PointBytes::read` and what it keeps.
 use Rattle.std.proofs.Common.{◌≡◌, ℕ, zero, suc, List, [], ◌∷◌, length, Option, Some, None, refl, sym, ap, ◌∙◌, arith}
 use Rattle.std.proofs.lemmas.Option.{option_and_then_some, same_Some}
 use Rattle.std.specs.Prelude.{option_map, option_and_then, IsSome}
-use Rattle.fx_glyf.specs.declared.point.Point.{Point}
+use Rattle.fx_glyf.specs.declared.point.GlyphPoint.{GlyphPoint}
 use Rattle.fx_glyf.specs.Words.{list_in, with_front}
 use Rattle.fx_glyf.specs.Points.{Cursor, x_short_vector, x_is_same_or_positive_x_short_vector, y_short_vector}
 use Rattle.fx_glyf.specs.Points.{y_is_same_or_positive_y_short_vector, next_flag, flags_from, delta_of, deltas_from, points_of}
@@ -19,13 +19,13 @@ unknown None e = refl
 unknown (Some p) e = absurd (cc)
 
 -- the three steps
-abbrev pub of_ys : List ℕ → List ℕ → List ℕ × List ℕ → Option (List Point)
+abbrev pub of_ys : List ℕ → List ℕ → List ℕ × List ℕ → Option (List GlyphPoint)
 of_ys fs dxs ys = Some (points_of fs dxs ys.0 0 0)
 
-abbrev pub of_xs : List ℕ → List ℕ × List ℕ → Option (List Point)
+abbrev pub of_xs : List ℕ → List ℕ × List ℕ → Option (List GlyphPoint)
 of_xs fs xs = option_and_then (of_ys fs xs.0) (deltas_from y_short_vector y_is_same_or_positive_y_short_vector fs xs.1)
 
-abbrev pub of_flags : List ℕ × List ℕ → Option (List Point)
+abbrev pub of_flags : List ℕ × List ℕ → Option (List GlyphPoint)
 of_flags fs = option_and_then (of_xs fs.0) (deltas_from x_short_vector x_is_same_or_positive_x_short_vector fs.0 fs.1)
 
 pub outline_is : (n : ℕ) (bytes : List ℕ) → glyph_points_of n bytes ≡ option_and_then of_flags (flags_from n (start bytes))
@@ -96,7 +96,7 @@ points_count (f ∷ fs) [] dys x y h k = absurd (omega arith)
 points_count (f ∷ fs) (dx ∷ dxs) [] x y h k = absurd (omega arith)
 points_count (f ∷ fs) (dx ∷ dxs) (dy ∷ dys) x y h k = ap suc (points_count fs dxs dys _ _ (omega arith) (omega arith))
 
-pub outline_count : (count : ℕ) (bytes : List ℕ) (points : List Point) → glyph_points_of count bytes ≡ Some points
+pub outline_count : (count : ℕ) (bytes : List ℕ) (points : List GlyphPoint) → glyph_points_of count bytes ≡ Some points
     → length points ≡ count
 unfolding glyph_points_of
 outline_count count bytes points e = grind (arith, option_and_then_some, same_Some, points_count, deltas_count, flags_count)

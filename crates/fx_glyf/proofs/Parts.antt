@@ -10,7 +10,7 @@ use Rattle.std.proofs.Math.Bool.{or_assoc, or-false}
 use Rattle.byteorder.specs.Endian.{big_number}
 use Rattle.byteorder.specs.Numbers.{big_from-take}
 use Rattle.fx_sfnt.specs.Fields.{field}
-use Rattle.fx_glyf.specs.declared.part.Part.{Part}
+use Rattle.fx_glyf.specs.declared.component.Component.{Component}
 use Rattle.fx_glyf.specs.Words.{has, with_front, list_in}
 use Rattle.fx_glyf.specs.Components.{part_size, part_of, next_part, is_followed, parts_from, parts_in, has_program}
 use Rattle.fx_glyf.specs.Components.{we_have_instructions, more_components}
@@ -26,9 +26,9 @@ field-taken at m bytes h =
     ∙ big_from-take 0 2 (m - at) (drop at bytes) (omega arith)
 
 -- the flags of a component that is taken are those at the front
-pub flags_taken : (bytes : List ℕ) (m : ℕ) (p : Part) → p ≡ part_of (take m bytes) → 2 ≤ m → p.flags ≡ field 2 bytes 0
+pub flags_taken : (bytes : List ℕ) (m : ℕ) (p : Component) → p ≡ part_of (take m bytes) → 2 ≤ m → p.flags ≡ field 2 bytes 0
 unfolding part_of
-flags_taken bytes m p e h = ap (λ (x : Part). x.flags) e ∙ field-taken 0 m bytes h
+flags_taken bytes m p e h = ap (λ (x : Component). x.flags) e ∙ field-taken 0 m bytes h
 
 part_there_is : (bytes : List ℕ) → 4 ≤ length bytes → part_size (field 2 bytes 0) ≤ length bytes
     → Some (part_of (take (part_size (field 2 bytes 0)) bytes), drop (part_size (field 2 bytes 0)) bytes) ≡ next_part bytes
@@ -36,33 +36,33 @@ unfolding next_part
 part_there_is bytes four inside = rw (le-ltb _ _ four, le-ltb _ _ inside) refl
 
 -- a component that is taken has the size that was taken
-pub size_of_taken : (n : ℕ) (bytes taken : List ℕ) (p : Part) → n ≡ part_size (field 2 bytes 0) → taken ≡ take n bytes
+pub size_of_taken : (n : ℕ) (bytes taken : List ℕ) (p : Component) → n ≡ part_size (field 2 bytes 0) → taken ≡ take n bytes
     → p ≡ part_of taken → part_size p.flags ≡ n
 size_of_taken n bytes taken p e t is =
     ap part_size (flags_taken bytes n p (is ∙ ap part_of t) (omega (arith, e))) ∙ sym e
 
 -- such a component, and what comes after its size
-pub part_found : (n : ℕ) (bytes taken : List ℕ) (p : Part) → n ≡ part_size (field 2 bytes 0) → n ≤ length bytes
+pub part_found : (n : ℕ) (bytes taken : List ℕ) (p : Component) → n ≡ part_size (field 2 bytes 0) → n ≤ length bytes
     → taken ≡ take n bytes → p ≡ part_of taken → Some (p, drop (part_size p.flags) bytes) ≡ next_part bytes
 part_found n bytes taken p e h t is = grind (arith, size_of_taken, part_there_is)
 
 -- the next component with the rest, in which a number of bytes was left out that is its size
-pub part_with_rest : (bytes : List ℕ) (p : Part) (n : ℕ) (rest : List ℕ) → n ≡ part_size p.flags → rest ≡ drop n bytes
+pub part_with_rest : (bytes : List ℕ) (p : Component) (n : ℕ) (rest : List ℕ) → n ≡ part_size p.flags → rest ≡ drop n bytes
     → Some (p, drop (part_size p.flags) bytes) ≡ next_part bytes → Some (p, rest) ≡ next_part bytes
 part_with_rest bytes p n rest size left e = grind arith
 
 -- what the next component is, and what is left
-pub record Next (bytes : List ℕ) (d : Part × List ℕ) : Type 0 where
+pub record Next (bytes : List ℕ) (d : Component × List ℕ) : Type 0 where
   pub inside : part_size (field 2 bytes 0) ≤ length bytes
   pub part : d.0 ≡ part_of (take (part_size (field 2 bytes 0)) bytes)
   pub rest : d.1 ≡ drop (part_size (field 2 bytes 0)) bytes
 
-pub next_is : (bytes : List ℕ) (d : Part × List ℕ) → next_part bytes ≡ Some d → Next bytes d
+pub next_is : (bytes : List ℕ) (d : Component × List ℕ) → next_part bytes ≡ Some d → Next bytes d
 unfolding next_part
 next_is bytes d e = grind (arith, guarded, same_Some, ltb-false)
 
 -- less is left
-pub shorter : (bytes : List ℕ) (d : Part × List ℕ) → next_part bytes ≡ Some d → length d.1 < length bytes
+pub shorter : (bytes : List ℕ) (d : Component × List ℕ) → next_part bytes ≡ Some d → length d.1 < length bytes
 shorter bytes d e = grind (arith, next_is, length-drop)
 
 step_same : {X Y : Type 0} (o : Option X) (f g : X → Option Y) → ((x : X) → o ≡ Some x → f x ≡ g x)
@@ -75,11 +75,11 @@ step_none None f h = refl
 step_none (Some x) f h = absurd (h x refl)
 
 -- a component, and those that follow it, at most `most` of them
-abbrev within_most : ℕ → Part × List ℕ → Option (List Part × List ℕ)
+abbrev within_most : ℕ → Component × List ℕ → Option (List Component × List ℕ)
 within_most most d = with_front d.0 (parts_from (is_followed d.0) most d.1)
 
 -- there is no component without a byte
-none_there : (f : Part × List ℕ → Option (List Part × List ℕ)) (bytes : List ℕ) → length bytes ≤ 0
+none_there : (f : Component × List ℕ → Option (List Component × List ℕ)) (bytes : List ℕ) → length bytes ≤ 0
     → option_and_then f (next_part bytes) ≡ None
 none_there f bytes h = step_none (next_part bytes) f (λ d e. let s = shorter bytes d e in omega arith)
 
@@ -97,7 +97,7 @@ room_enough true (suc n) (suc m) bytes h k =
     ap (with_front d.0) (room_enough (is_followed d.0) n m d.1 (omega arith) (omega arith)))
 
 -- a component, and those that follow it
-abbrev and_rest : Part × List ℕ → Option (List Part × List ℕ)
+abbrev and_rest : Component × List ℕ → Option (List Component × List ℕ)
 and_rest d = with_front d.0 (parts_in (is_followed d.0) d.1)
 
 -- components, one by one
@@ -110,7 +110,7 @@ parts_step (b ∷ bytes) =
     ap (with_front d.0) (room_enough (is_followed d.0) (length bytes) (length d.1) d.1 (omega arith) (omega arith)))
 
 -- the next component is d's
-pub parts_at : (bytes : List ℕ) (p : Part) (rest : List ℕ) → Some (p, rest) ≡ next_part bytes
+pub parts_at : (bytes : List ℕ) (p : Component) (rest : List ℕ) → Some (p, rest) ≡ next_part bytes
     → parts_in true bytes ≡ with_front p (parts_in (is_followed p) rest)
 parts_at bytes p rest e = parts_step bytes ∙ ap (option_and_then and_rest) (sym e)
 
@@ -124,16 +124,16 @@ unfolding parts_from
 parts_done bytes = refl
 
 -- the next component is passed: what was announced before, and what comes after the rest
-abbrev pub ending_with : Bool → List Part × List ℕ → Bool × List ℕ
+abbrev pub ending_with : Bool → List Component × List ℕ → Bool × List ℕ
 ending_with announced parts = (announced || has_program parts.0, parts.1)
 
-ending_front : (announced : Bool) (p : Part) (o : Option (List Part × List ℕ))
+ending_front : (announced : Bool) (p : Component) (o : Option (List Component × List ℕ))
     → option_map (ending_with (announced || has p.flags we_have_instructions)) o ≡ option_map (ending_with announced)
     (with_front p o)
 ending_front announced p None = refl
 ending_front announced p (Some r) = grind (arith, or_assoc)
 
-parts_passed : (announced more : Bool) (bytes : List ℕ) (p : Part) (rest : List ℕ) (says after : Bool) → more ≡ true
+parts_passed : (announced more : Bool) (bytes : List ℕ) (p : Component) (rest : List ℕ) (says after : Bool) → more ≡ true
     → Some (p, rest) ≡ next_part bytes → says ≡ has p.flags we_have_instructions → after ≡ is_followed p
     → option_map (ending_with (announced || says)) (parts_in after rest) ≡ option_map (ending_with announced) (parts_in more bytes)
 parts_passed announced more bytes p rest says after m e s a =
@@ -174,7 +174,7 @@ pub parts_none : (more : Bool) (bytes : List ℕ) → more ≡ false → list_in
 parts_none more bytes m = ap (λ (b : Bool). list_in (parts_in b bytes)) m ∙ ap list_in (parts_done bytes)
 
 -- what holds after one component was taken
-pub part_stepped : (more : Bool) (bytes : List ℕ) (p : Part) (rest : List ℕ) (after : Bool) → more ≡ true
+pub part_stepped : (more : Bool) (bytes : List ℕ) (p : Component) (rest : List ℕ) (after : Bool) → more ≡ true
     → Some (p, rest) ≡ next_part bytes → after ≡ is_followed p → IsSome (parts_in more bytes)
     → Stepped (parts_in more bytes) (parts_in after rest) p
 part_stepped more bytes p rest after m e a h =

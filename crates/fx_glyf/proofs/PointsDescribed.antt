@@ -10,7 +10,7 @@ use Rattle.std.proofs.lemmas.List.{take-append-drop, length-take-le, length-appe
 use Rattle.byteorder.specs.Endian.{big_number}
 use Rattle.byteorder.specs.Numbers.{big_from-take, big_from-append}
 use Rattle.fx_glyf.proofs.Outlines.{of_flags, of_xs, of_ys}
-use Rattle.fx_glyf.specs.declared.point.Point.{Point}
+use Rattle.fx_glyf.specs.declared.point.GlyphPoint.{GlyphPoint}
 use Rattle.fx_glyf.specs.Points.{Cursor, x_short_vector, x_is_same_or_positive_x_short_vector, y_short_vector}
 use Rattle.fx_glyf.specs.Points.{y_is_same_or_positive_y_short_vector, repeat_flag, next_flag, flags_from, delta_of, delta_by}
 use Rattle.fx_glyf.specs.Points.{deltas_from, glyph_points_of, start}
@@ -191,7 +191,7 @@ all_read short same (f ∷ fs) (d ∷ ds) front rest h =
     ∙ ap (with_front d) (all_read short same fs ds h.1 rest h.4)
 
 -- what is read is described by the bytes
-pub found_points : (count : ℕ) (bytes : List ℕ) (points : List Point) → glyph_points_of count bytes ≡ Some points
+pub found_points : (count : ℕ) (bytes : List ℕ) (points : List GlyphPoint) → glyph_points_of count bytes ≡ Some points
     → DescribesPoints count bytes points
 unfolding glyph_points_of
 found_points count bytes points e =
@@ -222,7 +222,7 @@ found_points count bytes points e =
     })))
 
 -- what the bytes describe is read
-pub only_points : (count : ℕ) (bytes : List ℕ) (points : List Point) → DescribesPoints count bytes points
+pub only_points : (count : ℕ) (bytes : List ℕ) (points : List GlyphPoint) → DescribesPoints count bytes points
     → glyph_points_of count bytes ≡ Some points
 unfolding glyph_points_of
 only_points count bytes points d = grind (arith, of_flags, runs_read, of_xs, all_read, of_ys)

@@ -1,5 +1,5 @@
 -- The bytes of points are complete exactly when there are as many as their flags say.
--- For `measured`, `Outline::read` and the counts of a simple glyph.
+-- For `measured`, `PointBytes::read` and the counts of a simple glyph.
 use Rattle.std.proofs.Common.{◌≡◌, ℕ, zero, suc, ◌+◌, ◌-◌, ◌*◌, ◌<◌, ◌≤◌, min, List, [], ◌∷◌, length, drop, Option, Some, None}
 use Rattle.std.proofs.Common.{Bool, true, false, cond, ◌⊎◌, inl, inr, refl, sym, ap, ◌∙◌, arith, length-drop, add_assoc, add-zero}
 use Rattle.std.proofs.Common.{get_or}

@@ -3,7 +3,7 @@
 use Rattle.std.proofs.Common.{◌≡◌, ℕ, suc, ◌+◌, ◌%◌, List, [], ◌∷◌, Option, Some, None, refl, sym, ap, ◌∙◌, subst}
 use Rattle.std.specs.Prelude.{IsSome, option_map, option_and_then}
 use Rattle.std.proofs.lemmas.Option.{same_Some, none-some}
-use Rattle.fx_glyf.specs.declared.point.Point.{Point}
+use Rattle.fx_glyf.specs.declared.point.GlyphPoint.{GlyphPoint}
 use Rattle.fx_glyf.specs.Words.{with_front, list_in}
 use Rattle.fx_glyf.specs.inner.Moves.{moved_by}
 use Rattle.fx_glyf.specs.Points.{Cursor, x_short_vector, x_is_same_or_positive_x_short_vector, y_short_vector}
@@ -87,7 +87,7 @@ unfolding points_of
 points_none dxs dys x y = refl
 
 -- the first point, and those after it
-points_step : (f : ℕ) (fs xs ys xs' ys' : List ℕ) (dx dy x y x' y' : ℕ) (p : Point)
+points_step : (f : ℕ) (fs xs ys xs' ys' : List ℕ) (dx dy x y x' y' : ℕ) (p : GlyphPoint)
     → Some (dx, xs') ≡ delta_of x_short_vector x_is_same_or_positive_x_short_vector f xs
     → Some (dy, ys') ≡ delta_of y_short_vector y_is_same_or_positive_y_short_vector f ys
     → IsSome (deltas_from x_short_vector x_is_same_or_positive_x_short_vector (f ∷ fs) xs)
@@ -122,7 +122,7 @@ came_by at to (Some p) rest e =
     (p.0, ap (λ (r : List ℕ). Some (p.0, r)) (ap (λ (y : ℕ × List ℕ). y.1) q), ap (λ (y : ℕ × List ℕ). y.0) q)
 
 -- the same as `points_step`, for values that are known by equations
-pub points_first : (gs : List ℕ) (f : ℕ) (fs xs ys xs' ys' : List ℕ) (x y x' y' : ℕ) (p : Point) → gs ≡ f ∷ fs
+pub points_first : (gs : List ℕ) (f : ℕ) (fs xs ys xs' ys' : List ℕ) (x y x' y' : ℕ) (p : GlyphPoint) → gs ≡ f ∷ fs
     → Some (x', xs') ≡ moved_by x (delta_of x_short_vector x_is_same_or_positive_x_short_vector f xs)
     → Some (y', ys') ≡ moved_by y (delta_of y_short_vector y_is_same_or_positive_y_short_vector f ys)
     → IsSome (deltas_from x_short_vector x_is_same_or_positive_x_short_vector gs xs)

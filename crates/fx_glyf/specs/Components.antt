@@ -6,7 +6,7 @@ use Rattle.std.specs.List.{list_any}
 use Rattle.fx_fixed.specs.Numbers.{one_in_2_14}
 use Rattle.fx_sfnt.specs.Fields.{field, signed_field}
 use Rattle.fx_glyf.specs.Words.{has, with_front}
-use Rattle.fx_glyf.specs.declared.part.Part.{Part}
+use Rattle.fx_glyf.specs.declared.component.Component.{Component}
 
 -- The masks of a component's flags.
 abbrev pub arg_1_and_2_are_words : ℕ
@@ -73,9 +73,9 @@ scales_of flags bytes =
     scales_by (has flags we_have_a_scale) (has flags we_have_an_x_and_y_scale) (has flags we_have_a_two_by_two) bytes
 
 -- the component that bytes are
-unfoldable pub part_of : List ℕ → Part
+unfoldable pub part_of : List ℕ → Component
 part_of bytes = with_flags (field 2 bytes 0) (drop 4 bytes) where
-  with_scales : ℕ → ℤ × ℤ → ℤ × ℤ × ℤ × ℤ → Part
+  with_scales : ℕ → ℤ × ℤ → ℤ × ℤ × ℤ × ℤ → Component
   with_scales flags args scales = record {
     glyph = field 2 bytes 2;
     args = args;
@@ -86,47 +86,47 @@ part_of bytes = with_flags (field 2 bytes 0) (drop 4 bytes) where
     d = scales.3;
   }
 
-  with_flags : ℕ → List ℕ → Part
+  with_flags : ℕ → List ℕ → Component
   with_flags flags rest = with_scales flags (argument_of flags rest 0, argument_of flags rest 1)
       (scales_of flags (drop (args_size flags) rest))
 
 -- the component at the front of bytes, and the bytes after it
-unfoldable pub next_part : List ℕ → Option (Part × List ℕ)
+unfoldable pub next_part : List ℕ → Option (Component × List ℕ)
 next_part bytes =
     if nat_lt (length bytes) 4 then None
     else (if nat_lt (length bytes) (part_size (field 2 bytes 0)) then None
     else Some (part_of (take (part_size (field 2 bytes 0)) bytes), drop (part_size (field 2 bytes 0)) bytes))
 
 -- whether its arguments are an x and a y offset, else numbers of points
-abbrev pub has_offsets : Part → Bool
+abbrev pub has_offsets : Component → Bool
 has_offsets p = has p.flags args_are_xy_values
 
 -- whether its offset is rounded to whole pixels, with hinting on
-abbrev pub rounds_offset : Part → Bool
+abbrev pub rounds_offset : Component → Bool
 rounds_offset p = has p.flags round_xy_to_grid
 
 -- whether the composite has its metrics
-abbrev pub uses_my_metrics : Part → Bool
+abbrev pub uses_my_metrics : Component → Bool
 uses_my_metrics p = has p.flags use_my_metrics
 
 -- whether one more component follows
-abbrev pub is_followed : Part → Bool
+abbrev pub is_followed : Component → Bool
 is_followed p = has p.flags more_components
 
 -- the components at the front of bytes, if one more is to come, up to the last, and the bytes after them; at most `most` of them
-unfoldable pub parts_from : Bool → ℕ → List ℕ → Option (List Part × List ℕ)
+unfoldable pub parts_from : Bool → ℕ → List ℕ → Option (List Component × List ℕ)
 parts_from false most bytes = Some ([], bytes)
 parts_from true zero bytes = None
 parts_from true (suc most) bytes = option_and_then (λ d. with_front d.0 (parts_from (is_followed d.0) most d.1)) (next_part bytes)
 
 -- the same of any number: no component is shorter than a byte
-abbrev pub parts_in : Bool → List ℕ → Option (List Part × List ℕ)
+abbrev pub parts_in : Bool → List ℕ → Option (List Component × List ℕ)
 parts_in more bytes = parts_from more (length bytes) bytes
 
 -- whether a program follows the last component: when any of them announces it
-abbrev pub has_program : List Part → Bool
+abbrev pub has_program : List Component → Bool
 has_program parts = list_any (λ p. has p.flags we_have_instructions) parts
 
 -- what comes after components: whether a program is announced, and the bytes
-abbrev pub ending_of : List Part × List ℕ → Bool × List ℕ
+abbrev pub ending_of : List Component × List ℕ → Bool × List ℕ
 ending_of parts = (has_program parts.0, parts.1)

@@ -9,8 +9,8 @@ use Rattle.fx_glyf.specs.Points.{x_short_vector, y_short_vector, x_is_same_or_po
 use Rattle.fx_glyf.specs.Points.{y_is_same_or_positive_y_short_vector, repeat_flag, points_of}
 use Rattle.fx_glyf.specs.Components.{part_of, part_size, is_followed, has_program}
 use Rattle.fx_glyf.specs.Shapes.{SimpleView, CompositeView}
-use Rattle.fx_glyf.specs.declared.point.Point.{Point}
-use Rattle.fx_glyf.specs.declared.part.Part.{Part}
+use Rattle.fx_glyf.specs.declared.point.GlyphPoint.{GlyphPoint}
+use Rattle.fx_glyf.specs.declared.component.Component.{Component}
 use Rattle.fx_glyf.specs.declared.glyph.Glyph.{Glyph}
 use Rattle.fx_glyf.specs.declared.glyph.Glyph.TheVariants.{Empty, Simple, Composite}
 
@@ -48,7 +48,7 @@ SpellsAll short same (f ∷ fs) (d ∷ ds) bytes =
 SpellsAll short same _ _ bytes = ⊥
 
 -- `count` points, as runs of flags, x deltas and y deltas
-pub record DescribesPoints (count : ℕ) (bytes : List ℕ) (points : List Point) : Type 0 where
+pub record DescribesPoints (count : ℕ) (bytes : List ℕ) (points : List GlyphPoint) : Type 0 where
   pub runs : List FlagRun
   pub flags : List ℕ
   pub dxs : List ℕ
@@ -99,14 +99,14 @@ pub record DescribesSimple (bytes : List ℕ) (s : SimpleView) : Type 0 where
   pub points_are : DescribesPoints count rest s.points
 
 -- component records, one after the other
-abbrev pub SpellsParts : List Part → List ℕ → Type 0
+abbrev pub SpellsParts : List Component → List ℕ → Type 0
 SpellsParts [] bytes = bytes ≡ []
 SpellsParts (p ∷ ps) bytes =
     (front : List ℕ) × (back : List ℕ) × (bytes ≡ front ++ back) × (length front ≡ part_size p.flags) × (p ≡ part_of front)
     × SpellsParts ps back
 
 -- exactly the components before the last say that another follows
-abbrev pub AreComponents : List Part → Type 0
+abbrev pub AreComponents : List Component → Type 0
 AreComponents [] = ⊥
 AreComponents (p ∷ []) = is_followed p ≡ false
 AreComponents (p ∷ q ∷ ps) = (is_followed p ≡ true) × AreComponents (q ∷ ps)

@@ -4,7 +4,7 @@ use Rattle.std.specs.Prelude.{true, false, nat_lt, if◌then◌else◌}
 use Rattle.std.specs.Int.{w16, cast_signed}
 use Rattle.byteorder.specs.Endian.{big_number}
 use Rattle.fx_glyf.specs.Words.{has, with_front, list_in}
-use Rattle.fx_glyf.specs.declared.point.Point.{Point}
+use Rattle.fx_glyf.specs.declared.point.GlyphPoint.{GlyphPoint}
 
 -- The masks of a point's flag.
 abbrev pub on_curve_point : ℕ
@@ -69,23 +69,23 @@ deltas_from short same (f ∷ fs) bytes =
     option_and_then (λ d. with_front d.0 (deltas_from short same fs d.1)) (delta_of short same f bytes)
 
 -- a point at coordinates modulo 2 ^ 16, which are signed
-unfoldable pub point_at : ℕ → ℕ → ℕ → Point
+unfoldable pub point_at : ℕ → ℕ → ℕ → GlyphPoint
 point_at x y flag = record { x = cast_signed w16 x; y = cast_signed w16 y; on_curve = has flag on_curve_point }
 
 -- the points: each coordinate is the one before it and its delta, modulo 2 ^ 16
-unfoldable pub points_of : List ℕ → List ℕ → List ℕ → ℕ → ℕ → List Point
+unfoldable pub points_of : List ℕ → List ℕ → List ℕ → ℕ → ℕ → List GlyphPoint
 points_of (f ∷ fs) (dx ∷ dxs) (dy ∷ dys) x y =
     point_at ((x + dx) % 65536) ((y + dy) % 65536) f ∷ points_of fs dxs dys ((x + dx) % 65536) ((y + dy) % 65536)
 points_of _ _ _ x y = []
 
 -- the points of flags and deltas in bytes, after a point at x and y
-abbrev pub points_seen : List ℕ → List ℕ → List ℕ → ℕ → ℕ → List Point
+abbrev pub points_seen : List ℕ → List ℕ → List ℕ → ℕ → ℕ → List GlyphPoint
 points_seen fs xs ys x y =
     points_of fs (list_in (deltas_from x_short_vector x_is_same_or_positive_x_short_vector fs xs))
     (list_in (deltas_from y_short_vector y_is_same_or_positive_y_short_vector fs ys)) x y
 
 -- `count` points at the front of bytes: flags, x deltas, y deltas
-unfoldable pub glyph_points_of : ℕ → List ℕ → Option (List Point)
+unfoldable pub glyph_points_of : ℕ → List ℕ → Option (List GlyphPoint)
 glyph_points_of count bytes =
     option_and_then (λ fs. option_and_then (λ xs. option_and_then (λ ys. Some (points_of fs.0 xs.0 ys.0 0 0))
     (deltas_from y_short_vector y_is_same_or_positive_y_short_vector fs.0 xs.1))

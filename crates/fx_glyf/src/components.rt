@@ -4,7 +4,7 @@ ghost use Rattle.std.specs.Prelude.{◌≡◌, IsSome, true};
 ghost use Rattle.fx_glyf.specs.Words.{list_in};
 ghost use Rattle.fx_glyf.specs.Components.{parts_in};
 
-use crate::part::{Part, is_followed};
+use crate::component::{Component, is_followed};
 use crate::records::{next_part, part_size};
 use fx_fixed::after;
 use std::marker::Model;
@@ -20,9 +20,9 @@ impl<'a> Model for Components<'a> {
     ghost use Rattle.std.specs.Prelude.{List, IsSome};
     ghost use Rattle.fx_glyf.specs.Words.{list_in};
     ghost use Rattle.fx_glyf.specs.Components.{parts_in};
-    ghost use Rattle.fx_glyf.specs.declared.part.Part.{Part};
+    ghost use Rattle.fx_glyf.specs.declared.component.Component.{Component};
 
-    ghost Value = { List Part };
+    ghost Value = { List Component };
 
     ghost view = { λ c. list_in (parts_in c.more c.bytes.now) };
 
@@ -40,7 +40,7 @@ impl<'a> Components<'a> {
 }
 
 impl<'a> Iterator for Components<'a> {
-    type Item = Part;
+    type Item = Component;
 
     ghost use Rattle.std.specs.Iterator.{YieldsFirst, item_count};
 
@@ -49,7 +49,7 @@ impl<'a> Iterator for Components<'a> {
     ghost remaining = { item_count (λ ps. ps) };
 
     #[tactic(auto, using(crate::proofs::Parts::next_steps))]
-    fn next(&mut self) -> Option<Part> {
+    fn next(&mut self) -> Option<Component> {
         if !self.more {
             return None;
         }

@@ -72,50 +72,50 @@ fn next_flag(again: u8, flag: u8, bytes: &[u8]) -> (u8, u8, &[u8])
 
 /// How many bytes deltas take, those of x and those of y.
 #[derive(Clone, Copy)]
-struct Sizes {
+struct DeltaSizes {
     xs: usize,
     ys: usize,
 }
 
 /// How many bytes the deltas of a point take, by bits 1 to 5 of the flag: 1 if one is short, else 0 if it is the same, else 2.
-static SIZES: [Sizes; 32] = [
-    Sizes { xs: 2, ys: 2 },
-    Sizes { xs: 1, ys: 2 },
-    Sizes { xs: 2, ys: 1 },
-    Sizes { xs: 1, ys: 1 },
-    Sizes { xs: 2, ys: 2 },
-    Sizes { xs: 1, ys: 2 },
-    Sizes { xs: 2, ys: 1 },
-    Sizes { xs: 1, ys: 1 },
-    Sizes { xs: 0, ys: 2 },
-    Sizes { xs: 1, ys: 2 },
-    Sizes { xs: 0, ys: 1 },
-    Sizes { xs: 1, ys: 1 },
-    Sizes { xs: 0, ys: 2 },
-    Sizes { xs: 1, ys: 2 },
-    Sizes { xs: 0, ys: 1 },
-    Sizes { xs: 1, ys: 1 },
-    Sizes { xs: 2, ys: 0 },
-    Sizes { xs: 1, ys: 0 },
-    Sizes { xs: 2, ys: 1 },
-    Sizes { xs: 1, ys: 1 },
-    Sizes { xs: 2, ys: 0 },
-    Sizes { xs: 1, ys: 0 },
-    Sizes { xs: 2, ys: 1 },
-    Sizes { xs: 1, ys: 1 },
-    Sizes { xs: 0, ys: 0 },
-    Sizes { xs: 1, ys: 0 },
-    Sizes { xs: 0, ys: 1 },
-    Sizes { xs: 1, ys: 1 },
-    Sizes { xs: 0, ys: 0 },
-    Sizes { xs: 1, ys: 0 },
-    Sizes { xs: 0, ys: 1 },
-    Sizes { xs: 1, ys: 1 },
+static SIZES: [DeltaSizes; 32] = [
+    DeltaSizes { xs: 2, ys: 2 },
+    DeltaSizes { xs: 1, ys: 2 },
+    DeltaSizes { xs: 2, ys: 1 },
+    DeltaSizes { xs: 1, ys: 1 },
+    DeltaSizes { xs: 2, ys: 2 },
+    DeltaSizes { xs: 1, ys: 2 },
+    DeltaSizes { xs: 2, ys: 1 },
+    DeltaSizes { xs: 1, ys: 1 },
+    DeltaSizes { xs: 0, ys: 2 },
+    DeltaSizes { xs: 1, ys: 2 },
+    DeltaSizes { xs: 0, ys: 1 },
+    DeltaSizes { xs: 1, ys: 1 },
+    DeltaSizes { xs: 0, ys: 2 },
+    DeltaSizes { xs: 1, ys: 2 },
+    DeltaSizes { xs: 0, ys: 1 },
+    DeltaSizes { xs: 1, ys: 1 },
+    DeltaSizes { xs: 2, ys: 0 },
+    DeltaSizes { xs: 1, ys: 0 },
+    DeltaSizes { xs: 2, ys: 1 },
+    DeltaSizes { xs: 1, ys: 1 },
+    DeltaSizes { xs: 2, ys: 0 },
+    DeltaSizes { xs: 1, ys: 0 },
+    DeltaSizes { xs: 2, ys: 1 },
+    DeltaSizes { xs: 1, ys: 1 },
+    DeltaSizes { xs: 0, ys: 0 },
+    DeltaSizes { xs: 1, ys: 0 },
+    DeltaSizes { xs: 0, ys: 1 },
+    DeltaSizes { xs: 1, ys: 1 },
+    DeltaSizes { xs: 0, ys: 0 },
+    DeltaSizes { xs: 1, ys: 0 },
+    DeltaSizes { xs: 0, ys: 1 },
+    DeltaSizes { xs: 1, ys: 1 },
 ];
 
 /// The bytes of the deltas with this flag.
 #[inline(always)]
-fn sizes_of(flag: u8) -> Sizes
+fn sizes_of(flag: u8) -> DeltaSizes
     ensures value { AreSizes flag result.xs result.ys }
     ensures few { (result.xs ≤ 2) × (result.ys ≤ 2) }
 {
@@ -124,7 +124,7 @@ fn sizes_of(flag: u8) -> Sizes
 
 /// How many flags at the front are not repeated, of `most` at most, and the bytes of their deltas.
 #[inline(always)]
-fn alone(bytes: &[u8], most: usize) -> (usize, Sizes)
+fn alone(bytes: &[u8], most: usize) -> (usize, DeltaSizes)
     ensures most { result.0 ≤ most }
     ensures inside { result.0 ≤ length bytes.now }
     ensures few { (result.1.xs ≤ 2 * result.0) × (result.1.ys ≤ 2 * result.0) }
@@ -137,13 +137,13 @@ fn alone(bytes: &[u8], most: usize) -> (usize, Sizes)
     'flags: for at in 0..few {
         let flag = bytes[at];
         if has(flag, REPEAT_FLAG) {
-            return (at, Sizes { xs, ys });
+            return (at, DeltaSizes { xs, ys });
         }
         let size = sizes_of(flag);
         xs += size.xs;
         ys += size.ys;
     }
-    (few, Sizes { xs, ys })
+    (few, DeltaSizes { xs, ys })
 }
 
 /// What flags say of the bytes after them: how many the x deltas take, and how many the y deltas.

@@ -5,6 +5,7 @@
 //! and no value holds one.
 #![tactic(auto)]
 
+mod component;
 mod components;
 mod composite;
 mod ends;
@@ -12,7 +13,6 @@ mod fault;
 mod flags;
 mod glyph;
 mod outline;
-mod part;
 mod point;
 mod points;
 mod program;
@@ -20,13 +20,13 @@ mod reading;
 mod records;
 mod simple;
 
+pub use component::Component;
 pub use components::Components;
 pub use composite::Composite;
 pub use ends::Ends;
 pub use fault::GlyphFault;
 pub use glyph::Glyph;
-pub use part::Part;
-pub use point::Point;
+pub use point::GlyphPoint;
 pub use points::Points;
 pub use reading::read;
 pub use simple::Simple;

@@ -10,20 +10,20 @@ use std::marker::Model;
 
 /// The points of a glyph, in their bytes.
 #[derive(Drop)]
-pub struct Outline<'a> {
+pub struct PointBytes<'a> {
     count: u32,
     flags: &'a [u8],
     xs: &'a [u8],
     ys: &'a [u8],
 }
 
-impl<'a> Model for Outline<'a> {
+impl<'a> Model for PointBytes<'a> {
     ghost use Rattle.std.specs.Prelude.{List, IsSome};
-    ghost use Rattle.fx_glyf.specs.declared.point.Point.{Point};
+    ghost use Rattle.fx_glyf.specs.declared.point.GlyphPoint.{GlyphPoint};
     ghost use Rattle.fx_glyf.specs.Words.{list_in};
     ghost use Rattle.fx_glyf.specs.Points.{x_short_vector, y_short_vector, x_is_same_or_positive_x_short_vector, y_is_same_or_positive_y_short_vector, flags_from, deltas_from, points_seen, start};
 
-    ghost Value = { List Point };
+    ghost Value = { List GlyphPoint };
 
     ghost view = { λ o. points_seen (list_in (flags_from o.count (start o.flags.now))) o.xs.now o.ys.now 0 0 };
 
@@ -34,9 +34,9 @@ impl<'a> Model for Outline<'a> {
         (list_in (flags_from o.count (start o.flags.now))) o.ys.now) };
 }
 
-impl<'a> Outline<'a> {
+impl<'a> PointBytes<'a> {
     /// `count` points at the front of the bytes, if their bytes are complete.
-    pub fn read(count: u32, flags: &'a [u8]) -> Option<Outline<'a>>
+    pub fn read(count: u32, flags: &'a [u8]) -> Option<PointBytes<'a>>
         ensures { result ≡ glyph_points_of count flags.now }
     {
         let Some(measure) = measured(count, flags) else {
@@ -50,7 +50,7 @@ impl<'a> Outline<'a> {
         if ys.len() < measure.ys {
             return None;
         }
-        Some(Outline {
+        Some(PointBytes {
             count,
             flags,
             xs,

@@ -9,7 +9,7 @@ use crate::flags::{
     Flags, ON_CURVE_POINT, X_IS_SAME_OR_POSITIVE_X_SHORT_VECTOR, X_SHORT_VECTOR,
     Y_IS_SAME_OR_POSITIVE_Y_SHORT_VECTOR, Y_SHORT_VECTOR, has,
 };
-use crate::point::Point;
+use crate::point::GlyphPoint;
 use fx_fixed::after;
 use fx_sfnt::u16_in;
 use std::marker::Model;
@@ -47,11 +47,11 @@ pub struct Points<'a> {
 
 impl<'a> Model for Points<'a> {
     ghost use Rattle.std.specs.Prelude.{List, IsSome};
-    ghost use Rattle.fx_glyf.specs.declared.point.Point.{Point};
+    ghost use Rattle.fx_glyf.specs.declared.point.GlyphPoint.{GlyphPoint};
     ghost use Rattle.fx_glyf.specs.Words.{list_in};
     ghost use Rattle.fx_glyf.specs.Points.{x_short_vector, y_short_vector, x_is_same_or_positive_x_short_vector, y_is_same_or_positive_y_short_vector, deltas_from, points_of};
 
-    ghost Value = { List Point };
+    ghost Value = { List GlyphPoint };
 
     ghost view = { λ p. points_of p.flags
         (list_in (deltas_from x_short_vector x_is_same_or_positive_x_short_vector p.flags p.xs.now))
@@ -80,7 +80,7 @@ impl<'a> Points<'a> {
 }
 
 impl<'a> Iterator for Points<'a> {
-    type Item = Point;
+    type Item = GlyphPoint;
 
     ghost use Rattle.std.specs.Iterator.{YieldsFirst, item_count};
 
@@ -89,7 +89,7 @@ impl<'a> Iterator for Points<'a> {
     ghost remaining = { item_count (λ ps. ps) };
 
     #[tactic(auto, using(crate::proofs::Steps::points_first, crate::proofs::Steps::points_end))]
-    fn next(&mut self) -> Option<Point> {
+    fn next(&mut self) -> Option<GlyphPoint> {
         let Some(flag) = self.flags.next() else {
             return None;
         };
@@ -117,10 +117,10 @@ impl<'a> Iterator for Points<'a> {
 
 /// A point at coordinates modulo 2 ^ 16, which are signed.
 #[tactic(auto, unfolding(crate::specs::Points::point_at))]
-fn point(x: u16, y: u16, flag: u8) -> Point
+fn point(x: u16, y: u16, flag: u8) -> GlyphPoint
     ensures { result ≡ point_at x y flag }
 {
-    Point {
+    GlyphPoint {
         x: x.cast_signed(),
         y: y.cast_signed(),
         on_curve: has(flag, ON_CURVE_POINT),

@@ -4,8 +4,8 @@ ghost use Rattle.std.specs.Prelude.{◌≡◌, ◌+◌, ◌*◌, ◌≤◌, true
 ghost use Rattle.fx_sfnt.specs.Fields.{field, signed_field};
 ghost use Rattle.fx_glyf.specs.Components.{args_size, scales_size, part_size, argument_of, scales_of, part_of, next_part, parts_in, ending_of};
 
-use crate::part::{
-    ARG_1_AND_2_ARE_WORDS, ARGS_ARE_XY_VALUES, Part, WE_HAVE_A_SCALE, WE_HAVE_A_TWO_BY_TWO,
+use crate::component::{
+    ARG_1_AND_2_ARE_WORDS, ARGS_ARE_XY_VALUES, Component, WE_HAVE_A_SCALE, WE_HAVE_A_TWO_BY_TWO,
     WE_HAVE_AN_X_AND_Y_SCALE, has, has_program, is_followed,
 };
 use fx_fixed::{F2, after, before};
@@ -87,14 +87,14 @@ fn scales(flags: u16, bytes: &[u8]) -> (F2, F2, F2, F2)
 
 /// The component that bytes are.
 #[tactic(auto, unfolding(crate::specs::Components::part_of))]
-fn part(bytes: &[u8]) -> Part
+fn part(bytes: &[u8]) -> Component
     requires { part_size (field 2 bytes.now 0) ≤ length bytes.now }
     ensures { result ≡ part_of bytes.now }
 {
     let flags = u16_in(bytes, 0);
     let rest = after(bytes, 4);
     let (a, b, c, d) = scales(flags, after(rest, args_size(flags)));
-    Part {
+    Component {
         glyph: u16_in(bytes, 2),
         args: (argument(flags, rest, 0), argument(flags, rest, 1)),
         flags,
@@ -130,7 +130,7 @@ fn next_flags(bytes: &[u8]) -> Option<u16>
 }
 
 /// The component at the front of the bytes; the next one comes after its size.
-pub fn next_part(bytes: &[u8]) -> Option<Part>
+pub fn next_part(bytes: &[u8]) -> Option<Component>
     ensures value { option_map (λ p. (p, drop (part_size p.flags) bytes.now)) result ≡ next_part bytes.now }
     ensures inside { IfSome result (λ p. part_size p.flags ≤ length bytes.now) }
 {

@@ -6,7 +6,7 @@ ghost use Rattle.fx_glyf.specs.Glyphs.{simple_of, x_min_of};
 
 use crate::ends::{Ends, count_points};
 use crate::fault::GlyphFault;
-use crate::outline::Outline;
+use crate::outline::PointBytes;
 use crate::points::Points;
 use crate::program::program;
 use fx_fixed::after;
@@ -20,7 +20,7 @@ pub struct Simple<'a> {
     contours: u16,
     ends: &'a [u8],
     code: &'a [u8],
-    outline: Outline<'a>,
+    outline: PointBytes<'a>,
 }
 
 impl<'a> Model for Simple<'a> {
@@ -63,7 +63,7 @@ impl<'a> Simple<'a> {
         let Some((code, rest)) = program(after(ends, size)) else {
             return Err(GlyphFault::GlyphShort(g));
         };
-        let Some(outline) = Outline::read(count, rest) else {
+        let Some(outline) = PointBytes::read(count, rest) else {
             return Err(GlyphFault::GlyphShort(g));
         };
         Ok(Simple {

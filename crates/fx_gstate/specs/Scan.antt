@@ -4,8 +4,8 @@ use Rattle.std.specs.Prelude.{ℕ, ◌/◌, ◌%◌, ◌==◌, nat_lt, nat_le, �
 use Rattle.std.specs.Prelude.{Option, Some, None}
 use Rattle.std.specs.Ordering.{int_eq}
 use Rattle.std.specs.Int.{int_rem_euclid}
-use Rattle.fx_gstate.specs.declared.scan.Dropout.{Dropout}
-use Rattle.fx_gstate.specs.declared.scan.Dropout.TheVariants.{Off, Leftmost, Nearest}
+use Rattle.fx_gstate.specs.declared.scan.ScanType.{ScanType}
+use Rattle.fx_gstate.specs.declared.scan.ScanType.TheVariants.{Off, Leftmost, Nearest}
 use Rattle.fx_gstate.specs.declared.state.GState.{GState}
 use Rattle.fx_gstate.specs.Rounding.{low_byte}
 
@@ -37,7 +37,7 @@ scan_control_of n ppem before =
 
 -- types 0 and 1 are simple, 4 and 5 smart, 2, 3 and 6 to 8 turn it off. Types 1 and 5 leave stubs out, which no text defines: here
 -- they keep them
-unfoldable pub scan_type_of : ℤ → Option Dropout
+unfoldable pub scan_type_of : ℤ → Option ScanType
 scan_type_of n =
     if int_eq n (pos 0) || int_eq n (pos 1) then Some Leftmost
     else if int_eq n (pos 4) || int_eq n (pos 5) then Some Nearest
@@ -47,10 +47,10 @@ scan_type_of n =
 -- ---- both
 
 -- what a program asked for: nothing without SCANCTRL; if that turned it on, what the type says
-abbrev pub wish_by : Option Bool → Dropout → Option Dropout
+abbrev pub wish_by : Option Bool → ScanType → Option ScanType
 wish_by None kind = None
 wish_by (Some false) kind = Some Off
 wish_by (Some true) kind = Some kind
 
-abbrev pub wish_of : GState → Option Dropout
+abbrev pub wish_of : GState → Option ScanType
 wish_of g = wish_by g.scan_control g.scan_type

@@ -8,7 +8,7 @@ use fx_fixed::Ppem;
 
 /// Drop-out control, as a type of SCANTYPE asks for it (Apple TrueType Reference Manual, "Scan conversion").
 #[derive(Clone, Copy, Debug, PartialEq, Eq)]
-pub enum Dropout {
+pub enum ScanType {
     /// No gap is closed.
     Off,
     /// The left or the lower pixel of a gap is set.
@@ -71,13 +71,13 @@ pub fn scan_control_of(n: i32, ppem: Ppem, before: bool) -> bool
 
 /// The drop-out control of a type of SCANTYPE; none if the number is no type.
 #[tactic(auto, unfolding(crate::specs::Scan::scan_type_of))]
-pub fn scan_type_of(n: i32) -> Option<Dropout>
+pub fn scan_type_of(n: i32) -> Option<ScanType>
     ensures { result ≡ scan_type_of n }
 {
     match n {
-        0 | 1 => Some(Dropout::Leftmost),
-        4 | 5 => Some(Dropout::Nearest),
-        2 | 3 | 6 | 7 | 8 => Some(Dropout::Off),
+        0 | 1 => Some(ScanType::Leftmost),
+        4 | 5 => Some(ScanType::Nearest),
+        2 | 3 | 6 | 7 | 8 => Some(ScanType::Off),
         _ => None,
     }
 }

@@ -4,7 +4,7 @@ use crate::deltas::{Delta, DeltaForm, DeltaShift};
 use crate::fault::BadArgument;
 use crate::moves::shift_along;
 use crate::rounding::{RoundState, round_to_grid, super_grid, super_grid_45};
-use crate::scan::{Dropout, scan_control_of, scan_type_of};
+use crate::scan::{ScanType, scan_control_of, scan_type_of};
 use crate::vectors::Vector;
 use crate::zones::ZonePointer;
 use fx_fixed::{Axis, F26, Place, Ppem};
@@ -47,7 +47,7 @@ pub struct GState {
     /// Whether drop-out control is on; none until SCANCTRL says so.
     pub scan_control: Option<bool>,
     /// Which drop-out control, if it is on.
-    pub scan_type: Dropout,
+    pub scan_type: ScanType,
 }
 
 impl GState {
@@ -87,7 +87,7 @@ impl GState {
             delta_base: 9,
             delta_shift: DeltaShift::three(),
             scan_control: None,
-            scan_type: Dropout::Leftmost,
+            scan_type: ScanType::Leftmost,
         }
     }
 
@@ -429,12 +429,12 @@ impl GState {
     }
 
     /// The drop-out control that was asked for, if any was.
-    pub fn wish(&self) -> Option<Dropout>
+    pub fn wish(&self) -> Option<ScanType>
         ensures { result ≡ wish_of self.now }
     {
         match self.scan_control {
             None => None,
-            Some(false) => Some(Dropout::Off),
+            Some(false) => Some(ScanType::Off),
             Some(true) => Some(self.scan_type),
         }
     }

@@ -5,7 +5,7 @@ use Rattle.fx_fixed.specs.Chain.{◌>>=◌, map_fault, GivesUnless}
 use Rattle.fx_sfnt.specs.declared.records.Metrics.{Metrics}
 use Rattle.fx_sfnt.specs.Tables.{Face}
 use Rattle.fx_sfnt.specs.Glyphs.{metrics_of, glyph_bytes_of}
-use Rattle.fx_glyf.specs.declared.part.Part.{Part}
+use Rattle.fx_glyf.specs.declared.component.Component.{Component}
 use Rattle.fx_glyf.specs.declared.glyph.Glyph as glyf
 use Rattle.fx_glyf.specs.declared.glyph.Glyph.TheVariants.{Empty, Simple, Composite}
 use Rattle.fx_glyf.specs.Glyphs.{glyph_of}
@@ -50,7 +50,7 @@ module _ (h : Hinting) (face : Face) (s : Scale) (root : ℕ) where
   unfolding logged_run
   plain_run which g code x = relog (with_run x.1.1 which g code x.0) (run_on h g code (x.0, x.1.0)) _ refl
 
-  plain_parts : (make : LoggedMaker) (make' : Maker) (g before : ℕ) (parts : List Part) (base : Made) (count : Logged)
+  plain_parts : (make : LoggedMaker) (make' : Maker) (g before : ℕ) (parts : List Component) (base : Made) (count : Logged)
       → ((w : Option ComponentOf) (n : ℕ) (c : Logged) → plain (make w n c) ≡ make' n c.0)
       → plain (logged_parts s h.on make g before parts base count) ≡ with_parts s h.on make' g parts base count.0
   unfolding logged_parts with_parts

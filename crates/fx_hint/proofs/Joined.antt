@@ -3,7 +3,7 @@
 use Rattle.std.proofs.Common.{◌≡◌, ℕ, ◌+◌, ◌<◌, List, [], ◌∷◌, length, map, refl, sym, ap, ◌∙◌, arith}
 use Rattle.std.specs.List.{All}
 use Rattle.std.proofs.lemmas.List.Elements.{All-head}
-use Rattle.fx_zone.specs.declared.point.Point.{Point}
+use Rattle.fx_zone.specs.declared.point.ZonePoint.{ZonePoint}
 use Rattle.fx_zone.specs.Figures.{Figure, joined}
 
 shifted_none : (es : List ℕ) → map (λ e. 0 + e) es ≡ es
@@ -12,7 +12,7 @@ shifted_none (e ∷ es) =
     let same : 0 + e ≡ e = omega arith in
     ap (λ k. k ∷ map (λ e. 0 + e) es) same ∙ ap (λ (ks : List ℕ). e ∷ ks) (shifted_none es)
 
-after_none : (ps : List Point) (es : List ℕ) (g : Figure) → length ps ≡ 0 → All (λ e. e < length ps) es
+after_none : (ps : List ZonePoint) (es : List ℕ) (g : Figure) → length ps ≡ 0 → All (λ e. e < length ps) es
     → g ≡ joined (record { points = ps; ends = es }) g
 after_none [] [] g n h = ap (λ (es : List ℕ). record { points = g.points; ends = es }) (sym (shifted_none g.ends))
 after_none [] (e ∷ es) g n h =

@@ -6,10 +6,10 @@ use Rattle.std.proofs.lemmas.List.{append-nil}
 use Rattle.std.proofs.lemmas.Grind.{common_steps}
 use Rattle.fx_fixed.specs.Chain.{map_fault}
 use Rattle.fx_fixed.proofs.Chain.{bind_ok, map_fault_ok, ok_injective}
-use Rattle.fx_zone.specs.declared.point.Point.{Point}
+use Rattle.fx_zone.specs.declared.point.ZonePoint.{ZonePoint}
 use Rattle.fx_zone.specs.Figures.{Figure, HasShape}
 use Rattle.fx_scale.specs.Phantoms.{in_order}
-use Rattle.fx_gstate.specs.declared.scan.Dropout.{Dropout}
+use Rattle.fx_gstate.specs.declared.scan.ScanType.{ScanType}
 use Rattle.fx_machine.specs.Known.{Known, glyph_ran}
 use Rattle.fx_machine.proofs.KeptShapes.{glyphs_keep}
 use Rattle.fx_machine.specs.declared.usage.Usage.{Usage}
@@ -22,10 +22,10 @@ use Rattle.fx_hint.specs.Programmed.{with_phantoms, parted, program_run, hinted,
 abbrev IsKept : Made → Made × Usage → Type 0
 IsKept made ran = (length ran.0.zone.points ≡ length made.zone.points) × (ran.0.zone.ends ≡ made.zone.ends)
 
-front_length : (xs : List Point) (n : ℕ) → n ≤ length xs → length (take n xs) ≡ n
+front_length : (xs : List ZonePoint) (n : ℕ) → n ≤ length xs → length (take n xs) ≡ n
 front_length xs n h = grind (arith, common_steps)
 
-parted_keeps : (made : Made) (wish : Option Dropout) (f : Figure) (usage : Usage) → HasShape (with_phantoms made) f
+parted_keeps : (made : Made) (wish : Option ScanType) (f : Figure) (usage : Usage) → HasShape (with_phantoms made) f
     → IsKept made (parted (length made.zone.points) wish f, usage)
 parted_keeps made wish f usage h =
     let n = h.points in

@@ -5,7 +5,7 @@ use Rattle.fx_fixed.specs.Chain.{◌>>=◌, map_fault}
 use Rattle.fx_sfnt.specs.declared.records.Metrics.{Metrics}
 use Rattle.fx_sfnt.specs.Tables.{Face}
 use Rattle.fx_sfnt.specs.Glyphs.{metrics_of, glyph_bytes_of}
-use Rattle.fx_glyf.specs.declared.part.Part.{Part}
+use Rattle.fx_glyf.specs.declared.component.Component.{Component}
 use Rattle.fx_glyf.specs.declared.glyph.Glyph as glyf
 use Rattle.fx_glyf.specs.declared.glyph.Glyph.TheVariants.{Empty, Simple, Composite}
 use Rattle.fx_glyf.specs.Shapes.{SimpleView}
@@ -98,7 +98,7 @@ module _ (h : Hinting) (face : Face) (s : Scale) (root : ℕ) where
       first_last x.1.1 (with_run x.1.1 component g code x.0) (run_on h g code (x.0, x.1.0)) (λ ran. ran)
       (first_more x.1.1 (record { component = component; g = g; code = code; made = x.0 } ∷ []))
 
-  first_parts : (make : LoggedMaker) (g before : ℕ) (parts : List Part) (base : Made) (count : Logged)
+  first_parts : (make : LoggedMaker) (g before : ℕ) (parts : List Component) (base : Made) (count : Logged)
       → ((w : Option ComponentOf) (n : ℕ) (c : Logged) → AreFirst c.1 (runs_in (make w n c)))
       → AreFirst count.1 (runs_in (logged_parts s h.on make g before parts base count))
   unfolding logged_parts
@@ -254,8 +254,8 @@ module _ (h : Hinting) (face : Face) (s : Scale) (root : ℕ) where
   runs_of_logged runs (Err e) = refl
 
   -- when a component was begun, the programs so far are the first of what is due
-  pub first_of_begun : (below : List Waiting) (levels : ℕ) (c : OpenComposite) (part : Part) (parts : List Part) (count : Logged)
-      (due : LoggedOutcome) (runs : List ProgramRun) (q : Result (Step × Count) HintFault)
+  pub first_of_begun : (below : List Waiting) (levels : ℕ) (c : OpenComposite) (part : Component) (parts : List Component)
+      (count : Logged) (due : LoggedOutcome) (runs : List ProgramRun) (q : Result (Step × Count) HintFault)
       → logged_rest_of h face s root max_depth below (logged_given_by h face s root (max_depth - length below)
       (Open c, count)) ≡ due
       → c.parts ≡ part ∷ parts → levels ≡ max_depth - length below

@@ -10,7 +10,7 @@ use Rattle.fx_fixed.proofs.Chain.{bind_ok, refuse_ok, map_fault_ok, ok_injective
 use Rattle.fx_sfnt.specs.declared.records.Metrics.{Metrics}
 use Rattle.fx_sfnt.specs.Tables.{Face}
 use Rattle.fx_sfnt.specs.Glyphs.{metrics_of, glyph_bytes_of}
-use Rattle.fx_glyf.specs.declared.part.Part.{Part}
+use Rattle.fx_glyf.specs.declared.component.Component.{Component}
 use Rattle.fx_glyf.specs.declared.glyph.Glyph as glyf
 use Rattle.fx_glyf.specs.declared.glyph.Glyph.TheVariants.{Empty, Simple, Composite}
 use Rattle.fx_glyf.specs.Shapes.{SimpleView}
@@ -113,7 +113,7 @@ run_counted h g code count made r keeps k e =
     })
 
 -- a component after the points so far
-part_joined : (s : Scale) (hinted : Bool) (g : ℕ) (part : Part) (base component more : Made)
+part_joined : (s : Scale) (hinted : Bool) (g : ℕ) (part : Component) (base component more : Made)
     → AreEnds 0 base.zone.ends (length base.zone.points) → AreEnds 0 component.zone.ends (length component.zone.points)
     → with_part s hinted g part base component ≡ Ok more
     → (length more.zone.points ≡ length base.zone.points + length component.zone.points)
@@ -142,7 +142,7 @@ record AreJoined (base : Made) (count : Count) (made : Made) (counted : Count) :
   few : counted.points ≤ max_points
   contours : AreEnds 0 made.zone.ends (length made.zone.points)
 
-parts_joined : (s : Scale) (hinted : Bool) (make : Maker) (g : ℕ) (parts : List Part) (base : Made) (count : Count)
+parts_joined : (s : Scale) (hinted : Bool) (make : Maker) (g : ℕ) (parts : List Component) (base : Made) (count : Count)
     (r : Made × Count)
     → AllCounted make → count.points ≤ max_points → AreEnds 0 base.zone.ends (length base.zone.points)
     → with_parts s hinted make g parts base count ≡ Ok r → AreJoined base count r.0 r.1

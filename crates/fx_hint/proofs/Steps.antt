@@ -8,7 +8,7 @@ use Rattle.fx_fixed.specs.Chain.{◌>>=◌, map_fault}
 use Rattle.fx_sfnt.specs.declared.records.Metrics.{Metrics}
 use Rattle.fx_sfnt.specs.Tables.{Face}
 use Rattle.fx_sfnt.specs.Glyphs.{metrics_of, glyph_bytes_of}
-use Rattle.fx_glyf.specs.declared.part.Part.{Part}
+use Rattle.fx_glyf.specs.declared.component.Component.{Component}
 use Rattle.fx_glyf.specs.declared.glyph.Glyph as glyf
 use Rattle.fx_glyf.specs.declared.glyph.Glyph.TheVariants.{Empty, Simple, Composite}
 use Rattle.fx_glyf.specs.Glyphs.{glyph_of}
@@ -30,7 +30,7 @@ abbrev pub next_of : OpenComposite → Option ComponentOf
 next_of c = Some (record { composite = c.g; number = c.before + 1 })
 
 -- the composite after it
-abbrev pub with_next : OpenComposite → List Part → OpenComposite
+abbrev pub with_next : OpenComposite → List Component → OpenComposite
 with_next c parts = record c { before = c.before + 1; parts = parts }
 
 -- a chain that is parted
@@ -102,12 +102,12 @@ module _ (h : Hinting) (face : Face) (s : Scale) (root : ℕ) where
       (λ counted. assembled_by levels component g counted))
 
   -- the next component of an open composite: the composite waits for it
-  waits : (levels : ℕ) (c : OpenComposite) (part : Part) (parts : List Part) (count : Logged) → c.parts ≡ part ∷ parts
+  waits : (levels : ℕ) (c : OpenComposite) (part : Component) (parts : List Component) (count : Logged) → c.parts ≡ part ∷ parts
       → logged_left h face s root levels c count ≡ (logged_component h face s root levels (next_of c) part.glyph count
       >>= logged_goes_into h face s root levels (record { part = part; composite = with_next c parts }))
   unfolding logged_parts
   waits levels c part parts count e =
-      ap (λ (ps : List Part). logged_parts s h.on (logged_component h face s root levels) c.g c.before ps c.base count
+      ap (λ (ps : List Component). logged_parts s h.on (logged_component h face s root levels) c.g c.before ps c.base count
       >>= logged_run h c.component c.g c.glyph.code) e
       ∙ two_after (logged_component h face s root levels (next_of c) part.glyph count)
       (λ m. after m.1.1 (with_part s h.on c.g part c.base m.0))
@@ -119,7 +119,7 @@ module _ (h : Hinting) (face : Face) (s : Scale) (root : ℕ) where
       → logged_left h face s root levels c count ≡ logged_run h c.component c.g c.glyph.code (c.base, count)
   unfolding logged_parts
   closes levels c count e =
-      ap (λ (ps : List Part). logged_parts s h.on (logged_component h face s root levels) c.g c.before ps c.base count
+      ap (λ (ps : List Component). logged_parts s h.on (logged_component h face s root levels) c.g c.before ps c.base count
       >>= logged_run h c.component c.g c.glyph.code) e
 
   -- a refusal is the root's
@@ -218,8 +218,8 @@ module _ (h : Hinting) (face : Face) (s : Scale) (root : ℕ) where
       ∙ rest_refused max_depth below d
 
   -- the next component is begun, and the composite waits for it
-  pub down : (below : List Waiting) (c : OpenComposite) (part : Part) (parts : List Part) (count : Logged) (due : LoggedOutcome)
-      → logged_rest_of h face s root max_depth below (logged_given_by h face s root (max_depth - length below)
+  pub down : (below : List Waiting) (c : OpenComposite) (part : Component) (parts : List Component) (count : Logged)
+      (due : LoggedOutcome) → logged_rest_of h face s root max_depth below (logged_given_by h face s root (max_depth - length below)
       (Open c, count)) ≡ due
       → c.parts ≡ part ∷ parts
       → logged_rest_of h face s root max_depth below
@@ -235,8 +235,8 @@ module _ (h : Hinting) (face : Face) (s : Scale) (root : ℕ) where
       (component_by (max_depth - length below) (next_of c) part.glyph count)))
       ∙ i
 
-  pub descends : (below all : List Waiting) (levels : ℕ) (c : OpenComposite) (part : Part) (parts : List Part) (step : Step)
-      (count counted : Logged) (due : LoggedOutcome)
+  pub descends : (below all : List Waiting) (levels : ℕ) (c : OpenComposite) (part : Component) (parts : List Component)
+      (step : Step) (count counted : Logged) (due : LoggedOutcome)
       → logged_rest_of h face s root max_depth below (logged_given_by h face s root (max_depth - length below)
       (Open c, count)) ≡ due
       → c.parts ≡ part ∷ parts → levels ≡ max_depth - length below
@@ -261,8 +261,8 @@ module _ (h : Hinting) (face : Face) (s : Scale) (root : ℕ) where
       ≡ due in
       subst Q (sym a) (subst P (sym deeper) there)
 
-  pub not_descended : (below : List Waiting) (levels : ℕ) (c : OpenComposite) (part : Part) (parts : List Part) (count : Logged)
-      (due : LoggedOutcome) (d : LoggedFault)
+  pub not_descended : (below : List Waiting) (levels : ℕ) (c : OpenComposite) (part : Component) (parts : List Component)
+      (count : Logged) (due : LoggedOutcome) (d : LoggedFault)
       → logged_rest_of h face s root max_depth below (logged_given_by h face s root (max_depth - length below)
       (Open c, count)) ≡ due
       → c.parts ≡ part ∷ parts → levels ≡ max_depth - length below
@@ -278,7 +278,7 @@ module _ (h : Hinting) (face : Face) (s : Scale) (root : ℕ) where
       ∙ rest_refused max_depth below d
 
   -- the next component is assembled at once, and goes into the composite
-  pub fills : (below : List Waiting) (levels : ℕ) (c : OpenComposite) (part : Part) (parts : List Part) (made more : Made)
+  pub fills : (below : List Waiting) (levels : ℕ) (c : OpenComposite) (part : Component) (parts : List Component) (made more : Made)
       (count counted : Logged) (due : LoggedOutcome)
       → logged_rest_of h face s root max_depth below (logged_given_by h face s root (max_depth - length below)
       (Open c, count)) ≡ due
@@ -292,7 +292,7 @@ module _ (h : Hinting) (face : Face) (s : Scale) (root : ℕ) where
       joins below (below ++ w ∷ []) w made more counted due
       (descends below (below ++ w ∷ []) levels c part parts (Assembled made) count counted due i e l b refl) refl j
 
-  pub not_filled : (below : List Waiting) (levels : ℕ) (c : OpenComposite) (part : Part) (parts : List Part) (made : Made)
+  pub not_filled : (below : List Waiting) (levels : ℕ) (c : OpenComposite) (part : Component) (parts : List Component) (made : Made)
       (count counted : Logged) (due : LoggedOutcome) (d : HintFault)
       → logged_rest_of h face s root max_depth below (logged_given_by h face s root (max_depth - length below)
       (Open c, count)) ≡ due

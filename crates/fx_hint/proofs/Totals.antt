@@ -4,7 +4,7 @@ use Rattle.std.proofs.Common.{◌≡◌, ℕ, ◌+◌, List, [], ◌∷◌, ◌+
 use Rattle.std.proofs.Common.{arith, length-append}
 use Rattle.std.proofs.lemmas.List.{length-map}
 use Rattle.fx_fixed.proofs.Chain.{bind_ok, ok_injective}
-use Rattle.fx_glyf.specs.declared.part.Part.{Part}
+use Rattle.fx_glyf.specs.declared.component.Component.{Component}
 use Rattle.fx_scale.specs.declared.scale.Scale.{Scale}
 use Rattle.fx_hint.specs.declared.made.Made.{Made}
 use Rattle.fx_hint.specs.declared.below.Waiting.{Waiting}
@@ -37,7 +37,7 @@ pub begun_with_one_more : (ws : List Waiting) (w : Waiting)
 begun_with_one_more ws w = with_one_more (λ v. v.composite.before) ws w
 
 -- a composite with one component more has the points of both
-pub part_adds_points : (s : Scale) (hinted : Bool) (g : ℕ) (part : Part) (base component more : Made)
+pub part_adds_points : (s : Scale) (hinted : Bool) (g : ℕ) (part : Component) (base component more : Made)
     → with_part s hinted g part base component ≡ Ok more
     → length more.zone.points ≡ length base.zone.points + length component.zone.points
 unfolding with_part

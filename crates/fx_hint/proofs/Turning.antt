@@ -5,10 +5,10 @@ use Rattle.std.proofs.Common.{◌∙◌, ap, sym, refl, List, [], ◌∷◌, map
 use Rattle.std.proofs.lemmas.Int.{ints, int_wrap_fits, int_wrap-add_left}
 use Rattle.std.specs.Int.{w32}
 use Rattle.fx_fixed.specs.declared.places.Place.{Place}
-use Rattle.fx_glyf.specs.declared.part.Part.{Part}
+use Rattle.fx_glyf.specs.declared.component.Component.{Component}
 use Rattle.fx_fixed.specs.Numbers.{IsNear, near_of, wrapped_of, sum_of}
 use Rattle.fx_fixed.proofs.Rounding.{same_near}
-use Rattle.fx_zone.specs.declared.point.Point.{Point}
+use Rattle.fx_zone.specs.declared.point.ZonePoint.{ZonePoint}
 use Rattle.fx_zone.specs.Points.{resting, rested}
 use Rattle.fx_zone.specs.Figures.{Figure, figure_rested}
 use Rattle.fx_hint.specs.Parts.{weighted_of, turned, laid, laid_figure}
@@ -33,13 +33,13 @@ wrapped_itself : (x : ℤ) → FitsSigned w32 x → wrapped_of x ≡ x
 unfolding wrapped_of
 wrapped_itself x f = int_wrap_fits w32 x f
 
-turned_plain : (part : Part) (p : Place) → IsPlain part → turned part p ≡ record { x = wrapped_of p.x; y = wrapped_of p.y }
+turned_plain : (part : Component) (p : Place) → IsPlain part → turned part p ≡ record { x = wrapped_of p.x; y = wrapped_of p.y }
 turned_plain part p h =
     rw (h.a_is, h.b_is, h.c_is, h.d_is) (ap (λ v. record { x = v; y = weighted_of (pos 0) p.x (pos (2 ^ 14)) p.y })
     (first_wrapped p.x p.y)
     ∙ ap (λ v. record { x = wrapped_of p.x; y = v }) (second_wrapped p.x p.y))
 
-pub turned_itself : (part : Part) (place : Place) → IsPlain part → FitsSigned w32 place.x → FitsSigned w32 place.y
+pub turned_itself : (part : Component) (place : Place) → IsPlain part → FitsSigned w32 place.x → FitsSigned w32 place.y
     → place ≡ turned part place
 turned_itself part place h fx fy =
     sym (turned_plain part place h
@@ -51,21 +51,21 @@ sum_wrapped : (x by : ℤ) → sum_of (wrapped_of x) by ≡ sum_of x by
 unfolding wrapped_of
 sum_wrapped x by = int_wrap-add_left w32 x by
 
-laid_plain : (part : Part) (offset : Place) (p : Point) → IsPlain part → laid part offset p ≡ rested offset p
+laid_plain : (part : Component) (offset : Place) (p : ZonePoint) → IsPlain part → laid part offset p ≡ rested offset p
 laid_plain part offset p h =
     ap (λ (q : Place). resting (record { x = sum_of q.x offset.x; y = sum_of q.y offset.y }) p.on) (turned_plain part p.cur h)
     ∙ ap (λ v. resting (record { x = v; y = sum_of (wrapped_of p.cur.y) offset.y }) p.on) (sum_wrapped p.cur.x offset.x)
     ∙ ap (λ v. resting (record { x = sum_of p.cur.x offset.x; y = v }) p.on) (sum_wrapped p.cur.y offset.y)
 
-points_plain : (part : Part) (offset : Place) (ps : List Point) → IsPlain part
+points_plain : (part : Component) (offset : Place) (ps : List ZonePoint) → IsPlain part
     → map (laid part offset) ps ≡ map (rested offset) ps
 points_plain part offset [] h = refl
 points_plain part offset (p ∷ ps) h =
-    ap (λ (q : Point). q ∷ map (laid part offset) ps) (laid_plain part offset p h)
-    ∙ ap (λ (qs : List Point). rested offset p ∷ qs) (points_plain part offset ps h)
+    ap (λ (q : ZonePoint). q ∷ map (laid part offset) ps) (laid_plain part offset p h)
+    ∙ ap (λ (qs : List ZonePoint). rested offset p ∷ qs) (points_plain part offset ps h)
 
 -- all points of a component without a transformation are laid by one shift
-pub figure_plain : (part : Part) (offset : Place) (f : Figure) → IsPlain part
+pub figure_plain : (part : Component) (offset : Place) (f : Figure) → IsPlain part
     → figure_rested offset f ≡ laid_figure part offset f
 figure_plain part offset f h =
-    ap (λ (ps : List Point). record { points = ps; ends = f.ends }) (sym (points_plain part offset f.points h))
+    ap (λ (ps : List ZonePoint). record { points = ps; ends = f.ends }) (sym (points_plain part offset f.points h))

@@ -5,18 +5,18 @@ use Rattle.fx_fixed.specs.Chain.{◌>>=◌, refuse, map_fault}
 use Rattle.fx_sfnt.specs.declared.records.Metrics.{Metrics}
 use Rattle.fx_sfnt.specs.Tables.{Face}
 use Rattle.fx_sfnt.specs.Glyphs.{metrics_of, glyph_bytes_of}
-use Rattle.fx_glyf.specs.declared.part.Part.{Part}
+use Rattle.fx_glyf.specs.declared.component.Component.{Component}
 use Rattle.fx_glyf.specs.declared.glyph.Glyph as glyf
 use Rattle.fx_glyf.specs.declared.glyph.Glyph.TheVariants.{Empty, Simple, Composite}
 use Rattle.fx_glyf.specs.Shapes.{SimpleView}
 use Rattle.fx_glyf.specs.Glyphs.{glyph_of}
-use Rattle.fx_zone.specs.declared.point.Point.{Point}
+use Rattle.fx_zone.specs.declared.point.ZonePoint.{ZonePoint}
 use Rattle.fx_zone.specs.Figures.{empty_figure}
 use Rattle.fx_scale.specs.declared.scale.Scale.{Scale}
 use Rattle.fx_scale.specs.Scaling.{scale_of}
 use Rattle.fx_scale.specs.Phantoms.{phantoms_of}
 use Rattle.fx_scale.specs.Zones.{zone_of_simple}
-use Rattle.fx_gstate.specs.declared.scan.Dropout.{Dropout}
+use Rattle.fx_gstate.specs.declared.scan.ScanType.{ScanType}
 use Rattle.fx_machine.specs.declared.halt.MachineFault.{MachineFault}
 use Rattle.fx_machine.specs.declared.halt.MachineFault.TheVariants as machine_fault
 use Rattle.fx_machine.specs.Known.{machine_of}
@@ -70,7 +70,7 @@ run_on h g code made = do
   Ok (ran.0, record made.1 { usage = usage_with made.1.usage ran.1 })
 
 -- the components of a composite g in order, each assembled
-unfoldable pub with_parts : Scale → Bool → Maker → ℕ → List Part → Made → Count → Result (Made × Count) HintFault
+unfoldable pub with_parts : Scale → Bool → Maker → ℕ → List Component → Made → Count → Result (Made × Count) HintFault
 with_parts s hinted make g [] base count = Ok (base, count)
 with_parts s hinted make g (part ∷ parts) base count = do
   component ← make part.glyph count
@@ -119,7 +119,7 @@ pub record GlyphOutlineView : Type 0 where
   pub ends : List ℕ
   pub advance : ℤ
   pub usage : Usage
-  pub wish : Option Dropout
+  pub wish : Option ScanType
 
 abbrev pub view_of_glyph_outline : GlyphOutline → GlyphOutlineView
 view_of_glyph_outline g = record {
@@ -131,7 +131,7 @@ view_of_glyph_outline g = record {
 }
 
 -- a point of an outline: its current place, moved so that the first phantom point lies at x = 0
-abbrev pub moved_point : ℤ → Point → OutlinePoint
+abbrev pub moved_point : ℤ → ZonePoint → OutlinePoint
 moved_point origin p = record { x = difference_of p.cur.x origin; y = p.cur.y; on_curve = p.on }
 
 -- the outline moved; its advance is the second phantom point's x from the first's

@@ -5,12 +5,12 @@ use Rattle.std.specs.Prelude.{if◌then◌else◌, Option, Some, None, slice_get
 use Rattle.std.specs.Prelude.{Result, Ok, Err}
 use Rattle.fx_fixed.specs.Chain.{◌>>=◌, map_fault}
 use Rattle.fx_fixed.specs.Places.{origin}
-use Rattle.fx_zone.specs.declared.point.Point.{Point}
+use Rattle.fx_zone.specs.declared.point.ZonePoint.{ZonePoint}
 use Rattle.fx_zone.specs.Points.{resting}
 use Rattle.fx_zone.specs.Figures.{Figure, joined}
 use Rattle.fx_scale.specs.declared.phantom.PhantomPoints.{PhantomPoints}
 use Rattle.fx_scale.specs.Phantoms.{in_order}
-use Rattle.fx_gstate.specs.declared.scan.Dropout.{Dropout}
+use Rattle.fx_gstate.specs.declared.scan.ScanType.{ScanType}
 use Rattle.fx_gstate.specs.Scan.{wish_of}
 use Rattle.fx_machine.specs.Known.{Known, glyph_ran, glyph_run_events}
 use Rattle.fx_machine.specs.Events.{Event}
@@ -26,16 +26,16 @@ abbrev pub with_phantoms : Made → Figure
 with_phantoms made = joined made.zone (record { points = in_order made.phantoms; ends = [] })
 
 -- a point that is there
-abbrev pub point_or : Option Point → Point
+abbrev pub point_or : Option ZonePoint → ZonePoint
 point_or (Some p) = p
 point_or None = resting origin false
 
 -- the point of a number
-abbrev pub point_at : List Point → ℕ → Point
+abbrev pub point_at : List ZonePoint → ℕ → ZonePoint
 point_at points n = point_or (slice_get points n)
 
 -- the four points from a number on
-abbrev pub phantoms_at : List Point → ℕ → PhantomPoints
+abbrev pub phantoms_at : List ZonePoint → ℕ → PhantomPoints
 phantoms_at points first = record {
   origin = point_at points first;
   advance = point_at points (first + 1);
@@ -44,7 +44,7 @@ phantoms_at points first = record {
 }
 
 -- n points and the four phantom points after them, taken apart, with what was asked of drop-out control
-abbrev pub parted : ℕ → Option Dropout → Figure → Made
+abbrev pub parted : ℕ → Option ScanType → Figure → Made
 parted n wish f =
     record { zone = record { points = take n f.points; ends = f.ends }; phantoms = phantoms_at f.points n; wish = wish }
 

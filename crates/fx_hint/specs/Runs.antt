@@ -4,7 +4,7 @@ use Rattle.fx_fixed.specs.Chain.{◌>>=◌, map_fault}
 use Rattle.fx_sfnt.specs.declared.records.Metrics.{Metrics}
 use Rattle.fx_sfnt.specs.Tables.{Face}
 use Rattle.fx_sfnt.specs.Glyphs.{metrics_of, glyph_bytes_of}
-use Rattle.fx_glyf.specs.declared.part.Part.{Part}
+use Rattle.fx_glyf.specs.declared.component.Component.{Component}
 use Rattle.fx_glyf.specs.declared.glyph.Glyph as glyf
 use Rattle.fx_glyf.specs.declared.glyph.Glyph.TheVariants.{Empty, Simple, Composite}
 use Rattle.fx_glyf.specs.Shapes.{SimpleView}
@@ -65,7 +65,7 @@ logged_run h component g code made = do
   Ok (ran.0, (ran.1, with_run made.1.1 component g code made.0))
 
 -- the components of a composite g in order, after `before` others of it
-unfoldable pub logged_parts : Scale → Bool → LoggedMaker → ℕ → ℕ → List Part → Made → Logged
+unfoldable pub logged_parts : Scale → Bool → LoggedMaker → ℕ → ℕ → List Component → Made → Logged
     → Result (Made × Logged) LoggedFault
 logged_parts s hinted make g before [] base count = Ok (base, count)
 logged_parts s hinted make g before (part ∷ parts) base count = do

@@ -6,7 +6,7 @@ ghost use Rattle.fx_hint.specs.inner.Steps.{opened};
 
 use crate::component::ComponentOf;
 use crate::made::Made;
-use fx_glyf::{Components, Composite, Part};
+use fx_glyf::{Component, Components, Composite};
 use smallvec::SmallVec;
 use std::alloc::{AllocError, Global};
 use std::marker::Model;
@@ -50,7 +50,7 @@ impl<'a> OpenComposite<'a> {
 /// An open composite that waits for one of its components.
 #[derive(Drop)]
 pub struct Waiting<'a> {
-    pub part: Part,
+    pub part: Component,
     pub composite: OpenComposite<'a>,
 }
 

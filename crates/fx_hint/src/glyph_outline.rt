@@ -1,7 +1,7 @@
 //! What a glyph's outline comes with.
 
 use fx_fixed::F26;
-use fx_gstate::Dropout;
+use fx_gstate::ScanType;
 use fx_machine::Usage;
 use fx_outline::Outline;
 
@@ -14,5 +14,5 @@ pub struct GlyphOutline {
     pub usage: Usage,
     /// What the glyph's own program left asked for, by itself or by `prep`; of a glyph without a program what `prep` did. None if
     /// nothing was asked.
-    pub wish: Option<Dropout>,
+    pub wish: Option<ScanType>,
 }

@@ -3,11 +3,11 @@
 ghost use Rattle.std.specs.Prelude.{◌≡◌, Some, None, IfSome, OnOk, OnErr, IsTrue};
 
 use crate::made::Made;
-use fx_gstate::Dropout;
+use fx_gstate::ScanType;
 use fx_machine::Usage;
 use fx_scale::{PhantomPoints, Scale};
 use fx_sfnt::Metrics;
-use fx_zone::Point;
+use fx_zone::ZonePoint;
 use std::alloc::{AllocError, Global};
 use std::marker::Model;
 
@@ -28,7 +28,7 @@ pub struct KeptFields {
     pub metrics: Metrics,
     pub phantoms: PhantomPoints,
     pub usage: Usage,
-    pub wish: Option<Dropout>,
+    pub wish: Option<ScanType>,
 }
 
 /// A place for a simple glyph that was made, or for none. Its lists keep their memory when another glyph takes the place.
@@ -36,7 +36,7 @@ pub struct KeptFields {
 pub struct KeptGlyph {
     fields: Option<KeptFields>,
     bytes: Vec<u8>,
-    points: Vec<Point>,
+    points: Vec<ZonePoint>,
     ends: Vec<u16>,
 }
 

@@ -21,7 +21,7 @@ use fx_machine::{Machine, Usage};
 use fx_outline::{Outline, OutlinePoint};
 use fx_scale::Scale;
 use fx_sfnt::Font;
-use fx_zone::{Point, Zone};
+use fx_zone::{Zone, ZonePoint};
 use std::alloc::{AllocError, Global};
 use std::mem;
 
@@ -142,7 +142,7 @@ fn moved_outline(
 /// The points at their current places, moved so that the origin lies at x = 0, in their order, in a list whose points are lost.
 fn moved_points(
     list: Vec<OutlinePoint>,
-    points: &[Point],
+    points: &[ZonePoint],
     origin: F26,
 ) -> Result<Vec<OutlinePoint>, AllocError>
     ensures { IfOk result (λ v. v.items ≡ map (moved_point origin) points.now) }

@@ -15,15 +15,15 @@ use fx_code::Code;
 use fx_fixed::Place;
 use fx_machine::{Machine, Unwatched, Usage, Watching};
 use fx_scale::PhantomPoints;
-use fx_zone::{Point, Zone};
+use fx_zone::{Zone, ZonePoint};
 
 /// The point of a number, which is inside.
-fn point_at(zone: &Zone, number: usize) -> Point
+fn point_at(zone: &Zone, number: usize) -> ZonePoint
     ensures { result ≡ point_at zone.now.points number }
 {
     match zone.point(number) {
         Some(point) => point,
-        None => Point::resting(Place::origin(), false),
+        None => ZonePoint::resting(Place::origin(), false),
     }
 }
 

@@ -8,9 +8,9 @@ use Rattle.std.proofs.lemmas.Int.{to_z-of_z, to_z_pos}
 use Rattle.std.proofs.lemmas.Nat.{div-add-mod'}
 use Rattle.std.proofs.lemmas.List.{length-map, take_at, drop_at, append-nil}
 use mir.Syntax.{w32}
-use Rattle.fx_zone.specs.declared.point.Point.{Point}
-use Rattle.fx_gstate.specs.declared.scan.Dropout.{Dropout}
-use Rattle.fx_gstate.specs.declared.scan.Dropout.TheVariants.{Off, Leftmost, Nearest}
+use Rattle.fx_zone.specs.declared.point.ZonePoint.{ZonePoint}
+use Rattle.fx_gstate.specs.declared.scan.ScanType.{ScanType}
+use Rattle.fx_gstate.specs.declared.scan.ScanType.TheVariants.{Off, Leftmost, Nearest}
 use Rattle.fx_machine.specs.declared.usage.Usage.{Usage}
 use Rattle.fx_machine.specs.declared.prepared.Prepared.{Prepared}
 use Rattle.fx_machine.specs.Words.{number_word, number_in, bit_of, point_words, function_word}
@@ -33,12 +33,12 @@ control_back None = refl
 control_back (Some false) = refl
 control_back (Some true) = refl
 
-type_back : (d : Dropout) → type_in (type_word d) ≡ d
+type_back : (d : ScanType) → type_in (type_word d) ≡ d
 type_back Off = refl
 type_back Leftmost = refl
 type_back Nearest = refl
 
-five_each : (ps : List Point) → length (flat_map point_words ps) ≡ 5 * length ps
+five_each : (ps : List ZonePoint) → length (flat_map point_words ps) ≡ 5 * length ps
 five_each [] = refl
 five_each (p ∷ ps) = rw (five_each ps) (omega arith)
 

@@ -7,7 +7,7 @@ use Rattle.std.specs.List.{flat_map}
 use Rattle.std.proofs.lemmas.List.Elements.{All-append}
 use Rattle.std.specs.List.{All}
 use Rattle.std.specs.Prelude.{get_or, slice_index_or}
-use Rattle.fx_zone.specs.declared.point.Point.{Point}
+use Rattle.fx_zone.specs.declared.point.ZonePoint.{ZonePoint}
 use Rattle.fx_machine.specs.Words.{point_in, points_in}
 
 five_more : (n : ℕ) → 5 + 5 * n ≡ 5 * suc n
@@ -23,7 +23,7 @@ points_more (suc n) ws =
     ap (λ k. points_in k ws) (add-one (suc n)) ∙ ap (λ l. point_in ws ∷ l) i
 
 -- the same of points to which one was added
-pub point_added : (old new : List Point) (i : ℕ) (p : Point) (ws : List ℕ) → new ≡ old ++ p ∷ [] → old ≡ points_in i ws
+pub point_added : (old new : List ZonePoint) (i : ℕ) (p : ZonePoint) (ws : List ℕ) → new ≡ old ++ p ∷ [] → old ≡ points_in i ws
     → p ≡ point_in (drop (5 * i) ws) → new ≡ points_in (i + 1) ws
 point_added old new i p ws q r e = rw (points_more i ws, q, r, e) refl
 

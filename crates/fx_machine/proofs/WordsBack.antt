@@ -8,7 +8,7 @@ use Rattle.std.specs.Int.RustNames.{FitsSigned}
 use Rattle.std.proofs.lemmas.Int.{to_z-of_z}
 use Rattle.std.proofs.lemmas.Grind.{common_steps}
 use mir.Syntax.{w32}
-use Rattle.fx_zone.specs.declared.point.Point.{Point}
+use Rattle.fx_zone.specs.declared.point.ZonePoint.{ZonePoint}
 use Rattle.fx_machine.specs.declared.definitions.Function.{Function}
 use Rattle.fx_machine.specs.declared.program.Program.{Program}
 use Rattle.fx_machine.specs.declared.program.Program.TheVariants.{Font, Prep, Glyph}
@@ -38,7 +38,7 @@ mark_bits false true false = (refl, refl, refl)
 mark_bits false false true = (refl, refl, refl)
 mark_bits false false false = (refl, refl, refl)
 
-pub point_back : (p : Point) (rest : List ℕ) → IsPoint p → point_in (point_words p ++ rest) ≡ p
+pub point_back : (p : ZonePoint) (rest : List ℕ) → IsPoint p → point_in (point_words p ++ rest) ≡ p
 point_back p rest h =
     let m = mark_bits p.on p.touched_x p.touched_y in
     rw (
@@ -52,7 +52,8 @@ point_back p rest h =
       m.2,
     ) refl
 
-pub points_back : (ps : List Point) (rest : List ℕ) → ArePoints ps → points_in (length ps) (flat_map point_words ps ++ rest) ≡ ps
+pub points_back : (ps : List ZonePoint) (rest : List ℕ) → ArePoints ps
+  → points_in (length ps) (flat_map point_words ps ++ rest) ≡ ps
 points_back [] rest h = refl
 points_back (p ∷ ps) rest h =
     rw (point_back p (flat_map point_words ps ++ rest) (first_of IsPoint p ps h), points_back ps rest (rest_of IsPoint p ps h))

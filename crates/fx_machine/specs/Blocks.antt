@@ -10,12 +10,12 @@ use mir.Syntax.{w32}
 use Rattle.fx_sfnt.specs.Fields.{number_at}
 use Rattle.fx_sfnt.specs.Tables.{Face, table_or_empty}
 use Rattle.fx_scale.specs.Scaling.{scale_of}
-use Rattle.fx_gstate.specs.declared.scan.Dropout.{Dropout}
-use Rattle.fx_gstate.specs.declared.scan.Dropout.TheVariants.{Off, Leftmost, Nearest}
+use Rattle.fx_gstate.specs.declared.scan.ScanType.{ScanType}
+use Rattle.fx_gstate.specs.declared.scan.ScanType.TheVariants.{Off, Leftmost, Nearest}
 use Rattle.fx_gstate.specs.declared.state.GState.{GState}
 use Rattle.fx_gstate.specs.States.{default_state}
 use Rattle.fx_machine.specs.Limits.{function_count_of}
-use Rattle.fx_machine.specs.declared.state.Flags.{Flags}
+use Rattle.fx_machine.specs.declared.state.InstructControl.{InstructControl}
 use Rattle.fx_machine.specs.declared.usage.Usage.{Usage}
 use Rattle.fx_machine.specs.declared.prepared.Prepared.{Prepared}
 use Rattle.fx_machine.specs.declared.sizes.Sizes.{Sizes}
@@ -79,7 +79,7 @@ control_word None = 0
 control_word (Some false) = 1
 control_word (Some true) = 2
 
-abbrev pub type_word : Dropout → ℕ
+abbrev pub type_word : ScanType → ℕ
 type_word Off = 0
 type_word Leftmost = 1
 type_word Nearest = 2
@@ -90,7 +90,7 @@ scan_words g = control_word g.scan_control ∷ type_word g.scan_type ∷ []
 abbrev pub start_words : GState → List ℕ
 start_words g = bit_of g.auto_flip ∷ (distance_words g ++ (width_words g ++ (delta_words g ++ scan_words g)))
 
-abbrev pub flags_words : Flags → List ℕ
+abbrev pub flags_words : InstructControl → List ℕ
 flags_words f = bit_of f.no_programs ∷ bit_of f.default_state ∷ []
 
 abbrev pub lists_words : Prepared → List ℕ
@@ -132,7 +132,7 @@ usage_in ws = record {
 abbrev pub control_in : ℕ → Option Bool
 control_in w = if w == 0 then None else Some (w == 2)
 
-abbrev pub type_in : ℕ → Dropout
+abbrev pub type_in : ℕ → ScanType
 type_in w = if w == 1 then Leftmost else if w == 2 then Nearest else Off
 
 abbrev pub start_in : List ℕ → GState
@@ -148,7 +148,7 @@ start_in ws = record default_state {
   scan_type = type_in (slice_index ws 17);
 }
 
-abbrev pub flags_in : List ℕ → Flags
+abbrev pub flags_in : List ℕ → InstructControl
 flags_in ws = record { no_programs = slice_index ws 18 == 1; default_state = slice_index ws 19 == 1 }
 
 -- the words of each list and all after them

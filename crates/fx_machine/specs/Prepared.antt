@@ -11,7 +11,7 @@ use Rattle.fx_fixed.specs.Numbers.{counted}
 use Rattle.fx_machine.specs.declared.program.Program.{Program}
 use Rattle.fx_machine.specs.declared.program.Program.TheVariants.{Glyph}
 use Rattle.fx_machine.specs.declared.state.State.{State}
-use Rattle.fx_machine.specs.declared.state.Flags.{Flags}
+use Rattle.fx_machine.specs.declared.state.InstructControl.{InstructControl}
 use Rattle.fx_machine.specs.declared.prepared.Prepared.{Prepared}
 use Rattle.fx_machine.specs.declared.halt.Halt.{Halt}
 use Rattle.fx_machine.specs.declared.ran.Ran.{Ran}
@@ -38,7 +38,7 @@ carried g = record default_state {
 }
 
 -- the graphics state that a program of a glyph begins with: as prep left it, or the default state
-abbrev pub begun : Flags → GState → GState
+abbrev pub begun : InstructControl → GState → GState
 begun flags g = if flags.default_state then default_state else carried g
 
 -- the state that a program of a glyph begins with, on these points

@@ -12,7 +12,7 @@ use Rattle.fx_pointops.specs.declared.zones.Zones.{Zones}
 use Rattle.fx_pointops.specs.Measure.{line_between}
 use Rattle.fx_machine.specs.declared.halt.Cause.{Cause}
 use Rattle.fx_machine.specs.declared.state.State.{State}
-use Rattle.fx_machine.specs.declared.state.Flags.{Flags}
+use Rattle.fx_machine.specs.declared.state.InstructControl.{InstructControl}
 use Rattle.fx_machine.specs.Causes.{of_stack}
 
 -- ---- vectors
@@ -42,7 +42,7 @@ sdpvtl_row turned = by_line (λ l g. record g { projection = line_of l.cur turne
 -- 8E INSTCTRL, INSTRuction execution ConTRoL: v s ->
 -- While prep runs, selector 1 sets (v is not 0) or clears that no glyph programs run, selector 2 that they start from the default
 -- graphics state; all else does nothing.
-abbrev pub chosen : ℤ → ℤ → Flags → Flags
+abbrev pub chosen : ℤ → ℤ → InstructControl → InstructControl
 chosen v selector flags =
     if int_eq selector (pos 1) then record flags { no_programs = not (int_eq v (pos 0)) }
     else if int_eq selector (pos 2) then record flags { default_state = not (int_eq v (pos 0)) }

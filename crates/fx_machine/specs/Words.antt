@@ -5,7 +5,7 @@ use Rattle.std.specs.Int.{cast_unsigned, cast_signed}
 use Rattle.std.specs.Int.RustNames.{FitsSigned}
 use mir.Syntax.{w32}
 use Rattle.fx_fixed.specs.declared.places.Place.{Place}
-use Rattle.fx_zone.specs.declared.point.Point.{Point}
+use Rattle.fx_zone.specs.declared.point.ZonePoint.{ZonePoint}
 use Rattle.fx_machine.specs.declared.definitions.Function.{Function}
 use Rattle.fx_machine.specs.declared.program.Program.{Program}
 use Rattle.fx_machine.specs.declared.program.Program.TheVariants.{Font, Prep, Glyph}
@@ -24,16 +24,16 @@ bit_of false = 0
 
 -- ---- a point: five words
 
-abbrev pub marks_of : Point → ℕ
+abbrev pub marks_of : ZonePoint → ℕ
 marks_of p = bit_of p.on + (bit_of p.touched_x * 2 + bit_of p.touched_y * 4)
 
 abbrev pub place_words : Place → List ℕ
 place_words p = number_word p.x ∷ number_word p.y ∷ []
 
-abbrev pub point_words : Point → List ℕ
+abbrev pub point_words : ZonePoint → List ℕ
 point_words p = place_words p.org ++ (place_words p.cur ++ marks_of p ∷ [])
 
-abbrev pub point_in : List ℕ → Point
+abbrev pub point_in : List ℕ → ZonePoint
 point_in ws = record {
   org = record { x = number_in (slice_index ws 0); y = number_in (slice_index ws 1) };
   cur = record { x = number_in (slice_index ws 2); y = number_in (slice_index ws 3) };
@@ -43,7 +43,7 @@ point_in ws = record {
 }
 
 -- n points
-abbrev pub points_in : ℕ → List ℕ → List Point
+abbrev pub points_in : ℕ → List ℕ → List ZonePoint
 points_in zero ws = []
 points_in (suc n) ws = point_in ws ∷ points_in n (drop 5 ws)
 
@@ -72,13 +72,13 @@ is_near (Some f) = nat_lt f.address 1073741824
 -- ---- what has words
 
 -- a point's numbers are those of 32 bits
-pub record IsPoint (p : Point) : Type 0 where
+pub record IsPoint (p : ZonePoint) : Type 0 where
   pub org_x : FitsSigned w32 p.org.x
   pub org_y : FitsSigned w32 p.org.y
   pub cur_x : FitsSigned w32 p.cur.x
   pub cur_y : FitsSigned w32 p.cur.y
 
-abbrev pub ArePoints : List Point → Type 0
+abbrev pub ArePoints : List ZonePoint → Type 0
 ArePoints ps = All IsPoint ps
 
 abbrev pub AreNumbers : List ℤ → Type 0

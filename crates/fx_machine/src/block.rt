@@ -13,10 +13,10 @@ ghost use Rattle.fx_machine.specs.Blocks.{origin_words, after_origin, usage_word
 ghost use Rattle.fx_machine.specs.Blocks.{start_words, flags_words, IsStart};
 ghost use Rattle.fx_machine.specs.Blocks.{control_in, control_word, type_in, type_word, scan_words};
 
-use crate::state::{Flags, table_or_empty};
+use crate::state::{InstructControl, table_or_empty};
 use crate::usage::Usage;
 use fx_fixed::{F26, Ppem};
-use fx_gstate::{DeltaShift, Dropout, GState};
+use fx_gstate::{DeltaShift, GState, ScanType};
 use fx_sfnt::{Font, u32_at};
 use std::alloc::AllocError;
 
@@ -31,7 +31,7 @@ pub(crate) const HEAD: usize = 20;
 
 /// The words of each list.
 #[derive(Clone, Copy)]
-pub(crate) struct Parts<'a> {
+pub(crate) struct BlockWords<'a> {
     pub storage: &'a [u32],
     pub cvt: &'a [u32],
     pub twilight: &'a [u32],
@@ -108,7 +108,7 @@ pub(crate) fn count_in(words: &[u32]) -> usize
 }
 
 /// The words of each list, by the counts that they say.
-pub(crate) fn parts_of<'a>(words: &'a [u32]) -> Parts<'a>
+pub(crate) fn parts_of<'a>(words: &'a [u32]) -> BlockWords<'a>
     requires head { 20 ≤ length words.now }
     requires enough { count_of (sizes_in words.now) ≤ length words.now }
     ensures { AreParts (sizes_in words.now) words.now result.storage.now result.cvt.now result.twilight.now result.functions.now
@@ -119,7 +119,7 @@ pub(crate) fn parts_of<'a>(words: &'a [u32]) -> Parts<'a>
     let (twilight, after) = after.split_at(5 * words[2] as usize);
     let (functions, after) = after.split_at(words[3] as usize);
     let (opcodes, _) = after.split_at(words[4] as usize);
-    Parts {
+    BlockWords {
         storage,
         cvt,
         twilight,
@@ -158,18 +158,18 @@ pub(crate) fn push_usage(words: &mut Vec<u32>, usage: Usage) -> Result<(), Alloc
 }
 
 /// The flags.
-pub(crate) fn flags_in(words: &[u32]) -> Flags
+pub(crate) fn flags_in(words: &[u32]) -> InstructControl
     requires { 20 ≤ length words.now }
     ensures { result ≡ flags_in words.now }
 {
-    Flags {
+    InstructControl {
         no_programs: words[18] == 1,
         default_state: words[19] == 1,
     }
 }
 
 /// Adds the words of the flags.
-pub(crate) fn push_flags(words: &mut Vec<u32>, flags: Flags) -> Result<(), AllocError>
+pub(crate) fn push_flags(words: &mut Vec<u32>, flags: InstructControl) -> Result<(), AllocError>
     ensures { OnOk result (words.new.items ≡ words.old.items ++ flags_words flags) }
 {
     words.push(u32::from(flags.no_programs))?;
@@ -205,26 +205,26 @@ fn control_word(control: Option<bool>) -> u32
 }
 
 /// The scan type of a word.
-fn type_in(word: u32) -> Dropout
+fn type_in(word: u32) -> ScanType
     ensures { result ≡ type_in word }
 {
     if word == 1 {
-        return Dropout::Leftmost;
+        return ScanType::Leftmost;
     }
     if word == 2 {
-        return Dropout::Nearest;
+        return ScanType::Nearest;
     }
-    Dropout::Off
+    ScanType::Off
 }
 
 /// The word of a scan type.
-fn type_word(kind: Dropout) -> u32
+fn type_word(kind: ScanType) -> u32
     ensures { result ≡ type_word kind }
 {
     match kind {
-        Dropout::Off => 0,
-        Dropout::Leftmost => 1,
-        Dropout::Nearest => 2,
+        ScanType::Off => 0,
+        ScanType::Leftmost => 1,
+        ScanType::Nearest => 2,
     }
 }
 

@@ -32,6 +32,6 @@ pub use machine::Machine;
 pub use prepared::Prepared;
 pub use program::{FontProgram, Program, Programs};
 pub use ran::Ran;
-pub use state::{Flags, State};
+pub use state::{InstructControl, State};
 pub use usage::Usage;
 pub use watching::{Unwatched, Watching};

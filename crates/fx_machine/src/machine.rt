@@ -29,7 +29,7 @@ use crate::usage::Usage;
 use crate::watching::Watching;
 use fx_code::{Code, Targets};
 use fx_fixed::Ppem;
-use fx_gstate::Dropout;
+use fx_gstate::ScanType;
 use fx_scale::Scale;
 use fx_sfnt::Font;
 use fx_zone::Zone;
@@ -342,7 +342,7 @@ impl<'a> Machine<'a> {
     }
 
     /// The drop-out control that `prep` asked for, if it did.
-    pub fn wish(&self) -> Option<Dropout>
+    pub fn wish(&self) -> Option<ScanType>
         ensures { result ≡ wish_of self.now.known.prepared.graphics }
     {
         self.prepared.graphics.wish()

@@ -9,7 +9,7 @@ ghost use Rattle.fx_machine.specs.Prepared.{Fits, begun, started};
 use crate::block::{flags_in, parts_of, push_flags, push_start, push_usage, shift_in, start_in};
 use crate::definitions::Definitions;
 use crate::sizes::Sizes;
-use crate::state::{Flags, State};
+use crate::state::{InstructControl, State};
 use crate::usage::Usage;
 use crate::words::{push_numbers, push_points, table_of, zone_of};
 use fx_gstate::GState;
@@ -28,7 +28,7 @@ pub struct Prepared {
     pub twilight: Zone,
     pub graphics: GState,
     pub definitions: Definitions,
-    pub flags: Flags,
+    pub flags: InstructControl,
 }
 
 impl Prepared {
@@ -156,7 +156,7 @@ fn copy_of(alloc: Global, zone: &Zone) -> Result<Zone, AllocError>
 }
 
 /// The graphics state that a program of a glyph begins with.
-fn begun(flags: Flags, g: &GState) -> GState
+fn begun(flags: InstructControl, g: &GState) -> GState
     ensures { result ≡ begun flags g.now }
 {
     if flags.default_state {

@@ -16,12 +16,12 @@ use fx_pointops::Zones;
 use fx_scale::{Scale, cvt_of};
 use fx_sfnt::Font;
 use fx_stackops::{Store, Table};
-use fx_zone::{Point, Zone};
+use fx_zone::{Zone, ZonePoint};
 use std::alloc::{AllocError, Global};
 
 /// What `prep` asks for by INSTCTRL.
 #[derive(Clone, Copy, Debug, PartialEq, Eq)]
-pub struct Flags {
+pub struct InstructControl {
     /// No programs of glyphs are run.
     pub no_programs: bool,
     /// They start from the default graphics state.
@@ -40,7 +40,7 @@ pub struct State {
     /// The functions, and the definitions of opcodes.
     pub definitions: Definitions,
     /// What INSTCTRL set.
-    pub flags: Flags,
+    pub flags: InstructControl,
     /// The size, and the FUnits of an em.
     pub scale: Scale,
     /// Whether `prep` was started, or a function is run for it.
@@ -96,7 +96,7 @@ fn store_with(alloc: Global, font: &Font<'_>, cvt: Table) -> Result<Store, Alloc
 fn twilight(alloc: Global, count: u16) -> Result<Zone, AllocError>
     ensures { IfOk result (λ z. z ≡ twilight_of count) }
 {
-    let point = Point::resting(Place::origin(), false);
+    let point = ZonePoint::resting(Place::origin(), false);
     let points = vec![in alloc; point; usize::from(count)]?;
     Ok(Zone::of(points, Vec::new(alloc)))
 }
@@ -151,7 +151,7 @@ impl State {
             },
             graphics: GState::new(),
             definitions,
-            flags: Flags {
+            flags: InstructControl {
                 no_programs: false,
                 default_state: false,
             },

@@ -8,18 +8,18 @@ ghost use Rattle.fx_machine.specs.Actions.{Does};
 ghost use Rattle.fx_machine.specs.StateRows.{spvtl_row, sfvtl_row, sdpvtl_row, instctrl_row, chosen};
 
 use crate::halt::Cause;
-use crate::state::{Flags, State};
+use crate::state::{InstructControl, State};
 
 /// The flags after INSTCTRL.
-fn chosen(value: i32, selector: i32, flags: Flags) -> Flags
+fn chosen(value: i32, selector: i32, flags: InstructControl) -> InstructControl
     ensures { result ≡ chosen value selector flags }
 {
     match selector {
-        1 => Flags {
+        1 => InstructControl {
             no_programs: value != 0,
             ..flags
         },
-        2 => Flags {
+        2 => InstructControl {
             default_state: value != 0,
             ..flags
         },

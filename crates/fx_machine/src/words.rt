@@ -9,7 +9,7 @@ use crate::definitions::Function;
 use crate::program::Program;
 use fx_fixed::{F26, Place};
 use fx_stackops::Table;
-use fx_zone::{Point, Zone};
+use fx_zone::{Zone, ZonePoint};
 use std::alloc::{AllocError, Global};
 
 /// Reads numbers from their words, one for each.
@@ -73,12 +73,12 @@ fn place_in(x: u32, y: u32) -> Place
 }
 
 /// The point of five words.
-fn point_in(words: &[u32]) -> Point
+fn point_in(words: &[u32]) -> ZonePoint
     requires { 5 ≤ length words.now }
     ensures { result ≡ point_in words.now }
 {
     let marks = words[4];
-    Point {
+    ZonePoint {
         org: place_in(words[0], words[1]),
         cur: place_in(words[2], words[3]),
         on: marks % 2 == 1,
@@ -88,7 +88,7 @@ fn point_in(words: &[u32]) -> Point
 }
 
 /// The word of a point's marks.
-fn marks_of(point: &Point) -> u32
+fn marks_of(point: &ZonePoint) -> u32
     ensures { result ≡ marks_of point.now }
 {
     u32::from(point.on) + (u32::from(point.touched_x) * 2 + u32::from(point.touched_y) * 4)
@@ -106,7 +106,7 @@ fn push_place(words: &mut Vec<u32>, place: &Place) -> Result<(), AllocError>
 }
 
 /// Adds the words of a point.
-fn push_point(words: &mut Vec<u32>, point: &Point) -> Result<(), AllocError>
+fn push_point(words: &mut Vec<u32>, point: &ZonePoint) -> Result<(), AllocError>
     ensures words { OnOk result (words.new.items ≡ words.old.items ++ point_words point.now) }
     ensures numbered { OnOk result (IsPoint point.now) }
 {
@@ -117,7 +117,7 @@ fn push_point(words: &mut Vec<u32>, point: &Point) -> Result<(), AllocError>
 }
 
 /// Adds the words of points, five for each.
-pub(crate) fn push_points(words: &mut Vec<u32>, points: &[Point]) -> Result<(), AllocError>
+pub(crate) fn push_points(words: &mut Vec<u32>, points: &[ZonePoint]) -> Result<(), AllocError>
     ensures words { OnOk result (words.new.items ≡ words.old.items ++ flat_map point_words points.now) }
     ensures numbered { OnOk result (ArePoints points.now) }
 {

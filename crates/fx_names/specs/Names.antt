@@ -8,15 +8,15 @@ use Rattle.std.specs.List.{list_all}
 use Rattle.fx_sfnt.specs.Fields.{field}
 use Rattle.fx_sfnt.specs.Tables.{Face, records, table_or_empty}
 use Rattle.fx_names.specs.Text.{utf8_of}
-use Rattle.fx_names.specs.declared.kinds.Kind.{Kind}
-use Rattle.fx_names.specs.declared.kinds.Kind.TheVariants.{English, Unicode, Windows, Macintosh}
+use Rattle.fx_names.specs.declared.kinds.RecordKind.{RecordKind}
+use Rattle.fx_names.specs.declared.kinds.RecordKind.TheVariants.{English, Unicode, Windows, Macintosh}
 
 -- the name records (platformID, encodingID, languageID, nameID, length, stringOffset), each with what follows it
 abbrev pub name_records : List ℕ → List (List ℕ)
 name_records table = records 12 (field 2 table 2) (drop 6 table)
 
 -- a record is of a kind: Windows with English of the United States; Unicode; Windows with any language; Macintosh Roman
-abbrev pub is_of_kind : Kind → List ℕ → Bool
+abbrev pub is_of_kind : RecordKind → List ℕ → Bool
 is_of_kind English entry = field 2 entry 0 == 3 && field 2 entry 4 == 0x409
 is_of_kind Unicode entry = field 2 entry 0 == 0
 is_of_kind Windows entry = field 2 entry 0 == 3
@@ -35,32 +35,32 @@ abbrev pub string_of : List ℕ → List ℕ → List ℕ
 string_of table entry = take (field 2 entry 8) (drop (start_of table entry) table)
 
 -- a string can be read: whole code units of 16 bits; or, of Macintosh, ASCII alone
-abbrev pub is_text : Kind → List ℕ → Bool
+abbrev pub is_text : RecordKind → List ℕ → Bool
 is_text Macintosh string = list_all is_ascii string
 is_text _ string = length string % 2 == 0
 
 -- the text of a string, as UTF-8
-abbrev pub text_of : Kind → List ℕ → List ℕ
+abbrev pub text_of : RecordKind → List ℕ → List ℕ
 text_of Macintosh string = string
 text_of _ string = utf8_of string
 
 -- a record is one of a kind, for a name's number, whose string can be read
-abbrev pub is_name : Kind → ℕ → List ℕ → List ℕ → Bool
+abbrev pub is_name : RecordKind → ℕ → List ℕ → List ℕ → Bool
 is_name kind id table entry =
     (field 2 entry 6 == id && is_of_kind kind entry) && (is_inside table entry && is_text kind (string_of table entry))
 
 -- the text of the first such record
-abbrev pub name_by : List ℕ → ℕ → Kind → Option (List ℕ)
+abbrev pub name_by : List ℕ → ℕ → RecordKind → Option (List ℕ)
 name_by table id kind =
     option_map (λ entry. text_of kind (string_of table entry)) (find (is_name kind id table) (name_records table))
 
 -- that of the first kind that has one
-abbrev pub name_by_first : List ℕ → ℕ → List Kind → Option (List ℕ)
+abbrev pub name_by_first : List ℕ → ℕ → List RecordKind → Option (List ℕ)
 name_by_first table id [] = None
 name_by_first table id (kind ∷ more) = option_or (name_by table id kind) (name_by_first table id more)
 
 -- the kinds, in order of preference
-abbrev pub kinds : List Kind
+abbrev pub kinds : List RecordKind
 kinds = English ∷ Unicode ∷ Windows ∷ Macintosh ∷ []
 
 -- the name of a number in the bytes of `name`; none if the table ends before its records do

@@ -9,7 +9,7 @@ use fx_sfnt::u16_in;
 
 /// A kind of name records (OpenType, "name", "Platform IDs").
 #[derive(Clone, Copy, Debug, PartialEq, Eq)]
-pub enum Kind {
+pub enum RecordKind {
     /// Of Windows, in English of the United States.
     English,
     /// Of Unicode.
@@ -21,19 +21,24 @@ pub enum Kind {
 }
 
 /// The kinds, in order of preference.
-pub const KINDS: [Kind; 4] = [Kind::English, Kind::Unicode, Kind::Windows, Kind::Macintosh];
+pub const KINDS: [RecordKind; 4] = [
+    RecordKind::English,
+    RecordKind::Unicode,
+    RecordKind::Windows,
+    RecordKind::Macintosh,
+];
 
 /// Whether a record is of a kind.
-pub fn is_of_kind(kind: Kind, entry: &[u8]) -> bool
+pub fn is_of_kind(kind: RecordKind, entry: &[u8]) -> bool
     requires { 12 ≤ length entry.now }
     ensures { result ≡ is_of_kind kind entry.now }
 {
     let platform = u16_in(entry, 0);
     match kind {
-        Kind::English => platform == 3 && u16_in(entry, 4) == 0x409,
-        Kind::Unicode => platform == 0,
-        Kind::Windows => platform == 3,
-        Kind::Macintosh => platform == 1 && u16_in(entry, 2) == 0,
+        RecordKind::English => platform == 3 && u16_in(entry, 4) == 0x409,
+        RecordKind::Unicode => platform == 0,
+        RecordKind::Windows => platform == 3,
+        RecordKind::Macintosh => platform == 1 && u16_in(entry, 2) == 0,
     }
 }
 
@@ -45,11 +50,11 @@ fn all_ascii(string: &[u8]) -> bool
 }
 
 /// Whether a string of a kind can be read.
-pub fn is_text(kind: Kind, string: &[u8]) -> bool
+pub fn is_text(kind: RecordKind, string: &[u8]) -> bool
     ensures { result ≡ is_text kind string.now }
 {
     match kind {
-        Kind::Macintosh => all_ascii(string),
-        Kind::English | Kind::Unicode | Kind::Windows => string.len() % 2 == 0,
+        RecordKind::Macintosh => all_ascii(string),
+        RecordKind::English | RecordKind::Unicode | RecordKind::Windows => string.len() % 2 == 0,
     }
 }

@@ -3,7 +3,7 @@
 ghost use Rattle.std.specs.Prelude.{◌≡◌, ◌≤◌, ◌++◌, length, drop};
 ghost use Rattle.fx_names.specs.Names.{name_of, text_of};
 
-use crate::kinds::Kind;
+use crate::kinds::RecordKind;
 use crate::records::name_in;
 use crate::utf16::{put_utf8, utf8_len};
 use fx_fixed::put_over;
@@ -13,7 +13,7 @@ use std::marker::Model;
 /// A name of a font: a view over its string in the table, which contracts see as its text in UTF-8.
 #[derive(Drop)]
 pub struct Name<'a> {
-    kind: Kind,
+    kind: RecordKind,
     string: &'a [u8],
 }
 
@@ -40,7 +40,7 @@ impl<'a> Name<'a> {
     }
 
     /// The name of a string of a kind.
-    pub(crate) fn new(kind: Kind, string: &'a [u8]) -> Name<'a>
+    pub(crate) fn new(kind: RecordKind, string: &'a [u8]) -> Name<'a>
         ensures { result ≡ text_of kind string.entry.now }
     {
         Name { kind, string }
@@ -51,8 +51,10 @@ impl<'a> Name<'a> {
         ensures { result ≡ length self.now }
     {
         match self.kind {
-            Kind::Macintosh => self.string.len(),
-            Kind::English | Kind::Unicode | Kind::Windows => utf8_len(self.string),
+            RecordKind::Macintosh => self.string.len(),
+            RecordKind::English | RecordKind::Unicode | RecordKind::Windows => utf8_len(
+                self.string,
+            ),
         }
     }
 
@@ -62,8 +64,11 @@ impl<'a> Name<'a> {
         ensures { text.new ≡ self.now ++ drop (length self.now) text.old }
     {
         match self.kind {
-            Kind::Macintosh => put_over(text, 0, self.string),
-            Kind::English | Kind::Unicode | Kind::Windows => put_utf8(self.string, text),
+            RecordKind::Macintosh => put_over(text, 0, self.string),
+            RecordKind::English | RecordKind::Unicode | RecordKind::Windows => put_utf8(
+                self.string,
+                text,
+            ),
         }
     }
 }

@@ -4,7 +4,7 @@ ghost use Rattle.std.specs.Prelude.{◌≡◌, ◌+◌, ◌*◌, ◌≤◌, leng
 ghost use Rattle.fx_sfnt.specs.Fields.{field};
 ghost use Rattle.fx_names.specs.Names.{is_inside, is_name, name_by, name_by_first, name_in, start_of, string_of};
 
-use crate::kinds::{KINDS, Kind, is_of_kind, is_text};
+use crate::kinds::{KINDS, RecordKind, is_of_kind, is_text};
 use crate::name::Name;
 use fx_fixed::{after, part};
 use fx_sfnt::u16_in;
@@ -39,7 +39,7 @@ fn string_of<'a>(table: &'a [u8], entry: &[u8]) -> &'a [u8]
 }
 
 /// Whether a record is one of a kind, for a name's number, whose string can be read.
-fn is_name(kind: Kind, id: u32, table: &[u8], entry: &[u8]) -> bool
+fn is_name(kind: RecordKind, id: u32, table: &[u8], entry: &[u8]) -> bool
     requires table { 6 ≤ length table.now }
     requires entry { 12 ≤ length entry.now }
     ensures { result ≡ is_name kind id table.now entry.now }
@@ -49,7 +49,7 @@ fn is_name(kind: Kind, id: u32, table: &[u8], entry: &[u8]) -> bool
 }
 
 /// The first record of a kind that has the name of a number.
-fn name_by(table: &[u8], id: u32, kind: Kind) -> Option<Name<'_>>
+fn name_by(table: &[u8], id: u32, kind: RecordKind) -> Option<Name<'_>>
     requires header { 6 ≤ length table.now }
     requires inside { 6 + 12 * field 2 table.now 2 ≤ length table.now }
     ensures { result ≡ name_by table.now id kind }
@@ -67,7 +67,7 @@ fn name_by(table: &[u8], id: u32, kind: Kind) -> Option<Name<'_>>
 }
 
 /// The record of the first kind that has one.
-fn name_by_first<'a>(table: &'a [u8], id: u32, kinds: &[Kind]) -> Option<Name<'a>>
+fn name_by_first<'a>(table: &'a [u8], id: u32, kinds: &[RecordKind]) -> Option<Name<'a>>
     requires header { 6 ≤ length table.now }
     requires inside { 6 + 12 * field 2 table.now 2 ≤ length table.now }
     ensures { result ≡ name_by_first table.now id kinds.now }

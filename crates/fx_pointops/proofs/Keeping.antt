@@ -2,7 +2,7 @@
 -- It serves the law of this crate that says so, and the one that whole runs keep them.
 use Rattle.std.proofs.Common.{ℕ, ℤ, Bool, true, false, if◌then◌else◌, List, [], ◌∷◌, Option, Some, None}
 use Rattle.fx_fixed.specs.declared.places.Place.{Place}
-use Rattle.fx_zone.specs.declared.point.Point.{Point}
+use Rattle.fx_zone.specs.declared.point.ZonePoint.{ZonePoint}
 use Rattle.fx_zone.specs.Figures.{Figure, HasShape, changed, in_range, in_range_without}
 use Rattle.fx_zone.specs.Points.{curved}
 use Rattle.fx_zone.proofs.Shapes.{shape_same, shape_then, changed_shape, each_shape, interpolated_shape}
@@ -51,32 +51,33 @@ zone_keeps : (change : Figure → Figure) → ((f : Figure) → HasShape f (chan
 zone_keeps change h Twilight z = record { twilight = h z.twilight; glyph = shape_same z.glyph }
 zone_keeps change h Glyph z = record { twilight = shape_same z.twilight; glyph = h z.glyph }
 
-index_keeps : (change : Point → Point) (zone : ZonePointer) (n : Option ℕ) (z : Zones) → HasShapes z (changed_of change zone n z)
+index_keeps : (change : ZonePoint → ZonePoint) (zone : ZonePointer) (n : Option ℕ) (z : Zones)
+  → HasShapes z (changed_of change zone n z)
 index_keeps change zone None z = shapes_same z
 index_keeps change zone (Some n) z = zone_keeps (changed change n) (changed_shape change n) zone z
 
-changed_keeps : (change : Point → Point) (zone : ZonePointer) (n : ℤ) (z : Zones) → HasShapes z (changed_at change zone n z)
+changed_keeps : (change : ZonePoint → ZonePoint) (zone : ZonePointer) (n : ℤ) (z : Zones) → HasShapes z (changed_at change zone n z)
 unfolding changed_at
 changed_keeps change zone n z = index_keeps change zone (index_of n) z
 
 stray_keeps : (z : Zones) → HasShapes z (with_stray z)
 stray_keeps z = record { twilight = shape_same z.twilight; glyph = shape_same z.glyph }
 
-counting_keeps : (p : Option Point) (z : Zones) → HasShapes z (counting p z)
+counting_keeps : (p : Option ZonePoint) (z : Zones) → HasShapes z (counting p z)
 counting_keeps (Some p) z = shapes_same z
 counting_keeps None z = stray_keeps z
 
-counting_two_keeps : (p q : Option Point) (z : Zones) → HasShapes z (counting_two p q z)
+counting_two_keeps : (p q : Option ZonePoint) (z : Zones) → HasShapes z (counting_two p q z)
 counting_two_keeps p q z = shapes_then z (counting p z) _ (counting_keeps p z) (counting_keeps q _)
 
 -- a row after it has counted its strays
-after_one : (p : Option Point) (z y : Zones) → HasShapes (counting p z) y → HasShapes z y
+after_one : (p : Option ZonePoint) (z y : Zones) → HasShapes (counting p z) y → HasShapes z y
 after_one p z y h = shapes_then z _ y (counting_keeps p z) h
 
-after_two : (p q : Option Point) (z y : Zones) → HasShapes (counting_two p q z) y → HasShapes z y
+after_two : (p q : Option ZonePoint) (z y : Zones) → HasShapes (counting_two p q z) y → HasShapes z y
 after_two p q z y h = shapes_then z _ y (counting_two_keeps p q z) h
 
-point_keeps : (change : Point → Point) (zone : ZonePointer) (n : ℤ) (z : Zones) → HasShapes z (on_point change zone n z)
+point_keeps : (change : ZonePoint → ZonePoint) (zone : ZonePointer) (n : ℤ) (z : Zones) → HasShapes z (on_point change zone n z)
 point_keeps change zone n z = after_one (point_at zone n z) z _ (changed_keeps change zone n _)
 
 each_keeps : (steps : ℤ → Zones → Zones) → ((p : ℤ) (z : Zones) → HasShapes z (steps p z)) → (ps : List ℤ) (z : Zones)

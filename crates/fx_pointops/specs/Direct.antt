@@ -6,7 +6,7 @@ use Rattle.fx_fixed.specs.Places.{place_sum_of}
 use Rattle.fx_fixed.specs.declared.places.Place.{Place}
 use Rattle.fx_fixed.specs.declared.places.Axis.{Axis}
 use Rattle.fx_fixed.specs.declared.places.Axis.TheVariants.{X, Y}
-use Rattle.fx_zone.specs.declared.point.Point.{Point}
+use Rattle.fx_zone.specs.declared.point.ZonePoint.{ZonePoint}
 use Rattle.fx_zone.specs.Points.{marked, laid, settled}
 use Rattle.std.specs.Prelude.{false}
 use Rattle.fx_gstate.specs.declared.state.GState.{GState}
@@ -22,10 +22,10 @@ use Rattle.fx_pointops.specs.Loops.{each}
 
 -- 29 UTP, UnTouch Point: p ->
 -- p, of zp0, is untouched along each axis along which the freedom vector has a part.
-abbrev pub untouched_along : GState → Axis → Point → Point
+abbrev pub untouched_along : GState → Axis → ZonePoint → ZonePoint
 untouched_along g axis q = if has_part axis g.freedom then marked axis false q else q
 
-unfoldable pub untouched_by : GState → Point → Point
+unfoldable pub untouched_by : GState → ZonePoint → ZonePoint
 untouched_by g q = untouched_along g Y (untouched_along g X q)
 
 unfoldable pub utp_of : GState → ℤ → Zones → Zones
@@ -36,7 +36,7 @@ utp_of g p z = on_point (untouched_by g) g.zp0 p z
 abbrev pub to_grid : GState → Bool → ℤ → ℤ
 to_grid g rounds c = if rounds then difference_of (rounded_of g.round_state c) c else pos 0
 
-unfoldable pub moved_to_grid : GState → Bool → Point → Point
+unfoldable pub moved_to_grid : GState → Bool → ZonePoint → ZonePoint
 moved_to_grid g rounds q = moved_by g (to_grid g rounds (along g q.cur)) q
 
 unfoldable pub mdap_of : GState → Bool → ℤ → Zones → Zones
@@ -79,10 +79,10 @@ alignpts_of g p q z =
 
 -- 48 SCFS, Sets Coordinate From the Stack: p v ->
 -- p, of zp2, moves to the coordinate v; if zp2 is the twilight zone it takes its current place for its original one afterwards.
-abbrev pub settled_if : Bool → Point → Point
+abbrev pub settled_if : Bool → ZonePoint → ZonePoint
 settled_if twilight q = if twilight then settled q else q
 
-unfoldable pub moved_to_value : GState → ℤ → Point → Point
+unfoldable pub moved_to_value : GState → ℤ → ZonePoint → ZonePoint
 moved_to_value g v q = settled_if (is_twilight g.zp2) (moved_by g (difference_of v (along g q.cur)) q)
 
 unfoldable pub scfs_of : GState → ℤ → ℤ → Zones → Zones

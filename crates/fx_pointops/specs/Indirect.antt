@@ -3,7 +3,7 @@
 -- Apple TrueType Reference Manual, MIAP, MIRP. Each gives the zones.
 use Rattle.std.specs.Prelude.{ℤ, pos, int_lt, Bool, ◌&&◌, not, if◌then◌else◌}
 use Rattle.fx_fixed.specs.Numbers.{difference_of}
-use Rattle.fx_zone.specs.declared.point.Point.{Point}
+use Rattle.fx_zone.specs.declared.point.ZonePoint.{ZonePoint}
 use Rattle.fx_zone.specs.Points.{laid}
 use Rattle.fx_gstate.specs.declared.state.GState.{GState}
 use Rattle.fx_gstate.specs.Rounding.{rounded_of}
@@ -24,13 +24,13 @@ is_cut_off g v o = int_lt g.cut_in (size_of (difference_of v o))
 -- p, of zp0, moves to the control value v of number n; with 1 (a: rounds and looks at the cut-in) to v as the round state rounds
 -- it, or to its own coordinate rounded if v is further from that than the cut-in. If zp0 is the twilight zone p is laid at v first.
 -- The machine sets rp0, rp1.
-abbrev pub laid_along : GState → ℤ → Point → Point
+abbrev pub laid_along : GState → ℤ → ZonePoint → ZonePoint
 laid_along g v q = if is_twilight g.zp0 then laid (place_along g.freedom v) q else q
 
 unfoldable pub aimed_of : GState → Bool → ℤ → ℤ → ℤ
 aimed_of g rounds v c = if rounds then rounded_of g.round_state (if is_cut_off g v c then c else v) else v
 
-unfoldable pub moved_to_coordinate : GState → Bool → ℤ → Point → Point
+unfoldable pub moved_to_coordinate : GState → Bool → ℤ → ZonePoint → ZonePoint
 moved_to_coordinate g rounds v q = moved_by g (difference_of (aimed_of g rounds v (along g q.cur)) (along g q.cur)) q
 
 unfoldable pub miap_of : GState → Bool → ℤ → ℤ → Zones → Zones

@@ -3,7 +3,7 @@
 use Rattle.std.specs.Prelude.{ℤ}
 use Rattle.fx_fixed.specs.declared.places.Axis.TheVariants.{X, Y}
 use Rattle.fx_fixed.specs.declared.places.Place.{Place}
-use Rattle.fx_zone.specs.declared.point.Point.{Point}
+use Rattle.fx_zone.specs.declared.point.ZonePoint.{ZonePoint}
 use Rattle.fx_zone.specs.Points.{shifted}
 use Rattle.fx_gstate.specs.declared.state.GState.{GState}
 use Rattle.fx_gstate.specs.Vectors.{has_part, shift_of}
@@ -11,7 +11,7 @@ use Rattle.fx_pointops.specs.declared.zones.Zones.{Zones}
 use Rattle.fx_pointops.specs.Zones.{on_point}
 
 -- a point shifted, and touched along each axis along which the freedom vector has a part
-unfoldable pub shifted_by : GState → Place → Point → Point
+unfoldable pub shifted_by : GState → Place → ZonePoint → ZonePoint
 shifted_by g by p = shifted by (has_part X g.freedom) (has_part Y g.freedom) p
 
 -- the shift that moves a point by a distance
@@ -19,7 +19,7 @@ abbrev pub shift_by : GState → ℤ → Place
 shift_by g d = shift_of g.freedom g.projection d
 
 -- a point moved by a distance
-unfoldable pub moved_by : GState → ℤ → Point → Point
+unfoldable pub moved_by : GState → ℤ → ZonePoint → ZonePoint
 moved_by g d p = shifted_by g (shift_by g d) p
 
 -- a point of zp2 shifted, as SHP and SHPIX do

@@ -7,7 +7,7 @@ use Rattle.std.specs.Prelude.{slice_get, slice_set}
 use Rattle.fx_fixed.specs.Numbers.{counted}
 use Rattle.fx_fixed.specs.Places.{origin}
 use Rattle.fx_fixed.specs.declared.places.Place.{Place}
-use Rattle.fx_zone.specs.declared.point.Point.{Point}
+use Rattle.fx_zone.specs.declared.point.ZonePoint.{ZonePoint}
 use Rattle.fx_zone.specs.Figures.{Figure, HasShape, changed}
 use Rattle.fx_gstate.specs.declared.zones.ZonePointer.{ZonePointer}
 use Rattle.fx_gstate.specs.declared.zones.ZonePointer.TheVariants.{Twilight, Glyph}
@@ -38,27 +38,27 @@ index_of (pos n) = Some n
 index_of (negsuc n) = None
 
 -- the point of a number, if it is inside
-abbrev pub point_of : Option ℕ → List Point → Option Point
+abbrev pub point_of : Option ℕ → List ZonePoint → Option ZonePoint
 point_of None points = None
 point_of (Some n) points = slice_get points n
 
-unfoldable pub point_at : ZonePointer → ℤ → Zones → Option Point
+unfoldable pub point_at : ZonePointer → ℤ → Zones → Option ZonePoint
 point_at zone n z = point_of (index_of n) (zone_at zone z).points
 
 -- the point of a number changed; nothing if it is outside
-abbrev pub changed_of : (Point → Point) → ZonePointer → Option ℕ → Zones → Zones
+abbrev pub changed_of : (ZonePoint → ZonePoint) → ZonePointer → Option ℕ → Zones → Zones
 changed_of change zone None z = z
 changed_of change zone (Some n) z = on_zone (changed change n) zone z
 
-unfoldable pub changed_at : (Point → Point) → ZonePointer → ℤ → Zones → Zones
+unfoldable pub changed_at : (ZonePoint → ZonePoint) → ZonePointer → ℤ → Zones → Zones
 changed_at change zone n z = changed_of change zone (index_of n) z
 
 -- the point of a number written; nothing if it is outside
-abbrev pub written_of : Point → ZonePointer → Option ℕ → Zones → Zones
+abbrev pub written_of : ZonePoint → ZonePointer → Option ℕ → Zones → Zones
 written_of p zone None z = z
 written_of p zone (Some n) z = on_zone (λ f. record f { points = slice_set f.points n p }) zone z
 
-unfoldable pub written_at : Point → ZonePointer → ℤ → Zones → Zones
+unfoldable pub written_at : ZonePoint → ZonePointer → ℤ → Zones → Zones
 written_at p zone n z = written_of p zone (index_of n) z
 
 -- one stray more
@@ -66,23 +66,23 @@ abbrev pub with_stray : Zones → Zones
 with_stray z = record z { strays = counted (z.strays + 1) }
 
 -- a point that is not inside is a stray, and is counted
-abbrev pub counting : Option Point → Zones → Zones
+abbrev pub counting : Option ZonePoint → Zones → Zones
 counting (Some p) z = z
 counting None z = with_stray z
 
-abbrev pub counting_two : Option Point → Option Point → Zones → Zones
+abbrev pub counting_two : Option ZonePoint → Option ZonePoint → Zones → Zones
 counting_two p q z = counting q (counting p z)
 
 -- a row that changes one point, and counts it if it is a stray
-abbrev pub on_point : (Point → Point) → ZonePointer → ℤ → Zones → Zones
+abbrev pub on_point : (ZonePoint → ZonePoint) → ZonePointer → ℤ → Zones → Zones
 on_point change zone n z = changed_at change zone n (counting (point_at zone n z) z)
 
 -- a stray reads as (0, 0)
-abbrev pub org_of : Option Point → Place
+abbrev pub org_of : Option ZonePoint → Place
 org_of (Some p) = p.org
 org_of None = origin
 
-abbrev pub cur_of : Option Point → Place
+abbrev pub cur_of : Option ZonePoint → Place
 cur_of (Some p) = p.cur
 cur_of None = origin
 

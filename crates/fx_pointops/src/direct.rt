@@ -12,7 +12,7 @@ use crate::shift_point::move_point;
 use crate::zones::{Zones, cur, is_twilight, org};
 use fx_fixed::{Axis, F26, Place, cut, w32};
 use fx_gstate::GState;
-use fx_zone::Point;
+use fx_zone::ZonePoint;
 
 /// The move that puts a coordinate on the grid, or none.
 fn to_grid(g: &GState, rounds: bool, c: F26) -> F26
@@ -38,7 +38,7 @@ fn wanted(g: &GState, how: Relative, o: F26) -> F26
 }
 
 /// A point untouched along an axis, if the freedom vector has a part along it.
-fn untouched_along(g: &GState, axis: Axis, point: Point) -> Point
+fn untouched_along(g: &GState, axis: Axis, point: ZonePoint) -> ZonePoint
     ensures { result ≡ untouched_along g.now axis point }
 {
     if g.touches(axis) {
@@ -50,7 +50,7 @@ fn untouched_along(g: &GState, axis: Axis, point: Point) -> Point
 
 /// A point untouched along each axis along which the freedom vector has a part.
 #[tactic(auto, unfolding(crate::specs::Direct::untouched_by))]
-fn untouched_by(g: &GState, point: Point) -> Point
+fn untouched_by(g: &GState, point: ZonePoint) -> ZonePoint
     ensures { result ≡ untouched_by g.now point }
 {
     let point = untouched_along(g, Axis::X, point);
@@ -59,7 +59,7 @@ fn untouched_by(g: &GState, point: Point) -> Point
 
 /// Moves a point to its coordinate, or to the rounded one.
 #[tactic(auto, unfolding(crate::specs::Direct::moved_to_grid))]
-fn move_to_grid(g: &GState, rounds: bool, point: &mut Point)
+fn move_to_grid(g: &GState, rounds: bool, point: &mut ZonePoint)
     ensures { point.new ≡ moved_to_grid g.now rounds point.old }
 {
     let d = to_grid(g, rounds, g.project_place(point.cur));
@@ -68,7 +68,7 @@ fn move_to_grid(g: &GState, rounds: bool, point: &mut Point)
 
 /// Moves a point to a coordinate, which becomes its original one in the twilight zone.
 #[tactic(auto, unfolding(crate::specs::Direct::moved_to_value))]
-fn move_to_value(g: &GState, v: F26, point: &mut Point)
+fn move_to_value(g: &GState, v: F26, point: &mut ZonePoint)
     ensures { point.new ≡ moved_to_value g.now v point.old }
 {
     move_point(g, v.minus(g.project_place(point.cur)), point);

@@ -10,7 +10,7 @@ use crate::shift_point::move_point;
 use crate::zones::{Zones, is_same_zone, is_twilight};
 use fx_fixed::F26;
 use fx_gstate::GState;
-use fx_zone::Point;
+use fx_zone::ZonePoint;
 
 /// Whether two distances are further apart than the control value cut-in.
 fn is_cut_off(g: &GState, v: F26, o: F26) -> bool
@@ -84,7 +84,7 @@ fn mirp_distance(g: &GState, how: Relative, o: F26, v: F26) -> F26
 }
 
 /// A point laid at a control value, if zp0 is the twilight zone.
-fn laid_along(g: &GState, v: F26, point: Point) -> Point
+fn laid_along(g: &GState, v: F26, point: ZonePoint) -> ZonePoint
     ensures { result ≡ laid_along g.now v point }
 {
     if is_twilight(g.zp0) {
@@ -96,7 +96,7 @@ fn laid_along(g: &GState, v: F26, point: Point) -> Point
 
 /// Moves a point to a control value.
 #[tactic(auto, unfolding(crate::specs::Indirect::moved_to_coordinate))]
-fn move_to_coordinate(g: &GState, rounds: bool, v: F26, point: &mut Point)
+fn move_to_coordinate(g: &GState, rounds: bool, v: F26, point: &mut ZonePoint)
     ensures { point.new ≡ moved_to_coordinate g.now rounds v point.old }
 {
     let c = g.project_place(point.cur);

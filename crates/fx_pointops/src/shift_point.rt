@@ -7,11 +7,11 @@ ghost use Rattle.fx_pointops.specs.ShiftPoint.{shifted_by, moved_by, point_shift
 use crate::zones::Zones;
 use fx_fixed::{Axis, F26, Place};
 use fx_gstate::{GState, ZonePointer};
-use fx_zone::Point;
+use fx_zone::ZonePoint;
 
 /// A point shifted, and touched along each axis along which the freedom vector has a part.
 #[tactic(auto, unfolding(crate::specs::ShiftPoint::shifted_by))]
-pub fn shifted_by(g: &GState, by: Place, point: Point) -> Point
+pub fn shifted_by(g: &GState, by: Place, point: ZonePoint) -> ZonePoint
     ensures { result ≡ shifted_by g.now by point }
 {
     point.shifted(by, g.touches(Axis::X), g.touches(Axis::Y))
@@ -20,7 +20,7 @@ pub fn shifted_by(g: &GState, by: Place, point: Point) -> Point
 /// Moves a point by a distance. Along an axis it is known which axis it touches.
 #[inline(never)]
 #[tactic(auto, unfolding(crate::specs::ShiftPoint::moved_by, crate::specs::ShiftPoint::shifted_by))]
-pub fn move_point(g: &GState, d: F26, point: &mut Point)
+pub fn move_point(g: &GState, d: F26, point: &mut ZonePoint)
     ensures { point.new ≡ moved_by g.now d point.old }
 {
     match g.axis() {
@@ -39,7 +39,7 @@ pub fn move_point(g: &GState, d: F26, point: &mut Point)
 /// Moves a point by a distance along any vectors.
 #[inline(never)]
 #[tactic(auto, unfolding(crate::specs::ShiftPoint::moved_by))]
-fn move_aslant(g: &GState, d: F26, point: &mut Point)
+fn move_aslant(g: &GState, d: F26, point: &mut ZonePoint)
     ensures { point.new ≡ moved_by g.now d point.old }
 {
     *point = shifted_by(g, g.shift_place(d), *point);

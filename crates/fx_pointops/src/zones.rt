@@ -6,7 +6,7 @@ ghost use Rattle.fx_pointops.specs.Zones.{is_twilight, is_same_zone, index_of, o
 
 use fx_fixed::Place;
 use fx_gstate::ZonePointer;
-use fx_zone::{Point, Zone};
+use fx_zone::{Zone, ZonePoint};
 
 /// The twilight zone, without contours, and the glyph zone, which ends with the glyph's four phantom points; it is empty when no
 /// glyph's program runs (Apple TrueType Reference Manual, "Zones").
@@ -52,7 +52,7 @@ pub fn index_of(number: i32) -> Option<usize>
 }
 
 /// The original place of a point, (0, 0) if there is none.
-pub fn org(point: &Option<Point>) -> Place
+pub fn org(point: &Option<ZonePoint>) -> Place
     ensures { result ≡ org_of point.now }
 {
     match point {
@@ -62,7 +62,7 @@ pub fn org(point: &Option<Point>) -> Place
 }
 
 /// The current place of a point, (0, 0) if there is none.
-pub fn cur(point: &Option<Point>) -> Place
+pub fn cur(point: &Option<ZonePoint>) -> Place
     ensures { result ≡ cur_of point.now }
 {
     match point {
@@ -79,7 +79,7 @@ impl Zones {
 
     /// The point of a number, if it is inside.
     #[tactic(auto, unfolding(crate::specs::Zones::point_at))]
-    pub(crate) fn point(&self, zone: ZonePointer, number: i32) -> Option<Point>
+    pub(crate) fn point(&self, zone: ZonePointer, number: i32) -> Option<ZonePoint>
         ensures { result ≡ point_at zone number self.now }
     {
         let index = index_of(number)?;
@@ -97,7 +97,7 @@ impl Zones {
     }
 
     /// Counts a point as a stray if there is none.
-    pub(crate) fn count(&mut self, point: &Option<Point>)
+    pub(crate) fn count(&mut self, point: &Option<ZonePoint>)
         ensures { self.new ≡ counting point.now self.old }
     {
         if point.is_none() {
@@ -106,7 +106,7 @@ impl Zones {
     }
 
     /// Counts two points as strays, each if there is none.
-    pub(crate) fn count_two(&mut self, p: &Option<Point>, q: &Option<Point>)
+    pub(crate) fn count_two(&mut self, p: &Option<ZonePoint>, q: &Option<ZonePoint>)
         ensures { self.new ≡ counting_two p.now q.now self.old }
     {
         self.count(p);
@@ -115,7 +115,7 @@ impl Zones {
 
     /// The point of a number, to be changed in its place, if it is inside.
     #[tactic(auto, unfolding(crate::specs::Zones::point_at, crate::specs::Zones::written_at))]
-    pub(crate) fn point_mut(&mut self, zone: ZonePointer, number: i32) -> Option<&mut Point>
+    pub(crate) fn point_mut(&mut self, zone: ZonePointer, number: i32) -> Option<&mut ZonePoint>
         ensures* writes_back { sem 𝓛 (LendsPointAt self.entry zone number result) }
         ensures value { option_copied_mut result ≡ point_at zone number self.old }
     {

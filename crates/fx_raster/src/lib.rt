@@ -23,5 +23,5 @@ pub use fx_rows::Rows;
 pub use fx_winding::{Bitmap, Frame, Scan};
 pub use region::Region;
 pub use rule::Rule;
-pub use scratch::Scratch;
+pub use scratch::RasterScratch;
 pub use shape::Shape;

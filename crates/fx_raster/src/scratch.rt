@@ -10,24 +10,24 @@ use std::marker::Model;
 /// What the bits of a shape are made with and what the next shape takes over, so that not each shape asks for memory: a buffer of
 /// pieces, and the lists of a scan.
 #[derive(Drop)]
-pub struct Scratch {
+pub struct RasterScratch {
     pub(crate) pieces: Pieces,
     pub(crate) scan: fx_winding::Scratch,
 }
 
 /// A scratch, seen as the pieces in its buffer.
-impl Model for Scratch {
+impl Model for RasterScratch {
     ghost Value = { List Piece };
 
     ghost view = { λ s. s.pieces };
 }
 
-impl Scratch {
+impl RasterScratch {
     /// Without a piece. It takes no memory.
-    pub fn new(alloc: Global) -> Scratch
+    pub fn new(alloc: Global) -> RasterScratch
         ensures { result ≡ [] }
     {
-        Scratch {
+        RasterScratch {
             pieces: Pieces::new(alloc),
             scan: fx_winding::Scratch::new(alloc),
         }

@@ -10,7 +10,7 @@ use crate::bits::bitmap_of;
 use crate::frames::frame_of;
 use crate::region::Region;
 use crate::rule::Rule;
-use crate::scratch::Scratch;
+use crate::scratch::RasterScratch;
 use crate::within::lies_in;
 use fx_contour::pieces_in_reach;
 use fx_outline::Outline;
@@ -78,7 +78,7 @@ impl Shape {
         &self,
         alloc: Global,
         scan: &S,
-        scratch: &mut Scratch,
+        scratch: &mut RasterScratch,
     ) -> Result<Bitmap, AllocError>
         ensures { IfOk result (λ b.
             (col row : ℤ) → IsTrue (bit_of b col row) ↔ IsPixelSet self.now.rule self.now.spans col row) }

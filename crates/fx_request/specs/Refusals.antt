@@ -5,13 +5,13 @@ use Rattle.std.specs.Option.{option_or}
 use Rattle.fx_machine.specs.Causes as causes
 use Rattle.fx_machine.specs.declared.halt.Cause.{Cause}
 use Rattle.fx_machine.specs.declared.halt.Cause.TheVariants as cause
-use Rattle.fx_request.specs.declared.place.Place.{Place}
-use Rattle.fx_request.specs.declared.place.Place.TheVariants.{Nowhere, Table, Glyph, Property, Bytes, Halt}
+use Rattle.fx_request.specs.declared.location.Location.{Location}
+use Rattle.fx_request.specs.declared.location.Location.TheVariants.{Nowhere, Table, Glyph, Property, Bytes, Halt}
 use Rattle.fx_request.specs.declared.refusal.Refusal.{Refusal}
 use Rattle.fx_request.specs.declared.refusal.Refusal.TheVariants as refusal
 
 -- a refusal's number, name and place; the number and the name of a halt are its cause's
-abbrev pub entry_of : Refusal → ℕ × List ℕ × Place
+abbrev pub entry_of : Refusal → ℕ × List ℕ × Location
 entry_of refusal.NotTrueType = (10, codes "NotTrueType", Nowhere)
 entry_of (refusal.TableMissing tag) = (11, codes "TableMissing", Table tag)
 entry_of (refusal.TableShort tag) = (12, codes "TableShort", Table tag)
@@ -47,7 +47,7 @@ number_of r = (entry_of r).0
 abbrev pub name_of : Refusal → List ℕ
 name_of r = (entry_of r).1
 
-abbrev pub place_of : Refusal → Place
+abbrev pub place_of : Refusal → Location
 place_of r = (entry_of r).2
 
 -- ---- the names by their numbers

@@ -10,16 +10,16 @@ mod characters;
 mod faults;
 pub mod laws;
 mod limits;
+mod location;
 mod names;
 mod notice;
-mod place;
 mod refusal;
 mod request;
 
 pub use characters::rising_codes;
 pub use limits::{MAX_CHARACTERS, MAX_CODE};
+pub use location::Location;
 pub use names::{advised, named};
 pub use notice::{Deaf, Listener, Notice};
-pub use place::Place;
 pub use refusal::Refusal;
 pub use request::{Choice, Dropout, Mode, OnRefused, Report, Request};

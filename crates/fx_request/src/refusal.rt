@@ -2,7 +2,7 @@
 ghost use Rattle.std.specs.Prelude.{◌≡◌};
 ghost use Rattle.fx_request.specs.Refusals.{number_of, name_of, place_of, entry_of};
 
-use crate::place::Place;
+use crate::location::Location;
 use fx_machine::{Cause, Halt};
 use std::fmt;
 use thiserror::Error;
@@ -71,40 +71,40 @@ pub enum Refusal {
 
 impl Refusal {
     /// The number, the name and the place: the table of the refusals.
-    pub fn entry(self) -> (u8, &'static str, Place)
+    pub fn entry(self) -> (u8, &'static str, Location)
         ensures number { result.0 ≡ number_of self }
         ensures name { result.1.now ≡ name_of self }
         ensures place { result.2 ≡ place_of self }
     {
         match self {
-            Refusal::NotTrueType => (10, "NotTrueType", Place::Nowhere),
-            Refusal::TableMissing(tag) => (11, "TableMissing", Place::Table(tag)),
-            Refusal::TableShort(tag) => (12, "TableShort", Place::Table(tag)),
-            Refusal::BadHead => (13, "BadHead", Place::Nowhere),
-            Refusal::BadMaxp => (14, "BadMaxp", Place::Nowhere),
-            Refusal::NoCharMap => (15, "NoCharMap", Place::Nowhere),
-            Refusal::BadCharMap => (16, "BadCharMap", Place::Nowhere),
-            Refusal::BadLoca(g) => (17, "BadLoca", Place::Glyph(g)),
-            Refusal::GlyphShort(g) => (18, "GlyphShort", Place::Glyph(g)),
-            Refusal::BadContours(g) => (19, "BadContours", Place::Glyph(g)),
-            Refusal::ComponentDepth(g) => (20, "ComponentDepth", Place::Glyph(g)),
-            Refusal::TooManyComponents(g) => (21, "TooManyComponents", Place::Glyph(g)),
-            Refusal::TooManyPoints(g) => (22, "TooManyPoints", Place::Glyph(g)),
-            Refusal::BadPointMatch(g) => (23, "BadPointMatch", Place::Glyph(g)),
-            Refusal::BadGlyphNumber(g) => (24, "BadGlyphNumber", Place::Glyph(g)),
-            Refusal::NoFace => (25, "NoFace", Place::Nowhere),
-            Refusal::Halted(halt) => (halt.cause.number(), halt.cause.name(), Place::Halt(halt)),
-            Refusal::TooFar(g) => (51, "TooFar", Place::Glyph(g)),
-            Refusal::GlyphTooLarge(g) => (52, "GlyphTooLarge", Place::Glyph(g)),
-            Refusal::BadSize => (60, "BadSize", Place::Nowhere),
-            Refusal::BadChars => (61, "BadChars", Place::Nowhere),
-            Refusal::BadName => (62, "BadName", Place::Nowhere),
-            Refusal::BadProperty(i) => (63, "BadProperty", Place::Property(i)),
-            Refusal::WriteFailed(n) => (70, "WriteFailed", Place::Bytes(n)),
-            Refusal::ReadFailed => (71, "ReadFailed", Place::Nowhere),
-            Refusal::BadHex => (72, "BadHex", Place::Nowhere),
-            Refusal::InputTooLarge => (73, "InputTooLarge", Place::Nowhere),
-            Refusal::OutOfMemory => (90, "OutOfMemory", Place::Nowhere),
+            Refusal::NotTrueType => (10, "NotTrueType", Location::Nowhere),
+            Refusal::TableMissing(tag) => (11, "TableMissing", Location::Table(tag)),
+            Refusal::TableShort(tag) => (12, "TableShort", Location::Table(tag)),
+            Refusal::BadHead => (13, "BadHead", Location::Nowhere),
+            Refusal::BadMaxp => (14, "BadMaxp", Location::Nowhere),
+            Refusal::NoCharMap => (15, "NoCharMap", Location::Nowhere),
+            Refusal::BadCharMap => (16, "BadCharMap", Location::Nowhere),
+            Refusal::BadLoca(g) => (17, "BadLoca", Location::Glyph(g)),
+            Refusal::GlyphShort(g) => (18, "GlyphShort", Location::Glyph(g)),
+            Refusal::BadContours(g) => (19, "BadContours", Location::Glyph(g)),
+            Refusal::ComponentDepth(g) => (20, "ComponentDepth", Location::Glyph(g)),
+            Refusal::TooManyComponents(g) => (21, "TooManyComponents", Location::Glyph(g)),
+            Refusal::TooManyPoints(g) => (22, "TooManyPoints", Location::Glyph(g)),
+            Refusal::BadPointMatch(g) => (23, "BadPointMatch", Location::Glyph(g)),
+            Refusal::BadGlyphNumber(g) => (24, "BadGlyphNumber", Location::Glyph(g)),
+            Refusal::NoFace => (25, "NoFace", Location::Nowhere),
+            Refusal::Halted(halt) => (halt.cause.number(), halt.cause.name(), Location::Halt(halt)),
+            Refusal::TooFar(g) => (51, "TooFar", Location::Glyph(g)),
+            Refusal::GlyphTooLarge(g) => (52, "GlyphTooLarge", Location::Glyph(g)),
+            Refusal::BadSize => (60, "BadSize", Location::Nowhere),
+            Refusal::BadChars => (61, "BadChars", Location::Nowhere),
+            Refusal::BadName => (62, "BadName", Location::Nowhere),
+            Refusal::BadProperty(i) => (63, "BadProperty", Location::Property(i)),
+            Refusal::WriteFailed(n) => (70, "WriteFailed", Location::Bytes(n)),
+            Refusal::ReadFailed => (71, "ReadFailed", Location::Nowhere),
+            Refusal::BadHex => (72, "BadHex", Location::Nowhere),
+            Refusal::InputTooLarge => (73, "InputTooLarge", Location::Nowhere),
+            Refusal::OutOfMemory => (90, "OutOfMemory", Location::Nowhere),
         }
     }
 
@@ -123,7 +123,7 @@ impl Refusal {
     }
 
     /// Where the refusal is.
-    pub fn place(self) -> Place
+    pub fn place(self) -> Location
         ensures { result ≡ place_of self }
     {
         self.entry().2
@@ -182,15 +182,15 @@ impl fmt::Display for Refusal {
     fn fmt<W: fmt::Write>(&self, f: &mut fmt::Formatter<W>) -> fmt::Result {
         let (number, name, place) = self.entry();
         match place {
-            Place::Nowhere => write!(f, "{number} {name}"),
-            Place::Table(tag) => {
+            Location::Nowhere => write!(f, "{number} {name}"),
+            Location::Table(tag) => {
                 write!(f, "{number} {name} ")?;
                 write_tag(f, tag)
             }
-            Place::Glyph(g) => write!(f, "{number} {name} {g}"),
-            Place::Property(i) => write!(f, "{number} {name} {i}"),
-            Place::Bytes(n) => write!(f, "{number} {name} {n}"),
-            Place::Halt(halt) => write!(f, "{halt}"),
+            Location::Glyph(g) => write!(f, "{number} {name} {g}"),
+            Location::Property(i) => write!(f, "{number} {name} {i}"),
+            Location::Bytes(n) => write!(f, "{number} {name} {n}"),
+            Location::Halt(halt) => write!(f, "{halt}"),
         }
     }
 }

@@ -5,7 +5,7 @@ use Rattle.fx_fixed.specs.Places.{place_on}
 use Rattle.fx_fixed.specs.declared.places.Axis.{Axis}
 use Rattle.fx_fixed.specs.declared.places.Axis.TheVariants.{X, Y}
 use Rattle.fx_sfnt.specs.declared.records.Metrics.{Metrics}
-use Rattle.fx_zone.specs.declared.point.Point.{Point}
+use Rattle.fx_zone.specs.declared.point.ZonePoint.{ZonePoint}
 use Rattle.fx_zone.specs.Points.{untouched}
 use Rattle.fx_scale.specs.declared.scale.Scale.{Scale}
 use Rattle.fx_scale.specs.declared.phantom.PhantomPoints.{PhantomPoints}
@@ -16,7 +16,7 @@ abbrev pub fitted : Bool → ℤ → ℤ
 fitted hinted z = if hinted then wrapped_of (pos 64 *ℤ near_of z (pos 64)) else z
 
 -- a phantom point on an axis
-abbrev pub phantom_on : Axis → Bool → ℤ → Point
+abbrev pub phantom_on : Axis → Bool → ℤ → ZonePoint
 phantom_on axis hinted z = record {
   org = place_on axis z;
   cur = place_on axis (fitted hinted z);
@@ -35,7 +35,7 @@ phantoms_of s hinted x_min m = record {
 }
 
 -- the four in their order after a glyph's points
-abbrev pub in_order : PhantomPoints → List Point
+abbrev pub in_order : PhantomPoints → List ZonePoint
 in_order ps = ps.origin ∷ ps.advance ∷ ps.ascender ∷ ps.descender ∷ []
 
 -- phantom points untouched, each with its original and its current place

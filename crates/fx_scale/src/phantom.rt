@@ -7,15 +7,15 @@ ghost use Rattle.fx_scale.specs.Phantoms.{phantom_on, phantoms_of, fitted, in_or
 use crate::scale::Scale;
 use fx_fixed::{Axis, F26, Place, near_64, w32};
 use fx_sfnt::Metrics;
-use fx_zone::Point;
+use fx_zone::ZonePoint;
 
 /// The four points after a glyph's points (Apple TrueType Reference Manual, "Instructing TrueType Glyphs": phantom points).
 #[derive(Clone, Copy, Debug, PartialEq, Eq)]
 pub struct PhantomPoints {
-    pub origin: Point,
-    pub advance: Point,
-    pub ascender: Point,
-    pub descender: Point,
+    pub origin: ZonePoint,
+    pub advance: ZonePoint,
+    pub ascender: ZonePoint,
+    pub descender: ZonePoint,
 }
 
 impl PhantomPoints {
@@ -39,7 +39,7 @@ impl PhantomPoints {
     }
 
     /// The four in their order after a glyph's points.
-    pub fn in_order(self) -> [Point; 4]
+    pub fn in_order(self) -> [ZonePoint; 4]
         ensures { result ≡ in_order self }
     {
         [self.origin, self.advance, self.ascender, self.descender]
@@ -59,7 +59,7 @@ impl PhantomPoints {
 }
 
 /// The four phantom points of a glyph, in their order after its points.
-pub fn phantoms(scale: &Scale, hinted: bool, x_min: i16, metrics: Metrics) -> [Point; 4]
+pub fn phantoms(scale: &Scale, hinted: bool, x_min: i16, metrics: Metrics) -> [ZonePoint; 4]
     ensures { result ≡ in_order (phantoms_of scale.now hinted x_min metrics) }
 {
     PhantomPoints::of_glyph(scale, hinted, x_min, metrics).in_order()
@@ -74,12 +74,12 @@ fn margin(x_min: i16, lsb: i16) -> i32
 }
 
 /// A phantom point on an axis.
-fn phantom(axis: Axis, hinted: bool, z: F26) -> Point
+fn phantom(axis: Axis, hinted: bool, z: F26) -> ZonePoint
     ensures { result ≡ phantom_on axis hinted z }
 {
     let org = Place::on(axis, z);
     let cur = Place::on(axis, fitted(hinted, z));
-    Point {
+    ZonePoint {
         org,
         cur,
         on: false,

@@ -37,15 +37,15 @@ const PHANTOM_POINTS: usize = 4;
 
 /// The points scaled, in their order, in a list whose points are lost, with room for the phantom points.
 fn scaled_points(
-    list: Vec<fx_zone::Point>,
+    list: Vec<fx_zone::ZonePoint>,
     simple: &Simple<'_>,
     scale: &Scale,
-) -> Result<Vec<fx_zone::Point>, AllocError>
+) -> Result<Vec<fx_zone::ZonePoint>, AllocError>
     ensures { IfOk result (λ v. v.items ≡ map (scaled_point scale.now) simple.now.points) }
 {
     let mut scaled = list;
     let count = simple.point_count() as usize;
-    let blank = fx_zone::Point::resting(Place::origin(), false);
+    let blank = fx_zone::ZonePoint::resting(Place::origin(), false);
     scaled.resize(count + PHANTOM_POINTS, blank)?;
     scaled.truncate(count);
     let factor = scale.factor();
@@ -61,7 +61,7 @@ fn scaled_points(
 /// Writes a point scaled, original and current place alike, untouched, over another point, field by field: a whole point would be
 /// written with its padding.
 #[inline(always)]
-fn write_scaled(scaled: &mut fx_zone::Point, factor: &Factor, point: fx_glyf::Point)
+fn write_scaled(scaled: &mut fx_zone::ZonePoint, factor: &Factor, point: fx_glyf::GlyphPoint)
     ensures { scaled.new ≡ resting (record {
       x = scaled_of point.x factor.now.ppem factor.now.units_per_em;
       y = scaled_of point.y factor.now.ppem factor.now.units_per_em;

@@ -23,8 +23,8 @@ use Rattle.fx_raster.specs.declared.rule.Rule.TheVariants.{Centres, Bridged}
 use Rattle.fx_request.specs.declared.request.Dropout.{Dropout}
 use Rattle.fx_request.specs.declared.request.Dropout.TheVariants.{Off, Left, Near, Font}
 use Rattle.fx_gstate.specs.Scan.{wish_of}
-use Rattle.fx_gstate.specs.declared.scan.Dropout as asked
-use Rattle.fx_gstate.specs.declared.scan.Dropout.TheVariants as wish
+use Rattle.fx_gstate.specs.declared.scan.ScanType as asked
+use Rattle.fx_gstate.specs.declared.scan.ScanType.TheVariants as wish
 use Rattle.fx_raster.specs.Rules.{ShapeView, IsPixelSet, shape_of}
 use Rattle.fx_bdf.specs.declared.header.Header.{Header}
 use Rattle.fx_bdf.specs.Glyphs.{IsTight, IsFormed, glyph_bit, bounds_of}
@@ -70,21 +70,21 @@ pub record Setting : Type 0 where
   pub machine : Option Known
 
 -- which pixels an outline sets, as its font's programs asked; the left or the lower one of a gap if they asked for nothing
-abbrev pub asked_rule : Option asked.Dropout → Rule
+abbrev pub asked_rule : Option asked.ScanType → Rule
 asked_rule None = Bridged Lower
 asked_rule (Some wish.Off) = Centres
 asked_rule (Some wish.Leftmost) = Bridged Lower
 asked_rule (Some wish.Nearest) = Bridged Nearer
 
 -- which pixels an outline sets, with drop-out control or without; the same for all, or as its font asked
-abbrev pub rule_for : Dropout → Option asked.Dropout → Rule
+abbrev pub rule_for : Dropout → Option asked.ScanType → Rule
 rule_for Off wish = Centres
 rule_for Left wish = Bridged Lower
 rule_for Near wish = Bridged Nearer
 rule_for Font wish = asked_rule wish
 
 -- the same in a setting
-abbrev pub rule_in : Setting → Option asked.Dropout → Rule
+abbrev pub rule_in : Setting → Option asked.ScanType → Rule
 rule_in setting wish = rule_for setting.dropout wish
 
 abbrev pub basis_of : Opened → Mode → Basis
@@ -117,7 +117,7 @@ prelude_by None = no_usage
 prelude_by (Some known) = known.prelude
 
 -- what `prep` left asked of drop-out control; nothing without a machine
-abbrev pub wish_in : Option Known → Option asked.Dropout
+abbrev pub wish_in : Option Known → Option asked.ScanType
 wish_in None = None
 wish_in (Some known) = wish_of known.prepared.graphics
 
@@ -224,7 +224,7 @@ pub record Plan : Type 0 where
   pub missing : ℕ
   pub notices : List Notice
   pub prelude : Usage
-  pub wish : Option asked.Dropout
+  pub wish : Option asked.ScanType
 
 -- FUnits in pixels, rounded
 abbrev pub pixels : ℤ → ℕ → ℕ → ℤ

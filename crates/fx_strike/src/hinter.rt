@@ -6,7 +6,7 @@ ghost use Rattle.fx_request.specs.Faults.{of_machine};
 ghost use Rattle.fx_strike.specs.Strike.{machine_for, prelude_by, wish_in, Fails};
 
 use crate::opened::Opened;
-use fx_gstate::Dropout as Wish;
+use fx_gstate::ScanType as ScanType;
 use fx_hint::{ComponentOf, GlyphInput, HintFault, Hinter, KeepingMachine, KeepingUnhinted, Made};
 use fx_machine::{Machine, Unwatched, Usage};
 use fx_request::Refusal;
@@ -65,7 +65,7 @@ impl<'a> FontHinter<'a> {
     }
 
     /// What `prep` left asked of drop-out control.
-    pub(crate) fn wish(&self) -> Option<Wish>
+    pub(crate) fn wish(&self) -> Option<ScanType>
         ensures { result ≡ wish_in self.now }
     {
         match &self.machine {

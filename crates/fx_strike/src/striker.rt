@@ -15,7 +15,7 @@ use crate::surveyed::Survey;
 use fx_bdf::{BitGlyph, Title};
 use fx_fixed::Sink;
 use fx_hint::Spare;
-use fx_raster::{Rows, Scan, Scratch};
+use fx_raster::{RasterScratch, Rows, Scan};
 use fx_request::{Deaf, Mode, OnRefused, Refusal, Report};
 use fx_sfnt::FontFile;
 use std::alloc::Global;
@@ -31,7 +31,7 @@ pub struct Striker<'a, S: Scan> {
     pub(crate) basis: Basis<'a>,
     pub(crate) hinter: FontHinter<'a>,
     /// What scans work with.
-    pub(crate) scratch: Scratch,
+    pub(crate) scratch: RasterScratch,
     /// The lists of an outline that is done with, which the next one takes over.
     pub(crate) spare: Spare,
 }
@@ -121,7 +121,7 @@ impl<'a, S: Scan> Striker<'a, S> {
             scan,
             basis,
             hinter,
-            scratch: Scratch::new(alloc),
+            scratch: RasterScratch::new(alloc),
             spare: Spare::new(alloc),
         }
     }

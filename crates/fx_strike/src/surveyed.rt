@@ -2,7 +2,7 @@
 
 use fx_bdf::{Bounds, Header, Summary};
 use fx_fixed::Ppem;
-use fx_gstate::Dropout as Wish;
+use fx_gstate::ScanType as ScanType;
 use fx_request::Report;
 
 /// What is known of a strike before its first byte is written: the numbers of its header, what its
@@ -14,9 +14,9 @@ pub struct Survey {
     /// What the glyphs settle of the properties of X11.
     pub summary: Summary,
     /// What `prep` left asked of drop-out control (SCANCTRL and SCANTYPE, Apple TrueType Reference Manual, "The instruction
-    /// set"), by which `Dropout::Font` draws each glyph whose own program asks for nothing else. None if nothing was asked, or
+    /// set"), by which `ScanType::Font` draws each glyph whose own program asks for nothing else. None if nothing was asked, or
     /// hinting is off.
-    pub wish: Option<Wish>,
+    pub wish: Option<ScanType>,
     /// The font's ascent in pixels.
     pub ascent: i32,
     /// The font's descent in pixels.

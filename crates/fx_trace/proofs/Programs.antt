@@ -20,8 +20,8 @@ use Rattle.fx_hint.specs.Watched.{RunEvent, events_for, run_events, runs_joined,
 use Rattle.fx_trace.specs.declared.fault.Stop.{Stop}
 use Rattle.fx_trace.specs.declared.fault.TraceFault.{TraceFault}
 use Rattle.fx_trace.specs.Snapshots.{SnapshotView}
-use Rattle.fx_trace.specs.declared.wanted.Wanted.{Wanted}
-use Rattle.fx_trace.specs.declared.wanted.Wanted.TheVariants.{Each}
+use Rattle.fx_trace.specs.declared.wanted.TracedPrograms.{TracedPrograms}
+use Rattle.fx_trace.specs.declared.wanted.TracedPrograms.TheVariants.{Each}
 use Rattle.fx_trace.specs.Traces.{Trace, Traces, Halts, lines_after, trace_text, end_of, prelude_text, glyph_trace}
 use Rattle.fx_trace.specs.inner.Ending.{ended, result_of, EndsText, Sees, NoneLeft, Ran}
 use Rattle.fx_trace.proofs.Telling.{told, lines_joined, kept_after_all}
@@ -70,29 +70,29 @@ ran_so Sees known was now r e runs some others i j w n =
     let P : Result (Unit {0}) HintFault → Type 0 = λ q. NoneLeft q others in
     (some, others, j, w, subst P (sym i) (none_by_end r others n))
 
-module _ {W : Type 0} (wanted : W → Wanted) (text : W → TextView) (before : W → Option SnapshotView)
+module _ {W : Type 0} (wanted : W → TracedPrograms) (text : W → TextView) (before : W → Option SnapshotView)
     (outcome : W → Result (Unit {0}) Stop)
     (sink : GName) (held : Option (List ℕ)) (faults : ℕ) (was now : W) (last : TextView) (told_last : Result (Unit {0}) Stop)
     (begins : text was ≡ begun sink held faults) (well : outcome was ≡ Ok tt) (off : before was ≡ None)
     (ends : EndsText (text now) (outcome now) last told_last) where
   -- what was added, when the text ended
-  added : (w : Wanted) (es : List RunEvent) → wanted was ≡ w → WatchesAll (Sees wanted text before outcome) was es now
+  added : (w : TracedPrograms) (es : List RunEvent) → wanted was ≡ w → WatchesAll (Sees wanted text before outcome) was es now
       → Adds Halts (begun sink held faults) last (lines_after w None es) told_last × OnOk told_last (last.waiting ≡ [])
   added w es e seen =
       let a = told wanted text before outcome was now es seen well in
-      let P : TextView → Wanted → Option SnapshotView → Type 0 =
+      let P : TextView → TracedPrograms → Option SnapshotView → Type 0 =
       λ t v b. Adds Halts t (text now) (lines_after v b es) (outcome now) in
       let b : P (begun sink held faults) (wanted was) (before was) =
       (let Q : TextView → Type 0 = λ t. P t (wanted was) (before was) in subst Q begins a) in
       let c : P (begun sink held faults) w (before was) =
-      (let Q : Wanted → Type 0 = λ v. P (begun sink held faults) v (before was) in subst Q e b) in
+      (let Q : TracedPrograms → Type 0 = λ v. P (begun sink held faults) v (before was) in subst Q e b) in
       let d : P (begun sink held faults) w None =
       (let Q : Option SnapshotView → Type 0 = λ v. P (begun sink held faults) w v in subst Q off c) in
       text_ended (outcome now) told_last d ends
 
   -- the sink is the same
-  pub same_sink : (w : Wanted) (es : List RunEvent) → wanted was ≡ w → WatchesAll (Sees wanted text before outcome) was es now
-      → last.sink ≡ sink
+  pub same_sink : (w : TracedPrograms) (es : List RunEvent) → wanted was ≡ w
+      → WatchesAll (Sees wanted text before outcome) was es now → last.sink ≡ sink
   same_sink w es e seen = (added w es e seen).0.same
 
   module _ (known : Known) (face : Face) (ppem g : ℕ) where
@@ -141,7 +141,7 @@ module _ {W : Type 0} (wanted : W → Wanted) (text : W → TextView) (before : 
 
   -- ---- `fpgm` and `prep`
 
-  module _ (face : Face) (ppem : ℕ) (w : Wanted) where
+  module _ (face : Face) (ppem : ℕ) (w : TracedPrograms) where
     abbrev all : List ℕ
     all = lines_after w None (events_for None (machine_events face ppem))
 

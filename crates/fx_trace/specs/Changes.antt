@@ -6,13 +6,13 @@ use Rattle.std.specs.Fmt.{decimal, signed_decimal}
 use Rattle.fx_fixed.specs.declared.places.Place.{Place}
 use Rattle.fx_gstate.specs.declared.rounding.RoundState.{RoundState}
 use Rattle.fx_gstate.specs.declared.rounding.RoundState.TheVariants.{ToGrid, ToHalfGrid, ToDoubleGrid, DownToGrid, UpToGrid, Off, Super}
-use Rattle.fx_gstate.specs.declared.scan.Dropout.{Dropout}
-use Rattle.fx_gstate.specs.declared.scan.Dropout.TheVariants.{Leftmost, Nearest}
-use Rattle.fx_gstate.specs.declared.scan.Dropout.TheVariants as dropout
+use Rattle.fx_gstate.specs.declared.scan.ScanType.{ScanType}
+use Rattle.fx_gstate.specs.declared.scan.ScanType.TheVariants.{Leftmost, Nearest}
+use Rattle.fx_gstate.specs.declared.scan.ScanType.TheVariants as dropout
 use Rattle.fx_gstate.specs.declared.state.GState.{GState}
 use Rattle.fx_gstate.specs.declared.zones.ZonePointer.{ZonePointer}
 use Rattle.fx_gstate.specs.declared.zones.ZonePointer.TheVariants.{Twilight, Glyph}
-use Rattle.fx_zone.specs.declared.point.Point.{Point}
+use Rattle.fx_zone.specs.declared.point.ZonePoint.{ZonePoint}
 use Rattle.fx_trace.specs.declared.settings.Setting.{Setting}
 use Rattle.fx_trace.specs.declared.settings.Setting.TheVariants as setting
 use Rattle.fx_trace.specs.declared.settings.TheConstants.{SETTINGS}
@@ -86,22 +86,22 @@ abbrev pub mark_change : List ℕ → ℕ → ℕ → Bool → Bool → List ℕ
 mark_change name zone n was now = if bit_of was == bit_of now then [] else mark_text name zone n (bit_of was) (bit_of now)
 
 -- its current place, its original place, whether it is touched along x and y, and whether it is on the curve
-abbrev pub places_change : ℕ → ℕ → Point → Point → List ℕ
+abbrev pub places_change : ℕ → ℕ → ZonePoint → ZonePoint → List ℕ
 places_change zone n was now =
     place_change (codes "point") zone n was.cur now.cur ++ place_change (codes "original") zone n was.org now.org
 
-abbrev pub touched_change : ℕ → ℕ → Point → Point → List ℕ
+abbrev pub touched_change : ℕ → ℕ → ZonePoint → ZonePoint → List ℕ
 touched_change zone n was now =
     mark_change (codes "touched-x") zone n was.touched_x now.touched_x
     ++ mark_change (codes "touched-y") zone n was.touched_y now.touched_y
 
-abbrev pub marks_change : ℕ → ℕ → Point → Point → List ℕ
+abbrev pub marks_change : ℕ → ℕ → ZonePoint → ZonePoint → List ℕ
 marks_change zone n was now = touched_change zone n was now ++ mark_change (codes "on-curve") zone n was.on now.on
 
-unfoldable pub point_change : ℕ → ℕ → Point → Point → List ℕ
+unfoldable pub point_change : ℕ → ℕ → ZonePoint → ZonePoint → List ℕ
 point_change zone n was now = places_change zone n was now ++ marks_change zone n was now
 
-abbrev pub points_text : ℕ → List Point → List Point → List ℕ
+abbrev pub points_text : ℕ → List ZonePoint → List ZonePoint → List ℕ
 points_text zone was now = each_from (point_change zone) 0 was now
 
 -- ---- the graphics state
@@ -116,7 +116,7 @@ control_number None = negsuc 0
 control_number (Some on) = pos (bit_of on)
 
 -- the least type of SCANTYPE that asks for this drop-out control
-abbrev pub type_number : Dropout → ℤ
+abbrev pub type_number : ScanType → ℤ
 type_number Leftmost = pos 0
 type_number dropout.Off = pos 2
 type_number Nearest = pos 4

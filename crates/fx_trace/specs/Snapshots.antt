@@ -1,19 +1,19 @@
 -- What lines compare of two states, and the text of what differs (own).
 use Rattle.std.specs.Prelude.{◌≡◌, ℕ, ℤ, List, ◌++◌, codes, length, Option, Some, None}
 use Rattle.fx_gstate.specs.declared.state.GState.{GState}
-use Rattle.fx_zone.specs.declared.point.Point.{Point}
-use Rattle.fx_machine.specs.declared.state.Flags.{Flags}
+use Rattle.fx_zone.specs.declared.point.ZonePoint.{ZonePoint}
+use Rattle.fx_machine.specs.declared.state.InstructControl.{InstructControl}
 use Rattle.fx_machine.specs.declared.state.State.{State}
 use Rattle.fx_trace.specs.Changes.{bit_of, count_change, cells_text, points_text, graphics_text}
 
 -- the points of both zones, the storage area, the control values, the graphics state, and what INSTCTRL set
 pub record SnapshotView : Type 0 where
-  pub twilight : List Point
-  pub glyph : List Point
+  pub twilight : List ZonePoint
+  pub glyph : List ZonePoint
   pub storage : List ℤ
   pub cvt : List ℤ
   pub graphics : GState
-  pub flags : Flags
+  pub flags : InstructControl
 
 abbrev pub snapshot_of : State → SnapshotView
 snapshot_of s = record {
@@ -45,7 +45,7 @@ zones_text was now = points_text 0 was.twilight now.twilight ++ points_text 1 wa
 abbrev pub tables_text : SnapshotView → SnapshotView → List ℕ
 tables_text was now = cells_text (codes "storage") was.storage now.storage ++ cells_text (codes "cvt") was.cvt now.cvt
 
-abbrev pub flags_text : Flags → Flags → List ℕ
+abbrev pub flags_text : InstructControl → InstructControl → List ℕ
 flags_text was now =
     count_change (codes "no-programs") (bit_of was.no_programs) (bit_of now.no_programs)
     ++ count_change (codes "default-state") (bit_of was.default_state) (bit_of now.default_state)

@@ -30,44 +30,44 @@ use Rattle.fx_trace.specs.declared.fault.Stop.{Stop}
 use Rattle.fx_trace.specs.declared.fault.Stop.TheVariants as stop
 use Rattle.fx_trace.specs.declared.fault.TraceFault.{TraceFault}
 use Rattle.fx_trace.specs.declared.fault.TraceFault.TheVariants.{Cause, WriteFailed, OutOfMemory}
-use Rattle.fx_trace.specs.declared.wanted.Wanted.{Wanted}
-use Rattle.fx_trace.specs.declared.wanted.Wanted.TheVariants.{Fpgm, Prep, Each}
+use Rattle.fx_trace.specs.declared.wanted.TracedPrograms.{TracedPrograms}
+use Rattle.fx_trace.specs.declared.wanted.TracedPrograms.TheVariants.{Fpgm, Prep, Each}
 use Rattle.fx_trace.specs.Snapshots.{SnapshotView, snapshot_of}
 use Rattle.fx_trace.specs.Lines.{begin_text, line_text}
 
 -- ---- the text of events
 
 -- whether a program that begins is one that is wanted
-abbrev pub is_wanted : Wanted → FontProgram → Bool
+abbrev pub is_wanted : TracedPrograms → FontProgram → Bool
 is_wanted Fpgm program.Fpgm = true
 is_wanted Prep program.Prep = true
 is_wanted Each p = true
 is_wanted _ _ = false
 
 -- the lines of an event of a program that runs for a component or a root, by the state before it, if lines are written
-abbrev pub told_by : Wanted → Option ComponentOf → Option SnapshotView → Event → List ℕ
+abbrev pub told_by : TracedPrograms → Option ComponentOf → Option SnapshotView → Event → List ℕ
 told_by wanted component before (Begins program s) = if is_wanted wanted program then begin_text component program else []
 told_by wanted component None (Executed program code address calls s) = []
 told_by wanted component (Some before) (Executed program code address calls s) = line_text program code address before s
 
-abbrev pub told_of : Wanted → Option SnapshotView → RunEvent → List ℕ
+abbrev pub told_of : TracedPrograms → Option SnapshotView → RunEvent → List ℕ
 told_of wanted before x = told_by wanted x.component before x.event
 
 -- the state after it, if lines are written then
-abbrev pub kept_by : Wanted → Option SnapshotView → Event → Option SnapshotView
+abbrev pub kept_by : TracedPrograms → Option SnapshotView → Event → Option SnapshotView
 kept_by wanted before (Begins program s) = if is_wanted wanted program then Some (snapshot_of s) else None
 kept_by wanted None (Executed program code address calls s) = None
 kept_by wanted (Some before) (Executed program code address calls s) = Some (snapshot_of s)
 
-abbrev pub kept_after : Wanted → Option SnapshotView → RunEvent → Option SnapshotView
+abbrev pub kept_after : TracedPrograms → Option SnapshotView → RunEvent → Option SnapshotView
 kept_after wanted before x = kept_by wanted before x.event
 
 -- the lines of events in turn: those of the programs that are wanted, from where each begins
-abbrev pub lines_after : Wanted → Option SnapshotView → List RunEvent → List ℕ
+abbrev pub lines_after : TracedPrograms → Option SnapshotView → List RunEvent → List ℕ
 lines_after wanted before [] = []
 lines_after wanted before (x ∷ xs) = told_of wanted before x ++ lines_after wanted (kept_after wanted before x) xs
 
-unfoldable pub trace_text : Wanted → List RunEvent → List ℕ
+unfoldable pub trace_text : TracedPrograms → List RunEvent → List ℕ
 trace_text wanted events = lines_after wanted None events
 
 -- ---- traces
@@ -87,7 +87,7 @@ abbrev pub if_there : List ℕ → List ℕ → List ℕ
 if_there code text = if nat_eq (length code) 0 then [] else text
 
 -- the lines of `fpgm` or of `prep` at a size
-abbrev pub prelude_text : Face → ℕ → Wanted → List ℕ
+abbrev pub prelude_text : Face → ℕ → TracedPrograms → List ℕ
 prelude_text face ppem wanted = trace_text wanted (events_for None (machine_events face ppem))
 
 -- what `fpgm` comes to
@@ -160,8 +160,8 @@ Halts (stop.WriterFailed k) n faults_before faults = (k ≡ n) × (faults ≡ fa
 Halts stop.OutOfMemory n faults_before faults = faults ≡ faults_before
 
 -- the lines of an event are added to a text, or the text stops; then nothing more is added
-abbrev pub Tells : Wanted → TextView → Option SnapshotView → Result (Unit {0}) Stop → RunEvent → TextView → Option SnapshotView
-    → Result (Unit {0}) Stop
+abbrev pub Tells : TracedPrograms → TextView → Option SnapshotView → Result (Unit {0}) Stop → RunEvent → TextView
+    → Option SnapshotView → Result (Unit {0}) Stop
     → Type 0
 Tells wanted was before (Ok u) x now next outcome =
     Adds Halts was now (told_of wanted before x) outcome × OnOk outcome (next ≡ kept_after wanted before x)

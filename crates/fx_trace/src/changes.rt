@@ -12,7 +12,7 @@ ghost use Rattle.fx_trace.specs.Changes.{settings_text, round_change, vectors_te
 use crate::settings::{SETTINGS, Setting, bit_of, round_name, round_number};
 use fx_fixed::{Digits, Place, Sink, TextWriter, WriteFailed};
 use fx_gstate::{GState, RoundState, Vector};
-use fx_zone::Point;
+use fx_zone::ZonePoint;
 
 /// Adds the text of it.
 #[tactic(auto, unfolding(crate::specs::Changes::number_text))]
@@ -305,8 +305,8 @@ fn add_places<S: Sink>(
     text: &mut TextWriter<'_, S>,
     zone: u8,
     number: usize,
-    was: &Point,
-    now: &Point,
+    was: &ZonePoint,
+    now: &ZonePoint,
 ) -> Result<(), WriteFailed>
     requires { text.old.faults < 2 ^ 63 }
     ensures { Adds Fails text.old text.new (places_change zone number was.now now.now) result }
@@ -320,8 +320,8 @@ fn add_touched<S: Sink>(
     text: &mut TextWriter<'_, S>,
     zone: u8,
     number: usize,
-    was: &Point,
-    now: &Point,
+    was: &ZonePoint,
+    now: &ZonePoint,
 ) -> Result<(), WriteFailed>
     requires { text.old.faults < 2 ^ 63 }
     ensures { Adds Fails text.old text.new (touched_change zone number was.now now.now) result }
@@ -349,8 +349,8 @@ fn add_marks<S: Sink>(
     text: &mut TextWriter<'_, S>,
     zone: u8,
     number: usize,
-    was: &Point,
-    now: &Point,
+    was: &ZonePoint,
+    now: &ZonePoint,
 ) -> Result<(), WriteFailed>
     requires { text.old.faults < 2 ^ 63 }
     ensures { Adds Fails text.old text.new (marks_change zone number was.now now.now) result }
@@ -365,8 +365,8 @@ fn add_point<S: Sink>(
     text: &mut TextWriter<'_, S>,
     zone: u8,
     number: usize,
-    was: &Point,
-    now: &Point,
+    was: &ZonePoint,
+    now: &ZonePoint,
 ) -> Result<(), WriteFailed>
     requires { text.old.faults < 2 ^ 63 }
     ensures { Adds Fails text.old text.new (point_change zone number was.now now.now) result }
@@ -379,8 +379,8 @@ fn add_point<S: Sink>(
 pub fn add_points<S: Sink>(
     text: &mut TextWriter<'_, S>,
     zone: u8,
-    was: &[Point],
-    now: &[Point],
+    was: &[ZonePoint],
+    now: &[ZonePoint],
 ) -> Result<(), WriteFailed>
     requires { text.old.faults < 2 ^ 63 }
     ensures { Adds Fails text.old text.new (points_text zone was.now now.now) result }

@@ -9,7 +9,7 @@ use crate::changes::{add_cells, add_count, add_graphics, add_points};
 use crate::settings::bit_of;
 use crate::snapshot::Snapshot;
 use fx_fixed::{Sink, TextWriter, WriteFailed};
-use fx_machine::{Flags, State};
+use fx_machine::{InstructControl, State};
 
 /// Adds the changes of the twilight zone's points.
 fn add_twilight<S: Sink>(
@@ -106,8 +106,8 @@ fn add_flag<S: Sink>(
 /// Adds the changes of what INSTCTRL set.
 fn add_flags<S: Sink>(
     text: &mut TextWriter<'_, S>,
-    was: Flags,
-    now: Flags,
+    was: InstructControl,
+    now: InstructControl,
 ) -> Result<(), WriteFailed>
     requires { text.old.faults < 2 ^ 63 }
     ensures { Adds Fails text.old text.new (flags_text was now) result }

@@ -14,7 +14,7 @@ ghost use Rattle.fx_trace.specs.inner.Ending.{Ran, Sees};
 use crate::ending::{end_of, result_of};
 use crate::fault::TraceFault;
 use crate::tracer::Tracer;
-use crate::wanted::Wanted;
+use crate::wanted::TracedPrograms;
 use fx_fixed::{Ppem, Sink};
 use fx_hint::{HintFault, RunWatcher, WatchedMachine, outline_with};
 use fx_machine::Machine;
@@ -62,7 +62,7 @@ pub fn trace_glyph<S: Sink>(
     ensures { Traces (glyph_trace machine.entry.known font.now ppem g)
         (change_of S.held S.fault_count out.old out.new) result }
 {
-    let tracer = Tracer::new(alloc, out, Wanted::Each);
+    let tracer = Tracer::new(alloc, out, TracedPrograms::Each);
     let (mut tracer, end) = outline_watched(alloc, machine, font, ppem, g, tracer);
     let told = tracer.end();
     tracer.close();

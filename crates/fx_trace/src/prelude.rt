@@ -13,7 +13,7 @@ ghost use Rattle.fx_trace.specs.inner.Ending.{ended, fpgm_end, result_of};
 use crate::ending::{fpgm_end, result_of};
 use crate::fault::{Stop, TraceFault};
 use crate::tracer::Tracer;
-use crate::wanted::Wanted;
+use crate::wanted::TracedPrograms;
 use fx_fixed::{Ppem, Sink};
 use fx_hint::{HintFault, RunWatcher};
 use fx_machine::{Machine, MachineFault, Unwatched};
@@ -50,7 +50,7 @@ fn run_told<S: Sink>(
     alloc: Global,
     font: &Font<'_>,
     ppem: Ppem,
-    wanted: Wanted,
+    wanted: TracedPrograms,
     out: &mut S,
 ) -> (Result<(), Stop>, Result<(), HintFault>)
     requires { S.fault_count out.old < 2 ^ 63 }
@@ -77,7 +77,7 @@ fn run_both<S: Sink>(
     alloc: Global,
     font: &Font<'_>,
     ppem: Ppem,
-    wanted: Wanted,
+    wanted: TracedPrograms,
     tag: [u8; 4],
     out: &mut S,
 ) -> (Result<(), Stop>, Result<(), HintFault>)
@@ -107,7 +107,7 @@ pub fn trace_fpgm<S: Sink>(
     requires { S.fault_count out.old < 2 ^ 63 }
     ensures { Traces (fpgm_trace font.now ppem) (change_of S.held S.fault_count out.old out.new) result }
 {
-    let (told, end) = run_both(alloc, font, ppem, Wanted::Fpgm, *b"fpgm", out);
+    let (told, end) = run_both(alloc, font, ppem, TracedPrograms::Fpgm, *b"fpgm", out);
     result_of(told, fpgm_end(end))
 }
 
@@ -124,6 +124,6 @@ pub fn trace_prep<S: Sink>(
     requires { S.fault_count out.old < 2 ^ 63 }
     ensures { Traces (prep_trace font.now ppem) (change_of S.held S.fault_count out.old out.new) result }
 {
-    let (told, end) = run_both(alloc, font, ppem, Wanted::Prep, *b"prep", out);
+    let (told, end) = run_both(alloc, font, ppem, TracedPrograms::Prep, *b"prep", out);
     result_of(told, end)
 }

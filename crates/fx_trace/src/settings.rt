@@ -3,7 +3,7 @@
 ghost use Rattle.std.specs.Prelude.{◌≡◌};
 ghost use Rattle.fx_trace.specs.Changes.{setting_name, setting_of, zone_number, control_number, type_number, bit_of, round_name, round_number};
 
-use fx_gstate::{Dropout, GState, RoundState, ZonePointer};
+use fx_gstate::{GState, RoundState, ScanType, ZonePointer};
 
 /// A number of the graphics state (Apple TrueType Reference Manual, "Graphics state").
 #[derive(Clone, Copy, Debug, PartialEq, Eq)]
@@ -73,13 +73,13 @@ fn control_number(control: Option<bool>) -> i32
 }
 
 /// The least type of SCANTYPE that asks for this drop-out control.
-fn type_number(kind: Dropout) -> i32
+fn type_number(kind: ScanType) -> i32
     ensures { result ≡ type_number kind }
 {
     match kind {
-        Dropout::Leftmost => 0,
-        Dropout::Off => 2,
-        Dropout::Nearest => 4,
+        ScanType::Leftmost => 0,
+        ScanType::Off => 2,
+        ScanType::Nearest => 4,
     }
 }
 

@@ -4,20 +4,20 @@ ghost use Rattle.std.specs.Prelude.{◌≡◌, length, IfOk, IsTrue};
 ghost use Rattle.fx_trace.specs.Snapshots.{snapshot_of, HasSizesOf, IsRoomFor};
 
 use fx_gstate::GState;
-use fx_machine::{Flags, State};
-use fx_zone::Point;
+use fx_machine::{InstructControl, State};
+use fx_zone::ZonePoint;
 use std::alloc::{AllocError, Global};
 use std::marker::Model;
 
 /// The parts of a state that lines compare.
 #[derive(Drop)]
 pub struct Snapshot {
-    twilight: Vec<Point>,
-    glyph: Vec<Point>,
+    twilight: Vec<ZonePoint>,
+    glyph: Vec<ZonePoint>,
     storage: Vec<i32>,
     cvt: Vec<i32>,
     graphics: GState,
-    flags: Flags,
+    flags: InstructControl,
 }
 
 impl Model for Snapshot {
@@ -45,7 +45,7 @@ fn copy_of_numbers(alloc: Global, numbers: &[i32]) -> Result<Vec<i32>, AllocErro
 }
 
 /// A list of points again.
-fn copy_of_points(alloc: Global, points: &[Point]) -> Result<Vec<Point>, AllocError>
+fn copy_of_points(alloc: Global, points: &[ZonePoint]) -> Result<Vec<ZonePoint>, AllocError>
     ensures { IfOk result (λ copy. copy.items ≡ points.now) }
 {
     let mut copy = Vec::new(alloc);
@@ -119,14 +119,14 @@ impl Snapshot {
     }
 
     /// The points of the twilight zone.
-    pub fn twilight(&self) -> &[Point]
+    pub fn twilight(&self) -> &[ZonePoint]
         ensures { result.now ≡ self.now.twilight }
     {
         &self.twilight
     }
 
     /// The points of the glyph zone.
-    pub fn glyph(&self) -> &[Point]
+    pub fn glyph(&self) -> &[ZonePoint]
         ensures { result.now ≡ self.now.glyph }
     {
         &self.glyph
@@ -154,7 +154,7 @@ impl Snapshot {
     }
 
     /// What INSTCTRL set.
-    pub fn flags(&self) -> Flags
+    pub fn flags(&self) -> InstructControl
         ensures { result ≡ self.now.flags }
     {
         self.flags

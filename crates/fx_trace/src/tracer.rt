@@ -11,7 +11,7 @@ use crate::ending::stop_of;
 use crate::fault::Stop;
 use crate::line::{add_begin, add_line};
 use crate::snapshot::Snapshot;
-use crate::wanted::Wanted;
+use crate::wanted::TracedPrograms;
 use fx_code::Code;
 use fx_fixed::{Sink, TextWriter};
 use fx_hint::{ComponentOf, RunWatching};
@@ -24,7 +24,7 @@ pub struct Tracer<'w, S: Sink> {
     pub alloc: Global,
     pub text: TextWriter<'w, S>,
     pub outcome: Result<(), Stop>,
-    pub wanted: Wanted,
+    pub wanted: TracedPrograms,
     /// What is kept of the state before the next instruction, if lines are written.
     pub before: Option<Snapshot>,
     ghost few: { outcome ≡ Ok tt → text.faults < 2 ^ 63 },
@@ -76,7 +76,7 @@ fn tell<S: Sink>(
 
 impl<'w, S: Sink> Tracer<'w, S> {
     /// Nothing was seen yet.
-    pub fn new(alloc: Global, sink: &'w mut S, wanted: Wanted) -> Tracer<'w, S>
+    pub fn new(alloc: Global, sink: &'w mut S, wanted: TracedPrograms) -> Tracer<'w, S>
         requires { S.fault_count sink.old < 2 ^ 63 }
         ensures text { result.text ≡ begun sink.entry.ghost_name (S.held sink.old) (S.fault_count sink.old) }
         ensures outcome { result.outcome ≡ Ok tt }

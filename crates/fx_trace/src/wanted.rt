@@ -7,7 +7,7 @@ use fx_machine::FontProgram;
 
 /// Which programs are traced, each with the functions that it calls.
 #[derive(Clone, Copy, Debug, PartialEq, Eq)]
-pub enum Wanted {
+pub enum TracedPrograms {
     /// `fpgm`.
     Fpgm,
     /// `prep`.
@@ -16,15 +16,15 @@ pub enum Wanted {
     Each,
 }
 
-impl Wanted {
+impl TracedPrograms {
     /// Whether a program that begins is traced.
     pub fn wants(self, program: FontProgram) -> bool
         ensures { result ≡ is_wanted self program }
     {
         match (self, program) {
-            (Wanted::Fpgm, FontProgram::Fpgm) => true,
-            (Wanted::Prep, FontProgram::Prep) => true,
-            (Wanted::Each, _) => true,
+            (TracedPrograms::Fpgm, FontProgram::Fpgm) => true,
+            (TracedPrograms::Prep, FontProgram::Prep) => true,
+            (TracedPrograms::Each, _) => true,
             _ => false,
         }
     }

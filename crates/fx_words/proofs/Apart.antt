@@ -3,8 +3,8 @@
 use Rattle.std.proofs.Common.{◌≡◌, ◌∙◌, refl, sym, ap, Bool, true, false, codes, Option, Some, None, if◌then◌else◌}
 use Rattle.std.specs.Prelude.{◌||◌, not}
 use Rattle.std.specs.Str.{bytes_eq}
-use Rattle.fx_words.specs.declared.parts.Kind.{Kind}
-use Rattle.fx_words.specs.declared.parts.Kind.TheVariants.{Name}
+use Rattle.fx_words.specs.declared.parts.WordKind.{WordKind}
+use Rattle.fx_words.specs.declared.parts.WordKind.TheVariants.{Name}
 use Rattle.fx_words.specs.declared.parts.Next.{Next}
 use Rattle.fx_words.specs.declared.parts.Next.TheVariants as next
 use Rattle.fx_words.specs.Parts.{NamesAreApart, PartsView, Text, end, first, first_by, is_option, kept, kind_of, named_by, put_by, step, step_by}
@@ -16,7 +16,7 @@ or_true false = refl
 after_font : (parts : PartsView) (font : Text) → parts.font ≡ None → parts.next ≡ next.Any → kind_of parts.is_make font ≡ Name
     → step parts font ≡ record parts { font = Some font; next = next.Any }
 after_font parts font f n k =
-    ap (λ (x : Next). step_by x parts font) n ∙ ap (λ (x : Kind). first_by x parts font) k
+    ap (λ (x : Next). step_by x parts font) n ∙ ap (λ (x : WordKind). first_by x parts font) k
     ∙ ap (λ (x : Option Text). named_by x parts font next.Any) f
 
 after_option : (parts : PartsView) (font : Text)

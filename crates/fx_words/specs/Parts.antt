@@ -5,8 +5,8 @@ use Rattle.std.specs.List.{after_first, before_first, fold, position_or_len}
 use Rattle.std.specs.Str.{bytes_eq}
 use Rattle.std.specs.Borrow.{Bor}
 use Rattle.fx_words.specs.declared.parts.Parts.{Parts}
-use Rattle.fx_words.specs.declared.parts.Kind.{Kind}
-use Rattle.fx_words.specs.declared.parts.Kind.TheVariants.{Output, JoinedOutput, Names, Name, Missing, Set, JoinedSet, Dropout, Valued, Flag}
+use Rattle.fx_words.specs.declared.parts.WordKind.{WordKind}
+use Rattle.fx_words.specs.declared.parts.WordKind.TheVariants.{Output, JoinedOutput, Names, Name, Missing, Set, JoinedSet, Dropout, Valued, Flag}
 use Rattle.fx_words.specs.declared.parts.Next.{Next}
 use Rattle.fx_words.specs.declared.parts.Next.TheVariants as next
 
@@ -84,13 +84,13 @@ takes_value word =
     || (bytes_eq word (codes "--char") || (bytes_eq word (codes "--glyph") || bytes_eq word (codes "--of"))))))))
 
 -- what a word is that is no value
-abbrev pub other_kind : Bool → Text → Kind
+abbrev pub other_kind : Bool → Text → WordKind
 other_kind is_make word =
     if is_make && is_joined_set word then JoinedSet
     else (if has_joined_output word then JoinedOutput
     else (if takes_value word then Valued else (if is_option word then Flag else Name)))
 
-abbrev pub kind_of : Bool → Text → Kind
+abbrev pub kind_of : Bool → Text → WordKind
 kind_of is_make word =
     if bytes_eq word (codes "-o") then Output
     else (if bytes_eq word (codes "-") then Name
@@ -116,7 +116,7 @@ put_by None parts word = record parts { output = Some word; next = next.Any }
 put_by (Some output) parts word = kept (kept parts (codes "-o") next.Any) word next.Any
 
 -- a word that is no value
-abbrev pub first_by : Kind → PartsView → Text → PartsView
+abbrev pub first_by : WordKind → PartsView → Text → PartsView
 first_by Output parts word = record parts { next = next.Output }
 first_by JoinedOutput parts word = put_by parts.output parts (joined_output word)
 first_by Names parts word = record parts { next = next.Name }

@@ -24,7 +24,7 @@ pub enum Next {
 
 /// What a word is that is no value.
 #[derive(Clone, Copy)]
-pub enum Kind {
+pub enum WordKind {
     /// `-o`.
     Output,
     /// `-oNAME`.
@@ -125,26 +125,26 @@ impl<'a> Parts<'a> {
     }
 
     /// Takes a word of a kind.
-    fn take_kind(&mut self, kind: Kind, word: &'a str) -> Result<(), AllocError>
+    fn take_kind(&mut self, kind: WordKind, word: &'a str) -> Result<(), AllocError>
         ensures { OnOk result (seen self.new ≡ first_by kind (seen self.old) word.entry.now) }
     {
         match kind {
-            Kind::Output => self.next = Next::Output,
-            Kind::Names => self.next = Next::Name,
-            Kind::Missing => {
+            WordKind::Output => self.next = Next::Output,
+            WordKind::Names => self.next = Next::Name,
+            WordKind::Missing => {
                 self.names_all = true;
                 self.next = Next::Any;
             }
-            Kind::JoinedOutput => return self.put(joined_output(word)),
-            Kind::Name => return self.take_name(word, Next::Any),
-            Kind::Set => return self.keep("--chars", Next::Set),
-            Kind::JoinedSet => {
+            WordKind::JoinedOutput => return self.put(joined_output(word)),
+            WordKind::Name => return self.take_name(word, Next::Any),
+            WordKind::Set => return self.keep("--chars", Next::Set),
+            WordKind::JoinedSet => {
                 self.keep("--chars", Next::Any)?;
                 return self.keep(self.listed, Next::Any);
             }
-            Kind::Dropout => return self.keep(word, Next::Dropout),
-            Kind::Valued => return self.keep(word, Next::Value),
-            Kind::Flag => return self.keep(word, Next::Any),
+            WordKind::Dropout => return self.keep(word, Next::Dropout),
+            WordKind::Valued => return self.keep(word, Next::Value),
+            WordKind::Flag => return self.keep(word, Next::Any),
         }
         Ok(())
     }
@@ -230,40 +230,40 @@ impl<'a> Parts<'a> {
 }
 
 /// What a word is that is no value.
-fn kind_of(is_make: bool, word: &str) -> Kind
+fn kind_of(is_make: bool, word: &str) -> WordKind
     ensures { result ≡ kind_of is_make word.now }
 {
     if word == "-o" {
-        Kind::Output
+        WordKind::Output
     } else if word == "-" {
-        Kind::Name
+        WordKind::Name
     } else if word == "--" {
-        Kind::Names
+        WordKind::Names
     } else if word == "--dropout" {
-        Kind::Dropout
+        WordKind::Dropout
     } else if is_make && word == "--missing" {
-        Kind::Missing
+        WordKind::Missing
     } else if is_make && word == "--set" {
-        Kind::Set
+        WordKind::Set
     } else {
         other_kind(is_make, word)
     }
 }
 
 /// What a word is that is none of these.
-fn other_kind(is_make: bool, word: &str) -> Kind
+fn other_kind(is_make: bool, word: &str) -> WordKind
     ensures { result ≡ other_kind is_make word.now }
 {
     if is_make && is_joined_set(word) {
-        Kind::JoinedSet
+        WordKind::JoinedSet
     } else if has_joined_output(word) {
-        Kind::JoinedOutput
+        WordKind::JoinedOutput
     } else if takes_value(word) {
-        Kind::Valued
+        WordKind::Valued
     } else if is_option(word) {
-        Kind::Flag
+        WordKind::Flag
     } else {
-        Kind::Name
+        WordKind::Name
     }
 }
 

@@ -4,7 +4,7 @@ use Rattle.std.proofs.Common.{◌≡◌, refl, ap, ◌∙◌, arith, ℕ, zero, 
 use Rattle.std.proofs.Common.{if◌then◌else◌, List, [], ◌∷◌, length, get_or, set, Option, add-one}
 use Rattle.std.specs.Prelude.{nat_le}
 use Rattle.std.proofs.lemmas.Bool.{lt-ltb, le-ltb, le-leb, lt-leb}
-use Rattle.fx_zone.specs.declared.point.Point.{Point}
+use Rattle.fx_zone.specs.declared.point.ZonePoint.{ZonePoint}
 use Rattle.fx_zone.specs.Figures.{each_changed, in_range, in_range_without, is_number}
 
 -- ---- the numbers of a range
@@ -39,13 +39,13 @@ without_inside except first past m b h k e = rw (le-leb first m h, lt-ltb m past
 
 -- ---- the first points of a list, each changed if the test chooses its number
 
-module _ (t : ℕ → Bool) (change : Point → Point) where
-  pub changed_front : ℕ → ℕ → List Point → List Point
+module _ (t : ℕ → Bool) (change : ZonePoint → ZonePoint) where
+  pub changed_front : ℕ → ℕ → List ZonePoint → List ZonePoint
   changed_front zero n xs = xs
   changed_front (suc k) n [] = []
   changed_front (suc k) n (x ∷ xs) = (if t n then change x else x) ∷ changed_front k (suc n) xs
 
-  front_set : (k n m : ℕ) (xs : List Point) (p : Point) → k < length xs → m ≡ n + k → t m ≡ true
+  front_set : (k n m : ℕ) (xs : List ZonePoint) (p : ZonePoint) → k < length xs → m ≡ n + k → t m ≡ true
       → set (changed_front k n xs) k (change (get_or (changed_front k n xs) k p)) ≡ changed_front (suc k) n xs
   unfolding changed_front
   front_set k n m [] p h e b = absurd (omega (arith, h))
@@ -53,7 +53,7 @@ module _ (t : ℕ → Bool) (change : Point → Point) where
   front_set (suc k) n m (x ∷ xs) p h e b =
       ap (λ l. (if t n then change x else x) ∷ l) (front_set k (suc n) m xs p (omega (arith, h)) (omega (arith, e)) b)
 
-  front_skip : (k n m : ℕ) (xs : List Point) → m ≡ n + k → t m ≡ false → changed_front k n xs ≡ changed_front (suc k) n xs
+  front_skip : (k n m : ℕ) (xs : List ZonePoint) → m ≡ n + k → t m ≡ false → changed_front k n xs ≡ changed_front (suc k) n xs
   unfolding changed_front
   front_skip zero n m [] e b = refl
   front_skip zero n m (x ∷ xs) e b = let s : m ≡ n = omega (arith, e) in rw (rw s at b) refl
@@ -61,14 +61,14 @@ module _ (t : ℕ → Bool) (change : Point → Point) where
   front_skip (suc k) n m (x ∷ xs) e b =
       ap (λ l. (if t n then change x else x) ∷ l) (front_skip k (suc n) m xs (omega (arith, e)) b)
 
-  front_none : (k n : ℕ) (xs : List Point) → ((m : ℕ) → m < n + k → t m ≡ false) → xs ≡ changed_front k n xs
+  front_none : (k n : ℕ) (xs : List ZonePoint) → ((m : ℕ) → m < n + k → t m ≡ false) → xs ≡ changed_front k n xs
   unfolding changed_front
   front_none zero n xs h = refl
   front_none (suc k) n [] h = refl
   front_none (suc k) n (x ∷ xs) h =
       rw (h n (omega arith)) (ap (λ l. x ∷ l) (front_none k (suc n) xs (λ m l. h m (omega (arith, l)))))
 
-  front_all : (k n : ℕ) (xs : List Point) → ((m : ℕ) → n + k ≤ m → t m ≡ false)
+  front_all : (k n : ℕ) (xs : List ZonePoint) → ((m : ℕ) → n + k ≤ m → t m ≡ false)
       → changed_front k n xs ≡ each_changed t change n xs
   unfolding changed_front each_changed
   front_all zero n [] h = refl
@@ -80,18 +80,18 @@ module _ (t : ℕ → Bool) (change : Point → Point) where
 
   -- ---- the loop
 
-  pub range_begun : (first past : ℕ) (xs : List Point) → Chooses t first past → xs ≡ changed_front first 0 xs
+  pub range_begun : (first past : ℕ) (xs : List ZonePoint) → Chooses t first past → xs ≡ changed_front first 0 xs
   range_begun first past xs c = front_none first 0 xs (λ m l. c.before m (omega (arith, l)))
 
-  pub range_step : (n : ℕ) (xs ys : List Point) (p v : Point) → ys ≡ changed_front n 0 xs → n < length xs → t n ≡ true
+  pub range_step : (n : ℕ) (xs ys : List ZonePoint) (p v : ZonePoint) → ys ≡ changed_front n 0 xs → n < length xs → t n ≡ true
       → p ≡ get_or ys n p → v ≡ change p → set ys n v ≡ changed_front (n + 1) 0 xs
   range_step n xs ys p v e h b g c =
       let value : v ≡ change (get_or (changed_front n 0 xs) n p) = c ∙ ap change (g ∙ ap (λ l. get_or l n p) e) in
       (λ i. set (e i) n (value i)) ∙ rw add-one (front_set n 0 n xs p h (omega arith) b)
 
-  pub range_skip : (n : ℕ) (xs ys : List Point) → ys ≡ changed_front n 0 xs → t n ≡ false → ys ≡ changed_front (n + 1) 0 xs
+  pub range_skip : (n : ℕ) (xs ys : List ZonePoint) → ys ≡ changed_front n 0 xs → t n ≡ false → ys ≡ changed_front (n + 1) 0 xs
   range_skip n xs ys e b = e ∙ rw add-one (front_skip n 0 n xs (omega arith) b)
 
-  pub range_whole : (first past n : ℕ) (xs ys : List Point) → ys ≡ changed_front n 0 xs → Chooses t first past → past ≤ n
+  pub range_whole : (first past n : ℕ) (xs ys : List ZonePoint) → ys ≡ changed_front n 0 xs → Chooses t first past → past ≤ n
       → ys ≡ each_changed t change 0 xs
   range_whole first past n xs ys e c h = e ∙ front_all n 0 xs (λ m l. c.after m (omega (arith, l, h)))

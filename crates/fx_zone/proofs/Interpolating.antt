@@ -11,7 +11,7 @@ use Rattle.std.proofs.lemmas.Option.{slice_get-get_or}
 use Rattle.std.specs.Prelude.{option_map}
 use borrow.Rule.Slice.PartMut.{put_mid}
 use Rattle.std.proofs.lemmas.Int.{ints, by_lt_z}
-use Rattle.fx_zone.specs.declared.point.Point.{Point}
+use Rattle.fx_zone.specs.declared.point.ZonePoint.{ZonePoint}
 use Rattle.fx_fixed.specs.declared.places.Axis.{Axis}
 use Rattle.fx_zone.specs.Interpolation.{is_touched, between, between_any, first_touched, untouched_run, point_before, interpolated}
 use Rattle.fx_zone.specs.Interpolation.{each_interpolated, contour_interpolated, part_interpolated, contours_interpolated}
@@ -20,14 +20,14 @@ use Rattle.fx_zone.specs.Figures.{Figure, first_of, contour_of}
 
 -- ---- the first touched point
 
-some_or_none : {C : Type 0} (p : Point) → Some p ≡ None → C
+some_or_none : {C : Type 0} (p : ZonePoint) → Some p ≡ None → C
 some_or_none p h = absurd (grind (arith, h))
 
-hit : (axis : Axis) (p : Point) (ps : List Point) → is_touched axis p ≡ true → first_touched axis (p ∷ ps) ≡ Some p
+hit : (axis : Axis) (p : ZonePoint) (ps : List ZonePoint) → is_touched axis p ≡ true → first_touched axis (p ∷ ps) ≡ Some p
 unfolding first_touched
 hit axis p ps h = rw h refl
 
-missed : (axis : Axis) (p : Point) (ps : List Point) → is_touched axis p ≡ false
+missed : (axis : Axis) (p : ZonePoint) (ps : List ZonePoint) → is_touched axis p ≡ false
     → first_touched axis (p ∷ ps) ≡ first_touched axis ps
 unfolding first_touched
 missed axis p ps h = rw h refl
@@ -36,15 +36,15 @@ none_in_nothing : (axis : Axis) → first_touched axis [] ≡ None
 unfolding first_touched
 none_in_nothing axis = refl
 
-or_else : Option Point → Option Point → Option Point
+or_else : Option ZonePoint → Option ZonePoint → Option ZonePoint
 or_else (Some p) q = Some p
 or_else None q = q
 
-abbrev or_point : Option Point → Point → Point
+abbrev or_point : Option ZonePoint → ZonePoint → ZonePoint
 or_point (Some p) q = p
 or_point None q = q
 
-or_none : (p : Option Point) → or_else p None ≡ p
+or_none : (p : Option ZonePoint) → or_else p None ≡ p
 unfolding or_else
 or_none (Some p) = refl
 or_none None = refl
@@ -53,7 +53,7 @@ by_touch : {C : Type 0} (b : Bool) → (b ≡ true → C) → (b ≡ false → C
 by_touch true t f = t refl
 by_touch false t f = f refl
 
-first_of_both : (axis : Axis) (xs ys : List Point)
+first_of_both : (axis : Axis) (xs ys : List ZonePoint)
     → first_touched axis (xs ++ ys) ≡ or_else (first_touched axis xs) (first_touched axis ys)
 unfolding or_else
 first_of_both axis [] ys = rw (none_in_nothing axis) refl
@@ -61,23 +61,23 @@ first_of_both axis (x ∷ xs) ys = by_touch (is_touched axis x)
     (λ h. rw (hit axis x (xs ++ ys) h, hit axis x xs h) refl)
     (λ h. rw (missed axis x (xs ++ ys) h, missed axis x xs h) (first_of_both axis xs ys))
 
-reverse_cons : (p : Point) (ps : List Point) → reverse (p ∷ ps) ≡ reverse ps ++ (p ∷ [])
+reverse_cons : (p : ZonePoint) (ps : List ZonePoint) → reverse (p ∷ ps) ≡ reverse ps ++ (p ∷ [])
 reverse_cons p ps = reverse-append (p ∷ []) ps
 
 -- an untouched point at the end changes nothing
-missed_last : (axis : Axis) (xs : List Point) (p : Point) → is_touched axis p ≡ false
+missed_last : (axis : Axis) (xs : List ZonePoint) (p : ZonePoint) → is_touched axis p ≡ false
     → first_touched axis (xs ++ (p ∷ [])) ≡ first_touched axis xs
 missed_last axis xs p h = first_of_both axis xs (p ∷ [])
     ∙ ap (or_else (first_touched axis xs)) (missed axis p [] h ∙ none_in_nothing axis) ∙ or_none (first_touched axis xs)
 
-missed_behind : (axis : Axis) (behind : List Point) (p : Point) (ps : List Point) → is_touched axis p ≡ false
+missed_behind : (axis : Axis) (behind : List ZonePoint) (p : ZonePoint) (ps : List ZonePoint) → is_touched axis p ≡ false
     → first_touched axis (behind ++ reverse (p ∷ ps)) ≡ first_touched axis (behind ++ reverse ps)
 missed_behind axis behind p ps h =
     ap (λ l. first_touched axis (behind ++ l)) (reverse_cons p ps)
     ∙ ap (first_touched axis) (sym (append_assoc behind (reverse ps) (p ∷ [])))
     ∙ missed_last axis (behind ++ reverse ps) p h
 
-none_backward : (axis : Axis) (xs : List Point) → first_touched axis xs ≡ None → first_touched axis (reverse xs) ≡ None
+none_backward : (axis : Axis) (xs : List ZonePoint) → first_touched axis xs ≡ None → first_touched axis (reverse xs) ≡ None
 none_backward axis [] h = h
 none_backward axis (x ∷ xs) h = by_touch (is_touched axis x)
     (λ t. some_or_none x (sym (hit axis x xs t) ∙ h))
@@ -86,14 +86,14 @@ none_backward axis (x ∷ xs) h = by_touch (is_touched axis x)
 
 -- ---- runs
 
-run_first : (axis : Axis) (xs : List Point) (d : Point) → untouched_run axis xs < length xs
+run_first : (axis : Axis) (xs : List ZonePoint) (d : ZonePoint) → untouched_run axis xs < length xs
     → first_touched axis xs ≡ Some (get_or xs (untouched_run axis xs) d)
 unfolding untouched_run first_touched
 run_first axis [] d h = absurd (omega (arith, h))
 run_first axis (x ∷ xs) d h =
     by_touch (is_touched axis x) (λ t. rw t refl) (λ t. rw t (run_first axis xs d (omega (arith, rw t at h))))
 
-run_none : (axis : Axis) (xs : List Point) → length xs ≤ untouched_run axis xs → first_touched axis xs ≡ None
+run_none : (axis : Axis) (xs : List ZonePoint) → length xs ≤ untouched_run axis xs → first_touched axis xs ≡ None
 unfolding untouched_run first_touched
 run_none axis [] h = refl
 run_none axis (x ∷ xs) h = by_touch (is_touched axis x) (λ t. absurd (omega (arith, rw t at h)))
@@ -102,7 +102,7 @@ run_none axis (x ∷ xs) h = by_touch (is_touched axis x) (λ t. absurd (omega (
 -- ---- code's loops
 
 -- the points before a number, with the last of them first
-last_at : (axis : Axis) (xs : List Point) (left : ℕ) (p : Point) → left ≤ length xs → 0 < left
+last_at : (axis : Axis) (xs : List ZonePoint) (left : ℕ) (p : ZonePoint) → left ≤ length xs → 0 < left
     → first_touched axis (reverse xs) ≡ first_touched axis (reverse (take left xs)) → p ≡ get_or xs (left - 1) p
     → first_touched axis (reverse xs) ≡ first_touched axis (p ∷ reverse (take (left - 1) xs))
 last_at axis xs left p w n s g =
@@ -112,64 +112,65 @@ last_at axis xs left p w n s g =
     ∙ ap (first_touched axis) (reverse-append (take (left - 1) xs) (get_or xs (left - 1) p ∷ [])
     ∙ ap (λ q. q ∷ reverse (take (left - 1) xs)) (sym g))
 
-pub last_here : (axis : Axis) (xs : List Point) (left : ℕ) (p : Point) → left ≤ length xs → 0 < left
+pub last_here : (axis : Axis) (xs : List ZonePoint) (left : ℕ) (p : ZonePoint) → left ≤ length xs → 0 < left
     → first_touched axis (reverse xs) ≡ first_touched axis (reverse (take left xs)) → p ≡ get_or xs (left - 1) p
     → is_touched axis p ≡ true → Some p ≡ first_touched axis (reverse xs)
 last_here axis xs left p w n s g t = sym (last_at axis xs left p w n s g ∙ hit axis p (reverse (take (left - 1) xs)) t)
 
-pub last_before : (axis : Axis) (xs : List Point) (left : ℕ) (p : Point) → left ≤ length xs → 0 < left
+pub last_before : (axis : Axis) (xs : List ZonePoint) (left : ℕ) (p : ZonePoint) → left ≤ length xs → 0 < left
     → first_touched axis (reverse xs) ≡ first_touched axis (reverse (take left xs)) → p ≡ get_or xs (left - 1) p
     → is_touched axis p ≡ false → first_touched axis (reverse xs) ≡ first_touched axis (reverse (take (left - 1) xs))
 last_before axis xs left p w n s g t = last_at axis xs left p w n s g ∙ missed axis p (reverse (take (left - 1) xs)) t
 
-pub last_none : (axis : Axis) (xs : List Point) (left : ℕ) → left ≡ 0
+pub last_none : (axis : Axis) (xs : List ZonePoint) (left : ℕ) → left ≡ 0
     → first_touched axis (reverse xs) ≡ first_touched axis (reverse (take left xs)) → None ≡ first_touched axis (reverse xs)
 last_none axis xs left z s = sym (rw z at s ∙ none_in_nothing axis)
 
 -- the run of untouched points from a number on: at a touched point, at another one, and past the last one
-pub run_zero : (axis : Axis) (xs : List Point) (k : ℕ) (d p : Point) → k < length xs → p ≡ get_or xs k d
+pub run_zero : (axis : Axis) (xs : List ZonePoint) (k : ℕ) (d p : ZonePoint) → k < length xs → p ≡ get_or xs k d
     → is_touched axis p ≡ true → untouched_run axis (drop k xs) ≡ 0
 unfolding untouched_run
 run_zero axis xs k d p h g t = rw (drop-cons xs k d h, ← g, t) refl
 
-pub run_next : (axis : Axis) (xs : List Point) (k : ℕ) (d p : Point) → k < length xs → p ≡ get_or xs k d
+pub run_next : (axis : Axis) (xs : List ZonePoint) (k : ℕ) (d p : ZonePoint) → k < length xs → p ≡ get_or xs k d
     → is_touched axis p ≡ false → untouched_run axis (drop k xs) ≡ suc (untouched_run axis (drop (k + 1) xs))
 unfolding untouched_run
 run_next axis xs k d p h g t = let s : k + 1 ≡ suc k = omega arith in rw (s, drop-cons xs k d h, ← g, t) refl
 
-pub run_over : (axis : Axis) (xs : List Point) (k : ℕ) → length xs ≤ k → untouched_run axis (drop k xs) ≡ 0
+pub run_over : (axis : Axis) (xs : List ZonePoint) (k : ℕ) → length xs ≤ k → untouched_run axis (drop k xs) ≡ 0
 unfolding untouched_run
 run_over axis xs k h = rw (drop_all k xs h) refl
 
 -- the run from a point on, at a number within it: that many points from there are untouched
-abbrev pub Untouched : Axis → List Point → ℕ → ℕ → Type 0
+abbrev pub Untouched : Axis → List ZonePoint → ℕ → ℕ → Type 0
 Untouched axis xs start k = untouched_run axis (drop start xs) ≡ k - start + untouched_run axis (drop k xs)
 
-pub run_none_yet : (axis : Axis) (xs : List Point) (k : ℕ) → Untouched axis xs k k
+pub run_none_yet : (axis : Axis) (xs : List ZonePoint) (k : ℕ) → Untouched axis xs k k
 run_none_yet axis xs k = omega arith
 
 -- ---- the sweep: with the contour's first touched point, and the last one so far
 
-pub swept : Axis → Point → Point → List Point → List Point
+pub swept : Axis → ZonePoint → ZonePoint → List ZonePoint → List ZonePoint
 swept axis first before [] = []
 swept axis first before (p ∷ ps) =
     if is_touched axis p then p ∷ swept axis first p ps
     else between axis before (or_point (first_touched axis ps) first) p ∷ swept axis first before ps
 
-swept_at : (axis : Axis) (first before p : Point) (ps : List Point) → is_touched axis p ≡ true
+swept_at : (axis : Axis) (first before p : ZonePoint) (ps : List ZonePoint) → is_touched axis p ≡ true
     → swept axis first before (p ∷ ps) ≡ p ∷ swept axis first p ps
 unfolding swept
 swept_at axis first before p ps h = rw h refl
 
 -- the definition, with the points before each one the nearest first
-zipped : Axis → List Point → List Point → List Point
+zipped : Axis → List ZonePoint → List ZonePoint → List ZonePoint
 zipped axis behind [] = []
 zipped axis behind (p ∷ ahead) =
     (if is_touched axis p then p else between_any axis (first_touched axis (behind ++ reverse ahead))
     (first_touched axis (ahead ++ reverse behind)) p)
     ∷ zipped axis (p ∷ behind) ahead
 
-each_zipped : (axis : Axis) (before ahead : List Point) → each_interpolated axis before ahead ≡ zipped axis (reverse before) ahead
+each_zipped : (axis : Axis) (before ahead : List ZonePoint)
+  → each_interpolated axis before ahead ≡ zipped axis (reverse before) ahead
 unfolding each_interpolated zipped
 each_zipped axis before [] = refl
 each_zipped axis before (p ∷ ps) =
@@ -177,15 +178,15 @@ each_zipped axis before (p ∷ ps) =
     rw (reverse-reverse before)
     (ap (λ l. interpolated axis before p ps ∷ l) (each_zipped axis (before ++ (p ∷ [])) ps ∙ ap (λ l. zipped axis l ps) r))
 
-passed : (behind : List Point) (p : Point) (ps : List Point) → reverse (p ∷ behind) ++ ps ≡ reverse behind ++ (p ∷ ps)
+passed : (behind : List ZonePoint) (p : ZonePoint) (ps : List ZonePoint) → reverse (p ∷ behind) ++ ps ≡ reverse behind ++ (p ∷ ps)
 passed behind p ps = ap (λ l. l ++ ps) (reverse_cons p behind) ∙ append_assoc (reverse behind) (p ∷ []) ps
 
-other_way : (a b : Option Point) (first : Point) → or_else b a ≡ Some first → or_else a b ≡ Some (or_point a first)
+other_way : (a b : Option ZonePoint) (first : ZonePoint) → or_else b a ≡ Some first → or_else a b ≡ Some (or_point a first)
 unfolding or_else
 other_way (Some x) b first h = refl
 other_way None b first h = sym (or_none b) ∙ h
 
-ahead_is : (axis : Axis) (first p : Point) (ps behind : List Point) → is_touched axis p ≡ false
+ahead_is : (axis : Axis) (first p : ZonePoint) (ps behind : List ZonePoint) → is_touched axis p ≡ false
     → first_touched axis (reverse behind ++ (p ∷ ps)) ≡ Some first
     → first_touched axis (ps ++ reverse behind) ≡ Some (or_point (first_touched axis ps) first)
 ahead_is axis first p ps behind t h =
@@ -194,7 +195,7 @@ ahead_is axis first p ps behind t h =
     (ap (or_else (first_touched axis (reverse behind))) (sym (missed axis p ps t))
     ∙ sym (first_of_both axis (reverse behind) (p ∷ ps)) ∙ h)
 
-each_swept : (axis : Axis) (first before : Point) (behind ahead : List Point)
+each_swept : (axis : Axis) (first before : ZonePoint) (behind ahead : List ZonePoint)
     → first_touched axis (behind ++ reverse ahead) ≡ Some before → first_touched axis (reverse behind ++ ahead) ≡ Some first
     → zipped axis behind ahead ≡ swept axis first before ahead
 unfolding swept zipped
@@ -210,7 +211,8 @@ each_swept axis first before behind (p ∷ ps) h g =
     (each_swept axis first before (p ∷ behind) ps (missed axis p (behind ++ reverse ps) t ∙ e) first_is)))
 
 -- a contour with touched points is swept
-pub contour_swept : (axis : Axis) (xs : List Point) (last first : Point) (n : ℕ) → Some last ≡ first_touched axis (reverse xs)
+pub contour_swept : (axis : Axis) (xs : List ZonePoint) (last first : ZonePoint) (n : ℕ)
+    → Some last ≡ first_touched axis (reverse xs)
     → untouched_run axis xs < length xs → n ≡ untouched_run axis xs → first ≡ get_or xs n first
     → contour_interpolated axis xs ≡ swept axis first last xs
 unfolding contour_interpolated
@@ -220,7 +222,7 @@ contour_swept axis xs last first n h k r g =
     ∙ ap (λ p. swept axis p last xs) (ap (λ n. get_or xs n first) (sym r) ∙ sym g)
 
 -- one without stays
-each_kept : (axis : Axis) (behind ahead : List Point) → first_touched axis behind ≡ None → first_touched axis ahead ≡ None
+each_kept : (axis : Axis) (behind ahead : List ZonePoint) → first_touched axis behind ≡ None → first_touched axis ahead ≡ None
     → zipped axis behind ahead ≡ ahead
 unfolding zipped
 each_kept axis behind [] h g = refl
@@ -231,17 +233,17 @@ each_kept axis behind (p ∷ ps) h g = by_touch (is_touched axis p)
     ∙ rw (h, none_backward axis ps e) (or_none None) in
     rw (t, b) (ap (λ l. p ∷ l) (each_kept axis (p ∷ behind) ps (missed axis p behind t ∙ h) e)))
 
-pub contour_kept : (axis : Axis) (xs : List Point) → first_touched axis xs ≡ None → contour_interpolated axis xs ≡ xs
+pub contour_kept : (axis : Axis) (xs : List ZonePoint) → first_touched axis xs ≡ None → contour_interpolated axis xs ≡ xs
 unfolding contour_interpolated
 contour_kept axis xs h = each_zipped axis [] xs ∙ each_kept axis [] xs (none_in_nothing axis) h
 
-pub contour_kept_backward : (axis : Axis) (xs : List Point) → None ≡ first_touched axis (reverse xs)
+pub contour_kept_backward : (axis : Axis) (xs : List ZonePoint) → None ≡ first_touched axis (reverse xs)
     → contour_interpolated axis xs ≡ xs
 contour_kept_backward axis xs h =
     contour_kept axis xs (ap (first_touched axis) (sym (reverse-reverse xs)) ∙ none_backward axis (reverse xs) (sym h))
 
 -- where some point is touched, the first run ends
-pub run_ends : (axis : Axis) (xs : List Point) (last : Point) → Some last ≡ first_touched axis (reverse xs)
+pub run_ends : (axis : Axis) (xs : List ZonePoint) (last : ZonePoint) → Some last ≡ first_touched axis (reverse xs)
     → untouched_run axis xs < length xs
 run_ends axis xs last h = by_lt_z (pos (untouched_run axis xs)) (pos (length xs))
     (λ l. omega (arith, ints, l))
@@ -249,7 +251,7 @@ run_ends axis xs last h = by_lt_z (pos (untouched_run axis xs)) (pos (length xs)
     some_or_none last (h ∙ none_backward axis xs (run_none axis xs k)))
 
 -- runs of the sweep
-run_swept : (axis : Axis) (first before : Point) (xs : List Point) (d : Point) → untouched_run axis xs < length xs →
+run_swept : (axis : Axis) (first before : ZonePoint) (xs : List ZonePoint) (d : ZonePoint) → untouched_run axis xs < length xs →
     swept axis first before xs ≡ map (between axis before (get_or xs (untouched_run axis xs) d))
     (take (untouched_run axis xs) xs) ++ (get_or xs (untouched_run axis xs) d ∷ swept axis first
     (get_or xs (untouched_run axis xs) d) (drop (suc (untouched_run axis xs)) xs))
@@ -260,7 +262,7 @@ run_swept axis first before (x ∷ xs) d h = by_touch (is_touched axis x) (λ t.
     rw (t, run_first axis xs d k)
     (ap (λ l. between axis before (get_or xs (untouched_run axis xs) d) x ∷ l) (run_swept axis first before xs d k)))
 
-pub end_swept : (axis : Axis) (first before : Point) (xs : List Point) → length xs ≤ untouched_run axis xs
+pub end_swept : (axis : Axis) (first before : ZonePoint) (xs : List ZonePoint) → length xs ≤ untouched_run axis xs
     → swept axis first before xs ≡ map (between axis before first) xs
 unfolding swept untouched_run
 end_swept axis first before [] h = refl
@@ -280,7 +282,8 @@ laid p ys rest t n e =
       rw (a, b) (drop-append-add (p ++ ys) (t ∷ rest) 1),
     )
 
-put_run_at : (axis : Axis) (first before t : Point) (pts ys : List Point) (start k m : ℕ) (d : Point) → start ≤ length pts
+put_run_at : (axis : Axis) (first before t : ZonePoint) (pts ys : List ZonePoint) (start k m : ℕ) (d : ZonePoint)
+    → start ≤ length pts
     → k ≡ untouched_run axis (drop start pts) → k < length pts - start → m ≡ k → t ≡ get_or (drop start pts) k d
     → ys ≡ map (between axis before t) (take m (drop start pts)) →
     take (start + k + 1) (put_mid start m pts ys) ++ swept axis first t (drop (start + k + 1) (put_mid start m pts ys)) ≡ take
@@ -305,18 +308,18 @@ put_run_at axis first before t pts ys start k m d w r h e g y =
     ∙ ap (λ zs. p ++ zs) (append_assoc ys (t ∷ []) (swept axis first t rest) ∙ sym s)
 
 -- the points before a number done, and the sweep from there on
-abbrev pub swept_from : Axis → Point → Point → List Point → ℕ → List Point
+abbrev pub swept_from : Axis → ZonePoint → ZonePoint → List ZonePoint → ℕ → List ZonePoint
 swept_from axis first last pts n = take n pts ++ swept axis first (point_before last n pts) (drop n pts)
 
 -- after a touched point
-swept_after : (axis : Axis) (first last t : Point) (pts : List Point) (n : ℕ) → t ≡ get_or pts n last
+swept_after : (axis : Axis) (first last t : ZonePoint) (pts : List ZonePoint) (n : ℕ) → t ≡ get_or pts n last
     → take (n + 1) pts ++ swept axis first t (drop (n + 1) pts) ≡ swept_from axis first last pts (n + 1)
 swept_after axis first last t pts n e =
     let s : n + 1 ≡ suc n = omega arith in
     rw (s, e) refl
 
 -- a touched point behind another one
-pub put_none : (axis : Axis) (first last d : Point) (pts : List Point) (start end : ℕ) → start ≡ end → end < length pts
+pub put_none : (axis : Axis) (first last d : ZonePoint) (pts : List ZonePoint) (start end : ℕ) → start ≡ end → end < length pts
     → is_touched axis (get_or pts end d) ≡ true → swept_from axis first last pts (end + 1) ≡ swept_from axis first last pts start
 put_none axis first last d pts start end e h t =
     let p = get_or pts end last in
@@ -332,7 +335,7 @@ put_none axis first last d pts start end e h t =
     ∙ ap (swept axis first before) (sym (drop-cons pts end last h))))
 
 -- the run before the next touched point is interpolated
-pub put_run : (axis : Axis) (first last before t d : Point) (pts ys : List Point) (start end m : ℕ) → start ≤ end
+pub put_run : (axis : Axis) (first last before t d : ZonePoint) (pts ys : List ZonePoint) (start end m : ℕ) → start ≤ end
     → end < length pts → Untouched axis pts start end → is_touched axis (get_or pts end d) ≡ true → m ≡ end - start
     → before ≡ point_before last start pts → t ≡ get_or pts end t → ys ≡ map (between axis before t) (take m (drop start pts)) →
     swept_from axis first last (put_mid start m pts ys) (end + 1) ≡ swept_from axis first last pts start
@@ -345,21 +348,21 @@ put_run axis first last before t d pts ys start end m w h r touched e b g y =
     let same : drop end (put_mid start m pts ys) ≡ drop end pts = drop-put_mid start m pts ys end (omega (arith, e, w))
     (omega (arith, w, h)) long in
     let there : t ≡ get_or (put_mid start m pts ys) end last = g ∙ get_or_default pts end t last h ∙ sym (get_at_drop pts end last)
-    ∙ sym (ap (λ (l : List Point). get_or l 0 last) same) ∙ get_at_drop (put_mid start m pts ys) end last in
+    ∙ sym (ap (λ (l : List ZonePoint). get_or l 0 last) same) ∙ get_at_drop (put_mid start m pts ys) end last in
     sym (swept_after axis first last t (put_mid start m pts ys) end there)
     ∙ (rw back at
     (put_run_at axis first before t pts ys start (end - start) m t (omega (arith, w, h))
     (omega (arith, r, run_zero axis pts end d _ h refl touched)) (omega (arith, w, h)) e here y))
     ∙ ap (λ p. take start pts ++ swept axis first p (drop start pts)) b
   where
-    get_at_drop : (l : List Point) (n : ℕ) (d : Point) → get_or (drop n l) 0 d ≡ get_or l n d
+    get_at_drop : (l : List ZonePoint) (n : ℕ) (d : ZonePoint) → get_or (drop n l) 0 d ≡ get_or l n d
     get_at_drop l n d = get_or-drop n l 0 d ∙ ap (λ k. get_or l k d) (add-zero n)
 
-whole_rest : (l : List Point) (s : ℕ) → take (length l - s) (drop s l) ≡ drop s l
+whole_rest : (l : List ZonePoint) (s : ℕ) → take (length l - s) (drop s l) ≡ drop s l
 whole_rest l s = take_all (length l - s) (drop s l) (omega (arith, length-drop s l))
 
 -- the run behind the last touched point
-pub put_end : (axis : Axis) (first last before : Point) (pts ys : List Point) (start end : ℕ) → end ≡ length pts
+pub put_end : (axis : Axis) (first last before : ZonePoint) (pts ys : List ZonePoint) (start end : ℕ) → end ≡ length pts
     → Untouched axis pts start end → before ≡ point_before last start pts
     → ys ≡ map (between axis before first) (take (length pts - start) (drop start pts)) →
     put_mid start (length pts - start) pts ys ≡ swept_from axis first last pts start
@@ -375,12 +378,12 @@ put_end axis first last before pts ys start end h r b y =
 
 -- ---- contours
 
-each_long : (axis : Axis) (before ahead : List Point) → length (each_interpolated axis before ahead) ≡ length ahead
+each_long : (axis : Axis) (before ahead : List ZonePoint) → length (each_interpolated axis before ahead) ≡ length ahead
 unfolding each_interpolated
 each_long axis before [] = refl
 each_long axis before (p ∷ ps) = ap suc (each_long axis (before ++ (p ∷ [])) ps)
 
-pub contour_long : (axis : Axis) (xs : List Point) → length (contour_interpolated axis xs) ≡ length xs
+pub contour_long : (axis : Axis) (xs : List ZonePoint) → length (contour_interpolated axis xs) ≡ length xs
 unfolding contour_interpolated
 contour_long axis xs = each_long axis [] xs
 
@@ -388,7 +391,7 @@ empty_contour : (axis : Axis) → contour_interpolated axis [] ≡ []
 unfolding contour_interpolated each_interpolated
 empty_contour axis = refl
 
-contours_next : (axis : Axis) (ends : List ℕ) (points : List Point) (k d : ℕ) → k < length ends →
+contours_next : (axis : Axis) (ends : List ℕ) (points : List ZonePoint) (k d : ℕ) → k < length ends →
     contours_interpolated axis ends (k + 1) points ≡ part_interpolated axis (Some (first_of ends k, suc (get_or ends k d)))
     (contours_interpolated axis ends k points)
 unfolding contours_interpolated
@@ -406,7 +409,7 @@ next_first ends k first e =
     e ∙ m ∙ sym (ap (first_of ends) n)
 
 -- an empty contour changes nothing
-pub contour_empty : (axis : Axis) (ends : List ℕ) (initial points : List Point) (first k d : ℕ) → k < length ends
+pub contour_empty : (axis : Axis) (ends : List ℕ) (initial points : List ZonePoint) (first k d : ℕ) → k < length ends
     → first ≡ first_of ends k → get_or ends k d + 1 ≤ first → points ≡ contours_interpolated axis ends k initial
     → points ≡ contours_interpolated axis ends (k + 1) initial
 contour_empty axis ends initial points first k d h f l e =
@@ -414,7 +417,7 @@ contour_empty axis ends initial points first k d h f l e =
     sym (contours_next axis ends initial k d h ∙ rw (← f, ← e, z, empty_contour axis) (take-append-drop first points))
 
 -- any other is put in its place
-pub contour_put : (axis : Axis) (ends : List ℕ) (initial points ys : List Point) (first k d : ℕ) → k < length ends
+pub contour_put : (axis : Axis) (ends : List ℕ) (initial points ys : List ZonePoint) (first k d : ℕ) → k < length ends
     → first ≡ first_of ends k → points ≡ contours_interpolated axis ends k initial
     → ys ≡ contour_interpolated axis (take (get_or ends k d + 1 - first) (drop first points))
     → put_mid first (get_or ends k d + 1 - first) points ys ≡ contours_interpolated axis ends (k + 1) initial
@@ -423,7 +426,7 @@ contour_put axis ends initial points ys first k d h f e y =
     sym (contours_next axis ends initial k d h ∙ rw (← f, ← e, s, ← y) refl)
 
 -- a figure keeps its number of points
-part_long : (axis : Axis) (c : Option (ℕ × ℕ)) (points : List Point) → length (part_interpolated axis c points) ≡ length points
+part_long : (axis : Axis) (c : Option (ℕ × ℕ)) (points : List ZonePoint) → length (part_interpolated axis c points) ≡ length points
 part_long axis (Some c) points =
     let mid = take (c.1 - c.0) (drop c.0 points) in
     let rest = drop (c.1 - c.0) (drop c.0 points) in
@@ -435,7 +438,7 @@ part_long axis (Some c) points =
     ∙ ap length (take-append-drop c.0 points)
 part_long axis None points = refl
 
-contours_long : (axis : Axis) (ends : List ℕ) (n : ℕ) (points : List Point)
+contours_long : (axis : Axis) (ends : List ℕ) (n : ℕ) (points : List ZonePoint)
     → length (contours_interpolated axis ends n points) ≡ length points
 unfolding contours_interpolated
 contours_long axis ends zero points = refl

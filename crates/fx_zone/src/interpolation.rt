@@ -5,12 +5,12 @@ ghost use Rattle.std.specs.List.{All};
 ghost use Rattle.fx_fixed.specs.Numbers.{wrapped_of, near_size};
 ghost use Rattle.fx_zone.specs.Interpolation.{is_touched, moved_with, in_proportion, coordinate_between, placed, between, first_touched, untouched_run, point_before, contour_interpolated, contours_interpolated};
 
-use crate::point::Point;
+use crate::point::ZonePoint;
 use fx_fixed::{Axis, F26, near, near_quotient, w32};
 
 /// Whether a point is touched along an axis.
 #[inline(always)]
-fn is_touched(point: &Point, axis: Axis) -> bool
+fn is_touched(point: &ZonePoint, axis: Axis) -> bool
     ensures { result ≡ is_touched axis point.now }
 {
     match axis {
@@ -141,7 +141,7 @@ fn coordinate_between(o: F26, lo_org: F26, lo_cur: F26, hi_org: F26, hi_cur: F26
 
 /// Moves a point between two others, of which `lo` is the lower: one coordinate is written.
 #[inline(always)]
-fn place(axis: Axis, lo: &Point, hi: &Point, point: &mut Point)
+fn place(axis: Axis, lo: &ZonePoint, hi: &ZonePoint, point: &mut ZonePoint)
     ensures { point.new ≡ placed axis lo.now hi.now point.old }
 {
     let coordinate = coordinate_between(
@@ -160,7 +160,7 @@ fn place(axis: Axis, lo: &Point, hi: &Point, point: &mut Point)
 /// Moves a point between the touched points before and after it.
 #[inline(always)]
 #[tactic(auto, unfolding(crate::specs::Interpolation::between))]
-fn place_between(axis: Axis, before: &Point, after: &Point, point: &mut Point)
+fn place_between(axis: Axis, before: &ZonePoint, after: &ZonePoint, point: &mut ZonePoint)
     ensures { point.new ≡ between axis before.now after.now point.old }
 {
     if after.org.along(axis).0 < before.org.along(axis).0 {
@@ -173,7 +173,7 @@ fn place_between(axis: Axis, before: &Point, after: &Point, point: &mut Point)
 /// Interpolates a run of untouched points.
 #[inline(always)]
 #[tactic(auto, using(crate::proofs::Laying::more_written))]
-fn interpolate_run(points: &mut [Point], axis: Axis, before: &Point, after: &Point)
+fn interpolate_run(points: &mut [ZonePoint], axis: Axis, before: &ZonePoint, after: &ZonePoint)
     ensures { points.new ≡ map (between axis before.now after.now) points.old }
 {
     // The points that were seen are interpolated.
@@ -185,7 +185,7 @@ fn interpolate_run(points: &mut [Point], axis: Axis, before: &Point, after: &Poi
 /// The number of untouched points before the first touched one; of all points if none is.
 #[inline(always)]
 #[tactic(auto, using(crate::proofs::Interpolating::run_zero, crate::proofs::Interpolating::run_next, crate::proofs::Interpolating::run_over))]
-fn untouched_run(points: &[Point], axis: Axis) -> usize
+fn untouched_run(points: &[ZonePoint], axis: Axis) -> usize
     ensures { result ≡ untouched_run axis points.now }
 {
     // The points that were seen are untouched.
@@ -198,7 +198,7 @@ fn untouched_run(points: &[Point], axis: Axis) -> usize
 }
 
 /// The point of a number.
-fn numbered(points: &[Point], number: usize) -> Point
+fn numbered(points: &[ZonePoint], number: usize) -> ZonePoint
     requires { number < length points.now }
     ensures { result ≡ slice_index_or points.now number result }
 {
@@ -207,7 +207,7 @@ fn numbered(points: &[Point], number: usize) -> Point
 
 /// The point before the one of a number; before the first the contour's last touched one.
 #[inline(always)]
-fn point_before(points: &[Point], number: usize, last: &Point) -> Point
+fn point_before(points: &[ZonePoint], number: usize, last: &ZonePoint) -> ZonePoint
     requires { number ≤ length points.now }
     ensures { result ≡ point_before last.now number points.now }
 {
@@ -221,7 +221,7 @@ fn point_before(points: &[Point], number: usize, last: &Point) -> Point
 /// The last touched point.
 #[inline(always)]
 #[tactic(auto, using(crate::proofs::Interpolating::last_here, crate::proofs::Interpolating::last_before, crate::proofs::Interpolating::last_none))]
-fn last_touched(points: &[Point], axis: Axis) -> Option<Point>
+fn last_touched(points: &[ZonePoint], axis: Axis) -> Option<ZonePoint>
     ensures { result ≡ first_touched axis (reverse points.now) }
 {
     let mut left = points.len();
@@ -238,7 +238,7 @@ fn last_touched(points: &[Point], axis: Axis) -> Option<Point>
 
 /// Interpolates the untouched points of a contour.
 #[inline(always)]
-fn interpolate_contour(points: &mut [Point], axis: Axis)
+fn interpolate_contour(points: &mut [ZonePoint], axis: Axis)
     ensures { points.new ≡ contour_interpolated axis points.old }
 {
     let Some(last) = last_touched(points, axis) else {
@@ -263,7 +263,7 @@ fn interpolate_contour(points: &mut [Point], axis: Axis)
 
 /// Interpolates the untouched points of each contour, by the numbers of their last points.
 #[inline(always)]
-pub fn interpolate_contours(points: &mut [Point], ends: &[u16], axis: Axis)
+pub fn interpolate_contours(points: &mut [ZonePoint], ends: &[u16], axis: Axis)
     requires { All (λ e. e < length points.old) ends.now }
     ensures { points.new ≡ contours_interpolated axis ends.now (length ends.now) points.old }
 {

@@ -4,7 +4,7 @@ ghost use Rattle.std.specs.Prelude.{◌≡◌, ◌≤◌, length, map};
 ghost use Rattle.fx_zone.specs.Figures.{each_changed, in_range, in_range_without, is_number};
 ghost use Rattle.fx_zone.specs.Points.{rested, shifted, curved};
 
-use crate::point::Point;
+use crate::point::ZonePoint;
 use fx_fixed::Place;
 
 /// Whether a number is this one.
@@ -19,7 +19,7 @@ fn is_number(number: usize, other: Option<usize>) -> bool
 
 /// Shifts the points of a range, without one of them, and touches them along the axes that are given.
 pub fn shift_range(
-    points: &mut [Point],
+    points: &mut [ZonePoint],
     first: usize,
     past: usize,
     except: Option<usize>,
@@ -39,7 +39,7 @@ pub fn shift_range(
 }
 
 /// Makes the points of a range ones on the curve, or off it.
-pub fn curve_range(points: &mut [Point], first: usize, past: usize, on: bool)
+pub fn curve_range(points: &mut [ZonePoint], first: usize, past: usize, on: bool)
     requires { past ≤ length points.old }
     ensures { points.new ≡ each_changed (in_range first past) (curved on) 0 points.old }
 {
@@ -51,7 +51,7 @@ pub fn curve_range(points: &mut [Point], first: usize, past: usize, on: bool)
 
 /// Shifts all points from their current places, where they rest untouched.
 #[tactic(auto, using(crate::proofs::Laying::more_written))]
-pub fn rest_points(points: &mut [Point], by: &Place)
+pub fn rest_points(points: &mut [ZonePoint], by: &Place)
     ensures { points.new ≡ map (rested by.now) points.old }
 {
     // The points before `point` are done.

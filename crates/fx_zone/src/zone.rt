@@ -9,7 +9,7 @@ ghost use Rattle.fx_zone.specs.Figures.{Figure, joined, empty_figure, range_shif
 ghost use Rattle.fx_zone.specs.Interpolation.{figure_interpolated};
 
 use crate::interpolation::interpolate_contours;
-use crate::point::Point;
+use crate::point::ZonePoint;
 use crate::range::{curve_range, rest_points, shift_range};
 use fx_fixed::{Axis, Place};
 use std::alloc::{AllocError, Global};
@@ -20,7 +20,7 @@ use std::marker::Model;
 /// phantom points do (OpenType, `glyf`).
 #[derive(Drop)]
 pub struct Zone {
-    points: Vec<Point>,
+    points: Vec<ZonePoint>,
     ends: Vec<u16>,
 }
 
@@ -48,7 +48,7 @@ impl Zone {
     }
 
     /// A zone of these points and contours.
-    pub fn of(points: Vec<Point>, ends: Vec<u16>) -> Zone
+    pub fn of(points: Vec<ZonePoint>, ends: Vec<u16>) -> Zone
         requires { All (λ e. e < length points.items) ends.items }
         ensures { result ≡ record { points = points.items; ends = ends.items } }
     {
@@ -63,7 +63,7 @@ impl Zone {
     }
 
     /// The points.
-    pub fn points(&self) -> &[Point]
+    pub fn points(&self) -> &[ZonePoint]
         ensures { result.now ≡ self.now.points }
     {
         &self.points
@@ -78,7 +78,7 @@ impl Zone {
     }
 
     /// The lists of points and of contours, for another zone to take over.
-    pub fn into_lists(self) -> (Vec<Point>, Vec<u16>)
+    pub fn into_lists(self) -> (Vec<ZonePoint>, Vec<u16>)
         ensures points { result.0.items ≡ self.points }
         ensures ends { result.1.items ≡ self.ends }
     {
@@ -87,14 +87,14 @@ impl Zone {
     }
 
     /// The point of a number, if it is inside.
-    pub fn point(&self, number: usize) -> Option<Point>
+    pub fn point(&self, number: usize) -> Option<ZonePoint>
         ensures { result ≡ slice_get self.now.points number }
     {
         self.points.get(number).copied()
     }
 
     /// The point of a number, to be changed in its place, if it is inside.
-    pub fn point_mut(&mut self, number: usize) -> Option<&mut Point>
+    pub fn point_mut(&mut self, number: usize) -> Option<&mut ZonePoint>
         ensures* writes_back { sem 𝓛 (LendsPoint self.entry number result) }
         ensures value { option_copied_mut result ≡ slice_get self.old.points number }
     {
@@ -102,7 +102,7 @@ impl Zone {
     }
 
     /// Writes the point of a number, if it is inside.
-    pub fn set(&mut self, number: usize, point: Point)
+    pub fn set(&mut self, number: usize, point: ZonePoint)
         ensures value { self.new ≡ record self.old { points = slice_set self.old.points number point } }
         ensures shape { HasShape self.old self.new }
     {
@@ -198,7 +198,7 @@ impl Zone {
     }
 
     /// Takes these points and contours in place of its own. If memory is refused it may hold anything.
-    pub fn refill(&mut self, points: &[Point], ends: &[u16]) -> Result<(), AllocError>
+    pub fn refill(&mut self, points: &[ZonePoint], ends: &[u16]) -> Result<(), AllocError>
         requires { All (λ e. e < length points.now) ends.now }
         ensures { OnOk result (self.new ≡ record { points = points.now; ends = ends.now }) }
     {
@@ -209,7 +209,7 @@ impl Zone {
 
     /// Appends points, and contours numbered within these points; if memory is refused,
     /// nothing changes.
-    pub fn append(&mut self, points: &[Point], ends: &[u16]) -> Result<(), AllocError>
+    pub fn append(&mut self, points: &[ZonePoint], ends: &[u16]) -> Result<(), AllocError>
         requires below { All (λ e. e < length points.now) ends.now }
         requires fits { All (λ e. length self.old.points + e < 2 ^ 16) ends.now }
         ensures done { OnOk result (self.new ≡ joined self.old (record { points = points.now; ends = ends.now })) }

@@ -4,8 +4,8 @@ use Rattle.std.specs.Int.{from_be_bytes, w32}
 use Rattle.fx_machine.specs.declared.halt.Halt.{Halt}
 use Rattle.fx_machine.specs.declared.program.FontProgram.{FontProgram}
 use Rattle.fx_machine.specs.declared.program.FontProgram.TheVariants.{Fpgm, Prep, Glyph}
-use Rattle.fx_request.specs.declared.place.Place.{Place}
-use Rattle.fx_request.specs.declared.place.Place.TheVariants as place
+use Rattle.fx_request.specs.declared.location.Location.{Location}
+use Rattle.fx_request.specs.declared.location.Location.TheVariants as place
 use Rattle.fx_request.specs.declared.refusal.Refusal.{Refusal}
 use Rattle.fx_request.specs.declared.refusal.Refusal.TheVariants.{OutOfMemory}
 use Rattle.fx_request.specs.Refusals.{number_of, place_of}
@@ -89,7 +89,7 @@ halted number halt = record {
 }
 
 -- the fields of a refusal of this number; a property and a number of bytes have none
-abbrev pub fields : ℕ → Place → Refused
+abbrev pub fields : ℕ → Location → Refused
 fields number place.Nowhere = no_fields number
 fields number (place.Table tag) = with_table number tag
 fields number (place.Glyph g) = with_glyph number g

@@ -4,7 +4,7 @@ ghost use Rattle.fx_request.specs.Refusals.{number_of};
 ghost use Rattle.mkstrike_c.specs.Refused.{at_character, bad_block, bad_mode, fields, halted, no_fields, program_number, refused_of};
 
 use fx_machine::{FontProgram, Halt};
-use fx_request::{Place, Refusal};
+use fx_request::{Location, Refusal};
 
 /// No glyph, no program, no character.
 pub const NONE: u32 = 0xFFFF_FFFF;
@@ -93,20 +93,20 @@ fn halted(number: u32, halt: Halt) -> Refused
 }
 
 /// The fields of a refusal of this number.
-fn fields(number: u32, place: Place) -> Refused
+fn fields(number: u32, place: Location) -> Refused
     ensures { result ≡ fields number place }
 {
     match place {
-        Place::Table(tag) => Refused {
+        Location::Table(tag) => Refused {
             table: u32::from_be_bytes(tag),
             ..no_fields(number)
         },
-        Place::Glyph(g) => Refused {
+        Location::Glyph(g) => Refused {
             glyph: u32::from(g),
             ..no_fields(number)
         },
-        Place::Halt(halt) => halted(number, halt),
-        Place::Nowhere | Place::Property(_) | Place::Bytes(_) => no_fields(number),
+        Location::Halt(halt) => halted(number, halt),
+        Location::Nowhere | Location::Property(_) | Location::Bytes(_) => no_fields(number),
     }
 }
 

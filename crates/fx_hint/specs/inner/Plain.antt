@@ -1,9 +1,9 @@
 -- Components without a transformation.
 use Rattle.std.specs.Prelude.{◌≡◌, ◌^◌, pos}
-use Rattle.fx_glyf.specs.declared.part.Part.{Part}
+use Rattle.fx_glyf.specs.declared.component.Component.{Component}
 
 -- a transformation that leaves each place where it is; its numbers are in 2.14
-pub record IsPlain (part : Part) : Type 0 where
+pub record IsPlain (part : Component) : Type 0 where
   pub a_is : part.a ≡ pos (2 ^ 14)
   pub b_is : part.b ≡ pos 0
   pub c_is : part.c ≡ pos 0

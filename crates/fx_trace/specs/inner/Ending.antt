@@ -11,7 +11,7 @@ use Rattle.fx_hint.specs.Watched.{RunEvent, run_events, WatchesAll}
 use Rattle.fx_hint.specs.declared.fault.HintFault.{HintFault}
 use Rattle.fx_hint.specs.declared.fault.HintFault.TheVariants as hint
 use Rattle.fx_fixed.specs.declared.sink.WriteFailed.{WriteFailed as Failed}
-use Rattle.fx_trace.specs.declared.wanted.Wanted.{Wanted}
+use Rattle.fx_trace.specs.declared.wanted.TracedPrograms.{TracedPrograms}
 use Rattle.fx_trace.specs.declared.fault.Stop.{Stop}
 use Rattle.fx_trace.specs.declared.fault.Stop.TheVariants as stop
 use Rattle.fx_trace.specs.Snapshots.{SnapshotView}
@@ -50,8 +50,8 @@ EndsText was (Ok u) now outcome = Adds Halts was now [] outcome × OnOk outcome 
 EndsText was (Err stop) now outcome = (now ≡ was) × (outcome ≡ Err stop)
 
 -- what becomes of a tracer at an event, by its parts
-abbrev pub Sees : {W : Type 0} → (W → Wanted) → (W → TextView) → (W → Option SnapshotView) → (W → Result (Unit {0}) Stop) → W
-    → RunEvent → W → Type 0
+abbrev pub Sees : {W : Type 0} → (W → TracedPrograms) → (W → TextView) → (W → Option SnapshotView)
+    → (W → Result (Unit {0}) Stop) → W → RunEvent → W → Type 0
 Sees wanted text before outcome was x now =
     Tells (wanted was) (text was) (before was) (outcome was) x (text now) (before now) (outcome now) × (wanted now ≡ wanted was)
 

@@ -4,7 +4,7 @@ use Rattle.fx_front.proofs.run.run_to_place.Goals as goal
 
 pub returns-clause-run : goal.returns-clause-run
 returns-clause-run g c = record {
-  held = held_by g.P.New.Write.contents g.P.Place.fresh c.close-new.result;
+  held = held_by g.P.New.Write.contents g.P.Destination.fresh c.close-new.result;
   faults = c.run-status.new.out.faults;
   ran = rw (c.new-late.ensures.held, c.new-late.ensures.faults, sym c.close-new.ensures) at c.run-status.ensures.ran;
   named = λ e. (

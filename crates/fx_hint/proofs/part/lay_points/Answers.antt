@@ -1,5 +1,5 @@
 use Rattle.std.proofs.Common.{ap, arith, ◌∙◌, ◌<◌, length, List, get_or}
-use Rattle.fx_zone.specs.declared.point.Point.{Point}
+use Rattle.fx_zone.specs.declared.point.ZonePoint.{ZonePoint}
 use Rattle.fx_zone.specs.Figures.{Figure}
 use Rattle.fx_zone.proofs.Laying.{more_written}
 use Rattle.fx_hint.specs.Parts.{laid}
@@ -10,7 +10,7 @@ points-preserved c =
     let n = c.len-count.ensures in
     let inside : c.points.number < length c.args.zone.now.points = omega arith in
     let read = c.index-points-number.is
-    ∙ ap (λ (ps : List Point). get_or ps c.points.number c.index-points-number.result) c.points-in-points.ensures in
+    ∙ ap (λ (ps : List ZonePoint). get_or ps c.points.number c.index-points-number.result) c.points-in-points.ensures in
     record {
       points = ap (λ (f : Figure). f.points) c.set.ensures.value
           ∙ more_written (laid c.args.part.now c.args.offset.now) c.args.zone.now.points c.points.zone.points c.points.number

@@ -6,7 +6,7 @@ use fx_words::Parts;
 use std::alloc::{AllocError, Global};
 
 /// A program with the words of a command line, an input, an output and lines for people.
-pub trait Program {
+pub trait Tool {
     ghost use Rattle.std.specs.Prelude.{◌≡◌, ◌<◌, ◌^◌, ℕ, List};
     ghost use Rattle.fx_fixed.specs.Changes.{Change, change_of};
     ghost use Rattle.fx_words.specs.Parts.{texts};

@@ -61,7 +61,7 @@ pub fn has_program(flags: u16) -> bool
 /// of the composite so far and that of a point of the component. The scales:
 /// `x' = a x + c y`, `y' = b x + d y`.
 #[derive(Clone, Copy, Debug, PartialEq, Eq)]
-pub struct Part {
+pub struct Component {
     pub glyph: u16,
     pub args: (i32, i32),
     pub flags: u16,
@@ -71,7 +71,7 @@ pub struct Part {
     pub d: F2,
 }
 
-impl Part {
+impl Component {
     ghost use Rattle.fx_glyf.specs.Components.{has_offsets, rounds_offset, uses_my_metrics};
 
     /// Whether the arguments are an x and a y offset, else numbers of points.

@@ -11,13 +11,13 @@ use std::marker::Model;
 /// It returns the glyphs that the map does, and is quick for codes in rising order: most of them lie in the segment or group
 /// that was found last, or in the next one, which needs no search. `gap_end` says how many codes to leave out.
 #[derive(Drop)]
-pub struct Cursor<'m, 'a> {
+pub struct MapReader<'m, 'a> {
     map: &'m CharMap<'a>,
     // The number of the segment or group that was found last.
     near: u32,
 }
 
-impl<'m, 'a> Model for Cursor<'m, 'a> {
+impl<'m, 'a> Model for MapReader<'m, 'a> {
     ghost use Rattle.fx_cmap.specs.declared.mapping.Mapping.{Mapping};
 
     ghost Value = { Mapping };
@@ -25,12 +25,12 @@ impl<'m, 'a> Model for Cursor<'m, 'a> {
     ghost view = { λ c. c.map.now };
 }
 
-impl<'m, 'a> Cursor<'m, 'a> {
+impl<'m, 'a> MapReader<'m, 'a> {
     /// A cursor at the first segment or group of a map.
-    pub fn new(map: &'m CharMap<'a>) -> Cursor<'m, 'a>
+    pub fn new(map: &'m CharMap<'a>) -> MapReader<'m, 'a>
         ensures { result ≡ map.now }
     {
-        Cursor { map, near: 0 }
+        MapReader { map, near: 0 }
     }
 
     /// The glyph of a character code, 0 if it has none; for every number, in any order.

@@ -2,7 +2,7 @@ use Rattle.std.proofs.Common.{arith}
 use Rattle.std.proofs.lemmas.Int.{ints, clamps}
 use Rattle.fx_winding.specs.Winding.{place_of}
 use Rattle.fx_contour.proofs.Growing.{point_grows}
-use Rattle.fx_contour.proofs.bounds.Bounds.with_point.Goals as goal
+use Rattle.fx_contour.proofs.bounds.PieceBounds.with_point.Goals as goal
 
 pub invariant_of-result : goal.invariant_of-result
 invariant_of-result c = record {

@@ -2,7 +2,7 @@ use Rattle.std.proofs.Common.{◌≡◌, ◌<◌, length, arith, ℕ, zero, suc,
 use Rattle.std.proofs.lemmas.Bool.{eqb-true}
 use Rattle.std.specs.Bool.{◌==◌}
 use Rattle.fx_contour.proofs.Growing.{remains_first, remains_more, remains_end, none_of, some_of}
-use Rattle.fx_contour.proofs.bounds.Bounds.of.Goals as goal
+use Rattle.fx_contour.proofs.bounds.PieceBounds.of.Goals as goal
 
 nonempty : (n : ℕ) (b : Bool) → b ≡ (n == 0) → b ≡ false → 0 < n
 nonempty zero b e f = absurd (cc)

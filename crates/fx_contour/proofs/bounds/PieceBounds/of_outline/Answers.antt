@@ -1,7 +1,7 @@
 use Rattle.fx_contour.specs.Frames.{HaveAny}
 use Rattle.fx_contour.specs.Contours.{spans_of}
 use Rattle.fx_contour.proofs.Drawing.{curves_keep, some_extent}
-use Rattle.fx_contour.proofs.bounds.Bounds.of_outline.Goals as goal
+use Rattle.fx_contour.proofs.bounds.PieceBounds.of_outline.Goals as goal
 
 pub doubled-requires : goal.doubled-requires
 doubled-requires c =

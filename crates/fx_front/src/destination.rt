@@ -3,7 +3,7 @@
 use std::io::Write;
 
 /// A place where a new file is made, and gets its name when all is done.
-pub trait Place {
+pub trait Destination {
     ghost use Rattle.std.specs.Prelude.{◌≡◌, ℕ, List, Option, IfSome, true, false};
 
     type New: Write + Drop;

@@ -1,6 +1,6 @@
 use Rattle.fx_glyf.proofs.Outlines.{no_flags, no_xs, no_ys, all_there}
 use Rattle.fx_glyf.proofs.Sizes.{not_measured, is_measured, x_deltas, no_x_deltas, y_deltas, no_y_deltas, is_there}
-use Rattle.fx_glyf.proofs.outline.Outline.read.Goals as goal
+use Rattle.fx_glyf.proofs.outline.PointBytes.read.Goals as goal
 
 pub returns-in_default : goal.returns-in_default
 returns-in_default c = no_flags _ _ (not_measured _ c.in_default.ensures)

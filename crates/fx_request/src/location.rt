@@ -4,7 +4,7 @@ use fx_machine::Halt;
 
 /// Where a refusal is. Its line on standard error and its fields in C say this after its number and name.
 #[derive(Clone, Copy, Debug, PartialEq, Eq)]
-pub enum Place {
+pub enum Location {
     /// Nowhere in particular.
     Nowhere,
     /// A table, by its tag.
