@@ -1,7 +1,7 @@
 use Rattle.std.proofs.Common.{subst, sym}
 use Rattle.fx_front.specs.Places.{IsStatus}
 use Rattle.fx_cli.proofs.Telling.{status_is}
-use Rattle.fx_cli.proofs.mkstrike.MkstrikeProgram.run.Goals as goal
+use Rattle.fx_cli.proofs.mkstrike.MkstrikeTool.run.Goals as goal
 
 pub returns-clause-status : goal.returns-clause-status
 returns-clause-status g c =
