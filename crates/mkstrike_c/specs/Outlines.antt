@@ -6,7 +6,7 @@ use Rattle.fx_hint.specs.Outlines.{GlyphOutlineView}
 use Rattle.fx_request.specs.declared.refusal.Refusal.{Refusal}
 use Rattle.fx_request.specs.declared.request.Mode.{Mode}
 use Rattle.fx_strike.specs.Outlines.{outline_numbered_of}
-use Rattle.mkstrike_c.specs.declared.outlines.ShownPoint.{ShownPoint}
+use Rattle.mkstrike_c.specs.declared.outlines.OutlinePoint.{OutlinePoint}
 use Rattle.mkstrike_c.specs.declared.outlines.Outlined.{Outlined}
 use Rattle.mkstrike_c.specs.Drawn.{HasFront}
 
@@ -16,7 +16,7 @@ on_of true = 1
 on_of false = 0
 
 -- a point for C
-abbrev pub point_of : outline.OutlinePoint → ShownPoint
+abbrev pub point_of : outline.OutlinePoint → OutlinePoint
 point_of p = record { x = p.x; y = p.y; on_curve = on_of p.on_curve }
 
 -- the counts and the advance of an outline
@@ -29,7 +29,7 @@ outline_by_id file ppem glyph mode = outline_numbered_of file ppem (min glyph 65
 
 -- an outline is due; as many of its points and of the last points of its contours as fit stand at the front of the caller's
 -- buffers, what lies after them is as it was, and the counts are those of all
-pub record IsOutlined (due : Result GlyphOutlineView Refusal) (old new : List ShownPoint) (old_ends new_ends : List ℕ)
+pub record IsOutlined (due : Result GlyphOutlineView Refusal) (old new : List OutlinePoint) (old_ends new_ends : List ℕ)
     (told : Outlined) : Type 0 where
   pub outline : GlyphOutlineView
   pub is : due ≡ Ok outline

@@ -13,7 +13,7 @@ use crate::glyph::id_of;
 use crate::mode::{is_mode, mode_of};
 use crate::refused::{Refused, refuse, refuse_mode};
 use fx_hint::GlyphOutline;
-use fx_outline::OutlinePoint;
+use fx_outline::OutlinePoint as Point;
 use fx_request::{Mode, Refusal};
 use fx_sfnt::FontFile;
 use fx_strike::outline_numbered;
@@ -22,7 +22,7 @@ use std::alloc::Global;
 /// A point of an outline.
 #[repr(C)]
 #[derive(Clone, Copy)]
-pub struct ShownPoint {
+pub struct OutlinePoint {
     /// Its place in 1/64 pixels, to the right of the origin and above it.
     pub x: i32,
     pub y: i32,
@@ -42,10 +42,10 @@ pub struct Outlined {
 }
 
 /// A point for C.
-fn point_of(point: &OutlinePoint) -> ShownPoint
+fn point_of(point: &Point) -> OutlinePoint
     ensures { result ≡ point_of point.now }
 {
-    ShownPoint {
+    OutlinePoint {
         x: point.x.0,
         y: point.y.0,
         on_curve: if point.on_curve { 1 } else { 0 },
@@ -53,7 +53,7 @@ fn point_of(point: &OutlinePoint) -> ShownPoint
 }
 
 /// Puts points at the front of a buffer, as far as there is room.
-fn put_points(points: &[OutlinePoint], buffer: &mut [ShownPoint])
+fn put_points(points: &[Point], buffer: &mut [OutlinePoint])
     ensures { HasFront (map point_of points.now) buffer.old buffer.new }
 {
     let n = points.len().min(buffer.len());
@@ -99,7 +99,7 @@ pub extern "C" fn proved_mkstrike_outline(
     ppem: u16,
     mode: u32,
     glyph: u32,
-    points: &mut [ShownPoint],
+    points: &mut [OutlinePoint],
     ends: &mut [u16],
     told: &mut Outlined,
     refused: &mut Refused,
