@@ -43,7 +43,7 @@ pub use glyph::{GlyphInfo, proved_mkstrike_glyph, proved_mkstrike_glyph_by_id};
 pub use glyph_ids::proved_mkstrike_glyph_ids;
 pub use glyphs::proved_mkstrike_glyphs;
 pub use making::{Told, proved_mkstrike_make};
-pub use outlines::{ShownPoint, Outlined, proved_mkstrike_outline};
+pub use outlines::{OutlinePoint, Outlined, proved_mkstrike_outline};
 pub use prepared::{
     proved_mkstrike_glyph_by_id_prepared, proved_mkstrike_glyph_prepared,
     proved_mkstrike_glyphs_prepared,
