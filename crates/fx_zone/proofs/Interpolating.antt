@@ -2,18 +2,18 @@
 -- It serves the interpolation of untouched points.
 use Rattle.std.proofs.Common.{◌≡◌, refl, sym, ap, ◌∙◌, arith, ℕ, zero, suc, ◌+◌, ◌-◌, ◌<◌, ◌≤◌, Bool, true, false, if◌then◌else◌}
 use Rattle.std.proofs.Common.{add-zero, List, [], ◌∷◌, ◌++◌, length, get_or, take, drop, map, reverse, pos, Option, Some, None}
-use Rattle.std.proofs.Math.Seq.{take-suc, drop-cons, take-append-add, drop-append-add}
+use Rattle.std.proofs.Math.Seq.{take-suc, drop-cons, take-append_seam, drop-append_seam}
 use Rattle.std.proofs.lemmas.List.{append_assoc, append-nil, reverse-append, length-append, length-take-le, length-drop, length-map}
 use Rattle.std.proofs.lemmas.List.{reverse-reverse, drop_all, take_all, get_or-drop, take-append-drop}
 use Rattle.std.proofs.lemmas.List.{get_or_default}
 use Rattle.std.proofs.lemmas.Slice.{drop-put_mid}
 use Rattle.std.proofs.lemmas.Option.{slice_get-get_or}
-use Rattle.std.specs.Prelude.{option_map}
+use Rattle.std.specs.Prelude.{option_map, int_lt}
 use borrow.Rule.Slice.PartMut.{put_mid}
 use Rattle.std.proofs.lemmas.Int.{ints, by_lt_z}
 use Rattle.fx_zone.specs.declared.point.ZonePoint.{ZonePoint}
 use Rattle.fx_fixed.specs.declared.places.Axis.{Axis}
-use Rattle.fx_zone.specs.Interpolation.{is_touched, between, between_any, first_touched, untouched_run, point_before, interpolated}
+use Rattle.fx_zone.specs.Interpolation.{org, is_touched, placed, between, between_any, first_touched, untouched_run, point_before, interpolated}
 use Rattle.fx_zone.specs.Interpolation.{each_interpolated, contour_interpolated, part_interpolated, contours_interpolated}
 use Rattle.fx_zone.specs.Interpolation.{figure_interpolated}
 use Rattle.fx_zone.specs.Figures.{Figure, first_of, contour_of}
@@ -141,13 +141,6 @@ pub run_over : (axis : Axis) (xs : List ZonePoint) (k : ℕ) → length xs ≤ k
 unfolding untouched_run
 run_over axis xs k h = rw (drop_all k xs h) refl
 
--- the run from a point on, at a number within it: that many points from there are untouched
-abbrev pub Untouched : Axis → List ZonePoint → ℕ → ℕ → Type 0
-Untouched axis xs start k = untouched_run axis (drop start xs) ≡ k - start + untouched_run axis (drop k xs)
-
-pub run_none_yet : (axis : Axis) (xs : List ZonePoint) (k : ℕ) → Untouched axis xs k k
-run_none_yet axis xs k = omega arith
-
 -- ---- the sweep: with the contour's first touched point, and the last one so far
 
 pub swept : Axis → ZonePoint → ZonePoint → List ZonePoint → List ZonePoint
@@ -170,7 +163,7 @@ zipped axis behind (p ∷ ahead) =
     ∷ zipped axis (p ∷ behind) ahead
 
 each_zipped : (axis : Axis) (before ahead : List ZonePoint)
-  → each_interpolated axis before ahead ≡ zipped axis (reverse before) ahead
+    → each_interpolated axis before ahead ≡ zipped axis (reverse before) ahead
 unfolding each_interpolated zipped
 each_zipped axis before [] = refl
 each_zipped axis before (p ∷ ps) =
@@ -250,131 +243,124 @@ run_ends axis xs last h = by_lt_z (pos (untouched_run axis xs)) (pos (length xs)
     (λ l. let k : length xs ≤ untouched_run axis xs = omega (arith, ints, l) in
     some_or_none last (h ∙ none_backward axis xs (run_none axis xs k)))
 
--- runs of the sweep
-run_swept : (axis : Axis) (first before : ZonePoint) (xs : List ZonePoint) (d : ZonePoint) → untouched_run axis xs < length xs →
-    swept axis first before xs ≡ map (between axis before (get_or xs (untouched_run axis xs) d))
-    (take (untouched_run axis xs) xs) ++ (get_or xs (untouched_run axis xs) d ∷ swept axis first
-    (get_or xs (untouched_run axis xs) d) (drop (suc (untouched_run axis xs)) xs))
+-- a point's run, between it and the next touched one
+next_is : (axis : Axis) (first : ZonePoint) (xs : List ZonePoint)
+    → or_point (first_touched axis xs) first ≡ get_or xs (untouched_run axis xs) first
+unfolding first_touched untouched_run
+next_is axis first [] = refl
+next_is axis first (x ∷ xs) = by_touch (is_touched axis x) (λ t. rw t refl) (λ t. rw t (next_is axis first xs))
+
+run_swept : (axis : Axis) (first before : ZonePoint) (xs : List ZonePoint) → swept axis first before xs
+    ≡ map (between axis before (get_or xs (untouched_run axis xs) first)) (take (untouched_run axis xs) xs)
+    ++ swept axis first before (drop (untouched_run axis xs) xs)
 unfolding swept untouched_run
-run_swept axis first before [] d h = absurd (omega (arith, h))
-run_swept axis first before (x ∷ xs) d h = by_touch (is_touched axis x) (λ t. rw t refl)
-    (λ t. let k : untouched_run axis xs < length xs = omega (arith, rw t at h) in
-    rw (t, run_first axis xs d k)
-    (ap (λ l. between axis before (get_or xs (untouched_run axis xs) d) x ∷ l) (run_swept axis first before xs d k)))
+run_swept axis first before [] = refl
+run_swept axis first before (x ∷ xs) = by_touch (is_touched axis x) (λ t. rw t (rw t refl))
+    (λ t. rw (t, next_is axis first xs)
+    (ap (λ l. between axis before (get_or xs (untouched_run axis xs) first) x ∷ l) (run_swept axis first before xs)))
 
-pub end_swept : (axis : Axis) (first before : ZonePoint) (xs : List ZonePoint) → length xs ≤ untouched_run axis xs
-    → swept axis first before xs ≡ map (between axis before first) xs
+-- after a run the point before it is of no use
+swept_after_run : (axis : Axis) (first b c : ZonePoint) (xs : List ZonePoint)
+    → swept axis first b (drop (untouched_run axis xs) xs) ≡ swept axis first c (drop (untouched_run axis xs) xs)
 unfolding swept untouched_run
-end_swept axis first before [] h = refl
-end_swept axis first before (x ∷ xs) h = by_touch (is_touched axis x) (λ t. absurd (omega (arith, rw t at h)))
-    (λ t. let k : length xs ≤ untouched_run axis xs = omega (arith, rw t at h) in
-    rw (t, run_none axis xs k) (ap (λ l. between axis before first x ∷ l) (end_swept axis first before xs k)))
+swept_after_run axis first b c [] = refl
+swept_after_run axis first b c (x ∷ xs) =
+    by_touch (is_touched axis x) (λ t. rw t (rw t refl)) (λ t. rw t (swept_after_run axis first b c xs))
 
--- ---- the runs where they stand
+pub run_fits : (axis : Axis) (xs : List ZonePoint) → untouched_run axis xs ≤ length xs
+unfolding untouched_run
+run_fits axis [] = omega arith
+run_fits axis (x ∷ xs) =
+    by_touch (is_touched axis x) (λ t. rw t (omega arith)) (λ t. rw t (omega (arith, run_fits axis xs)))
 
-laid : {A : Type 0} (p ys rest : List A) (t : A) (n : ℕ) → n ≡ length p + length ys + 1
-    → (take n (p ++ (ys ++ (t ∷ rest))) ≡ p ++ (ys ++ (t ∷ []))) × (drop n (p ++ (ys ++ (t ∷ rest))) ≡ rest)
-laid p ys rest t n e =
-    let a : p ++ (ys ++ (t ∷ rest)) ≡ (p ++ ys) ++ (t ∷ rest) = sym (append_assoc p ys (t ∷ rest)) in
-    let b : n ≡ length (p ++ ys) + 1 = omega (arith, e, length-append p ys) in (
-      rw (a, b) (take-append-add (p ++ ys) (t ∷ rest) 1)
-          ∙ append_assoc p ys (t ∷ []),
-      rw (a, b) (drop-append-add (p ++ ys) (t ∷ rest) 1),
-    )
-
-put_run_at : (axis : Axis) (first before t : ZonePoint) (pts ys : List ZonePoint) (start k m : ℕ) (d : ZonePoint)
-    → start ≤ length pts
-    → k ≡ untouched_run axis (drop start pts) → k < length pts - start → m ≡ k → t ≡ get_or (drop start pts) k d
-    → ys ≡ map (between axis before t) (take m (drop start pts)) →
-    take (start + k + 1) (put_mid start m pts ys) ++ swept axis first t (drop (start + k + 1) (put_mid start m pts ys)) ≡ take
-    start pts ++ swept axis first before (drop start pts)
-put_run_at axis first before t pts ys start k m d w r h e g y =
-    let p = take start pts in
-    let xs = drop start pts in
-    let inside : k < length xs = omega (arith, length-drop start pts, h) in
-    let touched : untouched_run axis xs < length xs = omega (arith, inside, r) in
-    let rest = drop (suc k) xs in
-    let split : drop m xs ≡ t ∷ rest = rw (e, g) (drop-cons xs k d inside) in
-    let put : put_mid start m pts ys ≡ p ++ (ys ++ (t ∷ rest)) = ap (λ l. p ++ (ys ++ l)) split in
-    let long : length ys ≡ k = ap length y ∙ length-map (take m xs) (between axis before t)
-    ∙ length-take-le m xs (omega (arith, e, inside)) ∙ e in
-    let n : start + k + 1 ≡ length p + length ys + 1 = omega (arith, long, length-take-le start pts w) in
-    let l = laid p ys rest t (start + k + 1) n in
-    let s : swept axis first before xs ≡ ys ++ (t ∷ swept axis first t rest) = run_swept axis first before xs d touched
-    ∙ rw (← r, ← g, y, e) refl in
-    ap (λ zs. take (start + k + 1) zs ++ swept axis first t (drop (start + k + 1) zs)) put
-    ∙ (λ i. (l.0 i) ++ swept axis first t (l.1 i))
-    ∙ append_assoc p (ys ++ (t ∷ [])) (swept axis first t rest)
-    ∙ ap (λ zs. p ++ zs) (append_assoc ys (t ∷ []) (swept axis first t rest) ∙ sym s)
+-- ---- the sweep over a contour
 
 -- the points before a number done, and the sweep from there on
 abbrev pub swept_from : Axis → ZonePoint → ZonePoint → List ZonePoint → ℕ → List ZonePoint
 swept_from axis first last pts n = take n pts ++ swept axis first (point_before last n pts) (drop n pts)
 
--- after a touched point
-swept_after : (axis : Axis) (first last t : ZonePoint) (pts : List ZonePoint) (n : ℕ) → t ≡ get_or pts n last
-    → take (n + 1) pts ++ swept axis first t (drop (n + 1) pts) ≡ swept_from axis first last pts (n + 1)
-swept_after axis first last t pts n e =
+-- a touched point is passed
+pub touched_passed : (axis : Axis) (first last p d : ZonePoint) (pts : List ZonePoint) (n : ℕ) → n < length pts
+    → p ≡ get_or pts n d → is_touched axis p ≡ true → swept_from axis first last pts (n + 1) ≡ swept_from axis first last pts n
+touched_passed axis first last p d pts n h g t =
     let s : n + 1 ≡ suc n = omega arith in
-    rw (s, e) refl
+    let q : (e : ZonePoint) → get_or pts n e ≡ p = λ e. get_or_default pts n e d h ∙ sym g in
+    let rest = drop (suc n) pts in
+    let split : drop n pts ≡ p ∷ rest = drop-cons pts n p h ∙ ap (λ r. r ∷ rest) (q p) in
+    rw (s, q last) (ap (λ l. l ++ swept axis first p rest) (take-suc pts n p h)
+    ∙ append_assoc (take n pts) (get_or pts n p ∷ []) (swept axis first p rest)
+    ∙ ap (λ l. take n pts ++ l) (ap (λ r. r ∷ swept axis first p rest) (q p)
+    ∙ sym (ap (swept axis first (point_before last n pts)) split ∙ swept_at axis first (point_before last n pts) p rest t)))
 
--- a touched point behind another one
-pub put_none : (axis : Axis) (first last d : ZonePoint) (pts : List ZonePoint) (start end : ℕ) → start ≡ end → end < length pts
-    → is_touched axis (get_or pts end d) ≡ true → swept_from axis first last pts (end + 1) ≡ swept_from axis first last pts start
-put_none axis first last d pts start end e h t =
-    let p = get_or pts end last in
-    let before = point_before last end pts in
-    let s : end + 1 ≡ suc end = omega arith in
-    let touched : is_touched axis p ≡ true = ap (is_touched axis) (get_or_default pts end last d h) ∙ t in
-    rw e (sym (swept_after axis first last p pts end refl)
-    ∙ ap (λ n. take n pts ++ swept axis first p (drop n pts)) s
-    ∙ ap (λ l. l ++ swept axis first p (drop (suc end) pts)) (take-suc pts end last h)
-    ∙ append_assoc (take end pts) (p ∷ []) (swept axis first p (drop (suc end) pts))
-    ∙ ap (λ l. take end pts ++ l)
-    (sym (swept_at axis first before p (drop (suc end) pts) touched)
-    ∙ ap (swept axis first before) (sym (drop-cons pts end last h))))
-
--- the run before the next touched point is interpolated
-pub put_run : (axis : Axis) (first last before t d : ZonePoint) (pts ys : List ZonePoint) (start end m : ℕ) → start ≤ end
-    → end < length pts → Untouched axis pts start end → is_touched axis (get_or pts end d) ≡ true → m ≡ end - start
-    → before ≡ point_before last start pts → t ≡ get_or pts end t → ys ≡ map (between axis before t) (take m (drop start pts)) →
-    swept_from axis first last (put_mid start m pts ys) (end + 1) ≡ swept_from axis first last pts start
-put_run axis first last before t d pts ys start end m w h r touched e b g y =
-    let back : start + (end - start) ≡ end = omega (arith, w) in
-    let here : t ≡ get_or (drop start pts) (end - start) t = g ∙ ap (λ n. get_or pts n t) (sym back)
-    ∙ sym (get_or-drop start pts (end - start) t) in
-    let long : length ys ≡ m = ap length y ∙ length-map (take m (drop start pts)) (between axis before t)
-    ∙ length-take-le m (drop start pts) (omega (arith, e, h, length-drop start pts)) in
-    let same : drop end (put_mid start m pts ys) ≡ drop end pts = drop-put_mid start m pts ys end (omega (arith, e, w))
-    (omega (arith, w, h)) long in
-    let there : t ≡ get_or (put_mid start m pts ys) end last = g ∙ get_or_default pts end t last h ∙ sym (get_at_drop pts end last)
-    ∙ sym (ap (λ (l : List ZonePoint). get_or l 0 last) same) ∙ get_at_drop (put_mid start m pts ys) end last in
-    sym (swept_after axis first last t (put_mid start m pts ys) end there)
-    ∙ (rw back at
-    (put_run_at axis first before t pts ys start (end - start) m t (omega (arith, w, h))
-    (omega (arith, r, run_zero axis pts end d _ h refl touched)) (omega (arith, w, h)) e here y))
-    ∙ ap (λ p. take start pts ++ swept axis first p (drop start pts)) b
-  where
-    get_at_drop : (l : List ZonePoint) (n : ℕ) (d : ZonePoint) → get_or (drop n l) 0 d ≡ get_or l n d
-    get_at_drop l n d = get_or-drop n l 0 d ∙ ap (λ k. get_or l k d) (add-zero n)
-
-whole_rest : (l : List ZonePoint) (s : ℕ) → take (length l - s) (drop s l) ≡ drop s l
-whole_rest l s = take_all (length l - s) (drop s l) (omega (arith, length-drop s l))
-
--- the run behind the last touched point
-pub put_end : (axis : Axis) (first last before : ZonePoint) (pts ys : List ZonePoint) (start end : ℕ) → end ≡ length pts
-    → Untouched axis pts start end → before ≡ point_before last start pts
-    → ys ≡ map (between axis before first) (take (length pts - start) (drop start pts)) →
-    put_mid start (length pts - start) pts ys ≡ swept_from axis first last pts start
-put_end axis first last before pts ys start end h r b y =
+-- a run is interpolated
+pub run_passed : (axis : Axis) (first last before after : ZonePoint) (pts ys : List ZonePoint) (start end m : ℕ)
+    → start ≤ length pts → end ≡ start + untouched_run axis (drop start pts) → m ≡ end - start
+    → before ≡ point_before last start pts → after ≡ get_or pts end first
+    → ys ≡ map (between axis before after) (take m (drop start pts)) →
+    swept_from axis first last (put_mid start m pts ys) end ≡ swept_from axis first last pts start
+run_passed axis first last before after pts ys start end m w e n b g y =
     let xs = drop start pts in
-    let over = run_over axis pts end (omega (arith, h)) in
-    let all : length xs ≤ untouched_run axis xs = omega (arith, length-drop start pts, r, h, over) in
-    let none : drop (length pts - start) xs ≡ [] = drop_all (length pts - start) xs (omega (arith, length-drop start pts)) in
-    let same : ys ≡ swept axis first before xs = y ∙ ap (map (between axis before first)) (whole_rest pts start)
-    ∙ sym (end_swept axis first before xs all) in
-    ap (λ l. take start pts ++ (ys ++ l)) none ∙ ap (λ l. take start pts ++ l) (append-nil ys ∙ same)
-    ∙ ap (λ p. take start pts ++ swept axis first p (drop start pts)) b
+    let k = untouched_run axis xs in
+    let done = take start pts ++ ys in
+    let passed = point_before last end (put_mid start m pts ys) in
+    let is : m ≡ k = omega (arith, e, n) in
+    let long : length ys ≡ k = ap length y ∙ length-map (take m xs) (between axis before after)
+    ∙ length-take-le m xs (omega (arith, is, run_fits axis xs)) ∙ is in
+    let next : after ≡ get_or xs k first = g ∙ ap (λ j. get_or pts j first) e ∙ sym (get_or-drop start pts k first) in
+    let run : ys ≡ map (between axis before (get_or xs k first)) (take k xs) =
+    y ∙ (λ i. map (between axis before (next i)) (take (is i) xs)) in
+    let split : put_mid start m pts ys ≡ done ++ drop k xs = sym (append_assoc (take start pts) ys (drop m xs))
+    ∙ ap (λ j. done ++ drop j xs) is in
+    let at : end ≡ length done = omega (arith, e, long, length-append (take start pts) ys, length-take-le start pts w) in
+    let front : take end (done ++ drop k xs) ≡ done = rw at (take-append_seam done (drop k xs)) in
+    let back : drop end (done ++ drop k xs) ≡ drop k xs = rw at (drop-append_seam done (drop k xs)) in
+    ap (λ l. take end l ++ swept axis first passed (drop end l)) split
+    ∙ (λ i. (front i) ++ swept axis first passed (back i))
+    ∙ ap (λ l. done ++ l) (swept_after_run axis first passed before xs)
+    ∙ append_assoc (take start pts) ys (swept axis first before (drop k xs))
+    ∙ ap (λ l. take start pts ++ l)
+    (ap (λ l. l ++ swept axis first before (drop k xs)) run ∙ sym (run_swept axis first before xs))
+    ∙ ap (λ p. take start pts ++ swept axis first p xs) b
+
+pub passed_long : (f : ZonePoint → ZonePoint) (pts ys : List ZonePoint) (start end m : ℕ) → start ≤ end → end ≤ length pts
+    → m ≡ end - start → ys ≡ map f (take m (drop start pts)) → length (put_mid start m pts ys) ≡ length pts
+passed_long f pts ys start end m w h e y =
+    let xs = drop start pts in
+    let rest : length xs ≡ length pts - start = length-drop start pts in
+    let long : length ys ≡ m = ap length y ∙ length-map (take m xs) f ∙ length-take-le m xs (omega (arith, e, w, h, rest)) in
+    omega (
+      arith,
+      length-append (take start pts) (ys ++ drop m xs),
+      length-append ys (drop m xs),
+      length-drop m xs,
+      rest,
+      long,
+      length-take-le start pts (omega (arith, w, h)),
+      e,
+      w,
+      h,
+    )
+
+-- all points are passed
+pub all_passed : (axis : Axis) (first last : ZonePoint) (pts : List ZonePoint) (n : ℕ) → length pts ≤ n
+    → swept_from axis first last pts n ≡ pts
+unfolding swept
+all_passed axis first last pts n h =
+    rw (take_all n pts h, drop_all n pts h) (append-nil pts)
+
+-- ---- the two orders of the points around a run
+
+pub between_lower : (axis : Axis) (before after : ZonePoint) (xs ys : List ZonePoint) → ys ≡ map (placed axis after before) xs
+    → int_lt (org axis after) (org axis before) ≡ true → ys ≡ map (between axis before after) xs
+unfolding between
+between_lower axis before after xs ys e t =
+    e ∙ sym (ap (λ c. map (λ p. if c then placed axis after before p else placed axis before after p) xs) t)
+
+pub between_higher : (axis : Axis) (before after : ZonePoint) (xs ys : List ZonePoint) → ys ≡ map (placed axis before after) xs
+    → int_lt (org axis after) (org axis before) ≡ false → ys ≡ map (between axis before after) xs
+unfolding between
+between_higher axis before after xs ys e t =
+    e ∙ sym (ap (λ c. map (λ p. if c then placed axis after before p else placed axis before after p) xs) t)
 
 -- ---- contours
 

@@ -1,6 +1,6 @@
 //! Untouched points between touched ones.
 
-ghost use Rattle.std.specs.Prelude.{◌≡◌, ◌≢◌, ◌+◌, ◌*◌, ◌≤◌, ◌<◌, ◌^◌, pos, ◌+ℤ◌, ◌-ℤ◌, ◌*ℤ◌, ◌<ℤ◌, unsigned_abs, length, map, reverse, slice_index_or};
+ghost use Rattle.std.specs.Prelude.{◌≡◌, ◌≢◌, ◌+◌, ◌*◌, ◌≤◌, ◌<◌, ◌^◌, pos, ◌+ℤ◌, ◌-ℤ◌, ◌*ℤ◌, ◌<ℤ◌, unsigned_abs, length, drop, map, reverse, slice_index_or};
 ghost use Rattle.std.specs.List.{All};
 ghost use Rattle.fx_fixed.specs.Numbers.{wrapped_of, near_size};
 ghost use Rattle.fx_zone.specs.Interpolation.{is_touched, moved_with, in_proportion, coordinate_between, placed, between, first_touched, untouched_run, point_before, contour_interpolated, contours_interpolated};
@@ -157,28 +157,51 @@ fn place(axis: Axis, lo: &ZonePoint, hi: &ZonePoint, point: &mut ZonePoint)
     }
 }
 
-/// Moves a point between the touched points before and after it.
-#[inline(always)]
-#[tactic(auto, unfolding(crate::specs::Interpolation::between))]
-fn place_between(axis: Axis, before: &ZonePoint, after: &ZonePoint, point: &mut ZonePoint)
-    ensures { point.new ≡ between axis before.now after.now point.old }
-{
-    if after.org.along(axis).0 < before.org.along(axis).0 {
-        place(axis, after, before, point);
-    } else {
-        place(axis, before, after, point);
-    }
-}
-
-/// Interpolates a run of untouched points.
+/// Interpolates a run of untouched points between two others, of which `lo` is the lower.
 #[inline(always)]
 #[tactic(auto, using(crate::proofs::Laying::more_written))]
-fn interpolate_run(points: &mut [ZonePoint], axis: Axis, before: &ZonePoint, after: &ZonePoint)
-    ensures { points.new ≡ map (between axis before.now after.now) points.old }
+fn place_run(points: &mut [ZonePoint], axis: Axis, lo: &ZonePoint, hi: &ZonePoint)
+    ensures { points.new ≡ map (placed axis lo.now hi.now) points.old }
 {
     // The points that were seen are interpolated.
     'run: for point in points.iter_mut() {
-        place_between(axis, before, after, point);
+        place(axis, lo, hi, point);
+    }
+}
+
+/// Interpolates a run between any two points.
+#[cold]
+#[inline(never)]
+fn place_long_run(points: &mut [ZonePoint], axis: Axis, lo: &ZonePoint, hi: &ZonePoint)
+    ensures { points.new ≡ map (placed axis lo.now hi.now) points.old }
+{
+    place_run(points, axis, lo, hi);
+}
+
+/// Interpolates a run. Whether its distances are short is asked once for all of its points.
+#[inline(always)]
+fn place_between(points: &mut [ZonePoint], axis: Axis, lo: &ZonePoint, hi: &ZonePoint)
+    ensures { points.new ≡ map (placed axis lo.now hi.now) points.old }
+{
+    let apart = difference(hi.org.along(axis), lo.org.along(axis));
+    let whole = difference(hi.cur.along(axis), lo.cur.along(axis));
+    if apart <= MAX_SHORT && 0 <= whole && whole <= MAX_SHORT {
+        place_run(points, axis, lo, hi);
+    } else {
+        place_long_run(points, axis, lo, hi);
+    }
+}
+
+/// Interpolates a run between the touched points before and after it.
+#[inline(always)]
+#[tactic(auto, using(crate::proofs::Interpolating::between_lower, crate::proofs::Interpolating::between_higher))]
+fn interpolate_run(points: &mut [ZonePoint], axis: Axis, before: &ZonePoint, after: &ZonePoint)
+    ensures { points.new ≡ map (between axis before.now after.now) points.old }
+{
+    if after.org.along(axis).0 < before.org.along(axis).0 {
+        place_between(points, axis, after, before);
+    } else {
+        place_between(points, axis, before, after);
     }
 }
 
@@ -197,12 +220,35 @@ fn untouched_run(points: &[ZonePoint], axis: Axis) -> usize
     points.len()
 }
 
+/// The number of the first touched point from a number on; that of all points if there is none.
+#[inline(always)]
+#[tactic(auto, using(crate::proofs::Interpolating::run_fits))]
+fn run_end(points: &[ZonePoint], start: usize, axis: Axis) -> usize
+    requires { start ≤ length points.now }
+    ensures value { result ≡ start + untouched_run axis (drop start points.now) }
+    ensures within { result ≤ length points.now }
+{
+    start + untouched_run(&points[start..], axis)
+}
+
 /// The point of a number.
 fn numbered(points: &[ZonePoint], number: usize) -> ZonePoint
     requires { number < length points.now }
     ensures { result ≡ slice_index_or points.now number result }
 {
     points[number]
+}
+
+/// The point of a number; another one if it is outside.
+#[inline(always)]
+fn numbered_or(points: &[ZonePoint], number: usize, other: &ZonePoint) -> ZonePoint
+    ensures { result ≡ slice_index_or points.now number other.now }
+{
+    if number < points.len() {
+        numbered(points, number)
+    } else {
+        *other
+    }
 }
 
 /// The point before the one of a number; before the first the contour's last touched one.
@@ -246,19 +292,18 @@ fn interpolate_contour(points: &mut [ZonePoint], axis: Axis)
     };
     let first = numbered(points, untouched_run(points, axis));
     let mut start = 0;
-    // The points before `start` are done, of which the last is touched, and those from there to `end` are untouched.
-    'points: for end in 0..points.len() {
-        if is_touched(&points[end], axis) {
-            if start < end {
-                let before = point_before(points, start, &last);
-                let after = numbered(points, end);
-                interpolate_run(&mut points[start..end], axis, &before, &after);
-            }
-            start = end + 1;
+    // The points before `start` are done.
+    'points: while start < points.len() {
+        if is_touched(&points[start], axis) {
+            start += 1;
+        } else {
+            let end = run_end(points, start, axis);
+            let before = point_before(points, start, &last);
+            let after = numbered_or(points, end, &first);
+            interpolate_run(&mut points[start..end], axis, &before, &after);
+            start = end;
         }
     }
-    let before = point_before(points, start, &last);
-    interpolate_run(&mut points[start..], axis, &before, &first);
 }
 
 /// Interpolates the untouched points of each contour, by the numbers of their last points.
