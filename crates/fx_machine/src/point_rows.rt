@@ -68,7 +68,7 @@ impl State {
     {
         let (a1, b0, b1) = self.store.three()?;
         let (p, a0) = self.store.two()?;
-        self.zones.isect(&self.graphics, p, a0, a1, b0, b1);
+        self.zones.isect(&self.graphics, p, (a0, a1), (b0, b1));
         Ok(())
     }
 

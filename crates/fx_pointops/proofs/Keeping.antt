@@ -52,7 +52,7 @@ zone_keeps change h Twilight z = record { twilight = h z.twilight; glyph = shape
 zone_keeps change h Glyph z = record { twilight = shape_same z.twilight; glyph = h z.glyph }
 
 index_keeps : (change : ZonePoint → ZonePoint) (zone : ZonePointer) (n : Option ℕ) (z : Zones)
-  → HasShapes z (changed_of change zone n z)
+    → HasShapes z (changed_of change zone n z)
 index_keeps change zone None z = shapes_same z
 index_keeps change zone (Some n) z = zone_keeps (changed change n) (changed_shape change n) zone z
 
@@ -100,7 +100,7 @@ laid_keeps g p by z = if_keeps z _ z _ (changed_keeps _ g.zp1 p z) (shapes_same 
 
 contour_keeps : (g : GState) (by : Place) (except : Option ℕ) (c : Option (ℕ × ℕ)) (z : Zones)
     → HasShapes z (contour_shifted g by except c z)
-contour_keeps g by except (Some c) z = zone_keeps _ (each_shape (in_range_without except c.0 c.1) _) g.zp2 z
+contour_keeps g by except (Some c) z = zone_keeps _ (each_shape (in_range_without _) _) g.zp2 z
 contour_keeps g by except None z = stray_keeps z
 
 run_shape : (on : Bool) (low high : ℕ) (f : Figure) → HasShape f (run_curved on low high f)
@@ -129,7 +129,7 @@ rows_keep = record {
   iup = λ axis z. record { twilight = shape_same z.twilight; glyph = interpolated_shape axis z.glyph };
   shp = λ g one points z. after_one _ z _ (each_keeps _ (λ p y. point_keeps _ g.zp2 p y) points _);
   shc = λ g one k z. after_one _ z _ (contour_keeps g _ _ _ _);
-  shz = λ g one zone z. after_one _ z _ (zone_keeps _ (each_shape (in_range_without _ 0 _) _) zone _);
+  shz = λ g one zone z. after_one _ z _ (zone_keeps _ (each_shape (in_range_without _) _) zone _);
   shpix = λ g points a z. each_keeps _ (λ p y. point_keeps _ g.zp2 p y) points z;
   ip = λ g points z. after_two _ _ z _ (each_keeps _ (λ p y. point_keeps _ g.zp2 p y) points _);
   msirp = λ g p d z. after_two _ _ z _ (shapes_then _ _ _ (laid_keeps g p (shift_by g d) _) (changed_keeps _ g.zp1 p _));

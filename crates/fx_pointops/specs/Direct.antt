@@ -15,7 +15,7 @@ use Rattle.fx_gstate.specs.Vectors.{has_part, place_along}
 use Rattle.fx_pointops.specs.declared.distances.Relative.{Relative}
 use Rattle.fx_pointops.specs.declared.zones.Zones.{Zones}
 use Rattle.fx_pointops.specs.Zones.{is_twilight, point_at, changed_at, counting, counting_two, on_point}
-use Rattle.fx_pointops.specs.ShiftPoint.{shift_by, moved_by, point_shifted}
+use Rattle.fx_pointops.specs.ShiftPoint.{shift_by, shift_with, moved_by, point_shifted}
 use Rattle.fx_pointops.specs.Measure.{org_at, along, distance_of, original_of}
 use Rattle.fx_pointops.specs.Distances.{negative_of, single_of, rounded_by, kept_by}
 use Rattle.fx_pointops.specs.Loops.{each}
@@ -91,7 +91,7 @@ scfs_of g p v z = on_point (moved_to_value g v) g.zp2 p z
 -- 38 SHPIX, SHift point by a PIXel amount: .. p a ->, a loop
 -- Each p, of zp2, is shifted by a along the freedom vector.
 unfoldable pub shpix_of : GState → List ℤ → ℤ → Zones → Zones
-shpix_of g points a z = each (point_shifted g (place_along g.freedom a)) points z
+shpix_of g points a z = each (point_shifted g (shift_with g (place_along g.freedom a))) points z
 
 -- C0-DF MDRP[abcde], Move Direct Relative Point: p ->
 -- p, of zp1, moves to its original distance from rp0, of zp0, or the single width if that is near: with bit c (rounds) as the round

@@ -8,7 +8,7 @@ ghost use Rattle.fx_pointops.specs.Direct.{msirp_of, aligned_to_rp, alignrp_of, 
 
 use crate::distances::{Relative, kept_by, negative, rounded_by, single};
 use crate::loops::LoopStep;
-use crate::shift_point::move_point;
+use crate::shift_point::{move_point, shift_with};
 use crate::zones::{Zones, cur, is_twilight, org};
 use fx_fixed::{Axis, F26, Place, cut, w32};
 use fx_gstate::GState;
@@ -204,8 +204,8 @@ impl Zones {
     pub fn shpix(&mut self, g: &GState, points: &[i32], a: F26)
         ensures { self.new ≡ shpix_of g.now (reverse points.now) a self.old }
     {
-        let by = g.freedom_place(a);
-        self.each(g, &LoopStep::Shift(by), points);
+        let shift = shift_with(g, g.freedom_place(a));
+        self.each(g, &LoopStep::Shift(shift), points);
     }
 
     /// C0-DF MDRP[abcde], Move Direct Relative Point: moves p, of zp1, to its original distance from rp0, of zp0, or the single

@@ -128,15 +128,16 @@ impl Zones {
         *point = point.put(place);
     }
 
-    /// 0F ISECT, InterSECTion of two lines: puts p, of zp2, where the line a0 a1, of zp1, crosses the line b0 b1, of zp0.
+    /// 0F ISECT, InterSECTion of two lines: puts p, of zp2, where the line between the points a, of zp1, crosses the one between
+    /// the points b, of zp0.
     #[tactic(auto, unfolding(crate::specs::Intersect::isect_of))]
-    pub fn isect(&mut self, g: &GState, p: i32, a0: i32, a1: i32, b0: i32, b1: i32)
-        ensures { self.new ≡ isect_of g.now p a0 a1 b0 b1 self.old }
+    pub fn isect(&mut self, g: &GState, p: i32, a: (i32, i32), b: (i32, i32))
+        ensures { self.new ≡ isect_of g.now p a.0 a.1 b.0 b.1 self.old }
     {
-        let a0 = self.point(g.zp1, a0);
-        let a1 = self.point(g.zp1, a1);
-        let b0 = self.point(g.zp0, b0);
-        let b1 = self.point(g.zp0, b1);
+        let a0 = self.point(g.zp1, a.0);
+        let a1 = self.point(g.zp1, a.1);
+        let b0 = self.point(g.zp0, b.0);
+        let b1 = self.point(g.zp0, b.1);
         let place = intersection(&cur(&a0), &cur(&a1), &cur(&b0), &cur(&b1));
         self.count_two(&a0, &a1);
         self.count_two(&b0, &b1);

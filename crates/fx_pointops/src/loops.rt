@@ -5,8 +5,9 @@ ghost use Rattle.fx_pointops.specs.Loops.{each};
 ghost use Rattle.fx_pointops.specs.inner.Steps.{steps_of};
 
 use crate::zones::Zones;
-use fx_fixed::{F26, Place};
+use fx_fixed::F26;
 use fx_gstate::GState;
+use fx_zone::PointShift;
 
 /// What a row does with each point of its loop.
 #[derive(Clone, Copy, Debug, PartialEq, Eq)]
@@ -15,8 +16,8 @@ pub enum LoopStep {
     Align,
     /// FLIPPT: it goes off the curve, or onto it.
     Flip,
-    /// SHP, SHPIX: it is shifted by this place.
-    Shift(Place),
+    /// SHP, SHPIX: it is shifted so.
+    Shift(PointShift),
     /// IP: it moves to a distance in the proportion of `cb` to `ob`.
     Interpolate { cb: F26, ob: F26 },
 }
@@ -29,7 +30,7 @@ impl Zones {
         match step {
             LoopStep::Align => self.align_to_rp(g, p),
             LoopStep::Flip => self.flip_point(g, p),
-            LoopStep::Shift(by) => self.shift_point(g, by, p),
+            LoopStep::Shift(shift) => self.shift_point(g, shift, p),
             LoopStep::Interpolate { cb, ob } => self.move_in_proportion(g, cb, ob, p),
         }
     }

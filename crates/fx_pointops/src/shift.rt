@@ -7,9 +7,11 @@ ghost use Rattle.fx_pointops.specs.Shift.{reference_zone, reference_point, count
 ghost use Rattle.fx_pointops.specs.Shift.{contour_at, contour_shifted_at, shc_of, count_without_phantoms, shz_of};
 
 use crate::loops::LoopStep;
+use crate::shift_point::shift_with;
 use crate::zones::{Zones, cur, index_of, is_same_zone, org};
-use fx_fixed::{Axis, Place};
+use fx_fixed::Place;
 use fx_gstate::{GState, ZonePointer};
+use fx_zone::{PointRange, PointShift};
 
 /// The zone of the reference point: of point 1 or of point 2.
 fn reference_zone(g: &GState, one: bool) -> ZonePointer
@@ -56,27 +58,18 @@ impl Zones {
     pub fn shp(&mut self, g: &GState, one: bool, points: &[i32])
         ensures { self.new ≡ shp_of g.now one (reverse points.now) self.old }
     {
-        let by = self.reference_shift(g, one);
-        self.each(g, &LoopStep::Shift(by), points);
+        let shift = shift_with(g, self.reference_shift(g, one));
+        self.each(g, &LoopStep::Shift(shift), points);
     }
 
-    /// Shifts the points of a range, without one of them, and touches them along the axes that are given.
-    fn shift_range(
-        &mut self,
-        zone: ZonePointer,
-        first: usize,
-        past: usize,
-        except: Option<usize>,
-        by: Place,
-        x: bool,
-        y: bool,
-    )
-        requires { past ≤ length (zone_at zone self.old).points }
-        ensures { self.new ≡ on_zone (range_shifted by x y except first past) zone self.old }
+    /// Shifts and touches the points of a range.
+    fn shift_range(&mut self, zone: ZonePointer, range: PointRange, shift: PointShift)
+        requires { range.past ≤ length (zone_at zone self.old).points }
+        ensures { self.new ≡ on_zone (range_shifted shift range) zone self.old }
     {
         match zone {
-            ZonePointer::Twilight => self.twilight.shift_range(first, past, except, by, x, y),
-            ZonePointer::Glyph => self.glyph.shift_range(first, past, except, by, x, y),
+            ZonePointer::Twilight => self.twilight.shift_range(range, shift),
+            ZonePointer::Glyph => self.glyph.shift_range(range, shift),
         }
     }
 
@@ -109,10 +102,12 @@ impl Zones {
             self.add_stray();
             return;
         };
-        let except = excepted(g, one, g.zp2);
-        let x = g.touches(Axis::X);
-        let y = g.touches(Axis::Y);
-        self.shift_range(g.zp2, first, past, except, by, x, y);
+        let range = PointRange {
+            first,
+            past,
+            except: excepted(g, one, g.zp2),
+        };
+        self.shift_range(g.zp2, range, shift_with(g, by));
     }
 
     /// The number of points of a zone without a glyph's four phantom points.
@@ -132,8 +127,16 @@ impl Zones {
         ensures { self.new ≡ shz_of g.now one zone self.old }
     {
         let by = self.reference_shift(g, one);
-        let past = self.count_without_phantoms(zone);
-        let except = excepted(g, one, zone);
-        self.shift_range(zone, 0, past, except, by, false, false);
+        let range = PointRange {
+            first: 0,
+            past: self.count_without_phantoms(zone),
+            except: excepted(g, one, zone),
+        };
+        let shift = PointShift {
+            by,
+            x: false,
+            y: false,
+        };
+        self.shift_range(zone, range, shift);
     }
 }

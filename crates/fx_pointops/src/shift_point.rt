@@ -2,24 +2,27 @@
 
 ghost use Rattle.std.specs.Prelude.{◌≡◌};
 ghost use Rattle.fx_pointops.specs.Zones.{changed_at};
-ghost use Rattle.fx_pointops.specs.ShiftPoint.{shifted_by, moved_by, point_shifted};
+ghost use Rattle.fx_pointops.specs.ShiftPoint.{shift_with, moved_by, point_shifted};
 
 use crate::zones::Zones;
 use fx_fixed::{Axis, F26, Place};
 use fx_gstate::{GState, ZonePointer};
-use fx_zone::ZonePoint;
+use fx_zone::{PointShift, ZonePoint};
 
-/// A point shifted, and touched along each axis along which the freedom vector has a part.
-#[tactic(auto, unfolding(crate::specs::ShiftPoint::shifted_by))]
-pub fn shifted_by(g: &GState, by: Place, point: ZonePoint) -> ZonePoint
-    ensures { result ≡ shifted_by g.now by point }
+/// A shift that touches points along each axis along which the freedom vector has a part.
+pub fn shift_with(g: &GState, by: Place) -> PointShift
+    ensures { result ≡ shift_with g.now by }
 {
-    point.shifted(by, g.touches(Axis::X), g.touches(Axis::Y))
+    PointShift {
+        by,
+        x: g.touches(Axis::X),
+        y: g.touches(Axis::Y),
+    }
 }
 
 /// Moves a point by a distance. Along an axis it is known which axis it touches.
 #[inline(never)]
-#[tactic(auto, unfolding(crate::specs::ShiftPoint::moved_by, crate::specs::ShiftPoint::shifted_by))]
+#[tactic(auto, unfolding(crate::specs::ShiftPoint::moved_by))]
 pub fn move_point(g: &GState, d: F26, point: &mut ZonePoint)
     ensures { point.new ≡ moved_by g.now d point.old }
 {
@@ -42,7 +45,7 @@ pub fn move_point(g: &GState, d: F26, point: &mut ZonePoint)
 fn move_aslant(g: &GState, d: F26, point: &mut ZonePoint)
     ensures { point.new ≡ moved_by g.now d point.old }
 {
-    *point = shifted_by(g, g.shift_place(d), *point);
+    point.shift(&shift_with(g, g.shift_place(d)));
 }
 
 impl Zones {
@@ -58,13 +61,13 @@ impl Zones {
 
     /// Shifts a point of zp2.
     #[tactic(auto, unfolding(crate::specs::ShiftPoint::point_shifted), using(crate::proofs::Setting::setting))]
-    pub(crate) fn shift_point(&mut self, g: &GState, by: &Place, p: i32)
-        ensures { self.new ≡ point_shifted g.now by.now p self.old }
+    pub(crate) fn shift_point(&mut self, g: &GState, shift: &PointShift, p: i32)
+        ensures { self.new ≡ point_shifted g.now shift.now p self.old }
     {
         let Some(point) = self.point_mut(g.zp2, p) else {
             self.add_stray();
             return;
         };
-        *point = shifted_by(g, *by, *point);
+        point.shift(shift);
     }
 }

@@ -5,6 +5,7 @@ use Rattle.std.proofs.Common.{if◌then◌else◌, List, [], ◌∷◌, length, 
 use Rattle.std.specs.Prelude.{nat_le}
 use Rattle.std.proofs.lemmas.Bool.{lt-ltb, le-ltb, le-leb, lt-leb}
 use Rattle.fx_zone.specs.declared.point.ZonePoint.{ZonePoint}
+use Rattle.fx_zone.specs.declared.range.PointRange.{PointRange}
 use Rattle.fx_zone.specs.Figures.{each_changed, in_range, in_range_without, is_number}
 
 -- ---- the numbers of a range
@@ -24,18 +25,18 @@ range_chooses first past = record {
   after = λ m h. rw (le-ltb m past h) (and_false (nat_le first m));
 }
 
-pub without_chooses : (except : Option ℕ) (first past : ℕ) → Chooses (in_range_without except first past) first past
-without_chooses except first past = record {
-  before = λ m h. rw (lt-leb first m h) refl;
-  after = λ m h. rw (le-ltb m past h, and_false (nat_le first m)) refl;
+pub without_chooses : (r : PointRange) → Chooses (in_range_without r) r.first r.past
+without_chooses r = record {
+  before = λ m h. rw (lt-leb r.first m h) refl;
+  after = λ m h. rw (le-ltb m r.past h, and_false (nat_le r.first m)) refl;
 }
 
 pub range_inside : (first past m : ℕ) → first ≤ m → m < past → in_range first past m ≡ true
 range_inside first past m h k = rw (le-leb first m h, lt-ltb m past k) refl
 
-pub without_inside : (except : Option ℕ) (first past m : ℕ) (b : Bool) → first ≤ m → m < past → not (is_number m except) ≡ b
-    → in_range_without except first past m ≡ b
-without_inside except first past m b h k e = rw (le-leb first m h, lt-ltb m past k) e
+pub without_inside : (r : PointRange) (m : ℕ) (b : Bool) → r.first ≤ m → m < r.past → not (is_number m r.except) ≡ b
+    → in_range_without r m ≡ b
+without_inside r m b h k e = rw (le-leb r.first m h, lt-ltb m r.past k) e
 
 -- ---- the first points of a list, each changed if the test chooses its number
 

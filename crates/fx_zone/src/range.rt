@@ -4,8 +4,16 @@ ghost use Rattle.std.specs.Prelude.{◌≡◌, ◌≤◌, length, map};
 ghost use Rattle.fx_zone.specs.Figures.{each_changed, in_range, in_range_without, is_number};
 ghost use Rattle.fx_zone.specs.Points.{rested, shifted, curved};
 
-use crate::point::ZonePoint;
+use crate::point::{PointShift, ZonePoint};
 use fx_fixed::Place;
+
+/// The points from a number to before another, without one of them.
+#[derive(Clone, Copy, Debug, PartialEq, Eq)]
+pub struct PointRange {
+    pub first: usize,
+    pub past: usize,
+    pub except: Option<usize>,
+}
 
 /// Whether a number is this one.
 fn is_number(number: usize, other: Option<usize>) -> bool
@@ -17,23 +25,15 @@ fn is_number(number: usize, other: Option<usize>) -> bool
     }
 }
 
-/// Shifts the points of a range, without one of them, and touches them along the axes that are given.
-pub fn shift_range(
-    points: &mut [ZonePoint],
-    first: usize,
-    past: usize,
-    except: Option<usize>,
-    by: &Place,
-    x: bool,
-    y: bool,
-)
-    requires { past ≤ length points.old }
-    ensures { points.new ≡ each_changed (in_range_without except first past) (shifted by.now x y) 0 points.old }
+/// Shifts and touches the points of a range.
+pub fn shift_range(points: &mut [ZonePoint], range: PointRange, shift: PointShift)
+    requires { range.past ≤ length points.old }
+    ensures { points.new ≡ each_changed (in_range_without range) (shifted shift) 0 points.old }
 {
     // The points before `number` are done.
-    'range: for number in first..past {
-        if !is_number(number, except) {
-            points[number] = points[number].shifted(*by, x, y);
+    'range: for number in range.first..range.past {
+        if !is_number(number, range.except) {
+            points[number].shift(&shift);
         }
     }
 }

@@ -9,8 +9,8 @@ ghost use Rattle.fx_zone.specs.Figures.{Figure, joined, empty_figure, range_shif
 ghost use Rattle.fx_zone.specs.Interpolation.{figure_interpolated};
 
 use crate::interpolation::interpolate_contours;
-use crate::point::ZonePoint;
-use crate::range::{curve_range, rest_points, shift_range};
+use crate::point::{PointShift, ZonePoint};
+use crate::range::{PointRange, curve_range, rest_points, shift_range};
 use fx_fixed::{Axis, Place};
 use std::alloc::{AllocError, Global};
 use std::marker::Model;
@@ -125,21 +125,13 @@ impl Zone {
         Some((first, last + 1))
     }
 
-    /// Shifts the points from a number to before another, without one of them, and touches them along the axes that are given.
-    pub fn shift_range(
-        &mut self,
-        first: usize,
-        past: usize,
-        except: Option<usize>,
-        by: Place,
-        x: bool,
-        y: bool,
-    )
-        requires { past ≤ length self.old.points }
-        ensures value { self.new ≡ range_shifted by x y except first past self.old }
+    /// Shifts and touches the points of a range.
+    pub fn shift_range(&mut self, range: PointRange, shift: PointShift)
+        requires { range.past ≤ length self.old.points }
+        ensures value { self.new ≡ range_shifted shift range self.old }
         ensures shape { HasShape self.old self.new }
     {
-        shift_range(&mut self.points, first, past, except, &by, x, y);
+        shift_range(&mut self.points, range, shift);
     }
 
     /// Makes the points from a number to before another ones on the curve, or off it.

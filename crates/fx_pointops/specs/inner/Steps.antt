@@ -12,5 +12,5 @@ use Rattle.fx_pointops.specs.Flip.{point_flipped}
 abbrev pub steps_of : GState → LoopStep → ℤ → Zones → Zones
 steps_of g Align = aligned_to_rp g
 steps_of g Flip = point_flipped g
-steps_of g (Shift by) = point_shifted g by
+steps_of g (Shift shift) = point_shifted g shift
 steps_of g (Interpolate cb ob) = point_in_proportion g cb ob

@@ -6,4 +6,4 @@ use Rattle.fx_zone.proofs.range.shift_range.Given as goal
 
 abbrev pub invariant-range : goal.invariant-range
 invariant-range l =
-    l.points ≡ changed_front (in_range_without l.except l.first l.past) (shifted l.by l.x l.y) l.number 0 l.initial.points
+    l.points ≡ changed_front (in_range_without l.range) (shifted l.shift) l.number 0 l.initial.points
