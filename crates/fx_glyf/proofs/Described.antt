@@ -17,13 +17,13 @@ use Rattle.fx_glyf.specs.declared.glyph.Glyph.{Glyph}
 use Rattle.fx_glyf.specs.declared.glyph.Glyph.TheVariants.{Empty, Simple, Composite}
 use Rattle.fx_glyf.specs.Words.{words, count_from, program_of}
 use Rattle.fx_glyf.specs.Points.{glyph_points_of}
-use Rattle.fx_glyf.specs.Components.{parts_in, has_program}
+use Rattle.fx_glyf.specs.Components.{components_in, has_program}
 use Rattle.fx_glyf.specs.Shapes.{SimpleView, CompositeView}
 use Rattle.fx_glyf.specs.Grammar.{SpellsAnnounced, DescribesSimple, DescribesComposite, Describes}
 use Rattle.fx_glyf.specs.Glyphs.{x_min_of, simple_of, announced_of, composite_of, body_of, glyph_of}
 use Rattle.fx_glyf.proofs.EndPoints.{ends_counted, ends_count}
 use Rattle.fx_glyf.proofs.PointsDescribed.{found_points, only_points}
-use Rattle.fx_glyf.proofs.PartsDescribed.{found_parts, only_parts}
+use Rattle.fx_glyf.proofs.ComponentRecordsDescribed.{found_components, only_components}
 use Rattle.fx_glyf.proofs.Programs.{found_program, only_program, found_header, headed}
 
 words_take : (n m : ℕ) (xs : List ℕ) → 2 * n ≤ m → words n (take m xs) ≡ words n xs
@@ -116,37 +116,38 @@ unfolding composite_of
 found_composite bytes g s long high h =
     let a = wanted_ok _ _ _ _ h in
     let b = wanted_ok _ _ _ _ a.2 in
-    let parts = found_parts (drop 10 bytes) a.0.0 a.0.1 a.1 in
+    let components = found_components (drop 10 bytes) a.0.0 a.0.1 a.1 in
     let program = found_announced (has_program a.0.0) a.0.1 b.0 b.1 in
     let P : CompositeView → Type 0 = DescribesComposite bytes in
     subst P (ok_injective _ _ b.2) (record {
       header = take 10 bytes;
       contours = field 2 bytes 0;
-      parts = parts.front;
+      records = components.front;
       program = program.0;
       rest = b.0.1;
       split = sym (take-append-drop 10 bytes)
-          ∙ ap (λ (x : List ℕ). take 10 bytes ++ x) (parts.split ∙ ap (λ (x : List ℕ). parts.front ++ x) program.1);
+          ∙ ap (λ (x : List ℕ). take 10 bytes ++ x) (components.split ∙ ap (λ (x : List ℕ). components.front ++ x) program.1);
       header_is = found_header bytes long;
       below_zero = high;
-      components_are = parts.spells;
-      last_is = parts.last;
+      components_are = components.spells;
+      last_is = components.last;
       program_is = program.2;
     })
 
-composite_there : (bytes : List ℕ) (g : ℕ) (parts : List Component) (behind code rest : List ℕ)
-    → parts_in true (drop 10 bytes) ≡ Some (parts, behind) → announced_of (has_program parts) behind ≡ Some (code, rest)
-    → composite_of bytes g ≡ Ok (record { components = parts; x_min = x_min_of bytes; code = code })
+composite_there : (bytes : List ℕ) (g : ℕ) (components : List Component) (behind code rest : List ℕ)
+    → components_in true (drop 10 bytes) ≡ Some (components, behind)
+    → announced_of (has_program components) behind ≡ Some (code, rest)
+    → composite_of bytes g ≡ Ok (record { components = components; x_min = x_min_of bytes; code = code })
 unfolding composite_of
-composite_there bytes g parts behind code rest a b = simp (a, b)
+composite_there bytes g components behind code rest a b = simp (a, b)
 
 -- a composite glyph that the bytes describe is read
 only_composite : (bytes : List ℕ) (g : ℕ) (s : CompositeView) → DescribesComposite bytes s → composite_of bytes g ≡ Ok s
 only_composite bytes g s d =
-    let h = headed bytes d.header (d.parts ++ (d.program ++ d.rest)) d.contours s.x_min d.split d.header_is in
-    let parts : parts_in true (drop 10 bytes) ≡ Some (s.components, d.program ++ d.rest) =
-    ap (parts_in true) h.rest_is ∙ only_parts s.components d.parts (d.program ++ d.rest) d.components_are d.last_is in
-    composite_there bytes g s.components (d.program ++ d.rest) s.code d.rest parts
+    let h = headed bytes d.header (d.records ++ (d.program ++ d.rest)) d.contours s.x_min d.split d.header_is in
+    let components : components_in true (drop 10 bytes) ≡ Some (s.components, d.program ++ d.rest) =
+    ap (components_in true) h.rest_is ∙ only_components s.components d.records (d.program ++ d.rest) d.components_are d.last_is in
+    composite_there bytes g s.components (d.program ++ d.rest) s.code d.rest components
     (only_announced (has_program s.components) s.code d.program d.rest d.program_is)
     ∙ (rw h.x_min_is refl)
 
@@ -179,7 +180,7 @@ only_glyph bytes g (Simple s) d =
     glyph_long bytes g h.long ∙ ap (λ (n : ℕ). body_of n bytes g) h.contours_are
     ∙ body_simple d.contours bytes g s d.some_contours.0 d.some_contours.1 (only_simple bytes g s d)
 only_glyph bytes g (Composite s) d =
-    let h = headed bytes d.header (d.parts ++ (d.program ++ d.rest)) d.contours s.x_min d.split d.header_is in
+    let h = headed bytes d.header (d.records ++ (d.program ++ d.rest)) d.contours s.x_min d.split d.header_is in
     glyph_long bytes g h.long ∙ ap (λ (n : ℕ). body_of n bytes g) h.contours_are
     ∙ body_composite d.contours bytes g s d.below_zero (only_composite bytes g s d)
 

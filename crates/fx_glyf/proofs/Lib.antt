@@ -2,9 +2,9 @@ pub mod Steps
 pub mod Outlines
 pub mod Sizes
 pub mod EndPoints
-pub mod Parts
+pub mod ComponentRecords
 pub mod PointsDescribed
-pub mod PartsDescribed
+pub mod ComponentRecordsDescribed
 pub mod Programs
 pub mod Described
 pub mod Held

@@ -14,8 +14,8 @@ use Rattle.fx_glyf.specs.Words.{program_of}
 use Rattle.fx_glyf.specs.Glyphs.{x_min_of}
 use Rattle.fx_glyf.specs.Grammar.{SpellsProgram, IsHeader}
 use Rattle.fx_glyf.proofs.EndPoints.{guarded}
-use Rattle.fx_glyf.proofs.Parts.{field-taken}
-use Rattle.fx_glyf.proofs.PartsDescribed.{field-front}
+use Rattle.fx_glyf.proofs.ComponentRecords.{field-taken}
+use Rattle.fx_glyf.proofs.ComponentRecordsDescribed.{field-front}
 
 -- a program that is read
 pub record ProgramFound (bytes code rest : List ℕ) : Type 0 where

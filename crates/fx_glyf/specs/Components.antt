@@ -47,8 +47,8 @@ scales_size flags =
     (if has flags we_have_an_x_and_y_scale then 4 else (if has flags we_have_a_two_by_two then 8 else 0))
 
 -- the bytes of a component with these flags: flags, glyph, arguments, scales
-abbrev pub part_size : ℕ → ℕ
-part_size flags = 4 + args_size flags + scales_size flags
+abbrev pub component_size : ℕ → ℕ
+component_size flags = 4 + args_size flags + scales_size flags
 
 -- an argument, the first (0) or the second (1): whether both are words, and whether they are offsets, which are signed
 unfoldable pub argument_by : Bool → Bool → List ℕ → ℕ → ℤ
@@ -73,8 +73,8 @@ scales_of flags bytes =
     scales_by (has flags we_have_a_scale) (has flags we_have_an_x_and_y_scale) (has flags we_have_a_two_by_two) bytes
 
 -- the component that bytes are
-unfoldable pub part_of : List ℕ → Component
-part_of bytes = with_flags (field 2 bytes 0) (drop 4 bytes) where
+unfoldable pub component_of : List ℕ → Component
+component_of bytes = with_flags (field 2 bytes 0) (drop 4 bytes) where
   with_scales : ℕ → ℤ × ℤ → ℤ × ℤ × ℤ × ℤ → Component
   with_scales flags args scales = record {
     glyph = field 2 bytes 2;
@@ -91,11 +91,11 @@ part_of bytes = with_flags (field 2 bytes 0) (drop 4 bytes) where
       (scales_of flags (drop (args_size flags) rest))
 
 -- the component at the front of bytes, and the bytes after it
-unfoldable pub next_part : List ℕ → Option (Component × List ℕ)
-next_part bytes =
+unfoldable pub next_component : List ℕ → Option (Component × List ℕ)
+next_component bytes =
     if nat_lt (length bytes) 4 then None
-    else (if nat_lt (length bytes) (part_size (field 2 bytes 0)) then None
-    else Some (part_of (take (part_size (field 2 bytes 0)) bytes), drop (part_size (field 2 bytes 0)) bytes))
+    else (if nat_lt (length bytes) (component_size (field 2 bytes 0)) then None
+    else Some (component_of (take (component_size (field 2 bytes 0)) bytes), drop (component_size (field 2 bytes 0)) bytes))
 
 -- whether its arguments are an x and a y offset, else numbers of points
 abbrev pub has_offsets : Component → Bool
@@ -114,19 +114,20 @@ abbrev pub is_followed : Component → Bool
 is_followed p = has p.flags more_components
 
 -- the components at the front of bytes, if one more is to come, up to the last, and the bytes after them; at most `most` of them
-unfoldable pub parts_from : Bool → ℕ → List ℕ → Option (List Component × List ℕ)
-parts_from false most bytes = Some ([], bytes)
-parts_from true zero bytes = None
-parts_from true (suc most) bytes = option_and_then (λ d. with_front d.0 (parts_from (is_followed d.0) most d.1)) (next_part bytes)
+unfoldable pub components_from : Bool → ℕ → List ℕ → Option (List Component × List ℕ)
+components_from false most bytes = Some ([], bytes)
+components_from true zero bytes = None
+components_from true (suc most) bytes =
+    option_and_then (λ d. with_front d.0 (components_from (is_followed d.0) most d.1)) (next_component bytes)
 
 -- the same of any number: no component is shorter than a byte
-abbrev pub parts_in : Bool → List ℕ → Option (List Component × List ℕ)
-parts_in more bytes = parts_from more (length bytes) bytes
+abbrev pub components_in : Bool → List ℕ → Option (List Component × List ℕ)
+components_in more bytes = components_from more (length bytes) bytes
 
 -- whether a program follows the last component: when any of them announces it
 abbrev pub has_program : List Component → Bool
-has_program parts = list_any (λ p. has p.flags we_have_instructions) parts
+has_program components = list_any (λ p. has p.flags we_have_instructions) components
 
 -- what comes after components: whether a program is announced, and the bytes
 abbrev pub ending_of : List Component × List ℕ → Bool × List ℕ
-ending_of parts = (has_program parts.0, parts.1)
+ending_of components = (has_program components.0, components.1)

@@ -5,7 +5,7 @@ use Rattle.fx_fixed.specs.Chain.{◌>>=◌, refuse, wanted, map_ok}
 use Rattle.fx_sfnt.specs.Fields.{field, signed_field}
 use Rattle.fx_glyf.specs.Words.{words, count_from, program_of}
 use Rattle.fx_glyf.specs.Points.{glyph_points_of}
-use Rattle.fx_glyf.specs.Components.{parts_in, has_program}
+use Rattle.fx_glyf.specs.Components.{components_in, has_program}
 use Rattle.fx_glyf.specs.Shapes.{SimpleView, CompositeView}
 use Rattle.fx_glyf.specs.declared.fault.GlyphFault.{GlyphFault}
 use Rattle.fx_glyf.specs.declared.fault.GlyphFault.TheVariants.{GlyphShort, BadContours}
@@ -33,9 +33,9 @@ announced_of false bytes = Some ([], bytes)
 -- a composite glyph
 unfoldable pub composite_of : List ℕ → ℕ → Result CompositeView GlyphFault
 composite_of bytes g = do
-  parts ← wanted (parts_in true (drop 10 bytes)) (GlyphShort g)
-  program ← wanted (announced_of (has_program parts.0) parts.1) (GlyphShort g)
-  Ok (record { components = parts.0; x_min = x_min_of bytes; code = program.0 })
+  components ← wanted (components_in true (drop 10 bytes)) (GlyphShort g)
+  program ← wanted (announced_of (has_program components.0) components.1) (GlyphShort g)
+  Ok (record { components = components.0; x_min = x_min_of bytes; code = program.0 })
 
 -- the glyph after a header with this number of contours
 abbrev pub body_of : ℕ → List ℕ → ℕ → Result Glyph GlyphFault

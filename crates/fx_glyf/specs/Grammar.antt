@@ -7,7 +7,7 @@ use Rattle.fx_sfnt.specs.Fields.{field, signed_field}
 use Rattle.fx_glyf.specs.Words.{has, words}
 use Rattle.fx_glyf.specs.Points.{x_short_vector, y_short_vector, x_is_same_or_positive_x_short_vector}
 use Rattle.fx_glyf.specs.Points.{y_is_same_or_positive_y_short_vector, repeat_flag, points_of}
-use Rattle.fx_glyf.specs.Components.{part_of, part_size, is_followed, has_program}
+use Rattle.fx_glyf.specs.Components.{component_of, component_size, is_followed, has_program}
 use Rattle.fx_glyf.specs.Shapes.{SimpleView, CompositeView}
 use Rattle.fx_glyf.specs.declared.point.GlyphPoint.{GlyphPoint}
 use Rattle.fx_glyf.specs.declared.component.Component.{Component}
@@ -99,11 +99,11 @@ pub record DescribesSimple (bytes : List ℕ) (s : SimpleView) : Type 0 where
   pub points_are : DescribesPoints count rest s.points
 
 -- component records, one after the other
-abbrev pub SpellsParts : List Component → List ℕ → Type 0
-SpellsParts [] bytes = bytes ≡ []
-SpellsParts (p ∷ ps) bytes =
-    (front : List ℕ) × (back : List ℕ) × (bytes ≡ front ++ back) × (length front ≡ part_size p.flags) × (p ≡ part_of front)
-    × SpellsParts ps back
+abbrev pub SpellsComponents : List Component → List ℕ → Type 0
+SpellsComponents [] bytes = bytes ≡ []
+SpellsComponents (p ∷ ps) bytes =
+    (front : List ℕ) × (back : List ℕ) × (bytes ≡ front ++ back) × (length front ≡ component_size p.flags)
+    × (p ≡ component_of front) × SpellsComponents ps back
 
 -- exactly the components before the last say that another follows
 abbrev pub AreComponents : List Component → Type 0
@@ -120,13 +120,13 @@ SpellsAnnounced false code bytes = (code ≡ []) × (bytes ≡ [])
 pub record DescribesComposite (bytes : List ℕ) (s : CompositeView) : Type 0 where
   pub header : List ℕ
   pub contours : ℕ
-  pub parts : List ℕ
+  pub records : List ℕ
   pub program : List ℕ
   pub rest : List ℕ
-  pub split : bytes ≡ header ++ (parts ++ (program ++ rest))
+  pub split : bytes ≡ header ++ (records ++ (program ++ rest))
   pub header_is : IsHeader header contours s.x_min
   pub below_zero : 32768 ≤ contours
-  pub components_are : SpellsParts s.components parts
+  pub components_are : SpellsComponents s.components records
   pub last_is : AreComponents s.components
   pub program_is : SpellsAnnounced (has_program s.components) s.code program
 

@@ -2,10 +2,10 @@
 
 ghost use Rattle.std.specs.Prelude.{◌≡◌, IsSome, true};
 ghost use Rattle.fx_glyf.specs.Words.{list_in};
-ghost use Rattle.fx_glyf.specs.Components.{parts_in};
+ghost use Rattle.fx_glyf.specs.Components.{components_in};
 
 use crate::component::{Component, is_followed};
-use crate::records::{next_part, part_size};
+use crate::records::{component_size, next_component};
 use fx_fixed::after;
 use std::marker::Model;
 
@@ -19,21 +19,21 @@ pub struct Components<'a> {
 impl<'a> Model for Components<'a> {
     ghost use Rattle.std.specs.Prelude.{List, IsSome};
     ghost use Rattle.fx_glyf.specs.Words.{list_in};
-    ghost use Rattle.fx_glyf.specs.Components.{parts_in};
+    ghost use Rattle.fx_glyf.specs.Components.{components_in};
     ghost use Rattle.fx_glyf.specs.declared.component.Component.{Component};
 
     ghost Value = { List Component };
 
-    ghost view = { λ c. list_in (parts_in c.more c.bytes.now) };
+    ghost view = { λ c. list_in (components_in c.more c.bytes.now) };
 
-    ghost invariant = { λ c. IsSome (parts_in c.more c.bytes.now) };
+    ghost invariant = { λ c. IsSome (components_in c.more c.bytes.now) };
 }
 
 impl<'a> Components<'a> {
     /// The components at the front of the bytes, up to the last.
     pub(crate) fn new(bytes: &'a [u8]) -> Components<'a>
-        requires { IsSome (parts_in true bytes.now) }
-        ensures { result ≡ list_in (parts_in true bytes.now) }
+        requires { IsSome (components_in true bytes.now) }
+        ensures { result ≡ list_in (components_in true bytes.now) }
     {
         Components { more: true, bytes }
     }
@@ -48,18 +48,18 @@ impl<'a> Iterator for Components<'a> {
 
     ghost remaining = { item_count (λ ps. ps) };
 
-    #[tactic(auto, using(crate::proofs::Parts::next_steps))]
+    #[tactic(auto, using(crate::proofs::ComponentRecords::next_steps))]
     fn next(&mut self) -> Option<Component> {
         if !self.more {
             return None;
         }
-        match next_part(self.bytes) {
+        match next_component(self.bytes) {
             None => None,
-            Some(part) => {
-                let flags = part.flags;
+            Some(component) => {
+                let flags = component.flags;
                 self.more = is_followed(flags);
-                self.bytes = after(self.bytes, part_size(flags));
-                Some(part)
+                self.bytes = after(self.bytes, component_size(flags));
+                Some(component)
             }
         }
     }

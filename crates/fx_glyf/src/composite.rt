@@ -6,7 +6,7 @@ ghost use Rattle.fx_glyf.specs.Glyphs.{announced_of, composite_of};
 use crate::components::Components;
 use crate::fault::GlyphFault;
 use crate::program::program;
-use crate::records::skip_parts;
+use crate::records::skip_components;
 use crate::simple::x_min;
 use fx_fixed::after;
 use std::marker::Model;
@@ -15,21 +15,21 @@ use std::marker::Model;
 #[derive(Drop)]
 pub struct Composite<'a> {
     x_min: i16,
-    parts: &'a [u8],
+    components: &'a [u8],
     code: &'a [u8],
 }
 
 impl<'a> Model for Composite<'a> {
     ghost use Rattle.std.specs.Prelude.{IsSome, true, length, ◌<◌, ◌^◌};
     ghost use Rattle.fx_glyf.specs.Words.{list_in};
-    ghost use Rattle.fx_glyf.specs.Components.{parts_in};
+    ghost use Rattle.fx_glyf.specs.Components.{components_in};
     ghost use Rattle.fx_glyf.specs.Shapes.{CompositeView};
 
     ghost Value = { CompositeView };
 
-    ghost view = { λ c. record { components = list_in (parts_in true c.parts.now); x_min = c.x_min; code = c.code.now } };
+    ghost view = { λ c. record { components = list_in (components_in true c.components.now); x_min = c.x_min; code = c.code.now } };
 
-    ghost invariant = { λ c. IsSome (parts_in true c.parts.now) × (length c.code.now < 2 ^ 16) };
+    ghost invariant = { λ c. IsSome (components_in true c.components.now) × (length c.code.now < 2 ^ 16) };
 }
 
 /// The program after components, if one is announced.
@@ -51,8 +51,8 @@ impl<'a> Composite<'a> {
         requires { 10 ≤ length bytes.now }
         ensures { result ≡ composite_of bytes.now g }
     {
-        let parts = after(bytes, 10);
-        let Some((announced, rest)) = skip_parts(parts) else {
+        let components = after(bytes, 10);
+        let Some((announced, rest)) = skip_components(components) else {
             return Err(GlyphFault::GlyphShort(g));
         };
         let Some((code, _)) = announced_program(announced, rest) else {
@@ -60,7 +60,7 @@ impl<'a> Composite<'a> {
         };
         Ok(Composite {
             x_min: x_min(bytes),
-            parts,
+            components,
             code,
         })
     }
@@ -69,7 +69,7 @@ impl<'a> Composite<'a> {
     pub fn components(&self) -> Components<'a>
         ensures { result ≡ self.now.components }
     {
-        Components::new(self.parts)
+        Components::new(self.components)
     }
 
     /// The xMin of the header, in FUnits.

@@ -2,7 +2,7 @@
 
 ghost use Rattle.std.specs.Prelude.{◌≡◌, ◌+◌, ◌*◌, ◌≤◌, true, length, drop, option_map, None, IfSome, IfNone};
 ghost use Rattle.fx_sfnt.specs.Fields.{field, signed_field};
-ghost use Rattle.fx_glyf.specs.Components.{args_size, scales_size, part_size, argument_of, scales_of, part_of, next_part, parts_in, ending_of};
+ghost use Rattle.fx_glyf.specs.Components.{args_size, scales_size, component_size, argument_of, scales_of, component_of, next_component, components_in, ending_of};
 
 use crate::component::{
     ARG_1_AND_2_ARE_WORDS, ARGS_ARE_XY_VALUES, Component, WE_HAVE_A_SCALE, WE_HAVE_A_TWO_BY_TWO,
@@ -86,10 +86,10 @@ fn scales(flags: u16, bytes: &[u8]) -> (F2, F2, F2, F2)
 }
 
 /// The component that bytes are.
-#[tactic(auto, unfolding(crate::specs::Components::part_of))]
-fn part(bytes: &[u8]) -> Component
-    requires { part_size (field 2 bytes.now 0) ≤ length bytes.now }
-    ensures { result ≡ part_of bytes.now }
+#[tactic(auto, unfolding(crate::specs::Components::component_of))]
+fn component(bytes: &[u8]) -> Component
+    requires { component_size (field 2 bytes.now 0) ≤ length bytes.now }
+    ensures { result ≡ component_of bytes.now }
 {
     let flags = u16_in(bytes, 0);
     let rest = after(bytes, 4);
@@ -106,52 +106,52 @@ fn part(bytes: &[u8]) -> Component
 }
 
 /// The bytes of a component with these flags.
-pub fn part_size(flags: u16) -> usize
-    ensures { result ≡ part_size flags }
+pub fn component_size(flags: u16) -> usize
+    ensures { result ≡ component_size flags }
 {
     4 + args_size(flags) + scales_size(flags)
 }
 
 /// The flags of the component at the front of the bytes, if they hold all of it.
-#[tactic(auto, unfolding(crate::specs::Components::next_part))]
+#[tactic(auto, unfolding(crate::specs::Components::next_component))]
 fn next_flags(bytes: &[u8]) -> Option<u16>
     ensures value { IfSome result (λ flags. flags ≡ field 2 bytes.now 0) }
-    ensures inside { IfSome result (λ flags. part_size flags ≤ length bytes.now) }
-    ensures none { IfNone result (None ≡ next_part bytes.now) }
+    ensures inside { IfSome result (λ flags. component_size flags ≤ length bytes.now) }
+    ensures none { IfNone result (None ≡ next_component bytes.now) }
 {
     if bytes.len() < 4 {
         return None;
     }
     let flags = u16_in(bytes, 0);
-    if bytes.len() < part_size(flags) {
+    if bytes.len() < component_size(flags) {
         return None;
     }
     Some(flags)
 }
 
 /// The component at the front of the bytes; the next one comes after its size.
-pub fn next_part(bytes: &[u8]) -> Option<Component>
-    ensures value { option_map (λ p. (p, drop (part_size p.flags) bytes.now)) result ≡ next_part bytes.now }
-    ensures inside { IfSome result (λ p. part_size p.flags ≤ length bytes.now) }
+pub fn next_component(bytes: &[u8]) -> Option<Component>
+    ensures value { option_map (λ p. (p, drop (component_size p.flags) bytes.now)) result ≡ next_component bytes.now }
+    ensures inside { IfSome result (λ p. component_size p.flags ≤ length bytes.now) }
 {
-    let size = part_size(next_flags(bytes)?);
-    Some(part(before(bytes, size)))
+    let size = component_size(next_flags(bytes)?);
+    Some(component(before(bytes, size)))
 }
 
 /// Whether any component announces a program, and the bytes after the last.
-#[tactic(auto, using(crate::proofs::Parts::skip_steps))]
-pub fn skip_parts(bytes: &[u8]) -> Option<(bool, &[u8])>
-    ensures { option_map (λ p. (p.0, p.1.now)) result ≡ option_map ending_of (parts_in true bytes.now) }
+#[tactic(auto, using(crate::proofs::ComponentRecords::skip_steps))]
+pub fn skip_components(bytes: &[u8]) -> Option<(bool, &[u8])>
+    ensures { option_map (λ p. (p.0, p.1.now)) result ≡ option_map ending_of (components_in true bytes.now) }
 {
     let mut announced = false;
     let mut more = true;
     let mut rest = bytes;
     // What comes after the components that are left comes after all.
-    'parts: while more {
+    'components: while more {
         let flags = next_flags(rest)?;
         announced |= has_program(flags);
         more = is_followed(flags);
-        rest = after(rest, part_size(flags));
+        rest = after(rest, component_size(flags));
     }
     Some((announced, rest))
 }
