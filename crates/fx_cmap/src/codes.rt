@@ -1,6 +1,6 @@
 //! Character codes in the bytes of a subtable.
 
-ghost use Rattle.std.specs.Prelude.{◌≡◌, ℕ, ◌+◌, ◌*◌, ◌<◌, ◌≤◌, ◌/◌, length, get_or, drop, true, false};
+ghost use Rattle.std.specs.Prelude.{◌≡◌, ℕ, ◌+◌, ◌*◌, ◌<◌, ◌≤◌, length, get_or};
 ghost use Rattle.fx_cmap.specs.Subtables.{falls};
 ghost use Rattle.fx_cmap.specs.inner.Codes.{codes_at};
 
@@ -85,30 +85,18 @@ impl<'a> Codes<'a> {
         }
     }
 
-    /// Whether some code is below the one before it. Two are looked at in each round.
+    /// Whether some code is below the one before it. It looks at all of them, since the compiler then takes several at once.
     pub fn fall(&self) -> bool
         ensures { result ≡ falls 0 self.now }
     {
+        let mut falls = false;
         let mut before = 0;
-        // The codes before these two do not fall, and the last of them is `before`.
-        'pairs: for pair in 0..self.len() / 2 {
-            let first = self.at(2 * pair);
-            if first < before {
-                return true;
-            }
-            let second = self.at(2 * pair + 1);
-            if second < first {
-                return true;
-            }
-            before = second;
+        // `falls` says whether one of the codes before number k is below the one before it; `before` is the last of them.
+        'codes: for k in 0..self.len() {
+            let code = self.at(k);
+            falls |= code < before;
+            before = code;
         }
-        self.last_falls(before)
-    }
-
-    /// Whether the last code, if it is in no pair, is below the given one.
-    fn last_falls(&self, before: u32) -> bool
-        ensures { result ≡ falls before (drop (length self.now / 2 * 2) self.now) }
-    {
-        self.len() % 2 == 1 && self.at(self.len() - 1) < before
+        falls
     }
 }
