@@ -1,8 +1,9 @@
 //! A character map over the bytes of `cmap`.
 
-ghost use Rattle.std.specs.Prelude.{◌≡◌, ℕ, ◌<◌, ◌≤◌};
+ghost use Rattle.std.specs.Prelude.{◌≡◌};
 ghost use Rattle.fx_cmap.specs.Lookup.{char_map_of, map_of, glyph_for};
 
+use crate::candidates::CANDIDATES;
 use crate::fault::CharMapFault;
 use crate::map_reader::MapReader;
 use crate::mapping::Mapping;
@@ -54,7 +55,7 @@ impl<'a> CharMap<'a> {
         if cmap.len() < 4 + 8 * u16_in(cmap, 2) as usize {
             return Err(CharMapFault::BadCharMap);
         }
-        let (format, start) = chosen(cmap).ok_or(CharMapFault::NoCharMap)?;
+        let (format, start) = chosen(cmap, &CANDIDATES).ok_or(CharMapFault::NoCharMap)?;
         let mapping = Mapping::read(cmap, format, start)?;
         Ok(CharMap { mapping })
     }
@@ -63,7 +64,7 @@ impl<'a> CharMap<'a> {
     pub fn cursor(&self) -> MapReader<'_, 'a>
         ensures { result ≡ self.now }
     {
-        MapReader::new(self)
+        MapReader::new(&self.mapping)
     }
 
     /// The glyph of a character code, 0 if it has none; for every number (OpenType, "Format 4" and "Format 12").
@@ -74,21 +75,6 @@ impl<'a> CharMap<'a> {
         ensures { result ≡ glyph_for self.now code }
     {
         let mut near = 0;
-        self.glyph_near(&mut near, code)
-    }
-
-    /// The same; `near` is that of the subtable.
-    #[inline]
-    pub(crate) fn glyph_near(&self, near: &mut u32, code: u32) -> u16
-        ensures { result ≡ glyph_for self.now code }
-    {
-        self.mapping.glyph(near, code)
-    }
-
-    /// A code up to which, from the given one on, no code has a glyph; `near` is as in `glyph_near`.
-    pub(crate) fn gap_end(&self, near: u32, code: u32) -> u32
-        ensures { (c : ℕ) → code ≤ c → c < result → glyph_for self.now c ≡ 0 }
-    {
-        self.mapping.gap_end(near, code)
+        self.mapping.glyph(&mut near, code)
     }
 }

@@ -3,7 +3,8 @@
 ghost use Rattle.std.specs.Prelude.{◌≡◌, ℕ, ◌<◌, ◌≤◌};
 ghost use Rattle.fx_cmap.specs.Lookup.{glyph_for};
 
-use crate::char_map::CharMap;
+use crate::mapping::Mapping;
+use crate::subtable::Subtable;
 use std::marker::Model;
 
 /// A character map with the place where it was read last. Contracts see it as the map.
@@ -12,7 +13,7 @@ use std::marker::Model;
 /// that was found last, or in the next one, which needs no search. `gap_end` says how many codes to leave out.
 #[derive(Drop)]
 pub struct MapReader<'m, 'a> {
-    map: &'m CharMap<'a>,
+    mapping: &'m Mapping<'a>,
     // The number of the segment or group that was found last.
     near: u32,
 }
@@ -22,15 +23,15 @@ impl<'m, 'a> Model for MapReader<'m, 'a> {
 
     ghost Value = { Mapping };
 
-    ghost view = { λ c. c.map.now };
+    ghost view = { λ c. c.mapping.now };
 }
 
 impl<'m, 'a> MapReader<'m, 'a> {
     /// A cursor at the first segment or group of a map.
-    pub fn new(map: &'m CharMap<'a>) -> MapReader<'m, 'a>
-        ensures { result ≡ map.now }
+    pub(crate) fn new(mapping: &'m Mapping<'a>) -> MapReader<'m, 'a>
+        ensures { result ≡ mapping.now }
     {
-        MapReader { map, near: 0 }
+        MapReader { mapping, near: 0 }
     }
 
     /// The glyph of a character code, 0 if it has none; for every number, in any order.
@@ -38,7 +39,7 @@ impl<'m, 'a> MapReader<'m, 'a> {
         ensures value { result ≡ glyph_for self.old code }
         ensures kept { self.new ≡ self.old }
     {
-        self.map.glyph_near(&mut self.near, code)
+        self.mapping.glyph(&mut self.near, code)
     }
 
     /// A code up to which, from the given one on, no code has a glyph. If `glyph` returned 0 for the code just before, it is the
@@ -46,6 +47,6 @@ impl<'m, 'a> MapReader<'m, 'a> {
     pub fn gap_end(&self, code: u32) -> u32
         ensures { (c : ℕ) → code ≤ c → c < result → glyph_for self.now c ≡ 0 }
     {
-        self.map.gap_end(self.near, code)
+        self.mapping.gap_end(self.near, code)
     }
 }

@@ -2,9 +2,9 @@
 
 ghost use Rattle.std.specs.Prelude.{◌≡◌, ◌+◌, ◌*◌, ◌≤◌, length, option_map, Bool, nat_le, ◌&&◌};
 ghost use Rattle.fx_sfnt.specs.Fields.{field};
-ghost use Rattle.fx_cmap.specs.Lookup.{has_format, is_record_of, first_subtable_of, chosen_of, candidates};
+ghost use Rattle.fx_cmap.specs.Lookup.{has_format, is_record_of, first_subtable_of, chosen_of};
 
-use crate::candidates::{CANDIDATES, Candidate, Format};
+use crate::candidates::{Candidate, Format};
 use fx_fixed::after;
 use fx_sfnt::{u16_at, u16_in, u32_in};
 
@@ -44,17 +44,8 @@ fn first_subtable(cmap: &[u8], candidate: Candidate) -> Option<(Format, u32)>
     None
 }
 
-/// The subtable that is taken: its format and its offset.
-pub fn chosen(cmap: &[u8]) -> Option<(Format, u32)>
-    requires header { 4 ≤ length cmap.now }
-    requires inside { 4 + 8 * field 2 cmap.now 2 ≤ length cmap.now }
-    ensures { result ≡ chosen_of cmap.now candidates }
-{
-    first_of(cmap, &CANDIDATES)
-}
-
-/// The subtable of the first candidate that has one.
-fn first_of(cmap: &[u8], candidates: &[Candidate]) -> Option<(Format, u32)>
+/// The subtable of the first candidate that has one: its format and its offset.
+pub fn chosen(cmap: &[u8], candidates: &[Candidate]) -> Option<(Format, u32)>
     requires header { 4 ≤ length cmap.now }
     requires inside { 4 + 8 * field 2 cmap.now 2 ≤ length cmap.now }
     ensures { result ≡ chosen_of cmap.now candidates.now }

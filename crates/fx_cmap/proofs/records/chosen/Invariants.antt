@@ -1,6 +1,6 @@
 use Rattle.std.proofs.Common.{◌≡◌, drop}
 use Rattle.fx_cmap.specs.Lookup.{chosen_of}
-use Rattle.fx_cmap.proofs.records.first_of.Given as goal
+use Rattle.fx_cmap.proofs.records.chosen.Given as goal
 
 -- the first candidate with a subtable among those that are left is that among all
 abbrev pub invariant-candidates : goal.invariant-candidates
