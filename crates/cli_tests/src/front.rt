@@ -1,7 +1,7 @@
 //! The front, with a place in memory and a program that does what it is told.
 use fx_fixed::{Limits, MemorySink, MemorySource, Sink, Source, put_all};
 use fx_front::{Ended, Facts, Parts, Destination, Tool, RefusalFacts, AskedRun, Text, run_to_place, say_after};
-use fx_words::{listed, part, whole};
+use fx_words::{listed, part};
 use std::alloc::{AllocError, Global};
 use std::test::Fail;
 
@@ -23,8 +23,6 @@ impl Destination for Shelf {
 
     ghost Names = { λ _ held shelf. option_map (λ file. file.items) shelf.file ≡ held };
 
-    ghost Spares = { λ was shelf. shelf.file ≡ was.file };
-
     fn make(&self) -> Option<Vec<u8>> {
         if self.makes {
             Some(Vec::new(self.alloc))
@@ -40,9 +38,7 @@ impl Destination for Shelf {
         self.names
     }
 
-    fn remove(&mut self, _new: Option<Vec<u8>>)
-        ensures { self.new.file ≡ self.old.file }
-    {}
+    fn remove(&self, _new: Vec<u8>) {}
 }
 
 /// A program that writes a text and ends with a status.
@@ -128,7 +124,7 @@ fn run_on_shelf(
     };
     let mut err = MemorySink::new(alloc, 0, Limits::NONE)?;
     let mut reader = MemorySource::new(&[], Limits::NONE);
-    let parts = whole(alloc, &["mkstrike"])?;
+    let parts = part(alloc, &["mkstrike"], false, "", &[])?;
     let task = AskedRun {
         parts: &parts,
         command: if is_trace { Some("trace") } else { None },

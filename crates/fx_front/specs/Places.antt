@@ -23,12 +23,12 @@ abbrev pub IsKept : Bool → ℕ → Type 0
 IsKept is_trace status = (status ≡ 0) ⊎ ((is_trace ≡ true) × (status ≡ 1))
 
 -- a program ran with a sink that held at first what a new file holds, and at the end `held`. If the file got its name, the status
--- is 0 or the run is a trace, and these are its bytes; if not, what had the name is as it was
+-- is 0 or the run is a trace, and these are its bytes; if not, the place is as it was
 pub record RunsTo {Place : Type 0} (Ran : Change → ℕ → Type 0) (Names : Place → Option (List ℕ) → Place → Type 0)
-    (Spares : Place → Place → Type 0) (fresh : Option (List ℕ)) (was now : Place) (is_trace : Bool) (status : ℕ) (is_named : Bool)
+    (fresh : Option (List ℕ)) (was now : Place) (is_trace : Bool) (status : ℕ) (is_named : Bool)
     : Type 0 where
   pub held : Option (List ℕ)
   pub faults : ℕ
   pub ran : Ran (record { bytes_before = fresh; bytes = held; faults_before = 0; faults = faults }) status
   pub named : is_named ≡ true → IsKept is_trace status × Names was held now
-  pub spared : is_named ≡ false → Spares was now
+  pub spared : is_named ≡ false → now ≡ was

@@ -14,19 +14,15 @@ pub trait Destination {
     // A file with these bytes got the name.
     ghost Names: { Self → Option (List ℕ) → Self → Type 0 };
 
-    // No file got the name: what had it is as it was.
-    ghost Spares: { Self → Self → Type 0 };
-
     /// Makes the file, if it can be made. It has no name yet.
     fn make(&self) -> Option<Self::New>
         ensures { IfSome result (λ new. Self.New.contents new ≡ fresh) };
 
-    /// Gives the file its name. If that fails it is removed.
+    /// Gives the file its name. If that fails the file is removed, and what has the name stays as it is.
     fn name(&mut self, new: Self::New) -> bool
         ensures named { result ≡ true → Names self.old (Self.New.contents new) self.new }
-        ensures spared { result ≡ false → Spares self.old self.new };
+        ensures spared { result ≡ false → self.new ≡ self.old };
 
-    /// Removes the file, if one was made.
-    fn remove(&mut self, new: Option<Self::New>)
-        ensures { Spares self.old self.new };
+    /// Removes the file. What has the name stays as it is.
+    fn remove(&self, new: Self::New);
 }

@@ -15,7 +15,7 @@ use crate::run::run_to_place;
 use crate::text::Text;
 use crate::tool::Tool;
 use fx_fixed::{FromReader, Sink, ToSink, put_all};
-use fx_words::{listed, part, set_in, whole};
+use fx_words::{listed, part, set_in};
 use std::alloc::Global;
 use std::fs::File;
 use std::io::IsTerminal;
@@ -66,52 +66,35 @@ pub fn say_not_text<E: Sink>(alloc: Global, err: &mut E)
     tell(alloc, err, Text::of(alloc, &[what]));
 }
 
-/// Runs the program on the words, or has it explain them without an input.
+/// Runs the program on the words, or has it explain them without an input. The command's name is the second word, or follows
+/// `explain`.
 fn run_words<G: Tool>(rt: &HostRuntime, program: &mut G, words: &[&str]) -> io::Result<u8>
     ensures { IfOk result IsStatus }
 {
     let is_explain = words.get(1).copied() == Some("explain");
     let count = if is_explain { 3 } else { 2 };
-    match command_of(words.get(count - 1).copied().unwrap_or("")) {
-        Some(command) => run_command(rt, program, words, command, count),
-        None => {
-            let parts = whole(rt.alloc(), words)?;
-            let task = AskedRun {
-                parts: &parts,
-                command: None,
-            };
-            let input = if is_explain {
-                Input::Nothing
-            } else {
-                Input::Standard(rt.stdin())
-            };
-            Ok(run_from(rt, program, &task, input, Output::Standard))
-        }
-    }
-}
-
-/// Runs the program on the words of a command that takes a font, or has it explain them. The first `count` words go up to the
-/// command's name, which is the second or follows `explain`.
-fn run_command<G: Tool>(
-    rt: &HostRuntime,
-    program: &mut G,
-    words: &[&str],
-    command: &'static str,
-    count: usize,
-) -> io::Result<u8>
-    ensures { IfOk result IsStatus }
-{
+    let command = command_of(words.get(count - 1).copied().unwrap_or(""));
     let list = listed(rt.alloc(), set_in(words))?;
-    let (before, after) = words.split_at(words.len().min(count));
-    let parts = part(rt.alloc(), before, command == "make", list.as_str(), after)?;
+    // Without a command that takes a font all words are for the program.
+    let end = if command.is_some() {
+        count
+    } else {
+        words.len()
+    };
+    let (before, after) = words.split_at(words.len().min(end));
+    let is_make = command == Some("make");
+    let parts = part(rt.alloc(), before, is_make, list.as_str(), after)?;
     let task = AskedRun {
         parts: &parts,
-        command: Some(command),
+        command,
     };
-    if count == 2 {
+    if is_explain {
+        return Ok(run_from(rt, program, &task, Input::Nothing, Output::Standard));
+    }
+    if command.is_some() {
         return run_named(rt, program, &task);
     }
-    let input = Input::Nothing;
+    let input = Input::Standard(rt.stdin());
     Ok(run_from(rt, program, &task, input, Output::Standard))
 }
 

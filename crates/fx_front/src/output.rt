@@ -160,8 +160,6 @@ impl<'a> Destination for Outlet<'a> {
 
     ghost Names = { λ _ _ _. ⊤ };
 
-    ghost Spares = { λ _ _. ⊤ };
-
     fn make(&self) -> Option<OpenOutput> {
         match &self.output {
             Output::Standard => Some(OpenOutput::Standard(self.rt.stdout())),
@@ -182,10 +180,8 @@ impl<'a> Destination for Outlet<'a> {
         false
     }
 
-    fn remove(&mut self, new: Option<OpenOutput>)
-        ensures { ⊤ }
-    {
-        if let Some(OpenOutput::New(file, made)) = new {
+    fn remove(&self, new: OpenOutput) {
+        if let OpenOutput::New(file, made) = new {
             drop(file);
             let _ = fs::remove_file(self.rt, made.as_str());
         }

@@ -38,7 +38,7 @@ pub fn run_to_place<G: Tool, P: Destination, R: Source, E: Sink>(
     requires err { E.fault_count err.old < 2 ^ 63 }
     ensures run { RunsTo (λ sink status. G.Ran (texts task.now.parts.now.words.items)
         (change_of R.left R.fault_count reader.old reader.new) sink (change_of E.held E.fault_count err.old err.new) status)
-        P.Names P.Spares P.fresh place.old place.new (is_named (text_in task.now.command) (codes "trace"))
+        P.Names P.fresh place.old place.new (is_named (text_in task.now.command) (codes "trace"))
         result.status result.is_named }
     ensures status { IsStatus result.status }
 {
@@ -70,7 +70,7 @@ fn keeps<G: Tool>(program: &G, is_trace: bool, status: u8) -> bool
 fn settle<P: Destination>(place: &mut P, new: Option<P::New>, status: u8, is_kept: bool) -> bool
     ensures due { result ≡ true → (status ≡ 0) ⊎ (is_kept ≡ true) }
     ensures named { result ≡ true → P.Names place.old (held_by P.New.contents P.fresh new) place.new }
-    ensures spared { result ≡ false → P.Spares place.old place.new }
+    ensures spared { result ≡ false → place.new ≡ place.old }
 {
     let new = match new {
         None if status == 0 => place.make(),
@@ -78,9 +78,10 @@ fn settle<P: Destination>(place: &mut P, new: Option<P::New>, status: u8, is_kep
     };
     match new {
         Some(new) if status == 0 || is_kept => place.name(new),
-        unnamed => {
-            place.remove(unnamed);
+        Some(new) => {
+            place.remove(new);
             false
         }
+        None => false,
     }
 }

@@ -1,6 +1,6 @@
 //! The words of a command line, parted: the font, the output, and the words for the program.
 ghost use Rattle.std.specs.Prelude.{◌≡◌, false, true, [], IfOk, OnOk};
-ghost use Rattle.fx_words.specs.Parts.{end, first, first_by, has_hyphen, has_joined_output, is_joined_set, is_option, is_path, joined_output};
+ghost use Rattle.fx_words.specs.Parts.{end, first, has_hyphen, has_joined_output, is_joined_set, is_option, is_path, joined_output};
 ghost use Rattle.fx_words.specs.Parts.{kept, kind_of, named_by, other_kind, parts_of, put_by, seen, step, step_by, takes_value, texts, without_equals};
 
 use std::alloc::{AllocError, Global};
@@ -94,13 +94,6 @@ pub fn part<'a>(
     Ok(parts)
 }
 
-/// Words for the program alone.
-pub fn whole<'a>(alloc: Global, words: &[&'a str]) -> Result<Parts<'a>, AllocError>
-    ensures { IfOk result (λ parts. seen parts ≡ parts_of (texts words.now) false [] []) }
-{
-    part(alloc, words, false, "", &[])
-}
-
 impl<'a> Parts<'a> {
     /// Takes the next word.
     fn take(&mut self, word: &'a str) -> Result<(), AllocError>
@@ -120,15 +113,7 @@ impl<'a> Parts<'a> {
     fn take_first(&mut self, word: &'a str) -> Result<(), AllocError>
         ensures { OnOk result (seen self.new ≡ first (seen self.old) word.entry.now) }
     {
-        let kind = kind_of(self.is_make, word);
-        self.take_kind(kind, word)
-    }
-
-    /// Takes a word of a kind.
-    fn take_kind(&mut self, kind: WordKind, word: &'a str) -> Result<(), AllocError>
-        ensures { OnOk result (seen self.new ≡ first_by kind (seen self.old) word.entry.now) }
-    {
-        match kind {
+        match kind_of(self.is_make, word) {
             WordKind::Output => self.next = Next::Output,
             WordKind::Names => self.next = Next::Name,
             WordKind::Missing => {
