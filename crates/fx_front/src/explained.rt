@@ -157,15 +157,15 @@ fn add_refusal<G: Tool>(
 ) -> Result<(), AllocError> {
     let advice = refused.advice;
     match (refused.number, &program.facts().start) {
-        (10, Some(start)) => text.add_all(&[kind_of(&KINDS, start).unwrap_or(advice)]),
+        (10, Some(start)) => text.add(kind_of(&KINDS, start).unwrap_or(advice).as_bytes()),
         (17..=23, _) if task.is("make") => text.add_all(&[advice, "; --refused leave-out does so"]),
         (24, _) if names_glyph(task, refused.glyph) => {
-            text.add_all(&["the font has no glyph of that number"])
+            text.add(b"the font has no glyph of that number")
         }
         (25, Some(start)) => add_faces(text, start),
         (30..=41, _) => add_halt(text, task, refused),
         (61, _) => add_list(alloc, text, program, task, advice),
-        _ => text.add_all(&[advice]),
+        _ => text.add(advice.as_bytes()),
     }
 }
 
@@ -230,22 +230,27 @@ fn add_list<G: Tool>(
     advice: &str,
 ) -> Result<(), AllocError> {
     let Some(list) = task.list() else {
-        return text.add_all(&[advice]);
+        return text.add(advice.as_bytes());
     };
     if !task.is("make") {
         let takes = "--char takes one hexadecimal number up to 10FFFF, not '";
         return text.add_all(&[takes, list, "'; the letter A is 41"]);
     }
     if list == task.parts.listed
-        && let Some(name) = list.split(',').find(|item| is_word(item))
+        && let Some(name) = first_word(list)
     {
-        text.add_all(&["no set of characters has the name '", name, "'; "])?;
-        add_question(text, "", &set_meant_by(alloc, name)?, " ")?;
-        return text.add_all(&["'mkstrike help sets' lists the sets"]);
+        return add_unknown_set(alloc, text, name);
     }
     text.add(program.wrong_item(alloc, list)?.bytes())?;
     text.add_all(&[": ", advice, "; the letter A is 41"])?;
     add_names(alloc, text, list)
+}
+
+/// Adds that no set of characters has this name, and which may be meant.
+fn add_unknown_set(alloc: Global, text: &mut Text, name: &str) -> Result<(), AllocError> {
+    text.add_all(&["no set of characters has the name '", name, "'; "])?;
+    add_question(text, "", &set_meant_by(alloc, name)?, " ")?;
+    text.add_all(&["'mkstrike help sets' lists the sets"])
 }
 
 /// Adds the question whether words are meant, between two texts; nothing without words.
@@ -280,6 +285,17 @@ fn add_names(alloc: Global, text: &mut Text, list: &str) -> Result<(), AllocErro
         return text.add_all(&[LISTS]);
     }
     Ok(())
+}
+
+/// The first item of a list that looks like a word.
+fn first_word(list: &str) -> Option<&str> {
+    // No item so far does.
+    'items: for item in list.split(',') {
+        if is_word(item) {
+            return Some(item);
+        }
+    }
+    None
 }
 
 /// Whether an item looks like a word or a letter, and not like numbers.

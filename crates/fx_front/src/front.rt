@@ -88,13 +88,14 @@ fn run_words<G: Tool>(rt: &HostRuntime, program: &mut G, words: &[&str]) -> io::
         parts: &parts,
         command,
     };
-    if is_explain {
-        return Ok(run_from(rt, program, &task, Input::Nothing, Output::Standard));
-    }
-    if command.is_some() {
+    if command.is_some() && !is_explain {
         return run_named(rt, program, &task);
     }
-    let input = Input::Standard(rt.stdin());
+    let input = if is_explain {
+        Input::Nothing
+    } else {
+        Input::Standard(rt.stdin())
+    };
     Ok(run_from(rt, program, &task, input, Output::Standard))
 }
 
