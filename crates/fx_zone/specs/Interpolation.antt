@@ -42,10 +42,13 @@ coordinate_between o lo_org lo_cur hi_org hi_cur =
     else if int_le hi_org o then moved_with o hi_org hi_cur
     else in_proportion o lo_org lo_cur hi_org hi_cur
 
--- a point between the points lo and hi: one coordinate changes
+-- a point between two others, lo and hi: one coordinate changes
+abbrev pub placed_along : Axis → ℤ → ℤ → ℤ → ℤ → ZonePoint → ZonePoint
+placed_along axis lo_org lo_cur hi_org hi_cur p =
+    moved (with_coordinate axis (coordinate_between (org axis p) lo_org lo_cur hi_org hi_cur) p.cur) p
+
 abbrev pub placed : Axis → ZonePoint → ZonePoint → ZonePoint → ZonePoint
-placed axis lo hi p =
-    moved (with_coordinate axis (coordinate_between (org axis p) (org axis lo) (cur axis lo) (org axis hi) (cur axis hi)) p.cur) p
+placed axis lo hi p = placed_along axis (org axis lo) (cur axis lo) (org axis hi) (cur axis hi) p
 
 -- a point between the touched points before and after it: lo is the one with the lesser original coordinate, the one
 -- before if they are equal

@@ -3,7 +3,7 @@
 ghost use Rattle.std.specs.Prelude.{◌≡◌, ◌≢◌, ◌+◌, ◌*◌, ◌≤◌, ◌<◌, ◌^◌, pos, ◌+ℤ◌, ◌-ℤ◌, ◌*ℤ◌, ◌<ℤ◌, unsigned_abs, length, drop, map, reverse, slice_index_or};
 ghost use Rattle.std.specs.List.{All};
 ghost use Rattle.fx_fixed.specs.Numbers.{wrapped_of, near_size};
-ghost use Rattle.fx_zone.specs.Interpolation.{is_touched, moved_with, in_proportion, coordinate_between, placed, between, first_touched, untouched_run, point_before, contour_interpolated, contours_interpolated};
+ghost use Rattle.fx_zone.specs.Interpolation.{is_touched, moved_with, in_proportion, coordinate_between, placed_along, placed, between, first_touched, untouched_run, point_before, contour_interpolated, contours_interpolated};
 
 use crate::point::ZonePoint;
 use fx_fixed::{Axis, F26, near, near_quotient, w32};
@@ -141,16 +141,10 @@ fn coordinate_between(o: F26, lo_org: F26, lo_cur: F26, hi_org: F26, hi_cur: F26
 
 /// Moves a point between two others, of which `lo` is the lower: one coordinate is written.
 #[inline(always)]
-fn place(axis: Axis, lo: &ZonePoint, hi: &ZonePoint, point: &mut ZonePoint)
-    ensures { point.new ≡ placed axis lo.now hi.now point.old }
+fn place(axis: Axis, lo_org: F26, lo_cur: F26, hi_org: F26, hi_cur: F26, point: &mut ZonePoint)
+    ensures { point.new ≡ placed_along axis lo_org lo_cur hi_org hi_cur point.old }
 {
-    let coordinate = coordinate_between(
-        point.org.along(axis),
-        lo.org.along(axis),
-        lo.cur.along(axis),
-        hi.org.along(axis),
-        hi.cur.along(axis),
-    );
+    let coordinate = coordinate_between(point.org.along(axis), lo_org, lo_cur, hi_org, hi_cur);
     match axis {
         Axis::X => point.cur.x = coordinate,
         Axis::Y => point.cur.y = coordinate,
@@ -160,22 +154,36 @@ fn place(axis: Axis, lo: &ZonePoint, hi: &ZonePoint, point: &mut ZonePoint)
 /// Interpolates a run of untouched points between two others, of which `lo` is the lower.
 #[inline(always)]
 #[tactic(auto, using(crate::proofs::Laying::more_written))]
-fn place_run(points: &mut [ZonePoint], axis: Axis, lo: &ZonePoint, hi: &ZonePoint)
-    ensures { points.new ≡ map (placed axis lo.now hi.now) points.old }
+fn place_run(
+    points: &mut [ZonePoint],
+    axis: Axis,
+    lo_org: F26,
+    lo_cur: F26,
+    hi_org: F26,
+    hi_cur: F26,
+)
+    ensures { points.new ≡ map (placed_along axis lo_org lo_cur hi_org hi_cur) points.old }
 {
     // The points that were seen are interpolated.
     'run: for point in points.iter_mut() {
-        place(axis, lo, hi, point);
+        place(axis, lo_org, lo_cur, hi_org, hi_cur, point);
     }
 }
 
 /// Interpolates a run between any two points.
 #[cold]
 #[inline(never)]
-fn place_long_run(points: &mut [ZonePoint], axis: Axis, lo: &ZonePoint, hi: &ZonePoint)
-    ensures { points.new ≡ map (placed axis lo.now hi.now) points.old }
+fn place_long_run(
+    points: &mut [ZonePoint],
+    axis: Axis,
+    lo_org: F26,
+    lo_cur: F26,
+    hi_org: F26,
+    hi_cur: F26,
+)
+    ensures { points.new ≡ map (placed_along axis lo_org lo_cur hi_org hi_cur) points.old }
 {
-    place_run(points, axis, lo, hi);
+    place_run(points, axis, lo_org, lo_cur, hi_org, hi_cur);
 }
 
 /// Interpolates a run. Whether its distances are short is asked once for all of its points.
@@ -183,12 +191,16 @@ fn place_long_run(points: &mut [ZonePoint], axis: Axis, lo: &ZonePoint, hi: &Zon
 fn place_between(points: &mut [ZonePoint], axis: Axis, lo: &ZonePoint, hi: &ZonePoint)
     ensures { points.new ≡ map (placed axis lo.now hi.now) points.old }
 {
-    let apart = difference(hi.org.along(axis), lo.org.along(axis));
-    let whole = difference(hi.cur.along(axis), lo.cur.along(axis));
-    if apart <= MAX_SHORT && 0 <= whole && whole <= MAX_SHORT {
-        place_run(points, axis, lo, hi);
+    let lo_org = lo.org.along(axis);
+    let lo_cur = lo.cur.along(axis);
+    let hi_org = hi.org.along(axis);
+    let hi_cur = hi.cur.along(axis);
+    let apart = difference(hi_org, lo_org);
+    let whole = difference(hi_cur, lo_cur);
+    if 0 < apart && apart <= MAX_SHORT && 0 <= whole && whole <= MAX_SHORT {
+        place_run(points, axis, lo_org, lo_cur, hi_org, hi_cur);
     } else {
-        place_long_run(points, axis, lo, hi);
+        place_long_run(points, axis, lo_org, lo_cur, hi_org, hi_cur);
     }
 }
 
