@@ -1,12 +1,11 @@
 -- Words of a frame whose rows and then columns were closed have the bits that drop-out control sets: `gaps_closed`.
 -- Serves `noted`.
-use Rattle.std.proofs.Common.{◌≡◌, ◌⊎◌, ◌↔◌, inl, inr, refl, sym, ap, ◌∙◌, subst, ℕ, zero, suc, ◌+◌, ◌-◌, ◌*◌, ◌/◌, ◌%◌, ◌<◌, ◌≤◌, ℤ, pos}
+use Rattle.std.proofs.Common.{◌≡◌, ◌⊎◌, ◌↔◌, inl, inr, refl, sym, ap, ◌∙◌, subst, ℕ, zero, suc, ◌*◌, ◌<◌, ◌≤◌, ℤ, pos}
 use Rattle.std.proofs.Common.{◌+ℤ◌, ◌-ℤ◌, true, false, IsTrue, List, ◌++◌, Any, map, take, drop, length, length-drop, unsigned_abs, arith}
 use Rattle.std.specs.Prelude.{◌==◌}
-use Rattle.std.specs.Int.{bit_at}
 use Rattle.std.proofs.lemmas.Bool.Decides.{nat_tests}
-use Rattle.std.proofs.lemmas.List.{get_or_past, length-take, take_at}
-use Rattle.std.proofs.lemmas.Nat.Bits.{bit_at-lt, bit_at-zero}
+use Rattle.std.proofs.lemmas.List.{length-take, take_at}
+use Rattle.std.proofs.lemmas.Nat.Bits.{bit_at-lt}
 use Rattle.fx_fixed.proofs.Order.{below_or_not}
 use Rattle.fx_fixed.proofs.Linear.{signed_linear}
 use Rattle.fx_winding.specs.declared.frame.Frame.{Frame}
@@ -21,9 +20,9 @@ use Rattle.fx_winding.proofs.Grid.{cut-row, row_fits, steps_below}
 use Rattle.fx_winding.proofs.Scanned.{steps_back}
 use Rattle.fx_dropout.specs.declared.chooser.Closing.{Closing}
 use Rattle.fx_dropout.specs.Dropout.{IsNextChosen, IsRowSet, IsSet}
-use Rattle.fx_dropout.specs.inner.Closing.{IsReached, IsClosedBit, IsNextIn, AreClosedWords, bit_in, row_bit}
+use Rattle.fx_dropout.specs.inner.Closing.{IsReached, IsClosedBit, IsNextIn, AreClosedWords, grid_bit}
 use Rattle.fx_dropout.proofs.Lines.{IsLine, line_closed}
-use Rattle.fx_dropout.proofs.Parts.{part_bit, part_word, past_part, unused_bit}
+use Rattle.fx_dropout.proofs.Parts.{part_bit, past_part, past_row, unused_bit}
 
 -- ---- where pixels are
 steps_of : (first : ℤ) (n : ℕ) → steps first (first +ℤ pos n) ≡ n
@@ -39,17 +38,13 @@ one n = grind (arith, nat_tests)
 -- the bit of a pixel of a frame is that of its row
 pixel_bit : (f : Frame) (xs : List ℕ) (r k : ℕ) → r < f.height → k < f.width
     → IsTrue (bit_of (record { frame = f; rows = rows_of f.height f.width xs }) (f.left +ℤ pos k) (f.bottom +ℤ pos r))
-    ↔ (row_bit xs (r * words_for f.width) (words_for f.width) k ≡ 1)
+    ↔ (grid_bit xs (words_for f.width) k r ≡ 1)
 pixel_bit f xs r k h l = grind (arith, h, l, bit_of-number, from_in, steps_of, part_bit, one)
 
 -- the bit of a segment of a row of notes
 noted_bit : (f : Frame) (xs : List ℕ) (r k : ℕ) → k < 32 * words_noted f.width
-    → row_bit xs (r * words_noted f.width) (words_noted f.width) k ≡ word_bit xs (pixel_number f r k)
+    → grid_bit xs (words_noted f.width) k r ≡ word_bit xs (pixel_number f r k)
 noted_bit f xs r k l = grind (arith, signed_linear, l, part_bit)
-
-noted_up : (f : Frame) (xs : List ℕ) (r k : ℕ) → k < 32 * words_noted f.width
-    → bit_in xs (r * words_noted f.width + k / 32) (31 - k % 32) ≡ word_bit xs (pixel_number f r k)
-noted_up f xs r k l = sym (part_word xs (r * words_noted f.width) (words_noted f.width) k l) ∙ noted_bit f xs r k l
 
 not_one : (n : ℕ) → n < 2 → (n ≡ 1 → ⊥) → n ≡ 0
 not_one n l h = grind arith
@@ -77,8 +72,8 @@ pub record IsGiven (closing : Closing) (f : Frame) (ss : List Span) (across up o
 row_line : (closing : Closing) (f : Frame) (ss : List Span) (across up old new : List ℕ)
     → IsGiven closing f ss across up old new → NoneOutside f ss → (r : ℕ) → r < f.height
     → IsLine ss (IsInFrame f) (IsNextChosen closing false ss) (λ i j. IsCovered (centre i j) ss) f.left (f.bottom +ℤ pos r) f.width
-    (λ k. row_bit old (r * words_for f.width) (words_for f.width) k)
-    (λ k. row_bit across (r * words_noted f.width) (words_noted f.width) k)
+    (λ k. grid_bit old (words_for f.width) k r)
+    (λ k. grid_bit across (words_noted f.width) k r)
     (λ k. IsNextIn closing ss f false (f.left +ℤ pos k) (f.bottom +ℤ pos r))
 row_line closing f ss across up old new given outside r h = record {
   set = λ n l.
@@ -117,7 +112,7 @@ row_line closing f ss across up old new given outside r h = record {
 
 row_closed : (closing : Closing) (f : Frame) (ss : List Span) (across up old new : List ℕ)
     → (given : IsGiven closing f ss across up old new) → NoneOutside f ss → (r n : ℕ) → r < f.height → n < f.width
-    → (row_bit given.closed.mid (r * words_for f.width) (words_for f.width) n ≡ 1)
+    → (grid_bit given.closed.mid (words_for f.width) n r ≡ 1)
     ↔ IsRowSet closing ss f (f.left +ℤ pos n) (f.bottom +ℤ pos r)
 row_closed closing f ss across up old new given outside r n h l =
     line_closed ss (IsInFrame f) (IsNextChosen closing false ss) (λ i j. IsCovered (centre i j) ss) f.left (f.bottom +ℤ pos r)
@@ -126,24 +121,24 @@ row_closed closing f ss across up old new given outside r n h l =
 -- the bits after the last pixel stay 0
 row_rest : (closing : Closing) (f : Frame) (ss : List Span) (across up old new : List ℕ)
     → (given : IsGiven closing f ss across up old new) → (r n : ℕ) → r < f.height → f.width ≤ n → n < 32 * words_for f.width
-    → row_bit given.closed.mid (r * words_for f.width) (words_for f.width) n ≡ 0
+    → grid_bit given.closed.mid (words_for f.width) n r ≡ 0
 row_rest closing f ss across up old new given r n h w l =
-    still (λ k. row_bit old (r * words_for f.width) (words_for f.width) k)
-    (λ k. row_bit across (r * words_noted f.width) (words_noted f.width) k)
+    still (λ k. grid_bit old (words_for f.width) k r)
+    (λ k. grid_bit across (words_noted f.width) k r)
     (λ k. IsNextIn closing ss f false (f.left +ℤ pos k) (f.bottom +ℤ pos r)) n _ (given.closed.rows r n h l) (bit_at-lt _ _)
     (unused_bit f old r n given.words h w) (after (suc n) (omega (arith, w))) (by n refl)
   where
-    after : (k : ℕ) → f.width < k → row_bit across (r * words_noted f.width) (words_noted f.width) k ≡ 0
+    after : (k : ℕ) → f.width < k → grid_bit across (words_noted f.width) k r ≡ 0
     after k m = each (below_or_not k (32 * words_noted f.width))
       where
         each : (k < 32 * words_noted f.width) ⊎ (32 * words_noted f.width ≤ k)
-            → row_bit across (r * words_noted f.width) (words_noted f.width) k ≡ 0
+            → grid_bit across (words_noted f.width) k r ≡ 0
         each (inl o) = noted_bit f across r k o ∙ given.noted.rest_across r k h m o
         each (inr o) = past_part across (r * words_noted f.width) (words_noted f.width) k o
 
     by : (m : ℕ) → m ≡ n
-        → IsReached (λ k. row_bit old (r * words_for f.width) (words_for f.width) k)
-        (λ k. row_bit across (r * words_noted f.width) (words_noted f.width) k)
+        → IsReached (λ k. grid_bit old (words_for f.width) k r)
+        (λ k. grid_bit across (words_noted f.width) k r)
         (λ k. IsNextIn closing ss f false (f.left +ℤ pos k) (f.bottom +ℤ pos r)) m → ⊥
     by zero e o = omega (arith, e, w, l)
     by (suc m) e (o, next) =
@@ -160,24 +155,16 @@ column_line : (closing : Closing) (f : Frame) (ss : List Span) (across up old ne
     → (given : IsGiven closing f ss across up old new) → NoneOutside f ss → (k : ℕ) → 0 < f.height → k < f.width
     → IsLine (map turned_span ss) (λ j i. IsInFrame f i j) (λ j i. IsNextChosen closing true ss i j)
     (λ j i. IsRowSet closing ss f i j) f.bottom (f.left +ℤ pos k) f.height
-    (λ r. bit_in given.closed.mid (r * words_for f.width + k / 32) (31 - k % 32))
-    (λ r. bit_in up (r * words_noted f.width + k / 32) (31 - k % 32))
-    (λ r. IsNextIn closing ss f true (f.left +ℤ pos (32 * (k / 32) + (31 - (31 - k % 32)))) (f.bottom +ℤ pos r))
+    (λ r. grid_bit given.closed.mid (words_for f.width) k r) (λ r. grid_bit up (words_noted f.width) k r)
+    (λ r. IsNextIn closing ss f true (f.left +ℤ pos k) (f.bottom +ℤ pos r))
 column_line closing f ss across up old new given outside k some l = record {
-  set = λ r h.
-      let e = part_word given.closed.mid (r * words_for f.width) (words_for f.width) k (omega (arith, l)) in
-      let is = row_closed closing f ss across up old new given outside r k h l in
-      (λ t. is.0 (e ∙ t), λ c. sym e ∙ is.1 c);
+  set = λ r h. row_closed closing f ss across up old new given outside r k h l;
   bits = λ r. bit_at-lt _ _;
-  end =
-      let n = given.closed.long in
-      let m = given.words.long in
-      ap (λ v. bit_at v (31 - k % 32)) (get_or_past given.closed.mid (f.height * words_for f.width + k / 32) 0
-      (omega (arith, n, m))) ∙ bit_at-zero (31 - k % 32);
+  end = past_row given.closed.mid (words_for f.width) f.height k (omega (arith, given.closed.long, given.words.long));
   none_before = row_outside closing f ss outside (f.left +ℤ pos k) (f.bottom -ℤ pos 1) out_before;
   none_after = row_outside closing f ss outside (f.left +ℤ pos k) (f.bottom +ℤ pos f.height) out_after;
   tells = λ r h off off'.
-      let e = noted_up f up r k (omega (arith, l)) in
+      let e = noted_bit f up r k (omega (arith, l)) in
       let is = given.noted.up r k some h l (record {
         off_from = λ a. off (inl (on_covers _ ss a));
         off_to = λ a. off' (inl (on_covers _ ss a));
@@ -186,15 +173,9 @@ column_line closing f ss across up old new given outside k some l = record {
   inside = λ r h. record { column = from_in f.left f.width k l; row = from_in f.bottom f.height r h };
   before = out_before;
   after = out_after;
-  right = λ r h. (
-    subst (λ (n : ℕ). IsNextIn closing ss f true (f.left +ℤ pos n) (f.bottom +ℤ pos r)) number,
-    subst (λ (n : ℕ). IsNextIn closing ss f true (f.left +ℤ pos n) (f.bottom +ℤ pos r)) (sym number),
-  );
+  right = λ r h. (λ t. t, λ t. t);
 }
   where
-    number : 32 * (k / 32) + (31 - (31 - k % 32)) ≡ k
-    number = omega arith
-
     out_before : ¬ (IsInFrame f (f.left +ℤ pos k) (f.bottom -ℤ pos 1))
     out_before i = let c = i.row in omega (arith, signed_linear, c)
 
@@ -203,38 +184,29 @@ column_line closing f ss across up old new given outside k some l = record {
 
 column_closed : (closing : Closing) (f : Frame) (ss : List Span) (across up old new : List ℕ)
     → (given : IsGiven closing f ss across up old new) → NoneOutside f ss → (r k : ℕ) → r < f.height → k < f.width
-    → (row_bit new (r * words_for f.width) (words_for f.width) k ≡ 1)
+    → (grid_bit new (words_for f.width) k r ≡ 1)
     ↔ IsSet closing ss f (f.left +ℤ pos k) (f.bottom +ℤ pos r)
 column_closed closing f ss across up old new given outside r k h l =
-    let e = part_word new (r * words_for f.width) (words_for f.width) k (omega (arith, l)) in
-    let is = line_closed (map turned_span ss) (λ j i. IsInFrame f i j) (λ j i. IsNextChosen closing true ss i j)
+    line_closed (map turned_span ss) (λ j i. IsInFrame f i j) (λ j i. IsNextChosen closing true ss i j)
     (λ j i. IsRowSet closing ss f i j) f.bottom (f.left +ℤ pos k) f.height _ _ _
-    (column_line closing f ss across up old new given outside k
-    (omega (arith, h)) l) r _ h
-    (given.closed.columns r (k / 32) (31 - k % 32) h (omega (arith, l)) (omega arith)) in
-    (λ t. is.0 (sym e ∙ t), λ c. e ∙ is.1 c)
+    (column_line closing f ss across up old new given outside k (omega (arith, h)) l) r _ h
+    (given.closed.columns r k h (omega (arith, l)))
 
 column_rest : (closing : Closing) (f : Frame) (ss : List Span) (across up old new : List ℕ)
     → (given : IsGiven closing f ss across up old new) → (r k : ℕ) → r < f.height → f.width ≤ k → k < 32 * words_for f.width
-    → row_bit new (r * words_for f.width) (words_for f.width) k ≡ 0
+    → grid_bit new (words_for f.width) k r ≡ 0
 column_rest closing f ss across up old new given r k h w l =
-    part_word new (r * words_for f.width) (words_for f.width) k l
-    ∙ still (λ q. bit_in given.closed.mid (q * words_for f.width + k / 32) (31 - k % 32))
-    (λ q. bit_in up (q * words_noted f.width + k / 32) (31 - k % 32)) (λ q. IsNextIn closing ss f true
-    (f.left +ℤ pos (32 * (k / 32) + (31 - (31 - k % 32)))) (f.bottom +ℤ pos q)) r _
-    (given.closed.columns r (k / 32) (31 - k % 32) h (omega (arith, l)) (omega arith)) (bit_at-lt _ _)
-    (sym (part_word given.closed.mid (r * words_for f.width) (words_for f.width) k l)
-    ∙ row_rest closing f ss across up old new given r k h w l) (unnoted (suc r) (omega (arith, h))) (by r refl)
+    still (λ q. grid_bit given.closed.mid (words_for f.width) k q) (λ q. grid_bit up (words_noted f.width) k q)
+    (λ q. IsNextIn closing ss f true (f.left +ℤ pos k) (f.bottom +ℤ pos q)) r _ (given.closed.columns r k h l) (bit_at-lt _ _)
+    (row_rest closing f ss across up old new given r k h w l) (unnoted (suc r) (omega (arith, h))) (by r refl)
   where
-    unnoted : (q : ℕ) → q ≤ f.height → bit_in up (q * words_noted f.width + k / 32) (31 - k % 32) ≡ 0
+    unnoted : (q : ℕ) → q ≤ f.height → grid_bit up (words_noted f.width) k q ≡ 0
     unnoted q o =
         let far : k < 32 * words_noted f.width = omega (arith, l) in
-        noted_up f up q k far ∙ given.noted.rest_up q k o w far
+        noted_bit f up q k far ∙ given.noted.rest_up q k o w far
 
-    by : (m : ℕ) → m ≡ r
-        → IsReached (λ q. bit_in given.closed.mid (q * words_for f.width + k / 32) (31 - k % 32))
-        (λ q. bit_in up (q * words_noted f.width + k / 32) (31 - k % 32))
-        (λ q. IsNextIn closing ss f true (f.left +ℤ pos (32 * (k / 32) + (31 - (31 - k % 32)))) (f.bottom +ℤ pos q)) m → ⊥
+    by : (m : ℕ) → m ≡ r → IsReached (λ q. grid_bit given.closed.mid (words_for f.width) k q)
+        (λ q. grid_bit up (words_noted f.width) k q) (λ q. IsNextIn closing ss f true (f.left +ℤ pos k) (f.bottom +ℤ pos q)) m → ⊥
     by zero e o = let x = o.noted_is in let y = unnoted 0 (omega arith) in omega (arith, x, y)
     by (suc m) e (o, next) = let x = o.noted_is in let y = unnoted (suc m) (omega (arith, e, h)) in omega (arith, x, y)
 

@@ -4,6 +4,7 @@ use Rattle.std.proofs.Common.{◌≡◌, ◌↔◌, subst, IsTrue, Bool, true, f
 use Rattle.std.proofs.lemmas.Int.{to_z_pos}
 use Rattle.fx_fixed.proofs.Linear.{signed, signed_linear}
 use Rattle.fx_winding.specs.declared.frame.Frame.{Frame}
+use Rattle.fx_winding.specs.Bitmaps.{words_for}
 use Rattle.fx_winding.specs.Frames.{IsInFrame}
 use Rattle.fx_winding.specs.Limits.{IsPixelNumber}
 use Rattle.fx_dropout.specs.inner.Pairs.{next_col, next_row}
@@ -16,10 +17,23 @@ pub all_of : (new old k n m : ℕ) → k ≡ n → new ≤ old + k * m → new �
 all_of new old k n m e h = subst (λ (j : ℕ). new ≤ old + j * m) e h
 
 -- ---- columns
--- the first column of a word, as the code has it
-pub word_column : (left : ℤ) (w : ℕ) → IsPixelNumber left → w < 256 → IsPixelNumber (left +ℤ pos (32 * w))
-    → to_z w32 (of_z w32 (to_z w32 (of_z w32 left) +ℤ to_z w32 (of_z w32 (pos 32 *ℤ to_z w32 w)))) ≡ left +ℤ pos (32 * w)
-word_column left w low few right = grind (arith, low, few, right, to_z_pos)
+-- the first column of a word of a frame, and its row, as the code has them
+pub first_column : (f : Frame) (w : ℕ) → w < words_for f.width
+    → let x = to_z w32 (of_z w32 (to_z w32 (of_z w32 f.left) +ℤ to_z w32 (of_z w32 (pos 32 *ℤ to_z w32 w)))) in
+    (x ≡ f.left +ℤ pos (32 * w)) × IsPixelNumber x
+first_column f w l =
+    let step : to_z w32 w ≡ pos w = to_z_pos w32 w (omega (arith, l, f.columns.few)) in
+    let e : to_z w32 (of_z w32 (to_z w32 (of_z w32 f.left) +ℤ to_z w32 (of_z w32 (pos 32 *ℤ to_z w32 w)))) ≡ f.left +ℤ pos (32 * w) =
+    omega (arith, signed, step, l, f.columns.from, f.columns.to, f.columns.few) in
+    (e, (omega (arith, signed, e, f.columns.from), omega (arith, signed, e, l, f.columns.to)))
+
+pub row_number : (f : Frame) (r : ℕ) → r < f.height → let y = to_z w32 (of_z w32 (to_z w32 (of_z w32 f.bottom) +ℤ to_z w32 r)) in
+    (y ≡ f.bottom +ℤ pos r) × IsPixelNumber y
+row_number f r l =
+    let step : to_z w32 r ≡ pos r = to_z_pos w32 r (omega (arith, l, f.rows.few)) in
+    let e : to_z w32 (of_z w32 (to_z w32 (of_z w32 f.bottom) +ℤ to_z w32 r)) ≡ f.bottom +ℤ pos r =
+    omega (arith, signed, step, l, f.rows.from, f.rows.to) in
+    (e, (omega (arith, signed, e, f.rows.from), omega (arith, signed, e, l, f.rows.to)))
 
 -- the column of the pixel k of a word
 pub pixel_column : (left : ℤ) (k : ℕ) → IsPixelNumber left → k < 32

@@ -1,7 +1,6 @@
 pub mod Words
 pub mod Columns
-pub mod Rows
-pub mod Levels
+pub mod WordLines
 pub mod Lines
 pub mod Parts
 pub mod NoneOpen

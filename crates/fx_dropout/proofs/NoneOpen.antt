@@ -1,6 +1,6 @@
 -- If no segment of the words of a frame is open, none is of its rows and columns, and closing gaps changes nothing.
 -- Serves `look`, and `close_words`.
-use Rattle.std.proofs.Common.{◌≡◌, ◌⊎◌, ◌↔◌, inl, inr, refl, sym, ap, ◌∙◌, subst, ℕ, zero, suc, ◌+◌, ◌-◌, ◌*◌, ◌%◌, ◌<◌, ◌≤◌}
+use Rattle.std.proofs.Common.{◌≡◌, ◌⊎◌, ◌↔◌, inl, inr, refl, sym, ap, ◌∙◌, subst, ℕ, zero, suc, ◌+◌, ◌-◌, ◌*◌, ◌/◌, ◌%◌, ◌<◌, ◌≤◌}
 use Rattle.std.proofs.Common.{ℤ, pos, ◌+ℤ◌, not, nat_eq, Bool, true, false, List, get_or, length, bit_or, arith}
 use Rattle.std.specs.Int.{bit_at}
 use Rattle.std.proofs.Math.Nat.{mul-le-mul_right}
@@ -11,9 +11,8 @@ use Rattle.fx_fixed.proofs.Order.{below_or_not}
 use Rattle.fx_winding.specs.declared.frame.Frame.{Frame}
 use Rattle.fx_winding.specs.Bitmaps.{AreWords, words_for, word_bit}
 use Rattle.fx_winding.specs.Notes.{words_noted}
-use Rattle.fx_dropout.specs.inner.Closing.{IsOpen, IsOpenAt, IsClosedBit, AreClosedWords, AreNoneOpen, bit_in, row_bit}
-use Rattle.fx_dropout.proofs.Parts.{part_bit, past_part, unused_bit}
-use Rattle.fx_dropout.proofs.Rows.{bit_of_row}
+use Rattle.fx_dropout.specs.inner.Closing.{IsOpen, IsOpenAt, IsClosedBit, AreClosedWords, AreNoneOpen, bit_in, grid_bit}
+use Rattle.fx_dropout.proofs.Parts.{part_bit, part_word, past_part, unused_bit}
 
 -- ---- a line
 -- the bit of the pixel before one of a line; 0 before the first
@@ -39,16 +38,18 @@ pub none_closed : (IsNext : Bool → ℤ → ℤ → Type 0) (f : Frame) (across
 none_closed IsNext f across up words none = record {
   mid = words;
   long = refl;
-  rows = λ r n h l. kept_as_is (λ k. row_bit words (r * words_for f.width) (words_for f.width) k)
-      (λ k. row_bit across (r * words_noted f.width) (words_noted f.width) k)
+  rows = λ r n h l. kept_as_is (λ k. grid_bit words (words_for f.width) k r)
+      (λ k. grid_bit across (words_noted f.width) k r)
       (λ k. IsNext false (f.left +ℤ pos k) (f.bottom +ℤ pos r)) n (λ k _. none.rows r k h);
-  columns = λ r w i h l m. kept_as_is (λ k. bit_in words (k * words_for f.width + w) i)
-      (λ k. bit_in up (k * words_noted f.width + w) i)
-      (λ k. IsNext true (f.left +ℤ pos (32 * w + (31 - i))) (f.bottom +ℤ pos k)) r
-      (λ k o. none.columns k w i (omega (arith, o, h)) l m);
+  columns = λ r n h l. kept_as_is (λ k. grid_bit words (words_for f.width) n k) (λ k. grid_bit up (words_noted f.width) n k)
+      (λ k. IsNext true (f.left +ℤ pos n) (f.bottom +ℤ pos k)) r (λ k o. none.columns k n (omega (arith, o, h)) l);
 }
 
 -- ---- words of a line
+-- a bit of a word of a row, by its number
+bit_of_row : (row : List ℕ) (w c : ℕ) → c < 32 → bit_at (get_or row w 0) (31 - c) ≡ word_bit row (32 * w + c)
+bit_of_row row w c h = grind (arith, h)
+
 -- gaps that were none
 pub no_gaps : (gaps : ℕ) → not (nat_eq gaps 0) ≡ false → gaps ≡ 0
 no_gaps gaps e = grind (arith, nat_tests)
@@ -130,7 +131,12 @@ pub record AreFlat (f : Frame) (across up words : List ℕ) (size : ℕ) : Type 
 
 pub none_open : (f : Frame) (across up words : List ℕ) → AreFlat f across up words (words_for f.width)
     → AreNoneOpen f across up words
-none_open f across up words flat = record { rows = λ r n h. row r n h (below_or_not n (32 * size)); columns = column }
+none_open f across up words flat = record {
+  rows = λ r n h. row r n h (below_or_not n (32 * size));
+  columns = λ r n h l o. column r (n / 32) (31 - n % 32) h (omega (arith, l)) (omega arith)
+      (subst (λ z. z) (λ t. IsOpenAt (λ k. part_word words (k * size) size n l t)
+      (λ k. part_word up (k * words_noted f.width) (words_noted f.width) n (omega (arith, l, flat.same)) t) r) o);
+}
   where
     size : ℕ
     size = words_for f.width
@@ -139,7 +145,7 @@ none_open f across up words flat = record { rows = λ r n h. row r n h (below_or
     long = flat.held.long
 
     -- the bit of a row's pixel, and that of the one before it, in the words of all rows
-    pixel : (r n : ℕ) → n < 32 * size → row_bit words (r * size) size n ≡ word_bit words (32 * (r * size) + n)
+    pixel : (r n : ℕ) → n < 32 * size → grid_bit words size n r ≡ word_bit words (32 * (r * size) + n)
     pixel r n l = part_bit words (r * size) size n l
 
     start : (r : ℕ) → r < f.height → before_of (λ k. word_bit words k) (32 * (r * size)) ≡ 0
@@ -154,7 +160,7 @@ none_open f across up words flat = record { rows = λ r n h. row r n h (below_or
         ∙ unused_bit f words r (32 * size - 1) flat.held (omega (arith, h)) (omega (arith, same))
 
     before : (r n : ℕ) → r < f.height → n < 32 * size
-        → before_of (λ k. row_bit words (r * size) size k) n ≡ before_of (λ k. word_bit words k) (32 * (r * size) + n)
+        → before_of (λ k. grid_bit words size k r) n ≡ before_of (λ k. word_bit words k) (32 * (r * size) + n)
     before r zero h l =
         let e : 32 * (r * size) ≡ 32 * (r * size) + 0 = omega arith in
         sym (start r h) ∙ ap (before_of (λ k. word_bit words k)) e
@@ -163,15 +169,14 @@ none_open f across up words flat = record { rows = λ r n h. row r n h (below_or
         pixel r n (omega (arith, l)) ∙ ap (before_of (λ k. word_bit words k)) e
 
     row : (r n : ℕ) → r < f.height → (n < 32 * size) ⊎ (32 * size ≤ n)
-        → ¬ (IsOpenAt (λ k. row_bit words (r * size) size k) (λ k. row_bit across (r * words_noted f.width)
-        (words_noted f.width) k) n)
+        → ¬ (IsOpenAt (λ k. grid_bit words size k r) (λ k. grid_bit across (words_noted f.width) k r) n)
     row r n h (inr l) o =
         grind (
           arith,
           l,
           flat.same,
-          open_at (λ k. row_bit words (r * size) size k)
-              (λ k. row_bit across (r * words_noted f.width) (words_noted f.width) k) n o,
+          open_at (λ k. grid_bit words size k r)
+              (λ k. grid_bit across (words_noted f.width) k r) n o,
           past_part across (r * words_noted f.width) (words_noted f.width) n,
         )
     row r n h (inl l) o =
@@ -180,8 +185,8 @@ none_open f across up words flat = record { rows = λ r n h. row r n h (below_or
         grind (
           arith,
           flat.same,
-          open_at (λ k. row_bit words (r * size) size k)
-              (λ k. row_bit across (r * words_noted f.width) (words_noted f.width) k) n o,
+          open_at (λ k. grid_bit words size k r)
+              (λ k. grid_bit across (words_noted f.width) k r) n o,
           before r n h l,
           pixel r n l,
           part_bit across (r * words_noted f.width) (words_noted f.width) n,

@@ -56,78 +56,68 @@ fn next_row(is_up: bool, row: i32) -> i32
     if is_up { row + 1 } else { row }
 }
 
+/// The gaps after 32 pixels of a row, from the column `left` on, as a word: those to the right of the pixels or, with `is_up`,
+/// those above them.
+#[derive(Clone, Copy)]
+pub(crate) struct GapWord {
+    pub gaps: u32,
+    pub left: i32,
+    pub row: i32,
+    pub is_up: bool,
+    ghost left_number: { IsPixelNumber left },
+    ghost row_number: { IsPixelNumber row },
+}
+
 impl<'a> Chooser<'a> {
-    /// Whether a word of gaps has the bit of its pixel k, counted from the left, and the neighbour of that pixel closes the gap.
-    fn is_next(
-        &self,
-        gaps: u32,
-        k: usize,
-        is_up: bool,
-        left: i32,
-        row: i32,
-        tally: &mut Tally,
-    ) -> bool
+    /// Whether there is a gap after the pixel k of a word, and the neighbour of that pixel closes it.
+    fn is_next(&self, word: GapWord, k: usize, tally: &mut Tally) -> bool
         requires nearer { self.now.closing ≡ Nearer }
         requires place { k < 32 }
-        requires left { IsPixelNumber left }
-        requires row { IsPixelNumber row }
-        ensures value { IsTrue result ↔ ((bit_at gaps (31 - k) ≡ 1) × IsNext self.now is_up (left +ℤ pos k) row) }
+        ensures value { IsTrue result ↔
+            ((bit_at word.gaps (31 - k) ≡ 1) × IsNext self.now word.is_up (word.left +ℤ pos k) word.row) }
         ensures count { tally.new.count ≤ tally.old.count + 31 * 128 * length self.now.pieces.now }
     {
-        if !has_bit(gaps, k) {
+        if !has_bit(word.gaps, k) {
             return false;
         }
-        let col = left + k as i32;
-        if !is_in_frame(self.frame, next_col(is_up, col), next_row(is_up, row)) {
+        let is_up = word.is_up;
+        let col = word.left + k as i32;
+        if !is_in_frame(self.frame, next_col(is_up, col), next_row(is_up, word.row)) {
             return false;
         }
-        let here = Pixel { col, row };
+        let here = Pixel { col, row: word.row };
         is_next_nearer(self.pieces, Pair { here, is_up }, tally)
     }
 
-    /// Of a word of gaps those that the neighbours close, each the one to the right of its pixel, or with `is_up` the one above it.
-    fn nearer(&self, gaps: u32, is_up: bool, left: i32, row: i32, tally: &mut Tally) -> u32
+    /// Of the gaps of a word those that the neighbours close, each the one to the right of its pixel, or with `is_up` the one
+    /// above it.
+    fn nearer(&self, word: GapWord, tally: &mut Tally) -> u32
         requires nearer { self.now.closing ≡ Nearer }
-        requires left { IsPixelNumber left }
-        requires row { IsPixelNumber row }
         ensures bits { (i : ℕ) → i < 32 →
-            (bit_at result i ≡ 1) ↔ ((bit_at gaps i ≡ 1) × IsNext self.now is_up (left +ℤ pos (31 - i)) row) }
+            (bit_at result i ≡ 1) ↔ ((bit_at word.gaps i ≡ 1) × IsNext self.now word.is_up (word.left +ℤ pos (31 - i)) word.row) }
         ensures count { tally.new.count ≤ tally.old.count + 32 * (31 * 128 * length self.now.pieces.now) }
     {
         let mut found = [0u32];
         // The bits of the first k pixels are found.
         'pixels: for k in 0..PIXELS {
-            put_bit(
-                &mut found,
-                k,
-                self.is_next(gaps, k, is_up, left, row, tally),
-            );
+            put_bit(&mut found, k, self.is_next(word, k, tally));
         }
         found[0]
     }
 
-    /// The same of the gaps after 32 pixels of a row, from the column `left` on, by either rule.
+    /// The same by either rule.
     #[inline(always)]
-    pub(crate) fn nexts(
-        &self,
-        gaps: u32,
-        is_up: bool,
-        left: i32,
-        row: i32,
-        tally: &mut Tally,
-    ) -> u32
-        requires left { IsPixelNumber left }
-        requires row { IsPixelNumber row }
+    pub(crate) fn nexts(&self, word: GapWord, tally: &mut Tally) -> u32
         ensures bits { (i : ℕ) → i < 32 →
-            (bit_at result i ≡ 1) ↔ ((bit_at gaps i ≡ 1) × IsNext self.now is_up (left +ℤ pos (31 - i)) row) }
+            (bit_at result i ≡ 1) ↔ ((bit_at word.gaps i ≡ 1) × IsNext self.now word.is_up (word.left +ℤ pos (31 - i)) word.row) }
         ensures count { tally.new.count ≤ tally.old.count + word_tests self.now }
     {
-        if gaps == 0 {
+        if word.gaps == 0 {
             return 0;
         }
         match self.closing {
             Closing::Lower => 0,
-            Closing::Nearer => self.nearer(gaps, is_up, left, row, tally),
+            Closing::Nearer => self.nearer(word, tally),
         }
     }
 }

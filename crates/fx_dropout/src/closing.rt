@@ -2,16 +2,16 @@
 //!
 //! A segment is open if it is noted and neither of its pixels is set. The pixel before it closes it, or the one that it leads to if
 //! that is chosen; the first segment of a line is closed by the first pixel. All that is looked at are bits from before, so that
-//! the order does not matter.
+//! the order does not matter. A column is a row whose words are above one another.
 
-ghost use Rattle.std.specs.Prelude.{◌≡◌, ◌⊎◌, ◌↔◌, ℕ, ◌+◌, ◌-◌, ◌*◌, ◌^◌, ◌≤◌, ◌<◌, pos, ◌+ℤ◌, length, slice_index_or, true, false};
+ghost use Rattle.std.specs.Prelude.{◌≡◌, ◌≢◌, ◌⊎◌, ◌↔◌, ℕ, ◌+◌, ◌-◌, ◌*◌, ◌^◌, ◌≤◌, ◌<◌, pos, ◌+ℤ◌, length, true, false, not};
 ghost use Rattle.std.specs.Int.{bit_at};
-ghost use Rattle.fx_winding.specs.Bitmaps.{words_for as words_for_of, word_bit, AreWords};
-ghost use Rattle.fx_winding.specs.Limits.{IsPixelNumber};
+ghost use Rattle.fx_winding.specs.Bitmaps.{words_for as words_for_of, AreWords};
 ghost use Rattle.fx_winding.specs.Notes.{words_noted as words_noted_of};
-ghost use Rattle.fx_dropout.specs.inner.Closing.{bit_in, row_bit, word_tests, AreClosedWords, IsClosedBit, IsLevelClosed, IsNext, IsOpen};
+ghost use Rattle.fx_dropout.specs.inner.Closing.{bit_after, line_word, word_column, word_place, word_row, word_tests, words_along};
+ghost use Rattle.fx_dropout.specs.inner.Closing.{AreClosedLines, AreClosedWords, IsClosedOn, IsNext, IsOpen};
 
-use crate::chooser::Chooser;
+use crate::chooser::{Chooser, GapWord};
 use crate::look::may_be_open;
 use fx_winding::{Frame, Tally, words_for, words_noted};
 
@@ -35,14 +35,6 @@ pub(crate) fn left_of(before: u32, word: u32) -> u32
     before << 31 | word >> 1
 }
 
-/// The word at a place, or 0 after the last one.
-#[inline(always)]
-fn word_at(words: &[u32], w: usize) -> u32
-    ensures { result ≡ slice_index_or words.now w 0 }
-{
-    if w < words.len() { words[w] } else { 0 }
-}
-
 /// The segments that are open, by the bits of the segments that are noted and of the pixels at their ends.
 #[tactic(auto, using(crate::proofs::Words::open_bit))]
 #[inline(always)]
@@ -63,201 +55,180 @@ fn closed(here: u32, gaps: u32, nexts: u32, reached: u32) -> u32
     here | gaps & !nexts | reached
 }
 
-/// The first pixel of a row, if it closes the segment that leads to it: its bit in an else empty word before the row.
-#[tactic(auto, using(crate::proofs::Words::first_bit))]
-#[inline(always)]
-fn first_reached(noted: &[u32], row: &[u32]) -> u32
-    ensures { (bit_at result 0 ≡ 1) ↔ IsOpen (word_bit noted.now 0) 0 (word_bit row.now 0) }
-{
-    (word_at(noted, 0) & !word_at(row, 0)) >> 31
+/// The words of a line, in a list of words that are rows of `size` words: the row `number` or, with `is_up`, the words above the
+/// word `number` of the lowest row.
+#[derive(Clone, Copy)]
+struct WordLine {
+    is_up: bool,
+    size: usize,
+    number: usize,
+    ghost few: { size ≤ 2 ^ 16 },
+    ghost few_lines: { number ≤ 2 ^ 16 },
 }
 
-/// Closes the gaps of a row.
-fn close_row(
+impl WordLine {
+    /// The column and the row of the word k of the line.
+    fn cell(self, k: usize) -> (usize, usize)
+        ensures column { result.0 ≡ word_column self.is_up self.number k }
+        ensures row { result.1 ≡ word_row self.is_up self.number k }
+    {
+        if self.is_up {
+            (self.number, k)
+        } else {
+            (k, self.number)
+        }
+    }
+
+    /// Where it is in the list.
+    fn place(self, k: usize) -> usize
+        requires { k ≤ 2 ^ 16 }
+        ensures value { result ≡ word_place self.is_up self.size self.number k }
+        ensures few { result < 2 ^ 40 }
+    {
+        let (column, row) = self.cell(k);
+        row * self.size + column
+    }
+
+    /// The word k of the line, or 0 after the last one.
+    fn word(self, words: &[u32], k: usize) -> u32
+        requires few { k ≤ 2 ^ 16 }
+        requires number { self.is_up ≡ true → self.number < self.size }
+        ensures { result ≡ line_word self.is_up words.now self.size self.number k }
+    {
+        if !self.is_up && k >= self.size {
+            return 0;
+        }
+        let at = self.place(k);
+        if at < words.len() { words[at] } else { 0 }
+    }
+}
+
+/// The pixels or segments after those of a word: those to their right, the last of which is in the next word, or those above them.
+fn after(is_up: bool, word: u32, next: u32) -> u32
+    ensures { (c : ℕ) → c < 32 → bit_at result (31 - c) ≡ bit_after is_up word next c }
+{
+    if is_up { next } else { right_of(word, next) }
+}
+
+/// The pixels of a word that close the segments that lead to them, if `nexts` are the segments of the word that the next pixels
+/// close, and `before` are those of the word before.
+fn reached(is_up: bool, before: u32, nexts: u32) -> u32
+    ensures up { is_up ≡ true → result ≡ before }
+    ensures first { is_up ≡ false → bit_at result 31 ≡ bit_at before 0 }
+    ensures inner { is_up ≡ false → (c : ℕ) → 0 < c → c < 32 → bit_at result (31 - c) ≡ bit_at nexts (32 - c) }
+{
+    if is_up {
+        before
+    } else {
+        left_of(before, nexts)
+    }
+}
+
+/// The first pixels of lines that close the segments that lead to them, as if in the word before.
+fn first_reached(is_up: bool, noted: u32, here: u32) -> u32
+    ensures up { is_up ≡ true → (c : ℕ) → c < 32 →
+        (bit_at result (31 - c) ≡ 1) ↔ IsOpen (bit_at noted (31 - c)) 0 (bit_at here (31 - c)) }
+    ensures across { is_up ≡ false → (bit_at result 0 ≡ 1) ↔ IsOpen (bit_at noted 31) 0 (bit_at here 31) }
+{
+    let open = gaps_of(noted, 0, here);
+    if is_up { open } else { open >> 31 }
+}
+
+/// How many words a line of a frame has.
+fn words_along(is_up: bool, frame: Frame) -> usize
+    ensures { result ≡ words_along is_up frame }
+{
+    if is_up {
+        frame.height as usize
+    } else {
+        words_for(frame.width)
+    }
+}
+
+/// The gaps after the pixels of a word of a frame, by its column and row among the words.
+fn gap_word(frame: Frame, is_up: bool, cell: (usize, usize), gaps: u32) -> GapWord
+    requires column { cell.0 < words_for_of frame.width }
+    requires row { cell.1 < frame.height }
+    ensures gaps { result.gaps ≡ gaps }
+    ensures left { result.left ≡ frame.left +ℤ pos (32 * cell.0) }
+    ensures row { result.row ≡ frame.bottom +ℤ pos cell.1 }
+    ensures up { result.is_up ≡ is_up }
+{
+    GapWord {
+        gaps,
+        left: frame.left + 32 * cell.0 as i32,
+        row: frame.bottom + cell.1 as i32,
+        is_up,
+    }
+}
+
+/// Closes the gaps of a line of words, those of a row or, with `is_up`, those of 32 columns.
+fn close_line(
     chooser: &Chooser<'_>,
+    is_up: bool,
+    number: usize,
     noted: &[u32],
-    row: &mut [u32],
-    left: i32,
-    j: i32,
+    words: &mut [u32],
     tally: &mut Tally,
 )
-    requires left { IsPixelNumber left }
-    requires few { length row.old ≤ 256 }
-    requires right { (w : ℕ) → w < length row.old → IsPixelNumber (left +ℤ pos (32 * w)) }
-    requires row { IsPixelNumber j }
-    ensures length { length row.new ≡ length row.old }
-    ensures bits { (n : ℕ) → n < 32 * length row.old →
-        IsClosedBit (λ k. word_bit row.old k) (λ k. word_bit noted.now k) (λ k. IsNext chooser.now false (left +ℤ pos k) j) n
-        (word_bit row.new n) }
-    ensures count { tally.new.count ≤ tally.old.count + length row.old * word_tests chooser.now }
+    requires wide { 0 < chooser.now.frame.width }
+    requires line { number < words_along (not is_up) chooser.now.frame }
+    requires words { length words.old ≡ chooser.now.frame.height * words_for_of chooser.now.frame.width }
+    ensures length { length words.new ≡ length words.old }
+    ensures bits { (k c : ℕ) → k < words_along is_up chooser.now.frame → c < 32 →
+        IsClosedOn chooser.now is_up noted.now words.old number k c
+        (bit_at (line_word is_up words.new (words_for_of chooser.now.frame.width) number k) (31 - c)) }
+    ensures others { (m k : ℕ) → m ≢ number →
+        line_word is_up words.new (words_for_of chooser.now.frame.width) m k
+        ≡ line_word is_up words.old (words_for_of chooser.now.frame.width) m k }
+    ensures count { tally.new.count ≤ tally.old.count + words_along is_up chooser.now.frame * word_tests chooser.now }
 {
-    // The last pixel of the word before, if the segment after that was closed by the next pixel.
-    let mut before = first_reached(noted, row);
-    // The gaps of the words before w are closed, and the others are as they were.
-    'words: for w in 0..row.len() {
-        let here = row[w];
+    let frame = chooser.frame;
+    let size = words_for(frame.width);
+    let line = WordLine {
+        is_up,
+        size,
+        number,
+    };
+    let notes = WordLine {
+        is_up,
+        size: words_noted(frame.width),
+        number,
+    };
+    // The pixels of the word before that close the segments after them in place of the pixels before those.
+    let mut before = first_reached(is_up, notes.word(noted, 0), line.word(words, 0));
+    // The gaps of the words before k are closed, and the others are as they were.
+    'words: for k in 0..words_along(is_up, frame) {
+        let here = line.word(words, k);
         let gaps = gaps_of(
-            right_of(word_at(noted, w), word_at(noted, w + 1)),
+            after(is_up, notes.word(noted, k), notes.word(noted, k + 1)),
             here,
-            right_of(here, word_at(row, w + 1)),
+            after(is_up, here, line.word(words, k + 1)),
         );
-        let nexts = chooser.nexts(gaps, false, left + 32 * w as i32, j, tally);
-        row[w] = closed(here, gaps, nexts, left_of(before, nexts));
+        let nexts = chooser.nexts(gap_word(frame, is_up, line.cell(k), gaps), tally);
+        words[line.place(k)] = closed(here, gaps, nexts, reached(is_up, before, nexts));
         before = nexts;
     }
 }
 
-/// Closes the gaps of all rows of a frame.
-fn close_rows(
+/// Closes the gaps of all rows of a frame, or of all columns.
+fn close_lines(
     chooser: &Chooser<'_>,
-    frame: Frame,
-    across: &[u32],
+    is_up: bool,
+    noted: &[u32],
     words: &mut [u32],
     tally: &mut Tally,
 )
-    requires wide { 0 < frame.width }
-    requires noted { length across.now ≡ frame.height * words_noted_of frame.width }
-    requires pixels { length words.old ≡ frame.height * words_for_of frame.width }
+    requires wide { 0 < chooser.now.frame.width }
+    requires words { length words.old ≡ chooser.now.frame.height * words_for_of chooser.now.frame.width }
     ensures length { length words.new ≡ length words.old }
-    ensures bits { (r n : ℕ) → r < frame.height → n < 32 * words_for_of frame.width →
-        IsClosedBit (λ k. row_bit words.old (r * words_for_of frame.width) (words_for_of frame.width) k)
-        (λ k. row_bit across.now (r * words_noted_of frame.width) (words_noted_of frame.width) k)
-        (λ k. IsNext chooser.now false (frame.left +ℤ pos k) (frame.bottom +ℤ pos r)) n
-        (row_bit words.new (r * words_for_of frame.width) (words_for_of frame.width) n) }
-    ensures count { tally.new.count ≤ tally.old.count + frame.height * (words_for_of frame.width * word_tests chooser.now) }
+    ensures bits { AreClosedLines is_up (IsNext chooser.now is_up) chooser.now.frame noted.now words.old words.new }
+    ensures count { tally.new.count ≤ tally.old.count +
+        words_along (not is_up) chooser.now.frame * (words_along is_up chooser.now.frame * word_tests chooser.now) }
 {
-    let pixels = words_for(frame.width);
-    let segments = words_noted(frame.width);
-    // The gaps of the rows before `up` are closed, and the others are as they were.
-    'rows: for up in 0..frame.height {
-        let r = up as usize;
-        let noted = &across[r * segments..r * segments + segments];
-        let row = &mut words[r * pixels..r * pixels + pixels];
-        close_row(
-            chooser,
-            noted,
-            row,
-            frame.left,
-            frame.bottom + up as i32,
-            tally,
-        );
-    }
-}
-
-/// The pixels of the lowest row that close the segments that lead to them from below, in place of the notes of these.
-fn reach_lowest(up: &mut [u32], words: &[u32], count: usize)
-    requires up { count ≤ length up.old }
-    requires words { count ≤ length words.now }
-    ensures length { length up.new ≡ length up.old }
-    ensures bits { (w i : ℕ) → w < count → i < 32 →
-        (bit_in up.new w i ≡ 1) ↔ IsOpen (bit_in up.old w i) 0 (bit_in words.now w i) }
-    ensures others { (w : ℕ) → count ≤ w → slice_index_or up.new w 0 ≡ slice_index_or up.old w 0 }
-{
-    // The first w words are those of the pixels.
-    'words: for w in 0..count {
-        up[w] = gaps_of(up[w], 0, words[w]);
-    }
-}
-
-/// A row of pixels in a list of words, and the row of notes of the segments that lead to it from below.
-#[derive(Clone, Copy)]
-struct Level {
-    /// Where the words of the row begin.
-    pixels: usize,
-    /// How many there are, in this row and in the one above.
-    count: usize,
-    /// Where the words of its notes begin.
-    segments: usize,
-    /// How far on those of the row above are.
-    step: usize,
-    ghost wide: { count ≤ step },
-    ghost few: { pixels + count ≤ 2 ^ 32 },
-    ghost few_segments: { segments + 2 * step ≤ 2 ^ 32 },
-}
-
-/// Closes the gaps between a row and the one above it. Of the row's notes those are left that its pixels close; the same is left of
-/// the notes of the row above.
-fn close_level(
-    chooser: &Chooser<'_>,
-    level: Level,
-    up: &mut [u32],
-    words: &mut [u32],
-    left: i32,
-    j: i32,
-    tally: &mut Tally,
-)
-    requires left { IsPixelNumber left }
-    requires few { level.count ≤ 256 }
-    requires right { (w : ℕ) → w < level.count → IsPixelNumber (left +ℤ pos (32 * w)) }
-    requires row { IsPixelNumber j }
-    requires words { level.pixels + level.count ≤ length words.old }
-    requires up { level.segments + level.step + level.count ≤ length up.old }
-    ensures length { length words.new ≡ length words.old }
-    ensures up_length { length up.new ≡ length up.old }
-    ensures bits { (w i : ℕ) → w < level.count → i < 32 → IsLevelClosed (bit_in words.old (level.pixels + w) i)
-        (bit_in words.old (level.pixels + level.count + w) i) (bit_in up.old (level.segments + level.step + w) i)
-        (bit_in up.old (level.segments + w) i) (IsNext chooser.now true (left +ℤ pos (32 * w + (31 - i))) j)
-        (bit_in words.new (level.pixels + w) i) (bit_in up.new (level.segments + level.step + w) i) }
-    ensures other_words { (w : ℕ) → (w < level.pixels) ⊎ (level.pixels + level.count ≤ w) →
-        slice_index_or words.new w 0 ≡ slice_index_or words.old w 0 }
-    ensures other_notes { (w : ℕ) → (w < level.segments + level.step) ⊎ (level.segments + level.step + level.count ≤ w) →
-        slice_index_or up.new w 0 ≡ slice_index_or up.old w 0 }
-    ensures count { tally.new.count ≤ tally.old.count + level.count * word_tests chooser.now }
-{
-    // The first w words are closed, and the others are as they were.
-    'words: for w in 0..level.count {
-        let at = level.pixels + w;
-        let above = level.segments + level.step + w;
-        let here = words[at];
-        let gaps = gaps_of(up[above], here, word_at(words, at + level.count));
-        let nexts = chooser.nexts(gaps, true, left + 32 * w as i32, j, tally);
-        words[at] = closed(here, gaps, nexts, up[level.segments + w]);
-        up[above] = nexts;
-    }
-}
-
-/// Closes the gaps of all columns of a frame.
-fn close_columns(
-    chooser: &Chooser<'_>,
-    frame: Frame,
-    up: &mut [u32],
-    words: &mut [u32],
-    tally: &mut Tally,
-)
-    requires wide { 0 < frame.width }
-    requires some { 0 < frame.height }
-    requires noted { length up.old ≡ (frame.height + 1) * words_noted_of frame.width }
-    requires pixels { length words.old ≡ frame.height * words_for_of frame.width }
-    ensures up_length { length up.new ≡ length up.old }
-    ensures length { length words.new ≡ length words.old }
-    ensures bits { (r w i : ℕ) → r < frame.height → w < words_for_of frame.width → i < 32 →
-        IsClosedBit (λ k. bit_in words.old (k * words_for_of frame.width + w) i)
-        (λ k. bit_in up.old (k * words_noted_of frame.width + w) i)
-        (λ k. IsNext chooser.now true (frame.left +ℤ pos (32 * w + (31 - i))) (frame.bottom +ℤ pos k)) r
-        (bit_in words.new (r * words_for_of frame.width + w) i) }
-    ensures count { tally.new.count ≤ tally.old.count + frame.height * (words_for_of frame.width * word_tests chooser.now) }
-{
-    let count = words_for(frame.width);
-    let step = words_noted(frame.width);
-    reach_lowest(up, words, count);
-    // The gaps after the rows before this one are closed.
-    'rows: for row in 0..frame.height {
-        let r = row as usize;
-        let level = Level {
-            pixels: r * count,
-            count,
-            segments: r * step,
-            step,
-        };
-        close_level(
-            chooser,
-            level,
-            up,
-            words,
-            frame.left,
-            frame.bottom + row as i32,
-            tally,
-        );
+    // The gaps of the lines before this one are closed, and the others are as they were.
+    'lines: for number in 0..words_along(!is_up, chooser.frame) {
+        close_line(chooser, is_up, number, noted, words, tally);
     }
 }
 
@@ -266,26 +237,26 @@ fn close_columns(
 #[inline(always)]
 pub(crate) fn close_words(
     chooser: &Chooser<'_>,
-    frame: Frame,
     across: &[u32],
-    up: &mut [u32],
+    up: &[u32],
     words: &mut [u32],
     tally: &mut Tally,
 )
-    requires across { length across.now ≡ frame.height * words_noted_of frame.width }
-    requires up { length up.old ≡ (frame.height + 1) * words_noted_of frame.width }
-    requires pixels { AreWords frame.height frame.width words.old }
-    ensures up_length { length up.new ≡ length up.old }
+    requires across { length across.now ≡ chooser.now.frame.height * words_noted_of chooser.now.frame.width }
+    requires up { length up.now ≡ (chooser.now.frame.height + 1) * words_noted_of chooser.now.frame.width }
+    requires pixels { AreWords chooser.now.frame.height chooser.now.frame.width words.old }
     ensures length { length words.new ≡ length words.old }
-    ensures closed { AreClosedWords (IsNext chooser.now) frame across.now up.old words.old words.new }
-    ensures count { tally.new.count ≤ tally.old.count + 2 * (frame.height * (words_for_of frame.width * word_tests chooser.now)) }
+    ensures closed { AreClosedWords (IsNext chooser.now) chooser.now.frame across.now up.now words.old words.new }
+    ensures count { tally.new.count ≤ tally.old.count + 2 *
+        (chooser.now.frame.height * (words_for_of chooser.now.frame.width * word_tests chooser.now)) }
 {
+    let frame = chooser.frame;
     if frame.width == 0 || frame.height == 0 {
         return;
     }
     if !may_be_open(frame, across, up, words) {
         return;
     }
-    close_rows(chooser, frame, across, words, tally);
-    close_columns(chooser, frame, up, words, tally);
+    close_lines(chooser, false, across, words, tally);
+    close_lines(chooser, true, up, words, tally);
 }

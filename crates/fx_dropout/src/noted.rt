@@ -39,13 +39,6 @@ pub fn close_gaps(
         closing,
     };
     let mut words = bitmap.into_words();
-    close_words(
-        &chooser,
-        frame,
-        &notes.across,
-        &mut notes.up,
-        &mut words,
-        tally,
-    );
+    close_words(&chooser, &notes.across, &notes.up, &mut words, tally);
     Bitmap::from_words(frame, words)
 }

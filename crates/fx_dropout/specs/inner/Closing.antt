@@ -1,6 +1,6 @@
 -- A line of pixels, which is a row or a column, with bits of pixels and of the segments between neighbours, and its gaps closed.
 -- The segment 0 leads to the first pixel, and each further one from a pixel to the next.
-use Rattle.std.specs.Prelude.{◌≡◌, ◌⊎◌, ◌↔◌, ℕ, zero, suc, ◌+◌, ◌-◌, ◌*◌, ◌<◌, ◌≤◌, ℤ, pos, ◌+ℤ◌, Bool, true, false, List, map, take, drop, length, slice_index_or}
+use Rattle.std.specs.Prelude.{◌≡◌, ◌⊎◌, ◌↔◌, ℕ, zero, suc, ◌+◌, ◌-◌, ◌*◌, ◌<◌, ◌≤◌, ℤ, pos, ◌+ℤ◌, Bool, true, false, List, [], ◌∷◌, map, take, drop, length, slice_index_or}
 use Rattle.std.specs.Int.{bit_at}
 use Rattle.fx_winding.specs.declared.frame.Frame.{Frame}
 use Rattle.fx_winding.specs.Bitmaps.{words_for, word_bit}
@@ -50,30 +50,81 @@ IsClosedBit pixels noted IsNext n new =
 abbrev pub bit_in : List ℕ → ℕ → ℕ → ℕ
 bit_in words w i = bit_at (slice_index_or words w 0) i
 
--- the bit of a pixel, or of a segment, of a row whose words are some of a list; 0 after the last word
-abbrev pub row_bit : List ℕ → ℕ → ℕ → ℕ → ℕ
-row_bit words at count k = word_bit (take count (drop at words)) k
+-- ---- lines of words, in words that are rows of `size` words each: rows or, with `true`, words above one another
+-- the number of a word in its row, and of its row, by the line and the word in it
+abbrev pub word_column : Bool → ℕ → ℕ → ℕ
+word_column false line k = k
+word_column true line k = line
 
--- what the bit of a pixel of a level is once its gaps are closed, and what is left of the segment from it up
-pub record IsLevelClosed (here next noted reached : ℕ) (IsNext : Type 0) (new left : ℕ) : Type 0 where
-  pub new_is : (new ≡ 1) ↔ ((here ≡ 1) ⊎ ((IsOpen noted here next × ¬ IsNext) ⊎ (reached ≡ 1)))
-  pub left_is : (left ≡ 1) ↔ (IsOpen noted here next × IsNext)
+abbrev pub word_row : Bool → ℕ → ℕ → ℕ
+word_row false line k = line
+word_row true line k = k
+
+-- where it is in the list
+abbrev pub word_place : Bool → ℕ → ℕ → ℕ → ℕ
+word_place up size line k = word_row up line k * size + word_column up line k
+
+-- the word; 0 after the last one
+abbrev pub line_word : Bool → List ℕ → ℕ → ℕ → ℕ → ℕ
+line_word up words size line k =
+    slice_index_or (take size (drop (word_row up line k * size) words)) (word_column up line k) 0
+
+-- how many words a line of a frame has; `not up` gives the number of lines
+abbrev pub words_along : Bool → Frame → ℕ
+words_along false f = words_for f.width
+words_along true f = f.height
+
+-- the bit after the bit c of a word: in the word or, of its last bit, in the next word; upward the bit c of the next word
+abbrev pub bit_after : Bool → ℕ → ℕ → ℕ → ℕ
+bit_after false word next c = word_bit (word ∷ next ∷ []) (c + 1)
+bit_after true word next c = bit_at next (31 - c)
+
+-- the bit of a pixel, or of a segment, in column n and row r; 0 after the last word of a row
+abbrev pub grid_bit : List ℕ → ℕ → ℕ → ℕ → ℕ
+grid_bit words size n r = word_bit (take size (drop (r * size) words)) n
+
+-- the bit k of the row r or, with `true`, of the column n
+abbrev pub bit_on : Bool → List ℕ → ℕ → ℕ → ℕ → ℕ → ℕ
+bit_on false words size n r k = grid_bit words size k r
+bit_on true words size n r k = grid_bit words size n k
+
+-- what is known of its pixel k
+abbrev pub next_on : Bool → (ℤ → ℤ → Type 0) → Frame → ℕ → ℕ → ℕ → Type 0
+next_on false IsNext f n r k = IsNext (f.left +ℤ pos k) (f.bottom +ℤ pos r)
+next_on true IsNext f n r k = IsNext (f.left +ℤ pos n) (f.bottom +ℤ pos k)
+
+-- the number on it of the pixel in column n and row r
+abbrev pub number_on : Bool → ℕ → ℕ → ℕ
+number_on false n r = n
+number_on true n r = r
+
+-- the bit of the pixel in column n and row r of a frame is what it is once the gaps of its row, or of its column, are closed
+abbrev pub IsClosedIn : Bool → (ℤ → ℤ → Type 0) → Frame → List ℕ → List ℕ → ℕ → ℕ → ℕ → Type 0
+IsClosedIn up IsNext f noted old n r new =
+    IsClosedBit (λ k. bit_on up old (words_for f.width) n r k) (λ k. bit_on up noted (words_noted f.width) n r k)
+    (λ k. next_on up IsNext f n r k) (number_on up n r) new
+
+-- the same of the bit c of the word k of a line
+abbrev pub IsClosedOn : Chooser → Bool → List ℕ → List ℕ → ℕ → ℕ → ℕ → ℕ → Type 0
+IsClosedOn chooser up noted old line k c =
+    IsClosedIn up (IsNext chooser up) chooser.frame noted old (32 * word_column up line k + c) (word_row up line k)
+
+-- the gaps of all rows, or of all columns, are closed
+abbrev pub AreClosedLines : Bool → (ℤ → ℤ → Type 0) → Frame → List ℕ → List ℕ → List ℕ → Type 0
+AreClosedLines up IsNext f noted old new =
+    (r n : ℕ) → r < f.height → n < 32 * words_for f.width
+    → IsClosedIn up IsNext f noted old n r (grid_bit new (words_for f.width) n r)
 
 -- the gaps of rows are closed, and then those that are left in the columns
 pub record AreClosedWords (IsNext : Bool → ℤ → ℤ → Type 0) (f : Frame) (across up old new : List ℕ) : Type 0 where
   pub mid : List ℕ
   pub long : length mid ≡ length old
-  pub rows : (r n : ℕ) → r < f.height → n < 32 * words_for f.width
-      → IsClosedBit (λ k. row_bit old (r * words_for f.width) (words_for f.width) k)
-      (λ k. row_bit across (r * words_noted f.width) (words_noted f.width) k)
-      (λ k. IsNext false (f.left +ℤ pos k) (f.bottom +ℤ pos r)) n (row_bit mid (r * words_for f.width) (words_for f.width) n)
-  pub columns : (r w i : ℕ) → r < f.height → w < words_for f.width → i < 32
-      → IsClosedBit (λ k. bit_in mid (k * words_for f.width + w) i) (λ k. bit_in up (k * words_noted f.width + w) i)
-      (λ k. IsNext true (f.left +ℤ pos (32 * w + (31 - i))) (f.bottom +ℤ pos k)) r (bit_in new (r * words_for f.width + w) i)
+  pub rows : AreClosedLines false (IsNext false) f across old mid
+  pub columns : AreClosedLines true (IsNext true) f up mid new
 
 -- no segment of a frame is open
 pub record AreNoneOpen (f : Frame) (across up words : List ℕ) : Type 0 where
-  pub rows : (r n : ℕ) → r < f.height → ¬ (IsOpenAt (λ k. row_bit words (r * words_for f.width) (words_for f.width) k)
-      (λ k. row_bit across (r * words_noted f.width) (words_noted f.width) k) n)
-  pub columns : (r w i : ℕ) → r ≤ f.height → w < words_for f.width → i < 32
-      → ¬ (IsOpenAt (λ k. bit_in words (k * words_for f.width + w) i) (λ k. bit_in up (k * words_noted f.width + w) i) r)
+  pub rows : (r n : ℕ) → r < f.height → ¬ (IsOpenAt (λ k. grid_bit words (words_for f.width) k r)
+      (λ k. grid_bit across (words_noted f.width) k r) n)
+  pub columns : (r n : ℕ) → r ≤ f.height → n < 32 * words_for f.width
+      → ¬ (IsOpenAt (λ k. grid_bit words (words_for f.width) n k) (λ k. grid_bit up (words_noted f.width) n k) r)

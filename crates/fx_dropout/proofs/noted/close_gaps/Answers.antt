@@ -7,7 +7,7 @@ use Rattle.fx_dropout.proofs.Closed.{IsGiven, lent, given_of, closed_words, gaps
 use Rattle.fx_dropout.proofs.noted.close_gaps.Goals as goal
 
 same : (c : goal.After-words-2-1) → length c.close_words.new.words ≡ length c.into_words-words.result.items
-same c = c.close_words.ensures.length ∙ ap length c.deref_mut-2.ensures.value
+same c = c.close_words.ensures.length ∙ ap length c.deref_mut.ensures.value
 
 back : (c : goal.After-words-2-1) → take c.into_words-words.result.len (c.close_words.new.words
     ++ drop (length c.close_words.new.words) c.into_words-words.result.items) ≡ c.close_words.new.words
@@ -26,7 +26,7 @@ given c =
     c.into_words-words.result.items c.close_words.new.words c.frame-frame.ensures.value c.requires.scanned c.requires.noted
     c.into_words-words.ensures.words c.into_words-words.ensures.value
     (subst (λ (z : List ℕ × List ℕ × List ℕ). AreClosedWords (IsNextIn c.args.closing ss f) f z.0 z.1 z.2 c.close_words.new.words)
-    (λ t. (c.deref.ensures.value t, c.deref_mut.ensures.value t, c.deref_mut-2.ensures.value t)) c.close_words.ensures.closed)
+    (λ t. (c.deref.ensures.value t, c.deref-2.ensures.value t, c.deref_mut.ensures.value t)) c.close_words.ensures.closed)
 
 pub from_words-requires : goal.from_words-requires
 from_words-requires c =

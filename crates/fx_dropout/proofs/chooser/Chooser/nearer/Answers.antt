@@ -1,9 +1,9 @@
-use Rattle.std.proofs.Common.{◌≡◌, ◌-◌, ◌/◌, ◌%◌, pos, ◌+ℤ◌, arith, w32, to_z, of_z, ◌*◌, length}
+use Rattle.std.proofs.Common.{◌≡◌, ◌-◌, ◌/◌, ◌%◌, pos, ◌+ℤ◌, arith, ◌*◌, length}
 use Rattle.std.specs.Int.{bit_at}
 use Rattle.fx_winding.proofs.Grid.{word_zero}
 use Rattle.fx_winding.proofs.Scanned.{row_set_more}
 use Rattle.fx_dropout.specs.inner.Closing.{IsNext}
-use Rattle.fx_dropout.proofs.Columns.{same_row, one_more, all_of}
+use Rattle.fx_dropout.proofs.Columns.{one_more, all_of}
 use Rattle.fx_dropout.proofs.chooser.Chooser.nearer.Goals as goal
 
 pub pixels-init : goal.pixels-init
@@ -11,11 +11,9 @@ pixels-init c = grind (arith, word_zero)
 
 pub pixels-preserved : goal.pixels-preserved
 pixels-preserved c =
-    let left = to_z w32 (of_z w32 c.args.left) in
-    let row = to_z w32 (of_z w32 c.args.row) in
     record {
-      bits = row_set_more (λ j. (bit_at c.args.gaps (31 - j) ≡ 1) × IsNext c.args.self.now c.args.is_up
-          (left +ℤ pos j) row) c.pixels.found
+      bits = row_set_more (λ j. (bit_at c.args.word.gaps (31 - j) ≡ 1) × IsNext c.args.self.now c.args.word.is_up
+          (c.args.word.left +ℤ pos j) c.args.word.row) c.pixels.found
           c.put_bit.new.words c.pixels.k c.is_next.result c.pixels.invariant.bits c.is_next.ensures.value c.put_bit.ensures.here
           c.put_bit.ensures.others;
       count = one_more c.is_next.new.tally.count c.pixels.tally.count c.args.tally.now.count c.pixels.k
@@ -30,6 +28,4 @@ returns-clause-bits c = λ i l.
     let j : 31 - (31 - i) ≡ i = omega (arith, l) in
     let w : (31 - i) / 32 ≡ 0 = omega arith in
     let b : 31 - (31 - i) % 32 ≡ i = omega (arith, l) in
-    let left = same_row c.args.left c.requires.left in
-    let row = same_row c.args.row c.requires.row in
-    grind (arith, w, b, j, left, row, c.pixels.invariant.bits.set (31 - i) (omega arith))
+    grind (arith, w, b, j, c.pixels.invariant.bits.set (31 - i) (omega arith))
