@@ -176,15 +176,21 @@ property_by given = wanted (property_of given) (not_taken (codes "--property tak
 abbrev pub properties_by : List Text → Result (List PropertyView) WrongView
 properties_by given = map_chain property_by given
 
+-- what becomes of refused characters, the number of the face, and how outlines become pixels
+abbrev pub manner_by : List Row → Result (OnRefused × ℕ × Mode) WrongView
+manner_by rows = do
+  refused ← refused_by (first_of (codes "refused") rows)
+  face ← face_by (first_of (codes "face") rows)
+  mode ← mode_by rows
+  Ok (refused, face, mode)
+
 -- what the values of `make`'s options ask for: the size is required, and a list or `--all`
 abbrev pub make_by : List Row → Result CommandView WrongView
 make_by rows = do
   ppem ← size_by (first_of (codes "ppem") rows)
   _ ← one_way (is_given (codes "all") rows) (first_of (codes "chars") rows)
   properties ← properties_by (unwrap_or (all_of (codes "property") rows) [])
-  refused ← refused_by (first_of (codes "refused") rows)
-  face ← face_by (first_of (codes "face") rows)
-  mode ← mode_by rows
+  manner ← manner_by rows
   chars ← characters_by (first_of (codes "chars") rows)
   Ok (record {
     task = strike (record {
@@ -193,10 +199,10 @@ make_by rows = do
       name = unwrap_or (first_of (codes "name") rows) (codes "strike");
       properties = properties;
       x11 = is_given (codes "x11") rows;
-      mode = mode;
-      on_refused = refused;
+      mode = manner.2;
+      on_refused = manner.0;
     });
-    face = face;
+    face = manner.1;
     hex = is_given (codes "hex") rows;
   })
 

@@ -3,7 +3,7 @@ ghost use Rattle.std.specs.Prelude.{◌≡◌, Ok, Some, drop, option_map};
 ghost use Rattle.clap.specs.Words.{found_of, rows_of};
 ghost use Rattle.fx_fixed.specs.Chain.{GivesUnless, wanted};
 ghost use Rattle.fx_arguments.specs.Arguments.{asked_for, characters_by, choice_by, dropout_by, dump_by, face_by, glyph_by, is_command, make_by};
-ghost use Rattle.fx_arguments.specs.Arguments.{mode_by, one_way, program_by, refused_by, size_by, texts, trace_by, traced_by};
+ghost use Rattle.fx_arguments.specs.Arguments.{manner_by, mode_by, one_way, program_by, refused_by, size_by, texts, trace_by, traced_by};
 ghost use Rattle.fx_arguments.specs.CommandLine.{command_by, command_of, command_of_explain};
 ghost use Rattle.fx_arguments.specs.Commands.{Refuses, seen, seen_characters};
 ghost use Rattle.fx_arguments.specs.Wrong.{Reads, not_taken};
@@ -181,6 +181,16 @@ fn characters_by<'a>(alloc: Global, list: Option<&str>) -> Result<CharacterChoic
     }
 }
 
+/// What becomes of refused characters, the number of the face, and how outlines become pixels.
+fn manner_of<'a>(matches: &ArgMatches<'a>) -> Result<(OnRefused, u32, Mode), Wrong<'a>>
+    ensures { Reads (λ manner. manner) result (manner_by (rows_of (found_of matches.now))) }
+{
+    let on_refused = refused_by(value(matches, "refused"))?;
+    let face = face_by(value(matches, "face"))?;
+    let mode = mode_of(matches)?;
+    Ok((on_refused, face, mode))
+}
+
 /// What the values of `make` ask for: the size is required, and a list of characters or `--all`.
 fn make_of<'a>(alloc: Global, matches: &ArgMatches<'a>) -> Result<Command<'a>, Wrong<'a>>
     ensures { Reads seen result (make_by (rows_of (found_of matches.now))) }
@@ -189,9 +199,7 @@ fn make_of<'a>(alloc: Global, matches: &ArgMatches<'a>) -> Result<Command<'a>, W
     let list = value(matches, "chars");
     one_way(is_given(matches, "all"), list)?;
     let properties = properties_by(alloc, values(matches, "property").unwrap_or(&[]))?;
-    let on_refused = refused_by(value(matches, "refused"))?;
-    let face = face_by(value(matches, "face"))?;
-    let mode = mode_of(matches)?;
+    let (on_refused, face, mode) = manner_of(matches)?;
     let chars = characters_by(alloc, list)?;
     let make = Make {
         ppem,
