@@ -11,13 +11,14 @@ use std::alloc::{AllocError, Global};
 use std::marker::Model;
 
 /// How many skips of each kind are remembered at a time.
-const PLACES: usize = 1024;
+const PLACES: usize = 512;
 
-/// Where the search from an address ended: at the byte before `after`. An `after` of 0 says nothing.
+/// Where the search from an address ended: at the byte before `after`. An `after` of 0 says nothing. Addresses of 2^16 and more
+/// are not remembered: fonts have none, and this halves the memory.
 #[derive(Clone, Copy)]
 pub struct Target {
-    pub from: u32,
-    pub after: u32,
+    pub from: u16,
+    pub after: u16,
 }
 
 /// What is remembered of an address: of a false `IF`, and of an executed `ELSE`.
@@ -44,7 +45,7 @@ impl<'a> Model for Targets<'a> {
 
     ghost view = { λ t. t.code };
 
-    ghost invariant = { λ t. All (AreSkips t.code) t.skips.items × (length t.skips.items ≡ 1024) };
+    ghost invariant = { λ t. All (AreSkips t.code) t.skips.items × (length t.skips.items ≡ 512) };
 }
 
 /// Where the search from an address ended, if that is remembered.
@@ -62,7 +63,7 @@ fn recalled(target: Target, from: usize) -> Option<usize>
 fn target_of(from: usize, after: usize) -> Target
     ensures { (stops : ℕ → ℕ → Bool) (code : List ℕ) → past_of stops code from ≡ Ok after → IsTarget stops code result }
 {
-    if let (Ok(from), Ok(after)) = (u32::try_from(from), u32::try_from(after)) {
+    if let (Ok(from), Ok(after)) = (u16::try_from(from), u16::try_from(after)) {
         return Target { from, after };
     }
     Target { from: 0, after: 0 }
