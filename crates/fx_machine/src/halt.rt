@@ -13,31 +13,31 @@ use std::alloc::AllocError;
 use thiserror::Error;
 
 /// Why a program halts.
-#[derive(Clone, Copy, Debug, PartialEq, Eq, Error)]
+#[derive(Clone, Copy, Debug, PartialEq, Eq)]
 pub enum Cause {
-    #[error("the stack holds too few numbers")]
+    /// The stack holds too few numbers.
     StackUnder,
-    #[error("the stack has no more room")]
+    /// The stack has no more room.
     StackOver,
-    #[error("the opcode is not defined")]
+    /// The opcode is not defined.
     BadOpcode,
-    #[error("the program ends too early")]
+    /// The program ends too early.
     CodeEnd,
-    #[error("a jump leads out of the program")]
+    /// A jump leads out of the program.
     BadJump,
-    #[error("the function is not defined")]
+    /// The function is not defined.
     NoFunction,
-    #[error("too many calls are open")]
+    /// Too many calls are open.
     CallDepth,
-    #[error("too many instructions")]
+    /// Too many instructions were executed.
     StepLimit,
-    #[error("a division by zero")]
+    /// A division by zero.
     DivideByZero,
-    #[error("an argument is out of range")]
+    /// An argument is out of range.
     BadArgument,
-    #[error("a definition begins inside a definition")]
+    /// A definition begins inside a definition.
     NestedDefinition,
-    #[error("a definition ends outside a call")]
+    /// A definition ends outside a call.
     StrayEnd,
 }
 
