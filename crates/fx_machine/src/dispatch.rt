@@ -274,15 +274,15 @@ impl State {
             DELTAP1 => self.deltap(DeltaForm::First)?,
             SDB => sdb(&mut self.store, &mut self.graphics)?,
             SDS => sds(&mut self.store, &mut self.graphics)?,
-            _ => return self.row_4x_6x(bytes, targets, opcode, program, address),
+            _ => return self.row_4x(bytes, targets, opcode, program, address),
         }
         Ok(Action::Went(after(bytes, address)))
     }
 
     /// The row of an opcode that is not of 2x or 5x.
     #[inline(always)]
-    #[tactic(auto, unfolding(crate::specs::Table::row_here, crate::specs::Table::row_of, crate::specs::Table::plain_of, crate::specs::Table::opcodes_4x, crate::specs::Table::opcodes_6x))]
-    fn row_4x_6x(
+    #[tactic(auto, unfolding(crate::specs::Table::row_here, crate::specs::Table::row_of, crate::specs::Table::plain_of, crate::specs::Table::opcodes_4x))]
+    fn row_4x(
         &mut self,
         bytes: &[u8],
         targets: &mut Targets<'_>,
@@ -313,6 +313,32 @@ impl State {
             FLIPON => self.graphics.set_auto_flip(true),
             FLIPOFF => self.graphics.set_auto_flip(false),
             DEBUG => self.store.ignored()?,
+            _ => return self.row_6x(bytes, targets, opcode, program, address),
+        }
+        Ok(Action::Went(after(bytes, address)))
+    }
+
+    /// The row of an opcode that is not of 2x or 5x, and that `row_4x` has no arm for.
+    #[inline(always)]
+    #[tactic(auto, unfolding(crate::specs::Table::row_here, crate::specs::Table::row_of, crate::specs::Table::plain_of, crate::specs::Table::opcodes_6x))]
+    fn row_6x(
+        &mut self,
+        bytes: &[u8],
+        targets: &mut Targets<'_>,
+        opcode: u8,
+        program: Program,
+        address: usize,
+    ) -> Result<Action, Cause>
+        requires not_2x { opcode / 16 ≢ 2 }
+        requires low_4x { opcode / 16 ≡ 4 → opcode ≤ 0x41 }
+        requires not_5x { opcode / 16 ≢ 5 }
+        requires inside { address < length bytes.now }
+        requires opcode { opcode ≡ opcode_at bytes.now address }
+        requires targets { program ≡ Program.Font → targets.old ≡ bytes.now }
+        ensures does { Leads (row_here opcode bytes.now program address) self.old self.new result }
+        ensures targets { targets.new ≡ targets.old }
+    {
+        match opcode {
             ADD => self.store.add()?,
             SUB => self.store.sub()?,
             DIV => self.store.div()?,
