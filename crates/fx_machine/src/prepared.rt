@@ -1,7 +1,7 @@
 //! The state that programs of glyphs begin with.
 
-ghost use Rattle.std.specs.Prelude.{◌≡◌, ◌++◌, true, length, IfOk, OnOk, IfSome, IsSome};
-ghost use Rattle.fx_machine.specs.Words.{AreNumbers, ArePoints};
+ghost use Rattle.std.specs.Prelude.{◌≡◌, ◌++◌, true, length, unsigned_abs, slice_index, IfOk, OnOk, IfSome, IsSome};
+ghost use Rattle.fx_machine.specs.Words.{AreNumbers, ArePoints, number_in};
 ghost use Rattle.fx_machine.specs.Blocks.{SaysAll, prepared_in, sizes_of, sizes_words, lists_words, state_words, has_words, IsNumbered};
 ghost use Rattle.fx_machine.specs.Known.{prepared_from};
 ghost use Rattle.fx_machine.specs.Prepared.{Fits, begun, started};
@@ -12,7 +12,7 @@ use crate::sizes::Sizes;
 use crate::state::{InstructControl, State};
 use crate::usage::Usage;
 use crate::words::{push_numbers, push_points, table_of, zone_of};
-use fx_gstate::GState;
+use fx_gstate::{DeltaShift, GState};
 use fx_stackops::Table;
 use fx_zone::Zone;
 use std::alloc::{AllocError, Global};
@@ -64,19 +64,33 @@ impl Prepared {
         if !sizes.are_said(words) {
             return Ok(None);
         }
-        let Some(shift) = shift_in(words) else {
-            return Ok(None);
-        };
+        match shift_in(words) {
+            Some(shift) => Ok(Some(Prepared::of_parts(alloc, sizes, words, shift)?)),
+            None => Ok(None),
+        }
+    }
+
+    /// What words say that say something for lists of these sizes, and this delta shift.
+    fn of_parts(
+        alloc: Global,
+        sizes: Sizes,
+        words: &[u32],
+        shift: DeltaShift,
+    ) -> Result<Prepared, AllocError>
+        requires said { SaysAll sizes words.now }
+        requires shift { shift ≡ unsigned_abs (number_in (slice_index words.now 15)) }
+        ensures { IfOk result (λ p. p ≡ prepared_in sizes words.now) }
+    {
         let parts = parts_of(words);
         let definitions = Definitions::of_words(alloc, parts.functions, parts.opcodes)?;
-        Ok(Some(Prepared {
+        Ok(Prepared {
             storage: table_of(alloc, parts.storage)?,
             cvt: table_of(alloc, parts.cvt)?,
             twilight: zone_of(alloc, sizes.twilight, parts.twilight)?,
             graphics: start_in(words, shift),
             definitions,
             flags: flags_in(words),
-        }))
+        })
     }
 
     /// Whether its lists' lengths and its functions have words.
