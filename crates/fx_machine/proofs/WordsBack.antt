@@ -53,7 +53,7 @@ point_back p rest h =
     ) refl
 
 pub points_back : (ps : List ZonePoint) (rest : List ℕ) → ArePoints ps
-  → points_in (length ps) (flat_map point_words ps ++ rest) ≡ ps
+    → points_in (length ps) (flat_map point_words ps ++ rest) ≡ ps
 points_back [] rest h = refl
 points_back (p ∷ ps) rest h =
     rw (point_back p (flat_map point_words ps ++ rest) (first_of IsPoint p ps h), points_back ps rest (rest_of IsPoint p ps h))

@@ -1,7 +1,8 @@
 //! The machine of a font at a size.
 
 ghost use Rattle.std.specs.Prelude.{◌≡◌, length, option_map, Some, IfOk, IfSome, IsSome, OnOk, is_ok, is_some};
-ghost use Rattle.fx_fixed.specs.Chain.{GivesUnless};
+ghost use Rattle.fx_fixed.specs.Chain.{GivesUnless, map_fault};
+ghost use Rattle.fx_machine.specs.declared.halt.MachineFault.TheVariants.{Halted};
 ghost use Rattle.fx_machine.specs.Programs.{texts};
 ghost use Rattle.fx_zone.specs.Figures.{HasShape};
 ghost use Rattle.fx_pointops.specs.Zones.{HasShapes};
@@ -150,6 +151,44 @@ fn boxed_tables(alloc: Global, state: &State) -> Result<Box<Prepared>, AllocErro
     Ok(Box::new(alloc, prepared)?)
 }
 
+/// The state that `fpgm` and `prep` left, what programs of glyphs take over of it, and what the two have used up.
+#[derive(Drop)]
+struct FirstRun {
+    state: Box<State>,
+    prepared: Box<Prepared>,
+    prelude: Usage,
+}
+
+/// Makes the state that `fpgm` begins with, and runs `fpgm`, then `prep`. It takes all its memory before the first instruction.
+fn first_run<W: Watching>(
+    alloc: Global,
+    font: &Font<'_>,
+    scale: Scale,
+    programs: &Programs<'_>,
+    targets: &mut Targets<'_>,
+    watcher: &mut W,
+) -> Result<FirstRun, MachineFault>
+    requires number { programs.now.number ≡ 0 }
+    requires targets { targets.old ≡ programs.now.font }
+    ensures value { GivesUnless Fails (λ first. (first.prelude, first.state.value)) result
+        (map_fault Halted (prelude_of (texts programs.now) (first_state font.now scale))) }
+    ensures watched { Watches W.Sees watcher.old
+        (seen_by result (prelude_events (texts programs.now) (first_state font.now scale))) watcher.new }
+    ensures prepared { IfOk result (λ first. first.prepared.value ≡ prepared_from first.state.value) }
+    ensures shapes { IfOk result (λ first. HasShapes (first_state font.now scale).zones first.state.value.zones) }
+    ensures sizes { IfOk result (λ first. HasSizes (first_state font.now scale) first.state.value) }
+    ensures targets { targets.new ≡ targets.old }
+{
+    let mut state = boxed_state(alloc, font, scale)?;
+    let mut prepared = boxed_tables(alloc, &state)?;
+    let prelude = run_and_take(&mut state, programs, targets, &mut prepared, watcher)?;
+    Ok(FirstRun {
+        state,
+        prepared,
+        prelude,
+    })
+}
+
 /// What words say that programs left, on the heap. `None` if they say nothing for lists of these sizes.
 fn boxed_block(
     alloc: Global,
@@ -214,7 +253,6 @@ impl<'a> Model for Machine<'a> {
 impl<'a> Machine<'a> {
     /// The machine of a font at a size: `fpgm` runs, then `prep`. It takes all its memory before the first instruction. The watcher
     /// sees both programs.
-    #[tactic(auto, unfolding(crate::specs::Known::machine_of, crate::specs::Known::final_stack_of, crate::specs::Known::font_ran))]
     pub fn new<W: Watching>(
         alloc: Global,
         font: Font<'a>,
@@ -241,16 +279,14 @@ impl<'a> Machine<'a> {
         };
         let scale = Scale::of(&font, ppem);
         let mut targets = Targets::new(alloc, Code::new(font_program))?;
-        let mut state = boxed_state(alloc, &font, scale)?;
-        let mut prepared = boxed_tables(alloc, &state)?;
-        let prelude = run_and_take(&mut state, &programs, &mut targets, &mut prepared, watcher)?;
+        let first = first_run(alloc, &font, scale, &programs, &mut targets, watcher)?;
         Ok(Machine {
             font,
             targets,
             prep,
-            prepared,
-            prelude,
-            state,
+            prepared: first.prepared,
+            prelude: first.prelude,
+            state: first.state,
             ended_well: true,
         })
     }
