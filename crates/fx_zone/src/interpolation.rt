@@ -309,7 +309,7 @@ fn interpolate_contour(points: &mut [ZonePoint], axis: Axis)
         if is_touched(&points[start], axis) {
             start += 1;
         } else {
-            let end = run_end(points, start, axis);
+            let end = run_end(points, start + 1, axis);
             let before = point_before(points, start, &last);
             let after = numbered_or(points, end, &first);
             interpolate_run(&mut points[start..end], axis, &before, &after);

@@ -32,17 +32,20 @@ points-preserved-then-is_touched c = record {
 pub points-preserved : goal.points-preserved
 points-preserved c =
     let i = c.points.invariant in
+    let value = c.run_end-end.ensures.value in
     let fit = c.run_end-end.ensures.within in
+    let next = run_next c.args.axis c.points.points c.points.start c.index-points-start.result _ c.points-test.true refl
+    (sym c.is_touched.ensures ∙ c.if-is_touched.false) in
     record {
       answer = i.answer
           ∙ sym (run_passed c.args.axis _ c.in-Some.last _ _ c.points.points c.interpolate_run.new.points c.points.start
-          c.run_end-end.result _ i.within c.run_end-end.ensures.value refl c.point_before-before.ensures c.numbered_or-after.ensures
-          c.interpolate_run.ensures);
+          c.run_end-end.result _ i.within (omega (arith, value, next)) refl c.point_before-before.ensures
+          c.numbered_or-after.ensures c.interpolate_run.ensures);
       within = omega (
         arith,
         fit,
         passed_long _ c.points.points c.interpolate_run.new.points c.points.start c.run_end-end.result _
-            (omega (arith, c.run_end-end.ensures.value)) fit refl c.interpolate_run.ensures,
+            (omega (arith, value)) fit refl c.interpolate_run.ensures,
       );
     }
 
@@ -50,11 +53,9 @@ pub points-smaller : goal.points-smaller
 points-smaller c =
     let value = c.run_end-end.ensures.value in
     let fit = c.run_end-end.ensures.within in
-    let next = run_next c.args.axis c.points.points c.points.start c.index-points-start.result _ c.points-test.true refl
-    (sym c.is_touched.ensures ∙ c.if-is_touched.false) in
     let long = passed_long _ c.points.points c.interpolate_run.new.points c.points.start c.run_end-end.result _
     (omega (arith, value)) fit refl c.interpolate_run.ensures in
-    omega (arith, value, next, long, fit)
+    omega (arith, value, long, fit)
 
 pub returns : goal.returns
 returns c = sym (c.points.invariant.answer ∙ all_passed c.args.axis _ c.in-Some.last c.points.points c.points.start c.points-test.false)
