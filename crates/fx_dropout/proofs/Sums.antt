@@ -29,18 +29,18 @@ taken_more : (ss : List Span) (done : ℕ) (s : Span) → done < length ss → s
 taken_more ss done s within is = take_more ss done s within ∙ ap (λ r. take done ss ++ r ∷ []) (sym is)
 
 -- one more, some of which all places have
-joined_more : (p : Place) (ss : List Span) (s : Span) (k : ℕ) (v all new r : ℤ) (part : Option ℤ) → IsPart p s part
-    → new +ℤ r ≡ sum_of v part → IsWithin 1 r → IsSummed p ss k v all → IsSummed p (ss ++ s ∷ []) (k + 4) new (all +ℤ r)
-joined_more p ss s k v all new r part is sum small old =
+joined_more : (p : Place) (ss : List Span) (s : Span) (k : ℕ) (v common new r : ℤ) (part : Option ℤ) → IsPart p s part
+    → new +ℤ r ≡ sum_of v part → IsWithin 1 r → IsSummed p ss k v common → IsSummed p (ss ++ s ∷ []) (k + 4) new (common +ℤ r)
+joined_more p ss s k v common new r part is sum small old =
     record {
       few = (omega (arith, signed_linear, old.few, small), omega (arith, signed_linear, old.few, small));
       known = by part is sum old.known;
     }
   where
     by : (part : Option ℤ) → IsPart p s part → new +ℤ r ≡ sum_of v part
-        → (Any (IsOn p) ss × IsWithin k (v -ℤ mark)) ⊎ ((¬ (Any (IsOn p) ss)) × IsWithin k v × (v +ℤ all ≡ winding p ss))
+        → (Any (IsOn p) ss × IsWithin k (v -ℤ mark)) ⊎ ((¬ (Any (IsOn p) ss)) × IsWithin k v × (v +ℤ common ≡ winding p ss))
         → (Any (IsOn p) (ss ++ s ∷ []) × IsWithin (k + 4) (new -ℤ mark))
-        ⊎ ((¬ (Any (IsOn p) (ss ++ s ∷ []))) × IsWithin (k + 4) new × (new +ℤ (all +ℤ r) ≡ winding p (ss ++ s ∷ [])))
+        ⊎ ((¬ (Any (IsOn p) (ss ++ s ∷ []))) × IsWithin (k + 4) new × (new +ℤ (common +ℤ r) ≡ winding p (ss ++ s ∷ [])))
     by None a e h =
         inl ((any_last (IsOn p) ss s).1 (inr a), (omega (arith, signed_linear, e, small), omega (arith, signed_linear, e, small)))
     by (Some t) (few, is, off) e (inl (h, near)) = inl (
@@ -53,28 +53,28 @@ joined_more p ss s k v all new r part is sum small old =
       let d = winding_last p ss s in omega (arith, signed_linear, w, is, e, d),
     )
 
-pub more_summed : (p : Place) (ss : List Span) (done : ℕ) (s : Span) (old all new r : ℤ) → done < length ss
-    → s ≡ get_or ss done s → IsJoined p s old (new +ℤ r) → IsWithin 1 r → IsSummed p (take done ss) (4 * done) old all
-    → IsSummed p (take (done + 1) ss) (4 * (done + 1)) new (all +ℤ r)
-more_summed p ss done s old all new r within is j small h =
-    subst (λ (z : List Span × ℕ). IsSummed p z.0 z.1 new (all +ℤ r)) (λ i. (sym (taken_more ss done s within is) i, more i))
-    (joined_more p (take done ss) s (4 * done) old all new r j.part j.is j.sum small h)
+pub more_summed : (p : Place) (ss : List Span) (done : ℕ) (s : Span) (old common new r : ℤ) → done < length ss
+    → s ≡ get_or ss done s → IsJoined p s old (new +ℤ r) → IsWithin 1 r → IsSummed p (take done ss) (4 * done) old common
+    → IsSummed p (take (done + 1) ss) (4 * (done + 1)) new (common +ℤ r)
+more_summed p ss done s old common new r within is j small h =
+    subst (λ (z : List Span × ℕ). IsSummed p z.0 z.1 new (common +ℤ r)) (λ i. (sym (taken_more ss done s within is) i, more i))
+    (joined_more p (take done ss) s (4 * done) old common new r j.part j.is j.sum small h)
   where
     more : 4 * done + 4 ≡ 4 * (done + 1)
     more = omega arith
 
-pub summed_wider : (p : Place) (ss : List Span) (k m : ℕ) (v all : ℤ) → k ≤ m → IsSummed p ss k v all → IsSummed p ss m v all
-summed_wider p ss k m v all h i = grind (arith, signed_linear, h, i)
+pub summed_wider : (p : Place) (ss : List Span) (k m : ℕ) (v common : ℤ) → k ≤ m → IsSummed p ss k v common → IsSummed p ss m v common
+summed_wider p ss k m v common h i = grind (arith, signed_linear, h, i)
 
 -- what is known of a place is small enough for one piece more
-pub summed_small : (p : Place) (ss : List Span) (k : ℕ) (v all : ℤ) → k ≤ 262144 → IsSummed p ss k v all
-    → IsWithin 1074790400 v × IsWithin 1074790400 (v +ℤ all)
-summed_small p ss k v all l h = grind (arith, signed_linear, l, h)
+pub summed_small : (p : Place) (ss : List Span) (k : ℕ) (v common : ℤ) → k ≤ 262144 → IsSummed p ss k v common
+    → IsWithin 1074790400 v × IsWithin 1074790400 (v +ℤ common)
+summed_small p ss k v common l h = grind (arith, signed_linear, l, h)
 
 -- all pieces
-pub covered_by : (p : Place) (ss : List Span) (v all : ℤ) → IsSummed p ss 262144 v all → ((v +ℤ all) ≢ pos 0) ↔ IsCovered p ss
+pub covered_by : (p : Place) (ss : List Span) (v common : ℤ) → IsSummed p ss 262144 v common → ((v +ℤ common) ≢ pos 0) ↔ IsCovered p ss
 unfolding IsCovered
-covered_by p ss v all h = let few = h.few in elim h.known [
+covered_by p ss v common h = let few = h.few in elim h.known [
   | inl i ↦ let near = i.1 in (λ t. inl i.0, λ c e. omega (arith, signed_linear, near, few, e))
   | inr i ↦ (λ k. inr (λ z. k (i.2 ∙ z)), λ c k. elim c [ inl a ↦ i.0 a | inr m ↦ m (sym i.2 ∙ k) ])
 ]

@@ -7,49 +7,53 @@ ghost use Rattle.fx_winding.specs.Winding.{place_of, span_of};
 ghost use Rattle.fx_dropout.specs.inner.Runs.{coordinate_of, IsPartTo, IsPassed};
 
 use crate::pair::Pair;
+use fx_fixed::Axis;
 use fx_winding::{Piece, Point};
 
-/// A point's height or, with `false`, how far right it is.
+/// A point's coordinate along an axis.
 #[inline(always)]
-fn coordinate(p: Point, is_height: bool) -> i32
-    ensures { result ≡ coordinate_of is_height (place_of p) }
+fn coordinate(p: Point, axis: Axis) -> i32
+    ensures { result ≡ coordinate_of axis (place_of p) }
 {
-    if is_height { p.y } else { p.x }
+    match axis {
+        Axis::X => p.x,
+        Axis::Y => p.y,
+    }
 }
 
-/// Whether all points of a piece lie above another point or, with `false`, right of it.
+/// Whether all points of a piece lie after another point along an axis: right of it, or above it.
 #[inline(always)]
-fn is_above(piece: &Piece, is_height: bool, limit: Point) -> bool
+fn is_after(piece: &Piece, axis: Axis, limit: Point) -> bool
     ensures { IsTrue result →
-        HasAll (λ e. coordinate_of is_height (place_of limit) <ℤ coordinate_of is_height e) (span_of piece.now) }
+        HasAll (λ e. coordinate_of axis (place_of limit) <ℤ coordinate_of axis e) (span_of piece.now) }
 {
-    if coordinate(piece.a, is_height) <= coordinate(limit, is_height) {
+    if coordinate(piece.a, axis) <= coordinate(limit, axis) {
         return false;
     }
-    if coordinate(piece.c, is_height) <= coordinate(limit, is_height) {
+    if coordinate(piece.c, axis) <= coordinate(limit, axis) {
         return false;
     }
     match piece.b {
         None => true,
-        Some(b) => coordinate(b, is_height) > coordinate(limit, is_height),
+        Some(b) => coordinate(b, axis) > coordinate(limit, axis),
     }
 }
 
-/// Whether all lie below it or left of it.
+/// Whether all lie before it: left of it, or below it.
 #[inline(always)]
-fn is_below(piece: &Piece, is_height: bool, limit: Point) -> bool
+fn is_before(piece: &Piece, axis: Axis, limit: Point) -> bool
     ensures { IsTrue result →
-        HasAll (λ e. coordinate_of is_height e <ℤ coordinate_of is_height (place_of limit)) (span_of piece.now) }
+        HasAll (λ e. coordinate_of axis e <ℤ coordinate_of axis (place_of limit)) (span_of piece.now) }
 {
-    if coordinate(piece.a, is_height) >= coordinate(limit, is_height) {
+    if coordinate(piece.a, axis) >= coordinate(limit, axis) {
         return false;
     }
-    if coordinate(piece.c, is_height) >= coordinate(limit, is_height) {
+    if coordinate(piece.c, axis) >= coordinate(limit, axis) {
         return false;
     }
     match piece.b {
         None => true,
-        Some(b) => coordinate(b, is_height) < coordinate(limit, is_height),
+        Some(b) => coordinate(b, axis) < coordinate(limit, axis),
     }
 }
 
@@ -72,7 +76,7 @@ pub(crate) fn turn_right(piece: &Piece, pair: Pair, first: usize, last: usize) -
     ensures size { IfSome result (IsWithin 1) }
     ensures part { IfSome result (λ t. IsPartTo pair first (last + 1) (span_of piece.now) (Some t)) }
 {
-    if !is_above(piece, false, pair.place(127)) {
+    if !is_after(piece, Axis::X, pair.place(127)) {
         return None;
     }
     let low = pair.place(first);
@@ -93,13 +97,13 @@ pub(crate) fn turn_beside(piece: &Piece, pair: Pair) -> Option<i32>
     ensures part { IfSome result (λ t. IsPartTo pair 0 128 (span_of piece.now) (Some t)) }
 {
     let first = pair.place(0);
-    if is_above(piece, true, pair.place(127)) {
+    if is_after(piece, Axis::Y, pair.place(127)) {
         return Some(0);
     }
-    if is_below(piece, true, first) {
+    if is_before(piece, Axis::Y, first) {
         return Some(0);
     }
-    if is_below(piece, false, first) {
+    if is_before(piece, Axis::X, first) {
         return Some(0);
     }
     turn_right(piece, pair, 0, 127)

@@ -163,6 +163,7 @@ fn gap_word(frame: Frame, is_up: bool, cell: (usize, usize), gaps: u32) -> GapWo
 }
 
 /// Closes the gaps of a line of words, those of a row or, with `is_up`, those of 32 columns.
+#[inline(always)]
 fn close_line(
     chooser: &Chooser<'_>,
     is_up: bool,
@@ -212,6 +213,7 @@ fn close_line(
 }
 
 /// Closes the gaps of all rows of a frame, or of all columns.
+#[inline(always)]
 fn close_lines(
     chooser: &Chooser<'_>,
     is_up: bool,

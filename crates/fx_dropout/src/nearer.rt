@@ -22,19 +22,19 @@ fn is_covered(place: i32) -> bool
     place != 0
 }
 
-/// How many of the places from `from` on are covered, of the segment between the centres of two neighbours. At each `all` is added.
-fn count_covered(places: &[i32], from: usize, all: i32) -> u32
+/// How many of the 63 places of a segment from `from` on are covered. The winding number of each is its own number and `common`.
+fn count_covered(places: &[i32], from: usize, common: i32) -> u32
     requires room { length places.now ≡ 128 }
     requires from { from ≤ 65 }
-    requires few { IsWithin (2 ^ 18) all }
+    requires few { IsWithin (2 ^ 18) common }
     requires small { (n : ℕ) → n < 128 → IsWithin (2 ^ 30 + 2 ^ 20) (get_or places.now n (pos 0)) ×
-        IsWithin (2 ^ 30 + 2 ^ 20) (get_or places.now n (pos 0) +ℤ all) }
-    ensures { IsCount (λ n. (get_or places.now (n + from) (pos 0) +ℤ all) ≢ pos 0) 63 result }
+        IsWithin (2 ^ 30 + 2 ^ 20) (get_or places.now n (pos 0) +ℤ common) }
+    ensures { IsCount (λ n. (get_or places.now (n + from) (pos 0) +ℤ common) ≢ pos 0) 63 result }
 {
     let mut count = 0;
     // `count` of the first n places are covered.
     'places: for n in 0..HALF {
-        count += u32::from(is_covered(places[n + from] + all));
+        count += u32::from(is_covered(places[n + from] + common));
     }
     count
 }
@@ -45,8 +45,8 @@ pub(crate) fn is_next_nearer(pieces: &Pieces, pair: Pair, tally: &mut Tally) -> 
     ensures count { tally.new.count ≤ tally.old.count + 31 * 128 * length pieces.now }
 {
     let mut places = [0; PLACES];
-    let all = add_pieces(pieces.as_slice(), pair, &mut places, tally);
-    let here = count_covered(&places, 1, all);
-    let next = count_covered(&places, 65, all);
+    let common = add_pieces(pieces.as_slice(), pair, &mut places, tally);
+    let here = count_covered(&places, 1, common);
+    let next = count_covered(&places, 65, common);
     here < next
 }

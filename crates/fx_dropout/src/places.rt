@@ -8,7 +8,7 @@ ghost use Rattle.fx_dropout.specs.inner.Runs.{place_in, sum_of, IsJoined, IsSumm
 
 use crate::beside::turn_beside;
 use crate::pair::Pair;
-use crate::run::{PLACES, next_part};
+use crate::run::{PLACES, next_stretch};
 use fx_winding::{Piece, Tally};
 
 /// Marks a place that is on a piece. Pieces that come later change the mark, but it stays far above any winding number.
@@ -69,13 +69,14 @@ fn add_parts(piece: &Piece, pair: Pair, places: &mut [i32], tally: &mut Tally)
     let mut n = 0;
     // What the piece adds at the first n places has been added.
     'parts: while n < PLACES {
-        let part = next_part(piece, pair, n, tally);
-        add_run(places, n, part.count, part.turn);
-        n += part.count;
+        let stretch = next_stretch(piece, pair, n, tally);
+        add_run(places, n, stretch.count, stretch.turn);
+        n += stretch.count;
     }
 }
 
-/// Adds what a piece adds at each place, but returns what it adds at all places if it lies beside them, as most do.
+/// Adds what a piece adds at each place. If the piece lies beside all places, as most do, it adds one number to each, and that is
+/// returned in place of being added.
 #[inline(always)]
 fn add_piece(piece: &Piece, pair: Pair, places: &mut [i32], tally: &mut Tally) -> i32
     requires room { length places.old ≡ 128 }
@@ -95,7 +96,7 @@ fn add_piece(piece: &Piece, pair: Pair, places: &mut [i32], tally: &mut Tally) -
     }
 }
 
-/// Adds what the pieces add at each place, but returns what those beside all places add at each.
+/// Adds what the pieces add at each place. Returns what those beside all places add to each.
 pub(crate) fn add_pieces(pieces: &[Piece], pair: Pair, places: &mut [i32], tally: &mut Tally) -> i32
     requires few { length pieces.now ≤ most_pieces }
     requires room { length places.old ≡ 128 }
@@ -105,10 +106,10 @@ pub(crate) fn add_pieces(pieces: &[Piece], pair: Pair, places: &mut [i32], tally
         (2 ^ 18) (get_or places.new n (pos 0)) result }
     ensures count { tally.new.count ≤ tally.old.count + 31 * 128 * length pieces.now }
 {
-    let mut all = 0;
+    let mut common = 0;
     // What the pieces before this one add is known at each place.
     'pieces: for piece in pieces {
-        all += add_piece(piece, pair, places, tally);
+        common += add_piece(piece, pair, places, tally);
     }
-    all
+    common
 }

@@ -5,13 +5,13 @@
 
 ghost use Rattle.std.specs.Prelude.{◌≡◌, ◌↔◌, ◌+◌, ◌≤◌, ◌<◌, ◌^◌, pos, ◌+ℤ◌, ◌<ℤ◌, IsTrue, Some, IfSome};
 ghost use Rattle.fx_fixed.specs.Ranges.{IsWithin};
-ghost use Rattle.fx_winding.specs.Winding.{place_of, sign, span_of, areas_of};
+ghost use Rattle.fx_winding.specs.Winding.{place_of, span_of, areas_of};
 ghost use Rattle.fx_dropout.specs.inner.Runs.{HaveOneSign, IsBelowTo, IsClear, IsPart, IsPartTo, IsPassed, IsRegionTo, place_in, gap_at};
 
 use crate::beside::{is_passed, turn_right};
 use crate::pair::Pair;
 use fx_winding::{
-    Piece, Point, Tally, Weights, areas, crossing, curve_gap, difference, on_piece, region,
+    Piece, Point, Tally, Weights, areas, crossing, curve_gap, difference, on_piece, region, sign_of,
 };
 
 /// How many places of a segment are looked at: the centre of its first pixel, and the 127 between the two centres.
@@ -57,20 +57,6 @@ fn total_of(areas: Weights) -> i64
     ensures size { IsWithin (2 ^ 49) result }
 {
     areas.u + areas.v + areas.w
-}
-
-/// 1, 0 or -1 as d is above, at or below 0.
-fn sign_of(d: i64) -> i32
-    ensures value { result ≡ sign d }
-    ensures size { IsWithin 1 result }
-{
-    if d > 0 {
-        1
-    } else if d < 0 {
-        -1
-    } else {
-        0
-    }
 }
 
 /// Whether a place is on that side of an arc's chord on which the arc is, by its areas.
@@ -301,7 +287,7 @@ pub(crate) struct Stretch {
 
 /// What a piece adds at the place n, and at how many places from there on it is seen to add that.
 #[inline(always)]
-pub(crate) fn next_part(piece: &Piece, pair: Pair, n: usize, tally: &mut Tally) -> Stretch
+pub(crate) fn next_stretch(piece: &Piece, pair: Pair, n: usize, tally: &mut Tally) -> Stretch
     requires before { n < 128 }
     ensures some { 0 < result.count }
     ensures few { n + result.count ≤ 128 }

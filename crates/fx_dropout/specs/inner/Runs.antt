@@ -1,6 +1,8 @@
 -- What a piece adds at places of the segment between two neighbours.
-use Rattle.std.specs.Prelude.{◌≡◌, ◌⊎◌, ℕ, ◌≤◌, ◌<◌, ◌^◌, ℤ, pos, ◌+ℤ◌, ◌-ℤ◌, ◌≤ℤ◌, ◌<ℤ◌, Bool, true, false, List, Option, Some, None, Any}
+use Rattle.std.specs.Prelude.{◌≡◌, ◌⊎◌, ℕ, ◌≤◌, ◌<◌, ◌^◌, ℤ, pos, ◌+ℤ◌, ◌-ℤ◌, ◌≤ℤ◌, ◌<ℤ◌, List, Option, Some, None, Any}
 use Rattle.fx_fixed.specs.Ranges.{IsWithin}
+use Rattle.fx_fixed.specs.declared.places.Axis.{Axis}
+use Rattle.fx_fixed.specs.declared.places.Axis.TheVariants.{X, Y}
 use Rattle.fx_winding.specs.Area.{Place, gap_of}
 use Rattle.fx_winding.specs.Meets.{turn}
 use Rattle.fx_winding.specs.Winding.{Span, IsOn, areas_of, region, winding}
@@ -20,10 +22,10 @@ IsPart p s (Some t) = IsWithin 2 t × (t ≡ turn p s) × ¬ (IsOn p s)
 abbrev pub IsPartTo : Pair → ℕ → ℕ → Span → Option ℤ → Type 0
 IsPartTo pair first end s part = (n : ℕ) → first ≤ n → n < end → IsPart (place_in pair n) s part
 
--- a place's height or, with `false`, how far right it is
-abbrev pub coordinate_of : Bool → Place → ℤ
-coordinate_of false p = p.x
-coordinate_of true p = p.y
+-- a place's coordinate along an axis
+abbrev pub coordinate_of : Axis → Place → ℤ
+coordinate_of X p = p.x
+coordinate_of Y p = p.y
 
 -- ---- runs
 -- two numbers are above 0, or both below
@@ -69,8 +71,8 @@ pub record IsJoined (p : Place) (s : Span) (old new : ℤ) : Type 0 where
   pub is : IsPart p s part
   pub sum : new ≡ sum_of old part
 
--- what pieces add at a place is known, as a number v and one that all places have: one of them is there, and the sum is near the
--- mark; or the sum is their winding number
-pub record IsSummed (p : Place) (ss : List Span) (k : ℕ) (v all : ℤ) : Type 0 where
-  pub few : IsWithin k all
-  pub known : (Any (IsOn p) ss × IsWithin k (v -ℤ mark)) ⊎ ((¬ (Any (IsOn p) ss)) × IsWithin k v × (v +ℤ all ≡ winding p ss))
+-- what pieces add at a place is known, as its own number v and one that all places have in common: a piece is there, and v is near
+-- the mark; or their sum is the winding number
+pub record IsSummed (p : Place) (ss : List Span) (k : ℕ) (v common : ℤ) : Type 0 where
+  pub few : IsWithin k common
+  pub known : (Any (IsOn p) ss × IsWithin k (v -ℤ mark)) ⊎ ((¬ (Any (IsOn p) ss)) × IsWithin k v × (v +ℤ common ≡ winding p ss))

@@ -32,7 +32,7 @@ pub returns-clause-part : goal.returns-clause-part
 returns-clause-part c = λ n low high.
     let s = c.args.piece.now in
     left_part c.args.pair c.args.first c.args.last n (span_of s) _ low (before_end n c.args.last high) c.requires.few
-    (subst (λ (q : Place). HasAll (λ e. q.x <ℤ e.x) (span_of s)) c.place.ensures (c.is_above.ensures c.if-not-is_above.false))
+    (subst (λ (q : Place). HasAll (λ e. q.x <ℤ e.x) (span_of s)) c.place.ensures (c.is_after.ensures c.if-not-is_after.false))
     (not_passed c.is_passed.result s.a c.place-low.result c.place-high.result _ _ c.place-low.ensures c.place-high.ensures
     c.is_passed.ensures c.if-is_passed.false)
     (not_passed c.is_passed-2.result s.c c.place-low.result c.place-high.result _ _ c.place-low.ensures c.place-high.ensures

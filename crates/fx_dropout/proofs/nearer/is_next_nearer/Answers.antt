@@ -9,18 +9,18 @@ use Rattle.fx_dropout.proofs.Counts.{count_iff, count_is_one}
 use Rattle.fx_dropout.proofs.Sums.{covered_by, summed_small}
 use Rattle.fx_dropout.proofs.nearer.is_next_nearer.Goals as goal
 
-pub add_pieces-all-requires-clause-none : goal.add_pieces-all-requires-clause-none
-add_pieces-all-requires-clause-none c = λ n l. get_or-replicate 128 n (pos 0) (pos 0) l
+pub add_pieces-common-requires-clause-none : goal.add_pieces-common-requires-clause-none
+add_pieces-common-requires-clause-none c = λ n l. get_or-replicate 128 n (pos 0) (pos 0) l
 
 -- what all places have, as the code has it
-word : (c : goal.After-places-3-1) → to_z w32 (of_z w32 c.add_pieces-all.result) ≡ c.add_pieces-all.result
-word c = let few = (c.add_pieces-all.ensures.summed 0 (omega arith)).few in omega (arith, signed_linear, few)
+word : (c : goal.After-places-3-1) → to_z w32 (of_z w32 c.add_pieces-common.result) ≡ c.add_pieces-common.result
+word c = let few = (c.add_pieces-common.ensures.summed 0 (omega arith)).few in omega (arith, signed_linear, few)
 
 summed : (c : goal.After-places-3-1) (n : ℕ) → n < 128 → IsSummed (place_in c.args.pair n) (map span_of c.args.pieces.now) 262144
-    (get_or c.add_pieces-all.new.places n (pos 0)) (to_z w32 (of_z w32 c.add_pieces-all.result))
+    (get_or c.add_pieces-common.new.places n (pos 0)) (to_z w32 (of_z w32 c.add_pieces-common.result))
 summed c n l = subst (λ (z : List Piece × ℤ). IsSummed (place_in c.args.pair n) (map span_of z.0) 262144
-    (get_or c.add_pieces-all.new.places n (pos 0)) z.1) (λ t. (c.as_slice.ensures.value t, sym (word c) t))
-    (c.add_pieces-all.ensures.summed n l)
+    (get_or c.add_pieces-common.new.places n (pos 0)) z.1) (λ t. (c.as_slice.ensures.value t, sym (word c) t))
+    (c.add_pieces-common.ensures.summed n l)
 
 pub count_covered-here-requires-clause-few : goal.count_covered-here-requires-clause-few
 count_covered-here-requires-clause-few c = (summed c 0 (omega arith)).few
@@ -37,14 +37,14 @@ count_covered-next-requires-clause-small c = λ n l. summed_small _ _ 262144 _ _
 pub returns-clause-value : goal.returns-clause-value
 returns-clause-value c =
     let ss = map span_of c.args.pieces.now in
-    let places = c.add_pieces-all.new.places in
-    let all = to_z w32 (of_z w32 c.add_pieces-all.result) in
+    let places = c.add_pieces-common.new.places in
+    let common = to_z w32 (of_z w32 c.add_pieces-common.result) in
     let At : ℕ → ℕ → Type 0 = λ from n. IsCovered (place_in c.args.pair (n + from)) ss in
-    let By : ℕ → ℕ → Type 0 = λ from n. (get_or places (n + from) (pos 0) +ℤ all) ≢ pos 0 in
+    let By : ℕ → ℕ → Type 0 = λ from n. (get_or places (n + from) (pos 0) +ℤ common) ≢ pos 0 in
     let here = c.count_covered-here in
     let next = c.count_covered-next in
     let each : (from : ℕ) → from < 66 → (n : ℕ) → n < 63 → By from n ↔ At from n =
-    λ from l n m. covered_by (place_in c.args.pair (n + from)) ss (get_or places (n + from) (pos 0)) all
+    λ from l n m. covered_by (place_in c.args.pair (n + from)) ss (get_or places (n + from) (pos 0)) common
     (summed c.before.before.before (n + from) (omega (arith, l, m))) in
     let h = count_iff (By 1) (At 1) 63 here.result (each 1 (omega arith)) here.ensures in
     let k = count_iff (By 65) (At 65) 63 next.result (each 65 (omega arith)) next.ensures in (

@@ -11,24 +11,24 @@ parts-preserved c =
     let a = c.args.pair in
     let P : ℕ → Place = λ k. place_in a k in
     let n = c.parts.n in
-    let part = c.next_part-part in
-    let count = part.result.count in
+    let stretch = c.next_stretch-stretch in
+    let count = stretch.result.count in
     let old = c.args.places.now in
     let new = c.add_run.new.places in
     let inv = c.parts.invariant in
-    let some = part.ensures.some in
+    let some = stretch.ensures.some in
     let tests = inv.tests in
-    let more = part.ensures.count in
+    let more = stretch.ensures.count in
     let early : (k : ℕ) → k < n → IsJoined (P k) s (get_or old k (pos 0)) (get_or new k (pos 0)) =
     λ k l. subst (λ v. IsJoined (P k) s (get_or old k (pos 0)) v) (sym (c.add_run.ensures.others k (inl l))) (inv.joined k l) in
     let late : (k : ℕ) → n ≤ k → k < n + count → IsJoined (P k) s (get_or old k (pos 0)) (get_or new k (pos 0)) =
     λ k low high. record {
-      part = part.result.turn;
-      is = part.ensures.part k low high;
-      sum = c.add_run.ensures.run k low high ∙ ap (λ v. sum_of v part.result.turn) (inv.others k low);
+      part = stretch.result.turn;
+      is = stretch.ensures.part k low high;
+      sum = c.add_run.ensures.run k low high ∙ ap (λ v. sum_of v stretch.result.turn) (inv.others k low);
     } in
     record {
-      few = part.ensures.few;
+      few = stretch.ensures.few;
       length = c.add_run.ensures.length ∙ inv.length;
       joined = λ k l. elim (below_or_not k n) [
         | inl h ↦ early k h

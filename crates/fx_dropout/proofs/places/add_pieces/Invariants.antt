@@ -7,8 +7,8 @@ use Rattle.fx_dropout.proofs.places.add_pieces.Given as goal
 abbrev pub invariant-pieces : goal.invariant-pieces
 invariant-pieces l = record {
   length : length l.places ≡ 128;
-  few : IsWithin l.piece-index l.all;
+  few : IsWithin l.piece-index l.common;
   summed : (n : ℕ) → n < 128 → IsSummed (place_in l.pair n) (take l.piece-index (map span_of l.pieces)) (4 * l.piece-index)
-      (get_or l.places n (pos 0)) l.all;
+      (get_or l.places n (pos 0)) l.common;
   tests : l.tally.count ≤ l.fn.tally.count + 31 * 128 * l.piece-index;
 }

@@ -1,5 +1,5 @@
 use Rattle.std.proofs.Common.{◌≡◌, ◌+◌, ◌*◌, ◌≤◌}
-use Rattle.fx_dropout.proofs.run.next_part.Given as goal
+use Rattle.fx_dropout.proofs.run.next_stretch.Given as goal
 
 abbrev pub invariant-tries : goal.invariant-tries
 invariant-tries l = record {

@@ -2,7 +2,7 @@ use Rattle.std.proofs.Common.{subst, arith}
 use Rattle.fx_winding.specs.Winding.{span_of}
 use Rattle.fx_dropout.specs.inner.Runs.{IsPart}
 use Rattle.fx_dropout.proofs.Runs.{part_alone, part_as_stored}
-use Rattle.fx_dropout.proofs.run.next_part.Goals as goal
+use Rattle.fx_dropout.proofs.run.next_stretch.Goals as goal
 
 pub returns-in-Some-clause-part : goal.returns-in-Some-clause-part
 returns-in-Some-clause-part c = λ n low high.
