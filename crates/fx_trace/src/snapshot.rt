@@ -83,13 +83,13 @@ impl Snapshot {
     }
 
     /// What takes its place if a state has other sizes. No instruction changes them, so this takes no memory.
-    pub fn room_for(&self, alloc: Global, state: &State) -> Result<Option<Snapshot>, AllocError>
+    pub fn room_for(&self, state: &State) -> Result<Option<Snapshot>, AllocError>
         ensures { IfOk result (λ room. IsRoomFor room self.now (snapshot_of state.now)) }
     {
         if self.has_sizes_of(state) {
             return Ok(None);
         }
-        let next = Snapshot::of(alloc, state)?;
+        let next = Snapshot::of(*self.twilight.allocator(), state)?;
         Ok(Some(next))
     }
 

@@ -52,7 +52,6 @@ fn begin_text<S: Sink>(
 /// Adds the line of an instruction, and keeps the state after it.
 #[tactic(auto, using(crate::proofs::Stopping::adds_or_stops))]
 fn tell<S: Sink>(
-    alloc: Global,
     text: &mut TextWriter<'_, S>,
     program: FontProgram,
     code: &Code<'_>,
@@ -64,7 +63,7 @@ fn tell<S: Sink>(
     ensures adds { Adds Halts text.old text.new (line_text program code.now address kept.old state.now) result }
     ensures kept { OnOk result (kept.new ≡ snapshot_of state.now) }
 {
-    match kept.room_for(alloc, state) {
+    match kept.room_for(state) {
         Ok(room) => {
             let added = stop_of(add_line(text, program, code, address, kept, state));
             kept.renew(room, state);
@@ -148,15 +147,7 @@ impl<'w, S: Sink> RunWatching for Tracer<'w, S> {
     ) {
         if self.outcome.is_ok() {
             if let Some(kept) = &mut self.before {
-                self.outcome = tell(
-                    self.alloc,
-                    &mut self.text,
-                    program,
-                    code,
-                    address,
-                    kept,
-                    state,
-                );
+                self.outcome = tell(&mut self.text, program, code, address, kept, state);
             }
         }
     }
