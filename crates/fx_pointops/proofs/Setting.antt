@@ -1,11 +1,12 @@
 -- A point that is looked up once and then written is a point changed.
 -- Serves the rows that change points.
-use Rattle.std.proofs.Common.{◌≡◌, ℤ, pos, negsuc, Some, None, refl, to_z-of_z}
+use Rattle.std.proofs.Common.{◌≡◌, ℕ, ℤ, pos, negsuc, ◌<ℤ◌, Some, None, refl, arith, to_z-of_z}
+use Rattle.std.proofs.lemmas.Int.{ints}
 use Rattle.fx_zone.specs.declared.point.ZonePoint.{ZonePoint}
 use Rattle.fx_gstate.specs.declared.zones.ZonePointer.{ZonePointer}
 use Rattle.fx_gstate.specs.declared.zones.ZonePointer.TheVariants.{Twilight, Glyph}
 use Rattle.fx_pointops.specs.declared.zones.Zones.{Zones}
-use Rattle.fx_pointops.specs.Zones.{point_at, changed_at, written_at, with_stray, on_point}
+use Rattle.fx_pointops.specs.Zones.{index_of, point_at, changed_at, written_at, with_stray, on_point}
 
 written_here : (change : ZonePoint → ZonePoint) (zone : ZonePointer) (n : ℤ) (z : Zones) (p : ZonePoint)
     → Some p ≡ point_at zone n z → written_at (change p) zone n z ≡ changed_at change zone n z
@@ -41,6 +42,16 @@ still_outside Glyph n z e = e
 pub stray_is : (change : ZonePoint → ZonePoint) (zone : ZonePointer) (n : ℤ) (z : Zones) → None ≡ point_at zone n z
     → with_stray z ≡ on_point change zone n z
 stray_is change zone n z e = rw (← e) (unchanged change zone n (with_stray z) (still_outside zone n z e))
+
+-- a number as the number of a point
+pub number_inside : (n : ℤ) (m : ℕ) → pos m ≡ n → index_of n ≡ Some m
+number_inside n m e = rw (← e) refl
+
+pub number_outside : (n : ℤ) → n <ℤ pos 0 → index_of n ≡ None
+number_outside (pos n) h = absurd (omega (arith, ints, h))
+number_outside (negsuc n) h = refl
+
+pub ruleset index = (to_z-of_z, number_inside, number_outside)
 
 -- a point that is there or not, for goals that need no answer
 pub ruleset setting = (to_z-of_z, set_is, point_is, unchanged, stray_is)

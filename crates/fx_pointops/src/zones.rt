@@ -77,12 +77,15 @@ impl Zones {
     ghost use Rattle.fx_pointops.specs.inner.Lending.{LendsPointAt};
     ghost use Rattle.fx_pointops.specs.Zones.{point_at, with_stray, counting, counting_two};
 
-    /// The point of a number, if it is inside.
-    #[tactic(auto, unfolding(crate::specs::Zones::point_at))]
+    /// The point of a number, if it is inside. It tests the sign itself: to hand an `Option` of a number on costs more.
+    #[tactic(auto, unfolding(crate::specs::Zones::point_at), using(crate::proofs::Setting::index))]
     pub(crate) fn point(&self, zone: ZonePointer, number: i32) -> Option<ZonePoint>
         ensures { result ≡ point_at zone number self.now }
     {
-        let index = index_of(number)?;
+        if number < 0 {
+            return None;
+        }
+        let index = number as usize;
         match zone {
             ZonePointer::Twilight => self.twilight.point(index),
             ZonePointer::Glyph => self.glyph.point(index),
@@ -114,12 +117,15 @@ impl Zones {
     }
 
     /// The point of a number, to be changed in its place, if it is inside.
-    #[tactic(auto, unfolding(crate::specs::Zones::point_at, crate::specs::Zones::written_at))]
+    #[tactic(auto, unfolding(crate::specs::Zones::point_at, crate::specs::Zones::written_at), using(crate::proofs::Setting::index))]
     pub(crate) fn point_mut(&mut self, zone: ZonePointer, number: i32) -> Option<&mut ZonePoint>
         ensures* writes_back { sem 𝓛 (LendsPointAt self.entry zone number result) }
         ensures value { option_copied_mut result ≡ point_at zone number self.old }
     {
-        let index = index_of(number)?;
+        if number < 0 {
+            return None;
+        }
+        let index = number as usize;
         match zone {
             ZonePointer::Twilight => self.twilight.point_mut(index),
             ZonePointer::Glyph => self.glyph.point_mut(index),
