@@ -14,18 +14,17 @@ use fx_winding::{Bitmap, Notes, Pieces, Tally};
 
 /// The bitmap that a scan of the pieces gave, with the gaps of its rows closed, and then those that are left in the columns. If
 /// no pixel outside the frame is covered, it has the bits that drop-out control sets in its frame. The notes are those of the
-/// same scan, and are used up.
+/// same scan.
 pub fn close_gaps(
     pieces: &Pieces,
-    notes: &mut Notes,
+    notes: &Notes,
     bitmap: Bitmap,
     closing: Closing,
     tally: &mut Tally,
 ) -> Bitmap
     requires scanned { IsScanOf bitmap.frame (map span_of pieces.now) bitmap }
-    requires frame { notes.old.frame ≡ bitmap.frame }
-    requires noted { AreExact bitmap.frame notes.old.across.items notes.old.up.items (map span_of pieces.now) }
-    ensures notes { notes.new.frame ≡ notes.old.frame }
+    requires frame { notes.now.frame ≡ bitmap.frame }
+    requires noted { AreExact bitmap.frame notes.now.across.items notes.now.up.items (map span_of pieces.now) }
     ensures frame { result.frame ≡ bitmap.frame }
     ensures count { tally.new.count ≤ tally.old.count + closing_tests closing (length pieces.now) bitmap.frame }
     ensures bits { ((i j : ℤ) → ¬ (IsInFrame bitmap.frame i j) → ¬ (IsCovered (centre i j) (map span_of pieces.now))) →
