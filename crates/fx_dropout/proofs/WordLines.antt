@@ -47,12 +47,6 @@ cell words size column row l =
 no_cell : (words : List ℕ) (size column row : ℕ) → size ≤ column → get_or (take size (drop (row * size) words)) column 0 ≡ 0
 no_cell words size column row l = get_or_past _ column 0 (omega (arith, length-take size (drop (row * size) words), l))
 
--- the word of a place, as the code finds it
-pub word_there : (up : Bool) (words : List ℕ) (size line k : ℕ) → (up ≡ true → line < size) → (up ≡ false → k < size)
-    → line_word up words size line k ≡ get_or words (word_place up size line k) 0
-word_there false words size line k l m = cell words size k line (m refl)
-word_there true words size line k l m = cell words size line k (l refl)
-
 -- ---- a word set
 cell_set : (words : List ℕ) (size column row x : ℕ) → column < size → row * size + column < length words
     → get_or (take size (drop (row * size) (slice_set words (row * size + column) x))) column 0 ≡ x

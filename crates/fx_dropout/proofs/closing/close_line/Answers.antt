@@ -1,4 +1,4 @@
-use Rattle.std.proofs.Common.{◌≡◌, ◌↔◌, ◌⊎◌, inl, inr, sym, ◌∙◌, subst, ◌+◌, ◌-◌, ◌*◌, ◌<◌, ℕ, pos, ◌+ℤ◌, slice_set, arith}
+use Rattle.std.proofs.Common.{◌≡◌, ◌↔◌, ◌⊎◌, inl, inr, sym, ◌∙◌, subst, ◌+◌, ◌-◌, ◌*◌, ◌<◌, Bool, ℕ, ℤ, pos, ◌+ℤ◌, slice_set, arith}
 use Rattle.std.specs.Int.{bit_at}
 use Rattle.fx_fixed.proofs.Linear.{signed_linear}
 use Rattle.fx_dropout.specs.inner.Closing.{bit_after, line_word, word_column, word_place, word_row, word_tests, IsNext, IsOpen}
@@ -59,8 +59,9 @@ words-preserved c =
                 ↔ IsOpen ((c.after.ensures b l ∙ (λ t. bit_after up (n0 t) (n1 t) b)) t) (bit_at (w0 t) (31 - b))
                 ((c.after-in-words.ensures b l ∙ (λ t. bit_after up (w0 t) (w1 t) b)) t))
                 (c.gaps_of-gaps.ensures (31 - b) (omega arith));
-            next = λ b l. subst (λ z. z) (λ t. (bit_at nexts (31 - b) ≡ 1) ↔ ((bit_at (is.gaps t) (31 - b) ≡ 1)
-                × IsNext c.args.chooser.now (is.up t) (left b l t) (row t))) (c.nexts-nexts.ensures.bits (31 - b) (omega arith));
+            next = λ b l. subst (λ (z : ℕ × Bool × ℤ × ℤ). (bit_at nexts (31 - b) ≡ 1)
+                ↔ ((bit_at z.0 (31 - b) ≡ 1) × IsNext c.args.chooser.now z.1 z.2 z.3))
+                (λ t. (is.gaps t, is.up t, left b l t, row t)) (c.nexts-nexts.ensures.bits (31 - b) (omega arith));
             left_up = c.reached.ensures.up;
             left_first = c.reached.ensures.first;
             left_inner = c.reached.ensures.inner;
