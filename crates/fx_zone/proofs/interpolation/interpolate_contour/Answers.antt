@@ -58,4 +58,6 @@ points-smaller c =
     omega (arith, value, long, fit)
 
 pub returns : goal.returns
-returns c = sym (c.points.invariant.answer ∙ all_passed c.args.axis _ c.in-Some.last c.points.points c.points.start c.points-test.false)
+returns c =
+    sym (c.points.invariant.answer
+    ∙ all_passed c.args.axis _ c.in-Some.last c.points.points c.points.start c.points-test.false)
