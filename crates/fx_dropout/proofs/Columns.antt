@@ -23,7 +23,8 @@ pub first_column : (f : Frame) (w : ℕ) → w < words_for f.width
     (x ≡ f.left +ℤ pos (32 * w)) × IsPixelNumber x
 first_column f w l =
     let step : to_z w32 w ≡ pos w = to_z_pos w32 w (omega (arith, l, f.columns.few)) in
-    let e : to_z w32 (of_z w32 (to_z w32 (of_z w32 f.left) +ℤ to_z w32 (of_z w32 (pos 32 *ℤ to_z w32 w)))) ≡ f.left +ℤ pos (32 * w) =
+    let e : to_z w32 (of_z w32 (to_z w32 (of_z w32 f.left) +ℤ to_z w32 (of_z w32 (pos 32 *ℤ to_z w32 w))))
+    ≡ f.left +ℤ pos (32 * w) =
     omega (arith, signed, step, l, f.columns.from, f.columns.to, f.columns.few) in
     (e, (omega (arith, signed, e, f.columns.from), omega (arith, signed, e, l, f.columns.to)))
 

@@ -63,7 +63,8 @@ more_summed p ss done s old common new r within is j small h =
     more : 4 * done + 4 ≡ 4 * (done + 1)
     more = omega arith
 
-pub summed_wider : (p : Place) (ss : List Span) (k m : ℕ) (v common : ℤ) → k ≤ m → IsSummed p ss k v common → IsSummed p ss m v common
+pub summed_wider : (p : Place) (ss : List Span) (k m : ℕ) (v common : ℤ) → k ≤ m → IsSummed p ss k v common
+    → IsSummed p ss m v common
 summed_wider p ss k m v common h i = grind (arith, signed_linear, h, i)
 
 -- what is known of a place is small enough for one piece more
@@ -72,7 +73,8 @@ pub summed_small : (p : Place) (ss : List Span) (k : ℕ) (v common : ℤ) → k
 summed_small p ss k v common l h = grind (arith, signed_linear, l, h)
 
 -- all pieces
-pub covered_by : (p : Place) (ss : List Span) (v common : ℤ) → IsSummed p ss 262144 v common → ((v +ℤ common) ≢ pos 0) ↔ IsCovered p ss
+pub covered_by : (p : Place) (ss : List Span) (v common : ℤ) → IsSummed p ss 262144 v common
+    → ((v +ℤ common) ≢ pos 0) ↔ IsCovered p ss
 unfolding IsCovered
 covered_by p ss v common h = let few = h.few in elim h.known [
   | inl i ↦ let near = i.1 in (λ t. inl i.0, λ c e. omega (arith, signed_linear, near, few, e))

@@ -115,10 +115,12 @@ after_is word next r c inner last l = grind (arith, l, inner, last, below_or_not
 -- the pixels of the word before one that close the segments after them in place of the pixels before those: of a row its last pixel
 abbrev pub IsBefore : Bool → (ℤ → ℤ → Type 0) → Frame → List ℕ → List ℕ → ℕ → ℕ → ℕ → Type 0
 IsBefore false IsNext f noted old line k before =
-    (bit_at before 0 ≡ 1) ↔ IsReached (λ n. grid_bit old (words_for f.width) n line) (λ n. grid_bit noted (words_noted f.width) n line)
+    (bit_at before 0 ≡ 1) ↔ IsReached (λ n. grid_bit old (words_for f.width) n line)
+    (λ n. grid_bit noted (words_noted f.width) n line)
     (λ n. next_on false IsNext f 0 line n) (32 * k)
 IsBefore true IsNext f noted old line k before = (c : ℕ) → c < 32 → (bit_at before (31 - c) ≡ 1)
-    ↔ IsReached (λ r. grid_bit old (words_for f.width) (32 * line + c) r) (λ r. grid_bit noted (words_noted f.width) (32 * line + c) r)
+    ↔ IsReached (λ r. grid_bit old (words_for f.width) (32 * line + c) r)
+    (λ r. grid_bit noted (words_noted f.width) (32 * line + c) r)
     (λ r. next_on true IsNext f (32 * line + c) 0 r) k
 
 -- what was found at a word of a line: its gaps, those that the next pixels close, those that its pixels close from before, and the
@@ -207,7 +209,8 @@ new_there up IsNext f noted old line k before gaps nexts left x c is h l =
     let r = word_row up line k in
     closed_by (λ q. bit_on up old (words_for f.width) n r q) (λ q. bit_on up noted (words_noted f.width) n r q)
     (λ q. next_on up IsNext f n r q) (number_on up n r) (bit_at x (31 - c))
-    (bit_at (line_word up old (words_for f.width) line k) (31 - c)) (bit_at gaps (31 - c)) (bit_at nexts (31 - c)) (bit_at left (31 - c))
+    (bit_at (line_word up old (words_for f.width) line k) (31 - c)) (bit_at gaps (31 - c)) (bit_at nexts (31 - c))
+    (bit_at left (31 - c))
     (bit_there up old (words_for f.width) line k c l) (gap_there up IsNext f noted old line k before gaps nexts left x c is l)
     (subst (λ z. (bit_at nexts (31 - c) ≡ 1) ↔ ((bit_at gaps (31 - c) ≡ 1) × z))
     (sym (next_is up IsNext f (32 * word_column up line k + c) (word_row up line k))) (is.next c l))
@@ -229,7 +232,8 @@ pub line_more : (up : Bool) (IsNext : ℤ → ℤ → Type 0) (f : Frame) (noted
 line_more up IsNext f noted old words line k before gaps nexts left x l m e is so_far = record {
   long = length-set words (word_place up (words_for f.width) line k) x ∙ so_far.long;
   done = λ i c h b. by i c h b (below_or_not i k);
-  rest = λ i j h. line_other up f words line k i j x l m (elim h [ inl n ↦ inl (λ t. n (sym t)) | inr n ↦ inr (λ t. omega (arith, n, t)) ])
+  rest = λ i j h. line_other up f words line k i j x l m
+      (elim h [ inl n ↦ inl (λ t. n (sym t)) | inr n ↦ inr (λ t. omega (arith, n, t)) ])
       ∙ so_far.rest i j (elim h [ inl n ↦ inl n | inr n ↦ inr (omega (arith, n)) ]);
   reached = before_there up IsNext f noted old line k before gaps nexts left x is;
 }
@@ -238,12 +242,15 @@ line_more up IsNext f noted old words line k before gaps nexts left x l m e is s
         → IsClosedIn up IsNext f noted old (32 * word_column up line i + c) (word_row up line i)
         (bit_at (line_word up (slice_set words (word_place up (words_for f.width) line k) x) (words_for f.width) line i) (31 - c))
     by i c h b (inl o) = subst (λ (v : ℕ). IsClosedIn up IsNext f noted old (32 * word_column up line i + c) (word_row up line i)
-        (bit_at v (31 - c))) (sym (line_other up f words line k line i x l m (inr (λ t. omega (arith, o, t))))) (so_far.done i c o b)
+        (bit_at v (31 - c))) (sym (line_other up f words line k line i x l m (inr (λ t. omega (arith, o, t)))))
+        (so_far.done i c o b)
     by i c h b (inr o) =
         let same : k ≡ i = omega (arith, h, o) in
         subst (λ (q : ℕ). IsClosedIn up IsNext f noted old (32 * word_column up line q + c) (word_row up line q)
-        (bit_at (line_word up (slice_set words (word_place up (words_for f.width) line k) x) (words_for f.width) line q) (31 - c))) same
-        (subst (λ (v : ℕ). IsClosedIn up IsNext f noted old (32 * word_column up line k + c) (word_row up line k) (bit_at v (31 - c)))
+        (bit_at (line_word up (slice_set words (word_place up (words_for f.width) line k) x) (words_for f.width) line q)
+        (31 - c))) same
+        (subst (λ (v : ℕ). IsClosedIn up IsNext f noted old (32 * word_column up line k + c) (word_row up line k)
+        (bit_at v (31 - c)))
         (sym (line_set up f words line k x l m (so_far.long ∙ e)))
         (new_there up IsNext f noted old line k before gaps nexts left x c is so_far.reached b))
 
@@ -269,7 +276,8 @@ line_none up IsNext f noted old line before h k = record {
         (bit_at (line_word up old (words_for f.width) line 0) 31))
         → IsBefore up IsNext f noted old line 0 before
     by false h k = k refl
-    by true h k = λ c l. subst (λ z. z) (λ t. (bit_at before (31 - c) ≡ 1) ↔ IsOpen (bit_there true noted (words_noted f.width) line 0 c l t) 0
+    by true h k = λ c l. subst (λ z. z) (λ t. (bit_at before (31 - c) ≡ 1) ↔ IsOpen
+        (bit_there true noted (words_noted f.width) line 0 c l t) 0
         (bit_there true old (words_for f.width) line 0 c l t)) (h refl c l)
 
 -- the lines before one are closed, and the others are as they were

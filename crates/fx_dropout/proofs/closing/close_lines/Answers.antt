@@ -6,7 +6,8 @@ use Rattle.fx_dropout.proofs.closing.close_lines.Goals as goal
 
 pub lines-init : goal.lines-init
 lines-init c = record {
-  lines = lines_none c.args.is_up (IsNext c.args.chooser.now c.args.is_up) c.args.chooser.now.frame c.args.noted.now c.args.words.now;
+  lines = lines_none c.args.is_up (IsNext c.args.chooser.now c.args.is_up) c.args.chooser.now.frame
+      c.args.noted.now c.args.words.now;
   count = omega arith;
 }
 

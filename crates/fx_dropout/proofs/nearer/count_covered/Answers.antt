@@ -15,7 +15,8 @@ places-preserved c =
     let few = c.requires.few in
     let small = c.requires.small (c.places.n + c.args.from) (omega arith) in
     let word : common ≡ c.args.common = omega (arith, signed_linear, few) in
-    let sum : to_z w32 (of_z w32 (to_z w32 (of_z w32 place) +ℤ common)) ≡ place +ℤ common = omega (arith, signed_linear, small, word) in
+    let sum : to_z w32 (of_z w32 (to_z w32 (of_z w32 place) +ℤ common)) ≡ place +ℤ common =
+    omega (arith, signed_linear, small, word) in
     record {
       counted = count_from (λ n. (get_or c.args.places.now (n + c.args.from) (pos 0) +ℤ common) ≢ pos 0) c.places.n c.places.count
           c.from-count.result c.is_covered.result

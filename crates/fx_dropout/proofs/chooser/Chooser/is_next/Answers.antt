@@ -37,7 +37,8 @@ invariant_of-is_next_nearer c =
     record {
       next_col_number = subst (λ z. IsPixelNumber (next_col up z))
           (sym (pixel_column c.args.word.left c.args.k c.args.word.left_number c.requires.place)) numbers.0;
-      next_row_number = subst (λ z. IsPixelNumber (next_row up z)) (sym (same_row c.args.word.row c.args.word.row_number)) numbers.1;
+      next_row_number = subst (λ z. IsPixelNumber (next_row up z)) (sym (same_row c.args.word.row c.args.word.row_number))
+          numbers.1;
     }
 
 pub returns-clause-value : goal.returns-clause-value
