@@ -2,8 +2,8 @@
 use crate::fonts::{font, patch};
 use crate::worked::machine;
 use fx_fixed::{F26, Ppem};
-use fx_hint::{GlyphOutline, KeepingMachine, outline_with};
-use fx_machine::Usage;
+use fx_hint::{GlyphOutline, Keeping, outline_with};
+use fx_machine::{Machine, Usage};
 use fx_outline::OutlinePoint;
 use fx_sfnt::{Font, FontFile};
 use std::alloc::Global;
@@ -72,7 +72,7 @@ const TEN_STEPS: Usage = Usage {
 /// numbers outside their tables, and execute ten instructions.
 fn is_made_by_both(
     alloc: Global,
-    keeping: &mut KeepingMachine<'_>,
+    keeping: &mut Keeping<Machine<'_>>,
     file: &[u8],
     pixels: u16,
 ) -> Result<bool, Fail> {
@@ -94,7 +94,7 @@ fn changed(alloc: Global, file: &[u8], at: usize, new: u8) -> Result<Vec<u8>, Fa
 /// bytes recall it.
 fn are_made_by_both(
     alloc: Global,
-    keeping: &mut KeepingMachine<'_>,
+    keeping: &mut Keeping<Machine<'_>>,
     file: &[u8],
 ) -> Result<bool, Fail> {
     // The first byte stays. Of glyph 3 these are its left bearing, its last point's y, the cell that its program reads.
@@ -118,7 +118,7 @@ fn are_made_by_both(
 #[test]
 fn a_component_that_comes_again(rt: HostRuntime) -> Result<(), Fail> {
     let file = font(rt.alloc(), TWICE, READING_A_STRAY)?;
-    let mut keeping = KeepingMachine::new(rt.alloc(), machine(rt.alloc(), file.as_slice(), 16)?);
+    let mut keeping = Keeping::new(rt.alloc(), machine(rt.alloc(), file.as_slice(), 16)?);
     assert!(rt; are_made_by_both(rt.alloc(), &mut keeping, file.as_slice())?);
     Ok(())
 }

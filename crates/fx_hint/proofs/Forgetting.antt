@@ -19,11 +19,11 @@ use Rattle.fx_hint.specs.declared.fault.HintFault.TheVariants.{Font, Glyph, OutO
 use Rattle.fx_hint.specs.Faults.{Fails}
 use Rattle.fx_hint.specs.Limits.{max_depth}
 use Rattle.fx_hint.specs.Hinting.{Hinting}
-use Rattle.fx_hint.specs.Parts.{with_part}
-use Rattle.fx_hint.specs.Outlines.{Maker, one_component, simple_made, run_on, with_parts, made_of, assembled, component}
+use Rattle.fx_hint.specs.Placing.{with_component}
+use Rattle.fx_hint.specs.Outlines.{Maker, one_component, simple_made, run_on, with_components, made_of, assembled, component}
 use Rattle.fx_hint.specs.Outlines.{nothing_counted, root_made, moved_outline_of, outline_with}
 use Rattle.fx_hint.specs.Runs.{ProgramRun, Logged, LoggedFault, LoggedMaker, after, with_run, plain}
-use Rattle.fx_hint.specs.Runs.{logged_one, logged_simple, logged_run, logged_parts, logged_made_of, logged_assembled, logged_component}
+use Rattle.fx_hint.specs.Runs.{logged_one, logged_simple, logged_run, logged_components, logged_made_of, logged_assembled, logged_component}
 use Rattle.fx_hint.specs.inner.RunSteps.{Walks}
 
 -- a check, and then the rest
@@ -50,15 +50,18 @@ module _ (h : Hinting) (face : Face) (s : Scale) (root : ℕ) where
   unfolding logged_run
   plain_run which g code x = relog (with_run x.1.1 which g code x.0) (run_on h g code (x.0, x.1.0)) _ refl
 
-  plain_parts : (make : LoggedMaker) (make' : Maker) (g before : ℕ) (parts : List Component) (base : Made) (count : Logged)
+  plain_components : (make : LoggedMaker) (make' : Maker) (g before : ℕ) (components : List Component) (base : Made)
+      (count : Logged)
       → ((w : Option ComponentOf) (n : ℕ) (c : Logged) → plain (make w n c) ≡ make' n c.0)
-      → plain (logged_parts s h.on make g before parts base count) ≡ with_parts s h.on make' g parts base count.0
-  unfolding logged_parts with_parts
-  plain_parts make make' g before [] base count m = refl
-  plain_parts make make' g before (part ∷ parts) base count m =
+      → plain (logged_components s h.on make g before components base count)
+      ≡ with_components s h.on make' g components base count.0
+  unfolding logged_components with_components
+  plain_components make make' g before [] base count m = refl
+  plain_components make make' g before (component ∷ components) base count m =
       let next : Option ComponentOf = Some (record { composite = g; number = before + 1 }) in
-      chained (make next part.glyph count) (make' part.glyph count.0) _ _ (m next part.glyph count)
-      (λ x. checked x.1.1 (with_part s h.on g part base x.0) _ _ (λ more. plain_parts make make' g (before + 1) parts more x.1 m))
+      chained (make next component.glyph count) (make' component.glyph count.0) _ _ (m next component.glyph count)
+      (λ x. checked x.1.1 (with_component s h.on g component base x.0) _ _
+      (λ more. plain_components make make' g (before + 1) components more x.1 m))
 
   plain_made_of : (make : LoggedMaker) (make' : Maker) (which : Option ComponentOf) (g : ℕ)
       (m : Metrics) (glyph : glyf.Glyph) (count : Logged)
@@ -70,7 +73,7 @@ module _ (h : Hinting) (face : Face) (s : Scale) (root : ℕ) where
       chained _ (simple_made s h.on root m shape count.0) _ _
       (relog count.1 (simple_made s h.on root m shape count.0) _ refl) (λ x. plain_run which g shape.code x)
   plain_made_of make make' which g m (Composite assembly) count f =
-      chained _ _ _ _ (plain_parts make make' g 0 assembly.components _ count f) (λ x. plain_run which g assembly.code x)
+      chained _ _ _ _ (plain_components make make' g 0 assembly.components _ count f) (λ x. plain_run which g assembly.code x)
 
   plain_assembled : (make : LoggedMaker) (make' : Maker) (which : Option ComponentOf) (g : ℕ) (count : Logged)
       → ((w : Option ComponentOf) (n : ℕ) (c : Logged) → plain (make w n c) ≡ make' n c.0)

@@ -20,10 +20,10 @@ use Rattle.fx_hint.specs.inner.Steps.{Step, Assembled, Open}
 use Rattle.fx_hint.specs.declared.fault.HintFault.{HintFault}
 use Rattle.fx_hint.specs.declared.fault.HintFault.TheVariants.{Font, Glyph}
 use Rattle.fx_hint.specs.Hinting.{Hinting}
-use Rattle.fx_hint.specs.Parts.{with_part}
+use Rattle.fx_hint.specs.Placing.{with_component}
 use Rattle.fx_hint.specs.Outlines.{one_component, simple_made, run_on}
 use Rattle.fx_hint.specs.Runs.{ProgramRun, Logged, LoggedFault, LoggedMaker, after, once, with_run, runs_in, AreFirst}
-use Rattle.fx_hint.specs.Runs.{logged_one, logged_simple, logged_run, logged_parts, logged_made_of, logged_assembled, logged_component}
+use Rattle.fx_hint.specs.Runs.{logged_one, logged_simple, logged_run, logged_components, logged_made_of, logged_assembled, logged_component}
 use Rattle.fx_hint.specs.inner.Steps.{begun_by, begun, begun_component}
 use Rattle.fx_hint.specs.inner.RunSteps.{LoggedOutcome, logged, logged_begun_by, logged_begun, logged_begun_component}
 use Rattle.fx_hint.specs.inner.RunSteps.{begun_by_runs, begun_runs, begun_component_runs}
@@ -98,19 +98,19 @@ module _ (h : Hinting) (face : Face) (s : Scale) (root : ℕ) where
       first_last x.1.1 (with_run x.1.1 component g code x.0) (run_on h g code (x.0, x.1.0)) (λ ran. ran)
       (first_more x.1.1 (record { component = component; g = g; code = code; made = x.0 } ∷ []))
 
-  first_parts : (make : LoggedMaker) (g before : ℕ) (parts : List Component) (base : Made) (count : Logged)
+  first_components : (make : LoggedMaker) (g before : ℕ) (components : List Component) (base : Made) (count : Logged)
       → ((w : Option ComponentOf) (n : ℕ) (c : Logged) → AreFirst c.1 (runs_in (make w n c)))
-      → AreFirst count.1 (runs_in (logged_parts s h.on make g before parts base count))
-  unfolding logged_parts
-  first_parts make g before [] base count m = first_same count.1
-  first_parts make g before (part ∷ parts) base count m =
+      → AreFirst count.1 (runs_in (logged_components s h.on make g before components base count))
+  unfolding logged_components
+  first_components make g before [] base count m = first_same count.1
+  first_components make g before (component ∷ components) base count m =
       let next : Option ComponentOf = Some (record { composite = g; number = before + 1 }) in
-      let k : Made × Logged → LoggedOutcome = λ component. after component.1.1 (with_part s h.on g part base component.0)
-      >>= λ more. logged_parts s h.on make g (before + 1) parts more component.1 in
-      first_then count.1 (runs_in (make next part.glyph count)) (runs_in (make next part.glyph count >>= k))
-      (m next part.glyph count) (first_chain (make next part.glyph count) k (λ component. first_check component.1.1
-      (with_part s h.on g part base component.0) (λ more. logged_parts s h.on make g (before + 1) parts more component.1)
-      (λ more. first_parts make g (before + 1) parts more component.1 m)))
+      let k : Made × Logged → LoggedOutcome = λ made. after made.1.1 (with_component s h.on g component base made.0)
+      >>= λ more. logged_components s h.on make g (before + 1) components more made.1 in
+      first_then count.1 (runs_in (make next component.glyph count)) (runs_in (make next component.glyph count >>= k))
+      (m next component.glyph count) (first_chain (make next component.glyph count) k (λ made. first_check made.1.1
+      (with_component s h.on g component base made.0) (λ more. logged_components s h.on make g (before + 1) components more made.1)
+      (λ more. first_components make g (before + 1) components more made.1 m)))
 
   first_simple : (component : Option ComponentOf) (g : ℕ) (code : List ℕ) (count : Logged) (r : Result (Made × Count) HintFault)
       → AreFirst count.1 (runs_in ((after count.1 r >>= λ made. Ok (made.0, (made.1, count.1))) >>= logged_run h component g code))
@@ -125,8 +125,8 @@ module _ (h : Hinting) (face : Face) (s : Scale) (root : ℕ) where
   first_made_of make component g m (Simple shape) count f =
       first_simple component g shape.code count (simple_made s h.on root m shape count.0)
   first_made_of make component g m (Composite assembly) count f =
-      first_then count.1 _ _ (first_parts make g 0 assembly.components _ count f)
-      (first_chain (logged_parts s h.on make g 0 assembly.components _ count) (logged_run h component g assembly.code)
+      first_then count.1 _ _ (first_components make g 0 assembly.components _ count f)
+      (first_chain (logged_components s h.on make g 0 assembly.components _ count) (logged_run h component g assembly.code)
       (λ x. first_run component g assembly.code x))
 
   first_assembled : (make : LoggedMaker) (component : Option ComponentOf) (g : ℕ) (count : Logged)
@@ -156,14 +156,14 @@ module _ (h : Hinting) (face : Face) (s : Scale) (root : ℕ) where
   first_left : (levels : ℕ) (c : OpenComposite) (count : Logged)
       → AreFirst count.1 (runs_in (logged_left h face s root levels c count))
   first_left levels c count =
-      first_then count.1 _ _ (first_parts (logged_component h face s root levels) c.g c.before c.parts c.base count
+      first_then count.1 _ _ (first_components (logged_component h face s root levels) c.node.g c.before c.left c.base count
       (λ w n d. first_component levels w n d))
-      (first_chain (logged_parts s h.on (logged_component h face s root levels) c.g c.before c.parts c.base count)
-      (logged_run h c.component c.g c.glyph.code) (λ x. first_run c.component c.g c.glyph.code x))
+      (first_chain (logged_components s h.on (logged_component h face s root levels) c.node.g c.before c.left c.base count)
+      (logged_run h c.node.component c.node.g c.glyph.code) (λ x. first_run c.node.component c.node.g c.glyph.code x))
 
   first_into : (levels : ℕ) (w : Waiting) (r : Made × Logged) → AreFirst r.1.1 (runs_in (logged_goes_into h face s root levels w r))
   first_into levels w r =
-      first_check r.1.1 (with_part s h.on w.composite.g w.part w.composite.base r.0) _
+      first_check r.1.1 (with_component s h.on w.composite.node.g w.component w.composite.base r.0) _
       (λ more. first_left levels (record w.composite { base = more }) r.1)
 
   first_given : (levels : ℕ) (x : Step × Logged) → AreFirst x.1.1 (runs_in (logged_given_by h face s root levels x))
@@ -254,19 +254,19 @@ module _ (h : Hinting) (face : Face) (s : Scale) (root : ℕ) where
   runs_of_logged runs (Err e) = refl
 
   -- when a component was begun, the programs so far are the first of what is due
-  pub first_of_begun : (below : List Waiting) (levels : ℕ) (c : OpenComposite) (part : Component) (parts : List Component)
+  pub first_of_begun : (below : List Waiting) (levels : ℕ) (c : OpenComposite) (component : Component) (left : List Component)
       (count : Logged) (due : LoggedOutcome) (runs : List ProgramRun) (q : Result (Step × Count) HintFault)
       → logged_rest_of h face s root max_depth below (logged_given_by h face s root (max_depth - length below)
       (Open c, count)) ≡ due
-      → c.parts ≡ part ∷ parts → levels ≡ max_depth - length below
-      → logged_begun_component h face s root levels (next_of c) part.glyph count ≡ logged runs q → AreFirst runs (runs_in due)
-  first_of_begun below levels c part parts count due runs q i e l b =
-      let w : Waiting = record { part = part; composite = with_next c parts } in
+      → c.left ≡ component ∷ left → levels ≡ max_depth - length below
+      → logged_begun_component h face s root levels (next_of c) component.glyph count ≡ logged runs q → AreFirst runs (runs_in due)
+  first_of_begun below levels c component left count due runs q i e l b =
+      let w : Waiting = record { component = component; composite = with_next c left } in
       let k = max_depth - length below in
       let begun = rw l at b in
-      let t = logged_begun_component h face s root (max_depth - length below) (next_of c) part.glyph count in
+      let t = logged_begun_component h face s root (max_depth - length below) (next_of c) component.glyph count in
       let P : LoggedOutcome → Type 0 = λ o. AreFirst (runs_in t) (runs_in o) in
-      let f = subst P (down h face s root below c part parts count due i e)
+      let f = subst P (down h face s root below c component left count due i e)
       (first_then (runs_in t) _ _ (first_then (runs_in t) _ _
       (first_chain t (logged_given_by h face s root (max_depth - length below - 1))
       (λ x. first_given (max_depth - length below - 1) x))
@@ -283,9 +283,10 @@ module _ (h : Hinting) (face : Face) (s : Scale) (root : ℕ) where
   pub first_of_closed : (below : List Waiting) (levels : ℕ) (c : OpenComposite) (count : Logged) (due : LoggedOutcome)
       (runs : List ProgramRun) (q : Result (Made × Count) HintFault)
       → logged_rest_of h face s root max_depth below (logged_given_by h face s root levels (Open c, count)) ≡ due
-      → c.parts ≡ [] → logged_run h c.component c.g c.glyph.code (c.base, count) ≡ logged runs q → AreFirst runs (runs_in due)
+      → c.left ≡ [] → logged_run h c.node.component c.node.g c.glyph.code (c.base, count) ≡ logged runs q
+      → AreFirst runs (runs_in due)
   first_of_closed below levels c count due runs q i e r =
-      let t = logged_run h c.component c.g c.glyph.code (c.base, count) in
+      let t = logged_run h c.node.component c.node.g c.glyph.code (c.base, count) in
       let P : LoggedOutcome → Type 0 = λ o. AreFirst (runs_in t) (runs_in o) in
       let f = subst P (sym (ap (λ (o : LoggedOutcome). logged_rest_of h face s root max_depth below o)
       (closes h face s root levels c count e)) ∙ i) (first_rest max_depth below t) in
@@ -395,15 +396,25 @@ stops_on Leads then was mid now made e r runs more count due l s a f h =
 
 -- ---- a glyph that is begun
 
-pub simple_runs : (h : Hinting) (s : Scale) (root : ℕ) (component : Option ComponentOf) (g : ℕ) (m : Metrics)
-    (shape : SimpleView) (count counted : Count) (made : Made)
+-- a simple glyph that is made starts its program
+pub simple_runs : (h : Hinting) (face : Face) (s : Scale) (root : ℕ) (component : Option ComponentOf) (g : ℕ) (count counted : Count)
+    (m : Metrics) (bytes : List ℕ) (shape : SimpleView) (made : Made)
+    → metrics_of face g ≡ Ok m → glyph_bytes_of face g ≡ Ok bytes → glyph_of bytes g ≡ Ok (Simple shape)
     → simple_made s h.on root m shape count ≡ Ok (made, counted)
-    → begun_by_runs h s root component g m (Simple shape) count
+    → begun_runs h face s root component g count
     ≡ record { component = component; g = g; code = shape.code; made = made } ∷ []
-unfolding begun_by_runs
-simple_runs h s root component g m shape count counted made e =
-    ap (λ (r : Result (Made × Count) HintFault).
-    once r (λ q. record { component = component; g = g; code = shape.code; made = q.0 } ∷ [])) e
+unfolding begun_runs begun_by_runs
+simple_runs h face s root component g count counted m bytes shape made a b c e = rw (a, b, c, e) refl
+
+-- one that is not made starts none
+pub none_started : {S : Type 0} (Leads : S → List ProgramRun → S → Type 0) (x : S) (e : HintFault) (h : Hinting) (face : Face)
+    (s : Scale) (root : ℕ) (component : Option ComponentOf) (g : ℕ) (count : Count) (m : Metrics) (bytes : List ℕ) (shape : SimpleView)
+    → metrics_of face g ≡ Ok m → glyph_bytes_of face g ≡ Ok bytes → glyph_of bytes g ≡ Ok (Simple shape)
+    → Leads x [] x → Fails e (simple_made s h.on root m shape count)
+    → StopsAfter Leads x x e (begun_runs h face s root component g count)
+unfolding begun_runs begun_by_runs
+none_started Leads x OutOfMemory h face s root component g count m bytes shape a b c l f = ([], (_, refl), l)
+none_started Leads x e h face s root component g count m bytes shape a b c l f = rw (a, b, c, f) l
 
 any_once : {A : Type 0} (P : List ProgramRun → Type 0) (r : Result A HintFault) (f : A → List ProgramRun) → P []
     → ((x : A) → P (f x)) → P (once r f)

@@ -31,8 +31,8 @@ use Rattle.fx_outline.specs.Ends.{AreEnds}
 use Rattle.fx_machine.specs.declared.usage.Usage.{Usage}
 use Rattle.fx_machine.specs.Usages.{usage_with}
 use Rattle.fx_hint.specs.Hinting.{Hinting, KeepsShape}
-use Rattle.fx_hint.specs.Parts.{laid, laid_figure, offset_of, with_part}
-use Rattle.fx_hint.specs.Outlines.{Maker, one_component, more_points, simple_made, run_on, with_parts, made_of, assembled}
+use Rattle.fx_hint.specs.Placing.{laid, laid_figure, offset_of, with_component}
+use Rattle.fx_hint.specs.Outlines.{Maker, one_component, more_points, simple_made, run_on, with_components, made_of, assembled}
 use Rattle.fx_hint.specs.Outlines.{component, nothing_counted, root_made, IsSound}
 use Rattle.fx_hint.proofs.Contours.{ends_joined}
 
@@ -113,27 +113,27 @@ run_counted h g code count made r keeps k e =
     })
 
 -- a component after the points so far
-part_joined : (s : Scale) (hinted : Bool) (g : ℕ) (part : Component) (base component more : Made)
-    → AreEnds 0 base.zone.ends (length base.zone.points) → AreEnds 0 component.zone.ends (length component.zone.points)
-    → with_part s hinted g part base component ≡ Ok more
-    → (length more.zone.points ≡ length base.zone.points + length component.zone.points)
+component_joined : (s : Scale) (hinted : Bool) (g : ℕ) (component : Component) (base made more : Made)
+    → AreEnds 0 base.zone.ends (length base.zone.points) → AreEnds 0 made.zone.ends (length made.zone.points)
+    → with_component s hinted g component base made ≡ Ok more
+    → (length more.zone.points ≡ length base.zone.points + length made.zone.points)
     × AreEnds 0 more.zone.ends (length more.zone.points)
-unfolding with_part
-part_joined s hinted g part base component more a b h =
-    let p = bind_ok (offset_of s hinted g part base.zone component.zone) _ more h in
-    let zone : joined base.zone (laid_figure part p.0 component.zone) ≡ more.zone =
+unfolding with_component
+component_joined s hinted g component base made more a b h =
+    let p = bind_ok (offset_of s hinted g component base.zone made.zone) _ more h in
+    let zone : joined base.zone (laid_figure component p.0 made.zone) ≡ more.zone =
     ap (λ (m : Made). m.zone) (ok_injective _ _ p.2) in
-    let n : length (map (laid part p.0) component.zone.points) ≡ length component.zone.points =
-    length-map component.zone.points (laid part p.0) in
-    let total : length (base.zone.points ++ map (laid part p.0) component.zone.points) ≡ length base.zone.points + length
-    component.zone.points = length-append base.zone.points _ ∙ ap (λ k. length base.zone.points + k) n in
+    let n : length (map (laid component p.0) made.zone.points) ≡ length made.zone.points =
+    length-map made.zone.points (laid component p.0) in
+    let total : length (base.zone.points ++ map (laid component p.0) made.zone.points) ≡ length base.zone.points + length
+    made.zone.points = length-append base.zone.points _ ∙ ap (λ k. length base.zone.points + k) n in
     let P : Figure → Type 0 =
-    λ f. (length f.points ≡ length base.zone.points + length component.zone.points) × AreEnds 0 f.ends (length f.points) in
-    let Q : ℕ → Type 0 = λ k. AreEnds 0 (base.zone.ends ++ map (λ e. length base.zone.points + e) component.zone.ends) k in
+    λ f. (length f.points ≡ length base.zone.points + length made.zone.points) × AreEnds 0 f.ends (length f.points) in
+    let Q : ℕ → Type 0 = λ k. AreEnds 0 (base.zone.ends ++ map (λ e. length base.zone.points + e) made.zone.ends) k in
     subst P zone (
       total,
       subst Q (sym total)
-          (ends_joined base.zone.ends (length base.zone.points) component.zone.ends (length component.zone.points) a b),
+          (ends_joined base.zone.ends (length base.zone.points) made.zone.ends (length made.zone.points) a b),
     )
 
 -- components after the points so far
@@ -142,22 +142,22 @@ record AreJoined (base : Made) (count : Count) (made : Made) (counted : Count) :
   few : counted.points ≤ max_points
   contours : AreEnds 0 made.zone.ends (length made.zone.points)
 
-parts_joined : (s : Scale) (hinted : Bool) (make : Maker) (g : ℕ) (parts : List Component) (base : Made) (count : Count)
+components_joined : (s : Scale) (hinted : Bool) (make : Maker) (g : ℕ) (components : List Component) (base : Made) (count : Count)
     (r : Made × Count)
     → AllCounted make → count.points ≤ max_points → AreEnds 0 base.zone.ends (length base.zone.points)
-    → with_parts s hinted make g parts base count ≡ Ok r → AreJoined base count r.0 r.1
-unfolding with_parts
-parts_joined s hinted make g [] base count r all low a h =
+    → with_components s hinted make g components base count ≡ Ok r → AreJoined base count r.0 r.1
+unfolding with_components
+components_joined s hinted make g [] base count r all low a h =
     let P : Made × Count → Type 0 = λ q. AreJoined base count q.0 q.1 in
     subst P (ok_injective _ _ h) (record { points = omega arith; few = low; contours = a })
-parts_joined s hinted make g (part ∷ parts) base count r all low a h =
-    let b = bind_ok (make part.glyph count) _ r h in
-    let component = all part.glyph count b.0 low b.1 in
-    let p = bind_ok (with_part s hinted g part base b.0.0) _ r b.2 in
-    let more = part_joined s hinted g part base b.0.0 p.0 a component.contours p.1 in
-    let rest = parts_joined s hinted make g parts p.0 b.0.1 r all component.few more.1 p.2 in
+components_joined s hinted make g (component ∷ components) base count r all low a h =
+    let b = bind_ok (make component.glyph count) _ r h in
+    let made = all component.glyph count b.0 low b.1 in
+    let p = bind_ok (with_component s hinted g component base b.0.0) _ r b.2 in
+    let more = component_joined s hinted g component base b.0.0 p.0 a made.contours p.1 in
+    let rest = components_joined s hinted make g components p.0 b.0.1 r all made.few more.1 p.2 in
     let n = more.0 in
-    let one = component.points in
+    let one = made.points in
     let two = rest.points in
     record { points = omega arith; few = rest.few; contours = rest.contours }
 
@@ -173,10 +173,10 @@ made_counted h s root make g m (Simple shape) count r keeps all low valid e =
     let b = bind_ok (simple_made s h.on root m shape count) (run_on h g shape.code) r e in
     run_counted h g shape.code count b.0 r keeps (simple_counted s h.on root m shape count b.0 valid b.1) b.2
 made_counted h s root make g m (Composite assembly) count r keeps all low valid e =
-    let b = bind_ok (with_parts s h.on make g assembly.components
+    let b = bind_ok (with_components s h.on make g assembly.components
     (record { zone = empty_figure; phantoms = phantoms_of s h.on assembly.x_min m; wish = None }) count)
     (run_on h g assembly.code) r e in
-    let j = parts_joined s h.on make g assembly.components
+    let j = components_joined s h.on make g assembly.components
     (record { zone = empty_figure; phantoms = phantoms_of s h.on assembly.x_min m; wish = None }) count b.0 all low refl b.1 in
     let n = j.points in
     run_counted h g assembly.code count b.0 r keeps (record { points = omega arith; few = j.few; contours = j.contours }) b.2

@@ -21,17 +21,17 @@ use Rattle.fx_hint.specs.inner.Steps.{Step, Assembled, Open}
 use Rattle.fx_hint.specs.declared.fault.HintFault.{HintFault}
 use Rattle.fx_hint.specs.declared.fault.HintFault.TheVariants.{Font, Glyph}
 use Rattle.fx_hint.specs.Hinting.{Hinting}
-use Rattle.fx_hint.specs.Parts.{with_part}
-use Rattle.fx_hint.specs.Runs.{Logged, LoggedFault, after, logged_one, logged_simple, logged_run, logged_parts, logged_made_of, logged_assembled, logged_component}
+use Rattle.fx_hint.specs.Placing.{with_component}
+use Rattle.fx_hint.specs.Runs.{Logged, LoggedFault, after, logged_one, logged_simple, logged_run, logged_components, logged_made_of, logged_assembled, logged_component}
 use Rattle.fx_hint.specs.inner.RunSteps.{LoggedOutcome, logged_begun_by, logged_begun, logged_begun_component, logged_left, logged_given_by, logged_goes_into, logged_rest_of}
 
 -- the next component of an open composite
 abbrev pub next_of : OpenComposite → Option ComponentOf
-next_of c = Some (record { composite = c.g; number = c.before + 1 })
+next_of c = Some (record { composite = c.node.g; number = c.before + 1 })
 
 -- the composite after it
 abbrev pub with_next : OpenComposite → List Component → OpenComposite
-with_next c parts = record c { before = c.before + 1; parts = parts }
+with_next c left = record c { before = c.before + 1; left = left }
 
 -- a chain that is parted
 last_of : {C D G E : Type 0} (r : Result C E) (f : C → Result D E) (g : C → Result G E) (k : G → Result D E)
@@ -102,25 +102,28 @@ module _ (h : Hinting) (face : Face) (s : Scale) (root : ℕ) where
       (λ counted. assembled_by levels component g counted))
 
   -- the next component of an open composite: the composite waits for it
-  waits : (levels : ℕ) (c : OpenComposite) (part : Component) (parts : List Component) (count : Logged) → c.parts ≡ part ∷ parts
-      → logged_left h face s root levels c count ≡ (logged_component h face s root levels (next_of c) part.glyph count
-      >>= logged_goes_into h face s root levels (record { part = part; composite = with_next c parts }))
-  unfolding logged_parts
-  waits levels c part parts count e =
-      ap (λ (ps : List Component). logged_parts s h.on (logged_component h face s root levels) c.g c.before ps c.base count
-      >>= logged_run h c.component c.g c.glyph.code) e
-      ∙ two_after (logged_component h face s root levels (next_of c) part.glyph count)
-      (λ m. after m.1.1 (with_part s h.on c.g part c.base m.0))
-      (λ m more. logged_parts s h.on (logged_component h face s root levels) c.g (c.before + 1) parts more m.1)
-      (logged_run h c.component c.g c.glyph.code)
+  waits : (levels : ℕ) (c : OpenComposite) (component : Component) (left : List Component) (count : Logged)
+      → c.left ≡ component ∷ left → logged_left h face s root levels c count
+      ≡ (logged_component h face s root levels (next_of c) component.glyph count
+      >>= logged_goes_into h face s root levels (record { component = component; composite = with_next c left }))
+  unfolding logged_components
+  waits levels c component left count e =
+      ap (λ (ps : List Component).
+      logged_components s h.on (logged_component h face s root levels) c.node.g c.before ps c.base count
+      >>= logged_run h c.node.component c.node.g c.glyph.code) e
+      ∙ two_after (logged_component h face s root levels (next_of c) component.glyph count)
+      (λ m. after m.1.1 (with_component s h.on c.node.g component c.base m.0))
+      (λ m more. logged_components s h.on (logged_component h face s root levels) c.node.g (c.before + 1) left more m.1)
+      (logged_run h c.node.component c.node.g c.glyph.code)
 
   -- no component is left: the composite's program runs
-  pub closes : (levels : ℕ) (c : OpenComposite) (count : Logged) → c.parts ≡ []
-      → logged_left h face s root levels c count ≡ logged_run h c.component c.g c.glyph.code (c.base, count)
-  unfolding logged_parts
+  pub closes : (levels : ℕ) (c : OpenComposite) (count : Logged) → c.left ≡ []
+      → logged_left h face s root levels c count ≡ logged_run h c.node.component c.node.g c.glyph.code (c.base, count)
+  unfolding logged_components
   closes levels c count e =
-      ap (λ (ps : List Component). logged_parts s h.on (logged_component h face s root levels) c.g c.before ps c.base count
-      >>= logged_run h c.component c.g c.glyph.code) e
+      ap (λ (ps : List Component).
+      logged_components s h.on (logged_component h face s root levels) c.node.g c.before ps c.base count
+      >>= logged_run h c.node.component c.node.g c.glyph.code) e
 
   -- a refusal is the root's
   rest_refused : (levels : ℕ) (ws : List Waiting) (e : LoggedFault) → logged_rest_of h face s root levels ws (Err e) ≡ Err e
@@ -183,7 +186,7 @@ module _ (h : Hinting) (face : Face) (s : Scale) (root : ℕ) where
 
   pub joins : (below all : List Waiting) (w : Waiting) (made more : Made) (count : Logged) (due : LoggedOutcome)
       → logged_rest_of h face s root max_depth all (Ok (made, count)) ≡ due → all ≡ below ++ w ∷ []
-      → with_part s h.on w.composite.g w.part w.composite.base made ≡ Ok more
+      → with_component s h.on w.composite.node.g w.component w.composite.base made ≡ Ok more
       → logged_rest_of h face s root max_depth below (logged_given_by h face s root (max_depth - length below)
       (Open (record w.composite { base = more }), count)) ≡ due
   joins below all w made more count due i e j =
@@ -194,7 +197,7 @@ module _ (h : Hinting) (face : Face) (s : Scale) (root : ℕ) where
 
   pub not_joined : (below all : List Waiting) (w : Waiting) (made : Made) (count : Logged) (due : LoggedOutcome) (d : HintFault)
       → logged_rest_of h face s root max_depth all (Ok (made, count)) ≡ due → all ≡ below ++ w ∷ []
-      → with_part s h.on w.composite.g w.part w.composite.base made ≡ Err d → due ≡ Err (d, count.1)
+      → with_component s h.on w.composite.node.g w.component w.composite.base made ≡ Err d → due ≡ Err (d, count.1)
   not_joined below all w made count due d i e j =
       sym (into below all w made count due i e)
       ∙ ap (λ (q : Result Made HintFault). logged_rest_of h face s root max_depth below
@@ -204,48 +207,48 @@ module _ (h : Hinting) (face : Face) (s : Scale) (root : ℕ) where
 
   -- no component is left: the program runs
   pub runs : (below : List Waiting) (levels : ℕ) (c : OpenComposite) (count counted : Logged) (made : Made) (due : LoggedOutcome)
-      → logged_rest_of h face s root max_depth below (logged_given_by h face s root levels (Open c, count)) ≡ due → c.parts ≡ []
-      → logged_run h c.component c.g c.glyph.code (c.base, count) ≡ Ok (made, counted)
+      → logged_rest_of h face s root max_depth below (logged_given_by h face s root levels (Open c, count)) ≡ due → c.left ≡ []
+      → logged_run h c.node.component c.node.g c.glyph.code (c.base, count) ≡ Ok (made, counted)
       → logged_rest_of h face s root max_depth below (Ok (made, counted)) ≡ due
   runs below levels c count counted made due i e r =
       sym (ap (λ (q : LoggedOutcome). logged_rest_of h face s root max_depth below q) (closes levels c count e ∙ r)) ∙ i
 
   pub not_run : (below : List Waiting) (levels : ℕ) (c : OpenComposite) (count : Logged) (due : LoggedOutcome) (d : LoggedFault)
-      → logged_rest_of h face s root max_depth below (logged_given_by h face s root levels (Open c, count)) ≡ due → c.parts ≡ []
-      → logged_run h c.component c.g c.glyph.code (c.base, count) ≡ Err d → due ≡ Err d
+      → logged_rest_of h face s root max_depth below (logged_given_by h face s root levels (Open c, count)) ≡ due → c.left ≡ []
+      → logged_run h c.node.component c.node.g c.glyph.code (c.base, count) ≡ Err d → due ≡ Err d
   not_run below levels c count due d i e r =
       sym i ∙ ap (λ (q : LoggedOutcome). logged_rest_of h face s root max_depth below q) (closes levels c count e ∙ r)
       ∙ rest_refused max_depth below d
 
   -- the next component is begun, and the composite waits for it
-  pub down : (below : List Waiting) (c : OpenComposite) (part : Component) (parts : List Component) (count : Logged)
+  pub down : (below : List Waiting) (c : OpenComposite) (component : Component) (left : List Component) (count : Logged)
       (due : LoggedOutcome) → logged_rest_of h face s root max_depth below (logged_given_by h face s root (max_depth - length below)
       (Open c, count)) ≡ due
-      → c.parts ≡ part ∷ parts
+      → c.left ≡ component ∷ left
       → logged_rest_of h face s root max_depth below
-      ((logged_begun_component h face s root (max_depth - length below) (next_of c) part.glyph count
+      ((logged_begun_component h face s root (max_depth - length below) (next_of c) component.glyph count
       >>= logged_given_by h face s root (max_depth - length below - 1))
       >>= logged_goes_into h face s root (max_depth - length below)
-      (record { part = part; composite = with_next c parts })) ≡ due
-  down below c part parts count due i e =
+      (record { component = component; composite = with_next c left })) ≡ due
+  down below c component left count due i e =
       sym (ap (λ (q : LoggedOutcome). logged_rest_of h face s root max_depth below q)
-      (waits (max_depth - length below) c part parts count e
+      (waits (max_depth - length below) c component left count e
       ∙ ap (λ (q : LoggedOutcome). q >>= logged_goes_into h face s root (max_depth - length below)
-      (record { part = part; composite = with_next c parts }))
-      (component_by (max_depth - length below) (next_of c) part.glyph count)))
+      (record { component = component; composite = with_next c left }))
+      (component_by (max_depth - length below) (next_of c) component.glyph count)))
       ∙ i
 
-  pub descends : (below all : List Waiting) (levels : ℕ) (c : OpenComposite) (part : Component) (parts : List Component)
+  pub descends : (below all : List Waiting) (levels : ℕ) (c : OpenComposite) (component : Component) (left : List Component)
       (step : Step) (count counted : Logged) (due : LoggedOutcome)
       → logged_rest_of h face s root max_depth below (logged_given_by h face s root (max_depth - length below)
       (Open c, count)) ≡ due
-      → c.parts ≡ part ∷ parts → levels ≡ max_depth - length below
-      → logged_begun_component h face s root levels (next_of c) part.glyph count ≡ Ok (step, counted)
-      → all ≡ below ++ record { part = part; composite = with_next c parts } ∷ []
+      → c.left ≡ component ∷ left → levels ≡ max_depth - length below
+      → logged_begun_component h face s root levels (next_of c) component.glyph count ≡ Ok (step, counted)
+      → all ≡ below ++ record { component = component; composite = with_next c left } ∷ []
       → logged_rest_of h face s root max_depth all (logged_given_by h face s root (max_depth - length all) (step, counted)) ≡ due
-  descends below all levels c part parts step count counted due i e l b a =
-      let w : Waiting = record { part = part; composite = with_next c parts } in
-      let logged_begun : logged_begun_component h face s root (max_depth - length below) (next_of c) part.glyph count
+  descends below all levels c component left step count counted due i e l b a =
+      let w : Waiting = record { component = component; composite = with_next c left } in
+      let logged_begun : logged_begun_component h face s root (max_depth - length below) (next_of c) component.glyph count
       ≡ Ok (step, counted) = rw l at b in
       let n : length (below ++ w ∷ []) ≡ length below + 1 = length-append below (w ∷ []) in
       let deeper : max_depth - length (below ++ w ∷ []) ≡ max_depth - length below - 1 = omega arith in
@@ -253,7 +256,7 @@ module _ (h : Hinting) (face : Face) (s : Scale) (root : ℕ) where
       ∙ sym (ap (λ (q : Result (Step × Logged) LoggedFault). logged_rest_of h face s root max_depth below
       ((q >>= logged_given_by h face s root (max_depth - length below - 1))
       >>= logged_goes_into h face s root (max_depth - length below) w)) logged_begun)
-      ∙ down below c part parts count due i e in
+      ∙ down below c component left count due i e in
       let P : ℕ → Type 0 =
       λ k. logged_rest_of h face s root max_depth (below ++ w ∷ []) (logged_given_by h face s root k (step, counted)) ≡ due in
       let Q : List Waiting → Type 0 =
@@ -261,48 +264,48 @@ module _ (h : Hinting) (face : Face) (s : Scale) (root : ℕ) where
       ≡ due in
       subst Q (sym a) (subst P (sym deeper) there)
 
-  pub not_descended : (below : List Waiting) (levels : ℕ) (c : OpenComposite) (part : Component) (parts : List Component)
+  pub not_descended : (below : List Waiting) (levels : ℕ) (c : OpenComposite) (component : Component) (left : List Component)
       (count : Logged) (due : LoggedOutcome) (d : LoggedFault)
       → logged_rest_of h face s root max_depth below (logged_given_by h face s root (max_depth - length below)
       (Open c, count)) ≡ due
-      → c.parts ≡ part ∷ parts → levels ≡ max_depth - length below
-      → logged_begun_component h face s root levels (next_of c) part.glyph count ≡ Err d → due ≡ Err d
-  not_descended below levels c part parts count due d i e l b =
-      let w : Waiting = record { part = part; composite = with_next c parts } in
-      let logged_begun : logged_begun_component h face s root (max_depth - length below) (next_of c) part.glyph count
+      → c.left ≡ component ∷ left → levels ≡ max_depth - length below
+      → logged_begun_component h face s root levels (next_of c) component.glyph count ≡ Err d → due ≡ Err d
+  not_descended below levels c component left count due d i e l b =
+      let w : Waiting = record { component = component; composite = with_next c left } in
+      let logged_begun : logged_begun_component h face s root (max_depth - length below) (next_of c) component.glyph count
       ≡ Err d = rw l at b in
-      sym (down below c part parts count due i e)
+      sym (down below c component left count due i e)
       ∙ ap (λ (q : Result (Step × Logged) LoggedFault). logged_rest_of h face s root max_depth below
       ((q >>= logged_given_by h face s root (max_depth - length below - 1))
       >>= logged_goes_into h face s root (max_depth - length below) w)) logged_begun
       ∙ rest_refused max_depth below d
 
   -- the next component is assembled at once, and goes into the composite
-  pub fills : (below : List Waiting) (levels : ℕ) (c : OpenComposite) (part : Component) (parts : List Component) (made more : Made)
-      (count counted : Logged) (due : LoggedOutcome)
+  pub fills : (below : List Waiting) (levels : ℕ) (c : OpenComposite) (component : Component) (left : List Component)
+      (made more : Made) (count counted : Logged) (due : LoggedOutcome)
       → logged_rest_of h face s root max_depth below (logged_given_by h face s root (max_depth - length below)
       (Open c, count)) ≡ due
-      → c.parts ≡ part ∷ parts → levels ≡ max_depth - length below
-      → logged_begun_component h face s root levels (next_of c) part.glyph count ≡ Ok (Assembled made, counted)
-      → with_part s h.on c.g part c.base made ≡ Ok more
+      → c.left ≡ component ∷ left → levels ≡ max_depth - length below
+      → logged_begun_component h face s root levels (next_of c) component.glyph count ≡ Ok (Assembled made, counted)
+      → with_component s h.on c.node.g component c.base made ≡ Ok more
       → logged_rest_of h face s root max_depth below
-      (logged_given_by h face s root (max_depth - length below) (Open (record (with_next c parts) { base = more }), counted)) ≡ due
-  fills below levels c part parts made more count counted due i e l b j =
-      let w : Waiting = record { part = part; composite = with_next c parts } in
+      (logged_given_by h face s root (max_depth - length below) (Open (record (with_next c left) { base = more }), counted)) ≡ due
+  fills below levels c component left made more count counted due i e l b j =
+      let w : Waiting = record { component = component; composite = with_next c left } in
       joins below (below ++ w ∷ []) w made more counted due
-      (descends below (below ++ w ∷ []) levels c part parts (Assembled made) count counted due i e l b refl) refl j
+      (descends below (below ++ w ∷ []) levels c component left (Assembled made) count counted due i e l b refl) refl j
 
-  pub not_filled : (below : List Waiting) (levels : ℕ) (c : OpenComposite) (part : Component) (parts : List Component) (made : Made)
-      (count counted : Logged) (due : LoggedOutcome) (d : HintFault)
+  pub not_filled : (below : List Waiting) (levels : ℕ) (c : OpenComposite) (component : Component) (left : List Component)
+      (made : Made) (count counted : Logged) (due : LoggedOutcome) (d : HintFault)
       → logged_rest_of h face s root max_depth below (logged_given_by h face s root (max_depth - length below)
       (Open c, count)) ≡ due
-      → c.parts ≡ part ∷ parts → levels ≡ max_depth - length below
-      → logged_begun_component h face s root levels (next_of c) part.glyph count ≡ Ok (Assembled made, counted)
-      → with_part s h.on c.g part c.base made ≡ Err d → due ≡ Err (d, counted.1)
-  not_filled below levels c part parts made count counted due d i e l b j =
-      let w : Waiting = record { part = part; composite = with_next c parts } in
+      → c.left ≡ component ∷ left → levels ≡ max_depth - length below
+      → logged_begun_component h face s root levels (next_of c) component.glyph count ≡ Ok (Assembled made, counted)
+      → with_component s h.on c.node.g component c.base made ≡ Err d → due ≡ Err (d, counted.1)
+  not_filled below levels c component left made count counted due d i e l b j =
+      let w : Waiting = record { component = component; composite = with_next c left } in
       not_joined below (below ++ w ∷ []) w made counted due d
-      (descends below (below ++ w ∷ []) levels c part parts (Assembled made) count counted due i e l b refl) refl j
+      (descends below (below ++ w ∷ []) levels c component left (Assembled made) count counted due i e l b refl) refl j
 
   -- no composite waits: the root is assembled
   pub done : (all : List Waiting) (made : Made) (count : Logged) (due : LoggedOutcome)

@@ -1,4 +1,4 @@
--- A composite with one component more has the points of both: `part_adds_points`.
+-- A composite with one component more has the points of both: `component_adds_points`.
 -- For the walk over components: where one is joined to its composite, both have at most max_points points.
 use Rattle.std.proofs.Common.{◌≡◌, ℕ, ◌+◌, List, [], ◌∷◌, ◌++◌, length, map, Bool, Ok, ap, ◌∙◌, subst}
 use Rattle.std.proofs.Common.{arith, length-append}
@@ -8,7 +8,7 @@ use Rattle.fx_glyf.specs.declared.component.Component.{Component}
 use Rattle.fx_scale.specs.declared.scale.Scale.{Scale}
 use Rattle.fx_hint.specs.declared.made.Made.{Made}
 use Rattle.fx_hint.specs.declared.below.Waiting.{Waiting}
-use Rattle.fx_hint.specs.Parts.{laid, offset_of, with_part}
+use Rattle.fx_hint.specs.Placing.{laid, offset_of, with_component}
 
 -- the sum of a number over the composites that wait
 abbrev pub over_waiting : (Waiting → ℕ) → List Waiting → ℕ
@@ -37,13 +37,13 @@ pub begun_with_one_more : (ws : List Waiting) (w : Waiting)
 begun_with_one_more ws w = with_one_more (λ v. v.composite.before) ws w
 
 -- a composite with one component more has the points of both
-pub part_adds_points : (s : Scale) (hinted : Bool) (g : ℕ) (part : Component) (base component more : Made)
-    → with_part s hinted g part base component ≡ Ok more
-    → length more.zone.points ≡ length base.zone.points + length component.zone.points
-unfolding with_part
-part_adds_points s hinted g part base component more h =
-    let p = bind_ok (offset_of s hinted g part base.zone component.zone) _ more h in
-    let n : length (map (laid part p.0) component.zone.points) ≡ length component.zone.points =
-    length-map component.zone.points (laid part p.0) in
-    let P : Made → Type 0 = λ m. length m.zone.points ≡ length base.zone.points + length component.zone.points in
+pub component_adds_points : (s : Scale) (hinted : Bool) (g : ℕ) (component : Component) (base made more : Made)
+    → with_component s hinted g component base made ≡ Ok more
+    → length more.zone.points ≡ length base.zone.points + length made.zone.points
+unfolding with_component
+component_adds_points s hinted g component base made more h =
+    let p = bind_ok (offset_of s hinted g component base.zone made.zone) _ more h in
+    let n : length (map (laid component p.0) made.zone.points) ≡ length made.zone.points =
+    length-map made.zone.points (laid component p.0) in
+    let P : Made → Type 0 = λ m. length m.zone.points ≡ length base.zone.points + length made.zone.points in
     subst P (ok_injective _ _ p.2) (length-append base.zone.points _ ∙ ap (λ k. length base.zone.points + k) n)

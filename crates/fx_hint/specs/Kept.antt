@@ -5,7 +5,6 @@ use Rattle.fx_glyf.specs.declared.glyph.Glyph.TheVariants.{Simple}
 use Rattle.fx_glyf.specs.Shapes.{SimpleView}
 use Rattle.fx_glyf.specs.Glyphs.{glyph_of}
 use Rattle.fx_scale.specs.declared.scale.Scale.{Scale}
-use Rattle.fx_machine.specs.Known.{MachineView}
 use Rattle.fx_machine.specs.declared.usage.Usage.{Usage}
 use Rattle.fx_hint.specs.declared.made.Made.{Made}
 use Rattle.fx_hint.specs.Hinting.{Hinting}
@@ -38,7 +37,7 @@ IsSmall None = Unit {0}
 IsSmall (Some k) = (length k.bytes ≤ max_kept_bytes) × (length k.made.zone.points ≤ max_kept_points)
     × (length k.made.zone.ends ≤ max_kept_points)
 
--- a machine, and the places of what it keeps
-pub record KeepingView : Type 0 where
-  pub machine : MachineView
+-- a hinter, and the places of what it keeps
+pub record KeepingView (H : Type 0) : Type 0 where
+  pub hinter : H
   pub places : List (Option KeptGlyphView)

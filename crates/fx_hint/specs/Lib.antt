@@ -1,6 +1,6 @@
 pub mod Limits
 pub mod Faults
-pub mod Parts
+pub mod Placing
 pub mod Hinting
 pub mod Programmed
 pub mod Outlines

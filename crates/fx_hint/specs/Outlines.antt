@@ -34,7 +34,7 @@ use Rattle.fx_outline.specs.Ends.{AreEnds}
 use Rattle.fx_machine.specs.Usages.{no_usage, usage_with}
 use Rattle.fx_hint.specs.Hinting.{Hinting, no_hinting}
 use Rattle.fx_hint.specs.Programmed.{hinting_of}
-use Rattle.fx_hint.specs.Parts.{with_part}
+use Rattle.fx_hint.specs.Placing.{with_component}
 
 -- what assembles a component, from its glyph and the counts so far
 abbrev pub Maker : Type 0
@@ -70,12 +70,12 @@ run_on h g code made = do
   Ok (ran.0, record made.1 { usage = usage_with made.1.usage ran.1 })
 
 -- the components of a composite g in order, each assembled
-unfoldable pub with_parts : Scale → Bool → Maker → ℕ → List Component → Made → Count → Result (Made × Count) HintFault
-with_parts s hinted make g [] base count = Ok (base, count)
-with_parts s hinted make g (part ∷ parts) base count = do
-  component ← make part.glyph count
-  more ← with_part s hinted g part base component.0
-  with_parts s hinted make g parts more component.1
+unfoldable pub with_components : Scale → Bool → Maker → ℕ → List Component → Made → Count → Result (Made × Count) HintFault
+with_components s hinted make g [] base count = Ok (base, count)
+with_components s hinted make g (component ∷ components) base count = do
+  made ← make component.glyph count
+  more ← with_component s hinted g component base made.0
+  with_components s hinted make g components more made.1
 
 -- a glyph that has been read, assembled by its rule
 unfoldable pub made_of : Hinting → Scale → ℕ → Maker → ℕ → Metrics → glyf.Glyph → Count → Result (Made × Count) HintFault
@@ -85,7 +85,7 @@ made_of h s root make g m (Simple shape) count = do
   made ← simple_made s h.on root m shape count
   run_on h g shape.code made
 made_of h s root make g m (Composite assembly) count = do
-  made ← with_parts s h.on make g assembly.components
+  made ← with_components s h.on make g assembly.components
       (record { zone = empty_figure; phantoms = phantoms_of s h.on assembly.x_min m; wish = None }) count
   run_on h g assembly.code made
 

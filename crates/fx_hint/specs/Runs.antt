@@ -19,7 +19,7 @@ use Rattle.fx_hint.specs.declared.fault.HintFault.{HintFault}
 use Rattle.fx_hint.specs.declared.fault.HintFault.TheVariants.{Font, Glyph, ComponentDepth, OutOfMemory}
 use Rattle.fx_hint.specs.Limits.{max_depth}
 use Rattle.fx_hint.specs.Hinting.{Hinting}
-use Rattle.fx_hint.specs.Parts.{with_part}
+use Rattle.fx_hint.specs.Placing.{with_component}
 use Rattle.fx_hint.specs.Outlines.{one_component, simple_made, run_on, nothing_counted, assembled, component}
 
 -- a program of a glyph, started on these points: for which component of which composite, or for the root
@@ -65,13 +65,13 @@ logged_run h component g code made = do
   Ok (ran.0, (ran.1, with_run made.1.1 component g code made.0))
 
 -- the components of a composite g in order, after `before` others of it
-unfoldable pub logged_parts : Scale → Bool → LoggedMaker → ℕ → ℕ → List Component → Made → Logged
+unfoldable pub logged_components : Scale → Bool → LoggedMaker → ℕ → ℕ → List Component → Made → Logged
     → Result (Made × Logged) LoggedFault
-logged_parts s hinted make g before [] base count = Ok (base, count)
-logged_parts s hinted make g before (part ∷ parts) base count = do
-  component ← make (Some (record { composite = g; number = before + 1 })) part.glyph count
-  more ← after component.1.1 (with_part s hinted g part base component.0)
-  logged_parts s hinted make g (before + 1) parts more component.1
+logged_components s hinted make g before [] base count = Ok (base, count)
+logged_components s hinted make g before (component ∷ components) base count = do
+  made ← make (Some (record { composite = g; number = before + 1 })) component.glyph count
+  more ← after made.1.1 (with_component s hinted g component base made.0)
+  logged_components s hinted make g (before + 1) components more made.1
 
 unfoldable pub logged_made_of : Hinting → Scale → ℕ → LoggedMaker → Option ComponentOf → ℕ → Metrics → glyf.Glyph → Logged
     → Result (Made × Logged) LoggedFault
@@ -81,7 +81,7 @@ logged_made_of h s root make component g m (Simple shape) count = do
   made ← logged_simple s h.on root m shape count
   logged_run h component g shape.code made
 logged_made_of h s root make component g m (Composite assembly) count = do
-  made ← logged_parts s h.on make g 0 assembly.components
+  made ← logged_components s h.on make g 0 assembly.components
       (record { zone = empty_figure; phantoms = phantoms_of s h.on assembly.x_min m; wish = None }) count
   logged_run h component g assembly.code made
 

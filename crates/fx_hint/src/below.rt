@@ -1,10 +1,12 @@
 //! Open composites.
 
-ghost use Rattle.std.specs.Prelude.{◌≡◌, ◌++◌, [], ◌∷◌, length, MatchOption, OnOk};
+ghost use Rattle.std.specs.Prelude.{◌≡◌, ◌-◌, ◌≤◌, ◌++◌, [], ◌∷◌, length, MatchOption, OnOk};
+ghost use Rattle.fx_hint.specs.Limits.{max_depth};
 ghost use Rattle.fx_hint.specs.inner.Places.{present};
 ghost use Rattle.fx_hint.specs.inner.Steps.{opened};
 
-use crate::component::ComponentOf;
+use crate::component::Node;
+use crate::limits::MAX_DEPTH;
 use crate::made::Made;
 use fx_glyf::{Component, Components, Composite};
 use smallvec::SmallVec;
@@ -14,34 +16,26 @@ use std::marker::Model;
 /// A composite that is open: the components that are left, and its points so far with its phantom points.
 #[derive(Drop)]
 pub struct OpenComposite<'a> {
-    /// Which component of another composite it is, unless it is the root.
-    pub component: Option<ComponentOf>,
-    pub g: u16,
+    pub node: Node,
     /// How many of its components come before those that are left.
     pub before: usize,
     pub glyph: Composite<'a>,
-    pub parts: Components<'a>,
+    pub left: Components<'a>,
     pub base: Made,
 }
 
 impl<'a> OpenComposite<'a> {
     /// A composite that is opened, before its first component. `base` has its phantom points.
     #[inline(always)]
-    pub fn new(
-        component: Option<ComponentOf>,
-        g: u16,
-        glyph: Composite<'a>,
-        base: Made,
-    ) -> OpenComposite<'a>
-        ensures { result ≡ opened component g glyph.entry base }
+    pub fn new(node: Node, glyph: Composite<'a>, base: Made) -> OpenComposite<'a>
+        ensures { result ≡ opened node glyph.entry base }
     {
-        let parts = glyph.components();
+        let left = glyph.components();
         OpenComposite {
-            component,
-            g,
+            node,
             before: 0,
             glyph,
-            parts,
+            left,
             base,
         }
     }
@@ -50,7 +44,7 @@ impl<'a> OpenComposite<'a> {
 /// An open composite that waits for one of its components.
 #[derive(Drop)]
 pub struct Waiting<'a> {
-    pub part: Component,
+    pub component: Component,
     pub composite: OpenComposite<'a>,
 }
 
@@ -86,11 +80,13 @@ impl<'a> Below<'a> {
         }
     }
 
-    /// The number of composites that wait.
-    pub fn len(&self) -> usize
-        ensures { result ≡ length self.now }
+    /// The number of levels that are allowed below the composites that wait.
+    #[tactic(auto, using(crate::proofs::Places::present_length))]
+    pub fn levels(&self) -> u8
+        requires { length self.now ≤ max_depth }
+        ensures { result ≡ max_depth - length self.now }
     {
-        self.places.len()
+        MAX_DEPTH - self.places.len() as u8
     }
 
     /// One more composite waits.

@@ -1,6 +1,6 @@
 //! Places for simple glyphs that were made.
 
-ghost use Rattle.std.specs.Prelude.{◌≡◌, replicate, length, option_map, None, IfOk, IfSome};
+ghost use Rattle.std.specs.Prelude.{◌≡◌, replicate, length, option_map, None, IfSome};
 ghost use Rattle.std.specs.List.{All};
 ghost use Rattle.fx_hint.specs.Hinting.{Hinting};
 ghost use Rattle.fx_hint.specs.Kept.{IsMadeAlone, IsTrueOf, IsSmall};
@@ -10,7 +10,7 @@ ghost use Rattle.fx_hint.specs.Limits.{max_places};
 use crate::kept::{GlyphInput, KeptGlyph};
 use crate::made::Made;
 use fx_machine::Usage;
-use std::alloc::{AllocError, Global};
+use std::alloc::Global;
 use std::marker::Model;
 
 /// The number of places for glyphs that are kept.
@@ -22,23 +22,16 @@ const KEPT_POINTS: usize = 80;
 /// The most bytes of a glyph that is kept.
 const KEPT_BYTES: usize = 512;
 
-/// No place keeps a glyph.
-fn empty_places(alloc: Global) -> Result<Vec<KeptGlyph>, AllocError>
-    ensures { IfOk result (λ places. places.items ≡ replicate max_places None) }
+/// Places that keep nothing, or none if memory is refused.
+fn empty_places(alloc: Global) -> Option<Vec<KeptGlyph>>
+    ensures { places_of (option_map (λ v. v.items) result) ≡ replicate max_places None }
 {
-    let mut places = Vec::with_capacity(alloc, PLACES)?;
+    let mut places = Vec::with_capacity(alloc, PLACES).ok()?;
     // The places so far keep nothing, and there is room for those that are left.
     'places: for _number in 0..PLACES {
         places.push_reserved(KeptGlyph::new(alloc));
     }
-    Ok(places)
-}
-
-/// The places, or none if memory is refused.
-fn places_made(alloc: Global) -> Option<Vec<KeptGlyph>>
-    ensures { places_of (option_map (λ v. v.items) result) ≡ replicate max_places None }
-{
-    empty_places(alloc).ok()
+    Some(places)
 }
 
 /// Simple glyphs that a hinter made, so that a component that comes again soon is copied and not made again. A glyph has its place
@@ -82,7 +75,7 @@ impl KeptGlyphs {
         ensures { self.new ≡ self.old }
     {
         if self.places.is_none() {
-            self.places = places_made(self.alloc);
+            self.places = empty_places(self.alloc);
         }
     }
 

@@ -1,9 +1,7 @@
 //! The walk over components.
 
-ghost use Rattle.std.specs.Prelude.{[], ◌∷◌, ◌≡◌, ◌+◌, ◌-◌, ◌<◌, ◌≤◌, None, Ok, Err, IfOk, OnOk, length};
+ghost use Rattle.std.specs.Prelude.{[], ◌∷◌, ◌≡◌, ◌+◌, ◌<◌, ◌≤◌, None, Ok, Err, IfOk, OnOk, length};
 ghost use Rattle.fx_fixed.specs.Chain.{GivesUnless};
-ghost use Rattle.fx_glyf.specs.declared.glyph.Glyph.TheVariants as glyph;
-ghost use Rattle.fx_glyf.specs.Glyphs.{glyph_of};
 ghost use Rattle.fx_zone.specs.Figures.{empty_figure};
 ghost use Rattle.fx_scale.specs.Phantoms.{phantoms_of};
 ghost use Rattle.fx_hint.specs.Faults.{Fails};
@@ -12,32 +10,23 @@ ghost use Rattle.fx_hint.specs.Outlines.{scaled_simple, simple_made, run_on};
 ghost use Rattle.fx_hint.specs.Runs.{HasRun, logged_assembled, logged_component};
 ghost use Rattle.fx_outline.specs.Limits.{max_points};
 ghost use Rattle.fx_hint.specs.Limits.{max_components, max_depth};
-ghost use Rattle.fx_hint.specs.inner.RunSteps.{begun_runs, begun_by_runs, begun_component_runs, logged_left, Walks};
-ghost use Rattle.fx_hint.specs.inner.Steps.{Assembled, step_of, CountsPoints, begun, begun_by, begun_component, counted_made, opened};
+ghost use Rattle.fx_hint.specs.inner.RunSteps.{begun_runs, begun_component_runs, logged_left, Walks};
+ghost use Rattle.fx_hint.specs.inner.Steps.{Assembled, step_of, CountsPoints, begun, begun_component, counted_made, opened};
 
 use crate::below::{Below, OpenComposite, Waiting};
-use crate::component::ComponentOf;
+use crate::component::{ComponentOf, Node};
 use crate::count::Count;
 use crate::fault::HintFault;
 use crate::hinter::Hinter;
 use crate::kept::GlyphInput;
-use crate::limits::MAX_DEPTH;
 use crate::made::Made;
-use crate::part::add_part;
+use crate::placing::add_component;
 use fx_glyf::{Composite, Glyph, Simple, read};
 use fx_machine::Usage;
 use fx_scale::{PhantomPoints, Scale, fill_zone};
 use fx_sfnt::{Font, Metrics};
 use std::alloc::Global;
 use std::mem;
-
-/// The number of levels that are allowed below the composites that wait.
-fn levels_below(below: &Below<'_>) -> u8
-    requires { length below.now ≤ max_depth }
-    ensures { result ≡ max_depth - length below.now }
-{
-    MAX_DEPTH - below.len() as u8
-}
 
 /// Makes a glyph one without points yet. Its lists keep their memory.
 fn make_empty(made: &mut Made, scale: &Scale, hinted: bool, x_min: i16, metrics: Metrics)
@@ -53,8 +42,7 @@ fn make_empty(made: &mut Made, scale: &Scale, hinted: bool, x_min: i16, metrics:
 #[tactic(auto, unfolding(crate::specs::Outlines::run_on))]
 fn run_on<H: Hinter>(
     hinter: &mut H,
-    component: Option<ComponentOf>,
-    g: u16,
+    node: Node,
     code: &[u8],
     made: &mut Made,
     count: &mut Count,
@@ -62,16 +50,16 @@ fn run_on<H: Hinter>(
     ensures known { H.known hinter.new ≡ H.known hinter.old }
     ensures kept { H.hinting hinter.new ≡ H.hinting hinter.old }
     ensures leads { HasRun H.Leads hinter.old hinter.new result
-        (record { component = component; g = g; code = code.now; made = made.old } ∷ []) }
+        (record { component = node.component; g = node.g; code = code.now; made = made.old } ∷ []) }
     ensures value { GivesUnless Fails (λ _. (made.new, count.new)) result
-        (run_on (H.hinting hinter.old) g code.now (made.old, count.old)) }
-    ensures ran { IfOk result (λ usage. (H.hinting hinter.old).run g code.now made.old ≡ Ok (made.new, usage)) }
+        (run_on (H.hinting hinter.old) node.g code.now (made.old, count.old)) }
+    ensures ran { IfOk result (λ usage. (H.hinting hinter.old).run node.g code.now made.old ≡ Ok (made.new, usage)) }
     ensures records { OnOk result (count.new.records ≡ count.old.records) }
     ensures points { OnOk result ((length made.new.zone.points ≡ length made.old.zone.points)
         × (count.new.points ≡ count.old.points)) }
 {
     hinter.law_keeps_shape();
-    let usage = hinter.run(component, g, code, made)?;
+    let usage = hinter.run(node.component, node.g, code, made)?;
     count.more_usage(usage);
     Ok(usage)
 }
@@ -112,41 +100,6 @@ impl<'w, 'a> Walk<'w, 'a> {
         Ok(())
     }
 
-    /// A simple glyph that has been read, assembled; the hinter may keep it if it is a component.
-    #[inline(always)]
-    #[tactic(auto, unfolding(crate::specs::inner::Steps::begun_by, crate::specs::inner::RunSteps::begun_by_runs))]
-    fn simple_begun<H: Hinter>(
-        &self,
-        hinter: &mut H,
-        component: Option<ComponentOf>,
-        input: &GlyphInput<'_>,
-        simple: &Simple<'_>,
-        count: &mut Count,
-        made: &mut Made,
-    ) -> Result<(), HintFault>
-        requires scale { input.now.scale ≡ self.now.scale.now }
-        requires read { glyph_of input.now.bytes.now input.now.g ≡ Ok (glyph.Simple simple.now) }
-        ensures known { H.known hinter.new ≡ H.known hinter.old }
-        ensures kept { H.hinting hinter.new ≡ H.hinting hinter.old }
-        ensures leads { HasRun H.Leads hinter.old hinter.new result
-            (begun_by_runs (H.hinting hinter.old) self.now.scale.now self.now.root component input.now.g input.now.metrics
-            (glyph.Simple simple.now) count.old) }
-        ensures value { GivesUnless Fails (λ _. (Assembled made.new, count.new)) result
-            (begun_by (H.hinting hinter.old) self.now.scale.now self.now.root component input.now.g input.now.metrics
-            (glyph.Simple simple.now) count.old) }
-        ensures records { OnOk result (count.new.records ≡ count.old.records) }
-        ensures points { OnOk result (CountsPoints count.old made.new count.new) }
-    {
-        let on = hinter.is_on();
-        self.simple_made(on, input.metrics, simple, count, made)?;
-        let usage = run_on(hinter, component, input.g, simple.code(), made, count)?;
-        if component.is_none() {
-            return Ok(());
-        }
-        hinter.keep(input, made, usage);
-        Ok(())
-    }
-
     /// A simple component that was kept; its points, and what its program used up when it was made, are counted again.
     #[tactic(auto, unfolding(crate::specs::inner::Steps::counted_made))]
     fn recalled(&self, made: &Made, usage: Usage, count: &mut Count) -> Result<(), HintFault>
@@ -168,8 +121,7 @@ impl<'w, 'a> Walk<'w, 'a> {
     fn begun<H: Hinter>(
         &self,
         hinter: &mut H,
-        component: Option<ComponentOf>,
-        g: u16,
+        node: Node,
         count: &mut Count,
         made: &mut Made,
     ) -> Result<Option<Composite<'a>>, HintFault>
@@ -177,34 +129,38 @@ impl<'w, 'a> Walk<'w, 'a> {
         ensures known { H.known hinter.new ≡ H.known hinter.old }
         ensures kept { H.hinting hinter.new ≡ H.hinting hinter.old }
         ensures leads { HasRun H.Leads hinter.old hinter.new result
-            (begun_runs (H.hinting hinter.old) self.now.font.now self.now.scale.now self.now.root component g count.old) }
-        ensures value { GivesUnless Fails (λ assembly. (step_of component g assembly made.new, count.new)) result
-            (begun (H.hinting hinter.old) self.now.font.now self.now.scale.now self.now.root component g count.old) }
+            (begun_runs (H.hinting hinter.old) self.now.font.now self.now.scale.now self.now.root node.component node.g count.old) }
+        ensures value { GivesUnless Fails (λ assembly. (step_of node assembly made.new, count.new)) result
+            (begun (H.hinting hinter.old) self.now.font.now self.now.scale.now self.now.root node.component node.g count.old) }
         ensures records { OnOk result (count.new.records ≡ count.old.records) }
         ensures points { OnOk result (CountsPoints count.old made.new count.new) }
     {
-        let metrics = self.font.metrics(g)?;
-        let bytes = self.font.glyph_bytes(g)?;
+        let metrics = self.font.metrics(node.g)?;
+        let bytes = self.font.glyph_bytes(node.g)?;
         let input = GlyphInput {
-            g,
+            g: node.g,
             scale: *self.scale,
             metrics,
             bytes,
         };
-        if component.is_some() {
+        if node.component.is_some() {
             if let Some(usage) = hinter.recall(&input, made) {
                 hinter.law_keeps_shape();
                 self.recalled(made, usage, count)?;
                 return Ok(None);
             }
         }
-        match read(bytes, g)? {
+        match read(bytes, node.g)? {
             Glyph::Empty => {
                 make_empty(made, self.scale, hinter.is_on(), 0, metrics);
                 Ok(None)
             }
             Glyph::Simple(simple) => {
-                self.simple_begun(hinter, component, &input, &simple, count, made)?;
+                self.simple_made(hinter.is_on(), metrics, &simple, count, made)?;
+                let usage = run_on(hinter, node, simple.code(), made, count)?;
+                if node.component.is_some() {
+                    hinter.keep(&input, made, usage);
+                }
                 Ok(None)
             }
             Glyph::Composite(composite) => {
@@ -220,8 +176,7 @@ impl<'w, 'a> Walk<'w, 'a> {
         &self,
         hinter: &mut H,
         levels: u8,
-        component: Option<ComponentOf>,
-        g: u16,
+        node: Node,
         count: &mut Count,
         made: &mut Made,
     ) -> Result<Option<Composite<'a>>, HintFault>
@@ -229,30 +184,30 @@ impl<'w, 'a> Walk<'w, 'a> {
         ensures known { H.known hinter.new ≡ H.known hinter.old }
         ensures kept { H.hinting hinter.new ≡ H.hinting hinter.old }
         ensures leads { HasRun H.Leads hinter.old hinter.new result
-            (begun_component_runs (H.hinting hinter.old) self.now.font.now self.now.scale.now self.now.root levels component g
-            count.old) }
-        ensures value { GivesUnless Fails (λ assembly. (step_of component g assembly made.new, count.new)) result
-            (begun_component (H.hinting hinter.old) self.now.font.now self.now.scale.now self.now.root levels component g
-            count.old) }
+            (begun_component_runs (H.hinting hinter.old) self.now.font.now self.now.scale.now self.now.root levels node.component
+            node.g count.old) }
+        ensures value { GivesUnless Fails (λ assembly. (step_of node assembly made.new, count.new)) result
+            (begun_component (H.hinting hinter.old) self.now.font.now self.now.scale.now self.now.root levels node.component
+            node.g count.old) }
         ensures records { OnOk result ((count.new.records ≡ count.old.records + 1) × (count.new.records ≤ max_components)) }
         ensures points { OnOk result (CountsPoints count.old made.new count.new) }
         ensures level { OnOk result (0 < levels) }
     {
         if levels == 0 {
-            return Err(HintFault::ComponentDepth(g));
+            return Err(HintFault::ComponentDepth(node.g));
         }
         count.one_component(self.root)?;
-        self.begun(hinter, component, g, count, made)
+        self.begun(hinter, node, count, made)
     }
 
-    /// The root assembled in `made`. Components are assembled in `component`. What both held before is lost.
+    /// The root assembled in `made`. Components are assembled in `spare`. What both held before is lost.
     #[inline(always)]
     pub fn assembled<H: Hinter>(
         &self,
         hinter: &mut H,
         count: &mut Count,
         made: &mut Made,
-        component: &mut Made,
+        spare: &mut Made,
     ) -> Result<(), HintFault>
         requires records { count.old.records ≤ max_components }
         requires points { count.old.points ≤ max_points }
@@ -263,21 +218,25 @@ impl<'w, 'a> Walk<'w, 'a> {
             (logged_component (H.hinting hinter.old) self.now.font.now self.now.scale.now self.now.root max_depth) None
             self.now.root (count.old, [])) }
     {
-        match self.begun(hinter, None, self.root, count, made)? {
+        let root = Node {
+            component: None,
+            g: self.root,
+        };
+        match self.begun(hinter, root, count, made)? {
             None => Ok(()),
-            Some(glyph) => self.closed(hinter, glyph, count, made, component),
+            Some(glyph) => self.closed(hinter, glyph, count, made, spare),
         }
     }
 
     /// A root that is a composite assembled, step by step: the composites that wait for a component lie in a list, so that the walk
-    /// is one loop. `made` has its phantom points. Components are assembled in `component`.
+    /// is one loop. `made` has its phantom points. Components are assembled in `spare`.
     fn closed<H: Hinter>(
         &self,
         hinter: &mut H,
         glyph: Composite<'a>,
         count: &mut Count,
         made: &mut Made,
-        component: &mut Made,
+        spare: &mut Made,
     ) -> Result<(), HintFault>
         requires records { count.old.records ≤ max_components }
         requires points { count.old.points ≤ max_points }
@@ -286,34 +245,41 @@ impl<'w, 'a> Walk<'w, 'a> {
         ensures kept { H.hinting hinter.new ≡ H.hinting hinter.old }
         ensures walks { Walks H.Leads hinter.old hinter.new made.new result count.new
             (logged_left (H.hinting hinter.old) self.now.font.now self.now.scale.now self.now.root max_depth
-            (opened None self.now.root glyph.entry made.old) (count.old, [])) }
+            (opened (record { component = None; g = self.now.root }) glyph.entry made.old) (count.old, [])) }
     {
         let on = hinter.is_on();
         let mut below = Below::new(self.alloc);
         let base = mem::replace(made, Made::empty(self.alloc));
-        let mut open = OpenComposite::new(None, self.root, glyph, base);
+        let root = Node {
+            component: None,
+            g: self.root,
+        };
+        let mut open = OpenComposite::new(root, glyph, base);
         // What the root gives stays the same: what the innermost open composite gives with its components that are left, and then
         // each composite that waits, with what is assembled below it. The points of all these were counted, and so were the
         // components that they began.
         'steps: loop {
-            match open.parts.next() {
-                Some(part) => {
-                    let levels = levels_below(&below);
+            match open.left.next() {
+                Some(component) => {
+                    let levels = below.levels();
                     open.before += 1;
-                    let of = Some(ComponentOf {
-                        composite: open.g,
-                        number: open.before as u16,
-                    });
-                    match self.begun_component(hinter, levels, of, part.glyph, count, component)? {
+                    let g = open.node.g;
+                    let node = Node {
+                        component: Some(ComponentOf {
+                            composite: g,
+                            number: open.before as u16,
+                        }),
+                        g: component.glyph,
+                    };
+                    match self.begun_component(hinter, levels, node, count, spare)? {
                         None => {
-                            let g = open.g;
-                            add_part(&mut open.base, self.scale, on, g, &part, component)?;
+                            add_component(&mut open.base, self.scale, on, g, &component, spare)?;
                         }
                         Some(glyph) => {
-                            let whole = mem::replace(component, Made::empty(self.alloc));
-                            let deeper = OpenComposite::new(of, part.glyph, glyph, whole);
+                            let whole = mem::replace(spare, Made::empty(self.alloc));
+                            let deeper = OpenComposite::new(node, glyph, whole);
                             below.push(Waiting {
-                                part,
+                                component,
                                 composite: open,
                             })?;
                             open = deeper;
@@ -322,18 +288,28 @@ impl<'w, 'a> Walk<'w, 'a> {
                 }
                 None => {
                     let code = open.glyph.code();
-                    run_on(hinter, open.component, open.g, code, &mut open.base, count)?;
+                    run_on(hinter, open.node, code, &mut open.base, count)?;
                     match below.pop() {
                         None => {
                             *made = open.base;
                             return Ok(());
                         }
                         Some(waiting) => {
-                            let Waiting { part, composite } = waiting;
+                            let Waiting {
+                                component,
+                                composite,
+                            } = waiting;
                             let mut above = composite;
                             let mut made = open.base;
-                            let g = above.g;
-                            add_part(&mut above.base, self.scale, on, g, &part, &mut made)?;
+                            let g = above.node.g;
+                            add_component(
+                                &mut above.base,
+                                self.scale,
+                                on,
+                                g,
+                                &component,
+                                &mut made,
+                            )?;
                             open = above;
                         }
                     }

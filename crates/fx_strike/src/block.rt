@@ -133,7 +133,7 @@ impl<'a, S: Scan> Striker<'a, S> {
         ensures there { IfOk result (λ made. is_some made ≡ has_block self.now.machine) }
     {
         match &self.hinter.machine {
-            Some(machine) => machine.machine().block(self.alloc),
+            Some(machine) => machine.hinter().block(self.alloc),
             None => Ok(Some(Vec::new(self.alloc))),
         }
     }

@@ -7,7 +7,7 @@ ghost use Rattle.fx_strike.specs.Strike.{machine_for, prelude_by, wish_in, Fails
 
 use crate::opened::Opened;
 use fx_gstate::ScanType as ScanType;
-use fx_hint::{ComponentOf, GlyphInput, HintFault, Hinter, KeepingMachine, KeepingUnhinted, Made};
+use fx_hint::{ComponentOf, GlyphInput, HintFault, Hinter, Keeping, Made, NoHinter};
 use fx_machine::{Machine, Unwatched, Usage};
 use fx_request::Refusal;
 use std::alloc::{AllocError, Global};
@@ -18,9 +18,9 @@ use std::marker::Model;
 /// Contracts see what stays as it is, whatever runs: what is known of the machine.
 #[derive(Drop)]
 pub(crate) struct FontHinter<'a> {
-    pub(crate) machine: Option<Box<KeepingMachine<'a>>>,
+    pub(crate) machine: Option<Box<Keeping<Machine<'a>>>>,
     /// What assembles outlines if there is no machine.
-    unhinted: KeepingUnhinted,
+    unhinted: Keeping<NoHinter>,
 }
 
 impl<'a> Model for FontHinter<'a> {
@@ -29,7 +29,7 @@ impl<'a> Model for FontHinter<'a> {
 
     ghost Value = { Option Known };
 
-    ghost view = { λ h. option_map (λ b. b.value.machine.known) h.machine };
+    ghost view = { λ h. option_map (λ b. b.value.hinter.known) h.machine };
 }
 
 impl<'a> FontHinter<'a> {
@@ -39,7 +39,7 @@ impl<'a> FontHinter<'a> {
     {
         FontHinter {
             machine: None,
-            unhinted: KeepingUnhinted::new(alloc),
+            unhinted: Keeping::new(alloc, NoHinter),
         }
     }
 
@@ -47,7 +47,7 @@ impl<'a> FontHinter<'a> {
     pub(crate) fn of(alloc: Global, machine: Machine<'a>) -> Result<FontHinter<'a>, AllocError>
         ensures { IfOk result (λ h. h ≡ Some machine.entry.known) }
     {
-        let keeping = KeepingMachine::new(alloc, machine);
+        let keeping = Keeping::new(alloc, machine);
         Ok(FontHinter {
             machine: Some(Box::new(alloc, keeping)?),
             ..FontHinter::none(alloc)
@@ -59,7 +59,7 @@ impl<'a> FontHinter<'a> {
         ensures { result ≡ prelude_by self.now }
     {
         match &self.machine {
-            Some(machine) => machine.prelude(),
+            Some(machine) => machine.hinter().prelude(),
             None => Usage::none(),
         }
     }
@@ -69,7 +69,7 @@ impl<'a> FontHinter<'a> {
         ensures { result ≡ wish_in self.now }
     {
         match &self.machine {
-            Some(machine) => machine.machine().wish(),
+            Some(machine) => machine.hinter().wish(),
             None => None,
         }
     }

@@ -18,11 +18,11 @@ use Rattle.fx_hint.specs.inner.Steps.{Step, Assembled, Open}
 use Rattle.fx_hint.specs.declared.fault.HintFault.{HintFault}
 use Rattle.fx_hint.specs.declared.fault.HintFault.TheVariants.{Font, Glyph, ComponentDepth, OutOfMemory}
 use Rattle.fx_hint.specs.Hinting.{Hinting}
-use Rattle.fx_hint.specs.Parts.{with_part}
+use Rattle.fx_hint.specs.Placing.{with_component}
 use Rattle.fx_hint.specs.declared.count.Count.{Count}
 use Rattle.fx_hint.specs.Outlines.{one_component, simple_made}
 use Rattle.fx_hint.specs.inner.Steps.{opened_as}
-use Rattle.fx_hint.specs.Runs.{ProgramRun, Logged, LoggedFault, AreFirst, runs_in, after, once, logged_one, logged_simple, logged_run, logged_parts, logged_component}
+use Rattle.fx_hint.specs.Runs.{ProgramRun, Logged, LoggedFault, AreFirst, runs_in, after, once, logged_one, logged_simple, logged_run, logged_components, logged_component}
 
 abbrev pub LoggedOutcome : Type 0
 LoggedOutcome = Result (Made × Logged) LoggedFault
@@ -75,8 +75,8 @@ logged runs (Err e) = Err (e, runs)
 
 abbrev pub logged_left : Hinting → Face → Scale → ℕ → ℕ → OpenComposite → Logged → LoggedOutcome
 logged_left h face s root levels c count =
-    logged_parts s h.on (logged_component h face s root levels) c.g c.before c.parts c.base count
-    >>= logged_run h c.component c.g c.glyph.code
+    logged_components s h.on (logged_component h face s root levels) c.node.g c.before c.left c.base count
+    >>= logged_run h c.node.component c.node.g c.glyph.code
 
 abbrev pub logged_given_by : Hinting → Face → Scale → ℕ → ℕ → Step × Logged → LoggedOutcome
 logged_given_by h face s root levels (Assembled made, count) = Ok (made, count)
@@ -84,7 +84,7 @@ logged_given_by h face s root levels (Open c, count) = logged_left h face s root
 
 abbrev pub logged_goes_into : Hinting → Face → Scale → ℕ → ℕ → Waiting → Made × Logged → LoggedOutcome
 logged_goes_into h face s root levels w r = do
-  more ← after r.1.1 (with_part s h.on w.composite.g w.part w.composite.base r.0)
+  more ← after r.1.1 (with_component s h.on w.composite.node.g w.component w.composite.base r.0)
   logged_left h face s root levels (record w.composite { base = more }) r.1
 
 unfoldable pub logged_rest_of : Hinting → Face → Scale → ℕ → ℕ → List Waiting → LoggedOutcome → LoggedOutcome

@@ -12,6 +12,7 @@ use Rattle.fx_zone.specs.Figures.{empty_figure}
 use Rattle.fx_scale.specs.declared.scale.Scale.{Scale}
 use Rattle.fx_scale.specs.Phantoms.{phantoms_of}
 use Rattle.fx_hint.specs.declared.component.ComponentOf.{ComponentOf}
+use Rattle.fx_hint.specs.declared.component.Node.{Node}
 use Rattle.fx_hint.specs.declared.count.Count.{Count}
 use Rattle.fx_machine.specs.declared.usage.Usage.{Usage}
 use Rattle.fx_hint.specs.declared.made.Made.{Made}
@@ -29,24 +30,23 @@ pub data Step : Type 0 where
   Open : (c : OpenComposite) → Step
 
 -- a composite that is open, before its first component
-abbrev pub opened : Option ComponentOf → ℕ → CompositeView → Made → OpenComposite
-opened component g assembly base = record {
-  component = component;
-  g = g;
+abbrev pub opened : Node → CompositeView → Made → OpenComposite
+opened node assembly base = record {
+  node = node;
   glyph = assembly;
   before = 0;
-  parts = assembly.components;
+  left = assembly.components;
   base = base;
 }
 
 abbrev pub opened_as : Scale → Bool → Option ComponentOf → ℕ → Metrics → CompositeView → Step
-opened_as s hinted component g m assembly = Open (opened component g assembly
+opened_as s hinted component g m assembly = Open (opened (record { component = component; g = g }) assembly
     (record { zone = empty_figure; phantoms = phantoms_of s hinted assembly.x_min m; wish = None }))
 
 -- what a glyph is after its beginning: a composite if there is one, and what was made
-abbrev pub step_of : Option ComponentOf → ℕ → Option CompositeView → Made → Step
-step_of component g None made = Assembled made
-step_of component g (Some assembly) made = Open (opened component g assembly made)
+abbrev pub step_of : Node → Option CompositeView → Made → Step
+step_of node None made = Assembled made
+step_of node (Some assembly) made = Open (opened node assembly made)
 
 -- a glyph that has been read, begun: an empty or a simple one is assembled, a composite is open
 unfoldable pub begun_by : Hinting → Scale → ℕ → Option ComponentOf → ℕ → Metrics → glyf.Glyph → Count

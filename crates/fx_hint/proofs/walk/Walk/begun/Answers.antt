@@ -1,8 +1,9 @@
 use Rattle.std.proofs.Common.{sym, Ok, Err}
 use Rattle.std.proofs.lemmas.Result.{err_from_is_err_and}
 use Rattle.fx_hint.proofs.KeptGlyphs.{begun_again}
-use Rattle.fx_hint.proofs.RunLaws.{recalls}
+use Rattle.fx_hint.proofs.RunLaws.{recalls, simple_runs, none_started}
 use Rattle.fx_hint.proofs.walk.Walk.begun.Goals as goal
+use Rattle.fx_hint.proofs.walk.Walk.begun.Goals.{then-is_some-2, else-is_some-2}
 
 pub returns-in_err-recalled-clause-leads : goal.returns-in_err-recalled-clause-leads
 returns-in_err-recalled-clause-leads g c =
@@ -13,7 +14,7 @@ returns-in_err-recalled-clause-leads g c =
 pub returns-in_err-recalled-clause-value : goal.returns-in_err-recalled-clause-value
 returns-in_err-recalled-clause-value g c =
     let p = err_from_is_err_and c.from_residual-in_err-recalled.result c.from_residual-in_err-recalled.ensures.1 in
-    let e = begun_again _ _ _ c.args.self.now.root c.args.component _ _ _ _ _ c.args.count.now c.law_keeps_shape.ensures
+    let e = begun_again _ _ _ c.args.self.now.root c.args.node.component _ _ _ _ _ c.args.count.now c.law_keeps_shape.ensures
     (sym c.in_ok-metrics.ensures.value) (sym c.in_ok-bytes.ensures) c.in-Some.ensures.value in
     rw (p.1, p.2) (rw e at c.in_err-recalled.ensures.value)
 
@@ -23,6 +24,28 @@ returns-in-Some-clause-leads g c =
 
 pub returns-in-Some-clause-value : goal.returns-in-Some-clause-value
 returns-in-Some-clause-value g c =
-    let e = begun_again _ _ _ c.args.self.now.root c.args.component _ _ _ _ _ c.args.count.now c.law_keeps_shape.ensures
+    let e = begun_again _ _ _ c.args.self.now.root c.args.node.component _ _ _ _ _ c.args.count.now c.law_keeps_shape.ensures
     (sym c.in_ok-metrics.ensures.value) (sym c.in_ok-bytes.ensures) c.in-Some.ensures.value in
     rw e at c.in_ok-recalled.ensures.value
+
+pub returns-in_err-simple_made-in-Simple-clause-leads : goal.returns-in_err-simple_made-in-Simple-clause-leads
+returns-in_err-simple_made-in-Simple-clause-leads g c =
+    let p = err_from_is_err_and c.from_residual-in_err-simple_made-in-Simple.result
+    c.from_residual-in_err-simple_made-in-Simple.ensures.1 in
+    let r = rw c.in-Simple.is at c.in_ok-read.ensures.exact in
+    let v = rw c.is_on-in-Simple.ensures at c.in_err-simple_made-in-Simple.ensures.value in
+    rw (p.1, p.2) (none_started g.H.Hinter.Leads _ c.in_err-simple_made-in-Simple.field-0.0 (g.H.Hinter.hinting c.args.hinter.now)
+    _ _ _ c.args.node.component _ _ _ _ _ (sym c.in_ok-metrics.ensures.value) (sym c.in_ok-bytes.ensures) (sym r)
+    (g.met.H.Hinter.leads_same _) v)
+
+pub returns-after-is_some-2-clause-leads : goal.returns-after-is_some-2-clause-leads
+returns-after-is_some-2-clause-leads g c =
+    let r = rw c.in-Simple.is at c.in_ok-read.ensures.exact in
+    let v = rw c.is_on-in-Simple.ensures at c.in_ok-simple_made-in-Simple.ensures.value in
+    let e = simple_runs (g.H.Hinter.hinting c.args.hinter.now) _ _ _ c.args.node.component _ _ _ _ _ _ _
+    (sym c.in_ok-metrics.ensures.value) (sym c.in_ok-bytes.ensures) (sym r) v in
+    let ran = rw c.code.ensures.value at c.in_ok-usage-in-Simple.ensures.leads in
+    rw e (elim c.if-is_some-2.branch [
+      | then-is_some-2 w ↦ rw w.hinter-is (g.met.H.Hinter.leads_then _ _ _ _ _ ran w.keep.ensures.leads)
+      | else-is_some-2 w ↦ rw w.hinter-is ran
+    ])

@@ -4,7 +4,7 @@ use Rattle.fx_hint.specs.inner.Steps.{opened}
 use Rattle.fx_hint.specs.declared.below.Waiting.{Waiting}
 use Rattle.fx_hint.proofs.Steps.{with_next, opens, joins, not_joined, runs, not_run, descends, not_descended, fills, not_filled, done}
 use Rattle.fx_hint.proofs.RunLaws.{logged_is, run_is, first_of_begun, first_of_closed, stops_here, stops_on}
-use Rattle.fx_hint.proofs.Totals.{points_with_one_more, begun_with_one_more, part_adds_points}
+use Rattle.fx_hint.proofs.Totals.{points_with_one_more, begun_with_one_more, component_adds_points}
 use Rattle.fx_hint.proofs.walk.Walk.closed.Goals as goal
 
 pub steps-init : goal.steps-init
@@ -15,7 +15,8 @@ steps-init g c = record {
     [],
     g.met.H.Hinter.leads_same _,
     rw (c.new-open.ensures, c.replace-base.ensures.value) (opens _ _ _ _ _
-        (opened None c.args.self.now.root c.args.glyph c.args.made.now) (c.args.count.now, []) c.new-below.ensures),
+        (opened (record { component = None; g = c.args.self.now.root }) c.args.glyph c.args.made.now)
+        (c.args.count.now, []) c.new-below.ensures),
   );
   deep = rw c.new-below.ensures (omega arith);
   few = c.requires.records;
@@ -26,14 +27,14 @@ steps-init g c = record {
   points = c.requires.points;
 }
 
-pub add_part-requires : goal.add_part-requires
-add_part-requires g c =
+pub add_component-requires : goal.add_component-requires
+add_component-requires g c =
     let n = c.in_ok-begun_component-in-Some.ensures.points in
     let m = c.steps.invariant.counted in
     omega (arith, n.0, n.1, m)
 
-pub add_part-requires-in-Some-pop : goal.add_part-requires-in-Some-pop
-add_part-requires-in-Some-pop g c =
+pub add_component-requires-in-Some-pop : goal.add_component-requires-in-Some-pop
+add_component-requires-in-Some-pop g c =
     let ran = c.in_ok-run_on-in-None.ensures.points in
     let all = rw c.in-Some-pop.ensures at c.steps.invariant.counted in
     let one = points_with_one_more c.pop.new.self c.in-Some-pop.waiting in
@@ -45,22 +46,22 @@ returns-in_err-begun_component-in-Some-clause-walks g c =
     let p = err_from_is_err_and c.from_residual.result c.from_residual.ensures.1 in
     let v = rw c.steps.invariant.kept at c.in_err-begun_component-in-Some.ensures.value in
     let led = rw c.steps.invariant.kept at c.in_err-begun_component-in-Some.ensures.leads in
-    let f = first_of_begun _ _ _ _ _ _ c.steps.open c.in-Some.part c.next.new.self _ _ _ _
-    c.steps.invariant.ran.2 c.in-Some.ensures.steps c.levels_below-levels.ensures
+    let f = first_of_begun _ _ _ _ _ _ c.steps.open c.in-Some.component c.next.new.self _ _ _ _
+    c.steps.invariant.ran.2 c.in-Some.ensures.steps c.levels-levels.ensures
     (logged_is _ _ _ _ _ _ _ _ c.steps.invariant.ran.0 _ refl) in
     rw (p.1, p.2) (stops_on g.H.Hinter.Leads g.met.H.Hinter.leads_then _ _ _ _ c.in_err-begun_component-in-Some.field-0.0 _
     c.steps.invariant.ran.0 _ _ _ c.steps.invariant.ran.1 led f v
-    (λ e b. not_descended _ _ _ _ _ _ c.steps.open c.in-Some.part c.next.new.self _ _ _
-    c.steps.invariant.ran.2 c.in-Some.ensures.steps c.levels_below-levels.ensures
+    (λ e b. not_descended _ _ _ _ _ _ c.steps.open c.in-Some.component c.next.new.self _ _ _
+    c.steps.invariant.ran.2 c.in-Some.ensures.steps c.levels-levels.ensures
     (logged_is _ _ _ _ _ _ _ _ c.steps.invariant.ran.0 _ b)))
 
 pub steps-preserved-in-Continue-branch-3 : goal.steps-preserved-in-Continue-branch-3
 steps-preserved-in-Continue-branch-3 g c =
     let v = rw (c.steps.invariant.kept, c.in-None-2.is) at c.in_ok-begun_component-in-Some.ensures.value in
-    let a = rw c.is_on-on.ensures at c.in_ok-add_part-in-None-2.ensures in
+    let a = rw c.is_on-on.ensures at c.in_ok-add_component-in-None-2.ensures in
     let m = c.steps.invariant.counted in
     let n = c.in_ok-begun_component-in-Some.ensures.points in
-    let s = part_adds_points _ _ _ _ _ _ _ a in
+    let s = component_adds_points _ _ _ _ _ _ _ a in
     let led = rw c.steps.invariant.kept at c.in_ok-begun_component-in-Some.ensures.leads in
     let lv = logged_is _ _ _ _ _ _ _ _ c.steps.invariant.ran.0 _ v in
     record {
@@ -69,8 +70,8 @@ steps-preserved-in-Continue-branch-3 g c =
       ran = (
         _,
         g.met.H.Hinter.leads_then _ _ _ _ _ c.steps.invariant.ran.1 led,
-        fills _ _ _ _ _ _ c.steps.open c.in-Some.part c.next.new.self _ _ _ _ _
-            c.steps.invariant.ran.2 c.in-Some.ensures.steps c.levels_below-levels.ensures lv a,
+        fills _ _ _ _ _ _ c.steps.open c.in-Some.component c.next.new.self _ _ _ _ _
+            c.steps.invariant.ran.2 c.in-Some.ensures.steps c.levels-levels.ensures lv a,
       );
       deep = c.steps.invariant.deep;
       few = c.in_ok-begun_component-in-Some.ensures.records.1;
@@ -81,25 +82,25 @@ steps-preserved-in-Continue-branch-3 g c =
       points = n.1;
     }
 
-pub returns-in_err-add_part-in-None-2-clause-walks : goal.returns-in_err-add_part-in-None-2-clause-walks
-returns-in_err-add_part-in-None-2-clause-walks g c =
-    let p = err_from_is_err_and c.from_residual-in_err-add_part-in-None-2.result
-    c.from_residual-in_err-add_part-in-None-2.ensures.1 in
+pub returns-in_err-add_component-in-None-2-clause-walks : goal.returns-in_err-add_component-in-None-2-clause-walks
+returns-in_err-add_component-in-None-2-clause-walks g c =
+    let p = err_from_is_err_and c.from_residual-in_err-add_component-in-None-2.result
+    c.from_residual-in_err-add_component-in-None-2.ensures.1 in
     let v = rw (c.steps.invariant.kept, c.in-None-2.is) at c.in_ok-begun_component-in-Some.ensures.value in
-    let a = rw c.is_on-on.ensures at c.in_err-add_part-in-None-2.ensures in
+    let a = rw c.is_on-on.ensures at c.in_err-add_component-in-None-2.ensures in
     let led = rw c.steps.invariant.kept at c.in_ok-begun_component-in-Some.ensures.leads in
     let lv = logged_is _ _ _ _ _ _ _ _ c.steps.invariant.ran.0 _ v in
-    let f = first_of_begun _ _ _ _ _ _ c.steps.open c.in-Some.part c.next.new.self _ _ _ _
-    c.steps.invariant.ran.2 c.in-Some.ensures.steps c.levels_below-levels.ensures
+    let f = first_of_begun _ _ _ _ _ _ c.steps.open c.in-Some.component c.next.new.self _ _ _ _
+    c.steps.invariant.ran.2 c.in-Some.ensures.steps c.levels-levels.ensures
     (logged_is _ _ _ _ _ _ _ _ c.steps.invariant.ran.0 _ refl) in
-    rw (p.1, p.2) (stops_here g.H.Hinter.Leads _ _ _ c.in_err-add_part-in-None-2.field-0.0 _ _ _ _
+    rw (p.1, p.2) (stops_here g.H.Hinter.Leads _ _ _ c.in_err-add_component-in-None-2.field-0.0 _ _ _ _
     (g.met.H.Hinter.leads_then _ _ _ _ _ c.steps.invariant.ran.1 led) f a
-    (λ e b. not_filled _ _ _ _ _ _ c.steps.open c.in-Some.part c.next.new.self _ _ _ _ e
-    c.steps.invariant.ran.2 c.in-Some.ensures.steps c.levels_below-levels.ensures lv b))
+    (λ e b. not_filled _ _ _ _ _ _ c.steps.open c.in-Some.component c.next.new.self _ _ _ _ e
+    c.steps.invariant.ran.2 c.in-Some.ensures.steps c.levels-levels.ensures lv b))
 
 pub steps-preserved-in-Some-2 : goal.steps-preserved-in-Some-2
 steps-preserved-in-Some-2 g c =
-    let w : Waiting = record { part = c.in-Some.part; composite = with_next c.steps.open c.next.new.self } in
+    let w : Waiting = record { component = c.in-Some.component; composite = with_next c.steps.open c.next.new.self } in
     let v = rw (c.steps.invariant.kept, c.in-Some-2.is) at c.in_ok-begun_component-in-Some.ensures.value in
     let one = length-append c.steps.below (w ∷ []) in
     let level = c.in_ok-begun_component-in-Some.ensures.level in
@@ -115,8 +116,8 @@ steps-preserved-in-Some-2 g c =
       ran = (
         _,
         g.met.H.Hinter.leads_then _ _ _ _ _ c.steps.invariant.ran.1 led,
-        descends _ _ _ _ _ _ _ c.steps.open c.in-Some.part c.next.new.self _ _ _ _
-            c.steps.invariant.ran.2 c.in-Some.ensures.steps c.levels_below-levels.ensures lv c.in_ok-push-in-Some-2.ensures,
+        descends _ _ _ _ _ _ _ c.steps.open c.in-Some.component c.next.new.self _ _ _ _
+            c.steps.invariant.ran.2 c.in-Some.ensures.steps c.levels-levels.ensures lv c.in_ok-push-in-Some-2.ensures,
       );
       deep = rw c.in_ok-push-in-Some-2.ensures (omega arith);
       few = c.in_ok-begun_component-in-Some.ensures.records.1;
@@ -131,8 +132,8 @@ pub returns-in_err-push-in-Some-2-clause-walks : goal.returns-in_err-push-in-Som
 returns-in_err-push-in-Some-2-clause-walks g c =
     let p = err_from_is_err_and c.from_residual-in_err-push-in-Some-2.result c.from_residual-in_err-push-in-Some-2.ensures.1 in
     let led = rw c.steps.invariant.kept at c.in_ok-begun_component-in-Some.ensures.leads in
-    let f = first_of_begun _ _ _ _ _ _ c.steps.open c.in-Some.part c.next.new.self _ _ _ _
-    c.steps.invariant.ran.2 c.in-Some.ensures.steps c.levels_below-levels.ensures
+    let f = first_of_begun _ _ _ _ _ _ c.steps.open c.in-Some.component c.next.new.self _ _ _ _
+    c.steps.invariant.ran.2 c.in-Some.ensures.steps c.levels-levels.ensures
     (logged_is _ _ _ _ _ _ _ _ c.steps.invariant.ran.0 _ refl) in
     rw (p.1, p.2) (record { by = (_, g.met.H.Hinter.leads_then _ _ _ _ _ c.steps.invariant.ran.1 led, f) })
 
@@ -160,13 +161,13 @@ returns-in-None-pop-clause-walks g c =
 pub steps-preserved : goal.steps-preserved
 steps-preserved g c =
     let v = rw (c.steps.invariant.kept, c.code-code.ensures.value) at c.in_ok-run_on-in-None.ensures.value in
-    let j = rw c.is_on-on.ensures at c.in_ok-add_part-in-Some-pop.ensures in
+    let j = rw c.is_on-on.ensures at c.in_ok-add_component-in-Some-pop.ensures in
     let n = length-append c.pop.new.self (c.in-Some-pop.waiting ∷ []) in
     let d = rw c.in-Some-pop.ensures at c.steps.invariant.deep in
     let kept = c.in_ok-run_on-in-None.ensures.points in
     let all = rw c.in-Some-pop.ensures at c.steps.invariant.counted in
     let one = points_with_one_more c.pop.new.self c.in-Some-pop.waiting in
-    let s = part_adds_points _ _ _ _ _ _ _ j in
+    let s = component_adds_points _ _ _ _ _ _ _ j in
     let b = begun_with_one_more c.pop.new.self c.in-Some-pop.waiting in
     let numbers = rw c.in-Some-pop.ensures at c.steps.invariant.numbered in
     let led = rw c.code-code.ensures.value at c.in_ok-run_on-in-None.ensures.leads in
@@ -187,17 +188,17 @@ steps-preserved g c =
       points = let few = c.steps.invariant.points in omega (arith, few, kept.1);
     }
 
-pub returns-in_err-add_part-in-Some-pop-clause-walks : goal.returns-in_err-add_part-in-Some-pop-clause-walks
-returns-in_err-add_part-in-Some-pop-clause-walks g c =
-    let p = err_from_is_err_and c.from_residual-in_err-add_part-in-Some-pop.result
-    c.from_residual-in_err-add_part-in-Some-pop.ensures.1 in
+pub returns-in_err-add_component-in-Some-pop-clause-walks : goal.returns-in_err-add_component-in-Some-pop-clause-walks
+returns-in_err-add_component-in-Some-pop-clause-walks g c =
+    let p = err_from_is_err_and c.from_residual-in_err-add_component-in-Some-pop.result
+    c.from_residual-in_err-add_component-in-Some-pop.ensures.1 in
     let v = rw (c.steps.invariant.kept, c.code-code.ensures.value) at c.in_ok-run_on-in-None.ensures.value in
     let led = rw c.code-code.ensures.value at c.in_ok-run_on-in-None.ensures.leads in
     let lv = run_is _ _ _ _ _ _ c.steps.invariant.ran.0 _ v in
     let ran = runs _ _ _ _ _ _ c.steps.open _ _ _ _ c.steps.invariant.ran.2 c.in-None.ensures.steps.0 lv in
-    let j = rw c.is_on-on.ensures at c.in_err-add_part-in-Some-pop.ensures in
+    let j = rw c.is_on-on.ensures at c.in_err-add_component-in-Some-pop.ensures in
     let f = first_of_closed _ _ _ _ _ _ c.steps.open _ _ _ _ c.steps.invariant.ran.2 c.in-None.ensures.steps.0
     (run_is _ _ _ _ _ _ c.steps.invariant.ran.0 _ refl) in
-    rw (p.1, p.2) (stops_here g.H.Hinter.Leads _ _ _ c.in_err-add_part-in-Some-pop.field-0.0 _ _ _ _
+    rw (p.1, p.2) (stops_here g.H.Hinter.Leads _ _ _ c.in_err-add_component-in-Some-pop.field-0.0 _ _ _ _
     (g.met.H.Hinter.leads_then _ _ _ _ _ c.steps.invariant.ran.1 led) f j
     (λ e b. not_joined _ _ _ _ _ _ _ _ _ _ e ran c.in-Some-pop.ensures b))

@@ -16,7 +16,7 @@ invariant-steps g l = record {
       (logged_left (g.H.Hinter.hinting l.fn.hinter) l.self.font.now l.self.scale.now l.self.root (max_depth - length l.below)
       l.open (l.count, runs))
       ≡ logged_left (g.H.Hinter.hinting l.fn.hinter) l.self.font.now l.self.scale.now l.self.root max_depth
-      (opened None l.self.root l.fn.glyph l.fn.made) (l.fn.count, []));
+      (opened (record { component = None; g = l.self.root }) l.fn.glyph l.fn.made) (l.fn.count, []));
   deep : length l.below ≤ max_depth;
   few : l.count.records ≤ max_components;
   numbered : begun_waiting l.below + l.open.before ≤ l.count.records;

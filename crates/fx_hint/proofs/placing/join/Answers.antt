@@ -1,6 +1,6 @@
 use Rattle.std.proofs.Common.{sym, ◌∙◌}
 use Rattle.fx_hint.proofs.Joined.{after_empty}
-use Rattle.fx_hint.proofs.part.join.Goals as goal
+use Rattle.fx_hint.proofs.placing.join.Goals as goal
 
 pub returns-then-len-eq0 : goal.returns-then-len-eq0
 returns-then-len-eq0 c =

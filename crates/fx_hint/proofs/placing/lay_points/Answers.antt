@@ -2,8 +2,8 @@ use Rattle.std.proofs.Common.{ap, arith, ◌∙◌, ◌<◌, length, List, get_o
 use Rattle.fx_zone.specs.declared.point.ZonePoint.{ZonePoint}
 use Rattle.fx_zone.specs.Figures.{Figure}
 use Rattle.fx_zone.proofs.Laying.{more_written}
-use Rattle.fx_hint.specs.Parts.{laid}
-use Rattle.fx_hint.proofs.part.lay_points.Goals as goal
+use Rattle.fx_hint.specs.Placing.{laid}
+use Rattle.fx_hint.proofs.placing.lay_points.Goals as goal
 
 pub points-preserved : goal.points-preserved
 points-preserved c =
@@ -13,9 +13,10 @@ points-preserved c =
     ∙ ap (λ (ps : List ZonePoint). get_or ps c.points.number c.index-points-number.result) c.points-in-points.ensures in
     record {
       points = ap (λ (f : Figure). f.points) c.set.ensures.value
-          ∙ more_written (laid c.args.part.now c.args.offset.now) c.args.zone.now.points c.points.zone.points c.points.number
+          ∙ more_written (laid c.args.component.now c.args.offset.now) c.args.zone.now.points c.points.zone.points c.points.number
           c.resting-point.result c.index-points-number.result inside c.points.invariant.points
-          (rw (c.plus.ensures, c.turned.ensures) at c.resting-point.ensures ∙ ap (laid c.args.part.now c.args.offset.now) read);
+          (rw (c.plus.ensures, c.turned.ensures) at c.resting-point.ensures
+          ∙ ap (laid c.args.component.now c.args.offset.now) read);
       ends = ap (λ (f : Figure). f.ends) c.set.ensures.value ∙ c.points.invariant.ends;
       count = c.set.ensures.shape.points ∙ c.points.invariant.count;
     }

@@ -1,7 +1,7 @@
 use Rattle.std.proofs.Common.{FitsSigned, rules}
 use Rattle.std.specs.Int.{w16, w32}
 use Rattle.fx_hint.proofs.Multiplying.{product_is, product_size}
-use Rattle.fx_hint.proofs.part.product.Goals as goal
+use Rattle.fx_hint.proofs.placing.product.Goals as goal
 
 pub returns-clause-value : goal.returns-clause-value
 returns-clause-value c =
