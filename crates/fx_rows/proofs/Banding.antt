@@ -232,16 +232,18 @@ with_later zero n h = absurd (omega (arith, h))
 with_later (suc r) n h = refl
 
 -- the tests of the rows before u and of those before v, and with the first row n more for each piece
-pub bands_more : {X : Type 0} (old now new c n u v : ℕ) (ps qs : List X) → ps ≡ qs → u < v
+pub bands_more : {X : Type 0} (old now new c n u h v : ℕ) (ps qs : List X) → ps ≡ qs → u < v → u + h ≡ v
     → now + length qs * with_first u n ≤ old + (length qs * (c * u) + length qs * n)
-    → new ≤ now + length ps * (c * (v - u) + with_first u n)
+    → new ≤ now + length ps * (c * h + with_first u n)
     → new + length qs * with_first v n ≤ old + (length qs * (c * v) + length qs * n)
-bands_more old now new c n u v ps qs same some before more =
+bands_more old now new c n u h v ps qs same some high before more =
     let p = length qs in
+    let rows : h ≡ v - u = omega (arith, high) in
     let none : p * with_first v n ≡ 0 = ap (λ x. p * x) (with_later v n (omega (arith, some))) ∙ omega arith in
     let all = tests_more p c u v (omega (arith, some)) in
-    let sum : length ps * (c * (v - u) + with_first u n) ≡ p * (c * (v - u)) + p * with_first u n =
-    ap (λ xs. length xs * (c * (v - u) + with_first u n)) same ∙ omega arith in
+    let sum : length ps * (c * h + with_first u n) ≡ p * (c * (v - u)) + p * with_first u n =
+    ap (λ k. length ps * (c * k + with_first u n)) rows ∙ ap (λ xs. length xs * (c * (v - u) + with_first u n)) same
+    ∙ omega arith in
     omega (arith, none, all, sum, before, more)
 
 pub tests_fit : (p c u h d : ℕ) → u ≤ h → p * (c * u) ≤ p * h * (6 * d + c)

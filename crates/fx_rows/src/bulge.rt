@@ -9,7 +9,8 @@ ghost use Rattle.fx_winding.specs.Notes.{words_noted as words_noted_of, IsNotedA
 ghost use Rattle.fx_winding.specs.Winding.{span_of};
 ghost use Rattle.fx_rows.specs.inner.Bands.{bounded_span, AreInner};
 ghost use Rattle.fx_rows.specs.inner.Strips.{base_place};
-ghost use Rattle.fx_rows.specs.inner.Lines.{AreOnly, AreRowsSet, AreSetIn, IsAcrossBit, IsLineBit, IsRowSet, IsRowsBit, IsUpBit};
+ghost use Rattle.fx_rows.specs.inner.Lines.{AreOnly, AreRowsSet, AreSetIn, HaveRoom, IsAcrossBit, IsLineBit, IsRowSet, IsRowsBit};
+ghost use Rattle.fx_rows.specs.inner.Lines.{IsUpBit};
 ghost use Rattle.fx_rows.specs.inner.Telling.{with_first};
 ghost use Rattle.fx_rows.specs.inner.Told.{AreKept};
 
@@ -19,9 +20,8 @@ use crate::chord::base_side;
 use crate::cuts::{Cuts, LineCuts};
 use crate::heights::{RowRange, rows_between, rows_met};
 use crate::intervals::met_part;
-use crate::noted_row::{
-    NotedRow, note_end, note_first, note_last, note_run, note_tip, set_segment,
-};
+use crate::noted_row::{note_end, note_first, note_last, note_run, note_tip, set_segment};
+use crate::noted_rows::{NotedRow, NotedRows};
 use crate::part::Run;
 use crate::strip::{areas_at, row_of, strip_of};
 use crate::walk::arc_in;
@@ -127,156 +127,109 @@ pub(crate) fn note_line(bounded: &Bounded, line: NotedRow, bits: &mut [u32], tal
     note_last(piece, bounded.across, line, bits, tally);
 }
 
-/// Notes the segments of some rows of a frame that a piece meets. The bits of a row begin `row_step` bits after those of the row
-/// below.
+/// Notes the segments of some rows that a piece meets.
 pub(crate) fn note_met_lines(
     bounded: &Bounded,
     rows: RowRange,
-    frame: Frame,
-    row_step: usize,
-    step: usize,
+    lines: NotedRows,
     bits: &mut [u32],
     tally: &mut Tally,
 )
-    requires margin { HasMargin frame }
-    requires rows { rows.end ≤ frame.height }
-    requires row_few { row_step ≤ 2 ^ 16 }
-    requires few { step ≤ 2 ^ 16 }
-    requires room { (r : ℕ) → r < frame.height → r * row_step + frame.width * step < 32 * length bits.old }
-    ensures noted { (r : ℕ) → rows.first ≤ r → r < rows.end →
-        IsRowSet (bounded_span bounded.now) frame (frame.bottom +ℤ pos r) (r * row_step) step bits.new }
+    requires rows { rows.end ≤ lines.frame.height }
+    requires room { HaveRoom lines bits.old }
+    ensures noted { (r : ℕ) → rows.first ≤ r → r < rows.end → IsRowSet (bounded_span bounded.now) lines.frame
+        (lines.frame.bottom +ℤ pos r) (r * lines.row_step) lines.step bits.new }
     ensures kept { AreKept bits.old bits.new }
-    ensures only { AreOnly (IsRowsBit (bounded_span bounded.now) frame row_step step) bits.old bits.new }
+    ensures only { AreOnly (IsRowsBit (bounded_span bounded.now) lines.frame lines.row_step lines.step) bits.old bits.new }
     ensures count { tally.new.count ≤ tally.old.count + 55 * (rows.end - rows.first) }
 {
     // The segments of the rows before `up` are noted.
     'rows: for up in rows.first..rows.end {
-        let line = NotedRow {
-            frame,
-            row: row_of(frame, up),
-            first: up as usize * row_step,
-            step,
-        };
-        note_line(bounded, line, bits, tally);
+        note_line(bounded, lines.row(up), bits, tally);
     }
 }
 
-/// Notes the segments that a piece meets in rows of a frame that are between its ends, each before the end of a cut. It is compiled
-/// once for each kind of cuts.
+/// Notes the segments that a piece meets in rows that are between its ends, each before the end of a cut. It is compiled once for
+/// each kind of cuts.
 fn note_cuts<C: Cuts + Drop>(
     bounded: &Bounded,
     cuts: C,
     rows: RowRange,
-    frame: Frame,
-    row_step: usize,
-    step: usize,
+    lines: NotedRows,
     bits: &mut [u32],
     tally: &mut Tally,
 )
-    requires margin { HasMargin frame }
-    requires rows { rows.end ≤ frame.height }
-    requires inner { AreInner bounded.now frame rows.first rows.end }
-    requires at { C.AreAt cuts bounded.now (base_place frame rows.first) }
-    requires low { frame.left ≤ℤ bounded.now.across.first }
-    requires high { bounded.now.across.end ≤ℤ (frame.left +ℤ pos frame.width) }
-    requires row_few { row_step ≤ 2 ^ 16 }
-    requires few { step ≤ 2 ^ 16 }
-    requires room { (r : ℕ) → r < frame.height → r * row_step + frame.width * step < 32 * length bits.old }
+    requires rows { rows.end ≤ lines.frame.height }
+    requires inner { AreInner bounded.now lines.frame rows.first rows.end }
+    requires at { C.AreAt cuts bounded.now (base_place lines.frame rows.first) }
+    requires low { lines.frame.left ≤ℤ bounded.now.across.first }
+    requires high { bounded.now.across.end ≤ℤ (lines.frame.left +ℤ pos lines.frame.width) }
+    requires room { HaveRoom lines bits.old }
     ensures noted { (r : ℕ) → rows.first ≤ r → r < rows.end →
-        AreSetIn (bounded_span bounded.now) frame r (r * row_step) step bits.new }
+        AreSetIn (bounded_span bounded.now) lines.frame r (r * lines.row_step) lines.step bits.new }
     ensures kept { AreKept bits.old bits.new }
-    ensures only { AreOnly (IsRowsBit (bounded_span bounded.now) frame row_step step) bits.old bits.new }
+    ensures only { AreOnly (IsRowsBit (bounded_span bounded.now) lines.frame lines.row_step lines.step) bits.old bits.new }
     ensures count { tally.new.count ≤ tally.old.count + (rows.end - rows.first) }
 {
     let mut cuts = cuts;
     // The segments of the rows before `up` are noted, and the cuts stand at this row.
     'rows: for up in rows.first..rows.end {
-        let row = row_of(frame, up);
-        let strip = strip_of(frame, row);
+        let line = lines.row(up);
+        let strip = strip_of(lines.frame, line.row);
         let cut = cuts.cut(bounded, strip, tally);
-        let line = NotedRow {
-            frame,
-            row,
-            first: up as usize * row_step,
-            step,
-        };
         set_segment(line, cut.end.saturating_sub(strip.start), bits);
         cuts.move_up(bounded, strip);
     }
 }
 
-/// Notes the segments that a piece meets in rows of a frame that are between its ends.
+/// Notes the segments that a piece meets in rows that are between its ends.
 fn note_passed_lines(
     bounded: &Bounded,
     rows: RowRange,
-    frame: Frame,
-    row_step: usize,
-    step: usize,
+    lines: NotedRows,
     bits: &mut [u32],
     tally: &mut Tally,
 )
-    requires margin { HasMargin frame }
-    requires rows { rows.end ≤ frame.height }
-    requires inner { AreInner bounded.now frame rows.first rows.end }
-    requires low { frame.left ≤ℤ bounded.now.across.first }
-    requires high { bounded.now.across.end ≤ℤ (frame.left +ℤ pos frame.width) }
-    requires row_few { row_step ≤ 2 ^ 16 }
-    requires few { step ≤ 2 ^ 16 }
-    requires room { (r : ℕ) → r < frame.height → r * row_step + frame.width * step < 32 * length bits.old }
+    requires rows { rows.end ≤ lines.frame.height }
+    requires inner { AreInner bounded.now lines.frame rows.first rows.end }
+    requires low { lines.frame.left ≤ℤ bounded.now.across.first }
+    requires high { bounded.now.across.end ≤ℤ (lines.frame.left +ℤ pos lines.frame.width) }
+    requires room { HaveRoom lines bits.old }
     ensures noted { (r : ℕ) → rows.first ≤ r → r < rows.end →
-        AreSetIn (bounded_span bounded.now) frame r (r * row_step) step bits.new }
+        AreSetIn (bounded_span bounded.now) lines.frame r (r * lines.row_step) lines.step bits.new }
     ensures kept { AreKept bits.old bits.new }
-    ensures only { AreOnly (IsRowsBit (bounded_span bounded.now) frame row_step step) bits.old bits.new }
+    ensures only { AreOnly (IsRowsBit (bounded_span bounded.now) lines.frame lines.row_step lines.step) bits.old bits.new }
     ensures count { tally.new.count ≤ tally.old.count + 3 * (rows.end - rows.first) }
 {
     if rows.first >= rows.end {
         return;
     }
     let piece = &bounded.piece;
-    let strip = strip_of(frame, row_of(frame, rows.first));
+    let strip = strip_of(lines.frame, row_of(lines.frame, rows.first));
     if let Some(cuts) = arc_in(piece, strip, tally) {
-        note_cuts(bounded, cuts, rows, frame, row_step, step, bits, tally);
+        note_cuts(bounded, cuts, rows, lines, bits, tally);
         return;
     }
     let areas = areas_at(piece, strip, 0, tally);
     let side = base_side(piece, strip, areas);
-    note_cuts(
-        bounded,
-        LineCuts { side },
-        rows,
-        frame,
-        row_step,
-        step,
-        bits,
-        tally,
-    );
+    note_cuts(bounded, LineCuts { side }, rows, lines, bits, tally);
 }
 
 /// Notes the segments of a frame's rows that a piece meets.
-fn note_lines(
-    piece: &Piece,
-    frame: Frame,
-    row_step: usize,
-    step: usize,
-    bits: &mut [u32],
-    tally: &mut Tally,
-)
-    requires margin { HasMargin frame }
-    requires row_few { row_step ≤ 2 ^ 16 }
-    requires few { step ≤ 2 ^ 16 }
-    requires room { (r : ℕ) → r < frame.height → r * row_step + frame.width * step < 32 * length bits.old }
-    ensures noted { AreRowsSet (span_of piece.now) frame row_step step bits.new }
+fn note_lines(piece: &Piece, lines: NotedRows, bits: &mut [u32], tally: &mut Tally)
+    requires { HaveRoom lines bits.old }
+    ensures noted { AreRowsSet (span_of piece.now) lines.frame lines.row_step lines.step bits.new }
     ensures kept { AreKept bits.old bits.new }
-    ensures only { AreOnly (IsRowsBit (span_of piece.now) frame row_step step) bits.old bits.new }
-    ensures count { tally.new.count ≤ tally.old.count + 55 * frame.height }
+    ensures only { AreOnly (IsRowsBit (span_of piece.now) lines.frame lines.row_step lines.step) bits.old bits.new }
+    ensures count { tally.new.count ≤ tally.old.count + 55 * lines.frame.height }
 {
     let bounded = bounds_of(piece, rise_of(piece));
-    let rows = rows_met(piece, frame);
-    if !has_columns(frame, bounded.across) {
-        note_met_lines(&bounded, rows, frame, row_step, step, bits, tally);
+    let rows = rows_met(piece, lines.frame);
+    if !has_columns(lines.frame, bounded.across) {
+        note_met_lines(&bounded, rows, lines, bits, tally);
         return;
     }
-    let inner = rows_between(bounded.rise, frame, rows);
+    let inner = rows_between(bounded.rise, lines.frame, rows);
     let below = RowRange {
         first: rows.first,
         end: inner.first,
@@ -285,9 +238,9 @@ fn note_lines(
         first: inner.end,
         end: rows.end,
     };
-    note_met_lines(&bounded, below, frame, row_step, step, bits, tally);
-    note_passed_lines(&bounded, inner, frame, row_step, step, bits, tally);
-    note_met_lines(&bounded, above, frame, row_step, step, bits, tally);
+    note_met_lines(&bounded, below, lines, bits, tally);
+    note_passed_lines(&bounded, inner, lines, bits, tally);
+    note_met_lines(&bounded, above, lines, bits, tally);
 }
 
 /// Notes the segments that a piece meets across all rows, with the first band.
@@ -309,8 +262,12 @@ pub(crate) fn note_all_across(
     if rows.first > 0 {
         return;
     }
-    let row = 32 * words_noted(frame.width);
-    note_lines(piece, frame, row, 1, across, tally);
+    let lines = NotedRows {
+        frame,
+        row_step: 32 * words_noted(frame.width),
+        step: 1,
+    };
+    note_lines(piece, lines, across, tally);
 }
 
 /// Notes the segments that a piece meets up to all rows, with the first band, as those across rows of the piece with its
@@ -333,6 +290,10 @@ pub(crate) fn note_all_up(
     if rows.first > 0 {
         return;
     }
-    let row = 32 * words_noted(frame.width);
-    note_lines(&piece.turned(), frame.turned(), 1, row, up, tally);
+    let lines = NotedRows {
+        frame: frame.turned(),
+        row_step: 1,
+        step: 32 * words_noted(frame.width),
+    };
+    note_lines(&piece.turned(), lines, up, tally);
 }

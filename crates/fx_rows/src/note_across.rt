@@ -15,6 +15,7 @@ ghost use Rattle.fx_rows.specs.inner.Upward.{column_of};
 use crate::bounded::{bounds_of, rise_of};
 use crate::bulge::note_met_lines;
 use crate::heights::RowRange;
+use crate::noted_rows::NotedRows;
 use crate::piece_in_band::{PieceInBand, copied, first_of};
 use crate::reach::columns_under;
 use fx_winding::{Frame, Piece, Tally, first_from, set_bit, words_noted};
@@ -64,7 +65,11 @@ fn note_others(piece: &Piece, placed: PieceInBand, across: &mut [u32], tally: &m
     let touched = placed.met.touched;
     let inner = placed.met.inner;
     let bounded = bounds_of(piece, rise_of(piece));
-    let row = 32 * words_noted(placed.frame.width);
+    let lines = NotedRows {
+        frame: placed.frame,
+        row_step: 32 * words_noted(placed.frame.width),
+        step: 1,
+    };
     let below = RowRange {
         first: touched.first,
         end: inner.first,
@@ -73,8 +78,8 @@ fn note_others(piece: &Piece, placed: PieceInBand, across: &mut [u32], tally: &m
         first: inner.end,
         end: touched.end,
     };
-    note_met_lines(&bounded, below, placed.frame, row, 1, across, tally);
-    note_met_lines(&bounded, above, placed.frame, row, 1, across, tally);
+    note_met_lines(&bounded, below, lines, across, tally);
+    note_met_lines(&bounded, above, lines, across, tally);
 }
 
 /// Notes the segments that a piece meets across a band's rows. `ends` has its column in each row between its ends.

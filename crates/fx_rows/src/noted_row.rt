@@ -2,8 +2,6 @@
 
 ghost use Rattle.std.specs.Prelude.{◌≡◌, ◌⊎◌, ℕ, ℤ, ◌+◌, ◌*◌, ◌^◌, ◌/◌, ◌<◌, ◌≤◌, length, pos, ◌+ℤ◌, ◌<ℤ◌, ◌↔◌, ◌≢◌, IsTrue};
 ghost use Rattle.fx_fixed.specs.Ranges.{IsWithin};
-ghost use Rattle.fx_winding.specs.Frames.{HasMargin};
-ghost use Rattle.fx_winding.specs.Limits.{IsPixelNumber};
 ghost use Rattle.fx_winding.specs.Meets.{turn, IsTipPart, IsWithinRow};
 ghost use Rattle.fx_winding.specs.Winding.{Span, IsOn, place_of, span_of};
 ghost use Rattle.fx_rows.specs.Parts.{IsRowPart};
@@ -15,26 +13,13 @@ ghost use Rattle.fx_rows.specs.inner.Told.{AreKept};
 use crate::across::Across;
 use crate::bounded::Rise;
 use crate::note_across::column_from;
+use crate::noted_rows::NotedRow;
 use crate::part::{RowPart, Run};
 use crate::reach::columns_under;
 use crate::strip::strip_of;
 use crate::tip::tip_column;
 use crate::turns::{is_among, is_between_ends, run_at, turn_in};
 use fx_winding::{Frame, Piece, Point, Tally, centre_of, meets, set_bit};
-
-/// A row of a frame, and where its segments have their bits: that to the frame's first column at `first`, and each further one
-/// `step` bits on.
-#[derive(Clone, Copy)]
-pub(crate) struct NotedRow {
-    pub frame: Frame,
-    pub row: i32,
-    pub first: usize,
-    pub step: usize,
-    ghost row_near: { IsPixelNumber row },
-    ghost margin: { HasMargin frame },
-    ghost low: { first ≤ 2 ^ 32 },
-    ghost few: { step ≤ 2 ^ 16 },
-}
 
 /// Sets the bit of the segment to a column.
 pub(crate) fn set_segment(line: NotedRow, k: u32, bits: &mut [u32])

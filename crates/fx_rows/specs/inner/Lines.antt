@@ -1,11 +1,12 @@
 -- The segments of a row, or of a column seen as a row, that a piece meets, and the bits that they have.
-use Rattle.std.specs.Prelude.{◌≡◌, ◌⊎◌, ℕ, ◌+◌, ◌*◌, ◌<◌, ◌≤◌, ℤ, pos, ◌+ℤ◌, ◌-ℤ◌, List, Option, Some, None}
+use Rattle.std.specs.Prelude.{◌≡◌, ◌⊎◌, ℕ, ◌+◌, ◌*◌, ◌<◌, ◌≤◌, ℤ, pos, ◌+ℤ◌, ◌-ℤ◌, List, Option, Some, None, length}
 use Rattle.fx_winding.specs.Area.{Place}
 use Rattle.fx_winding.specs.Bitmaps.{word_bit}
 use Rattle.fx_winding.specs.Meets.{IsMet}
 use Rattle.fx_winding.specs.Notes.{pixel_number, words_noted, IsMetAcross, IsMetUp}
 use Rattle.fx_winding.specs.Winding.{Span, IsOn, centre}
 use Rattle.fx_winding.specs.declared.frame.Frame.{Frame}
+use Rattle.fx_rows.specs.declared.noted_rows.NotedRows.{NotedRows}
 use Rattle.fx_rows.specs.declared.part.Run.{Run}
 
 -- the ends of the segment of a row that goes to a frame's column
@@ -56,6 +57,10 @@ pub record IsRowsBit (s : Span) (f : Frame) (row_step step n : ℕ) : Type 0 whe
   pub r : ℕ
   pub row : r < f.height
   pub line : IsLineBit s f (f.bottom +ℤ pos r) (r * row_step) step n
+
+-- a list has a bit for each segment of the rows
+abbrev pub HaveRoom : NotedRows → List ℕ → Type 0
+HaveRoom ls bits = (r : ℕ) → r < ls.frame.height → r * ls.row_step + ls.frame.width * ls.step < 32 * length bits
 
 -- a piece meets the segment up to a row in a column, unless an end of it is on the piece
 abbrev pub IsMetUnlessOn : Span → Frame → ℕ → ℕ → Type 0

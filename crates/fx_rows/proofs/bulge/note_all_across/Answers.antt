@@ -3,8 +3,8 @@ use Rattle.fx_rows.proofs.Bulges.{across_set}
 use Rattle.fx_rows.proofs.NotedSegments.{row_room}
 use Rattle.fx_rows.proofs.bulge.note_all_across.Goals as goal
 
-pub note_lines-requires-clause-room : goal.note_lines-requires-clause-room
-note_lines-requires-clause-room c = grind (arith, c.words_noted-row.ensures, c.requires.room, row_room)
+pub note_lines-requires : goal.note_lines-requires
+note_lines-requires c = grind (arith, c.words_noted.ensures, c.requires.room, row_room)
 
 pub returns-clause-noted : goal.returns-clause-noted
-returns-clause-noted c = grind (arith, c.words_noted-row.ensures, c.note_lines.ensures.noted, across_set)
+returns-clause-noted c = grind (arith, c.words_noted.ensures, c.note_lines.ensures.noted, across_set)

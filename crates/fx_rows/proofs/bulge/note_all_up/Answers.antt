@@ -12,20 +12,20 @@ pub returns-clause-noted : goal.returns-clause-noted
 returns-clause-noted c = λ z r l.
     let f = c.args.frame in
     let s = span_of c.args.piece.now in
-    let g = c.turned-2.result in
-    let at = c.turned-2.ensures in
-    let row : 32 * c.words_noted-row.result ≡ 32 * words_noted f.width = ap (λ (w : ℕ). 32 * w) c.words_noted-row.ensures in
+    let g = c.turned.result in
+    let at = c.turned.ensures in
+    let row : 32 * c.words_noted.result ≡ 32 * words_noted f.width = ap (λ (w : ℕ). 32 * w) c.words_noted.ensures in
     up_set s f g c.note_lines.new.bits at.left at.bottom at.width at.height (subst (λ z. z)
-    (λ i. AreRowsSet (c.turned.ensures i) g 1 (row i) c.note_lines.new.bits) c.note_lines.ensures.noted) r l
+    (λ i. AreRowsSet (c.turned-2.ensures i) g 1 (row i) c.note_lines.new.bits) c.note_lines.ensures.noted) r l
 
 pub returns-clause-only : goal.returns-clause-only
 returns-clause-only c =
     let f = c.args.frame in
     let s = span_of c.args.piece.now in
-    let g = c.turned-2.result in
-    let at = c.turned-2.ensures in
-    let row : 32 * c.words_noted-row.result ≡ 32 * words_noted f.width = ap (λ (w : ℕ). 32 * w) c.words_noted-row.ensures in
+    let g = c.turned.result in
+    let at = c.turned.ensures in
+    let row : 32 * c.words_noted.result ≡ 32 * words_noted f.width = ap (λ (w : ℕ). 32 * w) c.words_noted.ensures in
     only_more (IsRowsBit (turned_span s) g 1 (32 * words_noted f.width)) (IsUpBit s f) c.args.up.now c.note_lines.new.bits
     (λ n. up_bit s f g n at.left at.bottom at.width at.height)
-    (subst (λ z. z) (λ i. AreOnly (IsRowsBit (c.turned.ensures i) g 1 (row i)) c.args.up.now c.note_lines.new.bits)
+    (subst (λ z. z) (λ i. AreOnly (IsRowsBit (c.turned-2.ensures i) g 1 (row i)) c.args.up.now c.note_lines.new.bits)
     c.note_lines.ensures.only)

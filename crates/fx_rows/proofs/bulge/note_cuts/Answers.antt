@@ -1,10 +1,11 @@
-use Rattle.std.proofs.Common.{◌≡◌, ◌∙◌, ◌+◌, ◌*◌, ℕ, ℤ, pos, ◌+ℤ◌, refl, sym, subst, arith, w32, to_z, of_z}
+use Rattle.std.proofs.Common.{◌≡◌, ◌∙◌, ◌+◌, ◌*◌, ℕ, pos, ◌+ℤ◌, refl, ap, sym, subst, arith}
 use Rattle.fx_fixed.proofs.Linear.{signed_linear}
 use Rattle.fx_winding.specs.Bitmaps.{word_bit}
 use Rattle.fx_winding.specs.Winding.{Span, IsOn}
+use Rattle.fx_winding.specs.declared.frame.Frame.{Frame}
 use Rattle.fx_rows.specs.inner.Bands.{bounded_span}
 use Rattle.fx_rows.specs.inner.Lines.{left_at, right_at, AreOnly, AreSetIn, IsLineBit, IsMetTo, IsRowsBit, IsSetTo}
-use Rattle.fx_rows.specs.inner.Told.{IsEnd, IsEndOn}
+use Rattle.fx_rows.specs.inner.Told.{IsEnd}
 use Rattle.fx_rows.proofs.Bulges.{in_kept}
 use Rattle.fx_rows.proofs.Kept.{kept_both, rows_more, only_both, only_more}
 use Rattle.fx_rows.proofs.RowMeets.{met_end, end_met_too}
@@ -17,57 +18,66 @@ rows-init g c = grind (arith, c.requires.at)
 
 pub cut-cut-requires-clause-inner : goal.cut-cut-requires-clause-inner
 cut-cut-requires-clause-inner g c =
-    let at = strip_row c.strip_of-strip.result c.row_of-row.result _ c.row_of-row.ensures.near c.strip_of-strip.ensures.row
-    c.row_of-row.ensures.value in
-    inner_row c.args.bounded.now c.args.frame c.args.frame c.args.rows.first c.args.rows.end c.rows.up c.strip_of-strip.result.row
-    refl at c.requires.inner (omega arith) (omega arith)
+    let at = strip_row c.strip_of-strip.result c.row-line.result.row _ c.row-line.result.row_near c.strip_of-strip.ensures.row
+    c.row-line.ensures.row in
+    inner_row c.args.bounded.now c.args.lines.frame c.args.lines.frame c.args.rows.first c.args.rows.end c.rows.up
+    c.strip_of-strip.result.row refl at c.requires.inner (omega arith) (omega arith)
 
 pub cut-cut-requires-clause-at : goal.cut-cut-requires-clause-at
 cut-cut-requires-clause-at g c =
-    grind (arith, c.row_of-row.ensures, c.strip_of-strip.ensures, c.rows.invariant, strip_row, at_base)
+    grind (arith, c.row-line.ensures, c.row-line.result.row_near, c.strip_of-strip.ensures, c.rows.invariant, strip_row, at_base)
 
 pub set_segment-requires-clause-room : goal.set_segment-requires-clause-room
-set_segment-requires-clause-room g c = grind (arith, c.requires.room, c.requires.rows)
+set_segment-requires-clause-room g c = grind (arith, c.requires.room, c.requires.rows, c.row-line.ensures)
+
+pub set_segment-requires-clause-column : goal.set_segment-requires-clause-column
+set_segment-requires-clause-column g c =
+    let width = ap (λ (f : Frame). f.width) c.row-line.ensures.frame in
+    let end = c.saturating_sub.ensures in
+    let within = c.cut-cut.ensures.cut.within in
+    let first = c.strip_of-strip.ensures.first in
+    let last = c.strip_of-strip.ensures.last in
+    omega (arith, signed_linear, width, end, within, first, last)
 
 pub rows-preserved : goal.rows-preserved
 rows-preserved g c =
     let b = c.args.bounded.now in
     let s = bounded_span b in
-    let f = c.args.frame in
+    let f = c.args.lines.frame in
     let up = c.rows.up in
     let now = c.set_segment.new.bits in
+    let row_step = c.args.lines.row_step in
+    let step = c.args.lines.step in
     let end = c.saturating_sub.result in
-    let near = c.row_of-row.ensures.near in
-    let row : to_z w32 (of_z w32 c.row_of-row.result) ≡ f.bottom +ℤ pos up =
-    (omega (arith, signed_linear, near)) ∙ c.row_of-row.ensures.value in
+    let line = c.row-line.result in
+    let at_line = c.row-line.ensures in
     let strip = c.strip_of-strip.result in
-    let at = strip_row strip c.row_of-row.result _ near c.strip_of-strip.ensures.row c.row_of-row.ensures.value in
+    let at = strip_row strip line.row _ line.row_near c.strip_of-strip.ensures.row at_line.row in
     let value = c.cut-cut.ensures.value ∙ rise_told s _ _ _ b.rises in
-    let is_end = cut_end s f strip c.cut-cut.result _ _ (at ∙ sym row) c.strip_of-strip.ensures.first c.strip_of-strip.ensures.last
-    c.saturating_sub.ensures value c.cut-cut.ensures.cut in
+    let is : IsEnd s f up end = cut_end s f strip c.cut-cut.result _ _ at c.strip_of-strip.ensures.first
+    c.strip_of-strip.ensures.last c.saturating_sub.ensures value c.cut-cut.ensures.cut in
     let inner = c.requires.inner up (omega arith) (omega arith) in
-    let is : IsEnd s f up end = subst (λ (y : ℤ). IsEndOn s f y end) row is_end in
-    let set = subst (λ (y : ℤ). (t : Span) → IsSetTo t f y (up * c.args.row_step) c.args.step now end) row
-    c.set_segment.ensures.set in
-    let here : AreSetIn s f up (up * c.args.row_step) c.args.step now = λ k w met.
+    let set = subst (λ z. z) (λ i. (t : Span)
+    → IsSetTo t (at_line.frame i) (at_line.row i) (at_line.first i) (at_line.step i) now end) c.set_segment.ensures.set in
+    let here : AreSetIn s f up (up * row_step) step now = λ k w met.
     let e = met_end s f b.across.first b.across.end up end k b.between c.requires.low c.requires.high inner is w met in
-    subst (λ (j : ℕ). word_bit now (up * c.args.row_step + j * c.args.step) ≡ 1) (sym e)
+    subst (λ (j : ℕ). word_bit now (up * row_step + j * step) ≡ 1) (sym e)
     (set s (subst (λ (j : ℕ). IsMetTo s f (f.bottom +ℤ pos up) j) e met.met)) in
-    let only : AreOnly (IsLineBit s f (f.bottom +ℤ pos up) (up * c.args.row_step) c.args.step) c.rows.bits now =
-    subst (λ (y : ℤ). AreOnly (IsLineBit s f y (up * c.args.row_step) c.args.step) c.rows.bits now) row
-    (c.set_segment.ensures.only s (subst (λ (y : ℤ). ¬ (IsOn (left_at f y end) s) → ¬ (IsOn (right_at f y end) s)
-    → IsMetTo s f y end) (sym row) (λ off off'. (end_met_too s f b.across.first b.across.end up end b.between c.requires.low
-    c.requires.high inner is off off').met))) in
+    let only = subst (λ z. z) (λ i. (¬ (IsOn (left_at (at_line.frame i) (at_line.row i) end) s)
+    → ¬ (IsOn (right_at (at_line.frame i) (at_line.row i) end) s) → IsMetTo s (at_line.frame i) (at_line.row i) end)
+    → AreOnly (IsLineBit s (at_line.frame i) (at_line.row i) (at_line.first i) (at_line.step i)) c.rows.bits now)
+    (c.set_segment.ensures.only s) (λ off off'. (end_met_too s f b.across.first b.across.end up end b.between c.requires.low
+    c.requires.high inner is off off').met) in
     let n = c.cut-cut.ensures.count in
     let m = c.rows.invariant.count in
     record {
-      noted = rows_more (λ r. AreSetIn s f r (r * c.args.row_step) c.args.step now) c.args.rows.first up
-          (λ r l o. in_kept s f r (r * c.args.row_step) c.args.step c.rows.bits now c.set_segment.ensures.kept
+      noted = rows_more (λ r. AreSetIn s f r (r * row_step) step now) c.args.rows.first up
+          (λ r l o. in_kept s f r (r * row_step) step c.rows.bits now c.set_segment.ensures.kept
           (c.rows.invariant.noted r l o)) here;
       kept = kept_both _ _ _ c.rows.invariant.kept c.set_segment.ensures.kept;
-      only = only_both (IsRowsBit s f c.args.row_step c.args.step) _ _ _ c.rows.invariant.only
-          (only_more (IsLineBit s f (f.bottom +ℤ pos up) (up * c.args.row_step) c.args.step)
-          (IsRowsBit s f c.args.row_step c.args.step) c.rows.bits now
+      only = only_both (IsRowsBit s f row_step step) _ _ _ c.rows.invariant.only
+          (only_more (IsLineBit s f (f.bottom +ℤ pos up) (up * row_step) step)
+          (IsRowsBit s f row_step step) c.rows.bits now
           (λ n h. record { r = up; row = omega (arith, c.requires.rows); line = h }) only);
       count = omega (arith, n, m);
       at = λ h. at_base_above (g.C.Cuts.AreAt c.move_up.new.self b) f f strip up refl at c.strip_of-strip.ensures.base

@@ -9,44 +9,44 @@ use Rattle.fx_rows.proofs.bulge.note_lines.Goals as goal
 pub note_passed_lines-requires-clause-inner : goal.note_passed_lines-requires-clause-inner
 note_passed_lines-requires-clause-inner c =
     let b = c.bounds_of-bounded.result in
-    (between_of (span_of b.piece) b.rise.foot b.rise.head b.rise.value c.args.frame c.rows_met-rows.result
+    (between_of (span_of b.piece) b.rise.foot b.rise.head b.rise.value c.args.lines.frame c.rows_met-rows.result
     c.rows_between-inner.result b.rises c.rows_between-inner.ensures).inner
 
 pub returns-then-not-has_columns-clause-noted : goal.returns-then-not-has_columns-clause-noted
 returns-then-not-has_columns-clause-noted c =
-    let f = c.args.frame in
+    let f = c.args.lines.frame in
     let s = span_of c.bounds_of-bounded.result.piece in
     let rows = c.rows_met-rows.result in
     let bits = c.note_met_lines.new.bits in
     let same = ap span_of c.bounds_of-bounded.ensures.piece in
-    λ r o. all_rows_set (span_of c.args.piece.now) f 0 rows.first rows.end f.height c.args.row_step c.args.step bits
+    λ r o. all_rows_set (span_of c.args.piece.now) f 0 rows.first rows.end f.height c.args.lines.row_step c.args.lines.step bits
     (λ r l. c.rows_met-rows.ensures.below r) c.rows_met-rows.ensures.above
-    (λ r l m. subst (λ (t : Span). AreSetIn t f r (r * c.args.row_step) c.args.step bits) same
-    (set_in s f r (r * c.args.row_step) c.args.step bits (c.note_met_lines.ensures.noted r l m))) r (omega arith) o
+    (λ r l m. subst (λ (t : Span). AreSetIn t f r (r * c.args.lines.row_step) c.args.lines.step bits) same
+    (set_in s f r (r * c.args.lines.row_step) c.args.lines.step bits (c.note_met_lines.ensures.noted r l m))) r (omega arith) o
 
 pub returns-then-not-has_columns-clause-only : goal.returns-then-not-has_columns-clause-only
 returns-then-not-has_columns-clause-only c = grind (arith, c.bounds_of-bounded.ensures.piece, c.note_met_lines.ensures.only)
 
 pub returns-clause-noted : goal.returns-clause-noted
 returns-clause-noted c =
-    let f = c.args.frame in
+    let f = c.args.lines.frame in
     let s = span_of c.bounds_of-bounded.result.piece in
     let rows = c.rows_met-rows.result in
     let inner = c.rows_between-inner.result in
-    let step = c.args.step in
+    let step = c.args.lines.step in
     let last = c.note_met_lines-3.new.bits in
     let k2 = c.note_met_lines-3.ensures.kept in
     let same = ap span_of c.bounds_of-bounded.ensures.piece in
-    λ r o. all_rows_set (span_of c.args.piece.now) f 0 rows.first rows.end f.height c.args.row_step step last
+    λ r o. all_rows_set (span_of c.args.piece.now) f 0 rows.first rows.end f.height c.args.lines.row_step step last
     (λ r l. c.rows_met-rows.ensures.below r) c.rows_met-rows.ensures.above
-    (λ r l m. subst (λ (t : Span). AreSetIn t f r (r * c.args.row_step) step last) same
-    (rows_three (λ q. AreSetIn s f q (q * c.args.row_step) step last) rows.first inner.first inner.end rows.end
-    (λ q a b. in_kept s f q (q * c.args.row_step) step c.note_met_lines-2.new.bits last
+    (λ r l m. subst (λ (t : Span). AreSetIn t f r (r * c.args.lines.row_step) step last) same
+    (rows_three (λ q. AreSetIn s f q (q * c.args.lines.row_step) step last) rows.first inner.first inner.end rows.end
+    (λ q a b. in_kept s f q (q * c.args.lines.row_step) step c.note_met_lines-2.new.bits last
     (kept_both _ _ _ c.note_passed_lines.ensures.kept k2)
-    (set_in s f q (q * c.args.row_step) step _ (c.note_met_lines-2.ensures.noted q a b)))
-    (λ q a b. in_kept s f q (q * c.args.row_step) step c.note_passed_lines.new.bits last k2
+    (set_in s f q (q * c.args.lines.row_step) step _ (c.note_met_lines-2.ensures.noted q a b)))
+    (λ q a b. in_kept s f q (q * c.args.lines.row_step) step c.note_passed_lines.new.bits last k2
     (c.note_passed_lines.ensures.noted q a b))
-    (λ q a b. set_in s f q (q * c.args.row_step) step last (c.note_met_lines-3.ensures.noted q a b)) r l m)) r (omega arith) o
+    (λ q a b. set_in s f q (q * c.args.lines.row_step) step last (c.note_met_lines-3.ensures.noted q a b)) r l m)) r (omega arith) o
 
 pub returns-clause-only : goal.returns-clause-only
 returns-clause-only c =

@@ -7,8 +7,8 @@ use Rattle.fx_rows.proofs.bulge.note_met_lines.Given as goal
 abbrev pub invariant-rows : goal.invariant-rows
 invariant-rows l = record {
   noted : (r : ℕ) → l.fn.rows.first ≤ r → r < l.up
-      → IsRowSet (bounded_span l.bounded) l.frame (l.frame.bottom +ℤ pos r) (r * l.row_step) l.step l.bits;
+      → IsRowSet (bounded_span l.bounded) l.lines.frame (l.lines.frame.bottom +ℤ pos r) (r * l.lines.row_step) l.lines.step l.bits;
   kept : AreKept l.fn.bits l.bits;
-  only : AreOnly (IsRowsBit (bounded_span l.bounded) l.frame l.row_step l.step) l.fn.bits l.bits;
+  only : AreOnly (IsRowsBit (bounded_span l.bounded) l.lines.frame l.lines.row_step l.lines.step) l.fn.bits l.bits;
   count : l.tally.count ≤ l.fn.tally.count + 55 * (l.up - l.fn.rows.first);
 }

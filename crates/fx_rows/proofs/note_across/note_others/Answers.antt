@@ -10,14 +10,14 @@ use Rattle.fx_rows.proofs.note_across.note_others.Goals as goal
 pub note_met_lines-requires-clause-room : goal.note_met_lines-requires-clause-room
 note_met_lines-requires-clause-room c = λ r l.
     let f = c.args.placed.frame in
-    let room = row_room r f.height f.width _ (length c.args.across.now) l (ap (λ (w : ℕ). 32 * w) c.words_noted-row.ensures)
+    let room = row_room r f.height f.width _ (length c.args.across.now) l (ap (λ (w : ℕ). 32 * w) c.words_noted.ensures)
     c.requires.room in
     omega (arith, room)
 
 pub note_met_lines-requires-2-clause-room : goal.note_met_lines-requires-2-clause-room
 note_met_lines-requires-2-clause-room c = λ r l.
     let f = c.args.placed.frame in
-    let room = row_room r f.height f.width _ (length c.args.across.now) l (ap (λ (w : ℕ). 32 * w) c.words_noted-row.ensures)
+    let room = row_room r f.height f.width _ (length c.args.across.now) l (ap (λ (w : ℕ). 32 * w) c.words_noted.ensures)
     c.requires.room in
     omega (arith, room)
 
@@ -25,19 +25,19 @@ pub returns-clause-below : goal.returns-clause-below
 returns-clause-below c = λ r l m.
     let f = c.args.placed.frame in
     let s = span_of c.args.piece.now in
-    let row : 32 * c.words_noted-row.result ≡ 32 * words_noted f.width = ap (λ (w : ℕ). 32 * w) c.words_noted-row.ensures in
+    let row : 32 * c.words_noted.result ≡ 32 * words_noted f.width = ap (λ (w : ℕ). 32 * w) c.words_noted.ensures in
     across_kept s f r c.note_met_lines.new.bits c.note_met_lines-2.new.bits c.note_met_lines-2.ensures.kept
     (across_set s f r c.note_met_lines.new.bits (subst (λ z. z) (λ i. AreSetIn (span_of (c.bounds_of-bounded.ensures.piece i)) f r
     (r * row i) 1 c.note_met_lines.new.bits) (set_in (span_of c.bounds_of-bounded.result.piece) f r
-    (r * (32 * c.words_noted-row.result)) 1 c.note_met_lines.new.bits (c.note_met_lines.ensures.noted r l m))))
+    (r * (32 * c.words_noted.result)) 1 c.note_met_lines.new.bits (c.note_met_lines.ensures.noted r l m))))
 
 pub returns-clause-above : goal.returns-clause-above
 returns-clause-above c = λ r l m.
     let f = c.args.placed.frame in
-    let row : 32 * c.words_noted-row.result ≡ 32 * words_noted f.width = ap (λ (w : ℕ). 32 * w) c.words_noted-row.ensures in
+    let row : 32 * c.words_noted.result ≡ 32 * words_noted f.width = ap (λ (w : ℕ). 32 * w) c.words_noted.ensures in
     across_set (span_of c.args.piece.now) f r c.note_met_lines-2.new.bits (subst (λ z. z)
     (λ i. AreSetIn (span_of (c.bounds_of-bounded.ensures.piece i)) f r (r * row i) 1 c.note_met_lines-2.new.bits)
-    (set_in (span_of c.bounds_of-bounded.result.piece) f r (r * (32 * c.words_noted-row.result)) 1 c.note_met_lines-2.new.bits
+    (set_in (span_of c.bounds_of-bounded.result.piece) f r (r * (32 * c.words_noted.result)) 1 c.note_met_lines-2.new.bits
     (c.note_met_lines-2.ensures.noted r l m)))
 
 pub returns-clause-kept : goal.returns-clause-kept
@@ -47,7 +47,7 @@ pub returns-clause-only : goal.returns-clause-only
 returns-clause-only c =
     grind (
       arith,
-      c.words_noted-row.ensures,
+      c.words_noted.ensures,
       c.bounds_of-bounded.ensures,
       c.note_met_lines.ensures,
       c.note_met_lines-2.ensures,
