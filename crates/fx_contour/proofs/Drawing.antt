@@ -14,7 +14,7 @@ use Rattle.fx_contour.specs.declared.extent.Extent.{Extent}
 use Rattle.fx_contour.specs.Curve.{doubled_of, curve_of}
 use Rattle.fx_contour.specs.Contours.{contours_from, spans_of, farthest, IsInReach}
 use Rattle.fx_contour.specs.Frames.{HaveAny}
-use Rattle.fx_contour.specs.Bounds.{Side, left_side, right_side, bottom_side, top_side, IsOut, IsLeast, Extends, DoesExtend}
+use Rattle.fx_contour.specs.Bounds.{Side, left_side, right_side, bottom_side, top_side, IsOut, IsLeast, Extends, DoesReach}
 use Rattle.fx_contour.specs.Bounds.{HavePoint, HaveTwo, KeepsLimit, AreBoundsOf}
 use Rattle.fx_contour.proofs.Hull.{hull_of, of_curve, have_either, have_left, have_right}
 
@@ -154,25 +154,17 @@ reach_tested b e points d h =
 
 -- ---- an extent that there may be
 
-pub some_extent : (o : Option Extent) (e : Extent) (R : (Place → Type 0) → Type 0) → o ≡ Some e → IsLeast (DoesExtend o) R
-    → IsLeast (Extends e) R
-some_extent o e R s h =
-    let P : Option Extent → Type 0 = λ x. IsLeast (DoesExtend x) R in let g = subst P s h in record { sides = g.sides }
-
-pub just_extent : (e : Extent) (R : (Place → Type 0) → Type 0) → IsLeast (Extends e) R → IsLeast (DoesExtend (Some e)) R
-just_extent e R h = record { sides = h.sides }
-
 -- no extent: no point
 pub no_points_near : (o : Option Extent) (points : List OutlinePoint) → o ≡ None
-    → IsLeast (DoesExtend o) (λ P. HavePoint P points) → All IsInReach points
+    → IsLeast (DoesReach Extends o) (λ P. HavePoint P points) → All IsInReach points
 no_points_near o [] s h = All-nil IsInReach
 no_points_near o (p ∷ ps) s h =
-    let P : Option Extent → Type 0 = λ x. IsLeast (DoesExtend x) (λ P. HavePoint P (p ∷ ps)) in
+    let P : Option Extent → Type 0 = λ x. IsLeast (DoesReach Extends x) (λ P. HavePoint P (p ∷ ps)) in
     absurd (((subst P s h).sides left_side (pos 2 *ℤ p.x)).0 (inl (omega (arith, ints))))
 
 pub no_points_no_bounds : (o : Option Extent) (ends : List ℕ) (points : List OutlinePoint) → o ≡ None
-    → IsLeast (DoesExtend o) (λ P. HavePoint P points) → AreBoundsOf None (spans_of ends points)
+    → IsLeast (DoesReach Extends o) (λ P. HavePoint P points) → AreBoundsOf None (spans_of ends points)
 no_points_no_bounds o ends points s h =
-    let P : Option Extent → Type 0 = λ x. IsLeast (DoesExtend x) (λ P. HavePoint P points) in
+    let P : Option Extent → Type 0 = λ x. IsLeast (DoesReach Extends x) (λ P. HavePoint P points) in
     let g = subst P s h in
     record { sides = λ side t. (λ k. (g.sides side t).0 (of_curves side t 0 ends points k), λ n. absurd n) }

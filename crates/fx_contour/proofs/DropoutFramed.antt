@@ -81,7 +81,7 @@ unfolding dropout_framed_of
 far_framed b ss r a d f = grind (arith, a, d, f, true_from_ne_false, bounds_leave, not_from_Decides, margin_is_tested)
 
 not_far : (b : PieceBounds) (ss : List Span) → AreBounds b ss → BoundsLeaveMargin b
-  → have_any (λ q. not (leaves_margin q)) ss ≡ false
+    → have_any (λ q. not (leaves_margin q)) ss ≡ false
 not_far b ss a l =
     false_from_ne_true (have_any (λ q. not (leaves_margin q)) ss) (λ e. none_far b ss a l ((margin_is_tested ss).0 e))
 

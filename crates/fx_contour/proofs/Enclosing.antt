@@ -12,7 +12,7 @@ use Rattle.fx_contour.specs.declared.extent.Extent.{Extent}
 use Rattle.fx_contour.specs.Curve.{curve_of}
 use Rattle.fx_contour.specs.Contours.{contours_from, spans_of}
 use Rattle.fx_contour.specs.Frames.{HaveAny}
-use Rattle.fx_contour.specs.Bounds.{Side, IsOut, Grows, IsLeast, Extends, DoesExtend, HavePoint}
+use Rattle.fx_contour.specs.Bounds.{Side, IsOut, Grows, IsLeast, Extends, DoesReach, HavePoint}
 use Rattle.fx_contour.proofs.Gather.{ends_left_at, next_within}
 use Rattle.fx_contour.proofs.Growing.{one_less, none_left}
 use Rattle.fx_contour.proofs.Hull.{hull_of, have_either, have_left, have_right}
@@ -33,15 +33,15 @@ along A C side t points h k = grind (arith, h, k, hull_of)
 
 pub grown_more : (b c : Extent) (points : List OutlinePoint) → 2 ≤ length points
     → Grows (Extends b) (Extends c) (λ P. HavePoint P points)
-    → Grows (DoesExtend (Some b)) (DoesExtend (Some c)) (λ P. HaveAny P (curve_of points))
+    → Grows (Extends b) (Extends c) (λ P. HaveAny P (curve_of points))
 grown_more b c points h g =
     record { sides = λ side t. along (Extends b side t) (Extends c side t) side t points h (g.sides side t) }
 
 pub grown_first : (c : Option Extent) (points : List OutlinePoint) → 2 ≤ length points
-    → IsLeast (DoesExtend c) (λ P. HavePoint P points)
-    → Grows (DoesExtend None) (DoesExtend c) (λ P. HaveAny P (curve_of points))
+    → IsLeast (DoesReach Extends c) (λ P. HavePoint P points)
+    → Grows (DoesReach Extends None) (DoesReach Extends c) (λ P. HaveAny P (curve_of points))
 grown_first c points h g = record {
-  sides = λ side t. along ⊥ (DoesExtend c side t) side t points h
+  sides = λ side t. along ⊥ (DoesReach Extends c side t) side t points h
       (λ x. inr ((g.sides side t).1 x), λ x. elim x [ inl n ↦ absurd n | inr b ↦ (g.sides side t).0 b ]);
 }
 
@@ -50,7 +50,7 @@ grown_first c points h g = record {
 -- the box so far and the contours that are left reach as far as all do
 pub record Enclosed (b : Option Extent) (start : ℕ) (ends : List ℕ) (k : ℕ) (points : List OutlinePoint) : Type 0 where
   pub sides : (side : Side) (t : ℤ) → HaveAny (IsOut side t) (spans_of ends points) ↔
-      (DoesExtend b side t ⊎ HaveAny (IsOut side t) (joined (map curve_of (contours_from start (drop k ends) points))))
+      (DoesReach Extends b side t ⊎ HaveAny (IsOut side t) (joined (map curve_of (contours_from start (drop k ends) points))))
   pub ends_left : AreEnds start (drop k ends) (length points)
   pub within : start ≤ length points
 
@@ -60,7 +60,7 @@ split X A P xs ys h = grind (arith, h, have_either P xs ys, have_left P xs ys, h
 
 pub enclosed_more : (b c : Option Extent) (start : ℕ) (ends : List ℕ) (k : ℕ) (points : List OutlinePoint) (e d : ℕ)
     → Enclosed b start ends k points → k < length ends → e ≡ get_or ends k d
-    → Grows (DoesExtend b) (DoesExtend c) (λ P. HaveAny P (curve_of (take (e + 1 - start) (drop start points))))
+    → Grows (DoesReach Extends b) (DoesReach Extends c) (λ P. HaveAny P (curve_of (take (e + 1 - start) (drop start points))))
     → Enclosed c (e + 1) ends (k + 1) points
 enclosed_more b c start ends k points e d x h s g =
     let l = ends_left_at start ends k points e d x.ends_left h s in
@@ -71,18 +71,18 @@ enclosed_more b c start ends k points e d x h s g =
       sides = λ side t.
           let X = HaveAny (IsOut side t) (spans_of ends points) in
           let P : List ℕ → Type 0 =
-          λ xs. X ↔ (DoesExtend b side t ⊎ HaveAny (IsOut side t) (joined (map curve_of (contours_from start xs points)))) in
-          let Q : ℕ → Type 0 = λ y. X ↔ (DoesExtend b side t ⊎ HaveAny (IsOut side t)
+          λ xs. X ↔ (DoesReach Extends b side t ⊎ HaveAny (IsOut side t) (joined (map curve_of (contours_from start xs points)))) in
+          let Q : ℕ → Type 0 = λ y. X ↔ (DoesReach Extends b side t ⊎ HaveAny (IsOut side t)
           (joined (map curve_of (contours_from start (y ∷ drop (k + 1) ends) points)))) in
-          let all_spans : X ↔ (DoesExtend b side t ⊎ HaveAny (IsOut side t) (one ++ rest)) =
+          let all_spans : X ↔ (DoesReach Extends b side t ⊎ HaveAny (IsOut side t) (one ++ rest)) =
           subst Q (sym s) (subst P (drop_more ends k d h) (x.sides side t)) in
-          one_less X (DoesExtend b side t) (DoesExtend c side t) (HaveAny (IsOut side t) one) (HaveAny (IsOut side t) rest)
-          (split X (DoesExtend b side t) (IsOut side t) one rest all_spans) (g.sides side t);
+          one_less X (DoesReach Extends b side t) (DoesReach Extends c side t) (HaveAny (IsOut side t) one)
+          (HaveAny (IsOut side t) rest) (split X (DoesReach Extends b side t) (IsOut side t) one rest all_spans) (g.sides side t);
       ends_left = l.1;
       within = w.1;
     }
 
 pub enclosed_end : (b : Option Extent) (start : ℕ) (ends : List ℕ) (k : ℕ) (points : List OutlinePoint)
     → Enclosed b start ends k points → length ends ≤ k
-    → IsLeast (DoesExtend b) (λ P. HaveAny P (spans_of ends points))
+    → IsLeast (DoesReach Extends b) (λ P. HaveAny P (spans_of ends points))
 enclosed_end b start ends k points x h = grind (arith, x, h, none_left, drop_of_length-le)

@@ -31,11 +31,11 @@ box_from b ss i j a x y = record {
 }
 
 column_in : (b : PieceBounds) (ss : List Span) (i j : ℤ) → AreBounds b ss → IsInBoundingBox (centre i j) ss
-  → IsCentreIn b.left b.right i
+    → IsCentreIn b.left b.right i
 column_in b ss i j a h = ((a.sides left_side (centre i j).x).0 h.left, (a.sides right_side (centre i j).x).0 h.right)
 
 row_in : (b : PieceBounds) (ss : List Span) (i j : ℤ) → AreBounds b ss → IsInBoundingBox (centre i j) ss
-  → IsCentreIn b.bottom b.top j
+    → IsCentreIn b.bottom b.top j
 row_in b ss i j a h = ((a.sides bottom_side (centre i j).y).0 h.bottom, (a.sides top_side (centre i j).y).0 h.top)
 
 pub no_box : (o : Option PieceBounds) (ss : List Span) → o ≡ None → AreBoundsOf o ss → HaveNoPixel ss

@@ -88,11 +88,3 @@ remains_first b (s ∷ ps) d h l r u v = grind (arith, h, l, r, u, v, first_too)
 pub none_of : (ps : List Piece) → length ps ≡ 0 → AreBoundsOf None (map span_of ps)
 none_of [] h = record { sides = λ side t. (λ n. n, λ n. n) }
 none_of (s ∷ ps) h = absurd (omega arith)
-
--- a box around the spans
-pub some_of : (b : PieceBounds) (ss : List Span) → AreBounds b ss → AreBoundsOf (Some b) ss
-some_of b ss h = record { sides = h.sides }
-
-pub some_bounds : (o : Option PieceBounds) (b : PieceBounds) (ss : List Span) → o ≡ Some b → AreBoundsOf o ss → AreBounds b ss
-some_bounds o b ss e a =
-    let P : Option PieceBounds → Type 0 = λ x. AreBoundsOf x ss in let h = subst P e a in record { sides = h.sides }

@@ -47,18 +47,18 @@ pub record Grows (old new : Side → ℤ → Type 0) (R : (Place → Type 0) →
 pub record IsLeast (reach : Side → ℤ → Type 0) (R : (Place → Type 0) → Type 0) : Type 0 where
   pub sides : (side : Side) (t : ℤ) → R (IsOut side t) ↔ reach side t
 
+-- the box, if there is one, reaches t on this side; `reach` tells how far boxes reach
+abbrev pub DoesReach : {B : Type 0} → (B → Side → ℤ → Type 0) → Option B → Side → ℤ → Type 0
+DoesReach reach None = λ side t. ⊥
+DoesReach reach (Some b) = reach b
+
 -- b is the least box around the points of the spans
-pub record AreBounds (b : PieceBounds) (ss : List Span) : Type 0 where
-  pub sides : (side : Side) (t : ℤ) → HaveAny (IsOut side t) ss ↔ Reaches b side t
+abbrev pub AreBounds : PieceBounds → List Span → Type 0
+AreBounds b ss = IsLeast (Reaches b) (λ P. HaveAny P ss)
 
--- the box, if there is one, reaches t on this side
-abbrev pub DoesReach : Option PieceBounds → Side → ℤ → Type 0
-DoesReach None side t = ⊥
-DoesReach (Some b) side t = Reaches b side t
-
--- b is the least box around the points of the spans, and none if they have no point
-pub record AreBoundsOf (b : Option PieceBounds) (ss : List Span) : Type 0 where
-  pub sides : (side : Side) (t : ℤ) → HaveAny (IsOut side t) ss ↔ DoesReach b side t
+-- the same, or there is no box, if they have no point
+abbrev pub AreBoundsOf : Option PieceBounds → List Span → Type 0
+AreBoundsOf b ss = IsLeast (DoesReach Reaches b) (λ P. HaveAny P ss)
 
 -- one of the points, in 1/128 pixel, has P
 abbrev pub HavePoint : (Place → Type 0) → List OutlinePoint → Type 0
@@ -68,11 +68,6 @@ HavePoint P (p ∷ ps) = P (doubled_of p) ⊎ HavePoint P ps
 -- the extent reaches t, in 1/128 pixel, on this side
 abbrev pub Extends : Extent → Side → ℤ → Type 0
 Extends e = ReachOf (pos 2 *ℤ e.left) (pos 2 *ℤ e.right) (pos 2 *ℤ e.bottom) (pos 2 *ℤ e.top)
-
--- the extent, if there is one, reaches t on this side
-abbrev pub DoesExtend : Option Extent → Side → ℤ → Type 0
-DoesExtend None side t = ⊥
-DoesExtend (Some e) side t = Extends e side t
 
 -- no side of the extent lies too far out
 abbrev pub KeepsLimit : Extent → Type 0

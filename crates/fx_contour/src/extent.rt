@@ -26,7 +26,7 @@ impl Extent {
     ghost use Rattle.fx_contour.specs.Curve.{doubled_of, curve_of};
     ghost use Rattle.fx_contour.specs.Contours.{spans_of};
     ghost use Rattle.fx_contour.specs.Frames.{HaveAny};
-    ghost use Rattle.fx_contour.specs.Bounds.{Grows, IsLeast, Extends, DoesExtend, HavePoint, KeepsLimit};
+    ghost use Rattle.fx_contour.specs.Bounds.{Grows, IsLeast, Extends, DoesReach, HavePoint, KeepsLimit};
 
     /// The extent of one point.
     fn around(p: &OutlinePoint) -> Extent
@@ -69,7 +69,7 @@ impl Extent {
 
     /// The extent of the points, if there are any.
     pub(crate) fn of(points: &[OutlinePoint]) -> Option<Extent>
-        ensures { IsLeast (DoesExtend result) (λ P. HavePoint P points.now) }
+        ensures { IsLeast (DoesReach Extends result) (λ P. HavePoint P points.now) }
     {
         if points.is_empty() {
             return None;
@@ -86,7 +86,7 @@ impl Extent {
 
     /// The extent with the curve of a contour: a contour of fewer than two points has none.
     fn with_contour(extent: Option<Extent>, points: &[OutlinePoint]) -> Option<Extent>
-        ensures { Grows (DoesExtend extent) (DoesExtend result) (λ P. HaveAny P (curve_of points.now)) }
+        ensures { Grows (DoesReach Extends extent) (DoesReach Extends result) (λ P. HaveAny P (curve_of points.now)) }
     {
         if points.len() < 2 {
             return extent;
@@ -99,7 +99,7 @@ impl Extent {
 
     /// The extent of the curves of an outline's contours, found contour by contour.
     fn of_contours(outline: &Outline) -> Option<Extent>
-        ensures { IsLeast (DoesExtend result) (λ P. HaveAny P (spans_of outline.now.ends.items outline.now.points.items)) }
+        ensures { IsLeast (DoesReach Extends result) (λ P. HaveAny P (spans_of outline.now.ends.items outline.now.points.items)) }
     {
         let mut extent = None;
         let mut start = 0;
@@ -116,7 +116,7 @@ impl Extent {
     /// alone, which draws nothing. The other points of a curve lie half way between two points of its contour.
     pub(crate) fn of_curves(outline: &Outline, all: Extent) -> Option<Extent>
         requires { IsLeast (Extends all) (λ P. HavePoint P outline.now.points.items) }
-        ensures { IsLeast (DoesExtend result) (λ P. HaveAny P (spans_of outline.now.ends.items outline.now.points.items)) }
+        ensures { IsLeast (DoesReach Extends result) (λ P. HaveAny P (spans_of outline.now.ends.items outline.now.points.items)) }
     {
         if have_two(&outline.ends) {
             return Some(all);

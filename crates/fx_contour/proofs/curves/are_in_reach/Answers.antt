@@ -1,6 +1,6 @@
-use Rattle.std.proofs.Common.{refl}
-use Rattle.fx_contour.specs.Bounds.{HavePoint}
-use Rattle.fx_contour.proofs.Drawing.{some_extent, reach_tested, no_points_near}
+use Rattle.std.proofs.Common.{refl, subst}
+use Rattle.fx_contour.specs.Bounds.{IsLeast, DoesReach, Extends, HavePoint}
+use Rattle.fx_contour.proofs.Drawing.{reach_tested, no_points_near}
 use Rattle.fx_contour.proofs.curves.are_in_reach.Goals as goal
 
 pub returns-in-None : goal.returns-in-None
@@ -11,4 +11,4 @@ returns-in-Some c =
     let points = c.args.points.now in
     let e = c.in-Some.extent in
     reach_tested c.keeps_limit.result e points c.keeps_limit.ensures
-    (some_extent c.of.result e (λ P. HavePoint P points) c.in-Some.is c.of.ensures)
+    (subst (λ x. IsLeast (DoesReach Extends x) (λ P. HavePoint P points)) c.in-Some.is c.of.ensures)

@@ -1,9 +1,9 @@
-use Rattle.std.proofs.Common.{arith}
+use Rattle.std.proofs.Common.{subst, arith}
 use Rattle.std.proofs.lemmas.Int.{ints}
 use Rattle.std.proofs.lemmas.Result.{err_from_is_err_and}
+use Rattle.fx_contour.specs.Bounds.{AreBoundsOf}
 use Rattle.fx_contour.proofs.DropoutFramed.{no_span, none_framed, none_frame, far_framed, large_framed, near_framed}
 use Rattle.fx_contour.proofs.DropoutFramed.{same_kept, dropout_frame_is, frame_margin}
-use Rattle.fx_contour.proofs.Growing.{some_bounds}
 use Rattle.fx_contour.proofs.dropout_frames.dropout_frame_around.Goals as goal
 
 pub returns-in_default-clause-exact : goal.returns-in_default-clause-exact
@@ -15,7 +15,7 @@ returns-in_default-clause-ok c ss a = none_frame ss (no_span c.args.bounds ss c.
 pub returns-then-not-leaves_margin-clause-exact : goal.returns-then-not-leaves_margin-clause-exact
 returns-then-not-leaves_margin-clause-exact c ss a =
     let b = c.in-Some.bounds in
-    far_framed b ss c.leaves_margin.result (some_bounds c.args.bounds b ss c.in-Some.is a) c.leaves_margin.ensures
+    far_framed b ss c.leaves_margin.result (subst (λ o. AreBoundsOf o ss) c.in-Some.is a) c.leaves_margin.ensures
     c.if-not-leaves_margin.true
 
 pub returns-in_err-box_of-clause-exact : goal.returns-in_err-box_of-clause-exact
@@ -27,7 +27,7 @@ returns-in_err-box_of-clause-exact c ss a =
     let rows = same_kept c.kept-rows.result _ _ b.bottom b.top (omega (arith, ints)) (omega (arith, ints)) c.kept-rows.ensures in
     let f = c.in_err-box_of.ensures.fault in
     rw (p.1, p.2, f.0)
-    (large_framed b ss c.kept-columns.result c.kept-rows.result (some_bounds c.args.bounds b ss c.in-Some.is a)
+    (large_framed b ss c.kept-columns.result c.kept-rows.result (subst (λ o. AreBoundsOf o ss) c.in-Some.is a)
     (c.leaves_margin.ensures.0 c.if-not-leaves_margin.false) columns rows f.1)
 
 pub returns-clause-exact : goal.returns-clause-exact
@@ -37,7 +37,7 @@ returns-clause-exact c ss a =
     same_kept c.kept-columns.result _ _ b.left b.right (omega (arith, ints)) (omega (arith, ints)) c.kept-columns.ensures in
     let rows = same_kept c.kept-rows.result _ _ b.bottom b.top (omega (arith, ints)) (omega (arith, ints)) c.kept-rows.ensures in
     near_framed b ss c.kept-columns.result c.kept-rows.result c.in_ok-box_of.field-0
-    (some_bounds c.args.bounds b ss c.in-Some.is a) (c.leaves_margin.ensures.0 c.if-not-leaves_margin.false) columns rows
+    (subst (λ o. AreBoundsOf o ss) c.in-Some.is a) (c.leaves_margin.ensures.0 c.if-not-leaves_margin.false) columns rows
     c.in_ok-box_of.ensures.ok
 
 pub returns-clause-ok : goal.returns-clause-ok
@@ -47,7 +47,7 @@ returns-clause-ok c ss a =
     same_kept c.kept-columns.result _ _ b.left b.right (omega (arith, ints)) (omega (arith, ints)) c.kept-columns.ensures in
     let rows = same_kept c.kept-rows.result _ _ b.bottom b.top (omega (arith, ints)) (omega (arith, ints)) c.kept-rows.ensures in
     dropout_frame_is b ss c.kept-columns.result c.kept-rows.result c.in_ok-box_of.field-0
-    (some_bounds c.args.bounds b ss c.in-Some.is a) columns rows c.in_ok-box_of.ensures.ok
+    (subst (λ o. AreBoundsOf o ss) c.in-Some.is a) columns rows c.in_ok-box_of.ensures.ok
 
 pub returns-clause-margin : goal.returns-clause-margin
 returns-clause-margin c =

@@ -1,7 +1,7 @@
 use Rattle.std.proofs.Common.{◌≡◌, ◌<◌, length, arith, ℕ, zero, suc, Bool, false, sym, ◌∙◌}
 use Rattle.std.proofs.lemmas.Bool.{eqb-true}
 use Rattle.std.specs.Bool.{◌==◌}
-use Rattle.fx_contour.proofs.Growing.{remains_first, remains_more, remains_end, none_of, some_of}
+use Rattle.fx_contour.proofs.Growing.{remains_first, remains_more, remains_end, none_of}
 use Rattle.fx_contour.proofs.bounds.PieceBounds.of.Goals as goal
 
 nonempty : (n : ℕ) (b : Bool) → b ≡ (n == 0) → b ≡ false → 0 < n
@@ -23,4 +23,4 @@ returns-then-is_empty c =
     none_of c.args.pieces.now (eqb-true (length c.args.pieces.now) 0 (sym c.is_empty.ensures ∙ c.if-is_empty.true))
 
 pub returns : goal.returns
-returns c = grind (arith, c.pieces-test.false, c.pieces.invariant, some_of, remains_end)
+returns c = grind (arith, c.pieces-test.false, c.pieces.invariant, remains_end)

@@ -2,7 +2,7 @@ use Rattle.std.proofs.Common.{◌≡◌, ◌<◌, ◌+◌, ◌-◌, ◌∙◌, a
 use Rattle.fx_outline.specs.declared.points.OutlinePoint.{OutlinePoint}
 use Rattle.fx_contour.specs.Curve.{curve_of}
 use Rattle.fx_contour.specs.Frames.{HaveAny}
-use Rattle.fx_contour.specs.Bounds.{Grows, DoesExtend}
+use Rattle.fx_contour.specs.Bounds.{Grows, DoesReach, Extends}
 use Rattle.fx_contour.proofs.Gather.{next_within}
 use Rattle.fx_contour.proofs.Enclosing.{enclosed_more, enclosed_end}
 use Rattle.fx_contour.proofs.extent.Extent.of_contours.Goals as goal
@@ -22,7 +22,8 @@ contours-preserved c =
     let slice : c.contour.result.now ≡ take (next - start) (drop start o.points.items) =
     c.contour.ensures ∙ ap (λ xs. take (next - start) (drop start xs)) c.deref.ensures.value in
     let P : List OutlinePoint → Type 0 =
-    λ xs. Grows (DoesExtend c.contours.extent) (DoesExtend c.with_contour-extent.result) (λ P. HaveAny P (curve_of xs)) in
+    λ xs. Grows (DoesReach Extends c.contours.extent) (DoesReach Extends c.with_contour-extent.result)
+    (λ P. HaveAny P (curve_of xs)) in
     enclosed_more c.contours.extent c.with_contour-extent.result start o.ends.items c.contours.end-index o.points.items
     c.from-next.result 0 c.contours.invariant inside
     (c.from-next.ensures ∙ ap (λ xs. get_or xs c.contours.end-index 0) ends) (subst P slice c.with_contour-extent.ensures)
