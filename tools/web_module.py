@@ -17,6 +17,8 @@ from web_memory32 import with_memory32
 WEB = os.path.join(TOP, "web")
 LIBRARY, PROGRAM = prebuilt.MODULES
 MODULES = {LIBRARY: "mkstrike_c", PROGRAM: "mkstrike"}  # of each module the crate that it is made of
+SUPPORT, CALLS = "web/module.c", "c/calls.c"
+SOURCES = {LIBRARY: (SUPPORT, CALLS), PROGRAM: (SUPPORT,)}  # what is compiled beside the bitcode
 BUILT = {"mkstrike_c": prebuilt.ARCHIVE, "mkstrike": prebuilt.BUILT}  # what the kit makes of the crate's bitcode
 MOST = {LIBRARY: (230, 92), PROGRAM: (680, 260)}  # KiB of the module, and of it compressed
 TARGET = ["--target=wasm64-unknown-unknown", "-mcpu=lime1", "-mllvm", "-expand-div-rem-bits=64", "-mllvm", "-expand-fp-convert-bits=64"]
@@ -27,6 +29,12 @@ FOREIGN = re.compile(r'"(?:probe-stack|stack-probe-size|target-cpu|target-featur
 # What web/module.c has for the bitcode.
 BESIDE = ("rattle_alloc", "rattle_realloc", "rattle_dealloc", "memset", "memcpy", "memmove", "memcmp", "__multi3", "__ashlti3", "__lshrti3",
           "__ashrti3")
+# The kit's compiler has no headers.
+HEADERS = {
+    "stddef.h": "typedef __SIZE_TYPE__ size_t;\n#define NULL ((void *)0)\n",
+    "stdint.h": "".join("typedef __%s_TYPE__ %s_t;\n" % (it.upper(), it) for it in ("uint8", "uint16", "uint32", "uint64", "int32"))
+                + "#define UINT32_C(n) n##U\n",
+}
 WORDS = """
 import os, sys
 sys.path.insert(0, sys.argv[1])
@@ -96,19 +104,21 @@ def linked(room, objects, exports, imports=(), lower=with_memory32):
     return lower(prebuilt.read(os.path.join(room, "out.wasm")))
 
 
-def compile_beside(room):
-    """Compiles web/module.c to beside.o in a folder."""
-    with open(os.path.join(room, "beside.c"), "wb") as file:
-        file.write(prebuilt.read(os.path.join(WEB, "module.c")))
-    clang = os.path.join(kit_folder(), "toolchain/bin/clang")
-    run([clang, *TARGET, "-O2", "-ffreestanding", "-fno-builtin", "-Wall", "-Wextra", "-Werror", "-c", "beside.c", "-o", "beside.o"], room)
+def compiled(room, path):
+    """Compiles a C file to an object file in a folder; returns the object file's name."""
+    for name, text in HEADERS.items():
+        with open(os.path.join(room, name), "w", encoding="utf-8") as file:
+            file.write(text)
+    made, clang = os.path.basename(path) + ".o", os.path.join(kit_folder(), "toolchain/bin/clang")
+    run([clang, *TARGET, "-O2", "-ffreestanding", "-fno-builtin", "-Wall", "-Wextra", "-Werror", "-I.", "-I" + os.path.join(TOP, "include"),
+         "-c", os.path.join(TOP, path), "-o", made], room)
+    return made
 
 
 def beside_alone(lower=with_memory32):
     """A module of web/module.c alone, which exports its functions, for a test."""
     with tempfile.TemporaryDirectory() as room:
-        compile_beside(room)
-        return linked(room, ["beside.o"], BESIDE, lower=lower)
+        return linked(room, [compiled(room, SUPPORT)], BESIDE, lower=lower)
 
 
 def script(name):
@@ -131,12 +141,10 @@ def module_of(name, code):
             file.write(code)
         run([clang, TARGET[0], "-Wno-override-module", "-x", "ir", "module.bc", "-O0", "-S", "-emit-llvm", "-o", "module.ll"], room)
         text = FOREIGN.sub("", prebuilt.read(os.path.join(room, "module.ll")).decode("latin-1"))
-        text = text.replace("@proved_mkstrike_", "@mkstrike_")  # the script hands over addresses alone, and needs no c/calls.c
         with open(os.path.join(room, "module.ll"), "w", encoding="latin-1") as file:
             file.write(text)
-        compile_beside(room)
         run([clang, *TARGET, "-Os", "-x", "ir", "module.ll", "-c", "-o", "module.o"], room)
-        module = linked(room, ["module.o", "beside.o"], *calls_of(name))
+        module = linked(room, ["module.o", *(compiled(room, it) for it in SOURCES[name])], *calls_of(name))
     sizes = len(module), len(zlib.compress(module, 9))
     if any(size > most << 10 for size, most in zip(sizes, MOST[name])):
         raise Fault("%s has %d bytes, %d compressed: at most %d and %d KiB were meant" % (name, *sizes, *MOST[name]))
@@ -151,6 +159,6 @@ def modules(folder=None):
 
 def hash_of_sources():
     """The hash of what the modules are made of: the sources of their crates and below, what makes them, and the calls between them and scripts."""
-    own = [prebuilt.read(os.path.join(TOP, it)) for it in ("web/module.c", "tools/web_module.py", "tools/web_memory32.py")]
+    own = [prebuilt.read(os.path.join(TOP, it)) for it in (SUPPORT, CALLS, "include/mkstrike.h", "tools/web_module.py", "tools/web_memory32.py")]
     calls = [it for name in MODULES for words in calls_of(name) for it in words]
     return prebuilt.sha256("\n".join([*map(prebuilt.hash_of_sources, MODULES.values()), *map(prebuilt.sha256, own), *calls]).encode())

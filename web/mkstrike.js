@@ -182,7 +182,7 @@ export class Mkstrike {
       const glyph = new Uint16Array(this.calls.memory.buffer, Number(id), 1)[0], told = take(this.size('mkstrike_outlined'));
       const call = (points, room, ends, contours) => this.calls.mkstrike_outline(...this.ofFont(), ppem, mode & HINTED, glyph, points,
         BigInt(room), ends, BigInt(contours), told, refused);
-      if (call(told, 0, told, 0)) return {}; // an address, since the calls themselves know no NULL
+      if (call(0n, 0, 0n, 0)) return {};
       const counts = this.read('mkstrike_outlined', told), each = this.size('mkstrike_outline_point');
       const points = take(counts.points * each), ends = take(2 * counts.contours);
       if (call(points, counts.points, ends, counts.contours)) return {};
@@ -202,8 +202,8 @@ export class Mkstrike {
   // The refusal of one character, or null.
   refusalOf(ppem, mode, code) {
     return this.within((take) => {
-      const info = take(this.size('mkstrike_glyph_info')), refused = take(this.size('mkstrike_refused'));
-      const status = this.calls.mkstrike_glyph(...this.ofFont(), ppem, mode | PACKED, code, info, 0n, info, refused);
+      const refused = take(this.size('mkstrike_refused'));
+      const status = this.calls.mkstrike_glyph(...this.ofFont(), ppem, mode | PACKED, code, 0n, 0n, 0n, refused);
       return status > MISSING ? this.refusedAt(refused) : null;
     });
   }
@@ -257,7 +257,7 @@ export class Mkstrike {
     return this.within((take) => {
       const count = take(8), refused = take(this.size('mkstrike_refused'));
       const call = (chars, room) => this.calls.mkstrike_characters(...this.ofFont(), chars, BigInt(room), count, refused);
-      if (call(count, 0)) return { refused: this.refusedAt(refused) }; // an address, since the calls themselves know no NULL
+      if (call(0n, 0)) return { refused: this.refusedAt(refused) };
       const size = this.count(count), chars = take(4 * size);
       call(chars, size);
       return { chars: new Uint32Array(this.calls.memory.buffer, Number(chars), size).slice() };

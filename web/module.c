@@ -3,9 +3,8 @@
  *
  * Blocks of memory are powers of two, with a list of free ones for each size. The module's memory grows when no free block is large
  * enough, and never shrinks: a page that wants it back makes a new instance. */
-typedef __SIZE_TYPE__ size_t; /* the kit's compiler has no headers */
-typedef __UINT64_TYPE__ uint64_t;
-#define NULL ((void *)0)
+#include <stddef.h>
+#include <stdint.h>
 
 _Static_assert(sizeof(size_t) == 8, "for WebAssembly with addresses of 64 bits: tools/web_memory32.py makes the memory 32-bit");
 

@@ -34,7 +34,7 @@ use Rattle.mkstrike_c.specs.Refused.{IsReason}
 use Rattle.mkstrike_c.specs.Pixels.{row_byte, row_bytes, size_of, stride_of}
 use Rattle.mkstrike_c.specs.Drawn.{AreDrawn, AreOutcomesOf, HasFront, IsOutcomeOf, Outcome, all_pixels, drawn_of, entries_from}
 use Rattle.mkstrike_c.specs.Drawn.{entry_of, first_refused, is_made, is_missing, is_refused, pixels_of, refused_in}
-use Rattle.mkstrike_c.specs.inner.Gathering.{AreGathered, Holds, IsGathered, IsTold, is_memory, with_one}
+use Rattle.mkstrike_c.specs.inner.Gathering.{AreGathered, AreTold, Holds, IsGathered, is_memory, with_one}
 
 -- ---- lists with room
 
@@ -323,7 +323,7 @@ pub all_drawn : (wanted : Wanted) (due : Result Setting Refusal) (codes : List �
     (old_entries new_entries : List Placed) (old new : List ℕ) (drawn : Drawn) (old_refused new_refused : Refused) (result : ℕ)
     → wanted.entries ≡ length old_entries → wanted.pixels ≡ length old → length new_entries ≡ length old_entries
     → length new ≡ length old → IfOk found (IsGathered wanted due codes)
-    → IfOk found (λ g. IsTold g old_entries new_entries old new drawn old_refused new_refused result)
+    → IfOk found (λ g. AreTold g old_entries new_entries old new drawn old_refused new_refused result)
     → IfErr found (λ r. 10 ≤ result) → result ≡ 0
     → AreDrawn wanted.packed due codes old_entries new_entries old new drawn old_refused new_refused
 all_drawn wanted due codes (Ok g) old_entries new_entries old new drawn old_refused new_refused result p q same_entries same h told

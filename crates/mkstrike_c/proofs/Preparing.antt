@@ -30,8 +30,8 @@ use Rattle.mkstrike_c.specs.declared.refused.Refused.{Refused}
 use Rattle.mkstrike_c.specs.Prepared.{AreOwn, AreWordsOf, IsBlock, IsFor, IsOwn, IsRefusedBy, origin_words}
 use Rattle.mkstrike_c.specs.Refused.{IsReason, refused_of}
 use Rattle.mkstrike_c.specs.Shown.{by_id}
-use Rattle.mkstrike_c.specs.inner.Gathering.{AreGathered, IsGathered, IsTold}
-use Rattle.mkstrike_c.specs.inner.Showing.{FindsById, IsFoundBy, IsPut}
+use Rattle.mkstrike_c.specs.inner.Gathering.{AreGathered, AreTold, IsGathered}
+use Rattle.mkstrike_c.specs.inner.Showing.{FindsById, IsFoundBy, IsTold}
 use Rattle.mkstrike_c.proofs.Gathering.{gathered_from, opened_late, refused_later}
 use Rattle.mkstrike_c.proofs.Showing.{by_id_set, late_at}
 
@@ -307,7 +307,7 @@ found_due D W (Err e) h = tt
 -- whatever the words are, a glyph was told, or a refusal is named
 pub glyph_named : (known packed : Bool) (old new : List ℕ) (old_info new_info : GlyphInfo)
     (found : Result (Option bits.Glyph) Refusal) (result : ℕ) (refused : Refused) → known ≡ true
-    → IfOk found (λ made. IsPut packed made old new old_info new_info result)
+    → IfOk found (λ made. IsTold packed made old new old_info new_info result)
     → IfErr found (λ r. (result ≡ number_of r) × (refused ≡ refused_of r)) → 1 < result → IsRefusedBy known result refused
 glyph_named known packed old new old_info new_info (Ok (Some g)) result refused k put named big =
     absurd (omega (arith, put.0, big))
@@ -317,7 +317,7 @@ glyph_named known packed old new old_info new_info (Err r) result refused k put 
 -- the same of many
 pub glyphs_named : (known : Bool) (old_entries new_entries : List Placed) (old new : List ℕ) (drawn : Drawn)
     (old_refused refused : Refused) (found : Result GlyphBuffers Refusal) (result : ℕ) → known ≡ true
-    → IfOk found (λ g. IsTold g old_entries new_entries old new drawn old_refused refused result)
+    → IfOk found (λ g. AreTold g old_entries new_entries old new drawn old_refused refused result)
     → IfErr found (λ r. (result ≡ number_of r) × (refused ≡ refused_of r)) → 0 < result → IsRefusedBy known result refused
 glyphs_named known old_entries new_entries old new drawn old_refused refused (Ok g) result k told named big =
     absurd (omega (arith, told.done, big))

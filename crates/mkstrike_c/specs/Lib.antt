@@ -6,6 +6,7 @@ pub mod Made
 pub mod Shown
 pub mod Drawn
 pub mod Fonts
+pub mod FontAt
 pub mod Outlines
 pub mod Prepared
 pub mod inner

@@ -9,8 +9,10 @@ use Rattle.fx_request.specs.declared.refusal.Refusal.{Refusal}
 use Rattle.fx_strike.specs.declared.opened.Opened.{Opened}
 use Rattle.fx_strike.specs.Strike.{Opening, Setting, machine_for, opened_at}
 use Rattle.fx_strike.specs.Blocks.{IsBlockFor, has_block}
+use Rattle.mkstrike_c.specs.declared.font_at.Prepared.{Prepared}
 use Rattle.mkstrike_c.specs.declared.refused.Refused.{Refused}
 use Rattle.mkstrike_c.specs.Drawn.{HasFront}
+use Rattle.mkstrike_c.specs.Modes.{mode_of}
 use Rattle.fx_request.specs.Refusals.{number_of}
 use Rattle.mkstrike_c.specs.Refused.{IsRefused, bad_block, bad_mode, no_fields, refused_of}
 
@@ -88,3 +90,15 @@ HasChecksum file face ppem hinting block = (f : List ℕ) (i s : ℕ) (o p : Ope
 -- a block that is taken is for this, and is of no font with another checksum
 abbrev pub IsOwn : List ℕ → ℕ → ℕ → Bool → List ℕ → Type 0
 IsOwn file face ppem hinting block = IsFor file face ppem hinting block × HasChecksum file face ppem hinting block
+
+-- of what C hands over with a block: words that begin as one of its font at its size
+abbrev pub HasItsOrigin : Prepared → Type 0
+HasItsOrigin by = BeginsFor by.at.font.now by.at.face by.at.ppem (mode_of by.at.mode).hinting by.block.now
+
+-- a block of that
+abbrev pub HasItsBlock : Prepared → Type 0
+HasItsBlock by = IsBlock by.at.font.now by.at.face by.at.ppem (mode_of by.at.mode).hinting by.block.now
+
+-- a block that is taken for that
+abbrev pub IsItsOwn : Prepared → Type 0
+IsItsOwn by = IsOwn by.at.font.now by.at.face by.at.ppem (mode_of by.at.mode).hinting by.block.now

@@ -5,13 +5,15 @@
 ghost use Rattle.std.specs.Prelude.{◌≡◌, ◌<◌, ◌++◌, ◌/◌, ◌%◌, ◌^◌, ◌≤◌, true, ℕ, Bool, List, IfOk, IfErr, IfSome, IsNone, IsSome, OnOk, length, option_map};
 ghost use Rattle.fx_sfnt.specs.Collections.{face_in};
 ghost use Rattle.fx_strike.specs.Strike.{opened_at, setting_of};
+ghost use Rattle.mkstrike_c.specs.FontAt.{file_at};
 ghost use Rattle.mkstrike_c.specs.Modes.{is_mode, mode_of};
-ghost use Rattle.mkstrike_c.specs.Prepared.{AreWordsOf, BeginsFor, HasNone, IsBlock, IsFor, IsPrepared, IsUnprepared};
-ghost use Rattle.mkstrike_c.specs.Prepared.{origin_words};
+ghost use Rattle.mkstrike_c.specs.Prepared.{AreWordsOf, HasItsBlock, HasItsOrigin, HasNone, IsBlock, IsFor, IsPrepared};
+ghost use Rattle.mkstrike_c.specs.Prepared.{IsUnprepared, origin_words};
 ghost use Rattle.mkstrike_c.specs.Refused.{IsReason};
 ghost use Rattle.mkstrike_c.specs.inner.Origin.{after_origin, has_origin};
 
 use crate::buffer::put_front;
+use crate::font_at::{FontAt, Prepared};
 use crate::mode::{is_mode, mode_of};
 use crate::refused::{Refused, refuse, refuse_block, refuse_mode};
 use fx_request::{Mode, Refusal};
@@ -89,20 +91,17 @@ fn after_origin<'a>(
 }
 
 /// The words of a block after those that say what it is for, if that is this font, face and size, and programs that run or don't.
-pub fn words_for<'a>(
-    font: &[u8],
-    face: u32,
-    ppem: u16,
-    hinting: bool,
-    block: &'a [u32],
-) -> Option<&'a [u32]>
-    ensures words { IfSome result (λ w. (f : List ℕ) (i s : ℕ) (h : Bool) → IsBlock f i s h block.now
+pub fn words_for<'a>(by: &Prepared<'a>) -> Option<&'a [u32]>
+    ensures words { IfSome result (λ w. (f : List ℕ) (i s : ℕ) (h : Bool) → IsBlock f i s h by.now.block.now
         → AreWordsOf (face_in f i) s h w.now) }
-    ensures taken { IsBlock font.now face ppem hinting block.now → IsSome result }
-    ensures own { IsSome result → IsFor font.now face ppem hinting block.now }
-    ensures begins { IfSome result (λ w. BeginsFor font.now face ppem hinting block.now) }
+    ensures taken { HasItsBlock by.now → IsSome result }
+    ensures own { IsSome result → IsFor by.now.at.font.now by.now.at.face by.now.at.ppem (mode_of by.now.at.mode).hinting
+        by.now.block.now }
+    ensures begins { IfSome result (λ w. HasItsOrigin by.now) }
 {
-    let Some(words) = after_origin(font, face, ppem, hinting, block) else {
+    let at = &by.at;
+    let hinting = mode_of(at.mode).hinting;
+    let Some(words) = after_origin(at.font, at.face, at.ppem, hinting, by.block) else {
         return None;
     };
     Some(words)
@@ -135,31 +134,28 @@ fn block_of(
 /// Returns 0; or the number of a refusal, whose fields it puts into `refused`.
 #[unsafe(no_mangle)]
 pub extern "C" fn proved_mkstrike_prepare(
-    alloc: Global,
-    font: &[u8],
-    face: u32,
-    ppem: u16,
-    mode: u32,
+    at: &FontAt<'_>,
     block: &mut [u32],
     need: &mut usize,
     refused: &mut Refused,
 ) -> u32
     // No bit of the mode is unknown.
-    ensures known { result ≡ 0 → is_mode mode ≡ true }
+    ensures known { result ≡ 0 → is_mode at.now.mode ≡ true }
     // A block was made, as many of its words as fit were copied, and this is how many it has.
-    ensures block { result ≡ 0 → IsPrepared font.now face ppem (mode_of mode).hinting block.old block.new need.new }
+    ensures block { result ≡ 0 → IsPrepared at.now.font.now at.now.face at.now.ppem (mode_of at.now.mode).hinting
+        block.old block.new need.new }
     // The mode was named; or the first cause; or memory was refused, after the font and its character map opened; or there is no
     // block of the font.
-    ensures refused { 0 < result → IsUnprepared (is_mode mode) (opened_at (face_in font.now face) ppem)
-        (setting_of (face_in font.now face) ppem (mode_of mode)) result refused.new }
+    ensures refused { 0 < result → IsUnprepared (is_mode at.now.mode) (opened_at (file_at at.now) at.now.ppem)
+        (setting_of (file_at at.now) at.now.ppem (mode_of at.now.mode)) result refused.new }
     // Nothing but what was named is written.
     ensures kept { 0 < result → (block.new ≡ block.old) × (need.new ≡ need.old) }
     ensures silent { result ≡ 0 → refused.new ≡ refused.old }
 {
-    if !is_mode(mode) {
+    if !is_mode(at.mode) {
         return refuse_mode(refused);
     }
-    match block_of(alloc, font, face, ppem, mode_of(mode)) {
+    match block_of(at.alloc, at.font, at.face, at.ppem, mode_of(at.mode)) {
         Ok(Some(words)) => {
             put_front(block, words.as_slice());
             *need = words.len();

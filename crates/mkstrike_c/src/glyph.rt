@@ -1,15 +1,16 @@
 //! One glyph for C.
 ghost use Rattle.std.specs.Prelude.{◌≡◌, ◌<◌, ◌≤◌, ◌^◌, length, min, true, IfOk, IfErr};
 ghost use Rattle.std.specs.List.{flat_map};
-ghost use Rattle.fx_sfnt.specs.Collections.{face_in};
 ghost use Rattle.fx_request.specs.Refusals.{number_of};
 ghost use Rattle.fx_strike.specs.Strike.{one_of, opened_at, opened_one_of};
+ghost use Rattle.mkstrike_c.specs.FontAt.{file_at};
 ghost use Rattle.mkstrike_c.specs.Modes.{is_mode, is_packed, mode_of};
 ghost use Rattle.mkstrike_c.specs.Pixels.{row_bytes, size_of};
 ghost use Rattle.mkstrike_c.specs.Shown.{HasPixels, IsMissing, IsShown, by_id, info_of, status_of};
 ghost use Rattle.mkstrike_c.specs.Refused.{IsReason, IsRefused, refused_of};
-ghost use Rattle.mkstrike_c.specs.inner.Showing.{FindsById, IsPut};
+ghost use Rattle.mkstrike_c.specs.inner.Showing.{FindsById, IsTold};
 
+use crate::font_at::FontAt;
 use crate::mode::{is_mode, is_packed, mode_of};
 use crate::pixels::{put_pixels, stride};
 use crate::refused::{Refused, refuse, refuse_mode};
@@ -89,7 +90,7 @@ pub fn tell(
     info: &mut GlyphInfo,
     refused: &mut Refused,
 ) -> u32
-    ensures found { IfOk found (λ made. IsPut packed made pixels.old pixels.new info.old info.new result) }
+    ensures found { IfOk found (λ made. IsTold packed made pixels.old pixels.new info.old info.new result) }
     ensures silent { IfOk found (λ made. refused.new ≡ refused.old) }
     ensures refused { IfErr found (λ r. (result ≡ number_of r) × (refused.new ≡ refused_of r)) }
     ensures least { IfErr found (λ r. 10 ≤ result) }
@@ -112,35 +113,31 @@ pub fn tell(
 /// a refusal, whose fields it puts into `refused`.
 #[unsafe(no_mangle)]
 pub extern "C" fn proved_mkstrike_glyph(
-    alloc: Global,
-    font: &[u8],
-    face: u32,
-    ppem: u16,
-    mode: u32,
+    at: &FontAt<'_>,
     code: u32,
     pixels: &mut [u8],
     info: &mut GlyphInfo,
     refused: &mut Refused,
 ) -> u32
     // No bit of the mode is unknown.
-    ensures known { result ≤ 1 → is_mode mode ≡ true }
+    ensures known { result ≤ 1 → is_mode at.now.mode ≡ true }
     // The glyph is that of the character; these are its numbers, and its pixels where there is room.
-    ensures shown { result ≡ 0 → IsShown (is_packed mode) (one_of (face_in font.now face) ppem code (mode_of mode))
+    ensures shown { result ≡ 0 → IsShown (is_packed at.now.mode) (one_of (file_at at.now) at.now.ppem code (mode_of at.now.mode))
         pixels.old pixels.new info.new }
     // The font does not have the character.
-    ensures missing { result ≡ 1 → IsMissing (one_of (face_in font.now face) ppem code (mode_of mode)) }
+    ensures missing { result ≡ 1 → IsMissing (one_of (file_at at.now) at.now.ppem code (mode_of at.now.mode)) }
     // The mode was named; or the first cause; or memory was refused, after the font and its character map opened.
-    ensures refused { 1 < result → IsRefused (is_mode mode) (opened_one_of (face_in font.now face) ppem code)
-        (one_of (face_in font.now face) ppem code (mode_of mode)) result refused.new }
+    ensures refused { 1 < result → IsRefused (is_mode at.now.mode) (opened_one_of (file_at at.now) at.now.ppem code)
+        (one_of (file_at at.now) at.now.ppem code (mode_of at.now.mode)) result refused.new }
     // Nothing but what was named is written.
     ensures kept { 0 < result → (pixels.new ≡ pixels.old) × (info.new ≡ info.old) }
     ensures silent { result ≤ 1 → refused.new ≡ refused.old }
 {
-    if !is_mode(mode) {
+    if !is_mode(at.mode) {
         return refuse_mode(refused);
     }
-    let found = one(alloc, &FontFile::new(font, face), ppem, code, mode_of(mode));
-    tell(found, is_packed(mode), pixels, info, refused)
+    let found = one(at.alloc, &at.file(), at.ppem, code, mode_of(at.mode));
+    tell(found, is_packed(at.mode), pixels, info, refused)
 }
 
 /// A glyph's number in 16 bits; no font has a glyph of the number 65,535.
@@ -170,37 +167,27 @@ fn found_by_id(
 /// Makes a glyph of a font by its number, as `mkstrike_glyph` makes that of a character.
 #[unsafe(no_mangle)]
 pub extern "C" fn proved_mkstrike_glyph_by_id(
-    alloc: Global,
-    font: &[u8],
-    face: u32,
-    ppem: u16,
-    mode: u32,
+    at: &FontAt<'_>,
     glyph: u32,
     pixels: &mut [u8],
     info: &mut GlyphInfo,
     refused: &mut Refused,
 ) -> u32
     // No bit of the mode is unknown.
-    ensures known { result ≡ 0 → is_mode mode ≡ true }
+    ensures known { result ≡ 0 → is_mode at.now.mode ≡ true }
     // The glyph is that of the number; these are its numbers, and its pixels where there is room.
-    ensures shown { result ≡ 0 → IsShown (is_packed mode) (by_id (face_in font.now face) ppem glyph (mode_of mode))
+    ensures shown { result ≡ 0 → IsShown (is_packed at.now.mode) (by_id (file_at at.now) at.now.ppem glyph (mode_of at.now.mode))
         pixels.old pixels.new info.new }
     // The mode was named; or the first cause; or memory was refused, after the font and its character map opened.
-    ensures refused { 0 < result → IsRefused (is_mode mode) (opened_at (face_in font.now face) ppem)
-        (by_id (face_in font.now face) ppem glyph (mode_of mode)) result refused.new }
+    ensures refused { 0 < result → IsRefused (is_mode at.now.mode) (opened_at (file_at at.now) at.now.ppem)
+        (by_id (file_at at.now) at.now.ppem glyph (mode_of at.now.mode)) result refused.new }
     // Nothing but what was named is written.
     ensures kept { 0 < result → (pixels.new ≡ pixels.old) × (info.new ≡ info.old) }
     ensures silent { result ≡ 0 → refused.new ≡ refused.old }
 {
-    if !is_mode(mode) {
+    if !is_mode(at.mode) {
         return refuse_mode(refused);
     }
-    let found = found_by_id(
-        alloc,
-        &FontFile::new(font, face),
-        ppem,
-        glyph,
-        mode_of(mode),
-    );
-    tell(found, is_packed(mode), pixels, info, refused)
+    let found = found_by_id(at.alloc, &at.file(), at.ppem, glyph, mode_of(at.mode));
+    tell(found, is_packed(at.mode), pixels, info, refused)
 }

@@ -1,14 +1,15 @@
 //! Many characters for C.
 ghost use Rattle.std.specs.Prelude.{◌≡◌, ◌<◌, ◌≤◌, [], true, false, Ok, IfOk, IfErr, OnOk, length};
-ghost use Rattle.fx_sfnt.specs.Collections.{face_in};
 ghost use Rattle.fx_request.specs.Refusals.{number_of};
 ghost use Rattle.fx_strike.specs.Strike.{checked_chars, opened_many_of, setting_for};
 ghost use Rattle.mkstrike_c.specs.Drawn.{AreDrawn};
+ghost use Rattle.mkstrike_c.specs.FontAt.{file_at};
 ghost use Rattle.mkstrike_c.specs.Modes.{is_mode, is_packed, mode_of};
 ghost use Rattle.mkstrike_c.specs.Refused.{IsReason, IsRefused, refused_of};
-ghost use Rattle.mkstrike_c.specs.inner.Gathering.{AreCounted, AreGathered, Holds, IsGathered, IsTold, is_memory};
+ghost use Rattle.mkstrike_c.specs.inner.Gathering.{AreCounted, AreGathered, AreTold, Holds, IsGathered, is_memory};
 
 use crate::buffer::put_front;
+use crate::font_at::FontAt;
 use crate::gathered::{Drawn, GlyphBuffers, Outcome, Placed, Wanted};
 use crate::mode::{is_mode, is_packed, mode_of};
 use crate::refused::{Refused, refuse, refuse_mode};
@@ -84,14 +85,14 @@ fn gathered_of(
 }
 
 /// Copies what was gathered to the front of the caller's buffers, or tells why there is nothing.
-pub fn tell(
+pub fn tell_all(
     found: Result<GlyphBuffers, Refusal>,
     glyphs: &mut [Placed],
     pixels: &mut [u8],
     drawn: &mut Drawn,
     refused: &mut Refused,
 ) -> u32
-    ensures found { IfOk found (λ g. IsTold g glyphs.old glyphs.new pixels.old pixels.new drawn.new
+    ensures found { IfOk found (λ g. AreTold g glyphs.old glyphs.new pixels.old pixels.new drawn.new
         refused.old refused.new result) }
     ensures refused { IfErr found (λ r. (result ≡ number_of r) × (refused.new ≡ refused_of r)) }
     ensures least { IfErr found (λ r. 10 ≤ result) }
@@ -116,11 +117,7 @@ pub fn tell(
 /// into `refused`.
 #[unsafe(no_mangle)]
 pub extern "C" fn proved_mkstrike_glyphs(
-    alloc: Global,
-    font: &[u8],
-    face: u32,
-    ppem: u16,
-    mode: u32,
+    at: &FontAt<'_>,
     chars: &[u32],
     glyphs: &mut [Placed],
     pixels: &mut [u8],
@@ -128,27 +125,28 @@ pub extern "C" fn proved_mkstrike_glyphs(
     refused: &mut Refused,
 ) -> u32
     // No bit of the mode is unknown.
-    ensures known { result ≡ 0 → is_mode mode ≡ true }
+    ensures known { result ≡ 0 → is_mode at.now.mode ≡ true }
     // The glyphs are those of the characters; as many of their entries and pixels as fit were copied, and the first character that
     // was refused was told.
-    ensures drawn { result ≡ 0 → AreDrawn (is_packed mode) (setting_for (face_in font.now face) ppem chars.now (mode_of mode))
+    ensures drawn { result ≡ 0 → AreDrawn (is_packed at.now.mode)
+        (setting_for (file_at at.now) at.now.ppem chars.now (mode_of at.now.mode))
         chars.now glyphs.old glyphs.new pixels.old pixels.new drawn.new refused.old refused.new }
     // The mode was named; or the first cause; or memory was refused, after the size and the characters passed and the font and its
     // map opened.
-    ensures refused { 0 < result → IsRefused (is_mode mode) (opened_many_of (face_in font.now face) ppem chars.now)
-        (setting_for (face_in font.now face) ppem chars.now (mode_of mode)) result refused.new }
+    ensures refused { 0 < result → IsRefused (is_mode at.now.mode) (opened_many_of (file_at at.now) at.now.ppem chars.now)
+        (setting_for (file_at at.now) at.now.ppem chars.now (mode_of at.now.mode)) result refused.new }
     // A refusal leaves the buffers and what is told as they were.
     ensures kept { 0 < result → (glyphs.new ≡ glyphs.old) × (pixels.new ≡ pixels.old) × (drawn.new ≡ drawn.old) }
 {
-    if !is_mode(mode) {
+    if !is_mode(at.mode) {
         return refuse_mode(refused);
     }
     let wanted = Wanted {
-        packed: is_packed(mode),
+        packed: is_packed(at.mode),
         entries: glyphs.len(),
         pixels: pixels.len(),
     };
-    let font = FontFile::new(font, face);
-    let found = gathered_of(alloc, &font, ppem, mode_of(mode), chars, wanted);
-    tell(found, glyphs, pixels, drawn, refused)
+    let how = mode_of(at.mode);
+    let found = gathered_of(at.alloc, &at.file(), at.ppem, how, chars, wanted);
+    tell_all(found, glyphs, pixels, drawn, refused)
 }

@@ -9,14 +9,15 @@
 //! takes all that it needs and keeps nothing from call to call. What they leave in the caller's buffers is said in `specs/`, by the
 //! definitions of the crates below.
 //!
-//! The functions here have `proved_` before these names, and take an address for each pointer. `c/calls.c` defines the calls that
-//! `include/mkstrike.h` declares, which may be handed NULL.
+//! The functions here have `proved_` before these names, and take an address for each pointer; those that draw take the font, its
+//! size and the mode in one struct. `c/calls.c` defines the calls that `include/mkstrike.h` declares, which may be handed NULL.
 #![tactic(auto)]
 
 mod block;
 mod buffer;
 mod characters;
 mod font;
+mod font_at;
 mod font_names;
 mod gathered;
 mod glyph;
@@ -37,6 +38,7 @@ mod version;
 pub use block::proved_mkstrike_prepare;
 pub use characters::proved_mkstrike_characters;
 pub use font::{FontInfo, proved_mkstrike_faces, proved_mkstrike_font};
+pub use font_at::{FontAt, Prepared};
 pub use font_names::proved_mkstrike_name;
 pub use gathered::{Drawn, Placed};
 pub use glyph::{GlyphInfo, proved_mkstrike_glyph, proved_mkstrike_glyph_by_id};

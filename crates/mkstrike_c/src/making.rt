@@ -1,13 +1,14 @@
 //! A strike for C.
 ghost use Rattle.std.specs.Prelude.{◌≡◌, ◌<◌, ◌≤◌, true, IfOk, IfErr};
-ghost use Rattle.fx_sfnt.specs.Collections.{face_in};
 ghost use Rattle.fx_strike.specs.Strike.{opened_of, plan_of};
 ghost use Rattle.fx_strike.specs.Headline.{opening_of, strike_of};
+ghost use Rattle.mkstrike_c.specs.FontAt.{file_at};
 ghost use Rattle.mkstrike_c.specs.Made.{AreNamesAlike, HoldsText, IsMade, called, told_of};
 ghost use Rattle.mkstrike_c.specs.Modes.{is_strike_mode, mode_of};
 ghost use Rattle.mkstrike_c.specs.Refused.{IsReason, IsRefused};
 
 use crate::buffer::put_front;
+use crate::font_at::FontAt;
 use crate::mode::{is_strike_mode, is_x11, mode_of};
 use crate::refused::{Refused, refuse, refuse_mode};
 use crate::sink::TextSink;
@@ -106,11 +107,7 @@ fn text_for<'r>(
 /// that of the whole text. Returns 0; or the number of a refusal, whose fields it puts into `refused`.
 #[unsafe(no_mangle)]
 pub extern "C" fn proved_mkstrike_make(
-    alloc: Global,
-    font: &[u8],
-    face: u32,
-    ppem: u16,
-    mode: u32,
+    at: &FontAt<'_>,
     chars: &[u32],
     name: &[u8],
     out: &mut [u8],
@@ -118,24 +115,25 @@ pub extern "C" fn proved_mkstrike_make(
     refused: &mut Refused,
 ) -> u32
     // No bit of the mode is unknown.
-    ensures known { result ≡ 0 → is_strike_mode mode ≡ true }
+    ensures known { result ≡ 0 → is_strike_mode at.now.mode ≡ true }
     // The strike exists, and as much of its text as fits was copied.
     ensures made { result ≡ 0 → IsMade
-        (plan_of (face_in font.now face) ppem (called mode name.now) chars.now (mode_of mode) OnRefused.Stop)
+        (plan_of (file_at at.now) at.now.ppem (called at.now.mode name.now) chars.now (mode_of at.now.mode) OnRefused.Stop)
         out.old out.new told.new }
     // The mode was named; or the first cause; or memory was refused, after the request passed its checks and the font and its map
     // opened.
-    ensures refused { 0 < result → IsRefused (is_strike_mode mode)
-        (opened_of (face_in font.now face) ppem (called mode name.now) chars.now)
-        (plan_of (face_in font.now face) ppem (called mode name.now) chars.now (mode_of mode) OnRefused.Stop) result refused.new }
+    ensures refused { 0 < result → IsRefused (is_strike_mode at.now.mode)
+        (opened_of (file_at at.now) at.now.ppem (called at.now.mode name.now) chars.now)
+        (plan_of (file_at at.now) at.now.ppem (called at.now.mode name.now) chars.now (mode_of at.now.mode) OnRefused.Stop)
+        result refused.new }
     // A refusal leaves the buffer and what is told as they were, and a strike the refusal's fields.
     ensures kept { 0 < result → (out.new ≡ out.old) × (told.new ≡ told.old) }
     ensures silent { result ≡ 0 → refused.new ≡ refused.old }
 {
-    if !is_strike_mode(mode) {
+    if !is_strike_mode(at.mode) {
         return refuse_mode(refused);
     }
-    match text_for(alloc, &FontFile::new(font, face), ppem, mode, chars, name) {
+    match text_for(at.alloc, &at.file(), at.ppem, at.mode, chars, name) {
         Ok((sink, report)) => {
             put_front(out, sink.text());
             *told = told_of(sink.text(), report);

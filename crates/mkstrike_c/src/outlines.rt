@@ -1,14 +1,15 @@
 //! The outline of one glyph for C.
 ghost use Rattle.std.specs.Prelude.{◌≡◌, ◌<◌, map, min, true, IfOk, IfErr};
 ghost use Rattle.fx_hint.specs.Outlines.{view_of_glyph_outline};
-ghost use Rattle.fx_sfnt.specs.Collections.{face_in};
 ghost use Rattle.fx_strike.specs.Strike.{opened_at};
 ghost use Rattle.mkstrike_c.specs.Drawn.{HasFront};
+ghost use Rattle.mkstrike_c.specs.FontAt.{file_at};
 ghost use Rattle.mkstrike_c.specs.Modes.{is_mode, mode_of};
 ghost use Rattle.mkstrike_c.specs.Outlines.{IsOutlined, outline_by_id, outlined_of, point_of};
 ghost use Rattle.mkstrike_c.specs.Refused.{IsReason, IsRefused};
 
 use crate::buffer::put_front;
+use crate::font_at::FontAt;
 use crate::glyph::id_of;
 use crate::mode::{is_mode, mode_of};
 use crate::refused::{Refused, refuse, refuse_mode};
@@ -93,11 +94,7 @@ fn outline_by_id(
 /// refusal, whose fields it puts into `refused`.
 #[unsafe(no_mangle)]
 pub extern "C" fn proved_mkstrike_outline(
-    alloc: Global,
-    font: &[u8],
-    face: u32,
-    ppem: u16,
-    mode: u32,
+    at: &FontAt<'_>,
     glyph: u32,
     points: &mut [OutlinePoint],
     ends: &mut [u16],
@@ -105,27 +102,21 @@ pub extern "C" fn proved_mkstrike_outline(
     refused: &mut Refused,
 ) -> u32
     // No bit of the mode is unknown.
-    ensures known { result ≡ 0 → is_mode mode ≡ true }
+    ensures known { result ≡ 0 → is_mode at.now.mode ≡ true }
     // The outline is that of the glyph: these are its points, the last points of its contours, and its counts.
-    ensures outlined { result ≡ 0 → IsOutlined (outline_by_id (face_in font.now face) ppem glyph (mode_of mode))
+    ensures outlined { result ≡ 0 → IsOutlined (outline_by_id (file_at at.now) at.now.ppem glyph (mode_of at.now.mode))
         points.old points.new ends.old ends.new told.new }
     // The mode was named; or the first cause; or memory was refused, after the font and its character map opened.
-    ensures refused { 0 < result → IsRefused (is_mode mode) (opened_at (face_in font.now face) ppem)
-        (outline_by_id (face_in font.now face) ppem glyph (mode_of mode)) result refused.new }
+    ensures refused { 0 < result → IsRefused (is_mode at.now.mode) (opened_at (file_at at.now) at.now.ppem)
+        (outline_by_id (file_at at.now) at.now.ppem glyph (mode_of at.now.mode)) result refused.new }
     // Nothing but what was named is written.
     ensures kept { 0 < result → (points.new ≡ points.old) × (ends.new ≡ ends.old) × (told.new ≡ told.old) }
     ensures silent { result ≡ 0 → refused.new ≡ refused.old }
 {
-    if !is_mode(mode) {
+    if !is_mode(at.mode) {
         return refuse_mode(refused);
     }
-    match outline_by_id(
-        alloc,
-        &FontFile::new(font, face),
-        ppem,
-        glyph,
-        mode_of(mode),
-    ) {
+    match outline_by_id(at.alloc, &at.file(), at.ppem, glyph, mode_of(at.mode)) {
         Ok(outline) => {
             put_points(&outline.outline.points, points);
             put_front(ends, &outline.outline.ends);

@@ -56,7 +56,7 @@ pub record IsGathered (wanted : Wanted) (due : Result Setting Refusal) (codes : 
   pub are : AreGathered setting codes wanted g
 
 -- what was gathered was copied and told
-pub record IsTold (g : GlyphBuffers) (old_entries new_entries : List Placed) (old new : List ℕ) (drawn : Drawn)
+pub record AreTold (g : GlyphBuffers) (old_entries new_entries : List Placed) (old new : List ℕ) (drawn : Drawn)
     (old_refused new_refused : Refused) (result : ℕ) : Type 0
   where
     pub done : result ≡ 0

@@ -12,9 +12,9 @@ abbrev pub FindsById : Result (Option Sketch) Refusal → Option bits.Glyph → 
 FindsById due found = (glyph : bits.Glyph) × (found ≡ Some glyph) × IsOneOf due (Some glyph)
 
 -- the numbers and the pixels of a glyph were told; of none nothing was
-abbrev pub IsPut : Bool → Option bits.Glyph → List ℕ → List ℕ → GlyphInfo → GlyphInfo → ℕ → Type 0
-IsPut packed (Some g) old new old_info info result = (result ≡ 0) × (info ≡ info_of packed g) × HasPixels packed g old new
-IsPut packed None old new old_info info result = (result ≡ 1) × (new ≡ old) × (info ≡ old_info)
+abbrev pub IsTold : Bool → Option bits.Glyph → List ℕ → List ℕ → GlyphInfo → GlyphInfo → ℕ → Type 0
+IsTold packed (Some g) old new old_info info result = (result ≡ 0) × (info ≡ info_of packed g) × HasPixels packed g old new
+IsTold packed None old new old_info info result = (result ≡ 1) × (new ≡ old) × (info ≡ old_info)
 
 -- words were taken for a block, and with what they say a value was found that is the one due, or a refusal that is the reason
 abbrev pub IsFoundBy : {A : Type 0} → (A → Type 0) → (Refusal → Type 0) → Option (Result A Refusal) → Type 0

@@ -5,12 +5,13 @@ use Rattle.mkstrike_c.proofs.prepared.proved_mkstrike_glyph_prepared.Goals as go
 
 pub returns-clause-own : goal.returns-clause-own
 returns-clause-own c small =
-    own_found c.args.font.now c.args.face c.args.ppem (mode_of c.args.mode).hinting c.args.block.now c.in-Some.words.now
-    c.in-Some-one_by.found c.tell.result (rw c.mode_of-how.ensures at (c.in-Some.ensures.own refl)) c.in-Some.ensures.words
-    (rw (c.mode_of-how.ensures, c.new-font.ensures) at c.in-Some-one_by.ensures.own) c.tell.ensures.least small
+    let a = c.args.by.now.at in
+    own_found a.font.now a.face a.ppem (mode_of a.mode).hinting c.args.by.now.block.now c.in-Some.words.now
+    c.in-Some-one_by.found c.tell.result (c.in-Some.ensures.own refl) c.in-Some.ensures.words
+    c.in-Some-one_by.ensures.own c.tell.ensures.least small
 
 pub returns-clause-named : goal.returns-clause-named
 returns-clause-named c = λ big.
-    glyph_named (is_mode c.args.mode) c.is_packed.result c.args.pixels.now c.tell.new.pixels c.args.info.now c.tell.new.info
-    c.in-Some-one_by.found c.tell.result c.tell.new.refused (sym c.is_mode.ensures ∙ c.if-not-is_mode.false)
+    glyph_named (is_mode c.args.by.now.at.mode) c.is_packed.result c.args.pixels.now c.tell.new.pixels c.args.info.now
+    c.tell.new.info c.in-Some-one_by.found c.tell.result c.tell.new.refused (sym c.is_mode.ensures ∙ c.if-not-is_mode.false)
     c.tell.ensures.found c.tell.ensures.refused big
