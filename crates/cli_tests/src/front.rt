@@ -1,6 +1,8 @@
 //! The front, with a place in memory and a program that does what it is told.
 use fx_fixed::{Limits, MemorySink, MemorySource, Sink, Source, put_all};
-use fx_front::{Ended, Facts, Parts, Destination, Tool, RefusalFacts, AskedRun, Text, run_to_place, say_after};
+use fx_front::{
+    AskedRun, Destination, Ended, Facts, Parts, RefusalFacts, Text, Tool, run_to_place, say_after,
+};
 use fx_words::{listed, part};
 use std::alloc::{AllocError, Global};
 use std::test::Fail;

@@ -34,7 +34,6 @@ pub use done::Done;
 pub use fault::Fault;
 pub use hexadecimal::decode_hex;
 pub use input::{LINE_BUFFER, arguments_of_line, read_line};
-pub use lines::{out_of_memory, usage};
 pub use read_ahead::ReadAhead;
 pub use teller::Teller;
 pub use wrong_items::{ItemFault, wrong_item};

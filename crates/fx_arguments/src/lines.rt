@@ -1,35 +1,13 @@
 //! Lines for people.
-ghost use Rattle.std.specs.Prelude.{◌≡◌, ◌∷◌, [], ◌++◌, ◌+◌, ◌<◌, ◌≤◌, ◌^◌, length};
-ghost use Rattle.fx_request.specs.declared.refusal.Refusal.TheVariants.{OutOfMemory};
-ghost use Rattle.fx_fixed.specs.Changes.{change_of};
+ghost use Rattle.std.specs.Prelude.{◌≡◌, ◌∷◌, [], ◌++◌, ◌+◌, ◌<◌, ◌≤◌, length};
 ghost use Rattle.fx_arguments.specs.declared.line.TheConstants.{CAPACITY};
 ghost use Rattle.fx_arguments.specs.Lines.{code_word, halt_words, notice_line, place_words, program_words};
-ghost use Rattle.fx_arguments.specs.Lines.{Tells, missing_line, refusal_line, refusal_words, report_line, spaced, usage_line};
+ghost use Rattle.fx_arguments.specs.Lines.{missing_line, refusal_line, refusal_words, report_line, spaced, usage_line};
 
 use crate::line::MessageLine;
-use fx_fixed::{Digits, Sink, put_all};
+use fx_fixed::Digits;
 use fx_machine::{FontProgram, Halt};
 use fx_request::{Location, Notice, Refusal, Report};
-
-/// Writes the line of invalid arguments, and returns the status.
-pub fn usage<E: Sink>(err: &mut E) -> u8
-    requires { E.fault_count err.old < 2 ^ 63 }
-    ensures status { result ≡ 2 }
-    ensures line { Tells usage_line (change_of E.held E.fault_count err.old err.new) }
-{
-    put_line(err, line_of_usage());
-    2
-}
-
-/// Writes the line of `OutOfMemory`, and returns the status.
-pub fn out_of_memory<E: Sink>(err: &mut E) -> u8
-    requires { E.fault_count err.old < 2 ^ 63 }
-    ensures status { result ≡ 1 }
-    ensures line { Tells (refusal_line OutOfMemory) (change_of E.held E.fault_count err.old err.new) }
-{
-    put_line(err, line_of_refusal(Refusal::OutOfMemory));
-    1
-}
 
 /// The line of invalid arguments, but for its end.
 pub(crate) fn line_of_usage() -> MessageLine
@@ -165,14 +143,4 @@ fn add_program(line: &mut MessageLine, program: FontProgram)
             line.number(u64::from(g));
         }
     }
-}
-
-/// Ends a line, and writes it. A fault of the sink is ignored.
-fn put_line<E: Sink>(err: &mut E, mut line: MessageLine)
-    requires fault { E.fault_count err.old < 2 ^ 63 }
-    requires room { length line < CAPACITY }
-    ensures { Tells (line ++ 10 ∷ []) (change_of E.held E.fault_count err.old err.new) }
-{
-    line.put(b"\n");
-    let _ = put_all(err, line.text());
 }

@@ -1,5 +1,5 @@
 -- Runs that tell of refused characters, and those that stop before.
--- Serves `run`, `run_line`, `run_command` and `run_task`.
+-- Serves `run`, `run_line`, `run_command`, `run_task` and `unread`.
 use Rattle.std.proofs.Common.{arith, ◌≡◌, ◌∙◌, ◌⊎◌, refl, sym, ap, subst, inl, inr, ℕ, ◌+◌, Bool, true, false, List, [], ◌∷◌, ◌++◌, length}
 use Rattle.std.proofs.Common.{Option, None, Result, Ok, Err}
 use Rattle.std.specs.Prelude.{IsErrOf, IsErrAnd}
@@ -21,6 +21,7 @@ use Rattle.fx_arguments.specs.declared.fault.Fault.{Fault}
 use Rattle.fx_arguments.specs.declared.fault.Fault.TheVariants.{Usage, Early, Late}
 use Rattle.fx_arguments.specs.Commands.{CommandView}
 use Rattle.fx_arguments.specs.Input.{IsLineCause, IsReadCause}
+use Rattle.fx_arguments.specs.Lines as lines
 use Rattle.fx_arguments.specs.Lines.{notice_line, outcome_line, status_of}
 use Rattle.fx_front.specs.Places.{IsStatus}
 use Rattle.fx_arguments.specs.ReadAhead.{ReadAheadView}
@@ -58,6 +59,15 @@ tells_same {was} {now} {text} h = tells_same_by was.failed was now text h.outcom
 pub heard_same : (notices : List Notice) (was now : TellerView) → HearsAll HearsLine was notices now → now.sink ≡ was.sink
 heard_same [] was now h = ap (λ (x : TellerView). x.sink) h
 heard_same (n ∷ ns) was now h = heard_same ns h.0 now h.2 ∙ tells_same h.1
+
+-- the line of how a run ended, told to a new teller
+pub begun_told : {name : GName} {old new : Option (List ℕ)} {faults_before faults : ℕ} {was end : TellerView}
+    {outcome due : Result Done Fault} → was ≡ begun name old faults_before → outcome ≡ due → Tells was end (outcome_line outcome)
+    → new ≡ end.held → faults ≡ end.faults → lines.Tells (outcome_line due)
+    (record { bytes_before = old; bytes = new; faults_before = faults_before; faults = faults })
+begun_told {end = end} {due = due} w e t held count =
+    let P : TellerView → Type 0 = λ x. Tells x end (outcome_line due) in
+    rw (held, count) (tells_change (subst P w (rw e at t)))
 
 -- there is no first line
 pub no_line : (given : List Text) (source sink : Change) (got : List ℕ) → has_arguments given ≡ false

@@ -11,7 +11,7 @@ ghost use Rattle.fx_cli.specs.Steps.{EndsAfter, Telling};
 
 use crate::mapped::mapped_of;
 use crate::show::put_picture;
-use crate::watcher::{NoWatcher, Watcher};
+use crate::watcher::Watcher;
 use fx_arguments::{
     CharacterChoice, Command, Done, Fault, LINE_BUFFER, Make, ReadAhead, Task, Teller,
     TraceSubject, arguments_of_line, decode_hex, read_arguments, read_line,
@@ -23,25 +23,9 @@ use fx_sfnt::FontFile;
 use fx_strike::{listing_of, make_strike_telling, trace_of, write_outline};
 use std::alloc::Global;
 
-/// Runs the program on the arguments of a command line, the program's name first. Returns the status: 0 done, 1 refused, 2 usage.
-pub fn run<R: Source, O: Sink, E: Sink>(
-    alloc: Global,
-    arguments: &[&str],
-    reader: &mut R,
-    out: &mut O,
-    err: &mut E,
-) -> u8
-    requires reader { R.fault_count reader.old < 2 ^ 63 }
-    requires out { O.fault_count out.old < 2 ^ 63 }
-    requires err { E.fault_count err.old < 2 ^ 63 }
-    ensures { Runs (texts arguments.now) (change_of R.left R.fault_count reader.old reader.new)
-        (change_of O.held O.fault_count out.old out.new) (change_of E.held E.fault_count err.old err.new) result }
-{
-    run_watched(alloc, arguments, reader, out, err, &mut NoWatcher)
-}
-
-/// The same, and a watcher sees what was done.
-pub fn run_watched<R: Source, O: Sink, E: Sink, W: Watcher>(
+/// Runs the program on the arguments of a command line, the program's name first; a watcher sees what was done. Returns the status:
+/// 0 done, 1 refused, 2 usage.
+pub fn run<R: Source, O: Sink, E: Sink, W: Watcher>(
     alloc: Global,
     arguments: &[&str],
     reader: &mut R,
@@ -82,15 +66,11 @@ fn run_told<R: Source, O: Sink, E: Sink, W: Watcher>(
         return run_line(alloc, arguments, reader, out, teller, watcher);
     }
     let command = read_arguments(alloc, arguments)?;
-    run_command(
-        alloc,
-        &command,
-        &ReadAhead::none(),
-        reader,
-        out,
-        teller,
-        watcher,
-    )
+    let found = FoundCommand {
+        command,
+        ahead: ReadAhead::none(),
+    };
+    run_command(alloc, &found, reader, out, teller, watcher)
 }
 
 /// The input's first line holds the arguments, and what follows it is the font.
@@ -116,15 +96,11 @@ fn run_line<R: Source, O: Sink, E: Sink, W: Watcher>(
     };
     let arguments = arguments_of_line(alloc, program_name(arguments), line)?;
     let command = read_arguments(alloc, &arguments)?;
-    run_command(
-        alloc,
-        &command,
-        &ReadAhead::of(got, end),
-        reader,
-        out,
-        teller,
-        watcher,
-    )
+    let found = FoundCommand {
+        command,
+        ahead: ReadAhead::of(got, end),
+    };
+    run_command(alloc, &found, reader, out, teller, watcher)
 }
 
 /// The program's name.
@@ -137,11 +113,17 @@ fn program_name<'a>(arguments: &[&'a str]) -> &'a str
     }
 }
 
-/// Does what a command asks for; `ahead` is what was read of the input before.
+/// A command, and what was read of the input to find it.
+#[derive(Drop)]
+struct FoundCommand<'a> {
+    command: Command<'a>,
+    ahead: ReadAhead<'a>,
+}
+
+/// Does what a command asks for.
 fn run_command<R: Source, O: Sink, E: Sink, W: Watcher>(
     alloc: Global,
-    command: &Command<'_>,
-    ahead: &ReadAhead<'_>,
+    found: &FoundCommand<'_>,
     reader: &mut R,
     out: &mut O,
     teller: &mut Teller<'_, E>,
@@ -149,11 +131,12 @@ fn run_command<R: Source, O: Sink, E: Sink, W: Watcher>(
 ) -> Result<Done, Fault>
     requires reader { R.fault_count reader.old < 2 ^ 63 }
     requires out { O.fault_count out.old < 2 ^ 63 }
-    requires ended { ahead.now.ended ≡ true → IsAtEnd (R.left reader.old) }
-    ensures { Telling teller.old teller.new (λ told. EndsAfter (seen command.now) ahead.now
+    requires ended { found.now.ahead.ended ≡ true → IsAtEnd (R.left reader.old) }
+    ensures { Telling teller.old teller.new (λ told. EndsAfter (seen found.now.command) found.now.ahead
         (change_of R.left R.fault_count reader.old reader.new) (change_of O.held O.fault_count out.old out.new) told result) }
 {
-    let text = ahead.read_on(alloc, reader)?;
+    let command = &found.command;
+    let text = found.ahead.read_on(alloc, reader)?;
     let bytes = font_bytes(alloc, command.hex, text)?;
     let font = FontFile::new(&bytes, command.face);
     let outcome = run_task(alloc, &command.task, &font, out, teller);

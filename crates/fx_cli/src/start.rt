@@ -7,9 +7,10 @@ ghost use Rattle.fx_front.specs.Places.{IsStatus};
 ghost use Rattle.fx_cli.specs.Runs.{unread_outcome};
 
 use crate::mkstrike::Mkstrike;
-use fx_arguments::{out_of_memory, usage};
+use fx_arguments::{Done, Fault, Teller};
 use fx_fixed::{Sink, ToSink};
 use fx_front::{run_front, say_not_text};
+use fx_request::Refusal;
 use std::alloc::{AllocError, Global};
 use std::io::ErrorKind;
 use std::{env, io};
@@ -61,8 +62,18 @@ pub fn unread<E: Sink>(err: &mut E, kind: ErrorKind) -> u8
     ensures status { result ≡ status_of (unread_outcome kind) }
     ensures line { Tells (outcome_line (unread_outcome kind)) (change_of E.held E.fault_count err.old err.new) }
 {
+    let mut teller = Teller::new(err);
+    let status = teller.status(&unread_outcome(kind));
+    teller.close();
+    status
+}
+
+/// How a run ends without arguments.
+fn unread_outcome(kind: ErrorKind) -> Result<Done, Fault>
+    ensures { result ≡ unread_outcome kind }
+{
     match kind {
-        ErrorKind::OutOfMemory => out_of_memory(err),
-        _ => usage(err),
+        ErrorKind::OutOfMemory => Err(Fault::Early(Refusal::OutOfMemory)),
+        _ => Err(Fault::Usage),
     }
 }
