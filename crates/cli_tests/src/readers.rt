@@ -3,6 +3,7 @@ use crate::fonts::fixture;
 use crate::runs::{BAD_CHARS, End, READ_FAILED, USAGE, ends};
 use fx_fixed::Limits;
 use std::alloc::Global;
+use std::ops::RangeInclusive;
 use std::process::Abort;
 use std::test::Fail;
 
@@ -21,17 +22,16 @@ fn broken_after(bytes: usize) -> [Limits; 2] {
     [for_good, once]
 }
 
-/// The reader fails after each number of bytes from `from` to `to`. Each run ends so.
+/// The reader fails after each of these numbers of bytes. Each run ends so.
 fn fails_in(
     rt: &impl Abort,
     alloc: Global,
     arguments: &str,
     input: &[u8],
-    from: usize,
-    to: usize,
+    after: RangeInclusive<usize>,
     end: &End<'_>,
 ) -> Result<(), Fail> {
-    for bytes in from..=to {
+    for bytes in after {
         for limits in broken_after(bytes) {
             ends(rt, alloc, arguments, input, limits, end)?;
         }
@@ -53,7 +53,7 @@ const INPUTS: [(&str, &[u8]); 2] = [
 fn failing_readers(rt: HostRuntime) -> Result<(), Fail> {
     for (arguments, input) in INPUTS {
         let to = input.len();
-        fails_in(&rt, rt.alloc(), arguments, input, 0, to, &READ_FAILED)?;
+        fails_in(&rt, rt.alloc(), arguments, input, 0..=to, &READ_FAILED)?;
     }
     Ok(())
 }
@@ -76,7 +76,7 @@ fn readers_that_fail_in_a_font(rt: HostRuntime) -> Result<(), Fail> {
         let mut input = line.as_bytes().to_vec(rt.alloc())?;
         input.extend_from_slice(&font)?;
         let to = input.len();
-        fails_in(&rt, rt.alloc(), arguments, &input, 0, to, &READ_FAILED)?;
+        fails_in(&rt, rt.alloc(), arguments, &input, 0..=to, &READ_FAILED)?;
     }
     Ok(())
 }
@@ -93,16 +93,9 @@ const REFUSED_LINES: [(&[u8], usize, End<'static>); 2] = [
 fn readers_that_fail_after_the_first_line(rt: HostRuntime) -> Result<(), Fail> {
     for (input, line, end) in &REFUSED_LINES {
         let to = input.len();
-        fails_in(
-            &rt,
-            rt.alloc(),
-            "mkstrike",
-            input,
-            0,
-            line.saturating_sub(1),
-            &READ_FAILED,
-        )?;
-        fails_in(&rt, rt.alloc(), "mkstrike", input, *line, to, end)?;
+        let within = 0..=line.saturating_sub(1);
+        fails_in(&rt, rt.alloc(), "mkstrike", input, within, &READ_FAILED)?;
+        fails_in(&rt, rt.alloc(), "mkstrike", input, *line..=to, end)?;
     }
     Ok(())
 }
