@@ -38,4 +38,4 @@ pub use made::Made;
 pub use outlines::{outline, outline_in, outline_with};
 pub use programmed::WatchedMachine;
 pub use spare::Spare;
-pub use watcher::{RunWatcher, RunWatching};
+pub use watcher::{RunWatcher, RunWatching, RunningProgram};

@@ -4,6 +4,13 @@ use crate::component::ComponentOf;
 use fx_code::Code;
 use fx_machine::{FontProgram, State, Watching};
 
+/// A program that runs, and the component that it is for; none for a root, and for `fpgm` and `prep`.
+#[derive(Clone, Copy, Debug, PartialEq, Eq)]
+pub struct RunningProgram {
+    pub component: Option<ComponentOf>,
+    pub program: FontProgram,
+}
+
 /// Sees which programs begin, for which component of which composite, and each instruction that they execute.
 pub trait RunWatching {
     ghost use Rattle.fx_machine.specs.Events.{Begins, Executed};
@@ -13,20 +20,20 @@ pub trait RunWatching {
     ghost Sees: { Self → RunEvent → Self → Type 0 };
 
     /// Sees that a program begins, in this state.
-    fn begin(&mut self, component: Option<ComponentOf>, program: FontProgram, state: &State)
-        ensures { Sees self.old (event_for component (Begins program state.now)) self.new };
+    fn begin(&mut self, running: RunningProgram, state: &State)
+        ensures { Sees self.old (event_for running.component (Begins running.program state.now)) self.new };
 
     /// Sees an instruction after it was executed, as `Watching` does.
     fn see(
         &mut self,
-        component: Option<ComponentOf>,
-        program: FontProgram,
+        running: RunningProgram,
         code: &Code<'_>,
         address: usize,
         calls: usize,
         state: &State,
     )
-        ensures { Sees self.old (event_for component (Executed program code.now address calls state.now)) self.new };
+        ensures { Sees self.old
+            (event_for running.component (Executed running.program code.now address calls state.now)) self.new };
 }
 
 /// A watcher, and the component whose program it sees; none for a root, and for `fpgm` and `prep`.
@@ -43,7 +50,11 @@ impl<W: RunWatching> Watching for RunWatcher<W> {
     ghost Sees = { λ was x now. W.Sees was.watcher (event_for was.component x) now.watcher × (now.component ≡ was.component) };
 
     fn begin(&mut self, program: FontProgram, state: &State) {
-        self.watcher.begin(self.component, program, state)
+        let running = RunningProgram {
+            component: self.component,
+            program,
+        };
+        self.watcher.begin(running, state)
     }
 
     fn see(
@@ -54,7 +65,10 @@ impl<W: RunWatching> Watching for RunWatcher<W> {
         calls: usize,
         state: &State,
     ) {
-        self.watcher
-            .see(self.component, program, code, address, calls, state)
+        let running = RunningProgram {
+            component: self.component,
+            program,
+        };
+        self.watcher.see(running, code, address, calls, state)
     }
 }

@@ -58,7 +58,7 @@ module _ {W : Type 0} (wanted : W → TracedPrograms) (text : W → TextView) (b
       let O : Result (Unit {0}) Stop → Type 0 = λ q. OnOk q (before mid ≡ kept_after w (before was) x) in
       let same : before mid ≡ kept_after w (before was) x = subst O m one.1 in
       let R : TracedPrograms → Option SnapshotView → Type 0 =
-            λ v t. Adds Halts (text mid) (text now) (lines_after v t xs) (outcome now) in
+      λ v t. Adds Halts (text mid) (text now) (lines_after v t xs) (outcome now) in
       let first : R w (before mid) = (let T : TracedPrograms → Type 0 = λ v. R v (before mid) in subst T s.1 (more m)) in
       let second : R w (kept_after w (before was) x) = (let T : Option SnapshotView → Type 0 = λ t. R w t in subst T same first) in
       adds_then (subst P m one.0) second

@@ -14,7 +14,7 @@ use crate::snapshot::Snapshot;
 use crate::wanted::TracedPrograms;
 use fx_code::Code;
 use fx_fixed::{Sink, TextWriter};
-use fx_hint::{ComponentOf, RunWatching};
+use fx_hint::{ComponentOf, RunWatching, RunningProgram};
 use fx_machine::{FontProgram, State};
 use std::alloc::{AllocError, Global};
 
@@ -119,15 +119,15 @@ impl<'w, S: Sink> RunWatching for Tracer<'w, S> {
     ghost Sees = { λ was x now. Tells was.wanted was.text was.before was.outcome x now.text now.before now.outcome × (now.wanted
         ≡ was.wanted) };
 
-    fn begin(&mut self, component: Option<ComponentOf>, program: FontProgram, state: &State) {
+    fn begin(&mut self, running: RunningProgram, state: &State) {
         if self.outcome.is_ok() {
             self.before = None;
-            if self.wanted.wants(program) {
+            if self.wanted.wants(running.program) {
                 let (outcome, before) = begin_text(
                     self.alloc,
                     &mut self.text,
-                    component,
-                    program,
+                    running.component,
+                    running.program,
                     state,
                 );
                 self.outcome = outcome;
@@ -138,8 +138,7 @@ impl<'w, S: Sink> RunWatching for Tracer<'w, S> {
 
     fn see(
         &mut self,
-        _component: Option<ComponentOf>,
-        program: FontProgram,
+        running: RunningProgram,
         code: &Code<'_>,
         address: usize,
         _calls: usize,
@@ -147,7 +146,7 @@ impl<'w, S: Sink> RunWatching for Tracer<'w, S> {
     ) {
         if self.outcome.is_ok() {
             if let Some(kept) = &mut self.before {
-                self.outcome = tell(&mut self.text, program, code, address, kept, state);
+                self.outcome = tell(&mut self.text, running.program, code, address, kept, state);
             }
         }
     }
