@@ -20,7 +20,7 @@ use fx_fixed::{Sink, Source, put_all};
 use fx_machine::FontProgram;
 use fx_request::{Choice, Refusal, Report};
 use fx_sfnt::FontFile;
-use fx_strike::{listing_of, make_strike_telling, trace_of, write_outline};
+use fx_strike::{Rows, listing_of, make_strike_telling, trace_of, write_outline};
 use std::alloc::Global;
 
 /// Runs the program on the arguments of a command line, the program's name first; a watcher sees what was done. Returns the status:
@@ -231,7 +231,7 @@ fn make_from<O: Sink, E: Sink>(
     ensures { Telling teller.old teller.new (λ told. StrikeLeaves (seen_make make.now) chars.now font.now
         (change_of O.held O.fault_count out.old out.new) told result) }
 {
-    make_strike_telling(alloc, font, &make.request(chars), out, teller)
+    make_strike_telling(alloc, &Rows, font, &make.request(chars), out, teller)
 }
 
 /// What is traced, as a trace is asked for.

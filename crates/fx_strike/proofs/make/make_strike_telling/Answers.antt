@@ -5,7 +5,7 @@ use Rattle.fx_strike.proofs.Exits.{came}
 use Rattle.fx_strike.proofs.Making.{fails_cause, not_memory, fails_leaves, makes}
 use Rattle.fx_strike.proofs.Prepared.{is_ok, plan_unopened, plan_unset, plan_set}
 use Rattle.fx_strike.proofs.Telling.{untold}
-use Rattle.fx_strike.proofs.make.make_inner.Goals as goal
+use Rattle.fx_strike.proofs.make.make_strike_telling.Goals as goal
 
 pub returns-in_err-opened-clause-made : goal.returns-in_err-opened-clause-made
 returns-in_err-opened-clause-made g c =
