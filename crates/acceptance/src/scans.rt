@@ -2,9 +2,9 @@
 use crate::fonts::{STRIKE, fixture};
 use crate::strikes::request;
 use fx_fixed::{Limits, MemorySink};
-use fx_request::{Deaf, Refusal};
+use fx_request::Refusal;
 use fx_sfnt::FontFile;
-use fx_strike::make_strike_telling;
+use fx_strike::make_strike_with;
 use fx_winding::{Bitmap, Frame, Pieces, Plain, Scan, ScanFault, Tally};
 use std::alloc::Global;
 use std::test::Fail;
@@ -20,14 +20,7 @@ fn writes_by<S: Scan>(
     let font = fixture(alloc)?;
     let mut out = MemorySink::new(alloc, 512, Limits::NONE)?;
     let font = FontFile::of(font.as_slice());
-    let result = make_strike_telling(
-        alloc,
-        scan,
-        &font,
-        &request(16, chars),
-        &mut out,
-        &mut Deaf,
-    );
+    let result = make_strike_with(alloc, scan, &font, &request(16, chars), &mut out);
     Ok(result.err() == refusal && out.bytes() == text.as_bytes())
 }
 

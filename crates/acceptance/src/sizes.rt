@@ -2,10 +2,10 @@
 use crate::fonts::{RING, font};
 use crate::strikes::request;
 use fx_fixed::{Limits, MemorySink};
-use fx_request::{Deaf, Refusal};
+use fx_request::Refusal;
 use fx_rows::Rows;
 use fx_sfnt::FontFile;
-use fx_strike::make_strike_telling;
+use fx_strike::make_strike_with;
 use fx_winding::{Bitmap, Frame, Pieces, Scan, ScanFault, Tally};
 use std::alloc::Global;
 use std::test::Fail;
@@ -61,14 +61,7 @@ fn ends_by(
     let font = font(alloc, RING, glyph)?;
     let mut out = MemorySink::new(alloc, 4096, Limits::NONE)?;
     let font = FontFile::of(font.as_slice());
-    let result = make_strike_telling(
-        alloc,
-        scan,
-        &font,
-        &request(ppem, &[0x42]),
-        &mut out,
-        &mut Deaf,
-    );
+    let result = make_strike_with(alloc, scan, &font, &request(ppem, &[0x42]), &mut out);
     let text = out.bytes();
     Ok(
         result.err() == refusal

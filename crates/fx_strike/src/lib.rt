@@ -50,7 +50,7 @@ pub use choices::chosen;
 pub use fx_bdf::Title;
 pub use fx_raster::Rows;
 pub use listing::listing_of;
-pub use make::{make_strike, make_strike_telling, survey};
+pub use make::{make_strike, make_strike_telling, make_strike_with, survey};
 pub use numbers::{FontMetrics, font_metrics, map_for};
 pub use one_character::one;
 pub use outlines::{outline_numbered, outlined, write_outline};

@@ -14,7 +14,7 @@ use fx_request::{Deaf, Listener, Refusal, Report, Request};
 use fx_sfnt::FontFile;
 use std::alloc::Global;
 
-/// Makes the strike of a font and writes its text.
+/// Makes the strike of a font and writes its text, with a scan of the caller's choice.
 ///
 /// There are two passes over the characters: the first makes each, surveys the strike and keeps the lines of the first ones, up
 /// to 8 MiB; the second writes these, makes the others again and writes theirs. Hence nothing is written before every character
@@ -24,6 +24,24 @@ use std::alloc::Global;
 /// refused characters, the characters in rising order, each by its outline, then how far out it lies and how large it is.
 /// `OutOfMemory` may be returned in place of any step after the character map, and of none before it. After `WriteFailed(n)` the
 /// writer holds the first n bytes of the text; after any other refusal but `OutOfMemory` nothing was written.
+pub fn make_strike_with<S: Scan, W: Sink>(
+    alloc: Global,
+    scan: &S,
+    font: &FontFile<'_>,
+    request: &Request<'_>,
+    out: &mut W,
+) -> Result<Report, Refusal>
+    requires { W.fault_count out.old < 2 ^ 63 }
+    // Five clauses: `text`, `cause`, `memory`, `late` and `writer`.
+    ensures { Makes (opening_of font.now request.now) (strike_of font.now request.now)
+        (change_of W.held W.fault_count out.old out.new) result }
+{
+    make_strike_telling(alloc, scan, font, request, out, &mut Deaf)
+}
+
+/// Makes the strike of a font and writes its text.
+///
+/// This is `make_strike_with` with the scan by rows.
 pub fn make_strike<W: Sink>(
     alloc: Global,
     font: &FontFile<'_>,
@@ -35,11 +53,11 @@ pub fn make_strike<W: Sink>(
     ensures { Makes (opening_of font.now request.now) (strike_of font.now request.now)
         (change_of W.held W.fault_count out.old out.new) result }
 {
-    make_strike_telling(alloc, &Rows, font, request, out, &mut Deaf)
+    make_strike_with(alloc, &Rows, font, request, out)
 }
 
-/// Makes the strike of a font and writes its text, as `make_strike` does but with a scan of the caller's choice, and tells a
-/// listener of the refused characters that do not stop the strike.
+/// Makes the strike of a font and writes its text, as `make_strike_with` does, and tells a listener of the refused characters that
+/// do not stop the strike.
 ///
 /// The first pass tells of each such character once, in rising order, before the first byte is written.
 pub fn make_strike_telling<S: Scan, W: Sink, L: Listener>(

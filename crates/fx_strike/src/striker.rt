@@ -182,7 +182,7 @@ impl<'a, S: Scan> Striker<'a, S> {
         self.survey_chars(chars, OnRefused::Stop)
     }
 
-    /// Makes the strike of characters and writes its text, in two passes as `make_strike` does.
+    /// Makes the strike of characters and writes its text, in two passes as `make_strike_with` does.
     ///
     /// The first cause is returned, in this order: the characters, the name, the properties; then the characters in rising order.
     /// `OutOfMemory` may be returned in place of any step after the properties, and of none before them. After
