@@ -10,7 +10,7 @@ struct font_at {
     uint16_t ppem;
     uint32_t mode;
 };
-struct prepared {
+struct prepared_font {
     struct font_at at;
     const uint32_t *block;
     size_t block_len;
@@ -36,9 +36,9 @@ DRAWS(mkstrike_outline, const struct font_at *, uint32_t, struct mkstrike_outlin
 DRAWS(mkstrike_glyphs, const struct font_at *, const uint32_t *, size_t, struct mkstrike_placed *, size_t, uint8_t *, size_t,
     struct mkstrike_drawn *);
 DRAWS(mkstrike_prepare, const struct font_at *, uint32_t *, size_t, size_t *);
-DRAWS(mkstrike_glyph_prepared, const struct prepared *, uint32_t, uint8_t *, size_t, struct mkstrike_glyph_info *);
-DRAWS(mkstrike_glyph_by_id_prepared, const struct prepared *, uint32_t, uint8_t *, size_t, struct mkstrike_glyph_info *);
-DRAWS(mkstrike_glyphs_prepared, const struct prepared *, const uint32_t *, size_t, struct mkstrike_placed *, size_t, uint8_t *, size_t,
+DRAWS(mkstrike_glyph_prepared, const struct prepared_font *, uint32_t, uint8_t *, size_t, struct mkstrike_glyph_info *);
+DRAWS(mkstrike_glyph_by_id_prepared, const struct prepared_font *, uint32_t, uint8_t *, size_t, struct mkstrike_glyph_info *);
+DRAWS(mkstrike_glyphs_prepared, const struct prepared_font *, const uint32_t *, size_t, struct mkstrike_placed *, size_t, uint8_t *, size_t,
     struct mkstrike_drawn *);
 DRAWS(mkstrike_make, const struct font_at *, const uint32_t *, size_t, const char *, size_t, uint8_t *, size_t, struct mkstrike_told *);
 #ifdef __cplusplus
@@ -53,7 +53,7 @@ static const uint64_t none = 0; /* an address of no elements */
 
 /* The locals of a call that draws, and of one that draws by a block. */
 #define AT struct mkstrike_refused no_refused; const struct font_at at = {BUFFER(font), face, ppem, mode}
-#define BY AT; const struct prepared by = {at, BUFFER(block)}
+#define BY AT; const struct prepared_font by = {at, BUFFER(block)}
 
 uint32_t mkstrike_version(void) { return proved_mkstrike_version(); }
 

@@ -9,7 +9,7 @@ use Rattle.fx_request.specs.declared.refusal.Refusal.{Refusal}
 use Rattle.fx_strike.specs.declared.opened.Opened.{Opened}
 use Rattle.fx_strike.specs.Strike.{Opening, Setting, machine_for, opened_at}
 use Rattle.fx_strike.specs.Blocks.{IsBlockFor, has_block}
-use Rattle.mkstrike_c.specs.declared.font_at.Prepared.{Prepared}
+use Rattle.mkstrike_c.specs.declared.font_at.PreparedFont.{PreparedFont}
 use Rattle.mkstrike_c.specs.declared.refused.Refused.{Refused}
 use Rattle.mkstrike_c.specs.Drawn.{HasFront}
 use Rattle.mkstrike_c.specs.Modes.{mode_of}
@@ -92,13 +92,13 @@ abbrev pub IsOwn : List ℕ → ℕ → ℕ → Bool → List ℕ → Type 0
 IsOwn file face ppem hinting block = IsFor file face ppem hinting block × HasChecksum file face ppem hinting block
 
 -- of what C hands over with a block: words that begin as one of its font at its size
-abbrev pub HasItsOrigin : Prepared → Type 0
+abbrev pub HasItsOrigin : PreparedFont → Type 0
 HasItsOrigin by = BeginsFor by.at.font.now by.at.face by.at.ppem (mode_of by.at.mode).hinting by.block.now
 
 -- a block of that
-abbrev pub HasItsBlock : Prepared → Type 0
+abbrev pub HasItsBlock : PreparedFont → Type 0
 HasItsBlock by = IsBlock by.at.font.now by.at.face by.at.ppem (mode_of by.at.mode).hinting by.block.now
 
 -- a block that is taken for that
-abbrev pub IsItsOwn : Prepared → Type 0
+abbrev pub IsItsOwn : PreparedFont → Type 0
 IsItsOwn by = IsOwn by.at.font.now by.at.face by.at.ppem (mode_of by.at.mode).hinting by.block.now

@@ -13,7 +13,7 @@ ghost use Rattle.mkstrike_c.specs.Refused.{IsReason};
 ghost use Rattle.mkstrike_c.specs.inner.Origin.{after_origin, has_origin};
 
 use crate::buffer::put_front;
-use crate::font_at::{FontAt, Prepared};
+use crate::font_at::{FontAt, PreparedFont};
 use crate::mode::{is_mode, mode_of};
 use crate::refused::{Refused, refuse, refuse_block, refuse_mode};
 use fx_request::{Mode, Refusal};
@@ -91,7 +91,7 @@ fn after_origin<'a>(
 }
 
 /// The words of a block after those that say what it is for, if that is this font, face and size, and programs that run or don't.
-pub fn words_for<'a>(by: &Prepared<'a>) -> Option<&'a [u32]>
+pub fn words_for<'a>(by: &PreparedFont<'a>) -> Option<&'a [u32]>
     ensures words { IfSome result (λ w. (f : List ℕ) (i s : ℕ) (h : Bool) → IsBlock f i s h by.now.block.now
         → AreWordsOf (face_in f i) s h w.now) }
     ensures taken { HasItsBlock by.now → IsSome result }

@@ -21,7 +21,7 @@ pub struct FontAt<'a> {
 
 /// The same with a block.
 #[repr(C)]
-pub struct Prepared<'a> {
+pub struct PreparedFont<'a> {
     pub at: FontAt<'a>,
     pub block: &'a [u32],
 }

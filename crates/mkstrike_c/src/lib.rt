@@ -38,7 +38,7 @@ mod version;
 pub use block::proved_mkstrike_prepare;
 pub use characters::proved_mkstrike_characters;
 pub use font::{FontInfo, proved_mkstrike_faces, proved_mkstrike_font};
-pub use font_at::{FontAt, Prepared};
+pub use font_at::{FontAt, PreparedFont};
 pub use font_names::proved_mkstrike_name;
 pub use gathered::{Drawn, Placed};
 pub use glyph::{GlyphInfo, proved_mkstrike_glyph, proved_mkstrike_glyph_by_id};

@@ -15,7 +15,7 @@ ghost use Rattle.mkstrike_c.specs.inner.Gathering.{IsGathered};
 ghost use Rattle.mkstrike_c.specs.inner.Showing.{FindsById, IsFoundBy};
 
 use crate::block::words_for;
-use crate::font_at::{FontAt, Prepared};
+use crate::font_at::{FontAt, PreparedFont};
 use crate::gathered::{Drawn, GlyphBuffers, Placed, Wanted};
 use crate::glyph::{GlyphInfo, id_of, tell};
 use crate::glyphs::{gathered_with, tell_all};
@@ -46,7 +46,7 @@ fn one_by(at: &FontAt<'_>, words: &[u32], code: u32) -> Option<Result<Option<Bit
 /// font, face and size, or if it was made hinted and the mode is unhinted, or the other way round.
 #[unsafe(no_mangle)]
 pub extern "C" fn proved_mkstrike_glyph_prepared(
-    by: &Prepared<'_>,
+    by: &PreparedFont<'_>,
     code: u32,
     pixels: &mut [u8],
     info: &mut GlyphInfo,
@@ -120,7 +120,7 @@ fn numbered_by(
 /// Makes a glyph of a font by its number as `mkstrike_glyph_by_id` does, by a block as `mkstrike_glyph_prepared`.
 #[unsafe(no_mangle)]
 pub extern "C" fn proved_mkstrike_glyph_by_id_prepared(
-    by: &Prepared<'_>,
+    by: &PreparedFont<'_>,
     glyph: u32,
     pixels: &mut [u8],
     info: &mut GlyphInfo,
@@ -184,7 +184,7 @@ fn gathered_by(
 /// Makes the glyphs of characters of a font as `mkstrike_glyphs` does, by a block as `mkstrike_glyph_prepared`.
 #[unsafe(no_mangle)]
 pub extern "C" fn proved_mkstrike_glyphs_prepared(
-    by: &Prepared<'_>,
+    by: &PreparedFont<'_>,
     chars: &[u32],
     glyphs: &mut [Placed],
     pixels: &mut [u8],
