@@ -1,7 +1,7 @@
 //! Runs of the program in memory.
 ghost use Rattle.std.specs.Prelude.{◌<◌, ◌^◌};
 
-use fx_cli::{NoWatcher, run};
+use fx_cli::run;
 use fx_fixed::{Limits, MemorySink, MemorySource, Source};
 use std::alloc::Global;
 use std::process::Abort;
@@ -34,7 +34,7 @@ pub(crate) fn ends_on<R: Source>(
     let words: Vec<&str> = arguments.split('|').collect(alloc)?;
     let mut out = MemorySink::new(alloc, 4096, limits)?;
     let mut err = MemorySink::new(alloc, 256, Limits::NONE)?;
-    let status = run(alloc, &words, reader, &mut out, &mut err, &mut NoWatcher);
+    let status = run(alloc, &words, reader, &mut out, &mut err);
     assert_eq!(rt; status, end.0, "{arguments}");
     assert!(rt; out.bytes() == end.1, "{arguments}");
     assert!(rt; err.bytes() == end.2, "{arguments}");

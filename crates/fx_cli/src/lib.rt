@@ -12,6 +12,6 @@ mod watch;
 mod watcher;
 
 pub use mkstrike::Mkstrike;
-pub use program::run;
+pub use program::{run, run_watched};
 pub use start::{run_program, unread};
 pub use watcher::{NoWatcher, Watcher};

@@ -2,7 +2,7 @@
 ghost use Rattle.std.specs.Prelude.{◌≡◌, ◌<◌, ◌^◌, map};
 ghost use Rattle.fx_fixed.specs.Changes.{change_of};
 
-use crate::program::run;
+use crate::program::run_watched;
 use crate::watch::Watch;
 use fx_arguments::{ItemFault, Task, read_arguments, wrong_item};
 use fx_fixed::{Sink, Source};
@@ -52,7 +52,7 @@ impl Tool for Mkstrike {
     ) -> u8 {
         let mut watch = Watch::new(alloc);
         watch.names_all = parts.names_all;
-        let status = run(alloc, &parts.words, reader, out, err, &mut watch);
+        let status = run_watched(alloc, &parts.words, reader, out, err, &mut watch);
         self.watch = watch;
         status
     }

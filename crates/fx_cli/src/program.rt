@@ -11,7 +11,7 @@ ghost use Rattle.fx_cli.specs.Steps.{EndsAfter, Telling};
 
 use crate::mapped::mapped_of;
 use crate::show::put_picture;
-use crate::watcher::Watcher;
+use crate::watcher::{NoWatcher, Watcher};
 use fx_arguments::{
     CharacterChoice, Command, Done, Fault, LINE_BUFFER, Make, ReadAhead, Task, Teller,
     TraceSubject, arguments_of_line, decode_hex, read_arguments, read_line,
@@ -23,9 +23,25 @@ use fx_sfnt::FontFile;
 use fx_strike::{Rows, listing_of, make_strike_telling, trace_of, write_outline};
 use std::alloc::Global;
 
-/// Runs the program on the arguments of a command line, the program's name first; a watcher sees what was done. Returns the status:
-/// 0 done, 1 refused, 2 usage.
-pub fn run<R: Source, O: Sink, E: Sink, W: Watcher>(
+/// Runs the program on the arguments of a command line, the program's name first. Returns the status: 0 done, 1 refused, 2 usage.
+pub fn run<R: Source, O: Sink, E: Sink>(
+    alloc: Global,
+    arguments: &[&str],
+    reader: &mut R,
+    out: &mut O,
+    err: &mut E,
+) -> u8
+    requires reader { R.fault_count reader.old < 2 ^ 63 }
+    requires out { O.fault_count out.old < 2 ^ 63 }
+    requires err { E.fault_count err.old < 2 ^ 63 }
+    ensures { Runs (texts arguments.now) (change_of R.left R.fault_count reader.old reader.new)
+        (change_of O.held O.fault_count out.old out.new) (change_of E.held E.fault_count err.old err.new) result }
+{
+    run_watched(alloc, arguments, reader, out, err, &mut NoWatcher)
+}
+
+/// The same, and a watcher sees what was done.
+pub fn run_watched<R: Source, O: Sink, E: Sink, W: Watcher>(
     alloc: Global,
     arguments: &[&str],
     reader: &mut R,

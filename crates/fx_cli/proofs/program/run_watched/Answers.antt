@@ -1,6 +1,6 @@
 use Rattle.std.proofs.Common.{rules}
 use Rattle.fx_cli.proofs.Telling.{heard_same, runs_told, tells_same}
-use Rattle.fx_cli.proofs.program.run.Goals as goal
+use Rattle.fx_cli.proofs.program.run_watched.Goals as goal
 
 pub returns : goal.returns
 returns g c =
