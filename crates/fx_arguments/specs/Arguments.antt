@@ -24,8 +24,8 @@ use Rattle.fx_request.specs.declared.request.Mode.{Mode}
 use Rattle.fx_request.specs.declared.request.OnRefused.{OnRefused}
 use Rattle.fx_request.specs.declared.request.OnRefused.TheVariants.{Stop, LeaveOut, Unhinted}
 use Rattle.fx_arguments.specs.declared.command.Show.{Show}
-use Rattle.fx_arguments.specs.declared.command.TraceSubject.{TraceSubject}
-use Rattle.fx_arguments.specs.declared.command.TraceSubject.TheVariants as traced
+use Rattle.fx_request.specs.declared.request.TraceSubject.{TraceSubject}
+use Rattle.fx_request.specs.declared.request.TraceSubject.TheVariants as traced
 use Rattle.fx_arguments.specs.declared.verb.Verb.{Verb}
 use Rattle.fx_arguments.specs.declared.verb.Verb.TheVariants as verbs
 use Rattle.fx_arguments.specs.Chars.{number_of, numbers_of_list}

@@ -9,7 +9,7 @@ ghost use Rattle.fx_arguments.specs.Commands.{Refuses, seen, seen_characters};
 ghost use Rattle.fx_arguments.specs.Wrong.{Reads, not_taken};
 
 use crate::chars::{number, parse_chars};
-use crate::command::{CharacterChoice, Command, Make, Show, Task, Trace, TraceSubject};
+use crate::command::{CharacterChoice, Command, Make, Show, Task, Trace};
 use crate::fault::Fault;
 use crate::mistakes::explain;
 use crate::properties::properties_by;
@@ -18,7 +18,7 @@ use crate::verb::{Verb, verb_of};
 use crate::wrong::Wrong;
 use clap::ArgMatches;
 use fx_machine::FontProgram;
-use fx_request::{Choice, Dropout, Mode, OnRefused, Refusal};
+use fx_request::{Choice, Dropout, Mode, OnRefused, Refusal, TraceSubject};
 use std::alloc::Global;
 
 /// Reads the arguments of a command line, the program's name first.

@@ -2,7 +2,7 @@
 
 use fx_bdf::{Property, Title};
 use fx_machine::FontProgram;
-use fx_request::{Choice, Mode, OnRefused, Request};
+use fx_request::{Choice, Mode, OnRefused, Request, TraceSubject};
 
 /// What is to be written, the face of the font file that it is for, and whether the file is hexadecimal text.
 #[derive(Drop)]
@@ -87,13 +87,4 @@ impl<'a> Make<'a> {
 pub struct Trace {
     pub ppem: u16,
     pub traced: TraceSubject,
-}
-
-/// What is traced.
-#[derive(Clone, Copy)]
-pub enum TraceSubject {
-    /// A program of the font, by its name or the number of its glyph.
-    Program(FontProgram),
-    /// The programs of a glyph and of its components.
-    Glyph(Choice),
 }

@@ -29,7 +29,7 @@ mod wrong_items;
 
 pub use arguments::read_arguments;
 pub use chars::parse_chars;
-pub use command::{CharacterChoice, Command, Make, Show, Task, Trace, TraceSubject};
+pub use command::{CharacterChoice, Command, Make, Show, Task, Trace};
 pub use done::Done;
 pub use fault::Fault;
 pub use hexadecimal::decode_hex;

@@ -13,8 +13,6 @@ use Rattle.fx_request.specs.Notices.{HearsAll}
 use Rattle.fx_request.specs.declared.refusal.Refusal.{Refusal}
 use Rattle.fx_request.specs.declared.refusal.Refusal.TheVariants.{BadHex, InputTooLarge, OutOfMemory, ReadFailed, WriteFailed}
 use Rattle.fx_sfnt.specs.Collections.{FontFileView}
-use Rattle.fx_strike.specs.declared.trace.Traced.{Traced}
-use Rattle.fx_strike.specs.Traces.{Tells as TellsTrace, trace_of}
 use Rattle.fx_strike.specs.Listings.{IsListedTo, IsNoFault, IsNotListed, Lists}
 use Rattle.fx_arguments.specs.declared.done.Done.{Done}
 use Rattle.fx_arguments.specs.declared.fault.Fault.{Fault}
@@ -132,11 +130,6 @@ pub unlisted : (program : Result (List ℕ) Refusal) (sink : Change) (r : Result
     → Lists program sink (Err d)
 unlisted program sink r (WriteFailed n) e c w = w n e
 unlisted program sink r d e c w = c tt
-
--- a trace of the same programs
-pub traced_as : (font : FontFileView) (ppem : ℕ) (programs due : Traced) (change : Change) (answer : Result Bool Refusal)
-    → programs ≡ due → TellsTrace (trace_of font ppem programs) change answer → TellsTrace (trace_of font ppem due) change answer
-traced_as font ppem programs due change answer e h = subst (λ z. TellsTrace (trace_of font ppem z) change answer) e h
 
 -- a run ends with a status of the three
 pub status_is : (outcome : Result Done Fault) → IsStatus (status_of outcome)

@@ -14,7 +14,6 @@ use Rattle.fx_request.specs.declared.refusal.Refusal.TheVariants.{WriteFailed}
 use Rattle.fx_fixed.specs.Wrote.{Wrote}
 use Rattle.fx_sfnt.specs.Collections.{FontFileView, face_in}
 use Rattle.fx_machine.specs.declared.program.FontProgram.{FontProgram}
-use Rattle.fx_machine.specs.declared.program.FontProgram.TheVariants as font
 use Rattle.fx_request.specs.declared.request.Report.{Report}
 use Rattle.fx_strike.specs.Title.{Title}
 use Rattle.fx_request.specs.declared.notice.Notice.{Notice}
@@ -24,7 +23,6 @@ use Rattle.fx_strike.specs.Choices.{choice_of, opened_choice_of}
 use Rattle.fx_strike.specs.Outlines.{Outlines, outlined_of}
 use Rattle.fx_strike.specs.Headline.{Leaves, notices_of}
 use Rattle.fx_strike.specs.Listings.{Lists, program_of}
-use Rattle.fx_strike.specs.declared.trace.Traced as strike_trace
 use Rattle.fx_strike.specs.Traces.{Tells as TellsTrace, trace_of}
 use Rattle.fx_arguments.specs.Limits.{max_input, max_line}
 use Rattle.fx_arguments.specs.declared.done.Done.{Done}
@@ -36,9 +34,6 @@ use Rattle.fx_arguments.specs.Commands.{CharacterChoiceView, CommandView, MakeVi
 use Rattle.fx_arguments.specs.Commands.{trace}
 use Rattle.fx_arguments.specs.declared.command.Show.{Show}
 use Rattle.fx_arguments.specs.declared.command.Trace as asked
-use Rattle.fx_arguments.specs.declared.command.TraceSubject.{TraceSubject}
-use Rattle.fx_arguments.specs.declared.command.TraceSubject.TheVariants.{Program, Glyph}
-use Rattle.fx_request.specs.declared.request.Choice.TheVariants.{Character, Number}
 use Rattle.fx_arguments.specs.Lines.{Tells, notice_line, outcome_line, status_of}
 use Rattle.fx_cli.specs.Mapped.{mapped_of}
 use Rattle.fx_cli.specs.Pictures.{Shows}
@@ -127,17 +122,9 @@ abbrev pub ListingLeaves : FontProgram → FontFileView → Change → Result (U
 ListingLeaves what font sink answer =
     Lists (program_of font what) sink answer
 
--- what is traced, as a trace is asked for
-abbrev pub programs_of : TraceSubject → strike_trace.Traced
-programs_of (Program font.Fpgm) = strike_trace.TheVariants.Fpgm
-programs_of (Program font.Prep) = strike_trace.TheVariants.Prep
-programs_of (Program (font.Glyph g)) = strike_trace.TheVariants.Number g
-programs_of (Glyph (Number g)) = strike_trace.TheVariants.Number g
-programs_of (Glyph (Character code)) = strike_trace.TheVariants.Character code
-
 -- what a call that writes the trace of programs leaves of it
 abbrev pub TraceLeaves : asked.Trace → FontFileView → Change → Result Bool Refusal → Type 0
-TraceLeaves programs font sink answer = TellsTrace (trace_of font programs.ppem (programs_of programs.traced)) sink answer
+TraceLeaves programs font sink answer = TellsTrace (trace_of font programs.ppem programs.traced) sink answer
 
 -- what a call that writes a line leaves of it
 abbrev pub LineLeaves : List ℕ → Change → Result (Unit {0}) Refusal → Type 0

@@ -6,7 +6,7 @@ ghost use Rattle.fx_arguments.specs.Arguments.{texts};
 ghost use Rattle.fx_arguments.specs.Commands.{seen, seen_make, seen_task};
 ghost use Rattle.fx_fixed.specs.Changes.{change_of};
 ghost use Rattle.fx_request.specs.declared.refusal.Refusal.TheVariants.{BadHex, OutOfMemory};
-ghost use Rattle.fx_cli.specs.Runs.{Ends, MakeLeaves, Runs, StrikeLeaves, TaskLeaves, called, font_bytes, programs_of};
+ghost use Rattle.fx_cli.specs.Runs.{Ends, MakeLeaves, Runs, StrikeLeaves, TaskLeaves, called, font_bytes};
 ghost use Rattle.fx_cli.specs.Steps.{EndsAfter, Telling};
 
 use crate::mapped::mapped_of;
@@ -14,11 +14,10 @@ use crate::show::put_picture;
 use crate::watcher::{NoWatcher, Watcher};
 use fx_arguments::{
     CharacterChoice, Command, Done, Fault, LINE_BUFFER, Make, ReadAhead, Task, Teller,
-    TraceSubject, arguments_of_line, decode_hex, read_arguments, read_line,
+    arguments_of_line, decode_hex, read_arguments, read_line,
 };
 use fx_fixed::{Sink, Source, put_all};
-use fx_machine::FontProgram;
-use fx_request::{Choice, Refusal, Report};
+use fx_request::{Refusal, Report};
 use fx_sfnt::FontFile;
 use fx_strike::{Rows, listing_of, make_strike_telling, trace_of, write_outline};
 use std::alloc::Global;
@@ -203,7 +202,7 @@ fn run_task<O: Sink, E: Sink>(
             Ok(Done::Listing)
         }
         Task::Trace(trace) => {
-            let there = trace_of(alloc, font, trace.ppem, programs_of(trace.traced), out)?;
+            let there = trace_of(alloc, font, trace.ppem, trace.traced, out)?;
             Ok(Done::Trace(there))
         }
         Task::Explanation(line) => {
@@ -248,19 +247,6 @@ fn make_from<O: Sink, E: Sink>(
         (change_of O.held O.fault_count out.old out.new) told result) }
 {
     make_strike_telling(alloc, &Rows, font, &make.request(chars), out, teller)
-}
-
-/// What is traced, as a trace is asked for.
-fn programs_of(traced: TraceSubject) -> fx_strike::Traced
-    ensures { result ≡ programs_of traced }
-{
-    match traced {
-        TraceSubject::Program(FontProgram::Fpgm) => fx_strike::Traced::Fpgm,
-        TraceSubject::Program(FontProgram::Prep) => fx_strike::Traced::Prep,
-        TraceSubject::Program(FontProgram::Glyph(number)) => fx_strike::Traced::Number(number),
-        TraceSubject::Glyph(Choice::Number(number)) => fx_strike::Traced::Number(number),
-        TraceSubject::Glyph(Choice::Character(code)) => fx_strike::Traced::Character(code),
-    }
 }
 
 /// A task's result as the end of a run.

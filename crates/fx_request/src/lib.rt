@@ -22,4 +22,4 @@ pub use location::Location;
 pub use names::{advised, named};
 pub use notice::{Deaf, Listener, Notice};
 pub use refusal::Refusal;
-pub use request::{Choice, Dropout, Mode, OnRefused, Report, Request};
+pub use request::{Choice, Dropout, Mode, OnRefused, Report, Request, TraceSubject};

@@ -1,7 +1,7 @@
 //! Requests, and what is told of a strike.
 
 use fx_bdf::Title;
-use fx_machine::Usage;
+use fx_machine::{FontProgram, Usage};
 
 /// Whether drop-out control keeps thin strokes whole, and how (Apple TrueType Reference Manual, scan conversion). If a stroke
 /// passes between two neighbours, neither of which is set, it sets one of them.
@@ -33,6 +33,15 @@ pub enum Choice {
     Character(u32),
     /// By its number in the font.
     Number(u16),
+}
+
+/// What is traced.
+#[derive(Clone, Copy, Debug, PartialEq, Eq)]
+pub enum TraceSubject {
+    /// A program of the font. That of a glyph is traced with the programs of its components.
+    Program(FontProgram),
+    /// The programs of a glyph and of its components.
+    Glyph(Choice),
 }
 
 /// What becomes of a character that is refused: one whose outline can't be made, lies too far out or is too large, or whose program

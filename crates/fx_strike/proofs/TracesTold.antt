@@ -15,12 +15,14 @@ use Rattle.fx_trace.specs.declared.fault.TraceFault.TheVariants as trace
 use Rattle.fx_trace.specs.Traces.{Trace, Traces}
 use Rattle.fx_request.specs.declared.refusal.Refusal.{Refusal}
 use Rattle.fx_machine.specs.Known.{Known}
+use Rattle.fx_machine.specs.declared.program.FontProgram.{FontProgram}
 use Rattle.fx_request.specs.declared.refusal.Refusal.TheVariants.{WriteFailed, ReadFailed, BadHex, InputTooLarge, OutOfMemory}
+use Rattle.fx_request.specs.declared.request.TraceSubject.TheVariants.{Program}
 use Rattle.fx_request.specs.Faults.{of_font, of_glyph}
 use Rattle.fx_strike.specs.declared.opened.Opened.{Opened}
 use Rattle.fx_strike.specs.Faults.{Fails, of_hint}
 use Rattle.fx_strike.specs.Headline.{IsCause, Change}
-use Rattle.fx_strike.specs.Traces.{untold, told_by, told_from, end_with, Tells, refused_as}
+use Rattle.fx_strike.specs.Traces.{untold, told_by, told_from, told_in, end_with, Tells, refused_as}
 
 -- ---- no fault of programs is one of the writer
 
@@ -65,6 +67,12 @@ refused_tells t change (Err (trace.Cause f)) h = record {
 }
 refused_tells t change (Err trace.OutOfMemory) h = grind (arith, h)
 refused_tells t change (Err (trace.WriteFailed n)) h = grind (arith, h, same_count, same_refusal)
+
+-- what is told of a program is told of the same one by another name
+pub told_as : (opened : Opened) (what same : FontProgram) (change : Change) (end : Result Bool Refusal) → what ≡ same
+    → Tells (told_in opened (Program same)) change end → Tells (told_in opened (Program what)) change end
+told_as opened what same change end e h = let P : FontProgram → Type 0 = λ p. Tells (told_in opened (Program p)) change end in
+    subst P (sym e) h
 
 -- ---- nothing was traced
 

@@ -9,14 +9,14 @@ use Rattle.fx_hint.specs.declared.fault.HintFault.{HintFault}
 use Rattle.fx_trace.specs.declared.fault.TraceFault.{TraceFault}
 use Rattle.fx_trace.specs.declared.fault.TraceFault.TheVariants as trace
 use Rattle.fx_trace.specs.Traces.{Trace, fpgm_trace, prep_trace, glyph_trace}
-use Rattle.fx_request.specs.declared.request.Choice.TheVariants as choice
+use Rattle.fx_machine.specs.declared.program.FontProgram.TheVariants as program
+use Rattle.fx_request.specs.declared.request.TraceSubject.{TraceSubject}
+use Rattle.fx_request.specs.declared.request.TraceSubject.TheVariants.{Program, Glyph}
 use Rattle.fx_request.specs.declared.refusal.Refusal.TheVariants.{WriteFailed, OutOfMemory}
 use Rattle.fx_request.specs.Faults.{of_machine}
-use Rattle.fx_strike.specs.Choices.{chosen_glyph}
-use Rattle.fx_strike.specs.declared.trace.Traced.{Traced}
-use Rattle.fx_strike.specs.declared.trace.Traced.TheVariants.{Fpgm, Prep, Number, Character}
+use Rattle.fx_strike.specs.Choices.{chosen_glyph, opened_choice_of}
 use Rattle.fx_strike.specs.Faults.{of_hint}
-use Rattle.fx_strike.specs.Strike.{Opening, opened_at, opened_one_of, FontFileView, Refusal, Opened}
+use Rattle.fx_strike.specs.Strike.{Opening, opened_at, FontFileView, Refusal, Opened}
 use Rattle.fx_strike.specs.Headline.{HasToName, Change}
 
 -- ---- the trace
@@ -52,25 +52,23 @@ abbrev pub told_of : Opened → Option ℕ → Told
 told_of opened glyph = told_from opened glyph (map_fault of_machine (machine_of opened.font opened.ppem))
 
 -- the trace of an opened font
-abbrev pub told_in : Opened → Traced → Told
-told_in opened Fpgm = told_by (fpgm_trace opened.font opened.ppem)
-told_in opened Prep = told_by (prep_trace opened.font opened.ppem)
-told_in opened (Number g) = told_of opened (Some g)
-told_in opened (Character code) = told_of opened (chosen_glyph opened.map (choice.Character code))
+abbrev pub told_in : Opened → TraceSubject → Told
+told_in opened (Program program.Fpgm) = told_by (fpgm_trace opened.font opened.ppem)
+told_in opened (Program program.Prep) = told_by (prep_trace opened.font opened.ppem)
+told_in opened (Program (program.Glyph g)) = told_of opened (Some g)
+told_in opened (Glyph choice) = told_of opened (chosen_glyph opened.map choice)
 
 -- the size, the font and its character map, and for a character its code point
-abbrev pub opening_for : FontFileView → ℕ → Traced → Opening
-opening_for file ppem Fpgm = opened_at file ppem
-opening_for file ppem Prep = opened_at file ppem
-opening_for file ppem (Number g) = opened_at file ppem
-opening_for file ppem (Character code) = opened_one_of file ppem code
+abbrev pub opening_for : FontFileView → ℕ → TraceSubject → Opening
+opening_for file ppem (Program _) = opened_at file ppem
+opening_for file ppem (Glyph choice) = opened_choice_of file ppem choice
 
-abbrev pub told_after : Opening → Traced → Told
+abbrev pub told_after : Opening → TraceSubject → Told
 told_after (Ok opened) traced = told_in opened traced
 told_after (Err refusal) traced = untold (Err refusal)
 
 -- the trace of a font file at a size, or the first cause why there is none
-unfoldable pub trace_of : FontFileView → ℕ → Traced → Told
+unfoldable pub trace_of : FontFileView → ℕ → TraceSubject → Told
 trace_of file ppem traced = told_after (opening_for file ppem traced) traced
 
 -- ---- what a call that writes a trace leaves

@@ -56,4 +56,4 @@ pub use one_character::one;
 pub use outlines::{outline_numbered, outlined, write_outline};
 pub use striker::Striker;
 pub use surveyed::Survey;
-pub use trace::{Traced, trace_of};
+pub use trace::trace_of;

@@ -5,29 +5,17 @@ ghost use Rattle.fx_strike.specs.Headline.{HasToName, IsCause, Late};
 ghost use Rattle.fx_strike.specs.Traces.{IsTold, IsToldSome, IsToldTo, Tells, opening_for, refused_as, told_of};
 ghost use Rattle.fx_strike.specs.Traces.{trace_of};
 
-use crate::choices::chosen_glyph;
+use crate::choices::{chosen_glyph, open_choice};
 use crate::faults::of_hint;
 use crate::hinter::machine_at;
-use crate::open::{open_at, open_many};
+use crate::open::open_at;
 use crate::opened::Opened;
 use fx_fixed::Sink;
-use fx_request::{Choice, Refusal};
+use fx_machine::FontProgram;
+use fx_request::{Refusal, TraceSubject};
 use fx_sfnt::FontFile;
 use fx_trace::{TraceFault, trace_fpgm, trace_glyph, trace_prep};
 use std::alloc::Global;
-
-/// What is traced.
-#[derive(Clone, Copy, Debug, PartialEq, Eq)]
-pub enum Traced {
-    /// The font program.
-    Fpgm,
-    /// The control value program.
-    Prep,
-    /// The programs of the glyph with this number, and of its components.
-    Number(u16),
-    /// Those of the glyph of this character.
-    Character(u32),
-}
 
 /// What a trace returns, as a refusal.
 fn refused_as(traced: Result<(), TraceFault>) -> Result<bool, Refusal>
@@ -59,15 +47,13 @@ fn trace_chosen<W: Sink>(
 }
 
 /// The size, the font and its character map, for what is traced.
-fn open_for<'a>(file: &FontFile<'a>, ppem: u16, traced: Traced) -> Result<Opened<'a>, Refusal>
+fn open_for<'a>(file: &FontFile<'a>, ppem: u16, traced: TraceSubject) -> Result<Opened<'a>, Refusal>
     ensures due { result ≡ opening_for file.now ppem traced }
     ensures named { IfErr result IsCause }
 {
     match traced {
-        Traced::Fpgm => open_at(file, ppem),
-        Traced::Prep => open_at(file, ppem),
-        Traced::Number(_) => open_at(file, ppem),
-        Traced::Character(code) => open_many(file, ppem, &[code]),
+        TraceSubject::Program(_) => open_at(file, ppem),
+        TraceSubject::Glyph(choice) => open_choice(file, ppem, choice),
     }
 }
 
@@ -77,7 +63,7 @@ fn trace_inner<W: Sink>(
     alloc: Global,
     font: &FontFile<'_>,
     ppem: u16,
-    traced: Traced,
+    traced: TraceSubject,
     out: &mut W,
 ) -> Result<bool, Refusal>
     requires { W.fault_count out.old < 2 ^ 63 }
@@ -86,12 +72,15 @@ fn trace_inner<W: Sink>(
 {
     let opened = open_for(font, ppem, traced)?;
     match traced {
-        Traced::Fpgm => refused_as(trace_fpgm(alloc, &opened.font, opened.ppem, out)),
-        Traced::Prep => refused_as(trace_prep(alloc, &opened.font, opened.ppem, out)),
-        Traced::Number(g) => trace_chosen(alloc, &opened, Some(g), out),
-        Traced::Character(code) => {
-            let glyph = chosen_glyph(&opened.map, Choice::Character(code));
-            trace_chosen(alloc, &opened, glyph, out)
+        TraceSubject::Program(FontProgram::Fpgm) => {
+            refused_as(trace_fpgm(alloc, &opened.font, opened.ppem, out))
+        }
+        TraceSubject::Program(FontProgram::Prep) => {
+            refused_as(trace_prep(alloc, &opened.font, opened.ppem, out))
+        }
+        TraceSubject::Program(FontProgram::Glyph(g)) => trace_chosen(alloc, &opened, Some(g), out),
+        TraceSubject::Glyph(choice) => {
+            trace_chosen(alloc, &opened, chosen_glyph(&opened.map, choice), out)
         }
     }
 }
@@ -107,7 +96,7 @@ pub fn trace_of<W: Sink>(
     alloc: Global,
     font: &FontFile<'_>,
     ppem: u16,
-    traced: Traced,
+    traced: TraceSubject,
     out: &mut W,
 ) -> Result<bool, Refusal>
     requires { W.fault_count out.old < 2 ^ 63 }

@@ -2,7 +2,7 @@ use Rattle.std.proofs.Common.{refl, Ok, Err}
 use Rattle.fx_strike.proofs.Exits.{came}
 use Rattle.fx_strike.proofs.Outlining.{not_outlined}
 use Rattle.fx_cli.proofs.Made.{untold}
-use Rattle.fx_cli.proofs.Telling.{traced_as, unlisted}
+use Rattle.fx_cli.proofs.Telling.{unlisted}
 use Rattle.fx_cli.proofs.program.run_task.Goals as goal
 
 pub returns-in_err-listing_of-in-Listing : goal.returns-in_err-listing_of-in-Listing
@@ -41,8 +41,7 @@ returns-in_err-there-in-Trace g c =
           c.from_residual-in_err-there-in-Trace.ensures.1,
     )
     (untold (
-      traced_as _ _ _ _ _ (Err c.in_err-there-in-Trace.field-0.0) c.programs_of.ensures
-          (record { text = tt; cause = e.cause; memory = e.memory; writer = e.writer }),
+      record { text = tt; cause = e.cause; memory = e.memory; writer = e.writer },
       refl,
     ))
 
@@ -51,7 +50,6 @@ returns-in_ok-there-in-Trace g c =
     let e = c.in_ok-there-in-Trace.ensures in
     rw c.in-Trace.is
     (untold (
-      traced_as _ _ _ _ _ (Ok c.in_ok-there-in-Trace.there) c.programs_of.ensures
-          (record { text = e.text; cause = tt; memory = e.memory; writer = e.writer }),
+      record { text = e.text; cause = tt; memory = e.memory; writer = e.writer },
       refl,
     ))

@@ -5,10 +5,10 @@ use Rattle.mkstrike_c.proofs.Preparing.{one_fails, one_found, own_striker_for, t
 use Rattle.mkstrike_c.proofs.prepared.one_by.Goals as goal
 
 pub returns-in-Ok-Some-clause-due : goal.returns-in-Ok-Some-clause-due
-returns-in-Ok-Some-clause-due c = rw (c.mode_of-how.ensures, c.file.ensures) at
-    (one_found c.file.result c.args.at.now.ppem c.args.code c.mode_of-how.result c.args.words.now c.in-Ok-Some.field-0
-    c.in-Ok-Some.striker c.glyph.result c.in-Ok-Some.field-0-is c.in-Ok-Some.ensures.chars c.in-Ok-Some.ensures.setting
-    c.glyph.ensures.glyph c.glyph.ensures.cause)
+returns-in-Ok-Some-clause-due c =
+    one_found (file_at c.args.at.now) c.args.at.now.ppem c.args.code (mode_of c.args.at.now.mode) c.args.words.now
+    c.in-Ok-Some.field-0 c.in-Ok-Some.striker c.glyph.result c.in-Ok-Some.field-0-is c.in-Ok-Some.ensures.chars
+    (rw (c.mode_of-how.ensures, c.file.ensures) at c.in-Ok-Some.ensures.setting) c.glyph.ensures.glyph c.glyph.ensures.cause
 
 pub returns-in-Ok-Some-clause-own : goal.returns-in-Ok-Some-clause-own
 returns-in-Ok-Some-clause-own c = rw (c.mode_of-how.ensures, c.file.ensures) at
