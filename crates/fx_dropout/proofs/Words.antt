@@ -79,13 +79,6 @@ pub open_bit : (noted here next i : ℕ) → here < 4294967296 → next < 429496
     → (bit_at (bit_and noted (4294967295 - bit_or here next)) i ≡ 1) ↔ IsOpen (bit_at noted i) (bit_at here i) (bit_at next i)
 open_bit noted here next i fh fn l = grind (arith, fh, fn, l, open_of, left_bit, or_of_32, bit_at_or, bit_at-lt)
 
-pub first_bit : (noted here : ℕ) → here < 4294967296
-    → (bit_at (bit_and noted (4294967295 - here) / 2147483648) 0 ≡ 1) ↔ IsOpen (bit_at noted 31) 0 (bit_at here 31)
-first_bit noted here fits =
-    let e = last_bit (bit_and noted (4294967295 - here)) ∙ left_bit noted here 31 fits (omega arith) in
-    open_of _ (bit_at noted 31) 0 (bit_at here 31) (e ∙ omega (arith, bit_at-lt here 31)) (bit_at-lt noted 31) (omega arith)
-    (bit_at-lt here 31)
-
 -- ---- a word whose gaps are closed
 closed_of : (a here gaps nexts reached : ℕ) → a ≡ max (max here (min gaps (1 - nexts))) reached → here < 2 → gaps < 2 → nexts < 2
     → reached < 2 → (a ≡ 1) ↔ ((here ≡ 1) ⊎ (((gaps ≡ 1) × ¬ (nexts ≡ 1)) ⊎ (reached ≡ 1)))

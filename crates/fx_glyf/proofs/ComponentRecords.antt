@@ -49,7 +49,8 @@ component_found n bytes taken p e h t is = grind (arith, size_of_taken, componen
 
 -- the next component with the rest, in which a number of bytes was left out that is its size
 pub component_with_rest : (bytes : List ℕ) (p : Component) (n : ℕ) (rest : List ℕ) → n ≡ component_size p.flags
-    → rest ≡ drop n bytes → Some (p, drop (component_size p.flags) bytes) ≡ next_component bytes → Some (p, rest) ≡ next_component bytes
+    → rest ≡ drop n bytes → Some (p, drop (component_size p.flags) bytes) ≡ next_component bytes
+    → Some (p, rest) ≡ next_component bytes
 component_with_rest bytes p n rest size left e = grind arith
 
 -- what the next component is, and what is left

@@ -397,8 +397,8 @@ stops_on Leads then was mid now made e r runs more count due l s a f h =
 -- ---- a glyph that is begun
 
 -- a simple glyph that is made starts its program
-pub simple_runs : (h : Hinting) (face : Face) (s : Scale) (root : ℕ) (component : Option ComponentOf) (g : ℕ) (count counted : Count)
-    (m : Metrics) (bytes : List ℕ) (shape : SimpleView) (made : Made)
+pub simple_runs : (h : Hinting) (face : Face) (s : Scale) (root : ℕ) (component : Option ComponentOf) (g : ℕ)
+    (count counted : Count) (m : Metrics) (bytes : List ℕ) (shape : SimpleView) (made : Made)
     → metrics_of face g ≡ Ok m → glyph_bytes_of face g ≡ Ok bytes → glyph_of bytes g ≡ Ok (Simple shape)
     → simple_made s h.on root m shape count ≡ Ok (made, counted)
     → begun_runs h face s root component g count
@@ -408,7 +408,8 @@ simple_runs h face s root component g count counted m bytes shape made a b c e =
 
 -- one that is not made starts none
 pub none_started : {S : Type 0} (Leads : S → List ProgramRun → S → Type 0) (x : S) (e : HintFault) (h : Hinting) (face : Face)
-    (s : Scale) (root : ℕ) (component : Option ComponentOf) (g : ℕ) (count : Count) (m : Metrics) (bytes : List ℕ) (shape : SimpleView)
+    (s : Scale) (root : ℕ) (component : Option ComponentOf) (g : ℕ) (count : Count) (m : Metrics) (bytes : List ℕ)
+    (shape : SimpleView)
     → metrics_of face g ≡ Ok m → glyph_bytes_of face g ≡ Ok bytes → glyph_of bytes g ≡ Ok (Simple shape)
     → Leads x [] x → Fails e (simple_made s h.on root m shape count)
     → StopsAfter Leads x x e (begun_runs h face s root component g count)

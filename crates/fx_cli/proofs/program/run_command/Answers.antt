@@ -11,7 +11,8 @@ pub returns-in_err-text : goal.returns-in_err-text
 returns-in_err-text g c =
     let e = (c.in_err-text.ensures).cut in
     rw (came c.from_residual.result c.from_residual.ensures.1)
-    (untold (no_text (seen c.args.found.now.command) c.args.found.now.ahead _ _ e.0 e.1 e.3 (Keeps-refl _, refl) c.in_err-text.field-0.0 e.2))
+    (untold (no_text (seen c.args.found.now.command) c.args.found.now.ahead _ _ e.0 e.1 e.3 (Keeps-refl _, refl)
+    c.in_err-text.field-0.0 e.2))
 
 pub returns-in_err-bytes : goal.returns-in_err-bytes
 returns-in_err-bytes g c =

@@ -38,9 +38,8 @@ pieces-preserved c =
       summed = λ n l. subst (λ (z : ℤ). IsSummed (place_in c.args.pair n) (take (here + 1) spans) (4 * (here + 1))
           (get_or c.add_piece-common.new.places n (pos 0)) z) (sym sum)
           (more_summed (place_in c.args.pair n) spans here (span_of piece) (get_or c.pieces.places n (pos 0)) common
-          (get_or c.add_piece-common.new.places n (pos 0)) c.add_piece-common.result inside is (c.add_piece-common.ensures.joined n l)
-          small
-          (inv.summed n l));
+          (get_or c.add_piece-common.new.places n (pos 0)) c.add_piece-common.result inside is
+          (c.add_piece-common.ensures.joined n l) small (inv.summed n l));
       tests = omega (arith, count, more);
     }
 
