@@ -1,5 +1,5 @@
 -- The code's numbers of a pixel and its neighbour are their columns and rows in the plane: `pixel_column`, `next_inside`.
--- Serves `close_row`, `close_level` and `chooser`.
+-- Serves `closing` and `chooser`.
 use Rattle.std.proofs.Common.{◌≡◌, ◌↔◌, subst, IsTrue, Bool, true, false, ℕ, ◌+◌, ◌*◌, ◌<◌, ◌≤◌, ℤ, pos, ◌+ℤ◌, ◌*ℤ◌, arith, w32, to_z, of_z}
 use Rattle.std.proofs.lemmas.Int.{to_z_pos}
 use Rattle.fx_fixed.proofs.Linear.{signed, signed_linear}
