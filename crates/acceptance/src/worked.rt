@@ -9,7 +9,7 @@ use fx_hint::{GlyphOutline, outline};
 use fx_machine::{Machine, Unwatched};
 use fx_outline::OutlinePoint;
 use fx_sfnt::{Font, FontFile};
-use fx_zone::{ZonePoint, Zone};
+use fx_zone::{Zone, ZonePoint};
 use std::alloc::{AllocError, Global};
 use std::test::Fail;
 
