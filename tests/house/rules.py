@@ -78,10 +78,10 @@ FUNCTION = re.compile(r"\s*(?:pub(?:\(\w+\))? )?(?:const )?(?:unsafe )?fn (\w+)"
 LOOP = re.compile(r"\s*(?:('\w+): )?(?:for\b.+\bin\b|while\b|loop\b)")
 COMMENT = re.compile(r"(?://|--)(.*)")
 
-# The table of the refusals, in the code: a row, and one of a cause of halts. What docs/REFUSALS.md writes for a place.
+# The table of the refusals, in the code: a row, and one of a cause of halts. What docs/REFUSALS.md writes for a location.
 REFUSAL = re.compile(r'Refusal::\w+(?:\(\w+\))? => \((\d+), "(\w+)", Location::(\w+)')
 CAUSE = re.compile(r'Cause::\w+ => \((\d+), "(\w+)"\)')
-PLACES = {"Nowhere": "", "Table": " tag", "Glyph": " g", "Property": " p", "Bytes": " n", "Halt": ""}
+LOCATIONS = {"Nowhere": "", "Table": " tag", "Glyph": " g", "Property": " p", "Bytes": " n", "Halt": ""}
 OF_THE_PROGRAM = range(70, 80)  # reading and writing, which no call from C does
 OF_C = ((64, "BadMode"), (65, "BadBlock"))  # which only calls from C give
 
@@ -380,10 +380,10 @@ def counts(house):
 def refusals(house):
     """The refusals of docs/REFUSALS.md and of include/mkstrike.h are those of the table in the code.
 
-    `Refusal::entry` and `Cause::entry` are the table, by number, name and place; the definitions have it again, and the proof
+    `Refusal::entry` and `Cause::entry` are the table, by number, name and location; the definitions have it again, and the proof
     compares them. Users look refusals up in the document and name them by the header, which nothing else compares before the gate
     has run for an hour."""
-    table = {(int(number), name): place for number, name, place in REFUSAL.findall(house.text("crates/fx_request/src/refusal.rt"))}
+    table = {(int(number), name): location for number, name, location in REFUSAL.findall(house.text("crates/fx_request/src/refusal.rt"))}
     table.update(((int(number), name), "Halt") for number, name in CAUSE.findall(house.text("crates/fx_machine/src/halt.rt")))
     table.update((it, "Nowhere") for it in OF_C)
     told = {
@@ -391,7 +391,7 @@ def refusals(house):
         "include/mkstrike.h": [it[::-1] for it in re.findall(r"\bMKSTRIKE_([A-Z_]+) = (\d\d)\b", house.text("include/mkstrike.h"))],
     }
     due = {
-        "docs/REFUSALS.md": [("%d" % number, name + PLACES[place]) for (number, name), place in table.items()],
+        "docs/REFUSALS.md": [("%d" % number, name + LOCATIONS[location]) for (number, name), location in table.items()],
         "include/mkstrike.h": [("%d" % number, re.sub(r"(?<=[a-z])([A-Z])", r"_\1", name).upper()) for number, name in table
                                if number not in OF_THE_PROGRAM],
     }

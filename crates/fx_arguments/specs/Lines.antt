@@ -10,11 +10,11 @@ use Rattle.fx_machine.specs.declared.halt.Halt.{Halt}
 use Rattle.fx_machine.specs.declared.program.FontProgram.{FontProgram}
 use Rattle.fx_machine.specs.declared.program.FontProgram.TheVariants.{Fpgm, Prep, Glyph}
 use Rattle.fx_request.specs.declared.location.Location.{Location}
-use Rattle.fx_request.specs.declared.location.Location.TheVariants as place
+use Rattle.fx_request.specs.declared.location.Location.TheVariants as location
 use Rattle.fx_request.specs.declared.notice.Notice.{Notice}
 use Rattle.fx_request.specs.declared.refusal.Refusal.{Refusal}
 use Rattle.fx_request.specs.declared.request.Report.{Report}
-use Rattle.fx_request.specs.Refusals.{number_of, name_of, place_of}
+use Rattle.fx_request.specs.Refusals.{number_of, name_of, location_of}
 use Rattle.fx_arguments.specs.declared.done.Done.{Done}
 use Rattle.fx_arguments.specs.declared.done.Done.TheVariants.{Strike, Picture, Outline, Listing, Trace, Explanation}
 use Rattle.fx_arguments.specs.declared.fault.Fault.{Fault}
@@ -61,17 +61,17 @@ halt_words halt =
 
 -- where it is: a table's tag, the number of a glyph, the position of a property, the number of bytes written, or where a program
 -- halted
-abbrev pub place_words : Location → List (List ℕ)
-place_words place.Nowhere = []
-place_words (place.Table tag) = tag ∷ []
-place_words (place.Glyph g) = decimal g ∷ []
-place_words (place.Property i) = decimal i ∷ []
-place_words (place.Bytes n) = decimal n ∷ []
-place_words (place.Halt halt) = halt_words halt
+abbrev pub location_words : Location → List (List ℕ)
+location_words location.Nowhere = []
+location_words (location.Table tag) = tag ∷ []
+location_words (location.Glyph g) = decimal g ∷ []
+location_words (location.Property i) = decimal i ∷ []
+location_words (location.Bytes n) = decimal n ∷ []
+location_words (location.Halt halt) = halt_words halt
 
--- the number, the name and the place
+-- the number, the name and the location
 abbrev pub refusal_words : Refusal → List (List ℕ)
-refusal_words refusal = decimal (number_of refusal) ∷ name_of refusal ∷ place_words (place_of refusal)
+refusal_words refusal = decimal (number_of refusal) ∷ name_of refusal ∷ location_words (location_of refusal)
 
 -- its line
 abbrev pub refusal_line : Refusal → List ℕ

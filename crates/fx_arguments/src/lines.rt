@@ -1,7 +1,7 @@
 //! Lines for people.
 ghost use Rattle.std.specs.Prelude.{◌≡◌, ◌∷◌, [], ◌++◌, ◌+◌, ◌<◌, ◌≤◌, length};
 ghost use Rattle.fx_arguments.specs.declared.line.TheConstants.{CAPACITY};
-ghost use Rattle.fx_arguments.specs.Lines.{code_word, halt_words, notice_line, place_words, program_words};
+ghost use Rattle.fx_arguments.specs.Lines.{code_word, halt_words, notice_line, location_words, program_words};
 ghost use Rattle.fx_arguments.specs.Lines.{missing_line, refusal_line, refusal_words, report_line, spaced, usage_line};
 
 use crate::line::MessageLine;
@@ -91,19 +91,19 @@ fn add_refusal(line: &mut MessageLine, refusal: Refusal)
     ensures text { line.new ≡ line.old ++ spaced (refusal_words refusal) }
     ensures room { length line.new < CAPACITY }
 {
-    let (number, name, place) = refusal.entry();
+    let (number, name, location) = refusal.entry();
     line.number(u64::from(number));
     line.word(name.as_bytes());
-    add_place(line, place);
+    add_location(line, location);
 }
 
 /// Adds where a refusal is.
-fn add_place(line: &mut MessageLine, place: Location)
+fn add_location(line: &mut MessageLine, location: Location)
     requires { length line.old ≤ 90 }
-    ensures text { line.new ≡ line.old ++ spaced (place_words place) }
+    ensures text { line.new ≡ line.old ++ spaced (location_words location) }
     ensures room { length line.new < CAPACITY }
 {
-    match place {
+    match location {
         Location::Nowhere => {}
         Location::Table(tag) => line.word(&tag),
         Location::Glyph(g) => line.number(u64::from(g)),

@@ -146,16 +146,16 @@ impl Watcher for Watch {
             }
             Ok(_) | Err(Fault::Usage) => {}
             Err(Fault::Early(refusal)) | Err(Fault::Late(refusal)) => {
-                let place = refusal.place();
+                let location = refusal.location();
                 self.facts.refused = Some(RefusalFacts {
                     number: refusal.number(),
                     advice: refusal.advice(),
-                    glyph: match place {
+                    glyph: match location {
                         Location::Glyph(glyph) => Some(glyph),
                         _ => None,
                     },
-                    is_halted: matches!(place, Location::Halt(_)),
-                    is_halted_glyph: match place {
+                    is_halted: matches!(location, Location::Halt(_)),
+                    is_halted_glyph: match location {
                         Location::Halt(halt) => matches!(halt.during, FontProgram::Glyph(_)),
                         _ => false,
                     },

@@ -1,4 +1,4 @@
--- The numbers, names and places of the refusals.
+-- The numbers, names and locations of the refusals.
 use Rattle.std.specs.Prelude.{◌≡◌, ℕ, ◌==◌, List, [], ◌∷◌, codes, Option, Some, option_map}
 use Rattle.std.specs.List.{find}
 use Rattle.std.specs.Option.{option_or}
@@ -10,7 +10,7 @@ use Rattle.fx_request.specs.declared.location.Location.TheVariants.{Nowhere, Tab
 use Rattle.fx_request.specs.declared.refusal.Refusal.{Refusal}
 use Rattle.fx_request.specs.declared.refusal.Refusal.TheVariants as refusal
 
--- a refusal's number, name and place; the number and the name of a halt are its cause's
+-- a refusal's number, name and location; the number and the name of a halt are its cause's
 abbrev pub entry_of : Refusal → ℕ × List ℕ × Location
 entry_of refusal.NotTrueType = (10, codes "NotTrueType", Nowhere)
 entry_of (refusal.TableMissing tag) = (11, codes "TableMissing", Table tag)
@@ -47,8 +47,8 @@ number_of r = (entry_of r).0
 abbrev pub name_of : Refusal → List ℕ
 name_of r = (entry_of r).1
 
-abbrev pub place_of : Refusal → Location
-place_of r = (entry_of r).2
+abbrev pub location_of : Refusal → Location
+location_of r = (entry_of r).2
 
 -- ---- the names by their numbers
 

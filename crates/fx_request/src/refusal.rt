@@ -1,6 +1,6 @@
 //! Why there is no strike.
 ghost use Rattle.std.specs.Prelude.{◌≡◌};
-ghost use Rattle.fx_request.specs.Refusals.{number_of, name_of, place_of, entry_of};
+ghost use Rattle.fx_request.specs.Refusals.{number_of, name_of, location_of, entry_of};
 
 use crate::location::Location;
 use fx_machine::{Cause, Halt};
@@ -70,11 +70,11 @@ pub enum Refusal {
 }
 
 impl Refusal {
-    /// The number, the name and the place: the table of the refusals.
+    /// The number, the name and the location: the table of the refusals.
     pub fn entry(self) -> (u8, &'static str, Location)
         ensures number { result.0 ≡ number_of self }
         ensures name { result.1.now ≡ name_of self }
-        ensures place { result.2 ≡ place_of self }
+        ensures location { result.2 ≡ location_of self }
     {
         match self {
             Refusal::NotTrueType => (10, "NotTrueType", Location::Nowhere),
@@ -123,8 +123,8 @@ impl Refusal {
     }
 
     /// Where the refusal is.
-    pub fn place(self) -> Location
-        ensures { result ≡ place_of self }
+    pub fn location(self) -> Location
+        ensures { result ≡ location_of self }
     {
         self.entry().2
     }
@@ -177,11 +177,11 @@ pub const EACH_CAUSE: [Cause; 12] = [
     Cause::StrayEnd,
 ];
 
-/// The number, the name and the place.
+/// The number, the name and the location.
 impl fmt::Display for Refusal {
     fn fmt<W: fmt::Write>(&self, f: &mut fmt::Formatter<W>) -> fmt::Result {
-        let (number, name, place) = self.entry();
-        match place {
+        let (number, name, location) = self.entry();
+        match location {
             Location::Nowhere => write!(f, "{number} {name}"),
             Location::Table(tag) => {
                 write!(f, "{number} {name} ")?;

@@ -5,10 +5,10 @@ use Rattle.fx_machine.specs.declared.halt.Halt.{Halt}
 use Rattle.fx_machine.specs.declared.program.FontProgram.{FontProgram}
 use Rattle.fx_machine.specs.declared.program.FontProgram.TheVariants.{Fpgm, Prep, Glyph}
 use Rattle.fx_request.specs.declared.location.Location.{Location}
-use Rattle.fx_request.specs.declared.location.Location.TheVariants as place
+use Rattle.fx_request.specs.declared.location.Location.TheVariants as location
 use Rattle.fx_request.specs.declared.refusal.Refusal.{Refusal}
 use Rattle.fx_request.specs.declared.refusal.Refusal.TheVariants.{OutOfMemory}
-use Rattle.fx_request.specs.Refusals.{number_of, place_of}
+use Rattle.fx_request.specs.Refusals.{number_of, location_of}
 use Rattle.fx_strike.specs.Strike.{Opening}
 use Rattle.fx_strike.specs.Headline.{Late}
 use Rattle.fx_strike.specs.Faults.{Fails}
@@ -90,16 +90,16 @@ halted number halt = record {
 
 -- the fields of a refusal of this number; a property and a number of bytes have none
 abbrev pub fields : ℕ → Location → Refused
-fields number place.Nowhere = no_fields number
-fields number (place.Table tag) = with_table number tag
-fields number (place.Glyph g) = with_glyph number g
-fields number (place.Property i) = no_fields number
-fields number (place.Bytes n) = no_fields number
-fields number (place.Halt halt) = halted number halt
+fields number location.Nowhere = no_fields number
+fields number (location.Table tag) = with_table number tag
+fields number (location.Glyph g) = with_glyph number g
+fields number (location.Property i) = no_fields number
+fields number (location.Bytes n) = no_fields number
+fields number (location.Halt halt) = halted number halt
 
 -- the number and the fields of a refusal
 abbrev pub refused_of : Refusal → Refused
-refused_of refusal = fields (number_of refusal) (place_of refusal)
+refused_of refusal = fields (number_of refusal) (location_of refusal)
 
 -- the same of one of many characters: with its index and its code point
 abbrev pub at_character : ℕ → ℕ → Refused → Refused

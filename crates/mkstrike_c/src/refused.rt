@@ -93,10 +93,10 @@ fn halted(number: u32, halt: Halt) -> Refused
 }
 
 /// The fields of a refusal of this number.
-fn fields(number: u32, place: Location) -> Refused
-    ensures { result ≡ fields number place }
+fn fields(number: u32, location: Location) -> Refused
+    ensures { result ≡ fields number location }
 {
-    match place {
+    match location {
         Location::Table(tag) => Refused {
             table: u32::from_be_bytes(tag),
             ..no_fields(number)
@@ -117,7 +117,7 @@ pub fn refused_at(index: u32, code: u32, refusal: Refusal) -> Refused
     Refused {
         index,
         code,
-        ..fields(number(refusal), refusal.place())
+        ..fields(number(refusal), refusal.location())
     }
 }
 
@@ -146,6 +146,6 @@ pub fn refuse(refusal: Refusal, refused: &mut Refused) -> u32
     ensures fields { refused.new ≡ refused_of refusal }
 {
     let number = number(refusal);
-    *refused = fields(number, refusal.place());
+    *refused = fields(number, refusal.location());
     number
 }

@@ -1,4 +1,4 @@
-use Rattle.std.proofs.Common.{refl, Ok, Err}
+use Rattle.std.proofs.Common.{refl, Err}
 use Rattle.fx_strike.proofs.Exits.{came}
 use Rattle.fx_strike.proofs.Outlining.{not_outlined}
 use Rattle.fx_cli.proofs.Made.{untold}
