@@ -14,7 +14,7 @@ use Rattle.fx_bdf.specs.Glyphs.{glyph_bit}
 use Rattle.fx_bdf.proofs.Boxes.{steps_above, parts_of_place, lies_in_box}
 use Rattle.fx_strike.specs.Strike.{Sketch}
 use Rattle.fx_strike.specs.inner.Drawing.{CanBeDrawn}
-use Rattle.fx_strike.specs.inner.Surveying.{Adds, Joins, Has, region_of, Seen}
+use Rattle.fx_strike.specs.inner.Surveying.{AddsSketch, Joins, Has, region_of, Seen}
 
 -- ---- a box that holds the bits of another
 
@@ -74,6 +74,6 @@ skipped sketch box inside placed h =
     (h.glyph, h.is, sym (joined_kept box h.glyph.box (glyph_bit h.glyph) h.is.tight bits), placed)
 
 -- a character was added
-pub has_added : (sketch : Sketch) (old new : Seen) (box : Box) → Joins sketch old.bounds box → Adds sketch box old new
+pub has_added : (sketch : Sketch) (old new : Seen) (box : Box) → Joins sketch old.bounds box → AddsSketch sketch box old new
     → Has sketch old new
 has_added sketch old new box j a = grind (arith, signed_linear, j, a)

@@ -22,7 +22,7 @@ use Rattle.fx_request.specs.Faults.{of_font, of_glyph}
 use Rattle.fx_strike.specs.declared.opened.Opened.{Opened}
 use Rattle.fx_strike.specs.Faults.{Fails, of_hint}
 use Rattle.fx_strike.specs.Headline.{IsCause, Change}
-use Rattle.fx_strike.specs.Traces.{untold, told_by, told_from, told_in, end_with, Tells, refused_as}
+use Rattle.fx_strike.specs.Traces.{untold, told_by, told_from, told_in, end_with, TellsTrace, refused_as}
 
 -- ---- no fault of programs is one of the writer
 
@@ -52,7 +52,7 @@ whole_text old new text h =
     let P : List ℕ → Type 0 = λ t. Appends old new t in subst P (sym (take_all (length text) text (omega arith))) h
 
 pub refused_tells : (t : Trace) (change : Change) (r : Result (Unit {0}) TraceFault) → Traces t change r
-    → Tells (told_by t) change (refused_as r)
+    → TellsTrace (told_by t) change (refused_as r)
 refused_tells t change (Ok u) h = grind (arith, h)
 refused_tells t change (Err (trace.Cause f)) h = record {
   text = tt;
@@ -70,8 +70,8 @@ refused_tells t change (Err (trace.WriteFailed n)) h = grind (arith, h, same_cou
 
 -- what is told of a program is told of the same one by another name
 pub told_as : (opened : Opened) (what same : FontProgram) (change : Change) (end : Result Bool Refusal) → what ≡ same
-    → Tells (told_in opened (Program same)) change end → Tells (told_in opened (Program what)) change end
-told_as opened what same change end e h = let P : FontProgram → Type 0 = λ p. Tells (told_in opened (Program p)) change end in
+    → TellsTrace (told_in opened (Program same)) change end → TellsTrace (told_in opened (Program what)) change end
+told_as opened what same change end e h = let P : FontProgram → Type 0 = λ p. TellsTrace (told_in opened (Program p)) change end in
     subst P (sym e) h
 
 -- ---- nothing was traced
@@ -80,7 +80,7 @@ told_as opened what same change end e h = let P : FontProgram → Type 0 = λ p.
 abbrev unchanged : Option (List ℕ) → ℕ → Change
 unchanged bytes faults = record { bytes_before = bytes; bytes = bytes; faults_before = faults; faults = faults }
 
-pub untold_false : (bytes : Option (List ℕ)) (faults : ℕ) → Tells (untold (Ok false)) (unchanged bytes faults) (Ok false)
+pub untold_false : (bytes : Option (List ℕ)) (faults : ℕ) → TellsTrace (untold (Ok false)) (unchanged bytes faults) (Ok false)
 untold_false bytes faults = record {
   text = record { is = refl; written = Appends-nil bytes; quiet = refl };
   cause = tt;
@@ -89,7 +89,7 @@ untold_false bytes faults = record {
 }
 
 pub untold_refusal : (bytes : Option (List ℕ)) (faults : ℕ) (refusal : Refusal) → IsCause refusal
-    → Tells (untold (Err refusal)) (unchanged bytes faults) (Err refusal)
+    → TellsTrace (untold (Err refusal)) (unchanged bytes faults) (Err refusal)
 untold_refusal bytes faults refusal c = record {
   text = tt;
   cause = λ named. record { is = refl; written = Appends-nil bytes; quiet = refl };
@@ -99,7 +99,7 @@ untold_refusal bytes faults refusal c = record {
 
 -- `fpgm` or `prep` halted, or memory ran out: no line was written
 pub untold_fails : (opened : Opened) (glyph : Option ℕ) (due : Result Known Refusal) (bytes : Option (List ℕ)) (faults : ℕ)
-    (refusal : Refusal) → Fails refusal due → Tells (told_from opened glyph due) (unchanged bytes faults) (Err refusal)
+    (refusal : Refusal) → Fails refusal due → TellsTrace (told_from opened glyph due) (unchanged bytes faults) (Err refusal)
 untold_fails opened glyph due bytes faults OutOfMemory f = record {
   text = tt;
   cause = λ named. absurd named;

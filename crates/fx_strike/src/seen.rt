@@ -19,7 +19,7 @@ pub(crate) struct Seen {
 impl Seen {
     ghost use Rattle.std.specs.Prelude.{◌<◌};
     ghost use Rattle.fx_request.specs.Limits.{max_characters};
-    ghost use Rattle.fx_strike.specs.inner.Surveying.{IsEmpty, IsNarrow, Adds};
+    ghost use Rattle.fx_strike.specs.inner.Surveying.{IsEmpty, IsNarrow, AddsSketch};
 
     /// No character.
     pub(crate) fn new() -> Seen
@@ -43,7 +43,7 @@ impl Seen {
     pub(crate) fn add(&mut self, sketch: &Sketch, bounds: Bounds)
         requires few { self.old.glyphs < max_characters }
         requires narrow { IsNarrow self.old }
-        ensures { Adds sketch.now bounds self.old self.new }
+        ensures { AddsSketch sketch.now bounds self.old self.new }
     {
         let dwidth = whole_pixels(sketch.advance);
         self.bounds = bounds;

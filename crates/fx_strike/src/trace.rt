@@ -2,7 +2,7 @@
 ghost use Rattle.std.specs.Prelude.{◌≡◌, ◌<◌, ◌^◌, ℕ, Ok, Err, IfOk, IfErr, IsErrOf};
 ghost use Rattle.fx_fixed.specs.Changes.{change_of};
 ghost use Rattle.fx_strike.specs.Headline.{HasToName, IsCause, Late};
-ghost use Rattle.fx_strike.specs.Traces.{IsTold, IsToldSome, IsToldTo, Tells, opening_for, refused_as, told_of};
+ghost use Rattle.fx_strike.specs.Traces.{IsTold, IsToldSome, IsToldTo, TellsTrace, opening_for, refused_as, told_of};
 ghost use Rattle.fx_strike.specs.Traces.{trace_of};
 
 use crate::choices::{chosen_glyph, open_choice};
@@ -37,7 +37,7 @@ fn trace_chosen<W: Sink>(
     out: &mut W,
 ) -> Result<bool, Refusal>
     requires { W.fault_count out.old < 2 ^ 63 }
-    ensures { Tells (told_of opened.now glyph) (change_of W.held W.fault_count out.old out.new) result }
+    ensures { TellsTrace (told_of opened.now glyph) (change_of W.held W.fault_count out.old out.new) result }
 {
     let machine = machine_at(alloc, opened)?;
     match glyph {
@@ -67,7 +67,7 @@ fn trace_inner<W: Sink>(
     out: &mut W,
 ) -> Result<bool, Refusal>
     requires { W.fault_count out.old < 2 ^ 63 }
-    ensures tells { Tells (trace_of font.now ppem traced) (change_of W.held W.fault_count out.old out.new) result }
+    ensures tells { TellsTrace (trace_of font.now ppem traced) (change_of W.held W.fault_count out.old out.new) result }
     ensures late { IsErrOf result Refusal.OutOfMemory → Late (opening_for font.now ppem traced) }
 {
     let opened = open_for(font, ppem, traced)?;

@@ -37,7 +37,7 @@ pub record IsEmpty (new : Seen) : Type 0 where
   pub usage : new.usage ≡ no_usage
 
 -- one character more: its sketch, and the box of the glyphs up to it
-pub record Adds (sketch : Sketch) (bounds : Box) (old new : Seen) : Type 0 where
+pub record AddsSketch (sketch : Sketch) (bounds : Box) (old new : Seen) : Type 0 where
   pub bounds_are : new.bounds ≡ bounds
   pub gathered : new.gathered ≡ gathered_with old.gathered sketch.code sketch.dwidth
   pub narrow : IsNarrow new
@@ -57,7 +57,7 @@ pub record Has (sketch : Sketch) (old new : Seen) : Type 0 where
   pub glyph : Glyph
   pub drawn : IsGlyphOf sketch glyph
   pub placed : IsPlaced new.bounds
-  pub adds : Adds sketch (joined old.bounds glyph.box) old new
+  pub adds : AddsSketch sketch (joined old.bounds glyph.box) old new
 
 -- a character with this fate was seen
 abbrev pub HasFate : Fate → Seen → Seen → Type 0
