@@ -1,17 +1,18 @@
 -- Words of a line, each closed by the gaps beside its pixels, are one after the other the closed line: `line_more`.
 -- Serves `close_line` and `close_lines`.
-use Rattle.std.proofs.Common.{◌≡◌, ◌≢◌, ◌⊎◌, ◌↔◌, inl, inr, refl, sym, ap, ◌∙◌, subst, ℕ, zero, suc, ◌+◌, ◌-◌, ◌*◌, ◌/◌, ◌%◌, ◌<◌, ◌≤◌, ℤ, pos, ◌+ℤ◌}
-use Rattle.std.proofs.Common.{Bool, true, false, not, List, [], ◌∷◌, get_or, slice_set, take, drop, length, arith}
+use Rattle.std.proofs.Common.{◌≡◌, ◌≢◌, ◌⊎◌, ◌↔◌, inl, inr, refl, sym, ap, ◌∙◌, subst, ℕ, zero, suc, ◌+◌, ◌-◌, ◌*◌, ◌/◌, ◌%◌, ◌<◌, ◌≤◌, pos, ◌+ℤ◌}
+use Rattle.std.proofs.Common.{Bool, true, false, not, List, [], ◌∷◌, get_or, take, drop, length, arith}
+use Rattle.std.specs.Prelude.{⊤}
 use Rattle.std.specs.Int.{bit_at}
 use Rattle.std.proofs.Math.Nat.{mul-le-mul_right}
-use Rattle.std.proofs.lemmas.List.{get_or-set_other, get_or-take, get_or-drop, get_or_past, length-set, length-take}
-use Rattle.std.proofs.lemmas.Grind.{get_or-set_at}
+use Rattle.std.proofs.lemmas.List.{get_or-take, get_or-drop, get_or_past, length-take}
 use Rattle.fx_fixed.proofs.Order.{below_or_not}
 use Rattle.fx_winding.specs.declared.frame.Frame.{Frame}
 use Rattle.fx_winding.specs.Bitmaps.{words_for, word_bit}
 use Rattle.fx_winding.specs.Notes.{words_noted}
-use Rattle.fx_dropout.specs.inner.Closing.{bit_after, bit_on, grid_bit, line_word, next_on, number_on, word_column, word_place, word_row, words_along}
-use Rattle.fx_dropout.specs.inner.Closing.{IsClosedBit, IsClosedIn, IsOpen, IsOpenAt, IsReached}
+use Rattle.fx_dropout.specs.declared.chooser.Chooser.{Chooser}
+use Rattle.fx_dropout.specs.inner.Closing.{bit_after, bit_before, bit_on, grid_bit, line_word, next_on, number_on, word_column, word_place}
+use Rattle.fx_dropout.specs.inner.Closing.{word_row, words_along, IsClosedBit, IsClosedIn, IsClosedOn, IsNext, IsOpen, IsOpenAt, IsReached}
 
 -- ---- where words are
 row_end : (a h s : ℕ) → a < h → a * s + s ≤ h * s
@@ -38,6 +39,11 @@ pub inside : (up : Bool) (f : Frame) (line k : ℕ) → line < words_along (not 
 inside false f line k l m = let t = row_end line f.height (words_for f.width) l in omega (arith, t, m)
 inside true f line k l m = let t = row_end k f.height (words_for f.width) m in omega (arith, t, l)
 
+-- the words of a row of the frame are in the list
+pub row_held : (up : Bool) (f : Frame) (line size s count : ℕ) → line < words_along (not up) f → s ≡ size → f.height * size ≤ count
+    → up ≡ false → line * s + s ≤ count
+row_held up f line size s count l e h is = grind (arith, is, l, e, h, row_end line f.height size)
+
 -- a word by its column and its row
 cell : (words : List ℕ) (size column row : ℕ) → column < size
     → get_or (take size (drop (row * size) words)) column 0 ≡ get_or words (row * size + column) 0
@@ -47,42 +53,27 @@ cell words size column row l =
 no_cell : (words : List ℕ) (size column row : ℕ) → size ≤ column → get_or (take size (drop (row * size) words)) column 0 ≡ 0
 no_cell words size column row l = get_or_past _ column 0 (omega (arith, length-take size (drop (row * size) words), l))
 
--- ---- a word set
-cell_set : (words : List ℕ) (size column row x : ℕ) → column < size → row * size + column < length words
-    → get_or (take size (drop (row * size) (slice_set words (row * size + column) x))) column 0 ≡ x
-cell_set words size column row x l m = grind (arith, l, m, cell, get_or-set_at)
+pub line_at : (up : Bool) (f : Frame) (words : List ℕ) (line k : ℕ) → line < words_along (not up) f → k < words_along up f
+    → line_word up words (words_for f.width) line k ≡ get_or words (word_place up (words_for f.width) line k) 0
+line_at false f words line k l m = cell words (words_for f.width) k line m
+line_at true f words line k l m = cell words (words_for f.width) line k l
 
-cell_other : (words : List ℕ) (size column row i j x : ℕ) → column < size → row ≢ j ⊎ column ≢ i
-    → get_or (take size (drop (j * size) (slice_set words (row * size + column) x))) i 0
-    ≡ get_or (take size (drop (j * size) words)) i 0
-cell_other words size column row i j x l h = by (below_or_not i size)
+-- ---- a word changed
+cell_other : (words new : List ℕ) (size column row i j : ℕ) → column < size
+    → ((w : ℕ) → w ≢ row * size + column → get_or new w 0 ≡ get_or words w 0) → row ≢ j ⊎ column ≢ i
+    → get_or (take size (drop (j * size) new)) i 0 ≡ get_or (take size (drop (j * size) words)) i 0
+cell_other words new size column row i j l others h = by (below_or_not i size)
   where
-    set : List ℕ
-    set = slice_set words (row * size + column) x
+    by : (i < size) ⊎ (size ≤ i) → get_or (take size (drop (j * size) new)) i 0 ≡ get_or (take size (drop (j * size) words)) i 0
+    by (inl m) = cell new size i j m ∙ others (j * size + i) (λ e. apart row column j i size l m h (sym e))
+        ∙ sym (cell words size i j m)
+    by (inr m) = no_cell new size i j m ∙ sym (no_cell words size i j m)
 
-    by : (i < size) ⊎ (size ≤ i) → get_or (take size (drop (j * size) set)) i 0 ≡ get_or (take size (drop (j * size) words)) i 0
-    by (inl m) = cell set size i j m
-        ∙ get_or-set_other words (row * size + column) (j * size + i) x 0
-        (λ e. apart row column j i size l m h (sym e)) ∙ sym (cell words size i j m)
-    by (inr m) = no_cell set size i j m ∙ sym (no_cell words size i j m)
-
-pub line_set : (up : Bool) (f : Frame) (words : List ℕ) (line k x : ℕ) → line < words_along (not up) f → k < words_along up f
-    → length words ≡ f.height * words_for f.width
-    → line_word up (slice_set words (word_place up (words_for f.width) line k) x) (words_for f.width) line k ≡ x
-line_set up f words line k x l m e = by up l m (inside up f line k l m)
-  where
-    by : (up : Bool) → line < words_along (not up) f → k < words_along up f
-        → word_place up (words_for f.width) line k < f.height * words_for f.width
-        → line_word up (slice_set words (word_place up (words_for f.width) line k) x) (words_for f.width) line k ≡ x
-    by false l m o = cell_set words (words_for f.width) k line x m (omega (arith, o, e))
-    by true l m o = cell_set words (words_for f.width) line k x l (omega (arith, o, e))
-
-pub line_other : (up : Bool) (f : Frame) (words : List ℕ) (line k i j x : ℕ) → line < words_along (not up) f
-    → k < words_along up f → line ≢ i ⊎ k ≢ j
-    → line_word up (slice_set words (word_place up (words_for f.width) line k) x) (words_for f.width) i j
-    ≡ line_word up words (words_for f.width) i j
-line_other false f words line k i j x l m h = cell_other words (words_for f.width) k line j i x m h
-line_other true f words line k i j x l m h = cell_other words (words_for f.width) line k i j x l
+pub line_other : (up : Bool) (f : Frame) (words new : List ℕ) (line k i j : ℕ) → line < words_along (not up) f
+    → k < words_along up f → ((w : ℕ) → w ≢ word_place up (words_for f.width) line k → get_or new w 0 ≡ get_or words w 0)
+    → line ≢ i ⊎ k ≢ j → line_word up new (words_for f.width) i j ≡ line_word up words (words_for f.width) i j
+line_other false f words new line k i j l m others h = cell_other words new (words_for f.width) k line j i m others h
+line_other true f words new line k i j l m others h = cell_other words new (words_for f.width) line k i j l others
     (elim h [ inl n ↦ inr n | inr n ↦ inl n ])
 
 -- ---- bits of words
@@ -111,185 +102,215 @@ pub after_is : (word next r c : ℕ) → ((i : ℕ) → i < 31 → bit_at r (31 
     → c < 32 → bit_at r (31 - c) ≡ word_bit (word ∷ next ∷ []) (c + 1)
 after_is word next r c inner last l = grind (arith, l, inner, last, below_or_not c 31)
 
+-- and the bit before it
+pub before_is : (before word r c : ℕ) → bit_at r 31 ≡ bit_at before 0
+    → ((i : ℕ) → 0 < i → i < 32 → bit_at r (31 - i) ≡ bit_at word (32 - i)) → c < 32
+    → bit_at r (31 - c) ≡ bit_before false before word c
+before_is before word r zero first inner l = first
+before_is before word r (suc c) first inner l =
+    let e : 32 - suc c ≡ 31 - c = omega (arith, l) in inner (suc c) (omega arith) l ∙ ap (bit_at word) e
+
+-- ---- a pass over the rows, or the columns, of a frame: its notes, and its words as they were
+pub record Pass : Type 0 where
+  pub chooser : Chooser
+  pub noted : List ℕ
+  pub old : List ℕ
+
+abbrev pub size_of : Pass → ℕ
+size_of p = words_for p.chooser.frame.width
+
+-- the word k of a line of notes, and of pixels
+abbrev pub note_of : Bool → Pass → ℕ → ℕ → ℕ
+note_of up p line k = line_word up p.noted (words_noted p.chooser.frame.width) line k
+
+abbrev pub word_of : Bool → Pass → ℕ → ℕ → ℕ
+word_of up p line k = line_word up p.old (size_of p) line k
+
+-- the line of the pixel in column n and row r: its pixels, its segments, and whether the next pixels are chosen
+abbrev pub pixels_on : Bool → Pass → ℕ → ℕ → ℕ → ℕ
+pixels_on up p n r k = bit_on up p.old (size_of p) n r k
+
+abbrev pub notes_on : Bool → Pass → ℕ → ℕ → ℕ → ℕ
+notes_on up p n r k = bit_on up p.noted (words_noted p.chooser.frame.width) n r k
+
+abbrev pub chosen_on : Bool → Pass → ℕ → ℕ → ℕ → Type 0
+chosen_on up p n r k = next_on up (IsNext p.chooser up) p.chooser.frame n r k
+
+-- the pixel closes the segment of its line that leads to it
+abbrev pub IsReachedIn : Bool → Pass → ℕ → ℕ → Type 0
+IsReachedIn up p n r = IsReached (pixels_on up p n r) (notes_on up p n r) (chosen_on up p n r) (number_on up n r)
+
+abbrev pub IsClosedAt : Bool → Pass → ℕ → ℕ → ℕ → ℕ → Type 0
+IsClosedAt up p line k c new = IsClosedOn p.chooser up p.noted p.old line k c new
+
 -- ---- a word of a line closed
--- the pixels of the word before one that close the segments after them in place of the pixels before those: of a row its last pixel
-abbrev pub IsBefore : Bool → (ℤ → ℤ → Type 0) → Frame → List ℕ → List ℕ → ℕ → ℕ → ℕ → Type 0
-IsBefore false IsNext f noted old line k before =
-    (bit_at before 0 ≡ 1) ↔ IsReached (λ n. grid_bit old (words_for f.width) n line)
-    (λ n. grid_bit noted (words_noted f.width) n line)
-    (λ n. next_on false IsNext f 0 line n) (32 * k)
-IsBefore true IsNext f noted old line k before = (c : ℕ) → c < 32 → (bit_at before (31 - c) ≡ 1)
-    ↔ IsReached (λ r. grid_bit old (words_for f.width) (32 * line + c) r)
-    (λ r. grid_bit noted (words_noted f.width) (32 * line + c) r)
-    (λ r. next_on true IsNext f (32 * line + c) 0 r) k
+-- the bits of a word before which there is another word
+abbrev IsFirst : Bool → ℕ → Type 0
+IsFirst false c = c ≡ 0
+IsFirst true c = ⊤
 
--- what was found at a word of a line: its gaps, those that the next pixels close, those that its pixels close from before, and the
--- word closed
-pub record IsWordClosed (up : Bool) (IsNext : ℤ → ℤ → Type 0) (f : Frame) (noted old : List ℕ) (line k before gaps nexts left x : ℕ)
-    : Type 0 where
-  pub gap : (c : ℕ) → c < 32 → (bit_at gaps (31 - c) ≡ 1) ↔ IsOpen
-      (bit_after up (line_word up noted (words_noted f.width) line k) (line_word up noted (words_noted f.width) line (k + 1)) c)
-      (bit_at (line_word up old (words_for f.width) line k) (31 - c))
-      (bit_after up (line_word up old (words_for f.width) line k) (line_word up old (words_for f.width) line (k + 1)) c)
-  pub next : (c : ℕ) → c < 32 → (bit_at nexts (31 - c) ≡ 1) ↔ ((bit_at gaps (31 - c) ≡ 1)
-      × IsNext (f.left +ℤ pos (32 * word_column up line k + c)) (f.bottom +ℤ pos (word_row up line k)))
-  pub left_up : up ≡ true → left ≡ before
-  pub left_first : up ≡ false → bit_at left 31 ≡ bit_at before 0
-  pub left_inner : up ≡ false → (c : ℕ) → 0 < c → c < 32 → bit_at left (31 - c) ≡ bit_at nexts (32 - c)
-  pub new : (c : ℕ) → c < 32 → (bit_at x (31 - c) ≡ 1) ↔ ((bit_at (line_word up old (words_for f.width) line k) (31 - c) ≡ 1)
-      ⊎ (((bit_at gaps (31 - c) ≡ 1) × ¬ (bit_at nexts (31 - c) ≡ 1)) ⊎ (bit_at left (31 - c) ≡ 1)))
+-- the gaps after the word before one that the next pixels close: of a row that after its last pixel
+abbrev pub IsBefore : Bool → Pass → ℕ → ℕ → ℕ → Type 0
+IsBefore up p line k before = (word c : ℕ) → c < 32 → IsFirst up c
+    → (bit_before up before word c ≡ 1) ↔ IsReachedIn up p (32 * word_column up line k + c) (word_row up line k)
 
-gap_there : (up : Bool) (IsNext : ℤ → ℤ → Type 0) (f : Frame) (noted old : List ℕ) (line k before gaps nexts left x c : ℕ)
-    → IsWordClosed up IsNext f noted old line k before gaps nexts left x → c < 32
+-- what was found at a word of a line: its gaps, those that the next pixels close, and the word closed
+pub record IsWordClosed (up : Bool) (p : Pass) (line k before gaps nexts x : ℕ) : Type 0 where
+  pub gap : (c : ℕ) → c < 32 → (bit_at gaps (31 - c) ≡ 1)
+      ↔ IsOpen (bit_after up (note_of up p line k) (note_of up p line (k + 1)) c) (bit_at (word_of up p line k) (31 - c))
+      (bit_after up (word_of up p line k) (word_of up p line (k + 1)) c)
+  pub next : (c : ℕ) → c < 32 → (bit_at nexts (31 - c) ≡ 1) ↔ ((bit_at gaps (31 - c) ≡ 1) × IsNext p.chooser up
+      (p.chooser.frame.left +ℤ pos (32 * word_column up line k + c)) (p.chooser.frame.bottom +ℤ pos (word_row up line k)))
+  pub new : (c : ℕ) → c < 32 → (bit_at x (31 - c) ≡ 1) ↔ ((bit_at (word_of up p line k) (31 - c) ≡ 1)
+      ⊎ (((bit_at gaps (31 - c) ≡ 1) × ¬ (bit_at nexts (31 - c) ≡ 1)) ⊎ (bit_before up before nexts c ≡ 1)))
+
+gap_there : (up : Bool) (p : Pass) (line k before gaps nexts x c : ℕ) → IsWordClosed up p line k before gaps nexts x → c < 32
     → let n = 32 * word_column up line k + c in let r = word_row up line k in (bit_at gaps (31 - c) ≡ 1)
-    ↔ IsOpenAt (λ q. bit_on up old (words_for f.width) n r q) (λ q. bit_on up noted (words_noted f.width) n r q)
-    (suc (number_on up n r))
-gap_there up IsNext f noted old line k before gaps nexts left x c is l =
-    subst (λ z. z) (λ t. (bit_at gaps (31 - c) ≡ 1) ↔ IsOpen (next_there up noted (words_noted f.width) line k c l t)
-    (bit_there up old (words_for f.width) line k c l t) (next_there up old (words_for f.width) line k c l t)) (is.gap c l)
+    ↔ IsOpenAt (pixels_on up p n r) (notes_on up p n r) (suc (number_on up n r))
+gap_there up p line k before gaps nexts x c is l =
+    subst (λ z. z) (λ t. (bit_at gaps (31 - c) ≡ 1)
+    ↔ IsOpen (next_there up p.noted (words_noted p.chooser.frame.width) line k c l t)
+    (bit_there up p.old (size_of p) line k c l t) (next_there up p.old (size_of p) line k c l t)) (is.gap c l)
 
--- the pixels that the gaps before them are closed by
-reached_there : (up : Bool) (IsNext : ℤ → ℤ → Type 0) (f : Frame) (noted old : List ℕ) (line k before gaps nexts left x c : ℕ)
-    → IsWordClosed up IsNext f noted old line k before gaps nexts left x → IsBefore up IsNext f noted old line k before → c < 32
-    → let n = 32 * word_column up line k + c in let r = word_row up line k in (bit_at left (31 - c) ≡ 1)
-    ↔ IsReached (λ q. bit_on up old (words_for f.width) n r q) (λ q. bit_on up noted (words_noted f.width) n r q)
-    (λ q. next_on up IsNext f n r q) (number_on up n r)
-reached_there true IsNext f noted old line k before gaps nexts left x c is h l =
-    subst (λ (b : ℕ). (bit_at b (31 - c) ≡ 1) ↔ IsReached (λ r. grid_bit old (words_for f.width) (32 * line + c) r)
-    (λ r. grid_bit noted (words_noted f.width) (32 * line + c) r) (λ r. next_on true IsNext f (32 * line + c) 0 r) k)
-    (sym (is.left_up refl)) (h c l)
-reached_there false IsNext f noted old line k before gaps nexts left x zero is h l =
-    let at : 32 * k ≡ 32 * k + 0 = omega arith in
-    subst (λ (z : ℕ × ℕ). (z.0 ≡ 1) ↔ IsReached (λ n. grid_bit old (words_for f.width) n line)
-    (λ n. grid_bit noted (words_noted f.width) n line) (λ n. next_on false IsNext f 0 line n) z.1)
-    (λ t. (sym (is.left_first refl) t, at t)) h
-reached_there false IsNext f noted old line k before gaps nexts left x (suc d) is h l =
-    let gap = gap_there false IsNext f noted old line k before gaps nexts left x d is (omega (arith, l)) in
-    let next = is.next d (omega (arith, l)) in
+chosen_is : (up : Bool) (c : Chooser) (n r : ℕ)
+    → next_on up (IsNext c up) c.frame n r (number_on up n r) ≡ IsNext c up (c.frame.left +ℤ pos n) (c.frame.bottom +ℤ pos r)
+chosen_is false c n r = refl
+chosen_is true c n r = refl
+
+chosen_there : (up : Bool) (p : Pass) (line k before gaps nexts x c : ℕ) → IsWordClosed up p line k before gaps nexts x → c < 32
+    → let n = 32 * word_column up line k + c in let r = word_row up line k in (bit_at nexts (31 - c) ≡ 1)
+    ↔ ((bit_at gaps (31 - c) ≡ 1) × chosen_on up p n r (number_on up n r))
+chosen_there up p line k before gaps nexts x c is l =
+    subst (λ z. (bit_at nexts (31 - c) ≡ 1) ↔ ((bit_at gaps (31 - c) ≡ 1) × z))
+    (sym (chosen_is up p.chooser (32 * word_column up line k + c) (word_row up line k))) (is.next c l)
+
+-- a next pixel that closes a gap
+next_reached : (P Q : ℕ → ℕ) (Next : ℕ → Type 0) (n gap next : ℕ) → (gap ≡ 1) ↔ IsOpenAt P Q (suc n)
+    → (next ≡ 1) ↔ ((gap ≡ 1) × Next n) → (next ≡ 1) ↔ IsReached P Q Next (suc n)
+next_reached P Q Next n gap next gapped chosen =
+    (λ t. let h = chosen.0 t in (gapped.0 h.0, h.1), λ r. chosen.1 (gapped.1 r.0, r.1))
+
+reached_next : (up : Bool) (p : Pass) (line k before gaps nexts x c : ℕ) → IsWordClosed up p line k before gaps nexts x → c < 32
+    → let n = 32 * word_column up line k + c in let r = word_row up line k in (bit_at nexts (31 - c) ≡ 1)
+    ↔ IsReached (pixels_on up p n r) (notes_on up p n r) (chosen_on up p n r) (suc (number_on up n r))
+reached_next up p line k before gaps nexts x c is l =
+    let n = 32 * word_column up line k + c in
+    let r = word_row up line k in
+    next_reached (pixels_on up p n r) (notes_on up p n r) (chosen_on up p n r) (number_on up n r) _ _
+    (gap_there up p line k before gaps nexts x c is l) (chosen_there up p line k before gaps nexts x c is l)
+
+-- the pixels of a word that close the segments before them
+reached_there : (up : Bool) (p : Pass) (line k before gaps nexts x c : ℕ) → IsWordClosed up p line k before gaps nexts x
+    → IsBefore up p line k before → c < 32
+    → (bit_before up before nexts c ≡ 1) ↔ IsReachedIn up p (32 * word_column up line k + c) (word_row up line k)
+reached_there true p line k before gaps nexts x c is h l = h nexts c l tt
+reached_there false p line k before gaps nexts x zero is h l = h nexts zero l refl
+reached_there false p line k before gaps nexts x (suc d) is h l =
     let at : suc (32 * k + d) ≡ 32 * k + suc d = omega arith in
-    let bit : 32 - suc d ≡ 31 - d = omega (arith, l) in
-    subst (λ (z : ℕ × ℕ). (z.0 ≡ 1) ↔ IsReached (λ n. grid_bit old (words_for f.width) n line)
-    (λ n. grid_bit noted (words_noted f.width) n line) (λ n. next_on false IsNext f 0 line n) z.1)
-    (λ t. (sym (is.left_inner refl (suc d) (omega arith) l ∙ ap (bit_at nexts) bit) t, at t))
-    (λ t. let h = next.0 t in (gap.0 h.0, h.1), λ r. next.1 (gap.1 r.0, r.1))
+    subst (λ (n : ℕ). (bit_at nexts (31 - d) ≡ 1) ↔ IsReached (pixels_on false p 0 line) (notes_on false p 0 line)
+    (chosen_on false p 0 line) n) at (reached_next false p line k before gaps nexts x d is (omega (arith, l)))
 
--- the last pixel of a row's word, or the pixels of a word below others
-before_there : (up : Bool) (IsNext : ℤ → ℤ → Type 0) (f : Frame) (noted old : List ℕ) (line k before gaps nexts left x : ℕ)
-    → IsWordClosed up IsNext f noted old line k before gaps nexts left x → IsBefore up IsNext f noted old line (k + 1) nexts
-before_there false IsNext f noted old line k before gaps nexts left x is =
-    let e : suc (32 * k + 31) ≡ 32 * (k + 1) = omega arith in
-    let gap = gap_there false IsNext f noted old line k before gaps nexts left x 31 is (omega arith) in
-    let next = is.next 31 (omega arith) in
-    subst (λ (n : ℕ). (bit_at nexts 0 ≡ 1) ↔ IsReached (λ n. grid_bit old (words_for f.width) n line)
-    (λ n. grid_bit noted (words_noted f.width) n line) (λ n. next_on false IsNext f 0 line n) n) e
-    (λ t. let h = next.0 t in (gap.0 h.0, h.1), λ r. next.1 (gap.1 r.0, r.1))
-before_there true IsNext f noted old line k before gaps nexts left x is = λ c l.
-    let e : suc k ≡ k + 1 = omega arith in
-    let gap = gap_there true IsNext f noted old line k before gaps nexts left x c is l in
-    let next = is.next c l in
-    subst (λ (n : ℕ). (bit_at nexts (31 - c) ≡ 1) ↔ IsReached (λ r. grid_bit old (words_for f.width) (32 * line + c) r)
-    (λ r. grid_bit noted (words_noted f.width) (32 * line + c) r) (λ r. next_on true IsNext f (32 * line + c) 0 r) n) e
-    (λ t. let h = next.0 t in (gap.0 h.0, h.1), λ r. next.1 (gap.1 r.0, r.1))
-
-next_is : (up : Bool) (IsNext : ℤ → ℤ → Type 0) (f : Frame) (n r : ℕ)
-    → next_on up IsNext f n r (number_on up n r) ≡ IsNext (f.left +ℤ pos n) (f.bottom +ℤ pos r)
-next_is false IsNext f n r = refl
-next_is true IsNext f n r = refl
+-- and what the next word needs
+before_there : (up : Bool) (p : Pass) (line k before gaps nexts x : ℕ) → IsWordClosed up p line k before gaps nexts x
+    → IsBefore up p line (k + 1) nexts
+before_there true p line k before gaps nexts x is word c l h =
+    let at : suc k ≡ k + 1 = omega arith in
+    subst (λ (n : ℕ). (bit_at nexts (31 - c) ≡ 1) ↔ IsReached (pixels_on true p (32 * line + c) 0)
+    (notes_on true p (32 * line + c) 0) (chosen_on true p (32 * line + c) 0) n) at
+    (reached_next true p line k before gaps nexts x c is l)
+before_there false p line k before gaps nexts x is word c l e =
+    let at : suc (32 * k + 31) ≡ 32 * (k + 1) + c = omega (arith, e) in
+    subst (λ (z : ℕ × ℕ). (bit_before false nexts word z.0 ≡ 1) ↔ IsReached (pixels_on false p 0 line) (notes_on false p 0 line)
+    (chosen_on false p 0 line) z.1) (λ t. (sym e t, at t))
+    (reached_next false p line k before gaps nexts x 31 is (omega arith))
 
 closed_by : (P Q : ℕ → ℕ) (Next : ℕ → Type 0) (n x here gap next left : ℕ) → here ≡ P n → (gap ≡ 1) ↔ IsOpenAt P Q (suc n)
     → (next ≡ 1) ↔ ((gap ≡ 1) × Next n) → (left ≡ 1) ↔ IsReached P Q Next n
     → (x ≡ 1) ↔ ((here ≡ 1) ⊎ (((gap ≡ 1) × ¬ (next ≡ 1)) ⊎ (left ≡ 1))) → IsClosedBit P Q Next n x
 closed_by P Q Next n x here gap next left own gapped chosen reached new = grind (arith, own, gapped, chosen, reached, new)
 
-new_there : (up : Bool) (IsNext : ℤ → ℤ → Type 0) (f : Frame) (noted old : List ℕ) (line k before gaps nexts left x c : ℕ)
-    → IsWordClosed up IsNext f noted old line k before gaps nexts left x → IsBefore up IsNext f noted old line k before → c < 32
-    → IsClosedIn up IsNext f noted old (32 * word_column up line k + c) (word_row up line k) (bit_at x (31 - c))
-new_there up IsNext f noted old line k before gaps nexts left x c is h l =
+new_there : (up : Bool) (p : Pass) (line k before gaps nexts x c : ℕ) → IsWordClosed up p line k before gaps nexts x
+    → IsBefore up p line k before → c < 32 → IsClosedAt up p line k c (bit_at x (31 - c))
+new_there up p line k before gaps nexts x c is h l =
     let n = 32 * word_column up line k + c in
     let r = word_row up line k in
-    closed_by (λ q. bit_on up old (words_for f.width) n r q) (λ q. bit_on up noted (words_noted f.width) n r q)
-    (λ q. next_on up IsNext f n r q) (number_on up n r) (bit_at x (31 - c))
-    (bit_at (line_word up old (words_for f.width) line k) (31 - c)) (bit_at gaps (31 - c)) (bit_at nexts (31 - c))
-    (bit_at left (31 - c))
-    (bit_there up old (words_for f.width) line k c l) (gap_there up IsNext f noted old line k before gaps nexts left x c is l)
-    (subst (λ z. (bit_at nexts (31 - c) ≡ 1) ↔ ((bit_at gaps (31 - c) ≡ 1) × z))
-    (sym (next_is up IsNext f (32 * word_column up line k + c) (word_row up line k))) (is.next c l))
-    (reached_there up IsNext f noted old line k before gaps nexts left x c is h l) (is.new c l)
+    closed_by (pixels_on up p n r) (notes_on up p n r) (chosen_on up p n r) (number_on up n r) (bit_at x (31 - c))
+    (bit_at (word_of up p line k) (31 - c)) (bit_at gaps (31 - c)) (bit_at nexts (31 - c)) (bit_before up before nexts c)
+    (bit_there up p.old (size_of p) line k c l) (gap_there up p line k before gaps nexts x c is l)
+    (chosen_there up p line k before gaps nexts x c is l) (reached_there up p line k before gaps nexts x c is h l) (is.new c l)
 
--- the words before the word k of a line are closed, and the others are as they were
-pub record LineTo (up : Bool) (IsNext : ℤ → ℤ → Type 0) (f : Frame) (noted old words : List ℕ) (line k before : ℕ) : Type 0 where
-  pub long : length words ≡ length old
-  pub done : (i c : ℕ) → i < k → c < 32
-      → IsClosedIn up IsNext f noted old (32 * word_column up line i + c) (word_row up line i)
-      (bit_at (line_word up words (words_for f.width) line i) (31 - c))
-  pub rest : (i j : ℕ) → i ≢ line ⊎ k ≤ j → line_word up words (words_for f.width) i j ≡ line_word up old (words_for f.width) i j
-  pub reached : IsBefore up IsNext f noted old line k before
+-- ---- words of a line
+-- the words before the word k of a line are closed, and the others are as they were; and what is known of that word
+pub record LineTo (up : Bool) (p : Pass) (words : List ℕ) (line k note here before : ℕ) : Type 0 where
+  pub long : length words ≡ length p.old
+  pub done : (i c : ℕ) → i < k → c < 32 → IsClosedAt up p line i c (bit_at (line_word up words (size_of p) line i) (31 - c))
+  pub rest : (i j : ℕ) → i ≢ line ⊎ k ≤ j → line_word up words (size_of p) i j ≡ word_of up p i j
+  pub note_is : note ≡ note_of up p line k
+  pub here_is : here ≡ word_of up p line k
+  pub reached : IsBefore up p line k before
 
-pub line_more : (up : Bool) (IsNext : ℤ → ℤ → Type 0) (f : Frame) (noted old words : List ℕ) (line k before gaps nexts left x : ℕ)
-    → line < words_along (not up) f → k < words_along up f → length old ≡ f.height * words_for f.width
-    → IsWordClosed up IsNext f noted old line k before gaps nexts left x → LineTo up IsNext f noted old words line k before
-    → LineTo up IsNext f noted old (slice_set words (word_place up (words_for f.width) line k) x) line (k + 1) nexts
-line_more up IsNext f noted old words line k before gaps nexts left x l m e is so_far = record {
-  long = length-set words (word_place up (words_for f.width) line k) x ∙ so_far.long;
+pub line_more : (up : Bool) (p : Pass) (words new : List ℕ) (line k note here before gaps nexts next_note next : ℕ)
+    → line < words_along (not up) p.chooser.frame → k < words_along up p.chooser.frame → length new ≡ length words
+    → ((w : ℕ) → w ≢ word_place up (size_of p) line k → get_or new w 0 ≡ get_or words w 0)
+    → IsWordClosed up p line k before gaps nexts (get_or new (word_place up (size_of p) line k) 0)
+    → next_note ≡ note_of up p line (k + 1) → next ≡ line_word up words (size_of p) line (k + 1)
+    → LineTo up p words line k note here before → LineTo up p new line (k + 1) next_note next nexts
+line_more up p words new line k note here before gaps nexts next_note next l m e others is e_note e_next so_far = record {
+  long = e ∙ so_far.long;
   done = λ i c h b. by i c h b (below_or_not i k);
-  rest = λ i j h. line_other up f words line k i j x l m
+  rest = λ i j h. line_other up p.chooser.frame words new line k i j l m others
       (elim h [ inl n ↦ inl (λ t. n (sym t)) | inr n ↦ inr (λ t. omega (arith, n, t)) ])
       ∙ so_far.rest i j (elim h [ inl n ↦ inl n | inr n ↦ inr (omega (arith, n)) ]);
-  reached = before_there up IsNext f noted old line k before gaps nexts left x is;
+  note_is = e_note;
+  here_is = e_next ∙ so_far.rest line (k + 1) (inr (omega arith));
+  reached = before_there up p line k before gaps nexts _ is;
 }
   where
     by : (i c : ℕ) → i < k + 1 → c < 32 → (i < k) ⊎ (k ≤ i)
-        → IsClosedIn up IsNext f noted old (32 * word_column up line i + c) (word_row up line i)
-        (bit_at (line_word up (slice_set words (word_place up (words_for f.width) line k) x) (words_for f.width) line i) (31 - c))
-    by i c h b (inl o) = subst (λ (v : ℕ). IsClosedIn up IsNext f noted old (32 * word_column up line i + c) (word_row up line i)
-        (bit_at v (31 - c))) (sym (line_other up f words line k line i x l m (inr (λ t. omega (arith, o, t)))))
+        → IsClosedAt up p line i c (bit_at (line_word up new (size_of p) line i) (31 - c))
+    by i c h b (inl o) = subst (λ (v : ℕ). IsClosedAt up p line i c (bit_at v (31 - c)))
+        (sym (line_other up p.chooser.frame words new line k line i l m others (inr (λ t. omega (arith, o, t)))))
         (so_far.done i c o b)
     by i c h b (inr o) =
         let same : k ≡ i = omega (arith, h, o) in
-        subst (λ (q : ℕ). IsClosedIn up IsNext f noted old (32 * word_column up line q + c) (word_row up line q)
-        (bit_at (line_word up (slice_set words (word_place up (words_for f.width) line k) x) (words_for f.width) line q)
-        (31 - c))) same
-        (subst (λ (v : ℕ). IsClosedIn up IsNext f noted old (32 * word_column up line k + c) (word_row up line k)
-        (bit_at v (31 - c)))
-        (sym (line_set up f words line k x l m (so_far.long ∙ e)))
-        (new_there up IsNext f noted old line k before gaps nexts left x c is so_far.reached b))
+        subst (λ (q : ℕ). IsClosedAt up p line q c (bit_at (line_word up new (size_of p) line q) (31 - c))) same
+        (subst (λ (v : ℕ). IsClosedAt up p line k c (bit_at v (31 - c))) (sym (line_at up p.chooser.frame new line k l m))
+        (new_there up p line k before gaps nexts _ c is so_far.reached b))
 
 -- nothing is closed yet, and what the first pixels close is known
-pub line_none : (up : Bool) (IsNext : ℤ → ℤ → Type 0) (f : Frame) (noted old : List ℕ) (line before : ℕ)
-    → (up ≡ true → (c : ℕ) → c < 32 → (bit_at before (31 - c) ≡ 1)
-    ↔ IsOpen (bit_at (line_word up noted (words_noted f.width) line 0) (31 - c)) 0
-    (bit_at (line_word up old (words_for f.width) line 0) (31 - c)))
-    → (up ≡ false → (bit_at before 0 ≡ 1) ↔ IsOpen (bit_at (line_word up noted (words_noted f.width) line 0) 31) 0
-    (bit_at (line_word up old (words_for f.width) line 0) 31))
-    → LineTo up IsNext f noted old old line 0 before
-line_none up IsNext f noted old line before h k = record {
+pub line_none : (up : Bool) (p : Pass) (line note here before : ℕ) → note ≡ note_of up p line 0 → here ≡ word_of up p line 0
+    → (up ≡ true → (c : ℕ) → c < 32 → (bit_at before (31 - c) ≡ 1) ↔ IsOpen (bit_at note (31 - c)) 0 (bit_at here (31 - c)))
+    → (up ≡ false → (bit_at before 0 ≡ 1) ↔ IsOpen (bit_at note 31) 0 (bit_at here 31))
+    → LineTo up p p.old line 0 note here before
+line_none up p line note here before e f h k = record {
   long = refl;
   done = λ i c l b. absurd (omega (arith, l));
   rest = λ i j h. refl;
-  reached = by up h k;
+  note_is = e;
+  here_is = f;
+  reached = by up h k e f;
 }
   where
     by : (up : Bool) → (up ≡ true → (c : ℕ) → c < 32 → (bit_at before (31 - c) ≡ 1)
-        ↔ IsOpen (bit_at (line_word up noted (words_noted f.width) line 0) (31 - c)) 0
-        (bit_at (line_word up old (words_for f.width) line 0) (31 - c)))
-        → (up ≡ false → (bit_at before 0 ≡ 1) ↔ IsOpen (bit_at (line_word up noted (words_noted f.width) line 0) 31) 0
-        (bit_at (line_word up old (words_for f.width) line 0) 31))
-        → IsBefore up IsNext f noted old line 0 before
-    by false h k = k refl
-    by true h k = λ c l. subst (λ z. z) (λ t. (bit_at before (31 - c) ≡ 1) ↔ IsOpen
-        (bit_there true noted (words_noted f.width) line 0 c l t) 0
-        (bit_there true old (words_for f.width) line 0 c l t)) (h refl c l)
+        ↔ IsOpen (bit_at note (31 - c)) 0 (bit_at here (31 - c)))
+        → (up ≡ false → (bit_at before 0 ≡ 1) ↔ IsOpen (bit_at note 31) 0 (bit_at here 31))
+        → note ≡ note_of up p line 0 → here ≡ word_of up p line 0 → IsBefore up p line 0 before
+    by false h k e f word c l z = grind (arith, k, e, f, z)
+    by true h k e f word c l z =
+        subst (λ z. z) (λ t. (bit_at before (31 - c) ≡ 1) ↔ IsOpen
+        ((ap (λ v. bit_at v (31 - c)) e ∙ bit_there true p.noted (words_noted p.chooser.frame.width) line 0 c l) t) 0
+        ((ap (λ v. bit_at v (31 - c)) f ∙ bit_there true p.old (size_of p) line 0 c l) t)) (h refl c l)
 
+-- ---- lines
 -- the lines before one are closed, and the others are as they were
-pub record LinesTo (up : Bool) (IsNext : ℤ → ℤ → Type 0) (f : Frame) (noted old words : List ℕ) (line : ℕ) : Type 0 where
-  pub long : length words ≡ length old
-  pub done : (m k c : ℕ) → m < line → k < words_along up f → c < 32
-      → IsClosedIn up IsNext f noted old (32 * word_column up m k + c) (word_row up m k)
-      (bit_at (line_word up words (words_for f.width) m k) (31 - c))
-  pub rest : (m k : ℕ) → line ≤ m → line_word up words (words_for f.width) m k ≡ line_word up old (words_for f.width) m k
+pub record LinesTo (up : Bool) (p : Pass) (words : List ℕ) (line : ℕ) : Type 0 where
+  pub long : length words ≡ length p.old
+  pub done : (m k c : ℕ) → m < line → k < words_along up p.chooser.frame → c < 32
+      → IsClosedAt up p m k c (bit_at (line_word up words (size_of p) m k) (31 - c))
+  pub rest : (m k : ℕ) → line ≤ m → line_word up words (size_of p) m k ≡ word_of up p m k
 
-pub lines_none : (up : Bool) (IsNext : ℤ → ℤ → Type 0) (f : Frame) (noted old : List ℕ) → LinesTo up IsNext f noted old old 0
-lines_none up IsNext f noted old = record { long = refl; done = λ m k c l. absurd (omega (arith, l)); rest = λ m k l. refl }
+pub lines_none : (up : Bool) (p : Pass) → LinesTo up p p.old 0
+lines_none up p = record { long = refl; done = λ m k c l. absurd (omega (arith, l)); rest = λ m k l. refl }
 
 -- a line that is as it was has the bits that it had
 same_line : (up : Bool) (words old : List ℕ) (size line k c : ℕ) → c < 32
@@ -300,43 +321,40 @@ same_line false words old size line k c l h q = ap (λ v. bit_at v (31 - q % 32)
 same_line true words old size line k c l h q =
     sym (bit_there true words size line q c l) ∙ ap (λ v. bit_at v (31 - c)) (h q) ∙ bit_there true old size line q c l
 
-pub lines_more : (up : Bool) (IsNext : ℤ → ℤ → Type 0) (f : Frame) (noted old words new : List ℕ) (line : ℕ)
-    → LinesTo up IsNext f noted old words line → length new ≡ length words
-    → ((k c : ℕ) → k < words_along up f → c < 32 → IsClosedIn up IsNext f noted words (32 * word_column up line k + c)
-    (word_row up line k) (bit_at (line_word up new (words_for f.width) line k) (31 - c)))
-    → ((m k : ℕ) → m ≢ line → line_word up new (words_for f.width) m k ≡ line_word up words (words_for f.width) m k)
-    → LinesTo up IsNext f noted old new (line + 1)
-lines_more up IsNext f noted old words new line so_far same closed others = record {
+pub lines_more : (up : Bool) (p : Pass) (words new : List ℕ) (line : ℕ) → LinesTo up p words line → length new ≡ length words
+    → ((k c : ℕ) → k < words_along up p.chooser.frame → c < 32
+    → IsClosedOn p.chooser up p.noted words line k c (bit_at (line_word up new (size_of p) line k) (31 - c)))
+    → ((m k : ℕ) → m ≢ line → line_word up new (size_of p) m k ≡ line_word up words (size_of p) m k)
+    → LinesTo up p new (line + 1)
+lines_more up p words new line so_far same closed others = record {
   long = same ∙ so_far.long;
   done = λ m k c h l b. by m k c h l b (below_or_not m line);
   rest = λ m k h. others m k (λ t. omega (arith, h, t)) ∙ so_far.rest m k (omega (arith, h));
 }
   where
-    by : (m k c : ℕ) → m < line + 1 → k < words_along up f → c < 32 → (m < line) ⊎ (line ≤ m)
-        → IsClosedIn up IsNext f noted old (32 * word_column up m k + c) (word_row up m k)
-        (bit_at (line_word up new (words_for f.width) m k) (31 - c))
-    by m k c h l b (inl o) = subst (λ (v : ℕ). IsClosedIn up IsNext f noted old (32 * word_column up m k + c) (word_row up m k)
-        (bit_at v (31 - c))) (sym (others m k (λ t. omega (arith, o, t)))) (so_far.done m k c o l b)
+    by : (m k c : ℕ) → m < line + 1 → k < words_along up p.chooser.frame → c < 32 → (m < line) ⊎ (line ≤ m)
+        → IsClosedAt up p m k c (bit_at (line_word up new (size_of p) m k) (31 - c))
+    by m k c h l b (inl o) = subst (λ (v : ℕ). IsClosedAt up p m k c (bit_at v (31 - c)))
+        (sym (others m k (λ t. omega (arith, o, t)))) (so_far.done m k c o l b)
     by m k c h l b (inr o) =
         let e : line ≡ m = omega (arith, h, o) in
-        subst (λ (q : ℕ). IsClosedIn up IsNext f noted old (32 * word_column up q k + c) (word_row up q k)
-        (bit_at (line_word up new (words_for f.width) q k) (31 - c))) e
+        subst (λ (q : ℕ). IsClosedAt up p q k c (bit_at (line_word up new (size_of p) q k) (31 - c))) e
         (let n = 32 * word_column up line k + c in
         let r = word_row up line k in
         subst (λ z. z) (λ t. IsClosedBit
-        (λ q. same_line up words old (words_for f.width) line k c b (λ j. so_far.rest line j (omega arith)) q t)
-        (λ q. bit_on up noted (words_noted f.width) n r q) (λ q. next_on up IsNext f n r q) (number_on up n r)
-        (bit_at (line_word up new (words_for f.width) line k) (31 - c))) (closed k c l b))
+        (λ q. same_line up words p.old (size_of p) line k c b (λ j. so_far.rest line j (omega arith)) q t)
+        (notes_on up p n r) (chosen_on up p n r) (number_on up n r)
+        (bit_at (line_word up new (size_of p) line k) (31 - c))) (closed k c l b))
 
 -- all lines
-pub lines_all : (up : Bool) (IsNext : ℤ → ℤ → Type 0) (f : Frame) (noted old words : List ℕ)
-    → LinesTo up IsNext f noted old words (words_along (not up) f) → (r n : ℕ) → r < f.height → n < 32 * words_for f.width
-    → IsClosedIn up IsNext f noted old n r (grid_bit words (words_for f.width) n r)
-lines_all false IsNext f noted old words all r n h l =
+pub lines_all : (up : Bool) (p : Pass) (words : List ℕ) → LinesTo up p words (words_along (not up) p.chooser.frame) → (r n : ℕ)
+    → r < p.chooser.frame.height → n < 32 * size_of p
+    → IsClosedIn up (IsNext p.chooser up) p.chooser.frame p.noted p.old n r (grid_bit words (size_of p) n r)
+lines_all false p words all r n h l =
     let e : 32 * (n / 32) + n % 32 ≡ n = omega arith in
-    subst (λ (k : ℕ). IsClosedIn false IsNext f noted old k r (grid_bit words (words_for f.width) n r)) e
+    subst (λ (k : ℕ). IsClosedIn false (IsNext p.chooser false) p.chooser.frame p.noted p.old k r (grid_bit words (size_of p) n r)) e
     (all.done r (n / 32) (n % 32) h (omega (arith, l)) (omega arith))
-lines_all true IsNext f noted old words all r n h l =
+lines_all true p words all r n h l =
     let e : 32 * (n / 32) + n % 32 ≡ n = omega arith in
-    subst (λ (k : ℕ). IsClosedIn true IsNext f noted old k r (grid_bit words (words_for f.width) n r)) e
+    subst (λ (k : ℕ). IsClosedIn true (IsNext p.chooser true) p.chooser.frame p.noted p.old k r (grid_bit words (size_of p) n r)) e
     (all.done (n / 32) r (n % 32) (omega (arith, l)) h (omega arith))

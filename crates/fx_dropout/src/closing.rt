@@ -4,11 +4,11 @@
 //! that is chosen; the first segment of a line is closed by the first pixel. All that is looked at are bits from before, so that
 //! the order does not matter. A column is a row whose words are above one another.
 
-ghost use Rattle.std.specs.Prelude.{◌≡◌, ◌≢◌, ◌⊎◌, ◌↔◌, ℕ, ◌+◌, ◌-◌, ◌*◌, ◌^◌, ◌≤◌, ◌<◌, pos, ◌+ℤ◌, length, true, false, not};
+ghost use Rattle.std.specs.Prelude.{◌≡◌, ◌≢◌, ◌⊎◌, ◌↔◌, ℕ, ◌+◌, ◌-◌, ◌*◌, ◌^◌, ◌≤◌, ◌<◌, pos, ◌+ℤ◌, length, slice_index_or, true, false, not};
 ghost use Rattle.std.specs.Int.{bit_at};
 ghost use Rattle.fx_winding.specs.Bitmaps.{words_for as words_for_of, AreWords};
 ghost use Rattle.fx_winding.specs.Notes.{words_noted as words_noted_of};
-ghost use Rattle.fx_dropout.specs.inner.Closing.{bit_after, line_word, word_column, word_place, word_row, word_tests, words_along};
+ghost use Rattle.fx_dropout.specs.inner.Closing.{bit_after, bit_before, line_word, word_column, word_place, word_row, word_tests, words_along};
 ghost use Rattle.fx_dropout.specs.inner.Closing.{AreClosedLines, AreClosedWords, IsClosedOn, IsNext, IsOpen};
 
 use crate::chooser::{Chooser, GapWord};
@@ -92,14 +92,18 @@ impl WordLine {
     /// The word k of the line, or 0 after the last one.
     fn word(self, words: &[u32], k: usize) -> u32
         requires few { k ≤ 2 ^ 16 }
-        requires number { self.is_up ≡ true → self.number < self.size }
+        requires row { self.is_up ≡ false → self.number * self.size + self.size ≤ length words.now }
+        requires column { self.is_up ≡ true → self.number < self.size }
         ensures { result ≡ line_word self.is_up words.now self.size self.number k }
     {
-        if !self.is_up && k >= self.size {
-            return 0;
-        }
         let at = self.place(k);
-        if at < words.len() { words[at] } else { 0 }
+        if self.is_up {
+            if at < words.len() { words[at] } else { 0 }
+        } else if k < self.size {
+            words[at]
+        } else {
+            0
+        }
     }
 }
 
@@ -113,9 +117,7 @@ fn after(is_up: bool, word: u32, next: u32) -> u32
 /// The pixels of a word that close the segments that lead to them, if `nexts` are the segments of the word that the next pixels
 /// close, and `before` are those of the word before.
 fn reached(is_up: bool, before: u32, nexts: u32) -> u32
-    ensures up { is_up ≡ true → result ≡ before }
-    ensures first { is_up ≡ false → bit_at result 31 ≡ bit_at before 0 }
-    ensures inner { is_up ≡ false → (c : ℕ) → 0 < c → c < 32 → bit_at result (31 - c) ≡ bit_at nexts (32 - c) }
+    ensures { (c : ℕ) → c < 32 → bit_at result (31 - c) ≡ bit_before is_up before nexts c }
 {
     if is_up {
         before
@@ -162,6 +164,40 @@ fn gap_word(frame: Frame, is_up: bool, cell: (usize, usize), gaps: u32) -> GapWo
     }
 }
 
+/// Closes the gaps after the pixels of the word `at`, and those before them that are left to them: `before` are those of the word
+/// before that the next pixels close. Returns those of this word. Most words have none of either.
+#[inline(always)]
+fn close_word(
+    chooser: &Chooser<'_>,
+    word: GapWord,
+    at: usize,
+    before: u32,
+    words: &mut [u32],
+    tally: &mut Tally,
+) -> u32
+    requires place { at < length words.old }
+    ensures length { length words.new ≡ length words.old }
+    ensures others { (w : ℕ) → w ≢ at → slice_index_or words.new w 0 ≡ slice_index_or words.old w 0 }
+    ensures nexts { (i : ℕ) → i < 32 →
+        (bit_at result i ≡ 1) ↔ ((bit_at word.gaps i ≡ 1) × IsNext chooser.now word.is_up (word.left +ℤ pos (31 - i)) word.row) }
+    ensures bits { (c : ℕ) → c < 32 → (bit_at (slice_index_or words.new at 0) (31 - c) ≡ 1) ↔
+        ((bit_at (slice_index_or words.old at 0) (31 - c) ≡ 1)
+        ⊎ (((bit_at word.gaps (31 - c) ≡ 1) × ¬ (bit_at result (31 - c) ≡ 1)) ⊎ (bit_before word.is_up before result c ≡ 1))) }
+    ensures count { tally.new.count ≤ tally.old.count + word_tests chooser.now }
+{
+    if word.gaps == 0 && before == 0 {
+        return 0;
+    }
+    let nexts = chooser.nexts(word, tally);
+    words[at] = closed(
+        words[at],
+        word.gaps,
+        nexts,
+        reached(word.is_up, before, nexts),
+    );
+    nexts
+}
+
 /// Closes the gaps of a line of words, those of a row or, with `is_up`, those of 32 columns.
 #[inline(always)]
 fn close_line(
@@ -174,6 +210,7 @@ fn close_line(
 )
     requires wide { 0 < chooser.now.frame.width }
     requires line { number < words_along (not is_up) chooser.now.frame }
+    requires noted { chooser.now.frame.height * words_noted_of chooser.now.frame.width ≤ length noted.now }
     requires words { length words.old ≡ chooser.now.frame.height * words_for_of chooser.now.frame.width }
     ensures length { length words.new ≡ length words.old }
     ensures bits { (k c : ℕ) → k < words_along is_up chooser.now.frame → c < 32 →
@@ -196,19 +233,23 @@ fn close_line(
         size: words_noted(frame.width),
         number,
     };
-    // The pixels of the word before that close the segments after them in place of the pixels before those.
-    let mut before = first_reached(is_up, notes.word(noted, 0), line.word(words, 0));
-    // The gaps of the words before k are closed, and the others are as they were.
+    let mut note = notes.word(noted, 0);
+    let mut here = line.word(words, 0);
+    let mut before = first_reached(is_up, note, here);
+    // The gaps of the words before k are closed, and the others are as they were. `note` and `here` are the words k before that, and
+    // `before` are the gaps after the word before that the next pixels close.
     'words: for k in 0..words_along(is_up, frame) {
-        let here = line.word(words, k);
+        let next_note = notes.word(noted, k + 1);
+        let next = line.word(words, k + 1);
         let gaps = gaps_of(
-            after(is_up, notes.word(noted, k), notes.word(noted, k + 1)),
+            after(is_up, note, next_note),
             here,
-            after(is_up, here, line.word(words, k + 1)),
+            after(is_up, here, next),
         );
-        let nexts = chooser.nexts(gap_word(frame, is_up, line.cell(k), gaps), tally);
-        words[line.place(k)] = closed(here, gaps, nexts, reached(is_up, before, nexts));
-        before = nexts;
+        let word = gap_word(frame, is_up, line.cell(k), gaps);
+        before = close_word(chooser, word, line.place(k), before, words, tally);
+        note = next_note;
+        here = next;
     }
 }
 
@@ -222,6 +263,7 @@ fn close_lines(
     tally: &mut Tally,
 )
     requires wide { 0 < chooser.now.frame.width }
+    requires noted { chooser.now.frame.height * words_noted_of chooser.now.frame.width ≤ length noted.now }
     requires words { length words.old ≡ chooser.now.frame.height * words_for_of chooser.now.frame.width }
     ensures length { length words.new ≡ length words.old }
     ensures bits { AreClosedLines is_up (IsNext chooser.now is_up) chooser.now.frame noted.now words.old words.new }

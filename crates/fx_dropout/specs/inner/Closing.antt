@@ -79,6 +79,12 @@ abbrev pub bit_after : Bool → ℕ → ℕ → ℕ → ℕ
 bit_after false word next c = word_bit (word ∷ next ∷ []) (c + 1)
 bit_after true word next c = bit_at next (31 - c)
 
+-- the bit before the bit c of a word: in the word or, of its first bit, the last one of the word before; upward the bit c of that
+abbrev pub bit_before : Bool → ℕ → ℕ → ℕ → ℕ
+bit_before false before word zero = bit_at before 0
+bit_before false before word (suc c) = bit_at word (31 - c)
+bit_before true before word c = bit_at before (31 - c)
+
 -- the bit of a pixel, or of a segment, in column n and row r; 0 after the last word of a row
 abbrev pub grid_bit : List ℕ → ℕ → ℕ → ℕ → ℕ
 grid_bit words size n r = word_bit (take size (drop (r * size) words)) n

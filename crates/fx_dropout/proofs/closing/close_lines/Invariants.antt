@@ -1,10 +1,10 @@
 use Rattle.std.proofs.Common.{◌+◌, ◌*◌, ◌≤◌}
-use Rattle.fx_dropout.specs.inner.Closing.{IsNext, word_tests, words_along}
+use Rattle.fx_dropout.specs.inner.Closing.{word_tests, words_along}
 use Rattle.fx_dropout.proofs.WordLines.{LinesTo}
 use Rattle.fx_dropout.proofs.closing.close_lines.Given as goal
 
 abbrev pub invariant-lines : goal.invariant-lines
 invariant-lines l = record {
-  lines : LinesTo l.is_up (IsNext l.chooser l.is_up) l.chooser.frame l.noted l.fn.words l.words l.number;
+  lines : LinesTo l.is_up (record { chooser = l.chooser; noted = l.noted; old = l.fn.words }) l.words l.number;
   count : l.tally.count ≤ l.fn.tally.count + l.number * (words_along l.is_up l.chooser.frame * word_tests l.chooser);
 }
