@@ -3,7 +3,7 @@
 //! Each doc has the opcode, the mnemonic, its name in the Apple TrueType Reference Manual ("Instruction set"), what becomes of the
 //! stack, whose top is written last, and what the row sets.
 
-ghost use Rattle.fx_stackops.specs.Store.{Does};
+ghost use Rattle.fx_stackops.specs.Store.{DoesToStore};
 ghost use Rattle.fx_machine.specs.Actions.{DoesBoth};
 ghost use Rattle.fx_machine.specs.GraphicsRows.{spvfs_row, sfvfs_row, gpv_row, gfv_row, srp0_row, srp1_row, srp2_row, szp0_row};
 ghost use Rattle.fx_machine.specs.GraphicsRows.{szp1_row, szp2_row, szps_row, sloop_row, smd_row, scvtci_row, sswci_row, ssw_row};
@@ -38,7 +38,7 @@ pub fn sfvfs(store: &mut Store, graphics: &mut GState) -> Result<(), Cause>
 /// 0C GPV, Get Projection Vector: `-> x y`.
 #[tactic(auto, unfolding(crate::specs::GraphicsRows::gpv_row))]
 pub fn gpv(store: &mut Store, graphics: &GState) -> Result<(), StackFault>
-    ensures { Does (gpv_row graphics.now) store.old store.new result }
+    ensures { DoesToStore (gpv_row graphics.now) store.old store.new result }
 {
     let vector = graphics.projection;
     store.push(i32::from(vector.x().0))?;
@@ -49,7 +49,7 @@ pub fn gpv(store: &mut Store, graphics: &GState) -> Result<(), StackFault>
 /// 0D GFV, Get Freedom Vector: `-> x y`.
 #[tactic(auto, unfolding(crate::specs::GraphicsRows::gfv_row))]
 pub fn gfv(store: &mut Store, graphics: &GState) -> Result<(), StackFault>
-    ensures { Does (gfv_row graphics.now) store.old store.new result }
+    ensures { DoesToStore (gfv_row graphics.now) store.old store.new result }
 {
     let vector = graphics.freedom;
     store.push(i32::from(vector.x().0))?;
@@ -200,7 +200,7 @@ pub fn sds(store: &mut Store, graphics: &mut GState) -> Result<(), Cause>
 /// 70 WCVTF, Write Control Value Table in Funits: `i v ->`. Control value i becomes v, scaled.
 #[tactic(auto, unfolding(crate::specs::GraphicsRows::wcvtf_row))]
 pub fn wcvtf(store: &mut Store, scale: &Scale) -> Result<(), StackFault>
-    ensures { Does (wcvtf_row scale.now) store.old store.new result }
+    ensures { DoesToStore (wcvtf_row scale.now) store.old store.new result }
 {
     let (number, funits) = store.two()?;
     store.set_control(number, scale.apply(funits).0);

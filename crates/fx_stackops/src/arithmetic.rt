@@ -2,7 +2,7 @@
 
 ghost use Rattle.std.specs.Prelude.{◌≡◌, ◌≢◌, ◌≤◌, ◌^◌, pos, neg_ℤ, ◌*ℤ◌, unsigned_abs};
 ghost use Rattle.fx_fixed.specs.Numbers.{near_of, cut_of, wrapped_of};
-ghost use Rattle.fx_stackops.specs.Store.{Does};
+ghost use Rattle.fx_stackops.specs.Store.{DoesToStore};
 ghost use Rattle.fx_stackops.specs.Rows.{add_row, sub_row, div_row, mul_row, abs_row, neg_row, floor_row, ceiling_row, floored};
 ghost use Rattle.fx_stackops.specs.Rows.{round_row, nround_row, max_row, min_row};
 
@@ -15,7 +15,7 @@ impl Store {
     /// 60 ADD: `a b -> a + b`, modulo 2^32.
     #[tactic(auto, unfolding(crate::specs::Rows::add_row))]
     pub fn add(&mut self) -> Result<(), StackFault>
-        ensures { Does add_row self.old self.new result }
+        ensures { DoesToStore add_row self.old self.new result }
     {
         let (a, b) = self.fold()?;
         self.set_last(F26(a).plus(F26(b)).0);
@@ -25,7 +25,7 @@ impl Store {
     /// 61 SUB, SUBtract: `a b -> a - b`, modulo 2^32.
     #[tactic(auto, unfolding(crate::specs::Rows::sub_row))]
     pub fn sub(&mut self) -> Result<(), StackFault>
-        ensures { Does sub_row self.old self.new result }
+        ensures { DoesToStore sub_row self.old self.new result }
     {
         let (a, b) = self.fold()?;
         self.set_last(F26(a).minus(F26(b)).0);
@@ -35,7 +35,7 @@ impl Store {
     /// 62 DIV, DIVide: `a b -> a / b` in 26.6, without its fraction; `DivideByZero` if b is 0.
     #[tactic(auto, unfolding(crate::specs::Rows::div_row))]
     pub fn div(&mut self) -> Result<(), StackFault>
-        ensures { Does div_row self.old self.new result }
+        ensures { DoesToStore div_row self.old self.new result }
     {
         let (a, b) = self.fold()?;
         if b == 0 {
@@ -48,7 +48,7 @@ impl Store {
     /// 63 MUL, MULtiply: `a b -> a b` in 26.6, to the nearest.
     #[tactic(auto, unfolding(crate::specs::Rows::mul_row))]
     pub fn mul(&mut self) -> Result<(), StackFault>
-        ensures { Does mul_row self.old self.new result }
+        ensures { DoesToStore mul_row self.old self.new result }
     {
         let (a, b) = self.fold()?;
         self.set_last(product(a, b));
@@ -58,7 +58,7 @@ impl Store {
     /// 64 ABS, ABSolute value: `a ->` its size, modulo 2^32.
     #[tactic(auto, unfolding(crate::specs::Rows::abs_row))]
     pub fn abs(&mut self) -> Result<(), StackFault>
-        ensures { Does abs_row self.old self.new result }
+        ensures { DoesToStore abs_row self.old self.new result }
     {
         let a = self.last()?;
         self.set_last(w32(i128::from(a.unsigned_abs())));
@@ -68,7 +68,7 @@ impl Store {
     /// 65 NEG, NEGate: `a -> -a`, modulo 2^32.
     #[tactic(auto, unfolding(crate::specs::Rows::neg_row))]
     pub fn neg(&mut self) -> Result<(), StackFault>
-        ensures { Does neg_row self.old self.new result }
+        ensures { DoesToStore neg_row self.old self.new result }
     {
         let a = self.last()?;
         self.set_last(w32(-i128::from(a)));
@@ -78,7 +78,7 @@ impl Store {
     /// 66 FLOOR: `a ->` the greatest whole number of pixels not above it.
     #[tactic(auto, unfolding(crate::specs::Rows::floor_row))]
     pub fn floor(&mut self) -> Result<(), StackFault>
-        ensures { Does floor_row self.old self.new result }
+        ensures { DoesToStore floor_row self.old self.new result }
     {
         let a = self.last()?;
         self.set_last(w32(i128::from(floor_64(i64::from(a)))));
@@ -88,7 +88,7 @@ impl Store {
     /// 67 CEILING: `a ->` the least whole number of pixels not below it, modulo 2^32.
     #[tactic(auto, unfolding(crate::specs::Rows::ceiling_row))]
     pub fn ceiling(&mut self) -> Result<(), StackFault>
-        ensures { Does ceiling_row self.old self.new result }
+        ensures { DoesToStore ceiling_row self.old self.new result }
     {
         let a = self.last()?;
         self.set_last(w32(i128::from(ceiling_64(a))));
@@ -98,7 +98,7 @@ impl Store {
     /// 68-6B ROUND[ab], ROUND value: `a ->` rounded by the round state.
     #[tactic(auto, unfolding(crate::specs::Rows::round_row))]
     pub fn round(&mut self, g: &GState) -> Result<(), StackFault>
-        ensures { Does (round_row g.now) self.old self.new result }
+        ensures { DoesToStore (round_row g.now) self.old self.new result }
     {
         let a = self.last()?;
         self.set_last(g.round(F26(a)).0);
@@ -108,7 +108,7 @@ impl Store {
     /// 6C-6F NROUND[ab], No ROUNDing of value: `a -> a`.
     #[tactic(auto, unfolding(crate::specs::Rows::nround_row))]
     pub fn nround(&mut self) -> Result<(), StackFault>
-        ensures { Does nround_row self.old self.new result }
+        ensures { DoesToStore nround_row self.old self.new result }
     {
         self.last()?;
         Ok(())
@@ -117,7 +117,7 @@ impl Store {
     /// 8B MAX, MAXimum: `a b ->` the greater.
     #[tactic(auto, unfolding(crate::specs::Rows::max_row))]
     pub fn max(&mut self) -> Result<(), StackFault>
-        ensures { Does max_row self.old self.new result }
+        ensures { DoesToStore max_row self.old self.new result }
     {
         let (a, b) = self.fold()?;
         self.set_last(if a < b { b } else { a });
@@ -127,7 +127,7 @@ impl Store {
     /// 8C MIN, MINimum: `a b ->` the lesser.
     #[tactic(auto, unfolding(crate::specs::Rows::min_row))]
     pub fn min(&mut self) -> Result<(), StackFault>
-        ensures { Does min_row self.old self.new result }
+        ensures { DoesToStore min_row self.old self.new result }
     {
         let (a, b) = self.fold()?;
         self.set_last(if b < a { b } else { a });

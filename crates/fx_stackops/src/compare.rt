@@ -1,5 +1,5 @@
 //! Comparisons and logic.
-ghost use Rattle.fx_stackops.specs.Store.{Does};
+ghost use Rattle.fx_stackops.specs.Store.{DoesToStore};
 ghost use Rattle.fx_stackops.specs.Rows.{lt_row, lteq_row, gt_row, gteq_row, eq_row, neq_row, and_row, or_row, not_row, odd_row, even_row};
 
 use crate::fault::StackFault;
@@ -12,7 +12,7 @@ impl Store {
     #[inline(always)]
     #[tactic(auto, unfolding(crate::specs::Rows::lt_row))]
     pub fn lt(&mut self) -> Result<(), StackFault>
-        ensures { Does lt_row self.old self.new result }
+        ensures { DoesToStore lt_row self.old self.new result }
     {
         let (a, b) = self.fold()?;
         self.set_last(i32::from(a < b));
@@ -22,7 +22,7 @@ impl Store {
     /// 51 LTEQ, Less Than or EQual: `a b ->` 1 if a is not above b, else 0.
     #[tactic(auto, unfolding(crate::specs::Rows::lteq_row))]
     pub fn lteq(&mut self) -> Result<(), StackFault>
-        ensures { Does lteq_row self.old self.new result }
+        ensures { DoesToStore lteq_row self.old self.new result }
     {
         let (a, b) = self.fold()?;
         self.set_last(i32::from(a <= b));
@@ -33,7 +33,7 @@ impl Store {
     #[inline(always)]
     #[tactic(auto, unfolding(crate::specs::Rows::gt_row))]
     pub fn gt(&mut self) -> Result<(), StackFault>
-        ensures { Does gt_row self.old self.new result }
+        ensures { DoesToStore gt_row self.old self.new result }
     {
         let (a, b) = self.fold()?;
         self.set_last(i32::from(a > b));
@@ -43,7 +43,7 @@ impl Store {
     /// 53 GTEQ, Greater Than or EQual: `a b ->` 1 if a is not below b, else 0.
     #[tactic(auto, unfolding(crate::specs::Rows::gteq_row))]
     pub fn gteq(&mut self) -> Result<(), StackFault>
-        ensures { Does gteq_row self.old self.new result }
+        ensures { DoesToStore gteq_row self.old self.new result }
     {
         let (a, b) = self.fold()?;
         self.set_last(i32::from(a >= b));
@@ -53,7 +53,7 @@ impl Store {
     /// 54 EQ, EQual: `a b ->` 1 if both are equal, else 0.
     #[tactic(auto, unfolding(crate::specs::Rows::eq_row))]
     pub fn eq(&mut self) -> Result<(), StackFault>
-        ensures { Does eq_row self.old self.new result }
+        ensures { DoesToStore eq_row self.old self.new result }
     {
         let (a, b) = self.fold()?;
         self.set_last(i32::from(a == b));
@@ -64,7 +64,7 @@ impl Store {
     #[inline(always)]
     #[tactic(auto, unfolding(crate::specs::Rows::neq_row))]
     pub fn neq(&mut self) -> Result<(), StackFault>
-        ensures { Does neq_row self.old self.new result }
+        ensures { DoesToStore neq_row self.old self.new result }
     {
         let (a, b) = self.fold()?;
         self.set_last(i32::from(a != b));
@@ -74,7 +74,7 @@ impl Store {
     /// 5A AND, logical AND: `a b ->` 1 if both are not 0, else 0.
     #[tactic(auto, unfolding(crate::specs::Rows::and_row))]
     pub fn and(&mut self) -> Result<(), StackFault>
-        ensures { Does and_row self.old self.new result }
+        ensures { DoesToStore and_row self.old self.new result }
     {
         let (a, b) = self.fold()?;
         self.set_last(i32::from(a != 0 && b != 0));
@@ -84,7 +84,7 @@ impl Store {
     /// 5B OR, logical OR: `a b ->` 1 if one is not 0, else 0.
     #[tactic(auto, unfolding(crate::specs::Rows::or_row))]
     pub fn or(&mut self) -> Result<(), StackFault>
-        ensures { Does or_row self.old self.new result }
+        ensures { DoesToStore or_row self.old self.new result }
     {
         let (a, b) = self.fold()?;
         self.set_last(i32::from(a != 0 || b != 0));
@@ -94,7 +94,7 @@ impl Store {
     /// 5C NOT, logical NOT: `a ->` 1 if it is 0, else 0.
     #[tactic(auto, unfolding(crate::specs::Rows::not_row))]
     pub fn not(&mut self) -> Result<(), StackFault>
-        ensures { Does not_row self.old self.new result }
+        ensures { DoesToStore not_row self.old self.new result }
     {
         let a = self.last()?;
         self.set_last(i32::from(a == 0));
@@ -104,7 +104,7 @@ impl Store {
     /// 56 ODD: `a ->` 1 if it is an odd number of pixels after rounding by the round state, else 0.
     #[tactic(auto, unfolding(crate::specs::Rows::odd_row))]
     pub fn odd(&mut self, g: &GState) -> Result<(), StackFault>
-        ensures { Does (odd_row g.now) self.old self.new result }
+        ensures { DoesToStore (odd_row g.now) self.old self.new result }
     {
         let a = self.last()?;
         self.set_last(i32::from(g.round(F26(a)).0.rem_euclid(128) == 64));
@@ -114,7 +114,7 @@ impl Store {
     /// 57 EVEN: `a ->` 1 if it is an even number of pixels after rounding by the round state, else 0.
     #[tactic(auto, unfolding(crate::specs::Rows::even_row))]
     pub fn even(&mut self, g: &GState) -> Result<(), StackFault>
-        ensures { Does (even_row g.now) self.old self.new result }
+        ensures { DoesToStore (even_row g.now) self.old self.new result }
     {
         let a = self.last()?;
         self.set_last(i32::from(g.round(F26(a)).0.rem_euclid(128) == 0));

@@ -2,7 +2,7 @@
 
 ghost use Rattle.std.specs.Prelude.{◌≡◌, OnErr, Ok};
 ghost use Rattle.fx_code.specs.Numbers.{numbers};
-ghost use Rattle.fx_stackops.specs.Store.{Does};
+ghost use Rattle.fx_stackops.specs.Store.{DoesToStore};
 ghost use Rattle.fx_stackops.specs.Rows.{dup_row, pop_row, clear_row, swap_row, depth_row, cindex_row, mindex_row, push_row, roll_row};
 
 use crate::fault::StackFault;
@@ -13,7 +13,7 @@ impl Store {
     /// 40 NPUSHB, 41 NPUSHW, B0-B7 PUSHB[abc], B8-BF PUSHW[abc]: `-> ..`, the numbers that an instruction pushes.
     #[tactic(auto, unfolding(crate::specs::Store::pushed_all))]
     pub fn push_all(&mut self, instr: &Instr<'_>) -> Result<(), StackFault>
-        ensures does { Does (push_row (numbers instr.now.opcode instr.now.pushed.now)) self.old self.new result }
+        ensures does { DoesToStore (push_row (numbers instr.now.opcode instr.now.pushed.now)) self.old self.new result }
         ensures kept { OnErr result (self.new ≡ self.old) }
     {
         // Fields that stay in registers: for the compiler, the cells may lie where the instruction does.
@@ -33,7 +33,7 @@ impl Store {
     #[inline(always)]
     #[tactic(auto, unfolding(crate::specs::Rows::dup_row))]
     pub fn dup(&mut self) -> Result<(), StackFault>
-        ensures { Does dup_row self.old self.new result }
+        ensures { DoesToStore dup_row self.old self.new result }
     {
         let a = self.last()?;
         self.push(a)
@@ -42,7 +42,7 @@ impl Store {
     /// 21 POP, POP top: `a ->`.
     #[tactic(auto, unfolding(crate::specs::Rows::pop_row))]
     pub fn pop(&mut self) -> Result<(), StackFault>
-        ensures { Does pop_row self.old self.new result }
+        ensures { DoesToStore pop_row self.old self.new result }
     {
         self.one()?;
         Ok(())
@@ -59,7 +59,7 @@ impl Store {
     #[inline(always)]
     #[tactic(auto, unfolding(crate::specs::Rows::swap_row))]
     pub fn swap(&mut self) -> Result<(), StackFault>
-        ensures { Does swap_row self.old self.new result }
+        ensures { DoesToStore swap_row self.old self.new result }
     {
         let (a, b) = self.fold()?;
         self.set_last(b);
@@ -70,7 +70,7 @@ impl Store {
     /// 24 DEPTH, DEPTH of the stack: `-> n`, the number of elements before.
     #[tactic(auto, unfolding(crate::specs::Rows::depth_row))]
     pub fn depth(&mut self) -> Result<(), StackFault>
-        ensures { Does depth_row self.old self.new result }
+        ensures { DoesToStore depth_row self.old self.new result }
     {
         let depth = self.stack_len() as i32;
         self.push(depth)
@@ -80,7 +80,7 @@ impl Store {
     #[inline(always)]
     #[tactic(auto, unfolding(crate::specs::Rows::cindex_row))]
     pub fn cindex(&mut self) -> Result<(), StackFault>
-        ensures { Does cindex_row self.old self.new result }
+        ensures { DoesToStore cindex_row self.old self.new result }
     {
         let k = self.one()?;
         let element = self.element(k)?;
@@ -91,7 +91,7 @@ impl Store {
     /// 26 MINDEX, Move the INDEXed element: `.. x .. k -> .. .. x`, which was the k-th from the top after k is popped.
     #[tactic(auto, unfolding(crate::specs::Rows::mindex_row))]
     pub fn mindex(&mut self) -> Result<(), StackFault>
-        ensures { Does mindex_row self.old self.new result }
+        ensures { DoesToStore mindex_row self.old self.new result }
     {
         let k = self.one()?;
         let index = self.index(k)?;
@@ -102,7 +102,7 @@ impl Store {
     /// 8A ROLL, ROLL the top three: `a b c -> b c a`.
     #[tactic(auto, unfolding(crate::specs::Rows::roll_row))]
     pub fn roll(&mut self) -> Result<(), StackFault>
-        ensures { Does roll_row self.old self.new result }
+        ensures { DoesToStore roll_row self.old self.new result }
     {
         let (a, b, c) = self.three()?;
         self.put(b);

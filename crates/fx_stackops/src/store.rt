@@ -6,7 +6,7 @@ ghost use Rattle.fx_fixed.specs.Chain.{map_ok};
 ghost use Rattle.fx_code.specs.Numbers.{numbers};
 ghost use Rattle.fx_stackops.specs.Table.{read_of, written_of, stray_of};
 ghost use Rattle.fx_stackops.specs.Store.{one, two, two_from, three, index_of, element_of, moved_up, top_numbers};
-ghost use Rattle.fx_stackops.specs.Store.{pushed, with_stack, with_strays, HasSizes, Does};
+ghost use Rattle.fx_stackops.specs.Store.{pushed, with_stack, with_strays, HasSizes, DoesToStore};
 ghost use Rattle.fx_stackops.specs.Store.{restarted, five, with_rest, with_rest_two, with_rest_three, with_rest_five};
 ghost use Rattle.fx_stackops.specs.Store.{delta_pairs, with_pairs, on_top};
 ghost use Rattle.fx_stackops.specs.inner.Tops.{below_top};
@@ -284,7 +284,7 @@ impl Store {
     /// Puts a number on the stack, if there is room.
     #[tactic(auto, unfolding(crate::specs::Store::pushed))]
     pub fn push(&mut self, x: i32) -> Result<(), StackFault>
-        ensures does { Does (pushed x) self.old self.new result }
+        ensures does { DoesToStore (pushed x) self.old self.new result }
         ensures kept { OnErr result (self.new ≡ self.old) }
     {
         if self.depth == self.cells.len() {

@@ -1,7 +1,7 @@
 //! Instructions on the storage area and the control values.
 
 ghost use Rattle.std.specs.Prelude.{◌≡◌, ◌+◌, ◌*◌, ◌≤◌, length};
-ghost use Rattle.fx_stackops.specs.Store.{HasSizes, Does};
+ghost use Rattle.fx_stackops.specs.Store.{HasSizes, DoesToStore};
 ghost use Rattle.fx_stackops.specs.Rows.{ws_row, rs_row, wcvtp_row, rcvt_row, with_control, moved_control, deltac_row};
 ghost use Rattle.fx_stackops.specs.inner.Pairs.{control_pair, control_pairs};
 
@@ -15,7 +15,7 @@ impl Store {
     #[inline(always)]
     #[tactic(auto, unfolding(crate::specs::Rows::ws_row))]
     pub fn ws(&mut self) -> Result<(), StackFault>
-        ensures { Does ws_row self.old self.new result }
+        ensures { DoesToStore ws_row self.old self.new result }
     {
         let (i, value) = self.two()?;
         let strays = self.storage().stray(i);
@@ -28,7 +28,7 @@ impl Store {
     #[inline(always)]
     #[tactic(auto, unfolding(crate::specs::Rows::rs_row))]
     pub fn rs(&mut self) -> Result<(), StackFault>
-        ensures { Does rs_row self.old self.new result }
+        ensures { DoesToStore rs_row self.old self.new result }
     {
         let i = self.last()?;
         let strays = self.storage().stray(i);
@@ -42,7 +42,7 @@ impl Store {
     #[inline(always)]
     #[tactic(auto, unfolding(crate::specs::Rows::wcvtp_row))]
     pub fn wcvtp(&mut self) -> Result<(), StackFault>
-        ensures { Does wcvtp_row self.old self.new result }
+        ensures { DoesToStore wcvtp_row self.old self.new result }
     {
         let (i, value) = self.two()?;
         self.set_control(i, value);
@@ -53,7 +53,7 @@ impl Store {
     #[inline(always)]
     #[tactic(auto, unfolding(crate::specs::Rows::rcvt_row))]
     pub fn rcvt(&mut self) -> Result<(), StackFault>
-        ensures { Does rcvt_row self.old self.new result }
+        ensures { DoesToStore rcvt_row self.old self.new result }
     {
         let i = self.last()?;
         let strays = self.control_stray(i);
@@ -67,7 +67,7 @@ impl Store {
     /// whose arguments act at this size.
     #[tactic(auto, unfolding(crate::specs::Rows::deltac_row, crate::specs::inner::Pairs::control_pairs))]
     pub fn deltac(&mut self, form: DeltaForm, g: &GState, ppem: Ppem) -> Result<(), StackFault>
-        ensures { Does (deltac_row form g.now ppem) self.old self.new result }
+        ensures { DoesToStore (deltac_row form g.now ppem) self.old self.new result }
     {
         let pairs = self.pairs()?;
         self.move_controls(form, g, ppem, pairs);
