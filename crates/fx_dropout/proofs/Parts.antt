@@ -16,7 +16,7 @@ part_bit xs from n k h = grind (arith, h, get_or-take, get_or-drop)
 
 -- the same bit, by its word
 pub part_word : (xs : List ℕ) (from n k : ℕ) → k < 32 * n
-    → word_bit (take n (drop from xs)) k ≡ bit_in xs (from + k / 32) (31 - k % 32)
+    → word_bit (take n (drop from xs)) k ≡ bit_in xs (from + k / 32) (k % 32)
 part_word xs from n k h =
     ap (λ v. bit_at v (31 - k % 32)) (get_or-take n (drop from xs) (k / 32) 0 (omega (arith, h)) ∙ get_or-drop from xs (k / 32) 0)
 

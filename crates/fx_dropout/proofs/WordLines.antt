@@ -97,19 +97,6 @@ pub next_there : (up : Bool) (words : List ℕ) (size line k c : ℕ) → c < 32
 next_there false words size line k c l = next_in (take size (drop (line * size) words)) k c l
 next_there true words size line k c l = grind (arith, l)
 
--- the bit after the one of two words, as the code has it
-pub after_is : (word next r c : ℕ) → ((i : ℕ) → i < 31 → bit_at r (31 - i) ≡ bit_at word (30 - i)) → bit_at r 0 ≡ bit_at next 31
-    → c < 32 → bit_at r (31 - c) ≡ word_bit (word ∷ next ∷ []) (c + 1)
-after_is word next r c inner last l = grind (arith, l, inner, last, below_or_not c 31)
-
--- and the bit before it
-pub before_is : (before word r c : ℕ) → bit_at r 31 ≡ bit_at before 0
-    → ((i : ℕ) → 0 < i → i < 32 → bit_at r (31 - i) ≡ bit_at word (32 - i)) → c < 32
-    → bit_at r (31 - c) ≡ bit_before false before word c
-before_is before word r zero first inner l = first
-before_is before word r (suc c) first inner l =
-    let e : 32 - suc c ≡ 31 - c = omega (arith, l) in inner (suc c) (omega arith) l ∙ ap (bit_at word) e
-
 -- ---- a pass over the rows, or the columns, of a frame: its notes, and its words as they were
 pub record Pass : Type 0 where
   pub chooser : Chooser

@@ -1,12 +1,13 @@
--- A word moved by one bit and joined with the next has the bits of the right neighbours (`right_inner`), or left (`left_inner`).
+-- A word moved by one bit and joined with the next has the bits of the right neighbours (`right_after`), or left (`left_before`).
 -- Serves `closing`.
-use Rattle.std.proofs.Common.{◌≡◌, ◌⊎◌, ◌↔◌, sym, ap, ◌∙◌, ℕ, suc, ◌+◌, ◌-◌, ◌*◌, ◌/◌, ◌%◌, ◌<◌, ◌^◌, min, max, w32}
-use Rattle.std.proofs.Common.{bit_or, bit_and, arith}
+use Rattle.std.proofs.Common.{◌≡◌, ◌⊎◌, ◌↔◌, sym, ap, ◌∙◌, ℕ, zero, suc, ◌+◌, ◌-◌, ◌*◌, ◌/◌, ◌%◌, ◌<◌, ◌^◌, min, max, w32}
+use Rattle.std.proofs.Common.{false, bit_or, bit_and, arith}
 use Rattle.std.specs.Int.{bit_at}
 use Rattle.std.proofs.lemmas.Nat.{or_of_32, pow_pos, shr_split, mod_below}
 use Rattle.std.proofs.lemmas.Nat.Bits.{bit_at_or, bit_at_and, bit_at_not, bit_at-lt, bit_at-zero, bit_at_above}
 use Rattle.std.proofs.lemmas.Nat.Bits.{bit_at_cat_high, bit_at_cat_low, bit_at-suc, bit_at_lowest}
-use Rattle.fx_dropout.specs.inner.Closing.{IsOpen}
+use Rattle.fx_fixed.proofs.Order.{below_or_not}
+use Rattle.fx_dropout.specs.inner.Closing.{bit_after, bit_before, IsOpen}
 
 -- a word moved left by one
 moved_bit : (word i : ℕ) → 0 < i → i < 32 → bit_at (word * 2 ^ 1 % 4294967296) i ≡ bit_at word (i - 1)
@@ -21,7 +22,7 @@ pub last_bit : (n : ℕ) → bit_at (n / 2 ^ 31) 0 ≡ bit_at n 31
 last_bit n = grind (arith, bit_at_cat_high, mod_below, pow_pos, shr_split)
 
 -- the bits of right neighbours
-pub right_inner : (word next i : ℕ) → next < 4294967296 → i < 31
+right_inner : (word next i : ℕ) → next < 4294967296 → i < 31
     → bit_at (bit_or (word * 2 % 4294967296) (next / 2147483648)) (31 - i) ≡ bit_at word (30 - i)
 right_inner word next i fits l =
     let e : 31 - i - 1 ≡ 30 - i = omega arith in
@@ -29,11 +30,16 @@ right_inner word next i fits l =
     let b = bit_at_above (next / 2147483648) 1 (31 - i) (omega (arith, fits)) (omega (arith, l)) in
     omega (arith, bit_at_or (word * 2 % 4294967296) (next / 2147483648) (31 - i), a, b)
 
-pub right_last : (word next : ℕ) → bit_at (bit_or (word * 2 % 4294967296) (next / 2147483648)) 0 ≡ bit_at next 31
+right_last : (word next : ℕ) → bit_at (bit_or (word * 2 % 4294967296) (next / 2147483648)) 0 ≡ bit_at next 31
 right_last word next =
     let even : word * 2 % 4294967296 % 2 ≡ 0 = omega arith in
     let a = bit_at_lowest (word * 2 % 4294967296) ∙ even in
     omega (arith, bit_at_or (word * 2 % 4294967296) (next / 2147483648) 0, a, last_bit next)
+
+pub right_after : (word next c : ℕ) → next < 4294967296 → c < 32
+    → bit_at (bit_or (word * 2 % 4294967296) (next / 2147483648)) (31 - c) ≡ bit_after false word next c
+right_after word next c fits l =
+    grind (arith, l, right_inner word next c fits, right_last word next, below_or_not c 31)
 
 -- of the word before only the last bit is carried, to the first
 carried : (before : ℕ) → before * 2147483648 % 4294967296 ≡ (before % 2) * 2 ^ 31 + 0
@@ -49,20 +55,26 @@ carried_rest before i h =
     ∙ bit_at-zero (31 - i)
 
 -- the bits of left neighbours
-pub left_first : (before word : ℕ) → word < 4294967296
+left_first : (before word : ℕ) → word < 4294967296
     → bit_at (bit_or (before * 2147483648 % 4294967296) (word / 2)) 31 ≡ bit_at before 0
 left_first before word fits =
     let a = carried_first before in
     let b = bit_at_above (word / 2) 31 31 (omega (arith, fits)) (omega arith) in
     omega (arith, bit_at_or (before * 2147483648 % 4294967296) (word / 2) 31, a, b, bit_at-lt before 0)
 
-pub left_inner : (before word i : ℕ) → 0 < i → i < 32
+left_inner : (before word i : ℕ) → 0 < i → i < 32
     → bit_at (bit_or (before * 2147483648 % 4294967296) (word / 2)) (31 - i) ≡ bit_at word (32 - i)
 left_inner before word i h l =
     let a = carried_rest before i h in
     let e : suc (31 - i) ≡ 32 - i = omega (arith, l) in
     let b = sym (bit_at-suc word (31 - i)) ∙ ap (bit_at word) e in
     omega (arith, bit_at_or (before * 2147483648 % 4294967296) (word / 2) (31 - i), a, b, bit_at-lt (word / 2) (31 - i))
+
+pub left_before : (before word c : ℕ) → word < 4294967296 → c < 32
+    → bit_at (bit_or (before * 2147483648 % 4294967296) (word / 2)) (31 - c) ≡ bit_before false before word c
+left_before before word zero fits l = left_first before word fits
+left_before before word (suc c) fits l =
+    let e : 32 - suc c ≡ 31 - c = omega (arith, l) in left_inner before word (suc c) (omega arith) l ∙ ap (bit_at word) e
 
 -- ---- the segments that are open
 -- what is left of a word without the bits of another

@@ -16,21 +16,19 @@ use crate::look::may_be_open;
 use fx_winding::{Frame, Tally, words_for, words_noted};
 
 /// The bits of the right neighbours of a word's pixels. That of its last one is the first of the next word.
-#[tactic(auto, using(crate::proofs::Words::right_inner, crate::proofs::Words::right_last))]
+#[tactic(auto, using(crate::proofs::Words::right_after))]
 #[inline(always)]
 fn right_of(word: u32, next: u32) -> u32
-    ensures inner { (i : ℕ) → i < 31 → bit_at result (31 - i) ≡ bit_at word (30 - i) }
-    ensures last { bit_at result 0 ≡ bit_at next 31 }
+    ensures { (c : ℕ) → c < 32 → bit_at result (31 - c) ≡ bit_after false word next c }
 {
     word << 1 | next >> 31
 }
 
 /// The bits of the left neighbours of a word's pixels. That of its first one is the last of the word before.
-#[tactic(auto, using(crate::proofs::Words::left_first, crate::proofs::Words::left_inner))]
+#[tactic(auto, using(crate::proofs::Words::left_before))]
 #[inline(always)]
 pub(crate) fn left_of(before: u32, word: u32) -> u32
-    ensures first { bit_at result 31 ≡ bit_at before 0 }
-    ensures inner { (i : ℕ) → 0 < i → i < 32 → bit_at result (31 - i) ≡ bit_at word (32 - i) }
+    ensures { (c : ℕ) → c < 32 → bit_at result (31 - c) ≡ bit_before false before word c }
 {
     before << 31 | word >> 1
 }
@@ -112,6 +110,18 @@ fn after(is_up: bool, word: u32, next: u32) -> u32
     ensures { (c : ℕ) → c < 32 → bit_at result (31 - c) ≡ bit_after is_up word next c }
 {
     if is_up { next } else { right_of(word, next) }
+}
+
+/// The segments after a word's pixels that are open, by the words of notes and of pixels and those after them.
+fn gaps_after(is_up: bool, note: u32, next_note: u32, here: u32, next: u32) -> u32
+    ensures { (c : ℕ) → c < 32 → (bit_at result (31 - c) ≡ 1) ↔
+        IsOpen (bit_after is_up note next_note c) (bit_at here (31 - c)) (bit_after is_up here next c) }
+{
+    gaps_of(
+        after(is_up, note, next_note),
+        here,
+        after(is_up, here, next),
+    )
 }
 
 /// The pixels of a word that close the segments that lead to them, if `nexts` are the segments of the word that the next pixels
@@ -241,11 +251,7 @@ fn close_line(
     'words: for k in 0..words_along(is_up, frame) {
         let next_note = notes.word(noted, k + 1);
         let next = line.word(words, k + 1);
-        let gaps = gaps_of(
-            after(is_up, note, next_note),
-            here,
-            after(is_up, here, next),
-        );
+        let gaps = gaps_after(is_up, note, next_note, here, next);
         let word = gap_word(frame, is_up, line.cell(k), gaps);
         before = close_word(chooser, word, line.place(k), before, words, tally);
         note = next_note;

@@ -1,9 +1,9 @@
 //! Whether any segment of a frame is open. Three of four glyphs have none, so that their gaps need no closing.
 
-ghost use Rattle.std.specs.Prelude.{◌≡◌, ℕ, ◌+◌, ◌*◌, ◌<◌, ◌≤◌, length, false};
-ghost use Rattle.fx_winding.specs.Bitmaps.{words_for as words_for_of, word_bit, AreWords};
+ghost use Rattle.std.specs.Prelude.{◌≡◌, ℕ, ◌+◌, ◌-◌, ◌*◌, ◌<◌, ◌≤◌, length, false};
+ghost use Rattle.fx_winding.specs.Bitmaps.{words_for as words_for_of, AreWords};
 ghost use Rattle.fx_winding.specs.Notes.{words_noted as words_noted_of};
-ghost use Rattle.fx_dropout.specs.inner.Closing.{bit_in, AreNoneOpen, IsOpen, IsOpenAt};
+ghost use Rattle.fx_dropout.specs.inner.Closing.{bit_in, left_in, AreNoneOpen, IsOpen};
 
 use crate::closing::{gaps_of, left_of};
 use fx_winding::{Frame, words_for, words_noted};
@@ -11,8 +11,8 @@ use fx_winding::{Frame, words_for, words_noted};
 /// Whether one of the segments to the pixels of some words is open, if they all were in one row.
 fn is_open_across(noted: &[u32], words: &[u32]) -> bool
     requires { length noted.now ≡ length words.now }
-    ensures { result ≡ false → (n : ℕ) → n < 32 * length words.now →
-        ¬ (IsOpenAt (λ k. word_bit words.now k) (λ k. word_bit noted.now k) n) }
+    ensures { result ≡ false → (w c : ℕ) → w < length words.now → c < 32 →
+        ¬ (IsOpen (bit_in noted.now w c) (left_in words.now w c) (bit_in words.now w c)) }
 {
     let mut gaps = 0;
     let mut before = 0;
@@ -37,8 +37,8 @@ fn is_open_up(
     requires noted { noted + count ≤ length up.now }
     requires lower { lower + count ≤ length words.now }
     requires upper { upper + count ≤ length words.now }
-    ensures { result ≡ false → (w i : ℕ) → w < count → i < 32 →
-        ¬ (IsOpen (bit_in up.now (noted + w) i) (bit_in words.now (lower + w) i) (bit_in words.now (upper + w) i)) }
+    ensures { result ≡ false → (w c : ℕ) → w < count → c < 32 →
+        ¬ (IsOpen (bit_in up.now (noted + w) c) (bit_in words.now (lower + w) c) (bit_in words.now (upper + w) c)) }
 {
     let mut gaps = 0;
     // If there is no gap so far, no segment of the first w words is open.

@@ -46,9 +46,9 @@ abbrev pub IsClosedBit : (ℕ → ℕ) → (ℕ → ℕ) → (ℕ → Type 0) �
 IsClosedBit pixels noted IsNext n new =
     (new ≡ 1) ↔ ((pixels n ≡ 1) ⊎ ((IsOpenAt pixels noted (suc n) × ¬ (IsNext n)) ⊎ IsReached pixels noted IsNext n))
 
--- the bit of a word of a list, by its place in the word, counted from the lowest; 0 after the last word
+-- the bit c of a word of a list, counted from the left; 0 after the last word
 abbrev pub bit_in : List ℕ → ℕ → ℕ → ℕ
-bit_in words w i = bit_at (slice_index_or words w 0) i
+bit_in words w c = bit_at (slice_index_or words w 0) (31 - c)
 
 -- ---- lines of words, in words that are rows of `size` words each: rows or, with `true`, words above one another
 -- the number of a word in its row, and of its row, by the line and the word in it
@@ -84,6 +84,10 @@ abbrev pub bit_before : Bool → ℕ → ℕ → ℕ → ℕ
 bit_before false before word zero = bit_at before 0
 bit_before false before word (suc c) = bit_at word (31 - c)
 bit_before true before word c = bit_at before (31 - c)
+
+-- the same of a word of a list; 0 before the first word
+abbrev pub left_in : List ℕ → ℕ → ℕ → ℕ
+left_in words w c = bit_before false (slice_index_or (0 ∷ words) w 0) (slice_index_or words w 0) c
 
 -- the bit of a pixel, or of a segment, in column n and row r; 0 after the last word of a row
 abbrev pub grid_bit : List ℕ → ℕ → ℕ → ℕ → ℕ

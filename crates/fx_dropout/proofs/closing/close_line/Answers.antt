@@ -69,9 +69,8 @@ words-preserved c =
           (subst (λ (a : ℕ). (w : ℕ) → w ≢ a → get_or new w 0 ≡ get_or c.words.words w 0) at c.close_word-before.ensures.others)
           (record {
             gap = λ b l. subst (λ z. z) (λ t. (bit_at (sym is.gaps t) (31 - b) ≡ 1)
-                ↔ IsOpen ((c.after.ensures b l ∙ (λ t. bit_after up (inv.note_is t) (e_note t) b)) t) (bit_at (inv.here_is t) (31 - b))
-                ((c.after-in-words.ensures b l ∙ (λ t. bit_after up (inv.here_is t) (e_old t) b)) t))
-                (c.gaps_of-gaps.ensures (31 - b) (omega arith));
+                ↔ IsOpen (bit_after up (inv.note_is t) (e_note t) b) (bit_at (inv.here_is t) (31 - b))
+                (bit_after up (inv.here_is t) (e_old t) b)) (c.gaps_after-gaps.ensures b l);
             next = λ b l. subst (λ (z : Bool × ℤ × ℤ). (bit_at nexts (31 - b) ≡ 1)
                 ↔ ((bit_at word.gaps (31 - b) ≡ 1) × IsNext p.chooser z.0 z.1 z.2))
                 (λ t. (is.up t, left b l t, row t)) (c.close_word-before.ensures.nexts (31 - b) (omega arith));

@@ -1,14 +1,16 @@
-use Rattle.std.proofs.Common.{arith}
-use Rattle.fx_dropout.proofs.NoneOpen.{across_none, across_more, no_gaps}
+use Rattle.std.proofs.Common.{◌-◌, refl, arith}
+use Rattle.fx_dropout.proofs.NoneOpen.{no_gaps, none_yet, none_more}
 use Rattle.fx_dropout.proofs.look.is_open_across.Goals as goal
 
 pub words-init : goal.words-init
-words-init c = across_none c.args.noted.now c.args.words.now
+words-init c = record { none = none_yet _; last = refl }
 
 pub words-preserved : goal.words-preserved
-words-preserved c =
-    across_more c.args.noted.now c.args.words.now c.words.w c.words.gaps c.words.before c.left_of.result c.gaps_of-gaps.result
-    c.words.invariant c.left_of.ensures.first c.left_of.ensures.inner c.gaps_of-gaps.ensures
+words-preserved c = record {
+  none = none_more _ c.words.w c.words.gaps _ c.words.invariant.none
+      (λ b l. grind (arith, l, c.gaps_of-gaps.ensures (31 - b), c.left_of.ensures b, c.words.invariant.last));
+  last = grind arith;
+}
 
 pub returns : goal.returns
-returns c = λ e n l. c.words.invariant.clear (no_gaps c.words.gaps e) n (omega (arith, l))
+returns c = λ e w b l. c.words.invariant.none.clear (no_gaps c.words.gaps e) w b (omega (arith, l))

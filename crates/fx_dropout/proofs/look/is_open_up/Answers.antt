@@ -1,9 +1,12 @@
-use Rattle.std.proofs.Common.{arith}
-use Rattle.fx_dropout.proofs.NoneOpen.{up_none, up_more}
+use Rattle.std.proofs.Common.{◌-◌, arith}
+use Rattle.fx_dropout.proofs.NoneOpen.{no_gaps, none_yet, none_more}
 use Rattle.fx_dropout.proofs.look.is_open_up.Goals as goal
 
 pub words-init : goal.words-init
-words-init c = up_none c.args.up.now c.args.words.now c.args.noted c.args.lower c.args.upper
+words-init c = none_yet _
 
 pub words-preserved : goal.words-preserved
-words-preserved c = grind (arith, c.words.invariant, c.gaps_of-gaps.ensures, up_more)
+words-preserved c = none_more _ c.words.w c.words.gaps _ c.words.invariant (λ b l. c.gaps_of-gaps.ensures (31 - b) (omega arith))
+
+pub returns : goal.returns
+returns c = λ e w b l. c.words.invariant.clear (no_gaps c.words.gaps e) w b (omega (arith, l))
