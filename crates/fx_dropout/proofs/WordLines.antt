@@ -1,5 +1,5 @@
--- Words of a line, each closed by the gaps beside its pixels, are one after the other the closed line: `line_more`.
--- Serves `close_line` and `close_lines`.
+-- Words of lines, each closed by the gaps beside its pixels, are one after the other the closed lines: `done_more`, `done_all`.
+-- Serves `close_lines`.
 use Rattle.std.proofs.Common.{◌≡◌, ◌≢◌, ◌⊎◌, ◌↔◌, inl, inr, refl, sym, ap, ◌∙◌, subst, ℕ, zero, suc, ◌+◌, ◌-◌, ◌*◌, ◌/◌, ◌%◌, ◌<◌, ◌≤◌, pos, ◌+ℤ◌}
 use Rattle.std.proofs.Common.{Bool, true, false, not, List, [], ◌∷◌, get_or, take, drop, length, arith}
 use Rattle.std.specs.Prelude.{⊤}
@@ -12,7 +12,7 @@ use Rattle.fx_winding.specs.Bitmaps.{words_for, word_bit}
 use Rattle.fx_winding.specs.Notes.{words_noted}
 use Rattle.fx_dropout.specs.declared.chooser.Chooser.{Chooser}
 use Rattle.fx_dropout.specs.inner.Closing.{bit_after, bit_before, bit_on, grid_bit, line_word, next_on, number_on, word_column, word_place}
-use Rattle.fx_dropout.specs.inner.Closing.{word_row, words_along, IsClosedBit, IsClosedIn, IsClosedOn, IsNext, IsOpen, IsOpenAt, IsReached}
+use Rattle.fx_dropout.specs.inner.Closing.{word_row, words_along, IsClosedBit, AreClosedLines, IsClosedIn, IsClosedOn, IsNext, IsOpen, IsOpenAt, IsReached}
 
 -- ---- where words are
 row_end : (a h s : ℕ) → a < h → a * s + s ≤ h * s
@@ -226,122 +226,103 @@ new_there up p line k before gaps nexts x c is h l =
     (bit_there up p.old (size_of p) line k c l) (gap_there up p line k before gaps nexts x c is l)
     (chosen_there up p line k before gaps nexts x c is l) (reached_there up p line k before gaps nexts x c is h l) (is.new c l)
 
--- ---- words of a line
--- the words before the word k of a line are closed, and the others are as they were; and what is known of that word
-pub record LineTo (up : Bool) (p : Pass) (words : List ℕ) (line k note here before : ℕ) : Type 0 where
+-- ---- the words of all lines
+-- the word j of the line i comes before the word k of a line
+abbrev pub IsEarlier : ℕ → ℕ → ℕ → ℕ → Type 0
+IsEarlier line k i j = (i < line) ⊎ ((i ≡ line) × (j < k))
+
+-- the words before it are closed, and the others are as they were
+pub record AreDone (up : Bool) (p : Pass) (words : List ℕ) (line k : ℕ) : Type 0 where
   pub long : length words ≡ length p.old
-  pub done : (i c : ℕ) → i < k → c < 32 → IsClosedAt up p line i c (bit_at (line_word up words (size_of p) line i) (31 - c))
-  pub rest : (i j : ℕ) → i ≢ line ⊎ k ≤ j → line_word up words (size_of p) i j ≡ word_of up p i j
+  pub done : (i j c : ℕ) → IsEarlier line k i j → j < words_along up p.chooser.frame → c < 32
+      → IsClosedAt up p i j c (bit_at (line_word up words (size_of p) i j) (31 - c))
+  pub rest : (i j : ℕ) → line < i ⊎ ((i ≡ line) × (k ≤ j)) → line_word up words (size_of p) i j ≡ word_of up p i j
+
+pub done_none : (up : Bool) (p : Pass) → AreDone up p p.old 0 0
+done_none up p = record { long = refl; done = λ i j c h l b. absurd (omega (arith, h)); rest = λ i j h. refl }
+
+-- and what is known at that word
+pub record IsAt (up : Bool) (p : Pass) (line k note here before : ℕ) : Type 0 where
   pub note_is : note ≡ note_of up p line k
   pub here_is : here ≡ word_of up p line k
   pub reached : IsBefore up p line k before
 
-pub line_more : (up : Bool) (p : Pass) (words new : List ℕ) (line k note here before gaps nexts next_note next : ℕ)
-    → line < words_along (not up) p.chooser.frame → k < words_along up p.chooser.frame → length new ≡ length words
-    → ((w : ℕ) → w ≢ word_place up (size_of p) line k → get_or new w 0 ≡ get_or words w 0)
-    → IsWordClosed up p line k before gaps nexts (get_or new (word_place up (size_of p) line k) 0)
-    → next_note ≡ note_of up p line (k + 1) → next ≡ line_word up words (size_of p) line (k + 1)
-    → LineTo up p words line k note here before → LineTo up p new line (k + 1) next_note next nexts
-line_more up p words new line k note here before gaps nexts next_note next l m e others is e_note e_next so_far = record {
-  long = e ∙ so_far.long;
-  done = λ i c h b. by i c h b (below_or_not i k);
-  rest = λ i j h. line_other up p.chooser.frame words new line k i j l m others
-      (elim h [ inl n ↦ inl (λ t. n (sym t)) | inr n ↦ inr (λ t. omega (arith, n, t)) ])
-      ∙ so_far.rest i j (elim h [ inl n ↦ inl n | inr n ↦ inr (omega (arith, n)) ]);
-  note_is = e_note;
-  here_is = e_next ∙ so_far.rest line (k + 1) (inr (omega arith));
-  reached = before_there up p line k before gaps nexts _ is;
-}
-  where
-    by : (i c : ℕ) → i < k + 1 → c < 32 → (i < k) ⊎ (k ≤ i)
-        → IsClosedAt up p line i c (bit_at (line_word up new (size_of p) line i) (31 - c))
-    by i c h b (inl o) = subst (λ (v : ℕ). IsClosedAt up p line i c (bit_at v (31 - c)))
-        (sym (line_other up p.chooser.frame words new line k line i l m others (inr (λ t. omega (arith, o, t)))))
-        (so_far.done i c o b)
-    by i c h b (inr o) =
-        let same : k ≡ i = omega (arith, h, o) in
-        subst (λ (q : ℕ). IsClosedAt up p line q c (bit_at (line_word up new (size_of p) line q) (31 - c))) same
-        (subst (λ (v : ℕ). IsClosedAt up p line k c (bit_at v (31 - c))) (sym (line_at up p.chooser.frame new line k l m))
-        (new_there up p line k before gaps nexts _ c is so_far.reached b))
-
--- nothing is closed yet, and what the first pixels close is known
-pub line_none : (up : Bool) (p : Pass) (line note here before : ℕ) → note ≡ note_of up p line 0 → here ≡ word_of up p line 0
+-- what the first pixels of a line close
+pub at_first : (up : Bool) (p : Pass) (line note here before : ℕ) → note ≡ note_of up p line 0 → here ≡ word_of up p line 0
     → (up ≡ true → (c : ℕ) → c < 32 → (bit_at before (31 - c) ≡ 1) ↔ IsOpen (bit_at note (31 - c)) 0 (bit_at here (31 - c)))
-    → (up ≡ false → (bit_at before 0 ≡ 1) ↔ IsOpen (bit_at note 31) 0 (bit_at here 31))
-    → LineTo up p p.old line 0 note here before
-line_none up p line note here before e f h k = record {
-  long = refl;
-  done = λ i c l b. absurd (omega (arith, l));
-  rest = λ i j h. refl;
+    → (up ≡ false → (bit_at before 0 ≡ 1) ↔ IsOpen (bit_at note 31) 0 (bit_at here 31)) → IsAt up p line 0 note here before
+at_first false p line note here before e f h k =
+    record { note_is = e; here_is = f; reached = λ word c l z. grind (arith, k, e, f, z) }
+at_first true p line note here before e f h k = record {
   note_is = e;
   here_is = f;
-  reached = by up h k e f;
+  reached = λ word c l z. subst (λ z. z) (λ t. (bit_at before (31 - c) ≡ 1) ↔ IsOpen
+      ((ap (λ v. bit_at v (31 - c)) e ∙ bit_there true p.noted (words_noted p.chooser.frame.width) line 0 c l) t) 0
+      ((ap (λ v. bit_at v (31 - c)) f ∙ bit_there true p.old (size_of p) line 0 c l) t)) (h refl c l);
+}
+
+-- a word more
+pub done_more : (up : Bool) (p : Pass) (words new : List ℕ) (line k before gaps nexts : ℕ)
+    → line < words_along (not up) p.chooser.frame → k < words_along up p.chooser.frame → length new ≡ length words
+    → ((w : ℕ) → w ≢ word_place up (size_of p) line k → get_or new w 0 ≡ get_or words w 0)
+    → IsWordClosed up p line k before gaps nexts (get_or new (word_place up (size_of p) line k) 0) → IsBefore up p line k before
+    → AreDone up p words line k → AreDone up p new line (k + 1)
+done_more up p words new line k before gaps nexts l m e others is reached so_far = record {
+  long = e ∙ so_far.long;
+  done = λ i j c h o b. by i j c h o b (below_or_not i line) (below_or_not j k);
+  rest = λ i j h. line_other up p.chooser.frame words new line k i j l m others
+      (elim h [ inl n ↦ inl (λ t. omega (arith, n, t)) | inr n ↦ inr (λ t. omega (arith, n.1, t)) ])
+      ∙ so_far.rest i j (elim h [ inl n ↦ inl n | inr n ↦ inr (n.0, omega (arith, n.1)) ]);
 }
   where
-    by : (up : Bool) → (up ≡ true → (c : ℕ) → c < 32 → (bit_at before (31 - c) ≡ 1)
-        ↔ IsOpen (bit_at note (31 - c)) 0 (bit_at here (31 - c)))
-        → (up ≡ false → (bit_at before 0 ≡ 1) ↔ IsOpen (bit_at note 31) 0 (bit_at here 31))
-        → note ≡ note_of up p line 0 → here ≡ word_of up p line 0 → IsBefore up p line 0 before
-    by false h k e f word c l z = grind (arith, k, e, f, z)
-    by true h k e f word c l z =
-        subst (λ z. z) (λ t. (bit_at before (31 - c) ≡ 1) ↔ IsOpen
-        ((ap (λ v. bit_at v (31 - c)) e ∙ bit_there true p.noted (words_noted p.chooser.frame.width) line 0 c l) t) 0
-        ((ap (λ v. bit_at v (31 - c)) f ∙ bit_there true p.old (size_of p) line 0 c l) t)) (h refl c l)
+    kept : (i j c : ℕ) → IsEarlier line k i j → j < words_along up p.chooser.frame → c < 32 → line ≢ i ⊎ k ≢ j
+        → IsClosedAt up p i j c (bit_at (line_word up new (size_of p) i j) (31 - c))
+    kept i j c h o b n = subst (λ (v : ℕ). IsClosedAt up p i j c (bit_at v (31 - c)))
+        (sym (line_other up p.chooser.frame words new line k i j l m others n)) (so_far.done i j c h o b)
 
--- ---- lines
--- the lines before one are closed, and the others are as they were
-pub record LinesTo (up : Bool) (p : Pass) (words : List ℕ) (line : ℕ) : Type 0 where
-  pub long : length words ≡ length p.old
-  pub done : (m k c : ℕ) → m < line → k < words_along up p.chooser.frame → c < 32
-      → IsClosedAt up p m k c (bit_at (line_word up words (size_of p) m k) (31 - c))
-  pub rest : (m k : ℕ) → line ≤ m → line_word up words (size_of p) m k ≡ word_of up p m k
+    by : (i j c : ℕ) → IsEarlier line (k + 1) i j → j < words_along up p.chooser.frame → c < 32 → (i < line) ⊎ (line ≤ i)
+        → (j < k) ⊎ (k ≤ j) → IsClosedAt up p i j c (bit_at (line_word up new (size_of p) i j) (31 - c))
+    by i j c h o b (inl q) s = kept i j c (inl q) o b (inl (λ t. omega (arith, q, t)))
+    by i j c (inl h) o b (inr q) s = absurd (omega (arith, h, q))
+    by i j c (inr h) o b (inr q) (inl s) = kept i j c (inr (h.0, s)) o b (inr (λ t. omega (arith, s, t)))
+    by i j c (inr h) o b (inr q) (inr s) =
+        let same : k ≡ j = omega (arith, h.1, s) in
+        subst (λ (z : ℕ × ℕ). IsClosedAt up p z.0 z.1 c (bit_at (line_word up new (size_of p) z.0 z.1) (31 - c)))
+        (λ t. (sym h.0 t, same t))
+        (subst (λ (v : ℕ). IsClosedAt up p line k c (bit_at v (31 - c))) (sym (line_at up p.chooser.frame new line k l m))
+        (new_there up p line k before gaps nexts _ c is reached b))
 
-pub lines_none : (up : Bool) (p : Pass) → LinesTo up p p.old 0
-lines_none up p = record { long = refl; done = λ m k c l. absurd (omega (arith, l)); rest = λ m k l. refl }
+pub at_more : (up : Bool) (p : Pass) (words : List ℕ) (line k before gaps nexts x note next : ℕ) → AreDone up p words line k
+    → IsWordClosed up p line k before gaps nexts x → note ≡ note_of up p line (k + 1)
+    → next ≡ line_word up words (size_of p) line (k + 1) → IsAt up p line (k + 1) note next nexts
+at_more up p words line k before gaps nexts x note next so_far is e f = record {
+  note_is = e;
+  here_is = f ∙ so_far.rest line (k + 1) (inr (refl, omega arith));
+  reached = before_there up p line k before gaps nexts x is;
+}
 
--- a line that is as it was has the bits that it had
-same_line : (up : Bool) (words old : List ℕ) (size line k c : ℕ) → c < 32
-    → ((j : ℕ) → line_word up words size line j ≡ line_word up old size line j) → (q : ℕ)
-    → bit_on up words size (32 * word_column up line k + c) (word_row up line k) q
-    ≡ bit_on up old size (32 * word_column up line k + c) (word_row up line k) q
-same_line false words old size line k c l h q = ap (λ v. bit_at v (31 - q % 32)) (h (q / 32))
-same_line true words old size line k c l h q =
-    sym (bit_there true words size line q c l) ∙ ap (λ v. bit_at v (31 - c)) (h q) ∙ bit_there true old size line q c l
-
-pub lines_more : (up : Bool) (p : Pass) (words new : List ℕ) (line : ℕ) → LinesTo up p words line → length new ≡ length words
-    → ((k c : ℕ) → k < words_along up p.chooser.frame → c < 32
-    → IsClosedOn p.chooser up p.noted words line k c (bit_at (line_word up new (size_of p) line k) (31 - c)))
-    → ((m k : ℕ) → m ≢ line → line_word up new (size_of p) m k ≡ line_word up words (size_of p) m k)
-    → LinesTo up p new (line + 1)
-lines_more up p words new line so_far same closed others = record {
-  long = same ∙ so_far.long;
-  done = λ m k c h l b. by m k c h l b (below_or_not m line);
-  rest = λ m k h. others m k (λ t. omega (arith, h, t)) ∙ so_far.rest m k (omega (arith, h));
+-- a line more
+pub done_line : (up : Bool) (p : Pass) (words : List ℕ) (line k : ℕ) → k ≡ words_along up p.chooser.frame
+    → AreDone up p words line k → AreDone up p words (line + 1) 0
+done_line up p words line k e so_far = record {
+  long = so_far.long;
+  done = λ i j c h o b. so_far.done i j c (by i j o h (below_or_not i line)) o b;
+  rest = λ i j h. so_far.rest i j (inl (omega (arith, h)));
 }
   where
-    by : (m k c : ℕ) → m < line + 1 → k < words_along up p.chooser.frame → c < 32 → (m < line) ⊎ (line ≤ m)
-        → IsClosedAt up p m k c (bit_at (line_word up new (size_of p) m k) (31 - c))
-    by m k c h l b (inl o) = subst (λ (v : ℕ). IsClosedAt up p m k c (bit_at v (31 - c)))
-        (sym (others m k (λ t. omega (arith, o, t)))) (so_far.done m k c o l b)
-    by m k c h l b (inr o) =
-        let e : line ≡ m = omega (arith, h, o) in
-        subst (λ (q : ℕ). IsClosedAt up p q k c (bit_at (line_word up new (size_of p) q k) (31 - c))) e
-        (let n = 32 * word_column up line k + c in
-        let r = word_row up line k in
-        subst (λ z. z) (λ t. IsClosedBit
-        (λ q. same_line up words p.old (size_of p) line k c b (λ j. so_far.rest line j (omega arith)) q t)
-        (notes_on up p n r) (chosen_on up p n r) (number_on up n r)
-        (bit_at (line_word up new (size_of p) line k) (31 - c))) (closed k c l b))
+    by : (i j : ℕ) → j < words_along up p.chooser.frame → IsEarlier (line + 1) 0 i j → (i < line) ⊎ (line ≤ i)
+        → IsEarlier line k i j
+    by i j o h (inl q) = inl q
+    by i j o h (inr q) = inr (omega (arith, h, q), omega (arith, e, o))
 
 -- all lines
-pub lines_all : (up : Bool) (p : Pass) (words : List ℕ) → LinesTo up p words (words_along (not up) p.chooser.frame) → (r n : ℕ)
-    → r < p.chooser.frame.height → n < 32 * size_of p
-    → IsClosedIn up (IsNext p.chooser up) p.chooser.frame p.noted p.old n r (grid_bit words (size_of p) n r)
-lines_all false p words all r n h l =
-    let e : 32 * (n / 32) + n % 32 ≡ n = omega arith in
-    subst (λ (k : ℕ). IsClosedIn false (IsNext p.chooser false) p.chooser.frame p.noted p.old k r (grid_bit words (size_of p) n r)) e
-    (all.done r (n / 32) (n % 32) h (omega (arith, l)) (omega arith))
-lines_all true p words all r n h l =
-    let e : 32 * (n / 32) + n % 32 ≡ n = omega arith in
-    subst (λ (k : ℕ). IsClosedIn true (IsNext p.chooser true) p.chooser.frame p.noted p.old k r (grid_bit words (size_of p) n r)) e
-    (all.done (n / 32) r (n % 32) (omega (arith, l)) h (omega arith))
+pub done_all : (up : Bool) (p : Pass) (words : List ℕ) (line : ℕ) → line ≡ words_along (not up) p.chooser.frame
+    → AreDone up p words line 0 → AreClosedLines up (IsNext p.chooser up) p.chooser.frame p.noted p.old words
+done_all false p words line e all r n h l =
+    let at : 32 * (n / 32) + n % 32 ≡ n = omega arith in
+    subst (λ (k : ℕ). IsClosedIn false (IsNext p.chooser false) p.chooser.frame p.noted p.old k r (grid_bit words (size_of p) n r))
+    at (all.done r (n / 32) (n % 32) (inl (omega (arith, e, h))) (omega (arith, l)) (omega arith))
+done_all true p words line e all r n h l =
+    let at : 32 * (n / 32) + n % 32 ≡ n = omega arith in
+    subst (λ (k : ℕ). IsClosedIn true (IsNext p.chooser true) p.chooser.frame p.noted p.old k r (grid_bit words (size_of p) n r))
+    at (all.done (n / 32) r (n % 32) (inl (omega (arith, e, l))) h (omega arith))

@@ -105,23 +105,16 @@ impl WordLine {
     }
 }
 
-/// The pixels or segments after those of a word: those to their right, the last of which is in the next word, or those above them.
-fn after(is_up: bool, word: u32, next: u32) -> u32
-    ensures { (c : ℕ) → c < 32 → bit_at result (31 - c) ≡ bit_after is_up word next c }
-{
-    if is_up { next } else { right_of(word, next) }
-}
-
-/// The segments after a word's pixels that are open, by the words of notes and of pixels and those after them.
+/// The segments after a word's pixels that are open, to the right or above, by its notes, its pixels, and the words after these.
 fn gaps_after(is_up: bool, note: u32, next_note: u32, here: u32, next: u32) -> u32
     ensures { (c : ℕ) → c < 32 → (bit_at result (31 - c) ≡ 1) ↔
         IsOpen (bit_after is_up note next_note c) (bit_at here (31 - c)) (bit_after is_up here next c) }
 {
-    gaps_of(
-        after(is_up, note, next_note),
-        here,
-        after(is_up, here, next),
-    )
+    if is_up {
+        gaps_of(next_note, here, next)
+    } else {
+        gaps_of(right_of(note, next_note), here, right_of(here, next))
+    }
 }
 
 /// The pixels of a word that close the segments that lead to them, if `nexts` are the segments of the word that the next pixels
@@ -208,57 +201,6 @@ fn close_word(
     nexts
 }
 
-/// Closes the gaps of a line of words, those of a row or, with `is_up`, those of 32 columns.
-#[inline(always)]
-fn close_line(
-    chooser: &Chooser<'_>,
-    is_up: bool,
-    number: usize,
-    noted: &[u32],
-    words: &mut [u32],
-    tally: &mut Tally,
-)
-    requires wide { 0 < chooser.now.frame.width }
-    requires line { number < words_along (not is_up) chooser.now.frame }
-    requires noted { chooser.now.frame.height * words_noted_of chooser.now.frame.width ≤ length noted.now }
-    requires words { length words.old ≡ chooser.now.frame.height * words_for_of chooser.now.frame.width }
-    ensures length { length words.new ≡ length words.old }
-    ensures bits { (k c : ℕ) → k < words_along is_up chooser.now.frame → c < 32 →
-        IsClosedOn chooser.now is_up noted.now words.old number k c
-        (bit_at (line_word is_up words.new (words_for_of chooser.now.frame.width) number k) (31 - c)) }
-    ensures others { (m k : ℕ) → m ≢ number →
-        line_word is_up words.new (words_for_of chooser.now.frame.width) m k
-        ≡ line_word is_up words.old (words_for_of chooser.now.frame.width) m k }
-    ensures count { tally.new.count ≤ tally.old.count + words_along is_up chooser.now.frame * word_tests chooser.now }
-{
-    let frame = chooser.frame;
-    let size = words_for(frame.width);
-    let line = WordLine {
-        is_up,
-        size,
-        number,
-    };
-    let notes = WordLine {
-        is_up,
-        size: words_noted(frame.width),
-        number,
-    };
-    let mut note = notes.word(noted, 0);
-    let mut here = line.word(words, 0);
-    let mut before = first_reached(is_up, note, here);
-    // The gaps of the words before k are closed, and the others are as they were. `note` and `here` are the words k before that, and
-    // `before` are the gaps after the word before that the next pixels close.
-    'words: for k in 0..words_along(is_up, frame) {
-        let next_note = notes.word(noted, k + 1);
-        let next = line.word(words, k + 1);
-        let gaps = gaps_after(is_up, note, next_note, here, next);
-        let word = gap_word(frame, is_up, line.cell(k), gaps);
-        before = close_word(chooser, word, line.place(k), before, words, tally);
-        note = next_note;
-        here = next;
-    }
-}
-
 /// Closes the gaps of all rows of a frame, or of all columns.
 #[inline(always)]
 fn close_lines(
@@ -276,9 +218,35 @@ fn close_lines(
     ensures count { tally.new.count ≤ tally.old.count +
         words_along (not is_up) chooser.now.frame * (words_along is_up chooser.now.frame * word_tests chooser.now) }
 {
+    let frame = chooser.frame;
+    let size = words_for(frame.width);
+    let step = words_noted(frame.width);
     // The gaps of the lines before this one are closed, and the others are as they were.
-    'lines: for number in 0..words_along(!is_up, chooser.frame) {
-        close_line(chooser, is_up, number, noted, words, tally);
+    'lines: for number in 0..words_along(!is_up, frame) {
+        let line = WordLine {
+            is_up,
+            size,
+            number,
+        };
+        let notes = WordLine {
+            is_up,
+            size: step,
+            number,
+        };
+        let mut note = notes.word(noted, 0);
+        let mut here = line.word(words, 0);
+        let mut before = first_reached(is_up, note, here);
+        // So are those of the words before k of this line. `note` and `here` are its words k as they were, and `before` are the gaps
+        // after the word before k that the next pixels close.
+        'words: for k in 0..words_along(is_up, frame) {
+            let next_note = notes.word(noted, k + 1);
+            let next = line.word(words, k + 1);
+            let gaps = gaps_after(is_up, note, next_note, here, next);
+            let word = gap_word(frame, is_up, line.cell(k), gaps);
+            before = close_word(chooser, word, line.place(k), before, words, tally);
+            note = next_note;
+            here = next;
+        }
     }
 }
 
