@@ -1,10 +1,10 @@
-//! The instruction table. `row` has an arm for each opcode of 2x, for PUSHB of one to three bytes, and for the first opcode, from
-//! which on a table needs no subtraction; `row_5x` and `row_4x_6x` have those of 5x, 42 to 4F and 60 to 67. Programs execute these
-//! most. Each of the three does nothing before its match, so that the compiler makes one table of them: it takes one jump.
-//! `other_row` finds all others by the high nibble, as the definition does.
+//! The instruction table. `row` has an arm for each opcode of 2x, for pushes of one to three bytes or a word, and for the first and
+//! the last opcode, so that a table needs neither subtraction nor test; `row_5x` and `row_4x_6x` have those of 5x, 42 to 4F and 60
+//! to 67. Programs execute these most. Each of the three does nothing before its match, so that the compiler makes one table of
+//! them: it takes one jump. `other_row` finds all others by the high nibble, as the definition does.
 //!
-//! All of it is inlined into the loop of a run, so that no action goes through memory. Only `push`, ROUND, NROUND and the rows of
-//! `opcodes_0x`, `opcodes_3x`, `opcodes_7x` and `opcodes_8x` are called. Small functions need no hint: the compiler drops all
+//! All of it is inlined into the loop of a run, so that no action goes through memory. Only `push_any`, ROUND, NROUND, the rows of
+//! `opcodes_0x` and `opcodes_7x`, and most rows that move points are called. Small functions need no hint: the compiler drops all
 //! hints, with no message, from `row` or `advance` if it would grow very large. The program then has a symbol of its name.
 
 ghost use Rattle.std.specs.Prelude.{◌≡◌, ◌≢◌, ◌+◌, ◌/◌, ◌<◌, ◌≤◌, length};
@@ -101,6 +101,7 @@ impl State {
     }
 
     /// 30 to 3F: points.
+    #[inline(always)]
     #[tactic(auto, unfolding(crate::specs::Table::opcodes_3x))]
     fn opcodes_3x(&mut self, opcode: u8) -> Result<(), Cause>
         ensures { Does (opcodes_3x opcode) self.old self.new result }
@@ -172,6 +173,7 @@ impl State {
     }
 
     /// 80 to 8F: flips, SDPVTL, what is asked of the rasterizer.
+    #[inline(always)]
     #[tactic(auto, unfolding(crate::specs::Table::opcodes_8x))]
     fn opcodes_8x(&mut self, opcode: u8) -> Result<(), Cause>
         ensures { Does (opcodes_8x opcode) self.old self.new result }
@@ -214,9 +216,10 @@ impl State {
         ensures targets { targets.new ≡ targets.old }
     {
         match opcode {
-            PUSHB_1 => return self.pushb(bytes, PUSHB_1, address),
-            0xB1 => return self.pushb(bytes, 0xB1, address),
-            0xB2 => return self.pushb(bytes, 0xB2, address),
+            PUSHB_1 => return self.push(bytes, PUSHB_1, address),
+            0xB1 => return self.push(bytes, 0xB1, address),
+            0xB2 => return self.push(bytes, 0xB2, address),
+            PUSHW_1 => return self.push(bytes, PUSHW_1, address),
             SVTCA_Y => self.graphics.set_vectors_to_axis(Axis::Y),
             DUP => self.store.dup()?,
             POP => self.store.pop()?,
@@ -234,6 +237,7 @@ impl State {
             ENDF => return Ok(Action::Returned),
             MDAP_0 => self.mdap(false)?,
             MDAP_1 => self.mdap(true)?,
+            MIRP_LAST => self.move_relative(MIRP_LAST)?,
             _ => return self.row_5x(bytes, targets, opcode, program, address),
         }
         Ok(Action::Went(after(bytes, address)))
@@ -274,15 +278,15 @@ impl State {
             DELTAP1 => self.deltap(DeltaForm::First)?,
             SDB => sdb(&mut self.store, &mut self.graphics)?,
             SDS => sds(&mut self.store, &mut self.graphics)?,
-            _ => return self.row_4x(bytes, targets, opcode, program, address),
+            _ => return self.row_4x_6x(bytes, targets, opcode, program, address),
         }
         Ok(Action::Went(after(bytes, address)))
     }
 
     /// The row of an opcode that is not of 2x or 5x.
     #[inline(always)]
-    #[tactic(auto, unfolding(crate::specs::Table::row_here, crate::specs::Table::row_of, crate::specs::Table::plain_of, crate::specs::Table::opcodes_4x))]
-    fn row_4x(
+    #[tactic(auto, unfolding(crate::specs::Table::row_here, crate::specs::Table::row_of, crate::specs::Table::plain_of, crate::specs::Table::opcodes_4x, crate::specs::Table::opcodes_6x))]
+    fn row_4x_6x(
         &mut self,
         bytes: &[u8],
         targets: &mut Targets<'_>,
@@ -313,32 +317,6 @@ impl State {
             FLIPON => self.graphics.set_auto_flip(true),
             FLIPOFF => self.graphics.set_auto_flip(false),
             DEBUG => self.store.ignored()?,
-            _ => return self.row_6x(bytes, targets, opcode, program, address),
-        }
-        Ok(Action::Went(after(bytes, address)))
-    }
-
-    /// The row of an opcode that is not of 2x or 5x, and that `row_4x` has no arm for.
-    #[inline(always)]
-    #[tactic(auto, unfolding(crate::specs::Table::row_here, crate::specs::Table::row_of, crate::specs::Table::plain_of, crate::specs::Table::opcodes_6x))]
-    fn row_6x(
-        &mut self,
-        bytes: &[u8],
-        targets: &mut Targets<'_>,
-        opcode: u8,
-        program: Program,
-        address: usize,
-    ) -> Result<Action, Cause>
-        requires not_2x { opcode / 16 ≢ 2 }
-        requires low_4x { opcode / 16 ≡ 4 → opcode ≤ 0x41 }
-        requires not_5x { opcode / 16 ≢ 5 }
-        requires inside { address < length bytes.now }
-        requires opcode { opcode ≡ opcode_at bytes.now address }
-        requires targets { program ≡ Program.Font → targets.old ≡ bytes.now }
-        ensures does { Leads (row_here opcode bytes.now program address) self.old self.new result }
-        ensures targets { targets.new ≡ targets.old }
-    {
-        match opcode {
             ADD => self.store.add()?,
             SUB => self.store.sub()?,
             DIV => self.store.div()?,
@@ -400,7 +378,7 @@ impl State {
                 _ => self.opcodes_8x(opcode)?,
             },
             // NPUSHB, NPUSHW, PUSHB, PUSHW.
-            0x4 | 0xB => return self.push(bytes, address),
+            0x4 | 0xB => return self.push_any(bytes, opcode, address),
             // MDRP, MIRP.
             0xC | 0xD | 0xE | 0xF => self.move_relative(opcode)?,
             // 90 to AF.
