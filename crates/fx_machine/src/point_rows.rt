@@ -115,7 +115,6 @@ impl State {
 
     /// 32-33 SHP[a], SHift Point: `.. p ->`, a loop. Shifts each p, of zp2, as a reference point was moved: with 0 rp2, of zp1,
     /// with 1 rp1, of zp0. Sets loop to 1.
-    #[inline(never)]
     #[tactic(auto, unfolding(crate::specs::PointRows::shp_row))]
     pub(crate) fn shp(&mut self, first: bool) -> Result<(), Cause>
         ensures { Does (shp_row first) self.old self.new result }
@@ -149,7 +148,6 @@ impl State {
     }
 
     /// 38 SHPIX, SHift point by a PIXel amount: `.. p a ->`, a loop. Shifts each p, of zp2, by a. Sets loop to 1.
-    #[inline(never)]
     #[tactic(auto, unfolding(crate::specs::PointRows::shpix_row))]
     pub(crate) fn shpix(&mut self) -> Result<(), Cause>
         ensures { Does shpix_row self.old self.new result }
@@ -163,7 +161,6 @@ impl State {
     }
 
     /// 39 IP, Interpolate Point: `.. p ->`, a loop. Moves each p, of zp2, between rp1, of zp0, and rp2, of zp1. Sets loop to 1.
-    #[inline(never)]
     #[tactic(auto, unfolding(crate::specs::PointRows::ip_row))]
     pub(crate) fn ip(&mut self) -> Result<(), Cause>
         ensures { Does ip_row self.old self.new result }
@@ -177,7 +174,6 @@ impl State {
 
     /// 3A-3B MSIRP[a], Move Stack Indirect Relative Point: `p d ->`. Moves p, of zp1, to the distance d from rp0, of zp0. Sets
     /// rp1, rp2, with 1 rp0, too.
-    #[inline(never)]
     #[tactic(auto, unfolding(crate::specs::PointRows::msirp_row))]
     pub(crate) fn msirp(&mut self, sets_rp0: bool) -> Result<(), Cause>
         ensures { Does (msirp_row sets_rp0) self.old self.new result }
@@ -190,7 +186,6 @@ impl State {
 
     /// 3C ALIGNRP, ALIGN Relative Point: `.. p ->`, a loop. Moves each p, of zp1, to the distance 0 from rp0, of zp0. Sets loop
     /// to 1.
-    #[inline(never)]
     #[tactic(auto, unfolding(crate::specs::PointRows::alignrp_row))]
     pub(crate) fn alignrp(&mut self) -> Result<(), Cause>
         ensures { Does alignrp_row self.old self.new result }
@@ -267,7 +262,6 @@ impl State {
     }
 
     /// 80 FLIPPT, FLIP PoinT: `.. p ->`, a loop. Each p, of zp0, goes off the curve, or onto it. Sets loop to 1.
-    #[inline(never)]
     #[tactic(auto, unfolding(crate::specs::PointRows::flippt_row))]
     pub(crate) fn flippt(&mut self) -> Result<(), Cause>
         ensures { Does flippt_row self.old self.new result }
