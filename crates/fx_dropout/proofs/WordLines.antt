@@ -12,7 +12,7 @@ use Rattle.fx_winding.specs.Bitmaps.{words_for, word_bit}
 use Rattle.fx_winding.specs.Notes.{words_noted}
 use Rattle.fx_dropout.specs.declared.chooser.Chooser.{Chooser}
 use Rattle.fx_dropout.specs.inner.Closing.{bit_after, bit_before, bit_on, grid_bit, line_word, next_on, number_on, word_column, word_place}
-use Rattle.fx_dropout.specs.inner.Closing.{word_row, words_along, IsClosedBit, AreClosedLines, IsClosedIn, IsClosedOn, IsNext, IsOpen, IsOpenAt, IsReached}
+use Rattle.fx_dropout.specs.inner.Closing.{word_row, words_along, IsClosedBit, AreClosedLines, IsClosedIn, IsNext, IsOpen, IsOpenAt, IsReached}
 
 -- ---- where words are
 row_end : (a h s : ℕ) → a < h → a * s + s ≤ h * s
@@ -128,7 +128,8 @@ abbrev pub IsReachedIn : Bool → Pass → ℕ → ℕ → Type 0
 IsReachedIn up p n r = IsReached (pixels_on up p n r) (notes_on up p n r) (chosen_on up p n r) (number_on up n r)
 
 abbrev pub IsClosedAt : Bool → Pass → ℕ → ℕ → ℕ → ℕ → Type 0
-IsClosedAt up p line k c new = IsClosedOn p.chooser up p.noted p.old line k c new
+IsClosedAt up p line k c new = IsClosedIn up (IsNext p.chooser up) p.chooser.frame p.noted p.old
+    (32 * word_column up line k + c) (word_row up line k) new
 
 -- ---- a word of a line closed
 -- the bits of a word before which there is another word

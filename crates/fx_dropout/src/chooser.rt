@@ -3,8 +3,8 @@
 ghost use Rattle.std.specs.Prelude.{◌≡◌, ◌↔◌, ℕ, ◌+◌, ◌-◌, ◌*◌, ◌^◌, ◌≤◌, ◌<◌, pos, ◌+ℤ◌, length, IsTrue};
 ghost use Rattle.std.specs.Int.{bit_at};
 ghost use Rattle.fx_fixed.specs.Ranges.{IsWithin};
-ghost use Rattle.fx_winding.specs.Limits.{IsPixelNumber};
-ghost use Rattle.fx_dropout.specs.inner.Closing.{word_tests, IsNext};
+ghost use Rattle.fx_winding.specs.Bitmaps.{words_for as words_for_of};
+ghost use Rattle.fx_dropout.specs.inner.Closing.{word_tests, IsNextAt};
 ghost use Rattle.fx_dropout.specs.declared.chooser.Closing.TheVariants.{Nearer};
 ghost use Rattle.fx_dropout.specs.inner.Pairs.{next_col, next_row};
 
@@ -56,36 +56,36 @@ fn next_row(is_up: bool, row: i32) -> i32
     if is_up { row + 1 } else { row }
 }
 
-/// The gaps after 32 pixels of a row, from the column `left` on, as a word: those to the right of the pixels or, with `is_up`,
-/// those above them.
+/// The gaps after the pixels of a word of a frame, by its column and row among the words: those to the right of the pixels or, with
+/// `is_up`, those above them.
 #[derive(Clone, Copy)]
 pub(crate) struct GapWord {
     pub gaps: u32,
-    pub left: i32,
-    pub row: i32,
+    pub column: usize,
+    pub row: usize,
     pub is_up: bool,
-    ghost left_number: { IsPixelNumber left },
-    ghost row_number: { IsPixelNumber row },
 }
 
 impl<'a> Chooser<'a> {
     /// Whether there is a gap after the pixel k of a word, and the neighbour of that pixel closes it.
     fn is_next(&self, word: GapWord, k: usize, tally: &mut Tally) -> bool
         requires nearer { self.now.closing ≡ Nearer }
+        requires column { word.column < words_for_of self.now.frame.width }
+        requires row { word.row < self.now.frame.height }
         requires place { k < 32 }
-        ensures value { IsTrue result ↔
-            ((bit_at word.gaps (31 - k) ≡ 1) × IsNext self.now word.is_up (word.left +ℤ pos k) word.row) }
+        ensures value { IsTrue result ↔ ((bit_at word.gaps (31 - k) ≡ 1) × IsNextAt self.now word k) }
         ensures count { tally.new.count ≤ tally.old.count + 31 * 128 * length self.now.pieces.now }
     {
         if !has_bit(word.gaps, k) {
             return false;
         }
         let is_up = word.is_up;
-        let col = word.left + k as i32;
-        if !is_in_frame(self.frame, next_col(is_up, col), next_row(is_up, word.row)) {
+        let col = self.frame.left + (32 * word.column + k) as i32;
+        let row = self.frame.bottom + word.row as i32;
+        if !is_in_frame(self.frame, next_col(is_up, col), next_row(is_up, row)) {
             return false;
         }
-        let here = Pixel { col, row: word.row };
+        let here = Pixel { col, row };
         is_next_nearer(self.pieces, Pair { here, is_up }, tally)
     }
 
@@ -93,8 +93,10 @@ impl<'a> Chooser<'a> {
     /// above it.
     fn nearer(&self, word: GapWord, tally: &mut Tally) -> u32
         requires nearer { self.now.closing ≡ Nearer }
-        ensures bits { (i : ℕ) → i < 32 →
-            (bit_at result i ≡ 1) ↔ ((bit_at word.gaps i ≡ 1) × IsNext self.now word.is_up (word.left +ℤ pos (31 - i)) word.row) }
+        requires column { word.column < words_for_of self.now.frame.width }
+        requires row { word.row < self.now.frame.height }
+        ensures bits { (c : ℕ) → c < 32 →
+            (bit_at result (31 - c) ≡ 1) ↔ ((bit_at word.gaps (31 - c) ≡ 1) × IsNextAt self.now word c) }
         ensures count { tally.new.count ≤ tally.old.count + 32 * (31 * 128 * length self.now.pieces.now) }
     {
         let mut found = [0u32];
@@ -108,8 +110,10 @@ impl<'a> Chooser<'a> {
     /// The same by either rule.
     #[inline(always)]
     pub(crate) fn nexts(&self, word: GapWord, tally: &mut Tally) -> u32
-        ensures bits { (i : ℕ) → i < 32 →
-            (bit_at result i ≡ 1) ↔ ((bit_at word.gaps i ≡ 1) × IsNext self.now word.is_up (word.left +ℤ pos (31 - i)) word.row) }
+        requires column { word.column < words_for_of self.now.frame.width }
+        requires row { word.row < self.now.frame.height }
+        ensures bits { (c : ℕ) → c < 32 →
+            (bit_at result (31 - c) ≡ 1) ↔ ((bit_at word.gaps (31 - c) ≡ 1) × IsNextAt self.now word c) }
         ensures count { tally.new.count ≤ tally.old.count + word_tests self.now }
     {
         if word.gaps == 0 {

@@ -9,7 +9,7 @@ ghost use Rattle.std.specs.Int.{bit_at};
 ghost use Rattle.fx_winding.specs.Bitmaps.{words_for as words_for_of, AreWords};
 ghost use Rattle.fx_winding.specs.Notes.{words_noted as words_noted_of};
 ghost use Rattle.fx_dropout.specs.inner.Closing.{bit_after, bit_before, line_word, word_column, word_place, word_row, word_tests, words_along};
-ghost use Rattle.fx_dropout.specs.inner.Closing.{AreClosedLines, AreClosedWords, IsClosedOn, IsNext, IsOpen};
+ghost use Rattle.fx_dropout.specs.inner.Closing.{AreClosedLines, AreClosedWords, IsNext, IsNextAt, IsOpen};
 
 use crate::chooser::{Chooser, GapWord};
 use crate::look::may_be_open;
@@ -150,23 +150,6 @@ fn words_along(is_up: bool, frame: Frame) -> usize
     }
 }
 
-/// The gaps after the pixels of a word of a frame, by its column and row among the words.
-fn gap_word(frame: Frame, is_up: bool, cell: (usize, usize), gaps: u32) -> GapWord
-    requires column { cell.0 < words_for_of frame.width }
-    requires row { cell.1 < frame.height }
-    ensures gaps { result.gaps ≡ gaps }
-    ensures left { result.left ≡ frame.left +ℤ pos (32 * cell.0) }
-    ensures row { result.row ≡ frame.bottom +ℤ pos cell.1 }
-    ensures up { result.is_up ≡ is_up }
-{
-    GapWord {
-        gaps,
-        left: frame.left + 32 * cell.0 as i32,
-        row: frame.bottom + cell.1 as i32,
-        is_up,
-    }
-}
-
 /// Closes the gaps after the pixels of the word `at`, and those before them that are left to them: `before` are those of the word
 /// before that the next pixels close. Returns those of this word. Most words have none of either.
 #[inline(always)]
@@ -178,11 +161,13 @@ fn close_word(
     words: &mut [u32],
     tally: &mut Tally,
 ) -> u32
+    requires column { word.column < words_for_of chooser.now.frame.width }
+    requires row { word.row < chooser.now.frame.height }
     requires place { at < length words.old }
     ensures length { length words.new ≡ length words.old }
     ensures others { (w : ℕ) → w ≢ at → slice_index_or words.new w 0 ≡ slice_index_or words.old w 0 }
-    ensures nexts { (i : ℕ) → i < 32 →
-        (bit_at result i ≡ 1) ↔ ((bit_at word.gaps i ≡ 1) × IsNext chooser.now word.is_up (word.left +ℤ pos (31 - i)) word.row) }
+    ensures nexts { (c : ℕ) → c < 32 →
+        (bit_at result (31 - c) ≡ 1) ↔ ((bit_at word.gaps (31 - c) ≡ 1) × IsNextAt chooser.now word c) }
     ensures bits { (c : ℕ) → c < 32 → (bit_at (slice_index_or words.new at 0) (31 - c) ≡ 1) ↔
         ((bit_at (slice_index_or words.old at 0) (31 - c) ≡ 1)
         ⊎ (((bit_at word.gaps (31 - c) ≡ 1) × ¬ (bit_at result (31 - c) ≡ 1)) ⊎ (bit_before word.is_up before result c ≡ 1))) }
@@ -242,7 +227,13 @@ fn close_lines(
             let next_note = notes.word(noted, k + 1);
             let next = line.word(words, k + 1);
             let gaps = gaps_after(is_up, note, next_note, here, next);
-            let word = gap_word(frame, is_up, line.cell(k), gaps);
+            let (column, row) = line.cell(k);
+            let word = GapWord {
+                gaps,
+                column,
+                row,
+                is_up,
+            };
             before = close_word(chooser, word, line.place(k), before, words, tally);
             note = next_note;
             here = next;

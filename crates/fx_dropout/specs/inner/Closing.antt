@@ -9,6 +9,7 @@ use Rattle.fx_winding.specs.Notes.{words_noted}
 use Rattle.fx_winding.specs.Winding.{Span, span_of}
 use Rattle.fx_dropout.specs.declared.chooser.Chooser.{Chooser}
 use Rattle.fx_dropout.specs.declared.chooser.Closing.{Closing}
+use Rattle.fx_dropout.specs.declared.chooser.GapWord.{GapWord}
 use Rattle.fx_dropout.specs.Dropout.{IsNextChosen}
 use Rattle.fx_dropout.specs.Tests.{choice_tests}
 use Rattle.fx_dropout.specs.inner.Pairs.{next_col, next_row}
@@ -19,6 +20,10 @@ IsNextIn closing ss f up col row = IsNextChosen closing up ss col row × IsInFra
 
 abbrev pub IsNext : Chooser → Bool → ℤ → ℤ → Type 0
 IsNext c = IsNextIn c.closing (map span_of c.pieces.now) c.frame
+
+-- the same of the pixel c of a word of a frame, counted from the left
+abbrev pub IsNextAt : Chooser → GapWord → ℕ → Type 0
+IsNextAt c word k = IsNext c word.is_up (c.frame.left +ℤ pos (32 * word.column + k)) (c.frame.bottom +ℤ pos word.row)
 
 -- the most tests that the choices for a word of gaps take
 abbrev pub word_tests : Chooser → ℕ
@@ -113,11 +118,6 @@ abbrev pub IsClosedIn : Bool → (ℤ → ℤ → Type 0) → Frame → List ℕ
 IsClosedIn up IsNext f noted old n r new =
     IsClosedBit (λ k. bit_on up old (words_for f.width) n r k) (λ k. bit_on up noted (words_noted f.width) n r k)
     (λ k. next_on up IsNext f n r k) (number_on up n r) new
-
--- the same of the bit c of the word k of a line
-abbrev pub IsClosedOn : Chooser → Bool → List ℕ → List ℕ → ℕ → ℕ → ℕ → ℕ → Type 0
-IsClosedOn chooser up noted old line k c =
-    IsClosedIn up (IsNext chooser up) chooser.frame noted old (32 * word_column up line k + c) (word_row up line k)
 
 -- the gaps of all rows, or of all columns, are closed
 abbrev pub AreClosedLines : Bool → (ℤ → ℤ → Type 0) → Frame → List ℕ → List ℕ → List ℕ → Type 0

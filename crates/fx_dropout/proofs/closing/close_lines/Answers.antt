@@ -1,7 +1,6 @@
-use Rattle.std.proofs.Common.{◌≡◌, ◌≢◌, ◌↔◌, ◌⊎◌, inr, refl, sym, ◌∙◌, subst, ◌+◌, ◌-◌, ◌*◌, ◌<◌, Bool, not, ℕ, ℤ, pos, ◌+ℤ◌, get_or, arith}
+use Rattle.std.proofs.Common.{◌≡◌, ◌≢◌, ◌↔◌, ◌⊎◌, inr, refl, sym, ◌∙◌, subst, ◌+◌, ◌-◌, ◌*◌, ◌<◌, not, ℕ, pos, ◌+ℤ◌, get_or, arith}
 use Rattle.std.specs.Int.{bit_at}
-use Rattle.fx_fixed.proofs.Linear.{signed_linear}
-use Rattle.fx_dropout.specs.inner.Closing.{bit_after, bit_before, line_word, word_column, word_place, word_row, word_tests, words_along}
+use Rattle.fx_dropout.specs.inner.Closing.{bit_after, bit_before, line_word, word_place, word_tests, words_along}
 use Rattle.fx_dropout.specs.inner.Closing.{IsNext, IsOpen}
 use Rattle.fx_dropout.proofs.Columns.{one_more, all_of}
 use Rattle.fx_dropout.proofs.WordLines.{Pass, IsWordClosed, size_of, inside, line_at, row_held, at_first, at_more, done_all, done_line, done_more, done_none}
@@ -46,8 +45,8 @@ words-preserved c =
     let f = p.chooser.frame in
     let done = c.words.invariant.done in
     let at = c.words.invariant.at in
-    let word = c.gap_word-word.result in
-    let is = c.gap_word-word.ensures in
+    let gaps = c.gaps_after-gaps.result in
+    let cell = c.cell-column.ensures in
     let nexts = c.close_word-before.result in
     let new = c.close_word-before.new.words in
     let sz = c.words_for-size.ensures in
@@ -60,26 +59,23 @@ words-preserved c =
     let m : k < words_along up f = omega (arith, c.words_along-k-end.ensures) in
     let own = (λ t. get_or c.words.words (place t) 0) ∙ sym (line_at up f c.words.words line k l m)
     ∙ done.rest line k (inr (refl, omega arith)) in
-    let row : word.row ≡ f.bottom +ℤ pos (word_row up line k) = is.row ∙ (λ t. f.bottom +ℤ pos (c.cell.ensures.row t)) in
-    let left : (b : ℕ) → b < 32 → word.left +ℤ pos (31 - (31 - b)) ≡ f.left +ℤ pos (32 * word_column up line k + b) =
-    λ b l. let e = is.left ∙ (λ t. f.left +ℤ pos (32 * c.cell.ensures.column t)) in omega (arith, signed_linear, e, l) in
-    let closed : IsWordClosed up p line k c.words.before word.gaps nexts (get_or new (word_place up (size_of p) line k) 0) =
+    let closed : IsWordClosed up p line k c.words.before gaps nexts (get_or new (word_place up (size_of p) line k) 0) =
     record {
-      gap = λ b l. subst (λ z. z) (λ t. (bit_at (sym is.gaps t) (31 - b) ≡ 1)
+      gap = λ b l. subst (λ z. z) (λ t. (bit_at gaps (31 - b) ≡ 1)
           ↔ IsOpen (bit_after up (at.note_is t) (e_note t) b) (bit_at (at.here_is t) (31 - b))
           (bit_after up (at.here_is t) (e_old t) b)) (c.gaps_after-gaps.ensures b l);
-      next = λ b l. subst (λ (z : Bool × ℤ × ℤ). (bit_at nexts (31 - b) ≡ 1)
-          ↔ ((bit_at word.gaps (31 - b) ≡ 1) × IsNext p.chooser z.0 z.1 z.2))
-          (λ t. (is.up t, left b l t, row t)) (c.close_word-before.ensures.nexts (31 - b) (omega arith));
-      new = λ b l. subst (λ (z : ℕ × ℕ × Bool). (bit_at (get_or new z.0 0) (31 - b) ≡ 1) ↔ ((bit_at z.1 (31 - b) ≡ 1)
-          ⊎ (((bit_at word.gaps (31 - b) ≡ 1) × ¬ (bit_at nexts (31 - b) ≡ 1)) ⊎ (bit_before z.2 c.words.before nexts b ≡ 1))))
-          (λ t. (place t, own t, is.up t)) (c.close_word-before.ensures.bits b l);
+      next = λ b l. subst (λ (z : ℕ × ℕ). (bit_at nexts (31 - b) ≡ 1) ↔ ((bit_at gaps (31 - b) ≡ 1)
+          × IsNext p.chooser up (f.left +ℤ pos (32 * z.0 + b)) (f.bottom +ℤ pos z.1)))
+          (λ t. (cell.column t, cell.row t)) (c.close_word-before.ensures.nexts b l);
+      new = λ b l. subst (λ (z : ℕ × ℕ). (bit_at (get_or new z.0 0) (31 - b) ≡ 1) ↔ ((bit_at z.1 (31 - b) ≡ 1)
+          ⊎ (((bit_at gaps (31 - b) ≡ 1) × ¬ (bit_at nexts (31 - b) ≡ 1)) ⊎ (bit_before up c.words.before nexts b ≡ 1))))
+          (λ t. (place t, own t)) (c.close_word-before.ensures.bits b l);
     } in
     record {
-      done = done_more up p c.words.words new line k c.words.before word.gaps nexts l m c.close_word-before.ensures.length
+      done = done_more up p c.words.words new line k c.words.before gaps nexts l m c.close_word-before.ensures.length
           (subst (λ (a : ℕ). (w : ℕ) → w ≢ a → get_or new w 0 ≡ get_or c.words.words w 0) place c.close_word-before.ensures.others)
           closed at.reached done;
-      at = at_more up p c.words.words line k c.words.before word.gaps nexts _ _ _ done closed e_note e_next;
+      at = at_more up p c.words.words line k c.words.before gaps nexts _ _ _ done closed e_note e_next;
       count = one_more c.close_word-before.new.tally.count c.words.tally.count _ k (word_tests p.chooser)
           c.words.invariant.count c.close_word-before.ensures.count;
     }
