@@ -7,22 +7,13 @@ use Rattle.std.specs.Io.KnownBytes.{Appends}
 use Rattle.std.proofs.lemmas.List.{take-append-le, take_all}
 use Rattle.fx_fixed.specs.Changes.{Change}
 use Rattle.fx_fixed.specs.Texts.{TextView, Adds, begun}
-use Rattle.fx_fixed.proofs.Texts.{adds_ended}
 use Rattle.fx_hint.specs.declared.fault.HintFault.{HintFault}
 use Rattle.fx_hint.specs.declared.fault.HintFault.TheVariants as hint
 use Rattle.fx_trace.specs.declared.fault.Stop.{Stop}
 use Rattle.fx_trace.specs.declared.fault.Stop.TheVariants as stop
-use Rattle.fx_trace.specs.Traces.{Trace, IsTracedSome, Traces, Halts}
-use Rattle.fx_trace.specs.inner.Ending.{result_of, EndsText}
-
--- the text was added, and then ended, if it had not stopped
-pub text_ended : {was mid now : TextView} {text : List ℕ} (r s : Result (Unit {0}) Stop) → Adds Halts was mid text r
-    → EndsText mid r now s → Adds Halts was now text s × OnOk s (now.waiting ≡ [])
-text_ended (Ok u) s a e = (adds_ended a e.0, e.1)
-text_ended {was} {mid} {now} {text} (Err f) s a e =
-    let P : TextView → Result (Unit {0}) Stop → Type 0 = λ t q. Adds Halts was t text q × OnOk q (t.waiting ≡ []) in
-    let here : P mid (Err f) = (a, tt) in
-    rw (e.0, e.1) here
+use Rattle.fx_trace.specs.Traces.{Trace, IsTracedSome, Traces}
+use Rattle.fx_trace.specs.inner.Ending.{result_of}
+use Rattle.fx_trace.specs.inner.Telling.{Halts}
 
 appends_text : (old new : Option (List ℕ)) (a b : List ℕ) → a ≡ b → Appends old new a → Appends old new b
 appends_text old new a b e h = let P : List ℕ → Type 0 = λ t. Appends old new t in subst P e h

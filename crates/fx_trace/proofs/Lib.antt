@@ -1,3 +1,4 @@
+pub mod Texts
 pub mod Pairs
 pub mod Telling
 pub mod Stopping

@@ -4,7 +4,7 @@ use Rattle.std.proofs.Common.{◌≡◌, ℕ, List, [], ◌++◌, Option, Result
 use Rattle.std.specs.Borrow.{GName}
 use Rattle.std.specs.List.{flat_map}
 use Rattle.fx_fixed.specs.Chain.{map_fault, GivesUnless}
-use Rattle.fx_fixed.specs.Texts.{TextView, Adds, begun}
+use Rattle.fx_fixed.specs.Texts.{Adds, begun}
 use Rattle.fx_sfnt.specs.Tables.{Face}
 use Rattle.fx_scale.specs.Scaling.{scale_of}
 use Rattle.fx_machine.specs.declared.halt.MachineFault.{MachineFault}
@@ -22,10 +22,12 @@ use Rattle.fx_trace.specs.declared.fault.TraceFault.{TraceFault}
 use Rattle.fx_trace.specs.Snapshots.{SnapshotView}
 use Rattle.fx_trace.specs.declared.wanted.TracedPrograms.{TracedPrograms}
 use Rattle.fx_trace.specs.declared.wanted.TracedPrograms.TheVariants.{Each}
-use Rattle.fx_trace.specs.Traces.{Trace, Traces, Halts, lines_after, trace_text, end_of, prelude_text, glyph_trace}
-use Rattle.fx_trace.specs.inner.Ending.{ended, result_of, EndsText, Sees, NoneLeft, Ran}
+use Rattle.fx_trace.specs.Traces.{Trace, Traces, lines_after, trace_text, end_of, prelude_text, glyph_trace}
+use Rattle.fx_trace.specs.inner.Ending.{ended, result_of, NoneLeft, Ran}
+use Rattle.fx_trace.specs.inner.Telling.{TraceTextView, Halts, Says, Sees, unstopped}
 use Rattle.fx_trace.proofs.Telling.{told, lines_joined, kept_after_all}
-use Rattle.fx_trace.proofs.Finishing.{text_ended, traced, IsWhole}
+use Rattle.fx_trace.proofs.Finishing.{traced, IsWhole}
+use Rattle.fx_trace.proofs.Texts.{says_then, says_text}
 
 -- ---- the writer's last state
 
@@ -70,29 +72,26 @@ ran_so Sees known was now r e runs some others i j w n =
     let P : Result (Unit {0}) HintFault → Type 0 = λ q. NoneLeft q others in
     (some, others, j, w, subst P (sym i) (none_by_end r others n))
 
-module _ {W : Type 0} (wanted : W → TracedPrograms) (text : W → TextView) (before : W → Option SnapshotView)
-    (outcome : W → Result (Unit {0}) Stop)
-    (sink : GName) (held : Option (List ℕ)) (faults : ℕ) (was now : W) (last : TextView) (told_last : Result (Unit {0}) Stop)
-    (begins : text was ≡ begun sink held faults) (well : outcome was ≡ Ok tt) (off : before was ≡ None)
-    (ends : EndsText (text now) (outcome now) last told_last) where
+module _ {W : Type 0} (wanted : W → TracedPrograms) (text : W → TraceTextView) (before : W → Option SnapshotView)
+    (sink : GName) (held : Option (List ℕ)) (faults : ℕ) (was now : W) (last : TraceTextView) (told_last : Result (Unit {0}) Stop)
+    (begins : text was ≡ unstopped (begun sink held faults)) (off : before was ≡ None) (ends : Says (text now) last [])
+    (outcome : told_last ≡ last.outcome) (complete : OnOk told_last (last.text.waiting ≡ [])) where
   -- what was added, when the text ended
-  added : (w : TracedPrograms) (es : List RunEvent) → wanted was ≡ w → WatchesAll (Sees wanted text before outcome) was es now
-      → Adds Halts (begun sink held faults) last (lines_after w None es) told_last × OnOk told_last (last.waiting ≡ [])
+  added : (w : TracedPrograms) (es : List RunEvent) → wanted was ≡ w → WatchesAll (Sees wanted text before) was es now
+      → Adds Halts (begun sink held faults) last.text (lines_after w None es) told_last × OnOk told_last (last.text.waiting ≡ [])
   added w es e seen =
-      let a = told wanted text before outcome was now es seen well in
-      let P : TextView → TracedPrograms → Option SnapshotView → Type 0 =
-      λ t v b. Adds Halts t (text now) (lines_after v b es) (outcome now) in
-      let b : P (begun sink held faults) (wanted was) (before was) =
-      (let Q : TextView → Type 0 = λ t. P t (wanted was) (before was) in subst Q begins a) in
-      let c : P (begun sink held faults) w (before was) =
-      (let Q : TracedPrograms → Type 0 = λ v. P (begun sink held faults) v (before was) in subst Q e b) in
-      let d : P (begun sink held faults) w None =
-      (let Q : Option SnapshotView → Type 0 = λ v. P (begun sink held faults) w v in subst Q off c) in
-      text_ended (outcome now) told_last d ends
+      let P : TraceTextView → TracedPrograms → Option SnapshotView → Type 0 = λ t v b. Says t last (lines_after v b es) in
+      let a : P (text was) (wanted was) (before was) =
+      says_text (append-nil (lines_after (wanted was) (before was) es)) (says_then (told wanted text before was now es seen) ends) in
+      let b : P (text was) (wanted was) None = subst (λ (o : Option SnapshotView). P (text was) (wanted was) o) off a in
+      let c : P (text was) w None = subst (λ (v : TracedPrograms). P (text was) v None) e b in
+      let d : P (unstopped (begun sink held faults)) w None = subst (λ (t : TraceTextView). P t w None) begins c in
+      let Q : Result (Unit {0}) Stop → Type 0 = λ q. Adds Halts (begun sink held faults) last.text (lines_after w None es) q in
+      (subst Q (sym outcome) d.by, complete)
 
   -- the sink is the same
   pub same_sink : (w : TracedPrograms) (es : List RunEvent) → wanted was ≡ w
-      → WatchesAll (Sees wanted text before outcome) was es now → last.sink ≡ sink
+      → WatchesAll (Sees wanted text before) was es now → last.text.sink ≡ sink
   same_sink w es e seen = (added w es e seen).0.same
 
   module _ (known : Known) (face : Face) (ppem g : ℕ) where
@@ -125,18 +124,18 @@ module _ {W : Type 0} (wanted : W → TracedPrograms) (text : W → TextView) (b
 
     whole : (some others : List ProgramRun) (e : some ++ others ≡ runs) (end : Result (Unit {0}) HintFault) → NoneLeft end others
         → GivesUnless faults_.Fails (λ (u : Unit {0}). u) end (end_of (outline_with (hinting_of known) face ppem g))
-        → IsWhole due sink held faults last (lines some) (more some others) (first some others e) end
+        → IsWhole due sink held faults last.text (lines some) (more some others) (first some others e) end
     whole some others e (Ok u) n v = (none_more some others n, end_is ∙ v)
     whole some others e (Err hint.OutOfMemory) n v = tt
     whole some others e (Err f) n v = (none_more some others n, end_is ∙ v)
 
     pub glyph_traced : wanted was ≡ Each → (end : Result (Unit {0}) HintFault)
-        → (ran : Ran (Sees wanted text before outcome) known runs was now end)
+        → (ran : Ran (Sees wanted text before) known runs was now end)
         → GivesUnless faults_.Fails (λ (u : Unit {0}). u) end (end_of (outline_with (hinting_of known) face ppem g))
-        → Traces due (record { bytes_before = held; bytes = last.held; faults_before = faults; faults = last.faults })
+        → Traces due (record { bytes_before = held; bytes = last.text.held; faults_before = faults; faults = last.text.faults })
         (result_of told_last end)
     glyph_traced w end ran v =
-        traced due sink held faults last (lines ran.0) (more ran.0 ran.1) (first ran.0 ran.1 ran.2) told_last end
+        traced due sink held faults last.text (lines ran.0) (more ran.0 ran.1) (first ran.0 ran.1 ran.2) told_last end
         (added Each (flat_map (run_events known) ran.0) w ran.3) (whole ran.0 ran.1 ran.2 end ran.4 v)
 
   -- ---- `fpgm` and `prep`
@@ -150,17 +149,17 @@ module _ {W : Type 0} (wanted : W → TracedPrograms) (text : W → TextView) (b
     text_is = refl
 
     pub prelude_traced : {A : Type 0} → wanted was ≡ w → (made : Result A MachineFault)
-        → WatchesAll (Sees wanted text before outcome) was (events_for None (seen_by made (machine_events face ppem))) now
+        → WatchesAll (Sees wanted text before) was (events_for None (seen_by made (machine_events face ppem))) now
         → Traces (ended (prelude_text face ppem w) (end_of (map_fault of_machine made)))
-        (record { bytes_before = held; bytes = last.held; faults_before = faults; faults = last.faults })
+        (record { bytes_before = held; bytes = last.text.held; faults_before = faults; faults = last.text.faults })
         (result_of told_last (end_of (map_fault of_machine made)))
     prelude_traced e (Ok m) seen =
-        traced (ended (prelude_text face ppem w) (Ok tt)) sink held faults last all [] (append-nil all ∙ text_is) told_last (Ok tt)
+        traced (ended (prelude_text face ppem w) (Ok tt)) sink held faults last.text all [] (append-nil all ∙ text_is) told_last (Ok tt)
         (added w (events_for None (machine_events face ppem)) e seen) (refl, refl)
     prelude_traced e (Err machine.OutOfMemory) seen =
-        traced (ended (prelude_text face ppem w) (Err hint.OutOfMemory)) sink held faults last [] all text_is told_last
+        traced (ended (prelude_text face ppem w) (Err hint.OutOfMemory)) sink held faults last.text [] all text_is told_last
         (Err hint.OutOfMemory) (added w [] e seen) tt
     prelude_traced e (Err (machine.Halted halt)) seen =
-        traced (ended (prelude_text face ppem w) (Err (hint.Halted halt))) sink held faults last all []
+        traced (ended (prelude_text face ppem w) (Err (hint.Halted halt))) sink held faults last.text all []
         (append-nil all ∙ text_is) told_last (Err (hint.Halted halt))
         (added w (events_for None (machine_events face ppem)) e seen) (refl, refl)

@@ -1,24 +1,17 @@
--- What stops a text, and a text that stops before anything is added.
+-- A text that stops before anything is added.
 -- It serves the tracer.
-use Rattle.std.proofs.Common.{ℕ, ◌<◌, List, length, Option, Result, Ok, Err, refl, arith, length-append}
+use Rattle.std.proofs.Common.{◌≡◌, ℕ, ◌<◌, List, length, Option, Result, Ok, Err, OnOk, refl, sym, ap, ◌∙◌, subst, arith, length-append}
 use Rattle.std.proofs.KnownBytes.{Appends-nil}
-use Rattle.fx_fixed.specs.declared.sink.WriteFailed.{WriteFailed}
-use Rattle.fx_fixed.specs.Texts.{TextView, Adds, Fails}
+use Rattle.fx_fixed.specs.Texts.{TextView, Adds}
 use Rattle.fx_machine.specs.declared.program.FontProgram.{FontProgram}
 use Rattle.fx_machine.specs.declared.program.FontProgram.TheVariants.{Fpgm, Prep, Glyph}
 use Rattle.fx_machine.specs.declared.state.State.{State}
 use Rattle.fx_hint.specs.declared.component.ComponentOf.{ComponentOf}
+use Rattle.fx_trace.specs.declared.fault.Stop.{Stop}
 use Rattle.fx_trace.specs.declared.fault.Stop.TheVariants as stop
 use Rattle.fx_trace.specs.Lines.{begin_text, line_text}
 use Rattle.fx_trace.specs.Snapshots.{SnapshotView}
-use Rattle.fx_trace.specs.Traces.{Halts}
-use Rattle.fx_trace.specs.inner.Ending.{stop_of}
-
--- a writer's fault stops it
-pub adds_or_stops : {was now : TextView} {text : List ℕ} (r : Result (Unit {0}) WriteFailed) → Adds Fails was now text r
-    → Adds Halts was now text (stop_of r)
-adds_or_stops (Ok u) h = record { same = h.same; outcome = h.outcome }
-adds_or_stops (Err f) h = record { same = h.same; outcome = h.outcome }
+use Rattle.fx_trace.specs.inner.Telling.{Halts, TraceTextView, Says, SaysBy, stopped, stopped_by}
 
 -- memory runs out before anything is added
 stops_first : {was : TextView} {text : List ℕ} → 0 < length text → Adds Halts was was text (Err stop.OutOfMemory)
@@ -26,6 +19,15 @@ stops_first {was} {text} some = record {
   same = refl;
   outcome = (0, omega (arith, some, length-append was.waiting text), Appends-nil was.held, refl);
 }
+
+stops : {was now : TraceTextView} (bytes : List ℕ) → 0 < length bytes → now ≡ stopped was → Says was now bytes
+stops {was} bytes some e =
+    record { by = subst (λ (t : TraceTextView). SaysBy was.outcome was t bytes) (sym e) (by was.outcome refl) }
+  where
+    by : (r : Result (Unit {0}) Stop) → was.outcome ≡ r → SaysBy r was (stopped was) bytes
+    by (Ok u) d = subst (λ q. Adds Halts was.text was.text bytes (stopped_by q)) (sym d) (stops_first some)
+    by (Err stop) d =
+        ap (λ (q : Result (Unit {0}) Stop). record { text = was.text; outcome = q }) (ap stopped_by d ∙ sym d)
 
 begin_some : (component : Option ComponentOf) (program : FontProgram) → 0 < length (begin_text component program)
 unfolding begin_text
@@ -40,10 +42,19 @@ line_some Fpgm code address was s = omega arith
 line_some Prep code address was s = omega arith
 line_some (Glyph g) code address was s = omega arith
 
-pub begin_stops : {was : TextView} (component : Option ComponentOf) (program : FontProgram)
-    → Adds Halts was was (begin_text component program) (Err stop.OutOfMemory)
-begin_stops component program = stops_first (begin_some component program)
+pub begin_stops : {was now : TraceTextView} (component : Option ComponentOf) (program : FontProgram) → now ≡ stopped was
+    → Says was now (begin_text component program)
+begin_stops component program = stops (begin_text component program) (begin_some component program)
 
-pub line_stops : {text : TextView} (program : FontProgram) (code : List ℕ) (address : ℕ) (was : SnapshotView) (s : State)
-    → Adds Halts text text (line_text program code address was s) (Err stop.OutOfMemory)
-line_stops program code address was s = stops_first (line_some program code address was s)
+pub line_stops : {text next : TraceTextView} (program : FontProgram) (code : List ℕ) (address : ℕ) (was : SnapshotView) (s : State)
+    → next ≡ stopped text → Says text next (line_text program code address was s)
+line_stops program code address was s =
+    stops (line_text program code address was s) (line_some program code address was s)
+
+-- then nothing has to be kept
+pub none_kept : (P : Type 0) (was now : TraceTextView) → now ≡ stopped was → OnOk now.outcome P
+none_kept P was now e = subst (λ (t : TraceTextView). OnOk t.outcome P) (sym e) (by was.outcome)
+  where
+    by : (r : Result (Unit {0}) Stop) → OnOk (stopped_by r) P
+    by (Ok u) = tt
+    by (Err stop) = tt

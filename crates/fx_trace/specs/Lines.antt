@@ -1,13 +1,14 @@
 -- The lines of a trace (own).
 use Rattle.std.specs.Prelude.{ℕ, ℤ, ◌-◌, List, [], ◌∷◌, ◌++◌, codes, drop, reverse, length, Option, Some, None}
 use Rattle.std.specs.List.{flat_map}
-use Rattle.std.specs.Fmt.{decimal, signed_decimal}
+use Rattle.std.specs.Fmt.{decimal}
 use Rattle.fx_code.specs.Listing.{instruction_text}
 use Rattle.fx_machine.specs.declared.program.FontProgram.{FontProgram}
 use Rattle.fx_machine.specs.declared.program.FontProgram.TheVariants.{Fpgm, Prep, Glyph}
 use Rattle.fx_machine.specs.declared.state.State.{State}
 use Rattle.fx_hint.specs.declared.component.ComponentOf.{ComponentOf}
-use Rattle.fx_trace.specs.Changes.{joined}
+use Rattle.fx_trace.specs.declared.values.Value.TheVariants.{Number}
+use Rattle.fx_trace.specs.Changes.{joined, value_text}
 use Rattle.fx_trace.specs.Snapshots.{SnapshotView, snapshot_of, changes_text}
 
 -- how many numbers of the stack a line shows at most, from the top
@@ -18,12 +19,12 @@ shown = 8
 abbrev pub last_of : List ℤ → List ℤ
 last_of numbers = drop (length numbers - shown) numbers
 
-abbrev pub number_text : ℤ → List ℕ
-number_text number = 32 ∷ signed_decimal number
-
 -- the top of a stack, the top last
-unfoldable pub stack_text : List ℤ → List ℕ
-stack_text stack = codes " |" ++ flat_map number_text (last_of (reverse stack))
+abbrev pub number_text : ℤ → List ℕ
+number_text number = value_text (Number number)
+
+abbrev pub stack_text : List ℤ → List ℕ
+stack_text stack = flat_map number_text (last_of (reverse stack))
 
 -- a program's name
 abbrev pub program_text : FontProgram → List ℕ
@@ -49,4 +50,4 @@ begin_text component program = program_text program ++ (codes " begins" ++ (purp
 unfoldable pub line_text : FontProgram → List ℕ → ℕ → SnapshotView → State → List ℕ
 line_text program code address was s =
     program_text program ++ (codes " " ++ (instruction_text code address
-    ++ (stack_text s.store.stack ++ (changes_text was (snapshot_of s) ++ codes "\n"))))
+    ++ (codes " |" ++ (stack_text s.store.stack ++ (changes_text was (snapshot_of s) ++ codes "\n")))))

@@ -4,7 +4,7 @@ use Rattle.fx_gstate.specs.declared.state.GState.{GState}
 use Rattle.fx_zone.specs.declared.point.ZonePoint.{ZonePoint}
 use Rattle.fx_machine.specs.declared.state.InstructControl.{InstructControl}
 use Rattle.fx_machine.specs.declared.state.State.{State}
-use Rattle.fx_trace.specs.Changes.{bit_of, count_change, cells_text, points_text, graphics_text}
+use Rattle.fx_trace.specs.Changes.{cell_change, each_from, point_change, setting_change, settings_of}
 
 -- the points of both zones, the storage area, the control values, the graphics state, and what INSTCTRL set
 pub record SnapshotView : Type 0 where
@@ -37,25 +37,11 @@ abbrev pub IsRoomFor : Option SnapshotView → SnapshotView → SnapshotView →
 IsRoomFor None was now = HasSizesOf was now
 IsRoomFor (Some room) was now = room ≡ now
 
--- ---- the text of what differs
-
-abbrev pub zones_text : SnapshotView → SnapshotView → List ℕ
-zones_text was now = points_text 0 was.twilight now.twilight ++ points_text 1 was.glyph now.glyph
-
-abbrev pub tables_text : SnapshotView → SnapshotView → List ℕ
-tables_text was now = cells_text (codes "storage") was.storage now.storage ++ cells_text (codes "cvt") was.cvt now.cvt
-
-abbrev pub flags_text : InstructControl → InstructControl → List ℕ
-flags_text was now =
-    count_change (codes "no-programs") (bit_of was.no_programs) (bit_of now.no_programs)
-    ++ count_change (codes "default-state") (bit_of was.default_state) (bit_of now.default_state)
-
-abbrev pub modes_text : SnapshotView → SnapshotView → List ℕ
-modes_text was now = graphics_text was.graphics now.graphics ++ flags_text was.flags now.flags
-
-abbrev pub numbers_text : SnapshotView → SnapshotView → List ℕ
-numbers_text was now = tables_text was now ++ modes_text was now
-
--- points, then storage and control values, then the graphics state and what INSTCTRL set
+-- what differs: points, then the storage area and control values, then the graphics state and what INSTCTRL set
 unfoldable pub changes_text : SnapshotView → SnapshotView → List ℕ
-changes_text was now = zones_text was now ++ numbers_text was now
+changes_text was now =
+    each_from (point_change 0) 0 was.twilight now.twilight
+    ++ (each_from (point_change 1) 0 was.glyph now.glyph
+    ++ (each_from (cell_change (codes "storage")) 0 was.storage now.storage
+    ++ (each_from (cell_change (codes "cvt")) 0 was.cvt now.cvt
+    ++ each_from (λ (n : ℕ). setting_change) 0 (settings_of was.graphics was.flags) (settings_of now.graphics now.flags))))

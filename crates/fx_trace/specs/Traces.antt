@@ -1,11 +1,11 @@
 -- Traces: the text of what programs did, and how they ended (own).
 use Rattle.std.specs.Prelude.{◌≡◌, ℕ, ◌+◌, ◌<◌, nat_eq, Bool, true, false, if◌then◌else◌, List, [], ◌∷◌, ◌++◌, length, take, codes}
-use Rattle.std.specs.Prelude.{Option, Some, None, Result, Ok, Err, OnOk}
+use Rattle.std.specs.Prelude.{Option, Some, None, Result, Ok, Err}
 use Rattle.std.specs.Io.KnownBytes.{Appends}
 use Rattle.std.specs.List.{flat_map}
 use Rattle.fx_fixed.specs.Changes.{Change}
 use Rattle.fx_fixed.specs.Chain.{map_fault}
-use Rattle.fx_fixed.specs.Texts.{TextView, Adds, after}
+use Rattle.fx_fixed.specs.Texts.{after}
 use Rattle.fx_sfnt.specs.Tables.{Face, table_or_empty}
 use Rattle.fx_scale.specs.Scaling.{scale_of}
 use Rattle.fx_machine.specs.declared.program.FontProgram.{FontProgram}
@@ -26,8 +26,6 @@ use Rattle.fx_hint.specs.Programmed.{hinting_of}
 use Rattle.fx_hint.specs.Outlines.{outline_with, of_machine}
 use Rattle.fx_hint.specs.Runs.{runs_of}
 use Rattle.fx_hint.specs.Watched.{RunEvent, events_for, run_events}
-use Rattle.fx_trace.specs.declared.fault.Stop.{Stop}
-use Rattle.fx_trace.specs.declared.fault.Stop.TheVariants as stop
 use Rattle.fx_trace.specs.declared.fault.TraceFault.{TraceFault}
 use Rattle.fx_trace.specs.declared.fault.TraceFault.TheVariants.{Cause, WriteFailed, OutOfMemory}
 use Rattle.fx_trace.specs.declared.wanted.TracedPrograms.{TracedPrograms}
@@ -151,18 +149,3 @@ Traces trace change (Ok _) = IsTraced trace change
 Traces trace change (Err (Cause fault)) = IsTracedUntil trace change fault
 Traces trace change (Err OutOfMemory) = IsTracedSome trace change
 Traces trace change (Err (WriteFailed n)) = IsTracedTo trace change n
-
--- ---- the watcher
-
--- a text stops when its writer fails, or when memory for what a trace keeps runs out
-abbrev pub Halts : Stop → ℕ → ℕ → ℕ → Type 0
-Halts (stop.WriterFailed k) n faults_before faults = (k ≡ n) × (faults ≡ faults_before + 1)
-Halts stop.OutOfMemory n faults_before faults = faults ≡ faults_before
-
--- the lines of an event are added to a text, or the text stops; then nothing more is added
-abbrev pub Tells : TracedPrograms → TextView → Option SnapshotView → Result (Unit {0}) Stop → RunEvent → TextView
-    → Option SnapshotView → Result (Unit {0}) Stop
-    → Type 0
-Tells wanted was before (Ok u) x now next outcome =
-    Adds Halts was now (told_of wanted before x) outcome × OnOk outcome (next ≡ kept_after wanted before x)
-Tells wanted was before (Err stop) x now next outcome = (now ≡ was) × (outcome ≡ Err stop)

@@ -2,10 +2,9 @@
 
 ghost use Rattle.std.specs.Prelude.{◌≡◌};
 ghost use Rattle.fx_trace.specs.Traces.{end_of};
-ghost use Rattle.fx_trace.specs.inner.Ending.{fpgm_end, result_of, stop_of};
+ghost use Rattle.fx_trace.specs.inner.Ending.{fpgm_end, result_of};
 
 use crate::fault::{Stop, TraceFault};
-use fx_fixed::WriteFailed;
 use fx_hint::HintFault;
 use fx_machine::FontProgram;
 
@@ -44,15 +43,5 @@ pub fn result_of(told: Result<(), Stop>, end: Result<(), HintFault>) -> Result<(
             Err(HintFault::OutOfMemory) => Err(TraceFault::OutOfMemory),
             Err(fault) => Err(TraceFault::Cause(fault)),
         },
-    }
-}
-
-/// A writer's fault, as what stops the text of a trace.
-pub fn stop_of(added: Result<(), WriteFailed>) -> Result<(), Stop>
-    ensures { result ≡ stop_of added }
-{
-    match added {
-        Ok(()) => Ok(()),
-        Err(WriteFailed(n)) => Err(Stop::WriterFailed(n)),
     }
 }

@@ -9,7 +9,8 @@ ghost use Rattle.fx_hint.specs.Programmed.{hinting_of};
 ghost use Rattle.fx_hint.specs.Outlines.{outline_with};
 ghost use Rattle.fx_hint.specs.Runs.{runs_of};
 ghost use Rattle.fx_trace.specs.Traces.{glyph_trace, end_of, Traces};
-ghost use Rattle.fx_trace.specs.inner.Ending.{Ran, Sees};
+ghost use Rattle.fx_trace.specs.inner.Ending.{Ran};
+ghost use Rattle.fx_trace.specs.inner.Telling.{Sees};
 
 use crate::ending::{end_of, result_of};
 use crate::fault::TraceFault;
@@ -30,7 +31,7 @@ fn outline_watched<'w, S: Sink>(
     g: u16,
     watcher: Tracer<'w, S>,
 ) -> (Tracer<'w, S>, Result<(), HintFault>)
-    ensures ran { Ran (Sees (λ t. t.wanted) (λ t. t.text) (λ t. t.before) (λ t. t.outcome)) machine.entry.known
+    ensures ran { Ran (Sees (λ t. t.wanted) (λ t. t.text) (λ t. t.before)) machine.entry.known
         (runs_of (hinting_of machine.entry.known) font.now (scale_of font.now ppem) g) watcher.entry result.0 result.1 }
     ensures value { GivesUnless Fails (λ u. u) result.1 (end_of (outline_with (hinting_of machine.entry.known) font.now ppem g)) }
 {

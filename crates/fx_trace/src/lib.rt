@@ -5,7 +5,6 @@
 #![tactic(auto)]
 
 mod changes;
-mod differences;
 mod ending;
 mod fault;
 mod glyph;
@@ -13,7 +12,9 @@ mod line;
 mod prelude;
 mod settings;
 mod snapshot;
+mod text;
 mod tracer;
+mod values;
 mod wanted;
 
 pub use fault::TraceFault;

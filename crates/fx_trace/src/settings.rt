@@ -1,162 +1,103 @@
-//! The numbers of the graphics state, by name.
+//! The numbers and states of the graphics state, and what INSTCTRL set, by name.
 
 ghost use Rattle.std.specs.Prelude.{◌≡◌};
-ghost use Rattle.fx_trace.specs.Changes.{setting_name, setting_of, zone_number, control_number, type_number, bit_of, round_name, round_number};
+ghost use Rattle.fx_trace.specs.Changes.{bit_of, zone_of, scan_control_of, scan_type_of, axes_of, settings_of};
 
-use fx_gstate::{GState, RoundState, ScanType, ZonePointer};
+use crate::values::Value;
+use fx_gstate::{GState, ScanType, Vector, ZonePointer};
+use fx_machine::InstructControl;
+use std::marker::Model;
 
-/// A number of the graphics state (Apple TrueType Reference Manual, "Graphics state").
-#[derive(Clone, Copy, Debug, PartialEq, Eq)]
-pub enum Setting {
-    Rp0,
-    Rp1,
-    Rp2,
-    Zp0,
-    Zp1,
-    Zp2,
-    AutoFlip,
-    CutIn,
-    MinimumDistance,
-    SingleWidth,
-    SingleWidthCutIn,
-    DeltaBase,
-    DeltaShift,
-    ScanControl,
-    ScanType,
-}
+/// A setting, by its name in a line, and its value.
+#[derive(Drop)]
+pub struct Setting(pub &'static [u8], pub Value);
 
-/// All of them, in the order of a line.
-pub const SETTINGS: [Setting; 15] = [
-    Setting::Rp0,
-    Setting::Rp1,
-    Setting::Rp2,
-    Setting::Zp0,
-    Setting::Zp1,
-    Setting::Zp2,
-    Setting::AutoFlip,
-    Setting::CutIn,
-    Setting::MinimumDistance,
-    Setting::SingleWidth,
-    Setting::SingleWidthCutIn,
-    Setting::DeltaBase,
-    Setting::DeltaShift,
-    Setting::ScanControl,
-    Setting::ScanType,
-];
+impl Model for Setting {
+    ghost use Rattle.fx_trace.specs.Changes.{SettingView};
 
-/// The number of a zone.
-fn zone_number(zone: ZonePointer) -> i32
-    ensures { result ≡ zone_number zone }
-{
-    match zone {
-        ZonePointer::Twilight => 0,
-        ZonePointer::Glyph => 1,
-    }
+    ghost Value = { SettingView };
+
+    ghost view = { λ s. record { name = s.0.now; value = s.1 } };
 }
 
 /// 1 for true.
-pub fn bit_of(bit: bool) -> u64
+#[inline(always)]
+pub fn bit_of(bit: bool) -> Value
     ensures { result ≡ bit_of bit }
 {
-    if bit { 1 } else { 0 }
+    Value::Number(if bit { 1 } else { 0 })
+}
+
+/// The number of a zone.
+fn zone_of(zone: ZonePointer) -> Value
+    ensures { result ≡ zone_of zone }
+{
+    match zone {
+        ZonePointer::Twilight => Value::Number(0),
+        ZonePointer::Glyph => Value::Number(1),
+    }
 }
 
 /// Whether drop-out control is on, 1 or 0; -1 before the first SCANCTRL.
-fn control_number(control: Option<bool>) -> i32
-    ensures { result ≡ control_number control }
+fn scan_control_of(control: Option<bool>) -> Value
+    ensures { result ≡ scan_control_of control }
 {
     match control {
-        None => -1,
-        Some(false) => 0,
-        Some(true) => 1,
+        None => Value::Number(-1),
+        Some(on) => bit_of(on),
     }
 }
 
 /// The least type of SCANTYPE that asks for this drop-out control.
-fn type_number(kind: ScanType) -> i32
-    ensures { result ≡ type_number kind }
+fn scan_type_of(kind: ScanType) -> Value
+    ensures { result ≡ scan_type_of kind }
 {
     match kind {
-        ScanType::Leftmost => 0,
-        ScanType::Off => 2,
-        ScanType::Nearest => 4,
+        ScanType::Leftmost => Value::Number(0),
+        ScanType::Off => Value::Number(2),
+        ScanType::Nearest => Value::Number(4),
     }
 }
 
-impl Setting {
-    /// Its name in a line.
-    pub fn name(self) -> &'static [u8]
-        ensures { result.now ≡ setting_name self }
-    {
-        match self {
-            Setting::Rp0 => b"rp0",
-            Setting::Rp1 => b"rp1",
-            Setting::Rp2 => b"rp2",
-            Setting::Zp0 => b"zp0",
-            Setting::Zp1 => b"zp1",
-            Setting::Zp2 => b"zp2",
-            Setting::AutoFlip => b"auto-flip",
-            Setting::CutIn => b"cut-in",
-            Setting::MinimumDistance => b"minimum-distance",
-            Setting::SingleWidth => b"single-width",
-            Setting::SingleWidthCutIn => b"single-width-cut-in",
-            Setting::DeltaBase => b"delta-base",
-            Setting::DeltaShift => b"delta-shift",
-            Setting::ScanControl => b"scan-control",
-            Setting::ScanType => b"scan-type",
-        }
-    }
-
-    /// Its value in a graphics state.
-    pub fn of(self, graphics: &GState) -> i32
-        ensures { result ≡ setting_of self graphics.now }
-    {
-        match self {
-            Setting::Rp0 => graphics.rp0,
-            Setting::Rp1 => graphics.rp1,
-            Setting::Rp2 => graphics.rp2,
-            Setting::Zp0 => zone_number(graphics.zp0),
-            Setting::Zp1 => zone_number(graphics.zp1),
-            Setting::Zp2 => zone_number(graphics.zp2),
-            Setting::AutoFlip => { if graphics.auto_flip { 1 } else { 0 } }
-            Setting::CutIn => graphics.cut_in.0,
-            Setting::MinimumDistance => graphics.minimum_distance.0,
-            Setting::SingleWidth => graphics.single_width.0,
-            Setting::SingleWidthCutIn => graphics.single_width_cut_in.0,
-            Setting::DeltaBase => graphics.delta_base,
-            Setting::DeltaShift => i32::from(graphics.delta_shift.shift()),
-            Setting::ScanControl => control_number(graphics.scan_control),
-            Setting::ScanType => type_number(graphics.scan_type),
-        }
-    }
-}
-
-/// The name of a round state in a line.
-pub fn round_name(state: &RoundState) -> &'static [u8]
-    ensures { result.now ≡ round_name state.now }
+/// A vector's coordinates in 2.14.
+fn axes_of(vector: Vector) -> Value
+    ensures { result ≡ axes_of vector }
 {
-    match state {
-        RoundState::ToGrid => b"grid",
-        RoundState::ToHalfGrid => b"half-grid",
-        RoundState::ToDoubleGrid => b"double-grid",
-        RoundState::DownToGrid => b"down",
-        RoundState::UpToGrid => b"up",
-        RoundState::Off => b"off",
-        RoundState::Super(_) => b"super",
-    }
+    Value::Pair(i32::from(vector.x().0), i32::from(vector.y().0))
 }
 
-/// Round states that differ have names that differ; this is their number.
-pub fn round_number(state: &RoundState) -> u8
-    ensures { result ≡ round_number state.now }
+/// All of them, in the order of a line (Apple TrueType Reference Manual, "Graphics state").
+pub fn settings_of(g: &GState, flags: InstructControl) -> [Setting; 22]
+    ensures { result ≡ settings_of g.now flags }
 {
-    match state {
-        RoundState::ToGrid => 0,
-        RoundState::ToHalfGrid => 1,
-        RoundState::ToDoubleGrid => 2,
-        RoundState::DownToGrid => 3,
-        RoundState::UpToGrid => 4,
-        RoundState::Off => 5,
-        RoundState::Super(_) => 6,
-    }
+    [
+        Setting(b"rp0", Value::Number(g.rp0)),
+        Setting(b"rp1", Value::Number(g.rp1)),
+        Setting(b"rp2", Value::Number(g.rp2)),
+        Setting(b"zp0", zone_of(g.zp0)),
+        Setting(b"zp1", zone_of(g.zp1)),
+        Setting(b"zp2", zone_of(g.zp2)),
+        Setting(b"auto-flip", bit_of(g.auto_flip)),
+        Setting(b"cut-in", Value::Number(g.cut_in.0)),
+        Setting(b"minimum-distance", Value::Number(g.minimum_distance.0)),
+        Setting(b"single-width", Value::Number(g.single_width.0)),
+        Setting(
+            b"single-width-cut-in",
+            Value::Number(g.single_width_cut_in.0),
+        ),
+        Setting(b"delta-base", Value::Number(g.delta_base)),
+        Setting(
+            b"delta-shift",
+            Value::Number(i32::from(g.delta_shift.shift())),
+        ),
+        Setting(b"scan-control", scan_control_of(g.scan_control)),
+        Setting(b"scan-type", scan_type_of(g.scan_type)),
+        Setting(b"freedom", axes_of(g.freedom)),
+        Setting(b"projection", axes_of(g.projection)),
+        Setting(b"dual", axes_of(g.dual)),
+        Setting(b"loop", Value::Count(u64::from(g.loop_count))),
+        Setting(b"round", Value::Round(g.round_state)),
+        Setting(b"no-programs", bit_of(flags.no_programs)),
+        Setting(b"default-state", bit_of(flags.default_state)),
+    ]
 }

@@ -12,12 +12,12 @@ use std::marker::Model;
 /// The parts of a state that lines compare.
 #[derive(Drop)]
 pub struct Snapshot {
-    twilight: Vec<ZonePoint>,
-    glyph: Vec<ZonePoint>,
-    storage: Vec<i32>,
-    cvt: Vec<i32>,
-    graphics: GState,
-    flags: InstructControl,
+    pub twilight: Vec<ZonePoint>,
+    pub glyph: Vec<ZonePoint>,
+    pub storage: Vec<i32>,
+    pub cvt: Vec<i32>,
+    pub graphics: GState,
+    pub flags: InstructControl,
 }
 
 impl Model for Snapshot {
@@ -116,47 +116,5 @@ impl Snapshot {
         self.cvt.copy_from_slice(state.store.controls().numbers());
         self.graphics = state.graphics;
         self.flags = state.flags;
-    }
-
-    /// The points of the twilight zone.
-    pub fn twilight(&self) -> &[ZonePoint]
-        ensures { result.now ≡ self.now.twilight }
-    {
-        &self.twilight
-    }
-
-    /// The points of the glyph zone.
-    pub fn glyph(&self) -> &[ZonePoint]
-        ensures { result.now ≡ self.now.glyph }
-    {
-        &self.glyph
-    }
-
-    /// The storage area.
-    pub fn storage(&self) -> &[i32]
-        ensures { result.now ≡ self.now.storage }
-    {
-        &self.storage
-    }
-
-    /// The control values.
-    pub fn cvt(&self) -> &[i32]
-        ensures { result.now ≡ self.now.cvt }
-    {
-        &self.cvt
-    }
-
-    /// The graphics state.
-    pub fn graphics(&self) -> GState
-        ensures { result ≡ self.now.graphics }
-    {
-        self.graphics
-    }
-
-    /// What INSTCTRL set.
-    pub fn flags(&self) -> InstructControl
-        ensures { result ≡ self.now.flags }
-    {
-        self.flags
     }
 }

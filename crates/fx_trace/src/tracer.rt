@@ -1,19 +1,18 @@
 //! A watcher that writes a trace.
 
-ghost use Rattle.std.specs.Prelude.{◌≡◌, ◌<◌, ◌^◌, Some, None, Ok, OnOk};
-ghost use Rattle.fx_fixed.specs.Texts.{Adds, begun};
+ghost use Rattle.std.specs.Prelude.{◌≡◌, ◌<◌, ◌^◌, [], Some, None, OnOk};
+ghost use Rattle.fx_fixed.specs.Texts.{begun};
 ghost use Rattle.fx_trace.specs.Lines.{begin_text, line_text};
 ghost use Rattle.fx_trace.specs.Snapshots.{snapshot_of};
-ghost use Rattle.fx_trace.specs.Traces.{Halts};
-ghost use Rattle.fx_trace.specs.inner.Ending.{EndsText};
+ghost use Rattle.fx_trace.specs.inner.Telling.{Says, unstopped};
 
-use crate::ending::stop_of;
 use crate::fault::Stop;
 use crate::line::{add_begin, add_line};
 use crate::snapshot::Snapshot;
+use crate::text::TraceText;
 use crate::wanted::TracedPrograms;
 use fx_code::Code;
-use fx_fixed::{Sink, TextWriter};
+use fx_fixed::Sink;
 use fx_hint::{ComponentOf, RunWatching, RunningProgram};
 use fx_machine::{FontProgram, State};
 use std::alloc::{AllocError, Global};
@@ -22,54 +21,53 @@ use std::alloc::{AllocError, Global};
 #[derive(Drop)]
 pub struct Tracer<'w, S: Sink> {
     pub alloc: Global,
-    pub text: TextWriter<'w, S>,
-    pub outcome: Result<(), Stop>,
+    pub text: TraceText<'w, S>,
     pub wanted: TracedPrograms,
     /// What is kept of the state before the next instruction, if lines are written.
     pub before: Option<Snapshot>,
-    ghost few: { outcome ≡ Ok tt → text.faults < 2 ^ 63 },
 }
 
 /// Adds the line of a program that begins, and returns what is kept of its first state.
-#[tactic(auto, using(crate::proofs::Stopping::adds_or_stops))]
 fn begin_text<S: Sink>(
     alloc: Global,
-    text: &mut TextWriter<'_, S>,
+    text: &mut TraceText<'_, S>,
     component: Option<ComponentOf>,
     program: FontProgram,
     state: &State,
-) -> (Result<(), Stop>, Option<Snapshot>)
-    requires { text.old.faults < 2 ^ 63 }
-    ensures adds { Adds Halts text.old text.new (begin_text component program) result.0 }
-    ensures kept { OnOk result.0 (result.1 ≡ Some (snapshot_of state.now)) }
+) -> Option<Snapshot>
+    ensures said { Says text.old text.new (begin_text component program) }
+    ensures kept { OnOk text.new.outcome (result ≡ Some (snapshot_of state.now)) }
 {
     match Snapshot::of(alloc, state) {
-        Ok(first) => (stop_of(add_begin(text, component, program)), Some(first)),
-        Err(AllocError) => (Err(Stop::OutOfMemory), None),
+        Ok(first) => {
+            add_begin(text, component, program);
+            Some(first)
+        }
+        Err(AllocError) => {
+            text.stop();
+            None
+        }
     }
 }
 
 /// Adds the line of an instruction, and keeps the state after it.
-#[tactic(auto, using(crate::proofs::Stopping::adds_or_stops))]
 fn tell<S: Sink>(
-    text: &mut TextWriter<'_, S>,
+    text: &mut TraceText<'_, S>,
     program: FontProgram,
     code: &Code<'_>,
     address: usize,
     kept: &mut Snapshot,
     state: &State,
-) -> Result<(), Stop>
-    requires { text.old.faults < 2 ^ 63 }
-    ensures adds { Adds Halts text.old text.new (line_text program code.now address kept.old state.now) result }
-    ensures kept { OnOk result (kept.new ≡ snapshot_of state.now) }
+)
+    ensures said { Says text.old text.new (line_text program code.now address kept.old state.now) }
+    ensures kept { OnOk text.new.outcome (kept.new ≡ snapshot_of state.now) }
 {
     match kept.room_for(state) {
         Ok(room) => {
-            let added = stop_of(add_line(text, program, code, address, kept, state));
+            add_line(text, program, code, address, kept, state);
             kept.renew(room, state);
-            added
         }
-        Err(AllocError) => Err(Stop::OutOfMemory),
+        Err(AllocError) => text.stop(),
     }
 }
 
@@ -77,36 +75,32 @@ impl<'w, S: Sink> Tracer<'w, S> {
     /// Nothing was seen yet.
     pub fn new(alloc: Global, sink: &'w mut S, wanted: TracedPrograms) -> Tracer<'w, S>
         requires { S.fault_count sink.old < 2 ^ 63 }
-        ensures text { result.text ≡ begun sink.entry.ghost_name (S.held sink.old) (S.fault_count sink.old) }
-        ensures outcome { result.outcome ≡ Ok tt }
+        ensures text { result.text ≡ unstopped (begun sink.entry.ghost_name (S.held sink.old) (S.fault_count sink.old)) }
         ensures wanted { result.wanted ≡ wanted }
         ensures before { result.before ≡ None }
     {
         Tracer {
             alloc,
-            text: TextWriter::new(sink),
-            outcome: Ok(()),
+            text: TraceText::new(sink),
             wanted,
             before: None,
         }
     }
 
-    /// Ends the text, if it has not stopped, and tells what became of it.
-    #[tactic(auto, using(crate::proofs::Stopping::adds_or_stops))]
+    /// Ends the text, and tells whether it stopped.
     pub fn end(&mut self) -> Result<(), Stop>
-        ensures { EndsText self.old.text self.old.outcome self.new.text result }
+        ensures said { Says self.old.text self.new.text [] }
+        ensures outcome { result ≡ self.new.text.outcome }
+        ensures whole { OnOk result (self.new.text.text.waiting ≡ []) }
     {
-        if self.outcome.is_ok() {
-            self.outcome = stop_of(self.text.end());
-        }
-        self.outcome
+        self.text.end()
     }
 
     /// The sink. Bytes that wait are lost.
     pub fn close(self) -> &'w mut S
-        ensures name { result.ghost_name ≡ self.entry.text.sink }
-        ensures held { S.held result.now ≡ self.entry.text.held }
-        ensures faults { S.fault_count result.now ≡ self.entry.text.faults }
+        ensures name { result.ghost_name ≡ self.entry.text.text.sink }
+        ensures held { S.held result.now ≡ self.entry.text.text.held }
+        ensures faults { S.fault_count result.now ≡ self.entry.text.text.faults }
     {
         let Tracer { text, .. } = self;
         text.close()
@@ -114,25 +108,20 @@ impl<'w, S: Sink> Tracer<'w, S> {
 }
 
 impl<'w, S: Sink> RunWatching for Tracer<'w, S> {
-    ghost use Rattle.fx_trace.specs.Traces.{Tells};
+    ghost use Rattle.fx_trace.specs.inner.Telling.{Tells};
 
-    ghost Sees = { λ was x now. Tells was.wanted was.text was.before was.outcome x now.text now.before now.outcome × (now.wanted
-        ≡ was.wanted) };
+    ghost Sees = { λ was x now. Tells was.wanted was.text was.before x now.text now.before × (now.wanted ≡ was.wanted) };
 
     fn begin(&mut self, running: RunningProgram, state: &State) {
-        if self.outcome.is_ok() {
-            self.before = None;
-            if self.wanted.wants(running.program) {
-                let (outcome, before) = begin_text(
-                    self.alloc,
-                    &mut self.text,
-                    running.component,
-                    running.program,
-                    state,
-                );
-                self.outcome = outcome;
-                self.before = before;
-            }
+        self.before = None;
+        if self.wanted.wants(running.program) {
+            self.before = begin_text(
+                self.alloc,
+                &mut self.text,
+                running.component,
+                running.program,
+                state,
+            );
         }
     }
 
@@ -144,10 +133,8 @@ impl<'w, S: Sink> RunWatching for Tracer<'w, S> {
         _calls: usize,
         state: &State,
     ) {
-        if self.outcome.is_ok() {
-            if let Some(kept) = &mut self.before {
-                self.outcome = tell(&mut self.text, running.program, code, address, kept, state);
-            }
+        if let Some(kept) = &mut self.before {
+            tell(&mut self.text, running.program, code, address, kept, state);
         }
     }
 }

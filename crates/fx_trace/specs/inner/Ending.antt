@@ -1,7 +1,6 @@
 -- How a trace ends.
-use Rattle.std.specs.Prelude.{◌≡◌, ℕ, List, [], ◌++◌, Option, Result, Ok, Err, OnOk}
+use Rattle.std.specs.Prelude.{◌≡◌, ℕ, List, [], ◌++◌, Result, Ok, Err}
 use Rattle.std.specs.List.{flat_map}
-use Rattle.fx_fixed.specs.Texts.{TextView, Adds}
 use Rattle.fx_machine.specs.declared.halt.Halt.{Halt}
 use Rattle.fx_machine.specs.declared.program.FontProgram.{FontProgram}
 use Rattle.fx_machine.specs.declared.program.FontProgram.TheVariants.{Prep}
@@ -10,12 +9,9 @@ use Rattle.fx_hint.specs.Runs.{ProgramRun}
 use Rattle.fx_hint.specs.Watched.{RunEvent, run_events, WatchesAll}
 use Rattle.fx_hint.specs.declared.fault.HintFault.{HintFault}
 use Rattle.fx_hint.specs.declared.fault.HintFault.TheVariants as hint
-use Rattle.fx_fixed.specs.declared.sink.WriteFailed.{WriteFailed as Failed}
-use Rattle.fx_trace.specs.declared.wanted.TracedPrograms.{TracedPrograms}
 use Rattle.fx_trace.specs.declared.fault.Stop.{Stop}
 use Rattle.fx_trace.specs.declared.fault.Stop.TheVariants as stop
-use Rattle.fx_trace.specs.Snapshots.{SnapshotView}
-use Rattle.fx_trace.specs.Traces.{Trace, Halts, Tells}
+use Rattle.fx_trace.specs.Traces.{Trace}
 use Rattle.fx_trace.specs.declared.fault.TraceFault.{TraceFault}
 use Rattle.fx_trace.specs.declared.fault.TraceFault.TheVariants.{Cause, WriteFailed, OutOfMemory}
 
@@ -43,22 +39,6 @@ abbrev pub result_of : Result (Unit {0}) Stop → Result (Unit {0}) HintFault �
 result_of (Ok u) end = ended_by end
 result_of (Err (stop.WriterFailed n)) end = Err (WriteFailed n)
 result_of (Err stop.OutOfMemory) end = Err OutOfMemory
-
--- a text ends, if it has not stopped
-abbrev pub EndsText : TextView → Result (Unit {0}) Stop → TextView → Result (Unit {0}) Stop → Type 0
-EndsText was (Ok u) now outcome = Adds Halts was now [] outcome × OnOk outcome (now.waiting ≡ [])
-EndsText was (Err stop) now outcome = (now ≡ was) × (outcome ≡ Err stop)
-
--- what becomes of a tracer at an event, by its parts
-abbrev pub Sees : {W : Type 0} → (W → TracedPrograms) → (W → TextView) → (W → Option SnapshotView)
-    → (W → Result (Unit {0}) Stop) → W → RunEvent → W → Type 0
-Sees wanted text before outcome was x now =
-    Tells (wanted was) (text was) (before was) (outcome was) x (text now) (before now) (outcome now) × (wanted now ≡ wanted was)
-
--- a writer's fault, as what stops the text of a trace
-abbrev pub stop_of : Result (Unit {0}) Failed → Result (Unit {0}) Stop
-stop_of (Ok u) = Ok u
-stop_of (Err fault) = Err (stop.WriterFailed fault.0)
 
 -- unless memory ran out, no program is left to run
 abbrev pub NoneLeft : {A : Type 0} → Result A HintFault → List ProgramRun → Type 0

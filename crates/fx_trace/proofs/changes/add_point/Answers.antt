@@ -1,14 +1,12 @@
-use Rattle.std.proofs.lemmas.Result.{err_from_is_err_and}
-use Rattle.fx_fixed.proofs.Texts.{adds_then, adds_stopped, adds_out}
 use Rattle.fx_trace.specs.Changes.{point_change}
+use Rattle.fx_trace.proofs.Texts.{says_then}
 use Rattle.fx_trace.proofs.changes.add_point.Goals as goal
-
-pub returns-in_err-add_places : goal.returns-in_err-add_places
-unfolding point_change
-returns-in_err-add_places g c =
-    let p = err_from_is_err_and c.from_residual.result c.from_residual.ensures.1 in
-    adds_out (adds_stopped _ c.in_err-add_places.ensures) p.1 p.2
 
 pub returns : goal.returns
 unfolding point_change
-returns g c = adds_then c.in_ok-add_places.ensures c.add_marks.ensures
+returns g c =
+    says_then (rw (c.place_of.ensures, c.place_of-2.ensures) at c.add_change.ensures)
+    (says_then (rw (c.place_of-3.ensures, c.place_of-4.ensures) at c.add_change-2.ensures)
+    (says_then (rw (c.bit_of.ensures, c.bit_of-2.ensures) at c.add_change-3.ensures)
+    (says_then (rw (c.bit_of-3.ensures, c.bit_of-4.ensures) at c.add_change-4.ensures)
+    (rw (c.bit_of-5.ensures, c.bit_of-6.ensures) at c.add_change-5.ensures))))

@@ -1,10 +1,8 @@
-use Rattle.std.proofs.Common.{take, Ok}
-use Rattle.std.specs.List.{flat_map}
-use Rattle.fx_fixed.specs.Texts.{Adds, Fails}
+use Rattle.std.proofs.Common.{ℕ}
 use Rattle.fx_trace.specs.Changes.{setting_change}
+use Rattle.fx_trace.proofs.Pairs.{SaysBefore}
 use Rattle.fx_trace.proofs.changes.add_settings.Given as goal
 
--- the changes of the settings so far were added
+-- the changes of the settings before i were added
 abbrev pub invariant-settings : goal.invariant-settings
-invariant-settings g l =
-    Adds Fails l.fn.text l.text (flat_map (setting_change l.was l.now) (take l.setting-index l.settings)) (Ok tt)
+invariant-settings g l = SaysBefore (λ (n : ℕ). setting_change) l.fn.text l.text l.was l.now l.i

@@ -6,14 +6,14 @@ use Rattle.fx_hint.specs.Runs.{runs_of}
 use Rattle.fx_hint.specs.Watched.{WatchesRuns}
 use Rattle.fx_hint.specs.declared.programmed.WatchedMachine.{WatchedMachine}
 use Rattle.fx_trace.specs.declared.tracer.Tracer.{Tracer}
-use Rattle.fx_trace.specs.inner.Ending.{Sees}
+use Rattle.fx_trace.specs.inner.Telling.{Sees}
 use Rattle.fx_trace.proofs.Programs.{seen_runs, ran_so, ends_so}
 use Rattle.fx_trace.proofs.glyph.outline_watched.Goals as goal
 
 pub returns-clause-ran : goal.returns-clause-ran
 returns-clause-ran g c =
-    let q = seen_runs {S = WatchedMachine (Tracer g.row.S.Denot g.S.Sink)}
-    (λ a runs b. WatchesRuns (Sees (λ t. t.wanted) (λ t. t.text) (λ t. t.before) (λ t. t.outcome)) a.machine.known
+    let q = seen_runs {S = WatchedMachine (Tracer g.row.S.Denot)}
+    (λ a runs b. WatchesRuns (Sees (λ t. t.wanted) (λ t. t.text) (λ t. t.before)) a.machine.known
     a.watcher.watcher runs b.machine.known b.watcher.watcher)
     (record { machine = c.args.machine; watcher = record { watcher = c.args.watcher; component = None } })
     c.outline_with-made.new.hinter c.outline_with-made.result
