@@ -82,7 +82,8 @@ module _ {W : Type 0} (wanted : W → TracedPrograms) (text : W → TraceTextVie
   added w es e seen =
       let P : TraceTextView → TracedPrograms → Option SnapshotView → Type 0 = λ t v b. Says t last (lines_after v b es) in
       let a : P (text was) (wanted was) (before was) =
-      says_text (append-nil (lines_after (wanted was) (before was) es)) (says_then (told wanted text before was now es seen) ends) in
+      says_text (append-nil (lines_after (wanted was) (before was) es))
+      (says_then (told wanted text before was now es seen) ends) in
       let b : P (text was) (wanted was) None = subst (λ (o : Option SnapshotView). P (text was) (wanted was) o) off a in
       let c : P (text was) w None = subst (λ (v : TracedPrograms). P (text was) v None) e b in
       let d : P (unstopped (begun sink held faults)) w None = subst (λ (t : TraceTextView). P t w None) begins c in
@@ -154,7 +155,8 @@ module _ {W : Type 0} (wanted : W → TracedPrograms) (text : W → TraceTextVie
         (record { bytes_before = held; bytes = last.text.held; faults_before = faults; faults = last.text.faults })
         (result_of told_last (end_of (map_fault of_machine made)))
     prelude_traced e (Ok m) seen =
-        traced (ended (prelude_text face ppem w) (Ok tt)) sink held faults last.text all [] (append-nil all ∙ text_is) told_last (Ok tt)
+        traced (ended (prelude_text face ppem w) (Ok tt)) sink held faults last.text all []
+        (append-nil all ∙ text_is) told_last (Ok tt)
         (added w (events_for None (machine_events face ppem)) e seen) (refl, refl)
     prelude_traced e (Err machine.OutOfMemory) seen =
         traced (ended (prelude_text face ppem w) (Err hint.OutOfMemory)) sink held faults last.text [] all text_is told_last

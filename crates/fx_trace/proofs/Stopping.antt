@@ -20,14 +20,14 @@ stops_first {was} {text} some = record {
   outcome = (0, omega (arith, some, length-append was.waiting text), Appends-nil was.held, refl);
 }
 
-stops : {was now : TraceTextView} (bytes : List ℕ) → 0 < length bytes → now ≡ stopped was → Says was now bytes
+stops : {was now : TraceTextView} (bytes : List ℕ) → 0 < length bytes → now ≡ stopped stop.OutOfMemory was → Says was now bytes
 stops {was} bytes some e =
     record { by = subst (λ (t : TraceTextView). SaysBy was.outcome was t bytes) (sym e) (by was.outcome refl) }
   where
-    by : (r : Result (Unit {0}) Stop) → was.outcome ≡ r → SaysBy r was (stopped was) bytes
-    by (Ok u) d = subst (λ q. Adds Halts was.text was.text bytes (stopped_by q)) (sym d) (stops_first some)
-    by (Err stop) d =
-        ap (λ (q : Result (Unit {0}) Stop). record { text = was.text; outcome = q }) (ap stopped_by d ∙ sym d)
+    by : (r : Result (Unit {0}) Stop) → was.outcome ≡ r → SaysBy r was (stopped stop.OutOfMemory was) bytes
+    by (Ok u) d = subst (λ q. Adds Halts was.text was.text bytes (stopped_by stop.OutOfMemory q)) (sym d) (stops_first some)
+    by (Err first) d =
+        ap (λ (q : Result (Unit {0}) Stop). record { text = was.text; outcome = q }) (ap (stopped_by stop.OutOfMemory) d ∙ sym d)
 
 begin_some : (component : Option ComponentOf) (program : FontProgram) → 0 < length (begin_text component program)
 unfolding begin_text
@@ -42,19 +42,19 @@ line_some Fpgm code address was s = omega arith
 line_some Prep code address was s = omega arith
 line_some (Glyph g) code address was s = omega arith
 
-pub begin_stops : {was now : TraceTextView} (component : Option ComponentOf) (program : FontProgram) → now ≡ stopped was
+pub begin_stops : {was now : TraceTextView} (component : Option ComponentOf) (program : FontProgram) → now ≡ stopped stop.OutOfMemory was
     → Says was now (begin_text component program)
 begin_stops component program = stops (begin_text component program) (begin_some component program)
 
 pub line_stops : {text next : TraceTextView} (program : FontProgram) (code : List ℕ) (address : ℕ) (was : SnapshotView) (s : State)
-    → next ≡ stopped text → Says text next (line_text program code address was s)
+    → next ≡ stopped stop.OutOfMemory text → Says text next (line_text program code address was s)
 line_stops program code address was s =
     stops (line_text program code address was s) (line_some program code address was s)
 
 -- then nothing has to be kept
-pub none_kept : (P : Type 0) (was now : TraceTextView) → now ≡ stopped was → OnOk now.outcome P
+pub none_kept : (P : Type 0) (was now : TraceTextView) → now ≡ stopped stop.OutOfMemory was → OnOk now.outcome P
 none_kept P was now e = subst (λ (t : TraceTextView). OnOk t.outcome P) (sym e) (by was.outcome)
   where
-    by : (r : Result (Unit {0}) Stop) → OnOk (stopped_by r) P
+    by : (r : Result (Unit {0}) Stop) → OnOk (stopped_by stop.OutOfMemory r) P
     by (Ok u) = tt
-    by (Err stop) = tt
+    by (Err first) = tt

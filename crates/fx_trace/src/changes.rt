@@ -104,6 +104,9 @@ fn add_points<S: Sink>(text: &mut TraceText<'_, S>, zone: u64, was: &[ZonePoint]
 fn add_cell<S: Sink>(text: &mut TraceText<'_, S>, name: &[u8], number: usize, was: &i32, now: &i32)
     ensures { Says text.old text.new (cell_change name.now number was.now now.now) }
 {
+    if *was == *now {
+        return;
+    }
     let number = Value::Count(number as u64);
     add_change(
         text,

@@ -71,12 +71,12 @@ impl<'w, S: Sink> TraceText<'w, S> {
         }
     }
 
-    /// Stops, since there is no memory, if it has not stopped before.
-    pub fn stop(&mut self)
-        ensures { self.new ≡ stopped self.old }
+    /// Stops so, if it has not stopped before.
+    pub fn stop(&mut self, stop: Stop)
+        ensures { self.new ≡ stopped stop self.old }
     {
         if self.outcome.is_ok() {
-            self.outcome = Err(Stop::OutOfMemory);
+            self.outcome = Err(stop);
         }
     }
 

@@ -27,26 +27,24 @@ pub struct Tracer<'w, S: Sink> {
     pub before: Option<Snapshot>,
 }
 
-/// Adds the line of a program that begins, and returns what is kept of its first state.
+/// Adds the line of a program that begins, and keeps its first state.
 fn begin_text<S: Sink>(
     alloc: Global,
     text: &mut TraceText<'_, S>,
     component: Option<ComponentOf>,
     program: FontProgram,
+    kept: &mut Option<Snapshot>,
     state: &State,
-) -> Option<Snapshot>
+)
     ensures said { Says text.old text.new (begin_text component program) }
-    ensures kept { OnOk text.new.outcome (result ≡ Some (snapshot_of state.now)) }
+    ensures kept { OnOk text.new.outcome (kept.new ≡ Some (snapshot_of state.now)) }
 {
     match Snapshot::of(alloc, state) {
         Ok(first) => {
             add_begin(text, component, program);
-            Some(first)
+            *kept = Some(first);
         }
-        Err(AllocError) => {
-            text.stop();
-            None
-        }
+        Err(AllocError) => text.stop(Stop::OutOfMemory),
     }
 }
 
@@ -67,7 +65,7 @@ fn tell<S: Sink>(
             add_line(text, program, code, address, kept, state);
             kept.renew(room, state);
         }
-        Err(AllocError) => text.stop(),
+        Err(AllocError) => text.stop(Stop::OutOfMemory),
     }
 }
 
@@ -115,11 +113,12 @@ impl<'w, S: Sink> RunWatching for Tracer<'w, S> {
     fn begin(&mut self, running: RunningProgram, state: &State) {
         self.before = None;
         if self.wanted.wants(running.program) {
-            self.before = begin_text(
+            begin_text(
                 self.alloc,
                 &mut self.text,
                 running.component,
                 running.program,
+                &mut self.before,
                 state,
             );
         }

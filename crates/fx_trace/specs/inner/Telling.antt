@@ -28,13 +28,13 @@ pub record TraceTextView : Type 0 where
 abbrev pub unstopped : TextView → TraceTextView
 unstopped text = record { text = text; outcome = Ok tt }
 
--- one that stops for want of memory, if it has not stopped before
-abbrev pub stopped_by : Result (Unit {0}) Stop → Result (Unit {0}) Stop
-stopped_by (Ok u) = Err OutOfMemory
-stopped_by (Err stop) = Err stop
+-- one that stops so, if it has not stopped before
+abbrev pub stopped_by : Stop → Result (Unit {0}) Stop → Result (Unit {0}) Stop
+stopped_by stop (Ok u) = Err stop
+stopped_by stop (Err first) = Err first
 
-abbrev pub stopped : TraceTextView → TraceTextView
-stopped was = record { text = was.text; outcome = stopped_by was.outcome }
+abbrev pub stopped : Stop → TraceTextView → TraceTextView
+stopped stop was = record { text = was.text; outcome = stopped_by stop was.outcome }
 
 -- bytes were added, or the text stopped; one that had stopped stays as it was
 abbrev pub SaysBy : Result (Unit {0}) Stop → TraceTextView → TraceTextView → List ℕ → Type 0

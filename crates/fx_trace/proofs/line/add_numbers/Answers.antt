@@ -10,7 +10,9 @@ numbers-init g c = says_nothing
 pub numbers-preserved : goal.numbers-preserved
 numbers-preserved g c =
     one_more number_text c.args.numbers.now c.numbers.number-index _ c.numbers.invariant
-    (get_or_default c.args.numbers.now c.numbers.number-index (pos 0) _ c.numbers-test.true) c.numbers-test.true c.add_number.ensures
+    (get_or_default c.args.numbers.now c.numbers.number-index (pos 0) _ c.numbers-test.true) c.numbers-test.true
+    c.add_number.ensures
 
 pub returns : goal.returns
-returns g c = no_more number_text c.args.numbers.now c.numbers.number-index c.numbers.invariant (omega (arith, c.numbers-test.false))
+returns g c =
+    no_more number_text c.args.numbers.now c.numbers.number-index c.numbers.invariant (omega (arith, c.numbers-test.false))
