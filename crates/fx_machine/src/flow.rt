@@ -240,14 +240,24 @@ impl State {
         Ok(Action::Went(instr.next))
     }
 
-    /// The same for any opcode, not inlined. Its result goes through memory, so that no other instruction waits for it.
-    #[inline(never)]
+    /// The same for any of these opcodes. It is not left to `push_apart` alone: its result goes through memory, which is cleared here,
+    /// so that no other instruction waits for it.
     pub(crate) fn push_any(
         &mut self,
         bytes: &[u8],
         opcode: u8,
         address: usize,
     ) -> Result<Action, Cause>
+        requires inside { address < length bytes.now }
+        requires opcode { opcode ≡ opcode_at bytes.now address }
+        ensures { Leads (push_at bytes.now address) self.old self.new result }
+    {
+        self.push_apart(bytes, opcode, address)
+    }
+
+    /// The same, not inlined.
+    #[inline(never)]
+    fn push_apart(&mut self, bytes: &[u8], opcode: u8, address: usize) -> Result<Action, Cause>
         requires inside { address < length bytes.now }
         requires opcode { opcode ≡ opcode_at bytes.now address }
         ensures { Leads (push_at bytes.now address) self.old self.new result }
