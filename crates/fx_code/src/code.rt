@@ -108,7 +108,7 @@ impl<'a> Code<'a> {
         }
     }
 
-    /// The instruction at an address inside, in the same way, for a caller that has its opcode. If the compiler has it too, it drops
+    /// The instruction at an address inside, in the same way, for a caller that has its opcode. If the compiler knows it, it drops
     /// all that concerns others.
     #[inline(always)]
     #[tactic(auto, unfolding(crate::specs::Chain::IsWhole, crate::specs::Chain::size_at))]

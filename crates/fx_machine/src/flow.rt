@@ -240,8 +240,8 @@ impl State {
         Ok(Action::Went(instr.next))
     }
 
-    /// The same for any of these opcodes. It is not left to `push_apart` alone: its result goes through memory, which is cleared here,
-    /// so that no other instruction waits for it.
+    /// The same for any of these opcodes. The result of `push_apart` goes through memory, which is cleared here, so that no other
+    /// instruction waits for it.
     pub(crate) fn push_any(
         &mut self,
         bytes: &[u8],

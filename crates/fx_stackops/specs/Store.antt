@@ -149,6 +149,7 @@ pub record HasSizes (s t : StoreView) : Type 0 where
   pub cvt : length t.cvt ≡ length s.cvt
 
 -- an instruction did what its row says, and left all sizes, also if it faulted
-pub record DoesToStore (row : StoreView → Result StoreView StackFault) (s t : StoreView) (r : Result (Unit {0}) StackFault) : Type 0 where
+pub record DoesToStore (row : StoreView → Result StoreView StackFault) (s t : StoreView) (r : Result (Unit {0}) StackFault)
+    : Type 0 where
   pub value : leaves r t ≡ row s
   pub sizes : HasSizes s t
