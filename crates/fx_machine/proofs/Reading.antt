@@ -1,7 +1,7 @@
 -- The row that code finds for an opcode is the row of the instruction with its data: `row_there`, `row_cut`.
 -- It serves the step: the row of the opcode alone is that of the instruction with its data.
-use Rattle.std.proofs.Common.{◌≡◌, ◌≢◌, ℕ, ◌+◌, ◌-◌, ◌<◌, ◌≤◌, Bool, true, false, List, length, Result, Err, inl, inr, refl, arith}
-use Rattle.std.proofs.lemmas.Bool.{ne_eqb, le-leb}
+use Rattle.std.proofs.Common.{◌≡◌, ◌≢◌, ℕ, ◌<◌, ◌≤◌, Bool, true, false, List, length, Result, inl, inr, refl, arith}
+use Rattle.std.proofs.lemmas.Bool.{ne_eqb}
 use Rattle.std.proofs.lemmas.Bool.Decides.{leb_tells}
 use Rattle.fx_code.specs.Chain.{opcode_at, next_address, size_at}
 use Rattle.fx_code.proofs.Onward.{next_above}
