@@ -1,6 +1,6 @@
 -- Words of a frame whose rows and then columns were closed have the bits that drop-out control sets: `gaps_closed`.
 -- Serves `noted`.
-use Rattle.std.proofs.Common.{◌≡◌, ◌⊎◌, ◌↔◌, inl, inr, refl, sym, ap, ◌∙◌, subst, ℕ, zero, suc, ◌*◌, ◌<◌, ◌≤◌, ℤ, pos}
+use Rattle.std.proofs.Common.{◌≡◌, ◌↔◌, inl, inr, refl, sym, ap, ◌∙◌, subst, ℕ, zero, suc, ◌*◌, ◌<◌, ◌≤◌, ℤ, pos}
 use Rattle.std.proofs.Common.{◌+ℤ◌, ◌-ℤ◌, true, false, IsTrue, List, ◌++◌, Any, map, take, drop, length, length-drop, unsigned_abs, arith}
 use Rattle.std.specs.Prelude.{◌==◌}
 use Rattle.std.proofs.lemmas.Bool.Decides.{nat_tests}
@@ -129,12 +129,14 @@ row_rest closing f ss across up old new given r n h w l =
     (unused_bit f old r n given.words h w) (after (suc n) (omega (arith, w))) (by n refl)
   where
     after : (k : ℕ) → f.width < k → grid_bit across (words_noted f.width) k r ≡ 0
-    after k m = each (below_or_not k (32 * words_noted f.width))
-      where
-        each : (k < 32 * words_noted f.width) ⊎ (32 * words_noted f.width ≤ k)
-            → grid_bit across (words_noted f.width) k r ≡ 0
-        each (inl o) = noted_bit f across r k o ∙ given.noted.rest_across r k h m o
-        each (inr o) = past_part across (r * words_noted f.width) (words_noted f.width) k o
+    after k m = grind (
+      arith,
+      m,
+      below_or_not k (32 * words_noted f.width),
+      noted_bit f across r k,
+      given.noted.rest_across r k h m,
+      past_part across (r * words_noted f.width) (words_noted f.width) k,
+    )
 
     by : (m : ℕ) → m ≡ n
         → IsReached (λ k. grid_bit old (words_for f.width) k r)

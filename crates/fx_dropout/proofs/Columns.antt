@@ -43,7 +43,8 @@ next_word : (up : Bool) (a x col : ℤ) → (x ≡ col) × IsWithin (2 ^ 16) col
 next_word false a x col h e = omega (arith, signed_linear, h, e)
 next_word true a x col h e = omega (arith, signed_linear, h, e)
 
-next_word_up : (up : Bool) (b y row : ℤ) → (y ≡ row) × IsPixelNumber row → b ≡ next_row up y → to_z w32 (of_z w32 b) ≡ next_row up row
+next_word_up : (up : Bool) (b y row : ℤ) → (y ≡ row) × IsPixelNumber row → b ≡ next_row up y
+    → to_z w32 (of_z w32 b) ≡ next_row up row
 next_word_up false b y row h e = omega (arith, signed_linear, h, e)
 next_word_up true b y row h e = omega (arith, signed_linear, h, e)
 

@@ -160,17 +160,11 @@ gap_there up p line k before gaps nexts x c is l =
     ↔ IsOpen (next_there up p.noted (words_noted p.chooser.frame.width) line k c l t)
     (bit_there up p.old (size_of p) line k c l t) (next_there up p.old (size_of p) line k c l t)) (is.gap c l)
 
-chosen_is : (up : Bool) (c : Chooser) (n r : ℕ)
-    → next_on up (IsNext c up) c.frame n r (number_on up n r) ≡ IsNext c up (c.frame.left +ℤ pos n) (c.frame.bottom +ℤ pos r)
-chosen_is false c n r = refl
-chosen_is true c n r = refl
-
 chosen_there : (up : Bool) (p : Pass) (line k before gaps nexts x c : ℕ) → IsWordClosed up p line k before gaps nexts x → c < 32
     → let n = 32 * word_column up line k + c in let r = word_row up line k in (bit_at nexts (31 - c) ≡ 1)
     ↔ ((bit_at gaps (31 - c) ≡ 1) × chosen_on up p n r (number_on up n r))
-chosen_there up p line k before gaps nexts x c is l =
-    subst (λ z. (bit_at nexts (31 - c) ≡ 1) ↔ ((bit_at gaps (31 - c) ≡ 1) × z))
-    (sym (chosen_is up p.chooser (32 * word_column up line k + c) (word_row up line k))) (is.next c l)
+chosen_there false p line k before gaps nexts x c is l = is.next c l
+chosen_there true p line k before gaps nexts x c is l = is.next c l
 
 -- a next pixel that closes a gap
 next_reached : (P Q : ℕ → ℕ) (Next : ℕ → Type 0) (n gap next : ℕ) → (gap ≡ 1) ↔ IsOpenAt P Q (suc n)

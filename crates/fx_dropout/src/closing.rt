@@ -221,8 +221,8 @@ fn close_lines(
         let mut note = notes.word(noted, 0);
         let mut here = line.word(words, 0);
         let mut before = first_reached(is_up, note, here);
-        // So are those of the words before k of this line. `note` and `here` are its words k as they were, and `before` are the gaps
-        // after the word before k that the next pixels close.
+        // So are those of the words before k of this line. `note` and `here` are its words k as they were, and `before` are the
+        // gaps after the word before k that the next pixels close.
         'words: for k in 0..words_along(is_up, frame) {
             let next_note = notes.word(noted, k + 1);
             let next = line.word(words, k + 1);
