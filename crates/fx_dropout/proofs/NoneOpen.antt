@@ -3,7 +3,6 @@
 use Rattle.std.proofs.Common.{◌≡◌, ◌⊎◌, ◌↔◌, inl, inr, refl, sym, ap, ◌∙◌, ℕ, zero, suc, ◌+◌, ◌-◌, ◌*◌, ◌/◌, ◌%◌, ◌<◌, ◌≤◌}
 use Rattle.std.proofs.Common.{ℤ, pos, ◌+ℤ◌, not, nat_eq, Bool, true, false, List, ◌∷◌, get_or, take, drop, length, bit_or, arith}
 use Rattle.std.specs.Int.{bit_at}
-use Rattle.std.proofs.Math.Nat.{mul-le-mul_right}
 use Rattle.std.proofs.lemmas.Bool.Decides.{nat_tests}
 use Rattle.std.proofs.lemmas.Nat.{le_or_l, le_or_r}
 use Rattle.std.proofs.lemmas.Nat.Bits.{bit_at-zero}
@@ -11,6 +10,7 @@ use Rattle.fx_fixed.proofs.Order.{below_or_not}
 use Rattle.fx_winding.specs.declared.frame.Frame.{Frame}
 use Rattle.fx_winding.specs.Bitmaps.{AreWords, words_for, word_bit}
 use Rattle.fx_winding.specs.Notes.{words_noted}
+use Rattle.fx_winding.proofs.Grid.{row_fits}
 use Rattle.fx_dropout.specs.inner.Closing.{IsOpen, IsOpenAt, IsClosedBit, AreClosedWords, AreNoneOpen, bit_in, grid_bit, left_in}
 use Rattle.fx_dropout.proofs.Parts.{part_word, past_part, unused_bit}
 
@@ -65,9 +65,9 @@ pub record AreFlat (f : Frame) (across up words : List ℕ) (size : ℕ) : Type 
       (bit_in words (length words - size + w) c) (bit_in words (length words - size + w) c))
 
 -- the bit before one of a part of a list
-left_is : (xs : List ℕ) (from n k : ℕ) → suc k < 32 * n
+left_there : (xs : List ℕ) (from n k : ℕ) → suc k < 32 * n
     → left_in xs (from + suc k / 32) (suc k % 32) ≡ word_bit (take n (drop from xs)) k
-left_is xs from n k l = by (suc k % 32) refl ∙ sym (part_word xs from n k (omega (arith, l)))
+left_there xs from n k l = by (suc k % 32) refl ∙ sym (part_word xs from n k (omega (arith, l)))
   where
     by : (c : ℕ) → suc k % 32 ≡ c → left_in xs (from + suc k / 32) (suc k % 32) ≡ bit_in xs (from + k / 32) (k % 32)
     by zero z =
@@ -90,10 +90,7 @@ none_open f across up words flat = record {
     size = words_for f.width
 
     within : (r : ℕ) → r < f.height → r * size + size ≤ length words
-    within r h =
-        let m : (r + 1) * size ≤ f.height * size = mul-le-mul_right size (omega (arith, h)) in
-        let one : (r + 1) * size ≡ r * size + size = omega arith in
-        omega (arith, m, one, flat.held.long)
+    within r h = let fits = row_fits r f.height size h in omega (arith, fits, flat.held.long)
 
     -- before the first pixel of a row is an unused bit, or nothing
     start : (r : ℕ) → r < f.height → left_in words (r * size + 0 / 32) 0 ≡ 0
@@ -129,7 +126,7 @@ none_open f across up words flat = record {
       o,
       l,
       flat.same,
-      left_is words (r * size) size n,
+      left_there words (r * size) size n,
       flat.rows (r * size + suc n / 32) (suc n % 32),
       part_word words (r * size) size (suc n),
       part_word across (r * size) size (suc n),

@@ -4,45 +4,35 @@ use Rattle.std.proofs.Common.{◌≡◌, ◌≢◌, ◌⊎◌, ◌↔◌, inl, i
 use Rattle.std.proofs.Common.{Bool, true, false, not, List, [], ◌∷◌, get_or, take, drop, length, arith}
 use Rattle.std.specs.Prelude.{⊤}
 use Rattle.std.specs.Int.{bit_at}
-use Rattle.std.proofs.Math.Nat.{mul-le-mul_right}
+use Rattle.std.proofs.lemmas.Nat.{div-mul-add}
 use Rattle.std.proofs.lemmas.List.{get_or-take, get_or-drop, get_or_past, length-take}
 use Rattle.fx_fixed.proofs.Order.{below_or_not}
 use Rattle.fx_winding.specs.declared.frame.Frame.{Frame}
 use Rattle.fx_winding.specs.Bitmaps.{words_for, word_bit}
 use Rattle.fx_winding.specs.Notes.{words_noted}
+use Rattle.fx_winding.proofs.Grid.{row_fits}
 use Rattle.fx_dropout.specs.declared.chooser.Chooser.{Chooser}
 use Rattle.fx_dropout.specs.inner.Closing.{bit_after, bit_before, bit_on, grid_bit, line_word, next_on, number_on, word_column, word_place}
 use Rattle.fx_dropout.specs.inner.Closing.{word_row, words_along, IsClosedBit, AreClosedLines, IsClosedIn, IsNext, IsOpen, IsOpenAt, IsReached}
 
 -- ---- where words are
-row_end : (a h s : ℕ) → a < h → a * s + s ≤ h * s
-row_end a h s l =
-    let m : (a + 1) * s ≤ h * s = mul-le-mul_right s (omega (arith, l)) in
-    let e : (a + 1) * s ≡ a * s + s = omega arith in
-    omega (arith, m, e)
-
 -- words of two columns, or of two rows, are two words
 apart : (a b c d s : ℕ) → b < s → d < s → a ≢ c ⊎ b ≢ d → a * s + b ≢ c * s + d
-apart a b c d s l m h e = by (below_or_not a c) (below_or_not c a)
-  where
-    by : (a < c) ⊎ (c ≤ a) → (c < a) ⊎ (a ≤ c) → ⊥
-    by (inl k) o = let t = row_end a c s k in omega (arith, t, e, l)
-    by (inr k) (inl o) = let t = row_end c a s o in omega (arith, t, e, m)
-    by (inr k) (inr o) =
-        let same : a ≡ c = omega (arith, k, o) in
-        let b_is : b ≡ d = let z = ap (λ (n : ℕ). n * s) same in omega (arith, z, e) in
-        elim h [ inl n ↦ n same | inr n ↦ n b_is ]
+apart a b c d s l m h e =
+    let same : a ≡ c = sym (div-mul-add a s b l) ∙ ap (λ (n : ℕ). n / s) e ∙ div-mul-add c s d m in
+    let z = ap (λ (n : ℕ). n * s) same in
+    elim h [ inl n ↦ n same | inr n ↦ n (omega (arith, z, e)) ]
 
 -- the word k of a line of the frame is in the list
 pub inside : (up : Bool) (f : Frame) (line k : ℕ) → line < words_along (not up) f → k < words_along up f
     → word_place up (words_for f.width) line k < f.height * words_for f.width
-inside false f line k l m = let t = row_end line f.height (words_for f.width) l in omega (arith, t, m)
-inside true f line k l m = let t = row_end k f.height (words_for f.width) m in omega (arith, t, l)
+inside false f line k l m = let t = row_fits line f.height (words_for f.width) l in omega (arith, t, m)
+inside true f line k l m = let t = row_fits k f.height (words_for f.width) m in omega (arith, t, l)
 
 -- the words of a row of the frame are in the list
 pub row_held : (up : Bool) (f : Frame) (line size s count : ℕ) → line < words_along (not up) f → s ≡ size → f.height * size ≤ count
     → up ≡ false → line * s + s ≤ count
-row_held up f line size s count l e h is = grind (arith, is, l, e, h, row_end line f.height size)
+row_held up f line size s count l e h is = grind (arith, is, l, e, h, row_fits line f.height size)
 
 -- a word by its column and its row
 cell : (words : List ℕ) (size column row : ℕ) → column < size
@@ -62,12 +52,18 @@ line_at true f words line k l m = cell words (words_for f.width) line k l
 cell_other : (words new : List ℕ) (size column row i j : ℕ) → column < size
     → ((w : ℕ) → w ≢ row * size + column → get_or new w 0 ≡ get_or words w 0) → row ≢ j ⊎ column ≢ i
     → get_or (take size (drop (j * size) new)) i 0 ≡ get_or (take size (drop (j * size) words)) i 0
-cell_other words new size column row i j l others h = by (below_or_not i size)
-  where
-    by : (i < size) ⊎ (size ≤ i) → get_or (take size (drop (j * size) new)) i 0 ≡ get_or (take size (drop (j * size) words)) i 0
-    by (inl m) = cell new size i j m ∙ others (j * size + i) (λ e. apart row column j i size l m h (sym e))
-        ∙ sym (cell words size i j m)
-    by (inr m) = no_cell new size i j m ∙ sym (no_cell words size i j m)
+cell_other words new size column row i j l others h =
+    let far : i < size → j * size + i ≢ row * size + column = λ m e. apart row column j i size l m h (sym e) in
+    grind (
+      arith,
+      below_or_not i size,
+      far,
+      cell new size i j,
+      cell words size i j,
+      no_cell new size i j,
+      no_cell words size i j,
+      others (j * size + i),
+    )
 
 pub line_other : (up : Bool) (f : Frame) (words new : List ℕ) (line k i j : ℕ) → line < words_along (not up) f
     → k < words_along up f → ((w : ℕ) → w ≢ word_place up (words_for f.width) line k → get_or new w 0 ≡ get_or words w 0)
@@ -251,9 +247,15 @@ at_first false p line note here before e f h k =
 at_first true p line note here before e f h k = record {
   note_is = e;
   here_is = f;
-  reached = λ word c l z. subst (λ z. z) (λ t. (bit_at before (31 - c) ≡ 1) ↔ IsOpen
-      ((ap (λ v. bit_at v (31 - c)) e ∙ bit_there true p.noted (words_noted p.chooser.frame.width) line 0 c l) t) 0
-      ((ap (λ v. bit_at v (31 - c)) f ∙ bit_there true p.old (size_of p) line 0 c l) t)) (h refl c l);
+  reached = λ word c l z. grind (
+    arith,
+    l,
+    e,
+    f,
+    h refl c l,
+    bit_there true p.noted (words_noted p.chooser.frame.width) line 0 c l,
+    bit_there true p.old (size_of p) line 0 c l,
+  );
 }
 
 -- a word more
