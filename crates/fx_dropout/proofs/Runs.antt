@@ -1,31 +1,29 @@
 -- Runs of places at which a piece adds one number: it lies to one side of all of them, or its areas with them keep their signs.
--- Serves `beside` and `run`.
+-- Serves `along`, `beside` and `run`.
 use Rattle.std.proofs.Common.{◌≡◌, ◌≢◌, ◌⊎◌, inl, inr, refl, sym, ap, ◌∙◌, subst, ℕ, ◌+◌, ◌≤◌, ◌<◌, ℤ, pos, negsuc, zero, suc}
 use Rattle.std.proofs.Common.{◌+ℤ◌, ◌-ℤ◌, ◌*ℤ◌, neg_ℤ, ◌≤ℤ◌, ◌<ℤ◌, Bool, true, false, Some, None, [], ◌∷◌, arith}
-use Rattle.std.proofs.Common.{◌↔◌, IsTrue, Option, int_lt, if◌then◌else◌, w32, w64, to_z, of_z}
-use Rattle.std.specs.Int.{from_bool}
+use Rattle.std.proofs.Common.{◌↔◌, Option, w32, w64, to_z, of_z}
 use Rattle.fx_fixed.specs.Ranges.{IsWithin}
 use Rattle.std.proofs.lemmas.Int.{ints}
 use Rattle.fx_fixed.specs.Polynomial.{var, num, ◌⊞◌, ◌⊠◌, ◌⊟◌}
 use Rattle.fx_fixed.proofs.Ring.{ring, one-*ℤ, neg-*ℤ}
 use Rattle.fx_fixed.proofs.Linear.{signed_linear}
-use Rattle.fx_fixed.proofs.Order.{below_or_not_ℤ}
+use Rattle.fx_fixed.proofs.Order.{below_or_not, below_or_not_ℤ}
 use Rattle.fx_fixed.proofs.Signs.{product_at_least_zero, square_at_least_zero}
 use Rattle.fx_winding.specs.Area.{Place, area, gap_of}
 use Rattle.fx_winding.specs.Outside.{HasAll}
-use Rattle.fx_winding.specs.declared.point.Point.{Point}
-use Rattle.fx_winding.specs.Winding.{Span, place_of, IsOn, IsOnPart, areas_of, areas_of_part, crossing, chord_crossing, region, region_part, sign}
+use Rattle.fx_winding.specs.Winding.{Span, IsOn, IsOnPart, areas_of, areas_of_part, crossing, chord_crossing, region, region_part, sign}
 use Rattle.fx_winding.specs.Winding.{weight_a, weight_b, weight_c}
 use Rattle.fx_winding.proofs.Beside.{HasAll-weaker, left_off, right_off, under_off, over_off}
 use Rattle.fx_winding.proofs.Crossings.{above, crossing_number}
 use Rattle.fx_winding.proofs.HalfAreas.{area_next, area_swap}
-use Rattle.fx_winding.proofs.Places.{clash}
 use Rattle.fx_winding.proofs.Regions.{IsInRegion, region_in, region_out, third_strictly}
 use Rattle.fx_winding.proofs.Triangle.{area_expr}
 use Rattle.fx_winding.proofs.Turning.{left_of_all, right_of_all}
 use Rattle.fx_dropout.specs.declared.pair.Pair.{Pair}
 use Rattle.fx_dropout.specs.Dropout.{place_on}
-use Rattle.fx_dropout.specs.inner.Runs.{HaveOneSign, IsPassed, IsBelowTo, IsClear, IsPart, IsPartTo, IsRegionTo, gap_at, place_in}
+use Rattle.fx_dropout.specs.inner.Runs.{HaveOneSign, IsPassed, IsBelowTo, IsClear, IsPart, IsPartTo, IsRegionTo, IsSteady, AreBelow}
+use Rattle.fx_dropout.specs.inner.Runs.{gap_at, place_in, step_of, part_steps}
 use Rattle.fx_dropout.proofs.Steps.{bend, linear_sign, gap_step, gap_back, gap_below, gap_above}
 
 -- a height that does not come to be passed on the way from p to r
@@ -60,7 +58,7 @@ none_back a c p e = let f = area_swap a c p in omega (arith, signed_linear, e, f
 
 -- ---- what the region adds at a place off the chord's line
 -- the areas of a place with a piece's ends
-middle_of : (a : Place) (b : Option Place) (c p : Place) → (areas_of_part a b c p).1 ≡ area a p c
+pub middle_of : (a : Place) (b : Option Place) (c p : Place) → (areas_of_part a b c p).1 ≡ area a p c
 middle_of a None c p = refl
 middle_of a (Some b) c p = refl
 
@@ -199,13 +197,8 @@ within a b c p side g = (off, region_in a b c p (inl (u, v, w, up)))
 abbrev pub far : ℕ → ℕ → ℤ
 far k n = pos n -ℤ pos k
 
--- how the area of a place with b and c changes from place to place
-abbrev pub step : Bool → Place → Place → ℤ
-step false b c = b.y -ℤ c.y
-step true b c = c.x -ℤ b.x
-
 pub u_along : (up : Bool) (col row : ℤ) (k n : ℕ) (b c : Place)
-    → area (place_on up col row n) b c ≡ area (place_on up col row k) b c +ℤ far k n *ℤ step up b c
+    → area (place_on up col row n) b c ≡ area (place_on up col row k) b c +ℤ far k n *ℤ step_of up b c
 u_along false col row k n b c =
     ring ((pos 128 *ℤ col +ℤ pos 64) ∷ (pos 128 *ℤ row +ℤ pos 64) ∷ pos k ∷ pos n ∷ b.x ∷ b.y ∷ c.x ∷ c.y ∷ [])
     (area_expr (var 0 ⊞ var 3) (var 1) (var 4) (var 5) (var 6) (var 7))
@@ -217,26 +210,22 @@ u_along true col row k n b c =
 
 -- of the other two corners
 v_along : (pair : Pair) (k n : ℕ) (a c : Place)
-    → area a (place_in pair n) c ≡ area a (place_in pair k) c +ℤ far k n *ℤ step pair.is_up c a
+    → area a (place_in pair n) c ≡ area a (place_in pair k) c +ℤ far k n *ℤ step_of pair.is_up c a
 v_along pair k n a c = grind (arith, signed_linear, area_next, u_along)
 
 w_along : (pair : Pair) (k n : ℕ) (a b : Place)
-    → area a b (place_in pair n) ≡ area a b (place_in pair k) +ℤ far k n *ℤ step pair.is_up a b
+    → area a b (place_in pair n) ≡ area a b (place_in pair k) +ℤ far k n *ℤ step_of pair.is_up a b
 w_along pair k n a b = grind (arith, signed_linear, area_next, u_along)
 
 -- all three
 abbrev pub moved : ℤ × ℤ × ℤ → ℤ → ℤ × ℤ × ℤ → ℤ × ℤ × ℤ
 moved x j d = (x.0 +ℤ j *ℤ d.0, x.1 +ℤ j *ℤ d.1, x.2 +ℤ j *ℤ d.2)
 
-abbrev area_steps : Bool → Place → Option Place → Place → ℤ × ℤ × ℤ
-area_steps up a None c = (pos 0, step up c a, pos 0)
-area_steps up a (Some b) c = (step up b c, step up c a, step up a b)
-
 none_along : (j : ℤ) → pos 0 ≡ pos 0 +ℤ j *ℤ pos 0
 none_along j = ring (j ∷ []) (num (pos 0)) (num (pos 0) ⊞ var 0 ⊠ num (pos 0)) tt
 
-areas_along : (pair : Pair) (k n : ℕ) (a : Place) (b : Option Place) (c : Place) → areas_of_part a b c (place_in pair n)
-    ≡ moved (areas_of_part a b c (place_in pair k)) (far k n) (area_steps pair.is_up a b c)
+pub areas_along : (pair : Pair) (k n : ℕ) (a : Place) (b : Option Place) (c : Place) → areas_of_part a b c (place_in pair n)
+    ≡ moved (areas_of_part a b c (place_in pair k)) (far k n) (part_steps pair.is_up a b c)
 areas_along pair k n a None c = λ t. (none_along (far k n) t, v_along pair k n a c t, none_along (far k n) t)
 areas_along pair k n a (Some b) c = λ t. (
   u_along pair.is_up pair.here.col pair.here.row k n b c t,
@@ -253,15 +242,15 @@ square_of d f e h =
     ((var 0 ⊟ var 1) ⊠ (var 0 ⊟ var 1)) tt in
     rw h (omega (arith, signed_linear, q, s))
 
-steps_bend : (up : Bool) (a : Place) (b : Option Place) (c : Place) → let d = area_steps up a b c in pos 0 ≤ℤ bend d.0 d.1 d.2
-steps_bend up a None c = let q = square_at_least_zero (step up c a) in omega (arith, signed_linear, q)
+steps_bend : (up : Bool) (a : Place) (b : Option Place) (c : Place) → let d = part_steps up a b c in pos 0 ≤ℤ bend d.0 d.1 d.2
+steps_bend up a None c = let q = square_at_least_zero (step_of up c a) in omega (arith, signed_linear, q)
 steps_bend false a (Some b) c = square_of (b.y -ℤ c.y) (a.y -ℤ b.y) (c.y -ℤ a.y) (omega (arith, signed_linear))
 steps_bend true a (Some b) c = square_of (c.x -ℤ b.x) (b.x -ℤ a.x) (a.x -ℤ c.x) (omega (arith, signed_linear))
 
 -- ---- the gap along a segment
 -- the gap j places from the place k on
 abbrev gap_from : Pair → ℕ → Span → ℤ → ℤ
-gap_from pair k s j = gap (moved (areas_of s (place_in pair k)) j (area_steps pair.is_up s.a s.b s.c))
+gap_from pair k s j = gap (moved (areas_of s (place_in pair k)) j (part_steps pair.is_up s.a s.b s.c))
 
 gap_along : (pair : Pair) (k n : ℕ) (s : Span) (j : ℤ) → j ≡ far k n → gap_at s (place_in pair n) ≡ gap_from pair k s j
 gap_along pair k n s j e = ap gap (areas_along pair k n s.a s.b s.c) ∙ (λ t. gap_from pair k s (sym e t))
@@ -271,7 +260,7 @@ pub below_along : (pair : Pair) (k n : ℕ) (s : Span) → gap_at s (place_in pa
     → gap_at s (place_in pair (k + 1)) ≤ℤ gap_at s (place_in pair k) → k ≤ n → gap_at s (place_in pair n) <ℤ pos 0
 below_along pair k n s h l low =
     let x = areas_of s (place_in pair k) in
-    let d = area_steps pair.is_up s.a s.b s.c in
+    let d = part_steps pair.is_up s.a s.b s.c in
     let here = gap_along pair k k s (pos 0) (omega (arith, signed_linear)) in
     let next = gap_along pair k (k + 1) s (pos 1) (omega (arith, signed_linear)) in
     subst (λ z. z <ℤ pos 0) (sym (gap_along pair k n s (far k n) refl))
@@ -282,7 +271,7 @@ pub below_back : (pair : Pair) (k j n : ℕ) (s : Span) → gap_at s (place_in p
     → gap_at s (place_in pair j) ≤ℤ gap_at s (place_in pair k) → n ≤ k → gap_at s (place_in pair n) <ℤ pos 0
 below_back pair k j n s h is l high =
     let x = areas_of s (place_in pair k) in
-    let d = area_steps pair.is_up s.a s.b s.c in
+    let d = part_steps pair.is_up s.a s.b s.c in
     let back : (i : ℤ) → gap_from pair k s i
     ≡ gap_step x.0 x.1 x.2 (pos 0 -ℤ d.0) (pos 0 -ℤ d.1) (pos 0 -ℤ d.2) (pos 0 -ℤ i) =
     λ i. gap_back x.0 x.1 x.2 d.0 d.1 d.2 i in
@@ -303,7 +292,7 @@ above_along : (pair : Pair) (k m n : ℕ) (s : Span) → pos 0 <ℤ gap_at s (pl
     → k ≤ n → n ≤ m → k < m → pos 0 <ℤ gap_at s (place_in pair n)
 above_along pair k m n s h l low high some =
     let x = areas_of s (place_in pair k) in
-    let d = area_steps pair.is_up s.a s.b s.c in
+    let d = part_steps pair.is_up s.a s.b s.c in
     let here = gap_along pair k k s (pos 0) (omega (arith, signed_linear)) in
     subst (λ z. pos 0 <ℤ z) (sym (gap_along pair k n s (far k n) refl))
     (gap_above x.0 x.1 x.2 d.0 d.1 d.2 (far k n) (far k m) (steps_bend pair.is_up s.a s.b s.c) (subst (λ z. pos 0 <ℤ z) here h)
@@ -332,7 +321,7 @@ side_sign : (pair : Pair) (k m n : ℕ) (s : Span) → IsClear pair k m s → k 
     → HaveOneSign (area s.a (place_in pair k) s.c) (area s.a (place_in pair n) s.c)
 side_sign pair k m n s h low high =
     subst (HaveOneSign (area s.a (place_in pair k) s.c)) (sym (v_along pair k n s.a s.c))
-    (linear_sign _ (step pair.is_up s.c s.a) (far k n) (far k m) (omega (arith, signed_linear, low))
+    (linear_sign _ (step_of pair.is_up s.c s.a) (far k n) (far k m) (omega (arith, signed_linear, low))
     (omega (arith, signed_linear, high)) (subst (λ (z : ℤ × ℤ). HaveOneSign z.0 z.1) (λ t. (
       middle_of s.a s.b s.c (place_in pair k) t,
       (middle_of s.a s.b s.c (place_in pair m) ∙ v_along pair k m s.a s.c) t,
@@ -428,41 +417,61 @@ right_part p r s t h =
     left : HasAll (λ e. e.x <ℤ r.x) s
     left = HasAll-weaker (λ e. e.x <ℤ p.x) (λ e. e.x <ℤ r.x) (λ e l. omega (arith, signed_linear, l, t)) s h
 
--- left of all points of a piece, between the same heights of its ends
-above_same : (y p r : ℤ) → IsOneSide y p r → above p y ≡ above r y
-above_same y p r h = grind (arith, ints, h.both)
-
--- whether an end is above, as a number that the code has
-of_bool : (b : Bool) → pos (from_bool b) ≡ (if b then pos 1 else pos 0)
-of_bool true = refl
-of_bool false = refl
-
-pub above_is : (x p q y : ℤ) → x ≡ pos (from_bool (int_lt (to_z w32 (of_z w32 p)) (to_z w32 (of_z w32 y)))) → IsWithin 4194304 p
-    → IsWithin 4194304 y → p ≡ q → x ≡ above q y
-above_is x p q y is h k e = is ∙ (λ t. pos (from_bool (int_lt (coordinate_word p h t) (coordinate_word y k t))))
-    ∙ of_bool (int_lt p y) ∙ (λ t. above (e t) y)
-
-pub above_small : (x p y : ℤ) → x ≡ above p y → (pos 0 ≤ℤ x) × (x ≤ℤ pos 1)
-above_small x p y e = grind (arith, ints, e)
-
-pub left_part : (pair : Pair) (k m n : ℕ) (s : Span) (t : ℤ) → k ≤ n → n ≤ m → m < 128
-    → HasAll (λ e. (place_in pair 127).x <ℤ e.x) s → ¬ (IsPassed s.a.y (place_in pair k).y (place_in pair m).y)
-    → ¬ (IsPassed s.c.y (place_in pair k).y (place_in pair m).y) → IsWithin 1 t
-    → t ≡ above (place_in pair k).y s.c.y -ℤ above (place_in pair k).y s.a.y → IsPart (place_in pair n) s (Some t)
-left_part pair k m n s t low high few h start end small is = (
+-- left of all points of a piece: 1 or -1 between the heights of its ends
+part_right : (pair : Pair) (n : ℕ) (s : Span) (t : ℤ) → n < 128 → HasAll (λ e. (place_in pair 127).x <ℤ e.x) s → IsWithin 1 t
+    → t ≡ above (place_in pair n).y s.c.y -ℤ above (place_in pair n).y s.a.y → IsPart (place_in pair n) s (Some t)
+part_right pair n s t few h small is = (
   (omega (arith, signed_linear, small), omega (arith, signed_linear, small)),
-  is ∙ (λ i. same s.c.y end i -ℤ same s.a.y start i) ∙ sym (left_of_all (place_in pair n) s right),
+  is ∙ sym (left_of_all (place_in pair n) s right),
   (left_off (place_in pair n) s right).1,
 )
   where
-    same : (y : ℤ) → ¬ (IsPassed y (place_in pair k).y (place_in pair m).y)
-        → above (place_in pair k).y y ≡ above (place_in pair n).y y
-    same y h = above_same y (place_in pair k).y (place_in pair n).y (side_along pair k m n y low high h)
-
     right : HasAll (λ e. (place_in pair n).x <ℤ e.x) s
     right = HasAll-weaker (λ e. (place_in pair 127).x <ℤ e.x) (λ e. (place_in pair n).x <ℤ e.x)
-        (λ e k. let c = columns_along pair.is_up pair.here.col pair.here.row n 127 (omega (arith, high, few)) in
+        (λ e k. let c = columns_along pair.is_up pair.here.col pair.here.row n 127 (omega (arith, few)) in
         omega (arith, signed_linear, c, k)) s h
+
+turns : (p a c t : ℤ) (n j k : ℕ) → (n < j ↔ p <ℤ a) → (n < k ↔ p <ℤ c) → ((j ≤ n) × (n < k) × (t ≡ pos 1)) ⊎
+    (((k ≤ n) × (n < j) × (t ≡ negsuc 0)) ⊎ (((n < j) × (n < k) × (t ≡ pos 0)) ⊎ ((j ≤ n) × (k ≤ n) × (t ≡ pos 0))))
+    → (IsWithin 1 t) × (t ≡ above p c -ℤ above p a)
+turns p a c t n j k h l o = grind (arith, ints, h, l, o)
+
+pub rising_right : (pair : Pair) (s : Span) (j k : ℕ) → AreBelow pair s.a.y j → AreBelow pair s.c.y k → k ≤ 128
+    → HasAll (λ e. (place_in pair 127).x <ℤ e.x) s → j ≤ k → IsSteady pair s j k (pos 1)
+rising_right pair s j k a c few h order = record {
+  inside = λ n low high. by n (pos 1) (omega (arith, few, high)) (inl (low, high, refl));
+  outside = λ n l o. by n (pos 0) l (elim o [
+    | inl e ↦ inr (inr (inl (e, omega (arith, e, order), refl)))
+    | inr e ↦ inr (inr (inr (omega (arith, e, order), e, refl)))
+  ]);
+}
+  where
+    by : (n : ℕ) (t : ℤ) → n < 128 → ((j ≤ n) × (n < k) × (t ≡ pos 1)) ⊎
+        (((k ≤ n) × (n < j) × (t ≡ negsuc 0)) ⊎ (((n < j) × (n < k) × (t ≡ pos 0)) ⊎ ((j ≤ n) × (k ≤ n) × (t ≡ pos 0))))
+        → IsPart (place_in pair n) s (Some t)
+    by n t l o =
+        let z = turns (place_in pair n).y s.a.y s.c.y t n j k (a n l) (c n l) o in part_right pair n s t l h z.0 z.1
+
+pub falling_right : (pair : Pair) (s : Span) (j k : ℕ) → AreBelow pair s.a.y j → AreBelow pair s.c.y k → j ≤ 128
+    → HasAll (λ e. (place_in pair 127).x <ℤ e.x) s → k ≤ j → IsSteady pair s k j (negsuc 0)
+falling_right pair s j k a c few h order = record {
+  inside = λ n low high. by n (negsuc 0) (omega (arith, few, high)) (inr (inl (low, high, refl)));
+  outside = λ n l o. by n (pos 0) l (elim o [
+    | inl e ↦ inr (inr (inl (omega (arith, e, order), e, refl)))
+    | inr e ↦ inr (inr (inr (e, omega (arith, e, order), refl)))
+  ]);
+}
+  where
+    by : (n : ℕ) (t : ℤ) → n < 128 → ((j ≤ n) × (n < k) × (t ≡ pos 1)) ⊎
+        (((k ≤ n) × (n < j) × (t ≡ negsuc 0)) ⊎ (((n < j) × (n < k) × (t ≡ pos 0)) ⊎ ((j ≤ n) × (k ≤ n) × (t ≡ pos 0))))
+        → IsPart (place_in pair n) s (Some t)
+    by n t l o =
+        let z = turns (place_in pair n).y s.a.y s.c.y t n j k (a n l) (c n l) o in part_right pair n s t l h z.0 z.1
+
+-- a piece that adds nothing
+pub steady_none : (pair : Pair) (s : Span) → ((n : ℕ) → n < 128 → IsPart (place_in pair n) s (Some (pos 0)))
+    → IsSteady pair s 0 0 (pos 0)
+steady_none pair s h = record { inside = λ n low high. absurd (omega (arith, high)); outside = λ n l o. h n l }
 
 -- a number that a piece adds, as the code has it
 pub part_as_stored : (p : Place) (s : Span) (t : ℤ) → IsPart p s (Some t) → IsPart p s (Some (to_z w32 (of_z w32 t)))
@@ -477,9 +486,17 @@ pub part_alone : (pair : Pair) (n : ℕ) (s : Span) (v : Option ℤ) → IsPart 
 part_alone pair n s v h k low high =
     let is : n ≡ k = omega (arith, low, high) in subst (λ (m : ℕ). IsPart (place_in pair m) s v) is h
 
--- a test whether an end is passed has failed
-pub not_passed : (x : Bool) (end p q : Point) (P Q : Place) → place_of p ≡ P → place_of q ≡ Q
-    → (IsTrue x ↔ IsPassed (to_z w32 (of_z w32 end.y)) (to_z w32 (of_z w32 p.y)) (to_z w32 (of_z w32 q.y))) → x ≡ false
-    → ¬ (IsPassed end.y P.y Q.y)
-not_passed x end p q P Q e g h f = subst (λ (z : Place × Place). ¬ (IsPassed end.y z.0.y z.1.y)) (λ i. (e i, g i))
-    (λ k. grind (arith, h, f, k, clash, coordinate_word))
+-- an end is not passed in a run whose places are all below it, or none
+pub not_passed : (pair : Pair) (y : ℤ) (k first last : ℕ) → AreBelow pair y k → first < 128 → last < 128
+    → ¬ ((first < k) × (k ≤ last)) → ¬ (IsPassed y (place_in pair first).y (place_in pair last).y)
+not_passed pair y k first last below l m n (p, q) = elim (below_or_not last k) [
+  | inl h ↦ let b = (below last m).0 h in omega (arith, signed_linear, b, q)
+  | inr h ↦ n ((below first l).1 p, h)
+]
+
+-- what a chord adds at a place, by the area of the place with the chord's ends
+pub rises : (a c p v w : ℤ) → a ≤ℤ p → p <ℤ c → w ≡ neg_ℤ v → v <ℤ pos 0 → crossing_number a c p w ≡ pos 1
+rises a c p v w h l e s = grind (arith, ints, h, l, e, s)
+
+pub falls : (a c p v w : ℤ) → c ≤ℤ p → p <ℤ a → w ≡ neg_ℤ v → pos 0 <ℤ v → crossing_number a c p w ≡ negsuc 0
+falls a c p v w h l e s = grind (arith, ints, h, l, e, s)

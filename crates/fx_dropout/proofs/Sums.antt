@@ -28,55 +28,48 @@ taken_more : (ss : List Span) (done : ℕ) (s : Span) → done < length ss → s
     → take (done + 1) ss ≡ take done ss ++ s ∷ []
 taken_more ss done s within is = take_more ss done s within ∙ ap (λ r. take done ss ++ r ∷ []) (sym is)
 
--- one more, some of which all places have
-joined_more : (p : Place) (ss : List Span) (s : Span) (k : ℕ) (v common new r : ℤ) (part : Option ℤ) → IsPart p s part
-    → new +ℤ r ≡ sum_of v part → IsWithin 1 r → IsSummed p ss k v common → IsSummed p (ss ++ s ∷ []) (k + 4) new (common +ℤ r)
-joined_more p ss s k v common new r part is sum small old =
-    record {
-      few = (omega (arith, signed_linear, old.few, small), omega (arith, signed_linear, old.few, small));
-      known = by part is sum old.known;
-    }
-  where
-    by : (part : Option ℤ) → IsPart p s part → new +ℤ r ≡ sum_of v part
-        → (Any (IsOn p) ss × IsWithin k (v -ℤ mark)) ⊎ ((¬ (Any (IsOn p) ss)) × IsWithin k v × (v +ℤ common ≡ winding p ss))
-        → (Any (IsOn p) (ss ++ s ∷ []) × IsWithin (k + 4) (new -ℤ mark))
-        ⊎ ((¬ (Any (IsOn p) (ss ++ s ∷ []))) × IsWithin (k + 4) new × (new +ℤ (common +ℤ r) ≡ winding p (ss ++ s ∷ [])))
-    by None a e h =
-        inl ((any_last (IsOn p) ss s).1 (inr a), (omega (arith, signed_linear, e, small), omega (arith, signed_linear, e, small)))
-    by (Some t) (few, is, off) e (inl (h, near)) = inl (
-      (any_last (IsOn p) ss s).1 (inl h),
-      (omega (arith, signed_linear, near, few, small, e), omega (arith, signed_linear, near, few, small, e)),
-    )
-    by (Some t) (few, is, off) e (inr (n, near, w)) = inr (
-      not_both (IsOn p) ss s n off,
-      (omega (arith, signed_linear, near, few, small, e), omega (arith, signed_linear, near, few, small, e)),
-      let d = winding_last p ss s in omega (arith, signed_linear, w, is, e, d),
-    )
+-- one more
+joined_more : (p : Place) (ss : List Span) (s : Span) (k : ℕ) (v new : ℤ) (part : Option ℤ) → IsPart p s part
+    → new ≡ sum_of v part → IsSummed p ss k v → IsSummed p (ss ++ s ∷ []) (k + 4) new
+joined_more p ss s k v new None a e h = record {
+  known = inl ((any_last (IsOn p) ss s).1 (inr a), (omega (arith, signed_linear, e), omega (arith, signed_linear, e)));
+}
+joined_more p ss s k v new (Some t) (few, is, off) e h = elim h.known [
+  | inl i ↦ let near = i.1 in record {
+    known = inl (
+      (any_last (IsOn p) ss s).1 (inl i.0),
+      (omega (arith, signed_linear, near, few, e), omega (arith, signed_linear, near, few, e)),
+    );
+  }
+  | inr i ↦ let near = i.1 in let w = i.2 in let d = winding_last p ss s in record {
+    known = inr (
+      not_both (IsOn p) ss s i.0 off,
+      (omega (arith, signed_linear, near, few, e), omega (arith, signed_linear, near, few, e)),
+      omega (arith, signed_linear, w, is, e, d),
+    );
+  }
+]
 
-pub more_summed : (p : Place) (ss : List Span) (done : ℕ) (s : Span) (old common new r : ℤ) → done < length ss
-    → s ≡ get_or ss done s → IsJoined p s old (new +ℤ r) → IsWithin 1 r → IsSummed p (take done ss) (4 * done) old common
-    → IsSummed p (take (done + 1) ss) (4 * (done + 1)) new (common +ℤ r)
-more_summed p ss done s old common new r within is j small h =
-    subst (λ (z : List Span × ℕ). IsSummed p z.0 z.1 new (common +ℤ r)) (λ i. (sym (taken_more ss done s within is) i, more i))
-    (joined_more p (take done ss) s (4 * done) old common new r j.part j.is j.sum small h)
+pub more_summed : (p : Place) (ss : List Span) (done : ℕ) (s : Span) (old new : ℤ) → done < length ss → s ≡ get_or ss done s
+    → IsJoined p s old new → IsSummed p (take done ss) (4 * done) old → IsSummed p (take (done + 1) ss) (4 * (done + 1)) new
+more_summed p ss done s old new within is j h =
+    subst (λ (z : List Span × ℕ). IsSummed p z.0 z.1 new) (λ i. (sym (taken_more ss done s within is) i, more i))
+    (joined_more p (take done ss) s (4 * done) old new j.part j.is j.sum h)
   where
     more : 4 * done + 4 ≡ 4 * (done + 1)
     more = omega arith
 
-pub summed_wider : (p : Place) (ss : List Span) (k m : ℕ) (v common : ℤ) → k ≤ m → IsSummed p ss k v common
-    → IsSummed p ss m v common
-summed_wider p ss k m v common h i = grind (arith, signed_linear, h, i)
+pub summed_wider : (p : Place) (ss : List Span) (k m : ℕ) (v : ℤ) → k ≤ m → IsSummed p ss k v → IsSummed p ss m v
+summed_wider p ss k m v h i = grind (arith, signed_linear, h, i)
 
 -- what is known of a place is small enough for one piece more
-pub summed_small : (p : Place) (ss : List Span) (k : ℕ) (v common : ℤ) → k ≤ 262144 → IsSummed p ss k v common
-    → IsWithin 1074790400 v × IsWithin 1074790400 (v +ℤ common)
-summed_small p ss k v common l h = grind (arith, signed_linear, l, h)
+pub summed_small : (p : Place) (ss : List Span) (k : ℕ) (v : ℤ) → k ≤ 262144 → IsSummed p ss k v → IsWithin 1074790400 v
+summed_small p ss k v l h = grind (arith, signed_linear, l, h)
 
 -- all pieces
-pub covered_by : (p : Place) (ss : List Span) (v common : ℤ) → IsSummed p ss 262144 v common
-    → ((v +ℤ common) ≢ pos 0) ↔ IsCovered p ss
+pub covered_by : (p : Place) (ss : List Span) (v : ℤ) → IsSummed p ss 262144 v → (v ≢ pos 0) ↔ IsCovered p ss
 unfolding IsCovered
-covered_by p ss v common h = let few = h.few in elim h.known [
-  | inl i ↦ let near = i.1 in (λ t. inl i.0, λ c e. omega (arith, signed_linear, near, few, e))
+covered_by p ss v h = elim h.known [
+  | inl i ↦ let near = i.1 in (λ t. inl i.0, λ c e. omega (arith, signed_linear, near, e))
   | inr i ↦ (λ k. inr (λ z. k (i.2 ∙ z)), λ c k. elim c [ inl a ↦ i.0 a | inr m ↦ m (sym i.2 ∙ k) ])
 ]

@@ -1,11 +1,12 @@
 //! Pieces beside all places of a segment.
 
-ghost use Rattle.std.specs.Prelude.{◌≡◌, ◌↔◌, ◌+◌, ◌≤◌, ◌<◌, pos, ◌<ℤ◌, IsTrue, Some, IfSome};
+ghost use Rattle.std.specs.Prelude.{◌≡◌, ◌≤◌, ◌<ℤ◌, IsTrue, IfSome};
 ghost use Rattle.fx_fixed.specs.Ranges.{IsWithin};
 ghost use Rattle.fx_winding.specs.Outside.{HasAll};
 ghost use Rattle.fx_winding.specs.Winding.{place_of, span_of};
-ghost use Rattle.fx_dropout.specs.inner.Runs.{coordinate_of, IsPartTo, IsPassed};
+ghost use Rattle.fx_dropout.specs.inner.Runs.{coordinate_of, place_in, IsSteady};
 
+use crate::along::places_below;
 use crate::pair::Pair;
 use fx_fixed::Axis;
 use fx_winding::{Piece, Point};
@@ -57,54 +58,62 @@ fn is_before(piece: &Piece, axis: Axis, limit: Point) -> bool
     }
 }
 
-/// Whether a height is above the one of two others and not above the other.
-pub(crate) fn is_passed(y: i32, low: i32, high: i32) -> bool
-    ensures { IsTrue result ↔ IsPassed y low high }
-{
-    if y <= low {
-        return false;
-    }
-    y <= high
+/// Places of a segment, from `first` to before `end`, at which a piece adds one number. It adds nothing at others.
+#[derive(Clone, Copy)]
+pub(crate) struct Steady {
+    pub first: usize,
+    pub end: usize,
+    pub turn: i32,
+    ghost order: { first ≤ end },
+    ghost few: { end ≤ 128 },
+    ghost size: { IsWithin 1 turn },
 }
 
-/// What a piece adds at each place of a run, if it lies right of the segment and no end of it is passed in the run: 1 or -1 between
-/// the heights of its ends.
+/// What a piece right of all places adds: 1 or -1 between the heights of its ends.
 #[inline(always)]
-pub(crate) fn turn_right(piece: &Piece, pair: Pair, first: usize, last: usize) -> Option<i32>
-    requires order { first ≤ last }
-    requires few { last < 128 }
-    ensures size { IfSome result (IsWithin 1) }
-    ensures part { IfSome result (λ t. IsPartTo pair first (last + 1) (span_of piece.now) (Some t)) }
+fn turn_right(piece: &Piece, pair: Pair) -> Steady
+    requires { HasAll (λ e. (place_in pair 127).x <ℤ e.x) (span_of piece.now) }
+    ensures { IsSteady pair (span_of piece.now) result.first result.end result.turn }
 {
-    if !is_after(piece, Axis::X, pair.place(127)) {
-        return None;
+    let a = places_below(pair, piece.a);
+    let c = places_below(pair, piece.c);
+    if a < c {
+        return Steady {
+            first: a,
+            end: c,
+            turn: 1,
+        };
     }
-    let low = pair.place(first);
-    let high = pair.place(last);
-    if is_passed(piece.a.y, low.y, high.y) {
-        return None;
+    Steady {
+        first: c,
+        end: a,
+        turn: -1,
     }
-    if is_passed(piece.c.y, low.y, high.y) {
-        return None;
-    }
-    Some(i32::from(low.y < piece.c.y) - i32::from(low.y < piece.a.y))
 }
 
 /// What a piece adds at all places, if it lies beside them: nothing if it is above, below or left of them.
 #[inline(always)]
-pub(crate) fn turn_beside(piece: &Piece, pair: Pair) -> Option<i32>
-    ensures size { IfSome result (IsWithin 1) }
-    ensures part { IfSome result (λ t. IsPartTo pair 0 128 (span_of piece.now) (Some t)) }
+pub(crate) fn turn_beside(piece: &Piece, pair: Pair) -> Option<Steady>
+    ensures { IfSome result (λ r. IsSteady pair (span_of piece.now) r.first r.end r.turn) }
 {
+    let nothing = Steady {
+        first: 0,
+        end: 0,
+        turn: 0,
+    };
     let first = pair.place(0);
-    if is_after(piece, Axis::Y, pair.place(127)) {
-        return Some(0);
+    let last = pair.place(127);
+    if is_after(piece, Axis::Y, last) {
+        return Some(nothing);
     }
     if is_before(piece, Axis::Y, first) {
-        return Some(0);
+        return Some(nothing);
     }
     if is_before(piece, Axis::X, first) {
-        return Some(0);
+        return Some(nothing);
     }
-    turn_right(piece, pair, 0, 127)
+    if !is_after(piece, Axis::X, last) {
+        return None;
+    }
+    Some(turn_right(piece, pair))
 }

@@ -6,6 +6,7 @@
 //! dot between four centres, which meets no segment from one centre to a neighbour's, is still lost.
 #![tactic(auto)]
 
+mod along;
 mod beside;
 mod chooser;
 mod closing;

@@ -6,16 +6,10 @@
 ghost use Rattle.std.specs.Prelude.{◌≡◌, ◌↔◌, ◌+◌, ◌≤◌, ◌<◌, ◌^◌, pos, ◌+ℤ◌, ◌<ℤ◌, IsTrue, Some, IfSome};
 ghost use Rattle.fx_fixed.specs.Ranges.{IsWithin};
 ghost use Rattle.fx_winding.specs.Winding.{place_of, span_of, areas_of};
-ghost use Rattle.fx_dropout.specs.inner.Runs.{HaveOneSign, IsBelowTo, IsClear, IsPart, IsPartTo, IsPassed, IsRegionTo, place_in, gap_at};
+ghost use Rattle.fx_dropout.specs.inner.Runs.{HaveOneSign, IsBelowTo, IsClear, IsPart, IsPartTo, IsRegionTo, place_in, gap_at};
 
-use crate::beside::{is_passed, turn_right};
-use crate::pair::Pair;
-use fx_winding::{
-    Piece, Point, Tally, Weights, areas, crossing, curve_gap, difference, on_piece, region, sign_of,
-};
-
-/// How many places of a segment are looked at: the centre of its first pixel, and the 127 between the two centres.
-pub(crate) const PLACES: usize = 128;
+use crate::along::{Along, PLACES};
+use fx_winding::{Piece, Point, Tally, Weights, crossing, curve_gap, on_piece, region, sign_of};
 
 /// Places of a segment.
 #[derive(Clone, Copy)]
@@ -24,18 +18,6 @@ struct PlaceRun {
     last: usize,
     ghost order: { first < last },
     ghost few: { last < 128 },
-}
-
-/// The areas of a place of a segment with each two of a piece's points.
-#[inline(always)]
-fn areas_at(piece: &Piece, pair: Pair, n: usize, tally: &mut Tally) -> Weights
-    requires { n < 128 }
-    ensures value { (result.u, result.v, result.w) ≡ areas_of (span_of piece.now) (place_in pair n) }
-    ensures count { tally.new.count ≤ tally.old.count + 1 }
-{
-    let p = pair.place(n);
-    let (u, v, w) = areas(piece, p.x, p.y, tally);
-    Weights { u, v, w }
 }
 
 /// Whether two numbers are above 0, or both below.
@@ -68,45 +50,29 @@ fn is_on_side(at: Weights) -> bool
 
 /// Whether the gap of a piece, below 0 at both ends of a run, is seen to stay below: it does not grow from one of the ends inward,
 /// and along a line it bends down.
-fn stays_below(
-    piece: &Piece,
-    pair: Pair,
-    run: PlaceRun,
-    first: i128,
-    last: i128,
-    tally: &mut Tally,
-) -> bool
-    requires first { first ≡ gap_at (span_of piece.now) (place_in pair run.first) }
-    requires last { last ≡ gap_at (span_of piece.now) (place_in pair run.last) }
+fn stays_below(along: &Along<'_>, run: PlaceRun, first: i128, last: i128) -> bool
+    requires first { first ≡ gap_at (span_of along.now.piece.now) (place_in along.now.pair run.first) }
+    requires last { last ≡ gap_at (span_of along.now.piece.now) (place_in along.now.pair run.last) }
     requires first_size { IsWithin (2 ^ 97) first }
     requires last_size { IsWithin (2 ^ 97) last }
     requires first_below { first <ℤ pos 0 }
     requires last_below { last <ℤ pos 0 }
-    ensures below { IsTrue result → IsBelowTo pair run.first run.last (span_of piece.now) }
-    ensures count { tally.new.count ≤ tally.old.count + 2 }
+    ensures { IsTrue result → IsBelowTo along.now.pair run.first run.last (span_of along.now.piece.now) }
 {
-    if curve_gap(areas_at(piece, pair, run.first + 1, tally)) <= first {
+    if curve_gap(along.areas(run.first + 1)) <= first {
         return true;
     }
-    curve_gap(areas_at(piece, pair, run.last - 1, tally)) <= last
+    curve_gap(along.areas(run.last - 1)) <= last
 }
 
 /// What the region of an arc adds at each place of a run on one side of its chord, if the run is seen to lie beyond the chord,
 /// within the arc or outside it, by the areas at its ends.
-fn region_along(
-    piece: &Piece,
-    pair: Pair,
-    run: PlaceRun,
-    p: Weights,
-    q: Weights,
-    tally: &mut Tally,
-) -> Option<i32>
-    requires clear { IsClear pair run.first run.last (span_of piece.now) }
-    requires first { (p.u, p.v, p.w) ≡ areas_of (span_of piece.now) (place_in pair run.first) }
-    requires last { (q.u, q.v, q.w) ≡ areas_of (span_of piece.now) (place_in pair run.last) }
+fn region_along(along: &Along<'_>, run: PlaceRun, p: Weights, q: Weights) -> Option<i32>
+    requires clear { IsClear along.now.pair run.first run.last (span_of along.now.piece.now) }
+    requires first { (p.u, p.v, p.w) ≡ areas_of (span_of along.now.piece.now) (place_in along.now.pair run.first) }
+    requires last { (q.u, q.v, q.w) ≡ areas_of (span_of along.now.piece.now) (place_in along.now.pair run.last) }
     ensures size { IfSome result (IsWithin 1) }
-    ensures region { IfSome result (IsRegionTo pair run.first run.last (span_of piece.now)) }
-    ensures count { tally.new.count ≤ tally.old.count + 2 }
+    ensures region { IfSome result (IsRegionTo along.now.pair run.first run.last (span_of along.now.piece.now)) }
 {
     if !is_on_side(p) {
         return Some(0);
@@ -125,68 +91,57 @@ fn region_along(
     if last >= 0 {
         return None;
     }
-    if !stays_below(piece, pair, run, first, last, tally) {
+    if !stays_below(along, run, first, last) {
         return None;
     }
     Some(0)
 }
 
-/// Whether no end of a piece is passed in a run, and its first and last place are on one side of the piece's chord.
-fn is_clear(piece: &Piece, pair: Pair, run: PlaceRun, p: Weights, q: Weights) -> bool
-    requires first { (p.u, p.v, p.w) ≡ areas_of (span_of piece.now) (place_in pair run.first) }
-    requires last { (q.u, q.v, q.w) ≡ areas_of (span_of piece.now) (place_in pair run.last) }
-    ensures { IsTrue result → IsClear pair run.first run.last (span_of piece.now) }
+/// Whether the places of a run are some below an end of a piece and some not.
+fn is_passed(below: usize, run: PlaceRun) -> bool
+    ensures { IsTrue result ↔ ((run.first < below) × (below ≤ run.last)) }
 {
-    let low = pair.place(run.first);
-    let high = pair.place(run.last);
-    if is_passed(piece.a.y, low.y, high.y) {
+    if run.first >= below {
         return false;
     }
-    if is_passed(piece.c.y, low.y, high.y) {
+    below <= run.last
+}
+
+/// Whether no end of a piece is passed in a run, and its first and last place are on one side of the piece's chord.
+fn is_clear(along: &Along<'_>, run: PlaceRun, p: Weights, q: Weights) -> bool
+    requires first { (p.u, p.v, p.w) ≡ areas_of (span_of along.now.piece.now) (place_in along.now.pair run.first) }
+    requires last { (q.u, q.v, q.w) ≡ areas_of (span_of along.now.piece.now) (place_in along.now.pair run.last) }
+    ensures { IsTrue result → IsClear along.now.pair run.first run.last (span_of along.now.piece.now) }
+{
+    if is_passed(along.below_a, run) {
+        return false;
+    }
+    if is_passed(along.below_c, run) {
         return false;
     }
     have_one_sign(p.v, q.v)
 }
 
 /// What a piece adds at each place of a run, if it is seen to be one number. `p` are its areas at the first place.
-fn turn_along(
-    piece: &Piece,
-    pair: Pair,
-    run: PlaceRun,
-    p: Weights,
-    tally: &mut Tally,
-) -> Option<i32>
-    requires first { (p.u, p.v, p.w) ≡ areas_of (span_of piece.now) (place_in pair run.first) }
-    ensures part { IfSome result (λ t. IsPartTo pair run.first (run.last + 1) (span_of piece.now) (Some t)) }
-    ensures count { tally.new.count ≤ tally.old.count + 4 }
+fn turn_along(along: &Along<'_>, run: PlaceRun, p: Weights) -> Option<i32>
+    requires first { (p.u, p.v, p.w) ≡ areas_of (span_of along.now.piece.now) (place_in along.now.pair run.first) }
+    ensures { IfSome result (λ t. IsPartTo along.now.pair run.first (run.last + 1) (span_of along.now.piece.now) (Some t)) }
 {
-    let q = areas_at(piece, pair, run.last, tally);
-    if !is_clear(piece, pair, run, p, q) {
+    let q = along.areas(run.last);
+    if !is_clear(along, run, p, q) {
         return None;
     }
-    let first = pair.place(run.first);
-    let crossed = crossing(piece, first.x, first.y, tally);
-    match region_along(piece, pair, run, p, q, tally) {
+    let crossed = along.crossing(run.first, p.v);
+    match region_along(along, run, p, q) {
         None => None,
         Some(added) => Some(crossed + added),
-    }
-}
-
-/// How the area of a place with a piece's ends changes from place to place.
-fn chord_step(piece: &Piece, is_up: bool) -> i64
-    ensures { IsWithin (2 ^ 23) result }
-{
-    if is_up {
-        difference(piece.a.x, piece.c.x)
-    } else {
-        difference(piece.c.y, piece.a.y)
     }
 }
 
 /// How often a step can be added to a number before it reaches 0, counting the start; at most 128.
 fn steps_to_zero(number: i64, step: i64) -> usize
     requires number { IsWithin (2 ^ 47) number }
-    requires step { IsWithin (2 ^ 23) step }
+    requires step { IsWithin (2 ^ 47) step }
     ensures { 0 < result }
 {
     if number == 0 {
@@ -199,54 +154,26 @@ fn steps_to_zero(number: i64, step: i64) -> usize
     (most / step.unsigned_abs() + 1).min(128) as usize
 }
 
-/// How many of `most` places, from one at the height y on, come before the height of a point; all of them if the first does not.
-fn places_to_end(end: Point, y: i32, most: usize) -> usize
-    requires near { IsWithin (2 ^ 22) y }
+/// How many of `most` places, from the place n on, come before the first one not below an end; all of them if the place n does not.
+fn places_to_end(below: usize, n: usize, most: usize) -> usize
     requires some { 0 < most }
     ensures some { 0 < result }
     ensures few { result ≤ most }
 {
-    let far = end.y - y;
-    if far <= 0 {
-        most
-    } else {
-        most.min(far as usize)
-    }
+    if n < below { most.min(below - n) } else { most }
 }
 
-/// How many places from the place n on come before the height of the next of a piece's ends; all of them in a row.
-fn places_to_ends(piece: &Piece, pair: Pair, n: usize) -> usize
-    requires before { n < 128 }
-    ensures some { 0 < result }
-    ensures few { n + result ≤ 128 }
-{
-    let most = PLACES - n;
-    if !pair.is_up {
-        return most;
-    }
-    let y = pair.place(n).y;
-    places_to_end(piece.c, y, places_to_end(piece.a, y, most))
-}
-
-/// Whether two numbers are above 0, both below, or both 0.
+/// Whether two numbers are above 0, or both below.
 fn are_alike(a: i128, b: i128) -> bool {
-    (a > 0) == (b > 0) && (a < 0) == (b < 0)
+    if a > 0 { b > 0 } else { b < 0 }
 }
 
 /// How many of `count` places, from the place n on, come before the arc, as a guess: before the gap's sign changes, if it does.
 /// `at` are the areas of the place n.
-fn places_to_arc(
-    piece: &Piece,
-    pair: Pair,
-    n: usize,
-    at: Weights,
-    count: usize,
-    tally: &mut Tally,
-) -> usize
+fn places_to_arc(along: &Along<'_>, n: usize, at: Weights, count: usize) -> usize
     requires some { 0 < count }
     requires few { n + count ≤ 128 }
-    ensures few { result ≤ count }
-    ensures count { tally.new.count ≤ tally.old.count + 7 }
+    ensures { result ≤ count }
 {
     let gap = curve_gap(at);
     let mut low = 0;
@@ -257,7 +184,7 @@ fn places_to_arc(
             return high;
         }
         let middle = (low + high) / 2;
-        if are_alike(gap, curve_gap(areas_at(piece, pair, n + middle, tally))) {
+        if are_alike(gap, curve_gap(along.areas(n + middle))) {
             low = middle;
         } else {
             high = middle;
@@ -287,22 +214,20 @@ pub(crate) struct Stretch {
 
 /// What a piece adds at the place n, and at how many places from there on it is seen to add that.
 #[inline(always)]
-pub(crate) fn next_stretch(piece: &Piece, pair: Pair, n: usize, tally: &mut Tally) -> Stretch
+pub(crate) fn next_stretch(along: &Along<'_>, n: usize, tally: &mut Tally) -> Stretch
     requires before { n < 128 }
     ensures some { 0 < result.count }
     ensures few { n + result.count ≤ 128 }
-    ensures part { IsPartTo pair n (n + result.count) (span_of piece.now) result.turn }
-    ensures count { tally.new.count ≤ tally.old.count + 31 }
+    ensures part { IsPartTo along.now.pair n (n + result.count) (span_of along.now.piece.now) result.turn }
+    ensures count { tally.new.count ≤ tally.old.count + 3 }
 {
-    let most = places_to_ends(piece, pair, n);
-    if let Some(turn) = turn_right(piece, pair, n, n + most - 1) {
-        return Stretch {
-            count: most,
-            turn: Some(turn),
-        };
-    }
-    let at = areas_at(piece, pair, n, tally);
-    let mut count = steps_to_zero(at.v, chord_step(piece, pair.is_up)).min(most);
+    let most = places_to_end(
+        along.below_c,
+        n,
+        places_to_end(along.below_a, n, PLACES - n),
+    );
+    let at = along.areas(n);
+    let mut count = steps_to_zero(at.v, along.step.v).min(most);
     // The next try is `count` places.
     'tries: for tries in 0..5usize {
         if count <= 1 {
@@ -312,20 +237,20 @@ pub(crate) fn next_stretch(piece: &Piece, pair: Pair, n: usize, tally: &mut Tall
             first: n,
             last: n + count - 1,
         };
-        if let Some(turn) = turn_along(piece, pair, run, at, tally) {
+        if let Some(turn) = turn_along(along, run, at) {
             return Stretch {
                 count,
                 turn: Some(turn),
             };
         }
         count = if tries == 0 {
-            places_to_arc(piece, pair, n, at, count, tally)
+            places_to_arc(along, n, at, count)
         } else {
             count / 4
         };
     }
     Stretch {
         count: 1,
-        turn: turn_at(piece, pair.place(n), tally),
+        turn: turn_at(along.piece, along.pair.place(n), tally),
     }
 }

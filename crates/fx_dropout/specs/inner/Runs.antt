@@ -1,5 +1,5 @@
 -- What a piece adds at places of the segment between two neighbours.
-use Rattle.std.specs.Prelude.{◌≡◌, ◌⊎◌, ℕ, ◌≤◌, ◌<◌, ◌^◌, ℤ, pos, ◌+ℤ◌, ◌-ℤ◌, ◌≤ℤ◌, ◌<ℤ◌, List, Option, Some, None, Any}
+use Rattle.std.specs.Prelude.{◌≡◌, ◌⊎◌, ◌↔◌, ℕ, ◌+◌, ◌≤◌, ◌<◌, ◌^◌, Bool, true, false, ℤ, pos, ◌+ℤ◌, ◌-ℤ◌, ◌≤ℤ◌, ◌<ℤ◌, List, Option, Some, None, Any}
 use Rattle.fx_fixed.specs.Ranges.{IsWithin}
 use Rattle.fx_fixed.specs.declared.places.Axis.{Axis}
 use Rattle.fx_fixed.specs.declared.places.Axis.TheVariants.{X, Y}
@@ -26,6 +26,28 @@ IsPartTo pair first end s part = (n : ℕ) → first ≤ n → n < end → IsPar
 abbrev pub coordinate_of : Axis → Place → ℤ
 coordinate_of X p = p.x
 coordinate_of Y p = p.y
+
+-- ---- a piece seen from the places of a segment
+-- the places below the height y are the first `count` ones
+abbrev pub AreBelow : Pair → ℤ → ℕ → Type 0
+AreBelow pair y count = (n : ℕ) → n < 128 → (n < count) ↔ ((place_in pair n).y <ℤ y)
+
+-- how the area of a place with b and c changes from place to place, and all areas of a place with a piece's points
+abbrev pub step_of : Bool → Place → Place → ℤ
+step_of false b c = b.y -ℤ c.y
+step_of true b c = c.x -ℤ b.x
+
+abbrev pub part_steps : Bool → Place → Option Place → Place → ℤ × ℤ × ℤ
+part_steps up a None c = (pos 0, step_of up c a, pos 0)
+part_steps up a (Some b) c = (step_of up b c, step_of up c a, step_of up a b)
+
+abbrev pub area_steps : Bool → Span → ℤ × ℤ × ℤ
+area_steps up s = part_steps up s.a s.b s.c
+
+-- the piece adds one number at the places from `first` to before `end`, and nothing at the others
+pub record IsSteady (pair : Pair) (s : Span) (first end : ℕ) (turn : ℤ) : Type 0 where
+  pub inside : IsPartTo pair first end s (Some turn)
+  pub outside : (n : ℕ) → n < 128 → (n < first) ⊎ (end ≤ n) → IsPart (place_in pair n) s (Some (pos 0))
 
 -- ---- runs
 -- two numbers are above 0, or both below
@@ -71,8 +93,6 @@ pub record IsJoined (p : Place) (s : Span) (old new : ℤ) : Type 0 where
   pub is : IsPart p s part
   pub sum : new ≡ sum_of old part
 
--- what pieces add at a place is known, as its own number v and one that all places have in common: a piece is there, and v is near
--- the mark; or their sum is the winding number
-pub record IsSummed (p : Place) (ss : List Span) (k : ℕ) (v common : ℤ) : Type 0 where
-  pub few : IsWithin k common
-  pub known : (Any (IsOn p) ss × IsWithin k (v -ℤ mark)) ⊎ ((¬ (Any (IsOn p) ss)) × IsWithin k v × (v +ℤ common ≡ winding p ss))
+-- what pieces add at a place is known, as a number v: a piece is there, and v is near the mark; or v is the winding number
+pub record IsSummed (p : Place) (ss : List Span) (k : ℕ) (v : ℤ) : Type 0 where
+  pub known : (Any (IsOn p) ss × IsWithin k (v -ℤ mark)) ⊎ ((¬ (Any (IsOn p) ss)) × IsWithin k v × (v ≡ winding p ss))

@@ -2,7 +2,9 @@ use Rattle.std.proofs.Common.{inl, inr, sym, ◌∙◌, ap, subst, ◌+◌, ◌�
 use Rattle.fx_fixed.proofs.Order.{below_or_not}
 use Rattle.fx_winding.specs.Area.{Place}
 use Rattle.fx_winding.specs.Winding.{span_of}
-use Rattle.fx_dropout.specs.inner.Runs.{place_in, sum_of, IsJoined}
+use Rattle.fx_winding.specs.declared.point.Piece.{Piece}
+use Rattle.fx_dropout.specs.declared.pair.Pair.{Pair}
+use Rattle.fx_dropout.specs.inner.Runs.{place_in, sum_of, IsJoined, IsPart}
 use Rattle.fx_dropout.proofs.places.add_parts.Goals as goal
 
 pub parts-preserved : goal.parts-preserved
@@ -24,7 +26,8 @@ parts-preserved c =
     let late : (k : ℕ) → n ≤ k → k < n + count → IsJoined (P k) s (get_or old k (pos 0)) (get_or new k (pos 0)) =
     λ k low high. record {
       part = stretch.result.turn;
-      is = stretch.ensures.part k low high;
+      is = subst (λ (z : Pair × Piece). IsPart (place_in z.0 k) (span_of z.1) stretch.result.turn)
+          (λ i. (c.new-along.ensures.pair i, c.new-along.ensures.piece i)) (stretch.ensures.part k low high);
       sum = c.add_run.ensures.run k low high ∙ ap (λ v. sum_of v stretch.result.turn) (inv.others k low);
     } in
     record {

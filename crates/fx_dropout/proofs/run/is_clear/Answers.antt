@@ -1,17 +1,19 @@
-use Rattle.std.proofs.Common.{◌∙◌, ap, subst, ℤ}
+use Rattle.std.proofs.Common.{◌∙◌, ap, subst, ℤ, arith}
+use Rattle.fx_winding.proofs.Places.{clash}
 use Rattle.fx_dropout.specs.inner.Runs.{HaveOneSign}
 use Rattle.fx_dropout.proofs.Runs.{area_word, not_passed}
 use Rattle.fx_dropout.proofs.run.is_clear.Goals as goal
 
 pub returns : goal.returns
 returns c = λ t.
-    let s = c.args.piece.now in
+    let a = c.args.along.now in
+    let r = c.args.run in
     let from = area_word c.args.p.v c.args.p.near_v ∙ ap (λ (x : ℤ × ℤ × ℤ). x.1) c.requires.first in
     let to = area_word c.args.q.v c.args.q.near_v ∙ ap (λ (x : ℤ × ℤ × ℤ). x.1) c.requires.last in
     record {
-      start = not_passed c.is_passed.result s.a c.place-low.result c.place-high.result _ _ c.place-low.ensures
-          c.place-high.ensures c.is_passed.ensures c.if-is_passed.false;
-      end = not_passed c.is_passed-2.result s.c c.place-low.result c.place-high.result _ _ c.place-low.ensures
-          c.place-high.ensures c.is_passed-2.ensures c.if-is_passed-2.false;
+      start = not_passed a.pair _ a.below_a r.first r.last a.a (omega (arith, r.order, r.few)) r.few
+          (λ h. clash c.is_passed.result c.if-is_passed.false (c.is_passed.ensures.1 h));
+      end = not_passed a.pair _ a.below_c r.first r.last a.c (omega (arith, r.order, r.few)) r.few
+          (λ h. clash c.is_passed-2.result c.if-is_passed-2.false (c.is_passed-2.ensures.1 h));
       side = subst (λ (z : ℤ × ℤ). HaveOneSign z.0 z.1) (λ i. (from i, to i)) (c.have_one_sign.ensures.0 t);
     }

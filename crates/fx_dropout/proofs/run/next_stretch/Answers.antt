@@ -6,15 +6,10 @@ use Rattle.fx_dropout.proofs.run.next_stretch.Goals as goal
 
 pub returns-in-Some-clause-part : goal.returns-in-Some-clause-part
 returns-in-Some-clause-part c = λ n low high.
-    part_as_stored _ (span_of c.args.piece.now) c.in-Some.turn (c.in-Some.ensures.part n low (omega (arith, high)))
-
-pub returns-in-Some-turn_along-clause-part : goal.returns-in-Some-turn_along-clause-part
-returns-in-Some-turn_along-clause-part c = λ n low high.
-    part_as_stored _ (span_of c.args.piece.now) c.in-Some-turn_along.turn
-    (c.in-Some-turn_along.ensures.part n low (omega (arith, high)))
+    part_as_stored _ (span_of c.args.along.now.piece.now) c.in-Some.turn (c.in-Some.ensures n low (omega (arith, high)))
 
 pub returns-clause-part : goal.returns-clause-part
 returns-clause-part c =
-    let s = span_of c.args.piece.now in
-    part_alone c.args.pair c.args.n s c.turn_at.result
+    let s = span_of c.args.along.now.piece.now in
+    part_alone c.args.along.now.pair c.args.n s c.turn_at.result
     (subst (λ p. IsPart p s c.turn_at.result) c.place.ensures c.turn_at.ensures.part)

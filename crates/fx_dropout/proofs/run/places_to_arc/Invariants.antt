@@ -1,4 +1,4 @@
-use Rattle.std.proofs.Common.{◌+◌, ◌≤◌, ◌<◌}
+use Rattle.std.proofs.Common.{◌≤◌, ◌<◌}
 use Rattle.fx_dropout.proofs.run.places_to_arc.Given as goal
 
 abbrev pub invariant-halves : goal.invariant-halves
@@ -6,5 +6,4 @@ invariant-halves l = record {
   order : l.low ≤ l.high;
   low : l.low < l.count;
   few : l.high ≤ l.count;
-  tests : l.tally.count ≤ l.fn.tally.count + l._step;
 }

@@ -16,17 +16,17 @@ le_read x y x' y' h k ex ey t =
     let l : to_z w128 (of_z w128 x) ≤ℤ to_z w128 (of_z w128 y) = omega (arith, ints) in
     omega (arith, signed_linear, e, f, l, ex, ey)
 
-pub returns-then-curve_gap-first-clause-below : goal.returns-then-curve_gap-first-clause-below
-returns-then-curve_gap-first-clause-below c = λ t n low high.
-    below_along c.args.pair c.args.run.first n (span_of c.args.piece.now)
+pub returns-then-curve_gap-first : goal.returns-then-curve_gap-first
+returns-then-curve_gap-first c = λ t n low high.
+    below_along c.args.along.now.pair c.args.run.first n (span_of c.args.along.now.piece.now)
     (subst (λ z. z <ℤ pos 0) c.requires.first c.requires.first_below)
     (le_read _ _ _ _ c.curve_gap.ensures.size c.requires.first_size
-    (c.curve_gap.ensures.value ∙ ap (λ (x : ℤ × ℤ × ℤ). gap_of x.0 x.1 x.2) c.areas_at.ensures.value) c.requires.first
+    (c.curve_gap.ensures.value ∙ ap (λ (x : ℤ × ℤ × ℤ). gap_of x.0 x.1 x.2) c.areas.ensures) c.requires.first
     c.if-curve_gap-first.true) low
 
-pub returns-clause-below : goal.returns-clause-below
-returns-clause-below c = λ t n low high.
-    below_back c.args.pair c.args.run.last (c.args.run.last - 1) n (span_of c.args.piece.now)
+pub returns : goal.returns
+returns c = λ t n low high.
+    below_back c.args.along.now.pair c.args.run.last (c.args.run.last - 1) n (span_of c.args.along.now.piece.now)
     (subst (λ z. z <ℤ pos 0) c.requires.last c.requires.last_below) (omega arith)
     (le_read _ _ _ _ c.curve_gap-2.ensures.size c.requires.last_size
-    (c.curve_gap-2.ensures.value ∙ ap (λ (x : ℤ × ℤ × ℤ). gap_of x.0 x.1 x.2) c.areas_at-2.ensures.value) c.requires.last t) high
+    (c.curve_gap-2.ensures.value ∙ ap (λ (x : ℤ × ℤ × ℤ). gap_of x.0 x.1 x.2) c.areas-2.ensures) c.requires.last t) high
