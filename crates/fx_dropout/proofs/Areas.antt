@@ -71,9 +71,9 @@ are_words s p t e =
     (as_word t.0 _ (λ i. (f i).0) h.0, as_word t.1 _ (λ i. (f i).1) h.1, as_word t.2 _ (λ i. (f i).2) h.2)
 
 -- those of a place of a segment, from those of its first place
-stepped : (x u d : ℤ) (n : ℕ) → IsWithin 140737488355328 u → IsWithin 140737488355328 d
+moved_on : (x u d : ℤ) (n : ℕ) → IsWithin 140737488355328 u → IsWithin 140737488355328 d
     → x ≡ to_z w64 (of_z w64 u) +ℤ pos n *ℤ to_z w64 (of_z w64 d) → x ≡ u +ℤ pos n *ℤ d
-stepped x u d n h k e = e ∙ (λ i. area_word u h i +ℤ pos n *ℤ area_word d k i)
+moved_on x u d n h k e = e ∙ (λ i. area_word u h i +ℤ pos n *ℤ area_word d k i)
 
 pub are_stepped : (a : Along) (n : ℕ) (x y z : ℤ) → n < 128
     → x ≡ to_z w64 (of_z w64 a.start.u) +ℤ pos n *ℤ to_z w64 (of_z w64 a.step.u)
@@ -90,9 +90,9 @@ are_stepped a n x y z few i j k = (as_word x _ (λ t. (all t).0) h.0, as_word y 
 
     e : (x, y, z) ≡ moved_by (a.start.u, a.start.v, a.start.w) (pos n) (a.step.u, a.step.v, a.step.w)
     e = λ t. (
-      stepped x a.start.u a.step.u n a.start.near_u a.step.near_u i t,
-      stepped y a.start.v a.step.v n a.start.near_v a.step.near_v j t,
-      stepped z a.start.w a.step.w n a.start.near_w a.step.near_w k t,
+      moved_on x a.start.u a.step.u n a.start.near_u a.step.near_u i t,
+      moved_on y a.start.v a.step.v n a.start.near_v a.step.near_v j t,
+      moved_on z a.start.w a.step.w n a.start.near_w a.step.near_w k t,
     )
 
     all : (x, y, z) ≡ areas_of (span_of s) (place_in a.pair n)

@@ -100,7 +100,8 @@ pub(crate) fn add_pieces(pieces: &[Piece], pair: Pair, places: &mut [i32], tally
     requires room { length places.old ≡ 128 }
     requires none { (n : ℕ) → n < 128 → get_or places.old n (pos 0) ≡ pos 0 }
     ensures length { length places.new ≡ 128 }
-    ensures summed { (n : ℕ) → n < 128 → IsSummed (place_in pair n) (map span_of pieces.now) (2 ^ 18) (get_or places.new n (pos 0)) }
+    ensures summed { (n : ℕ) → n < 128 →
+        IsSummed (place_in pair n) (map span_of pieces.now) (2 ^ 18) (get_or places.new n (pos 0)) }
     ensures count { tally.new.count ≤ tally.old.count + 31 * 128 * length pieces.now }
 {
     // What the pieces before this one add is known at each place.
