@@ -431,42 +431,23 @@ part_right pair n s t few h small is = (
         (λ e k. let c = columns_along pair.is_up pair.here.col pair.here.row n 127 (omega (arith, few)) in
         omega (arith, signed_linear, c, k)) s h
 
-turns : (p a c t : ℤ) (n j k : ℕ) → (n < j ↔ p <ℤ a) → (n < k ↔ p <ℤ c) → ((j ≤ n) × (n < k) × (t ≡ pos 1)) ⊎
-    (((k ≤ n) × (n < j) × (t ≡ negsuc 0)) ⊎ (((n < j) × (n < k) × (t ≡ pos 0)) ⊎ ((j ≤ n) × (k ≤ n) × (t ≡ pos 0))))
-    → (IsWithin 1 t) × (t ≡ above p c -ℤ above p a)
-turns p a c t n j k h l o = grind (arith, ints, h, l, o)
+turns : (p a c t : ℤ) (n j k first end : ℕ) → (n < j ↔ p <ℤ a) → (n < k ↔ p <ℤ c) → first ≤ end
+    → ((first ≡ j) × (end ≡ k) × (t ≡ pos 1)) ⊎ ((first ≡ k) × (end ≡ j) × (t ≡ negsuc 0))
+    → (first ≤ n → n < end → t ≡ above p c -ℤ above p a) × ((n < first) ⊎ (end ≤ n) → pos 0 ≡ above p c -ℤ above p a)
+turns p a c t n j k first end h l order o = grind (arith, ints, h, l, order, o)
 
-pub rising_right : (pair : Pair) (s : Span) (j k : ℕ) → AreBelow pair s.a.y j → AreBelow pair s.c.y k → k ≤ 128
-    → HasAll (λ e. (place_in pair 127).x <ℤ e.x) s → j ≤ k → IsSteady pair s j k (pos 1)
-rising_right pair s j k a c few h order = record {
-  inside = λ n low high. by n (pos 1) (omega (arith, few, high)) (inl (low, high, refl));
-  outside = λ n l o. by n (pos 0) l (elim o [
-    | inl e ↦ inr (inr (inl (e, omega (arith, e, order), refl)))
-    | inr e ↦ inr (inr (inr (omega (arith, e, order), e, refl)))
-  ]);
+pub steady_right : (pair : Pair) (s : Span) (t : ℤ) (j k first end : ℕ) → AreBelow pair s.a.y j → AreBelow pair s.c.y k → end ≤ 128
+    → HasAll (λ e. (place_in pair 127).x <ℤ e.x) s → first ≤ end
+    → ((first ≡ j) × (end ≡ k) × (t ≡ pos 1)) ⊎ ((first ≡ k) × (end ≡ j) × (t ≡ negsuc 0)) → IsSteady pair s first end t
+steady_right pair s t j k first end a c few h order o = record {
+  inside = λ n low high. let l : n < 128 = omega (arith, few, high) in
+      part_right pair n s t l h (grind (arith, signed_linear, o)) ((by n l).0 low high);
+  outside = λ n l z. part_right pair n s (pos 0) l h (omega (arith, signed_linear), omega (arith, signed_linear)) ((by n l).1 z);
 }
   where
-    by : (n : ℕ) (t : ℤ) → n < 128 → ((j ≤ n) × (n < k) × (t ≡ pos 1)) ⊎
-        (((k ≤ n) × (n < j) × (t ≡ negsuc 0)) ⊎ (((n < j) × (n < k) × (t ≡ pos 0)) ⊎ ((j ≤ n) × (k ≤ n) × (t ≡ pos 0))))
-        → IsPart (place_in pair n) s (Some t)
-    by n t l o =
-        let z = turns (place_in pair n).y s.a.y s.c.y t n j k (a n l) (c n l) o in part_right pair n s t l h z.0 z.1
-
-pub falling_right : (pair : Pair) (s : Span) (j k : ℕ) → AreBelow pair s.a.y j → AreBelow pair s.c.y k → j ≤ 128
-    → HasAll (λ e. (place_in pair 127).x <ℤ e.x) s → k ≤ j → IsSteady pair s k j (negsuc 0)
-falling_right pair s j k a c few h order = record {
-  inside = λ n low high. by n (negsuc 0) (omega (arith, few, high)) (inr (inl (low, high, refl)));
-  outside = λ n l o. by n (pos 0) l (elim o [
-    | inl e ↦ inr (inr (inl (omega (arith, e, order), e, refl)))
-    | inr e ↦ inr (inr (inr (e, omega (arith, e, order), refl)))
-  ]);
-}
-  where
-    by : (n : ℕ) (t : ℤ) → n < 128 → ((j ≤ n) × (n < k) × (t ≡ pos 1)) ⊎
-        (((k ≤ n) × (n < j) × (t ≡ negsuc 0)) ⊎ (((n < j) × (n < k) × (t ≡ pos 0)) ⊎ ((j ≤ n) × (k ≤ n) × (t ≡ pos 0))))
-        → IsPart (place_in pair n) s (Some t)
-    by n t l o =
-        let z = turns (place_in pair n).y s.a.y s.c.y t n j k (a n l) (c n l) o in part_right pair n s t l h z.0 z.1
+    by : (n : ℕ) → n < 128 → (first ≤ n → n < end → t ≡ above (place_in pair n).y s.c.y -ℤ above (place_in pair n).y s.a.y)
+        × ((n < first) ⊎ (end ≤ n) → pos 0 ≡ above (place_in pair n).y s.c.y -ℤ above (place_in pair n).y s.a.y)
+    by n l = turns (place_in pair n).y s.a.y s.c.y t n j k first end (a n l) (c n l) order o
 
 -- a piece that adds nothing
 pub steady_none : (pair : Pair) (s : Span) → ((n : ℕ) → n < 128 → IsPart (place_in pair n) s (Some (pos 0)))
@@ -494,9 +475,11 @@ not_passed pair y k first last below l m n (p, q) = elim (below_or_not last k) [
   | inr h ↦ n ((below first l).1 p, h)
 ]
 
--- what a chord adds at a place, by the area of the place with the chord's ends
-pub rises : (a c p v w : ℤ) → a ≤ℤ p → p <ℤ c → w ≡ neg_ℤ v → v <ℤ pos 0 → crossing_number a c p w ≡ pos 1
-rises a c p v w h l e s = grind (arith, ints, h, l, e, s)
+-- what a chord adds at the place n, by how many places are below its ends, and the area of the place with the ends
+pub rises : (a c p v w t : ℤ) (n j k : ℕ) → (n < j ↔ p <ℤ a) → (n < k ↔ p <ℤ c) → w ≡ neg_ℤ v → v <ℤ pos 0
+    → ((j ≤ n) × (n < k) × (t ≡ pos 1)) ⊎ ((¬ ((j ≤ n) × (n < k))) × (t ≡ pos 0)) → t ≡ crossing_number a c p w
+rises a c p v w t n j k h l e s o = grind (arith, ints, h, l, e, s, o)
 
-pub falls : (a c p v w : ℤ) → c ≤ℤ p → p <ℤ a → w ≡ neg_ℤ v → pos 0 <ℤ v → crossing_number a c p w ≡ negsuc 0
-falls a c p v w h l e s = grind (arith, ints, h, l, e, s)
+pub falls : (a c p v w t : ℤ) (n j k : ℕ) → (n < j ↔ p <ℤ a) → (n < k ↔ p <ℤ c) → w ≡ neg_ℤ v → pos 0 <ℤ v
+    → ((k ≤ n) × (n < j) × (t ≡ negsuc 0)) ⊎ ((¬ ((k ≤ n) × (n < j))) × (t ≡ pos 0)) → t ≡ crossing_number a c p w
+falls a c p v w t n j k h l e s o = grind (arith, ints, h, l, e, s, o)

@@ -1,6 +1,6 @@
 -- A place is covered exactly if the numbers that pieces add there, one by one, do not come to 0: `covered_by`.
 -- Serves `places`.
-use Rattle.std.proofs.Common.{◌≡◌, ◌≢◌, ◌⊎◌, ◌↔◌, inl, inr, sym, ap, ◌∙◌, subst, ℕ, ◌+◌, ◌*◌, ◌<◌, ◌≤◌, ℤ, pos, ◌+ℤ◌, ◌-ℤ◌}
+use Rattle.std.proofs.Common.{◌≡◌, ◌≢◌, ◌⊎◌, ◌↔◌, inl, inr, sym, ap, ◌∙◌, subst, ℕ, ◌+◌, ◌*◌, ◌<◌, ◌≤◌, ℤ, pos, ◌+ℤ◌}
 use Rattle.std.proofs.Common.{Option, Some, None}
 use Rattle.std.proofs.Common.{List, [], ◌∷◌, ◌++◌, Any, length, take, get_or, arith}
 use Rattle.std.proofs.lemmas.List.{take_more}
@@ -11,7 +11,7 @@ use Rattle.fx_winding.specs.Meets.{turn}
 use Rattle.fx_winding.specs.Winding.{Span, IsOn, winding, IsCovered}
 use Rattle.fx_winding.proofs.Beside.{winding-append}
 use Rattle.fx_winding.proofs.Covers.{any_here, any_there, any_cases}
-use Rattle.fx_dropout.specs.inner.Runs.{IsJoined, IsPart, IsSummed, mark, sum_of}
+use Rattle.fx_dropout.specs.inner.Runs.{IsJoined, IsPart, IsSummed, sum_of}
 
 -- ---- one piece more at the end
 any_last : (P : Span → Type 0) (ss : List Span) (s : Span) → Any P (ss ++ s ∷ []) ↔ (Any P ss ⊎ P s)

@@ -1,4 +1,4 @@
-use Rattle.std.proofs.Common.{◌^◌, pos, ◌*ℤ◌, arith, w64, to_z}
+use Rattle.std.proofs.Common.{◌^◌, pos, arith, w64}
 use Rattle.std.proofs.lemmas.Int.{to_z-of_z, to_z_pos}
 use Rattle.fx_fixed.specs.Ranges.{IsWithin}
 use Rattle.fx_fixed.proofs.Linear.{signed_linear}

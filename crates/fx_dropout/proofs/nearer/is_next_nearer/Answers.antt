@@ -1,4 +1,4 @@
-use Rattle.std.proofs.Common.{◌≢◌, ◌↔◌, ◌+◌, ◌<◌, ◌≡◌, ℕ, pos, subst, map, List, get_or, arith}
+use Rattle.std.proofs.Common.{◌≢◌, ◌↔◌, ◌+◌, ◌<◌, ℕ, pos, subst, map, List, get_or, arith}
 use Rattle.std.proofs.lemmas.Bool.{lt-ltb, ltb-true}
 use Rattle.std.proofs.lemmas.List.{get_or-replicate}
 use Rattle.fx_winding.specs.declared.point.Piece.{Piece}
