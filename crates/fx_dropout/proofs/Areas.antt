@@ -80,7 +80,8 @@ pub are_stepped : (a : Along) (n : ℕ) (x y z : ℤ) → n < 128
     → y ≡ to_z w64 (of_z w64 a.start.v) +ℤ pos n *ℤ to_z w64 (of_z w64 a.step.v)
     → z ≡ to_z w64 (of_z w64 a.start.w) +ℤ pos n *ℤ to_z w64 (of_z w64 a.step.w)
     → let t = areas_of (span_of a.piece.now) (place_in a.pair n) in IsWord x t.0 × IsWord y t.1 × IsWord z t.2
-are_stepped a n x y z few i j k = (as_word x _ (λ t. (all t).0) h.0, as_word y _ (λ t. (all t).1) h.1, as_word z _ (λ t. (all t).2) h.2)
+are_stepped a n x y z few i j k =
+    (as_word x _ (λ t. (all t).0) h.0, as_word y _ (λ t. (all t).1) h.1, as_word z _ (λ t. (all t).2) h.2)
   where
     s : Piece
     s = a.piece.now
