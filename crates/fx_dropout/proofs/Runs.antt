@@ -58,7 +58,7 @@ none_back a c p e = let f = area_swap a c p in omega (arith, signed_linear, e, f
 
 -- ---- what the region adds at a place off the chord's line
 -- the areas of a place with a piece's ends
-middle_of : (a : Place) (b : Option Place) (c p : Place) → (areas_of_part a b c p).1 ≡ area a p c
+pub middle_of : (a : Place) (b : Option Place) (c p : Place) → (areas_of_part a b c p).1 ≡ area a p c
 middle_of a None c p = refl
 middle_of a (Some b) c p = refl
 
@@ -474,3 +474,12 @@ not_passed pair y k first last below l m n (p, q) = elim (below_or_not last k) [
   | inl h ↦ let b = (below last m).0 h in omega (arith, signed_linear, b, q)
   | inr h ↦ n ((below first l).1 p, h)
 ]
+
+-- what a chord adds at the place n, by how many places are below its ends, and the area of the place with the ends
+pub rises : (a c p v w t : ℤ) (n j k : ℕ) → (n < j ↔ p <ℤ a) → (n < k ↔ p <ℤ c) → w ≡ neg_ℤ v → v <ℤ pos 0
+    → ((j ≤ n) × (n < k) × (t ≡ pos 1)) ⊎ ((¬ ((j ≤ n) × (n < k))) × (t ≡ pos 0)) → t ≡ crossing_number a c p w
+rises a c p v w t n j k h l e s o = grind (arith, ints, h, l, e, s, o)
+
+pub falls : (a c p v w t : ℤ) (n j k : ℕ) → (n < j ↔ p <ℤ a) → (n < k ↔ p <ℤ c) → w ≡ neg_ℤ v → pos 0 <ℤ v
+    → ((k ≤ n) × (n < j) × (t ≡ negsuc 0)) ⊎ ((¬ ((k ≤ n) × (n < j))) × (t ≡ pos 0)) → t ≡ crossing_number a c p w
+falls a c p v w t n j k h l e s o = grind (arith, ints, h, l, e, s, o)

@@ -123,17 +123,15 @@ fn is_clear(along: &Along<'_>, run: PlaceRun, p: Weights, q: Weights) -> bool
 }
 
 /// What a piece adds at each place of a run, if it is seen to be one number. `p` are its areas at the first place.
-fn turn_along(along: &Along<'_>, run: PlaceRun, p: Weights, tally: &mut Tally) -> Option<i32>
+fn turn_along(along: &Along<'_>, run: PlaceRun, p: Weights) -> Option<i32>
     requires first { (p.u, p.v, p.w) ≡ areas_of (span_of along.now.piece.now) (place_in along.now.pair run.first) }
-    ensures part { IfSome result (λ t. IsPartTo along.now.pair run.first (run.last + 1) (span_of along.now.piece.now) (Some t)) }
-    ensures count { tally.new.count ≤ tally.old.count + 1 }
+    ensures { IfSome result (λ t. IsPartTo along.now.pair run.first (run.last + 1) (span_of along.now.piece.now) (Some t)) }
 {
     let q = along.areas(run.last);
     if !is_clear(along, run, p, q) {
         return None;
     }
-    let first = along.pair.place(run.first);
-    let crossed = crossing(along.piece, first.x, first.y, tally);
+    let crossed = along.crossing(run.first, p.v);
     match region_along(along, run, p, q) {
         None => None,
         Some(added) => Some(crossed + added),
@@ -221,7 +219,7 @@ pub(crate) fn next_stretch(along: &Along<'_>, n: usize, tally: &mut Tally) -> St
     ensures some { 0 < result.count }
     ensures few { n + result.count ≤ 128 }
     ensures part { IsPartTo along.now.pair n (n + result.count) (span_of along.now.piece.now) result.turn }
-    ensures count { tally.new.count ≤ tally.old.count + 8 }
+    ensures count { tally.new.count ≤ tally.old.count + 3 }
 {
     let most = places_to_end(
         along.below_c,
@@ -239,7 +237,7 @@ pub(crate) fn next_stretch(along: &Along<'_>, n: usize, tally: &mut Tally) -> St
             first: n,
             last: n + count - 1,
         };
-        if let Some(turn) = turn_along(along, run, at, tally) {
+        if let Some(turn) = turn_along(along, run, at) {
             return Stretch {
                 count,
                 turn: Some(turn),

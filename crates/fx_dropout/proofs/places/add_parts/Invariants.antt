@@ -10,7 +10,7 @@ invariant-parts l = record {
   joined : (k : ℕ) → k < l.n → IsJoined (place_in l.fn.pair k) (span_of l.piece)
       (get_or l.fn.places k (pos 0)) (get_or l.places k (pos 0));
   others : (k : ℕ) → l.n ≤ k → get_or l.places k (pos 0) ≡ get_or l.fn.places k (pos 0);
-  tests : l.tally.count ≤ l.fn.tally.count + 1 + 8 * l.n;
+  tests : l.tally.count ≤ l.fn.tally.count + 1 + 3 * l.n;
 }
 
 abbrev pub decreases-parts : goal.decreases-parts
