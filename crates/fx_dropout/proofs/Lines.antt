@@ -96,7 +96,8 @@ pub line_closed : (ss : List Span) (In Right So : ℤ → ℤ → Type 0) (first
     → IsClosedBit pixels noted IsNext n new → (new ≡ 1) ↔ IsBridged ss In Right So (first +ℤ pos n) j
 line_closed ss In Right So first j count pixels noted IsNext line n new l is =
     let left = left_is ss In Right So (first +ℤ pos n) j _ (IsNext n) (after (below_or_not (suc n) count))
-    (is_gap ss In Right So first j count pixels noted IsNext line (suc n) (first +ℤ pos n) (omega (arith, l)) at) (line.right n l) in
+    (is_gap ss In Right So first j count pixels noted IsNext line (suc n) (first +ℤ pos n) (omega (arith, l)) at)
+    (line.right n l) in
     let right = reached ss In Right So first j count pixels noted IsNext line n l in (
       λ t. ⊎_map (line.set n l).0 (λ h. record { inside = line.inside n l; closes = ⊎_map left.0 right.0 h }) (is.0 t),
       λ b. is.1 (⊎_map (line.set n l).1 (λ b. ⊎_map left.1 right.1 b.closes) b),

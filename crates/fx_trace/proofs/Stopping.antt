@@ -42,8 +42,8 @@ line_some Fpgm code address was s = omega arith
 line_some Prep code address was s = omega arith
 line_some (Glyph g) code address was s = omega arith
 
-pub begin_stops : {was now : TraceTextView} (component : Option ComponentOf) (program : FontProgram) → now ≡ stopped stop.OutOfMemory was
-    → Says was now (begin_text component program)
+pub begin_stops : {was now : TraceTextView} (component : Option ComponentOf) (program : FontProgram)
+    → now ≡ stopped stop.OutOfMemory was → Says was now (begin_text component program)
 begin_stops component program = stops (begin_text component program) (begin_some component program)
 
 pub line_stops : {text next : TraceTextView} (program : FontProgram) (code : List ℕ) (address : ℕ) (was : SnapshotView) (s : State)

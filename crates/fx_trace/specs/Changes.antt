@@ -15,8 +15,8 @@ use Rattle.fx_gstate.specs.declared.zones.ZonePointer.{ZonePointer}
 use Rattle.fx_gstate.specs.declared.zones.ZonePointer.TheVariants.{Twilight, Glyph}
 use Rattle.fx_zone.specs.declared.point.ZonePoint.{ZonePoint}
 use Rattle.fx_machine.specs.declared.state.InstructControl.{InstructControl}
-use Rattle.fx_trace.specs.declared.values.Value.{Value}
-use Rattle.fx_trace.specs.declared.values.Value.TheVariants.{Number, Count, Pair, Round}
+use Rattle.fx_trace.specs.declared.values.TraceValue.{TraceValue}
+use Rattle.fx_trace.specs.declared.values.TraceValue.TheVariants.{Number, Count, Pair, Round}
 
 -- ---- values
 
@@ -35,13 +35,13 @@ abbrev pub joined : List (List ℕ) → List ℕ
 joined = flat_map (λ (piece : List ℕ). piece)
 
 -- a value after a space; two coordinates have a comma
-abbrev pub value_text : Value → List ℕ
+abbrev pub value_text : TraceValue → List ℕ
 value_text (Number n) = joined (codes " " ∷ signed_decimal n ∷ [])
 value_text (Count n) = joined (codes " " ∷ decimal n ∷ [])
 value_text (Pair x y) = joined (codes " " ∷ signed_decimal x ∷ codes "," ∷ signed_decimal y ∷ [])
 value_text (Round state) = joined (codes " " ∷ round_name state ∷ [])
 
-abbrev pub is_same : Value → Value → Bool
+abbrev pub is_same : TraceValue → TraceValue → Bool
 is_same (Number a) (Number b) = int_eq a b
 is_same (Count a) (Count b) = a == b
 is_same (Pair a b) (Pair x y) = int_eq a x && int_eq b y
@@ -51,7 +51,7 @@ is_same _ _ = false
 -- ---- changes
 
 -- `; `, what changed, by its name and numbers, and its value before and after; nothing if that is the same
-unfoldable pub change : List ℕ → List Value → Value → Value → List ℕ
+unfoldable pub change : List ℕ → List TraceValue → TraceValue → TraceValue → List ℕ
 change name numbers was now =
     if is_same was now then []
     else joined (codes "; " ∷ name ∷ []) ++ (flat_map value_text numbers ++ flat_map value_text (was ∷ now ∷ []))
@@ -62,14 +62,14 @@ each_from f n [] ys = []
 each_from f n (x ∷ xs) [] = []
 each_from f n (x ∷ xs) (y ∷ ys) = f n x y ++ each_from f (suc n) xs ys
 
-abbrev pub bit_of : Bool → Value
+abbrev pub bit_of : Bool → TraceValue
 bit_of b = Number (pos (if b then 1 else 0))
 
 -- the entry of a number in the storage area or in the control value table
 abbrev pub cell_change : List ℕ → ℕ → ℤ → ℤ → List ℕ
 cell_change name n was now = change name (Count n ∷ []) (Number was) (Number now)
 
-abbrev pub place_of : Place → Value
+abbrev pub place_of : Place → TraceValue
 place_of p = Pair p.x p.y
 
 -- the point of a number in a zone: its current place, its original place, whether it is touched along x and y, and whether it is on
@@ -88,29 +88,29 @@ point_change zone n was now =
 -- a setting, by its name, and its value
 pub record SettingView : Type 0 where
   pub name : List ℕ
-  pub value : Value
+  pub value : TraceValue
 
-abbrev pub setting : List ℕ → Value → SettingView
+abbrev pub setting : List ℕ → TraceValue → SettingView
 setting name value = record { name = name; value = value }
 
 abbrev pub setting_change : SettingView → SettingView → List ℕ
 setting_change was now = change was.name [] was.value now.value
 
 -- a vector, in 2.14
-abbrev pub axes_of : ℤ × ℤ → Value
+abbrev pub axes_of : ℤ × ℤ → TraceValue
 axes_of v = Pair v.0 v.1
 
-abbrev pub zone_of : ZonePointer → Value
+abbrev pub zone_of : ZonePointer → TraceValue
 zone_of Twilight = Number (pos 0)
 zone_of Glyph = Number (pos 1)
 
 -- whether drop-out control is on; -1 before the first SCANCTRL
-abbrev pub scan_control_of : Option Bool → Value
+abbrev pub scan_control_of : Option Bool → TraceValue
 scan_control_of None = Number (negsuc 0)
 scan_control_of (Some on) = bit_of on
 
 -- the least type of SCANTYPE that asks for this drop-out control
-abbrev pub scan_type_of : ScanType → Value
+abbrev pub scan_type_of : ScanType → TraceValue
 scan_type_of Leftmost = Number (pos 0)
 scan_type_of dropout.Off = Number (pos 2)
 scan_type_of Nearest = Number (pos 4)

@@ -7,7 +7,7 @@ use Rattle.fx_machine.specs.declared.program.FontProgram.{FontProgram}
 use Rattle.fx_machine.specs.declared.program.FontProgram.TheVariants.{Fpgm, Prep, Glyph}
 use Rattle.fx_machine.specs.declared.state.State.{State}
 use Rattle.fx_hint.specs.declared.component.ComponentOf.{ComponentOf}
-use Rattle.fx_trace.specs.declared.values.Value.TheVariants.{Number}
+use Rattle.fx_trace.specs.declared.values.TraceValue.TheVariants.{Number}
 use Rattle.fx_trace.specs.Changes.{joined, value_text}
 use Rattle.fx_trace.specs.Snapshots.{SnapshotView, snapshot_of, changes_text}
 

@@ -8,7 +8,7 @@ ghost use Rattle.fx_trace.specs.inner.Telling.{Says};
 use crate::settings::{Setting, bit_of, settings_of};
 use crate::snapshot::Snapshot;
 use crate::text::TraceText;
-use crate::values::{Value, add_values, is_same};
+use crate::values::{TraceValue, add_values, is_same};
 use fx_fixed::{Place, Sink};
 use fx_machine::State;
 use fx_zone::ZonePoint;
@@ -18,9 +18,9 @@ use fx_zone::ZonePoint;
 fn add_change<S: Sink>(
     text: &mut TraceText<'_, S>,
     name: &[u8],
-    numbers: &[Value],
-    was: Value,
-    now: Value,
+    numbers: &[TraceValue],
+    was: TraceValue,
+    now: TraceValue,
 )
     ensures { Says text.old text.new (change name.now numbers.now was now) }
 {
@@ -34,10 +34,10 @@ fn add_change<S: Sink>(
 
 /// A place's coordinates.
 #[inline(always)]
-fn place_of(place: &Place) -> Value
+fn place_of(place: &Place) -> TraceValue
     ensures { result ≡ place_of place.now }
 {
-    Value::Pair(place.x.0, place.y.0)
+    TraceValue::Pair(place.x.0, place.y.0)
 }
 
 /// Adds the changes of a point.
@@ -50,7 +50,7 @@ fn add_point<S: Sink>(
 )
     ensures { Says text.old text.new (point_change zone number was.now now.now) }
 {
-    let numbers = [Value::Count(zone), Value::Count(number as u64)];
+    let numbers = [TraceValue::Count(zone), TraceValue::Count(number as u64)];
     add_change(
         text,
         b"point",
@@ -107,13 +107,13 @@ fn add_cell<S: Sink>(text: &mut TraceText<'_, S>, name: &[u8], number: usize, wa
     if *was == *now {
         return;
     }
-    let number = Value::Count(number as u64);
+    let number = TraceValue::Count(number as u64);
     add_change(
         text,
         name,
         &[number],
-        Value::Number(*was),
-        Value::Number(*now),
+        TraceValue::Number(*was),
+        TraceValue::Number(*now),
     );
 }
 

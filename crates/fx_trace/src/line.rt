@@ -8,7 +8,7 @@ ghost use Rattle.fx_trace.specs.inner.Telling.{Says};
 use crate::changes::add_changes;
 use crate::snapshot::Snapshot;
 use crate::text::TraceText;
-use crate::values::{Value, add_value};
+use crate::values::{TraceValue, add_value};
 use fx_code::Code;
 use fx_fixed::{Digits, Sink};
 use fx_hint::ComponentOf;
@@ -32,7 +32,7 @@ fn add_program<S: Sink>(text: &mut TraceText<'_, S>, program: FontProgram)
 fn add_number<S: Sink>(text: &mut TraceText<'_, S>, number: &i32)
     ensures { Says text.old text.new (number_text number.now) }
 {
-    add_value(text, &Value::Number(*number));
+    add_value(text, &TraceValue::Number(*number));
 }
 
 /// Adds numbers in turn.

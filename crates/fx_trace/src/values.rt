@@ -11,7 +11,7 @@ use fx_gstate::RoundState;
 
 /// The value of a part of the state.
 #[derive(Clone, Copy)]
-pub enum Value {
+pub enum TraceValue {
     /// A number.
     Number(i32),
     /// A count.
@@ -39,37 +39,37 @@ fn round_name(state: &RoundState) -> &'static [u8]
 
 /// Whether two values are the same.
 #[inline(always)]
-pub fn is_same(was: &Value, now: &Value) -> bool
+pub fn is_same(was: &TraceValue, now: &TraceValue) -> bool
     ensures { result ≡ is_same was.now now.now }
 {
     match (was, now) {
-        (Value::Number(x), Value::Number(y)) => *x == *y,
-        (Value::Count(x), Value::Count(y)) => *x == *y,
-        (Value::Pair(x, y), Value::Pair(z, w)) => *x == *z && *y == *w,
-        (Value::Round(x), Value::Round(y)) => round_name(x) == round_name(y),
+        (TraceValue::Number(x), TraceValue::Number(y)) => *x == *y,
+        (TraceValue::Count(x), TraceValue::Count(y)) => *x == *y,
+        (TraceValue::Pair(x, y), TraceValue::Pair(z, w)) => *x == *z && *y == *w,
+        (TraceValue::Round(x), TraceValue::Round(y)) => round_name(x) == round_name(y),
         _ => false,
     }
 }
 
 /// Adds a value after a space.
-pub fn add_value<S: Sink>(text: &mut TraceText<'_, S>, value: &Value)
+pub fn add_value<S: Sink>(text: &mut TraceText<'_, S>, value: &TraceValue)
     ensures { Says text.old text.new (value_text value.now) }
 {
     match value {
-        Value::Number(n) => text.add(&[b" ", Digits::signed(*n).text()]),
-        Value::Count(n) => text.add(&[b" ", Digits::unsigned(*n).text()]),
-        Value::Pair(x, y) => text.add(&[
+        TraceValue::Number(n) => text.add(&[b" ", Digits::signed(*n).text()]),
+        TraceValue::Count(n) => text.add(&[b" ", Digits::unsigned(*n).text()]),
+        TraceValue::Pair(x, y) => text.add(&[
             b" ",
             Digits::signed(*x).text(),
             b",",
             Digits::signed(*y).text(),
         ]),
-        Value::Round(state) => text.add(&[b" ", round_name(state)]),
+        TraceValue::Round(state) => text.add(&[b" ", round_name(state)]),
     }
 }
 
 /// Adds values in turn.
-pub fn add_values<S: Sink>(text: &mut TraceText<'_, S>, values: &[Value])
+pub fn add_values<S: Sink>(text: &mut TraceText<'_, S>, values: &[TraceValue])
     ensures { Says text.old text.new (flat_map value_text values.now) }
 {
     // The values so far were added.
