@@ -102,46 +102,27 @@ impl<'a> Code<'a> {
         ensures few { IfOk result (λ i. length (numbers i.opcode i.pushed.now) ≤ 255) }
         ensures fault { IfErr result (λ e. e ≡ CodeFault.CodeEnd) }
     {
-        match self.bytes.get(address) {
-            Some(opcode) => self.instruction(*opcode, address),
-            None => Err(CodeFault::CodeEnd),
-        }
-    }
-
-    /// The instruction at an address inside, in the same way, for a caller that has its opcode. If the compiler knows it, it drops
-    /// all that concerns others.
-    #[inline(always)]
-    #[tactic(auto, unfolding(crate::specs::Chain::IsWhole, crate::specs::Chain::size_at))]
-    pub fn instruction(&self, opcode: u8, address: usize) -> Result<Instr<'a>, CodeFault>
-        requires inside { address < length self.now }
-        requires opcode { opcode ≡ opcode_at self.now address }
-        ensures whole { MatchResult result (λ i. IsWhole self.now address) (λ e. ¬ (IsWhole self.now address)) }
-        ensures opcode { IfOk result (λ i. i.opcode ≡ opcode) }
-        ensures next { IfOk result (λ i. i.next ≡ next_address self.now address) }
-        ensures fits { IfOk result (λ i. i.next < 2 ^ 63) }
-        ensures pushed { IfOk result (λ i. i.pushed.now ≡ data_at self.now address) }
-        ensures few { IfOk result (λ i. length (numbers i.opcode i.pushed.now) ≤ 255) }
-        ensures fault { IfErr result (λ e. e ≡ CodeFault.CodeEnd) }
-    {
-        let end = self.bytes.len();
-        let first = address + 1;
-        if !has_data(opcode) {
+        let Some(opcode) = self.bytes.get(address) else {
+            return Err(CodeFault::CodeEnd);
+        };
+        if !has_data(*opcode) {
             return Ok(Instr {
-                opcode,
-                pushed: &self.bytes[first..first],
-                next: first,
+                opcode: *opcode,
+                pushed: &self.bytes[address + 1..address + 1],
+                next: address + 1,
             });
         }
-        let count = self.opcode(first);
-        let head = address + head_of(opcode);
-        let next = head + data_of(opcode, count);
-        if next > end {
+        let rest = self.bytes.len() - address;
+        let count = if rest > 1 { self.bytes[address + 1] } else { 0 };
+        let head = head_of(*opcode);
+        let size = head + data_of(*opcode, count);
+        if size > rest {
             return Err(CodeFault::CodeEnd);
         }
         Ok(Instr {
-            opcode,
-            pushed: &self.bytes[head..next],
-            next,
+            opcode: *opcode,
+            pushed: &self.bytes[address + head..address + size],
+            next: address + size,
         })
     }
 

@@ -33,7 +33,7 @@ use Rattle.fx_machine.specs.Configs.{answered}
 use Rattle.fx_machine.specs.Events.{Event, Watches, events_of}
 use Rattle.fx_machine.proofs.Watched.{seen_both}
 use Rattle.fx_machine.specs.Limits.{STEP_LIMIT}
-use Rattle.fx_machine.specs.Known.{Fails, first_state, second_state, prepared_from, prelude_of, prelude_events, prep_events}
+use Rattle.fx_machine.specs.Known.{Fails, texts_of, first_state, second_state, prepared_from, prelude_of, prelude_events, prep_events}
 use Rattle.fx_machine.specs.Known.{machine_of, font_ran, final_stack_of, MachineView, with_state, machine_events, seen_by}
 use Rattle.fx_machine.specs.Known.{controls_of}
 use Rattle.std.specs.Int.{w32}

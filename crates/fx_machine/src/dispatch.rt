@@ -1,12 +1,11 @@
-//! The instruction table. `row` has an arm for each opcode of 2x, for pushes of one to three bytes or of a word, and for the first
-//! opcode, from which on a table needs no subtraction; `row_5x` and `row_4x_6x` have those of 5x, 42 to 4F and 60 to 67. Programs
-//! execute these most. Each of the three does nothing before its match, so that the compiler makes one table of them: it takes one
-//! jump. `other_row` finds all others by the high nibble, as the definition does.
+//! The instruction table. `row` has an arm for each opcode of 2x, for PUSHB of one to three bytes, and for the first opcode, from
+//! which on a table needs no subtraction; `row_5x` and `row_4x_6x` have those of 5x, 42 to 4F and 60 to 67. Programs execute these
+//! most. Each of the three does nothing before its match, so that the compiler makes one table of them: it takes one jump.
+//! `other_row` finds all others by the high nibble, as the definition does.
 //!
-//! All of it is inlined into the loop of a run, so that no action goes through memory. Only `push_any`, ROUND, NROUND and the rows
-//! of `opcodes_0x`, `opcodes_3x`, `opcodes_7x` and `opcodes_8x` are called: if these were inlined too, the loop would run out of
-//! registers. Small functions need no hint: the compiler drops all hints, with no message, from `row` or `advance` if it would grow
-//! very large. The program then has a symbol of its name.
+//! All of it is inlined into the loop of a run, so that no action goes through memory. Only `push`, ROUND, NROUND and the rows of
+//! `opcodes_0x`, `opcodes_3x`, `opcodes_7x` and `opcodes_8x` are called. Small functions need no hint: the compiler drops all
+//! hints, with no message, from `row` or `advance` if it would grow very large. The program then has a symbol of its name.
 
 ghost use Rattle.std.specs.Prelude.{◌≡◌, ◌≢◌, ◌+◌, ◌/◌, ◌<◌, ◌≤◌, length};
 ghost use Rattle.fx_code.specs.Chain.{opcode_at};
@@ -54,24 +53,25 @@ impl State {
         ensures { Does (opcodes_0x opcode) self.old self.new result }
     {
         match opcode {
-            SVTCA_Y => Ok(self.graphics.set_vectors_to_axis(Axis::Y)),
-            SVTCA_X => Ok(self.graphics.set_vectors_to_axis(Axis::X)),
-            SPVTCA_Y => Ok(self.graphics.set_projection_to_axis(Axis::Y)),
-            SPVTCA_X => Ok(self.graphics.set_projection_to_axis(Axis::X)),
-            SFVTCA_Y => Ok(self.graphics.set_freedom_to_axis(Axis::Y)),
-            SFVTCA_X => Ok(self.graphics.set_freedom_to_axis(Axis::X)),
-            SPVTL_0 => self.spvtl(false),
-            SPVTL_1 => self.spvtl(true),
-            SFVTL_0 => self.sfvtl(false),
-            SFVTL_1 => self.sfvtl(true),
-            SPVFS => spvfs(&mut self.store, &mut self.graphics),
-            SFVFS => sfvfs(&mut self.store, &mut self.graphics),
-            GPV => Ok(gpv(&mut self.store, &self.graphics)?),
-            GFV => Ok(gfv(&mut self.store, &self.graphics)?),
-            SFVTPV => Ok(self.graphics.set_freedom_to_projection()),
-            ISECT => self.isect(),
-            _ => Err(Cause::BadOpcode),
+            SVTCA_Y => self.graphics.set_vectors_to_axis(Axis::Y),
+            SVTCA_X => self.graphics.set_vectors_to_axis(Axis::X),
+            SPVTCA_Y => self.graphics.set_projection_to_axis(Axis::Y),
+            SPVTCA_X => self.graphics.set_projection_to_axis(Axis::X),
+            SFVTCA_Y => self.graphics.set_freedom_to_axis(Axis::Y),
+            SFVTCA_X => self.graphics.set_freedom_to_axis(Axis::X),
+            SPVTL_0 => self.spvtl(false)?,
+            SPVTL_1 => self.spvtl(true)?,
+            SFVTL_0 => self.sfvtl(false)?,
+            SFVTL_1 => self.sfvtl(true)?,
+            SPVFS => spvfs(&mut self.store, &mut self.graphics)?,
+            SFVFS => sfvfs(&mut self.store, &mut self.graphics)?,
+            GPV => gpv(&mut self.store, &self.graphics)?,
+            GFV => gfv(&mut self.store, &self.graphics)?,
+            SFVTPV => self.graphics.set_freedom_to_projection(),
+            ISECT => self.isect()?,
+            _ => return Err(Cause::BadOpcode),
         }
+        Ok(())
     }
 
     /// 10 to 1F: reference points, zone pointers, loop, rounding, distances.
@@ -81,22 +81,23 @@ impl State {
         ensures { Does (opcodes_1x opcode) self.old self.new result }
     {
         match opcode {
-            SRP0 => srp0(&mut self.store, &mut self.graphics),
-            SRP1 => srp1(&mut self.store, &mut self.graphics),
-            SRP2 => srp2(&mut self.store, &mut self.graphics),
-            SZP0 => szp0(&mut self.store, &mut self.graphics),
-            SZP1 => szp1(&mut self.store, &mut self.graphics),
-            SZP2 => szp2(&mut self.store, &mut self.graphics),
-            SZPS => szps(&mut self.store, &mut self.graphics),
-            SLOOP => sloop(&mut self.store, &mut self.graphics),
-            RTG => Ok(self.graphics.set_round_state(RoundState::ToGrid)),
-            RTHG => Ok(self.graphics.set_round_state(RoundState::ToHalfGrid)),
-            SMD => smd(&mut self.store, &mut self.graphics),
-            SCVTCI => scvtci(&mut self.store, &mut self.graphics),
-            SSWCI => sswci(&mut self.store, &mut self.graphics),
-            SSW => ssw(&mut self.store, &mut self.graphics, &self.scale),
-            _ => Err(Cause::BadOpcode),
+            SRP0 => srp0(&mut self.store, &mut self.graphics)?,
+            SRP1 => srp1(&mut self.store, &mut self.graphics)?,
+            SRP2 => srp2(&mut self.store, &mut self.graphics)?,
+            SZP0 => szp0(&mut self.store, &mut self.graphics)?,
+            SZP1 => szp1(&mut self.store, &mut self.graphics)?,
+            SZP2 => szp2(&mut self.store, &mut self.graphics)?,
+            SZPS => szps(&mut self.store, &mut self.graphics)?,
+            SLOOP => sloop(&mut self.store, &mut self.graphics)?,
+            RTG => self.graphics.set_round_state(RoundState::ToGrid),
+            RTHG => self.graphics.set_round_state(RoundState::ToHalfGrid),
+            SMD => smd(&mut self.store, &mut self.graphics)?,
+            SCVTCI => scvtci(&mut self.store, &mut self.graphics)?,
+            SSWCI => sswci(&mut self.store, &mut self.graphics)?,
+            SSW => ssw(&mut self.store, &mut self.graphics, &self.scale)?,
+            _ => return Err(Cause::BadOpcode),
         }
+        Ok(())
     }
 
     /// 30 to 3F: points.
@@ -105,24 +106,25 @@ impl State {
         ensures { Does (opcodes_3x opcode) self.old self.new result }
     {
         match opcode {
-            IUP_Y => Ok(self.iup(Axis::Y)),
-            IUP_X => Ok(self.iup(Axis::X)),
-            SHP_0 => self.shp(false),
-            SHP_1 => self.shp(true),
-            SHC_0 => self.shc(false),
-            SHC_1 => self.shc(true),
-            SHZ_0 => self.shz(false),
-            SHZ_1 => self.shz(true),
-            SHPIX => self.shpix(),
-            IP => self.ip(),
-            MSIRP_0 => self.msirp(false),
-            MSIRP_1 => self.msirp(true),
-            ALIGNRP => self.alignrp(),
-            RTDG => Ok(self.graphics.set_round_state(RoundState::ToDoubleGrid)),
-            MIAP_0 => self.miap(false),
-            MIAP_1 => self.miap(true),
-            _ => Err(Cause::BadOpcode),
+            IUP_Y => self.iup(Axis::Y),
+            IUP_X => self.iup(Axis::X),
+            SHP_0 => self.shp(false)?,
+            SHP_1 => self.shp(true)?,
+            SHC_0 => self.shc(false)?,
+            SHC_1 => self.shc(true)?,
+            SHZ_0 => self.shz(false)?,
+            SHZ_1 => self.shz(true)?,
+            SHPIX => self.shpix()?,
+            IP => self.ip()?,
+            MSIRP_0 => self.msirp(false)?,
+            MSIRP_1 => self.msirp(true)?,
+            ALIGNRP => self.alignrp()?,
+            RTDG => self.graphics.set_round_state(RoundState::ToDoubleGrid),
+            MIAP_0 => self.miap(false)?,
+            MIAP_1 => self.miap(true)?,
+            _ => return Err(Cause::BadOpcode),
         }
+        Ok(())
     }
 
     /// 68 to 6F: ROUND and NROUND.
@@ -146,29 +148,27 @@ impl State {
         ensures { Does (opcodes_7x opcode) self.old self.new result }
     {
         match opcode {
-            WCVTF => Ok(wcvtf(&mut self.store, &self.scale)?),
-            DELTAP2 => self.deltap(DeltaForm::Second),
-            DELTAP3 => self.deltap(DeltaForm::Third),
-            DELTAC1 => Ok(
-                self.store
-                    .deltac(DeltaForm::First, &self.graphics, self.scale.ppem)?,
-            ),
-            DELTAC2 => Ok(
-                self.store
-                    .deltac(DeltaForm::Second, &self.graphics, self.scale.ppem)?,
-            ),
-            DELTAC3 => Ok(
-                self.store
-                    .deltac(DeltaForm::Third, &self.graphics, self.scale.ppem)?,
-            ),
-            SROUND => sround(&mut self.store, &mut self.graphics),
-            S45ROUND => s45round(&mut self.store, &mut self.graphics),
-            ROFF => Ok(self.graphics.set_round_state(RoundState::Off)),
-            RUTG => Ok(self.graphics.set_round_state(RoundState::UpToGrid)),
-            RDTG => Ok(self.graphics.set_round_state(RoundState::DownToGrid)),
-            SANGW | AA => Ok(self.store.ignored()?),
-            _ => Err(Cause::BadOpcode),
+            WCVTF => wcvtf(&mut self.store, &self.scale)?,
+            DELTAP2 => self.deltap(DeltaForm::Second)?,
+            DELTAP3 => self.deltap(DeltaForm::Third)?,
+            DELTAC1 => self
+                .store
+                .deltac(DeltaForm::First, &self.graphics, self.scale.ppem)?,
+            DELTAC2 => self
+                .store
+                .deltac(DeltaForm::Second, &self.graphics, self.scale.ppem)?,
+            DELTAC3 => self
+                .store
+                .deltac(DeltaForm::Third, &self.graphics, self.scale.ppem)?,
+            SROUND => sround(&mut self.store, &mut self.graphics)?,
+            S45ROUND => s45round(&mut self.store, &mut self.graphics)?,
+            ROFF => self.graphics.set_round_state(RoundState::Off),
+            RUTG => self.graphics.set_round_state(RoundState::UpToGrid),
+            RDTG => self.graphics.set_round_state(RoundState::DownToGrid),
+            SANGW | AA => self.store.ignored()?,
+            _ => return Err(Cause::BadOpcode),
         }
+        Ok(())
     }
 
     /// 80 to 8F: flips, SDPVTL, what is asked of the rasterizer.
@@ -177,20 +177,21 @@ impl State {
         ensures { Does (opcodes_8x opcode) self.old self.new result }
     {
         match opcode {
-            FLIPPT => self.flippt(),
-            FLIPRGON => self.fliprg(true),
-            FLIPRGOFF => self.fliprg(false),
-            SCANCTRL => scanctrl(&mut self.store, &mut self.graphics, self.scale.ppem),
-            SDPVTL_0 => self.sdpvtl(false),
-            SDPVTL_1 => self.sdpvtl(true),
-            GETINFO => Ok(self.store.getinfo()?),
-            ROLL => Ok(self.store.roll()?),
-            MAX => Ok(self.store.max()?),
-            MIN => Ok(self.store.min()?),
-            SCANTYPE => scantype(&mut self.store, &mut self.graphics),
-            INSTCTRL => self.instctrl(),
-            _ => Err(Cause::BadOpcode),
+            FLIPPT => self.flippt()?,
+            FLIPRGON => self.fliprg(true)?,
+            FLIPRGOFF => self.fliprg(false)?,
+            SCANCTRL => scanctrl(&mut self.store, &mut self.graphics, self.scale.ppem)?,
+            SDPVTL_0 => self.sdpvtl(false)?,
+            SDPVTL_1 => self.sdpvtl(true)?,
+            GETINFO => self.store.getinfo()?,
+            ROLL => self.store.roll()?,
+            MAX => self.store.max()?,
+            MIN => self.store.min()?,
+            SCANTYPE => scantype(&mut self.store, &mut self.graphics)?,
+            INSTCTRL => self.instctrl()?,
+            _ => return Err(Cause::BadOpcode),
         }
+        Ok(())
     }
 
     /// The row of the opcode at an address of a program.
@@ -213,10 +214,9 @@ impl State {
         ensures targets { targets.new ≡ targets.old }
     {
         match opcode {
-            PUSHB_1 => return self.push(bytes, PUSHB_1, address),
-            0xB1 => return self.push(bytes, 0xB1, address),
-            0xB2 => return self.push(bytes, 0xB2, address),
-            PUSHW_1 => return self.push(bytes, PUSHW_1, address),
+            PUSHB_1 => return self.pushb(bytes, PUSHB_1, address),
+            0xB1 => return self.pushb(bytes, 0xB1, address),
+            0xB2 => return self.pushb(bytes, 0xB2, address),
             SVTCA_Y => self.graphics.set_vectors_to_axis(Axis::Y),
             DUP => self.store.dup()?,
             POP => self.store.pop()?,
@@ -274,15 +274,15 @@ impl State {
             DELTAP1 => self.deltap(DeltaForm::First)?,
             SDB => sdb(&mut self.store, &mut self.graphics)?,
             SDS => sds(&mut self.store, &mut self.graphics)?,
-            _ => return self.row_4x_6x(bytes, targets, opcode, program, address),
+            _ => return self.row_4x(bytes, targets, opcode, program, address),
         }
         Ok(Action::Went(after(bytes, address)))
     }
 
     /// The row of an opcode that is not of 2x or 5x.
     #[inline(always)]
-    #[tactic(auto, unfolding(crate::specs::Table::row_here, crate::specs::Table::row_of, crate::specs::Table::plain_of, crate::specs::Table::opcodes_4x, crate::specs::Table::opcodes_6x))]
-    fn row_4x_6x(
+    #[tactic(auto, unfolding(crate::specs::Table::row_here, crate::specs::Table::row_of, crate::specs::Table::plain_of, crate::specs::Table::opcodes_4x))]
+    fn row_4x(
         &mut self,
         bytes: &[u8],
         targets: &mut Targets<'_>,
@@ -313,6 +313,32 @@ impl State {
             FLIPON => self.graphics.set_auto_flip(true),
             FLIPOFF => self.graphics.set_auto_flip(false),
             DEBUG => self.store.ignored()?,
+            _ => return self.row_6x(bytes, targets, opcode, program, address),
+        }
+        Ok(Action::Went(after(bytes, address)))
+    }
+
+    /// The row of an opcode that is not of 2x or 5x, and that `row_4x` has no arm for.
+    #[inline(always)]
+    #[tactic(auto, unfolding(crate::specs::Table::row_here, crate::specs::Table::row_of, crate::specs::Table::plain_of, crate::specs::Table::opcodes_6x))]
+    fn row_6x(
+        &mut self,
+        bytes: &[u8],
+        targets: &mut Targets<'_>,
+        opcode: u8,
+        program: Program,
+        address: usize,
+    ) -> Result<Action, Cause>
+        requires not_2x { opcode / 16 ≢ 2 }
+        requires low_4x { opcode / 16 ≡ 4 → opcode ≤ 0x41 }
+        requires not_5x { opcode / 16 ≢ 5 }
+        requires inside { address < length bytes.now }
+        requires opcode { opcode ≡ opcode_at bytes.now address }
+        requires targets { program ≡ Program.Font → targets.old ≡ bytes.now }
+        ensures does { Leads (row_here opcode bytes.now program address) self.old self.new result }
+        ensures targets { targets.new ≡ targets.old }
+    {
+        match opcode {
             ADD => self.store.add()?,
             SUB => self.store.sub()?,
             DIV => self.store.div()?,
@@ -374,7 +400,7 @@ impl State {
                 _ => self.opcodes_8x(opcode)?,
             },
             // NPUSHB, NPUSHW, PUSHB, PUSHW.
-            0x4 | 0xB => return self.push_any(bytes, opcode, address),
+            0x4 | 0xB => return self.push(bytes, address),
             // MDRP, MIRP.
             0xC | 0xD | 0xE | 0xF => self.move_relative(opcode)?,
             // 90 to AF.

@@ -9,13 +9,15 @@ ghost use Rattle.fx_code.specs.Past.{past_of};
 ghost use Rattle.fx_machine.specs.Actions.{acts, Leads};
 ghost use Rattle.fx_machine.specs.Flow.{number_below, jumped, if_row, jmpr_row, jrot_row, jrof_row, call_row, loopcall_row, fdef_row, idef_row, undefined_row};
 ghost use Rattle.fx_machine.specs.Table.{push_at};
+ghost use Rattle.fx_machine.specs.inner.Bytes.{bytes_then};
 
 use crate::action::Action;
 use crate::definitions::Function;
 use crate::halt::Cause;
 use crate::program::Program;
 use crate::state::State;
-use fx_code::{Code, CodeFault, Targets};
+use fx_code::opcode::{PUSHB_1, PUSHB_8};
+use fx_code::{Code, CodeFault, Instr, Targets};
 
 /// A number below a count.
 fn number_below(count: usize, number: i32) -> Result<usize, Cause>
@@ -227,22 +229,23 @@ impl State {
         }
     }
 
-    /// 40 NPUSHB, 41 NPUSHW, B0-B7 PUSHB[abc], B8-BF PUSHW[abc], PUSH Bytes or Words: `-> ..`, the data in order.
-    #[inline(always)]
-    #[tactic(auto, unfolding(crate::specs::Table::push_at, fx_code::specs::Chain::IsWhole))]
-    pub(crate) fn push(&mut self, bytes: &[u8], opcode: u8, address: usize) -> Result<Action, Cause>
-        requires inside { address < length bytes.now }
-        requires opcode { opcode ≡ opcode_at bytes.now address }
-        ensures { Leads (push_at bytes.now address) self.old self.new result }
+    /// Pushes bytes, and continues at an address.
+    fn push_bytes(&mut self, bytes: &[u8], next: usize) -> Result<Action, Cause>
+        ensures { Leads (bytes_then next bytes.now) self.old self.new result }
     {
-        let instr = Code::new(bytes).instruction(opcode, address)?;
+        let instr = Instr {
+            opcode: PUSHB_1,
+            pushed: bytes,
+            next,
+        };
         self.store.push_all(&instr)?;
-        Ok(Action::Went(instr.next))
+        Ok(Action::Went(next))
     }
 
-    /// The same for any of these opcodes. The result of `push_apart` goes through memory, which is cleared here, so that no other
-    /// instruction waits for it.
-    pub(crate) fn push_any(
+    /// B0-B7 PUSHB[abc], PUSH Bytes: `-> ..`, 1 to 8 bytes. Programs push few bytes more often than they do anything else, so
+    /// this is not left to `push`, which reads an instruction of any kind.
+    #[tactic(auto, using(crate::proofs::Reading::bytes_whole, crate::proofs::Reading::bytes_cut))]
+    pub(crate) fn pushb(
         &mut self,
         bytes: &[u8],
         opcode: u8,
@@ -250,18 +253,33 @@ impl State {
     ) -> Result<Action, Cause>
         requires inside { address < length bytes.now }
         requires opcode { opcode ≡ opcode_at bytes.now address }
+        requires first { PUSHB_1 ≤ opcode }
+        requires last { opcode ≤ PUSHB_8 }
         ensures { Leads (push_at bytes.now address) self.old self.new result }
     {
-        self.push_apart(bytes, opcode, address)
+        let first = address + 1;
+        let next = first + usize::from(opcode - PUSHB_1) + 1;
+        if next > bytes.len() {
+            return Err(Cause::CodeEnd);
+        }
+        self.push_bytes(&bytes[first..next], next)
     }
 
-    /// The same, not inlined.
-    #[inline(never)]
-    fn push_apart(&mut self, bytes: &[u8], opcode: u8, address: usize) -> Result<Action, Cause>
-        requires inside { address < length bytes.now }
-        requires opcode { opcode ≡ opcode_at bytes.now address }
+    /// 40 NPUSHB, 41 NPUSHW, B0-B7 PUSHB[abc], B8-BF PUSHW[abc], PUSH Bytes or Words: `-> ..`, the data in order.
+    pub(crate) fn push(&mut self, bytes: &[u8], address: usize) -> Result<Action, Cause>
         ensures { Leads (push_at bytes.now address) self.old self.new result }
     {
-        self.push(bytes, opcode, address)
+        self.push_apart(&Code::new(bytes), address)
+    }
+
+    /// The same, not inlined. Its result goes through memory, which `push` clears, so that no other instruction waits for it.
+    #[inline(never)]
+    #[tactic(auto, unfolding(crate::specs::Table::push_at, fx_code::specs::Chain::IsWhole))]
+    fn push_apart(&mut self, code: &Code<'_>, address: usize) -> Result<Action, Cause>
+        ensures { Leads (push_at code.now address) self.old self.new result }
+    {
+        let instr = code.at(address)?;
+        self.store.push_all(&instr)?;
+        Ok(Action::Went(instr.next))
     }
 }
