@@ -35,7 +35,7 @@ between_rest d q t r up some less e =
 turned_product : (d t : ℤ) → neg_ℤ d *ℤ t ≡ neg_ℤ (d *ℤ t)
 turned_product d t = ring (d ∷ t ∷ []) (minus (var 0) ⊠ var 1) (minus (var 0 ⊠ var 1)) tt
 
-pub product_turned : (r q : ℤ) → r *ℤ neg_ℤ q ≡ neg_ℤ (r *ℤ q)
+product_turned : (r q : ℤ) → r *ℤ neg_ℤ q ≡ neg_ℤ (r *ℤ q)
 product_turned r q = ring (r ∷ q ∷ []) (var 0 ⊠ minus (var 1)) (minus (var 0 ⊠ var 1)) tt
 
 between_part : (ax cx px t r : ℤ) → pos 0 <ℤ t → t <ℤ r → (cx -ℤ ax) *ℤ t ≡ r *ℤ (px -ℤ ax) → IsBetween ax cx px

@@ -6,7 +6,7 @@ ghost use Rattle.fx_winding.specs.Area.{gap_of};
 ghost use Rattle.fx_winding.specs.Limits.{end_of_pixels};
 ghost use Rattle.fx_winding.specs.Winding.{Span, span_of, centre, IsOn};
 ghost use Rattle.fx_rows.specs.Parts.{IsBent};
-ghost use Rattle.fx_rows.specs.inner.Arcs.{gap, AreAreas, IsTurned};
+ghost use Rattle.fx_rows.specs.inner.Arcs.{gap, AreAreas, IsTurned, MissesCentres};
 ghost use Rattle.fx_rows.specs.inner.Bands.{bounded_span};
 ghost use Rattle.fx_rows.specs.inner.Candidates.{IsOnStrip};
 ghost use Rattle.fx_rows.specs.inner.Cuts.{Counts, CountsAt, CountsFirst, IsEndOfCount, IsLast, IsCut};
@@ -24,8 +24,16 @@ use crate::on::on_one;
 use crate::part::OnRow;
 use crate::rest::is_right;
 use crate::strip::{Strip, areas_at};
-use crate::touch::may_touch;
 use fx_winding::{Piece, Point, Tally, Weights, curve_gap, first_from};
+
+/// Whether an arc can touch the centre of a pixel, from its areas at one. From centre to centre the areas change by multiples of
+/// 128, and so their gap changes by multiples of 256. If the gap is no such multiple at one centre, it is 0 at none. If it is one,
+/// the arc may touch no centre all the same: no clause says that it does.
+fn may_touch(areas: Weights) -> bool
+    ensures { (s : Span) (col row : ℤ) → AreAreas s (centre col row) areas → result ≡ false → MissesCentres s }
+{
+    curve_gap(areas) % 256 == 0
+}
 
 /// Areas after a step.
 #[inline(always)]
@@ -295,7 +303,7 @@ fn arc_at(piece: &Piece, b: Point, right: bool, strip: Strip, k: u32, areas: Wei
 {
     let arc = Arc {
         right,
-        touches: may_touch(piece, b, areas),
+        touches: may_touch(areas),
         next: turned_areas(piece, across_of(piece, b)),
         up: turned_areas(piece, up_of(piece, b)),
     };

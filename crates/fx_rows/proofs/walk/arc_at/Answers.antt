@@ -17,7 +17,7 @@ returns c =
         next = step_next s c.args.b c.across_of.result c.turned_areas.result c.requires.middle across.u across.v across.w
             c.turned_areas.ensures;
         up = step_up s c.args.b c.up_of.result c.turned_areas-2.result c.requires.middle up.u up.v up.w c.turned_areas-2.ensures;
-        misses = c.may_touch.ensures (c.args.strip.base +ℤ pos c.args.k) c.args.strip.row c.requires.areas;
+        misses = c.may_touch.ensures (span_of s) (c.args.strip.base +ℤ pos c.args.k) c.args.strip.row c.requires.areas;
       };
       spot = record {
         areas = sided (span_of s) _ _ c.args.areas c.turned_areas-3.result c.requires.areas c.turned_areas-3.ensures
