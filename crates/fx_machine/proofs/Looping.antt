@@ -1,4 +1,4 @@
--- The loop returns what the definition gives: at the end (`finished_here`), a halt (`halted_here`) or the limit (`limit_here`).
+-- The loop returns what the definition gives: at the end (`finished_here`), a halt (`halted_here`) or the limit (`limit_from`).
 -- It serves the run of a program.
 use Rattle.std.proofs.Common.{◌≡◌, ◌≢◌, ◌≤◌, ℕ, suc, ◌+◌, ◌-◌, ◌<◌, List, [], ◌∷◌, length, reverse, Result, Ok, Err, inl, inr, refl, subst, ◌∙◌}
 use Rattle.std.proofs.Common.{arith}
@@ -128,6 +128,13 @@ module _ (texts : Program
     unseen_limit e =
         no_events texts g left (config (reverse items) w p now) (rw e (none_left (row_at texts) (reverse items) w p now))
 
+    -- nothing is left where a run ends
+    pub unseen_end : (0 < left → length (texts w) ≤ p) → Nothing
+    unseen_end past = elim (cases_lt 0 left) [
+      | inl some ↦ unseen_past (past some)
+      | inr none ↦ unseen_limit (omega (arith, none))
+    ]
+
 -- ---- what is answered from here is due
 
 module _ (texts : Program → List ℕ) (g : ℕ) (start : Program) (limit : ℕ) (first now : State) (left n : ℕ)
@@ -140,9 +147,6 @@ module _ (texts : Program → List ℕ) (g : ℕ) (start : Program) (limit : ℕ
     pub halted_here : (cause : Cause) → 0 < left → moved_by (row_at texts w p now) (reverse items) w ≡ Stops cause
         → Err (halt_at texts g start w p cause) ≡ Due
     halted_here cause lt m = rw h (halted_from texts g start left n items w p now cause lt m)
-
-    pub limit_here : left ≡ 0 → p < length (texts w) → Err (halt_at texts g start w p StepLimit) ≡ Due
-    limit_here e inside = rw h (limit_from texts g start left n items w p now e (λ x z. omega (arith, inside, x)))
 
     pub stepped : (d : Config) → 0 < left → moved_by (row_at texts w p now) (reverse items) w ≡ Moves d
         → answer_of (row_at texts) limit start first ≡ answer_from (row_at texts) (left - 1) (n + 1) d

@@ -1,7 +1,7 @@
-//! The instruction table. `row` has an arm for each opcode of 2x, for PUSHB of one to three bytes, and for the first opcode, from
-//! which on a table needs no subtraction; `row_5x` and `row_4x_6x` have those of 5x, 42 to 4F and 60 to 67. Programs execute these
-//! most. Each of the three does nothing before its match, so that the compiler makes one table of them: it takes one jump.
-//! `other_row` finds all others by the high nibble, as the definition does.
+//! The instruction table. `row` has an arm for each opcode of 2x, for PUSHB of one to three bytes, and for the first and the last
+//! opcode, so that a table needs neither subtraction nor test; `row_5x` and `row_4x_6x` have those of 5x, 42 to 4F and 60 to 67.
+//! Programs execute these most. Each of the three does nothing before its match, so that the compiler makes one table of them: it
+//! takes one jump. `other_row` finds all others by the high nibble, as the definition does.
 //!
 //! All of it is inlined into the loop of a run, so that no action goes through memory. Only `push`, ROUND, NROUND and the rows of
 //! `opcodes_0x`, `opcodes_3x`, `opcodes_7x` and `opcodes_8x` are called. Small functions need no hint: the compiler drops all
@@ -53,25 +53,24 @@ impl State {
         ensures { Does (opcodes_0x opcode) self.old self.new result }
     {
         match opcode {
-            SVTCA_Y => self.graphics.set_vectors_to_axis(Axis::Y),
-            SVTCA_X => self.graphics.set_vectors_to_axis(Axis::X),
-            SPVTCA_Y => self.graphics.set_projection_to_axis(Axis::Y),
-            SPVTCA_X => self.graphics.set_projection_to_axis(Axis::X),
-            SFVTCA_Y => self.graphics.set_freedom_to_axis(Axis::Y),
-            SFVTCA_X => self.graphics.set_freedom_to_axis(Axis::X),
-            SPVTL_0 => self.spvtl(false)?,
-            SPVTL_1 => self.spvtl(true)?,
-            SFVTL_0 => self.sfvtl(false)?,
-            SFVTL_1 => self.sfvtl(true)?,
-            SPVFS => spvfs(&mut self.store, &mut self.graphics)?,
-            SFVFS => sfvfs(&mut self.store, &mut self.graphics)?,
-            GPV => gpv(&mut self.store, &self.graphics)?,
-            GFV => gfv(&mut self.store, &self.graphics)?,
-            SFVTPV => self.graphics.set_freedom_to_projection(),
-            ISECT => self.isect()?,
-            _ => return Err(Cause::BadOpcode),
+            SVTCA_Y => Ok(self.graphics.set_vectors_to_axis(Axis::Y)),
+            SVTCA_X => Ok(self.graphics.set_vectors_to_axis(Axis::X)),
+            SPVTCA_Y => Ok(self.graphics.set_projection_to_axis(Axis::Y)),
+            SPVTCA_X => Ok(self.graphics.set_projection_to_axis(Axis::X)),
+            SFVTCA_Y => Ok(self.graphics.set_freedom_to_axis(Axis::Y)),
+            SFVTCA_X => Ok(self.graphics.set_freedom_to_axis(Axis::X)),
+            SPVTL_0 => self.spvtl(false),
+            SPVTL_1 => self.spvtl(true),
+            SFVTL_0 => self.sfvtl(false),
+            SFVTL_1 => self.sfvtl(true),
+            SPVFS => spvfs(&mut self.store, &mut self.graphics),
+            SFVFS => sfvfs(&mut self.store, &mut self.graphics),
+            GPV => Ok(gpv(&mut self.store, &self.graphics)?),
+            GFV => Ok(gfv(&mut self.store, &self.graphics)?),
+            SFVTPV => Ok(self.graphics.set_freedom_to_projection()),
+            ISECT => self.isect(),
+            _ => Err(Cause::BadOpcode),
         }
-        Ok(())
     }
 
     /// 10 to 1F: reference points, zone pointers, loop, rounding, distances.
@@ -81,23 +80,22 @@ impl State {
         ensures { Does (opcodes_1x opcode) self.old self.new result }
     {
         match opcode {
-            SRP0 => srp0(&mut self.store, &mut self.graphics)?,
-            SRP1 => srp1(&mut self.store, &mut self.graphics)?,
-            SRP2 => srp2(&mut self.store, &mut self.graphics)?,
-            SZP0 => szp0(&mut self.store, &mut self.graphics)?,
-            SZP1 => szp1(&mut self.store, &mut self.graphics)?,
-            SZP2 => szp2(&mut self.store, &mut self.graphics)?,
-            SZPS => szps(&mut self.store, &mut self.graphics)?,
-            SLOOP => sloop(&mut self.store, &mut self.graphics)?,
-            RTG => self.graphics.set_round_state(RoundState::ToGrid),
-            RTHG => self.graphics.set_round_state(RoundState::ToHalfGrid),
-            SMD => smd(&mut self.store, &mut self.graphics)?,
-            SCVTCI => scvtci(&mut self.store, &mut self.graphics)?,
-            SSWCI => sswci(&mut self.store, &mut self.graphics)?,
-            SSW => ssw(&mut self.store, &mut self.graphics, &self.scale)?,
-            _ => return Err(Cause::BadOpcode),
+            SRP0 => srp0(&mut self.store, &mut self.graphics),
+            SRP1 => srp1(&mut self.store, &mut self.graphics),
+            SRP2 => srp2(&mut self.store, &mut self.graphics),
+            SZP0 => szp0(&mut self.store, &mut self.graphics),
+            SZP1 => szp1(&mut self.store, &mut self.graphics),
+            SZP2 => szp2(&mut self.store, &mut self.graphics),
+            SZPS => szps(&mut self.store, &mut self.graphics),
+            SLOOP => sloop(&mut self.store, &mut self.graphics),
+            RTG => Ok(self.graphics.set_round_state(RoundState::ToGrid)),
+            RTHG => Ok(self.graphics.set_round_state(RoundState::ToHalfGrid)),
+            SMD => smd(&mut self.store, &mut self.graphics),
+            SCVTCI => scvtci(&mut self.store, &mut self.graphics),
+            SSWCI => sswci(&mut self.store, &mut self.graphics),
+            SSW => ssw(&mut self.store, &mut self.graphics, &self.scale),
+            _ => Err(Cause::BadOpcode),
         }
-        Ok(())
     }
 
     /// 30 to 3F: points.
@@ -106,25 +104,24 @@ impl State {
         ensures { Does (opcodes_3x opcode) self.old self.new result }
     {
         match opcode {
-            IUP_Y => self.iup(Axis::Y),
-            IUP_X => self.iup(Axis::X),
-            SHP_0 => self.shp(false)?,
-            SHP_1 => self.shp(true)?,
-            SHC_0 => self.shc(false)?,
-            SHC_1 => self.shc(true)?,
-            SHZ_0 => self.shz(false)?,
-            SHZ_1 => self.shz(true)?,
-            SHPIX => self.shpix()?,
-            IP => self.ip()?,
-            MSIRP_0 => self.msirp(false)?,
-            MSIRP_1 => self.msirp(true)?,
-            ALIGNRP => self.alignrp()?,
-            RTDG => self.graphics.set_round_state(RoundState::ToDoubleGrid),
-            MIAP_0 => self.miap(false)?,
-            MIAP_1 => self.miap(true)?,
-            _ => return Err(Cause::BadOpcode),
+            IUP_Y => Ok(self.iup(Axis::Y)),
+            IUP_X => Ok(self.iup(Axis::X)),
+            SHP_0 => self.shp(false),
+            SHP_1 => self.shp(true),
+            SHC_0 => self.shc(false),
+            SHC_1 => self.shc(true),
+            SHZ_0 => self.shz(false),
+            SHZ_1 => self.shz(true),
+            SHPIX => self.shpix(),
+            IP => self.ip(),
+            MSIRP_0 => self.msirp(false),
+            MSIRP_1 => self.msirp(true),
+            ALIGNRP => self.alignrp(),
+            RTDG => Ok(self.graphics.set_round_state(RoundState::ToDoubleGrid)),
+            MIAP_0 => self.miap(false),
+            MIAP_1 => self.miap(true),
+            _ => Err(Cause::BadOpcode),
         }
-        Ok(())
     }
 
     /// 68 to 6F: ROUND and NROUND.
@@ -148,27 +145,29 @@ impl State {
         ensures { Does (opcodes_7x opcode) self.old self.new result }
     {
         match opcode {
-            WCVTF => wcvtf(&mut self.store, &self.scale)?,
-            DELTAP2 => self.deltap(DeltaForm::Second)?,
-            DELTAP3 => self.deltap(DeltaForm::Third)?,
-            DELTAC1 => self
-                .store
-                .deltac(DeltaForm::First, &self.graphics, self.scale.ppem)?,
-            DELTAC2 => self
-                .store
-                .deltac(DeltaForm::Second, &self.graphics, self.scale.ppem)?,
-            DELTAC3 => self
-                .store
-                .deltac(DeltaForm::Third, &self.graphics, self.scale.ppem)?,
-            SROUND => sround(&mut self.store, &mut self.graphics)?,
-            S45ROUND => s45round(&mut self.store, &mut self.graphics)?,
-            ROFF => self.graphics.set_round_state(RoundState::Off),
-            RUTG => self.graphics.set_round_state(RoundState::UpToGrid),
-            RDTG => self.graphics.set_round_state(RoundState::DownToGrid),
-            SANGW | AA => self.store.ignored()?,
-            _ => return Err(Cause::BadOpcode),
+            WCVTF => Ok(wcvtf(&mut self.store, &self.scale)?),
+            DELTAP2 => self.deltap(DeltaForm::Second),
+            DELTAP3 => self.deltap(DeltaForm::Third),
+            DELTAC1 => Ok(
+                self.store
+                    .deltac(DeltaForm::First, &self.graphics, self.scale.ppem)?,
+            ),
+            DELTAC2 => Ok(
+                self.store
+                    .deltac(DeltaForm::Second, &self.graphics, self.scale.ppem)?,
+            ),
+            DELTAC3 => Ok(
+                self.store
+                    .deltac(DeltaForm::Third, &self.graphics, self.scale.ppem)?,
+            ),
+            SROUND => sround(&mut self.store, &mut self.graphics),
+            S45ROUND => s45round(&mut self.store, &mut self.graphics),
+            ROFF => Ok(self.graphics.set_round_state(RoundState::Off)),
+            RUTG => Ok(self.graphics.set_round_state(RoundState::UpToGrid)),
+            RDTG => Ok(self.graphics.set_round_state(RoundState::DownToGrid)),
+            SANGW | AA => Ok(self.store.ignored()?),
+            _ => Err(Cause::BadOpcode),
         }
-        Ok(())
     }
 
     /// 80 to 8F: flips, SDPVTL, what is asked of the rasterizer.
@@ -177,21 +176,20 @@ impl State {
         ensures { Does (opcodes_8x opcode) self.old self.new result }
     {
         match opcode {
-            FLIPPT => self.flippt()?,
-            FLIPRGON => self.fliprg(true)?,
-            FLIPRGOFF => self.fliprg(false)?,
-            SCANCTRL => scanctrl(&mut self.store, &mut self.graphics, self.scale.ppem)?,
-            SDPVTL_0 => self.sdpvtl(false)?,
-            SDPVTL_1 => self.sdpvtl(true)?,
-            GETINFO => self.store.getinfo()?,
-            ROLL => self.store.roll()?,
-            MAX => self.store.max()?,
-            MIN => self.store.min()?,
-            SCANTYPE => scantype(&mut self.store, &mut self.graphics)?,
-            INSTCTRL => self.instctrl()?,
-            _ => return Err(Cause::BadOpcode),
+            FLIPPT => self.flippt(),
+            FLIPRGON => self.fliprg(true),
+            FLIPRGOFF => self.fliprg(false),
+            SCANCTRL => scanctrl(&mut self.store, &mut self.graphics, self.scale.ppem),
+            SDPVTL_0 => self.sdpvtl(false),
+            SDPVTL_1 => self.sdpvtl(true),
+            GETINFO => Ok(self.store.getinfo()?),
+            ROLL => Ok(self.store.roll()?),
+            MAX => Ok(self.store.max()?),
+            MIN => Ok(self.store.min()?),
+            SCANTYPE => scantype(&mut self.store, &mut self.graphics),
+            INSTCTRL => self.instctrl(),
+            _ => Err(Cause::BadOpcode),
         }
-        Ok(())
     }
 
     /// The row of the opcode at an address of a program.
@@ -234,6 +232,7 @@ impl State {
             ENDF => return Ok(Action::Returned),
             MDAP_0 => self.mdap(false)?,
             MDAP_1 => self.mdap(true)?,
+            MIRP_LAST => self.move_relative(MIRP_LAST)?,
             _ => return self.row_5x(bytes, targets, opcode, program, address),
         }
         Ok(Action::Went(after(bytes, address)))

@@ -1,6 +1,6 @@
 //! Runs, one instruction after the other.
 
-ghost use Rattle.std.specs.Prelude.{◌≡◌, ◌-◌, ◌≤◌, IfOk, false, length};
+ghost use Rattle.std.specs.Prelude.{◌≡◌, ◌-◌, ◌≤◌, ◌<◌, IfOk, false, length};
 ghost use Rattle.fx_machine.specs.declared.state.State as the_state;
 ghost use Rattle.fx_machine.specs.Programs.{texts};
 ghost use Rattle.fx_machine.specs.Table.{row_at};
@@ -52,7 +52,7 @@ fn tell<W: Watching>(
     watcher.see(program, &code, address, calls.open_calls.len(), state);
 }
 
-/// What a run comes to that has reached the end of a program, or is past it.
+/// What a run comes to that has reached the end of a program, is past it, or has executed all that it may.
 #[inline(never)]
 fn at_end(
     programs: &Programs<'_>,
@@ -62,7 +62,7 @@ fn at_end(
     limit: u32,
     left: u32,
 ) -> Result<u32, Halt>
-    requires past { length (texts programs.now cursor.now.program) ≤ cursor.now.address }
+    requires past { 0 < left → length (texts programs.now cursor.now.program) ≤ cursor.now.address }
     requires counted { left ≤ limit }
     ensures value { (s : the_state.State) → sees result s ≡ answered (texts programs.now) programs.now.number start
         (answer_from (row_at (texts programs.now)) left (limit - left) (config_of cursor.now calls.now s)) }
@@ -116,14 +116,12 @@ pub fn run<W: Watching>(
     // The program's result is what comes of the cursor, the calls and the state if `left` more instructions may be executed. Once
     // the watcher sees the instructions that are left, it has seen all.
     'steps: loop {
-        let program = cursor.program;
-        let address = cursor.address;
-        if address >= bytes.len() {
+        // The limit is asked first, so that the test takes part in the count.
+        if left == 0 || cursor.address >= bytes.len() {
             return at_end(programs, start, &cursor, &calls, limit, left);
         }
-        if left == 0 {
-            return Err(halted(programs, start, program, address, Cause::StepLimit));
-        }
+        let program = cursor.program;
+        let address = cursor.address;
         left -= 1;
         let name = programs.name(program);
         let has_left = match advance(&mut cursor, &mut calls, state, bytes, targets) {

@@ -1,7 +1,7 @@
 use Rattle.std.proofs.Common.{◌≡◌, ◌+◌, ◌-◌, ◌∙◌, refl, arith, rules}
 use Rattle.fx_pointops.proofs.Keeping.{shapes_same, shapes_then}
 use Rattle.fx_machine.proofs.Keeping.{sized, sized_then}
-use Rattle.fx_machine.proofs.Looping.{halted_here, limit_here, stepped, unseen_halt, unseen_limit, unseen_past}
+use Rattle.fx_machine.proofs.Looping.{halted_here, stepped, unseen_halt, unseen_end}
 use Rattle.fx_machine.proofs.Watched.{seen_first, seen_one, seen_all}
 use Rattle.fx_machine.proofs.Stepping.{events_begin, one_event}
 use Rattle.fx_machine.proofs.run.run.Goals as goal
@@ -19,20 +19,9 @@ steps-init g c =
       targets = c.requires;
     }
 
-pub returns-then-address-bytes-clause-value : goal.returns-then-address-bytes-clause-value
-returns-then-address-bytes-clause-value g c = rw c.steps.invariant.answer (c.at_end.ensures.value c.steps.state)
-
-pub returns-then-address-bytes-clause-watched : goal.returns-then-address-bytes-clause-watched
-returns-then-address-bytes-clause-watched g c = seen_all c.steps.invariant.watched
-    (unseen_past _ _ c.args.start _ 0 c.steps.calls.open_calls.items _ _ _ (grind arith))
-
-pub returns-then-left-eq0-clause-value : goal.returns-then-left-eq0-clause-value
-returns-then-left-eq0-clause-value g c = rw c.halted.ensures
-    (limit_here _ _ _ _ _ _ _ _ c.steps.calls.open_calls.items _ _ c.steps.invariant.answer (omega arith) (grind arith))
-
 pub returns-then-left-eq0-clause-watched : goal.returns-then-left-eq0-clause-watched
 returns-then-left-eq0-clause-watched g c = seen_all c.steps.invariant.watched
-    (unseen_limit _ _ c.args.start _ 0 c.steps.calls.open_calls.items _ _ _ (omega arith))
+    (unseen_end _ _ c.args.start _ 0 c.steps.calls.open_calls.items _ _ _ (search rules))
 
 pub returns-in-Err-clause-watched : goal.returns-in-Err-clause-watched
 returns-in-Err-clause-watched g c = seen_all c.steps.invariant.watched
@@ -41,7 +30,7 @@ returns-in-Err-clause-watched g c = seen_all c.steps.invariant.watched
 
 pub returns-in-Err-clause-value : goal.returns-in-Err-clause-value
 returns-in-Err-clause-value g c =
-    rw c.halted-in-Err.ensures
+    rw c.halted.ensures
     (halted_here _ _ _ _ _ c.steps.state _ _ c.steps.calls.open_calls.items _ _ c.steps.invariant.answer _ (omega arith)
     (rw c.steps.invariant.bytes at c.in-Err.ensures.moved))
 
