@@ -1,3 +1,3 @@
 pub mod Places
-pub mod Says
+pub mod Lines
 pub mod inner

@@ -1,10 +1,10 @@
 //! What a command line asks a front for.
 ghost use Rattle.std.specs.Prelude.{◌≡◌};
 ghost use Rattle.fx_words.specs.Parts.{texts};
-ghost use Rattle.fx_front.specs.inner.Asked.{asked_by, asked_by_word, has, seen_asked};
+ghost use Rattle.fx_front.specs.inner.Asked.{asked_by, asked_by_word, seen_asked};
 
 use crate::meant::command_of;
-use fx_words::Parts;
+use fx_words::{Parts, has};
 
 /// What a command line asks a front for.
 pub enum Asked<'a> {
@@ -80,17 +80,4 @@ fn asked_by_word<'a>(word: &'a str, rest: &[&'a str]) -> Asked<'a>
     } else {
         Asked::Run
     }
-}
-
-/// Whether a word is among words.
-pub(crate) fn has(words: &[&str], word: &str) -> bool
-    ensures { result ≡ has (texts words.now) word.now }
-{
-    // The word is among those that are left if it is among all.
-    'words: for each in words {
-        if *each == word {
-            return true;
-        }
-    }
-    false
 }

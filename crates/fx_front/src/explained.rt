@@ -1,18 +1,18 @@
 //! What is said after a run: what to do.
 ghost use Rattle.std.specs.Prelude.{◌≡◌};
 ghost use Rattle.fx_fixed.specs.Changes.{change_of};
-ghost use Rattle.fx_front.specs.Says.{Says};
+ghost use Rattle.fx_front.specs.Lines.{SaysLine};
 
-use crate::asked::{AskedRun, has};
+use crate::asked::AskedRun;
 use crate::facts::{Counts, Facts, RefusalFacts};
 use crate::kinds::{KINDS, kind_of};
 use crate::lines::tell;
-use crate::meant::{is_among, meant_by, place_of, set_meant_by};
+use crate::meant::{instead_of, is_among, meant_by, set_meant_by};
 use crate::run::Ended;
 use crate::text::Text;
 use crate::tool::Tool;
 use fx_fixed::{Digits, Sink};
-use fx_words::list_of;
+use fx_words::{has, list_of};
 use std::alloc::{AllocError, Global};
 
 /// The endings of files of other formats.
@@ -54,8 +54,8 @@ pub fn say_after<G: Tool, E: Sink>(
     is_file: bool,
     err: &mut E,
 )
-    ensures { (between : E) × Says (change_of E.held E.fault_count err.old between)
-        × Says (change_of E.held E.fault_count between err.new) }
+    ensures { (between : E) × SaysLine (change_of E.held E.fault_count err.old between)
+        × SaysLine (change_of E.held E.fault_count between err.new) }
 {
     let font_or_file = of_font_or_file(alloc, program.facts(), task, ended);
     tell(alloc, err, font_or_file);
@@ -345,8 +345,8 @@ fn add_wrong(
     if let Some(option) = wrong.strip_prefix("unknown option '") {
         let option = option.strip_suffix("'").unwrap_or(option);
         text.add_all(&[wrong, ";"])?;
-        return match place_of(option) {
-            Some(place) => text.add_all(&[" ", place, ";"]),
+        return match instead_of(option) {
+            Some(instead) => text.add_all(&[" ", instead, ";"]),
             None => add_question(text, " ", &meant_by(alloc, option, command)?, ""),
         };
     }

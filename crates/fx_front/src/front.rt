@@ -2,7 +2,7 @@
 ghost use Rattle.std.specs.Prelude.{IfOk};
 ghost use Rattle.fx_fixed.specs.Changes.{change_of};
 ghost use Rattle.fx_front.specs.Places.{IsStatus};
-ghost use Rattle.fx_front.specs.Says.{Says};
+ghost use Rattle.fx_front.specs.Lines.{SaysLine};
 
 use crate::asked::{Asked, AskedRun, asked_by};
 use crate::explained::say_after;
@@ -60,7 +60,7 @@ fn say(rt: &HostRuntime, pieces: &[&str]) {
 
 /// Says why there are no words, after the line of a wrong command line.
 pub fn say_not_text<E: Sink>(alloc: Global, err: &mut E)
-    ensures { Says (change_of E.held E.fault_count err.old err.new) }
+    ensures { SaysLine (change_of E.held E.fault_count err.old err.new) }
 {
     let what = "an argument is not UTF-8 text: give a font with such a name on standard input";
     tell(alloc, err, Text::of(alloc, &[what]));

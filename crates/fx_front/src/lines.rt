@@ -1,7 +1,7 @@
 //! The lines that a front adds for people.
 ghost use Rattle.std.specs.Prelude.{◌≡◌, IfOk};
 ghost use Rattle.fx_fixed.specs.Changes.{change_of};
-ghost use Rattle.fx_front.specs.Says.{IsLine, Says, line_of};
+ghost use Rattle.fx_front.specs.Lines.{IsLine, SaysLine, line_of};
 
 use crate::text::Text;
 use fx_fixed::{Sink, put_all};
@@ -10,7 +10,7 @@ use std::alloc::{AllocError, Global};
 /// Says a text in a line, if there was memory for it. Nothing is said without bytes, or if the sink was at fault before. A fault is
 /// ignored.
 pub fn tell<E: Sink>(alloc: Global, err: &mut E, made: Result<Text, AllocError>)
-    ensures { Says (change_of E.held E.fault_count err.old err.new) }
+    ensures { SaysLine (change_of E.held E.fault_count err.old err.new) }
 {
     if let Ok(text) = made
         && !text.is_empty()

@@ -45,7 +45,7 @@ const USUAL: [(&str, &str); 8] = [
 ];
 
 /// What there is in place of options that others have.
-const PLACES: [(&str, &str); 7] = [
+const INSTEAD: [(&str, &str); 7] = [
     (
         "--pt --points --dpi --resolution -r",
         "--ppem is in pixels: points times the resolution, divided by 72",
@@ -104,11 +104,11 @@ pub(crate) fn command_of(word: &str) -> Option<&'static str>
 }
 
 /// What there is in place of an option that others have.
-pub(crate) fn place_of(option: &str) -> Option<&'static str> {
+pub(crate) fn instead_of(option: &str) -> Option<&'static str> {
     // The option is in no row so far.
-    'rows: for (options, place) in PLACES.iter().copied() {
+    'rows: for (options, instead) in INSTEAD.iter().copied() {
         if is_among(option, options) {
-            return Some(place);
+            return Some(instead);
         }
     }
     None

@@ -3,7 +3,7 @@ ghost use Rattle.std.specs.Prelude.{◌≡◌, ◌==◌, ◌<◌, ◌∷◌, ◌
 ghost use Rattle.std.specs.Char.{to_ascii_lowercase};
 ghost use Rattle.std.specs.Fmt.{decimal};
 ghost use Rattle.fx_fixed.specs.Lines.{hexadecimal};
-ghost use Rattle.fx_front.specs.Says.{IsLine, shown, shown_pieces, shown_text};
+ghost use Rattle.fx_front.specs.Lines.{IsLine, shown, shown_pieces, shown_text};
 
 use fx_fixed::Digits;
 use std::alloc::{AllocError, Global};
@@ -17,7 +17,7 @@ pub struct Text {
 
 impl Model for Text {
     ghost use Rattle.std.specs.Prelude.{ℕ, List};
-    ghost use Rattle.fx_front.specs.Says.{IsLine};
+    ghost use Rattle.fx_front.specs.Lines.{IsLine};
 
     ghost Value = { List ℕ };
 

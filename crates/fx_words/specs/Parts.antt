@@ -76,19 +76,23 @@ joined_output word = without_equals (after_first (λ b. b == 111) word)
 abbrev pub is_joined_set : Text → Bool
 is_joined_set word = has_byte 61 word && bytes_eq (before_first (λ b. b == 61) word) (codes "--set")
 
+-- whether a word is among words
+abbrev pub has : List Text → Text → Bool
+has [] word = false
+has (each ∷ words) word = bytes_eq each word || has words word
+
 -- the options that take the next word as their value
-abbrev pub takes_value : Text → Bool
-takes_value word =
-    bytes_eq word (codes "--ppem") || (bytes_eq word (codes "--chars") || (bytes_eq word (codes "--name")
-    || (bytes_eq word (codes "--property") || (bytes_eq word (codes "--refused") || (bytes_eq word (codes "--face")
-    || (bytes_eq word (codes "--char") || (bytes_eq word (codes "--glyph") || bytes_eq word (codes "--of"))))))))
+unfoldable pub valued : List Text
+valued =
+    codes "--ppem" ∷ codes "--chars" ∷ codes "--name" ∷ codes "--property" ∷ codes "--refused" ∷ codes "--face"
+    ∷ codes "--char" ∷ codes "--glyph" ∷ codes "--of" ∷ []
 
 -- what a word is that is no value
 abbrev pub other_kind : Bool → Text → WordKind
 other_kind is_make word =
     if is_make && is_joined_set word then JoinedSet
     else (if has_joined_output word then JoinedOutput
-    else (if takes_value word then Valued else (if is_option word then Flag else Name)))
+    else (if has valued word then Valued else (if is_option word then Flag else Name)))
 
 abbrev pub kind_of : Bool → Text → WordKind
 kind_of is_make word =

@@ -1,9 +1,22 @@
 //! The words of a command line, parted: the font, the output, and the words for the program.
 ghost use Rattle.std.specs.Prelude.{◌≡◌, false, true, [], IfOk, OnOk};
-ghost use Rattle.fx_words.specs.Parts.{end, first, has_hyphen, has_joined_output, is_joined_set, is_option, is_path, joined_output};
-ghost use Rattle.fx_words.specs.Parts.{kept, kind_of, named_by, other_kind, parts_of, put_by, seen, step, step_by, takes_value, texts, without_equals};
+ghost use Rattle.fx_words.specs.Parts.{end, first, has, has_hyphen, has_joined_output, is_joined_set, is_option, is_path, joined_output};
+ghost use Rattle.fx_words.specs.Parts.{kept, kind_of, named_by, other_kind, parts_of, put_by, seen, step, step_by, texts, without_equals};
 
 use std::alloc::{AllocError, Global};
+
+/// The options for the program that take the next word as their value.
+const VALUED: [&str; 9] = [
+    "--ppem",
+    "--chars",
+    "--name",
+    "--property",
+    "--refused",
+    "--face",
+    "--char",
+    "--glyph",
+    "--of",
+];
 
 /// What the next word may be.
 #[derive(Clone, Copy)]
@@ -236,6 +249,7 @@ fn kind_of(is_make: bool, word: &str) -> WordKind
 }
 
 /// What a word is that is none of these.
+#[tactic(auto, unfolding(crate::specs::Parts::valued))]
 fn other_kind(is_make: bool, word: &str) -> WordKind
     ensures { result ≡ other_kind is_make word.now }
 {
@@ -243,7 +257,7 @@ fn other_kind(is_make: bool, word: &str) -> WordKind
         WordKind::JoinedSet
     } else if has_joined_output(word) {
         WordKind::JoinedOutput
-    } else if takes_value(word) {
+    } else if has(&VALUED, word) {
         WordKind::Valued
     } else if is_option(word) {
         WordKind::Flag
@@ -252,19 +266,17 @@ fn other_kind(is_make: bool, word: &str) -> WordKind
     }
 }
 
-/// Whether a word is an option for the program that takes the next word as its value.
-fn takes_value(word: &str) -> bool
-    ensures { result ≡ takes_value word.now }
+/// Whether a word is among words.
+pub fn has(words: &[&str], word: &str) -> bool
+    ensures { result ≡ has (texts words.now) word.now }
 {
-    word == "--ppem"
-        || word == "--chars"
-        || word == "--name"
-        || word == "--property"
-        || word == "--refused"
-        || word == "--face"
-        || word == "--char"
-        || word == "--glyph"
-        || word == "--of"
+    // The word is among those that are left if it is among all.
+    'words: for each in words {
+        if *each == word {
+            return true;
+        }
+    }
+    false
 }
 
 /// Whether a word begins with a hyphen.

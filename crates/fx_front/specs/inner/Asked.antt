@@ -1,9 +1,9 @@
 -- What a command line asks for.
-use Rattle.std.specs.Prelude.{◌&&◌, ◌||◌, Bool, false, List, [], ◌∷◌, codes, Option, Some, None, is_some}
+use Rattle.std.specs.Prelude.{◌&&◌, ◌||◌, Bool, List, [], ◌∷◌, codes, Option, Some, None, is_some}
 use Rattle.std.specs.Prelude.{if◌then◌else◌}
 use Rattle.std.specs.List.{find}
 use Rattle.std.specs.Str.{bytes_eq}
-use Rattle.fx_words.specs.Parts.{Text, text_in}
+use Rattle.fx_words.specs.Parts.{Text, has, text_in}
 use Rattle.fx_front.specs.declared.asked.Asked.{Asked}
 use Rattle.fx_front.specs.declared.asked.Asked.TheVariants as held
 
@@ -28,11 +28,6 @@ name_among names word = find (λ name. bytes_eq name word) names
 
 unfoldable pub command_of : Text → Option Text
 command_of word = name_among commands word
-
--- whether a word is among words
-abbrev pub has : List Text → Text → Bool
-has [] word = false
-has (each ∷ words) word = bytes_eq each word || has words word
 
 abbrev pub first_of : List Text → Option Text
 first_of [] = None

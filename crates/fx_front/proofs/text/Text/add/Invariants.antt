@@ -1,5 +1,5 @@
 use Rattle.std.proofs.Common.{◌≡◌, ◌++◌, take}
-use Rattle.fx_front.specs.Says.{shown_text}
+use Rattle.fx_front.specs.Lines.{shown_text}
 use Rattle.fx_front.proofs.text.Text.add.Given as goal
 
 -- the bytes so far were added

@@ -1,5 +1,5 @@
 use Rattle.std.proofs.Common.{◌≡◌, ◌++◌, take}
-use Rattle.fx_front.specs.Says.{shown_pieces}
+use Rattle.fx_front.specs.Lines.{shown_pieces}
 use Rattle.fx_front.proofs.text.Text.add_all.Given as goal
 
 -- the pieces so far were added

@@ -1,6 +1,6 @@
 use Rattle.std.proofs.Common.{◌≡◌, ◌++◌, map, take}
 use Rattle.std.specs.Char.{to_ascii_lowercase}
-use Rattle.fx_front.specs.Says.{shown_text}
+use Rattle.fx_front.specs.Lines.{shown_text}
 use Rattle.fx_front.proofs.text.Text.add_code.Given as goal
 
 -- the digits so far were added

@@ -1,7 +1,6 @@
 use Rattle.std.proofs.Common.{◌≡◌, drop}
-use Rattle.fx_words.specs.Parts.{texts}
-use Rattle.fx_front.specs.inner.Asked.{has}
-use Rattle.fx_front.proofs.asked.has.Given as goal
+use Rattle.fx_words.specs.Parts.{has, texts}
+use Rattle.fx_words.proofs.parts.has.Given as goal
 
 -- the word is among those that are left if it is among all
 abbrev pub invariant-words : goal.invariant-words

@@ -32,6 +32,6 @@ abbrev pub IsSilent : Change → Type 0
 IsSilent err = Keeps err.bytes_before err.bytes × (err.faults ≡ err.faults_before)
 
 -- nothing was written, or one line, or the first bytes of one with a fault
-abbrev pub Says : Change → Type 0
-Says err = IsSilent err
+abbrev pub SaysLine : Change → Type 0
+SaysLine err = IsSilent err
     ⊎ ((text : List ℕ) × IsLine text × ((result : Result (Unit {0}) WriteFailed) × Wrote err (line_of text) result))
