@@ -13,3 +13,4 @@ pub mod Linear
 pub mod Ring
 pub mod Roots
 pub mod Signs
+pub mod Bounds

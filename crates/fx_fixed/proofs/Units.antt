@@ -1,7 +1,7 @@
 -- A direction has one unit vector, and it is the function's.
 -- For `unit`, and the laws of its definitions.
 use Rattle.std.proofs.Common.{◌≡◌, ◌≢◌, ℕ, zero, suc, ◌-◌, ◌*◌, ◌<◌, ◌≤◌, Bool, true, false, cond, nat_eq, arith, ℤ, pos, negsuc}
-use Rattle.std.proofs.Common.{neg_ℤ, unsigned_abs, refl, sym, ◌∙◌}
+use Rattle.std.proofs.Common.{neg_ℤ, ◌≤ℤ◌, ◌<ℤ◌, unsigned_abs, refl, sym, ◌∙◌}
 use Rattle.std.proofs.Math.Nat.{mul-le-mul_right, mul-le-mul}
 use Rattle.std.proofs.lemmas.Int.{ints, by_lt_z}
 use Rattle.std.proofs.lemmas.Bool.Decides.{nat_tests}
@@ -48,31 +48,26 @@ none_at_zero s c z g =
     omega (arith, a, mul-le-mul_right s (mul-le-mul odd odd)) in
     omega arith
 
-abs_neg : (m : ℕ) → unsigned_abs (neg_ℤ (pos m)) ≡ m
-abs_neg m = omega (arith, ints)
+-- the greatest size, with the sign of its coordinate
+pub component_signed : (x : ℤ) (s m : ℕ) (u : ℤ) → s ≢ 0 → IsGreatestOrZero (Admits (unsigned_abs x) s) m
+    → (x <ℤ pos 0 → u ≡ neg_ℤ (pos m)) → (pos 0 ≤ℤ x → u ≡ pos m) → IsComponent x s u
+component_signed (pos zero) s m u z g n p =
+    let e = none_at_zero s m z g in
+    let f = p (omega (arith, ints)) in
+    record { size = rw f g; not_negative = λ i. omega (arith, ints); not_positive = λ i. omega (arith, ints) }
+component_signed (pos (suc k)) s m u z g n p =
+    let f = p (omega (arith, ints)) in
+    record { size = rw f g; not_negative = λ i. omega (arith, ints); not_positive = λ i. absurd (omega (arith, ints)) }
+component_signed (negsuc k) s m u z g n p =
+    let f = n (omega (arith, ints)) in
+    let e : unsigned_abs (neg_ℤ (pos m)) ≡ m = omega (arith, ints) in
+    record { size = rw (f, e) g; not_negative = λ i. absurd (omega (arith, ints)); not_positive = λ i. omega (arith, ints) }
 
 component_is : (x : ℤ) (s : ℕ) → s ≢ 0 → unsigned_abs x * unsigned_abs x ≤ s → IsComponent x s (component_of x s)
-component_is (pos zero) s z h =
-    record {
-      size = size_is 0 s z h;
-      not_negative = λ i. omega (arith, ints);
-      not_positive = λ i. omega
-          (arith, ints, none_at_zero s (component_size 0 s) z (size_is 0 s z h));
-    }
-component_is (pos (suc n)) s z h =
-    record {
-      size = size_is (suc n) s z h;
-      not_negative = λ i. omega (arith, ints);
-      not_positive = λ i. absurd
-          (omega (arith, ints));
-    }
-component_is (negsuc n) s z h =
-    record {
-      size = rw (abs_neg (component_size (suc n) s)) (size_is (suc n) s z h);
-      not_negative = λ i. absurd
-          (omega (arith, ints));
-      not_positive = λ i. omega (arith, ints);
-    }
+component_is (pos n) s z h = component_signed (pos n) s (component_size n s) (pos (component_size n s)) z (size_is n s z h)
+    (λ l. absurd (omega (arith, ints))) (λ l. refl)
+component_is (negsuc n) s z h = component_signed (negsuc n) s (component_size (suc n) s) (neg_ℤ (pos (component_size (suc n) s))) z
+    (size_is (suc n) s z h) (λ l. refl) (λ l. absurd (omega (arith, ints)))
 
 unit_at : (x y : ℤ) (b : Bool) → nat_eq (square_length x y) 0 ≡ b → let w : ℤ
     × ℤ = cond b (pos 16384, pos 0) (component_of x (square_length x y), component_of y (square_length x y)) in IsUnit x y w.0 w.1

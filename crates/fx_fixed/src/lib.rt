@@ -10,6 +10,7 @@ mod digits;
 mod memory;
 mod numbers;
 mod places;
+mod products;
 mod quotients;
 mod sink;
 mod sizes;
@@ -25,6 +26,7 @@ pub use numbers::{
     F2, F26, cut, near, near_64, near_16384, rounding_functions, rounding_laws, w32,
 };
 pub use places::{Axis, Place};
+pub use products::{product, product_16, wide_product};
 pub use quotients::near_quotient;
 pub use sink::{Sink, ToSink, WriteFailed, put_all};
 pub use sizes::{MAX_PPEM, Ppem};

@@ -1,9 +1,11 @@
 //! Places in the plane of the pixels, and its axes.
 
-ghost use Rattle.std.specs.Prelude.{◌≡◌};
+ghost use Rattle.std.specs.Prelude.{◌≡◌, ◌≤◌, ◌^◌, pos, ◌+ℤ◌, ◌*ℤ◌, unsigned_abs};
+ghost use Rattle.fx_fixed.specs.Numbers.{near_of, wrapped_of};
 ghost use Rattle.fx_fixed.specs.Places.{place_sum_of, place_difference_of, coordinate_of, place_on, origin};
 
-use crate::numbers::F26;
+use crate::numbers::{F2, F26, near_16384, w32};
+use crate::products::product_16;
 
 /// An axis of the plane (Apple TrueType Reference Manual, "Instructing TrueType Glyphs").
 #[derive(Clone, Copy, Debug, PartialEq, Eq)]
@@ -79,4 +81,19 @@ impl Place {
             y: self.y.minus(by.y),
         }
     }
+
+    /// The sum of its coordinates, each times a number in 2.14: the nearest to the exact sum, halves away from zero, in 32 bits.
+    pub fn weighted(self, u: F2, v: F2) -> F26
+        ensures { result ≡ wrapped_of (near_of (self.x *ℤ u +ℤ self.y *ℤ v) (pos (2 ^ 14))) }
+    {
+        F26(w32(i128::from(near_16384(weighted_sum(self.x.0, u.0, self.y.0, v.0)))))
+    }
+}
+
+/// The exact sum of two products.
+fn weighted_sum(x: i32, u: i16, y: i32, v: i16) -> i64
+    ensures value { result ≡ x *ℤ u +ℤ y *ℤ v }
+    ensures size { unsigned_abs result ≤ 2 ^ 47 }
+{
+    product_16(x, u) + product_16(y, v)
 }
