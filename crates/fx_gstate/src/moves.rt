@@ -4,7 +4,7 @@ ghost use Rattle.std.specs.Prelude.{◌≡◌, ◌≢◌, ◌^◌, ◌≤◌, po
 ghost use Rattle.fx_gstate.specs.Vectors.{dot_of, not_small, shift_part_of, shift_of};
 
 use crate::vectors::Vector;
-use fx_fixed::{Axis, F26, Place, near_quotient, w32};
+use fx_fixed::{Axis, F26, Place, near_quotient, product_16, w32};
 
 /// The shift along the freedom vector that changes the projection by `d` (Apple TrueType Reference Manual, "Freedom vector"): each
 /// coordinate is the nearest to the exact quotient, in 32 bits. When both vectors are one axis it is `d` along that axis.
@@ -46,7 +46,7 @@ fn numerator(d: i32, along: i16) -> i64
     ensures value { result ≡ d *ℤ along *ℤ pos (2 ^ 14) }
     ensures bound { unsigned_abs result ≤ 2 ^ 60 }
 {
-    crate::vectors::product(d, along) * (1 << 14)
+    product_16(d, along) * (1 << 14)
 }
 
 /// The product of the vectors.
@@ -82,14 +82,5 @@ fn dot_product(fx: i16, fy: i16, px: i16, py: i16) -> i64
     ensures value { result ≡ fx *ℤ px +ℤ fy *ℤ py }
     ensures size { unsigned_abs result ≤ 2 ^ 31 }
 {
-    product(fx, px) + product(fy, py)
-}
-
-/// The product of two coordinates.
-#[tactic(auto, using(crate::proofs::Products::product_is, crate::proofs::Products::product_size))]
-fn product(a: i16, b: i16) -> i64
-    ensures value { result ≡ a *ℤ b }
-    ensures bound { unsigned_abs result ≤ 2 ^ 30 }
-{
-    i64::from(a) * i64::from(b)
+    product_16(i32::from(fx), px) + product_16(i32::from(fy), py)
 }

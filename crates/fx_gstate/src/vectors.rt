@@ -1,13 +1,13 @@
 //! Unit vectors.
 
 ghost use Rattle.std.specs.Int.{cast_unsigned, w16};
-ghost use Rattle.std.specs.Prelude.{◌≡◌, ◌↔◌, IsTrue, ◌^◌, ◌+◌, ◌*◌, ◌+ℤ◌, ◌*ℤ◌, unsigned_abs, ◌≤◌};
+ghost use Rattle.std.specs.Prelude.{◌≡◌, ◌↔◌, IsTrue, ◌+◌, ◌*◌};
 ghost use Rattle.fx_fixed.specs.Ranges.{IsWithin};
 ghost use Rattle.fx_fixed.specs.Unit.{unit_of};
 ghost use Rattle.fx_gstate.specs.Vectors.{axis_of, projection_of, line_of, low_word, words_of, turned_of, part_of, place_along};
 ghost use Rattle.fx_gstate.specs.Vectors.{has_part};
 
-use fx_fixed::{Axis, F2, F26, Place, near_16384, unit, w32};
+use fx_fixed::{Axis, F2, F26, Place, near_16384, product_16, unit, w32};
 use std::marker::Model;
 
 /// A unit vector; contracts see its two coordinates in 2.14.
@@ -136,6 +136,7 @@ impl Vector {
     }
 
     /// The projection of a difference of places on the vector: the nearest to the exact product, halves away from zero, in 32 bits.
+    #[tactic(auto, unfolding(crate::specs::Vectors::projection_of))]
     pub fn project(self, d: Place) -> F26
         ensures { result ≡ projection_of self d }
     {
@@ -144,7 +145,7 @@ impl Vector {
         } else if self.is_along(Axis::Y) {
             d.y
         } else {
-            projected(self.x, self.y, d)
+            d.weighted(self.x, self.y)
         }
     }
 
@@ -159,40 +160,12 @@ impl Vector {
     }
 }
 
-/// The projection with no shortcut.
-#[tactic(auto, unfolding(crate::specs::Vectors::projection_of))]
-fn projected(x: F2, y: F2, d: Place) -> F26
-    ensures { result ≡ projection_of (x, y) d }
-{
-    let sum = sum(product(d.x.0, x.0), product(d.y.0, y.0));
-    F26(w32(i128::from(near_16384(sum))))
-}
-
 /// One coordinate of a place along a vector.
 #[tactic(auto, unfolding(crate::specs::Vectors::part_of))]
 fn part(d: F26, along: F2) -> F26
     ensures { result ≡ part_of d along }
 {
-    F26(w32(i128::from(near_16384(product(d.0, along.0)))))
-}
-
-/// The exact product of a distance and a coordinate of a vector.
-#[tactic(auto, using(crate::proofs::Products::product_is, crate::proofs::Products::product_size))]
-pub(crate) fn product(distance: i32, along: i16) -> i64
-    ensures value { result ≡ distance *ℤ along }
-    ensures bound { unsigned_abs result ≤ 2 ^ 46 }
-{
-    i64::from(distance) * i64::from(along)
-}
-
-/// The sum of two products.
-fn sum(a: i64, b: i64) -> i64
-    requires near_a { unsigned_abs a ≤ 2 ^ 46 }
-    requires near_b { unsigned_abs b ≤ 2 ^ 46 }
-    ensures value { result ≡ a +ℤ b }
-    ensures bound { unsigned_abs result ≤ 2 ^ 47 }
-{
-    a + b
+    F26(w32(i128::from(near_16384(product_16(d.0, along.0)))))
 }
 
 /// The low 16 bits of a stack number, signed.

@@ -1,6 +1,6 @@
 //! Distances: sizes, signs, the single width and the minimum distance.
 
-ghost use Rattle.std.specs.Prelude.{◌≡◌, ◌≤◌, ◌^◌, ◌*ℤ◌, unsigned_abs, int_lt};
+ghost use Rattle.std.specs.Prelude.{◌≡◌, int_lt};
 ghost use Rattle.fx_pointops.specs.Distances.{size_of, negative_of, on_side_of, single_of, at_least, relative_of, rounded_by, kept_by};
 
 use fx_fixed::{F26, w32};
@@ -49,15 +49,6 @@ pub fn negative(d: F26) -> F26
     ensures { result ≡ negative_of d }
 {
     F26(w32(-i128::from(d.0)))
-}
-
-/// An exact product of two distances.
-#[tactic(auto, using(fx_gstate::proofs::Products::product_is, fx_gstate::proofs::Products::product_size))]
-pub fn product(a: F26, b: F26) -> i64
-    ensures value { result ≡ a *ℤ b }
-    ensures bound { unsigned_abs result ≤ 2 ^ 62 }
-{
-    i64::from(a.0) * i64::from(b.0)
 }
 
 /// A width on the side of a distance; 0 counts as positive.

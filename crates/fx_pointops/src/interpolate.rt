@@ -4,11 +4,10 @@ ghost use Rattle.std.specs.Prelude.{◌≡◌, ◌≢◌, ◌≤◌, ◌^◌, po
 ghost use Rattle.fx_fixed.specs.Numbers.{near_of, wrapped_of};
 ghost use Rattle.fx_pointops.specs.Interpolate.{proportion_of, point_in_proportion, ip_of};
 
-use crate::distances::product;
 use crate::loops::LoopStep;
 use crate::shift_point::move_point;
 use crate::zones::Zones;
-use fx_fixed::{F26, near_quotient, w32};
+use fx_fixed::{F26, near_quotient, product, w32};
 use fx_gstate::GState;
 
 /// A distance that is not 0, as a divisor.
@@ -26,7 +25,7 @@ fn proportional(o: F26, cb: F26, ob: F26) -> F26
     requires { ob ≢ pos 0 }
     ensures { result ≡ wrapped_of (near_of (o *ℤ cb) ob) }
 {
-    F26(w32(i128::from(near_quotient(product(o, cb), divisor(ob)))))
+    F26(w32(i128::from(near_quotient(product(o.0, cb.0), divisor(ob)))))
 }
 
 /// A distance in the proportion of `cb` to `ob`; the distance itself if `ob` is 0.

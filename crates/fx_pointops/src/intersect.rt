@@ -1,33 +1,38 @@
 //! The row that puts a point where two lines cross.
 
-ghost use Rattle.std.specs.Prelude.{◌≡◌, ◌≢◌, ◌≤◌, ◌^◌, pos, ◌+ℤ◌, ◌*ℤ◌, unsigned_abs};
+ghost use Rattle.std.specs.Prelude.{◌≡◌, ◌≢◌, ◌≤◌, ◌^◌, pos, ◌+ℤ◌, ◌-ℤ◌, ◌*ℤ◌, unsigned_abs};
 ghost use Rattle.fx_fixed.specs.Places.{place_sum_of};
 ghost use Rattle.fx_zone.specs.Points.{put};
 ghost use Rattle.fx_pointops.specs.Zones.{on_point};
 ghost use Rattle.fx_pointops.specs.Intersect.{cross_of, fraction_of, scaled_by, mean_of, middle_of, intersection_of, isect_of};
 
-use crate::distances::product;
 use crate::zones::{Zones, cur};
-use fx_fixed::{F26, Place, near, w32};
+use fx_fixed::{F26, Place, near, product, w32};
 use fx_gstate::GState;
 
+/// The difference of two products.
+fn products_apart(a: i32, b: i32, c: i32, d: i32) -> i128
+    ensures value { result ≡ a *ℤ b -ℤ c *ℤ d }
+    ensures bound { unsigned_abs result ≤ 2 ^ 63 }
+{
+    i128::from(product(a, b)) - i128::from(product(c, d))
+}
+
 /// The cross product of two differences of places.
-#[tactic(auto, using(crate::proofs::Multiplying::products_difference))]
 fn cross(a: &Place, b: &Place) -> i128
     ensures value { result ≡ cross_of a.now b.now }
     ensures bound { unsigned_abs result ≤ 2 ^ 63 }
 {
-    i128::from(product(a.x, b.y)) - i128::from(product(a.y, b.x))
+    products_apart(a.x.0, b.y.0, a.y.0, b.x.0)
 }
 
 /// An exact product of a cross product and a coordinate.
-#[tactic(auto, using(crate::proofs::Multiplying::product_is, fx_gstate::proofs::Products::product_size))]
-fn multiple(n: i128, d: F26) -> i128
+fn multiple(n: i128, d: i32) -> i128
     requires { unsigned_abs n ≤ 2 ^ 63 }
     ensures value { result ≡ n *ℤ d }
     ensures bound { unsigned_abs result ≤ 2 ^ 94 }
 {
-    n * i128::from(d.0)
+    n * i128::from(d)
 }
 
 /// A coordinate times the fraction `n / by`.
@@ -38,7 +43,7 @@ fn fraction(n: i128, d: F26, by: i128) -> F26
     requires nonzero { by ≢ pos 0 }
     ensures { result ≡ fraction_of n d by }
 {
-    F26(w32(near(multiple(n, d), by)))
+    F26(w32(near(multiple(n, d.0), by)))
 }
 
 /// A difference of places times the fraction `n / by`.

@@ -8,7 +8,7 @@ ghost use Rattle.fx_stackops.specs.Rows.{round_row, nround_row, max_row, min_row
 
 use crate::fault::StackFault;
 use crate::store::Store;
-use fx_fixed::{F26, near_64, w32};
+use fx_fixed::{F26, near_64, product, w32};
 use fx_gstate::GState;
 
 impl Store {
@@ -51,7 +51,7 @@ impl Store {
         ensures { DoesToStore mul_row self.old self.new result }
     {
         let (a, b) = self.fold()?;
-        self.set_last(product(a, b));
+        self.set_last(rounded_product(a, b));
         Ok(())
     }
 
@@ -136,19 +136,10 @@ impl Store {
 }
 
 /// The product of two numbers in 26.6.
-fn product(a: i32, b: i32) -> i32
+fn rounded_product(a: i32, b: i32) -> i32
     ensures { result ≡ wrapped_of (near_of (a *ℤ b) (pos 64)) }
 {
-    w32(i128::from(near_64(exact_product(a, b))))
-}
-
-/// The exact product, in 1/4096.
-#[tactic(auto, using(fx_gstate::proofs::Products::product_is, fx_gstate::proofs::Products::product_size))]
-fn exact_product(a: i32, b: i32) -> i64
-    ensures value { result ≡ a *ℤ b }
-    ensures size { unsigned_abs result ≤ 2 ^ 62 }
-{
-    i64::from(a) * i64::from(b)
+    w32(i128::from(near_64(product(a, b))))
 }
 
 /// The quotient of two numbers in 26.6, without its fraction.

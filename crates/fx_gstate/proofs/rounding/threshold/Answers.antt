@@ -5,7 +5,7 @@ use Rattle.std.proofs.lemmas.Bool.Decides.{nat_tests}
 use Rattle.fx_fixed.proofs.Linear.{signed_linear}
 use Rattle.std.specs.Int.{int_div_euclid}
 use Rattle.fx_gstate.specs.Rounding.{threshold_of}
-use Rattle.fx_gstate.proofs.Products.{product_size}
+use Rattle.fx_fixed.proofs.Bounds.{product_size}
 use Rattle.fx_gstate.proofs.rounding.threshold.Goals as goal
 
 part_of_period_size : (k p : ℕ) → k < 16 → p ≤ 128 → unsigned_abs ((pos k -ℤ pos 4) *ℤ pos p) ≤ 12 * 128
