@@ -2,11 +2,11 @@
 
 ghost use Rattle.std.specs.Prelude.{◌≡◌, ◌≢◌, ◌+◌, ◌*◌, ◌≤◌, ◌<◌, ◌^◌, pos, ◌+ℤ◌, ◌-ℤ◌, ◌*ℤ◌, ◌<ℤ◌, unsigned_abs, length, drop, map, reverse, slice_index_or};
 ghost use Rattle.std.specs.List.{All};
-ghost use Rattle.fx_fixed.specs.Numbers.{wrapped_of, near_size};
+ghost use Rattle.fx_fixed.specs.Numbers.{wrapped_of, near_of, near_size};
 ghost use Rattle.fx_zone.specs.Interpolation.{is_touched, moved_with, in_proportion, coordinate_between, placed_along, placed, between, first_touched, untouched_run, point_before, contour_interpolated, contours_interpolated};
 
 use crate::point::ZonePoint;
-use fx_fixed::{Axis, F26, near, near_quotient, w32};
+use fx_fixed::{Axis, F26, near, near_quotient, product, w32, wide_product};
 
 /// Whether a point is touched along an axis.
 #[inline(always)]
@@ -35,27 +35,6 @@ fn distance(from: F26, to: F26) -> i64
     ensures nonzero { result ≢ pos 0 }
 {
     i64::from(to.0) - i64::from(from.0)
-}
-
-/// An exact product of two differences.
-fn product(a: i64, b: i64) -> i128
-    requires a { unsigned_abs a ≤ 2 ^ 32 }
-    requires b { unsigned_abs b ≤ 2 ^ 32 }
-    ensures value { result ≡ a *ℤ b }
-    ensures bound { unsigned_abs result ≤ 2 ^ 64 }
-{
-    i128::from(a) * i128::from(b)
-}
-
-/// An exact product of two differences of less than 2^25 pixels, in 64 bits.
-#[tactic(auto, using(crate::proofs::Multiplying::product_is, crate::proofs::Multiplying::product_bound))]
-fn short_product(a: i64, b: i64) -> i64
-    requires a { unsigned_abs a ≤ 2 ^ 31 }
-    requires b { unsigned_abs b ≤ 2 ^ 31 }
-    ensures value { result ≡ a *ℤ b }
-    ensures bound { unsigned_abs result ≤ 2 ^ 62 }
-{
-    a * b
 }
 
 /// A sum modulo 2^32.
@@ -107,7 +86,23 @@ fn in_proportion(o: F26, lo_org: F26, lo_cur: F26, hi_org: F26, hi_cur: F26) -> 
     in_long_proportion(o, lo_org, lo_cur, hi_org, hi_cur)
 }
 
-/// The coordinate in proportion, of any distances; those of less than 2^25 pixels need 64 bits.
+/// The rounded quotient of a product of any distances; of those below 2^25 pixels it needs 64 bits.
+fn long_quotient(part: i64, whole: i64, apart: i64) -> i128
+    requires part { unsigned_abs part ≤ 2 ^ 32 }
+    requires whole { unsigned_abs whole ≤ 2 ^ 32 }
+    requires apart { unsigned_abs apart ≤ 2 ^ 32 }
+    requires nonzero { apart ≢ pos 0 }
+    ensures value { result ≡ near_of (part *ℤ whole) apart }
+    ensures bound { unsigned_abs result ≤ 2 ^ 64 }
+{
+    if part.unsigned_abs() < 1 << 31 && whole.unsigned_abs() < 1 << 31 {
+        i128::from(near_quotient(product(part as i32, whole as i32), apart))
+    } else {
+        near(wide_product(part, whole), i128::from(apart))
+    }
+}
+
+/// The coordinate in proportion, of any distances.
 #[cold]
 #[inline(never)]
 #[tactic(auto, unfolding(crate::specs::Interpolation::in_proportion))]
@@ -117,12 +112,7 @@ fn in_long_proportion(o: F26, lo_org: F26, lo_cur: F26, hi_org: F26, hi_cur: F26
 {
     let part = difference(o, lo_org);
     let whole = difference(hi_cur, lo_cur);
-    let apart = distance(lo_org, hi_org);
-    if part.unsigned_abs() <= 1 << 31 && whole.unsigned_abs() <= 1 << 31 {
-        let moved = near_quotient(short_product(part, whole), apart);
-        return sum(lo_cur, i128::from(moved));
-    }
-    sum(lo_cur, near(product(part, whole), i128::from(apart)))
+    sum(lo_cur, long_quotient(part, whole, distance(lo_org, hi_org)))
 }
 
 /// Where an original coordinate goes, between two others.
