@@ -1,7 +1,7 @@
 -- Words of a frame whose rows and then columns were closed have the bits that drop-out control sets: `gaps_closed`.
 -- Serves `noted`.
 use Rattle.std.proofs.Common.{◌≡◌, ◌↔◌, inl, inr, refl, sym, ap, ◌∙◌, subst, ℕ, zero, suc, ◌*◌, ◌<◌, ◌≤◌, ℤ, pos}
-use Rattle.std.proofs.Common.{◌+ℤ◌, ◌-ℤ◌, true, false, IsTrue, List, ◌++◌, Any, map, take, drop, length, length-drop, unsigned_abs, arith}
+use Rattle.std.proofs.Common.{◌+ℤ◌, ◌-ℤ◌, Bool, true, false, IsTrue, List, ◌++◌, Any, map, take, drop, length, length-drop, unsigned_abs, arith}
 use Rattle.std.specs.Prelude.{◌==◌}
 use Rattle.std.proofs.lemmas.Bool.Decides.{nat_tests}
 use Rattle.std.proofs.lemmas.List.{length-take, take_at}
@@ -32,18 +32,33 @@ steps_of first n =
 from_in : (first : ℤ) (count n : ℕ) → n < count → IsFrom first count (first +ℤ pos n)
 from_in first count n l = (omega (arith, signed_linear), omega (arith, signed_linear, l))
 
+in_frame : (f : Frame) (n r : ℕ) → n < f.width → r < f.height → IsInFrame f (f.left +ℤ pos n) (f.bottom +ℤ pos r)
+in_frame f n r l h = record { column = from_in f.left f.width n l; row = from_in f.bottom f.height r h }
+
+not_before : (first : ℤ) (count : ℕ) → ¬ (IsFrom first count (first -ℤ pos 1))
+not_before first count i = omega (arith, signed_linear, i)
+
+not_after : (first : ℤ) (count : ℕ) → ¬ (IsFrom first count (first +ℤ pos count))
+not_after first count i = omega (arith, signed_linear, i)
+
 one : (n : ℕ) → IsTrue (n == 1) ↔ (n ≡ 1)
 one n = grind (arith, nat_tests)
+
+-- the bits of pixels, and of segments, by column and row
+abbrev pixel : Frame → List ℕ → ℕ → ℕ → ℕ
+pixel f xs k r = grid_bit xs (words_for f.width) k r
+
+abbrev note : Frame → List ℕ → ℕ → ℕ → ℕ
+note f xs k r = grid_bit xs (words_noted f.width) k r
 
 -- the bit of a pixel of a frame is that of its row
 pixel_bit : (f : Frame) (xs : List ℕ) (r k : ℕ) → r < f.height → k < f.width
     → IsTrue (bit_of (record { frame = f; rows = rows_of f.height f.width xs }) (f.left +ℤ pos k) (f.bottom +ℤ pos r))
-    ↔ (grid_bit xs (words_for f.width) k r ≡ 1)
+    ↔ (pixel f xs k r ≡ 1)
 pixel_bit f xs r k h l = grind (arith, h, l, bit_of-number, from_in, steps_of, part_bit, one)
 
 -- the bit of a segment of a row of notes
-noted_bit : (f : Frame) (xs : List ℕ) (r k : ℕ) → k < 32 * words_noted f.width
-    → grid_bit xs (words_noted f.width) k r ≡ word_bit xs (pixel_number f r k)
+noted_bit : (f : Frame) (xs : List ℕ) (r k : ℕ) → k < 32 * words_noted f.width → note f xs k r ≡ word_bit xs (pixel_number f r k)
 noted_bit f xs r k l = grind (arith, signed_linear, l, part_bit)
 
 not_one : (n : ℕ) → n < 2 → (n ≡ 1 → ⊥) → n ≡ 0
@@ -69,185 +84,146 @@ pub record IsGiven (closing : Closing) (f : Frame) (ss : List Span) (across up o
   pub noted : AreExact f across up ss
   pub closed : AreClosedWords (IsNextIn closing ss f) f across up old new
 
-row_line : (closing : Closing) (f : Frame) (ss : List Span) (across up old new : List ℕ)
-    → IsGiven closing f ss across up old new → NoneOutside f ss → (r : ℕ) → r < f.height
-    → IsLine ss (IsInFrame f) (IsNextChosen closing false ss) (λ i j. IsCovered (centre i j) ss) f.left (f.bottom +ℤ pos r) f.width
-    (λ k. grid_bit old (words_for f.width) k r)
-    (λ k. grid_bit across (words_noted f.width) k r)
-    (λ k. IsNextIn closing ss f false (f.left +ℤ pos k) (f.bottom +ℤ pos r))
-row_line closing f ss across up old new given outside r h = record {
-  set = λ n l.
-      let inside : IsInFrame f (f.left +ℤ pos n) (f.bottom +ℤ pos r) = record {
-        column = from_in f.left f.width n l;
-        row = row_in;
-      } in
-      let bit = pixel_bit f old r n h l in
-      let is = given.scanned.bits (f.left +ℤ pos n) (f.bottom +ℤ pos r) inside in
-      (λ e. is.0 (bit.1 e), λ c. bit.0 (is.1 c));
-  bits = λ n. bit_at-lt _ _;
-  end = unused_bit f old r f.width given.words h (omega arith);
-  none_before = outside _ _ (λ i. out_before i);
-  none_after = outside _ _ (λ i. out_after i);
-  tells = λ k l off off'.
-      let e = noted_bit f across r k (omega (arith, l)) in
-      let is = given.noted.across r k h l (record {
-        off_from = λ a. off (on_covers _ ss a);
-        off_to = λ a. off' (on_covers _ ss a);
-      }) in
-      (λ t. is.0 (sym e ∙ t), λ a. e ∙ is.1 a);
-  inside = λ n l. record { column = from_in f.left f.width n l; row = row_in };
-  before = out_before;
-  after = out_after;
-  right = λ n l. (λ t. t, λ t. t);
-}
-  where
-    row_in : IsFrom f.bottom f.height (f.bottom +ℤ pos r)
-    row_in = from_in f.bottom f.height r h
-
-    out_before : ¬ (IsInFrame f (f.left -ℤ pos 1) (f.bottom +ℤ pos r))
-    out_before i = let c = i.column in omega (arith, signed_linear, c)
-
-    out_after : ¬ (IsInFrame f (f.left +ℤ pos f.width) (f.bottom +ℤ pos r))
-    out_after i = let c = i.column in omega (arith, signed_linear, c)
-
-row_closed : (closing : Closing) (f : Frame) (ss : List Span) (across up old new : List ℕ)
-    → (given : IsGiven closing f ss across up old new) → NoneOutside f ss → (r n : ℕ) → r < f.height → n < f.width
-    → (grid_bit given.closed.mid (words_for f.width) n r ≡ 1)
-    ↔ IsRowSet closing ss f (f.left +ℤ pos n) (f.bottom +ℤ pos r)
-row_closed closing f ss across up old new given outside r n h l =
-    line_closed ss (IsInFrame f) (IsNextChosen closing false ss) (λ i j. IsCovered (centre i j) ss) f.left (f.bottom +ℤ pos r)
-    f.width _ _ _ (row_line closing f ss across up old new given outside r h) n _ l (given.closed.rows r n h (omega (arith, l)))
-
--- the bits after the last pixel stay 0
-row_rest : (closing : Closing) (f : Frame) (ss : List Span) (across up old new : List ℕ)
-    → (given : IsGiven closing f ss across up old new) → (r n : ℕ) → r < f.height → f.width ≤ n → n < 32 * words_for f.width
-    → grid_bit given.closed.mid (words_for f.width) n r ≡ 0
-row_rest closing f ss across up old new given r n h w l =
-    still (λ k. grid_bit old (words_for f.width) k r)
-    (λ k. grid_bit across (words_noted f.width) k r)
-    (λ k. IsNextIn closing ss f false (f.left +ℤ pos k) (f.bottom +ℤ pos r)) n _ (given.closed.rows r n h l) (bit_at-lt _ _)
-    (unused_bit f old r n given.words h w) (after (suc n) (omega (arith, w))) (by n refl)
-  where
-    after : (k : ℕ) → f.width < k → grid_bit across (words_noted f.width) k r ≡ 0
-    after k m = grind (
-      arith,
-      m,
-      below_or_not k (32 * words_noted f.width),
-      noted_bit f across r k,
-      given.noted.rest_across r k h m,
-      past_part across (r * words_noted f.width) (words_noted f.width) k,
-    )
-
-    by : (m : ℕ) → m ≡ n
-        → IsReached (λ k. grid_bit old (words_for f.width) k r)
-        (λ k. grid_bit across (words_noted f.width) k r)
-        (λ k. IsNextIn closing ss f false (f.left +ℤ pos k) (f.bottom +ℤ pos r)) m → ⊥
-    by zero e o = omega (arith, e, w, l)
-    by (suc m) e (o, next) =
-        grind (arith, signed_linear, e, w, o.noted_is, next.1.column, after (suc m), below_or_not f.width (suc m))
-
--- ---- the columns
 -- outside the frame no row sets a pixel
 row_outside : (closing : Closing) (f : Frame) (ss : List Span) → NoneOutside f ss → (i j : ℤ) → ¬ (IsInFrame f i j)
     → ¬ (IsRowSet closing ss f i j)
 row_outside closing f ss outside i j out (inl c) = outside i j out c
 row_outside closing f ss outside i j out (inr b) = out b.inside
 
-column_line : (closing : Closing) (f : Frame) (ss : List Span) (across up old new : List ℕ)
-    → (given : IsGiven closing f ss across up old new) → NoneOutside f ss → (k : ℕ) → 0 < f.height → k < f.width
-    → IsLine (map turned_span ss) (λ j i. IsInFrame f i j) (λ j i. IsNextChosen closing true ss i j)
-    (λ j i. IsRowSet closing ss f i j) f.bottom (f.left +ℤ pos k) f.height
-    (λ r. grid_bit given.closed.mid (words_for f.width) k r) (λ r. grid_bit up (words_noted f.width) k r)
-    (λ r. IsNextIn closing ss f true (f.left +ℤ pos k) (f.bottom +ℤ pos r))
-column_line closing f ss across up old new given outside k some l = record {
-  set = λ r h. row_closed closing f ss across up old new given outside r k h l;
-  bits = λ r. bit_at-lt _ _;
-  end = past_row given.closed.mid (words_for f.width) f.height k (omega (arith, given.closed.long, given.words.long));
-  none_before = row_outside closing f ss outside (f.left +ℤ pos k) (f.bottom -ℤ pos 1) out_before;
-  none_after = row_outside closing f ss outside (f.left +ℤ pos k) (f.bottom +ℤ pos f.height) out_after;
-  tells = λ r h off off'.
-      let e = noted_bit f up r k (omega (arith, l)) in
-      let is = given.noted.up r k some h l (record {
-        off_from = λ a. off (inl (on_covers _ ss a));
-        off_to = λ a. off' (inl (on_covers _ ss a));
-      }) in
-      (λ t. is.0 (sym e ∙ t), λ a. e ∙ is.1 a);
-  inside = λ r h. record { column = from_in f.left f.width k l; row = from_in f.bottom f.height r h };
-  before = out_before;
-  after = out_after;
-  right = λ r h. (λ t. t, λ t. t);
-}
-  where
-    out_before : ¬ (IsInFrame f (f.left +ℤ pos k) (f.bottom -ℤ pos 1))
-    out_before i = let c = i.row in omega (arith, signed_linear, c)
+module _ (closing : Closing) (f : Frame) (ss : List Span) (across up old new : List ℕ)
+    (given : IsGiven closing f ss across up old new) where
+  -- the neighbour of a pixel closes the gap between them
+  abbrev next : Bool → ℕ → ℕ → Type 0
+  next is_up k r = IsNextIn closing ss f is_up (f.left +ℤ pos k) (f.bottom +ℤ pos r)
 
-    out_after : ¬ (IsInFrame f (f.left +ℤ pos k) (f.bottom +ℤ pos f.height))
-    out_after i = let c = i.row in omega (arith, signed_linear, c)
+  row_line : NoneOutside f ss → (r : ℕ) → r < f.height
+      → IsLine ss (IsInFrame f) (IsNextChosen closing false ss) (λ i j. IsCovered (centre i j) ss) f.left (f.bottom +ℤ pos r)
+      f.width (λ k. pixel f old k r) (λ k. note f across k r) (λ k. next false k r)
+  row_line outside r h = record {
+    set = λ n l.
+        let bit = pixel_bit f old r n h l in
+        let is = given.scanned.bits (f.left +ℤ pos n) (f.bottom +ℤ pos r) (in_frame f n r l h) in
+        (λ e. is.0 (bit.1 e), λ c. bit.0 (is.1 c));
+    bits = λ n. bit_at-lt _ _;
+    end = unused_bit f old r f.width given.words h (omega arith);
+    none_before = outside (f.left -ℤ pos 1) (f.bottom +ℤ pos r) (λ i. not_before f.left f.width i.column);
+    none_after = outside (f.left +ℤ pos f.width) (f.bottom +ℤ pos r) (λ i. not_after f.left f.width i.column);
+    tells = λ k l off off'.
+        let e = noted_bit f across r k (omega (arith, l)) in
+        let is = given.noted.across r k h l (record {
+          off_from = λ a. off (on_covers _ ss a);
+          off_to = λ a. off' (on_covers _ ss a);
+        }) in
+        (λ t. is.0 (sym e ∙ t), λ a. e ∙ is.1 a);
+    inside = λ n l. in_frame f n r l h;
+    before = λ i. not_before f.left f.width i.column;
+    after = λ i. not_after f.left f.width i.column;
+    right = λ n l. (λ t. t, λ t. t);
+  }
 
-column_closed : (closing : Closing) (f : Frame) (ss : List Span) (across up old new : List ℕ)
-    → (given : IsGiven closing f ss across up old new) → NoneOutside f ss → (r k : ℕ) → r < f.height → k < f.width
-    → (grid_bit new (words_for f.width) k r ≡ 1)
-    ↔ IsSet closing ss f (f.left +ℤ pos k) (f.bottom +ℤ pos r)
-column_closed closing f ss across up old new given outside r k h l =
-    line_closed (map turned_span ss) (λ j i. IsInFrame f i j) (λ j i. IsNextChosen closing true ss i j)
-    (λ j i. IsRowSet closing ss f i j) f.bottom (f.left +ℤ pos k) f.height _ _ _
-    (column_line closing f ss across up old new given outside k (omega (arith, h)) l) r _ h
-    (given.closed.columns r k h (omega (arith, l)))
+  row_closed : NoneOutside f ss → (r n : ℕ) → r < f.height → n < f.width
+      → (pixel f given.closed.mid n r ≡ 1) ↔ IsRowSet closing ss f (f.left +ℤ pos n) (f.bottom +ℤ pos r)
+  row_closed outside r n h l =
+      line_closed ss (IsInFrame f) (IsNextChosen closing false ss) (λ i j. IsCovered (centre i j) ss) f.left (f.bottom +ℤ pos r)
+      f.width _ _ _ (row_line outside r h) n _ l (given.closed.rows r n h (omega (arith, l)))
 
-column_rest : (closing : Closing) (f : Frame) (ss : List Span) (across up old new : List ℕ)
-    → (given : IsGiven closing f ss across up old new) → (r k : ℕ) → r < f.height → f.width ≤ k → k < 32 * words_for f.width
-    → grid_bit new (words_for f.width) k r ≡ 0
-column_rest closing f ss across up old new given r k h w l =
-    still (λ q. grid_bit given.closed.mid (words_for f.width) k q) (λ q. grid_bit up (words_noted f.width) k q)
-    (λ q. IsNextIn closing ss f true (f.left +ℤ pos k) (f.bottom +ℤ pos q)) r _ (given.closed.columns r k h l) (bit_at-lt _ _)
-    (row_rest closing f ss across up old new given r k h w l) (unnoted (suc r) (omega (arith, h))) (by r refl)
-  where
-    unnoted : (q : ℕ) → q ≤ f.height → grid_bit up (words_noted f.width) k q ≡ 0
-    unnoted q o =
-        let far : k < 32 * words_noted f.width = omega (arith, l) in
-        noted_bit f up q k far ∙ given.noted.rest_up q k o w far
+  -- the bits after the last pixel stay 0
+  row_rest : (r n : ℕ) → r < f.height → f.width ≤ n → n < 32 * words_for f.width → pixel f given.closed.mid n r ≡ 0
+  row_rest r n h w l =
+      still (λ k. pixel f old k r) (λ k. note f across k r) (λ k. next false k r) n _ (given.closed.rows r n h l) (bit_at-lt _ _)
+      (unused_bit f old r n given.words h w) (after (suc n) (omega (arith, w))) (by n refl)
+    where
+      after : (k : ℕ) → f.width < k → note f across k r ≡ 0
+      after k m = grind (
+        arith,
+        m,
+        below_or_not k (32 * words_noted f.width),
+        noted_bit f across r k,
+        given.noted.rest_across r k h m,
+        past_part across (r * words_noted f.width) (words_noted f.width) k,
+      )
 
-    by : (m : ℕ) → m ≡ r → IsReached (λ q. grid_bit given.closed.mid (words_for f.width) k q)
-        (λ q. grid_bit up (words_noted f.width) k q) (λ q. IsNextIn closing ss f true (f.left +ℤ pos k) (f.bottom +ℤ pos q)) m → ⊥
-    by zero e o = let x = o.noted_is in let y = unnoted 0 (omega arith) in omega (arith, x, y)
-    by (suc m) e (o, next) = let x = o.noted_is in let y = unnoted (suc m) (omega (arith, e, h)) in omega (arith, x, y)
+      by : (m : ℕ) → m ≡ n → IsReached (λ k. pixel f old k r) (λ k. note f across k r) (λ k. next false k r) m → ⊥
+      by zero e o = omega (arith, e, w, l)
+      by (suc m) e (o, next) =
+          grind (arith, signed_linear, e, w, o.noted_is, next.1.column, after (suc m), below_or_not f.width (suc m))
 
--- ---- the bitmap
-pub closed_words : (closing : Closing) (f : Frame) (ss : List Span) (across up old new : List ℕ)
-    → IsGiven closing f ss across up old new → length new ≡ length old → AreWords f.height f.width new
-closed_words closing f ss across up old new given same = record {
-  long = same ∙ given.words.long;
-  rows = λ r h. subst (AreRowWords f.width) (sym (cut-row f.height (words_for f.width) new r h)) (row r h);
-}
-  where
-    row : (r : ℕ) → r < f.height → AreRowWords f.width (take (words_for f.width) (drop (r * words_for f.width) new))
-    row r h =
-        let fits = row_fits r f.height (words_for f.width) h in
-        let n = length-take (words_for f.width) (drop (r * words_for f.width) new) in
-        let d = length-drop (r * words_for f.width) new in
+  -- ---- the columns
+  column_line : NoneOutside f ss → (k : ℕ) → 0 < f.height → k < f.width
+      → IsLine (map turned_span ss) (λ j i. IsInFrame f i j) (λ j i. IsNextChosen closing true ss i j)
+      (λ j i. IsRowSet closing ss f i j) f.bottom (f.left +ℤ pos k) f.height
+      (λ r. pixel f given.closed.mid k r) (λ r. note f up k r) (λ r. next true k r)
+  column_line outside k some l = record {
+    set = λ r h. row_closed outside r k h l;
+    bits = λ r. bit_at-lt _ _;
+    end = past_row given.closed.mid (words_for f.width) f.height k (omega (arith, given.closed.long, given.words.long));
+    none_before = row_outside closing f ss outside (f.left +ℤ pos k) (f.bottom -ℤ pos 1) (λ i. not_before f.bottom f.height i.row);
+    none_after = row_outside closing f ss outside (f.left +ℤ pos k) (f.bottom +ℤ pos f.height)
+        (λ i. not_after f.bottom f.height i.row);
+    tells = λ r h off off'.
+        let e = noted_bit f up r k (omega (arith, l)) in
+        let is = given.noted.up r k some h l (record {
+          off_from = λ a. off (inl (on_covers _ ss a));
+          off_to = λ a. off' (inl (on_covers _ ss a));
+        }) in
+        (λ t. is.0 (sym e ∙ t), λ a. e ∙ is.1 a);
+    inside = λ r h. in_frame f k r l h;
+    before = λ i. not_before f.bottom f.height i.row;
+    after = λ i. not_after f.bottom f.height i.row;
+    right = λ r h. (λ t. t, λ t. t);
+  }
+
+  column_closed : NoneOutside f ss → (r k : ℕ) → r < f.height → k < f.width
+      → (pixel f new k r ≡ 1) ↔ IsSet closing ss f (f.left +ℤ pos k) (f.bottom +ℤ pos r)
+  column_closed outside r k h l =
+      line_closed (map turned_span ss) (λ j i. IsInFrame f i j) (λ j i. IsNextChosen closing true ss i j)
+      (λ j i. IsRowSet closing ss f i j) f.bottom (f.left +ℤ pos k) f.height _ _ _ (column_line outside k (omega (arith, h)) l) r _
+      h (given.closed.columns r k h (omega (arith, l)))
+
+  column_rest : (r k : ℕ) → r < f.height → f.width ≤ k → k < 32 * words_for f.width → pixel f new k r ≡ 0
+  column_rest r k h w l =
+      still (λ q. pixel f given.closed.mid k q) (λ q. note f up k q) (λ q. next true k q) r _ (given.closed.columns r k h l)
+      (bit_at-lt _ _) (row_rest r k h w l) (unnoted (suc r) (omega (arith, h))) (by r refl)
+    where
+      unnoted : (q : ℕ) → q ≤ f.height → note f up k q ≡ 0
+      unnoted q o =
+          let far : k < 32 * words_noted f.width = omega (arith, l) in
+          noted_bit f up q k far ∙ given.noted.rest_up q k o w far
+
+      by : (m : ℕ) → m ≡ r → IsReached (λ q. pixel f given.closed.mid k q) (λ q. note f up k q) (λ q. next true k q) m → ⊥
+      by zero e o = let x = o.noted_is in let y = unnoted 0 (omega arith) in omega (arith, x, y)
+      by (suc m) e (o, next) = let x = o.noted_is in let y = unnoted (suc m) (omega (arith, e, h)) in omega (arith, x, y)
+
+  -- ---- the bitmap
+  pub closed_words : length new ≡ length old → AreWords f.height f.width new
+  closed_words same = record {
+    long = same ∙ given.words.long;
+    rows = λ r h.
+        let size = words_for f.width in
+        let fits = row_fits r f.height size h in
+        let n = length-take size (drop (r * size) new) in
+        let d = length-drop (r * size) new in
         let long = given.words.long in
-        let count : length (take (words_for f.width) (drop (r * words_for f.width) new)) ≡ words_for f.width =
-        omega (arith, fits, n, d, same, long) in
-        record {
-          count = count;
-          unused = λ k w l. column_rest closing f ss across up old new given r k h w (omega (arith, l, count));
-        }
+        let count : length (take size (drop (r * size) new)) ≡ size = omega (arith, fits, n, d, same, long) in
+        let row : AreRowWords f.width (take size (drop (r * size) new)) =
+        record { count = count; unused = λ k w l. column_rest r k h w (omega (arith, l, count)) } in
+        subst (AreRowWords f.width) (sym (cut-row f.height size new r h)) row;
+  }
 
-pub closed_pixels : (closing : Closing) (f : Frame) (ss : List Span) (across up old new : List ℕ)
-    → IsGiven closing f ss across up old new → NoneOutside f ss → (i j : ℤ) → IsInFrame f i j
-    → IsTrue (bit_of (record { frame = f; rows = rows_of f.height f.width new }) i j) ↔ IsSet closing ss f i j
-closed_pixels closing f ss across up old new given outside i j inside =
-    let k = steps f.left i in
-    let r = steps f.bottom j in
-    let l = steps_below f.left f.width i inside.column in
-    let h = steps_below f.bottom f.height j inside.row in
-    grind (
-      arith,
-      pixel_bit f new r k h l,
-      column_closed closing f ss across up old new given outside r k h l,
-      steps_back f.left f.width i inside.column,
-      steps_back f.bottom f.height j inside.row,
-    )
+  pub closed_pixels : NoneOutside f ss → (i j : ℤ) → IsInFrame f i j
+      → IsTrue (bit_of (record { frame = f; rows = rows_of f.height f.width new }) i j) ↔ IsSet closing ss f i j
+  closed_pixels outside i j inside =
+      let k = steps f.left i in
+      let r = steps f.bottom j in
+      let l = steps_below f.left f.width i inside.column in
+      let h = steps_below f.bottom f.height j inside.row in
+      grind (
+        arith,
+        pixel_bit f new r k h l,
+        column_closed outside r k h l,
+        steps_back f.left f.width i inside.column,
+        steps_back f.bottom f.height j inside.row,
+      )
 
 -- ---- for `close_gaps`
 -- a list that was lent whole and came back

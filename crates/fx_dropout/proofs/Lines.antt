@@ -31,85 +31,64 @@ zero_of b P h i j = grind (arith, signed_linear, h, i, j)
 unset : (b : ℕ) (P : Type 0) → (b ≡ 1) ↔ P → b ≡ 0 → ¬ P
 unset b P is z p = let e = is.1 p in omega (arith, e, z)
 
--- a pixel of the line, or the one after its last: its bit is 0 exactly if it is not set
-clear : (ss : List Span) (In Right So : ℤ → ℤ → Type 0) (first j : ℤ) (count : ℕ) (pixels noted : ℕ → ℕ) (IsNext : ℕ → Type 0)
-    → IsLine ss In Right So first j count pixels noted IsNext → (n : ℕ) → n ≤ count → (pixels n ≡ 0) ↔ ¬ (So (first +ℤ pos n) j)
-clear ss In Right So first j count pixels noted IsNext line n l = grind (arith, signed_linear, below_or_not n count, unset, zero_of)
-
 open_gap : (ss : List Span) (So : ℤ → ℤ → Type 0) (i p q j : ℤ) (noted here next : ℕ) → i ≡ p → i +ℤ pos 1 ≡ q
     → (here ≡ 0) ↔ ¬ (So p j) → (next ≡ 0) ↔ ¬ (So q j)
     → (¬ (So p j) → ¬ (So q j) → (noted ≡ 1) ↔ Any (IsMet (centre p j) (centre q j)) ss) → IsOpen noted here next ↔ IsGap ss So i j
 open_gap ss So i p q j noted here next e f off off' tells = grind (arith, e, f, off, off', tells)
 
--- the segment k is open exactly if there is a gap
-pub is_gap : (ss : List Span) (In Right So : ℤ → ℤ → Type 0) (first j : ℤ) (count : ℕ) (pixels noted : ℕ → ℕ) (IsNext : ℕ → Type 0)
-    → IsLine ss In Right So first j count pixels noted IsNext → (k : ℕ) (i : ℤ) → k ≤ count → i ≡ (first -ℤ pos 1) +ℤ pos k
-    → IsOpenAt pixels noted k ↔ IsGap ss So i j
-is_gap ss In Right So first j count pixels noted IsNext line zero i l e =
-    let here : first -ℤ pos 1 ≡ (first -ℤ pos 1) +ℤ pos 0 = omega (arith, signed_linear) in
-    let none = subst (λ z. ¬ (So z j)) here line.none_before in
-    open_gap ss So i _ _ j (noted 0) 0 (pixels 0) e (omega (arith, signed_linear, e)) (λ _. none, λ _. refl)
-    (clear ss In Right So first j count pixels noted IsNext line 0 l) (line.tells 0 l)
-is_gap ss In Right So first j count pixels noted IsNext line (suc n) i l e =
-    let here : first +ℤ pos n ≡ (first -ℤ pos 1) +ℤ pos (suc n) = omega (arith, signed_linear) in
-    let is = clear ss In Right So first j count pixels noted IsNext line n (omega (arith, l)) in
-    open_gap ss So i _ _ j (noted (suc n)) (pixels n) (pixels (suc n)) e (omega (arith, signed_linear, e))
-    (subst (λ z. (pixels n ≡ 0) ↔ ¬ (So z j)) here is)
-    (clear ss In Right So first j count pixels noted IsNext line (suc n) l) (line.tells (suc n) l)
-
--- so a pixel closes the gap before it as the code has it
-reached : (ss : List Span) (In Right So : ℤ → ℤ → Type 0) (first j : ℤ) (count : ℕ) (pixels noted : ℕ → ℕ) (IsNext : ℕ → Type 0)
-    → IsLine ss In Right So first j count pixels noted IsNext → (n : ℕ) → n < count
-    → IsReached pixels noted IsNext n ↔ IsClosedByRight ss In Right So ((first +ℤ pos n) -ℤ pos 1) j
-reached ss In Right So first j count pixels noted IsNext line zero l =
-    let at : (first +ℤ pos 0) -ℤ pos 1 ≡ (first -ℤ pos 1) +ℤ pos 0 = omega (arith, signed_linear) in
-    let none : first -ℤ pos 1 ≡ (first +ℤ pos 0) -ℤ pos 1 = omega (arith, signed_linear) in
-    grind (
-      arith,
-      none,
-      line.before,
-      is_gap ss In Right So first j count pixels noted IsNext line 0 ((first +ℤ pos 0) -ℤ pos 1) (omega (arith, l)) at,
-    )
-reached ss In Right So first j count pixels noted IsNext line (suc m) l =
-    let i = (first +ℤ pos (suc m)) -ℤ pos 1 in
-    let at : i ≡ (first -ℤ pos 1) +ℤ pos (suc m) = omega (arith, signed_linear) in
-    let here : i ≡ first +ℤ pos m = omega (arith, signed_linear) in
-    let next : (first +ℤ pos m) +ℤ pos 1 ≡ first +ℤ pos (suc m) = omega (arith, signed_linear) in
-    grind (
-      arith,
-      here,
-      next,
-      line.inside m (omega (arith, l)),
-      line.inside (suc m) l,
-      line.right m (omega (arith, l)),
-      is_gap ss In Right So first j count pixels noted IsNext line (suc m) i (omega (arith, l)) at,
-    )
-
--- and the gap after it
+-- of the gap after a pixel
 left_is : (ss : List Span) (In Right So : ℤ → ℤ → Type 0) (i j : ℤ) (Open Next : Type 0) → In (i +ℤ pos 1) j ⊎ ¬ (In (i +ℤ pos 1) j)
     → Open ↔ IsGap ss So i j → Next ↔ (Right i j × In (i +ℤ pos 1) j) → (Open × ¬ Next) ↔ IsClosedByLeft ss In Right So i j
 left_is ss In Right So i j Open Next after gap chosen = grind (arith, after, gap, chosen)
 
--- so its bit is 1 exactly if it is set, or closes a gap
-pub line_closed : (ss : List Span) (In Right So : ℤ → ℤ → Type 0) (first j : ℤ) (count : ℕ) (pixels noted : ℕ → ℕ)
-    (IsNext : ℕ → Type 0) → IsLine ss In Right So first j count pixels noted IsNext → (n new : ℕ) → n < count
-    → IsClosedBit pixels noted IsNext n new → (new ≡ 1) ↔ IsBridged ss In Right So (first +ℤ pos n) j
-line_closed ss In Right So first j count pixels noted IsNext line n new l is =
-    let left = left_is ss In Right So (first +ℤ pos n) j _ (IsNext n) (after (below_or_not (suc n) count))
-    (is_gap ss In Right So first j count pixels noted IsNext line (suc n) (first +ℤ pos n) (omega (arith, l)) at)
-    (line.right n l) in
-    let right = reached ss In Right So first j count pixels noted IsNext line n l in (
-      λ t. ⊎_map (line.set n l).0 (λ h. record { inside = line.inside n l; closes = ⊎_map left.0 right.0 h }) (is.0 t),
-      λ b. is.1 (⊎_map (line.set n l).1 (λ b. ⊎_map left.1 right.1 b.closes) b),
-    )
-  where
-    at : first +ℤ pos n ≡ (first -ℤ pos 1) +ℤ pos (suc n)
-    at = omega (arith, signed_linear)
+module _ (ss : List Span) (In Right So : ℤ → ℤ → Type 0) (first j : ℤ) (count : ℕ) (pixels noted : ℕ → ℕ) (IsNext : ℕ → Type 0)
+    (line : IsLine ss In Right So first j count pixels noted IsNext) where
+  -- a pixel of the line, or the one after its last: its bit is 0 exactly if it is not set
+  clear : (n : ℕ) → n ≤ count → (pixels n ≡ 0) ↔ ¬ (So (first +ℤ pos n) j)
+  clear n l = grind (arith, signed_linear, line, below_or_not n count, unset, zero_of)
 
-    after : (suc n < count) ⊎ (count ≤ suc n) → In ((first +ℤ pos n) +ℤ pos 1) j ⊎ ¬ (In ((first +ℤ pos n) +ℤ pos 1) j)
-    after (inl m) =
-        let e : first +ℤ pos (suc n) ≡ (first +ℤ pos n) +ℤ pos 1 = omega (arith, signed_linear) in
+  -- the segment k is open exactly if there is a gap
+  is_gap : (k : ℕ) (i : ℤ) → k ≤ count → i ≡ (first -ℤ pos 1) +ℤ pos k → IsOpenAt pixels noted k ↔ IsGap ss So i j
+  is_gap zero i l e =
+      let here : first -ℤ pos 1 ≡ (first -ℤ pos 1) +ℤ pos 0 = omega (arith, signed_linear) in
+      let none = subst (λ z. ¬ (So z j)) here line.none_before in
+      open_gap ss So i _ _ j (noted 0) 0 (pixels 0) e (omega (arith, signed_linear, e)) (λ _. none, λ _. refl) (clear 0 l)
+      (line.tells 0 l)
+  is_gap (suc n) i l e =
+      let here : first +ℤ pos n ≡ (first -ℤ pos 1) +ℤ pos (suc n) = omega (arith, signed_linear) in
+      open_gap ss So i _ _ j (noted (suc n)) (pixels n) (pixels (suc n)) e (omega (arith, signed_linear, e))
+      (subst (λ z. (pixels n ≡ 0) ↔ ¬ (So z j)) here (clear n (omega (arith, l)))) (clear (suc n) l) (line.tells (suc n) l)
+
+  -- so a pixel closes the gap before it as the code has it
+  reached : (n : ℕ) → n < count → IsReached pixels noted IsNext n ↔ IsClosedByRight ss In Right So ((first +ℤ pos n) -ℤ pos 1) j
+  reached zero l =
+      let at : (first +ℤ pos 0) -ℤ pos 1 ≡ (first -ℤ pos 1) +ℤ pos 0 = omega (arith, signed_linear) in
+      let none : first -ℤ pos 1 ≡ (first +ℤ pos 0) -ℤ pos 1 = omega (arith, signed_linear) in
+      grind (arith, none, line.before, is_gap 0 ((first +ℤ pos 0) -ℤ pos 1) (omega (arith, l)) at)
+  reached (suc m) l =
+      let i = (first +ℤ pos (suc m)) -ℤ pos 1 in
+      let at : i ≡ (first -ℤ pos 1) +ℤ pos (suc m) = omega (arith, signed_linear) in
+      let here : i ≡ first +ℤ pos m = omega (arith, signed_linear) in
+      let next : (first +ℤ pos m) +ℤ pos 1 ≡ first +ℤ pos (suc m) = omega (arith, signed_linear) in
+      let k : m < count = omega (arith, l) in
+      grind (arith, here, next, line.inside m k, line.inside (suc m) l, line.right m k, is_gap (suc m) i (omega (arith, l)) at)
+
+  after : (n : ℕ) → n < count → In ((first +ℤ pos n) +ℤ pos 1) j ⊎ ¬ (In ((first +ℤ pos n) +ℤ pos 1) j)
+  after n l = elim (below_or_not (suc n) count) [
+    | inl m ↦ let e : first +ℤ pos (suc n) ≡ (first +ℤ pos n) +ℤ pos 1 = omega (arith, signed_linear) in
         inl (subst (λ z. In z j) e (line.inside (suc n) m))
-    after (inr m) =
-        let e : first +ℤ pos count ≡ (first +ℤ pos n) +ℤ pos 1 = omega (arith, signed_linear, l, m) in
+    | inr m ↦ let e : first +ℤ pos count ≡ (first +ℤ pos n) +ℤ pos 1 = omega (arith, signed_linear, l, m) in
         inr (subst (λ z. ¬ (In z j)) e line.after)
+  ]
+
+  -- so its bit is 1 exactly if it is set, or closes a gap
+  pub line_closed : (n new : ℕ) → n < count → IsClosedBit pixels noted IsNext n new
+      → (new ≡ 1) ↔ IsBridged ss In Right So (first +ℤ pos n) j
+  line_closed n new l is =
+      let at : first +ℤ pos n ≡ (first -ℤ pos 1) +ℤ pos (suc n) = omega (arith, signed_linear) in
+      let left = left_is ss In Right So (first +ℤ pos n) j _ (IsNext n) (after n l)
+      (is_gap (suc n) (first +ℤ pos n) (omega (arith, l)) at) (line.right n l) in
+      let right = reached n l in (
+        λ t. ⊎_map (line.set n l).0 (λ h. record { inside = line.inside n l; closes = ⊎_map left.0 right.0 h }) (is.0 t),
+        λ b. is.1 (⊎_map (line.set n l).1 (λ b. ⊎_map left.1 right.1 b.closes) b),
+      )

@@ -1,6 +1,6 @@
 -- A bit of a part of a list of words is a bit of the list, counted from the part's first word: `part_bit`.
 -- Serves `may_be_open`, and `noted`.
-use Rattle.std.proofs.Common.{◌≡◌, ◌⊎◌, inl, inr, ap, ◌∙◌, subst, ℕ, ◌+◌, ◌-◌, ◌*◌, ◌/◌, ◌%◌, ◌<◌, ◌≤◌, List, take, drop, length, length-drop, arith}
+use Rattle.std.proofs.Common.{◌≡◌, inl, inr, ap, ◌∙◌, subst, ℕ, ◌+◌, ◌-◌, ◌*◌, ◌/◌, ◌%◌, ◌<◌, ◌≤◌, List, take, drop, length, length-drop, arith}
 use Rattle.std.specs.Int.{bit_at}
 use Rattle.std.proofs.lemmas.List.{get_or-take, get_or-drop, get_or_past, length-take}
 use Rattle.std.proofs.lemmas.Nat.Bits.{bit_at-zero}
@@ -36,15 +36,11 @@ past_row xs size r k h =
 -- the bits after a row's last pixel are 0
 pub unused_bit : (f : Frame) (xs : List ℕ) (r k : ℕ) → AreWords f.height f.width xs → r < f.height → f.width ≤ k
     → grid_bit xs (words_for f.width) k r ≡ 0
-unused_bit f xs r k words h w = by (below_or_not k (32 * length (take size (drop (r * size) xs))))
-  where
-    size : ℕ
-    size = words_for f.width
-
-    row : AreRowWords f.width (take size (drop (r * size) xs))
-    row = subst (AreRowWords f.width) (cut-row f.height size xs r h) (words.rows r h)
-
-    by : (k < 32 * length (take size (drop (r * size) xs))) ⊎ (32 * length (take size (drop (r * size) xs)) ≤ k)
-        → word_bit (take size (drop (r * size) xs)) k ≡ 0
-    by (inl l) = row.unused k w l
-    by (inr l) = past_bit (take size (drop (r * size) xs)) k l
+unused_bit f xs r k words h w =
+    let size = words_for f.width in
+    let part = take size (drop (r * size) xs) in
+    let row : AreRowWords f.width part = subst (AreRowWords f.width) (cut-row f.height size xs r h) (words.rows r h) in
+    elim (below_or_not k (32 * length part)) [
+      | inl l ↦ row.unused k w l
+      | inr l ↦ past_bit part k l
+    ]

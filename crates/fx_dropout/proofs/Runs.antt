@@ -16,37 +16,28 @@ use Rattle.fx_winding.specs.Winding.{Span, IsOn, IsOnPart, areas_of, areas_of_pa
 use Rattle.fx_winding.specs.Winding.{weight_a, weight_b, weight_c}
 use Rattle.fx_winding.proofs.Beside.{HasAll-weaker, left_off, right_off, under_off, over_off}
 use Rattle.fx_winding.proofs.Crossings.{above, crossing_number}
-use Rattle.fx_winding.proofs.HalfAreas.{area_next, area_swap}
+use Rattle.fx_winding.proofs.HalfAreas.{area_first, area_next, area_swap}
 use Rattle.fx_winding.proofs.Regions.{IsInRegion, region_in, region_out, third_strictly}
 use Rattle.fx_winding.proofs.Triangle.{area_expr}
 use Rattle.fx_winding.proofs.Turning.{left_of_all, right_of_all}
 use Rattle.fx_dropout.specs.declared.pair.Pair.{Pair}
 use Rattle.fx_dropout.specs.Dropout.{place_on}
-use Rattle.fx_dropout.specs.inner.Runs.{HaveOneSign, IsPassed, IsBelowTo, IsClear, IsPart, IsPartTo, IsRegionTo, IsSteady, AreBelow}
+use Rattle.fx_dropout.specs.inner.Runs.{HaveOneSign, IsBelowTo, IsClear, IsPart, IsPartTo, IsRegionTo, IsSteady, AreAlike, AreBelow}
 use Rattle.fx_dropout.specs.inner.Runs.{gap_at, place_in, step_of, part_steps}
-use Rattle.fx_dropout.proofs.Steps.{bend, linear_sign, gap_step, gap_back, gap_below, gap_above}
-
--- a height that does not come to be passed on the way from p to r
-pub record IsOneSide (y p r : ℤ) : Type 0 where
-  pub both : ((y ≤ℤ p) × (y ≤ℤ r)) ⊎ ((p <ℤ y) × (r <ℤ y))
-
-pub one_side : (y low high p r : ℤ) → ¬ (IsPassed y low high) → low ≤ℤ p → p ≤ℤ high → low ≤ℤ r → r ≤ℤ high → IsOneSide y p r
-one_side y low high p r n a b c d =
-    record { both = grind (arith, signed_linear, n, a, b, c, d, below_or_not_ℤ low y, below_or_not_ℤ high y) }
+use Rattle.fx_dropout.proofs.Steps.{bend, linear_sign, gap_below, gap_above}
 
 -- ---- what a chord adds
-crossing_same : (ay cy py ry s t : ℤ) → ((ay ≤ℤ py) × (ay ≤ℤ ry)) ⊎ ((py <ℤ ay) × (ry <ℤ ay))
-    → ((cy ≤ℤ py) × (cy ≤ℤ ry)) ⊎ ((py <ℤ cy) × (ry <ℤ cy)) → ((pos 0 <ℤ s) × (pos 0 <ℤ t)) ⊎ ((s <ℤ pos 0) × (t <ℤ pos 0))
-    → crossing_number ay cy py s ≡ crossing_number ay cy ry t
-crossing_same ay cy py ry s t h k l = grind (arith, ints)
+crossing_same : (ay cy py ry s t : ℤ) → (ry <ℤ ay ↔ py <ℤ ay) → (ry <ℤ cy ↔ py <ℤ cy)
+    → ((pos 0 <ℤ s) × (pos 0 <ℤ t)) ⊎ ((s <ℤ pos 0) × (t <ℤ pos 0)) → crossing_number ay cy py s ≡ crossing_number ay cy ry t
+crossing_same ay cy py ry s t h k l = grind (arith, ints, h, k, l)
 
 minus_signs : (x y x' y' : ℤ) → x' ≡ neg_ℤ x → y' ≡ neg_ℤ y → HaveOneSign x y → HaveOneSign x' y'
 minus_signs x y x' y' e f (inl (a, b)) = inr (omega (arith, signed_linear, e, a), omega (arith, signed_linear, f, b))
 minus_signs x y x' y' e f (inr (a, b)) = inl (omega (arith, signed_linear, e, a), omega (arith, signed_linear, f, b))
 
-chord_same : (a c p r : Place) → IsOneSide a.y p.y r.y → IsOneSide c.y p.y r.y → HaveOneSign (area a p c) (area a r c)
+chord_same : (a c p r : Place) → (r.y <ℤ a.y ↔ p.y <ℤ a.y) → (r.y <ℤ c.y ↔ p.y <ℤ c.y) → HaveOneSign (area a p c) (area a r c)
     → chord_crossing a c p ≡ chord_crossing a c r
-chord_same a c p r h k l = crossing_same a.y c.y p.y r.y (area a c p) (area a c r) h.both k.both
+chord_same a c p r h k l = crossing_same a.y c.y p.y r.y (area a c p) (area a c r) h k
     (minus_signs (area a p c) (area a r c) (area a c p) (area a c r) (area_swap a p c) (area_swap a r c) l)
 
 not_none : (x y : ℤ) → HaveOneSign x y → (x ≢ pos 0) × (y ≢ pos 0)
@@ -58,7 +49,7 @@ none_back a c p e = let f = area_swap a c p in omega (arith, signed_linear, e, f
 
 -- ---- what the region adds at a place off the chord's line
 -- the areas of a place with a piece's ends
-pub middle_of : (a : Place) (b : Option Place) (c p : Place) → (areas_of_part a b c p).1 ≡ area a p c
+middle_of : (a : Place) (b : Option Place) (c p : Place) → (areas_of_part a b c p).1 ≡ area a p c
 middle_of a None c p = refl
 middle_of a (Some b) c p = refl
 
@@ -70,15 +61,8 @@ abbrev gap : ℤ × ℤ × ℤ → ℤ
 gap x = gap_of x.0 x.1 x.2
 
 -- the three add up to the arc's area
-pub middle_of_total : (a b c p : Place) → area a p c ≡ (area a b c -ℤ area p b c) -ℤ area a b p
-middle_of_total a b c p =
-    ring (a.x ∷ a.y ∷ b.x ∷ b.y ∷ c.x ∷ c.y ∷ p.x ∷ p.y ∷ [])
-    (area_expr (var 0) (var 1) (var 6) (var 7) (var 4) (var 5))
-    ((area_expr (var 0) (var 1) (var 2) (var 3) (var 4) (var 5) ⊟ area_expr (var 6) (var 7) (var 2) (var 3) (var 4) (var 5)) ⊟
-    area_expr (var 0) (var 1) (var 2) (var 3) (var 6) (var 7)) tt
-
 total_is : (a b c p : Place) → sum (areas_of_part a (Some b) c p) ≡ area a b c
-total_is a b c p = let m = middle_of_total a b c p in omega (arith, signed_linear, m)
+total_is a b c p = sym (area_first a b c p)
 
 signed_gap : (d u v w : ℤ) → d ≢ pos 0 → gap_of (sign d *ℤ u) (sign d *ℤ v) (sign d *ℤ w) ≡ gap_of u v w
 signed_gap (pos zero) u v w h = absurd (h refl)
@@ -256,37 +240,17 @@ gap_along : (pair : Pair) (k n : ℕ) (s : Span) (j : ℤ) → j ≡ far k n →
 gap_along pair k n s j e = ap gap (areas_along pair k n s.a s.b s.c) ∙ (λ t. gap_from pair k s (sym e t))
 
 -- it stays below 0 from a place on, in either direction, if it does not grow at the next place
-pub below_along : (pair : Pair) (k n : ℕ) (s : Span) → gap_at s (place_in pair k) <ℤ pos 0
-    → gap_at s (place_in pair (k + 1)) ≤ℤ gap_at s (place_in pair k) → k ≤ n → gap_at s (place_in pair n) <ℤ pos 0
-below_along pair k n s h l low =
+pub below_along : (pair : Pair) (k i n : ℕ) (s : Span) (t j : ℤ) → far k i ≡ t → far k n ≡ t *ℤ j → pos 0 ≤ℤ j
+    → gap_at s (place_in pair k) <ℤ pos 0 → gap_at s (place_in pair i) ≤ℤ gap_at s (place_in pair k)
+    → gap_at s (place_in pair n) <ℤ pos 0
+below_along pair k i n s t j e f low h l =
     let x = areas_of s (place_in pair k) in
     let d = part_steps pair.is_up s.a s.b s.c in
     let here = gap_along pair k k s (pos 0) (omega (arith, signed_linear)) in
-    let next = gap_along pair k (k + 1) s (pos 1) (omega (arith, signed_linear)) in
-    subst (λ z. z <ℤ pos 0) (sym (gap_along pair k n s (far k n) refl))
-    (gap_below x.0 x.1 x.2 d.0 d.1 d.2 (far k n) (steps_bend pair.is_up s.a s.b s.c) (subst (λ z. z <ℤ pos 0) here h)
-    (subst (λ (z : ℤ × ℤ). z.0 ≤ℤ z.1) (λ t. (next t, here t)) l) (omega (arith, signed_linear, low)))
-
-pub below_back : (pair : Pair) (k j n : ℕ) (s : Span) → gap_at s (place_in pair k) <ℤ pos 0 → k ≡ j + 1
-    → gap_at s (place_in pair j) ≤ℤ gap_at s (place_in pair k) → n ≤ k → gap_at s (place_in pair n) <ℤ pos 0
-below_back pair k j n s h is l high =
-    let x = areas_of s (place_in pair k) in
-    let d = part_steps pair.is_up s.a s.b s.c in
-    let back : (i : ℤ) → gap_from pair k s i
-    ≡ gap_step x.0 x.1 x.2 (pos 0 -ℤ d.0) (pos 0 -ℤ d.1) (pos 0 -ℤ d.2) (pos 0 -ℤ i) =
-    λ i. gap_back x.0 x.1 x.2 d.0 d.1 d.2 i in
-    let here = gap_along pair k k s (pos 0) (omega (arith, signed_linear)) ∙ back (pos 0) in
-    let next = gap_along pair k j s (negsuc 0) (omega (arith, signed_linear, is)) ∙ back (negsuc 0) in
-    let bent = steps_bend pair.is_up s.a s.b s.c in
-    let same : bend (pos 0 -ℤ d.0) (pos 0 -ℤ d.1) (pos 0 -ℤ d.2) ≡ bend d.0 d.1 d.2 =
-    ring (d.0 ∷ d.1 ∷ d.2 ∷ []) ((num (pos 0) ⊟ var 1) ⊠ (num (pos 0) ⊟ var 1) ⊟
-    num (pos 4) ⊠ ((num (pos 0) ⊟ var 0) ⊠ (num (pos 0) ⊟ var 2)))
-    (var 1 ⊠ var 1 ⊟ num (pos 4) ⊠ (var 0 ⊠ var 2)) tt in
-    subst (λ z. z <ℤ pos 0) (sym (gap_along pair k n s (far k n) refl ∙ back (far k n)))
-    (gap_below x.0 x.1 x.2 (pos 0 -ℤ d.0) (pos 0 -ℤ d.1) (pos 0 -ℤ d.2) (pos 0 -ℤ far k n)
-    (omega (arith, signed_linear, same, bent))
-    (subst (λ z. z <ℤ pos 0) here h) (subst (λ (z : ℤ × ℤ). z.0 ≤ℤ z.1) (λ t. (next t, here t)) l)
-    (omega (arith, signed_linear, high)))
+    let next = gap_along pair k i s t (sym e) in
+    subst (λ z. z <ℤ pos 0) (sym (gap_along pair k n s (t *ℤ j) (sym f)))
+    (gap_below x.0 x.1 x.2 d.0 d.1 d.2 t j (steps_bend pair.is_up s.a s.b s.c) (subst (λ z. z <ℤ pos 0) here h)
+    (subst (λ (z : ℤ × ℤ). z.0 ≤ℤ z.1) (λ t. (next t, here t)) l) low)
 
 above_along : (pair : Pair) (k m n : ℕ) (s : Span) → pos 0 <ℤ gap_at s (place_in pair k) → pos 0 <ℤ gap_at s (place_in pair m)
     → k ≤ n → n ≤ m → k < m → pos 0 <ℤ gap_at s (place_in pair n)
@@ -309,10 +273,6 @@ pub columns_along : (up : Bool) (col row : ℤ) (k n : ℕ) → k ≤ n → (pla
 columns_along false col row k n l = omega (arith, signed_linear, l)
 columns_along true col row k n l = omega (arith, signed_linear)
 
-side_along : (pair : Pair) (k m n : ℕ) (y : ℤ) → k ≤ n → n ≤ m → ¬ (IsPassed y (place_in pair k).y (place_in pair m).y)
-    → IsOneSide y (place_in pair k).y (place_in pair n).y
-side_along pair k m n y low high h = grind (arith, ints, low, high, h, heights_along, one_side)
-
 pub before_end : (n m : ℕ) → n < m + 1 → n ≤ m
 before_end n m h = omega (arith, h)
 
@@ -333,8 +293,8 @@ pub part_run : (pair : Pair) (k m : ℕ) (s : Span) (t x g : ℤ) → IsClear pa
 part_run pair k m s t x g h crossed region small few is n low high =
     let top = before_end n m high in
     let here = region n low top in
-    let same = chord_same s.a s.c (place_in pair k) (place_in pair n) (side_along pair k m n s.a.y low top h.start)
-    (side_along pair k m n s.c.y low top h.end) (side_sign pair k m n s h low top) in (
+    let same = chord_same s.a s.c (place_in pair k) (place_in pair n) (h.start n low top) (h.end n low top)
+    (side_sign pair k m n s h low top) in (
       (omega (arith, signed_linear, small, few, is), omega (arith, signed_linear, small, few, is)),
       is ∙ (λ i. (crossed ∙ same) i +ℤ sym here.1 i),
       here.0,
@@ -467,19 +427,17 @@ pub part_alone : (pair : Pair) (n : ℕ) (s : Span) (v : Option ℤ) → IsPart 
 part_alone pair n s v h k low high =
     let is : n ≡ k = omega (arith, low, high) in subst (λ (m : ℕ). IsPart (place_in pair m) s v) is h
 
--- an end is not passed in a run whose places are all below it, or none
-pub not_passed : (pair : Pair) (y : ℤ) (k first last : ℕ) → AreBelow pair y k → first < 128 → last < 128
-    → ¬ ((first < k) × (k ≤ last)) → ¬ (IsPassed y (place_in pair first).y (place_in pair last).y)
-not_passed pair y k first last below l m n (p, q) = elim (below_or_not last k) [
-  | inl h ↦ let b = (below last m).0 h in omega (arith, signed_linear, b, q)
-  | inr h ↦ n ((below first l).1 p, h)
-]
-
--- what a chord adds at the place n, by how many places are below its ends, and the area of the place with the ends
-pub rises : (a c p v w t : ℤ) (n j k : ℕ) → (n < j ↔ p <ℤ a) → (n < k ↔ p <ℤ c) → w ≡ neg_ℤ v → v <ℤ pos 0
-    → ((j ≤ n) × (n < k) × (t ≡ pos 1)) ⊎ ((¬ ((j ≤ n) × (n < k))) × (t ≡ pos 0)) → t ≡ crossing_number a c p w
-rises a c p v w t n j k h l e s o = grind (arith, ints, h, l, e, s, o)
-
-pub falls : (a c p v w t : ℤ) (n j k : ℕ) → (n < j ↔ p <ℤ a) → (n < k ↔ p <ℤ c) → w ≡ neg_ℤ v → pos 0 <ℤ v
-    → ((k ≤ n) × (n < j) × (t ≡ negsuc 0)) ⊎ ((¬ ((k ≤ n) × (n < j))) × (t ≡ pos 0)) → t ≡ crossing_number a c p w
-falls a c p v w t n j k h l e s o = grind (arith, ints, h, l, e, s, o)
+-- all places of a run are below a height, or none
+pub same_below : (pair : Pair) (y : ℤ) (k first last : ℕ) → AreBelow pair y k → last < 128 → ¬ ((first < k) × (k ≤ last))
+    → AreAlike pair first last y
+same_below pair y k first last below few none n low high =
+    grind (
+      arith,
+      none,
+      low,
+      high,
+      below_or_not first k,
+      below_or_not last k,
+      below n (omega (arith, high, few)),
+      below first (omega (arith, low, high, few)),
+    )

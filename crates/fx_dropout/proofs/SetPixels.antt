@@ -1,11 +1,10 @@
 -- Between neighbours that drop-out control leaves unset no piece passes (`bridged_no_gap`), and what it sets moves (`set_moved`).
 -- Serves the laws of this crate, and the law `bridged` of fx_raster.
-use Rattle.std.proofs.Common.{◌≡◌, ◌⊎◌, ◌↔◌, inl, inr, refl, sym, subst, ℕ, ℤ, pos, ◌+ℤ◌, ◌-ℤ◌, Bool, true, false, List, map, Any, arith}
+use Rattle.std.proofs.Common.{◌≡◌, ◌⊎◌, ◌↔◌, inl, inr, refl, subst, ℕ, ℤ, pos, ◌+ℤ◌, ◌-ℤ◌, Bool, true, false, List, map, Any, arith}
 use Rattle.std.specs.List.Sorted.{IsPermutation}
 use Rattle.std.proofs.Math.Logic.{⊎_map}
 use Rattle.std.proofs.lemmas.List.Sorted.{IsPermutation-sym}
 use Rattle.fx_fixed.proofs.Linear.{signed_linear}
-use Rattle.fx_winding.specs.declared.frame.Frame.{Frame}
 use Rattle.fx_winding.specs.Area.{Place}
 use Rattle.fx_winding.specs.Turned.{turned_span}
 use Rattle.fx_winding.specs.Frames.{IsInFrame}
@@ -68,10 +67,11 @@ pub nearer_along : (up : Bool) (ss ts : List Span) (col row i j : ℤ)
 nearer_along up ss ts col row i j e h = grind (arith, e, h, count_iff)
 
 pub chosen_along : (closing : Closing) (up : Bool) (ss ts : List Span) (col row i j : ℤ)
-    → ((n : ℕ) → IsCovered (place_on up col row n) ss ↔ IsCovered (place_on up i j n) ts) → IsNextChosen closing up ss col row
-    → IsNextChosen closing up ts i j
-chosen_along Lower up ss ts col row i j e h = h
-chosen_along Nearer up ss ts col row i j e h = nearer_along up ss ts col row i j e h
+    → ((n : ℕ) → IsCovered (place_on up col row n) ss ↔ IsCovered (place_on up i j n) ts)
+    → IsNextChosen closing up ss col row ↔ IsNextChosen closing up ts i j
+chosen_along Lower up ss ts col row i j e = (λ h. h, λ h. h)
+chosen_along Nearer up ss ts col row i j e =
+    (nearer_along up ss ts col row i j e, nearer_along up ts ss i j col row (λ n. ((e n).1, (e n).0)))
 
 -- a piece passes between two neighbours of a row
 abbrev pub AreMet : List Span → ℤ → ℤ → Type 0
@@ -82,48 +82,39 @@ pub record IsMoved (m n : ℤ → ℤ) (P Q : ℤ → ℤ → Type 0) : Type 0 w
   pub back : (i j : ℤ) → Q (m i) (n j) → P i j
   pub on : (i j : ℤ) → P i j → Q (m i) (n j)
 
+pub as_moved : (m n : ℤ → ℤ) (P Q : ℤ → ℤ → Type 0) → ((i j : ℤ) → Q (m i) (n j) ↔ P i j) → IsMoved m n P Q
+as_moved m n P Q e = record { back = λ i j h. (e i j).0 h; on = λ i j h. (e i j).1 h }
+
 -- a row closed, where what is inside, nearer, set so far and a gap is moved
 pub closed_moved : (m n : ℤ → ℤ) → ((i : ℤ) → m (i +ℤ pos 1) ≡ m i +ℤ pos 1) → ((i : ℤ) → m (i -ℤ pos 1) ≡ m i -ℤ pos 1)
     → (ss ts : List Span) (In To Near Far So At : ℤ → ℤ → Type 0) → IsMoved m n In To → IsMoved m n Near Far
     → IsMoved m n So At → IsMoved m n (IsGap ss So) (IsGap ts At)
     → IsMoved m n (IsBridged ss In Near So) (IsBridged ts To Far At)
 closed_moved m n after before ss ts In To Near Far So At inside near so gap =
-    record { back = λ i j b. from i j b; on = λ i j b. to i j b }
+    record {
+      back = λ i j. ⊎_map (so.back i j)
+          (λ b. record { inside = inside.back i j b.inside; closes = ⊎_map (left i j).0 (last i j).0 b.closes });
+      on = λ i j. ⊎_map (so.on i j)
+          (λ b. record { inside = inside.on i j b.inside; closes = ⊎_map (left i j).1 (last i j).1 b.closes });
+    }
   where
-    left_back : (i j : ℤ) → IsClosedByLeft ts To Far At (m i) (n j) → IsClosedByLeft ss In Near So i j
-    left_back i j c = record {
-      gap = gap.back i j c.gap;
-      chosen = ⊎_map (λ k h. k (near.on i j h))
-          (λ k h. k (subst (λ z. To z (n j)) (after i) (inside.on (i +ℤ pos 1) j h))) c.chosen;
-    }
+    left : (i j : ℤ) → IsClosedByLeft ts To Far At (m i) (n j) ↔ IsClosedByLeft ss In Near So i j
+    left i j =
+        let to = subst (λ z. In (i +ℤ pos 1) j → To z (n j)) (after i) (inside.on (i +ℤ pos 1) j) in
+        let from = subst (λ z. To z (n j) → In (i +ℤ pos 1) j) (after i) (inside.back (i +ℤ pos 1) j) in (
+          λ c. record { gap = gap.back i j c.gap; chosen = ⊎_map (λ k h. k (near.on i j h)) (λ k h. k (to h)) c.chosen },
+          λ c. record { gap = gap.on i j c.gap; chosen = ⊎_map (λ k h. k (near.back i j h)) (λ k h. k (from h)) c.chosen },
+        )
 
-    left_on : (i j : ℤ) → IsClosedByLeft ss In Near So i j → IsClosedByLeft ts To Far At (m i) (n j)
-    left_on i j c = record {
-      gap = gap.on i j c.gap;
-      chosen = ⊎_map (λ k h. k (near.back i j h))
-          (λ k h. k (inside.back (i +ℤ pos 1) j (subst (λ z. To z (n j)) (sym (after i)) h))) c.chosen;
-    }
+    right : (i j : ℤ) → IsClosedByRight ts To Far At (m i) (n j) ↔ IsClosedByRight ss In Near So i j
+    right i j = (
+      λ c. record { gap = gap.back i j c.gap; chosen = ⊎_map (near.back i j) (λ k h. k (inside.on i j h)) c.chosen },
+      λ c. record { gap = gap.on i j c.gap; chosen = ⊎_map (near.on i j) (λ k h. k (inside.back i j h)) c.chosen },
+    )
 
-    right_back : (i j : ℤ) → IsClosedByRight ts To Far At (m i) (n j) → IsClosedByRight ss In Near So i j
-    right_back i j c =
-        record { gap = gap.back i j c.gap; chosen = ⊎_map (near.back i j) (λ k h. k (inside.on i j h)) c.chosen }
-
-    right_on : (i j : ℤ) → IsClosedByRight ss In Near So i j → IsClosedByRight ts To Far At (m i) (n j)
-    right_on i j c = record { gap = gap.on i j c.gap; chosen = ⊎_map (near.on i j) (λ k h. k (inside.back i j h)) c.chosen }
-
-    from : (i j : ℤ) → IsBridged ts To Far At (m i) (n j) → IsBridged ss In Near So i j
-    from i j = ⊎_map (so.back i j) (λ b. record {
-      inside = inside.back i j b.inside;
-      closes = ⊎_map (left_back i j)
-          (λ c. right_back (i -ℤ pos 1) j (subst (λ z. IsClosedByRight ts To Far At z (n j)) (sym (before i)) c)) b.closes;
-    })
-
-    to : (i j : ℤ) → IsBridged ss In Near So i j → IsBridged ts To Far At (m i) (n j)
-    to i j = ⊎_map (so.on i j) (λ b. record {
-      inside = inside.on i j b.inside;
-      closes = ⊎_map (left_on i j)
-          (λ c. subst (λ z. IsClosedByRight ts To Far At z (n j)) (before i) (right_on (i -ℤ pos 1) j c)) b.closes;
-    })
+    last : (i j : ℤ) → IsClosedByRight ts To Far At (m i -ℤ pos 1) (n j) ↔ IsClosedByRight ss In Near So (i -ℤ pos 1) j
+    last i j = subst (λ z. IsClosedByRight ts To Far At z (n j) ↔ IsClosedByRight ss In Near So (i -ℤ pos 1) j) (before i)
+        (right (i -ℤ pos 1) j)
 
 -- where what is met is moved, the gaps are
 bridged_moved : (m n : ℤ → ℤ) → ((i : ℤ) → m (i +ℤ pos 1) ≡ m i +ℤ pos 1) → ((i : ℤ) → m (i -ℤ pos 1) ≡ m i -ℤ pos 1)
@@ -173,60 +164,44 @@ set_moved closing m n km kn ss ts In To moved = record { back = λ i j h. all.ba
         (exchanged (IsNextChosen closing true ss) (IsNextChosen closing true ts) (moved.chosen true))
         (exchanged (IsRowSetIn closing ss In) (IsRowSetIn closing ts To) rows) moved.columns
 
-any_reversed : (P : Span → Type 0) → ((s : Span) → P s → P (reversed s)) → (ss ts : List Span) → IsPermutation (map reversed ss) ts
-    → Any P ss → Any P ts
-any_reversed P back ss ts h a = any_permutation P (map reversed ss) ts h (any_map reversed P P back ss a)
+-- what holds of a piece and of the piece reversed alike
+any_reversed : (P : Span → Type 0) → ((s : Span) → P (reversed s) ↔ P s) → (ss ts : List Span) → IsPermutation (map reversed ss) ts
+    → Any P ts ↔ Any P ss
+any_reversed P e ss ts h = (
+  λ a. any_unmap reversed P P (λ s. (e s).0) ss
+      (any_permutation P ts (map reversed ss) (IsPermutation-sym (map reversed ss) ts h) a),
+  λ a. any_permutation P (map reversed ss) ts h (any_map reversed P P (λ s. (e s).1) ss a),
+)
 
-any_restored : (P : Span → Type 0) → ((s : Span) → P (reversed s) → P s) → (ss ts : List Span) → IsPermutation (map reversed ss) ts
-    → Any P ts → Any P ss
-any_restored P back ss ts h a =
-    any_unmap reversed P P back ss (any_permutation P ts (map reversed ss) (IsPermutation-sym (map reversed ss) ts h) a)
+any_turned : (P : Span → Type 0) (ss : List Span) → Any P (map turned_span ss) ↔ Any (λ s. P (turned_span s)) ss
+any_turned P ss = (
+  any_unmap turned_span (λ s. P (turned_span s)) P (λ s m. m) ss,
+  any_map turned_span (λ s. P (turned_span s)) P (λ s m. m) ss,
+)
 
--- what two lists of pieces have alike, of which the one is the other reversed
-record AreAlike (ss ts : List Span) : Type 0 where
-  covered : (p : Place) → IsCovered p ss ↔ IsCovered p ts
-  met : (p q : Place) → Any (IsMet p q) ss → Any (IsMet p q) ts
-  turned : (p q : Place) → Any (IsMet p q) (map turned_span ss) → Any (IsMet p q) (map turned_span ts)
-
-set_alike : (closing : Closing) (ss ts : List Span) → AreAlike ss ts → AreAlike ts ss → (f : Frame) (i j : ℤ)
-    → IsSet closing ts f i j ↔ IsSet closing ss f i j
-set_alike closing ss ts a b f i j = (λ h. all.back i j h, λ h. all.on i j h)
+pub reversal_keeps_set : ReversalKeepsSet
+reversal_keeps_set closing ss ts f h i j = (λ k. all.back i j k, λ k. all.on i j k)
   where
+    cover : (p : Place) → IsCovered p ts ↔ IsCovered p ss
+    cover p = reversal_keeps_cover p ss ts h
+
+    turned : (p q : Place) → Any (IsMet p q) (map turned_span ts) ↔ Any (IsMet p q) (map turned_span ss)
+    turned p q =
+        let P : Span → Type 0 = λ s. IsMet p q (turned_span s) in
+        let same = any_reversed P (λ s. reversal_meets p q (turned_span s)) ss ts h in
+        let from = any_turned (IsMet p q) ts in
+        let to = any_turned (IsMet p q) ss in
+        (λ a. to.1 (same.0 (from.0 a)), λ a. from.1 (same.1 (to.0 a)))
+
     all : IsMoved (λ i. i) (λ j. j) (IsSet closing ss f) (IsSet closing ts f)
     all = set_moved closing (λ i. i) (λ j. j) stays stays ss ts (IsInFrame f) (IsInFrame f) (record {
       inside = record { back = λ i j h. h; on = λ i j h. h };
-      chosen = λ up. record {
-        back = λ i j h. chosen_along closing up ts ss i j i j (λ n. b.covered (place_on up i j n)) h;
-        on = λ i j h. chosen_along closing up ss ts i j i j (λ n. a.covered (place_on up i j n)) h;
-      };
-      covered = record { back = λ i j h. (b.covered (centre i j)).0 h; on = λ i j h. (a.covered (centre i j)).0 h };
-      rows = record {
-        back = λ i j h. b.met (centre i j) (centre (i +ℤ pos 1) j) h;
-        on = λ i j h. a.met (centre i j) (centre (i +ℤ pos 1) j) h;
-      };
-      columns = record {
-        back = λ j i h. b.turned (centre j i) (centre (j +ℤ pos 1) i) h;
-        on = λ j i h. a.turned (centre j i) (centre (j +ℤ pos 1) i) h;
-      };
+      chosen = λ up. as_moved (λ i. i) (λ j. j) (IsNextChosen closing up ss) (IsNextChosen closing up ts)
+          (λ i j. chosen_along closing up ts ss i j i j (λ n. cover (place_on up i j n)));
+      covered = as_moved (λ i. i) (λ j. j) (λ i j. IsCovered (centre i j) ss) (λ i j. IsCovered (centre i j) ts)
+          (λ i j. cover (centre i j));
+      rows = as_moved (λ i. i) (λ j. j) (AreMet ss) (AreMet ts) (λ i j.
+          let p = centre i j in let q = centre (i +ℤ pos 1) j in any_reversed (IsMet p q) (λ s. reversal_meets p q s) ss ts h);
+      columns = as_moved (λ i. i) (λ j. j) (AreMet (map turned_span ss)) (AreMet (map turned_span ts))
+          (λ j i. turned (centre j i) (centre (j +ℤ pos 1) i));
     })
-
-pub reversal_keeps_set : ReversalKeepsSet
-reversal_keeps_set closing ss ts f h i j = set_alike closing ss ts backward restored f i j
-  where
-    backward : AreAlike ss ts
-    backward = record {
-      covered = λ p. let k = reversal_keeps_cover p ss ts h in (k.1, k.0);
-      met = λ p q a. any_reversed (IsMet p q) (λ s m. (reversal_meets p q s).1 m) ss ts h a;
-      turned = λ p q a. any_map turned_span (λ s. IsMet p q (turned_span s)) (IsMet p q) (λ s m. m) ts
-          (any_reversed (λ s. IsMet p q (turned_span s)) (λ s m. (reversal_meets p q (turned_span s)).1 m) ss ts h
-          (any_unmap turned_span (λ s. IsMet p q (turned_span s)) (IsMet p q) (λ s m. m) ss a));
-    }
-
-    restored : AreAlike ts ss
-    restored = record {
-      covered = λ p. reversal_keeps_cover p ss ts h;
-      met = λ p q a. any_restored (IsMet p q) (λ s m. (reversal_meets p q s).0 m) ss ts h a;
-      turned = λ p q a. any_map turned_span (λ s. IsMet p q (turned_span s)) (IsMet p q) (λ s m. m) ss
-          (any_restored (λ s. IsMet p q (turned_span s)) (λ s m. (reversal_meets p q (turned_span s)).0 m) ss ts h
-          (any_unmap turned_span (λ s. IsMet p q (turned_span s)) (IsMet p q) (λ s m. m) ts a));
-    }

@@ -13,10 +13,9 @@ use Rattle.fx_winding.specs.Winding.{Span, IsCovered, centre}
 use Rattle.fx_winding.proofs.Covers.{any_map, any_unmap}
 use Rattle.fx_winding.proofs.Meeting.{shift_meets}
 use Rattle.fx_winding.proofs.Shifts.{shift_moves_cover, shift_moves_bits}
-use Rattle.fx_dropout.specs.declared.chooser.Closing.{Closing}
 use Rattle.fx_dropout.specs.Dropout.{IsNextChosen, IsSet, place_on}
 use Rattle.fx_dropout.specs.Laws.{ShiftMovesSet}
-use Rattle.fx_dropout.proofs.SetPixels.{AreMet, IsMoved, KeepsNeighbours, chosen_along, set_moved}
+use Rattle.fx_dropout.proofs.SetPixels.{AreMet, IsMoved, KeepsNeighbours, as_moved, chosen_along, set_moved}
 
 along : (i k : ℤ) → (pos 128 *ℤ i +ℤ pos 64) +ℤ pos 128 *ℤ k ≡ pos 128 *ℤ (i +ℤ k) +ℤ pos 64
 along i k = grind (arith, signed_linear, ring)
@@ -56,24 +55,15 @@ met_shift k l s i j =
 
 any_met_shift : (k l : ℤ) (ss : List Span) (i j : ℤ)
     → AreMet (map (shifted (pos 128 *ℤ k) (pos 128 *ℤ l)) ss) (i +ℤ k) (j +ℤ l) ↔ AreMet ss i j
-any_met_shift k l ss i j = (
-  λ a. any_unmap (shifted (pos 128 *ℤ k) (pos 128 *ℤ l)) (IsMet (centre i j) (centre (i +ℤ pos 1) j))
-      (IsMet (centre (i +ℤ k) (j +ℤ l)) (centre ((i +ℤ k) +ℤ pos 1) (j +ℤ l))) (λ s h. (met_shift k l s i j).0 h) ss a,
-  λ a. any_map (shifted (pos 128 *ℤ k) (pos 128 *ℤ l)) (IsMet (centre i j) (centre (i +ℤ pos 1) j))
-      (IsMet (centre (i +ℤ k) (j +ℤ l)) (centre ((i +ℤ k) +ℤ pos 1) (j +ℤ l))) (λ s h. (met_shift k l s i j).1 h) ss a,
-)
+any_met_shift k l ss i j =
+    let move = shifted (pos 128 *ℤ k) (pos 128 *ℤ l) in
+    let Here : Span → Type 0 = IsMet (centre i j) (centre (i +ℤ pos 1) j) in
+    let There : Span → Type 0 = IsMet (centre (i +ℤ k) (j +ℤ l)) (centre ((i +ℤ k) +ℤ pos 1) (j +ℤ l)) in
+    (any_unmap move Here There (λ s. (met_shift k l s i j).0) ss, any_map move Here There (λ s. (met_shift k l s i j).1) ss)
 
 turned_shift : (x y : ℤ) (ss : List Span) → map (shifted y x) (map turned_span ss) ≡ map turned_span (map (shifted x y) ss)
 turned_shift x y [] = refl
 turned_shift x y (s ∷ ss) = grind (arith, signed_linear, turned_shift x y ss)
-
--- which of two neighbours is nearer
-chosen_shift : (closing : Closing) (up : Bool) (k l : ℤ) (ss : List Span) (i j : ℤ)
-    → IsNextChosen closing up (map (shifted (pos 128 *ℤ k) (pos 128 *ℤ l)) ss) (i +ℤ k) (j +ℤ l) ↔ IsNextChosen closing up ss i j
-chosen_shift closing up k l ss i j = grind (arith, chosen_along, covered_shift)
-
-as_moved : (k l : ℤ) (P Q : ℤ → ℤ → Type 0) → ((i j : ℤ) → Q (i +ℤ k) (j +ℤ l) ↔ P i j) → IsMoved (λ i. i +ℤ k) (λ j. j +ℤ l) P Q
-as_moved k l P Q e = record { back = λ i j h. (e i j).0 h; on = λ i j h. (e i j).1 h }
 
 keeps : (k : ℤ) → KeepsNeighbours (λ i. i +ℤ k)
 keeps k = record { after = λ i. next_shift i k; before = λ i. before_shift i k }
@@ -81,6 +71,12 @@ keeps k = record { after = λ i. next_shift i k; before = λ i. before_shift i k
 pub shift_moves_set : ShiftMovesSet
 shift_moves_set closing k l ss f g e i j = (λ h. all.back i j h, λ h. all.on i j h)
   where
+    right : ℤ → ℤ
+    right i = i +ℤ k
+
+    up : ℤ → ℤ
+    up j = j +ℤ l
+
     ts : List Span
     ts = map (shifted (pos 128 *ℤ k) (pos 128 *ℤ l)) ss
 
@@ -88,13 +84,13 @@ shift_moves_set closing k l ss f g e i j = (λ h. all.back i j h, λ h. all.on i
     met j i = subst (λ us. AreMet us (j +ℤ l) (i +ℤ k) ↔ AreMet (map turned_span ss) j i)
         (turned_shift (pos 128 *ℤ k) (pos 128 *ℤ l) ss) (any_met_shift l k (map turned_span ss) j i)
 
-    all : IsMoved (λ i. i +ℤ k) (λ j. j +ℤ l) (IsSet closing ss f) (IsSet closing ts g)
-    all = set_moved closing (λ i. i +ℤ k) (λ j. j +ℤ l) (keeps k) (keeps l) ss ts (IsInFrame f) (IsInFrame g) (record {
-      inside = as_moved k l (IsInFrame f) (IsInFrame g) e;
-      chosen = λ up. as_moved k l (IsNextChosen closing up ss) (IsNextChosen closing up ts)
-          (λ i j. chosen_shift closing up k l ss i j);
-      covered = as_moved k l (λ i j. IsCovered (centre i j) ss) (λ i j. IsCovered (centre i j) ts)
+    all : IsMoved right up (IsSet closing ss f) (IsSet closing ts g)
+    all = set_moved closing right up (keeps k) (keeps l) ss ts (IsInFrame f) (IsInFrame g) (record {
+      inside = as_moved right up (IsInFrame f) (IsInFrame g) e;
+      chosen = λ u. as_moved right up (IsNextChosen closing u ss) (IsNextChosen closing u ts)
+          (λ i j. chosen_along closing u ts ss (i +ℤ k) (j +ℤ l) i j (λ n. covered_shift u k l ss i j n));
+      covered = as_moved right up (λ i j. IsCovered (centre i j) ss) (λ i j. IsCovered (centre i j) ts)
           (λ i j. shift_moves_bits k l i j ss);
-      rows = as_moved k l (AreMet ss) (AreMet ts) (λ i j. any_met_shift k l ss i j);
-      columns = as_moved l k (AreMet (map turned_span ss)) (AreMet (map turned_span ts)) met;
+      rows = as_moved right up (AreMet ss) (AreMet ts) (λ i j. any_met_shift k l ss i j);
+      columns = as_moved up right (AreMet (map turned_span ss)) (AreMet (map turned_span ts)) met;
     })

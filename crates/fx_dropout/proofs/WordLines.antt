@@ -11,9 +11,8 @@ use Rattle.fx_winding.specs.declared.frame.Frame.{Frame}
 use Rattle.fx_winding.specs.Bitmaps.{words_for, word_bit}
 use Rattle.fx_winding.specs.Notes.{words_noted}
 use Rattle.fx_winding.proofs.Grid.{row_fits}
-use Rattle.fx_dropout.specs.declared.chooser.Chooser.{Chooser}
-use Rattle.fx_dropout.specs.inner.Closing.{bit_after, bit_before, bit_on, grid_bit, line_word, next_on, number_on, word_column, word_place}
-use Rattle.fx_dropout.specs.inner.Closing.{word_row, words_along, IsClosedBit, AreClosedLines, IsClosedIn, IsNext, IsOpen, IsOpenAt, IsReached}
+use Rattle.fx_dropout.specs.inner.Closing.{bit_after, bit_before, bit_on, grid_bit, line_word, next_on, number_on, word_column, word_place, word_row, words_along}
+use Rattle.fx_dropout.specs.inner.Closing.{size_of, AreClosedLines, AreDone, IsClosedAt, IsClosedBit, IsClosedIn, IsEarlier, IsNext, IsOpen, IsOpenAt, IsReached, Pass}
 
 -- ---- where words are
 -- words of two columns, or of two rows, are two words
@@ -28,11 +27,6 @@ pub inside : (up : Bool) (f : Frame) (line k : ℕ) → line < words_along (not 
     → word_place up (words_for f.width) line k < f.height * words_for f.width
 inside false f line k l m = let t = row_fits line f.height (words_for f.width) l in omega (arith, t, m)
 inside true f line k l m = let t = row_fits k f.height (words_for f.width) m in omega (arith, t, l)
-
--- the words of a row of the frame are in the list
-pub row_held : (up : Bool) (f : Frame) (line size s count : ℕ) → line < words_along (not up) f → s ≡ size → f.height * size ≤ count
-    → up ≡ false → line * s + s ≤ count
-row_held up f line size s count l e h is = grind (arith, is, l, e, h, row_fits line f.height size)
 
 -- a word by its column and its row
 cell : (words : List ℕ) (size column row : ℕ) → column < size
@@ -93,15 +87,7 @@ pub next_there : (up : Bool) (words : List ℕ) (size line k c : ℕ) → c < 32
 next_there false words size line k c l = next_in (take size (drop (line * size) words)) k c l
 next_there true words size line k c l = grind (arith, l)
 
--- ---- a pass over the rows, or the columns, of a frame: its notes, and its words as they were
-pub record Pass : Type 0 where
-  pub chooser : Chooser
-  pub noted : List ℕ
-  pub old : List ℕ
-
-abbrev pub size_of : Pass → ℕ
-size_of p = words_for p.chooser.frame.width
-
+-- ---- a pass
 -- the word k of a line of notes, and of pixels
 abbrev pub note_of : Bool → Pass → ℕ → ℕ → ℕ
 note_of up p line k = line_word up p.noted (words_noted p.chooser.frame.width) line k
@@ -122,10 +108,6 @@ chosen_on up p n r k = next_on up (IsNext p.chooser up) p.chooser.frame n r k
 -- the pixel closes the segment of its line that leads to it
 abbrev pub IsReachedIn : Bool → Pass → ℕ → ℕ → Type 0
 IsReachedIn up p n r = IsReached (pixels_on up p n r) (notes_on up p n r) (chosen_on up p n r) (number_on up n r)
-
-abbrev pub IsClosedAt : Bool → Pass → ℕ → ℕ → ℕ → ℕ → Type 0
-IsClosedAt up p line k c new = IsClosedIn up (IsNext p.chooser up) p.chooser.frame p.noted p.old
-    (32 * word_column up line k + c) (word_row up line k) new
 
 -- ---- a word of a line closed
 -- the bits of a word before which there is another word
@@ -162,20 +144,13 @@ chosen_there : (up : Bool) (p : Pass) (line k before gaps nexts x c : ℕ) → I
 chosen_there false p line k before gaps nexts x c is l = is.next c l
 chosen_there true p line k before gaps nexts x c is l = is.next c l
 
--- a next pixel that closes a gap
-next_reached : (P Q : ℕ → ℕ) (Next : ℕ → Type 0) (n gap next : ℕ) → (gap ≡ 1) ↔ IsOpenAt P Q (suc n)
-    → (next ≡ 1) ↔ ((gap ≡ 1) × Next n) → (next ≡ 1) ↔ IsReached P Q Next (suc n)
-next_reached P Q Next n gap next gapped chosen =
-    (λ t. let h = chosen.0 t in (gapped.0 h.0, h.1), λ r. chosen.1 (gapped.1 r.0, r.1))
-
 reached_next : (up : Bool) (p : Pass) (line k before gaps nexts x c : ℕ) → IsWordClosed up p line k before gaps nexts x → c < 32
     → let n = 32 * word_column up line k + c in let r = word_row up line k in (bit_at nexts (31 - c) ≡ 1)
     ↔ IsReached (pixels_on up p n r) (notes_on up p n r) (chosen_on up p n r) (suc (number_on up n r))
 reached_next up p line k before gaps nexts x c is l =
-    let n = 32 * word_column up line k + c in
-    let r = word_row up line k in
-    next_reached (pixels_on up p n r) (notes_on up p n r) (chosen_on up p n r) (number_on up n r) _ _
-    (gap_there up p line k before gaps nexts x c is l) (chosen_there up p line k before gaps nexts x c is l)
+    let gapped = gap_there up p line k before gaps nexts x c is l in
+    let chosen = chosen_there up p line k before gaps nexts x c is l in
+    (λ t. let h = chosen.0 t in (gapped.0 h.0, h.1), λ r. chosen.1 (gapped.1 r.0, r.1))
 
 -- the pixels of a word that close the segments before them
 reached_there : (up : Bool) (p : Pass) (line k before gaps nexts x c : ℕ) → IsWordClosed up p line k before gaps nexts x
@@ -218,17 +193,6 @@ new_there up p line k before gaps nexts x c is h l =
     (chosen_there up p line k before gaps nexts x c is l) (reached_there up p line k before gaps nexts x c is h l) (is.new c l)
 
 -- ---- the words of all lines
--- the word j of the line i comes before the word k of a line
-abbrev pub IsEarlier : ℕ → ℕ → ℕ → ℕ → Type 0
-IsEarlier line k i j = (i < line) ⊎ ((i ≡ line) × (j < k))
-
--- the words before it are closed, and the others are as they were
-pub record AreDone (up : Bool) (p : Pass) (words : List ℕ) (line k : ℕ) : Type 0 where
-  pub long : length words ≡ length p.old
-  pub done : (i j c : ℕ) → IsEarlier line k i j → j < words_along up p.chooser.frame → c < 32
-      → IsClosedAt up p i j c (bit_at (line_word up words (size_of p) i j) (31 - c))
-  pub rest : (i j : ℕ) → line < i ⊎ ((i ≡ line) × (k ≤ j)) → line_word up words (size_of p) i j ≡ word_of up p i j
-
 pub done_none : (up : Bool) (p : Pass) → AreDone up p p.old 0 0
 done_none up p = record { long = refl; done = λ i j c h l b. absurd (omega (arith, h)); rest = λ i j h. refl }
 
@@ -303,14 +267,10 @@ pub done_line : (up : Bool) (p : Pass) (words : List ℕ) (line k : ℕ) → k �
     → AreDone up p words line k → AreDone up p words (line + 1) 0
 done_line up p words line k e so_far = record {
   long = so_far.long;
-  done = λ i j c h o b. so_far.done i j c (by i j o h (below_or_not i line)) o b;
+  done = λ i j c h o b.
+      let early : IsEarlier line k i j = grind (arith, h, o, e, below_or_not i line) in so_far.done i j c early o b;
   rest = λ i j h. so_far.rest i j (inl (omega (arith, h)));
 }
-  where
-    by : (i j : ℕ) → j < words_along up p.chooser.frame → IsEarlier (line + 1) 0 i j → (i < line) ⊎ (line ≤ i)
-        → IsEarlier line k i j
-    by i j o h (inl q) = inl q
-    by i j o h (inr q) = inr (omega (arith, h, q), omega (arith, e, o))
 
 -- all lines
 pub done_all : (up : Bool) (p : Pass) (words : List ℕ) (line : ℕ) → line ≡ words_along (not up) p.chooser.frame

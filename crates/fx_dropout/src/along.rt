@@ -1,10 +1,9 @@
 //! A piece, seen from the places of a segment: its areas with them change evenly from place to place, and those below the height of
 //! one of its ends come first.
 
-ghost use Rattle.std.specs.Prelude.{◌≡◌, ◌↔◌, ◌+◌, ◌≤◌, ◌<◌, ◌^◌, pos, ◌+ℤ◌, ◌*ℤ◌, IsTrue};
+ghost use Rattle.std.specs.Prelude.{◌≡◌, ◌+◌, ◌≤◌, ◌<◌, ◌^◌, pos, ◌+ℤ◌, ◌*ℤ◌};
 ghost use Rattle.fx_fixed.specs.Ranges.{IsWithin};
-ghost use Rattle.fx_winding.specs.Area.{area};
-ghost use Rattle.fx_winding.specs.Winding.{place_of, span_of, areas_of, crossing as crossing_of};
+ghost use Rattle.fx_winding.specs.Winding.{place_of, span_of, areas_of};
 ghost use Rattle.fx_dropout.specs.inner.Runs.{AreBelow, area_steps, place_in, step_of};
 
 use crate::pair::Pair;
@@ -68,16 +67,6 @@ fn after(start: i64, step: i64, n: usize) -> i64
     start + n as i64 * step
 }
 
-/// Whether a number is at least one number and less than another.
-fn is_from_to(n: usize, from: usize, to: usize) -> bool
-    ensures { IsTrue result ↔ ((from ≤ n) × (n < to)) }
-{
-    if n < from {
-        return false;
-    }
-    n < to
-}
-
 /// A piece and a segment: how many places are below each end of the piece, and the areas of the first place, with their steps.
 #[derive(Drop)]
 pub(crate) struct Along<'a> {
@@ -125,28 +114,5 @@ impl<'a> Along<'a> {
             v: after(self.start.v, self.step.v, n),
             w: after(self.start.w, self.step.w, n),
         }
-    }
-
-    /// What the piece's chord adds at the place n, by the area of the place with the piece's ends.
-    #[inline(always)]
-    pub(crate) fn crossing(&self, n: usize, v: i64) -> i32
-        requires few { n < 128 }
-        requires side { v ≡ area (place_of self.now.piece.now.a) (place_in self.now.pair n) (place_of self.now.piece.now.c) }
-        ensures value { result ≡ crossing_of (place_in self.now.pair n) (span_of self.now.piece.now) }
-        ensures size { IsWithin 1 result }
-    {
-        if v < 0 {
-            if is_from_to(n, self.below_a, self.below_c) {
-                return 1;
-            }
-            return 0;
-        }
-        if v > 0 {
-            if is_from_to(n, self.below_c, self.below_a) {
-                return -1;
-            }
-            return 0;
-        }
-        0
     }
 }

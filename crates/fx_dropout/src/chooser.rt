@@ -1,15 +1,15 @@
 //! Which of the two pixels at the ends of a gap closes it.
 
-ghost use Rattle.std.specs.Prelude.{◌≡◌, ◌↔◌, ℕ, ◌+◌, ◌-◌, ◌*◌, ◌^◌, ◌≤◌, ◌<◌, pos, ◌+ℤ◌, length, IsTrue};
+ghost use Rattle.std.specs.Prelude.{◌≡◌, ◌↔◌, ℕ, ◌+◌, ◌-◌, ◌*◌, ◌≤◌, ◌<◌, pos, ◌+ℤ◌, length, IsTrue};
 ghost use Rattle.std.specs.Int.{bit_at};
-ghost use Rattle.fx_fixed.specs.Ranges.{IsWithin};
 ghost use Rattle.fx_winding.specs.Bitmaps.{words_for as words_for_of};
+ghost use Rattle.fx_winding.specs.Frames.{IsInFrame};
 ghost use Rattle.fx_dropout.specs.inner.Closing.{word_tests, IsNextAt};
 ghost use Rattle.fx_dropout.specs.declared.chooser.Closing.TheVariants.{Nearer};
 ghost use Rattle.fx_dropout.specs.inner.Pairs.{next_col, next_row};
 
 use crate::nearer::is_next_nearer;
-use crate::pair::{Pair, Pixel, is_in_frame};
+use crate::pair::{Pair, Pixel};
 use fx_winding::{Frame, Pieces, Tally, put_bit};
 
 /// Which of the two pixels at the ends of a gap closes it (Apple TrueType Reference Manual, scan conversion).
@@ -29,8 +29,17 @@ pub(crate) struct Chooser<'a> {
     pub closing: Closing,
 }
 
-/// The number of pixels in a word.
-const PIXELS: usize = 32;
+/// The pixels of a word from the first one that is set to the last one, as a range.
+fn set_pixels(word: u32) -> (usize, usize)
+    requires { 0 < word }
+    ensures order { result.0 < result.1 }
+    ensures few { result.1 ≤ 32 }
+    ensures before { (k : ℕ) → k < result.0 → bit_at word (31 - k) ≡ 0 }
+    ensures after { (k : ℕ) → result.1 ≤ k → k < 32 → bit_at word (31 - k) ≡ 0 }
+{
+    let first = word.leading_zeros() as usize;
+    (first, 32 - word.trailing_zeros() as usize)
+}
 
 /// Whether a word has the bit of its pixel k, counted from the left.
 fn has_bit(word: u32, k: usize) -> bool
@@ -40,20 +49,21 @@ fn has_bit(word: u32, k: usize) -> bool
     word >> (31 - k) & 1 == 1
 }
 
-/// The column of a pixel's right neighbour, or with `is_up` of its upper one.
-fn next_col(is_up: bool, col: i32) -> i32
-    requires { IsWithin (2 ^ 16) col }
-    ensures { result ≡ next_col is_up col }
+/// Whether the right neighbour of a frame's pixel, or with `is_up` its upper one, lies in the frame. The pixel's column and row are
+/// counted from the frame's first.
+fn is_next_inside(frame: Frame, is_up: bool, column: usize, row: usize) -> bool
+    requires column { column < 32 * words_for_of frame.width }
+    requires row { row < frame.height }
+    ensures { IsTrue result ↔
+        IsInFrame frame (next_col is_up (frame.left +ℤ pos column)) (next_row is_up (frame.bottom +ℤ pos row)) }
 {
-    if is_up { col } else { col + 1 }
-}
-
-/// The row of that neighbour.
-fn next_row(is_up: bool, row: i32) -> i32
-    requires { IsWithin (2 ^ 16) row }
-    ensures { result ≡ next_row is_up row }
-{
-    if is_up { row + 1 } else { row }
+    if !is_up {
+        return column + 1 < frame.width as usize;
+    }
+    if column >= frame.width as usize {
+        return false;
+    }
+    row + 1 < frame.height as usize
 }
 
 /// The gaps after the pixels of a word of a frame, by its column and row among the words: those to the right of the pixels or, with
@@ -79,20 +89,27 @@ impl<'a> Chooser<'a> {
         if !has_bit(word.gaps, k) {
             return false;
         }
-        let is_up = word.is_up;
-        let col = self.frame.left + (32 * word.column + k) as i32;
-        let row = self.frame.bottom + word.row as i32;
-        if !is_in_frame(self.frame, next_col(is_up, col), next_row(is_up, row)) {
+        let column = 32 * word.column + k;
+        if !is_next_inside(self.frame, word.is_up, column, word.row) {
             return false;
         }
-        let here = Pixel { col, row };
-        is_next_nearer(self.pieces, Pair { here, is_up }, tally)
+        let here = Pixel {
+            col: self.frame.left + column as i32,
+            row: self.frame.bottom + word.row as i32,
+        };
+        let pair = Pair {
+            here,
+            is_up: word.is_up,
+        };
+        is_next_nearer(self.pieces, pair, tally)
     }
 
     /// Of the gaps of a word those that the neighbours close, each the one to the right of its pixel, or with `is_up` the one
     /// above it.
+    #[tactic(auto, using(crate::proofs::Columns::all_of))]
     fn nearer(&self, word: GapWord, tally: &mut Tally) -> u32
         requires nearer { self.now.closing ≡ Nearer }
+        requires some { 0 < word.gaps }
         requires column { word.column < words_for_of self.now.frame.width }
         requires row { word.row < self.now.frame.height }
         ensures bits { (c : ℕ) → c < 32 →
@@ -100,8 +117,9 @@ impl<'a> Chooser<'a> {
         ensures count { tally.new.count ≤ tally.old.count + 32 * (31 * 128 * length self.now.pieces.now) }
     {
         let mut found = [0u32];
-        // The bits of the first k pixels are found.
-        'pixels: for k in 0..PIXELS {
+        let (first, end) = set_pixels(word.gaps);
+        // The bits of the first k pixels are found; those before the first gap are 0.
+        'pixels: for k in first..end {
             put_bit(&mut found, k, self.is_next(word, k, tally));
         }
         found[0]

@@ -4,12 +4,12 @@
 //! that is chosen; the first segment of a line is closed by the first pixel. All that is looked at are bits from before, so that
 //! the order does not matter. A column is a row whose words are above one another.
 
-ghost use Rattle.std.specs.Prelude.{◌≡◌, ◌≢◌, ◌⊎◌, ◌↔◌, ℕ, ◌+◌, ◌-◌, ◌*◌, ◌^◌, ◌≤◌, ◌<◌, pos, ◌+ℤ◌, length, slice_index_or, true, false, not};
+ghost use Rattle.std.specs.Prelude.{◌≡◌, ◌≢◌, ◌⊎◌, ◌↔◌, ℕ, ◌+◌, ◌-◌, ◌*◌, ◌^◌, ◌≤◌, ◌<◌, pos, ◌+ℤ◌, List, length, slice_index_or, true, false, not};
 ghost use Rattle.std.specs.Int.{bit_at};
 ghost use Rattle.fx_winding.specs.Bitmaps.{words_for as words_for_of, AreWords};
 ghost use Rattle.fx_winding.specs.Notes.{words_noted as words_noted_of};
-ghost use Rattle.fx_dropout.specs.inner.Closing.{bit_after, bit_before, line_word, word_column, word_place, word_row, word_tests, words_along};
-ghost use Rattle.fx_dropout.specs.inner.Closing.{AreClosedLines, AreClosedWords, IsNext, IsNextAt, IsOpen};
+ghost use Rattle.fx_dropout.specs.inner.Closing.{bit_after, bit_before, line_word, pass, word_column, word_place, word_row, word_tests, words_along};
+ghost use Rattle.fx_dropout.specs.inner.Closing.{AreClosedLines, AreClosedWords, AreDone, IsNext, IsNextAt, IsOpen};
 
 use crate::chooser::{Chooser, GapWord};
 use crate::look::may_be_open;
@@ -163,7 +163,7 @@ fn close_word(
 ) -> u32
     requires column { word.column < words_for_of chooser.now.frame.width }
     requires row { word.row < chooser.now.frame.height }
-    requires place { at < length words.old }
+    requires index { at < length words.old }
     ensures length { length words.new ≡ length words.old }
     ensures others { (w : ℕ) → w ≢ at → slice_index_or words.new w 0 ≡ slice_index_or words.old w 0 }
     ensures nexts { (c : ℕ) → c < 32 →
@@ -186,7 +186,61 @@ fn close_word(
     nexts
 }
 
+/// Closes the gaps of a line of words: the row `number` or, with `is_up`, 32 columns. If those of the lines before it are closed,
+/// they stay so, and the lines after it stay as they are.
+#[tactic(auto, using(fx_winding::proofs::Grid::row_fits, crate::proofs::Columns::all_of))]
+#[inline(always)]
+fn close_line(
+    chooser: &Chooser<'_>,
+    is_up: bool,
+    number: usize,
+    noted: &[u32],
+    words: &mut [u32],
+    tally: &mut Tally,
+)
+    requires line { number < words_along (not is_up) chooser.now.frame }
+    requires noted { chooser.now.frame.height * words_noted_of chooser.now.frame.width ≤ length noted.now }
+    requires words { length words.old ≡ chooser.now.frame.height * words_for_of chooser.now.frame.width }
+    ensures length { length words.new ≡ length words.old }
+    ensures done { (start : List ℕ) → AreDone is_up (pass chooser.now noted.now start) words.old number 0 →
+        AreDone is_up (pass chooser.now noted.now start) words.new (number + 1) 0 }
+    ensures count { tally.new.count ≤ tally.old.count + words_along is_up chooser.now.frame * word_tests chooser.now }
+{
+    let frame = chooser.frame;
+    let line = WordLine {
+        is_up,
+        size: words_for(frame.width),
+        number,
+    };
+    let notes = WordLine {
+        is_up,
+        size: words_noted(frame.width),
+        number,
+    };
+    let mut note = notes.word(noted, 0);
+    let mut here = line.word(words, 0);
+    let mut before = first_reached(is_up, note, here);
+    // The gaps of the words before k are closed. `note` and `here` are the line's words k as they were, and `before` are the gaps
+    // after the word before k that the next pixels close.
+    'words: for k in 0..words_along(is_up, frame) {
+        let next_note = notes.word(noted, k + 1);
+        let next = line.word(words, k + 1);
+        let gaps = gaps_after(is_up, note, next_note, here, next);
+        let (column, row) = line.cell(k);
+        let word = GapWord {
+            gaps,
+            column,
+            row,
+            is_up,
+        };
+        before = close_word(chooser, word, line.place(k), before, words, tally);
+        note = next_note;
+        here = next;
+    }
+}
+
 /// Closes the gaps of all rows of a frame, or of all columns.
+#[tactic(auto, using(crate::proofs::Columns::all_of))]
 #[inline(always)]
 fn close_lines(
     chooser: &Chooser<'_>,
@@ -195,7 +249,6 @@ fn close_lines(
     words: &mut [u32],
     tally: &mut Tally,
 )
-    requires wide { 0 < chooser.now.frame.width }
     requires noted { chooser.now.frame.height * words_noted_of chooser.now.frame.width ≤ length noted.now }
     requires words { length words.old ≡ chooser.now.frame.height * words_for_of chooser.now.frame.width }
     ensures length { length words.new ≡ length words.old }
@@ -203,41 +256,9 @@ fn close_lines(
     ensures count { tally.new.count ≤ tally.old.count +
         words_along (not is_up) chooser.now.frame * (words_along is_up chooser.now.frame * word_tests chooser.now) }
 {
-    let frame = chooser.frame;
-    let size = words_for(frame.width);
-    let step = words_noted(frame.width);
     // The gaps of the lines before this one are closed, and the others are as they were.
-    'lines: for number in 0..words_along(!is_up, frame) {
-        let line = WordLine {
-            is_up,
-            size,
-            number,
-        };
-        let notes = WordLine {
-            is_up,
-            size: step,
-            number,
-        };
-        let mut note = notes.word(noted, 0);
-        let mut here = line.word(words, 0);
-        let mut before = first_reached(is_up, note, here);
-        // So are those of the words before k of this line. `note` and `here` are its words k as they were, and `before` are the
-        // gaps after the word before k that the next pixels close.
-        'words: for k in 0..words_along(is_up, frame) {
-            let next_note = notes.word(noted, k + 1);
-            let next = line.word(words, k + 1);
-            let gaps = gaps_after(is_up, note, next_note, here, next);
-            let (column, row) = line.cell(k);
-            let word = GapWord {
-                gaps,
-                column,
-                row,
-                is_up,
-            };
-            before = close_word(chooser, word, line.place(k), before, words, tally);
-            note = next_note;
-            here = next;
-        }
+    'lines: for number in 0..words_along(!is_up, chooser.frame) {
+        close_line(chooser, is_up, number, noted, words, tally);
     }
 }
 

@@ -9,6 +9,7 @@ use crate::closing::{gaps_of, left_of};
 use fx_winding::{Frame, words_for, words_noted};
 
 /// Whether one of the segments to the pixels of some words is open, if they all were in one row.
+#[tactic(auto, using(crate::proofs::NoneOpen::none_yet, crate::proofs::NoneOpen::none_more, crate::proofs::NoneOpen::no_gaps))]
 fn is_open_across(noted: &[u32], words: &[u32]) -> bool
     requires { length noted.now ≡ length words.now }
     ensures { result ≡ false → (w c : ℕ) → w < length words.now → c < 32 →
@@ -26,6 +27,7 @@ fn is_open_across(noted: &[u32], words: &[u32]) -> bool
 
 /// Whether one of the segments is open that lead from some words of pixels to others. The words of the segments, of the pixels that
 /// they come from, and of those that they lead to begin at three places.
+#[tactic(auto, using(crate::proofs::NoneOpen::none_yet, crate::proofs::NoneOpen::none_more, crate::proofs::NoneOpen::no_gaps))]
 fn is_open_up(
     up: &[u32],
     noted: usize,

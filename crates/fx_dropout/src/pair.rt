@@ -1,13 +1,13 @@
 //! Pixels, and pairs of neighbours, between whose centres a piece may pass.
 
-ghost use Rattle.std.specs.Prelude.{◌≡◌, ◌↔◌, ◌≤◌, IsTrue};
-ghost use Rattle.fx_winding.specs.Frames.{IsInFrame};
+ghost use Rattle.std.specs.Prelude.{◌≡◌, ◌⊎◌, ◌≤◌, ◌^◌, pos, ◌+ℤ◌, ◌*ℤ◌};
+ghost use Rattle.fx_fixed.specs.Ranges.{IsWithin};
 ghost use Rattle.fx_winding.specs.Limits.{IsPixelNumber};
 ghost use Rattle.fx_winding.specs.Winding.{place_of};
 ghost use Rattle.fx_dropout.specs.Dropout.{place_on};
 ghost use Rattle.fx_dropout.specs.inner.Pairs.{next_col, next_row};
 
-use fx_winding::{Frame, Point, centre_of};
+use fx_winding::Point;
 
 /// A pixel, by its column and its row.
 #[derive(Clone, Copy)]
@@ -27,41 +27,33 @@ pub(crate) struct Pair {
     ghost next_row_number: { IsPixelNumber (next_row is_up here.row) },
 }
 
+/// The coordinate n units after the centre of a column, or of a row, by its number.
+#[inline(always)]
+fn from_centre(number: i32, n: usize) -> i32
+    requires number { IsPixelNumber number }
+    requires next { (n ≡ 0) ⊎ IsPixelNumber (number +ℤ pos 1) }
+    requires few { n ≤ 128 }
+    ensures value { result ≡ (pos 128 *ℤ number +ℤ pos 64) +ℤ pos n }
+    ensures near { IsWithin (2 ^ 22) result }
+{
+    128 * number + 64 + n as i32
+}
+
 impl Pair {
     /// The place n steps of 1/128 pixel from the pixel's centre to the neighbour's.
     pub(crate) fn place(self, n: usize) -> Point
         requires { n ≤ 128 }
         ensures { place_of result ≡ place_on self.is_up self.here.col self.here.row n }
     {
-        let here = centre_of(self.here.col, self.here.row);
         if self.is_up {
             return Point {
-                x: here.x,
-                y: here.y + n as i32,
+                x: from_centre(self.here.col, 0),
+                y: from_centre(self.here.row, n),
             };
         }
         Point {
-            x: here.x + n as i32,
-            y: here.y,
+            x: from_centre(self.here.col, n),
+            y: from_centre(self.here.row, 0),
         }
     }
-}
-
-/// Whether the pixel in a column and a row lies in a frame.
-pub(crate) fn is_in_frame(frame: Frame, col: i32, row: i32) -> bool
-    ensures { IsTrue result ↔ IsInFrame frame col row }
-{
-    if col < frame.left {
-        return false;
-    }
-    if i64::from(col) >= i64::from(frame.left) + i64::from(frame.width) {
-        return false;
-    }
-    if row < frame.bottom {
-        return false;
-    }
-    if i64::from(row) >= i64::from(frame.bottom) + i64::from(frame.height) {
-        return false;
-    }
-    true
 }

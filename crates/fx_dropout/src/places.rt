@@ -1,6 +1,6 @@
 //! What pieces add to the winding numbers of the places between the centres of two neighbours.
 
-ghost use Rattle.std.specs.Prelude.{◌≡◌, ◌⊎◌, ℕ, ◌+◌, ◌*◌, ◌^◌, ◌≤◌, ◌<◌, pos, IsTrue, Some, length, map, get_or, IfSome};
+ghost use Rattle.std.specs.Prelude.{◌≡◌, ◌⊎◌, ℕ, ◌+◌, ◌*◌, ◌^◌, ◌≤◌, ◌<◌, pos, Some, length, map, get_or, IfSome};
 ghost use Rattle.fx_fixed.specs.Ranges.{IsWithin};
 ghost use Rattle.fx_winding.specs.Limits.{most_pieces};
 ghost use Rattle.fx_winding.specs.Winding.{span_of};
@@ -28,16 +28,6 @@ fn joined(place: i32, added: Option<i32>) -> i32
     }
 }
 
-/// Whether a piece is known to add nothing.
-fn is_nothing(added: Option<i32>) -> bool
-    ensures { IsTrue result → added ≡ Some (pos 0) }
-{
-    match added {
-        None => false,
-        Some(turn) => turn == 0,
-    }
-}
-
 /// Adds what a piece adds at the places from `first` to before `end`.
 #[inline(always)]
 fn add_run(places: &mut [i32], first: usize, end: usize, added: Option<i32>)
@@ -49,7 +39,7 @@ fn add_run(places: &mut [i32], first: usize, end: usize, added: Option<i32>)
     ensures run { (n : ℕ) → first ≤ n → n < end → get_or places.new n (pos 0) ≡ sum_of (get_or places.old n (pos 0)) added }
     ensures others { (n : ℕ) → (n < first) ⊎ (end ≤ n) → get_or places.new n (pos 0) ≡ get_or places.old n (pos 0) }
 {
-    if is_nothing(added) {
+    if let Some(0) = added {
         return;
     }
     // The places before n of the run have what is added.

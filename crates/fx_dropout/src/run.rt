@@ -3,7 +3,7 @@
 //! How far a run may reach is guessed first: up to the next end of the piece and to its chord, and then to its arc. Then it is
 //! tested. A line is an arc whose first and last area are 0: its gap is below 0 off the line.
 
-ghost use Rattle.std.specs.Prelude.{◌≡◌, ◌↔◌, ◌+◌, ◌≤◌, ◌<◌, ◌^◌, pos, ◌+ℤ◌, ◌<ℤ◌, IsTrue, Some, IfSome};
+ghost use Rattle.std.specs.Prelude.{◌≡◌, ◌↔◌, ◌+◌, ◌≤◌, ◌<◌, ◌^◌, pos, ◌+ℤ◌, ◌<ℤ◌, IsTrue, Some, None, IfSome};
 ghost use Rattle.fx_fixed.specs.Ranges.{IsWithin};
 ghost use Rattle.fx_winding.specs.Winding.{place_of, span_of, areas_of};
 ghost use Rattle.fx_dropout.specs.inner.Runs.{HaveOneSign, IsBelowTo, IsClear, IsPart, IsPartTo, IsRegionTo, place_in, gap_at};
@@ -67,6 +67,7 @@ fn stays_below(along: &Along<'_>, run: PlaceRun, first: i128, last: i128) -> boo
 
 /// What the region of an arc adds at each place of a run on one side of its chord, if the run is seen to lie beyond the chord,
 /// within the arc or outside it, by the areas at its ends.
+#[tactic(auto, using(fx_fixed::proofs::Linear::signed_linear))]
 fn region_along(along: &Along<'_>, run: PlaceRun, p: Weights, q: Weights) -> Option<i32>
     requires clear { IsClear along.now.pair run.first run.last (span_of along.now.piece.now) }
     requires first { (p.u, p.v, p.w) ≡ areas_of (span_of along.now.piece.now) (place_in along.now.pair run.first) }
@@ -123,18 +124,22 @@ fn is_clear(along: &Along<'_>, run: PlaceRun, p: Weights, q: Weights) -> bool
 }
 
 /// What a piece adds at each place of a run, if it is seen to be one number. `p` are its areas at the first place.
-fn turn_along(along: &Along<'_>, run: PlaceRun, p: Weights) -> Option<i32>
+fn turn_along(along: &Along<'_>, run: PlaceRun, p: Weights, tally: &mut Tally) -> Option<i32>
     requires first { (p.u, p.v, p.w) ≡ areas_of (span_of along.now.piece.now) (place_in along.now.pair run.first) }
-    ensures { IfSome result (λ t. IsPartTo along.now.pair run.first (run.last + 1) (span_of along.now.piece.now) (Some t)) }
+    ensures part { IfSome result (λ t. IsPartTo along.now.pair run.first (run.last + 1) (span_of along.now.piece.now) (Some t)) }
+    ensures count { tally.new.count ≤ tally.old.count + 1 }
+    ensures none { result ≡ None → tally.new.count ≡ tally.old.count }
 {
     let q = along.areas(run.last);
     if !is_clear(along, run, p, q) {
         return None;
     }
-    let crossed = along.crossing(run.first, p.v);
     match region_along(along, run, p, q) {
         None => None,
-        Some(added) => Some(crossed + added),
+        Some(added) => {
+            let first = along.pair.place(run.first);
+            Some(crossing(along.piece, first.x, first.y, tally) + added)
+        }
     }
 }
 
@@ -163,11 +168,6 @@ fn places_to_end(below: usize, n: usize, most: usize) -> usize
     if n < below { most.min(below - n) } else { most }
 }
 
-/// Whether two numbers are above 0, or both below.
-fn are_alike(a: i128, b: i128) -> bool {
-    if a > 0 { b > 0 } else { b < 0 }
-}
-
 /// How many of `count` places, from the place n on, come before the arc, as a guess: before the gap's sign changes, if it does.
 /// `at` are the areas of the place n.
 fn places_to_arc(along: &Along<'_>, n: usize, at: Weights, count: usize) -> usize
@@ -184,7 +184,7 @@ fn places_to_arc(along: &Along<'_>, n: usize, at: Weights, count: usize) -> usiz
             return high;
         }
         let middle = (low + high) / 2;
-        if are_alike(gap, curve_gap(along.areas(n + middle))) {
+        if (curve_gap(along.areas(n + middle)) > 0) == (gap > 0) {
             low = middle;
         } else {
             high = middle;
@@ -237,7 +237,7 @@ pub(crate) fn next_stretch(along: &Along<'_>, n: usize, tally: &mut Tally) -> St
             first: n,
             last: n + count - 1,
         };
-        if let Some(turn) = turn_along(along, run, at) {
+        if let Some(turn) = turn_along(along, run, at, tally) {
             return Stretch {
                 count,
                 turn: Some(turn),

@@ -21,7 +21,7 @@ IsNextIn closing ss f up col row = IsNextChosen closing up ss col row × IsInFra
 abbrev pub IsNext : Chooser → Bool → ℤ → ℤ → Type 0
 IsNext c = IsNextIn c.closing (map span_of c.pieces.now) c.frame
 
--- the same of the pixel c of a word of a frame, counted from the left
+-- the same of the pixel k of a word of a frame, counted from the left
 abbrev pub IsNextAt : Chooser → GapWord → ℕ → Type 0
 IsNextAt c word k = IsNext c word.is_up (c.frame.left +ℤ pos (32 * word.column + k)) (c.frame.bottom +ℤ pos word.row)
 
@@ -125,6 +125,36 @@ AreClosedLines up IsNext f noted old new =
     (r n : ℕ) → r < f.height → n < 32 * words_for f.width
     → IsClosedIn up IsNext f noted old n r (grid_bit new (words_for f.width) n r)
 
+-- ---- a pass over the rows, or the columns, of a frame: its notes, and its words as they were
+pub record Pass : Type 0 where
+  pub chooser : Chooser
+  pub noted : List ℕ
+  pub old : List ℕ
+
+abbrev pub pass : Chooser → List ℕ → List ℕ → Pass
+pass chooser noted old = record { chooser = chooser; noted = noted; old = old }
+
+abbrev pub size_of : Pass → ℕ
+size_of p = words_for p.chooser.frame.width
+
+-- the pixel c of the word k of a line is what it is once the gaps are closed
+abbrev pub IsClosedAt : Bool → Pass → ℕ → ℕ → ℕ → ℕ → Type 0
+IsClosedAt up p line k c new = IsClosedIn up (IsNext p.chooser up) p.chooser.frame p.noted p.old
+    (32 * word_column up line k + c) (word_row up line k) new
+
+-- the word j of the line i comes before the word k of a line
+abbrev pub IsEarlier : ℕ → ℕ → ℕ → ℕ → Type 0
+IsEarlier line k i j = (i < line) ⊎ ((i ≡ line) × (j < k))
+
+-- the words before the word k of a line are closed, and the others are as they were
+pub record AreDone (up : Bool) (p : Pass) (words : List ℕ) (line k : ℕ) : Type 0 where
+  pub long : length words ≡ length p.old
+  pub done : (i j c : ℕ) → IsEarlier line k i j → j < words_along up p.chooser.frame → c < 32
+      → IsClosedAt up p i j c (bit_at (line_word up words (size_of p) i j) (31 - c))
+  pub rest : (i j : ℕ) → line < i ⊎ ((i ≡ line) × (k ≤ j))
+      → line_word up words (size_of p) i j ≡ line_word up p.old (size_of p) i j
+
+-- ---- all words
 -- the gaps of rows are closed, and then those that are left in the columns
 pub record AreClosedWords (IsNext : Bool → ℤ → ℤ → Type 0) (f : Frame) (across up old new : List ℕ) : Type 0 where
   pub mid : List ℕ

@@ -1,5 +1,5 @@
 -- What a piece adds at places of the segment between two neighbours.
-use Rattle.std.specs.Prelude.{◌≡◌, ◌⊎◌, ◌↔◌, ℕ, ◌≤◌, ◌<◌, ◌^◌, Bool, true, false, ℤ, pos, ◌+ℤ◌, ◌-ℤ◌, ◌≤ℤ◌, ◌<ℤ◌, List, Option, Some, None, Any}
+use Rattle.std.specs.Prelude.{◌≡◌, ◌⊎◌, ◌↔◌, ℕ, ◌≤◌, ◌<◌, ◌^◌, Bool, true, false, ℤ, pos, ◌+ℤ◌, ◌-ℤ◌, ◌<ℤ◌, List, Option, Some, None, Any}
 use Rattle.fx_fixed.specs.Ranges.{IsWithin}
 use Rattle.fx_fixed.specs.declared.places.Axis.{Axis}
 use Rattle.fx_fixed.specs.declared.places.Axis.TheVariants.{X, Y}
@@ -54,14 +54,15 @@ pub record IsSteady (pair : Pair) (s : Span) (first end : ℕ) (turn : ℤ) : Ty
 abbrev pub HaveOneSign : ℤ → ℤ → Type 0
 HaveOneSign x y = ((pos 0 <ℤ x) × (pos 0 <ℤ y)) ⊎ ((x <ℤ pos 0) × (y <ℤ pos 0))
 
--- a height is not above the one of two others and at most the other
-abbrev pub IsPassed : ℤ → ℤ → ℤ → Type 0
-IsPassed y low high = (low <ℤ y) × (y ≤ℤ high)
+-- the places of a segment from the one to the other lie below the height y all, or none of them
+abbrev pub AreAlike : Pair → ℕ → ℕ → ℤ → Type 0
+AreAlike pair first last y =
+    (n : ℕ) → first ≤ n → n ≤ last → ((place_in pair n).y <ℤ y) ↔ ((place_in pair first).y <ℤ y)
 
 -- between two places of a segment no end of a piece is passed, and both are strictly on one side of its chord's line
 pub record IsClear (pair : Pair) (first last : ℕ) (s : Span) : Type 0 where
-  pub start : ¬ (IsPassed s.a.y (place_in pair first).y (place_in pair last).y)
-  pub end : ¬ (IsPassed s.c.y (place_in pair first).y (place_in pair last).y)
+  pub start : AreAlike pair first last s.a.y
+  pub end : AreAlike pair first last s.c.y
   pub side : HaveOneSign (areas_of s (place_in pair first)).1 (areas_of s (place_in pair last)).1
 
 -- the gap 4uw - v² of the areas of a place with a piece's points

@@ -6,7 +6,7 @@ use Rattle.fx_dropout.proofs.run.next_stretch.Goals as goal
 
 pub returns-in-Some-clause-part : goal.returns-in-Some-clause-part
 returns-in-Some-clause-part c = λ n low high.
-    part_as_stored _ (span_of c.args.along.now.piece.now) c.in-Some.turn (c.in-Some.ensures n low (omega (arith, high)))
+    part_as_stored _ (span_of c.args.along.now.piece.now) c.in-Some.turn (c.in-Some.ensures.part n low (omega (arith, high)))
 
 pub returns-clause-part : goal.returns-clause-part
 returns-clause-part c =

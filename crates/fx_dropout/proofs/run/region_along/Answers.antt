@@ -1,5 +1,4 @@
 use Rattle.std.proofs.Common.{◌≡◌, ◌∙◌, sym, ap, subst, ℤ, pos, ◌+ℤ◌, ◌<ℤ◌, arith, w32, w64, to_z, of_z}
-use mir.Syntax.{w128}
 use Rattle.fx_fixed.proofs.Linear.{signed_linear}
 use Rattle.fx_winding.specs.Area.{gap_of}
 use Rattle.fx_winding.specs.Winding.{span_of, place_of, maybe_place_of, sign}
@@ -35,15 +34,6 @@ returns-then-first-gt0-clause-region c =
     (c.is_on_side.ensures.0 c.if-not-is_on_side.false))
     (subst (λ z. pos 0 <ℤ z) (c.curve_gap-first.ensures.value ∙ ap G c.requires.first) hp)
     (subst (λ z. pos 0 <ℤ z) (c.curve_gap-last.ensures.value ∙ ap G c.requires.last) hq))
-
-pub stays_below-requires-clause-first : goal.stays_below-requires-clause-first
-stays_below-requires-clause-first c =
-    let size = c.curve_gap-first.ensures.size in
-    let word : to_z w128 (of_z w128 c.curve_gap-first.result) ≡ c.curve_gap-first.result = omega (arith, signed_linear, size) in
-    word ∙ c.curve_gap-first.ensures.value ∙ ap (λ (x : ℤ × ℤ × ℤ). gap_of x.0 x.1 x.2) c.requires.first
-
-pub stays_below-requires-clause-first_below : goal.stays_below-requires-clause-first_below
-stays_below-requires-clause-first_below c = let s = c.curve_gap-first.ensures.size in omega (arith, signed_linear, s)
 
 pub returns-clause-region : goal.returns-clause-region
 returns-clause-region c = without_run c.args.along.now.pair c.args.run.first c.args.run.last

@@ -1,20 +1,17 @@
-use Rattle.std.proofs.Common.{◌∙◌, ap, ℤ, arith}
-use Rattle.fx_winding.specs.Winding.{span_of, maybe_place_of, place_of}
-use Rattle.fx_dropout.specs.inner.Runs.{place_in}
-use Rattle.fx_dropout.proofs.Runs.{area_word, middle_of, part_run}
+use Rattle.std.proofs.Common.{◌∙◌, ap, arith}
 use Rattle.fx_fixed.proofs.Linear.{signed_linear}
+use Rattle.fx_winding.specs.Winding.{span_of, crossing as crossing_of}
+use Rattle.fx_winding.proofs.Swept.{moved}
+use Rattle.fx_dropout.proofs.Runs.{coordinate_word, part_run}
 use Rattle.fx_dropout.proofs.run.turn_along.Goals as goal
 
-pub crossing-crossed-requires-clause-side : goal.crossing-crossed-requires-clause-side
-crossing-crossed-requires-clause-side c =
-    let s = c.args.along.now.piece.now in
-    area_word c.args.p.v c.args.p.near_v ∙ ap (λ (x : ℤ × ℤ × ℤ). x.1) c.requires.first
-    ∙ middle_of (place_of s.a) (maybe_place_of s.b) (place_of s.c) (place_in c.args.along.now.pair c.args.run.first)
-
-pub returns-in-Some : goal.returns-in-Some
-returns-in-Some c =
-    let small = c.crossing-crossed.ensures.size in
+pub returns-in-Some-clause-part : goal.returns-in-Some-clause-part
+returns-in-Some-clause-part c =
+    let s = span_of c.args.along.now.piece.now in
+    let p = c.place-first.result in
+    let small = c.crossing.ensures.size in
     let few = c.in-Some.ensures.size in
-    part_run c.args.along.now.pair c.args.run.first c.args.run.last (span_of c.args.along.now.piece.now) _ c.crossing-crossed.result
-    c.in-Some.added (c.is_clear.ensures c.if-not-is_clear.false) c.crossing-crossed.ensures.value c.in-Some.ensures.region small few
-    (omega (arith, signed_linear, small, few))
+    part_run c.args.along.now.pair c.args.run.first c.args.run.last s _ c.crossing.result c.in-Some.added
+    (c.is_clear.ensures c.if-not-is_clear.false) (c.crossing.ensures.value
+    ∙ moved (λ q. crossing_of q s) (coordinate_word p.x p.near_x) (coordinate_word p.y p.near_y)
+    ∙ ap (λ q. crossing_of q s) c.place-first.ensures) c.in-Some.ensures.region small few (omega (arith, signed_linear, small, few))

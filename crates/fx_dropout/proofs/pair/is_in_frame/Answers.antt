@@ -1,6 +1,0 @@
-use Rattle.std.proofs.Common.{arith}
-use Rattle.fx_fixed.proofs.Linear.{signed_linear}
-use Rattle.fx_dropout.proofs.pair.is_in_frame.Goals as goal
-
-pub returns : goal.returns
-returns c = grind (arith, signed_linear)
