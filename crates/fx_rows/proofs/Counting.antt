@@ -2,6 +2,7 @@
 -- Serves what a bent arc or a line adds to such a row.
 use Rattle.std.proofs.Common.{◌≡◌, ◌≢◌, ◌⊎◌, inl, inr, refl, sym, ◌∙◌, subst, ℕ, ◌+◌, ◌≤◌, ◌<◌, min, ℤ, pos}
 use Rattle.std.proofs.Common.{◌+ℤ◌, ◌-ℤ◌, ◌*ℤ◌, ◌≤ℤ◌, ◌<ℤ◌, neg_ℤ, Bool, true, false, Option, Some, None, arith}
+use Rattle.std.proofs.lemmas.Int.{ints}
 use Rattle.fx_fixed.proofs.Order.{below_or_not, below_same_above, below_or_not_ℤ}
 use Rattle.fx_fixed.proofs.Linear.{signed_linear}
 use Rattle.fx_winding.specs.Area.{Place, area}
@@ -17,6 +18,7 @@ use Rattle.fx_rows.specs.inner.Cuts.{Counts, CountsAt, CountsFirst, IsEndOfCount
 use Rattle.fx_winding.proofs.Beside.{left_off, right_off}
 use Rattle.fx_winding.proofs.Crossings.{crossing_left, left_of_rising, left_of_falling, right_of_rising, right_of_falling}
 use Rattle.fx_rows.specs.inner.Points.{IsPointOf, AreAcross, IsInner, IsRise}
+use Rattle.fx_rows.specs.inner.Told.{rise_value}
 use Rattle.fx_rows.specs.declared.part.OnRow.TheVariants.{None as Nowhere}
 use Rattle.fx_rows.proofs.Signs.{not_below_zero, below_zero_if_not, above_or_zero}
 use Rattle.fx_rows.proofs.Points.{to_all}
@@ -291,11 +293,20 @@ outside_part a None c r strip k h off not = absurd h
 outside_part a (Some b) c r strip k h off not =
     value_outside a b c (place_at strip k) r h.bent h.inner h.turned off (λ n. not (unreal a b c r strip h k n))
 
+-- the value that a piece has left of it
+pub rise_told : (s : Span) (foot head value : ℤ) → IsRise s foot head value → value ≡ rise_value s
+rise_told s foot head value h = grind (arith, ints, signed_linear, below_or_not_ℤ s.a.y s.c.y)
+
+sign_told : (s : Span) (y : ℤ) → IsInner s.a.y s.c.y y → rise_value s ≡ sign (s.c.y -ℤ s.a.y)
+sign_told s y h = grind (arith, ints, signed_linear, h, sign_above, sign_below)
+
 pub arc_is_cut : (s : Span) (r : Bool) (strip : Strip) (end : ℕ) (cut : Cut) → BendsPart s.a s.b s.c r strip
-    → IsEndOfCount s r strip end → cut.end ≡ min end strip.stop → cut.value ≡ sign (s.c.y -ℤ s.a.y) → IsOnStrip s strip cut.on
-    → IsCut s strip cut
-arc_is_cut s r strip end cut h e at value on = record {
-  inside = λ k l m o off. inside_part s.a s.b s.c r strip k h off (e.inside k (omega (arith, at))) ∙ sym value;
+    → IsEndOfCount s r strip end → cut.end ≡ min end strip.stop → IsInner s.a.y s.c.y (pos 128 *ℤ strip.row +ℤ pos 64)
+    → cut.value ≡ rise_value s → IsOnStrip s strip cut.on → IsCut s strip cut
+arc_is_cut s r strip end cut h e at inner value on = record {
+  inside = λ k l m o off. inside_part s.a s.b s.c r strip k h off (e.inside k (omega (arith, at)))
+      ∙ sym (value ∙ sign_told s _ inner);
+  value = value;
   outside = λ k l m o off. outside_part s.a s.b s.c r strip k h off (e.outside k (omega (arith, at)) m);
   within = omega (arith, at);
   on = on;
@@ -303,11 +314,12 @@ arc_is_cut s r strip end cut h e at value on = record {
 
 -- ---- for a line
 pub line_is_cut : (s : Span) (strip : Strip) (cut : Cut) → ¬ (IsBent s) → IsInner s.a.y s.c.y (pos 128 *ℤ strip.row +ℤ pos 64)
-    → IsEdge s.a s.c strip cut.end → cut.value ≡ sign (s.c.y -ℤ s.a.y) → IsOnStrip s strip cut.on → IsCut s strip cut
+    → IsEdge s.a s.c strip cut.end → cut.value ≡ rise_value s → IsOnStrip s strip cut.on → IsCut s strip cut
 line_is_cut s strip cut flat inner e value on = record {
   inside = λ k l m o off. first_only _ _ _
-      (crossing_of_left s.a s.c (place_at strip k) (across s.a.y s.c.y _ inner) (e.left k o) ∙ sym value)
+      (crossing_of_left s.a s.c (place_at strip k) (across s.a.y s.c.y _ inner) (e.left k o) ∙ sym (value ∙ sign_told s _ inner))
       (no_region_flat s (place_at strip k) flat);
+  value = value;
   outside = λ k l m o off. both_zero _ _ (crossing_of_rest s.a s.c (place_at strip k) (e.rest k o m))
       (no_region_flat s (place_at strip k) flat);
   within = e.within;
@@ -325,12 +337,14 @@ right_crossing a c p l m = grind (arith, signed_linear, l, m, crossing_left, rig
 pub clear_is_cut : (s : Span) (strip : Strip) (cut : Cut) (first end : ℤ) → AreAcross s first end → end ≤ℤ first
     → IsInner s.a.y s.c.y (pos 128 *ℤ strip.row +ℤ pos 64) → cut.end ≤ strip.stop
     → ((k : ℕ) → k < cut.end → (strip.base +ℤ pos k) <ℤ first)
-    → ((k : ℕ) → cut.end ≤ k → k < strip.stop → first ≤ℤ (strip.base +ℤ pos k)) → cut.value ≡ sign (s.c.y -ℤ s.a.y)
+    → ((k : ℕ) → cut.end ≤ k → k < strip.stop → first ≤ℤ (strip.base +ℤ pos k)) → cut.value ≡ rise_value s
     → cut.on ≡ Nowhere → IsCut s strip cut
 clear_is_cut s strip cut first end h clear inner within before rest value none = record {
   inside = λ k l m o off. first_only _ _ _
-      (left_crossing s.a s.c (place_at strip k) inner (left k o s.a (inl refl)) (left k o s.c (inr (inr refl))) ∙ sym value)
+      (left_crossing s.a s.c (place_at strip k) inner (left k o s.a (inl refl)) (left k o s.c (inr (inr refl)))
+      ∙ sym (value ∙ sign_told s _ inner))
       (left_off (place_at strip k) s (to_all (λ q. (place_at strip k).x <ℤ q.x) s (left k o))).0;
+  value = value;
   outside = λ k l m o off. both_zero _ _
       (right_crossing s.a s.c (place_at strip k) (right k o m s.a (inl refl)) (right k o m s.c (inr (inr refl))))
       (right_off (place_at strip k) s (to_all (λ q. q.x <ℤ (place_at strip k).x) s (right k o m))).0;
@@ -350,8 +364,3 @@ clear_is_cut s strip cut first end h clear inner within before rest value none =
     off : (k : ℕ) → k < strip.stop → (k < cut.end) ⊎ (cut.end ≤ k) → ¬ (IsOn (place_at strip k) s)
     off k m (inl o) = (left_off (place_at strip k) s (to_all (λ q. (place_at strip k).x <ℤ q.x) s (left k o))).1
     off k m (inr o) = (right_off (place_at strip k) s (to_all (λ q. q.x <ℤ (place_at strip k).x) s (right k o m))).1
-
--- ---- the heights of a chord's ends
-pub rise_sign : (s : Span) (foot head value y : ℤ) → IsRise s foot head value → IsInner s.a.y s.c.y y
-    → value ≡ sign (s.c.y -ℤ s.a.y)
-rise_sign s foot head value y h i = grind (arith, signed_linear, h, i, sign_above, sign_below)

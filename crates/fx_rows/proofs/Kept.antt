@@ -4,7 +4,7 @@ use Rattle.std.proofs.Common.{◌≡◌, ◌≢◌, inl, inr, ℕ, ◌+◌, ◌<
 use Rattle.std.proofs.Math.Logic.{⊎_map}
 use Rattle.fx_fixed.proofs.Order.{below_or_not, below_same_above}
 use Rattle.fx_winding.specs.Bitmaps.{word_bit}
-use Rattle.fx_rows.specs.inner.Lines.{AreOnly}
+use Rattle.fx_rows.specs.inner.Lines.{AreOnly, GainOnly}
 use Rattle.fx_rows.specs.inner.Told.{AreKept}
 
 pub kept_both : (a b c : List ℕ) → AreKept a b → AreKept b c → AreKept a c
@@ -33,3 +33,13 @@ only_one P a b i here others n e = grind (arith, here, others, n, e, below_same_
 
 pub kept_one : (a b : List ℕ) (i : ℕ) → word_bit b i ≡ 1 → ((n : ℕ) → n ≢ i → word_bit b n ≡ word_bit a n) → AreKept a b
 kept_one a b i here others n e = grind (arith, here, others, n, e, below_same_above n i)
+
+-- ---- both
+pub gain_none : (P : ℕ → Type 0) (a : List ℕ) → GainOnly P a a
+gain_none P a = record { kept = λ n e. e; only = λ n e. inl e }
+
+pub gain_both : (P : ℕ → Type 0) (a b c : List ℕ) → GainOnly P a b → GainOnly P b c → GainOnly P a c
+gain_both P a b c h k = record { kept = kept_both a b c h.kept k.kept; only = only_both P a b c h.only k.only }
+
+pub gain_more : (P Q : ℕ → Type 0) (a b : List ℕ) → ((n : ℕ) → P n → Q n) → GainOnly P a b → GainOnly Q a b
+gain_more P Q a b f h = record { kept = h.kept; only = only_more P Q a b f h.only }

@@ -8,7 +8,7 @@ use Rattle.fx_winding.specs.Turned.{turned_span}
 use Rattle.fx_winding.specs.Meets.{IsMet}
 use Rattle.fx_winding.specs.Notes.{pixel_number, words_noted, IsNotedAcross, IsNotedUp}
 use Rattle.fx_winding.specs.Winding.{Span, IsOn, centre}
-use Rattle.fx_rows.specs.inner.Lines.{left_at, right_at, AreOnly, IsAcrossBit, IsMetTo, IsMetUnlessOn, IsRowsBit, IsUpBit}
+use Rattle.fx_rows.specs.inner.Lines.{left_at, right_at, AreOnly, GainOnly, IsAcrossBit, IsMetTo, IsMetUnlessOn, IsRowsBit, IsUpBit}
 use Rattle.fx_rows.specs.inner.Telling.{Way, across_row, up_to_row, IsNotedBy, IsAmong, AreMetAcross, AreMetUp}
 use Rattle.fx_rows.specs.inner.Telling.{BitsSay, Lasts, Saying, of_frame, of_pieces, noted}
 use Rattle.fx_rows.specs.inner.Told.{AreKept}
@@ -111,12 +111,12 @@ up_bit s f g n el eb ew eh new =
     }
 
 -- ---- what is said after a piece is noted
-pub says_more : (A : Span → Way → Type 0) (s : Span) (f : Frame) (a b u v : List ℕ) → AreKept a b → AreOnly (IsAcrossBit s f) a b
-    → AreKept u v → AreOnly (IsUpBit s f) u v → (x : Saying) → Lasts s x → BitsSay A f a u x → BitsSay A f b v x
-says_more A s f a b u v kept only kept' only' (of_frame g) lasts old = old
-says_more A s f a b u v kept only kept' only' (of_pieces ss) among old =
-    record { rows = some_rows s ss f a b among only old.rows; columns = some_up s ss f u v among only' old.columns }
-says_more A s f a b u v kept only kept' only' (noted t w r) lasts old = (
-  noted_kept f a b u v t w r kept kept' old.0,
-  λ apart q. noted_kept f a b u v t w q kept kept' (old.1 apart q),
+pub says_more : (A : Span → Way → Type 0) (s : Span) (f : Frame) (a b u v : List ℕ) → GainOnly (IsAcrossBit s f) a b
+    → GainOnly (IsUpBit s f) u v → (x : Saying) → Lasts s x → BitsSay A f a u x → BitsSay A f b v x
+says_more A s f a b u v g h (of_frame k) lasts old = old
+says_more A s f a b u v g h (of_pieces ss) among old =
+    record { rows = some_rows s ss f a b among g.only old.rows; columns = some_up s ss f u v among h.only old.columns }
+says_more A s f a b u v g h (noted t w r) lasts old = (
+  noted_kept f a b u v t w r g.kept h.kept old.0,
+  λ apart q. noted_kept f a b u v t w q g.kept h.kept (old.1 apart q),
 )

@@ -36,16 +36,13 @@ use Rattle.fx_rows.proofs.Banding.{band_none, band_three, band_missed}
 use Rattle.fx_rows.proofs.Stepping.{band_next}
 
 -- ---- the end of one row
-pub rise_told : (s : Span) (foot head value : ℤ) → IsRise s foot head value → value ≡ rise_value s
-rise_told s foot head value h = grind (arith, ints, signed_linear, below_or_not_ℤ s.a.y s.c.y)
-
 pub cut_end : (s : Span) (f : Frame) (strip : Strip) (cut : Cut) (row : ℤ) (n : ℕ) → strip.row ≡ row
     → strip.base +ℤ pos strip.start ≡ f.left → strip.base +ℤ pos strip.stop ≡ f.left +ℤ pos f.width
-    → n ≡ cut.end - strip.start → cut.value ≡ rise_value s → IsCut s strip cut → IsEndOn s f row n
-cut_end s f strip cut row n at_row first last e value is = record {
+    → n ≡ cut.end - strip.start → IsCut s strip cut → IsEndOn s f row n
+cut_end s f strip cut row n at_row first last e is = record {
   within = let w = is.within in omega (arith, signed_linear, first, last, e, w);
   left = λ k h off. ap (λ (q : Place). turn q s) (sym (at k)) ∙ is.inside (strip.start + k) (omega arith)
-      (let w = is.within in omega (arith, e, h, w)) (omega (arith, e, h)) (off_at k off) ∙ value;
+      (let w = is.within in omega (arith, e, h, w)) (omega (arith, e, h)) (off_at k off) ∙ is.value;
   right = λ k h l off. ap (λ (q : Place). turn q s) (sym (at k)) ∙ is.outside (strip.start + k) (omega arith)
       (omega (arith, signed_linear, first, last, l)) (omega (arith, e, h)) (off_at k off);
 }

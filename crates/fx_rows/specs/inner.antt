@@ -5,6 +5,7 @@ pub mod Runs
 pub mod Sides
 pub mod Arcs
 pub mod Candidates
+pub mod Shares
 pub mod Cuts
 pub mod Walks
 pub mod Inside

@@ -9,10 +9,9 @@ ghost use Rattle.fx_winding.specs.Notes.{words_noted as words_noted_of, IsNotedA
 ghost use Rattle.fx_winding.specs.Winding.{span_of};
 ghost use Rattle.fx_rows.specs.inner.Bands.{bounded_span, AreInner};
 ghost use Rattle.fx_rows.specs.inner.Strips.{base_place};
-ghost use Rattle.fx_rows.specs.inner.Lines.{AreOnly, AreRowsSet, AreSetIn, HaveRoom, IsAcrossBit, IsLineBit, IsRowSet, IsRowsBit};
+ghost use Rattle.fx_rows.specs.inner.Lines.{AreRowsSet, AreSetIn, GainOnly, HaveRoom, IsAcrossBit, IsLineBit, IsRowSet, IsRowsBit};
 ghost use Rattle.fx_rows.specs.inner.Lines.{IsUpBit};
 ghost use Rattle.fx_rows.specs.inner.Telling.{with_first};
-ghost use Rattle.fx_rows.specs.inner.Told.{AreKept};
 
 use crate::apart::has_columns;
 use crate::bounded::{Bounded, bounds_of, rise_of};
@@ -112,8 +111,7 @@ pub(crate) fn note_line(bounded: &Bounded, line: NotedRow, bits: &mut [u32], tal
     requires row { IsFrom line.frame.bottom line.frame.height line.row }
     requires room { line.first + line.frame.width * line.step < 32 * length bits.old }
     ensures noted { IsRowSet (bounded_span bounded.now) line.frame line.row line.first line.step bits.new }
-    ensures kept { AreKept bits.old bits.new }
-    ensures only { AreOnly (IsLineBit (bounded_span bounded.now) line.frame line.row line.first line.step) bits.old bits.new }
+    ensures gained { GainOnly (IsLineBit (bounded_span bounded.now) line.frame line.row line.first line.step) bits.old bits.new }
     ensures count { tally.new.count ≤ tally.old.count + 55 }
 {
     let piece = &bounded.piece;
@@ -139,8 +137,7 @@ pub(crate) fn note_met_lines(
     requires room { HaveRoom lines bits.old }
     ensures noted { (r : ℕ) → rows.first ≤ r → r < rows.end → IsRowSet (bounded_span bounded.now) lines.frame
         (lines.frame.bottom +ℤ pos r) (r * lines.row_step) lines.step bits.new }
-    ensures kept { AreKept bits.old bits.new }
-    ensures only { AreOnly (IsRowsBit (bounded_span bounded.now) lines.frame lines.row_step lines.step) bits.old bits.new }
+    ensures gained { GainOnly (IsRowsBit (bounded_span bounded.now) lines.frame lines.row_step lines.step) bits.old bits.new }
     ensures count { tally.new.count ≤ tally.old.count + 55 * (rows.end - rows.first) }
 {
     // The segments of the rows before `up` are noted.
@@ -167,8 +164,7 @@ fn note_cuts<C: Cuts + Drop>(
     requires room { HaveRoom lines bits.old }
     ensures noted { (r : ℕ) → rows.first ≤ r → r < rows.end →
         AreSetIn (bounded_span bounded.now) lines.frame r (r * lines.row_step) lines.step bits.new }
-    ensures kept { AreKept bits.old bits.new }
-    ensures only { AreOnly (IsRowsBit (bounded_span bounded.now) lines.frame lines.row_step lines.step) bits.old bits.new }
+    ensures gained { GainOnly (IsRowsBit (bounded_span bounded.now) lines.frame lines.row_step lines.step) bits.old bits.new }
     ensures count { tally.new.count ≤ tally.old.count + (rows.end - rows.first) }
 {
     let mut cuts = cuts;
@@ -197,8 +193,7 @@ fn note_passed_lines(
     requires room { HaveRoom lines bits.old }
     ensures noted { (r : ℕ) → rows.first ≤ r → r < rows.end →
         AreSetIn (bounded_span bounded.now) lines.frame r (r * lines.row_step) lines.step bits.new }
-    ensures kept { AreKept bits.old bits.new }
-    ensures only { AreOnly (IsRowsBit (bounded_span bounded.now) lines.frame lines.row_step lines.step) bits.old bits.new }
+    ensures gained { GainOnly (IsRowsBit (bounded_span bounded.now) lines.frame lines.row_step lines.step) bits.old bits.new }
     ensures count { tally.new.count ≤ tally.old.count + 3 * (rows.end - rows.first) }
 {
     if rows.first >= rows.end {
@@ -219,8 +214,7 @@ fn note_passed_lines(
 fn note_lines(piece: &Piece, lines: NotedRows, bits: &mut [u32], tally: &mut Tally)
     requires { HaveRoom lines bits.old }
     ensures noted { AreRowsSet (span_of piece.now) lines.frame lines.row_step lines.step bits.new }
-    ensures kept { AreKept bits.old bits.new }
-    ensures only { AreOnly (IsRowsBit (span_of piece.now) lines.frame lines.row_step lines.step) bits.old bits.new }
+    ensures gained { GainOnly (IsRowsBit (span_of piece.now) lines.frame lines.row_step lines.step) bits.old bits.new }
     ensures count { tally.new.count ≤ tally.old.count + 55 * lines.frame.height }
 {
     let bounded = bounds_of(piece, rise_of(piece));
@@ -255,8 +249,7 @@ pub(crate) fn note_all_across(
     requires margin { HasMargin frame }
     requires room { length across.old ≡ frame.height * words_noted_of frame.width }
     ensures noted { rows.first ≡ 0 → (r : ℕ) → r < frame.height → IsNotedAcross (span_of piece.now) frame across.new r }
-    ensures kept { AreKept across.old across.new }
-    ensures only { AreOnly (IsAcrossBit (span_of piece.now) frame) across.old across.new }
+    ensures gained { GainOnly (IsAcrossBit (span_of piece.now) frame) across.old across.new }
     ensures count { tally.new.count ≤ tally.old.count + with_first rows.first (55 * frame.height) }
 {
     if rows.first > 0 {
@@ -283,8 +276,7 @@ pub(crate) fn note_all_up(
     requires margin { HasMargin frame }
     requires room { length up.old ≡ (frame.height + 1) * words_noted_of frame.width }
     ensures noted { rows.first ≡ 0 → (r : ℕ) → r ≤ frame.height → IsNotedUp (span_of piece.now) frame up.new r }
-    ensures kept { AreKept up.old up.new }
-    ensures only { AreOnly (IsUpBit (span_of piece.now) frame) up.old up.new }
+    ensures gained { GainOnly (IsUpBit (span_of piece.now) frame) up.old up.new }
     ensures count { tally.new.count ≤ tally.old.count + with_first rows.first (55 * frame.width) }
 {
     if rows.first > 0 {

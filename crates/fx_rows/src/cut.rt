@@ -23,8 +23,7 @@ pub(crate) fn line_cut(bounded: &Bounded, strip: Strip, start: i64) -> Cut
     requires inner { IsInner bounded.now.piece.a.y bounded.now.piece.c.y (pos 128 *ℤ strip.row +ℤ pos 64) }
     requires start { start ≡
         side (place_of bounded.now.piece.a) (place_of bounded.now.piece.c) (place_at strip 0) }
-    ensures cut { IsCut (bounded_span bounded.now) strip result }
-    ensures value { result.value ≡ bounded.now.rise.value }
+    ensures { IsCut (bounded_span bounded.now) strip result }
 {
     let edge = edge_from(&bounded.piece, strip, start);
     Cut {
@@ -38,8 +37,7 @@ pub(crate) fn line_cut(bounded: &Bounded, strip: Strip, start: i64) -> Cut
 pub(crate) fn clear_cut(bounded: &Bounded, strip: Strip) -> Cut
     requires clear { bounded.now.across.end ≤ℤ bounded.now.across.first }
     requires inner { IsInner bounded.now.piece.a.y bounded.now.piece.c.y (pos 128 *ℤ strip.row +ℤ pos 64) }
-    ensures cut { IsCut (bounded_span bounded.now) strip result }
-    ensures value { result.value ≡ bounded.now.rise.value }
+    ensures { IsCut (bounded_span bounded.now) strip result }
 {
     Cut {
         end: columns_before(strip, bounded.across.first),

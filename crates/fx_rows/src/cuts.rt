@@ -27,7 +27,6 @@ pub(crate) trait Cuts {
         requires at { AreAt self.old bounded.now (place_at strip 0) }
         requires inner { IsInner bounded.now.piece.a.y bounded.now.piece.c.y (pos 128 *ℤ strip.row +ℤ pos 64) }
         ensures cut { IsCut (bounded_span bounded.now) strip result }
-        ensures value { result.value ≡ bounded.now.rise.value }
         ensures same { AreAt self.new bounded.now (place_at strip 0) }
         ensures count { tally.new.count ≤ tally.old.count + 1 };
 

@@ -6,6 +6,7 @@ ghost use Rattle.fx_winding.specs.Limits.{IsPixelNumber};
 ghost use Rattle.fx_winding.specs.Outside.{HasAll};
 ghost use Rattle.fx_winding.specs.Winding.{span_of};
 ghost use Rattle.fx_rows.specs.inner.Heights.{height_of, IsMissed, AreAmong};
+ghost use Rattle.fx_rows.specs.inner.Runs.{IsSplit};
 ghost use Rattle.fx_rows.specs.inner.Telling.{IsPartOf};
 
 use crate::bounded::Rise;
@@ -48,9 +49,7 @@ pub(crate) fn band_of(frame: Frame, rows: RowRange) -> Frame
 /// How many rows of a frame are below a row of the plane.
 fn rows_below(frame: Frame, row: i32) -> u32
     requires { IsWithin (2 ^ 15) row }
-    ensures within { result ≤ frame.height }
-    ensures below { (r : ℕ) → r < result → (frame.bottom +ℤ pos r) <ℤ row }
-    ensures rest { (r : ℕ) → result ≤ r → r < frame.height → row ≤ℤ (frame.bottom +ℤ pos r) }
+    ensures { IsSplit (λ r. (frame.bottom +ℤ pos r) <ℤ row) (λ r. row ≤ℤ (frame.bottom +ℤ pos r)) frame.height result }
 {
     if row <= frame.bottom {
         return 0;

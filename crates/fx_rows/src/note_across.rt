@@ -7,9 +7,9 @@ ghost use Rattle.std.specs.Prelude.{◌≡◌, ℕ, ◌+◌, ◌-◌, ◌*◌, �
 ghost use Rattle.fx_fixed.specs.Ranges.{IsWithin};
 ghost use Rattle.fx_winding.specs.Notes.{words_noted as words_noted_of, IsNotedAcross};
 ghost use Rattle.fx_winding.specs.Winding.{span_of};
-ghost use Rattle.fx_rows.specs.inner.Lines.{AreOnly, IsAcrossBit};
+ghost use Rattle.fx_rows.specs.inner.Lines.{GainOnly, IsAcrossBit};
 ghost use Rattle.fx_rows.specs.inner.Placing.{AreEndsTold, IsInBand};
-ghost use Rattle.fx_rows.specs.inner.Told.{AreKept};
+ghost use Rattle.fx_rows.specs.inner.Runs.{IsSplit};
 ghost use Rattle.fx_rows.specs.inner.Upward.{column_of};
 
 use crate::bounded::{bounds_of, rise_of};
@@ -24,9 +24,7 @@ use fx_winding::{Frame, Piece, Tally, first_from, set_bit, words_noted};
 #[inline(always)]
 pub(crate) fn column_from(frame: Frame, x: i32) -> u32
     requires { IsWithin (2 ^ 22) x }
-    ensures within { result ≤ frame.width }
-    ensures before { (k : ℕ) → k < result → column_of frame k <ℤ x }
-    ensures from { (k : ℕ) → result ≤ k → k < frame.width → x ≤ℤ column_of frame k }
+    ensures { IsSplit (λ k. column_of frame k <ℤ x) (λ k. x ≤ℤ column_of frame k) frame.width result }
 {
     columns_under(frame, first_from(x))
 }
@@ -39,8 +37,7 @@ fn note_ends(piece: &Piece, placed: PieceInBand, ends: &[u32], across: &mut [u32
     requires room { length across.old ≡ placed.frame.height * words_noted_of placed.frame.width }
     ensures noted { (r : ℕ) → placed.met.inner.first ≤ r → r < placed.met.inner.end →
         IsNotedAcross (span_of piece.now) placed.frame across.new r }
-    ensures kept { AreKept across.old across.new }
-    ensures only { AreOnly (IsAcrossBit (span_of piece.now) placed.frame) across.old across.new }
+    ensures gained { GainOnly (IsAcrossBit (span_of piece.now) placed.frame) across.old across.new }
 {
     // The segments of the rows before `row` are noted.
     'rows: for row in placed.met.inner.first..placed.met.inner.end {
@@ -58,8 +55,7 @@ fn note_others(piece: &Piece, placed: PieceInBand, across: &mut [u32], tally: &m
         IsNotedAcross (span_of piece.now) placed.frame across.new r }
     ensures above { (r : ℕ) → placed.met.inner.end ≤ r → r < placed.met.touched.end →
         IsNotedAcross (span_of piece.now) placed.frame across.new r }
-    ensures kept { AreKept across.old across.new }
-    ensures only { AreOnly (IsAcrossBit (span_of piece.now) placed.frame) across.old across.new }
+    ensures gained { GainOnly (IsAcrossBit (span_of piece.now) placed.frame) across.old across.new }
     ensures count { tally.new.count ≤ tally.old.count + 55 * (placed.rows.end - placed.rows.first) }
 {
     let touched = placed.met.touched;
@@ -96,8 +92,7 @@ pub(crate) fn note_across(
     requires room { length across.old ≡ placed.frame.height * words_noted_of placed.frame.width }
     ensures noted { (r : ℕ) → placed.rows.first ≤ r → r < placed.rows.end →
         IsNotedAcross (span_of piece.now) placed.frame across.new r }
-    ensures kept { AreKept across.old across.new }
-    ensures only { AreOnly (IsAcrossBit (span_of piece.now) placed.frame) across.old across.new }
+    ensures gained { GainOnly (IsAcrossBit (span_of piece.now) placed.frame) across.old across.new }
     ensures count { tally.new.count ≤ tally.old.count + 55 * (placed.rows.end - placed.rows.first) }
 {
     let touched = placed.met.touched;

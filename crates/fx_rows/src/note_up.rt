@@ -11,7 +11,7 @@ ghost use Rattle.fx_winding.specs.Notes.{words_noted, IsNotedUp};
 ghost use Rattle.fx_winding.specs.Winding.{Span, span_of};
 ghost use Rattle.fx_rows.specs.inner.Bulging.{IsBulge, IsOnLine};
 ghost use Rattle.fx_rows.specs.inner.Heights.{height_of, IsAtLeastEnds, IsAtMostEnds, IsOneOver, IsOneUnder};
-ghost use Rattle.fx_rows.specs.inner.Lines.{AreOnly, IsUpBit};
+ghost use Rattle.fx_rows.specs.inner.Lines.{AreOnly, GainOnly, IsUpBit};
 ghost use Rattle.fx_rows.specs.inner.Placing.{AreEndsTold, IsInBand};
 ghost use Rattle.fx_rows.specs.inner.Points.{IsInner};
 ghost use Rattle.fx_rows.specs.inner.Told.{AreKept};
@@ -267,8 +267,7 @@ fn note_passage(
     ensures from { ComesFrom (span_of piece.now) placed.frame placed.met.inner.end result }
     ensures noted { (r : ℕ) → placed.met.inner.first ≤ r → r < placed.met.inner.end →
         IsNotedUp (span_of piece.now) placed.frame up.new r }
-    ensures only { AreOnly (IsUpBit (span_of piece.now) placed.frame) up.old up.new }
-    ensures kept { AreKept up.old up.new }
+    ensures gained { GainOnly (IsUpBit (span_of piece.now) placed.frame) up.old up.new }
 {
     let inner = placed.met.inner;
     let mut low = low;
@@ -298,8 +297,7 @@ pub(crate) fn note_up(
     requires told { AreEndsTold ends.now (span_of piece.now) placed }
     requires room { length up.old ≡ (placed.frame.height + 1) * words_noted placed.frame.width }
     ensures noted { (r : ℕ) → placed.rows.first ≤ r → r ≤ placed.rows.end → IsNotedUp (span_of piece.now) placed.frame up.new r }
-    ensures only { AreOnly (IsUpBit (span_of piece.now) placed.frame) up.old up.new }
-    ensures kept { AreKept up.old up.new }
+    ensures gained { GainOnly (IsUpBit (span_of piece.now) placed.frame) up.old up.new }
     ensures count { tally.new.count ≤ tally.old.count + 4 }
 {
     if is_on_line(piece) {

@@ -6,7 +6,7 @@ ghost use Rattle.fx_winding.specs.Meets.{turn, IsTipPart, IsWithinRow};
 ghost use Rattle.fx_winding.specs.Winding.{Span, IsOn, place_of, span_of};
 ghost use Rattle.fx_rows.specs.Parts.{IsRowPart};
 ghost use Rattle.fx_rows.specs.inner.Points.{AreAcross, IsRise};
-ghost use Rattle.fx_rows.specs.inner.Lines.{left_at, right_at, AreOnly, IsLineBit, IsMetTo, IsRunEnd, IsSetTo};
+ghost use Rattle.fx_rows.specs.inner.Lines.{left_at, right_at, AreOnly, GainOnly, IsLineBit, IsMetTo, IsRunEnd, IsSetTo};
 ghost use Rattle.fx_rows.specs.inner.Sums.{IsInside};
 ghost use Rattle.fx_rows.specs.inner.Told.{AreKept};
 
@@ -93,8 +93,7 @@ fn note_segment(
     requires room { line.first + line.frame.width * line.step < 32 * length bits.old }
     ensures noted { 0 < k → k < line.frame.width →
         IsSetTo (span_of piece.now) line.frame line.row line.first line.step bits.new k }
-    ensures kept { AreKept bits.old bits.new }
-    ensures only { AreOnly (IsLineBit (span_of piece.now) line.frame line.row line.first line.step) bits.old bits.new }
+    ensures gained { GainOnly (IsLineBit (span_of piece.now) line.frame line.row line.first line.step) bits.old bits.new }
     ensures count { tally.new.count ≤ tally.old.count + 5 }
 {
     if k == 0 || line.frame.width <= k {
@@ -119,8 +118,7 @@ fn note_column(
     requires room { line.first + line.frame.width * line.step < 32 * length bits.old }
     ensures noted { (k : ℕ) → 0 < k → k < line.frame.width → line.frame.left +ℤ pos k ≡ col →
         IsSetTo (span_of piece.now) line.frame line.row line.first line.step bits.new k }
-    ensures kept { AreKept bits.old bits.new }
-    ensures only { AreOnly (IsLineBit (span_of piece.now) line.frame line.row line.first line.step) bits.old bits.new }
+    ensures gained { GainOnly (IsLineBit (span_of piece.now) line.frame line.row line.first line.step) bits.old bits.new }
     ensures count { tally.new.count ≤ tally.old.count + 5 }
 {
     note_segment(
@@ -147,8 +145,7 @@ pub(crate) fn note_run(
     requires room { line.first + line.frame.width * line.step < 32 * length bits.old }
     ensures noted { (k : ℕ) → 0 < k → k < line.frame.width → IsRunEnd line.frame run k →
         IsSetTo (span_of piece.now) line.frame line.row line.first line.step bits.new k }
-    ensures kept { AreKept bits.old bits.new }
-    ensures only { AreOnly (IsLineBit (span_of piece.now) line.frame line.row line.first line.step) bits.old bits.new }
+    ensures gained { GainOnly (IsLineBit (span_of piece.now) line.frame line.row line.first line.step) bits.old bits.new }
     ensures count { tally.new.count ≤ tally.old.count + 10 }
 {
     if let Some(run) = run {
@@ -172,8 +169,7 @@ fn note_place(
     ensures noted { (k : ℕ) → 0 < k → k < line.frame.width → (left_at line.frame line.row k).x <ℤ x →
         x <ℤ (right_at line.frame line.row k).x →
         IsSetTo (span_of piece.now) line.frame line.row line.first line.step bits.new k }
-    ensures kept { AreKept bits.old bits.new }
-    ensures only { AreOnly (IsLineBit (span_of piece.now) line.frame line.row line.first line.step) bits.old bits.new }
+    ensures gained { GainOnly (IsLineBit (span_of piece.now) line.frame line.row line.first line.step) bits.old bits.new }
     ensures count { tally.new.count ≤ tally.old.count + 5 }
 {
     note_segment(piece, part, line, column_from(line.frame, x), bits, tally);
@@ -193,8 +189,7 @@ pub(crate) fn note_end(
     ensures noted { (k : ℕ) → 0 < k → k < line.frame.width →
         IsWithinRow (left_at line.frame line.row k) (right_at line.frame line.row k) (place_of e) →
         IsSetTo (span_of piece.now) line.frame line.row line.first line.step bits.new k }
-    ensures kept { AreKept bits.old bits.new }
-    ensures only { AreOnly (IsLineBit (span_of piece.now) line.frame line.row line.first line.step) bits.old bits.new }
+    ensures gained { GainOnly (IsLineBit (span_of piece.now) line.frame line.row line.first line.step) bits.old bits.new }
     ensures count { tally.new.count ≤ tally.old.count + 5 }
 {
     if e.y != 128 * line.row + 64 {
@@ -219,8 +214,7 @@ fn note_outside(
         IsTipPart (span_of piece.now).a (span_of piece.now).b (span_of piece.now).c (left_at line.frame line.row k)
         (right_at line.frame line.row k) →
         IsSetTo (span_of piece.now) line.frame line.row line.first line.step bits.new k }
-    ensures kept { AreKept bits.old bits.new }
-    ensures only { AreOnly (IsLineBit (span_of piece.now) line.frame line.row line.first line.step) bits.old bits.new }
+    ensures gained { GainOnly (IsLineBit (span_of piece.now) line.frame line.row line.first line.step) bits.old bits.new }
     ensures count { tally.new.count ≤ tally.old.count + 5 }
 {
     if run_at(part.region, line.frame.left - 1 + k as i32) != 0 {
@@ -245,8 +239,7 @@ pub(crate) fn note_tip(
         IsTipPart (span_of piece.now).a (span_of piece.now).b (span_of piece.now).c (left_at line.frame line.row k)
         (right_at line.frame line.row k) →
         IsSetTo (span_of piece.now) line.frame line.row line.first line.step bits.new k }
-    ensures kept { AreKept bits.old bits.new }
-    ensures only { AreOnly (IsLineBit (span_of piece.now) line.frame line.row line.first line.step) bits.old bits.new }
+    ensures gained { GainOnly (IsLineBit (span_of piece.now) line.frame line.row line.first line.step) bits.old bits.new }
     ensures count { tally.new.count ≤ tally.old.count + 5 }
 {
     if is_among(rise, line.row) {
@@ -271,8 +264,7 @@ fn note_tested(piece: &Piece, line: NotedRow, k: u32, bits: &mut [u32], tally: &
     requires column { k ≤ line.frame.width }
     requires room { line.first + line.frame.width * line.step < 32 * length bits.old }
     ensures noted { IsSetTo (span_of piece.now) line.frame line.row line.first line.step bits.new k }
-    ensures kept { AreKept bits.old bits.new }
-    ensures only { AreOnly (IsLineBit (span_of piece.now) line.frame line.row line.first line.step) bits.old bits.new }
+    ensures gained { GainOnly (IsLineBit (span_of piece.now) line.frame line.row line.first line.step) bits.old bits.new }
     ensures count { tally.new.count ≤ tally.old.count + 5 }
 {
     if test_segment(piece, line, k, tally) {
@@ -291,8 +283,7 @@ pub(crate) fn note_first(
     requires room { line.first + line.frame.width * line.step < 32 * length bits.old }
     requires across { AreAcross (span_of piece.now) across.first across.end }
     ensures noted { (k : ℕ) → k ≡ 0 → IsSetTo (span_of piece.now) line.frame line.row line.first line.step bits.new k }
-    ensures kept { AreKept bits.old bits.new }
-    ensures only { AreOnly (IsLineBit (span_of piece.now) line.frame line.row line.first line.step) bits.old bits.new }
+    ensures gained { GainOnly (IsLineBit (span_of piece.now) line.frame line.row line.first line.step) bits.old bits.new }
     ensures count { tally.new.count ≤ tally.old.count + 5 }
 {
     if line.frame.left < across.first {
@@ -313,8 +304,7 @@ pub(crate) fn note_last(
     requires across { AreAcross (span_of piece.now) across.first across.end }
     ensures noted { (k : ℕ) → k ≡ line.frame.width →
         IsSetTo (span_of piece.now) line.frame line.row line.first line.step bits.new k }
-    ensures kept { AreKept bits.old bits.new }
-    ensures only { AreOnly (IsLineBit (span_of piece.now) line.frame line.row line.first line.step) bits.old bits.new }
+    ensures gained { GainOnly (IsLineBit (span_of piece.now) line.frame line.row line.first line.step) bits.old bits.new }
     ensures count { tally.new.count ≤ tally.old.count + 5 }
 {
     if across.end < line.frame.left + line.frame.width as i32 {

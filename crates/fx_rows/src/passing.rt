@@ -22,7 +22,6 @@ fn straight_cut(bounded: &Bounded, strip: Strip, tally: &mut Tally) -> Cut
     requires straight { ¬ (IsBent (bounded_span bounded.now)) }
     requires inner { IsInner bounded.now.piece.a.y bounded.now.piece.c.y (pos 128 *ℤ strip.row +ℤ pos 64) }
     ensures cut { IsCut (bounded_span bounded.now) strip result }
-    ensures value { result.value ≡ bounded.now.rise.value }
     ensures count { tally.new.count ≤ tally.old.count + 1 }
 {
     let areas = areas_at(&bounded.piece, strip, 0, tally);
@@ -33,7 +32,6 @@ fn straight_cut(bounded: &Bounded, strip: Strip, tally: &mut Tally) -> Cut
 fn cut_in(bounded: &Bounded, strip: Strip, tally: &mut Tally) -> Cut
     requires inner { IsInner bounded.now.piece.a.y bounded.now.piece.c.y (pos 128 *ℤ strip.row +ℤ pos 64) }
     ensures cut { IsCut (bounded_span bounded.now) strip result }
-    ensures value { result.value ≡ bounded.now.rise.value }
     ensures count { tally.new.count ≤ tally.old.count + 2 }
 {
     if bounded.across.end <= bounded.across.first {

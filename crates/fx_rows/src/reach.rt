@@ -2,6 +2,7 @@
 
 ghost use Rattle.std.specs.Prelude.{◌≡◌, ℕ, ◌^◌, ◌<◌, ◌≤◌, pos, ◌+ℤ◌, ◌≤ℤ◌, ◌<ℤ◌};
 ghost use Rattle.fx_fixed.specs.Ranges.{IsWithin};
+ghost use Rattle.fx_rows.specs.inner.Runs.{IsSplit};
 
 use fx_winding::Frame;
 
@@ -15,9 +16,7 @@ pub(crate) struct Reach {
 /// How many columns of a frame are before a column of the plane.
 pub(crate) fn columns_under(frame: Frame, col: i32) -> u32
     requires { IsWithin (2 ^ 16) col }
-    ensures within { result ≤ frame.width }
-    ensures under { (k : ℕ) → k < result → (frame.left +ℤ pos k) <ℤ col }
-    ensures rest { (k : ℕ) → result ≤ k → k < frame.width → col ≤ℤ (frame.left +ℤ pos k) }
+    ensures { IsSplit (λ k. (frame.left +ℤ pos k) <ℤ col) (λ k. col ≤ℤ (frame.left +ℤ pos k)) frame.width result }
 {
     if col <= frame.left {
         return 0;

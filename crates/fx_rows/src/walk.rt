@@ -246,7 +246,6 @@ fn arc_cut(bounded: &Bounded, arc: Arc, end: Spot, strip: Strip, tally: &mut Tal
     requires at { IsSpot end bounded.now.piece (place_at strip 0) }
     requires end { IsEndOfCount (bounded_span bounded.now) arc.right strip end.k }
     ensures cut { IsCut (bounded_span bounded.now) strip result }
-    ensures value { result.value ≡ bounded.now.rise.value }
     ensures count { tally.new.count ≤ tally.old.count + 1 }
 {
     Cut {

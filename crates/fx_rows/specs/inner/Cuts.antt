@@ -9,6 +9,7 @@ use Rattle.fx_rows.specs.inner.Arcs.{gap}
 use Rattle.fx_rows.specs.inner.Sides.{place_at, side}
 use Rattle.fx_rows.specs.inner.Candidates.{IsOnStrip}
 use Rattle.fx_rows.specs.inner.Sums.{Marks}
+use Rattle.fx_rows.specs.inner.Told.{rise_value}
 
 -- a column counts of an arc that is right of its chord, or of one left of it, by its side of the chord and its gap
 abbrev pub Counts : Bool → ℤ → ℤ → Type 0
@@ -33,12 +34,14 @@ abbrev pub IsLast : Bool → ℕ → ℕ → Type 0
 IsLast true end k = k + 1 ≡ end
 IsLast false end k = k ≡ end
 
--- what a piece adds to the columns of a strip that are not on it: a value to those before the end, and nothing to the others
+-- what a piece adds to the columns of a strip that are not on it: the value of its rise to those before the end, and nothing to the
+-- others
 pub record IsCut (s : Span) (strip : Strip) (cut : Cut) : Type 0 where
   pub inside : (k : ℕ) → strip.start ≤ k → k < strip.stop → k < cut.end → ¬ (IsOn (place_at strip k) s)
       → crossing (place_at strip k) s +ℤ region (place_at strip k) s ≡ cut.value
   pub outside : (k : ℕ) → strip.start ≤ k → k < strip.stop → cut.end ≤ k → ¬ (IsOn (place_at strip k) s)
       → crossing (place_at strip k) s +ℤ region (place_at strip k) s ≡ pos 0
+  pub value : cut.value ≡ rise_value s
   pub within : cut.end ≤ strip.stop
   pub on : IsOnStrip s strip cut.on
 

@@ -8,6 +8,7 @@ use Rattle.fx_winding.specs.Winding.{Span, IsOn, centre}
 use Rattle.fx_winding.specs.declared.frame.Frame.{Frame}
 use Rattle.fx_rows.specs.declared.noted_rows.NotedRows.{NotedRows}
 use Rattle.fx_rows.specs.declared.part.Run.{Run}
+use Rattle.fx_rows.specs.inner.Told.{AreKept}
 
 -- the ends of the segment of a row that goes to a frame's column
 abbrev pub left_at : Frame → ℤ → ℕ → Place
@@ -51,6 +52,11 @@ pub record IsLineBit (s : Span) (f : Frame) (row : ℤ) (first step n : ℕ) : T
 -- of the bits that are set only these were not set before
 abbrev pub AreOnly : (ℕ → Type 0) → List ℕ → List ℕ → Type 0
 AreOnly IsNew old new = (n : ℕ) → word_bit new n ≡ 1 → (word_bit old n ≡ 1) ⊎ IsNew n
+
+-- these bits are gained, if any, and none is lost
+pub record GainOnly (IsNew : ℕ → Type 0) (old new : List ℕ) : Type 0 where
+  pub kept : AreKept old new
+  pub only : AreOnly IsNew old new
 
 -- the same of the segments of a frame's rows
 pub record IsRowsBit (s : Span) (f : Frame) (row_step step n : ℕ) : Type 0 where

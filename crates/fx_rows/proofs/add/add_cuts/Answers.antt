@@ -2,7 +2,7 @@ use Rattle.std.proofs.Common.{◌≡◌, ◌∙◌, subst, ℕ, arith}
 use Rattle.fx_rows.specs.inner.Bands.{bounded_span}
 use Rattle.fx_rows.specs.inner.Telling.{AreRowsAdded}
 use Rattle.fx_rows.proofs.Stepping.{strip_row, row_in, inner_row, cut_inside, band_small, at_base, at_base_above}
-use Rattle.fx_rows.proofs.Telling.{rise_told, cut_end, added_start, added_next}
+use Rattle.fx_rows.proofs.Telling.{cut_end, added_start, added_next}
 use Rattle.fx_rows.proofs.add.add_cuts.Goals as goal
 
 pub rows-init : goal.rows-init
@@ -41,9 +41,8 @@ rows-preserved g c =
     let strip = c.strip_of-strip.result in
     let at = strip_row c.strip_of-strip.result c.row_of.result _ c.row_of.ensures.near c.strip_of-strip.ensures.row
     c.row_of.ensures.value in
-    let value = c.cut-cut.ensures.value ∙ rise_told s _ _ _ c.args.bounded.now.rises in
     let is = cut_end s now strip c.cut-cut.result _ _ at c.strip_of-strip.ensures.first c.strip_of-strip.ensures.last
-    c.saturating_sub-end.ensures value c.cut-cut.ensures.cut in
+    c.saturating_sub-end.ensures c.cut-cut.ensures.cut in
     let n = c.cut-cut.ensures.count in
     let m = inv.count in
     record {

@@ -1,4 +1,4 @@
-use Rattle.std.proofs.Common.{◌≡◌, sym, subst, arith, w32, to_z, of_z}
+use Rattle.std.proofs.Common.{◌≡◌, ℕ, sym, subst, arith, w32, to_z, of_z}
 use Rattle.fx_fixed.proofs.Linear.{signed_linear}
 use Rattle.fx_winding.specs.Winding.{span_of}
 use Rattle.fx_rows.specs.inner.Arcs.{IsSign}
@@ -11,27 +11,24 @@ region_cells-requires-clause-value c =
     let v : to_z w32 (of_z w32 c.args.value) ≡ c.args.value = omega (arith, signed_linear, c.requires.small) in
     sign_known (span_of c.args.piece.now) _ c.requires.bent (subst (IsSign (span_of c.args.piece.now)) (sym v) c.requires.value)
 
-pub returns-in-None-clause-region : goal.returns-in-None-clause-region
-returns-in-None-clause-region c = λ k h l.
-    (none_at (span_of c.args.piece.now) c.args.sided.strip c.args.gaps c.requires.bent c.requires.gaps k
-    (c.in-None.ensures k h l)).0
+pub returns-in-None : goal.returns-in-None
+returns-in-None c =
+    let s = span_of c.args.piece.now in
+    let none = λ (k : ℕ). none_at s c.args.sided.strip c.args.gaps c.requires.bent c.requires.gaps k in
+    record {
+      region = λ k h l. (none k (c.in-None.ensures k h l)).0;
+      on = none_on s c.args.sided.strip (λ k h l. (none k (c.in-None.ensures k h l)).1);
+    }
 
-pub returns-in-None-clause-on : goal.returns-in-None-clause-on
-returns-in-None-clause-on c = none_on (span_of c.args.piece.now) c.args.sided.strip (λ k h l.
-    (none_at (span_of c.args.piece.now) c.args.sided.strip c.args.gaps c.requires.bent c.requires.gaps k
-    (c.in-None.ensures k h l)).1)
-
-pub returns-in-Some-clause-region : goal.returns-in-Some-clause-region
-returns-in-Some-clause-region c =
+pub returns-in-Some : goal.returns-in-Some
+returns-in-Some c =
+    let s = span_of c.args.piece.now in
     let v : to_z w32 (of_z w32 c.args.value) ≡ c.args.value = omega (arith, signed_linear, c.requires.small) in
-    c.region_cells.ensures _ _ _
-    (core (span_of c.args.piece.now) c.args.sided.strip c.args.gaps c.in-Some.columns c.args.sided.own _
-    c.is_zero-first.result c.is_zero-last.result c.requires.bent c.requires.gaps c.requires.sided
-    (subst (IsSign (span_of c.args.piece.now)) (sym v) c.requires.value)
-    c.in-Some.ensures c.is_zero-first.ensures c.is_zero-last.ensures)
-
-pub returns-in-Some-clause-on : goal.returns-in-Some-clause-on
-returns-in-Some-clause-on c = c.on_ends.ensures (span_of c.args.piece.now)
-    (ends (span_of c.args.piece.now) c.args.sided.strip c.args.gaps c.in-Some.columns c.args.sided.own
-    c.is_zero-first.result c.is_zero-last.result c.requires.bent c.requires.gaps c.requires.sided
-    c.in-Some.ensures c.is_zero-first.ensures c.is_zero-last.ensures)
+    record {
+      region = c.region_cells.ensures _ _ _ (core s c.args.sided.strip c.args.gaps c.in-Some.columns c.args.sided.own _
+          c.is_zero-first.result c.is_zero-last.result c.requires.bent c.requires.gaps c.requires.sided
+          (subst (IsSign s) (sym v) c.requires.value) c.in-Some.ensures c.is_zero-first.ensures c.is_zero-last.ensures);
+      on = c.on_ends.ensures s (ends s c.args.sided.strip c.args.gaps c.in-Some.columns c.args.sided.own
+          c.is_zero-first.result c.is_zero-last.result c.requires.bent c.requires.gaps c.requires.sided
+          c.in-Some.ensures c.is_zero-first.ensures c.is_zero-last.ensures);
+    }

@@ -2,9 +2,9 @@ use Rattle.std.proofs.Common.{◌≡◌, ap, ◌*◌, ℕ, subst}
 use Rattle.fx_winding.specs.Turned.{turned_span}
 use Rattle.fx_winding.specs.Notes.{words_noted}
 use Rattle.fx_winding.specs.Winding.{span_of}
-use Rattle.fx_rows.specs.inner.Lines.{AreOnly, AreRowsSet, IsRowsBit, IsUpBit}
+use Rattle.fx_rows.specs.inner.Lines.{AreRowsSet, GainOnly, IsRowsBit, IsUpBit}
 use Rattle.fx_rows.proofs.Bulges.{up_set}
-use Rattle.fx_rows.proofs.Kept.{only_more}
+use Rattle.fx_rows.proofs.Kept.{gain_more}
 use Rattle.fx_rows.proofs.NotedSegments.{up_bit}
 use Rattle.fx_rows.proofs.bulge.note_all_up.Goals as goal
 
@@ -18,14 +18,14 @@ returns-clause-noted c = λ z r l.
     up_set s f g c.note_lines.new.bits at.left at.bottom at.width at.height (subst (λ z. z)
     (λ i. AreRowsSet (c.turned-2.ensures i) g 1 (row i) c.note_lines.new.bits) c.note_lines.ensures.noted) r l
 
-pub returns-clause-only : goal.returns-clause-only
-returns-clause-only c =
+pub returns-clause-gained : goal.returns-clause-gained
+returns-clause-gained c =
     let f = c.args.frame in
     let s = span_of c.args.piece.now in
     let g = c.turned.result in
     let at = c.turned.ensures in
     let row : 32 * c.words_noted.result ≡ 32 * words_noted f.width = ap (λ (w : ℕ). 32 * w) c.words_noted.ensures in
-    only_more (IsRowsBit (turned_span s) g 1 (32 * words_noted f.width)) (IsUpBit s f) c.args.up.now c.note_lines.new.bits
+    gain_more (IsRowsBit (turned_span s) g 1 (32 * words_noted f.width)) (IsUpBit s f) c.args.up.now c.note_lines.new.bits
     (λ n. up_bit s f g n at.left at.bottom at.width at.height)
-    (subst (λ z. z) (λ i. AreOnly (IsRowsBit (c.turned-2.ensures i) g 1 (row i)) c.args.up.now c.note_lines.new.bits)
-    c.note_lines.ensures.only)
+    (subst (λ z. z) (λ i. GainOnly (IsRowsBit (c.turned-2.ensures i) g 1 (row i)) c.args.up.now c.note_lines.new.bits)
+    c.note_lines.ensures.gained)

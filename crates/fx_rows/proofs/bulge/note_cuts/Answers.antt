@@ -7,10 +7,10 @@ use Rattle.fx_rows.specs.inner.Bands.{bounded_span}
 use Rattle.fx_rows.specs.inner.Lines.{left_at, right_at, AreOnly, AreSetIn, IsLineBit, IsMetTo, IsRowsBit, IsSetTo}
 use Rattle.fx_rows.specs.inner.Told.{IsEnd}
 use Rattle.fx_rows.proofs.Bulges.{in_kept}
-use Rattle.fx_rows.proofs.Kept.{kept_both, rows_more, only_both, only_more}
+use Rattle.fx_rows.proofs.Kept.{rows_more, gain_both, gain_more}
 use Rattle.fx_rows.proofs.RowMeets.{met_end, end_met_too}
 use Rattle.fx_rows.proofs.Stepping.{strip_row, inner_row, at_base, at_base_above}
-use Rattle.fx_rows.proofs.Telling.{rise_told, cut_end}
+use Rattle.fx_rows.proofs.Telling.{cut_end}
 use Rattle.fx_rows.proofs.bulge.note_cuts.Goals as goal
 
 pub rows-init : goal.rows-init
@@ -53,9 +53,8 @@ rows-preserved g c =
     let at_line = c.row-line.ensures in
     let strip = c.strip_of-strip.result in
     let at = strip_row strip line.row _ line.row_near c.strip_of-strip.ensures.row at_line.row in
-    let value = c.cut-cut.ensures.value ∙ rise_told s _ _ _ b.rises in
     let is : IsEnd s f up end = cut_end s f strip c.cut-cut.result _ _ at c.strip_of-strip.ensures.first
-    c.strip_of-strip.ensures.last c.saturating_sub.ensures value c.cut-cut.ensures.cut in
+    c.strip_of-strip.ensures.last c.saturating_sub.ensures c.cut-cut.ensures.cut in
     let inner = c.requires.inner up (omega arith) (omega arith) in
     let set = subst (λ z. z) (λ i. (t : Span)
     → IsSetTo t (at_line.frame i) (at_line.row i) (at_line.first i) (at_line.step i) now end) c.set_segment.ensures.set in
@@ -74,11 +73,11 @@ rows-preserved g c =
       noted = rows_more (λ r. AreSetIn s f r (r * row_step) step now) c.args.rows.first up
           (λ r l o. in_kept s f r (r * row_step) step c.rows.bits now c.set_segment.ensures.kept
           (c.rows.invariant.noted r l o)) here;
-      kept = kept_both _ _ _ c.rows.invariant.kept c.set_segment.ensures.kept;
-      only = only_both (IsRowsBit s f row_step step) _ _ _ c.rows.invariant.only
-          (only_more (IsLineBit s f (f.bottom +ℤ pos up) (up * row_step) step)
+      gained = gain_both (IsRowsBit s f row_step step) _ _ _ c.rows.invariant.gained
+          (gain_more (IsLineBit s f (f.bottom +ℤ pos up) (up * row_step) step)
           (IsRowsBit s f row_step step) c.rows.bits now
-          (λ n h. record { r = up; row = omega (arith, c.requires.rows); line = h }) only);
+          (λ n h. record { r = up; row = omega (arith, c.requires.rows); line = h })
+          (record { kept = c.set_segment.ensures.kept; only = only }));
       count = omega (arith, n, m);
       at = λ h. at_base_above (g.C.Cuts.AreAt c.move_up.new.self b) f f strip up refl at c.strip_of-strip.ensures.base
           c.move_up.ensures;

@@ -5,7 +5,7 @@ use Rattle.fx_rows.specs.inner.Bands.{bounded_span}
 use Rattle.fx_rows.specs.inner.Lines.{IsSetTo}
 use Rattle.fx_rows.specs.inner.Told.{AreKept}
 use Rattle.fx_rows.proofs.Bulges.{row_set, set_kept}
-use Rattle.fx_rows.proofs.Kept.{only_both}
+use Rattle.fx_rows.proofs.Kept.{gain_both}
 use Rattle.fx_rows.proofs.Counted.{part_crosses, part_regions}
 use Rattle.fx_rows.proofs.bulge.note_line.Goals as goal
 
@@ -14,10 +14,6 @@ note_run-requires-clause-inside c = part_crosses _ _ _ _ c.met_part-part.ensures
 
 pub note_run-requires-2-clause-inside : goal.note_run-requires-2-clause-inside
 note_run-requires-2-clause-inside c = part_regions _ _ _ _ c.met_part-part.ensures.part
-
-pub returns-clause-kept : goal.returns-clause-kept
-returns-clause-kept c = λ n h. c.note_last.ensures.kept n (c.note_first.ensures.kept n (c.note_tip.ensures.kept n
-    (c.note_end-2.ensures.kept n (c.note_end.ensures.kept n (c.note_run-2.ensures.kept n (c.note_run.ensures.kept n h))))))
 
 pub returns-clause-noted : goal.returns-clause-noted
 returns-clause-noted c =
@@ -28,12 +24,12 @@ returns-clause-noted c =
     let same : to_z w32 (of_z w32 line.row) ≡ line.row = omega (arith, signed_linear, line.row_near) in
     let is = subst (λ (y : ℤ). IsRowPart s y f c.met_part-part.result) same c.met_part-part.ensures.part in
     let last = c.note_last.new.bits in
-    let k6 : AreKept c.note_first.new.bits last = c.note_last.ensures.kept in
-    let k5 : AreKept c.note_tip.new.bits last = λ n h. k6 n (c.note_first.ensures.kept n h) in
-    let k4 : AreKept c.note_end-2.new.bits last = λ n h. k5 n (c.note_tip.ensures.kept n h) in
-    let k3 : AreKept c.note_end.new.bits last = λ n h. k4 n (c.note_end-2.ensures.kept n h) in
-    let k2 : AreKept c.note_run-2.new.bits last = λ n h. k3 n (c.note_end.ensures.kept n h) in
-    let k1 : AreKept c.note_run.new.bits last = λ n h. k2 n (c.note_run-2.ensures.kept n h) in
+    let k6 : AreKept c.note_first.new.bits last = c.note_last.ensures.gained.kept in
+    let k5 : AreKept c.note_tip.new.bits last = λ n h. k6 n (c.note_first.ensures.gained.kept n h) in
+    let k4 : AreKept c.note_end-2.new.bits last = λ n h. k5 n (c.note_tip.ensures.gained.kept n h) in
+    let k3 : AreKept c.note_end.new.bits last = λ n h. k4 n (c.note_end-2.ensures.gained.kept n h) in
+    let k2 : AreKept c.note_run-2.new.bits last = λ n h. k3 n (c.note_end.ensures.gained.kept n h) in
+    let k1 : AreKept c.note_run.new.bits last = λ n h. k2 n (c.note_run-2.ensures.gained.kept n h) in
     row_set s f line.row c.met_part-part.result line.first line.step last is
     (λ k o l h. set_kept s f line.row line.first line.step k _ last k1 (c.note_run.ensures.noted k o l h))
     (λ k o l h. set_kept s f line.row line.first line.step k _ last k2 (c.note_run-2.ensures.noted k o l h))
@@ -49,16 +45,7 @@ returns-clause-noted c =
         c.args.line.step k _ _ kept (c.note_first.ensures.noted k e)
     by kept k (inr e) = c.note_last.ensures.noted k e
 
-pub returns-clause-only : goal.returns-clause-only
-returns-clause-only c =
-    grind (
-      arith,
-      c.note_run.ensures,
-      c.note_run-2.ensures,
-      c.note_end.ensures,
-      c.note_end-2.ensures,
-      c.note_tip.ensures,
-      c.note_first.ensures,
-      c.note_last.ensures,
-      only_both,
-    )
+pub returns-clause-gained : goal.returns-clause-gained
+returns-clause-gained c = gain_both _ _ _ _ c.note_run.ensures.gained (gain_both _ _ _ _ c.note_run-2.ensures.gained
+    (gain_both _ _ _ _ c.note_end.ensures.gained (gain_both _ _ _ _ c.note_end-2.ensures.gained
+    (gain_both _ _ _ _ c.note_tip.ensures.gained (gain_both _ _ _ _ c.note_first.ensures.gained c.note_last.ensures.gained)))))

@@ -2,7 +2,7 @@ use Rattle.std.proofs.Common.{◌*◌, ap, subst, arith}
 use Rattle.fx_winding.specs.Winding.{Span, span_of}
 use Rattle.fx_rows.specs.inner.Lines.{AreSetIn}
 use Rattle.fx_rows.proofs.Bulges.{all_rows_set, in_kept, set_in}
-use Rattle.fx_rows.proofs.Kept.{kept_both, only_both, rows_three}
+use Rattle.fx_rows.proofs.Kept.{kept_both, rows_three, gain_both}
 use Rattle.fx_rows.proofs.Telling.{between_of}
 use Rattle.fx_rows.proofs.bulge.note_lines.Goals as goal
 
@@ -24,8 +24,8 @@ returns-then-not-has_columns-clause-noted c =
     (λ r l m. subst (λ (t : Span). AreSetIn t f r (r * c.args.lines.row_step) c.args.lines.step bits) same
     (set_in s f r (r * c.args.lines.row_step) c.args.lines.step bits (c.note_met_lines.ensures.noted r l m))) r (omega arith) o
 
-pub returns-then-not-has_columns-clause-only : goal.returns-then-not-has_columns-clause-only
-returns-then-not-has_columns-clause-only c = grind (arith, c.bounds_of-bounded.ensures.piece, c.note_met_lines.ensures.only)
+pub returns-then-not-has_columns-clause-gained : goal.returns-then-not-has_columns-clause-gained
+returns-then-not-has_columns-clause-gained c = grind (arith, c.bounds_of-bounded.ensures.piece, c.note_met_lines.ensures.gained)
 
 pub returns-clause-noted : goal.returns-clause-noted
 returns-clause-noted c =
@@ -35,26 +35,26 @@ returns-clause-noted c =
     let inner = c.rows_between-inner.result in
     let step = c.args.lines.step in
     let last = c.note_met_lines-3.new.bits in
-    let k2 = c.note_met_lines-3.ensures.kept in
+    let k2 = c.note_met_lines-3.ensures.gained.kept in
     let same = ap span_of c.bounds_of-bounded.ensures.piece in
     λ r o. all_rows_set (span_of c.args.piece.now) f 0 rows.first rows.end f.height c.args.lines.row_step step last
     (λ r l. c.rows_met-rows.ensures.below r) c.rows_met-rows.ensures.above
     (λ r l m. subst (λ (t : Span). AreSetIn t f r (r * c.args.lines.row_step) step last) same
     (rows_three (λ q. AreSetIn s f q (q * c.args.lines.row_step) step last) rows.first inner.first inner.end rows.end
     (λ q a b. in_kept s f q (q * c.args.lines.row_step) step c.note_met_lines-2.new.bits last
-    (kept_both _ _ _ c.note_passed_lines.ensures.kept k2)
+    (kept_both _ _ _ c.note_passed_lines.ensures.gained.kept k2)
     (set_in s f q (q * c.args.lines.row_step) step _ (c.note_met_lines-2.ensures.noted q a b)))
     (λ q a b. in_kept s f q (q * c.args.lines.row_step) step c.note_passed_lines.new.bits last k2
     (c.note_passed_lines.ensures.noted q a b))
     (λ q a b. set_in s f q (q * c.args.lines.row_step) step last (c.note_met_lines-3.ensures.noted q a b)) r l m)) r (omega arith) o
 
-pub returns-clause-only : goal.returns-clause-only
-returns-clause-only c =
+pub returns-clause-gained : goal.returns-clause-gained
+returns-clause-gained c =
     grind (
       arith,
       c.bounds_of-bounded.ensures,
       c.note_met_lines-2.ensures,
       c.note_passed_lines.ensures,
       c.note_met_lines-3.ensures,
-      only_both,
+      gain_both,
     )

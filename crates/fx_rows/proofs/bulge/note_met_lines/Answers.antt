@@ -1,8 +1,8 @@
 use Rattle.std.proofs.Common.{◌≡◌, ◌*◌, pos, ◌+ℤ◌, subst, arith}
 use Rattle.fx_rows.specs.inner.Bands.{bounded_span}
-use Rattle.fx_rows.specs.inner.Lines.{AreOnly, IsLineBit, IsRowSet, IsRowsBit}
+use Rattle.fx_rows.specs.inner.Lines.{GainOnly, IsLineBit, IsRowSet, IsRowsBit}
 use Rattle.fx_rows.proofs.Bulges.{rows_kept}
-use Rattle.fx_rows.proofs.Kept.{kept_both, rows_more, only_both, only_more}
+use Rattle.fx_rows.proofs.Kept.{rows_more, gain_both, gain_more}
 use Rattle.fx_rows.proofs.bulge.note_met_lines.Goals as goal
 
 pub note_line-requires-clause-room : goal.note_line-requires-clause-room
@@ -22,16 +22,15 @@ rows-preserved c =
     record {
       noted = rows_more (λ r. IsRowSet s f (f.bottom +ℤ pos r) (r * row_step) step now) c.args.rows.first up
           (λ r l o. rows_kept s f (f.bottom +ℤ pos r) (r * row_step) step c.rows.bits now
-          c.note_line.ensures.kept
+          c.note_line.ensures.gained.kept
           (c.rows.invariant.noted r l o))
           (subst (λ z. z) (λ i. IsRowSet s (at.frame i) (at.row i) (at.first i) (at.step i) now) c.note_line.ensures.noted);
-      kept = kept_both _ _ _ c.rows.invariant.kept c.note_line.ensures.kept;
-      only = only_both (IsRowsBit s f row_step step) _ _ _ c.rows.invariant.only
-          (only_more (IsLineBit s f (f.bottom +ℤ pos up) (up * c.args.lines.row_step) c.args.lines.step)
+      gained = gain_both (IsRowsBit s f row_step step) _ _ _ c.rows.invariant.gained
+          (gain_more (IsLineBit s f (f.bottom +ℤ pos up) (up * c.args.lines.row_step) c.args.lines.step)
           (IsRowsBit s f row_step step) c.rows.bits now
           (λ n h. record { r = up; row = omega (arith, c.requires.rows); line = h })
-          (subst (λ z. z) (λ i. AreOnly (IsLineBit s (at.frame i) (at.row i) (at.first i) (at.step i)) c.rows.bits now)
-          c.note_line.ensures.only));
+          (subst (λ z. z) (λ i. GainOnly (IsLineBit s (at.frame i) (at.row i) (at.first i) (at.step i)) c.rows.bits now)
+          c.note_line.ensures.gained));
       count = omega (arith, n, m);
     }
 

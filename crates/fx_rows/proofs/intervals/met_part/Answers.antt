@@ -16,12 +16,12 @@ returns-clause-part c =
     record {
       crosses = c.run_of.ensures (crosses c.args.row)
           (subst (λ r. AreCells (λ k. crosses r (t.base +ℤ pos k)) t.start t.stop c.part_of-part.result.crossing) row
-          c.part_of-part.ensures.crosses);
+          c.part_of-part.ensures.share.crosses);
       regions = c.run_of-2.ensures (regions c.args.row)
           (subst (λ r. AreCells (λ k. regions r (t.base +ℤ pos k)) t.start t.stop c.part_of-part.result.region) row
-          c.part_of-part.ensures.regions);
+          c.part_of-part.ensures.share.regions);
       on = on_frame s t c.args.frame c.args.row c.part_of-part.result.on row c.strip_of-strip.ensures.first
-          c.strip_of-strip.ensures.last c.part_of-part.ensures.on;
+          c.strip_of-strip.ensures.last c.part_of-part.ensures.share.on;
       formed = formed_frame s t c.args.frame c.part_of-part.result.on c.strip_of-strip.ensures.first c.strip_of-strip.ensures.last
-          c.part_of-part.ensures.on;
+          c.part_of-part.ensures.share.on;
     }

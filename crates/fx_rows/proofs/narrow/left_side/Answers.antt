@@ -1,13 +1,13 @@
 use Rattle.fx_winding.specs.Winding.{span_of}
-use Rattle.fx_rows.proofs.Narrows.{narrowed_left, sided_left}
+use Rattle.fx_rows.proofs.Narrows.{narrowed_left, sided_left, turned_bent}
 use Rattle.fx_rows.proofs.narrow.left_side.Goals as goal
 
-pub returns-clause-narrowed : goal.returns-clause-narrowed
-returns-clause-narrowed c = narrowed_left (span_of c.args.piece.now) c.args.strip c.cut_of.result c.args.stop c.requires.bent
-    c.requires.turned c.requires.past c.cut_of.ensures.row c.cut_of.ensures.base c.cut_of.ensures.start c.cut_of.ensures.stop
-    c.cut_of.ensures.before c.cut_of.ensures.after
-
-pub returns-clause-sided : goal.returns-clause-sided
-returns-clause-sided c = sided_left (span_of c.args.piece.now) c.args.strip c.cut_of.result c.args.edge c.args.stop c.requires.bent
-    c.requires.turned c.requires.edge c.requires.slanted c.cut_of.ensures.row c.cut_of.ensures.base c.requires.met
-    c.cut_of.ensures.inside
+pub returns : goal.returns
+returns c =
+    let s = span_of c.args.piece.now in
+    let bent = turned_bent s.a s.b s.c _ c.requires.slanted c.requires.turned in
+    record {
+      narrowed = narrowed_left s c.args.strip c.cut_of.result c.args.stop bent c.requires.turned c.requires.past c.cut_of.ensures;
+      sided = sided_left s c.args.strip c.cut_of.result c.args.edge c.args.stop bent c.requires.turned c.requires.edge
+          c.requires.slanted c.requires.met c.cut_of.ensures;
+    }

@@ -3,7 +3,7 @@ use Rattle.fx_fixed.proofs.Linear.{signed_linear}
 use Rattle.fx_fixed.specs.Ranges.{IsWithin}
 use Rattle.fx_winding.specs.Winding.{span_of, sign}
 use Rattle.fx_winding.specs.declared.weights.Weights.{Weights}
-use Rattle.fx_rows.proofs.Narrows.{narrowed_beyond, level_weight, sided_empty, sided_above, sided_level, sided_on_level}
+use Rattle.fx_rows.proofs.Narrows.{narrowed_beyond, narrowed_same, level_weight, sided_empty, sided_above, sided_level, sided_on_level}
 use Rattle.fx_rows.proofs.narrow.level_side.Goals as goal
 
 -- the weight without its copies
@@ -15,48 +15,57 @@ weight_is areas total weight is size e =
     let v : to_z w64 (of_z w64 areas.v) ≡ areas.v = omega (arith, signed_linear) in
     e ∙ (λ i. sign (t i) *ℤ v i) ∙ ap (λ z. sign z *ℤ areas.v) is
 
-pub returns-then-weight-lt0-clause-narrowed : goal.returns-then-weight-lt0-clause-narrowed
-returns-then-weight-lt0-clause-narrowed c =
+pub returns-then-weight-lt0 : goal.returns-then-weight-lt0
+returns-then-weight-lt0 c =
     let s = c.args.piece.now in
     let w = c.turned-weight.result in
     let e = weight_is c.args.areas c.total_of.result w c.total_of.ensures.value c.total_of.ensures.size
     c.turned-weight.ensures.value in
     let low : w <ℤ pos 0 = omega (arith, signed_linear, c.turned-weight.ensures.size) in
-    narrowed_beyond (span_of s) c.args.strip c.cut_of.result c.requires.bent
-    (λ k. let q = level_weight s c.args.b c.args.strip c.args.areas w c.requires.middle c.requires.areas c.requires.level e k in
-    omega (arith, signed_linear, q, low)) c.cut_of.ensures.row c.cut_of.ensures.base c.cut_of.ensures.start c.cut_of.ensures.stop
+    record {
+      narrowed = narrowed_beyond (span_of s) c.args.strip c.cut_of.result c.requires.bent (λ k.
+          let q = level_weight s c.args.b c.args.strip c.args.areas w c.requires.middle c.requires.areas c.requires.level e k in
+          omega (arith, signed_linear, q, low)) c.cut_of.ensures;
+      sided = sided_empty (span_of s) c.cut_of.result (omega (arith, c.cut_of.ensures.low, c.cut_of.ensures.stop));
+    }
 
-pub returns-then-weight-lt0-clause-sided : goal.returns-then-weight-lt0-clause-sided
-returns-then-weight-lt0-clause-sided c =
-    sided_empty (span_of c.args.piece.now) c.cut_of.result (omega (arith, c.cut_of.ensures.low, c.cut_of.ensures.stop))
-
-pub returns-then-weight-gt0-clause-sided : goal.returns-then-weight-gt0-clause-sided
-returns-then-weight-gt0-clause-sided c =
+pub returns-then-weight-gt0 : goal.returns-then-weight-gt0
+returns-then-weight-gt0 c =
     let s = c.args.piece.now in
     let w = c.turned-weight.result in
     let e = weight_is c.args.areas c.total_of.result w c.total_of.ensures.value c.total_of.ensures.size
     c.turned-weight.ensures.value in
     let high : pos 0 <ℤ w = omega (arith, signed_linear, c.turned-weight.ensures.size) in
-    sided_above (span_of s) c.args.strip c.requires.bent
-    (λ k. let q = level_weight s c.args.b c.args.strip c.args.areas w c.requires.middle c.requires.areas c.requires.level e k in
-    omega (arith, signed_linear, q, high))
+    record {
+      narrowed = narrowed_same (span_of s) c.args.strip;
+      sided = sided_above (span_of s) c.args.strip c.requires.bent (λ k.
+          let q = level_weight s c.args.b c.args.strip c.args.areas w c.requires.middle c.requires.areas c.requires.level e k in
+          omega (arith, signed_linear, q, high));
+    }
 
-pub returns-then-piece-b-clause-sided : goal.returns-then-piece-b-clause-sided
-returns-then-piece-b-clause-sided c =
+pub returns-then-piece-b : goal.returns-then-piece-b
+returns-then-piece-b c =
     let s = c.args.piece.now in
     let w = c.turned-weight.result in
     let e = weight_is c.args.areas c.total_of.result w c.total_of.ensures.value c.total_of.ensures.size
     c.turned-weight.ensures.value in
     let none : w ≡ pos 0 = omega (arith, signed_linear, c.turned-weight.ensures.size) in
-    sided_level s c.args.b c.args.strip c.requires.bent c.requires.middle c.requires.level (omega (arith, signed_linear))
-    (λ k. level_weight s c.args.b c.args.strip c.args.areas w c.requires.middle c.requires.areas c.requires.level e k ∙ none)
+    record {
+      narrowed = narrowed_same (span_of s) c.args.strip;
+      sided = sided_level s c.args.b c.args.strip c.requires.bent c.requires.middle c.requires.level (omega (arith, signed_linear))
+          (λ k. level_weight s c.args.b c.args.strip c.args.areas w c.requires.middle c.requires.areas c.requires.level e k ∙ none);
+    }
 
-pub returns-clause-sided : goal.returns-clause-sided
-returns-clause-sided c =
+pub returns : goal.returns
+returns c =
     let s = c.args.piece.now in
     let w = c.turned-weight.result in
     let e = weight_is c.args.areas c.total_of.result w c.total_of.ensures.value c.total_of.ensures.size
     c.turned-weight.ensures.value in
     let none : w ≡ pos 0 = omega (arith, signed_linear, c.turned-weight.ensures.size) in
-    sided_on_level s c.args.b c.args.strip c.requires.bent c.requires.middle c.requires.level (omega (arith, signed_linear))
-    (λ k. level_weight s c.args.b c.args.strip c.args.areas w c.requires.middle c.requires.areas c.requires.level e k ∙ none)
+    record {
+      narrowed = narrowed_same (span_of s) c.args.strip;
+      sided = sided_on_level s c.args.b c.args.strip c.requires.bent c.requires.middle c.requires.level
+          (omega (arith, signed_linear))
+          (λ k. level_weight s c.args.b c.args.strip c.args.areas w c.requires.middle c.requires.areas c.requires.level e k ∙ none);
+    }

@@ -25,15 +25,15 @@ left_side-requires-2-clause-turned c = subst (IsTurned (span_of c.args.piece.now
 
 pub left_side-requires-clause-past : goal.left_side-requires-clause-past
 left_side-requires-clause-past c = λ k h l.
-    past_unmet (place_of c.args.piece.now.a) (place_of c.args.piece.now.c) c.args.strip c.args.edge.at k c.requires.edge
-    c.requires.slanted (λ z. clash_of_not c.args.edge.met c.if-not-edge.true (c.requires.met.1 z)) h l
+    past_unmet (place_of c.args.piece.now.a) (place_of c.args.piece.now.c) c.args.strip c.args.edge.at k c.requires.edge.edge
+    c.requires.slanted (λ z. clash_of_not c.args.edge.met c.if-not-edge.true (c.requires.edge.met.1 z)) h l
 
 pub left_side-requires-2-clause-past : goal.left_side-requires-2-clause-past
 left_side-requires-2-clause-past c = λ k h l.
-    past_met (place_of c.args.piece.now.a) (place_of c.args.piece.now.c) c.args.strip c.args.edge.at k c.requires.edge
+    past_met (place_of c.args.piece.now.a) (place_of c.args.piece.now.c) c.args.strip c.args.edge.at k c.requires.edge.edge
     c.requires.slanted (omega arith) l
 
 pub left_side-requires-2-clause-met : goal.left_side-requires-2-clause-met
 left_side-requires-2-clause-met c = λ k h l.
     met_alone (place_of c.args.piece.now.a) (place_of c.args.piece.now.c) c.args.strip c.args.edge.at k h (omega arith)
-    (c.requires.met.0 (true_of_not c.args.edge.met c.if-not-edge.false))
+    (c.requires.edge.met.0 (true_of_not c.args.edge.met c.if-not-edge.false))

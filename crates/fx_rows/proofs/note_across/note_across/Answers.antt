@@ -2,7 +2,7 @@ use Rattle.std.proofs.Common.{subst, ℕ, ◌<◌, ◌≤◌, arith}
 use Rattle.fx_winding.specs.Notes.{IsNotedAcross}
 use Rattle.fx_winding.specs.Winding.{span_of}
 use Rattle.fx_rows.specs.declared.piece_in_band.PieceInBand.{PieceInBand}
-use Rattle.fx_rows.proofs.Kept.{kept_both, only_both, rows_three}
+use Rattle.fx_rows.proofs.Kept.{rows_three, gain_both}
 use Rattle.fx_rows.proofs.Bulges.{missed_across}
 use Rattle.fx_rows.proofs.NotedSegments.{across_kept}
 use Rattle.fx_rows.proofs.note_across.note_across.Goals as goal
@@ -18,14 +18,11 @@ returns-then-touched-inner-clause-noted c =
     (c.note_others.ensures.below, c.note_others.ensures.above) in
     missed_across s p.frame p.rows.first p.rows.end p.met new c.requires.placed.met
     (rows_three (IsNotedAcross s p.frame new) p.met.touched.first p.met.inner.first p.met.inner.end p.met.touched.end others.0
-    (λ r l m. across_kept s p.frame r _ new c.note_others.ensures.kept (c.note_ends.ensures.noted r l m)) others.1)
+    (λ r l m. across_kept s p.frame r _ new c.note_others.ensures.gained.kept (c.note_ends.ensures.noted r l m)) others.1)
 
-pub returns-then-touched-inner-clause-kept : goal.returns-then-touched-inner-clause-kept
-returns-then-touched-inner-clause-kept c = kept_both _ _ _ c.note_ends.ensures.kept c.note_others.ensures.kept
-
-pub returns-then-touched-inner-clause-only : goal.returns-then-touched-inner-clause-only
-returns-then-touched-inner-clause-only c =
-    grind (arith, c.note_ends.ensures.only, c.copied.ensures, c.note_others.ensures.only, only_both)
+pub returns-then-touched-inner-clause-gained : goal.returns-then-touched-inner-clause-gained
+returns-then-touched-inner-clause-gained c =
+    grind (arith, c.note_ends.ensures.gained, c.copied.ensures, c.note_others.ensures.gained, gain_both)
 
 pub returns-else-inner-touched-clause-noted : goal.returns-else-inner-touched-clause-noted
 returns-else-inner-touched-clause-noted c =

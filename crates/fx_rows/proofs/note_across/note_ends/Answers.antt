@@ -3,7 +3,7 @@ use Rattle.fx_winding.specs.Bitmaps.{word_bit}
 use Rattle.fx_winding.specs.Notes.{pixel_number, IsNotedAcross}
 use Rattle.fx_winding.specs.Winding.{span_of}
 use Rattle.fx_rows.specs.inner.Lines.{IsAcrossBit}
-use Rattle.fx_rows.proofs.Kept.{kept_both, rows_more, only_both, only_one, kept_one}
+use Rattle.fx_rows.proofs.Kept.{rows_more, only_one, kept_one, gain_both}
 use Rattle.fx_rows.proofs.RowMeets.{end_told, met_end, end_met_too}
 use Rattle.fx_rows.proofs.NotedSegments.{across_kept, row_room}
 use Rattle.fx_rows.proofs.note_across.note_ends.Goals as goal
@@ -48,9 +48,8 @@ rows-preserved c =
     record {
       noted = rows_more (IsNotedAcross s f now) p.met.inner.first row
           (λ r l m. across_kept s f r old now kept (c.rows.invariant.noted r l m)) here;
-      kept = kept_both _ _ _ c.rows.invariant.kept kept;
-      only = only_both (IsAcrossBit s f) _ _ _ c.rows.invariant.only
-          (only_one (IsAcrossBit s f) old now _ new c.set_bit.ensures.others);
+      gained = gain_both (IsAcrossBit s f) _ _ _ c.rows.invariant.gained
+          (record { kept = kept; only = only_one (IsAcrossBit s f) old now _ new c.set_bit.ensures.others });
     }
 
 pub returns-clause-noted : goal.returns-clause-noted

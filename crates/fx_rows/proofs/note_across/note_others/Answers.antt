@@ -3,7 +3,7 @@ use Rattle.fx_winding.specs.Notes.{words_noted}
 use Rattle.fx_winding.specs.Winding.{span_of}
 use Rattle.fx_rows.specs.inner.Lines.{AreSetIn}
 use Rattle.fx_rows.proofs.Bulges.{across_set, set_in}
-use Rattle.fx_rows.proofs.Kept.{kept_both, only_both}
+use Rattle.fx_rows.proofs.Kept.{gain_both}
 use Rattle.fx_rows.proofs.NotedSegments.{across_kept, row_room}
 use Rattle.fx_rows.proofs.note_across.note_others.Goals as goal
 
@@ -26,7 +26,7 @@ returns-clause-below c = λ r l m.
     let f = c.args.placed.frame in
     let s = span_of c.args.piece.now in
     let row : 32 * c.words_noted.result ≡ 32 * words_noted f.width = ap (λ (w : ℕ). 32 * w) c.words_noted.ensures in
-    across_kept s f r c.note_met_lines.new.bits c.note_met_lines-2.new.bits c.note_met_lines-2.ensures.kept
+    across_kept s f r c.note_met_lines.new.bits c.note_met_lines-2.new.bits c.note_met_lines-2.ensures.gained.kept
     (across_set s f r c.note_met_lines.new.bits (subst (λ z. z) (λ i. AreSetIn (span_of (c.bounds_of-bounded.ensures.piece i)) f r
     (r * row i) 1 c.note_met_lines.new.bits) (set_in (span_of c.bounds_of-bounded.result.piece) f r
     (r * (32 * c.words_noted.result)) 1 c.note_met_lines.new.bits (c.note_met_lines.ensures.noted r l m))))
@@ -40,18 +40,15 @@ returns-clause-above c = λ r l m.
     (set_in (span_of c.bounds_of-bounded.result.piece) f r (r * (32 * c.words_noted.result)) 1 c.note_met_lines-2.new.bits
     (c.note_met_lines-2.ensures.noted r l m)))
 
-pub returns-clause-kept : goal.returns-clause-kept
-returns-clause-kept c = kept_both _ _ _ c.note_met_lines.ensures.kept c.note_met_lines-2.ensures.kept
-
-pub returns-clause-only : goal.returns-clause-only
-returns-clause-only c =
+pub returns-clause-gained : goal.returns-clause-gained
+returns-clause-gained c =
     grind (
       arith,
       c.words_noted.ensures,
       c.bounds_of-bounded.ensures,
       c.note_met_lines.ensures,
       c.note_met_lines-2.ensures,
-      only_both,
+      gain_both,
     )
 
 pub returns-clause-count : goal.returns-clause-count

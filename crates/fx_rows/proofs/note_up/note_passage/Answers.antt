@@ -4,7 +4,7 @@ use Rattle.fx_winding.specs.Winding.{span_of}
 use Rattle.fx_rows.specs.declared.reach.Reach.{Reach}
 use Rattle.fx_rows.specs.inner.Lines.{IsUpBit}
 use Rattle.fx_rows.specs.inner.Upward.{ComesFrom, IsPassing, IsLevel}
-use Rattle.fx_rows.proofs.Kept.{kept_both, only_both, rows_more}
+use Rattle.fx_rows.proofs.Kept.{rows_more, gain_both}
 use Rattle.fx_rows.proofs.RowMeets.{end_told}
 use Rattle.fx_rows.proofs.NotedSegments.{up_kept}
 use Rattle.fx_rows.proofs.Upward.{comes_from, row_next}
@@ -42,8 +42,8 @@ rows-preserved c =
       noted = rows_more (IsNotedUp s f now) p.met.inner.first row
           (λ r l m. up_kept s f r c.rows.up now c.note_columns.ensures.kept (c.rows.invariant.noted r l m))
           (c.note_columns.ensures.noted s level.within);
-      only = only_both (IsUpBit s f) _ _ _ c.rows.invariant.only (c.note_columns.ensures.only s level.all);
-      kept = kept_both _ _ _ c.rows.invariant.kept c.note_columns.ensures.kept;
+      gained = gain_both (IsUpBit s f) _ _ _ c.rows.invariant.gained
+          (record { kept = c.note_columns.ensures.kept; only = c.note_columns.ensures.only s level.all });
     }
 
 pub returns-clause-from : goal.returns-clause-from

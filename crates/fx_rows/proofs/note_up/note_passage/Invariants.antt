@@ -1,8 +1,7 @@
 use Rattle.std.proofs.Common.{◌≤◌, ◌<◌, ℕ}
 use Rattle.fx_winding.specs.Notes.{IsNotedUp}
 use Rattle.fx_winding.specs.Winding.{span_of}
-use Rattle.fx_rows.specs.inner.Lines.{AreOnly, IsUpBit}
-use Rattle.fx_rows.specs.inner.Told.{AreKept}
+use Rattle.fx_rows.specs.inner.Lines.{GainOnly, IsUpBit}
 use Rattle.fx_rows.specs.inner.Upward.{ComesFrom}
 use Rattle.fx_rows.proofs.note_up.note_passage.Given as goal
 
@@ -11,6 +10,5 @@ invariant-rows l = record {
   columns : l.low.end ≤ l.placed.frame.width;
   from : ComesFrom (span_of l.piece) l.placed.frame l.row l.low;
   noted : (r : ℕ) → l.placed.met.inner.first ≤ r → r < l.row → IsNotedUp (span_of l.piece) l.placed.frame l.up r;
-  only : AreOnly (IsUpBit (span_of l.piece) l.placed.frame) l.fn.up l.up;
-  kept : AreKept l.fn.up l.up;
+  gained : GainOnly (IsUpBit (span_of l.piece) l.placed.frame) l.fn.up l.up;
 }

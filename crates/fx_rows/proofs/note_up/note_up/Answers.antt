@@ -1,7 +1,7 @@
 use Rattle.fx_winding.specs.Winding.{span_of}
 use Rattle.fx_rows.specs.inner.Lines.{IsUpBit}
 use Rattle.fx_rows.specs.inner.Upward.{height_below, IsLevel}
-use Rattle.fx_rows.proofs.Kept.{kept_both, only_both}
+use Rattle.fx_rows.proofs.Kept.{gain_both}
 use Rattle.fx_rows.proofs.NotedSegments.{up_kept}
 use Rattle.fx_rows.proofs.Upward.{on_line_unmet, set_over, set_under, at_least_more, over_lowest, all_levels}
 use Rattle.fx_rows.proofs.note_up.note_up.Goals as goal
@@ -47,14 +47,12 @@ returns-clause-noted c =
     (c.note_passage-low.ensures.noted q l m))
     (c.note_columns.ensures.noted s level.within)
 
-pub returns-clause-only : goal.returns-clause-only
-returns-clause-only c =
+pub returns-clause-gained : goal.returns-clause-gained
+returns-clause-gained c =
     let s = span_of c.args.piece.now in
     let p = c.args.placed in
     let level : IsLevel s p.frame p.met.inner.end c.joined.result.first c.joined.result.end =
     rw (c.joined.ensures.first, c.joined.ensures.end)
     (c.columns_above-high.ensures.to c.note_passage-low.result c.note_passage-low.ensures.from) in
-    only_both (IsUpBit s p.frame) _ _ _ c.note_passage-low.ensures.only (c.note_columns.ensures.only s level.all)
-
-pub returns-clause-kept : goal.returns-clause-kept
-returns-clause-kept c = kept_both _ _ _ c.note_passage-low.ensures.kept c.note_columns.ensures.kept
+    gain_both (IsUpBit s p.frame) _ _ _ c.note_passage-low.ensures.gained
+    (record { kept = c.note_columns.ensures.kept; only = c.note_columns.ensures.only s level.all })

@@ -11,6 +11,6 @@ returns-clause-noted c = λ k o l is.
     let n = c.columns_under.result in
     let same : to_z w32 (of_z w32 c.args.col) ≡ c.args.col = omega (arith, signed_linear, c.requires.near) in
     let at = c.columns_under.ensures in
-    let e : n ≡ k = sym (column_is line.frame c.args.col n k (rw same at at.under) (rw same at at.rest) l is) in
+    let e : n ≡ k = sym (column_is line.frame c.args.col n k (rw same at at.below) (rw same at at.rest) l is) in
     subst (λ (j : ℕ). IsSetTo (span_of c.args.piece.now) line.frame line.row line.first line.step c.note_segment.new.bits j) e
     (c.note_segment.ensures.noted (omega (arith, e, o)) (omega (arith, e, l)))

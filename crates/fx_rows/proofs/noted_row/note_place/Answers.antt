@@ -11,7 +11,7 @@ returns-clause-noted c = λ k o l after before.
     let n = c.column_from.result in
     let same : to_z w32 (of_z w32 c.args.x) ≡ c.args.x = omega (arith, signed_linear, c.requires.near) in
     let at = c.column_from.ensures in
-    let e : n ≡ k = sym (within_column line.frame c.args.x line.row n k (rw same at at.before)
-    (rw same at at.from) l after before) in
+    let e : n ≡ k = sym (within_column line.frame c.args.x line.row n k (rw same at at.below)
+    (rw same at at.rest) l after before) in
     subst (λ (j : ℕ). IsSetTo (span_of c.args.piece.now) line.frame line.row line.first line.step c.note_segment.new.bits j) e
     (c.note_segment.ensures.noted (omega (arith, e, o)) (omega (arith, e, l)))

@@ -2,11 +2,11 @@ use Rattle.std.proofs.Common.{◌≡◌, ◌∙◌, ◌+ℤ◌, pos, sym, arith,
 use Rattle.fx_fixed.proofs.Linear.{signed_linear}
 use Rattle.fx_winding.specs.Winding.{span_of}
 use Rattle.fx_rows.proofs.Bulges.{run_end, set_kept, run_column}
-use Rattle.fx_rows.proofs.Kept.{kept_both, only_both}
+use Rattle.fx_rows.proofs.Kept.{gain_both}
 use Rattle.fx_rows.proofs.noted_row.note_run.Goals as goal
 
-pub returns-in-Some-clause-kept : goal.returns-in-Some-clause-kept
-returns-in-Some-clause-kept c = kept_both _ _ _ c.note_column.ensures.kept c.note_column-in-Some.ensures.kept
+pub returns-in-Some-clause-gained : goal.returns-in-Some-clause-gained
+returns-in-Some-clause-gained c = gain_both _ _ _ _ c.note_column.ensures.gained c.note_column-in-Some.ensures.gained
 
 pub returns-in-Some-clause-noted : goal.returns-in-Some-clause-noted
 returns-in-Some-clause-noted c = λ k o l end.
@@ -18,7 +18,7 @@ returns-in-Some-clause-noted c = λ k o l end.
     let last : to_z w32 (of_z w32 (to_z w32 (of_z w32 r.last) +ℤ pos 1)) ≡ r.last +ℤ pos 1 =
     omega (arith, signed_linear, near, line.frame.columns) in
     run_end line.frame c.args.run r k c.in-Some.is end
-    (λ e. set_kept s line.frame line.row line.first line.step k _ _ c.note_column-in-Some.ensures.kept
+    (λ e. set_kept s line.frame line.row line.first line.step k _ _ c.note_column-in-Some.ensures.gained.kept
     (c.note_column.ensures.noted k o l (e ∙ sym first)))
     (λ e. c.note_column-in-Some.ensures.noted k o l (e ∙ sym last))
 
@@ -33,6 +33,3 @@ note_column-requires-in-Some-clause-near c =
     let near = run_column c.args.line.frame c.args.run c.in-Some.run' c.in-Some.is c.requires.inside in
     let side = c.args.line.frame.columns in
     (omega (arith, signed_linear, near, side), omega (arith, signed_linear, near, side))
-
-pub returns-in-Some-clause-only : goal.returns-in-Some-clause-only
-returns-in-Some-clause-only c = grind (arith, c.note_column.ensures.only, c.note_column-in-Some.ensures.only, only_both)

@@ -1,7 +1,7 @@
 use Rattle.fx_winding.specs.Winding.{span_of}
 use Rattle.fx_rows.proofs.Cutting.{slanted}
 use Rattle.fx_rows.proofs.Stepping.{rise_value}
-use Rattle.fx_rows.proofs.Counting.{rise_sign, bends, last_part, arc_is_cut}
+use Rattle.fx_rows.proofs.Counting.{rise_told, bends, last_part, arc_is_cut}
 use Rattle.fx_rows.proofs.walk.arc_cut.Goals as goal
 
 pub on_end-requires-clause-slanted : goal.on_end-requires-clause-slanted
@@ -20,4 +20,4 @@ returns-clause-cut c =
     let arc = c.requires.arc in
     arc_is_cut s c.args.arc.right c.args.strip c.args.end.k _
     (bends s.a s.b s.c c.args.arc.right c.args.strip arc.bent c.requires.inner arc.turned) c.requires.end c.min.ensures
-    (rise_value c.args.bounded.now _ (rise_sign _ _ _ _ _ c.args.bounded.now.rises c.requires.inner)) c.on_end.ensures.on
+    c.requires.inner (rise_value c.args.bounded.now _ (rise_told _ _ _ _ c.args.bounded.now.rises)) c.on_end.ensures.on

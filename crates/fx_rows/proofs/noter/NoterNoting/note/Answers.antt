@@ -7,6 +7,7 @@ use Rattle.fx_winding.specs.Winding.{span_of}
 use Rattle.fx_rows.specs.inner.Placing.{IsApart}
 use Rattle.fx_rows.specs.inner.Telling.{noted, across_row, up_to_row}
 use Rattle.fx_rows.proofs.Boxed.{boxed}
+use Rattle.fx_rows.proofs.Kept.{gain_none}
 use Rattle.fx_rows.proofs.NotedSegments.{says_more}
 use Rattle.fx_rows.proofs.Telling.{rows_also, rows_noted, row_apart, with_sum}
 use Rattle.fx_rows.proofs.Upward.{none_within}
@@ -59,7 +60,7 @@ note_up-requires-clause-told c = grind (arith, c.requires.frame, c.requires.told
 -- those with no column in their box
 pub returns-then-across-clause-kept : goal.returns-then-across-clause-kept
 returns-then-across-clause-kept c x lasts old =
-    grind (arith, says_more, lasts, old, c.note_across.ensures, c.deref_mut-2.ensures.value, with_items_is)
+    grind (arith, says_more, gain_none, lasts, old, c.note_across.ensures, c.deref_mut-2.ensures.value, with_items_is)
 
 pub returns-then-across-clause-noted : goal.returns-then-across-clause-noted
 returns-then-across-clause-noted c =
