@@ -1,4 +1,4 @@
-use Rattle.std.proofs.Common.{◌∙◌, refl}
+use Rattle.std.proofs.Common.{refl}
 use Rattle.fx_rows.specs.inner.Bands.{bounded_span}
 use Rattle.fx_rows.proofs.Stepping.{strip_row}
 use Rattle.fx_rows.proofs.Telling.{cut_end}
