@@ -6,8 +6,7 @@ use Rattle.std.proofs.lemmas.Int.{ints}
 use Rattle.fx_fixed.proofs.Order.{below_or_not, below_same_above, below_or_not_ℤ}
 use Rattle.fx_fixed.proofs.Linear.{signed_linear}
 use Rattle.fx_winding.specs.Area.{Place, area}
-use Rattle.fx_winding.specs.Winding.{IsOn}
-use Rattle.fx_winding.specs.Winding.{Span, sign, weight_b, region_part, chord_crossing, IsOnPart}
+use Rattle.fx_winding.specs.Winding.{Span, sign, weight_b, region_part, chord_crossing, IsOn, IsOnPart}
 use Rattle.fx_rows.specs.declared.strip.Strip.{Strip}
 use Rattle.fx_rows.specs.declared.cells.Cut.{Cut}
 use Rattle.fx_rows.specs.Parts.{IsBent, IsBentPart}
