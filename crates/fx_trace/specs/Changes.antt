@@ -69,16 +69,16 @@ bit_of b = Number (pos (if b then 1 else 0))
 abbrev pub cell_change : List ℕ → ℕ → ℤ → ℤ → List ℕ
 cell_change name n was now = change name (Count n ∷ []) (Number was) (Number now)
 
-abbrev pub place_of : Place → TraceValue
-place_of p = Pair p.x p.y
+abbrev pub coordinates_of : Place → TraceValue
+coordinates_of p = Pair p.x p.y
 
 -- the point of a number in a zone: its current place, its original place, whether it is touched along x and y, and whether it is on
 -- the curve
 unfoldable pub point_change : ℕ → ℕ → ZonePoint → ZonePoint → List ℕ
 point_change zone n was now =
     let of = Count zone ∷ Count n ∷ [] in
-    change (codes "point") of (place_of was.cur) (place_of now.cur)
-    ++ (change (codes "original") of (place_of was.org) (place_of now.org)
+    change (codes "point") of (coordinates_of was.cur) (coordinates_of now.cur)
+    ++ (change (codes "original") of (coordinates_of was.org) (coordinates_of now.org)
     ++ (change (codes "touched-x") of (bit_of was.touched_x) (bit_of now.touched_x)
     ++ (change (codes "touched-y") of (bit_of was.touched_y) (bit_of now.touched_y)
     ++ change (codes "on-curve") of (bit_of was.on) (bit_of now.on))))

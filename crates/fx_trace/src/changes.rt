@@ -1,7 +1,7 @@
 //! What an instruction changed, as text.
 
-ghost use Rattle.std.specs.Prelude.{◌≡◌, min};
-ghost use Rattle.fx_trace.specs.Changes.{cell_change, change, each_from, place_of, point_change, setting_change};
+ghost use Rattle.std.specs.Prelude.{◌≡◌};
+ghost use Rattle.fx_trace.specs.Changes.{cell_change, change, each_from, coordinates_of, point_change, setting_change};
 ghost use Rattle.fx_trace.specs.Snapshots.{changes_text, snapshot_of};
 ghost use Rattle.fx_trace.specs.inner.Telling.{Says};
 
@@ -34,8 +34,8 @@ fn add_change<S: Sink>(
 
 /// A place's coordinates.
 #[inline(always)]
-fn place_of(place: &Place) -> TraceValue
-    ensures { result ≡ place_of place.now }
+fn coordinates_of(place: &Place) -> TraceValue
+    ensures { result ≡ coordinates_of place.now }
 {
     TraceValue::Pair(place.x.0, place.y.0)
 }
@@ -55,15 +55,15 @@ fn add_point<S: Sink>(
         text,
         b"point",
         &numbers,
-        place_of(&was.cur),
-        place_of(&now.cur),
+        coordinates_of(&was.cur),
+        coordinates_of(&now.cur),
     );
     add_change(
         text,
         b"original",
         &numbers,
-        place_of(&was.org),
-        place_of(&now.org),
+        coordinates_of(&was.org),
+        coordinates_of(&now.org),
     );
     add_change(
         text,
@@ -82,19 +82,12 @@ fn add_point<S: Sink>(
     add_change(text, b"on-curve", &numbers, bit_of(was.on), bit_of(now.on));
 }
 
-/// The lesser of two lengths.
-fn shorter(a: usize, b: usize) -> usize
-    ensures { result ≡ min a b }
-{
-    if a < b { a } else { b }
-}
-
 /// Adds the changes of a zone's points.
 fn add_points<S: Sink>(text: &mut TraceText<'_, S>, zone: u64, was: &[ZonePoint], now: &[ZonePoint])
     ensures { Says text.old text.new (each_from (point_change zone) 0 was.now now.now) }
 {
     // The changes of the points before i were added.
-    'points: for i in 0..shorter(was.len(), now.len()) {
+    'points: for i in 0..was.len().min(now.len()) {
         add_point(text, zone, i, &was[i], &now[i]);
     }
 }
@@ -122,7 +115,7 @@ fn add_cells<S: Sink>(text: &mut TraceText<'_, S>, name: &[u8], was: &[i32], now
     ensures { Says text.old text.new (each_from (cell_change name.now) 0 was.now now.now) }
 {
     // The changes of the entries before i were added.
-    'cells: for i in 0..shorter(was.len(), now.len()) {
+    'cells: for i in 0..was.len().min(now.len()) {
         add_cell(text, name, i, &was[i], &now[i]);
     }
 }
@@ -140,13 +133,12 @@ fn add_settings<S: Sink>(text: &mut TraceText<'_, S>, was: &[Setting], now: &[Se
     ensures { Says text.old text.new (each_from (λ n. setting_change) 0 was.now now.now) }
 {
     // The changes of the settings before i were added.
-    'settings: for i in 0..shorter(was.len(), now.len()) {
+    'settings: for i in 0..was.len().min(now.len()) {
         add_setting(text, &was[i], &now[i]);
     }
 }
 
 /// Adds what an instruction changed.
-#[tactic(auto, unfolding(crate::specs::Snapshots::changes_text))]
 pub fn add_changes<S: Sink>(text: &mut TraceText<'_, S>, was: &Snapshot, now: &State)
     ensures { Says text.old text.new (changes_text was.now (snapshot_of now.now)) }
 {

@@ -92,7 +92,7 @@ fn add_purpose<S: Sink>(text: &mut TraceText<'_, S>, component: Option<Component
     ensures { Says text.old text.new (purpose_text component) }
 {
     match component {
-        None => text.add(&[]),
+        None => {}
         Some(component) => add_component(text, component),
     }
 }

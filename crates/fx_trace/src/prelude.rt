@@ -97,7 +97,6 @@ fn run_both<S: Sink>(
 ///
 /// `Cause` is its halt, after the lines until then; what `prep` comes to is not told. After `WriteFailed(n)` the writer holds the
 /// first n bytes of the trace, after `OutOfMemory` a beginning of it.
-#[tactic(auto, unfolding(crate::specs::Traces::fpgm_trace))]
 pub fn trace_fpgm<S: Sink>(
     alloc: Global,
     font: &Font<'_>,
@@ -114,7 +113,6 @@ pub fn trace_fpgm<S: Sink>(
 /// Writes the trace of `prep` at a size, as `trace_fpgm` does that of `fpgm`, which runs before it.
 ///
 /// `Cause` is the first halt of both: that of `fpgm` without a line, that of `prep` after the lines until then.
-#[tactic(auto, unfolding(crate::specs::Traces::prep_trace))]
 pub fn trace_prep<S: Sink>(
     alloc: Global,
     font: &Font<'_>,

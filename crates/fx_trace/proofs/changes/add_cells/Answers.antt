@@ -9,8 +9,8 @@ cells-init g c = pairs_none (cell_change c.args.name.now) c.args.was.now c.args.
 
 pub cells-preserved : goal.cells-preserved
 cells-preserved g c =
-    let below : c.cells.i < length c.args.was.now = omega (arith, c.cells-test.true, c.shorter-i-end.ensures) in
-    let within : c.cells.i < length c.args.now.now = omega (arith, c.cells-test.true, c.shorter-i-end.ensures) in
+    let below : c.cells.i < length c.args.was.now = omega (arith, c.cells-test.true, c.min-i-end.ensures) in
+    let within : c.cells.i < length c.args.now.now = omega (arith, c.cells-test.true, c.min-i-end.ensures) in
     pairs_more (cell_change c.args.name.now) _ _ c.cells.invariant
     (get_or_default c.args.was.now c.cells.i (pos 0) _ below) (get_or_default c.args.now.now c.cells.i (pos 0) _ within)
     below within c.add_cell.ensures
@@ -18,4 +18,4 @@ cells-preserved g c =
 pub returns : goal.returns
 returns g c =
     pairs_all (cell_change c.args.name.now) c.cells.invariant
-    (omega (arith, c.cells-test.false, c.cells.auto.i-end, c.shorter-i-end.ensures))
+    (omega (arith, c.cells-test.false, c.cells.auto.i-end, c.min-i-end.ensures))

@@ -8,12 +8,12 @@ settings-init g c = pairs_none (λ (n : ℕ). setting_change) c.args.was.now c.a
 
 pub settings-preserved : goal.settings-preserved
 settings-preserved g c =
-    let below : c.settings.i < length c.args.was.now = omega (arith, c.settings-test.true, c.shorter-i-end.ensures) in
-    let within : c.settings.i < length c.args.now.now = omega (arith, c.settings-test.true, c.shorter-i-end.ensures) in
+    let below : c.settings.i < length c.args.was.now = omega (arith, c.settings-test.true, c.min-i-end.ensures) in
+    let within : c.settings.i < length c.args.now.now = omega (arith, c.settings-test.true, c.min-i-end.ensures) in
     pairs_more (λ (n : ℕ). setting_change) c.index-was-i.result c.index-now-i.result c.settings.invariant
     c.index-was-i.is c.index-now-i.is below within c.add_setting.ensures
 
 pub returns : goal.returns
 returns g c =
     pairs_all (λ (n : ℕ). setting_change) c.settings.invariant
-    (omega (arith, c.settings-test.false, c.settings.auto.i-end, c.shorter-i-end.ensures))
+    (omega (arith, c.settings-test.false, c.settings.auto.i-end, c.min-i-end.ensures))
