@@ -1,3 +1,4 @@
 -- What only private contracts cite.
 pub mod Blank
+pub mod Tables
 pub mod Bytes

@@ -1,6 +1,6 @@
 //! The functions, and the definitions of opcodes.
 
-ghost use Rattle.std.specs.Prelude.{◌≡◌, ◌≤◌, ◌<◌, ◌++◌, ◌&&◌, true, OnOk, None, Some, length, take, drop, slice_index_or, slice_set, replicate, map, IfOk};
+ghost use Rattle.std.specs.Prelude.{◌≡◌, ◌≤◌, ◌<◌, ◌++◌, ◌&&◌, true, OnOk, None, Some, length, slice_index_or, slice_set, replicate, map, IfOk};
 ghost use Rattle.fx_machine.specs.Definitions.{function_at};
 ghost use Rattle.std.specs.List.{list_all};
 ghost use Rattle.fx_machine.specs.Words.{function_word, function_in, is_near};
@@ -17,34 +17,24 @@ pub struct Function {
     pub address: usize,
 }
 
-/// Functions by their numbers. From the number `used` on there are none, so that those are not copied: few fonts define opcodes,
-/// or as many functions as there can be.
+/// Functions by their numbers. It holds those up to the last one, and has room for all: few fonts define opcodes, or as many
+/// functions as there can be. So the others are neither written nor copied.
 #[derive(Drop)]
 pub struct FunctionTable {
     functions: Vec<Option<Function>>,
-    used: usize,
+    count: usize,
 }
 
 impl Model for FunctionTable {
-    ghost use Rattle.std.specs.Prelude.{◌≡◌, ◌≤◌, ◌-◌, List, Option, None, length, drop, replicate};
+    ghost use Rattle.std.specs.Prelude.{◌≤◌, List, Option, length, vec_capacity};
     ghost use Rattle.fx_machine.specs.declared.definitions.Function.{Function as TheFunction};
+    ghost use Rattle.fx_machine.specs.inner.Tables.{filled};
 
     ghost Value = { List (Option TheFunction) };
 
-    ghost view = { λ t. t.functions.items };
+    ghost view = { λ t. filled t.count t.functions.items };
 
-    ghost invariant = { λ t. (t.used ≤ length t.functions.items)
-        × (drop t.used t.functions.items ≡ replicate (length t.functions.items - t.used) None) };
-}
-
-/// Takes the first functions of another table of its size.
-fn copy_front(functions: &mut [Option<Function>], other: &[Option<Function>], count: usize)
-    requires size { length functions.old ≡ length other.now }
-    requires inside { count ≤ length other.now }
-    ensures value { functions.new ≡ take count other.now ++ drop count functions.old }
-    ensures size { length functions.new ≡ length functions.old }
-{
-    functions[..count].copy_from_slice(&other[..count]);
+    ghost invariant = { λ t. (length t.functions.items ≤ t.count) × (t.count ≤ vec_capacity t.functions) };
 }
 
 impl FunctionTable {
@@ -52,30 +42,33 @@ impl FunctionTable {
     fn new(alloc: Global, count: usize) -> Result<FunctionTable, AllocError>
         ensures { IfOk result (λ t. t ≡ replicate count None) }
     {
-        let functions = vec![in alloc; None; count]?;
-        Ok(FunctionTable { functions, used: 0 })
+        let functions = Vec::with_capacity(alloc, count)?;
+        Ok(FunctionTable { functions, count })
     }
 
     /// Takes the functions of another of its size.
+    #[tactic(auto, using(crate::proofs::Tables::filled_length))]
     fn copy_from(&mut self, other: &FunctionTable)
         requires { length self.old ≡ length other.now }
         ensures { self.new ≡ other.now }
     {
-        let most = self.used.max(other.used);
-        copy_front(&mut self.functions, &other.functions, most);
-        self.used = other.used;
+        self.functions.clear();
+        // There is room for all.
+        let _copied = self.functions.extend_from_slice(&other.functions);
     }
 
     /// The functions of words, one for each.
     fn of_words(alloc: Global, words: &[u32]) -> Result<FunctionTable, AllocError>
         ensures { IfOk result (λ t. t ≡ map function_in words.now) }
     {
+        let count = words.len();
         let used = used_of(words);
-        let functions = functions_of(alloc, words, used)?;
-        Ok(FunctionTable { functions, used })
+        let functions = functions_of(alloc, count, &words[..used])?;
+        Ok(FunctionTable { functions, count })
     }
 
     /// Whether each function has a word.
+    #[tactic(auto, using(crate::proofs::Tables::filled_near))]
     fn is_near(&self) -> bool
         ensures { result ≡ list_all is_near self.now }
     {
@@ -87,17 +80,22 @@ impl FunctionTable {
         requires { list_all is_near self.now ≡ true }
         ensures { OnOk result (words.new.items ≡ words.old.items ++ map function_word self.now) }
     {
-        push_functions(words, &self.functions)
+        push_functions(words, &self.functions)?;
+        let end = words.len() + (self.count - self.functions.len());
+        words.resize(end, 0)?;
+        Ok(())
     }
 
     /// How many there can be.
+    #[tactic(auto, using(crate::proofs::Tables::filled_length))]
     fn len(&self) -> usize
         ensures { result ≡ length self.now }
     {
-        self.functions.len()
+        self.count
     }
 
     /// The function of a number.
+    #[tactic(auto, using(crate::proofs::Tables::filled_at))]
     fn get(&self, number: usize) -> Option<Function>
         ensures { result ≡ slice_index_or self.now number None }
     {
@@ -111,9 +109,11 @@ impl FunctionTable {
     fn define(&mut self, number: usize, function: Function)
         ensures { self.new ≡ slice_set self.old number (Some function) }
     {
-        if number < self.functions.len() {
+        if number < self.count {
+            let reached = self.functions.len().max(number + 1);
+            // There is room for all.
+            let _reached = self.functions.resize(reached, None);
             self.functions[number] = Some(function);
-            self.used = self.used.max(number + 1);
         }
     }
 }

@@ -1,5 +1,5 @@
 //! Numbers, points and functions as words of 32 bits, and back.
-ghost use Rattle.std.specs.Prelude.{◌≡◌, ℕ, ◌+◌, ◌*◌, ◌<◌, ◌≤◌, ◌++◌, [], ◌∷◌, true, map, drop, length, slice_index, IfOk, OnOk, IsTrue, FitsSigned};
+ghost use Rattle.std.specs.Prelude.{◌≡◌, ℕ, ◌+◌, ◌*◌, ◌<◌, ◌≤◌, ◌++◌, [], ◌∷◌, true, map, length, slice_index, vec_capacity, IfOk, OnOk, IsTrue, FitsSigned};
 ghost use Rattle.std.specs.Int.{w32};
 ghost use Rattle.std.specs.List.{list_all, flat_map};
 ghost use Rattle.fx_machine.specs.Words.{number_word, number_in, AreNumbers, marks_of, place_words, point_words, IsPoint, ArePoints};
@@ -234,20 +234,7 @@ fn are_none(words: &[u32]) -> bool
     greatest == 0
 }
 
-/// How many words there are up to the last one that is not 0.
-fn used_among(words: &[u32]) -> usize
-    ensures inside { result ≤ length words.now }
-    ensures rest { (k : ℕ) → result ≤ k → k < length words.now → slice_index words.now k ≡ 0 }
-{
-    let mut used = words.len();
-    // The words from `used` on are 0.
-    'words: while 0 < used && words[used - 1] == 0 {
-        used -= 1;
-    }
-    used
-}
-
-/// The same; it is found soon if there is none.
+/// A number of words after which all are 0: less than twice as many as there are up to the last one that is not.
 pub(crate) fn used_of(words: &[u32]) -> usize
     ensures inside { result ≤ length words.now }
     ensures rest { (k : ℕ) → result ≤ k → k < length words.now → slice_index words.now k ≡ 0 }
@@ -255,40 +242,28 @@ pub(crate) fn used_of(words: &[u32]) -> usize
     if are_none(words) {
         return 0;
     }
-    used_among(words)
-}
-
-/// Reads functions from their words, one for each.
-fn read_functions(functions: &mut [Option<Function>], words: &[u32])
-    requires { length functions.old ≡ length words.now }
-    ensures { functions.new ≡ map function_in words.now }
-{
-    // The functions so far are those of their words.
-    'functions: for i in 0..words.len() {
-        functions[i] = function_in(words[i]);
+    let mut used = words.len();
+    // The words from `used` on are 0.
+    'halves: while 0 < used && are_none(&words[used / 2..used]) {
+        used /= 2;
     }
+    used
 }
 
-/// Reads the first functions from their words, one for each.
-fn read_front(functions: &mut [Option<Function>], words: &[u32])
-    requires { length words.now ≤ length functions.old }
-    ensures value { functions.new ≡ map function_in words.now ++ drop (length words.now) functions.old }
-    ensures size { length functions.new ≡ length functions.old }
-{
-    read_functions(&mut functions[..words.len()], words);
-}
-
-/// The functions of words, one for each, of which there are none from the number `used` on.
+/// The functions of words, one for each, with room for more.
 pub(crate) fn functions_of(
     alloc: Global,
+    room: usize,
     words: &[u32],
-    used: usize,
 ) -> Result<Vec<Option<Function>>, AllocError>
-    requires inside { used ≤ length words.now }
-    requires rest { (k : ℕ) → used ≤ k → k < length words.now → slice_index words.now k ≡ 0 }
-    ensures { IfOk result (λ v. v.items ≡ map function_in words.now) }
+    requires { length words.now ≤ room }
+    ensures items { IfOk result (λ v. v.items ≡ map function_in words.now) }
+    ensures room { IfOk result (λ v. room ≤ vec_capacity v) }
 {
-    let mut functions = vec![in alloc; None; words.len()]?;
-    read_front(&mut functions, &words[..used]);
+    let mut functions = Vec::with_capacity(alloc, room)?;
+    // The functions so far are those of their words, and there is room for the others.
+    'words: for word in words {
+        functions.push_reserved(function_in(*word));
+    }
     Ok(functions)
 }

@@ -1,11 +1,15 @@
-use Rattle.std.proofs.Common.{arith}
-use Rattle.fx_machine.proofs.Tables.{defined}
+use Rattle.std.proofs.Common.{◌≡◌, ◌++◌, ◌-◌, length, take, replicate, Some, None, ◌∙◌, ap, arith, set}
+use Rattle.std.proofs.lemmas.Grind.{common_steps}
+use Rattle.fx_machine.proofs.Tables.{filled_defined}
 use Rattle.fx_machine.proofs.definitions.FunctionTable.define.Goals as goal
 
-pub invariant_of-self : goal.invariant_of-self
-invariant_of-self c =
-    let i = c.self.invariant in
-    let e = c.self.view_is in
-    let l = c.len.ensures in
-    let t = c.if-number-len.true in
-    defined c.self.inside.functions.items c.self.inside.used c.args.number _ _ i.0 (omega arith) c.max-self-inside.ensures i.1
+pub returns-then-number-self : goal.returns-then-number-self
+returns-then-number-self c =
+    let items = c.self.inside.functions.items in
+    let grown = c.resize-reached.new.self.items in
+    let most = c.max-reached.result in
+    let g : grown ≡ take most items ++ replicate (most - length items) None = grind (arith, common_steps) in
+    let long : length grown ≡ most = grind (arith, common_steps) in
+    filled_defined items grown c.self.inside.count c.args.number most (Some c.args.function) c.self.invariant.0
+    c.if-number-self.true (grind (arith, common_steps)) g long
+    ∙ ap (λ l. set l c.args.number (Some c.args.function)) c.self.view_is

@@ -1,12 +1,12 @@
 use Rattle.std.proofs.Common.{◌≡◌, ℕ, ◌<◌, ◌≤◌, length}
 use Rattle.std.specs.Prelude.{slice_index}
-use Rattle.fx_machine.proofs.words.used_among.Given as goal
+use Rattle.fx_machine.proofs.words.used_of.Given as goal
 
-abbrev pub invariant-words : goal.invariant-words
-invariant-words l = record {
+abbrev pub invariant-halves : goal.invariant-halves
+invariant-halves l = record {
   inside : l.used ≤ length l.words;
   rest : (k : ℕ) → l.used ≤ k → k < length l.words → slice_index l.words k ≡ 0;
 }
 
-abbrev pub decreases-words : goal.decreases-words
-decreases-words l = l.used
+abbrev pub decreases-halves : goal.decreases-halves
+decreases-halves l = l.used
