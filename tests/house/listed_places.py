@@ -35,7 +35,13 @@ PLACES = {
     "crates/fx_hint/src/outlines.rt": ["resize(points.len(), BLANK)"],
     "crates/fx_hint/src/placing.rt": ["let _ends = zone.ends()"],
     "crates/fx_hint/src/programmed.rt": ["let _count = zone.points().len()", "let _ends = made.zone.ends()"],
-    "crates/fx_machine/src/definitions.rt": ["vec![in alloc; None; count]"],
+    "crates/fx_machine/src/definitions.rt": [
+        "with_capacity(alloc, count)",
+        "let _copied = self.functions.extend_from_slice(&other.functions)",
+        "resize(end, 0)",
+        "let _reached = self.functions.resize(reached, None)",
+        "resize(reached, None)",
+    ],
     "crates/fx_machine/src/halt.rt": ["MachineFault::OutOfMemory"],
     "crates/fx_machine/src/machine.rt": [
         "Box::new(alloc, state)",
@@ -48,7 +54,7 @@ PLACES = {
     "crates/fx_machine/src/words.rt": [
         "vec![in alloc; 0; words.len()]",
         "with_capacity(alloc, count)",
-        "vec![in alloc; None; words.len()]",
+        "with_capacity(alloc, room)",
     ],
     "crates/fx_request/src/characters.rt": ["from_slice(alloc, chars)", "from_slice(alloc, chars)"],
     "crates/fx_request/src/faults.rt": ["Refusal::OutOfMemory"],

@@ -8,7 +8,7 @@ use Rattle.fx_winding.specs.Limits.{IsPixelNumber}
 use Rattle.fx_winding.specs.declared.point.Piece.{Piece}
 use Rattle.fx_winding.specs.declared.point.Point.{Point}
 use Rattle.fx_winding.specs.Winding.{place_of, maybe_place_of, span_of, areas_of, areas_of_part}
-use Rattle.fx_winding.proofs.Sizes.{product_within}
+use Rattle.fx_fixed.proofs.Bounds.{product_within}
 use Rattle.fx_winding.proofs.Swept.{moved}
 use Rattle.fx_dropout.specs.declared.along.Along.{Along}
 use Rattle.fx_dropout.specs.Dropout.{place_on}

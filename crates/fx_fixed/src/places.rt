@@ -83,8 +83,8 @@ impl Place {
     }
 
     /// The sum of its coordinates, each times a number in 2.14: the nearest to the exact sum, halves away from zero, in 32 bits.
-    pub fn weighted(self, u: F2, v: F2) -> F26
-        ensures { result ≡ wrapped_of (near_of (self.x *ℤ u +ℤ self.y *ℤ v) (pos (2 ^ 14))) }
+    pub fn weighted(&self, u: F2, v: F2) -> F26
+        ensures { result ≡ wrapped_of (near_of (self.now.x *ℤ u +ℤ self.now.y *ℤ v) (pos (2 ^ 14))) }
     {
         F26(w32(i128::from(near_16384(weighted_sum(self.x.0, u.0, self.y.0, v.0)))))
     }

@@ -10,6 +10,5 @@ mod Programs
 mod Machines
 mod Turning
 mod Joined
-mod Multiplying
 pub mod Watching
 mod Forgetting

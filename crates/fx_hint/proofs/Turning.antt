@@ -24,10 +24,10 @@ wrapped_near n x e =
     ap wrapped_of (sym (same_near n (pos (2 ^ 14)) x (λ h. absurd (omega (arith, ints, h))) (near_itself n x e)))
 
 first_wrapped : (x y : ℤ) → weighted_of (pos (2 ^ 14)) x (pos 0) y ≡ wrapped_of x
-first_wrapped x y = wrapped_near (pos (2 ^ 14) *ℤ x +ℤ pos 0 *ℤ y) x (omega (arith, ints))
+first_wrapped x y = wrapped_near (x *ℤ pos (2 ^ 14) +ℤ y *ℤ pos 0) x (omega (arith, ints))
 
 second_wrapped : (x y : ℤ) → weighted_of (pos 0) x (pos (2 ^ 14)) y ≡ wrapped_of y
-second_wrapped x y = wrapped_near (pos 0 *ℤ x +ℤ pos (2 ^ 14) *ℤ y) y (omega (arith, ints))
+second_wrapped x y = wrapped_near (x *ℤ pos 0 +ℤ y *ℤ pos (2 ^ 14)) y (omega (arith, ints))
 
 wrapped_itself : (x : ℤ) → FitsSigned w32 x → wrapped_of x ≡ x
 unfolding wrapped_of

@@ -49,7 +49,8 @@ none_words (suc n) = ap (λ l. 0 ∷ l) (none_words n)
 
 pub filled_words : (count : ℕ) (items : List (Option Function)) → map function_word (filled count items) ≡
     map function_word items ++ replicate (count - length items) 0
-filled_words count items = map-append function_word items _ ∙ ap (λ l. map function_word items ++ l) (none_words (count - length items))
+filled_words count items =
+    map-append function_word items _ ∙ ap (λ l. map function_word items ++ l) (none_words (count - length items))
 
 -- functions of words, of which the last are none
 none_after : (used : ℕ) (ws : List ℕ) → ((k : ℕ) → used ≤ k → k < length ws → slice_index ws k ≡ 0)
@@ -66,8 +67,9 @@ none_after (suc used) [] h = grind arith
 none_after (suc used) (w ∷ ws) h =
     grind (arith, none_after used ws (λ k i j. h (suc k) (omega (arith, i)) (omega (arith, j))))
 
-pub filled_in : (used : ℕ) (ws : List ℕ) (items : List (Option Function)) → used ≤ length ws → items ≡ map function_in (take used ws)
-    → ((k : ℕ) → used ≤ k → k < length ws → slice_index ws k ≡ 0) → filled (length ws) items ≡ map function_in ws
+pub filled_in : (used : ℕ) (ws : List ℕ) (items : List (Option Function)) → used ≤ length ws
+    → items ≡ map function_in (take used ws) → ((k : ℕ) → used ≤ k → k < length ws → slice_index ws k ≡ 0)
+    → filled (length ws) items ≡ map function_in ws
 filled_in used ws items i e h =
     let long : length items ≡ used = ap length e ∙ length-map (take used ws) function_in ∙ length-take-le used ws i in
     rw (long, e, ← none_after used ws h) (sym (map-append function_in (take used ws) (drop used ws))

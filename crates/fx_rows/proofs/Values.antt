@@ -4,7 +4,7 @@ use Rattle.std.proofs.Common.{◌≡◌, ◌∙◌, ℕ, ◌^◌, ◌<◌, ℤ, 
 use Rattle.std.proofs.lemmas.Int.{to_z-of_z}
 use Rattle.fx_fixed.proofs.Linear.{signed_linear}
 use Rattle.fx_fixed.specs.Ranges.{IsWithin}
-use Rattle.fx_winding.proofs.Sizes.{product_within}
+use Rattle.fx_fixed.proofs.Bounds.{product_within}
 
 -- a number as a register holds it
 abbrev pub held : ℤ → ℤ

@@ -2,7 +2,7 @@ use Rattle.std.proofs.Common.{◌^◌, pos, arith, w64}
 use Rattle.std.proofs.lemmas.Int.{to_z-of_z, to_z_pos}
 use Rattle.fx_fixed.specs.Ranges.{IsWithin}
 use Rattle.fx_fixed.proofs.Linear.{signed_linear}
-use Rattle.fx_winding.proofs.Sizes.{product_within}
+use Rattle.fx_fixed.proofs.Bounds.{product_within}
 use Rattle.fx_dropout.proofs.along.after.Goals as goal
 
 pub returns : goal.returns

@@ -1,7 +1,7 @@
 use Rattle.std.proofs.Common.{ℕ, ◌<◌, ℤ, ◌^◌, pos, ◌+ℤ◌, ◌*ℤ◌, arith}
 use Rattle.fx_fixed.proofs.Linear.{signed_linear}
 use Rattle.fx_fixed.specs.Ranges.{IsWithin}
-use Rattle.fx_winding.proofs.Sizes.{product_within}
+use Rattle.fx_fixed.proofs.Bounds.{product_within}
 use Rattle.fx_rows.proofs.Values.{IsKept, value_kept, value_held}
 use Rattle.fx_rows.proofs.search.moved.Goals as goal
 

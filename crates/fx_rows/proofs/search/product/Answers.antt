@@ -1,6 +1,6 @@
 use Rattle.std.proofs.Common.{arith, ◌≡◌, ◌*ℤ◌, ◌^◌, to_z, of_z}
 use Rattle.fx_fixed.proofs.Linear.{signed_linear}
-use Rattle.fx_winding.proofs.Sizes.{product_within}
+use Rattle.fx_fixed.proofs.Bounds.{product_within}
 use Rattle.fx_rows.proofs.search.product.Goals as goal
 use mir.Syntax.{w128}
 

@@ -10,6 +10,7 @@ returns c =
     let after = c.push_functions.new.words.items in
     let long = c.push_functions.new.words.len in
     filled_added c.self.inside.count (c.len.result + (c.self.inside.count - c.len-2.result)) long items c.args.words.now.items after
-    c.resize.new.self.items (c.in_ok-push_functions.ensures ∙ ap (λ l. c.args.words.now.items ++ map function_word l) c.deref.ensures.value)
+    c.resize.new.self.items (c.in_ok-push_functions.ensures
+    ∙ ap (λ l. c.args.words.now.items ++ map function_word l) c.deref.ensures.value)
     (grind (arith, common_steps)) (grind (arith, common_steps)) (c.in_ok-resize.ensures.items)
     ∙ ap (λ l. c.args.words.now.items ++ map function_word l) c.self.view_is
