@@ -11,7 +11,8 @@ pub record Searching (size : ℕ) (p : List ℕ → Bool) (count k : ℕ) (all r
   pub same : find p (records size (count - k) rest) ≡ find p (records size count all)
   pub inside : size * (count - k) ≤ length rest
 
-module _ {size : ℕ} {p : List ℕ → Bool} {count k : ℕ} {all rest : List ℕ} (s : Searching size p count k all rest) (some : k < count) where
+module _ {size : ℕ} {p : List ℕ → Bool} {count k : ℕ} {all rest : List ℕ} (s : Searching size p count k all rest)
+    (some : k < count) where
   found : (b : Bool) → p rest ≡ b
       → cond b (Some rest) (find p (records size (count - (k + 1)) (drop size rest))) ≡ find p (records size count all)
   found b e =

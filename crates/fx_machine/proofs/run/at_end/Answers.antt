@@ -24,4 +24,5 @@ returns-then-ended-2-clause-value c = λ s. rw c.halted-then-ended-2.ensures
 
 pub returns-clause-value : goal.returns-clause-value
 returns-clause-value c = λ s. rw c.halted-2.ensures
-    (cut_here _ _ _ _ _ c.args.calls.now.open_calls.items _ _ s (omega arith) (λ e. c.if-ended-2.false (cc)) (c.requires.past (omega arith)))
+    (cut_here _ _ _ _ _ c.args.calls.now.open_calls.items _ _ s (omega arith) (λ e. c.if-ended-2.false (cc))
+    (c.requires.past (omega arith)))
