@@ -23,7 +23,7 @@ middle_with p q x y h k = ap (option_and_then (λ x. option_map (place x) (half_
 abbrev pub beyond : Place → Place → Place
 beyond p q = place ((q.x +ℤ q.x) -ℤ p.x) ((q.y +ℤ q.y) -ℤ p.y)
 
-half_is : (z h : ℤ) → half_of z ≡ Some h → pos 2 *ℤ h ≡ z
+pub half_is : (z h : ℤ) → half_of z ≡ Some h → pos 2 *ℤ h ≡ z
 half_is z h e = grind (arith, e)
 
 map_some : {A B P : Type 0} (f : A → B) (o : Option A) (y : B) → option_map f o ≡ Some y → ((x : A) → o ≡ Some x → f x ≡ y → P) → P

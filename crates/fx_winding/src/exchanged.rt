@@ -1,6 +1,9 @@
 //! Columns seen as rows: points, pieces and frames with their coordinates exchanged.
 
-ghost use Rattle.std.specs.Prelude.{◌≡◌, option_map, map, IfOk};
+ghost use Rattle.std.specs.Prelude.{◌≡◌, ◌^◌, option_map, map, IfOk};
+ghost use Rattle.fx_fixed.specs.Ranges.{IsWithin};
+ghost use Rattle.fx_winding.specs.Near.{IsNearPlace, IsNear};
+ghost use Rattle.fx_winding.specs.Outside.{OptionAll};
 ghost use Rattle.fx_winding.specs.Turned.{turned_place, turned_span};
 ghost use Rattle.fx_winding.specs.Winding.{place_of, maybe_place_of, span_of};
 
@@ -12,6 +15,7 @@ use std::alloc::{AllocError, Global};
 impl Point {
     /// The point with its coordinates exchanged.
     pub fn turned(self) -> Point
+        requires { IsWithin (2 ^ 22) self.x }
         ensures { place_of result ≡ turned_place (place_of self) }
     {
         Point {
@@ -23,6 +27,7 @@ impl Point {
 
 /// A control point with its coordinates exchanged, if there is one.
 fn turned_control(b: Option<Point>) -> Option<Point>
+    requires { OptionAll IsNearPlace (maybe_place_of b) }
     ensures { maybe_place_of result ≡ option_map turned_place (maybe_place_of b) }
 {
     match b {
@@ -34,6 +39,7 @@ fn turned_control(b: Option<Point>) -> Option<Point>
 impl Piece {
     /// The piece with its coordinates exchanged.
     pub fn turned(&self) -> Piece
+        requires { IsNear self.now }
         ensures { span_of result ≡ turned_span (span_of self.now) }
     {
         Piece {

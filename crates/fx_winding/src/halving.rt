@@ -8,10 +8,10 @@ ghost use Rattle.fx_winding.specs.Winding.{place_of, span_of};
 use crate::point::{Piece, Point};
 
 /// Half of a sum of two coordinates, if it is whole.
-fn half(sum: i32) -> Option<i32>
-    requires { IsWithin (2 ^ 23) sum }
+fn half(sum: i64) -> Option<i64>
+    requires { IsWithin (2 ^ 31) sum }
     ensures value { result ≡ half_of sum }
-    ensures size { IfSome result (λ h. IsWithin (2 ^ 22) h) }
+    ensures size { IfSome result (λ h. IsWithin (2 ^ 30) h) }
 {
     let low = sum.div_euclid(2);
     if 2 * low == sum {
@@ -24,9 +24,12 @@ fn half(sum: i32) -> Option<i32>
 fn middle(p: Point, q: Point) -> Option<Point>
     ensures { option_map place_of result ≡ middle_of (place_of p) (place_of q) }
 {
-    let x = half(p.x + q.x)?;
-    let y = half(p.y + q.y)?;
-    Some(Point { x, y })
+    let x = half(i64::from(p.x) + i64::from(q.x))?;
+    let y = half(i64::from(p.y) + i64::from(q.y))?;
+    Some(Point {
+        x: x as i32,
+        y: y as i32,
+    })
 }
 
 /// The halves of an arc, cut at the parameter 1/2: from its start to the join, and from there to its end. `None` for a line, and

@@ -12,7 +12,7 @@ use crate::point::Point;
 /// 2 ((by - cy) w + (ay - by) u) + (ay - cy) v.
 pub fn gap_slope(a: Point, b: Point, c: Point, p: Point) -> i128
     ensures value { result ≡ slope_of (place_of a) (place_of b) (place_of c) (place_of p) }
-    ensures size { IsWithin (2 ^ 97) result }
+    ensures size { IsWithin (2 ^ 113) result }
 {
     let w = wide_product(difference(b.y, c.y), signed_area(a, b, p));
     let u = wide_product(difference(a.y, b.y), signed_area(p, b, c));

@@ -5,21 +5,27 @@ use Rattle.fx_fixed.specs.Ranges.{IsWithin}
 use Rattle.fx_winding.proofs.slope.gap_slope.Goals as goal
 use mir.Syntax.{w128}
 
-whole : (x y z : ℤ) → IsWithin (2 ^ 94) x → IsWithin (2 ^ 94) y → IsWithin (2 ^ 94) z → to_z w128 (of_z w128 (to_z w128 (of_z w128
+whole : (x y z : ℤ) → IsWithin (2 ^ 110) x → IsWithin (2 ^ 110) y → IsWithin (2 ^ 110) z → to_z w128 (of_z w128 (to_z w128 (of_z w128
     (pos 2 *ℤ to_z w128 (of_z w128 (to_z w128 (of_z w128 x) +ℤ to_z w128 (of_z w128 y))))) +ℤ to_z w128 (of_z w128 z))) ≡
     pos 2 *ℤ (x +ℤ y) +ℤ z
 whole x y z hx hy hz = omega (arith, signed)
 
-doubled : (x y : ℤ) → IsWithin (2 ^ 94) x → IsWithin (2 ^ 94) y
+doubled : (x y : ℤ) → IsWithin (2 ^ 110) x → IsWithin (2 ^ 110) y
     → FitsSigned w128 (pos 2 *ℤ to_z w128 (of_z w128 (to_z w128 (of_z w128 x) +ℤ to_z w128 (of_z w128 y))))
 doubled x y hx hy = omega (arith, signed)
 
-added : (x y z : ℤ) → IsWithin (2 ^ 94) x → IsWithin (2 ^ 94) y → IsWithin (2 ^ 94) z → FitsSigned w128 (to_z w128 (of_z w128
+added : (x y z : ℤ) → IsWithin (2 ^ 110) x → IsWithin (2 ^ 110) y → IsWithin (2 ^ 110) z → FitsSigned w128 (to_z w128 (of_z w128
     (pos 2 *ℤ to_z w128 (of_z w128 (to_z w128 (of_z w128 x) +ℤ to_z w128 (of_z w128 y))))) +ℤ to_z w128 (of_z w128 z))
 added x y z hx hy hz = omega (arith, signed)
 
 pub wide_product-w-requires-clause-near_a : goal.wide_product-w-requires-clause-near_a
 wide_product-w-requires-clause-near_a c = (omega (arith, signed_linear), omega (arith, signed_linear))
+
+pub difference-requires-2-clause-near_a : goal.difference-requires-2-clause-near_a
+difference-requires-2-clause-near_a c = omega (arith, signed_linear)
+
+pub difference-requires-2-clause-near_b : goal.difference-requires-2-clause-near_b
+difference-requires-2-clause-near_b c = omega (arith, signed_linear)
 
 pub overflow_mul-result : goal.overflow_mul-result
 overflow_mul-result c =

@@ -8,7 +8,7 @@ use Rattle.fx_winding.proofs.Places.{no, zero_bits}
 use Rattle.fx_winding.proofs.Swept.{moved}
 use Rattle.fx_winding.proofs.tip.is_tip.Goals as goal
 
-falling : (z : ℤ) → IsWithin (2 ^ 97) z → z <ℤ pos 0 → IsTrue (int_lt (to_z w128 (of_z w128 z)) (pos 0))
+falling : (z : ℤ) → IsWithin (2 ^ 113) z → z <ℤ pos 0 → IsTrue (int_lt (to_z w128 (of_z w128 z)) (pos 0))
 falling z h k =
     let e : to_z w128 (of_z w128 z) ≡ z = omega (arith, signed_linear) in
     rw (e) (sym (omega (arith, ints)))
