@@ -15,7 +15,7 @@ use lib.Signed.{rem_z}
 use mir.Syntax.{w128}
 
 -- the gap without its copies
-pub gap_without_copies : (u v w x y : ℤ) → IsWithin (2 ^ 96) x → IsWithin (2 ^ 96) y → x ≡ u *ℤ w → y ≡ v *ℤ v
+pub gap_without_copies : (u v w x y : ℤ) → IsWithin (2 ^ 112) x → IsWithin (2 ^ 112) y → x ≡ u *ℤ w → y ≡ v *ℤ v
     → to_z w128 (of_z w128 (to_z w128 (of_z w128 (pos 4 *ℤ to_z w128 (of_z w128 x))) -ℤ to_z w128 (of_z w128 y))) ≡ gap_of u v w
 gap_without_copies u v w x y hx hy ex ey =
     let a : to_z w128 (of_z w128 (pos 4 *ℤ to_z w128 (of_z w128 x))) ≡ pos 4 *ℤ x = omega (arith, signed) in

@@ -1,6 +1,6 @@
 -- Bent arcs from row to row and from column to column.
 -- Serves the walk along an arc.
-use Rattle.std.proofs.Common.{◌≡◌, ◌≢◌, ◌∙◌, ap, sym, subst, ℕ, ◌+◌, ◌-◌, ◌<◌, ◌≤◌, max, neg_ℤ, ℤ, pos, ◌+ℤ◌, ◌-ℤ◌, ◌*ℤ◌, ◌≤ℤ◌, [], ◌∷◌, Bool}
+use Rattle.std.proofs.Common.{◌≡◌, ◌≢◌, ◌∙◌, ap, sym, subst, ℕ, ◌+◌, ◌-◌, ◌^◌, ◌<◌, ◌≤◌, max, neg_ℤ, ℤ, pos, ◌+ℤ◌, ◌-ℤ◌, ◌*ℤ◌, ◌≤ℤ◌, [], ◌∷◌, Bool}
 use Rattle.std.proofs.Common.{Option, Some, arith}
 use Rattle.fx_fixed.specs.Polynomial.{Expr, var, ◌⊞◌, ◌⊠◌, ◌⊟◌}
 use Rattle.fx_fixed.proofs.Ring.{ring, one-*ℤ}
@@ -51,12 +51,12 @@ after_step s p q areas step sum h d e = grind (arith, signed_linear, h, d, e)
 pub small_after : (s : Piece) (p q : Place) (areas step : Weights) → AreSided (span_of s) p areas → IsStep (span_of s) p q step
     → IsNear q.x → IsNear q.y → AreSmall (areas.u +ℤ step.u) (areas.v +ℤ step.v) (areas.w +ℤ step.w)
 small_after s p q areas step h d nx ny =
-    let n = areas_near s.a s.b s.c q nx ny in
+    let n = areas_near s.a s.b s.c q (omega (arith, signed_linear, nx), omega (arith, signed_linear, nx)) ny in
     let e = s.c.y -ℤ s.a.y in
     record {
-      u = subst (IsWithin 140737488355328) (d.u ∙ ap (λ z. z +ℤ step.u) (sym h.u)) (sign_times 140737488355328 e _ n.0);
-      v = subst (IsWithin 140737488355328) (d.v ∙ ap (λ z. z +ℤ step.v) (sym h.v)) (sign_times 140737488355328 e _ n.1);
-      w = subst (IsWithin 140737488355328) (d.w ∙ ap (λ z. z +ℤ step.w) (sym h.w)) (sign_times 140737488355328 e _ n.2);
+      u = subst (IsWithin (2 ^ 55)) (d.u ∙ ap (λ z. z +ℤ step.u) (sym h.u)) (sign_times (2 ^ 55) e _ n.0);
+      v = subst (IsWithin (2 ^ 55)) (d.v ∙ ap (λ z. z +ℤ step.v) (sym h.v)) (sign_times (2 ^ 55) e _ n.1);
+      w = subst (IsWithin (2 ^ 55)) (d.w ∙ ap (λ z. z +ℤ step.w) (sym h.w)) (sign_times (2 ^ 55) e _ n.2);
     }
 
 -- ---- steps

@@ -11,7 +11,7 @@ use fx_winding::{Piece, Point, difference, turned};
 /// By how much the area of a column's point with two points changes from row to row.
 pub(crate) fn lift_of(p: Point, q: Point) -> i64
     ensures value { result ≡ pos 128 *ℤ (q.x -ℤ p.x) }
-    ensures size { IsWithin (2 ^ 30) result }
+    ensures size { IsWithin (2 ^ 38) result }
 {
     128 * difference(q.x, p.x)
 }
@@ -21,7 +21,7 @@ pub(crate) fn side_above(piece: &Piece, strip: Strip, start: i64) -> i64
     requires start { start ≡ side (place_of piece.now.a) (place_of piece.now.c) (place_at strip 0) }
     ensures value { result ≡
         side (place_of piece.now.a) (place_of piece.now.c) (centre (strip.base +ℤ pos 0) (strip.row +ℤ pos 1)) }
-    ensures size { IsWithin (2 ^ 48) result }
+    ensures size { IsWithin (2 ^ 56) result }
 {
     start + turned(difference(piece.c.y, piece.a.y), lift_of(piece.c, piece.a))
 }

@@ -8,6 +8,6 @@ ghost use Rattle.fx_fixed.specs.Ranges.{IsWithin};
 pub(crate) struct Across {
     pub first: i32,
     pub end: i32,
-    ghost near_first: { IsWithin (2 ^ 16) first },
-    ghost near_end: { IsWithin (2 ^ 16) end },
+    ghost near_first: { IsWithin (2 ^ 23) first },
+    ghost near_end: { IsWithin (2 ^ 23) end },
 }

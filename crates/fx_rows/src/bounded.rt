@@ -54,7 +54,7 @@ pub(crate) fn rise_of(piece: &Piece) -> Rise
 /// The x of the lower end of a piece's chord.
 #[inline(always)]
 pub(crate) fn foot_x(piece: &Piece) -> i32
-    ensures near { IsWithin (2 ^ 22) result }
+    ensures near { IsWithin (2 ^ 30) result }
     ensures rising { piece.now.a.y <ℤ piece.now.c.y → result ≡ piece.now.a.x }
     ensures falling { piece.now.c.y ≤ℤ piece.now.a.y → result ≡ piece.now.c.x }
 {
@@ -68,7 +68,7 @@ pub(crate) fn foot_x(piece: &Piece) -> i32
 /// The x of the upper end of a piece's chord.
 #[inline(always)]
 pub(crate) fn head_x(piece: &Piece) -> i32
-    ensures near { IsWithin (2 ^ 22) result }
+    ensures near { IsWithin (2 ^ 30) result }
     ensures rising { piece.now.a.y <ℤ piece.now.c.y → result ≡ piece.now.c.x }
     ensures falling { piece.now.c.y ≤ℤ piece.now.a.y → result ≡ piece.now.a.x }
 {

@@ -5,6 +5,7 @@ ghost use Rattle.std.specs.Prelude.{◌≡◌, ◌⊎◌, ℕ, ◌+◌, ◌*◌,
 ghost use Rattle.fx_fixed.specs.Ranges.{IsWithin};
 ghost use Rattle.fx_rows.specs.inner.Bulging.{HasLine, IsLineTo, IsLineFrom, IsBeyond, IsBulge};
 ghost use Rattle.fx_winding.specs.Frames.{HasMargin, IsFrom};
+ghost use Rattle.fx_winding.specs.Near.{IsNear};
 ghost use Rattle.fx_winding.specs.Notes.{words_noted as words_noted_of, IsNotedAcross, IsNotedUp};
 ghost use Rattle.fx_winding.specs.Winding.{span_of};
 ghost use Rattle.fx_rows.specs.inner.Bands.{bounded_span, AreInner};
@@ -29,8 +30,8 @@ use fx_winding::{Frame, Piece, Point, Tally, first_from, words_noted};
 /// Whether a line of centres comes from x on and up to y.
 #[inline(always)]
 pub(crate) fn has_line(x: i32, y: i32) -> bool
-    requires near_x { IsWithin (2 ^ 22) x }
-    requires near_y { IsWithin (2 ^ 22) y }
+    requires near_x { IsWithin (2 ^ 30) x }
+    requires near_y { IsWithin (2 ^ 30) y }
     ensures { IsTrue result ↔ HasLine x y }
 {
     first_from(x) < first_from(y + 1)
@@ -39,9 +40,9 @@ pub(crate) fn has_line(x: i32, y: i32) -> bool
 /// Whether x is below both of two values, and a line of centres comes from it on and up to both.
 #[inline(always)]
 fn has_line_to(x: i32, y: i32, z: i32) -> bool
-    requires near_x { IsWithin (2 ^ 22) x }
-    requires near_y { IsWithin (2 ^ 22) y }
-    requires near_z { IsWithin (2 ^ 22) z }
+    requires near_x { IsWithin (2 ^ 30) x }
+    requires near_y { IsWithin (2 ^ 30) y }
+    requires near_z { IsWithin (2 ^ 30) z }
     ensures { IsTrue result ↔ IsLineTo x y z }
 {
     if y.min(z) <= x {
@@ -56,9 +57,9 @@ fn has_line_to(x: i32, y: i32, z: i32) -> bool
 /// Whether y is above both of two values, and a line of centres comes from both on and up to it.
 #[inline(always)]
 fn has_line_from(x: i32, z: i32, y: i32) -> bool
-    requires near_x { IsWithin (2 ^ 22) x }
-    requires near_y { IsWithin (2 ^ 22) y }
-    requires near_z { IsWithin (2 ^ 22) z }
+    requires near_x { IsWithin (2 ^ 30) x }
+    requires near_y { IsWithin (2 ^ 30) y }
+    requires near_z { IsWithin (2 ^ 30) z }
     ensures { IsTrue result ↔ IsLineFrom x z y }
 {
     if y <= x.max(z) {
@@ -73,9 +74,9 @@ fn has_line_from(x: i32, z: i32, y: i32) -> bool
 /// Whether a line of centres comes between a control value and both end values, or is at one of them.
 #[inline(always)]
 fn is_beyond(a: i32, b: i32, c: i32) -> bool
-    requires near_a { IsWithin (2 ^ 22) a }
-    requires near_b { IsWithin (2 ^ 22) b }
-    requires near_c { IsWithin (2 ^ 22) c }
+    requires near_a { IsWithin (2 ^ 30) a }
+    requires near_b { IsWithin (2 ^ 30) b }
+    requires near_c { IsWithin (2 ^ 30) c }
     ensures { IsTrue result ↔ IsBeyond a b c }
 {
     if has_line_to(b, a, c) {
@@ -273,6 +274,7 @@ pub(crate) fn note_all_up(
     up: &mut [u32],
     tally: &mut Tally,
 )
+    requires near { IsNear piece.now }
     requires margin { HasMargin frame }
     requires room { length up.old ≡ (frame.height + 1) * words_noted_of frame.width }
     ensures noted { rows.first ≡ 0 → (r : ℕ) → r ≤ frame.height → IsNotedUp (span_of piece.now) frame up.new r }

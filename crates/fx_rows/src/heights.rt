@@ -48,7 +48,7 @@ pub(crate) fn band_of(frame: Frame, rows: RowRange) -> Frame
 
 /// How many rows of a frame are below a row of the plane.
 fn rows_below(frame: Frame, row: i32) -> u32
-    requires { IsWithin (2 ^ 15) row }
+    requires { IsWithin (2 ^ 23) row }
     ensures { IsSplit (λ r. (frame.bottom +ℤ pos r) <ℤ row) (λ r. row ≤ℤ (frame.bottom +ℤ pos r)) frame.height result }
 {
     if row <= frame.bottom {
@@ -104,8 +104,8 @@ fn has_rows(frame: Frame, low: i32, past: i32) -> bool
 /// Nearly all others lie within the frame, so that no end of it comes between.
 #[tactic(auto, using(fx_fixed::proofs::Linear::signed_linear))]
 fn rows_in(frame: Frame, low: i32, past: i32) -> RowRange
-    requires low { IsWithin (2 ^ 15) low }
-    requires past { IsWithin (2 ^ 15) past }
+    requires low { IsWithin (2 ^ 23) low }
+    requires past { IsWithin (2 ^ 23) past }
     ensures within { result.end ≤ frame.height }
     ensures below { (r : ℕ) → r < result.first → (frame.bottom +ℤ pos r) <ℤ low }
     ensures rest { (r : ℕ) → result.end ≤ r → r < frame.height → past ≤ℤ (frame.bottom +ℤ pos r) }

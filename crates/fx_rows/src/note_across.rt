@@ -23,7 +23,7 @@ use fx_winding::{Frame, Piece, Tally, first_from, set_bit, words_noted};
 /// The first column of a frame whose centres do not lie left of x, or the number of columns.
 #[inline(always)]
 pub(crate) fn column_from(frame: Frame, x: i32) -> u32
-    requires { IsWithin (2 ^ 22) x }
+    requires { IsWithin (2 ^ 30) x }
     ensures { IsSplit (λ k. column_of frame k <ℤ x) (λ k. x ≤ℤ column_of frame k) frame.width result }
 {
     columns_under(frame, first_from(x))

@@ -51,7 +51,7 @@ fn note_columns(frame: Frame, row: u32, columns: Reach, up: &mut [u32])
 /// of the column before the frame's left one, and left of the column after its last.
 #[inline(always)]
 fn columns_at(frame: Frame, x: i32) -> Reach
-    requires near { IsWithin (2 ^ 22) x }
+    requires near { IsWithin (2 ^ 30) x }
     requires left { (pos 128 *ℤ (frame.left -ℤ pos 1) +ℤ pos 64) <ℤ x }
     requires right { x <ℤ (pos 128 *ℤ (frame.left +ℤ pos frame.width) +ℤ pos 64) }
     ensures { AreAt frame x result }

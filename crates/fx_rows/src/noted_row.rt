@@ -164,7 +164,7 @@ fn note_place(
     tally: &mut Tally,
 )
     requires part { IsRowPart (span_of piece.now) line.row line.frame part.now }
-    requires near { IsWithin (2 ^ 22) x }
+    requires near { IsWithin (2 ^ 30) x }
     requires room { line.first + line.frame.width * line.step < 32 * length bits.old }
     ensures noted { (k : ℕ) → 0 < k → k < line.frame.width → (left_at line.frame line.row k).x <ℤ x →
         x <ℤ (right_at line.frame line.row k).x →

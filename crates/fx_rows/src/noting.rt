@@ -6,6 +6,7 @@ use fx_winding::{Frame, Piece, Tally};
 /// What is noted while a piece is added to the rows of a band, which are those of a frame from one to before another.
 pub(crate) trait Noting {
     ghost use Rattle.std.specs.Prelude.{◌≢◌, ℕ, ◌+◌, ◌-◌, ◌*◌, ◌<◌, ◌≤◌};
+    ghost use Rattle.fx_winding.specs.Near.{IsNear};
     ghost use Rattle.fx_winding.specs.Winding.{span_of};
     ghost use Rattle.fx_winding.specs.declared.frame.Frame.{Frame};
     ghost use Rattle.fx_rows.specs.inner.Placing.{AreMetIn};
@@ -31,6 +32,7 @@ pub(crate) trait Noting {
     /// were told, and the rows below the band are noted.
     fn note(&mut self, piece: &Piece, frame: Frame, rows: RowRange, met: Met, tally: &mut Tally)
         requires frame { Says self.old (of_frame frame) }
+        requires near { IsNear piece.now }
         requires rows { rows.end ≤ frame.height }
         requires some { rows.first < rows.end }
         requires met { AreMetIn (span_of piece.now) frame rows.first rows.end met }

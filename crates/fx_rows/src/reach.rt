@@ -15,7 +15,7 @@ pub(crate) struct Reach {
 
 /// How many columns of a frame are before a column of the plane.
 pub(crate) fn columns_under(frame: Frame, col: i32) -> u32
-    requires { IsWithin (2 ^ 16) col }
+    requires { IsWithin (2 ^ 23) col }
     ensures { IsSplit (λ k. (frame.left +ℤ pos k) <ℤ col) (λ k. col ≤ℤ (frame.left +ℤ pos k)) frame.width result }
 {
     if col <= frame.left {

@@ -13,9 +13,9 @@ use Rattle.fx_rows.specs.inner.Arcs.{IsTurned, MissesCentres}
 
 -- areas that the code can hold
 pub record AreSmall (x y z : ℤ) : Type 0 where
-  pub u : IsWithin (2 ^ 47) x
-  pub v : IsWithin (2 ^ 47) y
-  pub w : IsWithin (2 ^ 47) z
+  pub u : IsWithin (2 ^ 55) x
+  pub v : IsWithin (2 ^ 55) y
+  pub w : IsWithin (2 ^ 55) z
 
 -- areas after a step
 pub record IsSum (areas step sum : Weights) : Type 0 where

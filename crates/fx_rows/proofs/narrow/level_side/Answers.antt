@@ -1,4 +1,4 @@
-use Rattle.std.proofs.Common.{◌≡◌, ◌∙◌, ℤ, ap, pos, ◌+ℤ◌, ◌*ℤ◌, ◌<ℤ◌, arith, w64, to_z, of_z}
+use Rattle.std.proofs.Common.{◌≡◌, ◌∙◌, ℤ, ap, ◌^◌, pos, ◌+ℤ◌, ◌*ℤ◌, ◌<ℤ◌, arith, w64, to_z, of_z}
 use Rattle.fx_fixed.proofs.Linear.{signed_linear}
 use Rattle.fx_fixed.specs.Ranges.{IsWithin}
 use Rattle.fx_winding.specs.Winding.{span_of, sign}
@@ -7,7 +7,7 @@ use Rattle.fx_rows.proofs.Narrows.{narrowed_beyond, narrowed_same, level_weight,
 use Rattle.fx_rows.proofs.narrow.level_side.Goals as goal
 
 -- the weight without its copies
-weight_is : (areas : Weights) (total weight : ℤ) → total ≡ areas.u +ℤ areas.v +ℤ areas.w → IsWithin 562949953421312 total
+weight_is : (areas : Weights) (total weight : ℤ) → total ≡ areas.u +ℤ areas.v +ℤ areas.w → IsWithin (2 ^ 57) total
     → weight ≡ sign (to_z w64 (of_z w64 total)) *ℤ to_z w64 (of_z w64 areas.v)
     → weight ≡ sign (areas.u +ℤ areas.v +ℤ areas.w) *ℤ areas.v
 weight_is areas total weight is size e =

@@ -5,8 +5,8 @@ use Rattle.fx_rows.proofs.Touching.{gap_without_copies}
 use Rattle.fx_rows.proofs.search.gap.Goals as goal
 use mir.Syntax.{w128}
 
-size_of : (x y : ℤ) → IsWithin (2 ^ 96) x → IsWithin (2 ^ 96) y
-    → IsWithin (2 ^ 99)
+size_of : (x y : ℤ) → IsWithin (2 ^ 112) x → IsWithin (2 ^ 112) y
+    → IsWithin (2 ^ 115)
     (to_z w128 (of_z w128 (to_z w128 (of_z w128 (pos 4 *ℤ to_z w128 (of_z w128 x))) -ℤ to_z w128 (of_z w128 y))))
 size_of x y hx hy =
     let a : to_z w128 (of_z w128 (pos 4 *ℤ to_z w128 (of_z w128 x))) ≡ pos 4 *ℤ x = omega (arith, signed) in
@@ -15,7 +15,7 @@ size_of x y hx hy =
     let f = (λ i. to_z w128 (of_z w128 (a i -ℤ b i))) ∙ e in
     (omega (arith, signed, f), omega (arith, signed, f))
 
-copy : (z : ℤ) → IsWithin (2 ^ 48) z → to_z w64 (of_z w64 z) ≡ z
+copy : (z : ℤ) → IsWithin (2 ^ 56) z → to_z w64 (of_z w64 z) ≡ z
 copy z h = omega (arith, signed_linear)
 
 pub returns-clause-value : goal.returns-clause-value

@@ -16,7 +16,7 @@ overflow_mul-result c = (step_kept c).product_fits
 pub overflow_add-result : goal.overflow_add-result
 overflow_add-result c = (step_kept c).sum_fits
 
-moved_within : (s t : ℤ) (k : ℕ) → k < 8194 → IsWithin (2 ^ 47) s → IsWithin (2 ^ 31) t → IsWithin (2 ^ 48) (s +ℤ pos k *ℤ t)
+moved_within : (s t : ℤ) (k : ℕ) → k < 8194 → IsWithin (2 ^ 55) s → IsWithin (2 ^ 31) t → IsWithin (2 ^ 56) (s +ℤ pos k *ℤ t)
 moved_within s t k few hs ht =
     let p = product_within 8194 (2 ^ 31) (pos k) t (omega (arith, signed_linear), omega (arith, signed_linear)) ht in
     (omega (arith, signed_linear, p), omega (arith, signed_linear, p))

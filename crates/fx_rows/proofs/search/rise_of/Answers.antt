@@ -4,11 +4,11 @@ use Rattle.fx_fixed.specs.Ranges.{IsWithin}
 use Rattle.fx_rows.proofs.search.rise_of.Goals as goal
 use mir.Syntax.{w128}
 
-copied : (z : ℤ) → IsWithin (2 ^ 98) z → to_z w128 (of_z w128 z) ≡ z
+copied : (z : ℤ) → IsWithin (2 ^ 114) z → to_z w128 (of_z w128 z) ≡ z
 copied z h = omega (arith, signed_linear)
 
 -- the sum without its copies
-sum_without_copies : (x y z : ℤ) → IsWithin (2 ^ 94) x → IsWithin (2 ^ 94) y → IsWithin (2 ^ 94) z
+sum_without_copies : (x y z : ℤ) → IsWithin (2 ^ 110) x → IsWithin (2 ^ 110) y → IsWithin (2 ^ 110) z
     → to_z w128 (of_z w128 (to_z w128 (of_z w128
     (pos 4 *ℤ to_z w128 (of_z w128 (to_z w128 (of_z w128 x) +ℤ to_z w128 (of_z w128 y))))) +ℤ
     to_z w128 (of_z w128 (pos 2 *ℤ to_z w128 (of_z w128 z))))) ≡ pos 4 *ℤ (x +ℤ y) +ℤ pos 2 *ℤ z
@@ -33,7 +33,7 @@ returns-clause-value c =
     c.wide_product-2.ensures.size c.wide_product-3.ensures.size
     ∙ (λ i. pos 4 *ℤ (x i +ℤ y i) +ℤ pos 2 *ℤ (z i))
   where
-    copy : (t : ℤ) → IsWithin (2 ^ 47) t → to_z w64 (of_z w64 t) ≡ t
+    copy : (t : ℤ) → IsWithin (2 ^ 55) t → to_z w64 (of_z w64 t) ≡ t
     copy t h = omega (arith, signed_linear)
 
     x : c.wide_product.result ≡ c.args.g.u *ℤ c.args.g.step_w

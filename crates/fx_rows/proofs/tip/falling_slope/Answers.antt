@@ -6,10 +6,10 @@ use Rattle.fx_winding.specs.Winding.{place_of}
 use Rattle.fx_rows.proofs.tip.falling_slope.Goals as goal
 use mir.Syntax.{w128}
 
-negated : (z : ℤ) → IsWithin (2 ^ 97) z → to_z w128 (of_z w128 (pos 0 -ℤ to_z w128 (of_z w128 z))) ≡ neg_ℤ z
+negated : (z : ℤ) → IsWithin (2 ^ 113) z → to_z w128 (of_z w128 (pos 0 -ℤ to_z w128 (of_z w128 z))) ≡ neg_ℤ z
 negated z h = omega (arith, signed_linear)
 
-negated_fits : (z : ℤ) → IsWithin (2 ^ 97) z → FitsSigned w128 (pos 0 -ℤ to_z w128 (of_z w128 z))
+negated_fits : (z : ℤ) → IsWithin (2 ^ 113) z → FitsSigned w128 (pos 0 -ℤ to_z w128 (of_z w128 z))
 negated_fits z h = omega (arith, signed_linear)
 
 pub overflow_sub-result : goal.overflow_sub-result
