@@ -12,7 +12,7 @@ use Rattle.fx_winding.specs.Winding.{span_of}
 use Rattle.fx_outline.specs.declared.points.OutlinePoint.{OutlinePoint}
 use Rattle.fx_contour.specs.Contours.{spans_of, IsInReach}
 use Rattle.fx_contour.specs.Curve.{doubled_of}
-use Rattle.fx_contour.proofs.Drawing.{of_curves, point_with}
+use Rattle.fx_contour.proofs.Drawing.{any_of_curves, point_with}
 use Rattle.fx_contour.proofs.Hull.{IsOfEnds}
 use Rattle.fx_contour.proofs.Outside.{either}
 
@@ -45,7 +45,7 @@ not_far p (x, y) h = elim h [
 near_spans : (ends : List ℕ) (points : List OutlinePoint) → All IsInReach points → All (HasAll IsNearPlace) (spans_of ends points)
 near_spans ends points reach = elim (either IsNearPlace IsFar near_or_far (spans_of ends points)) [
   | inl near ↦ near
-  | inr far ↦ absurd (point_with IsFar ⊥ points reach (λ p k l. not_far p k l) (of_curves IsFar far_of_ends 0 ends points far))
+  | inr far ↦ absurd (point_with IsFar ⊥ points reach (λ p k l. not_far p k l) (any_of_curves IsFar far_of_ends 0 ends points far))
 ]
 
 of_spans : (made : List Piece) → All (HasAll IsNearPlace) (map span_of made) → All IsNear made
