@@ -29,9 +29,9 @@ pub fn piece(curve: Curve) -> Piece {
     }
 }
 
-/// Adds a piece to a list, unless it is full.
+/// Adds a piece to a list, unless it is full or the piece lies too far out.
 pub fn add(pieces: &mut Pieces, piece: Piece) -> Result<(), AllocError> {
-    if pieces.len() < 65_536 {
+    if pieces.len() < 65_536 && piece.is_near() {
         pieces.push(piece)?;
     }
     Ok(())

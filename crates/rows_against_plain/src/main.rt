@@ -90,10 +90,13 @@ fn are_same(one: &Bitmap, other: &Bitmap, frame: Frame) -> bool {
     true
 }
 
-/// Adds a piece, if the list has room.
+/// Adds a piece, if the list has room and can hold it.
 fn add(pieces: &mut Pieces, piece: Piece) -> Result<()> {
     if pieces.len() >= MOST_PIECES {
         bail!("more than {MOST_PIECES} pieces");
+    }
+    if !piece.is_near() {
+        bail!("a piece too far out");
     }
     Ok(pieces.push(piece)?)
 }

@@ -75,12 +75,13 @@ impl Random {
             let is_arc = self.below(2) == 0;
             let drawn = self.after(if is_arc { control } else { before }, here);
             let end = if k + 1 == count { start } else { drawn };
-            if pieces.len() < MOST_PIECES {
-                pieces.push(Piece {
-                    a: point(here),
-                    b: if is_arc { Some(point(control)) } else { None },
-                    c: point(end),
-                })?;
+            let piece = Piece {
+                a: point(here),
+                b: if is_arc { Some(point(control)) } else { None },
+                c: point(end),
+            };
+            if pieces.len() < MOST_PIECES && piece.is_near() {
+                pieces.push(piece)?;
             }
             before = here;
             here = end;
@@ -103,12 +104,13 @@ impl Random {
             _ => (far, Some(b), Some((b.0.wrapping_add(by), b.1))),
         };
         'pieces: for (from, over, to) in [(a, there, c), (c, back, a)] {
-            if pieces.len() < MOST_PIECES {
-                pieces.push(Piece {
-                    a: point(from),
-                    b: over.map(point),
-                    c: point(to),
-                })?;
+            let piece = Piece {
+                a: point(from),
+                b: over.map(point),
+                c: point(to),
+            };
+            if pieces.len() < MOST_PIECES && piece.is_near() {
+                pieces.push(piece)?;
             }
         }
         Ok(())

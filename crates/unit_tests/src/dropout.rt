@@ -74,8 +74,9 @@ fn segments(rt: HostRuntime) {
 fn pieces_of(alloc: Global, curves: &[Curve]) -> Result<Pieces, AllocError> {
     let mut pieces = Pieces::new(alloc);
     for curve in curves {
-        if pieces.len() < 65_536 {
-            pieces.push(drawn(curve))?;
+        let piece = drawn(curve);
+        if pieces.len() < 65_536 && piece.is_near() {
+            pieces.push(piece)?;
         }
     }
     Ok(pieces)
