@@ -36,8 +36,8 @@ half_beyond a b h = by_lt_z a b (λ k. grind (arith, ints, h, k)) (λ k. grind (
 far_of_ends : IsOfEnds IsFar
 far_of_ends p q h = grind (arith, ints, h, half_beyond p.x q.x, half_beyond p.y q.y)
 
-not_far : (p : OutlinePoint) → IsInReach p → ¬ (IsFar (doubled_of p))
-not_far p (x, y) h = elim h [
+reached_not_far : (p : OutlinePoint) → IsInReach p → ¬ (IsFar (doubled_of p))
+reached_not_far p (x, y) h = elim h [
   | inl a ↦ elim a [ inl b ↦ omega (arith, ints, x, b) | inr b ↦ omega (arith, ints, x, b) ]
   | inr a ↦ elim a [ inl b ↦ omega (arith, ints, y, b) | inr b ↦ omega (arith, ints, y, b) ]
 ]
@@ -45,7 +45,7 @@ not_far p (x, y) h = elim h [
 near_spans : (ends : List ℕ) (points : List OutlinePoint) → All IsInReach points → All (HasAll IsNearPlace) (spans_of ends points)
 near_spans ends points reach = elim (either IsNearPlace IsFar near_or_far (spans_of ends points)) [
   | inl near ↦ near
-  | inr far ↦ absurd (point_with IsFar ⊥ points reach (λ p k l. not_far p k l) (any_of_curves IsFar far_of_ends 0 ends points far))
+  | inr far ↦ absurd (point_with IsFar ⊥ points reach reached_not_far (any_of_curves IsFar far_of_ends 0 ends points far))
 ]
 
 of_spans : (made : List Piece) → All (HasAll IsNearPlace) (map span_of made) → All IsNear made

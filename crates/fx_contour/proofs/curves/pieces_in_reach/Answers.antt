@@ -36,9 +36,10 @@ contours-preserved c =
 pub of_list-requires-clause-near : goal.of_list-requires-clause-near
 of_list-requires-clause-near c =
     let o = c.args.outline.now in
-    near_pieces c.contours.made.items o.ends.items o.points.items c.requires.reach
-    (gather_end c.contours.made.items c.contours.start o.ends.items c.contours.end-index o.points.items c.contours.invariant.gathered
-    (let ends = ap length c.deref-end-items.ensures.value in omega arith))
+    let ends = ap length c.deref-end-items.ensures.value in
+    let made = gather_end c.contours.made.items c.contours.start o.ends.items c.contours.end-index o.points.items
+    c.contours.invariant.gathered (omega arith) in
+    near_pieces c.contours.made.items o.ends.items o.points.items c.requires.reach made
 
 pub returns-clause-closed : goal.returns-clause-closed
 returns-clause-closed c =

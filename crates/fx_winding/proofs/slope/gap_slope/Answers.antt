@@ -5,9 +5,9 @@ use Rattle.fx_fixed.specs.Ranges.{IsWithin}
 use Rattle.fx_winding.proofs.slope.gap_slope.Goals as goal
 use mir.Syntax.{w128}
 
-whole : (x y z : ℤ) → IsWithin (2 ^ 110) x → IsWithin (2 ^ 110) y → IsWithin (2 ^ 110) z → to_z w128 (of_z w128 (to_z w128 (of_z w128
-    (pos 2 *ℤ to_z w128 (of_z w128 (to_z w128 (of_z w128 x) +ℤ to_z w128 (of_z w128 y))))) +ℤ to_z w128 (of_z w128 z))) ≡
-    pos 2 *ℤ (x +ℤ y) +ℤ z
+whole : (x y z : ℤ) → IsWithin (2 ^ 110) x → IsWithin (2 ^ 110) y → IsWithin (2 ^ 110) z
+    → to_z w128 (of_z w128 (to_z w128 (of_z w128 (pos 2 *ℤ to_z w128
+    (of_z w128 (to_z w128 (of_z w128 x) +ℤ to_z w128 (of_z w128 y))))) +ℤ to_z w128 (of_z w128 z))) ≡ pos 2 *ℤ (x +ℤ y) +ℤ z
 whole x y z hx hy hz = omega (arith, signed)
 
 doubled : (x y : ℤ) → IsWithin (2 ^ 110) x → IsWithin (2 ^ 110) y
