@@ -1,11 +1,14 @@
 -- What is told and noted of pieces while they are added to the rows of a band.
-use Rattle.std.specs.Prelude.{◌≡◌, ℕ, zero, suc, ◌+◌, ◌*◌, ◌≤◌, ◌<◌, pos, ◌+ℤ◌, List, All, length, get_or}
+use Rattle.std.specs.Prelude.{◌≡◌, ℕ, zero, suc, ◌+◌, ◌*◌, ◌≤◌, ◌<◌, pos, ◌+ℤ◌, List, All, map, length, get_or}
 use Rattle.fx_winding.specs.declared.frame.Frame.{Frame}
 use Rattle.fx_winding.specs.Bitmaps.{word_bit}
 use Rattle.fx_winding.specs.Notes.{pixel_number, words_noted, IsNotedAcross, IsNotedUp}
-use Rattle.fx_winding.specs.Winding.{Span, IsOn}
+use Rattle.fx_winding.specs.Limits.{most_pieces}
+use Rattle.fx_winding.specs.Near.{IsNear}
+use Rattle.fx_winding.specs.Winding.{Span, span_of, IsOn}
+use Rattle.fx_winding.specs.declared.point.Piece.{Piece}
 use Rattle.fx_rows.specs.declared.band.Band.{Band}
-use Rattle.fx_rows.specs.inner.Bands.{IsBandAdded}
+use Rattle.fx_rows.specs.inner.Bands.{IsBandAdded, IsClear}
 use Rattle.fx_rows.specs.inner.Heights.{height_of}
 use Rattle.fx_rows.specs.inner.Lines.{left_at, right_at, IsMetTo}
 use Rattle.fx_rows.specs.inner.Points.{IsInner}
@@ -57,6 +60,17 @@ pub record AreRowsNoted (Says : Saying → Type 0) (s : Span) (to : ℕ) : Type 
 -- the same of each piece
 abbrev pub AreNotedIn : (Saying → Type 0) → List Span → ℕ → Type 0
 AreNotedIn Says ss to = All (λ s. AreRowsNoted Says s to) ss
+
+-- a band without anything added, which is some rows of a frame, comes next for the pieces of a list: they are noted in the rows below
+-- it
+pub record IsNext (Says : Saying → Type 0) (pieces : List Piece) (f : Frame) (from to : ℕ) (b : Band) : Type 0 where
+  pub few : length pieces ≤ most_pieces
+  pub near : All IsNear pieces
+  pub clear : IsClear b
+  pub part : IsPartOf f from to b.frame
+  pub some : from < to
+  pub of : Says (of_frame f)
+  pub before : AreNotedIn Says (map span_of pieces) from
 
 -- a number of tests that are made for the first row alone
 abbrev pub with_first : ℕ → ℕ → ℕ

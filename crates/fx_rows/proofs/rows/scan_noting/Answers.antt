@@ -1,11 +1,12 @@
-use Rattle.std.proofs.Common.{◌≡◌, ◌∙◌, refl, ap, sym, subst, ℕ, ◌+◌, ◌-◌, ◌*◌, ◌<◌, ◌≤◌, nat_eq, IsTrue, List, [], ◌∷◌, map, take, length, arith}
+use Rattle.std.proofs.Common.{◌≡◌, ◌∙◌, refl, ap, sym, subst, ℕ, ◌+◌, ◌-◌, ◌*◌, ◌<◌, ◌≤◌, nat_eq, IsTrue, List, [], ◌∷◌, All, map, take, length, arith}
 use Rattle.fx_rows.specs.Parts.{digits}
 use Rattle.fx_winding.specs.declared.frame.Frame.{Frame}
 use Rattle.fx_winding.specs.declared.point.Piece.{Piece}
+use Rattle.fx_winding.specs.Near.{IsNear}
 use Rattle.fx_winding.specs.Winding.{span_of}
 use Rattle.fx_winding.specs.Bitmaps.{words_for, IsScanOf}
 use Rattle.fx_rows.specs.inner.Bands.{AreScanned}
-use Rattle.fx_rows.specs.inner.Telling.{IsPartOf}
+use Rattle.fx_rows.specs.inner.Telling.{IsPartOf, of_frame}
 use Rattle.fx_rows.proofs.Banding.{bands_more, tests_fit}
 use Rattle.fx_rows.proofs.Scanning.{scanned_band, scanned_words, scanned_bitmap}
 use Rattle.fx_rows.proofs.rows.scan_noting.Goals as goal
@@ -20,12 +21,18 @@ only_first first end height some within t = grind arith
 none_first : (first w n : ℕ) → n ≡ first * w → first ≡ 0 → n ≡ 0
 none_first first w n e z = grind arith
 
-pub cover_band-requires-clause-part : goal.cover_band-requires-clause-part
-cover_band-requires-clause-part g c =
-    subst (IsPartOf c.args.frame c.bands.from c.band_end.result) (sym c.in_ok-band.ensures.frame) c.band_of.ensures
-
-pub cover_band-requires-clause-before : goal.cover_band-requires-clause-before
-cover_band-requires-clause-before g c = grind (arith, c.as_slice.ensures.value, c.bands.invariant.noted)
+pub cover_band-requires : goal.cover_band-requires
+cover_band-requires g c =
+    let same = c.as_slice.ensures.value in
+    record {
+      few = omega (arith, ap length same, c.as_slice.ensures.few);
+      near = subst (All IsNear) (sym same) c.as_slice.ensures.near;
+      clear = c.in_ok-band.ensures.clear;
+      part = subst (IsPartOf c.args.frame c.bands.from c.band_end.result) (sym c.in_ok-band.ensures.frame) c.band_of.ensures;
+      some = omega arith;
+      of = c.bands.invariant.kept (of_frame c.args.frame) (λ k d l. tt) c.requires;
+      before = grind (arith, same, c.bands.invariant.noted);
+    }
 
 pub returns-in_err-band-clause-count : goal.returns-in_err-band-clause-count
 returns-in_err-band-clause-count g c =
