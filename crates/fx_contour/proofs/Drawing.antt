@@ -1,7 +1,7 @@
 -- The curves of an outline reach as far as its points do, if each contour has two points or more.
 -- For `Extent::of_curves`, `PieceBounds::of_outline`, and the limit in `are_in_reach` and `outline_frame`.
 use Rattle.std.proofs.Common.{subst, ℕ, zero, drop, take, length, neg_ℤ, ◌*ℤ◌, ◌≤ℤ◌, List, Option, arith, drop_of_length-le, IsTrue}
-use Rattle.std.proofs.Common.{◌≡◌, ap, ◌∙◌, suc, ◌+◌, ◌-◌, ◌≤◌, map, ◌⊎◌, inl, inr, ℤ, pos, [], ◌∷◌, Some, None, ◌↔◌, All, Bool}
+use Rattle.std.proofs.Common.{◌≡◌, ap, ◌∙◌, suc, ◌+◌, ◌-◌, ◌≤◌, map, ◌⊎◌, inl, inr, ℤ, pos, [], ◌∷◌, None, ◌↔◌, All, Bool}
 use Rattle.std.proofs.lemmas.Int.{ints}
 use Rattle.std.proofs.lemmas.List.{drop-drop, length-take, length-drop}
 use Rattle.std.proofs.lemmas.List.Elements.{All-nil, All-cons, All-head, All-tail}
@@ -16,7 +16,7 @@ use Rattle.fx_contour.specs.Contours.{contours_from, spans_of, farthest, IsInRea
 use Rattle.fx_contour.specs.Frames.{HaveAny}
 use Rattle.fx_contour.specs.Bounds.{Side, left_side, right_side, bottom_side, top_side, IsOut, IsLeast, Extends, DoesReach}
 use Rattle.fx_contour.specs.Bounds.{HavePoint, HaveTwo, KeepsLimit, AreBoundsOf}
-use Rattle.fx_contour.proofs.Hull.{hull_of, of_curve, have_either, have_left, have_right}
+use Rattle.fx_contour.proofs.Hull.{IsOfEnds, out_of_ends, hull_of, of_curve, have_either, have_left, have_right}
 
 -- ---- parts of a list of points
 
@@ -40,16 +40,15 @@ take_or_drop P (suc n) (x ∷ xs) (inr h) = elim (take_or_drop P n xs h) [ inl a
 
 -- ---- all contours
 
--- a place of the curves has a point as far out
-pub of_curves : (side : Side) (t : ℤ) (start : ℕ) (ends : List ℕ) (points : List OutlinePoint)
-    → HaveAny (IsOut side t) (joined (map curve_of (contours_from start ends points))) → HavePoint (IsOut side t) points
-of_curves side t start [] points h = absurd h
-of_curves side t start (e ∷ es) points h =
-    let P = IsOut side t in
+-- if a place of the curves has P, a point has
+pub of_curves : (P : Place → Type 0) → IsOfEnds P → (start : ℕ) (ends : List ℕ) (points : List OutlinePoint)
+    → HaveAny P (joined (map curve_of (contours_from start ends points))) → HavePoint P points
+of_curves P d start [] points h = absurd h
+of_curves P d start (e ∷ es) points h =
     let slice = take (e + 1 - start) (drop start points) in
     elim (have_either P (curve_of slice) (joined (map curve_of (contours_from (e + 1) es points))) h) [
-      | inl a ↦ of_drop P start points (of_take P (e + 1 - start) (drop start points) (of_curve side t slice a))
-      | inr b ↦ of_curves side t (e + 1) es points b
+      | inl a ↦ of_drop P start points (of_take P (e + 1 - start) (drop start points) (of_curve P d slice a))
+      | inr b ↦ of_curves P d (e + 1) es points b
     ]
 
 slice_two : (start next : ℕ) (points : List OutlinePoint) → start + 2 ≤ next → next ≤ length points
@@ -84,7 +83,7 @@ pub curves_reach : (reach : Side → ℤ → Type 0) (ends : List ℕ) (points :
     → HaveTwo 0 ends → IsLeast reach (λ P. HavePoint P points) → IsLeast reach (λ P. HaveAny P (spans_of ends points))
 curves_reach reach ends points a two h = record {
   sides = λ side t. (
-    λ k. (h.sides side t).0 (of_curves side t 0 ends points k),
+    λ k. (h.sides side t).0 (of_curves (IsOut side t) (out_of_ends side t) 0 ends points k),
     λ k. to_curves side t 0 ends points a two ((h.sides side t).1 k),
   );
 }
@@ -123,7 +122,8 @@ extent_keeps e points h n = ((left, right), (bottom, top))
 -- the extent of the curves keeps the limit, if the points are within it
 pub curves_keep : (e : Extent) (ends : List ℕ) (points : List OutlinePoint)
     → IsLeast (Extends e) (λ P. HaveAny P (spans_of ends points)) → All IsInReach points → KeepsLimit e
-curves_keep e ends points h n = extent_keeps e points (λ side t k. of_curves side t 0 ends points ((h.sides side t).1 k)) n
+curves_keep e ends points h n = extent_keeps e points
+    (λ side t k. of_curves (IsOut side t) (out_of_ends side t) 0 ends points ((h.sides side t).1 k)) n
 
 -- points that an extent holds are within the limit, if it is
 all_near : (e : Extent) (points : List OutlinePoint) → KeepsLimit e
@@ -167,4 +167,4 @@ pub no_points_no_bounds : (o : Option Extent) (ends : List ℕ) (points : List O
 no_points_no_bounds o ends points s h =
     let P : Option Extent → Type 0 = λ x. IsLeast (DoesReach Extends x) (λ P. HavePoint P points) in
     let g = subst P s h in
-    record { sides = λ side t. (λ k. (g.sides side t).0 (of_curves side t 0 ends points k), λ n. absurd n) }
+    record { sides = λ side t. (λ k. (g.sides side t).0 (of_curves (IsOut side t) (out_of_ends side t) 0 ends points k), λ n. absurd n) }

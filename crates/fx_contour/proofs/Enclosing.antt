@@ -1,7 +1,7 @@
 -- The extent of points, and of the contours of an outline, contour by contour.
 -- For `Extent::with_points`, `Extent::of`, `Extent::with_contour` and `Extent::of_contours`.
 use Rattle.std.proofs.Common.{◌≡◌, sym, subst, ℕ, ◌+◌, ◌-◌, ◌<◌, ◌≤◌, drop, take, length, map, get_or, ◌⊎◌}
-use Rattle.std.proofs.Common.{inl, inr, ℤ, List, ◌∷◌, ◌++◌, Option, Some, None, ◌↔◌, drop_of_length-le, arith}
+use Rattle.std.proofs.Common.{inl, inr, ℤ, List, ◌∷◌, ◌++◌, Option, None, ◌↔◌, drop_of_length-le, arith}
 use Rattle.std.proofs.lemmas.List.{drop_more}
 use Rattle.fx_winding.specs.Area.{Place}
 use Rattle.fx_winding.specs.Winding.{Span}

@@ -1,7 +1,7 @@
 -- Bounding boxes, point by point.
 -- For `PieceBounds` and `Extent` and their loops.
 use Rattle.std.proofs.Common.{◌≡◌, subst, ℕ, ◌+◌, ◌<◌, ◌≤◌, drop, length, map, get_or, ◌⊎◌, inl, inr}
-use Rattle.std.proofs.Common.{ℤ, pos, ◌*ℤ◌, ◌≤ℤ◌, List, [], ◌∷◌, Option, None, Some, IsSomeAnd, drop_of_length-le, arith, ◌↔◌}
+use Rattle.std.proofs.Common.{ℤ, pos, ◌*ℤ◌, ◌≤ℤ◌, List, [], ◌∷◌, Option, None, IsSomeAnd, drop_of_length-le, arith, ◌↔◌}
 use Rattle.std.specs.Int.{int_min, int_max}
 use Rattle.std.proofs.lemmas.Int.{ints, clamps, by_lt_z}
 use Rattle.std.proofs.lemmas.List.{drop_more}

@@ -124,9 +124,8 @@ hull_of side t [] h = absurd (omega arith)
 hull_of side t (p ∷ []) h = absurd (omega arith)
 hull_of side t (p ∷ q ∷ qs) h = (curve_point (IsOut side t) (out_of_ends side t) p q qs, point_curve (IsOut side t) p q qs)
 
--- a place of the curve has a point of the contour as far out
-pub of_curve : (side : Side) (t : ℤ) (points : List OutlinePoint) → HaveAny (IsOut side t) (curve_of points)
-    → HavePoint (IsOut side t) points
-of_curve side t [] n = n
-of_curve side t (p ∷ []) n = absurd n
-of_curve side t (p ∷ q ∷ qs) h = curve_point (IsOut side t) (out_of_ends side t) p q qs h
+-- if a place of the curve has P, a point of the contour has
+pub of_curve : (P : Place → Type 0) → IsOfEnds P → (points : List OutlinePoint) → HaveAny P (curve_of points) → HavePoint P points
+of_curve P d [] n = n
+of_curve P d (p ∷ []) n = absurd n
+of_curve P d (p ∷ q ∷ qs) h = curve_point P d p q qs h

@@ -4,6 +4,7 @@ pub mod Growing
 pub mod Hull
 pub mod Enclosing
 pub mod Drawing
+pub mod Near
 pub mod Framed
 pub mod Walk
 pub mod Gather

@@ -13,7 +13,7 @@ use Rattle.fx_contour.specs.Frames.{HasAny, HaveAny, IsInBoundingBox, IsFrameFor
 pub piece_either : (P Q : Place → Type 0) → ((q : Place) → P q ⊎ Q q) → (s : Span) → HasAll P s ⊎ HasAny Q s
 piece_either P Q d s = grind (arith, d)
 
-either : (P Q : Place → Type 0) → ((q : Place) → P q ⊎ Q q) → (ss : List Span) → All (HasAll P) ss ⊎ HaveAny Q ss
+pub either : (P Q : Place → Type 0) → ((q : Place) → P q ⊎ Q q) → (ss : List Span) → All (HasAll P) ss ⊎ HaveAny Q ss
 either P Q d [] = inl (All-nil (HasAll P))
 either P Q d (s ∷ ss) = grind (arith, piece_either P Q d s, either P Q d ss, All-cons)
 

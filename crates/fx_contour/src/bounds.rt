@@ -26,6 +26,8 @@ pub(crate) struct PieceBounds {
 }
 
 impl PieceBounds {
+    ghost use Rattle.fx_winding.specs.Near.{IsNearPlace, IsNear};
+    ghost use Rattle.fx_winding.specs.Outside.{OptionAll};
     ghost use Rattle.fx_winding.specs.Winding.{place_of, maybe_place_of, span_of};
     ghost use Rattle.fx_contour.specs.Contours.{IsInReach, spans_of};
     ghost use Rattle.fx_contour.specs.Frames.{HasAny, HaveAny};
@@ -34,6 +36,7 @@ impl PieceBounds {
 
     /// The box of one point.
     fn around(p: Point) -> PieceBounds
+        requires { IsWithin (2 ^ 22) p.x }
         ensures left { result.left ≡ p.x }
         ensures right { result.right ≡ p.x }
         ensures bottom { result.bottom ≡ p.y }
@@ -49,6 +52,7 @@ impl PieceBounds {
 
     /// The least box that holds this one and a point.
     fn with_point(self, p: Point) -> PieceBounds
+        requires { IsWithin (2 ^ 22) p.x }
         ensures { Grows (Reaches self) (Reaches result) (λ P. P (place_of p)) }
     {
         PieceBounds {
@@ -61,6 +65,7 @@ impl PieceBounds {
 
     /// The least box that holds this one and the control point, if there is one.
     fn with_control(self, control: Option<Point>) -> PieceBounds
+        requires { OptionAll IsNearPlace (maybe_place_of control) }
         ensures { Grows (Reaches self) (Reaches result) (λ P. IsSomeAnd (maybe_place_of control) P) }
     {
         match control {
@@ -71,6 +76,7 @@ impl PieceBounds {
 
     /// The least box that holds this one and the points of a piece, its control point too.
     fn with_piece(self, piece: &Piece) -> PieceBounds
+        requires { IsNear piece.now }
         ensures { Grows (Reaches self) (Reaches result) (λ P. HasAny P (span_of piece.now)) }
     {
         self.with_point(piece.a)
@@ -80,6 +86,7 @@ impl PieceBounds {
 
     /// The bounding box of all points of the pieces, control points too.
     pub(crate) fn of(pieces: &[Piece]) -> Option<PieceBounds>
+        requires { All IsNear pieces.now }
         ensures { AreBoundsOf result (map span_of pieces.now) }
     {
         if pieces.is_empty() {

@@ -5,6 +5,7 @@ use Rattle.fx_contour.specs.Curve.{curve_of}
 use Rattle.fx_contour.specs.Contours.{contours_from}
 use Rattle.fx_contour.proofs.Gather.{next_within, gather_more, gather_end}
 use Rattle.fx_contour.proofs.Closed.{all_closed}
+use Rattle.fx_contour.proofs.Near.{near_pieces}
 use Rattle.fx_contour.proofs.curves.pieces_in_reach.Goals as goal
 
 pub contour-requires : goal.contour-requires
@@ -31,6 +32,13 @@ contours-preserved c =
           (subst P slice c.add_contour.ensures.spans) (subst Q slice (omega arith));
       room = omega arith;
     }
+
+pub of_list-requires-clause-near : goal.of_list-requires-clause-near
+of_list-requires-clause-near c =
+    let o = c.args.outline.now in
+    near_pieces c.contours.made.items o.ends.items o.points.items c.requires.reach
+    (gather_end c.contours.made.items c.contours.start o.ends.items c.contours.end-index o.points.items c.contours.invariant.gathered
+    (let ends = ap length c.deref-end-items.ensures.value in omega arith))
 
 pub returns-clause-closed : goal.returns-clause-closed
 returns-clause-closed c =

@@ -1,4 +1,4 @@
-use Rattle.std.proofs.Common.{subst, Option, Some, sym}
+use Rattle.std.proofs.Common.{subst, Option, sym}
 use Rattle.fx_contour.specs.declared.extent.Extent.{Extent}
 use Rattle.fx_contour.specs.Curve.{curve_of}
 use Rattle.fx_contour.specs.Frames.{HaveAny}
