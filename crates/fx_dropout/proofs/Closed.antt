@@ -97,7 +97,7 @@ module _ (closing : Closing) (f : Frame) (ss : List Span) (across up old new : L
   next is_up k r = IsNextIn closing ss f is_up (f.left +ℤ pos k) (f.bottom +ℤ pos r)
 
   row_line : NoneOutside f ss → (r : ℕ) → r < f.height
-      → IsLine ss (IsInFrame f) (IsNextChosen closing false ss) (λ i j. IsCovered (centre i j) ss) f.left (f.bottom +ℤ pos r)
+      → IsLine ss (IsInFrame f) (IsNextChosen closing ss) (λ i j. IsCovered (centre i j) ss) f.left (f.bottom +ℤ pos r)
       f.width (λ k. pixel f old k r) (λ k. note f across k r) (λ k. next false k r)
   row_line outside r h = record {
     set = λ n l.
@@ -124,7 +124,7 @@ module _ (closing : Closing) (f : Frame) (ss : List Span) (across up old new : L
   row_closed : NoneOutside f ss → (r n : ℕ) → r < f.height → n < f.width
       → (pixel f given.closed.mid n r ≡ 1) ↔ IsRowSet closing ss f (f.left +ℤ pos n) (f.bottom +ℤ pos r)
   row_closed outside r n h l =
-      line_closed ss (IsInFrame f) (IsNextChosen closing false ss) (λ i j. IsCovered (centre i j) ss) f.left (f.bottom +ℤ pos r)
+      line_closed ss (IsInFrame f) (IsNextChosen closing ss) (λ i j. IsCovered (centre i j) ss) f.left (f.bottom +ℤ pos r)
       f.width _ _ _ (row_line outside r h) n _ l (given.closed.rows r n h (omega (arith, l)))
 
   -- the bits after the last pixel stay 0
@@ -150,7 +150,7 @@ module _ (closing : Closing) (f : Frame) (ss : List Span) (across up old new : L
 
   -- ---- the columns
   column_line : NoneOutside f ss → (k : ℕ) → 0 < f.height → k < f.width
-      → IsLine (map turned_span ss) (λ j i. IsInFrame f i j) (λ j i. IsNextChosen closing true ss i j)
+      → IsLine (map turned_span ss) (λ j i. IsInFrame f i j) (IsNextChosen closing (map turned_span ss))
       (λ j i. IsRowSet closing ss f i j) f.bottom (f.left +ℤ pos k) f.height
       (λ r. pixel f given.closed.mid k r) (λ r. note f up k r) (λ r. next true k r)
   column_line outside k some l = record {
@@ -176,7 +176,7 @@ module _ (closing : Closing) (f : Frame) (ss : List Span) (across up old new : L
   column_closed : NoneOutside f ss → (r k : ℕ) → r < f.height → k < f.width
       → (pixel f new k r ≡ 1) ↔ IsSet closing ss f (f.left +ℤ pos k) (f.bottom +ℤ pos r)
   column_closed outside r k h l =
-      line_closed (map turned_span ss) (λ j i. IsInFrame f i j) (λ j i. IsNextChosen closing true ss i j)
+      line_closed (map turned_span ss) (λ j i. IsInFrame f i j) (IsNextChosen closing (map turned_span ss))
       (λ j i. IsRowSet closing ss f i j) f.bottom (f.left +ℤ pos k) f.height _ _ _ (column_line outside k (omega (arith, h)) l) r _
       h (given.closed.columns r k h (omega (arith, l)))
 

@@ -1,14 +1,12 @@
 pub mod Words
-pub mod Columns
+pub mod Tests
 pub mod WordLines
 pub mod Lines
 pub mod Parts
 pub mod NoneOpen
-pub mod Areas
 mod Closed
 pub mod Counts
 pub mod SetPixels
 pub mod Shifted
-pub mod Steps
-pub mod Runs
-pub mod Sums
+pub mod Stretching
+pub mod Adding

@@ -1,11 +1,10 @@
 -- Between neighbours that drop-out control leaves unset no piece passes (`bridged_no_gap`), and what it sets moves (`set_moved`).
 -- Serves the laws of this crate, and the law `bridged` of fx_raster.
-use Rattle.std.proofs.Common.{◌≡◌, ◌⊎◌, ◌↔◌, inl, inr, refl, subst, ℕ, ℤ, pos, ◌+ℤ◌, ◌-ℤ◌, Bool, true, false, List, map, Any, arith}
+use Rattle.std.proofs.Common.{◌≡◌, ◌⊎◌, ◌↔◌, inl, inr, refl, subst, ℕ, ℤ, pos, ◌+ℤ◌, ◌-ℤ◌, List, [], ◌∷◌, map, Any, arith}
 use Rattle.std.specs.List.Sorted.{IsPermutation}
 use Rattle.std.proofs.Math.Logic.{⊎_map}
-use Rattle.std.proofs.lemmas.List.Sorted.{IsPermutation-sym}
+use Rattle.std.proofs.lemmas.List.Sorted.{IsPermutation-map, IsPermutation-sym}
 use Rattle.fx_fixed.proofs.Linear.{signed_linear}
-use Rattle.fx_winding.specs.Area.{Place}
 use Rattle.fx_winding.specs.Turned.{turned_span}
 use Rattle.fx_winding.specs.Frames.{IsInFrame}
 use Rattle.fx_winding.specs.Meets.{IsMet}
@@ -50,28 +49,26 @@ dropout_adds closing ss f i j = grind (arith, closing, ss, f, i, j)
 
 pub rows_have_no_gap : RowsHaveNoGap
 rows_have_no_gap closing ss f i j h n m a =
-    bridged_no_gap ss (IsInFrame f) (IsNextChosen closing false ss) (λ i j. IsCovered (centre i j) ss) i j h (λ s. n (inl s))
+    bridged_no_gap ss (IsInFrame f) (IsNextChosen closing ss) (λ i j. IsCovered (centre i j) ss) i j h (λ s. n (inl s))
     (λ s. m (inl s)) a
 
 pub columns_have_no_gap : ColumnsHaveNoGap
 columns_have_no_gap closing ss f i j h n m a =
-    bridged_no_gap (map turned_span ss) (λ j i. IsInFrame f i j) (λ j i. IsNextChosen closing true ss i j)
-    (λ j i. IsRowSet closing ss f i j) j i
-    h n m a
+    bridged_no_gap (map turned_span ss) (λ j i. IsInFrame f i j) (IsNextChosen closing (map turned_span ss))
+    (λ j i. IsRowSet closing ss f i j) j i h n m a
 
--- ---- reversed
+-- ---- moved
 -- where the same places are covered
-pub nearer_along : (up : Bool) (ss ts : List Span) (col row i j : ℤ)
-    → ((n : ℕ) → IsCovered (place_on up col row n) ss ↔ IsCovered (place_on up i j n) ts) → IsNextNearer up ss col row
-    → IsNextNearer up ts i j
-nearer_along up ss ts col row i j e h = grind (arith, e, h, count_iff)
+pub nearer_along : (ss ts : List Span) (col row i j : ℤ)
+    → ((n : ℕ) → IsCovered (place_on col row n) ss ↔ IsCovered (place_on i j n) ts) → IsNextNearer ss col row → IsNextNearer ts i j
+nearer_along ss ts col row i j e h = grind (arith, e, h, count_iff)
 
-pub chosen_along : (closing : Closing) (up : Bool) (ss ts : List Span) (col row i j : ℤ)
-    → ((n : ℕ) → IsCovered (place_on up col row n) ss ↔ IsCovered (place_on up i j n) ts)
-    → IsNextChosen closing up ss col row ↔ IsNextChosen closing up ts i j
-chosen_along Lower up ss ts col row i j e = (λ h. h, λ h. h)
-chosen_along Nearer up ss ts col row i j e =
-    (nearer_along up ss ts col row i j e, nearer_along up ts ss i j col row (λ n. ((e n).1, (e n).0)))
+pub chosen_along : (closing : Closing) (ss ts : List Span) (col row i j : ℤ)
+    → ((n : ℕ) → IsCovered (place_on col row n) ss ↔ IsCovered (place_on i j n) ts)
+    → IsNextChosen closing ss col row ↔ IsNextChosen closing ts i j
+chosen_along Lower ss ts col row i j e = (λ h. h, λ h. h)
+chosen_along Nearer ss ts col row i j e =
+    (nearer_along ss ts col row i j e, nearer_along ts ss i j col row (λ n. ((e n).1, (e n).0)))
 
 -- a piece passes between two neighbours of a row
 abbrev pub AreMet : List Span → ℤ → ℤ → Type 0
@@ -136,13 +133,17 @@ pub record KeepsNeighbours (m : ℤ → ℤ) : Type 0 where
 pub stays : KeepsNeighbours (λ i. i)
 stays = record { after = λ i. refl; before = λ i. refl }
 
+-- the gaps of rows, and the pixels chosen for them, moved
+pub record AreRowsMoved (closing : Closing) (m n : ℤ → ℤ) (ss ts : List Span) : Type 0 where
+  pub chosen : IsMoved m n (IsNextChosen closing ss) (IsNextChosen closing ts)
+  pub met : IsMoved m n (AreMet ss) (AreMet ts)
+
 -- pieces and what is inside, moved
 pub record AreMoved (closing : Closing) (m n : ℤ → ℤ) (ss ts : List Span) (In To : ℤ → ℤ → Type 0) : Type 0 where
   pub inside : IsMoved m n In To
-  pub chosen : (up : Bool) → IsMoved m n (IsNextChosen closing up ss) (IsNextChosen closing up ts)
   pub covered : IsMoved m n (λ i j. IsCovered (centre i j) ss) (λ i j. IsCovered (centre i j) ts)
-  pub rows : IsMoved m n (AreMet ss) (AreMet ts)
-  pub columns : IsMoved n m (AreMet (map turned_span ss)) (AreMet (map turned_span ts))
+  pub rows : AreRowsMoved closing m n ss ts
+  pub columns : AreRowsMoved closing n m (map turned_span ss) (map turned_span ts)
 
 -- so what is set is moved
 pub set_moved : (closing : Closing) (m n : ℤ → ℤ) → KeepsNeighbours m → KeepsNeighbours n → (ss ts : List Span)
@@ -150,20 +151,20 @@ pub set_moved : (closing : Closing) (m n : ℤ → ℤ) → KeepsNeighbours m �
 set_moved closing m n km kn ss ts In To moved = record { back = λ i j h. all.back j i h; on = λ i j h. all.on j i h }
   where
     rows : IsMoved m n (IsRowSetIn closing ss In) (IsRowSetIn closing ts To)
-    rows = bridged_moved m n km.after km.before ss ts In To (IsNextChosen closing false ss) (IsNextChosen closing false ts)
-        (λ i j. IsCovered (centre i j) ss) (λ i j. IsCovered (centre i j) ts) moved.inside (moved.chosen false) moved.covered
-        moved.rows
+    rows = bridged_moved m n km.after km.before ss ts In To (IsNextChosen closing ss) (IsNextChosen closing ts)
+        (λ i j. IsCovered (centre i j) ss) (λ i j. IsCovered (centre i j) ts) moved.inside moved.rows.chosen moved.covered
+        moved.rows.met
 
     exchanged : (P Q : ℤ → ℤ → Type 0) → IsMoved m n P Q → IsMoved n m (λ j i. P i j) (λ j i. Q i j)
     exchanged P Q h = record { back = λ j i. h.back i j; on = λ j i. h.on i j }
 
     all : IsMoved n m (λ j i. IsSetIn closing ss In i j) (λ j i. IsSetIn closing ts To i j)
     all = bridged_moved n m kn.after kn.before (map turned_span ss) (map turned_span ts) (λ j i. In i j) (λ j i. To i j)
-        (λ j i. IsNextChosen closing true ss i j) (λ j i. IsNextChosen closing true ts i j) (λ j i. IsRowSetIn closing ss In i j)
-        (λ j i. IsRowSetIn closing ts To i j) (exchanged In To moved.inside)
-        (exchanged (IsNextChosen closing true ss) (IsNextChosen closing true ts) (moved.chosen true))
-        (exchanged (IsRowSetIn closing ss In) (IsRowSetIn closing ts To) rows) moved.columns
+        (IsNextChosen closing (map turned_span ss)) (IsNextChosen closing (map turned_span ts))
+        (λ j i. IsRowSetIn closing ss In i j) (λ j i. IsRowSetIn closing ts To i j) (exchanged In To moved.inside)
+        moved.columns.chosen (exchanged (IsRowSetIn closing ss In) (IsRowSetIn closing ts To) rows) moved.columns.met
 
+-- ---- reversed
 -- what holds of a piece and of the piece reversed alike
 any_reversed : (P : Span → Type 0) → ((s : Span) → P (reversed s) ↔ P s) → (ss ts : List Span) → IsPermutation (map reversed ss) ts
     → Any P ts ↔ Any P ss
@@ -173,35 +174,29 @@ any_reversed P e ss ts h = (
   λ a. any_permutation P (map reversed ss) ts h (any_map reversed P P (λ s. (e s).1) ss a),
 )
 
-any_turned : (P : Span → Type 0) (ss : List Span) → Any P (map turned_span ss) ↔ Any (λ s. P (turned_span s)) ss
-any_turned P ss = (
-  any_unmap turned_span (λ s. P (turned_span s)) P (λ s m. m) ss,
-  any_map turned_span (λ s. P (turned_span s)) P (λ s m. m) ss,
-)
+turned_reversed : (ss : List Span) → map turned_span (map reversed ss) ≡ map reversed (map turned_span ss)
+turned_reversed [] = refl
+turned_reversed (s ∷ ss) = λ i. reversed (turned_span s) ∷ turned_reversed ss i
+
+rows_reversed : (closing : Closing) (ss ts : List Span) → IsPermutation (map reversed ss) ts
+    → AreRowsMoved closing (λ i. i) (λ j. j) ss ts
+rows_reversed closing ss ts h = record {
+  chosen = as_moved (λ i. i) (λ j. j) (IsNextChosen closing ss) (IsNextChosen closing ts)
+      (λ i j. chosen_along closing ts ss i j i j (λ n. reversal_keeps_cover (place_on i j n) ss ts h));
+  met = as_moved (λ i. i) (λ j. j) (AreMet ss) (AreMet ts) (λ i j.
+      let p = centre i j in let q = centre (i +ℤ pos 1) j in any_reversed (IsMet p q) (λ s. reversal_meets p q s) ss ts h);
+}
 
 pub reversal_keeps_set : ReversalKeepsSet
 reversal_keeps_set closing ss ts f h i j = (λ k. all.back i j k, λ k. all.on i j k)
   where
-    cover : (p : Place) → IsCovered p ts ↔ IsCovered p ss
-    cover p = reversal_keeps_cover p ss ts h
-
-    turned : (p q : Place) → Any (IsMet p q) (map turned_span ts) ↔ Any (IsMet p q) (map turned_span ss)
-    turned p q =
-        let P : Span → Type 0 = λ s. IsMet p q (turned_span s) in
-        let same = any_reversed P (λ s. reversal_meets p q (turned_span s)) ss ts h in
-        let from = any_turned (IsMet p q) ts in
-        let to = any_turned (IsMet p q) ss in
-        (λ a. to.1 (same.0 (from.0 a)), λ a. from.1 (same.1 (to.0 a)))
-
     all : IsMoved (λ i. i) (λ j. j) (IsSet closing ss f) (IsSet closing ts f)
     all = set_moved closing (λ i. i) (λ j. j) stays stays ss ts (IsInFrame f) (IsInFrame f) (record {
       inside = record { back = λ i j h. h; on = λ i j h. h };
-      chosen = λ up. as_moved (λ i. i) (λ j. j) (IsNextChosen closing up ss) (IsNextChosen closing up ts)
-          (λ i j. chosen_along closing up ts ss i j i j (λ n. cover (place_on up i j n)));
       covered = as_moved (λ i. i) (λ j. j) (λ i j. IsCovered (centre i j) ss) (λ i j. IsCovered (centre i j) ts)
-          (λ i j. cover (centre i j));
-      rows = as_moved (λ i. i) (λ j. j) (AreMet ss) (AreMet ts) (λ i j.
-          let p = centre i j in let q = centre (i +ℤ pos 1) j in any_reversed (IsMet p q) (λ s. reversal_meets p q s) ss ts h);
-      columns = as_moved (λ i. i) (λ j. j) (AreMet (map turned_span ss)) (AreMet (map turned_span ts))
-          (λ j i. turned (centre j i) (centre (j +ℤ pos 1) i));
+          (λ i j. reversal_keeps_cover (centre i j) ss ts h);
+      rows = rows_reversed closing ss ts h;
+      columns = rows_reversed closing (map turned_span ss) (map turned_span ts)
+          (subst (λ us. IsPermutation us (map turned_span ts)) (turned_reversed ss)
+          (IsPermutation-map turned_span (map reversed ss) ts h));
     })

@@ -1,7 +1,7 @@
 -- Drop-out control sets, for pieces moved by whole pixels, the pixels that it sets for the pieces, moved: `shift_moves_set`.
 -- Serves the law `dropout`.
 use Rattle.std.proofs.Common.{◌≡◌, ◌↔◌, refl, ap, ◌∙◌, subst, ℕ, ℤ, pos, ◌+ℤ◌, ◌-ℤ◌, ◌*ℤ◌}
-use Rattle.std.proofs.Common.{Bool, true, false, List, [], ◌∷◌, map, arith}
+use Rattle.std.proofs.Common.{List, [], ◌∷◌, map, arith}
 use Rattle.fx_fixed.proofs.Ring.{ring}
 use Rattle.fx_fixed.proofs.Linear.{signed_linear}
 use Rattle.fx_winding.specs.Area.{Place, place}
@@ -13,9 +13,10 @@ use Rattle.fx_winding.specs.Winding.{Span, IsCovered, centre}
 use Rattle.fx_winding.proofs.Covers.{any_map, any_unmap}
 use Rattle.fx_winding.proofs.Meeting.{shift_meets}
 use Rattle.fx_winding.proofs.Shifts.{shift_moves_cover, shift_moves_bits}
+use Rattle.fx_dropout.specs.declared.chooser.Closing.{Closing}
 use Rattle.fx_dropout.specs.Dropout.{IsNextChosen, IsSet, place_on}
 use Rattle.fx_dropout.specs.Laws.{ShiftMovesSet}
-use Rattle.fx_dropout.proofs.SetPixels.{AreMet, IsMoved, KeepsNeighbours, as_moved, chosen_along, set_moved}
+use Rattle.fx_dropout.proofs.SetPixels.{AreMet, AreRowsMoved, IsMoved, KeepsNeighbours, as_moved, chosen_along, set_moved}
 
 along : (i k : ℤ) → (pos 128 *ℤ i +ℤ pos 64) +ℤ pos 128 *ℤ k ≡ pos 128 *ℤ (i +ℤ k) +ℤ pos 64
 along i k = grind (arith, signed_linear, ring)
@@ -23,10 +24,9 @@ along i k = grind (arith, signed_linear, ring)
 along_from : (i k : ℤ) (n : ℕ) → ((pos 128 *ℤ i +ℤ pos 64) +ℤ pos n) +ℤ pos 128 *ℤ k ≡ (pos 128 *ℤ (i +ℤ k) +ℤ pos 64) +ℤ pos n
 along_from i k n = let e = along i k in omega (arith, signed_linear, e)
 
-place_shift : (up : Bool) (k l i j : ℤ) (n : ℕ)
-    → shifted_place (pos 128 *ℤ k) (pos 128 *ℤ l) (place_on up i j n) ≡ place_on up (i +ℤ k) (j +ℤ l) n
-place_shift false k l i j n = λ t. place (along_from i k n t) (along j l t)
-place_shift true k l i j n = λ t. place (along i k t) (along_from j l n t)
+place_shift : (k l i j : ℤ) (n : ℕ)
+    → shifted_place (pos 128 *ℤ k) (pos 128 *ℤ l) (place_on i j n) ≡ place_on (i +ℤ k) (j +ℤ l) n
+place_shift k l i j n = λ t. place (along_from i k n t) (along j l t)
 
 centre_shift : (k l i j : ℤ) → shifted_place (pos 128 *ℤ k) (pos 128 *ℤ l) (centre i j) ≡ centre (i +ℤ k) (j +ℤ l)
 centre_shift k l i j = λ t. place (along i k t) (along j l t)
@@ -38,10 +38,11 @@ before_shift : (i k : ℤ) → (i -ℤ pos 1) +ℤ k ≡ (i +ℤ k) -ℤ pos 1
 before_shift i k = omega (arith, signed_linear)
 
 -- the places that pieces cover, and the segments that they meet
-covered_shift : (up : Bool) (k l : ℤ) (ss : List Span) (i j : ℤ) (n : ℕ)
-    → IsCovered (place_on up (i +ℤ k) (j +ℤ l) n) (map (shifted (pos 128 *ℤ k) (pos 128 *ℤ l)) ss) ↔
-    IsCovered (place_on up i j n) ss
-covered_shift up k l ss i j n = grind (arith, signed_linear, place_shift, shift_moves_cover)
+covered_shift : (k l : ℤ) (ss : List Span) (i j : ℤ) (n : ℕ)
+    → IsCovered (place_on (i +ℤ k) (j +ℤ l) n) (map (shifted (pos 128 *ℤ k) (pos 128 *ℤ l)) ss) ↔ IsCovered (place_on i j n) ss
+covered_shift k l ss i j n =
+    subst (λ p. IsCovered p (map (shifted (pos 128 *ℤ k) (pos 128 *ℤ l)) ss) ↔ IsCovered (place_on i j n) ss)
+    (place_shift k l i j n) (shift_moves_cover (pos 128 *ℤ k) (pos 128 *ℤ l) (place_on i j n) ss)
 
 met_shift : (k l : ℤ) (s : Span) (i j : ℤ)
     → IsMet (centre (i +ℤ k) (j +ℤ l)) (centre ((i +ℤ k) +ℤ pos 1) (j +ℤ l)) (shifted (pos 128 *ℤ k) (pos 128 *ℤ l) s) ↔
@@ -65,6 +66,16 @@ turned_shift : (x y : ℤ) (ss : List Span) → map (shifted y x) (map turned_sp
 turned_shift x y [] = refl
 turned_shift x y (s ∷ ss) = grind (arith, signed_linear, turned_shift x y ss)
 
+rows_shift : (closing : Closing) (k l : ℤ) (ss : List Span)
+    → AreRowsMoved closing (λ i. i +ℤ k) (λ j. j +ℤ l) ss (map (shifted (pos 128 *ℤ k) (pos 128 *ℤ l)) ss)
+rows_shift closing k l ss =
+    let ts = map (shifted (pos 128 *ℤ k) (pos 128 *ℤ l)) ss in
+    record {
+      chosen = as_moved (λ i. i +ℤ k) (λ j. j +ℤ l) (IsNextChosen closing ss) (IsNextChosen closing ts)
+          (λ i j. chosen_along closing ts ss (i +ℤ k) (j +ℤ l) i j (covered_shift k l ss i j));
+      met = as_moved (λ i. i +ℤ k) (λ j. j +ℤ l) (AreMet ss) (AreMet ts) (any_met_shift k l ss);
+    }
+
 keeps : (k : ℤ) → KeepsNeighbours (λ i. i +ℤ k)
 keeps k = record { after = λ i. next_shift i k; before = λ i. before_shift i k }
 
@@ -80,17 +91,12 @@ shift_moves_set closing k l ss f g e i j = (λ h. all.back i j h, λ h. all.on i
     ts : List Span
     ts = map (shifted (pos 128 *ℤ k) (pos 128 *ℤ l)) ss
 
-    met : (j i : ℤ) → AreMet (map turned_span ts) (j +ℤ l) (i +ℤ k) ↔ AreMet (map turned_span ss) j i
-    met j i = subst (λ us. AreMet us (j +ℤ l) (i +ℤ k) ↔ AreMet (map turned_span ss) j i)
-        (turned_shift (pos 128 *ℤ k) (pos 128 *ℤ l) ss) (any_met_shift l k (map turned_span ss) j i)
-
     all : IsMoved right up (IsSet closing ss f) (IsSet closing ts g)
     all = set_moved closing right up (keeps k) (keeps l) ss ts (IsInFrame f) (IsInFrame g) (record {
       inside = as_moved right up (IsInFrame f) (IsInFrame g) e;
-      chosen = λ u. as_moved right up (IsNextChosen closing u ss) (IsNextChosen closing u ts)
-          (λ i j. chosen_along closing u ts ss (i +ℤ k) (j +ℤ l) i j (λ n. covered_shift u k l ss i j n));
       covered = as_moved right up (λ i j. IsCovered (centre i j) ss) (λ i j. IsCovered (centre i j) ts)
           (λ i j. shift_moves_bits k l i j ss);
-      rows = as_moved right up (AreMet ss) (AreMet ts) (λ i j. any_met_shift k l ss i j);
-      columns = as_moved up right (AreMet (map turned_span ss)) (AreMet (map turned_span ts)) met;
+      rows = rows_shift closing k l ss;
+      columns = subst (AreRowsMoved closing up right (map turned_span ss)) (turned_shift (pos 128 *ℤ k) (pos 128 *ℤ l) ss)
+          (rows_shift closing l k (map turned_span ss));
     })

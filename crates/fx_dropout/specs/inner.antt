@@ -1,4 +1,5 @@
 -- What only private contracts cite.
 pub mod Pairs
+pub mod Places
 pub mod Closing
-pub mod Runs
+pub mod Stretched

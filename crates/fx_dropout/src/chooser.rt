@@ -1,15 +1,13 @@
 //! Which of the two pixels at the ends of a gap closes it.
 
-ghost use Rattle.std.specs.Prelude.{◌≡◌, ◌↔◌, ℕ, ◌+◌, ◌-◌, ◌*◌, ◌≤◌, ◌<◌, pos, ◌+ℤ◌, length, IsTrue};
+ghost use Rattle.std.specs.Prelude.{◌≡◌, ◌↔◌, ℕ, ◌+◌, ◌-◌, ◌*◌, ◌≤◌, ◌<◌, length, IsTrue};
 ghost use Rattle.std.specs.Int.{bit_at};
 ghost use Rattle.fx_winding.specs.Bitmaps.{words_for as words_for_of};
-ghost use Rattle.fx_winding.specs.Frames.{IsInFrame};
 ghost use Rattle.fx_dropout.specs.inner.Closing.{word_tests, IsNextAt};
 ghost use Rattle.fx_dropout.specs.declared.chooser.Closing.TheVariants.{Nearer};
-ghost use Rattle.fx_dropout.specs.inner.Pairs.{next_col, next_row};
 
 use crate::nearer::is_next_nearer;
-use crate::pair::{Pair, Pixel};
+use crate::pair::Pair;
 use fx_winding::{Frame, Pieces, Tally, put_bit};
 
 /// Which of the two pixels at the ends of a gap closes it (Apple TrueType Reference Manual, scan conversion).
@@ -49,23 +47,6 @@ fn has_bit(word: u32, k: usize) -> bool
     word >> (31 - k) & 1 == 1
 }
 
-/// Whether the right neighbour of a frame's pixel, or with `is_up` its upper one, lies in the frame. The pixel's column and row are
-/// counted from the frame's first.
-fn is_next_inside(frame: Frame, is_up: bool, column: usize, row: usize) -> bool
-    requires column { column < 32 * words_for_of frame.width }
-    requires row { row < frame.height }
-    ensures { IsTrue result ↔
-        IsInFrame frame (next_col is_up (frame.left +ℤ pos column)) (next_row is_up (frame.bottom +ℤ pos row)) }
-{
-    if !is_up {
-        return column + 1 < frame.width as usize;
-    }
-    if column >= frame.width as usize {
-        return false;
-    }
-    row + 1 < frame.height as usize
-}
-
 /// The gaps after the pixels of a word of a frame, by its column and row among the words: those to the right of the pixels or, with
 /// `is_up`, those above them.
 #[derive(Clone, Copy)]
@@ -84,29 +65,20 @@ impl<'a> Chooser<'a> {
         requires row { word.row < self.now.frame.height }
         requires place { k < 32 }
         ensures value { IsTrue result ↔ ((bit_at word.gaps (31 - k) ≡ 1) × IsNextAt self.now word k) }
-        ensures count { tally.new.count ≤ tally.old.count + 31 * 128 * length self.now.pieces.now }
+        ensures count { tally.new.count ≤ tally.old.count + 10 * length self.now.pieces.now }
     {
         if !has_bit(word.gaps, k) {
             return false;
         }
-        let column = 32 * word.column + k;
-        if !is_next_inside(self.frame, word.is_up, column, word.row) {
-            return false;
+        match Pair::in_frame(self.frame, word.is_up, 32 * word.column + k, word.row) {
+            None => false,
+            Some(pair) => is_next_nearer(self.pieces, pair, tally),
         }
-        let here = Pixel {
-            col: self.frame.left + column as i32,
-            row: self.frame.bottom + word.row as i32,
-        };
-        let pair = Pair {
-            here,
-            is_up: word.is_up,
-        };
-        is_next_nearer(self.pieces, pair, tally)
     }
 
     /// Of the gaps of a word those that the neighbours close, each the one to the right of its pixel, or with `is_up` the one
     /// above it.
-    #[tactic(auto, using(crate::proofs::Columns::all_of))]
+    #[tactic(auto, using(crate::proofs::Tests::all_of))]
     fn nearer(&self, word: GapWord, tally: &mut Tally) -> u32
         requires nearer { self.now.closing ≡ Nearer }
         requires some { 0 < word.gaps }
@@ -114,7 +86,7 @@ impl<'a> Chooser<'a> {
         requires row { word.row < self.now.frame.height }
         ensures bits { (c : ℕ) → c < 32 →
             (bit_at result (31 - c) ≡ 1) ↔ ((bit_at word.gaps (31 - c) ≡ 1) × IsNextAt self.now word c) }
-        ensures count { tally.new.count ≤ tally.old.count + 32 * (31 * 128 * length self.now.pieces.now) }
+        ensures count { tally.new.count ≤ tally.old.count + 32 * (10 * length self.now.pieces.now) }
     {
         let mut found = [0u32];
         let (first, end) = set_pixels(word.gaps);

@@ -188,7 +188,7 @@ fn close_word(
 
 /// Closes the gaps of a line of words: the row `number` or, with `is_up`, 32 columns. If those of the lines before it are closed,
 /// they stay so, and the lines after it stay as they are.
-#[tactic(auto, using(fx_winding::proofs::Grid::row_fits, crate::proofs::Columns::all_of))]
+#[tactic(auto, using(fx_winding::proofs::Grid::row_fits, crate::proofs::Tests::all_of))]
 #[inline(always)]
 fn close_line(
     chooser: &Chooser<'_>,
@@ -240,7 +240,7 @@ fn close_line(
 }
 
 /// Closes the gaps of all rows of a frame, or of all columns.
-#[tactic(auto, using(crate::proofs::Columns::all_of))]
+#[tactic(auto, using(crate::proofs::Tests::all_of))]
 #[inline(always)]
 fn close_lines(
     chooser: &Chooser<'_>,

@@ -6,7 +6,6 @@
 //! dot between four centres, which meets no segment from one centre to a neighbour's, is still lost.
 #![tactic(auto)]
 
-mod along;
 mod beside;
 mod chooser;
 mod closing;
@@ -16,7 +15,7 @@ mod nearer;
 mod noted;
 mod pair;
 mod places;
-mod run;
+mod stretched;
 
 pub use chooser::Closing;
 pub use noted::close_gaps;

@@ -1,59 +1,64 @@
-//! Pixels, and pairs of neighbours, between whose centres a piece may pass.
+//! Pixels with their right neighbours, between whose centres a piece may pass.
 
-ghost use Rattle.std.specs.Prelude.{◌≡◌, ◌⊎◌, ◌≤◌, ◌^◌, pos, ◌+ℤ◌, ◌*ℤ◌};
-ghost use Rattle.fx_fixed.specs.Ranges.{IsWithin};
+ghost use Rattle.std.specs.Prelude.{◌≡◌, ◌*◌, ◌^◌, ◌<◌, pos, ◌+ℤ◌, None, IfSome};
+ghost use Rattle.fx_winding.specs.Bitmaps.{words_for as words_for_of};
+ghost use Rattle.fx_winding.specs.Frames.{IsInFrame};
 ghost use Rattle.fx_winding.specs.Limits.{IsPixelNumber};
-ghost use Rattle.fx_winding.specs.Winding.{place_of};
-ghost use Rattle.fx_dropout.specs.Dropout.{place_on};
-ghost use Rattle.fx_dropout.specs.inner.Pairs.{next_col, next_row};
+ghost use Rattle.fx_dropout.specs.inner.Pairs.{next_col, next_row, seen_col, seen_row};
 
-use fx_winding::Point;
+use fx_winding::Frame;
 
-/// A pixel, by its column and its row.
+/// A pixel and its right neighbour, of an outline or, with `is_turned`, of the outline with its coordinates exchanged.
 #[derive(Clone, Copy)]
-pub(crate) struct Pixel {
+pub(crate) struct Pair {
     pub col: i32,
     pub row: i32,
+    pub is_turned: bool,
     ghost col_number: { IsPixelNumber col },
+    ghost next_number: { IsPixelNumber (col +ℤ pos 1) },
     ghost row_number: { IsPixelNumber row },
 }
 
-/// A pixel and a neighbour: the one above it if `is_up`, else the one to its right.
-#[derive(Clone, Copy)]
-pub(crate) struct Pair {
-    pub here: Pixel,
-    pub is_up: bool,
-    ghost next_col_number: { IsPixelNumber (next_col is_up here.col) },
-    ghost next_row_number: { IsPixelNumber (next_row is_up here.row) },
-}
-
-/// The coordinate n units after the centre of a column, or of a row, by its number.
-#[inline(always)]
-fn from_centre(number: i32, n: usize) -> i32
-    requires number { IsPixelNumber number }
-    requires next { (n ≡ 0) ⊎ IsPixelNumber (number +ℤ pos 1) }
-    requires few { n ≤ 128 }
-    ensures value { result ≡ (pos 128 *ℤ number +ℤ pos 64) +ℤ pos n }
-    ensures near { IsWithin (2 ^ 22) result }
-{
-    128 * number + 64 + n as i32
-}
-
 impl Pair {
-    /// The place n steps of 1/128 pixel from the pixel's centre to the neighbour's.
-    pub(crate) fn place(self, n: usize) -> Point
-        requires { n ≤ 128 }
-        ensures { place_of result ≡ place_on self.is_up self.here.col self.here.row n }
+    /// A pixel of a frame and its right neighbour, or with `is_up` its upper one, if the frame has both. The pixel's column and row
+    /// are counted from the frame's first.
+    pub(crate) fn in_frame(frame: Frame, is_up: bool, column: usize, row: usize) -> Option<Pair>
+        requires column { column < 32 * words_for_of frame.width }
+        requires row { row < frame.height }
+        ensures turned { IfSome result (λ p. p.is_turned ≡ is_up) }
+        ensures col { IfSome result (λ p. p.col ≡ seen_col is_up (frame.left +ℤ pos column) (frame.bottom +ℤ pos row)) }
+        ensures row { IfSome result (λ p. p.row ≡ seen_row is_up (frame.left +ℤ pos column) (frame.bottom +ℤ pos row)) }
+        ensures some { IfSome result (λ _.
+            IsInFrame frame (next_col is_up (frame.left +ℤ pos column)) (next_row is_up (frame.bottom +ℤ pos row))) }
+        ensures none { result ≡ None →
+            ¬ (IsInFrame frame (next_col is_up (frame.left +ℤ pos column)) (next_row is_up (frame.bottom +ℤ pos row))) }
     {
-        if self.is_up {
-            return Point {
-                x: from_centre(self.here.col, 0),
-                y: from_centre(self.here.row, n),
-            };
+        if is_up {
+            return Pair::across(frame.turned(), true, row, column);
         }
-        Point {
-            x: from_centre(self.here.col, n),
-            y: from_centre(self.here.row, 0),
+        Pair::across(frame, false, column, row)
+    }
+
+    /// The same of its right neighbour alone.
+    fn across(frame: Frame, is_turned: bool, column: usize, row: usize) -> Option<Pair>
+        requires column { column < 2 ^ 16 }
+        requires row { row < 2 ^ 16 }
+        ensures turned { IfSome result (λ p. p.is_turned ≡ is_turned) }
+        ensures col { IfSome result (λ p. p.col ≡ frame.left +ℤ pos column) }
+        ensures row { IfSome result (λ p. p.row ≡ frame.bottom +ℤ pos row) }
+        ensures some { IfSome result (λ _. IsInFrame frame ((frame.left +ℤ pos column) +ℤ pos 1) (frame.bottom +ℤ pos row)) }
+        ensures none { result ≡ None → ¬ (IsInFrame frame ((frame.left +ℤ pos column) +ℤ pos 1) (frame.bottom +ℤ pos row)) }
+    {
+        if column + 1 >= frame.width as usize {
+            return None;
         }
+        if row >= frame.height as usize {
+            return None;
+        }
+        Some(Pair {
+            col: frame.left + column as i32,
+            row: frame.bottom + row as i32,
+            is_turned,
+        })
     }
 }

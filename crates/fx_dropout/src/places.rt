@@ -1,101 +1,132 @@
-//! What pieces add to the winding numbers of the places between the centres of two neighbours.
+//! What pieces add at the places between the centres of a pixel and its right neighbour.
 
-ghost use Rattle.std.specs.Prelude.{◌≡◌, ◌⊎◌, ℕ, ◌+◌, ◌*◌, ◌^◌, ◌≤◌, ◌<◌, pos, Some, length, map, get_or, IfSome};
+ghost use Rattle.std.specs.Prelude.{◌≡◌, ◌⊎◌, ℕ, ◌+◌, ◌^◌, ◌≤◌, ◌<◌, pos, ◌+ℤ◌, IsTrue, ◌↔◌, false};
 ghost use Rattle.fx_fixed.specs.Ranges.{IsWithin};
-ghost use Rattle.fx_winding.specs.Limits.{most_pieces};
-ghost use Rattle.fx_winding.specs.Winding.{span_of};
-ghost use Rattle.fx_dropout.specs.inner.Runs.{place_in, sum_of, IsJoined, IsSummed};
+ghost use Rattle.fx_rows.specs.inner.Sums.{is_among, is_named, value_at, Marks};
+ghost use Rattle.fx_dropout.specs.Dropout.{IsCount};
+ghost use Rattle.fx_dropout.specs.inner.Places.{count_at, mark_at, AreCountsWithin, ArePlaces, ArePlacesNamed, IsCoveredIn, IsRunOfPlaces};
 
-use crate::along::{Along, PLACES};
-use crate::beside::turn_beside;
-use crate::pair::Pair;
-use crate::run::next_stretch;
-use fx_winding::{Piece, Tally};
+use fx_rows::{OnRow, RowPart, Run};
 
-/// Marks a place that is on a piece. Pieces that come later change the mark, but it stays far above any winding number.
-const MARK: i32 = 1 << 30;
+/// How many places are looked at: the pixel's centre, and the 127 between the two centres.
+pub(crate) const PLACES: usize = 128;
 
-/// The number kept for a place once a piece has been added: the mark if the place is on it.
-#[inline(always)]
-fn joined(place: i32, added: Option<i32>) -> i32
-    requires place { IsWithin (2 ^ 30 + 2 ^ 20) place }
-    requires added { IfSome added (IsWithin 2) }
-    ensures { result ≡ sum_of place added }
-{
-    match added {
-        None => MARK,
-        Some(turn) => place + turn,
-    }
+/// How many of them lie in each half of the segment, without its ends and its middle.
+const HALF: usize = 63;
+
+/// What pieces add at each place to the winding number, and whether it is on one of them.
+#[derive(Drop)]
+pub(crate) struct Places {
+    counts: [i32; PLACES],
+    marks: [bool; PLACES],
 }
 
-/// Adds what a piece adds at the places from `first` to before `end`.
-#[inline(always)]
-fn add_run(places: &mut [i32], first: usize, end: usize, added: Option<i32>)
-    requires order { first ≤ end }
-    requires room { end ≤ length places.old }
-    requires small { (n : ℕ) → first ≤ n → n < end → IsWithin (2 ^ 30 + 2 ^ 20) (get_or places.old n (pos 0)) }
-    requires added { IfSome added (IsWithin 2) }
-    ensures length { length places.new ≡ length places.old }
-    ensures run { (n : ℕ) → first ≤ n → n < end → get_or places.new n (pos 0) ≡ sum_of (get_or places.old n (pos 0)) added }
-    ensures others { (n : ℕ) → (n < first) ⊎ (end ≤ n) → get_or places.new n (pos 0) ≡ get_or places.old n (pos 0) }
-{
-    if let Some(0) = added {
-        return;
+impl Places {
+    /// Places to which no piece was added.
+    #[inline(always)]
+    pub(crate) fn new() -> Places
+        ensures counts { (n : ℕ) → n < 128 → count_at result n ≡ pos 0 }
+        ensures marks { (n : ℕ) → n < 128 → mark_at result n ≡ false }
+    {
+        Places {
+            counts: [0; PLACES],
+            marks: [false; PLACES],
+        }
     }
-    // The places before n of the run have what is added.
-    'places: for n in first..end {
-        places[n] = joined(places[n], added);
-    }
-}
 
-/// Adds what a piece adds at each place, run by run.
-#[inline(never)]
-fn add_parts(piece: &Piece, pair: Pair, places: &mut [i32], tally: &mut Tally)
-    requires room { length places.old ≡ 128 }
-    requires small { (n : ℕ) → n < 128 → IsWithin (2 ^ 30 + 2 ^ 20) (get_or places.old n (pos 0)) }
-    ensures length { length places.new ≡ 128 }
-    ensures joined { (n : ℕ) → n < 128 → IsJoined (place_in pair n) (span_of piece.now)
-        (get_or places.old n (pos 0)) (get_or places.new n (pos 0)) }
-    ensures count { tally.new.count ≤ tally.old.count + 31 * 128 }
-{
-    let along = Along::new(piece, pair, tally);
-    let mut n = 0;
-    // What the piece adds at the first n places has been added.
-    'parts: while n < PLACES {
-        let stretch = next_stretch(&along, n, tally);
-        add_run(places, n, n + stretch.count, stretch.turn);
-        n += stretch.count;
+    /// Adds a value to the counts of the places from `first` to before `end`.
+    pub(crate) fn add(&mut self, first: usize, end: usize, value: i32)
+        requires order { first ≤ end }
+        requires end { end ≤ 128 }
+        requires value { IsWithin 1 value }
+        requires small { AreCountsWithin (2 ^ 20) self.old }
+        ensures run { (n : ℕ) → first ≤ n → n < end → count_at self.new n ≡ count_at self.old n +ℤ value }
+        ensures others { (n : ℕ) → (n < first) ⊎ (end ≤ n) → count_at self.new n ≡ count_at self.old n }
+        ensures marks { (n : ℕ) → mark_at self.new n ≡ mark_at self.old n }
+    {
+        // The value was added to those before n.
+        'places: for n in first..end {
+            self.counts[n] += value;
+        }
     }
-}
 
-/// Adds what a piece adds at each place. Most pieces lie beside all places.
-#[inline(always)]
-fn add_piece(piece: &Piece, pair: Pair, places: &mut [i32], tally: &mut Tally)
-    requires room { length places.old ≡ 128 }
-    requires small { (n : ℕ) → n < 128 → IsWithin (2 ^ 30 + 2 ^ 20) (get_or places.old n (pos 0)) }
-    ensures length { length places.new ≡ 128 }
-    ensures joined { (n : ℕ) → n < 128 → IsJoined (place_in pair n) (span_of piece.now)
-        (get_or places.old n (pos 0)) (get_or places.new n (pos 0)) }
-    ensures count { tally.new.count ≤ tally.old.count + 31 * 128 }
-{
-    match turn_beside(piece, pair) {
-        Some(steady) => add_run(places, steady.first, steady.end, Some(steady.turn)),
-        None => add_parts(piece, pair, places, tally),
+    /// Adds a run's value to the counts of its places.
+    fn add_run(&mut self, run: Option<Run>)
+        requires run { IsRunOfPlaces run }
+        requires small { AreCountsWithin (2 ^ 20) self.old }
+        ensures counts { (n : ℕ) → n < 128 → count_at self.new n ≡ count_at self.old n +ℤ value_at run (pos n) }
+        ensures marks { (n : ℕ) → mark_at self.new n ≡ mark_at self.old n }
+    {
+        if let Some(run) = run {
+            self.add(run.first as usize, run.last as usize + 1, run.value);
+        }
     }
-}
 
-/// Adds what the pieces add at each place.
-pub(crate) fn add_pieces(pieces: &[Piece], pair: Pair, places: &mut [i32], tally: &mut Tally)
-    requires few { length pieces.now ≤ most_pieces }
-    requires room { length places.old ≡ 128 }
-    requires none { (n : ℕ) → n < 128 → get_or places.old n (pos 0) ≡ pos 0 }
-    ensures length { length places.new ≡ 128 }
-    ensures summed { (n : ℕ) → n < 128 →
-        IsSummed (place_in pair n) (map span_of pieces.now) (2 ^ 18) (get_or places.new n (pos 0)) }
-    ensures count { tally.new.count ≤ tally.old.count + 31 * 128 * length pieces.now }
-{
-    // What the pieces before this one add is known at each place.
-    'pieces: for piece in pieces {
-        add_piece(piece, pair, places, tally);
+    /// Marks the places from the first to the last.
+    fn mark(&mut self, first: i32, last: i32)
+        requires { ArePlaces first last }
+        ensures counts { (n : ℕ) → count_at self.new n ≡ count_at self.old n }
+        ensures marks { (n : ℕ) → n < 128 → Marks (is_among first last (pos n)) (mark_at self.old n) (mark_at self.new n) }
+    {
+        // Those before n are marked.
+        'places: for n in first as usize..last as usize + 1 {
+            self.marks[n] = true;
+        }
+    }
+
+    /// Marks the places that are named.
+    fn mark_on(&mut self, on: OnRow)
+        requires { ArePlacesNamed on }
+        ensures counts { (n : ℕ) → count_at self.new n ≡ count_at self.old n }
+        ensures marks { (n : ℕ) → n < 128 → Marks (is_named on (pos n)) (mark_at self.old n) (mark_at self.new n) }
+    {
+        match on {
+            OnRow::None => {}
+            OnRow::One(n) => self.mark(n, n),
+            OnRow::Two(n, m) => {
+                self.mark(n, n);
+                self.mark(m, m);
+            }
+            OnRow::Range(first, last) => self.mark(first, last),
+        }
+    }
+
+    /// Adds what a piece adds to a row whose columns are the places.
+    pub(crate) fn add_part(&mut self, part: RowPart)
+        requires crossing { IsRunOfPlaces part.crossing }
+        requires region { IsRunOfPlaces part.region }
+        requires on { ArePlacesNamed part.on }
+        requires small { AreCountsWithin (2 ^ 19) self.old }
+        ensures counts { (n : ℕ) → n < 128 →
+            count_at self.new n ≡ count_at self.old n +ℤ (value_at part.crossing (pos n) +ℤ value_at part.region (pos n)) }
+        ensures marks { (n : ℕ) → n < 128 → Marks (is_named part.on (pos n)) (mark_at self.old n) (mark_at self.new n) }
+    {
+        self.add_run(part.crossing);
+        self.add_run(part.region);
+        self.mark_on(part.on);
+    }
+
+    /// Whether a place is on a piece, or has a count other than 0.
+    #[inline(always)]
+    fn is_covered(&self, n: usize) -> bool
+        requires place { n < 128 }
+        requires small { AreCountsWithin (2 ^ 20) self.now }
+        ensures { IsTrue result ↔ IsCoveredIn self.now n }
+    {
+        self.marks[n] || self.counts[n] != 0
+    }
+
+    /// How many of the 63 places from `from` on are covered.
+    pub(crate) fn count_covered(&self, from: usize) -> u32
+        requires from { from ≤ 65 }
+        requires small { AreCountsWithin (2 ^ 20) self.now }
+        ensures { IsCount (λ n. IsCoveredIn self.now (n + from)) 63 result }
+    {
+        let mut count = 0;
+        // `count` of the first n places are covered.
+        'places: for n in 0..HALF {
+            count += u32::from(self.is_covered(n + from));
+        }
+        count
     }
 }

@@ -6,7 +6,7 @@ use Rattle.fx_winding.specs.Turned.{turned_span}
 use Rattle.fx_winding.specs.Outside.{AreOfOutline}
 use Rattle.fx_dropout.specs.declared.chooser.Closing.{Closing}
 use Rattle.fx_dropout.specs.Dropout.{IsNextChosen, IsSetIn}
-use Rattle.fx_dropout.proofs.SetPixels.{AreMet, IsMoved, set_moved, stays}
+use Rattle.fx_dropout.proofs.SetPixels.{AreMet, AreRowsMoved, IsMoved, set_moved, stays}
 use Rattle.fx_winding.specs.declared.frame.Frame.{Frame}
 use Rattle.fx_contour.specs.Frames.{IsInside, NothingOutsideFrame}
 use Rattle.fx_contour.specs.DropoutFrames.{IsInDropoutFrame}
@@ -28,13 +28,15 @@ pub set_along : (closing : Closing) (ss : List Span) (In To : ℤ → ℤ → Ty
     → IsSetIn closing ss In i j ↔ IsSetIn closing ss To i j
 set_along closing ss In To e i j = (λ h. all.on i j h, λ h. all.back i j h)
   where
+    rows : (ts : List Span) → AreRowsMoved closing (λ i. i) (λ j. j) ts ts
+    rows ts = record { chosen = kept (IsNextChosen closing ts); met = kept (AreMet ts) }
+
     all : IsMoved (λ i. i) (λ j. j) (IsSetIn closing ss In) (IsSetIn closing ss To)
     all = set_moved closing (λ i. i) (λ j. j) stays stays ss ss In To (record {
       inside = same In To e;
-      chosen = λ up. kept (IsNextChosen closing up ss);
       covered = kept (λ i j. IsCovered (centre i j) ss);
-      rows = kept (AreMet ss);
-      columns = kept (AreMet (map turned_span ss));
+      rows = rows ss;
+      columns = rows (map turned_span ss);
     })
 
 -- ---- covered, or inside

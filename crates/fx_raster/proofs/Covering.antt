@@ -100,11 +100,11 @@ counted P known (suc n) = by (known n) (counted P known n)
     by (inl p) (m, h) = (m + 1, subst (λ (k : ℕ). IsCount P k (m + 1)) e (count_more P n m p h))
     by (inr p) (m, h) = (m, subst (λ (k : ℕ). IsCount P k m) e (count_same P n m p h))
 
-next_nearer : (up : Bool) (ss : List Span) (col row : ℤ) → Known (IsNextNearer up ss col row)
-next_nearer up ss col row =
-    let At : ℕ → ℕ → Type 0 = λ from n. IsCovered (place_on up col row (n + from)) ss in
-    let a = counted (At 1) (λ n. covered (place_on up col row (n + 1)) ss) 63 in
-    let b = counted (At 65) (λ n. covered (place_on up col row (n + 65)) ss) 63 in
+next_nearer : (ss : List Span) (col row : ℤ) → Known (IsNextNearer ss col row)
+next_nearer ss col row =
+    let At : ℕ → ℕ → Type 0 = λ from n. IsCovered (place_on col row (n + from)) ss in
+    let a = counted (At 1) (λ n. covered (place_on col row (n + 1)) ss) 63 in
+    let b = counted (At 65) (λ n. covered (place_on col row (n + 65)) ss) 63 in
     known_as (λ t. record { here = a.0; next = b.0; first_half = a.1; second_half = b.1; more = t })
     (λ h. let x = count_is_one (At 1) 63 h.here a.0 h.first_half a.1 in
     let y = count_is_one (At 65) 63 h.next b.0 h.second_half b.1 in
@@ -113,9 +113,9 @@ next_nearer up ss col row =
     below : (m n : ℕ) → Known (m < n)
     below m n = grind arith
 
-next_chosen : (closing : Closing) (up : Bool) (ss : List Span) (col row : ℤ) → Known (IsNextChosen closing up ss col row)
-next_chosen Lower up ss col row = inr (λ h. h)
-next_chosen Nearer up ss col row = next_nearer up ss col row
+next_chosen : (closing : Closing) (ss : List Span) (col row : ℤ) → Known (IsNextChosen closing ss col row)
+next_chosen Lower ss col row = inr (λ h. h)
+next_chosen Nearer ss col row = next_nearer ss col row
 
 bridged : (ss : List Span) (In Right So : ℤ → ℤ → Type 0) → ((i j : ℤ) → Known (In i j)) → ((i j : ℤ) → Known (Right i j))
     → ((i j : ℤ) → Known (So i j)) → (i j : ℤ) → Known (IsBridged ss In Right So i j)
@@ -133,11 +133,11 @@ bridged ss In Right So is right so i j = known_either (so i j) (known_as (λ h. 
 row_set : (closing : Closing) (ss : List Span) (In : ℤ → ℤ → Type 0) → ((i j : ℤ) → Known (In i j)) → (i j : ℤ)
     → Known (IsRowSetIn closing ss In i j)
 row_set closing ss In is =
-    bridged ss In (IsNextChosen closing false ss) (λ i j. IsCovered (centre i j) ss) is (next_chosen closing false ss)
+    bridged ss In (IsNextChosen closing ss) (λ i j. IsCovered (centre i j) ss) is (next_chosen closing ss)
     (λ i j. covered (centre i j) ss)
 
 pub set_in : (closing : Closing) (ss : List Span) (In : ℤ → ℤ → Type 0) → ((i j : ℤ) → Known (In i j)) → (i j : ℤ)
     → Known (IsSetIn closing ss In i j)
 set_in closing ss In is i j =
-    bridged (map turned_span ss) (λ j i. In i j) (λ j i. IsNextChosen closing true ss i j) (λ j i. IsRowSetIn closing ss In i j)
-    (λ j i. is i j) (λ j i. next_chosen closing true ss i j) (λ j i. row_set closing ss In is i j) j i
+    bridged (map turned_span ss) (λ j i. In i j) (IsNextChosen closing (map turned_span ss)) (λ j i. IsRowSetIn closing ss In i j)
+    (λ j i. is i j) (next_chosen closing (map turned_span ss)) (λ j i. row_set closing ss In is i j) j i

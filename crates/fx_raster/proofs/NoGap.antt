@@ -1,6 +1,6 @@
 -- With drop-out control no gap stays open.
 -- Serves the law `bridged`.
-use Rattle.std.proofs.Common.{inl, map, false, true}
+use Rattle.std.proofs.Common.{inl, map}
 use Rattle.fx_winding.specs.Turned.{turned_span}
 use Rattle.fx_winding.specs.Winding.{IsCovered, centre}
 use Rattle.fx_dropout.specs.Dropout.{IsNextChosen, IsRowSetIn}
@@ -11,10 +11,10 @@ use Rattle.fx_raster.specs.Laws.{NoGapInRow, NoGapInColumn}
 
 pub no_gap_in_row : NoGapInRow
 no_gap_in_row closing ss i j n m a =
-    bridged_no_gap ss (IsInDropoutFrame ss) (IsNextChosen closing false ss) (λ i j. IsCovered (centre i j) ss) i j
+    bridged_no_gap ss (IsInDropoutFrame ss) (IsNextChosen closing ss) (λ i j. IsCovered (centre i j) ss) i j
     (met_rows_are_kept ss i j a) (λ s. n (inl s)) (λ s. m (inl s)) a
 
 pub no_gap_in_column : NoGapInColumn
 no_gap_in_column closing ss i j n m a =
-    bridged_no_gap (map turned_span ss) (λ j i. IsInDropoutFrame ss i j) (λ j i. IsNextChosen closing true ss i j)
+    bridged_no_gap (map turned_span ss) (λ j i. IsInDropoutFrame ss i j) (IsNextChosen closing (map turned_span ss))
     (λ j i. IsRowSetIn closing ss (IsInDropoutFrame ss) i j) j i (met_columns_are_kept ss i j a) n m a

@@ -1,7 +1,8 @@
 -- What drop-out control by the nearer pixel sets, mirrored or upside down.
 -- Serves the law `dropout`, and the pictures of moved outlines.
 use Rattle.std.proofs.Common.{◌≡◌, refl, sym, ap, ◌∙◌, subst, ◌↔◌, ◌⊎◌, inl, inr, ℕ, ◌+◌, ℤ, pos, ◌+ℤ◌, ◌*ℤ◌, ◌≤ℤ◌}
-use Rattle.std.proofs.Common.{Bool, true, false, List, [], ◌∷◌, map, arith}
+use Rattle.std.proofs.Common.{List, [], ◌∷◌, ◌++◌, map, arith}
+use Rattle.std.proofs.lemmas.List.{map-append}
 use Rattle.fx_fixed.specs.Polynomial.{var, num, ◌⊞◌, ◌⊠◌}
 use Rattle.fx_fixed.proofs.Ring.{ring}
 use Rattle.fx_fixed.proofs.Linear.{signed_linear}
@@ -9,7 +10,7 @@ use Rattle.fx_winding.specs.Area.{Place, place}
 use Rattle.fx_winding.specs.Turned.{turned_span}
 use Rattle.fx_winding.specs.Frames.{IsInFrame}
 use Rattle.fx_winding.specs.Meets.{IsMet}
-use Rattle.fx_winding.specs.Outside.{AreOfOutline}
+use Rattle.fx_winding.specs.Outside.{AreOfOutline, IsOutline, Leads, joined}
 use Rattle.fx_winding.specs.Winding.{Span, IsOn, IsCovered, centre}
 use Rattle.fx_dropout.specs.declared.chooser.Closing.TheVariants.{Nearer}
 use Rattle.fx_dropout.specs.Dropout.{IsGap, IsNextNearer, IsRowSetIn, IsSetIn, place_on}
@@ -105,6 +106,25 @@ gap_flipped ss So At set = record { back = λ i j g. back i j g; on = λ i j g. 
     }
 
 -- ---- a column is a row of the exchanged pieces
+leads_moved : (m : Symmetry) (p q : Place) (ss : List Span) → Leads p ss q
+    → Leads (place_in m p) (map (span_in m) ss) (place_in m q)
+leads_moved m p q [] h = ap (place_in m) h
+leads_moved m p q (s ∷ ss) h = (ap (place_in m) h.0, leads_moved m s.c q ss h.1)
+
+outlines_moved : (m : Symmetry) (contours : List (List Span)) → IsOutline contours → IsOutline (map (map (span_in m)) contours)
+outlines_moved m [] h = tt
+outlines_moved m (ss ∷ contours) h =
+    let c = h.0 in ((place_in m c.0, leads_moved m c.0 c.0 ss c.1), outlines_moved m contours h.1)
+
+joined_moved : (m : Symmetry) (contours : List (List Span)) → joined (map (map (span_in m)) contours) ≡ map (span_in m) (joined contours)
+joined_moved m [] = refl
+joined_moved m (ss ∷ contours) =
+    ap (λ ts. map (span_in m) ss ++ ts) (joined_moved m contours) ∙ sym (map-append (span_in m) ss (joined contours))
+
+outline_moved : (m : Symmetry) (ss : List Span) → AreOfOutline ss → AreOfOutline (map (span_in m) ss)
+outline_moved m ss o =
+    (map (map (span_in m)) o.0, outlines_moved m o.0 o.1, joined_moved m o.0 ∙ ap (map (span_in m)) o.2)
+
 turned_all : (m n : Symmetry) → ((s : Span) → span_in Exchange (span_in m s) ≡ span_in n (span_in Exchange s)) → (ss : List Span)
     → map turned_span (map (span_in m) ss) ≡ map (span_in n) (map turned_span ss)
 turned_all m n one [] = refl
@@ -112,31 +132,33 @@ turned_all m n one (s ∷ ss) = λ i. one s i ∷ turned_all m n one ss i
 
 -- ---- the nearer one
 -- along a line that keeps its order
-near_kept : (m : Symmetry) (up : Bool) (ss : List Span) → AreOfOutline ss → (i j k l : ℤ)
-    → ((n : ℕ) → place_in m (place_on up i j n) ≡ place_on up k l n)
-    → IsNextNearer up (map (span_in m) ss) k l ↔ IsNextNearer up ss i j
-near_kept m up ss o i j k l e = (
-  nearer_along up (map (span_in m) ss) ss k l i j covered,
-  nearer_along up ss (map (span_in m) ss) i j k l (λ n. let c = covered n in (c.1, c.0)),
+near_kept : (m : Symmetry) (ss : List Span) → AreOfOutline ss → (i j k l : ℤ)
+    → ((n : ℕ) → place_in m (place_on i j n) ≡ place_on k l n) → IsNextNearer (map (span_in m) ss) k l ↔ IsNextNearer ss i j
+near_kept m ss o i j k l e = (
+  nearer_along (map (span_in m) ss) ss k l i j covered,
+  nearer_along ss (map (span_in m) ss) i j k l (λ n. let c = covered n in (c.1, c.0)),
 )
   where
-    covered : (n : ℕ) → IsCovered (place_on up k l n) (map (span_in m) ss) ↔ IsCovered (place_on up i j n) ss
-    covered n = subst (λ p. IsCovered p (map (span_in m) ss) ↔ IsCovered (place_on up i j n) ss) (e n)
-        (moves_cover m (place_on up i j n) ss o)
+    covered : (n : ℕ) → IsCovered (place_on k l n) (map (span_in m) ss) ↔ IsCovered (place_on i j n) ss
+    covered n = subst (λ p. IsCovered p (map (span_in m) ss) ↔ IsCovered (place_on i j n) ss) (e n)
+        (moves_cover m (place_on i j n) ss o)
 
--- along one in reverse order
-near_reversed : (m : Symmetry) (up : Bool) (ss : List Span) → AreOfOutline ss → (i j k l : ℤ)
-    → ((a b : ℕ) → a + b ≡ 128 → place_in m (place_on up i j b) ≡ place_on up k l a)
-    → IsNextNearer up (map (span_in m) ss) k l ↔ IsHereNearer up ss i j
-near_reversed m up ss o i j k l e = nearer_reversed up ss (map (span_in m) ss) i j k l
-    (λ a b h. subst (λ p. IsCovered p (map (span_in m) ss) ↔ IsCovered (place_on up i j b) ss) (e a b h)
-    (moves_cover m (place_on up i j b) ss o))
+-- so a line upside down, and one in reverse order
+near_flipped : (ss : List Span) → AreOfOutline ss → (i j : ℤ) → IsNextNearer (map (span_in Flip) ss) i (mirror j) ↔ IsNextNearer ss i j
+near_flipped ss o i j =
+    near_kept Flip ss o i j i (mirror j) (λ n t. place ((pos 128 *ℤ i +ℤ pos 64) +ℤ pos n) (axis_mirrored j t))
+
+near_mirrored : (ss : List Span) → AreOfOutline ss → (i j : ℤ)
+    → IsNextNearer (map (span_in Mirror) ss) (mirror (i +ℤ pos 1)) j ↔ IsHereNearer ss i j
+near_mirrored ss o i j = nearer_reversed ss (map (span_in Mirror) ss) i j (mirror (i +ℤ pos 1)) j
+    (λ a b h. subst (λ p. IsCovered p (map (span_in Mirror) ss) ↔ IsCovered (place_on i j b) ss)
+    (λ t. place (back_along i a b h t) (pos 128 *ℤ j +ℤ pos 64)) (moves_cover Mirror (place_on i j b) ss o))
 
 -- so a gap without a tie has one nearer pixel, mirrored or not
-one_of_both : (up : Bool) (ss ts : List Span) (i j k l : ℤ) → IsNextNearer up ts k l ↔ IsHereNearer up ss i j
-    → IsNextNearer up ss i j ⊎ IsHereNearer up ss i j → IsNextNearer up ss i j ⊎ IsNextNearer up ts k l
-one_of_both up ss ts i j k l e (inl n) = inl n
-one_of_both up ss ts i j k l e (inr h) = inr (e.1 h)
+one_of_both : (ss ts : List Span) (i j k l : ℤ) → IsNextNearer ts k l ↔ IsHereNearer ss i j
+    → IsNextNearer ss i j ⊎ IsHereNearer ss i j → IsNextNearer ss i j ⊎ IsNextNearer ts k l
+one_of_both ss ts i j k l e (inl n) = inl n
+one_of_both ss ts i j k l e (inr h) = inr (e.1 h)
 
 -- ---- the whole
 pub near_set_moved : (m : Symmetry) (ss : List Span) (In To : ℤ → ℤ → Type 0) → AreOfOutline ss → HasNoTieIn m ss In
@@ -148,23 +170,20 @@ near_set_moved Mirror ss In To o tie inside i j = (λ h. all.back j i h, λ h. a
     ts : List Span
     ts = map (span_in Mirror) ss
 
-    nearer : (i j : ℤ) → IsNextNearer false ts (mirror (i +ℤ pos 1)) j ↔ IsHereNearer false ss i j
-    nearer i j = near_reversed Mirror false ss o i j (mirror (i +ℤ pos 1)) j
-        (λ a b h t. place (back_along i a b h t) (pos 128 *ℤ j +ℤ pos 64))
-
     row : (i j : ℤ) → IsRowSetIn Nearer ts To (mirror i) j ↔ IsRowSetIn Nearer ss In i j
-    row = bridged_mirrored ss ts In To (IsNextNearer false ss) (IsNextNearer false ts) (λ i j. IsCovered (centre i j) ss)
+    row = bridged_mirrored ss ts In To (IsNextNearer ss) (IsNextNearer ts) (λ i j. IsCovered (centre i j) ss)
         (λ i j. IsCovered (centre i j) ts) (record {
           inside = inside;
           set = λ i j. moves_bits Mirror i j ss o;
           gap = gap_mirrored ss (λ i j. IsCovered (centre i j) ss) (λ i j. IsCovered (centre i j) ts)
               (record { covered = λ i j c. c; moved = λ i j. moves_bits Mirror i j ss o });
-          one = λ i j g. one_of_both false ss ts i j (mirror (i +ℤ pos 1)) j (nearer i j) (tie i j g);
-          not_both = λ i j n f. one_nearer false ss i j n ((nearer i j).0 f);
+          one = λ i j g. one_of_both ss ts i j (mirror (i +ℤ pos 1)) j (near_mirrored ss o i j) (tie i j g);
+          not_both = λ i j n f. one_nearer ss i j n ((near_mirrored ss o i j).0 f);
         })
 
-    upper : (i j : ℤ) → IsNextNearer true ts (mirror i) j ↔ IsNextNearer true ss i j
-    upper i j = near_kept Mirror true ss o i j (mirror i) j (λ n t. place (axis_mirrored i t) ((pos 128 *ℤ j +ℤ pos 64) +ℤ pos n))
+    upper : (j i : ℤ) → IsNextNearer (map turned_span ts) j (mirror i) ↔ IsNextNearer (map turned_span ss) j i
+    upper j i = subst (λ us. IsNextNearer us j (mirror i) ↔ IsNextNearer (map turned_span ss) j i)
+        (sym (turned_all Mirror Flip turned_mirrored ss)) (near_flipped (map turned_span ss) (outline_moved Exchange ss o) j i)
 
     gaps : IsMoved (λ j. j) (λ i. mirror i) (IsGap (map turned_span ss) (λ j i. IsRowSetIn Nearer ss In i j))
         (IsGap (map turned_span ts) (λ j i. IsRowSetIn Nearer ts To i j))
@@ -178,41 +197,38 @@ near_set_moved Mirror ss In To o tie inside i j = (λ h. all.back j i h, λ h. a
 
     all : IsMoved (λ j. j) (λ i. mirror i) (λ j i. IsSetIn Nearer ss In i j) (λ j i. IsSetIn Nearer ts To i j)
     all = closed_moved (λ j. j) (λ i. mirror i) (λ j. refl) (λ j. refl) (map turned_span ss) (map turned_span ts)
-        (λ j i. In i j) (λ j i. To i j) (λ j i. IsNextNearer true ss i j) (λ j i. IsNextNearer true ts i j)
+        (λ j i. In i j) (λ j i. To i j) (IsNextNearer (map turned_span ss)) (IsNextNearer (map turned_span ts))
         (λ j i. IsRowSetIn Nearer ss In i j) (λ j i. IsRowSetIn Nearer ts To i j)
         (record { back = λ j i h. (inside i j).0 h; on = λ j i h. (inside i j).1 h })
-        (record { back = λ j i h. (upper i j).0 h; on = λ j i h. (upper i j).1 h })
+        (record { back = λ j i h. (upper j i).0 h; on = λ j i h. (upper j i).1 h })
         (record { back = λ j i h. (row i j).0 h; on = λ j i h. (row i j).1 h })
         gaps
 near_set_moved Flip ss In To o tie inside i j =
     bridged_mirrored (map turned_span ss) (map turned_span ts) (λ j i. In i j) (λ j i. To i j)
-    (λ j i. IsNextNearer true ss i j) (λ j i. IsNextNearer true ts i j) (λ j i. IsRowSetIn Nearer ss In i j)
+    (IsNextNearer (map turned_span ss)) (IsNextNearer (map turned_span ts)) (λ j i. IsRowSetIn Nearer ss In i j)
     (λ j i. IsRowSetIn Nearer ts To i j) (record {
       inside = λ j i. inside i j;
       set = λ j i. (λ h. rows.back i j h, λ h. rows.on i j h);
       gap = gaps;
-      one = λ j i g. one_of_both true ss ts i j i (mirror (j +ℤ pos 1)) (upper i j) (tie i j g);
-      not_both = λ j i n f. one_nearer true ss i j n ((upper i j).0 f);
+      one = λ j i g. one_of_both (map turned_span ss) (map turned_span ts) j i (mirror (j +ℤ pos 1)) i (upper j i) (tie i j g);
+      not_both = λ j i n f. one_nearer (map turned_span ss) j i n ((upper j i).0 f);
     }) j i
   where
     ts : List Span
     ts = map (span_in Flip) ss
 
-    nearer : (i j : ℤ) → IsNextNearer false ts i (mirror j) ↔ IsNextNearer false ss i j
-    nearer i j = near_kept Flip false ss o i j i (mirror j) (λ n t. place ((pos 128 *ℤ i +ℤ pos 64) +ℤ pos n) (axis_mirrored j t))
-
     rows : IsMoved (λ i. i) (λ j. mirror j) (IsRowSetIn Nearer ss In) (IsRowSetIn Nearer ts To)
-    rows = closed_moved (λ i. i) (λ j. mirror j) (λ i. refl) (λ i. refl) ss ts In To (IsNextNearer false ss)
-        (IsNextNearer false ts) (λ i j. IsCovered (centre i j) ss) (λ i j. IsCovered (centre i j) ts)
+    rows = closed_moved (λ i. i) (λ j. mirror j) (λ i. refl) (λ i. refl) ss ts In To (IsNextNearer ss)
+        (IsNextNearer ts) (λ i j. IsCovered (centre i j) ss) (λ i j. IsCovered (centre i j) ts)
         (record { back = λ i j h. (inside i j).0 h; on = λ i j h. (inside i j).1 h })
-        (record { back = λ i j h. (nearer i j).0 h; on = λ i j h. (nearer i j).1 h })
+        (record { back = λ i j h. (near_flipped ss o i j).0 h; on = λ i j h. (near_flipped ss o i j).1 h })
         (record { back = λ i j c. (moves_bits Flip i j ss o).0 c; on = λ i j c. (moves_bits Flip i j ss o).1 c })
         (gap_flipped ss (λ i j. IsCovered (centre i j) ss) (λ i j. IsCovered (centre i j) ts)
         (record { covered = λ i j c. c; moved = λ i j. moves_bits Flip i j ss o }))
 
-    upper : (i j : ℤ) → IsNextNearer true ts i (mirror (j +ℤ pos 1)) ↔ IsHereNearer true ss i j
-    upper i j = near_reversed Flip true ss o i j i (mirror (j +ℤ pos 1))
-        (λ a b h t. place (pos 128 *ℤ i +ℤ pos 64) (back_along j a b h t))
+    upper : (j i : ℤ) → IsNextNearer (map turned_span ts) (mirror (j +ℤ pos 1)) i ↔ IsHereNearer (map turned_span ss) j i
+    upper j i = subst (λ us. IsNextNearer us (mirror (j +ℤ pos 1)) i ↔ IsHereNearer (map turned_span ss) j i)
+        (sym (turned_all Flip Mirror turned_flipped ss)) (near_mirrored (map turned_span ss) (outline_moved Exchange ss o) j i)
 
     gaps : (j i : ℤ) → IsGap (map turned_span ts) (λ j i. IsRowSetIn Nearer ts To i j) (mirror (j +ℤ pos 1)) i
         ↔ IsGap (map turned_span ss) (λ j i. IsRowSetIn Nearer ss In i j) j i

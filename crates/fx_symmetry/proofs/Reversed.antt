@@ -1,7 +1,7 @@
 -- A line of pixels closed by the nearer one, in reverse order.
 -- Serves moved outlines with drop-out control.
 use Rattle.std.proofs.Common.{◌≡◌, refl, sym, subst, ◌↔◌, ◌⊎◌, inl, inr, ℕ, ◌+◌, ℤ, pos, negsuc, ◌+ℤ◌, ◌-ℤ◌, ◌*ℤ◌, neg_ℤ}
-use Rattle.std.proofs.Common.{zero, suc, add-one, Bool, List, [], ◌∷◌, map, Any, arith}
+use Rattle.std.proofs.Common.{zero, suc, add-one, List, [], ◌∷◌, map, Any, arith}
 use Rattle.fx_fixed.specs.Polynomial.{var, num, ◌⊞◌, ◌⊠◌, minus, ◌⊟◌}
 use Rattle.fx_fixed.proofs.Ring.{ring}
 use Rattle.fx_fixed.proofs.Linear.{signed_linear}
@@ -86,10 +86,10 @@ half_reversed C D e m n count h = (
 )
 
 -- the second one of a mirrored segment is nearer if the first one of the segment is
-pub nearer_reversed : (up : Bool) (ss ts : List Span) (i j k l : ℤ)
-    → ((m n : ℕ) → m + n ≡ 128 → IsCovered (place_on up k l m) ts ↔ IsCovered (place_on up i j n) ss)
-    → IsNextNearer up ts k l ↔ IsHereNearer up ss i j
-nearer_reversed up ss ts i j k l e = (
+pub nearer_reversed : (ss ts : List Span) (i j k l : ℤ)
+    → ((m n : ℕ) → m + n ≡ 128 → IsCovered (place_on k l m) ts ↔ IsCovered (place_on i j n) ss)
+    → IsNextNearer ts k l ↔ IsHereNearer ss i j
+nearer_reversed ss ts i j k l e = (
   λ h. record {
     here = h.next;
     next = h.here;
@@ -106,14 +106,14 @@ nearer_reversed up ss ts i j k l e = (
   },
 )
   where
-    half : (m n count : ℕ) → m + n ≡ 66 → IsCount (λ n. IsCovered (place_on up k l (n + m)) ts) 63 count
-        ↔ IsCount (λ k. IsCovered (place_on up i j (k + n)) ss) 63 count
-    half = half_reversed (λ n. IsCovered (place_on up k l n) ts) (λ n. IsCovered (place_on up i j n) ss) e
+    half : (m n count : ℕ) → m + n ≡ 66 → IsCount (λ n. IsCovered (place_on k l (n + m)) ts) 63 count
+        ↔ IsCount (λ k. IsCovered (place_on i j (k + n)) ss) 63 count
+    half = half_reversed (λ n. IsCovered (place_on k l n) ts) (λ n. IsCovered (place_on i j n) ss) e
 
-pub one_nearer : (up : Bool) (ss : List Span) (i j : ℤ) → IsNextNearer up ss i j → IsHereNearer up ss i j → ⊥
-one_nearer up ss i j n h =
-    let e = count_is_one (λ k. IsCovered (place_on up i j (k + 1)) ss) 63 n.here h.here n.first_half h.first_half in
-    let f = count_is_one (λ k. IsCovered (place_on up i j (k + 65)) ss) 63 n.next h.next n.second_half h.second_half in
+pub one_nearer : (ss : List Span) (i j : ℤ) → IsNextNearer ss i j → IsHereNearer ss i j → ⊥
+one_nearer ss i j n h =
+    let e = count_is_one (λ k. IsCovered (place_on i j (k + 1)) ss) 63 n.here h.here n.first_half h.first_half in
+    let f = count_is_one (λ k. IsCovered (place_on i j (k + 65)) ss) 63 n.next h.next n.second_half h.second_half in
     let a = n.more in
     let b = h.more in
     omega (arith, e, f, a, b)

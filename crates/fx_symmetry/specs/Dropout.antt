@@ -1,5 +1,5 @@
 -- Moved pieces with drop-out control by the nearer pixel.
-use Rattle.std.specs.Prelude.{◌⊎◌, ◌↔◌, ℕ, ◌+◌, ◌<◌, ℤ, Bool, true, false, List, map}
+use Rattle.std.specs.Prelude.{◌⊎◌, ◌↔◌, ℕ, ◌+◌, ◌<◌, ℤ, List, map}
 use Rattle.fx_winding.specs.declared.frame.Frame.{Frame}
 use Rattle.fx_winding.specs.Turned.{turned_span}
 use Rattle.fx_winding.specs.Frames.{IsInFrame}
@@ -9,22 +9,22 @@ use Rattle.fx_dropout.specs.declared.chooser.Closing.TheVariants.{Nearer}
 use Rattle.fx_dropout.specs.Dropout.{IsGap, IsCount, IsNextNearer, IsRowSetIn, IsSet, place_on}
 use Rattle.fx_symmetry.specs.Symmetries.{Symmetry, Mirror, Flip, Exchange, span_in, col_in, row_in}
 
--- the stroke between the centres of a pixel and its right neighbour or, with `true`, its upper one is nearer to the pixel: of the
--- 63 places in the half beside it more are covered than of the 63 in the other half
-pub record IsHereNearer (up : Bool) (ss : List Span) (col row : ℤ) : Type 0 where
+-- the stroke between the centres of a pixel and its right neighbour is nearer to the pixel: of the 63 places in the half beside it
+-- more are covered than of the 63 in the other half
+pub record IsHereNearer (ss : List Span) (col row : ℤ) : Type 0 where
   pub here : ℕ
   pub next : ℕ
-  pub first_half : IsCount (λ n. IsCovered (place_on up col row (n + 1)) ss) 63 here
-  pub second_half : IsCount (λ n. IsCovered (place_on up col row (n + 65)) ss) 63 next
+  pub first_half : IsCount (λ n. IsCovered (place_on col row (n + 1)) ss) 63 here
+  pub second_half : IsCount (λ n. IsCovered (place_on col row (n + 65)) ss) 63 next
   pub more : next < here
 
 -- no gap is a tie, whose halves have as many covered places: of rows if left and right change places; if top and bottom do, of the
 -- columns, with the pixels inside that the rows have set. Rows are closed first, so no law speaks of exchanged coordinates
 abbrev pub HasNoTieIn : Symmetry → List Span → (ℤ → ℤ → Type 0) → Type 0
 HasNoTieIn Mirror ss IsInside = (i j : ℤ) → IsGap ss (λ i j. IsCovered (centre i j) ss) i j
-    → IsNextNearer false ss i j ⊎ IsHereNearer false ss i j
+    → IsNextNearer ss i j ⊎ IsHereNearer ss i j
 HasNoTieIn Flip ss IsInside = (i j : ℤ) → IsGap (map turned_span ss) (λ j i. IsRowSetIn Nearer ss IsInside i j) j i
-    → IsNextNearer true ss i j ⊎ IsHereNearer true ss i j
+    → IsNextNearer (map turned_span ss) j i ⊎ IsHereNearer (map turned_span ss) j i
 HasNoTieIn Exchange ss IsInside = ⊥
 
 -- the law: the moved pieces of closed contours without a tie, with the frame moved, set the moved pixels. A tie goes to the left

@@ -12,11 +12,12 @@ use Rattle.fx_dropout.specs.declared.chooser.Closing.{Closing}
 use Rattle.fx_dropout.specs.declared.chooser.GapWord.{GapWord}
 use Rattle.fx_dropout.specs.Dropout.{IsNextChosen}
 use Rattle.fx_dropout.specs.Tests.{choice_tests}
-use Rattle.fx_dropout.specs.inner.Pairs.{next_col, next_row}
+use Rattle.fx_dropout.specs.inner.Pairs.{next_col, next_row, seen_col, seen_row, seen_spans}
 
 -- the neighbour of a pixel closes the gap between them: it is chosen, and lies in the frame
 abbrev pub IsNextIn : Closing → List Span → Frame → Bool → ℤ → ℤ → Type 0
-IsNextIn closing ss f up col row = IsNextChosen closing up ss col row × IsInFrame f (next_col up col) (next_row up row)
+IsNextIn closing ss f up col row = IsNextChosen closing (seen_spans up ss) (seen_col up col row) (seen_row up col row)
+    × IsInFrame f (next_col up col) (next_row up row)
 
 abbrev pub IsNext : Chooser → Bool → ℤ → ℤ → Type 0
 IsNext c = IsNextIn c.closing (map span_of c.pieces.now) c.frame

@@ -1,5 +1,8 @@
--- Two neighbours: a pixel and, with `false`, the one to its right or, with `true`, the one above it.
-use Rattle.std.specs.Prelude.{ℤ, pos, ◌+ℤ◌, Bool, true, false}
+-- Two neighbours: a pixel and, with `false`, the one to its right or, with `true`, the one above it, which is its right neighbour if
+-- the coordinates are exchanged.
+use Rattle.std.specs.Prelude.{ℤ, pos, ◌+ℤ◌, Bool, true, false, List, map}
+use Rattle.fx_winding.specs.Turned.{turned_span}
+use Rattle.fx_winding.specs.Winding.{Span}
 
 -- the column and the row of the neighbour
 abbrev pub next_col : Bool → ℤ → ℤ
@@ -9,3 +12,20 @@ next_col true col = col
 abbrev pub next_row : Bool → ℤ → ℤ
 next_row false row = row
 next_row true row = row +ℤ pos 1
+
+-- pieces, and the column and the row of a pixel, as they are or, with `true`, with their coordinates exchanged
+abbrev pub seen_span : Bool → Span → Span
+seen_span false s = s
+seen_span true s = turned_span s
+
+abbrev pub seen_spans : Bool → List Span → List Span
+seen_spans false ss = ss
+seen_spans true ss = map turned_span ss
+
+abbrev pub seen_col : Bool → ℤ → ℤ → ℤ
+seen_col false col row = col
+seen_col true col row = row
+
+abbrev pub seen_row : Bool → ℤ → ℤ → ℤ
+seen_row false col row = row
+seen_row true col row = col

@@ -1,6 +1,6 @@
 use Rattle.std.proofs.Common.{◌*◌, arith}
 use Rattle.fx_dropout.specs.inner.Closing.{pass, word_tests, words_along}
-use Rattle.fx_dropout.proofs.Columns.{one_more}
+use Rattle.fx_dropout.proofs.Tests.{one_more}
 use Rattle.fx_dropout.proofs.WordLines.{done_all, done_none}
 use Rattle.fx_dropout.proofs.closing.close_lines.Goals as goal
 

@@ -1,36 +1,24 @@
-use Rattle.std.proofs.Common.{arith}
-use Rattle.fx_winding.proofs.Places.{clash, no}
-use Rattle.fx_dropout.proofs.Columns.{numbers}
+use Rattle.std.proofs.Common.{◌≡◌, sym, subst, IsTrue, ◌↔◌, Bool, ℤ, pos, ◌+ℤ◌, ◌+◌, ◌*◌, map}
+use Rattle.fx_winding.specs.Winding.{span_of}
+use Rattle.fx_dropout.specs.declared.chooser.Closing.{Closing}
+use Rattle.fx_dropout.specs.Dropout.{IsNextChosen, IsNextNearer}
+use Rattle.fx_dropout.specs.inner.Pairs.{seen_col, seen_row, seen_spans}
 use Rattle.fx_dropout.proofs.chooser.Chooser.is_next.Goals as goal
 
-pub returns-then-not-is_next_inside-clause-value : goal.returns-then-not-is_next_inside-clause-value
-returns-then-not-is_next_inside-clause-value c =
-    no (λ h. clash c.is_next_inside.result c.if-not-is_next_inside.true (c.is_next_inside.ensures.1 h.1.1))
+pub returns-in-None-clause-value : goal.returns-in-None-clause-value
+returns-in-None-clause-value c = (λ t. absurd (cc), λ h. absurd (c.in_frame.ensures.none c.in-None.is h.1.1))
 
-pub invariant_of-here : goal.invariant_of-here
-invariant_of-here c =
-    let i = numbers c.args.self.now.frame c.args.word.is_up _ _ (omega arith) c.requires.row (c.is_next_inside.ensures.0
-    c.if-not-is_next_inside.false) in
-    record { col_number = i.here_col; row_number = i.here_row }
-
-pub invariant_of-pair : goal.invariant_of-pair
-invariant_of-pair c =
-    let i = numbers c.args.self.now.frame c.args.word.is_up _ _ (omega arith) c.requires.row (c.is_next_inside.ensures.0
-    c.if-not-is_next_inside.false) in
-    record { next_col_number = i.near_col; next_row_number = i.near_row }
-
-pub returns-clause-value : goal.returns-clause-value
-returns-clause-value c =
-    let i = numbers c.args.self.now.frame c.args.word.is_up _ _ (omega arith) c.requires.row (c.is_next_inside.ensures.0
-    c.if-not-is_next_inside.false) in
-    grind (
-      arith,
-      i.col_is,
-      i.row_is,
-      c.has_bit.ensures.0,
-      c.if-not-has_bit.false,
-      c.is_next_inside.ensures,
-      c.if-not-is_next_inside.false,
-      c.is_next_nearer.ensures.value,
-      c.requires.nearer,
+pub returns-in-Some-clause-value : goal.returns-in-Some-clause-value
+returns-in-Some-clause-value c =
+    let e = c.in-Some.ensures in
+    let ss = map span_of c.args.self.now.pieces.now in
+    let near = subst (λ (z : Bool × ℤ × ℤ). IsTrue c.is_next_nearer.result ↔ IsNextNearer (seen_spans z.0 ss) z.1 z.2)
+    (λ i. (e.turned i, e.col i, e.row i)) c.is_next_nearer.ensures.value in
+    let bit = c.has_bit.ensures.0 c.if-not-has_bit.false in
+    let up = c.args.word.is_up in
+    let col = c.args.self.now.frame.left +ℤ pos (32 * c.args.word.column + c.args.k) in
+    let row = c.args.self.now.frame.bottom +ℤ pos c.args.word.row in
+    let chosen = λ (z : Closing). IsNextChosen z (seen_spans up ss) (seen_col up col row) (seen_row up col row) in (
+      λ t. (bit, (subst chosen (sym c.requires.nearer) (near.0 t), e.some)),
+      λ h. near.1 (subst chosen c.requires.nearer h.1.0),
     )

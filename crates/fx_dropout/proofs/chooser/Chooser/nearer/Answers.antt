@@ -4,7 +4,7 @@ use Rattle.fx_fixed.proofs.Order.{below_or_not}
 use Rattle.fx_winding.proofs.Grid.{word_zero}
 use Rattle.fx_winding.proofs.Scanned.{row_set_more}
 use Rattle.fx_dropout.specs.inner.Closing.{IsNextAt}
-use Rattle.fx_dropout.proofs.Columns.{one_more}
+use Rattle.fx_dropout.proofs.Tests.{one_more}
 use Rattle.fx_dropout.proofs.chooser.Chooser.nearer.Goals as goal
 
 pub pixels-init : goal.pixels-init
@@ -23,7 +23,7 @@ pixels-preserved c =
           c.put_bit.new.words c.pixels.k c.is_next.result c.pixels.invariant.bits c.is_next.ensures.value c.put_bit.ensures.here
           c.put_bit.ensures.others;
       count = one_more c.is_next.new.tally.count c.pixels.tally.count c.args.tally.now.count c.pixels.k
-          (31 * 128 * length c.args.self.now.pieces.now) c.pixels.invariant.count c.is_next.ensures.count;
+          (10 * length c.args.self.now.pieces.now) c.pixels.invariant.count c.is_next.ensures.count;
     }
 
 pub returns-clause-bits : goal.returns-clause-bits

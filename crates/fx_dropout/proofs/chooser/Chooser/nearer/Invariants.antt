@@ -7,5 +7,5 @@ use Rattle.fx_dropout.proofs.chooser.Chooser.nearer.Given as goal
 abbrev pub invariant-pixels : goal.invariant-pixels
 invariant-pixels l = record {
   bits : RowSet (λ j. (bit_at l.word.gaps (31 - j) ≡ 1) × IsNextAt l.self l.word j) l.found l.k;
-  count : l.tally.count ≤ l.fn.tally.count + l.k * (31 * 128 * length l.self.pieces.now);
+  count : l.tally.count ≤ l.fn.tally.count + l.k * (10 * length l.self.pieces.now);
 }

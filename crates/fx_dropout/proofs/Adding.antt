@@ -1,0 +1,132 @@
+-- What is added at the places of a pair is what the piece adds there: `missed_added`, `right_added`, `part_added`.
+-- Serves `nearer`.
+use Rattle.std.proofs.Common.{◌≡◌, ◌≢◌, ◌⊎◌, ◌↔◌, inl, inr, refl, sym, ap, ◌∙◌, subst, IsTrue, ℕ, ◌+◌, ◌<◌, ℤ, pos, ◌+ℤ◌, ◌-ℤ◌}
+use Rattle.std.proofs.Common.{◌*ℤ◌, ◌≤ℤ◌, ◌<ℤ◌, Bool, true, false, List, Any, Option, map, length, get_or, arith}
+use Rattle.std.proofs.Math.ListN.{get_or-map}
+use Rattle.std.proofs.lemmas.List.{length-map}
+use Rattle.fx_fixed.specs.Ranges.{IsWithin}
+use Rattle.fx_fixed.proofs.Linear.{signed_linear}
+use Rattle.fx_rows.specs.declared.part.OnRow.{OnRow}
+use Rattle.fx_rows.specs.declared.part.RowPart.{RowPart}
+use Rattle.fx_rows.specs.declared.part.Run.{Run}
+use Rattle.fx_rows.specs.Parts.{IsRowPart}
+use Rattle.fx_rows.specs.inner.Cuts.{IsAdded}
+use Rattle.fx_rows.specs.inner.Inside.{IsOnInside}
+use Rattle.fx_rows.specs.inner.Sums.{is_named, value_at, IsInside, Marks}
+use Rattle.fx_rows.proofs.Added.{turn_at}
+use Rattle.fx_rows.proofs.Counted.{told, turn_small}
+use Rattle.fx_winding.specs.Area.{Place}
+use Rattle.fx_winding.specs.declared.frame.Frame.{Frame}
+use Rattle.fx_winding.specs.declared.point.Piece.{Piece}
+use Rattle.fx_winding.specs.Frames.{IsFrom}
+use Rattle.fx_winding.specs.Meets.{turn}
+use Rattle.fx_winding.specs.Outside.{HasAll}
+use Rattle.fx_winding.specs.Turned.{turned_span}
+use Rattle.fx_winding.specs.Winding.{Span, IsOn, IsCovered, centre, span_of, winding}
+use Rattle.fx_winding.proofs.Beside.{HasAll-weaker, left_off, right_off, under_off, over_off}
+use Rattle.fx_winding.proofs.Crossings.{above}
+use Rattle.fx_winding.proofs.Turning.{left_of_all, right_of_all}
+use Rattle.fx_dropout.specs.Dropout.{place_on}
+use Rattle.fx_dropout.specs.inner.Pairs.{seen_span, seen_spans}
+use Rattle.fx_dropout.specs.inner.Places.{IsMissed, IsRunOfPlaces, ArePlacesNamed}
+use Rattle.fx_dropout.specs.inner.Stretched.{stretched_place, stretched_span}
+use Rattle.fx_dropout.proofs.Stretching.{centre_stretched, crossing_stretched, region_stretched, on_stretched}
+
+-- ---- a piece beside the places
+-- a place off a piece
+off_added : (s : Span) (p : Place) (old new : Bool) (a b : ℤ) → ¬ (IsOn p s) → new ≡ old → b ≡ a +ℤ turn p s
+    → IsAdded s p old new a b
+off_added s p old new a b off same sum = record {
+  here = false;
+  told = (λ t. absurd (cc), λ o. absurd (off o));
+  marks = inr (refl, same);
+  sum = λ _. sum;
+  small = let t = turn_small p s in omega (arith, signed_linear, sum, t);
+}
+
+-- nothing is added to the places that a piece misses
+pub missed_added : (s : Span) (col row : ℤ) (n : ℕ) (on : Bool) (a : ℤ) → IsMissed (centre col row) s
+    → IsAdded s (place_on col row n) on on a a
+missed_added s col row n on a (inl h) =
+    let none = under_off (place_on col row n) s h in
+    off_added s (place_on col row n) on on a a none.2 refl (omega (arith, signed_linear, none.0, none.1))
+missed_added s col row n on a (inr (inl h)) =
+    let none = over_off (place_on col row n) s h in
+    off_added s (place_on col row n) on on a a none.2 refl (omega (arith, signed_linear, none.0, none.1))
+missed_added s col row n on a (inr (inr h)) =
+    let p = place_on col row n in
+    let left = HasAll-weaker (λ e. e.x <ℤ (centre col row).x) (λ e. e.x <ℤ p.x) (λ e l. omega (arith, signed_linear, l)) s h in
+    let none = right_of_all p s left in
+    off_added s p on on a a (right_off p s left).1 refl (omega (arith, signed_linear, none))
+
+-- one right of all places adds the same at each
+pub right_added : (s : Span) (col row limit y value : ℤ) (n : ℕ) (old new : Bool) (a b : ℤ) → n < 128
+    → limit ≡ (pos 128 *ℤ col +ℤ pos 64) +ℤ pos 127 → HasAll (λ e. limit <ℤ e.x) s → y ≡ pos 128 *ℤ row +ℤ pos 64
+    → value ≡ above y s.c.y -ℤ above y s.a.y → new ≡ old → b ≡ a +ℤ value → IsAdded s (place_on col row n) old new a b
+right_added s col row limit y value n old new a b l at h row_is is same sum =
+    let p = place_on col row n in
+    let right = HasAll-weaker (λ e. limit <ℤ e.x) (λ e. p.x <ℤ e.x) (λ e m. omega (arith, signed_linear, m, at)) s h in
+    let t = ap (λ z. above z s.c.y -ℤ above z s.a.y) (sym row_is) ∙ sym is in
+    let e = left_of_all p s right in
+    off_added s p old new a b (left_off p s right).1 same (omega (arith, signed_linear, sum, t, e))
+
+-- ---- a piece by its stretched row
+pub run_of_places : (f : Frame) (run : Option Run) → f.left ≡ pos 0 → f.width ≡ 128 → IsInside f run → IsRunOfPlaces run
+run_of_places f run left wide h = grind (arith, signed_linear, left, wide, h)
+
+pub places_named : (f : Frame) (on : OnRow) → f.left ≡ pos 0 → f.width ≡ 128 → IsOnInside f on → ArePlacesNamed on
+places_named f on left wide h = grind (arith, signed_linear, left, wide, h)
+
+pub part_added : (s : Span) (col row : ℤ) (f : Frame) (part : RowPart) (n : ℕ) (old new : Bool) (a b : ℤ) → n < 128
+    → f.left ≡ pos 0 → f.width ≡ 128 → IsRowPart (stretched_span col s) row f part
+    → Marks (is_named part.on (pos n)) old new → b ≡ a +ℤ (value_at part.crossing (pos n) +ℤ value_at part.region (pos n))
+    → IsAdded s (place_on col row n) old new a b
+part_added s col row f part n old new a b l left wide h marks sum = record {
+  here = is_named part.on (pos n);
+  told = (λ t. on.0 ((h.on (pos n) i).0 ((told part.on (pos n)).0 t)), λ o. (told part.on (pos n)).1 ((h.on (pos n) i).1 (on.1 o)));
+  marks = marks;
+  sum = λ _. omega (arith, signed_linear, sum, turns);
+  small = omega (arith, signed_linear, sum, turns, small);
+}
+  where
+    i : IsFrom f.left f.width (pos n)
+    i = (omega (arith, signed_linear, l, left, wide), omega (arith, signed_linear, l, left, wide))
+
+    on : IsOn (centre (pos n) row) (stretched_span col s) ↔ IsOn (place_on col row n) s
+    on = subst (λ q. IsOn q (stretched_span col s) ↔ IsOn (place_on col row n) s) (centre_stretched col row n)
+        (on_stretched col (place_on col row n) s)
+
+    turns : value_at part.crossing (pos n) +ℤ value_at part.region (pos n) ≡ turn (place_on col row n) s
+    turns = turn_at (stretched_span col s) row f part (pos n) h i
+        ∙ ap (λ q. turn q (stretched_span col s)) (sym (centre_stretched col row n))
+        ∙ (λ j. crossing_stretched col (place_on col row n) s j +ℤ region_stretched col (place_on col row n) s j)
+
+    small : IsWithin 2 (turn (place_on col row n) s)
+    small = turn_small (place_on col row n) s
+
+-- ---- all pieces
+pub seen_length : (up : Bool) (ps : List Piece) → length (seen_spans up (map span_of ps)) ≡ length ps
+seen_length false ps = length-map ps span_of
+seen_length true ps = length-map (map span_of ps) turned_span ∙ length-map ps span_of
+
+pub seen_at : (up : Bool) (ps : List Piece) (k : ℕ) (p : Piece) (s : Span) → p ≡ get_or ps k p → s ≡ seen_span up (span_of p)
+    → s ≡ get_or (seen_spans up (map span_of ps)) k s
+seen_at false ps k p s is e = e ∙ ap span_of is ∙ sym (get_or-map span_of ps k p) ∙ ap (get_or (map span_of ps) k) (sym e)
+seen_at true ps k p s is e = e ∙ ap (λ q. turned_span (span_of q)) is
+    ∙ ap turned_span (sym (get_or-map span_of ps k p)) ∙ sym (get_or-map turned_span (map span_of ps) k (span_of p))
+    ∙ ap (get_or (map turned_span (map span_of ps)) k) (sym e)
+
+-- a place is covered if it is marked or its count is not 0
+pub covered_by : (p : Place) (ss : List Span) (on : Bool) (turns : ℤ)
+    → (on ≡ false → turns ≡ winding p ss) × (IsTrue on ↔ Any (IsOn p) ss) → (IsTrue on ⊎ (turns ≢ pos 0)) ↔ IsCovered p ss
+unfolding IsCovered
+covered_by p ss true turns h = (λ _. inl (h.1.0 refl), λ _. inl refl)
+covered_by p ss false turns h = (from, to)
+  where
+    from : IsTrue false ⊎ (turns ≢ pos 0) → Any (IsOn p) ss ⊎ (winding p ss ≢ pos 0)
+    from (inl t) = inl (h.1.0 t)
+    from (inr n) = inr (λ w. n (h.0 refl ∙ w))
+
+    to : Any (IsOn p) ss ⊎ (winding p ss ≢ pos 0) → IsTrue false ⊎ (turns ≢ pos 0)
+    to (inl a) = inl (h.1.1 a)
+    to (inr n) = inr (λ w. n (sym (h.0 refl) ∙ w))

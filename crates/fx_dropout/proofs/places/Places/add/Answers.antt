@@ -1,0 +1,36 @@
+use Rattle.std.proofs.Common.{◌≡◌, ◌∙◌, ap, inl, inr, ℕ, ◌<◌, ℤ, pos, ◌+ℤ◌, List, length, get_or, set, w32, to_z, of_z, arith}
+use Rattle.std.proofs.lemmas.List.{get_or-set_same, get_or-set_other, length-set}
+use Rattle.fx_fixed.specs.Ranges.{IsWithin}
+use Rattle.fx_fixed.proofs.Linear.{signed_linear}
+use Rattle.fx_fixed.proofs.Order.{below_or_not}
+use Rattle.fx_dropout.proofs.places.Places.add.Goals as goal
+
+-- a number as the code holds it
+abbrev held : ℤ → ℤ
+held x = to_z w32 (of_z w32 x)
+
+added : (xs : List ℤ) (n k : ℕ) (old value : ℤ) → n < length xs → k ≡ n → get_or xs n (pos 0) ≡ old → IsWithin 1048576 old
+    → IsWithin 1 value
+    → get_or (set xs n (held (held (get_or xs n (pos 0)) +ℤ held value))) k (pos 0) ≡ old +ℤ held value
+added xs n k old value l same e small one =
+    let sum : held (held (get_or xs n (pos 0)) +ℤ held value) ≡ old +ℤ held value = omega (arith, signed_linear, e, small, one) in
+    ap (λ (j : ℕ). get_or (set xs n (held (held (get_or xs n (pos 0)) +ℤ held value))) j (pos 0)) same
+    ∙ get_or-set_same xs n _ (pos 0) l ∙ sum
+
+pub places-preserved : goal.places-preserved
+places-preserved c =
+    let xs = c.places.self.counts in
+    let n = c.places.n in
+    let inv = c.places.invariant in
+    record {
+      long = length-set xs n _ ∙ inv.long;
+      run = λ k h l. elim (below_or_not k n) [
+        | inl m ↦ get_or-set_other xs n k _ (pos 0) (omega (arith, m)) ∙ inv.run k h m
+        | inr m ↦
+            added xs n k (get_or c.args.self.now.counts k (pos 0)) c.args.value (omega (arith, inv.long)) (omega (arith, l, m))
+            (inv.others n (inr (omega arith)) ∙ ap (λ (j : ℕ). get_or c.args.self.now.counts j (pos 0)) (omega (arith, l, m)))
+            (c.requires.small k (omega (arith, l))) c.requires.value
+      ];
+      others = λ k o. grind (arith, o, get_or-set_other, inv.others k);
+      marks = inv.marks;
+    }
