@@ -55,7 +55,7 @@ fn print(rt: &HostRuntime, text: &str) -> u8
 /// Says pieces in a line.
 fn say(rt: &HostRuntime, pieces: &[&str]) {
     let mut err = ToSink::new(rt.stderr());
-    tell(rt.alloc(), &mut err, Text::of(rt.alloc(), pieces));
+    tell(rt.alloc(), &mut err, &Text::of(rt.alloc(), pieces));
 }
 
 /// Says why there are no words, after the line of a wrong command line.
@@ -63,7 +63,7 @@ pub fn say_not_text<E: Sink>(alloc: Global, err: &mut E)
     ensures { SaysLine (change_of E.held E.fault_count err.old err.new) }
 {
     let what = "an argument is not UTF-8 text: give a font with such a name on standard input";
-    tell(alloc, err, Text::of(alloc, &[what]));
+    tell(alloc, err, &Text::of(alloc, &[what]));
 }
 
 /// Runs the program on the words, or has it explain them without an input. The command's name is the second word, or follows
