@@ -155,16 +155,25 @@ fn add_refusal<G: Tool>(
     refused: RefusalFacts,
 ) {
     let advice = refused.advice;
-    match (refused.number, &program.facts().start) {
-        (10, Some(start)) => text.add_all(&[kind_of(&KINDS, start).unwrap_or(advice)]),
-        (17..=23, _) if task.is("make") => text.add_all(&[advice, "; --refused leave-out does so"]),
-        (24, _) if names_glyph(task, refused.glyph) => {
+    let start = &program.facts().start;
+    match refused.number {
+        10 => text.add_all(&[about_kind(start).unwrap_or(advice)]),
+        17..=23 if task.is("make") => text.add_all(&[advice, "; --refused leave-out does so"]),
+        24 if names_glyph(task, refused.glyph) => {
             text.add_all(&["the font has no glyph of that number"])
         }
-        (25, Some(start)) => add_faces(text, start),
-        (30..=41, _) => add_halt(text, task, refused),
-        (61, _) => add_list(alloc, text, program, task, advice),
+        25 => add_faces(text, start, advice),
+        30..=41 => add_halt(text, task, refused),
+        61 => add_list(alloc, text, program, task, advice),
         _ => text.add_all(&[advice]),
+    }
+}
+
+/// What kind of file it is that begins so, and what to do.
+fn about_kind(start: &Option<Vec<u8>>) -> Option<&'static str> {
+    match start {
+        Some(start) => kind_of(&KINDS, start),
+        None => None,
     }
 }
 
@@ -188,7 +197,7 @@ fn names_glyph(task: &AskedRun<'_, '_>, glyph: Option<u16>) -> bool {
     // No word so far names it.
     'words: for word in task.parts.words.iter() {
         let value = match word.split_once('=') {
-            Some(("--glyph" | "--of", value)) => value,
+            Some((option, value)) if has(&["--glyph", "--of"], option) => value,
             _ => word,
         };
         if value.as_bytes() == digits.text() {
@@ -199,8 +208,11 @@ fn names_glyph(task: &AskedRun<'_, '_>, glyph: Option<u16>) -> bool {
 }
 
 /// Adds which faces a file has that begins so.
-fn add_faces(text: &mut Text, start: &[u8]) {
-    let faces = match start {
+fn add_faces(text: &mut Text, start: &Option<Vec<u8>>, advice: &str) {
+    let Some(start) = start else {
+        return text.add_all(&[advice]);
+    };
+    let faces = match start.as_slice() {
         [b't', b't', b'c', b'f', _, _, _, _, a, b, c, d] => u32::from_be_bytes([*a, *b, *c, *d]),
         _ => return text.add_all(&["the file is no collection: leave --face out"]),
     };

@@ -78,8 +78,11 @@ const INSTEAD: [(&str, &str); 7] = [
 const STRIKE: &str =
     "the command strike of the package python3-mkstrike makes formats, cells, several sizes and texts: 'strike --help'";
 
-/// The first row with a name, of a table of commands and options.
-fn row_of(rows: &[(&'static str, &'static str)], name: &str) -> Option<(&'static str, &'static str)>
+/// The first row of a table with a name.
+pub(crate) fn row_of(
+    rows: &[(&'static str, &'static str)],
+    name: &str,
+) -> Option<(&'static str, &'static str)>
     ensures { option_map (λ row. row.0.now) result ≡ name_among (map (λ row. row.0.now) rows.now) name.now }
 {
     // The first row with the name among those that are left is that among all.
@@ -105,9 +108,9 @@ pub(crate) fn command_of(word: &str) -> Option<&'static str>
 /// What there is in place of an option that others have.
 pub(crate) fn instead_of(option: &str) -> Option<&'static str> {
     // The option is in no row so far.
-    'rows: for (options, instead) in INSTEAD.iter().copied() {
-        if is_among(option, options) {
-            return Some(instead);
+    'rows: for row in &INSTEAD {
+        if is_among(option, row.0) {
+            return Some(row.1);
         }
     }
     None
@@ -124,12 +127,19 @@ pub(crate) fn meant_by(
         Some((_, options)) => options,
         None => COMMANDS,
     };
-    if let Some(meant) = usual_for(word, words) {
-        return Vec::from_slice(alloc, &[meant]);
+    match usual_for(word, words) {
+        Some(meant) => Vec::from_slice(alloc, &[meant]),
+        None if word.len() < 5 && word.starts_with('-') => Ok(Vec::new(alloc)),
+        None => nearest_among(alloc, word, words),
     }
-    if word.len() < 5 && word.starts_with('-') {
-        return Ok(Vec::new(alloc));
-    }
+}
+
+/// The words among these with the fewest letters that differ.
+fn nearest_among(
+    alloc: Global,
+    word: &str,
+    words: &'static str,
+) -> Result<Vec<&'static str>, AllocError> {
     let mut nearest = Nearest::new(alloc, word)?;
     // `nearest` has seen the words so far.
     'words: for each in words.split(' ') {
@@ -141,9 +151,9 @@ pub(crate) fn meant_by(
 /// The word among these that others call so.
 fn usual_for(word: &str, words: &str) -> Option<&'static str> {
     // No row so far has the word, and is for one of these.
-    'rows: for (usual, meant) in USUAL.iter().copied() {
-        if is_among(word, usual) && is_among(meant, words) {
-            return Some(meant);
+    'rows: for row in &USUAL {
+        if is_among(word, row.0) && is_among(row.1, words) {
+            return Some(row.1);
         }
     }
     None
@@ -156,13 +166,13 @@ pub(crate) fn set_meant_by(alloc: Global, name: &str) -> Result<Vec<&'static str
     }
     let mut nearest = Nearest::new(alloc, name)?;
     // `nearest` has seen the sets so far.
-    'sets: for (set, _) in SETS.iter().copied() {
-        nearest.see(alloc, set)?;
+    'sets: for set in &SETS {
+        nearest.see(alloc, set.0)?;
     }
     Ok(nearest.found)
 }
 
-/// The words that differ from one in the fewest letters, two at most.
+/// The words that differ from one in the fewest letters, in two at most.
 #[derive(Drop)]
 struct Nearest {
     /// The word, in lower case.
