@@ -4,4 +4,12 @@ use Rattle.fx_front.specs.declared.facts.Facts.{Facts}
 
 -- before a run
 abbrev pub unseen : Facts
-unseen = record { strike = None; refused = None; start = None; is_variable = false; missing = Some []; has_more = false; is_cut = false }
+unseen = record {
+  strike = None;
+  refused = None;
+  start = None;
+  is_variable = false;
+  missing = Some [];
+  has_more = false;
+  is_cut = false;
+}

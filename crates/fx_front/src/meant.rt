@@ -127,11 +127,13 @@ pub(crate) fn meant_by(
         Some((_, options)) => options,
         None => COMMANDS,
     };
+    let mut found = Vec::new(alloc);
     match usual_for(word, words) {
-        Some(meant) => Vec::from_slice(alloc, &[meant]),
-        None if word.len() < 5 && word.starts_with('-') => Ok(Vec::new(alloc)),
-        None => nearest_among(alloc, word, words),
+        Some(meant) => found.push(meant)?,
+        None if word.len() < 5 && word.starts_with('-') => {}
+        None => found = nearest_among(alloc, word, words)?,
     }
+    Ok(found)
 }
 
 /// The words among these with the fewest letters that differ.

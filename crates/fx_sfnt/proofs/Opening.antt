@@ -48,8 +48,10 @@ opened {file} {directory} {face} h =
     let some : hhea_fields.number_of_h_metrics ≡ 0 → ⊥ = eqb-false hhea_fields.number_of_h_metrics 0 both.0 in
     let inside : 4 * hhea_fields.number_of_h_metrics ≤ length hmtx =
     ltb-false (length hmtx) (4 * hhea_fields.number_of_h_metrics) both.1 in
-    subst (Opened file directory) (same_Ok _ _ refl h) (subst (λ (fields : Head × Maxp × Hhea). Opened file directory
-    (record { file = file; directory = directory; head = fields.0; maxp = fields.1; hhea = fields.2 })) (same_Ok _ _ refl e) (record {
+    subst (Opened file directory) (same_Ok _ _ refl h)
+    (subst (λ (fields : Head × Maxp × Hhea). Opened file directory
+    (record { file = file; directory = directory; head = fields.0; maxp = fields.1; hhea = fields.2 }))
+    (same_Ok _ _ refl e) (record {
       records = directory_records directory (not-false _ readable);
       head = head;
       maxp = maxp;
