@@ -155,25 +155,16 @@ fn add_refusal<G: Tool>(
     refused: RefusalFacts,
 ) {
     let advice = refused.advice;
-    let start = &program.facts().start;
-    match refused.number {
-        10 => text.add_all(&[about_kind(start).unwrap_or(advice)]),
-        17..=23 if task.is("make") => text.add_all(&[advice, "; --refused leave-out does so"]),
-        24 if names_glyph(task, refused.glyph) => {
+    match (refused.number, &program.facts().start) {
+        (10, Some(start)) => text.add_all(&[kind_of(&KINDS, start).unwrap_or(advice)]),
+        (17..=23, _) if task.is("make") => text.add_all(&[advice, "; --refused leave-out does so"]),
+        (24, _) if names_glyph(task, refused.glyph) => {
             text.add_all(&["the font has no glyph of that number"])
         }
-        25 => add_faces(text, start, advice),
-        30..=41 => add_halt(text, task, refused),
-        61 => add_list(alloc, text, program, task, advice),
+        (25, Some(start)) => add_faces(text, start),
+        (30..=41, _) => add_halt(text, task, refused),
+        (61, _) => add_list(alloc, text, program, task, advice),
         _ => text.add_all(&[advice]),
-    }
-}
-
-/// What kind of file it is that begins so, and what to do.
-fn about_kind(start: &Option<Vec<u8>>) -> Option<&'static str> {
-    match start {
-        Some(start) => kind_of(&KINDS, start),
-        None => None,
     }
 }
 
@@ -208,23 +199,27 @@ fn names_glyph(task: &AskedRun<'_, '_>, glyph: Option<u16>) -> bool {
 }
 
 /// Adds which faces a file has that begins so.
-fn add_faces(text: &mut Text, start: &Option<Vec<u8>>, advice: &str) {
-    let Some(start) = start else {
-        return text.add_all(&[advice]);
-    };
-    let faces = match start.as_slice() {
-        [b't', b't', b'c', b'f', _, _, _, _, a, b, c, d] => u32::from_be_bytes([*a, *b, *c, *d]),
-        _ => return text.add_all(&["the file is no collection: leave --face out"]),
-    };
-    match faces {
-        0 => text.add_all(&["the collection has no font"]),
-        1 => text.add_all(&["the collection has one font: leave --face out"]),
-        _ => {
+fn add_faces(text: &mut Text, start: &[u8]) {
+    match faces_of(start) {
+        None => text.add_all(&["the file is no collection: leave --face out"]),
+        Some(0) => text.add_all(&["the collection has no font"]),
+        Some(1) => text.add_all(&["the collection has one font: leave --face out"]),
+        Some(faces) => {
             text.add_all(&["the collection has "]);
             text.add_number(u64::from(faces));
             text.add_all(&[" fonts: --face takes 0 to "]);
             text.add_number(u64::from(faces - 1));
         }
+    }
+}
+
+/// How many fonts a collection has that begins so. None if it is no collection.
+fn faces_of(start: &[u8]) -> Option<u32> {
+    match start {
+        [b't', b't', b'c', b'f', _, _, _, _, a, b, c, d] => {
+            Some(u32::from_be_bytes([*a, *b, *c, *d]))
+        }
+        _ => None,
     }
 }
 
