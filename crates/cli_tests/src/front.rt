@@ -104,9 +104,7 @@ impl Tool for Fake {
         Vec::from_slice(alloc, b"unknown option '--esc\x1b'\n")
     }
 
-    fn wrong_item(&self, alloc: Global, _list: &str) -> Result<Text, AllocError> {
-        Ok(Text::new(alloc))
-    }
+    fn add_wrong_item(&self, _text: &mut Text, _list: &str) {}
 }
 
 /// Runs a fake program to a place where a file with the text `old` has the name, and where files are made and named or not. Returns

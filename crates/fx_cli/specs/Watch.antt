@@ -1,7 +1,15 @@
 -- What a front is told of a run.
-use Rattle.std.specs.Prelude.{false, None, []}
+use Rattle.std.specs.Prelude.{false, Some, None, []}
 use Rattle.fx_front.specs.declared.facts.Facts.{Facts}
 
 -- before a run
 abbrev pub unseen : Facts
-unseen = record { strike = None; refused = None; start = None; is_variable = false; missing = []; has_more = false; is_cut = false }
+unseen = record {
+  strike = None;
+  refused = None;
+  start = None;
+  is_variable = false;
+  missing = Some [];
+  has_more = false;
+  is_cut = false;
+}

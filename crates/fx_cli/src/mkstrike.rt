@@ -77,46 +77,38 @@ impl Tool for Mkstrike {
         }
     }
 
-    fn wrong_item(&self, alloc: Global, list: &str) -> Result<Text, AllocError> {
-        let (item, why) = match wrong_item(list) {
-            Some(found) => found,
-            None => return Text::of(alloc, &["the list has more than 65,536 numbers"]),
-        };
-        match why {
-            ItemFault::NoNumber => of_no_number(alloc, item),
-            ItemFault::TooLong => {
-                let text = "' in the list has a number of more than six digits";
-                Text::of(alloc, &["'", item, text])
-            }
-            ItemFault::TooHigh => Text::of(alloc, &["'", item, "' in the list is above 10FFFF"]),
-            ItemFault::Falls => {
-                Text::of(alloc, &["'", item, "' in the list ends before it begins"])
+    fn add_wrong_item(&self, text: &mut Text, list: &str) {
+        match wrong_item(list) {
+            None => text.add_all(&["the list has more than 65,536 numbers"]),
+            Some(("", ItemFault::NoNumber)) => text.add_all(&["the list has a comma too many"]),
+            Some((item, why)) => {
+                text.add_all(&["'", item, what_is_wrong(why)]);
+                if matches!(why, ItemFault::NoNumber) {
+                    add_number_meant(text, item);
+                }
             }
         }
     }
 }
 
-/// What is said of an item that is no number or range.
-fn of_no_number(alloc: Global, item: &str) -> Result<Text, AllocError> {
-    if item.is_empty() {
-        return Text::of(alloc, &["the list has a comma too many"]);
+/// What is wrong with an item of a list.
+fn what_is_wrong(why: ItemFault) -> &'static str {
+    match why {
+        ItemFault::NoNumber => "' in the list is no hexadecimal number or range",
+        ItemFault::TooLong => "' in the list has a number of more than six digits",
+        ItemFault::TooHigh => "' in the list is above 10FFFF",
+        ItemFault::Falls => "' in the list ends before it begins",
     }
-    let mut text = Text::of(
-        alloc,
-        &["'", item, "' in the list is no hexadecimal number or range"],
-    )?;
+}
+
+/// Adds which number or range an item is without the marks before its numbers.
+fn add_number_meant(text: &mut Text, item: &str) {
     let (low, high) = item.split_once('-').unwrap_or((item, ""));
     let (low, high) = (without_mark(low), without_mark(high));
     if !low.is_empty() && wrong_item(low).is_none() && wrong_item(high).is_none() {
-        text.add_all(&[
-            ", but ",
-            low,
-            if high.is_empty() { "" } else { "-" },
-            high,
-            " is",
-        ])?;
+        let hyphen = if high.is_empty() { "" } else { "-" };
+        text.add_all(&[", but ", low, hyphen, high, " is"]);
     }
-    Ok(text)
 }
 
 /// A number without `0x` or `U+` before it.

@@ -9,7 +9,7 @@ use fx_front::{Counts, Facts, RefusalFacts, Text};
 use fx_machine::FontProgram;
 use fx_request::{Location, MAX_CHARACTERS, MAX_CODE, Refusal, rising_codes};
 use fx_sfnt::{Font, FontFile};
-use std::alloc::{AllocError, Global};
+use std::alloc::Global;
 
 /// How many ranges of missing characters are named, if not all are.
 const FEW: usize = 8;
@@ -43,27 +43,21 @@ impl Watch {
         }
     }
 
-    /// Sees which characters of a list a font lacks.
-    fn see_missing(
-        &mut self,
-        alloc: Global,
-        chars: &[u32],
-        map: &CharMap<'_>,
-    ) -> Result<(), AllocError> {
-        let codes = rising_codes(alloc, chars)?;
+    /// Sees which of these characters a font lacks.
+    fn see_missing(&mut self, codes: &[u32], map: &CharMap<'_>) {
         let mut ranges = 0usize;
         let mut first = None;
         let mut last = 0u32;
         // The ranges that end before `first` are named, and from it to `last` all are missing.
         'codes: for code in codes.iter().copied() {
             if self.facts.has_more {
-                return Ok(());
+                return;
             }
             let is_missing = map.glyph(code) == 0;
             if let Some(start) = first
                 && !(is_missing && code == last.saturating_add(1))
             {
-                self.add_range(ranges, start, last)?;
+                self.add_range(ranges, start, last);
                 ranges = ranges.saturating_add(1);
                 first = None;
             }
@@ -73,26 +67,24 @@ impl Watch {
             }
         }
         if let Some(start) = first {
-            self.add_range(ranges, start, last)?;
+            self.add_range(ranges, start, last);
         }
-        Ok(())
     }
 
     /// Names a range of missing characters. `ranges` says how many were named before.
-    fn add_range(&mut self, ranges: usize, first: u32, last: u32) -> Result<(), AllocError> {
+    fn add_range(&mut self, ranges: usize, first: u32, last: u32) {
         if ranges >= FEW && !self.names_all {
             self.facts.has_more = true;
-            return Ok(());
+            return;
         }
         if ranges > 0 {
-            self.facts.missing.add(b",")?;
+            self.facts.missing.add(b",");
         }
-        self.facts.missing.add_code(first)?;
+        self.facts.missing.add_code(first);
         if first < last {
-            self.facts.missing.add(b"-")?;
-            self.facts.missing.add_code(last)?;
+            self.facts.missing.add(b"-");
+            self.facts.missing.add_code(last);
         }
-        Ok(())
     }
 }
 
@@ -125,9 +117,10 @@ impl Watcher for Watch {
         };
         match &make.chars {
             CharacterChoice::Listed(chars) => {
-                if report.missing > 0 && self.see_missing(alloc, chars, &map).is_err() {
-                    self.facts.missing = Text::new(alloc);
-                    self.facts.has_more = false;
+                if report.missing > 0
+                    && let Ok(codes) = rising_codes(alloc, chars)
+                {
+                    self.see_missing(&codes, &map);
                 }
             }
             CharacterChoice::All => {

@@ -1,7 +1,9 @@
 //! Numbers in 26.6 and 2.14, and the rounding of exact numbers.
 
-ghost use Rattle.std.specs.Prelude.{◌≡◌, ◌≢◌, ◌+◌, ◌*◌, ◌/◌, ◌^◌, ◌≤◌, pos, unsigned_abs};
-ghost use Rattle.fx_fixed.specs.Numbers.{IsNear, IsCut, IsWrapped, Nearest, Cut, Wrapped, NearIsFunctional, CutIsFunctional, WrappedIsFunctional, NearOfIsNear, CutOfIsCut, WrappedOfIsWrapped, near_of, cut_of, wrapped_of, sum_of, difference_of};
+ghost use Rattle.std.specs.Prelude.{◌≡◌, ◌≢◌, ◌^◌, ◌≤◌, pos, unsigned_abs};
+ghost use Rattle.fx_fixed.specs.Numbers.{Cut, CutIsFunctional, CutOfIsCut, IsWrapped, NearIsFunctional, NearOfIsNear, Nearest};
+ghost use Rattle.fx_fixed.specs.Numbers.{Wrapped, WrappedIsFunctional, WrappedOfIsWrapped, cut_of, difference_of, near_of, near_size};
+ghost use Rattle.fx_fixed.specs.Numbers.{sum_of, wrapped_of};
 
 use std::marker::Model;
 
@@ -55,7 +57,7 @@ impl F2 {
 }
 
 /// `n / d` rounded to the nearest whole number, halves away from zero.
-#[tactic(auto, using(crate::proofs::Rounding::same_near, crate::proofs::Rounding::near_bound), unfolding(crate::specs::Numbers::Nearest))]
+#[tactic(auto, using(crate::proofs::Rounding::is_nearest))]
 pub fn near(n: i128, d: i128) -> i128
     requires nonzero { d ≢ pos 0 }
     requires size { unsigned_abs n ≤ 2 ^ 100 }
@@ -68,28 +70,31 @@ pub fn near(n: i128, d: i128) -> i128
 }
 
 /// The quotient by its sign and its size.
+#[tactic(auto, unfolding(crate::specs::Numbers::near_of))]
 fn nearest(n: i128, d: i128) -> i128
     requires nonzero { d ≢ pos 0 }
     requires size { unsigned_abs n ≤ 2 ^ 100 }
     requires divisor_size { unsigned_abs d ≤ 2 ^ 100 }
-    ensures { IsNear n d result }
+    ensures value { result ≡ near_of n d }
+    ensures bound { unsigned_abs result ≤ unsigned_abs n }
 {
     let size = nearest_size(n.unsigned_abs(), d.unsigned_abs()) as i128;
     if (n < 0) == (d < 0) { size } else { -size }
 }
 
 /// The same of sizes.
+#[tactic(auto, using(crate::proofs::Dividing::size_bound))]
 fn nearest_size(n: u128, d: u128) -> u128
     requires nonzero { d ≢ 0 }
     requires size { n ≤ 2 ^ 100 }
     requires divisor_size { d ≤ 2 ^ 100 }
-    ensures { result ≡ (2 * n + d) / (2 * d) }
+    ensures value { result ≡ near_size n d }
+    ensures bound { result ≤ n }
 {
     (2 * n + d) / (2 * d)
 }
 
 /// `n / d` without its fraction, toward zero.
-#[tactic(auto, using(crate::proofs::Rounding::same_cut), unfolding(crate::specs::Numbers::Cut))]
 pub fn cut(n: i128, d: i128) -> i128
     requires nonzero { d ≢ pos 0 }
     requires size { unsigned_abs n ≤ 2 ^ 100 }
@@ -101,11 +106,11 @@ pub fn cut(n: i128, d: i128) -> i128
 }
 
 /// The quotient of the language.
+#[tactic(auto, unfolding(crate::specs::Numbers::cut_of))]
 fn quotient(n: i128, d: i128) -> i128
     requires nonzero { d ≢ pos 0 }
     requires size { unsigned_abs n ≤ 2 ^ 100 }
-    requires divisor_size { unsigned_abs d ≤ 2 ^ 100 }
-    ensures { IsCut n d result }
+    ensures { result ≡ cut_of n d }
 {
     n / d
 }

@@ -1,5 +1,5 @@
 -- The lines that a front adds for people.
-use Rattle.std.specs.Prelude.{◌≡◌, ◌⊎◌, ◌<◌, ◌==◌, ◌||◌, ℕ, nat_lt, List, [], ◌∷◌, ◌++◌, map, codes, Result}
+use Rattle.std.specs.Prelude.{◌≡◌, ◌⊎◌, ◌<◌, ◌==◌, ◌||◌, ℕ, nat_lt, List, [], ◌∷◌, ◌++◌, map, codes, Option, Some, option_map, IfSome, Result}
 use Rattle.std.specs.Prelude.{if◌then◌else◌}
 use Rattle.std.specs.Borrow.{Bor}
 use Rattle.std.specs.List.{All, flat_map}
@@ -22,6 +22,10 @@ shown_text bytes = map shown bytes
 -- that of pieces
 abbrev pub shown_pieces : List (Bor (List ℕ)) → List ℕ
 shown_pieces pieces = flat_map (λ piece. shown_text piece.now) pieces
+
+-- a text has more at its end, or is none since memory ran out, now or before
+abbrev pub Says : Option (List ℕ) → Option (List ℕ) → List ℕ → Type 0
+Says old new more = IfSome new (λ text. option_map (λ front. front ++ more) old ≡ Some text)
 
 -- its line: the program's name, the text and LF
 abbrev pub line_of : List ℕ → List ℕ

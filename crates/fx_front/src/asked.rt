@@ -4,7 +4,7 @@ ghost use Rattle.fx_words.specs.Parts.{texts};
 ghost use Rattle.fx_front.specs.inner.Asked.{asked_by, asked_by_word, seen_asked};
 
 use crate::meant::command_of;
-use fx_words::{Parts, has};
+use fx_words::{Parts, has, value_in};
 
 /// What a command line asks a front for.
 pub enum Asked<'a> {
@@ -41,18 +41,8 @@ impl<'t, 'a> AskedRun<'t, 'a> {
 
     /// The list of characters among the words.
     pub(crate) fn list(&self) -> Option<&'a str> {
-        let mut is_next = false;
-        // `is_next` tells whether the word before this one is the option; none before has its value.
-        'words: for word in self.parts.words.iter() {
-            if is_next {
-                return Some(word);
-            }
-            if let Some(("--chars" | "--char", list)) = word.split_once('=') {
-                return Some(list);
-            }
-            is_next = *word == "--chars" || *word == "--char";
-        }
-        None
+        let option = if self.is("make") { "--chars" } else { "--char" };
+        value_in(&self.parts.words, option)
     }
 }
 
@@ -71,9 +61,9 @@ pub(crate) fn asked_by<'a>(words: &[&'a str], is_terminal: bool) -> Asked<'a>
 fn asked_by_word<'a>(word: &'a str, rest: &[&'a str]) -> Asked<'a>
     ensures { seen_asked result ≡ asked_by_word word.entry.now (texts rest.now) }
 {
-    if word == "--version" || word == "-V" {
+    if has(&["--version", "-V"], word) {
         Asked::Version
-    } else if word == "--help" || word == "-h" || word == "help" {
+    } else if has(&["--help", "-h", "help"], word) {
         Asked::Help(rest.first().copied())
     } else if command_of(word).is_some() && (has(rest, "-h") || has(rest, "--help")) {
         Asked::Help(Some(word))

@@ -57,49 +57,45 @@ pub fn say_after<G: Tool, E: Sink>(
     ensures { (between : E) × SaysLine (change_of E.held E.fault_count err.old between)
         × SaysLine (change_of E.held E.fault_count between err.new) }
 {
-    let font_or_file = of_font_or_file(alloc, program.facts(), task, ended);
-    tell(alloc, err, font_or_file);
-    let run = of_run(alloc, program, task, ended, is_file);
-    tell(alloc, err, run);
+    let mut font_or_file = Text::new(alloc);
+    if ended.status == 0 {
+        add_font_or_file(&mut font_or_file, program.facts(), task);
+    }
+    tell(alloc, err, &font_or_file);
+    let mut run = Text::new(alloc);
+    add_run(alloc, &mut run, program, task, ended, is_file);
+    tell(alloc, err, &run);
 }
 
-/// What is said of a file whose name promises another format, or of a variable font.
-fn of_font_or_file(
-    alloc: Global,
-    facts: &Facts,
-    task: &AskedRun<'_, '_>,
-    ended: Ended,
-) -> Result<Text, AllocError> {
-    if ended.status != 0 {
-        return Ok(Text::new(alloc));
-    }
+/// Adds what is said of a file whose name promises another format, or of a variable font.
+fn add_font_or_file(text: &mut Text, facts: &Facts, task: &AskedRun<'_, '_>) {
     if let Some(name) = task.parts.output
         && task.is("make")
         && let Some((_, ending)) = name.rsplit_once('.')
         && is_among(ending, OTHERS)
     {
-        return Text::of(alloc, &["'", name, IS_BDF]);
+        text.add_all(&["'", name, IS_BDF]);
+    } else if facts.is_variable {
+        text.add_all(&[IS_VARIABLE]);
     }
-    Text::of(alloc, &[if facts.is_variable { IS_VARIABLE } else { "" }])
 }
 
-/// What is said of the run; nothing if nothing is.
-fn of_run<G: Tool>(
+/// Adds what is said of a run.
+fn add_run<G: Tool>(
     alloc: Global,
+    text: &mut Text,
     program: &G,
     task: &AskedRun<'_, '_>,
     ended: Ended,
     is_file: bool,
-) -> Result<Text, AllocError> {
-    let mut text = Text::new(alloc);
+) {
     let facts = program.facts();
     match (ended.status, facts.strike, facts.refused) {
-        (0, Some(counts), _) => add_strike(&mut text, task, facts, counts, ended.is_blank)?,
-        (1, _, Some(refused)) => add_refusal(alloc, &mut text, program, task, refused)?,
+        (0, Some(counts), _) => add_strike(text, task, facts, counts, ended.is_blank),
+        (1, _, Some(refused)) => add_refusal(alloc, text, program, task, refused),
         (0 | 1, _, _) => {}
-        _ => add_usage(alloc, &mut text, program, task, is_file)?,
+        _ => add_usage(alloc, text, program, task, is_file),
     }
-    Ok(text)
 }
 
 /// Adds what is said of a strike.
@@ -109,42 +105,45 @@ fn add_strike(
     facts: &Facts,
     counts: Counts,
     is_blank: bool,
-) -> Result<(), AllocError> {
+) {
     if facts.is_cut {
-        return text.add_all(&[IS_CUT]);
+        text.add_all(&[IS_CUT]);
+    } else if counts.glyphs == 0 {
+        text.add_all(&["the strike has no glyph: ", why_no_glyph(task, counts)]);
+    } else if counts.missing > 0 {
+        add_missing(text, facts, counts.missing);
+    } else if is_blank {
+        text.add_all(&[IS_BLANK]);
     }
-    if counts.glyphs == 0 {
-        let why = if counts.missing > 0 {
-            LACKS_ALL
-        } else if task.list() == Some("") {
-            "the list of characters is empty"
-        } else if has(&task.parts.words, "--all") {
-            "the font has no character, or all are refused"
-        } else {
-            "the requested characters are refused"
-        };
-        return text.add_all(&["the strike has no glyph: ", why]);
-    }
+}
+
+/// Why a strike has no glyph.
+fn why_no_glyph(task: &AskedRun<'_, '_>, counts: Counts) -> &'static str {
     if counts.missing > 0 {
-        return add_missing(text, facts, counts);
+        LACKS_ALL
+    } else if task.list() == Some("") {
+        "the list of characters is empty"
+    } else if has(&task.parts.words, "--all") {
+        "the font has no character, or all are refused"
+    } else {
+        "the requested characters are refused"
     }
-    text.add_all(&[if is_blank { IS_BLANK } else { "" }])
 }
 
 /// Adds which characters are missing.
-fn add_missing(text: &mut Text, facts: &Facts, counts: Counts) -> Result<(), AllocError> {
-    text.add_number(u64::from(counts.missing))?;
-    let be = if counts.missing == 1 { "is" } else { "are" };
-    text.add_all(&[" of the requested characters ", be, " missing in the font"])?;
-    if !facts.missing.is_empty() {
-        text.add_all(&[": "])?;
-        text.add(facts.missing.bytes())?;
+fn add_missing(text: &mut Text, facts: &Facts, count: u32) {
+    text.add_number(u64::from(count));
+    let be = if count == 1 { "is" } else { "are" };
+    text.add_all(&[" of the requested characters ", be, " missing in the font"]);
+    let missing = facts.missing.bytes().unwrap_or(b"");
+    if missing.is_empty() {
+        return;
     }
-    text.add_all(&[if facts.has_more {
-        ",..; --missing names all"
-    } else {
-        ""
-    }])
+    text.add(b": ");
+    text.add(missing);
+    if facts.has_more {
+        text.add(b",..; --missing names all");
+    }
 }
 
 /// Adds what to do after a refusal.
@@ -154,34 +153,30 @@ fn add_refusal<G: Tool>(
     program: &G,
     task: &AskedRun<'_, '_>,
     refused: RefusalFacts,
-) -> Result<(), AllocError> {
+) {
     let advice = refused.advice;
     match (refused.number, &program.facts().start) {
-        (10, Some(start)) => text.add(kind_of(&KINDS, start).unwrap_or(advice).as_bytes()),
+        (10, Some(start)) => text.add_all(&[kind_of(&KINDS, start).unwrap_or(advice)]),
         (17..=23, _) if task.is("make") => text.add_all(&[advice, "; --refused leave-out does so"]),
         (24, _) if names_glyph(task, refused.glyph) => {
-            text.add(b"the font has no glyph of that number")
+            text.add_all(&["the font has no glyph of that number"])
         }
         (25, Some(start)) => add_faces(text, start),
         (30..=41, _) => add_halt(text, task, refused),
         (61, _) => add_list(alloc, text, program, task, advice),
-        _ => text.add(advice.as_bytes()),
+        _ => text.add_all(&[advice]),
     }
 }
 
 /// Adds what to do after a halt. A trace runs the programs always.
-fn add_halt(
-    text: &mut Text,
-    task: &AskedRun<'_, '_>,
-    refused: RefusalFacts,
-) -> Result<(), AllocError> {
+fn add_halt(text: &mut Text, task: &AskedRun<'_, '_>, refused: RefusalFacts) {
     if task.is("make") && refused.is_halted_glyph {
-        text.add_all(&["--refused unhinted draws such characters without hinting; "])?;
+        text.add_all(&["--refused unhinted draws such characters without hinting; "]);
     }
     if !task.is("trace") {
-        text.add_all(&["with --unhinted no program of the font runs; "])?;
+        text.add_all(&["with --unhinted no program of the font runs; "]);
     }
-    text.add_all(&["to fix the font, ", refused.advice])
+    text.add_all(&["to fix the font, ", refused.advice]);
 }
 
 /// Whether the glyph that is refused is one that the words name.
@@ -193,7 +188,7 @@ fn names_glyph(task: &AskedRun<'_, '_>, glyph: Option<u16>) -> bool {
     // No word so far names it.
     'words: for word in task.parts.words.iter() {
         let value = match word.split_once('=') {
-            Some(("--glyph" | "--of", value)) => value,
+            Some((option, value)) if has(&["--glyph", "--of"], option) => value,
             _ => word,
         };
         if value.as_bytes() == digits.text() {
@@ -204,21 +199,28 @@ fn names_glyph(task: &AskedRun<'_, '_>, glyph: Option<u16>) -> bool {
 }
 
 /// Adds which faces a file has that begins so.
-fn add_faces(text: &mut Text, start: &[u8]) -> Result<(), AllocError> {
-    let faces = match start {
-        [b't', b't', b'c', b'f', _, _, _, _, a, b, c, d] => u32::from_be_bytes([*a, *b, *c, *d]),
-        _ => return text.add_all(&["the file is no collection: leave --face out"]),
-    };
-    if faces == 0 {
-        return text.add_all(&["the collection has no font"]);
+fn add_faces(text: &mut Text, start: &[u8]) {
+    match faces_of(start) {
+        None => text.add_all(&["the file is no collection: leave --face out"]),
+        Some(0) => text.add_all(&["the collection has no font"]),
+        Some(1) => text.add_all(&["the collection has one font: leave --face out"]),
+        Some(faces) => {
+            text.add_all(&["the collection has "]);
+            text.add_number(u64::from(faces));
+            text.add_all(&[" fonts: --face takes 0 to "]);
+            text.add_number(u64::from(faces - 1));
+        }
     }
-    if faces == 1 {
-        return text.add_all(&["the collection has one font: leave --face out"]);
+}
+
+/// How many fonts a collection has that begins so. None if it is no collection.
+fn faces_of(start: &[u8]) -> Option<u32> {
+    match start {
+        [b't', b't', b'c', b'f', _, _, _, _, a, b, c, d] => {
+            Some(u32::from_be_bytes([*a, *b, *c, *d]))
+        }
+        _ => None,
     }
-    text.add_all(&["the collection has "])?;
-    text.add_number(u64::from(faces))?;
-    text.add_all(&[" fonts: --face takes 0 to "])?;
-    text.add_number(u64::from(faces - 1))
 }
 
 /// Adds what is wrong with a list of characters, or with one.
@@ -228,63 +230,63 @@ fn add_list<G: Tool>(
     program: &G,
     task: &AskedRun<'_, '_>,
     advice: &str,
-) -> Result<(), AllocError> {
+) {
     let Some(list) = task.list() else {
-        return text.add(advice.as_bytes());
+        return text.add_all(&[advice]);
     };
     if !task.is("make") {
         let takes = "--char takes one hexadecimal number up to 10FFFF, not '";
-        return text.add_all(&[takes, list, "'; the letter A is 41"]);
-    }
-    if list == task.parts.listed
+        text.add_all(&[takes, list, "'; the letter A is 41"]);
+    } else if list == task.parts.listed
         && let Some(name) = first_word(list)
     {
-        return add_unknown_set(alloc, text, name);
+        add_unknown_set(alloc, text, name);
+    } else {
+        program.add_wrong_item(text, list);
+        text.add_all(&[": ", advice, "; the letter A is 41"]);
+        add_names(alloc, text, list);
     }
-    text.add(program.wrong_item(alloc, list)?.bytes())?;
-    text.add_all(&[": ", advice, "; the letter A is 41"])?;
-    add_names(alloc, text, list)
 }
 
 /// Adds that no set of characters has this name, and which may be meant.
-fn add_unknown_set(alloc: Global, text: &mut Text, name: &str) -> Result<(), AllocError> {
-    text.add_all(&["no set of characters has the name '", name, "'; "])?;
-    add_question(text, "", &set_meant_by(alloc, name)?, " ")?;
-    text.add_all(&["'mkstrike help sets' lists the sets"])
+fn add_unknown_set(alloc: Global, text: &mut Text, name: &str) {
+    text.add_all(&["no set of characters has the name '", name, "';"]);
+    add_question(text, set_meant_by(alloc, name));
+    text.add_all(&[" 'mkstrike help sets' lists the sets"]);
 }
 
-/// Adds the question whether words are meant, between two texts; nothing without words.
-fn add_question(
-    text: &mut Text,
-    before: &str,
-    meant: &Text,
-    after: &str,
-) -> Result<(), AllocError> {
-    if meant.is_empty() {
-        return Ok(());
+/// Adds the question whether one of some words is meant; nothing without words.
+fn add_question(text: &mut Text, meant: Result<Vec<&'static str>, AllocError>) {
+    let Ok(words) = meant else {
+        return text.stop();
+    };
+    let mut before = " did you mean '";
+    // The words so far were added.
+    'words: for word in &words {
+        text.add_all(&[before, word, "'"]);
+        before = " or '";
     }
-    text.add_all(&[before, "did you mean "])?;
-    text.add(meant.bytes())?;
-    text.add_all(&["?", after])
+    if !words.is_empty() {
+        text.add(b"?");
+    }
 }
 
 /// Adds what there is for a list that has names or letters.
-fn add_names(alloc: Global, text: &mut Text, list: &str) -> Result<(), AllocError> {
+fn add_names(alloc: Global, text: &mut Text, list: &str) {
     if list == "all" || list == "*" {
         return text.add_all(&["; --all takes all characters of the font"]);
     }
-    let mut has_letter = false;
-    // No item so far is the name of a set; `has_letter` tells whether one has a letter that is no digit, or is no word of ASCII.
+    // No item so far is the name of a set.
     'items: for item in list.split(',') {
-        if list_of(alloc, item)?.is_some() {
-            return text.add_all(&["; --set ", item, " takes that set"]);
+        match list_of(alloc, item) {
+            Ok(None) => {}
+            Ok(Some(_)) => return text.add_all(&["; --set ", item, " takes that set"]),
+            Err(_) => return text.stop(),
         }
-        has_letter |= is_word(item);
     }
-    if has_letter {
-        return text.add_all(&[LISTS]);
+    if first_word(list).is_some() {
+        text.add_all(&[LISTS]);
     }
-    Ok(())
 }
 
 /// The first item of a list that looks like a word.
@@ -316,88 +318,86 @@ fn add_usage<G: Tool>(
     program: &G,
     task: &AskedRun<'_, '_>,
     is_file: bool,
-) -> Result<(), AllocError> {
-    let words = task.parts.words.get(1..).unwrap_or(&[]);
-    let Some((first, _)) = words.split_first() else {
+) {
+    let [_, words @ ..] = task.parts.words.as_slice() else {
+        return text.add_all(&[WRONG_LINE]);
+    };
+    let [first, ..] = words else {
         return text.add_all(&[WRONG_LINE]);
     };
     let Some(command) = task.command else {
         return add_command(alloc, text, first, is_file);
     };
-    let said = program.wrong(alloc, words)?;
+    let Ok(said) = program.wrong(alloc, words) else {
+        return text.stop();
+    };
     let wrong = str::from_utf8(&said).unwrap_or("").trim_end();
-    add_wrong(alloc, text, task, command, wrong)?;
-    text.add_all(&[" 'mkstrike help ", command, "' shows how it is written"])
+    add_wrong(alloc, text, task, command, wrong);
+    text.add_all(&[" 'mkstrike help ", command, "' shows how it is written"]);
 }
 
-/// Adds the line that says what is wrong with the words of a command, and what explains it further: what there is in place of an
-/// unknown option, or which may be meant.
-fn add_wrong(
-    alloc: Global,
-    text: &mut Text,
-    task: &AskedRun<'_, '_>,
-    command: &str,
-    wrong: &str,
-) -> Result<(), AllocError> {
+/// Adds the line that says what is wrong with the words of a command, and what explains it further.
+fn add_wrong(alloc: Global, text: &mut Text, task: &AskedRun<'_, '_>, command: &str, wrong: &str) {
     if wrong == "unknown option '-o'" {
-        return text.add_all(&["-o takes the name of a file, and is given once;"]);
-    }
-    if let Some(option) = wrong.strip_prefix("unknown option '") {
+        text.add_all(&["-o takes the name of a file, and is given once"]);
+    } else if let Some(option) = wrong.strip_prefix("unknown option '") {
         let option = option.strip_suffix("'").unwrap_or(option);
-        text.add_all(&[wrong, ";"])?;
-        return match instead_of(option) {
-            Some(instead) => text.add_all(&[" ", instead, ";"]),
-            None => add_question(text, " ", &meant_by(alloc, option, command)?, ""),
-        };
+        text.add_all(&[wrong, ";"]);
+        return add_instead(alloc, text, option, command);
+    } else {
+        text.add_all(&[wrong]);
+        add_more(text, wrong, task);
     }
-    text.add_all(&[wrong])?;
-    add_more(text, wrong, task)?;
-    text.add_all(&[";"])
+    text.add_all(&[";"]);
+}
+
+/// Adds what there is in place of an unknown option of a command, or which may be meant.
+fn add_instead(alloc: Global, text: &mut Text, option: &str, command: &str) {
+    match instead_of(option) {
+        Some(instead) => text.add_all(&[" ", instead, ";"]),
+        None => add_question(text, meant_by(alloc, option, command)),
+    }
 }
 
 /// Adds what explains a wrong word or value further.
-fn add_more(text: &mut Text, wrong: &str, task: &AskedRun<'_, '_>) -> Result<(), AllocError> {
+fn add_more(text: &mut Text, wrong: &str, task: &AskedRun<'_, '_>) {
     if let Some(font) = task.parts.font
         && wrong.starts_with("one word too many")
     {
         return text.add_all(&[": '", font, "' names the font"]);
     }
-    let Some(value) = wrong.strip_prefix("--ppem takes a whole number from 1 to 1024, not '") else {
-        return Ok(());
-    };
+    if let Some(value) = wrong.strip_prefix("--ppem takes a whole number from 1 to 1024, not '") {
+        text.add_all(&[about_ppem(value)]);
+    }
+}
+
+/// What explains a wrong value of `--ppem` further.
+fn about_ppem(value: &str) -> &'static str {
     if value.contains("pt") {
-        text.add_all(&["; pixels are points times the resolution, divided by 72"])
+        "; pixels are points times the resolution, divided by 72"
     } else if value.contains('x') && !value.starts_with("0x") {
-        text.add_all(&["; strike --cell of the package python3-mkstrike makes cells of one size"])
+        "; strike --cell of the package python3-mkstrike makes cells of one size"
     } else if value.contains(',') || value.contains('-') {
-        text.add_all(&["; strike --size of the package python3-mkstrike makes several"])
+        "; strike --size of the package python3-mkstrike makes several"
     } else {
-        Ok(())
+        ""
     }
 }
 
 /// Adds what is wrong with the name of a command.
-fn add_command(
-    alloc: Global,
-    text: &mut Text,
-    word: &str,
-    is_file: bool,
-) -> Result<(), AllocError> {
+fn add_command(alloc: Global, text: &mut Text, word: &str, is_file: bool) {
     if word.starts_with('-') {
-        return text.add_all(&[
-            NO_COMMAND,
-            word,
-            "'; 'mkstrike help' shows how it is written",
-        ]);
+        let how = "'; 'mkstrike help' shows how it is written";
+        return text.add_all(&[NO_COMMAND, word, how]);
     }
     if is_file {
         return text.add_all(&[A_FILE]);
     }
-    text.add_all(&["unknown command '", word, "'; "])?;
+    text.add_all(&["unknown command '", word, "';"]);
     if word == "version" {
-        text.add_all(&["did you mean '--version'? "])?;
+        text.add_all(&[" did you mean '--version'?"]);
     } else {
-        add_question(text, "", &meant_by(alloc, word, "")?, " ")?;
+        add_question(text, meant_by(alloc, word, ""));
     }
-    text.add_all(&["'mkstrike help' lists the commands"])
+    text.add_all(&[" 'mkstrike help' lists the commands"]);
 }

@@ -6,16 +6,16 @@ ghost use Rattle.fx_front.specs.Lines.{SaysLine};
 
 use crate::asked::{Asked, AskedRun, asked_by};
 use crate::explained::say_after;
-use crate::help::{OVERVIEW, VERSION, help_of};
+use crate::help::{HELPS, OVERVIEW, VERSION};
 use crate::input::Input;
 use crate::lines::tell;
-use crate::meant::command_of;
+use crate::meant::{command_of, row_of};
 use crate::output::{NO_FOLDER, Outlet, Output, output_of, why_closed};
 use crate::run::run_to_place;
 use crate::text::Text;
 use crate::tool::Tool;
 use fx_fixed::{FromReader, Sink, ToSink, put_all};
-use fx_words::{listed, part, set_in};
+use fx_words::{listed, part, value_in};
 use std::alloc::Global;
 use std::fs::File;
 use std::io::IsTerminal;
@@ -29,8 +29,8 @@ pub fn run_front<G: Tool>(rt: &HostRuntime, program: &mut G, words: &[&str]) -> 
     match asked_by(words, rt.stdin().is_terminal()) {
         Asked::Version => Ok(print(rt, VERSION)),
         Asked::Help(None) => Ok(print(rt, OVERVIEW)),
-        Asked::Help(Some(command)) => match help_of(command) {
-            Some(text) => Ok(print(rt, text)),
+        Asked::Help(Some(command)) => match row_of(&HELPS, command) {
+            Some((_, text)) => Ok(print(rt, text)),
             None => {
                 say(rt, &["usage"]);
                 let what = "'; 'mkstrike help' lists the commands";
@@ -55,7 +55,7 @@ fn print(rt: &HostRuntime, text: &str) -> u8
 /// Says pieces in a line.
 fn say(rt: &HostRuntime, pieces: &[&str]) {
     let mut err = ToSink::new(rt.stderr());
-    tell(rt.alloc(), &mut err, Text::of(rt.alloc(), pieces));
+    tell(rt.alloc(), &mut err, &Text::of(rt.alloc(), pieces));
 }
 
 /// Says why there are no words, after the line of a wrong command line.
@@ -63,35 +63,31 @@ pub fn say_not_text<E: Sink>(alloc: Global, err: &mut E)
     ensures { SaysLine (change_of E.held E.fault_count err.old err.new) }
 {
     let what = "an argument is not UTF-8 text: give a font with such a name on standard input";
-    tell(alloc, err, Text::of(alloc, &[what]));
+    tell(alloc, err, &Text::of(alloc, &[what]));
 }
 
-/// Runs the program on the words, or has it explain them without an input. The command's name is the second word, or follows
-/// `explain`.
+/// Runs the program on the words, or has it explain them without an input.
 fn run_words<G: Tool>(rt: &HostRuntime, program: &mut G, words: &[&str]) -> io::Result<u8>
     ensures { IfOk result IsStatus }
 {
-    let is_explain = words.get(1).copied() == Some("explain");
-    let count = if is_explain { 3 } else { 2 };
-    let command = command_of(words.get(count - 1).copied().unwrap_or(""));
-    let list = listed(rt.alloc(), set_in(words))?;
-    // Without a command that takes a font all words are for the program.
-    let end = if command.is_some() {
-        count
-    } else {
-        words.len()
-    };
-    let (before, after) = words.split_at(words.len().min(end));
-    let is_make = command == Some("make");
-    let parts = part(rt.alloc(), before, is_make, list.as_str(), after)?;
+    let called = called_by(words);
+    let list = listed(rt.alloc(), value_in(words, "--set").unwrap_or(""))?;
+    let is_make = called.command == Some("make");
+    let parts = part(
+        rt.alloc(),
+        called.before,
+        is_make,
+        list.as_str(),
+        called.after,
+    )?;
     let task = AskedRun {
         parts: &parts,
-        command,
+        command: called.command,
     };
-    if command.is_some() && !is_explain {
+    if called.command.is_some() && !called.is_explained {
         return run_named(rt, program, &task);
     }
-    let input = if is_explain {
+    let input = if called.is_explained {
         Input::Nothing
     } else {
         Input::Standard(rt.stdin())
@@ -99,37 +95,59 @@ fn run_words<G: Tool>(rt: &HostRuntime, program: &mut G, words: &[&str]) -> io::
     Ok(run_from(rt, program, &task, input, Output::Standard))
 }
 
+/// What words call for: a command that takes a font, if there is one, and whether it is only explained.
+#[derive(Clone, Copy)]
+struct Called<'w, 'a> {
+    command: Option<&'static str>,
+    is_explained: bool,
+    /// The words up to the command's name.
+    before: &'w [&'a str],
+    /// The words after it, which may name files.
+    after: &'w [&'a str],
+}
+
+/// What words call for. The command's name is the second word, or follows `explain`. Without a command that takes a font all words
+/// are for the program.
+fn called_by<'w, 'a>(words: &'w [&'a str]) -> Called<'w, 'a> {
+    let is_explained = words.get(1).copied() == Some("explain");
+    let count = if is_explained { 3 } else { 2 };
+    let command = command_of(words.get(count - 1).copied().unwrap_or(""));
+    let end = if command.is_some() {
+        count
+    } else {
+        words.len()
+    };
+    let (before, after) = words.split_at(words.len().min(end));
+    Called {
+        command,
+        is_explained,
+        before,
+        after,
+    }
+}
+
 /// Runs the program on the font and with the output that the words name.
 fn run_named<G: Tool>(rt: &HostRuntime, program: &mut G, task: &AskedRun<'_, '_>) -> io::Result<u8>
     ensures { IfOk result IsStatus }
 {
-    let input = match input_of(rt, task.parts.font) {
-        Ok(input) => input,
-        Err(why) => return refuse_font(rt, program, task, why),
-    };
     let font = match task.parts.font {
-        Some(name) if name != "-" => name,
-        _ => "/dev/stdin",
+        Some("-") => None,
+        font => font,
     };
-    match output_of(rt, task.parts.output, font)? {
-        Ok(output) => Ok(run_from(rt, program, task, input, output)),
-        Err(why) => Ok(refuse_output(rt, task, why)),
+    match input_of(rt, font) {
+        Ok(input) => run_with(rt, program, task, font, input),
+        Err(why) => refuse_font(rt, program, task, why),
     }
 }
 
-/// The font of a name, or why it can't be read.
+/// The font of a name, by default standard input, or why it can't be read.
 fn input_of(rt: &HostRuntime, font: Option<&str>) -> Result<Input, &'static str> {
-    let name = match font {
-        Some(name) if name != "-" => name,
-        _ => {
-            if rt.stdin().is_terminal() {
-                say(
-                    rt,
-                    &["the font is read from standard input, which is a terminal here"],
-                );
-            }
-            return Ok(Input::Standard(rt.stdin()));
+    let Some(name) = font else {
+        if rt.stdin().is_terminal() {
+            let what = "the font is read from standard input, which is a terminal here";
+            say(rt, &[what]);
         }
+        return Ok(Input::Standard(rt.stdin()));
     };
     match fs::metadata(rt, name) {
         Err(_) => Err("there is no such file"),
@@ -141,7 +159,23 @@ fn input_of(rt: &HostRuntime, font: Option<&str>) -> Result<Input, &'static str>
     }
 }
 
-/// Says why a font can't be opened, and how it is named; or what is wrong with the other words. Returns the status.
+/// Runs the program on a font, with the output that the words name.
+fn run_with<G: Tool>(
+    rt: &HostRuntime,
+    program: &mut G,
+    task: &AskedRun<'_, '_>,
+    font: Option<&str>,
+    input: Input,
+) -> io::Result<u8>
+    ensures { IfOk result IsStatus }
+{
+    match output_of(rt, task.parts.output, font.unwrap_or("/dev/stdin"))? {
+        Ok(output) => Ok(run_from(rt, program, task, input, output)),
+        Err(why) => Ok(refuse_output(rt, task, why)),
+    }
+}
+
+/// Says what is wrong with the other words, or else why the font can't be opened. Returns the status.
 fn refuse_font<G: Tool>(
     rt: &HostRuntime,
     program: &mut G,
@@ -151,22 +185,27 @@ fn refuse_font<G: Tool>(
     ensures { IfOk result IsStatus }
 {
     let wrong = program.wrong(rt.alloc(), task.parts.words.get(1..).unwrap_or(&[]))?;
-    if !wrong.is_empty() {
-        let input = Input::Nothing;
-        return Ok(run_from(rt, program, task, input, Output::Standard));
+    if wrong.is_empty() {
+        say_no_font(rt, task, why);
+        Ok(1)
+    } else {
+        Ok(run_from(rt, program, task, Input::Nothing, Output::Standard))
     }
+}
+
+/// Says why a font can't be opened, and how it is named.
+fn say_no_font(rt: &HostRuntime, task: &AskedRun<'_, '_>, why: &str) {
     let name = task.parts.font.unwrap_or("");
     say(rt, &["can't open the font '", name, "': ", why]);
-    let (how, command, end) = if name.contains('/') {
-        let command = task.command.unwrap_or("");
-        ("; 'mkstrike help ", command, "' shows how it is written")
-    } else {
-        let how = "'s file; 'fc-list' shows the files of the installed fonts";
-        (how, "", "")
-    };
     let names = "the first word that is neither an option nor its value names the font";
-    say(rt, &[names, how, command, end]);
-    Ok(1)
+    if name.contains('/') {
+        let command = task.command.unwrap_or("");
+        let how = "' shows how it is written";
+        say(rt, &[names, "; 'mkstrike help ", command, how]);
+    } else {
+        let files = "'s file; 'fc-list' shows the files of the installed fonts";
+        say(rt, &[names, files]);
+    }
 }
 
 /// Says why an output is not written. Returns the status.
@@ -203,9 +242,13 @@ fn run_from<G: Tool>(
     if ended.status == 0 && !ended.is_named {
         return refuse_output(rt, task, "the new file could not be given its name");
     }
-    let first = task.parts.words.get(1).copied().unwrap_or("");
-    let is_file = ended.status == 2
-        && matches!(fs::metadata(rt, first), Ok(found) if found.is_file());
+    let is_file = ended.status == 2 && begins_with_file(rt, task);
     say_after(rt.alloc(), program, task, ended, is_file, &mut err);
     ended.status
+}
+
+/// Whether the first word names a file.
+fn begins_with_file(rt: &HostRuntime, task: &AskedRun<'_, '_>) -> bool {
+    let first = task.parts.words.get(1).copied().unwrap_or("");
+    matches!(fs::metadata(rt, first), Ok(found) if found.is_file())
 }

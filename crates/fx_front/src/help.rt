@@ -34,18 +34,15 @@ terminal, X11, a console, a boot screen and a small display; REFUSALS.md says wh
 ";
 
 /// What `mkstrike help COMMAND` prints.
-pub(crate) fn help_of(command: &str) -> Option<&'static str> {
-    match command {
-        "make" => Some(MAKE),
-        "show" => Some(SHOW),
-        "outline" => Some(OUTLINE),
-        "dump" => Some(DUMP),
-        "trace" => Some(TRACE),
-        "explain" => Some(EXPLAIN),
-        "sets" => Some(SETS),
-        _ => None,
-    }
-}
+pub(crate) const HELPS: [(&str, &str); 7] = [
+    ("make", MAKE),
+    ("show", SHOW),
+    ("outline", OUTLINE),
+    ("dump", DUMP),
+    ("trace", TRACE),
+    ("explain", EXPLAIN),
+    ("sets", SETS),
+];
 
 const SETS: &str =
     "These are the sets of characters that --set of mkstrike make takes by name, in letters of either case:

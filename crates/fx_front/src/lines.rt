@@ -9,13 +9,13 @@ use std::alloc::{AllocError, Global};
 
 /// Says a text in a line, if there was memory for it. Nothing is said without bytes, or if the sink was at fault before. A fault is
 /// ignored.
-pub fn tell<E: Sink>(alloc: Global, err: &mut E, made: Result<Text, AllocError>)
+pub fn tell<E: Sink>(alloc: Global, err: &mut E, text: &Text)
     ensures { SaysLine (change_of E.held E.fault_count err.old err.new) }
 {
-    if let Ok(text) = made
-        && !text.is_empty()
+    if let Some(bytes) = text.bytes()
+        && !bytes.is_empty()
         && err.faults() == 0
-        && let Ok(line) = line_of(alloc, text.bytes())
+        && let Ok(line) = line_of(alloc, bytes)
     {
         let _ = put_all(err, &line);
     }

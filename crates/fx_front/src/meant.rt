@@ -3,7 +3,6 @@ ghost use Rattle.std.specs.Prelude.{◌≡◌, map, option_map};
 ghost use Rattle.fx_words.specs.Parts.{text_in};
 ghost use Rattle.fx_front.specs.inner.Asked.{command_of, name_among};
 
-use crate::text::Text;
 use fx_words::SETS;
 use std::alloc::{AllocError, Global};
 use strsim::levenshtein;
@@ -79,8 +78,11 @@ const INSTEAD: [(&str, &str); 7] = [
 const STRIKE: &str =
     "the command strike of the package python3-mkstrike makes formats, cells, several sizes and texts: 'strike --help'";
 
-/// The first row with a name, of a table of commands and options.
-fn row_of(rows: &[(&'static str, &'static str)], name: &str) -> Option<(&'static str, &'static str)>
+/// The first row of a table with a name.
+pub(crate) fn row_of(
+    rows: &[(&'static str, &'static str)],
+    name: &str,
+) -> Option<(&'static str, &'static str)>
     ensures { option_map (λ row. row.0.now) result ≡ name_among (map (λ row. row.0.now) rows.now) name.now }
 {
     // The first row with the name among those that are left is that among all.
@@ -106,59 +108,105 @@ pub(crate) fn command_of(word: &str) -> Option<&'static str>
 /// What there is in place of an option that others have.
 pub(crate) fn instead_of(option: &str) -> Option<&'static str> {
     // The option is in no row so far.
-    'rows: for (options, instead) in INSTEAD.iter().copied() {
-        if is_among(option, options) {
-            return Some(instead);
+    'rows: for row in &INSTEAD {
+        if is_among(option, row.0) {
+            return Some(row.1);
         }
     }
     None
 }
 
-/// Which option of a command may be meant by a word, or which command if none is given, each in quotation marks. It is found by a
-/// usual word for it, or by the fewest letters that differ, and then there may be two. Nothing if none may be.
-pub(crate) fn meant_by(alloc: Global, word: &str, command: &str) -> Result<Text, AllocError> {
-    let words = row_of(&OPTIONS, command).map_or(COMMANDS, |row| row.1);
-    // The word is in no row so far that has one of the words.
-    'rows: for (usual, meant) in USUAL.iter().copied() {
-        if is_among(word, usual) && is_among(meant, words) {
-            return Text::of(alloc, &["'", meant, "'"]);
-        }
-    }
-    if word.len() < 5 && word.starts_with('-') {
-        return Ok(Text::new(alloc));
-    }
-    nearest(alloc, word, words)
-}
-
-/// Which set of characters may be meant by a name, in quotation marks, by the fewest letters that differ; there may be two. Nothing
-/// if none may be, or if the name is too short to tell.
-pub(crate) fn set_meant_by(alloc: Global, name: &str) -> Result<Text, AllocError> {
-    if name.len() < 4 {
-        return Ok(Text::new(alloc));
-    }
-    let names: Vec<&str> = SETS.iter().map(|set| set.0).collect(alloc)?;
-    nearest(alloc, name, names.join(alloc, " ")?.as_str())
-}
-
-/// The words with the fewest letters that differ from one, at most two, each in quotation marks.
-fn nearest(alloc: Global, word: &str, words: &str) -> Result<Text, AllocError> {
-    let mut lower = String::from_str(alloc, word)?;
-    lower.make_ascii_lowercase();
-    let mut found = Text::new(alloc);
-    let mut nearest = 2;
-    // `found` has the words so far that are nearest.
-    'words: for each in words.split(' ') {
-        let distance = levenshtein(alloc, lower.as_str(), each)?;
-        if distance < nearest {
-            found = Text::new(alloc);
-            nearest = distance;
-        }
-        if distance == nearest {
-            let before = if found.is_empty() { "'" } else { " or '" };
-            found.add_all(&[before, each, "'"])?;
-        }
+/// Which option of a command may be meant by a word, or which command if none is given. It is found by a usual word for it, or by
+/// the fewest letters that differ, and then there may be several.
+pub(crate) fn meant_by(
+    alloc: Global,
+    word: &str,
+    command: &str,
+) -> Result<Vec<&'static str>, AllocError> {
+    let words = match row_of(&OPTIONS, command) {
+        Some((_, options)) => options,
+        None => COMMANDS,
+    };
+    let mut found = Vec::new(alloc);
+    match usual_for(word, words) {
+        Some(meant) => found.push(meant)?,
+        None if word.len() < 5 && word.starts_with('-') => {}
+        None => found = nearest_among(alloc, word, words)?,
     }
     Ok(found)
+}
+
+/// The words among these with the fewest letters that differ.
+fn nearest_among(
+    alloc: Global,
+    word: &str,
+    words: &'static str,
+) -> Result<Vec<&'static str>, AllocError> {
+    let mut nearest = Nearest::new(alloc, word)?;
+    // `nearest` has seen the words so far.
+    'words: for each in words.split(' ') {
+        nearest.see(alloc, each)?;
+    }
+    Ok(nearest.found)
+}
+
+/// The word among these that others call so.
+fn usual_for(word: &str, words: &str) -> Option<&'static str> {
+    // No row so far has the word, and is for one of these.
+    'rows: for row in &USUAL {
+        if is_among(word, row.0) && is_among(row.1, words) {
+            return Some(row.1);
+        }
+    }
+    None
+}
+
+/// Which sets of characters may be meant by a name, by the fewest letters that differ. None if the name is too short to tell.
+pub(crate) fn set_meant_by(alloc: Global, name: &str) -> Result<Vec<&'static str>, AllocError> {
+    if name.len() < 4 {
+        return Ok(Vec::new(alloc));
+    }
+    let mut nearest = Nearest::new(alloc, name)?;
+    // `nearest` has seen the sets so far.
+    'sets: for set in &SETS {
+        nearest.see(alloc, set.0)?;
+    }
+    Ok(nearest.found)
+}
+
+/// The words that differ from one in the fewest letters, in two at most.
+#[derive(Drop)]
+struct Nearest {
+    /// The word, in lower case.
+    word: String,
+    /// The nearest words so far.
+    found: Vec<&'static str>,
+    /// How many letters differ in these.
+    distance: usize,
+}
+
+impl Nearest {
+    /// No word was seen yet.
+    fn new(alloc: Global, word: &str) -> Result<Nearest, AllocError> {
+        Ok(Nearest {
+            word: word.to_ascii_lowercase(alloc)?,
+            found: Vec::new(alloc),
+            distance: 2,
+        })
+    }
+
+    /// Sees a word.
+    fn see(&mut self, alloc: Global, word: &'static str) -> Result<(), AllocError> {
+        let distance = levenshtein(alloc, self.word.as_str(), word)?;
+        if distance < self.distance {
+            self.found.clear();
+            self.distance = distance;
+        }
+        if distance == self.distance {
+            self.found.push(word)?;
+        }
+        Ok(())
+    }
 }
 
 /// Whether a word is among others, which spaces part.

@@ -1,6 +1,7 @@
 //! The output by its name.
 use crate::destination::Destination;
 use crate::paths::{beside_streams, folder_of, followed};
+use fx_words::has;
 use std::fs::{File, Metadata, Permissions};
 use std::io::{ErrorKind, Stdout, Write};
 use std::os::unix::fs::MetadataExt;
@@ -9,6 +10,11 @@ use std::{fs, io};
 pub const NO_FOLDER: &str = "no file can be made in its folder";
 
 const NOT_OPENED: &str = "the system can't open it";
+
+const DENIED: &str = "permission denied";
+
+/// The names of standard output.
+const STANDARD: [&str; 4] = ["-", "/dev/stdout", "/dev/fd/1", "/proc/self/fd/1"];
 
 /// How many names are tried for a new file.
 const TRIES: u32 = 100;
@@ -45,7 +51,7 @@ pub enum OpenOutput {
 /// Why a file was not opened.
 pub(crate) fn why_closed(fault: &io::Error) -> &'static str {
     if fault.kind() == ErrorKind::PermissionDenied {
-        "permission denied"
+        DENIED
     } else {
         NOT_OPENED
     }
@@ -57,21 +63,21 @@ pub(crate) fn output_of(
     name: Option<&str>,
     font: &str,
 ) -> io::Result<Result<Output, &'static str>> {
-    let Some(name) = name else {
-        return Ok(Ok(Output::Standard));
+    let name = match name {
+        Some(name) if !has(&STANDARD, name) => name,
+        _ => return Ok(Ok(Output::Standard)),
     };
-    if matches!(name, "-" | "/dev/stdout" | "/dev/fd/1" | "/proc/self/fd/1") {
-        return Ok(Ok(Output::Standard));
-    }
     match fs::metadata(rt, name) {
         Ok(found) => match refused(rt, name, font, &found) {
             Some(why) => Ok(Err(why)),
             None if found.is_file() => new_file(rt, name, Some(found.permissions())),
             None => Ok(device_of(rt, name)),
         },
-        Err(fault) if fault.kind() == ErrorKind::NotFound => new_file(rt, name, None),
-        Err(fault) if fault.kind() == ErrorKind::PermissionDenied => Ok(Err(why_closed(&fault))),
-        Err(_) => Ok(Err(NO_FOLDER)),
+        Err(fault) => match fault.kind() {
+            ErrorKind::NotFound => new_file(rt, name, None),
+            ErrorKind::PermissionDenied => Ok(Err(DENIED)),
+            _ => Ok(Err(NO_FOLDER)),
+        },
     }
 }
 
@@ -132,23 +138,31 @@ fn make_beside(rt: &HostRuntime, name: &str, like: &Option<Permissions>) -> Opti
     'tries: for n in 0..TRIES {
         let made = format!(in rt.alloc(); "{}.mkstrike-{number}-{n}", folder_of(name)).ok()?;
         match File::create_new(rt, made.as_str()) {
-            Ok(opened) => {
-                let Some(file) = beside_streams(opened) else {
-                    let _ = fs::remove_file(rt, made.as_str());
-                    return None;
-                };
-                if let Some(like) = like
-                    && let Ok(like) = like.clone()
-                {
-                    let _ = file.set_permissions(like);
-                }
-                return Some(OpenOutput::New(file, made));
-            }
+            Ok(opened) => return kept_new(rt, opened, made, like),
             Err(fault) if fault.kind() == ErrorKind::AlreadyExists => {}
             Err(_) => return None,
         }
     }
     None
+}
+
+/// A file that was made under this name, with these permissions.
+fn kept_new(
+    rt: &HostRuntime,
+    opened: File,
+    made: String,
+    like: &Option<Permissions>,
+) -> Option<OpenOutput> {
+    let Some(file) = beside_streams(opened) else {
+        let _ = fs::remove_file(rt, made.as_str());
+        return None;
+    };
+    if let Some(like) = like
+        && let Ok(like) = like.clone()
+    {
+        let _ = file.set_permissions(like);
+    }
+    Some(OpenOutput::New(file, made))
 }
 
 impl<'a> Destination for Outlet<'a> {

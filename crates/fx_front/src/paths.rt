@@ -19,21 +19,33 @@ pub(crate) fn followed(rt: &HostRuntime, path: &str) -> io::Result<Option<String
     let mut name = String::from_str(rt.alloc(), path)?;
     // `name` is reached from the path by the links so far.
     'links: for _ in 0..LINKS {
-        match fs::symlink_metadata(rt, name.as_str()) {
-            Ok(found) if found.is_symlink() => {}
-            _ => return Ok(Some(name)),
+        if !is_link(rt, name.as_str()) {
+            return Ok(Some(name));
         }
-        let Ok(link) = fs::read_link(rt, name.as_str()) else {
-            return Ok(None);
-        };
-        let to = link.into_string();
-        if to.starts_with('/') {
-            name = to;
-        } else {
-            name = format!(in rt.alloc(); "{}{to}", folder_of(name.as_str()))?;
+        match next_name(rt, name.as_str())? {
+            Some(next) => name = next,
+            None => return Ok(None),
         }
     }
     Ok(None)
+}
+
+/// Whether a name is that of a link.
+fn is_link(rt: &HostRuntime, name: &str) -> bool {
+    matches!(fs::symlink_metadata(rt, name), Ok(found) if found.is_symlink())
+}
+
+/// The name that a link leads to. None if it can't be followed. An error is that memory ran out.
+fn next_name(rt: &HostRuntime, name: &str) -> io::Result<Option<String>> {
+    let Ok(link) = fs::read_link(rt, name) else {
+        return Ok(None);
+    };
+    let next = link.into_string();
+    if next.starts_with('/') {
+        return Ok(Some(next));
+    }
+    let beside = format!(in rt.alloc(); "{}{next}", folder_of(name))?;
+    Ok(Some(beside))
 }
 
 /// The same open file under a number above those of the standard streams. A file that is opened while one of these is closed gets

@@ -1,27 +1,29 @@
 //! Texts of one line.
-ghost use Rattle.std.specs.Prelude.{◌≡◌, ◌==◌, ◌<◌, ◌∷◌, ◌++◌, [], length, map, IfOk, OnOk};
+ghost use Rattle.std.specs.Prelude.{◌≡◌, ◌==◌, ◌<◌, ◌∷◌, ◌++◌, [], Some, None, IfSome, length, map, option_map};
 ghost use Rattle.std.specs.Char.{to_ascii_lowercase};
 ghost use Rattle.std.specs.Fmt.{decimal};
 ghost use Rattle.fx_fixed.specs.Lines.{hexadecimal};
-ghost use Rattle.fx_front.specs.Lines.{IsLine, shown, shown_pieces, shown_text};
+ghost use Rattle.fx_front.specs.Lines.{IsLine, Says, shown, shown_pieces, shown_text};
 
 use fx_fixed::Digits;
-use std::alloc::{AllocError, Global};
+use std::alloc::Global;
 use std::marker::Model;
 
-/// A text of one line: a control character of what is added stands as `?`. It is seen as its bytes.
+/// A text of one line: a control character of what is added stands as `?`. Once memory runs out nothing more is added. It is seen
+/// as its bytes until then, and as none from then on.
 #[derive(Drop)]
 pub struct Text {
     bytes: Vec<u8>,
+    is_whole: bool,
 }
 
 impl Model for Text {
-    ghost use Rattle.std.specs.Prelude.{ℕ, List};
+    ghost use Rattle.std.specs.Prelude.{ℕ, List, Option, Some, None, if◌then◌else◌};
     ghost use Rattle.fx_front.specs.Lines.{IsLine};
 
-    ghost Value = { List ℕ };
+    ghost Value = { Option (List ℕ) };
 
-    ghost view = { λ t. t.bytes.items };
+    ghost view = { λ t. if t.is_whole then Some t.bytes.items else None };
 
     ghost invariant = { λ t. IsLine t.bytes.items };
 }
@@ -29,83 +31,86 @@ impl Model for Text {
 impl Text {
     /// A text without bytes.
     pub fn new(alloc: Global) -> Text
-        ensures { result ≡ [] }
+        ensures { result ≡ Some [] }
     {
         Text {
             bytes: Vec::new(alloc),
+            is_whole: true,
         }
     }
 
     /// The text of pieces.
-    pub fn of(alloc: Global, pieces: &[&str]) -> Result<Text, AllocError>
-        ensures { IfOk result (λ text. text ≡ shown_pieces pieces.now) }
+    pub fn of(alloc: Global, pieces: &[&str]) -> Text
+        ensures { Says (Some []) result (shown_pieces pieces.now) }
     {
         let mut text = Text::new(alloc);
-        text.add_all(pieces)?;
-        Ok(text)
+        text.add_all(pieces);
+        text
     }
 
     /// Adds pieces.
-    pub fn add_all(&mut self, pieces: &[&str]) -> Result<(), AllocError>
-        ensures { OnOk result (self.new ≡ self.old ++ shown_pieces pieces.now) }
+    pub fn add_all(&mut self, pieces: &[&str])
+        ensures { Says self.old self.new (shown_pieces pieces.now) }
     {
         // The pieces so far were added.
         'pieces: for piece in pieces {
-            self.add(piece.as_bytes())?;
+            self.add(piece.as_bytes());
         }
-        Ok(())
     }
 
     /// Adds bytes.
-    pub fn add(&mut self, bytes: &[u8]) -> Result<(), AllocError>
-        ensures { OnOk result (self.new ≡ self.old ++ shown_text bytes.now) }
+    pub fn add(&mut self, bytes: &[u8])
+        ensures { Says self.old self.new (shown_text bytes.now) }
     {
         // The bytes so far were added.
         'bytes: for byte in bytes {
-            self.put(*byte)?;
+            self.put(*byte);
         }
-        Ok(())
     }
 
     /// Adds a byte.
-    fn put(&mut self, byte: u8) -> Result<(), AllocError>
-        ensures { OnOk result (self.new ≡ self.old ++ shown byte ∷ []) }
+    fn put(&mut self, byte: u8)
+        ensures { Says self.old self.new (shown byte ∷ []) }
     {
-        self.bytes.push(shown(byte))?;
-        Ok(())
+        if self.is_whole {
+            self.is_whole = self.bytes.push(shown(byte)).is_ok();
+        }
     }
 
     /// Adds a number in decimal.
-    pub fn add_number(&mut self, number: u64) -> Result<(), AllocError>
-        ensures { OnOk result (self.new ≡ self.old ++ shown_text (decimal number)) }
+    pub fn add_number(&mut self, number: u64)
+        ensures { Says self.old self.new (shown_text (decimal number)) }
     {
-        self.add(Digits::unsigned(number).text())
+        self.add(Digits::unsigned(number).text());
     }
 
     /// Adds a number in hexadecimal digits of lower case.
-    pub fn add_code(&mut self, code: u32) -> Result<(), AllocError>
-        ensures { OnOk result (self.new ≡ self.old ++ shown_text (map to_ascii_lowercase (hexadecimal 1 code))) }
+    pub fn add_code(&mut self, code: u32)
+        ensures { Says self.old self.new (shown_text (map to_ascii_lowercase (hexadecimal 1 code))) }
     {
         // The digits so far were added.
         'digits: for digit in Digits::hexadecimal(u64::from(code), 1).text() {
-            self.put(digit.to_ascii_lowercase())?;
+            self.put(digit.to_ascii_lowercase());
         }
-        Ok(())
     }
 
-    /// Whether there is nothing in it.
-    pub fn is_empty(&self) -> bool
-        ensures { result ≡ (length self.now == 0) }
+    /// Stops, since memory ran out for what was to be added.
+    pub fn stop(&mut self)
+        ensures { self.new ≡ None }
     {
-        self.bytes.is_empty()
+        self.is_whole = false;
     }
 
-    /// The bytes.
-    pub fn bytes(&self) -> &[u8]
-        ensures text { result.now ≡ self.now }
-        ensures line { IsLine result.now }
+    /// The bytes; none once memory ran out.
+    pub fn bytes(&self) -> Option<&[u8]>
+        ensures text { option_map (λ bytes. bytes.now) result ≡ self.now }
+        ensures line { IfSome result (λ bytes. IsLine bytes.now) }
     {
-        &self.bytes
+        if self.is_whole {
+            Some(&self.bytes)
+        } else {
+            None
+        }
     }
 }
 

@@ -38,6 +38,6 @@ pub trait Tool {
     /// What is wrong first with the words of a command line after the program's name; no bytes if nothing is.
     fn wrong(&self, alloc: Global, words: &[&str]) -> Result<Vec<u8>, AllocError>;
 
-    /// What is wrong first with a list of characters that is refused.
-    fn wrong_item(&self, alloc: Global, list: &str) -> Result<Text, AllocError>;
+    /// Adds what is wrong first with a list of characters that is refused.
+    fn add_wrong_item(&self, text: &mut Text, list: &str);
 }

@@ -37,13 +37,6 @@ fn packed(x: i16, y: i16) -> u32
     u32::from(x.cast_unsigned()) + 65536 * u32::from(y.cast_unsigned())
 }
 
-/// Whether two pairs of coordinates are the same. Packed they take one comparison, and nearly every row that moves a point asks.
-fn same_pair(x: i16, y: i16, other_x: i16, other_y: i16) -> bool
-    ensures { IsTrue result ↔ ((x ≡ other_x) × (y ≡ other_y)) }
-{
-    packed(x, y) == packed(other_x, other_y)
-}
-
 impl Vector {
     /// Its coordinate along the x axis.
     pub fn x(self) -> F2
@@ -61,13 +54,13 @@ impl Vector {
         self.y
     }
 
-    /// Whether it is the vector of an axis.
+    /// Whether it is the vector of an axis. Packed it takes one comparison, and nearly every row that moves a point asks.
     pub fn is_along(self, axis: Axis) -> bool
         ensures { IsTrue result ↔ (self ≡ axis_of axis) }
     {
         match axis {
-            Axis::X => same_pair(self.x.0, self.y.0, F2::ONE.0, 0),
-            Axis::Y => same_pair(self.x.0, self.y.0, 0, F2::ONE.0),
+            Axis::X => packed(self.x.0, self.y.0) == packed(F2::ONE.0, 0),
+            Axis::Y => packed(self.x.0, self.y.0) == packed(0, F2::ONE.0),
         }
     }
 

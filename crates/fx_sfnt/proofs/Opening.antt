@@ -6,8 +6,10 @@ use Rattle.std.proofs.lemmas.Option.{same_Some}
 use Rattle.std.proofs.lemmas.Bool.{and_parts, or_parts, leb-true, ltb-false, eqb-false, not-false}
 use Rattle.fx_fixed.proofs.Chain.{refuse_then, bind_then, wanted_then, same_Ok}
 use Rattle.fx_sfnt.specs.Fields.{field}
-use Rattle.fx_sfnt.specs.Tables.{Face, face_at, head_of, maxp_of, hhea_of, table_of, is_directory}
+use Rattle.fx_sfnt.specs.Tables.{Face, face_at, fields_of, head_of, maxp_of, hhea_of, table_of, is_directory}
 use Rattle.fx_sfnt.specs.declared.fault.FontFault.TheVariants.{NotTrueType, TableMissing, TableShort, BadMaxp}
+use Rattle.fx_sfnt.specs.declared.records.Head.{Head}
+use Rattle.fx_sfnt.specs.declared.records.Hhea.{Hhea}
 use Rattle.fx_sfnt.specs.declared.records.Maxp.{Maxp}
 
 -- the file of a directory includes its records
@@ -27,7 +29,7 @@ pub record Opened (file directory : List ℕ) (face : Face) : Type 0 where
   pub inside : 4 * face.hhea.number_of_h_metrics ≤ length hmtx
 
 pub opened : {file directory : List ℕ} {face : Face} → face_at file directory ≡ Ok face → Opened file directory face
-unfolding face_at
+unfolding face_at fields_of
 opened {file} {directory} {face} h =
     refuse_then (not (is_directory directory)) NotTrueType _ face h (λ readable h.
     wanted_then (table_of file directory (codes "head")) (TableMissing (codes "head")) _ face h (λ head _ h.
@@ -36,16 +38,20 @@ opened {file} {directory} {face} h =
     wanted_then (table_of file directory (codes "hmtx")) (TableMissing (codes "hmtx")) _ face h (λ hmtx hmtx_is h.
     wanted_then (table_of file directory (codes "loca")) (TableMissing (codes "loca")) _ face h (λ loca _ h.
     wanted_then (table_of file directory (codes "glyf")) (TableMissing (codes "glyf")) _ face h (λ glyf _ h.
-    bind_then (head_of head) _ face h (λ head_fields head_is h.
-    bind_then (maxp_of maxp) _ face h (λ maxp_fields maxp_is h.
-    bind_then (hhea_of hhea) _ face h (λ hhea_fields _ h.
+    bind_then (fields_of head maxp hhea hmtx) _ face h (λ fields fields_are h.
+    bind_then (head_of head) _ fields fields_are (λ head_fields head_is e.
+    bind_then (maxp_of maxp) _ fields e (λ maxp_fields maxp_is e.
+    bind_then (hhea_of hhea) _ fields e (λ hhea_fields _ e.
     refuse_then (hhea_fields.number_of_h_metrics == 0 || nat_lt (length hmtx) (4 * hhea_fields.number_of_h_metrics))
-    (TableShort (codes "hmtx")) _ face h (λ tests h.
+    (TableShort (codes "hmtx")) _ fields e (λ tests e.
     let both = or_parts (hhea_fields.number_of_h_metrics == 0) (nat_lt (length hmtx) (4 * hhea_fields.number_of_h_metrics)) tests in
     let some : hhea_fields.number_of_h_metrics ≡ 0 → ⊥ = eqb-false hhea_fields.number_of_h_metrics 0 both.0 in
     let inside : 4 * hhea_fields.number_of_h_metrics ≤ length hmtx =
     ltb-false (length hmtx) (4 * hhea_fields.number_of_h_metrics) both.1 in
-    subst (Opened file directory) (same_Ok _ _ refl h) (record {
+    subst (Opened file directory) (same_Ok _ _ refl h)
+    (subst (λ (fields : Head × Maxp × Hhea). Opened file directory
+    (record { file = file; directory = directory; head = fields.0; maxp = fields.1; hhea = fields.2 }))
+    (same_Ok _ _ refl e) (record {
       records = directory_records directory (not-false _ readable);
       head = head;
       maxp = maxp;
@@ -55,8 +61,8 @@ opened {file} {directory} {face} h =
       hmtx_is = hmtx_is;
       pairs = omega arith;
       inside = inside;
-    })
-    )))))))))))
+    }))
+    ))))))))))))
 
 -- the glyphs of `maxp`
 pub maxp_glyphs : (table : List ℕ) (maxp : Maxp) → maxp_of table ≡ Ok maxp → 0 < maxp.num_glyphs

@@ -75,6 +75,15 @@ hhea_of table = do
   _ ← refuse (nat_lt (length table) 36) (TableShort (codes "hhea"))
   Ok (record { ascender = signed_field table 4; descender = signed_field table 6; number_of_h_metrics = field 2 table 34 })
 
+-- the fields of these tables; `hmtx` has the pairs that `hhea` counts
+unfoldable pub fields_of : List ℕ → List ℕ → List ℕ → List ℕ → Result (Head × Maxp × Hhea) FontFault
+fields_of head maxp hhea hmtx = do
+  head ← head_of head
+  maxp ← maxp_of maxp
+  hhea ← hhea_of hhea
+  _ ← refuse (hhea.number_of_h_metrics == 0 || nat_lt (length hmtx) (4 * hhea.number_of_h_metrics)) (TableShort (codes "hmtx"))
+  Ok (head, maxp, hhea)
+
 -- what a font is seen as: its file, the file from the face's directory on, and the fields of its tables
 pub record Face : Type 0 where
   pub file : List ℕ
@@ -101,11 +110,8 @@ face_at file directory = do
   hmtx ← required_table_of file directory (codes "hmtx")
   _ ← required_table_of file directory (codes "loca")
   _ ← required_table_of file directory (codes "glyf")
-  head ← head_of head
-  maxp ← maxp_of maxp
-  hhea ← hhea_of hhea
-  _ ← refuse (hhea.number_of_h_metrics == 0 || nat_lt (length hmtx) (4 * hhea.number_of_h_metrics)) (TableShort (codes "hmtx"))
-  Ok (record { file = file; directory = directory; head = head; maxp = maxp; hhea = hhea })
+  fields ← fields_of head maxp hhea hmtx
+  Ok (record { file = file; directory = directory; head = fields.0; maxp = fields.1; hhea = fields.2 })
 
 -- the face that is meant of a font file, or the first fault
 unfoldable pub font_of : FontFileView → Result Face FontFault

@@ -10,7 +10,7 @@ use crate::fault::FontFault;
 use crate::file::FontFile;
 use crate::glyphs::{advance_width, glyph_data, lsb};
 use crate::records::{Head, Hhea, Maxp, Metrics};
-use crate::tables::{read_head, read_hhea, read_maxp};
+use crate::tables::read_fields;
 use std::marker::Model;
 
 /// A font: a view over the bytes of its file, with the fields of its tables.
@@ -78,12 +78,7 @@ impl<'a> Font<'a> {
         let hmtx = required_table(file, directory, *b"hmtx")?;
         let loca = required_table(file, directory, *b"loca")?;
         let glyf = required_table(file, directory, *b"glyf")?;
-        let head = read_head(head)?;
-        let maxp = read_maxp(maxp)?;
-        let hhea = read_hhea(hhea)?;
-        if hhea.number_of_h_metrics == 0 || hmtx.len() < 4 * hhea.number_of_h_metrics as usize {
-            return Err(FontFault::TableShort(*b"hmtx"));
-        }
+        let (head, maxp, hhea) = read_fields(head, maxp, hhea, hmtx)?;
         Ok(Font {
             file,
             directory,

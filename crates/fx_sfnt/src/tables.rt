@@ -1,7 +1,7 @@
 //! The fields of `head`, `maxp` and `hhea`.
 
 ghost use Rattle.std.specs.Prelude.{◌≡◌};
-ghost use Rattle.fx_sfnt.specs.Tables.{loc_format_of, head_of, maxp_of, hhea_of};
+ghost use Rattle.fx_sfnt.specs.Tables.{fields_of, loc_format_of, head_of, maxp_of, hhea_of};
 
 use crate::fault::FontFault;
 use crate::fields::{i16_in, u16_in, u32_in};
@@ -21,7 +21,7 @@ fn loc_format(number: u16) -> Option<LocFormat>
 
 /// Reads `head`.
 #[tactic(auto, unfolding(crate::specs::Tables::head_of))]
-pub fn read_head(table: &[u8]) -> Result<Head, FontFault>
+fn read_head(table: &[u8]) -> Result<Head, FontFault>
     ensures { result ≡ head_of table.now }
 {
     if table.len() < 54 {
@@ -40,7 +40,7 @@ pub fn read_head(table: &[u8]) -> Result<Head, FontFault>
 
 /// Reads `maxp`.
 #[tactic(auto, unfolding(crate::specs::Tables::maxp_of))]
-pub fn read_maxp(table: &[u8]) -> Result<Maxp, FontFault>
+fn read_maxp(table: &[u8]) -> Result<Maxp, FontFault>
     ensures { result ≡ maxp_of table.now }
 {
     if table.len() < 32 {
@@ -61,7 +61,7 @@ pub fn read_maxp(table: &[u8]) -> Result<Maxp, FontFault>
 
 /// Reads `hhea`.
 #[tactic(auto, unfolding(crate::specs::Tables::hhea_of))]
-pub fn read_hhea(table: &[u8]) -> Result<Hhea, FontFault>
+fn read_hhea(table: &[u8]) -> Result<Hhea, FontFault>
     ensures { result ≡ hhea_of table.now }
 {
     if table.len() < 36 {
@@ -72,4 +72,23 @@ pub fn read_hhea(table: &[u8]) -> Result<Hhea, FontFault>
         descender: i16_in(table, 6),
         number_of_h_metrics: u16_in(table, 34),
     })
+}
+
+/// Reads the fields of these tables. `hmtx` has the pairs that `hhea` counts.
+#[tactic(auto, unfolding(crate::specs::Tables::fields_of))]
+pub fn read_fields(
+    head: &[u8],
+    maxp: &[u8],
+    hhea: &[u8],
+    hmtx: &[u8],
+) -> Result<(Head, Maxp, Hhea), FontFault>
+    ensures { result ≡ fields_of head.now maxp.now hhea.now hmtx.now }
+{
+    let head = read_head(head)?;
+    let maxp = read_maxp(maxp)?;
+    let hhea = read_hhea(hhea)?;
+    if hhea.number_of_h_metrics == 0 || hmtx.len() < 4 * hhea.number_of_h_metrics as usize {
+        return Err(FontFault::TableShort(*b"hmtx"));
+    }
+    Ok((head, maxp, hhea))
 }

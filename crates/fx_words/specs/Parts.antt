@@ -1,7 +1,8 @@
 -- The words of a command line, parted a word at a time: the font, the output, and the words for the program.
 use Rattle.std.specs.Prelude.{◌≡◌, ℕ, ◌==◌, ◌&&◌, ◌||◌, not, Bool, true, false, nat_lt, List, [], ◌∷◌, ◌++◌, map, length, codes}
-use Rattle.std.specs.Prelude.{Option, Some, None, if◌then◌else◌}
-use Rattle.std.specs.List.{after_first, before_first, fold, position_or_len}
+use Rattle.std.specs.Prelude.{Option, Some, None, is_some, if◌then◌else◌}
+use Rattle.std.specs.List.{after_first, before_first, fold, list_any, position_or_len}
+use Rattle.std.specs.Option.{option_or}
 use Rattle.std.specs.Str.{bytes_eq}
 use Rattle.std.specs.Borrow.{Bor}
 use Rattle.fx_words.specs.declared.parts.Parts.{Parts}
@@ -72,14 +73,27 @@ without_equals name = if has_byte 61 name && bytes_eq (before_first (λ b. b == 
 abbrev pub joined_output : Text → Text
 joined_output word = without_equals (after_first (λ b. b == 111) word)
 
+-- the value in `OPTION=VALUE`
+abbrev pub joined_value : Text → Text → Option Text
+joined_value option word =
+    if has_byte 61 word && bytes_eq (before_first (λ b. b == 61) word) option then Some (after_first (λ b. b == 61) word) else None
+
 -- `--set=NAMES`
 abbrev pub is_joined_set : Text → Bool
-is_joined_set word = has_byte 61 word && bytes_eq (before_first (λ b. b == 61) word) (codes "--set")
+is_joined_set word = is_some (joined_value (codes "--set") word)
 
 -- whether a word is among words
 abbrev pub has : List Text → Text → Bool
-has [] word = false
-has (each ∷ words) word = bytes_eq each word || has words word
+has words word = list_any (λ each. bytes_eq each word) words
+
+-- the value of an option among words: what follows its `=`, or else the next word
+abbrev pub value_after : Text → Bool → List Text → Option Text
+value_after option is_next [] = None
+value_after option true (word ∷ words) = Some word
+value_after option false (word ∷ words) = option_or (joined_value option word) (value_after option (bytes_eq word option) words)
+
+abbrev pub value_in : Text → List Text → Option Text
+value_in option words = value_after option false words
 
 -- the options that take the next word as their value
 unfoldable pub valued : List Text

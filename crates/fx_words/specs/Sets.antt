@@ -1,11 +1,11 @@
 -- Sets of characters by name.
-use Rattle.std.specs.Prelude.{◌==◌, Bool, true, false, List, [], ◌∷◌, ◌++◌, codes, Option, Some, None, map, unwrap_or}
+use Rattle.std.specs.Prelude.{◌==◌, List, [], ◌∷◌, ◌++◌, codes, Option, Some, None, map, unwrap_or}
 use Rattle.std.specs.Prelude.{if◌then◌else◌}
 use Rattle.std.specs.Borrow.{Bor}
 use Rattle.std.specs.Char.{to_ascii_lowercase}
-use Rattle.std.specs.List.{after_first, join_by, slice_split}
+use Rattle.std.specs.List.{join_by, slice_split}
 use Rattle.std.specs.Str.{bytes_eq}
-use Rattle.fx_words.specs.Parts.{Text, is_joined_set}
+use Rattle.fx_words.specs.Parts.{Text}
 
 -- a table of two columns
 abbrev pub Table : Type 0
@@ -91,13 +91,3 @@ meant part = unwrap_or (list_of part) part
 -- the list that names stand for: what is between commas is replaced by what it stands for
 abbrev pub listed : Text → Text
 listed names = join_by (λ list. list) (codes ",") (map meant (slice_split (λ b. b == 44) names))
-
--- the value of `--set` among words, empty if there is none: what follows its `=`, or else the next word
-abbrev pub set_after : Bool → List Text → Text
-set_after is_next [] = []
-set_after true (word ∷ words) = word
-set_after false (word ∷ words) =
-    if is_joined_set word then after_first (λ b. b == 61) word else set_after (bytes_eq word (codes "--set")) words
-
-abbrev pub set_in : List Text → Text
-set_in words = set_after false words

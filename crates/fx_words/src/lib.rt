@@ -6,5 +6,5 @@ pub mod laws;
 mod parts;
 mod sets;
 
-pub use parts::{Parts, has, part};
-pub use sets::{SETS, list_of, listed, set_in};
+pub use parts::{Parts, has, part, value_in};
+pub use sets::{SETS, list_of, listed};

@@ -1,7 +1,8 @@
 //! The words of a command line, parted: the font, the output, and the words for the program.
 ghost use Rattle.std.specs.Prelude.{◌≡◌, false, true, [], IfOk, OnOk};
 ghost use Rattle.fx_words.specs.Parts.{end, first, has, has_hyphen, has_joined_output, is_joined_set, is_option, is_path, joined_output};
-ghost use Rattle.fx_words.specs.Parts.{kept, kind_of, named_by, other_kind, parts_of, put_by, seen, step, step_by, texts, without_equals};
+ghost use Rattle.fx_words.specs.Parts.{joined_value, kept, kind_of, named_by, other_kind, parts_of, put_by, seen, step, step_by};
+ghost use Rattle.fx_words.specs.Parts.{text_in, texts, value_in, without_equals};
 
 use std::alloc::{AllocError, Global};
 
@@ -270,13 +271,25 @@ fn other_kind(is_make: bool, word: &str) -> WordKind
 pub fn has(words: &[&str], word: &str) -> bool
     ensures { result ≡ has (texts words.now) word.now }
 {
-    // The word is among those that are left if it is among all.
-    'words: for each in words {
-        if *each == word {
-            return true;
+    words.contains(&word)
+}
+
+/// The value of an option among words: what follows its `=`, or else the next word.
+pub fn value_in<'a>(words: &[&'a str], option: &str) -> Option<&'a str>
+    ensures { text_in result ≡ value_in option.now (texts words.now) }
+{
+    let mut is_next = false;
+    // `is_next` tells whether the word before this one is the option; none before has its value.
+    'words: for word in words {
+        if is_next {
+            return Some(word);
         }
+        if let Some(value) = joined_value(word, option) {
+            return Some(value);
+        }
+        is_next = *word == option;
     }
-    false
+    None
 }
 
 /// Whether a word begins with a hyphen.
@@ -337,11 +350,18 @@ fn without_equals<'a>(name: &'a str) -> &'a str
 }
 
 /// Whether a word is `--set=NAMES`.
-pub(crate) fn is_joined_set(word: &str) -> bool
+fn is_joined_set(word: &str) -> bool
     ensures { result ≡ is_joined_set word.now }
 {
+    joined_value(word, "--set").is_some()
+}
+
+/// The value in `OPTION=VALUE`.
+fn joined_value<'a>(word: &'a str, option: &str) -> Option<&'a str>
+    ensures { text_in result ≡ joined_value option.now word.entry.now }
+{
     match word.split_once('=') {
-        Some((option, _)) => option == "--set",
-        None => false,
+        Some((name, value)) if name == option => Some(value),
+        _ => None,
     }
 }

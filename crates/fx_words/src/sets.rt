@@ -1,10 +1,9 @@
 //! Sets of characters by name.
 ghost use Rattle.std.specs.Prelude.{◌≡◌, ◌==◌, IfOk, string_bytes};
-ghost use Rattle.std.specs.List.{after_first, slice_split};
+ghost use Rattle.std.specs.List.{slice_split};
 ghost use Rattle.fx_words.specs.Parts.{text_in, texts};
-ghost use Rattle.fx_words.specs.Sets.{first_name, list_of, listed, rows_of, set_in, sets, value_of};
+ghost use Rattle.fx_words.specs.Sets.{first_name, list_of, listed, rows_of, sets, value_of};
 
-use crate::parts::is_joined_set;
 use std::alloc::{AllocError, Global};
 
 /// Each set: its name, and its characters as a list of hexadecimal numbers and ranges, without control characters.
@@ -143,32 +142,4 @@ fn parts_of<'a>(alloc: Global, text: &'a str) -> Result<Vec<&'a str>, AllocError
     ensures { IfOk result (λ parts. texts parts.items ≡ slice_split (λ b. b == 44) text.entry.now) }
 {
     text.split(',').collect(alloc)
-}
-
-/// The value of `--set` among the words of a command line, empty if there is none.
-pub fn set_in<'a>(words: &[&'a str]) -> &'a str
-    ensures { result.now ≡ set_in (texts words.now) }
-{
-    let mut is_next = false;
-    // `is_next` tells whether the word before this one is `--set`; none before has its value.
-    'words: for word in words {
-        if is_next {
-            return word;
-        }
-        if is_joined_set(word) {
-            return after_equals(word);
-        }
-        is_next = *word == "--set";
-    }
-    ""
-}
-
-/// What follows the first `=` of a word.
-fn after_equals<'a>(word: &'a str) -> &'a str
-    ensures { result.now ≡ after_first (λ b. b == 61) word.entry.now }
-{
-    match word.split_once('=') {
-        Some((_, rest)) => rest,
-        None => "",
-    }
 }

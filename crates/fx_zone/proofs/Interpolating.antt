@@ -424,7 +424,7 @@ part_long axis (Some c) points =
     ∙ ap length (take-append-drop c.0 points)
 part_long axis None points = refl
 
-contours_long : (axis : Axis) (ends : List ℕ) (n : ℕ) (points : List ZonePoint)
+pub contours_long : (axis : Axis) (ends : List ℕ) (n : ℕ) (points : List ZonePoint)
     → length (contours_interpolated axis ends n points) ≡ length points
 unfolding contours_interpolated
 contours_long axis ends zero points = refl

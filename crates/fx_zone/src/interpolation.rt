@@ -308,9 +308,22 @@ fn interpolate_contour(points: &mut [ZonePoint], axis: Axis)
     }
 }
 
-/// Interpolates the untouched points of each contour, by the numbers of their last points.
-#[inline(always)]
+/// Interpolates the untouched points of each contour, by the numbers of their last points. It is compiled once for each axis.
+#[tactic(auto, using(crate::proofs::Interpolating::contours_long))]
 pub fn interpolate_contours(points: &mut [ZonePoint], ends: &[u16], axis: Axis)
+    requires { All (λ e. e < length points.old) ends.now }
+    ensures value { points.new ≡ contours_interpolated axis ends.now (length ends.now) points.old }
+    ensures long { length points.new ≡ length points.old }
+{
+    match axis {
+        Axis::X => interpolate_each(points, ends, Axis::X),
+        Axis::Y => interpolate_each(points, ends, Axis::Y),
+    }
+}
+
+/// The same along an axis that is known where it is called.
+#[inline(always)]
+fn interpolate_each(points: &mut [ZonePoint], ends: &[u16], axis: Axis)
     requires { All (λ e. e < length points.old) ends.now }
     ensures { points.new ≡ contours_interpolated axis ends.now (length ends.now) points.old }
 {

@@ -143,17 +143,13 @@ impl Zone {
         curve_range(&mut self.points, first, past, on);
     }
 
-    /// Interpolates the untouched points of each contour along an axis (Apple TrueType Reference Manual, "IUP"). It is compiled
-    /// once for each axis.
+    /// Interpolates the untouched points of each contour along an axis (Apple TrueType Reference Manual, "IUP").
     #[tactic(auto, unfolding(crate::specs::Interpolation::figure_interpolated))]
     pub fn interpolate(&mut self, axis: Axis)
         ensures value { self.new ≡ figure_interpolated axis self.old }
         ensures shape { HasShape self.old self.new }
     {
-        match axis {
-            Axis::X => interpolate_contours(&mut self.points, &self.ends, Axis::X),
-            Axis::Y => interpolate_contours(&mut self.points, &self.ends, Axis::Y),
-        }
+        interpolate_contours(&mut self.points, &self.ends, axis);
     }
 
     /// Shifts all points from their current places, and lets them rest there, untouched.

@@ -36,9 +36,8 @@ first_of (word ∷ words) = Some word
 -- what a first word asks for that these follow. A command with `-h` or `--help` after it asks for its help
 abbrev pub asked_by_word : Text → List Text → AskedView
 asked_by_word word rest =
-    if bytes_eq word (codes "--version") || bytes_eq word (codes "-V") then version
-    else (if bytes_eq word (codes "--help") || (bytes_eq word (codes "-h") || bytes_eq word (codes "help"))
-    then help (first_of rest)
+    if has (codes "--version" ∷ codes "-V" ∷ []) word then version
+    else (if has (codes "--help" ∷ codes "-h" ∷ codes "help" ∷ []) word then help (first_of rest)
     else (if is_some (command_of word) && (has rest (codes "-h") || has rest (codes "--help")) then help (Some word) else run))
 
 -- what words ask for, the program's name first. Without arguments a terminal gets help

@@ -1,7 +1,7 @@
 use Rattle.std.proofs.Common.{◌≡◌}
 use Rattle.fx_zone.specs.Figures.{first_of}
 use Rattle.fx_zone.specs.Interpolation.{contours_interpolated}
-use Rattle.fx_zone.proofs.interpolation.interpolate_contours.Given as goal
+use Rattle.fx_zone.proofs.interpolation.interpolate_each.Given as goal
 
 abbrev pub invariant-contours : goal.invariant-contours
 invariant-contours l = record {

@@ -1,8 +1,8 @@
 use Rattle.std.proofs.Common.{ℕ, ◌+◌, refl, ap, arith, ◌∙◌}
 use Rattle.fx_zone.specs.Interpolation.{contours_interpolated}
 use Rattle.fx_zone.proofs.Interpolating.{next_first, contour_put, contour_empty}
-use Rattle.fx_zone.proofs.interpolation.interpolate_contours.Goals as goal
-use Rattle.fx_zone.proofs.interpolation.interpolate_contours.Goals.{then-first-past, else-first-past}
+use Rattle.fx_zone.proofs.interpolation.interpolate_each.Goals as goal
+use Rattle.fx_zone.proofs.interpolation.interpolate_each.Goals.{then-first-past, else-first-past}
 
 pub contours-init : goal.contours-init
 unfolding contours_interpolated
