@@ -83,6 +83,11 @@ def sets(table):
     return re.findall(r'\(\s*"([^"]+)",\s*"([^"]+)",?\s*\)', re.sub(r"\\\n\s*", "", text))
 
 
+def calls_of_header():
+    """From each call that include/mkstrike.h declares to what it takes."""
+    return dict(re.findall(r"^\w+ (mkstrike_\w+)\(([^)]*)\);", read(os.path.join(TOP, "include/mkstrike.h")).decode(), re.M))
+
+
 def libraries_of_crates(text):
     """From each crate to the libraries that it uses, by the text of crates.txt, in its order."""
     rows = [line.partition("#")[0].partition(":") for line in text.split("\n")]

@@ -254,11 +254,10 @@ def with_x11(given, name, ppem, found):
     return [line for line in more if line.split(" ")[0] not in taken] + list(given)
 
 
-def header(font, ppem, name, box, count, properties):
+def header(ppem, name, box, ascent, descent, count, properties):
     """The lines before the glyphs; `properties` are the lines of those beside the first two."""
-    ascent, descent = near(font.ascender * ppem, font.upem), near(-font.descender * ppem, font.upem)
     return "\n".join([
-        "STARTFONT 2.1", "FONT %s" % name, "SIZE %d 72 72" % ppem, "FONTBOUNDINGBOX %d %d %d %d" % box,
+        "STARTFONT 2.1", "FONT %s" % name, "SIZE %d 72 72" % ppem, "FONTBOUNDINGBOX %s" % box,
         "STARTPROPERTIES %d" % (2 + len(properties)), "FONT_ASCENT %d" % ascent, "FONT_DESCENT %d" % descent, *properties,
         "ENDPROPERTIES", "CHARS %d\n" % count])
 
@@ -271,7 +270,8 @@ def strike(font, ppem, found, missing, name=STRIKE, prelude=(0, 0), properties=(
     properties = with_x11(properties, name, ppem, found) if x11 else properties
     tail = functools.cache(lambda glyph: glyph.tail(font.upem))
     box = hull([glyph.bits.box for glyph in {glyph for _, glyph in found}])
-    text = [header(font, ppem, name, box, len(found), properties)]
+    ascent, descent = near(font.ascender * ppem, font.upem), near(-font.descender * ppem, font.upem)
+    text = [header(ppem, name, "%d %d %d %d" % box, ascent, descent, len(found), properties)]
     text += ["STARTCHAR %s\nENCODING %d\n%s" % (name_of(code), code, tail(glyph)) for code, glyph in found]
     text.append("ENDFONT\n")
     steps, strays = (prelude[0] + sum(g.steps for _, g in found), prelude[1] + sum(g.strays for _, g in found))

@@ -23,6 +23,9 @@ def requests_with_output():
     yield "show --ppem 1024 --char 41", large.data(), large.show(A, 1024)
     listed = Font([Empty(), square(9, Code().fill(9000))], {A: 1})
     yield "dump --of 1", listed.data(), due.listed(["%04X 59 EIF" % k for k in range(9000)])
+    drawn, traced = Font([Empty(), comb(3201)], {A: 1}, upem=8192), Font([Empty(), square(9, Code().fill(3000))], {A: 1})
+    yield "outline --ppem 64 --glyph 1", drawn.data(), drawn.outline(1, 64)
+    yield "trace --ppem 16 --char 41", traced.data(), due.listed(["glyph 1 begins", *("glyph 1 %04X 59 EIF |" % k for k in range(3000))])
 
 
 def full_devices():
