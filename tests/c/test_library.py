@@ -152,13 +152,6 @@ class Library:
                 file.write(font + said)
         return paths
 
-    def large_strike(self):
-        """A font whose one glyph has 8,192 by 8,192 pixels, all set: a strike of more than 16 MiB."""
-        path = self.at("large.ttf")
-        with open(path, "wb") as file:
-            file.write(Font([Empty(), Simple([(0, 0, 8192, 8192)])], {0x41: 1}, upem=1024).data())
-        return path
-
     def refuse_each(self, library, font, mode, on):
         """Refuses each request of a strike in turn, and all after it too if `on`. The call says so; or check_c.c does, of its own."""
         words = [self.at("check_c"), "strike", font, "16", mode, "61", "61"]
@@ -518,18 +511,12 @@ def test_under_address_sanitizer(lib):
     run([lib.at("check_asan"), "many", font, "16", HINTED, "20", "7e"])
 
 
-def under_valgrind(checker, requests):
-    """Runs requests under valgrind, which must find nothing."""
-    tool("valgrind")
-    for words in requests:
-        run(["valgrind", "-q", "--error-exitcode=9", "--leak-check=full", checker] + words)
-
-
 def test_under_valgrind(lib):
     """The same."""
+    tool("valgrind")
     font = lib.part("DejaVuSans.ttf", range(0x20, 0x7F))
-    under_valgrind(lib.at("check_c"), (["strike", font, "16", HINTED, "20", "7e"], ["many", font, "50", "", "20", "7e"],
-                                       ["many", font, "16", HINTED, "61", "6a"]))
+    for words in (["strike", font, "16", HINTED, "20", "7e"], ["many", font, "50", "", "20", "7e"], ["many", font, "16", HINTED, "61", "6a"]):
+        run(["valgrind", "-q", "--error-exitcode=9", "--leak-check=full", lib.at("check_c"), *words])
 
 
 @pytest.mark.parametrize("name", ["arena", "heap"])
@@ -552,7 +539,9 @@ def test_heap_keeps_nothing(unbuilt):
 def test_heap(lib):
     """The library with c/heap.c: a strike of more than 16 MiB, and each request of the C library refused in turn."""
     font = lib.part("DejaVuSans.ttf", range(0x20, 0x7F))
-    lib.same(lib.large_strike(), 1024, "", 0x41, 0x41)
+    with open(lib.at("large.ttf"), "wb") as file:  # of one glyph of 8,192 by 8,192 pixels, all set
+        file.write(Font([Empty(), Simple([(0, 0, 8192, 8192)])], {0x41: 1}, upem=1024).data())
+    lib.same(lib.at("large.ttf"), 1024, "", 0x41, 0x41)
     library = lib.at("refuse.so")
     run(["cc", "-O2", "-shared", "-fPIC", "-o", library, os.path.join(HERE, "../program/memory.c")])
     for mode in (HINTED, DROPOUT):

@@ -56,10 +56,8 @@ FAULTS = [('CUT, WIDEN, WIDEN_SIGNED = b"\\xa7", b"\\xad", b"\\xac"', 'CUT, WIDE
 def test_layouts():
     """The structs and numbers of web/mkstrike.js are those of the header."""
     header, script = (prebuilt.read(os.path.join(TOP, it)).decode() for it in ("include/mkstrike.h", "web/mkstrike.js"))
-    plain, due = re.sub(r"/\*.*?\*/", "", header, flags=re.S), {}
-    for name, body in re.findall(r"^struct (\w+) \{(.*?)^\};", plain, re.S | re.M):
-        fields = re.findall(r"((?:struct )?\w+) ([\w, ]+);", body)
-        due[name] = [(it.strip(), KINDS.get(kind, kind.replace("struct ", ""))) for kind, names in fields for it in names.split(",")]
+    plain = re.sub(r"/\*.*?\*/", "", header, flags=re.S)
+    due = {name: [(it, KINDS.get(kind, kind.replace("struct ", ""))) for kind, it in fields] for name, fields in prebuilt.structs_of_header(header)}
     table = re.search(r"STRUCTS = \{\n(.*?)\n\};", script, re.S).group(1)
     assert {name: re.findall(r"(\w+): '(\w+)'", body) for name, body in re.findall(r"(\w+): \{(.*?)\},", table, re.S)} == due
     numbers = dict(re.findall(r"#define MKSTRIKE_(\w+) UINT32_C\((\w+)\)", plain) + re.findall(r"MKSTRIKE_(\w+) = (\d+)", plain))
