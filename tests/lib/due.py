@@ -68,12 +68,12 @@ class Cut(Due):
         count = len(answer[1])
         if count >= len(self.out):
             return "an output of %d bytes of %d: it did not fail" % (count, len(self.out))
-        return refused("70 WriteFailed %d" % count, self.out[:count]).wrong(answer)
+        return cut_after(self, count).wrong(answer)
 
     @staticmethod
     def of(whole):
         """The same request as one that is done."""
-        return Cut(REFUSED, b"", whole.out)
+        return Cut(REFUSED, whole.err, whole.out)
 
 
 class FewCalls(Due):
@@ -110,8 +110,10 @@ class Counted(Due):
 
 
 def cut_after(whole, count):
-    """What is due where the output takes so many bytes and then fails."""
-    return refused("70 WriteFailed %d" % count, whole.out[:count])
+    """What is due where the output takes so many bytes and then fails, after what is told of characters."""
+    cut = refused("70 WriteFailed %d" % count, whole.out[:count])
+    cut.err = b"".join(whole.err.splitlines(True)[:-1]) + cut.err
+    return cut
 
 
 def difference(out, due):

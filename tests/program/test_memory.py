@@ -41,9 +41,7 @@ class Request:
 
 def requests_in_spite():
     """Strikes that are made in spite of characters that are refused."""
-    font, codes = test_refused.some_refused(), range(0x20, 0x2A)
-    return [Request("in spite of refused characters", test_refused.words(16, codes, way), font.data(),
-                    test_refused.answer(font, codes, 16, way)) for way in test_refused.WAYS]
+    return [Request("in spite of refused characters", *it) for it in test_refused.some_refused(range(0x20, 0x2A))]
 
 
 def requests_of_the_fixture():

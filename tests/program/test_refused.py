@@ -1,11 +1,9 @@
 """Cases of the program: strikes that are made in spite of characters that are refused (`make --refused`)."""
-import os
-
 import due
 import fonts
 import runs
 from cases import cases
-from due import cut_after, refused
+from due import refused
 from made import Composite, Empty, Font, Simple, comb, fixture, list_of, square
 from runs import Run
 from strikes import A, B, C
@@ -201,29 +199,13 @@ def stopped():
         yield Run("no size, %s" % way, words(0, (A, B), way), data, refused("60 BadSize"))
 
 
-# ---- outputs that fail ----
+# ---- for outputs that fail and little memory ----
 
-def some_refused():
-    """A strike of 512 characters of which each third is refused."""
-    return Font([Empty(), square(600), halting(2, side=500), always(TRIANGLE[:9], "18 GlyphShort 3")],
-                {0x20 + k: 1 + k % 3 for k in range(512)})
-
-
-def failing():
-    """Outputs that fail: 70, after the lines of the characters. Errors that fail change neither the status nor the output."""
-    font = some_refused()
-    data, codes = font.data(), sorted(font.codes)
+def some_refused(codes):
+    """Strikes of characters of which each third halts and each third is refused in each way: words, input, and what is due."""
+    font = Font([Empty(), square(600), halting(2, side=500), always(TRIANGLE[:9], "18 GlyphShort 3")], {0x20 + k: 1 + k % 3 for k in range(512)})
     for way in WAYS:
-        whole, asked = answer(font, codes, 16, way), words(16, codes, way)
-        lines = whole.err[:whole.err.rindex(b"mkstrike: ")]
-        for count in (0, 1, 150, 4096, len(whole.out) - 1):
-            cut = cut_after(whole, count)
-            cut.err = lines + cut.err
-            yield Run("a file of %d bytes, %s" % (count, way), asked, data, cut, way=runs.into_file(count))
-        silent = due.Due(whole.status, b"", whole.out)
-        yield Run("a full device for errors, %s" % way, asked, data, silent, way=runs.with_files(err=("/dev/full", os.O_WRONLY)))
-        yield Run("no standard error, %s" % way, asked, data, silent, way=runs.without(2))
+        yield words(40, codes, way), font.data(), answer(font, codes, 40, way)
 
 
-test_refused = cases(many, each_place, each_halt, each_glyph, bad_offsets, far_and_large, components, properties_of_the_drawn,
-                     stopped, failing)
+test_refused = cases(many, each_place, each_halt, each_glyph, bad_offsets, far_and_large, components, properties_of_the_drawn, stopped)
