@@ -285,14 +285,10 @@ def test_damaged(lib):
 
 def test_halts(lib):
     """Programs that halt in the bytes of another: the fields tell apart which was started and in which the instruction is."""
-    body, call = bytes.fromhex("B0 00 2C B0 07 28 2D"), bytes.fromhex("B0 00 2B")  # at 5 an opcode that nothing defines
-    path, line = lib.at("halting.ttf"), [[(0, 0, 1), (90, 0, 1), (90, 90, 1)]]
-    for fpgm, prep, glyph, code, during, where in (
-            (body, b"", call, 0x41, "glyph 1", "fpgm"), (b"", body, call, 0x41, "glyph 1", "prep"), (body, call, b"", 0x41, "prep", "fpgm"),
-            (body, b"", call, 0x42, "glyph 1", "fpgm"), (body[3:], b"", b"", 0x41, "fpgm", "fpgm"), (b"", b"", body[3:], 0x41, "glyph 1", "glyph 1")):
-        glyphs = [b"", fonts.simple(line, glyph), fonts.composite([(1, 0, 0)])]
+    path = lib.at("halting.ttf")
+    for font, code, during, where in fonts.halting():
         with open(path, "wb") as file:
-            file.write(fonts.font_of(glyphs, fonts.map_of([(0x41, 1), (0x42, 2)]), functions=1, stack=9, fpgm=fpgm, prep=prep))
+            file.write(font)
         at = 5 if during != where else 2
         due = b"mkstrike: 32 BadOpcode during %s in %s at %d opcode 28\n" % (during.encode(), where.encode(), at)
         done = run([lib.at("check_c"), "strike", path, "16", HINTED, "%x" % code, "%x" % code], status=1)
