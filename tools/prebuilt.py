@@ -90,6 +90,24 @@ def structs_of_header(text):
         yield name, [(kind.strip(), field) for kind, fields in rows for field in fields.split(", ")]
 
 
+def refusals():
+    """The refusals of docs/REFUSALS.md: the number of each, its name, its field, and what to do."""
+    rows, to_do = [], ""
+    page = read(os.path.join(TOP, "docs/REFUSALS.md")).decode()
+    for number, name, field, said in re.findall(r"^\| (\d+) \| (\w+) ?(\w*) \|[^|]*\| ([^|]*) \|$", page, re.M):
+        to_do = to_do if said == "the same" else said.replace("`", "")
+        rows.append((int(number), name, field, to_do))
+    return rows
+
+
+def kinds_of_files(top=TOP):
+    """Its files of another kind: the first bytes of each, or None for hexadecimal text; how they look, what the file does, and what to do."""
+    page = read(os.path.join(top, "docs/REFUSALS.md")).decode()
+    for begins, shown, does, to_do in re.findall(r"^\| (none|`[0-9a-f ]+`|only hexadecimal digits) \|([^|]*)\| ([^|]+) \| ([^|]+) \|$", page, re.M):
+        first = None if begins.startswith("only") else bytes.fromhex(begins.strip("`").replace("none", ""))
+        yield first, shown.strip(" `"), does, to_do.replace("`", "")
+
+
 def libraries_of_crates(text):
     """From each crate to the libraries that it uses, by the text of crates.txt, in its order."""
     rows = [line.partition("#")[0].partition(":") for line in text.split("\n")]

@@ -251,12 +251,8 @@ def test_symbols(unbuilt):
 
 def test_reasons(calls):
     """The names of docs/REFUSALS.md by their numbers, and what to do; each is cut to its room, and nothing after it is changed."""
-    with open(os.path.join(TOP, "docs/REFUSALS.md"), encoding="utf-8") as file:
-        rows = re.findall(r"^\| (\d+) \| (\w+)[^|]*\|[^|]*\| ([^|]*) \|$", file.read(), re.M)
-    names, to_do, above = {0: "Done", 1: "Missing"}, {}, ""
-    for number, name, said in rows:
-        above = above if said == "the same" else said.replace("`", "")
-        names[int(number)], to_do[int(number)] = name, above
+    rows = prebuilt.refusals()
+    names, to_do = {0: "Done", 1: "Missing", **{number: name for number, name, _, _ in rows}}, {number: said for number, _, _, said in rows}
     for number in range(400):
         for call, most, due in ((calls.c.mkstrike_reason, 21, names.get(number, "Unknown")), (calls.c.mkstrike_advice, 91, to_do.get(number, ""))):
             assert len(due) < most

@@ -16,6 +16,7 @@ import termios
 import time
 
 import front_mistakes
+import prebuilt
 
 SANS = "/usr/share/fonts/truetype/dejavu/DejaVuSans.ttf"
 MAKE = ["make", "--ppem", "16", "--chars", "41-5a"]
@@ -273,13 +274,10 @@ def missing_characters(it):
 
 def files_of_another_kind(it):
     """A file of each kind that docs/REFUSALS.md lists is named by its words."""
-    with open(os.path.join(it.top, "docs/REFUSALS.md"), encoding="utf-8") as file:
-        rows = re.findall(r"^\| (none|`[0-9a-f ]+`|only hexadecimal digits) \|[^|]*\| ([^|]+) \| ([^|]+) \|$", file.read(), re.M)
-    for first, what, to_do in rows:
-        made = {"none": b"", "only hexadecimal digits": b"0001 0000\n0004"}.get(first)
-        made = bytes.fromhex(first.strip("`")) if made is None else made
-        due = "mkstrike: 10 NotTrueType\nmkstrike: the file %s: %s\n" % (what, to_do.replace("`", ""))
-        it.equal("a file of %s" % first, it.run(MAKE, made), (1, b"", due))
+    rows = list(prebuilt.kinds_of_files(it.top))
+    for first, _, what, to_do in rows:
+        due = "mkstrike: 10 NotTrueType\nmkstrike: the file %s: %s\n" % (what, to_do)
+        it.equal("a file of %s" % first, it.run(MAKE, b"0001 0000\n0004" if first is None else first), (1, b"", due))
     it.check("the table of kinds", "" if len(rows) > 15 else "%d rows" % len(rows))
 
 
