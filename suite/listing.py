@@ -5,8 +5,8 @@ from making.assembler import NAMES
 from reference.charmap import CharMap
 from reference.faults import Halt, Refused
 from reference.fontfile import Composite, Font, read_glyph
-from reference.machine import next_place
-from reference.outline import TABLE
+from reference.machine import next_place, pushed
+from reference.trace import OPCODES
 
 HERE = os.path.dirname(os.path.realpath(__file__))
 DEEPEST = 8  # of components
@@ -26,23 +26,12 @@ def listed(code):
 
 def instruction(code):
     """An instruction as the assembler of the suite has it: a mnemonic, its flags after a colon, and what it pushes."""
-    opcode = code[0]
-    first = max((value for value in NAMES.values() if value <= opcode), default=None)
-    if 0xB0 <= opcode <= 0xBF or opcode in (0x40, 0x41):
-        words = opcode >= 0xB8 or opcode == 0x41
-        data = code[2 if opcode < 0xB0 else 1:]
-        size = 2 if words else 1
-        numbers = [int.from_bytes(data[k:k + size], "big", signed=words) for k in range(0, len(data), size)]
-        return "%s %s" % (name_of(first), " ".join(map(str, numbers)))
-    if opcode not in TABLE:
+    opcode, name = code[0], OPCODES[code[0]]
+    if name == "UNDEFINED":
         return "#%02X" % opcode
-    has_flags = opcode > first or first + 1 in TABLE and first + 1 not in NAMES.values()
-    return "%s:%X" % (name_of(first), opcode - first) if has_flags else name_of(first)
-
-
-def name_of(opcode):
-    """The mnemonic of an opcode."""
-    return next(name for name, value in NAMES.items() if value == opcode)
+    flags = opcode - NAMES[name]
+    has_flags = not pushed(code, 0) and (flags or OPCODES[opcode + 1:opcode + 2] == [name])
+    return " ".join([name + (":%X" % flags if has_flags else ""), *map(str, pushed(code, 0))])
 
 
 def programs(case):

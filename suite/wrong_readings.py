@@ -1,5 +1,5 @@
 #!/usr/bin/env python3
-"""Wrong readings of the manuals, each a change to the suite's reference (readings/), and the group that finds each.
+"""Wrong readings of the manuals, each an edit of the suite's reference (readings/), and the group that finds each.
 
     suite/wrong_readings.py [--only WORD] [--cover] [--jobs N]
 
@@ -23,8 +23,7 @@ sys.dont_write_bytecode = True
 HERE = os.path.dirname(os.path.realpath(__file__))
 sys.path.insert(0, HERE)
 import compare  # noqa: E402
-from readings import READINGS, Changes, Reading  # noqa: E402
-from reference import answer  # noqa: E402
+from readings import READINGS, Reading  # noqa: E402
 
 
 def cases_by_group():
@@ -41,19 +40,12 @@ def cases_by_group():
 
 def found_by(read, cases, all_of_them):
     """The names of cases that are answered otherwise under a reading: the first, or all."""
-    changes, found = Changes(), []
-    answer.forget()
-    read.change(changes)
-    try:
-        draws = bool(DRAWING & set(read.groups))
-        for case in cases:
-            if is_different(case, draws):
-                found.append(case["id"])
-                if not all_of_them:
-                    break
-    finally:
-        changes.back()
-        answer.forget()
+    reference, draws, found = read.reference(), bool(DRAWING & set(read.groups)), []
+    for case in cases:
+        if is_different(reference, case, draws):
+            found.append(case["id"])
+            if not all_of_them:
+                break
     return found
 
 
@@ -64,13 +56,12 @@ def bytes_of(font):
         return file.read()
 
 
-def is_different(case, draws):
-    """Whether the reference, as it is now, answers a case otherwise. `draws` says that pixels may differ for the same outline."""
+def is_different(reference, case, draws):
+    """Whether a changed reference answers a case otherwise. `draws` says that pixels may differ for the same outline."""
     request = case if draws or "outline" not in case["expect"] else {**case, "want": ["outline"]}
     try:
-        return compare.wrong(case["expect"], answer.answer(bytes_of(case["font"]), request)) is not None
+        return compare.wrong(case["expect"], reference.answer(bytes_of(case["font"]), request)) is not None
     except Exception:  # noqa: B902, a wrong reading may break anything
-        answer.forget()
         return False
 
 
@@ -99,12 +90,7 @@ def readings_of(group):
     return [read for read in READINGS if group in read.groups]
 
 
-def breaks(*_):
-    """A function that does nothing but raise."""
-    raise AssertionError("this reading breaks the reference down")
-
-
-BROKEN = Reading("broken", "stack halts", "the reference breaks down", lambda changes: changes.everywhere("made", lambda right: breaks))
+BROKEN = Reading("broken", "stack halts", "the reference breaks down", "answer", '    char = request.get("char")\n', "    raise AssertionError\n")
 CASES = cases_by_group()
 DRAWING = {"scan", "dropout", "nearer", "asked"}  # the groups of readings that change pixels of the same outline
 

@@ -26,11 +26,6 @@ BUILT = os.path.join(TOP, "crates/mkstrike/out/mkstrike")
 ARCHIVE = os.path.join(TOP, "crates/mkstrike_c/out/libmkstrike_c.a")
 ARM_ARCHIVE = "libmkstrike_c-aarch64.a"
 MOST = 1000000  # bytes of a file of dist/
-FORM = re.compile(r"sources ([0-9a-f]{64})\nkit ([^\n]+)\nmkstrike ([0-9a-f]{64})\n"
-                  r"library-sources ([0-9a-f]{64})\nlibmkstrike_c\.a ([0-9a-f]{64})\n"
-                  r"(?:libmkstrike_c-aarch64\.a ([0-9a-f]{64})\n)?"
-                  r"(?:module-sources ([0-9a-f]{64})\nmkstrike\.wasm ([0-9a-f]{64})\n)?"
-                  r"(?:program\.wasm ([0-9a-f]{64})\n)?")
 PARTS = ("src", "specs", "proofs")  # the folders of a crate that have its sources
 
 FILES = ("manifest", "mkstrike", "libmkstrike_c.a")
@@ -83,6 +78,36 @@ def sets(table):
     return re.findall(r'\(\s*"([^"]+)",\s*"([^"]+)",?\s*\)', re.sub(r"\\\n\s*", "", text))
 
 
+def calls_of_header():
+    """From each call that include/mkstrike.h declares to what it takes."""
+    return dict(re.findall(r"^\w+ (mkstrike_\w+)\(([^)]*)\);", read(os.path.join(TOP, "include/mkstrike.h")).decode(), re.M))
+
+
+def structs_of_header(text):
+    """The structs of a header: each name with its fields, as pairs of type and name."""
+    for name, body in re.findall(r"^struct (mkstrike_\w+) \{$(.*?)^\};", re.sub(r"/\*.*?\*/", "", text, flags=re.S), re.S | re.M):
+        rows = re.findall(r"([\w ]+) (\w+(?:, \w+)*);", body)
+        yield name, [(kind.strip(), field) for kind, fields in rows for field in fields.split(", ")]
+
+
+def refusals():
+    """The refusals of docs/REFUSALS.md: the number of each, its name, its field, and what to do."""
+    rows, to_do = [], ""
+    page = read(os.path.join(TOP, "docs/REFUSALS.md")).decode()
+    for number, name, field, said in re.findall(r"^\| (\d+) \| (\w+) ?(\w*) \|[^|]*\| ([^|]*) \|$", page, re.M):
+        to_do = to_do if said == "the same" else said.replace("`", "")
+        rows.append((int(number), name, field, to_do))
+    return rows
+
+
+def kinds_of_files(top=TOP):
+    """Its files of another kind: the first bytes of each, or None for hexadecimal text; how they look, what the file does, and what to do."""
+    page = read(os.path.join(top, "docs/REFUSALS.md")).decode()
+    for begins, shown, does, to_do in re.findall(r"^\| (none|`[0-9a-f ]+`|only hexadecimal digits) \|([^|]*)\| ([^|]+) \| ([^|]+) \|$", page, re.M):
+        first = None if begins.startswith("only") else bytes.fromhex(begins.strip("`").replace("none", ""))
+        yield first, shown.strip(" `"), does, to_do.replace("`", "")
+
+
 def libraries_of_crates(text):
     """From each crate to the libraries that it uses, by the text of crates.txt, in its order."""
     rows = [line.partition("#")[0].partition(":") for line in text.split("\n")]
@@ -133,25 +158,20 @@ def write(path, data, mode=0o644):
 
 Manifest = collections.namedtuple("Manifest", "sources kit program library_sources library arm module_sources module program_module",
                                   defaults=(None,) * 4)
+ROWS = ("sources", "kit", "mkstrike", "library-sources", "libmkstrike_c.a", ARM_ARCHIVE, "module-sources", *MODULES)  # of its fields; the last may lack
+FORM = re.compile("".join("(?:%s (%s)\n)%s" % (re.escape(name), "[^\n]+" if name == "kit" else "[0-9a-f]{64}", "?" * (at > 4)) for at, name in enumerate(ROWS)))
 
 
 def manifest_of(manifest):
     """The bytes of dist/manifest."""
-    text = "sources %s\nkit %s\nmkstrike %s\nlibrary-sources %s\nlibmkstrike_c.a %s\n" % manifest[:5]
-    if manifest.arm:
-        text += "%s %s\n" % (ARM_ARCHIVE, manifest.arm)
-    if manifest.module:
-        text += "module-sources %s\nmkstrike.wasm %s\n" % manifest[6:8]
-    if manifest.program_module:
-        text += "program.wasm %s\n" % manifest.program_module
-    return text.encode()
+    return "".join("%s %s\n" % row for row in zip(ROWS, manifest) if row[1]).encode()
 
 
 def read_manifest():
     """What dist/manifest says."""
     found = FORM.fullmatch(read(os.path.join(DIST, "manifest")).decode("latin-1"))
-    if not found:
-        raise Fault("dist/manifest does not have the lines sources, kit, mkstrike, library-sources and libmkstrike_c.a")
+    if not found or bool(found.group(7)) != bool(found.group(8)):
+        raise Fault("dist/manifest does not have the lines %s" % " ".join(ROWS[:5]))
     return Manifest(*found.groups())
 
 

@@ -18,9 +18,7 @@ ALONE = ("woff.js", "text.js", "page.js")  # what the page needs beside it
 
 def kinds():
     """Files of another kind, as docs/REFUSALS.md has them, without the options of the command: first bytes, what the file does, what to do."""
-    part = prebuilt.read(os.path.join(TOP, "docs/REFUSALS.md")).decode().partition("\n## Files of another kind\n")[2].partition("\n## ")[0]
-    rows = re.findall(r"^\| (none|`[0-9a-f ]+`) \|.*?\| ([^|]+) \| ([^|]+) \|$", part, re.M)
-    return [(re.sub("[^0-9a-f]", "", begins.replace("none", "")), seems, re.sub("; `--.*", "", todo).replace("`", "")) for begins, seems, todo in rows]
+    return [(begins.hex(), seems, re.sub("; --.*", "", todo)) for begins, _, seems, todo in prebuilt.kinds_of_files() if begins is not None]
 
 
 def tables():

@@ -7,6 +7,7 @@ import io
 import os
 import stat
 from collections.abc import Mapping
+from functools import partial
 from typing import TYPE_CHECKING, Any, Callable
 
 from .refused import shown
@@ -21,10 +22,8 @@ def _bdf(strike: Strike) -> bytes:
     return strike.text
 
 
-def _sheet(form: str) -> Callable[..., bytes]:
-    def made(strike: Strike, **options: Any) -> bytes:
-        return picture(strike.sheet(**options), form)
-    return made
+def _sheet(form: str, strike: Strike, **options: Any) -> bytes:
+    return picture(strike.sheet(**options), form)
 
 
 def picture(image: Image, form: str) -> bytes:
@@ -34,12 +33,10 @@ def picture(image: Image, form: str) -> bytes:
     return out.getvalue()
 
 
-def _c(form: str) -> Callable[..., bytes]:
-    def made(strike: Strike, name: str = "strike") -> bytes:
-        from . import carray
-        text: str = getattr(carray, form)(strike, carray.identifier(name))
-        return text.encode()
-    return made
+def _c(form: str, strike: Strike, name: str = "strike") -> bytes:
+    from . import carray
+    text: str = getattr(carray, form)(strike, carray.identifier(name))
+    return text.encode()
 
 
 def _raw(strike: Strike, order: str | None = None) -> bytes:
@@ -47,16 +44,15 @@ def _raw(strike: Strike, order: str | None = None) -> bytes:
     return carray.raw(strike, order)
 
 
-def _by(program: str) -> Callable[[Strike], bytes]:
-    def made(strike: Strike) -> bytes:
-        from . import others
-        data: bytes = getattr(others, program)(strike)
-        return data
-    return made
+def _by(program: str, strike: Strike) -> bytes:
+    from . import others
+    data: bytes = getattr(others, program)(strike)
+    return data
 
 
-FORMATS: dict[str, Callable[..., bytes]] = {"bdf": _bdf, "png": _sheet("png"), "pbm": _sheet("pbm"), "c": _c("rows"), "gfx": _c("gfx"), "lvgl": _c("lvgl"),
-                                            "raw": _raw, "psf": _by("psf"), "pcf": _by("pcf"), "otb": _by("otb")}
+FORMATS: dict[str, Callable[..., bytes]] = {
+    "bdf": _bdf, **{it: partial(_sheet, it) for it in ("png", "pbm")}, "c": partial(_c, "rows"), **{it: partial(_c, it) for it in ("gfx", "lvgl")},
+    "raw": _raw, **{it: partial(_by, it) for it in ("psf", "pcf", "otb")}}
 OF_ENDING = {".bdf": "bdf", ".png": "png", ".pbm": "pbm", ".h": "c", ".c": "c", ".raw": "raw", ".psf": "psf", ".psfu": "psf", ".pcf": "pcf", ".otb": "otb"}
 ENDING = {**{name: "." + name for name in FORMATS}, "c": ".h", "gfx": "-gfx.h", "lvgl": ".c"}  # of the files that the command writes
 IN_C, PICTURES = ("c", "gfx", "lvgl"), ("png", "pbm")

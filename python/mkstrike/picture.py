@@ -22,13 +22,18 @@ def of_glyph(glyph: Glyph, scale: int) -> Image:
 
 
 def sheet(strike: Strike, columns: int, scale: int) -> Image:
-    """All glyphs in rising order, each in a cell of the strike's box, with a pixel between cells and a margin around them."""
+    """All glyphs in rising order, in cells with a margin around them."""
+    width, height, placed = cells(strike, max(1, min(columns, len(strike))))
+    return drawn(max(width, 0), max(height, 0), placed, scale, MARGIN)
+
+
+def cells(strike: Strike, columns: int) -> tuple[int, int, list[tuple[int, int, Glyph]]]:
+    """The width and the height of all glyphs in cells of the strike's box, with a pixel between cells; and the glyphs, each with the column and
+    the row of its upper left pixel."""
     width, height, left, bottom = strike.box
-    columns = max(1, min(columns, len(strike)))
-    lines = -(-len(strike) // columns)
-    placed = ((k % columns * (width + 1) + glyph.left - left, k // columns * (height + 1) + bottom + height - glyph.top, glyph)
-              for k, glyph in enumerate(strike.values()))
-    return drawn(max(columns * (width + 1) - 1, 0), max(lines * (height + 1) - 1, 0), placed, scale, MARGIN)
+    placed = [(k % columns * (width + 1) + glyph.left - left, k // columns * (height + 1) + bottom + height - glyph.top, glyph)
+              for k, glyph in enumerate(strike.values())]
+    return columns * (width + 1) - 1, -(-len(strike) // columns) * (height + 1) - 1, placed
 
 
 def check_size(width: int, height: int) -> None:

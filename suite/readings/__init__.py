@@ -1,3 +1,5 @@
-"""Wrong readings of the manuals, each a change to the reference."""
-from . import asked, faces, outlines, points, programs  # noqa: F401
-from .base import READINGS, Changes, Reading  # noqa: F401
+"""Wrong readings of the manuals, each an edit of the reference."""
+from . import asked, faces, outlines, points, programs
+from .base import Reading  # noqa: F401
+
+READINGS = [it for part in (asked, faces, outlines, points, programs) for it in part.READINGS]

@@ -1,75 +1,49 @@
-"""What a wrong reading is: a change to the reference that is taken back at the end."""
-from making.assembler import NAMES
-from reference import (answer, charmap, dropout, fontfile, machine, numbers, outline, rows_points, rows_stack, rows_state, scan,
-                       state)
+"""What a wrong reading is: the reference with texts of its sources replaced."""
+import functools
+import os
+import sys
+import types
 
-MODULES = (answer, charmap, dropout, fontfile, machine, numbers, outline, rows_points, rows_stack, rows_state, scan, state)
+FOLDER = os.path.join(os.path.dirname(os.path.realpath(__file__)), "..", "reference")
+# The modules of the reference, each after those that it stands on.
+MODULES = "faults numbers state scan dropout fontfile charmap machine rows_stack rows_state rows_points outline answer".split()
 
 
 class Reading:
-    """A wrong reading: its name, the groups that have to find it, what it says, and a function that makes its changes."""
+    """A wrong reading: its name, the groups that have to find it, what it says, and its edits.
 
-    def __init__(self, name, groups, text, change):
-        self.name, self.groups, self.text, self.change = name, groups.split(), text, change
+    An edit is a module of the reference, a text that is there once, and what takes its place."""
 
+    def __init__(self, name, groups, text, *edits):
+        self.name, self.groups, self.text = name, groups.split(), text
+        self.edits = list(zip(edits[::3], edits[1::3], edits[2::3], strict=True))
 
-class Changes:
-    """Changes to the reference, which are taken back at the end."""
-
-    def __init__(self):
-        self.undo = []
-
-    def everywhere(self, name, make):
-        """Replaces a function in each module that has it. `make` gets the right one."""
-        for module in MODULES:
-            if name in vars(module):
-                self.attribute(module, name, make)
-
-    def attribute(self, owner, name, make):
-        """Replaces an attribute."""
-        old = vars(owner)[name]
-        right = old.__func__ if isinstance(old, staticmethod) else old
-        new = make(right)
-        setattr(owner, name, staticmethod(new) if isinstance(old, staticmethod) else new)
-        self.undo.append(lambda: setattr(owner, name, old))
-
-    def row(self, name, make, flags=range(32)):
-        """Replaces the rows of a mnemonic, with these flags. `make` gets the right row."""
-        first = NAMES[name]
-        later = sorted(value for value in NAMES.values() if value > first) + [0x100]
-        for opcode in range(first, later[0]):
-            if opcode in outline.TABLE and opcode - first in flags:
-                old = outline.TABLE[opcode]
-                outline.TABLE[opcode] = make(old)
-                self.undo.append(lambda opcode=opcode, old=old: outline.TABLE.__setitem__(opcode, old))
-
-    def back(self):
-        """Takes all changes back."""
-        for undo in reversed(self.undo):
-            undo()
+    def reference(self):
+        """A copy of the reference with these edits: its module `answer`. The modules that were imported stay as they are."""
+        package = types.ModuleType("reference")
+        package.__path__ = []
+        made = {"reference": package}
+        kept = {name: it for name, it in sys.modules.items() if name.partition(".")[0] == "reference"}
+        sys.modules.update(made)
+        try:
+            for name in MODULES:
+                module = made["reference." + name] = sys.modules["reference." + name] = types.ModuleType("reference." + name)
+                setattr(package, name, module)
+                exec(code_of(name, *((old, new) for of, old, new in self.edits if of == name)), vars(module))  # pylint: disable=exec-used
+        finally:
+            for name in made:
+                del sys.modules[name]
+            sys.modules.update(kept)
+        return package.answer
 
 
-READINGS = []
-
-
-def reading(name, groups, text):
-    """Adds a reading, whose change is the function below."""
-    def add(change):
-        READINGS.append(Reading(name, groups, text, change))
-        return change
-    return add
-
-
-def replaced(name, groups, text, function, new):
-    """A reading that replaces one function wherever it is used. `new` gets the right one."""
-    READINGS.append(Reading(name, groups, text, lambda c: c.everywhere(function, new)))
-
-
-def value_of(name, groups, text, owner, attribute, new):
-    """A reading that replaces a value of a module or class."""
-    READINGS.append(Reading(name, groups, text, lambda c: c.attribute(owner, attribute, lambda old: new)))
-
-
-def computes(name, mnemonic, text, function):
-    """A reading of a row of arithmetic."""
-    READINGS.append(Reading(name, "arithmetic", text, lambda c: c.row(mnemonic, lambda old: rows_stack.computed(2, function))))
+@functools.lru_cache(maxsize=None)
+def code_of(name, *edits):
+    """The code of a module with these edits."""
+    path = os.path.join(FOLDER, name + ".py")
+    with open(path, encoding="utf-8") as file:
+        text = file.read()
+    for old, new in edits:
+        assert text.count(old) == 1, "%s.py has `%s` %d times" % (name, old, text.count(old))
+        text = text.replace(old, new)
+    return compile(text, path, "exec")

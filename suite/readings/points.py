@@ -1,350 +1,119 @@
 """Wrong readings of the rows that move points, and rows without an effect or with another result."""
-from reference import rows_points, rows_stack, state
-from reference.faults import Halt
+from making.assembler import NAMES
 
-from .base import READINGS, Reading, reading, replaced, value_of
+from .base import Reading
 
-# ---- points
-value_of("cut_in_of_one_pixel", "cut-in", "the cut-in is 64 at first", state.Graphics, "cut_in", 64)
-value_of("minimum_of_zero", "mdrp mirp", "the minimum distance is 0 at first", state.Graphics, "minimum", 0)
-value_of("flip_off", "mirp", "auto flip is off at first", state.Graphics, "flip", False)
-value_of("base_of_zero", "deltas", "the delta base is 0 at first", state.Graphics, "base", 0)
-value_of("shift_of_zero", "deltas", "the delta shift is 0 at first", state.Graphics, "shift", 0)
-replaced("width_always", "mdrp mirp state", "the single width counts whatever the distance", "with_width",
-         lambda right: lambda gs, v: gs.width if gs.width and v >= 0 else -gs.width if gs.width else v)
-replaced("width_never", "mdrp mirp", "the single width never counts", "with_width", lambda right: lambda gs, v: v)
-replaced("minimum_by_result", "mdrp mirp", "the minimum distance is on the side of the result", "at_least",
-         lambda right: lambda gs, o, d: max(d, gs.minimum) if d >= 0 else min(d, -gs.minimum))
-replaced("minimum_by_size", "mdrp", "a negative minimum distance counts by its size", "at_least",
-         lambda right: lambda gs, o, d: max(d, abs(gs.minimum)) if o >= 0 else min(d, -abs(gs.minimum)))
-value_of("points_of_one", "state", "the reference points are 1 at first", state.Graphics, "rp", (1, 1, 1))
-replaced("current_for_original", "mdrp mirp", "MDRP and MIRP measure current places for the original distance", "original_distance",
-         lambda right: lambda m, p: rows_points.current_distance(m, p))
-replaced("from_the_point", "mdrp", "MDRP adds the distance to where the point is", "finish_relative",
-         lambda right: lambda m, p, d: right(m, p, d + rows_points.current_distance(m, p)))
+STATE, POINTS, ROWS, STACK, STEP = "state", "rows_points", "rows_state", "rows_stack", "            row(self)\n"
+ORIGINAL = "dot(m.gs.dv, minus(m.zone(1).get(p, True), m.zone(0).get(m.gs.rp[0], True)))"
+BOUND, POINT = "ob = dot(m.gs.dv, minus(m.zone(1).get(rp2, True), m.zone(0).get(rp1, True)))", "minus(m.zone(2).get(p, True), m.zone(0).get(rp1, True))"
+TEST, MOVED, ENTRIES = "if w32(abs(w32(abs(value)) - gs.width)) < gs.width_cut_in:", "minus(m.zone(k).get(point), m.zone(k).get(point, True))", "(rp0, rp1, rp2))"
+FLIPPED, SHZ, PAIRS = "        if m.zone(0).has(p):\n            m.zone(0).on[p] ^= 1", "    zone = m.zones[zone_number(m.pop(1)[0])]", "    return [(values[k], values"
+TWO, WHERE, INSIDE = "(before, after)", "points[before], points[after]", "near((o - org_low) * (cur_high - cur_low), org_high - org_low)"
+COUNT, SIZE, IUP = "    count, = m.pop(1)\n", "(arg >> 4 & 15) != m.ppem:", "= 0 if m.opcode & 1 else 1, m.zones[1], 0"
 
+READINGS = [Reading(*row) for row in (
+    ("cut_in_of_one_pixel", "cut-in", "the cut-in is 64 at first", STATE, "= 68, 64, 0, 0", "= 64, 64, 0, 0"),
+    ("minimum_of_zero", "mdrp mirp", "the minimum distance is 0 at first", STATE, "= 68, 64, 0, 0", "= 68, 0, 0, 0"),
+    ("flip_off", "mirp", "auto flip is off at first", STATE, "1, GRID, True", "1, GRID, False"),
+    ("base_of_zero", "deltas", "the delta base is 0 at first", STATE, "= 9, 3", "= 0, 3"),
+    ("shift_of_zero", "deltas", "the delta shift is 0 at first", STATE, "= 9, 3", "= 9, 0"),
+    ("points_of_one", "state", "the reference points are 1 at first", STATE, "rp, zp = (0, 0, 0)", "rp, zp = (1, 1, 1)"),
+    ("width_always", "mdrp mirp state", "the single width counts whatever the distance", POINTS, TEST, "if gs.width:"),
+    ("width_never", "mdrp mirp", "the single width never counts", POINTS, TEST, "if False:"),
+    ("minimum_by_result", "mdrp mirp", "the minimum distance is on the side of the result", POINTS, "if original >= 0 else min", "if distance >= 0 else min"),
+    ("minimum_by_size", "mdrp", "a negative minimum distance counts by its size",
+     POINTS, "max(distance, gs.minimum) if", "max(distance, abs(gs.minimum)) if", POINTS, "w32(-gs.minimum)", "-abs(gs.minimum)"),
+    ("current_for_original", "mdrp mirp", "MDRP and MIRP measure current places for the original distance", POINTS, ORIGINAL, "current_distance(m, p)"),
+    ("from_the_point", "mdrp", "MDRP adds the distance to where the point is", POINTS, "w32(distance - current_distance(m, p))", "distance"),
+    ("rp_swapped", "mdrp mirp", "MDRP and MIRP set rp1 to the point and rp2 to rp0",
+     POINTS, ENTRIES, "(rp0, rp1, rp2) if rp2 is None else (rp0, rp2, rp1))"),
+    ("rp0_always", "mdrp mirp", "MDRP and MIRP set rp0 whatever the flag", POINTS, ENTRIES, "(rp0 if rp2 is None else rp2, rp1, rp2))"),
+    ("mdrp_bit_4", "mdrp", "the flag for rounding means its opposite in MDRP", POINTS, "rounded(m.gs, original) if m", "rounded(m.gs, original) if not m"),
+    ("mdrp_bit_8", "mdrp", "the flag for minimum distance means its opposite in MDRP",
+     POINTS, "at_least(m.gs, original, distance) if m", "at_least(m.gs, original, distance) if not m"),
+    ("mdrp_bit_16", "mdrp", "the flag for rp0 means its opposite in MDRP", POINTS, "if m.opcode & 0x10", "if (m.opcode ^ 0x10 * (m.opcode < 0xE0)) & 0x10"),
+    ("mirp_bit_4", "mirp", "the flag for rounding means its opposite in MIRP", POINTS, "    if m.opcode & 4:\n", "    if not m.opcode & 4:\n"),
+    ("mirp_bit_8", "mirp", "the flag for minimum distance means its opposite in MIRP",
+     POINTS, "at_least(m.gs, original, value) if m", "at_least(m.gs, original, value) if not m"),
+    ("mirp_bit_16", "mirp", "the flag for rp0 means its opposite in MIRP", POINTS, "if m.opcode & 0x10", "if (m.opcode ^ 0x10 * (m.opcode >= 0xE0)) & 0x10"),
+    ("loop_not_reset", "state", "the loop stays after a row", POINTS, "    m.gs.loop = 1\n", ""),
+    ("cut_in_in_all_zones", "cut-in", "MIRP's cut-in counts between zones too", POINTS, "near_by = m.gs.zp[0] == m.gs.zp[1] and ", "near_by = "),
+    ("miap_cut_in_off", "cut-in", "MIAP takes the control value whatever the distance",
+     POINTS, "c if w32(abs(w32(value - c))) > m.gs.cut_in else value", "value"),
+    ("ip_between_current", "points", "IP measures the point's current place",
+     POINTS, BOUND, BOUND.replace(", True", ""), POINTS, POINT, POINT.replace(", True", "")),
+    ("operand_left", "state", "DEBUG, SANGW, AA, SCANCTRL and SCANTYPE leave their operand",
+     STACK, "nothing else\n    ROWS[_opcode] = lambda m: m.pop(1)", "nothing else\n    ROWS[_opcode] = lambda m: None",
+     ROWS, "0x85: scan_control", "0x85: lambda m: None", ROWS, "0x8D: scan_type", "0x8D: lambda m: None"),
+    ("flippt_sets_off", "points", "FLIPPT takes points off the curve, whatever they were", POINTS, "on[p] ^= 1", "on[p] = 0"),
+    ("flips_glyph_zone", "points", "FLIPPT flips points of the glyph zone, whatever zp0 is", POINTS, FLIPPED, FLIPPED.replace("zone(0)", "zones[1]")),
+    ("flip_range_in_any_order", "points", "the two ends of FLIPRGON and FLIPRGOFF may be in any order", POINTS, "low, high = m.pop(2)", "low, high = sorted(m.pop(2))"),
+    ("utp_both_axes", "points", "UTP untouches a point on both axes", POINTS, "m.gs.fv, False)", "(1, 1), False)"),
+    ("ip_at_rp1", "state", "IP puts a point on reference point 1 if both reference points were in one place", POINTS, "if ob else o)", "if ob else 0)"),
+    ("shift_by_place", "points state", "SHP, SHC and SHZ shift by where the reference point is, not by how far it has moved",
+     POINTS, MOVED, "m.zone(k).get(point)"),
+    ("twilight_touches_glyph", "points", "a row that moves a twilight point touches the glyph's point of that number",
+     POINTS, "    zone.touch(point, m.gs.fv)", "    zone.touch(point, m.gs.fv)\n    m.zones[1].touch(point, m.gs.fv)"),
+    ("shp_other_reference", "points", "SHP takes rp1 for rp2", POINTS, "if m.opcode & 1 else (1", "if (m.opcode ^ (m.opcode >> 1 == 0x19)) & 1 else (1"),
+    ("shc_other_reference", "points", "SHC takes rp1 for rp2", POINTS, "if m.opcode & 1 else (1", "if (m.opcode ^ (m.opcode >> 1 == 0x1A)) & 1 else (1"),
+    ("shz_other_reference", "points", "SHZ takes rp1 for rp2", POINTS, "if m.opcode & 1 else (1", "if (m.opcode ^ (m.opcode >> 1 == 0x1B)) & 1 else (1"),
+    ("shz_zp2", "points", "SHZ moves the zone of zp2", POINTS, SHZ, "    m.pop(1)\n    zone = m.zone(2)"),
+    ("shz_touches", "points", "SHZ touches the points that it moves", POINTS, "zone.put(p, plus(zone.get(p), way))", "add(m, zone, p, way)"),
+    # IUP
+    ("iup_from_current", "iup points", "IUP moves an untouched point from where it is, not from its original place",
+     POINTS, "place[axis] = value", "place[axis] += value - zone.org[p][axis]"),
+    ("iup_equal_after", "iup", "of two touched points with one original coordinate the one after is the lower", POINTS, TWO, "(after, before)"),
+    ("iup_no_shift", "iup", "IUP leaves points outside the two touched ones",
+     POINTS, "w32(o + cur_low - org_low)", "o", POINTS, "w32(o + cur_high - org_high)", "o"),
+    ("iup_floored", "iup", "IUP's interpolation drops the fraction", POINTS, INSIDE, INSIDE.replace("near(", "").replace(", org_high - org_low)", " // (org_high - org_low)")),
+    ("iup_one_contour", "iup", "IUP takes all contours as one", POINTS, "range(first, end + 1)))", "range(len(zone.org) - 4)))"),
+    ("iup_first_touched", "iup", "IUP takes the first touched point for all", POINTS, WHERE, "points[touched[0]], points[touched[0]]"),
+    ("iup_axes_swapped", "iup", "IUP's flag names the other axis", POINTS, IUP, "= 1 if m.opcode & 1 else 0, m.zones[1], 0"),
+    ("iup_zp2", "iup", "IUP works on the zone of zp2", POINTS, IUP, "= 0 if m.opcode & 1 else 1, m.zone(2), 0"),
+    # deltas
+    ("delta_pair_before_count", "deltas", "a delta takes a pair before it looks at its count", ROWS, COUNT, "    count = m.pop(1)[0] or 1\n"),
+    ("delta_stray_refused", "deltas", "a pair of a point or control value that is not there refuses the glyph, at any size",
+     ROWS, PAIRS, '    there = range(len(m.cvt if 0x73 <= m.opcode <= 0x75 else m.zone(0).org))\n'
+     '    if not set(values[1::2]) <= set(there):\n        raise Halt("BadArgument")\n' + PAIRS),
+    ("delta_zero_step", "deltas", "a delta's nibble 8 is no step", ROWS, "low - 8 if low < 8 else low - 7", "low - 8"),
+    ("delta_all_sizes", "deltas", "a delta acts from its size on", ROWS, SIZE, SIZE.replace("!=", ">")),
+    ("delta_up_to_size", "deltas", "a delta acts up to its size", ROWS, SIZE, SIZE.replace("!=", "<")),
+    ("pop_no_effect", "stack", "POP takes nothing", STACK, "0x21: lambda m: m.pop(1)", "0x21: lambda m: None"),
+    ("clear_no_effect", "stack", "CLEAR takes nothing", STACK, "0x22: lambda m: m.stack.clear()", "0x22: lambda m: None"),
+)]
 
-@reading("rp_swapped", "mdrp mirp", "MDRP and MIRP set rp1 to the point and rp2 to rp0")
-def _rp_swapped(c):
-    c.everywhere("put_rp", lambda right: lambda m, rp0=None, rp1=None, rp2=None: right(
-        m, rp0, *((rp1, rp2) if rp2 is None else (rp2, rp1))))
-
-
-@reading("rp0_always", "mdrp mirp", "MDRP and MIRP set rp0 whatever the flag")
-def _rp0_always(c):
-    c.everywhere("put_rp", lambda right: lambda m, rp0=None, rp1=None, rp2=None: right(
-        m, rp0 if rp2 is None else rp2, rp1, rp2))
-
-
-for _name, _first in (("MDRP", "mdrp"), ("MIRP", "mirp")):
-    for _bit, _what in ((4, "rounding"), (8, "minimum distance"), (16, "rp0")):
-        def _change(c, name=_name, bit=_bit):
-            def make(old):
-                def row(m):
-                    m.opcode ^= bit
-                    old(m)
-                    m.opcode ^= bit
-                return row
-            c.row(name, make)
-        READINGS.append(Reading("%s_bit_%d" % (_first, _bit), _first, "the flag for %s means its opposite in %s" % (_what, _name),
-                                _change))
-
-
-@reading("loop_not_reset", "state", "the loop stays after a row")
-def _loop_not_reset(c):
-    c.everywhere("looped", lambda right: lambda m: m.pop(m.gs.loop)[::-1] if m.gs.loop else [])
-
-
-@reading("cut_in_in_all_zones", "cut-in", "MIRP's cut-in counts between zones too")
-def _cut_in_in_all_zones(c):
-    def make(old):
-        def row(m):
-            zp, zones = m.gs.zp, m.zones
-            if zp[0] != zp[1] and len(m.stack) > 1:
-                value, point = rows_stack.read(m.cvt, m.stack[-1]), m.stack[-2]
-                if abs(value - rows_points.original_distance(m, point)) > m.gs.cut_in:
-                    m.push(rows_points.original_distance(m, m.pop(2)[0]))
-                    m.cvt.append(m.pop(1)[0])
-                    m.push(point, len(m.cvt) - 1)
-            assert zones
-            old(m)
-        return row
-    c.row("MIRP", make)
-
-
-@reading("miap_cut_in_off", "cut-in", "MIAP takes the control value whatever the distance")
-def _miap_cut_in_off(c):
-    def make(old):
-        def row(m):
-            cut, m.gs.cut_in = m.gs.cut_in, 1 << 30
-            old(m)
-            m.gs.cut_in = cut
-        return row
-    c.row("MIAP", make)
-
-
-@reading("ip_between_current", "points", "IP measures the point's current place")
-def _ip_between_current(c):
-    def make(old):
-        def row(m):
-            zones = [zone.org for zone in m.zones]
-            for zone in m.zones:
-                zone.org = list(zone.cur)
-            old(m)
-            for zone, org in zip(m.zones, zones):
-                zone.org = org
-        return row
-    c.row("IP", make)
-
-
-@reading("operand_left", "state", "DEBUG, SANGW, AA, SCANCTRL and SCANTYPE leave their operand")
-def _operand_left(c):
-    for name in ("DEBUG", "SANGW", "AA", "SCANCTRL", "SCANTYPE"):
-        c.row(name, lambda old: lambda m: None)
-
-
-@reading("flippt_sets_off", "points", "FLIPPT takes points off the curve, whatever they were")
-def _flippt_sets_off(c):
-    def row(m):
-        for p in rows_points.looped(m):
-            if m.zone(0).has(p):
-                m.zone(0).on[p] = 0
-    c.row("FLIPPT", lambda old: row)
-
-
-@reading("flips_glyph_zone", "points", "FLIPPT flips points of the glyph zone, whatever zp0 is")
-def _flips_glyph_zone(c):
-    def make(old):
-        def row(m):
-            zones = m.zones
-            m.zones = [zones[1], zones[1]]
-            old(m)
-            m.zones = zones
-        return row
-    c.row("FLIPPT", make)
-
-
-@reading("flip_range_in_any_order", "points", "the two ends of FLIPRGON and FLIPRGOFF may be in any order")
-def _flip_range(c):
-    for name in ("FLIPRGON", "FLIPRGOFF"):
-        c.row(name, lambda old: lambda m: (m.push(*sorted(m.pop(2))), old(m))[1])
-
-
-@reading("utp_both_axes", "points", "UTP untouches a point on both axes")
-def _utp_both_axes(c):
-    c.row("UTP", lambda old: lambda m: m.zone(0).touch(m.pop(1)[0], (1, 1), False))
-
-
-@reading("ip_at_rp1", "state", "IP puts a point on reference point 1 if both reference points were in one place")
-def _ip_at_rp1(c):
-    def make(old):
-        def row(m):
-            _, one, two = m.gs.rp
-            if state.dot(m.gs.dv, state.minus(m.zone(1).get(two, True), m.zone(0).get(one, True))):
-                old(m)
-                return
-            for p in rows_points.looped(m):
-                way = state.minus(m.zone(0).get(one), m.zone(2).get(p))
-                rows_points.moved(m, m.zone(2), p, state.dot(m.gs.pv, way))
-        return row
-    c.row("IP", make)
-
-
-@reading("shift_by_place", "points state", "SHP, SHC and SHZ shift by where the reference point is, not by how far it has moved")
-def _shift_by_place(c):
-    def reference_shift(right):
-        def by_place(m):
-            home, point, _ = right(m)
-            return home, point, state.shift_by(m.gs, state.dot(m.gs.pv, home.get(point)))
-        return by_place
-    c.everywhere("reference_shift", reference_shift)
-
-
-@reading("twilight_touches_glyph", "points", "a row that moves a twilight point touches the glyph's point of that number")
-def _twilight_touches_glyph(c):
-    c.everywhere("add", lambda right: lambda m, zone, point, way: (right(m, zone, point, way),
-                 zone is m.zones[0] and m.zones[1].touch(point, m.gs.fv)))
-
-
-for _mnemonic in ("SHP", "SHC", "SHZ"):
-    def _reference(c, name=_mnemonic):
-        def make(old):
-            def row(m):
-                m.opcode ^= 1
-                old(m)
-                m.opcode ^= 1
-            return row
-        c.row(name, make)
-    READINGS.append(Reading("%s_other_reference" % _mnemonic.lower(), "points", "%s takes rp1 for rp2" % _mnemonic, _reference))
-
-
-@reading("shz_zp2", "points", "SHZ moves the zone of zp2")
-def _shz_zp2(c):
-    c.row("SHZ", lambda old: lambda m: (m.pop(1), m.push(m.gs.zp[2]), old(m)))
-
-
-@reading("shz_touches", "points", "SHZ touches the points that it moves")
-def _shz_touches(c):
-    def make(old):
-        def row(m):
-            zone = m.zones[m.stack[-1]]
-            before = list(zone.cur)
-            old(m)
-            for p, place in enumerate(before):
-                if zone.cur[p] != place:
-                    zone.touch(p, m.gs.fv)
-        return row
-    c.row("SHZ", make)
-
-
-replaced("iup_from_current", "iup points", "IUP moves an untouched point from where it is, not from its original place",
-         "untouched_of_contour", lambda right: lambda zone, axis, points: _from_current(right, zone, axis, points))
-replaced("iup_equal_after", "iup", "of two touched points with one original coordinate the one after is the lower", "between",
-         lambda right: lambda zone, axis, o, b, a: right(zone, axis, o, a, b))
-replaced("iup_no_shift", "iup", "IUP leaves points outside the two touched ones", "between",
-         lambda right: lambda zone, axis, o, b, a: right(zone, axis, o, b, a) if min(zone.org[b][axis],
-             zone.org[a][axis]) < o < max(zone.org[b][axis], zone.org[a][axis]) else o)
-replaced("iup_floored", "iup", "IUP's interpolation drops the fraction", "between",
-         lambda right: lambda zone, axis, o, b, a: _floored(right, zone, axis, o, b, a))
-replaced("iup_one_contour", "iup", "IUP takes all contours as one", "untouched_of_contour",
-         lambda right: lambda zone, axis, points: right(zone, axis, list(range(len(zone.org) - 4))))
-replaced("iup_first_touched", "iup", "IUP takes the first touched point for all", "untouched_of_contour",
-         lambda right: lambda zone, axis, points: _by_first(right, zone, axis, points))
-
-
-def _from_current(right, zone, axis, points):
-    """What moved untouched points before stays."""
-    before = [zone.cur[p][axis] - zone.org[p][axis] for p in points]
-    right(zone, axis, points)
-    for p, moved in zip(points, before):
-        if not zone.touched[p][axis] and any(zone.touched[q][axis] for q in points):
-            place = list(zone.cur[p])
-            place[axis] += moved
-            zone.put(p, tuple(place))
-
-
-def _floored(right, zone, axis, o, b, a):
-    """Interpolation with the fraction dropped."""
-    low, high = sorted((b, a), key=lambda p: zone.org[p][axis])
-    if not zone.org[low][axis] < o < zone.org[high][axis]:
-        return right(zone, axis, o, b, a)
-    part, whole = o - zone.org[low][axis], zone.org[high][axis] - zone.org[low][axis]
-    return zone.cur[low][axis] + part * (zone.cur[high][axis] - zone.cur[low][axis]) // whole
-
-
-def _by_first(_right, zone, axis, points):
-    """All untouched points move as the first touched one did."""
-    touched = [p for p in points if zone.touched[p][axis]]
-    for p in points if touched else []:
-        if p not in touched:
-            place = list(zone.org[p])
-            place[axis] += zone.cur[touched[0]][axis] - zone.org[touched[0]][axis]
-            other = list(zone.cur[p])
-            other[axis] = place[axis]
-            zone.put(p, tuple(other))
-
-
-@reading("iup_axes_swapped", "iup", "IUP's flag names the other axis")
-def _iup_axes_swapped(c):
-    _reference(c, "IUP")
-
-
-@reading("iup_zp2", "iup", "IUP works on the zone of zp2")
-def _iup_zp2(c):
-    def make(old):
-        def row(m):
-            zones = m.zones
-            m.zones = [zones[0], m.zone(2)]
-            old(m)
-            m.zones = zones
-        return row
-    c.row("IUP", make)
-
-
-replaced("delta_pair_before_count", "deltas", "a delta takes a pair before it looks at its count", "delta_pairs",
-         lambda right: lambda m: (m.push(m.pop(1)[0] or 1), right(m))[1])
-replaced("delta_stray_refused", "deltas", "a pair of a point or control value that is not there refuses the glyph, at any size",
-         "delta_pairs", lambda right: lambda m: _all_there(m, right(m)))
-replaced("delta_zero_step", "deltas", "a delta's nibble 8 is no step", "delta_of",
-         lambda right: lambda m, arg, step: right(m, arg, step) and right(m, arg, step) - (64 >> m.gs.shift) * (arg & 15 > 7))
-replaced("delta_all_sizes", "deltas", "a delta acts from its size on", "delta_of",
-         lambda right: lambda m, arg, step: _from_size(right, m, arg, step))
-
-
-replaced("delta_up_to_size", "deltas", "a delta acts up to its size", "delta_of",
-         lambda right: lambda m, arg, step: _to_size(right, m, arg, step))
-
-
-def _all_there(m, pairs):
-    """The pairs of a delta, if all points or control values are there."""
-    count = len(m.cvt) if 0x73 <= m.opcode <= 0x75 else len(m.zone(0).org)
-    if not all(0 <= k < count for _, k in pairs):
-        raise Halt("BadArgument")
-    return pairs
-
-
-def _to_size(right, m, arg, step):
-    """A delta that acts at its size and below."""
-    size = m.gs.base + step + (arg >> 4 & 15)
-    saved, m.ppem = m.ppem, max(m.ppem, size)
-    try:
-        return right(m, arg, step)
-    finally:
-        m.ppem = saved
-
-
-def _from_size(right, m, arg, step):
-    """A delta that acts at its size and above."""
-    size = m.gs.base + step + (arg >> 4 & 15)
-    saved, m.ppem = m.ppem, min(m.ppem, size)
-    try:
-        return right(m, arg, step)
-    finally:
-        m.ppem = saved
-
-# ---- each row: without effect, or with another result
+# ---- each row: without an effect beside its operands, or with another result
 EFFECTS = {
     "state": "SMD SCVTCI SSWCI SSW FLIPON FLIPOFF SRP0 SRP1 SRP2 SZP0 SZP1 SZP2 SZPS SLOOP SFVTPV RTG", "tables": "WS WCVTP WCVTF",
     "vectors": "SVTCA SPVTCA SFVTCA SPVTL SFVTL SPVFS SFVFS SDPVTL", "functions": "INSTCTRL FDEF IDEF",
-           "deltas": "SDB SDS DELTAP1 DELTAP2 DELTAP3 DELTAC1 DELTAC2 DELTAC3",
-    "points": "ISECT ALIGNPTS UTP MDAP MIAP MSIRP ALIGNRP IP SHP SHC SHZ SHPIX SCFS FLIPPT FLIPRGON FLIPRGOFF", "mdrp": "MDRP",
-           "mirp": "MIRP", "iup": "IUP",
-    "cut-in": "MIAP MIRP", "rounding": "SROUND S45ROUND RTHG RTDG RDTG RUTG ROFF",
+    "deltas": "SDB SDS DELTAP1 DELTAP2 DELTAP3 DELTAC1 DELTAC2 DELTAC3",
+    "points": "ISECT ALIGNPTS UTP MDAP MIAP MSIRP ALIGNRP IP SHP SHC SHZ SHPIX SCFS FLIPPT FLIPRGON FLIPRGOFF", "mdrp": "MDRP", "mirp": "MIRP",
+    "iup": "IUP", "cut-in": "MIAP MIRP", "rounding": "SROUND S45ROUND RTHG RTDG RDTG RUTG ROFF",
 }
 RESULTS = {
-    "stack": "DUP SWAP DEPTH CINDEX MINDEX ROLL", "push": "PUSHB PUSHW NPUSHB NPUSHW", "tables": "RS RCVT", "points": "GC MD",
-           "vectors": "GPV GFV",
-    "arithmetic": "ADD SUB DIV MUL ABS NEG FLOOR CEILING MAX MIN", "compare": "LT LTEQ GT GTEQ EQ NEQ AND OR NOT",
-           "rounding": "ODD EVEN ROUND NROUND",
+    "stack": "DUP SWAP DEPTH CINDEX MINDEX ROLL", "push": "PUSHB PUSHW NPUSHB NPUSHW", "tables": "RS RCVT", "points": "GC MD", "vectors": "GPV GFV",
+    "arithmetic": "ADD SUB DIV MUL ABS NEG FLOOR CEILING MAX MIN", "compare": "LT LTEQ GT GTEQ EQ NEQ AND OR NOT", "rounding": "ODD EVEN ROUND NROUND",
     "state": "MPPEM MPS GETINFO",
 }
+WITHOUT_EFFECT = """            saved = self.fork() if self.opcode in %r else None
+            row(self)
+            for name in ("cvt", "storage", "functions", "idefs", "gs", "no_programs", "default_state") if saved else ():
+                setattr(self, name, getattr(saved, name))
+            for zone, before in zip(self.zones, saved.zones) if saved else ():
+                vars(zone).update(vars(before))
+"""
+ONE_MORE = """            row(self)
+            if self.opcode in %r:
+                self.push(self.pop(1)[0] + 1)
+"""
 
 
-def without_effect(old):
-    """A row that pops and pushes what it should, and changes nothing else."""
-    def row(m):
-        saved = m.fork()
-        old(m)
-        m.cvt, m.storage, m.functions, m.idefs = saved.cvt, saved.storage, saved.functions, saved.idefs
-        for zone, before in zip(m.zones, saved.zones):
-            vars(zone).update(vars(before))
-        m.gs, m.no_programs, m.default_state = saved.gs, saved.no_programs, saved.default_state
-    return row
+def opcodes(mnemonic):
+    """The opcodes of a mnemonic, up to the next one that has a name."""
+    first = NAMES[mnemonic]
+    return range(first, min([it for it in NAMES.values() if it > first] + [0x100]))
 
 
-def one_more(old):
-    """A row whose last result is one more than it should be."""
-    def row(m):
-        old(m)
-        m.push(m.pop(1)[0] + 1)
-    return row
-
-
-for _table, _make, _word in ((EFFECTS, without_effect, "no_effect"), (RESULTS, one_more, "other_result")):
-    for _group, _names in _table.items():
-        for _name in _names.split():
-            READINGS.append(Reading("%s_%s" % (_name.lower(), _word), _group,
-                "%s has %s" % (_name, _word.replace("_", " ").replace("no effect", "no effect beside its operands")),
-                                    lambda c, name=_name, make=_make: c.row(name, make)))
-READINGS.append(Reading("pop_no_effect", "stack", "POP takes nothing", lambda c: c.row("POP", lambda old: lambda m: None)))
-READINGS.append(Reading("clear_no_effect", "stack", "CLEAR takes nothing", lambda c: c.row("CLEAR", lambda old: lambda m: None)))
+for _table, _new, _name, _text in ((EFFECTS, WITHOUT_EFFECT, "%s_no_effect", "%s has no effect beside its operands"),
+                                   (RESULTS, ONE_MORE, "%s_other_result", "%s has another result")):
+    READINGS += [Reading(_name % it.lower(), group, _text % it, "machine", STEP, _new % opcodes(it)) for group, names in _table.items() for it in names.split()]

@@ -34,12 +34,6 @@ def maker_of(data, face, ppem, hinted):
     return _KEPT[key]
 
 
-def forget():
-    """Drops the maker and the drawings that were kept."""
-    _KEPT.clear()
-    _DRAWN.clear()
-
-
 def made(data, request):
     """The answer, or a fault."""
     char = request.get("char")

@@ -139,6 +139,17 @@ class Machine:
             place = after
 
 
+def pushed(code, place):
+    """The numbers that a push has in its bytes; no other instruction has any."""
+    opcode = code[place]
+    if opcode not in (0x40, 0x41) and not 0xB0 <= opcode <= 0xBF:
+        return []
+    data = code[place + (2 if opcode < 0xB0 else 1):next_place(code, place)]
+    if opcode == 0x41 or opcode >= 0xB8:
+        return [int.from_bytes(data[k:k + 2], "big", signed=True) for k in range(0, len(data), 2)]
+    return list(data)
+
+
 def next_place(code, place):
     """The place after an instruction and its data, or None if these are cut."""
     if place >= len(code):

@@ -1,6 +1,6 @@
 """Rows of the instruction table that touch the stack, storage, control values and the flow of a program."""
 from .faults import Halt
-from .machine import EIF, ELSE
+from .machine import EIF, ELSE, pushed
 from .numbers import cut, near, w32
 from .state import rounded
 
@@ -25,11 +25,7 @@ def computed(count, function):
 
 def push_data(m):
     """NPUSHB, NPUSHW, PUSHB, PUSHW."""
-    data = m.code[m.start + (2 if m.opcode in (0x40, 0x41) else 1):m.at]
-    if m.opcode in (0x41,) or m.opcode >= 0xB8:
-        m.push(*(int.from_bytes(data[k:k + 2], "big", signed=True) for k in range(0, len(data), 2)))
-    else:
-        m.push(*data)
+    m.push(*pushed(m.code, m.start))
 
 
 def divide(a, b):

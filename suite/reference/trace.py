@@ -2,10 +2,9 @@
 from making.assembler import NAMES
 
 from .faults import Halt, Refused
-from .machine import Machine, next_place
+from .machine import Machine, pushed
 from .outline import TABLE, Maker
 
-PUSHES = (0x40, 0x41, *range(0xB0, 0xC0))
 ROUNDS = {0x18: "grid", 0x19: "half-grid", 0x3D: "double-grid", 0x7D: "down", 0x7C: "up", 0x7A: "off", 0x76: "super", 0x77: "super"}
 POINT = ("point", "original", "touched-x", "touched-y", "on-curve")
 STATE = ("rp0", "rp1", "rp2", "zp0", "zp1", "zp2", "auto-flip", "cut-in", "minimum-distance", "single-width", "single-width-cut-in", "delta-base",
@@ -23,16 +22,6 @@ def names():
 
 
 OPCODES = names()
-
-
-def pushed(code, at):
-    """The numbers that a push has in its bytes."""
-    if code[at] not in PUSHES:
-        return []
-    data = code[at + (2 if code[at] < 0xB0 else 1):next_place(code, at)]
-    if code[at] == 0x41 or code[at] >= 0xB8:
-        return [int.from_bytes(data[k:k + 2], "big", signed=True) for k in range(0, len(data), 2)]
-    return list(data)
 
 
 def where(name):

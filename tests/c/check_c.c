@@ -1,22 +1,21 @@
-/* Calls the C library as test_library.py asks, in place of a program that uses it, with the heap of c/heap.c. What agrees from call to call, and
- * what refused calls leave, tools/fuzz_c.c looks at.
+/* Calls the C library as test_library.py asks, in place of a program that uses it, with the heap of c/heap.c. The other calls test_library.py
+ * makes itself (calls.py); what agrees from call to call, and what refused calls leave, tools/fuzz_c.c looks at.
  *
  *     check_c strike FONT PPEM MODE FIRST LAST      a strike, as `mkstrike make` writes it, with its line and its status
  *     check_c many FONT PPEM MODE FIRST LAST        these characters in one call, packed and not, against their strike
- *     check_c outline FONT PPEM MODE GLYPH          an outline, as `mkstrike outline` writes it
- *     check_c requests FONT                         requests of many characters that are refused before the font is opened
- *     check_c calls FONT                            the other calls, and what they refuse
- *     check_c characters FONT                       how many faces the file has, and the characters of the first, one a line
- *     check_c name FONT FACE NUMBER                 a name of a font, in buffers that are large enough, too small and none; or "missing"
  *     check_c threads FONT                          eight threads at once
- *     check_c stack FONT KIB                        in a thread with a stack of that many KiB
- *     check_c reasons                               the name of each number */
+ *     check_c stack FONT KIB                        in a thread with a stack of that many KiB */
 #define _POSIX_C_SOURCE 200112L
 #include "mkstrike.h"
 #include <pthread.h>
 #include <stdio.h>
 #include <stdlib.h>
 #include <string.h>
+
+/* The sizes of the structs where pointers have 64 bits: with another one this does not compile. */
+typedef char sizes[sizeof(void *) != 8 || (sizeof(struct mkstrike_refused) == 40 && sizeof(struct mkstrike_font_info) == 16 &&
+    sizeof(struct mkstrike_glyph_info) == 28 && sizeof(struct mkstrike_placed) == 40 && sizeof(struct mkstrike_drawn) == 24 &&
+    sizeof(struct mkstrike_told) == 32 && sizeof(struct mkstrike_outline_point) == 12 && sizeof(struct mkstrike_outlined) == 24) ? 1 : -1];
 
 /* ---- what is asked for */
 
@@ -25,7 +24,6 @@ struct request {
     size_t font_len;
     uint16_t ppem;
     uint32_t mode;
-    uint32_t face;
     uint32_t *chars;
     size_t chars_len;
     uint32_t *block;
@@ -68,7 +66,6 @@ static struct request request_of(const char *name, int ppem, uint32_t mode, uint
     if (fread(font, 1, r.font_len, file) != r.font_len) stop("no font");
     fclose(file);
     r.font = font;
-    r.face = 0;
     r.ppem = (uint16_t)ppem;
     r.mode = mode;
     r.chars_len = last - first + 1;
@@ -81,13 +78,13 @@ static struct request request_of(const char *name, int ppem, uint32_t mode, uint
 
 /* The font's block, for calls by it. */
 static void prepare(struct request *r) {
-    if (mkstrike_prepare(r->font, r->font_len, r->face, r->ppem, r->mode, NULL, 0, &r->block_len, NULL) != 0) stop("no size of a block");
+    if (mkstrike_prepare(r->font, r->font_len, 0, r->ppem, r->mode, NULL, 0, &r->block_len, NULL) != 0) stop("no size of a block");
     r->block = (uint32_t *)bytes(r->block_len * sizeof *r->block);
-    if (mkstrike_prepare(r->font, r->font_len, r->face, r->ppem, r->mode, r->block, r->block_len, &r->block_len, NULL) != 0) stop("no block");
+    if (mkstrike_prepare(r->font, r->font_len, 0, r->ppem, r->mode, r->block, r->block_len, &r->block_len, NULL) != 0) stop("no block");
 }
 
 static uint32_t make(const struct request *r, uint8_t *out, size_t out_len, struct mkstrike_told *told, struct mkstrike_refused *refused) {
-    return mkstrike_make(r->font, r->font_len, r->face, r->ppem, r->mode, r->chars, r->chars_len, "mkstrike", 8, out, out_len, told, refused);
+    return mkstrike_make(r->font, r->font_len, 0, r->ppem, r->mode, r->chars, r->chars_len, "mkstrike", 8, out, out_len, told, refused);
 }
 
 /* A strike's text in as many bytes as it has. */
@@ -184,39 +181,6 @@ static void same_pixels(const struct mkstrike_glyph_info *g, const uint8_t *pack
             if (pixels[i * g->width + j] != ((packed[i * g->stride + j / 8] >> (7 - j % 8) & 1) ? 255 : 0)) stop("other pixels");
 }
 
-/* ---- outlines */
-
-static uint32_t outlined(const struct request *r, uint32_t glyph, struct mkstrike_outline_point *points, size_t points_len, uint16_t *ends,
-    size_t ends_len, struct mkstrike_outlined *told, struct mkstrike_refused *refused) {
-    return mkstrike_outline(r->font, r->font_len, r->face, r->ppem, r->mode, glyph, points, points_len, ends, ends_len, told, refused);
-}
-
-/* The outline of a glyph, in buffers of just its size, as mkstrike outline writes it. */
-static int outline(const struct request *r, uint32_t glyph) {
-    struct mkstrike_outlined told, again;
-    struct mkstrike_refused refused;
-    struct mkstrike_outline_point *points;
-    uint16_t *ends;
-    size_t i, contour = 0;
-    if (outlined(r, glyph, NULL, 0, NULL, 0, &told, &refused) != 0) {
-        put_refusal(&refused);
-        return 1;
-    }
-    points = (struct mkstrike_outline_point *)bytes(told.points * sizeof *points);
-    ends = (uint16_t *)bytes(told.contours * sizeof *ends);
-    if (outlined(r, glyph, points, told.points, ends, told.contours, &again, NULL) != 0) stop("no outline the second time");
-    if (again.points != told.points || again.contours != told.contours || again.advance != told.advance) stop("another outline");
-    for (i = 0; i < told.points; i++) {
-        while (contour < told.contours && ends[contour] < i) contour++;
-        printf("%lu %lu %s %ld %ld\n", (unsigned long)contour, (unsigned long)i, points[i].on_curve == 1 ? "on" : "off", (long)points[i].x,
-            (long)points[i].y);
-    }
-    printf("advance %ld\n", (long)told.advance);
-    free(points);
-    free(ends);
-    return 0;
-}
-
 /* ---- many characters in one call */
 
 /* What a call of mkstrike_glyphs gave, in buffers of their own sizes. */
@@ -232,9 +196,9 @@ struct many {
 
 static uint32_t call_many(const struct request *r, struct many *it, size_t glyphs_len, size_t pixels_len) {
     if (r->block != NULL)
-        return mkstrike_glyphs_prepared(r->font, r->font_len, r->face, r->ppem, r->mode | it->packed, r->block, r->block_len, it->chars, it->len,
+        return mkstrike_glyphs_prepared(r->font, r->font_len, 0, r->ppem, r->mode | it->packed, r->block, r->block_len, it->chars, it->len,
             it->glyphs, glyphs_len, it->pixels, pixels_len, &it->drawn, &it->refused);
-    return mkstrike_glyphs(r->font, r->font_len, r->face, r->ppem, r->mode | it->packed, it->chars, it->len, it->glyphs, glyphs_len,
+    return mkstrike_glyphs(r->font, r->font_len, 0, r->ppem, r->mode | it->packed, it->chars, it->len, it->glyphs, glyphs_len,
         it->pixels, pixels_len, &it->drawn, &it->refused);
 }
 
@@ -323,142 +287,6 @@ static int many(const struct request *r) {
     return 0;
 }
 
-/* The size goes before the characters, the characters before the font, and nothing is written. */
-static int requests(struct request *r) {
-    static uint32_t chars[65537];
-    struct many it;
-    size_t font_len = r->font_len;
-    it.chars = chars;
-    it.packed = 0;
-    for (it.len = 0; it.len < 65537; it.len++) chars[it.len] = 0x20;
-    if (many_of(r, &it) != MKSTRIKE_BAD_CHARS) stop("too many characters");
-    r->font_len = 0;
-    if (many_of(r, &it) != MKSTRIKE_BAD_CHARS) stop("too many characters, and no font");
-    r->ppem = 0;
-    if (many_of(r, &it) != MKSTRIKE_BAD_SIZE) stop("no size");
-    r->mode = 16;
-    if (many_of(r, &it) != MKSTRIKE_BAD_MODE) stop("no mode");
-    r->mode = 0;
-    r->ppem = 16;
-    it.len = 65536;
-    if (many_of(r, &it) != MKSTRIKE_NOT_TRUE_TYPE) stop("no font");
-    r->font_len = font_len;
-    if (many_of(r, &it) != 0 || it.drawn.glyphs != 65536) stop("as many characters as there may be");
-    free_many(&it);
-    chars[65535] = 0x110000;
-    if (many_of(r, &it) != MKSTRIKE_BAD_CHARS) stop("a number that is no character");
-    it.len = 0;
-    if (many_of(r, &it) != 0 || it.drawn.bytes + it.drawn.glyphs + it.drawn.missing != 0) stop("no character");
-    free_many(&it);
-    return 0;
-}
-
-/* ---- the other calls */
-
-/* The numbers of glyphs: each character's, as many as fit; and what is refused. */
-static void ids(const struct request *r) {
-    uint32_t chars[300], far = 0x110000;
-    uint16_t all[300], some[300];
-    struct mkstrike_refused refused;
-    struct mkstrike_glyph_info g;
-    size_t i, room;
-    for (i = 0; i < 300; i++) chars[i] = (uint32_t)(i * 37 % 300);
-    if (mkstrike_glyph_ids(r->font, r->font_len, r->face, chars, 300, all, 300, &refused) != 0) stop("no numbers of glyphs");
-    for (i = 0; i < 300; i++)
-        if ((all[i] == 0) != (mkstrike_glyph(r->font, r->font_len, r->face, r->ppem, r->mode, chars[i], NULL, 0, &g, NULL) == MKSTRIKE_MISSING))
-            stop("the number of a glyph that is not there");
-    for (room = 0; room < 300; room += 23) {
-        memset(some, 7, sizeof some);
-        if (mkstrike_glyph_ids(r->font, r->font_len, r->face, chars, 300, some, room, NULL) != 0) stop("no numbers in a small buffer");
-        if (memcmp(some, all, room * sizeof *some) != 0 || some[room] != 0x0707) stop("other numbers in a small buffer");
-    }
-    if (mkstrike_glyph_ids(r->font, r->font_len, r->face, &far, 1, all, 1, &refused) != MKSTRIKE_BAD_CHARS) stop("a number of no character");
-    if (mkstrike_glyph_ids(r->font, 0, r->face, chars, 1, all, 1, &refused) != MKSTRIKE_NOT_TRUE_TYPE) stop("numbers of no font");
-}
-
-/* What a font is: its numbers, and a glyph for each number below its count and for no other. */
-static void font_told(const struct request *r) {
-    struct mkstrike_font_info info;
-    struct mkstrike_glyph_info g;
-    struct mkstrike_refused refused;
-    uint32_t past[] = {0, 65535, 65536, 0xFFFFFFFF, 65536 + 3}, i;
-    if (mkstrike_font(r->font, r->font_len, r->face, r->ppem, &info, &refused) != 0) stop("nothing of a font");
-    if (info.glyphs == 0 || info.glyphs > 65535) stop("a number of glyphs");
-    printf("%d %d %d %u\n", (int)info.ascent, (int)info.descent, (int)info.line_gap, (unsigned)info.glyphs);
-    if (mkstrike_glyph_by_id(r->font, r->font_len, r->face, r->ppem, 0, info.glyphs - 1, NULL, 0, &g, &refused) != 0) stop("no last glyph");
-    past[0] = info.glyphs;
-    for (i = 0; i < sizeof past / sizeof *past; i++)
-        if (mkstrike_glyph_by_id(r->font, r->font_len, r->face, r->ppem, 0, past[i], NULL, 0, &g, &refused) != MKSTRIKE_BAD_GLYPH_NUMBER ||
-            refused.glyph != (past[i] < 65535 ? past[i] : 65535))
-            stop("a glyph that the font does not have");
-    if (mkstrike_font(r->font, r->font_len, r->face, 0, &info, &refused) != MKSTRIKE_BAD_SIZE) stop("a font without a size");
-    if (mkstrike_font(r->font, r->font_len, 1, 16, &info, &refused) != MKSTRIKE_NO_FACE) stop("a second font");
-}
-
-/* The faces of a file and the characters of its first font, in buffers that are large enough, too small and none. */
-static int characters(const struct request *r) {
-    uint32_t faces, *all, *some;
-    size_t count = 7, again, room, i;
-    struct mkstrike_refused refused;
-    if (mkstrike_faces(r->font, r->font_len, &faces, &refused) != 0) {
-        put_refusal(&refused);
-        return 1;
-    }
-    printf("faces %u\n", (unsigned)faces);
-    if (mkstrike_characters(r->font, r->font_len, 0, NULL, 0, &count, &refused) != 0) {
-        if (count != 7) stop("a refusal changed the count");
-        put_refusal(&refused);
-        return 1;
-    }
-    all = (uint32_t *)bytes((count + 1) * sizeof *all);
-    some = (uint32_t *)bytes((count + 1) * sizeof *some);
-    all[count] = 7;
-    if (mkstrike_characters(r->font, r->font_len, 0, all, count + 1, &again, NULL) != 0 || again != count || all[count] != 7)
-        stop("other characters with room for them");
-    for (room = 0; room < count; room += 1 + count / 7) {
-        some[room] = 7;
-        if (mkstrike_characters(r->font, r->font_len, 0, some, room, NULL, NULL) != 0) stop("no characters in a small buffer");
-        if (memcmp(some, all, room * sizeof *some) != 0 || some[room] != 7) stop("other characters in a small buffer");
-    }
-    for (i = 0; i < count; i++) printf("%lX\n", (unsigned long)all[i]);
-    free(all);
-    free(some);
-    return 0;
-}
-
-/* A name of a font, in buffers that are large enough, too small and none. */
-static int name(const struct request *r, uint32_t id) {
-    struct mkstrike_refused refused;
-    size_t count = 7, again, i;
-    char *text;
-    uint32_t status = mkstrike_name(r->font, r->font_len, r->face, id, NULL, 0, &count, &refused);
-    if (status != 0 && count != 7) stop("no name, and a count");
-    if (status == MKSTRIKE_MISSING) printf("missing");
-    else if (status != 0) put_refusal(&refused);
-    if (status != 0) return status != MKSTRIKE_MISSING;
-    text = (char *)bytes(count + 2);
-    memset(text, 7, count + 2);
-    if (mkstrike_name(r->font, r->font_len, r->face, id, text, count, &again, NULL) != 0 || again != count) stop("no name in a small buffer");
-    for (i = 0; i < count; i++)
-        if (text[i] != 7) stop("a part of a name");
-    if (mkstrike_name(r->font, r->font_len, r->face, id, text, count + 2, NULL, NULL) != 0) stop("no name in a large buffer");
-    if (text[count] != 0 || text[count + 1] != 7) stop("no 0 after a name, or more");
-    fwrite(text, 1, count, stdout);
-    free(text);
-    return 0;
-}
-
-static int calls(const struct request *r) {
-    if (mkstrike_version() != MKSTRIKE_VERSION) stop("another release");
-    if (sizeof(void *) == 8 && (sizeof(struct mkstrike_refused) != 40 || sizeof(struct mkstrike_font_info) != 16 ||
-            sizeof(struct mkstrike_glyph_info) != 28 || sizeof(struct mkstrike_placed) != 40 || sizeof(struct mkstrike_drawn) != 24 ||
-            sizeof(struct mkstrike_told) != 32 || sizeof(struct mkstrike_outline_point) != 12 || sizeof(struct mkstrike_outlined) != 24))
-        stop("another size of a struct");
-    font_told(r);
-    ids(r);
-    return 0;
-}
-
 /* ---- threads and the stack */
 
 static struct request shared;
@@ -501,57 +329,12 @@ static void run_threads(int count, int rounds, size_t stack) {
     for (i = 0; i < count; i++) pthread_join(threads[i], NULL);
 }
 
-/* A text of a number is cut to each room, and nothing after it is changed. */
-static void text_of_number(size_t (*told)(uint32_t, char *, size_t), uint32_t number, char *text, size_t most) {
-    size_t room, len = told(number, text, most);
-    if (len >= most) stop("a longer text than the header says");
-    for (room = 0; room < most; room++) {
-        char cut[96];
-        memset(cut, 7, sizeof cut);
-        if (told(number, cut, room) != len) stop("another length of a text");
-        if (room > 0 && (strlen(cut) != (len < room ? len : room - 1) || memcmp(cut, text, strlen(cut)) != 0)) stop("another text");
-        if (cut[room] != 7) stop("a byte after a text was changed");
-    }
-}
-
-static int reasons(void) {
-    uint32_t i;
-    for (i = 0; i < 400; i++) {
-        char name[21], to_do[91];
-        text_of_number(mkstrike_reason, i, name, sizeof name);
-        text_of_number(mkstrike_advice, i, to_do, sizeof to_do);
-        printf("%u %s %s\n", (unsigned)i, name, to_do);
-    }
-    return 0;
-}
-
 int main(int argc, char **argv) {
     const char *mode = argc > 1 ? argv[1] : "";
     if (argc == 7 && (strcmp(mode, "strike") == 0 || strcmp(mode, "many") == 0)) {
         shared = request_of(argv[2], atoi(argv[3]), mode_of(argv[4]), (uint32_t)strtoul(argv[5], NULL, 16),
             (uint32_t)strtoul(argv[6], NULL, 16));
         return strcmp(mode, "strike") == 0 ? strike(&shared) : many(&shared);
-    }
-    if (argc == 6 && strcmp(mode, "outline") == 0) {
-        shared = request_of(argv[2], atoi(argv[3]), mode_of(argv[4]), 0x20, 0x20);
-        return outline(&shared, (uint32_t)strtoul(argv[5], NULL, 10));
-    }
-    if (argc == 3 && strcmp(mode, "requests") == 0) {
-        shared = request_of(argv[2], 16, 0, 0x20, 0x20);
-        return requests(&shared);
-    }
-    if (argc == 3 && strcmp(mode, "calls") == 0) {
-        shared = request_of(argv[2], 16, 0, 0x20, 0x20);
-        return calls(&shared);
-    }
-    if (argc == 3 && strcmp(mode, "characters") == 0) {
-        shared = request_of(argv[2], 16, 0, 0x20, 0x20);
-        return characters(&shared);
-    }
-    if (argc == 5 && strcmp(mode, "name") == 0) {
-        shared = request_of(argv[2], 16, 0, 0x20, 0x20);
-        shared.face = (uint32_t)strtoul(argv[3], NULL, 10);
-        return name(&shared, (uint32_t)strtoul(argv[4], NULL, 10));
     }
     if (argc == 3 && strcmp(mode, "threads") == 0) {
         shared = request_of(argv[2], 16, MKSTRIKE_HINTED, 0x20, 0x7E);
@@ -563,5 +346,5 @@ int main(int argc, char **argv) {
         run_threads(1, 1, (size_t)atoi(argv[3]) << 10);
         return 0;
     }
-    return strcmp(mode, "reasons") == 0 ? reasons() : 2;
+    return 2;
 }

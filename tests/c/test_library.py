@@ -3,11 +3,12 @@
 The archive is the one that MKSTRIKE_ARCHIVE names, else dist/libmkstrike_c.a, if that is of these sources; else the one that `rt lib`
 makes, if the libraries below it are kept and that takes at most three minutes; else all is left out. The programs are the examples
 and check_c.c, as C99 and as C++, with all warnings as errors. Strikes of real and of damaged fonts must be the program's byte for byte,
-and refusals its lines; many glyphs in one call must be those of the strike; tools/fuzz_c.c looks at what agrees from call to call, with each
-request for memory refused in turn; then eight threads, a small stack, a program without a C library, AddressSanitizer and valgrind. c/arena.c
+and refusals its lines; many glyphs in one call must be those of the strike; other calls are made through the shared object (calls.py), and
+tools/fuzz_c.c looks at what agrees from call to call, with each request for memory refused in turn; then eight threads, a small stack, a program without a C library, AddressSanitizer and valgrind. c/arena.c
 is looked at by calls of its own, and with c/heap.c each request of malloc and realloc is refused in turn. The archive for 64-bit ARM, that of
 dist/ or of MKSTRIKE_ARM_ARCHIVE, runs under qemu-user. With MKSTRIKE_LONG=1 fuzz_c.c looks at every font that is installed.
 """
+import ctypes
 import glob
 import itertools
 import os
@@ -17,23 +18,24 @@ import shutil
 import signal
 import subprocess
 import sys
-import tempfile
+from array import array
+from ctypes import byref
 
 import compile_lines
 import fonts
 import prebuilt
 import pytest
 import stack
+from calls import Calls, Refused, _library
 from damage import Damaged
 from due import own_lines
 from made import Empty, Font, Simple
 from making import charmaps
 from making.collection import Collection
+from mkstrike import Strike
 from needs import REAL, left_out, real_font, tool
 from prebuilt import TOP
-
-sys.path.append(os.path.join(TOP, "python"))
-from mkstrike import Strike  # noqa: E402
+from runs import run_refusing
 
 HERE = os.path.dirname(__file__)
 CRATE = os.path.join(TOP, "crates/mkstrike_c")
@@ -42,10 +44,7 @@ BESIDE = [os.path.join(TOP, "c/calls.c"), os.path.join(TOP, "c/heap.c")]  # what
 CALLER = ["-std=gnu99", "-DALONE", *C, os.path.join(TOP, "tools/fuzz_c.c"), BESIDE[0]]  # what looks at the calls of an input
 C99, CPP = ["cc", "-std=c99"], ["c++", "-x", "c++", "-std=c++11"]
 ARM_CC, ARM_RUN = ["aarch64-linux-gnu-gcc"], "qemu-aarch64"
-CALLS = {"mkstrike_make", "mkstrike_glyph", "mkstrike_glyph_by_id", "mkstrike_outline", "mkstrike_glyphs", "mkstrike_glyph_ids", "mkstrike_font",
-         "mkstrike_faces", "mkstrike_name", "mkstrike_characters",
-         "mkstrike_prepare", "mkstrike_glyph_prepared", "mkstrike_glyph_by_id_prepared", "mkstrike_glyphs_prepared", "mkstrike_reason",
-         "mkstrike_advice", "mkstrike_version"}
+CALLS = prebuilt.calls_of_header()
 PROVED = {"proved_" + it for it in CALLS}  # those of the archive
 NEEDS = {"memcpy", "memmove", "memset", "__udivti3", "rattle_alloc", "rattle_realloc", "rattle_dealloc"}
 DAMAGED, SEED, LONG = 150, 41, os.environ.get("MKSTRIKE_LONG")
@@ -153,13 +152,6 @@ class Library:
                 file.write(font + said)
         return paths
 
-    def large_strike(self):
-        """A font whose one glyph has 8,192 by 8,192 pixels, all set: a strike of more than 16 MiB."""
-        path = self.at("large.ttf")
-        with open(path, "wb") as file:
-            file.write(Font([Empty(), Simple([(0, 0, 8192, 8192)])], {0x41: 1}, upem=1024).data())
-        return path
-
     def refuse_each(self, library, font, mode, on):
         """Refuses each request of a strike in turn, and all after it too if `on`. The call says so; or check_c.c does, of its own."""
         words = [self.at("check_c"), "strike", font, "16", mode, "61", "61"]
@@ -167,10 +159,7 @@ class Library:
         answers = [(0, whole.stdout, whole.stderr), (1, b"", b"mkstrike: 90 OutOfMemory\n")]
         answers += [(3, b"check_c: %s\n" % it, b"") for it in (b"out of memory", b"no font", b"refused the second time")]
         while True:
-            with tempfile.TemporaryFile() as mark:
-                env = {"LD_PRELOAD": library, "REFUSE_AT": str(len(told) + 1), "REFUSE_ON": str(on), "REFUSE_MARK": str(mark.fileno())}
-                done = run(words, status=None, env=env, pass_fds=[mark.fileno()])
-                was_refused = os.fstat(mark.fileno()).st_size != 0
+            done, was_refused = run_refusing(library, words, len(told) + 1, on)
             answer = (done.returncode, done.stdout, done.stderr)
             if answer not in answers or not was_refused and answer != answers[0]:
                 raise Wrong("c/heap.c with request %d refused: status %d, %r" % (len(told) + 1, done.returncode, (done.stderr or done.stdout)[-200:]))
@@ -179,7 +168,6 @@ class Library:
             told.append(done.returncode)
         if told.count(1) < 10:
             raise Wrong("90 in place of a strike only %d times: does the library take its memory another way?" % told.count(1))
-        return len(told)
 
     def linked(self, name):
         """A file of those that packaging/link makes."""
@@ -225,6 +213,12 @@ def library(program, tmp_path_factory):
     return Library(tmp_path_factory.mktemp("c"), program, archive_of())
 
 
+@pytest.fixture(name="calls", scope="module")
+def calls_of_the_library(unbuilt):
+    """The calls of the shared object."""
+    return Calls(unbuilt.linked("*.so.*"))
+
+
 @pytest.fixture(name="lib", scope="module")
 def programs(unbuilt):
     """The same with the programs."""
@@ -255,22 +249,17 @@ def test_symbols(unbuilt):
         raise Wrong("the archive has data that can be written: %s" % state[:3])
 
 
-def test_reasons(lib):
-    """The names of docs/REFUSALS.md and of the header, by their numbers, and what to do."""
-    lines = run([lib.at("check_c"), "reasons"]).stdout.decode().splitlines()
-    given = {number: (name, to_do) for number, name, to_do in (it.split(" ", 2) for it in lines)}
-    with open(os.path.join(TOP, "docs/REFUSALS.md"), encoding="utf-8") as file:
-        rows = re.findall(r"^\| (\d+) \| (\w+)[^|]*\|[^|]*\| ([^|]*) \|$", file.read(), re.M)
-    due, all_due, above = {"0": "Done", "1": "Missing"}, {}, ""
-    for number, name, to_do in rows:
-        above = above if to_do == "the same" else to_do.replace("`", "")
-        due[number], all_due[number] = name, above
-    if given != {str(k): (due.get(str(k), "Unknown"), all_due.get(str(k), "")) for k in range(400)}:
-        raise Wrong("names or advice that are not those of docs/REFUSALS.md")
-    with open(os.path.join(TOP, "include/mkstrike.h"), encoding="utf-8") as file:
-        header = {number: name.replace("_", "").lower() for name, number in re.findall(r"MKSTRIKE_(\w+) = (\d+)", file.read())}
-    if any(due[number].lower() != name for number, name in header.items()):
-        raise Wrong("names of the header that are not those of docs/REFUSALS.md")
+def test_reasons(calls):
+    """The names of docs/REFUSALS.md by their numbers, and what to do; each is cut to its room, and nothing after it is changed."""
+    rows = prebuilt.refusals()
+    names, to_do = {0: "Done", 1: "Missing", **{number: name for number, name, _, _ in rows}}, {number: said for number, _, _, said in rows}
+    for number in range(400):
+        for call, most, due in ((calls.c.mkstrike_reason, 21, names.get(number, "Unknown")), (calls.c.mkstrike_advice, 91, to_do.get(number, ""))):
+            assert len(due) < most
+            for room in range(most + 1):
+                text = ctypes.create_string_buffer(b"\7" * 96, 96)
+                assert call(number, text, room) == len(due)
+                assert text.raw == (due[:room - 1].encode() + b"\0" if room else b"").ljust(96, b"\7"), (number, due)
 
 
 def test_strikes(lib):
@@ -292,14 +281,10 @@ def test_damaged(lib):
 
 def test_halts(lib):
     """Programs that halt in the bytes of another: the fields tell apart which was started and in which the instruction is."""
-    body, call = bytes.fromhex("B0 00 2C B0 07 28 2D"), bytes.fromhex("B0 00 2B")  # at 5 an opcode that nothing defines
-    path, line = lib.at("halting.ttf"), [[(0, 0, 1), (90, 0, 1), (90, 90, 1)]]
-    for fpgm, prep, glyph, code, during, where in (
-            (body, b"", call, 0x41, "glyph 1", "fpgm"), (b"", body, call, 0x41, "glyph 1", "prep"), (body, call, b"", 0x41, "prep", "fpgm"),
-            (body, b"", call, 0x42, "glyph 1", "fpgm"), (body[3:], b"", b"", 0x41, "fpgm", "fpgm"), (b"", b"", body[3:], 0x41, "glyph 1", "glyph 1")):
-        glyphs = [b"", fonts.simple(line, glyph), fonts.composite([(1, 0, 0)])]
+    path = lib.at("halting.ttf")
+    for font, code, during, where in fonts.halting():
         with open(path, "wb") as file:
-            file.write(fonts.font_of(glyphs, fonts.map_of([(0x41, 1), (0x42, 2)]), functions=1, stack=9, fpgm=fpgm, prep=prep))
+            file.write(font)
         at = 5 if during != where else 2
         due = b"mkstrike: 32 BadOpcode during %s in %s at %d opcode 28\n" % (during.encode(), where.encode(), at)
         done = run([lib.at("check_c"), "strike", path, "16", HINTED, "%x" % code, "%x" % code], status=1)
@@ -319,40 +304,70 @@ def test_many(lib):
                 due = 2 if "DejaVu" in font and HINTED in mode and first == 0 else 0
                 if (status, halted) != (0, due):
                     raise Wrong("many characters of %s: status %d, %d refused" % (os.path.basename(font), status, halted))
-        run([lib.at("check_c"), "requests", font])
     for path, ppem, mode in lib.each_damaged():
         run([lib.at("check_c"), "many", path, str(ppem), mode, "20", "ff"])
 
 
-def test_outlines(lib):
+def test_requests(calls):
+    """Of many characters: the size goes before the characters, the characters before the font, and as many as there may be are made."""
+    font, placed, drawn = fonts.FIXTURE, ctypes.create_string_buffer(65537 * 40), _library._Drawn()
+    for count, last, ppem, mode, length, due in (
+            (65537, 0x20, 16, 0, len(font), 61), (65537, 0x20, 16, 0, 0, 61), (65537, 0x20, 0, 0, 0, 60), (65537, 0x20, 0, 16, 0, 64),
+            (65536, 0x20, 16, 0, 0, 10), (65536, 0x20, 16, 0, len(font), 0), (65536, 0x110000, 16, 0, len(font), 61), (0, 0, 16, 0, len(font), 0)):
+        chars = array("I", [0x20]) * max(count - 1, 0) + array("I", [last])
+        status = calls.c.mkstrike_glyphs(font, length, 0, ppem, mode, chars.buffer_info()[0], count, placed, count, None, 0, byref(drawn), byref(calls.refused))
+        assert status == due and (status or (drawn.glyphs, drawn.missing, drawn.bytes) == (count, 0, 0)), (count, last, ppem, mode, length)
+
+
+def test_outlines(lib, calls):
     """Outlines of glyphs by their numbers: what mkstrike outline writes, composites, glyphs that halt and numbers past the last too."""
     for font in lib.real:
-        for ppem, mode, step in ((16, HINTED, 97), (33, "", 331), (1024, HINTED, 997)):
+        data = prebuilt.read(font)
+        for ppem, is_hinted, step in ((16, True, 97), (33, False, 331), (1024, True, 997)):
             for glyph in list(range(0, 2600, step)) + [350, 36, 65534, 65535]:
-                done = run([lib.at("check_c"), "outline", font, str(ppem), mode, str(glyph)], status=None)
-                words = [lib.program, "outline", "--ppem", str(ppem), "--glyph", str(glyph)]
-                with open(font, "rb") as file:
-                    due = run(words + flags(mode), file.read(), None)
-                if (done.returncode, done.stdout, done.stderr) != (due.returncode, due.stdout, own_lines(due.stderr)):
+                words = ["outline", "--ppem", str(ppem), "--glyph", str(glyph)] + ["--unhinted"] * (not is_hinted)
+                due = run([lib.program, *words], data, None)
+                try:
+                    seen = 0, "".join(it + "\n" for it in calls.outline(data, ppem, is_hinted, glyph)), ""
+                except Refused as why:
+                    seen = 1, "", "mkstrike: %s\n" % why.line
+                if seen != (due.returncode, due.stdout.decode(), own_lines(due.stderr).decode()):
                     raise Wrong("the outline of glyph %d of %s at %d that is not the program's" % (glyph, os.path.basename(font), ppem))
 
 
-def test_calls(lib):
-    """The other calls; what a font is told to be is what its file says."""
-    for font in lib.real + [lib.part("")]:
-        told = list(map(int, run([lib.at("check_c"), "calls", font]).stdout.split()))
-        with open(font, "rb") as file:
-            tables = fonts.tables_of(file.read())
-        upem = int.from_bytes(tables["head"][18:20], "big")
+def test_fonts(lib, calls):
+    """What a font is told to be is what its file says: it has the last glyph, and none past it. The numbers of glyphs fill as much as fits."""
+    for path in lib.real + [lib.part("")]:
+        font, info = prebuilt.read(path), _library._Glyph()
+        told, tables = _library.info(font, 0, 16), fonts.tables_of(font)
+        upem, count = int.from_bytes(tables["head"][18:20], "big"), int.from_bytes(tables["maxp"][4:6], "big")
         heights = [int.from_bytes(tables["hhea"][at:at + 2], "big", signed=True) for at in (4, 6, 8)]
         near = [(abs(it) * 32 + upem) // (2 * upem) * (1 if it > 0 else -1) for it in (heights[0], -heights[1], heights[2])]
-        if told != near + [int.from_bytes(tables["maxp"][4:6], "big")]:
-            raise Wrong("%s is told to be %s" % (os.path.basename(font), told))
+        assert [told.ascent, told.descent, told.line_gap, told.glyphs] == near + [count]
+        for glyph in (count - 1, count, 65535, 65536, 0xFFFFFFFF, 65536 + 3):
+            status = calls.c.mkstrike_glyph_by_id(font, len(font), 0, 16, 0, glyph, None, 0, byref(info), byref(calls.refused))
+            assert status == (0 if glyph < count else 24) and (not status or calls.refused.glyph == min(glyph, 65535))
+        for face, size, due in ((0, 0, 60), (1, 16, 25)):
+            with pytest.raises(Refused, match="^%d " % due):
+                _library.info(font, face, size)
+        codes = [k * 37 % 300 for k in range(300)]
+        numbers, chars = _library.glyph_ids(font, 0, codes), array("I", codes)
+        for code, number in zip(codes, numbers):
+            status = calls.c.mkstrike_glyph(font, len(font), 0, 16, 0, code, None, 0, byref(info), None)
+            assert (number == 0) == (status == calls.MISSING)
+        for room in range(0, 300, 23):
+            some = array("H", [7]) * 300
+            assert not calls.c.mkstrike_glyph_ids(font, len(font), 0, chars.buffer_info()[0], 300, some.buffer_info()[0], room, None)
+            assert some == numbers[:room] + array("H", [7]) * (300 - room)
+        for data, code, due in ((font, 0x110000, 61), (b"", 0x41, 10)):
+            with pytest.raises(Refused, match="^%d " % due):
+                _library.glyph_ids(data, 0, [code])
+    assert calls.c.mkstrike_version() == int(prebuilt.read(os.path.join(TOP, "VERSION")).decode().strip().split(".")[1])
 
 
-def test_characters(lib):
+def test_characters(lib, calls):
     """The faces of files and the characters of fonts, worked out by hand, and those of damaged fonts as the program has them."""
-    glyphs, path = [b"", fonts.simple([[(0, 0, 1), (90, 0, 1), (90, 90, 1)]])], lib.at("characters.ttf")
+    glyphs = [b"", fonts.simple([[(0, 0, 1), (90, 0, 1), (90, 90, 1)]])]
     whole = [(at, min(at + 0xFFFE, 0x10FFFF), 1) for at in range(0, 0x110000, 0xFFFF)]  # glyphs 1 to 65,535, 18 times
     for cmap, due in (
             (fonts.map_of([(0x41, 1), (0x42, 1), (0x3042, 1)]), [0x41, 0x42, 0x3042]),  # and U+FFFF, whose glyph is 0
@@ -362,35 +377,34 @@ def test_characters(lib):
             (charmaps.table((3, 10, charmaps.groups([(0x41, 0x43, 65535)]))), [0x41]),  # the next numbers are no glyphs
             (fonts.map_to_one(9), range(0x10000)),
             (charmaps.table((3, 10, charmaps.groups(whole))), range(0x110000))):
-        with open(path, "wb") as file:
-            file.write(fonts.font_of(glyphs, cmap))
-        if run([lib.at("check_c"), "characters", path]).stdout != b"faces 1\n" + b"".join(b"%X\n" % it for it in due):
-            raise Wrong("other characters, and %r are due" % (due,))
+        font = fonts.font_of(glyphs, cmap)
+        assert calls.faces(font) == 1 and calls.characters(font) == array("I", due), due
     made = Font([Empty(), Simple([(0, 0, 90, 90)])], {0x41: 1})
-    for file_of, status, due in ((Collection("", [made] * 3).bytes(), 0, b"faces 3\n41\n"), (Collection("", [], count=0).bytes(), 1, b"faces 0\n"),
-                                 (Collection("", [made], count=2, size=19).bytes(), 1, b""), (b"ttcf", 1, b""), (b"", 1, b"faces 1\n")):
-        with open(path, "wb") as file:
-            file.write(file_of)
-        done = run([lib.at("check_c"), "characters", path], status=status)
-        if done.stdout != due or status and done.stderr != b"mkstrike: %s\n" % (b"25 NoFace" if due == b"faces 0\n" else b"10 NotTrueType"):
-            raise Wrong("other faces: %r %r, and %r are due" % (done.stdout, done.stderr, due))
+    three, none = Collection("", [made] * 3).bytes(), Collection("", [], count=0).bytes()
+    assert (calls.faces(three), list(calls.characters(three)), calls.faces(none), calls.faces(b"")) == (3, [0x41], 0, 1)
+    for call, font, due in ((calls.characters, none, 25), (calls.characters, b"", 10), *(
+            (calls.faces, it, 10) for it in (Collection("", [made], count=2, size=19).bytes(), b"ttcf"))):
+        with pytest.raises(Refused, match="^%d " % due):
+            call(font)
     for path, _, _ in lib.each_damaged():
-        done = run([lib.at("check_c"), "characters", path], status=None)
-        with open(path, "rb") as file:
-            made = run([lib.program, "make", "--ppem", "8", "--all", "--unhinted", "--refused", "leave-out"], file.read(), status=None)
-        counted = made.stdout.count(b"STARTCHAR") + made.stderr.count(b"left out U+")
-        if done.stderr != own_lines(made.stderr) if done.returncode else len(done.stdout.split()) - 2 != counted:
-            raise Wrong("the characters of a damaged font: %r" % done.stderr)
+        font = prebuilt.read(path)
+        due = run([lib.program, "make", "--ppem", "8", "--all", "--unhinted", "--refused", "leave-out"], font, None)
+        try:
+            calls.faces(font)
+            right = len(calls.characters(font)) == due.stdout.count(b"STARTCHAR") + due.stderr.count(b"left out U+")
+        except Refused as why:
+            right = own_lines(due.stderr).decode() == "mkstrike: %s\n" % why.line
+        assert right, "the characters of a damaged font"
 
 
-def test_names(lib):
+def test_names(lib, calls):
     """The names of fonts, worked out by hand: which record goes first, what counts as a text, and damaged tables; and of real fonts."""
     english, german, unicode, mac = (3, 1, 0x409), (3, 1, 0x407), (0, 3, 0), (1, 0, 0)
 
     def wide(text):
         return text.encode("utf-16-be")
 
-    table, path = fonts.name_table, lib.at("names.ttf")
+    table = fonts.name_table
     long = "\uffff" * 32767  # the longest string that has whole code units
     for number, made, due in (
             (1, table((*mac, 1, b"m"), (*german, 1, wide("g")), (*unicode, 1, wide("u")), (*english, 1, wide("e")), (*english, 1, wide("f"))), "e"),
@@ -417,29 +431,22 @@ def test_names(lib):
             (1, table((*english, 2, wide("a")), (*english, 1, wide("b")), count=1), None),
             (1, table((*english, 1, wide("a")), count=0), None),
             (1, table(), None), (1, b"\0" * 5, None), (1, b"", None), (1, None, None)):
-        with open(path, "wb") as file:
-            file.write(fonts.font_of([b""], fonts.map_of([(0x41, 0)]), **({} if made is None else {"name": made})))
-        said = run([lib.at("check_c"), "name", path, "0", str(number)]).stdout
-        if said != (b"missing" if due is None else due.encode()):
-            raise Wrong("another name %d: %r, and %r is due" % (number, said[:90], due and due[:90]))
-    for font, number, due in (("DejaVuSans", 1, b"DejaVu Sans"), ("DejaVuSans", 2, b"Book"), ("DejaVuSans", 17, b"Book"),
-                              ("LiberationSans-Regular", 1, b"Liberation Sans"), ("LiberationSans-Regular", 17, b"missing")):
-        if REAL[font] in lib.real and run([lib.at("check_c"), "name", REAL[font], "0", str(number)]).stdout != due:
-            raise Wrong("another name %d of %s" % (number, font))
-    if run([lib.at("check_c"), "name", path, "1", "1"], status=1).stderr != b"mkstrike: 25 NoFace\n":
-        raise Wrong("a name of a face that is not there")
+        font = fonts.font_of([b""], fonts.map_of([(0x41, 0)]), **({} if made is None else {"name": made}))
+        assert calls.name(font, 0, number) == (None if due is None else due.encode()), (number, due and due[:90])
+    for name, number, due in (("DejaVuSans", 1, b"DejaVu Sans"), ("DejaVuSans", 2, b"Book"), ("DejaVuSans", 17, b"Book"),
+                              ("LiberationSans-Regular", 1, b"Liberation Sans"), ("LiberationSans-Regular", 17, None)):
+        assert REAL[name] not in lib.real or calls.name(prebuilt.read(REAL[name]), 0, number) == due
+    with pytest.raises(Refused, match="^25 NoFace"):
+        calls.name(font, 1, 1)
 
 
 def test_null_at_symbols(unbuilt):
     """NULL that reaches the symbols of the shared object, whatever is said of its elements: for each pointer, and for all but the font and a name."""
-    with open(os.path.join(TOP, "include/mkstrike.h"), encoding="utf-8") as file:
-        calls = dict(re.findall(r"^\w+ (mkstrike_\w+)\(([^)]*)\);", file.read(), re.M))
-    assert set(calls) == CALLS
     told = {"mkstrike_reason": 13, "mkstrike_advice": 18}  # of 52, GlyphTooLarge, how long
     numbers = {"number": 52, "ppem": 16, "code": 0x41, "name_len": 1}
     for given, due, otherwise in (({}, {"mkstrike_faces": 0, "mkstrike_make": 62}, 10),  # of those that refuse, a name is missing first
                                   ({"font": repr(fonts.FIXTURE), "font_len": len(fonts.FIXTURE), "name": "b'a'"}, {"mkstrike_name": 1}, 0)):
-        for name, taken in calls.items():
+        for name, taken in CALLS.items():
             parts = [(it, re.search(r"\w+$", it).group()) for it in taken.split(",") if "*" in taken]
             values = [given[part] if "*" in it and part in given else "None" if "*" in it else
                       "ctypes.c_size_t(%d)" % given.get(part, numbers.get(part, 9 if part.endswith("_len") else 0)) for it, part in parts]
@@ -496,18 +503,12 @@ def test_under_address_sanitizer(lib):
     run([lib.at("check_asan"), "many", font, "16", HINTED, "20", "7e"])
 
 
-def under_valgrind(checker, requests):
-    """Runs requests under valgrind, which must find nothing."""
-    tool("valgrind")
-    for words in requests:
-        run(["valgrind", "-q", "--error-exitcode=9", "--leak-check=full", checker] + words)
-
-
 def test_under_valgrind(lib):
     """The same."""
+    tool("valgrind")
     font = lib.part("DejaVuSans.ttf", range(0x20, 0x7F))
-    under_valgrind(lib.at("check_c"), (["strike", font, "16", HINTED, "20", "7e"], ["many", font, "50", "", "20", "7e"],
-                                       ["many", font, "16", HINTED, "61", "6a"]))
+    for words in (["strike", font, "16", HINTED, "20", "7e"], ["many", font, "50", "", "20", "7e"], ["many", font, "16", HINTED, "61", "6a"]):
+        run(["valgrind", "-q", "--error-exitcode=9", "--leak-check=full", lib.at("check_c"), *words])
 
 
 @pytest.mark.parametrize("name", ["arena", "heap"])
@@ -530,7 +531,9 @@ def test_heap_keeps_nothing(unbuilt):
 def test_heap(lib):
     """The library with c/heap.c: a strike of more than 16 MiB, and each request of the C library refused in turn."""
     font = lib.part("DejaVuSans.ttf", range(0x20, 0x7F))
-    lib.same(lib.large_strike(), 1024, "", 0x41, 0x41)
+    with open(lib.at("large.ttf"), "wb") as file:  # of one glyph of 8,192 by 8,192 pixels, all set
+        file.write(Font([Empty(), Simple([(0, 0, 8192, 8192)])], {0x41: 1}, upem=1024).data())
+    lib.same(lib.at("large.ttf"), 1024, "", 0x41, 0x41)
     library = lib.at("refuse.so")
     run(["cc", "-O2", "-shared", "-fPIC", "-o", library, os.path.join(HERE, "../program/memory.c")])
     for mode in (HINTED, DROPOUT):
@@ -560,8 +563,7 @@ def test_arm(lib):
         if (done.returncode, done.stdout, done.stderr) != lib.make(path, ppem, mode, 0x20, 0x7F, None):
             raise Wrong("64-bit ARM: another answer to a damaged font")
     font = lib.part("DejaVuSans.ttf", range(0x20, 0x7F))
-    for what in (["calls", font], ["threads", font]):
-        run(program + what)
+    run(program + ["threads", font])
     run(ARM_CC + CALLER + ["-static", archive, "-o", lib.at("caller_arm")])
     with open(font, "rb") as file:
         run([ARM_RUN, lib.at("caller_arm"), *lib.inputs([file.read()], range(16))])
@@ -620,8 +622,8 @@ def test_commands_of_examples(unbuilt):
     if needed != [b"libc.so.6"]:
         raise Wrong("the shared object needs %s" % needed)
     shown = {it.split()[-1] for it in run(["nm", "-D", "--defined-only", os.path.join(folder, soname)]).stdout.decode().splitlines()}
-    if shown != CALLS:
-        raise Wrong("the shared object shows %s" % sorted(shown ^ CALLS))
+    if shown != set(CALLS):
+        raise Wrong("the shared object shows %s" % sorted(shown ^ set(CALLS)))
     env = {**os.environ, "GOCACHE": unbuilt.at("go")}
     printed, absent = compile_lines.tried(folder, font, env, True)
     for name, text in printed.items():

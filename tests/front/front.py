@@ -16,6 +16,7 @@ import termios
 import time
 
 import front_mistakes
+import prebuilt
 
 SANS = "/usr/share/fonts/truetype/dejavu/DejaVuSans.ttf"
 MAKE = ["make", "--ppem", "16", "--chars", "41-5a"]
@@ -126,8 +127,6 @@ def fonts_by_name(it):
 
 def outputs_by_name(it):
     """-o makes a whole file or none, and leaves an older one as it is unless all was done."""
-    if not os.path.exists(SANS):
-        return
     before = it.files()
     text = it.run(MAKE, SANS)[1]
     status, out, said = it.run(MAKE + ["-o", "a strike.bdf"], SANS)
@@ -157,8 +156,6 @@ def outputs_by_name(it):
 
 def outputs_that_are_there(it):
     """A font is never the output, by whatever name; a file that may not be written stays; the mode of a file stays."""
-    if not os.path.exists(SANS):
-        return
     font = it.read("copy.ttf")
     os.link(it.path("copy.ttf"), it.path("hard.ttf"))
     os.symlink("copy.ttf", it.path("soft.ttf"))
@@ -186,8 +183,6 @@ def outputs_that_are_there(it):
 
 def traces(it):
     """A trace that halts keeps its lines, also by -o."""
-    if not os.path.exists(SANS):
-        return
     status, out, said = it.run(["trace", *HALT], SANS)
     it.check("a trace that halts", "" if status == 1 and out.endswith(b"\n") else "status %s" % status)
     told = it.run(["trace", *HALT, "-o", "trace.txt"], SANS)
@@ -197,8 +192,6 @@ def traces(it):
 
 def signals(it):
     """A run ends by its signal, and leaves an older file and later runs as they are."""
-    if not os.path.exists(SANS):
-        return
     with open(it.path("old.bdf"), "wb") as file:
         file.write(b"old")
     for end in (signal.SIGINT, signal.SIGTERM, signal.SIGHUP, signal.SIGKILL):
@@ -225,8 +218,6 @@ def signals(it):
 
 def streams(it):
     """Standard streams that are closed or full."""
-    if not os.path.exists(SANS):
-        return
     text = it.run(MAKE, SANS)[1]
     for what, tail, due in (("closed output", ">&-", (1, b"", "mkstrike: 70 WriteFailed 0")), ("full output", "> /dev/full", (1, b"", "mkstrike: 70 WriteFailed 0")),
                             ("closed input", "<&-", (1, b"", "mkstrike: 71 ReadFailed"))):
@@ -275,7 +266,7 @@ def explained(it):
 def missing_characters(it):
     """The names of missing characters leave out those that are refused, and no property is taken for a character."""
     words = ["make", "--ppem", "16", "--refused", "leave-out", "--property", "ENCODING=65", "--property", "CHARS=1", "--chars", "41,19c,4e00-4e02,250"]
-    for more in (["FONT"], ["FONT", "-o", "missing.bdf"], ["--missing", "FONT"]) if os.path.exists(SANS) else ():
+    for more in (["FONT"], ["FONT", "-o", "missing.bdf"], ["--missing", "FONT"]):
         said = it.run(words + [SANS if word == "FONT" else word for word in more])[2].split("\n")
         it.equal("the last of the lines, %s" % " ".join(more), (len(said), said[-2]),
                  (5, "mkstrike: 3 of the requested characters are missing in the font: 4e00-4e02"))
@@ -283,13 +274,10 @@ def missing_characters(it):
 
 def files_of_another_kind(it):
     """A file of each kind that docs/REFUSALS.md lists is named by its words."""
-    with open(os.path.join(it.top, "docs/REFUSALS.md"), encoding="utf-8") as file:
-        rows = re.findall(r"^\| (none|`[0-9a-f ]+`|only hexadecimal digits) \|[^|]*\| ([^|]+) \| ([^|]+) \|$", file.read(), re.M)
-    for first, what, to_do in rows:
-        made = {"none": b"", "only hexadecimal digits": b"0001 0000\n0004"}.get(first)
-        made = bytes.fromhex(first.strip("`")) if made is None else made
-        due = "mkstrike: 10 NotTrueType\nmkstrike: the file %s: %s\n" % (what, to_do.replace("`", ""))
-        it.equal("a file of %s" % first, it.run(MAKE, made), (1, b"", due))
+    rows = list(prebuilt.kinds_of_files(it.top))
+    for first, _, what, to_do in rows:
+        due = "mkstrike: 10 NotTrueType\nmkstrike: the file %s: %s\n" % (what, to_do)
+        it.equal("a file of %s" % first, it.run(MAKE, b"0001 0000\n0004" if first is None else first), (1, b"", due))
     it.check("the table of kinds", "" if len(rows) > 15 else "%d rows" % len(rows))
 
 
@@ -310,3 +298,4 @@ def names_of_the_release(it):
 
 CHECKS = (mistakes, fonts_by_name, outputs_by_name, outputs_that_are_there, traces, signals, missing_characters, streams, explained,
           help_and_version, pages_as_written, files_of_another_kind, names_of_the_release)
+NEED_FONT = (outputs_by_name, outputs_that_are_there, traces, signals, missing_characters, streams)  # which look at nothing without DejaVu Sans

@@ -3,7 +3,7 @@ import os
 import shutil
 
 import pytest
-from front import CHECKS, Check
+from front import CHECKS, NEED_FONT, Check
 from needs import real_font
 from prebuilt import TOP
 
@@ -34,20 +34,19 @@ PLANTED = [
 @pytest.mark.parametrize("check", CHECKS)
 def test_front(check, program, tmp_path):
     """Looks at one thing."""
+    if check in NEED_FONT:
+        real_font("DejaVuSans")
     it = Check(program, str(tmp_path), TOP)
     check(it)
     assert not it.wrong, "\n".join(it.wrong)
-
-
-def test_font_is_there():
-    """DejaVu Sans, without which less is looked at."""
-    real_font("DejaVuSans")
 
 
 @pytest.mark.parametrize("number", range(len(PLANTED)))
 def test_planted(number, program, tmp_path):
     """A planted fault is found, in a copy of what is looked at if it is one of a file."""
     (name, *fault), top = PLANTED[number], tmp_path / "top"
+    if any(name in it.__name__ for it in NEED_FONT):
+        real_font("DejaVuSans")
     if len(fault) == 3:
         for part in ("tools", "docs", "include", "dist", "crates/fx_front/src", "crates/fx_words/src", "python/mkstrike"):
             shutil.copytree(os.path.join(TOP, part), top / part)

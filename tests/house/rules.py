@@ -1,7 +1,7 @@
 """The rules of the house, which the sources and the documents keep.
 
 A rule is a function below from the house to its findings; its first line says what it asks for, the others why. To add one, write
-it, give it a line of WANTED, and a planted fault in test_rules.py.
+it, name it in RULES, and give it a planted fault in test_rules.py.
 """
 import collections
 import functools
@@ -9,38 +9,10 @@ import glob
 import os
 import re
 
-from prebuilt import libraries_of_crates
+from prebuilt import libraries_of_crates, structs_of_header
 
-# Each rule, and how many findings of it there may be: 0, or what is left of older times. A number here only ever goes down.
-WANTED = {
-    "loops_labelled": 0,
-    "loops_explained": 0,
-    "functions_documented": 0,
-    "lines_short": 7,
-    "slashes": 0,
-    "prover_statements": 0,
-    "words": 0,
-    "definitions_listed": 0,
-    "paths": 0,
-    "anchors": 0,
-    "names": 0,
-    "stands_on": 0,
-    "files_are_files": 0,
-    "raster_by_its_door": 0,
-    "counts": 0,
-    "refusals": 0,
-    "header": 0,
-    "proofs_have_functions": 0,
-    "lemmas_named_once": 1,
-    "lemmas_used": 0,
-    "edits_apply": 0,
-    "twice": 13,
-    "readme_short": 0,
-    "sentences_of_pages": 0,
-    "sentences_of_documents": 0,
-    "idioms": 0,
-    "doors": 0,
-}
+# What is left of older times: how many findings of a rule there may be. A number here only ever goes down.
+LEFT = {"lines_short": 7, "lemmas_named_once": 1, "twice": 13}
 
 # The crates below `fx_raster` and the types by which they find pixels: `fx_strike` names none of them.
 RASTER = re.compile(r"\b(fx_winding|fx_rows|fx_dropout|fx_contour|Pieces|Noted|Tally)\b")
@@ -64,9 +36,6 @@ WORDS = {
 }
 
 DOCUMENTS = ["README.md", "CONTRIBUTING.md", "SECURITY.md", "docs/*.md", "suite/*.md", "tools/README.md", "bench/README.md"]
-# What users read: no sentence of these is too long. The help is the texts of crates/fx_front/src/help.rt.
-PAGES = ["README.md", "SECURITY.md", "docs/COOKBOOK.md", "docs/LIBRARY.md", "docs/PYTHON.md", "docs/COMPARED.md", "docs/*.1", "crates/fx_front/src/help.rt"]
-
 # What stands for a noun or a clause that a plain sentence says.
 IDIOM = re.compile(r"\b(?:that|those)\s+of\b|\bones?\s+(?:that|which)\b|\bby\s+which\b", re.IGNORECASE)
 
@@ -364,17 +333,14 @@ def raster_by_its_door(house):
 
 
 def counts(house):
-    """A count of functions or edits that CONTRIBUTING states is the count of the crate's sources.
+    """A count of functions that CONTRIBUTING states is the count of the crate's sources.
 
     A number that is not true makes the others doubtful."""
     for number, line in house.lines("CONTRIBUTING.md"):
-        for crate, count, what in re.findall(r"`(fx_\w+)` \((\d+) (functions|edits)\)", line):
-            if what == "edits":
-                true = len(house.paths("crates/%s/must-fail/*.edit" % crate))
-            else:
-                true = sum(1 for path, *_ in functions(house) if path.startswith("crates/%s/" % crate))
+        for crate, count in re.findall(r"`(fx_\w+)` \((\d+) functions\)", line):
+            true = sum(1 for path, *_ in functions(house) if path.startswith("crates/%s/" % crate))
             if true != int(count):
-                yield "CONTRIBUTING.md", number, "%s has %d %s" % (crate, true, what)
+                yield "CONTRIBUTING.md", number, "%s has %d functions" % (crate, true)
 
 
 def refusals(house):
@@ -403,13 +369,6 @@ def refusals(house):
 def number_of(text):
     """The value of a number as C or the code writes it; nothing stands for 1."""
     return int((text or "1").replace("_", ""), 0)
-
-
-def structs_of_header(text):
-    """The structs of a header: each name with its fields, as pairs of type and name."""
-    for name, body in re.findall(r"^struct (mkstrike_\w+) \{$(.*?)^\};", re.sub(r"/\*.*?\*/", "", text, flags=re.DOTALL), re.DOTALL | re.MULTILINE):
-        rows = re.findall(r"([\w ]+) (\w+(?:, \w+)*);", body)
-        yield name, [(kind.strip(), field) for kind, fields in rows for field in fields.split(", ")]
 
 
 def structs_of_code(text):
@@ -646,28 +605,14 @@ def sentences(house, path):
             at = end
 
 
-def long_sentences(house, found):
-    """The sentences of documents that have more than 40 words."""
-    for path in found:
+def sentences_short(house):
+    """No sentence of the documents, the man pages and the help has more than 40 words.
+
+    Long sentences are misread. Quotations, examples and pictures do not count."""
+    for path in house.documents() + house.paths("CHANGELOG.md") + house.paths("docs/*.1") + house.paths("crates/fx_front/src/help.rt"):
         for number, said in sentences(house, path):
             if len(said) > MOST:
                 yield path, number, "%d words: %s .." % (len(said), " ".join(said[:8]))
-
-
-def pages(house):
-    return [path for pattern in PAGES for path in house.paths(pattern)]
-
-
-def sentences_of_pages(house):
-    """No sentence of what users read has more than 40 words: README, the cookbook, the library, the man page, the help.
-
-    Long sentences are misread. Quotations, examples and pictures do not count."""
-    yield from long_sentences(house, pages(house))
-
-
-def sentences_of_documents(house):
-    """No sentence of the other documents has more than 40 words; older ones are counted, and may only get fewer."""
-    yield from long_sentences(house, [path for path in house.documents() + house.paths("CHANGELOG.md") if path not in pages(house)])
 
 
 def idioms(house):
@@ -697,4 +642,8 @@ def doors(house):
                     yield path, number, "%s of %s" % (word, cells[0])
 
 
-RULES = {name: globals()[name] for name in WANTED}
+RULES = {name: globals()[name] for name in """
+    loops_labelled loops_explained functions_documented lines_short slashes prover_statements words definitions_listed paths
+    anchors names stands_on files_are_files raster_by_its_door counts refusals header proofs_have_functions lemmas_named_once
+    lemmas_used edits_apply twice readme_short sentences_short idioms doors
+""".split()}

@@ -99,7 +99,7 @@ TRIALS = [
           "suite/wrong_readings.py --cover --only tables", ("suite/cases.jsonl", "", UNCOVERED)),
     Trial("suite/wrong_readings.py --cover", "a reference that breaks down counts", r"although the reference broke down",
           "suite/wrong_readings.py --cover --only tables",
-          ("suite/wrong_readings.py", "        answer.forget()\n        return False", "        answer.forget()\n        return True")),
+          ("suite/wrong_readings.py", "        return False", "        return True")),
     Trial("suite/check_runner", "paths off by one pass", r"[1-9]\d* wrong", "suite/check_runner --only 'paths off'",
           ("suite/paths.py", "NEAR = 1 ", "NEAR = 2 ")),
     Trial("tools/third_party --check", "another notice", r"not as the kit has it", "tools/third_party --check",

@@ -1,7 +1,7 @@
 """The sources and the documents keep the rules of the house, and each rule finds the faults that are planted for it."""
 import pytest
 from prebuilt import TOP
-from rules import RULES, WANTED, House
+from rules import LEFT, RULES, House
 
 # A house of one crate in which no rule finds anything.
 MADE = {
@@ -11,7 +11,7 @@ MADE = {
     "README.md": "# Sums\n\nIt [adds](README.md#sums). " + "It `adds up` numbers.\n" * 20 + "\n> " + "word " * 50 + "\n\n    " + "word " * 50 + "\n",
     "docs/mkstrike.1": ".TH SUMS 1\n.SH NAME\nsums\n.PP\n" + "It adds\n.B numbers.\n" * 20 + ".EX\n" + "word\n" * 50 + ".EE\n",
     "crates/fx_front/src/help.rt": '//! Help.\n\nconst ADDS: &str = "sums adds numbers.\n\n' + "".join("    word %d\n" % k for k in range(50)) + '\nIt adds them.\n";\n\nconst ENDS: &str =\n    "sums ends.\n";\n',
-    "CONTRIBUTING.md": """The code is `crates/fx_one/src/sum.rt`, as `sum_of`; `fx_one` (2 functions), and again `fx_one` (1 edits).
+    "CONTRIBUTING.md": """The code is `crates/fx_one/src/sum.rt`, as `sum_of`; `fx_one` (2 functions).
 
     docs/ARCHITECTURE.md
 """,
@@ -131,7 +131,6 @@ PLANTED = [
     ("raster_by_its_door", "crates/fx_strike/src/draw.rt", "", "//! Drawing.\n\nuse fx_winding::Scan;\n"),
     ("raster_by_its_door", "crates/fx_strike/specs/inner/Drawing.antt", "", "-- Drawing.\n\npub pieces : Pieces\n"),
     ("counts", "CONTRIBUTING.md", "(2 functions)", "(3 functions)"),
-    ("counts", "CONTRIBUTING.md", "(1 edits)", "(2 edits)"),
     ("refusals", "crates/fx_request/src/refusal.rt", "(17, ", "(18, "),
     ("refusals", "crates/fx_machine/src/halt.rt", "Cause::", "Cause::StackOver => (31, \"StackOver\"),\n            Cause::"),
     ("refusals", "docs/REFUSALS.md", "BadLoca g", "BadLoca"),
@@ -155,12 +154,12 @@ PLANTED = [
     ("edits_apply", "crates/fx_one/planted/none.edit", "old: 'numbers", "old: 'figures"),
     ("edits_apply", "crates/fx_one/planted/none.edit", "old: ", "older: "),
     ("readme_short", "README.md", "# Sums\n", "# Sums\n" * 100),
-    ("sentences_of_pages", "README.md", "#sums). It", "#sums) " + "it " * 38),
-    ("sentences_of_pages", "docs/mkstrike.1", "sums\n.PP", "sums\n" + "and\n.B on\n" * 20 + ".PP"),
-    ("sentences_of_pages", "crates/fx_front/src/help.rt", "It adds them.", "It adds " + "them " * 39),
-    ("sentences_of_pages", "crates/fx_front/src/help.rt", "sums ends.", "sums " + "ends " * 40),
-    ("sentences_of_documents", "CONTRIBUTING.md", "The code is", "The " + "good\n" * 40 + "code is"),
-    ("sentences_of_documents", "docs/DEFINITIONS.md", "| sums", "| " + "and sums " * 21),
+    ("sentences_short", "README.md", "#sums). It", "#sums) " + "it " * 38),
+    ("sentences_short", "docs/mkstrike.1", "sums\n.PP", "sums\n" + "and\n.B on\n" * 20 + ".PP"),
+    ("sentences_short", "crates/fx_front/src/help.rt", "It adds them.", "It adds " + "them " * 39),
+    ("sentences_short", "crates/fx_front/src/help.rt", "sums ends.", "sums " + "ends " * 40),
+    ("sentences_short", "CONTRIBUTING.md", "The code is", "The " + "good\n" * 40 + "code is"),
+    ("sentences_short", "docs/DEFINITIONS.md", "| sums", "| " + "and sums " * 21),
     ("idioms", "CONTRIBUTING.md", "The code is", "The one\nthat adds is"),
     ("idioms", "docs/DEFINITIONS.md", "| sums", "| those of sums"),
     ("doors", "docs/WORDS.md", "`adds`", "`sorts`"),
@@ -175,13 +174,13 @@ def house_of_this():
     return House(TOP)
 
 
-@pytest.mark.parametrize("name", WANTED)
+@pytest.mark.parametrize("name", RULES)
 def test_rule(name, house):
-    """A rule finds no more than WANTED says."""
-    found = ["%s:%d: %s" % it for it in RULES[name](house)]
-    assert len(found) <= WANTED[name], "%s\n%s" % (RULES[name].__doc__, "\n".join(found))
-    if len(found) < WANTED[name]:
-        print("%s: %d are left, so WANTED can say so, which has %d" % (name, len(found), WANTED[name]))
+    """A rule finds nothing, or no more than is left of older times."""
+    found, left = ["%s:%d: %s" % it for it in RULES[name](house)], LEFT.get(name, 0)
+    assert len(found) <= left, "%s\n%s" % (RULES[name].__doc__, "\n".join(found))
+    if len(found) < left:
+        print("%s: %d are left, so LEFT can say so, which has %d" % (name, len(found), left))
 
 
 def found_in(top):
@@ -221,4 +220,4 @@ def test_planted(number, tmp_path):
 
 def test_each_rule_has_a_planted_fault():
     """No rule is without a fault that it must find."""
-    assert set(WANTED) == {it[0] for it in PLANTED}
+    assert set(RULES) == {it[0] for it in PLANTED}

@@ -68,12 +68,12 @@ class Cut(Due):
         count = len(answer[1])
         if count >= len(self.out):
             return "an output of %d bytes of %d: it did not fail" % (count, len(self.out))
-        return refused("70 WriteFailed %d" % count, self.out[:count]).wrong(answer)
+        return cut_after(self, count).wrong(answer)
 
     @staticmethod
     def of(whole):
         """The same request as one that is done."""
-        return Cut(REFUSED, b"", whole.out)
+        return Cut(REFUSED, whole.err, whole.out)
 
 
 class FewCalls(Due):
@@ -110,8 +110,10 @@ class Counted(Due):
 
 
 def cut_after(whole, count):
-    """What is due where the output takes so many bytes and then fails."""
-    return refused("70 WriteFailed %d" % count, whole.out[:count])
+    """What is due where the output takes so many bytes and then fails, after what is told of characters."""
+    cut = refused("70 WriteFailed %d" % count, whole.out[:count])
+    cut.err = b"".join(whole.err.splitlines(True)[:-1]) + cut.err
+    return cut
 
 
 def difference(out, due):
@@ -254,11 +256,10 @@ def with_x11(given, name, ppem, found):
     return [line for line in more if line.split(" ")[0] not in taken] + list(given)
 
 
-def header(font, ppem, name, box, count, properties):
+def header(ppem, name, box, ascent, descent, count, properties):
     """The lines before the glyphs; `properties` are the lines of those beside the first two."""
-    ascent, descent = near(font.ascender * ppem, font.upem), near(-font.descender * ppem, font.upem)
     return "\n".join([
-        "STARTFONT 2.1", "FONT %s" % name, "SIZE %d 72 72" % ppem, "FONTBOUNDINGBOX %d %d %d %d" % box,
+        "STARTFONT 2.1", "FONT %s" % name, "SIZE %d 72 72" % ppem, "FONTBOUNDINGBOX %s" % box,
         "STARTPROPERTIES %d" % (2 + len(properties)), "FONT_ASCENT %d" % ascent, "FONT_DESCENT %d" % descent, *properties,
         "ENDPROPERTIES", "CHARS %d\n" % count])
 
@@ -271,7 +272,8 @@ def strike(font, ppem, found, missing, name=STRIKE, prelude=(0, 0), properties=(
     properties = with_x11(properties, name, ppem, found) if x11 else properties
     tail = functools.cache(lambda glyph: glyph.tail(font.upem))
     box = hull([glyph.bits.box for glyph in {glyph for _, glyph in found}])
-    text = [header(font, ppem, name, box, len(found), properties)]
+    ascent, descent = near(font.ascender * ppem, font.upem), near(-font.descender * ppem, font.upem)
+    text = [header(ppem, name, "%d %d %d %d" % box, ascent, descent, len(found), properties)]
     text += ["STARTCHAR %s\nENCODING %d\n%s" % (name_of(code), code, tail(glyph)) for code, glyph in found]
     text.append("ENDFONT\n")
     steps, strays = (prelude[0] + sum(g.steps for _, g in found), prelude[1] + sum(g.strays for _, g in found))

@@ -157,6 +157,16 @@ def font_of(glyphs, cmap, upem=1000, twilight=0, storage=0, functions=0, stack=0
     return assemble(tables)
 
 
+def halting():
+    """Fonts with a program that halts at opcode 28, some in the bytes of another: a font, its character, which was started, and which halts."""
+    body, call = bytes.fromhex("B0 00 2C B0 07 28 2D"), bytes.fromhex("B0 00 2B")
+    for fpgm, prep, glyph, code, during, where in (
+            (body, b"", call, 0x41, "glyph 1", "fpgm"), (b"", body, call, 0x41, "glyph 1", "prep"), (body, call, b"", 0x41, "prep", "fpgm"),
+            (body, b"", call, 0x42, "glyph 1", "fpgm"), (body[3:], b"", b"", 0x41, "fpgm", "fpgm"), (b"", b"", body[3:], 0x41, "glyph 1", "glyph 1")):
+        glyphs = [b"", simple([[(0, 0, 1), (90, 0, 1), (90, 90, 1)]], glyph), composite([(1, 0, 0)])]
+        yield font_of(glyphs, map_of([(0x41, 1), (0x42, 2)]), functions=1, stack=9, fpgm=fpgm, prep=prep), code, during, where
+
+
 def name_table(*records, count=None, storage=None):
     """A table `name`: records of a platform, an encoding, a language, a number and bytes; with another count, or another storageOffset."""
     texts = b"".join(it[-1] for it in records)

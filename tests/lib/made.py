@@ -104,20 +104,17 @@ class Composite(Empty):
     def data(self):
         return fonts.composite(self.parts, self.code.bytes if self.code else b"")
 
+    def moves(self, font, ppem):
+        """Each component's glyph, and how far it is moved, in 1/64 pixels."""
+        return [(glyph, *(numbers.scaled(it, ppem, font.upem) for it in moved)) for glyph, *moved in self.parts]
+
     def boxes(self, font, ppem, hinted):
-        found = []
-        for glyph, dx, dy in self.parts:
-            right, up = numbers.scaled(dx, ppem, font.upem), numbers.scaled(dy, ppem, font.upem)
-            placed = font.boxes_of(glyph, ppem, hinted)
-            found += [(x0 + right, y0 + up, x1 + right, y1 + up) for x0, y0, x1, y1 in placed]
-        return found
+        return [(x0 + right, y0 + up, x1 + right, y1 + up) for glyph, right, up in self.moves(font, ppem)
+                for x0, y0, x1, y1 in font.boxes_of(glyph, ppem, hinted)]
 
     def placed(self, font, ppem):
-        found = []
-        for glyph, dx, dy in self.parts:
-            right, up = numbers.scaled(dx, ppem, font.upem), numbers.scaled(dy, ppem, font.upem)
-            found += [[(x + right, y + up, on) for x, y, on in contour] for contour in font.glyphs[glyph].placed(font, ppem)]
-        return found
+        return [[(x + right, y + up, on) for x, y, on in contour] for glyph, right, up in self.moves(font, ppem)
+                for contour in font.glyphs[glyph].placed(font, ppem)]
 
     def counts(self, font):
         steps, strays = (self.code.steps, self.code.strays) if self.code else (0, 0)

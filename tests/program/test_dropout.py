@@ -5,9 +5,11 @@ import due
 import fonts
 from cases import cases
 from due import Counted
-from made import Empty, Font, Simple, list_of, square
+from made import Empty, Font, Simple, square
 from runs import Run
-from strikes import A, B
+from strikes import A, B, words
+
+CLOSED = " --dropout"
 
 
 def box(x0, y0, x1, y1):
@@ -34,23 +36,18 @@ def unmoved(glyphs, codes, upem=1024):
     return Font(glyphs, codes, upem=upem, metrics=[(upem, glyph.x_min) for glyph in glyphs])
 
 
-def asked(ppem, codes, hinted=True, more="--dropout"):
-    """The words of a strike with drop-out control."""
-    return "make --ppem %d --chars %s %s%s" % (ppem, list_of(codes), more, "" if hinted else " --unhinted")
-
-
 def sizes_with_dropout():
     """What is thick at each size has the same pixels with drop-out control."""
     font = Font([Empty(), square(900), Simple([(0, 0, 500, 900)])], {A: 1, B: 2})
     for ppem in (2, 12, 100, 1024):
-        yield Run("thick boxes at %d" % ppem, asked(ppem, (A, B)), font.data(), font.make((A, B), ppem))
+        yield Run("thick boxes at %d" % ppem, words(ppem, (A, B)) + CLOSED, font.data(), font.make((A, B), ppem))
 
 
 def long_hairlines():
     """Hairlines as long as a glyph's coordinates let them be, at eight units a pixel."""
     for name, contour, rows in (("level", box(0, 5, 32767, 6), ["#" * 4096]), ("upright", box(5, 0, 6, 32767), ["#"] * 4096)):
         font = unmoved([Empty(), Drawn([contour], 0, 0, rows)], {A: 1}, 8192)
-        yield Run("%s, 4,096 pixels" % name, asked(1024, [A], False), font.data(), font.make([A], 1024, False, closed=True))
+        yield Run("%s, 4,096 pixels" % name, words(1024, [A], False) + CLOSED, font.data(), font.make([A], 1024, False, closed=True))
 
 
 def many_hairlines():
@@ -63,7 +60,7 @@ def many_hairlines():
             ("upright", [[(x, 0, 1), (x, top, 1)] for x in places], 1, 0, ["#" + "#." * (many - 2) + "#"] * (2 * many)),
             ("level", [[(0, y, 1), (top, y, 1)] for y in places], 0, 1, [whole, empty] * (many - 2) + [whole, whole])):
         font = unmoved([Empty(), Drawn(contours, left, bottom, rows)], {A: 1}, 8192)
-        yield Run("%d %s hairlines" % (many, name), asked(1024, [A], False), font.data(), font.make([A], 1024, False, closed=True),
+        yield Run("%d %s hairlines" % (many, name), words(1024, [A], False) + CLOSED, font.data(), font.make([A], 1024, False, closed=True),
                   limits={"RLIMIT_CPU": 2})
 
 
@@ -102,7 +99,7 @@ def distances_with_dropout():
             ("8,193 pixels upright", box(7, 0, 7, side + 1), 0, 0, [], "52 GlyphTooLarge 1")):
         font = unmoved([Empty(), Drawn([contour], left, bottom, rows)], {A: 1})
         answer = due.refused(fault) if fault else font.make([A], 1024, False, closed=True)
-        yield Run(name, asked(1024, [A], False), font.data(), answer)
+        yield Run(name, words(1024, [A], False) + CLOSED, font.data(), answer)
 
 
 test_dropout = cases(sizes_with_dropout, long_hairlines, many_hairlines, shapes_in_bounded_time, distances_with_dropout)

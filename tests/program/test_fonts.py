@@ -4,7 +4,7 @@ from cases import cases
 from instructions import Code
 from made import Composite, Empty, Font, Simple, comb, grid, square
 from runs import KIB, Run
-from strikes import A, B, C, both, both_refused, one, strike, words
+from strikes import A, B, C, MODES, both, both_refused, one, strike, words
 from test_programs import NOTHING
 
 POINTS, COMPONENTS, DEPTH, SIDE, CHARACTERS, INPUT = 16384, 256, 8, 8192, 65536, 67108864
@@ -118,6 +118,19 @@ def kept_components():
         yield from both(name, font, 16, sorted(font.codes), limits=limits)
 
 
+def outlines():
+    """`outline` of as many points and contours as a glyph may have, and of coordinates of all sizes."""
+    for name, glyph in (("16,384 points in a contour", comb(POINTS)), ("4,096 contours", grid(4096, 64))):
+        font = one(glyph, upem=8192)
+        for hinted, mode in MODES:
+            asked = "outline --ppem 1024 --glyph 2" + ("" if hinted else " --unhinted")
+            yield Run("%s, %s" % (name, mode), asked, font.data(), font.outline(2, 1024, hinted))
+    far = one(Simple([(0, 0, 32767, 32767), (-32768, -32768, 0, 0)]), upem=16)
+    for ppem in (1, 2, 100, 1024):
+        yield Run("coordinates at %d" % ppem, "outline --ppem %d --glyph 2" % ppem, far.data(), far.outline(2, ppem))
+    yield Run("whose pixels are refused", "show --ppem 1024 --glyph 2", far.data(), due.refused("51 TooFar 2"))
+
+
 # ---- pixels ----
 
 def sides():
@@ -227,4 +240,4 @@ def memory_and_stack_at_128():
 
 test_fonts = cases(memory_and_stack_at_128, characters, memory_and_stack_at_16, kept_components, sides, characters_past_ffff,
                    more_characters, points, contours, glyphs_of_a_font, composites_of_contours, composites_of_points,
-                   arcs_far_to_the_right, greatest_inputs, sizes_of_fonts, components, depth, all_sides, distances)
+                   arcs_far_to_the_right, greatest_inputs, outlines, sizes_of_fonts, components, depth, all_sides, distances)

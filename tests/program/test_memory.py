@@ -8,7 +8,6 @@ buffer of lines is refused is made all the same.
 """
 import os
 import re
-import subprocess
 
 import fonts
 import made
@@ -17,6 +16,7 @@ import test_refused
 from due import Due, listed, own_lines, refused, usage
 from instructions import POP, Code
 from needs import compiled, real_font
+from runs import memory_file, run_refusing
 
 WANT = b"mkstrike: 90 OutOfMemory\n"
 
@@ -41,9 +41,7 @@ class Request:
 
 def requests_in_spite():
     """Strikes that are made in spite of characters that are refused."""
-    font, codes = test_refused.some_refused(), range(0x20, 0x2A)
-    return [Request("in spite of refused characters", test_refused.words(16, codes, way), font.data(),
-                    test_refused.answer(font, codes, 16, way)) for way in test_refused.WAYS]
+    return [Request("in spite of refused characters", *it) for it in test_refused.some_refused(range(0x20, 0x2A))]
 
 
 def requests_of_the_fixture():
@@ -120,30 +118,14 @@ def requests_of_liberation():
 class Runner:
     """Runs the program under the library that refuses."""
 
-    def __init__(self, program, library, folder):
+    def __init__(self, program, library):
         self.program, self.library = program, library
-        self.input = open(os.path.join(folder, "input"), "w+b")
-        self.mark = os.open(os.path.join(folder, "mark"), os.O_RDWR | os.O_CREAT | os.O_TRUNC, 0o600)
 
-    def give(self, data):
-        """Sets the input of the runs that follow."""
-        self.input.seek(0)
-        self.input.truncate()
-        self.input.write(data)
-        self.input.flush()
-
-    def run(self, words, at, on, size=0):
-        """Returns status, output and errors (without lines for people), and whether a request was refused: the one with number `at`, if `on`
-        all after it too, and
-        if a size is given all of that size or more."""
-        self.input.seek(0)
-        os.ftruncate(self.mark, 0)
-        os.lseek(self.mark, 0, os.SEEK_SET)
-        environment = {"LD_PRELOAD": self.library, "REFUSE_AT": str(at), "REFUSE_ON": str(int(on)),
-                       "REFUSE_FROM": str(size), "REFUSE_MARK": str(self.mark)}
-        answer = subprocess.run([self.program] + (words or "").split(), stdin=self.input, capture_output=True,
-                                timeout=60, env=environment, pass_fds=[self.mark])
-        return (answer.returncode, answer.stdout, own_lines(answer.stderr)), os.fstat(self.mark).st_size != 0
+    def run(self, request, at, on, size=0):
+        """Returns status, output and errors (without lines for people) of a request, and whether a request for memory was refused: see `run_refusing`."""
+        with memory_file(request.data) as given:
+            done, was_refused = run_refusing(self.library, [self.program, *(request.words or "").split()], at, on, size, stdin=given)
+        return (done.returncode, done.stdout, own_lines(done.stderr)), was_refused
 
 
 def beginnings(lines):
@@ -169,7 +151,7 @@ def refuse_each(runner, request, whole):
     met = 0
     for on in (False, True):
         for at in range(1, 1000000):
-            answer, was_refused = runner.run(request.words, at, on)
+            answer, was_refused = runner.run(request, at, on)
             fault = wrong(answer, whole)
             if fault:
                 yield "request %d%s refused: %s" % (at, " and all after it" if on else "", fault)
@@ -183,9 +165,8 @@ def refuse_each(runner, request, whole):
 @pytest.fixture(name="runner", scope="module")
 def runner_of(program, tmp_path_factory):
     """Runs the program under the library that refuses."""
-    folder = tmp_path_factory.mktemp("memory")
-    library = compiled(os.path.join(os.path.dirname(__file__), "memory.c"), folder / "memory.so", "-shared", "-fPIC")
-    return Runner(program, library, folder)
+    path = tmp_path_factory.mktemp("memory") / "memory.so"
+    return Runner(program, compiled(os.path.join(os.path.dirname(__file__), "memory.c"), path, "-shared", "-fPIC"))
 
 
 @pytest.mark.parametrize("requests", [requests_of_the_fixture, requests_of_a_made_font, requests_in_spite, requests_of_dejavu,
@@ -194,8 +175,7 @@ def test_each_request_is_refused(requests, runner):
     """Each request for memory, of each request."""
     told = []
     for request in requests():
-        runner.give(request.data)
-        whole, _ = runner.run(request.words, 0, False)
+        whole, _ = runner.run(request, 0, False)
         fault = request.wrong_whole(whole)
         told += ["%s, %s: %s" % (request.name, request.words, it) for it in (["without refusals: %s" % fault] if fault else []) + list(
             refuse_each(runner, request, whole))]
@@ -206,6 +186,5 @@ def test_the_lines_are_refused(runner):
     """A strike of 4,096 characters keeps its lines in a buffer that grows, and asks for nothing else as large; it is made without too."""
     font, codes = made.Font([made.Empty(), made.square(900)], 1), range(4096)
     request = Request("4,096 characters", "make --ppem 12 --chars 0-fff", font.data(), font.make(codes, 12))
-    runner.give(request.data)
-    answer, was_refused = runner.run(request.words, 0, False, 1 << 19)
+    answer, was_refused = runner.run(request, 0, False, 1 << 19)
     assert was_refused and request.wrong_whole(answer) is None

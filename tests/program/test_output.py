@@ -11,6 +11,7 @@ from runs import KIB, Run
 from strikes import A, both, strike, words
 from test_input import LONG, MAKE, SHORT
 from test_programs import NOTHING
+from test_refused import some_refused
 
 
 def requests_with_output():
@@ -23,6 +24,10 @@ def requests_with_output():
     yield "show --ppem 1024 --char 41", large.data(), large.show(A, 1024)
     listed = Font([Empty(), square(9, Code().fill(9000))], {A: 1})
     yield "dump --of 1", listed.data(), due.listed(["%04X 59 EIF" % k for k in range(9000)])
+    drawn, traced = Font([Empty(), comb(3201)], {A: 1}, upem=8192), Font([Empty(), square(9, Code().fill(3000))], {A: 1})
+    yield "outline --ppem 64 --glyph 1", drawn.data(), drawn.outline(1, 64)
+    yield "trace --ppem 16 --char 41", traced.data(), due.listed(["glyph 1 begins", *("glyph 1 %04X 59 EIF |" % k for k in range(3000))])
+    yield from some_refused(codes)
 
 
 def full_devices():
@@ -62,9 +67,8 @@ def calls_of_the_system():
 
 def errors_that_fail():
     """Standard error that takes nothing changes neither the status nor the output."""
-    data = SHORT.data()
-    for asked, answer in ((MAKE, SHORT.make([A], 16)), ("make", usage()),
-                          ("make --ppem 0 --chars 41", refused("60 BadSize"))):
+    short = [(asked, SHORT.data(), it) for asked, it in ((MAKE, SHORT.make([A], 16)), ("make", usage()), ("make --ppem 0 --chars 41", refused("60 BadSize")))]
+    for asked, data, answer in short + list(some_refused(range(0x20, 0x220))):
         silent = due.Due(answer.status, b"", answer.out)
         yield Run("a full device for errors", asked, data, silent, way=runs.with_files(err=("/dev/full", os.O_WRONLY)))
         yield Run("no standard error", asked, data, silent, way=runs.without(2))

@@ -9,40 +9,29 @@ from needs import real_font
 from runs import Run
 
 SIZES = [*range(6, 41), 47, 48, 55, 64, 72, 96, 100, 127, 128, 200, 255, 256]
-# Two characters of DejaVu Sans have glyphs whose programs halt.
 HALTING = (0x19C, 0x250)  # two characters of DejaVu Sans, whose glyphs have programs that halt
 WAYS = ("", "--unhinted", "--dropout --x11")
 
 
-def whole_font(name, halting, sizes):
-    """All characters up to FFFF of a font at some sizes: hinted, not, and with drop-out control, each size in its turn."""
+def whole_font(name, halting):
+    """All characters up to FFFF of a font at each size: hinted, not, and at a quarter of the sizes with drop-out control."""
     data = real_font(name)
     codes = [code for code in range(0x10000) if code not in halting]
     found = sum(code not in halting for code in fonts.glyph_numbers(data))
-    for k, ppem in enumerate(sizes):
-        for way in WAYS[:2] if k % 4 else WAYS:
+    for k, ppem in enumerate(SIZES):
+        for way in WAYS[:2] if k % 8 > 1 else WAYS:
             asked = "make --ppem %d --chars %s %s" % (ppem, list_of(codes), way)
             yield Run("%s at %d %s" % (name, ppem, way), asked, data, Counted(found, len(codes) - found, hinted="unhinted" not in way))
 
 
-def dejavu_at_even_sizes():
-    """DejaVu Sans at every other size."""
-    return whole_font("DejaVuSans", HALTING, SIZES[::2])
+def dejavu():
+    """DejaVu Sans at every small size."""
+    return whole_font("DejaVuSans", HALTING)
 
 
-def dejavu_at_odd_sizes():
-    """DejaVu Sans at the other sizes."""
-    return whole_font("DejaVuSans", HALTING, SIZES[1::2])
-
-
-def liberation_at_even_sizes():
-    """Liberation Sans at every other size."""
-    return whole_font("LiberationSans-Regular", (), SIZES[::2])
-
-
-def liberation_at_odd_sizes():
-    """Liberation Sans at the other sizes."""
-    return whole_font("LiberationSans-Regular", (), SIZES[1::2])
+def liberation():
+    """Liberation Sans at every small size."""
+    return whole_font("LiberationSans-Regular", ())
 
 
 def in_spite_of_two_characters():
@@ -56,4 +45,4 @@ def in_spite_of_two_characters():
                   Counted(count, 0x10000 - found, True, lines.encode()))
 
 
-test_real_fonts = cases(dejavu_at_even_sizes, dejavu_at_odd_sizes, liberation_at_even_sizes, liberation_at_odd_sizes, in_spite_of_two_characters)
+test_real_fonts = cases(dejavu, liberation, in_spite_of_two_characters)

@@ -5,7 +5,6 @@ import subprocess
 import due
 import fonts
 import pytest
-import runs
 from cases import cases
 from needs import REAL, real_font
 from prebuilt import TOP
@@ -65,19 +64,7 @@ def refused():
         yield Run("trace " + words, "trace " + words, data, answer)
 
 
-def outputs_that_fail():
-    """70, with exactly the bytes that were taken."""
-    data = font(bytes.fromhex("B0 01 21") * 400)
-    lines = ["glyph 1 begins"]
-    for k in range(400):
-        lines += ["glyph 1 %04X B0 PUSHB 1 | 1" % (3 * k), "glyph 1 %04X 21 POP |" % (3 * k + 2)]
-    whole = due.listed(lines)
-    yield Run("a full device", "trace --ppem 16 --char 41", data, due.cut_after(whole, 0), way=runs.with_files(out=("/dev/full", os.O_WRONLY)))
-    for count in (0, 1, 4095, 4096, 4097, len(whole.out) - 1):
-        yield Run("a file of %d bytes" % count, "trace --ppem 16 --char 41", data, due.cut_after(whole, count), way=runs.into_file(count))
-
-
-test_traces = cases(halts, order, refused, outputs_that_fail)
+test_traces = cases(halts, order, refused)
 
 
 # ---- against the suite's reference, which runs each program by itself

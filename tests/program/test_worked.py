@@ -35,12 +35,9 @@ def asked(chars="42", ppem=16, more=" --unhinted"):
 
 # ---- whole strikes ----
 
-def strike(*glyphs, ppem=16, box="0 0 0 0", ascent=13, descent=4, name="F1", properties=(), count=None):
+def strike(*glyphs, ppem=16, box="0 0 0 0", ascent=13, descent=4, name="F1", properties=()):
     """The text of a strike."""
-    return "\n".join([
-        "STARTFONT 2.1", "FONT " + name, "SIZE %d 72 72" % ppem, "FONTBOUNDINGBOX " + box, "STARTPROPERTIES %d" % (2 + len(properties)),
-        "FONT_ASCENT %d" % ascent, "FONT_DESCENT %d" % descent, *properties, "ENDPROPERTIES",
-        "CHARS %d\n%sENDFONT\n" % (len(glyphs) if count is None else count, "".join(glyphs))]).encode()
+    return "".join([due.header(ppem, name, box, ascent, descent, len(glyphs), properties), *glyphs, "ENDFONT\n"]).encode()
 
 
 SPACE = glyph_lines(0x20, "0 0 0 0")

@@ -8,6 +8,8 @@ import sys
 
 import pytest
 
+from mkstrike import _library
+
 TOP = os.environ.get("MKSTRIKE_TOP") or os.path.dirname(os.path.dirname(os.path.dirname(os.path.realpath(__file__))))
 with open(os.path.join(TOP, "VERSION"), encoding="utf-8") as _file:
     VERSION = _file.read().strip()
@@ -68,6 +70,26 @@ def words_of(run):
     found = re.fullmatch(r"make --ppem (\d+) --chars ([0-9a-f,-]+)((?: --unhinted| --dropout(?:=near|=font)?)*)", " ".join(words))
     named = [name for name in ("near", "font") if "--dropout=" + name in words]
     return found and (int(found.group(1)), found.group(2), "--unhinted" not in words, named[0] if named else "--dropout" in words)
+
+
+class Counted:
+    """The library, whose calls are counted: their names, in order."""
+
+    def __init__(self, monkeypatch):
+        self.library, self.calls = _library._c(), []
+        monkeypatch.setattr(_library, "_c", lambda: self)
+
+    def __getattr__(self, name):
+        self.calls.append(name.replace("mkstrike_", ""))
+        return getattr(self.library, name)
+
+
+def strike_by_command(folder, *words, status=0, data=b""):
+    """Runs the installed command `strike` in a folder. Returns what it prints on both outputs."""
+    script = os.path.join(os.path.dirname(sys.executable), "strike")
+    ran = subprocess.run([script, *map(str, words)], cwd=folder, input=data, capture_output=True, timeout=600)
+    assert ran.returncode == status, ran.stderr.decode()
+    return ran.stdout.decode(), ran.stderr.decode()
 
 
 def pixels(glyph):

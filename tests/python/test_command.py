@@ -6,20 +6,12 @@ import subprocess
 import sys
 
 import pytest
-from shared import LIBERATION, MONO, SANS, TOP, VERSION, font_bytes, needs_font, needs_pillow, text_of
+from shared import LIBERATION, MONO, SANS, TOP, VERSION, font_bytes, needs_font, needs_pillow, strike_by_command as run, text_of
 
 import mkstrike
 from mkstrike import arguments, command
 
 pytestmark = needs_font(SANS, MONO, LIBERATION)
-
-
-def run(folder, *words, status=0, data=b""):
-    """Runs the installed command in a folder. Returns what it prints on both outputs."""
-    script = os.path.join(os.path.dirname(sys.executable), "strike")
-    ran = subprocess.run([script, *map(str, words)], cwd=folder, input=data, capture_output=True, timeout=600)
-    assert ran.returncode == status, ran.stderr.decode()
-    return ran.stdout.decode(), ran.stderr.decode()
 
 
 @needs_pillow

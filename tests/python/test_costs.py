@@ -5,10 +5,10 @@ import subprocess
 import sys
 import time
 
-from shared import LIBERATION, SANS, needs_font
+from shared import LIBERATION, SANS, Counted, needs_font
 
 import mkstrike
-from mkstrike import _library, bdf
+from mkstrike import bdf
 
 
 @needs_font(SANS, LIBERATION)
@@ -56,17 +56,7 @@ def test_no_leak():
 def test_calls(monkeypatch):
     """A strike is one call of the C library, beside two for the font's names, once, and its text is read once; with refused characters it is
     made again, and each of these has a call that tells why."""
-    library, calls, read = _library._c(), [], []
-
-    class Counted:
-        """The library, whose calls are counted."""
-
-        def __getattr__(self, name):
-            calls.append(name.replace("mkstrike_", ""))
-            return getattr(library, name)
-
-    parse = bdf.parse
-    monkeypatch.setattr(_library, "_c", Counted)
+    calls, read, parse = Counted(monkeypatch).calls, [], bdf.parse
     monkeypatch.setattr(bdf, "parse", lambda *words: read.append(1) or parse(*words))
     font = mkstrike.Font(SANS)
     assert font.names.family == "DejaVu Sans" and calls == ["name"] * 2

@@ -20,6 +20,15 @@ def packed(data, flavor):
     return out.getvalue()
 
 
+def collected(path, *fonts, share=True):
+    """The path of a collection of fonts."""
+    from fontTools.ttLib import TTFont, TTCollection
+    collection = TTCollection()
+    collection.fonts = [TTFont(it, recalcTimestamp=False) for it in fonts]
+    collection.save(path, shareTables=share)
+    return path
+
+
 @needs_font(SANS)
 @pytest.mark.parametrize("flavor", ["woff", "woff2"])
 def test_packed_fonts(flavor):
@@ -42,11 +51,8 @@ def test_packed_fonts(flavor):
 @needs_font(SANS, MONO, LIBERATION)
 def test_collections(tmp_path):
     """Each font of a collection."""
-    from fontTools.ttLib import TTFont, TTCollection
-    paths, collection = (SANS, MONO, LIBERATION), TTCollection()
-    collection.fonts = [TTFont(it, recalcTimestamp=False) for it in paths]
-    collection.save(tmp_path / "a.ttc", shareTables=True)
-    for face, path in enumerate(paths):
+    collected(tmp_path / "a.ttc", SANS, MONO, LIBERATION)
+    for face, path in enumerate((SANS, MONO, LIBERATION)):
         font, alone = mkstrike.Font(tmp_path / "a.ttc", face=face), mkstrike.Font(path)
         assert font.strike(16, "latin-1").text == text_of(["--ppem", "16", "--chars", "20-7e,a0-ff"], font_bytes(path))
         for call in (lambda it: it.glyph(16, "g"), lambda it: it.glyph_by_id(16, 74), lambda it: it.heights(16),
@@ -62,11 +68,8 @@ def test_collections(tmp_path):
 @needs_font(SANS, LIBERATION)
 def test_faces_and_refusals(tmp_path):
     """Each call means the face that was asked for, also after a character of it was refused."""
-    from fontTools.ttLib import TTFont, TTCollection
-    collection = TTCollection()
-    collection.fonts = [TTFont(it, recalcTimestamp=False) for it in (LIBERATION, SANS)]
-    collection.save(tmp_path / "a.ttc", shareTables=True)
-    first, font, alone = mkstrike.Font(tmp_path / "a.ttc"), mkstrike.Font(tmp_path / "a.ttc", face=1), mkstrike.Font(SANS)
+    path = collected(tmp_path / "a.ttc", LIBERATION, SANS)
+    first, font, alone = mkstrike.Font(path), mkstrike.Font(path, face=1), mkstrike.Font(SANS)
     strike = font.strike(16, "41,19c,250")
     assert strike.text == alone.strike(16, "41,19c,250").text != first.strike(16, "41").text and list(strike) == ["A"]
     assert {char: str(why) for char, why in strike.refused.items()} == {
@@ -80,10 +83,8 @@ def test_faces_and_refusals(tmp_path):
 
 def test_faces_with_axes(tmp_path):
     """The instance of a face is a font of its own; a file of one font has no second face, with axes or packed."""
-    from fontTools.ttLib import TTFont, TTCollection
-    collection, plain = TTCollection(), built(MASTERS[0], 400, with_axis=True)
-    collection.fonts = [TTFont(io.BytesIO(it)) for it in (built(MASTERS[1], 500), plain)]
-    collection.save(tmp_path / "a.ttc", shareTables=False)
+    plain = built(MASTERS[0], 400, with_axis=True)
+    collected(tmp_path / "a.ttc", *map(io.BytesIO, (built(MASTERS[1], 500), plain)), share=False)
     font = mkstrike.Font(tmp_path / "a.ttc", face=1, axes={"wght": 900})
     assert font.strike(33, "41").text == mkstrike.Font(plain, axes={"wght": 900}).strike(33, "41").text
     assert mkstrike.Font(tmp_path / "a.ttc", face=1).axes() == {"wght": (400, 400, 900)} and mkstrike.Font(tmp_path / "a.ttc").axes() == {}

@@ -255,19 +255,13 @@ def test_limits_of_arrays(tmp_path):
 @needs_font(SANS)
 def test_pictures(tmp_path):
     """Sheets and lines are the pictures of tools/picture."""
-    import importlib.machinery
-    import importlib.util
-    loader = importlib.machinery.SourceFileLoader("picture_tool", os.path.join(TOP, "tools/picture"))
-    picture = importlib.util.module_from_spec(importlib.util.spec_from_loader("picture_tool", loader))
-    loader.exec_module(picture)
-    strike = mkstrike.Font(SANS).strike(13, "latin-1")
-    other = picture.bdf.parse(strike.text)
-    for made, due in ((strike.sheet(scale=2), picture.joined([picture.sheet_of(other, 32)], 2)),
-                      (strike.sheet(columns=20), picture.joined([picture.sheet_of(other, 20)], 1)),
-                      (strike.line("Jäger, fjord", scale=3), picture.joined([picture.line_of(other, "Jäger, fjord")], 3))):
-        assert made.size == (len(due[0]), len(due))
-        assert [0 if it else 1 for it in made.getdata()] == [bit for row in due for bit in row]
     from PIL import Image
+    strike = mkstrike.Font(SANS).strike(13, "latin-1")
+    strike.save(tmp_path / "a.bdf")
+    for made, words in ((strike.sheet(scale=2), ["--scale", "2"]), (strike.sheet(columns=20), ["--columns", "20", "--scale", "1"]),
+                        (strike.line("Jäger, fjord", scale=3), ["--text", "Jäger, fjord"])):
+        due = subprocess.run([os.path.join(TOP, "tools/picture"), *words, tmp_path / "a.bdf"], check=True, capture_output=True).stdout
+        assert made.convert("L").tobytes() == Image.open(io.BytesIO(due)).convert("L").tobytes()
     strike.save(tmp_path / "a.png", scale=2)
     strike.save(tmp_path / "a.pbm")
     assert Image.open(tmp_path / "a.png").convert("1").tobytes() == strike.sheet(scale=2).tobytes()

@@ -4,7 +4,7 @@ import pickle
 import re
 
 import pytest
-from shared import SANS, TOP, flags, font_bytes, needs_font, program, text_of, words_of
+from shared import SANS, flags, font_bytes, needs_font, program, text_of, words_of
 
 import mkstrike
 
@@ -174,13 +174,10 @@ def test_files_of_another_kind(start, said):
 def test_kinds_are_those_of_the_document():
     """Each row of the table is one that is read, but that of hexadecimal text."""
     from mkstrike.refused import kind_of
-    with open(os.path.join(TOP, "docs/REFUSALS.md"), encoding="utf-8") as file:
-        part = file.read().partition("## Files of another kind")[2].partition("\n## ")[0]
-    rows = [[it.strip() for it in line.split("|")[1:-1]] for line in part.split("\n") if line.startswith("|")][2:]
+    from prebuilt import kinds_of_files
+    rows = list(kinds_of_files())
     assert len(rows) == 19
-    for first, shown, what, to_do in rows:
-        data = bytes.fromhex(first.strip("`")) if re.fullmatch(r"`[0-9a-f ]+`", first) else {"none": b"", "only hexadecimal digits": None}[first]
-        said = None if data is None else "the file %s: %s" % (what, to_do.replace("`", ""))
-        assert kind_of(data if data is not None else b"00010000") == said
-        assert not shown or shown.strip("`").encode() in data
+    for data, shown, what, to_do in rows:
+        assert kind_of(b"00010000" if data is None else data) == (None if data is None else "the file %s: %s" % (what, to_do))
+        assert not shown or shown.encode() in data
     assert kind_of(b"this is text") is None and mkstrike.Refused(10, "x", start=b"text").advice == mkstrike.Refused(10, "x").advice

@@ -7,19 +7,12 @@ import sys
 import threading
 
 import pytest
-from shared import LIBERATION, MONO, SANS, needs_font
+from shared import LIBERATION, MONO, SANS, needs_font, strike_by_command
 
 import mkstrike
 from mkstrike import formats
 
 pytestmark = needs_font(SANS, MONO, LIBERATION)
-
-
-def strike_by_command(folder, *words, status=0):
-    """Runs `strike` in a folder. Returns what it says on standard error."""
-    ran = subprocess.run([sys.executable, "-m", "mkstrike", *words], cwd=folder, capture_output=True, timeout=600)
-    assert ran.returncode == status, ran.stderr.decode()
-    return ran.stderr.decode()
 
 
 def test_many_at_once(tmp_path):
@@ -109,7 +102,7 @@ def test_inputs_stay(tmp_path, words):
     (tmp_path / "out").mkdir()
     os.symlink("old-16.bdf", tmp_path / "linked.bdf")
     os.symlink("../old-16.bdf", tmp_path / "out/linked.bdf")
-    said = strike_by_command(tmp_path, *words, status=1)
+    _, said = strike_by_command(tmp_path, *words, status=1)
     assert "is read here, and would be replaced: give another folder by --out" in said
     assert (tmp_path / "old-16.bdf").read_bytes() == strike.text and len(os.listdir(tmp_path)) == 3
     strike_by_command(tmp_path, *words, "--out", "other")
@@ -117,8 +110,8 @@ def test_inputs_stay(tmp_path, words):
 
 def test_one_name(tmp_path):
     """Two fonts never share a file: by one --name, by equal names, or by a strike of a font's name."""
-    assert "files of different fonts would have one name" in strike_by_command(tmp_path, SANS, MONO, "--name", "x", status=2)
+    assert "files of different fonts would have one name" in strike_by_command(tmp_path, SANS, MONO, "--name", "x", status=2)[1]
     mkstrike.Font(MONO).strike(16, "ascii").save(tmp_path / "DejaVuSans-16.bdf")
-    said = strike_by_command(tmp_path, "DejaVuSans-16.bdf", SANS, "--chars", "41", "--out", "out", status=1)
+    _, said = strike_by_command(tmp_path, "DejaVuSans-16.bdf", SANS, "--chars", "41", "--out", "out", status=1)
     assert "out/DejaVuSans-16.bdf would be replaced by a second strike" in said
     assert len(mkstrike.Strike.open(tmp_path / "out/DejaVuSans-16.bdf")) == 95

@@ -2,7 +2,7 @@
 import pickle
 
 import pytest
-from shared import FOLDER, LIBERATION, MONO, SANS, font_bytes, needs_font, needs_pillow, program
+from shared import FOLDER, LIBERATION, MONO, SANS, Counted, font_bytes, needs_font, needs_pillow, program
 
 import mkstrike
 from mkstrike import _library
@@ -47,16 +47,7 @@ def test_mapping():
 
 def test_sizes_are_kept(monkeypatch):
     """The font's programs run once for a size and for hinting or not, and few sizes are kept."""
-    library, calls = _library._c(), []
-
-    class Counted:
-        """The library, whose calls are counted."""
-
-        def __getattr__(self, name):
-            calls.append(name.replace("mkstrike_", ""))
-            return getattr(library, name)
-
-    monkeypatch.setattr(_library, "_c", Counted)
+    calls = Counted(monkeypatch).calls
     font = mkstrike.Font(SANS)
     for dropout in (False, True, "near"):
         font.glyph(16, "g", dropout=dropout)

@@ -56,10 +56,8 @@ FAULTS = [('CUT, WIDEN, WIDEN_SIGNED = b"\\xa7", b"\\xad", b"\\xac"', 'CUT, WIDE
 def test_layouts():
     """The structs and numbers of web/mkstrike.js are those of the header."""
     header, script = (prebuilt.read(os.path.join(TOP, it)).decode() for it in ("include/mkstrike.h", "web/mkstrike.js"))
-    plain, due = re.sub(r"/\*.*?\*/", "", header, flags=re.S), {}
-    for name, body in re.findall(r"^struct (\w+) \{(.*?)^\};", plain, re.S | re.M):
-        fields = re.findall(r"((?:struct )?\w+) ([\w, ]+);", body)
-        due[name] = [(it.strip(), KINDS.get(kind, kind.replace("struct ", ""))) for kind, names in fields for it in names.split(",")]
+    plain = re.sub(r"/\*.*?\*/", "", header, flags=re.S)
+    due = {name: [(it, KINDS.get(kind, kind.replace("struct ", ""))) for kind, it in fields] for name, fields in prebuilt.structs_of_header(header)}
     table = re.search(r"STRUCTS = \{\n(.*?)\n\};", script, re.S).group(1)
     assert {name: re.findall(r"(\w+): '(\w+)'", body) for name, body in re.findall(r"(\w+): \{(.*?)\},", table, re.S)} == due
     numbers = dict(re.findall(r"#define MKSTRIKE_(\w+) UINT32_C\((\w+)\)", plain) + re.findall(r"MKSTRIKE_(\w+) = (\d+)", plain))
@@ -118,12 +116,7 @@ def requests(folder):
     made = [(path, SIZES[k % 5], MODES[k % 8], "20-24f,2010-2030,2500-259f") for k, path in enumerate(spread(installed_fonts(), MOST_FONTS))]
     made += [(path, (16, 0, 1, 1024, 1025)[k // 10 % 5] if k % 10 == 0 else 16, MODES[k // 3 % 8], "20-5f") for k, path in enumerate(engine.damaged(folder))]
     made.append((put(folder, "none.ttf", b""), 16, 1, "41"))
-    # a function with a bad opcode, called by a glyph and by prep
-    body, call = bytes.fromhex("B0 00 2C B0 07 28 2D"), bytes.fromhex("B0 00 2B")
-    line = [[(0, 0, 1), (90, 0, 1), (90, 90, 1)]]
-    for k, (fpgm, prep, glyph) in enumerate(((body, b"", call), (b"", body, call), (body, call, b""), (body[3:], b"", b""))):
-        font = fonts.font_of([b"", fonts.simple(line, glyph)], fonts.map_of([(0x41, 1)]), functions=1, stack=9, fpgm=fpgm, prep=prep)
-        made.append((put(folder, "halting%d.ttf" % k, font), 16, 1, "41"))
+    made += [(put(folder, "halting%d.ttf" % k, font), 16, 1, "%x" % code) for k, (font, code, *_) in enumerate(fonts.halting())]
     made += [(SANS, 16, mode, "0-ffff") for mode in MODES if os.path.exists(SANS)]
     # few glyphs of many characters; and a strike and glyphs of more than 4 MiB, for which their calls need room a second time
     return made + [(put(folder, "few.ttf", fonts.FIXTURE), 1024, HINTED, "0-ffff"), (put(folder, "many.ttf", engine.squares(5000)), 100, 0, "4e00-6187")]

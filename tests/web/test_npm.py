@@ -11,7 +11,7 @@ import front
 import prebuilt
 import pytest
 from engine import SAMPLE, put, run
-from needs import tool
+from needs import real_font, tool
 from prebuilt import TOP
 
 PACKAGING = os.path.join(TOP, "packaging")
@@ -68,6 +68,8 @@ def command(package, folder):
 
 def wrong_with(package, tmp_path, check):
     """What a check of tests/front finds wrong with the command of a package."""
+    if check in front.NEED_FONT:
+        real_font("DejaVuSans")
     folder = tmp_path / "front"
     folder.mkdir()
     it = front.Check(command(package, tmp_path), str(folder), TOP)

@@ -310,9 +310,7 @@ def refused(page, path, chars, codes):
     page.drawn_after(lambda: page.browser.choose("#file", path), "drawing a font that was chosen")
     page.set("chars", chars)
     rows = page.browser.evaluate("[...document.querySelectorAll('#refused-table tbody tr')].map((it) => [...it.cells].map((cell) => cell.innerText))")
-    advice, before = {}, ""
-    for number, todo in re.findall(r"^\| (\d+) \| \w+[^|]* \|[^|]+\| ([^|]+) \|$", prebuilt.read(os.path.join(TOP, "docs/REFUSALS.md")).decode(), re.M):
-        advice[number] = before = before if todo == "the same" else todo.replace("`", "")
+    advice = {str(number): todo for number, _, _, todo in prebuilt.refusals()}
     for row, code in zip(rows, codes):
         line = engine.answer(path, 16, HINTED, code)[1]
         assert (row[0].split()[0], row[1], row[2]) == ("U+%s" % code.upper().zfill(4), line, advice[line.split()[0]])
