@@ -11,7 +11,6 @@ use Rattle.fx_fixed.proofs.Order.{below_or_not}
 use Rattle.fx_winding.specs.Bitmaps.{word_bit, words_for}
 use Rattle.fx_bdf.specs.Text.{pixel}
 use Rattle.fx_bdf.specs.inner.RowWords.{row_from, HoldRow, IsWordOf, AreWordsOf}
-use Rattle.fx_bdf.proofs.Cases.{split}
 
 pub length-row_from : (width from : ℕ) (words : List ℕ) → length (row_from width from words) ≡ width
 length-row_from width from words = length-map-range_with_len (λ i. word_bit words (from + i) == 1) 0 width
@@ -32,14 +31,11 @@ row_pixel width from words i h =
 -- a bit of the row is the bit of the words
 pub row_bit : (width from : ℕ) (words : List ℕ) (i at : ℕ) → i < width → at ≡ from + i
     → (word_bit words at == 1) ≡ get_or (row_from width from words) i false
-row_bit width from words i at l e =
-    (λ k. word_bit words (e k) == 1)
-    ∙ sym (get_or-map-range_with_len (λ j. word_bit words (from + j) == 1) 0 width i i false l (omega arith))
+row_bit width from words i at l e = grind (arith, l, e, get_or-map-range_with_len)
 
 -- past its end there is none
 pub row_past : (width from : ℕ) (words : List ℕ) (i : ℕ) → width ≤ i → false ≡ get_or (row_from width from words) i false
-row_past width from words i l =
-    sym (get_or_past (row_from width from words) i false (omega (arith, length-row_from width from words)))
+row_past width from words i l = grind (arith, l, get_or_past, length-row_from)
 
 -- the bit of a word that holds a pixel of the row
 held_pixel : (width from : ℕ) (words : List ℕ) (i at bit : ℕ) → HoldRow width from words → at ≡ (from + i) / 32
@@ -59,16 +55,10 @@ whole_row width from words some h start e = record {
 }
   where
     few : length some ≡ words_for width
-    few =
-        let i = h.inside in
-        ap length e
-        ∙ length-take-le (words_for width) (drop (from / 32) words) (omega (arith, length-drop (from / 32) words, i, start))
+    few = grind (arith, h, start, e, length-take-le, length-drop)
 
     same : (k : ℕ) → k < length some → get_or some k 0 ≡ get_or words (from / 32 + k) 0
-    same k low =
-        ap (λ (l : List ℕ). get_or l k 0) e
-        ∙ get_or-take (words_for width) (drop (from / 32) words) k 0 (omega (arith, few, low))
-        ∙ get_or-drop (from / 32) words k 0
+    same k low = grind (arith, h, start, e, low, few, get_or-take, get_or-drop)
 
 -- 32 bits of two words from one of the first on are a word of the row
 pub word_of_row : (width from : ℕ) (words : List ℕ) (k high low w : ℕ) → HoldRow width from words → low < 4294967296
@@ -77,14 +67,14 @@ pub word_of_row : (width from : ℕ) (words : List ℕ) (k high low w : ℕ) →
     → IsWordOf k (row_from width from words) w
 word_of_row width from words k high low w held small h l bits = record {
   bits = λ i few.
-      bits i few
-      ∙ split (from % 32 + i) 32
-      (λ m.
-      bit_at_cat_high high 32 low (63 - (from % 32 + i)) small (omega arith)
-      ∙ ap (λ n. bit_at n (63 - (from % 32 + i) - 32)) h
-      ∙ held_pixel width from words (32 * k + i) (from / 32 + k) (63 - (from % 32 + i) - 32) held (omega arith) (omega arith))
-      (λ m.
-      bit_at_cat_low high 32 low (63 - (from % 32 + i)) (omega arith)
-      ∙ ap (λ n. bit_at n (63 - (from % 32 + i))) l
-      ∙ held_pixel width from words (32 * k + i) (from / 32 + k + 1) (63 - (from % 32 + i)) held (omega arith) (omega arith));
+      grind (
+        arith,
+        bits i few,
+        below_or_not (from % 32 + i) 32,
+        bit_at_cat_high high 32 low,
+        bit_at_cat_low high 32 low,
+        held_pixel width from words (32 * k + i),
+        h,
+        l,
+      );
 }

@@ -51,21 +51,14 @@ line_ended at n bytes new rest front text inside e is over =
 -- two of a list more
 pub two_more : {X : Type 0} (f : X → List ℕ) (xs : List X) (k n : ℕ) (d : X) → k + 2 ≡ n → n ≤ length xs
     → flat_map f (take k xs) ++ (f (get_or xs k d) ++ f (get_or xs (k + 1) d)) ≡ flat_map f (take n xs)
-two_more {X} f xs k n d e inside =
-    let more : k + 1 + 1 ≡ n = omega arith in
-    sym (append_assoc (flat_map f (take k xs)) (f (get_or xs k d)) (f (get_or xs (k + 1) d)))
-    ∙ ap (λ (t : List ℕ). t ++ f (get_or xs (k + 1) d)) (parts_more f xs k d (omega arith))
-    ∙ parts_more f xs (k + 1) d (omega arith)
-    ∙ ap (λ (i : ℕ). flat_map f (take i xs)) more
+two_more f xs k n d e inside =
+    grind (arith, e, inside, parts_more f xs k d, parts_more f xs (k + 1) d, append_assoc)
 
 -- ---- lines of rows one after the other
 
 -- how many lines fit into a room
 pub lines_fit : (room digits k : ℕ) → k < (room - 6) / (digits + 1) → k * (digits + 1) + digits + 7 ≤ room
-lines_fit room digits k h =
-    let p : suc k * (digits + 1) ≤ room - 6 =
-    (le-div_iff_mul-le {k = digits + 1} {x = suc k} {y = room - 6} (omega arith)).0 (omega (arith, h)) in
-    omega (arith, p)
+lines_fit room digits k h = grind (arith, h, le-div_iff_mul-le {k = digits + 1} {x = suc k} {y = room - 6})
 
 -- a line ends where the next one begins
 pub line_end : (start first i digits end now : ℕ) → first ≤ i → end ≡ start + (i - first) * (digits + 1) → now ≡ end + (digits + 1)
@@ -92,8 +85,7 @@ row_by_word rows i digits w row lanes same word few d is =
 -- the lines before a row and from it on
 pub lines_split : (rows : List (List Bool)) (i : ℕ)
     → flat_map row_text (take i rows) ++ flat_map row_text (drop i rows) ≡ flat_map row_text rows
-lines_split rows i =
-    sym (flat_map-append row_text (take i rows) (drop i rows)) ∙ ap (flat_map row_text) (take-append-drop i rows)
+lines_split rows i = grind (arith, flat_map-append row_text (take i rows) (drop i rows), take-append-drop i rows)
 
 -- one line more
 pub lines_more : (rows : List (List Bool)) (first next end : ℕ) (front now new : List ℕ) → first ≤ next
@@ -102,23 +94,23 @@ pub lines_more : (rows : List (List Bool)) (first next end : ℕ) (front now new
 lines_more rows first next end front now new order inside e text added =
     let rest = drop first rows in
     let k = next - first in
-    let at : first + k ≡ next = omega arith in
-    let more : k + 1 ≡ end - first = omega arith in
-    let here : get_or rows next [] ≡ get_or rest k [] =
-    ap (λ (n : ℕ). get_or rows n []) (sym at) ∙ sym (get_or-drop first rows k []) in
-    added
-    ∙ ap (λ (row : List Bool). now ++ row_text row) here
-    ∙ joined front (flat_map row_text (take k rest)) (row_text (get_or rest k [])) text (parts_more row_text rest k [] (omega (arith, length-drop first rows))
-    ∙ ap (λ (n : ℕ). flat_map row_text (take n rest)) more)
+    grind (
+      arith,
+      order,
+      inside,
+      e,
+      text,
+      added,
+      append_assoc,
+      parts_more row_text rest k [],
+      get_or-drop first rows k [],
+      length-drop first rows,
+    )
 
 -- the lines from the first on, and those from one up to another
 lines_joined : (rows : List (List Bool)) (first next : ℕ) → first ≤ next
     → flat_map row_text (take first rows) ++ lines_between rows first next ≡ flat_map row_text (take next rows)
-lines_joined rows first next order =
-    let all : first + (next - first) ≡ next = omega arith in
-    sym (flat_map-append row_text (take first rows) (take (next - first) (drop first rows)))
-    ∙ ap (flat_map row_text) (sym (take-add first (next - first) rows))
-    ∙ ap (λ (n : ℕ). flat_map row_text (take n rows)) all
+lines_joined rows first next order = grind (arith, order, flat_map-append, take-add first (next - first) rows)
 
 -- they are added after those that were added before
 pub adds_lines : {was now next : TextView} (rows : List (List Bool)) (first end : ℕ) → first ≤ end
