@@ -6,6 +6,12 @@ use Rattle.fx_bdf.specs.Text.{back_text, header_text}
 use Rattle.fx_bdf.proofs.Headers.{back_number}
 use Rattle.fx_bdf.proofs.header_lines.add_header.Goals as goal
 
+pub returns-in_err-add_front-clause-text : goal.returns-in_err-add_front-clause-text
+unfolding header_text
+returns-in_err-add_front-clause-text g c =
+    let p = err_from_is_err_and c.from_residual.result c.from_residual.ensures.1 in
+    rw (p.1, p.2, length-map c.args.properties.now seen_property) (adds_stopped _ c.in_err-add_front.ensures.text)
+
 pub returns-in_err-add_properties-clause-text : goal.returns-in_err-add_properties-clause-text
 unfolding header_text
 returns-in_err-add_properties-clause-text g c =

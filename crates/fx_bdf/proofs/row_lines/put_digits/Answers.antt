@@ -20,8 +20,9 @@ words-preserved c =
       long = grind (arith, long, length-put_chunk);
       text = lanes_over at more _ c.words.bytes _ _ c.word_lanes.ensures (omega (arith, c.requires.room, long, some)) (omega arith)
           (omega (arith, some))
-          ∙ joined _ _ _ (ap (λ (i : ℕ). take i c.words.bytes) here ∙ c.words.invariant.text) (digits_more c.args.row.now c.word.result
-          c.words.k n more _ c.word.ensures (omega (arith, some)) (omega arith) (omega (arith, some)));
+          ∙ joined _ _ _ (ap (λ (i : ℕ). take i c.words.bytes) here ∙ c.words.invariant.text)
+          (digits_more c.args.row.now c.word.result c.words.k n more _ c.word.ensures (omega (arith, some)) (omega arith)
+          (omega (arith, some)));
     }
 
 pub returns-clause-text : goal.returns-clause-text

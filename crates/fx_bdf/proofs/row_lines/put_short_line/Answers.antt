@@ -5,8 +5,9 @@ use Rattle.fx_bdf.proofs.row_lines.put_short_line.Goals as goal
 
 pub returns-clause-text : goal.returns-clause-text
 returns-clause-text c =
+    let at = c.args.start in
     let bytes = c.args.bytes.now in
     let word = c.args.word in
-    line_ended _ _ _ _ _ _ _ (omega (arith, c.requires.room, c.requires.few, length-put_chunk c.args.start bytes word)) (omega arith)
-    (lanes_over c.args.start c.args.digits _ bytes word word refl (omega (arith, c.requires.word, c.requires.room))
+    line_ended _ _ _ _ _ _ _ (omega (arith, c.requires.room, c.requires.few, length-put_chunk at bytes word)) (omega arith)
+    (lanes_over at c.args.digits _ bytes word word refl (omega (arith, c.requires.word, c.requires.room))
     (omega (arith, c.requires.word, c.requires.few)) refl) c.put_over.ensures

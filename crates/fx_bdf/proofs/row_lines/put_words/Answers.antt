@@ -21,6 +21,7 @@ pub returns-then-k-words-clause-text : goal.returns-then-k-words-clause-text
 returns-then-k-words-clause-text c =
     let k = c.pairs.k in
     let words = c.args.words.now in
-    lanes_over (c.args.start + 8 * k) 8 _ c.pairs.bytes _ _ c.word_lanes.ensures (omega (arith, c.requires)) (omega arith) (omega arith)
+    lanes_over (c.args.start + 8 * k) 8 _ c.pairs.bytes _ _ c.word_lanes.ensures (omega (arith, c.requires)) (omega arith)
+    (omega arith)
     ∙ joined _ _ _ c.pairs.invariant.text (parts_more word_text words k 0 (omega arith)
     ∙ ap (flat_map word_text) (take_all (k + 1) words (omega arith)))
