@@ -1,10 +1,10 @@
 //! Reading the input.
-ghost use Rattle.std.specs.Prelude.{◌≡◌, ◌⊎◌, ◌==◌, ℕ, List, ◌∷◌, ◌+◌, ◌<◌, ◌≤◌, ◌^◌, length, take, position, IfOk, IfErr, IfSome, OnOk};
+ghost use Rattle.std.specs.Prelude.{◌≡◌, ◌⊎◌, ◌==◌, ℕ, List, ◌∷◌, [], ◌++◌, ◌+◌, ◌<◌, ◌≤◌, ◌^◌, filter, length, take, position, IfOk, IfErr, IfSome, OnOk};
 ghost use Rattle.std.specs.List.{position_or_len};
 ghost use Rattle.std.specs.Io.KnownBytes.{Consumes, IsAtEnd};
 ghost use Rattle.fx_arguments.specs.Limits.{max_line};
 ghost use Rattle.fx_arguments.specs.Arguments.{texts};
-ghost use Rattle.fx_arguments.specs.Input.{IsLineCause, arguments_of_line};
+ghost use Rattle.fx_arguments.specs.Input.{IsLineCause, arguments_of_line, has_bytes};
 
 use crate::fault::Fault;
 use crate::limits::MAX_LINE;
@@ -61,6 +61,16 @@ fn line_end(bytes: &[u8]) -> Option<usize>
     bytes.iter().position(|b| *b == b'\n')
 }
 
+/// Pushes an argument if it has bytes.
+fn push_some<'a>(all: &mut Vec<&'a str>, argument: &'a str) -> Result<(), AllocError>
+    ensures { OnOk result (texts all.new.items ≡ texts all.old.items ++ filter has_bytes (argument.entry.now ∷ [])) }
+{
+    if argument.is_empty() {
+        return Ok(());
+    }
+    Ok(all.push(argument)?)
+}
+
 /// The arguments of a line, after the program's name.
 pub fn arguments_of_line<'a>(
     alloc: Global,
@@ -76,9 +86,7 @@ pub fn arguments_of_line<'a>(
     // The program and the arguments before `left` were pushed.
     'arguments: while let Some(text) = left {
         let (argument, more) = first_part(text, ' ');
-        if !argument.is_empty() {
-            all.push(argument)?;
-        }
+        push_some(&mut all, argument)?;
         left = more;
     }
     Ok(all)

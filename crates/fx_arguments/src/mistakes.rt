@@ -1,10 +1,11 @@
 //! What is wrong first with arguments.
-ghost use Rattle.std.specs.Prelude.{◌≡◌, ◌≤◌, [], Ok, Err, IfOk, length, slice_index_or};
+ghost use Rattle.std.specs.Prelude.{◌≡◌, ◌≤◌, ◌∷◌, ◌++◌, [], Result, Ok, Err, IfOk, codes, length, slice_index_or};
 ghost use Rattle.fx_fixed.specs.Chain.{GivesUnless};
 ghost use Rattle.fx_arguments.specs.Arguments.{texts};
-ghost use Rattle.fx_arguments.specs.Commands.{Refuses};
+ghost use Rattle.fx_arguments.specs.Commands.{CommandView, Refuses, seen};
 ghost use Rattle.fx_arguments.specs.Mistakes.{SaysUnless, asked_by, checked, command_said, explained, has_hyphen, is_taken, line_of};
 ghost use Rattle.fx_arguments.specs.Mistakes.{name_in, option_said, taken_words, word_said, words_said};
+ghost use Rattle.fx_arguments.specs.Wrong.{Reads, WrongView};
 
 use crate::arguments::{asked_for, is_command};
 use crate::fault::Fault;
@@ -54,13 +55,24 @@ fn verb_checked(alloc: Global, verb: Verb, words: &[&str]) -> Result<(), Said>
 {
     match matches(alloc, verb, words) {
         Ok(matches) => match asked_for(alloc, verb, &matches) {
-            Ok(_) | Err(Wrong::Refused(Refusal::BadChars)) => Ok(()),
-            Err(Wrong::Refused(refusal)) => Err(Said::Stopped(Fault::Early(refusal))),
-            Err(Wrong::Says(what)) => Err(say(alloc, &[what])),
-            Err(Wrong::NotTaken(takes, text)) => Err(say(alloc, &[takes, ", not '", text, "'"])),
+            Ok(_) => Ok(()),
+            Err(wrong) => values_said(alloc, wrong),
         },
         Err(Fault::Usage) => words_said(alloc, verb, words),
         Err(fault) => Err(Said::Stopped(fault)),
+    }
+}
+
+/// What is wrong with the values of options. Malformed characters have no line.
+fn values_said(alloc: Global, wrong: Wrong<'_>) -> Result<(), Said>
+    ensures { (due : Result CommandView WrongView) → Reads seen (Err wrong.entry) due
+        → SaysUnless (λ u. u) result (explained due) }
+{
+    match wrong {
+        Wrong::Refused(Refusal::BadChars) => Ok(()),
+        Wrong::Refused(refusal) => Err(Said::Stopped(Fault::Early(refusal))),
+        Wrong::Says(what) => Err(say(alloc, &[what])),
+        Wrong::NotTaken(takes, text) => Err(say(alloc, &[takes, ", not '", text, "'"])),
     }
 }
 
@@ -148,6 +160,21 @@ fn word_said<'w>(
     Err(say(alloc, &["unknown option '", option, "'"]))
 }
 
+/// Whether a command takes an option with the value 0 after words.
+fn takes_value<'w>(
+    alloc: Global,
+    verb: Verb,
+    before: &'w [&'w str],
+    word: &'w str,
+) -> Result<bool, Said>
+    ensures { SaysUnless (λ b. b) result (Ok (is_taken verb (texts before.now ++ word.now ∷ codes "0" ∷ []))) }
+{
+    let mut words = Vec::from_slice(alloc, before)?;
+    words.push(word)?;
+    words.push("0")?;
+    is_taken(alloc, verb, &words)
+}
+
 /// Why an option that takes a value is not taken after words that are.
 fn option_said<'w>(
     alloc: Global,
@@ -158,10 +185,7 @@ fn option_said<'w>(
 ) -> Result<(), Said>
     ensures { SaysUnless (λ u. u) result (Err (option_said verb (texts before.now) word.now next.now)) }
 {
-    let mut completed = Vec::from_slice(alloc, before)?;
-    completed.push(word)?;
-    completed.push("0")?;
-    if !is_taken(alloc, verb, &completed)? {
+    if !takes_value(alloc, verb, before, word)? {
         return Err(say(alloc, &[word, " is given twice"]));
     }
     if has_hyphen(next) {

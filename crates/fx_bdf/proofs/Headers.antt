@@ -3,7 +3,6 @@
 use Rattle.std.proofs.Common.{◌≡◌, ℕ, ◌∙◌, ◌≤◌, List, ◌∷◌, [], ◌++◌, length, refl, ap, arith, length-append}
 use Rattle.std.proofs.lemmas.List.{length-map}
 use Rattle.std.specs.Prelude.{codes}
-use Rattle.std.specs.List.{flat_map}
 use Rattle.std.specs.Fmt.{decimal}
 use Rattle.fx_bdf.specs.declared.header.Header.{Header}
 use Rattle.fx_bdf.specs.declared.property.Property.{Property}
@@ -11,17 +10,15 @@ use Rattle.fx_bdf.specs.Properties.{AreLines, property_text, seen_properties, se
 use Rattle.fx_bdf.specs.Text.{back_text, front_text, header_text, longest_header}
 use Rattle.fx_bdf.proofs.GoodProperties.{properties_long}
 
-back_is : (k : Header) → codes "ENDPROPERTIES\nCHARS " ++ (decimal k.glyphs ++ codes "\n") ≡ back_text k
-unfolding back_text
-back_is k = refl
-
 -- the pieces of the lines after the properties
 pub back_number : (k : Header) {n : List ℕ} → n ≡ decimal k.glyphs
     → codes "ENDPROPERTIES\nCHARS " ++ (n ++ codes "\n") ≡ back_text k
-back_number k e = ap (λ (t : List ℕ). codes "ENDPROPERTIES\nCHARS " ++ (t ++ codes "\n")) e ∙ back_is k
+unfolding back_text
+back_number k e = rw e refl
 
 back_long : (k : Header) {n : List ℕ} → n ≡ decimal k.glyphs → length n ≤ 20 → length (back_text k) ≤ 100
-back_long k {n} e few = omega (arith, ap length (back_number k e), few, length-append n (10 ∷ []))
+unfolding back_text
+back_long k e few = grind (arith, e, few, length-append)
 
 -- the lines before the properties, those of good properties, and those after them
 pub header_long : (name : List ℕ) (ps : List Property) (k : Header) {n : List ℕ} → AreLines (seen_properties ps)
@@ -30,13 +27,4 @@ pub header_long : (name : List ℕ) (ps : List Property) (k : Header) {n : List 
 unfolding header_text
 header_long name ps k good e few front =
     let count = ap (λ (n : ℕ). length (front_text name n k)) (length-map ps seen_property) in
-    omega (
-      arith,
-      front,
-      count,
-      properties_long (seen_properties ps) good,
-      back_long k e few,
-      length-append (front_text name (length (seen_properties ps)) k)
-          (flat_map property_text (seen_properties ps) ++ back_text k),
-      length-append (flat_map property_text (seen_properties ps)) (back_text k),
-    )
+    omega (arith, front, count, properties_long (seen_properties ps) good, back_long k e few, length-append {A = ℕ})

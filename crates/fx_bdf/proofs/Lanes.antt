@@ -9,20 +9,14 @@ use Rattle.std.specs.Int.Bits.{bit_and, bit_or, and_zero_r, or_zero_r}
 use Rattle.std.specs.Fmt.{digit_glyph}
 use lib.Lanes.{top}
 use Rattle.fx_bdf.specs.inner.Lines.{word_text}
+use Rattle.std.proofs.lemmas.Bool.Decides.{nat_tests}
 
 -- the digit of a lane with a number below 16
 abbrev digit_lane : ℕ → ℕ
 digit_lane n = ((n + 48) % 256 + cond (top 7 (cond (nat_lt 9 n) 255 0)) 7 0) % 256
 
 digit_is : (n : ℕ) → n < 16 → digit_lane n ≡ digit_glyph true n
-digit_is n h = by (nat_lt 9 n) (nat_lt n 10) refl refl
-  where
-    by : (t u : Bool) → nat_lt 9 n ≡ t → nat_lt n 10 ≡ u
-        → ((n + 48) % 256 + cond (top 7 (cond t 255 0)) 7 0) % 256 ≡ (if u then 48 + n else 55 + n)
-    by true true e f = absurd (omega (arith, ltb-true 9 n e, ltb-true n 10 f))
-    by true false e f = omega arith
-    by false true e f = omega arith
-    by false false e f = absurd (omega (arith, ltb-false 9 n e, ltb-false n 10 f))
+digit_is n h = grind (arith, nat_tests, h)
 
 -- a byte's high and low four bits
 abbrev high_lane : ℕ → ℕ
@@ -33,7 +27,7 @@ low_lane x = bit_or (bit_and (x / 16) 0) (bit_and x 15)
 
 high_is : (x q : ℕ) → x / 16 % 16 ≡ q → digit_lane (high_lane x) ≡ digit_glyph true q
 high_is x q e =
-    let is : high_lane x ≡ q = (λ i. bit_or (and_mask (x / 16) 4 i) (and_zero_r x i)) ∙ or_zero_r (x / 16 % 16) ∙ e in
+    let is : high_lane x ≡ q = grind (arith, e, and_mask (x / 16) 4, and_zero_r x, or_zero_r) in
     ap digit_lane is ∙ digit_is q (omega (arith, e))
 
 low_is : (x q : ℕ) → x % 16 ≡ q → digit_lane (low_lane x) ≡ digit_glyph true q

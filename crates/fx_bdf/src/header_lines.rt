@@ -1,6 +1,7 @@
 //! Writing the lines before the glyphs.
 
 ghost use Rattle.std.specs.Prelude.{◌≡◌, ◌+◌, ◌<◌, ◌≤◌, ◌^◌, length};
+ghost use Rattle.std.specs.Fmt.{decimal};
 ghost use Rattle.std.specs.List.{flat_map};
 ghost use Rattle.fx_fixed.specs.Texts.{Adds, Fails};
 ghost use Rattle.fx_bdf.specs.Properties.{AreLines, doubled, most_more, most_properties, property_text, seen_properties};
@@ -108,8 +109,29 @@ fn add_properties<W: Sink>(
     Ok(())
 }
 
-/// Writes the lines before the glyphs. The properties follow FONT_ASCENT and FONT_DESCENT.
+/// Adds the lines before the glyphs, of which `glyphs` is the number.
 #[tactic(auto, unfolding(crate::specs::Text::header_text))]
+fn add_header<W: Sink>(
+    name: &str,
+    properties: &[Property<'_>],
+    header: &Header,
+    glyphs: &[u8],
+    text: &mut TextWriter<'_, W>,
+) -> Result<(), WriteFailed>
+    requires faults { text.old.faults < 2 ^ 63 }
+    requires name { IsName name.now }
+    requires properties { length properties.now ≤ most_properties + most_more }
+    requires glyphs { glyphs.now ≡ decimal header.now.glyphs }
+    ensures text { Adds Fails text.old text.new (header_text name.now (seen_properties properties.now) header.now) result }
+    ensures short { length (front_text name.now (length properties.now) header.now) ≤ 1000 }
+{
+    add_front(name, properties.len(), header, text)?;
+    add_properties(properties, text)?;
+    text.add(&[b"ENDPROPERTIES\nCHARS ", glyphs, b"\n"])
+}
+
+/// Writes the lines before the glyphs. The properties follow FONT_ASCENT and FONT_DESCENT.
+#[tactic(auto, using(crate::proofs::Headers::header_long))]
 pub fn write_header<W: Sink>(
     name: &str,
     properties: &[Property<'_>],
@@ -123,8 +145,5 @@ pub fn write_header<W: Sink>(
     ensures short { length (header_text name.now (seen_properties properties.now) header.now) ≤ longest_header }
 {
     let digits = Digits::unsigned(u64::from(header.glyphs));
-    let glyphs = digits.text();
-    add_front(name, properties.len(), header, text)?;
-    add_properties(properties, text)?;
-    text.add(&[b"ENDPROPERTIES\nCHARS ", glyphs, b"\n"])
+    add_header(name, properties, header, digits.text(), text)
 }

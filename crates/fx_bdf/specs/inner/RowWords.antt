@@ -1,5 +1,6 @@
 -- Rows of pixels in words of 32 bits, from any bit on.
-use Rattle.std.specs.Prelude.{◌≡◌, ℕ, ◌+◌, ◌*◌, ◌<◌, ◌≤◌, ◌==◌, Bool, List, map, length}
+use Rattle.std.specs.Prelude.{◌≡◌, ℕ, ◌+◌, ◌-◌, ◌*◌, ◌<◌, ◌≤◌, ◌==◌, Bool, List, map, length, slice_index_or}
+use Rattle.std.specs.Int.{bit_at}
 use Rattle.std.specs.List.{range_with_len}
 use Rattle.fx_winding.specs.Limits.{greatest_side}
 use Rattle.fx_winding.specs.Bitmaps.{word_bit, words_for}
@@ -16,11 +17,11 @@ pub record HoldRow (width from : ℕ) (words : List ℕ) : Type 0 where
   pub inside : from + width ≤ 32 * length words
   pub unused : (i : ℕ) → width ≤ i → word_bit words (from + i) ≡ 0
 
--- words have the bits of a row from pixel 32 * k on, and 0 after the row's end
-pub record AreWordsFrom (k : ℕ) (row : List Bool) (words : List ℕ) : Type 0 where
-  pub bits : (i : ℕ) → i < 32 * length words → word_bit words i ≡ pixel row (32 * k + i)
+-- a word has the pixels of a row from pixel 32 * k on, and 0 after the row's end
+pub record IsWordOf (k : ℕ) (row : List Bool) (word : ℕ) : Type 0 where
+  pub bits : (i : ℕ) → i < 32 → bit_at word (31 - i) ≡ pixel row (32 * k + i)
 
 -- words that hold a row from their first bit on, and no more words than that needs
 pub record AreWordsOf (row : List Bool) (words : List ℕ) : Type 0 where
   pub count : length words ≡ words_for (length row)
-  pub bits : AreWordsFrom 0 row words
+  pub each : (k : ℕ) → k < length words → IsWordOf k row (slice_index_or words k 0)

@@ -1,17 +1,13 @@
-use Rattle.std.proofs.Common.{arith}
-use Rattle.std.proofs.lemmas.Simd.{length-put_chunk, take_more_put_chunk}
-use Rattle.fx_bdf.proofs.Waiting.{short_line_ended}
+use Rattle.std.proofs.Common.{arith, refl}
+use Rattle.std.proofs.lemmas.Simd.{length-put_chunk}
+use Rattle.fx_bdf.proofs.Waiting.{lanes_over, line_ended}
 use Rattle.fx_bdf.proofs.row_lines.put_short_line.Goals as goal
 
 pub returns-clause-text : goal.returns-clause-text
 returns-clause-text c =
-    grind (
-      arith,
-      c.requires.room,
-      c.requires.few,
-      c.requires.word,
-      c.put_over.ensures,
-      short_line_ended,
-      length-put_chunk,
-      take_more_put_chunk,
-    )
+    let at = c.args.start in
+    let bytes = c.args.bytes.now in
+    let word = c.args.word in
+    line_ended _ _ _ _ _ _ _ (omega (arith, c.requires.room, c.requires.few, length-put_chunk at bytes word)) (omega arith)
+    (lanes_over at c.args.digits _ bytes word word refl (omega (arith, c.requires.word, c.requires.room))
+    (omega (arith, c.requires.word, c.requires.few)) refl) c.put_over.ensures

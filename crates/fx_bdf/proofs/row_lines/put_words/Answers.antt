@@ -1,6 +1,9 @@
-use Rattle.std.proofs.Common.{◌+◌, ◌*◌, ◌++◌, arith, get_or, refl, take}
+use Rattle.std.proofs.Common.{◌+◌, ◌*◌, ◌∙◌, ap, arith, get_or, refl}
+use Rattle.std.proofs.lemmas.List.{take_all}
+use Rattle.std.specs.List.{flat_map}
+use Rattle.fx_fixed.proofs.Writing.{parts_more}
 use Rattle.fx_bdf.specs.inner.Lines.{word_text}
-use Rattle.fx_bdf.proofs.Waiting.{lanes_over, word_over, pair_over}
+use Rattle.fx_bdf.proofs.Waiting.{joined, lanes_over, two_more}
 use Rattle.fx_bdf.proofs.row_lines.put_words.Goals as goal
 
 pub pairs-preserved : goal.pairs-preserved
@@ -9,18 +12,16 @@ pairs-preserved c =
     let words = c.args.words.now in
     record {
       inside = omega arith;
-      text = pair_over c.args.start k c.pairs.bytes _ _ _ (take c.args.start c.args.bytes.now) words (omega (arith, c.requires))
-          (omega arith) c.pairs.invariant.text
-          (lanes_over (c.args.start + 8 * k) 16 c.pairs.bytes c.pair_lanes.result
-          (word_text (get_or words k 0) ++ word_text (get_or words (k + 1) 0)) c.pair_lanes.ensures refl
-          (omega (arith, c.requires))) refl;
+      text = lanes_over (c.args.start + 8 * k) 16 _ c.pairs.bytes _ _ c.pair_lanes.ensures (omega (arith, c.requires))
+          (omega arith) (omega arith)
+          ∙ joined _ _ _ c.pairs.invariant.text (two_more word_text words k (k + 2) 0 refl (omega arith));
     }
 
 pub returns-then-k-words-clause-text : goal.returns-then-k-words-clause-text
 returns-then-k-words-clause-text c =
     let k = c.pairs.k in
     let words = c.args.words.now in
-    word_over c.args.start k c.pairs.bytes _ _ _ (take c.args.start c.args.bytes.now) words (omega (arith, c.requires))
-    (omega arith) c.pairs.invariant.text
-    (lanes_over (c.args.start + 8 * k) 8 c.pairs.bytes c.word_lanes.result (word_text (get_or words k 0)) c.word_lanes.ensures refl
-    (omega (arith, c.requires))) refl
+    lanes_over (c.args.start + 8 * k) 8 _ c.pairs.bytes _ _ c.word_lanes.ensures (omega (arith, c.requires)) (omega arith)
+    (omega arith)
+    ∙ joined _ _ _ c.pairs.invariant.text (parts_more word_text words k 0 (omega arith)
+    ∙ ap (flat_map word_text) (take_all (k + 1) words (omega arith)))

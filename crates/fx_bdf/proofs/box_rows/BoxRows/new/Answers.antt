@@ -1,9 +1,8 @@
-use Rattle.std.proofs.Common.{◌≡◌, ◌+◌, ◌∙◌, ap, sym, subst, arith, ℕ, w32, to_z, of_z}
+use Rattle.std.proofs.Common.{◌≡◌, ◌+◌, ◌∙◌, ap, arith, to_z, of_z, w32}
 use Rattle.fx_fixed.proofs.Linear.{signed_linear}
 use Rattle.fx_winding.specs.Bitmaps.{words_for}
 use Rattle.fx_winding.specs.declared.frame.Frame.{Frame}
 use Rattle.fx_winding.specs.Frames.{steps}
-use Rattle.fx_bdf.specs.inner.BoxRows.{AreInBox, rows_held}
 use Rattle.fx_bdf.proofs.HeldRows.{LieIn, are_in_box, held_rows_are}
 use Rattle.fx_bdf.proofs.box_rows.BoxRows.new.Goals as goal
 
@@ -30,14 +29,7 @@ stride : (c : goal.After-abs_diff-2) → c.words_for.result ≡ words_for c.args
 stride c = c.words_for.ensures ∙ ap (λ (f : Frame). words_for f.width) c.frame-frame.ensures.value
 
 pub invariant_of-result : goal.invariant_of-result
-invariant_of-result c =
-    subst (λ (n : ℕ). AreInBox c.words.result.now n (c.abs_diff.result + c.args.bounds.height) c.abs_diff-2.result
-    c.args.bounds.width c.args.bounds.height) (sym (stride c))
-    (are_in_box c.args.bitmap.now c.args.bounds c.words.result.now (c.abs_diff.result + c.args.bounds.height) c.abs_diff-2.result
-    (lie c))
+invariant_of-result c = rw (stride c) (are_in_box _ _ _ _ _ (lie c))
 
 pub returns : goal.returns
-returns c =
-    let top = c.abs_diff.result + c.args.bounds.height in
-    ap (λ (n : ℕ). rows_held c.words.result.now n top c.abs_diff-2.result c.args.bounds.width c.args.bounds.height) (stride c)
-    ∙ held_rows_are c.args.bitmap.now c.args.bounds c.words.result.now top c.abs_diff-2.result (lie c)
+returns c = rw (stride c) (held_rows_are _ _ _ _ _ (lie c))
