@@ -4,7 +4,7 @@ import os
 import sys
 
 import pytest
-from shared import LIBERATION, MONO, SANS, font_bytes, needs_font
+from shared import LIBERATION, MONO, SANS, font_bytes, needs, needs_font, needs_fonttools
 
 import mkstrike
 from mkstrike import command
@@ -71,6 +71,10 @@ ROWS = [
 ]
 
 
+# What some of them need beside the package.
+NEEDED = {"a damaged WOFF2": [needs_fonttools, needs("brotli", "python3-brotli")], "axes of a plain font": [needs_fonttools]}
+
+
 @pytest.fixture
 def strike(tmp_path, monkeypatch, capsysbinary):
     """Runs the command in a folder of its own. Returns the status, and what it prints on both outputs."""
@@ -86,7 +90,7 @@ def strike(tmp_path, monkeypatch, capsysbinary):
     return run
 
 
-@pytest.mark.parametrize("words, status, said", [it[1:] for it in ROWS], ids=[it[0] for it in ROWS])
+@pytest.mark.parametrize("words, status, said", [pytest.param(*it[1:], id=it[0], marks=NEEDED.get(it[0], ())) for it in ROWS])
 def test_mistakes_at_the_command(strike, tmp_path, words, status, said):
     """The status and what is said; the files that are there stay as they were."""
     for name, data in FILES.items():
