@@ -201,7 +201,8 @@ fn note_outside(
     requires part { IsRowPart (span_of piece.now) line.row line.frame part.now }
     requires column { k ≤ line.frame.width }
     requires room { line.first + line.frame.width * line.step < 32 * length bits.old }
-    ensures notes { NotesAt (span_of piece.now) line (IsAfterFirst line (λ j. (j ≡ k) × HasTip (span_of piece.now) line j)) bits.old bits.new }
+    ensures notes { NotesAt (span_of piece.now) line (IsAfterFirst line (λ j. (j ≡ k) × HasTip (span_of piece.now) line j))
+        bits.old bits.new }
     ensures count { tally.new.count ≤ tally.old.count + 5 }
 {
     if run_at(part.region, line.frame.left - 1 + k as i32) != 0 {

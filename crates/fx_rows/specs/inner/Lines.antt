@@ -66,10 +66,8 @@ pub record NotesAt (s : Span) (line : NotedRow) (At : ℕ → Type 0) (old new :
   pub gained : GainOnly (IsLineBit s line.frame line.row line.first line.step) old new
 
 -- a column of the frame after its first one, with P
-pub record IsAfterFirst (line : NotedRow) (P : ℕ → Type 0) (k : ℕ) : Type 0 where
-  pub after : 0 < k
-  pub before : k < line.frame.width
-  pub is : P k
+abbrev pub IsAfterFirst : NotedRow → (ℕ → Type 0) → ℕ → Type 0
+IsAfterFirst line P k = (0 < k) × (k < line.frame.width) × P k
 
 -- x is within the segment to a column
 abbrev pub IsAround : NotedRow → ℤ → ℕ → Type 0

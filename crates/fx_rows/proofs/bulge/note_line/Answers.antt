@@ -31,11 +31,11 @@ returns-clause-noted c =
     let k2 : AreKept c.note_run-2.new.bits last = λ n h. k3 n (c.note_end.ensures.notes.gained.kept n h) in
     let k1 : AreKept c.note_run.new.bits last = λ n h. k2 n (c.note_run-2.ensures.notes.gained.kept n h) in
     row_set s f line.row c.met_part-part.result line.first line.step last is
-    (λ k o l h. set_kept s f line.row line.first line.step k _ last k1 (c.note_run.ensures.notes.noted k (record { after = o; before = l; is = h })))
-    (λ k o l h. set_kept s f line.row line.first line.step k _ last k2 (c.note_run-2.ensures.notes.noted k (record { after = o; before = l; is = h })))
-    (λ k o l h. set_kept s f line.row line.first line.step k _ last k3 (c.note_end.ensures.notes.noted k (record { after = o; before = l; is = h })))
-    (λ k o l h. set_kept s f line.row line.first line.step k _ last k4 (c.note_end-2.ensures.notes.noted k (record { after = o; before = l; is = h })))
-    (λ k o l h. set_kept s f line.row line.first line.step k _ last k5 (c.note_tip.ensures.notes.noted k (record { after = o; before = l; is = h })))
+    (λ k o l h. set_kept s f line.row line.first line.step k _ last k1 (c.note_run.ensures.notes.noted k (o, l, h)))
+    (λ k o l h. set_kept s f line.row line.first line.step k _ last k2 (c.note_run-2.ensures.notes.noted k (o, l, h)))
+    (λ k o l h. set_kept s f line.row line.first line.step k _ last k3 (c.note_end.ensures.notes.noted k (o, l, h)))
+    (λ k o l h. set_kept s f line.row line.first line.step k _ last k4 (c.note_end-2.ensures.notes.noted k (o, l, h)))
+    (λ k o l h. set_kept s f line.row line.first line.step k _ last k5 (c.note_tip.ensures.notes.noted k (o, l, h)))
     (λ k e. by k6 k e)
   where
     by : AreKept c.note_first.new.bits c.note_last.new.bits → (k : ℕ) → (k ≡ 0) ⊎ (k ≡ c.args.line.frame.width)
@@ -48,4 +48,5 @@ returns-clause-noted c =
 pub returns-clause-gained : goal.returns-clause-gained
 returns-clause-gained c = gain_both _ _ _ _ c.note_run.ensures.notes.gained (gain_both _ _ _ _ c.note_run-2.ensures.notes.gained
     (gain_both _ _ _ _ c.note_end.ensures.notes.gained (gain_both _ _ _ _ c.note_end-2.ensures.notes.gained
-    (gain_both _ _ _ _ c.note_tip.ensures.notes.gained (gain_both _ _ _ _ c.note_first.ensures.notes.gained c.note_last.ensures.notes.gained)))))
+    (gain_both _ _ _ _ c.note_tip.ensures.notes.gained
+    (gain_both _ _ _ _ c.note_first.ensures.notes.gained c.note_last.ensures.notes.gained)))))

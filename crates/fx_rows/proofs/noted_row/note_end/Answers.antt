@@ -10,20 +10,20 @@ returns-then-e-line-clause-notes c =
     let row : to_z w32 (of_z w32 c.args.line.row) ≡ c.args.line.row = omega (arith, signed_linear, near) in
     let times : to_z w32 (of_z w32 (pos 128 *ℤ to_z w32 (of_z w32 c.args.line.row))) ≡ pos 128 *ℤ c.args.line.row =
     omega (arith, signed, near, row) in
-    notes_none _ c.args.line _ _ (λ k a met. c.if-e-line.true (ap (of_z w32) (a.is.level ∙ (λ i. sym times i +ℤ pos 64))))
+    notes_none _ c.args.line _ _ (λ k a met. c.if-e-line.true (ap (of_z w32) (a.2.level ∙ (λ i. sym times i +ℤ pos 64))))
 
 pub returns-clause-notes : goal.returns-clause-notes
 returns-clause-notes c =
     let line = c.args.line in
     let same : to_z w32 (of_z w32 c.args.e.x) ≡ c.args.e.x = omega (arith, signed_linear, c.args.e.near_x) in
     record {
-      noted = λ k a. c.note_place.ensures.notes.noted k (record {
-        after = a.after;
-        before = a.before;
-        is = (
-          subst (λ (z : ℤ). (left_at line.frame line.row k).x <ℤ z) (sym same) a.is.after,
-          subst (λ (z : ℤ). z <ℤ (right_at line.frame line.row k).x) (sym same) a.is.before,
-        );
-      });
+      noted = λ k a. c.note_place.ensures.notes.noted k (
+        a.0,
+        a.1,
+        (
+          subst (λ (z : ℤ). (left_at line.frame line.row k).x <ℤ z) (sym same) a.2.after,
+          subst (λ (z : ℤ). z <ℤ (right_at line.frame line.row k).x) (sym same) a.2.before,
+        ),
+      );
       gained = c.note_place.ensures.notes.gained;
     }

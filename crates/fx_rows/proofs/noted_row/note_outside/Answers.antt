@@ -11,7 +11,7 @@ use Rattle.fx_rows.proofs.noted_row.note_outside.Goals as goal
 
 pub returns-clause-notes : goal.returns-clause-notes
 returns-clause-notes c = record {
-  noted = λ j a. c.note_segment.ensures.notes.noted j (record { after = a.after; before = a.before; is = a.is.0 });
+  noted = λ j a. c.note_segment.ensures.notes.noted j (a.0, a.1, a.2.0);
   gained = c.note_segment.ensures.notes.gained;
 }
 
@@ -22,9 +22,9 @@ returns-then-run_at-ne0-clause-notes c =
     let k = c.args.k in
     let s = span_of c.args.piece.now in
     notes_none s line _ _ (λ j a met.
-    let o : 0 < k = omega (arith, a.after, a.is.0) in
-    let l : k < f.width = omega (arith, a.before, a.is.0) in
-    let tip = subst (HasTip s line) a.is.0 a.is.1 in
+    let o : 0 < k = omega (arith, a.0, a.2.0) in
+    let l : k < f.width = omega (arith, a.1, a.2.0) in
+    let tip = subst (HasTip s line) a.2.0 a.2.1 in
     let run = c.args.part.now.region in
     let wide = f.columns.few in
     let step : to_z w32 k ≡ pos k = to_z_pos w32 k (omega (arith, wide, l)) in

@@ -15,10 +15,10 @@ returns-in-Some-clause-notes c =
     let last : to_z w32 (of_z w32 (to_z w32 (of_z w32 r.last) +ℤ pos 1)) ≡ r.last +ℤ pos 1 =
     omega (arith, signed_linear, near, line.frame.columns) in
     record {
-      noted = λ k a. run_end line.frame c.args.run r k c.in-Some.is a.is
+      noted = λ k a. run_end line.frame c.args.run r k c.in-Some.is a.2
           (λ e. set_kept s line.frame line.row line.first line.step k _ _ c.note_column-in-Some.ensures.notes.gained.kept
-          (c.note_column.ensures.notes.noted k (record { after = a.after; before = a.before; is = e ∙ sym first })))
-          (λ e. c.note_column-in-Some.ensures.notes.noted k (record { after = a.after; before = a.before; is = e ∙ sym last }));
+          (c.note_column.ensures.notes.noted k (a.0, a.1, e ∙ sym first)))
+          (λ e. c.note_column-in-Some.ensures.notes.noted k (a.0, a.1, e ∙ sym last));
       gained = gain_both _ _ _ _ c.note_column.ensures.notes.gained c.note_column-in-Some.ensures.notes.gained;
     }
 

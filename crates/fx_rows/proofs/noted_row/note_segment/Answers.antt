@@ -10,7 +10,7 @@ returns-then-meets_to-clause-notes c =
     let s = span_of c.args.piece.now in
     let line = c.args.line in
     record {
-      noted = λ j at. subst (IsSetTo s line.frame line.row line.first line.step c.set_segment.new.bits) (sym at.is)
+      noted = λ j at. subst (IsSetTo s line.frame line.row line.first line.step c.set_segment.new.bits) (sym at.2)
           (c.set_segment.ensures.set s);
       gained = record {
         kept = c.set_segment.ensures.kept;
@@ -23,4 +23,4 @@ returns-else-meets_to-clause-notes c =
     let s = span_of c.args.piece.now in
     let line = c.args.line in
     notes_none s line _ _ (λ j at met. clash c.meets_to.result c.if-meets_to.false
-    (c.meets_to.ensures.value.1 (subst (IsMetTo s line.frame line.row) at.is met)))
+    (c.meets_to.ensures.value.1 (subst (IsMetTo s line.frame line.row) at.2 met)))
