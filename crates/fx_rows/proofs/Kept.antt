@@ -4,7 +4,9 @@ use Rattle.std.proofs.Common.{◌≡◌, ◌≢◌, inl, inr, ℕ, ◌+◌, ◌<
 use Rattle.std.proofs.Math.Logic.{⊎_map}
 use Rattle.fx_fixed.proofs.Order.{below_or_not, below_same_above}
 use Rattle.fx_winding.specs.Bitmaps.{word_bit}
-use Rattle.fx_rows.specs.inner.Lines.{AreOnly, GainOnly}
+use Rattle.fx_winding.specs.Winding.{Span}
+use Rattle.fx_rows.specs.declared.noted_rows.NotedRow.{NotedRow}
+use Rattle.fx_rows.specs.inner.Lines.{AreOnly, GainOnly, IsMetTo, NotesAt}
 use Rattle.fx_rows.specs.inner.Told.{AreKept}
 
 pub kept_both : (a b c : List ℕ) → AreKept a b → AreKept b c → AreKept a c
@@ -43,3 +45,8 @@ gain_both P a b c h k = record { kept = kept_both a b c h.kept k.kept; only = on
 
 pub gain_more : (P Q : ℕ → Type 0) (a b : List ℕ) → ((n : ℕ) → P n → Q n) → GainOnly P a b → GainOnly Q a b
 gain_more P Q a b f h = record { kept = h.kept; only = only_more P Q a b f h.only }
+
+-- a look at segments that the piece does not meet
+pub notes_none : (s : Span) (line : NotedRow) (At : ℕ → Type 0) (bits : List ℕ)
+    → ((k : ℕ) → At k → ¬ (IsMetTo s line.frame line.row k)) → NotesAt s line At bits bits
+notes_none s line At bits none = record { noted = λ k at met. absurd (none k at met); gained = gain_none _ bits }

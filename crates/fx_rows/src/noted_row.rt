@@ -2,11 +2,12 @@
 
 ghost use Rattle.std.specs.Prelude.{◌≡◌, ◌⊎◌, ℕ, ℤ, ◌+◌, ◌*◌, ◌^◌, ◌/◌, ◌<◌, ◌≤◌, length, pos, ◌+ℤ◌, ◌<ℤ◌, ◌↔◌, ◌≢◌, IsTrue};
 ghost use Rattle.fx_fixed.specs.Ranges.{IsWithin};
-ghost use Rattle.fx_winding.specs.Meets.{turn, IsTipPart, IsWithinRow};
+ghost use Rattle.fx_winding.specs.Meets.{turn, IsWithinRow};
 ghost use Rattle.fx_winding.specs.Winding.{Span, IsOn, place_of, span_of};
 ghost use Rattle.fx_rows.specs.Parts.{IsRowPart};
 ghost use Rattle.fx_rows.specs.inner.Points.{AreAcross, IsRise};
-ghost use Rattle.fx_rows.specs.inner.Lines.{left_at, right_at, AreOnly, GainOnly, IsLineBit, IsMetTo, IsRunEnd, IsSetTo};
+ghost use Rattle.fx_rows.specs.inner.Lines.{left_at, right_at, AreOnly, HasTip, IsAfterFirst, IsAround, IsLineBit, IsMetTo, IsRunEnd, IsSetTo};
+ghost use Rattle.fx_rows.specs.inner.Lines.{NotesAt};
 ghost use Rattle.fx_rows.specs.inner.Sums.{IsInside};
 ghost use Rattle.fx_rows.specs.inner.Told.{AreKept};
 
@@ -91,9 +92,7 @@ fn note_segment(
 )
     requires part { IsRowPart (span_of piece.now) line.row line.frame part.now }
     requires room { line.first + line.frame.width * line.step < 32 * length bits.old }
-    ensures noted { 0 < k → k < line.frame.width →
-        IsSetTo (span_of piece.now) line.frame line.row line.first line.step bits.new k }
-    ensures gained { GainOnly (IsLineBit (span_of piece.now) line.frame line.row line.first line.step) bits.old bits.new }
+    ensures notes { NotesAt (span_of piece.now) line (IsAfterFirst line (λ j. j ≡ k)) bits.old bits.new }
     ensures count { tally.new.count ≤ tally.old.count + 5 }
 {
     if k == 0 || line.frame.width <= k {
@@ -116,9 +115,7 @@ fn note_column(
     requires part { IsRowPart (span_of piece.now) line.row line.frame part.now }
     requires near { IsWithin (2 ^ 16) col }
     requires room { line.first + line.frame.width * line.step < 32 * length bits.old }
-    ensures noted { (k : ℕ) → 0 < k → k < line.frame.width → line.frame.left +ℤ pos k ≡ col →
-        IsSetTo (span_of piece.now) line.frame line.row line.first line.step bits.new k }
-    ensures gained { GainOnly (IsLineBit (span_of piece.now) line.frame line.row line.first line.step) bits.old bits.new }
+    ensures notes { NotesAt (span_of piece.now) line (IsAfterFirst line (λ k. line.frame.left +ℤ pos k ≡ col)) bits.old bits.new }
     ensures count { tally.new.count ≤ tally.old.count + 5 }
 {
     note_segment(
@@ -143,9 +140,7 @@ pub(crate) fn note_run(
     requires part { IsRowPart (span_of piece.now) line.row line.frame part.now }
     requires inside { IsInside line.frame run }
     requires room { line.first + line.frame.width * line.step < 32 * length bits.old }
-    ensures noted { (k : ℕ) → 0 < k → k < line.frame.width → IsRunEnd line.frame run k →
-        IsSetTo (span_of piece.now) line.frame line.row line.first line.step bits.new k }
-    ensures gained { GainOnly (IsLineBit (span_of piece.now) line.frame line.row line.first line.step) bits.old bits.new }
+    ensures notes { NotesAt (span_of piece.now) line (IsAfterFirst line (IsRunEnd line.frame run)) bits.old bits.new }
     ensures count { tally.new.count ≤ tally.old.count + 10 }
 {
     if let Some(run) = run {
@@ -166,10 +161,7 @@ fn note_place(
     requires part { IsRowPart (span_of piece.now) line.row line.frame part.now }
     requires near { IsWithin (2 ^ 30) x }
     requires room { line.first + line.frame.width * line.step < 32 * length bits.old }
-    ensures noted { (k : ℕ) → 0 < k → k < line.frame.width → (left_at line.frame line.row k).x <ℤ x →
-        x <ℤ (right_at line.frame line.row k).x →
-        IsSetTo (span_of piece.now) line.frame line.row line.first line.step bits.new k }
-    ensures gained { GainOnly (IsLineBit (span_of piece.now) line.frame line.row line.first line.step) bits.old bits.new }
+    ensures notes { NotesAt (span_of piece.now) line (IsAfterFirst line (IsAround line x)) bits.old bits.new }
     ensures count { tally.new.count ≤ tally.old.count + 5 }
 {
     note_segment(piece, part, line, column_from(line.frame, x), bits, tally);
@@ -186,10 +178,9 @@ pub(crate) fn note_end(
 )
     requires part { IsRowPart (span_of piece.now) line.row line.frame part.now }
     requires room { line.first + line.frame.width * line.step < 32 * length bits.old }
-    ensures noted { (k : ℕ) → 0 < k → k < line.frame.width →
-        IsWithinRow (left_at line.frame line.row k) (right_at line.frame line.row k) (place_of e) →
-        IsSetTo (span_of piece.now) line.frame line.row line.first line.step bits.new k }
-    ensures gained { GainOnly (IsLineBit (span_of piece.now) line.frame line.row line.first line.step) bits.old bits.new }
+    ensures notes { NotesAt (span_of piece.now) line
+        (IsAfterFirst line (λ k. IsWithinRow (left_at line.frame line.row k) (right_at line.frame line.row k) (place_of e)))
+        bits.old bits.new }
     ensures count { tally.new.count ≤ tally.old.count + 5 }
 {
     if e.y != 128 * line.row + 64 {
@@ -210,11 +201,8 @@ fn note_outside(
     requires part { IsRowPart (span_of piece.now) line.row line.frame part.now }
     requires column { k ≤ line.frame.width }
     requires room { line.first + line.frame.width * line.step < 32 * length bits.old }
-    ensures noted { 0 < k → k < line.frame.width →
-        IsTipPart (span_of piece.now).a (span_of piece.now).b (span_of piece.now).c (left_at line.frame line.row k)
-        (right_at line.frame line.row k) →
-        IsSetTo (span_of piece.now) line.frame line.row line.first line.step bits.new k }
-    ensures gained { GainOnly (IsLineBit (span_of piece.now) line.frame line.row line.first line.step) bits.old bits.new }
+    ensures notes { NotesAt (span_of piece.now) line (IsAfterFirst line (λ j. (j ≡ k) × HasTip (span_of piece.now) line j))
+        bits.old bits.new }
     ensures count { tally.new.count ≤ tally.old.count + 5 }
 {
     if run_at(part.region, line.frame.left - 1 + k as i32) != 0 {
@@ -235,11 +223,7 @@ pub(crate) fn note_tip(
     requires rise { IsRise (span_of piece.now) rise.foot rise.head rise.value }
     requires part { IsRowPart (span_of piece.now) line.row line.frame part.now }
     requires room { line.first + line.frame.width * line.step < 32 * length bits.old }
-    ensures noted { (k : ℕ) → 0 < k → k < line.frame.width →
-        IsTipPart (span_of piece.now).a (span_of piece.now).b (span_of piece.now).c (left_at line.frame line.row k)
-        (right_at line.frame line.row k) →
-        IsSetTo (span_of piece.now) line.frame line.row line.first line.step bits.new k }
-    ensures gained { GainOnly (IsLineBit (span_of piece.now) line.frame line.row line.first line.step) bits.old bits.new }
+    ensures notes { NotesAt (span_of piece.now) line (IsAfterFirst line (HasTip (span_of piece.now) line)) bits.old bits.new }
     ensures count { tally.new.count ≤ tally.old.count + 5 }
 {
     if is_among(rise, line.row) {
@@ -263,8 +247,7 @@ pub(crate) fn note_tip(
 fn note_tested(piece: &Piece, line: NotedRow, k: u32, bits: &mut [u32], tally: &mut Tally)
     requires column { k ≤ line.frame.width }
     requires room { line.first + line.frame.width * line.step < 32 * length bits.old }
-    ensures noted { IsSetTo (span_of piece.now) line.frame line.row line.first line.step bits.new k }
-    ensures gained { GainOnly (IsLineBit (span_of piece.now) line.frame line.row line.first line.step) bits.old bits.new }
+    ensures notes { NotesAt (span_of piece.now) line (λ j. j ≡ k) bits.old bits.new }
     ensures count { tally.new.count ≤ tally.old.count + 5 }
 {
     if test_segment(piece, line, k, tally) {
@@ -282,8 +265,7 @@ pub(crate) fn note_first(
 )
     requires room { line.first + line.frame.width * line.step < 32 * length bits.old }
     requires across { AreAcross (span_of piece.now) across.first across.end }
-    ensures noted { (k : ℕ) → k ≡ 0 → IsSetTo (span_of piece.now) line.frame line.row line.first line.step bits.new k }
-    ensures gained { GainOnly (IsLineBit (span_of piece.now) line.frame line.row line.first line.step) bits.old bits.new }
+    ensures notes { NotesAt (span_of piece.now) line (λ k. k ≡ 0) bits.old bits.new }
     ensures count { tally.new.count ≤ tally.old.count + 5 }
 {
     if line.frame.left < across.first {
@@ -302,9 +284,7 @@ pub(crate) fn note_last(
 )
     requires room { line.first + line.frame.width * line.step < 32 * length bits.old }
     requires across { AreAcross (span_of piece.now) across.first across.end }
-    ensures noted { (k : ℕ) → k ≡ line.frame.width →
-        IsSetTo (span_of piece.now) line.frame line.row line.first line.step bits.new k }
-    ensures gained { GainOnly (IsLineBit (span_of piece.now) line.frame line.row line.first line.step) bits.old bits.new }
+    ensures notes { NotesAt (span_of piece.now) line (λ k. k ≡ line.frame.width) bits.old bits.new }
     ensures count { tally.new.count ≤ tally.old.count + 5 }
 {
     if across.end < line.frame.left + line.frame.width as i32 {

@@ -1,11 +1,12 @@
 -- The segments of a row, or of a column seen as a row, that a piece meets, and the bits that they have.
-use Rattle.std.specs.Prelude.{◌≡◌, ◌⊎◌, ℕ, ◌+◌, ◌*◌, ◌<◌, ◌≤◌, ℤ, pos, ◌+ℤ◌, ◌-ℤ◌, List, Option, Some, None, length}
+use Rattle.std.specs.Prelude.{◌≡◌, ◌⊎◌, ℕ, ◌+◌, ◌*◌, ◌<◌, ◌≤◌, ℤ, pos, ◌+ℤ◌, ◌-ℤ◌, ◌<ℤ◌, List, Option, Some, None, length}
 use Rattle.fx_winding.specs.Area.{Place}
 use Rattle.fx_winding.specs.Bitmaps.{word_bit}
-use Rattle.fx_winding.specs.Meets.{IsMet}
+use Rattle.fx_winding.specs.Meets.{IsMet, IsTipPart}
 use Rattle.fx_winding.specs.Notes.{pixel_number, words_noted, IsMetAcross, IsMetUp}
 use Rattle.fx_winding.specs.Winding.{Span, IsOn, centre}
 use Rattle.fx_winding.specs.declared.frame.Frame.{Frame}
+use Rattle.fx_rows.specs.declared.noted_rows.NotedRow.{NotedRow}
 use Rattle.fx_rows.specs.declared.noted_rows.NotedRows.{NotedRows}
 use Rattle.fx_rows.specs.declared.part.Run.{Run}
 use Rattle.fx_rows.specs.inner.Told.{AreKept}
@@ -57,6 +58,24 @@ AreOnly IsNew old new = (n : ℕ) → word_bit new n ≡ 1 → (word_bit old n �
 pub record GainOnly (IsNew : ℕ → Type 0) (old new : List ℕ) : Type 0 where
   pub kept : AreKept old new
   pub only : AreOnly IsNew old new
+
+-- the segments of a row that go to the columns with At have their bits, if the piece meets them, and only bits of segments that it
+-- meets are gained
+pub record NotesAt (s : Span) (line : NotedRow) (At : ℕ → Type 0) (old new : List ℕ) : Type 0 where
+  pub noted : (k : ℕ) → At k → IsSetTo s line.frame line.row line.first line.step new k
+  pub gained : GainOnly (IsLineBit s line.frame line.row line.first line.step) old new
+
+-- a column of the frame after its first one, with P
+abbrev pub IsAfterFirst : NotedRow → (ℕ → Type 0) → ℕ → Type 0
+IsAfterFirst line P k = (0 < k) × (k < line.frame.width) × P k
+
+-- x is within the segment to a column
+abbrev pub IsAround : NotedRow → ℤ → ℕ → Type 0
+IsAround line x k = ((left_at line.frame line.row k).x <ℤ x) × (x <ℤ (right_at line.frame line.row k).x)
+
+-- the tip of an arc is within it
+abbrev pub HasTip : Span → NotedRow → ℕ → Type 0
+HasTip s line k = IsTipPart s.a s.b s.c (left_at line.frame line.row k) (right_at line.frame line.row k)
 
 -- the same of the segments of a frame's rows
 pub record IsRowsBit (s : Span) (f : Frame) (row_step step n : ℕ) : Type 0 where

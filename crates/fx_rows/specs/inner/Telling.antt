@@ -61,8 +61,8 @@ pub record AreRowsNoted (Says : Saying → Type 0) (s : Span) (to : ℕ) : Type 
 abbrev pub AreNotedIn : (Saying → Type 0) → List Span → ℕ → Type 0
 AreNotedIn Says ss to = All (λ s. AreRowsNoted Says s to) ss
 
--- a band without anything added, which is some rows of a frame, comes next for the pieces of a list: they are noted in the rows below
--- it
+-- a band without anything added, which is some rows of a frame, comes next for the pieces of a list: these are noted in the rows
+-- below it
 pub record IsNext (Says : Saying → Type 0) (pieces : List Piece) (f : Frame) (from to : ℕ) (b : Band) : Type 0 where
   pub few : length pieces ≤ most_pieces
   pub near : All IsNear pieces

@@ -2,14 +2,12 @@ use Rattle.std.proofs.Common.{arith}
 use Rattle.fx_fixed.proofs.Linear.{signed_linear}
 use Rattle.fx_winding.specs.Winding.{span_of}
 use Rattle.fx_rows.proofs.Bulges.{met_first}
+use Rattle.fx_rows.proofs.Kept.{notes_none}
 use Rattle.fx_rows.proofs.noted_row.note_first.Goals as goal
 
-pub returns-then-line-across-clause-noted : goal.returns-then-line-across-clause-noted
-returns-then-line-across-clause-noted c = λ k e met.
+pub returns-then-line-across-clause-notes : goal.returns-then-line-across-clause-notes
+returns-then-line-across-clause-notes c = notes_none _ c.args.line _ _ (λ k e met.
     let line = c.args.line in
     let across = c.args.across in
     let m = met_first (span_of c.args.piece.now) line.frame across.first across.end line.row k c.requires.across met in
-    absurd (omega (arith, signed_linear, m, e))
-
-pub returns-clause-noted : goal.returns-clause-noted
-returns-clause-noted c = grind (arith, c.note_tested.ensures.noted)
+    omega (arith, signed_linear, m, e))

@@ -5,11 +5,8 @@ use Rattle.fx_rows.proofs.Bulges.{run_end, set_kept, run_column}
 use Rattle.fx_rows.proofs.Kept.{gain_both}
 use Rattle.fx_rows.proofs.noted_row.note_run.Goals as goal
 
-pub returns-in-Some-clause-gained : goal.returns-in-Some-clause-gained
-returns-in-Some-clause-gained c = gain_both _ _ _ _ c.note_column.ensures.gained c.note_column-in-Some.ensures.gained
-
-pub returns-in-Some-clause-noted : goal.returns-in-Some-clause-noted
-returns-in-Some-clause-noted c = λ k o l end.
+pub returns-in-Some-clause-notes : goal.returns-in-Some-clause-notes
+returns-in-Some-clause-notes c =
     let line = c.args.line in
     let s = span_of c.args.piece.now in
     let r = c.in-Some.run' in
@@ -17,10 +14,13 @@ returns-in-Some-clause-noted c = λ k o l end.
     let first : to_z w32 (of_z w32 r.first) ≡ r.first = omega (arith, signed_linear, near, line.frame.columns) in
     let last : to_z w32 (of_z w32 (to_z w32 (of_z w32 r.last) +ℤ pos 1)) ≡ r.last +ℤ pos 1 =
     omega (arith, signed_linear, near, line.frame.columns) in
-    run_end line.frame c.args.run r k c.in-Some.is end
-    (λ e. set_kept s line.frame line.row line.first line.step k _ _ c.note_column-in-Some.ensures.gained.kept
-    (c.note_column.ensures.noted k o l (e ∙ sym first)))
-    (λ e. c.note_column-in-Some.ensures.noted k o l (e ∙ sym last))
+    record {
+      noted = λ k a. run_end line.frame c.args.run r k c.in-Some.is a.2
+          (λ e. set_kept s line.frame line.row line.first line.step k _ _ c.note_column-in-Some.ensures.notes.gained.kept
+          (c.note_column.ensures.notes.noted k (a.0, a.1, e ∙ sym first)))
+          (λ e. c.note_column-in-Some.ensures.notes.noted k (a.0, a.1, e ∙ sym last));
+      gained = gain_both _ _ _ _ c.note_column.ensures.notes.gained c.note_column-in-Some.ensures.notes.gained;
+    }
 
 pub note_column-requires-clause-near : goal.note_column-requires-clause-near
 note_column-requires-clause-near c =

@@ -1,16 +1,17 @@
+use Rattle.std.proofs.Common.{subst, sym}
 use Rattle.fx_winding.specs.Winding.{span_of}
-use Rattle.fx_winding.proofs.Places.{clash}
+use Rattle.fx_rows.specs.inner.Lines.{IsSetTo}
 use Rattle.fx_rows.proofs.noted_row.note_tested.Goals as goal
 
-pub returns-then-test_segment-clause-noted : goal.returns-then-test_segment-clause-noted
-returns-then-test_segment-clause-noted c = c.set_segment.ensures.set (span_of c.args.piece.now)
-
-pub returns-else-test_segment-clause-noted : goal.returns-else-test_segment-clause-noted
-returns-else-test_segment-clause-noted c = λ met. absurd (clash c.test_segment.result c.if-test_segment.false
-    (c.test_segment.ensures.value.1 met))
-
-pub returns-then-test_segment-clause-gained : goal.returns-then-test_segment-clause-gained
-returns-then-test_segment-clause-gained c = record {
-  kept = c.set_segment.ensures.kept;
-  only = c.set_segment.ensures.only (span_of c.args.piece.now) (λ p q. c.test_segment.ensures.value.0 c.if-test_segment.true);
-}
+pub returns-then-test_segment-clause-notes : goal.returns-then-test_segment-clause-notes
+returns-then-test_segment-clause-notes c =
+    let s = span_of c.args.piece.now in
+    let line = c.args.line in
+    record {
+      noted = λ j e. subst (IsSetTo s line.frame line.row line.first line.step c.set_segment.new.bits) (sym e)
+          (c.set_segment.ensures.set s);
+      gained = record {
+        kept = c.set_segment.ensures.kept;
+        only = c.set_segment.ensures.only s (λ p q. c.test_segment.ensures.value.0 c.if-test_segment.true);
+      };
+    }
