@@ -1,10 +1,11 @@
 -- What is added at the places of a pair is what the piece adds there: `missed_added`, `right_added`, `part_added`.
 -- Serves `nearer`.
-use Rattle.std.proofs.Common.{◌≡◌, ◌≢◌, ◌⊎◌, ◌↔◌, inl, inr, refl, sym, ap, ◌∙◌, subst, IsTrue, ℕ, ◌+◌, ◌<◌, ℤ, pos, ◌+ℤ◌, ◌-ℤ◌}
-use Rattle.std.proofs.Common.{◌*ℤ◌, ◌≤ℤ◌, ◌<ℤ◌, Bool, true, false, List, Any, Option, map, length, get_or, arith}
+use Rattle.std.proofs.Common.{◌≡◌, ◌≢◌, ◌⊎◌, ◌↔◌, inl, inr, refl, sym, ap, ◌∙◌, subst, IsTrue, ℕ, ◌<◌, ℤ, pos, ◌+ℤ◌, ◌-ℤ◌}
+use Rattle.std.proofs.Common.{◌*ℤ◌, ◌<ℤ◌, Bool, true, false, not, List, Any, Option, map, length, get_or, arith}
 use Rattle.std.proofs.Math.ListN.{get_or-map}
 use Rattle.std.proofs.lemmas.List.{length-map}
 use Rattle.fx_fixed.specs.Ranges.{IsWithin}
+use Rattle.fx_fixed.specs.declared.places.Axis.{Axis}
 use Rattle.fx_fixed.proofs.Linear.{signed_linear}
 use Rattle.fx_rows.specs.declared.part.OnRow.{OnRow}
 use Rattle.fx_rows.specs.declared.part.RowPart.{RowPart}
@@ -25,12 +26,29 @@ use Rattle.fx_winding.specs.Turned.{turned_span}
 use Rattle.fx_winding.specs.Winding.{Span, IsOn, IsCovered, centre, span_of, winding}
 use Rattle.fx_winding.proofs.Beside.{HasAll-weaker, left_off, right_off, under_off, over_off}
 use Rattle.fx_winding.proofs.Crossings.{above}
-use Rattle.fx_winding.proofs.Turning.{left_of_all, right_of_all}
+use Rattle.fx_winding.proofs.Turning.{all_turned, left_of_all, right_of_all}
 use Rattle.fx_dropout.specs.Dropout.{place_on}
-use Rattle.fx_dropout.specs.inner.Pairs.{seen_span, seen_spans}
-use Rattle.fx_dropout.specs.inner.Places.{IsMissed, IsRunOfPlaces, ArePlacesNamed}
-use Rattle.fx_dropout.specs.inner.Stretched.{stretched_place, stretched_span}
+use Rattle.fx_dropout.specs.inner.Pairs.{seen_place, seen_span, seen_spans}
+use Rattle.fx_dropout.specs.inner.Places.{along_of, coordinate_of, IsMissed, IsRunOfPlaces, ArePlacesNamed}
+use Rattle.fx_dropout.specs.inner.Stretched.{stretched_span}
 use Rattle.fx_dropout.proofs.Stretching.{centre_stretched, crossing_stretched, region_stretched, on_stretched}
+
+-- ---- a piece seen with its coordinates exchanged
+pub all_seen : (P : Place → Type 0) (up : Bool) (s : Span) → HasAll (λ e. P (seen_place up e)) s → HasAll P (seen_span up s)
+all_seen P false s h = h
+all_seen P true s h = all_turned P s h
+
+pub seen_along : (up : Bool) (axis : Axis) (e : Place) → axis ≡ along_of up → coordinate_of axis e ≡ (seen_place up e).x
+seen_along false axis e is = ap (λ a. coordinate_of a e) is
+seen_along true axis e is = ap (λ a. coordinate_of a e) is
+
+pub seen_across : (up : Bool) (axis : Axis) (e : Place) → axis ≡ along_of (not up) → coordinate_of axis e ≡ (seen_place up e).y
+seen_across false axis e is = ap (λ a. coordinate_of a e) is
+seen_across true axis e is = ap (λ a. coordinate_of a e) is
+
+pub end_seen : (up : Bool) (s : Span) → ((seen_span up s).a ≡ seen_place up s.a) × ((seen_span up s).c ≡ seen_place up s.c)
+end_seen false s = (refl, refl)
+end_seen true s = (refl, refl)
 
 -- ---- a piece beside the places
 -- a place off a piece
@@ -109,12 +127,11 @@ pub seen_length : (up : Bool) (ps : List Piece) → length (seen_spans up (map s
 seen_length false ps = length-map ps span_of
 seen_length true ps = length-map (map span_of ps) turned_span ∙ length-map ps span_of
 
-pub seen_at : (up : Bool) (ps : List Piece) (k : ℕ) (p : Piece) (s : Span) → p ≡ get_or ps k p → s ≡ seen_span up (span_of p)
-    → s ≡ get_or (seen_spans up (map span_of ps)) k s
-seen_at false ps k p s is e = e ∙ ap span_of is ∙ sym (get_or-map span_of ps k p) ∙ ap (get_or (map span_of ps) k) (sym e)
-seen_at true ps k p s is e = e ∙ ap (λ q. turned_span (span_of q)) is
-    ∙ ap turned_span (sym (get_or-map span_of ps k p)) ∙ sym (get_or-map turned_span (map span_of ps) k (span_of p))
-    ∙ ap (get_or (map turned_span (map span_of ps)) k) (sym e)
+pub seen_at : (up : Bool) (ps : List Piece) (k : ℕ) (p : Piece) → p ≡ get_or ps k p
+    → seen_span up (span_of p) ≡ get_or (seen_spans up (map span_of ps)) k (seen_span up (span_of p))
+seen_at false ps k p is = ap span_of is ∙ sym (get_or-map span_of ps k p)
+seen_at true ps k p is = ap (λ q. turned_span (span_of q)) is ∙ ap turned_span (sym (get_or-map span_of ps k p))
+    ∙ sym (get_or-map turned_span (map span_of ps) k (span_of p))
 
 -- a place is covered if it is marked or its count is not 0
 pub covered_by : (p : Place) (ss : List Span) (on : Bool) (turns : ℤ)

@@ -1,7 +1,7 @@
 -- A stretched piece has the stretched places on it, and adds at them what the piece adds: `on_stretched`, `crossing_stretched`,
 -- `region_stretched`.
 -- Serves `nearer`.
-use Rattle.std.proofs.Common.{◌≡◌, ◌≢◌, ◌⊎◌, ◌↔◌, inl, inr, refl, sym, ap, ◌∙◌, subst, ℕ, ℤ, pos, ◌+ℤ◌, ◌-ℤ◌, ◌*ℤ◌, ◌≤ℤ◌, ◌<ℤ◌}
+use Rattle.std.proofs.Common.{◌≡◌, ◌↔◌, refl, sym, ap, ◌∙◌, subst, ℕ, ℤ, pos, ◌+ℤ◌, ◌-ℤ◌, ◌*ℤ◌, ◌≤ℤ◌, ◌<ℤ◌}
 use Rattle.std.proofs.Common.{int_lt, ◌&&◌, ◌||◌, Option, Some, None, [], ◌∷◌, option_map, arith}
 use Rattle.std.specs.Ordering.{int_eq}
 use Rattle.std.proofs.Math.Logic.{⊎_map}
@@ -10,7 +10,7 @@ use Rattle.fx_fixed.specs.Polynomial.{Expr, var, num, ◌⊞◌, ◌⊠◌, ◌�
 use Rattle.fx_fixed.proofs.Ring.{ring}
 use Rattle.fx_fixed.proofs.Linear.{signed, signed_linear}
 use Rattle.fx_winding.specs.Area.{Place, area, gap_of}
-use Rattle.fx_winding.specs.Winding.{Span, IsOn, IsOnPart, IsBetween, IsBeforeTurn, IsAboveLow, IsBelowHigh, IsInRange, AreOnArc, IsOnCurve}
+use Rattle.fx_winding.specs.Winding.{Span, IsOn, IsOnPart, IsBetween, IsBeforeTurn, IsInRange, AreOnArc, IsOnCurve}
 use Rattle.fx_winding.specs.Winding.{IsOnFlatArc, sign, weight_a, weight_b, weight_c, crossing, region, region_part, is_inside, is_on_chord}
 use Rattle.fx_winding.specs.Winding.{is_right_of_chord, centre}
 use Rattle.fx_winding.proofs.Crossings.{crossing_number}

@@ -1,17 +1,27 @@
 //! Pieces beside all places of a segment.
 
-ghost use Rattle.std.specs.Prelude.{◌≡◌, ◌<ℤ◌, IsTrue};
+ghost use Rattle.std.specs.Prelude.{◌≡◌, ◌^◌, ◌<ℤ◌, IsTrue};
+ghost use Rattle.fx_fixed.specs.Ranges.{IsWithin};
 ghost use Rattle.fx_winding.specs.Outside.{HasAll};
 ghost use Rattle.fx_winding.specs.Winding.{place_of, span_of};
-ghost use Rattle.fx_dropout.specs.inner.Places.{coordinate_of};
+ghost use Rattle.fx_dropout.specs.inner.Places.{along_of, coordinate_of};
 
 use fx_fixed::Axis;
 use fx_winding::{Piece, Point};
 
+/// The axis along which a row goes, or with `is_turned` a column.
+#[inline(always)]
+pub(crate) fn along(is_turned: bool) -> Axis
+    ensures { result ≡ along_of is_turned }
+{
+    if is_turned { Axis::Y } else { Axis::X }
+}
+
 /// A point's coordinate along an axis.
 #[inline(always)]
-fn coordinate(p: Point, axis: Axis) -> i32
-    ensures { result ≡ coordinate_of axis (place_of p) }
+pub(crate) fn coordinate(p: Point, axis: Axis) -> i32
+    ensures value { result ≡ coordinate_of axis (place_of p) }
+    ensures near { IsWithin (2 ^ 30) result }
 {
     match axis {
         Axis::X => p.x,

@@ -72,7 +72,7 @@ impl<'a> Chooser<'a> {
         }
         match Pair::in_frame(self.frame, word.is_up, 32 * word.column + k, word.row) {
             None => false,
-            Some(pair) => is_next_nearer(self.pieces, pair, tally),
+            Some(pair) => is_next_nearer(self.pieces, word.is_up, pair, tally),
         }
     }
 

@@ -7,40 +7,41 @@ ghost use Rattle.fx_winding.specs.Near.{IsNear};
 ghost use Rattle.fx_winding.specs.Winding.{place_of, span_of, IsCovered};
 ghost use Rattle.fx_winding.proofs.Crossings.{above};
 ghost use Rattle.fx_dropout.specs.Dropout.{IsNextNearer};
-ghost use Rattle.fx_dropout.specs.inner.Pairs.{seen_span};
-ghost use Rattle.fx_dropout.specs.inner.Places.{count_at, mark_at, AreCountsWithin, IsCoveredIn, place_in, spans_in, IsMissed, IsPieceAdded};
+ghost use Rattle.fx_dropout.specs.inner.Pairs.{seen_span, seen_spans};
+ghost use Rattle.fx_dropout.specs.inner.Places.{count_at, mark_at, AreCountsWithin, IsCoveredIn, place_in, IsMissed, IsPieceAdded};
 
-use crate::beside::{is_after, is_before};
+use crate::beside::{along, coordinate, is_after, is_before};
 use crate::pair::Pair;
 use crate::places::{PLACES, Places};
 use crate::stretched::stretched;
-use fx_fixed::Axis;
 use fx_rows::interval;
 use fx_winding::{Frame, Piece, Pieces, Point, Tally, centre_of};
 
-/// Whether a piece adds nothing at all places from one on, since it lies above, below or left of them.
+/// Whether a piece, with its coordinates exchanged or not, adds nothing at all places from one on: it lies above, below or left of
+/// them.
 #[inline(always)]
-fn is_missed(piece: &Piece, first: Point) -> bool
-    ensures { IsTrue result → IsMissed (place_of first) (span_of piece.now) }
+fn is_missed(piece: &Piece, is_turned: bool, first: Point) -> bool
+    ensures { IsTrue result → IsMissed (place_of first) (seen_span is_turned (span_of piece.now)) }
 {
-    if is_after(piece, Axis::Y, first.y) {
+    let across = along(!is_turned);
+    if is_after(piece, across, first.y) {
         return true;
     }
-    if is_before(piece, Axis::Y, first.y) {
+    if is_before(piece, across, first.y) {
         return true;
     }
-    is_before(piece, Axis::X, first.x)
+    is_before(piece, along(is_turned), first.x)
 }
 
-/// What a piece right of all places adds at each: 1 or -1 if its ends are on both sides of the row.
+/// What a piece right of all places adds at each, by the heights of its ends and of the row: 1 or -1 if the row is between them.
 #[inline(always)]
-fn turn_right(piece: &Piece, y: i32) -> i32
-    ensures value { result ≡ above y (place_of piece.now.c).y -ℤ above y (place_of piece.now.a).y }
+fn turn_right(a: i32, c: i32, y: i32) -> i32
+    ensures value { result ≡ above y c -ℤ above y a }
     ensures size { IsWithin 1 result }
 {
-    if piece.a.y <= y && y < piece.c.y {
+    if a <= y && y < c {
         1
-    } else if piece.c.y <= y && y < piece.a.y {
+    } else if c <= y && y < a {
         -1
     } else {
         0
@@ -63,39 +64,7 @@ fn stretched_row(row: i32) -> Frame
     }
 }
 
-/// Adds what a piece adds at each place, column by column of the stretched row.
-#[inline(never)]
-fn add_stretched(piece: &Piece, pair: Pair, places: &mut Places, tally: &mut Tally)
-    requires near { IsNear piece.now }
-    requires small { AreCountsWithin (2 ^ 19) places.old }
-    ensures added { IsPieceAdded pair (span_of piece.now) places.old places.new }
-    ensures count { tally.new.count ≤ tally.old.count + 10 }
-{
-    let row = stretched_row(pair.row);
-    places.add_part(interval(&stretched(piece, pair.col), pair.row, row, tally));
-}
-
-/// Adds what a piece adds at each place. Most pieces lie beside all places.
-#[inline(always)]
-fn add_piece(piece: &Piece, pair: Pair, places: &mut Places, tally: &mut Tally)
-    requires near { IsNear piece.now }
-    requires small { AreCountsWithin (2 ^ 19) places.old }
-    ensures added { IsPieceAdded pair (span_of piece.now) places.old places.new }
-    ensures count { tally.new.count ≤ tally.old.count + 10 }
-{
-    let first = centre_of(pair.col, pair.row);
-    if is_missed(piece, first) {
-        return;
-    }
-    if is_after(piece, Axis::X, first.x + 127) {
-        places.add(0, PLACES, turn_right(piece, first.y));
-        return;
-    }
-    add_stretched(piece, pair, places, tally);
-}
-
-/// A piece as a pair sees it.
-#[inline(always)]
+/// A piece, with its coordinates exchanged or not.
 fn seen(piece: &Piece, is_turned: bool) -> Piece
     requires { IsNear piece.now }
     ensures near { IsNear result }
@@ -104,29 +73,87 @@ fn seen(piece: &Piece, is_turned: bool) -> Piece
     if is_turned { piece.turned() } else { *piece }
 }
 
-/// Adds what the pieces add at each place.
-fn add_pieces(pieces: &[Piece], pair: Pair, places: &mut Places, tally: &mut Tally)
+/// Adds what a piece, with its coordinates exchanged or not, adds at each place: that is what it adds to the row, stretched.
+#[inline(never)]
+fn add_stretched(piece: &Piece, is_turned: bool, pair: Pair, places: &mut Places, tally: &mut Tally)
+    requires near { IsNear piece.now }
+    requires small { AreCountsWithin (2 ^ 19) places.old }
+    ensures added { IsPieceAdded pair (seen_span is_turned (span_of piece.now)) places.old places.new }
+    ensures count { tally.new.count ≤ tally.old.count + 10 }
+{
+    let wide = stretched(&seen(piece, is_turned), pair.col);
+    let row = stretched_row(pair.row);
+    places.add_part(interval(&wide, pair.row, row, tally));
+}
+
+/// The same. Most pieces lie beside all places, which is seen at once.
+#[inline(always)]
+fn add_piece(piece: &Piece, is_turned: bool, pair: Pair, places: &mut Places, tally: &mut Tally)
+    requires near { IsNear piece.now }
+    requires small { AreCountsWithin (2 ^ 19) places.old }
+    ensures added { IsPieceAdded pair (seen_span is_turned (span_of piece.now)) places.old places.new }
+    ensures count { tally.new.count ≤ tally.old.count + 10 }
+{
+    let first = centre_of(pair.col, pair.row);
+    if is_missed(piece, is_turned, first) {
+        return;
+    }
+    if is_after(piece, along(is_turned), first.x + 127) {
+        let across = along(!is_turned);
+        let a = coordinate(piece.a, across);
+        let c = coordinate(piece.c, across);
+        places.add(0, PLACES, turn_right(a, c, first.y));
+        return;
+    }
+    add_stretched(piece, is_turned, pair, places, tally);
+}
+
+/// Adds what the pieces add at each place, with their coordinates exchanged or not.
+#[inline(always)]
+fn add_pieces(pieces: &[Piece], is_turned: bool, pair: Pair, places: &mut Places, tally: &mut Tally)
     requires few { length pieces.now ≤ most_pieces }
     requires near { All IsNear pieces.now }
     requires counts { (n : ℕ) → n < 128 → count_at places.old n ≡ pos 0 }
     requires marks { (n : ℕ) → n < 128 → mark_at places.old n ≡ false }
     ensures small { AreCountsWithin (2 ^ 20) places.new }
     ensures covered { (n : ℕ) → n < 128 →
-        IsCoveredIn places.new n ↔ IsCovered (place_in pair n) (spans_in pair (map span_of pieces.now)) }
+        IsCoveredIn places.new n ↔ IsCovered (place_in pair n) (seen_spans is_turned (map span_of pieces.now)) }
     ensures count { tally.new.count ≤ tally.old.count + 10 * length pieces.now }
 {
     // What the pieces before this one add is added.
     'pieces: for piece in pieces {
-        add_piece(&seen(piece, pair.is_turned), pair, places, tally);
+        add_piece(piece, is_turned, pair, places, tally);
     }
 }
 
-/// Whether the stroke between the centres of a pixel and its right neighbour is nearer to the neighbour.
-pub(crate) fn is_next_nearer(pieces: &Pieces, pair: Pair, tally: &mut Tally) -> bool
-    ensures value { IsTrue result ↔ IsNextNearer (spans_in pair (map span_of pieces.now)) pair.col pair.row }
+/// The places of a pair with what the pieces add. One loop for each way to see a piece, which need not be asked for each.
+#[inline(always)]
+fn places_of(pieces: &Pieces, is_turned: bool, pair: Pair, tally: &mut Tally) -> Places
+    ensures small { AreCountsWithin (2 ^ 20) result }
+    ensures covered { (n : ℕ) → n < 128 →
+        IsCoveredIn result n ↔ IsCovered (place_in pair n) (seen_spans is_turned (map span_of pieces.now)) }
     ensures count { tally.new.count ≤ tally.old.count + 10 * length pieces.now }
 {
     let mut places = Places::new();
-    add_pieces(pieces.as_slice(), pair, &mut places, tally);
+    if is_turned {
+        add_pieces(pieces.as_slice(), true, pair, &mut places, tally);
+        return places;
+    }
+    add_pieces(pieces.as_slice(), false, pair, &mut places, tally);
+    places
+}
+
+/// Whether the stroke between the centres of a pixel and its right neighbour is nearer to the neighbour, in an outline with its
+/// coordinates exchanged or not.
+pub(crate) fn is_next_nearer(
+    pieces: &Pieces,
+    is_turned: bool,
+    pair: Pair,
+    tally: &mut Tally,
+) -> bool
+    ensures value { IsTrue result ↔ IsNextNearer (seen_spans is_turned (map span_of pieces.now)) pair.col pair.row }
+    ensures count { tally.new.count ≤ tally.old.count + 10 * length pieces.now }
+{
+    let places = places_of(pieces, is_turned, pair, tally);
     places.count_covered(1) < places.count_covered(65)
 }

@@ -8,24 +8,22 @@ ghost use Rattle.fx_dropout.specs.inner.Pairs.{next_col, next_row, seen_col, see
 
 use fx_winding::Frame;
 
-/// A pixel and its right neighbour, of an outline or, with `is_turned`, of the outline with its coordinates exchanged.
+/// A pixel and its right neighbour.
 #[derive(Clone, Copy)]
 pub(crate) struct Pair {
     pub col: i32,
     pub row: i32,
-    pub is_turned: bool,
     ghost col_number: { IsPixelNumber col },
     ghost next_number: { IsPixelNumber (col +ℤ pos 1) },
     ghost row_number: { IsPixelNumber row },
 }
 
 impl Pair {
-    /// A pixel of a frame and its right neighbour, or with `is_up` its upper one, if the frame has both. The pixel's column and row
-    /// are counted from the frame's first.
+    /// A pixel of a frame and its right neighbour, or with `is_up` its upper one, which is the right one if all coordinates are
+    /// exchanged; if the frame has both. The pixel's column and row are counted from the frame's first.
     pub(crate) fn in_frame(frame: Frame, is_up: bool, column: usize, row: usize) -> Option<Pair>
         requires column { column < 32 * words_for_of frame.width }
         requires row { row < frame.height }
-        ensures turned { IfSome result (λ p. p.is_turned ≡ is_up) }
         ensures col { IfSome result (λ p. p.col ≡ seen_col is_up (frame.left +ℤ pos column) (frame.bottom +ℤ pos row)) }
         ensures row { IfSome result (λ p. p.row ≡ seen_row is_up (frame.left +ℤ pos column) (frame.bottom +ℤ pos row)) }
         ensures some { IfSome result (λ _.
@@ -34,16 +32,15 @@ impl Pair {
             ¬ (IsInFrame frame (next_col is_up (frame.left +ℤ pos column)) (next_row is_up (frame.bottom +ℤ pos row))) }
     {
         if is_up {
-            return Pair::across(frame.turned(), true, row, column);
+            return Pair::across(frame.turned(), row, column);
         }
-        Pair::across(frame, false, column, row)
+        Pair::across(frame, column, row)
     }
 
     /// The same of its right neighbour alone.
-    fn across(frame: Frame, is_turned: bool, column: usize, row: usize) -> Option<Pair>
+    fn across(frame: Frame, column: usize, row: usize) -> Option<Pair>
         requires column { column < 2 ^ 16 }
         requires row { row < 2 ^ 16 }
-        ensures turned { IfSome result (λ p. p.is_turned ≡ is_turned) }
         ensures col { IfSome result (λ p. p.col ≡ frame.left +ℤ pos column) }
         ensures row { IfSome result (λ p. p.row ≡ frame.bottom +ℤ pos row) }
         ensures some { IfSome result (λ _. IsInFrame frame ((frame.left +ℤ pos column) +ℤ pos 1) (frame.bottom +ℤ pos row)) }
@@ -58,7 +55,6 @@ impl Pair {
         Some(Pair {
             col: frame.left + column as i32,
             row: frame.bottom + row as i32,
-            is_turned,
         })
     }
 }

@@ -1,7 +1,7 @@
 -- Whether a place is covered, and whether drop-out control sets a pixel, can be decided.
 -- Serves the law that a picture exists, with Existing.
 use Rattle.std.proofs.Common.{◌≡◌, subst, inl, inr, ◌⊎◌, ℕ, zero, suc, ◌+◌, ◌<◌, ℤ, pos, ◌-ℤ◌, ◌+ℤ◌, ◌≤ℤ◌, ◌<ℤ◌}
-use Rattle.std.proofs.Common.{Bool, true, false, List, [], ◌∷◌, map, Option, Some, None, Any, arith}
+use Rattle.std.proofs.Common.{List, [], ◌∷◌, map, Option, Some, None, Any, arith}
 use Rattle.std.proofs.lemmas.Int.{ints}
 use Rattle.fx_winding.specs.Area.{Place, area}
 use Rattle.fx_winding.specs.Winding.{Span, IsBetween, IsOnLine, IsOnPart, IsOn, winding, IsCovered, region_part, centre}

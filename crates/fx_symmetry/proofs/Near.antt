@@ -1,6 +1,6 @@
 -- What drop-out control by the nearer pixel sets, mirrored or upside down.
 -- Serves the law `dropout`, and the pictures of moved outlines.
-use Rattle.std.proofs.Common.{◌≡◌, refl, sym, ap, ◌∙◌, subst, ◌↔◌, ◌⊎◌, inl, inr, ℕ, ◌+◌, ℤ, pos, ◌+ℤ◌, ◌*ℤ◌, ◌≤ℤ◌}
+use Rattle.std.proofs.Common.{◌≡◌, refl, sym, ap, ◌∙◌, subst, ◌↔◌, ◌⊎◌, inl, inr, ℕ, ℤ, pos, ◌+ℤ◌, ◌*ℤ◌, ◌≤ℤ◌}
 use Rattle.std.proofs.Common.{List, [], ◌∷◌, ◌++◌, map, arith}
 use Rattle.std.proofs.lemmas.List.{map-append}
 use Rattle.fx_fixed.specs.Polynomial.{var, num, ◌⊞◌, ◌⊠◌}

@@ -1,5 +1,5 @@
 -- What pieces add at the places from the centre of a pixel to that of its right neighbour.
-use Rattle.std.specs.Prelude.{◌≡◌, ◌≢◌, ◌⊎◌, ℕ, ◌<◌, ℤ, pos, ◌+ℤ◌, ◌≤ℤ◌, ◌<ℤ◌, Bool, false, IsTrue, List, get_or, Option, Some, None}
+use Rattle.std.specs.Prelude.{◌≢◌, ◌⊎◌, ℕ, ◌<◌, ℤ, pos, ◌≤ℤ◌, ◌<ℤ◌, Bool, true, false, IsTrue, get_or, Option, Some, None}
 use Rattle.fx_fixed.specs.Ranges.{IsWithin}
 use Rattle.fx_fixed.specs.declared.places.Axis.{Axis}
 use Rattle.fx_fixed.specs.declared.places.Axis.TheVariants.{X, Y}
@@ -13,20 +13,20 @@ use Rattle.fx_winding.specs.Winding.{Span}
 use Rattle.fx_dropout.specs.declared.pair.Pair.{Pair}
 use Rattle.fx_dropout.specs.declared.places.Places.{Places}
 use Rattle.fx_dropout.specs.Dropout.{place_on}
-use Rattle.fx_dropout.specs.inner.Pairs.{seen_spans}
 
 -- the place n steps from the centre of a pair's first pixel
 abbrev pub place_in : Pair → ℕ → Place
 place_in p n = place_on p.col p.row n
 
--- pieces as a pair sees them
-abbrev pub spans_in : Pair → List Span → List Span
-spans_in p = seen_spans p.is_turned
-
 -- a place's coordinate along an axis
 abbrev pub coordinate_of : Axis → Place → ℤ
 coordinate_of X p = p.x
 coordinate_of Y p = p.y
+
+-- the axis along which a row goes, or with `true` a column
+abbrev pub along_of : Bool → Axis
+along_of false = X
+along_of true = Y
 
 -- a piece is above the row of p, below it, or left of p
 abbrev pub IsMissed : Place → Span → Type 0

@@ -1,23 +1,21 @@
-use Rattle.std.proofs.Common.{◌↔◌, ◌+◌, ◌<◌, ℕ, subst, map, List, arith}
+use Rattle.std.proofs.Common.{◌↔◌, ◌+◌, ◌<◌, ℕ, subst, map, arith}
 use Rattle.std.proofs.lemmas.Bool.{lt-ltb, ltb-true}
-use Rattle.fx_winding.specs.declared.point.Piece.{Piece}
 use Rattle.fx_winding.specs.Winding.{span_of, IsCovered}
-use Rattle.fx_dropout.specs.inner.Places.{place_in, spans_in, IsCoveredIn}
+use Rattle.fx_dropout.specs.inner.Pairs.{seen_spans}
+use Rattle.fx_dropout.specs.inner.Places.{place_in, IsCoveredIn}
 use Rattle.fx_dropout.proofs.Counts.{count_iff, count_is_one}
 use Rattle.fx_dropout.proofs.nearer.is_next_nearer.Goals as goal
 
 pub returns-clause-value : goal.returns-clause-value
 returns-clause-value c =
-    let ss = spans_in c.args.pair (map span_of c.args.pieces.now) in
-    let places = c.add_pieces.new.places in
+    let ss = seen_spans c.args.is_turned (map span_of c.args.pieces.now) in
+    let places = c.places_of-places.result in
     let At : ℕ → ℕ → Type 0 = λ from n. IsCovered (place_in c.args.pair (n + from)) ss in
     let By : ℕ → ℕ → Type 0 = λ from n. IsCoveredIn places (n + from) in
     let here = c.count_covered in
     let next = c.count_covered-2 in
     let each : (from : ℕ) → from < 66 → (n : ℕ) → n < 63 → By from n ↔ At from n =
-    λ from l n m. subst (λ (ps : List Piece). By from n
-    ↔ IsCovered (place_in c.args.pair (n + from)) (spans_in c.args.pair (map span_of ps))) c.as_slice.ensures.value
-    (c.add_pieces.ensures.covered (n + from) (omega (arith, l, m))) in
+    λ from l n m. c.places_of-places.ensures.covered (n + from) (omega (arith, l, m)) in
     let h = count_iff (By 1) (At 1) 63 here.result (each 1 (omega arith)) here.ensures in
     let k = count_iff (By 65) (At 65) 63 next.result (each 65 (omega arith)) next.ensures in (
       λ t. record {

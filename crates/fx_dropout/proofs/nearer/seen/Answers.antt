@@ -1,5 +1,4 @@
-use Rattle.std.proofs.Common.{◌≡◌, sym, subst}
-use Rattle.fx_winding.specs.Area.{Place}
+use Rattle.std.proofs.Common.{sym, subst}
 use Rattle.fx_winding.specs.Near.{IsNearPlace}
 use Rattle.fx_winding.specs.Outside.{HasAll}
 use Rattle.fx_winding.specs.Turned.{turned_place, turned_span}

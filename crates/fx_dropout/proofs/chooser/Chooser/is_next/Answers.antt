@@ -1,4 +1,4 @@
-use Rattle.std.proofs.Common.{◌≡◌, sym, subst, IsTrue, ◌↔◌, Bool, ℤ, pos, ◌+ℤ◌, ◌+◌, ◌*◌, map}
+use Rattle.std.proofs.Common.{sym, subst, IsTrue, ◌↔◌, ℤ, pos, ◌+ℤ◌, ◌+◌, ◌*◌, map}
 use Rattle.fx_winding.specs.Winding.{span_of}
 use Rattle.fx_dropout.specs.declared.chooser.Closing.{Closing}
 use Rattle.fx_dropout.specs.Dropout.{IsNextChosen, IsNextNearer}
@@ -12,10 +12,10 @@ pub returns-in-Some-clause-value : goal.returns-in-Some-clause-value
 returns-in-Some-clause-value c =
     let e = c.in-Some.ensures in
     let ss = map span_of c.args.self.now.pieces.now in
-    let near = subst (λ (z : Bool × ℤ × ℤ). IsTrue c.is_next_nearer.result ↔ IsNextNearer (seen_spans z.0 ss) z.1 z.2)
-    (λ i. (e.turned i, e.col i, e.row i)) c.is_next_nearer.ensures.value in
-    let bit = c.has_bit.ensures.0 c.if-not-has_bit.false in
     let up = c.args.word.is_up in
+    let near = subst (λ (z : ℤ × ℤ). IsTrue c.is_next_nearer.result ↔ IsNextNearer (seen_spans up ss) z.0 z.1)
+    (λ i. (e.col i, e.row i)) c.is_next_nearer.ensures.value in
+    let bit = c.has_bit.ensures.0 c.if-not-has_bit.false in
     let col = c.args.self.now.frame.left +ℤ pos (32 * c.args.word.column + c.args.k) in
     let row = c.args.self.now.frame.bottom +ℤ pos c.args.word.row in
     let chosen = λ (z : Closing). IsNextChosen z (seen_spans up ss) (seen_col up col row) (seen_row up col row) in (
