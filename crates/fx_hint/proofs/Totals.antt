@@ -9,28 +9,16 @@ use Rattle.fx_scale.specs.declared.scale.Scale.{Scale}
 use Rattle.fx_hint.specs.declared.made.Made.{Made}
 use Rattle.fx_hint.specs.declared.below.Waiting.{Waiting}
 use Rattle.fx_hint.specs.Placing.{laid, offset_of, with_component}
-
--- the sum of a number over the composites that wait
-abbrev pub over_waiting : (Waiting → ℕ) → List Waiting → ℕ
-over_waiting n [] = 0
-over_waiting n (w ∷ ws) = n w + over_waiting n ws
+use Rattle.fx_hint.specs.inner.Standing.{over_waiting, points_waiting, begun_waiting}
 
 with_one_more : (n : Waiting → ℕ) (ws : List Waiting) (w : Waiting)
     → over_waiting n (ws ++ w ∷ []) ≡ over_waiting n ws + n w
 with_one_more n [] w = omega arith
 with_one_more n (v ∷ ws) w = let e = with_one_more n ws w in omega (arith, e)
 
--- the points of the composites that wait
-abbrev pub points_waiting : List Waiting → ℕ
-points_waiting ws = over_waiting (λ w. length w.composite.base.zone.points) ws
-
 pub points_with_one_more : (ws : List Waiting) (w : Waiting)
     → points_waiting (ws ++ w ∷ []) ≡ points_waiting ws + length w.composite.base.zone.points
 points_with_one_more ws w = with_one_more (λ v. length v.composite.base.zone.points) ws w
-
--- their components that were begun
-abbrev pub begun_waiting : List Waiting → ℕ
-begun_waiting ws = over_waiting (λ w. w.composite.before) ws
 
 pub begun_with_one_more : (ws : List Waiting) (w : Waiting)
     → begun_waiting (ws ++ w ∷ []) ≡ begun_waiting ws + w.composite.before

@@ -1,6 +1,6 @@
 //! The walk over components.
 
-ghost use Rattle.std.specs.Prelude.{[], ◌∷◌, ◌≡◌, ◌+◌, ◌<◌, ◌≤◌, None, Ok, Err, IfOk, OnOk, length};
+ghost use Rattle.std.specs.Prelude.{[], ◌∷◌, ◌≡◌, ◌+◌, ◌<◌, ◌≤◌, false, None, Ok, Err, IfOk, OnOk, length};
 ghost use Rattle.fx_fixed.specs.Chain.{GivesUnless};
 ghost use Rattle.fx_zone.specs.Figures.{empty_figure};
 ghost use Rattle.fx_scale.specs.Phantoms.{phantoms_of};
@@ -11,6 +11,7 @@ ghost use Rattle.fx_hint.specs.Runs.{HasRun, logged_assembled, logged_component}
 ghost use Rattle.fx_outline.specs.Limits.{max_points};
 ghost use Rattle.fx_hint.specs.Limits.{max_components, max_depth};
 ghost use Rattle.fx_hint.specs.inner.RunSteps.{begun_runs, begun_component_runs, logged_left, Walks};
+ghost use Rattle.fx_hint.specs.inner.Standing.{IsCounted, Stands, StandsUnless, StepsTo, steps_left};
 ghost use Rattle.fx_hint.specs.inner.Steps.{Assembled, step_of, CountsPoints, begun, begun_component, counted_made, opened};
 
 use crate::below::{Below, OpenComposite, Waiting};
@@ -21,7 +22,7 @@ use crate::hinter::Hinter;
 use crate::kept::GlyphInput;
 use crate::made::Made;
 use crate::placing::add_component;
-use fx_glyf::{Composite, Glyph, Simple, read};
+use fx_glyf::{Component, Composite, Glyph, Simple, read};
 use fx_machine::Usage;
 use fx_scale::{PhantomPoints, Scale, fill_zone};
 use fx_sfnt::{Font, Metrics};
@@ -228,6 +229,97 @@ impl<'w, 'a> Walk<'w, 'a> {
         }
     }
 
+    /// The next component of the innermost open composite begun. It goes into the composite, or it is open then, and the composite
+    /// waits for it.
+    fn next_component<H: Hinter>(
+        &self,
+        hinter: &mut H,
+        on: bool,
+        component: Component,
+        below: &mut Below<'a>,
+        inner: &mut OpenComposite<'a>,
+        count: &mut Count,
+        spare: &mut Made,
+    ) -> Result<(), HintFault>
+        requires on { on ≡ (H.hinting hinter.old).on }
+        requires counted { IsCounted below.old inner.old.before inner.old.base count.old }
+        ensures known { H.known hinter.new ≡ H.known hinter.old }
+        ensures kept { H.hinting hinter.new ≡ H.hinting hinter.old }
+        ensures counted { OnOk result (IsCounted below.new inner.new.before inner.new.base count.new) }
+        ensures fewer { OnOk result (steps_left below.new count.new < steps_left below.old count.old) }
+        ensures steps { StepsTo H.Leads (H.hinting hinter.old) self.now.font.now self.now.scale.now self.now.root hinter.old
+            hinter.new below.old (record inner.old { left = component ∷ inner.old.left }) count.old result
+            (λ _ start due. Stands H.Leads (H.hinting hinter.old) self.now.font.now self.now.scale.now self.now.root start
+            hinter.new below.new inner.new count.new due) }
+    {
+        let levels = below.levels();
+        inner.before += 1;
+        let g = inner.node.g;
+        let node = Node {
+            component: Some(ComponentOf {
+                composite: g,
+                number: inner.before as u16,
+            }),
+            g: component.glyph,
+        };
+        match self.begun_component(hinter, levels, node, count, spare)? {
+            None => {
+                add_component(&mut inner.base, self.scale, on, g, &component, spare)?;
+                Ok(())
+            }
+            Some(glyph) => {
+                let base = mem::replace(spare, Made::empty(self.alloc));
+                let composite = mem::replace(inner, OpenComposite::new(node, glyph, base));
+                below.push(Waiting {
+                    component,
+                    composite,
+                })?;
+                Ok(())
+            }
+        }
+    }
+
+    /// The program of the innermost open composite runs, after all its components. Then it goes into the composite that waits for
+    /// it, which is open again. Says whether none waits: then it is the root.
+    fn close<H: Hinter>(
+        &self,
+        hinter: &mut H,
+        on: bool,
+        below: &mut Below<'a>,
+        inner: &mut OpenComposite<'a>,
+        count: &mut Count,
+    ) -> Result<bool, HintFault>
+        requires on { on ≡ (H.hinting hinter.old).on }
+        requires counted { IsCounted below.old inner.old.before inner.old.base count.old }
+        requires none_left { inner.old.left ≡ [] }
+        ensures known { H.known hinter.new ≡ H.known hinter.old }
+        ensures kept { H.hinting hinter.new ≡ H.hinting hinter.old }
+        ensures counted { IfOk result (λ ended. ended ≡ false → IsCounted below.new inner.new.before inner.new.base count.new) }
+        ensures fewer { IfOk result (λ ended. ended ≡ false → steps_left below.new count.new < steps_left below.old count.old) }
+        ensures steps { StepsTo H.Leads (H.hinting hinter.old) self.now.font.now self.now.scale.now self.now.root hinter.old
+            hinter.new below.old inner.old count.old result
+            (λ ended start due. StandsUnless H.Leads (H.hinting hinter.old) self.now.font.now self.now.scale.now self.now.root
+            ended start hinter.new below.new inner.new count.new due) }
+    {
+        let code = inner.glyph.code();
+        run_on(hinter, inner.node, code, &mut inner.base, count)?;
+        let Some(waiting) = below.pop() else {
+            return Ok(true);
+        };
+        let closed = mem::replace(inner, waiting.composite);
+        let mut made = closed.base;
+        let g = inner.node.g;
+        add_component(
+            &mut inner.base,
+            self.scale,
+            on,
+            g,
+            &waiting.component,
+            &mut made,
+        )?;
+        Ok(false)
+    }
+
     /// A root that is a composite assembled, step by step: the composites that wait for a component lie in a list, so that the walk
     /// is one loop. `made` has its phantom points. Components are assembled in `spare`.
     fn closed<H: Hinter>(
@@ -260,58 +352,13 @@ impl<'w, 'a> Walk<'w, 'a> {
         // components that they began.
         'steps: loop {
             match open.left.next() {
-                Some(component) => {
-                    let levels = below.levels();
-                    open.before += 1;
-                    let g = open.node.g;
-                    let node = Node {
-                        component: Some(ComponentOf {
-                            composite: g,
-                            number: open.before as u16,
-                        }),
-                        g: component.glyph,
-                    };
-                    match self.begun_component(hinter, levels, node, count, spare)? {
-                        None => {
-                            add_component(&mut open.base, self.scale, on, g, &component, spare)?;
-                        }
-                        Some(glyph) => {
-                            let whole = mem::replace(spare, Made::empty(self.alloc));
-                            let deeper = OpenComposite::new(node, glyph, whole);
-                            below.push(Waiting {
-                                component,
-                                composite: open,
-                            })?;
-                            open = deeper;
-                        }
-                    }
-                }
+                Some(component) => self.next_component(
+                    hinter, on, component, &mut below, &mut open, count, spare,
+                )?,
                 None => {
-                    let code = open.glyph.code();
-                    run_on(hinter, open.node, code, &mut open.base, count)?;
-                    match below.pop() {
-                        None => {
-                            *made = open.base;
-                            return Ok(());
-                        }
-                        Some(waiting) => {
-                            let Waiting {
-                                component,
-                                composite,
-                            } = waiting;
-                            let mut above = composite;
-                            let mut made = open.base;
-                            let g = above.node.g;
-                            add_component(
-                                &mut above.base,
-                                self.scale,
-                                on,
-                                g,
-                                &component,
-                                &mut made,
-                            )?;
-                            open = above;
-                        }
+                    if self.close(hinter, on, &mut below, &mut open, count)? {
+                        *made = open.base;
+                        return Ok(());
                     }
                 }
             }

@@ -1,10 +1,9 @@
 //! The row that puts a point where two lines cross.
 
 ghost use Rattle.std.specs.Prelude.{◌≡◌, ◌≢◌, ◌≤◌, ◌^◌, pos, ◌+ℤ◌, ◌-ℤ◌, ◌*ℤ◌, unsigned_abs};
-ghost use Rattle.fx_fixed.specs.Places.{place_sum_of};
 ghost use Rattle.fx_zone.specs.Points.{put};
 ghost use Rattle.fx_pointops.specs.Zones.{on_point};
-ghost use Rattle.fx_pointops.specs.Intersect.{cross_of, fraction_of, scaled_by, mean_of, middle_of, intersection_of, isect_of};
+ghost use Rattle.fx_pointops.specs.Intersect.{cross_of, fraction_of, scaled_by, mean_of, middle_of, crossing_of, intersection_of, isect_of};
 
 use crate::zones::{Zones, cur};
 use fx_fixed::{F26, Place, near, product, w32};
@@ -96,12 +95,11 @@ fn middle(a0: &Place, a1: &Place, b0: &Place, b1: &Place) -> Place
 }
 
 /// Where two lines cross that are not parallel.
-fn crossing(a0: &Place, da: &Place, db: &Place, e: &Place, by: i128) -> Place
-    requires bound { unsigned_abs by ≤ 2 ^ 63 }
-    requires nonzero { by ≢ pos 0 }
-    ensures { result ≡ place_sum_of a0.now (scaled_by (cross_of e.now db.now) by da.now) }
+fn crossing(a0: &Place, da: &Place, db: &Place, e: &Place) -> Place
+    requires { cross_of da.now db.now ≢ pos 0 }
+    ensures { result ≡ crossing_of a0.now da.now db.now e.now }
 {
-    a0.plus(scaled_by(cross(e, db), by, da))
+    a0.plus(scaled_by(cross(e, db), cross(da, db), da))
 }
 
 /// Where two lines cross; the middle of their places if they are parallel.
@@ -112,11 +110,10 @@ fn intersection(a0: &Place, a1: &Place, b0: &Place, b1: &Place) -> Place
     let da = a1.minus(*a0);
     let db = b1.minus(*b0);
     let e = b0.minus(*a0);
-    let by = cross(&da, &db);
-    if by == 0 {
+    if cross(&da, &db) == 0 {
         middle(a0, a1, b0, b1)
     } else {
-        crossing(a0, &da, &db, &e, by)
+        crossing(a0, &da, &db, &e)
     }
 }
 

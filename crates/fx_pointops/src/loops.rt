@@ -10,7 +10,7 @@ use fx_gstate::GState;
 use fx_zone::PointShift;
 
 /// What a row does with each point of its loop.
-#[derive(Clone, Copy, Debug, PartialEq, Eq)]
+#[derive(Clone, Copy)]
 pub enum LoopStep {
     /// ALIGNRP: it moves to the distance 0 from reference point 0.
     Align,

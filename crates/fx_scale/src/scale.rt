@@ -6,7 +6,7 @@ ghost use Rattle.fx_sfnt.specs.Units.{IsUnitsPerEm};
 ghost use Rattle.fx_scale.specs.Scaling.{scaled_of, scaled_by, scale_of};
 
 use crate::factor::Factor;
-use fx_fixed::{F26, Ppem, near, w32};
+use fx_fixed::{F26, Ppem, near, product, w32};
 use fx_sfnt::{Font, UnitsPerEm};
 
 /// A size, and what of the font belongs to every glyph at it; ascender and descender in FUnits.
@@ -74,14 +74,6 @@ fn scaled_long(v: i32, em: u32, funits: u32) -> F26
     requires units { IsUnitsPerEm funits }
     ensures { result ≡ wrapped_of (near_of (v *ℤ pos em) (pos funits)) }
 {
-    F26(w32(near(sixty_fourths(v, em), i128::from(funits))))
-}
-
-/// A value times the number of 1/64 pixels in an em.
-fn sixty_fourths(v: i32, em: u32) -> i128
-    requires { em ≤ 65536 }
-    ensures value { result ≡ v *ℤ pos em }
-    ensures size { unsigned_abs result ≤ 2 ^ 60 }
-{
-    i128::from(v) * i128::from(em)
+    let n = i128::from(product(v, em as i32));
+    F26(w32(near(n, i128::from(funits))))
 }

@@ -19,10 +19,11 @@ shown = 8
 abbrev pub last_of : List ℤ → List ℤ
 last_of numbers = drop (length numbers - shown) numbers
 
--- the top of a stack, the top last
+-- a number after a space
 abbrev pub number_text : ℤ → List ℕ
 number_text number = value_text (Number number)
 
+-- the top of a stack, the top last
 abbrev pub stack_text : List ℤ → List ℕ
 stack_text stack = flat_map number_text (last_of (reverse stack))
 

@@ -18,7 +18,7 @@ pub enum TraceFault {
 }
 
 /// Why the text of a trace stops.
-#[derive(Clone, Copy, Debug, PartialEq, Eq)]
+#[derive(Clone, Copy)]
 pub enum Stop {
     /// The writer took this many bytes of it.
     WriterFailed(u64),

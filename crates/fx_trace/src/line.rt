@@ -28,20 +28,13 @@ fn add_program<S: Sink>(text: &mut TraceText<'_, S>, program: FontProgram)
     }
 }
 
-/// Adds a number.
-fn add_number<S: Sink>(text: &mut TraceText<'_, S>, number: &i32)
-    ensures { Says text.old text.new (number_text number.now) }
-{
-    add_value(text, &TraceValue::Number(*number));
-}
-
 /// Adds numbers in turn.
 fn add_numbers<S: Sink>(text: &mut TraceText<'_, S>, numbers: &[i32])
     ensures { Says text.old text.new (flat_map number_text numbers.now) }
 {
     // The numbers so far were added.
     'numbers: for number in numbers {
-        add_number(text, number);
+        add_value(text, &TraceValue::Number(*number));
     }
 }
 

@@ -6,7 +6,7 @@ ghost use Rattle.fx_trace.specs.Traces.{is_wanted};
 use fx_machine::FontProgram;
 
 /// Which programs are traced, each with the functions that it calls.
-#[derive(Clone, Copy, Debug, PartialEq, Eq)]
+#[derive(Clone, Copy)]
 pub enum TracedPrograms {
     /// `fpgm`.
     Fpgm,

@@ -1,4 +1,5 @@
-use Rattle.std.proofs.Common.{arith, pos}
+use Rattle.std.proofs.Common.{arith, rules, pos, get_or, FitsSigned, to_z-of_z}
+use Rattle.std.specs.Int.{w32}
 use Rattle.std.proofs.lemmas.List.{get_or_default}
 use Rattle.fx_trace.specs.Lines.{number_text}
 use Rattle.fx_trace.proofs.Texts.{says_nothing, one_more, no_more}
@@ -9,9 +10,11 @@ numbers-init g c = says_nothing
 
 pub numbers-preserved : goal.numbers-preserved
 numbers-preserved g c =
+    let fits : FitsSigned w32 (get_or c.args.numbers.now c.numbers.number-index (pos 0)) = search rules in
+    let told = simp to_z-of_z at c.add_value.ensures in
     one_more number_text c.args.numbers.now c.numbers.number-index _ c.numbers.invariant
     (get_or_default c.args.numbers.now c.numbers.number-index (pos 0) _ c.numbers-test.true) c.numbers-test.true
-    c.add_number.ensures
+    told
 
 pub returns : goal.returns
 returns g c =
