@@ -1,12 +1,12 @@
 -- The lines before the glyphs, and how long they are.
 -- Serves `write_header`.
-use Rattle.std.proofs.Common.{◌≡◌, ℕ, ◌∙◌, ◌≤◌, List, ◌∷◌, [], ◌++◌, length, refl, ap, arith, length-append}
+use Rattle.std.proofs.Common.{◌≡◌, ℕ, ◌≤◌, List, ◌++◌, length, refl, ap, arith, length-append}
 use Rattle.std.proofs.lemmas.List.{length-map}
 use Rattle.std.specs.Prelude.{codes}
 use Rattle.std.specs.Fmt.{decimal}
 use Rattle.fx_bdf.specs.declared.header.Header.{Header}
 use Rattle.fx_bdf.specs.declared.property.Property.{Property}
-use Rattle.fx_bdf.specs.Properties.{AreLines, property_text, seen_properties, seen_property}
+use Rattle.fx_bdf.specs.Properties.{AreLines, seen_properties, seen_property}
 use Rattle.fx_bdf.specs.Text.{back_text, front_text, header_text, longest_header}
 use Rattle.fx_bdf.proofs.GoodProperties.{properties_long}
 

@@ -1,10 +1,9 @@
 -- Digits in the lanes of a vector: each byte of a word stands in two neighbouring lanes.
 -- Serves the digits of a word.
-use Rattle.std.proofs.Common.{◌≡◌, ℕ, zero, suc, ◌+◌, ◌*◌, ◌/◌, ◌%◌, ◌^◌, ◌<◌, List, [], ◌∷◌, ◌++◌, Bool, true, false, ap, ◌∙◌, refl, arith}
+use Rattle.std.proofs.Common.{◌≡◌, ℕ, zero, suc, ◌+◌, ◌*◌, ◌/◌, ◌%◌, ◌^◌, ◌<◌, List, [], ◌∷◌, ◌++◌, true, ap, ◌∙◌, refl, arith}
 use Rattle.std.proofs.Common.{nat_lt}
-use Rattle.std.proofs.lemmas.Bool.{ltb-true, ltb-false}
 use Rattle.std.proofs.lemmas.Nat.{and_mask}
-use Rattle.std.specs.Prelude.{if◌then◌else◌, cond}
+use Rattle.std.specs.Prelude.{cond}
 use Rattle.std.specs.Int.Bits.{bit_and, bit_or, and_zero_r, or_zero_r}
 use Rattle.std.specs.Fmt.{digit_glyph}
 use lib.Lanes.{top}

@@ -1,6 +1,6 @@
 -- The properties of X11 before given ones, and how long they are.
 -- Serves `fields_from`, `push_untaken`, `x11_properties` and `all_properties`.
-use Rattle.std.proofs.Common.{◌≡◌, ℕ, ◌^◌, ◌<◌, ◌≤◌, zero, suc, Bool, true, not, List, ◌++◌, length, refl, arith, ℤ, pos, negsuc}
+use Rattle.std.proofs.Common.{◌≡◌, ℕ, ◌^◌, ◌<◌, ◌≤◌, zero, suc, Bool, true, not, List, length, arith, ℤ, pos, negsuc}
 use Rattle.std.proofs.Common.{FitsSigned, w32, length-append}
 use Rattle.std.specs.Prelude.{filter, nat_le}
 use Rattle.std.specs.List.{after_first, list_all}
