@@ -184,11 +184,14 @@ manner_by rows = do
   mode ← mode_by rows
   Ok (refused, face, mode)
 
--- the strike of a size, of a list of characters if there is one, and of properties
-abbrev pub strike_by : List Row → ℕ → Option Text → List PropertyView → Result CommandView WrongView
-strike_by rows ppem list properties = do
+-- what the values of `make`'s options ask for: the size is required, and a list or `--all`
+abbrev pub make_by : List Row → Result CommandView WrongView
+make_by rows = do
+  ppem ← size_by (first_of (codes "ppem") rows)
+  _ ← one_way (is_given (codes "all") rows) (first_of (codes "chars") rows)
+  properties ← properties_by (unwrap_or (all_of (codes "property") rows) [])
   manner ← manner_by rows
-  chars ← characters_by list
+  chars ← characters_by (first_of (codes "chars") rows)
   Ok (record {
     task = strike (record {
       ppem = ppem;
@@ -202,14 +205,6 @@ strike_by rows ppem list properties = do
     face = manner.1;
     hex = is_given (codes "hex") rows;
   })
-
--- what the values of `make`'s options ask for: the size is required, and a list or `--all`
-abbrev pub make_by : List Row → Result CommandView WrongView
-make_by rows = do
-  ppem ← size_by (first_of (codes "ppem") rows)
-  _ ← one_way (is_given (codes "all") rows) (first_of (codes "chars") rows)
-  properties ← properties_by (unwrap_or (all_of (codes "property") rows) [])
-  strike_by rows ppem (first_of (codes "chars") rows) properties
 
 -- how a glyph is chosen: by a character or by its number, and not by both
 abbrev pub choice_by : Option Text → Option Text → Result Choice WrongView

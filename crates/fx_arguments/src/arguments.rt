@@ -2,10 +2,8 @@
 ghost use Rattle.std.specs.Prelude.{◌≡◌, Ok, Some, drop, option_map};
 ghost use Rattle.clap.specs.Words.{found_of, rows_of};
 ghost use Rattle.fx_fixed.specs.Chain.{GivesUnless, wanted};
-ghost use Rattle.fx_bdf.specs.Properties.{seen_properties};
 ghost use Rattle.fx_arguments.specs.Arguments.{asked_for, characters_by, choice_by, dropout_by, dump_by, face_by, glyph_by, is_command, make_by};
-ghost use Rattle.fx_arguments.specs.Arguments.{manner_by, mode_by, one_way, program_by, refused_by, size_by, strike_by, texts, trace_by};
-ghost use Rattle.fx_arguments.specs.Arguments.{traced_by};
+ghost use Rattle.fx_arguments.specs.Arguments.{manner_by, mode_by, one_way, program_by, refused_by, size_by, texts, trace_by, traced_by};
 ghost use Rattle.fx_arguments.specs.CommandLine.{command_by, command_of, command_of_explain};
 ghost use Rattle.fx_arguments.specs.Commands.{Refuses, seen, seen_characters};
 ghost use Rattle.fx_arguments.specs.Wrong.{Reads, not_taken};
@@ -19,7 +17,6 @@ use crate::values::{face_of, is_given, matches, size_of, value, values};
 use crate::verb::{Verb, verb_of};
 use crate::wrong::Wrong;
 use clap::ArgMatches;
-use fx_bdf::Property;
 use fx_machine::FontProgram;
 use fx_request::{Choice, Dropout, Mode, OnRefused, Refusal, TraceSubject};
 use std::alloc::Global;
@@ -202,20 +199,6 @@ fn make_of<'a>(alloc: Global, matches: &ArgMatches<'a>) -> Result<Command<'a>, W
     let list = value(matches, "chars");
     one_way(is_given(matches, "all"), list)?;
     let properties = properties_by(alloc, values(matches, "property").unwrap_or(&[]))?;
-    strike_of(alloc, matches, ppem, list, properties)
-}
-
-/// The strike of a size, of a list of characters if there is one, and of properties.
-fn strike_of<'a>(
-    alloc: Global,
-    matches: &ArgMatches<'a>,
-    ppem: u16,
-    list: Option<&str>,
-    properties: Vec<Property<'a>>,
-) -> Result<Command<'a>, Wrong<'a>>
-    ensures { Reads seen result (strike_by (rows_of (found_of matches.now)) ppem
-        (option_map (λ list. list.now) list.entry) (seen_properties properties.entry.items)) }
-{
     let (on_refused, face, mode) = manner_of(matches)?;
     let chars = characters_by(alloc, list)?;
     let make = Make {
