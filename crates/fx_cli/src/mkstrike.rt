@@ -82,7 +82,8 @@ impl Tool for Mkstrike {
             None => text.add_all(&["the list has more than 65,536 numbers"]),
             Some(("", ItemFault::NoNumber)) => text.add_all(&["the list has a comma too many"]),
             Some((item, why)) => {
-                text.add_all(&["'", item, what_is_wrong(why)]);
+                text.add_all(&["'", item]);
+                text.add_all(&[what_is_wrong(why)]);
                 if matches!(why, ItemFault::NoNumber) {
                     add_number_meant(text, item);
                 }
