@@ -23,7 +23,8 @@ first pair =
 pub returns-then-is_missed-clause-added : goal.returns-then-is_missed-clause-added
 returns-then-is_missed-clause-added c = λ n l.
     missed_added (seen_span c.args.is_turned (span_of c.args.piece.now)) c.args.pair.col c.args.pair.row n _ _
-    (subst (λ (p : Place). IsMissed p (seen_span c.args.is_turned (span_of c.args.piece.now))) (c.centre_of-first.ensures ∙ first c.args.pair)
+    (subst (λ (p : Place). IsMissed p (seen_span c.args.is_turned (span_of c.args.piece.now)))
+    (c.centre_of-first.ensures ∙ first c.args.pair)
     (c.is_missed.ensures c.if-is_missed.true))
 
 pub add-requires-clause-small : goal.add-requires-clause-small
