@@ -25,11 +25,10 @@ use Rattle.fx_winding.specs.Outside.{HasAll}
 use Rattle.fx_winding.specs.Turned.{turned_span}
 use Rattle.fx_winding.specs.Winding.{Span, IsOn, IsCovered, centre, span_of, winding}
 use Rattle.fx_winding.proofs.Beside.{HasAll-weaker, left_off, right_off, under_off, over_off}
-use Rattle.fx_winding.proofs.Crossings.{above}
 use Rattle.fx_winding.proofs.Turning.{all_turned, left_of_all, right_of_all}
 use Rattle.fx_dropout.specs.Dropout.{place_on}
 use Rattle.fx_dropout.specs.inner.Pairs.{seen_place, seen_span, seen_spans}
-use Rattle.fx_dropout.specs.inner.Places.{along_of, coordinate_of, IsMissed, IsRunOfPlaces, ArePlacesNamed}
+use Rattle.fx_dropout.specs.inner.Places.{above, along_of, coordinate_of, IsMissed, IsRunOfPlaces, ArePlacesNamed}
 use Rattle.fx_dropout.specs.inner.Stretched.{stretched_span}
 use Rattle.fx_dropout.proofs.Stretching.{centre_stretched, crossing_stretched, region_stretched, on_stretched}
 

@@ -91,7 +91,8 @@ region_part_stretched : (col : ℤ) (a : Place) (b : Option Place) (c p : Place)
     ≡ region_part a b c p
 region_part_stretched col a None c p = refl
 region_part_stretched col a (Some b) c p =
-    grind (arith, signed_linear, area_stretched, sign_stretched, weight_stretched, inside_stretched, chord_stretched, right_stretched)
+    grind (arith, signed_linear, area_stretched, sign_stretched, weight_stretched, inside_stretched, chord_stretched,
+    right_stretched)
 
 pub region_stretched : (col : ℤ) (p : Place) (s : Span) → region (stretched_place col p) (stretched_span col s) ≡ region p s
 region_stretched col p s = region_part_stretched col s.a s.b s.c p
@@ -124,7 +125,8 @@ turn_stretched col a b c p = same _ _ _ _ grown
         -ℤ (stretched_x col a *ℤ stretched_x col c -ℤ stretched_x col b *ℤ stretched_x col b)
         ≡ pos 16384 *ℤ (p *ℤ (a -ℤ pos 2 *ℤ b +ℤ c) -ℤ (a *ℤ c -ℤ b *ℤ b))
     grown = ring (a ∷ b ∷ c ∷ p ∷ col ∷ [])
-        (out (var 3) ⊠ (out (var 0) ⊟ num (pos 2) ⊠ out (var 1) ⊞ out (var 2)) ⊟ (out (var 0) ⊠ out (var 2) ⊟ out (var 1) ⊠ out (var 1)))
+        (out (var 3) ⊠ (out (var 0) ⊟ num (pos 2) ⊠ out (var 1) ⊞ out (var 2)) ⊟
+        (out (var 0) ⊠ out (var 2) ⊟ out (var 1) ⊠ out (var 1)))
         (num (pos 16384) ⊠ (var 3 ⊠ (var 0 ⊟ num (pos 2) ⊠ var 1 ⊞ var 2) ⊟ (var 0 ⊠ var 2 ⊟ var 1 ⊠ var 1))) tt
 
     same : (m n k l : ℤ) → m -ℤ n ≡ pos 16384 *ℤ (k -ℤ l) → (n ≤ℤ m) ↔ (l ≤ℤ k)

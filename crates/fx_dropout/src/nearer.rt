@@ -5,10 +5,9 @@ ghost use Rattle.fx_fixed.specs.Ranges.{IsWithin};
 ghost use Rattle.fx_winding.specs.Limits.{most_pieces, IsPixelNumber};
 ghost use Rattle.fx_winding.specs.Near.{IsNear};
 ghost use Rattle.fx_winding.specs.Winding.{place_of, span_of, IsCovered};
-ghost use Rattle.fx_winding.proofs.Crossings.{above};
 ghost use Rattle.fx_dropout.specs.Dropout.{IsNextNearer};
 ghost use Rattle.fx_dropout.specs.inner.Pairs.{seen_span, seen_spans};
-ghost use Rattle.fx_dropout.specs.inner.Places.{count_at, mark_at, AreCountsWithin, IsCoveredIn, place_in, IsMissed, IsPieceAdded};
+ghost use Rattle.fx_dropout.specs.inner.Places.{above, count_at, mark_at, AreCountsWithin, IsCoveredIn, place_in, IsMissed, IsPieceAdded};
 
 use crate::beside::{along, coordinate, is_after, is_before};
 use crate::pair::Pair;

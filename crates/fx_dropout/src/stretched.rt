@@ -1,5 +1,5 @@
-//! Pieces stretched 128-fold across, so that the places between two centres of a row become centres of pixels, which `fx_rows` knows
-//! how to look at.
+//! Pieces stretched 128-fold across, so that the places between two centres of a row become centres of pixels, which
+//! `fx_rows` knows how to look at.
 
 ghost use Rattle.std.specs.Prelude.{◌≡◌, ◌^◌, option_map};
 ghost use Rattle.fx_fixed.specs.Ranges.{IsWithin};

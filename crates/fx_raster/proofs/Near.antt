@@ -31,7 +31,8 @@ point_near side t p h i = grind (arith, h, i)
 
 near_spans : (ends : List ℕ) (points : List OutlinePoint) → All IsInReach points → AreNear (spans_of ends points)
 near_spans ends points n side t h =
-    point_with (IsOut side t) (IsNear side t) points n (point_near side t) (of_curves (IsOut side t) (out_of_ends side t) 0 ends points h)
+    point_with (IsOut side t) (IsNear side t) points n (point_near side t)
+    (of_curves (IsOut side t) (out_of_ends side t) 0 ends points h)
 
 -- ---- what is drawn
 

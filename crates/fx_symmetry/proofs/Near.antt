@@ -116,7 +116,8 @@ outlines_moved m [] h = tt
 outlines_moved m (ss ∷ contours) h =
     let c = h.0 in ((place_in m c.0, leads_moved m c.0 c.0 ss c.1), outlines_moved m contours h.1)
 
-joined_moved : (m : Symmetry) (contours : List (List Span)) → joined (map (map (span_in m)) contours) ≡ map (span_in m) (joined contours)
+joined_moved : (m : Symmetry) (contours : List (List Span))
+    → joined (map (map (span_in m)) contours) ≡ map (span_in m) (joined contours)
 joined_moved m [] = refl
 joined_moved m (ss ∷ contours) =
     ap (λ ts. map (span_in m) ss ++ ts) (joined_moved m contours) ∙ sym (map-append (span_in m) ss (joined contours))
@@ -144,7 +145,8 @@ near_kept m ss o i j k l e = (
         (moves_cover m (place_on i j n) ss o)
 
 -- so a line upside down, and one in reverse order
-near_flipped : (ss : List Span) → AreOfOutline ss → (i j : ℤ) → IsNextNearer (map (span_in Flip) ss) i (mirror j) ↔ IsNextNearer ss i j
+near_flipped : (ss : List Span) → AreOfOutline ss → (i j : ℤ)
+    → IsNextNearer (map (span_in Flip) ss) i (mirror j) ↔ IsNextNearer ss i j
 near_flipped ss o i j =
     near_kept Flip ss o i j i (mirror j) (λ n t. place ((pos 128 *ℤ i +ℤ pos 64) +ℤ pos n) (axis_mirrored j t))
 

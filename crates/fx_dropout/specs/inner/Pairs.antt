@@ -1,5 +1,5 @@
--- Two neighbours: a pixel and, with `false`, the one to its right or, with `true`, the one above it, which is its right neighbour if
--- the coordinates are exchanged.
+-- Two neighbours: a pixel and, with `false`, the one to its right or, with `true`, the one above it, which is its right
+-- neighbour if the coordinates are exchanged.
 use Rattle.std.specs.Prelude.{ℤ, pos, ◌+ℤ◌, Bool, true, false, List, map}
 use Rattle.fx_winding.specs.Area.{Place}
 use Rattle.fx_winding.specs.Turned.{turned_place, turned_span}

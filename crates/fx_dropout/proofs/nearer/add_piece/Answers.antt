@@ -4,9 +4,8 @@ use Rattle.fx_winding.specs.Area.{Place}
 use Rattle.fx_winding.specs.Winding.{centre, span_of}
 use Rattle.fx_dropout.specs.declared.pair.Pair.{Pair}
 use Rattle.fx_winding.proofs.Beside.{HasAll-weaker}
-use Rattle.fx_winding.proofs.Crossings.{above}
 use Rattle.fx_dropout.specs.inner.Pairs.{seen_place, seen_span}
-use Rattle.fx_dropout.specs.inner.Places.{coordinate_of, IsMissed}
+use Rattle.fx_dropout.specs.inner.Places.{above, coordinate_of, IsMissed}
 use Rattle.fx_dropout.proofs.Adding.{all_seen, end_seen, missed_added, right_added, seen_across, seen_along}
 use Rattle.fx_dropout.proofs.nearer.add_piece.Goals as goal
 
@@ -24,7 +23,8 @@ first pair =
 pub returns-then-is_missed-clause-added : goal.returns-then-is_missed-clause-added
 returns-then-is_missed-clause-added c = λ n l.
     missed_added (seen_span c.args.is_turned (span_of c.args.piece.now)) c.args.pair.col c.args.pair.row n _ _
-    (subst (λ (p : Place). IsMissed p (seen_span c.args.is_turned (span_of c.args.piece.now))) (c.centre_of-first.ensures ∙ first c.args.pair)
+    (subst (λ (p : Place). IsMissed p (seen_span c.args.is_turned (span_of c.args.piece.now)))
+    (c.centre_of-first.ensures ∙ first c.args.pair)
     (c.is_missed.ensures c.if-is_missed.true))
 
 pub add-requires-clause-small : goal.add-requires-clause-small

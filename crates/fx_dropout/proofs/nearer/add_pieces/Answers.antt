@@ -9,7 +9,8 @@ use Rattle.fx_dropout.proofs.Adding.{covered_by, seen_at, seen_length}
 use Rattle.fx_dropout.proofs.nearer.add_pieces.Goals as goal
 
 pub add_piece-requires-clause-near : goal.add_piece-requires-clause-near
-add_piece-requires-clause-near c = subst IsNear (sym c.piece-item.is) (c.requires.near c.pieces.piece-index c.piece-item.result c.pieces-test.true)
+add_piece-requires-clause-near c =
+    subst IsNear (sym c.piece-item.is) (c.requires.near c.pieces.piece-index c.piece-item.result c.pieces-test.true)
 
 pub add_piece-requires-clause-small : goal.add_piece-requires-clause-small
 add_piece-requires-clause-small c = λ n l.
@@ -32,7 +33,8 @@ pieces-preserved c =
     let count = inv.tests in
     let more = c.add_piece.ensures.count in
     record {
-      counted = λ n l. counted_more ss k (seen_span up (span_of c.piece-item.result)) (place_in c.args.pair n) _ _ _ _ (c.add_piece.ensures.added n l)
+      counted = λ n l. counted_more ss k (seen_span up (span_of c.piece-item.result)) (place_in c.args.pair n) _ _ _ _
+          (c.add_piece.ensures.added n l)
           (omega (arith, seen_length up c.args.pieces.now))
           (seen_at up c.args.pieces.now k c.piece-item.result c.piece-item.is)
           (inv.counted n l);

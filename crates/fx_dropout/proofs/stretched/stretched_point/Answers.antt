@@ -18,7 +18,8 @@ pub invariant_of-result-clause-near_x : goal.invariant_of-result-clause-near_x
 invariant_of-result-clause-near_x c =
     let near = c.requires.near in
     let column = c.requires.column in
-    let e = across c.args.p.x c.args.col near column in (omega (arith, signed, near, column, e), omega (arith, signed, near, column, e))
+    let e = across c.args.p.x c.args.col near column in
+    (omega (arith, signed, near, column, e), omega (arith, signed, near, column, e))
 
 pub returns : goal.returns
 returns c =
