@@ -10,3 +10,4 @@ pub mod SetPixels
 pub mod Shifted
 pub mod Stretching
 pub mod Adding
+pub mod Held

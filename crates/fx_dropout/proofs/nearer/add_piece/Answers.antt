@@ -1,4 +1,4 @@
-use Rattle.std.proofs.Common.{◌≡◌, ◌∙◌, sym, subst, ap, pos, ℤ, ◌<ℤ◌, ◌-ℤ◌, ◌+ℤ◌, w32, to_z, of_z, arith}
+use Rattle.std.proofs.Common.{◌≡◌, ◌∙◌, sym, subst, ap, pos, ℤ, ◌<ℤ◌, ◌-ℤ◌, ◌+ℤ◌, arith}
 use Rattle.fx_fixed.proofs.Linear.{signed_linear}
 use Rattle.fx_winding.specs.Area.{Place}
 use Rattle.fx_winding.specs.Winding.{centre, span_of}
@@ -7,11 +7,8 @@ use Rattle.fx_winding.proofs.Beside.{HasAll-weaker}
 use Rattle.fx_dropout.specs.inner.Pairs.{seen_place, seen_span}
 use Rattle.fx_dropout.specs.inner.Places.{above, coordinate_of, IsMissed}
 use Rattle.fx_dropout.proofs.Adding.{all_seen, end_seen, missed_added, right_added, seen_across, seen_along}
+use Rattle.fx_dropout.proofs.Held.{held}
 use Rattle.fx_dropout.proofs.nearer.add_piece.Goals as goal
-
--- a number as the code holds it
-abbrev held : ℤ → ℤ
-held x = to_z w32 (of_z w32 x)
 
 first : (pair : Pair) → centre (held pair.col) (held pair.row) ≡ centre pair.col pair.row
 first pair =

@@ -1,15 +1,12 @@
-use Rattle.std.proofs.Common.{inl, inr, ℤ, ◌<ℤ◌, w32, to_z, of_z, arith}
+use Rattle.std.proofs.Common.{inl, inr, ℤ, ◌<ℤ◌, arith}
 use Rattle.fx_fixed.proofs.Linear.{signed_linear}
 use Rattle.fx_winding.specs.Winding.{span_of}
 use Rattle.fx_winding.proofs.Beside.{HasAll-weaker}
 use Rattle.fx_dropout.specs.inner.Pairs.{seen_place}
 use Rattle.fx_dropout.specs.inner.Places.{coordinate_of}
 use Rattle.fx_dropout.proofs.Adding.{all_seen, seen_across, seen_along}
+use Rattle.fx_dropout.proofs.Held.{held}
 use Rattle.fx_dropout.proofs.nearer.is_missed.Goals as goal
-
--- a number as the code holds it
-abbrev held : ℤ → ℤ
-held x = to_z w32 (of_z w32 x)
 
 pub returns-then-is_after : goal.returns-then-is_after
 returns-then-is_after c = λ t.

@@ -1,14 +1,11 @@
-use Rattle.std.proofs.Common.{◌≡◌, ℤ, w32, to_z, of_z, pos, ◌*ℤ◌, ◌+ℤ◌, ◌-ℤ◌, arith}
+use Rattle.std.proofs.Common.{◌≡◌, ℤ, pos, ◌*ℤ◌, ◌+ℤ◌, ◌-ℤ◌, arith}
 use Rattle.fx_fixed.specs.Ranges.{IsWithin}
 use Rattle.fx_fixed.proofs.Linear.{signed}
 use Rattle.fx_winding.specs.Limits.{IsPixelNumber}
 use Rattle.fx_winding.specs.Area.{place}
 use Rattle.fx_dropout.specs.inner.Stretched.{stretched_x}
+use Rattle.fx_dropout.proofs.Held.{held}
 use Rattle.fx_dropout.proofs.stretched.stretched_point.Goals as goal
-
--- a coordinate as the code holds it
-abbrev held : ℤ → ℤ
-held x = to_z w32 (of_z w32 x)
 
 across : (x col : ℤ) → IsWithin 4194304 x → IsPixelNumber col
     → held (held (pos 128 *ℤ held (held x -ℤ held (held (pos 128 *ℤ held col) +ℤ pos 64))) +ℤ pos 64) ≡ stretched_x col x

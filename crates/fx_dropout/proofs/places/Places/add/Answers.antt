@@ -1,13 +1,10 @@
-use Rattle.std.proofs.Common.{◌≡◌, ◌∙◌, ap, inl, inr, ℕ, ◌<◌, ℤ, pos, ◌+ℤ◌, List, length, get_or, set, w32, to_z, of_z, arith}
+use Rattle.std.proofs.Common.{◌≡◌, ◌∙◌, ap, inl, inr, ℕ, ◌<◌, ℤ, pos, ◌+ℤ◌, List, length, get_or, set, arith}
 use Rattle.std.proofs.lemmas.List.{get_or-set_same, get_or-set_other, length-set}
 use Rattle.fx_fixed.specs.Ranges.{IsWithin}
 use Rattle.fx_fixed.proofs.Linear.{signed_linear}
 use Rattle.fx_fixed.proofs.Order.{below_or_not}
+use Rattle.fx_dropout.proofs.Held.{held}
 use Rattle.fx_dropout.proofs.places.Places.add.Goals as goal
-
--- a number as the code holds it
-abbrev held : ℤ → ℤ
-held x = to_z w32 (of_z w32 x)
 
 added : (xs : List ℤ) (n k : ℕ) (old value : ℤ) → n < length xs → k ≡ n → get_or xs n (pos 0) ≡ old → IsWithin 1048576 old
     → IsWithin 1 value
