@@ -91,8 +91,16 @@ region_part_stretched : (col : ℤ) (a : Place) (b : Option Place) (c p : Place)
     ≡ region_part a b c p
 region_part_stretched col a None c p = refl
 region_part_stretched col a (Some b) c p =
-    grind (arith, signed_linear, area_stretched, sign_stretched, weight_stretched, inside_stretched, chord_stretched,
-    right_stretched)
+    grind (
+      arith,
+      signed_linear,
+      area_stretched,
+      sign_stretched,
+      weight_stretched,
+      inside_stretched,
+      chord_stretched,
+      right_stretched,
+    )
 
 pub region_stretched : (col : ℤ) (p : Place) (s : Span) → region (stretched_place col p) (stretched_span col s) ≡ region p s
 region_stretched col p s = region_part_stretched col s.a s.b s.c p

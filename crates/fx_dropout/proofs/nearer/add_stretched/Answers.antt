@@ -17,8 +17,11 @@ part c =
     let col : to_z w32 (of_z w32 c.args.pair.col) ≡ c.args.pair.col = omega (arith, signed_linear, a) in
     let row : to_z w32 (of_z w32 c.args.pair.row) ≡ c.args.pair.row = omega (arith, signed_linear, b) in
     subst (λ (z : Span × ℤ). IsRowPart z.0 z.1 c.stretched_row-row.result c.interval.result)
-    (λ i. ((c.stretched-wide.ensures ∙ ap (stretched_span (to_z w32 (of_z w32 c.args.pair.col))) c.seen.ensures.value
-    ∙ (λ j. stretched_span (col j) (seen_span c.args.is_turned (span_of c.args.piece.now)))) i, row i)) c.interval.ensures.part
+    (λ i. (
+      (c.stretched-wide.ensures ∙ ap (stretched_span (to_z w32 (of_z w32 c.args.pair.col))) c.seen.ensures.value
+          ∙ (λ j. stretched_span (col j) (seen_span c.args.is_turned (span_of c.args.piece.now)))) i,
+      row i,
+    )) c.interval.ensures.part
 
 pub add_part-requires-clause-crossing : goal.add_part-requires-clause-crossing
 add_part-requires-clause-crossing c =
