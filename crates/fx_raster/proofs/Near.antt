@@ -15,7 +15,6 @@ use Rattle.fx_contour.specs.Frames.{HaveAny, AreTooLarge, is_too_large, framed_o
 use Rattle.fx_contour.proofs.Closed.{all_closed}
 use Rattle.fx_contour.proofs.Decided.{reach_is_tested, large_is_tested}
 use Rattle.fx_contour.proofs.Drawing.{of_curves, point_with}
-use Rattle.fx_contour.proofs.Hull.{out_of_ends}
 
 -- ---- near
 
@@ -31,8 +30,7 @@ point_near side t p h i = grind (arith, h, i)
 
 near_spans : (ends : List ℕ) (points : List OutlinePoint) → All IsInReach points → AreNear (spans_of ends points)
 near_spans ends points n side t h =
-    point_with (IsOut side t) (IsNear side t) points n (point_near side t)
-    (of_curves (IsOut side t) (out_of_ends side t) 0 ends points h)
+    point_with (IsOut side t) (IsNear side t) points n (point_near side t) (of_curves side t 0 ends points h)
 
 -- ---- what is drawn
 
