@@ -1,5 +1,6 @@
 """tools/run_checks tells of made checks as they end, and leaves nothing behind; and the stand-in for pytest does what pytest does."""
 import contextlib
+import glob
 import importlib.util
 import io
 import os
@@ -102,6 +103,12 @@ def test_left_out():
 
 def test_failed():
     pytest.fail("why", pytrace=False)
+
+@pytest.mark.parametrize("raised", ["7 wrong", "17 wrong", None])
+def test_raised(raised):
+    with pytest.raises(ValueError, match="^7 "):
+        if raised:
+            raise ValueError(raised)
 '''
 
 
@@ -119,3 +126,15 @@ def test_stand_in(words, tmp_path):
         found = dict(map(reversed, re.findall(r"(\d+) (passed|failed|skipped)", ran.stdout.split("\n")[-2])))
         answers.append((ran.returncode, found, "no go" in ran.stdout))
     assert answers[0] == answers[1]
+
+
+def test_stand_in_is_enough():
+    """The tests that the stand-in may run name nothing of pytest that it lacks. tests/python needs pytest itself."""
+    named = set()
+    for path in glob.glob(os.path.join(TOP, "tests/**/*.py"), recursive=True):
+        if not path.startswith((os.path.join(TOP, "tests/python/"), STAND_IN)):
+            with open(path, encoding="utf-8") as file:
+                named |= set(re.findall(r"(?:^| |@|\()pytest\.((?:mark\.)?\w+)\(", file.read(), re.M))
+    with open(os.path.join(STAND_IN, "pytest.py"), encoding="utf-8") as file:
+        had = set(re.findall(r"^(?:    )?def (\w+)", file.read(), re.M))
+    assert named and not {it for it in named if it.removeprefix("mark.") not in had}

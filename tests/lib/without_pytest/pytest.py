@@ -1,10 +1,11 @@
-"""A small stand-in for pytest, where that is not installed: what these tests use of fixtures, parametrize, skip and -k, and no more.
+"""A small stand-in for pytest, where that is not installed: what these tests use of fixtures, parametrize, skip, raises and -k, and no more.
 
     PYTHONPATH=tests/lib/without_pytest python3 -m pytest tests/program -k face
 
 tools/run_checks does so, so that the gate needs no package of Python.
 """
 import configparser
+import contextlib
 import fnmatch
 import functools
 import glob
@@ -39,6 +40,18 @@ def fail(reason, pytrace=True):
     """Fails a test; `pytrace` is for the real pytest."""
     del pytrace
     raise Outcome(reason)
+
+
+@contextlib.contextmanager
+def raises(expected, match=""):
+    """Expects an exception of a type, with a text that a pattern finds."""
+    try:
+        yield
+    except expected as raised:
+        if not re.search(match, str(raised)):
+            fail("%r is not in %r" % (match, str(raised)))
+    else:
+        fail("%s was not raised" % expected.__name__)
 
 
 def fixture(function=None, name=None, scope="function"):
