@@ -56,12 +56,13 @@ def test_status():
 
 
 def test_side_by_side():
-    """A check that waits for the next one is told after it."""
+    """A check that waits for the next one to be gone, which is when its end is told, is told after it."""
     with tempfile.TemporaryDirectory() as folder:
-        made = os.path.join(folder, "made")
-        text, status = told([shlex.join(["timeout", "20", "sh", "-c", "until [ -e %s ]; do sleep 0.05; done" % shlex.quote(made)]),
-                             shlex.join(["sh", "-c", "sleep 0.1; touch %s" % shlex.quote(made)])])
-    assert status == 0 and text.index("touch") < text.index("until")
+        made = shlex.quote(os.path.join(folder, "made"))
+        waits = "until [ -e %s ] && [ ! -e /proc/$(cat %s) ]; do sleep 0.05; done" % (made, made)
+        makes = "sleep 0.1; echo $$ > %s.new; mv %s.new %s" % (made, made, made)
+        text, status = told([shlex.join(["timeout", "20", "sh", "-c", waits]), shlex.join(["sh", "-c", makes])])
+    assert status == 0 and text.index("sleep 0.1") < text.index("until")
 
 
 def test_interrupt():
