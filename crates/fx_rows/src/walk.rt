@@ -192,7 +192,15 @@ fn to_end(piece: &Piece, arc: Arc, spot: Spot, strip: Strip) -> Spot
     here
 }
 
-/// The column, if it is in the strip and on a bent arc. No other can be.
+/// Whether the gap of these areas is not 0, as its low 64 bits show.
+#[inline(always)]
+fn is_off(areas: Weights) -> bool
+    ensures { IsTrue result → gap_of areas.u areas.v areas.w ≢ pos 0 }
+{
+    (4 * areas.u).wrapping_mul(areas.w) != areas.v.wrapping_mul(areas.v)
+}
+
+/// The column, if it is in the strip and on a bent arc. No other can be. Few gaps are 0, so the gap is looked at first.
 #[inline(always)]
 fn on_column(piece: &Piece, spot: Spot, strip: Strip, tally: &mut Tally) -> OnRow
     requires slanted { piece.now.a.y ≢ piece.now.c.y }
@@ -202,13 +210,13 @@ fn on_column(piece: &Piece, spot: Spot, strip: Strip, tally: &mut Tally) -> OnRo
     ensures on { IsOnStrip (span_of piece.now) strip result }
     ensures count { tally.new.count ≤ tally.old.count + 1 }
 {
+    if is_off(spot.areas) {
+        return OnRow::None;
+    }
     if spot.k < strip.start {
         return OnRow::None;
     }
     if spot.k >= strip.stop {
-        return OnRow::None;
-    }
-    if curve_gap(spot.areas) != 0 {
         return OnRow::None;
     }
     on_one(piece, strip, spot.k, tally)

@@ -12,15 +12,15 @@ pub returns-then-spot-strip-2-clause-on : goal.returns-then-spot-strip-2-clause-
 returns-then-spot-strip-2-clause-on c = none_on (span_of c.args.piece.now) c.args.strip
     (λ k l m on. let e = (c.requires.only k l m on).0 in omega (arith, e))
 
-pub returns-then-curve_gap-ne0-clause-on : goal.returns-then-curve_gap-ne0-clause-on
-returns-then-curve_gap-ne0-clause-on c =
+pub returns-then-is_off-clause-on : goal.returns-then-is_off-clause-on
+returns-then-is_off-clause-on c =
     grind (
       arith,
       c.requires.only,
-      c.curve_gap.ensures,
+      c.is_off.ensures,
       c.requires.slanted,
       c.requires.at.areas,
-      c.if-curve_gap-ne0.true,
+      c.if-is_off.true,
       none_on,
       gap_at_column,
     )
