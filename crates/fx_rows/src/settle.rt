@@ -17,6 +17,7 @@ pub(crate) fn first_column(word: u32) -> u32
 }
 
 /// The word without the bit of column 0.
+#[tactic(auto, using(crate::proofs::Tails::lowest_gone, crate::proofs::Tails::lowest_rest))]
 fn without_lowest(word: u32) -> u32
     ensures first { bit_at result 0 ≡ 0 }
     ensures rest { (i : ℕ) → 0 < i → i < 32 → bit_at result i ≡ bit_at word i }
@@ -37,6 +38,7 @@ fn without_first(word: u32) -> u32
 }
 
 /// The word with the bits from a column on all set, or all 0.
+#[tactic(auto, using(crate::proofs::Tails::set_before, crate::proofs::Tails::set_from, crate::proofs::Tails::clear_before, crate::proofs::Tails::clear_from))]
 fn with_rest(word: u32, column: u32, set: bool) -> u32
     requires { column < 32 }
     ensures before { (i : ℕ) → i < column → bit_at result (31 - i) ≡ bit_at word (31 - i) }

@@ -114,6 +114,7 @@ fn is_counted(right: bool, areas: Weights) -> bool
 
 /// Whether a column counts.
 #[inline(always)]
+#[tactic(auto, using(crate::proofs::Walks::counts_at))]
 fn counts(piece: &Piece, right: bool, spot: Spot, strip: Strip) -> bool
     requires slanted { piece.now.a.y ≢ piece.now.c.y }
     requires at { IsSpot spot piece.now (place_at strip 0) }
@@ -202,6 +203,7 @@ fn is_off(areas: Weights) -> bool
 
 /// The column, if it is in the strip and on a bent arc. No other can be. Few gaps are 0, so the gap is looked at first.
 #[inline(always)]
+#[tactic(auto, using(crate::proofs::Contacts::none_on, crate::proofs::Walks::gap_at_column))]
 fn on_column(piece: &Piece, spot: Spot, strip: Strip, tally: &mut Tally) -> OnRow
     requires slanted { piece.now.a.y ≢ piece.now.c.y }
     requires at { IsSpot spot piece.now (place_at strip 0) }
