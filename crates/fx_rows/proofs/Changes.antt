@@ -58,7 +58,7 @@ IsSettling diff from start count bits left = (p : ℕ) × Settling diff from sta
 
 -- the first column settled
 pub settling_first : (diff : List ℤ) (from : ℕ) (start count : ℤ) (bits left : ℕ)
-    → count ≡ start +ℤ get_or diff from (pos 0) → ((i : ℕ) → i < 32 → bit_at bits (31 - i) ≡ count_bit count 0)
+    → count ≡ start +ℤ get_or diff (from + 0) (pos 0) → ((i : ℕ) → i < 32 → bit_at bits (31 - i) ≡ count_bit count 0)
     → bit_at left 0 ≡ 0
     → ((i : ℕ) → 0 < i → i < 32 → bit_at left i ≡ 0 → get_or diff (from + i) (pos 0) ≡ pos 0)
     → IsSettling diff from start count bits left
@@ -79,9 +79,7 @@ settling_first diff from start count bits left c b f n = (
     whole =
         let z = sum_zero diff from in
         let o = sum_next diff from 0 in
-        let e : from + 0 ≡ from = omega arith in
-        let d = ap (λ (k : ℕ). get_or diff k (pos 0)) e in
-        omega (arith, signed_linear, c, z, o, d)
+        omega (arith, signed_linear, c, z, o)
 
 -- the sum up to a column whose bit is the first that is set
 sum_to : (diff : List ℤ) (from : ℕ) (start count : ℤ) (bits left p k : ℕ) → Settling diff from start count bits left p
@@ -151,8 +149,8 @@ pub record Emptying (old new : List ℤ) (from left : ℕ) : Type 0 where
   pub done : (i : ℕ) → i < 32 → bit_at left i ≡ 0 → get_or new (from + i) (pos 0) ≡ pos 0
   pub others : (k : ℕ) → (k < from) ⊎ (from + 32 ≤ k) → get_or new k (pos 0) ≡ get_or old k (pos 0)
 
-pub emptying_first : (old new : List ℤ) (from touched left : ℕ) → get_or new from (pos 0) ≡ pos 0
-    → ((k : ℕ) → k ≢ from → get_or new k (pos 0) ≡ get_or old k (pos 0))
+pub emptying_first : (old new : List ℤ) (from touched left : ℕ) → get_or new (from + 0) (pos 0) ≡ pos 0
+    → ((k : ℕ) → k ≢ from + 0 → get_or new k (pos 0) ≡ get_or old k (pos 0))
     → ((i : ℕ) → 0 < i → i < 32 → bit_at touched i ≡ 0 → get_or old (from + i) (pos 0) ≡ pos 0)
     → ((i : ℕ) → i ≤ 0 → bit_at left i ≡ 0)
     → ((i : ℕ) → 0 < i → i < 32 → bit_at left i ≡ bit_at touched i) → Emptying old new from left

@@ -68,6 +68,7 @@ fn add_general_rows(piece: &Piece, rows: RowRange, band: &mut Band, tally: &mut 
 }
 
 /// Adds what a piece gives to rows, if there are any, in the general way.
+#[tactic(auto, using(crate::proofs::Banding::band_none))]
 fn add_met_rows(piece: &Piece, rows: RowRange, band: &mut Band, tally: &mut Tally)
     requires rows { rows.end ≤ band.old.frame.height }
     requires small { AreWithin (2 ^ 25 + 4 * rows.first) band.old.diff.items }

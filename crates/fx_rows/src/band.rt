@@ -61,6 +61,7 @@ impl Band {
     }
 
     /// The number of the first pixel of the row that is `up` above the band's lowest.
+    #[tactic(auto, using(crate::proofs::Banding::word_in))]
     pub(crate) fn first_of(&self, up: u32) -> usize
         requires { up < self.now.frame.height }
         ensures value { result ≡ up * stride self.now.frame.width }

@@ -17,6 +17,7 @@ pub(crate) fn first_column(word: u32) -> u32
 }
 
 /// The word without the bit of column 0.
+#[tactic(auto, using(crate::proofs::Tails::lowest_gone, crate::proofs::Tails::lowest_rest))]
 fn without_lowest(word: u32) -> u32
     ensures first { bit_at result 0 ≡ 0 }
     ensures rest { (i : ℕ) → 0 < i → i < 32 → bit_at result i ≡ bit_at word i }
@@ -37,6 +38,7 @@ fn without_first(word: u32) -> u32
 }
 
 /// The word with the bits from a column on all set, or all 0.
+#[tactic(auto, using(crate::proofs::Tails::set_before, crate::proofs::Tails::set_from, crate::proofs::Tails::clear_before, crate::proofs::Tails::clear_from))]
 fn with_rest(word: u32, column: u32, set: bool) -> u32
     requires { column < 32 }
     ensures before { (i : ℕ) → i < column → bit_at result (31 - i) ≡ bit_at word (31 - i) }
@@ -47,15 +49,18 @@ fn with_rest(word: u32, column: u32, set: bool) -> u32
     if set { all } else { all ^ rest }
 }
 
-/// The number at a place, which becomes 0.
-fn taken(diff: &mut [i32], at: usize) -> i32
-    requires { at < length diff.old }
-    ensures value { result ≡ get_or diff.old at (pos 0) }
-    ensures here { get_or diff.new at (pos 0) ≡ pos 0 }
-    ensures others { (k : ℕ) → k ≢ at → get_or diff.new k (pos 0) ≡ get_or diff.old k (pos 0) }
+/// The number of a column of the 32 from one on, which becomes 0. The loop over columns finds the slice of these 32 once.
+#[inline(always)]
+fn taken(diff: &mut [i32], from: usize, column: u32) -> i32
+    requires inside { from + 32 ≤ length diff.old }
+    requires column { column < 32 }
+    ensures value { result ≡ get_or diff.old (from + column) (pos 0) }
+    ensures here { get_or diff.new (from + column) (pos 0) ≡ pos 0 }
+    ensures others { (k : ℕ) → k ≢ from + column → get_or diff.new k (pos 0) ≡ get_or diff.old k (pos 0) }
 {
-    let number = diff[at];
-    diff[at] = 0;
+    let numbers = &mut diff[from..from + 32];
+    let number = numbers[column as usize];
+    numbers[column as usize] = 0;
     number
 }
 
@@ -73,13 +78,13 @@ fn settle_word(diff: &mut [i32], touched: u32, from: usize, count: &mut i32) -> 
     ensures zeros { (i : ℕ) → i < 32 → get_or diff.new (from + i) (pos 0) ≡ pos 0 }
     ensures others { (k : ℕ) → (k < from) ⊎ (from + 32 ≤ k) → get_or diff.new k (pos 0) ≡ get_or diff.old k (pos 0) }
 {
-    let mut sum = *count + taken(diff, from);
+    let mut sum = *count + taken(diff, from, 0);
     let mut bits = with_rest(0, 0, sum != 0);
     let mut left = without_lowest(touched);
     // The touched columns before those left are settled; from the last of them on, all bits are that of the count.
     'columns: while left != 0 {
         let column = first_column(left);
-        sum += taken(diff, from + column as usize);
+        sum += taken(diff, from, column);
         bits = with_rest(bits, column, sum != 0);
         left = without_first(left);
     }

@@ -114,6 +114,7 @@ fn is_counted(right: bool, areas: Weights) -> bool
 
 /// Whether a column counts.
 #[inline(always)]
+#[tactic(auto, using(crate::proofs::Walks::counts_at))]
 fn counts(piece: &Piece, right: bool, spot: Spot, strip: Strip) -> bool
     requires slanted { piece.now.a.y ≢ piece.now.c.y }
     requires at { IsSpot spot piece.now (place_at strip 0) }
@@ -192,8 +193,17 @@ fn to_end(piece: &Piece, arc: Arc, spot: Spot, strip: Strip) -> Spot
     here
 }
 
-/// The column, if it is in the strip and on a bent arc. No other can be.
+/// Whether the gap of these areas is not 0, as its low 64 bits show.
 #[inline(always)]
+fn is_off(areas: Weights) -> bool
+    ensures { IsTrue result → gap_of areas.u areas.v areas.w ≢ pos 0 }
+{
+    (4 * areas.u).wrapping_mul(areas.w) != areas.v.wrapping_mul(areas.v)
+}
+
+/// The column, if it is in the strip and on a bent arc. No other can be. Few gaps are 0, so the gap is looked at first.
+#[inline(always)]
+#[tactic(auto, using(crate::proofs::Contacts::none_on, crate::proofs::Walks::gap_at_column))]
 fn on_column(piece: &Piece, spot: Spot, strip: Strip, tally: &mut Tally) -> OnRow
     requires slanted { piece.now.a.y ≢ piece.now.c.y }
     requires at { IsSpot spot piece.now (place_at strip 0) }
@@ -202,13 +212,13 @@ fn on_column(piece: &Piece, spot: Spot, strip: Strip, tally: &mut Tally) -> OnRo
     ensures on { IsOnStrip (span_of piece.now) strip result }
     ensures count { tally.new.count ≤ tally.old.count + 1 }
 {
+    if is_off(spot.areas) {
+        return OnRow::None;
+    }
     if spot.k < strip.start {
         return OnRow::None;
     }
     if spot.k >= strip.stop {
-        return OnRow::None;
-    }
-    if curve_gap(spot.areas) != 0 {
         return OnRow::None;
     }
     on_one(piece, strip, spot.k, tally)

@@ -1,4 +1,4 @@
-use Rattle.std.proofs.Common.{◌≡◌, ℕ, ◌∙◌, ◌+◌, ℤ, pos, ◌+ℤ◌, get_or, ap, sym, arith, w32, to_z, of_z, FitsSigned}
+use Rattle.std.proofs.Common.{◌≡◌, ◌∙◌, ◌+◌, ℤ, pos, ◌+ℤ◌, get_or, ap, sym, arith, w32, to_z, of_z, FitsSigned}
 use Rattle.fx_fixed.proofs.Linear.{signed_linear}
 use Rattle.fx_rows.proofs.Changes.{settling_first, settling_more, count_to, count_at, settled, sum_zero, sum_next}
 use Rattle.fx_rows.proofs.Changes.{emptying_first, emptying_more}
@@ -11,28 +11,24 @@ pub overflow_add-sum : goal.overflow_add-sum
 overflow_add-sum c =
     let z = sum_zero c.args.diff.now c.args.from in
     let o = sum_next c.args.diff.now c.args.from 0 in
-    let e : c.args.from + 0 ≡ c.args.from = omega arith in
-    let d = ap (λ (k : ℕ). get_or c.args.diff.now k (pos 0)) e in
     let a = c.requires.small 0 (omega arith) in
     let b = c.requires.small 1 (omega arith) in
     let t = c.taken.ensures.value in
-    omega (arith, signed_linear, z, o, d, a, b, t)
+    omega (arith, signed_linear, z, o, a, b, t)
 
 pub columns-init : goal.columns-init
 columns-init c =
     let z = sum_zero c.args.diff.now c.args.from in
     let o = sum_next c.args.diff.now c.args.from 0 in
-    let e : c.args.from + 0 ≡ c.args.from = omega arith in
-    let d = ap (λ (k : ℕ). get_or c.args.diff.now k (pos 0)) e in
     let a = c.requires.small 0 (omega arith) in
     let b = c.requires.small 1 (omega arith) in
     let t = c.taken.ensures.value in
     let raw : ℤ = to_z w32 (of_z w32 c.args.count.now) +ℤ to_z w32 (of_z w32 c.taken.result) in
     let new : ℤ = to_z w32 (of_z w32 raw) in
-    let sum : new ≡ c.args.count.now +ℤ get_or c.args.diff.now c.args.from (pos 0) =
-    omega (arith, signed_linear, z, o, d, a, b, t) in
-    let fits : FitsSigned w32 raw = omega (arith, signed_linear, z, o, d, a, b, t) in
-    let same : raw ≡ new = omega (arith, signed_linear, z, o, d, a, b, t) in
+    let sum : new ≡ c.args.count.now +ℤ get_or c.args.diff.now (c.args.from + 0) (pos 0) =
+    omega (arith, signed_linear, z, o, a, b, t) in
+    let fits : FitsSigned w32 raw = omega (arith, signed_linear, z, o, a, b, t) in
+    let same : raw ≡ new = omega (arith, signed_linear, z, o, a, b, t) in
     let set = bit_is raw fits ∙ ap (λ (z : ℤ). count_bit z 0) same in
     let w = c.without_lowest-left.ensures in
     record {
