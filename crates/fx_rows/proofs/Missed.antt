@@ -1,9 +1,9 @@
 -- At a height that a piece lies above or below it adds nothing (`missed`), and it meets no segment there (`row_unmet`).
 -- Serves the rows that a piece cannot touch.
 use Rattle.std.proofs.Common.{◌≡◌, ◌⊎◌, inl, inr, refl, sym, ap, ◌∙◌, ℕ, ℤ, pos, negsuc, ◌+ℤ◌, ◌-ℤ◌, ◌*ℤ◌, neg_ℤ, ◌≤ℤ◌, ◌<ℤ◌}
-use Rattle.std.proofs.Common.{Option, Some, None, List, [], ◌∷◌, arith}
+use Rattle.std.proofs.Common.{Option, Some, None, [], ◌∷◌, arith}
 use Rattle.std.proofs.lemmas.Int.{ints}
-use Rattle.fx_fixed.specs.Polynomial.{var, num, minus, ◌⊞◌, ◌⊠◌, ◌⊟◌}
+use Rattle.fx_fixed.specs.Polynomial.{Expr, var, num, minus, ◌⊞◌, ◌⊠◌, ◌⊟◌}
 use Rattle.fx_fixed.proofs.Linear.{signed, signed_linear}
 use Rattle.fx_fixed.proofs.Order.{below_or_not_ℤ}
 use Rattle.fx_fixed.proofs.Ring.{ring}
@@ -15,7 +15,7 @@ use Rattle.fx_winding.specs.Winding.{IsOn, IsOnPart}
 use Rattle.fx_winding.proofs.Beside.{under_off, over_off, total_above, weights_total}
 use Rattle.fx_winding.proofs.Crossings.{crossing_level, crossing_under}
 use Rattle.fx_winding.proofs.Meeting.{above_not_met, below_not_met}
-use Rattle.fx_winding.proofs.Regions.{IsInRegion, region_cases, region_out}
+use Rattle.fx_winding.proofs.Regions.{region_cases, region_out}
 use Rattle.fx_winding.proofs.Triangle.{balance_y, not_below_range, not_above_range}
 use Rattle.fx_rows.specs.inner.Heights.{TurnsBefore, IsMissed}
 use Rattle.fx_rows.proofs.Signs.{above_or_zero}
@@ -71,15 +71,17 @@ other_sign u v w a b c z =
     (minus (var 0 ⊠ var 3 ⊞ var 1 ⊠ var 4 ⊞ var 2 ⊠ var 5)) tt ∙ ap neg_ℤ z
 
 -- heights, as distances from the one before which the arc turns
+abbrev turn_expr : Expr
+turn_expr = (var 0 ⊠ var 2 ⊟ var 1 ⊠ var 1) ⊟ var 3 ⊠ (var 0 ⊟ num (pos 2) ⊠ var 1 ⊞ var 2)
+
 from_turn : (a b c y : ℤ) → ¬ (IsBeforeTurn a b c y) → ((b -ℤ y) *ℤ (b -ℤ y)) <ℤ ((a -ℤ y) *ℤ (c -ℤ y))
-from_turn a b c y n = elim (below_or_not_ℤ (y *ℤ (a -ℤ pos 2 *ℤ b +ℤ c)) (a *ℤ c -ℤ b *ℤ b)) [
-  | inr h ↦ absurd (n h)
-  | inl h ↦
-      let e : (a -ℤ y) *ℤ (c -ℤ y) -ℤ (b -ℤ y) *ℤ (b -ℤ y) ≡ (a *ℤ c -ℤ b *ℤ b) -ℤ y *ℤ (a -ℤ pos 2 *ℤ b +ℤ c) =
-      ring (a ∷ b ∷ c ∷ y ∷ []) ((var 0 ⊟ var 3) ⊠ (var 2 ⊟ var 3) ⊟ (var 1 ⊟ var 3) ⊠ (var 1 ⊟ var 3))
-      ((var 0 ⊠ var 2 ⊟ var 1 ⊠ var 1) ⊟ var 3 ⊠ (var 0 ⊟ num (pos 2) ⊠ var 1 ⊞ var 2)) tt in
-      omega (arith, signed_linear, h, e)
-]
+from_turn a b c y n =
+    let e : (a -ℤ y) *ℤ (c -ℤ y) -ℤ (b -ℤ y) *ℤ (b -ℤ y) ≡ (a *ℤ c -ℤ b *ℤ b) -ℤ y *ℤ (a -ℤ pos 2 *ℤ b +ℤ c) =
+    ring (a ∷ b ∷ c ∷ y ∷ []) ((var 0 ⊟ var 3) ⊠ (var 2 ⊟ var 3) ⊟ (var 1 ⊟ var 3) ⊠ (var 1 ⊟ var 3)) turn_expr tt in
+    elim (below_or_not_ℤ (y *ℤ (a -ℤ pos 2 *ℤ b +ℤ c)) (a *ℤ c -ℤ b *ℤ b)) [
+      | inr h ↦ absurd (n h)
+      | inl h ↦ omega (arith, signed_linear, h, e)
+    ]
 
 -- a height that is nearer to the control point than the arc comes to that, by the distances of its ends
 abbrev pub IsOff : ℤ → ℤ → ℤ → Type 0
@@ -91,11 +93,10 @@ turns_low a b c y n ends off l h = by (y -ℤ b) refl
     by : (z : ℤ) → z ≡ y -ℤ b → ⊥
     by (negsuc k) e = not_below_range a b c y (omega (arith, ints, e)) (ends.0, ends.1, h)
     by (pos k) e =
-        let f : (a *ℤ c -ℤ b *ℤ b) -ℤ y *ℤ (a -ℤ pos 2 *ℤ b +ℤ c) ≡ (a -ℤ b) *ℤ (c -ℤ b) -ℤ pos k *ℤ ((a -ℤ b) +ℤ (c -ℤ b)) =
-        ring (a ∷ b ∷ c ∷ y ∷ []) ((var 0 ⊠ var 2 ⊟ var 1 ⊠ var 1) ⊟ var 3 ⊠ (var 0 ⊟ num (pos 2) ⊠ var 1 ⊞ var 2))
-        ((var 0 ⊟ var 1) ⊠ (var 2 ⊟ var 1) ⊟ (var 3 ⊟ var 1) ⊠ ((var 0 ⊟ var 1) ⊞ (var 2 ⊟ var 1))) tt ∙
-        (λ i. (a -ℤ b) *ℤ (c -ℤ b) -ℤ sym e i *ℤ ((a -ℤ b) +ℤ (c -ℤ b))) in
-        let o = off k (omega (arith, signed_linear, e, l)) in omega (arith, signed_linear, f, o, h)
+        let f = ring (a ∷ b ∷ c ∷ y ∷ []) turn_expr
+        ((var 0 ⊟ var 1) ⊠ (var 2 ⊟ var 1) ⊟ (var 3 ⊟ var 1) ⊠ ((var 0 ⊟ var 1) ⊞ (var 2 ⊟ var 1))) tt in
+        let o = off k (omega (arith, signed_linear, e, l)) in
+        let g = ap (λ (z : ℤ). z *ℤ ((a -ℤ b) +ℤ (c -ℤ b))) e in omega (arith, signed_linear, f, o, g, h)
 
 pub turns_high : (a b c y n : ℤ) → (a <ℤ b) × (c <ℤ b) → IsOff (b -ℤ a) (b -ℤ c) n → (b -ℤ n) <ℤ y → ¬ (IsBeforeTurn a b c y)
 turns_high a b c y n ends off l h = by (b -ℤ y) refl
@@ -103,43 +104,35 @@ turns_high a b c y n ends off l h = by (b -ℤ y) refl
     by : (z : ℤ) → z ≡ b -ℤ y → ⊥
     by (negsuc k) e = not_above_range a b c y (omega (arith, ints, e)) (ends.0, ends.1, h)
     by (pos k) e =
-        let f : (a *ℤ c -ℤ b *ℤ b) -ℤ y *ℤ (a -ℤ pos 2 *ℤ b +ℤ c) ≡ (b -ℤ a) *ℤ (b -ℤ c) -ℤ pos k *ℤ ((b -ℤ a) +ℤ (b -ℤ c)) =
-        ring (a ∷ b ∷ c ∷ y ∷ []) ((var 0 ⊠ var 2 ⊟ var 1 ⊠ var 1) ⊟ var 3 ⊠ (var 0 ⊟ num (pos 2) ⊠ var 1 ⊞ var 2))
-        ((var 1 ⊟ var 0) ⊠ (var 1 ⊟ var 2) ⊟ (var 1 ⊟ var 3) ⊠ ((var 1 ⊟ var 0) ⊞ (var 1 ⊟ var 2))) tt ∙
-        (λ i. (b -ℤ a) *ℤ (b -ℤ c) -ℤ sym e i *ℤ ((b -ℤ a) +ℤ (b -ℤ c))) in
-        let o = off k (omega (arith, signed_linear, e, l)) in omega (arith, signed_linear, f, o, h)
+        let f = ring (a ∷ b ∷ c ∷ y ∷ []) turn_expr
+        ((var 1 ⊟ var 0) ⊠ (var 1 ⊟ var 2) ⊟ (var 1 ⊟ var 3) ⊠ ((var 1 ⊟ var 0) ⊞ (var 1 ⊟ var 2))) tt in
+        let o = off k (omega (arith, signed_linear, e, l)) in
+        let g = ap (λ (z : ℤ). z *ℤ ((b -ℤ a) +ℤ (b -ℤ c))) e in omega (arith, signed_linear, f, o, g, h)
 
 -- ---- an arc that turns before it comes to the height of p, which is beyond both its ends
 abbrev AreBeyond : ℤ → ℤ → ℤ → Type 0
 AreBeyond a c y = ((y <ℤ a) × (y <ℤ c)) ⊎ ((a <ℤ y) × (c <ℤ y))
 
+inside : (a b c p : Place) → ¬ (IsBeforeTurn a.y b.y c.y p.y) → pos 0 <ℤ (weight_a a b c p *ℤ weight_c a b c p)
+    → pos 0 ≤ℤ gap_of (weight_a a b c p) (weight_b a b c p) (weight_c a b c p) → ⊥
+inside a b c p n some g = no_gap (weight_a a b c p) (weight_b a b c p) (weight_c a b c p) (a.y -ℤ p.y) (b.y -ℤ p.y) (c.y -ℤ p.y)
+    some g (from_turn a.y b.y c.y p.y n) (balance_y (sign (area a b c)) a b c p)
+
 turned_region : (a b c p : Place) → ¬ (IsBeforeTurn a.y b.y c.y p.y) → region_part a (Some b) c p ≡ pos 0
-turned_region a b c p n = by (region_cases a b c p)
-  where
-    u : ℤ
-    u = weight_a a b c p
-
-    v : ℤ
-    v = weight_b a b c p
-
-    w : ℤ
-    w = weight_c a b c p
-
-    inside : pos 0 <ℤ (u *ℤ w) → pos 0 ≤ℤ gap_of u v w → ⊥
-    inside some g = no_gap u v w (a.y -ℤ p.y) (b.y -ℤ p.y) (c.y -ℤ p.y) some g (from_turn a.y b.y c.y p.y n)
-        (balance_y (sign (area a b c)) a b c p)
-
-    by : IsInRegion a b c p ⊎ (¬ (IsInRegion a b c p)) → region_part a (Some b) c p ≡ pos 0
-    by (inl (inl (o, l, m, g))) = absurd (inside (product_above_zero u w o m) (omega (arith, signed_linear, g)))
-    by (inl (inr (z, o, m, r))) =
-        let some = product_above_zero u w o m in let none : v *ℤ v ≡ pos 0 = λ i. z i *ℤ z i in
-        absurd (inside some (gap_from (u *ℤ w) (v *ℤ v) some none))
-    by (inr out) = region_out a b c p out
+turned_region a b c p n = elim (region_cases a b c p) [
+  | inl (inl (u, v, w, g)) ↦
+      absurd (inside a b c p n (product_above_zero (weight_a a b c p) (weight_c a b c p) u w) (omega (arith, signed_linear, g)))
+  | inl (inr (z, u, w, r)) ↦
+      let some = product_above_zero (weight_a a b c p) (weight_c a b c p) u w in
+      absurd (inside a b c p n some (gap_from (weight_a a b c p *ℤ weight_c a b c p) (weight_b a b c p *ℤ weight_b a b c p) some
+      (λ i. z i *ℤ z i)))
+  | inr out ↦ region_out a b c p out
+]
 
 turned_on : (a b c p : Place) → AreBeyond a.y c.y p.y → ¬ (IsBeforeTurn a.y b.y c.y p.y) → ¬ (IsOnPart a (Some b) c p)
 turned_on a b c p ends n (inr on) =
     let low = on.range_y.low in let high = on.range_y.high in grind (arith, signed_linear, ends, n, low, high)
-turned_on a b c p ends n (inl on) = by (above_or_zero v on.on_arc.1)
+turned_on a b c p ends n (inl on) = by (above_or_zero v on.on_arc.1) ends
   where
     u : ℤ
     u = weight_a a b c p
@@ -156,19 +149,15 @@ turned_on a b c p ends n (inl on) = by (above_or_zero v on.on_arc.1)
     total : pos 0 <ℤ (u +ℤ v +ℤ w)
     total = rw (weights_total a b c p) (total_above (area a b c) on.bent)
 
-    at_end : v ≡ pos 0 → AreBeyond a.y c.y p.y → ⊥
-    at_end z (inl (h, k)) = no_chord u v w (a.y -ℤ p.y) (b.y -ℤ p.y) (c.y -ℤ p.y) on.on_arc.0 z on.on_arc.2 total
+    by : (pos 0 <ℤ v) ⊎ (v ≡ pos 0) → AreBeyond a.y c.y p.y → ⊥
+    by (inl l) beyond =
+        let g = on.on_arc.3 in
+        inside a b c p n (product_from (u *ℤ w) (v *ℤ v) g (product_above_zero v v l l)) (omega (arith, signed_linear, g))
+    by (inr z) (inl (h, k)) = no_chord u v w (a.y -ℤ p.y) (b.y -ℤ p.y) (c.y -ℤ p.y) on.on_arc.0 z on.on_arc.2 total
         (omega (arith, signed_linear, h)) (omega (arith, signed_linear, k)) balance
-    at_end z (inr (h, k)) = no_chord u v w (neg_ℤ (a.y -ℤ p.y)) (neg_ℤ (b.y -ℤ p.y)) (neg_ℤ (c.y -ℤ p.y)) on.on_arc.0 z
+    by (inr z) (inr (h, k)) = no_chord u v w (neg_ℤ (a.y -ℤ p.y)) (neg_ℤ (b.y -ℤ p.y)) (neg_ℤ (c.y -ℤ p.y)) on.on_arc.0 z
         on.on_arc.2 total (omega (arith, signed_linear, h)) (omega (arith, signed_linear, k))
         (other_sign u v w (a.y -ℤ p.y) (b.y -ℤ p.y) (c.y -ℤ p.y) balance)
-
-    by : (pos 0 <ℤ v) ⊎ (v ≡ pos 0) → ⊥
-    by (inr z) = at_end z ends
-    by (inl l) =
-        let square = product_above_zero v v l l in let g = on.on_arc.3 in
-        no_gap u v w (a.y -ℤ p.y) (b.y -ℤ p.y) (c.y -ℤ p.y) (product_from (u *ℤ w) (v *ℤ v) g square)
-        (omega (arith, signed_linear, g)) (from_turn a.y b.y c.y p.y n) balance
 
 turned_part : (a : Place) (b : Option Place) (c p : Place) → AreBeyond a.y c.y p.y → TurnsBefore a b c p.y
     → (region_part a b c p ≡ pos 0) × (¬ (IsOnPart a b c p))
@@ -189,22 +178,16 @@ missed p s (inr (inr (h, k, n))) = let part = turned_part s.a s.b s.c p (inr (h,
     (crossing_under s.a.y s.c.y p.y (area s.a s.c p) (h, k), part.0, part.1)
 
 turned_unmet : (s : Span) (i j row : ℤ) → AreBeyond s.a.y s.c.y (pos 128 *ℤ row +ℤ pos 64)
-    → TurnsBefore s.a s.b s.c (pos 128 *ℤ row +ℤ pos 64) → ¬ (IsMet (centre i row) (centre j row) s)
-turned_unmet s i j row ends n (inl w) = let e = w.level in absurd (omega (arith, signed_linear, ends, e))
-turned_unmet s i j row ends n (inr (inl w)) = let e = w.level in absurd (omega (arith, signed_linear, ends, e))
-turned_unmet s i j row ends n (inr (inr (inr tip))) = no_tip s.a s.b s.c (centre i row) (centre j row) ends n tip
-turned_unmet s i j row ends n (inr (inr (inl t))) =
-    let is = turned_missed s row ends n in
-    let x = missed (centre i row) s is in let y = missed (centre j row) s is in
-    t (λ k. (x.0 ∙ sym y.0) k +ℤ (x.1 ∙ sym y.1) k)
-  where
-    turned_missed : (s : Span) (row : ℤ) → AreBeyond s.a.y s.c.y (pos 128 *ℤ row +ℤ pos 64)
-        → TurnsBefore s.a s.b s.c (pos 128 *ℤ row +ℤ pos 64) → IsMissed s (pos 128 *ℤ row +ℤ pos 64)
-    turned_missed s row (inl (h, k)) n = inl (inr (h, k, n))
-    turned_missed s row (inr (h, k)) n = inr (inr (h, k, n))
+    → TurnsBefore s.a s.b s.c (pos 128 *ℤ row +ℤ pos 64) → IsMissed s (pos 128 *ℤ row +ℤ pos 64)
+    → ¬ (IsMet (centre i row) (centre j row) s)
+turned_unmet s i j row ends n is (inl w) = let e = w.level in absurd (omega (arith, signed_linear, ends, e))
+turned_unmet s i j row ends n is (inr (inl w)) = let e = w.level in absurd (omega (arith, signed_linear, ends, e))
+turned_unmet s i j row ends n is (inr (inr (inr tip))) = no_tip s.a s.b s.c (centre i row) (centre j row) ends n tip
+turned_unmet s i j row ends n is (inr (inr (inl t))) =
+    let x = missed (centre i row) s is in let y = missed (centre j row) s is in t (λ k. (x.0 ∙ sym y.0) k +ℤ (x.1 ∙ sym y.1) k)
 
 pub row_unmet : (s : Span) (i j row : ℤ) → IsMissed s (pos 128 *ℤ row +ℤ pos 64) → ¬ (IsMet (centre i row) (centre j row) s)
-row_unmet s i j row (inl (inl h)) m = above_not_met (centre i row) (centre j row) s refl h m
-row_unmet s i j row (inr (inl h)) m = below_not_met (centre i row) (centre j row) s refl h m
-row_unmet s i j row (inl (inr (h, k, n))) m = turned_unmet s i j row (inl (h, k)) n m
-row_unmet s i j row (inr (inr (h, k, n))) m = turned_unmet s i j row (inr (h, k)) n m
+row_unmet s i j row (inl (inl h)) = above_not_met (centre i row) (centre j row) s refl h
+row_unmet s i j row (inr (inl h)) = below_not_met (centre i row) (centre j row) s refl h
+row_unmet s i j row (inl (inr (h, k, n))) = turned_unmet s i j row (inl (h, k)) n (inl (inr (h, k, n)))
+row_unmet s i j row (inr (inr (h, k, n))) = turned_unmet s i j row (inr (h, k)) n (inr (inr (h, k, n)))

@@ -1,5 +1,5 @@
 -- Pieces in a band of rows.
-use Rattle.std.specs.Prelude.{◌⊎◌, ℕ, ◌-◌, ◌≤◌, ◌<◌, List, pos, ◌+ℤ◌, ◌≤ℤ◌, ◌<ℤ◌}
+use Rattle.std.specs.Prelude.{◌⊎◌, ℕ, ◌-◌, ◌≤◌, ◌<◌, List, pos, ◌+ℤ◌, ◌≤ℤ◌}
 use Rattle.fx_winding.specs.declared.frame.Frame.{Frame}
 use Rattle.fx_winding.specs.Winding.{Span}
 use Rattle.fx_rows.specs.declared.across.Across.{Across}

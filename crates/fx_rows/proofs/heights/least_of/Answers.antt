@@ -1,4 +1,4 @@
-use Rattle.std.proofs.Common.{◌≡◌, ℤ, ◌-ℤ◌, subst, arith, w64, to_z, of_z}
+use Rattle.std.proofs.Common.{◌≡◌, ◌-ℤ◌, subst, arith, w64, to_z, of_z}
 use Rattle.fx_fixed.proofs.Linear.{signed_linear}
 use Rattle.fx_rows.proofs.Missed.{IsOff, turns_low}
 use Rattle.fx_rows.proofs.heights.least_of.Goals as goal
