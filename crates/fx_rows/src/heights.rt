@@ -161,15 +161,17 @@ fn greatest_of(piece: &Piece, b: Point) -> i32
 }
 
 /// The first row of the plane that a piece can touch.
+#[inline(always)]
 fn low_row(piece: &Piece) -> i32
     ensures size { IsWithin (2 ^ 23) result }
     ensures under { (row : ℤ) → row <ℤ result → IsAbove (span_of piece.now) (pos 128 *ℤ row +ℤ pos 64) }
 {
-    let ends = first_from(piece.a.y.min(piece.c.y));
+    let y = piece.a.y.min(piece.c.y);
+    let ends = first_from(y);
     match piece.b {
         None => ends,
         Some(b) => {
-            if ends <= first_from(b.y) {
+            if y <= b.y {
                 return ends;
             }
             ends.min(first_from(least_of(piece, b)))
@@ -178,15 +180,17 @@ fn low_row(piece: &Piece) -> i32
 }
 
 /// The first row of the plane that is above a piece.
+#[inline(always)]
 fn past_row(piece: &Piece) -> i32
     ensures size { IsWithin (2 ^ 23) result }
     ensures over { (row : ℤ) → result ≤ℤ row → IsBelow (span_of piece.now) (pos 128 *ℤ row +ℤ pos 64) }
 {
-    let ends = first_from(piece.a.y.max(piece.c.y) + 1);
+    let y = piece.a.y.max(piece.c.y);
+    let ends = first_from(y + 1);
     match piece.b {
         None => ends,
         Some(b) => {
-            if first_from(b.y + 1) <= ends {
+            if b.y <= y {
                 return ends;
             }
             ends.max(first_from(greatest_of(piece, b) + 1))
@@ -195,6 +199,7 @@ fn past_row(piece: &Piece) -> i32
 }
 
 /// The rows of a frame that a piece can touch.
+#[inline(always)]
 pub(crate) fn rows_met(piece: &Piece, frame: Frame) -> RowRange
     ensures within { result.end ≤ frame.height }
     ensures below { (r : ℕ) → r < result.first → IsAbove (span_of piece.now) (height_of frame r) }
