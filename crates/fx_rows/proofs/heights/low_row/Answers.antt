@@ -7,8 +7,11 @@ pub returns-then-y-b-clause-under : goal.returns-then-y-b-clause-under
 returns-then-y-b-clause-under c = λ row l.
     let e = c.first_from-ends.ensures.size in let here = c.if-y-b.true in
     let x = c.first_from-ends.ensures.before row (omega (arith, signed_linear, l, e)) in
-    rw c.in-Some.is (inl (omega (arith, signed_linear, clamps, x), omega (arith, signed_linear, clamps, x, here),
-    omega (arith, signed_linear, clamps, x)))
+    rw c.in-Some.is (inl (
+      omega (arith, signed_linear, clamps, x),
+      omega (arith, signed_linear, clamps, x, here),
+      omega (arith, signed_linear, clamps, x),
+    ))
 
 pub returns-else-y-b-clause-size : goal.returns-else-y-b-clause-size
 returns-else-y-b-clause-size c =
@@ -20,5 +23,8 @@ returns-else-y-b-clause-under c = λ row l.
     let e = c.first_from-ends.ensures.size in let f = c.first_from.ensures.size in let size = c.least_of.ensures.size in
     let x = c.first_from-ends.ensures.before row (omega (arith, signed_linear, clamps, l, e, f)) in
     let y = c.first_from.ensures.before row (omega (arith, signed_linear, clamps, l, e, f)) in
-    rw c.in-Some.is (inr (omega (arith, signed_linear, clamps, x), omega (arith, signed_linear, clamps, x),
-    c.least_of.ensures.turns _ (omega (arith, signed_linear, y, size))))
+    rw c.in-Some.is (inr (
+      omega (arith, signed_linear, clamps, x),
+      omega (arith, signed_linear, clamps, x),
+      c.least_of.ensures.turns _ (omega (arith, signed_linear, y, size)),
+    ))

@@ -13,8 +13,11 @@ pub returns-then-b-y-clause-over : goal.returns-then-b-y-clause-over
 returns-then-b-y-clause-over c = λ row l.
     let e = c.first_from-ends.ensures.size in let here = c.if-b-y.true in
     let x = c.first_from-ends.ensures.from row (omega (arith, signed_linear, l, e)) in
-    rw c.in-Some.is (inl (omega (arith, signed_linear, clamps, x), omega (arith, signed_linear, clamps, x, here),
-    omega (arith, signed_linear, clamps, x)))
+    rw c.in-Some.is (inl (
+      omega (arith, signed_linear, clamps, x),
+      omega (arith, signed_linear, clamps, x, here),
+      omega (arith, signed_linear, clamps, x),
+    ))
 
 pub returns-else-b-y-clause-size : goal.returns-else-b-y-clause-size
 returns-else-b-y-clause-size c =
@@ -26,5 +29,8 @@ returns-else-b-y-clause-over c = λ row l.
     let e = c.first_from-ends.ensures.size in let f = c.first_from.ensures.size in let size = c.greatest_of.ensures.size in
     let x = c.first_from-ends.ensures.from row (omega (arith, signed_linear, clamps, l, e, f)) in
     let y = c.first_from.ensures.from row (omega (arith, signed_linear, clamps, l, e, f)) in
-    rw c.in-Some.is (inr (omega (arith, signed_linear, clamps, x), omega (arith, signed_linear, clamps, x),
-    c.greatest_of.ensures.turns _ (omega (arith, signed_linear, y, size))))
+    rw c.in-Some.is (inr (
+      omega (arith, signed_linear, clamps, x),
+      omega (arith, signed_linear, clamps, x),
+      c.greatest_of.ensures.turns _ (omega (arith, signed_linear, y, size)),
+    ))
