@@ -15,7 +15,7 @@ use Rattle.fx_rows.specs.inner.Sums.{AreWithin, before}
 use Rattle.fx_rows.proofs.Sums.{before_more}
 use Rattle.fx_rows.specs.inner.Cuts.{IsAdded}
 use Rattle.fx_rows.proofs.Counted.{Added}
-use Rattle.fx_rows.proofs.Parts.{missed}
+use Rattle.fx_rows.proofs.Missed.{missed}
 use Rattle.fx_rows.specs.inner.Bands.{stride, turns_at, mark_at, IsKept, IsRowAdded, IsBandAdded, IsCounted}
 use Rattle.fx_rows.specs.inner.Telling.{with_first}
 

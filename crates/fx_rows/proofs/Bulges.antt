@@ -9,24 +9,23 @@ use Rattle.fx_fixed.proofs.Ring.{ring}
 use Rattle.fx_winding.specs.Area.{Place}
 use Rattle.fx_winding.specs.Frames.{IsFrom}
 use Rattle.fx_winding.specs.Meets.{turn, slope, IsWithinRow, IsTip, IsTipPart, IsMet}
-use Rattle.fx_winding.specs.Outside.{HasAll}
 use Rattle.fx_winding.specs.Winding.{Span, IsOn, crossing, region, centre}
 use Rattle.fx_winding.specs.declared.frame.Frame.{Frame}
 use Rattle.fx_winding.proofs.Aside.{left_not_met, right_not_met}
-use Rattle.fx_winding.proofs.Meeting.{above_not_met, below_not_met}
 use Rattle.fx_winding.proofs.Places.{clash}
 use Rattle.fx_winding.proofs.Triangle.{area_expr}
 use Rattle.fx_winding.specs.Bitmaps.{word_bit}
 use Rattle.fx_winding.specs.Turned.{turned_span}
-use Rattle.fx_winding.specs.Notes.{pixel_number, words_noted, IsNotedAcross, IsNotedUp}
+use Rattle.fx_winding.specs.Notes.{pixel_number, words_noted, IsMetAcross, IsNotedAcross, IsNotedUp}
 use Rattle.fx_rows.specs.inner.Bulging.{HasLine, IsBeyond}
-use Rattle.fx_rows.specs.inner.Heights.{height_of}
+use Rattle.fx_rows.specs.inner.Heights.{height_of, IsAbove, IsBelow, IsMissed}
 use Rattle.fx_rows.specs.declared.heights.Met.{Met}
 use Rattle.fx_rows.specs.inner.Placing.{AreMetIn}
 use Rattle.fx_rows.specs.inner.Points.{AreAcross}
 use Rattle.fx_rows.specs.inner.Sums.{IsInside}
 use Rattle.fx_rows.specs.inner.Told.{AreKept}
 use Rattle.fx_rows.specs.inner.Upward.{column_of}
+use Rattle.fx_rows.proofs.Missed.{row_unmet}
 use Rattle.fx_rows.proofs.Kept.{rows_three}
 use Rattle.fx_rows.proofs.Points.{to_all}
 use Rattle.fx_rows.specs.Parts.{IsRun, IsRowPart}
@@ -242,15 +241,17 @@ pub set_kept : (s : Span) (f : Frame) (row : ℤ) (first step k : ℕ) (a b : Li
 set_kept s f row first step k a b kept h met = kept (first + k * step) (h met)
 
 -- ---- rows and columns of notes
+-- a row that a piece misses
+across_unmet : (s : Span) (f : Frame) (r k : ℕ) → IsMissed s (height_of f r) → ¬ (IsMetAcross s f r k)
+across_unmet s f r k h m = row_unmet s ((f.left -ℤ pos 1) +ℤ pos k) (f.left +ℤ pos k) (f.bottom +ℤ pos r) h m.met
+
 -- the rows of a band that a piece can touch are noted, and it misses the others
 pub missed_across : (s : Span) (f : Frame) (from to : ℕ) (m : Met) (bits : List ℕ) → AreMetIn s f from to m
     → ((r : ℕ) → m.touched.first ≤ r → r < m.touched.end → IsNotedAcross s f bits r) → (r : ℕ) → from ≤ r → r < to
     → IsNotedAcross s f bits r
 missed_across s f from to m bits is h = rows_three (IsNotedAcross s f bits) from m.touched.first m.touched.end to
-    (λ r l o k w met. absurd (above_not_met (left_at f (f.bottom +ℤ pos r) k) (right_at f (f.bottom +ℤ pos r) k) s refl
-    (is.below r l o) met.met)) h
-    (λ r l o k w met. absurd (below_not_met (left_at f (f.bottom +ℤ pos r) k) (right_at f (f.bottom +ℤ pos r) k) s refl
-    (is.above r l o) met.met))
+    (λ r l o k w met. absurd (across_unmet s f r k (inl (is.below r l o)) met)) h
+    (λ r l o k w met. absurd (across_unmet s f r k (inr (is.above r l o)) met))
 
 pub across_set : (s : Span) (f : Frame) (r : ℕ) (bits : List ℕ) → AreSetIn s f r (r * (32 * words_noted f.width)) 1 bits
     → IsNotedAcross s f bits r
@@ -315,14 +316,13 @@ in_kept s f r first step a b kept h k l met = kept (first + k * step) (h k l met
 
 -- the rows that a piece can touch are noted, and it misses the others
 pub all_rows_set : (s : Span) (f : Frame) (from low high to row_step step : ℕ) (bits : List ℕ)
-    → ((r : ℕ) → from ≤ r → r < low → HasAll (λ q. height_of f r <ℤ q.y) s)
-    → ((r : ℕ) → high ≤ r → r < to → HasAll (λ q. q.y <ℤ height_of f r) s)
+    → ((r : ℕ) → from ≤ r → r < low → IsAbove s (height_of f r))
+    → ((r : ℕ) → high ≤ r → r < to → IsBelow s (height_of f r))
     → ((r : ℕ) → low ≤ r → r < high → AreSetIn s f r (r * row_step) step bits)
     → (r : ℕ) → from ≤ r → r < to → AreSetIn s f r (r * row_step) step bits
 all_rows_set s f from low high to row_step step bits below above h = rows_three (λ r. AreSetIn s f r (r * row_step) step bits)
-    from low high to (λ r l m k w met. absurd (above_not_met (left_at f (f.bottom +ℤ pos r) k) (right_at f (f.bottom +ℤ pos r) k) s
-    refl (below r l m) met.met)) h (λ r l m k w met. absurd (below_not_met (left_at f (f.bottom +ℤ pos r) k)
-    (right_at f (f.bottom +ℤ pos r) k) s refl (above r l m) met.met))
+    from low high to (λ r l m k w met. absurd (across_unmet s f r k (inl (below r l m)) met)) h
+    (λ r l m k w met. absurd (across_unmet s f r k (inr (above r l m)) met))
 
 -- ---- two tests, of which the first failed
 pub or_else : {A B : Type 0} (r t : Bool) → r ≡ false → (IsTrue r ↔ A) → (IsTrue t ↔ B) → IsTrue t ↔ (A ⊎ B)

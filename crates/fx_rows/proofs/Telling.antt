@@ -15,7 +15,6 @@ use Rattle.fx_winding.specs.Bitmaps.{word_bit}
 use Rattle.fx_winding.specs.Meets.{turn, IsMet}
 use Rattle.fx_winding.specs.Turned.{turned_span}
 use Rattle.fx_winding.specs.Notes.{AreExact, AreOff, pixel_number, IsMetUp}
-use Rattle.fx_winding.specs.Outside.{HasAll}
 use Rattle.fx_winding.specs.Winding.{Span, IsOn, centre}
 use Rattle.fx_rows.specs.declared.heights.Met.{Met}
 use Rattle.fx_rows.specs.declared.strip.Strip.{Strip}
@@ -24,7 +23,7 @@ use Rattle.fx_rows.specs.inner.Cuts.{IsCut}
 use Rattle.fx_rows.specs.declared.band.Band.{Band}
 use Rattle.fx_rows.specs.declared.heights.RowRange.{RowRange}
 use Rattle.fx_rows.specs.inner.Bands.{stride, IsRowAdded, IsBandAdded}
-use Rattle.fx_rows.specs.inner.Heights.{height_of, IsAtMostEnds, IsAtLeastEnds, AreAmong}
+use Rattle.fx_rows.specs.inner.Heights.{height_of, IsAbove, IsBelow, IsAtMostEnds, IsAtLeastEnds, AreAmong}
 use Rattle.fx_rows.specs.inner.Placing.{AreBetween, AreMet, AreMetIn}
 use Rattle.fx_rows.specs.inner.Points.{IsInner, IsRise}
 use Rattle.fx_rows.specs.inner.Sides.{place_at}
@@ -91,12 +90,12 @@ at_most_ends s foot head value y h l = grind (arith, signed_linear, below_or_not
 at_least_ends : (s : Span) (foot head value y : ℤ) → IsRise s foot head value → head ≤ℤ y → IsAtLeastEnds s y
 at_least_ends s foot head value y h l = grind (arith, signed_linear, below_or_not_ℤ s.a.y s.c.y)
 
--- all points of a piece are above a height, or below it: so are its ends
-above_all : (s : Span) (y : ℤ) → HasAll (λ q. y <ℤ q.y) s → IsAtMostEnds s y
-above_all s y h = omega (arith, signed_linear)
+-- a piece is above a height, or below it: so are its ends
+above_all : (s : Span) (y : ℤ) → IsAbove s y → IsAtMostEnds s y
+above_all s y h = grind (arith, signed_linear)
 
-below_all : (s : Span) (y : ℤ) → HasAll (λ q. q.y <ℤ y) s → IsAtLeastEnds s y
-below_all s y h = omega (arith, signed_linear)
+below_all : (s : Span) (y : ℤ) → IsBelow s y → IsAtLeastEnds s y
+below_all s y h = grind (arith, signed_linear)
 
 rise_inner : (s : Span) (foot head value y : ℤ) → IsRise s foot head value → foot <ℤ y → y <ℤ head → IsInner s.a.y s.c.y y
 rise_inner s foot head value y h l m = grind (arith, signed_linear, below_or_not_ℤ s.a.y s.c.y)
@@ -143,8 +142,8 @@ added_outside T s from low high to old new l e a under over =
 
 -- rows that a piece misses are not between its ends
 pub added_met : (T : ℕ → ℕ → Type 0) (s : Span) (rows : RowRange) (old new : Band) → rows.end ≤ old.frame.height
-    → ((r : ℕ) → r < rows.first → HasAll (λ q. height_of old.frame r <ℤ q.y) s)
-    → ((r : ℕ) → rows.end ≤ r → r < old.frame.height → HasAll (λ q. q.y <ℤ height_of old.frame r) s)
+    → ((r : ℕ) → r < rows.first → IsAbove s (height_of old.frame r))
+    → ((r : ℕ) → rows.end ≤ r → r < old.frame.height → IsBelow s (height_of old.frame r))
     → AreRowsAdded T s rows.first rows.end old new → AreRowsAdded T s 0 old.frame.height old new
 added_met T s rows old new within below above h =
     let f = old.frame in
@@ -155,8 +154,8 @@ added_met T s rows old new within below above h =
     (λ r l m. above_all s (height_of f r) (below r m)) (λ r l m. below_all s (height_of f r) (above r l m))
 
 pub met_around : (s : Span) (f : Frame) (m : Met) → m.touched.end ≤ f.height
-    → ((r : ℕ) → r < m.touched.first → HasAll (λ q. height_of f r <ℤ q.y) s)
-    → ((r : ℕ) → m.touched.end ≤ r → r < f.height → HasAll (λ q. q.y <ℤ height_of f r) s)
+    → ((r : ℕ) → r < m.touched.first → IsAbove s (height_of f r))
+    → ((r : ℕ) → m.touched.end ≤ r → r < f.height → IsBelow s (height_of f r))
     → AreBetween s f m.touched m.inner → AreMet s f m
 met_around s f m within below above h = grind (arith, signed_linear, within, below, above, h, above_all, below_all)
 
@@ -195,9 +194,9 @@ pub met_in_frame : (s : Span) (f g : Frame) (from to : ℕ) (m n : Met) → IsPa
 met_in_frame s f g from to m n part a b c d is = record {
   low = omega (arith, a);
   high = omega (arith, b, is.high, part.height);
-  below = λ r l o. subst (λ y. HasAll (λ q. y <ℤ q.y) s) (at r l) (is.below (r - from) (omega arith) (omega (arith, a, l, o)));
+  below = λ r l o. subst (IsAbove s) (at r l) (is.below (r - from) (omega arith) (omega (arith, a, l, o)));
   above = λ r l o.
-      let k : from ≤ r = omega (arith, b, l) in subst (λ y. HasAll (λ q. q.y <ℤ y) s) (at r k)
+      let k : from ≤ r = omega (arith, b, l) in subst (IsBelow s) (at r k)
       (is.above (r - from) (omega (arith, b, l)) (omega (arith, o, k, part.height)));
   inner = λ r l o.
       let k : from ≤ r = omega (arith, c, l) in subst (IsInner s.a.y s.c.y) (at r k)

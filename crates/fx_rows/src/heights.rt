@@ -1,17 +1,16 @@
 //! The rows of a band that a piece can touch, and those that its chord passes between its ends.
 
-ghost use Rattle.std.specs.Prelude.{◌≡◌, ℕ, ◌+◌, ◌^◌, ◌<◌, ◌≤◌, pos, ◌+ℤ◌, ◌*ℤ◌, ◌<ℤ◌, ◌≤ℤ◌, IsTrue};
+ghost use Rattle.std.specs.Prelude.{◌≡◌, ℕ, ℤ, ◌+◌, ◌^◌, ◌<◌, ◌≤◌, pos, ◌+ℤ◌, ◌*ℤ◌, ◌<ℤ◌, ◌≤ℤ◌, IsTrue};
 ghost use Rattle.fx_fixed.specs.Ranges.{IsWithin};
 ghost use Rattle.fx_winding.specs.Limits.{IsPixelNumber};
-ghost use Rattle.fx_winding.specs.Outside.{HasAll};
-ghost use Rattle.fx_winding.specs.Winding.{span_of};
-ghost use Rattle.fx_rows.specs.inner.Heights.{height_of, IsMissed, AreAmong};
+ghost use Rattle.fx_winding.specs.Winding.{span_of, IsBeforeTurn};
+ghost use Rattle.fx_rows.specs.inner.Heights.{height_of, IsAbove, IsBelow, IsMissed, AreAmong};
 ghost use Rattle.fx_rows.specs.inner.Runs.{IsSplit};
 ghost use Rattle.fx_rows.specs.inner.Telling.{IsPartOf};
 
 use crate::bounded::Rise;
-use crate::narrow::{high_y, low_y};
-use fx_winding::{Frame, Piece, first_from};
+use crate::slope::{WideSlope, wide_below_zero};
+use fx_winding::{Frame, Piece, Point, difference, first_from, wide_product};
 
 /// Rows from `first` on and before `end`, counted from the lowest of a frame.
 #[derive(Clone, Copy)]
@@ -126,15 +125,87 @@ fn rows_in(frame: Frame, low: i32, past: i32) -> RowRange
     }
 }
 
+/// How far an arc stays from its control point, in a direction in which both ends are this far from that.
+fn stays_off(a: i64, c: i64) -> i32
+    requires near { IsWithin (2 ^ 31) a × IsWithin (2 ^ 31) c }
+    requires apart { (pos 0 <ℤ a) × (pos 0 <ℤ c) }
+    ensures size { (pos 0 ≤ℤ result) × (result ≤ℤ pos (2 ^ 24)) }
+    ensures off { (k : ℕ) → pos k <ℤ result → (pos k *ℤ (a +ℤ c)) <ℤ (a *ℤ c) }
+{
+    let slope = WideSlope {
+        start: -wide_product(a, c),
+        step: i128::from(a + c),
+    };
+    wide_below_zero(slope, 1 << 24) as i32
+}
+
+/// The least height that an arc can come to whose control point is below both ends. Few arcs need it, so its code is kept out of
+/// its callers.
+#[inline(never)]
+fn least_of(piece: &Piece, b: Point) -> i32
+    requires { (b.y <ℤ piece.now.a.y) × (b.y <ℤ piece.now.c.y) }
+    ensures size { IsWithin (2 ^ 25) result }
+    ensures turns { (y : ℤ) → y <ℤ result → ¬ (IsBeforeTurn piece.now.a.y b.y piece.now.c.y y) }
+{
+    b.y + stays_off(difference(piece.a.y, b.y), difference(piece.c.y, b.y))
+}
+
+/// The greatest height of one whose control point is above both ends.
+#[inline(never)]
+fn greatest_of(piece: &Piece, b: Point) -> i32
+    requires { (piece.now.a.y <ℤ b.y) × (piece.now.c.y <ℤ b.y) }
+    ensures size { IsWithin (2 ^ 25) result }
+    ensures turns { (y : ℤ) → result <ℤ y → ¬ (IsBeforeTurn piece.now.a.y b.y piece.now.c.y y) }
+{
+    b.y - stays_off(difference(b.y, piece.a.y), difference(b.y, piece.c.y))
+}
+
+/// The first row of the plane that a piece can touch.
+#[inline(always)]
+fn low_row(piece: &Piece) -> i32
+    ensures size { IsWithin (2 ^ 23) result }
+    ensures under { (row : ℤ) → row <ℤ result → IsAbove (span_of piece.now) (pos 128 *ℤ row +ℤ pos 64) }
+{
+    let y = piece.a.y.min(piece.c.y);
+    let ends = first_from(y);
+    match piece.b {
+        None => ends,
+        Some(b) => {
+            if y <= b.y {
+                return ends;
+            }
+            ends.min(first_from(least_of(piece, b)))
+        }
+    }
+}
+
+/// The first row of the plane that is above a piece.
+#[inline(always)]
+fn past_row(piece: &Piece) -> i32
+    ensures size { IsWithin (2 ^ 23) result }
+    ensures over { (row : ℤ) → result ≤ℤ row → IsBelow (span_of piece.now) (pos 128 *ℤ row +ℤ pos 64) }
+{
+    let y = piece.a.y.max(piece.c.y);
+    let ends = first_from(y + 1);
+    match piece.b {
+        None => ends,
+        Some(b) => {
+            if b.y <= y {
+                return ends;
+            }
+            ends.max(first_from(greatest_of(piece, b) + 1))
+        }
+    }
+}
+
 /// The rows of a frame that a piece can touch.
+#[inline(always)]
 pub(crate) fn rows_met(piece: &Piece, frame: Frame) -> RowRange
     ensures within { result.end ≤ frame.height }
-    ensures below { (r : ℕ) → r < result.first → HasAll (λ q. height_of frame r <ℤ q.y) (span_of piece.now) }
-    ensures above { (r : ℕ) → result.end ≤ r → r < frame.height → HasAll (λ q. q.y <ℤ height_of frame r) (span_of piece.now) }
+    ensures below { (r : ℕ) → r < result.first → IsAbove (span_of piece.now) (height_of frame r) }
+    ensures above { (r : ℕ) → result.end ≤ r → r < frame.height → IsBelow (span_of piece.now) (height_of frame r) }
 {
-    let low = first_from(low_y(piece));
-    let past = first_from(high_y(piece) + 1);
-    rows_in(frame, low, past)
+    rows_in(frame, low_row(piece), past_row(piece))
 }
 
 /// The first of some rows whose centres are above a height, or the number after the last. For nearly all pieces it is the first of
@@ -184,28 +255,10 @@ pub(crate) fn rows_between(rise: Rise, frame: Frame, rows: RowRange) -> RowRange
     }
 }
 
-/// Whether all points of a piece are above the centres of a row.
-#[inline(always)]
-pub(crate) fn lies_above(piece: &Piece, row: i32) -> bool
-    requires { IsWithin (2 ^ 16) row }
-    ensures { IsTrue result → HasAll (λ q. (pos 128 *ℤ row +ℤ pos 64) <ℤ q.y) (span_of piece.now) }
-{
-    128 * row + 64 < low_y(piece)
-}
-
-/// Whether all points of a piece are below the centres of a row.
-#[inline(always)]
-pub(crate) fn lies_below(piece: &Piece, row: i32) -> bool
-    requires { IsWithin (2 ^ 16) row }
-    ensures { IsTrue result → HasAll (λ q. q.y <ℤ (pos 128 *ℤ row +ℤ pos 64)) (span_of piece.now) }
-{
-    high_y(piece) < 128 * row + 64
-}
-
 /// Whether the centres of a row lie below or above a piece.
 pub(crate) fn misses(piece: &Piece, row: i32) -> bool
     requires { IsPixelNumber row }
     ensures { IsTrue result → IsMissed (span_of piece.now) (pos 128 *ℤ row +ℤ pos 64) }
 {
-    lies_above(piece, row) || lies_below(piece, row)
+    row < low_row(piece) || past_row(piece) <= row
 }

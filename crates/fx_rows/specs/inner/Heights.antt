@@ -1,16 +1,30 @@
 -- The heights of rows, and pieces that rows miss.
-use Rattle.std.specs.Prelude.{◌⊎◌, ℕ, ◌<◌, ◌≤◌, ℤ, pos, ◌+ℤ◌, ◌*ℤ◌, ◌≤ℤ◌, ◌<ℤ◌}
+use Rattle.std.specs.Prelude.{◌⊎◌, ℕ, ◌<◌, ◌≤◌, ℤ, pos, ◌+ℤ◌, ◌*ℤ◌, ◌≤ℤ◌, ◌<ℤ◌, Option, Some, None}
+use Rattle.fx_winding.specs.Area.{Place}
 use Rattle.fx_winding.specs.Outside.{HasAll}
-use Rattle.fx_winding.specs.Winding.{Span}
+use Rattle.fx_winding.specs.Winding.{Span, IsBeforeTurn}
 use Rattle.fx_winding.specs.declared.frame.Frame.{Frame}
 
 -- the height of the centres of a frame's row, counted from the lowest
 abbrev pub height_of : Frame → ℕ → ℤ
 height_of f r = pos 128 *ℤ (f.bottom +ℤ pos r) +ℤ pos 64
 
--- all points of a piece are above this height, or all below
+-- a piece is an arc that turns before it comes to this height from its ends
+abbrev pub TurnsBefore : Place → Option Place → Place → ℤ → Type 0
+TurnsBefore a None c y = ⊥
+TurnsBefore a (Some b) c y = ¬ (IsBeforeTurn a.y b.y c.y y)
+
+-- a piece is above this height: all its points are, or it is an arc whose ends are and that turns before
+abbrev pub IsAbove : Span → ℤ → Type 0
+IsAbove s y = HasAll (λ q. y <ℤ q.y) s ⊎ ((y <ℤ s.a.y) × (y <ℤ s.c.y) × TurnsBefore s.a s.b s.c y)
+
+-- a piece is below it
+abbrev pub IsBelow : Span → ℤ → Type 0
+IsBelow s y = HasAll (λ q. q.y <ℤ y) s ⊎ ((s.a.y <ℤ y) × (s.c.y <ℤ y) × TurnsBefore s.a s.b s.c y)
+
+-- one of both
 abbrev pub IsMissed : Span → ℤ → Type 0
-IsMissed s y = HasAll (λ q. y <ℤ q.y) s ⊎ HasAll (λ q. q.y <ℤ y) s
+IsMissed s y = IsAbove s y ⊎ IsBelow s y
 
 -- one of a piece's ends is below this height
 abbrev pub IsOneUnder : Span → ℤ → Type 0

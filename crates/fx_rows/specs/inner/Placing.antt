@@ -1,14 +1,13 @@
 -- Pieces in a band of rows.
-use Rattle.std.specs.Prelude.{◌⊎◌, ℕ, ◌-◌, ◌≤◌, ◌<◌, List, pos, ◌+ℤ◌, ◌≤ℤ◌, ◌<ℤ◌}
+use Rattle.std.specs.Prelude.{◌⊎◌, ℕ, ◌-◌, ◌≤◌, ◌<◌, List, pos, ◌+ℤ◌, ◌≤ℤ◌}
 use Rattle.fx_winding.specs.declared.frame.Frame.{Frame}
-use Rattle.fx_winding.specs.Outside.{HasAll}
 use Rattle.fx_winding.specs.Winding.{Span}
 use Rattle.fx_rows.specs.declared.across.Across.{Across}
 use Rattle.fx_rows.specs.declared.heights.Met.{Met}
 use Rattle.fx_rows.specs.declared.heights.RowRange.{RowRange}
 use Rattle.fx_rows.specs.declared.piece_in_band.PieceInBand.{PieceInBand}
 use Rattle.fx_rows.specs.inner.Bulging.{IsBulge}
-use Rattle.fx_rows.specs.inner.Heights.{height_of, IsAtMostEnds, IsAtLeastEnds}
+use Rattle.fx_rows.specs.inner.Heights.{height_of, IsAbove, IsBelow, IsAtMostEnds, IsAtLeastEnds}
 use Rattle.fx_rows.specs.inner.Points.{IsInner, AreAcross}
 use Rattle.fx_rows.specs.inner.Telling.{AreRowsTold, Way, across_row, up_to_row}
 use Rattle.fx_rows.specs.inner.Told.{IsEndIn}
@@ -25,8 +24,8 @@ pub record AreBetween (s : Span) (f : Frame) (rows part : RowRange) : Type 0 whe
 pub record AreMetIn (s : Span) (f : Frame) (from to : ℕ) (m : Met) : Type 0 where
   pub low : from ≤ m.touched.first
   pub high : m.touched.end ≤ to
-  pub below : (r : ℕ) → from ≤ r → r < m.touched.first → HasAll (λ q. height_of f r <ℤ q.y) s
-  pub above : (r : ℕ) → m.touched.end ≤ r → r < to → HasAll (λ q. q.y <ℤ height_of f r) s
+  pub below : (r : ℕ) → from ≤ r → r < m.touched.first → IsAbove s (height_of f r)
+  pub above : (r : ℕ) → m.touched.end ≤ r → r < to → IsBelow s (height_of f r)
   pub inner : (r : ℕ) → m.inner.first ≤ r → r < m.inner.end → IsInner s.a.y s.c.y (height_of f r)
   pub under : (r : ℕ) → from ≤ r → r < m.inner.first → IsAtMostEnds s (height_of f r)
   pub over : (r : ℕ) → m.inner.end ≤ r → r < to → IsAtLeastEnds s (height_of f r)
