@@ -1,11 +1,12 @@
 -- What pieces add at the places from the centre of a pixel to that of its right neighbour.
-use Rattle.std.specs.Prelude.{◌≢◌, ◌⊎◌, ℕ, ◌<◌, ℤ, pos, ◌≤ℤ◌, ◌<ℤ◌, int_lt, if◌then◌else◌, Bool, true, false}
+use Rattle.std.specs.Prelude.{◌≢◌, ◌⊎◌, ℕ, ◌<◌, ℤ, pos, ◌≤ℤ◌, ◌<ℤ◌, Bool, true, false}
 use Rattle.std.specs.Prelude.{IsTrue, get_or, Option, Some, None}
 use Rattle.fx_fixed.specs.Ranges.{IsWithin}
 use Rattle.fx_fixed.specs.declared.places.Axis.{Axis}
 use Rattle.fx_fixed.specs.declared.places.Axis.TheVariants.{X, Y}
 use Rattle.fx_rows.specs.declared.part.OnRow.{OnRow}
 use Rattle.fx_rows.specs.declared.part.OnRow.TheVariants.{None as Nowhere, One, Two, Range}
+use Rattle.fx_rows.specs.declared.part.RowPart.{RowPart}
 use Rattle.fx_rows.specs.declared.part.Run.{Run}
 use Rattle.fx_rows.specs.inner.Cuts.{IsAdded}
 use Rattle.fx_winding.specs.Area.{Place}
@@ -33,10 +34,6 @@ along_of true = Y
 abbrev pub IsMissed : Place → Span → Type 0
 IsMissed p s = HasAll (λ e. p.y <ℤ e.y) s ⊎ (HasAll (λ e. e.y <ℤ p.y) s ⊎ HasAll (λ e. e.x <ℤ p.x) s)
 
--- 1 for a height above y, else 0
-abbrev pub above : ℤ → ℤ → ℤ
-above y height = if int_lt y height then pos 1 else pos 0
-
 -- the numbers of two places, in their order
 pub record ArePlaces (first last : ℤ) : Type 0 where
   pub from : pos 0 ≤ℤ first
@@ -54,6 +51,12 @@ ArePlacesNamed Nowhere = Unit {0}
 ArePlacesNamed (One i) = ArePlaces i i
 ArePlacesNamed (Two i j) = ArePlaces i i × ArePlaces j j
 ArePlacesNamed (Range i j) = ArePlaces i j
+
+-- the columns of a part of a row are places
+pub record IsOfPlaces (part : RowPart) : Type 0 where
+  pub crossing : IsRunOfPlaces part.crossing
+  pub region : IsRunOfPlaces part.region
+  pub on : ArePlacesNamed part.on
 
 -- whether the place n is marked, and its count
 abbrev pub mark_at : Places → ℕ → Bool
