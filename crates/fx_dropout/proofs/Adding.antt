@@ -1,7 +1,7 @@
 -- What is added at the places of a pair is what the piece adds there: `missed_added`, `right_added`, `part_added`.
 -- Serves `nearer`.
-use Rattle.std.proofs.Common.{◌≡◌, ◌≢◌, ◌⊎◌, ◌↔◌, inl, inr, refl, sym, ap, ◌∙◌, subst, IsTrue, ℕ, ◌<◌, ℤ, pos, ◌+ℤ◌, ◌-ℤ◌}
-use Rattle.std.proofs.Common.{◌≤ℤ◌, ◌<ℤ◌, Bool, true, false, not, List, Any, Option, map, length, get_or, arith}
+use Rattle.std.proofs.Common.{◌≡◌, ◌≢◌, ◌⊎◌, ◌↔◌, inl, inr, refl, sym, ap, ◌∙◌, subst, IsTrue, ℕ, ◌<◌, ℤ, pos, ◌+ℤ◌}
+use Rattle.std.proofs.Common.{◌<ℤ◌, Bool, true, false, not, List, Any, Option, map, length, get_or, arith}
 use Rattle.std.proofs.Math.ListN.{get_or-map}
 use Rattle.std.proofs.lemmas.List.{length-map}
 use Rattle.fx_fixed.specs.Ranges.{IsWithin}
@@ -23,10 +23,9 @@ use Rattle.fx_winding.specs.Frames.{IsFrom}
 use Rattle.fx_winding.specs.Meets.{turn}
 use Rattle.fx_winding.specs.Outside.{HasAll}
 use Rattle.fx_winding.specs.Turned.{turned_span}
-use Rattle.fx_winding.specs.Winding.{Span, IsOn, IsCovered, centre, crossing, span_of, winding}
-use Rattle.fx_winding.proofs.Beside.{HasAll-weaker, left_off, right_off, under_off, over_off}
-use Rattle.fx_winding.proofs.Crossings.{above}
-use Rattle.fx_winding.proofs.Turning.{all_turned, left_of_all, right_of_all}
+use Rattle.fx_winding.specs.Winding.{Span, IsOn, IsCovered, centre, span_of, winding}
+use Rattle.fx_winding.proofs.Beside.{HasAll-weaker, right_off, under_off, over_off}
+use Rattle.fx_winding.proofs.Turning.{all_turned, right_of_all}
 use Rattle.fx_dropout.specs.Dropout.{place_on}
 use Rattle.fx_dropout.specs.inner.Pairs.{seen_span, seen_spans}
 use Rattle.fx_dropout.specs.inner.Places.{along_of, coordinate_of, IsMissed, IsOfPlaces, IsRunOfPlaces, ArePlacesNamed}
@@ -54,7 +53,7 @@ seen_along R up axis limit x s is e h =
     by true h = all_turned (λ e. R x e.x) s h
 
 -- a place off a piece
-off_added : (s : Span) (p : Place) (old new : Bool) (a b : ℤ) → ¬ (IsOn p s) → new ≡ old → b ≡ a +ℤ turn p s
+pub off_added : (s : Span) (p : Place) (old new : Bool) (a b : ℤ) → ¬ (IsOn p s) → new ≡ old → b ≡ a +ℤ turn p s
     → IsAdded s p old new a b
 off_added s p old new a b off same sum = record {
   here = false;
@@ -81,19 +80,6 @@ missed_added s col row n on a (inr (inr h)) =
     let left = HasAll-weaker (λ e. e.x <ℤ (centre col row).x) (λ e. e.x <ℤ p.x) (λ e l. omega (arith, signed_linear, l)) s h in
     let none = right_of_all p s left in
     off_added s p on on a a (right_off p s left).1 refl (omega (arith, signed_linear, none))
-
--- one right of all places adds the same at each
-pub right_added : (s : Span) (p q : Place) (limit : ℤ) (old new : Bool) (a b : ℤ) → HasAll (λ e. limit <ℤ e.x) s → p.x ≤ℤ limit
-    → q.x ≤ℤ limit → p.y ≡ q.y → new ≡ old → b ≡ a +ℤ crossing q s → IsAdded s p old new a b
-right_added s p q limit old new a b h left from level same sum =
-    let right : (r : Place) → r.x ≤ℤ limit → HasAll (λ e. r.x <ℤ e.x) s =
-    λ r l. HasAll-weaker (λ e. limit <ℤ e.x) (λ e. r.x <ℤ e.x) (λ e m. omega (arith, signed_linear, m, l)) s h in
-    let off = left_off p s (right p left) in
-    let here = left_of_all p s (right p left) in
-    let there = left_of_all q s (right q from) in
-    let none = (left_off q s (right q from)).0 in
-    let e = ap (λ z. above z s.c.y -ℤ above z s.a.y) level in
-    off_added s p old new a b off.1 same (omega (arith, signed_linear, sum, here, there, none, e))
 
 -- ---- a piece by its stretched row
 pub part_places : (s : Span) (row : ℤ) (f : Frame) (part : RowPart) → f.left ≡ pos 0 → f.width ≡ 128 → IsRowPart s row f part

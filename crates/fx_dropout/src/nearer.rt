@@ -1,19 +1,20 @@
 //! Which of two neighbours is nearer to the stroke that passes between their centres.
 
-ghost use Rattle.std.specs.Prelude.{All, ◌≡◌, ◌↔◌, ℕ, ◌+◌, ◌*◌, ◌^◌, ◌≤◌, ◌<◌, pos, false, IsTrue, length, map};
+ghost use Rattle.std.specs.Prelude.{All, ◌≡◌, ◌↔◌, ℕ, ◌+◌, ◌*◌, ◌^◌, ◌≤◌, ◌<◌, ◌-ℤ◌, pos, false, IsTrue, length, map};
+ghost use Rattle.fx_fixed.specs.Ranges.{IsWithin};
 ghost use Rattle.fx_winding.specs.Limits.{most_pieces};
 ghost use Rattle.fx_winding.specs.Near.{IsNear};
 ghost use Rattle.fx_winding.specs.Winding.{place_of, span_of, IsCovered};
 ghost use Rattle.fx_dropout.specs.Dropout.{IsNextNearer};
 ghost use Rattle.fx_dropout.specs.inner.Pairs.{seen_span, seen_spans};
-ghost use Rattle.fx_dropout.specs.inner.Places.{count_at, mark_at, AreCountsWithin, IsCoveredIn, place_in, IsMissed, IsPieceAdded};
+ghost use Rattle.fx_dropout.specs.inner.Places.{above, count_at, mark_at, AreCountsWithin, IsCoveredIn, place_in, IsMissed, IsPieceAdded};
 
 use crate::beside::{along, is_after, is_before};
 use crate::pair::Pair;
 use crate::places::{PLACES, Places};
 use crate::stretched::stretched;
 use fx_rows::interval;
-use fx_winding::{Frame, Piece, Pieces, Point, Tally, centre_of, crossing};
+use fx_winding::{Frame, Piece, Pieces, Point, Tally, centre_of};
 
 /// Whether a piece, with its coordinates exchanged or not, adds nothing at all places from one on: it lies above, below or left of
 /// them.
@@ -29,6 +30,21 @@ fn is_missed(piece: &Piece, is_turned: bool, first: Point) -> bool
         return true;
     }
     is_before(piece, along(is_turned), first.x)
+}
+
+/// What a piece right of a place at the height y adds there: 1 or -1 if the height is between those of its ends.
+#[inline(always)]
+fn turn_right(piece: &Piece, y: i32) -> i32
+    ensures value { result ≡ above y piece.now.c.y -ℤ above y piece.now.a.y }
+    ensures size { IsWithin 1 result }
+{
+    if piece.a.y <= y && y < piece.c.y {
+        1
+    } else if piece.c.y <= y && y < piece.a.y {
+        -1
+    } else {
+        0
+    }
 }
 
 /// A piece, with its coordinates exchanged or not.
@@ -71,13 +87,11 @@ fn add_piece(piece: &Piece, is_turned: bool, pair: Pair, places: &mut Places, ta
     if is_missed(piece, is_turned, first) {
         return;
     }
-    let is_right = is_after(piece, along(is_turned), first.x + 127);
-    let piece = seen(piece, is_turned);
-    if is_right {
-        places.add(0, PLACES, crossing(&piece, first.x, first.y, tally));
+    if is_after(piece, along(is_turned), first.x + 127) {
+        places.add(0, PLACES, turn_right(&seen(piece, is_turned), first.y));
         return;
     }
-    add_stretched(&piece, pair, places, tally);
+    add_stretched(&seen(piece, is_turned), pair, places, tally);
 }
 
 /// Adds what the pieces add at each place, with their coordinates exchanged or not.

@@ -111,7 +111,7 @@ impl Places {
         requires small { AreCountsWithin (2 ^ 20) self.now }
         ensures { IsTrue result ↔ IsCoveredIn self.now n }
     {
-        self.marks[n] || self.counts[n] != 0
+        self.marks[n] | (self.counts[n] != 0)
     }
 
     /// How many of the 63 places from `from` on are covered.

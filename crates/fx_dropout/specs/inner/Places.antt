@@ -1,5 +1,5 @@
 -- What pieces add at the places from the centre of a pixel to that of its right neighbour.
-use Rattle.std.specs.Prelude.{◌≢◌, ◌⊎◌, ℕ, ◌<◌, ℤ, pos, ◌≤ℤ◌, ◌<ℤ◌, Bool, true, false}
+use Rattle.std.specs.Prelude.{◌≢◌, ◌⊎◌, ℕ, ◌<◌, ℤ, pos, ◌≤ℤ◌, ◌<ℤ◌, int_lt, if◌then◌else◌, Bool, true, false}
 use Rattle.std.specs.Prelude.{IsTrue, get_or, Option, Some, None}
 use Rattle.fx_fixed.specs.Ranges.{IsWithin}
 use Rattle.fx_fixed.specs.declared.places.Axis.{Axis}
@@ -33,6 +33,10 @@ along_of true = Y
 -- a piece is above the row of p, below it, or left of p
 abbrev pub IsMissed : Place → Span → Type 0
 IsMissed p s = HasAll (λ e. p.y <ℤ e.y) s ⊎ (HasAll (λ e. e.y <ℤ p.y) s ⊎ HasAll (λ e. e.x <ℤ p.x) s)
+
+-- 1 for a height above y, else 0
+abbrev pub above : ℤ → ℤ → ℤ
+above y height = if int_lt y height then pos 1 else pos 0
 
 -- the numbers of two places, in their order
 pub record ArePlaces (first last : ℤ) : Type 0 where

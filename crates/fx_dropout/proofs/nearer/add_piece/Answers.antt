@@ -1,11 +1,14 @@
-use Rattle.std.proofs.Common.{◌≡◌, ◌∙◌, refl, subst, ap, pos, ◌+ℤ◌, ◌<ℤ◌, arith}
+use Rattle.std.proofs.Common.{◌≡◌, ◌∙◌, refl, sym, subst, ap, pos, ◌+ℤ◌, ◌-ℤ◌, ◌<ℤ◌, arith}
 use Rattle.fx_fixed.proofs.Linear.{signed_linear}
-use Rattle.fx_winding.specs.Area.{Place, place}
-use Rattle.fx_winding.specs.Winding.{centre, crossing, span_of}
+use Rattle.fx_winding.specs.Area.{Place}
+use Rattle.fx_winding.specs.Outside.{HasAll}
+use Rattle.fx_winding.specs.Winding.{centre, span_of}
+use Rattle.fx_winding.proofs.Beside.{HasAll-weaker, left_off}
+use Rattle.fx_winding.proofs.Turning.{left_of_all}
 use Rattle.fx_dropout.specs.declared.pair.Pair.{Pair}
 use Rattle.fx_dropout.specs.inner.Pairs.{seen_span}
-use Rattle.fx_dropout.specs.inner.Places.{place_in, IsMissed}
-use Rattle.fx_dropout.proofs.Adding.{missed_added, right_added, same_added, seen_along}
+use Rattle.fx_dropout.specs.inner.Places.{above, place_in, IsMissed}
+use Rattle.fx_dropout.proofs.Adding.{missed_added, off_added, same_added, seen_along}
 use Rattle.fx_dropout.proofs.Held.{held}
 use Rattle.fx_dropout.proofs.nearer.add_piece.Goals as goal
 
@@ -25,24 +28,29 @@ returns-then-is_missed-clause-added c = λ n l.
 pub add-requires-clause-small : goal.add-requires-clause-small
 add-requires-clause-small c = λ n l. let small = c.requires.small n l in omega (arith, signed_linear, small)
 
-pub returns-then-is_right-clause-added : goal.returns-then-is_right-clause-added
-returns-then-is_right-clause-added c = λ n l.
+pub returns-then-is_after-clause-added : goal.returns-then-is_after-clause-added
+returns-then-is_after-clause-added c = λ n l.
     let up = c.args.is_turned in
-    let p = c.centre_of-first.result in
-    let near = p.near_x in
-    let near' = p.near_y in
+    let s = seen_span up (span_of c.args.piece.now) in
+    let q = c.centre_of-first.result in
+    let p = place_in c.args.pair n in
+    let near = q.near_x in
+    let near' = q.near_y in
     let at = c.centre_of-first.ensures ∙ first c.args.pair in
     let x = ap (λ (q : Place). q.x) at in
     let y = ap (λ (q : Place). q.y) at in
-    let limit = held (held p.x +ℤ pos 127) in
-    let q = place (held p.x) (held p.y) in
-    let size = c.crossing.ensures.size in
-    let value = c.crossing.ensures.value ∙ ap (crossing q) c.seen-piece.ensures.value in
-    let sum = c.add.ensures.run n (omega arith) l in
-    right_added (seen_span up (span_of c.args.piece.now)) (place_in c.args.pair n) q limit _ _ _ _
+    let limit = held (held q.x +ℤ pos 127) in
+    let right : HasAll (λ e. p.x <ℤ e.x) s =
+    HasAll-weaker (λ e. limit <ℤ e.x) (λ e. p.x <ℤ e.x) (λ e h. omega (arith, signed_linear, near, x, l, h)) s
     (seen_along (λ l z. l <ℤ z) up c.along.result limit limit (span_of c.args.piece.now) c.along.ensures refl
-    (c.is_after-is_right.ensures c.if-is_right.true)) (omega (arith, signed_linear, near, x, l)) (omega (arith, signed_linear, near))
-    (omega (arith, signed_linear, near', y)) (c.add.ensures.marks n) (omega (arith, signed_linear, size, sum, value))
+    (c.is_after.ensures c.if-is_after.true)) in
+    let level : held q.y ≡ p.y = omega (arith, signed_linear, near', y) in
+    let e = c.seen.ensures.value in
+    let value = c.turn_right.ensures.value ∙ (λ i. above (level i) (e i).c.y -ℤ above (level i) (e i).a.y)
+    ∙ sym (left_of_all p s right) in
+    let size = c.turn_right.ensures.size in
+    let sum = c.add.ensures.run n (omega arith) l in
+    off_added s p _ _ _ _ (left_off p s right).1 (c.add.ensures.marks n) (omega (arith, signed_linear, size, sum, value))
 
 pub returns-clause-added : goal.returns-clause-added
-returns-clause-added c = λ n l. same_added _ _ _ _ _ _ _ c.seen-piece.ensures.value (c.add_stretched.ensures.added n l)
+returns-clause-added c = λ n l. same_added _ _ _ _ _ _ _ c.seen-2.ensures.value (c.add_stretched.ensures.added n l)
