@@ -10,7 +10,7 @@ use Rattle.fx_fixed.proofs.Order.{below_or_not}
 use Rattle.fx_fixed.proofs.Linear.{signed_linear}
 use Rattle.fx_winding.specs.declared.frame.Frame.{Frame}
 use Rattle.fx_winding.specs.Area.{Place}
-use Rattle.fx_winding.specs.Bitmaps.{Bits, AreWords, AreRowWords, IsScanOf, bit_of, rows_of, words_for, word_bit}
+use Rattle.fx_winding.specs.Bitmaps.{AreWords, AreRowWords, IsScanOf, bit_of, rows_of, words_for, word_bit}
 use Rattle.fx_winding.specs.Turned.{turned_span}
 use Rattle.fx_winding.specs.Frames.{IsFrom, IsInFrame, steps}
 use Rattle.fx_winding.specs.Notes.{AreExact, pixel_number, words_noted}
@@ -224,18 +224,3 @@ module _ (closing : Closing) (f : Frame) (ss : List Span) (across up old new : L
 -- a list that was lent whole and came back
 pub lent : (xs ys : List ℕ) (n : ℕ) → length ys ≡ length xs → n ≡ length xs → take n (ys ++ drop (length ys) xs) ≡ ys
 lent xs ys n e f = (λ t. take ((f ∙ sym e) t) (ys ++ drop (length ys) xs)) ∙ take_at ys (drop (length ys) xs) (length ys) refl
-
-pub given_of : (closing : Closing) (f : Frame) (ss : List Span) (b : Bits) (across up old new : List ℕ) → f ≡ b.frame
-    → IsScanOf b.frame ss b → AreExact b.frame across up ss → AreWords b.frame.height b.frame.width old
-    → b ≡ record { frame = b.frame; rows = rows_of b.frame.height b.frame.width old }
-    → AreClosedWords (IsNextIn closing ss f) f across up old new → IsGiven closing f ss across up old new
-given_of closing f ss b across up old new e scan noted words value closed = grind (arith, e, scan, noted, words, value, closed)
-
-pub gaps_closed : (closing : Closing) (f : Frame) (ss : List Span) (across up old new : List ℕ)
-    → IsGiven closing f ss across up old new → (b r : Bits) → f ≡ b.frame
-    → r ≡ record { frame = f; rows = rows_of f.height f.width new } → NoneOutside b.frame ss → (i j : ℤ) → IsInFrame b.frame i j
-    → IsTrue (bit_of r i j) ↔ IsSet closing ss b.frame i j
-gaps_closed closing f ss across up old new given b r e value outside i j inside =
-    subst (λ (z : Bits × Frame). IsTrue (bit_of z.0 i j) ↔ IsSet closing ss z.1 i j) (λ t. (sym value t, e t))
-    (closed_pixels closing f ss across up old new given
-    (subst (λ (g : Frame). NoneOutside g ss) (sym e) outside) i j (subst (λ (g : Frame). IsInFrame g i j) (sym e) inside))
