@@ -96,34 +96,29 @@ module _ (closing : Closing) (f : Frame) (ss : List Span) (across up old new : L
   abbrev next : Bool → ℕ → ℕ → Type 0
   next is_up k r = IsNextIn closing ss f is_up (f.left +ℤ pos k) (f.bottom +ℤ pos r)
 
-  row_line : NoneOutside f ss → (r : ℕ) → r < f.height
-      → IsLine ss (IsInFrame f) (IsNextChosen closing ss) (λ i j. IsCovered (centre i j) ss) f.left (f.bottom +ℤ pos r)
-      f.width (λ k. pixel f old k r) (λ k. note f across k r)
-  row_line outside r h = record {
-    set = λ n l.
-        let bit = pixel_bit f old r n h l in
-        let is = given.scanned.bits (f.left +ℤ pos n) (f.bottom +ℤ pos r) (in_frame f n r l h) in
-        (λ e. is.0 (bit.1 e), λ c. bit.0 (is.1 c));
-    bits = λ n. bit_at-lt _ _;
-    end = unused_bit f old r f.width given.words h (omega arith);
-    none = λ i. outside i (f.bottom +ℤ pos r);
-    tells = λ k l off off'.
-        let e = noted_bit f across r k (omega (arith, l)) in
-        let is = given.noted.across r k h l (record {
-          off_from = λ a. off (on_covers _ ss a);
-          off_to = λ a. off' (on_covers _ ss a);
-        }) in
-        (λ t. is.0 (sym e ∙ t), λ a. e ∙ is.1 a);
-    inside = λ n l. in_frame f n r l h;
-    before = λ i. not_before f.left f.width i.column;
-    after = λ i. not_after f.left f.width i.column;
-  }
-
   row_closed : NoneOutside f ss → (r n : ℕ) → r < f.height → n < f.width
       → (pixel f given.closed.mid n r ≡ 1) ↔ IsRowSet closing ss f (f.left +ℤ pos n) (f.bottom +ℤ pos r)
   row_closed outside r n h l =
       line_closed ss (IsInFrame f) (IsNextChosen closing ss) (λ i j. IsCovered (centre i j) ss) f.left (f.bottom +ℤ pos r)
-      f.width _ _ (row_line outside r h) n _ l (given.closed.rows r n h (omega (arith, l)))
+      f.width _ _ (record {
+        set = λ n l.
+            let bit = pixel_bit f old r n h l in
+            let is = given.scanned.bits (f.left +ℤ pos n) (f.bottom +ℤ pos r) (in_frame f n r l h) in
+            (λ e. is.0 (bit.1 e), λ c. bit.0 (is.1 c));
+        bits = λ n. bit_at-lt _ _;
+        end = unused_bit f old r f.width given.words h (omega arith);
+        none = λ i. outside i (f.bottom +ℤ pos r);
+        tells = λ k l off off'.
+            let e = noted_bit f across r k (omega (arith, l)) in
+            let is = given.noted.across r k h l (record {
+              off_from = λ a. off (on_covers _ ss a);
+              off_to = λ a. off' (on_covers _ ss a);
+            }) in
+            (λ t. is.0 (sym e ∙ t), λ a. e ∙ is.1 a);
+        inside = λ n l. in_frame f n r l h;
+        before = λ i. not_before f.left f.width i.column;
+        after = λ i. not_after f.left f.width i.column;
+      }) n _ l (given.closed.rows r n h (omega (arith, l)))
 
   -- the bits after the last pixel stay 0
   row_rest : (r n : ℕ) → r < f.height → f.width ≤ n → n < 32 * words_for f.width → pixel f given.closed.mid n r ≡ 0
@@ -143,36 +138,29 @@ module _ (closing : Closing) (f : Frame) (ss : List Span) (across up old new : L
 
       by : (m : ℕ) → m ≡ n → IsReached (λ k. pixel f old k r) (λ k. note f across k r) (λ k. next false k r) m → ⊥
       by zero e o = omega (arith, e, w, l)
-      by (suc m) e (o, next) =
-          grind (arith, signed_linear, e, w, o.noted_is, next.1.column, after (suc m), below_or_not f.width (suc m))
+      by (suc m) e (o, next) = omega (arith, signed_linear, e, w, next.1.column)
 
   -- ---- the columns
-  column_line : NoneOutside f ss → (k : ℕ) → 0 < f.height → k < f.width
-      → IsLine (map turned_span ss) (λ j i. IsInFrame f i j) (IsNextChosen closing (map turned_span ss))
-      (λ j i. IsRowSet closing ss f i j) f.bottom (f.left +ℤ pos k) f.height
-      (λ r. pixel f given.closed.mid k r) (λ r. note f up k r)
-  column_line outside k some l = record {
-    set = λ r h. row_closed outside r k h l;
-    bits = λ r. bit_at-lt _ _;
-    end = past_row given.closed.mid (words_for f.width) f.height k (omega (arith, given.closed.long, given.words.long));
-    none = λ j. row_outside closing f ss outside (f.left +ℤ pos k) j;
-    tells = λ r h off off'.
-        let e = noted_bit f up r k (omega (arith, l)) in
-        let is = given.noted.up r k some h l (record {
-          off_from = λ a. off (inl (on_covers _ ss a));
-          off_to = λ a. off' (inl (on_covers _ ss a));
-        }) in
-        (λ t. is.0 (sym e ∙ t), λ a. e ∙ is.1 a);
-    inside = λ r h. in_frame f k r l h;
-    before = λ i. not_before f.bottom f.height i.row;
-    after = λ i. not_after f.bottom f.height i.row;
-  }
-
   column_closed : NoneOutside f ss → (r k : ℕ) → r < f.height → k < f.width
       → (pixel f new k r ≡ 1) ↔ IsSet closing ss f (f.left +ℤ pos k) (f.bottom +ℤ pos r)
   column_closed outside r k h l =
       line_closed (map turned_span ss) (λ j i. IsInFrame f i j) (IsNextChosen closing (map turned_span ss))
-      (λ j i. IsRowSet closing ss f i j) f.bottom (f.left +ℤ pos k) f.height _ _ (column_line outside k (omega (arith, h)) l) r _
+      (λ j i. IsRowSet closing ss f i j) f.bottom (f.left +ℤ pos k) f.height _ _ (record {
+        set = λ r h. row_closed outside r k h l;
+        bits = λ r. bit_at-lt _ _;
+        end = past_row given.closed.mid (words_for f.width) f.height k (omega (arith, given.closed.long, given.words.long));
+        none = λ j. row_outside closing f ss outside (f.left +ℤ pos k) j;
+        tells = λ q m off off'.
+            let e = noted_bit f up q k (omega (arith, l)) in
+            let is = given.noted.up q k (omega (arith, h)) m l (record {
+              off_from = λ a. off (inl (on_covers _ ss a));
+              off_to = λ a. off' (inl (on_covers _ ss a));
+            }) in
+            (λ t. is.0 (sym e ∙ t), λ a. e ∙ is.1 a);
+        inside = λ r h. in_frame f k r l h;
+        before = λ i. not_before f.bottom f.height i.row;
+        after = λ i. not_after f.bottom f.height i.row;
+      }) r _
       h (given.closed.columns r k h (omega (arith, l)))
 
   column_rest : (r k : ℕ) → r < f.height → f.width ≤ k → k < 32 * words_for f.width → pixel f new k r ≡ 0
@@ -187,7 +175,7 @@ module _ (closing : Closing) (f : Frame) (ss : List Span) (across up old new : L
 
       by : (m : ℕ) → m ≡ r → IsReached (λ q. pixel f given.closed.mid k q) (λ q. note f up k q) (λ q. next true k q) m → ⊥
       by zero e o = let x = o.noted_is in let y = unnoted 0 (omega arith) in omega (arith, x, y)
-      by (suc m) e (o, next) = let x = o.noted_is in let y = unnoted (suc m) (omega (arith, e, h)) in omega (arith, x, y)
+      by (suc m) e (o, next) = omega (arith, signed_linear, w, next.1.column)
 
   -- ---- the bitmap
   pub closed_words : length new ≡ length old → AreWords f.height f.width new

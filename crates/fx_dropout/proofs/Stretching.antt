@@ -74,17 +74,12 @@ chord_stretched u v w = grind (arith, ints)
 
 right_stretched : (col : ℤ) (a b c : Place)
     → is_right_of_chord (stretched_place col a) (stretched_place col b) (stretched_place col c) ≡ is_right_of_chord a b c
-right_stretched col a b c =
-    ap (λ z. int_lt (pos 0) (z *ℤ (c.y -ℤ a.y)) || (int_eq a.y c.y && int_lt a.y b.y)) (area_stretched col a b c)
-    ∙ tests (area a b c *ℤ (c.y -ℤ a.y)) (pos 128 *ℤ area a b c *ℤ (c.y -ℤ a.y))
-    (ring (area a b c ∷ c.y ∷ a.y ∷ []) (num (pos 128) ⊠ var 0 ⊠ (var 1 ⊟ var 2)) (num (pos 128) ⊠ (var 0 ⊠ (var 1 ⊟ var 2))) tt)
+right_stretched col a b c = tests (area a b c *ℤ (c.y -ℤ a.y)) _ (ap (λ z. z *ℤ (c.y -ℤ a.y)) (area_stretched col a b c)
+    ∙ ring (area a b c ∷ c.y ∷ a.y ∷ []) (num (pos 128) ⊠ var 0 ⊠ (var 1 ⊟ var 2)) (num (pos 128) ⊠ (var 0 ⊠ (var 1 ⊟ var 2))) tt)
   where
     tests : (z y : ℤ) → y ≡ pos 128 *ℤ z
         → (int_lt (pos 0) y || (int_eq a.y c.y && int_lt a.y b.y)) ≡ (int_lt (pos 0) z || (int_eq a.y c.y && int_lt a.y b.y))
-    tests z y e = ap (λ t. t || (int_eq a.y c.y && int_lt a.y b.y)) (above z y e)
-      where
-        above : (z y : ℤ) → y ≡ pos 128 *ℤ z → int_lt (pos 0) y ≡ int_lt (pos 0) z
-        above z y e = grind (arith, ints)
+    tests z y e = grind (arith, ints)
 
 region_part_stretched : (col : ℤ) (a : Place) (b : Option Place) (c p : Place)
     → region_part (stretched_place col a) (option_map (stretched_place col) b) (stretched_place col c) (stretched_place col p)
