@@ -127,14 +127,8 @@ module _ (closing : Closing) (f : Frame) (ss : List Span) (across up old new : L
       (unused_bit f old r n given.words h w) (after (suc n) (omega (arith, w))) (by n refl)
     where
       after : (k : ℕ) → f.width < k → note f across k r ≡ 0
-      after k m = grind (
-        arith,
-        m,
-        below_or_not k (32 * words_noted f.width),
-        noted_bit f across r k,
-        given.noted.rest_across r k h m,
-        past_part across (r * words_noted f.width) (words_noted f.width) k,
-      )
+      after k m =
+          grind (arith, m, below_or_not k (32 * words_noted f.width), noted_bit f across, given.noted.rest_across r k h m, past_part)
 
       by : (m : ℕ) → m ≡ n → IsReached (λ k. pixel f old k r) (λ k. note f across k r) (λ k. next false k r) m → ⊥
       by zero e o = omega (arith, e, w, l)
@@ -200,13 +194,7 @@ module _ (closing : Closing) (f : Frame) (ss : List Span) (across up old new : L
       let r = steps f.bottom j in
       let l = steps_below f.left f.width i inside.column in
       let h = steps_below f.bottom f.height j inside.row in
-      grind (
-        arith,
-        pixel_bit f new r k h l,
-        column_closed outside r k h l,
-        steps_back f.left f.width i inside.column,
-        steps_back f.bottom f.height j inside.row,
-      )
+      grind (arith, pixel_bit f new r k h l, column_closed outside r k h l, steps_back, inside.column, inside.row)
 
 -- ---- for `close_gaps`
 -- a list that was lent whole and came back

@@ -146,28 +146,15 @@ arc_stretched u v w = grind (arith, signed, gap_stretched u v w)
 
 curve_stretched : (col : ℤ) (a b c p : Place)
     → IsOnCurve (stretched_place col a) (stretched_place col b) (stretched_place col c) (stretched_place col p) ↔ IsOnCurve a b c p
-curve_stretched col a b c p = grind (
-  arith,
-  signed_linear,
-  none_stretched col a b c,
-  arc_stretched (weight_a a b c p) (weight_b a b c p) (weight_c a b c p),
-  weight_stretched col a b c p b c,
-  weight_stretched col a b c a p c,
-  weight_stretched col a b c a b p,
-)
+curve_stretched col a b c p =
+    let weight = weight_stretched col a b c in
+    let arc = arc_stretched (weight_a a b c p) (weight_b a b c p) (weight_c a b c p) in
+    grind (arith, signed_linear, none_stretched col a b c, arc, weight p b c, weight a p c, weight a b p)
 
 flat_stretched : (col : ℤ) (a b c p : Place)
     → IsOnFlatArc (stretched_place col a) (stretched_place col b) (stretched_place col c) (stretched_place col p)
     ↔ IsOnFlatArc a b c p
-flat_stretched col a b c p = grind (
-  arith,
-  signed_linear,
-  none_stretched col a b c,
-  none_stretched col a b p,
-  none_stretched col b c p,
-  none_stretched col a c p,
-  range_stretched col a.x b.x c.x p.x,
-)
+flat_stretched col a b c p = grind (arith, signed_linear, none_stretched, range_stretched col a.x b.x c.x p.x)
 
 on_part_stretched : (col : ℤ) (a : Place) (b : Option Place) (c p : Place)
     → IsOnPart (stretched_place col a) (option_map (stretched_place col) b) (stretched_place col c) (stretched_place col p)

@@ -48,16 +48,7 @@ cell_other : (words new : List ℕ) (size column row i j : ℕ) → column < siz
     → get_or (take size (drop (j * size) new)) i 0 ≡ get_or (take size (drop (j * size) words)) i 0
 cell_other words new size column row i j l others h =
     let far : i < size → j * size + i ≢ row * size + column = λ m e. apart row column j i size l m h (sym e) in
-    grind (
-      arith,
-      below_or_not i size,
-      far,
-      cell new size i j,
-      cell words size i j,
-      no_cell new size i j,
-      no_cell words size i j,
-      others (j * size + i),
-    )
+    grind (arith, below_or_not i size, far, cell, no_cell, others (j * size + i))
 
 pub line_other : (up : Bool) (f : Frame) (words new : List ℕ) (line k i j : ℕ) → line < words_along (not up) f
     → k < words_along up f → ((w : ℕ) → w ≢ word_place up (words_for f.width) line k → get_or new w 0 ≡ get_or words w 0)
