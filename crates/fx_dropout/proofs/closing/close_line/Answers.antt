@@ -1,8 +1,7 @@
-use Rattle.std.proofs.Common.{◌≡◌, ◌≢◌, ◌↔◌, ◌⊎◌, inr, refl, sym, ◌∙◌, subst, ◌+◌, ◌-◌, ◌*◌, ◌<◌, ℕ, pos, ◌+ℤ◌, get_or, arith}
-use Rattle.std.specs.Int.{bit_at}
+use Rattle.std.proofs.Common.{◌≡◌, ◌≢◌, inr, refl, sym, ◌∙◌, subst, ◌+◌, ◌<◌, ℕ, get_or, arith}
 use Rattle.fx_winding.proofs.Grid.{row_fits}
-use Rattle.fx_dropout.specs.inner.Closing.{bit_after, bit_before, line_word, pass, size_of, word_place, word_tests, words_along}
-use Rattle.fx_dropout.specs.inner.Closing.{IsNext, IsOpen, Pass}
+use Rattle.fx_dropout.specs.inner.Closing.{line_word, pass, size_of, word_place, word_tests, words_along}
+use Rattle.fx_dropout.specs.inner.Closing.{Pass}
 use Rattle.fx_dropout.proofs.Tests.{one_more}
 use Rattle.fx_dropout.proofs.WordLines.{IsWordClosed, inside, line_at, at_first, at_more, done_line, done_more}
 use Rattle.fx_dropout.proofs.closing.close_line.Goals as goal
