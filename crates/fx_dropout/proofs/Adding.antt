@@ -1,7 +1,7 @@
 -- What is added at the places of a pair is what the piece adds there: `missed_added`, `right_added`, `part_added`.
 -- Serves `nearer`.
-use Rattle.std.proofs.Common.{◌≡◌, ◌≢◌, ◌⊎◌, ◌↔◌, inl, inr, refl, sym, ap, ◌∙◌, subst, IsTrue, ℕ, ◌<◌, ℤ, pos, ◌+ℤ◌, ◌-ℤ◌}
-use Rattle.std.proofs.Common.{◌*ℤ◌, ◌<ℤ◌, Bool, true, false, not, List, Any, Option, map, length, get_or, arith}
+use Rattle.std.proofs.Common.{◌≡◌, ◌≢◌, ◌⊎◌, ◌↔◌, inl, inr, refl, sym, ap, ◌∙◌, subst, IsTrue, ℕ, ◌<◌, ℤ, pos, ◌+ℤ◌}
+use Rattle.std.proofs.Common.{◌<ℤ◌, Bool, true, false, not, List, Any, Option, map, length, get_or, arith}
 use Rattle.std.proofs.Math.ListN.{get_or-map}
 use Rattle.std.proofs.lemmas.List.{length-map}
 use Rattle.fx_fixed.specs.Ranges.{IsWithin}
@@ -15,7 +15,7 @@ use Rattle.fx_rows.specs.inner.Cuts.{IsAdded}
 use Rattle.fx_rows.specs.inner.Inside.{IsOnInside}
 use Rattle.fx_rows.specs.inner.Sums.{is_named, value_at, IsInside, Marks}
 use Rattle.fx_rows.proofs.Added.{turn_at}
-use Rattle.fx_rows.proofs.Counted.{told, turn_small}
+use Rattle.fx_rows.proofs.Counted.{on_inside, part_crosses, part_regions, told, turn_small}
 use Rattle.fx_winding.specs.Area.{Place}
 use Rattle.fx_winding.specs.declared.frame.Frame.{Frame}
 use Rattle.fx_winding.specs.declared.point.Piece.{Piece}
@@ -24,34 +24,36 @@ use Rattle.fx_winding.specs.Meets.{turn}
 use Rattle.fx_winding.specs.Outside.{HasAll}
 use Rattle.fx_winding.specs.Turned.{turned_span}
 use Rattle.fx_winding.specs.Winding.{Span, IsOn, IsCovered, centre, span_of, winding}
-use Rattle.fx_winding.proofs.Beside.{HasAll-weaker, left_off, right_off, under_off, over_off}
-use Rattle.fx_winding.proofs.Turning.{all_turned, left_of_all, right_of_all}
+use Rattle.fx_winding.proofs.Beside.{HasAll-weaker, right_off, under_off, over_off}
+use Rattle.fx_winding.proofs.Turning.{all_turned, right_of_all}
 use Rattle.fx_dropout.specs.Dropout.{place_on}
-use Rattle.fx_dropout.specs.inner.Pairs.{seen_place, seen_span, seen_spans}
-use Rattle.fx_dropout.specs.inner.Places.{above, along_of, coordinate_of, IsMissed, IsRunOfPlaces, ArePlacesNamed}
+use Rattle.fx_dropout.specs.inner.Pairs.{seen_span, seen_spans}
+use Rattle.fx_dropout.specs.inner.Places.{along_of, coordinate_of, IsMissed, IsOfPlaces, IsRunOfPlaces, ArePlacesNamed}
 use Rattle.fx_dropout.specs.inner.Stretched.{stretched_span}
 use Rattle.fx_dropout.proofs.Stretching.{centre_stretched, crossing_stretched, region_stretched, on_stretched}
 
--- ---- a piece seen with its coordinates exchanged
-pub all_seen : (P : Place → Type 0) (up : Bool) (s : Span) → HasAll (λ e. P (seen_place up e)) s → HasAll P (seen_span up s)
-all_seen P false s h = h
-all_seen P true s h = all_turned P s h
-
-pub seen_along : (up : Bool) (axis : Axis) (e : Place) → axis ≡ along_of up → coordinate_of axis e ≡ (seen_place up e).x
-seen_along false axis e is = ap (λ a. coordinate_of a e) is
-seen_along true axis e is = ap (λ a. coordinate_of a e) is
-
-pub seen_across : (up : Bool) (axis : Axis) (e : Place) → axis ≡ along_of (not up) → coordinate_of axis e ≡ (seen_place up e).y
-seen_across false axis e is = ap (λ a. coordinate_of a e) is
-seen_across true axis e is = ap (λ a. coordinate_of a e) is
-
-pub end_seen : (up : Bool) (s : Span) → ((seen_span up s).a ≡ seen_place up s.a) × ((seen_span up s).c ≡ seen_place up s.c)
-end_seen false s = (refl, refl)
-end_seen true s = (refl, refl)
-
 -- ---- a piece beside the places
+-- a piece whose points all lie beside a limit, seen with its coordinates exchanged or not: across rows, and along them
+pub seen_across : (R : ℤ → ℤ → Type 0) (up : Bool) (axis : Axis) (limit y : ℤ) (s : Span) → axis ≡ along_of (not up) → limit ≡ y
+    → HasAll (λ e. R limit (coordinate_of axis e)) s → HasAll (λ e. R y e.y) (seen_span up s)
+seen_across R up axis limit y s is e h =
+    by up (subst (λ (z : Axis × ℤ). HasAll (λ e. R z.1 (coordinate_of z.0 e)) s) (λ i. (is i, e i)) h)
+  where
+    by : (up : Bool) → HasAll (λ e. R y (coordinate_of (along_of (not up)) e)) s → HasAll (λ e. R y e.y) (seen_span up s)
+    by false h = h
+    by true h = all_turned (λ e. R y e.y) s h
+
+pub seen_along : (R : ℤ → ℤ → Type 0) (up : Bool) (axis : Axis) (limit x : ℤ) (s : Span) → axis ≡ along_of up → limit ≡ x
+    → HasAll (λ e. R limit (coordinate_of axis e)) s → HasAll (λ e. R x e.x) (seen_span up s)
+seen_along R up axis limit x s is e h =
+    by up (subst (λ (z : Axis × ℤ). HasAll (λ e. R z.1 (coordinate_of z.0 e)) s) (λ i. (is i, e i)) h)
+  where
+    by : (up : Bool) → HasAll (λ e. R x (coordinate_of (along_of up) e)) s → HasAll (λ e. R x e.x) (seen_span up s)
+    by false h = h
+    by true h = all_turned (λ e. R x e.x) s h
+
 -- a place off a piece
-off_added : (s : Span) (p : Place) (old new : Bool) (a b : ℤ) → ¬ (IsOn p s) → new ≡ old → b ≡ a +ℤ turn p s
+pub off_added : (s : Span) (p : Place) (old new : Bool) (a b : ℤ) → ¬ (IsOn p s) → new ≡ old → b ≡ a +ℤ turn p s
     → IsAdded s p old new a b
 off_added s p old new a b off same sum = record {
   here = false;
@@ -60,6 +62,9 @@ off_added s p old new a b off same sum = record {
   sum = λ _. sum;
   small = let t = turn_small p s in omega (arith, signed_linear, sum, t);
 }
+
+pub same_added : (s t : Span) (p : Place) (old new : Bool) (a b : ℤ) → s ≡ t → IsAdded s p old new a b → IsAdded t p old new a b
+same_added s t p old new a b e h = subst (λ (z : Span). IsAdded z p old new a b) e h
 
 -- nothing is added to the places that a piece misses
 pub missed_added : (s : Span) (col row : ℤ) (n : ℕ) (on : Bool) (a : ℤ) → IsMissed (centre col row) s
@@ -76,23 +81,20 @@ missed_added s col row n on a (inr (inr h)) =
     let none = right_of_all p s left in
     off_added s p on on a a (right_off p s left).1 refl (omega (arith, signed_linear, none))
 
--- one right of all places adds the same at each
-pub right_added : (s : Span) (col row limit y value : ℤ) (n : ℕ) (old new : Bool) (a b : ℤ) → n < 128
-    → limit ≡ (pos 128 *ℤ col +ℤ pos 64) +ℤ pos 127 → HasAll (λ e. limit <ℤ e.x) s → y ≡ pos 128 *ℤ row +ℤ pos 64
-    → value ≡ above y s.c.y -ℤ above y s.a.y → new ≡ old → b ≡ a +ℤ value → IsAdded s (place_on col row n) old new a b
-right_added s col row limit y value n old new a b l at h row_is is same sum =
-    let p = place_on col row n in
-    let right = HasAll-weaker (λ e. limit <ℤ e.x) (λ e. p.x <ℤ e.x) (λ e m. omega (arith, signed_linear, m, at)) s h in
-    let t = ap (λ z. above z s.c.y -ℤ above z s.a.y) (sym row_is) ∙ sym is in
-    let e = left_of_all p s right in
-    off_added s p old new a b (left_off p s right).1 same (omega (arith, signed_linear, sum, t, e))
-
 -- ---- a piece by its stretched row
-pub run_of_places : (f : Frame) (run : Option Run) → f.left ≡ pos 0 → f.width ≡ 128 → IsInside f run → IsRunOfPlaces run
-run_of_places f run left wide h = grind (arith, signed_linear, left, wide, h)
+pub part_places : (s : Span) (row : ℤ) (f : Frame) (part : RowPart) → f.left ≡ pos 0 → f.width ≡ 128 → IsRowPart s row f part
+    → IsOfPlaces part
+part_places s row f part left wide h = record {
+  crossing = run part.crossing (part_crosses s row f part h);
+  region = run part.region (part_regions s row f part h);
+  on = named part.on (on_inside s f part.on h.formed);
+}
+  where
+    run : (r : Option Run) → IsInside f r → IsRunOfPlaces r
+    run r h = grind (arith, signed_linear, left, wide, h)
 
-pub places_named : (f : Frame) (on : OnRow) → f.left ≡ pos 0 → f.width ≡ 128 → IsOnInside f on → ArePlacesNamed on
-places_named f on left wide h = grind (arith, signed_linear, left, wide, h)
+    named : (on : OnRow) → IsOnInside f on → ArePlacesNamed on
+    named on h = grind (arith, signed_linear, left, wide, h)
 
 pub part_added : (s : Span) (col row : ℤ) (f : Frame) (part : RowPart) (n : ℕ) (old new : Bool) (a b : ℤ) → n < 128
     → f.left ≡ pos 0 → f.width ≡ 128 → IsRowPart (stretched_span col s) row f part

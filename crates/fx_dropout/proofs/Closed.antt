@@ -10,7 +10,7 @@ use Rattle.fx_fixed.proofs.Order.{below_or_not}
 use Rattle.fx_fixed.proofs.Linear.{signed_linear}
 use Rattle.fx_winding.specs.declared.frame.Frame.{Frame}
 use Rattle.fx_winding.specs.Area.{Place}
-use Rattle.fx_winding.specs.Bitmaps.{Bits, AreWords, AreRowWords, IsScanOf, bit_of, rows_of, words_for, word_bit}
+use Rattle.fx_winding.specs.Bitmaps.{AreWords, AreRowWords, IsScanOf, bit_of, rows_of, words_for, word_bit}
 use Rattle.fx_winding.specs.Turned.{turned_span}
 use Rattle.fx_winding.specs.Frames.{IsFrom, IsInFrame, steps}
 use Rattle.fx_winding.specs.Notes.{AreExact, pixel_number, words_noted}
@@ -96,36 +96,29 @@ module _ (closing : Closing) (f : Frame) (ss : List Span) (across up old new : L
   abbrev next : Bool → ℕ → ℕ → Type 0
   next is_up k r = IsNextIn closing ss f is_up (f.left +ℤ pos k) (f.bottom +ℤ pos r)
 
-  row_line : NoneOutside f ss → (r : ℕ) → r < f.height
-      → IsLine ss (IsInFrame f) (IsNextChosen closing ss) (λ i j. IsCovered (centre i j) ss) f.left (f.bottom +ℤ pos r)
-      f.width (λ k. pixel f old k r) (λ k. note f across k r) (λ k. next false k r)
-  row_line outside r h = record {
-    set = λ n l.
-        let bit = pixel_bit f old r n h l in
-        let is = given.scanned.bits (f.left +ℤ pos n) (f.bottom +ℤ pos r) (in_frame f n r l h) in
-        (λ e. is.0 (bit.1 e), λ c. bit.0 (is.1 c));
-    bits = λ n. bit_at-lt _ _;
-    end = unused_bit f old r f.width given.words h (omega arith);
-    none_before = outside (f.left -ℤ pos 1) (f.bottom +ℤ pos r) (λ i. not_before f.left f.width i.column);
-    none_after = outside (f.left +ℤ pos f.width) (f.bottom +ℤ pos r) (λ i. not_after f.left f.width i.column);
-    tells = λ k l off off'.
-        let e = noted_bit f across r k (omega (arith, l)) in
-        let is = given.noted.across r k h l (record {
-          off_from = λ a. off (on_covers _ ss a);
-          off_to = λ a. off' (on_covers _ ss a);
-        }) in
-        (λ t. is.0 (sym e ∙ t), λ a. e ∙ is.1 a);
-    inside = λ n l. in_frame f n r l h;
-    before = λ i. not_before f.left f.width i.column;
-    after = λ i. not_after f.left f.width i.column;
-    right = λ n l. (λ t. t, λ t. t);
-  }
-
   row_closed : NoneOutside f ss → (r n : ℕ) → r < f.height → n < f.width
       → (pixel f given.closed.mid n r ≡ 1) ↔ IsRowSet closing ss f (f.left +ℤ pos n) (f.bottom +ℤ pos r)
   row_closed outside r n h l =
       line_closed ss (IsInFrame f) (IsNextChosen closing ss) (λ i j. IsCovered (centre i j) ss) f.left (f.bottom +ℤ pos r)
-      f.width _ _ _ (row_line outside r h) n _ l (given.closed.rows r n h (omega (arith, l)))
+      f.width _ _ (record {
+        set = λ n l.
+            let bit = pixel_bit f old r n h l in
+            let is = given.scanned.bits (f.left +ℤ pos n) (f.bottom +ℤ pos r) (in_frame f n r l h) in
+            (λ e. is.0 (bit.1 e), λ c. bit.0 (is.1 c));
+        bits = λ n. bit_at-lt _ _;
+        end = unused_bit f old r f.width given.words h (omega arith);
+        none = λ i. outside i (f.bottom +ℤ pos r);
+        tells = λ k l off off'.
+            let e = noted_bit f across r k (omega (arith, l)) in
+            let is = given.noted.across r k h l (record {
+              off_from = λ a. off (on_covers _ ss a);
+              off_to = λ a. off' (on_covers _ ss a);
+            }) in
+            (λ t. is.0 (sym e ∙ t), λ a. e ∙ is.1 a);
+        inside = λ n l. in_frame f n r l h;
+        before = λ i. not_before f.left f.width i.column;
+        after = λ i. not_after f.left f.width i.column;
+      }) n _ l (given.closed.rows r n h (omega (arith, l)))
 
   -- the bits after the last pixel stay 0
   row_rest : (r n : ℕ) → r < f.height → f.width ≤ n → n < 32 * words_for f.width → pixel f given.closed.mid n r ≡ 0
@@ -134,50 +127,34 @@ module _ (closing : Closing) (f : Frame) (ss : List Span) (across up old new : L
       (unused_bit f old r n given.words h w) (after (suc n) (omega (arith, w))) (by n refl)
     where
       after : (k : ℕ) → f.width < k → note f across k r ≡ 0
-      after k m = grind (
-        arith,
-        m,
-        below_or_not k (32 * words_noted f.width),
-        noted_bit f across r k,
-        given.noted.rest_across r k h m,
-        past_part across (r * words_noted f.width) (words_noted f.width) k,
-      )
+      after k m =
+          grind (arith, m, below_or_not k (32 * words_noted f.width), noted_bit f across, given.noted.rest_across r k h m, past_part)
 
       by : (m : ℕ) → m ≡ n → IsReached (λ k. pixel f old k r) (λ k. note f across k r) (λ k. next false k r) m → ⊥
       by zero e o = omega (arith, e, w, l)
-      by (suc m) e (o, next) =
-          grind (arith, signed_linear, e, w, o.noted_is, next.1.column, after (suc m), below_or_not f.width (suc m))
+      by (suc m) e (o, next) = omega (arith, signed_linear, e, w, next.1.column)
 
   -- ---- the columns
-  column_line : NoneOutside f ss → (k : ℕ) → 0 < f.height → k < f.width
-      → IsLine (map turned_span ss) (λ j i. IsInFrame f i j) (IsNextChosen closing (map turned_span ss))
-      (λ j i. IsRowSet closing ss f i j) f.bottom (f.left +ℤ pos k) f.height
-      (λ r. pixel f given.closed.mid k r) (λ r. note f up k r) (λ r. next true k r)
-  column_line outside k some l = record {
-    set = λ r h. row_closed outside r k h l;
-    bits = λ r. bit_at-lt _ _;
-    end = past_row given.closed.mid (words_for f.width) f.height k (omega (arith, given.closed.long, given.words.long));
-    none_before = row_outside closing f ss outside (f.left +ℤ pos k) (f.bottom -ℤ pos 1) (λ i. not_before f.bottom f.height i.row);
-    none_after = row_outside closing f ss outside (f.left +ℤ pos k) (f.bottom +ℤ pos f.height)
-        (λ i. not_after f.bottom f.height i.row);
-    tells = λ r h off off'.
-        let e = noted_bit f up r k (omega (arith, l)) in
-        let is = given.noted.up r k some h l (record {
-          off_from = λ a. off (inl (on_covers _ ss a));
-          off_to = λ a. off' (inl (on_covers _ ss a));
-        }) in
-        (λ t. is.0 (sym e ∙ t), λ a. e ∙ is.1 a);
-    inside = λ r h. in_frame f k r l h;
-    before = λ i. not_before f.bottom f.height i.row;
-    after = λ i. not_after f.bottom f.height i.row;
-    right = λ r h. (λ t. t, λ t. t);
-  }
-
   column_closed : NoneOutside f ss → (r k : ℕ) → r < f.height → k < f.width
       → (pixel f new k r ≡ 1) ↔ IsSet closing ss f (f.left +ℤ pos k) (f.bottom +ℤ pos r)
   column_closed outside r k h l =
       line_closed (map turned_span ss) (λ j i. IsInFrame f i j) (IsNextChosen closing (map turned_span ss))
-      (λ j i. IsRowSet closing ss f i j) f.bottom (f.left +ℤ pos k) f.height _ _ _ (column_line outside k (omega (arith, h)) l) r _
+      (λ j i. IsRowSet closing ss f i j) f.bottom (f.left +ℤ pos k) f.height _ _ (record {
+        set = λ r h. row_closed outside r k h l;
+        bits = λ r. bit_at-lt _ _;
+        end = past_row given.closed.mid (words_for f.width) f.height k (omega (arith, given.closed.long, given.words.long));
+        none = λ j. row_outside closing f ss outside (f.left +ℤ pos k) j;
+        tells = λ q m off off'.
+            let e = noted_bit f up q k (omega (arith, l)) in
+            let is = given.noted.up q k (omega (arith, h)) m l (record {
+              off_from = λ a. off (inl (on_covers _ ss a));
+              off_to = λ a. off' (inl (on_covers _ ss a));
+            }) in
+            (λ t. is.0 (sym e ∙ t), λ a. e ∙ is.1 a);
+        inside = λ r h. in_frame f k r l h;
+        before = λ i. not_before f.bottom f.height i.row;
+        after = λ i. not_after f.bottom f.height i.row;
+      }) r _
       h (given.closed.columns r k h (omega (arith, l)))
 
   column_rest : (r k : ℕ) → r < f.height → f.width ≤ k → k < 32 * words_for f.width → pixel f new k r ≡ 0
@@ -192,7 +169,7 @@ module _ (closing : Closing) (f : Frame) (ss : List Span) (across up old new : L
 
       by : (m : ℕ) → m ≡ r → IsReached (λ q. pixel f given.closed.mid k q) (λ q. note f up k q) (λ q. next true k q) m → ⊥
       by zero e o = let x = o.noted_is in let y = unnoted 0 (omega arith) in omega (arith, x, y)
-      by (suc m) e (o, next) = let x = o.noted_is in let y = unnoted (suc m) (omega (arith, e, h)) in omega (arith, x, y)
+      by (suc m) e (o, next) = omega (arith, signed_linear, w, next.1.column)
 
   -- ---- the bitmap
   pub closed_words : length new ≡ length old → AreWords f.height f.width new
@@ -217,30 +194,9 @@ module _ (closing : Closing) (f : Frame) (ss : List Span) (across up old new : L
       let r = steps f.bottom j in
       let l = steps_below f.left f.width i inside.column in
       let h = steps_below f.bottom f.height j inside.row in
-      grind (
-        arith,
-        pixel_bit f new r k h l,
-        column_closed outside r k h l,
-        steps_back f.left f.width i inside.column,
-        steps_back f.bottom f.height j inside.row,
-      )
+      grind (arith, pixel_bit f new r k h l, column_closed outside r k h l, steps_back, inside.column, inside.row)
 
 -- ---- for `close_gaps`
 -- a list that was lent whole and came back
 pub lent : (xs ys : List ℕ) (n : ℕ) → length ys ≡ length xs → n ≡ length xs → take n (ys ++ drop (length ys) xs) ≡ ys
 lent xs ys n e f = (λ t. take ((f ∙ sym e) t) (ys ++ drop (length ys) xs)) ∙ take_at ys (drop (length ys) xs) (length ys) refl
-
-pub given_of : (closing : Closing) (f : Frame) (ss : List Span) (b : Bits) (across up old new : List ℕ) → f ≡ b.frame
-    → IsScanOf b.frame ss b → AreExact b.frame across up ss → AreWords b.frame.height b.frame.width old
-    → b ≡ record { frame = b.frame; rows = rows_of b.frame.height b.frame.width old }
-    → AreClosedWords (IsNextIn closing ss f) f across up old new → IsGiven closing f ss across up old new
-given_of closing f ss b across up old new e scan noted words value closed = grind (arith, e, scan, noted, words, value, closed)
-
-pub gaps_closed : (closing : Closing) (f : Frame) (ss : List Span) (across up old new : List ℕ)
-    → IsGiven closing f ss across up old new → (b r : Bits) → f ≡ b.frame
-    → r ≡ record { frame = f; rows = rows_of f.height f.width new } → NoneOutside b.frame ss → (i j : ℤ) → IsInFrame b.frame i j
-    → IsTrue (bit_of r i j) ↔ IsSet closing ss b.frame i j
-gaps_closed closing f ss across up old new given b r e value outside i j inside =
-    subst (λ (z : Bits × Frame). IsTrue (bit_of z.0 i j) ↔ IsSet closing ss z.1 i j) (λ t. (sym value t, e t))
-    (closed_pixels closing f ss across up old new given
-    (subst (λ (g : Frame). NoneOutside g ss) (sym e) outside) i j (subst (λ (g : Frame). IsInFrame g i j) (sym e) inside))

@@ -10,19 +10,16 @@ use Rattle.fx_dropout.specs.Dropout.{IsGap, IsClosedByLeft, IsClosedByRight, IsB
 use Rattle.fx_dropout.specs.inner.Closing.{IsOpen, IsOpenAt, IsReached, IsClosedBit}
 
 -- bits of pixels and of segments, for what is set and what pieces meet in a row, from a column on
-pub record IsLine (ss : List Span) (In Right So : ℤ → ℤ → Type 0) (first j : ℤ) (count : ℕ) (pixels noted : ℕ → ℕ)
-    (IsNext : ℕ → Type 0) : Type 0 where
+pub record IsLine (ss : List Span) (In Right So : ℤ → ℤ → Type 0) (first j : ℤ) (count : ℕ) (pixels noted : ℕ → ℕ) : Type 0 where
   pub set : (n : ℕ) → n < count → (pixels n ≡ 1) ↔ So (first +ℤ pos n) j
   pub bits : (n : ℕ) → pixels n < 2
   pub end : pixels count ≡ 0
-  pub none_before : ¬ (So (first -ℤ pos 1) j)
-  pub none_after : ¬ (So (first +ℤ pos count) j)
+  pub none : (i : ℤ) → ¬ (In i j) → ¬ (So i j)
   pub tells : (k : ℕ) → k ≤ count → ¬ (So ((first -ℤ pos 1) +ℤ pos k) j) → ¬ (So (first +ℤ pos k) j)
       → (noted k ≡ 1) ↔ Any (IsMet (centre ((first -ℤ pos 1) +ℤ pos k) j) (centre (first +ℤ pos k) j)) ss
   pub inside : (n : ℕ) → n < count → In (first +ℤ pos n) j
   pub before : ¬ (In (first -ℤ pos 1) j)
   pub after : ¬ (In (first +ℤ pos count) j)
-  pub right : (n : ℕ) → n < count → IsNext n ↔ (Right (first +ℤ pos n) j × In ((first +ℤ pos n) +ℤ pos 1) j)
 
 -- a bit of 0
 zero_of : (b : ℕ) (P : Type 0) → b < 2 → (b ≡ 1) ↔ P → ¬ P → b ≡ 0
@@ -41,17 +38,21 @@ left_is : (ss : List Span) (In Right So : ℤ → ℤ → Type 0) (i j : ℤ) (O
     → Open ↔ IsGap ss So i j → Next ↔ (Right i j × In (i +ℤ pos 1) j) → (Open × ¬ Next) ↔ IsClosedByLeft ss In Right So i j
 left_is ss In Right So i j Open Next after gap chosen = grind (arith, after, gap, chosen)
 
-module _ (ss : List Span) (In Right So : ℤ → ℤ → Type 0) (first j : ℤ) (count : ℕ) (pixels noted : ℕ → ℕ) (IsNext : ℕ → Type 0)
-    (line : IsLine ss In Right So first j count pixels noted IsNext) where
+module _ (ss : List Span) (In Right So : ℤ → ℤ → Type 0) (first j : ℤ) (count : ℕ) (pixels noted : ℕ → ℕ)
+    (line : IsLine ss In Right So first j count pixels noted) where
+  -- the next pixel is chosen, and inside
+  abbrev IsNext : ℕ → Type 0
+  IsNext n = Right (first +ℤ pos n) j × In ((first +ℤ pos n) +ℤ pos 1) j
+
   -- a pixel of the line, or the one after its last: its bit is 0 exactly if it is not set
   clear : (n : ℕ) → n ≤ count → (pixels n ≡ 0) ↔ ¬ (So (first +ℤ pos n) j)
-  clear n l = grind (arith, signed_linear, line, below_or_not n count, unset, zero_of)
+  clear n l = grind (arith, signed_linear, line, line.none (first +ℤ pos count) line.after, below_or_not n count, unset, zero_of)
 
   -- the segment k is open exactly if there is a gap
   is_gap : (k : ℕ) (i : ℤ) → k ≤ count → i ≡ (first -ℤ pos 1) +ℤ pos k → IsOpenAt pixels noted k ↔ IsGap ss So i j
   is_gap zero i l e =
       let here : first -ℤ pos 1 ≡ (first -ℤ pos 1) +ℤ pos 0 = omega (arith, signed_linear) in
-      let none = subst (λ z. ¬ (So z j)) here line.none_before in
+      let none = subst (λ z. ¬ (So z j)) here (line.none (first -ℤ pos 1) line.before) in
       open_gap ss So i _ _ j (noted 0) 0 (pixels 0) e (omega (arith, signed_linear, e)) (λ _. none, λ _. refl) (clear 0 l)
       (line.tells 0 l)
   is_gap (suc n) i l e =
@@ -71,7 +72,7 @@ module _ (ss : List Span) (In Right So : ℤ → ℤ → Type 0) (first j : ℤ)
       let here : i ≡ first +ℤ pos m = omega (arith, signed_linear) in
       let next : (first +ℤ pos m) +ℤ pos 1 ≡ first +ℤ pos (suc m) = omega (arith, signed_linear) in
       let k : m < count = omega (arith, l) in
-      grind (arith, here, next, line.inside m k, line.inside (suc m) l, line.right m k, is_gap (suc m) i (omega (arith, l)) at)
+      grind (arith, here, next, line.inside m k, line.inside (suc m) l, is_gap (suc m) i (omega (arith, l)) at)
 
   after : (n : ℕ) → n < count → In ((first +ℤ pos n) +ℤ pos 1) j ⊎ ¬ (In ((first +ℤ pos n) +ℤ pos 1) j)
   after n l = elim (below_or_not (suc n) count) [
@@ -87,7 +88,7 @@ module _ (ss : List Span) (In Right So : ℤ → ℤ → Type 0) (first j : ℤ)
   line_closed n new l is =
       let at : first +ℤ pos n ≡ (first -ℤ pos 1) +ℤ pos (suc n) = omega (arith, signed_linear) in
       let left = left_is ss In Right So (first +ℤ pos n) j _ (IsNext n) (after n l)
-      (is_gap (suc n) (first +ℤ pos n) (omega (arith, l)) at) (line.right n l) in
+      (is_gap (suc n) (first +ℤ pos n) (omega (arith, l)) at) (λ h. h, λ h. h) in
       let right = reached n l in (
         λ t. ⊎_map (line.set n l).0 (λ h. record { inside = line.inside n l; closes = ⊎_map left.0 right.0 h }) (is.0 t),
         λ b. is.1 (⊎_map (line.set n l).1 (λ b. ⊎_map left.1 right.1 b.closes) b),

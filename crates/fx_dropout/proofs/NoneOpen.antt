@@ -135,44 +135,16 @@ none_open f across up words flat = record {
 
     column : (r n : ℕ) → r ≤ f.height → n < 32 * size
         → ¬ (IsOpenAt (λ k. grid_bit words size n k) (λ k. grid_bit up (words_noted f.width) n k) r)
-    column zero n h l o = grind (
-      arith,
-      o,
-      l,
-      flat.same,
-      flat.first (n / 32) (n % 32),
-      part_word words (0 * size) size n,
-      part_word up (0 * size) size n,
-    )
+    column zero n h l o = grind (arith, o, l, flat.same, flat.first (n / 32) (n % 32), part_word)
     column (suc r) n h l o = by (below_or_not (suc r) f.height)
       where
         one : suc r * size + n / 32 ≡ size + (r * size + n / 32)
         one = omega arith
 
         by : (suc r < f.height) ⊎ (f.height ≤ suc r) → ⊥
-        by (inl k) = grind (
-          arith,
-          o,
-          l,
-          flat.same,
-          one,
-          within (suc r) k,
-          flat.inner (r * size + n / 32) (n % 32),
-          part_word words (r * size) size n,
-          part_word words (suc r * size) size n,
-          part_word up (suc r * size) size n,
-        )
+        by (inl k) =
+            grind (arith, o, l, flat.same, one, within (suc r) k, flat.inner (r * size + n / 32) (n % 32), part_word)
         by (inr k) =
             let e : suc r ≡ f.height = omega (arith, h, k) in
             let all : length words ≡ r * size + size = flat.held.long ∙ sym (ap (λ (n : ℕ). n * size) e) ∙ omega arith in
-            grind (
-              arith,
-              o,
-              l,
-              flat.same,
-              one,
-              all,
-              flat.last (n / 32) (n % 32),
-              part_word words (r * size) size n,
-              part_word up (suc r * size) size n,
-            )
+            grind (arith, o, l, flat.same, one, all, flat.last (n / 32) (n % 32), part_word)

@@ -1,8 +1,7 @@
 -- Drop-out control sets, for pieces moved by whole pixels, the pixels that it sets for the pieces, moved: `shift_moves_set`.
 -- Serves the law `dropout`.
-use Rattle.std.proofs.Common.{◌≡◌, ◌↔◌, refl, ap, ◌∙◌, subst, ℕ, ℤ, pos, ◌+ℤ◌, ◌-ℤ◌, ◌*ℤ◌}
+use Rattle.std.proofs.Common.{◌≡◌, ◌↔◌, refl, ap, ◌∙◌, subst, ℕ, ℤ, pos, ◌+ℤ◌, ◌*ℤ◌}
 use Rattle.std.proofs.Common.{List, [], ◌∷◌, map, arith}
-use Rattle.fx_fixed.proofs.Ring.{ring}
 use Rattle.fx_fixed.proofs.Linear.{signed_linear}
 use Rattle.fx_winding.specs.Area.{Place, place}
 use Rattle.fx_winding.specs.Turned.{turned_span}
@@ -12,30 +11,22 @@ use Rattle.fx_winding.specs.Moves.{shifted_place, shifted}
 use Rattle.fx_winding.specs.Winding.{Span, IsCovered, centre}
 use Rattle.fx_winding.proofs.Covers.{any_map, any_unmap}
 use Rattle.fx_winding.proofs.Meeting.{shift_meets}
-use Rattle.fx_winding.proofs.Shifts.{shift_moves_cover, shift_moves_bits}
+use Rattle.fx_winding.proofs.Shifts.{centre_shift, shift_moves_cover, shift_moves_bits}
 use Rattle.fx_dropout.specs.declared.chooser.Closing.{Closing}
 use Rattle.fx_dropout.specs.Dropout.{IsNextChosen, IsSet, place_on}
 use Rattle.fx_dropout.specs.Laws.{ShiftMovesSet}
 use Rattle.fx_dropout.proofs.SetPixels.{AreMet, AreRowsMoved, IsMoved, KeepsNeighbours, as_moved, chosen_along, set_moved}
 
-along : (i k : ℤ) → (pos 128 *ℤ i +ℤ pos 64) +ℤ pos 128 *ℤ k ≡ pos 128 *ℤ (i +ℤ k) +ℤ pos 64
-along i k = grind (arith, signed_linear, ring)
-
-along_from : (i k : ℤ) (n : ℕ) → ((pos 128 *ℤ i +ℤ pos 64) +ℤ pos n) +ℤ pos 128 *ℤ k ≡ (pos 128 *ℤ (i +ℤ k) +ℤ pos 64) +ℤ pos n
-along_from i k n = let e = along i k in omega (arith, signed_linear, e)
-
 place_shift : (k l i j : ℤ) (n : ℕ)
     → shifted_place (pos 128 *ℤ k) (pos 128 *ℤ l) (place_on i j n) ≡ place_on (i +ℤ k) (j +ℤ l) n
-place_shift k l i j n = λ t. place (along_from i k n t) (along j l t)
+place_shift k l i j n =
+    let at = centre_shift k l i j in
+    let x = ap (λ (q : Place). q.x) at in
+    let across : ((pos 128 *ℤ i +ℤ pos 64) +ℤ pos n) +ℤ pos 128 *ℤ k ≡ (pos 128 *ℤ (i +ℤ k) +ℤ pos 64) +ℤ pos n =
+    omega (arith, signed_linear, x) in λ t. place (across t) ((at t).y)
 
-centre_shift : (k l i j : ℤ) → shifted_place (pos 128 *ℤ k) (pos 128 *ℤ l) (centre i j) ≡ centre (i +ℤ k) (j +ℤ l)
-centre_shift k l i j = λ t. place (along i k t) (along j l t)
-
-next_shift : (i k : ℤ) → (i +ℤ pos 1) +ℤ k ≡ (i +ℤ k) +ℤ pos 1
-next_shift i k = omega (arith, signed_linear)
-
-before_shift : (i k : ℤ) → (i -ℤ pos 1) +ℤ k ≡ (i +ℤ k) -ℤ pos 1
-before_shift i k = omega (arith, signed_linear)
+keeps : (k : ℤ) → KeepsNeighbours (λ i. i +ℤ k)
+keeps k = record { after = λ i. omega (arith, signed_linear); before = λ i. omega (arith, signed_linear) }
 
 -- the places that pieces cover, and the segments that they meet
 covered_shift : (k l : ℤ) (ss : List Span) (i j : ℤ) (n : ℕ)
@@ -51,7 +42,7 @@ met_shift k l s i j =
     subst (λ (z : Place × Place). IsMet z.0 z.1 (shifted (pos 128 *ℤ k) (pos 128 *ℤ l) s) ↔
     IsMet (centre i j) (centre (i +ℤ pos 1) j) s) (λ t. (
       centre_shift k l i j t,
-      (centre_shift k l (i +ℤ pos 1) j ∙ ap (λ m. centre m (j +ℤ l)) (next_shift i k)) t,
+      (centre_shift k l (i +ℤ pos 1) j ∙ ap (λ m. centre m (j +ℤ l)) ((keeps k).after i)) t,
     )) (shift_meets (pos 128 *ℤ k) (pos 128 *ℤ l) (centre i j) (centre (i +ℤ pos 1) j) s)
 
 any_met_shift : (k l : ℤ) (ss : List Span) (i j : ℤ)
@@ -76,27 +67,15 @@ rows_shift closing k l ss =
       met = as_moved (λ i. i +ℤ k) (λ j. j +ℤ l) (AreMet ss) (AreMet ts) (any_met_shift k l ss);
     }
 
-keeps : (k : ℤ) → KeepsNeighbours (λ i. i +ℤ k)
-keeps k = record { after = λ i. next_shift i k; before = λ i. before_shift i k }
-
 pub shift_moves_set : ShiftMovesSet
 shift_moves_set closing k l ss f g e i j = (λ h. all.back i j h, λ h. all.on i j h)
   where
-    right : ℤ → ℤ
-    right i = i +ℤ k
-
-    up : ℤ → ℤ
-    up j = j +ℤ l
-
-    ts : List Span
-    ts = map (shifted (pos 128 *ℤ k) (pos 128 *ℤ l)) ss
-
-    all : IsMoved right up (IsSet closing ss f) (IsSet closing ts g)
-    all = set_moved closing right up (keeps k) (keeps l) ss ts (IsInFrame f) (IsInFrame g) (record {
-      inside = as_moved right up (IsInFrame f) (IsInFrame g) e;
-      covered = as_moved right up (λ i j. IsCovered (centre i j) ss) (λ i j. IsCovered (centre i j) ts)
-          (λ i j. shift_moves_bits k l i j ss);
+    all : IsMoved (λ i. i +ℤ k) (λ j. j +ℤ l) (IsSet closing ss f)
+        (IsSet closing (map (shifted (pos 128 *ℤ k) (pos 128 *ℤ l)) ss) g)
+    all = set_moved closing _ _ (keeps k) (keeps l) ss _ (IsInFrame f) (IsInFrame g) (record {
+      inside = as_moved _ _ (IsInFrame f) (IsInFrame g) e;
+      covered = as_moved _ _ _ _ (λ i j. shift_moves_bits k l i j ss);
       rows = rows_shift closing k l ss;
-      columns = subst (AreRowsMoved closing up right (map turned_span ss)) (turned_shift (pos 128 *ℤ k) (pos 128 *ℤ l) ss)
-          (rows_shift closing l k (map turned_span ss));
+      columns = subst (AreRowsMoved closing (λ j. j +ℤ l) (λ i. i +ℤ k) (map turned_span ss))
+          (turned_shift (pos 128 *ℤ k) (pos 128 *ℤ l) ss) (rows_shift closing l k (map turned_span ss));
     })

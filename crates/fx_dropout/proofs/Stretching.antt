@@ -1,7 +1,7 @@
 -- A stretched piece has the stretched places on it, and adds at them what the piece adds: `on_stretched`, `crossing_stretched`,
 -- `region_stretched`.
 -- Serves `nearer`.
-use Rattle.std.proofs.Common.{◌≡◌, ◌↔◌, refl, sym, ap, ◌∙◌, subst, ℕ, ℤ, pos, ◌+ℤ◌, ◌-ℤ◌, ◌*ℤ◌, ◌≤ℤ◌, ◌<ℤ◌}
+use Rattle.std.proofs.Common.{◌≡◌, ◌↔◌, refl, ap, ◌∙◌, ℕ, ℤ, pos, ◌+ℤ◌, ◌-ℤ◌, ◌*ℤ◌, ◌≤ℤ◌, ◌<ℤ◌}
 use Rattle.std.proofs.Common.{int_lt, ◌&&◌, ◌||◌, Option, Some, None, [], ◌∷◌, option_map, arith}
 use Rattle.std.specs.Ordering.{int_eq}
 use Rattle.std.proofs.Math.Logic.{⊎_map}
@@ -74,17 +74,12 @@ chord_stretched u v w = grind (arith, ints)
 
 right_stretched : (col : ℤ) (a b c : Place)
     → is_right_of_chord (stretched_place col a) (stretched_place col b) (stretched_place col c) ≡ is_right_of_chord a b c
-right_stretched col a b c =
-    ap (λ z. int_lt (pos 0) (z *ℤ (c.y -ℤ a.y)) || (int_eq a.y c.y && int_lt a.y b.y)) (area_stretched col a b c)
-    ∙ tests (area a b c *ℤ (c.y -ℤ a.y)) (pos 128 *ℤ area a b c *ℤ (c.y -ℤ a.y))
-    (ring (area a b c ∷ c.y ∷ a.y ∷ []) (num (pos 128) ⊠ var 0 ⊠ (var 1 ⊟ var 2)) (num (pos 128) ⊠ (var 0 ⊠ (var 1 ⊟ var 2))) tt)
+right_stretched col a b c = tests (area a b c *ℤ (c.y -ℤ a.y)) _ (ap (λ z. z *ℤ (c.y -ℤ a.y)) (area_stretched col a b c)
+    ∙ ring (area a b c ∷ c.y ∷ a.y ∷ []) (num (pos 128) ⊠ var 0 ⊠ (var 1 ⊟ var 2)) (num (pos 128) ⊠ (var 0 ⊠ (var 1 ⊟ var 2))) tt)
   where
     tests : (z y : ℤ) → y ≡ pos 128 *ℤ z
         → (int_lt (pos 0) y || (int_eq a.y c.y && int_lt a.y b.y)) ≡ (int_lt (pos 0) z || (int_eq a.y c.y && int_lt a.y b.y))
-    tests z y e = ap (λ t. t || (int_eq a.y c.y && int_lt a.y b.y)) (above z y e)
-      where
-        above : (z y : ℤ) → y ≡ pos 128 *ℤ z → int_lt (pos 0) y ≡ int_lt (pos 0) z
-        above z y e = grind (arith, ints)
+    tests z y e = grind (arith, ints)
 
 region_part_stretched : (col : ℤ) (a : Place) (b : Option Place) (c p : Place)
     → region_part (stretched_place col a) (option_map (stretched_place col) b) (stretched_place col c) (stretched_place col p)
@@ -108,10 +103,8 @@ region_stretched col p s = region_part_stretched col s.a s.b s.c p
 -- ---- on a piece
 none_stretched : (col : ℤ) (a b c : Place)
     → (area (stretched_place col a) (stretched_place col b) (stretched_place col c) ≡ pos 0) ↔ (area a b c ≡ pos 0)
-none_stretched col a b c = none (area a b c) _ (area_stretched col a b c)
-  where
-    none : (z y : ℤ) → y ≡ pos 128 *ℤ z → (y ≡ pos 0) ↔ (z ≡ pos 0)
-    none z y e = (λ h. omega (arith, signed, e, h), λ h. omega (arith, signed, e, h))
+none_stretched col a b c =
+    let e = area_stretched col a b c in (λ h. omega (arith, signed, e, h), λ h. omega (arith, signed, e, h))
 
 at_most : (col x y : ℤ) → (stretched_x col x ≤ℤ stretched_x col y) ↔ (x ≤ℤ y)
 at_most col x y = (λ h. omega (arith, signed, h), λ h. omega (arith, signed, h))
@@ -149,66 +142,24 @@ range_stretched col a b c p =
     (λ r. record { low = low.0 r.low; high = high.0 r.high }, λ r. record { low = low.1 r.low; high = high.1 r.high })
 
 arc_stretched : (u v w : ℤ) → AreOnArc (pos 128 *ℤ u) (pos 128 *ℤ v) (pos 128 *ℤ w) ↔ AreOnArc u v w
-arc_stretched u v w = signs (gap_of u v w) _ (gap_stretched u v w)
-  where
-    signs : (g h : ℤ) → h ≡ pos 16384 *ℤ g
-        → ((pos 0 ≤ℤ (pos 128 *ℤ u)) × (pos 0 ≤ℤ (pos 128 *ℤ v)) × (pos 0 ≤ℤ (pos 128 *ℤ w)) × (h ≡ pos 0))
-        ↔ ((pos 0 ≤ℤ u) × (pos 0 ≤ℤ v) × (pos 0 ≤ℤ w) × (g ≡ pos 0))
-    signs g h e = (
-      λ t. (omega (arith, signed, t.0), omega (arith, signed, t.1), omega (arith, signed, t.2), omega (arith, signed, e, t.3)),
-      λ t. (omega (arith, signed, t.0), omega (arith, signed, t.1), omega (arith, signed, t.2), omega (arith, signed, e, t.3)),
-    )
+arc_stretched u v w = grind (arith, signed, gap_stretched u v w)
 
 curve_stretched : (col : ℤ) (a b c p : Place)
     → IsOnCurve (stretched_place col a) (stretched_place col b) (stretched_place col c) (stretched_place col p) ↔ IsOnCurve a b c p
 curve_stretched col a b c p =
-    let bent = none_stretched col a b c in
-    let arc = subst (λ (z : ℤ × ℤ × ℤ). AreOnArc z.0 z.1 z.2 ↔ AreOnArc (weight_a a b c p) (weight_b a b c p) (weight_c a b c p))
-    (λ i. (
-      sym (weight_stretched col a b c p b c) i,
-      sym (weight_stretched col a b c a p c) i,
-      sym (weight_stretched col a b c a b p) i,
-    )) (arc_stretched (weight_a a b c p) (weight_b a b c p) (weight_c a b c p)) in (
-      λ o. record { bent = λ e. o.bent (bent.1 e); on_arc = arc.0 o.on_arc },
-      λ o. record { bent = λ e. o.bent (bent.0 e); on_arc = arc.1 o.on_arc },
-    )
+    let weight = weight_stretched col a b c in
+    let arc = arc_stretched (weight_a a b c p) (weight_b a b c p) (weight_c a b c p) in
+    grind (arith, signed_linear, none_stretched col a b c, arc, weight p b c, weight a p c, weight a b p)
 
 flat_stretched : (col : ℤ) (a b c p : Place)
     → IsOnFlatArc (stretched_place col a) (stretched_place col b) (stretched_place col c) (stretched_place col p)
     ↔ IsOnFlatArc a b c p
-flat_stretched col a b c p =
-    let flat = none_stretched col a b c in
-    let ab = none_stretched col a b p in
-    let bc = none_stretched col b c p in
-    let ac = none_stretched col a c p in
-    let x = range_stretched col a.x b.x c.x p.x in (
-      λ o. record {
-        flat = flat.0 o.flat;
-        with_ab = ab.0 o.with_ab;
-        with_bc = bc.0 o.with_bc;
-        with_ac = ac.0 o.with_ac;
-        range_x = x.0 o.range_x;
-        range_y = o.range_y;
-      },
-      λ o. record {
-        flat = flat.1 o.flat;
-        with_ab = ab.1 o.with_ab;
-        with_bc = bc.1 o.with_bc;
-        with_ac = ac.1 o.with_ac;
-        range_x = x.1 o.range_x;
-        range_y = o.range_y;
-      },
-    )
+flat_stretched col a b c p = grind (arith, signed_linear, none_stretched, range_stretched col a.x b.x c.x p.x)
 
 on_part_stretched : (col : ℤ) (a : Place) (b : Option Place) (c p : Place)
     → IsOnPart (stretched_place col a) (option_map (stretched_place col) b) (stretched_place col c) (stretched_place col p)
     ↔ IsOnPart a b c p
-on_part_stretched col a None c p =
-    let none = none_stretched col a c p in
-    let x = between_stretched col a.x c.x p.x in (
-      λ o. record { collinear = none.0 o.collinear; between_x = x.0 o.between_x; between_y = o.between_y },
-      λ o. record { collinear = none.1 o.collinear; between_x = x.1 o.between_x; between_y = o.between_y },
-    )
+on_part_stretched col a None c p = grind (arith, signed_linear, none_stretched col a c p, between_stretched col a.x c.x p.x)
 on_part_stretched col a (Some b) c p =
     let curve = curve_stretched col a b c p in
     let flat = flat_stretched col a b c p in

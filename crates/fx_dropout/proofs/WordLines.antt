@@ -48,16 +48,7 @@ cell_other : (words new : List ℕ) (size column row i j : ℕ) → column < siz
     → get_or (take size (drop (j * size) new)) i 0 ≡ get_or (take size (drop (j * size) words)) i 0
 cell_other words new size column row i j l others h =
     let far : i < size → j * size + i ≢ row * size + column = λ m e. apart row column j i size l m h (sym e) in
-    grind (
-      arith,
-      below_or_not i size,
-      far,
-      cell new size i j,
-      cell words size i j,
-      no_cell new size i j,
-      no_cell words size i j,
-      others (j * size + i),
-    )
+    grind (arith, below_or_not i size, far, cell, no_cell, others (j * size + i))
 
 pub line_other : (up : Bool) (f : Frame) (words new : List ℕ) (line k i j : ℕ) → line < words_along (not up) f
     → k < words_along up f → ((w : ℕ) → w ≢ word_place up (words_for f.width) line k → get_or new w 0 ≡ get_or words w 0)
@@ -133,10 +124,7 @@ pub record IsWordClosed (up : Bool) (p : Pass) (line k before gaps nexts x : ℕ
 gap_there : (up : Bool) (p : Pass) (line k before gaps nexts x c : ℕ) → IsWordClosed up p line k before gaps nexts x → c < 32
     → let n = 32 * word_column up line k + c in let r = word_row up line k in (bit_at gaps (31 - c) ≡ 1)
     ↔ IsOpenAt (pixels_on up p n r) (notes_on up p n r) (suc (number_on up n r))
-gap_there up p line k before gaps nexts x c is l =
-    subst (λ z. z) (λ t. (bit_at gaps (31 - c) ≡ 1)
-    ↔ IsOpen (next_there up p.noted (words_noted p.chooser.frame.width) line k c l t)
-    (bit_there up p.old (size_of p) line k c l t) (next_there up p.old (size_of p) line k c l t)) (is.gap c l)
+gap_there up p line k before gaps nexts x c is l = grind (arith, l, is.gap c l, next_there up, bit_there up)
 
 chosen_there : (up : Bool) (p : Pass) (line k before gaps nexts x c : ℕ) → IsWordClosed up p line k before gaps nexts x → c < 32
     → let n = 32 * word_column up line k + c in let r = word_row up line k in (bit_at nexts (31 - c) ≡ 1)
@@ -148,9 +136,7 @@ reached_next : (up : Bool) (p : Pass) (line k before gaps nexts x c : ℕ) → I
     → let n = 32 * word_column up line k + c in let r = word_row up line k in (bit_at nexts (31 - c) ≡ 1)
     ↔ IsReached (pixels_on up p n r) (notes_on up p n r) (chosen_on up p n r) (suc (number_on up n r))
 reached_next up p line k before gaps nexts x c is l =
-    let gapped = gap_there up p line k before gaps nexts x c is l in
-    let chosen = chosen_there up p line k before gaps nexts x c is l in
-    (λ t. let h = chosen.0 t in (gapped.0 h.0, h.1), λ r. chosen.1 (gapped.1 r.0, r.1))
+    grind (arith, gap_there up p line k before gaps nexts x c is l, chosen_there up p line k before gaps nexts x c is l)
 
 -- the pixels of a word that close the segments before them
 reached_there : (up : Bool) (p : Pass) (line k before gaps nexts x c : ℕ) → IsWordClosed up p line k before gaps nexts x
@@ -211,15 +197,7 @@ at_first false p line note here before e f h k =
 at_first true p line note here before e f h k = record {
   note_is = e;
   here_is = f;
-  reached = λ word c l z. grind (
-    arith,
-    l,
-    e,
-    f,
-    h refl c l,
-    bit_there true p.noted (words_noted p.chooser.frame.width) line 0 c l,
-    bit_there true p.old (size_of p) line 0 c l,
-  );
+  reached = λ word c l z. grind (arith, l, e, f, h refl c l, bit_there true);
 }
 
 -- a word more

@@ -19,7 +19,7 @@ pub(crate) fn along(is_turned: bool) -> Axis
 
 /// A point's coordinate along an axis.
 #[inline(always)]
-pub(crate) fn coordinate(p: Point, axis: Axis) -> i32
+fn coordinate(p: Point, axis: Axis) -> i32
     ensures value { result ≡ coordinate_of axis (place_of p) }
     ensures near { IsWithin (2 ^ 30) result }
 {

@@ -27,18 +27,6 @@ pub(crate) struct Chooser<'a> {
     pub closing: Closing,
 }
 
-/// The pixels of a word from the first one that is set to the last one, as a range.
-fn set_pixels(word: u32) -> (usize, usize)
-    requires { 0 < word }
-    ensures order { result.0 < result.1 }
-    ensures few { result.1 ≤ 32 }
-    ensures before { (k : ℕ) → k < result.0 → bit_at word (31 - k) ≡ 0 }
-    ensures after { (k : ℕ) → result.1 ≤ k → k < 32 → bit_at word (31 - k) ≡ 0 }
-{
-    let first = word.leading_zeros() as usize;
-    (first, 32 - word.trailing_zeros() as usize)
-}
-
 /// Whether a word has the bit of its pixel k, counted from the left.
 fn has_bit(word: u32, k: usize) -> bool
     requires { k < 32 }
@@ -81,7 +69,6 @@ impl<'a> Chooser<'a> {
     #[tactic(auto, using(crate::proofs::Tests::all_of))]
     fn nearer(&self, word: GapWord, tally: &mut Tally) -> u32
         requires nearer { self.now.closing ≡ Nearer }
-        requires some { 0 < word.gaps }
         requires column { word.column < words_for_of self.now.frame.width }
         requires row { word.row < self.now.frame.height }
         ensures bits { (c : ℕ) → c < 32 →
@@ -89,9 +76,8 @@ impl<'a> Chooser<'a> {
         ensures count { tally.new.count ≤ tally.old.count + 32 * (10 * length self.now.pieces.now) }
     {
         let mut found = [0u32];
-        let (first, end) = set_pixels(word.gaps);
-        // The bits of the first k pixels are found; those before the first gap are 0.
-        'pixels: for k in first..end {
+        // The bits of the first k pixels are found.
+        'pixels: for k in 0..32 {
             put_bit(&mut found, k, self.is_next(word, k, tally));
         }
         found[0]

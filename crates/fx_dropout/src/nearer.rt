@@ -1,15 +1,15 @@
 //! Which of two neighbours is nearer to the stroke that passes between their centres.
 
-ghost use Rattle.std.specs.Prelude.{All, ◌≡◌, ◌↔◌, ℕ, ◌+◌, ◌*◌, ◌^◌, ◌≤◌, ◌<◌, pos, ◌-ℤ◌, false, IsTrue, length, map};
+ghost use Rattle.std.specs.Prelude.{All, ◌≡◌, ◌↔◌, ℕ, ◌+◌, ◌*◌, ◌^◌, ◌≤◌, ◌<◌, ◌-ℤ◌, pos, false, IsTrue, length, map};
 ghost use Rattle.fx_fixed.specs.Ranges.{IsWithin};
-ghost use Rattle.fx_winding.specs.Limits.{most_pieces, IsPixelNumber};
+ghost use Rattle.fx_winding.specs.Limits.{most_pieces};
 ghost use Rattle.fx_winding.specs.Near.{IsNear};
 ghost use Rattle.fx_winding.specs.Winding.{place_of, span_of, IsCovered};
 ghost use Rattle.fx_dropout.specs.Dropout.{IsNextNearer};
 ghost use Rattle.fx_dropout.specs.inner.Pairs.{seen_span, seen_spans};
 ghost use Rattle.fx_dropout.specs.inner.Places.{above, count_at, mark_at, AreCountsWithin, IsCoveredIn, place_in, IsMissed, IsPieceAdded};
 
-use crate::beside::{along, coordinate, is_after, is_before};
+use crate::beside::{along, is_after, is_before};
 use crate::pair::Pair;
 use crate::places::{PLACES, Places};
 use crate::stretched::stretched;
@@ -32,34 +32,18 @@ fn is_missed(piece: &Piece, is_turned: bool, first: Point) -> bool
     is_before(piece, along(is_turned), first.x)
 }
 
-/// What a piece right of all places adds at each, by the heights of its ends and of the row: 1 or -1 if the row is between them.
+/// What a piece right of a place at the height y adds there: 1 or -1 if the height is between those of its ends.
 #[inline(always)]
-fn turn_right(a: i32, c: i32, y: i32) -> i32
-    ensures value { result ≡ above y c -ℤ above y a }
+fn turn_right(piece: &Piece, y: i32) -> i32
+    ensures value { result ≡ above y piece.now.c.y -ℤ above y piece.now.a.y }
     ensures size { IsWithin 1 result }
 {
-    if a <= y && y < c {
+    if piece.a.y <= y && y < piece.c.y {
         1
-    } else if c <= y && y < a {
+    } else if piece.c.y <= y && y < piece.a.y {
         -1
     } else {
         0
-    }
-}
-
-/// The row of the places, stretched to pixels.
-fn stretched_row(row: i32) -> Frame
-    requires { IsPixelNumber row }
-    ensures left { result.left ≡ pos 0 }
-    ensures width { result.width ≡ 128 }
-    ensures bottom { result.bottom ≡ row }
-    ensures height { result.height ≡ 1 }
-{
-    Frame {
-        left: 0,
-        bottom: row,
-        width: 128,
-        height: 1,
     }
 }
 
@@ -72,20 +56,26 @@ fn seen(piece: &Piece, is_turned: bool) -> Piece
     if is_turned { piece.turned() } else { *piece }
 }
 
-/// Adds what a piece, with its coordinates exchanged or not, adds at each place: that is what it adds to the row, stretched.
+/// Adds what a piece adds at each place: that is what it adds to the row, stretched.
 #[inline(never)]
-fn add_stretched(piece: &Piece, is_turned: bool, pair: Pair, places: &mut Places, tally: &mut Tally)
+fn add_stretched(piece: &Piece, pair: Pair, places: &mut Places, tally: &mut Tally)
     requires near { IsNear piece.now }
     requires small { AreCountsWithin (2 ^ 19) places.old }
-    ensures added { IsPieceAdded pair (seen_span is_turned (span_of piece.now)) places.old places.new }
+    ensures added { IsPieceAdded pair (span_of piece.now) places.old places.new }
     ensures count { tally.new.count ≤ tally.old.count + 10 }
 {
-    let wide = stretched(&seen(piece, is_turned), pair.col);
-    let row = stretched_row(pair.row);
+    let wide = stretched(piece, pair.col);
+    let row = Frame {
+        left: 0,
+        bottom: pair.row,
+        width: 128,
+        height: 1,
+    };
     places.add_part(interval(&wide, pair.row, row, tally));
 }
 
-/// The same. Most pieces lie beside all places, which is seen at once.
+/// Adds what a piece, with its coordinates exchanged or not, adds at each place. Most pieces lie beside all places: one right of
+/// them adds the same at each, and any other adds nothing.
 #[inline(always)]
 fn add_piece(piece: &Piece, is_turned: bool, pair: Pair, places: &mut Places, tally: &mut Tally)
     requires near { IsNear piece.now }
@@ -98,13 +88,10 @@ fn add_piece(piece: &Piece, is_turned: bool, pair: Pair, places: &mut Places, ta
         return;
     }
     if is_after(piece, along(is_turned), first.x + 127) {
-        let across = along(!is_turned);
-        let a = coordinate(piece.a, across);
-        let c = coordinate(piece.c, across);
-        places.add(0, PLACES, turn_right(a, c, first.y));
+        places.add(0, PLACES, turn_right(&seen(piece, is_turned), first.y));
         return;
     }
-    add_stretched(piece, is_turned, pair, places, tally);
+    add_stretched(&seen(piece, is_turned), pair, places, tally);
 }
 
 /// Adds what the pieces add at each place, with their coordinates exchanged or not.

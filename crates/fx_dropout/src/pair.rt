@@ -37,7 +37,7 @@ impl Pair {
         Pair::across(frame, column, row)
     }
 
-    /// The same of its right neighbour alone.
+    /// A pixel of a frame and its right neighbour, if the frame has both.
     fn across(frame: Frame, column: usize, row: usize) -> Option<Pair>
         requires column { column < 2 ^ 16 }
         requires row { row < 2 ^ 16 }

@@ -4,7 +4,7 @@ ghost use Rattle.std.specs.Prelude.{◌≡◌, ◌⊎◌, ℕ, ◌+◌, ◌^◌,
 ghost use Rattle.fx_fixed.specs.Ranges.{IsWithin};
 ghost use Rattle.fx_rows.specs.inner.Sums.{is_among, is_named, value_at, Marks};
 ghost use Rattle.fx_dropout.specs.Dropout.{IsCount};
-ghost use Rattle.fx_dropout.specs.inner.Places.{count_at, mark_at, AreCountsWithin, ArePlaces, ArePlacesNamed, IsCoveredIn, IsRunOfPlaces};
+ghost use Rattle.fx_dropout.specs.inner.Places.{count_at, mark_at, AreCountsWithin, ArePlaces, ArePlacesNamed, IsCoveredIn, IsOfPlaces, IsRunOfPlaces};
 
 use fx_rows::{OnRow, RowPart, Run};
 
@@ -93,9 +93,7 @@ impl Places {
 
     /// Adds what a piece adds to a row whose columns are the places.
     pub(crate) fn add_part(&mut self, part: RowPart)
-        requires crossing { IsRunOfPlaces part.crossing }
-        requires region { IsRunOfPlaces part.region }
-        requires on { ArePlacesNamed part.on }
+        requires places { IsOfPlaces part }
         requires small { AreCountsWithin (2 ^ 19) self.old }
         ensures counts { (n : ℕ) → n < 128 →
             count_at self.new n ≡ count_at self.old n +ℤ (value_at part.crossing (pos n) +ℤ value_at part.region (pos n)) }
@@ -113,7 +111,7 @@ impl Places {
         requires small { AreCountsWithin (2 ^ 20) self.now }
         ensures { IsTrue result ↔ IsCoveredIn self.now n }
     {
-        self.marks[n] || self.counts[n] != 0
+        self.marks[n] | (self.counts[n] != 0)
     }
 
     /// How many of the 63 places from `from` on are covered.

@@ -6,6 +6,7 @@ use Rattle.fx_fixed.specs.declared.places.Axis.{Axis}
 use Rattle.fx_fixed.specs.declared.places.Axis.TheVariants.{X, Y}
 use Rattle.fx_rows.specs.declared.part.OnRow.{OnRow}
 use Rattle.fx_rows.specs.declared.part.OnRow.TheVariants.{None as Nowhere, One, Two, Range}
+use Rattle.fx_rows.specs.declared.part.RowPart.{RowPart}
 use Rattle.fx_rows.specs.declared.part.Run.{Run}
 use Rattle.fx_rows.specs.inner.Cuts.{IsAdded}
 use Rattle.fx_winding.specs.Area.{Place}
@@ -54,6 +55,12 @@ ArePlacesNamed Nowhere = Unit {0}
 ArePlacesNamed (One i) = ArePlaces i i
 ArePlacesNamed (Two i j) = ArePlaces i i × ArePlaces j j
 ArePlacesNamed (Range i j) = ArePlaces i j
+
+-- the columns of a part of a row are places
+pub record IsOfPlaces (part : RowPart) : Type 0 where
+  pub crossing : IsRunOfPlaces part.crossing
+  pub region : IsRunOfPlaces part.region
+  pub on : ArePlacesNamed part.on
 
 -- whether the place n is marked, and its count
 abbrev pub mark_at : Places → ℕ → Bool

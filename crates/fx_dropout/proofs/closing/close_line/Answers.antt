@@ -1,21 +1,14 @@
-use Rattle.std.proofs.Common.{◌≡◌, ◌≢◌, ◌↔◌, ◌⊎◌, inr, refl, sym, ◌∙◌, subst, ◌+◌, ◌-◌, ◌*◌, ◌<◌, ℕ, pos, ◌+ℤ◌, get_or, arith}
-use Rattle.std.specs.Int.{bit_at}
+use Rattle.std.proofs.Common.{◌≡◌, ◌≢◌, inr, refl, sym, ◌∙◌, subst, ◌+◌, ◌<◌, ℕ, get_or, arith}
 use Rattle.fx_winding.proofs.Grid.{row_fits}
-use Rattle.fx_dropout.specs.inner.Closing.{bit_after, bit_before, line_word, pass, size_of, word_place, word_tests, words_along}
-use Rattle.fx_dropout.specs.inner.Closing.{IsNext, IsOpen, Pass}
+use Rattle.fx_dropout.specs.inner.Closing.{line_word, pass, size_of, word_place, word_tests, words_along}
+use Rattle.fx_dropout.specs.inner.Closing.{Pass}
 use Rattle.fx_dropout.proofs.Tests.{one_more}
 use Rattle.fx_dropout.proofs.WordLines.{IsWordClosed, inside, line_at, at_first, at_more, done_line, done_more}
 use Rattle.fx_dropout.proofs.closing.close_line.Goals as goal
 
 pub word-next_note-requires-clause-row : goal.word-next_note-requires-clause-row
-word-next_note-requires-clause-row c = λ e. grind (
-  arith,
-  e,
-  c.requires.line,
-  c.words_noted.ensures,
-  c.requires.noted,
-  row_fits c.args.number c.args.chooser.now.frame.height c.words_noted.result,
-)
+word-next_note-requires-clause-row c = λ e.
+    grind (arith, e, c.requires.line, c.words_noted.ensures, c.requires.noted, row_fits)
 
 pub words-init : goal.words-init
 words-init c =
@@ -67,15 +60,9 @@ words-preserved c = record {
       c.close_word-before.ensures.others in
       let closed : IsWordClosed up p line k c.words.before gaps nexts (get_or new (word_place up (size_of p) line k) 0) =
       record {
-        gap = λ b l. subst (λ z. z) (λ t. (bit_at gaps (31 - b) ≡ 1)
-            ↔ IsOpen (bit_after up (at.note_is t) (e_note t) b) (bit_at (at.here_is t) (31 - b))
-            (bit_after up (at.here_is t) (e_old t) b)) (c.gaps_after-gaps.ensures b l);
-        next = λ b l. subst (λ (z : ℕ × ℕ). (bit_at nexts (31 - b) ≡ 1) ↔ ((bit_at gaps (31 - b) ≡ 1)
-            × IsNext p.chooser up (f.left +ℤ pos (32 * z.0 + b)) (f.bottom +ℤ pos z.1)))
-            (λ t. (cell.column t, cell.row t)) (c.close_word-before.ensures.nexts b l);
-        new = λ b l. subst (λ (z : ℕ × ℕ). (bit_at (get_or new z.0 0) (31 - b) ≡ 1) ↔ ((bit_at z.1 (31 - b) ≡ 1)
-            ⊎ (((bit_at gaps (31 - b) ≡ 1) × ¬ (bit_at nexts (31 - b) ≡ 1)) ⊎ (bit_before up c.words.before nexts b ≡ 1))))
-            (λ t. (place t, own t)) (c.close_word-before.ensures.bits b l);
+        gap = λ b l. grind (arith, at.note_is, e_note, at.here_is, e_old, c.gaps_after-gaps.ensures b l);
+        next = λ b l. grind (arith, cell.column, cell.row, c.close_word-before.ensures.nexts b l);
+        new = λ b l. grind (arith, place, own, c.close_word-before.ensures.bits b l);
       } in (
         done_more up p c.words.words new line k c.words.before gaps nexts c.requires.line m c.close_word-before.ensures.length
             others closed at.reached done,

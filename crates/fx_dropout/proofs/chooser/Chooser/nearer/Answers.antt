@@ -1,6 +1,5 @@
-use Rattle.std.proofs.Common.{inl, inr, ◌≡◌, ◌-◌, arith, ◌*◌, length}
+use Rattle.std.proofs.Common.{◌≡◌, ◌-◌, arith, ◌*◌, length}
 use Rattle.std.specs.Int.{bit_at}
-use Rattle.fx_fixed.proofs.Order.{below_or_not}
 use Rattle.fx_winding.proofs.Grid.{word_zero}
 use Rattle.fx_winding.proofs.Scanned.{row_set_more}
 use Rattle.fx_dropout.specs.inner.Closing.{IsNextAt}
@@ -9,10 +8,7 @@ use Rattle.fx_dropout.proofs.chooser.Chooser.nearer.Goals as goal
 
 pub pixels-init : goal.pixels-init
 pixels-init c = record {
-  bits = record {
-    set = λ j l. grind (arith, word_zero, c.set_pixels-first.ensures.before j l);
-    clear = λ j l. word_zero 1 j;
-  };
+  bits = record { set = λ j l. absurd (omega (arith, l)); clear = λ j l. word_zero 1 j };
   count = omega arith;
 }
 
@@ -27,12 +23,4 @@ pixels-preserved c =
     }
 
 pub returns-clause-bits : goal.returns-clause-bits
-returns-clause-bits c = λ b l. elim (below_or_not b c.set_pixels-first.result.1) [
-  | inl h ↦ grind (arith, l, c.pixels.invariant.bits.set b (omega (arith, h, c.set_pixels-first.ensures.order)))
-  | inr h ↦ grind (
-    arith,
-    l,
-    c.pixels.invariant.bits.clear b (omega (arith, h, c.set_pixels-first.ensures.order)),
-    c.set_pixels-first.ensures.after b h l,
-  )
-]
+returns-clause-bits c = λ b l. grind (arith, l, c.pixels.invariant.bits.set b (omega (arith, l)))
