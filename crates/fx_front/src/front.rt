@@ -16,14 +16,14 @@ use crate::text::Text;
 use crate::tool::Tool;
 use fx_fixed::{FromReader, Sink, ToSink, put_all};
 use fx_words::{listed, part, value_in};
-use std::alloc::Global;
+use std::alloc::{AllocError, Global};
+use std::fs;
 use std::fs::File;
 use std::io::IsTerminal;
-use std::{fs, io};
 
 /// Does what a command line asks for, the program's name first. Returns the status: 0, 1 or 2. An error is that memory ran out
 /// before the program was run.
-pub fn run_front<G: Tool>(rt: &HostRuntime, program: &mut G, words: &[&str]) -> io::Result<u8>
+pub fn run_front<G: Tool>(rt: &HostRuntime, program: &mut G, words: &[&str]) -> Result<u8, AllocError>
     ensures { IfOk result IsStatus }
 {
     match asked_by(words, rt.stdin().is_terminal()) {
@@ -67,7 +67,7 @@ pub fn say_not_text<E: Sink>(alloc: Global, err: &mut E)
 }
 
 /// Runs the program on the words, or has it explain them without an input.
-fn run_words<G: Tool>(rt: &HostRuntime, program: &mut G, words: &[&str]) -> io::Result<u8>
+fn run_words<G: Tool>(rt: &HostRuntime, program: &mut G, words: &[&str]) -> Result<u8, AllocError>
     ensures { IfOk result IsStatus }
 {
     let called = called_by(words);
@@ -127,7 +127,7 @@ fn called_by<'w, 'a>(words: &'w [&'a str]) -> Called<'w, 'a> {
 }
 
 /// Runs the program on the font and with the output that the words name.
-fn run_named<G: Tool>(rt: &HostRuntime, program: &mut G, task: &AskedRun<'_, '_>) -> io::Result<u8>
+fn run_named<G: Tool>(rt: &HostRuntime, program: &mut G, task: &AskedRun<'_, '_>) -> Result<u8, AllocError>
     ensures { IfOk result IsStatus }
 {
     let font = match task.parts.font {
@@ -166,7 +166,7 @@ fn run_with<G: Tool>(
     task: &AskedRun<'_, '_>,
     font: Option<&str>,
     input: Input,
-) -> io::Result<u8>
+) -> Result<u8, AllocError>
     ensures { IfOk result IsStatus }
 {
     match output_of(rt, task.parts.output, font.unwrap_or("/dev/stdin"))? {
@@ -181,7 +181,7 @@ fn refuse_font<G: Tool>(
     program: &mut G,
     task: &AskedRun<'_, '_>,
     why: &str,
-) -> io::Result<u8>
+) -> Result<u8, AllocError>
     ensures { IfOk result IsStatus }
 {
     let wrong = program.wrong(rt.alloc(), task.parts.words.get(1..).unwrap_or(&[]))?;

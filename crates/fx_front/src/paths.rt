@@ -1,7 +1,9 @@
 //! Names of files.
+use std::alloc::AllocError;
+use std::fs;
 use std::fs::File;
 use std::os::fd::AsRawFd;
-use std::{fs, io};
+
 
 /// How many links are followed, as by the system.
 const LINKS: u32 = 40;
@@ -15,7 +17,7 @@ pub(crate) fn folder_of(path: &str) -> &str {
 }
 
 /// The name that a chain of links at the end of a path leads to. None if one can't be followed. An error is that memory ran out.
-pub(crate) fn followed(rt: &HostRuntime, path: &str) -> io::Result<Option<String>> {
+pub(crate) fn followed(rt: &HostRuntime, path: &str) -> Result<Option<String>, AllocError> {
     let mut name = String::from_str(rt.alloc(), path)?;
     // `name` is reached from the path by the links so far.
     'links: for _ in 0..LINKS {
@@ -36,7 +38,7 @@ fn is_link(rt: &HostRuntime, name: &str) -> bool {
 }
 
 /// The name that a link leads to. None if it can't be followed. An error is that memory ran out.
-fn next_name(rt: &HostRuntime, name: &str) -> io::Result<Option<String>> {
+fn next_name(rt: &HostRuntime, name: &str) -> Result<Option<String>, AllocError> {
     let Ok(link) = fs::read_link(rt, name) else {
         return Ok(None);
     };
@@ -44,8 +46,7 @@ fn next_name(rt: &HostRuntime, name: &str) -> io::Result<Option<String>> {
     if next.starts_with('/') {
         return Ok(Some(next));
     }
-    let beside = format!(in rt.alloc(); "{}{next}", folder_of(name))?;
-    Ok(Some(beside))
+    Ok(Some([folder_of(name), next.as_str()].concat(rt.alloc())?))
 }
 
 /// The same open file under a number above those of the standard streams. A file that is opened while one of these is closed gets
