@@ -12,7 +12,7 @@ use crate::run::Ended;
 use crate::text::Text;
 use crate::tool::Tool;
 use fx_fixed::{Digits, Sink};
-use fx_words::{has, list_of};
+use fx_words::{has, list_of, value_in};
 use std::alloc::{AllocError, Global};
 
 /// The endings of files of other formats.
@@ -155,17 +155,16 @@ fn add_refusal<G: Tool>(
     refused: RefusalFacts,
 ) {
     let advice = refused.advice;
-    match (refused.number, &program.facts().start) {
-        (10, Some(start)) => text.add_all(&[kind_of(&KINDS, start).unwrap_or(advice)]),
-        (17..=23, _) if task.is("make") => text.add_all(&[advice, "; --refused leave-out does so"]),
-        (24, _) if names_glyph(task, refused.glyph) => {
-            text.add_all(&["the font has no glyph of that number"])
-        }
-        (25, Some(start)) => add_faces(text, start),
-        (30..=41, _) => add_halt(text, task, refused),
-        (61, _) => add_list(alloc, text, program, task, advice),
-        _ => text.add_all(&[advice]),
-    }
+    let (what, more) = match (refused.number, &program.facts().start) {
+        (10, Some(start)) => (kind_of(&KINDS, start).unwrap_or(advice), ""),
+        (17..=23, _) if task.is("make") => (advice, "; --refused leave-out does so"),
+        (24, _) if names_glyph(task, refused.glyph) => ("the font has no glyph of that number", ""),
+        (25, Some(start)) => return add_faces(text, start),
+        (30..=41, _) => return add_halt(text, task, refused),
+        (61, _) => return add_list(alloc, text, program, task, advice),
+        _ => (advice, ""),
+    };
+    text.add_all(&[what, more]);
 }
 
 /// Adds what to do after a halt. A trace runs the programs always.
@@ -181,45 +180,30 @@ fn add_halt(text: &mut Text, task: &AskedRun<'_, '_>, refused: RefusalFacts) {
 
 /// Whether the glyph that is refused is one that the words name.
 fn names_glyph(task: &AskedRun<'_, '_>, glyph: Option<u16>) -> bool {
-    let Some(glyph) = glyph else {
-        return false;
-    };
-    let digits = Digits::unsigned(u64::from(glyph));
-    // No word so far names it.
-    'words: for word in task.parts.words.iter() {
-        let value = match word.split_once('=') {
-            Some((option, value)) if has(&["--glyph", "--of"], option) => value,
-            _ => word,
-        };
-        if value.as_bytes() == digits.text() {
-            return true;
+    let words = &task.parts.words;
+    let named = value_in(words, "--glyph").or(value_in(words, "--of"));
+    match (glyph, named) {
+        (Some(glyph), Some(named)) => {
+            named.as_bytes() == Digits::unsigned(u64::from(glyph)).text()
         }
+        _ => false,
     }
-    false
 }
 
 /// Adds which faces a file has that begins so.
 fn add_faces(text: &mut Text, start: &[u8]) {
-    match faces_of(start) {
-        None => text.add_all(&["the file is no collection: leave --face out"]),
-        Some(0) => text.add_all(&["the collection has no font"]),
-        Some(1) => text.add_all(&["the collection has one font: leave --face out"]),
-        Some(faces) => {
+    let [b't', b't', b'c', b'f', _, _, _, _, a, b, c, d] = start else {
+        return text.add_all(&["the file is no collection: leave --face out"]);
+    };
+    match u32::from_be_bytes([*a, *b, *c, *d]) {
+        0 => text.add_all(&["the collection has no font"]),
+        1 => text.add_all(&["the collection has one font: leave --face out"]),
+        faces => {
             text.add_all(&["the collection has "]);
             text.add_number(u64::from(faces));
             text.add_all(&[" fonts: --face takes 0 to "]);
             text.add_number(u64::from(faces - 1));
         }
-    }
-}
-
-/// How many fonts a collection has that begins so. None if it is no collection.
-fn faces_of(start: &[u8]) -> Option<u32> {
-    match start {
-        [b't', b't', b'c', b'f', _, _, _, _, a, b, c, d] => {
-            Some(u32::from_be_bytes([*a, *b, *c, *d]))
-        }
-        _ => None,
     }
 }
 
@@ -255,19 +239,18 @@ fn add_unknown_set(alloc: Global, text: &mut Text, name: &str) {
     text.add_all(&[" 'mkstrike help sets' lists the sets"]);
 }
 
-/// Adds the question whether one of some words is meant; nothing without words.
-fn add_question(text: &mut Text, meant: Result<Vec<&'static str>, AllocError>) {
-    let Ok(words) = meant else {
+/// Adds the question whether a word is meant, if one may be.
+fn add_question(text: &mut Text, meant: Result<Text, AllocError>) {
+    let Ok(meant) = meant else {
         return text.stop();
     };
-    let mut before = " did you mean '";
-    // The words so far were added.
-    'words: for word in &words {
-        text.add_all(&[before, word, "'"]);
-        before = " or '";
-    }
-    if !words.is_empty() {
-        text.add(b"?");
+    match meant.bytes() {
+        Some([]) => {}
+        Some(question) => {
+            text.add(question);
+            text.add(b"?");
+        }
+        None => text.stop(),
     }
 }
 
@@ -300,15 +283,16 @@ fn first_word(list: &str) -> Option<&str> {
     None
 }
 
-/// Whether an item looks like a word or a letter, and not like numbers.
+/// Whether an item looks like a word or a letter, and not like numbers: some byte is a letter from g to z but `x` and `u`, which come
+/// before numbers, or is not of ASCII.
 fn is_word(item: &str) -> bool {
-    let mut is_word = false;
-    // Whether some byte so far is a letter from g to z but `x` and `u`, which come before numbers, or is not of ASCII.
+    // No byte so far is.
     'bytes: for byte in item.as_bytes() {
-        let lower = byte.to_ascii_lowercase();
-        is_word |= (b'g'..=b'z').contains(&lower) && lower != b'x' && lower != b'u' || *byte > 127;
+        if let b'g'..=b't' | b'v' | b'w' | b'y' | b'z' | 128..=255 = byte.to_ascii_lowercase() {
+            return true;
+        }
     }
-    is_word
+    false
 }
 
 /// Adds what is wrong with a command line.
@@ -319,36 +303,45 @@ fn add_usage<G: Tool>(
     task: &AskedRun<'_, '_>,
     is_file: bool,
 ) {
-    let [_, words @ ..] = task.parts.words.as_slice() else {
-        return text.add_all(&[WRONG_LINE]);
-    };
-    let [first, ..] = words else {
-        return text.add_all(&[WRONG_LINE]);
-    };
-    let Some(command) = task.command else {
-        return add_command(alloc, text, first, is_file);
-    };
-    let Ok(said) = program.wrong(alloc, words) else {
-        return text.stop();
-    };
-    let wrong = str::from_utf8(&said).unwrap_or("").trim_end();
-    add_wrong(alloc, text, task, command, wrong);
-    text.add_all(&[" 'mkstrike help ", command, "' shows how it is written"]);
+    let words = task.parts.words.get(1..).unwrap_or(&[]);
+    match (words.first(), task.command) {
+        (None, _) => text.add_all(&[WRONG_LINE]),
+        (Some(first), None) => add_command(alloc, text, first, is_file),
+        (Some(_), Some(command)) => match program.wrong(alloc, words) {
+            Ok(said) => {
+                let wrong = str::from_utf8(&said).unwrap_or("");
+                add_wrong(alloc, text, task, command, wrong.trim_end());
+            }
+            Err(_) => text.stop(),
+        },
+    }
 }
 
 /// Adds the line that says what is wrong with the words of a command, and what explains it further.
 fn add_wrong(alloc: Global, text: &mut Text, task: &AskedRun<'_, '_>, command: &str, wrong: &str) {
-    if wrong == "unknown option '-o'" {
-        text.add_all(&["-o takes the name of a file, and is given once"]);
-    } else if let Some(option) = wrong.strip_prefix("unknown option '") {
-        let option = option.strip_suffix("'").unwrap_or(option);
-        text.add_all(&[wrong, ";"]);
-        return add_instead(alloc, text, option, command);
-    } else {
-        text.add_all(&[wrong]);
-        add_more(text, wrong, task);
+    match wrong.strip_prefix("unknown option '") {
+        Some("-o'") => text.add_all(&["-o takes the name of a file, and is given once;"]),
+        Some(option) => {
+            text.add_all(&[wrong, ";"]);
+            add_instead(
+                alloc,
+                text,
+                option.strip_suffix("'").unwrap_or(option),
+                command,
+            );
+        }
+        None => {
+            text.add_all(&[wrong]);
+            text.add_all(&[about_ppem(wrong)]);
+            if let Some(font) = task.parts.font
+                && wrong.starts_with("one word too many")
+            {
+                text.add_all(&[": '", font, "' names the font"]);
+            }
+            text.add(b";");
+        }
     }
-    text.add_all(&[";"]);
+    text.add_all(&[" 'mkstrike help ", command, "' shows how it is written"]);
 }
 
 /// Adds what there is in place of an unknown option of a command, or which may be meant.
@@ -359,20 +352,11 @@ fn add_instead(alloc: Global, text: &mut Text, option: &str, command: &str) {
     }
 }
 
-/// Adds what explains a wrong word or value further.
-fn add_more(text: &mut Text, wrong: &str, task: &AskedRun<'_, '_>) {
-    if let Some(font) = task.parts.font
-        && wrong.starts_with("one word too many")
-    {
-        return text.add_all(&[": '", font, "' names the font"]);
-    }
-    if let Some(value) = wrong.strip_prefix("--ppem takes a whole number from 1 to 1024, not '") {
-        text.add_all(&[about_ppem(value)]);
-    }
-}
-
 /// What explains a wrong value of `--ppem` further.
-fn about_ppem(value: &str) -> &'static str {
+fn about_ppem(wrong: &str) -> &'static str {
+    let Some(value) = wrong.strip_prefix("--ppem takes a whole number from 1 to 1024, not '") else {
+        return "";
+    };
     if value.contains("pt") {
         "; pixels are points times the resolution, divided by 72"
     } else if value.contains('x') && !value.starts_with("0x") {
@@ -387,17 +371,20 @@ fn about_ppem(value: &str) -> &'static str {
 /// Adds what is wrong with the name of a command.
 fn add_command(alloc: Global, text: &mut Text, word: &str, is_file: bool) {
     if word.starts_with('-') {
-        let how = "'; 'mkstrike help' shows how it is written";
-        return text.add_all(&[NO_COMMAND, word, how]);
-    }
-    if is_file {
-        return text.add_all(&[A_FILE]);
-    }
-    text.add_all(&["unknown command '", word, "';"]);
-    if word == "version" {
-        text.add_all(&[" did you mean '--version'?"]);
+        text.add_all(&[
+            NO_COMMAND,
+            word,
+            "'; 'mkstrike help' shows how it is written",
+        ]);
+    } else if is_file {
+        text.add_all(&[A_FILE]);
     } else {
-        add_question(text, meant_by(alloc, word, ""));
+        text.add_all(&["unknown command '", word, "';"]);
+        if word == "version" {
+            text.add_all(&[" did you mean '--version'?"]);
+        } else {
+            add_question(text, meant_by(alloc, word, ""));
+        }
+        text.add_all(&[" 'mkstrike help' lists the commands"]);
     }
-    text.add_all(&[" 'mkstrike help' lists the commands"]);
 }

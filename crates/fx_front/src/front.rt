@@ -23,22 +23,33 @@ use std::io::IsTerminal;
 
 /// Does what a command line asks for, the program's name first. Returns the status: 0, 1 or 2. An error is that memory ran out
 /// before the program was run.
-pub fn run_front<G: Tool>(rt: &HostRuntime, program: &mut G, words: &[&str]) -> Result<u8, AllocError>
+pub fn run_front<G: Tool>(
+    rt: &HostRuntime,
+    program: &mut G,
+    words: &[&str],
+) -> Result<u8, AllocError>
     ensures { IfOk result IsStatus }
 {
     match asked_by(words, rt.stdin().is_terminal()) {
         Asked::Version => Ok(print(rt, VERSION)),
         Asked::Help(None) => Ok(print(rt, OVERVIEW)),
-        Asked::Help(Some(command)) => match row_of(&HELPS, command) {
-            Some((_, text)) => Ok(print(rt, text)),
-            None => {
-                say(rt, &["usage"]);
-                let what = "'; 'mkstrike help' lists the commands";
-                say(rt, &["there is no help for '", command, what]);
-                Ok(2)
-            }
-        },
+        Asked::Help(Some(command)) => Ok(print_help(rt, command)),
         Asked::Run => run_words(rt, program, words),
+    }
+}
+
+/// Prints the help of a command, or says that there is none. Returns the status.
+fn print_help(rt: &HostRuntime, command: &str) -> u8
+    ensures { IsStatus result }
+{
+    match row_of(&HELPS, command) {
+        Some((_, text)) => print(rt, text),
+        None => {
+            say(rt, &["usage"]);
+            let what = "'; 'mkstrike help' lists the commands";
+            say(rt, &["there is no help for '", command, what]);
+            2
+        }
     }
 }
 
@@ -66,7 +77,7 @@ pub fn say_not_text<E: Sink>(alloc: Global, err: &mut E)
     tell(alloc, err, &Text::of(alloc, &[what]));
 }
 
-/// Runs the program on the words, or has it explain them without an input.
+/// Parts the words, and runs the program on them.
 fn run_words<G: Tool>(rt: &HostRuntime, program: &mut G, words: &[&str]) -> Result<u8, AllocError>
     ensures { IfOk result IsStatus }
 {
@@ -84,15 +95,31 @@ fn run_words<G: Tool>(rt: &HostRuntime, program: &mut G, words: &[&str]) -> Resu
         parts: &parts,
         command: called.command,
     };
-    if called.command.is_some() && !called.is_explained {
-        return run_named(rt, program, &task);
-    }
-    let input = if called.is_explained {
-        Input::Nothing
+    run_parted(rt, program, &task, called.is_explained)
+}
+
+/// Runs the program on words, or has it explain them without an input.
+fn run_parted<G: Tool>(
+    rt: &HostRuntime,
+    program: &mut G,
+    task: &AskedRun<'_, '_>,
+    is_explained: bool,
+) -> Result<u8, AllocError>
+    ensures { IfOk result IsStatus }
+{
+    if is_explained {
+        Ok(run_from(rt, program, task, Input::Nothing, Output::Standard))
+    } else if task.command.is_some() {
+        run_named(rt, program, task)
     } else {
-        Input::Standard(rt.stdin())
-    };
-    Ok(run_from(rt, program, &task, input, Output::Standard))
+        Ok(run_from(
+            rt,
+            program,
+            task,
+            Input::Standard(rt.stdin()),
+            Output::Standard,
+        ))
+    }
 }
 
 /// What words call for: a command that takes a font, if there is one, and whether it is only explained.
@@ -127,16 +154,24 @@ fn called_by<'w, 'a>(words: &'w [&'a str]) -> Called<'w, 'a> {
 }
 
 /// Runs the program on the font and with the output that the words name.
-fn run_named<G: Tool>(rt: &HostRuntime, program: &mut G, task: &AskedRun<'_, '_>) -> Result<u8, AllocError>
+fn run_named<G: Tool>(
+    rt: &HostRuntime,
+    program: &mut G,
+    task: &AskedRun<'_, '_>,
+) -> Result<u8, AllocError>
     ensures { IfOk result IsStatus }
 {
     let font = match task.parts.font {
         Some("-") => None,
         font => font,
     };
-    match input_of(rt, font) {
-        Ok(input) => run_with(rt, program, task, font, input),
-        Err(why) => refuse_font(rt, program, task, why),
+    let input = match input_of(rt, font) {
+        Ok(input) => input,
+        Err(why) => return refuse_font(rt, program, task, why),
+    };
+    match output_of(rt, task.parts.output, font.unwrap_or("/dev/stdin"))? {
+        Ok(output) => Ok(run_from(rt, program, task, input, output)),
+        Err(why) => Ok(refuse_output(rt, task, why)),
     }
 }
 
@@ -156,22 +191,6 @@ fn input_of(rt: &HostRuntime, font: Option<&str>) -> Result<Input, &'static str>
             Ok(file) => Ok(Input::File(file)),
             Err(fault) => Err(why_closed(&fault)),
         },
-    }
-}
-
-/// Runs the program on a font, with the output that the words name.
-fn run_with<G: Tool>(
-    rt: &HostRuntime,
-    program: &mut G,
-    task: &AskedRun<'_, '_>,
-    font: Option<&str>,
-    input: Input,
-) -> Result<u8, AllocError>
-    ensures { IfOk result IsStatus }
-{
-    match output_of(rt, task.parts.output, font.unwrap_or("/dev/stdin"))? {
-        Ok(output) => Ok(run_from(rt, program, task, input, output)),
-        Err(why) => Ok(refuse_output(rt, task, why)),
     }
 }
 
