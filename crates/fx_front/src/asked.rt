@@ -6,6 +6,12 @@ ghost use Rattle.fx_front.specs.inner.Asked.{asked_by, asked_by_word, seen_asked
 use crate::meant::command_of;
 use fx_words::{Parts, has, value_in};
 
+/// What asks for the version.
+const VERSION_WORDS: [&str; 2] = ["--version", "-V"];
+
+/// What asks for help.
+const HELP_WORDS: [&str; 3] = ["--help", "-h", "help"];
+
 /// What a command line asks a front for.
 pub enum Asked<'a> {
     /// To print the help, of a command.
@@ -41,7 +47,11 @@ impl<'t, 'a> AskedRun<'t, 'a> {
 
     /// The list of characters among the words.
     pub(crate) fn list(&self) -> Option<&'a str> {
-        let option = if self.is("make") { "--chars" } else { "--char" };
+        let option = if self.parts.is_make {
+            "--chars"
+        } else {
+            "--char"
+        };
         value_in(&self.parts.words, option)
     }
 }
@@ -61,9 +71,9 @@ pub(crate) fn asked_by<'a>(words: &[&'a str], is_terminal: bool) -> Asked<'a>
 fn asked_by_word<'a>(word: &'a str, rest: &[&'a str]) -> Asked<'a>
     ensures { seen_asked result ≡ asked_by_word word.entry.now (texts rest.now) }
 {
-    if has(&["--version", "-V"], word) {
+    if has(&VERSION_WORDS, word) {
         Asked::Version
-    } else if has(&["--help", "-h", "help"], word) {
+    } else if has(&HELP_WORDS, word) {
         Asked::Help(rest.first().copied())
     } else if command_of(word).is_some() && (has(rest, "-h") || has(rest, "--help")) {
         Asked::Help(Some(word))

@@ -17,24 +17,26 @@ use crate::tool::Tool;
 use fx_fixed::{FromReader, Sink, ToSink, put_all};
 use fx_words::{listed, part, value_in};
 use std::alloc::{AllocError, Global};
-use std::fs;
 use std::fs::File;
 use std::io::IsTerminal;
+use std::{fs, io};
+
+const FONT_HELP: &str =
+    "the first word that is neither an option nor its value names the font; 'mkstrike help ";
+
+const FONT_FILE: &str =
+    "the first word that is neither an option nor its value names the font's file; 'fc-list' shows the files of the installed fonts";
 
 /// Does what a command line asks for, the program's name first. Returns the status: 0, 1 or 2. An error is that memory ran out
 /// before the program was run.
-pub fn run_front<G: Tool>(
-    rt: &HostRuntime,
-    program: &mut G,
-    words: &[&str],
-) -> Result<u8, AllocError>
+pub fn run_front<G: Tool>(rt: &HostRuntime, program: &mut G, words: &[&str]) -> io::Result<u8>
     ensures { IfOk result IsStatus }
 {
     match asked_by(words, rt.stdin().is_terminal()) {
         Asked::Version => Ok(print(rt, VERSION)),
         Asked::Help(None) => Ok(print(rt, OVERVIEW)),
         Asked::Help(Some(command)) => Ok(print_help(rt, command)),
-        Asked::Run => run_words(rt, program, words),
+        Asked::Run => Ok(run_words(rt, program, words)?),
     }
 }
 
@@ -216,14 +218,11 @@ fn refuse_font<G: Tool>(
 fn say_no_font(rt: &HostRuntime, task: &AskedRun<'_, '_>, why: &str) {
     let name = task.parts.font.unwrap_or("");
     say(rt, &["can't open the font '", name, "': ", why]);
-    let names = "the first word that is neither an option nor its value names the font";
     if name.contains('/') {
-        let command = task.command.unwrap_or("");
         let how = "' shows how it is written";
-        say(rt, &[names, "; 'mkstrike help ", command, how]);
+        say(rt, &[FONT_HELP, task.command.unwrap_or(""), how]);
     } else {
-        let files = "'s file; 'fc-list' shows the files of the installed fonts";
-        say(rt, &[names, files]);
+        say(rt, &[FONT_FILE]);
     }
 }
 

@@ -162,9 +162,10 @@ fn nearest_among(alloc: Global, word: &str, words: &str) -> Result<Text, AllocEr
         let distance = levenshtein(alloc, word.as_str(), each)?;
         if distance < least {
             least = distance;
-            meant = Text::of(alloc, &[" did you mean '", each, "'"]);
+            meant = Text::new(alloc);
+            meant.add_with(" did you mean '%'", each);
         } else if distance == least && least < 3 {
-            meant.add_all(&[" or '", each, "'"]);
+            meant.add_with(" or '%'", each);
         }
     }
     Ok(meant)
