@@ -6,12 +6,6 @@ ghost use Rattle.fx_front.specs.inner.Asked.{asked_by, asked_by_word, seen_asked
 use crate::meant::command_of;
 use fx_words::{Parts, has, value_in};
 
-/// What asks for the version.
-const VERSION_WORDS: [&str; 2] = ["--version", "-V"];
-
-/// What asks for help.
-const HELP_WORDS: [&str; 3] = ["--help", "-h", "help"];
-
 /// What a command line asks a front for.
 pub enum Asked<'a> {
     /// To print the help, of a command.
@@ -71,9 +65,9 @@ pub(crate) fn asked_by<'a>(words: &[&'a str], is_terminal: bool) -> Asked<'a>
 fn asked_by_word<'a>(word: &'a str, rest: &[&'a str]) -> Asked<'a>
     ensures { seen_asked result ≡ asked_by_word word.entry.now (texts rest.now) }
 {
-    if has(&VERSION_WORDS, word) {
+    if has(&["--version", "-V"], word) {
         Asked::Version
-    } else if has(&HELP_WORDS, word) {
+    } else if has(&["--help", "-h", "help"], word) {
         Asked::Help(rest.first().copied())
     } else if command_of(word).is_some() && (has(rest, "-h") || has(rest, "--help")) {
         Asked::Help(Some(word))

@@ -264,7 +264,7 @@ fn add_question(text: &mut Text, meant: Result<Text, AllocError>) {
 
 /// Adds what there is for a list that has names or letters.
 fn add_names(alloc: Global, text: &mut Text, list: &str) {
-    if list == "all" || list == "*" {
+    if is_among(list, "all *") {
         return text.add_text("; --all takes all characters of the font");
     }
     // No item so far is the name of a set.

@@ -83,21 +83,16 @@ pub fn say_not_text<E: Sink>(alloc: Global, err: &mut E)
 fn run_words<G: Tool>(rt: &HostRuntime, program: &mut G, words: &[&str]) -> Result<u8, AllocError>
     ensures { IfOk result IsStatus }
 {
-    let called = called_by(words);
+    let (command, count) = command_in(words);
+    let (before, after) = words.split_at(words.len().min(count));
     let list = listed(rt.alloc(), value_in(words, "--set").unwrap_or(""))?;
-    let is_make = called.command == Some("make");
-    let parts = part(
-        rt.alloc(),
-        called.before,
-        is_make,
-        list.as_str(),
-        called.after,
-    )?;
+    let is_make = command == Some("make");
+    let parts = part(rt.alloc(), before, is_make, list.as_str(), after)?;
     let task = AskedRun {
         parts: &parts,
-        command: called.command,
+        command,
     };
-    run_parted(rt, program, &task, called.is_explained)
+    run_parted(rt, program, &task, is_explained(words))
 }
 
 /// Runs the program on words, or has it explain them without an input.
@@ -124,34 +119,18 @@ fn run_parted<G: Tool>(
     }
 }
 
-/// What words call for: a command that takes a font, if there is one, and whether it is only explained.
-#[derive(Clone, Copy)]
-struct Called<'w, 'a> {
-    command: Option<&'static str>,
-    is_explained: bool,
-    /// The words up to the command's name.
-    before: &'w [&'a str],
-    /// The words after it, which may name files.
-    after: &'w [&'a str],
+/// Whether words are only explained.
+fn is_explained(words: &[&str]) -> bool {
+    matches!(words, [_, word, ..] if *word == "explain")
 }
 
-/// What words call for. The command's name is the second word, or follows `explain`. Without a command that takes a font all words
-/// are for the program.
-fn called_by<'w, 'a>(words: &'w [&'a str]) -> Called<'w, 'a> {
-    let is_explained = words.get(1).copied() == Some("explain");
-    let count = if is_explained { 3 } else { 2 };
-    let command = command_of(words.get(count - 1).copied().unwrap_or(""));
-    let end = if command.is_some() {
-        count
-    } else {
-        words.len()
-    };
-    let (before, after) = words.split_at(words.len().min(end));
-    Called {
-        command,
-        is_explained,
-        before,
-        after,
+/// The command that takes a font, which the second word names, or the one after `explain`; and how many words end with its name.
+/// Without one all words are for the program.
+fn command_in(words: &[&str]) -> (Option<&'static str>, usize) {
+    let at = if is_explained(words) { 2 } else { 1 };
+    match command_of(words.get(at).copied().unwrap_or("")) {
+        None => (None, words.len()),
+        command => (command, at + 1),
     }
 }
 
