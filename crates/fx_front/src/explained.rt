@@ -124,7 +124,7 @@ fn add_strike(
 fn why_no_glyph(task: &AskedRun<'_, '_>, counts: Counts) -> &'static str {
     if counts.missing > 0 {
         LACKS_ALL
-    } else if task.list() == Some("") {
+    } else if matches!(task.list(), Some("")) {
         "the list of characters is empty"
     } else if has(&task.parts.words, "--all") {
         "the font has no character, or all are refused"

@@ -86,7 +86,7 @@ fn run_words<G: Tool>(rt: &HostRuntime, program: &mut G, words: &[&str]) -> Resu
     let (command, count) = command_in(words);
     let (before, after) = words.split_at(words.len().min(count));
     let list = listed(rt.alloc(), value_in(words, "--set").unwrap_or(""))?;
-    let is_make = command == Some("make");
+    let is_make = matches!(command, Some("make"));
     let parts = part(rt.alloc(), before, is_make, list.as_str(), after)?;
     let task = AskedRun {
         parts: &parts,

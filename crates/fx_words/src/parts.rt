@@ -232,20 +232,14 @@ impl<'a> Parts<'a> {
 fn kind_of(is_make: bool, word: &str) -> WordKind
     ensures { result ≡ kind_of is_make word.now }
 {
-    if word == "-o" {
-        WordKind::Output
-    } else if word == "-" {
-        WordKind::Name
-    } else if word == "--" {
-        WordKind::Names
-    } else if word == "--dropout" {
-        WordKind::Dropout
-    } else if is_make && word == "--missing" {
-        WordKind::Missing
-    } else if is_make && word == "--set" {
-        WordKind::Set
-    } else {
-        other_kind(is_make, word)
+    match word {
+        "-o" => WordKind::Output,
+        "-" => WordKind::Name,
+        "--" => WordKind::Names,
+        "--dropout" => WordKind::Dropout,
+        "--missing" if is_make => WordKind::Missing,
+        "--set" if is_make => WordKind::Set,
+        _ => other_kind(is_make, word),
     }
 }
 
