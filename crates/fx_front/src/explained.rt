@@ -124,7 +124,7 @@ fn add_strike(
 fn why_no_glyph(task: &AskedRun<'_, '_>, counts: Counts) -> &'static str {
     if counts.missing > 0 {
         LACKS_ALL
-    } else if matches!(task.list(), Some("")) {
+    } else if task.list() == Some("") {
         "the list of characters is empty"
     } else if has(&task.parts.words, "--all") {
         "the font has no character, or all are refused"
@@ -384,10 +384,9 @@ fn add_command(alloc: Global, text: &mut Text, word: &str, is_file: bool) {
         text.add_text(A_FILE);
     } else {
         text.add_with("unknown command '%';", word);
-        if word == "version" {
-            text.add_text(" did you mean '--version'?");
-        } else {
-            add_question(text, meant_by(alloc, word, ""));
+        match word {
+            "version" => text.add_text(" did you mean '--version'?"),
+            _ => add_question(text, meant_by(alloc, word, "")),
         }
         text.add_text(" 'mkstrike help' lists the commands");
     }

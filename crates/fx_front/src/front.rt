@@ -121,7 +121,7 @@ fn run_parted<G: Tool>(
 
 /// Whether words are only explained.
 fn is_explained(words: &[&str]) -> bool {
-    matches!(words, [_, word, ..] if *word == "explain")
+    matches!(words, [_, "explain", ..])
 }
 
 /// The command that takes a font, which the second word names, or the one after `explain`; and how many words end with its name.

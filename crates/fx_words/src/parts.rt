@@ -176,7 +176,7 @@ impl<'a> Parts<'a> {
     fn take_output(&mut self, word: &'a str) -> Result<(), AllocError>
         ensures { OnOk result (seen self.new ≡ step_by Next.Output (seen self.old) word.entry.now) }
     {
-        if word == "-" || !is_option(word) {
+        if matches!(word, "-") || !is_option(word) {
             return self.put(word);
         }
         self.keep("-o", Next::Any)?;
@@ -317,10 +317,7 @@ fn is_path(word: &str) -> bool
 fn has_joined_output(word: &str) -> bool
     ensures { result ≡ has_joined_output word.now }
 {
-    match word.split_once('o') {
-        Some((start, _)) => start == "-",
-        None => false,
-    }
+    matches!(word.split_once('o'), Some(("-", _)))
 }
 
 /// The name in `-oNAME` or `-o=NAME`.
@@ -338,7 +335,7 @@ fn without_equals<'a>(name: &'a str) -> &'a str
     ensures { result.now ≡ without_equals name.entry.now }
 {
     match name.split_once('=') {
-        Some((start, rest)) if start == "" => rest,
+        Some(("", rest)) => rest,
         _ => name,
     }
 }
