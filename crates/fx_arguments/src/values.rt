@@ -72,10 +72,7 @@ pub fn values<'m, 'a>(matches: &'m ArgMatches<'a>, id: &str) -> Option<&'m [&'a 
 pub fn is_given(matches: &ArgMatches<'_>, id: &str) -> bool
     ensures { result ≡ is_given id.now (rows_of (found_of matches.now)) }
 {
-    match value(matches, id) {
-        Some(text) => text == "true",
-        None => false,
-    }
+    matches!(value(matches, id), Some("true"))
 }
 
 /// The number of a face: a whole number from 0 to 4,294,967,295.

@@ -2,7 +2,7 @@
 use Rattle.std.specs.Prelude.{◌≡◌, ◌⊎◌, ◌<◌, ◌==◌, ◌||◌, ℕ, nat_lt, List, [], ◌∷◌, ◌++◌, map, codes, Option, Some, option_map, IfSome, Result}
 use Rattle.std.specs.Prelude.{if◌then◌else◌}
 use Rattle.std.specs.Borrow.{Bor}
-use Rattle.std.specs.List.{All, flat_map}
+use Rattle.std.specs.List.{All, after_first, before_first, flat_map}
 use Rattle.std.specs.Io.KnownBytes.{Keeps}
 use Rattle.fx_fixed.specs.Changes.{Change}
 use Rattle.fx_fixed.specs.Wrote.{Wrote}
@@ -22,6 +22,11 @@ shown_text bytes = map shown bytes
 -- that of pieces
 abbrev pub shown_pieces : List (Bor (List ℕ)) → List ℕ
 shown_pieces pieces = flat_map (λ piece. shown_text piece.now) pieces
+
+-- that of a pattern, with a text in place of its first `%` (37)
+abbrev pub shown_with : List ℕ → List ℕ → List ℕ
+shown_with pattern text = shown_text (before_first (λ b. b == 37) pattern)
+    ++ (shown_text text ++ (shown_text (after_first (λ b. b == 37) pattern) ++ []))
 
 -- a text has more at its end, or is none since memory ran out, now or before
 abbrev pub Says : Option (List ℕ) → Option (List ℕ) → List ℕ → Type 0

@@ -41,7 +41,11 @@ impl<'t, 'a> AskedRun<'t, 'a> {
 
     /// The list of characters among the words.
     pub(crate) fn list(&self) -> Option<&'a str> {
-        let option = if self.is("make") { "--chars" } else { "--char" };
+        let option = if self.parts.is_make {
+            "--chars"
+        } else {
+            "--char"
+        };
         value_in(&self.parts.words, option)
     }
 }

@@ -12,7 +12,7 @@ use crate::run::Ended;
 use crate::text::Text;
 use crate::tool::Tool;
 use fx_fixed::{Digits, Sink};
-use fx_words::{has, list_of};
+use fx_words::{has, list_of, value_in};
 use std::alloc::{AllocError, Global};
 
 /// The endings of files of other formats.
@@ -20,7 +20,7 @@ const OTHERS: &str = "psf psfu pcf otb png pbm h c gz pf2 fnt fon hex ttf";
 
 /// What is said of a file whose name has one of these.
 const IS_BDF: &str =
-    "' is BDF, like every strike; strike --format of the package python3-mkstrike makes psf, pcf, otb, png, c and gfx";
+    "'%' is BDF, like every strike; strike --format of the package python3-mkstrike makes psf, pcf, otb, png, c and gfx";
 
 const IS_VARIABLE: &str = "the font is a variable font, and this is its default instance";
 
@@ -36,11 +36,14 @@ const IS_BLANK: &str = "no pixel of the strike is set: its characters are blank"
 const LISTS: &str =
     "; --set takes sets by name, and strike --text of the package python3-mkstrike takes letters";
 
+const NOT_A_CHARACTER: &str =
+    "--char takes one hexadecimal number up to 10FFFF, not '%'; the letter A is 41";
+
 const WRONG_LINE: &str =
     "without arguments the first line of the input is the command line, and it is wrong; 'mkstrike help' shows how it is written";
 
 const NO_COMMAND: &str =
-    "the first word is the command, make, show, outline, dump, trace, explain, or help, not '";
+    "the first word is the command, make, show, outline, dump, trace, explain, or help, not '%'; 'mkstrike help' shows how it is written";
 
 const A_FILE: &str =
     "the first word is the command: 'mkstrike make --ppem 16 --chars 20-7e FONT' makes a strike";
@@ -70,13 +73,13 @@ pub fn say_after<G: Tool, E: Sink>(
 /// Adds what is said of a file whose name promises another format, or of a variable font.
 fn add_font_or_file(text: &mut Text, facts: &Facts, task: &AskedRun<'_, '_>) {
     if let Some(name) = task.parts.output
-        && task.is("make")
+        && task.parts.is_make
         && let Some((_, ending)) = name.rsplit_once('.')
         && is_among(ending, OTHERS)
     {
-        text.add_all(&["'", name, IS_BDF]);
+        text.add_with(IS_BDF, name);
     } else if facts.is_variable {
-        text.add_all(&[IS_VARIABLE]);
+        text.add_text(IS_VARIABLE);
     }
 }
 
@@ -107,13 +110,13 @@ fn add_strike(
     is_blank: bool,
 ) {
     if facts.is_cut {
-        text.add_all(&[IS_CUT]);
+        text.add_text(IS_CUT);
     } else if counts.glyphs == 0 {
-        text.add_all(&["the strike has no glyph: ", why_no_glyph(task, counts)]);
+        text.add_with("the strike has no glyph: %", why_no_glyph(task, counts));
     } else if counts.missing > 0 {
         add_missing(text, facts, counts.missing);
     } else if is_blank {
-        text.add_all(&[IS_BLANK]);
+        text.add_text(IS_BLANK);
     }
 }
 
@@ -133,8 +136,11 @@ fn why_no_glyph(task: &AskedRun<'_, '_>, counts: Counts) -> &'static str {
 /// Adds which characters are missing.
 fn add_missing(text: &mut Text, facts: &Facts, count: u32) {
     text.add_number(u64::from(count));
-    let be = if count == 1 { "is" } else { "are" };
-    text.add_all(&[" of the requested characters ", be, " missing in the font"]);
+    text.add_text(if count == 1 {
+        " of the requested characters is missing in the font"
+    } else {
+        " of the requested characters are missing in the font"
+    });
     let missing = facts.missing.bytes().unwrap_or(b"");
     if missing.is_empty() {
         return;
@@ -156,70 +162,57 @@ fn add_refusal<G: Tool>(
 ) {
     let advice = refused.advice;
     match (refused.number, &program.facts().start) {
-        (10, Some(start)) => text.add_all(&[kind_of(&KINDS, start).unwrap_or(advice)]),
-        (17..=23, _) if task.is("make") => text.add_all(&[advice, "; --refused leave-out does so"]),
+        (10, Some(start)) => text.add_text(kind_of(&KINDS, start).unwrap_or(advice)),
+        (17..=23, _) if task.parts.is_make => {
+            text.add_with("%; --refused leave-out does so", advice)
+        }
         (24, _) if names_glyph(task, refused.glyph) => {
-            text.add_all(&["the font has no glyph of that number"])
+            text.add_text("the font has no glyph of that number")
         }
         (25, Some(start)) => add_faces(text, start),
         (30..=41, _) => add_halt(text, task, refused),
         (61, _) => add_list(alloc, text, program, task, advice),
-        _ => text.add_all(&[advice]),
+        _ => text.add_text(advice),
     }
 }
 
 /// Adds what to do after a halt. A trace runs the programs always.
 fn add_halt(text: &mut Text, task: &AskedRun<'_, '_>, refused: RefusalFacts) {
-    if task.is("make") && refused.is_halted_glyph {
-        text.add_all(&["--refused unhinted draws such characters without hinting; "]);
+    if task.parts.is_make && refused.is_halted_glyph {
+        text.add_text("--refused unhinted draws such characters without hinting; ");
     }
     if !task.is("trace") {
-        text.add_all(&["with --unhinted no program of the font runs; "]);
+        text.add_text("with --unhinted no program of the font runs; ");
     }
-    text.add_all(&["to fix the font, ", refused.advice]);
+    text.add_with("to fix the font, %", refused.advice);
 }
 
 /// Whether the glyph that is refused is one that the words name.
 fn names_glyph(task: &AskedRun<'_, '_>, glyph: Option<u16>) -> bool {
-    let Some(glyph) = glyph else {
-        return false;
-    };
-    let digits = Digits::unsigned(u64::from(glyph));
-    // No word so far names it.
-    'words: for word in task.parts.words.iter() {
-        let value = match word.split_once('=') {
-            Some((option, value)) if has(&["--glyph", "--of"], option) => value,
-            _ => word,
-        };
-        if value.as_bytes() == digits.text() {
-            return true;
+    let words = &task.parts.words;
+    let named = value_in(words, "--glyph").or(value_in(words, "--of"));
+    match (glyph, named) {
+        (Some(glyph), Some(named)) => {
+            named.as_bytes() == Digits::unsigned(u64::from(glyph)).text()
         }
+        _ => false,
     }
-    false
 }
 
 /// Adds which faces a file has that begins so.
 fn add_faces(text: &mut Text, start: &[u8]) {
-    match faces_of(start) {
-        None => text.add_all(&["the file is no collection: leave --face out"]),
-        Some(0) => text.add_all(&["the collection has no font"]),
-        Some(1) => text.add_all(&["the collection has one font: leave --face out"]),
-        Some(faces) => {
-            text.add_all(&["the collection has "]);
+    let [b't', b't', b'c', b'f', _, _, _, _, a, b, c, d] = start else {
+        return text.add_text("the file is no collection: leave --face out");
+    };
+    match u32::from_be_bytes([*a, *b, *c, *d]) {
+        0 => text.add_text("the collection has no font"),
+        1 => text.add_text("the collection has one font: leave --face out"),
+        faces => {
+            text.add_text("the collection has ");
             text.add_number(u64::from(faces));
-            text.add_all(&[" fonts: --face takes 0 to "]);
+            text.add_text(" fonts: --face takes 0 to ");
             text.add_number(u64::from(faces - 1));
         }
-    }
-}
-
-/// How many fonts a collection has that begins so. None if it is no collection.
-fn faces_of(start: &[u8]) -> Option<u32> {
-    match start {
-        [b't', b't', b'c', b'f', _, _, _, _, a, b, c, d] => {
-            Some(u32::from_be_bytes([*a, *b, *c, *d]))
-        }
-        _ => None,
     }
 }
 
@@ -232,60 +225,58 @@ fn add_list<G: Tool>(
     advice: &str,
 ) {
     let Some(list) = task.list() else {
-        return text.add_all(&[advice]);
+        return text.add_text(advice);
     };
-    if !task.is("make") {
-        let takes = "--char takes one hexadecimal number up to 10FFFF, not '";
-        text.add_all(&[takes, list, "'; the letter A is 41"]);
+    if !task.parts.is_make {
+        text.add_with(NOT_A_CHARACTER, list);
     } else if list == task.parts.listed
         && let Some(name) = first_word(list)
     {
         add_unknown_set(alloc, text, name);
     } else {
         program.add_wrong_item(text, list);
-        text.add_all(&[": ", advice, "; the letter A is 41"]);
+        text.add_with(": %; the letter A is 41", advice);
         add_names(alloc, text, list);
     }
 }
 
 /// Adds that no set of characters has this name, and which may be meant.
 fn add_unknown_set(alloc: Global, text: &mut Text, name: &str) {
-    text.add_all(&["no set of characters has the name '", name, "';"]);
+    text.add_with("no set of characters has the name '%';", name);
     add_question(text, set_meant_by(alloc, name));
-    text.add_all(&[" 'mkstrike help sets' lists the sets"]);
+    text.add_text(" 'mkstrike help sets' lists the sets");
 }
 
-/// Adds the question whether one of some words is meant; nothing without words.
-fn add_question(text: &mut Text, meant: Result<Vec<&'static str>, AllocError>) {
-    let Ok(words) = meant else {
+/// Adds the question whether a word is meant, if one may be.
+fn add_question(text: &mut Text, meant: Result<Text, AllocError>) {
+    let Ok(meant) = meant else {
         return text.stop();
     };
-    let mut before = " did you mean '";
-    // The words so far were added.
-    'words: for word in &words {
-        text.add_all(&[before, word, "'"]);
-        before = " or '";
-    }
-    if !words.is_empty() {
-        text.add(b"?");
+    match meant.bytes() {
+        Some([]) => {}
+        Some(question) => {
+            text.add(question);
+            text.add(b"?");
+        }
+        None => text.stop(),
     }
 }
 
 /// Adds what there is for a list that has names or letters.
 fn add_names(alloc: Global, text: &mut Text, list: &str) {
-    if list == "all" || list == "*" {
-        return text.add_all(&["; --all takes all characters of the font"]);
+    if is_among(list, "all *") {
+        return text.add_text("; --all takes all characters of the font");
     }
     // No item so far is the name of a set.
     'items: for item in list.split(',') {
         match list_of(alloc, item) {
             Ok(None) => {}
-            Ok(Some(_)) => return text.add_all(&["; --set ", item, " takes that set"]),
+            Ok(Some(_)) => return text.add_with("; --set % takes that set", item),
             Err(_) => return text.stop(),
         }
     }
     if first_word(list).is_some() {
-        text.add_all(&[LISTS]);
+        text.add_text(LISTS);
     }
 }
 
@@ -300,15 +291,16 @@ fn first_word(list: &str) -> Option<&str> {
     None
 }
 
-/// Whether an item looks like a word or a letter, and not like numbers.
+/// Whether an item looks like a word or a letter, and not like numbers: some byte is a letter from g to z but `x` and `u`, which come
+/// before numbers, or is not of ASCII.
 fn is_word(item: &str) -> bool {
-    let mut is_word = false;
-    // Whether some byte so far is a letter from g to z but `x` and `u`, which come before numbers, or is not of ASCII.
+    // No byte so far is.
     'bytes: for byte in item.as_bytes() {
-        let lower = byte.to_ascii_lowercase();
-        is_word |= (b'g'..=b'z').contains(&lower) && lower != b'x' && lower != b'u' || *byte > 127;
+        if let b'g'..=b't' | b'v' | b'w' | b'y' | b'z' | 128..=255 = byte.to_ascii_lowercase() {
+            return true;
+        }
     }
-    is_word
+    false
 }
 
 /// Adds what is wrong with a command line.
@@ -319,60 +311,60 @@ fn add_usage<G: Tool>(
     task: &AskedRun<'_, '_>,
     is_file: bool,
 ) {
-    let [_, words @ ..] = task.parts.words.as_slice() else {
-        return text.add_all(&[WRONG_LINE]);
-    };
-    let [first, ..] = words else {
-        return text.add_all(&[WRONG_LINE]);
-    };
-    let Some(command) = task.command else {
-        return add_command(alloc, text, first, is_file);
-    };
-    let Ok(said) = program.wrong(alloc, words) else {
-        return text.stop();
-    };
-    let wrong = str::from_utf8(&said).unwrap_or("").trim_end();
-    add_wrong(alloc, text, task, command, wrong);
-    text.add_all(&[" 'mkstrike help ", command, "' shows how it is written"]);
+    let words = task.parts.words.get(1..).unwrap_or(&[]);
+    match (words.first(), task.command) {
+        (None, _) => text.add_text(WRONG_LINE),
+        (Some(first), None) => add_command(alloc, text, first, is_file),
+        (Some(_), Some(command)) => match program.wrong(alloc, words) {
+            Ok(said) => {
+                let wrong = str::from_utf8(&said).unwrap_or("");
+                add_wrong(alloc, text, task, command, wrong.trim_end());
+            }
+            Err(_) => text.stop(),
+        },
+    }
 }
 
 /// Adds the line that says what is wrong with the words of a command, and what explains it further.
 fn add_wrong(alloc: Global, text: &mut Text, task: &AskedRun<'_, '_>, command: &str, wrong: &str) {
-    if wrong == "unknown option '-o'" {
-        text.add_all(&["-o takes the name of a file, and is given once"]);
-    } else if let Some(option) = wrong.strip_prefix("unknown option '") {
-        let option = option.strip_suffix("'").unwrap_or(option);
-        text.add_all(&[wrong, ";"]);
-        return add_instead(alloc, text, option, command);
-    } else {
-        text.add_all(&[wrong]);
-        add_more(text, wrong, task);
+    match wrong.strip_prefix("unknown option '") {
+        Some("-o'") => text.add_text("-o takes the name of a file, and is given once;"),
+        Some(option) => {
+            text.add_with("%;", wrong);
+            add_instead(
+                alloc,
+                text,
+                option.strip_suffix("'").unwrap_or(option),
+                command,
+            );
+        }
+        None => {
+            text.add_text(wrong);
+            text.add_text(about_ppem(wrong));
+            if let Some(font) = task.parts.font
+                && wrong.starts_with("one word too many")
+            {
+                text.add_with(": '%' names the font", font);
+            }
+            text.add(b";");
+        }
     }
-    text.add_all(&[";"]);
+    text.add_with(" 'mkstrike help %' shows how it is written", command);
 }
 
 /// Adds what there is in place of an unknown option of a command, or which may be meant.
 fn add_instead(alloc: Global, text: &mut Text, option: &str, command: &str) {
     match instead_of(option) {
-        Some(instead) => text.add_all(&[" ", instead, ";"]),
+        Some(instead) => text.add_with(" %;", instead),
         None => add_question(text, meant_by(alloc, option, command)),
     }
 }
 
-/// Adds what explains a wrong word or value further.
-fn add_more(text: &mut Text, wrong: &str, task: &AskedRun<'_, '_>) {
-    if let Some(font) = task.parts.font
-        && wrong.starts_with("one word too many")
-    {
-        return text.add_all(&[": '", font, "' names the font"]);
-    }
-    if let Some(value) = wrong.strip_prefix("--ppem takes a whole number from 1 to 1024, not '") {
-        text.add_all(&[about_ppem(value)]);
-    }
-}
-
 /// What explains a wrong value of `--ppem` further.
-fn about_ppem(value: &str) -> &'static str {
+fn about_ppem(wrong: &str) -> &'static str {
+    let Some(value) = wrong.strip_prefix("--ppem takes a whole number from 1 to 1024, not '") else {
+        return "";
+    };
     if value.contains("pt") {
         "; pixels are points times the resolution, divided by 72"
     } else if value.contains('x') && !value.starts_with("0x") {
@@ -387,17 +379,15 @@ fn about_ppem(value: &str) -> &'static str {
 /// Adds what is wrong with the name of a command.
 fn add_command(alloc: Global, text: &mut Text, word: &str, is_file: bool) {
     if word.starts_with('-') {
-        let how = "'; 'mkstrike help' shows how it is written";
-        return text.add_all(&[NO_COMMAND, word, how]);
-    }
-    if is_file {
-        return text.add_all(&[A_FILE]);
-    }
-    text.add_all(&["unknown command '", word, "';"]);
-    if word == "version" {
-        text.add_all(&[" did you mean '--version'?"]);
+        text.add_with(NO_COMMAND, word);
+    } else if is_file {
+        text.add_text(A_FILE);
     } else {
-        add_question(text, meant_by(alloc, word, ""));
+        text.add_with("unknown command '%';", word);
+        match word {
+            "version" => text.add_text(" did you mean '--version'?"),
+            _ => add_question(text, meant_by(alloc, word, "")),
+        }
+        text.add_text(" 'mkstrike help' lists the commands");
     }
-    text.add_all(&[" 'mkstrike help' lists the commands"]);
 }

@@ -16,10 +16,16 @@ use crate::text::Text;
 use crate::tool::Tool;
 use fx_fixed::{FromReader, Sink, ToSink, put_all};
 use fx_words::{listed, part, value_in};
-use std::alloc::Global;
+use std::alloc::{AllocError, Global};
 use std::fs::File;
 use std::io::IsTerminal;
 use std::{fs, io};
+
+const FONT_HELP: &str =
+    "the first word that is neither an option nor its value names the font; 'mkstrike help ";
+
+const FONT_FILE: &str =
+    "the first word that is neither an option nor its value names the font's file; 'fc-list' shows the files of the installed fonts";
 
 /// Does what a command line asks for, the program's name first. Returns the status: 0, 1 or 2. An error is that memory ran out
 /// before the program was run.
@@ -29,16 +35,23 @@ pub fn run_front<G: Tool>(rt: &HostRuntime, program: &mut G, words: &[&str]) -> 
     match asked_by(words, rt.stdin().is_terminal()) {
         Asked::Version => Ok(print(rt, VERSION)),
         Asked::Help(None) => Ok(print(rt, OVERVIEW)),
-        Asked::Help(Some(command)) => match row_of(&HELPS, command) {
-            Some((_, text)) => Ok(print(rt, text)),
-            None => {
-                say(rt, &["usage"]);
-                let what = "'; 'mkstrike help' lists the commands";
-                say(rt, &["there is no help for '", command, what]);
-                Ok(2)
-            }
-        },
-        Asked::Run => run_words(rt, program, words),
+        Asked::Help(Some(command)) => Ok(print_help(rt, command)),
+        Asked::Run => Ok(run_words(rt, program, words)?),
+    }
+}
+
+/// Prints the help of a command, or says that there is none. Returns the status.
+fn print_help(rt: &HostRuntime, command: &str) -> u8
+    ensures { IsStatus result }
+{
+    match row_of(&HELPS, command) {
+        Some((_, text)) => print(rt, text),
+        None => {
+            say(rt, &["usage"]);
+            let what = "'; 'mkstrike help' lists the commands";
+            say(rt, &["there is no help for '", command, what]);
+            2
+        }
     }
 }
 
@@ -66,77 +79,80 @@ pub fn say_not_text<E: Sink>(alloc: Global, err: &mut E)
     tell(alloc, err, &Text::of(alloc, &[what]));
 }
 
-/// Runs the program on the words, or has it explain them without an input.
-fn run_words<G: Tool>(rt: &HostRuntime, program: &mut G, words: &[&str]) -> io::Result<u8>
+/// Parts the words, and runs the program on them.
+fn run_words<G: Tool>(rt: &HostRuntime, program: &mut G, words: &[&str]) -> Result<u8, AllocError>
     ensures { IfOk result IsStatus }
 {
-    let called = called_by(words);
+    let (command, count) = command_in(words);
+    let (before, after) = words.split_at(words.len().min(count));
     let list = listed(rt.alloc(), value_in(words, "--set").unwrap_or(""))?;
-    let is_make = called.command == Some("make");
-    let parts = part(
-        rt.alloc(),
-        called.before,
-        is_make,
-        list.as_str(),
-        called.after,
-    )?;
+    let is_make = matches!(command, Some("make"));
+    let parts = part(rt.alloc(), before, is_make, list.as_str(), after)?;
     let task = AskedRun {
         parts: &parts,
-        command: called.command,
-    };
-    if called.command.is_some() && !called.is_explained {
-        return run_named(rt, program, &task);
-    }
-    let input = if called.is_explained {
-        Input::Nothing
-    } else {
-        Input::Standard(rt.stdin())
-    };
-    Ok(run_from(rt, program, &task, input, Output::Standard))
-}
-
-/// What words call for: a command that takes a font, if there is one, and whether it is only explained.
-#[derive(Clone, Copy)]
-struct Called<'w, 'a> {
-    command: Option<&'static str>,
-    is_explained: bool,
-    /// The words up to the command's name.
-    before: &'w [&'a str],
-    /// The words after it, which may name files.
-    after: &'w [&'a str],
-}
-
-/// What words call for. The command's name is the second word, or follows `explain`. Without a command that takes a font all words
-/// are for the program.
-fn called_by<'w, 'a>(words: &'w [&'a str]) -> Called<'w, 'a> {
-    let is_explained = words.get(1).copied() == Some("explain");
-    let count = if is_explained { 3 } else { 2 };
-    let command = command_of(words.get(count - 1).copied().unwrap_or(""));
-    let end = if command.is_some() {
-        count
-    } else {
-        words.len()
-    };
-    let (before, after) = words.split_at(words.len().min(end));
-    Called {
         command,
-        is_explained,
-        before,
-        after,
+    };
+    run_parted(rt, program, &task, is_explained(words))
+}
+
+/// Runs the program on words, or has it explain them without an input.
+fn run_parted<G: Tool>(
+    rt: &HostRuntime,
+    program: &mut G,
+    task: &AskedRun<'_, '_>,
+    is_explained: bool,
+) -> Result<u8, AllocError>
+    ensures { IfOk result IsStatus }
+{
+    if is_explained {
+        Ok(run_from(rt, program, task, Input::Nothing, Output::Standard))
+    } else if task.command.is_some() {
+        run_named(rt, program, task)
+    } else {
+        Ok(run_from(
+            rt,
+            program,
+            task,
+            Input::Standard(rt.stdin()),
+            Output::Standard,
+        ))
+    }
+}
+
+/// Whether words are only explained.
+fn is_explained(words: &[&str]) -> bool {
+    matches!(words, [_, "explain", ..])
+}
+
+/// The command that takes a font, which the second word names, or the one after `explain`; and how many words end with its name.
+/// Without one all words are for the program.
+fn command_in(words: &[&str]) -> (Option<&'static str>, usize) {
+    let at = if is_explained(words) { 2 } else { 1 };
+    match command_of(words.get(at).copied().unwrap_or("")) {
+        None => (None, words.len()),
+        command => (command, at + 1),
     }
 }
 
 /// Runs the program on the font and with the output that the words name.
-fn run_named<G: Tool>(rt: &HostRuntime, program: &mut G, task: &AskedRun<'_, '_>) -> io::Result<u8>
+fn run_named<G: Tool>(
+    rt: &HostRuntime,
+    program: &mut G,
+    task: &AskedRun<'_, '_>,
+) -> Result<u8, AllocError>
     ensures { IfOk result IsStatus }
 {
     let font = match task.parts.font {
         Some("-") => None,
         font => font,
     };
-    match input_of(rt, font) {
-        Ok(input) => run_with(rt, program, task, font, input),
-        Err(why) => refuse_font(rt, program, task, why),
+    let input = match input_of(rt, font) {
+        Ok(input) => input,
+        Err(why) => return refuse_font(rt, program, task, why),
+    };
+    match output_of(rt, task.parts.output, font.unwrap_or("/dev/stdin"))? {
+        Ok(output) => Ok(run_from(rt, program, task, input, output)),
+        Err(why) => Ok(refuse_output(rt, task, why)),
     }
 }
 
@@ -159,29 +175,13 @@ fn input_of(rt: &HostRuntime, font: Option<&str>) -> Result<Input, &'static str>
     }
 }
 
-/// Runs the program on a font, with the output that the words name.
-fn run_with<G: Tool>(
-    rt: &HostRuntime,
-    program: &mut G,
-    task: &AskedRun<'_, '_>,
-    font: Option<&str>,
-    input: Input,
-) -> io::Result<u8>
-    ensures { IfOk result IsStatus }
-{
-    match output_of(rt, task.parts.output, font.unwrap_or("/dev/stdin"))? {
-        Ok(output) => Ok(run_from(rt, program, task, input, output)),
-        Err(why) => Ok(refuse_output(rt, task, why)),
-    }
-}
-
 /// Says what is wrong with the other words, or else why the font can't be opened. Returns the status.
 fn refuse_font<G: Tool>(
     rt: &HostRuntime,
     program: &mut G,
     task: &AskedRun<'_, '_>,
     why: &str,
-) -> io::Result<u8>
+) -> Result<u8, AllocError>
     ensures { IfOk result IsStatus }
 {
     let wrong = program.wrong(rt.alloc(), task.parts.words.get(1..).unwrap_or(&[]))?;
@@ -197,14 +197,11 @@ fn refuse_font<G: Tool>(
 fn say_no_font(rt: &HostRuntime, task: &AskedRun<'_, '_>, why: &str) {
     let name = task.parts.font.unwrap_or("");
     say(rt, &["can't open the font '", name, "': ", why]);
-    let names = "the first word that is neither an option nor its value names the font";
     if name.contains('/') {
-        let command = task.command.unwrap_or("");
         let how = "' shows how it is written";
-        say(rt, &[names, "; 'mkstrike help ", command, how]);
+        say(rt, &[FONT_HELP, task.command.unwrap_or(""), how]);
     } else {
-        let files = "'s file; 'fc-list' shows the files of the installed fonts";
-        say(rt, &[names, files]);
+        say(rt, &[FONT_FILE]);
     }
 }
 

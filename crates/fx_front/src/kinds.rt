@@ -106,7 +106,11 @@ fn kind_among(rows: &[(&'static [u8], &'static str)], start: &[u8]) -> Option<&'
 fn looks_hexadecimal(start: &[u8]) -> bool
     ensures { result ≡ list_all is_hexadecimal start.now }
 {
-    start.iter().all(|byte| {
-        byte.is_ascii_hexdigit() || *byte == b' ' || *byte == b'\r' || *byte == b'\n'
-    })
+    // All bytes are exactly if those are that are left.
+    'bytes: for byte in start {
+        if !(byte.is_ascii_hexdigit() || *byte == b' ' || *byte == b'\r' || *byte == b'\n') {
+            return false;
+        }
+    }
+    true
 }

@@ -3,7 +3,7 @@ ghost use Rattle.std.specs.Prelude.{◌≡◌, map, option_map};
 ghost use Rattle.fx_words.specs.Parts.{text_in};
 ghost use Rattle.fx_front.specs.inner.Asked.{command_of, name_among};
 
-use fx_words::SETS;
+use crate::text::Text;
 use std::alloc::{AllocError, Global};
 use strsim::levenshtein;
 
@@ -27,6 +27,11 @@ const OPTIONS: [(&str, &str); 5] = [
 
 /// All commands.
 const COMMANDS: &str = "make show outline dump trace explain help";
+
+/// The sets of characters, as `fx_words` has them.
+const SETS: &str =
+    "ascii latin-1 latin-9 wgl4 greek cyrillic box blocks braille cp437 koi8-r latin-extended-a greek-block cyrillic-block hebrew \
+     arabic thai punctuation currency arrows math shapes kana han hangul powerline";
 
 /// What others call an option or a command.
 const USUAL: [(&str, &str); 8] = [
@@ -107,106 +112,63 @@ pub(crate) fn command_of(word: &str) -> Option<&'static str>
 
 /// What there is in place of an option that others have.
 pub(crate) fn instead_of(option: &str) -> Option<&'static str> {
-    // The option is in no row so far.
-    'rows: for row in &INSTEAD {
-        if is_among(option, row.0) {
+    usual_for(&INSTEAD, option, "")
+}
+
+/// The second column of the first row that has a word in the first, and in the second one of these words, if there are any.
+fn usual_for(
+    rows: &[(&'static str, &'static str)],
+    word: &str,
+    words: &str,
+) -> Option<&'static str> {
+    // No row so far has the word, and is for one of these.
+    'rows: for row in rows {
+        if is_among(word, row.0) && (words.is_empty() || is_among(row.1, words)) {
             return Some(row.1);
         }
     }
     None
 }
 
-/// Which option of a command may be meant by a word, or which command if none is given. It is found by a usual word for it, or by
-/// the fewest letters that differ, and then there may be several.
-pub(crate) fn meant_by(
-    alloc: Global,
-    word: &str,
-    command: &str,
-) -> Result<Vec<&'static str>, AllocError> {
+/// Asks whether an option of a command is meant by a word, or a command if none is given. It is found by a usual word for it, or by
+/// the fewest letters that differ, and then there may be several. Asks nothing if there is none.
+pub(crate) fn meant_by(alloc: Global, word: &str, command: &str) -> Result<Text, AllocError> {
     let words = match row_of(&OPTIONS, command) {
         Some((_, options)) => options,
         None => COMMANDS,
     };
-    let mut found = Vec::new(alloc);
-    match usual_for(word, words) {
-        Some(meant) => found.push(meant)?,
-        None if word.len() < 5 && word.starts_with('-') => {}
-        None => found = nearest_among(alloc, word, words)?,
+    match usual_for(&USUAL, word, words) {
+        Some(meant) => nearest_among(alloc, meant, meant),
+        None if word.len() < 5 && word.starts_with('-') => Ok(Text::new(alloc)),
+        None => nearest_among(alloc, word, words),
     }
-    Ok(found)
 }
 
-/// The words among these with the fewest letters that differ.
-fn nearest_among(
-    alloc: Global,
-    word: &str,
-    words: &'static str,
-) -> Result<Vec<&'static str>, AllocError> {
-    let mut nearest = Nearest::new(alloc, word)?;
-    // `nearest` has seen the words so far.
-    'words: for each in words.split(' ') {
-        nearest.see(alloc, each)?;
-    }
-    Ok(nearest.found)
-}
-
-/// The word among these that others call so.
-fn usual_for(word: &str, words: &str) -> Option<&'static str> {
-    // No row so far has the word, and is for one of these.
-    'rows: for row in &USUAL {
-        if is_among(word, row.0) && is_among(row.1, words) {
-            return Some(row.1);
-        }
-    }
-    None
-}
-
-/// Which sets of characters may be meant by a name, by the fewest letters that differ. None if the name is too short to tell.
-pub(crate) fn set_meant_by(alloc: Global, name: &str) -> Result<Vec<&'static str>, AllocError> {
+/// Asks whether a set of characters is meant by a name, by the fewest letters that differ; not if the name is too short to tell.
+pub(crate) fn set_meant_by(alloc: Global, name: &str) -> Result<Text, AllocError> {
     if name.len() < 4 {
-        return Ok(Vec::new(alloc));
+        return Ok(Text::new(alloc));
     }
-    let mut nearest = Nearest::new(alloc, name)?;
-    // `nearest` has seen the sets so far.
-    'sets: for set in &SETS {
-        nearest.see(alloc, set.0)?;
-    }
-    Ok(nearest.found)
+    nearest_among(alloc, name, SETS)
 }
 
-/// The words that differ from one in the fewest letters, in two at most.
-#[derive(Drop)]
-struct Nearest {
-    /// The word, in lower case.
-    word: String,
-    /// The nearest words so far.
-    found: Vec<&'static str>,
-    /// How many letters differ in these.
-    distance: usize,
-}
-
-impl Nearest {
-    /// No word was seen yet.
-    fn new(alloc: Global, word: &str) -> Result<Nearest, AllocError> {
-        Ok(Nearest {
-            word: word.to_ascii_lowercase(alloc)?,
-            found: Vec::new(alloc),
-            distance: 2,
-        })
-    }
-
-    /// Sees a word.
-    fn see(&mut self, alloc: Global, word: &'static str) -> Result<(), AllocError> {
-        let distance = levenshtein(alloc, self.word.as_str(), word)?;
-        if distance < self.distance {
-            self.found.clear();
-            self.distance = distance;
+/// Asks whether those among some words are meant that differ from a word in the fewest letters, in two at most.
+fn nearest_among(alloc: Global, word: &str, words: &str) -> Result<Text, AllocError> {
+    let word = word.to_ascii_lowercase(alloc)?;
+    let mut meant = Text::new(alloc);
+    let mut least = 3;
+    // `meant` has the nearest words so far, which differ in `least` letters.
+    'words: for each in words.split(' ') {
+        let distance = levenshtein(alloc, word.as_str(), each)?;
+        if distance < least {
+            least = distance;
+            meant = Text::new(alloc);
+            meant.add_with(" did you mean '%'", each);
+        } else if distance == least && least < 3 {
+            meant.add_with(" or '%'", each);
         }
-        if distance == self.distance {
-            self.found.push(word)?;
-        }
-        Ok(())
     }
+    Ok(meant)
 }
 
 /// Whether a word is among others, which spaces part.

@@ -2,6 +2,7 @@
 use crate::destination::Destination;
 use crate::paths::{beside_streams, folder_of, followed};
 use fx_words::has;
+use std::alloc::AllocError;
 use std::fs::{File, Metadata, Permissions};
 use std::io::{ErrorKind, Stdout, Write};
 use std::os::unix::fs::MetadataExt;
@@ -62,7 +63,7 @@ pub(crate) fn output_of(
     rt: &HostRuntime,
     name: Option<&str>,
     font: &str,
-) -> io::Result<Result<Output, &'static str>> {
+) -> Result<Result<Output, &'static str>, AllocError> {
     let name = match name {
         Some(name) if !has(&STANDARD, name) => name,
         _ => return Ok(Ok(Output::Standard)),
@@ -86,7 +87,7 @@ fn new_file(
     rt: &HostRuntime,
     name: &str,
     like: Option<Permissions>,
-) -> io::Result<Result<Output, &'static str>> {
+) -> Result<Result<Output, &'static str>, AllocError> {
     let Some(name) = followed(rt, name)? else {
         return Ok(Err("it is a link that can't be followed"));
     };

@@ -1,6 +1,9 @@
 //! Names of files.
+use std::alloc::AllocError;
 use std::fs::File;
+use std::io::ErrorKind;
 use std::os::fd::AsRawFd;
+use std::path::Path;
 use std::{fs, io};
 
 /// How many links are followed, as by the system.
@@ -15,37 +18,24 @@ pub(crate) fn folder_of(path: &str) -> &str {
 }
 
 /// The name that a chain of links at the end of a path leads to. None if one can't be followed. An error is that memory ran out.
-pub(crate) fn followed(rt: &HostRuntime, path: &str) -> io::Result<Option<String>> {
+pub(crate) fn followed(rt: &HostRuntime, path: &str) -> Result<Option<String>, AllocError> {
     let mut name = String::from_str(rt.alloc(), path)?;
     // `name` is reached from the path by the links so far.
     'links: for _ in 0..LINKS {
-        if !is_link(rt, name.as_str()) {
-            return Ok(Some(name));
-        }
-        match next_name(rt, name.as_str())? {
-            Some(next) => name = next,
-            None => return Ok(None),
+        match fs::read_link(rt, name.as_str()) {
+            Ok(link) => {
+                let folder = Path::new(folder_of(name.as_str()));
+                name = folder.join(rt.alloc(), link)?.into_string();
+            }
+            Err(fault) => return Ok(if is_no_link(&fault) { Some(name) } else { None }),
         }
     }
     Ok(None)
 }
 
-/// Whether a name is that of a link.
-fn is_link(rt: &HostRuntime, name: &str) -> bool {
-    matches!(fs::symlink_metadata(rt, name), Ok(found) if found.is_symlink())
-}
-
-/// The name that a link leads to. None if it can't be followed. An error is that memory ran out.
-fn next_name(rt: &HostRuntime, name: &str) -> io::Result<Option<String>> {
-    let Ok(link) = fs::read_link(rt, name) else {
-        return Ok(None);
-    };
-    let next = link.into_string();
-    if next.starts_with('/') {
-        return Ok(Some(next));
-    }
-    let beside = format!(in rt.alloc(); "{}{next}", folder_of(name))?;
-    Ok(Some(beside))
+/// Whether what was to be read as a link is none, or is not there.
+fn is_no_link(fault: &io::Error) -> bool {
+    matches!(fault.kind(), ErrorKind::InvalidInput | ErrorKind::NotFound)
 }
 
 /// The same open file under a number above those of the standard streams. A file that is opened while one of these is closed gets

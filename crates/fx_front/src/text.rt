@@ -3,7 +3,7 @@ ghost use Rattle.std.specs.Prelude.{◌≡◌, ◌==◌, ◌<◌, ◌∷◌, ◌
 ghost use Rattle.std.specs.Char.{to_ascii_lowercase};
 ghost use Rattle.std.specs.Fmt.{decimal};
 ghost use Rattle.fx_fixed.specs.Lines.{hexadecimal};
-ghost use Rattle.fx_front.specs.Lines.{IsLine, Says, shown, shown_pieces, shown_text};
+ghost use Rattle.fx_front.specs.Lines.{IsLine, Says, shown, shown_pieces, shown_text, shown_with};
 
 use fx_fixed::Digits;
 use std::alloc::Global;
@@ -54,8 +54,23 @@ impl Text {
     {
         // The pieces so far were added.
         'pieces: for piece in pieces {
-            self.add(piece.as_bytes());
+            self.add_text(piece);
         }
+    }
+
+    /// Adds a text.
+    pub(crate) fn add_text(&mut self, text: &str)
+        ensures { Says self.old self.new (shown_text text.now) }
+    {
+        self.add(text.as_bytes());
+    }
+
+    /// Adds a pattern with a text in place of its first `%`.
+    pub(crate) fn add_with(&mut self, pattern: &str, text: &str)
+        ensures { Says self.old self.new (shown_with pattern.now text.now) }
+    {
+        let (before, after) = pattern.split_once('%').unwrap_or((pattern, ""));
+        self.add_all(&[before, text, after]);
     }
 
     /// Adds bytes.

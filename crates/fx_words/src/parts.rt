@@ -176,7 +176,7 @@ impl<'a> Parts<'a> {
     fn take_output(&mut self, word: &'a str) -> Result<(), AllocError>
         ensures { OnOk result (seen self.new ≡ step_by Next.Output (seen self.old) word.entry.now) }
     {
-        if word == "-" || !is_option(word) {
+        if matches!(word, "-") || !is_option(word) {
             return self.put(word);
         }
         self.keep("-o", Next::Any)?;
@@ -232,20 +232,14 @@ impl<'a> Parts<'a> {
 fn kind_of(is_make: bool, word: &str) -> WordKind
     ensures { result ≡ kind_of is_make word.now }
 {
-    if word == "-o" {
-        WordKind::Output
-    } else if word == "-" {
-        WordKind::Name
-    } else if word == "--" {
-        WordKind::Names
-    } else if word == "--dropout" {
-        WordKind::Dropout
-    } else if is_make && word == "--missing" {
-        WordKind::Missing
-    } else if is_make && word == "--set" {
-        WordKind::Set
-    } else {
-        other_kind(is_make, word)
+    match word {
+        "-o" => WordKind::Output,
+        "-" => WordKind::Name,
+        "--" => WordKind::Names,
+        "--dropout" => WordKind::Dropout,
+        "--missing" if is_make => WordKind::Missing,
+        "--set" if is_make => WordKind::Set,
+        _ => other_kind(is_make, word),
     }
 }
 
@@ -323,10 +317,7 @@ fn is_path(word: &str) -> bool
 fn has_joined_output(word: &str) -> bool
     ensures { result ≡ has_joined_output word.now }
 {
-    match word.split_once('o') {
-        Some((start, _)) => start == "-",
-        None => false,
-    }
+    matches!(word.split_once('o'), Some(("-", _)))
 }
 
 /// The name in `-oNAME` or `-o=NAME`.
@@ -344,7 +335,7 @@ fn without_equals<'a>(name: &'a str) -> &'a str
     ensures { result.now ≡ without_equals name.entry.now }
 {
     match name.split_once('=') {
-        Some((start, rest)) if start == "" => rest,
+        Some(("", rest)) => rest,
         _ => name,
     }
 }
