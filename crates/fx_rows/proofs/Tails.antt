@@ -102,3 +102,5 @@ between_outside b a i h k l (inr m) =
 -- a word without one of its bits is less
 pub fewer : (word m j : ℕ) → bit_at word j ≡ 1 → bit_at (bit_and word m) j ≡ 0 → bit_and word m < word
 fewer word m j h k = grind (arith, h, k, and_le_l, below_or_not (bit_and word m) word)
+
+pub ruleset rests = (set_before, set_from, clear_before, clear_from)

@@ -38,7 +38,7 @@ fn without_first(word: u32) -> u32
 }
 
 /// The word with the bits from a column on all set, or all 0.
-#[tactic(auto, using(crate::proofs::Tails::set_before, crate::proofs::Tails::set_from, crate::proofs::Tails::clear_before, crate::proofs::Tails::clear_from))]
+#[tactic(auto, using(crate::proofs::Tails::rests))]
 fn with_rest(word: u32, column: u32, set: bool) -> u32
     requires { column < 32 }
     ensures before { (i : ℕ) → i < column → bit_at result (31 - i) ≡ bit_at word (31 - i) }

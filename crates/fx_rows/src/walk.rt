@@ -1,6 +1,6 @@
 //! Bent arcs that are walked along: from row to row and from column to column the areas of one column's centre change evenly.
 
-ghost use Rattle.std.specs.Prelude.{◌≡◌, ◌≢◌, ℕ, ℤ, ◌+◌, ◌-◌, ◌<◌, ◌≤◌, max, pos, neg_ℤ, ◌+ℤ◌, ◌-ℤ◌, ◌*ℤ◌, ◌<ℤ◌, IsTrue, ◌↔◌};
+ghost use Rattle.std.specs.Prelude.{◌≡◌, ◌≢◌, ℕ, ℤ, ◌+◌, ◌-◌, ◌<◌, ◌≤◌, max, pos, neg_ℤ, ◌+ℤ◌, ◌-ℤ◌, ◌*ℤ◌, ◌≤ℤ◌, ◌<ℤ◌, IsTrue, ◌↔◌};
 ghost use Rattle.std.specs.Prelude.{false, Some};
 ghost use Rattle.fx_winding.specs.Area.{gap_of};
 ghost use Rattle.fx_winding.specs.Limits.{end_of_pixels};
@@ -100,15 +100,23 @@ pub(crate) struct ArcCuts {
     spot: Spot,
 }
 
+/// Whether the gap of these areas is at least 0. Its factor 4 goes into a product of 64 bits.
+#[inline(always)]
+fn is_reached(areas: Weights) -> bool
+    ensures { IsTrue result ↔ (pos 0 ≤ℤ gap_of areas.u areas.v areas.w) }
+{
+    i128::from(4 * areas.u) * i128::from(areas.w) >= i128::from(areas.v) * i128::from(areas.v)
+}
+
 /// Whether a column with these areas counts: it is left of the chord, or in the region right of it; or left of both.
 #[inline(always)]
 fn is_counted(right: bool, areas: Weights) -> bool
     ensures { IsTrue result ↔ Counts right areas.v (gap_of areas.u areas.v areas.w) }
 {
     if right {
-        areas.v < 0 || curve_gap(areas) >= 0
+        areas.v < 0 || is_reached(areas)
     } else {
-        areas.v < 0 && curve_gap(areas) < 0
+        areas.v < 0 && !is_reached(areas)
     }
 }
 

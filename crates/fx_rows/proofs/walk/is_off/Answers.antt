@@ -15,8 +15,8 @@ same_bits a b k f g h e = sym (of_z-to_z w64 (of_z w64 a * of_z w64 b % 18446744
     ap (of_z w64) (wrapping_mul_is w64 a b f g ∙ ap (int_wrap w64) e ∙ sym (wrapping_mul_is w64 k k h h)) ∙
     of_z-to_z w64 (of_z w64 k * of_z w64 k % 18446744073709551616) (omega arith)
 
-product : (u v w u' : ℤ) → u' ≡ u → gap_of u v w ≡ pos 0 → (pos 4 *ℤ u') *ℤ w ≡ v *ℤ v
-product u v w u' e z = ap (λ y. (pos 4 *ℤ y) *ℤ w) e ∙
+product_at_zero : (u v w u' : ℤ) → u' ≡ u → gap_of u v w ≡ pos 0 → (pos 4 *ℤ u') *ℤ w ≡ v *ℤ v
+product_at_zero u v w u' e z = ap (λ y. (pos 4 *ℤ y) *ℤ w) e ∙
     ring (u ∷ w ∷ []) ((num (pos 4) ⊠ var 0) ⊠ var 1) (num (pos 4) ⊠ (var 0 ⊠ var 1)) tt ∙ omega (arith, signed, z)
 
 pub returns : goal.returns
@@ -27,5 +27,5 @@ returns c = λ t z.
     let w = a.near_w in
     let same : to_z w64 (of_z w64 a.u) ≡ a.u = omega (arith, signed_linear, u) in
     let s = same_bits (pos 4 *ℤ to_z w64 (of_z w64 a.u)) a.w a.v (omega (arith, signed, u)) (omega (arith, signed_linear, w))
-    (omega (arith, signed_linear, v)) (product a.u a.v a.w _ same z) in
+    (omega (arith, signed_linear, v)) (product_at_zero a.u a.v a.w _ same z) in
     grind (arith, nat_tests, s, t)
