@@ -13,18 +13,16 @@ returns-then-y-b-clause-under c = λ row l.
       omega (arith, signed_linear, clamps, x),
     ))
 
-pub returns-else-y-b-clause-size : goal.returns-else-y-b-clause-size
-returns-else-y-b-clause-size c =
-    let e = c.first_from-ends.ensures.size in let f = c.first_from.ensures.size in
-    (omega (arith, signed_linear, clamps, e, f), omega (arith, signed_linear, clamps, e, f))
-
-pub returns-else-y-b-clause-under : goal.returns-else-y-b-clause-under
-returns-else-y-b-clause-under c = λ row l.
-    let e = c.first_from-ends.ensures.size in let f = c.first_from.ensures.size in let size = c.least_of.ensures.size in
-    let x = c.first_from-ends.ensures.before row (omega (arith, signed_linear, clamps, l, e, f)) in
-    let y = c.first_from.ensures.before row (omega (arith, signed_linear, clamps, l, e, f)) in
-    rw c.in-Some.is (inr (
-      omega (arith, signed_linear, clamps, x),
-      omega (arith, signed_linear, clamps, x),
-      c.least_of.ensures.turns _ (omega (arith, signed_linear, y, size)),
-    ))
+pub returns-else-y-b : goal.returns-else-y-b
+returns-else-y-b c =
+    let e = c.first_from-ends.ensures.size in let f = c.first_from.ensures.size in let size = c.least_of.ensures.size in record {
+      size = (omega (arith, signed_linear, clamps, e, f), omega (arith, signed_linear, clamps, e, f));
+      under = λ row l.
+          let x = c.first_from-ends.ensures.before row (omega (arith, signed_linear, clamps, l, e, f)) in
+          let y = c.first_from.ensures.before row (omega (arith, signed_linear, clamps, l, e, f)) in
+          rw c.in-Some.is (inr (
+            omega (arith, signed_linear, clamps, x),
+            omega (arith, signed_linear, clamps, x),
+            c.least_of.ensures.turns _ (omega (arith, signed_linear, y, size)),
+          ));
+    }

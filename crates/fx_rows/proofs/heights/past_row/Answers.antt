@@ -19,18 +19,16 @@ returns-then-b-y-clause-over c = λ row l.
       omega (arith, signed_linear, clamps, x),
     ))
 
-pub returns-else-b-y-clause-size : goal.returns-else-b-y-clause-size
-returns-else-b-y-clause-size c =
-    let e = c.first_from-ends.ensures.size in let f = c.first_from.ensures.size in
-    (omega (arith, signed_linear, clamps, e, f), omega (arith, signed_linear, clamps, e, f))
-
-pub returns-else-b-y-clause-over : goal.returns-else-b-y-clause-over
-returns-else-b-y-clause-over c = λ row l.
-    let e = c.first_from-ends.ensures.size in let f = c.first_from.ensures.size in let size = c.greatest_of.ensures.size in
-    let x = c.first_from-ends.ensures.from row (omega (arith, signed_linear, clamps, l, e, f)) in
-    let y = c.first_from.ensures.from row (omega (arith, signed_linear, clamps, l, e, f)) in
-    rw c.in-Some.is (inr (
-      omega (arith, signed_linear, clamps, x),
-      omega (arith, signed_linear, clamps, x),
-      c.greatest_of.ensures.turns _ (omega (arith, signed_linear, y, size)),
-    ))
+pub returns-else-b-y : goal.returns-else-b-y
+returns-else-b-y c =
+    let e = c.first_from-ends.ensures.size in let f = c.first_from.ensures.size in let size = c.greatest_of.ensures.size in record {
+      size = (omega (arith, signed_linear, clamps, e, f), omega (arith, signed_linear, clamps, e, f));
+      over = λ row l.
+          let x = c.first_from-ends.ensures.from row (omega (arith, signed_linear, clamps, l, e, f)) in
+          let y = c.first_from.ensures.from row (omega (arith, signed_linear, clamps, l, e, f)) in
+          rw c.in-Some.is (inr (
+            omega (arith, signed_linear, clamps, x),
+            omega (arith, signed_linear, clamps, x),
+            c.greatest_of.ensures.turns _ (omega (arith, signed_linear, y, size)),
+          ));
+    }

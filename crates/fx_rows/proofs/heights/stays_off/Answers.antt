@@ -14,19 +14,16 @@ negated z h = omega (arith, signed_linear)
 own : (z : ℤ) → IsWithin (2 ^ 31) z → to_z w64 (of_z w64 z) ≡ z
 own z h = omega (arith, signed_linear)
 
-pub returns-clause-size : goal.returns-clause-size
-returns-clause-size c =
+pub returns : goal.returns
+returns c =
     let n = c.wide_below_zero.result in
     let within = c.wide_below_zero.ensures.within in
     let e : to_z w32 n ≡ pos n = to_z_pos w32 n (omega (arith, within)) in
-    (omega (arith, signed_linear, e), omega (arith, signed_linear, e, within))
-
-pub returns-clause-off : goal.returns-clause-off
-returns-clause-off c = λ k l.
-    let n = c.wide_below_zero.result in
-    let e : to_z w32 n ≡ pos n = to_z_pos w32 n (omega (arith, c.wide_below_zero.ensures.within)) in
-    let near = c.requires.near in
-    off_of (c.args.a *ℤ c.args.c) (c.args.a +ℤ c.args.c) (pos k) (c.wide_below_zero.ensures.below k (omega (arith, signed_linear, e, l)))
-    (negated c.wide_product.result c.wide_product.ensures.size ∙ ap neg_ℤ c.wide_product.ensures.value
-    ∙ (λ i. neg_ℤ (own c.args.a near.0 i *ℤ own c.args.c near.1 i)))
-    (omega (arith, signed_linear, c.from.ensures, near))
+    let near = c.requires.near in record {
+      size = (omega (arith, signed_linear, e), omega (arith, signed_linear, e, within));
+      off = λ k l. off_of (c.args.a *ℤ c.args.c) (c.args.a +ℤ c.args.c) (pos k)
+          (c.wide_below_zero.ensures.below k (omega (arith, signed_linear, e, l)))
+          (negated c.wide_product.result c.wide_product.ensures.size ∙ ap neg_ℤ c.wide_product.ensures.value
+          ∙ (λ i. neg_ℤ (own c.args.a near.0 i *ℤ own c.args.c near.1 i)))
+          (omega (arith, signed_linear, c.from.ensures, near));
+    }
