@@ -21,7 +21,7 @@ use Rattle.fx_winding.proofs.Scanned.{steps_back}
 use Rattle.fx_dropout.specs.declared.chooser.Closing.{Closing}
 use Rattle.fx_dropout.specs.Dropout.{IsNextChosen, IsRowSet, IsSet}
 use Rattle.fx_dropout.specs.inner.Closing.{IsReached, IsClosedBit, IsNextIn, AreClosedWords, grid_bit}
-use Rattle.fx_dropout.proofs.Lines.{IsLine, line_closed}
+use Rattle.fx_dropout.proofs.Lines.{line_closed}
 use Rattle.fx_dropout.proofs.Parts.{part_bit, past_part, past_row, unused_bit}
 
 -- ---- where pixels are
