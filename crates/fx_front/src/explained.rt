@@ -43,7 +43,8 @@ const WRONG_LINE: &str =
     "without arguments the first line of the input is the command line, and it is wrong; 'mkstrike help' shows how it is written";
 
 const NO_COMMAND: &str =
-    "the first word is the command, make, show, outline, dump, trace, explain, or help, not '%'; 'mkstrike help' shows how it is written";
+    "the first word is the command, make, show, outline, dump, trace, explain, or help, not '%'; 'mkstrike help' \
+     shows how it is written";
 
 const A_FILE: &str =
     "the first word is the command: 'mkstrike make --ppem 16 --chars 20-7e FONT' makes a strike";
@@ -291,8 +292,8 @@ fn first_word(list: &str) -> Option<&str> {
     None
 }
 
-/// Whether an item looks like a word or a letter, and not like numbers: some byte is a letter from g to z but `x` and `u`, which come
-/// before numbers, or is not of ASCII.
+/// Whether an item looks like a word or a letter, and not like numbers: some byte is a letter from g to z but `x` and `u`, which
+/// come before numbers, or is not of ASCII.
 fn is_word(item: &str) -> bool {
     // No byte so far is.
     'bytes: for byte in item.as_bytes() {

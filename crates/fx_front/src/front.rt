@@ -25,7 +25,8 @@ const FONT_HELP: &str =
     "the first word that is neither an option nor its value names the font; 'mkstrike help ";
 
 const FONT_FILE: &str =
-    "the first word that is neither an option nor its value names the font's file; 'fc-list' shows the files of the installed fonts";
+    "the first word that is neither an option nor its value names the font's file; 'fc-list' shows the \
+     files of the installed fonts";
 
 /// Does what a command line asks for, the program's name first. Returns the status: 0, 1 or 2. An error is that memory ran out
 /// before the program was run.
