@@ -244,9 +244,6 @@ def help_and_version(it):
         it.equal(" ".join(words), it.run(words), (0, texts[name], ""))
     it.equal("help of what is no command", it.run(["help", "nothing"])[0], 2)
     it.check("the commands and the sets", "" if len(texts) == 9 else sorted(texts))
-    with open(os.path.join(it.top, "crates/fx_front/src/meant.rt"), encoding="utf-8") as file:
-        near = re.search(r'const SETS: &str =\s+"(.*?)";', file.read(), re.S).group(1)
-    it.equal("the sets that may be meant", near.replace("\\\n", " ").split(), texts["sets"].decode().split("\n\n")[1].split())
 
 
 def pages_as_written(it):

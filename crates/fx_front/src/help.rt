@@ -44,7 +44,8 @@ pub(crate) const HELPS: [(&str, &str); 7] = [
     ("sets", SETS),
 ];
 
-const SETS: &str =
+/// What `mkstrike help sets` prints: the names of the sets are its second paragraph.
+pub const SETS: &str =
     "These are the sets of characters that --set of mkstrike make takes by name, in letters of either case:
 
     ascii latin-1 latin-9 wgl4 greek cyrillic box blocks braille cp437 koi8-r latin-extended-a greek-block cyrillic-block hebrew

@@ -3,6 +3,7 @@ ghost use Rattle.std.specs.Prelude.{◌≡◌, map, option_map};
 ghost use Rattle.fx_words.specs.Parts.{text_in};
 ghost use Rattle.fx_front.specs.inner.Asked.{command_of, name_among};
 
+use crate::help::SETS;
 use crate::text::Text;
 use std::alloc::{AllocError, Global};
 use strsim::levenshtein;
@@ -27,11 +28,6 @@ const OPTIONS: [(&str, &str); 5] = [
 
 /// All commands.
 const COMMANDS: &str = "make show outline dump trace explain help";
-
-/// The sets of characters, as `fx_words` has them.
-const SETS: &str =
-    "ascii latin-1 latin-9 wgl4 greek cyrillic box blocks braille cp437 koi8-r latin-extended-a greek-block cyrillic-block hebrew \
-     arabic thai punctuation currency arrows math shapes kana han hangul powerline";
 
 /// What others call an option or a command.
 const USUAL: [(&str, &str); 8] = [
@@ -149,16 +145,22 @@ pub(crate) fn set_meant_by(alloc: Global, name: &str) -> Result<Text, AllocError
     if name.len() < 4 {
         return Ok(Text::new(alloc));
     }
-    nearest_among(alloc, name, SETS)
+    nearest_among(alloc, name, set_names())
 }
 
-/// Asks whether those among some words are meant that differ from a word in the fewest letters, in two at most.
+/// The names of the sets: what their help has between its first blank line and the next.
+fn set_names() -> &'static str {
+    let (_, rest) = SETS.split_once("\n\n").unwrap_or(("", ""));
+    rest.split_once("\n\n").unwrap_or(("", "")).0
+}
+
+/// Asks whether those among some words, parted by spaces, are meant that differ from a word in the fewest letters, in two at most.
 fn nearest_among(alloc: Global, word: &str, words: &str) -> Result<Text, AllocError> {
     let word = word.to_ascii_lowercase(alloc)?;
     let mut meant = Text::new(alloc);
     let mut least = 3;
     // `meant` has the nearest words so far, which differ in `least` letters.
-    'words: for each in words.split(' ') {
+    'words: for each in words.split_whitespace() {
         let distance = levenshtein(alloc, word.as_str(), each)?;
         if distance < least {
             least = distance;
