@@ -128,7 +128,14 @@ module _ (closing : Closing) (f : Frame) (ss : List Span) (across up old new : L
     where
       after : (k : ℕ) → f.width < k → note f across k r ≡ 0
       after k m =
-          grind (arith, m, below_or_not k (32 * words_noted f.width), noted_bit f across, given.noted.rest_across r k h m, past_part)
+          grind (
+            arith,
+            m,
+            below_or_not k (32 * words_noted f.width),
+            noted_bit f across,
+            given.noted.rest_across r k h m,
+            past_part,
+          )
 
       by : (m : ℕ) → m ≡ n → IsReached (λ k. pixel f old k r) (λ k. note f across k r) (λ k. next false k r) m → ⊥
       by zero e o = omega (arith, e, w, l)

@@ -15,7 +15,8 @@ pub returns-then-is_before : goal.returns-then-is_before
 returns-then-is_before c = λ _.
     let near = c.args.first.near_y in
     inr (inl (seen_across (λ l z. z <ℤ l) c.args.is_turned c.along-across.result (held c.args.first.y) c.args.first.y
-    (span_of c.args.piece.now) c.along-across.ensures (omega (arith, signed_linear, near)) (c.is_before.ensures c.if-is_before.true)))
+    (span_of c.args.piece.now) c.along-across.ensures (omega (arith, signed_linear, near))
+    (c.is_before.ensures c.if-is_before.true)))
 
 pub returns : goal.returns
 returns c = λ t.
