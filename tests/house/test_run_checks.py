@@ -56,7 +56,7 @@ def test_status():
 
 
 def test_side_by_side():
-    """A check that waits for the next one to be gone, which is when its end is told, is told after it."""
+    """A check that waits until the next one is reaped, and so told, is told after it."""
     with tempfile.TemporaryDirectory() as folder:
         made = shlex.quote(os.path.join(folder, "made"))
         waits = "until [ -e %s ] && [ ! -e /proc/$(cat %s) ]; do sleep 0.05; done" % (made, made)
