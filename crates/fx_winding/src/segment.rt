@@ -10,7 +10,6 @@ use crate::tally::Tally;
 use crate::tip::is_tip;
 
 /// Whether e is on the row of p and q, strictly between them.
-#[tactic(auto, using(fx_fixed::proofs::Linear::signed_linear))]
 fn is_within(p: Point, q: Point, e: Point) -> bool
     ensures { IsTrue result ↔ IsWithinRow (place_of p) (place_of q) (place_of e) }
 {
