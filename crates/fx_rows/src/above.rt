@@ -5,6 +5,7 @@ ghost use Rattle.fx_fixed.specs.Ranges.{IsWithin};
 ghost use Rattle.fx_winding.specs.Winding.{place_of, centre};
 ghost use Rattle.fx_rows.specs.inner.Sides.{place_at, side};
 
+use crate::chord::chord_rise;
 use crate::strip::Strip;
 use fx_winding::{Piece, Point, difference, turned};
 
@@ -23,5 +24,5 @@ pub(crate) fn side_above(piece: &Piece, strip: Strip, start: i64) -> i64
         side (place_of piece.now.a) (place_of piece.now.c) (centre (strip.base +ℤ pos 0) (strip.row +ℤ pos 1)) }
     ensures size { IsWithin (2 ^ 56) result }
 {
-    start + turned(difference(piece.c.y, piece.a.y), lift_of(piece.c, piece.a))
+    start + turned(chord_rise(piece), lift_of(piece.c, piece.a))
 }

@@ -15,8 +15,8 @@ returns-clause-value c =
     let p = c.args.piece.now in
     let t = c.args.strip in
     let n = side_within p.a p.c t in
-    let rise : to_z w64 (of_z w64 c.difference.result) ≡ p.c.y -ℤ p.a.y =
-    omega (arith, signed_linear, c.difference.ensures.value, c.difference.ensures.size) in
+    let rise : to_z w64 (of_z w64 c.chord_rise.result) ≡ p.c.y -ℤ p.a.y =
+    omega (arith, signed_linear, c.chord_rise.ensures.value, c.chord_rise.ensures.size) in
     let lift : to_z w64 (of_z w64 c.lift_of.result) ≡ pos 128 *ℤ (p.a.x -ℤ p.c.x) =
     omega (arith, signed_linear, c.lift_of.ensures.value, c.lift_of.ensures.size) in
     let sum : to_z w64 (of_z w64 (to_z w64 (of_z w64 c.args.start) +ℤ to_z w64 (of_z w64 c.turned.result)))
