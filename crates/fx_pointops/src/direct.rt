@@ -210,7 +210,7 @@ impl Zones {
 
     /// C0-DF MDRP[abcde], Move Direct Relative Point: moves p, of zp1, to its original distance from rp0, of zp0, or the single
     /// width. `how` has the bits: rounded, at least the minimum distance.
-    #[tactic(auto, unfolding(crate::specs::Direct::mdrp_of), using(crate::proofs::Setting::setting))]
+    #[tactic(auto, unfolding(crate::specs::Direct::mdrp_of))]
     pub fn mdrp(&mut self, g: &GState, how: Relative, p: i32)
         ensures { self.new ≡ mdrp_of g.now how p self.old }
     {

@@ -42,7 +42,7 @@ fn proportion(o: F26, cb: F26, ob: F26) -> F26
 
 impl Zones {
     /// Moves a point to the distance from reference point 1 that is in proportion.
-    #[tactic(auto, unfolding(crate::specs::Interpolate::point_in_proportion), using(crate::proofs::Setting::setting))]
+    #[tactic(auto, unfolding(crate::specs::Interpolate::point_in_proportion))]
     pub(crate) fn move_in_proportion(&mut self, g: &GState, cb: &F26, ob: &F26, p: i32)
         ensures { self.new ≡ point_in_proportion g.now cb.now ob.now p self.old }
     {

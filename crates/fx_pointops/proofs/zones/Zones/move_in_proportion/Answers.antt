@@ -1,0 +1,12 @@
+use Rattle.std.proofs.Common.{to_z-of_z, rules}
+use Rattle.fx_pointops.proofs.Setting.{point_is}
+use Rattle.fx_pointops.specs.Interpolate.{point_in_proportion}
+use Rattle.fx_pointops.specs.ShiftPoint.{moved_by}
+use Rattle.fx_pointops.proofs.zones.Zones.move_in_proportion.Goals as goal
+
+pub returns : goal.returns
+unfolding point_in_proportion
+returns c =
+    let moved = point_is (moved_by c.args.g.now c.minus-3.result) _ _ _ _ _ _ (to_z-of_z c.ranges.p)
+    c.in-Some-point_mut.ensures.value c.move_point.ensures in
+    rw moved (search rules)
