@@ -1,4 +1,4 @@
-use Rattle.std.proofs.Common.{◌∙◌, ◌++◌, List, ap, ℕ}
+use Rattle.std.proofs.Common.{◌∙◌, ◌++◌, ap, ℕ}
 use Rattle.std.specs.Fmt.{decimal}
 use Rattle.std.specs.Prelude.{codes}
 use Rattle.fx_fixed.specs.Lines.{hexadecimal, line_before}
@@ -17,3 +17,6 @@ returns-clause-text c =
     (number_before decimal _ c.put_unsigned.ensures.text (c.from.ensures ∙ c.code-code.ensures))
     (number_before (hexadecimal 4) _ c.put_hexadecimal.ensures.text (c.from-2.ensures ∙ c.code-code.ensures))
     (ap (λ (n : ℕ). codes "STARTCHAR " ++ name_prefix n) c.code-code.ensures) c.put_start.ensures
+
+pub returns-clause-formed : goal.returns-clause-formed
+returns-clause-formed c = c.bounds.ensures.formed
