@@ -1,6 +1,6 @@
 //! Writing the lines before the glyphs.
 
-ghost use Rattle.std.specs.Prelude.{◌≡◌, ◌+◌, ◌<◌, ◌≤◌, ◌^◌, length};
+ghost use Rattle.std.specs.Prelude.{◌≡◌, ◌+◌, ◌++◌, ◌<◌, ◌≤◌, ◌^◌, ℕ, List, [], codes, length};
 ghost use Rattle.std.specs.Fmt.{decimal};
 ghost use Rattle.std.specs.List.{flat_map};
 ghost use Rattle.fx_fixed.specs.Texts.{Adds, Fails};
@@ -10,10 +10,24 @@ ghost use Rattle.fx_bdf.specs.Text.{IsName, front_text, header_text, longest_hea
 
 use crate::header::Header;
 use crate::property::{Property, Value};
-use fx_fixed::{Digits, Sink, TextWriter, WriteFailed};
+use fx_fixed::{Backward, Digits, Sink, TextWriter, WriteFailed};
+
+/// Puts together what follows the name in the lines up to FONT_DESCENT, from the last number to the first.
+fn put_numbers(count: usize, header: &Header, numbers: &mut Backward)
+    requires none { numbers.old ≡ [] }
+    requires count { count ≤ most_properties + most_more }
+    ensures { (name : List ℕ) → codes "STARTFONT 2.1\nFONT " ++ (name ++ numbers.new) ≡ front_text name count header.now }
+{
+    numbers.put_signed(header.descent, b"\n");
+    numbers.put_signed(header.ascent, b"\nFONT_DESCENT ");
+    numbers.put_unsigned(2 + count as u64, b"\nFONT_ASCENT ");
+    numbers.put(b"STARTPROPERTIES ");
+    header.bounds.put(numbers);
+    numbers.put_unsigned(u64::from(header.ppem), b" 72 72\nFONTBOUNDINGBOX ");
+    numbers.put(b"\nSIZE ");
+}
 
 /// Adds the lines up to FONT_DESCENT. STARTPROPERTIES counts `count` properties that follow it, FONT_ASCENT and FONT_DESCENT.
-#[tactic(auto, unfolding(crate::specs::Text::front_text))]
 fn add_front<W: Sink>(
     name: &str,
     count: usize,
@@ -26,27 +40,9 @@ fn add_front<W: Sink>(
     ensures text { Adds Fails text.old text.new (front_text name.now count header.now) result }
     ensures short { length (front_text name.now count header.now) ≤ 1000 }
 {
-    text.add(&[
-        b"STARTFONT 2.1\nFONT ",
-        name.as_bytes(),
-        b"\nSIZE ",
-        Digits::unsigned(u64::from(header.ppem)).text(),
-        b" 72 72\nFONTBOUNDINGBOX ",
-        Digits::unsigned(u64::from(header.bounds.width)).text(),
-        b" ",
-        Digits::unsigned(u64::from(header.bounds.height)).text(),
-        b" ",
-        Digits::signed(header.bounds.left).text(),
-        b" ",
-        Digits::signed(header.bounds.bottom).text(),
-        b"\nSTARTPROPERTIES ",
-        Digits::unsigned(2 + count as u64).text(),
-        b"\nFONT_ASCENT ",
-        Digits::signed(header.ascent).text(),
-        b"\nFONT_DESCENT ",
-        Digits::signed(header.descent).text(),
-        b"\n",
-    ])
+    let mut numbers = Backward::new();
+    put_numbers(count, header, &mut numbers);
+    text.add(&[b"STARTFONT 2.1\nFONT ", name.as_bytes(), numbers.text()])
 }
 
 /// A character of a text, as it stands between quotation marks.

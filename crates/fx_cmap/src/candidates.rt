@@ -4,7 +4,7 @@ ghost use Rattle.std.specs.Prelude.{◌≡◌};
 ghost use Rattle.fx_cmap.specs.Lookup.{number_of};
 
 /// A format of subtables that is read.
-#[derive(Clone, Copy, Debug, PartialEq, Eq)]
+#[derive(Clone, Copy)]
 pub enum Format {
     /// "Segment mapping to delta values".
     Four,
@@ -25,7 +25,7 @@ impl Format {
 }
 
 /// What is looked for: encoding records of a platform, with an encoding from `low` to `high` and a subtable of a format.
-#[derive(Clone, Copy, Debug, PartialEq, Eq)]
+#[derive(Clone, Copy)]
 pub struct Candidate {
     /// The format of the subtable.
     pub format: Format,

@@ -4,7 +4,7 @@ ghost use Rattle.std.specs.Prelude.{◌≡◌};
 ghost use Rattle.fx_cmap.specs.Groups.{glyph_id_of};
 
 /// The fields of a group: it is for the codes from `start_char_code` to `end_char_code`.
-#[derive(Clone, Copy, Debug, PartialEq, Eq)]
+#[derive(Clone, Copy)]
 pub struct Group {
     /// Its `startCharCode`.
     pub start_char_code: u32,

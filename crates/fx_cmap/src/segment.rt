@@ -6,7 +6,7 @@ ghost use Rattle.fx_cmap.specs.Segments.{plus_id_delta};
 use fx_sfnt::u16_at;
 
 /// The fields of a segment: it is for the codes from `start_code` to `end_code`.
-#[derive(Clone, Copy, Debug, PartialEq, Eq)]
+#[derive(Clone, Copy)]
 pub struct Segment {
     /// Its `endCode`.
     pub end_code: u16,

@@ -56,7 +56,7 @@ option_few None = omega arith
 option_few (Some s) = omega arith
 
 -- the pieces of a point added to those made
-added : (made after : List Piece) (piece : Option Piece) (o : Option Span) → option_map span_of piece ≡ o
+pub added : (made after : List Piece) (piece : Option Piece) (o : Option Span) → option_map span_of piece ≡ o
     → after ≡ made ++ option_to_list piece → map span_of after ≡ map span_of made ++ option_to_list o
 added made after piece o s a = grind (arith, s, a, map-append, option_list)
 

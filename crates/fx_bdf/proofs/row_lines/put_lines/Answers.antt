@@ -1,4 +1,5 @@
 use Rattle.std.proofs.Common.{◌+◌, ◌-◌, ◌*◌, ◌++◌, ◌∙◌, ap, arith, take, List, Bool, refl}
+use Rattle.std.proofs.lemmas.Grind.{common_steps}
 use Rattle.fx_bdf.specs.Text.{row_text}
 use Rattle.fx_bdf.proofs.Waiting.{line_end, line_inside, lines_more}
 use Rattle.fx_bdf.proofs.row_lines.put_lines.Goals as goal
@@ -21,3 +22,6 @@ rows-preserved c =
           (omega (arith, c.rows-test.true, c.last_fitting-last.ensures.inside)) refl w.text
           (put.text ∙ ap (λ (row : List Bool). before ++ row_text row) c.row.ensures);
     }
+
+pub returns : goal.returns
+returns c = grind (arith, common_steps)

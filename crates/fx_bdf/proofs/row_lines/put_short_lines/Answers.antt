@@ -1,4 +1,5 @@
 use Rattle.std.proofs.Common.{◌≡◌, ◌<◌, ◌≤◌, ◌-◌, ◌+◌, ◌*◌, ◌++◌, ◌∙◌, ap, arith, length, refl, take, List, ℕ}
+use Rattle.std.proofs.lemmas.Grind.{common_steps}
 use Rattle.fx_bdf.proofs.Waiting.{line_end, line_inside, lines_more, row_by_word}
 use Rattle.fx_bdf.proofs.row_lines.put_short_lines.Goals as goal
 
@@ -50,3 +51,9 @@ pairs-preserved c =
           c.row-in-pairs.result c.two_lanes.result.1 c.row-in-pairs.ensures c.word-in-pairs.ensures few
           (c.requires.digits (i + 1) low) c.two_lanes.ensures.second));
     }
+
+pub returns : goal.returns
+returns c = c.pairs.invariant
+
+pub pairs-init : goal.pairs-init
+pairs-init c = grind (arith, common_steps)

@@ -6,9 +6,9 @@ abbrev pub invariant-pairs : goal.invariant-pairs
 invariant-pairs l = record {
   long : length l.bytes ≡ length l.fn.bytes;
   within : l.end ≤ length l.bytes;
+  end : l.end ≡ l.fn.start + (l.i - l.fn.first) * (l.fn.digits + 1);
   order : l.fn.first ≤ l.i;
   next : l.i ≤ l.fn.last;
-  end : l.end ≡ l.fn.start + (l.i - l.fn.first) * (l.fn.digits + 1);
   text : take l.end l.bytes ≡ take l.fn.start l.fn.bytes ++ lines_between l.rows l.fn.first l.i;
 }
 

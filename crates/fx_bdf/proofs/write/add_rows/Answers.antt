@@ -1,5 +1,6 @@
 use Rattle.std.proofs.Common.{◌≡◌, ◌∙◌, ◌<◌, ap, arith, sym, length, take, [], ℕ}
 use Rattle.std.specs.List.{flat_map}
+use Rattle.std.proofs.lemmas.List.{take_all}
 use Rattle.std.proofs.lemmas.Result.{err_from_is_err_and}
 use Rattle.fx_fixed.proofs.Texts.{adds_then, adds_stopped, adds_text, adds_ended, adds_out}
 use Rattle.fx_fixed.proofs.Writing.{parts, parts_more}
@@ -45,3 +46,8 @@ lines-preserved g c =
           (adds_text (ap row_text c.row.ensures) c.in_ok-add_row.ensures));
       inside = omega (arith, low);
     }
+
+pub returns : goal.returns
+returns g c =
+    adds_text (ap (flat_map row_text) (take_all _ _ (omega (arith, c.lines-test.false, c.len.ensures)) ∙ c.rows-rows.ensures.value))
+    c.lines.invariant.added

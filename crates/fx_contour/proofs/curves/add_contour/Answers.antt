@@ -1,5 +1,6 @@
-use Rattle.std.proofs.Common.{◌∙◌, arith}
-use Rattle.fx_contour.proofs.Walk.{walk_init, walk_more, item_near}
+use Rattle.std.proofs.Common.{◌∙◌, append-nil, arith}
+use Rattle.std.proofs.lemmas.List.{drop_all}
+use Rattle.fx_contour.proofs.Walk.{added, walk_init, walk_more, item_near}
 use Rattle.fx_contour.proofs.curves.add_contour.Goals as goal
 
 pub points-init : goal.points-init
@@ -16,3 +17,8 @@ points-preserved c = record {
   room = c.push_some.ensures.room ∙ c.points.invariant.room;
   from = c.step_at-step.ensures.to;
 }
+
+pub returns-clause-spans : goal.returns-clause-spans
+returns-clause-spans c =
+    let last = added c.points.made.items c.push_some-2.new.made.items _ _ c.step_at.ensures.piece c.push_some-2.ensures.items in
+    last ∙ (rw (drop_all c.points.i c.args.points.now c.points-test.false, append-nil) at c.points.invariant.walked.spans)

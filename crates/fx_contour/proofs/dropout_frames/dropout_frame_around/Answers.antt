@@ -57,3 +57,9 @@ returns-clause-margin c =
     let rows = same_kept c.kept-rows.result _ _ b.bottom b.top (omega (arith, ints)) (omega (arith, ints)) c.kept-rows.ensures in
     frame_margin b c.kept-columns.result c.kept-rows.result c.in_ok-box_of.field-0
     (c.leaves_margin.ensures.0 c.if-not-leaves_margin.false) columns rows c.in_ok-box_of.ensures.ok
+
+pub returns-in_err-box_of-clause-ok : goal.returns-in_err-box_of-clause-ok
+returns-in_err-box_of-clause-ok c ss a = rw (err_from_is_err_and c.from_residual.result c.from_residual.ensures.1).1 tt
+
+pub returns-in_err-box_of-clause-margin : goal.returns-in_err-box_of-clause-margin
+returns-in_err-box_of-clause-margin c = rw (err_from_is_err_and c.from_residual.result c.from_residual.ensures.1).1 tt

@@ -43,3 +43,6 @@ returns-clause-ok c ss a =
     is_frame b ss s r _ (subst (λ o. AreBoundsOf o ss) c.in-Some.is a)
     (same_pixels s _ _ b.left b.right (omega (arith, ints)) (omega (arith, ints)) c.in-Some-between.ensures)
     (same_pixels r _ _ b.bottom b.top (omega (arith, ints)) (omega (arith, ints)) c.in-Some-between-2.ensures) f
+
+pub returns-in_err-box_of-clause-ok : goal.returns-in_err-box_of-clause-ok
+returns-in_err-box_of-clause-ok c ss a = rw (err_from_is_err_and c.from_residual.result c.from_residual.ensures.1).1 tt
