@@ -4,18 +4,10 @@ ghost use Rattle.std.specs.Prelude.{◌≡◌, ◌^◌, ◌<ℤ◌, IsTrue};
 ghost use Rattle.fx_fixed.specs.Ranges.{IsWithin};
 ghost use Rattle.fx_winding.specs.Outside.{HasAll};
 ghost use Rattle.fx_winding.specs.Winding.{place_of, span_of};
-ghost use Rattle.fx_dropout.specs.inner.Places.{along_of, coordinate_of};
+ghost use Rattle.fx_dropout.specs.inner.Places.{coordinate_of};
 
 use fx_fixed::Axis;
 use fx_winding::{Piece, Point};
-
-/// The axis along which a row goes, or with `is_turned` a column.
-#[inline(always)]
-pub(crate) fn along(is_turned: bool) -> Axis
-    ensures { result ≡ along_of is_turned }
-{
-    if is_turned { Axis::Y } else { Axis::X }
-}
 
 /// A point's coordinate along an axis.
 #[inline(always)]

@@ -17,11 +17,11 @@ add_part-requires-clause-places c = part_places _ _ _ c.interval.result refl ref
 
 pub returns-clause-added : goal.returns-clause-added
 returns-clause-added c = λ n l.
-    let s = span_of c.args.piece.now in
+    let s = span_of c.args.piece in
     let a = c.args.pair.col_number in
     let b = c.args.pair.row_number in
     let col : held c.args.pair.col ≡ c.args.pair.col = omega (arith, signed_linear, a) in
     let row : held c.args.pair.row ≡ c.args.pair.row = omega (arith, signed_linear, b) in
     part_added s c.args.pair.col c.args.pair.row _ c.interval.result n _ _ _ _ l refl refl
     (same_part _ _ _ _ _ _ (c.stretched-wide.ensures ∙ (λ i. stretched_span (col i) s)) row c.interval.ensures.part)
-    (c.add_part.ensures.marks n l) (c.add_part.ensures.counts n l)
+    (c.add_part.ensures n l).1 (c.add_part.ensures n l).0
