@@ -1,7 +1,7 @@
 -- What is added at the places of a pair is what the piece adds there: `missed_added`, `right_added`, `part_added`.
 -- Serves `nearer`.
 use Rattle.std.proofs.Common.{◌≡◌, ◌≢◌, ◌⊎◌, ◌↔◌, inl, inr, refl, sym, ap, ◌∙◌, subst, IsTrue, ℕ, ◌<◌, ℤ, pos, ◌+ℤ◌}
-use Rattle.std.proofs.Common.{◌<ℤ◌, Bool, true, false, not, List, Any, Option, map, length, get_or, arith}
+use Rattle.std.proofs.Common.{◌<ℤ◌, Bool, true, false, List, Any, Option, map, length, get_or, arith}
 use Rattle.std.proofs.Math.ListN.{get_or-map}
 use Rattle.std.proofs.lemmas.List.{length-map}
 use Rattle.fx_fixed.specs.Ranges.{IsWithin}
@@ -20,7 +20,6 @@ use Rattle.fx_winding.specs.declared.frame.Frame.{Frame}
 use Rattle.fx_winding.specs.declared.point.Piece.{Piece}
 use Rattle.fx_winding.specs.Frames.{IsFrom}
 use Rattle.fx_winding.specs.Meets.{turn}
-use Rattle.fx_winding.specs.Outside.{HasAll}
 use Rattle.fx_winding.specs.Turned.{turned_span}
 use Rattle.fx_winding.specs.Winding.{Span, IsOn, IsCovered, centre, span_of, winding}
 use Rattle.fx_winding.proofs.Beside.{HasAll-weaker, right_off, under_off, over_off}
