@@ -24,20 +24,21 @@ use Rattle.fx_winding.specs.Turned.{turned_span}
 use Rattle.fx_winding.specs.Winding.{Span, IsOn, IsCovered, centre, span_of, winding}
 use Rattle.fx_winding.proofs.Beside.{HasAll-weaker, right_off, under_off, over_off}
 use Rattle.fx_winding.proofs.Turning.{right_of_all}
+use Rattle.fx_dropout.specs.declared.pair.Pair.{Pair}
 use Rattle.fx_dropout.specs.Dropout.{place_on}
 use Rattle.fx_dropout.specs.inner.Pairs.{seen_span, seen_spans}
 use Rattle.fx_dropout.specs.inner.Places.{IsMissed, IsOfPlaces, IsRunOfPlaces, ArePlacesNamed}
 use Rattle.fx_dropout.specs.inner.Stretched.{stretched_span}
-use Rattle.fx_dropout.proofs.Stretching.{centre_stretched, crossing_stretched, region_stretched, on_stretched}
+use Rattle.fx_dropout.proofs.Stretching.{held, centre_stretched, crossing_stretched, region_stretched, on_stretched}
 
 -- ---- a piece beside the places
 -- a place off a piece
-pub off_added : (s : Span) (p : Place) (old new : Bool) (a b : ℤ) → ¬ (IsOn p s) → Marks false old new → b ≡ a +ℤ turn p s
+pub off_added : (s : Span) (p : Place) (old new : Bool) (a b : ℤ) → ¬ (IsOn p s) → new ≡ old → b ≡ a +ℤ turn p s
     → IsAdded s p old new a b
 off_added s p old new a b off same sum = record {
   here = false;
   told = (λ t. absurd (cc), λ o. absurd (off o));
-  marks = same;
+  marks = inr (refl, same);
   sum = λ _. sum;
   small = let t = turn_small p s in omega (arith, signed_linear, sum, t);
 }
@@ -50,17 +51,24 @@ pub missed_added : (s : Span) (col row : ℤ) (n : ℕ) (on : Bool) (a : ℤ) �
     → IsAdded s (place_on col row n) on on a a
 missed_added s col row n on a (inl h) =
     let none = under_off (place_on col row n) s h in
-    off_added s (place_on col row n) on on a a none.2 (inr (refl, refl)) (omega (arith, signed_linear, none.0, none.1))
+    off_added s (place_on col row n) on on a a none.2 refl (omega (arith, signed_linear, none.0, none.1))
 missed_added s col row n on a (inr (inl h)) =
     let none = over_off (place_on col row n) s h in
-    off_added s (place_on col row n) on on a a none.2 (inr (refl, refl)) (omega (arith, signed_linear, none.0, none.1))
+    off_added s (place_on col row n) on on a a none.2 refl (omega (arith, signed_linear, none.0, none.1))
 missed_added s col row n on a (inr (inr h)) =
     let p = place_on col row n in
     let left = HasAll-weaker (λ e. e.x <ℤ (centre col row).x) (λ e. e.x <ℤ p.x) (λ e l. omega (arith, signed_linear, l)) s h in
     let none = right_of_all p s left in
-    off_added s p on on a a (right_off p s left).1 (inr (refl, refl)) (omega (arith, signed_linear, none))
+    off_added s p on on a a (right_off p s left).1 refl (omega (arith, signed_linear, none))
 
 -- ---- a piece by its stretched row
+-- the column and the row of a pair, as the code holds them
+pub pair_held : (pair : Pair) → (held pair.col ≡ pair.col) × (held pair.row ≡ pair.row)
+pair_held pair =
+    let a = pair.col_number in
+    let b = pair.row_number in
+    (omega (arith, signed_linear, a), omega (arith, signed_linear, b))
+
 pub part_places : (s : Span) (row : ℤ) (f : Frame) (part : RowPart) → f.left ≡ pos 0 → f.width ≡ 128 → IsRowPart s row f part
     → IsOfPlaces part
 part_places s row f part left wide h = record {

@@ -26,16 +26,12 @@ fn coordinate(p: Point, axis: Axis) -> i32
 pub(crate) fn is_after(piece: &Piece, axis: Axis, limit: i32) -> bool
     ensures { IsTrue result → HasAll (λ e. limit <ℤ coordinate_of axis e) (span_of piece.now) }
 {
-    if coordinate(piece.a, axis) <= limit {
-        return false;
-    }
-    if coordinate(piece.c, axis) <= limit {
-        return false;
-    }
-    match piece.b {
-        None => true,
-        Some(b) => coordinate(b, axis) > limit,
-    }
+    coordinate(piece.a, axis) > limit
+        && coordinate(piece.c, axis) > limit
+        && match piece.b {
+            None => true,
+            Some(b) => coordinate(b, axis) > limit,
+        }
 }
 
 /// Whether all lie before it: left of it, or below it.
@@ -43,14 +39,10 @@ pub(crate) fn is_after(piece: &Piece, axis: Axis, limit: i32) -> bool
 pub(crate) fn is_before(piece: &Piece, axis: Axis, limit: i32) -> bool
     ensures { IsTrue result → HasAll (λ e. coordinate_of axis e <ℤ limit) (span_of piece.now) }
 {
-    if coordinate(piece.a, axis) >= limit {
-        return false;
-    }
-    if coordinate(piece.c, axis) >= limit {
-        return false;
-    }
-    match piece.b {
-        None => true,
-        Some(b) => coordinate(b, axis) < limit,
-    }
+    coordinate(piece.a, axis) < limit
+        && coordinate(piece.c, axis) < limit
+        && match piece.b {
+            None => true,
+            Some(b) => coordinate(b, axis) < limit,
+        }
 }

@@ -9,7 +9,7 @@ ghost use Rattle.std.specs.Int.{bit_at};
 ghost use Rattle.fx_winding.specs.Bitmaps.{words_for as words_for_of, AreWords};
 ghost use Rattle.fx_winding.specs.Notes.{words_noted as words_noted_of};
 ghost use Rattle.fx_dropout.specs.inner.Closing.{bit_after, bit_before, line_word, word_column, word_place, word_row, word_tests, words_along};
-ghost use Rattle.fx_dropout.specs.inner.Closing.{AreClosedWords, AreLinesClosed, IsLineClosed, IsLineKept, IsNextAt, IsOpen};
+ghost use Rattle.fx_dropout.specs.inner.Closing.{AreClosedWords, AreLinesClosed, AreNexts, IsLineClosed, IsLineKept, IsOpen};
 
 use crate::chooser::{Chooser, GapWord};
 use crate::look::may_be_open;
@@ -166,8 +166,7 @@ fn close_word(
     requires index { at < length words.old }
     ensures length { length words.new ≡ length words.old }
     ensures others { (w : ℕ) → w ≢ at → slice_index_or words.new w 0 ≡ slice_index_or words.old w 0 }
-    ensures nexts { (c : ℕ) → c < 32 →
-        (bit_at result (31 - c) ≡ 1) ↔ ((bit_at word.gaps (31 - c) ≡ 1) × IsNextAt chooser.now word c) }
+    ensures nexts { AreNexts chooser.now word result }
     ensures bits { (c : ℕ) → c < 32 → (bit_at (slice_index_or words.new at 0) (31 - c) ≡ 1) ↔
         ((bit_at (slice_index_or words.old at 0) (31 - c) ≡ 1)
         ⊎ (((bit_at word.gaps (31 - c) ≡ 1) × ¬ (bit_at result (31 - c) ≡ 1)) ⊎ (bit_before word.is_up before result c ≡ 1))) }
@@ -280,10 +279,7 @@ pub(crate) fn close_words(
         (chooser.now.frame.height * (words_for_of chooser.now.frame.width * word_tests chooser.now)) }
 {
     let frame = chooser.frame;
-    if frame.width == 0 || frame.height == 0 {
-        return;
-    }
-    if !may_be_open(frame, across, up, words) {
+    if frame.width == 0 || frame.height == 0 || !may_be_open(frame, across, up, words) {
         return;
     }
     close_lines(chooser, false, across, words, tally);

@@ -21,13 +21,9 @@ use fx_winding::{Frame, Piece, Pieces, Point, Tally, centre_of};
 fn is_missed(piece: &Piece, first: Point) -> bool
     ensures { IsTrue result → IsMissed (place_of first) (span_of piece.now) }
 {
-    if is_after(piece, Axis::Y, first.y) {
-        return true;
-    }
-    if is_before(piece, Axis::Y, first.y) {
-        return true;
-    }
-    is_before(piece, Axis::X, first.x)
+    is_after(piece, Axis::Y, first.y)
+        || is_before(piece, Axis::Y, first.y)
+        || is_before(piece, Axis::X, first.x)
 }
 
 /// What a piece right of a place at the height y adds there: 1 or -1 if the height is between those of its ends.

@@ -39,10 +39,7 @@ impl Pair {
         ensures { IsPairIn frame false (frame.left +ℤ pos column) (frame.bottom +ℤ pos row)
             (option_map (λ p. (p.col, p.row)) result) }
     {
-        if column + 1 >= frame.width as usize {
-            return None;
-        }
-        if row >= frame.height as usize {
+        if column + 1 >= frame.width as usize || row >= frame.height as usize {
             return None;
         }
         Some(Pair {

@@ -1,9 +1,9 @@
 //! What pieces add at the places between the centres of a pixel and its right neighbour.
 
-ghost use Rattle.std.specs.Prelude.{ℕ, ◌+◌, ◌^◌, ◌≤◌, ◌<◌, pos, ◌+ℤ◌, IsTrue, ◌↔◌, false};
-ghost use Rattle.fx_rows.specs.inner.Sums.{is_among, is_named, value_at};
+ghost use Rattle.std.specs.Prelude.{◌≡◌, ℕ, ◌+◌, ◌^◌, ◌≤◌, ◌<◌, pos, ◌+ℤ◌, IsTrue, ◌↔◌};
+ghost use Rattle.fx_rows.specs.inner.Sums.{is_among, is_named, value_at, Marks};
 ghost use Rattle.fx_dropout.specs.Dropout.{IsCount};
-ghost use Rattle.fx_dropout.specs.inner.Places.{AreAdded, AreClear, AreCountsWithin, ArePlaces, ArePlacesNamed, IsCoveredIn, IsOfPlaces, IsRunOfPlaces};
+ghost use Rattle.fx_dropout.specs.inner.Places.{count_at, mark_at, AreClear, AreCountsWithin, ArePlaces, ArePlacesNamed, IsCoveredIn, IsOfPlaces, IsRunOfPlaces};
 
 use fx_rows::{OnRow, RowPart, Run};
 
@@ -36,7 +36,8 @@ impl Places {
     pub(crate) fn add_run(&mut self, run: Option<Run>)
         requires run { IsRunOfPlaces run }
         requires small { AreCountsWithin (2 ^ 20) self.old }
-        ensures { AreAdded (λ n. value_at run n) (λ _. false) self.old self.new }
+        ensures counts { (n : ℕ) → n < 128 → count_at self.new n ≡ count_at self.old n +ℤ value_at run (pos n) }
+        ensures marks { (n : ℕ) → mark_at self.new n ≡ mark_at self.old n }
     {
         if let Some(run) = run {
             // The value was added to those before n.
@@ -49,7 +50,8 @@ impl Places {
     /// Marks the places from the first to the last.
     fn mark(&mut self, first: i32, last: i32)
         requires { ArePlaces first last }
-        ensures { AreAdded (λ _. pos 0) (is_among first last) self.old self.new }
+        ensures counts { (n : ℕ) → count_at self.new n ≡ count_at self.old n }
+        ensures marks { (n : ℕ) → n < 128 → Marks (is_among first last (pos n)) (mark_at self.old n) (mark_at self.new n) }
     {
         // Those before n are marked.
         'places: for n in first as usize..last as usize + 1 {
@@ -60,7 +62,8 @@ impl Places {
     /// Marks the places that are named.
     fn mark_on(&mut self, on: OnRow)
         requires { ArePlacesNamed on }
-        ensures { AreAdded (λ _. pos 0) (is_named on) self.old self.new }
+        ensures counts { (n : ℕ) → count_at self.new n ≡ count_at self.old n }
+        ensures marks { (n : ℕ) → n < 128 → Marks (is_named on (pos n)) (mark_at self.old n) (mark_at self.new n) }
     {
         match on {
             OnRow::None => {}
@@ -77,7 +80,9 @@ impl Places {
     pub(crate) fn add_part(&mut self, part: RowPart)
         requires places { IsOfPlaces part }
         requires small { AreCountsWithin (2 ^ 19) self.old }
-        ensures { AreAdded (λ n. value_at part.crossing n +ℤ value_at part.region n) (is_named part.on) self.old self.new }
+        ensures counts { (n : ℕ) → n < 128 →
+            count_at self.new n ≡ count_at self.old n +ℤ (value_at part.crossing (pos n) +ℤ value_at part.region (pos n)) }
+        ensures marks { (n : ℕ) → n < 128 → Marks (is_named part.on (pos n)) (mark_at self.old n) (mark_at self.new n) }
     {
         self.add_run(part.crossing);
         self.add_run(part.region);

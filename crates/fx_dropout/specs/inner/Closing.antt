@@ -7,25 +7,27 @@ use Rattle.fx_winding.specs.declared.frame.Frame.{Frame}
 use Rattle.fx_winding.specs.Bitmaps.{words_for, word_bit}
 use Rattle.fx_winding.specs.Frames.{IsInFrame}
 use Rattle.fx_winding.specs.Notes.{words_noted}
-use Rattle.fx_winding.specs.Winding.{Span, span_of}
+use Rattle.fx_winding.specs.Winding.{span_of}
 use Rattle.fx_dropout.specs.declared.chooser.Chooser.{Chooser}
-use Rattle.fx_dropout.specs.declared.chooser.Closing.{Closing}
 use Rattle.fx_dropout.specs.declared.chooser.GapWord.{GapWord}
 use Rattle.fx_dropout.specs.Dropout.{IsNextChosen}
 use Rattle.fx_dropout.specs.Tests.{choice_tests}
 use Rattle.fx_dropout.specs.inner.Pairs.{next_col, next_row, seen_col, seen_row, seen_spans}
 
 -- the neighbour of a pixel closes the gap between them: it is chosen, and lies in the frame
-abbrev pub IsNextIn : Closing → List Span → Frame → Bool → ℤ → ℤ → Type 0
-IsNextIn closing ss f up col row = IsNextChosen closing (seen_spans up ss) (seen_col up col row) (seen_row up col row)
-    × IsInFrame f (next_col up col) (next_row up row)
-
 abbrev pub IsNext : Chooser → Bool → ℤ → ℤ → Type 0
-IsNext c = IsNextIn c.closing (map span_of c.pieces.now) c.frame
+IsNext c up col row =
+    IsNextChosen c.closing (seen_spans up (map span_of c.pieces.now)) (seen_col up col row) (seen_row up col row)
+    × IsInFrame c.frame (next_col up col) (next_row up row)
 
 -- the same of the pixel k of a word of a frame, counted from the left
 abbrev pub IsNextAt : Chooser → GapWord → ℕ → Type 0
 IsNextAt c word k = IsNext c word.is_up (c.frame.left +ℤ pos (32 * word.column + k)) (c.frame.bottom +ℤ pos word.row)
+
+-- of the gaps of a word those that the neighbours close
+abbrev pub AreNexts : Chooser → GapWord → ℕ → Type 0
+AreNexts c word nexts =
+    (k : ℕ) → k < 32 → (bit_at nexts (31 - k) ≡ 1) ↔ ((bit_at word.gaps (31 - k) ≡ 1) × IsNextAt c word k)
 
 -- the most tests that the choices for a word of gaps take
 abbrev pub word_tests : Chooser → ℕ

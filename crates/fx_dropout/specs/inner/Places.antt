@@ -1,5 +1,5 @@
 -- What pieces add at the places from the centre of a pixel to that of its right neighbour.
-use Rattle.std.specs.Prelude.{◌≡◌, ◌≢◌, ◌⊎◌, ℕ, ◌<◌, ℤ, pos, ◌+ℤ◌, ◌≤ℤ◌, ◌<ℤ◌, int_lt, if◌then◌else◌, Bool, false}
+use Rattle.std.specs.Prelude.{◌≡◌, ◌≢◌, ◌⊎◌, ℕ, ◌<◌, ℤ, pos, ◌≤ℤ◌, ◌<ℤ◌, int_lt, if◌then◌else◌, Bool, false}
 use Rattle.std.specs.Prelude.{IsTrue, get_or, Option, Some, None}
 use Rattle.fx_fixed.specs.Ranges.{IsWithin}
 use Rattle.fx_fixed.specs.declared.places.Axis.{Axis}
@@ -9,7 +9,6 @@ use Rattle.fx_rows.specs.declared.part.OnRow.TheVariants.{None as Nowhere, One, 
 use Rattle.fx_rows.specs.declared.part.RowPart.{RowPart}
 use Rattle.fx_rows.specs.declared.part.Run.{Run}
 use Rattle.fx_rows.specs.inner.Cuts.{IsAdded}
-use Rattle.fx_rows.specs.inner.Sums.{Marks}
 use Rattle.fx_winding.specs.Area.{Place}
 use Rattle.fx_winding.specs.Outside.{HasAll}
 use Rattle.fx_winding.specs.Winding.{Span}
@@ -72,11 +71,6 @@ AreCountsWithin size p = (n : ℕ) → n < 128 → IsWithin size (count_at p n)
 -- nothing was added to the places
 abbrev pub AreClear : Places → Type 0
 AreClear p = (n : ℕ) → n < 128 → (count_at p n ≡ pos 0) × (mark_at p n ≡ false)
-
--- each place's count grew by a value, and the places that are named are marked
-abbrev pub AreAdded : (ℤ → ℤ) → (ℤ → Bool) → Places → Places → Type 0
-AreAdded value named old new = (n : ℕ) → n < 128
-    → (count_at new n ≡ count_at old n +ℤ value (pos n)) × Marks (named (pos n)) (mark_at old n) (mark_at new n)
 
 -- the place n counts as covered
 abbrev pub IsCoveredIn : Places → ℕ → Type 0

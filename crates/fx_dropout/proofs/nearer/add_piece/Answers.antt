@@ -10,16 +10,12 @@ use Rattle.fx_winding.proofs.Beside.{HasAll-weaker, left_off}
 use Rattle.fx_winding.proofs.Turning.{left_of_all}
 use Rattle.fx_dropout.specs.declared.pair.Pair.{Pair}
 use Rattle.fx_dropout.specs.inner.Places.{above, count_at, place_in, IsMissed}
-use Rattle.fx_dropout.proofs.Adding.{missed_added, off_added}
-use Rattle.fx_dropout.proofs.Held.{held}
+use Rattle.fx_dropout.proofs.Adding.{missed_added, off_added, pair_held}
+use Rattle.fx_dropout.proofs.Stretching.{held}
 use Rattle.fx_dropout.proofs.nearer.add_piece.Goals as goal
 
 first : (pair : Pair) → centre (held pair.col) (held pair.row) ≡ centre pair.col pair.row
-first pair =
-    let a = pair.col_number in
-    let b = pair.row_number in
-    let col : held pair.col ≡ pair.col = omega (arith, signed_linear, a) in
-    let row : held pair.row ≡ pair.row = omega (arith, signed_linear, b) in λ i. centre (col i) (row i)
+first pair = λ i. centre ((pair_held pair).0 i) ((pair_held pair).1 i)
 
 all_among : (n : ℕ) → n < 128 → is_among (pos 0) (pos 127) (pos n) ≡ true
 all_among n l = grind (arith, ints)
@@ -49,6 +45,6 @@ returns-then-is_after-clause-added c = λ n l.
     let level : held q.y ≡ p.y = omega (arith, signed_linear, near', y) in
     let value = c.turn_right.ensures.value ∙ (λ i. above (level i) s.c.y -ℤ above (level i) s.a.y) ∙ sym (left_of_all p s right) in
     let size = c.turn_right.ensures.size in
-    let sum = (c.add_run.ensures n l).0
+    let sum = c.add_run.ensures.counts n l
     ∙ (λ i. count_at c.args.places.now n +ℤ (if all_among n l i then held c.turn_right.result else pos 0)) in
-    off_added s p _ _ _ _ (left_off p s right).1 (c.add_run.ensures n l).1 (omega (arith, signed_linear, size, sum, value))
+    off_added s p _ _ _ _ (left_off p s right).1 (c.add_run.ensures.marks n) (omega (arith, signed_linear, size, sum, value))

@@ -4,7 +4,7 @@ use Rattle.fx_fixed.specs.Ranges.{IsWithin}
 use Rattle.fx_fixed.proofs.Linear.{signed_linear}
 use Rattle.fx_fixed.proofs.Order.{below_or_not}
 use Rattle.fx_dropout.specs.inner.Places.{IsRunOfPlaces}
-use Rattle.fx_dropout.proofs.Held.{held}
+use Rattle.fx_dropout.proofs.Stretching.{held}
 use Rattle.fx_dropout.proofs.places.Places.add_run.Goals as goal
 
 added : (xs : List ℤ) (n k : ℕ) (old value : ℤ) → n < length xs → k ≡ n → get_or xs n (pos 0) ≡ old → IsWithin 1048576 old
