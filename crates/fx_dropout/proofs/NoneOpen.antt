@@ -38,7 +38,8 @@ none_closed ch across up words none = record {
   where
     kept : (is_up : Bool) (noted : List ℕ) (i k c : ℕ) → c < 32 → ((q : ℕ) → q ≤ suc (number_on is_up k c)
         → ¬ (IsOpenAt (bit_on is_up (words_of is_up ch words i) c) (bit_on is_up (notes_of is_up ch noted i) c) q))
-        → IsClosedOn is_up ch noted i (words_of is_up ch words i) c (number_on is_up k c) (bit_at (words_of is_up ch words i k) (31 - c))
+        → IsClosedOn is_up ch noted i (words_of is_up ch words i) c (number_on is_up k c)
+        (bit_at (words_of is_up ch words i k) (31 - c))
     kept is_up noted i k c l none =
         subst (λ (v : ℕ). IsClosedOn is_up ch noted i (words_of is_up ch words i) c (number_on is_up k c) v)
         (sym (there is_up (words_of is_up ch words i) k c l).0) (kept_as_is (bit_on is_up (words_of is_up ch words i) c)

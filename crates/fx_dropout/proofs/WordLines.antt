@@ -89,12 +89,12 @@ abbrev ArePassed : Bool → Chooser → List ℕ → ℕ → (ℕ → ℕ) → �
 ArePassed up ch noted line words k nexts =
     (c : ℕ) → c < 32 → (bit_at nexts (31 - c) ≡ 1) ↔ IsReachedOn up ch noted line words c (suc (number_on up k c))
 
-reached : (up : Bool) (ch : Chooser) (noted : List ℕ) (line : ℕ) (words : ℕ → ℕ) (k before nexts : ℕ)
+reached_word : (up : Bool) (ch : Chooser) (noted : List ℕ) (line : ℕ) (words : ℕ → ℕ) (k before nexts : ℕ)
     → ArePassed up ch noted line words k nexts → AreBefore up ch noted line words k before → (c : ℕ) → c < 32
     → (bit_before up before nexts c ≡ 1) ↔ IsReachedOn up ch noted line words c (number_on up k c)
-reached true ch noted line words k before nexts passed b c h = b c h
-reached false ch noted line words k before nexts passed b zero h = b
-reached false ch noted line words k before nexts passed b (suc d) h =
+reached_word true ch noted line words k before nexts passed b c h = b c h
+reached_word false ch noted line words k before nexts passed b zero h = b
+reached_word false ch noted line words k before nexts passed b (suc d) h =
     let e : suc (32 * k + d) ≡ 32 * k + suc d = omega arith in
     subst (λ (n : ℕ). (bit_at nexts (31 - d) ≡ 1) ↔ IsReachedOn false ch noted line words 0 n) e (passed d (omega (arith, h)))
 
@@ -148,10 +148,10 @@ module _ (up : Bool) (ch : Chooser) (noted : List ℕ) (line : ℕ) (words : ℕ
   pub more_before : AreBefore up ch noted line words (k + 1) nexts
   more_before = before_next up ch noted line words k nexts passed
 
-  closed_bit : AreBefore up ch noted line words k before → (c : ℕ) → c < 32
+  word_closed : AreBefore up ch noted line words k before → (c : ℕ) → c < 32
       → IsClosedOn up ch noted line words c (number_on up k c) (bit_at x (31 - c))
-  closed_bit b c h = closed_as _ _ _ _ _ _ _ (IsNextOn up ch line c (number_on up k c)) _ (there up words k c h).0 (opens c h)
-      (is.next c h) (reached up ch noted line words k before nexts passed b c h) (is.new c h)
+  word_closed b c h = closed_as _ _ _ _ _ _ _ (IsNextOn up ch line c (number_on up k c)) _ (there up words k c h).0 (opens c h)
+      (is.next c h) (reached_word up ch noted line words k before nexts passed b c h) (is.new c h)
 
   -- a word more
   pub more_closed : (old new : ℕ → ℕ) → AreBefore up ch noted line words k before → ((j : ℕ) → j < k → new j ≡ old j) → new k ≡ x
@@ -165,7 +165,7 @@ module _ (up : Bool) (ch : Chooser) (noted : List ℕ) (line : ℕ) (words : ℕ
           let same : k ≡ j = omega (arith, h, q) in
           subst (λ (i : ℕ). IsClosedOn up ch noted line words c (number_on up i c) (bit_at (new i) (31 - c))) same
           (subst (λ (v : ℕ). IsClosedOn up ch noted line words c (number_on up k c) (bit_at v (31 - c))) (sym is_new)
-          (closed_bit b c m))
+          (word_closed b c m))
 
 -- ---- lines
 -- the lines before one are closed, and the others are as they were
@@ -183,7 +183,8 @@ line_more up ch noted old words new line own others so_far = record {
 }
   where
     by : (i : ℕ) → i < line + 1 → (i < line) ⊎ (line ≤ i) → IsLineClosed up ch noted old new i
-    by i h (inl q) = λ k c m n. subst (λ (v : ℕ). IsClosedOn up ch noted i (words_of up ch old i) c (number_on up k c) (bit_at v (31 - c)))
+    by i h (inl q) = λ k c m n.
+        subst (λ (v : ℕ). IsClosedOn up ch noted i (words_of up ch old i) c (number_on up k c) (bit_at v (31 - c)))
         (sym (others i (λ e. omega (arith, q, e)) k)) (so_far.closed i q k c m n)
     by i h (inr q) =
         let same : line ≡ i = omega (arith, h, q) in

@@ -45,11 +45,9 @@ pub returns-clause-bits : goal.returns-clause-bits
 returns-clause-bits c =
     let ss = map span_of c.args.pieces.now in
     let f = c.frame-frame.ensures.value in
-    let bits : c.from_words.result ≡ record {
-      frame = c.frame-frame.result;
-      rows = rows_of c.frame-frame.result.height c.frame-frame.result.width c.close_words.new.words;
-    } = c.from_words.ensures
-    ∙ (λ t. record { frame = c.frame-frame.result; rows = rows_of c.frame-frame.result.height c.frame-frame.result.width (back c.before t) }) in
+    let grid : List ℕ → Bits =
+    λ xs. record { frame = c.frame-frame.result; rows = rows_of c.frame-frame.result.height c.frame-frame.result.width xs } in
+    let bits : c.from_words.result ≡ grid c.close_words.new.words = c.from_words.ensures ∙ ap grid (back c.before) in
     subst (λ (f : Frame). NoneOutside f ss → (i j : ℤ) → IsInFrame f i j → IsTrue (bit_of c.from_words.result i j) ↔ IsSet
     c.args.closing ss f i j) f (λ outside i j inside.
     subst (λ (z : Bits). IsTrue (bit_of z i j) ↔ IsSet c.args.closing ss c.frame-frame.result i j) (sym bits)

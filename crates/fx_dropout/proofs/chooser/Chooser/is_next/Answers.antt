@@ -1,26 +1,27 @@
-use Rattle.std.proofs.Common.{sym, subst, IsTrue, ◌↔◌, Bool, ℕ, ℤ, pos, ◌+ℤ◌, ◌+◌, ◌*◌, map, Option, option_map}
+use Rattle.std.proofs.Common.{sym, subst, IsTrue, ◌↔◌, ℕ, ℤ, pos, ◌+ℤ◌, ◌+◌, ◌*◌, map, Option, option_map}
 use Rattle.fx_winding.specs.declared.frame.Frame.{Frame}
 use Rattle.fx_winding.specs.Winding.{span_of}
 use Rattle.fx_dropout.specs.declared.chooser.Closing.{Closing}
+use Rattle.fx_dropout.specs.declared.chooser.GapWord.{GapWord}
 use Rattle.fx_dropout.specs.declared.pair.Pair.{Pair}
 use Rattle.fx_dropout.specs.Dropout.{IsNextChosen, IsNextNearer}
 use Rattle.fx_dropout.specs.inner.Pairs.{seen_col, seen_row, seen_spans, IsPairIn}
 use Rattle.fx_dropout.proofs.chooser.Chooser.is_next.Goals as goal
 
-abbrev Found : Frame → Bool → ℕ → ℕ → Option Pair → Type 0
-Found f up column row p =
-    IsPairIn f up (f.left +ℤ pos column) (f.bottom +ℤ pos row) (option_map (λ (p : Pair). (p.col, p.row)) p)
+abbrev Found : Frame → GapWord → ℕ → Option Pair → Type 0
+Found f word k p = IsPairIn f word.is_up (f.left +ℤ pos (32 * word.column + k)) (f.bottom +ℤ pos word.row)
+    (option_map (λ (p : Pair). (p.col, p.row)) p)
 
 pub returns-in-None-clause-value : goal.returns-in-None-clause-value
 returns-in-None-clause-value c = (
   λ t. absurd (cc),
   λ h.
-      absurd (subst (Found c.args.self.now.frame c.args.word.is_up (32 * c.args.word.column + c.args.k) c.args.word.row) c.in-None.is c.in_frame.ensures h.1.1),
+      absurd (subst (Found c.args.self.now.frame c.args.word c.args.k) c.in-None.is c.in_frame.ensures h.1.1),
 )
 
 pub returns-in-Some-clause-value : goal.returns-in-Some-clause-value
 returns-in-Some-clause-value c =
-    let e = subst (Found c.args.self.now.frame c.args.word.is_up (32 * c.args.word.column + c.args.k) c.args.word.row) c.in-Some.is c.in_frame.ensures in
+    let e = subst (Found c.args.self.now.frame c.args.word c.args.k) c.in-Some.is c.in_frame.ensures in
     let ss = map span_of c.args.self.now.pieces.now in
     let up = c.args.word.is_up in
     let near = subst (λ (z : ℤ × ℤ). IsTrue c.is_next_nearer.result ↔ IsNextNearer (seen_spans up ss) z.0 z.1)
