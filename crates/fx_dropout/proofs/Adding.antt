@@ -1,11 +1,10 @@
 -- What is added at the places of a pair is what the piece adds there: `missed_added`, `right_added`, `part_added`.
 -- Serves `nearer`.
 use Rattle.std.proofs.Common.{◌≡◌, ◌≢◌, ◌⊎◌, ◌↔◌, inl, inr, refl, sym, ap, ◌∙◌, subst, IsTrue, ℕ, ◌<◌, ℤ, pos, ◌+ℤ◌}
-use Rattle.std.proofs.Common.{◌<ℤ◌, Bool, true, false, not, List, Any, Option, map, length, get_or, arith}
+use Rattle.std.proofs.Common.{◌<ℤ◌, Bool, true, false, List, Any, Option, map, length, get_or, arith}
 use Rattle.std.proofs.Math.ListN.{get_or-map}
 use Rattle.std.proofs.lemmas.List.{length-map}
 use Rattle.fx_fixed.specs.Ranges.{IsWithin}
-use Rattle.fx_fixed.specs.declared.places.Axis.{Axis}
 use Rattle.fx_fixed.proofs.Linear.{signed_linear}
 use Rattle.fx_rows.specs.declared.part.OnRow.{OnRow}
 use Rattle.fx_rows.specs.declared.part.RowPart.{RowPart}
@@ -21,37 +20,18 @@ use Rattle.fx_winding.specs.declared.frame.Frame.{Frame}
 use Rattle.fx_winding.specs.declared.point.Piece.{Piece}
 use Rattle.fx_winding.specs.Frames.{IsFrom}
 use Rattle.fx_winding.specs.Meets.{turn}
-use Rattle.fx_winding.specs.Outside.{HasAll}
 use Rattle.fx_winding.specs.Turned.{turned_span}
 use Rattle.fx_winding.specs.Winding.{Span, IsOn, IsCovered, centre, span_of, winding}
 use Rattle.fx_winding.proofs.Beside.{HasAll-weaker, right_off, under_off, over_off}
-use Rattle.fx_winding.proofs.Turning.{all_turned, right_of_all}
+use Rattle.fx_winding.proofs.Turning.{right_of_all}
+use Rattle.fx_dropout.specs.declared.pair.Pair.{Pair}
 use Rattle.fx_dropout.specs.Dropout.{place_on}
 use Rattle.fx_dropout.specs.inner.Pairs.{seen_span, seen_spans}
-use Rattle.fx_dropout.specs.inner.Places.{along_of, coordinate_of, IsMissed, IsOfPlaces, IsRunOfPlaces, ArePlacesNamed}
+use Rattle.fx_dropout.specs.inner.Places.{IsMissed, IsOfPlaces, IsRunOfPlaces, ArePlacesNamed}
 use Rattle.fx_dropout.specs.inner.Stretched.{stretched_span}
-use Rattle.fx_dropout.proofs.Stretching.{centre_stretched, crossing_stretched, region_stretched, on_stretched}
+use Rattle.fx_dropout.proofs.Stretching.{held, centre_stretched, crossing_stretched, region_stretched, on_stretched}
 
 -- ---- a piece beside the places
--- a piece whose points all lie beside a limit, seen with its coordinates exchanged or not: across rows, and along them
-pub seen_across : (R : ℤ → ℤ → Type 0) (up : Bool) (axis : Axis) (limit y : ℤ) (s : Span) → axis ≡ along_of (not up) → limit ≡ y
-    → HasAll (λ e. R limit (coordinate_of axis e)) s → HasAll (λ e. R y e.y) (seen_span up s)
-seen_across R up axis limit y s is e h =
-    by up (subst (λ (z : Axis × ℤ). HasAll (λ e. R z.1 (coordinate_of z.0 e)) s) (λ i. (is i, e i)) h)
-  where
-    by : (up : Bool) → HasAll (λ e. R y (coordinate_of (along_of (not up)) e)) s → HasAll (λ e. R y e.y) (seen_span up s)
-    by false h = h
-    by true h = all_turned (λ e. R y e.y) s h
-
-pub seen_along : (R : ℤ → ℤ → Type 0) (up : Bool) (axis : Axis) (limit x : ℤ) (s : Span) → axis ≡ along_of up → limit ≡ x
-    → HasAll (λ e. R limit (coordinate_of axis e)) s → HasAll (λ e. R x e.x) (seen_span up s)
-seen_along R up axis limit x s is e h =
-    by up (subst (λ (z : Axis × ℤ). HasAll (λ e. R z.1 (coordinate_of z.0 e)) s) (λ i. (is i, e i)) h)
-  where
-    by : (up : Bool) → HasAll (λ e. R x (coordinate_of (along_of up) e)) s → HasAll (λ e. R x e.x) (seen_span up s)
-    by false h = h
-    by true h = all_turned (λ e. R x e.x) s h
-
 -- a place off a piece
 pub off_added : (s : Span) (p : Place) (old new : Bool) (a b : ℤ) → ¬ (IsOn p s) → new ≡ old → b ≡ a +ℤ turn p s
     → IsAdded s p old new a b
@@ -82,6 +62,13 @@ missed_added s col row n on a (inr (inr h)) =
     off_added s p on on a a (right_off p s left).1 refl (omega (arith, signed_linear, none))
 
 -- ---- a piece by its stretched row
+-- the column and the row of a pair, as the code holds them
+pub pair_held : (pair : Pair) → (held pair.col ≡ pair.col) × (held pair.row ≡ pair.row)
+pair_held pair =
+    let a = pair.col_number in
+    let b = pair.row_number in
+    (omega (arith, signed_linear, a), omega (arith, signed_linear, b))
+
 pub part_places : (s : Span) (row : ℤ) (f : Frame) (part : RowPart) → f.left ≡ pos 0 → f.width ≡ 128 → IsRowPart s row f part
     → IsOfPlaces part
 part_places s row f part left wide h = record {

@@ -1,6 +1,6 @@
 -- Words of a frame whose rows and then columns were closed have the bits that drop-out control sets: `gaps_closed`.
 -- Serves `noted`.
-use Rattle.std.proofs.Common.{◌≡◌, ◌↔◌, inl, inr, refl, sym, ap, ◌∙◌, subst, ℕ, zero, suc, ◌*◌, ◌<◌, ◌≤◌, ℤ, pos}
+use Rattle.std.proofs.Common.{◌≡◌, ◌↔◌, inl, inr, refl, sym, ap, ◌∙◌, subst, ℕ, zero, suc, ◌+◌, ◌*◌, ◌/◌, ◌%◌, ◌<◌, ◌≤◌, ℤ, pos}
 use Rattle.std.proofs.Common.{◌+ℤ◌, ◌-ℤ◌, Bool, true, false, IsTrue, List, ◌++◌, Any, map, take, drop, length, length-drop, unsigned_abs, arith}
 use Rattle.std.specs.Prelude.{◌==◌}
 use Rattle.std.proofs.lemmas.Bool.Decides.{nat_tests}
@@ -14,13 +14,14 @@ use Rattle.fx_winding.specs.Bitmaps.{AreWords, AreRowWords, IsScanOf, bit_of, ro
 use Rattle.fx_winding.specs.Turned.{turned_span}
 use Rattle.fx_winding.specs.Frames.{IsFrom, IsInFrame, steps}
 use Rattle.fx_winding.specs.Notes.{AreExact, pixel_number, words_noted}
-use Rattle.fx_winding.specs.Winding.{Span, IsCovered, IsOn, centre}
+use Rattle.fx_winding.specs.Winding.{Span, IsCovered, IsOn, centre, span_of}
 use Rattle.fx_winding.proofs.Dotted.{bit_of-number}
 use Rattle.fx_winding.proofs.Grid.{cut-row, row_fits, steps_below}
 use Rattle.fx_winding.proofs.Scanned.{steps_back}
+use Rattle.fx_dropout.specs.declared.chooser.Chooser.{Chooser}
 use Rattle.fx_dropout.specs.declared.chooser.Closing.{Closing}
 use Rattle.fx_dropout.specs.Dropout.{IsNextChosen, IsRowSet, IsSet}
-use Rattle.fx_dropout.specs.inner.Closing.{IsReached, IsClosedBit, IsNextIn, AreClosedWords, grid_bit}
+use Rattle.fx_dropout.specs.inner.Closing.{grid_bit, AreClosedWords, IsClosedBit, IsNext, IsReached}
 use Rattle.fx_dropout.proofs.Lines.{line_closed}
 use Rattle.fx_dropout.proofs.Parts.{part_bit, past_part, past_row, unused_bit}
 
@@ -78,11 +79,12 @@ abbrev pub NoneOutside : Frame → List Span → Type 0
 NoneOutside f ss = (i j : ℤ) → ¬ (IsInFrame f i j) → ¬ (IsCovered (centre i j) ss)
 
 -- ---- the rows
-pub record IsGiven (closing : Closing) (f : Frame) (ss : List Span) (across up old new : List ℕ) : Type 0 where
-  pub words : AreWords f.height f.width old
-  pub scanned : IsScanOf f ss (record { frame = f; rows = rows_of f.height f.width old })
-  pub noted : AreExact f across up ss
-  pub closed : AreClosedWords (IsNextIn closing ss f) f across up old new
+pub record IsGiven (ch : Chooser) (across up old new : List ℕ) : Type 0 where
+  pub words : AreWords ch.frame.height ch.frame.width old
+  pub scanned : IsScanOf ch.frame (map span_of ch.pieces.now)
+      (record { frame = ch.frame; rows = rows_of ch.frame.height ch.frame.width old })
+  pub noted : AreExact ch.frame across up (map span_of ch.pieces.now)
+  pub closed : AreClosedWords ch across up old new
 
 -- outside the frame no row sets a pixel
 row_outside : (closing : Closing) (f : Frame) (ss : List Span) → NoneOutside f ss → (i j : ℤ) → ¬ (IsInFrame f i j)
@@ -90,16 +92,35 @@ row_outside : (closing : Closing) (f : Frame) (ss : List Span) → NoneOutside f
 row_outside closing f ss outside i j out (inl c) = outside i j out c
 row_outside closing f ss outside i j out (inr b) = out b.inside
 
-module _ (closing : Closing) (f : Frame) (ss : List Span) (across up old new : List ℕ)
-    (given : IsGiven closing f ss across up old new) where
+module _ (ch : Chooser) (across up old new : List ℕ) (given : IsGiven ch across up old new) where
+  abbrev f : Frame
+  f = ch.frame
+
+  abbrev ss : List Span
+  ss = map span_of ch.pieces.now
+
   -- the neighbour of a pixel closes the gap between them
   abbrev next : Bool → ℕ → ℕ → Type 0
-  next is_up k r = IsNextIn closing ss f is_up (f.left +ℤ pos k) (f.bottom +ℤ pos r)
+  next is_up k r = IsNext ch is_up (f.left +ℤ pos k) (f.bottom +ℤ pos r)
+
+  column_of : (n : ℕ) → 32 * (n / 32) + n % 32 ≡ n
+  column_of n = omega arith
+
+  row_bit : (r n : ℕ) → r < f.height → n < 32 * words_for f.width
+      → IsClosedBit (λ k. pixel f old k r) (λ k. note f across k r) (λ k. next false k r) n (pixel f given.closed.mid n r)
+  row_bit r n h l = subst (λ (m : ℕ). IsClosedBit (λ k. pixel f old k r) (λ k. note f across k r) (λ k. next false k r) m
+      (pixel f given.closed.mid n r)) (column_of n) (given.closed.rows r h (n / 32) (n % 32) (omega (arith, l)) (omega arith))
+
+  column_bit : (r k : ℕ) → r < f.height → k < 32 * words_for f.width
+      → IsClosedBit (λ q. pixel f given.closed.mid k q) (λ q. note f up k q) (λ q. next true k q) r (pixel f new k r)
+  column_bit r k h l = subst (λ (m : ℕ). IsClosedBit (λ q. pixel f given.closed.mid k q) (λ q. note f up k q)
+      (λ q. next true m q) r (pixel f new k r)) (column_of k)
+      (given.closed.columns (k / 32) (omega (arith, l)) r (k % 32) h (omega arith))
 
   row_closed : NoneOutside f ss → (r n : ℕ) → r < f.height → n < f.width
-      → (pixel f given.closed.mid n r ≡ 1) ↔ IsRowSet closing ss f (f.left +ℤ pos n) (f.bottom +ℤ pos r)
+      → (pixel f given.closed.mid n r ≡ 1) ↔ IsRowSet ch.closing ss f (f.left +ℤ pos n) (f.bottom +ℤ pos r)
   row_closed outside r n h l =
-      line_closed ss (IsInFrame f) (IsNextChosen closing ss) (λ i j. IsCovered (centre i j) ss) f.left (f.bottom +ℤ pos r)
+      line_closed ss (IsInFrame f) (IsNextChosen ch.closing ss) (λ i j. IsCovered (centre i j) ss) f.left (f.bottom +ℤ pos r)
       f.width _ _ (record {
         set = λ n l.
             let bit = pixel_bit f old r n h l in
@@ -118,12 +139,12 @@ module _ (closing : Closing) (f : Frame) (ss : List Span) (across up old new : L
         inside = λ n l. in_frame f n r l h;
         before = λ i. not_before f.left f.width i.column;
         after = λ i. not_after f.left f.width i.column;
-      }) n _ l (given.closed.rows r n h (omega (arith, l)))
+      }) n _ l (row_bit r n h (omega (arith, l)))
 
   -- the bits after the last pixel stay 0
   row_rest : (r n : ℕ) → r < f.height → f.width ≤ n → n < 32 * words_for f.width → pixel f given.closed.mid n r ≡ 0
   row_rest r n h w l =
-      still (λ k. pixel f old k r) (λ k. note f across k r) (λ k. next false k r) n _ (given.closed.rows r n h l) (bit_at-lt _ _)
+      still (λ k. pixel f old k r) (λ k. note f across k r) (λ k. next false k r) n _ (row_bit r n h l) (bit_at-lt _ _)
       (unused_bit f old r n given.words h w) (after (suc n) (omega (arith, w))) (by n refl)
     where
       after : (k : ℕ) → f.width < k → note f across k r ≡ 0
@@ -143,14 +164,14 @@ module _ (closing : Closing) (f : Frame) (ss : List Span) (across up old new : L
 
   -- ---- the columns
   column_closed : NoneOutside f ss → (r k : ℕ) → r < f.height → k < f.width
-      → (pixel f new k r ≡ 1) ↔ IsSet closing ss f (f.left +ℤ pos k) (f.bottom +ℤ pos r)
+      → (pixel f new k r ≡ 1) ↔ IsSet ch.closing ss f (f.left +ℤ pos k) (f.bottom +ℤ pos r)
   column_closed outside r k h l =
-      line_closed (map turned_span ss) (λ j i. IsInFrame f i j) (IsNextChosen closing (map turned_span ss))
-      (λ j i. IsRowSet closing ss f i j) f.bottom (f.left +ℤ pos k) f.height _ _ (record {
+      line_closed (map turned_span ss) (λ j i. IsInFrame f i j) (IsNextChosen ch.closing (map turned_span ss))
+      (λ j i. IsRowSet ch.closing ss f i j) f.bottom (f.left +ℤ pos k) f.height _ _ (record {
         set = λ r h. row_closed outside r k h l;
         bits = λ r. bit_at-lt _ _;
         end = past_row given.closed.mid (words_for f.width) f.height k (omega (arith, given.closed.long, given.words.long));
-        none = λ j. row_outside closing f ss outside (f.left +ℤ pos k) j;
+        none = λ j. row_outside ch.closing f ss outside (f.left +ℤ pos k) j;
         tells = λ q m off off'.
             let e = noted_bit f up q k (omega (arith, l)) in
             let is = given.noted.up q k (omega (arith, h)) m l (record {
@@ -162,11 +183,11 @@ module _ (closing : Closing) (f : Frame) (ss : List Span) (across up old new : L
         before = λ i. not_before f.bottom f.height i.row;
         after = λ i. not_after f.bottom f.height i.row;
       }) r _
-      h (given.closed.columns r k h (omega (arith, l)))
+      h (column_bit r k h (omega (arith, l)))
 
   column_rest : (r k : ℕ) → r < f.height → f.width ≤ k → k < 32 * words_for f.width → pixel f new k r ≡ 0
   column_rest r k h w l =
-      still (λ q. pixel f given.closed.mid k q) (λ q. note f up k q) (λ q. next true k q) r _ (given.closed.columns r k h l)
+      still (λ q. pixel f given.closed.mid k q) (λ q. note f up k q) (λ q. next true k q) r _ (column_bit r k h l)
       (bit_at-lt _ _) (row_rest r k h w l) (unnoted (suc r) (omega (arith, h))) (by r refl)
     where
       unnoted : (q : ℕ) → q ≤ f.height → note f up k q ≡ 0
@@ -195,7 +216,7 @@ module _ (closing : Closing) (f : Frame) (ss : List Span) (across up old new : L
   }
 
   pub closed_pixels : NoneOutside f ss → (i j : ℤ) → IsInFrame f i j
-      → IsTrue (bit_of (record { frame = f; rows = rows_of f.height f.width new }) i j) ↔ IsSet closing ss f i j
+      → IsTrue (bit_of (record { frame = f; rows = rows_of f.height f.width new }) i j) ↔ IsSet ch.closing ss f i j
   closed_pixels outside i j inside =
       let k = steps f.left i in
       let r = steps f.bottom j in

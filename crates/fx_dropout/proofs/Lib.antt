@@ -10,4 +10,3 @@ pub mod SetPixels
 pub mod Shifted
 pub mod Stretching
 pub mod Adding
-pub mod Held

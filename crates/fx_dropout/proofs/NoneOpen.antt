@@ -1,7 +1,7 @@
 -- If no segment of the words of a frame is open, none is of its rows and columns, and closing gaps changes nothing.
 -- Serves `look`, and `close_words`.
 use Rattle.std.proofs.Common.{◌≡◌, ◌⊎◌, ◌↔◌, inl, inr, refl, sym, ap, ◌∙◌, ℕ, zero, suc, ◌+◌, ◌-◌, ◌*◌, ◌/◌, ◌%◌, ◌<◌, ◌≤◌}
-use Rattle.std.proofs.Common.{ℤ, pos, ◌+ℤ◌, not, nat_eq, Bool, true, false, List, ◌∷◌, get_or, take, drop, length, bit_or, arith}
+use Rattle.std.proofs.Common.{not, nat_eq, Bool, true, false, List, ◌∷◌, get_or, take, drop, length, bit_or, subst, arith}
 use Rattle.std.specs.Int.{bit_at}
 use Rattle.std.proofs.lemmas.Bool.Decides.{nat_tests}
 use Rattle.std.proofs.lemmas.Nat.{le_or_l, le_or_r}
@@ -11,8 +11,11 @@ use Rattle.fx_winding.specs.declared.frame.Frame.{Frame}
 use Rattle.fx_winding.specs.Bitmaps.{AreWords, words_for, word_bit}
 use Rattle.fx_winding.specs.Notes.{words_noted}
 use Rattle.fx_winding.proofs.Grid.{row_fits}
-use Rattle.fx_dropout.specs.inner.Closing.{IsOpen, IsOpenAt, IsClosedBit, AreClosedWords, AreNoneOpen, bit_in, grid_bit, left_in}
+use Rattle.fx_dropout.specs.declared.chooser.Chooser.{Chooser}
+use Rattle.fx_dropout.specs.inner.Closing.{bit_in, bit_on, grid_bit, left_in, line_word, notes_of, number_on, words_of}
+use Rattle.fx_dropout.specs.inner.Closing.{AreClosedWords, AreNoneOpen, IsClosedBit, IsClosedOn, IsNextOn, IsOpen, IsOpenAt}
 use Rattle.fx_dropout.proofs.Parts.{part_word, past_part, unused_bit}
+use Rattle.fx_dropout.proofs.WordLines.{cell, there}
 
 -- ---- lines
 noted_is : (P Q : ℕ → ℕ) (n : ℕ) → IsOpenAt P Q n → Q n ≡ 1
@@ -24,17 +27,23 @@ kept_as_is : (P Q : ℕ → ℕ) (Next : ℕ → Type 0) (n : ℕ) → ((k : ℕ
 kept_as_is P Q Next zero none = grind (arith, none 0, none 1)
 kept_as_is P Q Next (suc n) none = grind (arith, none (suc n), none (suc (suc n)))
 
-pub none_closed : (IsNext : Bool → ℤ → ℤ → Type 0) (f : Frame) (across up words : List ℕ) → AreNoneOpen f across up words
-    → AreClosedWords IsNext f across up words words
-none_closed IsNext f across up words none = record {
+pub none_closed : (ch : Chooser) (across up words : List ℕ) → AreNoneOpen ch.frame across up words
+    → AreClosedWords ch across up words words
+none_closed ch across up words none = record {
   mid = words;
   long = refl;
-  rows = λ r n h l. kept_as_is (λ k. grid_bit words (words_for f.width) k r)
-      (λ k. grid_bit across (words_noted f.width) k r)
-      (λ k. IsNext false (f.left +ℤ pos k) (f.bottom +ℤ pos r)) n (λ k _. none.rows r k h);
-  columns = λ r n h l. kept_as_is (λ k. grid_bit words (words_for f.width) n k) (λ k. grid_bit up (words_noted f.width) n k)
-      (λ k. IsNext true (f.left +ℤ pos n) (f.bottom +ℤ pos k)) r (λ k o. none.columns k n (omega (arith, o, h)) l);
+  rows = λ i h k c m l. kept false across i k c l (λ q _. none.rows i q h);
+  columns = λ i h k c m l. kept true up i k c l (λ q o. none.columns i c q h l (omega (arith, o, m)));
 }
+  where
+    kept : (is_up : Bool) (noted : List ℕ) (i k c : ℕ) → c < 32 → ((q : ℕ) → q ≤ suc (number_on is_up k c)
+        → ¬ (IsOpenAt (bit_on is_up (words_of is_up ch words i) c) (bit_on is_up (notes_of is_up ch noted i) c) q))
+        → IsClosedOn is_up ch noted i (words_of is_up ch words i) c (number_on is_up k c)
+        (bit_at (words_of is_up ch words i k) (31 - c))
+    kept is_up noted i k c l none =
+        subst (λ (v : ℕ). IsClosedOn is_up ch noted i (words_of is_up ch words i) c (number_on is_up k c) v)
+        (sym (there is_up (words_of is_up ch words i) k c l).0) (kept_as_is (bit_on is_up (words_of is_up ch words i) c)
+        (bit_on is_up (notes_of is_up ch noted i) c) (IsNextOn is_up ch i c) (number_on is_up k c) none)
 
 -- ---- words
 -- gaps that were none
@@ -133,18 +142,25 @@ none_open f across up words flat = record {
       within r h,
     )
 
-    column : (r n : ℕ) → r ≤ f.height → n < 32 * size
-        → ¬ (IsOpenAt (λ k. grid_bit words size n k) (λ k. grid_bit up (words_noted f.width) n k) r)
-    column zero n h l o = grind (arith, o, l, flat.same, flat.first (n / 32) (n % 32), part_word)
-    column (suc r) n h l o = by (below_or_not (suc r) f.height)
-      where
-        one : suc r * size + n / 32 ≡ size + (r * size + n / 32)
-        one = omega arith
+    -- the segments of rows have as many words
+    noted : (i k : ℕ) → line_word true up (words_noted f.width) i k ≡ line_word true up size i k
+    noted i k = let e = flat.same in ap (λ (n : ℕ). line_word true up n i k) e
 
-        by : (suc r < f.height) ⊎ (f.height ≤ suc r) → ⊥
-        by (inl k) =
-            grind (arith, o, l, flat.same, one, within (suc r) k, flat.inner (r * size + n / 32) (n % 32), part_word)
+    column : (i c q : ℕ) → i < size → c < 32 → q ≤ f.height
+        → ¬ (IsOpenAt (bit_on true (λ k. line_word true words size i k) c)
+        (bit_on true (λ k. line_word true up (words_noted f.width) i k) c) q)
+    column i c zero l m h o = grind (arith, o, noted i 0, cell words size i 0 l, cell up size i 0 l, flat.first i c l m)
+    column i c (suc q) l m h o = by (below_or_not (suc q) f.height)
+      where
+        here : line_word true words size i q ≡ get_or words (q * size + i) 0
+        here = cell words size i q l
+
+        note : line_word true up (words_noted f.width) i (suc q) ≡ get_or up (suc q * size + i) 0
+        note = noted i (suc q) ∙ cell up size i (suc q) l
+
+        by : (suc q < f.height) ⊎ (f.height ≤ suc q) → ⊥
+        by (inl k) = grind (arith, o, here, note, cell words size i (suc q) l, within (suc q) k, flat.inner (q * size + i) c)
         by (inr k) =
-            let e : suc r ≡ f.height = omega (arith, h, k) in
-            let all : length words ≡ r * size + size = flat.held.long ∙ sym (ap (λ (n : ℕ). n * size) e) ∙ omega arith in
-            grind (arith, o, l, flat.same, one, all, flat.last (n / 32) (n % 32), part_word)
+            let e : suc q ≡ f.height = omega (arith, h, k) in
+            let all : length words ≡ q * size + size = flat.held.long ∙ sym (ap (λ (n : ℕ). n * size) e) ∙ omega arith in
+            grind (arith, o, here, note, all, flat.last i c l m)

@@ -2,7 +2,7 @@
 -- `region_stretched`.
 -- Serves `nearer`.
 use Rattle.std.proofs.Common.{◌≡◌, ◌↔◌, refl, ap, ◌∙◌, ℕ, ℤ, pos, ◌+ℤ◌, ◌-ℤ◌, ◌*ℤ◌, ◌≤ℤ◌, ◌<ℤ◌}
-use Rattle.std.proofs.Common.{int_lt, ◌&&◌, ◌||◌, Option, Some, None, [], ◌∷◌, option_map, arith}
+use Rattle.std.proofs.Common.{int_lt, ◌&&◌, ◌||◌, Option, Some, None, [], ◌∷◌, option_map, w32, to_z, of_z, arith}
 use Rattle.std.specs.Ordering.{int_eq}
 use Rattle.std.proofs.Math.Logic.{⊎_map}
 use Rattle.std.proofs.lemmas.Int.{ints}
@@ -18,6 +18,10 @@ use Rattle.fx_winding.proofs.Ranges.{either}
 use Rattle.fx_winding.proofs.Triangle.{area_expr, at, coordinates, area_at}
 use Rattle.fx_dropout.specs.Dropout.{place_on}
 use Rattle.fx_dropout.specs.inner.Stretched.{stretched_x, stretched_place, stretched_span}
+
+-- a number of 32 bits as the code holds it
+abbrev pub held : ℤ → ℤ
+held x = to_z w32 (of_z w32 x)
 
 -- a place of a segment becomes a centre
 pub centre_stretched : (col row : ℤ) (n : ℕ) → stretched_place col (place_on col row n) ≡ centre (pos n) row

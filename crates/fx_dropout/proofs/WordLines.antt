@@ -1,18 +1,17 @@
--- Words of lines, each closed by the gaps beside its pixels, are one after the other the closed lines: `done_more`, `done_all`.
--- Serves `close_lines`.
-use Rattle.std.proofs.Common.{◌≡◌, ◌≢◌, ◌⊎◌, ◌↔◌, inl, inr, refl, sym, ap, ◌∙◌, subst, ℕ, zero, suc, ◌+◌, ◌-◌, ◌*◌, ◌/◌, ◌%◌, ◌<◌, ◌≤◌, pos, ◌+ℤ◌}
-use Rattle.std.proofs.Common.{Bool, true, false, not, List, [], ◌∷◌, get_or, take, drop, length, arith}
-use Rattle.std.specs.Prelude.{⊤}
+-- Words of lines, each closed by the gaps beside its pixels, are one after the other the closed lines: `more_closed`, `line_more`.
+-- Serves `close_line` and `close_lines`.
+use Rattle.std.proofs.Common.{◌≡◌, ◌≢◌, ◌⊎◌, ◌↔◌, inl, inr, refl, sym, ap, ◌∙◌, subst, ℕ, zero, suc, ◌+◌, ◌-◌, ◌*◌, ◌/◌, ◌<◌, ◌≤◌, pos, ◌+ℤ◌}
+use Rattle.std.proofs.Common.{Bool, true, false, not, List, get_or, take, drop, arith}
 use Rattle.std.specs.Int.{bit_at}
 use Rattle.std.proofs.lemmas.Nat.{div-mul-add}
 use Rattle.std.proofs.lemmas.List.{get_or-take, get_or-drop, get_or_past, length-take}
 use Rattle.fx_fixed.proofs.Order.{below_or_not}
 use Rattle.fx_winding.specs.declared.frame.Frame.{Frame}
-use Rattle.fx_winding.specs.Bitmaps.{words_for, word_bit}
-use Rattle.fx_winding.specs.Notes.{words_noted}
+use Rattle.fx_winding.specs.Bitmaps.{words_for}
 use Rattle.fx_winding.proofs.Grid.{row_fits}
-use Rattle.fx_dropout.specs.inner.Closing.{bit_after, bit_before, bit_on, grid_bit, line_word, next_on, number_on, word_column, word_place, word_row, words_along}
-use Rattle.fx_dropout.specs.inner.Closing.{size_of, AreClosedLines, AreDone, IsClosedAt, IsClosedBit, IsClosedIn, IsEarlier, IsNext, IsOpen, IsOpenAt, IsReached, Pass}
+use Rattle.fx_dropout.specs.declared.chooser.Chooser.{Chooser}
+use Rattle.fx_dropout.specs.inner.Closing.{bit_after, bit_before, bit_on, line_word, notes_of, number_on, words_of, word_column, word_place, word_row, words_along}
+use Rattle.fx_dropout.specs.inner.Closing.{AreWordsClosed, IsClosedOn, IsLineClosed, IsLineKept, IsNext, IsNextOn, IsOpen, IsOpenAt, IsReached}
 
 -- ---- where words are
 -- words of two columns, or of two rows, are two words
@@ -29,12 +28,12 @@ inside false f line k l m = let t = row_fits line f.height (words_for f.width) l
 inside true f line k l m = let t = row_fits k f.height (words_for f.width) m in omega (arith, t, l)
 
 -- a word by its column and its row
-cell : (words : List ℕ) (size column row : ℕ) → column < size
+pub cell : (words : List ℕ) (size column row : ℕ) → column < size
     → get_or (take size (drop (row * size) words)) column 0 ≡ get_or words (row * size + column) 0
 cell words size column row l =
     get_or-take size (drop (row * size) words) column 0 l ∙ get_or-drop (row * size) words column 0
 
-no_cell : (words : List ℕ) (size column row : ℕ) → size ≤ column → get_or (take size (drop (row * size) words)) column 0 ≡ 0
+pub no_cell : (words : List ℕ) (size column row : ℕ) → size ≤ column → get_or (take size (drop (row * size) words)) column 0 ≡ 0
 no_cell words size column row l = get_or_past _ column 0 (omega (arith, length-take size (drop (row * size) words), l))
 
 pub line_at : (up : Bool) (f : Frame) (words : List ℕ) (line k : ℕ) → line < words_along (not up) f → k < words_along up f
@@ -57,207 +56,138 @@ line_other false f words new line k i j l m others h = cell_other words new (wor
 line_other true f words new line k i j l m others h = cell_other words new (words_for f.width) line k i j l others
     (elim h [ inl n ↦ inr n | inr n ↦ inl n ])
 
--- ---- bits of words
--- the bit c of the word k of a line
-pub bit_there : (up : Bool) (words : List ℕ) (size line k c : ℕ) → c < 32
-    → bit_at (line_word up words size line k) (31 - c)
-    ≡ bit_on up words size (32 * word_column up line k + c) (word_row up line k)
-    (number_on up (32 * word_column up line k + c) (word_row up line k))
-bit_there false words size line k c l = grind (arith, l)
-bit_there true words size line k c l = grind (arith, l)
-
--- and the one after it
-next_in : (xs : List ℕ) (k c : ℕ) → c < 32
-    → word_bit (get_or xs k 0 ∷ get_or xs (k + 1) 0 ∷ []) (c + 1) ≡ word_bit xs (suc (32 * k + c))
-next_in xs k c l = grind (arith, l, below_or_not c 31)
-
-pub next_there : (up : Bool) (words : List ℕ) (size line k c : ℕ) → c < 32
-    → bit_after up (line_word up words size line k) (line_word up words size line (k + 1)) c
-    ≡ bit_on up words size (32 * word_column up line k + c) (word_row up line k)
-    (suc (number_on up (32 * word_column up line k + c) (word_row up line k)))
-next_there false words size line k c l = next_in (take size (drop (line * size) words)) k c l
-next_there true words size line k c l = grind (arith, l)
-
--- ---- a pass
--- the word k of a line of notes, and of pixels
-abbrev pub note_of : Bool → Pass → ℕ → ℕ → ℕ
-note_of up p line k = line_word up p.noted (words_noted p.chooser.frame.width) line k
-
-abbrev pub word_of : Bool → Pass → ℕ → ℕ → ℕ
-word_of up p line k = line_word up p.old (size_of p) line k
-
--- the line of the pixel in column n and row r: its pixels, its segments, and whether the next pixels are chosen
-abbrev pub pixels_on : Bool → Pass → ℕ → ℕ → ℕ → ℕ
-pixels_on up p n r k = bit_on up p.old (size_of p) n r k
-
-abbrev pub notes_on : Bool → Pass → ℕ → ℕ → ℕ → ℕ
-notes_on up p n r k = bit_on up p.noted (words_noted p.chooser.frame.width) n r k
-
-abbrev pub chosen_on : Bool → Pass → ℕ → ℕ → ℕ → Type 0
-chosen_on up p n r k = next_on up (IsNext p.chooser up) p.chooser.frame n r k
-
--- the pixel closes the segment of its line that leads to it
-abbrev pub IsReachedIn : Bool → Pass → ℕ → ℕ → Type 0
-IsReachedIn up p n r = IsReached (pixels_on up p n r) (notes_on up p n r) (chosen_on up p n r) (number_on up n r)
-
 -- ---- a word of a line closed
--- the bits of a word before which there is another word
-abbrev IsFirst : Bool → ℕ → Type 0
-IsFirst false c = c ≡ 0
-IsFirst true c = ⊤
+-- the bit c of the word k on its line, and the one after it
+pub there : (up : Bool) (words : ℕ → ℕ) (k c : ℕ) → c < 32 → (bit_at (words k) (31 - c) ≡ bit_on up words c (number_on up k c))
+    × (bit_after up (words k) (words (k + 1)) c ≡ bit_on up words c (suc (number_on up k c)))
+there false words k c l = (grind (arith, l), grind (arith, l, below_or_not c 31))
+there true words k c l = let e : k + 1 ≡ suc k = omega arith in (refl, ap (λ (n : ℕ). bit_at (words n) (31 - c)) e)
+
+-- a pixel of a line closes the segment that leads to it
+abbrev IsReachedOn : Bool → Chooser → List ℕ → ℕ → (ℕ → ℕ) → ℕ → ℕ → Type 0
+IsReachedOn up ch noted line words c n =
+    IsReached (bit_on up words c) (bit_on up (notes_of up ch noted line) c) (IsNextOn up ch line c) n
 
 -- the gaps after the word before one that the next pixels close: of a row that after its last pixel
-abbrev pub IsBefore : Bool → Pass → ℕ → ℕ → ℕ → Type 0
-IsBefore up p line k before = (word c : ℕ) → c < 32 → IsFirst up c
-    → (bit_before up before word c ≡ 1) ↔ IsReachedIn up p (32 * word_column up line k + c) (word_row up line k)
-
--- what was found at a word of a line: its gaps, those that the next pixels close, and the word closed
-pub record IsWordClosed (up : Bool) (p : Pass) (line k before gaps nexts x : ℕ) : Type 0 where
-  pub gap : (c : ℕ) → c < 32 → (bit_at gaps (31 - c) ≡ 1)
-      ↔ IsOpen (bit_after up (note_of up p line k) (note_of up p line (k + 1)) c) (bit_at (word_of up p line k) (31 - c))
-      (bit_after up (word_of up p line k) (word_of up p line (k + 1)) c)
-  pub next : (c : ℕ) → c < 32 → (bit_at nexts (31 - c) ≡ 1) ↔ ((bit_at gaps (31 - c) ≡ 1) × IsNext p.chooser up
-      (p.chooser.frame.left +ℤ pos (32 * word_column up line k + c)) (p.chooser.frame.bottom +ℤ pos (word_row up line k)))
-  pub new : (c : ℕ) → c < 32 → (bit_at x (31 - c) ≡ 1) ↔ ((bit_at (word_of up p line k) (31 - c) ≡ 1)
-      ⊎ (((bit_at gaps (31 - c) ≡ 1) × ¬ (bit_at nexts (31 - c) ≡ 1)) ⊎ (bit_before up before nexts c ≡ 1)))
-
-gap_there : (up : Bool) (p : Pass) (line k before gaps nexts x c : ℕ) → IsWordClosed up p line k before gaps nexts x → c < 32
-    → let n = 32 * word_column up line k + c in let r = word_row up line k in (bit_at gaps (31 - c) ≡ 1)
-    ↔ IsOpenAt (pixels_on up p n r) (notes_on up p n r) (suc (number_on up n r))
-gap_there up p line k before gaps nexts x c is l = grind (arith, l, is.gap c l, next_there up, bit_there up)
-
-chosen_there : (up : Bool) (p : Pass) (line k before gaps nexts x c : ℕ) → IsWordClosed up p line k before gaps nexts x → c < 32
-    → let n = 32 * word_column up line k + c in let r = word_row up line k in (bit_at nexts (31 - c) ≡ 1)
-    ↔ ((bit_at gaps (31 - c) ≡ 1) × chosen_on up p n r (number_on up n r))
-chosen_there false p line k before gaps nexts x c is l = is.next c l
-chosen_there true p line k before gaps nexts x c is l = is.next c l
-
-reached_next : (up : Bool) (p : Pass) (line k before gaps nexts x c : ℕ) → IsWordClosed up p line k before gaps nexts x → c < 32
-    → let n = 32 * word_column up line k + c in let r = word_row up line k in (bit_at nexts (31 - c) ≡ 1)
-    ↔ IsReached (pixels_on up p n r) (notes_on up p n r) (chosen_on up p n r) (suc (number_on up n r))
-reached_next up p line k before gaps nexts x c is l =
-    grind (arith, gap_there up p line k before gaps nexts x c is l, chosen_there up p line k before gaps nexts x c is l)
-
--- the pixels of a word that close the segments before them
-reached_there : (up : Bool) (p : Pass) (line k before gaps nexts x c : ℕ) → IsWordClosed up p line k before gaps nexts x
-    → IsBefore up p line k before → c < 32
-    → (bit_before up before nexts c ≡ 1) ↔ IsReachedIn up p (32 * word_column up line k + c) (word_row up line k)
-reached_there true p line k before gaps nexts x c is h l = h nexts c l tt
-reached_there false p line k before gaps nexts x zero is h l = h nexts zero l refl
-reached_there false p line k before gaps nexts x (suc d) is h l =
-    let at : suc (32 * k + d) ≡ 32 * k + suc d = omega arith in
-    subst (λ (n : ℕ). (bit_at nexts (31 - d) ≡ 1) ↔ IsReached (pixels_on false p 0 line) (notes_on false p 0 line)
-    (chosen_on false p 0 line) n) at (reached_next false p line k before gaps nexts x d is (omega (arith, l)))
-
--- and what the next word needs
-before_there : (up : Bool) (p : Pass) (line k before gaps nexts x : ℕ) → IsWordClosed up p line k before gaps nexts x
-    → IsBefore up p line (k + 1) nexts
-before_there true p line k before gaps nexts x is word c l h =
-    let at : suc k ≡ k + 1 = omega arith in
-    subst (λ (n : ℕ). (bit_at nexts (31 - c) ≡ 1) ↔ IsReached (pixels_on true p (32 * line + c) 0)
-    (notes_on true p (32 * line + c) 0) (chosen_on true p (32 * line + c) 0) n) at
-    (reached_next true p line k before gaps nexts x c is l)
-before_there false p line k before gaps nexts x is word c l e =
-    let at : suc (32 * k + 31) ≡ 32 * (k + 1) + c = omega (arith, e) in
-    subst (λ (z : ℕ × ℕ). (bit_before false nexts word z.0 ≡ 1) ↔ IsReached (pixels_on false p 0 line) (notes_on false p 0 line)
-    (chosen_on false p 0 line) z.1) (λ t. (sym e t, at t))
-    (reached_next false p line k before gaps nexts x 31 is (omega arith))
-
-closed_by : (P Q : ℕ → ℕ) (Next : ℕ → Type 0) (n x here gap next left : ℕ) → here ≡ P n → (gap ≡ 1) ↔ IsOpenAt P Q (suc n)
-    → (next ≡ 1) ↔ ((gap ≡ 1) × Next n) → (left ≡ 1) ↔ IsReached P Q Next n
-    → (x ≡ 1) ↔ ((here ≡ 1) ⊎ (((gap ≡ 1) × ¬ (next ≡ 1)) ⊎ (left ≡ 1))) → IsClosedBit P Q Next n x
-closed_by P Q Next n x here gap next left own gapped chosen reached new = grind (arith, own, gapped, chosen, reached, new)
-
-new_there : (up : Bool) (p : Pass) (line k before gaps nexts x c : ℕ) → IsWordClosed up p line k before gaps nexts x
-    → IsBefore up p line k before → c < 32 → IsClosedAt up p line k c (bit_at x (31 - c))
-new_there up p line k before gaps nexts x c is h l =
-    let n = 32 * word_column up line k + c in
-    let r = word_row up line k in
-    closed_by (pixels_on up p n r) (notes_on up p n r) (chosen_on up p n r) (number_on up n r) (bit_at x (31 - c))
-    (bit_at (word_of up p line k) (31 - c)) (bit_at gaps (31 - c)) (bit_at nexts (31 - c)) (bit_before up before nexts c)
-    (bit_there up p.old (size_of p) line k c l) (gap_there up p line k before gaps nexts x c is l)
-    (chosen_there up p line k before gaps nexts x c is l) (reached_there up p line k before gaps nexts x c is h l) (is.new c l)
-
--- ---- the words of all lines
-pub done_none : (up : Bool) (p : Pass) → AreDone up p p.old 0 0
-done_none up p = record { long = refl; done = λ i j c h l b. absurd (omega (arith, h)); rest = λ i j h. refl }
-
--- and what is known at that word
-pub record IsAt (up : Bool) (p : Pass) (line k note here before : ℕ) : Type 0 where
-  pub note_is : note ≡ note_of up p line k
-  pub here_is : here ≡ word_of up p line k
-  pub reached : IsBefore up p line k before
+abbrev pub AreBefore : Bool → Chooser → List ℕ → ℕ → (ℕ → ℕ) → ℕ → ℕ → Type 0
+AreBefore false ch noted line words k before = (bit_at before 0 ≡ 1) ↔ IsReachedOn false ch noted line words 0 (32 * k + 0)
+AreBefore true ch noted line words k before =
+    (c : ℕ) → c < 32 → (bit_at before (31 - c) ≡ 1) ↔ IsReachedOn true ch noted line words c k
 
 -- what the first pixels of a line close
-pub at_first : (up : Bool) (p : Pass) (line note here before : ℕ) → note ≡ note_of up p line 0 → here ≡ word_of up p line 0
+pub before_first : (up : Bool) (ch : Chooser) (noted : List ℕ) (line : ℕ) (words : ℕ → ℕ) (note here before : ℕ)
+    → note ≡ notes_of up ch noted line 0 → here ≡ words 0
     → (up ≡ true → (c : ℕ) → c < 32 → (bit_at before (31 - c) ≡ 1) ↔ IsOpen (bit_at note (31 - c)) 0 (bit_at here (31 - c)))
-    → (up ≡ false → (bit_at before 0 ≡ 1) ↔ IsOpen (bit_at note 31) 0 (bit_at here 31)) → IsAt up p line 0 note here before
-at_first false p line note here before e f h k =
-    record { note_is = e; here_is = f; reached = λ word c l z. grind (arith, k, e, f, z) }
-at_first true p line note here before e f h k = record {
-  note_is = e;
-  here_is = f;
-  reached = λ word c l z. grind (arith, l, e, f, h refl c l, bit_there true);
-}
+    → (up ≡ false → (bit_at before 0 ≡ 1) ↔ IsOpen (bit_at note 31) 0 (bit_at here 31)) → AreBefore up ch noted line words 0 before
+before_first false ch noted line words note here before e f h k = subst (λ (z : ℕ × ℕ).
+    (bit_at before 0 ≡ 1) ↔ IsOpen (bit_at z.0 31) 0 (bit_at z.1 31)) (λ t. (e t, f t)) (k refl)
+before_first true ch noted line words note here before e f h k = λ c m. subst (λ (z : ℕ × ℕ).
+    (bit_at before (31 - c) ≡ 1) ↔ IsOpen (bit_at z.0 (31 - c)) 0 (bit_at z.1 (31 - c))) (λ t. (e t, f t)) (h refl c m)
 
--- a word more
-pub done_more : (up : Bool) (p : Pass) (words new : List ℕ) (line k before gaps nexts : ℕ)
-    → line < words_along (not up) p.chooser.frame → k < words_along up p.chooser.frame → length new ≡ length words
-    → ((w : ℕ) → w ≢ word_place up (size_of p) line k → get_or new w 0 ≡ get_or words w 0)
-    → IsWordClosed up p line k before gaps nexts (get_or new (word_place up (size_of p) line k) 0) → IsBefore up p line k before
-    → AreDone up p words line k → AreDone up p new line (k + 1)
-done_more up p words new line k before gaps nexts l m e others is reached so_far = record {
-  long = e ∙ so_far.long;
-  done = λ i j c h o b. by i j c h o b (below_or_not i line) (below_or_not j k);
-  rest = λ i j h. line_other up p.chooser.frame words new line k i j l m others
-      (elim h [ inl n ↦ inl (λ t. omega (arith, n, t)) | inr n ↦ inr (λ t. omega (arith, n.1, t)) ])
-      ∙ so_far.rest i j (elim h [ inl n ↦ inl n | inr n ↦ inr (n.0, omega (arith, n.1)) ]);
-}
-  where
-    kept : (i j c : ℕ) → IsEarlier line k i j → j < words_along up p.chooser.frame → c < 32 → line ≢ i ⊎ k ≢ j
-        → IsClosedAt up p i j c (bit_at (line_word up new (size_of p) i j) (31 - c))
-    kept i j c h o b n = subst (λ (v : ℕ). IsClosedAt up p i j c (bit_at v (31 - c)))
-        (sym (line_other up p.chooser.frame words new line k i j l m others n)) (so_far.done i j c h o b)
+-- the gaps after a word that the next pixels close
+abbrev ArePassed : Bool → Chooser → List ℕ → ℕ → (ℕ → ℕ) → ℕ → ℕ → Type 0
+ArePassed up ch noted line words k nexts =
+    (c : ℕ) → c < 32 → (bit_at nexts (31 - c) ≡ 1) ↔ IsReachedOn up ch noted line words c (suc (number_on up k c))
 
-    by : (i j c : ℕ) → IsEarlier line (k + 1) i j → j < words_along up p.chooser.frame → c < 32 → (i < line) ⊎ (line ≤ i)
-        → (j < k) ⊎ (k ≤ j) → IsClosedAt up p i j c (bit_at (line_word up new (size_of p) i j) (31 - c))
-    by i j c h o b (inl q) s = kept i j c (inl q) o b (inl (λ t. omega (arith, q, t)))
-    by i j c (inl h) o b (inr q) s = absurd (omega (arith, h, q))
-    by i j c (inr h) o b (inr q) (inl s) = kept i j c (inr (h.0, s)) o b (inr (λ t. omega (arith, s, t)))
-    by i j c (inr h) o b (inr q) (inr s) =
-        let same : k ≡ j = omega (arith, h.1, s) in
-        subst (λ (z : ℕ × ℕ). IsClosedAt up p z.0 z.1 c (bit_at (line_word up new (size_of p) z.0 z.1) (31 - c)))
-        (λ t. (sym h.0 t, same t))
-        (subst (λ (v : ℕ). IsClosedAt up p line k c (bit_at v (31 - c))) (sym (line_at up p.chooser.frame new line k l m))
-        (new_there up p line k before gaps nexts _ c is reached b))
+reached_word : (up : Bool) (ch : Chooser) (noted : List ℕ) (line : ℕ) (words : ℕ → ℕ) (k before nexts : ℕ)
+    → ArePassed up ch noted line words k nexts → AreBefore up ch noted line words k before → (c : ℕ) → c < 32
+    → (bit_before up before nexts c ≡ 1) ↔ IsReachedOn up ch noted line words c (number_on up k c)
+reached_word true ch noted line words k before nexts passed b c h = b c h
+reached_word false ch noted line words k before nexts passed b zero h = b
+reached_word false ch noted line words k before nexts passed b (suc d) h =
+    let e : suc (32 * k + d) ≡ 32 * k + suc d = omega arith in
+    subst (λ (n : ℕ). (bit_at nexts (31 - d) ≡ 1) ↔ IsReachedOn false ch noted line words 0 n) e (passed d (omega (arith, h)))
 
-pub at_more : (up : Bool) (p : Pass) (words : List ℕ) (line k before gaps nexts x note next : ℕ) → AreDone up p words line k
-    → IsWordClosed up p line k before gaps nexts x → note ≡ note_of up p line (k + 1)
-    → next ≡ line_word up words (size_of p) line (k + 1) → IsAt up p line (k + 1) note next nexts
-at_more up p words line k before gaps nexts x note next so_far is e f = record {
-  note_is = e;
-  here_is = f ∙ so_far.rest line (k + 1) (inr (refl, omega arith));
-  reached = before_there up p line k before gaps nexts x is;
-}
+before_next : (up : Bool) (ch : Chooser) (noted : List ℕ) (line : ℕ) (words : ℕ → ℕ) (k nexts : ℕ)
+    → ArePassed up ch noted line words k nexts → AreBefore up ch noted line words (k + 1) nexts
+before_next false ch noted line words k nexts passed =
+    let e : suc (32 * k + 31) ≡ 32 * (k + 1) + 0 = omega arith in
+    subst (λ (n : ℕ). (bit_at nexts 0 ≡ 1) ↔ IsReachedOn false ch noted line words 0 n) e (passed 31 (omega arith))
+before_next true ch noted line words k nexts passed =
+    let e : suc k ≡ k + 1 = omega arith in subst (λ (n : ℕ). AreBefore true ch noted line words n nexts) e passed
+
+-- what was found at a word of a line: its gaps, those that the next pixels close, and the word closed
+pub record IsWordClosed (up : Bool) (ch : Chooser) (noted : List ℕ) (line : ℕ) (words : ℕ → ℕ) (k before gaps nexts x : ℕ)
+    : Type 0 where
+  pub gap : (c : ℕ) → c < 32 → (bit_at gaps (31 - c) ≡ 1)
+      ↔ IsOpen (bit_after up (notes_of up ch noted line k) (notes_of up ch noted line (k + 1)) c) (bit_at (words k) (31 - c))
+      (bit_after up (words k) (words (k + 1)) c)
+  pub next : (c : ℕ) → c < 32
+      → (bit_at nexts (31 - c) ≡ 1) ↔ ((bit_at gaps (31 - c) ≡ 1) × IsNextOn up ch line c (number_on up k c))
+  pub new : (c : ℕ) → c < 32 → (bit_at x (31 - c) ≡ 1) ↔ ((bit_at (words k) (31 - c) ≡ 1)
+      ⊎ (((bit_at gaps (31 - c) ≡ 1) × ¬ (bit_at nexts (31 - c) ≡ 1)) ⊎ (bit_before up before nexts c ≡ 1)))
+
+-- the neighbours that close gaps, by the column and the row of a word
+pub next_there : (up : Bool) (ch : Chooser) (line k c column row : ℕ) (P Q : Type 0) → column ≡ word_column up line k
+    → row ≡ word_row up line k
+    → P ↔ (Q × IsNext ch up (ch.frame.left +ℤ pos (32 * column + c)) (ch.frame.bottom +ℤ pos row))
+    → P ↔ (Q × IsNextOn up ch line c (number_on up k c))
+next_there false ch line k c column row P Q e f h = subst (λ (z : ℕ × ℕ).
+    P ↔ (Q × IsNext ch false (ch.frame.left +ℤ pos (32 * z.0 + c)) (ch.frame.bottom +ℤ pos z.1))) (λ t. (e t, f t)) h
+next_there true ch line k c column row P Q e f h = subst (λ (z : ℕ × ℕ).
+    P ↔ (Q × IsNext ch true (ch.frame.left +ℤ pos (32 * z.0 + c)) (ch.frame.bottom +ℤ pos z.1))) (λ t. (e t, f t)) h
+
+closed_as : (pixel here gap next left new : ℕ) (Open Next Reached : Type 0) → here ≡ pixel → (gap ≡ 1) ↔ Open
+    → (next ≡ 1) ↔ ((gap ≡ 1) × Next) → (left ≡ 1) ↔ Reached
+    → (new ≡ 1) ↔ ((here ≡ 1) ⊎ (((gap ≡ 1) × ¬ (next ≡ 1)) ⊎ (left ≡ 1)))
+    → (new ≡ 1) ↔ ((pixel ≡ 1) ⊎ ((Open × ¬ Next) ⊎ Reached))
+closed_as pixel here gap next left new Open Next Reached e o n r h = grind (arith, e, o, n, r, h)
+
+module _ (up : Bool) (ch : Chooser) (noted : List ℕ) (line : ℕ) (words : ℕ → ℕ) (k before gaps nexts x : ℕ)
+    (is : IsWordClosed up ch noted line words k before gaps nexts x) where
+  opens : (c : ℕ) → c < 32 → (bit_at gaps (31 - c) ≡ 1)
+      ↔ IsOpenAt (bit_on up words c) (bit_on up (notes_of up ch noted line) c) (suc (number_on up k c))
+  opens c h = subst (λ (z : ℕ × ℕ × ℕ). (bit_at gaps (31 - c) ≡ 1) ↔ IsOpen z.0 z.1 z.2) (λ t.
+      ((there up (notes_of up ch noted line) k c h).1 t, (there up words k c h).0 t, (there up words k c h).1 t)) (is.gap c h)
+
+  passed : ArePassed up ch noted line words k nexts
+  passed c h = let o = opens c h in let n = is.next c h in
+      (λ t. (o.0 (n.0 t).0, (n.0 t).1), λ r. n.1 (o.1 r.0, r.1))
+
+  -- what the next word needs
+  pub more_before : AreBefore up ch noted line words (k + 1) nexts
+  more_before = before_next up ch noted line words k nexts passed
+
+  word_closed : AreBefore up ch noted line words k before → (c : ℕ) → c < 32
+      → IsClosedOn up ch noted line words c (number_on up k c) (bit_at x (31 - c))
+  word_closed b c h = closed_as _ _ _ _ _ _ _ (IsNextOn up ch line c (number_on up k c)) _ (there up words k c h).0 (opens c h)
+      (is.next c h) (reached_word up ch noted line words k before nexts passed b c h) (is.new c h)
+
+  -- a word more
+  pub more_closed : (old new : ℕ → ℕ) → AreBefore up ch noted line words k before → ((j : ℕ) → j < k → new j ≡ old j) → new k ≡ x
+      → AreWordsClosed up ch noted line words old k → AreWordsClosed up ch noted line words new (k + 1)
+  more_closed old new b kept is_new so_far j c h m = by (below_or_not j k)
+    where
+      by : (j < k) ⊎ (k ≤ j) → IsClosedOn up ch noted line words c (number_on up j c) (bit_at (new j) (31 - c))
+      by (inl q) = subst (λ (v : ℕ). IsClosedOn up ch noted line words c (number_on up j c) (bit_at v (31 - c)))
+          (sym (kept j q)) (so_far j c q m)
+      by (inr q) =
+          let same : k ≡ j = omega (arith, h, q) in
+          subst (λ (i : ℕ). IsClosedOn up ch noted line words c (number_on up i c) (bit_at (new i) (31 - c))) same
+          (subst (λ (v : ℕ). IsClosedOn up ch noted line words c (number_on up k c) (bit_at v (31 - c))) (sym is_new)
+          (word_closed b c m))
+
+-- ---- lines
+-- the lines before one are closed, and the others are as they were
+pub record AreDone (up : Bool) (ch : Chooser) (noted old new : List ℕ) (line : ℕ) : Type 0 where
+  pub closed : (i : ℕ) → i < line → IsLineClosed up ch noted old new i
+  pub kept : (i : ℕ) → line ≤ i → IsLineKept up ch old new i
 
 -- a line more
-pub done_line : (up : Bool) (p : Pass) (words : List ℕ) (line k : ℕ) → k ≡ words_along up p.chooser.frame
-    → AreDone up p words line k → AreDone up p words (line + 1) 0
-done_line up p words line k e so_far = record {
-  long = so_far.long;
-  done = λ i j c h o b.
-      let early : IsEarlier line k i j = grind (arith, h, o, e, below_or_not i line) in so_far.done i j c early o b;
-  rest = λ i j h. so_far.rest i j (inl (omega (arith, h)));
+pub line_more : (up : Bool) (ch : Chooser) (noted old words new : List ℕ) (line : ℕ) → IsLineClosed up ch noted words new line
+    → ((i : ℕ) → i ≢ line → IsLineKept up ch words new i) → AreDone up ch noted old words line
+    → AreDone up ch noted old new (line + 1)
+line_more up ch noted old words new line own others so_far = record {
+  closed = λ i h. by i h (below_or_not i line);
+  kept = λ i h k. others i (λ e. omega (arith, h, e)) k ∙ so_far.kept i (omega (arith, h)) k;
 }
-
--- all lines
-pub done_all : (up : Bool) (p : Pass) (words : List ℕ) (line : ℕ) → line ≡ words_along (not up) p.chooser.frame
-    → AreDone up p words line 0 → AreClosedLines up (IsNext p.chooser up) p.chooser.frame p.noted p.old words
-done_all false p words line e all r n h l =
-    let at : 32 * (n / 32) + n % 32 ≡ n = omega arith in
-    subst (λ (k : ℕ). IsClosedIn false (IsNext p.chooser false) p.chooser.frame p.noted p.old k r (grid_bit words (size_of p) n r))
-    at (all.done r (n / 32) (n % 32) (inl (omega (arith, e, h))) (omega (arith, l)) (omega arith))
-done_all true p words line e all r n h l =
-    let at : 32 * (n / 32) + n % 32 ≡ n = omega arith in
-    subst (λ (k : ℕ). IsClosedIn true (IsNext p.chooser true) p.chooser.frame p.noted p.old k r (grid_bit words (size_of p) n r))
-    at (all.done (n / 32) r (n % 32) (inl (omega (arith, e, l))) h (omega arith))
+  where
+    by : (i : ℕ) → i < line + 1 → (i < line) ⊎ (line ≤ i) → IsLineClosed up ch noted old new i
+    by i h (inl q) = λ k c m n.
+        subst (λ (v : ℕ). IsClosedOn up ch noted i (words_of up ch old i) c (number_on up k c) (bit_at v (31 - c)))
+        (sym (others i (λ e. omega (arith, q, e)) k)) (so_far.closed i q k c m n)
+    by i h (inr q) =
+        let same : line ≡ i = omega (arith, h, q) in
+        subst (λ (j : ℕ). IsLineClosed up ch noted old new j) same (subst (λ (words : ℕ → ℕ).
+        AreWordsClosed up ch noted line words (words_of up ch new line) (words_along up ch.frame))
+        (λ t k. so_far.kept line (omega arith) k t) own)

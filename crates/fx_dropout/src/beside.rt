@@ -4,18 +4,10 @@ ghost use Rattle.std.specs.Prelude.{◌≡◌, ◌^◌, ◌<ℤ◌, IsTrue};
 ghost use Rattle.fx_fixed.specs.Ranges.{IsWithin};
 ghost use Rattle.fx_winding.specs.Outside.{HasAll};
 ghost use Rattle.fx_winding.specs.Winding.{place_of, span_of};
-ghost use Rattle.fx_dropout.specs.inner.Places.{along_of, coordinate_of};
+ghost use Rattle.fx_dropout.specs.inner.Places.{coordinate_of};
 
 use fx_fixed::Axis;
 use fx_winding::{Piece, Point};
-
-/// The axis along which a row goes, or with `is_turned` a column.
-#[inline(always)]
-pub(crate) fn along(is_turned: bool) -> Axis
-    ensures { result ≡ along_of is_turned }
-{
-    if is_turned { Axis::Y } else { Axis::X }
-}
 
 /// A point's coordinate along an axis.
 #[inline(always)]
@@ -34,16 +26,12 @@ fn coordinate(p: Point, axis: Axis) -> i32
 pub(crate) fn is_after(piece: &Piece, axis: Axis, limit: i32) -> bool
     ensures { IsTrue result → HasAll (λ e. limit <ℤ coordinate_of axis e) (span_of piece.now) }
 {
-    if coordinate(piece.a, axis) <= limit {
-        return false;
-    }
-    if coordinate(piece.c, axis) <= limit {
-        return false;
-    }
-    match piece.b {
-        None => true,
-        Some(b) => coordinate(b, axis) > limit,
-    }
+    coordinate(piece.a, axis) > limit
+        && coordinate(piece.c, axis) > limit
+        && match piece.b {
+            None => true,
+            Some(b) => coordinate(b, axis) > limit,
+        }
 }
 
 /// Whether all lie before it: left of it, or below it.
@@ -51,14 +39,10 @@ pub(crate) fn is_after(piece: &Piece, axis: Axis, limit: i32) -> bool
 pub(crate) fn is_before(piece: &Piece, axis: Axis, limit: i32) -> bool
     ensures { IsTrue result → HasAll (λ e. coordinate_of axis e <ℤ limit) (span_of piece.now) }
 {
-    if coordinate(piece.a, axis) >= limit {
-        return false;
-    }
-    if coordinate(piece.c, axis) >= limit {
-        return false;
-    }
-    match piece.b {
-        None => true,
-        Some(b) => coordinate(b, axis) < limit,
-    }
+    coordinate(piece.a, axis) < limit
+        && coordinate(piece.c, axis) < limit
+        && match piece.b {
+            None => true,
+            Some(b) => coordinate(b, axis) < limit,
+        }
 }

@@ -1,9 +1,9 @@
 //! Which of the two pixels at the ends of a gap closes it.
 
-ghost use Rattle.std.specs.Prelude.{◌≡◌, ◌↔◌, ℕ, ◌+◌, ◌-◌, ◌*◌, ◌≤◌, ◌<◌, length, IsTrue};
+ghost use Rattle.std.specs.Prelude.{◌≡◌, ◌↔◌, ◌+◌, ◌-◌, ◌*◌, ◌≤◌, ◌<◌, length, IsTrue};
 ghost use Rattle.std.specs.Int.{bit_at};
 ghost use Rattle.fx_winding.specs.Bitmaps.{words_for as words_for_of};
-ghost use Rattle.fx_dropout.specs.inner.Closing.{word_tests, IsNextAt};
+ghost use Rattle.fx_dropout.specs.inner.Closing.{word_tests, AreNexts, IsNextAt};
 ghost use Rattle.fx_dropout.specs.declared.chooser.Closing.TheVariants.{Nearer};
 
 use crate::nearer::is_next_nearer;
@@ -71,8 +71,7 @@ impl<'a> Chooser<'a> {
         requires nearer { self.now.closing ≡ Nearer }
         requires column { word.column < words_for_of self.now.frame.width }
         requires row { word.row < self.now.frame.height }
-        ensures bits { (c : ℕ) → c < 32 →
-            (bit_at result (31 - c) ≡ 1) ↔ ((bit_at word.gaps (31 - c) ≡ 1) × IsNextAt self.now word c) }
+        ensures bits { AreNexts self.now word result }
         ensures count { tally.new.count ≤ tally.old.count + 32 * (10 * length self.now.pieces.now) }
     {
         let mut found = [0u32];
@@ -88,8 +87,7 @@ impl<'a> Chooser<'a> {
     pub(crate) fn nexts(&self, word: GapWord, tally: &mut Tally) -> u32
         requires column { word.column < words_for_of self.now.frame.width }
         requires row { word.row < self.now.frame.height }
-        ensures bits { (c : ℕ) → c < 32 →
-            (bit_at result (31 - c) ≡ 1) ↔ ((bit_at word.gaps (31 - c) ≡ 1) × IsNextAt self.now word c) }
+        ensures bits { AreNexts self.now word result }
         ensures count { tally.new.count ≤ tally.old.count + word_tests self.now }
     {
         if word.gaps == 0 {

@@ -4,12 +4,12 @@
 //! that is chosen; the first segment of a line is closed by the first pixel. All that is looked at are bits from before, so that
 //! the order does not matter. A column is a row whose words are above one another.
 
-ghost use Rattle.std.specs.Prelude.{◌≡◌, ◌≢◌, ◌⊎◌, ◌↔◌, ℕ, ◌+◌, ◌-◌, ◌*◌, ◌^◌, ◌≤◌, ◌<◌, pos, ◌+ℤ◌, List, length, slice_index_or, true, false, not};
+ghost use Rattle.std.specs.Prelude.{◌≡◌, ◌≢◌, ◌⊎◌, ◌↔◌, ℕ, ◌+◌, ◌-◌, ◌*◌, ◌^◌, ◌≤◌, ◌<◌, length, slice_index_or, true, false, not};
 ghost use Rattle.std.specs.Int.{bit_at};
 ghost use Rattle.fx_winding.specs.Bitmaps.{words_for as words_for_of, AreWords};
 ghost use Rattle.fx_winding.specs.Notes.{words_noted as words_noted_of};
-ghost use Rattle.fx_dropout.specs.inner.Closing.{bit_after, bit_before, line_word, pass, word_column, word_place, word_row, word_tests, words_along};
-ghost use Rattle.fx_dropout.specs.inner.Closing.{AreClosedLines, AreClosedWords, AreDone, IsNext, IsNextAt, IsOpen};
+ghost use Rattle.fx_dropout.specs.inner.Closing.{bit_after, bit_before, line_word, word_column, word_place, word_row, word_tests, words_along};
+ghost use Rattle.fx_dropout.specs.inner.Closing.{AreClosedWords, AreLinesClosed, AreNexts, IsLineClosed, IsLineKept, IsOpen};
 
 use crate::chooser::{Chooser, GapWord};
 use crate::look::may_be_open;
@@ -166,8 +166,7 @@ fn close_word(
     requires index { at < length words.old }
     ensures length { length words.new ≡ length words.old }
     ensures others { (w : ℕ) → w ≢ at → slice_index_or words.new w 0 ≡ slice_index_or words.old w 0 }
-    ensures nexts { (c : ℕ) → c < 32 →
-        (bit_at result (31 - c) ≡ 1) ↔ ((bit_at word.gaps (31 - c) ≡ 1) × IsNextAt chooser.now word c) }
+    ensures nexts { AreNexts chooser.now word result }
     ensures bits { (c : ℕ) → c < 32 → (bit_at (slice_index_or words.new at 0) (31 - c) ≡ 1) ↔
         ((bit_at (slice_index_or words.old at 0) (31 - c) ≡ 1)
         ⊎ (((bit_at word.gaps (31 - c) ≡ 1) × ¬ (bit_at result (31 - c) ≡ 1)) ⊎ (bit_before word.is_up before result c ≡ 1))) }
@@ -186,8 +185,7 @@ fn close_word(
     nexts
 }
 
-/// Closes the gaps of a line of words: the row `number` or, with `is_up`, 32 columns. If those of the lines before it are closed,
-/// they stay so, and the lines after it stay as they are.
+/// Closes the gaps of a line of words, and of no other: the row `number` or, with `is_up`, 32 columns.
 #[tactic(auto, using(fx_winding::proofs::Grid::row_fits, crate::proofs::Tests::all_of))]
 #[inline(always)]
 fn close_line(
@@ -202,8 +200,8 @@ fn close_line(
     requires noted { chooser.now.frame.height * words_noted_of chooser.now.frame.width ≤ length noted.now }
     requires words { length words.old ≡ chooser.now.frame.height * words_for_of chooser.now.frame.width }
     ensures length { length words.new ≡ length words.old }
-    ensures done { (start : List ℕ) → AreDone is_up (pass chooser.now noted.now start) words.old number 0 →
-        AreDone is_up (pass chooser.now noted.now start) words.new (number + 1) 0 }
+    ensures closed { IsLineClosed is_up chooser.now noted.now words.old words.new number }
+    ensures others { (i : ℕ) → i ≢ number → IsLineKept is_up chooser.now words.old words.new i }
     ensures count { tally.new.count ≤ tally.old.count + words_along is_up chooser.now.frame * word_tests chooser.now }
 {
     let frame = chooser.frame;
@@ -252,7 +250,7 @@ fn close_lines(
     requires noted { chooser.now.frame.height * words_noted_of chooser.now.frame.width ≤ length noted.now }
     requires words { length words.old ≡ chooser.now.frame.height * words_for_of chooser.now.frame.width }
     ensures length { length words.new ≡ length words.old }
-    ensures bits { AreClosedLines is_up (IsNext chooser.now is_up) chooser.now.frame noted.now words.old words.new }
+    ensures closed { AreLinesClosed is_up chooser.now noted.now words.old words.new }
     ensures count { tally.new.count ≤ tally.old.count +
         words_along (not is_up) chooser.now.frame * (words_along is_up chooser.now.frame * word_tests chooser.now) }
 {
@@ -276,15 +274,12 @@ pub(crate) fn close_words(
     requires up { length up.now ≡ (chooser.now.frame.height + 1) * words_noted_of chooser.now.frame.width }
     requires pixels { AreWords chooser.now.frame.height chooser.now.frame.width words.old }
     ensures length { length words.new ≡ length words.old }
-    ensures closed { AreClosedWords (IsNext chooser.now) chooser.now.frame across.now up.now words.old words.new }
+    ensures closed { AreClosedWords chooser.now across.now up.now words.old words.new }
     ensures count { tally.new.count ≤ tally.old.count + 2 *
         (chooser.now.frame.height * (words_for_of chooser.now.frame.width * word_tests chooser.now)) }
 {
     let frame = chooser.frame;
-    if frame.width == 0 || frame.height == 0 {
-        return;
-    }
-    if !may_be_open(frame, across, up, words) {
+    if frame.width == 0 || frame.height == 0 || !may_be_open(frame, across, up, words) {
         return;
     }
     close_lines(chooser, false, across, words, tally);

@@ -1,35 +1,29 @@
 //! Which of two neighbours is nearer to the stroke that passes between their centres.
 
-ghost use Rattle.std.specs.Prelude.{All, ◌≡◌, ◌↔◌, ℕ, ◌+◌, ◌*◌, ◌^◌, ◌≤◌, ◌<◌, ◌-ℤ◌, pos, false, IsTrue, length, map};
+ghost use Rattle.std.specs.Prelude.{◌≡◌, ◌↔◌, ℕ, ◌+◌, ◌*◌, ◌^◌, ◌≤◌, ◌<◌, ◌-ℤ◌, IsTrue, length, map};
 ghost use Rattle.fx_fixed.specs.Ranges.{IsWithin};
-ghost use Rattle.fx_winding.specs.Limits.{most_pieces};
 ghost use Rattle.fx_winding.specs.Near.{IsNear};
 ghost use Rattle.fx_winding.specs.Winding.{place_of, span_of, IsCovered};
 ghost use Rattle.fx_dropout.specs.Dropout.{IsNextNearer};
 ghost use Rattle.fx_dropout.specs.inner.Pairs.{seen_span, seen_spans};
-ghost use Rattle.fx_dropout.specs.inner.Places.{above, count_at, mark_at, AreCountsWithin, IsCoveredIn, place_in, IsMissed, IsPieceAdded};
+ghost use Rattle.fx_dropout.specs.inner.Places.{above, AreCountsWithin, IsCoveredIn, place_in, IsMissed, IsPieceAdded};
 
-use crate::beside::{along, is_after, is_before};
+use crate::beside::{is_after, is_before};
 use crate::pair::Pair;
-use crate::places::{PLACES, Places};
+use crate::places::Places;
 use crate::stretched::stretched;
-use fx_rows::interval;
+use fx_fixed::Axis;
+use fx_rows::{Run, interval};
 use fx_winding::{Frame, Piece, Pieces, Point, Tally, centre_of};
 
-/// Whether a piece, with its coordinates exchanged or not, adds nothing at all places from one on: it lies above, below or left of
-/// them.
+/// Whether a piece adds nothing at all places from one on: it lies above, below or left of them.
 #[inline(always)]
-fn is_missed(piece: &Piece, is_turned: bool, first: Point) -> bool
-    ensures { IsTrue result → IsMissed (place_of first) (seen_span is_turned (span_of piece.now)) }
+fn is_missed(piece: &Piece, first: Point) -> bool
+    ensures { IsTrue result → IsMissed (place_of first) (span_of piece.now) }
 {
-    let across = along(!is_turned);
-    if is_after(piece, across, first.y) {
-        return true;
-    }
-    if is_before(piece, across, first.y) {
-        return true;
-    }
-    is_before(piece, along(is_turned), first.x)
+    is_after(piece, Axis::Y, first.y)
+        || is_before(piece, Axis::Y, first.y)
+        || is_before(piece, Axis::X, first.x)
 }
 
 /// What a piece right of a place at the height y adds there: 1 or -1 if the height is between those of its ends.
@@ -48,6 +42,7 @@ fn turn_right(piece: &Piece, y: i32) -> i32
 }
 
 /// A piece, with its coordinates exchanged or not.
+#[inline(always)]
 fn seen(piece: &Piece, is_turned: bool) -> Piece
     requires { IsNear piece.now }
     ensures near { IsNear result }
@@ -58,13 +53,13 @@ fn seen(piece: &Piece, is_turned: bool) -> Piece
 
 /// Adds what a piece adds at each place: that is what it adds to the row, stretched.
 #[inline(never)]
-fn add_stretched(piece: &Piece, pair: Pair, places: &mut Places, tally: &mut Tally)
-    requires near { IsNear piece.now }
+fn add_stretched(piece: Piece, pair: Pair, places: &mut Places, tally: &mut Tally)
+    requires near { IsNear piece }
     requires small { AreCountsWithin (2 ^ 19) places.old }
-    ensures added { IsPieceAdded pair (span_of piece.now) places.old places.new }
+    ensures added { IsPieceAdded pair (span_of piece) places.old places.new }
     ensures count { tally.new.count ≤ tally.old.count + 10 }
 {
-    let wide = stretched(piece, pair.col);
+    let wide = stretched(&piece, pair.col);
     let row = Frame {
         left: 0,
         bottom: pair.row,
@@ -74,45 +69,31 @@ fn add_stretched(piece: &Piece, pair: Pair, places: &mut Places, tally: &mut Tal
     places.add_part(interval(&wide, pair.row, row, tally));
 }
 
-/// Adds what a piece, with its coordinates exchanged or not, adds at each place. Most pieces lie beside all places: one right of
-/// them adds the same at each, and any other adds nothing.
+/// Adds what a piece adds at each place. Most pieces lie beside all places: one right of them adds the same at each, and any other
+/// adds nothing.
 #[inline(always)]
-fn add_piece(piece: &Piece, is_turned: bool, pair: Pair, places: &mut Places, tally: &mut Tally)
+fn add_piece(piece: &Piece, pair: Pair, places: &mut Places, tally: &mut Tally)
     requires near { IsNear piece.now }
     requires small { AreCountsWithin (2 ^ 19) places.old }
-    ensures added { IsPieceAdded pair (seen_span is_turned (span_of piece.now)) places.old places.new }
+    ensures added { IsPieceAdded pair (span_of piece.now) places.old places.new }
     ensures count { tally.new.count ≤ tally.old.count + 10 }
 {
     let first = centre_of(pair.col, pair.row);
-    if is_missed(piece, is_turned, first) {
+    if is_missed(piece, first) {
         return;
     }
-    if is_after(piece, along(is_turned), first.x + 127) {
-        places.add(0, PLACES, turn_right(&seen(piece, is_turned), first.y));
+    if is_after(piece, Axis::X, first.x + 127) {
+        places.add_run(Some(Run {
+            first: 0,
+            last: 127,
+            value: turn_right(piece, first.y),
+        }));
         return;
     }
-    add_stretched(&seen(piece, is_turned), pair, places, tally);
+    add_stretched(*piece, pair, places, tally);
 }
 
-/// Adds what the pieces add at each place, with their coordinates exchanged or not.
-#[inline(always)]
-fn add_pieces(pieces: &[Piece], is_turned: bool, pair: Pair, places: &mut Places, tally: &mut Tally)
-    requires few { length pieces.now ≤ most_pieces }
-    requires near { All IsNear pieces.now }
-    requires counts { (n : ℕ) → n < 128 → count_at places.old n ≡ pos 0 }
-    requires marks { (n : ℕ) → n < 128 → mark_at places.old n ≡ false }
-    ensures small { AreCountsWithin (2 ^ 20) places.new }
-    ensures covered { (n : ℕ) → n < 128 →
-        IsCoveredIn places.new n ↔ IsCovered (place_in pair n) (seen_spans is_turned (map span_of pieces.now)) }
-    ensures count { tally.new.count ≤ tally.old.count + 10 * length pieces.now }
-{
-    // What the pieces before this one add is added.
-    'pieces: for piece in pieces {
-        add_piece(piece, is_turned, pair, places, tally);
-    }
-}
-
-/// The places of a pair with what the pieces add. One loop for each way to see a piece, which need not be asked for each.
+/// The places of a pair with what the pieces add, with their coordinates exchanged or not.
 #[inline(always)]
 fn places_of(pieces: &Pieces, is_turned: bool, pair: Pair, tally: &mut Tally) -> Places
     ensures small { AreCountsWithin (2 ^ 20) result }
@@ -121,16 +102,25 @@ fn places_of(pieces: &Pieces, is_turned: bool, pair: Pair, tally: &mut Tally) ->
     ensures count { tally.new.count ≤ tally.old.count + 10 * length pieces.now }
 {
     let mut places = Places::new();
-    if is_turned {
-        add_pieces(pieces.as_slice(), true, pair, &mut places, tally);
-        return places;
+    // What the pieces before this one add is added.
+    'pieces: for piece in pieces.as_slice() {
+        add_piece(&seen(piece, is_turned), pair, &mut places, tally);
     }
-    add_pieces(pieces.as_slice(), false, pair, &mut places, tally);
     places
 }
 
 /// Whether the stroke between the centres of a pixel and its right neighbour is nearer to the neighbour, in an outline with its
 /// coordinates exchanged or not.
+#[inline(always)]
+fn is_seen_nearer(pieces: &Pieces, is_turned: bool, pair: Pair, tally: &mut Tally) -> bool
+    ensures value { IsTrue result ↔ IsNextNearer (seen_spans is_turned (map span_of pieces.now)) pair.col pair.row }
+    ensures count { tally.new.count ≤ tally.old.count + 10 * length pieces.now }
+{
+    let places = places_of(pieces, is_turned, pair, tally);
+    places.count_covered(1) < places.count_covered(65)
+}
+
+/// The same, with one loop for each way to see a piece, which need not be asked for each.
 pub(crate) fn is_next_nearer(
     pieces: &Pieces,
     is_turned: bool,
@@ -140,6 +130,8 @@ pub(crate) fn is_next_nearer(
     ensures value { IsTrue result ↔ IsNextNearer (seen_spans is_turned (map span_of pieces.now)) pair.col pair.row }
     ensures count { tally.new.count ≤ tally.old.count + 10 * length pieces.now }
 {
-    let places = places_of(pieces, is_turned, pair, tally);
-    places.count_covered(1) < places.count_covered(65)
+    if is_turned {
+        return is_seen_nearer(pieces, true, pair, tally);
+    }
+    is_seen_nearer(pieces, false, pair, tally)
 }

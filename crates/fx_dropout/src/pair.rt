@@ -1,10 +1,9 @@
 //! Pixels with their right neighbours, between whose centres a piece may pass.
 
-ghost use Rattle.std.specs.Prelude.{◌≡◌, ◌*◌, ◌^◌, ◌<◌, pos, ◌+ℤ◌, None, IfSome};
+ghost use Rattle.std.specs.Prelude.{◌*◌, ◌^◌, ◌<◌, pos, ◌+ℤ◌, false, option_map};
 ghost use Rattle.fx_winding.specs.Bitmaps.{words_for as words_for_of};
-ghost use Rattle.fx_winding.specs.Frames.{IsInFrame};
 ghost use Rattle.fx_winding.specs.Limits.{IsPixelNumber};
-ghost use Rattle.fx_dropout.specs.inner.Pairs.{next_col, next_row, seen_col, seen_row};
+ghost use Rattle.fx_dropout.specs.inner.Pairs.{IsPairIn};
 
 use fx_winding::Frame;
 
@@ -24,12 +23,8 @@ impl Pair {
     pub(crate) fn in_frame(frame: Frame, is_up: bool, column: usize, row: usize) -> Option<Pair>
         requires column { column < 32 * words_for_of frame.width }
         requires row { row < frame.height }
-        ensures col { IfSome result (λ p. p.col ≡ seen_col is_up (frame.left +ℤ pos column) (frame.bottom +ℤ pos row)) }
-        ensures row { IfSome result (λ p. p.row ≡ seen_row is_up (frame.left +ℤ pos column) (frame.bottom +ℤ pos row)) }
-        ensures some { IfSome result (λ _.
-            IsInFrame frame (next_col is_up (frame.left +ℤ pos column)) (next_row is_up (frame.bottom +ℤ pos row))) }
-        ensures none { result ≡ None →
-            ¬ (IsInFrame frame (next_col is_up (frame.left +ℤ pos column)) (next_row is_up (frame.bottom +ℤ pos row))) }
+        ensures { IsPairIn frame is_up (frame.left +ℤ pos column) (frame.bottom +ℤ pos row)
+            (option_map (λ p. (p.col, p.row)) result) }
     {
         if is_up {
             return Pair::across(frame.turned(), row, column);
@@ -41,15 +36,10 @@ impl Pair {
     fn across(frame: Frame, column: usize, row: usize) -> Option<Pair>
         requires column { column < 2 ^ 16 }
         requires row { row < 2 ^ 16 }
-        ensures col { IfSome result (λ p. p.col ≡ frame.left +ℤ pos column) }
-        ensures row { IfSome result (λ p. p.row ≡ frame.bottom +ℤ pos row) }
-        ensures some { IfSome result (λ _. IsInFrame frame ((frame.left +ℤ pos column) +ℤ pos 1) (frame.bottom +ℤ pos row)) }
-        ensures none { result ≡ None → ¬ (IsInFrame frame ((frame.left +ℤ pos column) +ℤ pos 1) (frame.bottom +ℤ pos row)) }
+        ensures { IsPairIn frame false (frame.left +ℤ pos column) (frame.bottom +ℤ pos row)
+            (option_map (λ p. (p.col, p.row)) result) }
     {
-        if column + 1 >= frame.width as usize {
-            return None;
-        }
-        if row >= frame.height as usize {
+        if column + 1 >= frame.width as usize || row >= frame.height as usize {
             return None;
         }
         Some(Pair {

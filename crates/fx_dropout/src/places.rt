@@ -1,15 +1,14 @@
 //! What pieces add at the places between the centres of a pixel and its right neighbour.
 
-ghost use Rattle.std.specs.Prelude.{◌≡◌, ◌⊎◌, ℕ, ◌+◌, ◌^◌, ◌≤◌, ◌<◌, pos, ◌+ℤ◌, IsTrue, ◌↔◌, false};
-ghost use Rattle.fx_fixed.specs.Ranges.{IsWithin};
+ghost use Rattle.std.specs.Prelude.{◌≡◌, ℕ, ◌+◌, ◌^◌, ◌≤◌, ◌<◌, pos, ◌+ℤ◌, IsTrue, ◌↔◌};
 ghost use Rattle.fx_rows.specs.inner.Sums.{is_among, is_named, value_at, Marks};
 ghost use Rattle.fx_dropout.specs.Dropout.{IsCount};
-ghost use Rattle.fx_dropout.specs.inner.Places.{count_at, mark_at, AreCountsWithin, ArePlaces, ArePlacesNamed, IsCoveredIn, IsOfPlaces, IsRunOfPlaces};
+ghost use Rattle.fx_dropout.specs.inner.Places.{count_at, mark_at, AreClear, AreCountsWithin, ArePlaces, ArePlacesNamed, IsCoveredIn, IsOfPlaces, IsRunOfPlaces};
 
 use fx_rows::{OnRow, RowPart, Run};
 
 /// How many places are looked at: the pixel's centre, and the 127 between the two centres.
-pub(crate) const PLACES: usize = 128;
+const PLACES: usize = 128;
 
 /// How many of them lie in each half of the segment, without its ends and its middle.
 const HALF: usize = 63;
@@ -25,8 +24,7 @@ impl Places {
     /// Places to which no piece was added.
     #[inline(always)]
     pub(crate) fn new() -> Places
-        ensures counts { (n : ℕ) → n < 128 → count_at result n ≡ pos 0 }
-        ensures marks { (n : ℕ) → n < 128 → mark_at result n ≡ false }
+        ensures { AreClear result }
     {
         Places {
             counts: [0; PLACES],
@@ -34,31 +32,18 @@ impl Places {
         }
     }
 
-    /// Adds a value to the counts of the places from `first` to before `end`.
-    pub(crate) fn add(&mut self, first: usize, end: usize, value: i32)
-        requires order { first ≤ end }
-        requires end { end ≤ 128 }
-        requires value { IsWithin 1 value }
-        requires small { AreCountsWithin (2 ^ 20) self.old }
-        ensures run { (n : ℕ) → first ≤ n → n < end → count_at self.new n ≡ count_at self.old n +ℤ value }
-        ensures others { (n : ℕ) → (n < first) ⊎ (end ≤ n) → count_at self.new n ≡ count_at self.old n }
-        ensures marks { (n : ℕ) → mark_at self.new n ≡ mark_at self.old n }
-    {
-        // The value was added to those before n.
-        'places: for n in first..end {
-            self.counts[n] += value;
-        }
-    }
-
     /// Adds a run's value to the counts of its places.
-    fn add_run(&mut self, run: Option<Run>)
+    pub(crate) fn add_run(&mut self, run: Option<Run>)
         requires run { IsRunOfPlaces run }
         requires small { AreCountsWithin (2 ^ 20) self.old }
         ensures counts { (n : ℕ) → n < 128 → count_at self.new n ≡ count_at self.old n +ℤ value_at run (pos n) }
         ensures marks { (n : ℕ) → mark_at self.new n ≡ mark_at self.old n }
     {
         if let Some(run) = run {
-            self.add(run.first as usize, run.last as usize + 1, run.value);
+            // The value was added to those before n.
+            'places: for n in run.first as usize..run.last as usize + 1 {
+                self.counts[n] += run.value;
+            }
         }
     }
 

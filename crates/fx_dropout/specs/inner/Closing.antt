@@ -1,30 +1,33 @@
 -- A line of pixels, which is a row or a column, with bits of pixels and of the segments between neighbours, and its gaps closed.
 -- The segment 0 leads to the first pixel, and each further one from a pixel to the next.
-use Rattle.std.specs.Prelude.{◌≡◌, ◌⊎◌, ◌↔◌, ℕ, zero, suc, ◌+◌, ◌-◌, ◌*◌, ◌<◌, ◌≤◌, ℤ, pos, ◌+ℤ◌, Bool, true, false, List, [], ◌∷◌, map, take, drop, length, slice_index_or}
+use Rattle.std.specs.Prelude.{◌≡◌, ◌⊎◌, ◌↔◌, ℕ, zero, suc, ◌+◌, ◌-◌, ◌*◌, ◌/◌, ◌%◌, ◌<◌, ◌≤◌, ℤ, pos, ◌+ℤ◌, Bool, true, false, not, List, [], ◌∷◌, map, take, drop, length}
+use Rattle.std.specs.Prelude.{slice_index_or}
 use Rattle.std.specs.Int.{bit_at}
 use Rattle.fx_winding.specs.declared.frame.Frame.{Frame}
 use Rattle.fx_winding.specs.Bitmaps.{words_for, word_bit}
 use Rattle.fx_winding.specs.Frames.{IsInFrame}
 use Rattle.fx_winding.specs.Notes.{words_noted}
-use Rattle.fx_winding.specs.Winding.{Span, span_of}
+use Rattle.fx_winding.specs.Winding.{span_of}
 use Rattle.fx_dropout.specs.declared.chooser.Chooser.{Chooser}
-use Rattle.fx_dropout.specs.declared.chooser.Closing.{Closing}
 use Rattle.fx_dropout.specs.declared.chooser.GapWord.{GapWord}
 use Rattle.fx_dropout.specs.Dropout.{IsNextChosen}
 use Rattle.fx_dropout.specs.Tests.{choice_tests}
 use Rattle.fx_dropout.specs.inner.Pairs.{next_col, next_row, seen_col, seen_row, seen_spans}
 
 -- the neighbour of a pixel closes the gap between them: it is chosen, and lies in the frame
-abbrev pub IsNextIn : Closing → List Span → Frame → Bool → ℤ → ℤ → Type 0
-IsNextIn closing ss f up col row = IsNextChosen closing (seen_spans up ss) (seen_col up col row) (seen_row up col row)
-    × IsInFrame f (next_col up col) (next_row up row)
-
 abbrev pub IsNext : Chooser → Bool → ℤ → ℤ → Type 0
-IsNext c = IsNextIn c.closing (map span_of c.pieces.now) c.frame
+IsNext c up col row =
+    IsNextChosen c.closing (seen_spans up (map span_of c.pieces.now)) (seen_col up col row) (seen_row up col row)
+    × IsInFrame c.frame (next_col up col) (next_row up row)
 
 -- the same of the pixel k of a word of a frame, counted from the left
 abbrev pub IsNextAt : Chooser → GapWord → ℕ → Type 0
 IsNextAt c word k = IsNext c word.is_up (c.frame.left +ℤ pos (32 * word.column + k)) (c.frame.bottom +ℤ pos word.row)
+
+-- of the gaps of a word those that the neighbours close
+abbrev pub AreNexts : Chooser → GapWord → ℕ → Type 0
+AreNexts c word nexts =
+    (k : ℕ) → k < 32 → (bit_at nexts (31 - k) ≡ 1) ↔ ((bit_at word.gaps (31 - k) ≡ 1) × IsNextAt c word k)
 
 -- the most tests that the choices for a word of gaps take
 abbrev pub word_tests : Chooser → ℕ
@@ -99,73 +102,62 @@ left_in words w c = bit_before false (slice_index_or (0 ∷ words) w 0) (slice_i
 abbrev pub grid_bit : List ℕ → ℕ → ℕ → ℕ → ℕ
 grid_bit words size n r = word_bit (take size (drop (r * size) words)) n
 
--- the bit k of the row r or, with `true`, of the column n
-abbrev pub bit_on : Bool → List ℕ → ℕ → ℕ → ℕ → ℕ → ℕ
-bit_on false words size n r k = grid_bit words size k r
-bit_on true words size n r k = grid_bit words size n k
+-- ---- lines whose gaps are closed
+-- the bit n of a row whose words these are or, with `true`, of the column of their bits c
+abbrev pub bit_on : Bool → (ℕ → ℕ) → ℕ → ℕ → ℕ
+bit_on false words c n = bit_at (words (n / 32)) (31 - n % 32)
+bit_on true words c n = bit_at (words n) (31 - c)
 
--- what is known of its pixel k
-abbrev pub next_on : Bool → (ℤ → ℤ → Type 0) → Frame → ℕ → ℕ → ℕ → Type 0
-next_on false IsNext f n r k = IsNext (f.left +ℤ pos k) (f.bottom +ℤ pos r)
-next_on true IsNext f n r k = IsNext (f.left +ℤ pos n) (f.bottom +ℤ pos k)
-
--- the number on it of the pixel in column n and row r
+-- the number on it of the bit c of the word k
 abbrev pub number_on : Bool → ℕ → ℕ → ℕ
-number_on false n r = n
-number_on true n r = r
+number_on false k c = 32 * k + c
+number_on true k c = k
 
--- the bit of the pixel in column n and row r of a frame is what it is once the gaps of its row, or of its column, are closed
-abbrev pub IsClosedIn : Bool → (ℤ → ℤ → Type 0) → Frame → List ℕ → List ℕ → ℕ → ℕ → ℕ → Type 0
-IsClosedIn up IsNext f noted old n r new =
-    IsClosedBit (λ k. bit_on up old (words_for f.width) n r k) (λ k. bit_on up noted (words_noted f.width) n r k)
-    (λ k. next_on up IsNext f n r k) (number_on up n r) new
+-- the neighbour of its pixel n closes the gap between them
+abbrev pub IsNextOn : Bool → Chooser → ℕ → ℕ → ℕ → Type 0
+IsNextOn false ch line c n = IsNext ch false (ch.frame.left +ℤ pos n) (ch.frame.bottom +ℤ pos line)
+IsNextOn true ch line c n = IsNext ch true (ch.frame.left +ℤ pos (32 * line + c)) (ch.frame.bottom +ℤ pos n)
+
+-- the words of a line, of pixels and of notes
+abbrev pub words_of : Bool → Chooser → List ℕ → ℕ → ℕ → ℕ
+words_of up ch words line k = line_word up words (words_for ch.frame.width) line k
+
+abbrev pub notes_of : Bool → Chooser → List ℕ → ℕ → ℕ → ℕ
+notes_of up ch noted line k = line_word up noted (words_noted ch.frame.width) line k
+
+-- a pixel of a line that had these words is what it is once the gaps are closed
+abbrev pub IsClosedOn : Bool → Chooser → List ℕ → ℕ → (ℕ → ℕ) → ℕ → ℕ → ℕ → Type 0
+IsClosedOn up ch noted line words c n new =
+    IsClosedBit (bit_on up words c) (bit_on up (notes_of up ch noted line) c) (IsNextOn up ch line c) n new
+
+-- the first `count` words of a line are closed
+abbrev pub AreWordsClosed : Bool → Chooser → List ℕ → ℕ → (ℕ → ℕ) → (ℕ → ℕ) → ℕ → Type 0
+AreWordsClosed up ch noted line words new count = (k c : ℕ) → k < count → c < 32
+    → IsClosedOn up ch noted line words c (number_on up k c) (bit_at (new k) (31 - c))
+
+abbrev pub IsLineClosed : Bool → Chooser → List ℕ → List ℕ → List ℕ → ℕ → Type 0
+IsLineClosed up ch noted old new line =
+    AreWordsClosed up ch noted line (words_of up ch old line) (words_of up ch new line) (words_along up ch.frame)
+
+-- the words of a line are as they were
+abbrev pub IsLineKept : Bool → Chooser → List ℕ → List ℕ → ℕ → Type 0
+IsLineKept up ch old new line = (k : ℕ) → words_of up ch new line k ≡ words_of up ch old line k
 
 -- the gaps of all rows, or of all columns, are closed
-abbrev pub AreClosedLines : Bool → (ℤ → ℤ → Type 0) → Frame → List ℕ → List ℕ → List ℕ → Type 0
-AreClosedLines up IsNext f noted old new =
-    (r n : ℕ) → r < f.height → n < 32 * words_for f.width
-    → IsClosedIn up IsNext f noted old n r (grid_bit new (words_for f.width) n r)
+abbrev pub AreLinesClosed : Bool → Chooser → List ℕ → List ℕ → List ℕ → Type 0
+AreLinesClosed up ch noted old new = (line : ℕ) → line < words_along (not up) ch.frame → IsLineClosed up ch noted old new line
 
--- ---- a pass over the rows, or the columns, of a frame: its notes, and its words as they were
-pub record Pass : Type 0 where
-  pub chooser : Chooser
-  pub noted : List ℕ
-  pub old : List ℕ
-
-abbrev pub pass : Chooser → List ℕ → List ℕ → Pass
-pass chooser noted old = record { chooser = chooser; noted = noted; old = old }
-
-abbrev pub size_of : Pass → ℕ
-size_of p = words_for p.chooser.frame.width
-
--- the pixel c of the word k of a line is what it is once the gaps are closed
-abbrev pub IsClosedAt : Bool → Pass → ℕ → ℕ → ℕ → ℕ → Type 0
-IsClosedAt up p line k c new = IsClosedIn up (IsNext p.chooser up) p.chooser.frame p.noted p.old
-    (32 * word_column up line k + c) (word_row up line k) new
-
--- the word j of the line i comes before the word k of a line
-abbrev pub IsEarlier : ℕ → ℕ → ℕ → ℕ → Type 0
-IsEarlier line k i j = (i < line) ⊎ ((i ≡ line) × (j < k))
-
--- the words before the word k of a line are closed, and the others are as they were
-pub record AreDone (up : Bool) (p : Pass) (words : List ℕ) (line k : ℕ) : Type 0 where
-  pub long : length words ≡ length p.old
-  pub done : (i j c : ℕ) → IsEarlier line k i j → j < words_along up p.chooser.frame → c < 32
-      → IsClosedAt up p i j c (bit_at (line_word up words (size_of p) i j) (31 - c))
-  pub rest : (i j : ℕ) → line < i ⊎ ((i ≡ line) × (k ≤ j))
-      → line_word up words (size_of p) i j ≡ line_word up p.old (size_of p) i j
-
--- ---- all words
 -- the gaps of rows are closed, and then those that are left in the columns
-pub record AreClosedWords (IsNext : Bool → ℤ → ℤ → Type 0) (f : Frame) (across up old new : List ℕ) : Type 0 where
+pub record AreClosedWords (ch : Chooser) (across up old new : List ℕ) : Type 0 where
   pub mid : List ℕ
   pub long : length mid ≡ length old
-  pub rows : AreClosedLines false (IsNext false) f across old mid
-  pub columns : AreClosedLines true (IsNext true) f up mid new
+  pub rows : AreLinesClosed false ch across old mid
+  pub columns : AreLinesClosed true ch up mid new
 
 -- no segment of a frame is open
 pub record AreNoneOpen (f : Frame) (across up words : List ℕ) : Type 0 where
-  pub rows : (r n : ℕ) → r < f.height → ¬ (IsOpenAt (λ k. grid_bit words (words_for f.width) k r)
-      (λ k. grid_bit across (words_noted f.width) k r) n)
-  pub columns : (r n : ℕ) → r ≤ f.height → n < 32 * words_for f.width
-      → ¬ (IsOpenAt (λ k. grid_bit words (words_for f.width) n k) (λ k. grid_bit up (words_noted f.width) n k) r)
+  pub rows : (r n : ℕ) → r < f.height → ¬ (IsOpenAt (bit_on false (λ k. line_word false words (words_for f.width) r k) 0)
+      (bit_on false (λ k. line_word false across (words_noted f.width) r k) 0) n)
+  pub columns : (i c n : ℕ) → i < words_for f.width → c < 32 → n ≤ f.height
+      → ¬ (IsOpenAt (bit_on true (λ k. line_word true words (words_for f.width) i k) c)
+      (bit_on true (λ k. line_word true up (words_noted f.width) i k) c) n)

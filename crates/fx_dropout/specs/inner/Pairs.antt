@@ -1,7 +1,9 @@
 -- Two neighbours: a pixel and, with `false`, the one to its right or, with `true`, the one above it, which is its right
 -- neighbour if the coordinates are exchanged.
-use Rattle.std.specs.Prelude.{ℤ, pos, ◌+ℤ◌, Bool, true, false, List, map}
+use Rattle.std.specs.Prelude.{◌≡◌, ℤ, pos, ◌+ℤ◌, Bool, true, false, List, map, Option, Some, None}
+use Rattle.fx_winding.specs.declared.frame.Frame.{Frame}
 use Rattle.fx_winding.specs.Area.{Place}
+use Rattle.fx_winding.specs.Frames.{IsInFrame}
 use Rattle.fx_winding.specs.Turned.{turned_place, turned_span}
 use Rattle.fx_winding.specs.Winding.{Span}
 
@@ -34,3 +36,9 @@ seen_col true col row = row
 abbrev pub seen_row : Bool → ℤ → ℤ → ℤ
 seen_row false col row = row
 seen_row true col row = col
+
+-- the column and the row of a pixel, seen so, if its neighbour lies in the frame, and else none
+abbrev pub IsPairIn : Frame → Bool → ℤ → ℤ → Option (ℤ × ℤ) → Type 0
+IsPairIn f up col row None = ¬ (IsInFrame f (next_col up col) (next_row up row))
+IsPairIn f up col row (Some p) =
+    IsInFrame f (next_col up col) (next_row up row) × (p.0 ≡ seen_col up col row) × (p.1 ≡ seen_row up col row)

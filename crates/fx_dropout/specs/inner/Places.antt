@@ -1,5 +1,5 @@
 -- What pieces add at the places from the centre of a pixel to that of its right neighbour.
-use Rattle.std.specs.Prelude.{◌≢◌, ◌⊎◌, ℕ, ◌<◌, ℤ, pos, ◌≤ℤ◌, ◌<ℤ◌, int_lt, if◌then◌else◌, Bool, true, false}
+use Rattle.std.specs.Prelude.{◌≡◌, ◌≢◌, ◌⊎◌, ℕ, ◌<◌, ℤ, pos, ◌≤ℤ◌, ◌<ℤ◌, int_lt, if◌then◌else◌, Bool, false}
 use Rattle.std.specs.Prelude.{IsTrue, get_or, Option, Some, None}
 use Rattle.fx_fixed.specs.Ranges.{IsWithin}
 use Rattle.fx_fixed.specs.declared.places.Axis.{Axis}
@@ -24,11 +24,6 @@ place_in p n = place_on p.col p.row n
 abbrev pub coordinate_of : Axis → Place → ℤ
 coordinate_of X p = p.x
 coordinate_of Y p = p.y
-
--- the axis along which a row goes, or with `true` a column
-abbrev pub along_of : Bool → Axis
-along_of false = X
-along_of true = Y
 
 -- a piece is above the row of p, below it, or left of p
 abbrev pub IsMissed : Place → Span → Type 0
@@ -72,6 +67,10 @@ count_at p n = get_or p.counts n (pos 0)
 -- all counts are within a size
 abbrev pub AreCountsWithin : ℕ → Places → Type 0
 AreCountsWithin size p = (n : ℕ) → n < 128 → IsWithin size (count_at p n)
+
+-- nothing was added to the places
+abbrev pub AreClear : Places → Type 0
+AreClear p = (n : ℕ) → n < 128 → (count_at p n ≡ pos 0) × (mark_at p n ≡ false)
 
 -- the place n counts as covered
 abbrev pub IsCoveredIn : Places → ℕ → Type 0

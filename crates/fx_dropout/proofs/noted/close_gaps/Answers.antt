@@ -1,11 +1,17 @@
-use Rattle.std.proofs.Common.{◌≡◌, ◌∙◌, sym, ap, subst, map, IsTrue, ◌↔◌, List, ℕ, take, drop, length, ◌++◌, arith}
+use Rattle.std.proofs.Common.{◌≡◌, ◌∙◌, sym, ap, subst, map, IsTrue, ◌↔◌, List, ℕ, ℤ, take, drop, length, ◌++◌, arith}
 use Rattle.fx_winding.specs.declared.frame.Frame.{Frame}
 use Rattle.fx_winding.specs.Bitmaps.{Bits, AreWords, IsScanOf, bit_of, rows_of}
+use Rattle.fx_winding.specs.Frames.{IsInFrame}
+use Rattle.fx_winding.specs.Notes.{AreExact}
 use Rattle.fx_winding.specs.Winding.{span_of}
+use Rattle.fx_dropout.specs.declared.chooser.Chooser.{Chooser}
 use Rattle.fx_dropout.specs.Dropout.{IsSet}
-use Rattle.fx_dropout.specs.inner.Closing.{AreClosedWords, IsNextIn}
-use Rattle.fx_dropout.proofs.Closed.{IsGiven, lent, closed_words, closed_pixels}
+use Rattle.fx_dropout.specs.inner.Closing.{AreClosedWords}
+use Rattle.fx_dropout.proofs.Closed.{IsGiven, NoneOutside, lent, closed_words, closed_pixels}
 use Rattle.fx_dropout.proofs.noted.close_gaps.Goals as goal
+
+abbrev chooser : goal.After-words-2-1 → Chooser
+chooser c = record { pieces = c.args.pieces; frame = c.frame-frame.result; closing = c.args.closing }
 
 same : (c : goal.After-words-2-1) → length c.close_words.new.words ≡ length c.into_words-words.result.items
 same c = c.close_words.ensures.length ∙ ap length c.deref_mut.ensures.value
@@ -16,36 +22,36 @@ back c =
     lent c.into_words-words.result.items c.close_words.new.words c.into_words-words.result.len
     (same c) c.into_words-words.result.ok.0
 
-given : (c : goal.After-words-2-1) → IsGiven c.args.closing c.args.bitmap.frame (map span_of c.args.pieces.now)
-    c.args.notes.now.across.items c.args.notes.now.up.items c.into_words-words.result.items c.close_words.new.words
+given : (c : goal.After-words-2-1) → IsGiven (chooser c) c.args.notes.now.across.items c.args.notes.now.up.items
+    c.into_words-words.result.items c.close_words.new.words
 given c =
     let ss = map span_of c.args.pieces.now in
+    let old = c.into_words-words.result.items in
+    let of = sym c.frame-frame.ensures.value in
     record {
-      words = c.into_words-words.ensures.words;
-      scanned = subst (IsScanOf c.args.bitmap.frame ss) c.into_words-words.ensures.value c.requires.scanned;
-      noted = c.requires.noted;
-      closed = subst (λ (z : Frame × List ℕ × List ℕ × List ℕ).
-          AreClosedWords (IsNextIn c.args.closing ss z.0) z.0 z.1 z.2 z.3 c.close_words.new.words) (λ t. (
-            c.frame-frame.ensures.value t,
-            c.deref.ensures.value t,
-            c.deref-2.ensures.value t,
-            c.deref_mut.ensures.value t,
-          )) c.close_words.ensures.closed;
+      words = subst (λ (f : Frame). AreWords f.height f.width old) of c.into_words-words.ensures.words;
+      scanned = subst (λ (f : Frame). IsScanOf f ss (record { frame = f; rows = rows_of f.height f.width old })) of
+          (subst (IsScanOf c.args.bitmap.frame ss) c.into_words-words.ensures.value c.requires.scanned);
+      noted = subst (λ (f : Frame). AreExact f c.args.notes.now.across.items c.args.notes.now.up.items ss) of c.requires.noted;
+      closed = subst (λ (z : List ℕ × List ℕ × List ℕ). AreClosedWords (chooser c) z.0 z.1 z.2 c.close_words.new.words)
+          (λ t. (c.deref.ensures.value t, c.deref-2.ensures.value t, c.deref_mut.ensures.value t)) c.close_words.ensures.closed;
     }
 
 pub from_words-requires : goal.from_words-requires
-from_words-requires c =
-    subst (λ (z : Frame × List ℕ). AreWords z.0.height z.0.width z.1) (λ t. (sym c.frame-frame.ensures.value t, sym (back c) t))
-    (closed_words c.args.closing c.args.bitmap.frame (map span_of c.args.pieces.now) c.args.notes.now.across.items
-    c.args.notes.now.up.items c.into_words-words.result.items c.close_words.new.words (given c) (same c))
+from_words-requires c = subst (AreWords c.frame-frame.result.height c.frame-frame.result.width) (sym (back c))
+    (closed_words (chooser c) _ _ _ _ (given c) (same c))
 
 pub returns-clause-bits : goal.returns-clause-bits
-returns-clause-bits c = λ outside i j inside.
+returns-clause-bits c =
+    let ss = map span_of c.args.pieces.now in
     let f = c.frame-frame.ensures.value in
-    subst (λ (z : Bits). IsTrue (bit_of z i j) ↔ IsSet c.args.closing (map span_of c.args.pieces.now) c.args.bitmap.frame i j)
-    (sym (c.from_words.ensures ∙ (λ t. record { frame = f t; rows = rows_of (f t).height (f t).width (back c.before t) })))
-    (closed_pixels c.args.closing c.args.bitmap.frame (map span_of c.args.pieces.now) c.args.notes.now.across.items
-    c.args.notes.now.up.items c.into_words-words.result.items c.close_words.new.words (given c.before) outside i j inside)
+    let grid : List ℕ → Bits =
+    λ xs. record { frame = c.frame-frame.result; rows = rows_of c.frame-frame.result.height c.frame-frame.result.width xs } in
+    let bits : c.from_words.result ≡ grid c.close_words.new.words = c.from_words.ensures ∙ ap grid (back c.before) in
+    subst (λ (f : Frame). NoneOutside f ss → (i j : ℤ) → IsInFrame f i j → IsTrue (bit_of c.from_words.result i j) ↔ IsSet
+    c.args.closing ss f i j) f (λ outside i j inside.
+    subst (λ (z : Bits). IsTrue (bit_of z i j) ↔ IsSet c.args.closing ss c.frame-frame.result i j) (sym bits)
+    (closed_pixels (chooser c.before) _ _ _ _ (given c.before) outside i j inside))
 
 pub returns-clause-count : goal.returns-clause-count
 returns-clause-count c = grind (arith, c.frame-frame.ensures.value, c.close_words.ensures.count)

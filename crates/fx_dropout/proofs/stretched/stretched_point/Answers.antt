@@ -4,7 +4,7 @@ use Rattle.fx_fixed.proofs.Linear.{signed}
 use Rattle.fx_winding.specs.Limits.{IsPixelNumber}
 use Rattle.fx_winding.specs.Area.{place}
 use Rattle.fx_dropout.specs.inner.Stretched.{stretched_x}
-use Rattle.fx_dropout.proofs.Held.{held}
+use Rattle.fx_dropout.proofs.Stretching.{held}
 use Rattle.fx_dropout.proofs.stretched.stretched_point.Goals as goal
 
 across : (x col : ℤ) → IsWithin 4194304 x → IsPixelNumber col

@@ -4,7 +4,7 @@ use Rattle.fx_winding.specs.Winding.{span_of, IsCovered}
 use Rattle.fx_dropout.specs.inner.Pairs.{seen_spans}
 use Rattle.fx_dropout.specs.inner.Places.{place_in, IsCoveredIn}
 use Rattle.fx_dropout.proofs.Counts.{count_iff, count_is_one}
-use Rattle.fx_dropout.proofs.nearer.is_next_nearer.Goals as goal
+use Rattle.fx_dropout.proofs.nearer.is_seen_nearer.Goals as goal
 
 pub returns-clause-value : goal.returns-clause-value
 returns-clause-value c =
