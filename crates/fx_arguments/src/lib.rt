@@ -34,6 +34,7 @@ pub use done::Done;
 pub use fault::Fault;
 pub use hexadecimal::decode_hex;
 pub use input::{LINE_BUFFER, arguments_of_line, read_line};
+pub use mistakes::explain;
 pub use read_ahead::ReadAhead;
 pub use teller::Teller;
 pub use wrong_items::{ItemFault, wrong_item};

@@ -199,10 +199,7 @@ fn option_said<'w>(
 fn has_hyphen(word: &str) -> bool
     ensures { result ≡ has_hyphen word.now }
 {
-    match word.as_bytes().first() {
-        Some(byte) => *byte == b'-',
-        None => false,
-    }
+    matches!(word.as_bytes(), [b'-', ..])
 }
 
 /// An option's name, before `=`.

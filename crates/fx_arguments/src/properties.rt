@@ -66,10 +66,7 @@ fn between_marks(value: &str) -> Option<&str>
 fn has_plus(value: &str) -> bool
     ensures { result ≡ has_plus value.now }
 {
-    match value.as_bytes().first() {
-        Some(byte) => *byte == b'+',
-        None => false,
-    }
+    matches!(value.as_bytes(), [b'+', ..])
 }
 
 /// A whole number of 32 bits in decimal digits, perhaps a minus before them.

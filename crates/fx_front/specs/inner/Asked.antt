@@ -42,7 +42,8 @@ asked_by words is_terminal = if is_terminal then help None else run
 -- the words name a glyph by its number
 abbrev pub names_glyph : List Text → Option ℕ → Bool
 names_glyph words None = false
-names_glyph words (Some glyph) = is_named (option_or (value_in (codes "--glyph") words) (value_in (codes "--of") words)) (decimal glyph)
+names_glyph words (Some glyph) =
+    is_named (option_or (value_in (codes "--glyph") words) (value_in (codes "--of") words)) (decimal glyph)
 
 -- the words are only explained: the first is `explain`
 abbrev pub is_explained : List Text → Bool

@@ -8,8 +8,8 @@ use Rattle.fx_arguments.specs.declared.commands.Takes.{Takes}
 use Rattle.fx_arguments.specs.inner.Options.{rule_taking, with_option}
 use Rattle.fx_arguments.proofs.commands.command_with.Goals as goal
 
-one_more : (app next all : App) (rule : Rule) (options : List (Bor Text × Takes)) (i : ℕ) (d : Bor Text × Takes) → i < length options
-    → next ≡ with_rule app rule → rule ≡ rule_taking (get_or options i d).1 (get_or options i d).0.now
+one_more : (app next all : App) (rule : Rule) (options : List (Bor Text × Takes)) (i : ℕ) (d : Bor Text × Takes)
+    → i < length options → next ≡ with_rule app rule → rule ≡ rule_taking (get_or options i d).1 (get_or options i d).0.now
     → fold with_option app (drop i options) ≡ all → fold with_option next (drop (i + 1) options) ≡ all
 one_more app next all rule options i d within n r e =
     ap (λ (a : App). fold with_option a (drop (i + 1) options)) (n ∙ ap (with_rule app) r)
