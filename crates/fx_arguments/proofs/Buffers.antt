@@ -8,7 +8,6 @@ use Rattle.std.specs.Io.KnownBytes.{Consumes}
 use Rattle.std.proofs.KnownBytes.{Consumes-trans}
 use Rattle.std.proofs.Math.Seq.{take-append-add}
 use Rattle.std.proofs.lemmas.List.{take-append-le, take-take}
-use Rattle.std.proofs.lemmas.Slice.{take-put_mid_below}
 use Rattle.std.proofs.lemmas.Grind.{common_steps}
 use Rattle.std.proofs.lemmas.Bool.{ltb-false}
 use borrow.Rule.Slice.PartMut.{put_mid, post_of}
@@ -62,11 +61,6 @@ text_on text lent ys front more len at n same size h whole g e =
     ∙ take-append-le (at + n) all (drop (length all) text) inside
     ∙ text_more lent ys front more at n (omega (arith, lent_size, h)) g front_is
 
--- what was read before stays
-pub text_whole : (text ys front more : List ℕ) (at : ℕ) → at ≤ length text → take at text ≡ front ++ more
-    → take at (put_mid at (length text - at) text ys) ≡ front ++ more
-text_whole text ys front more at h e = take-put_mid_below at (length text - at) text ys at (omega arith) h ∙ e
-
 -- the index of the first that passes, or the length
 pub place_or_len : (p : ℕ → Bool) (xs : List ℕ) → position_or_len p xs ≤ length xs
     → unwrap_or (position p xs) (length xs) ≡ position_or_len p xs
@@ -79,7 +73,3 @@ place_or_len p xs h = go (nat_lt (position_or_len p xs) (length xs)) refl
 
 pub length_take_most : (k : ℕ) (xs : List ℕ) → length (take k xs) ≤ k
 length_take_most k xs = grind (arith, common_steps)
-
-pub ruleset text_steps = (text_on, text_whole, filled_within, length_take_most)
-
-pub ruleset filled_steps = (filled_more, filled_within, length_take_most)

@@ -136,7 +136,7 @@ property_whole given none =
 abbrev pub after : List PropertyView → Result (List PropertyView) WrongView → Result (List PropertyView) WrongView
 after before = map_ok (λ more. before ++ more)
 
--- the properties of `all`, and after them those of the given texts from the index i
+-- the properties of `all`, and after them the properties of the given texts from the index i
 abbrev pub rest_of : List Property → List (Bor Text) → ℕ → Result (List PropertyView) WrongView
 rest_of all given i = after (seen_properties all) (properties_by (drop i (texts given)))
 
@@ -158,7 +158,7 @@ next_text given i d h =
     drop-map (λ (t : Bor Text). t.now) i given ∙ ap texts (drop_more given i d h)
     ∙ ap (λ (ts : List Text). (get_or given i d).now ∷ ts) (sym (drop-map (λ (t : Bor Text). t.now) (i + 1) given))
 
--- one more
+-- one property more
 pub rest_more : (all next : List Property) (given : List (Bor Text)) (i : ℕ) (d : Bor Text) (p : Property) → i < length given
     → Some (seen_property p) ≡ property_of (get_or given i d).now → next ≡ all ++ p ∷ []
     → rest_of all given i ≡ rest_of next given (i + 1)
@@ -166,13 +166,13 @@ rest_more all next given i d p h e n =
     rw (next_text given i d h, sym e, n, map-append seen_property all (p ∷ []))
     (after-more (seen_properties all) (seen_property p) (properties_by (drop (i + 1) (texts given))))
 
--- one that is none
+-- a text that is no property
 pub rest_none : (all : List Property) (given : List (Bor Text)) (i : ℕ) (d : Bor Text) → i < length given
     → None ≡ property_of (get_or given i d).now
     → rest_of all given i ≡ Err (not_taken (codes "--property takes KEY=VALUE") (get_or given i d).now)
 rest_none all given i d h e = rw (next_text given i d h, sym e)
 
--- none is left
+-- no text is left
 pub rest_done : (all : List Property) (given : List (Bor Text)) (i : ℕ) → length given ≤ i
     → rest_of all given i ≡ Ok (seen_properties all)
 rest_done all given i h =

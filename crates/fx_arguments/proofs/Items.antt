@@ -1,8 +1,8 @@
 -- The numbers of a list, item by item.
--- Serves the lists of characters, `parse_chars`, `range` and `first_part`; and `arguments_of_line`.
+-- Serves the lists of characters: `parse_chars`, `range` and `first_part`.
 use Rattle.std.proofs.Common.{◌≡◌, ◌∙◌, ℕ, ◌+◌, ◌-◌, ◌<◌, ◌≤◌, List, [], ◌∷◌, ◌++◌, length, refl, sym, ap, arith, Option, Some}
 use Rattle.std.proofs.Common.{None, option_map, option_and_then, append_assoc, append-nil, length-append, ap₂, Bool, if◌then◌else◌}
-use Rattle.std.proofs.Common.{◌==◌, filter}
+use Rattle.std.proofs.Common.{◌==◌}
 use Rattle.std.specs.List.{position_or_len, before_first, after_first}
 use Rattle.std.proofs.lemmas.Bool.{lt-ltb, le-ltb}
 use Rattle.std.proofs.lemmas.List.Splits.{slice_split_none, slice_split_first}
@@ -10,7 +10,6 @@ use Rattle.std.proofs.lemmas.List.Sums.{fails_before_first}
 use Rattle.std.proofs.lemmas.Grind.{common_steps}
 use Rattle.fx_request.specs.Limits.{max_characters}
 use Rattle.fx_arguments.specs.Chars.{few, items_of, numbers_between, numbers_of_items, numbers_of_list, number_of, pair_of, range_of}
-use Rattle.fx_arguments.specs.Input.{has_bytes, arguments_of_line}
 use Rattle.fx_arguments.specs.Parts.{parts_of}
 use Rattle.fx_arguments.proofs.Numerals.{length-numbers_from}
 
@@ -54,7 +53,7 @@ too_many : (chars : List ℕ) (o : Option (List ℕ)) → max_characters < lengt
 too_many chars None h = refl
 too_many chars (Some zs) h = few_not (chars ++ zs) (omega (arith, length-append chars zs))
 
--- an item that is none
+-- an item that is no range
 pub none_by_item : (text chars item : List ℕ) (items : List (List ℕ))
     → numbers_of_items (items_of text) ≡ behind chars (numbers_of_items (item ∷ items)) → range_of item ≡ None
     → numbers_of_list text ≡ None
@@ -116,9 +115,3 @@ pub parts_whole : (separator : ℕ) (text : List ℕ) → position_or_len (λ b.
 parts_whole separator text none =
     slice_split_none (λ b. b == separator) text
     (λ k d lt. fails_before_first (λ b. b == separator) text k d (omega (arith, none, lt)))
-
--- ---- the arguments of a line
-
-pub arguments_of_line-is : (line : List ℕ) → arguments_of_line line ≡ filter has_bytes (parts_of 32 line)
-unfolding arguments_of_line
-arguments_of_line-is line = refl

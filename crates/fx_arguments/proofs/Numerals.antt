@@ -87,7 +87,7 @@ numbers_push low (suc count) =
 pub numbers_more : (low count : ℕ) → numbers_from low (count + 1) ≡ numbers_from low count ++ (low + count) ∷ []
 numbers_more low count = ap (numbers_from low) (add-one count) ∙ numbers_push low count
 
--- the next number is written after those before it
+-- the next number is written after the others
 pub numbers_put : (xs : List ℕ) (low k x : ℕ) → k < length xs → x ≡ low + k → take k xs ≡ numbers_from low k
     → take (k + 1) (slice_set xs k x) ≡ numbers_from low (k + 1)
 numbers_put xs low k x h e before =

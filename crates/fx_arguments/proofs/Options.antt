@@ -27,7 +27,7 @@ use Rattle.fx_arguments.specs.Commands.{CommandView, Refuses}
 use Rattle.fx_arguments.specs.Mistakes.{asked_by}
 use Rattle.fx_arguments.specs.Wrong.{malformed, wrong}
 
--- the commands are those that clap reads as its definitions say
+-- clap reads these commands as its definitions say
 free_for : (verb : Verb) → is_simple_and_free (app_for verb) ≡ true
 unfolding make_app show_app outline_app dump_app trace_app clap_on_literals
 free_for Make = refl
@@ -53,7 +53,7 @@ pub digits_tested : (ds : List ℕ) → list_all (λ d. nat_lt (digit_value d) 1
 digits_tested [] h = tt
 digits_tested (d ∷ ds) h = let p = both _ _ h in (ltb-true _ _ p.0, digits_tested ds p.1)
 
--- what is parsed as a number is one
+-- a text that parses as a number is one
 number_passes : (limit : ℕ) (ds : List ℕ) → IsNumeral 10 ds → digits_value 10 ds < limit
     → nat_lt 0 (length ds) && (list_all (λ d. nat_lt (digit_value d) 10) ds && nat_lt (digits_value 10 ds) limit) ≡ true
 number_passes limit ds h g = ap₂ ◌&&◌ (lt-ltb _ _ h.0) (ap₂ ◌&&◌ (tests_digits ds h.1) (lt-ltb _ _ g))

@@ -35,7 +35,7 @@ texts_take (suc n) (w ∷ ws) = ap (λ (l : List Text). w.now ∷ l) (texts_take
 texts_drop : (n : ℕ) (ws : List (Bor Text)) → texts (drop n ws) ≡ drop n (texts ws)
 texts_drop n ws = sym (drop-map (λ (w : Bor Text). w.now) n ws)
 
--- the word after the longest beginning that is taken
+-- the word after the longest beginning that the command takes
 pub words_at : (verb : Verb) (ws : List (Bor Text)) (n : ℕ) (name word next : Text) (r : Result (Unit {0}) Said)
     → taken_words verb (texts ws) (length ws) ≡ n → name ≡ slice_index_or (texts ws) 0 []
     → word ≡ slice_index_or (texts (drop n ws)) 0 [] → next ≡ slice_index_or (texts (drop n ws)) 1 []
@@ -59,7 +59,7 @@ words_at verb ws n name word next r h a c d says =
     (slice_index_or (drop n (texts ws)) 0 []) t) next_is in
     subst P (same ∙ ap F (sym found)) says
 
--- a beginning that is taken is the longest, and one that is not leads to a shorter one
+-- a beginning that the command takes is the longest; any other leads to a shorter one
 by_test : (verb : Verb) (words : List Text) (n : ℕ) → taken_words verb words (suc n) ≡
     cond (is_taken verb (take (suc n) words)) (suc n) (taken_words verb words n)
 unfolding taken_words

@@ -106,7 +106,7 @@ tells_change {text = text} h = elim h.outcome.1 [
 
 -- ---- a code point
 
--- the pieces of a word after those of a line
+-- the pieces of a word after the pieces of a line
 pub in_pieces : (old digits : List ℕ) → ((old ++ spaced (codes "U+" ∷ [])) ++ digits) ++ codes ":"
     ≡ old ++ spaced ((codes "U+" ++ (digits ++ codes ":")) ∷ [])
 in_pieces old digits =

@@ -45,7 +45,7 @@ many_rule id = record (new_rule id) { long = Some id; action = Some Append }
 abbrev pub flag_rule : Text → Rule
 flag_rule id = record (new_rule id) { long = Some id; action = Some SetTrue }
 
--- an option `--id=VALUE`; `--id` alone stands for one of its values
+-- an option `--id=VALUE`; `--id` alone means this value
 abbrev pub choice_rule : Text → Text → Rule
 choice_rule id value = record (new_rule id) {
   long = Some id;

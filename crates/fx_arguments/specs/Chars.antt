@@ -1,5 +1,5 @@
--- The characters that a list asks for: items joined by commas, each a number of one to six hexadecimal digits or two such
--- joined by '-'.
+-- The characters of a list. Commas separate its items: a number of one to six hexadecimal digits, or two such with '-' between
+-- them.
 use Rattle.std.specs.Prelude.{ℕ, zero, suc, ◌+◌, ◌-◌, ◌*◌, ◌==◌, ◌&&◌, nat_lt, nat_le, List, [], ◌∷◌, ◌++◌, length, Option, Some}
 use Rattle.std.specs.Prelude.{None, option_map, option_and_then, if◌then◌else◌}
 use Rattle.std.specs.List.{position_or_len, before_first, after_first}
@@ -7,7 +7,7 @@ use Rattle.hex.specs.Hex.{hex_digit_value}
 use Rattle.fx_request.specs.Limits.{max_characters}
 use Rattle.fx_arguments.specs.Parts.{parts_of}
 
--- the number that hexadecimal digits write when they follow those of n
+-- the number that hexadecimal digits write after the digits of n
 unfoldable pub number_after : ℕ → List ℕ → Option ℕ
 number_after n [] = Some n
 number_after n (digit ∷ digits) = option_and_then (λ value. number_after (n * 16 + value) digits) (hex_digit_value digit)
@@ -16,7 +16,7 @@ number_after n (digit ∷ digits) = option_and_then (λ value. number_after (n *
 unfoldable pub number_of : List ℕ → Option ℕ
 number_of text = if nat_lt 0 (length text) && nat_le (length text) 6 then number_after 0 text else None
 
--- from low to high, if low is not higher
+-- two numbers, if the second is not below the first
 abbrev pub pair_of : Option ℕ → Option ℕ → Option (ℕ × ℕ)
 pair_of low high = option_and_then (λ l. option_and_then (λ h. if nat_le l h then Some (l, h) else None) high) low
 
@@ -36,7 +36,7 @@ numbers_from low (suc count) = low ∷ numbers_from (low + 1) count
 abbrev pub numbers_between : ℕ × ℕ → List ℕ
 numbers_between range = numbers_from range.0 (range.1 - range.0 + 1)
 
--- those of all items, in their order
+-- the numbers of all items, in their order
 unfoldable pub numbers_of_items : List (List ℕ) → Option (List ℕ)
 numbers_of_items [] = Some []
 numbers_of_items (item ∷ items) =

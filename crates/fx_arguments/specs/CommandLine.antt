@@ -25,7 +25,7 @@ abbrev pub command_by : Option Verb → List Text → Result CommandView Fault
 command_by (Some verb) words = map_fault fault_of (asked_by verb words)
 command_by None words = if is_command (codes "explain") words then Ok (command_of_explain (drop 1 words)) else Err Usage
 
--- the arguments of a command line, its program's name first; or the first fault: of their form, or of a character's
+-- what the arguments of a command line ask for, the program's name first; or their first fault
 abbrev pub command_of : List Text → Result CommandView Fault
 command_of arguments = command_by (verb_of (drop 1 arguments)) (drop 1 arguments)
 

@@ -18,13 +18,13 @@ use Rattle.fx_arguments.specs.declared.command.Task.TheVariants.{Strike, Picture
 use Rattle.fx_arguments.specs.declared.fault.Fault.{Fault}
 use Rattle.fx_arguments.specs.declared.fault.Fault.TheVariants.{Usage, Early}
 
--- the characters of a strike: those of a list, or all that the font's map has
+-- the characters of a strike: a list, or all of the font's map
 pub data CharacterChoiceView : Type 0 where
   listed : List ℕ → CharacterChoiceView
   mapped : CharacterChoiceView
 
--- a strike: its size, its characters, its name, its properties, whether it has those of X11 too, how outlines become pixels, and
--- what becomes of refused characters
+-- a strike: its size, its characters, its name, its properties, whether X11's are added, how outlines become pixels, and what
+-- happens to refused characters
 pub record MakeView : Type 0 where
   pub ppem : ℕ
   pub chars : CharacterChoiceView
@@ -50,7 +50,7 @@ pub record CommandView : Type 0 where
   pub face : ℕ
   pub hex : Bool
 
--- what the program holds of it
+-- the program's own values as these
 abbrev pub seen_characters : CharacterChoice → CharacterChoiceView
 seen_characters (Listed chars) = listed chars.items
 seen_characters All = mapped
@@ -66,7 +66,7 @@ seen_make make = record {
   on_refused = make.on_refused;
 }
 
--- a request as what it asks for but its characters, which are these
+-- what a request asks for, with these characters in place of its own
 abbrev pub seen_request : CharacterChoiceView → Request → MakeView
 seen_request chars request = record {
   ppem = request.ppem;
@@ -89,7 +89,7 @@ seen_task (Explanation line) = explanation line.items
 abbrev pub seen : Command → CommandView
 seen command = record { task = seen_task command.task; face = command.face; hex = command.hex }
 
--- why there is no command: out of memory, or what is due is a usage fault, or characters in another form
+-- a fault is true: memory ran out, or the usage fault or the malformed characters are due
 abbrev pub Refuses : {Y : Type 0} → Fault → Result Y Fault → Type 0
 Refuses (Early OutOfMemory) due = Unit {0}
 Refuses (Early BadChars) due = due ≡ Err (Early BadChars)

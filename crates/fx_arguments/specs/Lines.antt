@@ -34,13 +34,13 @@ usage_line = line_of (codes "usage" ∷ [])
 
 -- ---- a strike
 
--- what was counted over it
+-- the counts of a strike
 abbrev pub counts_of : Report → List (List ℕ)
 counts_of report =
     codes "glyphs" ∷ decimal report.glyphs ∷ codes "missing" ∷ decimal report.missing ∷
     codes "strays" ∷ decimal report.usage.strays ∷ codes "steps" ∷ decimal report.usage.steps ∷ []
 
--- its line
+-- the line of a report
 abbrev pub report_line : Report → List ℕ
 report_line report = line_of (counts_of report)
 
@@ -52,7 +52,7 @@ program_words Fpgm = codes "fpgm" ∷ []
 program_words Prep = codes "prep" ∷ []
 program_words (Glyph g) = codes "glyph" ∷ decimal g ∷ []
 
--- the program that was started, the one that halted, the address in it and the opcode there in two digits
+-- the program that was started, the program that halted, the address in it and the opcode there in two digits
 abbrev pub halt_words : Halt → List (List ℕ)
 halt_words halt =
     (codes "during" ∷ program_words halt.during) ++
@@ -73,7 +73,7 @@ location_words (location.Halt halt) = halt_words halt
 abbrev pub refusal_words : Refusal → List (List ℕ)
 refusal_words refusal = decimal (number_of refusal) ∷ name_of refusal ∷ location_words (location_of refusal)
 
--- its line
+-- the line of a refusal
 abbrev pub refusal_line : Refusal → List ℕ
 refusal_line refusal = line_of (refusal_words refusal)
 
@@ -88,7 +88,7 @@ fate_words false = codes "left" ∷ codes "out" ∷ []
 abbrev pub code_word : ℕ → List ℕ
 code_word code = codes "U+" ++ (hexadecimal 4 code ++ codes ":")
 
--- its line: what became of it, its code point, and why
+-- the line of a refused character: what became of it, its code point, and why
 abbrev pub notice_line : Notice → List ℕ
 notice_line notice = line_of (fate_words notice.unhinted ++ code_word notice.code ∷ refusal_words notice.cause)
 
@@ -98,7 +98,7 @@ notice_line notice = line_of (fate_words notice.unhinted ++ code_word notice.cod
 abbrev pub missing_line : List ℕ
 missing_line = line_of (codes "missing" ∷ [])
 
--- the line of what it did; only a strike has one, and the trace of a character that is missing
+-- the line of what a run did: only a strike has one, and the trace of a missing character
 abbrev pub done_line : Done → List ℕ
 done_line (Strike report) = report_line report
 done_line Picture = []
@@ -108,7 +108,7 @@ done_line (Trace true) = []
 done_line (Trace false) = missing_line
 done_line Explanation = []
 
--- the line of how it ended
+-- the line of how a run ended
 abbrev pub outcome_line : Result Done Fault → List ℕ
 outcome_line (Ok done) = done_line done
 outcome_line (Err Usage) = usage_line

@@ -1,4 +1,4 @@
--- What is wrong first with the arguments of a command line, as a line for people: by what the commands read of them.
+-- The line that says what is wrong first with the arguments of a command line.
 use Rattle.std.specs.Prelude.{◌≡◌, ℕ, zero, suc, ◌==◌, not, Bool, false, List, [], ◌∷◌, ◌++◌, length, take, drop, codes}
 use Rattle.std.specs.Prelude.{slice_index_or, Option, Some, None, is_some, Result, Ok, Err, if◌then◌else◌}
 use Rattle.std.specs.List.{before_first}
@@ -17,7 +17,7 @@ abbrev pub IsSaid : Said → Text → Type 0
 IsSaid (MessageLine line) text = line.items ≡ text
 IsSaid (Stopped fault) text = fault ≡ Early OutOfMemory
 
--- a line, or out of memory, where a value or a line is due
+-- a result is the value or the line that is due, or out of memory
 abbrev pub SaysUnless : {A B : Type 0} → (A → B) → Result A Said → Result B Text → Type 0
 SaysUnless view (Ok x) due = due ≡ Ok (view x)
 SaysUnless view (Err (MessageLine line)) due = due ≡ Err line.items
@@ -27,7 +27,7 @@ SaysUnless view (Err (Stopped fault)) due = fault ≡ Early OutOfMemory
 abbrev pub is_taken : Verb → List Text → Bool
 is_taken verb words = is_some (rows_by verb words)
 
--- how many words the longest beginning has that is taken, among those of at most n words
+-- the number of words of the longest beginning that the command takes, of at most n words
 unfoldable pub taken_words : Verb → List Text → ℕ → ℕ
 taken_words verb words zero = 0
 taken_words verb words (suc n) = if is_taken verb (take (suc n) words) then suc n else taken_words verb words n
@@ -41,20 +41,21 @@ abbrev pub has_hyphen : Text → Bool
 has_hyphen [] = false
 has_hyphen (b ∷ word) = b == 45
 
--- an option has no value: there is no word after it, or one that begins with a hyphen
+-- an option lacks its value: no word follows it, or a word that begins with a hyphen
 abbrev pub value_said : Text → Text → Text
 value_said word next =
     if has_hyphen next
     then said (word ∷ codes " takes a value; one that begins with '-' is given as " ∷ word ∷ codes "=" ∷ next ∷ [])
     else said (word ∷ codes " takes a value" ∷ [])
 
--- why an option with a value is not taken after words that are: it has none, or was given before
+-- why the command does not take an option with a value after words that it takes: the option has none, or was given before
 abbrev pub option_said : Verb → List Text → Text → Text → Text
 option_said verb before word next =
     if is_taken verb (before ++ word ∷ codes "0" ∷ []) then value_said word next
     else said (word ∷ codes " is given twice" ∷ [])
 
--- why a word is not taken after words that are: by itself it would be, or with a value; else it is no option, or one without value
+-- why the command does not take a word after words that it takes. Alone it might, or with a value; else the word is no option,
+-- or an option without a value
 unfoldable pub word_said : Verb → Text → List Text → Text → Text → Text
 word_said verb name before word next =
     if is_taken verb (name ∷ word ∷ []) then said (codes "'" ∷ word ∷ codes "' is given twice" ∷ [])
@@ -64,7 +65,7 @@ word_said verb name before word next =
     else (if is_taken verb (name ∷ name_in word ∷ []) then said (name_in word ∷ codes " takes no value" ∷ [])
     else said (codes "unknown option '" ∷ name_in word ∷ codes "'" ∷ []))))
 
--- why the word is not taken that follows the longest beginning that is
+-- why the command does not take the word after the longest beginning that it takes
 abbrev pub words_said : Verb → List Text → Text
 words_said verb words =
     let n = taken_words verb words (length words) in
@@ -79,7 +80,7 @@ asked_in verb words (Some rows) = asked_for verb rows
 unfoldable pub asked_by : Verb → List Text → Result CommandView WrongView
 asked_by verb words = asked_in verb words (rows_by verb words)
 
--- the line that says what is wrong; none says that of malformed characters
+-- the line that says what is wrong; malformed characters have none
 abbrev pub explained : {A : Type 0} → Result A WrongView → Result (Unit {0}) Text
 explained (Ok x) = Ok tt
 explained (Err (wrong text)) = Err text

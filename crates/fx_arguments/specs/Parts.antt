@@ -6,7 +6,7 @@ use Rattle.std.specs.List.{slice_split}
 abbrev pub parts_of : ℕ → List ℕ → List (List ℕ)
 parts_of separator text = slice_split (λ b. b == separator) text
 
--- those of what is left of a text, if anything is
+-- the parts of what is left of a text, if anything is
 abbrev pub left_parts : ℕ → Option (List ℕ) → List (List ℕ)
 left_parts separator None = []
 left_parts separator (Some text) = parts_of separator text

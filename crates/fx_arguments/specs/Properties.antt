@@ -7,18 +7,18 @@ use Rattle.std.specs.Str.Parse.{signed_digits_value, without_leading_sign}
 use Rattle.clap.specs.Walk.{Text}
 use Rattle.fx_bdf.specs.Properties.{PropertyView, ValueView, is_integer, number, text}
 
--- a text before the quotation mark (34) that ends it
+-- a text without the quotation mark (34) at its end
 unfoldable pub before_mark : Text → Option Text
 before_mark [] = None
 before_mark (c ∷ []) = if c == 34 then Some [] else None
 before_mark (c ∷ d ∷ cs) = option_map (λ front. c ∷ front) (before_mark (d ∷ cs))
 
--- the text between the quotation mark that begins a text and the one that ends it
+-- the text between a quotation mark at the start and one at the end
 unfoldable pub between_marks : Text → Option Text
 between_marks [] = None
 between_marks (c ∷ cs) = if c == 34 then before_mark cs else None
 
--- a plus first (43)
+-- the first byte is a plus (43)
 abbrev pub has_plus : Text → Bool
 has_plus [] = false
 has_plus (c ∷ cs) = c == 43

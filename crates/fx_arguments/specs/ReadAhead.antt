@@ -1,4 +1,4 @@
--- What was read of an input before its text is read on.
+-- What was read of an input before its text.
 use Rattle.std.specs.Prelude.{ℕ, ◌-◌, ◌==◌, Bool, false, List, [], length}
 use Rattle.std.specs.List.{position_or_len}
 use Rattle.fx_arguments.specs.Input.{rest_of}
@@ -13,7 +13,7 @@ pub record ReadAheadView : Type 0 where
 abbrev pub nothing_ahead : ReadAheadView
 nothing_ahead = record { line = 0; text = []; ended = false }
 
--- these bytes were read: a first line, or all of an input without a line's end
+-- these bytes were read: the first line and what came with it, or all of an input that has no LF
 abbrev pub ahead_of : List ℕ → ReadAheadView
 ahead_of got = record {
   line = length got - length (rest_of got);

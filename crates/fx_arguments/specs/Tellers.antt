@@ -1,11 +1,11 @@
--- A sink that is told lines in turn, until it fails.
+-- A sink that gets lines in turn, until it fails.
 use Rattle.std.specs.Prelude.{◌≡◌, ◌⊎◌, ℕ, ◌+◌, ◌<◌, Bool, true, false, List, length, take, Option}
 use Rattle.std.specs.Borrow.{GName}
 use Rattle.std.specs.Io.KnownBytes.{Appends}
 use Rattle.fx_request.specs.declared.notice.Notice.{Notice}
 use Rattle.fx_arguments.specs.Lines.{notice_line}
 
--- the name of its borrow of the sink, what the sink holds, if that is known, and the sink's faults; and whether it failed
+-- the name of the borrow of the sink, what the sink holds if that is known, its faults, and whether it failed
 pub record TellerView : Type 0 where
   pub sink : GName
   pub held : Option (List ℕ)

@@ -40,7 +40,7 @@ fault_by_range item (Some range) = if nat_le range.1 max_code then None else Som
 abbrev pub fault_of_item : List ℕ → Option ItemFault
 fault_of_item item = fault_by_range item (range_of item)
 
--- the first of these items that is wrong, and why
+-- the first wrong item among these, and why
 abbrev pub first_by : List ℕ → Option ItemFault → Option (List ℕ × ItemFault) → Option (List ℕ × ItemFault)
 first_by item None later = later
 first_by item (Some fault) later = Some (item, fault)
@@ -49,7 +49,7 @@ abbrev pub first_wrong : List (List ℕ) → Option (List ℕ × ItemFault)
 first_wrong [] = None
 first_wrong (item ∷ items) = first_by item (fault_of_item item) (first_wrong items)
 
--- that of a list
+-- the first item of a list that is wrong, and why
 abbrev pub wrong_item_of : List ℕ → Option (List ℕ × ItemFault)
 wrong_item_of text = first_wrong (items_of text)
 

@@ -1,11 +1,11 @@
 //! The arguments of a command line.
-ghost use Rattle.std.specs.Prelude.{◌≡◌, Ok, Some, drop, option_map};
-ghost use Rattle.clap.specs.Words.{found_of, rows_of};
+ghost use Rattle.std.specs.Prelude.{◌≡◌, Ok, Some, codes, drop, option_map};
+ghost use Rattle.clap.specs.Words.{first_of, found_of, rows_of};
 ghost use Rattle.fx_fixed.specs.Chain.{GivesUnless, wanted};
-ghost use Rattle.fx_arguments.specs.Arguments.{asked_for, characters_by, choice_by, dropout_by, dump_by, face_by, glyph_by, is_command, make_by};
-ghost use Rattle.fx_arguments.specs.Arguments.{manner_by, mode_by, one_way, program_by, refused_by, size_by, texts, trace_by, traced_by};
+ghost use Rattle.fx_arguments.specs.Arguments.{asked_for, characters_by, choice_by, dropout_by, dump_by, face_by, glyph_by, is_command};
+ghost use Rattle.fx_arguments.specs.Arguments.{is_given, make_by, manner_by, mode_by, one_way, program_by, refused_by, size_by, texts, trace_by, traced_by};
 ghost use Rattle.fx_arguments.specs.CommandLine.{command_by, command_of, command_of_explain};
-ghost use Rattle.fx_arguments.specs.Commands.{Refuses, seen, seen_characters};
+ghost use Rattle.fx_arguments.specs.Commands.{Refuses, seen, seen_characters, seen_task};
 ghost use Rattle.fx_arguments.specs.Wrong.{Reads, not_taken};
 
 use crate::chars::{number, parse_chars};
@@ -96,10 +96,10 @@ fn taken<'a, T: Copy>(value: Option<T>, takes: &'a str, text: &'a str) -> Result
 }
 
 /// A size that is required.
-fn size_by(text: Option<&str>) -> Result<u16, Wrong<'_>>
-    ensures { Reads (λ size. size) result (size_by (option_map (λ text. text.now) text.entry)) }
+fn size_by<'a>(matches: &ArgMatches<'a>) -> Result<u16, Wrong<'a>>
+    ensures { Reads (λ size. size) result (size_by (first_of (codes "ppem") (rows_of (found_of matches.now)))) }
 {
-    match text {
+    match value(matches, "ppem") {
         Some(text) => {
             let takes = "--ppem takes a whole number from 1 to 1024";
             taken(size_of(text), takes, text)
@@ -109,10 +109,10 @@ fn size_by(text: Option<&str>) -> Result<u16, Wrong<'_>>
 }
 
 /// The number of a face; 0 if it is not given.
-fn face_by(text: Option<&str>) -> Result<u32, Wrong<'_>>
-    ensures { Reads (λ face. face) result (face_by (option_map (λ text. text.now) text.entry)) }
+fn face_by<'a>(matches: &ArgMatches<'a>) -> Result<u32, Wrong<'a>>
+    ensures { Reads (λ face. face) result (face_by (first_of (codes "face") (rows_of (found_of matches.now)))) }
 {
-    match text {
+    match value(matches, "face") {
         Some(text) => {
             let takes = "--face takes a whole number, counted from 0";
             taken(face_of(text), takes, text)
@@ -186,7 +186,7 @@ fn manner_of<'a>(matches: &ArgMatches<'a>) -> Result<(OnRefused, u32, Mode), Wro
     ensures { Reads (λ manner. manner) result (manner_by (rows_of (found_of matches.now))) }
 {
     let on_refused = refused_by(value(matches, "refused"))?;
-    let face = face_by(value(matches, "face"))?;
+    let face = face_by(matches)?;
     let mode = mode_of(matches)?;
     Ok((on_refused, face, mode))
 }
@@ -195,7 +195,7 @@ fn manner_of<'a>(matches: &ArgMatches<'a>) -> Result<(OnRefused, u32, Mode), Wro
 fn make_of<'a>(alloc: Global, matches: &ArgMatches<'a>) -> Result<Command<'a>, Wrong<'a>>
     ensures { Reads seen result (make_by (rows_of (found_of matches.now))) }
 {
-    let ppem = size_by(value(matches, "ppem"))?;
+    let ppem = size_by(matches)?;
     let list = value(matches, "chars");
     one_way(is_given(matches, "all"), list)?;
     let properties = properties_by(alloc, values(matches, "property").unwrap_or(&[]))?;
@@ -210,11 +210,22 @@ fn make_of<'a>(alloc: Global, matches: &ArgMatches<'a>) -> Result<Command<'a>, W
         mode,
         on_refused,
     };
-    Ok(Command {
-        task: Task::Strike(make),
+    Ok(command_for(matches, face, Task::Strike(make)))
+}
+
+/// A command with this task and face. The file is hexadecimal text if `--hex` is given.
+fn command_for<'a>(matches: &ArgMatches<'a>, face: u32, task: Task<'a>) -> Command<'a>
+    ensures { seen result ≡ record {
+      task = seen_task task.entry;
+      face = face;
+      hex = is_given (codes "hex") (rows_of (found_of matches.now));
+    } }
+{
+    Command {
+        task,
         face,
         hex: is_given(matches, "hex"),
-    })
+    }
 }
 
 /// How a glyph is chosen: by a character or by its number, and not by both.
@@ -240,20 +251,17 @@ fn choice_of<'a>(character: Option<&str>, glyph: Option<&'a str>) -> Result<Choi
 fn glyph_of<'a>(matches: &ArgMatches<'a>, is_outline: bool) -> Result<Command<'a>, Wrong<'a>>
     ensures { Reads seen result (glyph_by is_outline (rows_of (found_of matches.now))) }
 {
-    let face = face_by(value(matches, "face"))?;
-    let ppem = size_by(value(matches, "ppem"))?;
+    let face = face_by(matches)?;
+    let ppem = size_by(matches)?;
     let mode = mode_of(matches)?;
     let choice = choice_of(value(matches, "char"), value(matches, "glyph"))?;
     let show = Show { ppem, choice, mode };
-    Ok(Command {
-        task: if is_outline {
-            Task::Outline(show)
-        } else {
-            Task::Picture(show)
-        },
-        face,
-        hex: is_given(matches, "hex"),
-    })
+    let task = if is_outline {
+        Task::Outline(show)
+    } else {
+        Task::Picture(show)
+    };
+    Ok(command_for(matches, face, task))
 }
 
 /// A program by its name: `fpgm`, `prep`, or the number of a glyph.
@@ -276,30 +284,22 @@ fn dump_of<'a>(matches: &ArgMatches<'a>) -> Result<Command<'a>, Wrong<'a>>
 {
     let name = value(matches, "of").ok_or(Wrong::Says("--of is missing"))?;
     let what = program_by(name)?;
-    let face = face_by(value(matches, "face"))?;
-    Ok(Command {
-        task: Task::Listing(what),
-        face,
-        hex: is_given(matches, "hex"),
-    })
+    let face = face_by(matches)?;
+    Ok(command_for(matches, face, Task::Listing(what)))
 }
 
 /// What the values of `trace` ask for: the size and what is traced are required.
 fn trace_of<'a>(matches: &ArgMatches<'a>) -> Result<Command<'a>, Wrong<'a>>
     ensures { Reads seen result (trace_by (rows_of (found_of matches.now))) }
 {
-    let face = face_by(value(matches, "face"))?;
-    let ppem = size_by(value(matches, "ppem"))?;
+    let face = face_by(matches)?;
+    let ppem = size_by(matches)?;
     let traced = traced_of(
         value(matches, "char"),
         value(matches, "glyph"),
         value(matches, "of"),
     )?;
-    Ok(Command {
-        task: Task::Trace(Trace { ppem, traced }),
-        face,
-        hex: is_given(matches, "hex"),
-    })
+    Ok(command_for(matches, face, Task::Trace(Trace { ppem, traced })))
 }
 
 /// What is traced: a glyph, or a program by its name, and not both.

@@ -8,9 +8,9 @@ use crate::parts::first_part;
 use fx_request::{MAX_CHARACTERS, Refusal};
 use std::alloc::Global;
 
-/// The numbers of a list of characters, in their order: items joined by commas, each a number of one to six hexadecimal digits
-/// or two such joined by `-`, low first. The empty text is the empty list. `BadChars` if its form is wrong or it has more
-/// than `MAX_CHARACTERS` numbers; any other refusal is `OutOfMemory`.
+/// The numbers of a list of characters, in their order. Commas separate its items: a number of one to six hexadecimal digits, or
+/// two such with `-` between them, low first. The empty text is the empty list. `BadChars` means that its form is wrong, or that it
+/// has more than `MAX_CHARACTERS` numbers; any other refusal is `OutOfMemory`.
 #[tactic(auto, using(crate::proofs::Items::none_by_item, crate::proofs::Items::all_items))]
 pub fn parse_chars(alloc: Global, list: &str) -> Result<Vec<u32>, Refusal>
     ensures numbers { IfOk result (λ chars. numbers_of_list list.now ≡ Some chars.items) }
@@ -67,7 +67,7 @@ pub fn number(text: &str) -> Option<u32>
         return None;
     }
     let mut number = 0u32;
-    // `number` is that of the digits so far.
+    // The digits so far write `number`.
     'digits: for digit in digits {
         number = number * 16 + u32::from(digit_value(*digit)?);
     }
@@ -108,7 +108,7 @@ fn push_range(chars: &mut Vec<u32>, low: u32, high: u32) -> Result<(), Refusal>
     Ok(())
 }
 
-/// Writes numbers from `low` on, each one more than that before it.
+/// Writes the numbers from `low` on, in steps of one.
 fn put_range(numbers: &mut [u32], low: u32)
     requires { low + length numbers.old ≤ 2 ^ 32 }
     ensures { numbers.new ≡ numbers_from low (length numbers.old) }

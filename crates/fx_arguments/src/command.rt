@@ -4,7 +4,7 @@ use fx_bdf::{Property, Title};
 use fx_machine::FontProgram;
 use fx_request::{Choice, Mode, OnRefused, Request, TraceSubject};
 
-/// What is to be written, the face of the font file that it is for, and whether the file is hexadecimal text.
+/// What to write, for which face of the font file, and whether the file is hexadecimal text.
 #[derive(Drop)]
 pub struct Command<'a> {
     pub task: Task<'a>,
@@ -12,7 +12,7 @@ pub struct Command<'a> {
     pub hex: bool,
 }
 
-/// What is to be written.
+/// What to write.
 #[derive(Drop)]
 pub enum Task<'a> {
     /// A strike.
@@ -25,21 +25,21 @@ pub enum Task<'a> {
     Listing(FontProgram),
     /// The trace of programs.
     Trace(Trace),
-    /// A line that explains what is wrong with arguments, without bytes if nothing is.
+    /// A line that explains what is wrong with arguments; it is empty if nothing is.
     Explanation(Vec<u8>),
 }
 
 /// The characters of a strike.
 #[derive(Drop)]
 pub enum CharacterChoice {
-    /// Those of a list.
+    /// The characters of a list.
     Listed(Vec<u32>),
-    /// All that the font's map has.
+    /// All characters of the font's map.
     All,
 }
 
-/// A strike: its size in pixels an em, its characters, its name, its properties, whether it has those of X11 too, how outlines
-/// become pixels, and what becomes of refused characters.
+/// A strike: its size in pixels an em, its characters, its name, its properties, whether X11's are added, how outlines become
+/// pixels, and what happens to refused characters.
 #[derive(Drop)]
 pub struct Make<'a> {
     pub ppem: u16,

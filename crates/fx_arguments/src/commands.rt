@@ -17,7 +17,7 @@ pub enum Takes {
     Value,
     /// A value, and it may be given many times.
     Values,
-    /// A value after `=`; alone it stands for the value `left`.
+    /// A value after `=`; alone it means `left`.
     Choice,
 }
 
@@ -108,14 +108,14 @@ fn option_of<'a>(alloc: Global, id: &'a str, takes: Takes) -> Arg<'a>
     ensures rule { rule_of result ≡ rule_taking takes id.entry.now }
     ensures local { result.global ≡ false }
 {
-    let action = match takes {
-        Takes::Nothing => ArgAction::SetTrue,
-        Takes::Values => ArgAction::Append,
-        Takes::Value | Takes::Choice => ArgAction::Set,
-    };
-    let arg = Arg::new(alloc, id).long(id).action(action);
+    let arg = Arg::new(alloc, id).long(id);
     match takes {
-        Takes::Choice => arg.num_args(0..=1).default_missing_value("left"),
-        Takes::Nothing | Takes::Value | Takes::Values => arg,
+        Takes::Nothing => arg.action(ArgAction::SetTrue),
+        Takes::Value => arg.action(ArgAction::Set),
+        Takes::Values => arg.action(ArgAction::Append),
+        Takes::Choice => arg
+            .action(ArgAction::Set)
+            .num_args(0..=1)
+            .default_missing_value("left"),
     }
 }

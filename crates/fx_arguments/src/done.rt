@@ -3,9 +3,9 @@
 use fx_request::Report;
 
 /// What a run did.
-#[derive(Clone, Copy, Debug, PartialEq, Eq)]
+#[derive(Clone, Copy)]
 pub enum Done {
-    /// It wrote a strike, of which this was counted.
+    /// It wrote a strike with these counts.
     Strike(Report),
     /// It wrote a picture.
     Picture,
@@ -13,7 +13,7 @@ pub enum Done {
     Outline,
     /// It wrote a listing.
     Listing,
-    /// It wrote a trace, if the font has the character whose glyph is traced.
+    /// It wrote a trace; whether the font has the traced character.
     Trace(bool),
     /// It explained what is wrong with arguments.
     Explanation,

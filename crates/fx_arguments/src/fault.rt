@@ -7,7 +7,7 @@ use fx_request::Refusal;
 use std::alloc::{AllocError, AllocFailed};
 
 /// Why a run failed.
-#[derive(Clone, Copy, Debug, PartialEq, Eq)]
+#[derive(Clone, Copy)]
 pub enum Fault {
     /// The arguments are invalid.
     Usage,

@@ -1,14 +1,13 @@
 //! Reading the input.
-ghost use Rattle.std.specs.Prelude.{◌≡◌, ◌⊎◌, ◌==◌, ℕ, List, ◌∷◌, [], ◌++◌, ◌+◌, ◌<◌, ◌≤◌, ◌^◌, filter, length, take, position, IfOk, IfErr, IfSome, OnOk};
+ghost use Rattle.std.specs.Prelude.{◌≡◌, ◌⊎◌, ◌==◌, ℕ, List, ◌∷◌, ◌+◌, ◌<◌, ◌≤◌, ◌^◌, length, take, position, IfOk, IfErr, IfSome, OnOk};
 ghost use Rattle.std.specs.List.{position_or_len};
 ghost use Rattle.std.specs.Io.KnownBytes.{Consumes, IsAtEnd};
 ghost use Rattle.fx_arguments.specs.Limits.{max_line};
 ghost use Rattle.fx_arguments.specs.Arguments.{texts};
-ghost use Rattle.fx_arguments.specs.Input.{IsLineCause, arguments_of_line, has_bytes};
+ghost use Rattle.fx_arguments.specs.Input.{IsLineCause, arguments_of_line};
 
 use crate::fault::Fault;
 use crate::limits::MAX_LINE;
-use crate::parts::first_part;
 use fx_fixed::Source;
 use fx_request::Refusal;
 use std::alloc::{AllocError, Global};
@@ -17,7 +16,6 @@ use std::alloc::{AllocError, Global};
 pub const LINE_BUFFER: usize = MAX_LINE + 1;
 
 /// Reads until the buffer holds the complete first line. Returns how many bytes it holds then, and how many of them the line has.
-#[tactic(auto, using(crate::proofs::Buffers::filled_steps))]
 pub fn read_line<R: Source>(reader: &mut R, buffer: &mut [u8]) -> Result<(usize, usize), Fault>
     requires faults { R.fault_count reader.old < 2 ^ 63 }
     requires buffer { length buffer.old ≡ max_line + 1 }
@@ -61,14 +59,13 @@ fn line_end(bytes: &[u8]) -> Option<usize>
     bytes.iter().position(|b| *b == b'\n')
 }
 
-/// Pushes an argument if it has bytes.
-fn push_some<'a>(all: &mut Vec<&'a str>, argument: &'a str) -> Result<(), AllocError>
-    ensures { OnOk result (texts all.new.items ≡ texts all.old.items ++ filter has_bytes (argument.entry.now ∷ [])) }
+/// The words of a line.
+fn words_of<'a>(alloc: Global, line: &'a str) -> Result<Vec<&'a str>, AllocError>
+    ensures { IfOk result (λ words. texts words.items ≡ arguments_of_line line.entry.now) }
 {
-    if argument.is_empty() {
-        return Ok(());
-    }
-    Ok(all.push(argument)?)
+    line.split(' ')
+        .filter(|word| !word.is_empty())
+        .collect(alloc)
 }
 
 /// The arguments of a line, after the program's name.
@@ -80,14 +77,7 @@ pub fn arguments_of_line<'a>(
     ensures { IfOk result (λ arguments.
         texts arguments.items ≡ program.entry.now ∷ arguments_of_line line.entry.now) }
 {
-    let mut all = Vec::new(alloc);
-    all.push(program)?;
-    let mut left = Some(line);
-    // The program and the arguments before `left` were pushed.
-    'arguments: while let Some(text) = left {
-        let (argument, more) = first_part(text, ' ');
-        push_some(&mut all, argument)?;
-        left = more;
-    }
-    Ok(all)
+    let mut arguments = words_of(alloc, line)?;
+    arguments.insert(0, program)?;
+    Ok(arguments)
 }

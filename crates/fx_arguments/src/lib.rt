@@ -1,7 +1,7 @@
-//! What `mkstrike` is asked for, and what it tells: the arguments of a command line, lists of characters, properties, hexadecimal
-//! text, the bytes of the input, lines on standard error and statuses.
+//! What users ask of `mkstrike`, and what it tells them: the arguments of a command line, lists of characters, properties,
+//! hexadecimal text, the bytes of the input, lines on standard error and statuses.
 //!
-//! No font is opened here: `fx_cli` does what a `Command` says.
+//! Nothing here opens a font: `fx_cli` does what a `Command` says.
 #![tactic(auto)]
 
 mod arguments;
@@ -34,6 +34,7 @@ pub use done::Done;
 pub use fault::Fault;
 pub use hexadecimal::decode_hex;
 pub use input::{LINE_BUFFER, arguments_of_line, read_line};
+pub use mistakes::explain;
 pub use read_ahead::ReadAhead;
 pub use teller::Teller;
 pub use wrong_items::{ItemFault, wrong_item};

@@ -1,4 +1,4 @@
-//! A line for people, made in a fixed buffer, so that the line of `OutOfMemory` can be written, and each with one call.
+//! A line for people, made in a fixed buffer: so `OutOfMemory` can have its line, and one call writes each.
 ghost use Rattle.std.specs.Prelude.{◌≡◌, ◌∷◌, [], ◌++◌, ◌+◌, ◌<◌, ◌≤◌, codes, length};
 ghost use Rattle.std.specs.Fmt.{decimal};
 ghost use Rattle.fx_arguments.specs.Lines.{spaced};

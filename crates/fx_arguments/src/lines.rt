@@ -39,7 +39,7 @@ pub(crate) fn line_of_refusal(refusal: Refusal) -> MessageLine
     line
 }
 
-/// The line of what was counted over a strike, but for its end.
+/// The line of the counts of a strike, but for its end.
 pub(crate) fn line_of_report(report: Report) -> MessageLine
     ensures text { result ++ 10 ∷ [] ≡ report_line report }
     ensures room { length result < CAPACITY }
@@ -97,7 +97,7 @@ fn add_refusal(line: &mut MessageLine, refusal: Refusal)
     add_location(line, location);
 }
 
-/// Adds where a refusal is.
+/// Adds the location of a refusal.
 fn add_location(line: &mut MessageLine, location: Location)
     requires { length line.old ≤ 90 }
     ensures text { line.new ≡ line.old ++ spaced (location_words location) }

@@ -9,7 +9,7 @@ ghost use Rattle.fx_arguments.specs.Wrong.{Reads, WrongView};
 
 use crate::arguments::{asked_for, is_command};
 use crate::fault::Fault;
-use crate::said::{Said, say};
+use crate::said::{Said, say, say_about};
 use crate::values::matches;
 use crate::verb::{Verb, verb_of};
 use crate::wrong::Wrong;
@@ -43,7 +43,7 @@ fn command_said(alloc: Global, words: &[&str]) -> Result<(), Said>
     ensures { SaysUnless (λ u. u) result (Err (command_said (texts words.now))) }
 {
     match words.first() {
-        Some(word) => Err(say(alloc, &["unknown command '", word, "'"])),
+        Some(word) => Err(say_about(alloc, "unknown command '", word, "'")),
         None => Err(say(alloc, &["the command is missing"])),
     }
 }
@@ -87,7 +87,7 @@ fn is_taken(alloc: Global, verb: Verb, words: &[&str]) -> Result<bool, Said>
     }
 }
 
-/// How many words the longest beginning has that is taken.
+/// The number of words of the longest beginning that the command takes.
 #[tactic(auto, using(crate::proofs::Saying::taken_none, crate::proofs::Saying::taken_shorter, crate::proofs::Saying::texts_take))]
 fn taken_words(alloc: Global, verb: Verb, words: &[&str]) -> Result<usize, Said>
     ensures due { SaysUnless (λ n. n) result (Ok (taken_words verb (texts words.now) (length words.now))) }
@@ -104,7 +104,7 @@ fn taken_words(alloc: Global, verb: Verb, words: &[&str]) -> Result<usize, Said>
     Ok(0)
 }
 
-/// Why the word is not taken that follows the longest beginning that is.
+/// Why the command does not take the word after the longest beginning that it takes.
 #[tactic(auto, using(std::proofs::lemmas::List::take_rest, crate::proofs::Saying::words_at))]
 fn words_said<'w>(alloc: Global, verb: Verb, words: &'w [&'w str]) -> Result<(), Said>
     ensures { SaysUnless (λ u. u) result (Err (words_said verb (texts words.now))) }
@@ -132,7 +132,7 @@ fn word_at<'a>(words: &[&'a str], at: usize) -> &'a str
     }
 }
 
-/// Why a word is not taken after words that are, and before another.
+/// Why the command does not take a word after words that it takes, and before another.
 #[tactic(auto, unfolding(crate::specs::Mistakes::word_said))]
 fn word_said<'w>(
     alloc: Global,
@@ -145,19 +145,19 @@ fn word_said<'w>(
     ensures { SaysUnless (λ u. u) result (Err (word_said verb name.now (texts before.now) word.now next.now)) }
 {
     if is_taken(alloc, verb, &[name, word])? {
-        return Err(say(alloc, &["'", word, "' is given twice"]));
+        return Err(say_about(alloc, "'", word, "' is given twice"));
     }
     if is_taken(alloc, verb, &[name, word, "0"])? {
         return option_said(alloc, verb, before, word, next);
     }
     if !has_hyphen(word) {
-        return Err(say(alloc, &["one word too many, '", word, "'"]));
+        return Err(say_about(alloc, "one word too many, '", word, "'"));
     }
     let option = name_in(word);
     if is_taken(alloc, verb, &[name, option])? {
-        return Err(say(alloc, &[option, " takes no value"]));
+        return Err(say_about(alloc, "", option, " takes no value"));
     }
-    Err(say(alloc, &["unknown option '", option, "'"]))
+    Err(say_about(alloc, "unknown option '", option, "'"))
 }
 
 /// Whether a command takes an option with the value 0 after words.
@@ -175,7 +175,7 @@ fn takes_value<'w>(
     is_taken(alloc, verb, &words)
 }
 
-/// Why an option that takes a value is not taken after words that are.
+/// Why the command does not take an option with a value after words that it takes.
 fn option_said<'w>(
     alloc: Global,
     verb: Verb,
@@ -186,23 +186,20 @@ fn option_said<'w>(
     ensures { SaysUnless (λ u. u) result (Err (option_said verb (texts before.now) word.now next.now)) }
 {
     if !takes_value(alloc, verb, before, word)? {
-        return Err(say(alloc, &[word, " is given twice"]));
+        return Err(say_about(alloc, "", word, " is given twice"));
     }
     if has_hyphen(next) {
         let given_as = " takes a value; one that begins with '-' is given as ";
         return Err(say(alloc, &[word, given_as, word, "=", next]));
     }
-    Err(say(alloc, &[word, " takes a value"]))
+    Err(say_about(alloc, "", word, " takes a value"))
 }
 
 /// Whether a word begins with a hyphen.
 fn has_hyphen(word: &str) -> bool
     ensures { result ≡ has_hyphen word.now }
 {
-    match word.as_bytes().first() {
-        Some(byte) => *byte == b'-',
-        None => false,
-    }
+    matches!(word.as_bytes(), [b'-', ..])
 }
 
 /// An option's name, before `=`.

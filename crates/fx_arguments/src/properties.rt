@@ -52,7 +52,7 @@ fn value_of(value: &str) -> Value<'_>
     }
 }
 
-/// The text between the quotation mark that begins a text and the one that ends it.
+/// The text between a quotation mark at the start and one at the end.
 fn between_marks(value: &str) -> Option<&str>
     ensures { option_map (λ string. string.now) result ≡ between_marks value.entry.now }
 {
@@ -66,10 +66,7 @@ fn between_marks(value: &str) -> Option<&str>
 fn has_plus(value: &str) -> bool
     ensures { result ≡ has_plus value.now }
 {
-    match value.as_bytes().first() {
-        Some(byte) => *byte == b'+',
-        None => false,
-    }
+    matches!(value.as_bytes(), [b'+', ..])
 }
 
 /// A whole number of 32 bits in decimal digits, perhaps a minus before them.

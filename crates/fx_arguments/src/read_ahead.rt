@@ -1,4 +1,4 @@
-//! What was read of an input before its text is read on.
+//! What was read of an input before its text.
 ghost use Rattle.std.specs.Prelude.{◌≡◌, ◌==◌, ℕ, List, [], true, ◌+◌, ◌<◌, ◌≤◌, ◌^◌, ◌++◌, length, take, vec_len, IfOk, IfErr, OnOk};
 ghost use Rattle.std.specs.List.{position_or_len};
 ghost use Rattle.std.specs.Io.KnownBytes.{Consumes, IsAtEnd};
@@ -12,7 +12,7 @@ use fx_request::Refusal;
 use std::alloc::{AllocError, Global};
 use std::marker::Model;
 
-/// What was read of an input before its text is read on: a line of arguments, and bytes of the text that came with it.
+/// What was read of an input before its text: a line of arguments, and bytes of the text that came with it.
 #[derive(Drop)]
 pub struct ReadAhead<'a> {
     /// The number of bytes of the line, with its end.
@@ -67,7 +67,6 @@ impl<'a> ReadAhead<'a> {
     }
 
     /// Reads on to the end of the input, and returns its text: what follows the line.
-    #[tactic(auto, using(crate::proofs::Buffers::text_steps))]
     pub fn read_on<R: Source>(&self, alloc: Global, reader: &mut R) -> Result<Vec<u8>, Refusal>
         requires faults { R.fault_count reader.old < 2 ^ 63 }
         requires ended { self.now.ended ≡ true → IsAtEnd (R.left reader.old) }
@@ -101,10 +100,10 @@ impl<'a> ReadAhead<'a> {
     }
 }
 
-/// How many bytes there is room for at once.
+/// The number of bytes by which a full buffer grows.
 const PART: usize = 65_536;
 
-/// Makes room in a text after its first `filled` bytes, if there is none.
+/// Grows a text that has no room after its first `filled` bytes.
 fn make_room(text: &mut Vec<u8>, filled: usize) -> Result<(), AllocError>
     requires few { filled ≤ max_input }
     requires inside { filled ≤ vec_len text.old }

@@ -1,5 +1,5 @@
 //! Lines that say what is wrong with arguments.
-ghost use Rattle.std.specs.Prelude.{◌≡◌, IfOk};
+ghost use Rattle.std.specs.Prelude.{◌≡◌, ◌∷◌, [], IfOk};
 ghost use Rattle.fx_arguments.specs.Arguments.{texts};
 ghost use Rattle.fx_arguments.specs.Mistakes.{IsSaid};
 ghost use Rattle.fx_arguments.specs.Wrong.{said};
@@ -48,7 +48,14 @@ fn line_of(alloc: Global, pieces: &[&str]) -> Result<Vec<u8>, AllocError>
     Ok(line)
 }
 
-/// What the pieces say.
+/// A line of a word between two texts.
+pub fn say_about(alloc: Global, before: &str, word: &str, after: &str) -> Said
+    ensures { IsSaid result (said (before.now ∷ word.now ∷ after.now ∷ [])) }
+{
+    say(alloc, &[before, word, after])
+}
+
+/// A line of these pieces.
 pub fn say(alloc: Global, pieces: &[&str]) -> Said
     ensures { IsSaid result (said (texts pieces.now)) }
 {

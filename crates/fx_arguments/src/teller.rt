@@ -1,4 +1,4 @@
-//! Standard error while a strike is made: it is told of characters that are refused, and of how the run ended.
+//! Standard error during a run: a line for each refused character, and a line for how the run ended.
 ghost use Rattle.std.specs.Prelude.{◌≡◌, ◌∷◌, [], ◌++◌, ◌<◌, ◌^◌, length};
 ghost use Rattle.fx_arguments.specs.declared.line.TheConstants.{CAPACITY};
 ghost use Rattle.fx_arguments.specs.Lines.{done_line, outcome_line, status_of};
@@ -14,8 +14,8 @@ use fx_fixed::{Sink, put_all};
 use fx_request::{Listener, Notice};
 use std::marker::Model;
 
-/// A sink for lines to people, and the listener that writes a line for each notice. Each line is put at once. Once the sink is at
-/// fault no line is put any more, and nobody is told of the fault.
+/// A sink for lines to people, which as a listener writes a line for each notice. It writes each line at once. Once the sink fails
+/// it writes nothing more, and reports no fault.
 #[derive(Drop)]
 pub struct Teller<'e, E: Sink> {
     sink: &'e mut E,
@@ -86,7 +86,7 @@ impl<'e, E: Sink> Teller<'e, E> {
         }
     }
 
-    /// Tells what a run did. Only a strike has a line, and a trace of a character that is missing.
+    /// Tells what a run did. Only a strike has a line, and the trace of a missing character.
     fn tell_done(&mut self, done: Done)
         ensures { Tells self.old self.new (done_line done) }
     {

@@ -8,7 +8,7 @@ use crate::parts::first_part;
 use fx_request::MAX_CODE;
 
 /// Why an item of a list of characters is wrong.
-#[derive(Clone, Copy, Debug, PartialEq, Eq)]
+#[derive(Clone, Copy)]
 pub enum ItemFault {
     /// It is no hexadecimal number or range.
     NoNumber,

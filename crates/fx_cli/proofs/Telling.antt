@@ -1,4 +1,4 @@
--- Runs that tell of refused characters, and those that stop before.
+-- Runs that tell of refused characters, and runs that stop before.
 -- Serves `run`, `run_line`, `run_command`, `run_task` and `unread`.
 use Rattle.std.proofs.Common.{arith, ◌≡◌, ◌∙◌, ◌⊎◌, refl, sym, ap, subst, inl, inr, ℕ, ◌+◌, Bool, true, false, List, [], ◌∷◌, ◌++◌, length}
 use Rattle.std.proofs.Common.{Option, None, Result, Ok, Err}

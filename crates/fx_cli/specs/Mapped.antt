@@ -12,7 +12,7 @@ use Rattle.fx_strike.specs.Strike.{font_with_map}
 unfoldable pub mapped_in : Mapping → ℕ → List ℕ
 mapped_in map limit = take limit (mapped_below map (max_code + 1))
 
--- those of a font, up to the limit of a list; none if it or its map can't be opened, and then there is no strike
+-- the code points of a font, up to the limit of a list; none if it or its map can't be opened, and then there is no strike
 abbrev pub mapped_by : Result (Face × Mapping) Refusal → List ℕ
 mapped_by (Ok opened) = mapped_in opened.1 max_characters
 mapped_by (Err refusal) = []

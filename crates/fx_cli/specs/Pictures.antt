@@ -13,7 +13,7 @@ use Rattle.fx_strike.specs.Strike.{Sketch, Opening}
 use Rattle.fx_strike.specs.Headline.{IsOneOf, Late}
 use Rattle.fx_strike.specs.Faults.{Fails}
 
--- '#' for a bit that is set, '.' for one that is not
+-- '#' for a set bit, '.' for a clear bit
 abbrev pub dot_of : Bool → ℕ
 dot_of true = 35
 dot_of false = 46

@@ -52,7 +52,7 @@ called (program ∷ arguments) = program
 abbrev pub HasLine : List ℕ → Option (List ℕ) → Type 0
 HasLine got left = (length (line_of got) < length got) ⊎ IsAtEnd left
 
--- the arguments of a run: those that it was given, or without arguments those of the input's first line, a text of at most
+-- the arguments of a run: what it was given, or if nothing was given, the words of the input's first line, a text of at most
 -- max_line bytes
 abbrev pub AreArgumentsBy : Bool → List Text → List ℕ → Option (List ℕ) → List Text → Type 0
 AreArgumentsBy true given got left arguments = arguments ≡ given
@@ -98,7 +98,7 @@ IsSpared sink = Keeps sink.bytes_before sink.bytes × (sink.faults ≡ sink.faul
 abbrev pub NoRoom : Change → List Notice → Result Report Refusal → Type 0
 NoRoom sink told answer = (answer ≡ Err OutOfMemory) × IsSpared sink × (told ≡ [])
 
--- the same of those that are asked for
+-- the same for the requested characters
 abbrev pub LeavesBy : CharacterChoiceView → MakeView → FontFileView → Change → List Notice → Result Report Refusal → Type 0
 LeavesBy (listed chars) make font sink told answer = StrikeLeaves make chars font sink told answer
 LeavesBy mapped make font sink told answer =
@@ -176,8 +176,8 @@ IsUsageBy false given got left =
 abbrev pub IsUnread : Change → Type 0
 IsUnread source = (source.bytes ≡ source.bytes_before) × (source.faults ≡ source.faults_before)
 
--- nothing was read if arguments were given; else at most max_line + 1 bytes, the first line with what was read along with it,
--- without a fault
+-- nothing was read if arguments were given; else at most max_line + 1 bytes, the first line and what came with it, without a
+-- fault
 abbrev pub IsReadForArguments : Bool → List ℕ → Change → Type 0
 IsReadForArguments true got source = IsUnread source
 IsReadForArguments false got source = (length got ≤ max_line + 1) × (source.faults ≡ source.faults_before)
@@ -214,8 +214,8 @@ Ends given source sink told (Ok done) = Completes given source sink told (Ok don
 Ends given source sink told (Err (Late refusal)) = Completes given source sink told (Err refusal)
 Ends given source sink told (Err fault) = Stops given source sink told fault
 
--- a run on these arguments, the program's name first: how it ended, its status, and its lines for people: one for each refused
--- character that did not stop the strike, and then that of how the run ended
+-- a run on these arguments, the program's name first: how it ended, its status, and its lines for people. Each refused character
+-- that did not stop the strike has a line, and the last line says how the run ended
 pub record Runs (given : List Text) (source sink err : Change) (status : ℕ) : Type 0 where
   pub outcome : Result Done Fault
   pub notices : List Notice
@@ -223,7 +223,7 @@ pub record Runs (given : List Text) (source sink err : Change) (status : ℕ) : 
   pub told : status ≡ status_of outcome
   pub lines : Tells (flat_map notice_line notices ++ outcome_line outcome) err
 
--- how a run ends if the system gives no arguments: out of memory, or an argument that is not text
+-- how a run ends if the system gives no arguments: memory ran out, or an argument is not text
 abbrev pub unread_outcome : ErrorKind → Result Done Fault
 unread_outcome kind.OutOfMemory = Err (Early OutOfMemory)
 unread_outcome _ = Err Usage

@@ -1,4 +1,4 @@
--- What a front is told of a run.
+-- What a front learns of a run.
 use Rattle.std.specs.Prelude.{false, Some, None, []}
 use Rattle.fx_front.specs.declared.facts.Facts.{Facts}
 

@@ -21,7 +21,7 @@ pub(crate) fn mapped_of(alloc: Global, font: &FontFile<'_>) -> Result<Vec<u32>, 
     mapped_in(alloc, &map, MAX_CHARACTERS)
 }
 
-/// Those of a map, up to a limit.
+/// The characters of a map, up to a limit.
 fn mapped_in(alloc: Global, map: &CharMap<'_>, limit: usize) -> Result<Vec<u32>, AllocError>
     ensures { IfOk result (λ codes. codes.items ≡ mapped_in map.now limit) }
 {

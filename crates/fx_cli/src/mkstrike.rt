@@ -4,13 +4,13 @@ ghost use Rattle.fx_fixed.specs.Changes.{change_of};
 
 use crate::program::run_watched;
 use crate::watch::Watch;
-use fx_arguments::{ItemFault, Task, read_arguments, wrong_item};
+use fx_arguments::{ItemFault, explain, wrong_item};
 use fx_fixed::{Sink, Source};
 use fx_front::{Facts, Parts, Text, Tool};
 use std::alloc::{AllocError, Global};
 use std::marker::Model;
 
-/// The program, and what was seen of its last run. It is seen as what a front is told.
+/// The program, and what was seen of its last run. Contracts see what a front learns.
 #[derive(Drop)]
 pub struct Mkstrike {
     watch: Watch,
@@ -64,15 +64,8 @@ impl Tool for Mkstrike {
     }
 
     fn wrong(&self, alloc: Global, words: &[&str]) -> Result<Vec<u8>, AllocError> {
-        let mut explained = Vec::new(alloc);
-        explained.push("mkstrike")?;
-        explained.push("explain")?;
-        explained.extend_from_slice(words)?;
-        match read_arguments(alloc, &explained) {
-            Ok(command) => match command.task {
-                Task::Explanation(line) => Ok(line),
-                _ => Ok(Vec::new(alloc)),
-            },
+        match explain(alloc, words) {
+            Ok(line) => Ok(line),
             Err(_) => Ok(Vec::new(alloc)),
         }
     }
@@ -102,7 +95,7 @@ fn what_is_wrong(why: ItemFault) -> &'static str {
     }
 }
 
-/// Adds which number or range an item is without the marks before its numbers.
+/// Adds which number or range an item would be without the marks before its numbers.
 fn add_number_meant(text: &mut Text, item: &str) {
     let (low, high) = item.split_once('-').unwrap_or((item, ""));
     let (low, high) = (without_mark(low), without_mark(high));

@@ -47,7 +47,7 @@ fn add_glyph<O: Sink>(
 ) -> Result<(), WriteFailed>
     requires { text.old.faults < 2 ^ 63 }
     ensures text { Adds Fails text.old text.new (shown_of glyph.now) result }
-    // So the number of a fault is exact.
+    // So the count in a write fault is exact.
     ensures short { length (shown_of glyph.now) ≤ longest_picture }
 {
     let Some(glyph) = glyph else {
@@ -80,7 +80,7 @@ fn put_dots(glyph: &BitGlyph, i: u32, buffer: &mut [u8; ROW_BUFFER]) -> usize
     ensures dots { take result buffer.new ≡ map dot_of (slice_index_or glyph.now.rows i []) }
 {
     let width = glyph.bounds().width;
-    // The dots of the pixels before j stand in front.
+    // The dots of the pixels before j are written.
     'pixels: for j in 0..width {
         buffer[j as usize] = dot(glyph.pixel(i, j));
     }

@@ -39,7 +39,7 @@ pub fn run<R: Source, O: Sink, E: Sink>(
     run_watched(alloc, arguments, reader, out, err, &mut NoWatcher)
 }
 
-/// The same, and a watcher sees what was done.
+/// Runs the program, and shows a watcher what it did.
 pub fn run_watched<R: Source, O: Sink, E: Sink, W: Watcher>(
     alloc: Global,
     arguments: &[&str],
@@ -159,7 +159,7 @@ fn run_command<R: Source, O: Sink, E: Sink, W: Watcher>(
     late(outcome)
 }
 
-/// The bytes of the font that a text is, or that it writes in hexadecimal digits.
+/// The bytes of the font: the text itself, or what it writes in hexadecimal digits.
 fn font_bytes(alloc: Global, is_hex: bool, text: Vec<u8>) -> Result<Vec<u8>, Refusal>
     ensures bytes { IfOk result (λ bytes. font_bytes is_hex text.items ≡ Some bytes.items) }
     ensures refused { IfErr result (λ refusal. (refusal ≡ OutOfMemory)

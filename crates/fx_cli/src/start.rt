@@ -34,7 +34,7 @@ pub fn run_program(rt: &HostRuntime) -> u8
     }
 }
 
-/// Runs the program by its front. An error is that there are no arguments, or no memory before the program was run.
+/// Runs the program by its front. An error means that there are no arguments, or that memory ran out before the program began.
 fn run_by_front(rt: &HostRuntime) -> io::Result<u8>
     ensures { IfOk result IsStatus }
 {

@@ -1,4 +1,4 @@
-//! What a front is told of a run.
+//! What a front learns of a run.
 ghost use Rattle.std.specs.Prelude.{◌≡◌, false};
 ghost use Rattle.fx_cli.specs.Watch.{unseen};
 
@@ -17,7 +17,7 @@ const FEW: usize = 8;
 /// Watches a run for a front.
 #[derive(Drop)]
 pub struct Watch {
-    /// What the front is told.
+    /// What the front learns.
     pub facts: Facts,
     /// Whether all missing characters are named.
     pub names_all: bool,

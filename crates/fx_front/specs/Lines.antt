@@ -1,4 +1,4 @@
--- The lines that a front adds for people.
+-- The lines that a front writes for people.
 use Rattle.std.specs.Prelude.{◌≡◌, ◌⊎◌, ◌<◌, ◌==◌, ◌||◌, ℕ, nat_lt, List, [], ◌∷◌, ◌++◌, map, codes, Option, Some, option_map, IfSome, Result}
 use Rattle.std.specs.Prelude.{if◌then◌else◌}
 use Rattle.std.specs.Borrow.{Bor}
@@ -12,27 +12,28 @@ use Rattle.fx_fixed.specs.declared.sink.WriteFailed.{WriteFailed}
 abbrev pub IsLine : List ℕ → Type 0
 IsLine text = All (λ b. 31 < b) text
 
--- what is shown of a byte: `?` for a control character
+-- a byte as it is shown: `?` for a control character
 abbrev pub shown : ℕ → ℕ
 shown byte = if nat_lt byte 32 || byte == 127 then 63 else byte
 
+-- a text as it is shown
 abbrev pub shown_text : List ℕ → List ℕ
 shown_text bytes = map shown bytes
 
--- that of pieces
+-- pieces as they are shown, one after the other
 abbrev pub shown_pieces : List (Bor (List ℕ)) → List ℕ
 shown_pieces pieces = flat_map (λ piece. shown_text piece.now) pieces
 
--- that of a pattern, with a text in place of its first `%` (37)
+-- a pattern as it is shown, with a text in place of its first `%` (37)
 abbrev pub shown_with : List ℕ → List ℕ → List ℕ
 shown_with pattern text = shown_text (before_first (λ b. b == 37) pattern)
     ++ (shown_text text ++ (shown_text (after_first (λ b. b == 37) pattern) ++ []))
 
--- a text has more at its end, or is none since memory ran out, now or before
+-- more was added to a text, or memory ran out, now or before
 abbrev pub Says : Option (List ℕ) → Option (List ℕ) → List ℕ → Type 0
 Says old new more = IfSome new (λ text. option_map (λ front. front ++ more) old ≡ Some text)
 
--- its line: the program's name, the text and LF
+-- the line of a text: the program's name, the text and LF
 abbrev pub line_of : List ℕ → List ℕ
 line_of text = codes "mkstrike: " ++ (text ++ 10 ∷ [])
 

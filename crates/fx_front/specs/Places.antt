@@ -18,7 +18,7 @@ abbrev pub is_named : Option Text → Text → Bool
 is_named None name = false
 is_named (Some command) name = bytes_eq command name
 
--- how a run ends whose file gets its name: it is done, or it is a trace, of which what comes before a halt is kept
+-- a file gets its name if its run is done, or if it is a trace that halted, which keeps the lines before the halt
 abbrev pub IsKept : Bool → ℕ → Type 0
 IsKept is_trace status = (status ≡ 0) ⊎ ((is_trace ≡ true) × (status ≡ 1))
 

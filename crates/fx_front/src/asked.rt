@@ -1,9 +1,10 @@
 //! What a command line asks a front for.
-ghost use Rattle.std.specs.Prelude.{◌≡◌};
-ghost use Rattle.fx_words.specs.Parts.{texts};
+ghost use Rattle.std.specs.Prelude.{◌≡◌, codes, if◌then◌else◌};
+ghost use Rattle.fx_words.specs.Parts.{text_in, texts, value_in};
 ghost use Rattle.fx_front.specs.inner.Asked.{asked_by, asked_by_word, seen_asked};
 
-use crate::meant::command_of;
+use crate::meant::takes_font;
+use fx_fixed::Digits;
 use fx_words::{Parts, has, value_in};
 
 /// What a command line asks a front for.
@@ -16,18 +17,18 @@ pub enum Asked<'a> {
     Run,
 }
 
-/// A run, with what its second line is made from.
+/// A run, as the words ask for it.
 #[derive(Clone, Copy)]
 pub struct AskedRun<'t, 'a> {
     /// The arguments, parted.
     pub parts: &'t Parts<'a>,
-    /// The command, if there is one that takes a font.
-    pub command: Option<&'static str>,
+    /// The command, if it takes a font.
+    pub command: Option<&'a str>,
 }
 
 impl<'t, 'a> AskedRun<'t, 'a> {
-    ghost use Rattle.fx_words.specs.Parts.{text_in};
     ghost use Rattle.fx_front.specs.Places.{is_named};
+    ghost use Rattle.fx_front.specs.inner.Asked.{names_glyph};
 
     /// Whether this is the command.
     pub(crate) fn is(&self, name: &str) -> bool
@@ -40,13 +41,32 @@ impl<'t, 'a> AskedRun<'t, 'a> {
     }
 
     /// The list of characters among the words.
-    pub(crate) fn list(&self) -> Option<&'a str> {
+    pub(crate) fn list(&self) -> Option<&'a str>
+        ensures { let parts = self.now.parts.now in
+            text_in result ≡ value_in (if parts.is_make then codes "--chars" else codes "--char") (texts parts.words.items) }
+    {
         let option = if self.parts.is_make {
             "--chars"
         } else {
             "--char"
         };
         value_in(&self.parts.words, option)
+    }
+
+    /// Whether the words name this glyph by its number.
+    pub(crate) fn names_glyph(&self, glyph: Option<u16>) -> bool
+        ensures { result ≡ names_glyph (texts self.now.parts.now.words.items) glyph }
+    {
+        let words = &self.parts.words;
+        match (
+            glyph,
+            value_in(words, "--glyph").or(value_in(words, "--of")),
+        ) {
+            (Some(glyph), Some(named)) => {
+                named.as_bytes() == Digits::unsigned(u64::from(glyph)).text()
+            }
+            _ => false,
+        }
     }
 }
 
@@ -61,7 +81,7 @@ pub(crate) fn asked_by<'a>(words: &[&'a str], is_terminal: bool) -> Asked<'a>
     }
 }
 
-/// What a first word asks for that these follow.
+/// What a first word asks for, with these words after it.
 fn asked_by_word<'a>(word: &'a str, rest: &[&'a str]) -> Asked<'a>
     ensures { seen_asked result ≡ asked_by_word word.entry.now (texts rest.now) }
 {
@@ -69,7 +89,7 @@ fn asked_by_word<'a>(word: &'a str, rest: &[&'a str]) -> Asked<'a>
         Asked::Version
     } else if has(&["--help", "-h", "help"], word) {
         Asked::Help(rest.first().copied())
-    } else if command_of(word).is_some() && (has(rest, "-h") || has(rest, "--help")) {
+    } else if takes_font(word) && (has(rest, "-h") || has(rest, "--help")) {
         Asked::Help(Some(word))
     } else {
         Asked::Run

@@ -1,4 +1,4 @@
-//! What is said after a run: what to do.
+//! The lines after a run: what to do.
 ghost use Rattle.std.specs.Prelude.{◌≡◌};
 ghost use Rattle.fx_fixed.specs.Changes.{change_of};
 ghost use Rattle.fx_front.specs.Lines.{SaysLine};
@@ -11,14 +11,14 @@ use crate::meant::{instead_of, is_among, meant_by, set_meant_by};
 use crate::run::Ended;
 use crate::text::Text;
 use crate::tool::Tool;
-use fx_fixed::{Digits, Sink};
-use fx_words::{has, list_of, value_in};
+use fx_fixed::Sink;
+use fx_words::{has, list_of};
 use std::alloc::{AllocError, Global};
 
 /// The endings of files of other formats.
 const OTHERS: &str = "psf psfu pcf otb png pbm h c gz pf2 fnt fon hex ttf";
 
-/// What is said of a file whose name has one of these.
+/// The advice on a file whose name has such an ending.
 const IS_BDF: &str =
     "'%' is BDF, like every strike; strike --format of the package python3-mkstrike makes psf, pcf, otb, png, c and gfx";
 
@@ -32,7 +32,7 @@ const IS_CUT: &str =
 
 const IS_BLANK: &str = "no pixel of the strike is set: its characters are blank";
 
-/// What there is for lists that are no numbers.
+/// What takes a list that is no numbers.
 const LISTS: &str =
     "; --set takes sets by name, and strike --text of the package python3-mkstrike takes letters";
 
@@ -49,7 +49,7 @@ const NO_COMMAND: &str =
 const A_FILE: &str =
     "the first word is the command: 'mkstrike make --ppem 16 --chars 20-7e FONT' makes a strike";
 
-/// Says what there is to say after a run: at most two lines. `is_file` tells whether the first word names a file.
+/// Writes at most two lines after a run, which say what to do. `is_file` tells whether the first word names a file.
 pub fn say_after<G: Tool, E: Sink>(
     alloc: Global,
     program: &G,
@@ -71,7 +71,7 @@ pub fn say_after<G: Tool, E: Sink>(
     tell(alloc, err, &run);
 }
 
-/// Adds what is said of a file whose name promises another format, or of a variable font.
+/// Adds advice on a file name that promises another format, or on a variable font.
 fn add_font_or_file(text: &mut Text, facts: &Facts, task: &AskedRun<'_, '_>) {
     if let Some(name) = task.parts.output
         && task.parts.is_make
@@ -84,7 +84,7 @@ fn add_font_or_file(text: &mut Text, facts: &Facts, task: &AskedRun<'_, '_>) {
     }
 }
 
-/// Adds what is said of a run.
+/// Adds advice on a run.
 fn add_run<G: Tool>(
     alloc: Global,
     text: &mut Text,
@@ -102,7 +102,7 @@ fn add_run<G: Tool>(
     }
 }
 
-/// Adds what is said of a strike.
+/// Adds advice on a strike.
 fn add_strike(
     text: &mut Text,
     task: &AskedRun<'_, '_>,
@@ -167,7 +167,7 @@ fn add_refusal<G: Tool>(
         (17..=23, _) if task.parts.is_make => {
             text.add_with("%; --refused leave-out does so", advice)
         }
-        (24, _) if names_glyph(task, refused.glyph) => {
+        (24, _) if task.names_glyph(refused.glyph) => {
             text.add_text("the font has no glyph of that number")
         }
         (25, Some(start)) => add_faces(text, start),
@@ -177,7 +177,7 @@ fn add_refusal<G: Tool>(
     }
 }
 
-/// Adds what to do after a halt. A trace runs the programs always.
+/// Adds what to do after a halt. A trace always runs the programs.
 fn add_halt(text: &mut Text, task: &AskedRun<'_, '_>, refused: RefusalFacts) {
     if task.parts.is_make && refused.is_halted_glyph {
         text.add_text("--refused unhinted draws such characters without hinting; ");
@@ -188,19 +188,7 @@ fn add_halt(text: &mut Text, task: &AskedRun<'_, '_>, refused: RefusalFacts) {
     text.add_with("to fix the font, %", refused.advice);
 }
 
-/// Whether the glyph that is refused is one that the words name.
-fn names_glyph(task: &AskedRun<'_, '_>, glyph: Option<u16>) -> bool {
-    let words = &task.parts.words;
-    let named = value_in(words, "--glyph").or(value_in(words, "--of"));
-    match (glyph, named) {
-        (Some(glyph), Some(named)) => {
-            named.as_bytes() == Digits::unsigned(u64::from(glyph)).text()
-        }
-        _ => false,
-    }
-}
-
-/// Adds which faces a file has that begins so.
+/// Adds which faces a file has, by its first bytes.
 fn add_faces(text: &mut Text, start: &[u8]) {
     let [b't', b't', b'c', b'f', _, _, _, _, a, b, c, d] = start else {
         return text.add_text("the file is no collection: leave --face out");
@@ -241,14 +229,14 @@ fn add_list<G: Tool>(
     }
 }
 
-/// Adds that no set of characters has this name, and which may be meant.
+/// Adds that no set of characters has this name, and which one it may mean.
 fn add_unknown_set(alloc: Global, text: &mut Text, name: &str) {
     text.add_with("no set of characters has the name '%';", name);
     add_question(text, set_meant_by(alloc, name));
     text.add_text(" 'mkstrike help sets' lists the sets");
 }
 
-/// Adds the question whether a word is meant, if one may be.
+/// Adds the question which word is meant, if there is one to ask.
 fn add_question(text: &mut Text, meant: Result<Text, AllocError>) {
     let Ok(meant) = meant else {
         return text.stop();
@@ -263,7 +251,7 @@ fn add_question(text: &mut Text, meant: Result<Text, AllocError>) {
     }
 }
 
-/// Adds what there is for a list that has names or letters.
+/// Adds what takes a list of names or letters.
 fn add_names(alloc: Global, text: &mut Text, list: &str) {
     if is_among(list, "all *") {
         return text.add_text("; --all takes all characters of the font");
@@ -283,25 +271,18 @@ fn add_names(alloc: Global, text: &mut Text, list: &str) {
 
 /// The first item of a list that looks like a word.
 fn first_word(list: &str) -> Option<&str> {
-    // No item so far does.
-    'items: for item in list.split(',') {
-        if is_word(item) {
-            return Some(item);
-        }
-    }
-    None
+    list.split(',').find(|item| is_word(item))
 }
 
-/// Whether an item looks like a word or a letter, and not like numbers: some byte is a letter from g to z but `x` and `u`, which
-/// come before numbers, or is not of ASCII.
+/// Whether an item looks like a word or a letter, and not like numbers: it has a byte outside ASCII, or a letter from g to z. The
+/// letters `x` and `u` come before numbers, and do not count.
 fn is_word(item: &str) -> bool {
-    // No byte so far is.
-    'bytes: for byte in item.as_bytes() {
-        if let b'g'..=b't' | b'v' | b'w' | b'y' | b'z' | 128..=255 = byte.to_ascii_lowercase() {
-            return true;
-        }
-    }
-    false
+    item.as_bytes().iter().any(|byte| {
+        matches!(
+            byte.to_ascii_lowercase(),
+            b'g'..=b't' | b'v' | b'w' | b'y' | b'z' | 128..=255
+        )
+    })
 }
 
 /// Adds what is wrong with a command line.
@@ -326,7 +307,7 @@ fn add_usage<G: Tool>(
     }
 }
 
-/// Adds the line that says what is wrong with the words of a command, and what explains it further.
+/// Adds the line that says what is wrong with the words of a command, and further advice.
 fn add_wrong(alloc: Global, text: &mut Text, task: &AskedRun<'_, '_>, command: &str, wrong: &str) {
     match wrong.strip_prefix("unknown option '") {
         Some("-o'") => text.add_text("-o takes the name of a file, and is given once;"),
@@ -353,7 +334,7 @@ fn add_wrong(alloc: Global, text: &mut Text, task: &AskedRun<'_, '_>, command: &
     text.add_with(" 'mkstrike help %' shows how it is written", command);
 }
 
-/// Adds what there is in place of an unknown option of a command, or which may be meant.
+/// Adds what to use in place of an unknown option of a command, or which one it may mean.
 fn add_instead(alloc: Global, text: &mut Text, option: &str, command: &str) {
     match instead_of(option) {
         Some(instead) => text.add_with(" %;", instead),
@@ -361,7 +342,7 @@ fn add_instead(alloc: Global, text: &mut Text, option: &str, command: &str) {
     }
 }
 
-/// What explains a wrong value of `--ppem` further.
+/// Further advice on a wrong value of `--ppem`.
 fn about_ppem(wrong: &str) -> &'static str {
     let Some(value) = wrong.strip_prefix("--ppem takes a whole number from 1 to 1024, not '") else {
         return "";

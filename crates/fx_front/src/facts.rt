@@ -1,14 +1,14 @@
-//! What a front is told of a run.
+//! What a front learns of a run.
 use crate::text::Text;
 
-/// What was counted over a strike.
+/// The counts of a strike.
 #[derive(Clone, Copy)]
 pub struct Counts {
     pub glyphs: u32,
     pub missing: u32,
 }
 
-/// What is told of a refusal.
+/// What a front learns of a refusal.
 #[derive(Clone, Copy)]
 pub struct RefusalFacts {
     /// Its number.
@@ -23,7 +23,7 @@ pub struct RefusalFacts {
     pub is_halted_glyph: bool,
 }
 
-/// What is told of a run.
+/// What a front learns of a run.
 #[derive(Drop)]
 pub struct Facts {
     /// The strike that was made.

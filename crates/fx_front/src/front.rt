@@ -1,21 +1,23 @@
 //! A run as a command line asks for it.
-ghost use Rattle.std.specs.Prelude.{IfOk};
+ghost use Rattle.std.specs.Prelude.{◌≡◌, ◌≤◌, length, IfOk};
 ghost use Rattle.fx_fixed.specs.Changes.{change_of};
+ghost use Rattle.fx_words.specs.Parts.{text_in, texts};
 ghost use Rattle.fx_front.specs.Places.{IsStatus};
 ghost use Rattle.fx_front.specs.Lines.{SaysLine};
+ghost use Rattle.fx_front.specs.inner.Asked.{command_in, is_explained};
 
 use crate::asked::{Asked, AskedRun, asked_by};
 use crate::explained::say_after;
 use crate::help::{HELPS, OVERVIEW, VERSION};
 use crate::input::Input;
 use crate::lines::tell;
-use crate::meant::{command_of, row_of};
+use crate::meant::takes_font;
 use crate::output::{NO_FOLDER, Outlet, Output, output_of, why_closed};
 use crate::run::run_to_place;
 use crate::text::Text;
 use crate::tool::Tool;
 use fx_fixed::{FromReader, Sink, ToSink, put_all};
-use fx_words::{listed, part, value_in};
+use fx_words::{listed, part, value_in, value_of};
 use std::alloc::{AllocError, Global};
 use std::fs::File;
 use std::io::IsTerminal;
@@ -28,8 +30,8 @@ const FONT_FILE: &str =
     "the first word that is neither an option nor its value names the font's file; 'fc-list' shows the \
      files of the installed fonts";
 
-/// Does what a command line asks for, the program's name first. Returns the status: 0, 1 or 2. An error is that memory ran out
-/// before the program was run.
+/// Does what a command line asks for, the program's name first. Returns the status: 0, 1 or 2. An error means that memory ran out
+/// before the program began.
 pub fn run_front<G: Tool>(rt: &HostRuntime, program: &mut G, words: &[&str]) -> io::Result<u8>
     ensures { IfOk result IsStatus }
 {
@@ -45,8 +47,8 @@ pub fn run_front<G: Tool>(rt: &HostRuntime, program: &mut G, words: &[&str]) -> 
 fn print_help(rt: &HostRuntime, command: &str) -> u8
     ensures { IsStatus result }
 {
-    match row_of(&HELPS, command) {
-        Some((_, text)) => print(rt, text),
+    match value_of(&HELPS, command) {
+        Some(text) => print(rt, text),
         None => {
             say(rt, &["usage"]);
             let what = "'; 'mkstrike help' lists the commands";
@@ -72,7 +74,7 @@ fn say(rt: &HostRuntime, pieces: &[&str]) {
     tell(rt.alloc(), &mut err, &Text::of(rt.alloc(), pieces));
 }
 
-/// Says why there are no words, after the line of a wrong command line.
+/// Says that an argument is not text, after the line of a wrong command line.
 pub fn say_not_text<E: Sink>(alloc: Global, err: &mut E)
     ensures { SaysLine (change_of E.held E.fault_count err.old err.new) }
 {
@@ -85,7 +87,7 @@ fn run_words<G: Tool>(rt: &HostRuntime, program: &mut G, words: &[&str]) -> Resu
     ensures { IfOk result IsStatus }
 {
     let (command, count) = command_in(words);
-    let (before, after) = words.split_at(words.len().min(count));
+    let (before, after) = words.split_at(count);
     let list = listed(rt.alloc(), value_in(words, "--set").unwrap_or(""))?;
     let is_make = matches!(command, Some("make"));
     let parts = part(rt.alloc(), before, is_make, list.as_str(), after)?;
@@ -121,17 +123,25 @@ fn run_parted<G: Tool>(
 }
 
 /// Whether words are only explained.
-fn is_explained(words: &[&str]) -> bool {
-    matches!(words, [_, "explain", ..])
+fn is_explained(words: &[&str]) -> bool
+    ensures { result ≡ is_explained (texts words.now) }
+{
+    match words.get(1) {
+        Some(word) => *word == "explain",
+        None => false,
+    }
 }
 
-/// The command that takes a font, which the second word names, or the one after `explain`; and how many words end with its name.
-/// Without one all words are for the program.
-fn command_in(words: &[&str]) -> (Option<&'static str>, usize) {
+/// The command that takes a font, named by the first word or by the word after `explain`, and the number of words up to it. Without
+/// one, all words are for the program.
+fn command_in<'a>(words: &[&'a str]) -> (Option<&'a str>, usize)
+    ensures command { text_in result.0 ≡ command_in (texts words.entry.now) }
+    ensures within { result.1 ≤ length words.entry.now }
+{
     let at = if is_explained(words) { 2 } else { 1 };
-    match command_of(words.get(at).copied().unwrap_or("")) {
-        None => (None, words.len()),
-        command => (command, at + 1),
+    match words.get(at) {
+        Some(word) if takes_font(word) => (Some(*word), at + 1),
+        _ => (None, words.len()),
     }
 }
 
@@ -176,7 +186,7 @@ fn input_of(rt: &HostRuntime, font: Option<&str>) -> Result<Input, &'static str>
     }
 }
 
-/// Says what is wrong with the other words, or else why the font can't be opened. Returns the status.
+/// Says what is wrong with the other words, or if nothing is, why the font can't be opened. Returns the status.
 fn refuse_font<G: Tool>(
     rt: &HostRuntime,
     program: &mut G,
@@ -215,7 +225,7 @@ fn refuse_output(rt: &HostRuntime, task: &AskedRun<'_, '_>, why: &str) -> u8
     1
 }
 
-/// Runs the program from an input to an output, and says what there is to say. Returns the status.
+/// Runs the program from an input to an output, and says what to do after it. Returns the status.
 fn run_from<G: Tool>(
     rt: &HostRuntime,
     program: &mut G,

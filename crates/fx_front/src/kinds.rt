@@ -74,7 +74,7 @@ pub(crate) const KINDS: [(&[u8], &str); 17] = [
     ),
 ];
 
-/// What a file looks like that begins so and is no TrueType font, and what to do, by such a table.
+/// What a file that is no TrueType font looks like, by its first bytes and such a table, and what to do.
 pub(crate) fn kind_of(rows: &[(&'static [u8], &'static str)], start: &[u8]) -> Option<&'static str>
     ensures { text_in result ≡ kind_of rows.now start.now }
 {
@@ -89,11 +89,11 @@ pub(crate) fn kind_of(rows: &[(&'static [u8], &'static str)], start: &[u8]) -> O
     }
 }
 
-/// What is said in the first row whose bytes a file begins with.
+/// The advice in the first row whose bytes begin the file.
 fn kind_among(rows: &[(&'static [u8], &'static str)], start: &[u8]) -> Option<&'static str>
     ensures { text_in result ≡ kind_among rows.now start.now }
 {
-    // The first row that fits among those that are left is that among all.
+    // No row so far fits.
     'rows: for row in rows {
         if start.starts_with(row.0) {
             return Some(row.1);
@@ -106,11 +106,7 @@ fn kind_among(rows: &[(&'static [u8], &'static str)], start: &[u8]) -> Option<&'
 fn looks_hexadecimal(start: &[u8]) -> bool
     ensures { result ≡ list_all is_hexadecimal start.now }
 {
-    // All bytes are exactly if those are that are left.
-    'bytes: for byte in start {
-        if !(byte.is_ascii_hexdigit() || *byte == b' ' || *byte == b'\r' || *byte == b'\n') {
-            return false;
-        }
-    }
-    true
+    start.iter().all(|byte| {
+        byte.is_ascii_hexdigit() || *byte == b' ' || *byte == b'\r' || *byte == b'\n'
+    })
 }

@@ -4,7 +4,7 @@ use crate::destination::Destination;
 use fx_fixed::Sink;
 use std::io::Write;
 
-/// How many of the first bytes are kept: the first four lines of a strike, whose name has at most 255.
+/// How many of the first bytes are kept: enough for four lines of a strike, whose name has at most 255 bytes.
 const ROOM: usize = 512;
 
 /// A sink whose file is made at a place when the first byte comes. It keeps the first bytes.

@@ -1,5 +1,5 @@
-//! The front of a run of `mkstrike`: the font and the output by their names, help, and after the lines of the run at most two that
-//! say what to do. It knows nothing of fonts: what it runs is a `Tool`, and what it says comes of the `Facts` of a run.
+//! The front of `mkstrike`. It opens the font and the output by their names, prints help, and after a run writes at most two lines
+//! that say what to do. It knows nothing of fonts: it runs a `Tool`, and reads the `Facts` of the run.
 #![tactic(auto)]
 
 mod asked;

@@ -1,4 +1,4 @@
-//! The lines that a front adds for people.
+//! The lines that a front writes for people.
 ghost use Rattle.std.specs.Prelude.{◌≡◌, IfOk};
 ghost use Rattle.fx_fixed.specs.Changes.{change_of};
 ghost use Rattle.fx_front.specs.Lines.{IsLine, SaysLine, line_of};
@@ -7,8 +7,8 @@ use crate::text::Text;
 use fx_fixed::{Sink, put_all};
 use std::alloc::{AllocError, Global};
 
-/// Says a text in a line, if there was memory for it. Nothing is said without bytes, or if the sink was at fault before. A fault is
-/// ignored.
+/// Writes a text as a line, if there was memory for it. It writes nothing if the text is empty or the sink failed before, and
+/// ignores a fault.
 pub fn tell<E: Sink>(alloc: Global, err: &mut E, text: &Text)
     ensures { SaysLine (change_of E.held E.fault_count err.old err.new) }
 {

@@ -1,10 +1,12 @@
-//! Which word may be meant by one that is unknown, and what there is in its place.
-ghost use Rattle.std.specs.Prelude.{◌≡◌, map, option_map};
-ghost use Rattle.fx_words.specs.Parts.{text_in};
-ghost use Rattle.fx_front.specs.inner.Asked.{command_of, name_among};
+//! Which word an unknown one may mean, and what to use in its place.
+ghost use Rattle.std.specs.Prelude.{◌≡◌, ◌==◌};
+ghost use Rattle.std.specs.List.{slice_split};
+ghost use Rattle.fx_words.specs.Parts.{has};
+ghost use Rattle.fx_front.specs.inner.Asked.{commands};
 
 use crate::help::SETS;
 use crate::text::Text;
+use fx_words::value_of;
 use std::alloc::{AllocError, Global};
 use strsim::levenshtein;
 
@@ -29,7 +31,7 @@ const OPTIONS: [(&str, &str); 5] = [
 /// All commands.
 const COMMANDS: &str = "make show outline dump trace explain help";
 
-/// What others call an option or a command.
+/// Names that other programs give an option or a command.
 const USUAL: [(&str, &str); 8] = [
     (
         "--size --px --pixels --pixelsize --pixel-size --height -p -s",
@@ -44,7 +46,7 @@ const USUAL: [(&str, &str); 8] = [
     ("convert strike bdf", "make"),
 ];
 
-/// What there is in place of options that others have.
+/// What to use in place of options of other programs.
 const INSTEAD: [(&str, &str); 7] = [
     (
         "--pt --points --dpi --resolution -r",
@@ -79,45 +81,25 @@ const INSTEAD: [(&str, &str); 7] = [
 const STRIKE: &str =
     "the command strike of the package python3-mkstrike makes formats, cells, several sizes and texts: 'strike --help'";
 
-/// The first row of a table with a name.
-pub(crate) fn row_of(
-    rows: &[(&'static str, &'static str)],
-    name: &str,
-) -> Option<(&'static str, &'static str)>
-    ensures { option_map (λ row. row.0.now) result ≡ name_among (map (λ row. row.0.now) rows.now) name.now }
+/// Whether a word is a command that takes a font.
+pub(crate) fn takes_font(word: &str) -> bool
+    ensures { result ≡ has commands word.now }
 {
-    // The first row with the name among those that are left is that among all.
-    'rows: for row in rows {
-        if row.0 == name {
-            return Some(*row);
-        }
-    }
-    None
+    value_of(&OPTIONS, word).is_some()
 }
 
-/// The command that takes a font, of its name.
-#[tactic(auto, unfolding(crate::specs::inner::Asked::command_of, crate::specs::inner::Asked::commands))]
-pub(crate) fn command_of(word: &str) -> Option<&'static str>
-    ensures { text_in result ≡ command_of word.now }
-{
-    match row_of(&OPTIONS, word) {
-        Some((command, _)) => Some(command),
-        None => None,
-    }
-}
-
-/// What there is in place of an option that others have.
+/// What to use in place of an option of other programs.
 pub(crate) fn instead_of(option: &str) -> Option<&'static str> {
     usual_for(&INSTEAD, option, "")
 }
 
-/// The second column of the first row that has a word in the first, and in the second one of these words, if there are any.
+/// The second column of the first row that has the word in its first. If there are `words`, the second must be one of them.
 fn usual_for(
     rows: &[(&'static str, &'static str)],
     word: &str,
     words: &str,
 ) -> Option<&'static str> {
-    // No row so far has the word, and is for one of these.
+    // No row so far fits.
     'rows: for row in rows {
         if is_among(word, row.0) && (words.is_empty() || is_among(row.1, words)) {
             return Some(row.1);
@@ -126,13 +108,10 @@ fn usual_for(
     None
 }
 
-/// Asks whether an option of a command is meant by a word, or a command if none is given. It is found by a usual word for it, or by
-/// the fewest letters that differ, and then there may be several. Asks nothing if there is none.
+/// Asks whether a word means an option of a command, or a command if `command` is empty. A usual name of it decides, or else the
+/// fewest letters that differ, which may fit several. The text is empty if nothing fits.
 pub(crate) fn meant_by(alloc: Global, word: &str, command: &str) -> Result<Text, AllocError> {
-    let words = match row_of(&OPTIONS, command) {
-        Some((_, options)) => options,
-        None => COMMANDS,
-    };
+    let words = value_of(&OPTIONS, command).unwrap_or(COMMANDS);
     match usual_for(&USUAL, word, words) {
         Some(meant) => nearest_among(alloc, meant, meant),
         None if word.len() < 5 && word.starts_with('-') => Ok(Text::new(alloc)),
@@ -140,7 +119,7 @@ pub(crate) fn meant_by(alloc: Global, word: &str, command: &str) -> Result<Text,
     }
 }
 
-/// Asks whether a set of characters is meant by a name, by the fewest letters that differ; not if the name is too short to tell.
+/// Asks whether a name means a set of characters, by the fewest letters that differ. A short name is too little to tell.
 pub(crate) fn set_meant_by(alloc: Global, name: &str) -> Result<Text, AllocError> {
     if name.len() < 4 {
         return Ok(Text::new(alloc));
@@ -148,13 +127,13 @@ pub(crate) fn set_meant_by(alloc: Global, name: &str) -> Result<Text, AllocError
     nearest_among(alloc, name, set_names())
 }
 
-/// The names of the sets: what their help has between its first blank line and the next.
+/// The names of the sets, which their help lists between its first two blank lines.
 fn set_names() -> &'static str {
     let (_, rest) = SETS.split_once("\n\n").unwrap_or(("", ""));
     rest.split_once("\n\n").unwrap_or(("", "")).0
 }
 
-/// Asks whether those among some words, parted by spaces, are meant that differ from a word in the fewest letters, in two at most.
+/// Asks whether a word means the nearest of `words`, which have spaces between them. Two letters may differ, no more.
 fn nearest_among(alloc: Global, word: &str, words: &str) -> Result<Text, AllocError> {
     let word = word.to_ascii_lowercase(alloc)?;
     let mut meant = Text::new(alloc);
@@ -173,13 +152,9 @@ fn nearest_among(alloc: Global, word: &str, words: &str) -> Result<Text, AllocEr
     Ok(meant)
 }
 
-/// Whether a word is among others, which spaces part.
-pub(crate) fn is_among(word: &str, words: &str) -> bool {
-    // No word so far is.
-    'words: for each in words.split(' ') {
-        if each == word {
-            return true;
-        }
-    }
-    false
+/// Whether a word is among others, with spaces between them.
+pub(crate) fn is_among(word: &str, words: &str) -> bool
+    ensures { result ≡ has (slice_split (λ b. b == 32) words.now) word.now }
+{
+    words.split(' ').any(|each| each == word)
 }

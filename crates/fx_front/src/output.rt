@@ -25,9 +25,9 @@ const TRIES: u32 = 100;
 pub enum Output {
     /// To standard output.
     Standard,
-    /// To what is there and is no plain file, as a device or a pipe.
+    /// To a device, a pipe or another file that is not plain.
     Device(File),
-    /// To a new file beside the one of this name; like the one that is there, if one is.
+    /// To a new file of this name, with the permissions of the one that it replaces, if there is one.
     New(String, Option<Permissions>),
 }
 
@@ -45,7 +45,7 @@ pub enum OpenOutput {
     Standard(Stdout),
     /// A device or a pipe.
     Device(File),
-    /// A new file, and the name under which it is made.
+    /// A new file, and its name until all is written.
     New(File, String),
 }
 
@@ -58,7 +58,7 @@ pub(crate) fn why_closed(fault: &io::Error) -> &'static str {
     }
 }
 
-/// Where the output of this name goes, or why it is not written. It is not written over the font.
+/// Where the output of this name goes, or why it is not written. It never replaces the font.
 pub(crate) fn output_of(
     rt: &HostRuntime,
     name: Option<&str>,
@@ -82,7 +82,7 @@ pub(crate) fn output_of(
     }
 }
 
-/// A new file of this name, like the one that is there, if one is; or why it can't be made.
+/// A new file of this name, with the permissions of the one that it replaces; or why it can't be made.
 fn new_file(
     rt: &HostRuntime,
     name: &str,
@@ -98,7 +98,7 @@ fn new_file(
     Ok(Ok(Output::New(name, like)))
 }
 
-/// Why what is there is not written.
+/// Why a file that exists is not replaced.
 fn refused(rt: &HostRuntime, name: &str, font: &str, found: &Metadata) -> Option<&'static str> {
     if found.is_dir() {
         return Some("it is a folder");
@@ -114,7 +114,7 @@ fn refused(rt: &HostRuntime, name: &str, font: &str, found: &Metadata) -> Option
     if found.permissions().readonly() {
         return Some("it is read-only");
     }
-    // the system is asked by the name as it is given, since it may guard a link
+    // Ask by the name as it is given: the system may guard a link.
     match File::options().append(true).open(rt, name) {
         Ok(_) => None,
         Err(fault) => Some(why_closed(&fault)),
@@ -132,7 +132,7 @@ fn device_of(rt: &HostRuntime, name: &str) -> Result<Output, &'static str> {
     }
 }
 
-/// Makes a new file in the folder of the one of this name, with these permissions.
+/// Makes a file beside this name, with these permissions.
 fn make_beside(rt: &HostRuntime, name: &str, like: &Option<Permissions>) -> Option<OpenOutput> {
     let number = std::process::id(rt.process());
     // The names so far are taken.
@@ -147,7 +147,7 @@ fn make_beside(rt: &HostRuntime, name: &str, like: &Option<Permissions>) -> Opti
     None
 }
 
-/// A file that was made under this name, with these permissions.
+/// A file that was made under this name, given these permissions.
 fn kept_new(
     rt: &HostRuntime,
     opened: File,

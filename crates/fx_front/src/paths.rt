@@ -17,7 +17,7 @@ pub(crate) fn folder_of(path: &str) -> &str {
     }
 }
 
-/// The name that a chain of links at the end of a path leads to. None if one can't be followed. An error is that memory ran out.
+/// The name to which the links at the end of a path lead. None if one can't be followed. An error means that memory ran out.
 pub(crate) fn followed(rt: &HostRuntime, path: &str) -> Result<Option<String>, AllocError> {
     let mut name = String::from_str(rt.alloc(), path)?;
     // `name` is reached from the path by the links so far.
@@ -33,13 +33,13 @@ pub(crate) fn followed(rt: &HostRuntime, path: &str) -> Result<Option<String>, A
     Ok(None)
 }
 
-/// Whether what was to be read as a link is none, or is not there.
+/// Whether a path names no link, or nothing.
 fn is_no_link(fault: &io::Error) -> bool {
     matches!(fault.kind(), ErrorKind::InvalidInput | ErrorKind::NotFound)
 }
 
-/// The same open file under a number above those of the standard streams. A file that is opened while one of these is closed gets
-/// its number, and what is written to the stream would go to the file.
+/// The same open file, under a number above the standard streams. If a stream is closed, the next file that is opened gets its
+/// number, and what is written to the stream would go to that file.
 pub(crate) fn beside_streams(file: File) -> Option<File> {
     if file.as_raw_fd() > 2 {
         return Some(file);

@@ -24,8 +24,8 @@ pub struct Ended {
     pub is_unmade: bool,
 }
 
-/// Runs a program whose output is a new file at a place. It gets its name if the status is 0, or after the halt of a trace if
-/// something was traced; else it is removed.
+/// Runs a program whose output is a new file at a place. The file gets its name if the status is 0, or if a trace halted after some
+/// lines; else it is removed.
 pub fn run_to_place<G: Tool, P: Destination, R: Source, E: Sink>(
     alloc: Global,
     program: &mut G,
@@ -57,7 +57,7 @@ pub fn run_to_place<G: Tool, P: Destination, R: Source, E: Sink>(
     }
 }
 
-/// Whether what a run wrote is kept after it failed: what was traced until a halt.
+/// Whether the output of a failed run is kept: a trace keeps its lines before a halt.
 fn keeps<G: Tool>(program: &G, is_trace: bool, status: u8) -> bool
     ensures trace { result ≡ true → is_trace ≡ true }
     ensures status { result ≡ true → status ≡ 1 }

@@ -9,8 +9,8 @@ use fx_fixed::Digits;
 use std::alloc::Global;
 use std::marker::Model;
 
-/// A text of one line: a control character of what is added stands as `?`. Once memory runs out nothing more is added. It is seen
-/// as its bytes until then, and as none from then on.
+/// A text of one line, which shows control characters as `?`. Once memory runs out it takes nothing more, and contracts see `None`
+/// in place of its bytes.
 #[derive(Drop)]
 pub struct Text {
     bytes: Vec<u8>,
@@ -109,14 +109,14 @@ impl Text {
         }
     }
 
-    /// Stops, since memory ran out for what was to be added.
+    /// Stops, since memory ran out for the next piece.
     pub fn stop(&mut self)
         ensures { self.new ≡ None }
     {
         self.is_whole = false;
     }
 
-    /// The bytes; none once memory ran out.
+    /// The bytes; `None` once memory ran out.
     pub fn bytes(&self) -> Option<&[u8]>
         ensures text { option_map (λ bytes. bytes.now) result ≡ self.now }
         ensures line { IfSome result (λ bytes. IsLine bytes.now) }
@@ -129,7 +129,7 @@ impl Text {
     }
 }
 
-/// How a byte is shown.
+/// The byte that shows a byte.
 fn shown(byte: u8) -> u8
     ensures value { result ≡ shown byte }
     ensures above { 31 < result }

@@ -5,7 +5,7 @@ use fx_fixed::{Sink, Source};
 use fx_words::Parts;
 use std::alloc::{AllocError, Global};
 
-/// A program with the words of a command line, an input, an output and lines for people.
+/// A program that takes the words of a command line, an input and an output, and writes lines for people.
 pub trait Tool {
     ghost use Rattle.std.specs.Prelude.{◌≡◌, ◌<◌, ◌^◌, ℕ, List};
     ghost use Rattle.fx_fixed.specs.Changes.{Change, change_of};
@@ -15,8 +15,8 @@ pub trait Tool {
     // A run on these words, the program's name first: what became of its source, its sink and its lines, and its status.
     ghost Ran: { List (List ℕ) → Change → Change → Change → ℕ → Type 0 };
 
-    /// Runs on the words for the program, and returns the status. `names_all` of the parts tells whether the facts name all missing
-    /// characters, or the first alone.
+    /// Runs on the words for the program, and returns the status. If `names_all` of the parts is set, the facts name all missing
+    /// characters, else only the first.
     fn run<R: Source, O: Sink, E: Sink>(
         &mut self,
         alloc: Global,
@@ -32,7 +32,7 @@ pub trait Tool {
             (change_of O.held O.fault_count out.old out.new) (change_of E.held E.fault_count err.old err.new) result }
         ensures status { IsStatus result };
 
-    /// What is told of the last run.
+    /// What a front learns of the last run.
     fn facts(&self) -> &Facts;
 
     /// What is wrong first with the words of a command line after the program's name; no bytes if nothing is.

@@ -1,5 +1,5 @@
--- Texts joined by another.
--- `listed` joins lists that it borrows.
+-- Joining borrowed texts.
+-- Serves `listed`.
 use Rattle.std.proofs.Common.{◌≡◌, List, [], ◌∷◌, ◌++◌, refl, ap}
 use Rattle.std.specs.Borrow.{Bor}
 use Rattle.std.specs.List.{flat_map, join_by}
@@ -11,7 +11,7 @@ module _ (between : Text) where
   rest_of_texts [] = refl
   rest_of_texts (word ∷ words) = ap (λ rest. (between ++ word.now) ++ rest) (rest_of_texts words)
 
-  -- joined as they are borrowed, or as they are
+  -- joining borrowed texts joins what they hold
   pub joined_texts : (words : List (Bor Text)) →
       join_by (λ word. word.now) between words ≡ join_by (λ word. word) between (texts words)
   joined_texts [] = refl

@@ -101,7 +101,7 @@ valued =
     codes "--ppem" ∷ codes "--chars" ∷ codes "--name" ∷ codes "--property" ∷ codes "--refused" ∷ codes "--face"
     ∷ codes "--char" ∷ codes "--glyph" ∷ codes "--of" ∷ []
 
--- what a word is that is no value
+-- the kind of a word that is no value
 abbrev pub other_kind : Bool → Text → WordKind
 other_kind is_make word =
     if is_make && is_joined_set word then JoinedSet
@@ -149,7 +149,7 @@ first_by Flag parts word = kept parts word next.Any
 abbrev pub first : PartsView → Text → PartsView
 first parts word = first_by (kind_of parts.is_make word) parts word
 
--- the next word. After `-o` it is the output's name if it is one, and else `-o` is for the program, which refuses it
+-- the next word. After `-o` it is the name of the output; if it is none, `-o` is for the program, which refuses it
 abbrev pub step_by : Next → PartsView → Text → PartsView
 step_by next.Any parts word = first parts word
 step_by next.Value parts word = if has_hyphen word then first parts word else kept parts word next.Any
@@ -187,7 +187,7 @@ start_of before is_make listed = record {
 abbrev pub parts_of : List Text → Bool → Text → List Text → PartsView
 parts_of before is_make listed words = end (fold step (start_of before is_make listed) words)
 
--- the law: after words that name neither, FONT and `-o FILE` change nothing else; the words for the program are those before them
+-- the law: after words that name neither, FONT and `-o FILE` set the font and the output, and change nothing else
 abbrev pub NamesAreApart : Type 0
 NamesAreApart = (parts : PartsView) (font output : Text) → parts.font ≡ None → parts.output ≡ None → parts.next ≡ next.Any
     → kind_of parts.is_make font ≡ Name → is_option output ≡ false

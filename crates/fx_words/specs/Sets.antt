@@ -88,6 +88,6 @@ list_of name = value_of sets (first_name (map to_ascii_lowercase name))
 abbrev pub meant : Text → Text
 meant part = unwrap_or (list_of part) part
 
--- the list that names stand for: what is between commas is replaced by what it stands for
+-- a list with the names of sets replaced, part by part between its commas
 abbrev pub listed : Text → Text
 listed names = join_by (λ list. list) (codes ",") (map meant (slice_split (λ b. b == 44) names))

@@ -7,4 +7,4 @@ mod parts;
 mod sets;
 
 pub use parts::{Parts, has, part, value_in};
-pub use sets::{SETS, list_of, listed};
+pub use sets::{SETS, list_of, listed, value_of};

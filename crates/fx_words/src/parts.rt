@@ -36,7 +36,7 @@ pub enum Next {
     Name,
 }
 
-/// What a word is that is no value.
+/// The kind of a word that is no value.
 #[derive(Clone, Copy)]
 pub enum WordKind {
     /// `-o`.
@@ -148,7 +148,7 @@ impl<'a> Parts<'a> {
         Ok(())
     }
 
-    /// Takes a word after an option that takes a value; as its value the program is given `value`.
+    /// Takes a word after an option that takes a value. If it is one, the program gets `value`.
     fn take_value(&mut self, word: &'a str, value: &'a str) -> Result<(), AllocError>
         ensures option { has_hyphen word.entry.now ≡ true → OnOk result (seen self.new ≡ first (seen self.old) word.entry.now) }
         ensures value { has_hyphen word.entry.now ≡ false
@@ -176,7 +176,7 @@ impl<'a> Parts<'a> {
     fn take_output(&mut self, word: &'a str) -> Result<(), AllocError>
         ensures { OnOk result (seen self.new ≡ step_by Next.Output (seen self.old) word.entry.now) }
     {
-        if matches!(word, "-") || !is_option(word) {
+        if word == "-" || !is_option(word) {
             return self.put(word);
         }
         self.keep("-o", Next::Any)?;
@@ -228,7 +228,7 @@ impl<'a> Parts<'a> {
     }
 }
 
-/// What a word is that is no value.
+/// The kind of a word that is no value.
 fn kind_of(is_make: bool, word: &str) -> WordKind
     ensures { result ≡ kind_of is_make word.now }
 {
@@ -243,7 +243,7 @@ fn kind_of(is_make: bool, word: &str) -> WordKind
     }
 }
 
-/// What a word is that is none of these.
+/// The kind of any other word.
 #[tactic(auto, unfolding(crate::specs::Parts::valued))]
 fn other_kind(is_make: bool, word: &str) -> WordKind
     ensures { result ≡ other_kind is_make word.now }
@@ -290,20 +290,14 @@ pub fn value_in<'a>(words: &[&'a str], option: &str) -> Option<&'a str>
 fn has_hyphen(word: &str) -> bool
     ensures { result ≡ has_hyphen word.now }
 {
-    match word.as_bytes().first() {
-        Some(byte) => *byte == b'-',
-        None => false,
-    }
+    matches!(word.as_bytes(), [b'-', ..])
 }
 
 /// Whether a word is an option, or has no bytes.
 fn is_option(word: &str) -> bool
     ensures { result ≡ is_option word.now }
 {
-    match word.as_bytes().first() {
-        Some(byte) => *byte == b'-',
-        None => true,
-    }
+    word.is_empty() || has_hyphen(word)
 }
 
 /// Whether a word looks like a file's name.

@@ -100,7 +100,7 @@ fn named(name: &str) -> Option<&'static str>
     value_of(&SETS, name)
 }
 
-/// The name in the table of sets for another name; any other as it is.
+/// The first name of a set that has several; any other name as it is.
 #[tactic(auto, unfolding(crate::specs::Sets::other_names))]
 fn first_name<'a>(name: &'a str) -> &'a str
     ensures { result.now ≡ first_name name.entry.now }
@@ -111,11 +111,11 @@ fn first_name<'a>(name: &'a str) -> &'a str
     }
 }
 
-/// The value of a key in a table.
-fn value_of(table: &[(&'static str, &'static str)], key: &str) -> Option<&'static str>
+/// The value of a key in a table of two columns.
+pub fn value_of(table: &[(&'static str, &'static str)], key: &str) -> Option<&'static str>
     ensures { text_in result ≡ value_of (rows_of table.now) key.now }
 {
-    // The value in the rows that are left is that in all.
+    // No row so far has the key.
     'rows: for row in table {
         if row.0 == key {
             return Some(row.1);
@@ -124,20 +124,20 @@ fn value_of(table: &[(&'static str, &'static str)], key: &str) -> Option<&'stati
     None
 }
 
-/// The list of characters that a list of names, numbers and ranges stands for. What names no set stays as it is.
+/// Replaces the names of sets in a list by the lists of their characters. Anything else in it stays as it is.
 pub fn listed(alloc: Global, names: &str) -> Result<String, AllocError>
     ensures { IfOk result (λ list. string_bytes list ≡ listed names.now) }
 {
     let parts = parts_of(alloc, names)?;
     let mut lists = Vec::new(alloc);
-    // `lists` has what the parts so far stand for.
+    // The parts so far were replaced.
     'parts: for part in &parts {
         lists.push(list_of(alloc, part)?.unwrap_or(*part))?;
     }
     lists.join(alloc, ",")
 }
 
-/// What stands between the commas of a text.
+/// What is between the commas of a text.
 fn parts_of<'a>(alloc: Global, text: &'a str) -> Result<Vec<&'a str>, AllocError>
     ensures { IfOk result (λ parts. texts parts.items ≡ slice_split (λ b. b == 44) text.entry.now) }
 {

@@ -1,9 +1,10 @@
 -- What a command line asks for.
-use Rattle.std.specs.Prelude.{◌&&◌, ◌||◌, Bool, List, [], ◌∷◌, codes, Option, Some, None, is_some}
+use Rattle.std.specs.Prelude.{ℕ, ◌&&◌, ◌||◌, Bool, false, List, [], ◌∷◌, codes, slice_get, Option, Some, None}
 use Rattle.std.specs.Prelude.{if◌then◌else◌}
-use Rattle.std.specs.List.{find}
-use Rattle.std.specs.Str.{bytes_eq}
-use Rattle.fx_words.specs.Parts.{Text, has, text_in}
+use Rattle.std.specs.Fmt.{decimal}
+use Rattle.std.specs.Option.{option_or}
+use Rattle.fx_words.specs.Parts.{Text, has, text_in, value_in}
+use Rattle.fx_front.specs.Places.{is_named}
 use Rattle.fx_front.specs.declared.asked.Asked.{Asked}
 use Rattle.fx_front.specs.declared.asked.Asked.TheVariants as held
 
@@ -22,25 +23,36 @@ seen_asked held.Run = run
 unfoldable pub commands : List Text
 commands = codes "make" ∷ codes "show" ∷ codes "outline" ∷ codes "dump" ∷ codes "trace" ∷ []
 
--- the command of a name
-abbrev pub name_among : List Text → Text → Option Text
-name_among names word = find (λ name. bytes_eq name word) names
-
-unfoldable pub command_of : Text → Option Text
-command_of word = name_among commands word
-
 abbrev pub first_of : List Text → Option Text
 first_of [] = None
 first_of (word ∷ words) = Some word
 
--- what a first word asks for that these follow. A command with `-h` or `--help` after it asks for its help
+-- what a first word asks for, with these words after it. A command with `-h` or `--help` after it asks for its help
 abbrev pub asked_by_word : Text → List Text → AskedView
 asked_by_word word rest =
     if has (codes "--version" ∷ codes "-V" ∷ []) word then version
     else (if has (codes "--help" ∷ codes "-h" ∷ codes "help" ∷ []) word then help (first_of rest)
-    else (if is_some (command_of word) && (has rest (codes "-h") || has rest (codes "--help")) then help (Some word) else run))
+    else (if has commands word && (has rest (codes "-h") || has rest (codes "--help")) then help (Some word) else run))
 
 -- what words ask for, the program's name first. Without arguments a terminal gets help
 abbrev pub asked_by : List Text → Bool → AskedView
 asked_by (name ∷ word ∷ rest) is_terminal = asked_by_word word rest
 asked_by words is_terminal = if is_terminal then help None else run
+
+-- the words name a glyph by its number
+abbrev pub names_glyph : List Text → Option ℕ → Bool
+names_glyph words None = false
+names_glyph words (Some glyph) =
+    is_named (option_or (value_in (codes "--glyph") words) (value_in (codes "--of") words)) (decimal glyph)
+
+-- the words are only explained: the first is `explain`
+abbrev pub is_explained : List Text → Bool
+is_explained words = is_named (slice_get words 1) (codes "explain")
+
+-- the first word, or the one after `explain`, if it is a command that takes a font
+abbrev pub command_among : Option Text → Option Text
+command_among None = None
+command_among (Some word) = if has commands word then Some word else None
+
+abbrev pub command_in : List Text → Option Text
+command_in words = command_among (slice_get words (if is_explained words then 2 else 1))

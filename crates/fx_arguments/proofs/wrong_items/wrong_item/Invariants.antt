@@ -4,7 +4,7 @@ use Rattle.fx_arguments.specs.WrongItems.{first_wrong, wrong_item_of}
 use Rattle.fx_arguments.proofs.Items.{size_left}
 use Rattle.fx_arguments.proofs.wrong_items.wrong_item.Given as goal
 
--- the first wrong item is the first of those that are left
+-- no item so far is wrong
 abbrev pub invariant-items : goal.invariant-items
 invariant-items l = wrong_item_of l.list ≡ first_wrong (left_parts 44 (option_map (λ text. text.now) l.left))
 

@@ -2,6 +2,6 @@ use Rattle.std.proofs.Common.{◌≡◌, drop}
 use Rattle.fx_front.specs.inner.Kinds.{kind_among}
 use Rattle.fx_front.proofs.kinds.kind_among.Given as goal
 
--- the first row that fits among those that are left is that among all
+-- no row so far fits
 abbrev pub invariant-rows : goal.invariant-rows
 invariant-rows l = kind_among (drop l.row-index l.rows) l.fn.start ≡ kind_among l.rows l.fn.start
