@@ -12,10 +12,11 @@ use Rattle.fx_winding.specs.declared.point.Piece.{Piece}
 use Rattle.fx_winding.specs.declared.point.Point.{Point}
 use Rattle.fx_winding.specs.declared.weights.Weights.{Weights}
 use Rattle.fx_rows.specs.declared.strip.Strip.{Strip}
+use Rattle.fx_rows.specs.declared.walk.Spot.{Spot}
 use Rattle.fx_rows.specs.inner.Arcs.{gap, AreAreas}
 use Rattle.fx_rows.specs.inner.Cuts.{Counts, CountsAt}
 use Rattle.fx_rows.specs.inner.Sides.{place_at}
-use Rattle.fx_rows.specs.inner.Walks.{AreSmall, IsSum, AreTurned, AreSided, IsStep, right_of}
+use Rattle.fx_rows.specs.inner.Walks.{AreSmall, IsSum, AreTurned, AreSided, IsStep, right_of, IsSpot}
 use Rattle.fx_rows.proofs.Sides.{areas_near, sign_times, middle}
 use Rattle.fx_rows.proofs.Weights.{gap_scaled, sign_square}
 use Rattle.fx_rows.proofs.Narrows.{changed}
@@ -144,17 +145,17 @@ sided_gap s p areas slanted h =
     ∙ ap (λ z. z *ℤ gap s p) (sign_square (s.c.y -ℤ s.a.y) (changed s.a.y s.c.y slanted))
     ∙ one-*ℤ (gap s p)
 
-pub gap_at_column : (s : Piece) (strip : Strip) (k : ℕ) (areas : Weights) → s.a.y ≢ s.c.y
-    → AreSided (span_of s) (right_of (place_at strip 0) k) areas
-    → gap_of areas.u areas.v areas.w ≡ gap (span_of s) (place_at strip k)
-gap_at_column s strip k areas slanted h = sided_gap (span_of s) (place_at strip k) areas slanted
-    (subst (λ q. AreSided (span_of s) q areas) (column_place strip k) h)
+pub gap_at_column : (s : Piece) (strip : Strip) (spot : Spot) → IsSpot spot s (place_at strip 0)
+    → gap_of spot.areas.u spot.areas.v spot.areas.w ≡ gap (span_of s) (place_at strip spot.k)
+gap_at_column s strip spot h = sided_gap (span_of s) (place_at strip spot.k) spot.areas h.slanted
+    (subst (λ q. AreSided (span_of s) q spot.areas) (column_place strip spot.k) h.areas)
 
 -- a column counts by its areas
-pub counts_at : (s : Piece) (r : Bool) (strip : Strip) (k : ℕ) (areas : Weights) → s.a.y ≢ s.c.y
-    → AreSided (span_of s) (right_of (place_at strip 0) k) areas
-    → Counts r areas.v (gap_of areas.u areas.v areas.w) ≡ CountsAt (span_of s) r strip k
-counts_at s r strip k areas slanted h = grind (arith, signed_linear, slanted, h, column_place, middle, gap_at_column)
+pub counts_at : (s : Piece) (r : Bool) (strip : Strip) (spot : Spot) → IsSpot spot s (place_at strip 0)
+    → Counts r spot.areas.v (gap_of spot.areas.u spot.areas.v spot.areas.w) ≡ CountsAt (span_of s) r strip spot.k
+counts_at s r strip spot h =
+    let slanted = h.slanted in let areas = h.areas in
+    grind (arith, signed_linear, slanted, areas, h, column_place, middle, gap_at_column)
 
 -- the step to the column before
 pub step_before : (s : Span) (p : Place) (k : ℕ) (step back : Weights) → 0 < k

@@ -30,8 +30,7 @@ use fx_winding::{Frame, Piece, Point, Tally, first_from, words_noted};
 /// Whether a line of centres comes from x on and up to y.
 #[inline(always)]
 pub(crate) fn has_line(x: i32, y: i32) -> bool
-    requires near_x { IsWithin (2 ^ 30) x }
-    requires near_y { IsWithin (2 ^ 30) y }
+    requires { IsWithin (2 ^ 30) x × IsWithin (2 ^ 30) y }
     ensures { IsTrue result ↔ HasLine x y }
 {
     first_from(x) < first_from(y + 1)
@@ -40,9 +39,7 @@ pub(crate) fn has_line(x: i32, y: i32) -> bool
 /// Whether x is below both of two values, and a line of centres comes from it on and up to both.
 #[inline(always)]
 fn has_line_to(x: i32, y: i32, z: i32) -> bool
-    requires near_x { IsWithin (2 ^ 30) x }
-    requires near_y { IsWithin (2 ^ 30) y }
-    requires near_z { IsWithin (2 ^ 30) z }
+    requires { IsWithin (2 ^ 30) x × IsWithin (2 ^ 30) y × IsWithin (2 ^ 30) z }
     ensures { IsTrue result ↔ IsLineTo x y z }
 {
     if y.min(z) <= x {
@@ -57,9 +54,7 @@ fn has_line_to(x: i32, y: i32, z: i32) -> bool
 /// Whether y is above both of two values, and a line of centres comes from both on and up to it.
 #[inline(always)]
 fn has_line_from(x: i32, z: i32, y: i32) -> bool
-    requires near_x { IsWithin (2 ^ 30) x }
-    requires near_y { IsWithin (2 ^ 30) y }
-    requires near_z { IsWithin (2 ^ 30) z }
+    requires { IsWithin (2 ^ 30) x × IsWithin (2 ^ 30) y × IsWithin (2 ^ 30) z }
     ensures { IsTrue result ↔ IsLineFrom x z y }
 {
     if y <= x.max(z) {
@@ -74,9 +69,7 @@ fn has_line_from(x: i32, z: i32, y: i32) -> bool
 /// Whether a line of centres comes between a control value and both end values, or is at one of them.
 #[inline(always)]
 fn is_beyond(a: i32, b: i32, c: i32) -> bool
-    requires near_a { IsWithin (2 ^ 30) a }
-    requires near_b { IsWithin (2 ^ 30) b }
-    requires near_c { IsWithin (2 ^ 30) c }
+    requires { IsWithin (2 ^ 30) a × IsWithin (2 ^ 30) b × IsWithin (2 ^ 30) c }
     ensures { IsTrue result ↔ IsBeyond a b c }
 {
     if has_line_to(b, a, c) {

@@ -1,5 +1,5 @@
 -- Bent arcs that are walked along, from row to row and from column to column.
-use Rattle.std.specs.Prelude.{◌≡◌, ℕ, ◌+◌, ◌^◌, ℤ, pos, ◌+ℤ◌, ◌-ℤ◌, ◌*ℤ◌, ◌≤ℤ◌, false, Option, Some, None}
+use Rattle.std.specs.Prelude.{◌≡◌, ◌≢◌, ℕ, ◌+◌, ◌^◌, ℤ, pos, ◌+ℤ◌, ◌-ℤ◌, ◌*ℤ◌, ◌≤ℤ◌, false, Option, Some, None}
 use Rattle.fx_fixed.specs.Ranges.{IsWithin}
 use Rattle.fx_winding.specs.Area.{Place}
 use Rattle.fx_winding.specs.Winding.{Span, span_of, sign, areas_of, centre}
@@ -63,8 +63,9 @@ pub record IsArc (arc : Arc) (piece : Piece) : Type 0 where
   pub up : (l r : ℤ) (k : ℕ) → IsStep (span_of piece) (right_of (centre l r) k) (right_of (centre l (r +ℤ pos 1)) k) arc.up
   pub misses : arc.touches ≡ false → MissesCentres (span_of piece)
 
--- a column of the row that has a place at its base, with the areas of its centre
+-- a column of the row that has a place at its base, with the areas of its centre and the points of a piece with a slanted chord
 pub record IsSpot (spot : Spot) (piece : Piece) (p : Place) : Type 0 where
+  pub slanted : piece.a.y ≢ piece.c.y
   pub areas : AreSided (span_of piece) (right_of p spot.k) spot.areas
   pub near : (p.x +ℤ pos 128 *ℤ pos spot.k) ≤ℤ pos 4194368
 

@@ -20,6 +20,7 @@ returns c =
         misses = c.may_touch.ensures (span_of s) (c.args.strip.base +ℤ pos c.args.k) c.args.strip.row c.requires.areas;
       };
       spot = record {
+        slanted = c.requires.slanted;
         areas = sided (span_of s) _ _ c.args.areas c.turned_areas-3.result c.requires.areas c.turned_areas-3.ensures
             (column_place c.args.strip c.args.k);
         near = omega (arith, signed, near);
