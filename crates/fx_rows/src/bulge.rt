@@ -10,8 +10,9 @@ ghost use Rattle.fx_winding.specs.Notes.{words_noted as words_noted_of, IsNotedA
 ghost use Rattle.fx_winding.specs.Winding.{span_of};
 ghost use Rattle.fx_rows.specs.inner.Bands.{bounded_span, AreInner};
 ghost use Rattle.fx_rows.specs.inner.Strips.{base_place};
-ghost use Rattle.fx_rows.specs.inner.Lines.{AreRowsSet, AreSetIn, GainOnly, HaveRoom, IsAcrossBit, IsLineBit, IsRowSet, IsRowsBit};
+ghost use Rattle.fx_rows.specs.inner.Lines.{GainOnly, HaveRoom, IsAcrossBit, IsLineBit, IsRowSet, NotesRows};
 ghost use Rattle.fx_rows.specs.inner.Lines.{IsUpBit};
+ghost use Rattle.fx_rows.specs.inner.Points.{HasColumns};
 ghost use Rattle.fx_rows.specs.inner.Telling.{with_first};
 
 use crate::apart::has_columns;
@@ -129,9 +130,7 @@ pub(crate) fn note_met_lines(
 )
     requires rows { rows.end ≤ lines.frame.height }
     requires room { HaveRoom lines bits.old }
-    ensures noted { (r : ℕ) → rows.first ≤ r → r < rows.end → IsRowSet (bounded_span bounded.now) lines.frame
-        (lines.frame.bottom +ℤ pos r) (r * lines.row_step) lines.step bits.new }
-    ensures gained { GainOnly (IsRowsBit (bounded_span bounded.now) lines.frame lines.row_step lines.step) bits.old bits.new }
+    ensures notes { NotesRows (bounded_span bounded.now) lines rows.first rows.end bits.old bits.new }
     ensures count { tally.new.count ≤ tally.old.count + 55 * (rows.end - rows.first) }
 {
     // The segments of the rows before `up` are noted.
@@ -153,12 +152,9 @@ fn note_cuts<C: Cuts + Drop>(
     requires rows { rows.end ≤ lines.frame.height }
     requires inner { AreInner bounded.now lines.frame rows.first rows.end }
     requires at { C.AreAt cuts bounded.now (base_place lines.frame rows.first) }
-    requires low { lines.frame.left ≤ℤ bounded.now.across.first }
-    requires high { bounded.now.across.end ≤ℤ (lines.frame.left +ℤ pos lines.frame.width) }
+    requires columns { HasColumns lines.frame bounded.now.across }
     requires room { HaveRoom lines bits.old }
-    ensures noted { (r : ℕ) → rows.first ≤ r → r < rows.end →
-        AreSetIn (bounded_span bounded.now) lines.frame r (r * lines.row_step) lines.step bits.new }
-    ensures gained { GainOnly (IsRowsBit (bounded_span bounded.now) lines.frame lines.row_step lines.step) bits.old bits.new }
+    ensures notes { NotesRows (bounded_span bounded.now) lines rows.first rows.end bits.old bits.new }
     ensures count { tally.new.count ≤ tally.old.count + (rows.end - rows.first) }
 {
     let mut cuts = cuts;
@@ -182,12 +178,9 @@ fn note_passed_lines(
 )
     requires rows { rows.end ≤ lines.frame.height }
     requires inner { AreInner bounded.now lines.frame rows.first rows.end }
-    requires low { lines.frame.left ≤ℤ bounded.now.across.first }
-    requires high { bounded.now.across.end ≤ℤ (lines.frame.left +ℤ pos lines.frame.width) }
+    requires columns { HasColumns lines.frame bounded.now.across }
     requires room { HaveRoom lines bits.old }
-    ensures noted { (r : ℕ) → rows.first ≤ r → r < rows.end →
-        AreSetIn (bounded_span bounded.now) lines.frame r (r * lines.row_step) lines.step bits.new }
-    ensures gained { GainOnly (IsRowsBit (bounded_span bounded.now) lines.frame lines.row_step lines.step) bits.old bits.new }
+    ensures notes { NotesRows (bounded_span bounded.now) lines rows.first rows.end bits.old bits.new }
     ensures count { tally.new.count ≤ tally.old.count + 3 * (rows.end - rows.first) }
 {
     if rows.first >= rows.end {
@@ -207,8 +200,7 @@ fn note_passed_lines(
 /// Notes the segments of a frame's rows that a piece meets.
 fn note_lines(piece: &Piece, lines: NotedRows, bits: &mut [u32], tally: &mut Tally)
     requires { HaveRoom lines bits.old }
-    ensures noted { AreRowsSet (span_of piece.now) lines.frame lines.row_step lines.step bits.new }
-    ensures gained { GainOnly (IsRowsBit (span_of piece.now) lines.frame lines.row_step lines.step) bits.old bits.new }
+    ensures notes { NotesRows (span_of piece.now) lines 0 lines.frame.height bits.old bits.new }
     ensures count { tally.new.count ≤ tally.old.count + 55 * lines.frame.height }
 {
     let bounded = bounds_of(piece, rise_of(piece));

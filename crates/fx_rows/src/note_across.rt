@@ -7,7 +7,7 @@ ghost use Rattle.std.specs.Prelude.{◌≡◌, ℕ, ◌+◌, ◌-◌, ◌*◌, �
 ghost use Rattle.fx_fixed.specs.Ranges.{IsWithin};
 ghost use Rattle.fx_winding.specs.Notes.{words_noted as words_noted_of, IsNotedAcross};
 ghost use Rattle.fx_winding.specs.Winding.{span_of};
-ghost use Rattle.fx_rows.specs.inner.Lines.{GainOnly, IsAcrossBit};
+ghost use Rattle.fx_rows.specs.inner.Lines.{GainOnly, IsAcrossBit, NotesAcross};
 ghost use Rattle.fx_rows.specs.inner.Placing.{AreEndsTold, IsInBand};
 ghost use Rattle.fx_rows.specs.inner.Runs.{IsSplit};
 ghost use Rattle.fx_rows.specs.inner.Upward.{column_of};
@@ -35,9 +35,7 @@ fn note_ends(piece: &Piece, placed: PieceInBand, ends: &[u32], across: &mut [u32
     requires placed { IsInBand (span_of piece.now) placed }
     requires told { AreEndsTold ends.now (span_of piece.now) placed }
     requires room { length across.old ≡ placed.frame.height * words_noted_of placed.frame.width }
-    ensures noted { (r : ℕ) → placed.met.inner.first ≤ r → r < placed.met.inner.end →
-        IsNotedAcross (span_of piece.now) placed.frame across.new r }
-    ensures gained { GainOnly (IsAcrossBit (span_of piece.now) placed.frame) across.old across.new }
+    ensures { NotesAcross (span_of piece.now) placed.frame placed.met.inner.first placed.met.inner.end across.old across.new }
 {
     // The segments of the rows before `row` are noted.
     'rows: for row in placed.met.inner.first..placed.met.inner.end {
@@ -90,9 +88,7 @@ pub(crate) fn note_across(
     requires placed { IsInBand (span_of piece.now) placed }
     requires told { AreEndsTold ends.now (span_of piece.now) placed }
     requires room { length across.old ≡ placed.frame.height * words_noted_of placed.frame.width }
-    ensures noted { (r : ℕ) → placed.rows.first ≤ r → r < placed.rows.end →
-        IsNotedAcross (span_of piece.now) placed.frame across.new r }
-    ensures gained { GainOnly (IsAcrossBit (span_of piece.now) placed.frame) across.old across.new }
+    ensures notes { NotesAcross (span_of piece.now) placed.frame placed.rows.first placed.rows.end across.old across.new }
     ensures count { tally.new.count ≤ tally.old.count + 55 * (placed.rows.end - placed.rows.first) }
 {
     let touched = placed.met.touched;

@@ -2,6 +2,8 @@
 use Rattle.std.specs.Prelude.{◌≡◌, ◌⊎◌, ℤ, pos, negsuc, ◌+ℤ◌, ◌*ℤ◌, ◌<ℤ◌, ◌≤ℤ◌, Some}
 use Rattle.fx_winding.specs.Area.{Place}
 use Rattle.fx_winding.specs.Winding.{Span}
+use Rattle.fx_winding.specs.declared.frame.Frame.{Frame}
+use Rattle.fx_rows.specs.declared.across.Across.{Across}
 
 -- q is an end of the piece or its control point
 abbrev pub IsPointOf : Place → Span → Type 0
@@ -12,6 +14,10 @@ abbrev pub AreAcross : Span → ℤ → ℤ → Type 0
 AreAcross s first end =
     ((x : ℤ) → x <ℤ first → (q : Place) → IsPointOf q s → (pos 128 *ℤ x +ℤ pos 64) <ℤ q.x) ×
     ((x : ℤ) → end ≤ℤ x → (q : Place) → IsPointOf q s → q.x <ℤ (pos 128 *ℤ x +ℤ pos 64))
+
+-- a frame has some columns
+abbrev pub HasColumns : Frame → Across → Type 0
+HasColumns f a = (f.left ≤ℤ a.first) × (a.end ≤ℤ (f.left +ℤ pos f.width))
 
 -- the height y is strictly between two ends
 abbrev pub IsInner : ℤ → ℤ → ℤ → Type 0

@@ -76,6 +76,12 @@ pub record IsLevel (s : Span) (f : Frame) (r from to : ℕ) : Type 0 where
   pub within : AreMetWithin s f r from to
   pub all : AreAllMet s f r from to
 
--- a piece comes up to a row from these columns: to whichever columns it goes there
-abbrev pub ComesFrom : Span → Frame → ℕ → Reach → Type 0
-ComesFrom s f r low = (c : Reach) → IsHigh s f r c → IsLevel s f r (min low.first c.first) (max low.end c.end)
+-- a piece comes up to a row from these columns of a frame: to whichever columns it goes there
+pub record ComesFrom (s : Span) (f : Frame) (r : ℕ) (low : Reach) : Type 0 where
+  pub within : low.end ≤ f.width
+  pub level : (c : Reach) → IsHigh s f r c → IsLevel s f r (min low.first c.first) (max low.end c.end)
+
+-- it goes up to a row to these columns: from whichever columns it comes
+pub record GoesTo (s : Span) (f : Frame) (r : ℕ) (high : Reach) : Type 0 where
+  pub within : high.end ≤ f.width
+  pub level : (c : Reach) → ComesFrom s f r c → IsLevel s f r (min c.first high.first) (max c.end high.end)

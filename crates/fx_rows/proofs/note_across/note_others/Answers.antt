@@ -2,7 +2,7 @@ use Rattle.std.proofs.Common.{◌≡◌, ◌*◌, ℕ, length, ap, subst, arith}
 use Rattle.fx_winding.specs.Notes.{words_noted}
 use Rattle.fx_winding.specs.Winding.{span_of}
 use Rattle.fx_rows.specs.inner.Lines.{AreSetIn}
-use Rattle.fx_rows.proofs.Bulges.{across_set, set_in}
+use Rattle.fx_rows.proofs.Bulges.{across_set}
 use Rattle.fx_rows.proofs.Kept.{gain_both}
 use Rattle.fx_rows.proofs.NotedSegments.{across_kept, row_room}
 use Rattle.fx_rows.proofs.note_across.note_others.Goals as goal
@@ -26,10 +26,9 @@ returns-clause-below c = λ r l m.
     let f = c.args.placed.frame in
     let s = span_of c.args.piece.now in
     let row : 32 * c.words_noted.result ≡ 32 * words_noted f.width = ap (λ (w : ℕ). 32 * w) c.words_noted.ensures in
-    across_kept s f r c.note_met_lines.new.bits c.note_met_lines-2.new.bits c.note_met_lines-2.ensures.gained.kept
+    across_kept s f r c.note_met_lines.new.bits c.note_met_lines-2.new.bits c.note_met_lines-2.ensures.notes.gained.kept
     (across_set s f r c.note_met_lines.new.bits (subst (λ z. z) (λ i. AreSetIn (span_of (c.bounds_of-bounded.ensures.piece i)) f r
-    (r * row i) 1 c.note_met_lines.new.bits) (set_in (span_of c.bounds_of-bounded.result.piece) f r
-    (r * (32 * c.words_noted.result)) 1 c.note_met_lines.new.bits (c.note_met_lines.ensures.noted r l m))))
+    (r * row i) 1 c.note_met_lines.new.bits) (c.note_met_lines.ensures.notes.noted r l m)))
 
 pub returns-clause-above : goal.returns-clause-above
 returns-clause-above c = λ r l m.
@@ -37,8 +36,7 @@ returns-clause-above c = λ r l m.
     let row : 32 * c.words_noted.result ≡ 32 * words_noted f.width = ap (λ (w : ℕ). 32 * w) c.words_noted.ensures in
     across_set (span_of c.args.piece.now) f r c.note_met_lines-2.new.bits (subst (λ z. z)
     (λ i. AreSetIn (span_of (c.bounds_of-bounded.ensures.piece i)) f r (r * row i) 1 c.note_met_lines-2.new.bits)
-    (set_in (span_of c.bounds_of-bounded.result.piece) f r (r * (32 * c.words_noted.result)) 1 c.note_met_lines-2.new.bits
-    (c.note_met_lines-2.ensures.noted r l m)))
+    (c.note_met_lines-2.ensures.notes.noted r l m))
 
 pub returns-clause-gained : goal.returns-clause-gained
 returns-clause-gained c =
