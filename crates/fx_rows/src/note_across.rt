@@ -5,9 +5,9 @@
 
 ghost use Rattle.std.specs.Prelude.{◌≡◌, ℕ, ◌+◌, ◌-◌, ◌*◌, ◌^◌, ◌<◌, ◌≤◌, length, ◌<ℤ◌, ◌≤ℤ◌};
 ghost use Rattle.fx_fixed.specs.Ranges.{IsWithin};
-ghost use Rattle.fx_winding.specs.Notes.{words_noted as words_noted_of, IsNotedAcross};
+ghost use Rattle.fx_winding.specs.Notes.{words_noted as words_noted_of};
 ghost use Rattle.fx_winding.specs.Winding.{span_of};
-ghost use Rattle.fx_rows.specs.inner.Lines.{GainOnly, IsAcrossBit, NotesAcross};
+ghost use Rattle.fx_rows.specs.inner.Lines.{NotesAcross};
 ghost use Rattle.fx_rows.specs.inner.Placing.{AreEndsTold, IsInBand};
 ghost use Rattle.fx_rows.specs.inner.Runs.{IsSplit};
 ghost use Rattle.fx_rows.specs.inner.Upward.{column_of};
@@ -49,11 +49,8 @@ fn note_ends(piece: &Piece, placed: PieceInBand, ends: &[u32], across: &mut [u32
 #[inline(never)]
 fn note_others(piece: &Piece, placed: PieceInBand, across: &mut [u32], tally: &mut Tally)
     requires room { length across.old ≡ placed.frame.height * words_noted_of placed.frame.width }
-    ensures below { (r : ℕ) → placed.met.touched.first ≤ r → r < placed.met.inner.first →
-        IsNotedAcross (span_of piece.now) placed.frame across.new r }
-    ensures above { (r : ℕ) → placed.met.inner.end ≤ r → r < placed.met.touched.end →
-        IsNotedAcross (span_of piece.now) placed.frame across.new r }
-    ensures gained { GainOnly (IsAcrossBit (span_of piece.now) placed.frame) across.old across.new }
+    ensures below { NotesAcross (span_of piece.now) placed.frame placed.met.touched.first placed.met.inner.first across.old across.new }
+    ensures above { NotesAcross (span_of piece.now) placed.frame placed.met.inner.end placed.met.touched.end across.old across.new }
     ensures count { tally.new.count ≤ tally.old.count + 55 * (placed.rows.end - placed.rows.first) }
 {
     let touched = placed.met.touched;

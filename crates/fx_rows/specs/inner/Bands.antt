@@ -73,6 +73,12 @@ pub record IsCounted (ss : List Span) (f : Frame) (b : Band) : Type 0 where
   pub rest : (n : ℕ) → IsBeside f 0 f.height n → turns_at b n ≡ pos 0
   pub unused : (n : ℕ) → IsBeside f 0 f.height n → mark_at b n ≡ false
 
+-- the bits of a frame's rows: each is set exactly when the pixel's centre is covered, and those after a row's last pixel are 0
+pub record AreBitsOf (ss : List Span) (f : Frame) (words : List ℕ) : Type 0 where
+  pub bits : (r k : ℕ) → r < f.height → k < f.width
+      → (word_bit words (r * stride f.width + k) ≡ 1) ↔ IsCovered (centre (f.left +ℤ pos k) (f.bottom +ℤ pos r)) ss
+  pub unused : (r k : ℕ) → r < f.height → f.width ≤ k → k < stride f.width → word_bit words (r * stride f.width + k) ≡ 0
+
 -- the words of rows of pixels, done of them, from the left column and the bottom row on: each bit is set exactly when the pixel's
 -- centre is covered, and those after a row's last pixel are 0
 pub record AreScanned (ss : List Span) (left bottom : ℤ) (width done : ℕ) (words : List ℕ) : Type 0 where

@@ -134,3 +134,8 @@ Keeps Old New = (x : Saying) → Old x → New x
 -- what lasts is so still, after some pieces were noted
 abbrev pub KeepsAfter : List Span → (Saying → Type 0) → (Saying → Type 0) → Type 0
 KeepsAfter ss Old New = (x : Saying) → All (λ s. Lasts s x) ss → Old x → New x
+
+-- some pieces were noted in the rows before one: they are noted there, and what lasts is so still
+pub record NotesPieces (ss : List Span) (to : ℕ) (Old New : Saying → Type 0) : Type 0 where
+  pub kept : KeepsAfter ss Old New
+  pub noted : AreNotedIn New ss to
