@@ -26,10 +26,10 @@ use Rattle.fx_rows.specs.declared.reach.Reach.{Reach}
 use Rattle.fx_rows.specs.inner.Bulging.{HasLine, IsBeyond, IsBulge, IsBulgePart, IsOnLine, IsPlain}
 use Rattle.fx_rows.specs.inner.Heights.{height_of, IsResting, IsHanging, IsAtMostEnds, IsAtLeastEnds, IsOneOver, IsOneUnder}
 use Rattle.fx_rows.specs.inner.Placing.{AreMetIn}
-use Rattle.fx_rows.specs.inner.Points.{AreAcross, IsInner}
+use Rattle.fx_rows.specs.inner.Points.{IsFootX, IsHeadX, AreAcross, IsInner}
 use Rattle.fx_rows.specs.inner.Told.{rise_value}
 use Rattle.fx_rows.specs.inner.Upward.{column_of, height_below, AreMetBetween, AreMetWithin, AreAllMet, AreAt}
-use Rattle.fx_rows.specs.inner.Upward.{AreAtFoot, AreAtHead, IsFootX, IsHeadX, IsPassing, IsLow, IsHigh, IsLevel, ComesFrom, GoesTo}
+use Rattle.fx_rows.specs.inner.Upward.{AreAtFoot, AreAtHead, IsPassing, IsLow, IsHigh, IsLevel, ComesFrom, GoesTo}
 use Rattle.fx_rows.proofs.Points.{to_all}
 
 -- the ends of a segment

@@ -149,7 +149,6 @@ fn note_cuts<C: Cuts + Drop>(
     bits: &mut [u32],
     tally: &mut Tally,
 )
-    requires rows { rows.end ≤ lines.frame.height }
     requires inner { AreInner bounded.now lines.frame rows.first rows.end }
     requires at { C.AreAt cuts bounded.now (base_place lines.frame rows.first) }
     requires columns { HasColumns lines.frame bounded.now.across }
@@ -176,7 +175,6 @@ fn note_passed_lines(
     bits: &mut [u32],
     tally: &mut Tally,
 )
-    requires rows { rows.end ≤ lines.frame.height }
     requires inner { AreInner bounded.now lines.frame rows.first rows.end }
     requires columns { HasColumns lines.frame bounded.now.across }
     requires room { HaveRoom lines bits.old }

@@ -5,8 +5,7 @@ ghost use Rattle.std.specs.Prelude.{false, Some};
 ghost use Rattle.fx_winding.specs.Area.{gap_of};
 ghost use Rattle.fx_winding.specs.Limits.{end_of_pixels};
 ghost use Rattle.fx_winding.specs.Winding.{Span, span_of, centre, IsOn};
-ghost use Rattle.fx_rows.specs.Parts.{IsBent};
-ghost use Rattle.fx_rows.specs.inner.Arcs.{gap, AreAreas, IsTurned, MissesCentres};
+ghost use Rattle.fx_rows.specs.inner.Arcs.{gap, AreAreas, IsBentBy, IsTurned, MissesCentres};
 ghost use Rattle.fx_rows.specs.inner.Bands.{bounded_span};
 ghost use Rattle.fx_rows.specs.inner.Candidates.{IsOnStrip};
 ghost use Rattle.fx_rows.specs.inner.Cuts.{Counts, CountsAt, CountsFirst, IsEndOfCount, IsLast, IsCut};
@@ -306,8 +305,7 @@ fn up_of(piece: &Piece, b: Point) -> Weights
 /// An arc at a column, from the areas there.
 #[inline(always)]
 fn arc_at(piece: &Piece, b: Point, right: bool, strip: Strip, k: u32, areas: Weights) -> ArcCuts
-    requires middle { piece.now.b ≡ Some b }
-    requires bent { IsBent (span_of piece.now) }
+    requires bent { IsBentBy piece.now b }
     requires slanted { piece.now.a.y ≢ piece.now.c.y }
     requires right { IsTurned (span_of piece.now) right }
     requires near { (strip.base +ℤ pos k) <ℤ end_of_pixels }

@@ -16,8 +16,9 @@ abbrev pub bounded_span : Bounded → Span
 bounded_span b = span_of b.piece
 
 -- the rows of a frame from one to before another pass between the ends of a piece's chord
-abbrev pub AreInner : Bounded → Frame → ℕ → ℕ → Type 0
-AreInner b f from to = (r : ℕ) → from ≤ r → r < to → IsInner b.piece.a.y b.piece.c.y (height_of f r)
+pub record AreInner (b : Bounded) (f : Frame) (from to : ℕ) : Type 0 where
+  pub within : to ≤ f.height
+  pub inner : (r : ℕ) → from ≤ r → r < to → IsInner b.piece.a.y b.piece.c.y (height_of f r)
 
 -- how many numbers a row of this width takes: whole words
 abbrev pub stride : ℕ → ℕ

@@ -27,3 +27,12 @@ IsInner a c y = ((a <ℤ y) × (y <ℤ c)) ⊎ ((c <ℤ y) × (y <ℤ a))
 pub record IsRise (s : Span) (foot head value : ℤ) : Type 0 where
   pub up : s.a.y <ℤ s.c.y → (foot ≡ s.a.y) × (head ≡ s.c.y) × (value ≡ pos 1)
   pub down : s.c.y ≤ℤ s.a.y → (foot ≡ s.c.y) × (head ≡ s.a.y) × (value ≡ negsuc 0)
+
+-- how far right the lower end of a piece is, and how far its upper one
+pub record IsFootX (s : Span) (x : ℤ) : Type 0 where
+  pub rising : s.a.y <ℤ s.c.y → x ≡ s.a.x
+  pub falling : s.c.y ≤ℤ s.a.y → x ≡ s.c.x
+
+pub record IsHeadX (s : Span) (x : ℤ) : Type 0 where
+  pub rising : s.a.y <ℤ s.c.y → x ≡ s.c.x
+  pub falling : s.c.y ≤ℤ s.a.y → x ≡ s.a.x

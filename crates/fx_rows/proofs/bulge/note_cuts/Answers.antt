@@ -28,7 +28,7 @@ cut-cut-requires-clause-at g c =
     grind (arith, c.row-line.ensures, c.row-line.result.row_near, c.strip_of-strip.ensures, c.rows.invariant, strip_row, at_base)
 
 pub set_segment-requires-clause-room : goal.set_segment-requires-clause-room
-set_segment-requires-clause-room g c = grind (arith, c.requires.room, c.requires.rows, c.row-line.ensures)
+set_segment-requires-clause-room g c = grind (arith, c.requires.room, c.requires.inner.within, c.row-line.ensures)
 
 pub set_segment-requires-clause-column : goal.set_segment-requires-clause-column
 set_segment-requires-clause-column g c =
@@ -55,7 +55,7 @@ rows-preserved g c =
     let at = strip_row strip line.row _ line.row_near c.strip_of-strip.ensures.row at_line.row in
     let is : IsEnd s f up end = cut_end s f strip c.cut-cut.result _ _ at c.strip_of-strip.ensures.first
     c.strip_of-strip.ensures.last c.saturating_sub.ensures c.cut-cut.ensures.cut in
-    let inner = c.requires.inner up (omega arith) (omega arith) in
+    let inner = c.requires.inner.inner up (omega arith) (omega arith) in
     let set = subst (λ z. z) (λ i. (t : Span)
     → IsSetTo t (at_line.frame i) (at_line.row i) (at_line.first i) (at_line.step i) now end) c.set_segment.ensures.set in
     let here : AreSetIn s f up (up * row_step) step now = λ k w met.
@@ -77,7 +77,7 @@ rows-preserved g c =
         gained = gain_both (IsRowsBit s f row_step step) _ _ _ c.rows.invariant.notes.gained
             (gain_more (IsLineBit s f (f.bottom +ℤ pos up) (up * row_step) step)
             (IsRowsBit s f row_step step) c.rows.bits now
-            (λ n h. record { r = up; row = omega (arith, c.requires.rows); line = h })
+            (λ n h. record { r = up; row = omega (arith, c.requires.inner.within); line = h })
             (record { kept = c.set_segment.ensures.kept; only = only }));
       };
       count = omega (arith, n, m);
