@@ -86,8 +86,7 @@ fn has_rows(frame: Frame, low: i32, past: i32) -> bool
 /// Nearly all others lie within the frame, so that no end of it comes between.
 #[tactic(auto, using(fx_fixed::proofs::Linear::signed_linear))]
 fn rows_in(frame: Frame, low: i32, past: i32) -> RowRange
-    requires low { IsWithin (2 ^ 23) low }
-    requires past { IsWithin (2 ^ 23) past }
+    requires { IsWithin (2 ^ 23) low × IsWithin (2 ^ 23) past }
     ensures within { result.end ≤ frame.height }
     ensures below { (r : ℕ) → r < result.first → (frame.bottom +ℤ pos r) <ℤ low }
     ensures rest { (r : ℕ) → result.end ≤ r → r < frame.height → past ≤ℤ (frame.bottom +ℤ pos r) }

@@ -1,6 +1,6 @@
 //! Bent arcs that are walked along: from row to row and from column to column the areas of one column's centre change evenly.
 
-ghost use Rattle.std.specs.Prelude.{◌≡◌, ◌≢◌, ℕ, ℤ, ◌+◌, ◌-◌, ◌<◌, ◌≤◌, max, pos, neg_ℤ, ◌+ℤ◌, ◌-ℤ◌, ◌*ℤ◌, ◌≤ℤ◌, ◌<ℤ◌, IsTrue, ◌↔◌};
+ghost use Rattle.std.specs.Prelude.{◌≡◌, ◌≢◌, ℕ, ℤ, ◌+◌, ◌-◌, ◌<◌, ◌≤◌, max, pos, ◌+ℤ◌, ◌-ℤ◌, ◌*ℤ◌, ◌≤ℤ◌, ◌<ℤ◌, IsTrue, ◌↔◌};
 ghost use Rattle.std.specs.Prelude.{false, Some};
 ghost use Rattle.fx_winding.specs.Area.{gap_of};
 ghost use Rattle.fx_winding.specs.Limits.{end_of_pixels};
@@ -11,7 +11,7 @@ ghost use Rattle.fx_rows.specs.inner.Candidates.{IsOnStrip};
 ghost use Rattle.fx_rows.specs.inner.Cuts.{Counts, CountsAt, CountsFirst, IsEndOfCount, IsLast, IsCut};
 ghost use Rattle.fx_rows.specs.inner.Points.{IsInner};
 ghost use Rattle.fx_rows.specs.inner.Sides.{place_at};
-ghost use Rattle.fx_rows.specs.inner.Walks.{AreSmall, IsSum, AreTurned, IsStep, right_of, IsSpot, IsArcAt, IsArcOrFlat};
+ghost use Rattle.fx_rows.specs.inner.Walks.{AreSmall, IsSum, IsReversed, AreTurned, IsStep, right_of, IsSpot, IsArcAt, IsArcOrFlat};
 
 use crate::above::lift_of;
 use crate::arc::{step_of, total_of};
@@ -51,9 +51,7 @@ fn after(areas: Weights, step: Weights) -> Weights
 /// The changes the other way.
 #[inline(always)]
 fn reversed(step: Weights) -> Weights
-    ensures u { result.u ≡ neg_ℤ step.u }
-    ensures v { result.v ≡ neg_ℤ step.v }
-    ensures w { result.w ≡ neg_ℤ step.w }
+    ensures { IsReversed step result }
 {
     Weights {
         u: -step.u,

@@ -2,7 +2,7 @@
 use Rattle.std.specs.Prelude.{◌≡◌, ◌⊎◌, ℕ, ◌+◌, ◌*◌, ◌<◌, ◌≤◌, ℤ, pos, ◌+ℤ◌, ◌-ℤ◌, ◌<ℤ◌, List, Option, Some, None, length}
 use Rattle.fx_winding.specs.Area.{Place}
 use Rattle.fx_winding.specs.Bitmaps.{word_bit}
-use Rattle.fx_winding.specs.Meets.{IsMet, IsTipPart}
+use Rattle.fx_winding.specs.Meets.{IsMet, IsTipPart, IsWithinRow}
 use Rattle.fx_winding.specs.Notes.{pixel_number, words_noted, IsMetAcross, IsMetUp, IsNotedAcross, IsNotedUp}
 use Rattle.fx_winding.specs.Winding.{Span, IsOn, centre}
 use Rattle.fx_winding.specs.declared.frame.Frame.{Frame}
@@ -21,6 +21,10 @@ right_at f row k = centre (f.left +ℤ pos k) row
 -- a piece meets that segment
 abbrev pub IsMetTo : Span → Frame → ℤ → ℕ → Type 0
 IsMetTo s f row k = IsMet (left_at f row k) (right_at f row k) s
+
+-- unless an end of it is on the piece
+abbrev pub IsMetToUnlessOn : Span → Frame → ℤ → ℕ → Type 0
+IsMetToUnlessOn s f row k = ¬ (IsOn (left_at f row k) s) → ¬ (IsOn (right_at f row k) s) → IsMetTo s f row k
 
 -- the column is the first of a run, or the one after its last
 abbrev pub IsRunEnd : Frame → Option Run → ℕ → Type 0
@@ -44,7 +48,7 @@ pub record IsLineBit (s : Span) (f : Frame) (row : ℤ) (first step n : ℕ) : T
   pub k : ℕ
   pub within : k ≤ f.width
   pub at : n ≡ first + k * step
-  pub met : ¬ (IsOn (left_at f row k) s) → ¬ (IsOn (right_at f row k) s) → IsMetTo s f row k
+  pub met : IsMetToUnlessOn s f row k
 
 -- of the bits that are set only these were not set before
 abbrev pub AreOnly : (ℕ → Type 0) → List ℕ → List ℕ → Type 0
@@ -68,6 +72,10 @@ IsAfterFirst line P k = (0 < k) × (k < line.frame.width) × P k
 -- x is within the segment to a column
 abbrev pub IsAround : NotedRow → ℤ → ℕ → Type 0
 IsAround line x k = ((left_at line.frame line.row k).x <ℤ x) × (x <ℤ (right_at line.frame line.row k).x)
+
+-- a point is within it
+abbrev pub HasEnd : Place → NotedRow → ℕ → Type 0
+HasEnd p line k = IsWithinRow (left_at line.frame line.row k) (right_at line.frame line.row k) p
 
 -- the tip of an arc is within it
 abbrev pub HasTip : Span → NotedRow → ℕ → Type 0

@@ -1,5 +1,5 @@
 -- Bent arcs that are walked along, from row to row and from column to column.
-use Rattle.std.specs.Prelude.{◌≡◌, ◌≢◌, ℕ, ◌+◌, ◌^◌, ℤ, pos, ◌+ℤ◌, ◌-ℤ◌, ◌*ℤ◌, ◌≤ℤ◌, false, Option, Some, None}
+use Rattle.std.specs.Prelude.{◌≡◌, ◌≢◌, ℕ, ◌+◌, ◌^◌, ℤ, pos, neg_ℤ, ◌+ℤ◌, ◌-ℤ◌, ◌*ℤ◌, ◌≤ℤ◌, false, Option, Some, None}
 use Rattle.fx_fixed.specs.Ranges.{IsWithin}
 use Rattle.fx_winding.specs.Area.{Place}
 use Rattle.fx_winding.specs.Winding.{Span, span_of, sign, areas_of, centre}
@@ -22,6 +22,12 @@ pub record IsSum (areas step sum : Weights) : Type 0 where
   pub u : sum.u ≡ areas.u +ℤ step.u
   pub v : sum.v ≡ areas.v +ℤ step.v
   pub w : sum.w ≡ areas.w +ℤ step.w
+
+-- the changes the other way
+pub record IsReversed (step back : Weights) : Type 0 where
+  pub u : back.u ≡ neg_ℤ step.u
+  pub v : back.v ≡ neg_ℤ step.v
+  pub w : back.w ≡ neg_ℤ step.w
 
 -- areas with the sign of d
 pub record AreTurned (d : ℤ) (areas turned : Weights) : Type 0 where

@@ -21,8 +21,8 @@ returns-clause-added c = λ s h.
     let added = added_cut s c.args.strip b.frame cut c.args.end at c.deref_mut.result.now
     c.add_before.new.diff c.deref_mut-2.result.now c.add_before.new.touched c.deref_mut-3.result.now c.mark.new.line
     c.requires.first c.requires.last (omega arith)
-    (λ k l. c.add_before.ensures.inside k l ∙ ap (λ (z : ℤ). before (at + k + 1) c.deref_mut.result.now +ℤ z) v)
-    c.add_before.ensures.outside c.add_before.ensures.under c.add_before.ensures.grown c.add_before.ensures.touched
+    (λ k l. c.add_before.ensures.raised.inside k l ∙ ap (λ (z : ℤ). before (at + k + 1) c.deref_mut.result.now +ℤ z) v)
+    c.add_before.ensures.raised.outside c.add_before.ensures.raised.under c.add_before.ensures.raised.grown c.add_before.ensures.touched
     c.mark.ensures.row c.mark.ensures.under h in
     row_added s b.frame c.args.strip.row _ b _ c.deref_mut.result.now c.add_before.new.diff
     c.deref_mut-2.result.now c.add_before.new.touched c.deref_mut-3.result.now c.mark.new.line

@@ -4,7 +4,7 @@ use Rattle.fx_winding.specs.Bitmaps.{word_bit}
 use Rattle.fx_winding.specs.Winding.{Span, IsOn}
 use Rattle.fx_winding.specs.declared.frame.Frame.{Frame}
 use Rattle.fx_rows.specs.inner.Bands.{bounded_span}
-use Rattle.fx_rows.specs.inner.Lines.{left_at, right_at, AreOnly, AreSetIn, IsLineBit, IsMetTo, IsRowsBit, IsSetTo}
+use Rattle.fx_rows.specs.inner.Lines.{AreOnly, AreSetIn, IsLineBit, IsMetTo, IsMetToUnlessOn, IsRowsBit, IsSetTo}
 use Rattle.fx_rows.specs.inner.Told.{IsEnd}
 use Rattle.fx_rows.proofs.Bulges.{in_kept}
 use Rattle.fx_rows.proofs.Kept.{rows_more, gain_both, gain_more}
@@ -62,8 +62,7 @@ rows-preserved g c =
     let e = met_end s f b.across.first b.across.end up end k b.between c.requires.columns.0 c.requires.columns.1 inner is w met in
     subst (λ (j : ℕ). word_bit now (up * row_step + j * step) ≡ 1) (sym e)
     (set s (subst (λ (j : ℕ). IsMetTo s f (f.bottom +ℤ pos up) j) e met.met)) in
-    let only = subst (λ z. z) (λ i. (¬ (IsOn (left_at (at_line.frame i) (at_line.row i) end) s)
-    → ¬ (IsOn (right_at (at_line.frame i) (at_line.row i) end) s) → IsMetTo s (at_line.frame i) (at_line.row i) end)
+    let only = subst (λ z. z) (λ i. IsMetToUnlessOn s (at_line.frame i) (at_line.row i) end
     → AreOnly (IsLineBit s (at_line.frame i) (at_line.row i) (at_line.first i) (at_line.step i)) c.rows.bits now)
     (c.set_segment.ensures.only s) (λ off off'. (end_met_too s f b.across.first b.across.end up end b.between c.requires.columns.0
     c.requires.columns.1 inner is off off').met) in

@@ -44,7 +44,7 @@ left-init c = record {
 
 pub beside-left-requires-clause-step : goal.beside-left-requires-clause-step
 beside-left-requires-clause-step c = step_before (span_of c.args.piece.now) (place_at c.args.strip 0) c.left.here.k c.args.cuts.arc.next
-    c.reversed.result (omega arith) c.requires.at.arc.next c.reversed.ensures.u c.reversed.ensures.v c.reversed.ensures.w
+    c.reversed.result (omega arith) c.requires.at.arc.next c.reversed.ensures
 
 pub returns-then-counts-clause-end : goal.returns-then-counts-clause-end
 returns-then-counts-clause-end c =
