@@ -1,5 +1,4 @@
 use Rattle.std.proofs.Common.{◌≡◌, inl, refl, arith, w32, to_z, of_z}
-use Rattle.fx_fixed.proofs.Linear.{signed_linear}
 use Rattle.fx_winding.specs.declared.point.Point.{Point}
 use Rattle.fx_rows.proofs.Bulges.{beyond_same, or_else}
 use Rattle.fx_rows.proofs.Values.{kept_within}

@@ -1,7 +1,7 @@
 use Rattle.std.proofs.Common.{◌≡◌, ◌+◌, ◌*◌, ℕ, pos, ◌+ℤ◌, refl, ap, sym, subst, arith}
 use Rattle.fx_fixed.proofs.Linear.{signed_linear}
 use Rattle.fx_winding.specs.Bitmaps.{word_bit}
-use Rattle.fx_winding.specs.Winding.{Span, IsOn}
+use Rattle.fx_winding.specs.Winding.{Span}
 use Rattle.fx_winding.specs.declared.frame.Frame.{Frame}
 use Rattle.fx_rows.specs.inner.Bands.{bounded_span}
 use Rattle.fx_rows.specs.inner.Lines.{AreOnly, AreSetIn, IsLineBit, IsMetTo, IsMetToUnlessOn, IsRowsBit, IsSetTo}

@@ -1,4 +1,4 @@
-use Rattle.std.proofs.Common.{◌≡◌, ◌∙◌, ap, ◌^◌, ℤ, pos, ◌+ℤ◌, ◌*ℤ◌, ◌<ℤ◌, neg_ℤ, arith, w32, w64, to_z}
+use Rattle.std.proofs.Common.{◌≡◌, ◌∙◌, ap, ℤ, pos, ◌+ℤ◌, ◌*ℤ◌, ◌<ℤ◌, neg_ℤ, arith, w32, w64, to_z}
 use Rattle.std.proofs.lemmas.Int.{to_z_pos}
 use Rattle.fx_fixed.proofs.Linear.{signed_linear}
 use Rattle.fx_rows.proofs.Values.{kept_within, negated_within}
