@@ -263,7 +263,8 @@ pub up_set : (s : Span) (f g : Frame) (bits : List ℕ) → g.left ≡ f.bottom 
     → (r : ℕ) → r ≤ f.height → IsNotedUp s f bits r
 up_set s f g bits el eb ew eh h r l k m met =
     let e : k * 1 + r * (32 * words_noted f.width) ≡ pixel_number f r k = omega arith in
-    subst (λ (n : ℕ). word_bit bits n ≡ 1) e (h k (omega arith) (subst (λ (n : ℕ). k < n) (sym eh) m) r (subst (λ (n : ℕ). r ≤ n) (sym ew) l)
+    subst (λ (n : ℕ). word_bit bits n ≡ 1) e (h k (omega arith) (subst (λ (n : ℕ). k < n) (sym eh) m) r
+    (subst (λ (n : ℕ). r ≤ n) (sym ew) l)
     (record {
       met = subst (λ z. z) (λ i. IsMet (centre ((sym el i -ℤ pos 1) +ℤ pos r) (sym eb i +ℤ pos k))
           (centre (sym el i +ℤ pos r) (sym eb i +ℤ pos k)) (turned_span s)) met.met;

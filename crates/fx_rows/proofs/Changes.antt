@@ -131,7 +131,8 @@ settling_more diff from start count count' bits bits' left left' k (p, s) first 
         → bit_at bits' (31 - i) ≡ count_bit (start +ℤ sum_of diff from (i + 1)) 0
     by_done i h (inl x) (inl y) = low i x ∙ s.done i y
     by_done i h (inl x) (inr y) =
-        let e = sum_none diff from p (i + 1) (omega arith) (λ j u v. s.none j u (omega (arith, first.within)) (first.before j (omega arith))) in
+        let e = sum_none diff from p (i + 1) (omega arith)
+        (λ j u v. s.none j u (omega (arith, first.within)) (first.before j (omega arith))) in
         let m = s.sum in
         let same : count ≡ start +ℤ sum_of diff from (i + 1) = omega (arith, signed_linear, e, m) in
         low i x ∙ s.rest i y (omega (arith, first.within)) ∙ ap (λ (z : ℤ). count_bit z 0) same

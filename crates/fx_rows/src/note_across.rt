@@ -49,7 +49,8 @@ fn note_ends(piece: &Piece, placed: PieceInBand, ends: &[u32], across: &mut [u32
 #[inline(never)]
 fn note_others(piece: &Piece, placed: PieceInBand, across: &mut [u32], tally: &mut Tally)
     requires room { length across.old ≡ placed.frame.height * words_noted_of placed.frame.width }
-    ensures below { NotesAcross (span_of piece.now) placed.frame placed.met.touched.first placed.met.inner.first across.old across.new }
+    ensures below { let m = placed.met in
+        NotesAcross (span_of piece.now) placed.frame m.touched.first m.inner.first across.old across.new }
     ensures above { NotesAcross (span_of piece.now) placed.frame placed.met.inner.end placed.met.touched.end across.old across.new }
     ensures count { tally.new.count ≤ tally.old.count + 55 * (placed.rows.end - placed.rows.first) }
 {

@@ -38,7 +38,8 @@ AreMet s f m = AreMetIn s f 0 f.height m
 
 -- a piece is to be noted next in some rows of a frame: where its columns end in those between its ends is told, and it is noted in
 -- the rows below them
-pub record IsDue (Says : Saying → Type 0) (IsTold : ℕ → ℕ → Type 0) (p : Piece) (f : Frame) (rows : RowRange) (m : Met) : Type 0 where
+pub record IsDue (Says : Saying → Type 0) (IsTold : ℕ → ℕ → Type 0) (p : Piece) (f : Frame) (rows : RowRange) (m : Met)
+    : Type 0 where
   pub frame : Says (of_frame f)
   pub near : IsNear p
   pub within : rows.end ≤ f.height

@@ -62,10 +62,10 @@ returns-clause-added c =
     (λ k. let a = c.add_run.ensures.raised.sums k in let z = c.add_run-2.ensures.raised.sums k in
     let x = ap (before (at + k + 1)) ed in omega (arith, signed_linear, a, z, x))
     (λ n h. c.add_run-2.ensures.raised.under n h ∙ ap (before n) ed ∙ c.add_run.ensures.raised.under n h)
-    (λ n w k. let e = c.add_run-2.ensures.raised.grown (n + 2) (subst (AreWithin (n + 2)) (sym ed) (c.add_run.ensures.raised.grown n w)) k in
-    omega (arith, signed_linear, e))
+    (λ n w k. let e = c.add_run-2.ensures.raised.grown (n + 2) (subst (AreWithin (n + 2)) (sym ed)
+    (c.add_run.ensures.raised.grown n w)) k in omega (arith, signed_linear, e))
     (λ a. c.add_run-2.ensures.touched (subst (λ z. z) (λ i. AreTouched (sym ed i) (sym et i)) (c.add_run.ensures.touched a)))
-    c.mark.ensures.row c.mark.ensures.under in
+    c.mark.ensures in
     row_added s f (f.bottom +ℤ pos c.args.up) _ b _ d d' t t' m m'
     c.deref_mut.ensures.value (sym (with_items_is mid d' (omega arith)))
     c.deref_mut-2.ensures.value (sym (with_items_is mid' t' (omega arith)))

@@ -4,7 +4,8 @@ use Rattle.fx_rows.proofs.Sums.{first_set}
 use Rattle.fx_rows.proofs.counts.add_before.Goals as goal
 
 pub add-requires-clause-small : goal.add-requires-clause-small
-add-requires-clause-small c = λ k. let e = c.add_at.ensures.raised.grown (2 ^ 28) c.requires.small k in omega (arith, signed_linear, e)
+add-requires-clause-small c = λ k. let e =
+    c.add_at.ensures.raised.grown (2 ^ 28) c.requires.small k in omega (arith, signed_linear, e)
 
 pub returns-clause-raised : goal.returns-clause-raised
 returns-clause-raised c =

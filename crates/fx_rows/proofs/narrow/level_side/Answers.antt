@@ -52,7 +52,8 @@ returns-then-piece-b c =
     let none : w ≡ pos 0 = omega (arith, signed_linear, c.turned-weight.ensures.size) in
     record {
       narrowed = narrowed_same (span_of s) c.args.strip;
-      sided = sided_level s c.args.b c.args.strip c.requires.bent.1 c.requires.bent.0 c.requires.level (omega (arith, signed_linear))
+      sided = sided_level s c.args.b c.args.strip c.requires.bent.1 c.requires.bent.0 c.requires.level
+          (omega (arith, signed_linear))
           (λ k. level_weight s c.args.b c.args.strip c.args.areas w c.requires.bent.0 c.requires.areas c.requires.level e k ∙ none);
     }
 

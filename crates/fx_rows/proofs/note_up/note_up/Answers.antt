@@ -54,7 +54,8 @@ returns-clause-notes c =
     let passage = c.note_passage-low.ensures in
     let columns = c.note_columns.ensures in
     let level : IsLevel s p.frame p.met.inner.end c.joined.result.first c.joined.result.end =
-    rw (c.joined.ensures.first, c.joined.ensures.end) (c.columns_above-high.ensures.to.level c.note_passage-low.result passage.from) in
+    rw (c.joined.ensures.first, c.joined.ensures.end)
+    (c.columns_above-high.ensures.to.level c.note_passage-low.result passage.from) in
     record {
       noted = λ r h l. all_levels s p.frame p.rows.first p.rows.end p.met c.note_columns.new.up plain c.requires.placed.met
           (λ q m o. up_kept s p.frame q c.note_passage-low.new.up c.note_columns.new.up columns.kept (passage.notes.noted q m o))

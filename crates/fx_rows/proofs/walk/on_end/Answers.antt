@@ -22,5 +22,5 @@ on_column-requires-2-clause-only c = grind (arith, c.requires.only, c.if-not-arc
 
 pub beside-last-requires-clause-step : goal.beside-last-requires-clause-step
 beside-last-requires-clause-step c =
-    step_before (span_of c.args.piece.now) _ c.args.cuts.spot.k c.args.cuts.arc.next c.reversed.result (omega arith) c.requires.at.arc.next
-    c.reversed.ensures
+    step_before (span_of c.args.piece.now) _ c.args.cuts.spot.k c.args.cuts.arc.next c.reversed.result (omega arith)
+    c.requires.at.arc.next c.reversed.ensures

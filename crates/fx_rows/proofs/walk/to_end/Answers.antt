@@ -13,7 +13,8 @@ right-init c =
     let column = c.beside-here.ensures.column in
     record {
       at = c.beside-here.ensures.at;
-      inside = λ j h. c.requires.first j c.args.cuts.spot.k (omega (arith, h, column)) (c.is_short.ensures.short c.if-is_short.true).1;
+      inside = λ j h. c.requires.first j c.args.cuts.spot.k (omega (arith, h, column))
+          (c.is_short.ensures.short c.if-is_short.true).1;
     }
 
 pub beside-here-requires-in-right-clause-step : goal.beside-here-requires-in-right-clause-step
@@ -43,8 +44,9 @@ left-init c = record {
 }
 
 pub beside-left-requires-clause-step : goal.beside-left-requires-clause-step
-beside-left-requires-clause-step c = step_before (span_of c.args.piece.now) (place_at c.args.strip 0) c.left.here.k c.args.cuts.arc.next
-    c.reversed.result (omega arith) c.requires.at.arc.next c.reversed.ensures
+beside-left-requires-clause-step c =
+    step_before (span_of c.args.piece.now) (place_at c.args.strip 0) c.left.here.k c.args.cuts.arc.next c.reversed.result
+    (omega arith) c.requires.at.arc.next c.reversed.ensures
 
 pub returns-then-counts-clause-end : goal.returns-then-counts-clause-end
 returns-then-counts-clause-end c =
