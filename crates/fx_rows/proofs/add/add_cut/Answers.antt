@@ -1,4 +1,4 @@
-use Rattle.std.proofs.Common.{◌≡◌, ◌∙◌, ap, sym, subst, arith, w32, to_z, of_z, ℤ, ℕ, ◌+ℤ◌, ◌+◌}
+use Rattle.std.proofs.Common.{◌≡◌, sym, subst, arith, w32, to_z, of_z, ℤ, ℕ}
 use Rattle.std.proofs.lemmas.List.{with_items_is}
 use Rattle.fx_fixed.proofs.Linear.{signed_linear}
 use Rattle.fx_rows.specs.inner.Sums.{AreRaisedBefore}
