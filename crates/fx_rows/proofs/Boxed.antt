@@ -8,8 +8,7 @@ use Rattle.fx_winding.specs.declared.frame.Frame.{Frame}
 use Rattle.fx_rows.specs.declared.across.Across.{Across}
 use Rattle.fx_rows.specs.declared.piece_in_band.PieceInBand.{PieceInBand}
 use Rattle.fx_rows.specs.inner.Placing.{AreColumns, IsBoxed, IsInBand}
-use Rattle.fx_rows.specs.inner.Points.{IsPointOf}
-use Rattle.fx_rows.specs.inner.Upward.{IsFootX, IsHeadX}
+use Rattle.fx_rows.specs.inner.Points.{IsFootX, IsHeadX, IsPointOf}
 
 pub boxed : (f : Frame) (s : Span) (a : Across) → AreColumns f s a → IsBoxed f s
 boxed f s a is = grind (arith, signed_linear, is)

@@ -31,7 +31,7 @@ use Rattle.fx_rows.proofs.Points.{to_all}
 use Rattle.fx_rows.specs.Parts.{IsRun, IsRowPart}
 use Rattle.fx_rows.specs.declared.part.Run.{Run}
 use Rattle.fx_rows.specs.declared.part.RowPart.{RowPart}
-use Rattle.fx_rows.specs.inner.Lines.{left_at, right_at, IsMetTo, IsRunEnd, IsSetTo, IsRowSet, AreRowsSet, AreSetIn}
+use Rattle.fx_rows.specs.inner.Lines.{left_at, right_at, IsMetTo, IsRunEnd, IsSetTo, IsRowSet, AreSetIn}
 use Rattle.fx_rows.proofs.Turned.{on_turned}
 
 same_or_not : (x y : ℤ) → (x ≡ y) ⊎ (x ≢ y)
@@ -258,11 +258,13 @@ pub across_set : (s : Span) (f : Frame) (r : ℕ) (bits : List ℕ) → AreSetIn
 across_set s f r bits h k m met = grind (arith, signed_linear, h, k, m, met)
 
 pub up_set : (s : Span) (f g : Frame) (bits : List ℕ) → g.left ≡ f.bottom → g.bottom ≡ f.left → g.width ≡ f.height
-    → g.height ≡ f.width → AreRowsSet (turned_span s) g 1 (32 * words_noted f.width) bits → (r : ℕ) → r ≤ f.height
-    → IsNotedUp s f bits r
+    → g.height ≡ f.width
+    → ((r : ℕ) → 0 ≤ r → r < g.height → AreSetIn (turned_span s) g r (r * 1) (32 * words_noted f.width) bits)
+    → (r : ℕ) → r ≤ f.height → IsNotedUp s f bits r
 up_set s f g bits el eb ew eh h r l k m met =
     let e : k * 1 + r * (32 * words_noted f.width) ≡ pixel_number f r k = omega arith in
-    subst (λ (n : ℕ). word_bit bits n ≡ 1) e (h k (subst (λ (n : ℕ). k < n) (sym eh) m) r (subst (λ (n : ℕ). r ≤ n) (sym ew) l)
+    subst (λ (n : ℕ). word_bit bits n ≡ 1) e (h k (omega arith) (subst (λ (n : ℕ). k < n) (sym eh) m) r
+    (subst (λ (n : ℕ). r ≤ n) (sym ew) l)
     (record {
       met = subst (λ z. z) (λ i. IsMet (centre ((sym el i -ℤ pos 1) +ℤ pos r) (sym eb i +ℤ pos k))
           (centre (sym el i +ℤ pos r) (sym eb i +ℤ pos k)) (turned_span s)) met.met;
@@ -301,10 +303,6 @@ run_end {X} f run r k is end first last = elim (subst (λ (o : Option Run). IsRu
 pub run_column : (f : Frame) (run : Option Run) (r : Run) → run ≡ Some r → IsInside f run
     → IsFrom f.left f.width r.first × IsFrom f.left f.width r.last
 run_column f run r is h = let i = subst (λ (o : Option Run). IsInside f o) is h in (i.first, i.last)
-
-pub rows_kept : (s : Span) (f : Frame) (row : ℤ) (first step : ℕ) (a b : List ℕ) → AreKept a b → IsRowSet s f row first step a
-    → IsRowSet s f row first step b
-rows_kept s f row first step a b kept h k l met = kept (first + k * step) (h k l met)
 
 pub set_in : (s : Span) (f : Frame) (r first step : ℕ) (bits : List ℕ) → IsRowSet s f (f.bottom +ℤ pos r) first step bits
     → AreSetIn s f r first step bits

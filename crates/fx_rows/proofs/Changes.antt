@@ -8,7 +8,7 @@ use Rattle.std.proofs.lemmas.Nat.Bits.{bit_at-zero, bit_at-lt, bit_at_or}
 use Rattle.fx_fixed.proofs.Order.{below_or_not}
 use Rattle.fx_fixed.proofs.Linear.{signed_linear}
 use Rattle.fx_winding.specs.Bitmaps.{word_bit}
-use Rattle.fx_rows.specs.inner.Sums.{before, sum_of, count_bit}
+use Rattle.fx_rows.specs.inner.Sums.{before, sum_of, count_bit, AreEmptiedTo, IsFirstBit}
 use Rattle.fx_rows.proofs.Masks.{word_more}
 use Rattle.fx_rows.proofs.Sums.{before_more}
 
@@ -30,6 +30,13 @@ sum_zero xs from = refl
 pub sum_next : (xs : List ℤ) (from n : ℕ) → sum_of xs from (n + 1) ≡ sum_of xs from n +ℤ get_or xs (from + n) (pos 0)
 unfolding sum_of
 sum_next xs from n = let e : n + 1 ≡ suc n = omega arith in ap (sum_of xs from) e
+
+pub sum_first : (xs : List ℤ) (from : ℕ) → sum_of xs from 1 ≡ get_or xs from (pos 0)
+sum_first xs from =
+    let e : from + 0 ≡ from = omega arith in
+    let z = sum_zero xs from in
+    let n = sum_next xs from 0 ∙ ap (λ (k : ℕ). sum_of xs from 0 +ℤ get_or xs k (pos 0)) e in
+    omega (arith, signed_linear, z, n)
 
 pub before_sum : (xs : List ℤ) (from n : ℕ) → before (from + n) xs ≡ before from xs +ℤ sum_of xs from n
 unfolding sum_of
@@ -58,7 +65,7 @@ IsSettling diff from start count bits left = (p : ℕ) × Settling diff from sta
 
 -- the first column settled
 pub settling_first : (diff : List ℤ) (from : ℕ) (start count : ℤ) (bits left : ℕ)
-    → count ≡ start +ℤ get_or diff (from + 0) (pos 0) → ((i : ℕ) → i < 32 → bit_at bits (31 - i) ≡ count_bit count 0)
+    → count ≡ start +ℤ get_or diff from (pos 0) → ((i : ℕ) → i < 32 → bit_at bits (31 - i) ≡ count_bit count 0)
     → bit_at left 0 ≡ 0
     → ((i : ℕ) → 0 < i → i < 32 → bit_at left i ≡ 0 → get_or diff (from + i) (pos 0) ≡ pos 0)
     → IsSettling diff from start count bits left
@@ -76,46 +83,36 @@ settling_first diff from start count bits left c b f n = (
 )
   where
     whole : count ≡ start +ℤ sum_of diff from 1
-    whole =
-        let z = sum_zero diff from in
-        let o = sum_next diff from 0 in
-        omega (arith, signed_linear, c, z, o)
-
--- the sum up to a column whose bit is the first that is set
-sum_to : (diff : List ℤ) (from : ℕ) (start count : ℤ) (bits left p k : ℕ) → Settling diff from start count bits left p
-    → k < 32 → p ≤ k → ((i : ℕ) → i < k → bit_at left i ≡ 0) → count ≡ start +ℤ sum_of diff from k
-sum_to diff from start count bits left p k s l h b = grind (arith, signed_linear, s, l, h, b, sum_none)
+    whole = let e = sum_first diff from in omega (arith, signed_linear, c, e)
 
 not_before : (left p k : ℕ) → ((i : ℕ) → i < p → bit_at left i ≡ 0) → bit_at left k ≡ 1 → p ≤ k
 not_before left p k v bit = grind (arith, below_or_not k p)
 
+-- the sum up to a column whose bit is the first that is set
 pub count_to : (diff : List ℤ) (from : ℕ) (start count : ℤ) (bits left k : ℕ)
-    → IsSettling diff from start count bits left → k < 32 → bit_at left k ≡ 1
-    → ((i : ℕ) → i < k → bit_at left i ≡ 0) → count ≡ start +ℤ sum_of diff from k
-count_to diff from start count bits left k (p, s) l bit b =
-    sum_to diff from start count bits left p k s l (not_before left p k s.visited bit) b
+    → IsSettling diff from start count bits left → IsFirstBit left k → count ≡ start +ℤ sum_of diff from k
+count_to diff from start count bits left k (p, s) first =
+    grind (arith, signed_linear, s, first, not_before left p k s.visited first.set, sum_none)
 
 -- the count at a column whose bit is the first that is set
 pub count_at : (diff : List ℤ) (from : ℕ) (start count : ℤ) (bits left k : ℕ)
-    → IsSettling diff from start count bits left → k < 32 → bit_at left k ≡ 1
-    → ((i : ℕ) → i < k → bit_at left i ≡ 0)
+    → IsSettling diff from start count bits left → IsFirstBit left k
     → count +ℤ get_or diff (from + k) (pos 0) ≡ start +ℤ sum_of diff from (k + 1)
-count_at diff from start count bits left k h l bit b =
-    let c = count_to diff from start count bits left k h l bit b in
+count_at diff from start count bits left k h first =
+    let c = count_to diff from start count bits left k h first in
     let n = sum_next diff from k in
     omega (arith, signed_linear, c, n)
 
 pub settling_more : (diff : List ℤ) (from : ℕ) (start count count' : ℤ) (bits bits' left left' k : ℕ)
-    → IsSettling diff from start count bits left → k < 32 → bit_at left k ≡ 1
-    → ((i : ℕ) → i < k → bit_at left i ≡ 0) → count' ≡ count +ℤ get_or diff (from + k) (pos 0)
+    → IsSettling diff from start count bits left → IsFirstBit left k → count' ≡ count +ℤ get_or diff (from + k) (pos 0)
     → ((i : ℕ) → i < k → bit_at bits' (31 - i) ≡ bit_at bits (31 - i))
     → ((i : ℕ) → k ≤ i → i < 32 → bit_at bits' (31 - i) ≡ count_bit count' 0)
     → ((i : ℕ) → i ≤ k → bit_at left' i ≡ 0)
     → ((i : ℕ) → k < i → i < 32 → bit_at left' i ≡ bit_at left i) → IsSettling diff from start count' bits' left'
-settling_more diff from start count count' bits bits' left left' k (p, s) l bit b c low high gone others = (
+settling_more diff from start count count' bits bits' left left' k (p, s) first c low high gone others = (
   k + 1,
   record {
-    few = omega arith;
+    few = let l = first.within in omega (arith, l);
     sum = whole;
     done = λ i h. by_done i h (below_or_not i k) (below_or_not i p);
     rest = λ i h m. high i (omega arith) m;
@@ -125,22 +122,23 @@ settling_more diff from start count count' bits bits' left left' k (p, s) l bit 
 )
   where
     after : p ≤ k
-    after = not_before left p k s.visited bit
+    after = not_before left p k s.visited first.set
 
     whole : count' ≡ start +ℤ sum_of diff from (k + 1)
-    whole = c ∙ count_at diff from start count bits left k (p, s) l bit b
+    whole = c ∙ count_at diff from start count bits left k (p, s) first
 
     by_done : (i : ℕ) → i < k + 1 → (i < k) ⊎ (k ≤ i) → (i < p) ⊎ (p ≤ i)
         → bit_at bits' (31 - i) ≡ count_bit (start +ℤ sum_of diff from (i + 1)) 0
     by_done i h (inl x) (inl y) = low i x ∙ s.done i y
     by_done i h (inl x) (inr y) =
-        let e = sum_none diff from p (i + 1) (omega arith) (λ j u v. s.none j u (omega arith) (b j (omega arith))) in
+        let e = sum_none diff from p (i + 1) (omega arith)
+        (λ j u v. s.none j u (omega (arith, first.within)) (first.before j (omega arith))) in
         let m = s.sum in
         let same : count ≡ start +ℤ sum_of diff from (i + 1) = omega (arith, signed_linear, e, m) in
-        low i x ∙ s.rest i y (omega arith) ∙ ap (λ (z : ℤ). count_bit z 0) same
+        low i x ∙ s.rest i y (omega (arith, first.within)) ∙ ap (λ (z : ℤ). count_bit z 0) same
     by_done i h (inr x) y =
         let e : k ≡ i = omega arith in
-        high i x (omega arith) ∙ ap (λ (z : ℤ). count_bit z 0) whole
+        high i x (omega (arith, first.within)) ∙ ap (λ (z : ℤ). count_bit z 0) whole
         ∙ ap (λ (j : ℕ). count_bit (start +ℤ sum_of diff from (j + 1)) 0) e
 
 -- the differences of a word whose columns are left have stayed, and the others are 0
@@ -149,20 +147,20 @@ pub record Emptying (old new : List ℤ) (from left : ℕ) : Type 0 where
   pub done : (i : ℕ) → i < 32 → bit_at left i ≡ 0 → get_or new (from + i) (pos 0) ≡ pos 0
   pub others : (k : ℕ) → (k < from) ⊎ (from + 32 ≤ k) → get_or new k (pos 0) ≡ get_or old k (pos 0)
 
-pub emptying_first : (old new : List ℤ) (from touched left : ℕ) → get_or new (from + 0) (pos 0) ≡ pos 0
-    → ((k : ℕ) → k ≢ from + 0 → get_or new k (pos 0) ≡ get_or old k (pos 0))
+pub emptying_first : (old new : List ℤ) (from touched left : ℕ) → get_or new from (pos 0) ≡ pos 0
+    → ((k : ℕ) → k ≢ from → get_or new k (pos 0) ≡ get_or old k (pos 0))
     → ((i : ℕ) → 0 < i → i < 32 → bit_at touched i ≡ 0 → get_or old (from + i) (pos 0) ≡ pos 0)
     → ((i : ℕ) → i ≤ 0 → bit_at left i ≡ 0)
     → ((i : ℕ) → 0 < i → i < 32 → bit_at left i ≡ bit_at touched i) → Emptying old new from left
 emptying_first old new from touched left here same none gone rest = grind (arith, signed_linear, here, same, none, gone, rest)
 
 pub emptying_more : (old new new' : List ℤ) (from left left' c : ℕ) → Emptying old new from left
-    → get_or new' (from + c) (pos 0) ≡ pos 0 → c < 32
-    → ((k : ℕ) → k ≢ from + c → get_or new' k (pos 0) ≡ get_or new k (pos 0))
-    → ((i : ℕ) → i < c → bit_at left i ≡ 0) → ((i : ℕ) → i ≤ c → bit_at left' i ≡ 0)
+    → get_or new' (from + c) (pos 0) ≡ pos 0
+    → ((k : ℕ) → k ≢ from + c → get_or new' k (pos 0) ≡ get_or new k (pos 0)) → IsFirstBit left c
+    → ((i : ℕ) → i ≤ c → bit_at left' i ≡ 0)
     → ((i : ℕ) → c < i → i < 32 → bit_at left' i ≡ bit_at left i) → Emptying old new' from left'
-emptying_more old new new' from left left' c s here few same before gone rest =
-    grind (arith, signed_linear, s, here, few, same, before, gone, rest)
+emptying_more old new new' from left left' c s here same first gone rest =
+    grind (arith, signed_linear, s, here, same, first, gone, rest)
 
 -- ---- a settled word
 pub record Settled (diff : List ℤ) (from : ℕ) (start count : ℤ) (bits : ℕ) : Type 0 where
@@ -221,13 +219,10 @@ settled_more diff line lining count count' w word s long bits c = record {
         ∙ max_with_count_bit z b (bit_at word (31 - i)) (bit_at-lt (get_or line ((32 * w + i) / 32) 0) (31 - (32 * w + i) % 32)) new
 
 -- ---- the differences of the words before w are 0
-pub record EmptiedTo (old new : List ℤ) (w : ℕ) : Type 0 where
-  pub done : (k : ℕ) → k < 32 * w → get_or new k (pos 0) ≡ pos 0
-  pub rest : (k : ℕ) → 32 * w ≤ k → get_or new k (pos 0) ≡ get_or old k (pos 0)
-
-pub emptied_more : (old new new' : List ℤ) (w : ℕ) → EmptiedTo old new w
+pub emptied_more : (old new new' : List ℤ) (w : ℕ) → AreEmptiedTo (32 * w) old new
     → ((i : ℕ) → i < 32 → get_or new' (32 * w + i) (pos 0) ≡ pos 0)
-    → ((k : ℕ) → (k < 32 * w) ⊎ (32 * w + 32 ≤ k) → get_or new' k (pos 0) ≡ get_or new k (pos 0)) → EmptiedTo old new' (w + 1)
+    → ((k : ℕ) → (k < 32 * w) ⊎ (32 * w + 32 ≤ k) → get_or new' k (pos 0) ≡ get_or new k (pos 0))
+    → AreEmptiedTo (32 * (w + 1)) old new'
 emptied_more old new new' w s zeros same = record {
   done = λ k h. grind (arith, below_or_not k (32 * w), same k, s.done k, zeros (k - 32 * w));
   rest = λ k h. same k (inr (omega arith)) ∙ s.rest k (omega arith);

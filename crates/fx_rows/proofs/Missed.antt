@@ -17,7 +17,7 @@ use Rattle.fx_winding.proofs.Crossings.{crossing_level, crossing_under}
 use Rattle.fx_winding.proofs.Meeting.{above_not_met, below_not_met}
 use Rattle.fx_winding.proofs.Regions.{region_cases, region_out}
 use Rattle.fx_winding.proofs.Triangle.{balance_y, not_below_range, not_above_range}
-use Rattle.fx_rows.specs.inner.Heights.{TurnsBefore, IsMissed}
+use Rattle.fx_rows.specs.inner.Heights.{IsPastTurn, IsMissed}
 use Rattle.fx_rows.proofs.Signs.{above_or_zero}
 
 -- ---- by numbers: how far three points are, and their weights
@@ -83,7 +83,7 @@ from_turn a b c y n =
       | inl h ↦ omega (arith, signed_linear, h, e)
     ]
 
--- a height that is nearer to the control point than the arc comes to that, by the distances of its ends
+-- at a distance below n from its control point no arc comes whose ends are at the distances a and c
 abbrev pub IsOff : ℤ → ℤ → ℤ → Type 0
 IsOff a c n = (k : ℕ) → pos k <ℤ n → (pos k *ℤ (a +ℤ c)) <ℤ (a *ℤ c)
 
@@ -159,12 +159,13 @@ turned_on a b c p ends n (inl on) = by (above_or_zero v on.on_arc.1) ends
         on.on_arc.2 total (omega (arith, signed_linear, h)) (omega (arith, signed_linear, k))
         (other_sign u v w (a.y -ℤ p.y) (b.y -ℤ p.y) (c.y -ℤ p.y) balance)
 
-turned_part : (a : Place) (b : Option Place) (c p : Place) → AreBeyond a.y c.y p.y → TurnsBefore a b c p.y
-    → (region_part a b c p ≡ pos 0) × (¬ (IsOnPart a b c p))
+turned_part : (a : Place) (b : Option Place) (c p : Place) → AreBeyond a.y c.y p.y
+    → IsPastTurn (record { a = a; b = b; c = c }) p.y → (region_part a b c p ≡ pos 0) × (¬ (IsOnPart a b c p))
 turned_part a None c p ends n = absurd n
 turned_part a (Some b) c p ends n = (turned_region a b c p n, turned_on a b c p ends n)
 
-no_tip : (a : Place) (b : Option Place) (c p q : Place) → AreBeyond a.y c.y p.y → TurnsBefore a b c p.y → ¬ (IsTipPart a b c p q)
+no_tip : (a : Place) (b : Option Place) (c p q : Place) → AreBeyond a.y c.y p.y → IsPastTurn (record { a = a; b = b; c = c }) p.y
+    → ¬ (IsTipPart a b c p q)
 no_tip a None c p q ends n tip = tip
 no_tip a (Some b) c p q ends n tip = let reached = tip.reached in grind (arith, signed_linear, ends, n, reached)
 
@@ -178,7 +179,7 @@ missed p s (inr (inr (h, k, n))) = let part = turned_part s.a s.b s.c p (inr (h,
     (crossing_under s.a.y s.c.y p.y (area s.a s.c p) (h, k), part.0, part.1)
 
 turned_unmet : (s : Span) (i j row : ℤ) → AreBeyond s.a.y s.c.y (pos 128 *ℤ row +ℤ pos 64)
-    → TurnsBefore s.a s.b s.c (pos 128 *ℤ row +ℤ pos 64) → IsMissed s (pos 128 *ℤ row +ℤ pos 64)
+    → IsPastTurn s (pos 128 *ℤ row +ℤ pos 64) → IsMissed s (pos 128 *ℤ row +ℤ pos 64)
     → ¬ (IsMet (centre i row) (centre j row) s)
 turned_unmet s i j row ends n is (inl w) = let e = w.level in absurd (omega (arith, signed_linear, ends, e))
 turned_unmet s i j row ends n is (inr (inl w)) = let e = w.level in absurd (omega (arith, signed_linear, ends, e))

@@ -23,6 +23,11 @@ gap_without_copies u v w x y hx hy ex ey =
     let e : to_z w128 (of_z w128 (pos 4 *ℤ x -ℤ y)) ≡ pos 4 *ℤ x -ℤ y = omega (arith, signed) in
     (λ i. to_z w128 (of_z w128 (a i -ℤ b i))) ∙ e ∙ (λ i. pos 4 *ℤ ex i -ℤ ey i)
 
+-- the gap as the difference of two products of 64 bits
+pub gap_products : (u v w : ℤ) → gap_of u v w ≡ (pos 4 *ℤ u) *ℤ w -ℤ v *ℤ v
+gap_products u v w = ring (u ∷ v ∷ w ∷ []) (num (pos 4) ⊠ (var 0 ⊠ var 2) ⊟ var 1 ⊠ var 1)
+    ((num (pos 4) ⊠ var 0) ⊠ var 2 ⊟ var 1 ⊠ var 1) tt
+
 -- ---- from centre to centre
 u_between : (bx by cx cy l r l' r' : ℤ)
     → area_of (pos 128 *ℤ l' +ℤ pos 64) (pos 128 *ℤ r' +ℤ pos 64) bx by cx cy

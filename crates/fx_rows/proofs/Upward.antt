@@ -23,13 +23,13 @@ use Rattle.fx_winding.proofs.Turning.{IsClearOf, IsClearOfFoot, IsClearOfHead, a
 use Rattle.fx_winding.proofs.Turning.{to_foot_not_met, from_head_not_met, to_head_not_met}
 use Rattle.fx_rows.specs.declared.heights.Met.{Met}
 use Rattle.fx_rows.specs.declared.reach.Reach.{Reach}
-use Rattle.fx_rows.specs.inner.Bulging.{HasLine, IsBeyond, IsBulge, IsBulgePart, IsOnLine}
+use Rattle.fx_rows.specs.inner.Bulging.{HasLine, IsBeyond, IsBulge, IsBulgePart, IsOnLine, IsPlain}
 use Rattle.fx_rows.specs.inner.Heights.{height_of, IsResting, IsHanging, IsAtMostEnds, IsAtLeastEnds, IsOneOver, IsOneUnder}
 use Rattle.fx_rows.specs.inner.Placing.{AreMetIn}
-use Rattle.fx_rows.specs.inner.Points.{AreAcross, IsInner}
+use Rattle.fx_rows.specs.inner.Points.{IsFootX, IsHeadX, AreAcross, IsInner}
 use Rattle.fx_rows.specs.inner.Told.{rise_value}
 use Rattle.fx_rows.specs.inner.Upward.{column_of, height_below, AreMetBetween, AreMetWithin, AreAllMet, AreAt}
-use Rattle.fx_rows.specs.inner.Upward.{AreAtFoot, AreAtHead, IsFootX, IsHeadX, IsPassing, IsLow, ComesFrom}
+use Rattle.fx_rows.specs.inner.Upward.{AreAtFoot, AreAtHead, IsPassing, IsLow, IsHigh, IsLevel, ComesFrom, GoesTo}
 use Rattle.fx_rows.proofs.Points.{to_all}
 
 -- the ends of a segment
@@ -88,14 +88,14 @@ on_line a c row e f = (
 )
 
 -- a row that is below both ends, or at one of them
-pub resting : (s : Span) (row : ℤ) → ¬ (IsBulge s) → ¬ (IsOnLine s) → IsAtMostEnds s (pos 128 *ℤ row +ℤ pos 64)
+pub resting : (s : Span) (row : ℤ) → IsPlain s → IsAtMostEnds s (pos 128 *ℤ row +ℤ pos 64)
     → IsResting s (pos 128 *ℤ row +ℤ pos 64)
-resting s row plain off h = grind (arith, signed_linear, plain, off, h, above_line, on_line)
+resting s row plain h = grind (arith, signed_linear, plain, h, above_line, on_line)
 
 -- a row that is above both ends, or at one of them
-pub hanging : (s : Span) (row : ℤ) → ¬ (IsBulge s) → ¬ (IsOnLine s) → IsAtLeastEnds s (pos 128 *ℤ row +ℤ pos 64)
+pub hanging : (s : Span) (row : ℤ) → IsPlain s → IsAtLeastEnds s (pos 128 *ℤ row +ℤ pos 64)
     → IsHanging s (pos 128 *ℤ row +ℤ pos 64)
-hanging s row plain off h = grind (arith, signed_linear, plain, off, h, below_line, on_line)
+hanging s row plain h = grind (arith, signed_linear, plain, h, below_line, on_line)
 
 -- it meets segments in columns between its ends alone
 pub met_between : (s : Span) (f : Frame) → ¬ (IsBulge s) → AreMetBetween s f
@@ -146,14 +146,14 @@ hanging_unmet s f r k h m =
     from_head_not_met (lower f r k) (upper f r k) s refl (next_up f r) (record { all = h.0; one = h.1 }) m.off_lower m.met
 
 -- no end of it is below the upper row; or none is above the lower row
-pub set_under : (s : Span) (f : Frame) (r : ℕ) (up : List ℕ) → ¬ (IsBulge s) → ¬ (IsOnLine s) → IsAtMostEnds s (height_of f r)
+pub set_under : (s : Span) (f : Frame) (r : ℕ) (up : List ℕ) → IsPlain s → IsAtMostEnds s (height_of f r)
     → IsNotedUp s f up r
-set_under s f r up plain off h k w m = absurd (resting_unmet s f r k (resting s (f.bottom +ℤ pos r) plain off h) m)
+set_under s f r up plain h k w m = absurd (resting_unmet s f r k (resting s (f.bottom +ℤ pos r) plain h) m)
 
-pub set_over : (s : Span) (f : Frame) (r : ℕ) (up : List ℕ) → ¬ (IsBulge s) → ¬ (IsOnLine s) → IsAtLeastEnds s (height_below f r)
+pub set_over : (s : Span) (f : Frame) (r : ℕ) (up : List ℕ) → IsPlain s → IsAtLeastEnds s (height_below f r)
     → IsNotedUp s f up r
-set_over s f r up plain off h k w m =
-    absurd (hanging_unmet s f r k (hanging s ((f.bottom -ℤ pos 1) +ℤ pos r) plain off h) m)
+set_over s f r up plain h k w m =
+    absurd (hanging_unmet s f r k (hanging s ((f.bottom -ℤ pos 1) +ℤ pos r) plain h) m)
 
 -- no line of centres comes between two neighbours
 same_line : (j b r : ℤ) → (pos 128 *ℤ ((b -ℤ pos 1) +ℤ r) +ℤ pos 64) <ℤ (pos 128 *ℤ j +ℤ pos 64)
@@ -386,20 +386,33 @@ through_all s f r c d rests foot hangs head k from to l off off' = record {
         each (inr i) = let h = head.at.to k (omega (arith, to, i)) in absurd (omega (arith, signed_linear, h, b))
 
 -- ---- all four
-pub comes_from : (s : Span) (f : Frame) (r : ℕ) (c : Reach) → ¬ (IsBulge s) → IsLow s f r c → ComesFrom s f r c
-comes_from s f r c plain (inl low) d (inl high) =
+level_between : (s : Span) (f : Frame) (r : ℕ) (c d : Reach) → ¬ (IsBulge s) → IsLow s f r c → IsHigh s f r d
+    → IsLevel s f r (min c.first d.first) (max c.end d.end)
+level_between s f r c d plain (inl low) (inl high) =
     record { within = pass_within s f r c d (met_between s f plain) low high; all = pass_met s f r c d low high }
-comes_from s f r c plain (inl low) d (inr (hangs, head)) = record {
+level_between s f r c d plain (inl low) (inr (hangs, head)) = record {
   within = head_within s f r c d (met_between s f plain) low hangs head;
   all = head_all s f r c d low hangs head;
 }
-comes_from s f r c plain (inr (rests, foot)) d (inl high) = record {
+level_between s f r c d plain (inr (rests, foot)) (inl high) = record {
   within = foot_within s f r c d (met_between s f plain) rests foot high;
   all = foot_all s f r c d rests foot high;
 }
-comes_from s f r c plain (inr (rests, foot)) d (inr (hangs, head)) = record {
+level_between s f r c d plain (inr (rests, foot)) (inr (hangs, head)) = record {
   within = through_within s f r c d (met_between s f plain) foot head;
   all = through_all s f r c d rests foot hangs head;
+}
+
+pub comes_from : (s : Span) (f : Frame) (r : ℕ) (c : Reach) → IsPlain s → IsLow s f r c → ComesFrom s f r c
+comes_from s f r c plain low = record {
+  within = elim low [ inl passes ↦ passes.is.within | inr rests ↦ rests.1.at.within ];
+  level = λ d high. level_between s f r c d plain.flat low high;
+}
+
+pub goes_to : (s : Span) (f : Frame) (r : ℕ) (c : Reach) → IsHigh s f r c → GoesTo s f r c
+goes_to s f r c high = record {
+  within = elim high [ inl passes ↦ passes.is.within | inr hangs ↦ hangs.1.at.within ];
+  level = λ d comes. comes.level c high;
 }
 
 -- ---- the levels of a band
@@ -463,16 +476,16 @@ pub over_lowest : (f : Frame) (from r : ℕ) → from ≤ r → height_below f f
 over_lowest f from r l = omega (arith, signed, l)
 
 -- up to each row of a band: those up to the first between the ends, those between, that above them, and those further up
-pub all_levels : (s : Span) (f : Frame) (from to : ℕ) (m : Met) (up : List ℕ) → ¬ (IsBulge s) → ¬ (IsOnLine s)
+pub all_levels : (s : Span) (f : Frame) (from to : ℕ) (m : Met) (up : List ℕ) → IsPlain s
     → AreMetIn s f from to m → ((r : ℕ) → m.inner.first ≤ r → r < m.inner.end → IsNotedUp s f up r) → IsNotedUp s f up m.inner.end
     → (r : ℕ) → from ≤ r → r ≤ to → IsNotedUp s f up r
-all_levels s f from to m up plain off is inner top r h l = by (below_or_not r m.inner.first) (below_same_above r m.inner.end)
+all_levels s f from to m up plain is inner top r h l = by (below_or_not r m.inner.first) (below_same_above r m.inner.end)
   where
     by : (r < m.inner.first) ⊎ (m.inner.first ≤ r) → (r < m.inner.end) ⊎ ((r ≡ m.inner.end) ⊎ (m.inner.end < r))
         → IsNotedUp s f up r
-    by (inl a) b = set_under s f r up plain off (is.under r h a)
+    by (inl a) b = set_under s f r up plain (is.under r h a)
     by (inr a) (inl b) = inner r a b
     by (inr a) (inr (inl b)) = subst (IsNotedUp s f up) (sym b) top
-    by (inr a) (inr (inr b)) = set_over s f r up plain off
+    by (inr a) (inr (inr b)) = set_over s f r up plain
         (at_least_more s (height_of f m.inner.end) (height_below f r) (over_row f m.inner.end r b)
         (is.over m.inner.end (omega arith) (omega (arith, b, l))))

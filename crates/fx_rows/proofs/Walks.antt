@@ -1,6 +1,6 @@
 -- Bent arcs from row to row and from column to column.
 -- Serves the walk along an arc.
-use Rattle.std.proofs.Common.{◌≡◌, ◌≢◌, ◌∙◌, ap, sym, subst, ℕ, ◌+◌, ◌-◌, ◌^◌, ◌<◌, ◌≤◌, max, neg_ℤ, ℤ, pos, ◌+ℤ◌, ◌-ℤ◌, ◌*ℤ◌, ◌≤ℤ◌, [], ◌∷◌, Bool}
+use Rattle.std.proofs.Common.{◌≡◌, ◌≢◌, ◌∙◌, ap, sym, subst, ℕ, ◌+◌, ◌-◌, ◌^◌, ◌<◌, ◌≤◌, max, ℤ, pos, ◌+ℤ◌, ◌-ℤ◌, ◌*ℤ◌, ◌≤ℤ◌, [], ◌∷◌, Bool}
 use Rattle.std.proofs.Common.{Option, Some, arith}
 use Rattle.fx_fixed.specs.Polynomial.{Expr, var, ◌⊞◌, ◌⊠◌, ◌⊟◌}
 use Rattle.fx_fixed.proofs.Ring.{ring, one-*ℤ}
@@ -12,10 +12,11 @@ use Rattle.fx_winding.specs.declared.point.Piece.{Piece}
 use Rattle.fx_winding.specs.declared.point.Point.{Point}
 use Rattle.fx_winding.specs.declared.weights.Weights.{Weights}
 use Rattle.fx_rows.specs.declared.strip.Strip.{Strip}
+use Rattle.fx_rows.specs.declared.walk.Spot.{Spot}
 use Rattle.fx_rows.specs.inner.Arcs.{gap, AreAreas}
 use Rattle.fx_rows.specs.inner.Cuts.{Counts, CountsAt}
 use Rattle.fx_rows.specs.inner.Sides.{place_at}
-use Rattle.fx_rows.specs.inner.Walks.{AreSmall, IsSum, AreTurned, AreSided, IsStep, right_of}
+use Rattle.fx_rows.specs.inner.Walks.{AreSmall, IsSum, AreTurned, AreSided, IsStep, IsReversed, right_of, IsSpot}
 use Rattle.fx_rows.proofs.Sides.{areas_near, sign_times, middle}
 use Rattle.fx_rows.proofs.Weights.{gap_scaled, sign_square}
 use Rattle.fx_rows.proofs.Narrows.{changed}
@@ -121,12 +122,11 @@ step_up s b plain step is eu ev ew t l r k =
     (eu ∙ along_y _ _ (s.c.x -ℤ b.x) (b.y -ℤ s.c.y) x y) (ev ∙ along_y _ _ (s.a.x -ℤ s.c.x) (s.c.y -ℤ s.a.y) x y)
     (ew ∙ along_y _ _ (b.x -ℤ s.a.x) (s.a.y -ℤ b.y) x y) t)
 
-step_back : (s : Span) (p q : Place) (step back : Weights) → IsStep s p q step → back.u ≡ neg_ℤ step.u → back.v ≡ neg_ℤ step.v
-    → back.w ≡ neg_ℤ step.w → IsStep s q p back
-step_back s p q step back h eu ev ew = record {
-  u = omega (arith, signed_linear, h.u, eu);
-  v = omega (arith, signed_linear, h.v, ev);
-  w = omega (arith, signed_linear, h.w, ew);
+step_back : (s : Span) (p q : Place) (step back : Weights) → IsStep s p q step → IsReversed step back → IsStep s q p back
+step_back s p q step back h r = record {
+  u = omega (arith, signed_linear, h.u, r.u);
+  v = omega (arith, signed_linear, h.v, r.v);
+  w = omega (arith, signed_linear, h.w, r.w);
 }
 
 -- ---- the areas of a place
@@ -144,22 +144,22 @@ sided_gap s p areas slanted h =
     ∙ ap (λ z. z *ℤ gap s p) (sign_square (s.c.y -ℤ s.a.y) (changed s.a.y s.c.y slanted))
     ∙ one-*ℤ (gap s p)
 
-pub gap_at_column : (s : Piece) (strip : Strip) (k : ℕ) (areas : Weights) → s.a.y ≢ s.c.y
-    → AreSided (span_of s) (right_of (place_at strip 0) k) areas
-    → gap_of areas.u areas.v areas.w ≡ gap (span_of s) (place_at strip k)
-gap_at_column s strip k areas slanted h = sided_gap (span_of s) (place_at strip k) areas slanted
-    (subst (λ q. AreSided (span_of s) q areas) (column_place strip k) h)
+pub gap_at_column : (s : Piece) (strip : Strip) (spot : Spot) → IsSpot spot s (place_at strip 0)
+    → gap_of spot.areas.u spot.areas.v spot.areas.w ≡ gap (span_of s) (place_at strip spot.k)
+gap_at_column s strip spot h = sided_gap (span_of s) (place_at strip spot.k) spot.areas h.slanted
+    (subst (λ q. AreSided (span_of s) q spot.areas) (column_place strip spot.k) h.areas)
 
 -- a column counts by its areas
-pub counts_at : (s : Piece) (r : Bool) (strip : Strip) (k : ℕ) (areas : Weights) → s.a.y ≢ s.c.y
-    → AreSided (span_of s) (right_of (place_at strip 0) k) areas
-    → Counts r areas.v (gap_of areas.u areas.v areas.w) ≡ CountsAt (span_of s) r strip k
-counts_at s r strip k areas slanted h = grind (arith, signed_linear, slanted, h, column_place, middle, gap_at_column)
+pub counts_at : (s : Piece) (r : Bool) (strip : Strip) (spot : Spot) → IsSpot spot s (place_at strip 0)
+    → Counts r spot.areas.v (gap_of spot.areas.u spot.areas.v spot.areas.w) ≡ CountsAt (span_of s) r strip spot.k
+counts_at s r strip spot h =
+    let slanted = h.slanted in let areas = h.areas in
+    grind (arith, signed_linear, slanted, areas, h, column_place, middle, gap_at_column)
 
 -- the step to the column before
 pub step_before : (s : Span) (p : Place) (k : ℕ) (step back : Weights) → 0 < k
-    → ((q : Place) (j : ℕ) → IsStep s (right_of q j) (right_of q (j + 1)) step) → back.u ≡ neg_ℤ step.u → back.v ≡ neg_ℤ step.v
-    → back.w ≡ neg_ℤ step.w → IsStep s (right_of p k) (right_of p (k - 1)) back
-step_before s p k step back some h eu ev ew =
+    → ((q : Place) (j : ℕ) → IsStep s (right_of q j) (right_of q (j + 1)) step) → IsReversed step back
+    → IsStep s (right_of p k) (right_of p (k - 1)) back
+step_before s p k step back some h r =
     let e : (k - 1) + 1 ≡ k = omega (arith, some) in subst (λ n. IsStep s (right_of p n) (right_of p (k - 1)) back) e
-    (step_back s (right_of p (k - 1)) (right_of p ((k - 1) + 1)) step back (h p (k - 1)) eu ev ew)
+    (step_back s (right_of p (k - 1)) (right_of p ((k - 1) + 1)) step back (h p (k - 1)) r)

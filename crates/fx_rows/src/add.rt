@@ -117,7 +117,6 @@ fn add_cuts<C: Cuts + Drop, N: Noting>(
     noter: &mut N,
     tally: &mut Tally,
 )
-    requires rows { rows.end ≤ band.old.frame.height }
     requires inner { AreInner bounded.now band.old.frame rows.first rows.end }
     requires at { C.AreAt cuts bounded.now (base_place band.old.frame rows.first) }
     requires small { AreWithin (2 ^ 25 + 4 * rows.first) band.old.diff.items }
@@ -147,7 +146,6 @@ fn add_line_rows<N: Noting>(
     tally: &mut Tally,
 )
     requires straight { ¬ (IsBent (bounded_span bounded.now)) }
-    requires rows { rows.end ≤ band.old.frame.height }
     requires inner { AreInner bounded.now band.old.frame rows.first rows.end }
     requires base { place_at strip 0 ≡ base_place band.old.frame rows.first }
     requires small { AreWithin (2 ^ 25 + 4 * rows.first) band.old.diff.items }
@@ -170,7 +168,6 @@ fn add_inner_rows<N: Noting>(
     tally: &mut Tally,
 )
     requires some { rows.first < rows.end }
-    requires rows { rows.end ≤ band.old.frame.height }
     requires inner { AreInner bounded.now band.old.frame rows.first rows.end }
     requires small { AreWithin (2 ^ 25 + 4 * rows.first) band.old.diff.items }
     ensures added { AreRowsAdded (N.IsTold noter.new) (bounded_span bounded.now) rows.first rows.end band.old band.new }

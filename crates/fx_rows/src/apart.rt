@@ -1,8 +1,9 @@
 //! Pieces whose columns a frame has. The others are noted apart, with the first band.
 
-ghost use Rattle.std.specs.Prelude.{◌≡◌, pos, ◌+ℤ◌, ◌≤ℤ◌, IfNone, IfSome, IsTrue, false};
+ghost use Rattle.std.specs.Prelude.{◌≡◌, IfNone, IfSome, IsTrue, false};
 ghost use Rattle.fx_winding.specs.Winding.{span_of};
 ghost use Rattle.fx_rows.specs.inner.Placing.{AreColumns, IsBoxed};
+ghost use Rattle.fx_rows.specs.inner.Points.{HasColumns};
 
 use crate::across::Across;
 use crate::narrow::across_of;
@@ -12,8 +13,8 @@ use fx_winding::{Frame, Piece};
 #[inline(always)]
 #[tactic(auto, using(fx_fixed::proofs::Linear::signed_linear))]
 pub(crate) fn has_columns(frame: Frame, across: Across) -> bool
-    ensures has { IsTrue result → (frame.left ≤ℤ across.first) × (across.end ≤ℤ (frame.left +ℤ pos frame.width)) }
-    ensures lacks { result ≡ false → ¬ ((frame.left ≤ℤ across.first) × (across.end ≤ℤ (frame.left +ℤ pos frame.width))) }
+    ensures has { IsTrue result → HasColumns frame across }
+    ensures lacks { result ≡ false → ¬ (HasColumns frame across) }
 {
     if across.first < frame.left {
         return false;

@@ -1,9 +1,9 @@
 //! Pieces with their columns and the heights of their ends.
 
-ghost use Rattle.std.specs.Prelude.{◌≡◌, ◌^◌, ◌<ℤ◌, ◌≤ℤ◌};
+ghost use Rattle.std.specs.Prelude.{◌≡◌, ◌^◌};
 ghost use Rattle.fx_fixed.specs.Ranges.{IsWithin};
 ghost use Rattle.fx_winding.specs.Winding.{span_of};
-ghost use Rattle.fx_rows.specs.inner.Points.{AreAcross, IsRise};
+ghost use Rattle.fx_rows.specs.inner.Points.{AreAcross, IsFootX, IsHeadX, IsRise};
 
 use crate::across::Across;
 use crate::narrow::across_of;
@@ -55,8 +55,7 @@ pub(crate) fn rise_of(piece: &Piece) -> Rise
 #[inline(always)]
 pub(crate) fn foot_x(piece: &Piece) -> i32
     ensures near { IsWithin (2 ^ 30) result }
-    ensures rising { piece.now.a.y <ℤ piece.now.c.y → result ≡ piece.now.a.x }
-    ensures falling { piece.now.c.y ≤ℤ piece.now.a.y → result ≡ piece.now.c.x }
+    ensures foot { IsFootX (span_of piece.now) result }
 {
     if piece.a.y < piece.c.y {
         piece.a.x
@@ -69,8 +68,7 @@ pub(crate) fn foot_x(piece: &Piece) -> i32
 #[inline(always)]
 pub(crate) fn head_x(piece: &Piece) -> i32
     ensures near { IsWithin (2 ^ 30) result }
-    ensures rising { piece.now.a.y <ℤ piece.now.c.y → result ≡ piece.now.c.x }
-    ensures falling { piece.now.c.y ≤ℤ piece.now.a.y → result ≡ piece.now.a.x }
+    ensures head { IsHeadX (span_of piece.now) result }
 {
     if piece.a.y < piece.c.y {
         piece.c.x

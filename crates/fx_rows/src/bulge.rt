@@ -1,7 +1,7 @@
 //! Arcs that bulge: the box of one is larger than that of its chord. What they meet up to rows is noted column by column, as rows
 //! of the arc with its coordinates exchanged.
 
-ghost use Rattle.std.specs.Prelude.{◌≡◌, ◌⊎◌, ℕ, ◌+◌, ◌*◌, ◌^◌, ◌-◌, ◌<◌, ◌≤◌, length, pos, ◌+ℤ◌, ◌≤ℤ◌, ◌↔◌, IsTrue};
+ghost use Rattle.std.specs.Prelude.{◌≡◌, ◌⊎◌, ℕ, ◌+◌, ◌*◌, ◌^◌, ◌-◌, ◌<◌, ◌≤◌, length, ◌↔◌, IsTrue};
 ghost use Rattle.fx_fixed.specs.Ranges.{IsWithin};
 ghost use Rattle.fx_rows.specs.inner.Bulging.{HasLine, IsLineTo, IsLineFrom, IsBeyond, IsBulge};
 ghost use Rattle.fx_winding.specs.Frames.{HasMargin, IsFrom};
@@ -10,8 +10,9 @@ ghost use Rattle.fx_winding.specs.Notes.{words_noted as words_noted_of, IsNotedA
 ghost use Rattle.fx_winding.specs.Winding.{span_of};
 ghost use Rattle.fx_rows.specs.inner.Bands.{bounded_span, AreInner};
 ghost use Rattle.fx_rows.specs.inner.Strips.{base_place};
-ghost use Rattle.fx_rows.specs.inner.Lines.{AreRowsSet, AreSetIn, GainOnly, HaveRoom, IsAcrossBit, IsLineBit, IsRowSet, IsRowsBit};
+ghost use Rattle.fx_rows.specs.inner.Lines.{GainOnly, HaveRoom, IsAcrossBit, IsLineBit, IsRowSet, NotesRows};
 ghost use Rattle.fx_rows.specs.inner.Lines.{IsUpBit};
+ghost use Rattle.fx_rows.specs.inner.Points.{HasColumns};
 ghost use Rattle.fx_rows.specs.inner.Telling.{with_first};
 
 use crate::apart::has_columns;
@@ -30,8 +31,7 @@ use fx_winding::{Frame, Piece, Point, Tally, first_from, words_noted};
 /// Whether a line of centres comes from x on and up to y.
 #[inline(always)]
 pub(crate) fn has_line(x: i32, y: i32) -> bool
-    requires near_x { IsWithin (2 ^ 30) x }
-    requires near_y { IsWithin (2 ^ 30) y }
+    requires { IsWithin (2 ^ 30) x × IsWithin (2 ^ 30) y }
     ensures { IsTrue result ↔ HasLine x y }
 {
     first_from(x) < first_from(y + 1)
@@ -40,9 +40,7 @@ pub(crate) fn has_line(x: i32, y: i32) -> bool
 /// Whether x is below both of two values, and a line of centres comes from it on and up to both.
 #[inline(always)]
 fn has_line_to(x: i32, y: i32, z: i32) -> bool
-    requires near_x { IsWithin (2 ^ 30) x }
-    requires near_y { IsWithin (2 ^ 30) y }
-    requires near_z { IsWithin (2 ^ 30) z }
+    requires { IsWithin (2 ^ 30) x × IsWithin (2 ^ 30) y × IsWithin (2 ^ 30) z }
     ensures { IsTrue result ↔ IsLineTo x y z }
 {
     if y.min(z) <= x {
@@ -57,9 +55,7 @@ fn has_line_to(x: i32, y: i32, z: i32) -> bool
 /// Whether y is above both of two values, and a line of centres comes from both on and up to it.
 #[inline(always)]
 fn has_line_from(x: i32, z: i32, y: i32) -> bool
-    requires near_x { IsWithin (2 ^ 30) x }
-    requires near_y { IsWithin (2 ^ 30) y }
-    requires near_z { IsWithin (2 ^ 30) z }
+    requires { IsWithin (2 ^ 30) x × IsWithin (2 ^ 30) y × IsWithin (2 ^ 30) z }
     ensures { IsTrue result ↔ IsLineFrom x z y }
 {
     if y <= x.max(z) {
@@ -74,9 +70,7 @@ fn has_line_from(x: i32, z: i32, y: i32) -> bool
 /// Whether a line of centres comes between a control value and both end values, or is at one of them.
 #[inline(always)]
 fn is_beyond(a: i32, b: i32, c: i32) -> bool
-    requires near_a { IsWithin (2 ^ 30) a }
-    requires near_b { IsWithin (2 ^ 30) b }
-    requires near_c { IsWithin (2 ^ 30) c }
+    requires { IsWithin (2 ^ 30) a × IsWithin (2 ^ 30) b × IsWithin (2 ^ 30) c }
     ensures { IsTrue result ↔ IsBeyond a b c }
 {
     if has_line_to(b, a, c) {
@@ -136,9 +130,7 @@ pub(crate) fn note_met_lines(
 )
     requires rows { rows.end ≤ lines.frame.height }
     requires room { HaveRoom lines bits.old }
-    ensures noted { (r : ℕ) → rows.first ≤ r → r < rows.end → IsRowSet (bounded_span bounded.now) lines.frame
-        (lines.frame.bottom +ℤ pos r) (r * lines.row_step) lines.step bits.new }
-    ensures gained { GainOnly (IsRowsBit (bounded_span bounded.now) lines.frame lines.row_step lines.step) bits.old bits.new }
+    ensures notes { NotesRows (bounded_span bounded.now) lines rows.first rows.end bits.old bits.new }
     ensures count { tally.new.count ≤ tally.old.count + 55 * (rows.end - rows.first) }
 {
     // The segments of the rows before `up` are noted.
@@ -157,15 +149,11 @@ fn note_cuts<C: Cuts + Drop>(
     bits: &mut [u32],
     tally: &mut Tally,
 )
-    requires rows { rows.end ≤ lines.frame.height }
     requires inner { AreInner bounded.now lines.frame rows.first rows.end }
     requires at { C.AreAt cuts bounded.now (base_place lines.frame rows.first) }
-    requires low { lines.frame.left ≤ℤ bounded.now.across.first }
-    requires high { bounded.now.across.end ≤ℤ (lines.frame.left +ℤ pos lines.frame.width) }
+    requires columns { HasColumns lines.frame bounded.now.across }
     requires room { HaveRoom lines bits.old }
-    ensures noted { (r : ℕ) → rows.first ≤ r → r < rows.end →
-        AreSetIn (bounded_span bounded.now) lines.frame r (r * lines.row_step) lines.step bits.new }
-    ensures gained { GainOnly (IsRowsBit (bounded_span bounded.now) lines.frame lines.row_step lines.step) bits.old bits.new }
+    ensures notes { NotesRows (bounded_span bounded.now) lines rows.first rows.end bits.old bits.new }
     ensures count { tally.new.count ≤ tally.old.count + (rows.end - rows.first) }
 {
     let mut cuts = cuts;
@@ -187,14 +175,10 @@ fn note_passed_lines(
     bits: &mut [u32],
     tally: &mut Tally,
 )
-    requires rows { rows.end ≤ lines.frame.height }
     requires inner { AreInner bounded.now lines.frame rows.first rows.end }
-    requires low { lines.frame.left ≤ℤ bounded.now.across.first }
-    requires high { bounded.now.across.end ≤ℤ (lines.frame.left +ℤ pos lines.frame.width) }
+    requires columns { HasColumns lines.frame bounded.now.across }
     requires room { HaveRoom lines bits.old }
-    ensures noted { (r : ℕ) → rows.first ≤ r → r < rows.end →
-        AreSetIn (bounded_span bounded.now) lines.frame r (r * lines.row_step) lines.step bits.new }
-    ensures gained { GainOnly (IsRowsBit (bounded_span bounded.now) lines.frame lines.row_step lines.step) bits.old bits.new }
+    ensures notes { NotesRows (bounded_span bounded.now) lines rows.first rows.end bits.old bits.new }
     ensures count { tally.new.count ≤ tally.old.count + 3 * (rows.end - rows.first) }
 {
     if rows.first >= rows.end {
@@ -214,8 +198,7 @@ fn note_passed_lines(
 /// Notes the segments of a frame's rows that a piece meets.
 fn note_lines(piece: &Piece, lines: NotedRows, bits: &mut [u32], tally: &mut Tally)
     requires { HaveRoom lines bits.old }
-    ensures noted { AreRowsSet (span_of piece.now) lines.frame lines.row_step lines.step bits.new }
-    ensures gained { GainOnly (IsRowsBit (span_of piece.now) lines.frame lines.row_step lines.step) bits.old bits.new }
+    ensures notes { NotesRows (span_of piece.now) lines 0 lines.frame.height bits.old bits.new }
     ensures count { tally.new.count ≤ tally.old.count + 55 * lines.frame.height }
 {
     let bounded = bounds_of(piece, rise_of(piece));

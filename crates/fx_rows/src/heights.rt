@@ -5,7 +5,7 @@ ghost use Rattle.fx_fixed.specs.Ranges.{IsWithin};
 ghost use Rattle.fx_winding.specs.Limits.{IsPixelNumber};
 ghost use Rattle.fx_winding.specs.Winding.{span_of, IsBeforeTurn};
 ghost use Rattle.fx_rows.specs.inner.Heights.{height_of, IsAbove, IsBelow, IsMissed, AreAmong};
-ghost use Rattle.fx_rows.specs.inner.Runs.{IsSplit};
+ghost use Rattle.fx_rows.specs.inner.Runs.{IsSplit, IsSplitFrom};
 ghost use Rattle.fx_rows.specs.inner.Telling.{IsPartOf};
 
 use crate::bounded::Rise;
@@ -61,23 +61,6 @@ fn rows_below(frame: Frame, row: i32) -> u32
     }
 }
 
-/// A number, or the end of a range that it lies beyond.
-fn clamped(n: u32, low: u32, high: u32) -> u32
-    requires { low ≤ high }
-    ensures low { low ≤ result }
-    ensures high { result ≤ high }
-    ensures from { (r : ℕ) → result ≤ r → r < high → n ≤ r }
-    ensures to { (r : ℕ) → low ≤ r → r < result → r < n }
-{
-    if n < low {
-        low
-    } else if high < n {
-        high
-    } else {
-        n
-    }
-}
-
 /// How many rows of a frame are below a row, which is one of the frame or the one above its highest.
 fn rows_to(frame: Frame, row: i32) -> u32
     requires low { frame.bottom ≤ℤ row }
@@ -103,8 +86,7 @@ fn has_rows(frame: Frame, low: i32, past: i32) -> bool
 /// Nearly all others lie within the frame, so that no end of it comes between.
 #[tactic(auto, using(fx_fixed::proofs::Linear::signed_linear))]
 fn rows_in(frame: Frame, low: i32, past: i32) -> RowRange
-    requires low { IsWithin (2 ^ 23) low }
-    requires past { IsWithin (2 ^ 23) past }
+    requires { IsWithin (2 ^ 23) low × IsWithin (2 ^ 23) past }
     ensures within { result.end ≤ frame.height }
     ensures below { (r : ℕ) → r < result.first → (frame.bottom +ℤ pos r) <ℤ low }
     ensures rest { (r : ℕ) → result.end ≤ r → r < frame.height → past ≤ℤ (frame.bottom +ℤ pos r) }
@@ -125,7 +107,7 @@ fn rows_in(frame: Frame, low: i32, past: i32) -> RowRange
     }
 }
 
-/// How far an arc stays from its control point, in a direction in which both ends are this far from that.
+/// The distance that an arc keeps from its control point in one direction, from the distances of its ends.
 fn stays_off(a: i64, c: i64) -> i32
     requires near { IsWithin (2 ^ 31) a × IsWithin (2 ^ 31) c }
     requires apart { (pos 0 <ℤ a) × (pos 0 <ℤ c) }
@@ -139,8 +121,7 @@ fn stays_off(a: i64, c: i64) -> i32
     wide_below_zero(slope, 1 << 24) as i32
 }
 
-/// The least height that an arc can come to whose control point is below both ends. Few arcs need it, so its code is kept out of
-/// its callers.
+/// The least height of an arc whose control point is below both its ends. Few arcs need it, so its code is kept out of its callers.
 #[inline(never)]
 fn least_of(piece: &Piece, b: Point) -> i32
     requires { (b.y <ℤ piece.now.a.y) × (b.y <ℤ piece.now.c.y) }
@@ -150,7 +131,7 @@ fn least_of(piece: &Piece, b: Point) -> i32
     b.y + stays_off(difference(piece.a.y, b.y), difference(piece.c.y, b.y))
 }
 
-/// The greatest height of one whose control point is above both ends.
+/// The greatest height of an arc whose control point is above both its ends.
 #[inline(never)]
 fn greatest_of(piece: &Piece, b: Point) -> i32
     requires { (piece.now.a.y <ℤ b.y) × (piece.now.c.y <ℤ b.y) }
@@ -208,35 +189,39 @@ pub(crate) fn rows_met(piece: &Piece, frame: Frame) -> RowRange
     rows_in(frame, low_row(piece), past_row(piece))
 }
 
+/// The first of some rows whose centres are not below a height, or the number after the last.
+fn first_at(y: i32, frame: Frame, rows: RowRange) -> u32
+    requires near { IsWithin (2 ^ 23) y }
+    requires rows { rows.end ≤ frame.height }
+    ensures { IsSplitFrom (λ r. height_of frame r <ℤ y) (λ r. y ≤ℤ height_of frame r) rows.first rows.end result }
+{
+    let under = rows_below(frame, first_from(y));
+    under.max(rows.first).min(rows.end)
+}
+
 /// The first of some rows whose centres are above a height, or the number after the last. For nearly all pieces it is the first of
 /// all.
 fn first_over(y: i32, frame: Frame, rows: RowRange) -> u32
     requires near { IsWithin (2 ^ 22) y }
     requires rows { rows.end ≤ frame.height }
-    ensures first { rows.first ≤ result }
-    ensures end { result ≤ rows.end }
-    ensures over { (r : ℕ) → result ≤ r → r < rows.end → y <ℤ height_of frame r }
-    ensures under { (r : ℕ) → rows.first ≤ r → r < result → height_of frame r ≤ℤ y }
+    ensures { IsSplitFrom (λ r. height_of frame r ≤ℤ y) (λ r. y <ℤ height_of frame r) rows.first rows.end result }
 {
     if y < 128 * (frame.bottom + rows.first as i32) + 64 {
         return rows.first;
     }
-    clamped(rows_below(frame, first_from(y + 1)), rows.first, rows.end)
+    first_at(y + 1, frame, rows)
 }
 
 /// Where those of some rows end whose centres are below a height. For nearly all pieces all are below it.
 fn end_under(y: i32, frame: Frame, rows: RowRange) -> u32
     requires near { IsWithin (2 ^ 22) y }
     requires rows { rows.end ≤ frame.height }
-    ensures first { rows.first ≤ result }
-    ensures end { result ≤ rows.end }
-    ensures under { (r : ℕ) → rows.first ≤ r → r < result → height_of frame r <ℤ y }
-    ensures over { (r : ℕ) → result ≤ r → r < rows.end → y ≤ℤ height_of frame r }
+    ensures { IsSplitFrom (λ r. height_of frame r <ℤ y) (λ r. y ≤ℤ height_of frame r) rows.first rows.end result }
 {
     if 128 * (frame.bottom + rows.end as i32) - 64 < y {
         return rows.end;
     }
-    clamped(rows_below(frame, first_from(y)), rows.first, rows.end)
+    first_at(y, frame, rows)
 }
 
 /// Those of some rows of a frame whose centres are above the lower end of a chord and below the upper one.

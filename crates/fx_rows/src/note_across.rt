@@ -3,11 +3,11 @@
 //! In a row between its ends a piece meets one segment, that which goes to the column where its columns end, and its bit is set. In
 //! the few other rows that it can touch the segments are tested that it can meet.
 
-ghost use Rattle.std.specs.Prelude.{◌≡◌, ℕ, ◌+◌, ◌-◌, ◌*◌, ◌^◌, ◌<◌, ◌≤◌, length, ◌<ℤ◌, ◌≤ℤ◌};
+ghost use Rattle.std.specs.Prelude.{◌≡◌, ◌+◌, ◌-◌, ◌*◌, ◌^◌, ◌≤◌, length, ◌<ℤ◌, ◌≤ℤ◌};
 ghost use Rattle.fx_fixed.specs.Ranges.{IsWithin};
-ghost use Rattle.fx_winding.specs.Notes.{words_noted as words_noted_of, IsNotedAcross};
+ghost use Rattle.fx_winding.specs.Notes.{words_noted as words_noted_of};
 ghost use Rattle.fx_winding.specs.Winding.{span_of};
-ghost use Rattle.fx_rows.specs.inner.Lines.{GainOnly, IsAcrossBit};
+ghost use Rattle.fx_rows.specs.inner.Lines.{NotesAcross};
 ghost use Rattle.fx_rows.specs.inner.Placing.{AreEndsTold, IsInBand};
 ghost use Rattle.fx_rows.specs.inner.Runs.{IsSplit};
 ghost use Rattle.fx_rows.specs.inner.Upward.{column_of};
@@ -35,9 +35,7 @@ fn note_ends(piece: &Piece, placed: PieceInBand, ends: &[u32], across: &mut [u32
     requires placed { IsInBand (span_of piece.now) placed }
     requires told { AreEndsTold ends.now (span_of piece.now) placed }
     requires room { length across.old ≡ placed.frame.height * words_noted_of placed.frame.width }
-    ensures noted { (r : ℕ) → placed.met.inner.first ≤ r → r < placed.met.inner.end →
-        IsNotedAcross (span_of piece.now) placed.frame across.new r }
-    ensures gained { GainOnly (IsAcrossBit (span_of piece.now) placed.frame) across.old across.new }
+    ensures { NotesAcross (span_of piece.now) placed.frame placed.met.inner.first placed.met.inner.end across.old across.new }
 {
     // The segments of the rows before `row` are noted.
     'rows: for row in placed.met.inner.first..placed.met.inner.end {
@@ -51,11 +49,9 @@ fn note_ends(piece: &Piece, placed: PieceInBand, ends: &[u32], across: &mut [u32
 #[inline(never)]
 fn note_others(piece: &Piece, placed: PieceInBand, across: &mut [u32], tally: &mut Tally)
     requires room { length across.old ≡ placed.frame.height * words_noted_of placed.frame.width }
-    ensures below { (r : ℕ) → placed.met.touched.first ≤ r → r < placed.met.inner.first →
-        IsNotedAcross (span_of piece.now) placed.frame across.new r }
-    ensures above { (r : ℕ) → placed.met.inner.end ≤ r → r < placed.met.touched.end →
-        IsNotedAcross (span_of piece.now) placed.frame across.new r }
-    ensures gained { GainOnly (IsAcrossBit (span_of piece.now) placed.frame) across.old across.new }
+    ensures below { let m = placed.met in
+        NotesAcross (span_of piece.now) placed.frame m.touched.first m.inner.first across.old across.new }
+    ensures above { NotesAcross (span_of piece.now) placed.frame placed.met.inner.end placed.met.touched.end across.old across.new }
     ensures count { tally.new.count ≤ tally.old.count + 55 * (placed.rows.end - placed.rows.first) }
 {
     let touched = placed.met.touched;
@@ -90,9 +86,7 @@ pub(crate) fn note_across(
     requires placed { IsInBand (span_of piece.now) placed }
     requires told { AreEndsTold ends.now (span_of piece.now) placed }
     requires room { length across.old ≡ placed.frame.height * words_noted_of placed.frame.width }
-    ensures noted { (r : ℕ) → placed.rows.first ≤ r → r < placed.rows.end →
-        IsNotedAcross (span_of piece.now) placed.frame across.new r }
-    ensures gained { GainOnly (IsAcrossBit (span_of piece.now) placed.frame) across.old across.new }
+    ensures notes { NotesAcross (span_of piece.now) placed.frame placed.rows.first placed.rows.end across.old across.new }
     ensures count { tally.new.count ≤ tally.old.count + 55 * (placed.rows.end - placed.rows.first) }
 {
     let touched = placed.met.touched;

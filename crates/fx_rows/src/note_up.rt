@@ -3,20 +3,20 @@
 //! A piece comes up to a row from columns of the row below, and goes on to columns of the row: those where it passes a row between
 //! its ends, or those of its lower or its upper end. It meets the segments of the columns between them, and no others.
 
-ghost use Rattle.std.specs.Prelude.{◌≡◌, ◌⊎◌, ℕ, ℤ, ◌+◌, ◌-◌, ◌*◌, ◌^◌, ◌<◌, ◌≤◌, length, pos, ◌+ℤ◌, ◌-ℤ◌, ◌*ℤ◌, ◌<ℤ◌, ◌≤ℤ◌};
+ghost use Rattle.std.specs.Prelude.{◌≡◌, ◌⊎◌, ℤ, ◌+◌, ◌-◌, ◌*◌, ◌^◌, ◌≤◌, length, pos, ◌+ℤ◌, ◌-ℤ◌, ◌*ℤ◌, ◌<ℤ◌, ◌≤ℤ◌};
 ghost use Rattle.std.specs.Prelude.{IsTrue, min, max, false};
 ghost use Rattle.fx_fixed.specs.Ranges.{IsWithin};
 ghost use Rattle.fx_winding.specs.Limits.{IsPixelNumber};
 ghost use Rattle.fx_winding.specs.Notes.{words_noted, IsNotedUp};
 ghost use Rattle.fx_winding.specs.Winding.{Span, span_of};
-ghost use Rattle.fx_rows.specs.inner.Bulging.{IsBulge, IsOnLine};
+ghost use Rattle.fx_rows.specs.inner.Bulging.{IsBulge, IsOnLine, IsPlain};
 ghost use Rattle.fx_rows.specs.inner.Heights.{height_of, IsAtLeastEnds, IsAtMostEnds, IsOneOver, IsOneUnder};
-ghost use Rattle.fx_rows.specs.inner.Lines.{AreOnly, GainOnly, IsUpBit};
+ghost use Rattle.fx_rows.specs.inner.Lines.{AreOnly, IsUpBit, NotesUp};
 ghost use Rattle.fx_rows.specs.inner.Placing.{AreEndsTold, IsInBand};
 ghost use Rattle.fx_rows.specs.inner.Points.{IsInner};
 ghost use Rattle.fx_rows.specs.inner.Told.{AreKept};
 ghost use Rattle.fx_rows.specs.inner.Upward.{height_below, AreAllMet, AreAt, AreAtFoot, AreAtHead, AreMetWithin, ComesFrom};
-ghost use Rattle.fx_rows.specs.inner.Upward.{IsLevel, IsPassing};
+ghost use Rattle.fx_rows.specs.inner.Upward.{GoesTo, IsPassing};
 
 use crate::bounded::{bounds_of, foot_x, head_x, rise_of};
 use crate::bulge::has_line;
@@ -214,10 +214,8 @@ fn is_on_line(piece: &Piece) -> bool
 #[inline(always)]
 fn columns_below(piece: &Piece, placed: PieceInBand, tally: &mut Tally) -> Reach
     requires placed { IsInBand (span_of piece.now) placed }
-    requires plain { ¬ (IsBulge (span_of piece.now)) }
-    requires off { ¬ (IsOnLine (span_of piece.now)) }
+    requires plain { IsPlain (span_of piece.now) }
     requires over { IsOneOver (span_of piece.now) (height_below placed.frame placed.rows.first) }
-    ensures columns { result.end ≤ placed.frame.width }
     ensures from { ComesFrom (span_of piece.now) placed.frame placed.met.inner.first result }
     ensures count { tally.new.count ≤ tally.old.count + 2 }
 {
@@ -231,13 +229,10 @@ fn columns_below(piece: &Piece, placed: PieceInBand, tally: &mut Tally) -> Reach
 #[inline(always)]
 fn columns_above(piece: &Piece, placed: PieceInBand, tally: &mut Tally) -> Reach
     requires placed { IsInBand (span_of piece.now) placed }
-    requires plain { ¬ (IsBulge (span_of piece.now)) }
-    requires off { ¬ (IsOnLine (span_of piece.now)) }
+    requires plain { IsPlain (span_of piece.now) }
     requires under { placed.met.inner.end ≡ placed.rows.end →
         IsOneUnder (span_of piece.now) (height_of placed.frame placed.met.inner.end) }
-    ensures columns { result.end ≤ placed.frame.width }
-    ensures to { (low : Reach) → ComesFrom (span_of piece.now) placed.frame placed.met.inner.end low →
-        IsLevel (span_of piece.now) placed.frame placed.met.inner.end (min low.first result.first) (max low.end result.end) }
+    ensures to { GoesTo (span_of piece.now) placed.frame placed.met.inner.end result }
     ensures count { tally.new.count ≤ tally.old.count + 2 }
 {
     if ends_in(piece, placed) {
@@ -257,17 +252,12 @@ fn note_passage(
     up: &mut [u32],
 ) -> Reach
     requires placed { IsInBand (span_of piece.now) placed }
-    requires plain { ¬ (IsBulge (span_of piece.now)) }
-    requires off { ¬ (IsOnLine (span_of piece.now)) }
+    requires plain { IsPlain (span_of piece.now) }
     requires told { AreEndsTold ends.now (span_of piece.now) placed }
     requires room { length up.old ≡ (placed.frame.height + 1) * words_noted placed.frame.width }
-    requires columns { low.end ≤ placed.frame.width }
     requires from { ComesFrom (span_of piece.now) placed.frame placed.met.inner.first low }
-    ensures columns { result.end ≤ placed.frame.width }
     ensures from { ComesFrom (span_of piece.now) placed.frame placed.met.inner.end result }
-    ensures noted { (r : ℕ) → placed.met.inner.first ≤ r → r < placed.met.inner.end →
-        IsNotedUp (span_of piece.now) placed.frame up.new r }
-    ensures gained { GainOnly (IsUpBit (span_of piece.now) placed.frame) up.old up.new }
+    ensures notes { NotesUp (span_of piece.now) placed.frame placed.met.inner.first placed.met.inner.end up.old up.new }
 {
     let inner = placed.met.inner;
     let mut low = low;
@@ -296,8 +286,7 @@ pub(crate) fn note_up(
     requires plain { ¬ (IsBulge (span_of piece.now)) }
     requires told { AreEndsTold ends.now (span_of piece.now) placed }
     requires room { length up.old ≡ (placed.frame.height + 1) * words_noted placed.frame.width }
-    ensures noted { (r : ℕ) → placed.rows.first ≤ r → r ≤ placed.rows.end → IsNotedUp (span_of piece.now) placed.frame up.new r }
-    ensures gained { GainOnly (IsUpBit (span_of piece.now) placed.frame) up.old up.new }
+    ensures notes { NotesUp (span_of piece.now) placed.frame placed.rows.first (placed.rows.end + 1) up.old up.new }
     ensures count { tally.new.count ≤ tally.old.count + 4 }
 {
     if is_on_line(piece) {

@@ -2,12 +2,12 @@
 
 ghost use Rattle.std.specs.Prelude.{◌≡◌, ◌⊎◌, ℕ, ℤ, ◌+◌, ◌*◌, ◌^◌, ◌/◌, ◌<◌, ◌≤◌, length, pos, ◌+ℤ◌, ◌<ℤ◌, ◌↔◌, ◌≢◌, IsTrue};
 ghost use Rattle.fx_fixed.specs.Ranges.{IsWithin};
-ghost use Rattle.fx_winding.specs.Meets.{turn, IsWithinRow};
-ghost use Rattle.fx_winding.specs.Winding.{Span, IsOn, place_of, span_of};
+ghost use Rattle.fx_winding.specs.Meets.{turn};
+ghost use Rattle.fx_winding.specs.Winding.{Span, place_of, span_of};
 ghost use Rattle.fx_rows.specs.Parts.{IsRowPart};
 ghost use Rattle.fx_rows.specs.inner.Points.{AreAcross, IsRise};
-ghost use Rattle.fx_rows.specs.inner.Lines.{left_at, right_at, AreOnly, HasTip, IsAfterFirst, IsAround, IsLineBit, IsMetTo, IsRunEnd, IsSetTo};
-ghost use Rattle.fx_rows.specs.inner.Lines.{NotesAt};
+ghost use Rattle.fx_rows.specs.inner.Lines.{left_at, right_at, AreOnly, HasEnd, HasTip, IsAfterFirst, IsAround, IsLineBit, IsMetTo, IsRunEnd, IsSetTo};
+ghost use Rattle.fx_rows.specs.inner.Lines.{IsMetToUnlessOn, NotesAt};
 ghost use Rattle.fx_rows.specs.inner.Sums.{IsInside};
 ghost use Rattle.fx_rows.specs.inner.Told.{AreKept};
 
@@ -28,8 +28,7 @@ pub(crate) fn set_segment(line: NotedRow, k: u32, bits: &mut [u32])
     requires room { line.first + line.frame.width * line.step < 32 * length bits.old }
     ensures set { (s : Span) → IsSetTo s line.frame line.row line.first line.step bits.new k }
     ensures kept { AreKept bits.old bits.new }
-    ensures only { (s : Span) → (¬ (IsOn (left_at line.frame line.row k) s) →
-        ¬ (IsOn (right_at line.frame line.row k) s) → IsMetTo s line.frame line.row k) →
+    ensures only { (s : Span) → IsMetToUnlessOn s line.frame line.row k →
         AreOnly (IsLineBit s line.frame line.row line.first line.step) bits.old bits.new }
 {
     set_bit(bits, line.first + k as usize * line.step);
@@ -178,9 +177,7 @@ pub(crate) fn note_end(
 )
     requires part { IsRowPart (span_of piece.now) line.row line.frame part.now }
     requires room { line.first + line.frame.width * line.step < 32 * length bits.old }
-    ensures notes { NotesAt (span_of piece.now) line
-        (IsAfterFirst line (λ k. IsWithinRow (left_at line.frame line.row k) (right_at line.frame line.row k) (place_of e)))
-        bits.old bits.new }
+    ensures notes { NotesAt (span_of piece.now) line (IsAfterFirst line (HasEnd (place_of e) line)) bits.old bits.new }
     ensures count { tally.new.count ≤ tally.old.count + 5 }
 {
     if e.y != 128 * line.row + 64 {

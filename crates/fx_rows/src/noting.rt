@@ -6,11 +6,10 @@ use fx_winding::{Frame, Piece, Tally};
 /// What is noted while a piece is added to the rows of a band, which are those of a frame from one to before another.
 pub(crate) trait Noting {
     ghost use Rattle.std.specs.Prelude.{◌≢◌, ℕ, ◌+◌, ◌-◌, ◌*◌, ◌<◌, ◌≤◌};
-    ghost use Rattle.fx_winding.specs.Near.{IsNear};
     ghost use Rattle.fx_winding.specs.Winding.{span_of};
     ghost use Rattle.fx_winding.specs.declared.frame.Frame.{Frame};
-    ghost use Rattle.fx_rows.specs.inner.Placing.{AreMetIn};
-    ghost use Rattle.fx_rows.specs.inner.Telling.{AreRowsNoted, AreRowsTold, Keeps, Lasts, Saying, of_frame, with_first};
+    ghost use Rattle.fx_rows.specs.inner.Placing.{IsDue};
+    ghost use Rattle.fx_rows.specs.inner.Telling.{AreRowsNoted, Keeps, Lasts, Saying, with_first};
 
     // How many tests a row takes, and how many more a piece with the frame's first row.
     ghost tests: { ℕ };
@@ -28,16 +27,9 @@ pub(crate) trait Noting {
         ensures told { IsTold self.new up end }
         ensures others { (r n : ℕ) → r ≢ up → IsTold self.old r n → IsTold self.new r n };
 
-    /// Notes the segments that a piece meets up to rows of a band and across them. The ends of the rows between the piece's ends
-    /// were told, and the rows below the band are noted.
+    /// Notes the segments that a piece meets up to rows of a band and across them.
     fn note(&mut self, piece: &Piece, frame: Frame, rows: RowRange, met: Met, tally: &mut Tally)
-        requires frame { Says self.old (of_frame frame) }
-        requires near { IsNear piece.now }
-        requires rows { rows.end ≤ frame.height }
-        requires some { rows.first < rows.end }
-        requires met { AreMetIn (span_of piece.now) frame rows.first rows.end met }
-        requires told { AreRowsTold (λ r. IsTold self.old (r - rows.first)) (span_of piece.now) frame rows.first rows.end }
-        requires before { AreRowsNoted (Says self.old) (span_of piece.now) rows.first }
+        requires { IsDue (Says self.old) (IsTold self.old) piece.now frame rows met }
         ensures kept { (x : Saying) → Lasts (span_of piece.now) x → Says self.old x → Says self.new x }
         ensures noted { AreRowsNoted (Says self.new) (span_of piece.now) rows.end }
         ensures count { tally.new.count ≤ tally.old.count +

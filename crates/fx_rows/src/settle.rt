@@ -4,14 +4,12 @@ ghost use Rattle.std.specs.Prelude.{◌≡◌, ◌≢◌, ◌⊎◌, ℕ, ◌+�
 ghost use Rattle.std.specs.Int.{bit_at};
 ghost use Rattle.fx_fixed.specs.Ranges.{IsWithin};
 ghost use Rattle.fx_winding.specs.Bitmaps.{word_bit};
-ghost use Rattle.fx_rows.specs.inner.Sums.{before, sum_of, AreTouched, count_bit};
+ghost use Rattle.fx_rows.specs.inner.Sums.{before, sum_of, AreEmptiedTo, AreTouched, IsFirstBit, count_bit};
 
 /// The first column whose bit is set, in a word whose lowest bits come first.
 pub(crate) fn first_column(word: u32) -> u32
     requires { 0 < word }
-    ensures within { result < 32 }
-    ensures set { bit_at word result ≡ 1 }
-    ensures before { (i : ℕ) → i < result → bit_at word i ≡ 0 }
+    ensures { IsFirstBit word result }
 {
     word.trailing_zeros()
 }
@@ -28,10 +26,8 @@ fn without_lowest(word: u32) -> u32
 /// The word without the first bit that is set, which is that of some column k.
 fn without_first(word: u32) -> u32
     requires { 0 < word }
-    ensures before { (k : ℕ) → bit_at word k ≡ 1 → ((j : ℕ) → j < k → bit_at word j ≡ 0) →
-        (i : ℕ) → i ≤ k → bit_at result i ≡ 0 }
-    ensures rest { (k : ℕ) → bit_at word k ≡ 1 → ((j : ℕ) → j < k → bit_at word j ≡ 0) →
-        (i : ℕ) → k < i → bit_at result i ≡ bit_at word i }
+    ensures before { (k i : ℕ) → IsFirstBit word k → i ≤ k → bit_at result i ≡ 0 }
+    ensures rest { (k i : ℕ) → IsFirstBit word k → k < i → bit_at result i ≡ bit_at word i }
     ensures less { result < word }
 {
     word & (word - 1)
@@ -49,18 +45,15 @@ fn with_rest(word: u32, column: u32, set: bool) -> u32
     if set { all } else { all ^ rest }
 }
 
-/// The number of a column of the 32 from one on, which becomes 0. The loop over columns finds the slice of these 32 once.
-#[inline(always)]
-fn taken(diff: &mut [i32], from: usize, column: u32) -> i32
-    requires inside { from + 32 ≤ length diff.old }
-    requires column { column < 32 }
-    ensures value { result ≡ get_or diff.old (from + column) (pos 0) }
-    ensures here { get_or diff.new (from + column) (pos 0) ≡ pos 0 }
-    ensures others { (k : ℕ) → k ≢ from + column → get_or diff.new k (pos 0) ≡ get_or diff.old k (pos 0) }
+/// The number at a place, which becomes 0.
+fn taken(diff: &mut [i32], at: usize) -> i32
+    requires { at < length diff.old }
+    ensures value { result ≡ get_or diff.old at (pos 0) }
+    ensures here { get_or diff.new at (pos 0) ≡ pos 0 }
+    ensures others { (k : ℕ) → k ≢ at → get_or diff.new k (pos 0) ≡ get_or diff.old k (pos 0) }
 {
-    let numbers = &mut diff[from..from + 32];
-    let number = numbers[column as usize];
-    numbers[column as usize] = 0;
+    let number = diff[at];
+    diff[at] = 0;
     number
 }
 
@@ -78,13 +71,13 @@ fn settle_word(diff: &mut [i32], touched: u32, from: usize, count: &mut i32) -> 
     ensures zeros { (i : ℕ) → i < 32 → get_or diff.new (from + i) (pos 0) ≡ pos 0 }
     ensures others { (k : ℕ) → (k < from) ⊎ (from + 32 ≤ k) → get_or diff.new k (pos 0) ≡ get_or diff.old k (pos 0) }
 {
-    let mut sum = *count + taken(diff, from, 0);
+    let mut sum = *count + taken(diff, from);
     let mut bits = with_rest(0, 0, sum != 0);
     let mut left = without_lowest(touched);
     // The touched columns before those left are settled; from the last of them on, all bits are that of the count.
     'columns: while left != 0 {
         let column = first_column(left);
-        sum += taken(diff, from, column);
+        sum += taken(diff, from + column as usize);
         bits = with_rest(bits, column, sum != 0);
         left = without_first(left);
     }
@@ -104,8 +97,7 @@ pub fn settle(diff: &mut [i32], touched: &mut [u32], line: &mut [u32])
     requires small { (k : ℕ) → IsWithin (2 ^ 20) (before k diff.old) }
     ensures bits { (k : ℕ) → k < 32 * length line.old →
         word_bit line.new k ≡ count_bit (before (k + 1) diff.old) (word_bit line.old k) }
-    ensures zeros { (k : ℕ) → k < 32 * length line.old → get_or diff.new k (pos 0) ≡ pos 0 }
-    ensures others { (k : ℕ) → 32 * length line.old ≤ k → get_or diff.new k (pos 0) ≡ get_or diff.old k (pos 0) }
+    ensures emptied { AreEmptiedTo (32 * length line.old) diff.old diff.new }
     ensures untouched { (w : ℕ) → w < length line.old → get_or touched.new w 0 ≡ 0 }
 {
     let mut count = 0;

@@ -1,18 +1,17 @@
 //! Bent arcs that are walked along: from row to row and from column to column the areas of one column's centre change evenly.
 
-ghost use Rattle.std.specs.Prelude.{◌≡◌, ◌≢◌, ℕ, ℤ, ◌+◌, ◌-◌, ◌<◌, ◌≤◌, max, pos, neg_ℤ, ◌+ℤ◌, ◌-ℤ◌, ◌*ℤ◌, ◌≤ℤ◌, ◌<ℤ◌, IsTrue, ◌↔◌};
+ghost use Rattle.std.specs.Prelude.{◌≡◌, ◌≢◌, ℕ, ℤ, ◌+◌, ◌-◌, ◌<◌, ◌≤◌, max, pos, ◌+ℤ◌, ◌-ℤ◌, ◌*ℤ◌, ◌≤ℤ◌, ◌<ℤ◌, IsTrue, ◌↔◌};
 ghost use Rattle.std.specs.Prelude.{false, Some};
 ghost use Rattle.fx_winding.specs.Area.{gap_of};
 ghost use Rattle.fx_winding.specs.Limits.{end_of_pixels};
 ghost use Rattle.fx_winding.specs.Winding.{Span, span_of, centre, IsOn};
-ghost use Rattle.fx_rows.specs.Parts.{IsBent};
-ghost use Rattle.fx_rows.specs.inner.Arcs.{gap, AreAreas, IsTurned, MissesCentres};
+ghost use Rattle.fx_rows.specs.inner.Arcs.{gap, AreAreas, IsBentBy, IsTurned, MissesCentres};
 ghost use Rattle.fx_rows.specs.inner.Bands.{bounded_span};
 ghost use Rattle.fx_rows.specs.inner.Candidates.{IsOnStrip};
 ghost use Rattle.fx_rows.specs.inner.Cuts.{Counts, CountsAt, CountsFirst, IsEndOfCount, IsLast, IsCut};
 ghost use Rattle.fx_rows.specs.inner.Points.{IsInner};
 ghost use Rattle.fx_rows.specs.inner.Sides.{place_at};
-ghost use Rattle.fx_rows.specs.inner.Walks.{AreSmall, IsSum, AreTurned, IsStep, right_of, IsArc, IsSpot, IsArcAt, IsArcOrFlat};
+ghost use Rattle.fx_rows.specs.inner.Walks.{AreSmall, IsSum, IsReversed, AreTurned, IsStep, right_of, IsSpot, IsArcAt, IsArcOrFlat};
 
 use crate::above::lift_of;
 use crate::arc::{step_of, total_of};
@@ -24,6 +23,7 @@ use crate::on::on_one;
 use crate::part::OnRow;
 use crate::rest::is_right;
 use crate::strip::{Strip, areas_at};
+use fx_fixed::wide_product;
 use fx_winding::{Piece, Point, Tally, Weights, curve_gap, first_from};
 
 /// Whether an arc can touch the centre of a pixel, from its areas at one. From centre to centre the areas change by multiples of
@@ -51,9 +51,7 @@ fn after(areas: Weights, step: Weights) -> Weights
 /// The changes the other way.
 #[inline(always)]
 fn reversed(step: Weights) -> Weights
-    ensures u { result.u ≡ neg_ℤ step.u }
-    ensures v { result.v ≡ neg_ℤ step.v }
-    ensures w { result.w ≡ neg_ℤ step.w }
+    ensures { IsReversed step result }
 {
     Weights {
         u: -step.u,
@@ -105,7 +103,7 @@ pub(crate) struct ArcCuts {
 fn is_reached(areas: Weights) -> bool
     ensures { IsTrue result ↔ (pos 0 ≤ℤ gap_of areas.u areas.v areas.w) }
 {
-    i128::from(4 * areas.u) * i128::from(areas.w) >= i128::from(areas.v) * i128::from(areas.v)
+    wide_product(4 * areas.u, areas.w) >= wide_product(areas.v, areas.v)
 }
 
 /// Whether a column with these areas counts: it is left of the chord, or in the region right of it; or left of both.
@@ -124,8 +122,7 @@ fn is_counted(right: bool, areas: Weights) -> bool
 #[inline(always)]
 #[tactic(auto, using(crate::proofs::Walks::counts_at))]
 fn counts(piece: &Piece, right: bool, spot: Spot, strip: Strip) -> bool
-    requires slanted { piece.now.a.y ≢ piece.now.c.y }
-    requires at { IsSpot spot piece.now (place_at strip 0) }
+    requires { IsSpot spot piece.now (place_at strip 0) }
     ensures { IsTrue result ↔ CountsAt (span_of piece.now) right strip spot.k }
 {
     is_counted(right, spot.areas)
@@ -134,8 +131,7 @@ fn counts(piece: &Piece, right: bool, spot: Spot, strip: Strip) -> bool
 /// Whether a column counts and is in the strip.
 #[inline(always)]
 fn is_short(piece: &Piece, right: bool, spot: Spot, strip: Strip) -> bool
-    requires slanted { piece.now.a.y ≢ piece.now.c.y }
-    requires at { IsSpot spot piece.now (place_at strip 0) }
+    requires { IsSpot spot piece.now (place_at strip 0) }
     ensures short { IsTrue result → (spot.k < strip.stop) × CountsAt (span_of piece.now) right strip spot.k }
     ensures not { ¬ (IsTrue result) → spot.k < strip.stop → ¬ (CountsAt (span_of piece.now) right strip spot.k) }
 {
@@ -173,17 +169,16 @@ fn above(piece: &Piece, spot: Spot, strip: Strip, step: Weights) -> Spot
 
 /// Goes to where the columns that count end: right while they do, or else left while they do not.
 #[inline(always)]
-fn to_end(piece: &Piece, arc: Arc, spot: Spot, strip: Strip) -> Spot
-    requires slanted { piece.now.a.y ≢ piece.now.c.y }
-    requires first { CountsFirst (span_of piece.now) arc.right strip }
-    requires arc { IsArc arc piece.now }
-    requires at { IsSpot spot piece.now (place_at strip 0) }
+fn to_end(piece: &Piece, cuts: ArcCuts, strip: Strip) -> Spot
+    requires first { CountsFirst (span_of piece.now) cuts.arc.right strip }
+    requires at { IsArcAt cuts piece.now (place_at strip 0) }
     ensures at { IsSpot result piece.now (place_at strip 0) }
-    ensures end { IsEndOfCount (span_of piece.now) arc.right strip result.k }
+    ensures end { IsEndOfCount (span_of piece.now) cuts.arc.right strip result.k }
 {
-    let mut here = spot;
-    if is_short(piece, arc.right, spot, strip) {
-        here = beside(piece, spot, strip, spot.k + 1, arc.next);
+    let arc = cuts.arc;
+    let mut here = cuts.spot;
+    if is_short(piece, arc.right, here, strip) {
+        here = beside(piece, here, strip, here.k + 1, arc.next);
         // The columns before this one count.
         'right: while is_short(piece, arc.right, here, strip) {
             here = beside(piece, here, strip, here.k + 1, arc.next);
@@ -213,7 +208,6 @@ fn is_off(areas: Weights) -> bool
 #[inline(always)]
 #[tactic(auto, using(crate::proofs::Contacts::none_on, crate::proofs::Walks::gap_at_column))]
 fn on_column(piece: &Piece, spot: Spot, strip: Strip, tally: &mut Tally) -> OnRow
-    requires slanted { piece.now.a.y ≢ piece.now.c.y }
     requires at { IsSpot spot piece.now (place_at strip 0) }
     requires only { (k : ℕ) → strip.start ≤ k → k < strip.stop → IsOn (place_at strip k) (span_of piece.now) →
         (k ≡ spot.k) × (gap (span_of piece.now) (place_at strip k) ≡ pos 0) }
@@ -232,17 +226,17 @@ fn on_column(piece: &Piece, spot: Spot, strip: Strip, tally: &mut Tally) -> OnRo
     on_one(piece, strip, spot.k, tally)
 }
 
-/// The column beside the end that is on a bent arc, if it is. No other can be, and none if the arc touches no centre.
+/// The column beside the end of those that count, if it is on a bent arc. No other can be, and none if the arc touches no centre.
 #[inline(always)]
-fn on_end(piece: &Piece, arc: Arc, end: Spot, strip: Strip, tally: &mut Tally) -> OnRow
-    requires slanted { piece.now.a.y ≢ piece.now.c.y }
-    requires arc { IsArc arc piece.now }
-    requires at { IsSpot end piece.now (place_at strip 0) }
+fn on_end(piece: &Piece, cuts: ArcCuts, strip: Strip, tally: &mut Tally) -> OnRow
+    requires at { IsArcAt cuts piece.now (place_at strip 0) }
     requires only { (k : ℕ) → strip.start ≤ k → k < strip.stop → IsOn (place_at strip k) (span_of piece.now) →
-        IsLast arc.right end.k k × (gap (span_of piece.now) (place_at strip k) ≡ pos 0) }
+        IsLast cuts.arc.right cuts.spot.k k × (gap (span_of piece.now) (place_at strip k) ≡ pos 0) }
     ensures on { IsOnStrip (span_of piece.now) strip result }
     ensures count { tally.new.count ≤ tally.old.count + 1 }
 {
+    let arc = cuts.arc;
+    let end = cuts.spot;
     if !arc.touches {
         return OnRow::None;
     }
@@ -256,20 +250,19 @@ fn on_end(piece: &Piece, arc: Arc, end: Spot, strip: Strip, tally: &mut Tally) -
     on_column(piece, last, strip, tally)
 }
 
-/// What a bent arc adds to a row whose columns end here.
+/// What a bent arc adds to a row in which the columns that count end here.
 #[inline(always)]
-fn arc_cut(bounded: &Bounded, arc: Arc, end: Spot, strip: Strip, tally: &mut Tally) -> Cut
+fn arc_cut(bounded: &Bounded, cuts: ArcCuts, strip: Strip, tally: &mut Tally) -> Cut
     requires inner { IsInner bounded.now.piece.a.y bounded.now.piece.c.y (pos 128 *ℤ strip.row +ℤ pos 64) }
-    requires arc { IsArc arc bounded.now.piece }
-    requires at { IsSpot end bounded.now.piece (place_at strip 0) }
-    requires end { IsEndOfCount (bounded_span bounded.now) arc.right strip end.k }
+    requires at { IsArcAt cuts bounded.now.piece (place_at strip 0) }
+    requires end { IsEndOfCount (bounded_span bounded.now) cuts.arc.right strip cuts.spot.k }
     ensures cut { IsCut (bounded_span bounded.now) strip result }
     ensures count { tally.new.count ≤ tally.old.count + 1 }
 {
     Cut {
-        end: end.k.min(strip.stop),
+        end: cuts.spot.k.min(strip.stop),
         value: bounded.rise.value,
-        on: on_end(&bounded.piece, arc, end, strip, tally),
+        on: on_end(&bounded.piece, cuts, strip, tally),
     }
 }
 
@@ -310,8 +303,7 @@ fn up_of(piece: &Piece, b: Point) -> Weights
 /// An arc at a column, from the areas there.
 #[inline(always)]
 fn arc_at(piece: &Piece, b: Point, right: bool, strip: Strip, k: u32, areas: Weights) -> ArcCuts
-    requires middle { piece.now.b ≡ Some b }
-    requires bent { IsBent (span_of piece.now) }
+    requires bent { IsBentBy piece.now b }
     requires slanted { piece.now.a.y ≢ piece.now.c.y }
     requires right { IsTurned (span_of piece.now) right }
     requires near { (strip.base +ℤ pos k) <ℤ end_of_pixels }
@@ -369,9 +361,8 @@ impl Cuts for ArcCuts {
 
     #[inline(always)]
     fn cut(&mut self, bounded: &Bounded, strip: Strip, tally: &mut Tally) -> Cut {
-        let end = to_end(&bounded.piece, self.arc, self.spot, strip);
-        self.spot = end;
-        arc_cut(bounded, self.arc, end, strip, tally)
+        self.spot = to_end(&bounded.piece, *self, strip);
+        arc_cut(bounded, *self, strip, tally)
     }
 
     #[inline(always)]

@@ -16,8 +16,9 @@ abbrev pub bounded_span : Bounded → Span
 bounded_span b = span_of b.piece
 
 -- the rows of a frame from one to before another pass between the ends of a piece's chord
-abbrev pub AreInner : Bounded → Frame → ℕ → ℕ → Type 0
-AreInner b f from to = (r : ℕ) → from ≤ r → r < to → IsInner b.piece.a.y b.piece.c.y (height_of f r)
+pub record AreInner (b : Bounded) (f : Frame) (from to : ℕ) : Type 0 where
+  pub within : to ≤ f.height
+  pub inner : (r : ℕ) → from ≤ r → r < to → IsInner b.piece.a.y b.piece.c.y (height_of f r)
 
 -- how many numbers a row of this width takes: whole words
 abbrev pub stride : ℕ → ℕ
@@ -72,6 +73,12 @@ pub record IsCounted (ss : List Span) (f : Frame) (b : Band) : Type 0 where
       → IsTrue (mark_at b (r * stride f.width + k)) ↔ Any (IsOn (centre (f.left +ℤ pos k) (f.bottom +ℤ pos r))) ss
   pub rest : (n : ℕ) → IsBeside f 0 f.height n → turns_at b n ≡ pos 0
   pub unused : (n : ℕ) → IsBeside f 0 f.height n → mark_at b n ≡ false
+
+-- the bits of a frame's rows: each is set exactly when the pixel's centre is covered, and those after a row's last pixel are 0
+pub record AreBitsOf (ss : List Span) (f : Frame) (words : List ℕ) : Type 0 where
+  pub bits : (r k : ℕ) → r < f.height → k < f.width
+      → (word_bit words (r * stride f.width + k) ≡ 1) ↔ IsCovered (centre (f.left +ℤ pos k) (f.bottom +ℤ pos r)) ss
+  pub unused : (r k : ℕ) → r < f.height → f.width ≤ k → k < stride f.width → word_bit words (r * stride f.width + k) ≡ 0
 
 -- the words of rows of pixels, done of them, from the left column and the bottom row on: each bit is set exactly when the pixel's
 -- centre is covered, and those after a row's last pixel are 0

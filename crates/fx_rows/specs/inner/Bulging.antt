@@ -39,3 +39,8 @@ IsBulgePart a (Some b) c = IsBeyond a.x b.x c.x ⊎ IsBeyond a.y b.y c.y
 
 abbrev pub IsBulge : Span → Type 0
 IsBulge s = IsBulgePart s.a s.b s.c
+
+-- a piece that does not bulge and has not both its ends on one line of centres
+pub record IsPlain (s : Span) : Type 0 where
+  pub flat : ¬ (IsBulge s)
+  pub off : ¬ (IsOnLine s)

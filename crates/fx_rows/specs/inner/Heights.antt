@@ -1,26 +1,25 @@
 -- The heights of rows, and pieces that rows miss.
-use Rattle.std.specs.Prelude.{◌⊎◌, ℕ, ◌<◌, ◌≤◌, ℤ, pos, ◌+ℤ◌, ◌*ℤ◌, ◌≤ℤ◌, ◌<ℤ◌, Option, Some, None}
-use Rattle.fx_winding.specs.Area.{Place}
+use Rattle.std.specs.Prelude.{◌⊎◌, ℕ, ℤ, pos, ◌+ℤ◌, ◌*ℤ◌, ◌≤ℤ◌, ◌<ℤ◌, IsSomeAnd}
 use Rattle.fx_winding.specs.Outside.{HasAll}
 use Rattle.fx_winding.specs.Winding.{Span, IsBeforeTurn}
 use Rattle.fx_winding.specs.declared.frame.Frame.{Frame}
+use Rattle.fx_rows.specs.inner.Runs.{IsSplitFrom}
 
 -- the height of the centres of a frame's row, counted from the lowest
 abbrev pub height_of : Frame → ℕ → ℤ
 height_of f r = pos 128 *ℤ (f.bottom +ℤ pos r) +ℤ pos 64
 
 -- a piece is an arc that turns before it comes to this height from its ends
-abbrev pub TurnsBefore : Place → Option Place → Place → ℤ → Type 0
-TurnsBefore a None c y = ⊥
-TurnsBefore a (Some b) c y = ¬ (IsBeforeTurn a.y b.y c.y y)
+abbrev pub IsPastTurn : Span → ℤ → Type 0
+IsPastTurn s y = IsSomeAnd s.b (λ b. ¬ (IsBeforeTurn s.a.y b.y s.c.y y))
 
 -- a piece is above this height: all its points are, or it is an arc whose ends are and that turns before
 abbrev pub IsAbove : Span → ℤ → Type 0
-IsAbove s y = HasAll (λ q. y <ℤ q.y) s ⊎ ((y <ℤ s.a.y) × (y <ℤ s.c.y) × TurnsBefore s.a s.b s.c y)
+IsAbove s y = HasAll (λ q. y <ℤ q.y) s ⊎ ((y <ℤ s.a.y) × (y <ℤ s.c.y) × IsPastTurn s y)
 
 -- a piece is below it
 abbrev pub IsBelow : Span → ℤ → Type 0
-IsBelow s y = HasAll (λ q. q.y <ℤ y) s ⊎ ((s.a.y <ℤ y) × (s.c.y <ℤ y) × TurnsBefore s.a s.b s.c y)
+IsBelow s y = HasAll (λ q. q.y <ℤ y) s ⊎ ((s.a.y <ℤ y) × (s.c.y <ℤ y) × IsPastTurn s y)
 
 -- one of both
 abbrev pub IsMissed : Span → ℤ → Type 0
@@ -53,9 +52,5 @@ IsAtLeastEnds s y = (s.a.y ≤ℤ y) × (s.c.y ≤ℤ y)
 -- of a frame's rows from one to before another, those from first to before end have their centres above one height and below
 -- another, and no others
 pub record AreAmong (low high : ℤ) (f : Frame) (least past first end : ℕ) : Type 0 where
-  pub from : least ≤ first
-  pub to : end ≤ past
-  pub foot : (r : ℕ) → first ≤ r → r < end → low <ℤ height_of f r
-  pub head : (r : ℕ) → first ≤ r → r < end → height_of f r <ℤ high
-  pub under : (r : ℕ) → least ≤ r → r < first → height_of f r ≤ℤ low
-  pub over : (r : ℕ) → end ≤ r → r < past → high ≤ℤ height_of f r
+  pub foot : IsSplitFrom (λ r. height_of f r ≤ℤ low) (λ r. low <ℤ height_of f r) least past first
+  pub head : IsSplitFrom (λ r. height_of f r <ℤ high) (λ r. high ≤ℤ height_of f r) first past end

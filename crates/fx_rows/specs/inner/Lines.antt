@@ -2,8 +2,8 @@
 use Rattle.std.specs.Prelude.{◌≡◌, ◌⊎◌, ℕ, ◌+◌, ◌*◌, ◌<◌, ◌≤◌, ℤ, pos, ◌+ℤ◌, ◌-ℤ◌, ◌<ℤ◌, List, Option, Some, None, length}
 use Rattle.fx_winding.specs.Area.{Place}
 use Rattle.fx_winding.specs.Bitmaps.{word_bit}
-use Rattle.fx_winding.specs.Meets.{IsMet, IsTipPart}
-use Rattle.fx_winding.specs.Notes.{pixel_number, words_noted, IsMetAcross, IsMetUp}
+use Rattle.fx_winding.specs.Meets.{IsMet, IsTipPart, IsWithinRow}
+use Rattle.fx_winding.specs.Notes.{pixel_number, words_noted, IsMetAcross, IsMetUp, IsNotedAcross, IsNotedUp}
 use Rattle.fx_winding.specs.Winding.{Span, IsOn, centre}
 use Rattle.fx_winding.specs.declared.frame.Frame.{Frame}
 use Rattle.fx_rows.specs.declared.noted_rows.NotedRow.{NotedRow}
@@ -22,6 +22,10 @@ right_at f row k = centre (f.left +ℤ pos k) row
 abbrev pub IsMetTo : Span → Frame → ℤ → ℕ → Type 0
 IsMetTo s f row k = IsMet (left_at f row k) (right_at f row k) s
 
+-- unless an end of it is on the piece
+abbrev pub IsMetToUnlessOn : Span → Frame → ℤ → ℕ → Type 0
+IsMetToUnlessOn s f row k = ¬ (IsOn (left_at f row k) s) → ¬ (IsOn (right_at f row k) s) → IsMetTo s f row k
+
 -- the column is the first of a run, or the one after its last
 abbrev pub IsRunEnd : Frame → Option Run → ℕ → Type 0
 IsRunEnd f None k = ⊥
@@ -39,16 +43,12 @@ IsRowSet s f row first step bits = (k : ℕ) → k ≤ f.width → IsSetTo s f r
 abbrev pub AreSetIn : Span → Frame → ℕ → ℕ → ℕ → List ℕ → Type 0
 AreSetIn s f r first step bits = (k : ℕ) → k ≤ f.width → IsMetAcross s f r k → word_bit bits (first + k * step) ≡ 1
 
--- the same of all rows of a frame; the bits of a row's begin as many after those of the row below as row_step says
-abbrev pub AreRowsSet : Span → Frame → ℕ → ℕ → List ℕ → Type 0
-AreRowsSet s f row_step step bits = (r : ℕ) → r < f.height → AreSetIn s f r (r * row_step) step bits
-
 -- n is the bit of a segment of a row, which the piece meets, unless an end of that is on it
 pub record IsLineBit (s : Span) (f : Frame) (row : ℤ) (first step n : ℕ) : Type 0 where
   pub k : ℕ
   pub within : k ≤ f.width
   pub at : n ≡ first + k * step
-  pub met : ¬ (IsOn (left_at f row k) s) → ¬ (IsOn (right_at f row k) s) → IsMetTo s f row k
+  pub met : IsMetToUnlessOn s f row k
 
 -- of the bits that are set only these were not set before
 abbrev pub AreOnly : (ℕ → Type 0) → List ℕ → List ℕ → Type 0
@@ -73,6 +73,10 @@ IsAfterFirst line P k = (0 < k) × (k < line.frame.width) × P k
 abbrev pub IsAround : NotedRow → ℤ → ℕ → Type 0
 IsAround line x k = ((left_at line.frame line.row k).x <ℤ x) × (x <ℤ (right_at line.frame line.row k).x)
 
+-- a point is within it
+abbrev pub HasEnd : Place → NotedRow → ℕ → Type 0
+HasEnd p line k = IsWithinRow (left_at line.frame line.row k) (right_at line.frame line.row k) p
+
 -- the tip of an arc is within it
 abbrev pub HasTip : Span → NotedRow → ℕ → Type 0
 HasTip s line k = IsTipPart s.a s.b s.c (left_at line.frame line.row k) (right_at line.frame line.row k)
@@ -86,6 +90,11 @@ pub record IsRowsBit (s : Span) (f : Frame) (row_step step n : ℕ) : Type 0 whe
 -- a list has a bit for each segment of the rows
 abbrev pub HaveRoom : NotedRows → List ℕ → Type 0
 HaveRoom ls bits = (r : ℕ) → r < ls.frame.height → r * ls.row_step + ls.frame.width * ls.step < 32 * length bits
+
+-- the segments of some rows that a piece meets have their bits, and only bits of segments that it meets are gained
+pub record NotesRows (s : Span) (ls : NotedRows) (from to : ℕ) (old new : List ℕ) : Type 0 where
+  pub noted : (r : ℕ) → from ≤ r → r < to → AreSetIn s ls.frame r (r * ls.row_step) ls.step new
+  pub gained : GainOnly (IsRowsBit s ls.frame ls.row_step ls.step) old new
 
 -- a piece meets the segment up to a row in a column, unless an end of it is on the piece
 abbrev pub IsMetUnlessOn : Span → Frame → ℕ → ℕ → Type 0
@@ -103,3 +112,13 @@ pub record IsUpBit (s : Span) (f : Frame) (n : ℕ) : Type 0 where
   pub column : k < f.width
   pub at : n ≡ pixel_number f r k
   pub met : IsMetUnlessOn s f r k
+
+-- the segments across some rows of a frame that a piece meets are noted, and only bits of segments that it meets are gained
+pub record NotesAcross (s : Span) (f : Frame) (from to : ℕ) (old new : List ℕ) : Type 0 where
+  pub noted : (r : ℕ) → from ≤ r → r < to → IsNotedAcross s f new r
+  pub gained : GainOnly (IsAcrossBit s f) old new
+
+-- the same of those up to some rows
+pub record NotesUp (s : Span) (f : Frame) (from to : ℕ) (old new : List ℕ) : Type 0 where
+  pub noted : (r : ℕ) → from ≤ r → r < to → IsNotedUp s f new r
+  pub gained : GainOnly (IsUpBit s f) old new

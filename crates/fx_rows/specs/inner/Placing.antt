@@ -1,7 +1,9 @@
 -- Pieces in a band of rows.
 use Rattle.std.specs.Prelude.{◌⊎◌, ℕ, ◌-◌, ◌≤◌, ◌<◌, List, pos, ◌+ℤ◌, ◌≤ℤ◌}
 use Rattle.fx_winding.specs.declared.frame.Frame.{Frame}
-use Rattle.fx_winding.specs.Winding.{Span}
+use Rattle.fx_winding.specs.Near.{IsNear}
+use Rattle.fx_winding.specs.Winding.{Span, span_of}
+use Rattle.fx_winding.specs.declared.point.Piece.{Piece}
 use Rattle.fx_rows.specs.declared.across.Across.{Across}
 use Rattle.fx_rows.specs.declared.heights.Met.{Met}
 use Rattle.fx_rows.specs.declared.heights.RowRange.{RowRange}
@@ -9,7 +11,7 @@ use Rattle.fx_rows.specs.declared.piece_in_band.PieceInBand.{PieceInBand}
 use Rattle.fx_rows.specs.inner.Bulging.{IsBulge}
 use Rattle.fx_rows.specs.inner.Heights.{height_of, IsAbove, IsBelow, IsAtMostEnds, IsAtLeastEnds}
 use Rattle.fx_rows.specs.inner.Points.{IsInner, AreAcross}
-use Rattle.fx_rows.specs.inner.Telling.{AreRowsTold, Way, across_row, up_to_row}
+use Rattle.fx_rows.specs.inner.Telling.{AreRowsNoted, AreRowsTold, Saying, of_frame, Way, across_row, up_to_row}
 use Rattle.fx_rows.specs.inner.Told.{IsEndIn}
 
 -- of some rows of a frame these pass between the ends of a piece, and those before and after them do not
@@ -33,6 +35,18 @@ pub record AreMetIn (s : Span) (f : Frame) (from to : ℕ) (m : Met) : Type 0 wh
 -- the same of all rows
 abbrev pub AreMet : Span → Frame → Met → Type 0
 AreMet s f m = AreMetIn s f 0 f.height m
+
+-- a piece is to be noted next in some rows of a frame: where its columns end in those between its ends is told, and it is noted in
+-- the rows below them
+pub record IsDue (Says : Saying → Type 0) (IsTold : ℕ → ℕ → Type 0) (p : Piece) (f : Frame) (rows : RowRange) (m : Met)
+    : Type 0 where
+  pub frame : Says (of_frame f)
+  pub near : IsNear p
+  pub within : rows.end ≤ f.height
+  pub some : rows.first < rows.end
+  pub met : AreMetIn (span_of p) f rows.first rows.end m
+  pub told : AreRowsTold (λ r. IsTold (r - rows.first)) (span_of p) f rows.first rows.end
+  pub before : AreRowsNoted Says (span_of p) rows.first
 
 -- a frame has all columns of a piece's box
 abbrev pub IsBoxed : Frame → Span → Type 0

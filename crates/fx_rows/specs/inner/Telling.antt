@@ -5,12 +5,12 @@ use Rattle.fx_winding.specs.Bitmaps.{word_bit}
 use Rattle.fx_winding.specs.Notes.{pixel_number, words_noted, IsNotedAcross, IsNotedUp}
 use Rattle.fx_winding.specs.Limits.{most_pieces}
 use Rattle.fx_winding.specs.Near.{IsNear}
-use Rattle.fx_winding.specs.Winding.{Span, span_of, IsOn}
+use Rattle.fx_winding.specs.Winding.{Span, span_of}
 use Rattle.fx_winding.specs.declared.point.Piece.{Piece}
 use Rattle.fx_rows.specs.declared.band.Band.{Band}
 use Rattle.fx_rows.specs.inner.Bands.{IsBandAdded, IsClear}
 use Rattle.fx_rows.specs.inner.Heights.{height_of}
-use Rattle.fx_rows.specs.inner.Lines.{left_at, right_at, IsMetTo}
+use Rattle.fx_rows.specs.inner.Lines.{IsMetToUnlessOn}
 use Rattle.fx_rows.specs.inner.Points.{IsInner}
 use Rattle.fx_rows.specs.inner.Told.{IsEnd}
 use Rattle.fx_rows.specs.inner.Lines.{IsMetUnlessOn}
@@ -92,8 +92,7 @@ pub record IsAmong (s : Span) (ss : List Span) : Type 0 where
 pub record IsMetByOne (ss : List Span) (f : Frame) (r k : ℕ) : Type 0 where
   pub piece : Span
   pub among : IsAmong piece ss
-  pub met : ¬ (IsOn (left_at f (f.bottom +ℤ pos r) k) piece) → ¬ (IsOn (right_at f (f.bottom +ℤ pos r) k) piece)
-      → IsMetTo piece f (f.bottom +ℤ pos r) k
+  pub met : IsMetToUnlessOn piece f (f.bottom +ℤ pos r) k
 
 -- the same of the segment up to a row in a column
 pub record IsMetUpByOne (ss : List Span) (f : Frame) (r k : ℕ) : Type 0 where
@@ -134,3 +133,8 @@ Keeps Old New = (x : Saying) → Old x → New x
 -- what lasts is so still, after some pieces were noted
 abbrev pub KeepsAfter : List Span → (Saying → Type 0) → (Saying → Type 0) → Type 0
 KeepsAfter ss Old New = (x : Saying) → All (λ s. Lasts s x) ss → Old x → New x
+
+-- some pieces were noted in the rows before one: they are noted there, and what lasts is so still
+pub record NotesPieces (ss : List Span) (to : ℕ) (Old New : Saying → Type 0) : Type 0 where
+  pub kept : KeepsAfter ss Old New
+  pub noted : AreNotedIn New ss to

@@ -6,7 +6,7 @@ use Rattle.fx_winding.specs.Winding.{Span, IsBetween}
 use Rattle.fx_rows.specs.declared.reach.Reach.{Reach}
 use Rattle.fx_rows.specs.inner.Heights.{height_of, IsResting, IsHanging}
 use Rattle.fx_rows.specs.inner.Lines.{IsMetUnlessOn}
-use Rattle.fx_rows.specs.inner.Points.{IsInner}
+use Rattle.fx_rows.specs.inner.Points.{IsFootX, IsHeadX, IsInner}
 use Rattle.fx_rows.specs.inner.Told.{IsEndOn}
 
 -- how far right the centres of a frame's column are
@@ -36,15 +36,6 @@ pub record AreAt (f : Frame) (x : ℤ) (c : Reach) : Type 0 where
   pub from : (k : ℕ) → c.first ≤ k → k < f.width → x ≤ℤ column_of f k
   pub to : (k : ℕ) → k < c.end → column_of f k ≤ℤ x
   pub right : (k : ℕ) → c.end ≤ k → k < f.width → x <ℤ column_of f k
-
--- how far right the lower end of a piece is, and how far its upper one
-pub record IsFootX (s : Span) (x : ℤ) : Type 0 where
-  pub rising : s.a.y <ℤ s.c.y → x ≡ s.a.x
-  pub falling : s.c.y ≤ℤ s.a.y → x ≡ s.c.x
-
-pub record IsHeadX (s : Span) (x : ℤ) : Type 0 where
-  pub rising : s.a.y <ℤ s.c.y → x ≡ s.c.x
-  pub falling : s.c.y ≤ℤ s.a.y → x ≡ s.a.x
 
 -- the columns of a frame at the lower end of a piece, and those at its upper one
 pub record AreAtFoot (s : Span) (f : Frame) (c : Reach) : Type 0 where
@@ -76,6 +67,12 @@ pub record IsLevel (s : Span) (f : Frame) (r from to : ℕ) : Type 0 where
   pub within : AreMetWithin s f r from to
   pub all : AreAllMet s f r from to
 
--- a piece comes up to a row from these columns: to whichever columns it goes there
-abbrev pub ComesFrom : Span → Frame → ℕ → Reach → Type 0
-ComesFrom s f r low = (c : Reach) → IsHigh s f r c → IsLevel s f r (min low.first c.first) (max low.end c.end)
+-- a piece comes up to a row from these columns of a frame: to whichever columns it goes there
+pub record ComesFrom (s : Span) (f : Frame) (r : ℕ) (low : Reach) : Type 0 where
+  pub within : low.end ≤ f.width
+  pub level : (c : Reach) → IsHigh s f r c → IsLevel s f r (min low.first c.first) (max low.end c.end)
+
+-- it goes up to a row to these columns: from whichever columns it comes
+pub record GoesTo (s : Span) (f : Frame) (r : ℕ) (high : Reach) : Type 0 where
+  pub within : high.end ≤ f.width
+  pub level : (c : Reach) → ComesFrom s f r c → IsLevel s f r (min c.first high.first) (max c.end high.end)

@@ -1,5 +1,5 @@
 -- Bent arcs that are walked along, from row to row and from column to column.
-use Rattle.std.specs.Prelude.{◌≡◌, ℕ, ◌+◌, ◌^◌, ℤ, pos, ◌+ℤ◌, ◌-ℤ◌, ◌*ℤ◌, ◌≤ℤ◌, false, Option, Some, None}
+use Rattle.std.specs.Prelude.{◌≡◌, ◌≢◌, ℕ, ◌+◌, ◌^◌, ℤ, pos, neg_ℤ, ◌+ℤ◌, ◌-ℤ◌, ◌*ℤ◌, ◌≤ℤ◌, false, Option, Some, None}
 use Rattle.fx_fixed.specs.Ranges.{IsWithin}
 use Rattle.fx_winding.specs.Area.{Place}
 use Rattle.fx_winding.specs.Winding.{Span, span_of, sign, areas_of, centre}
@@ -22,6 +22,12 @@ pub record IsSum (areas step sum : Weights) : Type 0 where
   pub u : sum.u ≡ areas.u +ℤ step.u
   pub v : sum.v ≡ areas.v +ℤ step.v
   pub w : sum.w ≡ areas.w +ℤ step.w
+
+-- the changes the other way
+pub record IsReversed (step back : Weights) : Type 0 where
+  pub u : back.u ≡ neg_ℤ step.u
+  pub v : back.v ≡ neg_ℤ step.v
+  pub w : back.w ≡ neg_ℤ step.w
 
 -- areas with the sign of d
 pub record AreTurned (d : ℤ) (areas turned : Weights) : Type 0 where
@@ -63,8 +69,9 @@ pub record IsArc (arc : Arc) (piece : Piece) : Type 0 where
   pub up : (l r : ℤ) (k : ℕ) → IsStep (span_of piece) (right_of (centre l r) k) (right_of (centre l (r +ℤ pos 1)) k) arc.up
   pub misses : arc.touches ≡ false → MissesCentres (span_of piece)
 
--- a column of the row that has a place at its base, with the areas of its centre
+-- a column of the row that has a place at its base, with the areas of its centre and the points of a piece with a slanted chord
 pub record IsSpot (spot : Spot) (piece : Piece) (p : Place) : Type 0 where
+  pub slanted : piece.a.y ≢ piece.c.y
   pub areas : AreSided (span_of piece) (right_of p spot.k) spot.areas
   pub near : (p.x +ℤ pos 128 *ℤ pos spot.k) ≤ℤ pos 4194368
 

@@ -1,7 +1,7 @@
-use Rattle.std.proofs.Common.{◌≡◌, ◌∙◌, ap, sym, subst, arith, w32, to_z, of_z, ℤ, ℕ, ◌+ℤ◌, ◌+◌}
+use Rattle.std.proofs.Common.{◌≡◌, sym, subst, arith, w32, to_z, of_z, ℤ, ℕ}
 use Rattle.std.proofs.lemmas.List.{with_items_is}
 use Rattle.fx_fixed.proofs.Linear.{signed_linear}
-use Rattle.fx_rows.specs.inner.Sums.{before}
+use Rattle.fx_rows.specs.inner.Sums.{AreRaisedBefore}
 use Rattle.fx_rows.proofs.Counted.{Added, added_cut}
 use Rattle.fx_rows.proofs.Banding.{row_added}
 use Rattle.fx_rows.proofs.add.add_cut.Goals as goal
@@ -20,10 +20,8 @@ returns-clause-added c = λ s h.
     let v : to_z w32 (of_z w32 cut.value) ≡ cut.value = omega (arith, signed_linear, cut.small) in
     let added = added_cut s c.args.strip b.frame cut c.args.end at c.deref_mut.result.now
     c.add_before.new.diff c.deref_mut-2.result.now c.add_before.new.touched c.deref_mut-3.result.now c.mark.new.line
-    c.requires.first c.requires.last (omega arith)
-    (λ k l. c.add_before.ensures.inside k l ∙ ap (λ (z : ℤ). before (at + k + 1) c.deref_mut.result.now +ℤ z) v)
-    c.add_before.ensures.outside c.add_before.ensures.under c.add_before.ensures.grown c.add_before.ensures.touched
-    c.mark.ensures.row c.mark.ensures.under h in
+    c.requires.first c.requires.last (omega arith) (subst (λ (z : ℤ). AreRaisedBefore at c.args.end z c.deref_mut.result.now
+    c.add_before.new.diff) v c.add_before.ensures.raised) c.add_before.ensures.touched c.mark.ensures h in
     row_added s b.frame c.args.strip.row _ b _ c.deref_mut.result.now c.add_before.new.diff
     c.deref_mut-2.result.now c.add_before.new.touched c.deref_mut-3.result.now c.mark.new.line
     c.deref_mut.ensures.value (sym (with_items_is b.diff c.add_before.new.diff (omega arith)))

@@ -9,7 +9,7 @@ pub rows-init : goal.rows-init
 rows-init g c = grind (arith, c.requires.at, added_start)
 
 pub row_of-requires : goal.row_of-requires
-row_of-requires g c = grind (arith, c.rows.invariant.added.frame, c.requires.rows, row_in)
+row_of-requires g c = grind (arith, c.rows.invariant.added.frame, c.requires.inner.within, row_in)
 
 pub cut-cut-requires-clause-inner : goal.cut-cut-requires-clause-inner
 cut-cut-requires-clause-inner g c =
@@ -20,12 +20,12 @@ cut-cut-requires-clause-at g c =
     grind (arith, c.row_of.ensures, c.strip_of-strip.ensures, c.rows.invariant, strip_row, at_base)
 
 pub add_cut-requires-clause-up : goal.add_cut-requires-clause-up
-add_cut-requires-clause-up g c = grind (arith, c.rows.invariant.added.frame, c.requires.rows, row_in)
+add_cut-requires-clause-up g c = grind (arith, c.rows.invariant.added.frame, c.requires.inner.within, row_in)
 
 pub add_cut-requires-clause-small : goal.add_cut-requires-clause-small
 add_cut-requires-clause-small g c =
     let few = c.args.band.now.few in
-    let r = c.requires.rows in
+    let r = c.requires.inner.within in
     band_small (bounded_span c.args.bounded.now) c.args.band.now.frame c.args.rows.first c.rows.up c.args.band.now c.rows.band
     c.rows.invariant.added.added c.requires.small (omega (arith, few, r))
 

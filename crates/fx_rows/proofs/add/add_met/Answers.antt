@@ -30,7 +30,7 @@ invariant_of-band c =
 pub add_run-requires-2-clause-small : goal.add_run-requires-2-clause-small
 add_run-requires-2-clause-small c =
     let d = c.deref_mut-3.ensures.value ∙ with_items_is c.args.band.now.diff c.add_run.new.diff (omega arith) in
-    λ k. let e = c.add_run.ensures.grown (2 ^ 26)
+    λ k. let e = c.add_run.ensures.raised.grown (2 ^ 26)
     (subst (AreWithin (2 ^ 26)) (sym c.deref_mut.ensures.value) c.requires.small) k in
     let x = ap (λ (xs : List ℤ). get_or xs k (pos 0)) d in
     omega (arith, signed_linear, e, x)
@@ -59,13 +59,13 @@ returns-clause-added c =
     (omega (arith, signed_linear, near)) ∙ c.row_of.ensures.value in
     let is = subst (λ (r : ℤ). IsRowPart s r f part) row c.met_part-part.ensures.part in
     let added = added_part s (f.bottom +ℤ pos c.args.up) f part at d d' t t' m m' is
-    (λ k. let a = c.add_run.ensures.sums k in let z = c.add_run-2.ensures.sums k in
+    (λ k. let a = c.add_run.ensures.raised.sums k in let z = c.add_run-2.ensures.raised.sums k in
     let x = ap (before (at + k + 1)) ed in omega (arith, signed_linear, a, z, x))
-    (λ n h. c.add_run-2.ensures.under n h ∙ ap (before n) ed ∙ c.add_run.ensures.under n h)
-    (λ n w k. let e = c.add_run-2.ensures.grown (n + 2) (subst (AreWithin (n + 2)) (sym ed) (c.add_run.ensures.grown n w)) k in
-    omega (arith, signed_linear, e))
+    (λ n h. c.add_run-2.ensures.raised.under n h ∙ ap (before n) ed ∙ c.add_run.ensures.raised.under n h)
+    (λ n w k. let e = c.add_run-2.ensures.raised.grown (n + 2) (subst (AreWithin (n + 2)) (sym ed)
+    (c.add_run.ensures.raised.grown n w)) k in omega (arith, signed_linear, e))
     (λ a. c.add_run-2.ensures.touched (subst (λ z. z) (λ i. AreTouched (sym ed i) (sym et i)) (c.add_run.ensures.touched a)))
-    c.mark.ensures.row c.mark.ensures.under in
+    c.mark.ensures in
     row_added s f (f.bottom +ℤ pos c.args.up) _ b _ d d' t t' m m'
     c.deref_mut.ensures.value (sym (with_items_is mid d' (omega arith)))
     c.deref_mut-2.ensures.value (sym (with_items_is mid' t' (omega arith)))

@@ -1,4 +1,4 @@
-use Rattle.std.proofs.Common.{sym, subst, ◌^◌, arith}
+use Rattle.std.proofs.Common.{sym, subst, ◌^◌, ◌≤◌, arith}
 use Rattle.fx_winding.specs.Winding.{span_of}
 use Rattle.fx_winding.specs.declared.point.Piece.{Piece}
 use Rattle.fx_winding.specs.declared.frame.Frame.{Frame}
@@ -9,13 +9,15 @@ use Rattle.fx_rows.proofs.Telling.{added_beside, added_outside, between_of}
 use Rattle.fx_rows.proofs.add.add_met_piece.Goals as goal
 
 pub add_inner_rows-requires-clause-inner : goal.add_inner_rows-requires-clause-inner
-add_inner_rows-requires-clause-inner g c = λ r h l.
+add_inner_rows-requires-clause-inner g c =
     let s = span_of c.args.piece.now in
-    let e = c.rise_of-rise.result in
-    let is = between_of s e.foot e.head e.value _ c.args.rows c.rows_between-inner.result c.rise_of-rise.ensures
-    c.rows_between-inner.ensures in
-    subst (λ (p : Piece). IsInner p.a.y p.c.y (height_of c.add_met_rows-2.new.band.frame r)) (sym c.bounds_of.ensures.piece)
-    (subst (λ (x : Frame). IsInner s.a.y s.c.y (height_of x r)) (sym c.add_met_rows-2.ensures.frame) (is.inner r h l))
+    let frame = sym c.add_met_rows-2.ensures.frame in
+    let is = between_of s _ _ _ _ c.args.rows c.rows_between-inner.result c.rise_of-rise.ensures c.rows_between-inner.ensures in
+    record {
+      within = subst (λ (x : Frame). c.rows_between-inner.result.end ≤ x.height) frame (omega (arith, is.to, c.requires.rows));
+      inner = λ r h l. subst (λ (p : Piece). IsInner p.a.y p.c.y (height_of c.add_met_rows-2.new.band.frame r))
+          (sym c.bounds_of.ensures.piece) (subst (λ (x : Frame). IsInner s.a.y s.c.y (height_of x r)) frame (is.inner r h l));
+    }
 
 pub add_inner_rows-requires-clause-small : goal.add_inner_rows-requires-clause-small
 add_inner_rows-requires-clause-small g c = c.add_met_rows-2.ensures.added.grown (2 ^ 25) c.requires.small

@@ -7,5 +7,5 @@ use Rattle.fx_rows.proofs.arc.boxed_rest.Goals as goal
 pub sign_of-requires-clause-total : goal.sign_of-requires-clause-total
 sign_of-requires-clause-total c =
     let t : to_z w64 (of_z w64 c.total_of.result) ≡ c.total_of.result = omega (arith, signed_linear, c.total_of.ensures.size) in
-    total_of_areas c.args.piece.now c.args.b (place_at c.args.boxed.strip 0) c.args.areas _ c.requires.middle c.requires.areas
+    total_of_areas c.args.piece.now c.args.b (place_at c.args.boxed.strip 0) c.args.areas _ c.requires.bent.0 c.requires.areas
     (t ∙ c.total_of.ensures.value)

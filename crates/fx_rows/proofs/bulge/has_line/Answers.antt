@@ -9,9 +9,9 @@ is_before {x} {y} {n} {m} e f h = grind (arith, signed_linear, e, f, h)
 
 pub returns : goal.returns
 returns c =
-    let x : to_z w32 (of_z w32 c.args.x) ≡ c.args.x = omega (arith, signed_linear, c.requires.near_x) in
+    let x : to_z w32 (of_z w32 c.args.x) ≡ c.args.x = omega (arith, signed_linear, c.requires.0) in
     let y : to_z w32 (of_z w32 (to_z w32 (of_z w32 c.args.y) +ℤ pos 1)) ≡ c.args.y +ℤ pos 1 =
-    omega (arith, signed_linear, c.requires.near_y) in
+    omega (arith, signed_linear, c.requires.1) in
     let a = c.first_from.ensures in
     let b = c.first_from-2.ensures in
     let n : to_z w32 (of_z w32 c.first_from.result) ≡ c.first_from.result = omega (arith, signed_linear, a.size) in

@@ -6,9 +6,9 @@ use Rattle.fx_rows.proofs.bulge.has_line_to.Goals as goal
 
 pub returns : goal.returns
 returns c =
-    let x : to_z w32 (of_z w32 c.args.x) ≡ c.args.x = omega (arith, signed_linear, c.requires.near_x) in
-    let y : to_z w32 (of_z w32 c.args.y) ≡ c.args.y = omega (arith, signed_linear, c.requires.near_y) in
-    let z : to_z w32 (of_z w32 c.args.z) ≡ c.args.z = omega (arith, signed_linear, c.requires.near_z) in
+    let x : to_z w32 (of_z w32 c.args.x) ≡ c.args.x = omega (arith, signed_linear, c.requires.0) in
+    let y : to_z w32 (of_z w32 c.args.y) ≡ c.args.y = omega (arith, signed_linear, c.requires.1) in
+    let z : to_z w32 (of_z w32 c.args.z) ≡ c.args.z = omega (arith, signed_linear, c.requires.2) in
     let first = line_same c.has_line.result x y c.has_line.ensures in
     let second = line_same c.has_line-2.result x z c.has_line-2.ensures in
     let least = c.min.ensures in

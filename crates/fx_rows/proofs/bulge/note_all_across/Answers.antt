@@ -7,4 +7,4 @@ pub note_lines-requires : goal.note_lines-requires
 note_lines-requires c = grind (arith, c.words_noted.ensures, c.requires.room, row_room)
 
 pub returns-clause-noted : goal.returns-clause-noted
-returns-clause-noted c = grind (arith, c.words_noted.ensures, c.note_lines.ensures.noted, across_set)
+returns-clause-noted c = grind (arith, c.words_noted.ensures, c.note_lines.ensures.notes, across_set)

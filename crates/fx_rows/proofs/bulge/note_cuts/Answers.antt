@@ -1,10 +1,10 @@
 use Rattle.std.proofs.Common.{◌≡◌, ◌+◌, ◌*◌, ℕ, pos, ◌+ℤ◌, refl, ap, sym, subst, arith}
 use Rattle.fx_fixed.proofs.Linear.{signed_linear}
 use Rattle.fx_winding.specs.Bitmaps.{word_bit}
-use Rattle.fx_winding.specs.Winding.{Span, IsOn}
+use Rattle.fx_winding.specs.Winding.{Span}
 use Rattle.fx_winding.specs.declared.frame.Frame.{Frame}
 use Rattle.fx_rows.specs.inner.Bands.{bounded_span}
-use Rattle.fx_rows.specs.inner.Lines.{left_at, right_at, AreOnly, AreSetIn, IsLineBit, IsMetTo, IsRowsBit, IsSetTo}
+use Rattle.fx_rows.specs.inner.Lines.{AreOnly, AreSetIn, IsLineBit, IsMetTo, IsMetToUnlessOn, IsRowsBit, IsSetTo}
 use Rattle.fx_rows.specs.inner.Told.{IsEnd}
 use Rattle.fx_rows.proofs.Bulges.{in_kept}
 use Rattle.fx_rows.proofs.Kept.{rows_more, gain_both, gain_more}
@@ -28,7 +28,7 @@ cut-cut-requires-clause-at g c =
     grind (arith, c.row-line.ensures, c.row-line.result.row_near, c.strip_of-strip.ensures, c.rows.invariant, strip_row, at_base)
 
 pub set_segment-requires-clause-room : goal.set_segment-requires-clause-room
-set_segment-requires-clause-room g c = grind (arith, c.requires.room, c.requires.rows, c.row-line.ensures)
+set_segment-requires-clause-room g c = grind (arith, c.requires.room, c.requires.inner.within, c.row-line.ensures)
 
 pub set_segment-requires-clause-column : goal.set_segment-requires-clause-column
 set_segment-requires-clause-column g c =
@@ -55,29 +55,30 @@ rows-preserved g c =
     let at = strip_row strip line.row _ line.row_near c.strip_of-strip.ensures.row at_line.row in
     let is : IsEnd s f up end = cut_end s f strip c.cut-cut.result _ _ at c.strip_of-strip.ensures.first
     c.strip_of-strip.ensures.last c.saturating_sub.ensures c.cut-cut.ensures.cut in
-    let inner = c.requires.inner up (omega arith) (omega arith) in
+    let inner = c.requires.inner.inner up (omega arith) (omega arith) in
     let set = subst (λ z. z) (λ i. (t : Span)
     → IsSetTo t (at_line.frame i) (at_line.row i) (at_line.first i) (at_line.step i) now end) c.set_segment.ensures.set in
     let here : AreSetIn s f up (up * row_step) step now = λ k w met.
-    let e = met_end s f b.across.first b.across.end up end k b.between c.requires.low c.requires.high inner is w met in
+    let e = met_end s f b.across.first b.across.end up end k b.between c.requires.columns.0 c.requires.columns.1 inner is w met in
     subst (λ (j : ℕ). word_bit now (up * row_step + j * step) ≡ 1) (sym e)
     (set s (subst (λ (j : ℕ). IsMetTo s f (f.bottom +ℤ pos up) j) e met.met)) in
-    let only = subst (λ z. z) (λ i. (¬ (IsOn (left_at (at_line.frame i) (at_line.row i) end) s)
-    → ¬ (IsOn (right_at (at_line.frame i) (at_line.row i) end) s) → IsMetTo s (at_line.frame i) (at_line.row i) end)
+    let only = subst (λ z. z) (λ i. IsMetToUnlessOn s (at_line.frame i) (at_line.row i) end
     → AreOnly (IsLineBit s (at_line.frame i) (at_line.row i) (at_line.first i) (at_line.step i)) c.rows.bits now)
-    (c.set_segment.ensures.only s) (λ off off'. (end_met_too s f b.across.first b.across.end up end b.between c.requires.low
-    c.requires.high inner is off off').met) in
+    (c.set_segment.ensures.only s) (λ off off'. (end_met_too s f b.across.first b.across.end up end b.between c.requires.columns.0
+    c.requires.columns.1 inner is off off').met) in
     let n = c.cut-cut.ensures.count in
     let m = c.rows.invariant.count in
     record {
-      noted = rows_more (λ r. AreSetIn s f r (r * row_step) step now) c.args.rows.first up
-          (λ r l o. in_kept s f r (r * row_step) step c.rows.bits now c.set_segment.ensures.kept
-          (c.rows.invariant.noted r l o)) here;
-      gained = gain_both (IsRowsBit s f row_step step) _ _ _ c.rows.invariant.gained
-          (gain_more (IsLineBit s f (f.bottom +ℤ pos up) (up * row_step) step)
-          (IsRowsBit s f row_step step) c.rows.bits now
-          (λ n h. record { r = up; row = omega (arith, c.requires.rows); line = h })
-          (record { kept = c.set_segment.ensures.kept; only = only }));
+      notes = record {
+        noted = rows_more (λ r. AreSetIn s f r (r * row_step) step now) c.args.rows.first up
+            (λ r l o. in_kept s f r (r * row_step) step c.rows.bits now c.set_segment.ensures.kept
+            (c.rows.invariant.notes.noted r l o)) here;
+        gained = gain_both (IsRowsBit s f row_step step) _ _ _ c.rows.invariant.notes.gained
+            (gain_more (IsLineBit s f (f.bottom +ℤ pos up) (up * row_step) step)
+            (IsRowsBit s f row_step step) c.rows.bits now
+            (λ n h. record { r = up; row = omega (arith, c.requires.inner.within); line = h })
+            (record { kept = c.set_segment.ensures.kept; only = only }));
+      };
       count = omega (arith, n, m);
       at = λ h. at_base_above (g.C.Cuts.AreAt c.move_up.new.self b) f f strip up refl at c.strip_of-strip.ensures.base
           c.move_up.ensures;
@@ -86,7 +87,3 @@ rows-preserved g c =
 pub returns-clause-count : goal.returns-clause-count
 returns-clause-count g c =
     let e : c.rows.up ≡ c.args.rows.end = omega (arith, c.args.rows.order) in let m = c.rows.invariant.count in omega (arith, e, m)
-
-pub returns-clause-noted : goal.returns-clause-noted
-returns-clause-noted g c = λ r l h.
-    let e : c.rows.up ≡ c.args.rows.end = omega (arith, c.args.rows.order) in c.rows.invariant.noted r l (omega (arith, e, h))

@@ -1,7 +1,7 @@
 use Rattle.std.proofs.Common.{◌*◌, ap, subst, arith}
 use Rattle.fx_winding.specs.Winding.{Span, span_of}
 use Rattle.fx_rows.specs.inner.Lines.{AreSetIn}
-use Rattle.fx_rows.proofs.Bulges.{all_rows_set, in_kept, set_in}
+use Rattle.fx_rows.proofs.Bulges.{all_rows_set, in_kept}
 use Rattle.fx_rows.proofs.Kept.{kept_both, rows_three, gain_both}
 use Rattle.fx_rows.proofs.Telling.{between_of}
 use Rattle.fx_rows.proofs.bulge.note_lines.Goals as goal
@@ -9,52 +9,51 @@ use Rattle.fx_rows.proofs.bulge.note_lines.Goals as goal
 pub note_passed_lines-requires-clause-inner : goal.note_passed_lines-requires-clause-inner
 note_passed_lines-requires-clause-inner c =
     let b = c.bounds_of-bounded.result in
-    (between_of (span_of b.piece) b.rise.foot b.rise.head b.rise.value c.args.lines.frame c.rows_met-rows.result
-    c.rows_between-inner.result b.rises c.rows_between-inner.ensures).inner
+    let is = between_of (span_of b.piece) b.rise.foot b.rise.head b.rise.value c.args.lines.frame c.rows_met-rows.result
+    c.rows_between-inner.result b.rises c.rows_between-inner.ensures in
+    record { within = omega (arith, is.to, c.rows_met-rows.ensures.within); inner = is.inner }
 
-pub returns-then-not-has_columns-clause-noted : goal.returns-then-not-has_columns-clause-noted
-returns-then-not-has_columns-clause-noted c =
+pub returns-then-not-has_columns-clause-notes : goal.returns-then-not-has_columns-clause-notes
+returns-then-not-has_columns-clause-notes c =
     let f = c.args.lines.frame in
     let s = span_of c.bounds_of-bounded.result.piece in
     let rows = c.rows_met-rows.result in
     let bits = c.note_met_lines.new.bits in
     let same = ap span_of c.bounds_of-bounded.ensures.piece in
-    λ r o. all_rows_set (span_of c.args.piece.now) f 0 rows.first rows.end f.height c.args.lines.row_step c.args.lines.step bits
-    (λ r l. c.rows_met-rows.ensures.below r) c.rows_met-rows.ensures.above
-    (λ r l m. subst (λ (t : Span). AreSetIn t f r (r * c.args.lines.row_step) c.args.lines.step bits) same
-    (set_in s f r (r * c.args.lines.row_step) c.args.lines.step bits (c.note_met_lines.ensures.noted r l m))) r (omega arith) o
+    record {
+      noted = all_rows_set (span_of c.args.piece.now) f 0 rows.first rows.end f.height c.args.lines.row_step c.args.lines.step
+          bits (λ r l. c.rows_met-rows.ensures.below r) c.rows_met-rows.ensures.above
+          (λ r l m. subst (λ (t : Span). AreSetIn t f r (r * c.args.lines.row_step) c.args.lines.step bits) same
+          (c.note_met_lines.ensures.notes.noted r l m));
+      gained = grind (arith, c.bounds_of-bounded.ensures.piece, c.note_met_lines.ensures.notes);
+    }
 
-pub returns-then-not-has_columns-clause-gained : goal.returns-then-not-has_columns-clause-gained
-returns-then-not-has_columns-clause-gained c = grind (arith, c.bounds_of-bounded.ensures.piece, c.note_met_lines.ensures.gained)
-
-pub returns-clause-noted : goal.returns-clause-noted
-returns-clause-noted c =
+pub returns-clause-notes : goal.returns-clause-notes
+returns-clause-notes c =
     let f = c.args.lines.frame in
     let s = span_of c.bounds_of-bounded.result.piece in
     let rows = c.rows_met-rows.result in
     let inner = c.rows_between-inner.result in
     let step = c.args.lines.step in
     let last = c.note_met_lines-3.new.bits in
-    let k2 = c.note_met_lines-3.ensures.gained.kept in
+    let k2 = c.note_met_lines-3.ensures.notes.gained.kept in
     let same = ap span_of c.bounds_of-bounded.ensures.piece in
-    λ r o. all_rows_set (span_of c.args.piece.now) f 0 rows.first rows.end f.height c.args.lines.row_step step last
-    (λ r l. c.rows_met-rows.ensures.below r) c.rows_met-rows.ensures.above
-    (λ r l m. subst (λ (t : Span). AreSetIn t f r (r * c.args.lines.row_step) step last) same
-    (rows_three (λ q. AreSetIn s f q (q * c.args.lines.row_step) step last) rows.first inner.first inner.end rows.end
-    (λ q a b. in_kept s f q (q * c.args.lines.row_step) step c.note_met_lines-2.new.bits last
-    (kept_both _ _ _ c.note_passed_lines.ensures.gained.kept k2)
-    (set_in s f q (q * c.args.lines.row_step) step _ (c.note_met_lines-2.ensures.noted q a b)))
-    (λ q a b. in_kept s f q (q * c.args.lines.row_step) step c.note_passed_lines.new.bits last k2
-    (c.note_passed_lines.ensures.noted q a b))
-    (λ q a b. set_in s f q (q * c.args.lines.row_step) step last (c.note_met_lines-3.ensures.noted q a b)) r l m)) r (omega arith) o
-
-pub returns-clause-gained : goal.returns-clause-gained
-returns-clause-gained c =
-    grind (
-      arith,
-      c.bounds_of-bounded.ensures,
-      c.note_met_lines-2.ensures,
-      c.note_passed_lines.ensures,
-      c.note_met_lines-3.ensures,
-      gain_both,
-    )
+    record {
+      noted = all_rows_set (span_of c.args.piece.now) f 0 rows.first rows.end f.height c.args.lines.row_step step last
+          (λ r l. c.rows_met-rows.ensures.below r) c.rows_met-rows.ensures.above
+          (λ r l m. subst (λ (t : Span). AreSetIn t f r (r * c.args.lines.row_step) step last) same
+          (rows_three (λ q. AreSetIn s f q (q * c.args.lines.row_step) step last) rows.first inner.first inner.end rows.end
+          (λ q a b. in_kept s f q (q * c.args.lines.row_step) step c.note_met_lines-2.new.bits last
+          (kept_both _ _ _ c.note_passed_lines.ensures.notes.gained.kept k2) (c.note_met_lines-2.ensures.notes.noted q a b))
+          (λ q a b. in_kept s f q (q * c.args.lines.row_step) step c.note_passed_lines.new.bits last k2
+          (c.note_passed_lines.ensures.notes.noted q a b))
+          c.note_met_lines-3.ensures.notes.noted r l m));
+      gained = grind (
+        arith,
+        c.bounds_of-bounded.ensures,
+        c.note_met_lines-2.ensures,
+        c.note_passed_lines.ensures,
+        c.note_met_lines-3.ensures,
+        gain_both,
+      );
+    }

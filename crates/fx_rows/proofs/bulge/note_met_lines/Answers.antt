@@ -1,7 +1,7 @@
 use Rattle.std.proofs.Common.{◌≡◌, ◌*◌, pos, ◌+ℤ◌, subst, arith}
 use Rattle.fx_rows.specs.inner.Bands.{bounded_span}
-use Rattle.fx_rows.specs.inner.Lines.{GainOnly, IsLineBit, IsRowSet, IsRowsBit}
-use Rattle.fx_rows.proofs.Bulges.{rows_kept}
+use Rattle.fx_rows.specs.inner.Lines.{AreSetIn, GainOnly, IsLineBit, IsRowSet, IsRowsBit}
+use Rattle.fx_rows.proofs.Bulges.{in_kept, set_in}
 use Rattle.fx_rows.proofs.Kept.{rows_more, gain_both, gain_more}
 use Rattle.fx_rows.proofs.bulge.note_met_lines.Goals as goal
 
@@ -20,17 +20,19 @@ rows-preserved c =
     let n = c.note_line.ensures.count in
     let m = c.rows.invariant.count in
     record {
-      noted = rows_more (λ r. IsRowSet s f (f.bottom +ℤ pos r) (r * row_step) step now) c.args.rows.first up
-          (λ r l o. rows_kept s f (f.bottom +ℤ pos r) (r * row_step) step c.rows.bits now
-          c.note_line.ensures.gained.kept
-          (c.rows.invariant.noted r l o))
-          (subst (λ z. z) (λ i. IsRowSet s (at.frame i) (at.row i) (at.first i) (at.step i) now) c.note_line.ensures.noted);
-      gained = gain_both (IsRowsBit s f row_step step) _ _ _ c.rows.invariant.gained
-          (gain_more (IsLineBit s f (f.bottom +ℤ pos up) (up * c.args.lines.row_step) c.args.lines.step)
-          (IsRowsBit s f row_step step) c.rows.bits now
-          (λ n h. record { r = up; row = omega (arith, c.requires.rows); line = h })
-          (subst (λ z. z) (λ i. GainOnly (IsLineBit s (at.frame i) (at.row i) (at.first i) (at.step i)) c.rows.bits now)
-          c.note_line.ensures.gained));
+      notes = record {
+        noted = rows_more (λ r. AreSetIn s f r (r * row_step) step now) c.args.rows.first up
+            (λ r l o. in_kept s f r (r * row_step) step c.rows.bits now c.note_line.ensures.gained.kept
+            (c.rows.invariant.notes.noted r l o))
+            (set_in s f up (up * row_step) step now
+            (subst (λ z. z) (λ i. IsRowSet s (at.frame i) (at.row i) (at.first i) (at.step i) now) c.note_line.ensures.noted));
+        gained = gain_both (IsRowsBit s f row_step step) _ _ _ c.rows.invariant.notes.gained
+            (gain_more (IsLineBit s f (f.bottom +ℤ pos up) (up * c.args.lines.row_step) c.args.lines.step)
+            (IsRowsBit s f row_step step) c.rows.bits now
+            (λ n h. record { r = up; row = omega (arith, c.requires.rows); line = h })
+            (subst (λ z. z) (λ i. GainOnly (IsLineBit s (at.frame i) (at.row i) (at.first i) (at.step i)) c.rows.bits now)
+            c.note_line.ensures.gained));
+      };
       count = omega (arith, n, m);
     }
 

@@ -12,5 +12,5 @@ invariant_of-result-2 c = record { order = by (below_or_not c.rows_below-2.resul
         let first = c.rows_below.ensures in
         let under = first.below c.rows_below-2.result l in
         let over = c.rows_below-2.ensures.rest c.rows_below-2.result (omega arith) (omega (arith, l, first.within)) in
-        absurd (omega (arith, signed_linear, under, over, c.if-past-low.false, c.requires.low, c.requires.past))
+        absurd (omega (arith, signed_linear, under, over, c.if-past-low.false, c.requires.0, c.requires.1))
     by (inr l) = l

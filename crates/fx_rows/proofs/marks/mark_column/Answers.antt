@@ -3,9 +3,9 @@ use Rattle.std.specs.Prelude.{◌==◌}
 use Rattle.fx_rows.proofs.Marking.{marked}
 use Rattle.fx_rows.proofs.marks.mark_column.Goals as goal
 
-pub returns-clause-row : goal.returns-clause-row
-returns-clause-row c = grind (arith, c.across.ensures.at, c.set_bit.ensures.here, c.set_bit.ensures.others, marked)
-
-pub returns-clause-under : goal.returns-clause-under
-returns-clause-under c = λ n h.
-    let ne : n ≢ c.args.from + c.across.result = omega arith in ap (λ (b : ℕ). b == 1) (c.set_bit.ensures.others n ne)
+pub returns : goal.returns
+returns c = record {
+  row = grind (arith, c.across.ensures.at, c.set_bit.ensures.here, c.set_bit.ensures.others, marked);
+  under = λ n h.
+      let ne : n ≢ c.args.from + c.across.result = omega arith in ap (λ (b : ℕ). b == 1) (c.set_bit.ensures.others n ne);
+}

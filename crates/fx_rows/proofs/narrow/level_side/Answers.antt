@@ -23,8 +23,8 @@ returns-then-weight-lt0 c =
     c.turned-weight.ensures.value in
     let low : w <ℤ pos 0 = omega (arith, signed_linear, c.turned-weight.ensures.size) in
     record {
-      narrowed = narrowed_beyond (span_of s) c.args.strip c.cut_of.result c.requires.bent (λ k.
-          let q = level_weight s c.args.b c.args.strip c.args.areas w c.requires.middle c.requires.areas c.requires.level e k in
+      narrowed = narrowed_beyond (span_of s) c.args.strip c.cut_of.result c.requires.bent.1 (λ k.
+          let q = level_weight s c.args.b c.args.strip c.args.areas w c.requires.bent.0 c.requires.areas c.requires.level e k in
           omega (arith, signed_linear, q, low)) c.cut_of.ensures;
       sided = sided_empty (span_of s) c.cut_of.result (omega (arith, c.cut_of.ensures.low, c.cut_of.ensures.stop));
     }
@@ -38,8 +38,8 @@ returns-then-weight-gt0 c =
     let high : pos 0 <ℤ w = omega (arith, signed_linear, c.turned-weight.ensures.size) in
     record {
       narrowed = narrowed_same (span_of s) c.args.strip;
-      sided = sided_above (span_of s) c.args.strip c.requires.bent (λ k.
-          let q = level_weight s c.args.b c.args.strip c.args.areas w c.requires.middle c.requires.areas c.requires.level e k in
+      sided = sided_above (span_of s) c.args.strip c.requires.bent.1 (λ k.
+          let q = level_weight s c.args.b c.args.strip c.args.areas w c.requires.bent.0 c.requires.areas c.requires.level e k in
           omega (arith, signed_linear, q, high));
     }
 
@@ -52,8 +52,9 @@ returns-then-piece-b c =
     let none : w ≡ pos 0 = omega (arith, signed_linear, c.turned-weight.ensures.size) in
     record {
       narrowed = narrowed_same (span_of s) c.args.strip;
-      sided = sided_level s c.args.b c.args.strip c.requires.bent c.requires.middle c.requires.level (omega (arith, signed_linear))
-          (λ k. level_weight s c.args.b c.args.strip c.args.areas w c.requires.middle c.requires.areas c.requires.level e k ∙ none);
+      sided = sided_level s c.args.b c.args.strip c.requires.bent.1 c.requires.bent.0 c.requires.level
+          (omega (arith, signed_linear))
+          (λ k. level_weight s c.args.b c.args.strip c.args.areas w c.requires.bent.0 c.requires.areas c.requires.level e k ∙ none);
     }
 
 pub returns : goal.returns
@@ -65,7 +66,7 @@ returns c =
     let none : w ≡ pos 0 = omega (arith, signed_linear, c.turned-weight.ensures.size) in
     record {
       narrowed = narrowed_same (span_of s) c.args.strip;
-      sided = sided_on_level s c.args.b c.args.strip c.requires.bent c.requires.middle c.requires.level
+      sided = sided_on_level s c.args.b c.args.strip c.requires.bent.1 c.requires.bent.0 c.requires.level
           (omega (arith, signed_linear))
-          (λ k. level_weight s c.args.b c.args.strip c.args.areas w c.requires.middle c.requires.areas c.requires.level e k ∙ none);
+          (λ k. level_weight s c.args.b c.args.strip c.args.areas w c.requires.bent.0 c.requires.areas c.requires.level e k ∙ none);
     }

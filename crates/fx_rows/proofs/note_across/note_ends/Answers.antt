@@ -46,11 +46,10 @@ rows-preserved c =
       };
     } in
     record {
-      noted = rows_more (IsNotedAcross s f now) p.met.inner.first row
-          (λ r l m. across_kept s f r old now kept (c.rows.invariant.noted r l m)) here;
-      gained = gain_both (IsAcrossBit s f) _ _ _ c.rows.invariant.gained
-          (record { kept = kept; only = only_one (IsAcrossBit s f) old now _ new c.set_bit.ensures.others });
+      notes = record {
+        noted = rows_more (IsNotedAcross s f now) p.met.inner.first row
+            (λ r l m. across_kept s f r old now kept (c.rows.invariant.notes.noted r l m)) here;
+        gained = gain_both (IsAcrossBit s f) _ _ _ c.rows.invariant.notes.gained
+            (record { kept = kept; only = only_one (IsAcrossBit s f) old now _ new c.set_bit.ensures.others });
+      };
     }
-
-pub returns-clause-noted : goal.returns-clause-noted
-returns-clause-noted c = λ r l m. c.rows.invariant.noted r l (omega (arith, m))

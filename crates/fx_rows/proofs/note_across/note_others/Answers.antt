@@ -2,7 +2,7 @@ use Rattle.std.proofs.Common.{◌≡◌, ◌*◌, ℕ, length, ap, subst, arith}
 use Rattle.fx_winding.specs.Notes.{words_noted}
 use Rattle.fx_winding.specs.Winding.{span_of}
 use Rattle.fx_rows.specs.inner.Lines.{AreSetIn}
-use Rattle.fx_rows.proofs.Bulges.{across_set, set_in}
+use Rattle.fx_rows.proofs.Bulges.{across_set}
 use Rattle.fx_rows.proofs.Kept.{gain_both}
 use Rattle.fx_rows.proofs.NotedSegments.{across_kept, row_room}
 use Rattle.fx_rows.proofs.note_across.note_others.Goals as goal
@@ -21,35 +21,37 @@ note_met_lines-requires-2-clause-room c = λ r l.
     c.requires.room in
     omega (arith, room)
 
+pub returns-clause-above : goal.returns-clause-above
+returns-clause-above c =
+    let f = c.args.placed.frame in
+    let row : 32 * c.words_noted.result ≡ 32 * words_noted f.width = ap (λ (w : ℕ). 32 * w) c.words_noted.ensures in
+    record {
+      noted = λ r l m. across_set (span_of c.args.piece.now) f r c.note_met_lines-2.new.bits (subst (λ z. z)
+          (λ i. AreSetIn (span_of (c.bounds_of-bounded.ensures.piece i)) f r (r * row i) 1 c.note_met_lines-2.new.bits)
+          (c.note_met_lines-2.ensures.notes.noted r l m));
+      gained = grind (
+        arith,
+        c.words_noted.ensures,
+        c.bounds_of-bounded.ensures,
+        c.note_met_lines.ensures,
+        c.note_met_lines-2.ensures,
+        gain_both,
+      );
+    }
+
 pub returns-clause-below : goal.returns-clause-below
-returns-clause-below c = λ r l m.
+returns-clause-below c =
     let f = c.args.placed.frame in
     let s = span_of c.args.piece.now in
     let row : 32 * c.words_noted.result ≡ 32 * words_noted f.width = ap (λ (w : ℕ). 32 * w) c.words_noted.ensures in
-    across_kept s f r c.note_met_lines.new.bits c.note_met_lines-2.new.bits c.note_met_lines-2.ensures.gained.kept
-    (across_set s f r c.note_met_lines.new.bits (subst (λ z. z) (λ i. AreSetIn (span_of (c.bounds_of-bounded.ensures.piece i)) f r
-    (r * row i) 1 c.note_met_lines.new.bits) (set_in (span_of c.bounds_of-bounded.result.piece) f r
-    (r * (32 * c.words_noted.result)) 1 c.note_met_lines.new.bits (c.note_met_lines.ensures.noted r l m))))
-
-pub returns-clause-above : goal.returns-clause-above
-returns-clause-above c = λ r l m.
-    let f = c.args.placed.frame in
-    let row : 32 * c.words_noted.result ≡ 32 * words_noted f.width = ap (λ (w : ℕ). 32 * w) c.words_noted.ensures in
-    across_set (span_of c.args.piece.now) f r c.note_met_lines-2.new.bits (subst (λ z. z)
-    (λ i. AreSetIn (span_of (c.bounds_of-bounded.ensures.piece i)) f r (r * row i) 1 c.note_met_lines-2.new.bits)
-    (set_in (span_of c.bounds_of-bounded.result.piece) f r (r * (32 * c.words_noted.result)) 1 c.note_met_lines-2.new.bits
-    (c.note_met_lines-2.ensures.noted r l m)))
-
-pub returns-clause-gained : goal.returns-clause-gained
-returns-clause-gained c =
-    grind (
-      arith,
-      c.words_noted.ensures,
-      c.bounds_of-bounded.ensures,
-      c.note_met_lines.ensures,
-      c.note_met_lines-2.ensures,
-      gain_both,
-    )
+    record {
+      noted = λ r l m.
+          across_kept s f r c.note_met_lines.new.bits c.note_met_lines-2.new.bits c.note_met_lines-2.ensures.notes.gained.kept
+          (across_set s f r c.note_met_lines.new.bits (subst (λ z. z)
+          (λ i. AreSetIn (span_of (c.bounds_of-bounded.ensures.piece i)) f r (r * row i) 1 c.note_met_lines.new.bits)
+          (c.note_met_lines.ensures.notes.noted r l m)));
+      gained = (returns-clause-above c).gained;
+    }
 
 pub returns-clause-count : goal.returns-clause-count
 returns-clause-count c = grind (arith, c.note_met_lines.ensures.count, c.note_met_lines-2.ensures.count)

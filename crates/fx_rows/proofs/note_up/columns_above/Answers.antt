@@ -3,17 +3,14 @@ use Rattle.fx_winding.specs.Winding.{span_of}
 use Rattle.fx_rows.specs.inner.Heights.{height_of}
 use Rattle.fx_rows.specs.inner.Points.{IsInner}
 use Rattle.fx_rows.specs.inner.Upward.{IsPassing}
-use Rattle.fx_rows.proofs.Upward.{hanging, last_row, one_each, row_own}
+use Rattle.fx_rows.proofs.Upward.{hanging, last_row, one_each, goes_to, row_own}
 use Rattle.fx_rows.proofs.note_up.columns_above.Goals as goal
 
-pub returns-then-ends_in-clause-columns : goal.returns-then-ends_in-clause-columns
-returns-then-ends_in-clause-columns c = c.head_columns.ensures.at.within
-
 pub returns-then-ends_in-clause-to : goal.returns-then-ends_in-clause-to
-returns-then-ends_in-clause-to c = λ from comes.
+returns-then-ends_in-clause-to c =
     let p = c.args.placed in
-    comes c.head_columns.result (inr (
-      hanging (span_of c.args.piece.now) (p.frame.bottom +ℤ pos p.met.inner.end) c.requires.plain c.requires.off
+    goes_to _ _ _ _ (inr (
+      hanging (span_of c.args.piece.now) (p.frame.bottom +ℤ pos p.met.inner.end) c.requires.plain
           (c.ends_in.ensures.under c.if-ends_in.true),
       c.head_columns.ensures,
     ))
@@ -30,10 +27,7 @@ columns_passed-requires-clause-inner c =
     (sym (row_own c.row_above.ensures.value c.row_above.ensures.near))
     (one_each s (height_of p.frame p.met.inner.end) (c.requires.under last) over)
 
-pub returns-clause-columns : goal.returns-clause-columns
-returns-clause-columns c = c.columns_passed.ensures.passing.is.within
-
 pub returns-clause-to : goal.returns-clause-to
-returns-clause-to c = λ from comes. comes c.columns_passed.result
+returns-clause-to c = goes_to _ _ _ _
     (inl (subst (λ (z : ℤ). IsPassing (span_of c.args.piece.now) c.args.placed.frame z c.columns_passed.result)
     (row_own c.row_above.ensures.value c.row_above.ensures.near) c.columns_passed.ensures.passing))

@@ -13,10 +13,7 @@ returns-then-starts_in-clause-from c =
     let under = level_under s p.frame p.rows.first first (omega (arith, p.first, p.met.from))
     (c.starts_in.ensures.over c.if-starts_in.true) c.requires.placed.met.under in
     comes_from s p.frame first c.foot_columns.result c.requires.plain
-    (inr (resting s ((p.frame.bottom -ℤ pos 1) +ℤ pos first) c.requires.plain c.requires.off under, c.foot_columns.ensures))
-
-pub returns-then-starts_in-clause-columns : goal.returns-then-starts_in-clause-columns
-returns-then-starts_in-clause-columns c = c.foot_columns.ensures.at.within
+    (inr (resting s ((p.frame.bottom -ℤ pos 1) +ℤ pos first) c.requires.plain under, c.foot_columns.ensures))
 
 pub columns_passed-requires-clause-inner : goal.columns_passed-requires-clause-inner
 columns_passed-requires-clause-inner c =
@@ -36,6 +33,3 @@ returns-clause-from c =
     (comes_from s p.frame p.rows.first c.columns_passed.result c.requires.plain
     (inl (subst (λ (z : ℤ). IsPassing s p.frame z c.columns_passed.result)
     (row_own c.row_below.ensures.value c.row_below.ensures.near) c.columns_passed.ensures.passing)))
-
-pub returns-clause-columns : goal.returns-clause-columns
-returns-clause-columns c = c.columns_passed.ensures.passing.is.within

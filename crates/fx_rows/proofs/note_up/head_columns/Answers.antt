@@ -10,7 +10,7 @@ columns_at-requires c =
     let x = c.head_x.result in
     let same : to_z w32 (of_z w32 x) ≡ x = omega (arith, signed_linear, c.head_x.ensures.near) in
     let near = subst (IsNear c.args.placed.frame) (sym same) (head_near (span_of c.args.piece.now) c.args.placed c.requires x
-    (record { rising = c.head_x.ensures.rising; falling = c.head_x.ensures.falling })) in
+    c.head_x.ensures.head) in
     record {
       near = rw same c.head_x.ensures.near;
       left = near.left;
@@ -22,6 +22,6 @@ returns c =
     let same : to_z w32 (of_z w32 c.head_x.result) ≡ c.head_x.result = omega (arith, signed_linear, c.head_x.ensures.near) in
     record {
       x = c.head_x.result;
-      is = record { rising = c.head_x.ensures.rising; falling = c.head_x.ensures.falling };
+      is = c.head_x.ensures.head;
       at = subst (λ (x : ℤ). AreAt c.args.placed.frame x c.columns_at.result) same c.columns_at.ensures;
     }

@@ -11,7 +11,7 @@ use Rattle.fx_rows.proofs.Upward.{comes_from, row_next}
 use Rattle.fx_rows.proofs.note_up.note_passage.Goals as goal
 
 pub rows-init : goal.rows-init
-rows-init c = grind (arith, c.requires.columns, c.requires.from)
+rows-init c = grind (arith, c.requires.from)
 
 pub bounds-ends-at : goal.bounds-ends-at
 bounds-ends-at c = (end_told c.args.ends.now (span_of c.args.piece.now) c.args.placed c.requires.placed c.requires.told c.rows.row
@@ -19,7 +19,7 @@ bounds-ends-at c = (end_told c.args.ends.now (span_of c.args.piece.now) c.args.p
 
 pub note_columns-requires-clause-columns : goal.note_columns-requires-clause-columns
 note_columns-requires-clause-columns c =
-    grind (arith, c.requires.placed, c.requires.told, c.rows.invariant.columns, c.joined.ensures.end, end_told)
+    grind (arith, c.requires.placed, c.requires.told, c.rows.invariant.from.within, c.joined.ensures.end, end_told)
 
 pub rows-preserved : goal.rows-preserved
 rows-preserved c =
@@ -33,23 +33,21 @@ rows-preserved c =
     let high : Reach = record { first = end; end = end } in
     let passing : IsPassing s f (f.bottom +ℤ pos row) high = record { inner = inner; same = refl; is = is } in
     let level : IsLevel s f row c.joined.result.first c.joined.result.end =
-    rw (c.joined.ensures.first, c.joined.ensures.end) (c.rows.invariant.from high (inl passing)) in
+    rw (c.joined.ensures.first, c.joined.ensures.end) (c.rows.invariant.from.level high (inl passing)) in
     let now = c.note_columns.new.up in
     record {
-      columns = is.within;
       from = comes_from s f (row + 1) high c.requires.plain
           (inl (subst (λ (y : ℤ). IsPassing s f y high) (row_next f row) passing));
-      noted = rows_more (IsNotedUp s f now) p.met.inner.first row
-          (λ r l m. up_kept s f r c.rows.up now c.note_columns.ensures.kept (c.rows.invariant.noted r l m))
-          (c.note_columns.ensures.noted s level.within);
-      gained = gain_both (IsUpBit s f) _ _ _ c.rows.invariant.gained
-          (record { kept = c.note_columns.ensures.kept; only = c.note_columns.ensures.only s level.all });
+      notes = record {
+        noted = rows_more (IsNotedUp s f now) p.met.inner.first row
+            (λ r l m. up_kept s f r c.rows.up now c.note_columns.ensures.kept (c.rows.invariant.notes.noted r l m))
+            (c.note_columns.ensures.noted s level.within);
+        gained = gain_both (IsUpBit s f) _ _ _ c.rows.invariant.notes.gained
+            (record { kept = c.note_columns.ensures.kept; only = c.note_columns.ensures.only s level.all });
+      };
     }
 
 pub returns-clause-from : goal.returns-clause-from
 returns-clause-from c =
     let done : c.rows.row ≡ c.args.placed.met.inner.end = omega (arith, c.args.placed.met.inner.order) in
     subst (λ (r : ℕ). ComesFrom (span_of c.args.piece.now) c.args.placed.frame r c.rows.low) done c.rows.invariant.from
-
-pub returns-clause-noted : goal.returns-clause-noted
-returns-clause-noted c = λ r l m. c.rows.invariant.noted r l (omega (arith, m))

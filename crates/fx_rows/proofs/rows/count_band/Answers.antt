@@ -30,34 +30,30 @@ add_piece-met-requires g c =
       small = λ k. let e = c.pieces.invariant.small k in (omega (arith, signed_linear, e, l), omega (arith, signed_linear, e, l));
     }
 
-pub note-requires-clause-met : goal.note-requires-clause-met
-note-requires-clause-met g c =
-    c.met_in_frame.ensures (span_of c.piece-item.result) c.args.frame c.args.band.now.frame c.requires.part
-    (subst (λ (f : Frame). AreMet (span_of c.piece-item.result) f c.add_piece-met.result) c.pieces.invariant.frame
-    c.add_piece-met.ensures.met)
-
-pub note-requires-clause-told : goal.note-requires-clause-told
-note-requires-clause-told g c =
-    let s = span_of c.piece-item.result in
-    let T = g.N.Noting.IsTold c.add_piece-met.new.noter in
-    told_in_frame T s c.args.frame c.args.band.now.frame c.args.rows.first c.args.rows.end c.requires.part
-    (subst (λ (f : Frame). AreRowsTold T s f 0 f.height) c.pieces.invariant.frame c.add_piece-met.ensures.added.told)
-
-pub note-requires-clause-frame : goal.note-requires-clause-frame
-note-requires-clause-frame g c =
-    c.add_piece-met.ensures.kept (of_frame c.args.frame) (c.pieces.invariant.kept _ (λ k d l. tt) c.requires.of)
-
-pub note-requires-clause-before : goal.note-requires-clause-before
-note-requires-clause-before g c =
-    let spans = map span_of c.args.pieces.now in
+pub note-requires : goal.note-requires
+note-requires g c =
+    let f = c.args.frame in
     let here = c.pieces.piece-index in
+    let spans = map span_of c.args.pieces.now in
     let piece = c.piece-item.result in
     let s = span_of piece in
+    let T = g.N.Noting.IsTold c.add_piece-met.new.noter in
     let inside : here < length spans = omega (arith, length-map c.args.pieces.now span_of) in
     let is : get_or spans here s ≡ s = get_or-map span_of c.args.pieces.now here piece ∙ sym (ap span_of c.piece-item.is) in
-    rows_also _ _ s c.args.rows.first
-    (λ t w r h. c.add_piece-met.ensures.kept (noted t w r) (c.pieces.invariant.kept (noted t w r) (λ k d l. tt) h))
-    (subst (λ t. AreRowsNoted (g.N.Noting.Says c.args.noter.now) t c.args.rows.first) is (c.requires.before here s inside))
+    let kept = c.add_piece-met.ensures.kept in
+    record {
+      frame = kept (of_frame f) (c.pieces.invariant.kept _ (λ k d l. tt) c.requires.of);
+      near = grind (arith, c.requires.near, c.piece-item.is);
+      within = c.requires.part.within;
+      some = c.requires.some;
+      met = c.met_in_frame.ensures s f c.args.band.now.frame c.requires.part
+          (subst (λ (x : Frame). AreMet s x c.add_piece-met.result) c.pieces.invariant.frame c.add_piece-met.ensures.met);
+      told = told_in_frame T s f c.args.band.now.frame c.args.rows.first c.args.rows.end c.requires.part
+          (subst (λ (x : Frame). AreRowsTold T s x 0 x.height) c.pieces.invariant.frame c.add_piece-met.ensures.added.told);
+      before = rows_also _ _ s c.args.rows.first
+          (λ t w r h. kept (noted t w r) (c.pieces.invariant.kept (noted t w r) (λ k d l. tt) h))
+          (subst (λ t. AreRowsNoted (g.N.Noting.Says c.args.noter.now) t c.args.rows.first) is (c.requires.before here s inside));
+    }
 
 pub pieces-preserved : goal.pieces-preserved
 pieces-preserved g c =
@@ -113,8 +109,11 @@ pub returns-clause-counted : goal.returns-clause-counted
 returns-clause-counted g c =
     grind (arith, signed_linear, c.pieces.invariant, length-map, counted_all)
 
-pub returns-clause-noted : goal.returns-clause-noted
-returns-clause-noted g c = grind (arith, c.pieces.invariant.noted, length-map, take_all)
+pub returns-clause-notes : goal.returns-clause-notes
+returns-clause-notes g c = record {
+  kept = c.pieces.invariant.kept;
+  noted = grind (arith, c.pieces.invariant.noted, length-map, take_all);
+}
 
 pub returns-clause-small : goal.returns-clause-small
 returns-clause-small g c = λ n. by n
@@ -141,9 +140,6 @@ returns-clause-small g c = λ n. by n
 
 pub returns-clause-count : goal.returns-clause-count
 returns-clause-count g c = grind (arith, c.pieces.invariant.count)
-
-pub returns-clause-kept : goal.returns-clause-kept
-returns-clause-kept g c = c.pieces.invariant.kept
 
 pub returns-clause-touched : goal.returns-clause-touched
 returns-clause-touched g c = c.pieces.invariant.touched

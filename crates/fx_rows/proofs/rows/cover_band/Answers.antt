@@ -1,4 +1,4 @@
-use Rattle.std.proofs.Common.{◌≡◌, ◌∙◌, ℕ, ◌+◌, ◌*◌, ◌↔◌, subst, sym, ap, pos, ◌+ℤ◌, map, arith, ℤ, List, length}
+use Rattle.std.proofs.Common.{◌≡◌, ◌∙◌, ℕ, ◌+◌, ◌*◌, ◌<◌, ◌↔◌, subst, sym, ap, pos, ◌+ℤ◌, map, arith, ℤ, List, length}
 use Rattle.std.specs.Vec.{with_items}
 use Rattle.std.proofs.lemmas.List.{with_items_is}
 use Rattle.fx_winding.specs.Bitmaps.{words_for, word_bit}
@@ -31,39 +31,31 @@ returns-clause-clear g c =
       past_marks,
     )
 
-pub returns-clause-bits : goal.returns-clause-bits
-returns-clause-bits g c = λ r k h l.
+pub returns-clause-covered : goal.returns-clause-covered
+returns-clause-covered g c =
     let b = c.count_band.new.band in
     let f = c.args.band.now.frame in
-    let n = r * stride f.width + k in
-    let frame = c.count_band.ensures.frame in
+    let counted = c.count_band.ensures.counted in
     let room : length b.marks.items ≡ f.height * words_for f.width + 1 =
-    b.room ∙ ap (λ (x : Frame). x.height * words_for x.width + 1) frame in
+    b.room ∙ ap (λ (x : Frame). x.height * words_for x.width + 1) c.count_band.ensures.frame in
     let long : length c.deref_mut-3.result.now ≡ length b.marks.items = ap length c.deref_mut-3.ensures.value in
-    let inside = number_in r f.height f.width k (length b.marks.items) h (omega (arith, l)) room in
-    let whole = settled_bit (with_items b.marks c.settle.new.line).items c.settle.new.line c.deref_mut-3.result.now b.marks.items
-    c.deref_mut.result.now b.diff.items n (with_items_is b.marks c.settle.new.line (omega arith)) c.deref_mut-3.ensures.value
-    c.deref_mut.ensures.value (c.settle.ensures.bits n (omega (arith, inside, long))) in
-    let p = centre (f.left +ℤ pos k) (f.bottom +ℤ pos r) in
-    let spans = map span_of c.args.pieces.now in
-    let set = bit_covered p spans (before (n + 1) b.diff.items) (word_bit b.marks.items n)
-    (c.count_band.ensures.counted.turns r k h l) (c.count_band.ensures.counted.marks r k h l) in
-    subst (λ (x : ℕ). (x ≡ 1) ↔ IsCovered p spans) (sym whole) set
-
-pub returns-clause-unused : goal.returns-clause-unused
-returns-clause-unused g c = λ r k h w l.
-    let b = c.count_band.new.band in
-    let f = c.args.band.now.frame in
-    let n = r * stride f.width + k in
-    let frame = c.count_band.ensures.frame in
-    let room : length b.marks.items ≡ f.height * words_for f.width + 1 =
-    b.room ∙ ap (λ (x : Frame). x.height * words_for x.width + 1) frame in
-    let long : length c.deref_mut-3.result.now ≡ length b.marks.items = ap length c.deref_mut-3.ensures.value in
-    let inside = number_in r f.height f.width k (length b.marks.items) h (l) room in
-    let whole = settled_bit (with_items b.marks c.settle.new.line).items c.settle.new.line c.deref_mut-3.result.now b.marks.items
-    c.deref_mut.result.now b.diff.items n (with_items_is b.marks c.settle.new.line (omega arith)) c.deref_mut-3.ensures.value
-    c.deref_mut.ensures.value (c.settle.ensures.bits n (omega (arith, inside, long))) in
-    let beside = after_last f.width f.height r k w l in
-    let none = c.count_band.ensures.counted.rest n beside in
-    let off = bit_off b.marks.items n (c.count_band.ensures.counted.unused n beside) in
-    whole ∙ (λ i. count_bit (none i) (off i))
+    let whole : (r k : ℕ) → r < f.height → k < stride f.width → word_bit (with_items b.marks c.settle.new.line).items
+    (r * stride f.width + k) ≡ count_bit (before (r * stride f.width + k + 1) b.diff.items)
+    (word_bit b.marks.items (r * stride f.width + k)) = λ r k h l.
+    let inside = number_in r f.height f.width k (length b.marks.items) h l room in
+    settled_bit (with_items b.marks c.settle.new.line).items c.settle.new.line c.deref_mut-3.result.now b.marks.items
+    c.deref_mut.result.now b.diff.items (r * stride f.width + k) (with_items_is b.marks c.settle.new.line (omega arith))
+    c.deref_mut-3.ensures.value c.deref_mut.ensures.value
+    (c.settle.ensures.bits (r * stride f.width + k) (omega (arith, inside, long))) in
+    record {
+      bits = λ r k h l.
+          let p = centre (f.left +ℤ pos k) (f.bottom +ℤ pos r) in
+          let spans = map span_of c.args.pieces.now in
+          subst (λ (x : ℕ). (x ≡ 1) ↔ IsCovered p spans) (sym (whole r k h (omega (arith, l))))
+          (bit_covered p spans _ _ (counted.turns r k h l) (counted.marks r k h l));
+      unused = λ r k h w l.
+          let beside = after_last f.width f.height r k w l in
+          let none = counted.rest _ beside in
+          let off = bit_off b.marks.items _ (counted.unused _ beside) in
+          whole r k h l ∙ (λ i. count_bit (none i) (off i));
+    }

@@ -61,7 +61,7 @@ bands-preserved g c =
     ap (λ (y : Frame). take (y.height * words_for y.width) b.marks.items) frame in
     let scanned = scanned_band (map span_of c.as_slice.result.now) f x c.bands.from c.band_end.result b.marks.items
     c.bands.words.items (take (b.frame.height * words_for b.frame.width) b.marks.items) _ part is room
-    c.cover_band.ensures.bits c.cover_band.ensures.unused c.in_ok-words-2.ensures
+    c.cover_band.ensures.covered.bits c.cover_band.ensures.covered.unused c.in_ok-words-2.ensures
     (subst (λ (ps : List Piece). AreScanned (map span_of ps) f.left f.bottom f.width c.bands.from c.bands.words.items) (sym same)
     c.bands.invariant.scanned) in
     let count = bands_more c.args.tally.now.count c.bands.tally.count c.cover_band.new.tally.count (12 + g.N.Noting.tests)

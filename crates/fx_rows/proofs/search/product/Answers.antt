@@ -8,10 +8,10 @@ pub returns-clause-value : goal.returns-clause-value
 returns-clause-value c =
     let a : to_z w128 (of_z w128 c.from.result) ≡ c.args.a = omega (arith, signed_linear) in
     let b : to_z w128 (of_z w128 c.from-2.result) ≡ c.args.b = omega (arith, signed_linear) in
-    let small = product_within (2 ^ 56) (2 ^ 56) c.args.a c.args.b c.requires.near_a c.requires.near_b in
+    let small = product_within (2 ^ 56) (2 ^ 56) c.args.a c.args.b c.requires.0 c.requires.1 in
     let e : to_z w128 (of_z w128 (c.args.a *ℤ c.args.b)) ≡ c.args.a *ℤ c.args.b = omega (arith, signed_linear, small) in
     rw (a, b) e
 
 pub returns-clause-size : goal.returns-clause-size
 returns-clause-size c =
-    rw (returns-clause-value c) (product_within (2 ^ 56) (2 ^ 56) c.args.a c.args.b c.requires.near_a c.requires.near_b)
+    rw (returns-clause-value c) (product_within (2 ^ 56) (2 ^ 56) c.args.a c.args.b c.requires.0 c.requires.1)

@@ -9,7 +9,7 @@ returns c =
     let k = trailing_zeros w32 c.args.word in
     let t = bit_at-trailing_zeros w32 c.args.word c.requires c.ranges.word.fits in
     record {
-      before = λ k set low i h. first_gone k c.args.word i low set h;
-      rest = λ k set low i h. first_rest k c.args.word i low set h;
+      before = λ k i first h. first_gone k c.args.word i first.before first.set h;
+      rest = λ k i first h. first_rest k c.args.word i first.before first.set h;
       less = fewer c.args.word (c.args.word - 1) k t.1 (first_gone k c.args.word k t.2 t.1 (omega arith));
     }

@@ -1,13 +1,11 @@
-use Rattle.std.proofs.Common.{◌≡◌, ◌∙◌, ap, ◌^◌, ℤ, pos, ◌-ℤ◌, neg_ℤ, arith, to_z, of_z, FitsSigned}
+use Rattle.std.proofs.Common.{◌∙◌, ap, ◌^◌, ℤ, pos, ◌-ℤ◌, neg_ℤ, arith, to_z, of_z, FitsSigned}
 use Rattle.fx_fixed.proofs.Linear.{signed_linear}
 use Rattle.fx_fixed.specs.Ranges.{IsWithin}
 use Rattle.fx_winding.specs.Meets.{slope}
 use Rattle.fx_winding.specs.Winding.{place_of}
+use Rattle.fx_rows.proofs.Values.{negated_within}
 use Rattle.fx_rows.proofs.tip.falling_slope.Goals as goal
 use mir.Syntax.{w128}
-
-negated : (z : ℤ) → IsWithin (2 ^ 113) z → to_z w128 (of_z w128 (pos 0 -ℤ to_z w128 (of_z w128 z))) ≡ neg_ℤ z
-negated z h = omega (arith, signed_linear)
 
 negated_fits : (z : ℤ) → IsWithin (2 ^ 113) z → FitsSigned w128 (pos 0 -ℤ to_z w128 (of_z w128 z))
 negated_fits z h = omega (arith, signed_linear)
@@ -29,5 +27,5 @@ invariant_of-result c =
 pub returns-clause-start : goal.returns-clause-start
 returns-clause-start c =
     let p = c.args.piece.now in
-    negated c.gap_slope.result c.gap_slope.ensures.size
+    negated_within w128 c.gap_slope.result c.gap_slope.ensures.size (omega arith)
     ∙ ap neg_ℤ (c.gap_slope.ensures.value ∙ ap (slope (place_of p.a) (place_of c.args.b) (place_of p.c)) c.centre_at.ensures)

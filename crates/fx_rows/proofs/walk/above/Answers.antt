@@ -13,4 +13,4 @@ after-requires c =
     c.requires.at.areas c.requires.step (near_column c.args.strip k k c.requires.at.near (omega arith)) (near_above c.args.strip)
 
 pub returns : goal.returns
-returns c = grind (arith, c.requires.at.areas, c.requires.step, c.after.ensures, c.requires.at.near, after_step)
+returns c = grind (arith, c.requires.at, c.requires.step, c.after.ensures, after_step)

@@ -12,14 +12,15 @@ returns c =
     let up = c.up_of.ensures in
     record {
       arc = record {
-        bent = c.requires.bent;
+        bent = c.requires.bent.1;
         turned = c.requires.right;
-        next = step_next s c.args.b c.across_of.result c.turned_areas.result c.requires.middle across.u across.v across.w
+        next = step_next s c.args.b c.across_of.result c.turned_areas.result c.requires.bent.0 across.u across.v across.w
             c.turned_areas.ensures;
-        up = step_up s c.args.b c.up_of.result c.turned_areas-2.result c.requires.middle up.u up.v up.w c.turned_areas-2.ensures;
+        up = step_up s c.args.b c.up_of.result c.turned_areas-2.result c.requires.bent.0 up.u up.v up.w c.turned_areas-2.ensures;
         misses = c.may_touch.ensures (span_of s) (c.args.strip.base +ℤ pos c.args.k) c.args.strip.row c.requires.areas;
       };
       spot = record {
+        slanted = c.requires.slanted;
         areas = sided (span_of s) _ _ c.args.areas c.turned_areas-3.result c.requires.areas c.turned_areas-3.ensures
             (column_place c.args.strip c.args.k);
         near = omega (arith, signed, near);

@@ -1,25 +1,19 @@
-use Rattle.std.proofs.Common.{◌≡◌, ap, sym, ◌∙◌, to_z, of_z, w64, arith}
+use Rattle.std.proofs.Common.{◌≡◌, ◌∙◌, to_z, of_z, w64, arith}
 use Rattle.fx_fixed.proofs.Linear.{signed_linear}
 use Rattle.fx_rows.specs.inner.Sides.{place_at}
-use Rattle.fx_rows.proofs.Gaps.{area_of_areas, total_of_areas}
-use Rattle.fx_rows.proofs.Flats.{is_bent, flat_not_bent}
+use Rattle.fx_rows.proofs.Gaps.{total_of_areas}
+use Rattle.fx_rows.proofs.Flats.{bent_by, flat_by}
 use Rattle.fx_rows.proofs.walk.arc_of.Goals as goal
 
 pub returns-then-total-eq0 : goal.returns-then-total-eq0
 returns-then-total-eq0 c =
-    let p = c.args.piece.now in
-    let whole = area_of_areas p c.args.b (place_at c.args.strip c.args.k) c.args.areas _ c.requires.middle c.requires.areas
-    c.total_of-total.ensures.value in
-    let size = c.total_of-total.ensures.size in
-    let same : to_z w64 (of_z w64 c.total_of-total.result) ≡ c.total_of-total.result = omega (arith, signed_linear, size) in
-    flat_not_bent p c.args.b c.requires.middle (sym whole ∙ sym same ∙ ap (to_z w64) c.if-total-eq0.true)
+    flat_by c.args.piece.now c.args.b (place_at c.args.strip c.args.k) c.args.areas _ c.requires.middle c.requires.areas
+    c.total_of-total.ensures.value c.total_of-total.ensures.size c.if-total-eq0.true
 
 pub is_right-requires-clause-bent : goal.is_right-requires-clause-bent
 is_right-requires-clause-bent c =
-    let p = c.args.piece.now in
-    let whole = area_of_areas p c.args.b (place_at c.args.strip c.args.k) c.args.areas _ c.requires.middle c.requires.areas
-    c.total_of-total.ensures.value in
-    is_bent p c.args.b c.requires.middle (λ z. c.if-total-eq0.false (ap (of_z w64) (whole ∙ z)))
+    (bent_by c.args.piece.now c.args.b (place_at c.args.strip c.args.k) c.args.areas _ c.requires.middle c.requires.areas
+    c.total_of-total.ensures.value c.if-total-eq0.false).1
 
 pub is_right-requires-clause-total : goal.is_right-requires-clause-total
 is_right-requires-clause-total c =
@@ -30,7 +24,5 @@ is_right-requires-clause-total c =
 
 pub arc_at-requires-clause-bent : goal.arc_at-requires-clause-bent
 arc_at-requires-clause-bent c =
-    let p = c.args.piece.now in
-    let whole = area_of_areas p c.args.b (place_at c.args.strip c.args.k) c.args.areas _ c.requires.middle c.requires.areas
-    c.total_of-total.ensures.value in
-    is_bent p c.args.b c.requires.middle (λ z. c.if-total-eq0.false (ap (of_z w64) (whole ∙ z)))
+    bent_by c.args.piece.now c.args.b (place_at c.args.strip c.args.k) c.args.areas _ c.requires.middle c.requires.areas
+    c.total_of-total.ensures.value c.if-total-eq0.false

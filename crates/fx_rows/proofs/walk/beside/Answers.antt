@@ -15,6 +15,7 @@ pub returns-clause-at : goal.returns-clause-at
 returns-clause-at c =
     let base = place_at c.args.strip 0 in
     record {
+      slanted = c.requires.at.slanted;
       areas = after_step (span_of c.args.piece.now) (right_of base c.args.spot.k) (right_of base c.args.k) c.args.spot.areas
           c.args.step c.after.result c.requires.at.areas c.requires.step c.after.ensures;
       near = (near_column c.args.strip c.args.spot.k c.args.k c.requires.at.near c.requires.near).1;

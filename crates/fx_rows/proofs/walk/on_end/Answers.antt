@@ -12,7 +12,7 @@ column_at true end k e l = absurd (cc)
 
 pub on_column-requires-clause-only : goal.on_column-requires-clause-only
 on_column-requires-clause-only c = λ k l m on.
-    let h = c.requires.only k l m on in (column_at c.args.arc.right c.args.end.k k c.if-not-arc-2.true h.0, h.1)
+    let h = c.requires.only k l m on in (column_at c.args.cuts.arc.right c.args.cuts.spot.k k c.if-not-arc-2.true h.0, h.1)
 
 pub returns-then-end-eq0-clause-on : goal.returns-then-end-eq0-clause-on
 returns-then-end-eq0-clause-on c = grind (arith, c.if-not-arc-2.false, c.requires.only, c.if-end-eq0.true, none_on)
@@ -22,5 +22,5 @@ on_column-requires-2-clause-only c = grind (arith, c.requires.only, c.if-not-arc
 
 pub beside-last-requires-clause-step : goal.beside-last-requires-clause-step
 beside-last-requires-clause-step c =
-    step_before (span_of c.args.piece.now) _ c.args.end.k c.args.arc.next c.reversed.result (omega arith) c.requires.arc.next
-    c.reversed.ensures.u c.reversed.ensures.v c.reversed.ensures.w
+    step_before (span_of c.args.piece.now) _ c.args.cuts.spot.k c.args.cuts.arc.next c.reversed.result (omega arith)
+    c.requires.at.arc.next c.reversed.ensures

@@ -6,18 +6,19 @@ use Rattle.fx_rows.proofs.Walks.{step_before}
 use Rattle.fx_rows.proofs.walk.to_end.Goals as goal
 
 pub beside-here-requires-clause-step : goal.beside-here-requires-clause-step
-beside-here-requires-clause-step c = c.requires.arc.next (place_at c.args.strip 0) c.args.spot.k
+beside-here-requires-clause-step c = c.requires.at.arc.next (place_at c.args.strip 0) c.args.cuts.spot.k
 
 pub right-init : goal.right-init
 right-init c =
     let column = c.beside-here.ensures.column in
     record {
       at = c.beside-here.ensures.at;
-      inside = λ j h. c.requires.first j c.args.spot.k (omega (arith, h, column)) (c.is_short.ensures.short c.if-is_short.true).1;
+      inside = λ j h. c.requires.first j c.args.cuts.spot.k (omega (arith, h, column))
+          (c.is_short.ensures.short c.if-is_short.true).1;
     }
 
 pub beside-here-requires-in-right-clause-step : goal.beside-here-requires-in-right-clause-step
-beside-here-requires-in-right-clause-step c = c.requires.arc.next (place_at c.args.strip 0) c.right.here.k
+beside-here-requires-in-right-clause-step c = c.requires.at.arc.next (place_at c.args.strip 0) c.right.here.k
 
 pub right-preserved : goal.right-preserved
 right-preserved c =
@@ -37,14 +38,15 @@ returns-then-is_short-clause-end c = record {
 
 pub left-init : goal.left-init
 left-init c = record {
-  at = c.requires.at;
+  at = c.requires.at.spot;
   outside = λ j h l n. c.is_short.ensures.not (clash c.is_short.result c.if-is_short.false) (omega (arith, h, l))
-      (c.requires.first c.args.spot.k j h n);
+      (c.requires.first c.args.cuts.spot.k j h n);
 }
 
 pub beside-left-requires-clause-step : goal.beside-left-requires-clause-step
-beside-left-requires-clause-step c = step_before (span_of c.args.piece.now) (place_at c.args.strip 0) c.left.here.k c.args.arc.next
-    c.reversed.result (omega arith) c.requires.arc.next c.reversed.ensures.u c.reversed.ensures.v c.reversed.ensures.w
+beside-left-requires-clause-step c =
+    step_before (span_of c.args.piece.now) (place_at c.args.strip 0) c.left.here.k c.args.cuts.arc.next c.reversed.result
+    (omega arith) c.requires.at.arc.next c.reversed.ensures
 
 pub returns-then-counts-clause-end : goal.returns-then-counts-clause-end
 returns-then-counts-clause-end c =

@@ -71,7 +71,7 @@ returns-then-across-clause-noted c =
     rows_noted _ _ s c.args.rows.first c.args.rows.end (λ w r. returns-then-across-clause-kept c (noted s w r) tt)
     c.requires.before (λ r l m. (
       λ h. subst (λ (xs : List ℕ). IsNotedAcross s n.frame xs r)
-          (sym (with_items_is n.across c.note_across.new.across (omega arith))) (c.note_across.ensures.noted r l m),
+          (sym (with_items_is n.across c.note_across.new.across (omega arith))) (c.note_across.ensures.notes.noted r l m),
       λ a. absurd (a (boxed n.frame s c.in-Some.across is)),
     )) (λ r l m. (λ h k w met. absurd (none r k met), λ a q h k w met. absurd (none q k met)))
 
@@ -103,7 +103,7 @@ returns-then-is_bulge-clause-noted c =
     rows_noted _ _ s first c.args.rows.end (λ w r. returns-then-is_bulge-clause-kept c (noted s w r) tt)
     c.requires.before (λ r l m. (
       λ h. subst (λ (xs : List ℕ). IsNotedAcross s n.frame xs r)
-          (sym (with_items_is n.across c.note_across.new.across (omega arith))) (c.note_across.ensures.noted r l m),
+          (sym (with_items_is n.across c.note_across.new.across (omega arith))) (c.note_across.ensures.notes.noted r l m),
       λ a. absurd (a (boxed n.frame s c.in-Some.across is)),
     )) (λ r l m. (up r, λ a. up))
 
@@ -130,10 +130,10 @@ returns-clause-noted c =
     rows_noted _ _ s c.args.rows.first c.args.rows.end (λ w r. returns-clause-kept c (noted s w r) tt)
     c.requires.before (λ r l m. (
       λ h. subst (λ (xs : List ℕ). IsNotedAcross s n.frame xs r)
-          (sym (with_items_is n.across c.note_across.new.across (omega arith))) (c.note_across.ensures.noted r l m),
+          (sym (with_items_is n.across c.note_across.new.across (omega arith))) (c.note_across.ensures.notes.noted r l m),
       λ a. absurd (a is),
     )) (λ r l m. (
       λ h. subst (λ (xs : List ℕ). IsNotedUp s n.frame xs r)
-          (sym (with_items_is n.up c.note_up.new.up (omega arith))) (c.note_up.ensures.noted r l m),
+          (sym (with_items_is n.up c.note_up.new.up (omega arith))) (c.note_up.ensures.notes.noted r l (omega (arith, m))),
       λ a. absurd (elim a [ inl b ↦ clash c.is_bulge.result c.if-is_bulge.false (c.is_bulge.ensures.1 b) | inr lacks ↦ lacks is ]),
     ))
