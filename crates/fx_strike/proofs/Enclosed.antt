@@ -1,6 +1,6 @@
 -- A glyph whose shape lies in a box leaves that box as it is.
 -- Serves `see_drawn`.
-use Rattle.std.proofs.Common.{◌≡◌, refl, sym, ℕ, ◌<◌, ℤ, pos, ◌+ℤ◌, ◌≤ℤ◌, ◌<ℤ◌, Bool, true}
+use Rattle.std.proofs.Common.{◌≡◌, refl, sym, subst, ℕ, ◌<◌, ℤ, pos, ◌+ℤ◌, ◌≤ℤ◌, ◌<ℤ◌, Bool, true}
 use Rattle.std.proofs.Common.{false, ◌||◌, arith}
 use Rattle.std.specs.Prelude.{IsTrue, ◌==◌, if◌then◌else◌}
 use Rattle.std.specs.Int.{int_min, int_max}
@@ -13,7 +13,9 @@ use Rattle.fx_bdf.specs.Glyphs.{Box, HasSides, IsTight, IsPlaced, is_in_box, is_
 use Rattle.fx_bdf.specs.Glyphs.{glyph_bit}
 use Rattle.fx_bdf.proofs.Boxes.{steps_above, parts_of_place, lies_in_box}
 use Rattle.fx_strike.specs.Strike.{Sketch}
+use Rattle.fx_bdf.specs.Text.{glyph_text}
 use Rattle.fx_strike.specs.inner.Drawing.{CanBeDrawn}
+use Rattle.fx_strike.specs.inner.Keeping.{Keeps, KeptBytes}
 use Rattle.fx_strike.specs.inner.Surveying.{AddsSketch, Joins, Has, region_of, Seen}
 
 -- ---- a box that holds the bits of another
@@ -74,6 +76,9 @@ skipped sketch box inside placed h =
     (h.glyph, h.is, sym (joined_kept box h.glyph.box (glyph_bit h.glyph) h.is.tight bits), placed)
 
 -- a character was added
-pub has_added : (sketch : Sketch) (old new : Seen) (box : Box) → Joins sketch old.bounds box → AddsSketch sketch box old new
-    → Has sketch old new
-has_added sketch old new box j a = grind (arith, signed_linear, j, a)
+pub has_added : {sketch : Sketch} {old new : Seen} {box : Box} {before after : KeptBytes} (joins : Joins sketch old.bounds box)
+    → AddsSketch sketch box old new → Keeps (glyph_text joins.0) before after → Has sketch old new before after
+has_added {sketch} {old} {new} {box} j a k =
+    let P : Box → Type 0 = λ b. AddsSketch sketch b old new in
+    let Q : Box → Type 0 = λ b. IsPlaced b in
+    record { glyph = j.0; drawn = j.1; placed = subst Q (sym a.bounds_are) j.3; adds = subst P j.2 a; lines = k }

@@ -9,6 +9,7 @@ use Rattle.fx_strike.specs.declared.fate.Fate.TheVariants.{Drawn, Unhinted, Left
 use Rattle.fx_strike.specs.Strike.{Sketch, Setting, Fate, left_out_for, machineless, refused_by, glyph_sketch_of, glyph_fate_of}
 use Rattle.fx_strike.specs.Strike.{max_code, Refusal, OnRefused, Fails}
 use Rattle.fx_strike.specs.inner.Drawing.{CanBeMade}
+use Rattle.fx_strike.specs.inner.Keeping.{KeptBytes}
 use Rattle.fx_strike.specs.inner.Surveying.{HasFate, SeesOne, Seen}
 use Rattle.fx_strike.proofs.Existing.{drawable}
 use Rattle.fx_strike.proofs.OnePart.{has_sketch}
@@ -58,7 +59,8 @@ can_be_made setting refused code glyph (LeftOut notice) h low = tt
 
 -- ---- a step of the first pass
 
-pub seen_fate : {due : Result Fate Refusal} (old new : Seen) (r : Result (Unit {0}) Refusal) (fate : Fate) → due ≡ Ok fate
-    → OnOk r (HasFate fate old new) → IfErr r (λ e. e ≡ OutOfMemory) → SeesOne due old new r
-seen_fate old new (Ok u) fate e h m = (fate, e, h)
-seen_fate {due} old new (Err d) fate e h m = memory_fails d due m
+pub seen_fate : {due : Result Fate Refusal} (old new : Seen) (before after : KeptBytes)
+    (r : Result (Unit {0}) Refusal) (fate : Fate) → due ≡ Ok fate → OnOk r (HasFate fate old new before after) → IfErr r (λ e. e ≡ OutOfMemory)
+    → SeesOne due old new before after r
+seen_fate old new before after (Ok u) fate e h m = (fate, e, h)
+seen_fate {due} old new before after (Err d) fate e h m = memory_fails d due m

@@ -1,19 +1,18 @@
--- The lines of the first characters: how they grow, and that what is written after them is the lines of the others.
--- Serves `see_drawn`, `see_fate`, `see` and `write_all`.
-use Rattle.std.proofs.Common.{◌≡◌, refl, sym, ap, ◌∙◌, subst, arith, ℕ, zero, suc, ◌+◌, ◌<◌, true, List, []}
-use Rattle.std.proofs.Common.{◌∷◌, ◌++◌, length, take, drop, get_or, length-append, take-append-drop, Result, Ok, Err, OnOk}
+-- The lines of the first characters: how they grow, and what the second pass needs of the others.
+-- Serves `see_drawn`, `see` and `write_all`.
+use Rattle.std.proofs.Common.{◌≡◌, refl, sym, ap, ◌∙◌, subst, arith, ℕ, zero, suc, ◌+◌, ◌<◌, true, false, List, [], ◌∷◌, ◌++◌}
+use Rattle.std.proofs.Common.{length, take, drop, length-append, length-drop, Ok}
 use Rattle.std.specs.Prelude.{nat_lt}
-use Rattle.std.specs.List.{list_any, flat_map}
+use Rattle.std.specs.List.{list_any}
 use Rattle.std.proofs.lemmas.Bool.{ltb-true, or_parts}
-use Rattle.std.proofs.lemmas.List.{append-nil}
-use Rattle.std.proofs.lemmas.Grind.{flat_map-append}
-use Rattle.fx_fixed.proofs.Writing.{parts_more}
+use Rattle.std.proofs.lemmas.List.{append-nil, take_all, take_more, take-append-le}
 use Rattle.fx_strike.specs.declared.fate.Fate.TheVariants.{Drawn, Unhinted, LeftOut}
-use Rattle.fx_strike.specs.Strike.{Setting, Fate, glyph_fate_of, max_code, OnRefused}
+use Rattle.fx_strike.specs.Strike.{Sketch, Setting, Fate, sketches_in, max_code, OnRefused}
 use Rattle.fx_strike.specs.inner.Keeping.{Counts, IsKept, IsOfNone, Keeps, KeptBytes, KeptText}
-use Rattle.fx_strike.specs.inner.Mapping.{mapped_in, Mapped}
-use Rattle.fx_strike.specs.inner.Surveying.{HasFate, Seen}
-use Rattle.fx_strike.specs.inner.Writing.{AreLinesOf, AreAllLinesOf, AreSmall}
+use Rattle.fx_strike.specs.inner.Mapping.{mapped_fate_of, mapped_in, Mapped}
+use Rattle.fx_strike.specs.inner.Surveying.{Has, HasFate, Seen}
+use Rattle.fx_strike.specs.inner.Writing.{AreLinesIn, AreLinesOf, AreMapped}
+use Rattle.fx_strike.proofs.Lines.{lines_push}
 
 -- ---- one character
 
@@ -21,103 +20,106 @@ use Rattle.fx_strike.specs.inner.Writing.{AreLinesOf, AreAllLinesOf, AreSmall}
 pub keeps_full : {lines : List ℕ} (b : KeptBytes) → nat_lt 0 b.faults ≡ true → Keeps lines b b
 keeps_full b h = record { all = λ e. let f = ltb-true 0 b.faults h in absurd (omega (arith, e, f)); none = λ _. refl }
 
--- no lines are kept of a character that has none
-pub keeps_none : (b : KeptBytes) → Keeps [] b b
-keeps_none b = record { all = λ e. (e, sym (append-nil b.bytes.items), omega arith); none = λ _. refl }
+-- the lines that were kept of sketches, if there was room
+record KeptOf (sketches : List Sketch) (before after : KeptBytes) : Type 0 where
+  text : List ℕ
+  is : AreLinesIn sketches text
+  keeps : Keeps text before after
 
--- these are the lines
-pub keeps_lines : {a b : List ℕ} {old new : KeptBytes} → a ≡ b → Keeps a old new → Keeps b old new
-keeps_lines {a} {b} {old} {new} e h = let P : List ℕ → Type 0 = λ t. Keeps t old new in subst P e h
+drawn_kept : {s : Sketch} {was now : Seen} {before after : KeptBytes} → Has s was now before after
+    → KeptOf (s ∷ []) before after
+drawn_kept h = record {
+  text = _;
+  is = record { glyphs = h.glyph ∷ []; drawn = (h.drawn, tt); lines_are = sym (append-nil _) };
+  keeps = h.lines;
+}
+
+kept_of : (fate : Fate) (was now : Seen) {before after : KeptBytes} → HasFate fate was now before after
+    → KeptOf (sketches_in fate) before after
+kept_of (Drawn s) was now h = drawn_kept h
+kept_of (Unhinted notice s) was now h = drawn_kept h
+kept_of (LeftOut notice) was now {before = b} h = record {
+  text = [];
+  is = record { glyphs = []; drawn = tt; lines_are = refl };
+  keeps = rw h.1 (record { all = λ e. (e, sym (append-nil b.bytes.items), omega arith); none = λ _. refl });
+}
 
 -- ---- the first characters
 
--- no character so far
-pub kept_none : {setting : Setting} {refused : OnRefused} {mapped : List Mapped} (kept : KeptText) → IsOfNone kept
-    → IsKept setting refused mapped 0 kept
-kept_none kept h = grind (arith, h)
+module _ {setting : Setting} {refused : OnRefused} where
+  -- no character so far
+  pub kept_none : {kept : KeptText} → IsOfNone kept → IsKept setting refused [] kept
+  kept_none {kept} h = record {
+    few = omega (arith, h.count);
+    all = λ _. h.count;
+    short = omega (arith, ap length h.bytes);
+    lines = rw (h.count, h.bytes)
+        (record { fates = []; planned = refl; of = record { glyphs = []; drawn = tt; lines_are = refl } });
+  }
 
--- a character that was seen has lines
-pub lines_there : {setting : Setting} {refused : OnRefused} {code glyph : ℕ} {old new : Seen}
-    → (fate : Fate) × (glyph_fate_of setting refused code glyph ≡ Ok fate) × HasFate fate old new
-    → (text : List ℕ) × AreLinesOf setting refused code glyph text
-lines_there (Drawn s, is, h) = (_, record { fate = Drawn s; glyphs = h.glyph ∷ []; is = is; drawn = (h.drawn, tt); text_is = refl })
-lines_there (Unhinted notice s, is, h) =
-    (_, record { fate = Unhinted notice s; glyphs = h.glyph ∷ []; is = is; drawn = (h.drawn, tt); text_is = refl })
-lines_there (LeftOut notice, is, h) =
-    (_, record { fate = LeftOut notice; glyphs = []; is = is; drawn = tt; text_is = refl })
-
--- one character more
-module _ {setting : Setting} {refused : OnRefused} {mapped : List Mapped} {n : ℕ} {old new : KeptText} {bytes : KeptBytes} where
-  pub kept_more : n < length mapped → IsKept setting refused mapped n old
-      → (text : List ℕ) × AreLinesOf setting refused (mapped_in mapped n).code (mapped_in mapped n).glyph text
-      → ((text : List ℕ) → AreLinesOf setting refused (mapped_in mapped n).code (mapped_in mapped n).glyph text
-      → Keeps text old.bytes bytes)
-      → Counts (record { bytes = bytes; count = old.count }) new → IsKept setting refused mapped (n + 1) new
-  kept_more l h t k c = by bytes.faults refl
+  -- one character more
+  kept_push : (ms : List Mapped) (m : Mapped) (fate : Fate) {old new : KeptText} {bytes : KeptBytes} → IsKept setting refused ms old
+      → mapped_fate_of setting refused m ≡ Ok fate → KeptOf (sketches_in fate) old.bytes bytes
+      → Counts (record { bytes = bytes; count = old.count }) new → IsKept setting refused (ms ++ m ∷ []) new
+  kept_push ms m fate {old} {new} {bytes} h is k c = by bytes.faults refl
     where
-      by : (f : ℕ) → bytes.faults ≡ f → IsKept setting refused mapped (n + 1) new
+      P : List Mapped → Type 0
+      P xs = AreLinesOf setting refused xs new.bytes.bytes.items
+
+      by : (f : ℕ) → bytes.faults ≡ f → IsKept setting refused (ms ++ m ∷ []) new
       by zero e =
-          let here = (k t.0 t.1).all e in
-          let count : old.count ≡ n = h.all here.0 in
-          let one : new.count ≡ old.count + 1 = c.one e in
-          let same : new.bytes.bytes.items ≡ bytes.bytes.items = ap (λ (b : KeptBytes). b.bytes.items) c.bytes in
+          let here = k.keeps.all e in
+          let count : old.count ≡ length ms = h.all here.0 in
+          let all : new.count ≡ length (ms ++ m ∷ []) = omega (arith, count, c.one e, length-append ms (m ∷ [])) in
+          let same : new.bytes.bytes.items ≡ old.bytes.bytes.items ++ k.text =
+          ap (λ (b : KeptBytes). b.bytes.items) c.bytes ∙ here.1 in
+          let before : AreLinesOf setting refused ms old.bytes.bytes.items =
+          rw (take_all old.count ms (omega (arith, count))) at h.lines in
           record {
-            few = omega (arith, count, one);
-            all = λ _. omega (arith, count, one);
+            few = omega (arith, all);
+            all = λ _. all;
             short = omega (
               arith,
               h.short,
-              one,
+              c.one e,
               ap length same,
-              ap length here.1,
-              length-append old.bytes.bytes.items t.0,
+              length-append old.bytes.bytes.items k.text,
               here.2,
             );
-            lines = λ lines a.
-                let more = ((k _ (a.each n l)).all e).1 in
-                same ∙ more ∙ ap (λ (ts : List ℕ). ts ++ get_or lines n []) (h.lines lines a ∙
-                ap (λ (i : ℕ). flat_map (λ t. t) (take i lines)) count) ∙
-                parts_more (λ (t : List ℕ). t) lines n [] (omega (arith, a.count, l)) ∙
-                ap (λ (i : ℕ). flat_map (λ t. t) (take i lines)) (let e : n + 1 ≡ new.count = omega (arith, count, one) in e);
+            lines = subst P (sym (take_all new.count (ms ++ m ∷ []) (omega (arith, all))))
+                (rw same (lines_push ms m fate before is k.is));
           }
       by (suc f) e =
           let full : 0 < bytes.faults = omega (arith, e) in
           let count : new.count ≡ old.count = c.none full in
           let same : new.bytes.bytes.items ≡ old.bytes.bytes.items =
-          ap (λ (b : KeptBytes). b.bytes.items) c.bytes ∙ (k t.0 t.1).none full in
+          ap (λ (b : KeptBytes). b.bytes.items) c.bytes ∙ k.keeps.none full in
           record {
-            few = omega (arith, h.few, count);
+            few = omega (arith, h.few, count, length-append ms (m ∷ []));
             all = λ z. absurd (omega (arith, e, z, ap (λ (b : KeptBytes). b.faults) c.bytes));
             short = omega (arith, h.short, count, ap length same);
-            lines = λ lines a. same ∙ h.lines lines a ∙ ap (λ (i : ℕ). flat_map (λ t. t) (take i lines)) (sym count);
+            lines = subst P (sym (ap (λ (n : ℕ). take n (ms ++ m ∷ [])) count ∙ take-append-le old.count ms (m ∷ []) h.few))
+                (rw same h.lines);
           }
+
+  pub kept_at : (ms : List Mapped) (i : ℕ) (was now : Seen) {old new : KeptText} {bytes : KeptBytes} → i < length ms
+      → IsKept setting refused (take i ms) old
+      → (fate : Fate) × (mapped_fate_of setting refused (mapped_in ms i) ≡ Ok fate) × HasFate fate was now old.bytes bytes
+      → Counts (record { bytes = bytes; count = old.count }) new → IsKept setting refused (take (i + 1) ms) new
+  kept_at ms i was now {new = new} l h d c =
+      let P : List Mapped → Type 0 = λ xs. IsKept setting refused xs new in
+      subst P (sym (take_more ms i (record { code = 0; glyph = 0 }) l))
+      (kept_push (take i ms) (mapped_in ms i) d.0 h d.1 (kept_of d.0 was now d.2) c)
 
 -- ---- the other characters
 
--- no code point of them is past the limit
-pub small_rest : (k : ℕ) (ms : List Mapped) → AreSmall ms → AreSmall (drop k ms)
-small_rest zero ms h = h
-small_rest (suc k) [] h = h
-small_rest (suc k) (m ∷ ms) h =
-    small_rest k ms (or_parts (nat_lt max_code m.code) (list_any (λ y. nat_lt max_code y.code) ms) h).1
-
--- and their lines are the rest of all lines
-module _ {setting : Setting} {refused : OnRefused} where
-  pub lines_rest : (k : ℕ) (ms : List Mapped) (ts : List (List ℕ)) → AreAllLinesOf setting refused ms ts
-      → AreAllLinesOf setting refused (drop k ms) (drop k ts)
-  lines_rest zero ms ts h = h
-  lines_rest (suc k) [] [] h = h
-  lines_rest (suc k) [] (t ∷ ts) h = absurd (omega (arith, h.count))
-  lines_rest (suc k) (m ∷ ms) [] h = absurd (omega (arith, h.count))
-  lines_rest (suc k) (m ∷ ms) (t ∷ ts) h =
-      lines_rest k ms ts (record { count = omega (arith, h.count); each = λ i l. h.each (suc i) (omega (arith, l)) })
-
--- the lines of the first characters, and those of the others, are all lines
-pub lines_whole : (k : ℕ) (ts : List (List ℕ))
-    → flat_map (λ t. t) (take k ts) ++ flat_map (λ t. t) (drop k ts) ≡ flat_map (λ t. t) ts
-lines_whole k ts =
-    sym (flat_map-append (λ (t : List ℕ). t) (take k ts) (drop k ts)) ∙ ap (flat_map (λ t. t)) (take-append-drop k ts)
-
-pub weaker : {T E A B : Type 0} (r : Result T E) → (A → B) → OnOk r A → OnOk r B
-weaker (Ok x) f h = f h
-weaker (Err e) f h = h
+-- they are within the limits
+pub within_rest : (k : ℕ) (ms : List Mapped) → AreMapped ms → AreMapped (drop k ms)
+within_rest k ms h = record { few = omega (arith, h.few, length-drop k ms); small = small_rest k ms h.small }
+  where
+    small_rest : (k : ℕ) (ms : List Mapped) → list_any (λ m. nat_lt max_code m.code) ms ≡ false
+        → list_any (λ m. nat_lt max_code m.code) (drop k ms) ≡ false
+    small_rest zero ms h = h
+    small_rest (suc k) [] h = h
+    small_rest (suc k) (m ∷ ms) h =
+        small_rest k ms (or_parts (nat_lt max_code m.code) (list_any (λ y. nat_lt max_code y.code) ms) h).1

@@ -1,15 +1,15 @@
 -- Lines that are written one after the other are the strike's text, or its beginning up to a fault: `strike_leaves`.
--- Serves `write_one`, `write_all`, `write_text` and `write_strike`.
-use Rattle.std.proofs.Common.{◌≡◌, refl, sym, ap, ap₂, ◌∙◌, subst, append_assoc, arith, ℕ, zero, suc, ◌-◌, ◌^◌, ◌<◌, OnOk, Bool, Option}
-use Rattle.std.proofs.Common.{List, [], ◌∷◌, ◌++◌, length, get_or, length-append, Result, Ok, Err}
+-- Serves `write_drawn`, `write_fate`, `write_one`, `write_made`, `write_all`, `write_text` and `write_strike`.
+use Rattle.std.proofs.Common.{◌≡◌, refl, sym, ap, ap₂, ◌∙◌, subst, append_assoc, arith, ℕ, ◌+◌, ◌-◌, ◌*◌, ◌^◌, ◌<◌, ◌≤◌, OnOk, Bool}
+use Rattle.std.proofs.Common.{Option, List, [], ◌∷◌, ◌++◌, length, take, drop, length-append, take-append-drop, Result, Ok, Err}
 use Rattle.std.specs.List.{flat_map}
 use Rattle.std.specs.Borrow.{GName}
 use Rattle.std.proofs.KnownBytes.{Appends-nil}
-use Rattle.std.proofs.lemmas.List.{append-nil}
+use Rattle.std.proofs.lemmas.List.{append-nil, take_more}
 use Rattle.std.proofs.lemmas.Grind.{flat_map-append}
 use Rattle.fx_fixed.specs.Chain.{map_ok}
-use Rattle.fx_fixed.specs.Texts.{TextView, Adds, Fails as WriterFails, after, begun}
-use Rattle.fx_fixed.proofs.Texts.{adds_stopped, adds_text, adds_then}
+use Rattle.fx_fixed.specs.Texts.{TextView, Adds, Fails as WriterFails, after, begun, length_of}
+use Rattle.fx_fixed.proofs.Texts.{adds_count, adds_quiet, adds_stopped, adds_text, adds_then}
 use Rattle.fx_fixed.specs.declared.sink.WriteFailed.{WriteFailed as Failed}
 use Rattle.fx_fixed.proofs.Chain.{same_Ok}
 use Rattle.fx_bdf.specs.Glyphs.{Glyph, TrimmedIsOne}
@@ -18,13 +18,14 @@ use Rattle.fx_bdf.specs.Text.{header_text, glyph_text, end_text}
 use Rattle.fx_bdf.specs.X11.{all_properties}
 use Rattle.fx_bdf.specs.declared.summary.Summary.{Summary}
 use Rattle.fx_request.specs.declared.refusal.Refusal.TheVariants.{WriteFailed, ReadFailed, BadHex, InputTooLarge, OutOfMemory}
-use Rattle.fx_strike.specs.declared.fate.Fate.TheVariants.{Drawn, Unhinted, LeftOut}
-use Rattle.fx_strike.specs.Strike.{Sketch, Setting, Plan, Fate, IsGlyphOf, AreGlyphsOf, sketches_in, glyph_fate_of, plan_with}
+use Rattle.fx_strike.specs.Strike.{Sketch, Setting, Plan, Fate, IsGlyphOf, AreGlyphsOf, sketches_in, plan_with}
 use Rattle.fx_strike.specs.Strike.{properties_of, strike_text, rising, Refusal, Fails, Title, OnRefused}
 use Rattle.fx_strike.specs.Headline.{Surveyed, Leaves, surveyed_header, Header, Survey, Change}
-use Rattle.fx_strike.specs.inner.Writing.{AddsMore, AreLinesOf, AreAllLinesOf, HasRoom, Stops, Writes}
-use Rattle.fx_strike.proofs.OnePart.{chain_parts, glyph_is_one, planned}
+use Rattle.fx_strike.specs.inner.Writing.{AddsMoreBy, AddsPart, AreLinesIn, AreLinesOf, Stops, Writes}
+use Rattle.fx_strike.proofs.OnePart.{chain_parts, chain_split, glyph_is_one, glyphs_are_one, planned}
+use Rattle.fx_strike.proofs.Existing.{glyphs_append}
 use Rattle.fx_strike.proofs.Mapping.{fates_are}
+use Rattle.fx_strike.proofs.Seeing.{chain_push, sketches_push}
 use Rattle.fx_strike.specs.inner.Mapping.{fates_in, mapped_fate_of, mapped_in, mapped_of, Mapped}
 
 -- ---- parts of a text
@@ -34,7 +35,7 @@ pub added : {was now : TextView} {text : List ℕ} → Adds WriterFails was now 
 added h = record { same = h.same; outcome = h.outcome }
 
 pub unadded : {was now : TextView} {text : List ℕ} {f : Failed} → Adds WriterFails was now text (Err f)
-    → HasRoom was (length text) → Adds Stops was now text (Err (WriteFailed f.0))
+    → length_of was + length text < 2 ^ 64 - 1 → Adds Stops was now text (Err (WriteFailed f.0))
 unadded {was} {now} {text} h room =
     let o = h.outcome in
     let exact : after was.taken o.0 < 2 ^ 64 - 1 = omega (arith, o.1, length-append was.waiting text) in
@@ -51,7 +52,135 @@ pub writes_closed : {sink : GName} {old new : Option (List ℕ)} {faults_before 
 writes_closed {sink} {old} {new} {faults_before} {faults} {was} {now} {text} {r} e h empty held count =
     grind (arith, e, h, empty, held, count, append-nil)
 
--- ---- a character
+-- ---- a part of a text
+
+pub adds_part : {Are : List ℕ → Type 0} {most : ℕ} {was now : TextView} {text : List ℕ} → length text ≤ most
+    → ((lines : List ℕ) → Are lines → text ≡ lines) → Adds Stops was now text (Ok tt) → AddsPart Are most was now (Ok tt)
+adds_part short same h = record {
+  same = h.same;
+  quiet = adds_quiet h;
+  short = omega (arith, adds_count h, short);
+  lines = λ lines a. adds_text (same lines a) h;
+}
+
+pub stops_part : {Are : List ℕ → Type 0} {most : ℕ} {was now : TextView} {text : List ℕ} {d : Refusal}
+    → ((lines : List ℕ) → Are lines → text ≡ lines) → Adds Stops was now text (Err d) → AddsPart Are most was now (Err d)
+stops_part same h =
+    record { same = h.same; quiet = tt; short = tt; lines = λ lines a more l. adds_stopped more (adds_text (same lines a) h) }
+
+-- out of memory before it
+pub part_memory : {Are : List ℕ → Type 0} {most : ℕ} {was : TextView} {d : Refusal}
+    → ((lines : List ℕ) → Are lines → d ≡ OutOfMemory) → AddsPart Are most was was (Err d)
+part_memory {Are} {most} {was} {d} m = record { same = refl; quiet = tt; short = tt; lines = stopped }
+  where
+    stopped : (lines : List ℕ) → Are lines → AddsMoreBy was was lines (Err d)
+    stopped lines a more l =
+        let low : 0 < length (was.waiting ++ (lines ++ more)) =
+        omega (arith, l, length-append was.waiting (lines ++ more), length-append lines more) in
+        let P : Refusal → Type 0 = λ x. Adds Stops was was (lines ++ more) (Err x) in
+        subst P (sym (m lines a)) (record { same = refl; outcome = (0, low, Appends-nil was.held, refl) })
+
+-- lines of another kind, if these are such
+pub part_as : {Are Those : List ℕ → Type 0} {most more : ℕ} {was now : TextView} (r : Result (Unit {0}) Refusal) → most ≤ more
+    → ((lines : List ℕ) → Those lines → Are lines) → AddsPart Are most was now r → AddsPart Those more was now r
+part_as (Ok u) low are h =
+    record { same = h.same; quiet = h.quiet; short = omega (arith, h.short, low); lines = λ lines a. h.lines lines (are lines a) }
+part_as (Err d) low are h =
+    record { same = h.same; quiet = tt; short = tt; lines = λ lines a. h.lines lines (are lines a) }
+
+-- lines that are two parts
+pub record Parted (Front Back : List ℕ → Type 0) (lines : List ℕ) : Type 0 where
+  pub front : List ℕ
+  pub back : List ℕ
+  pub front_is : Front front
+  pub back_is : Back back
+  pub whole : front ++ back ≡ lines
+
+-- one part was added, and then the other
+pub part_then : {Front Back Are : List ℕ → Type 0} {m n most : ℕ} {was now next : TextView} (r : Result (Unit {0}) Refusal)
+    → m + n ≤ most → ((lines : List ℕ) → Are lines → Parted Front Back lines) → AddsPart Front m was now (Ok tt)
+    → AddsPart Back n now next r → AddsPart Are most was next r
+part_then (Ok u) low split h g = record {
+  same = g.same ∙ h.same;
+  quiet = g.quiet ∙ h.quiet;
+  short = omega (arith, low, h.short, g.short);
+  lines = λ lines a.
+      let p = split lines a in adds_text p.whole (adds_then (h.lines p.front p.front_is) (g.lines p.back p.back_is));
+}
+part_then (Err d) low split h g = record {
+  same = g.same ∙ h.same;
+  quiet = tt;
+  short = tt;
+  lines = λ lines a more l.
+      let p = split lines a in
+      adds_text (sym (append_assoc p.front p.back more) ∙ ap (λ (t : List ℕ). t ++ more) p.whole)
+      (adds_then (h.lines p.front p.front_is) (g.lines p.back p.back_is more l));
+}
+
+-- it stopped in the first of two
+pub part_begins : {Front Back Are : List ℕ → Type 0} {m most : ℕ} {was now : TextView} {d : Refusal}
+    → ((lines : List ℕ) → Are lines → Parted Front Back lines) → AddsPart Front m was now (Err d)
+    → AddsPart Are most was now (Err d)
+part_begins split h = record {
+  same = h.same;
+  quiet = tt;
+  short = tt;
+  lines = λ lines a more l.
+      let p = split lines a in
+      adds_text (sym (append_assoc p.front p.back more) ∙ ap (λ (t : List ℕ). t ++ more) p.whole)
+      (h.lines p.front p.front_is (p.back ++ more) (omega (arith, l, length-append p.back more)));
+}
+
+-- ---- the lines of sketches
+
+-- there are none without a sketch
+pub no_lines : (lines : List ℕ) → AreLinesIn [] lines → [] ≡ lines
+no_lines lines h = by h.glyphs h.drawn h.lines_are
+  where
+    by : (gs : List Glyph) → AreGlyphsOf [] gs → lines ≡ flat_map glyph_text gs → [] ≡ lines
+    by [] d e = sym e
+    by (g ∷ gs) d e = absurd d
+
+-- those of two lists are those of the glyphs of both
+pub lines_join : {ss ts : List Sketch} {a b : List ℕ} → AreLinesIn ss a → AreLinesIn ts b → AreLinesIn (ss ++ ts) (a ++ b)
+lines_join {ss} {ts} h g = record {
+  glyphs = h.glyphs ++ g.glyphs;
+  drawn = glyphs_append ss ts h.glyphs g.glyphs h.drawn g.drawn;
+  lines_are = ap₂ (λ (x y : List ℕ). x ++ y) h.lines_are g.lines_are ∙ sym (flat_map-append glyph_text h.glyphs g.glyphs);
+}
+
+-- and can be parted again
+sketches_parted : (ss ts : List Sketch) (gs : List Glyph) → AreGlyphsOf (ss ++ ts) gs
+    → Parted (AreLinesIn ss) (AreLinesIn ts) (flat_map glyph_text gs)
+sketches_parted [] ts gs d = record {
+  front = [];
+  back = flat_map glyph_text gs;
+  front_is = record { glyphs = []; drawn = tt; lines_are = refl };
+  back_is = record { glyphs = gs; drawn = d; lines_are = refl };
+  whole = refl;
+}
+sketches_parted (s ∷ ss) ts [] d = absurd d
+sketches_parted (s ∷ ss) ts (g ∷ gs) d =
+    let p = sketches_parted ss ts gs d.1 in record {
+      front = glyph_text g ++ p.front;
+      back = p.back;
+      front_is = record {
+        glyphs = g ∷ p.front_is.glyphs;
+        drawn = (d.0, p.front_is.drawn);
+        lines_are = ap (λ (t : List ℕ). glyph_text g ++ t) p.front_is.lines_are;
+      };
+      back_is = p.back_is;
+      whole = append_assoc (glyph_text g) p.front p.back ∙ ap (λ (t : List ℕ). glyph_text g ++ t) p.whole;
+    }
+
+-- the glyph of a sketch has its lines
+pub drawn_lines : {g : Glyph} → TrimmedIsOne → (sketch : Sketch) → IsGlyphOf sketch g → (lines : List ℕ)
+    → AreLinesIn (sketch ∷ []) lines → glyph_text g ≡ lines
+drawn_lines {g} one sketch is lines h =
+    sym (h.lines_are ∙ ap (flat_map glyph_text) (glyphs_are_one (glyph_is_one one) (sketch ∷ []) h.glyphs (g ∷ []) h.drawn (is, tt))
+    ∙ append-nil (glyph_text g))
+
+-- ---- the lines of characters
 
 -- out of memory is the only refusal if a value is due
 only_memory : {Y : Type 0} (d : Refusal) (due : Result Y Refusal) (y : Y) → due ≡ Ok y → Fails d due → d ≡ OutOfMemory
@@ -62,135 +191,79 @@ only_memory BadHex due y h f = absurd f
 only_memory InputTooLarge due y h f = absurd f
 only_memory d due y h f = let e : Err d ≡ Ok y = sym f ∙ h in absurd (cc)
 
--- out of memory before its lines
-stopped : {was : TextView} (lines : List ℕ) → AddsMore was was lines (Err OutOfMemory)
-stopped {was} lines = record {
-  outcome = λ more l.
-      let low : 0 < length (was.waiting ++ (lines ++ more)) =
-      omega (arith, l, length-append was.waiting (lines ++ more), length-append lines more) in
-      record { same = refl; outcome = (0, low, Appends-nil was.held, refl) };
-}
+module _ {setting : Setting} {refused : OnRefused} where
+  -- no character has none
+  pub no_characters : (lines : List ℕ) → AreLinesOf setting refused [] lines → [] ≡ lines
+  no_characters lines h =
+      let none : h.fates ≡ [] = cc (h.planned) in
+      let P : List Fate → Type 0 = λ fs. AreLinesIn (flat_map sketches_in fs) lines in no_lines lines (subst P none h.of)
 
--- these are the lines
-same_lines : {was now : TextView} {a b : List ℕ} {r : Result (Unit {0}) Refusal} → a ≡ b → AddsMore was now a r
-    → AddsMore was now b r
-same_lines {was} {now} {r = r} e h = let P : List ℕ → Type 0 = λ t. AddsMore was now t r in subst P e h
+  -- those of one character, by what becomes of it
+  pub lines_fate : (m : Mapped) (fate : Fate) → mapped_fate_of setting refused m ≡ Ok fate → (lines : List ℕ)
+      → AreLinesOf setting refused (m ∷ []) lines → AreLinesIn (sketches_in fate) lines
+  lines_fate m fate e lines h =
+      let p = chain_parts (mapped_fate_of setting refused) m [] h.fates h.planned in
+      let none : [] ≡ p.1 = cc (p.3) in
+      let same : p.0 ≡ fate = same_Ok p.0 fate p.2 e in
+      let all : flat_map sketches_in h.fates ≡ sketches_in fate =
+      ap (flat_map sketches_in) p.4 ∙ ap (λ (fs : List Fate). sketches_in p.0 ++ flat_map sketches_in fs) (sym none)
+      ∙ append-nil (sketches_in p.0) ∙ ap sketches_in same in
+      let P : List Sketch → Type 0 = λ ss. AreLinesIn ss lines in subst P all h.of
 
-pub adds_stopped_at : {was now : TextView} {lines : List ℕ} {d : Refusal} → Adds Stops was now lines (Err d)
-    → AddsMore was now lines (Err d)
-adds_stopped_at h = record { outcome = λ more l. adds_stopped more h }
+  -- out of memory is the only refusal of one that has lines
+  pub lines_memory : (m : Mapped) (d : Refusal) → Fails d (mapped_fate_of setting refused m) → (lines : List ℕ)
+      → AreLinesOf setting refused (m ∷ []) lines → d ≡ OutOfMemory
+  lines_memory m d fails lines h =
+      let p = chain_parts (mapped_fate_of setting refused) m [] h.fates h.planned in only_memory d _ p.0 p.2 fails
 
-pub adds_all : {was now : TextView} {lines : List ℕ} → Adds Stops was now lines (Ok tt) → AddsMore was now lines (Ok tt)
-adds_all h = record { outcome = h }
+  -- those of characters are those of the first ones, and of the others
+  pub lines_parted : (xs ys : List Mapped) (lines : List ℕ) → AreLinesOf setting refused (xs ++ ys) lines
+      → Parted (AreLinesOf setting refused xs) (AreLinesOf setting refused ys) lines
+  lines_parted xs ys lines h =
+      let p = chain_split (mapped_fate_of setting refused) xs ys h.fates h.planned in
+      let all : flat_map sketches_in h.fates ≡ flat_map sketches_in p.0 ++ flat_map sketches_in p.1 =
+      ap (flat_map sketches_in) p.4 ∙ flat_map-append sketches_in p.0 p.1 in
+      let P : List Sketch → Type 0 = λ ss. AreGlyphsOf ss h.of.glyphs in
+      let q = sketches_parted (flat_map sketches_in p.0) (flat_map sketches_in p.1) h.of.glyphs (subst P all h.of.drawn) in record {
+        front = q.front;
+        back = q.back;
+        front_is = record { fates = p.0; planned = p.2; of = q.front_is };
+        back_is = record { fates = p.1; planned = p.3; of = q.back_is };
+        whole = q.whole ∙ sym h.of.lines_are;
+      }
 
--- out of memory is the refusal in which a sketch had its bits made
-pub stopped_by : {was : TextView} (lines : List ℕ) (d : Refusal) → d ≡ OutOfMemory → AddsMore was was lines (Err d)
-stopped_by {was} lines d e = let P : Refusal → Type 0 = λ x. AddsMore was was lines (Err x) in subst P (sym e) (stopped lines)
+  pub parted_at : (k : ℕ) (ms : List Mapped) (lines : List ℕ) → AreLinesOf setting refused ms lines
+      → Parted (AreLinesOf setting refused (take k ms)) (AreLinesOf setting refused (drop k ms)) lines
+  parted_at k ms lines h =
+      let P : List Mapped → Type 0 = λ xs. AreLinesOf setting refused xs lines in
+      lines_parted (take k ms) (drop k ms) lines (subst P (sym (take-append-drop k ms)) h)
 
--- the glyph of a sketch that is drawn has its lines
-pub drawn_lines : {g : Glyph} → TrimmedIsOne → (sketch : Sketch) (glyph : Glyph) → IsGlyphOf sketch g → IsGlyphOf sketch glyph
-    → glyph_text g ≡ glyph_text glyph
-drawn_lines {g} one sketch glyph here is = ap glyph_text (glyph_is_one one sketch g glyph here is)
+  pub parted_next : (i : ℕ) (ms : List Mapped) → i < length ms → (lines : List ℕ)
+      → AreLinesOf setting refused (take (i + 1) ms) lines
+      → Parted (AreLinesOf setting refused (take i ms)) (AreLinesOf setting refused (mapped_in ms i ∷ [])) lines
+  parted_next i ms l lines h =
+      let P : List Mapped → Type 0 = λ xs. AreLinesOf setting refused xs lines in
+      lines_parted (take i ms) (mapped_in ms i ∷ []) lines (subst P (take_more ms i (record { code = 0; glyph = 0 }) l) h)
 
--- what holds of the lines of each glyph of a sketch holds of those of its glyphs
-pub lines_of : (P : List ℕ → Type 0) (sketch : Sketch) (glyphs : List Glyph)
-    → ((glyph : Glyph) → IsGlyphOf sketch glyph → P (glyph_text glyph))
-    → AreGlyphsOf (sketch ∷ []) glyphs → P (flat_map glyph_text glyphs)
-lines_of P sketch [] h g = absurd g
-lines_of P sketch (x ∷ []) h g = subst P (sym (append-nil (glyph_text x))) (h x g.0)
-lines_of P sketch (x ∷ y ∷ xs) h g = absurd g.1
+  -- and one character more
+  pub lines_push : (ms : List Mapped) (m : Mapped) (fate : Fate) {a b : List ℕ} → AreLinesOf setting refused ms a
+      → mapped_fate_of setting refused m ≡ Ok fate → AreLinesIn (sketches_in fate) b
+      → AreLinesOf setting refused (ms ++ m ∷ []) (a ++ b)
+  lines_push ms m fate {a} {b} h e g =
+      let P : List Sketch → Type 0 = λ ss. AreLinesIn ss (a ++ b) in record {
+        fates = h.fates ++ fate ∷ [];
+        planned = chain_push (mapped_fate_of setting refused) ms m h.fates fate h.planned e;
+        of = subst P (sym (sketches_push h.fates fate)) (lines_join h.of g);
+      }
 
--- without a sketch there are none
-pub lines_none : (P : List ℕ → Type 0) (glyphs : List Glyph) → P [] → AreGlyphsOf [] glyphs → P (flat_map glyph_text glyphs)
-lines_none P [] h g = h
-lines_none P (x ∷ xs) h g = absurd g
-
-module _ {setting : Setting} {refused : OnRefused} {code glyph : ℕ} {text : List ℕ} where
-  -- nothing was written of it when memory ran out
-  pub adds_undrawn : {was : TextView} (d : Refusal) → Fails d (glyph_fate_of setting refused code glyph)
-      → AreLinesOf setting refused code glyph text → AddsMore was was text (Err d)
-  adds_undrawn d fails h = stopped_by text d (only_memory d _ h.fate h.is fails)
-
-  -- by what becomes of it
-  pub lines_fate : (P : List ℕ → Type 0) (fate : Fate) → glyph_fate_of setting refused code glyph ≡ Ok fate
-      → ((glyphs : List Glyph) → AreGlyphsOf (sketches_in fate) glyphs → P (flat_map glyph_text glyphs))
-      → AreLinesOf setting refused code glyph text → P text
-  lines_fate P fate e w h = subst P (sym h.text_is) (w h.glyphs (rw (same_Ok h.fate fate h.is e) at h.drawn))
-
--- the lines of a character in the middle
-pub adds_part : {was now next : TextView} {all front lines : List ℕ} (back : List ℕ) {d : Refusal} → all ≡ front ++ (lines ++ back)
-    → Adds Stops was now front (Ok tt) → AddsMore now next lines (Err d) → AddsMore was next all (Err d)
-adds_part {was} {now} {next} {all} {front} {lines} back {d} e h g = same_lines (sym e) (record {
-  outcome = λ more l.
-      let low : 0 < length (back ++ more) = omega (arith, l, length-append back more) in
-      adds_text (sym (append_assoc front (lines ++ back) more ∙ ap (λ (t : List ℕ). front ++ t) (append_assoc lines back more)))
-      (adds_then h (g.outcome (back ++ more) low));
-})
-
--- lines after others
-pub adds_after : {was now next : TextView} {front lines all : List ℕ} (r : Result (Unit {0}) Refusal) → front ++ lines ≡ all
-    → Adds Stops was now front (Ok tt) → AddsMore now next lines r → AddsMore was next all r
-adds_after {front = front} {lines = lines} (Ok u) e h g = same_lines e (adds_all (adds_then h g.outcome))
-adds_after {front = front} {lines = lines} (Err d) e h g = same_lines e (record {
-  outcome = λ more l. adds_text (sym (append_assoc front lines more)) (adds_then h (g.outcome more l));
-})
-
--- nothing after the lines at which a text stopped
-pub adds_before : {was now : TextView} {front all : List ℕ} (lines : List ℕ) {d : Refusal} → front ++ lines ≡ all
-    → Adds Stops was now front (Err d) → AddsMore was now all (Err d)
-adds_before lines e h = same_lines e (adds_stopped_at (adds_stopped lines h))
-
--- ---- all characters
-
--- the texts of glyphs as pieces for characters
-record Pieces (setting : Setting) (refused : OnRefused) (mapped : List Mapped) (glyphs : List Glyph) : Type 0 where
-  pub pieces : List (List ℕ)
-  pub lines : AreAllLinesOf setting refused mapped pieces
-  pub whole : flat_map (λ t. t) pieces ≡ flat_map glyph_text glyphs
-
--- with the lines of one more character before them
-more_pieces : {setting : Setting} {refused : OnRefused} {m : Mapped} {ms : List Mapped} {text : List ℕ} {gs hs : List Glyph}
-    → AreLinesOf setting refused m.code m.glyph text → Pieces setting refused ms gs
-    → flat_map glyph_text hs ≡ text ++ flat_map glyph_text gs → Pieces setting refused (m ∷ ms) hs
-more_pieces {setting} {refused} {m} {ms} {text} h p e = record {
-  pieces = text ∷ p.pieces;
-  lines = record { count = ap suc p.lines.count; each = each };
-  whole = ap (λ (t : List ℕ). text ++ t) p.whole ∙ sym e;
-}
-  where
-    each : (i : ℕ) → i < length (m ∷ ms)
-        → AreLinesOf setting refused (mapped_in (m ∷ ms) i).code (mapped_in (m ∷ ms) i).glyph (get_or (text ∷ p.pieces) i [])
-    each zero l = h
-    each (suc i) l = p.lines.each i (omega arith)
-
--- the glyphs of one character, and those of the others
-record Split (f : Fate) (fs : List Fate) (gs : List Glyph) : Type 0 where
-  pub front : List Glyph
-  pub back : List Glyph
-  pub whole : gs ≡ front ++ back
-  pub drawn : AreGlyphsOf (sketches_in f) front
-  pub others : AreGlyphsOf (flat_map sketches_in fs) back
-
-split : (f : Fate) (fs : List Fate) (gs : List Glyph) → AreGlyphsOf (flat_map sketches_in (f ∷ fs)) gs → Split f fs gs
-split (Drawn s) fs [] h = absurd h
-split (Drawn s) fs (g ∷ gs) h = record { front = g ∷ []; back = gs; whole = refl; drawn = (h.0, tt); others = h.1 }
-split (Unhinted notice s) fs [] h = absurd h
-split (Unhinted notice s) fs (g ∷ gs) h = record { front = g ∷ []; back = gs; whole = refl; drawn = (h.0, tt); others = h.1 }
-split (LeftOut notice) fs gs h = record { front = []; back = gs; whole = refl; drawn = tt; others = h }
-
-pieces_of : (setting : Setting) (refused : OnRefused) (mapped : List Mapped) (fs : List Fate) (gs : List Glyph)
-    → fates_in setting refused mapped ≡ Ok fs → AreGlyphsOf (flat_map sketches_in fs) gs → Pieces setting refused mapped gs
-pieces_of setting refused [] fs [] h g =
-    record { pieces = []; lines = record { count = refl; each = λ i l. absurd (omega arith) }; whole = refl }
-pieces_of setting refused [] fs (x ∷ xs) h g =
-    let none : fs ≡ [] = cc in absurd (rw none at g)
-pieces_of setting refused (m ∷ ms) fs gs h g =
-    let p = chain_parts (mapped_fate_of setting refused) m ms fs h in
-    let s = split p.0 p.1 gs (rw p.4 at g) in
-    more_pieces {text = flat_map glyph_text s.front}
-    (record { fate = p.0; glyphs = s.front; is = p.2; drawn = s.drawn; text_is = refl })
-    (pieces_of setting refused ms p.1 s.back p.3 s.others)
-    (ap (flat_map glyph_text) s.whole ∙ flat_map-append glyph_text s.front s.back)
+  -- characters have one text
+  pub lines_are_one : TrimmedIsOne → (ms : List Mapped) {a : List ℕ} → AreLinesOf setting refused ms a → (b : List ℕ)
+      → AreLinesOf setting refused ms b → a ≡ b
+  lines_are_one one ms h b g =
+      let same : h.fates ≡ g.fates = same_Ok h.fates g.fates h.planned g.planned in
+      let P : List Fate → Type 0 = λ fs. AreGlyphsOf (flat_map sketches_in fs) h.of.glyphs in
+      h.of.lines_are ∙ ap (flat_map glyph_text) (glyphs_are_one (glyph_is_one one) (flat_map sketches_in g.fates) h.of.glyphs
+      g.of.glyphs (subst P same h.of.drawn) g.of.drawn) ∙ sym g.of.lines_are
 
 -- ---- a strike
 
@@ -228,18 +301,21 @@ leaves_by s (Err d) w = absurd w.outcome.3
 
 -- the text of a strike was written, or a beginning of it
 pub strike_leaves : {setting : Setting} (title : Title) (chars : List ℕ) {refused : OnRefused} {mapped : List Mapped}
-    {change : Change} {survey : Survey}
-    {header : Header} {all : List PropertyView} (r : Result (Unit {0}) Refusal)
+    {change : Change} {survey : Survey} {header : Header} {all : List PropertyView} (r : Result (Unit {0}) Refusal)
     → mapped ≡ mapped_of setting.map (rising chars) → header ≡ surveyed_header setting.ppem survey
     → all ≡ properties_by title setting.ppem survey
     → Surveyed (plan_with setting title chars refused) survey
-    → ((lines : List (List ℕ)) → AreAllLinesOf setting refused mapped lines
-    → Writes change (header_text title.name all header ++ (flat_map (λ t. t) lines ++ end_text)) r)
+    → ((lines : List ℕ) → AreLinesOf setting refused mapped lines
+    → Writes change (header_text title.name all header ++ (lines ++ end_text)) r)
     → Leaves {Y = Unit {0}} (Ok tt) (plan_with setting title chars refused) change (map_ok (λ _. survey.report) r)
 strike_leaves {setting} title chars {refused} {mapped} {change} {survey} {header} {all} r c q a s w =
     let p = planned setting title chars refused s.plan s.is in
     let fates = ap (fates_in setting refused) c ∙ fates_are setting refused (rising chars) ∙ p.planned in
-    let x = pieces_of setting refused mapped p.fates s.glyphs fates (rw p.sketches at s.drawn) in
-    let same : header_text title.name all header ++ (flat_map (λ t. t) x.pieces ++ end_text) ≡ strike_text s.plan s.glyphs =
-    rw (q, a, x.whole) (survey_text setting title chars refused survey s) in
-    leaves_by s r (rw same at (w x.pieces x.lines))
+    let same : header_text title.name all header ++ (flat_map glyph_text s.glyphs ++ end_text) ≡ strike_text s.plan s.glyphs =
+    rw (q, a) (survey_text setting title chars refused survey s) in
+    let P : List Sketch → Type 0 = λ ss. AreGlyphsOf ss s.glyphs in
+    leaves_by s r (rw same at (w (flat_map glyph_text s.glyphs) (record {
+      fates = p.fates;
+      planned = fates;
+      of = record { glyphs = s.glyphs; drawn = subst P p.sketches s.drawn; lines_are = refl };
+    })))

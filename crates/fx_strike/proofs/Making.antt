@@ -4,7 +4,7 @@ use Rattle.std.proofs.Common.{refl, sym, ap, ◌≡◌, ◌∙◌, arith, inl, �
 use Rattle.std.proofs.Common.{Result, Ok}
 use Rattle.std.proofs.Common.{Err, FitsSigned, w32, to_z, of_z, lit<}
 use Rattle.std.specs.Int.{w128}
-use Rattle.std.specs.Prelude.{◌*ℤ◌, neg_ℤ, unsigned_abs, IsOk, IfOk, IfErr, IsErrOf}
+use Rattle.std.specs.Prelude.{◌*ℤ◌, neg_ℤ, unsigned_abs, IsOk, IsErrOf}
 use Rattle.std.specs.Io.KnownBytes.{Keeps}
 use Rattle.std.specs.List.{sum_by, flat_map}
 use Rattle.std.proofs.lemmas.Int.{ints, fits_signed_mul, fits_signed_from_abs, unsigned_abs-mul}
@@ -16,22 +16,14 @@ use Rattle.fx_request.specs.declared.refusal.Refusal.TheVariants.{WriteFailed, R
 use Rattle.fx_fixed.specs.Numbers.{counted}
 use Rattle.fx_strike.specs.Strike.{Setting, Plan, sketches_in, prelude_by, pixels, fates_of, plan_from, plan_with, Refusal, Fails}
 use Rattle.fx_strike.specs.Strike.{rising, Title, OnRefused}
-use Rattle.fx_strike.specs.Headline.{IsCause, Surveyed, Leaves, Makes, Header, Report, Survey, Change}
+use Rattle.fx_strike.specs.Headline.{IsCause, Surveyed, Leaves, Makes, Header, Report, Change}
 use Rattle.fx_strike.specs.inner.Mapping.{AreCharactersOf, fates_in, mapped_of, Characters, Mapped}
-use Rattle.fx_strike.specs.inner.Surveying.{Holds, survey_from, Surveys, Seen}
+use Rattle.fx_strike.specs.inner.Surveying.{Holds, survey_from, Seen}
 use Rattle.fx_strike.proofs.GatheredGlyphs.{as_many, summary_is}
 use Rattle.fx_strike.proofs.Mapping.{fates_are}
 use Rattle.fx_strike.proofs.Sketching.{fails_on}
 
 -- ---- a survey
-
-pub surveys_ok : (due : Result Plan Refusal) (r : Result Survey Refusal) → Surveys due r → IfOk r (Surveyed due)
-surveys_ok due (Ok survey) h = h
-surveys_ok due (Err d) h = tt
-
-pub surveys_cause : (due : Result Plan Refusal) (r : Result Survey Refusal) → Surveys due r → IfErr r (λ d. Fails d due)
-surveys_cause due (Ok survey) h = tt
-surveys_cause due (Err d) h = h
 
 -- the fates of a strike are those of its characters
 same_fates : (setting : Setting) (chars : List ℕ) (refused : OnRefused) (mapped : List Mapped)

@@ -1,5 +1,5 @@
 -- The characters found among rising code points are those of the map, and the others are counted: `others_counted`.
--- Serves `run_below`, `look_up`, `characters`, `survey_mapped` and `write_strike`.
+-- Serves `run_below`, `look_up`, `characters` and `first_pass`.
 use Rattle.std.proofs.Common.{◌≡◌, inl, inr, refl, sym, ap, ◌∙◌, subst, arith, ℕ, suc, zero, ◌+◌, ◌<◌, ◌≤◌, Bool, true, false, not}
 use Rattle.std.proofs.Common.{List, [], ◌∷◌, ◌++◌, map, length, take, get_or, Result, cond}
 use Rattle.std.specs.Prelude.{nat_lt, ◌==◌, filter}
@@ -15,10 +15,10 @@ use Rattle.fx_fixed.specs.Chain.{map_chain}
 use Rattle.fx_cmap.specs.Lookup.{glyph_for}
 use Rattle.fx_cmap.specs.declared.mapping.Mapping.{Mapping}
 use Rattle.fx_request.proofs.Rising.{length_rising, small_rising}
-use Rattle.fx_strike.specs.Strike.{Setting, fates_of, is_missing, rising, max_characters, max_code, Refusal, OnRefused}
-use Rattle.fx_strike.specs.inner.Mapping.{AreCharactersOf, fates_in, lacks, mapped_at, mapped_fate_of, mapped_of, Characters}
-use Rattle.fx_strike.specs.inner.Mapping.{Mapped}
-use Rattle.fx_strike.specs.inner.Writing.{AreSmall}
+use Rattle.fx_strike.specs.Strike.{Setting, fates_of, is_missing, rising, max_code, Refusal, OnRefused}
+use Rattle.fx_strike.specs.inner.Mapping.{fates_in, lacks, mapped_at, mapped_fate_of, mapped_of, Mapped}
+use Rattle.fx_strike.specs.inner.Surveying.{AreChars}
+use Rattle.fx_strike.specs.inner.Writing.{AreMapped}
 
 -- ---- rising code points
 
@@ -106,27 +106,26 @@ others_counted table chars codes mapped n m e f g h =
 
 -- none is past the limit if no code point is
 small_mapped : (table : Mapping) (codes : List ℕ) → list_any (nat_lt max_code) codes ≡ false
-    → AreSmall (mapped_of table codes)
+    → list_any (λ m. nat_lt max_code m.code) (mapped_of table codes) ≡ false
 small_mapped table [] h = refl
 small_mapped table (c ∷ cs) h =
     let p = or_parts (nat_lt max_code c) (list_any (nat_lt max_code) cs) h in
     by_first (lacks table c) refl p.0 (small_mapped table cs p.1)
   where
-    by_first : (b : Bool) → lacks table c ≡ b → nat_lt max_code c ≡ false → AreSmall (mapped_of table cs)
-        → AreSmall (mapped_of table (c ∷ cs))
+    by_first : (b : Bool) → lacks table c ≡ b → nat_lt max_code c ≡ false
+        → list_any (λ m. nat_lt max_code m.code) (mapped_of table cs) ≡ false
+        → list_any (λ m. nat_lt max_code m.code) (mapped_of table (c ∷ cs)) ≡ false
     by_first true e here more = rw e more
     by_first false e here more = rw (e, here) more
 
--- the same of the characters of a strike
-pub few_characters : {table : Mapping} (chars : List ℕ) {characters : Characters} → AreCharactersOf table (rising chars) characters
-    → length chars ≤ max_characters → length characters.mapped.items ≤ max_characters
-few_characters {table} chars are h =
-    omega (arith, h, length_rising chars, few_mapped table (rising chars), ap length are.mapped)
-
-pub small_characters : {table : Mapping} (chars : List ℕ) {characters : Characters}
-    → AreCharactersOf table (rising chars) characters
-    → list_any (nat_lt max_code) chars ≡ false → AreSmall characters.mapped.items
-small_characters {table} chars are h = grind (arith, chars, are, h, small_mapped, small_rising)
+-- the characters of a strike are within the limits
+pub mapped_within : (table : Mapping) {chars : List ℕ} {mapped : List Mapped} → AreChars chars
+    → mapped ≡ mapped_of table (rising chars) → AreMapped mapped
+mapped_within table {chars} {mapped} h e =
+    let P : List Mapped → Type 0 = λ xs. AreMapped xs in subst P (sym e) (record {
+      few = omega (arith, h.few, length_rising chars, few_mapped table (rising chars));
+      small = small_mapped table (rising chars) (small_rising (nat_lt max_code) chars (rising chars) refl h.small);
+    })
 
 -- ---- what becomes of them
 

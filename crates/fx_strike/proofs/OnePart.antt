@@ -1,7 +1,7 @@
 -- A sketch has one glyph, a strike one text, and a character one part in all strikes that hold it.
 -- Serves the laws `part` and `text`, and the law that a strike exists.
 use Rattle.std.proofs.Common.{◌≡◌, refl, sym, ap, ◌∙◌, subst, arith, ℕ, zero, suc, ◌<◌, ℤ, Bool, true, false, not, List, []}
-use Rattle.std.proofs.Common.{◌∷◌, length, get_or, Result, Ok, Err}
+use Rattle.std.proofs.Common.{◌∷◌, ◌++◌, length, get_or, Result, Ok, Err}
 use Rattle.std.specs.Prelude.{IsTrue, Contains, filter}
 use Rattle.fx_fixed.specs.Chain.{◌>>=◌, wanted, map_fault, map_chain}
 use Rattle.fx_fixed.specs.Sizes.{ppem_of}
@@ -56,7 +56,7 @@ glyph_is_one one s g h p q =
     same col row = same_bit (glyph_bit h col row) (glyph_bit g col row) (λ x. (p.bits col row).1 ((q.bits col row).0 x))
         (λ x. (q.bits col row).1 ((p.bits col row).0 x))
 
-glyphs_are_one : GlyphIsOne → (ss : List Sketch) (gs hs : List Glyph) → AreGlyphsOf ss gs → AreGlyphsOf ss hs → gs ≡ hs
+pub glyphs_are_one : GlyphIsOne → (ss : List Sketch) (gs hs : List Glyph) → AreGlyphsOf ss gs → AreGlyphsOf ss hs → gs ≡ hs
 glyphs_are_one one [] [] [] p q = refl
 glyphs_are_one one [] (g ∷ gs) hs p q = absurd p
 glyphs_are_one one [] [] (h ∷ hs) p q = absurd q
@@ -152,6 +152,15 @@ is_of setting refused code glyph (LeftOut notice) h s e = absurd (cc (e))
 pub chain_parts : {A B : Type 0} (f : A → Result B Refusal) (x : A) (xs : List A) (ys : List B) → map_chain f (x ∷ xs) ≡ Ok ys
     → (z : B) × (zs : List B) × (f x ≡ Ok z) × (map_chain f xs ≡ Ok zs) × (ys ≡ z ∷ zs)
 chain_parts f x xs ys h = grind (arith, h, bind_ok)
+
+-- a chain over two lists gave the values of both
+pub chain_split : {A B : Type 0} (f : A → Result B Refusal) (xs ys : List A) (zs : List B) → map_chain f (xs ++ ys) ≡ Ok zs
+    → (front : List B) × (back : List B) × (map_chain f xs ≡ Ok front) × (map_chain f ys ≡ Ok back) × (zs ≡ front ++ back)
+chain_split f [] ys zs h = ([], zs, refl, h, refl)
+chain_split f (x ∷ xs) ys zs h =
+    let p = chain_parts f x (xs ++ ys) zs h in
+    let q = chain_split f xs ys p.1 p.3 in
+    (p.0 ∷ q.0, q.1, rw (p.2, q.2) refl, q.3, p.4 ∙ ap (λ l. p.0 ∷ l) q.4)
 
 -- what becomes of a code point has this one sketch
 abbrev Gives : (ℕ → Result Fate Refusal) → Sketch → Type 0

@@ -1,10 +1,45 @@
 -- The line of one point more, after those before it, is the lines up to that point: `lines_more`.
--- Serves `add_points`, `add_lines`, `add_text`.
+-- Serves `add_points`, `add_outline`, `add_text`.
 use Rattle.std.proofs.Common.{◌≡◌, ◌∙◌, refl, sym, ap, arith, ℕ, zero, suc, ◌+◌, ◌<◌, ◌≤◌, List, [], ◌∷◌, ◌++◌, length, take, drop}
-use Rattle.std.proofs.Common.{get_or, append_assoc, append-nil, length-append}
+use Rattle.std.proofs.Common.{get_or, append_assoc, append-nil, length-append, Result, Ok, Err, OnOk}
 use Rattle.std.specs.Fmt.{decimal, signed_decimal}
+use Rattle.fx_fixed.specs.Texts.{TextView, Adds, Fails, length_of}
+use Rattle.fx_fixed.specs.declared.sink.WriteFailed.{WriteFailed}
+use Rattle.fx_fixed.proofs.Texts.{adds_count, adds_short, adds_stopped, adds_text, adds_then}
 use Rattle.fx_outline.specs.declared.points.OutlinePoint.{OutlinePoint}
 use Rattle.fx_strike.specs.Outlines.{contour_at, curve_word, point_line, point_lines}
+use Rattle.fx_strike.specs.inner.Lengths.{AddsFew}
+
+-- ---- few bytes
+
+pub few_all : {m : ℕ} {was now : TextView} {bytes : List ℕ} {r : Result (Unit {0}) WriteFailed} → Adds Fails was now bytes r
+    → length bytes ≤ m → AddsFew m was now bytes r
+few_all {m} {was} {bytes = bytes} {r = r} h l =
+    record { adds = h; few = by r; short = adds_short (length_of was + m) h (omega (arith, l)) }
+  where
+    by : (r : Result (Unit {0}) WriteFailed) → OnOk r (length bytes ≤ m)
+    by (Ok u) = l
+    by (Err e) = tt
+
+-- some, and then more
+pub few_then : {m n most : ℕ} {was now next : TextView} {a b all : List ℕ} (r : Result (Unit {0}) WriteFailed) → m + n ≤ most
+    → a ++ b ≡ all → AddsFew m was now a (Ok tt) → AddsFew n now next b r → AddsFew most was next all r
+few_then {a = a} {b = b} (Ok u) low e h g = record {
+  adds = adds_text e (adds_then h.adds g.adds);
+  few = omega (arith, low, h.few, g.few, ap length e, length-append a b);
+  short = tt;
+}
+few_then (Err f) low e h g = record {
+  adds = adds_text e (adds_then h.adds g.adds);
+  few = tt;
+  short = omega (arith, low, h.few, g.short, adds_count h.adds);
+}
+
+-- it stopped in the first of two
+pub few_begin : {m most : ℕ} {was now : TextView} {a all : List ℕ} (b : List ℕ) {f : WriteFailed} → m ≤ most → a ++ b ≡ all
+    → AddsFew m was now a (Err f) → AddsFew most was now all (Err f)
+few_begin b low e h =
+    record { adds = adds_text e (adds_stopped b h.adds); few = tt; short = omega (arith, low, h.short) }
 
 -- ---- lines
 

@@ -2,7 +2,7 @@
 -- Serves `see`, and what a call leaves (`Making`, `Writing`).
 use Rattle.std.proofs.Common.{◌≡◌, refl, sym, ap, ap₂, ◌∙◌, subst, arith, ℕ, suc, zero, ◌+◌, ◌<◌, ◌≤◌, List, []}
 use Rattle.std.proofs.Common.{◌∷◌, ◌++◌, map, length, take, drop, length-append, Result, Ok, Err}
-use Rattle.std.specs.Prelude.{nat_lt}
+use Rattle.std.specs.Prelude.{false, nat_lt}
 use Rattle.std.specs.List.{list_any, sum_by, flat_map}
 use Rattle.std.proofs.lemmas.Bool.{ltb-false, or_parts}
 use Rattle.std.proofs.lemmas.List.{take_more, drop_more, map-append, take-append-drop, append-nil}
@@ -10,30 +10,36 @@ use Rattle.std.proofs.lemmas.Grind.{flat_map-append}
 use Rattle.std.proofs.lemmas.List.Sums.{fold-append, sum_by-append}
 use Rattle.fx_fixed.specs.Chain.{map_chain}
 use Rattle.fx_bdf.specs.Glyphs.{Glyph, Box, IsPlaced, no_box, joined, bounds_of}
-use Rattle.fx_strike.specs.Strike.{Sketch, Setting, Fate, IsGlyphOf, AreGlyphsOf, sketches_in, Refusal, Fails, max_code, OnRefused}
+use Rattle.fx_strike.specs.Strike.{Sketch, Setting, Fate, AreGlyphsOf, sketches_in, Refusal, Fails, max_code, OnRefused}
 use Rattle.fx_strike.specs.declared.fate.Fate.TheVariants.{Drawn, Unhinted, LeftOut}
 use Rattle.fx_strike.specs.inner.Mapping.{fates_in, mapped_fate_of, mapped_in, Mapped}
-use Rattle.fx_strike.specs.inner.Writing.{AreSmall}
+use Rattle.fx_strike.specs.inner.Keeping.{KeptBytes}
+use Rattle.fx_strike.specs.inner.Writing.{AreMapped}
 use Rattle.fx_fixed.specs.Numbers.{counted}
 use Rattle.fx_machine.specs.declared.usage.Usage.{Usage}
 use Rattle.fx_strike.specs.inner.Gathering.{gathered_with}
 use Rattle.fx_strike.specs.inner.Surveying.{IsEmpty, Has, HasFate, Holds, Seen}
+use Rattle.fx_strike.proofs.Existing.{glyphs_append}
 use Rattle.fx_strike.proofs.GatheredGlyphs.{gathered_push}
 use Rattle.fx_strike.proofs.OnePart.{chain_parts}
 use Rattle.fx_strike.proofs.Sketching.{fails_on}
 
 -- ---- code points within the limit
 
-pub code_fits : (mapped : List Mapped) (i : ℕ) → AreSmall mapped → i < length mapped → (mapped_in mapped i).code ≤ max_code
-code_fits [] i h g = absurd (omega arith)
-code_fits (x ∷ xs) zero h g =
-    let p = or_parts (nat_lt max_code x.code) (list_any (λ y. nat_lt max_code y.code) xs) h in ltb-false max_code x.code p.0
-code_fits (x ∷ xs) (suc i) h g =
-    let p = or_parts (nat_lt max_code x.code) (list_any (λ y. nat_lt max_code y.code) xs) h in code_fits xs i p.1 (omega arith)
+pub code_fits : (mapped : List Mapped) (i : ℕ) → AreMapped mapped → i < length mapped → (mapped_in mapped i).code ≤ max_code
+code_fits mapped i within l = by mapped i within.small l
+  where
+    by : (ms : List Mapped) (i : ℕ) → list_any (λ m. nat_lt max_code m.code) ms ≡ false → i < length ms
+        → (mapped_in ms i).code ≤ max_code
+    by [] i h g = absurd (omega arith)
+    by (x ∷ xs) zero h g =
+        let p = or_parts (nat_lt max_code x.code) (list_any (λ y. nat_lt max_code y.code) xs) h in ltb-false max_code x.code p.0
+    by (x ∷ xs) (suc i) h g =
+        let p = or_parts (nat_lt max_code x.code) (list_any (λ y. nat_lt max_code y.code) xs) h in by xs i p.1 (omega arith)
 
 -- ---- chains
 
-chain_push : {A B : Type 0} (f : A → Result B Refusal) (xs : List A) (x : A) (made : List B) (b : B) → map_chain f xs ≡ Ok made
+pub chain_push : {A B : Type 0} (f : A → Result B Refusal) (xs : List A) (x : A) (made : List B) (b : B) → map_chain f xs ≡ Ok made
     → f x ≡ Ok b → map_chain f (xs ++ x ∷ []) ≡ Ok (made ++ b ∷ [])
 chain_push f [] x made b h g = let e : [] ≡ made = cc in rw (g, ← e)
 chain_push f (y ∷ ys) x made b h g =
@@ -56,13 +62,6 @@ chain_refused f (z ∷ zs) x ys made e h g =
 
 -- ---- one character more
 
-glyphs_push : (ss : List Sketch) (gs : List Glyph) (s : Sketch) (g : Glyph) → AreGlyphsOf ss gs → IsGlyphOf s g
-    → AreGlyphsOf (ss ++ s ∷ []) (gs ++ g ∷ [])
-glyphs_push [] [] s g h k = (k, tt)
-glyphs_push (t ∷ ts) (f ∷ fs) s g h k = (h.0, glyphs_push ts fs s g h.1 k)
-glyphs_push [] (f ∷ fs) s g h k = absurd h
-glyphs_push (t ∷ ts) [] s g h k = absurd h
-
 bounds_push : (gs : List Glyph) (g : Glyph)
     → bounds_of (map (λ h. h.box) (gs ++ g ∷ [])) ≡ joined (bounds_of (map (λ h. h.box) gs)) g.box
 bounds_push gs g = ap bounds_of (map-append (λ (h : Glyph). h.box) gs (g ∷ [])) ∙ fold-append joined no_box
@@ -72,7 +71,7 @@ sum_push : (f : Sketch → ℕ) (ss : List Sketch) (s : Sketch) (total more new 
     → new ≡ counted (total + more) → new ≡ counted (sum_by f (ss ++ s ∷ []))
 sum_push f ss s total more new h k e = grind (arith, h, k, e, sum_by-append)
 
-sketches_push : (fates : List Fate) (fate : Fate)
+pub sketches_push : (fates : List Fate) (fate : Fate)
     → flat_map sketches_in (fates ++ fate ∷ []) ≡ flat_map sketches_in fates ++ sketches_in fate
 sketches_push fates fate = flat_map-append sketches_in fates (fate ∷ []) ∙
     ap (λ (xs : List Sketch). flat_map sketches_in fates ++ xs) (append-nil (sketches_in fate))
@@ -99,8 +98,8 @@ holds_none setting refused new h =
 
 -- a character that is drawn
 holds_drawn : (setting : Setting) (refused : OnRefused) (mapped : List Mapped) (m : Mapped) (old new : Seen) (fate : Fate)
-    (sketch : Sketch) → sketches_in fate ≡ sketch ∷ [] → Holds setting refused mapped old
-    → mapped_fate_of setting refused m ≡ Ok fate → Has sketch old new → Holds setting refused (mapped ++ m ∷ []) new
+    (sketch : Sketch) {before after : KeptBytes} → sketches_in fate ≡ sketch ∷ [] → Holds setting refused mapped old
+    → mapped_fate_of setting refused m ≡ Ok fate → Has sketch old new before after → Holds setting refused (mapped ++ m ∷ []) new
 holds_drawn setting refused mapped m old new fate sketch one h s a =
     let ss : List Sketch = flat_map sketches_in h.fates in
     let more : flat_map sketches_in (h.fates ++ fate ∷ []) ≡ ss ++ sketch ∷ [] = sketches_push h.fates fate ∙
@@ -110,7 +109,7 @@ holds_drawn setting refused mapped m old new fate sketch one h s a =
       fates = h.fates ++ fate ∷ [];
       glyphs = h.glyphs ++ a.glyph ∷ [];
       planned = chain_push (mapped_fate_of setting refused) mapped m h.fates fate h.planned s;
-      drawn = subst P (sym more) (glyphs_push ss h.glyphs sketch a.glyph h.drawn a.drawn);
+      drawn = subst P (sym more) (glyphs_append ss (sketch ∷ []) h.glyphs (a.glyph ∷ []) h.drawn (a.drawn, tt));
       bounds = a.adds.bounds_are ∙ ap (λ (b : Box). joined b a.glyph.box) h.bounds ∙ sym (bounds_push h.glyphs a.glyph);
       placed = a.placed;
       gathered = gathered_push h.glyphs a.glyph old.gathered new.gathered h.gathered
@@ -151,24 +150,25 @@ holds_left_out setting refused mapped m seen fate none h s =
     }
 
 holds_push : (setting : Setting) (refused : OnRefused) (mapped : List Mapped) (m : Mapped) (old new : Seen) (fate : Fate)
-    → Holds setting refused mapped old → mapped_fate_of setting refused m ≡ Ok fate
-    → HasFate fate old new → Holds setting refused (mapped ++ m ∷ []) new
-holds_push setting refused mapped m old new (Drawn sketch) h s a =
+    (before after : KeptBytes) → Holds setting refused mapped old → mapped_fate_of setting refused m ≡ Ok fate
+    → HasFate fate old new before after → Holds setting refused (mapped ++ m ∷ []) new
+holds_push setting refused mapped m old new (Drawn sketch) before after h s a =
     holds_drawn setting refused mapped m old new (Drawn sketch) sketch refl h s a
-holds_push setting refused mapped m old new (Unhinted notice sketch) h s a =
+holds_push setting refused mapped m old new (Unhinted notice sketch) before after h s a =
     holds_drawn setting refused mapped m old new (Unhinted notice sketch) sketch refl h s a
-holds_push setting refused mapped m old new (LeftOut notice) h s a = grind (arith, h, s, a, holds_left_out)
+holds_push setting refused mapped m old new (LeftOut notice) before after h s a =
+    rw a.0 (holds_left_out setting refused mapped m old (LeftOut notice) refl h s)
 
 -- ---- the same at a place of the characters
 
 pub seen_at : (setting : Setting) (refused : OnRefused) (mapped : List Mapped) (i : ℕ) (old new : Seen)
-    → i < length mapped → Holds setting refused (take i mapped) old
-    → (fate : Fate) × (mapped_fate_of setting refused (mapped_in mapped i) ≡ Ok fate) × HasFate fate old new
+    (before after : KeptBytes) → i < length mapped → Holds setting refused (take i mapped) old
+    → (fate : Fate) × (mapped_fate_of setting refused (mapped_in mapped i) ≡ Ok fate) × HasFate fate old new before after
     → Holds setting refused (take (i + 1) mapped) new
-seen_at setting refused mapped i old new l h d =
+seen_at setting refused mapped i old new before after l h d =
     let P : List Mapped → Type 0 = λ xs. Holds setting refused xs new in
     subst P (sym (take_more mapped i (record { code = 0; glyph = 0 }) l))
-    (holds_push setting refused (take i mapped) (mapped_in mapped i) old new d.0 h d.1 d.2)
+    (holds_push setting refused (take i mapped) (mapped_in mapped i) old new d.0 before after h d.1 d.2)
 
 pub refused_at : (setting : Setting) (refused : OnRefused) (mapped : List Mapped) (i : ℕ) (old : Seen) (refusal : Refusal)
     → i < length mapped → Holds setting refused (take i mapped) old

@@ -1,26 +1,20 @@
--- If each step went well, what was made of a glyph's number is the sketch that is due: `sketch_whole`.
+-- What the steps on the way to a glyph return is what is due of it: `fails_on`, `drawn_whole`.
 -- Serves `sketch_by`, `draw` and `whole_pixels`, the first pass and the laws.
-use Rattle.std.proofs.Common.{◌≡◌, ◌≤◌, ◌^◌, refl, sym, ap, ◌∙◌, subst, arith, ℕ, ℤ, pos, negsuc, Bool, Result, Ok, Err}
+use Rattle.std.proofs.Common.{◌≡◌, ◌≤◌, ◌^◌, sym, ap, ◌∙◌, subst, arith, ℕ, ℤ, pos, negsuc, Bool, Result, Ok, Err}
 use Rattle.std.proofs.Common.{FitsSigned, w32, w64, to_z, of_z}
 use Rattle.std.specs.Prelude.{IfOk, IfErr, unsigned_abs}
 use Rattle.std.proofs.lemmas.Int.{ints}
-use Rattle.fx_fixed.specs.Chain.{map_ok, map_fault}
 use Rattle.fx_fixed.specs.Numbers.{near_of}
-use Rattle.fx_fixed.proofs.Chain.{map_ok_ok}
-use Rattle.fx_sfnt.specs.Glyphs.{metrics_of}
-use Rattle.fx_sfnt.specs.declared.records.Metrics.{Metrics}
 use Rattle.fx_sfnt.specs.declared.fault.FontFault.{FontFault}
 use Rattle.fx_sfnt.specs.declared.fault.FontFault.TheVariants.{NotTrueType}
-use Rattle.fx_hint.specs.Outlines.{GlyphOutlineView}
-use Rattle.fx_raster.specs.Rules.{ShapeView, shape_of}
 use Rattle.fx_raster.specs.Laws.{AreBitsOf}
 use Rattle.fx_raster.specs.Faults.{RasterFault}
 use Rattle.fx_raster.specs.Faults as raster
 use Rattle.fx_bdf.specs.Glyphs.{Box, Glyph, IsTight, IsTrimmed}
 use Rattle.fx_request.specs.declared.refusal.Refusal.TheVariants.{OutOfMemory, WriteFailed, ReadFailed, BadHex, InputTooLarge}
 use Rattle.fx_request.specs.Faults.{of_font}
-use Rattle.fx_strike.specs.Faults.{Fails, of_hint, of_raster}
-use Rattle.fx_strike.specs.Strike.{Sketch, Setting, IsGlyphOf, thousandths, outline_in, rule_in, glyph_sketch_of, Refusal}
+use Rattle.fx_strike.specs.Faults.{Fails, of_raster}
+use Rattle.fx_strike.specs.Strike.{Sketch, IsGlyphOf, Refusal}
 use Rattle.fx_strike.specs.inner.Drawing.{Draws}
 
 -- ---- whole pixels are few
@@ -34,32 +28,6 @@ near_64_small (negsuc n) h = omega (arith, ints)
 
 pub tight_along : (box : Box) (a b : ℤ → ℤ → Bool) → ((col row : ℤ) → a col row ≡ b col row) → IsTight box a → IsTight box b
 tight_along box a b e h = grind (arith, e, h)
-
--- all steps went well: this is the sketch
-pub sketch_whole : (setting : Setting) (code glyph : ℕ) (outline : GlyphOutlineView) (shape : ShapeView) (swidth : ℤ)
-    → map_fault of_hint (outline_in setting glyph) ≡ Ok outline
-    → map_fault (of_raster glyph) (shape_of (rule_in setting outline.wish) outline.ends outline.points) ≡ Ok shape
-    → Ok swidth ≡ map_ok (λ (m : Metrics). thousandths m.advance_width setting.font.head.units_per_em)
-    (map_fault of_font (metrics_of setting.font glyph))
-    → glyph_sketch_of setting code glyph ≡ Ok (record {
-      code = code;
-      swidth = swidth;
-      dwidth = near_of outline.advance (pos 64);
-      shape = shape;
-      usage = outline.usage;
-    })
-unfolding glyph_sketch_of
-sketch_whole setting code glyph outline shape swidth h1 h2 h3 =
-    let m = map_ok_ok (λ (m : Metrics). thousandths m.advance_width setting.font.head.units_per_em)
-    (map_fault of_font (metrics_of setting.font glyph)) swidth (sym h3) in
-    let with_width : ℤ → Result Sketch Refusal = λ z. Ok (record {
-      code = code;
-      swidth = z;
-      dwidth = near_of outline.advance (pos 64);
-      shape = shape;
-      usage = outline.usage;
-    }) in
-    rw (h1, h2, m.1) (ap with_width m.2)
 
 -- out of memory is a refusal whatever was due
 pub memory_fails : {Y : Type 0} (d : Refusal) (due : Result Y Refusal) → d ≡ OutOfMemory → Fails d due
@@ -95,26 +63,9 @@ raster_fails glyph raster.OutOfMemory due h = tt
 raster_fails glyph raster.TooFar due h = h
 raster_fails glyph raster.TooLarge due h = h
 
-font_fails : {Y : Type 0} (f : FontFault) (due : Result Y Refusal) → due ≡ Err (of_font f) → Fails (of_font f) due
+pub font_fails : {Y : Type 0} (f : FontFault) (due : Result Y Refusal) → due ≡ Err (of_font f) → Fails (of_font f) due
 font_fails NotTrueType due h = h
 font_fails _ due h = h
-
-refused_metrics : {Y : Type 0} (view : Metrics → ℤ) (m : Result Metrics FontFault) (d : Refusal) (due : Result Y Refusal)
-    → Err d ≡ map_ok view (map_fault of_font m) → ((f : FontFault) → m ≡ Err f → due ≡ Err (of_font f)) → Fails d due
-refused_metrics view (Ok m) d due h g = absurd (cc)
-refused_metrics view (Err f) d due h g = grind (arith, h, g, font_fails)
-
--- no advance
-pub no_advance : (setting : Setting) (code glyph : ℕ) (drawing : GlyphOutlineView) (shape : ShapeView) (d : Refusal)
-    → map_fault of_hint (outline_in setting glyph) ≡ Ok drawing
-    → map_fault (of_raster glyph) (shape_of (rule_in setting drawing.wish) drawing.ends drawing.points) ≡ Ok shape
-    → Err d ≡ map_ok (λ (m : Metrics). thousandths m.advance_width setting.font.head.units_per_em)
-    (map_fault of_font (metrics_of setting.font glyph))
-    → Fails d (glyph_sketch_of setting code glyph)
-unfolding glyph_sketch_of
-no_advance setting code glyph drawing shape d h1 h2 h3 =
-    refused_metrics (λ (m : Metrics). thousandths m.advance_width setting.font.head.units_per_em) (metrics_of setting.font glyph) d
-    (glyph_sketch_of setting code glyph) h3 (λ f k. rw (h1, h2, k) refl)
 
 -- ---- lemmas for answers
 

@@ -1,5 +1,5 @@
 -- The notices heard character by character are those of the strike, up to the refusal that stops it: `told_strike`.
--- Serves `see`, `survey_mapped`, `write_strike` and `make_strike_telling`.
+-- Serves `see_fate`, `see`, `first_pass`, `write_strike` and `make_strike_telling`.
 use Rattle.std.proofs.Common.{◌≡◌, refl, sym, ap, ◌∙◌, subst, ℕ, ◌+◌, ◌<◌, List, [], ◌∷◌, ◌++◌, length, arith}
 use Rattle.std.proofs.Common.{take, drop, Result, Ok, Err}
 use Rattle.std.specs.Prelude.{IsErrAnd}
@@ -7,14 +7,14 @@ use Rattle.std.specs.List.{flat_map}
 use Rattle.std.proofs.Math.Seq.{take-append_seam, take-length}
 use Rattle.std.proofs.lemmas.List.{take_more, take-append-drop, append-nil}
 use Rattle.std.proofs.lemmas.Grind.{flat_map-append}
-use Rattle.fx_fixed.specs.Chain.{map_chain}
+use Rattle.fx_fixed.specs.Chain.{◌>>=◌, map_chain}
 use Rattle.fx_request.specs.declared.refusal.Refusal.TheVariants.{Halted, WriteFailed, ReadFailed, BadHex, InputTooLarge, OutOfMemory}
 use Rattle.fx_request.specs.declared.request.OnRefused.TheVariants.{Stop, LeaveOut, Unhinted}
 use Rattle.fx_request.specs.Notices.{AreTold, HearsAll, Told}
 use Rattle.fx_strike.specs.Headline.{notices_of}
 use Rattle.fx_strike.specs.Strike.{Sketch, Setting, Plan, Fate, notices_in, fate_by, glyph_fate_of, fates_of, glyph_sketch_of}
 use Rattle.fx_strike.specs.Strike.{machineless, plan_with, Notice, Refusal, OnRefused, rising, Fails, Title}
-use Rattle.fx_strike.specs.inner.Surveying.{notices_by, notices_about}
+use Rattle.fx_strike.specs.inner.Surveying.{HearsBy, notices_by, notices_about}
 use Rattle.fx_strike.specs.inner.Mapping.{fates_in, mapped_fate_of, mapped_in, mapped_of, Mapped}
 use Rattle.fx_strike.proofs.OnePart.{chain_parts}
 use Rattle.fx_strike.proofs.Mapping.{fates_are}
@@ -27,6 +27,12 @@ pub hears_more : {L : Type 0} (Hears : L → Notice → L → Type 0) (ns : List
 hears_more {L} Hears [] was now next ms h g =
     let P : L → Type 0 = λ x. HearsAll Hears x ms next in subst P h g
 hears_more Hears (n ∷ ns) was now next ms h g = (h.0, h.1, hears_more Hears ns h.0 now next ms h.2 g)
+
+-- nothing, however a step ends
+pub hears_none : {L : Type 0} (Hears : L → Notice → L → Type 0) (was : L) (r : Result (Unit {0}) Refusal)
+    → HearsBy Hears was was [] r
+hears_none Hears was (Ok u) = refl
+hears_none Hears was (Err d) = refl
 
 -- ---- characters
 
@@ -59,20 +65,14 @@ silent_of setting m =
 chain_failed : {A B : Type 0} (f : A → Result B Refusal) (xs : List A) (d : Refusal) → map_chain f xs ≡ Err d
     → (x : A) × (f x ≡ Err d)
 chain_failed f [] d h = absurd (cc)
-chain_failed {A} {B} f (x ∷ xs) d h = by_first (f x) refl (λ k. chain_failed f xs d k)
+chain_failed {A} {B} f (x ∷ xs) d h = by (f x) (map_chain f xs) refl refl h (λ k. chain_failed f xs d k)
   where
-    by_rest : (y : B) (r : Result (List B) Refusal) → f x ≡ Ok y → map_chain f xs ≡ r
-        → (map_chain f xs ≡ Err d → (z : A) × (f z ≡ Err d)) → (z : A) × (f z ≡ Err d)
-    by_rest y (Ok ys) e g rest =
-        let k : map_chain f (x ∷ xs) ≡ Ok (y ∷ ys) = rw (e, g) refl in let m : Ok (y ∷ ys) ≡ Err d = sym k ∙ h in absurd (cc)
-    by_rest y (Err c) e g rest = let k : map_chain f (x ∷ xs) ≡ Err c = rw (e, g) refl in rest (g ∙ sym k ∙ h)
-
-    by_first : (r : Result B Refusal) → f x ≡ r → (map_chain f xs ≡ Err d → (z : A) × (f z ≡ Err d)) → (z : A) × (f z ≡ Err d)
-    by_first (Ok y) e rest = by_rest y (map_chain f xs) e refl rest
-    by_first (Err c) e rest =
-        let k : map_chain f (x ∷ xs) ≡ Err c = rw e refl in
-        let m : ◌≡◌ {A = Result (List B) Refusal} (Err c) (Err d) = sym k ∙ h in
-        let same : c ≡ d = cc in (x, e ∙ ap Err same)
+    by : (r : Result B Refusal) (s : Result (List B) Refusal) → f x ≡ r → map_chain f xs ≡ s
+        → (r >>= λ y. s >>= λ ys. Ok (y ∷ ys)) ≡ Err d → (map_chain f xs ≡ Err d → (z : A) × (f z ≡ Err d))
+        → (z : A) × (f z ≡ Err d)
+    by (Ok y) (Ok ys) e g k rest = absurd (cc (k))
+    by (Ok y) (Err c) e g k rest = rest (g ∙ k)
+    by (Err c) s e g k rest = let same : c ≡ d = cc (k) in (x, e ∙ ap Err same)
 
 none_told : (setting : Setting) (mapped : List Mapped) → notices_about setting Stop mapped ≡ []
 none_told setting [] = refl

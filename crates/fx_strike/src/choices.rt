@@ -35,8 +35,7 @@ pub fn chosen(
     // Memory is taken late: after the size and the choice are within their limits, and the font and its map opened.
     ensures late { IsErrOf result Refusal.OutOfMemory → Late (opened_choice_of font.now ppem choice) }
 {
-    let opened = open_choice(font, ppem, choice)?;
-    let mut striker = Striker::of(alloc, &Rows, opened, mode)?;
+    let mut striker = Striker::of(alloc, &Rows, open_choice(font, ppem, choice), mode)?;
     striker.chosen(choice)
 }
 

@@ -1,20 +1,16 @@
 //! The first pass over the characters: a survey of the strike.
-ghost use Rattle.std.specs.Prelude.{◌≡◌, ◌<◌, ◌≤◌, List, ℕ, neg_ℤ, unsigned_abs, length, IfErr, OnOk};
-ghost use Rattle.std.specs.List.{flat_map};
-ghost use Rattle.fx_bdf.specs.Glyphs.{Glyph, IsPlaced};
-ghost use Rattle.fx_bdf.specs.Text.{glyph_text};
-ghost use Rattle.fx_request.specs.Notices.{HearsAll, Told};
-ghost use Rattle.fx_strike.specs.Strike.{AreGlyphsOf, IsGlyphOf, glyph_fate_of, notices_in, pixels, plan_with, sketches_in};
-ghost use Rattle.fx_strike.specs.Strike.{max_characters, max_code, rising, Title};
+ghost use Rattle.std.specs.Prelude.{◌≡◌, ◌≤◌, neg_ℤ, unsigned_abs, IfErr, OnOk};
+ghost use Rattle.fx_request.specs.Notices.{Told};
+ghost use Rattle.fx_strike.specs.Strike.{glyph_fate_of, notices_in, pixels, plan_with, max_code, Title};
 ghost use Rattle.fx_strike.specs.Headline.{notices_of};
-ghost use Rattle.fx_strike.specs.inner.Drawing.{CanBeDrawn, CanBeMade};
-ghost use Rattle.fx_strike.specs.inner.Keeping.{IsKept, IsOfNone, Keeps};
-ghost use Rattle.fx_strike.specs.inner.Mapping.{AreCharactersOf};
-ghost use Rattle.fx_strike.specs.inner.Surveying.{AreChars, IsNarrow, Has, HasFate, SeesOne, Sees, Surveys};
+ghost use Rattle.fx_strike.specs.inner.Drawing.{CanBeDrawn, CanBeMade, IfDue};
+ghost use Rattle.fx_strike.specs.inner.Keeping.{IsKept, IsOfNone};
+ghost use Rattle.fx_strike.specs.inner.Mapping.{fates_in};
+ghost use Rattle.fx_strike.specs.inner.Surveying.{AreChars, CanSee, Holds, IsNarrow, IsPassed, Has, HasFate, HearsBy, SeesOne};
 ghost use Rattle.fx_strike.specs.inner.Surveying.{SurveysNameless, notices_about, notices_by, region_of, survey_from};
-ghost use Rattle.fx_strike.specs.inner.Writing.{AreLinesOf, AreSmall};
+ghost use Rattle.fx_strike.specs.inner.Writing.{AreMapped};
 
-use crate::characters::{Characters, Mapped};
+use crate::characters::Mapped;
 use crate::fate::Fate;
 use crate::kept_text::{KeptBytes, KeptText};
 use crate::opened::Opened;
@@ -26,6 +22,14 @@ use fx_bdf::Bounds;
 use fx_fixed::{Ppem, near};
 use fx_raster::{Region, Scan};
 use fx_request::{Deaf, Listener, OnRefused, Refusal, Report};
+
+/// What the first pass leaves: the characters that the font has, the lines of the first ones, and the survey of all.
+#[derive(Drop)]
+pub(crate) struct FirstPass {
+    pub mapped: Vec<Mapped>,
+    pub kept: KeptText,
+    pub survey: Survey,
+}
 
 /// FUnits in whole pixels.
 pub(crate) fn pixels(units: i32, ppem: Ppem, em: u16) -> i32
@@ -76,20 +80,16 @@ impl<'a, S: Scan> Striker<'a, S> {
         seen: &mut Seen,
         kept: &mut KeptBytes,
     ) -> Result<(), Refusal>
-        requires few { seen.old.glyphs < max_characters }
-        requires placed { IsPlaced seen.old.bounds }
-        requires narrow { IsNarrow seen.old }
+        requires seen { CanSee seen.old }
         requires drawable { CanBeDrawn sketch.now }
         ensures kept { self.new ≡ self.old }
-        ensures seen { OnOk result (Has sketch.now seen.old seen.new) }
-        ensures lines { (glyph : Glyph) → IsGlyphOf sketch.now glyph → OnOk result (Keeps (glyph_text glyph) kept.old kept.new) }
+        ensures seen { OnOk result (Has sketch.now seen.old seen.new kept.old kept.new) }
         ensures fault { IfErr result (λ e. e ≡ Refusal.OutOfMemory) }
     {
         if kept.is_full() && sketch.shape.lies_in(region_of(seen.bounds)) {
             seen.add(sketch, seen.bounds);
             return Ok(());
         }
-        fx_bdf::laws::trimmed();
         let made = self.glyph_of(sketch)?;
         let joined = seen.bounds.joined(made.bounds());
         kept.keep(&made);
@@ -106,17 +106,12 @@ impl<'a, S: Scan> Striker<'a, S> {
         kept: &mut KeptBytes,
         listener: &mut L,
     ) -> Result<(), Refusal>
-        requires few { seen.old.glyphs < max_characters }
-        requires placed { IsPlaced seen.old.bounds }
-        requires narrow { IsNarrow seen.old }
+        requires seen { CanSee seen.old }
         requires drawable { CanBeMade fate.now }
         ensures kept { self.new ≡ self.old }
-        ensures seen { OnOk result (HasFate fate.now seen.old seen.new) }
-        ensures heard { OnOk result (HearsAll L.Hears listener.old (notices_in fate.now) listener.new) }
-        ensures lines { (glyphs : List Glyph) → AreGlyphsOf (sketches_in fate.now) glyphs
-            → OnOk result (Keeps (flat_map glyph_text glyphs) kept.old kept.new) }
+        ensures seen { OnOk result (HasFate fate.now seen.old seen.new kept.old kept.new) }
+        ensures heard { HearsBy L.Hears listener.old listener.new (notices_in fate.now) result }
         ensures fault { IfErr result (λ e. e ≡ Refusal.OutOfMemory) }
-        ensures unheard { IfErr result (λ _. listener.new ≡ listener.old) }
     {
         match fate {
             Fate::Drawn(sketch) => self.see_drawn(sketch, seen, kept),
@@ -143,16 +138,11 @@ impl<'a, S: Scan> Striker<'a, S> {
         listener: &mut L,
     ) -> Result<(), Refusal>
         requires code { m.code ≤ max_code }
-        requires few { seen.old.glyphs < max_characters }
-        requires placed { IsPlaced seen.old.bounds }
-        requires narrow { IsNarrow seen.old }
+        requires seen { CanSee seen.old }
         ensures kept { self.new ≡ self.old }
-        ensures seen { SeesOne (glyph_fate_of self.old refused m.code m.glyph) seen.old seen.new result }
-        ensures heard { OnOk result (HearsAll L.Hears listener.old (notices_by (glyph_fate_of self.old refused m.code m.glyph))
-            listener.new) }
-        ensures unheard { IfErr result (λ _. listener.new ≡ listener.old) }
-        ensures lines { (lines : List ℕ) → AreLinesOf self.old refused m.code m.glyph lines
-            → OnOk result (Keeps lines kept.old kept.new) }
+        ensures seen { SeesOne (glyph_fate_of self.old refused m.code m.glyph) seen.old seen.new kept.old kept.new result }
+        ensures heard { HearsBy L.Hears listener.old listener.new
+            (notices_by (glyph_fate_of self.old refused m.code m.glyph)) result }
     {
         let fate = self.fate_of(refused, m)?;
         let done = self.see_fate(&fate, seen, kept, listener);
@@ -169,13 +159,12 @@ impl<'a, S: Scan> Striker<'a, S> {
         kept: &mut KeptText,
         listener: &mut L,
     ) -> Result<Seen, Refusal>
-        requires few { length mapped.now ≤ max_characters }
-        requires small { AreSmall mapped.now }
+        requires mapped { AreMapped mapped.now }
         requires none { IsOfNone kept.old }
         ensures kept { self.new ≡ self.old }
-        ensures seen { Sees self.old refused mapped.now result }
+        ensures seen { IfDue (Holds self.old refused mapped.now) (fates_in self.old refused mapped.now) result }
+        ensures lines { OnOk result (IsKept self.old refused mapped.now kept.new) }
         ensures heard { Told L.Hears listener.old listener.new (notices_about self.old refused mapped.now) result }
-        ensures lines { OnOk result (IsKept self.old refused mapped.now (length mapped.now) kept.new) }
     {
         let mut seen = Seen::new();
         // `seen` is what is seen of the characters before this one, and what there is to tell of them was told. Their lines are
@@ -206,27 +195,31 @@ impl<'a, S: Scan> Striker<'a, S> {
         }
     }
 
-    /// The survey of the strike of characters, whatever its title. The lines of the first characters are kept.
-    pub(crate) fn survey_mapped<L: Listener>(
+    /// The first pass over the characters of a strike, whatever its title. If there is to be room, it keeps the lines of the first
+    /// characters.
+    pub(crate) fn first_pass<L: Listener>(
         &mut self,
+        chars: &[u32],
         refused: OnRefused,
-        characters: &Characters,
-        kept: &mut KeptText,
+        has_room: bool,
         listener: &mut L,
-    ) -> Result<Survey, Refusal>
-        requires few { length characters.now.mapped.items ≤ max_characters }
-        requires small { AreSmall characters.now.mapped.items }
-        requires none { IsOfNone kept.old }
+    ) -> Result<FirstPass, Refusal>
+        requires chars { AreChars chars.now }
         ensures kept { self.new ≡ self.old }
-        ensures lines { OnOk result (IsKept self.old refused characters.now.mapped.items
-            (length characters.now.mapped.items) kept.new) }
-        ensures survey { (title : Title) (chars : List ℕ) → AreCharactersOf self.old.map (rising chars) characters.now
-            → Surveys (plan_with self.old title chars refused) result }
-        ensures heard { (title : Title) (chars : List ℕ) → AreCharactersOf self.old.map (rising chars) characters.now
-            → Told L.Hears listener.old listener.new (notices_of (plan_with self.old title chars refused)) result }
+        ensures passes { (title : Title)
+            → IfDue (IsPassed self.old title chars.now refused) (plan_with self.old title chars.now refused) result }
+        ensures heard { (title : Title)
+            → Told L.Hears listener.old listener.new (notices_of (plan_with self.old title chars.now refused)) result }
     {
-        let seen = self.see(refused, &characters.mapped, kept, listener)?;
-        Ok(self.survey_from(seen, characters.missing))
+        let characters = self.characters(chars)?;
+        let mut kept = KeptText::new(self.alloc, has_room);
+        let seen = self.see(refused, &characters.mapped, &mut kept, listener)?;
+        let survey = self.survey_from(seen, characters.missing);
+        Ok(FirstPass {
+            mapped: characters.mapped,
+            kept,
+            survey,
+        })
     }
 
     /// The survey of the strike of characters within their limits, whatever its title.
@@ -239,8 +232,7 @@ impl<'a, S: Scan> Striker<'a, S> {
         ensures kept { self.new ≡ self.old }
         ensures survey { SurveysNameless self.old chars.now refused result }
     {
-        let characters = self.characters(chars)?;
-        let mut none = KeptText::new(self.alloc, false);
-        self.survey_mapped(refused, &characters, &mut none, &mut Deaf)
+        let first = self.first_pass(chars, refused, false, &mut Deaf)?;
+        Ok(first.survey)
     }
 }

@@ -48,9 +48,10 @@ impl<'a> FontHinter<'a> {
         ensures { IfOk result (λ h. h ≡ Some machine.entry.known) }
     {
         let keeping = Keeping::new(alloc, machine);
+        let machine = Box::new(alloc, keeping)?;
         Ok(FontHinter {
-            machine: Some(Box::new(alloc, keeping)?),
-            ..FontHinter::none(alloc)
+            machine: Some(machine),
+            unhinted: Keeping::new(alloc, NoHinter),
         })
     }
 

@@ -75,8 +75,7 @@ pub fn make_strike_telling<S: Scan, W: Sink, L: Listener>(
     // The listener heard the strike's notices in turn; if memory ran out, perhaps only the first of them.
     ensures told { Told L.Hears listener.old listener.new (notices_of (strike_of font.now request.now)) result }
 {
-    let opened = open(font, request)?;
-    let mut striker = Striker::of(alloc, scan, opened, request.mode)?;
+    let mut striker = Striker::of(alloc, scan, open(font, request), request.mode)?;
     striker.write_strike(
         &request.title,
         request.chars,
@@ -103,7 +102,6 @@ pub fn survey<S: Scan>(
     // The request passed its checks, and the font and its character map opened.
     ensures late { IsErrOf result Refusal.OutOfMemory → Late (opening_of font.now request.now) }
 {
-    let opened = open(font, request)?;
-    let mut striker = Striker::of(alloc, scan, opened, request.mode)?;
+    let mut striker = Striker::of(alloc, scan, open(font, request), request.mode)?;
     striker.survey_chars(request.chars, request.on_refused)
 }

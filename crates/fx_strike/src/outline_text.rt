@@ -1,11 +1,11 @@
 //! The outline of a glyph as text.
-ghost use Rattle.std.specs.Prelude.{◌≡◌, ◌+◌, ◌*◌, ◌<◌, ◌≤◌, ◌^◌, [], length, option_map, Some, OnOk, IfErr};
+ghost use Rattle.std.specs.Prelude.{◌≡◌, ◌*◌, ◌<◌, ◌≤◌, ◌^◌, [], length, option_map, OnOk};
 ghost use Rattle.fx_fixed.specs.Changes.{change_of};
-ghost use Rattle.fx_fixed.specs.Texts.{Adds, Fails, length_of};
+ghost use Rattle.fx_fixed.specs.Texts.{Adds, Fails};
 ghost use Rattle.fx_fixed.specs.Wrote.{Wrote};
 ghost use Rattle.fx_hint.specs.Outlines.{view_of_glyph_outline};
 ghost use Rattle.fx_strike.specs.Outlines.{advance_line, contour_at, curve_word, outline_text, point_line, point_lines};
-ghost use Rattle.fx_strike.specs.inner.Lengths.{longest_outline};
+ghost use Rattle.fx_strike.specs.inner.Lengths.{AddsFew, longest_outline};
 
 use fx_fixed::{Digits, F26, Sink, TextWriter, WriteFailed};
 use fx_hint::GlyphOutline;
@@ -32,27 +32,26 @@ fn add_text<W: Sink>(
     text: &mut TextWriter<'_, W>,
 ) -> Result<(), WriteFailed>
     requires { text.old.faults < 2 ^ 63 }
-    ensures text { Adds Fails text.old text.new (outline_text (option_map view_of_glyph_outline outline.now)) result }
+    ensures text { AddsFew longest_outline text.old text.new (outline_text (option_map view_of_glyph_outline outline.now)) result }
     ensures ended { OnOk result (text.new.waiting ≡ []) }
-    ensures short { IfErr result (λ e. e.0 ≤ length_of text.old + longest_outline) }
 {
     add_outline(outline, text)?;
     text.end()
 }
 
-/// Adds the text of an outline, or `missing`.
+/// Adds the text of an outline, its points and then its advance, or `missing`.
 fn add_outline<W: Sink>(
     outline: &Option<GlyphOutline>,
     text: &mut TextWriter<'_, W>,
 ) -> Result<(), WriteFailed>
     requires { text.old.faults < 2 ^ 63 }
-    ensures text { Adds Fails text.old text.new (outline_text (option_map view_of_glyph_outline outline.now)) result }
-    // So the number of a fault is exact.
-    ensures short { IfErr result (λ e. e.0 ≤ length_of text.old + longest_outline) }
-    ensures few { OnOk result (length (outline_text (option_map view_of_glyph_outline outline.now)) ≤ longest_outline) }
+    ensures { AddsFew longest_outline text.old text.new (outline_text (option_map view_of_glyph_outline outline.now)) result }
 {
     match outline {
-        Some(outline) => add_lines(outline, text),
+        Some(made) => {
+            add_points(&made.outline.points, &made.outline.ends, text)?;
+            add_advance(made.advance, text)
+        }
         None => text.add(&[b"missing\n"]),
     }
 }
@@ -67,20 +66,6 @@ fn add_advance<W: Sink>(advance: F26, text: &mut TextWriter<'_, W>) -> Result<()
     text.add(&[b"advance ", digits.text(), b"\n"])
 }
 
-/// Adds the lines of an outline: its points, and then its advance.
-fn add_lines<W: Sink>(
-    outline: &GlyphOutline,
-    text: &mut TextWriter<'_, W>,
-) -> Result<(), WriteFailed>
-    requires { text.old.faults < 2 ^ 63 }
-    ensures text { Adds Fails text.old text.new (outline_text (Some (view_of_glyph_outline outline.now))) result }
-    ensures short { IfErr result (λ e. e.0 ≤ length_of text.old + longest_outline) }
-    ensures few { OnOk result (length (outline_text (Some (view_of_glyph_outline outline.now))) ≤ longest_outline) }
-{
-    add_points(&outline.outline.points, &outline.outline.ends, text)?;
-    add_advance(outline.advance, text)
-}
-
 /// Adds the lines of points, by the last points of their contours.
 fn add_points<W: Sink>(
     points: &[OutlinePoint],
@@ -88,9 +73,7 @@ fn add_points<W: Sink>(
     text: &mut TextWriter<'_, W>,
 ) -> Result<(), WriteFailed>
     requires { text.old.faults < 2 ^ 63 }
-    ensures text { Adds Fails text.old text.new (point_lines ends.now 0 points.now) result }
-    ensures short { IfErr result (λ e. e.0 ≤ length_of text.old + 88 * length points.now) }
-    ensures few { OnOk result (length (point_lines ends.now 0 points.now) ≤ 88 * length points.now) }
+    ensures { AddsFew (88 * length points.now) text.old text.new (point_lines ends.now 0 points.now) result }
 {
     // The lines of the points before i were added.
     'points: for i in 0..points.len() {

@@ -1,16 +1,14 @@
 //! The second pass over the characters: it writes the lines that the first pass kept, makes the other characters again, and writes
 //! theirs.
-ghost use Rattle.std.specs.Prelude.{◌≡◌, ◌≤◌, ◌<◌, ◌^◌, ◌+◌, ◌*◌, ◌++◌, ℕ, List, [], length, OnOk};
-ghost use Rattle.std.specs.List.{flat_map};
-ghost use Rattle.fx_fixed.specs.Texts.{Adds, length_of};
-ghost use Rattle.fx_bdf.specs.Properties.{AreLines, seen_properties};
-ghost use Rattle.fx_bdf.specs.Text.{IsName, header_text, glyph_text, end_text, longest_glyph};
+ghost use Rattle.std.specs.Prelude.{◌≡◌, ◌≤◌, ◌<◌, ◌^◌, ◌*◌, ℕ, List, [], ◌∷◌, length, OnOk};
+ghost use Rattle.fx_fixed.specs.Texts.{Adds};
+ghost use Rattle.fx_bdf.specs.Text.{longest_glyph};
 ghost use Rattle.fx_fixed.specs.Changes.{change_of};
-ghost use Rattle.fx_strike.specs.Strike.{AreGlyphsOf, IsGlyphOf, sketches_in, max_characters, max_code, Glyph};
+ghost use Rattle.fx_strike.specs.Strike.{sketches_in, max_code};
 ghost use Rattle.fx_strike.specs.inner.Drawing.{CanBeDrawn, CanBeMade};
-ghost use Rattle.fx_strike.specs.inner.Keeping.{IsKept};
-ghost use Rattle.fx_strike.specs.inner.Writing.{AddsMore, AreLinesOf, AreAllLinesOf, AreSmall, HasRoom, Stops, Writes};
-ghost use Rattle.fx_strike.specs.inner.Writing.{longest_glyphs, longest_text};
+ghost use Rattle.fx_strike.specs.inner.Keeping.{IsKept, IsReady};
+ghost use Rattle.fx_strike.specs.inner.Writing.{AddsPart, AreLinesIn, AreLinesOf, AreMapped, HasRoom, Stops, Writes};
+ghost use Rattle.fx_strike.specs.inner.Writing.{draft_text, longest_glyphs, longest_text};
 
 use crate::characters::Mapped;
 use crate::fate::Fate;
@@ -40,15 +38,10 @@ impl<'a, S: Scan> Striker<'a, S> {
         fate: &Fate,
         text: &mut TextWriter<'_, W>,
     ) -> Result<(), Refusal>
-        requires faults { text.old.faults < 2 ^ 63 }
         requires room { HasRoom text.old longest_glyph }
         requires drawable { CanBeMade fate.now }
         ensures kept { self.new ≡ self.old }
-        ensures same { text.new.sink ≡ text.old.sink }
-        ensures quiet { OnOk result (text.new.faults ≡ text.old.faults) }
-        ensures short { OnOk result (length_of text.new ≤ length_of text.old + longest_glyph) }
-        ensures lines { (glyphs : List Glyph) → AreGlyphsOf (sketches_in fate.now) glyphs
-            → AddsMore text.old text.new (flat_map glyph_text glyphs) result }
+        ensures lines { AddsPart (AreLinesIn (sketches_in fate.now)) longest_glyph text.old text.new result }
     {
         match fate {
             Fate::Drawn(sketch) => self.write_drawn(sketch, text),
@@ -63,14 +56,10 @@ impl<'a, S: Scan> Striker<'a, S> {
         sketch: &Sketch,
         text: &mut TextWriter<'_, W>,
     ) -> Result<(), Refusal>
-        requires faults { text.old.faults < 2 ^ 63 }
         requires room { HasRoom text.old longest_glyph }
         requires drawable { CanBeDrawn sketch.now }
         ensures kept { self.new ≡ self.old }
-        ensures same { text.new.sink ≡ text.old.sink }
-        ensures quiet { OnOk result (text.new.faults ≡ text.old.faults) }
-        ensures short { OnOk result (length_of text.new ≤ length_of text.old + longest_glyph) }
-        ensures lines { (glyph : Glyph) → IsGlyphOf sketch.now glyph → AddsMore text.old text.new (glyph_text glyph) result }
+        ensures lines { AddsPart (AreLinesIn (sketch.now ∷ [])) longest_glyph text.old text.new result }
     {
         fx_bdf::laws::trimmed();
         let drawn = self.glyph_of(sketch)?;
@@ -86,15 +75,10 @@ impl<'a, S: Scan> Striker<'a, S> {
         m: Mapped,
         text: &mut TextWriter<'_, W>,
     ) -> Result<(), Refusal>
-        requires faults { text.old.faults < 2 ^ 63 }
         requires room { HasRoom text.old longest_glyph }
         requires code { m.code ≤ max_code }
         ensures kept { self.new ≡ self.old }
-        ensures same { text.new.sink ≡ text.old.sink }
-        ensures quiet { OnOk result (text.new.faults ≡ text.old.faults) }
-        ensures short { OnOk result (length_of text.new ≤ length_of text.old + longest_glyph) }
-        ensures lines { (lines : List ℕ) → AreLinesOf self.old refused m.code m.glyph lines
-            → AddsMore text.old text.new lines result }
+        ensures lines { AddsPart (AreLinesOf self.old refused (m ∷ [])) longest_glyph text.old text.new result }
     {
         let fate = self.fate_of(refused, m)?;
         let written = self.write_fate(&fate, text);
@@ -109,16 +93,11 @@ impl<'a, S: Scan> Striker<'a, S> {
         mapped: &[Mapped],
         text: &mut TextWriter<'_, W>,
     ) -> Result<(), Refusal>
-        requires faults { text.old.faults < 2 ^ 63 }
         requires room { HasRoom text.old (length mapped.now * longest_glyph) }
-        requires small { AreSmall mapped.now }
+        requires mapped { AreMapped mapped.now }
         ensures kept { self.new ≡ self.old }
-        ensures same { text.new.sink ≡ text.old.sink }
-        ensures quiet { OnOk result (text.new.faults ≡ text.old.faults) }
-        ensures short { OnOk result (length_of text.new ≤ length_of text.old + length mapped.now * longest_glyph) }
-        ensures lines { (lines : List (List ℕ))
-            → AreAllLinesOf self.old refused mapped.now lines
-            → AddsMore text.old text.new (flat_map (λ t. t) lines) result }
+        ensures lines { AddsPart (AreLinesOf self.old refused mapped.now) (length mapped.now * longest_glyph)
+            text.old text.new result }
     {
         // The lines of the characters so far were written.
         'mapped: for m in mapped {
@@ -136,19 +115,13 @@ impl<'a, S: Scan> Striker<'a, S> {
         mapped: &[Mapped],
         text: &mut TextWriter<'_, W>,
     ) -> Result<(), Refusal>
-        requires faults { text.old.faults < 2 ^ 63 }
         requires room { HasRoom text.old longest_glyphs }
-        requires few { length mapped.now ≤ max_characters }
-        requires small { AreSmall mapped.now }
-        requires lines { IsKept self.old refused mapped.now (length mapped.now) kept }
+        requires mapped { AreMapped mapped.now }
+        requires lines { IsKept self.old refused mapped.now kept }
         ensures kept { self.new ≡ self.old }
-        ensures same { text.new.sink ≡ text.old.sink }
-        ensures quiet { OnOk result (text.new.faults ≡ text.old.faults) }
-        ensures short { OnOk result (length_of text.new ≤ length_of text.old + longest_glyphs) }
-        ensures lines { (lines : List (List ℕ))
-            → AreAllLinesOf self.old refused mapped.now lines
-            → AddsMore text.old text.new (flat_map (λ t. t) lines) result }
+        ensures lines { AddsPart (AreLinesOf self.old refused mapped.now) longest_glyphs text.old text.new result }
     {
+        fx_bdf::laws::trimmed();
         text.add(&[kept.bytes.bytes.as_slice()])?;
         let (_, others) = mapped.split_at(kept.count);
         drop(kept);
@@ -162,23 +135,13 @@ impl<'a, S: Scan> Striker<'a, S> {
         draft: &Draft<'_>,
         text: &mut TextWriter<'_, W>,
     ) -> Result<(), Refusal>
-        requires faults { text.old.faults < 2 ^ 63 }
         requires room { HasRoom text.old longest_text }
-        requires name { IsName draft.now.name.now }
-        requires properties { AreLines (seen_properties draft.now.properties.now) }
-        requires few { length draft.now.mapped.now ≤ max_characters }
-        requires small { AreSmall draft.now.mapped.now }
-        requires lines { IsKept self.old draft.now.refused draft.now.mapped.now
-            (length draft.now.mapped.now) kept }
+        requires ready { IsReady self.old draft.now kept }
         ensures kept { self.new ≡ self.old }
         ensures same { text.new.sink ≡ text.old.sink }
         ensures ended { OnOk result (text.new.waiting ≡ []) }
-        ensures lines { (lines : List (List ℕ))
-            → AreAllLinesOf self.old draft.now.refused draft.now.mapped.now lines
-            → Adds Stops text.old text.new
-            (header_text draft.now.name.now (seen_properties draft.now.properties.now) draft.now.header
-            ++ (flat_map (λ t. t) lines ++ end_text))
-            result }
+        ensures lines { (lines : List ℕ) → AreLinesOf self.old draft.now.refused draft.now.mapped.now lines
+            → Adds Stops text.old text.new (draft_text draft.now lines) result }
     {
         write_header(draft.name, draft.properties, &draft.header, text)?;
         self.write_all(draft.refused, kept, draft.mapped, text)?;
@@ -194,19 +157,10 @@ impl<'a, S: Scan> Striker<'a, S> {
         out: &mut W,
     ) -> Result<(), Refusal>
         requires faults { W.fault_count out.old < 2 ^ 63 }
-        requires name { IsName draft.now.name.now }
-        requires properties { AreLines (seen_properties draft.now.properties.now) }
-        requires few { length draft.now.mapped.now ≤ max_characters }
-        requires small { AreSmall draft.now.mapped.now }
-        requires lines { IsKept self.old draft.now.refused draft.now.mapped.now
-            (length draft.now.mapped.now) kept }
+        requires ready { IsReady self.old draft.now kept }
         ensures kept { self.new ≡ self.old }
-        ensures text { (lines : List (List ℕ))
-            → AreAllLinesOf self.old draft.now.refused draft.now.mapped.now lines
-            → Writes (change_of W.held W.fault_count out.old out.new)
-            (header_text draft.now.name.now (seen_properties draft.now.properties.now) draft.now.header
-            ++ (flat_map (λ t. t) lines ++ end_text))
-            result }
+        ensures lines { (lines : List ℕ) → AreLinesOf self.old draft.now.refused draft.now.mapped.now lines
+            → Writes (change_of W.held W.fault_count out.old out.new) (draft_text draft.now lines) result }
     {
         let mut text = TextWriter::new(out);
         let result = self.write_parts(kept, draft, &mut text);

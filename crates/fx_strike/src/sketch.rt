@@ -1,9 +1,7 @@
 //! From a glyph's number to its outline, its shape and its advance: a character before its bits.
 ghost use Rattle.std.specs.Prelude.{◌≡◌};
-ghost use Rattle.fx_fixed.specs.Chain.{map_ok, map_fault, GivesUnless};
-ghost use Rattle.fx_sfnt.specs.Glyphs.{metrics_of};
+ghost use Rattle.fx_fixed.specs.Chain.{map_fault, GivesUnless};
 ghost use Rattle.fx_hint.specs.Outlines.{view_of_glyph_outline, outline_with};
-ghost use Rattle.fx_request.specs.Faults.{of_font};
 ghost use Rattle.fx_strike.specs.Faults.{Fails, of_hint};
 ghost use Rattle.fx_strike.specs.Outlines.{outlined_with};
 ghost use Rattle.fx_strike.specs.Strike.{hinting_by, machineless, setting_with, thousandths, glyph_sketch_of};
@@ -18,7 +16,7 @@ use fx_hint::{GlyphOutline, Spare, outline_in};
 use fx_machine::Usage;
 use fx_raster::{Scan, Shape};
 use fx_request::Refusal;
-use fx_sfnt::Font;
+use fx_sfnt::UnitsPerEm;
 use std::alloc::Global;
 use std::marker::Model;
 
@@ -71,14 +69,11 @@ fn outline_by(
     }
 }
 
-/// The advance of a glyph in 1/1000 of an em.
-fn thousandths_at(font: &Font<'_>, glyph: u16) -> Result<i32, Refusal>
-    ensures { result ≡ map_ok (λ m. thousandths m.advance_width font.now.head.units_per_em)
-        (map_fault of_font (metrics_of font.now glyph)) }
+/// An advance of FUnits in 1/1000 of an em.
+fn thousandths(advance: u16, em: UnitsPerEm) -> i32
+    ensures { result ≡ thousandths advance em }
 {
-    let advance = i128::from(font.metrics(glyph)?.advance_width);
-    let em = font.head().units_per_em.funits();
-    Ok(near(advance * 1000, i128::from(em)) as i32)
+    near(i128::from(advance) * 1000, i128::from(em.funits())) as i32
 }
 
 /// The sketch of a code point by its glyph's number, or the first cause why it has none.
@@ -100,10 +95,11 @@ fn sketch_by(
         Ok(shape) => shape,
         Err(fault) => return Err(of_raster(glyph, fault)),
     };
-    let swidth = thousandths_at(&basis.opened.font, glyph)?;
+    let metrics = basis.opened.font.metrics(glyph)?;
+    let em = basis.opened.font.head().units_per_em;
     Ok(Sketch {
         code,
-        swidth,
+        swidth: thousandths(metrics.advance_width, em),
         advance: made.advance,
         shape,
         usage: made.usage,

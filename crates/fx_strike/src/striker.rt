@@ -3,10 +3,11 @@ ghost use Rattle.std.specs.Prelude.{◌≡◌, ◌<◌, ◌^◌, [], ◌∷◌, 
 ghost use Rattle.fx_fixed.specs.Chain.{GivesUnless};
 ghost use Rattle.fx_fixed.specs.Changes.{change_of};
 ghost use Rattle.fx_strike.specs.Title.{titled};
-ghost use Rattle.fx_strike.specs.Strike.{setting_for, setting_in, setting_of, opened_at, opened_many_of, checked_chars};
+ghost use Rattle.fx_strike.specs.Strike.{setting_for, setting_of, opened_at, opened_many_of, checked_chars};
 ghost use Rattle.fx_strike.specs.Strike.{checked_text, setting_with, Fails};
 ghost use Rattle.fx_strike.specs.Numbers.{IsDrawnOf, numbered_with};
-ghost use Rattle.fx_strike.specs.Headline.{IsOneOf, Surveyed, Makes, Late, strike_with, nameless_with, character_with};
+ghost use Rattle.fx_strike.specs.Headline.{IsCause, IsOneOf, Surveyed, Makes, Late, strike_with, nameless_with, character_with};
+ghost use Rattle.fx_strike.specs.inner.Opening.{setting_after};
 
 use crate::hinter::{FontHinter, hinter_at};
 use crate::open::{check_chars, check_text, open_many};
@@ -86,22 +87,24 @@ impl<'a> Striker<'a, Rows> {
         // The size is valid, the characters are within their limits, and the font and its character map opened.
         ensures late { IsErrOf result Refusal.OutOfMemory → Late (opened_many_of font.now ppem chars.now) }
     {
-        let opened = open_many(font, ppem, chars)?;
-        Striker::of(alloc, &Rows, opened, mode)
+        Striker::of(alloc, &Rows, open_many(font, ppem, chars), mode)
     }
 }
 
 impl<'a, S: Scan> Striker<'a, S> {
-    /// A striker of an opened font. With hinting on, the font's programs run.
-    #[tactic(auto, unfolding(crate::specs::Strike::setting_in))]
+    /// A striker of a font that was opened, or the cause why it was not. With hinting on, the font's programs run.
+    #[tactic(auto, unfolding(crate::specs::Strike::setting_in, crate::specs::inner::Opening::setting_after))]
     pub(crate) fn of(
         alloc: Global,
         scan: &'a S,
-        opened: Opened<'a>,
+        opening: Result<Opened<'a>, Refusal>,
         mode: Mode,
     ) -> Result<Striker<'a, S>, Refusal>
-        ensures { GivesUnless Fails (λ s. s) result (setting_in opened.entry mode) }
+        requires { IfErr opening IsCause }
+        ensures setting { GivesUnless Fails (λ s. s) result (setting_after opening.entry mode) }
+        ensures late { IsErrOf result Refusal.OutOfMemory → Late opening.entry }
     {
+        let opened = opening?;
         let hinter = hinter_at(alloc, &opened, mode.hinting)?;
         let dropout = mode.dropout;
         Ok(Striker::with(alloc, scan, Basis { opened, dropout }, hinter))

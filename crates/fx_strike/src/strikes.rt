@@ -8,7 +8,7 @@ ghost use Rattle.fx_strike.specs.Headline.{Leaves, notices_of};
 ghost use Rattle.fx_strike.specs.inner.Drawing.{Finds};
 ghost use Rattle.fx_strike.specs.inner.Surveying.{AreChars, IsChecked};
 
-use crate::kept_text::KeptText;
+use crate::first_pass::FirstPass;
 use crate::second_pass::Draft;
 use crate::striker::Striker;
 use fx_bdf::{BitGlyph, Title};
@@ -51,16 +51,18 @@ impl<'a, S: Scan> Striker<'a, S> {
             (notices_of (plan_with self.old (titled title.now) chars.now refused)) result }
     {
         let ppem = self.basis.opened.ppem;
-        let characters = self.characters(chars)?;
-        let mut kept = KeptText::new(self.alloc, true);
-        let survey = self.survey_mapped(refused, &characters, &mut kept, listener)?;
-        let header = survey.header(ppem);
+        let first = self.first_pass(chars, refused, true, listener)?;
+        let FirstPass {
+            mapped,
+            kept,
+            survey,
+        } = first;
         let properties = title.all_properties(self.alloc, ppem.pixels(), survey.summary)?;
         let draft = Draft {
             name: title.name,
             properties: &properties,
-            header,
-            mapped: &characters.mapped,
+            header: survey.header(ppem),
+            mapped: &mapped,
             refused,
         };
         self.write_text(kept, &draft, out)?;

@@ -1,19 +1,24 @@
 -- What is seen of characters so far, before the first byte of a strike is written.
-use Rattle.std.specs.Prelude.{◌≡◌, neg_ℤ, ℕ, ◌+◌, ◌*◌, ◌^◌, ◌≤◌, nat_lt, false, List, [], length, map, Result, Ok, Err}
+use Rattle.std.specs.Prelude.{◌≡◌, neg_ℤ, ℕ, ◌+◌, ◌*◌, ◌^◌, ◌<◌, ◌≤◌, nat_lt, false, List, [], length, map, Result, Ok, Err}
 use Rattle.std.specs.List.{sum_by, flat_map, list_any}
 use Rattle.fx_fixed.specs.Numbers.{counted}
 use Rattle.fx_raster.specs.declared.region.Region.{Region}
 use Rattle.fx_bdf.specs.Glyphs.{Box, Glyph, IsPlaced, no_box, joined, bounds_of}
 use Rattle.fx_bdf.specs.Properties.{AreProperties}
-use Rattle.fx_bdf.specs.Text.{IsName}
+use Rattle.fx_bdf.specs.Text.{IsName, glyph_text}
 use Rattle.fx_machine.specs.Usages.{no_usage, usage_with}
+use Rattle.fx_request.specs.Notices.{HearsAll}
+pub use Rattle.fx_strike.specs.declared.first_pass.FirstPass.{FirstPass}
 pub use Rattle.fx_strike.specs.declared.seen.Seen.{Seen}
-use Rattle.fx_strike.specs.Strike.{Sketch, Setting, Plan, Fate, IsGlyphOf, AreGlyphsOf, sketches_in, notices_in, pixels, plan_with}
-use Rattle.fx_strike.specs.Strike.{prelude_by, wish_in, Refusal, Fails, max_characters, max_code, Notice, OnRefused, Title}
+use Rattle.fx_strike.specs.Strike.{Sketch, Setting, Fate, IsGlyphOf, AreGlyphsOf, sketches_in, notices_in, pixels, plan_with}
+use Rattle.fx_strike.specs.Strike.{prelude_by, wish_in, rising, Refusal, max_characters, max_code, Notice, OnRefused, Title}
 use Rattle.fx_strike.specs.declared.fate.Fate.TheVariants.{Drawn, Unhinted, LeftOut}
 use Rattle.fx_strike.specs.Headline.{Surveyed, Survey}
+use Rattle.fx_strike.specs.inner.Drawing.{IfDue}
 use Rattle.fx_strike.specs.inner.Gathering.{IsGatheredOf, gathered_with, summary_with}
-use Rattle.fx_strike.specs.inner.Mapping.{fates_in, mapped_fate_of, Mapped}
+use Rattle.fx_strike.specs.inner.Keeping.{IsKept, Keeps, KeptBytes}
+use Rattle.fx_strike.specs.inner.Mapping.{fates_in, mapped_fate_of, mapped_of, Mapped}
+use Rattle.fx_strike.specs.inner.Writing.{AreMapped}
 
 -- characters within their limits
 pub record AreChars (chars : List ℕ) : Type 0 where
@@ -48,27 +53,34 @@ pub record AddsSketch (sketch : Sketch) (bounds : Box) (old new : Seen) : Type 0
 abbrev pub region_of : Box → Region
 region_of box = record { left = box.left; bottom = box.bottom; width = box.width; height = box.height }
 
--- the box of the glyph of a sketch is joined to a box; or memory ran out
+-- the box of the glyph of a sketch is joined to a box
 abbrev pub Joins : Sketch → Box → Box → Type 0
 Joins sketch old new = (glyph : Glyph) × IsGlyphOf sketch glyph × (new ≡ joined old glyph.box) × IsPlaced new
 
--- the character of a sketch was seen
-pub record Has (sketch : Sketch) (old new : Seen) : Type 0 where
+-- a character more can be seen
+pub record CanSee (seen : Seen) : Type 0 where
+  pub few : seen.glyphs < max_characters
+  pub placed : IsPlaced seen.bounds
+  pub narrow : IsNarrow seen
+
+-- the character of a sketch was seen, and its glyph's lines were kept, if there was room
+pub record Has (sketch : Sketch) (old new : Seen) (before after : KeptBytes) : Type 0 where
   pub glyph : Glyph
   pub drawn : IsGlyphOf sketch glyph
   pub placed : IsPlaced new.bounds
   pub adds : AddsSketch sketch (joined old.bounds glyph.box) old new
+  pub lines : Keeps (glyph_text glyph) before after
 
 -- a character with this fate was seen
-abbrev pub HasFate : Fate → Seen → Seen → Type 0
-HasFate (Drawn sketch) old new = Has sketch old new
-HasFate (Unhinted notice sketch) old new = Has sketch old new
-HasFate (LeftOut notice) old new = new ≡ old
+abbrev pub HasFate : Fate → Seen → Seen → KeptBytes → KeptBytes → Type 0
+HasFate (Drawn sketch) old new before after = Has sketch old new before after
+HasFate (Unhinted notice sketch) old new before after = Has sketch old new before after
+HasFate (LeftOut notice) old new before after = (new ≡ old) × (after ≡ before)
 
--- a character is seen if what becomes of it is due; a refusal is one that is due, or out of memory
-abbrev pub SeesOne : Result Fate Refusal → Seen → Seen → Result (Unit {0}) Refusal → Type 0
-SeesOne due old new (Ok _) = (fate : Fate) × (due ≡ Ok fate) × HasFate fate old new
-SeesOne due old new (Err refusal) = Fails refusal due
+-- a character was seen, if what becomes of it is due
+abbrev pub SeesOne : Result Fate Refusal → Seen → Seen → KeptBytes → KeptBytes → Result (Unit {0}) Refusal → Type 0
+SeesOne due old new before after result =
+    IfDue (λ _. (fate : Fate) × (due ≡ Ok fate) × HasFate fate old new before after) due result
 
 -- these characters were seen
 pub record Holds (setting : Setting) (refused : OnRefused) (mapped : List Mapped) (seen : Seen) : Type 0 where
@@ -85,16 +97,16 @@ pub record Holds (setting : Setting) (refused : OnRefused) (mapped : List Mapped
   pub steps : seen.usage.steps ≡ counted (sum_by (λ s. s.usage.steps) (flat_map sketches_in fates))
   pub each : seen.glyphs ≤ length mapped
 
--- they are seen if what becomes of them is due; a refusal is one that is due, or out of memory
-abbrev pub Sees : Setting → OnRefused → List Mapped → Result Seen Refusal → Type 0
-Sees setting refused mapped (Ok seen) = Holds setting refused mapped seen
-Sees setting refused mapped (Err refusal) = Fails refusal (fates_in setting refused mapped)
-
 -- ---- what is told
 
 abbrev pub notices_by : Result Fate Refusal → List Notice
 notices_by (Ok fate) = notices_in fate
 notices_by (Err cause) = []
+
+-- a listener hears these if all went well, and else nothing
+abbrev pub HearsBy : {L : Type 0} → (L → Notice → L → Type 0) → L → L → List Notice → Result (Unit {0}) Refusal → Type 0
+HearsBy Hears was now notices (Ok _) = HearsAll Hears was notices now
+HearsBy Hears was now notices (Err refusal) = now ≡ was
 
 -- all that there is to tell of characters
 abbrev pub notices_about : Setting → OnRefused → List Mapped → List Notice
@@ -117,11 +129,16 @@ survey_from setting seen missing = record {
   };
 }
 
--- there is a survey if a plan is due; a refusal is one that is due, or out of memory
-abbrev pub Surveys : Result Plan Refusal → Result Survey Refusal → Type 0
-Surveys due (Ok survey) = Surveyed due survey
-Surveys due (Err refusal) = Fails refusal due
-
 -- that of characters, whatever their title
 abbrev pub SurveysNameless : Setting → List ℕ → OnRefused → Result Survey Refusal → Type 0
-SurveysNameless setting chars refused result = (title : Title) → Surveys (plan_with setting title chars refused) result
+SurveysNameless setting chars refused result =
+    (title : Title) → IfDue (Surveyed (plan_with setting title chars refused)) (plan_with setting title chars refused) result
+
+-- ---- what the first pass leaves
+
+-- the characters of a strike were seen, the lines of the first ones are kept, and this is their survey
+pub record IsPassed (setting : Setting) (title : Title) (chars : List ℕ) (refused : OnRefused) (first : FirstPass) : Type 0 where
+  pub mapped_are : first.mapped.items ≡ mapped_of setting.map (rising chars)
+  pub within : AreMapped first.mapped.items
+  pub lines : IsKept setting refused first.mapped.items first.kept
+  pub surveyed : Surveyed (plan_with setting title chars refused) first.survey

@@ -3,9 +3,9 @@ use Rattle.std.specs.Int.{w32}
 use Rattle.std.proofs.lemmas.Int.{ints}
 use Rattle.fx_fixed.specs.Chain.{map_fault}
 use Rattle.fx_strike.specs.Faults.{of_raster}
-use Rattle.fx_strike.specs.Strike.{glyph_sketch_of, setting_with}
+use Rattle.fx_strike.specs.Strike.{glyph_sketch_of}
 use Rattle.fx_strike.proofs.Exits.{came}
-use Rattle.fx_strike.proofs.Sketching.{fails_on, no_advance, raster_fails, sketch_whole}
+use Rattle.fx_strike.proofs.Sketching.{fails_on, font_fails, raster_fails}
 use Rattle.fx_strike.proofs.sketch.sketch_by.Goals as goal
 
 pub returns-in_err-made-clause-sketch : goal.returns-in_err-made-clause-sketch
@@ -21,17 +21,18 @@ returns-in-Err-clause-sketch c =
     (rw c.rule_for-rule.ensures at (raster_fails c.args.glyph c.in-Err.fault _
     (ap (map_fault (of_raster c.args.glyph)) (sym c.in-Err.ensures)))))
 
-pub returns-in_err-swidth-clause-sketch : goal.returns-in_err-swidth-clause-sketch
-returns-in_err-swidth-clause-sketch c =
-    rw (came c.from_residual-in_err-swidth.result c.from_residual-in_err-swidth.ensures.1)
-    (no_advance (setting_with c.args.basis.now c.args.hinter.now) c.args.code c.args.glyph _ c.in-Ok.shape _
-    (c.in_ok-made.ensures).outline
-    (ap (map_fault (of_raster c.args.glyph)) (rw c.rule_for-rule.ensures at (sym c.in-Ok.ensures)))
-    c.in_err-swidth.ensures)
+pub returns-in_err-metrics-clause-sketch : goal.returns-in_err-metrics-clause-sketch
+unfolding glyph_sketch_of
+returns-in_err-metrics-clause-sketch c =
+    let shape = ap (map_fault (of_raster c.args.glyph)) (rw c.rule_for-rule.ensures at (sym c.in-Ok.ensures)) in
+    let k = sym (c.in_err-metrics.ensures).value in
+    rw (came c.from_residual-in_err-metrics.result c.from_residual-in_err-metrics.ensures.1)
+    (font_fails _ _ (rw ((c.in_ok-made.ensures).outline, shape, k)))
 
 pub returns-clause-sketch : goal.returns-clause-sketch
+unfolding glyph_sketch_of
 returns-clause-sketch c =
-    let cast : to_z w32 (of_z w32 c.in_ok-swidth.swidth) ≡ c.in_ok-swidth.swidth = omega (arith, ints) in
-    rw cast (sketch_whole (setting_with c.args.basis.now c.args.hinter.now) c.args.code c.args.glyph _ c.in-Ok.shape _
-    (c.in_ok-made.ensures).outline
-    (ap (map_fault (of_raster c.args.glyph)) (rw c.rule_for-rule.ensures at (sym c.in-Ok.ensures))) c.in_ok-swidth.ensures)
+    let cast : to_z w32 (of_z w32 c.thousandths.result) ≡ c.thousandths.result = omega (arith, ints) in
+    let shape = ap (map_fault (of_raster c.args.glyph)) (rw c.rule_for-rule.ensures at (sym c.in-Ok.ensures)) in
+    let k = sym (c.in_ok-metrics.ensures).value in
+    rw ((c.in_ok-made.ensures).outline, shape, k, cast, c.thousandths.ensures, c.head-em.ensures)

@@ -8,7 +8,7 @@ use Rattle.fx_strike.proofs.striker.Striker.see.Given as goal
 abbrev pub invariant-mapped : goal.invariant-mapped
 invariant-mapped g l = record {
   kept : l.self ≡ l.fn.self;
-  lines : IsKept l.fn.self l.refused l.mapped l.m-index l.kept;
+  lines : IsKept l.fn.self l.refused (take l.m-index l.mapped) l.kept;
   held : Holds l.fn.self l.refused (take l.m-index l.mapped) l.seen;
   heard : HearsAll g.L.Listener.Hears l.fn.listener (notices_about l.fn.self l.refused (take l.m-index l.mapped)) l.listener;
 }

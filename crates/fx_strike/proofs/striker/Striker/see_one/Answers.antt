@@ -1,9 +1,6 @@
-use Rattle.std.proofs.Common.{arith}
-use Rattle.std.proofs.Common.{OnOk}
-use Rattle.fx_strike.specs.inner.Keeping.{Keeps}
+use Rattle.std.proofs.Common.{refl}
 use Rattle.fx_strike.proofs.Exits.{came}
 use Rattle.fx_strike.proofs.Fates.{can_be_made, seen_fate}
-use Rattle.fx_strike.proofs.Lines.{lines_fate}
 use Rattle.fx_strike.proofs.striker.Striker.see_one.Goals as goal
 
 pub see_fate-done-requires-clause-drawable : goal.see_fate-done-requires-clause-drawable
@@ -14,14 +11,13 @@ pub returns-in_err-fate-clause-seen : goal.returns-in_err-fate-clause-seen
 returns-in_err-fate-clause-seen g c =
     rw (came c.from_residual.result c.from_residual.ensures.1) (c.in_err-fate.ensures).fate
 
+pub returns-in_err-fate-clause-heard : goal.returns-in_err-fate-clause-heard
+returns-in_err-fate-clause-heard g c = rw (came c.from_residual.result c.from_residual.ensures.1) refl
+
 pub returns-clause-seen : goal.returns-clause-seen
 returns-clause-seen g c =
-    grind (arith, c.in_ok-fate.ensures, c.see_fate-done.ensures.seen, c.see_fate-done.ensures.fault, seen_fate)
+    seen_fate _ _ _ _ c.see_fate-done.result c.in_ok-fate.fate (c.in_ok-fate.ensures).fate c.see_fate-done.ensures.seen
+    c.see_fate-done.ensures.fault
 
 pub returns-clause-heard : goal.returns-clause-heard
 returns-clause-heard g c = rw (c.in_ok-fate.ensures).fate c.see_fate-done.ensures.heard
-
-pub returns-clause-lines : goal.returns-clause-lines
-returns-clause-lines g c text h =
-    lines_fate (λ t. OnOk c.see_fate-done.result (Keeps t c.args.kept.now c.see_fate-done.new.kept)) c.in_ok-fate.fate
-    (c.in_ok-fate.ensures).fate c.see_fate-done.ensures.lines h
