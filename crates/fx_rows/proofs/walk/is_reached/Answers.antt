@@ -1,4 +1,4 @@
-use Rattle.std.proofs.Common.{◌≡◌, ◌∙◌, ◌^◌, ◌↔◌, IsTrue, ℤ, pos, ◌*ℤ◌, ◌-ℤ◌, ◌≤ℤ◌, [], ◌∷◌, to_z, of_z, arith}
+use Rattle.std.proofs.Common.{◌≡◌, ◌∙◌, ◌^◌, ◌↔◌, IsTrue, ℤ, pos, ◌*ℤ◌, ◌-ℤ◌, ◌≤ℤ◌, [], ◌∷◌, FitsSigned, to_z, of_z, arith}
 use Rattle.std.proofs.lemmas.Int.{ints}
 use Rattle.fx_fixed.specs.Polynomial.{var, num, ◌⊠◌, ◌⊟◌}
 use Rattle.fx_fixed.specs.Ranges.{IsWithin}
@@ -34,3 +34,22 @@ returns c =
     rw (x, y) (reached_by (a.v *ℤ a.v) ((pos 4 *ℤ a.u) *ℤ a.w) (gap_of a.u a.v a.w)
     (ring (a.u ∷ a.v ∷ a.w ∷ []) (num (pos 4) ⊠ (var 0 ⊠ var 2) ⊟ var 1 ⊠ var 1)
     ((num (pos 4) ⊠ var 0) ⊠ var 2 ⊟ var 1 ⊠ var 1) tt))
+
+pub overflow_mul-areas : goal.overflow_mul-areas
+overflow_mul-areas c = omega (arith, signed, c.args.areas.near_u)
+
+product_fits : (x y : ℤ) → IsWithin (2 ^ 57) x → IsWithin (2 ^ 57) y → FitsSigned w128 (x *ℤ y)
+product_fits x y h k = let small = product_within (2 ^ 57) (2 ^ 57) x y h k in omega (arith, signed_linear, small)
+
+pub overflow_mul-result : goal.overflow_mul-result
+overflow_mul-result c =
+    let u = c.args.areas.near_u in
+    let w = c.args.areas.near_w in
+    product_fits (to_z w128 (of_z w128 c.from.result)) (to_z w128 (of_z w128 c.from-2.result))
+    (omega (arith, signed, u), omega (arith, signed, u)) (omega (arith, signed_linear, w), omega (arith, signed_linear, w))
+
+pub overflow_mul-result-2 : goal.overflow_mul-result-2
+overflow_mul-result-2 c =
+    let v = c.args.areas.near_v in
+    product_fits (to_z w128 (of_z w128 c.from-3.result)) (to_z w128 (of_z w128 c.from-4.result))
+    (omega (arith, signed_linear, v), omega (arith, signed_linear, v)) (omega (arith, signed_linear, v), omega (arith, signed_linear, v))
