@@ -1,10 +1,16 @@
-use Rattle.std.proofs.Common.{◌≢◌, ap, ℕ, ◌+◌, arith}
+use Rattle.std.proofs.Common.{◌≡◌, ◌≢◌, inl, inr, ap, ℕ, ◌+◌, pos, ◌+ℤ◌, arith}
 use Rattle.std.specs.Prelude.{◌==◌}
+use Rattle.fx_fixed.proofs.Linear.{signed_linear}
 use Rattle.fx_rows.proofs.Marking.{marked}
 use Rattle.fx_rows.proofs.marks.mark_column.Goals as goal
 
 pub returns-clause-row : goal.returns-clause-row
-returns-clause-row c = grind (arith, c.across.ensures.at, c.set_bit.ensures.here, c.set_bit.ensures.others, marked)
+returns-clause-row c = λ k.
+    let r = c.across.result in
+    let at : c.args.frame.left +ℤ pos r ≡ c.args.col = omega (arith, signed_linear, c.across.ensures.at) in
+    marked c.args.line.now c.set_bit.new.words c.args.frame.left c.args.col c.args.col r r k c.args.from at at
+    (λ h l. let e : k ≡ r = omega arith in rw e c.set_bit.ensures.here)
+    (λ o. c.set_bit.ensures.others (c.args.from + k) (elim o [ inl h ↦ omega arith | inr h ↦ omega arith ]))
 
 pub returns-clause-under : goal.returns-clause-under
 returns-clause-under c = λ n h.
