@@ -1,6 +1,7 @@
 use Rattle.std.proofs.Common.{◌≡◌, ◌<ℤ◌, arith, w32, to_z, of_z}
 use Rattle.std.proofs.lemmas.Int.{clamps}
 use Rattle.fx_fixed.proofs.Linear.{signed_linear}
+use Rattle.fx_winding.proofs.Places.{clash, no}
 use Rattle.fx_rows.proofs.Bulges.{line_same}
 use Rattle.fx_rows.proofs.bulge.has_line_to.Goals as goal
 
@@ -18,3 +19,12 @@ returns c =
       λ t. record { below = one; below_too = two; line = first.0 c.if-not-has_line.false; line_too = second.0 t },
       λ h. second.1 h.line_too,
     )
+
+pub returns-then-min-x : goal.returns-then-min-x
+returns-then-min-x c = grind (arith, signed_linear, clamps, c.min.ensures, c.if-min-x.true)
+
+pub returns-then-not-has_line : goal.returns-then-not-has_line
+returns-then-not-has_line c =
+    let x : to_z w32 (of_z w32 c.args.x) ≡ c.args.x = omega (arith, signed_linear, c.requires.near_x) in
+    let y : to_z w32 (of_z w32 c.args.y) ≡ c.args.y = omega (arith, signed_linear, c.requires.near_y) in
+    no (λ h. clash c.has_line.result c.if-not-has_line.true ((line_same c.has_line.result x y c.has_line.ensures).1 h.line))

@@ -1,3 +1,5 @@
+use Rattle.std.proofs.Common.{arith}
+use Rattle.std.proofs.lemmas.Int.{to_z-of_z}
 use Rattle.fx_winding.specs.Winding.{span_of}
 use Rattle.fx_rows.proofs.Cutting.{slanted}
 use Rattle.fx_rows.proofs.Straight.{straight_met}
@@ -7,6 +9,9 @@ use Rattle.fx_rows.proofs.cut.line_cut.Goals as goal
 
 pub edge_from-edge-requires-clause-slanted : goal.edge_from-edge-requires-clause-slanted
 edge_from-edge-requires-clause-slanted c = slanted _ _ _ c.requires.inner
+
+pub edge_from-edge-requires-clause-start : goal.edge_from-edge-requires-clause-start
+edge_from-edge-requires-clause-start c = grind (arith, to_z-of_z, c.requires.start)
 
 pub returns : goal.returns
 returns c =

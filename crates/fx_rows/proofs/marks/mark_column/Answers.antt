@@ -1,5 +1,6 @@
-use Rattle.std.proofs.Common.{◌≢◌, ap, ℕ, ◌+◌, arith}
+use Rattle.std.proofs.Common.{◌≡◌, ◌≢◌, inl, inr, ap, ℕ, ◌+◌, pos, ◌+ℤ◌, arith}
 use Rattle.std.specs.Prelude.{◌==◌}
+use Rattle.fx_fixed.proofs.Linear.{signed_linear}
 use Rattle.fx_rows.proofs.Marking.{marked}
 use Rattle.fx_rows.proofs.marks.mark_column.Goals as goal
 

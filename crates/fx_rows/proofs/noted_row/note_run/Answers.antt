@@ -33,3 +33,12 @@ note_column-requires-in-Some-clause-near c =
     let near = run_column c.args.line.frame c.args.run c.in-Some.run' c.in-Some.is c.requires.inside in
     let side = c.args.line.frame.columns in
     (omega (arith, signed_linear, near, side), omega (arith, signed_linear, near, side))
+
+pub overflow_add-run : goal.overflow_add-run
+overflow_add-run c =
+    let near = run_column c.args.line.frame c.args.run c.in-Some.run' c.in-Some.is c.requires.inside in
+    let side = c.args.line.frame.columns in
+    omega (arith, signed_linear, near, side)
+
+pub note_column-requires-in-Some-clause-room : goal.note_column-requires-in-Some-clause-room
+note_column-requires-in-Some-clause-room c = omega arith

@@ -1,4 +1,4 @@
-use Rattle.std.proofs.Common.{◌∙◌, ap, ◌^◌, ℤ, pos, ◌-ℤ◌, neg_ℤ, arith, to_z, of_z, FitsSigned}
+use Rattle.std.proofs.Common.{◌≡◌, ◌∙◌, ap, ◌^◌, ℤ, pos, ◌-ℤ◌, ◌*ℤ◌, neg_ℤ, arith, w64, to_z, of_z, FitsSigned}
 use Rattle.fx_fixed.proofs.Linear.{signed_linear}
 use Rattle.fx_fixed.specs.Ranges.{IsWithin}
 use Rattle.fx_winding.specs.Meets.{slope}
@@ -9,6 +9,15 @@ use mir.Syntax.{w128}
 
 negated_fits : (z : ℤ) → IsWithin (2 ^ 113) z → FitsSigned w128 (pos 0 -ℤ to_z w128 (of_z w128 z))
 negated_fits z h = omega (arith, signed_linear)
+
+same_bend : (b : ℤ) → IsWithin (2 ^ 24) b → to_z w64 (of_z w64 b) ≡ b
+same_bend b h = omega (arith, signed_linear)
+
+pub fall-requires : goal.fall-requires
+fall-requires c = rw (same_bend c.args.bend c.requires.size) (record { size = c.requires.size; some = c.requires.some })
+
+pub centre_at-requires : goal.centre_at-requires
+centre_at-requires c = omega (arith, signed_linear, c.args.strip.base_near)
 
 pub overflow_sub-result : goal.overflow_sub-result
 overflow_sub-result c = negated_fits c.gap_slope.result c.gap_slope.ensures.size
@@ -29,3 +38,9 @@ returns-clause-start c =
     let p = c.args.piece.now in
     negated_within w128 c.gap_slope.result c.gap_slope.ensures.size (omega arith)
     ∙ ap neg_ℤ (c.gap_slope.ensures.value ∙ ap (slope (place_of p.a) (place_of c.args.b) (place_of p.c)) c.centre_at.ensures)
+
+pub returns-clause-step : goal.returns-clause-step
+returns-clause-step c =
+    let same = same_bend c.args.bend c.requires.size in
+    let kept : to_z w128 (of_z w128 c.fall.result) ≡ c.fall.result = omega (arith, signed_linear, c.fall.ensures.size) in
+    kept ∙ c.fall.ensures.value ∙ (λ i. pos 128 *ℤ (same i *ℤ same i))

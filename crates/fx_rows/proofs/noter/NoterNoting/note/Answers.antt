@@ -14,6 +14,12 @@ use Rattle.fx_rows.proofs.Upward.{none_within}
 use Rattle.fx_rows.proofs.noter.NoterNoting.note.Goals as goal
 
 -- ---- a piece of which the frame lacks columns: all of it is noted apart
+pub note_all_across-requires-clause-room : goal.note_all_across-requires-clause-room
+note_all_across-requires-clause-room c = omega arith
+
+pub note_all_up-requires-clause-room : goal.note_all_up-requires-clause-room
+note_all_up-requires-clause-room c = omega arith
+
 pub returns-in_default-clause-kept : goal.returns-in_default-clause-kept
 returns-in_default-clause-kept c x lasts old =
     grind (
@@ -51,8 +57,14 @@ returns-in_default-clause-count c =
 pub note_across-requires-clause-placed : goal.note_across-requires-clause-placed
 note_across-requires-clause-placed c = grind (arith, c.requires.frame, c.requires.met, c.in-Some.ensures.columns)
 
+pub note_across-requires-clause-room : goal.note_across-requires-clause-room
+note_across-requires-clause-room c = omega arith
+
 pub note_across-requires-clause-told : goal.note_across-requires-clause-told
 note_across-requires-clause-told c = grind (arith, c.requires.frame, c.requires.told)
+
+pub note_up-requires-clause-room : goal.note_up-requires-clause-room
+note_up-requires-clause-room c = omega arith
 
 pub note_up-requires-clause-told : goal.note_up-requires-clause-told
 note_up-requires-clause-told c = grind (arith, c.requires.frame, c.requires.told)
@@ -75,7 +87,13 @@ returns-then-across-clause-noted c =
       λ a. absurd (a (boxed n.frame s c.in-Some.across is)),
     )) (λ r l m. (λ h k w met. absurd (none r k met), λ a q h k w met. absurd (none q k met)))
 
+pub returns-then-across-clause-count : goal.returns-then-across-clause-count
+returns-then-across-clause-count c = omega (arith, c.note_across.ensures.count)
+
 -- arcs that bulge
+pub note_all_up-requires-then-is_bulge-clause-room : goal.note_all_up-requires-then-is_bulge-clause-room
+note_all_up-requires-then-is_bulge-clause-room c = omega arith
+
 pub returns-then-is_bulge-clause-kept : goal.returns-then-is_bulge-clause-kept
 returns-then-is_bulge-clause-kept c x lasts old =
     grind (
@@ -107,6 +125,10 @@ returns-then-is_bulge-clause-noted c =
       λ a. absurd (a (boxed n.frame s c.in-Some.across is)),
     )) (λ r l m. (up r, λ a. up))
 
+pub returns-then-is_bulge-clause-count : goal.returns-then-is_bulge-clause-count
+returns-then-is_bulge-clause-count c =
+    grind (arith, c.note_across.ensures.count, c.note_all_up-then-is_bulge.ensures.count, c.requires.frame, with_sum)
+
 -- and all others
 pub returns-clause-kept : goal.returns-clause-kept
 returns-clause-kept c x lasts old =
@@ -137,3 +159,30 @@ returns-clause-noted c =
           (sym (with_items_is n.up c.note_up.new.up (omega arith))) (c.note_up.ensures.notes.noted r l (omega (arith, m))),
       λ a. absurd (elim a [ inl b ↦ clash c.is_bulge.result c.if-is_bulge.false (c.is_bulge.ensures.1 b) | inr lacks ↦ lacks is ]),
     ))
+
+pub returns-clause-count : goal.returns-clause-count
+returns-clause-count c = omega (arith, c.note_across.ensures.count, c.note_up.ensures.count)
+
+pub invariant_of-self : goal.invariant_of-self
+invariant_of-self c = grind (arith, with_items_is)
+
+pub invariant_of-self-2 : goal.invariant_of-self-2
+invariant_of-self-2 c = grind (arith, with_items_is)
+
+pub invariant_of-self-3 : goal.invariant_of-self-3
+invariant_of-self-3 c = grind (arith, with_items_is)
+
+pub invariant_of-self-4 : goal.invariant_of-self-4
+invariant_of-self-4 c = grind (arith, with_items_is)
+
+pub invariant_of-self-in_default : goal.invariant_of-self-in_default
+invariant_of-self-in_default c = grind (arith, with_items_is)
+
+pub invariant_of-placed : goal.invariant_of-placed
+invariant_of-placed c = grind (arith, c.requires.met, c.requires.rows, c.requires.frame)
+
+pub note_up-requires-clause-plain : goal.note_up-requires-clause-plain
+note_up-requires-clause-plain c = λ b. clash c.is_bulge.result c.if-is_bulge.false (c.is_bulge.ensures.1 b)
+
+pub note_up-requires-clause-placed : goal.note_up-requires-clause-placed
+note_up-requires-clause-placed c = grind (arith, c.requires.frame, c.requires.met, c.in-Some.ensures.columns)
