@@ -52,4 +52,5 @@ pub overflow_mul-result-2 : goal.overflow_mul-result-2
 overflow_mul-result-2 c =
     let v = c.args.areas.near_v in
     product_fits (to_z w128 (of_z w128 c.from-3.result)) (to_z w128 (of_z w128 c.from-4.result))
-    (omega (arith, signed_linear, v), omega (arith, signed_linear, v)) (omega (arith, signed_linear, v), omega (arith, signed_linear, v))
+    (omega (arith, signed_linear, v), omega (arith, signed_linear, v))
+    (omega (arith, signed_linear, v), omega (arith, signed_linear, v))
