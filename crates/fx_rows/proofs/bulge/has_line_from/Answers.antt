@@ -25,6 +25,6 @@ returns-then-y-max c = grind (arith, signed_linear, clamps, c.max.ensures, c.if-
 
 pub returns-then-not-has_line : goal.returns-then-not-has_line
 returns-then-not-has_line c =
-    let x : to_z w32 (of_z w32 c.args.x) ≡ c.args.x = omega (arith, signed_linear, c.requires.near_x) in
-    let y : to_z w32 (of_z w32 c.args.y) ≡ c.args.y = omega (arith, signed_linear, c.requires.near_y) in
+    let x : to_z w32 (of_z w32 c.args.x) ≡ c.args.x = omega (arith, signed_linear, c.requires.0) in
+    let y : to_z w32 (of_z w32 c.args.y) ≡ c.args.y = omega (arith, signed_linear, c.requires.1) in
     no (λ h. clash c.has_line.result c.if-not-has_line.true ((line_same c.has_line.result x y c.has_line.ensures).1 h.line))
