@@ -70,11 +70,6 @@ fits_before n at end new old long inside order is few small =
 pub copied : (z : ℤ) → FitsSigned w32 z → to_z w32 (of_z w32 z) ≡ z
 copied z fits = to_z-of_z w32 z fits
 
--- its text is that of the number
-pub copied_text : {t v : List ℕ} {z : ℤ} → FitsSigned w32 z → t ≡ v → v ≡ signed_decimal (to_z w32 (of_z w32 z))
-    → t ≡ signed_decimal z
-copied_text {t} {v} {z} fits e is = e ∙ is ∙ ap signed_decimal (copied z fits)
-
 -- the text of a number that is not below 0
 pub signed_above : (z : ℤ) (n : ℕ) → pos 0 ≤ℤ z → FitsSigned w32 z → n ≡ unsigned_abs (to_z w32 (of_z w32 z))
     → decimal n ≡ signed_decimal z
