@@ -179,7 +179,7 @@ pub invariant_of-self-in_default : goal.invariant_of-self-in_default
 invariant_of-self-in_default c = grind (arith, with_items_is)
 
 pub invariant_of-placed : goal.invariant_of-placed
-invariant_of-placed c = grind (arith, c.requires.met, c.requires.told.rows, c.requires.frame)
+invariant_of-placed c = grind (arith, c.requires.met, c.requires.within, c.requires.some, c.requires.frame)
 
 pub note_up-requires-clause-plain : goal.note_up-requires-clause-plain
 note_up-requires-clause-plain c = λ b. clash c.is_bulge.result c.if-is_bulge.false (c.is_bulge.ensures.1 b)
