@@ -1,5 +1,6 @@
-use Rattle.std.proofs.Common.{sym, Ok, Err}
+use Rattle.std.proofs.Common.{sym, refl, Ok, Err}
 use Rattle.std.proofs.lemmas.Result.{err_from_is_err_and}
+use Rattle.fx_hint.specs.inner.Steps.{begun, begun_by}
 use Rattle.fx_hint.proofs.KeptGlyphs.{begun_again}
 use Rattle.fx_hint.proofs.RunLaws.{recalls, simple_runs, none_started}
 use Rattle.fx_hint.proofs.walk.Walk.begun.Goals as goal
@@ -49,3 +50,17 @@ returns-after-is_some-2-clause-leads g c =
       | then-is_some-2 w ↦ rw w.hinter-is (g.met.H.Hinter.leads_then _ _ _ _ _ ran w.keep.ensures.leads)
       | else-is_some-2 w ↦ rw w.hinter-is ran
     ])
+
+pub keep-requires : goal.keep-requires
+keep-requires g c =
+    let u = c.in_ok-usage-in-Simple.ensures in
+    let ran = rw (c.code.ensures.value, c.in_ok-simple_made-in-Simple.ensures.made, c.is_on-in-Simple.ensures) at u.ran in
+    rw u.kept (record { shape = c.in-Simple.simple; read = sym (rw c.in-Simple.is at c.in_ok-read.ensures.exact); ran = ran })
+
+pub returns-after-is_some-2-clause-value : goal.returns-after-is_some-2-clause-value
+unfolding begun begun_by
+returns-after-is_some-2-clause-value g c =
+    let r = rw c.in-Simple.is at c.in_ok-read.ensures.exact in
+    let v = rw c.is_on-in-Simple.ensures at c.in_ok-simple_made-in-Simple.ensures.value in
+    let ran = rw c.code.ensures.value at c.in_ok-usage-in-Simple.ensures.value in
+    rw (← c.in_ok-metrics.ensures.value, ← c.in_ok-bytes.ensures, ← r, v, ran) refl
