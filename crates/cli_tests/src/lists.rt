@@ -1,5 +1,7 @@
 //! Lists of characters.
-use fx_arguments::{ItemFault, parse_chars, wrong_item};
+use fx_arguments::parse_chars;
+use fx_cli::Mkstrike;
+use fx_front::{Text, Tool};
 use fx_request::Refusal;
 use std::test::Fail;
 
@@ -32,22 +34,37 @@ fn lists(rt: HostRuntime) -> Result<(), Fail> {
     Ok(())
 }
 
-/// Which item of a list is wrong, and why.
+/// What the program says of the first item of a list that is wrong.
 #[test]
 fn wrong_items(rt: HostRuntime) -> Result<(), Fail> {
+    let program = Mkstrike::new(rt.alloc());
     for (list, want) in [
-        ("41,ascii", Some(("ascii", ItemFault::NoNumber))),
-        ("41,", Some(("", ItemFault::NoNumber))),
-        ("41,0x41,g", Some(("0x41", ItemFault::NoNumber))),
-        ("0000041", Some(("0000041", ItemFault::TooLong))),
-        ("41-0000042", Some(("41-0000042", ItemFault::TooLong))),
-        ("43,42-41", Some(("42-41", ItemFault::Falls))),
-        ("10ffff,110000", Some(("110000", ItemFault::TooHigh))),
-        ("20-7e,a0", None),
-        ("0-10ffff", None),
-        ("", None),
+        (
+            "41,ascii",
+            "'ascii' in the list is no hexadecimal number or range",
+        ),
+        ("41,", "the list has a comma too many"),
+        (
+            "41,0x41,g",
+            "'0x41' in the list is no hexadecimal number or range, but 41 is",
+        ),
+        (
+            "0000041",
+            "'0000041' in the list has a number of more than six digits",
+        ),
+        (
+            "41-0000042",
+            "'41-0000042' in the list has a number of more than six digits",
+        ),
+        ("43,42-41", "'42-41' in the list ends before it begins"),
+        ("10ffff,110000", "'110000' in the list is above 10FFFF"),
+        ("20-7e,a0", "the list has more than 65,536 numbers"),
+        ("0-10ffff", "the list has more than 65,536 numbers"),
+        ("", "the list has more than 65,536 numbers"),
     ] {
-        assert_eq!(rt; wrong_item(list), want, "{list}");
+        let mut said = Text::new(rt.alloc());
+        program.add_wrong_item(&mut said, list);
+        assert_eq!(rt; said.bytes().unwrap_or(b""), want.as_bytes(), "{list}");
     }
     Ok(())
 }
