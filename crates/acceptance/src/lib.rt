@@ -1,30 +1,16 @@
-//! Tests that cross crates, and tests of the public calls of crates that take long to prove, where a call of a library shows what no
-//! command does: scans, strikers, surveys, damaged fonts, writers that fail. Their expected values come from the public formats and from
-//! arithmetic by hand, never from the program's own output.
+//! Tests of public calls from the machine up, where a call of a library shows what no command does: strikes by other scans,
+//! strikers, surveys, damaged fonts, writers that fail. Their expected values come from the public formats and from arithmetic by
+//! hand, never from the program's own output.
 #![tactic(auto)]
 
 #[cfg(test)]
-mod contours;
-#[cfg(test)]
-mod covering;
-#[cfg(test)]
-mod curves;
-#[cfg(test)]
 mod damaged;
 #[cfg(test)]
-mod dropout_frames;
-#[cfg(test)]
 mod fonts;
-#[cfg(test)]
-mod halves;
-#[cfg(test)]
-mod lanes;
 #[cfg(test)]
 mod outlines;
 #[cfg(test)]
 mod refusals;
-#[cfg(test)]
-mod rows;
 #[cfg(test)]
 mod scans;
 #[cfg(test)]

@@ -18,15 +18,6 @@ pub fn on(x: i32, y: i32) -> OutlinePoint {
     }
 }
 
-/// A point off the curve, in 1/64 pixel.
-pub fn off(x: i32, y: i32) -> OutlinePoint {
-    OutlinePoint {
-        x: F26(x),
-        y: F26(y),
-        on_curve: false,
-    }
-}
-
 /// Whether an outline has these points, ends of contours and advance width, and no strays.
 pub fn is_outline(
     made: &GlyphOutline,

@@ -8,8 +8,6 @@ mod arguments;
 #[cfg(test)]
 mod fonts;
 #[cfg(test)]
-mod front;
-#[cfg(test)]
 mod lists;
 #[cfg(test)]
 mod readers;

@@ -5,7 +5,7 @@ ghost use Rattle.fx_winding.specs.Bitmaps.{words_for, AreRowWords};
 
 use fx_bdf::{BitGlyph, Row, write_glyph};
 use fx_fixed::{Limits, MemorySink, Sink, TextWriter, WriteFailed};
-use fx_winding::{Bitmap, Frame, MAX_SIDE, set_bit};
+use fx_winding::{Bitmap, Frame, set_bit};
 use std::alloc::Global;
 use std::process::Abort;
 use std::test::Fail;
@@ -41,33 +41,23 @@ fn set_line(
     Ok(())
 }
 
-/// The glyph of a code point, its widths, and its lines from the top. The lower left pixel is given by its distance from
-/// column and row -9.
-fn glyph(
-    rt: &impl Abort,
-    alloc: Global,
-    numbers: (u32, i32, i32),
-    across: u8,
-    up: u8,
-    lines: &[&[u8]],
-) -> Result<BitGlyph, Fail> {
-    let width = if lines.is_empty() { 0 } else { lines[0].len() };
-    let (code, swidth, dwidth) = numbers;
-    assert!(rt; width <= MAX_SIDE as usize);
-    assert!(rt; lines.len() <= MAX_SIDE as usize);
+/// A glyph of two rows.
+fn glyph(rt: &impl Abort, alloc: Global) -> Result<BitGlyph, Fail> {
     let frame = Frame {
-        left: i32::from(across) - 9,
-        bottom: i32::from(up) - 9,
-        width: width as u32,
-        height: lines.len() as u32,
+        left: 0,
+        bottom: 0,
+        width: 9,
+        height: 2,
     };
     let mut bitmap = Bitmap::new(alloc, frame)?;
-    for i in 0..lines.len() {
-        let row = frame.bottom + (lines.len() - 1 - i) as i32;
-        set_line(rt, alloc, &mut bitmap, row, lines[i])?;
-    }
-    Ok(BitGlyph::of(code, swidth, dwidth, bitmap))
+    set_line(rt, alloc, &mut bitmap, 1, b"#.#######")?;
+    set_line(rt, alloc, &mut bitmap, 0, b"........#")?;
+    Ok(BitGlyph::of(66, 375, -6, bitmap))
 }
+
+/// Its text.
+const TEXT: &[u8] =
+    b"STARTCHAR uni0042\nENCODING 66\nSWIDTH 375 0\nDWIDTH -6 0\nBBX 9 2 0 0\nBITMAP\nBF80\n0080\nENDCHAR\n";
 
 /// Writes a glyph to a sink, and returns how many bytes it has.
 fn send<W: Sink>(rt: &impl Abort, glyph: &BitGlyph, out: &mut W) -> Result<u64, WriteFailed> {
@@ -79,52 +69,46 @@ fn send<W: Sink>(rt: &impl Abort, glyph: &BitGlyph, out: &mut W) -> Result<u64, 
     Ok(text.taken())
 }
 
-/// A glyph on a sink with limits: what the call returns, and the bytes that are written.
+/// Whether writing a glyph to a sink with limits returns this, and writes these bytes.
 fn sends(
     rt: &impl Abort,
     alloc: Global,
     glyph: &BitGlyph,
     limits: Limits,
-    want: Result<u64, WriteFailed>,
+    wanted: Result<u64, WriteFailed>,
     text: &[u8],
-) -> Result<(), Fail> {
+) -> Result<bool, Fail> {
     let mut out = MemorySink::new(alloc, 100, limits)?;
-    assert!(rt; send(rt, glyph, &mut out) == want);
-    assert!(rt; out.faults() == if want.is_ok() { 0 } else { 1 });
-    assert!(rt; out.bytes() == text, "{text:?}");
-    Ok(())
+    let sent = send(rt, glyph, &mut out);
+    let faults = if wanted.is_ok() { 0 } else { 1 };
+    Ok(sent == wanted && out.faults() == faults && out.bytes() == text)
 }
 
-/// A glyph of two rows, and its text.
-const TWO_ROWS: [&[u8]; 2] = [b"#.#######", b"........#"];
-
-const TWO_ROWS_TEXT: &[u8] =
-    b"STARTCHAR uni0042\nENCODING 66\nSWIDTH 375 0\nDWIDTH -6 0\nBBX 9 2 0 0\nBITMAP\nBF80\n0080\nENDCHAR\n";
-
-#[test]
-fn sinks_that_take_little(rt: HostRuntime) -> Result<(), Fail> {
-    let glyph = glyph(&rt, rt.alloc(), (66, 375, -6), 9, 9, &TWO_ROWS)?;
-    for bytes in 0..TWO_ROWS_TEXT.len() {
+/// Whether a sink that takes one byte a call takes the text, and others exactly the bytes after which they fail.
+fn takes_little(rt: &impl Abort, alloc: Global, glyph: &BitGlyph) -> Result<bool, Fail> {
+    for bytes in 0..TEXT.len() {
         let limits = Limits {
             bytes,
             ..Limits::NONE
         };
-        let fault = Err(WriteFailed(bytes as u64));
-        sends(
-            &rt,
-            rt.alloc(),
-            &glyph,
-            limits,
-            fault,
-            &TWO_ROWS_TEXT[..bytes],
-        )?;
+        let wanted = Err(WriteFailed(bytes as u64));
+        assert!(rt;
+            sends(rt, alloc, glyph, limits, wanted, &TEXT[..bytes])?,
+            "{bytes}"
+        );
     }
     let slow = Limits {
         step: 1,
         ..Limits::NONE
     };
-    let done = Ok(TWO_ROWS_TEXT.len() as u64);
-    sends(&rt, rt.alloc(), &glyph, slow, done, TWO_ROWS_TEXT)
+    sends(rt, alloc, glyph, slow, Ok(TEXT.len() as u64), TEXT)
+}
+
+#[test]
+fn sinks_that_take_little(rt: HostRuntime) -> Result<(), Fail> {
+    let glyph = glyph(&rt, rt.alloc())?;
+    assert!(rt; takes_little(&rt, rt.alloc(), &glyph)?);
+    Ok(())
 }
 
 /// Whether a glyph has two rows, with these pixels and bytes.
@@ -158,7 +142,7 @@ fn is_end(row: &Row<'_>) -> bool {
 
 #[test]
 fn rows_by_pixels_and_bytes(rt: HostRuntime) -> Result<(), Fail> {
-    let glyph = glyph(&rt, rt.alloc(), (66, 375, -6), 9, 9, &TWO_ROWS)?;
+    let glyph = glyph(&rt, rt.alloc())?;
     assert!(rt; has_two_rows(&glyph));
     Ok(())
 }

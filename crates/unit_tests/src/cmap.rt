@@ -22,7 +22,7 @@ const FRONT: &[u8] = b"\0\x01\0\0\0\x07\0\0\0\0\0\0\
 /// Whether codes have these glyph ids, looked up by a map and by one cursor of it.
 fn has(map: &CharMap, rows: &[(u32, u16)]) -> bool {
     let mut cursor = map.cursor();
-    'rows: for &(code, glyph) in rows {
+    for &(code, glyph) in rows {
         if map.glyph(code) != glyph || cursor.glyph(code) != glyph {
             return false;
         }
@@ -30,12 +30,17 @@ fn has(map: &CharMap, rows: &[(u32, u16)]) -> bool {
     true
 }
 
+/// The same in the map of a font.
+fn has_in(file: &[u8], rows: &[(u32, u16)]) -> Result<bool, Fail> {
+    let font = Font::open(&FontFile::of(file))?;
+    Ok(has(&CharMap::open(&font)?, rows))
+}
+
 /// The same in the map of these bytes of `cmap`.
 fn finds(alloc: Global, cmap: &[u8], rows: &[(u32, u16)]) -> Result<bool, Fail> {
     let mut file = Vec::from_slice(alloc, FRONT)?;
     file.extend_from_slice(cmap)?;
-    let font = Font::open(&FontFile::of(file.as_slice()))?;
-    Ok(has(&CharMap::open(&font)?, rows))
+    has_in(file.as_slice(), rows)
 }
 
 /// Two segments: 41 to 42 by the glyph ids 7 and 0, and the last one.

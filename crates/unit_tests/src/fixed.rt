@@ -3,14 +3,15 @@ use fx_fixed::{
     Backward, Digits, F2, FromReader, Limits, MemorySink, MemorySource, Sink, Source, ToSink,
     WriteFailed, cut, near, near_64, near_16384, put_all, put_over, unit, w32,
 };
+use std::alloc::{AllocError, Global};
 use std::io;
 use std::io::{Read, Write};
 use std::process::Abort;
 use std::test::Fail;
 
 #[test]
-fn rounds_halves_away_from_zero(rt: HostRuntime) -> Result<(), Fail> {
-    for (n, d, want) in [
+fn rounds_halves_away_from_zero(rt: HostRuntime) {
+    for &(n, d, want) in &[
         (3, 2, 2),
         (-3, 2, -2),
         (3, -2, -2),
@@ -23,31 +24,28 @@ fn rounds_halves_away_from_zero(rt: HostRuntime) -> Result<(), Fail> {
     }
     assert!(rt; near_64(31) == 0 && near_64(32) == 1 && near_64(-32) == -1);
     assert!(rt; near_16384(8191) == 0 && near_16384(8192) == 1 && near_16384(-8192) == -1);
-    Ok(())
 }
 
 #[test]
-fn cuts_and_wraps(rt: HostRuntime) -> Result<(), Fail> {
+fn cuts_and_wraps(rt: HostRuntime) {
     assert!(rt; cut(-5, 3) == -1 && cut(5, -3) == -1 && cut(-5, -3) == 1);
     assert!(rt; w32(1 << 31) == i32::MIN);
     assert!(rt; w32(-(1 << 31) - 1) == i32::MAX);
-    Ok(())
 }
 
 #[test]
 fn directions(rt: HostRuntime) {
-    let least = i32::MIN;
-    for (x, y, want) in [
+    const LEAST: i32 = i32::MIN;
+    for &(x, y, (a, b)) in &[
         (3, 4, (9830, 13107)),
         (1, 4, (3974, 15895)),
         (-1, 4, (-3974, 15895)),
         (0, 0, (16384, 0)),
-        (0, least, (0, -16384)),
-        (least, 0, (-16384, 0)),
-        (least, least, (-11585, -11585)),
+        (0, LEAST, (0, -16384)),
+        (LEAST, 0, (-16384, 0)),
+        (LEAST, LEAST, (-11585, -11585)),
     ] {
-        let (F2(a), F2(b)) = unit(x, y);
-        assert!(rt; (a, b) == want);
+        assert!(rt; unit(x, y) == (F2(a), F2(b)));
     }
 }
 
@@ -104,11 +102,26 @@ fn a_piece_over_others(rt: HostRuntime) {
     assert!(rt; writes_over());
 }
 
-/// Sends 13 bytes in one piece; returns how it went and the faults.
+/// A text of 13 bytes.
+const TEXT: &[u8] = b"STARTFONT 2.1";
+
+/// Sends the text in one piece; returns how it went and the faults.
 fn send<W: Sink>(rt: &impl Abort, out: &mut W) -> (Result<(), WriteFailed>, u64) {
     assert!(rt; out.faults() < 100);
-    let sent = put_all(out, b"STARTFONT 2.1");
+    let sent = put_all(out, TEXT);
     (sent, out.faults())
+}
+
+/// Whether sending to a sink with limits goes like that, and leaves these bytes.
+fn sends(
+    rt: &impl Abort,
+    alloc: Global,
+    limits: Limits,
+    wanted: (Result<(), WriteFailed>, u64),
+    bytes: &[u8],
+) -> Result<bool, AllocError> {
+    let mut out = MemorySink::new(alloc, 0, limits)?;
+    Ok(send(rt, &mut out) == wanted && out.bytes() == bytes)
 }
 
 #[test]
@@ -118,9 +131,8 @@ fn a_full_sink_holds_the_front(rt: HostRuntime) -> Result<(), Fail> {
             bytes,
             ..Limits::NONE
         };
-        let mut out = MemorySink::new(rt.alloc(), 13, limits)?;
-        assert!(rt; send(&rt, &mut out) == (Err(WriteFailed(bytes as u64)), 1));
-        assert!(rt; out.bytes() == &b"STARTFONT 2.1"[..bytes]);
+        let wanted = (Err(WriteFailed(bytes as u64)), 1);
+        assert!(rt; sends(&rt, rt.alloc(), limits, wanted, &TEXT[..bytes])?);
     }
     Ok(())
 }
@@ -131,9 +143,7 @@ fn a_slow_sink_takes_all(rt: HostRuntime) -> Result<(), Fail> {
         step: 1,
         ..Limits::NONE
     };
-    let mut out = MemorySink::new(rt.alloc(), 0, limits)?;
-    assert!(rt; send(&rt, &mut out) == (Ok(()), 0));
-    assert!(rt; out.bytes() == b"STARTFONT 2.1".as_slice());
+    assert!(rt; sends(&rt, rt.alloc(), limits, (Ok(()), 0), TEXT)?);
     Ok(())
 }
 
@@ -196,24 +206,30 @@ fn gives<S: Source>(
     source.faults() < 100 && source.take(buffer) == bytes && source.faults() == faults
 }
 
-#[test]
-fn sources_give_and_fail(rt: HostRuntime) -> Result<(), Fail> {
-    let mut buffer = [0u8; 4];
-    let mut broken = FromReader::new(Broken);
-    assert!(rt; gives(&mut broken, &mut buffer, None, 1));
+/// Whether a source that fails after five bytes gives them, three at most a call.
+fn gives_five() -> bool {
     let limits = Limits {
         bytes: 5,
         step: 3,
         hiccup: None,
     };
     let mut source = MemorySource::new(b"F1.ttf", limits);
-    assert!(rt; gives(&mut source, &mut buffer, Some(3), 0));
-    assert!(rt; gives(&mut source, &mut buffer, Some(2), 0));
-    assert!(rt; buffer == *b"tt.\0");
-    assert!(rt; gives(&mut source, &mut buffer, None, 1));
-    let mut whole = MemorySource::new(b"F1", Limits::NONE);
-    for bytes in [2, 0] {
-        assert!(rt; gives(&mut whole, &mut buffer, Some(bytes), 0));
-    }
-    Ok(())
+    let mut buffer = [0u8; 4];
+    gives(&mut source, &mut buffer, Some(3), 0)
+        && gives(&mut source, &mut buffer, Some(2), 0)
+        && buffer == *b"tt.\0"
+        && gives(&mut source, &mut buffer, None, 1)
+}
+
+/// Whether a source without limits gives its two bytes, and then says that it has no more.
+fn gives_two() -> bool {
+    let mut source = MemorySource::new(b"F1", Limits::NONE);
+    let mut buffer = [0u8; 4];
+    gives(&mut source, &mut buffer, Some(2), 0) && gives(&mut source, &mut buffer, Some(0), 0)
+}
+
+#[test]
+fn sources_give_and_fail(rt: HostRuntime) {
+    assert!(rt; gives(&mut FromReader::new(Broken), &mut [0u8; 4], None, 1));
+    assert!(rt; gives_five() && gives_two());
 }

@@ -1,6 +1,6 @@
-//! Tests of public calls of the crates below the machine that no command shows: writers that fail, lookups in any order, texts of faults.
-//! They stand here, since a crate with tests is proved twice. Their expected values come from the public formats and from arithmetic by
-//! hand.
+//! Tests of public calls of the crates below the machine, and of the front, that no command shows: writers that fail, lookups in any
+//! order, texts of faults. They stand here, since a crate with tests is proved twice. Their expected values come from the public
+//! formats and from arithmetic by hand.
 #![tactic(auto)]
 
 #[cfg(test)]
@@ -10,10 +10,10 @@ mod cmap;
 #[cfg(test)]
 mod code;
 #[cfg(test)]
-mod dropout;
-#[cfg(test)]
 mod faults;
 #[cfg(test)]
 mod fixed;
+#[cfg(test)]
+mod front;
 #[cfg(test)]
 mod gstate;

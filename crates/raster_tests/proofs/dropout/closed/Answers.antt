@@ -2,7 +2,7 @@ use Rattle.std.proofs.Common.{◌∙◌, refl, sym, subst, arith}
 use Rattle.fx_fixed.proofs.Linear.{signed_linear}
 use Rattle.fx_winding.specs.declared.frame.Frame.{Frame}
 use Rattle.fx_winding.specs.Frames.{IsInFrame}
-use Rattle.unit_tests.proofs.dropout.closed.Goals as goal
+use Rattle.raster_tests.proofs.dropout.closed.Goals as goal
 
 pub scan_noted-requires : goal.scan_noted-requires
 scan_noted-requires c = record {

@@ -1,37 +1,19 @@
 //! Drop-out control: the segments that pieces meet, and the gaps that are closed, by hand.
+use crate::curves::{Curve, outline, piece, point};
 use fx_dropout::{Closing, close_gaps};
-use fx_winding::{Bitmap, Frame, Noted, Piece, Pieces, Plain, Point, Scan, Scratch, Tally, meets};
-use std::alloc::{AllocError, Global};
+use fx_winding::{Bitmap, Frame, Noted, Plain, Scan, Scratch, Tally, meets};
+use std::alloc::Global;
 use std::test::Fail;
-
-/// A place in 1/128 pixel.
-type At = (i16, i16);
-
-/// A line, or an arc with a control point.
-type Curve = (At, Option<At>, At);
-
-/// The point at a place.
-fn spot(at: At) -> Point {
-    let (x, y) = at;
-    Point {
-        x: x.into(),
-        y: y.into(),
-    }
-}
-
-/// The piece that a curve is.
-fn drawn(curve: &Curve) -> Piece {
-    Piece {
-        a: spot(curve.0),
-        b: curve.1.map(|at| spot(at)),
-        c: spot(curve.2),
-    }
-}
 
 /// Whether a curve meets the segment between the centres of the pixels in the columns 0 and 1 of row 0, (64, 64) and (192, 64).
 fn is_met(curve: &Curve) -> bool {
     let mut tally = Tally::new();
-    meets(&drawn(curve), spot((64, 64)), spot((192, 64)), &mut tally)
+    meets(
+        &piece(*curve),
+        point((64, 64)),
+        point((192, 64)),
+        &mut tally,
+    )
 }
 
 /// Curves that meet it: across, in both directions; an end between; level between; a tip that touches, or comes through.
@@ -70,18 +52,6 @@ fn segments(rt: HostRuntime) {
     }
 }
 
-/// The pieces of an outline.
-fn pieces_of(alloc: Global, curves: &[Curve]) -> Result<Pieces, AllocError> {
-    let mut pieces = Pieces::new(alloc);
-    for curve in curves {
-        let piece = drawn(curve);
-        if pieces.len() < 65_536 && piece.is_near() {
-            pieces.push(piece)?;
-        }
-    }
-    Ok(pieces)
-}
-
 /// A box of pixels: its lower left pixel, by its distance from column and row -9, its width and its height.
 type Corner = (u8, u8, u8, u8);
 
@@ -92,7 +62,7 @@ fn closed(
     frame: Corner,
     closing: Closing,
 ) -> Result<Bitmap, Fail> {
-    let pieces = pieces_of(alloc, curves)?;
+    let pieces = outline(alloc, curves)?;
     let frame = Frame {
         left: i32::from(frame.0) - 9,
         bottom: i32::from(frame.1) - 9,
@@ -128,14 +98,9 @@ fn looks(bitmap: &Bitmap, picture: &Picture) -> bool {
 }
 
 /// Whether a scan of an outline in a frame, with its gaps closed, sets exactly these pixels.
-fn shows(
-    alloc: Global,
-    curves: &[Curve],
-    frame: Corner,
-    closing: Closing,
-    picture: &Picture,
-) -> Result<bool, Fail> {
-    Ok(looks(&closed(alloc, curves, frame, closing)?, picture))
+fn shows(alloc: Global, row: &(&[Curve], Corner, Closing, Picture)) -> Result<bool, Fail> {
+    let bitmap = closed(alloc, row.0, row.1, row.2)?;
+    Ok(looks(&bitmap, &row.3))
 }
 
 /// All pixels from column and row -1 to 3.
@@ -197,30 +162,39 @@ const LOWER: Picture = [b".....", b".....", b".....", b".###.", b"....."];
 
 const UPPER: Picture = [b".....", b".....", b".###.", b".....", b"....."];
 
+/// Two stems, in the right halves of two segments one after the other.
+const TWO_STEMS: [Curve; 8] = [
+    ((140, 0), None, (150, 0)),
+    ((150, 0), None, (150, 384)),
+    ((150, 384), None, (140, 384)),
+    ((140, 384), None, (140, 0)),
+    ((290, 0), None, (300, 0)),
+    ((300, 0), None, (300, 384)),
+    ((300, 384), None, (290, 384)),
+    ((290, 384), None, (290, 0)),
+];
+
+const BOTH: Picture = [b".....", b"..##.", b"..##.", b"..##.", b"....."];
+
+/// Outlines, the pixels that a scan looks at, and those that are set. Where the left or the lower pixel of a gap lies outside the
+/// frame, the other is set. A gap stays one if the gap before it has set the pixel between them.
+static GAPS: [(&[Curve], Corner, Closing, Picture); 10] = [
+    (&BETWEEN_ROWS, ALL, Closing::Lower, LOWER),
+    (&BETWEEN_COLUMNS, ALL, Closing::Lower, LEFT),
+    (&DOT, ALL, Closing::Lower, NONE),
+    (&DOT_ON_ROW, ALL, Closing::Lower, ONE),
+    (&TOUCH, ALL, Closing::Lower, ONE),
+    (&TIP, ALL, Closing::Lower, ONE),
+    (&ROW_AND_COLUMN, ALL, Closing::Lower, ONE),
+    (&BETWEEN_COLUMNS, (10, 8, 3, 5), Closing::Lower, RIGHT),
+    (&BETWEEN_ROWS, (8, 10, 5, 3), Closing::Lower, UPPER),
+    (&TWO_STEMS, ALL, Closing::Nearer, BOTH),
+];
+
 #[test]
 fn gaps(rt: HostRuntime) -> Result<(), Fail> {
-    for (curves, picture) in [
-        (BETWEEN_ROWS.as_slice(), LOWER),
-        (BETWEEN_COLUMNS.as_slice(), LEFT),
-        (DOT.as_slice(), NONE),
-        (DOT_ON_ROW.as_slice(), ONE),
-        (TOUCH.as_slice(), ONE),
-        (TIP.as_slice(), ONE),
-        (ROW_AND_COLUMN.as_slice(), ONE),
-    ] {
-        assert!(rt; shows(rt.alloc(), curves, ALL, Closing::Lower, &picture)?);
-    }
-    Ok(())
-}
-
-/// Where the left or the lower pixel of a gap lies outside the frame, the other is set.
-#[test]
-fn clamped(rt: HostRuntime) -> Result<(), Fail> {
-    for (curves, frame, picture) in [
-        (BETWEEN_COLUMNS, (10, 8, 3, 5), RIGHT),
-        (BETWEEN_ROWS, (8, 10, 5, 3), UPPER),
-    ] {
-        assert!(rt; shows(rt.alloc(), &curves, frame, Closing::Lower, &picture)?);
+    for row in &GAPS {
+        assert!(rt; shows(rt.alloc(), row)?);
     }
     Ok(())
 }
@@ -245,61 +219,61 @@ fn bar(lower: i16, upper: i16) -> [Curve; 4] {
     ]
 }
 
+/// Whether a stem, with its gaps closed to the nearer pixels of a frame, sets exactly these pixels.
+fn shows_stem(alloc: Global, row: &(i16, i16, Corner, Picture)) -> Result<bool, Fail> {
+    let (left, right, frame, picture) = *row;
+    shows(
+        alloc,
+        &(&stem(left, right), frame, Closing::Nearer, picture),
+    )
+}
+
+/// The same of a bar.
+fn shows_bar(alloc: Global, row: &(i16, i16, Corner, Picture)) -> Result<bool, Fail> {
+    let (lower, upper, frame, picture) = *row;
+    shows(
+        alloc,
+        &(&bar(lower, upper), frame, Closing::Nearer, picture),
+    )
+}
+
 /// Between the centres at 64 and 192 the places 65 to 127 are nearer to the first, and 129 to 191 to the second. A stem of 120 to
-/// 136 covers eight of each, so that the left pixel is set; one of 121 to 136 seven and eight.
-#[test]
-fn nearer(rt: HostRuntime) -> Result<(), Fail> {
-    for (from, to, picture) in [
-        (100, 110, LEFT),
-        (126, 128, LEFT),
-        (120, 136, LEFT),
-        (121, 136, RIGHT),
-        (128, 130, RIGHT),
-        (190, 191, RIGHT),
-    ] {
-        assert!(rt; shows(rt.alloc(), &stem(from, to), ALL, Closing::Nearer, &picture)?);
-    }
-    for (from, to, picture) in [
-        (100, 110, LOWER),
-        (120, 136, LOWER),
-        (121, 136, UPPER),
-        (190, 191, UPPER),
-    ] {
-        assert!(rt; shows(rt.alloc(), &bar(from, to), ALL, Closing::Nearer, &picture)?);
-    }
-    Ok(())
-}
-
-/// If the nearer pixel of a gap lies outside the frame, the other is set.
-#[test]
-fn nearer_clamped(rt: HostRuntime) -> Result<(), Fail> {
-    for (curves, frame, picture) in [
-        (stem(140, 150), (8, 8, 2, 5), LEFT),
-        (stem(100, 110), (10, 8, 3, 5), RIGHT),
-        (bar(140, 150), (8, 8, 5, 2), LOWER),
-        (bar(100, 110), (8, 10, 5, 3), UPPER),
-    ] {
-        assert!(rt; shows(rt.alloc(), &curves, frame, Closing::Nearer, &picture)?);
-    }
-    Ok(())
-}
-
-/// Two stems, in the right halves of two segments one after the other.
-const TWO_STEMS: [Curve; 8] = [
-    ((140, 0), None, (150, 0)),
-    ((150, 0), None, (150, 384)),
-    ((150, 384), None, (140, 384)),
-    ((140, 384), None, (140, 0)),
-    ((290, 0), None, (300, 0)),
-    ((300, 0), None, (300, 384)),
-    ((300, 384), None, (290, 384)),
-    ((290, 384), None, (290, 0)),
+/// 136 covers eight of each, so that the left pixel is set; one of 121 to 136 seven and eight. If the nearer pixel of a gap lies
+/// outside the frame, the other is set.
+/// Stems: their sides, the pixels that a scan looks at, and those that are set.
+static STEMS: [(i16, i16, Corner, Picture); 8] = [
+    (100, 110, ALL, LEFT),
+    (126, 128, ALL, LEFT),
+    (120, 136, ALL, LEFT),
+    (121, 136, ALL, RIGHT),
+    (128, 130, ALL, RIGHT),
+    (190, 191, ALL, RIGHT),
+    (140, 150, (8, 8, 2, 5), LEFT),
+    (100, 110, (10, 8, 3, 5), RIGHT),
 ];
 
-/// A gap stays one if the gap before it has set the pixel between them.
 #[test]
-fn two_gaps(rt: HostRuntime) -> Result<(), Fail> {
-    let both = [b".....", b"..##.", b"..##.", b"..##.", b"....."];
-    assert!(rt; shows(rt.alloc(), &TWO_STEMS, ALL, Closing::Nearer, &both)?);
+fn nearer_of_a_row(rt: HostRuntime) -> Result<(), Fail> {
+    for row in &STEMS {
+        assert!(rt; shows_stem(rt.alloc(), row)?);
+    }
+    Ok(())
+}
+
+/// The same of bars.
+static BARS: [(i16, i16, Corner, Picture); 6] = [
+    (100, 110, ALL, LOWER),
+    (120, 136, ALL, LOWER),
+    (121, 136, ALL, UPPER),
+    (190, 191, ALL, UPPER),
+    (140, 150, (8, 8, 5, 2), LOWER),
+    (100, 110, (8, 10, 5, 3), UPPER),
+];
+
+#[test]
+fn nearer_of_a_column(rt: HostRuntime) -> Result<(), Fail> {
+    for row in &BARS {
+        assert!(rt; shows_bar(rt.alloc(), row)?);
+    }
     Ok(())
 }

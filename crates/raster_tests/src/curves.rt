@@ -12,7 +12,7 @@ pub type At = (i16, i16);
 pub type Curve = (At, Option<At>, At);
 
 /// The point at a place.
-fn point(at: At) -> Point {
+pub fn point(at: At) -> Point {
     Point {
         x: i32::from(at.0),
         y: i32::from(at.1),

@@ -1,6 +1,6 @@
-//! Which pixels an outline covers: pixel by pixel, with arcs whole and halved, and by the plain scan.
+//! Which pixels an outline covers: pixel by pixel, with arcs whole and halved.
 use crate::curves::{Curve, add, frame, outline, piece};
-use fx_winding::{Bitmap, MAX_SIDE, Pieces, Plain, Scan, Tally, covered, halves};
+use fx_winding::{Bitmap, Frame, MAX_SIDE, Pieces, Tally, covered, halves};
 use std::alloc::{AllocError, Global};
 use std::test::Fail;
 
@@ -35,14 +35,14 @@ fn cover(pieces: &Pieces, picture: [u8; 7]) -> bool {
     true
 }
 
-/// Whether the outline covers these pixels, and with the halves of its arcs in their place does so too.
-fn shows(alloc: Global, curves: &[Curve], picture: [u8; 7]) -> Result<bool, AllocError> {
-    let whole = outline(alloc, curves)?;
-    let halved = halved_outline(alloc, curves)?;
-    Ok(cover(&whole, picture) && cover(&halved, picture))
+/// Whether an outline covers these pixels, and with the halves of its arcs in their place does so too.
+fn is_covered(alloc: Global, row: &(&[Curve], [u8; 7])) -> Result<bool, Fail> {
+    let whole = outline(alloc, row.0)?;
+    let halved = halved_outline(alloc, row.0)?;
+    Ok(cover(&whole, row.1) && cover(&halved, row.1))
 }
 
-const UNIT: [Curve; 4] = [
+pub const UNIT: [Curve; 4] = [
     ((0, 0), None, (128, 0)),
     ((128, 0), None, (128, 128)),
     ((128, 128), None, (0, 128)),
@@ -67,7 +67,7 @@ const INNER_SAME_WAY: [Curve; 8] = [
     ((192, 448), None, (192, 192)),
 ];
 
-const INNER_OTHER_WAY: [Curve; 8] = [
+pub const INNER_OTHER_WAY: [Curve; 8] = [
     ((0, 0), None, (640, 0)),
     ((640, 0), None, (640, 640)),
     ((640, 640), None, (0, 640)),
@@ -114,32 +114,24 @@ const FULL: [u8; 7] = [0, 0b0111110, 0b0111110, 0b0111110, 0b0111110, 0b0111110,
 
 const HOLE: [u8; 7] = [0, 0b0111110, 0b0111110, 0b0110110, 0b0111110, 0b0111110, 0];
 
-#[test]
-fn lines_and_arcs(rt: HostRuntime) -> Result<(), Fail> {
-    for (curves, picture) in [
-        (UNIT.as_slice(), ONE),
-        (THROUGH_CENTRES.as_slice(), FOUR),
-        (INNER_SAME_WAY.as_slice(), FULL),
-        (INNER_OTHER_WAY.as_slice(), HOLE),
-        (WIDE_HILL.as_slice(), TWO),
-        (NARROW_HILL.as_slice(), ONE),
-        (CORNER_CENTRES_ON_ARCS.as_slice(), SIXTEEN),
-        (FLAT_ARC.as_slice(), TWO),
-        (CENTRES_ON_COMMON_CHORD.as_slice(), TWO),
-    ] {
-        assert!(rt; shows(rt.alloc(), curves, picture)?);
-    }
-    Ok(())
-}
+/// Outlines, and the pixels that they cover.
+static COVERED: [(&[Curve], [u8; 7]); 9] = [
+    (&UNIT, ONE),
+    (&THROUGH_CENTRES, FOUR),
+    (&INNER_SAME_WAY, FULL),
+    (&INNER_OTHER_WAY, HOLE),
+    (&WIDE_HILL, TWO),
+    (&NARROW_HILL, ONE),
+    (&CORNER_CENTRES_ON_ARCS, SIXTEEN),
+    (&FLAT_ARC, TWO),
+    (&CENTRES_ON_COMMON_CHORD, TWO),
+];
 
 #[test]
-fn the_plain_scan(rt: HostRuntime) -> Result<(), Fail> {
-    let ring = outline(rt.alloc(), &INNER_OTHER_WAY)?;
-    let mut tally = Tally::new();
-    let bitmap = Plain.scan(rt.alloc(), &ring, frame(1, 2, 4, 1), &mut tally)?;
-    assert!(rt; bitmap.bit(1, 2) && !bitmap.bit(2, 2) && bitmap.bit(3, 2) && bitmap.bit(4, 2));
-    assert!(rt; !bitmap.bit(0, 2) && !bitmap.bit(1, 3));
-    assert!(rt; tally.tests() == 96);
+fn lines_and_arcs(rt: HostRuntime) -> Result<(), Fail> {
+    for row in &COVERED {
+        assert!(rt; is_covered(rt.alloc(), row)?);
+    }
     Ok(())
 }
 
@@ -155,25 +147,20 @@ fn memory_for_pieces(rt: HostRuntime) -> Result<(), Fail> {
     Ok(())
 }
 
+/// Whether no bit of a new bitmap is set, at the origin and at its lower left corner.
+fn is_empty(alloc: Global, frame: Frame) -> Result<bool, Fail> {
+    let bitmap = Bitmap::new(alloc, frame)?;
+    Ok(
+        bitmap.frame().width == frame.width
+            && !bitmap.bit(0, 0)
+            && !bitmap.bit(frame.left, frame.bottom),
+    )
+}
+
 /// Bitmaps of the smallest and of the largest frame.
 #[test]
 fn memory_for_bitmaps(rt: HostRuntime) -> Result<(), Fail> {
-    let least = Bitmap::new(rt.alloc(), frame(0, 0, 0, 0))?;
-    assert!(rt; least.frame().width == 0);
-    let most = Bitmap::new(rt.alloc(), frame(-1, -2, MAX_SIDE, MAX_SIDE))?;
-    assert!(rt; !most.bit(0, 0));
-    Ok(())
-}
-
-/// Scans of the smallest frame and of a wide one: a scan by pixels of a whole frame of the greatest sides takes a minute.
-#[test]
-fn memory_for_scans(rt: HostRuntime) -> Result<(), Fail> {
-    let unit = outline(rt.alloc(), &UNIT)?;
-    let mut tally = Tally::new();
-    let empty = Plain.scan(rt.alloc(), &unit, frame(0, 0, 0, 0), &mut tally)?;
-    assert!(rt; !empty.bit(0, 0));
-    let wide = frame(-1, -2, MAX_SIDE, 512);
-    let found = Plain.scan(rt.alloc(), &unit, wide, &mut tally)?;
-    assert!(rt; found.bit(0, 0) && !found.bit(1, 0) && !found.bit(0, 1) && !found.bit(-1, 0));
+    assert!(rt; is_empty(rt.alloc(), frame(0, 0, 0, 0))?);
+    assert!(rt; is_empty(rt.alloc(), frame(-1, -2, MAX_SIDE, MAX_SIDE))?);
     Ok(())
 }

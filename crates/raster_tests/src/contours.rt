@@ -4,19 +4,32 @@ ghost use Rattle.fx_outline.specs.Limits.{max_points};
 ghost use Rattle.fx_outline.specs.Ends.{AreEnds};
 
 use crate::curves::places;
-use crate::outlines::{off, on};
 use fx_contour::{ContourFault, frame, outline_frame, pieces};
+use fx_fixed::F26;
 use fx_outline::{Outline, OutlinePoint};
 use fx_winding::{Frame, Piece};
 use std::alloc::{AllocError, Global};
 use std::test::Fail;
 
+/// A point on the curve, in 1/64 pixel.
+pub fn on(x: i32, y: i32) -> OutlinePoint {
+    OutlinePoint {
+        x: F26(x),
+        y: F26(y),
+        on_curve: true,
+    }
+}
+
+/// A point off the curve, in 1/64 pixel.
+fn off(x: i32, y: i32) -> OutlinePoint {
+    OutlinePoint {
+        on_curve: false,
+        ..on(x, y)
+    }
+}
+
 /// The outline of these points, with the number of each contour's last point.
-pub(crate) fn outline(
-    alloc: Global,
-    points: &[OutlinePoint],
-    ends: &[u16],
-) -> Result<Outline, AllocError>
+pub fn outline(alloc: Global, points: &[OutlinePoint], ends: &[u16]) -> Result<Outline, AllocError>
     requires few { length points.now ≤ max_points }
     requires contours { AreEnds 0 ends.now (length points.now) }
 {
@@ -27,77 +40,74 @@ pub(crate) fn outline(
 }
 
 /// The least column and row of a frame, its width and height.
-fn sides(frame: Frame) -> (i32, i32, u32, u32) {
-    (frame.left, frame.bottom, frame.width, frame.height)
+pub type Sides = (i32, i32, u32, u32);
+
+/// The sides of a frame.
+pub fn sides(frame: Result<Option<Frame>, ContourFault>) -> Result<Option<Sides>, ContourFault> {
+    let frame = frame?;
+    Ok(frame.map(|it| (it.left, it.bottom, it.width, it.height)))
 }
 
 /// Whether pieces are these arcs.
 fn are_arcs(made: &[Piece], arcs: &[[(i32, i32); 3]]) -> bool {
-    for (piece, arc) in made.iter().zip(arcs.iter()) {
-        if places(piece) != Some(*arc) {
+    if made.len() != arcs.len() {
+        return false;
+    }
+    for k in 0..arcs.len() {
+        if places(&made[k]) != Some(arcs[k]) {
             return false;
         }
     }
-    made.len() == arcs.len()
+    true
 }
 
-/// Whether a frame has these sides.
-pub(crate) fn has_sides(
-    frame: Result<Option<Frame>, ContourFault>,
-    wanted: (i32, i32, u32, u32),
-) -> bool {
-    match frame {
-        Ok(Some(frame)) => sides(frame) == wanted,
-        _ => false,
-    }
-}
-
-/// Whether the pieces of an outline are these arcs, and both of its frames have these sides.
+/// Whether the pieces of an outline of four points are these arcs, and both of its frames have these sides.
 fn makes(
     alloc: Global,
-    outline: &Outline,
+    points: [OutlinePoint; 4],
+    ends: &[u16],
     arcs: &[[(i32, i32); 3]],
-    wanted: (i32, i32, u32, u32),
-) -> Result<bool, ContourFault> {
-    let made = pieces(alloc, outline)?;
+    wanted: Sides,
+) -> Result<bool, Fail>
+    requires { AreEnds 0 ends.now 4 }
+{
+    let outline = outline(alloc, &points, ends)?;
+    let made = pieces(alloc, &outline)?;
     Ok(
         are_arcs(made.as_slice(), arcs)
-            && has_sides(frame(&made), wanted)
-            && has_sides(outline_frame(outline), wanted),
+            && sides(frame(&made)) == Ok(Some(wanted))
+            && sides(outline_frame(&outline)) == Ok(Some(wanted)),
     )
 }
 
 #[test]
 fn all_off_the_curve(rt: HostRuntime) -> Result<(), Fail> {
     let points = [off(0, 0), off(256, 0), off(256, 256), off(0, 256)];
-    let outline = outline(rt.alloc(), &points, &[3])?;
-    let arcs = [
+    let arcs = &[
         [(0, 256), (0, 0), (256, 0)],
         [(256, 0), (512, 0), (512, 256)],
         [(512, 256), (512, 512), (256, 512)],
         [(256, 512), (0, 512), (0, 256)],
     ];
-    assert!(rt; makes(rt.alloc(), &outline, &arcs, (0, 0, 4, 4))?);
+    assert!(rt; makes(rt.alloc(), points, &[3], arcs, (0, 0, 4, 4))?);
     Ok(())
 }
 
 #[test]
 fn on_and_off_in_turn(rt: HostRuntime) -> Result<(), Fail> {
     let points = [on(0, 32), off(64, 160), on(128, 32), off(64, -96)];
-    let outline = outline(rt.alloc(), &points, &[3])?;
-    let arcs = [
+    let arcs = &[
         [(0, 64), (128, 320), (256, 64)],
         [(256, 64), (128, -192), (0, 64)],
     ];
-    assert!(rt; makes(rt.alloc(), &outline, &arcs, (0, -2, 2, 5))?);
+    assert!(rt; makes(rt.alloc(), points, &[3], arcs, (0, -2, 2, 5))?);
     Ok(())
 }
 
 #[test]
 fn two_points_and_lone_points(rt: HostRuntime) -> Result<(), Fail> {
     let points = [on(0, 32), off(192, 32), on(900, 0), off(0, 900)];
-    let outline = outline(rt.alloc(), &points, &[1, 2, 3])?;
-    let arcs = [[(0, 64), (384, 64), (0, 64)]];
-    assert!(rt; makes(rt.alloc(), &outline, &arcs, (0, 0, 3, 1))?);
+    let arcs = &[[(0, 64), (384, 64), (0, 64)]];
+    assert!(rt; makes(rt.alloc(), points, &[1, 2, 3], arcs, (0, 0, 3, 1))?);
     Ok(())
 }
