@@ -1,7 +1,7 @@
 //! What a property is.
 
 /// A property of a strike beside FONT_ASCENT and FONT_DESCENT.
-#[derive(Clone, Copy)]
+#[derive(Clone, Copy, Debug, PartialEq)]
 pub struct Property<'a> {
     /// 1 to 64 of the characters `A` to `Z`, `0` to `9` and `_`, a letter first.
     pub name: &'a str,
@@ -10,7 +10,7 @@ pub struct Property<'a> {
 }
 
 /// A property's value.
-#[derive(Clone, Copy)]
+#[derive(Clone, Copy, Debug, PartialEq)]
 pub enum Value<'a> {
     /// A whole number.
     Number(i32),

@@ -3,7 +3,7 @@
 use crate::property::Property;
 
 /// What a strike is called: its name, and its properties.
-#[derive(Clone, Copy)]
+#[derive(Clone, Copy, Debug)]
 pub struct Title<'a> {
     /// The font's name.
     pub name: &'a str,

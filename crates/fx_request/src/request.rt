@@ -57,7 +57,7 @@ pub enum OnRefused {
 }
 
 /// A request for a strike.
-#[derive(Clone, Copy)]
+#[derive(Clone, Copy, Debug)]
 pub struct Request<'a> {
     /// Pixels of an em, 1 to 1,024; any other number is refused.
     pub ppem: u16,
