@@ -43,9 +43,6 @@ off_added s p old new a b off same sum = record {
   small = let t = turn_small p s in omega (arith, signed_linear, sum, t);
 }
 
-pub same_added : (s t : Span) (p : Place) (old new : Bool) (a b : ℤ) → s ≡ t → IsAdded s p old new a b → IsAdded t p old new a b
-same_added s t p old new a b e h = subst (λ (z : Span). IsAdded z p old new a b) e h
-
 -- nothing is added to the places that a piece misses
 pub missed_added : (s : Span) (col row : ℤ) (n : ℕ) (on : Bool) (a : ℤ) → IsMissed (centre col row) s
     → IsAdded s (place_on col row n) on on a a
@@ -68,6 +65,9 @@ pair_held pair =
     let a = pair.col_number in
     let b = pair.row_number in
     (omega (arith, signed_linear, a), omega (arith, signed_linear, b))
+
+pub centre_held : (pair : Pair) → centre (held pair.col) (held pair.row) ≡ centre pair.col pair.row
+centre_held pair = λ i. centre ((pair_held pair).0 i) ((pair_held pair).1 i)
 
 pub part_places : (s : Span) (row : ℤ) (f : Frame) (part : RowPart) → f.left ≡ pos 0 → f.width ≡ 128 → IsRowPart s row f part
     → IsOfPlaces part

@@ -16,11 +16,18 @@ use fx_fixed::Axis;
 use fx_rows::{Run, interval};
 use fx_winding::{Frame, Piece, Pieces, Point, Tally, centre_of};
 
-/// Whether a piece adds nothing at all places from one on: it lies above, below or left of them.
+/// Whether a piece, with its coordinates exchanged or not, adds nothing at all places from one on: it lies above, below or left of
+/// them.
 #[inline(always)]
-fn is_missed(piece: &Piece, first: Point) -> bool
-    ensures { IsTrue result → IsMissed (place_of first) (span_of piece.now) }
+#[tactic(auto, using(fx_winding::proofs::Turning::all_turned))]
+fn is_missed(piece: &Piece, is_turned: bool, first: Point) -> bool
+    ensures { IsTrue result → IsMissed (place_of first) (seen_span is_turned (span_of piece.now)) }
 {
+    if is_turned {
+        return is_after(piece, Axis::X, first.y)
+            || is_before(piece, Axis::X, first.y)
+            || is_before(piece, Axis::Y, first.x);
+    }
     is_after(piece, Axis::Y, first.y)
         || is_before(piece, Axis::Y, first.y)
         || is_before(piece, Axis::X, first.x)
@@ -69,19 +76,15 @@ fn add_stretched(piece: Piece, pair: Pair, places: &mut Places, tally: &mut Tall
     places.add_part(interval(&wide, pair.row, row, tally));
 }
 
-/// Adds what a piece adds at each place. Most pieces lie beside all places: one right of them adds the same at each, and any other
-/// adds nothing.
+/// Adds what a piece adds at each place. One right of all places adds the same at each.
 #[inline(always)]
-fn add_piece(piece: &Piece, pair: Pair, places: &mut Places, tally: &mut Tally)
+fn add_near(piece: &Piece, pair: Pair, places: &mut Places, tally: &mut Tally)
     requires near { IsNear piece.now }
     requires small { AreCountsWithin (2 ^ 19) places.old }
     ensures added { IsPieceAdded pair (span_of piece.now) places.old places.new }
     ensures count { tally.new.count ≤ tally.old.count + 10 }
 {
     let first = centre_of(pair.col, pair.row);
-    if is_missed(piece, first) {
-        return;
-    }
     if is_after(piece, Axis::X, first.x + 127) {
         places.add_run(Some(Run {
             first: 0,
@@ -91,6 +94,22 @@ fn add_piece(piece: &Piece, pair: Pair, places: &mut Places, tally: &mut Tally)
         return;
     }
     add_stretched(*piece, pair, places, tally);
+}
+
+/// Adds what a piece, with its coordinates exchanged or not, adds at each place. Most pieces add nothing, so that is seen before any
+/// is exchanged.
+#[inline(always)]
+fn add_piece(piece: &Piece, is_turned: bool, pair: Pair, places: &mut Places, tally: &mut Tally)
+    requires near { IsNear piece.now }
+    requires small { AreCountsWithin (2 ^ 19) places.old }
+    ensures added { IsPieceAdded pair (seen_span is_turned (span_of piece.now)) places.old places.new }
+    ensures count { tally.new.count ≤ tally.old.count + 10 }
+{
+    let first = centre_of(pair.col, pair.row);
+    if is_missed(piece, is_turned, first) {
+        return;
+    }
+    add_near(&seen(piece, is_turned), pair, places, tally);
 }
 
 /// The places of a pair with what the pieces add, with their coordinates exchanged or not.
@@ -104,7 +123,7 @@ fn places_of(pieces: &Pieces, is_turned: bool, pair: Pair, tally: &mut Tally) ->
     let mut places = Places::new();
     // What the pieces before this one add is added.
     'pieces: for piece in pieces.as_slice() {
-        add_piece(&seen(piece, is_turned), pair, &mut places, tally);
+        add_piece(piece, is_turned, pair, &mut places, tally);
     }
     places
 }

@@ -5,11 +5,11 @@ use Rattle.fx_winding.specs.Near.{IsNear}
 use Rattle.fx_winding.specs.Winding.{span_of, IsCovered}
 use Rattle.fx_dropout.specs.inner.Pairs.{seen_span, seen_spans}
 use Rattle.fx_dropout.specs.inner.Places.{place_in, IsCoveredIn}
-use Rattle.fx_dropout.proofs.Adding.{covered_by, same_added, seen_at, seen_length}
+use Rattle.fx_dropout.proofs.Adding.{covered_by, seen_at, seen_length}
 use Rattle.fx_dropout.proofs.nearer.places_of.Goals as goal
 
-pub seen-requires : goal.seen-requires
-seen-requires c =
+pub add_piece-requires-clause-near : goal.add_piece-requires-clause-near
+add_piece-requires-clause-near c =
     let near = subst (All IsNear) (sym c.as_slice-piece-items.ensures.value) c.as_slice-piece-items.ensures.near in
     subst IsNear (sym c.piece-item.is) (near c.pieces.piece-index c.piece-item.result c.pieces-test.true)
 
@@ -37,7 +37,7 @@ pieces-preserved c =
     let more = c.add_piece.ensures.count in
     record {
       counted = λ n l. counted_more ss k (seen_span up (span_of c.piece-item.result)) (place_in c.args.pair n) _ _ _ _
-          (same_added _ _ _ _ _ _ _ c.seen.ensures.value (c.add_piece.ensures.added n l))
+          (c.add_piece.ensures.added n l)
           (omega (arith, seen_length up ps))
           (seen_at up ps k c.piece-item.result c.piece-item.is)
           (inv.counted n l);
