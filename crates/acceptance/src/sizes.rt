@@ -10,8 +10,8 @@ use fx_winding::{Bitmap, Frame, Pieces, Scan, ScanFault, Tally};
 use std::alloc::Global;
 use std::test::Fail;
 
-/// The scan by rows, if it makes at most this number of tests. For four pieces in one row the limit is 4 * 1 * (6 * digits + 12), with the
-/// binary digits of the row's width: 336 for 2,048 pixels, 384 for 8,192.
+/// The scan by rows, if it makes at most this number of tests. For four pieces in one row the limit is 4 * 1 * (6 * digits + 12),
+/// with the binary digits of the row's width: 336 for 2,048 pixels, 384 for 8,192.
 struct Few(u64);
 
 impl Scan for Few {

@@ -60,7 +60,7 @@ can_be_made setting refused code glyph (LeftOut notice) h low = tt
 -- ---- a step of the first pass
 
 pub seen_fate : {due : Result Fate Refusal} (old new : Seen) (before after : KeptBytes)
-    (r : Result (Unit {0}) Refusal) (fate : Fate) → due ≡ Ok fate → OnOk r (HasFate fate old new before after) → IfErr r (λ e. e ≡ OutOfMemory)
-    → SeesOne due old new before after r
+    (r : Result (Unit {0}) Refusal) (fate : Fate) → due ≡ Ok fate → OnOk r (HasFate fate old new before after)
+    → IfErr r (λ e. e ≡ OutOfMemory) → SeesOne due old new before after r
 seen_fate old new before after (Ok u) fate e h m = (fate, e, h)
 seen_fate {due} old new before after (Err d) fate e h m = memory_fails d due m
