@@ -21,8 +21,7 @@ fn bend(piece: &Piece, b: Point) -> i64
 
 /// By how much the slope of an arc's gap falls from column to column, which is more than 0.
 fn fall(bend: i64) -> i128
-    requires size { IsWithin (2 ^ 24) bend }
-    requires some { bend ≢ pos 0 }
+    requires { IsWithin (2 ^ 24) bend × (bend ≢ pos 0) }
     ensures value { result ≡ pos 128 *ℤ (bend *ℤ bend) }
     ensures above { pos 0 <ℤ result }
     ensures size { IsWithin (2 ^ 56) result }
@@ -33,8 +32,7 @@ fn fall(bend: i64) -> i128
 /// How the slope of an arc's gap falls along a row: its value is below 0 at the columns where the gap still grows.
 fn falling_slope(piece: &Piece, b: Point, bend: i64, strip: Strip) -> WideSlope
     requires bend { bend ≡ piece.now.a.y -ℤ pos 2 *ℤ b.y +ℤ piece.now.c.y }
-    requires size { IsWithin (2 ^ 24) bend }
-    requires some { bend ≢ pos 0 }
+    requires size { IsWithin (2 ^ 24) bend × (bend ≢ pos 0) }
     ensures start { result.start ≡ neg_ℤ (slope_of (place_of piece.now.a) (place_of b) (place_of piece.now.c) (place_at strip 0)) }
     ensures step { result.step ≡ pos 128 *ℤ (bend *ℤ bend) }
 {

@@ -50,8 +50,8 @@ overflow_mul-result c = omega (arith, signed, c.product.ensures.size)
 pub overflow_sub-result : goal.overflow_sub-result
 overflow_sub-result c = omega (arith, signed, c.product.ensures.size, c.product-2.ensures.size)
 
-pub moved-v-requires-clause-near_step : goal.moved-v-requires-clause-near_step
-moved-v-requires-clause-near_step c = (omega (arith, signed_linear), omega (arith, signed_linear))
+pub moved-v-requires-clause-near : goal.moved-v-requires-clause-near
+moved-v-requires-clause-near c = omega (arith, signed_linear)
 
-pub moved-w-requires-clause-near_step : goal.moved-w-requires-clause-near_step
-moved-w-requires-clause-near_step c = (omega (arith, signed_linear), omega (arith, signed_linear))
+pub moved-w-requires-clause-near : goal.moved-w-requires-clause-near
+moved-w-requires-clause-near c = omega (arith, signed_linear)

@@ -27,4 +27,4 @@ returns-clause-value c = value_held c.args.start c.args.step c.from.result c.arg
 pub returns-clause-size : goal.returns-clause-size
 returns-clause-size c =
     rw (returns-clause-value c)
-    (moved_within c.args.start c.args.step c.args.k c.requires.near_column c.requires.near_start c.requires.near_step)
+    (moved_within c.args.start c.args.step c.args.k c.requires.column c.requires.near.0 c.requires.near.1)

@@ -14,8 +14,8 @@ overflow_mul-result c = omega (arith, signed, c.wide_product.ensures.size)
 pub returns-clause-value : goal.returns-clause-value
 returns-clause-value c =
     let b = c.args.bend in
-    let same : to_z w64 (of_z w64 b) ≡ b = omega (arith, signed_linear, c.requires.size) in
-    times_128 c.wide_product.result (b *ℤ b) (product_within (2 ^ 24) (2 ^ 24) b b c.requires.size c.requires.size)
+    let same : to_z w64 (of_z w64 b) ≡ b = omega (arith, signed_linear, c.requires.0) in
+    times_128 c.wide_product.result (b *ℤ b) (product_within (2 ^ 24) (2 ^ 24) b b c.requires.0 c.requires.0)
     (c.wide_product.ensures.value ∙ (λ i. same i *ℤ same i))
 
 within_128 : (z : ℤ) → IsWithin (2 ^ 48) z → IsWithin (2 ^ 56) (pos 128 *ℤ z)
@@ -25,4 +25,4 @@ pub returns-clause-size : goal.returns-clause-size
 returns-clause-size c =
     let b = c.args.bend in
     rw (returns-clause-value c)
-    (within_128 (b *ℤ b) (product_within (2 ^ 24) (2 ^ 24) b b c.requires.size c.requires.size))
+    (within_128 (b *ℤ b) (product_within (2 ^ 24) (2 ^ 24) b b c.requires.0 c.requires.0))

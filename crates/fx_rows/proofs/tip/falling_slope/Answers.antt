@@ -14,7 +14,7 @@ same_bend : (b : ℤ) → IsWithin (2 ^ 24) b → to_z w64 (of_z w64 b) ≡ b
 same_bend b h = omega (arith, signed_linear)
 
 pub fall-requires : goal.fall-requires
-fall-requires c = rw (same_bend c.args.bend c.requires.size) (record { size = c.requires.size; some = c.requires.some })
+fall-requires c = rw (same_bend c.args.bend c.requires.size.0) c.requires.size
 
 pub centre_at-requires : goal.centre_at-requires
 centre_at-requires c = omega (arith, signed_linear, c.args.strip.base_near)
@@ -41,6 +41,6 @@ returns-clause-start c =
 
 pub returns-clause-step : goal.returns-clause-step
 returns-clause-step c =
-    let same = same_bend c.args.bend c.requires.size in
+    let same = same_bend c.args.bend c.requires.size.0 in
     let kept : to_z w128 (of_z w128 c.fall.result) ≡ c.fall.result = omega (arith, signed_linear, c.fall.ensures.size) in
     kept ∙ c.fall.ensures.value ∙ (λ i. pos 128 *ℤ (same i *ℤ same i))
