@@ -12,7 +12,7 @@ use std::alloc::{AllocError, Global};
 use std::test::Fail;
 
 /// A point on the curve, in 1/64 pixel.
-pub fn on(x: i32, y: i32) -> OutlinePoint {
+pub(crate) fn on(x: i32, y: i32) -> OutlinePoint {
     OutlinePoint {
         x: F26(x),
         y: F26(y),
@@ -29,7 +29,11 @@ fn off(x: i32, y: i32) -> OutlinePoint {
 }
 
 /// The outline of these points, with the number of each contour's last point.
-pub fn outline(alloc: Global, points: &[OutlinePoint], ends: &[u16]) -> Result<Outline, AllocError>
+pub(crate) fn outline(
+    alloc: Global,
+    points: &[OutlinePoint],
+    ends: &[u16],
+) -> Result<Outline, AllocError>
     requires few { length points.now ≤ max_points }
     requires contours { AreEnds 0 ends.now (length points.now) }
 {
@@ -40,10 +44,12 @@ pub fn outline(alloc: Global, points: &[OutlinePoint], ends: &[u16]) -> Result<O
 }
 
 /// The least column and row of a frame, its width and height.
-pub type Sides = (i32, i32, u32, u32);
+pub(crate) type Sides = (i32, i32, u32, u32);
 
 /// The sides of a frame.
-pub fn sides(frame: Result<Option<Frame>, ContourFault>) -> Result<Option<Sides>, ContourFault> {
+pub(crate) fn sides(
+    frame: Result<Option<Frame>, ContourFault>,
+) -> Result<Option<Sides>, ContourFault> {
     let frame = frame?;
     Ok(frame.map(|it| (it.left, it.bottom, it.width, it.height)))
 }

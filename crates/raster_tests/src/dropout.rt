@@ -52,7 +52,7 @@ fn segments(rt: HostRuntime) {
     }
 }
 
-/// A box of pixels: its lower left pixel, by its distance from column and row -9, its width and its height.
+/// A frame: its lowest column and row, each plus 9, its width and its height.
 type Corner = (u8, u8, u8, u8);
 
 /// A scan of an outline in a frame with its gaps closed.
