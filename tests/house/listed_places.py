@@ -59,7 +59,6 @@ PLACES = {
     "crates/fx_request/src/characters.rt": ["from_slice(alloc, chars)", "from_slice(alloc, chars)"],
     "crates/fx_request/src/faults.rt": ["Refusal::OutOfMemory"],
     "crates/fx_request/src/refusal.rt": ["Refusal::OutOfMemory,"],
-    "crates/fx_rows/src/band.rt": ["let _ = words.pop()"],
     "crates/fx_rows/src/lanes.rt": ["let _number = *number"],
     "crates/fx_rows/src/rows.rt": ["reserve_exact(frame.height as usize * words_for(frame.width))"],
     "crates/fx_scale/src/cvt.rt": ["with_capacity(alloc, bytes.len() / 2)"],

@@ -8,9 +8,9 @@ use Rattle.std.proofs.lemmas.List.{get_or_past, length-take-le}
 use Rattle.std.proofs.lemmas.List.FromFn.{length-map-range_with_len, get_or-map-range_with_len}
 use Rattle.std.proofs.lemmas.Nat.Bits.{bit_at-lt, bit_at_cat_high, bit_at_cat_low}
 use Rattle.fx_fixed.proofs.Order.{below_or_not}
-use Rattle.fx_winding.specs.Bitmaps.{word_bit, words_for}
+use Rattle.fx_winding.specs.Bitmaps.{word_bit}
 use Rattle.fx_bdf.specs.Text.{pixel}
-use Rattle.fx_bdf.specs.inner.RowWords.{row_from, HoldRow, IsWordOf, AreWordsOf}
+use Rattle.fx_bdf.specs.inner.RowWords.{row_from, words_needed, HoldRow, IsWordOf, AreWordsOf}
 
 pub length-row_from : (width from : ℕ) (words : List ℕ) → length (row_from width from words) ≡ width
 length-row_from width from words = length-map-range_with_len (λ i. word_bit words (from + i) == 1) 0 width
@@ -45,16 +45,16 @@ held_pixel width from words i at bit h a b =
 
 -- a row that begins with a word's first bit
 pub whole_row : (width from : ℕ) (words some : List ℕ) → HoldRow width from words → from % 32 ≡ 0
-    → some ≡ take (words_for width) (drop (from / 32) words) → AreWordsOf (row_from width from words) some
+    → some ≡ take (words_needed width) (drop (from / 32) words) → AreWordsOf (row_from width from words) some
 whole_row width from words some h start e = record {
-  count = few ∙ ap words_for (sym (length-row_from width from words));
+  count = few ∙ ap words_needed (sym (length-row_from width from words));
   each = λ k low. record {
     bits = λ i small. (λ t. bit_at (same k low t) (31 - i))
         ∙ held_pixel width from words (32 * k + i) (from / 32 + k) (31 - i) h (omega (arith, start)) (omega (arith, start));
   };
 }
   where
-    few : length some ≡ words_for width
+    few : length some ≡ words_needed width
     few = grind (arith, h, start, e, length-take-le, length-drop)
 
     same : (k : ℕ) → k < length some → get_or some k 0 ≡ get_or words (from / 32 + k) 0

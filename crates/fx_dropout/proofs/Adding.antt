@@ -71,11 +71,11 @@ centre_held pair = λ i. centre ((pair_held pair).0 i) ((pair_held pair).1 i)
 
 pub part_places : (s : Span) (row : ℤ) (f : Frame) (part : RowPart) → f.left ≡ pos 0 → f.width ≡ 128 → IsRowPart s row f part
     → IsOfPlaces part
-part_places s row f part left wide h = record {
-  crossing = run part.crossing (part_crosses s row f part h);
-  region = run part.region (part_regions s row f part h);
-  on = named part.on (on_inside s f part.on h.formed);
-}
+part_places s row f part left wide h = (
+  run part.crossing (part_crosses s row f part h),
+  run part.region (part_regions s row f part h),
+  named part.on (on_inside s f part.on h.formed),
+)
   where
     run : (r : Option Run) → IsInside f r → IsRunOfPlaces r
     run r h = grind (arith, signed_linear, left, wide, h)

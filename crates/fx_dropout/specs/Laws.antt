@@ -1,11 +1,9 @@
 -- What the definition of drop-out control implies, whichever of the two pixels closes a gap.
-use Rattle.std.specs.Prelude.{◌⊎◌, ◌↔◌, ℤ, pos, ◌+ℤ◌, ◌*ℤ◌, List, map, Any}
-use Rattle.std.specs.List.Sorted.{IsPermutation}
+use Rattle.std.specs.Prelude.{◌⊎◌, ℤ, pos, ◌+ℤ◌, List, map, Any}
 use Rattle.fx_winding.specs.declared.frame.Frame.{Frame}
 use Rattle.fx_winding.specs.Turned.{turned_span}
 use Rattle.fx_winding.specs.Frames.{IsInFrame}
 use Rattle.fx_winding.specs.Meets.{IsMet}
-use Rattle.fx_winding.specs.Moves.{reversed, shifted}
 use Rattle.fx_winding.specs.Winding.{Span, IsCovered, centre}
 use Rattle.fx_dropout.specs.declared.chooser.Closing.{Closing}
 use Rattle.fx_dropout.specs.Dropout.{IsSet}
@@ -26,14 +24,3 @@ abbrev pub ColumnsHaveNoGap : Type 0
 ColumnsHaveNoGap = (closing : Closing) (ss : List Span) (f : Frame) (i j : ℤ) → IsInFrame f i j ⊎ IsInFrame f i (j +ℤ pos 1)
     → ¬ (IsSet closing ss f i j) → ¬ (IsSet closing ss f i (j +ℤ pos 1))
     → ¬ (Any (IsMet (centre j i) (centre (j +ℤ pos 1) i)) (map turned_span ss))
-
--- the law: the pieces reversed, in whatever order, set the same pixels
-abbrev pub ReversalKeepsSet : Type 0
-ReversalKeepsSet = (closing : Closing) (ss ts : List Span) (f : Frame) → IsPermutation (map reversed ss) ts → (i j : ℤ)
-    → IsSet closing ts f i j ↔ IsSet closing ss f i j
-
--- the law: pieces and a frame moved by k pixels to the right and l up, each pixel 128 units a side, set the pixels moved so
-abbrev pub ShiftMovesSet : Type 0
-ShiftMovesSet = (closing : Closing) (k l : ℤ) (ss : List Span) (f g : Frame)
-    → ((i j : ℤ) → IsInFrame g (i +ℤ k) (j +ℤ l) ↔ IsInFrame f i j) → (i j : ℤ)
-    → IsSet closing (map (shifted (pos 128 *ℤ k) (pos 128 *ℤ l)) ss) g (i +ℤ k) (j +ℤ l) ↔ IsSet closing ss f i j

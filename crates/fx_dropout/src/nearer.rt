@@ -96,8 +96,8 @@ fn add_near(piece: &Piece, pair: Pair, places: &mut Places, tally: &mut Tally)
     add_stretched(*piece, pair, places, tally);
 }
 
-/// Adds what a piece, with its coordinates exchanged or not, adds at each place. Most pieces add nothing, which is asked before they
-/// are exchanged.
+/// Adds what a piece, with its coordinates exchanged or not, adds at each place. Most pieces add nothing, which is asked before
+/// they are exchanged.
 #[inline(always)]
 fn add_piece(piece: &Piece, is_turned: bool, pair: Pair, places: &mut Places, tally: &mut Tally)
     requires near { IsNear piece.now }

@@ -1,12 +1,11 @@
 -- What drop-out control sets lies in its frame, and depends on the frame's pixels alone.
 -- Serves `bitmap_of`, `lies_in` and the law that a picture exists.
-use Rattle.std.proofs.Common.{◌⊎◌, ◌↔◌, inl, inr, ℤ, List, map, Option}
+use Rattle.std.proofs.Common.{◌⊎◌, ◌↔◌, inl, inr, ℤ, pos, ◌+ℤ◌, ◌-ℤ◌, List, map, Option, arith}
 use Rattle.fx_winding.specs.Winding.{Span, IsCovered, centre}
 use Rattle.fx_winding.specs.Turned.{turned_span}
 use Rattle.fx_winding.specs.Outside.{AreOfOutline}
 use Rattle.fx_dropout.specs.declared.chooser.Closing.{Closing}
-use Rattle.fx_dropout.specs.Dropout.{IsNextChosen, IsSetIn}
-use Rattle.fx_dropout.proofs.SetPixels.{AreMet, AreRowsMoved, IsMoved, set_moved, stays}
+use Rattle.fx_dropout.specs.Dropout.{IsGap, IsNextChosen, IsBridged, IsRowSetIn, IsSetIn, IsClosedByLeft, IsClosedByRight}
 use Rattle.fx_winding.specs.declared.frame.Frame.{Frame}
 use Rattle.fx_contour.specs.Frames.{IsInside, NothingOutsideFrame}
 use Rattle.fx_contour.specs.DropoutFrames.{IsInDropoutFrame}
@@ -17,27 +16,26 @@ use Rattle.fx_raster.specs.Frames.{IsFramedBy}
 
 -- ---- the same pixels inside
 
--- what holds of the same pixels
-same : (P Q : ℤ → ℤ → Type 0) → ((i j : ℤ) → P i j ↔ Q i j) → IsMoved (λ i. i) (λ j. j) P Q
-same P Q e = record { back = λ i j. (e i j).1; on = λ i j. (e i j).0 }
+-- a row closed, where the same pixels are inside and set so far
+bridged_along : (ss : List Span) (In To Near So At : ℤ → ℤ → Type 0) → ((i j : ℤ) → In i j ↔ To i j)
+    → ((i j : ℤ) → So i j ↔ At i j) → (i j : ℤ) → IsBridged ss In Near So i j ↔ IsBridged ss To Near At i j
+bridged_along ss In To Near So At inside set i j = grind (arith, inside i j, set i j, left, right)
+  where
+    gap : (i : ℤ) → IsGap ss So i j ↔ IsGap ss At i j
+    gap i = grind (arith, set i j, set (i +ℤ pos 1) j)
 
-kept : (P : ℤ → ℤ → Type 0) → IsMoved (λ i. i) (λ j. j) P P
-kept P = same P P (λ i j. (λ h. h, λ h. h))
+    left : IsClosedByLeft ss In Near So i j ↔ IsClosedByLeft ss To Near At i j
+    left = grind (arith, gap i, inside (i +ℤ pos 1) j)
+
+    right : IsClosedByRight ss In Near So (i -ℤ pos 1) j ↔ IsClosedByRight ss To Near At (i -ℤ pos 1) j
+    right = grind (arith, gap (i -ℤ pos 1), inside (i -ℤ pos 1) j)
 
 pub set_along : (closing : Closing) (ss : List Span) (In To : ℤ → ℤ → Type 0) → ((i j : ℤ) → In i j ↔ To i j) → (i j : ℤ)
     → IsSetIn closing ss In i j ↔ IsSetIn closing ss To i j
-set_along closing ss In To e i j = (λ h. all.on i j h, λ h. all.back i j h)
-  where
-    rows : (ts : List Span) → AreRowsMoved closing (λ i. i) (λ j. j) ts ts
-    rows ts = record { chosen = kept (IsNextChosen closing ts); met = kept (AreMet ts) }
-
-    all : IsMoved (λ i. i) (λ j. j) (IsSetIn closing ss In) (IsSetIn closing ss To)
-    all = set_moved closing (λ i. i) (λ j. j) stays stays ss ss In To (record {
-      inside = same In To e;
-      covered = kept (λ i j. IsCovered (centre i j) ss);
-      rows = rows ss;
-      columns = rows (map turned_span ss);
-    })
+set_along closing ss In To e i j =
+    bridged_along (map turned_span ss) (λ j i. In i j) (λ j i. To i j) (IsNextChosen closing (map turned_span ss))
+    (λ j i. IsRowSetIn closing ss In i j) (λ j i. IsRowSetIn closing ss To i j) (λ j i. e i j)
+    (λ j i. bridged_along ss In To (IsNextChosen closing ss) _ _ e (λ i j. (λ h. h, λ h. h)) i j) j i
 
 -- ---- covered, or inside
 

@@ -4,7 +4,7 @@ use Rattle.std.proofs.Common.{inl, map}
 use Rattle.fx_winding.specs.Turned.{turned_span}
 use Rattle.fx_winding.specs.Winding.{IsCovered, centre}
 use Rattle.fx_dropout.specs.Dropout.{IsNextChosen, IsRowSetIn}
-use Rattle.fx_dropout.proofs.SetPixels.{bridged_no_gap}
+use Rattle.fx_dropout.proofs.NoGaps.{bridged_no_gap}
 use Rattle.fx_contour.specs.DropoutFrames.{IsInDropoutFrame}
 use Rattle.fx_contour.proofs.Bridged.{met_rows_are_kept, met_columns_are_kept}
 use Rattle.fx_raster.specs.Laws.{NoGapInRow, NoGapInColumn}

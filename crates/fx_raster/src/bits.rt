@@ -64,8 +64,8 @@ fn bridged<S: Scan>(
     let mut tally = Tally::new();
     match scan.scan_noted(alloc, pieces, frame, scratch, &mut tally) {
         Ok(noted) => {
-            let notes = noted.notes;
-            let bits = close_gaps(pieces, &notes, noted.bitmap, closing, &mut tally);
+            let mut notes = noted.notes;
+            let bits = close_gaps(pieces, &mut notes, noted.bitmap, closing, &mut tally);
             scratch.give_back_notes(notes);
             Ok(bits)
         }

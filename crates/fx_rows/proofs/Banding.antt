@@ -27,11 +27,11 @@ pub row_before : (r t s : ℕ) → r < t → r * s + s ≤ t * s
 row_before r t s h =
     let e = next_row r s in let l : r + 1 ≤ t = omega arith in let m = mul-le-mul_right s l in omega (arith, e, m)
 
-pub wide : (w : ℕ) → w ≤ stride w
+pub wide : (w : ℕ) → w < stride w
 wide w = omega arith
 
--- a row's words are among those of all rows and one more
-pub word_in : (up high w first n : ℕ) → up < high → first ≡ up * stride w → n ≡ high * words_for w + 1 → (first + w) / 32 < n
+-- a row's words are among those of all rows
+pub word_in : (up high w first n : ℕ) → up < high → first ≡ up * stride w → n ≡ high * words_for w → (first + w) / 32 < n
 word_in up high w first n h e l = grind (arith, signed_linear, h, e, l, row_before)
 
 -- ---- what stays
@@ -193,35 +193,29 @@ pub after_last : (w high r k : ℕ) → w ≤ k → k < stride w → (t : ℕ) �
 after_last w high r k h l t z a =
     grind (arith, below_or_not r t, below_or_not t r, row_before r t (stride w), row_before t r (stride w), wide w)
 
-pub number_in : (up high w k n : ℕ) → up < high → k < stride w → n ≡ high * words_for w + 1 → up * stride w + k < 32 * n
+pub number_in : (up high w k n : ℕ) → up < high → k < stride w → n ≡ high * words_for w → up * stride w + k < 32 * n
 number_in up high w k n h l e = grind (arith, signed_linear, h, l, e, row_before)
 
--- the numbers from the last row on are those of no pixel
-past_rows : (w high n : ℕ) → high * stride w ≤ n → (t : ℕ) → 0 ≤ t → t < high → (n < t * stride w) ⊎ (t * stride w + w ≤ n)
+-- the numbers from the last of the last row on are those of no pixel
+past_rows : (w high n : ℕ) → high * stride w ≤ n + 1 → (t : ℕ) → 0 ≤ t → t < high → (n < t * stride w) ⊎ (t * stride w + w ≤ n)
 past_rows w high n h t z a = let e = row_before t high (stride w) a in let x = wide w in inr (omega (arith, e, x))
 
-past_room : (high w n k : ℕ) → n ≡ high * words_for w + 1 → 32 * n ≤ k + 1 → high * stride w ≤ k
-past_room high w n k e h = grind (arith, signed_linear, e, h)
-
-last_added : (xs : List ℤ) (k : ℕ) → before (k + 1) xs ≡ pos 0 → before (k + 2) xs ≡ pos 0 → get_or xs (k + 1) (pos 0) ≡ pos 0
-last_added xs k h l =
-    let e : k + 2 ≡ suc (k + 1) = omega arith in
-    let m = before_more (k + 1) xs in
-    let n = ap (λ (j : ℕ). before j xs) e in
-    omega (arith, signed_linear, h, l, m, n)
-
 -- after the room of its marks a counted band has no difference
-pub past_marks : (ss : List Span) (f : Frame) (b : Band) (k : ℕ) → length b.marks.items ≡ f.height * words_for f.width + 1
+before_end : (ss : List Span) (f : Frame) (b : Band) (k : ℕ) → IsCounted ss f b → f.height * stride f.width ≤ k
+    → before k b.diff.items ≡ pos 0
+before_end ss f b zero c h = refl
+before_end ss f b (suc k) c h =
+    let e : suc k ≡ k + 1 = omega arith in
+    ap (λ (n : ℕ). before n b.diff.items) e ∙ c.rest k (past_rows f.width f.height k (omega arith))
+
+pub past_marks : (ss : List Span) (f : Frame) (b : Band) (k : ℕ) → length b.marks.items ≡ f.height * words_for f.width
     → IsCounted ss f b → 32 * length b.marks.items ≤ k → get_or b.diff.items k (pos 0) ≡ pos 0
-past_marks ss f b zero e c h = absurd (omega (arith, e))
-past_marks ss f b (suc k) e c h =
-    let one = c.rest k (past_rows f.width f.height k (past_room f.height f.width (length b.marks.items) k e (omega arith))) in
-    let two = c.rest (k + 1)
-    (past_rows f.width f.height (k + 1) (past_room f.height f.width (length b.marks.items) (k + 1) e (omega arith))) in
-    let s : suc k ≡ k + 1 = omega arith in
-    let t : k + 1 + 1 ≡ k + 2 = omega arith in
-    ap (λ (n : ℕ). get_or b.diff.items n (pos 0)) s
-    ∙ last_added b.diff.items k one (sym (ap (λ (n : ℕ). before n b.diff.items) t) ∙ two)
+past_marks ss f b k e c h =
+    let end : f.height * stride f.width ≤ k = grind (arith, signed_linear, e, h) in
+    let here = before_end ss f b k c end in
+    let next = before_end ss f b (suc k) c (omega arith) in
+    let m = before_more k b.diff.items in
+    omega (arith, signed_linear, here, next, m)
 
 -- ---- counts of tests
 tests_more : (p c u v : ℕ) → u ≤ v → p * (c * u) + p * (c * (v - u)) ≡ p * (c * v)

@@ -4,7 +4,7 @@ use Rattle.std.proofs.Common.{◌↔◌, IsTrue, Bool, false, ◌≡◌, ◌≢�
 use Rattle.std.proofs.Common.{neg_ℤ, ◌≤ℤ◌, ◌<ℤ◌, Option, Some, None, List, [], ◌∷◌, arith}
 use Rattle.fx_fixed.specs.Polynomial.{var, num, ◌⊞◌, ◌⊠◌, ◌⊟◌, Expr}
 use Rattle.fx_fixed.proofs.Linear.{signed, signed_linear}
-use Rattle.fx_fixed.proofs.Order.{below_same_above, below_or_not_ℤ}
+use Rattle.fx_fixed.proofs.Order.{below_or_not, below_same_above, below_or_not_ℤ}
 use Rattle.fx_fixed.proofs.Ring.{ring}
 use Rattle.fx_winding.specs.Area.{Place}
 use Rattle.fx_winding.specs.Frames.{IsFrom}
@@ -14,20 +14,21 @@ use Rattle.fx_winding.specs.declared.frame.Frame.{Frame}
 use Rattle.fx_winding.proofs.Aside.{left_not_met, right_not_met}
 use Rattle.fx_winding.proofs.Places.{clash}
 use Rattle.fx_winding.proofs.Triangle.{area_expr}
-use Rattle.fx_winding.specs.Bitmaps.{word_bit}
+use Rattle.fx_winding.specs.Bitmaps.{words_for, word_bit}
 use Rattle.fx_winding.specs.Turned.{turned_span}
-use Rattle.fx_winding.specs.Notes.{pixel_number, words_noted, IsMetAcross, IsNotedAcross, IsNotedUp}
+use Rattle.fx_winding.specs.Notes.{pixel_number, IsMetAcross, IsNotedAcross, IsNotedUp}
 use Rattle.fx_rows.specs.inner.Bulging.{HasLine, IsBeyond}
 use Rattle.fx_rows.specs.inner.Heights.{height_of, IsAbove, IsBelow, IsMissed}
-use Rattle.fx_rows.specs.declared.heights.Met.{Met}
-use Rattle.fx_rows.specs.inner.Placing.{AreMetIn}
-use Rattle.fx_rows.specs.inner.Points.{AreAcross}
+use Rattle.fx_rows.specs.declared.heights.RowRange.{RowRange}
+use Rattle.fx_rows.specs.inner.Placing.{AreBetween}
+use Rattle.fx_rows.specs.inner.Points.{AreAcross, IsInner}
 use Rattle.fx_rows.specs.inner.Sums.{IsInside}
 use Rattle.fx_rows.specs.inner.Told.{AreKept}
 use Rattle.fx_rows.specs.inner.Upward.{column_of}
 use Rattle.fx_rows.proofs.Missed.{row_unmet}
 use Rattle.fx_rows.proofs.Kept.{rows_three}
 use Rattle.fx_rows.proofs.Points.{to_all}
+use Rattle.fx_rows.proofs.Telling.{at_least_outside, at_most_outside}
 use Rattle.fx_rows.specs.Parts.{IsRun, IsRowPart}
 use Rattle.fx_rows.specs.declared.part.Run.{Run}
 use Rattle.fx_rows.specs.declared.part.RowPart.{RowPart}
@@ -245,24 +246,31 @@ set_kept s f row first step k a b kept h met = kept (first + k * step) (h met)
 across_unmet : (s : Span) (f : Frame) (r k : ℕ) → IsMissed s (height_of f r) → ¬ (IsMetAcross s f r k)
 across_unmet s f r k h m = row_unmet s ((f.left -ℤ pos 1) +ℤ pos k) (f.left +ℤ pos k) (f.bottom +ℤ pos r) h m.met
 
--- the rows of a band that a piece can touch are noted, and it misses the others
-pub missed_across : (s : Span) (f : Frame) (from to : ℕ) (m : Met) (bits : List ℕ) → AreMetIn s f from to m
-    → ((r : ℕ) → m.touched.first ≤ r → r < m.touched.end → IsNotedAcross s f bits r) → (r : ℕ) → from ≤ r → r < to
-    → IsNotedAcross s f bits r
-missed_across s f from to m bits is h = rows_three (IsNotedAcross s f bits) from m.touched.first m.touched.end to
-    (λ r l o k w met. absurd (across_unmet s f r k (inl (is.below r l o)) met)) h
-    (λ r l o k w met. absurd (across_unmet s f r k (inr (is.above r l o)) met))
+-- the rows of a band between a piece's ends are noted, and the others unless it misses them
+pub others_across : (s : Span) (f : Frame) (from to : ℕ) (part : RowRange) (bits : List ℕ) → AreBetween s f from to part
+    → ((r : ℕ) → from ≤ r → r < to → ¬ (IsInner s.a.y s.c.y (height_of f r)) → ¬ (IsMissed s (height_of f r))
+    → IsNotedAcross s f bits r) → ((r : ℕ) → part.first ≤ r → r < part.end → IsNotedAcross s f bits r) → (r : ℕ) → from ≤ r
+    → r < to → IsNotedAcross s f bits r
+others_across s f from to part bits is others inner r l m = by (below_or_not r part.first) (below_or_not r part.end)
+  where
+    other : ¬ (IsInner s.a.y s.c.y (height_of f r)) → IsNotedAcross s f bits r
+    other n k w met = others r l m n (λ missed. across_unmet s f r k missed met) k w met
 
-pub across_set : (s : Span) (f : Frame) (r : ℕ) (bits : List ℕ) → AreSetIn s f r (r * (32 * words_noted f.width)) 1 bits
+    by : (r < part.first) ⊎ (part.first ≤ r) → (r < part.end) ⊎ (part.end ≤ r) → IsNotedAcross s f bits r
+    by (inl o) x = other (at_most_outside s.a.y s.c.y (height_of f r) (is.under r l o).0 (is.under r l o).1)
+    by (inr o) (inl x) = inner r o x
+    by (inr o) (inr x) = other (at_least_outside s.a.y s.c.y (height_of f r) (is.over r x m).0 (is.over r x m).1)
+
+pub across_set : (s : Span) (f : Frame) (r : ℕ) (bits : List ℕ) → AreSetIn s f r (r * (32 * words_for f.width)) 1 bits
     → IsNotedAcross s f bits r
 across_set s f r bits h k m met = grind (arith, signed_linear, h, k, m, met)
 
 pub up_set : (s : Span) (f g : Frame) (bits : List ℕ) → g.left ≡ f.bottom → g.bottom ≡ f.left → g.width ≡ f.height
     → g.height ≡ f.width
-    → ((r : ℕ) → 0 ≤ r → r < g.height → AreSetIn (turned_span s) g r (r * 1) (32 * words_noted f.width) bits)
+    → ((r : ℕ) → 0 ≤ r → r < g.height → AreSetIn (turned_span s) g r (r * 1) (32 * words_for f.width) bits)
     → (r : ℕ) → r ≤ f.height → IsNotedUp s f bits r
 up_set s f g bits el eb ew eh h r l k m met =
-    let e : k * 1 + r * (32 * words_noted f.width) ≡ pixel_number f r k = omega arith in
+    let e : k * 1 + r * (32 * words_for f.width) ≡ pixel_number f r k = omega arith in
     subst (λ (n : ℕ). word_bit bits n ≡ 1) e (h k (omega arith) (subst (λ (n : ℕ). k < n) (sym eh) m) r
     (subst (λ (n : ℕ). r ≤ n) (sym ew) l)
     (record {

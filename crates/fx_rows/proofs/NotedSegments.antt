@@ -6,11 +6,12 @@ use Rattle.std.proofs.Math.Nat.{mul-le-mul_right}
 use Rattle.fx_winding.specs.declared.frame.Frame.{Frame}
 use Rattle.fx_winding.specs.Turned.{turned_span}
 use Rattle.fx_winding.specs.Meets.{IsMet}
-use Rattle.fx_winding.specs.Notes.{pixel_number, words_noted, IsNotedAcross, IsNotedUp}
+use Rattle.fx_winding.specs.Notes.{pixel_number, IsNotedAcross, IsNotedUp}
+use Rattle.fx_winding.specs.Bitmaps.{words_for}
 use Rattle.fx_winding.specs.Winding.{Span, IsOn, centre}
 use Rattle.fx_rows.specs.inner.Lines.{left_at, right_at, AreOnly, GainOnly, IsAcrossBit, IsMetTo, IsMetUnlessOn, IsRowsBit, IsUpBit}
 use Rattle.fx_rows.specs.inner.Telling.{Way, across_row, up_to_row, IsNotedBy, IsAmong, AreMetAcross, AreMetUp}
-use Rattle.fx_rows.specs.inner.Telling.{BitsSay, Lasts, Saying, of_frame, of_pieces, noted}
+use Rattle.fx_rows.specs.inner.Telling.{BitsSay, Lasts, Saying, of_frame, of_pieces, met_in, noted}
 use Rattle.fx_rows.specs.inner.Told.{AreKept}
 use Rattle.fx_rows.proofs.Turned.{on_turned}
 
@@ -27,11 +28,11 @@ noted_kept f a b u v s across_row r across up h = λ l. across_kept s f r a b ac
 noted_kept f a b u v s up_to_row r across up h = λ l. up_kept s f r u v up (h l)
 
 -- ---- the bits of a row lie in its words
-pub row_room : (r h width row n : ℕ) → r < h → row ≡ 32 * words_noted width → n ≡ h * words_noted width → r * row + width < 32 * n
+pub row_room : (r h width row n : ℕ) → r < h → row ≡ 32 * words_for width → n ≡ h * words_for width → r * row + width < 32 * n
 row_room r h width row n l e all =
-    let rows : (r + 1) * words_noted width ≤ h * words_noted width = mul-le-mul_right (words_noted width) (omega (arith, l)) in
-    let next : (r + 1) * words_noted width ≡ r * words_noted width + words_noted width = omega arith in
-    let at : r * row ≡ 32 * (r * words_noted width) = ap (λ (x : ℕ). r * x) e ∙ omega arith in
+    let rows : (r + 1) * words_for width ≤ h * words_for width = mul-le-mul_right (words_for width) (omega (arith, l)) in
+    let next : (r + 1) * words_for width ≡ r * words_for width + words_for width = omega arith in
+    let at : r * row ≡ 32 * (r * words_for width) = ap (λ (x : ℕ). r * x) e ∙ omega arith in
     omega (arith, rows, next, at, all)
 
 -- ---- the bits are of segments that some piece meets
@@ -55,8 +56,8 @@ some_rows s ss f a b among only old r k l set = elim (only (pixel_number f r k) 
   | inl was ↦ old r k l was
   | inr new ↦
       let line = new.line in
-      let number : new.r * (32 * words_noted f.width) + line.k * 1 ≡ new.r * (32 * words_noted f.width) + line.k = omega arith in
-      let place = same_cell (32 * words_noted f.width) r new.r k line.k l (omega (arith, line.within)) (line.at ∙ number) in
+      let number : new.r * (32 * words_for f.width) + line.k * 1 ≡ new.r * (32 * words_for f.width) + line.k = omega arith in
+      let place = same_cell (32 * words_for f.width) r new.r k line.k l (omega (arith, line.within)) (line.at ∙ number) in
       let row = sym place.0 in
       let column = sym place.1 in (
         omega (arith, column, line.within),
@@ -76,7 +77,7 @@ pub some_up : (s : Span) (ss : List Span) (f : Frame) (a b : List ℕ) → IsAmo
 some_up s ss f a b among only old r k w set = elim (only (pixel_number f r k) set) [
   | inl was ↦ old r k w was
   | inr new ↦
-      let place = same_cell (32 * words_noted f.width) r new.r k new.k w (omega (arith, new.column)) new.at in
+      let place = same_cell (32 * words_for f.width) r new.r k new.k w (omega (arith, new.column)) new.at in
       let row = sym place.0 in
       let column = sym place.1 in (
         omega (arith, column, new.column),
@@ -90,7 +91,7 @@ some_up s ss f a b among only old r k w set = elim (only (pixel_number f r k) se
 
 -- the bit of a segment of a column, seen as a row of the exchanged piece
 pub up_bit : (s : Span) (f g : Frame) (n : ℕ) → g.left ≡ f.bottom → g.bottom ≡ f.left → g.width ≡ f.height → g.height ≡ f.width
-    → IsRowsBit (turned_span s) g 1 (32 * words_noted f.width) n → IsUpBit s f n
+    → IsRowsBit (turned_span s) g 1 (32 * words_for f.width) n → IsUpBit s f n
 up_bit s f g n el eb ew eh new =
     let line = new.line in
     let at = line.at in record {
@@ -116,6 +117,7 @@ pub says_more : (A : Span → Way → Type 0) (s : Span) (f : Frame) (a b u v : 
 says_more A s f a b u v g h (of_frame k) lasts old = old
 says_more A s f a b u v g h (of_pieces ss) among old =
     record { rows = some_rows s ss f a b among g.only old.rows; columns = some_up s ss f u v among h.only old.columns }
+says_more A s f a b u v g h (met_in t row) lasts old = λ r l e. across_kept t f r a b g.kept (old r l e)
 says_more A s f a b u v g h (noted t w r) lasts old = (
   noted_kept f a b u v t w r g.kept h.kept old.0,
   λ apart q. noted_kept f a b u v t w q g.kept h.kept (old.1 apart q),

@@ -100,9 +100,9 @@ end_met_too s f first end r n h l w inner is off off' = record {
 }
 
 -- ---- the end that is told of a row between the piece's ends
-pub end_told : (ends : List ℕ) (s : Span) (p : PieceInBand) → IsInBand s p → AreEndsTold ends s p → (r : ℕ) → p.met.inner.first ≤ r
-    → r < p.met.inner.end
+pub end_told : (ends : List ℕ) (s : Span) (p : PieceInBand) → IsInBand s p → AreEndsTold ends s p → (r : ℕ) → p.inner.first ≤ r
+    → r < p.inner.end
     → (r - p.rows.first < length ends) × IsEnd s p.frame r (slice_index_or ends (r - p.rows.first) 0)
 end_told ends s p is told r l m =
-    let t = told.rows r (omega (arith, l, p.first, p.met.from)) (omega (arith, m, p.end, p.met.to)) (is.met.inner r l m) in
+    let t = told.rows r (omega (arith, l, p.first)) (omega (arith, m, p.end)) (is.between.inner r l m) in
     (t.told.0, subst (IsEnd s p.frame r) (sym t.told.1) t.is)

@@ -11,14 +11,11 @@ use Rattle.fx_winding.specs.Bitmaps.{words_for, word_bit, bits_in, rows_of, AreW
 use Rattle.fx_winding.specs.declared.frame.Frame.{Frame}
 use Rattle.fx_winding.proofs.Grid.{cut-row, row_fits, row_bits, rows_of-shape, length-bits_in}
 use Rattle.fx_winding.proofs.Scanned.{IsRowSet, row_set, scanned_all}
-use Rattle.fx_rows.specs.inner.Bands.{stride, AreScanned}
+use Rattle.fx_rows.specs.inner.Bands.{stride, AreBitsOf, AreScanned}
 use Rattle.fx_rows.specs.inner.Telling.{IsPartOf}
 use Rattle.fx_rows.proofs.Banding.{row_before, wide}
 
 -- ---- bits of parts of a list of words
-take_bit : (m k : ℕ) (words : List ℕ) → k / 32 < m → word_bit (take m words) k ≡ word_bit words k
-take_bit m k words h = ap (λ w. bit_at w (31 - k % 32)) (get_or-take m words (k / 32) 0 h)
-
 part_bit : (a m k : ℕ) (words : List ℕ) → k / 32 < m → word_bit (take m (drop a words)) k ≡ word_bit words (32 * a + k)
 part_bit a m k words h = grind (arith, signed_linear, h, get_or-take, get_or-drop)
 
@@ -42,16 +39,6 @@ word_low : (r done q k : ℕ) → r < done → k < 32 * q → (r * (32 * q) + k)
 word_low r done q k h l = let e = row_before r done q h in let s = row_start r q k in omega (arith, e, s)
 
 -- ---- rows, and then those above them
-
--- the marks of a band, without the word after its rows
-scanned_marks : (ss : List Span) (left bottom : ℤ) (width high : ℕ) (marks words : List ℕ)
-    → words ≡ take (high * words_for width) marks → length marks ≡ high * words_for width + 1
-    → ((r k : ℕ) → r < high → k < width
-    → (word_bit marks (r * stride width + k) ≡ 1) ↔ IsCovered (centre (left +ℤ pos k) (bottom +ℤ pos r)) ss)
-    → ((r k : ℕ) → r < high → width ≤ k → k < stride width → word_bit marks (r * stride width + k) ≡ 0)
-    → AreScanned ss left bottom width high words
-scanned_marks ss left bottom width high marks words e n bits unused =
-    grind (arith, signed_linear, e, n, bits, unused, length-take-le, wide, take_bit, word_low)
 
 scanned_both : (ss : List Span) (left bottom low : ℤ) (width done more : ℕ) (old part : List ℕ) → bottom +ℤ pos done ≡ low
     → AreScanned ss left bottom width done old → AreScanned ss left low width more part
@@ -111,17 +98,14 @@ row_bit : (up width k : ℕ) (words : List ℕ) → k < stride width
 row_bit up width k words l = grind (arith, signed_linear, l, part_bit, row_start)
 
 -- the rows of a band after those below it
-pub scanned_band : (ss : List Span) (f g : Frame) (from to : ℕ) (marks old part new : List ℕ) → IsPartOf f from to g
-    → part ≡ take (g.height * words_for g.width) marks → length marks ≡ g.height * words_for g.width + 1
-    → ((r k : ℕ) → r < g.height → k < g.width
-    → (word_bit marks (r * stride g.width + k) ≡ 1) ↔ IsCovered (centre (g.left +ℤ pos k) (g.bottom +ℤ pos r)) ss)
-    → ((r k : ℕ) → r < g.height → g.width ≤ k → k < stride g.width → word_bit marks (r * stride g.width + k) ≡ 0)
-    → new ≡ old ++ part → AreScanned ss f.left f.bottom f.width from old → AreScanned ss f.left f.bottom f.width to new
-scanned_band ss f g from to marks old part new of e room bits unused more below =
+pub scanned_band : (ss : List Span) (f g : Frame) (from to : ℕ) (marks old new : List ℕ) → IsPartOf f from to g
+    → length marks ≡ g.height * words_for g.width → AreBitsOf ss g marks → new ≡ old ++ marks
+    → AreScanned ss f.left f.bottom f.width from old → AreScanned ss f.left f.bottom f.width to new
+scanned_band ss f g from to marks old new of room here more below =
     subst (λ z. z) (λ i. AreScanned ss f.left f.bottom f.width (of.height i) (sym more i))
-    (scanned_both ss f.left f.bottom g.bottom f.width from g.height old part (sym of.bottom) below
-    (subst (λ z. z) (λ i. AreScanned ss (of.left i) g.bottom (of.width i) g.height part)
-    (scanned_marks ss g.left g.bottom g.width g.height marks part e room bits unused)))
+    (scanned_both ss f.left f.bottom g.bottom f.width from g.height old marks (sym of.bottom) below
+    (subst (λ z. z) (λ i. AreScanned ss (of.left i) g.bottom (of.width i) g.height marks)
+    (record { long = room; bits = here.bits; unused = here.unused })))
 
 pub scanned_words : (ss : List Span) (left bottom : ℤ) (width high : ℕ) (words : List ℕ)
     → AreScanned ss left bottom width high words → AreWords high width words

@@ -1,4 +1,4 @@
--- Rows between a piece's ends, told one by one, are all told (`added_met`), and the notes made of them are exact (`exact_of`).
+-- Rows between a piece's ends, told one by one, are all told (`piece_all`), and the notes made of them are exact (`exact_of`).
 -- Serves the rows of a piece, and the pieces of a band.
 use Rattle.std.proofs.Common.{◌≡◌, ◌≢◌, ◌⊎◌, inl, inr, refl, sym, ap, ◌∙◌, subst, ℕ, zero, suc, ◌+◌, ◌-◌, ◌*◌, ◌<◌, ◌≤◌, ℤ, pos, ◌+ℤ◌, ◌-ℤ◌, ◌*ℤ◌}
 use Rattle.std.proofs.Common.{◌≤ℤ◌, ◌<ℤ◌, List, length, take, get_or, arith, Any}
@@ -16,20 +16,20 @@ use Rattle.fx_winding.specs.Meets.{turn, IsMet}
 use Rattle.fx_winding.specs.Turned.{turned_span}
 use Rattle.fx_winding.specs.Notes.{AreExact, AreOff, pixel_number, IsMetUp}
 use Rattle.fx_winding.specs.Winding.{Span, IsOn, centre}
-use Rattle.fx_rows.specs.declared.heights.Met.{Met}
 use Rattle.fx_rows.specs.declared.strip.Strip.{Strip}
 use Rattle.fx_rows.specs.declared.cells.Cut.{Cut}
 use Rattle.fx_rows.specs.inner.Cuts.{IsCut}
 use Rattle.fx_rows.specs.declared.band.Band.{Band}
 use Rattle.fx_rows.specs.declared.heights.RowRange.{RowRange}
 use Rattle.fx_rows.specs.inner.Bands.{stride, IsRowAdded, IsBandAdded}
-use Rattle.fx_rows.specs.inner.Heights.{height_of, IsAbove, IsBelow, IsAtMostEnds, IsAtLeastEnds, AreAmong}
-use Rattle.fx_rows.specs.inner.Placing.{AreBetween, AreMet, AreMetIn}
+use Rattle.fx_rows.specs.inner.Heights.{height_of, IsAbove, IsBelow, IsMissed, IsAtMostEnds, IsAtLeastEnds, AreAmong}
+use Rattle.fx_rows.specs.inner.Placing.{AreBetween, AreOthersMet, IsPieceAdded}
 use Rattle.fx_rows.specs.inner.Points.{IsInner, IsRise}
 use Rattle.fx_rows.specs.inner.Sides.{place_at}
 use Rattle.fx_rows.specs.inner.Told.{rise_value, IsEnd, IsEndOn}
 use Rattle.fx_rows.specs.inner.Telling.{AreMetBySome, IsAmong, IsRowTold, AreRowsTold, AreRowsAdded, IsPartOf, AreRowsNoted, AreNotedIn}
-use Rattle.fx_rows.specs.inner.Telling.{BitsSay, IsNotedBy, Saying, noted, Way, across_row, up_to_row, with_first}
+use Rattle.fx_rows.specs.inner.Telling.{AreMetAdded, BitsSay, IsBandOf, IsNotedBy, KeepsFor, Saying, met_in, noted}
+use Rattle.fx_rows.specs.inner.Telling.{of_frame, Way, across_row, up_to_row, with_first}
 use Rattle.fx_rows.proofs.Banding.{band_none, band_three, band_missed}
 use Rattle.fx_rows.proofs.Stepping.{band_next}
 
@@ -70,11 +70,18 @@ told_next T U s f from up n h kept here is = record { rows = λ r l m i. by r l 
         let e : up ≡ r = omega (arith, m, o) in
         subst (IsRowTold U s f) e (record { end = n; told = here; is = is })
 
+-- what is told stays so
+told_also : (T U : ℕ → ℕ → Type 0) (s : Span) (f : Frame) (from to : ℕ) → ((r n : ℕ) → T r n → U r n) → AreRowsTold T s f from to
+    → AreRowsTold U s f from to
+told_also T U s f from to kept h = record {
+  rows = λ r l m i. let t = h.rows r l m i in record { end = t.end; told = kept r t.end t.told; is = t.is };
+}
+
 -- a height at or below both ends is not between them, nor one at or above both
-at_most_outside : (a c y : ℤ) → y ≤ℤ a → y ≤ℤ c → ¬ (IsInner a c y)
+pub at_most_outside : (a c y : ℤ) → y ≤ℤ a → y ≤ℤ c → ¬ (IsInner a c y)
 at_most_outside a c y h k i = omega (arith, signed_linear, i)
 
-at_least_outside : (a c y : ℤ) → a ≤ℤ y → c ≤ℤ y → ¬ (IsInner a c y)
+pub at_least_outside : (a c y : ℤ) → a ≤ℤ y → c ≤ℤ y → ¬ (IsInner a c y)
 at_least_outside a c y h k i = omega (arith, signed_linear, i)
 
 -- rows that are not between the ends, below and above
@@ -101,7 +108,7 @@ rise_inner : (s : Span) (foot head value y : ℤ) → IsRise s foot head value �
 rise_inner s foot head value y h l m = grind (arith, signed_linear, below_or_not_ℤ s.a.y s.c.y)
 
 pub between_of : (s : Span) (foot head value : ℤ) (f : Frame) (rows inner : RowRange) → IsRise s foot head value
-    → AreAmong foot head f rows.first rows.end inner.first inner.end → AreBetween s f rows inner
+    → AreAmong foot head f rows.first rows.end inner.first inner.end → AreBetween s f rows.first rows.end inner
 between_of s foot head value f rows inner rise h = grind (arith, signed_linear, rise, h, rise_inner, at_most_ends, at_least_ends)
 
 -- ---- what is added and told
@@ -121,15 +128,16 @@ added_next T U s row from up n old now new l at h frame added kept here is = rec
 }
 
 -- and rows beside them that are not between the ends
-pub added_beside : (T : ℕ → ℕ → Type 0) (s : Span) (from low high to : ℕ) (old x y new : Band) → from ≤ low → low ≤ high → high ≤ to
-    → x.frame ≡ old.frame → new.frame ≡ y.frame → IsBandAdded s old.frame from low old x → AreRowsAdded T s low high x y
-    → IsBandAdded s y.frame high to y new → ((r : ℕ) → from ≤ r → r < low → IsAtMostEnds s (height_of old.frame r))
-    → ((r : ℕ) → high ≤ r → r < to → IsAtLeastEnds s (height_of old.frame r)) → AreRowsAdded T s from to old new
-added_beside T s from low high to old x y new l m n ex ey a b c under over = record {
+pub added_beside : (T U : ℕ → ℕ → Type 0) (s : Span) (from low high to : ℕ) (old x y new : Band) → from ≤ low → low ≤ high
+    → high ≤ to → x.frame ≡ old.frame → new.frame ≡ y.frame → IsBandAdded s old.frame from low old x
+    → AreRowsAdded T s low high x y → IsBandAdded s y.frame high to y new → ((r n : ℕ) → T r n → U r n)
+    → ((r : ℕ) → from ≤ r → r < low → IsAtMostEnds s (height_of old.frame r))
+    → ((r : ℕ) → high ≤ r → r < to → IsAtLeastEnds s (height_of old.frame r)) → AreRowsAdded U s from to old new
+added_beside T U s from low high to old x y new l m n ex ey a b c kept under over = record {
   frame = ey ∙ b.frame ∙ ex;
   added = band_three s from low high to old x y new l m n ex b.frame a b.added c;
-  told = told_beside T s old.frame from low high to under over
-      (subst (λ (g : Frame). AreRowsTold T s g low high) ex b.told);
+  told = told_beside U s old.frame from low high to under over
+      (told_also T U s old.frame low high kept (subst (λ (g : Frame). AreRowsTold T s g low high) ex b.told));
 }
 
 -- none of them is
@@ -140,24 +148,44 @@ pub added_outside : (T : ℕ → ℕ → Type 0) (s : Span) (from low high to : 
 added_outside T s from low high to old new l e a under over =
     grind (arith, signed_linear, l, e, a, under, over, told_beside, told_none)
 
--- rows that a piece misses are not between its ends
-pub added_met : (T : ℕ → ℕ → Type 0) (s : Span) (rows : RowRange) (old new : Band) → rows.end ≤ old.frame.height
-    → ((r : ℕ) → r < rows.first → IsAbove s (height_of old.frame r))
-    → ((r : ℕ) → rows.end ≤ r → r < old.frame.height → IsBelow s (height_of old.frame r))
-    → AreRowsAdded T s rows.first rows.end old new → AreRowsAdded T s 0 old.frame.height old new
-added_met T s rows old new within below above h =
-    let f = old.frame in
-    added_beside T s 0 rows.first rows.end f.height old old new new (omega arith) rows.order within refl refl
-    (band_missed s f 0 rows.first old (omega arith) (λ r l m. inl (below r m))) h
-    (subst (λ (x : Frame). IsBandAdded s x rows.end f.height new new) (sym h.frame)
-    (band_missed s f rows.end f.height new within (λ r l m. inr (above r l m))))
-    (λ r l m. above_all s (height_of f r) (below r m)) (λ r l m. below_all s (height_of f r) (above r l m))
+-- rows below those between the ends, and above them
+pub others_beside : (P : Saying → Type 0) (s : Span) (f : Frame) (from to : ℕ) (part : RowRange) → AreBetween s f from to part
+    → ((r : ℕ) → from ≤ r → r < part.first → P (met_in s (f.bottom +ℤ pos r)))
+    → ((r : ℕ) → part.end ≤ r → r < to → P (met_in s (f.bottom +ℤ pos r))) → AreOthersMet P s f from to
+others_beside P s f from to part is below above r l m n o =
+    grind (arith, is, below, above, n, below_or_not r part.first, below_or_not r part.end)
 
-pub met_around : (s : Span) (f : Frame) (m : Met) → m.touched.end ≤ f.height
-    → ((r : ℕ) → r < m.touched.first → IsAbove s (height_of f r))
-    → ((r : ℕ) → m.touched.end ≤ r → r < f.height → IsBelow s (height_of f r))
-    → AreBetween s f m.touched m.inner → AreMet s f m
-met_around s f m within below above h = grind (arith, signed_linear, within, below, above, h, above_all, below_all)
+-- a piece that adds nothing
+pub piece_none : (T : ℕ → ℕ → Type 0) (P : Saying → Type 0) (s : Span) (rows : RowRange) (b : Band) → rows.end ≤ rows.first
+    → IsPieceAdded T P P s rows.first rows.end b b rows
+piece_none T P s rows b l = grind (arith, l, added_start)
+
+-- all rows of a band, of which a piece misses those before some and after them
+between_all : (s : Span) (f : Frame) (rows inner : RowRange) → rows.end ≤ f.height
+    → ((r : ℕ) → r < rows.first → IsAbove s (height_of f r)) → ((r : ℕ) → rows.end ≤ r → r < f.height → IsBelow s (height_of f r))
+    → AreBetween s f rows.first rows.end inner → AreBetween s f 0 f.height inner
+between_all s f rows inner within below above h = grind (arith, signed_linear, within, below, above, h, above_all, below_all)
+
+pub piece_all : (T : ℕ → ℕ → Type 0) (P Q : Saying → Type 0) (s : Span) (rows inner : RowRange) (old new : Band)
+    → rows.end ≤ old.frame.height → ((r : ℕ) → r < rows.first → IsAbove s (height_of old.frame r))
+    → ((r : ℕ) → rows.end ≤ r → r < old.frame.height → IsBelow s (height_of old.frame r))
+    → IsPieceAdded T P Q s rows.first rows.end old new inner → IsPieceAdded T P Q s 0 old.frame.height old new inner
+piece_all T P Q s rows inner old new within below above h = record {
+  rows = added_beside T T s 0 rows.first rows.end old.frame.height old old new new (omega arith) rows.order within refl refl
+      (band_missed s old.frame 0 rows.first old (omega arith) (λ r l m. inl (below r m))) h.rows
+      (subst (λ (x : Frame). IsBandAdded s x rows.end old.frame.height new new) (sym h.rows.frame)
+      (band_missed s old.frame rows.end old.frame.height new within (λ r l m. inr (above r l m)))) (λ r n t. t)
+      (λ r l m. above_all s (height_of old.frame r) (below r m)) (λ r l m. below_all s (height_of old.frame r) (above r l m));
+  kept = h.kept;
+  between = between_all s old.frame rows inner within below above h.between;
+  others = λ r l m n o. by r m n o (below_or_not r rows.first) (below_or_not r rows.end);
+}
+  where
+    by : (r : ℕ) → r < old.frame.height → ¬ (IsInner s.a.y s.c.y (height_of old.frame r)) → ¬ (IsMissed s (height_of old.frame r))
+        → (r < rows.first) ⊎ (rows.first ≤ r) → (r < rows.end) ⊎ (rows.end ≤ r) → Q (met_in s (old.frame.bottom +ℤ pos r))
+    by r m n o (inl a) b = absurd (o (inl (below r a)))
+    by r m n o (inr a) (inl b) = h.others r a b n o
+    by r m n o (inr a) (inr b) = absurd (o (inr (above r b m)))
 
 -- ---- the rows g of a frame f from one to before another: a row of f that is among them
 row_of_part : (f g : Frame) (from to r : ℕ) → IsPartOf f from to g → from ≤ r → g.bottom +ℤ pos (r - from) ≡ f.bottom +ℤ pos r
@@ -188,27 +216,53 @@ told_in_frame T s f g from to part is = record { rows = λ r l m i. here r l m i
         (subst (IsInner s.a.y s.c.y) (sym (height_of_part f g from to r part l)) i) in
         record { end = t.end; told = t.told; is = end_in_frame s f g from to r t.end part l t.is }
 
-pub met_in_frame : (s : Span) (f g : Frame) (from to : ℕ) (m n : Met) → IsPartOf f from to g
-    → n.touched.first ≡ from + m.touched.first → n.touched.end ≡ from + m.touched.end → n.inner.first ≡ from + m.inner.first
-    → n.inner.end ≡ from + m.inner.end → AreMet s g m → AreMetIn s f from to n
-met_in_frame s f g from to m n part a b c d is = record {
-  low = omega (arith, a);
-  high = omega (arith, b, is.high, part.height);
-  below = λ r l o. subst (IsAbove s) (at r l) (is.below (r - from) (omega arith) (omega (arith, a, l, o)));
-  above = λ r l o.
-      let k : from ≤ r = omega (arith, b, l) in subst (IsBelow s) (at r k)
-      (is.above (r - from) (omega (arith, b, l)) (omega (arith, o, k, part.height)));
+pub between_in_frame : (s : Span) (f g : Frame) (from to : ℕ) (m n : RowRange) → IsPartOf f from to g → n.first ≡ from + m.first
+    → n.end ≡ from + m.end → AreBetween s g 0 g.height m → AreBetween s f from to n
+between_in_frame s f g from to m n part first end is = record {
+  low = omega (arith, first);
+  high = omega (arith, end, is.high, part.height);
   inner = λ r l o.
-      let k : from ≤ r = omega (arith, c, l) in subst (IsInner s.a.y s.c.y) (at r k)
-      (is.inner (r - from) (omega (arith, c, l)) (omega (arith, d, k, o)));
-  under = λ r l o. subst (IsAtMostEnds s) (at r l) (is.under (r - from) (omega arith) (omega (arith, c, l, o)));
+      let k : from ≤ r = omega (arith, first, l) in subst (IsInner s.a.y s.c.y) (at r k)
+      (is.inner (r - from) (omega (arith, first, l)) (omega (arith, end, k, o)));
+  under = λ r l o. subst (IsAtMostEnds s) (at r l) (is.under (r - from) (omega arith) (omega (arith, first, l, o)));
   over = λ r l o.
-      let k : from ≤ r = omega (arith, d, l) in subst (IsAtLeastEnds s) (at r k)
-      (is.over (r - from) (omega (arith, d, l)) (omega (arith, o, k, part.height)));
+      let k : from ≤ r = omega (arith, end, l) in subst (IsAtLeastEnds s) (at r k)
+      (is.over (r - from) (omega (arith, end, l)) (omega (arith, o, k, part.height)));
 }
   where
     at : (r : ℕ) → from ≤ r → height_of g (r - from) ≡ height_of f r
     at r l = height_of_part f g from to r part l
+
+-- the rows that are noted when they are added
+pub others_in_frame : (P : Saying → Type 0) (s : Span) (f g : Frame) (from to : ℕ) → IsPartOf f from to g
+    → AreOthersMet P s g 0 g.height → AreOthersMet P s f from to
+others_in_frame P s f g from to part is r l m n o =
+    let at = height_of_part f g from to r part l in
+    subst (λ (z : ℤ). P (met_in s z)) (row_of_part f g from to r part l)
+    (is (r - from) (omega arith) (omega (arith, l, m, part.height)) (subst (λ (y : ℤ). ¬ (IsInner s.a.y s.c.y y)) (sym at) n)
+    (subst (λ (y : ℤ). ¬ (IsMissed s y)) (sym at) o))
+
+-- ---- rows that are added in the general way
+pub met_none : (T : ℕ → ℕ → Type 0) (P : Saying → Type 0) (s : Span) (at : ℕ) (b : Band) → AreMetAdded T T P P s at at b b
+met_none T P s at b = grind (arith, band_none)
+
+-- one more row
+pub met_next : (T U V : ℕ → ℕ → Type 0) (P Q R : Saying → Type 0) (s : Span) (from up : ℕ) (old now new : Band) → from ≤ up
+    → AreMetAdded T U P Q s from up old now → new.frame ≡ now.frame
+    → IsRowAdded s now.frame (now.frame.bottom +ℤ pos up) (up * stride now.frame.width) now new → ((r n : ℕ) → U r n → V r n)
+    → KeepsFor s Q R → R (met_in s (new.frame.bottom +ℤ pos up)) → AreMetAdded T V P R s from (up + 1) old new
+met_next T U V P Q R s from up old now new l h frame added told kept here =
+    grind (arith, l, h, frame, added, told, kept, here, band_next, below_or_not)
+
+-- the band's frame stays, and so does that of the notes
+pub band_kept : (P Q : Saying → Type 0) (s : Span) (g h : Frame) → h ≡ g → KeepsFor s P Q → IsBandOf P g → IsBandOf Q h
+band_kept P Q s g h e kept b = record {
+  frame = b.frame;
+  from = b.from;
+  to = b.to;
+  of = kept (of_frame b.frame) tt b.of;
+  part = subst (IsPartOf b.frame b.from b.to) (sym e) b.part;
+}
 
 -- ---- the pieces that are noted
 -- no piece yet

@@ -21,11 +21,11 @@ use Rattle.fx_winding.proofs.Columnwise.{up_met, foot_met, head_met, through_met
 use Rattle.fx_winding.proofs.Meeting.{above_not_met, below_not_met}
 use Rattle.fx_winding.proofs.Turning.{IsClearOf, IsClearOfFoot, IsClearOfHead, all_turned, inner_pair_not_met, from_foot_not_met}
 use Rattle.fx_winding.proofs.Turning.{to_foot_not_met, from_head_not_met, to_head_not_met}
-use Rattle.fx_rows.specs.declared.heights.Met.{Met}
+use Rattle.fx_rows.specs.declared.heights.RowRange.{RowRange}
 use Rattle.fx_rows.specs.declared.reach.Reach.{Reach}
 use Rattle.fx_rows.specs.inner.Bulging.{HasLine, IsBeyond, IsBulge, IsBulgePart, IsOnLine, IsPlain}
 use Rattle.fx_rows.specs.inner.Heights.{height_of, IsResting, IsHanging, IsAtMostEnds, IsAtLeastEnds, IsOneOver, IsOneUnder}
-use Rattle.fx_rows.specs.inner.Placing.{AreMetIn}
+use Rattle.fx_rows.specs.inner.Placing.{AreBetween}
 use Rattle.fx_rows.specs.inner.Points.{IsFootX, IsHeadX, AreAcross, IsInner}
 use Rattle.fx_rows.specs.inner.Told.{rise_value}
 use Rattle.fx_rows.specs.inner.Upward.{column_of, height_below, AreMetBetween, AreMetWithin, AreAllMet, AreAt}
@@ -476,16 +476,16 @@ pub over_lowest : (f : Frame) (from r : ℕ) → from ≤ r → height_below f f
 over_lowest f from r l = omega (arith, signed, l)
 
 -- up to each row of a band: those up to the first between the ends, those between, that above them, and those further up
-pub all_levels : (s : Span) (f : Frame) (from to : ℕ) (m : Met) (up : List ℕ) → IsPlain s
-    → AreMetIn s f from to m → ((r : ℕ) → m.inner.first ≤ r → r < m.inner.end → IsNotedUp s f up r) → IsNotedUp s f up m.inner.end
+pub all_levels : (s : Span) (f : Frame) (from to : ℕ) (m : RowRange) (up : List ℕ) → IsPlain s
+    → AreBetween s f from to m → ((r : ℕ) → m.first ≤ r → r < m.end → IsNotedUp s f up r) → IsNotedUp s f up m.end
     → (r : ℕ) → from ≤ r → r ≤ to → IsNotedUp s f up r
-all_levels s f from to m up plain is inner top r h l = by (below_or_not r m.inner.first) (below_same_above r m.inner.end)
+all_levels s f from to m up plain is inner top r h l = by (below_or_not r m.first) (below_same_above r m.end)
   where
-    by : (r < m.inner.first) ⊎ (m.inner.first ≤ r) → (r < m.inner.end) ⊎ ((r ≡ m.inner.end) ⊎ (m.inner.end < r))
+    by : (r < m.first) ⊎ (m.first ≤ r) → (r < m.end) ⊎ ((r ≡ m.end) ⊎ (m.end < r))
         → IsNotedUp s f up r
     by (inl a) b = set_under s f r up plain (is.under r h a)
     by (inr a) (inl b) = inner r a b
     by (inr a) (inr (inl b)) = subst (IsNotedUp s f up) (sym b) top
     by (inr a) (inr (inr b)) = set_over s f r up plain
-        (at_least_more s (height_of f m.inner.end) (height_below f r) (over_row f m.inner.end r b)
-        (is.over m.inner.end (omega arith) (omega (arith, b, l))))
+        (at_least_more s (height_of f m.end) (height_below f r) (over_row f m.end r b)
+        (is.over m.end (omega arith) (omega (arith, b, l))))

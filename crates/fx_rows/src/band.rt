@@ -3,7 +3,7 @@
 //! The pixels of a band are numbered row by row, from the lowest. After a row's last pixel the numbers up to the next multiple of
 //! 32 are left out, so that each row begins a word of bits, as in a bitmap.
 
-ghost use Rattle.std.specs.Prelude.{◌≡◌, ◌+◌, ◌*◌, ◌/◌, ◌%◌, ◌^◌, ◌<◌, ◌≤◌, length, take, pos, IfOk};
+ghost use Rattle.std.specs.Prelude.{◌≡◌, ◌+◌, ◌*◌, ◌/◌, ◌%◌, ◌^◌, ◌<◌, ◌≤◌, length, pos, IfOk};
 ghost use Rattle.fx_winding.specs.Bitmaps.{words_for};
 
 use fx_winding::{Counters, Frame, Scratch, refilled, words_for};
@@ -13,9 +13,9 @@ use std::mem;
 /// The most rows of a band.
 pub(crate) const MOST_ROWS: u32 = 128;
 
-/// The counts of a band's pixels, as differences between neighbours whose sums are the counts, and the pixels on pieces. Each list
-/// has at least a word more than the rows take, since there is a difference after the last pixel too. Those of the differences are
-/// lent by a scratch and can be longer.
+/// The counts of a band's pixels, as differences between neighbours whose sums are the counts, and the pixels on pieces. A row's
+/// words have a bit after its last pixel, where there is a difference too. The lists of the differences are lent by a scratch and
+/// can be longer.
 #[derive(Drop)]
 pub(crate) struct Band {
     /// The band's pixels.
@@ -27,7 +27,7 @@ pub(crate) struct Band {
     /// A bit for each pixel that is on a piece.
     pub marks: Vec<u32>,
     ghost few: { frame.height ≤ 128 },
-    ghost room: { length marks.items ≡ frame.height * words_for frame.width + 1 },
+    ghost room: { length marks.items ≡ frame.height * words_for frame.width },
     ghost words: { length marks.items ≤ length touched.items },
     ghost cells: { length diff.items ≡ 32 * length touched.items },
 }
@@ -47,7 +47,7 @@ impl Band {
         ensures frame { IfOk result (λ b. b.frame ≡ frame) }
         ensures clear { IfOk result (λ b. IsClear b) }
     {
-        let words = frame.height as usize * words_for(frame.width) + 1;
+        let words = frame.height as usize * words_for(frame.width);
         let counters = mem::replace(&mut scratch.counters, Counters::new(alloc));
         let lent = counters.with_words(alloc, words)?;
         let buffer = mem::replace(&mut scratch.words, Vec::new(alloc));
@@ -70,19 +70,5 @@ impl Band {
         ensures room { (result + self.now.frame.width) / 32 < length self.now.marks.items }
     {
         up as usize * (32 * words_for(self.frame.width))
-    }
-
-    /// The words of marks of the rows, from the lowest. The lists of the differences, which are all 0, go back to the scratch.
-    pub(crate) fn into_words(self, scratch: &mut Scratch) -> Vec<u32>
-        requires { AreZero self.diff.items }
-        ensures { result.items ≡ take (self.frame.height * words_for self.frame.width) self.marks.items }
-    {
-        scratch.counters = Counters {
-            numbers: self.diff,
-            bits: self.touched,
-        };
-        let mut words = self.marks;
-        let _ = words.pop();
-        words
     }
 }

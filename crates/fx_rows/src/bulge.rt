@@ -3,10 +3,12 @@
 
 ghost use Rattle.std.specs.Prelude.{◌≡◌, ◌⊎◌, ℕ, ◌+◌, ◌*◌, ◌^◌, ◌-◌, ◌<◌, ◌≤◌, length, ◌↔◌, IsTrue};
 ghost use Rattle.fx_fixed.specs.Ranges.{IsWithin};
+ghost use Rattle.fx_rows.specs.Parts.{IsRowPart};
 ghost use Rattle.fx_rows.specs.inner.Bulging.{HasLine, IsLineTo, IsLineFrom, IsBeyond, IsBulge};
-ghost use Rattle.fx_winding.specs.Frames.{HasMargin, IsFrom};
+ghost use Rattle.fx_winding.specs.Frames.{HasMargin};
 ghost use Rattle.fx_winding.specs.Near.{IsNear};
-ghost use Rattle.fx_winding.specs.Notes.{words_noted as words_noted_of, IsNotedAcross, IsNotedUp};
+ghost use Rattle.fx_winding.specs.Notes.{IsNotedAcross, IsNotedUp};
+ghost use Rattle.fx_winding.specs.Bitmaps.{words_for as words_for_of};
 ghost use Rattle.fx_winding.specs.Winding.{span_of};
 ghost use Rattle.fx_rows.specs.inner.Bands.{bounded_span, AreInner};
 ghost use Rattle.fx_rows.specs.inner.Strips.{base_place};
@@ -23,10 +25,10 @@ use crate::heights::{RowRange, rows_between, rows_met};
 use crate::intervals::met_part;
 use crate::noted_row::{note_end, note_first, note_last, note_run, note_tip, set_segment};
 use crate::noted_rows::{NotedRow, NotedRows};
-use crate::part::Run;
+use crate::part::{RowPart, Run};
 use crate::strip::{areas_at, row_of, strip_of};
 use crate::walk::arc_in;
-use fx_winding::{Frame, Piece, Point, Tally, first_from, words_noted};
+use fx_winding::{Frame, Piece, Point, Tally, first_from, words_for};
 
 /// Whether a line of centres comes from x on and up to y.
 #[inline(always)]
@@ -101,27 +103,32 @@ pub(crate) fn is_bulge(piece: &Piece) -> bool
     }
 }
 
-/// Notes the segments of a row that a piece meets.
-pub(crate) fn note_line(bounded: &Bounded, line: NotedRow, bits: &mut [u32], tally: &mut Tally)
-    requires row { IsFrom line.frame.bottom line.frame.height line.row }
+/// Notes the segments of a row that a piece meets, by what it adds to the row.
+pub(crate) fn note_part(
+    bounded: &Bounded,
+    part: &RowPart,
+    line: NotedRow,
+    bits: &mut [u32],
+    tally: &mut Tally,
+)
+    requires part { IsRowPart (bounded_span bounded.now) line.row line.frame part.now }
     requires room { line.first + line.frame.width * line.step < 32 * length bits.old }
     ensures noted { IsRowSet (bounded_span bounded.now) line.frame line.row line.first line.step bits.new }
     ensures gained { GainOnly (IsLineBit (bounded_span bounded.now) line.frame line.row line.first line.step) bits.old bits.new }
-    ensures count { tally.new.count ≤ tally.old.count + 55 }
+    ensures count { tally.new.count ≤ tally.old.count + 45 }
 {
     let piece = &bounded.piece;
-    let part = met_part(bounded, line.row, line.frame, tally);
-    note_run(piece, &part, line, part.crossing, bits, tally);
-    note_run(piece, &part, line, part.region, bits, tally);
-    note_end(piece, &part, line, piece.a, bits, tally);
-    note_end(piece, &part, line, piece.c, bits, tally);
-    note_tip(piece, bounded.rise, &part, line, bits, tally);
+    note_run(piece, part, line, part.crossing, bits, tally);
+    note_run(piece, part, line, part.region, bits, tally);
+    note_end(piece, part, line, piece.a, bits, tally);
+    note_end(piece, part, line, piece.c, bits, tally);
+    note_tip(piece, bounded.rise, part, line, bits, tally);
     note_first(piece, bounded.across, line, bits, tally);
     note_last(piece, bounded.across, line, bits, tally);
 }
 
 /// Notes the segments of some rows that a piece meets.
-pub(crate) fn note_met_lines(
+fn note_met_lines(
     bounded: &Bounded,
     rows: RowRange,
     lines: NotedRows,
@@ -135,7 +142,9 @@ pub(crate) fn note_met_lines(
 {
     // The segments of the rows before `up` are noted.
     'rows: for up in rows.first..rows.end {
-        note_line(bounded, lines.row(up), bits, tally);
+        let line = lines.row(up);
+        let part = met_part(bounded, line.row, line.frame, tally);
+        note_part(bounded, &part, line, bits, tally);
     }
 }
 
@@ -231,7 +240,7 @@ pub(crate) fn note_all_across(
     tally: &mut Tally,
 )
     requires margin { HasMargin frame }
-    requires room { length across.old ≡ frame.height * words_noted_of frame.width }
+    requires room { length across.old ≡ frame.height * words_for_of frame.width }
     ensures noted { rows.first ≡ 0 → (r : ℕ) → r < frame.height → IsNotedAcross (span_of piece.now) frame across.new r }
     ensures gained { GainOnly (IsAcrossBit (span_of piece.now) frame) across.old across.new }
     ensures count { tally.new.count ≤ tally.old.count + with_first rows.first (55 * frame.height) }
@@ -241,7 +250,7 @@ pub(crate) fn note_all_across(
     }
     let lines = NotedRows {
         frame,
-        row_step: 32 * words_noted(frame.width),
+        row_step: 32 * words_for(frame.width),
         step: 1,
     };
     note_lines(piece, lines, across, tally);
@@ -259,7 +268,7 @@ pub(crate) fn note_all_up(
 )
     requires near { IsNear piece.now }
     requires margin { HasMargin frame }
-    requires room { length up.old ≡ (frame.height + 1) * words_noted_of frame.width }
+    requires room { length up.old ≡ (frame.height + 1) * words_for_of frame.width }
     ensures noted { rows.first ≡ 0 → (r : ℕ) → r ≤ frame.height → IsNotedUp (span_of piece.now) frame up.new r }
     ensures gained { GainOnly (IsUpBit (span_of piece.now) frame) up.old up.new }
     ensures count { tally.new.count ≤ tally.old.count + with_first rows.first (55 * frame.width) }
@@ -270,7 +279,7 @@ pub(crate) fn note_all_up(
     let lines = NotedRows {
         frame: frame.turned(),
         row_step: 1,
-        step: 32 * words_noted(frame.width),
+        step: 32 * words_for(frame.width),
     };
     note_lines(&piece.turned(), lines, up, tally);
 }

@@ -20,17 +20,6 @@ pub(crate) struct RowRange {
     ghost order: { first ≤ end },
 }
 
-/// Where a piece is among the rows of a frame.
-#[derive(Clone, Copy)]
-pub(crate) struct Met {
-    /// Those that it can touch.
-    pub touched: RowRange,
-    /// Those of them that pass between its ends.
-    pub inner: RowRange,
-    ghost from: { touched.first ≤ inner.first },
-    ghost to: { inner.end ≤ touched.end },
-}
-
 /// The pixels of some rows of a frame.
 #[inline(always)]
 pub(crate) fn band_of(frame: Frame, rows: RowRange) -> Frame

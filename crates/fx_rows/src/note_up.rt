@@ -7,7 +7,8 @@ ghost use Rattle.std.specs.Prelude.{◌≡◌, ◌⊎◌, ℤ, ◌+◌, ◌-◌,
 ghost use Rattle.std.specs.Prelude.{IsTrue, min, max, false};
 ghost use Rattle.fx_fixed.specs.Ranges.{IsWithin};
 ghost use Rattle.fx_winding.specs.Limits.{IsPixelNumber};
-ghost use Rattle.fx_winding.specs.Notes.{words_noted, IsNotedUp};
+ghost use Rattle.fx_winding.specs.Notes.{IsNotedUp};
+ghost use Rattle.fx_winding.specs.Bitmaps.{words_for};
 ghost use Rattle.fx_winding.specs.Winding.{Span, span_of};
 ghost use Rattle.fx_rows.specs.inner.Bulging.{IsBulge, IsOnLine, IsPlain};
 ghost use Rattle.fx_rows.specs.inner.Heights.{height_of, IsAtLeastEnds, IsAtMostEnds, IsOneOver, IsOneUnder};
@@ -31,7 +32,7 @@ use fx_winding::{Frame, Piece, Tally, first_from};
 fn note_columns(frame: Frame, row: u32, columns: Reach, up: &mut [u32])
     requires row { row ≤ frame.height }
     requires columns { columns.end ≤ frame.width }
-    requires room { length up.old ≡ (frame.height + 1) * words_noted frame.width }
+    requires room { length up.old ≡ (frame.height + 1) * words_for frame.width }
     ensures noted { (s : Span) → AreMetWithin s frame row columns.first columns.end → IsNotedUp s frame up.new row }
     ensures only { (s : Span) → AreAllMet s frame row columns.first columns.end → AreOnly (IsUpBit s frame) up.old up.new }
     ensures kept { AreKept up.old up.new }
@@ -152,7 +153,7 @@ fn starts_in(piece: &Piece, placed: PieceInBand) -> bool
     ensures over { IsTrue result → IsAtMostEnds (span_of piece.now) (height_below placed.frame placed.rows.first) }
     ensures below { result ≡ false → IsOneUnder (span_of piece.now) (height_below placed.frame placed.rows.first) }
 {
-    if placed.met.inner.first > placed.rows.first {
+    if placed.inner.first > placed.rows.first {
         return true;
     }
     is_over(piece, row_below(placed))
@@ -165,7 +166,7 @@ fn lies_under(piece: &Piece, placed: PieceInBand) -> bool
     ensures under { IsTrue result → IsAtLeastEnds (span_of piece.now) (height_below placed.frame placed.rows.first) }
     ensures above { result ≡ false → IsOneOver (span_of piece.now) (height_below placed.frame placed.rows.first) }
 {
-    if placed.met.inner.first > placed.rows.first {
+    if placed.inner.first > placed.rows.first {
         return false;
     }
     is_under(piece, row_below(placed))
@@ -175,10 +176,10 @@ fn lies_under(piece: &Piece, placed: PieceInBand) -> bool
 #[inline(always)]
 fn ends_in(piece: &Piece, placed: PieceInBand) -> bool
     requires { IsInBand (span_of piece.now) placed }
-    ensures under { IsTrue result → IsAtLeastEnds (span_of piece.now) (height_of placed.frame placed.met.inner.end) }
-    ensures above { result ≡ false → IsOneOver (span_of piece.now) (height_of placed.frame placed.met.inner.end) }
+    ensures under { IsTrue result → IsAtLeastEnds (span_of piece.now) (height_of placed.frame placed.inner.end) }
+    ensures above { result ≡ false → IsOneOver (span_of piece.now) (height_of placed.frame placed.inner.end) }
 {
-    if placed.met.inner.end < placed.rows.end {
+    if placed.inner.end < placed.rows.end {
         return true;
     }
     is_under(piece, row_above(placed))
@@ -188,11 +189,11 @@ fn ends_in(piece: &Piece, placed: PieceInBand) -> bool
 #[inline(always)]
 fn lies_over(piece: &Piece, placed: PieceInBand) -> bool
     requires { IsInBand (span_of piece.now) placed }
-    ensures over { IsTrue result → IsAtMostEnds (span_of piece.now) (height_of placed.frame placed.met.inner.end) }
-    ensures below { result ≡ false → placed.met.inner.end ≡ placed.rows.end →
-        IsOneUnder (span_of piece.now) (height_of placed.frame placed.met.inner.end) }
+    ensures over { IsTrue result → IsAtMostEnds (span_of piece.now) (height_of placed.frame placed.inner.end) }
+    ensures below { result ≡ false → placed.inner.end ≡ placed.rows.end →
+        IsOneUnder (span_of piece.now) (height_of placed.frame placed.inner.end) }
 {
-    if placed.met.inner.end < placed.rows.end {
+    if placed.inner.end < placed.rows.end {
         return false;
     }
     is_over(piece, row_above(placed))
@@ -216,7 +217,7 @@ fn columns_below(piece: &Piece, placed: PieceInBand, tally: &mut Tally) -> Reach
     requires placed { IsInBand (span_of piece.now) placed }
     requires plain { IsPlain (span_of piece.now) }
     requires over { IsOneOver (span_of piece.now) (height_below placed.frame placed.rows.first) }
-    ensures from { ComesFrom (span_of piece.now) placed.frame placed.met.inner.first result }
+    ensures from { ComesFrom (span_of piece.now) placed.frame placed.inner.first result }
     ensures count { tally.new.count ≤ tally.old.count + 2 }
 {
     if starts_in(piece, placed) {
@@ -230,9 +231,9 @@ fn columns_below(piece: &Piece, placed: PieceInBand, tally: &mut Tally) -> Reach
 fn columns_above(piece: &Piece, placed: PieceInBand, tally: &mut Tally) -> Reach
     requires placed { IsInBand (span_of piece.now) placed }
     requires plain { IsPlain (span_of piece.now) }
-    requires under { placed.met.inner.end ≡ placed.rows.end →
-        IsOneUnder (span_of piece.now) (height_of placed.frame placed.met.inner.end) }
-    ensures to { GoesTo (span_of piece.now) placed.frame placed.met.inner.end result }
+    requires under { placed.inner.end ≡ placed.rows.end →
+        IsOneUnder (span_of piece.now) (height_of placed.frame placed.inner.end) }
+    ensures to { GoesTo (span_of piece.now) placed.frame placed.inner.end result }
     ensures count { tally.new.count ≤ tally.old.count + 2 }
 {
     if ends_in(piece, placed) {
@@ -254,12 +255,12 @@ fn note_passage(
     requires placed { IsInBand (span_of piece.now) placed }
     requires plain { IsPlain (span_of piece.now) }
     requires told { AreEndsTold ends.now (span_of piece.now) placed }
-    requires room { length up.old ≡ (placed.frame.height + 1) * words_noted placed.frame.width }
-    requires from { ComesFrom (span_of piece.now) placed.frame placed.met.inner.first low }
-    ensures from { ComesFrom (span_of piece.now) placed.frame placed.met.inner.end result }
-    ensures notes { NotesUp (span_of piece.now) placed.frame placed.met.inner.first placed.met.inner.end up.old up.new }
+    requires room { length up.old ≡ (placed.frame.height + 1) * words_for placed.frame.width }
+    requires from { ComesFrom (span_of piece.now) placed.frame placed.inner.first low }
+    ensures from { ComesFrom (span_of piece.now) placed.frame placed.inner.end result }
+    ensures notes { NotesUp (span_of piece.now) placed.frame placed.inner.first placed.inner.end up.old up.new }
 {
-    let inner = placed.met.inner;
+    let inner = placed.inner;
     let mut low = low;
     // The segments up to the rows before `row` are noted, and `low` is the columns from which the piece comes to this one.
     'rows: for row in inner.first..inner.end {
@@ -285,7 +286,7 @@ pub(crate) fn note_up(
     requires placed { IsInBand (span_of piece.now) placed }
     requires plain { ¬ (IsBulge (span_of piece.now)) }
     requires told { AreEndsTold ends.now (span_of piece.now) placed }
-    requires room { length up.old ≡ (placed.frame.height + 1) * words_noted placed.frame.width }
+    requires room { length up.old ≡ (placed.frame.height + 1) * words_for placed.frame.width }
     ensures notes { NotesUp (span_of piece.now) placed.frame placed.rows.first (placed.rows.end + 1) up.old up.new }
     ensures count { tally.new.count ≤ tally.old.count + 4 }
 {
@@ -301,5 +302,5 @@ pub(crate) fn note_up(
         return;
     }
     let high = columns_above(piece, placed, tally);
-    note_columns(placed.frame, placed.met.inner.end, joined(low, high), up);
+    note_columns(placed.frame, placed.inner.end, joined(low, high), up);
 }

@@ -7,5 +7,7 @@ pub mod Meeting
 pub mod Outlines
 pub mod Frames
 pub mod Reversed
+pub mod Moved
+pub mod Shifted
 pub mod Near
 pub mod Shapes

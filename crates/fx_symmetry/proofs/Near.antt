@@ -14,11 +14,11 @@ use Rattle.fx_winding.specs.Outside.{AreOfOutline, IsOutline, Leads, joined}
 use Rattle.fx_winding.specs.Winding.{Span, IsOn, IsCovered, centre}
 use Rattle.fx_dropout.specs.declared.chooser.Closing.TheVariants.{Nearer}
 use Rattle.fx_dropout.specs.Dropout.{IsGap, IsNextNearer, IsRowSetIn, IsSetIn, place_on}
-use Rattle.fx_dropout.proofs.SetPixels.{AreMet, IsMoved, closed_moved, nearer_along}
 use Rattle.fx_symmetry.specs.Symmetries.{Symmetry, Mirror, Flip, Exchange, place_in, span_in, col_in, row_in}
 use Rattle.fx_symmetry.specs.Dropout.{IsHereNearer, HasNoTieIn, MovesNearSet}
 use Rattle.fx_symmetry.proofs.Covering.{mirror, axis_mirrored, centre_in, moves_cover, moves_bits}
 use Rattle.fx_symmetry.proofs.Meeting.{mirror_meets, flip_meets}
+use Rattle.fx_symmetry.proofs.Moved.{AreMet, IsMoved, closed_moved, nearer_along, turned_map}
 use Rattle.fx_symmetry.proofs.OnPieces.{turned_mirrored, turned_flipped}
 use Rattle.fx_symmetry.proofs.Reversed.{mirror_next, any_moved, back_along, nearer_reversed, one_nearer, bridged_mirrored}
 
@@ -44,24 +44,8 @@ strokes_mirrored ss i j np nq =
 
 gap_mirrored : (ss : List Span) (So At : ℤ → ℤ → Type 0) → AreSet ss So At mirror (λ j. j) → (i j : ℤ)
     → IsGap (map (span_in Mirror) ss) At (mirror (i +ℤ pos 1)) j ↔ IsGap ss So i j
-gap_mirrored ss So At set i j = (from, to)
-  where
-    from : IsGap (map (span_in Mirror) ss) At (mirror (i +ℤ pos 1)) j → IsGap ss So i j
-    from g =
-        let np : ¬ (So i j) = λ c. g.next (subst (λ z. At z j) (sym (mirror_next i)) ((set.moved i j).1 c)) in
-        let nq : ¬ (So (i +ℤ pos 1) j) = λ c. g.here ((set.moved (i +ℤ pos 1) j).1 c) in
-        record {
-          here = np;
-          next = nq;
-          met = (strokes_mirrored ss i j (λ c. np (set.covered i j c)) (λ c. nq (set.covered (i +ℤ pos 1) j c))).0 g.met;
-        }
-
-    to : IsGap ss So i j → IsGap (map (span_in Mirror) ss) At (mirror (i +ℤ pos 1)) j
-    to g = record {
-      here = λ c. g.next ((set.moved (i +ℤ pos 1) j).0 c);
-      next = λ c. g.here ((set.moved i j).0 (subst (λ z. At z j) (mirror_next i) c));
-      met = (strokes_mirrored ss i j (λ c. g.here (set.covered i j c)) (λ c. g.next (set.covered (i +ℤ pos 1) j c))).1 g.met;
-    }
+gap_mirrored ss So At set i j =
+    grind (arith, mirror_next i, set.moved i j, set.moved (i +ℤ pos 1) j, strokes_mirrored ss i j)
 
 -- upside down a line keeps its order
 strokes_flipped : (ss : List Span) (i j : ℤ) → ¬ (IsCovered (centre i j) ss) → ¬ (IsCovered (centre (i +ℤ pos 1) j) ss)
@@ -85,25 +69,9 @@ strokes_flipped ss i j np nq =
         (flip_meets (centre i j) (centre (i +ℤ pos 1) j) s refl below n m)
 
 gap_flipped : (ss : List Span) (So At : ℤ → ℤ → Type 0) → AreSet ss So At (λ i. i) mirror
-    → IsMoved (λ i. i) (λ j. mirror j) (IsGap ss So) (IsGap (map (span_in Flip) ss) At)
-gap_flipped ss So At set = record { back = λ i j g. back i j g; on = λ i j g. on i j g }
-  where
-    back : (i j : ℤ) → IsGap (map (span_in Flip) ss) At i (mirror j) → IsGap ss So i j
-    back i j g =
-        let n : ¬ (So i j) = λ c. g.here ((set.moved i j).1 c) in
-        let m : ¬ (So (i +ℤ pos 1) j) = λ c. g.next ((set.moved (i +ℤ pos 1) j).1 c) in
-        record {
-          here = n;
-          next = m;
-          met = (strokes_flipped ss i j (λ c. n (set.covered i j c)) (λ c. m (set.covered (i +ℤ pos 1) j c))).0 g.met;
-        }
-
-    on : (i j : ℤ) → IsGap ss So i j → IsGap (map (span_in Flip) ss) At i (mirror j)
-    on i j g = record {
-      here = λ c. g.here ((set.moved i j).0 c);
-      next = λ c. g.next ((set.moved (i +ℤ pos 1) j).0 c);
-      met = (strokes_flipped ss i j (λ c. g.here (set.covered i j c)) (λ c. g.next (set.covered (i +ℤ pos 1) j c))).1 g.met;
-    }
+    → IsMoved (λ i. i) mirror (IsGap ss So) (IsGap (map (span_in Flip) ss) At)
+gap_flipped ss So At set i j =
+    grind (arith, set.covered i j, set.covered (i +ℤ pos 1) j, set.moved i j, set.moved (i +ℤ pos 1) j, strokes_flipped ss i j)
 
 -- ---- a column is a row of the exchanged pieces
 leads_moved : (m : Symmetry) (p q : Place) (ss : List Span) → Leads p ss q
@@ -125,11 +93,6 @@ joined_moved m (ss ∷ contours) =
 outline_moved : (m : Symmetry) (ss : List Span) → AreOfOutline ss → AreOfOutline (map (span_in m) ss)
 outline_moved m ss o =
     (map (map (span_in m)) o.0, outlines_moved m o.0 o.1, joined_moved m o.0 ∙ ap (map (span_in m)) o.2)
-
-turned_all : (m n : Symmetry) → ((s : Span) → span_in Exchange (span_in m s) ≡ span_in n (span_in Exchange s)) → (ss : List Span)
-    → map turned_span (map (span_in m) ss) ≡ map (span_in n) (map turned_span ss)
-turned_all m n one [] = refl
-turned_all m n one (s ∷ ss) = λ i. one s i ∷ turned_all m n one ss i
 
 -- ---- the nearer one
 -- along a line that keeps its order
@@ -167,7 +130,10 @@ pub near_set_moved : (m : Symmetry) (ss : List Span) (In To : ℤ → ℤ → Ty
     → ((i j : ℤ) → To (col_in m i j) (row_in m i j) ↔ In i j) → (i j : ℤ)
     → IsSetIn Nearer (map (span_in m) ss) To (col_in m i j) (row_in m i j) ↔ IsSetIn Nearer ss In i j
 near_set_moved Exchange ss In To o tie inside i j = absurd tie
-near_set_moved Mirror ss In To o tie inside i j = (λ h. all.back j i h, λ h. all.on j i h)
+near_set_moved Mirror ss In To o tie inside i j =
+    closed_moved (λ j. j) mirror (λ j. refl) (map turned_span ss) (map turned_span ts)
+    (λ j i. In i j) (λ j i. To i j) (IsNextNearer (map turned_span ss)) (IsNextNearer (map turned_span ts))
+    (λ j i. IsRowSetIn Nearer ss In i j) (λ j i. IsRowSetIn Nearer ts To i j) (λ j i. inside i j) upper (λ j i. row i j) gaps j i
   where
     ts : List Span
     ts = map (span_in Mirror) ss
@@ -185,32 +151,24 @@ near_set_moved Mirror ss In To o tie inside i j = (λ h. all.back j i h, λ h. a
 
     upper : (j i : ℤ) → IsNextNearer (map turned_span ts) j (mirror i) ↔ IsNextNearer (map turned_span ss) j i
     upper j i = subst (λ us. IsNextNearer us j (mirror i) ↔ IsNextNearer (map turned_span ss) j i)
-        (sym (turned_all Mirror Flip turned_mirrored ss)) (near_flipped (map turned_span ss) (outline_moved Exchange ss o) j i)
+        (sym (turned_map (span_in Mirror) (span_in Flip) turned_mirrored ss))
+        (near_flipped (map turned_span ss) (outline_moved Exchange ss o) j i)
 
-    gaps : IsMoved (λ j. j) (λ i. mirror i) (IsGap (map turned_span ss) (λ j i. IsRowSetIn Nearer ss In i j))
+    gaps : IsMoved (λ j. j) mirror (IsGap (map turned_span ss) (λ j i. IsRowSetIn Nearer ss In i j))
         (IsGap (map turned_span ts) (λ j i. IsRowSetIn Nearer ts To i j))
-    gaps = subst (λ (us : List Span). IsMoved (λ j. j) (λ i. mirror i) (IsGap (map turned_span ss)
+    gaps = subst (λ (us : List Span). IsMoved (λ j. j) mirror (IsGap (map turned_span ss)
         (λ j i. IsRowSetIn Nearer ss In i j)) (IsGap us (λ j i. IsRowSetIn Nearer ts To i j)))
-        (sym (turned_all Mirror Flip turned_mirrored ss))
+        (sym (turned_map (span_in Mirror) (span_in Flip) turned_mirrored ss))
         (gap_flipped (map turned_span ss) (λ j i. IsRowSetIn Nearer ss In i j) (λ j i. IsRowSetIn Nearer ts To i j) (record {
           covered = λ j i c. inl ((moves_bits Exchange i j ss o).0 c);
           moved = λ j i. row i j;
         }))
-
-    all : IsMoved (λ j. j) (λ i. mirror i) (λ j i. IsSetIn Nearer ss In i j) (λ j i. IsSetIn Nearer ts To i j)
-    all = closed_moved (λ j. j) (λ i. mirror i) (λ j. refl) (λ j. refl) (map turned_span ss) (map turned_span ts)
-        (λ j i. In i j) (λ j i. To i j) (IsNextNearer (map turned_span ss)) (IsNextNearer (map turned_span ts))
-        (λ j i. IsRowSetIn Nearer ss In i j) (λ j i. IsRowSetIn Nearer ts To i j)
-        (record { back = λ j i h. (inside i j).0 h; on = λ j i h. (inside i j).1 h })
-        (record { back = λ j i h. (upper j i).0 h; on = λ j i h. (upper j i).1 h })
-        (record { back = λ j i h. (row i j).0 h; on = λ j i h. (row i j).1 h })
-        gaps
 near_set_moved Flip ss In To o tie inside i j =
     bridged_mirrored (map turned_span ss) (map turned_span ts) (λ j i. In i j) (λ j i. To i j)
     (IsNextNearer (map turned_span ss)) (IsNextNearer (map turned_span ts)) (λ j i. IsRowSetIn Nearer ss In i j)
     (λ j i. IsRowSetIn Nearer ts To i j) (record {
       inside = λ j i. inside i j;
-      set = λ j i. (λ h. rows.back i j h, λ h. rows.on i j h);
+      set = λ j i. rows i j;
       gap = gaps;
       one = λ j i g. one_of_both (map turned_span ss) (map turned_span ts) j i (mirror (j +ℤ pos 1)) i (upper j i) (tie i j g);
       not_both = λ j i n f. one_nearer (map turned_span ss) j i n ((upper j i).0 f);
@@ -219,26 +177,25 @@ near_set_moved Flip ss In To o tie inside i j =
     ts : List Span
     ts = map (span_in Flip) ss
 
-    rows : IsMoved (λ i. i) (λ j. mirror j) (IsRowSetIn Nearer ss In) (IsRowSetIn Nearer ts To)
-    rows = closed_moved (λ i. i) (λ j. mirror j) (λ i. refl) (λ i. refl) ss ts In To (IsNextNearer ss)
-        (IsNextNearer ts) (λ i j. IsCovered (centre i j) ss) (λ i j. IsCovered (centre i j) ts)
-        (record { back = λ i j h. (inside i j).0 h; on = λ i j h. (inside i j).1 h })
-        (record { back = λ i j h. (near_flipped ss o i j).0 h; on = λ i j h. (near_flipped ss o i j).1 h })
-        (record { back = λ i j c. (moves_bits Flip i j ss o).0 c; on = λ i j c. (moves_bits Flip i j ss o).1 c })
-        (gap_flipped ss (λ i j. IsCovered (centre i j) ss) (λ i j. IsCovered (centre i j) ts)
+    rows : IsMoved (λ i. i) mirror (IsRowSetIn Nearer ss In) (IsRowSetIn Nearer ts To)
+    rows = closed_moved (λ i. i) mirror (λ i. refl) ss ts In To (IsNextNearer ss) (IsNextNearer ts)
+        (λ i j. IsCovered (centre i j) ss) (λ i j. IsCovered (centre i j) ts) inside (near_flipped ss o)
+        (λ i j. moves_bits Flip i j ss o) (gap_flipped ss (λ i j. IsCovered (centre i j) ss) (λ i j. IsCovered (centre i j) ts)
         (record { covered = λ i j c. c; moved = λ i j. moves_bits Flip i j ss o }))
 
     upper : (j i : ℤ) → IsNextNearer (map turned_span ts) (mirror (j +ℤ pos 1)) i ↔ IsHereNearer (map turned_span ss) j i
     upper j i = subst (λ us. IsNextNearer us (mirror (j +ℤ pos 1)) i ↔ IsHereNearer (map turned_span ss) j i)
-        (sym (turned_all Flip Mirror turned_flipped ss)) (near_mirrored (map turned_span ss) (outline_moved Exchange ss o) j i)
+        (sym (turned_map (span_in Flip) (span_in Mirror) turned_flipped ss))
+        (near_mirrored (map turned_span ss) (outline_moved Exchange ss o) j i)
 
     gaps : (j i : ℤ) → IsGap (map turned_span ts) (λ j i. IsRowSetIn Nearer ts To i j) (mirror (j +ℤ pos 1)) i
         ↔ IsGap (map turned_span ss) (λ j i. IsRowSetIn Nearer ss In i j) j i
     gaps j i = subst (λ (us : List Span). IsGap us (λ j i. IsRowSetIn Nearer ts To i j) (mirror (j +ℤ pos 1)) i
-        ↔ IsGap (map turned_span ss) (λ j i. IsRowSetIn Nearer ss In i j) j i) (sym (turned_all Flip Mirror turned_flipped ss))
+        ↔ IsGap (map turned_span ss) (λ j i. IsRowSetIn Nearer ss In i j) j i)
+        (sym (turned_map (span_in Flip) (span_in Mirror) turned_flipped ss))
         (gap_mirrored (map turned_span ss) (λ j i. IsRowSetIn Nearer ss In i j) (λ j i. IsRowSetIn Nearer ts To i j) (record {
           covered = λ j i c. inl ((moves_bits Exchange i j ss o).0 c);
-          moved = λ j i. (λ h. rows.back i j h, λ h. rows.on i j h);
+          moved = λ j i. rows i j;
         }) j i)
 
 pub moves_near_set : MovesNearSet

@@ -127,57 +127,36 @@ pub record AreMirrored (ss ts : List Span) (In To Near Far So At : ℤ → ℤ �
   pub one : (i j : ℤ) → IsGap ss So i j → Near i j ⊎ Far (mirror (i +ℤ pos 1)) j
   pub not_both : (i j : ℤ) → Near i j → Far (mirror (i +ℤ pos 1)) j → ⊥
 
+-- where the next pixel is chosen in a gap (N) or in the mirrored gap (F), and not in both; and a pixel is inside (I), as when
+-- mirrored (T)
+other_chosen : {N F I T : Type 0} → N ⊎ F → (N → F → ⊥) → T ↔ I → F ⊎ ¬ T ↔ ¬ N ⊎ ¬ I
+other_chosen o n e = grind arith
+
+one_chosen : {N F I T : Type 0} → N ⊎ F → (N → F → ⊥) → T ↔ I → ¬ F ⊎ ¬ T ↔ N ⊎ ¬ I
+one_chosen o n e = grind arith
+
 pub bridged_mirrored : (ss ts : List Span) (In To Near Far So At : ℤ → ℤ → Type 0) → AreMirrored ss ts In To Near Far So At
-    → (i j : ℤ)
-    → IsBridged ts To Far At (mirror i) j ↔ IsBridged ss In Near So i j
-bridged_mirrored ss ts In To Near Far So At m i j = (from, to)
+    → (i j : ℤ) → IsBridged ts To Far At (mirror i) j ↔ IsBridged ss In Near So i j
+bridged_mirrored ss ts In To Near Far So At m i j = grind (arith, m.set i j, m.inside i j, first, second)
   where
-    left_to : (i : ℤ) → IsClosedByLeft ss In Near So i j → IsClosedByRight ts To Far At (mirror (i +ℤ pos 1)) j
-    left_to i c = record { gap = (m.gap i j).1 c.gap; chosen = by c.chosen (m.one i j c.gap) }
-      where
-        by : ¬ (Near i j) ⊎ ¬ (In (i +ℤ pos 1) j) → Near i j ⊎ Far (mirror (i +ℤ pos 1)) j
-            → Far (mirror (i +ℤ pos 1)) j ⊎ ¬ (To (mirror (i +ℤ pos 1)) j)
-        by (inl k) (inl n) = absurd (k n)
-        by (inl k) (inr f) = inl f
-        by (inr k) o = inr (λ h. k ((m.inside (i +ℤ pos 1) j).0 h))
+    left : (i : ℤ) → IsClosedByRight ts To Far At (mirror (i +ℤ pos 1)) j ↔ IsClosedByLeft ss In Near So i j
+    left i =
+        let chosen = λ (g : IsGap ss So i j). other_chosen (m.one i j g) (m.not_both i j) (m.inside (i +ℤ pos 1) j) in (
+          λ c. let g = (m.gap i j).0 c.gap in record { gap = g; chosen = (chosen g).0 c.chosen },
+          λ c. record { gap = (m.gap i j).1 c.gap; chosen = (chosen c.gap).1 c.chosen },
+        )
 
-    left_from : (i : ℤ) → IsClosedByRight ts To Far At (mirror (i +ℤ pos 1)) j → IsClosedByLeft ss In Near So i j
-    left_from i c = record { gap = (m.gap i j).0 c.gap; chosen = by c.chosen }
-      where
-        by : Far (mirror (i +ℤ pos 1)) j ⊎ ¬ (To (mirror (i +ℤ pos 1)) j) → ¬ (Near i j) ⊎ ¬ (In (i +ℤ pos 1) j)
-        by (inl f) = inl (λ n. m.not_both i j n f)
-        by (inr k) = inr (λ h. k ((m.inside (i +ℤ pos 1) j).1 h))
+    right : (i : ℤ) → IsClosedByLeft ts To Far At (mirror (i +ℤ pos 1)) j ↔ IsClosedByRight ss In Near So i j
+    right i =
+        let next = subst (λ z. To z j ↔ In i j) (sym (mirror_next i)) (m.inside i j) in
+        let chosen = λ (g : IsGap ss So i j). one_chosen (m.one i j g) (m.not_both i j) next in (
+          λ c. let g = (m.gap i j).0 c.gap in record { gap = g; chosen = (chosen g).0 c.chosen },
+          λ c. record { gap = (m.gap i j).1 c.gap; chosen = (chosen c.gap).1 c.chosen },
+        )
 
-    right_to : (i : ℤ) → IsClosedByRight ss In Near So i j → IsClosedByLeft ts To Far At (mirror (i +ℤ pos 1)) j
-    right_to i c = record { gap = (m.gap i j).1 c.gap; chosen = by c.chosen }
-      where
-        by : Near i j ⊎ ¬ (In i j) → ¬ (Far (mirror (i +ℤ pos 1)) j) ⊎ ¬ (To (mirror (i +ℤ pos 1) +ℤ pos 1) j)
-        by (inl n) = inl (λ f. m.not_both i j n f)
-        by (inr k) = inr (λ h. k ((m.inside i j).0 (subst (λ z. To z j) (mirror_next i) h)))
+    first : IsClosedByRight ts To Far At (mirror i -ℤ pos 1) j ↔ IsClosedByLeft ss In Near So i j
+    first = subst (λ z. IsClosedByRight ts To Far At z j ↔ IsClosedByLeft ss In Near So i j) (mirror_before i) (left i)
 
-    right_from : (i : ℤ) → IsClosedByLeft ts To Far At (mirror (i +ℤ pos 1)) j → IsClosedByRight ss In Near So i j
-    right_from i c = record { gap = (m.gap i j).0 c.gap; chosen = by c.chosen (m.one i j ((m.gap i j).0 c.gap)) }
-      where
-        by : ¬ (Far (mirror (i +ℤ pos 1)) j) ⊎ ¬ (To (mirror (i +ℤ pos 1) +ℤ pos 1) j) → Near i j ⊎ Far (mirror (i +ℤ pos 1)) j
-            → Near i j ⊎ ¬ (In i j)
-        by k (inl n) = inl n
-        by (inl k) (inr f) = absurd (k f)
-        by (inr k) (inr f) = inr (λ h. k (subst (λ z. To z j) (sym (mirror_next i)) ((m.inside i j).1 h)))
-
-    to : IsBridged ss In Near So i j → IsBridged ts To Far At (mirror i) j
-    to (inl s) = inl ((m.set i j).1 s)
-    to (inr b) = inr (record { inside = (m.inside i j).1 b.inside; closes = by b.closes })
-      where
-        by : IsClosedByLeft ss In Near So i j ⊎ IsClosedByRight ss In Near So (i -ℤ pos 1) j
-            → IsClosedByLeft ts To Far At (mirror i) j ⊎ IsClosedByRight ts To Far At (mirror i -ℤ pos 1) j
-        by (inl c) = inr (subst (λ z. IsClosedByRight ts To Far At z j) (mirror_before i) (left_to i c))
-        by (inr c) = inl (subst (λ z. IsClosedByLeft ts To Far At z j) (mirror_after i) (right_to (i -ℤ pos 1) c))
-
-    from : IsBridged ts To Far At (mirror i) j → IsBridged ss In Near So i j
-    from (inl s) = inl ((m.set i j).0 s)
-    from (inr b) = inr (record { inside = (m.inside i j).0 b.inside; closes = by b.closes })
-      where
-        by : IsClosedByLeft ts To Far At (mirror i) j ⊎ IsClosedByRight ts To Far At (mirror i -ℤ pos 1) j
-            → IsClosedByLeft ss In Near So i j ⊎ IsClosedByRight ss In Near So (i -ℤ pos 1) j
-        by (inl c) = inr (right_from (i -ℤ pos 1) (subst (λ z. IsClosedByLeft ts To Far At z j) (sym (mirror_after i)) c))
-        by (inr c) = inl (left_from i (subst (λ z. IsClosedByRight ts To Far At z j) (sym (mirror_before i)) c))
+    second : IsClosedByLeft ts To Far At (mirror i) j ↔ IsClosedByRight ss In Near So (i -ℤ pos 1) j
+    second = subst (λ z. IsClosedByLeft ts To Far At z j ↔ IsClosedByRight ss In Near So (i -ℤ pos 1) j) (mirror_after i)
+        (right (i -ℤ pos 1))

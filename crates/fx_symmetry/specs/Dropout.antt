@@ -1,10 +1,13 @@
--- Moved pieces with drop-out control by the nearer pixel.
-use Rattle.std.specs.Prelude.{◌⊎◌, ◌↔◌, ℕ, ◌+◌, ◌<◌, ℤ, List, map}
+-- What drop-out control sets for pieces moved by a symmetry, for reversed ones, and for those moved by whole pixels.
+use Rattle.std.specs.Prelude.{◌⊎◌, ◌↔◌, ℕ, ◌+◌, ◌<◌, ℤ, pos, ◌+ℤ◌, ◌*ℤ◌, List, map}
+use Rattle.std.specs.List.Sorted.{IsPermutation}
 use Rattle.fx_winding.specs.declared.frame.Frame.{Frame}
 use Rattle.fx_winding.specs.Turned.{turned_span}
 use Rattle.fx_winding.specs.Frames.{IsInFrame}
+use Rattle.fx_winding.specs.Moves.{reversed, shifted}
 use Rattle.fx_winding.specs.Outside.{AreOfOutline}
 use Rattle.fx_winding.specs.Winding.{Span, IsCovered, centre}
+use Rattle.fx_dropout.specs.declared.chooser.Closing.{Closing}
 use Rattle.fx_dropout.specs.declared.chooser.Closing.TheVariants.{Nearer}
 use Rattle.fx_dropout.specs.Dropout.{IsGap, IsCount, IsNextNearer, IsRowSetIn, IsSet, place_on}
 use Rattle.fx_symmetry.specs.Symmetries.{Symmetry, Mirror, Flip, Exchange, span_in, col_in, row_in}
@@ -33,3 +36,14 @@ abbrev pub MovesNearSet : Type 0
 MovesNearSet = (m : Symmetry) (ss : List Span) (f g : Frame) → AreOfOutline ss → HasNoTieIn m ss (IsInFrame f)
     → ((i j : ℤ) → IsInFrame g (col_in m i j) (row_in m i j) ↔ IsInFrame f i j) → (i j : ℤ)
     → IsSet Nearer (map (span_in m) ss) g (col_in m i j) (row_in m i j) ↔ IsSet Nearer ss f i j
+
+-- the law: the pieces reversed, in whatever order, set the same pixels
+abbrev pub ReversalKeepsSet : Type 0
+ReversalKeepsSet = (closing : Closing) (ss ts : List Span) (f : Frame) → IsPermutation (map reversed ss) ts → (i j : ℤ)
+    → IsSet closing ts f i j ↔ IsSet closing ss f i j
+
+-- the law: pieces and a frame moved by k pixels to the right and l up, each pixel 128 units a side, set the pixels moved so
+abbrev pub ShiftMovesSet : Type 0
+ShiftMovesSet = (closing : Closing) (k l : ℤ) (ss : List Span) (f g : Frame)
+    → ((i j : ℤ) → IsInFrame g (i +ℤ k) (j +ℤ l) ↔ IsInFrame f i j) → (i j : ℤ)
+    → IsSet closing (map (shifted (pos 128 *ℤ k) (pos 128 *ℤ l)) ss) g (i +ℤ k) (j +ℤ l) ↔ IsSet closing ss f i j

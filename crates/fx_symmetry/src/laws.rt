@@ -1,8 +1,8 @@
-//! Laws of the three symmetries. "Moved" is short for moved by one of them. A quarter turn, or half a turn, is two of them, one
-//! after the other.
+//! Laws of the three symmetries, and of drop-out control for pieces that are reversed or moved by whole pixels. "Moved" alone is
+//! short for moved by a symmetry. A quarter turn, or half a turn, is two of them, one after the other.
 ghost use Rattle.fx_symmetry.specs.Pieces.{AddsUp, MovesCover, MovesBits, MirrorMeets, MirrorMeetsUp, FlipMeets, FlipMeetsUp};
 ghost use Rattle.fx_symmetry.specs.Outlines.{MovesSpans, MovesDrawn, MovesDropoutFrame};
-ghost use Rattle.fx_symmetry.specs.Dropout.{MovesNearSet};
+ghost use Rattle.fx_symmetry.specs.Dropout.{MovesNearSet, ReversalKeepsSet, ShiftMovesSet};
 ghost use Rattle.fx_symmetry.specs.Shapes.{MovesPicture, MovesNearPicture};
 
 /// The moved pieces of closed contours cover the moved places, and set the moved pixels: mirrored, pixel i of a row becomes pixel
@@ -32,9 +32,12 @@ pub fn outlines()
 {}
 
 /// With drop-out control by the nearer pixel, the mirrored pieces of closed contours set the mirrored pixels if no gap of a row has
-/// a tie, and those upside down the pixels upside down if no gap of a column has one.
+/// a tie, and those upside down the pixels upside down if no gap of a column has one. By either pixel, reversed pieces set the same
+/// pixels, and pieces moved by whole pixels the pixels moved.
 pub fn dropout()
-    ensures { MovesNearSet }
+    ensures nearer { MovesNearSet }
+    ensures reversal { ReversalKeepsSet }
+    ensures shift { ShiftMovesSet }
 {}
 
 /// Without drop-out control, the picture of a moved outline is the moved picture. So it is with drop-out control by the nearer

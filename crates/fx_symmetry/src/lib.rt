@@ -1,5 +1,6 @@
 //! What the symmetries of the grid of pixels do to pieces, outlines and pictures: mirrored at the upright axis, at the level one
-//! or at the diagonal. These are laws of the definitions of the crates below. No crate of the program stands on this one.
+//! or at the diagonal; and what drop-out control sets if pieces are reversed, or moved by whole pixels. These are laws of the
+//! definitions of the crates below. No crate of the program stands on this one.
 #![tactic(auto)]
 
 pub mod laws;

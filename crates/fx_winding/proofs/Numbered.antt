@@ -9,11 +9,11 @@ use Rattle.std.proofs.lemmas.Nat.Bits.{bit_at-lt}
 use Rattle.std.specs.Prelude.{slice_index_or}
 use Rattle.fx_fixed.proofs.Linear.{signed_linear}
 use Rattle.fx_winding.specs.declared.frame.Frame.{Frame}
-use Rattle.fx_winding.specs.Bitmaps.{word_bit}
+use Rattle.fx_winding.specs.Bitmaps.{words_for, word_bit}
 use Rattle.fx_winding.specs.Turned.{turned_span}
 use Rattle.fx_winding.specs.Frames.{HasMargin}
 use Rattle.fx_winding.specs.Meets.{IsMet}
-use Rattle.fx_winding.specs.Notes.{pixel_number, words_noted, AreExact, IsMetOf}
+use Rattle.fx_winding.specs.Notes.{pixel_number, AreExact, IsMetOf}
 use Rattle.fx_winding.specs.Winding.{Span, centre}
 
 -- the ends of a segment as the code has them
@@ -36,7 +36,7 @@ pub clear_unless : (words : List ℕ) (i : ℕ) → (word_bit words i ≡ 1 → 
 clear_unless words i h = let l = bit_at-lt (slice_index_or words (i / 32) 0) (31 - i % 32) in grind (arith, l, h)
 
 -- the segments of at most 8,193 rows take few words
-pub few_words : (f : Frame) (rows n : ℕ) → rows ≤ 8193 → n ≡ rows * words_noted f.width → n ≤ 2 ^ 32
+pub few_words : (f : Frame) (rows n : ℕ) → rows ≤ 8193 → n ≡ rows * words_for f.width → n ≤ 2 ^ 32
 few_words f rows n h e = grind (arith, signed_linear, h, e, mul-le-mul_right)
 
 -- a frame with its coordinates exchanged has numbers beside it too
@@ -59,11 +59,11 @@ abbrev AnyUp : List Span → ℤ → ℤ → ℕ → ℕ → Type 0
 AnyUp ss x y r k = Any (IsMet (centre ((y -ℤ pos 1) +ℤ pos r) (x +ℤ pos k)) (centre (y +ℤ pos r) (x +ℤ pos k))) (map turned_span ss)
 
 pub exact_noted : (f g : Frame) (ss : List Span) (rows columns : List ℕ) (m n : ℕ) → g.left ≡ f.bottom → g.bottom ≡ f.left
-    → g.width ≡ f.height → g.height ≡ f.width → m ≡ f.height * words_noted f.width → n ≡ (f.height + 1) * words_noted f.width
+    → g.width ≡ f.height → g.height ≡ f.width → m ≡ f.height * words_for f.width → n ≡ (f.height + 1) * words_for f.width
     → ((i : ℕ) → i < 32 * m
-    → (word_bit rows i ≡ 1) ↔ IsMetOf f ss (i / (32 * words_noted f.width)) (i % (32 * words_noted f.width)))
+    → (word_bit rows i ≡ 1) ↔ IsMetOf f ss (i / (32 * words_for f.width)) (i % (32 * words_for f.width)))
     → ((i : ℕ) → i < 32 * n → (word_bit columns i ≡ 1)
-    ↔ IsMetOf g (map turned_span ss) (i % (32 * words_noted f.width)) (i / (32 * words_noted f.width)))
+    ↔ IsMetOf g (map turned_span ss) (i % (32 * words_for f.width)) (i / (32 * words_for f.width)))
     → AreExact f rows columns ss
 exact_noted f g ss rows columns m n left bottom width height long high across up = record {
   across = λ r k l w off. let h = row r k l (omega (arith, w)) in (
@@ -87,10 +87,10 @@ exact_noted f g ss rows columns m n left bottom width height long high across up
     origin : ◌≡◌ {A = ℤ × ℤ} (g.left, g.bottom) (f.bottom, f.left)
     origin = λ i. (left i, bottom i)
 
-    row : (r k : ℕ) → r < f.height → k < 32 * words_noted f.width → (word_bit rows (pixel_number f r k) ≡ 1) ↔ IsMetOf f ss r k
-    row = by_row (IsMetOf f ss) f.height (words_noted f.width) m rows long across
+    row : (r k : ℕ) → r < f.height → k < 32 * words_for f.width → (word_bit rows (pixel_number f r k) ≡ 1) ↔ IsMetOf f ss r k
+    row = by_row (IsMetOf f ss) f.height (words_for f.width) m rows long across
 
-    column : (r k : ℕ) → r ≤ f.height → k < 32 * words_noted f.width
+    column : (r k : ℕ) → r ≤ f.height → k < 32 * words_for f.width
         → (word_bit columns (pixel_number f r k) ≡ 1) ↔ IsMetOf g (map turned_span ss) k r
-    column r k l w = by_row (λ r k. IsMetOf g (map turned_span ss) k r) (f.height + 1) (words_noted f.width) n columns high up r k
+    column r k l w = by_row (λ r k. IsMetOf g (map turned_span ss) k r) (f.height + 1) (words_for f.width) n columns high up r k
         (omega (arith, l)) w

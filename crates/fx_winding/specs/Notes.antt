@@ -1,21 +1,17 @@
 -- The segments between neighbouring centres of a frame's rows and columns, those that lead out of it too, noted as bits: a segment
 -- is noted exactly when a piece meets it, unless an end of it is on a piece.
-use Rattle.std.specs.Prelude.{◌≡◌, ◌↔◌, ℕ, ◌+◌, ◌*◌, ◌/◌, ◌≤◌, ◌<◌, pos, ◌+ℤ◌, ◌-ℤ◌, List, Any, map}
+use Rattle.std.specs.Prelude.{◌≡◌, ◌↔◌, ℕ, ◌+◌, ◌*◌, ◌≤◌, ◌<◌, pos, ◌+ℤ◌, ◌-ℤ◌, List, Any, map}
 use Rattle.fx_winding.specs.declared.frame.Frame.{Frame}
-use Rattle.fx_winding.specs.Bitmaps.{word_bit}
+use Rattle.fx_winding.specs.Bitmaps.{words_for, word_bit}
 use Rattle.fx_winding.specs.Turned.{turned_span}
 use Rattle.fx_winding.specs.Meets.{IsMet}
 use Rattle.fx_winding.specs.Area.{Place}
 use Rattle.fx_winding.specs.Winding.{Span, IsOn, centre}
 
--- the number of words for the segments of a row of this width: one segment more than pixels
-abbrev pub words_noted : ℕ → ℕ
-words_noted width = width / 32 + 1
-
 -- the number of the segment to the pixel that is k right of a frame's left one and r above its lowest row; each row begins with a
 -- new word
 abbrev pub pixel_number : Frame → ℕ → ℕ → ℕ
-pixel_number f r k = r * (32 * words_noted f.width) + k
+pixel_number f r k = r * (32 * words_for f.width) + k
 
 -- a piece meets the segment between a pixel and its left neighbour, and neither end is on the piece; the pixel is k right of the
 -- frame's left one and r above its lowest row
@@ -63,7 +59,7 @@ pub record AreExact (f : Frame) (rows columns : List ℕ) (ss : List Span) : Typ
       → (word_bit columns (pixel_number f r k) ≡ 1)
       ↔ Any (IsMet (centre ((f.bottom -ℤ pos 1) +ℤ pos r) (f.left +ℤ pos k)) (centre (f.bottom +ℤ pos r) (f.left +ℤ pos k)))
       (map turned_span ss)
-  pub rest_across : (r k : ℕ) → r < f.height → f.width < k → k < 32 * words_noted f.width
+  pub rest_across : (r k : ℕ) → r < f.height → f.width < k → k < 32 * words_for f.width
       → word_bit rows (pixel_number f r k) ≡ 0
-  pub rest_up : (r k : ℕ) → r ≤ f.height → f.width ≤ k → k < 32 * words_noted f.width
+  pub rest_up : (r k : ℕ) → r ≤ f.height → f.width ≤ k → k < 32 * words_for f.width
       → word_bit columns (pixel_number f r k) ≡ 0

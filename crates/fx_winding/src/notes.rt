@@ -1,9 +1,9 @@
 //! Segments between neighbouring centres, noted as bits.
 
 ghost use Rattle.std.specs.Prelude.{◌≡◌, ◌↔◌, ℕ, ◌+◌, ◌*◌, ◌^◌, ◌/◌, ◌%◌, ◌<◌, ◌≤◌, length, map, IfOk, IsTrue};
-ghost use Rattle.fx_winding.specs.Bitmaps.{word_bit};
+ghost use Rattle.fx_winding.specs.Bitmaps.{words_for as words_for_of, word_bit};
 ghost use Rattle.fx_winding.specs.Frames.{HasMargin};
-ghost use Rattle.fx_winding.specs.Notes.{words_noted as words_noted_of, AreExact, IsMetOf};
+ghost use Rattle.fx_winding.specs.Notes.{AreExact, IsMetOf};
 ghost use Rattle.fx_winding.specs.Winding.{span_of};
 
 use crate::cover::centre_of;
@@ -12,7 +12,7 @@ use crate::pieces::Pieces;
 use crate::scratch::Scratch;
 use crate::segment::any_meets;
 use crate::tally::Tally;
-use crate::words::{put_bit, refilled, words_noted};
+use crate::words::{put_bit, refilled, words_for};
 use std::alloc::{AllocError, Global};
 use std::mem;
 
@@ -25,8 +25,8 @@ pub struct Notes {
     pub across: Vec<u32>,
     /// The segments of columns, from lower neighbours. They take a row more than the pixels.
     pub up: Vec<u32>,
-    ghost across_room: { length across.items ≡ frame.height * words_noted_of frame.width },
-    ghost up_room: { length up.items ≡ (frame.height + 1) * words_noted_of frame.width },
+    ghost across_room: { length across.items ≡ frame.height * words_for_of frame.width },
+    ghost up_room: { length up.items ≡ (frame.height + 1) * words_for_of frame.width },
 }
 
 /// Whether a segment is one of a frame's that some piece meets: that of the row `up` above the lowest, to the pixel `across` right
@@ -91,7 +91,7 @@ impl Notes {
         ensures across { (i : ℕ) → IfOk result (λ n. word_bit n.across.items i ≡ 0) }
         ensures up { (i : ℕ) → IfOk result (λ n. word_bit n.up.items i ≡ 0) }
     {
-        let words = words_noted(frame.width);
+        let words = words_for(frame.width);
         let rows = frame.height as usize;
         let across = mem::replace(&mut scratch.across, Vec::new(alloc));
         let up = mem::replace(&mut scratch.up, Vec::new(alloc));
@@ -117,7 +117,7 @@ impl Notes {
         let exchanged = pieces.turned(alloc)?;
         let columns = frame.turned();
         let mut notes = Notes::none(alloc, frame, scratch)?;
-        let size = 32 * words_noted(frame.width);
+        let size = 32 * words_for(frame.width);
         note_rows(pieces, frame, size, &mut notes.across, tally);
         note_columns(&exchanged, columns, size, &mut notes.up, tally);
         Ok(notes)

@@ -1,25 +1,16 @@
 //! Rows of pixels as words of 32 bits, the leftmost pixel the highest bit of the first word.
 
-ghost use Rattle.std.specs.Prelude.{◌≡◌, ◌≢◌, ◌↔◌, IsTrue, IfOk, ℕ, ◌/◌, ◌<◌, ◌≤◌, length, replicate};
-ghost use Rattle.fx_winding.specs.Limits.{greatest_side};
+ghost use Rattle.std.specs.Prelude.{◌≡◌, ◌≢◌, ◌↔◌, IsTrue, IfOk, ℕ, ◌-◌, ◌/◌, ◌<◌, ◌≤◌, length, replicate};
+ghost use Rattle.std.specs.Int.{bit_at};
 ghost use Rattle.fx_winding.specs.Bitmaps.{words_for as words_for_of, word_bit};
-ghost use Rattle.fx_winding.specs.Notes.{words_noted as words_noted_of};
 
 use std::alloc::AllocError;
 
-/// The number of words that hold a row of this width.
+/// The number of words that hold a row of this width, and the segments of one, which are one more than its pixels.
 pub fn words_for(width: u32) -> usize
-    requires { width ≤ greatest_side }
     ensures { result ≡ words_for_of width }
 {
-    (width as usize + 31) / 32
-}
-
-/// The number of words that hold the segments of a row of this width, one more than pixels.
-pub fn words_noted(width: u32) -> usize
-    ensures { result ≡ words_noted_of width }
-{
-    width as usize / 32 + 1
+    (width as usize + 32) / 32
 }
 
 /// Whether the bit of a pixel of a row is set.
@@ -28,6 +19,29 @@ pub fn is_set(words: &[u32], i: usize) -> bool
     ensures { IsTrue result ↔ (word_bit words.now i ≡ 1) }
 {
     words[i / 32] >> (31 - i % 32) & 1 == 1
+}
+
+/// The first pixel of a word that is set, if any is.
+#[tactic(auto, using(crate::proofs::WordEnds::first_bit, crate::proofs::WordEnds::none_before))]
+pub fn first_in(word: u32) -> u32
+    requires { 0 < word }
+    ensures within { result < 32 }
+    ensures set { bit_at word (31 - result) ≡ 1 }
+    ensures before { (i : ℕ) → i < result → bit_at word (31 - i) ≡ 0 }
+{
+    word.leading_zeros()
+}
+
+/// The last pixel of a word that is set, if any is.
+#[tactic(auto, using(crate::proofs::WordEnds::last_bit, crate::proofs::WordEnds::none_after, crate::proofs::WordEnds::no_later))]
+pub fn last_in(word: u32) -> u32
+    requires { 0 < word }
+    ensures within { result < 32 }
+    ensures set { bit_at word (31 - result) ≡ 1 }
+    ensures after { (i : ℕ) → result < i → i < 32 → bit_at word (31 - i) ≡ 0 }
+    ensures last { (i : ℕ) → i < 32 → bit_at word (31 - i) ≡ 1 → i ≤ result }
+{
+    31 - word.trailing_zeros()
 }
 
 /// Sets the bit of a pixel of a row.

@@ -71,14 +71,14 @@ fn closed(
     };
     let mut tally = Tally::new();
     let mut scratch = Scratch::new(alloc);
-    let Noted { bitmap, notes } = Plain.scan_noted(
+    let Noted { bitmap, mut notes } = Plain.scan_noted(
         alloc,
         &pieces,
         frame,
         &mut scratch,
         &mut tally,
     )?;
-    Ok(close_gaps(&pieces, &notes, bitmap, closing, &mut tally))
+    Ok(close_gaps(&pieces, &mut notes, bitmap, closing, &mut tally))
 }
 
 /// The pixels in the columns and rows from -1 to 3, the top row first: `#` if they are set.

@@ -123,8 +123,14 @@ fn closes_the_same(alloc: Global, pieces: &Pieces) -> Result<bool> {
     };
     let mut tally = Tally::new();
     let mut scratch = Scratch::new(alloc);
-    let Noted { bitmap, notes } = Rows.scan_noted(alloc, pieces, frame, &mut scratch, &mut tally)?;
-    let closed = close_gaps(pieces, &notes, bitmap, Closing::Lower, &mut tally);
+    let Noted { bitmap, mut notes } = Rows.scan_noted(
+        alloc,
+        pieces,
+        frame,
+        &mut scratch,
+        &mut tally,
+    )?;
+    let closed = close_gaps(pieces, &mut notes, bitmap, Closing::Lower, &mut tally);
     let drawing = Drawing {
         pieces,
         turned: &pieces.turned(alloc)?,

@@ -1,18 +1,18 @@
 //! A glyph of a picture: its rows, and its text on sinks that take little.
 
 ghost use Rattle.std.specs.Prelude.{◌≡◌, length};
-ghost use Rattle.fx_winding.specs.Bitmaps.{words_for, AreRowWords};
+ghost use Rattle.fx_winding.specs.Bitmaps.{words_for as words_for_of, AreRowWords};
 
 use fx_bdf::{BitGlyph, Row, write_glyph};
 use fx_fixed::{Limits, MemorySink, Sink, TextWriter, WriteFailed};
-use fx_winding::{Bitmap, Frame, set_bit};
+use fx_winding::{Bitmap, Frame, set_bit, words_for};
 use std::alloc::Global;
 use std::process::Abort;
 use std::test::Fail;
 
 /// The words of a line with `#` for each set bit.
 fn paint(line: &[u8], words: &mut [u32])
-    requires { length words.old ≡ words_for (length line.now) }
+    requires { length words.old ≡ words_for_of (length line.now) }
     ensures { AreRowWords (length line.now) words.new }
 {
     words.fill(0);
@@ -35,7 +35,7 @@ fn set_line(
     assert!(rt; frame.bottom <= row);
     assert!(rt; i64::from(row) < i64::from(frame.bottom) + i64::from(frame.height));
     assert!(rt; line.len() == frame.width as usize);
-    let mut words = vec![in alloc; 0u32; (line.len() + 31) / 32]?;
+    let mut words = vec![in alloc; 0u32; words_for(frame.width)]?;
     paint(line, &mut words);
     bitmap.set_row(row, &words);
     Ok(())

@@ -2,9 +2,8 @@
 -- neighbour if the coordinates are exchanged.
 use Rattle.std.specs.Prelude.{◌≡◌, ℤ, pos, ◌+ℤ◌, Bool, true, false, List, map, Option, Some, None}
 use Rattle.fx_winding.specs.declared.frame.Frame.{Frame}
-use Rattle.fx_winding.specs.Area.{Place}
 use Rattle.fx_winding.specs.Frames.{IsInFrame}
-use Rattle.fx_winding.specs.Turned.{turned_place, turned_span}
+use Rattle.fx_winding.specs.Turned.{turned_span}
 use Rattle.fx_winding.specs.Winding.{Span}
 
 -- the column and the row of the neighbour
@@ -16,11 +15,7 @@ abbrev pub next_row : Bool → ℤ → ℤ
 next_row false row = row
 next_row true row = row +ℤ pos 1
 
--- places, pieces, and the column and the row of a pixel, as they are or, with `true`, with their coordinates exchanged
-abbrev pub seen_place : Bool → Place → Place
-seen_place false p = p
-seen_place true p = turned_place p
-
+-- pieces, and the column and the row of a pixel, as they are or, with `true`, with their coordinates exchanged
 abbrev pub seen_span : Bool → Span → Span
 seen_span false s = s
 seen_span true s = turned_span s

@@ -52,10 +52,8 @@ ArePlacesNamed (Two i j) = ArePlaces i i × ArePlaces j j
 ArePlacesNamed (Range i j) = ArePlaces i j
 
 -- the columns of a part of a row are places
-pub record IsOfPlaces (part : RowPart) : Type 0 where
-  pub crossing : IsRunOfPlaces part.crossing
-  pub region : IsRunOfPlaces part.region
-  pub on : ArePlacesNamed part.on
+abbrev pub IsOfPlaces : RowPart → Type 0
+IsOfPlaces part = IsRunOfPlaces part.crossing × IsRunOfPlaces part.region × ArePlacesNamed part.on
 
 -- whether the place n is marked, and its count
 abbrev pub mark_at : Places → ℕ → Bool

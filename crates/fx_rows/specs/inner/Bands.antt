@@ -1,7 +1,8 @@
 -- The counts and the marks of a band of rows.
-use Rattle.std.specs.Prelude.{◌≡◌, ◌⊎◌, ℕ, ◌+◌, ◌*◌, ◌≤◌, ◌<◌, ℤ, pos, ◌+ℤ◌, Bool, false, List}
+use Rattle.std.specs.Prelude.{◌≡◌, ◌⊎◌, ℕ, ◌+◌, ◌*◌, ◌^◌, ◌≤◌, ◌<◌, ℤ, pos, ◌+ℤ◌, Bool, false, List}
 use Rattle.std.specs.Prelude.{◌↔◌, IsTrue, Any, length}
 use Rattle.fx_winding.specs.Winding.{Span, span_of, IsOn, IsCovered, winding, centre}
+use Rattle.fx_fixed.specs.Ranges.{IsWithin}
 use Rattle.fx_winding.specs.Bitmaps.{words_for, word_bit}
 use Rattle.fx_winding.specs.declared.frame.Frame.{Frame}
 use Rattle.fx_rows.specs.declared.band.Band.{Band}
@@ -19,6 +20,11 @@ bounded_span b = span_of b.piece
 pub record AreInner (b : Bounded) (f : Frame) (from to : ℕ) : Type 0 where
   pub within : to ≤ f.height
   pub inner : (r : ℕ) → from ≤ r → r < to → IsInner b.piece.a.y b.piece.c.y (height_of f r)
+
+-- the same rows of a band, whose differences are small enough for one piece more
+pub record AreInnerRows (b : Bounded) (band : Band) (from to : ℕ) : Type 0 where
+  pub inner : AreInner b band.frame from to
+  pub small : AreWithin (2 ^ 25 + 4 * from) band.diff.items
 
 -- how many numbers a row of this width takes: whole words
 abbrev pub stride : ℕ → ℕ
@@ -65,7 +71,7 @@ pub record IsBandAdded (s : Span) (f : Frame) (from to : ℕ) (old new : Band) :
   pub touches : AreTouched old.diff.items old.touched.items → AreTouched new.diff.items new.touched.items
 
 -- in a frame each pixel on a piece is marked, the count of each other pixel is its winding number, and all else is unmarked and
--- counts 0
+-- counts 0; counts are small, and each difference has its bit
 pub record IsCounted (ss : List Span) (f : Frame) (b : Band) : Type 0 where
   pub turns : (r k : ℕ) → r < f.height → k < f.width → mark_at b (r * stride f.width + k) ≡ false
       → turns_at b (r * stride f.width + k) ≡ winding (centre (f.left +ℤ pos k) (f.bottom +ℤ pos r)) ss
@@ -73,6 +79,8 @@ pub record IsCounted (ss : List Span) (f : Frame) (b : Band) : Type 0 where
       → IsTrue (mark_at b (r * stride f.width + k)) ↔ Any (IsOn (centre (f.left +ℤ pos k) (f.bottom +ℤ pos r))) ss
   pub rest : (n : ℕ) → IsBeside f 0 f.height n → turns_at b n ≡ pos 0
   pub unused : (n : ℕ) → IsBeside f 0 f.height n → mark_at b n ≡ false
+  pub small : (n : ℕ) → IsWithin (2 ^ 20) (before n b.diff.items)
+  pub touched : AreTouched b.diff.items b.touched.items
 
 -- the bits of a frame's rows: each is set exactly when the pixel's centre is covered, and those after a row's last pixel are 0
 pub record AreBitsOf (ss : List Span) (f : Frame) (words : List ℕ) : Type 0 where

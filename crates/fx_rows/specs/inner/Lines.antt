@@ -1,9 +1,9 @@
 -- The segments of a row, or of a column seen as a row, that a piece meets, and the bits that they have.
 use Rattle.std.specs.Prelude.{◌≡◌, ◌⊎◌, ℕ, ◌+◌, ◌*◌, ◌<◌, ◌≤◌, ℤ, pos, ◌+ℤ◌, ◌-ℤ◌, ◌<ℤ◌, List, Option, Some, None, length}
 use Rattle.fx_winding.specs.Area.{Place}
-use Rattle.fx_winding.specs.Bitmaps.{word_bit}
+use Rattle.fx_winding.specs.Bitmaps.{words_for, word_bit}
 use Rattle.fx_winding.specs.Meets.{IsMet, IsTipPart, IsWithinRow}
-use Rattle.fx_winding.specs.Notes.{pixel_number, words_noted, IsMetAcross, IsMetUp, IsNotedAcross, IsNotedUp}
+use Rattle.fx_winding.specs.Notes.{pixel_number, IsMetAcross, IsMetUp, IsNotedAcross, IsNotedUp}
 use Rattle.fx_winding.specs.Winding.{Span, IsOn, centre}
 use Rattle.fx_winding.specs.declared.frame.Frame.{Frame}
 use Rattle.fx_rows.specs.declared.noted_rows.NotedRow.{NotedRow}
@@ -104,7 +104,7 @@ IsMetUnlessOn s f r k = ¬ (IsOn (centre (f.left +ℤ pos k) ((f.bottom -ℤ pos
 -- n is the bit of a segment across a row of a frame, or of one up to a row or from the highest, which a piece meets, unless an end
 -- of that is on it
 abbrev pub IsAcrossBit : Span → Frame → ℕ → Type 0
-IsAcrossBit s f n = IsRowsBit s f (32 * words_noted f.width) 1 n
+IsAcrossBit s f n = IsRowsBit s f (32 * words_for f.width) 1 n
 
 pub record IsUpBit (s : Span) (f : Frame) (n : ℕ) : Type 0 where
   pub r : ℕ

@@ -1,4 +1,4 @@
-use Rattle.std.proofs.Common.{◌≡◌, subst, ℕ, arith}
+use Rattle.std.proofs.Common.{◌≡◌, subst, ℕ, pos, ◌+ℤ◌, arith}
 use Rattle.fx_rows.specs.inner.Bands.{bounded_span}
 use Rattle.fx_rows.specs.inner.Telling.{AreRowsAdded}
 use Rattle.fx_rows.proofs.Stepping.{strip_row, row_in, inner_row, cut_inside, band_small, at_base, at_base_above}
@@ -9,25 +9,25 @@ pub rows-init : goal.rows-init
 rows-init g c = grind (arith, c.requires.at, added_start)
 
 pub row_of-requires : goal.row_of-requires
-row_of-requires g c = grind (arith, c.rows.invariant.added.frame, c.requires.inner.within, row_in)
+row_of-requires g c = grind (arith, c.rows.invariant.added.frame, c.requires.inner.inner.within, row_in)
 
 pub cut-cut-requires-clause-inner : goal.cut-cut-requires-clause-inner
 cut-cut-requires-clause-inner g c =
-    grind (arith, c.row_of.ensures, c.strip_of-strip.ensures, c.rows.invariant, c.requires.inner, strip_row, inner_row)
+    grind (arith, c.row_of.ensures, c.strip_of-strip.ensures, c.rows.invariant, c.requires.inner.inner, strip_row, inner_row)
 
 pub cut-cut-requires-clause-at : goal.cut-cut-requires-clause-at
 cut-cut-requires-clause-at g c =
     grind (arith, c.row_of.ensures, c.strip_of-strip.ensures, c.rows.invariant, strip_row, at_base)
 
 pub add_cut-requires-clause-up : goal.add_cut-requires-clause-up
-add_cut-requires-clause-up g c = grind (arith, c.rows.invariant.added.frame, c.requires.inner.within, row_in)
+add_cut-requires-clause-up g c = grind (arith, c.rows.invariant.added.frame, c.requires.inner.inner.within, row_in)
 
 pub add_cut-requires-clause-small : goal.add_cut-requires-clause-small
 add_cut-requires-clause-small g c =
     let few = c.args.band.now.few in
-    let r = c.requires.inner.within in
+    let r = c.requires.inner.inner.within in
     band_small (bounded_span c.args.bounded.now) c.args.band.now.frame c.args.rows.first c.rows.up c.args.band.now c.rows.band
-    c.rows.invariant.added.added c.requires.small (omega (arith, few, r))
+    c.rows.invariant.added.added c.requires.inner.small (omega (arith, few, r))
 
 pub add_cut-requires-clause-on : goal.add_cut-requires-clause-on
 add_cut-requires-clause-on g c = cut_inside (bounded_span c.args.bounded.now) c.strip_of-strip.result c.rows.band.frame
@@ -39,10 +39,10 @@ rows-preserved g c =
     let now = c.rows.band.frame in
     let inv = c.rows.invariant in
     let strip = c.strip_of-strip.result in
-    let at = strip_row c.strip_of-strip.result c.row_of.result _ c.row_of.ensures.near c.strip_of-strip.ensures.row
-    c.row_of.ensures.value in
-    let is = cut_end s now strip c.cut-cut.result _ _ at c.strip_of-strip.ensures.first c.strip_of-strip.ensures.last
-    c.saturating_sub-end.ensures c.cut-cut.ensures.cut in
+    let row = now.bottom +ℤ pos c.rows.up in
+    let at = strip_row strip c.row_of.result row c.row_of.ensures.near c.strip_of-strip.ensures.row c.row_of.ensures.value in
+    let is = cut_end s now strip c.cut-cut.result row c.saturating_sub-end.result at c.strip_of-strip.ensures.first
+    c.strip_of-strip.ensures.last c.saturating_sub-end.ensures c.cut-cut.ensures.cut in
     let n = c.cut-cut.ensures.count in
     let m = inv.count in
     record {

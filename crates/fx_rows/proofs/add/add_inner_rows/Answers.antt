@@ -9,7 +9,7 @@ use Rattle.fx_rows.proofs.add.add_inner_rows.Goals as goal
 pub arc_in-requires : goal.arc_in-requires
 arc_in-requires g c =
     let p = c.args.bounded.now.piece in
-    let first = c.requires.inner.inner c.args.rows.first (omega arith) (omega (arith, c.requires.some)) in
+    let first = c.requires.inner.inner.inner c.args.rows.first (omega arith) (omega (arith, c.requires.some)) in
     record { slanted = slanted p.a.y p.c.y _ first }
 
 pub add_cuts-requires-in-Some-clause-at : goal.add_cuts-requires-in-Some-clause-at

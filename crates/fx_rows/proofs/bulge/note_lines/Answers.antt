@@ -11,7 +11,7 @@ note_passed_lines-requires-clause-inner c =
     let b = c.bounds_of-bounded.result in
     let is = between_of (span_of b.piece) b.rise.foot b.rise.head b.rise.value c.args.lines.frame c.rows_met-rows.result
     c.rows_between-inner.result b.rises c.rows_between-inner.ensures in
-    record { within = omega (arith, is.to, c.rows_met-rows.ensures.within); inner = is.inner }
+    record { within = omega (arith, is.high, c.rows_met-rows.ensures.within); inner = is.inner }
 
 pub returns-then-not-has_columns-clause-notes : goal.returns-then-not-has_columns-clause-notes
 returns-then-not-has_columns-clause-notes c =

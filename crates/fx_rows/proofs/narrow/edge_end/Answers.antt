@@ -14,7 +14,8 @@ returns-then-not-edge c = record {
   within = c.requires.edge.edge.within;
   met = λ k h l. absurd (omega (arith, h, l));
   past = λ k h l. past_unmet (place_of c.args.piece.now.a) (place_of c.args.piece.now.c) c.args.strip c.args.edge.at k
-      c.requires.edge.edge c.requires.slanted (λ z. clash_of_not c.args.edge.met c.if-not-edge.true (c.requires.edge.met.1 z)) h l;
+      c.requires.edge.edge c.requires.edge.slanted
+      (λ z. clash_of_not c.args.edge.met c.if-not-edge.true (c.requires.edge.met.1 z)) h l;
 }
 
 pub returns-then-edge-strip : goal.returns-then-edge-strip
@@ -32,5 +33,5 @@ returns c =
       within = omega arith;
       met = λ k h l. met_alone a b c.args.strip c.args.edge.at k h (omega arith)
           (c.requires.edge.met.0 (true_of_not c.args.edge.met c.if-not-edge.false));
-      past = λ k h l. past_met a b c.args.strip c.args.edge.at k c.requires.edge.edge c.requires.slanted (omega arith) l;
+      past = λ k h l. past_met a b c.args.strip c.args.edge.at k c.requires.edge.edge c.requires.edge.slanted (omega arith) l;
     }

@@ -10,7 +10,7 @@ pub returns-then-ends_in-clause-to : goal.returns-then-ends_in-clause-to
 returns-then-ends_in-clause-to c =
     let p = c.args.placed in
     goes_to _ _ _ _ (inr (
-      hanging (span_of c.args.piece.now) (p.frame.bottom +ℤ pos p.met.inner.end) c.requires.plain
+      hanging (span_of c.args.piece.now) (p.frame.bottom +ℤ pos p.inner.end) c.requires.plain
           (c.ends_in.ensures.under c.if-ends_in.true),
       c.head_columns.ensures,
     ))
@@ -21,11 +21,11 @@ columns_passed-requires-clause-inner c =
     let s = span_of c.args.piece.now in
     let p = c.args.placed in
     let over = c.ends_in.ensures.above c.if-ends_in.false in
-    let last = last_row s p.frame p.rows.end p.met.inner.end (omega (arith, p.met.to, p.end)) over
-    (c.requires.placed.met.over p.met.inner.end (omega arith)) in
+    let last = last_row s p.frame p.rows.end p.inner.end (omega (arith, p.end)) over
+    (c.requires.placed.between.over p.inner.end (omega arith)) in
     subst (λ (z : ℤ). IsInner s.a.y s.c.y (pos 128 *ℤ z +ℤ pos 64))
     (sym (row_own c.row_above.ensures.value c.row_above.ensures.near))
-    (one_each s (height_of p.frame p.met.inner.end) (c.requires.under last) over)
+    (one_each s (height_of p.frame p.inner.end) (c.requires.under last) over)
 
 pub returns-clause-to : goal.returns-clause-to
 returns-clause-to c = goes_to _ _ _ _

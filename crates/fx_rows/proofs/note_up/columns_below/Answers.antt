@@ -9,9 +9,9 @@ pub returns-then-starts_in-clause-from : goal.returns-then-starts_in-clause-from
 returns-then-starts_in-clause-from c =
     let s = span_of c.args.piece.now in
     let p = c.args.placed in
-    let first = p.met.inner.first in
-    let under = level_under s p.frame p.rows.first first (omega (arith, p.first, p.met.from))
-    (c.starts_in.ensures.over c.if-starts_in.true) c.requires.placed.met.under in
+    let first = p.inner.first in
+    let under = level_under s p.frame p.rows.first first (omega (arith, p.first))
+    (c.starts_in.ensures.over c.if-starts_in.true) c.requires.placed.between.under in
     comes_from s p.frame first c.foot_columns.result c.requires.plain
     (inr (resting s ((p.frame.bottom -ℤ pos 1) +ℤ pos first) c.requires.plain under, c.foot_columns.ensures))
 
@@ -27,8 +27,8 @@ pub returns-clause-from : goal.returns-clause-from
 returns-clause-from c =
     let s = span_of c.args.piece.now in
     let p = c.args.placed in
-    let first = first_row s p.frame p.rows.first p.met.inner.first (omega (arith, p.first, p.met.from))
-    (c.starts_in.ensures.below c.if-starts_in.false) c.requires.placed.met.under in
+    let first = first_row s p.frame p.rows.first p.inner.first (omega (arith, p.first))
+    (c.starts_in.ensures.below c.if-starts_in.false) c.requires.placed.between.under in
     subst (λ (r : ℕ). ComesFrom s p.frame r c.columns_passed.result) first
     (comes_from s p.frame p.rows.first c.columns_passed.result c.requires.plain
     (inl (subst (λ (z : ℤ). IsPassing s p.frame z c.columns_passed.result)

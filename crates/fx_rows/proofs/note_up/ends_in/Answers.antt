@@ -5,7 +5,7 @@ use Rattle.fx_rows.proofs.Upward.{row_own}
 use Rattle.fx_rows.proofs.note_up.ends_in.Goals as goal
 
 pub returns-then-placed-clause-under : goal.returns-then-placed-clause-under
-returns-then-placed-clause-under c = λ t. c.requires.met.over c.args.placed.met.inner.end (omega arith) (omega arith)
+returns-then-placed-clause-under c = λ t. c.requires.between.over c.args.placed.inner.end (omega arith) (omega arith)
 
 pub returns-clause-under : goal.returns-clause-under
 returns-clause-under c = λ t. subst (λ (z : ℤ). IsAtLeastEnds (span_of c.args.piece.now) (pos 128 *ℤ z +ℤ pos 64))

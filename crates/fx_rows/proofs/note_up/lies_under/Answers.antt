@@ -7,7 +7,7 @@ use Rattle.fx_rows.proofs.note_up.lies_under.Goals as goal
 
 pub returns-then-placed-clause-above : goal.returns-then-placed-clause-above
 returns-then-placed-clause-above c = λ e.
-    let h = c.requires.met.under c.args.placed.rows.first (omega arith) (omega arith) in inl (omega (arith, signed, h.0))
+    let h = c.requires.between.under c.args.placed.rows.first (omega arith) (omega arith) in inl (omega (arith, signed, h.0))
 
 pub returns-clause-under : goal.returns-clause-under
 returns-clause-under c = λ t. subst (λ (z : ℤ). IsAtLeastEnds (span_of c.args.piece.now) (pos 128 *ℤ z +ℤ pos 64))

@@ -27,7 +27,7 @@ rows-preserved c =
     let p = c.args.placed in
     let f = p.frame in
     let row = c.rows.row in
-    let inner = c.requires.placed.met.inner row (omega arith) (omega arith) in
+    let inner = c.requires.placed.between.inner row (omega arith) (omega arith) in
     let end = get_or c.args.ends.now (row - p.rows.first) 0 in
     let is = (end_told c.args.ends.now s p c.requires.placed c.requires.told row (omega arith) (omega arith)).1 in
     let high : Reach = record { first = end; end = end } in
@@ -39,7 +39,7 @@ rows-preserved c =
       from = comes_from s f (row + 1) high c.requires.plain
           (inl (subst (λ (y : ℤ). IsPassing s f y high) (row_next f row) passing));
       notes = record {
-        noted = rows_more (IsNotedUp s f now) p.met.inner.first row
+        noted = rows_more (IsNotedUp s f now) p.inner.first row
             (λ r l m. up_kept s f r c.rows.up now c.note_columns.ensures.kept (c.rows.invariant.notes.noted r l m))
             (c.note_columns.ensures.noted s level.within);
         gained = gain_both (IsUpBit s f) _ _ _ c.rows.invariant.notes.gained
@@ -49,5 +49,5 @@ rows-preserved c =
 
 pub returns-clause-from : goal.returns-clause-from
 returns-clause-from c =
-    let done : c.rows.row ≡ c.args.placed.met.inner.end = omega (arith, c.args.placed.met.inner.order) in
+    let done : c.rows.row ≡ c.args.placed.inner.end = omega (arith, c.args.placed.inner.order) in
     subst (λ (r : ℕ). ComesFrom (span_of c.args.piece.now) c.args.placed.frame r c.rows.low) done c.rows.invariant.from

@@ -37,9 +37,9 @@ returns-then-lies_over-clause-notes c =
     let up = c.note_passage-low.new.up in
     let plain : IsPlain s = record { flat = c.requires.plain; off = c.is_on_line.ensures.off c.if-is_on_line.false } in
     record {
-      noted = λ r h l. all_levels s p.frame p.rows.first p.rows.end p.met up plain c.requires.placed.met
+      noted = λ r h l. all_levels s p.frame p.rows.first p.rows.end p.inner up plain c.requires.placed.between
           c.note_passage-low.ensures.notes.noted
-          (set_under s p.frame p.met.inner.end up plain (c.lies_over.ensures.over c.if-lies_over.true)) r h (omega (arith, l));
+          (set_under s p.frame p.inner.end up plain (c.lies_over.ensures.over c.if-lies_over.true)) r h (omega (arith, l));
       gained = c.note_passage-low.ensures.notes.gained;
     }
 
@@ -53,11 +53,11 @@ returns-clause-notes c =
     let plain : IsPlain s = record { flat = c.requires.plain; off = c.is_on_line.ensures.off c.if-is_on_line.false } in
     let passage = c.note_passage-low.ensures in
     let columns = c.note_columns.ensures in
-    let level : IsLevel s p.frame p.met.inner.end c.joined.result.first c.joined.result.end =
+    let level : IsLevel s p.frame p.inner.end c.joined.result.first c.joined.result.end =
     rw (c.joined.ensures.first, c.joined.ensures.end)
     (c.columns_above-high.ensures.to.level c.note_passage-low.result passage.from) in
     record {
-      noted = λ r h l. all_levels s p.frame p.rows.first p.rows.end p.met c.note_columns.new.up plain c.requires.placed.met
+      noted = λ r h l. all_levels s p.frame p.rows.first p.rows.end p.inner c.note_columns.new.up plain c.requires.placed.between
           (λ q m o. up_kept s p.frame q c.note_passage-low.new.up c.note_columns.new.up columns.kept (passage.notes.noted q m o))
           (columns.noted s level.within) r h (omega (arith, l));
       gained = gain_both (IsUpBit s p.frame) _ _ _ passage.notes.gained

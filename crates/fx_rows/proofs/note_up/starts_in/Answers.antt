@@ -7,7 +7,7 @@ use Rattle.fx_rows.proofs.note_up.starts_in.Goals as goal
 
 pub returns-then-placed-clause-over : goal.returns-then-placed-clause-over
 returns-then-placed-clause-over c = λ t.
-    let h = c.requires.met.under c.args.placed.rows.first (omega arith) (omega arith) in
+    let h = c.requires.between.under c.args.placed.rows.first (omega arith) (omega arith) in
     (omega (arith, signed, h.0), omega (arith, signed, h.1))
 
 pub returns-clause-over : goal.returns-clause-over

@@ -1,4 +1,5 @@
-use Rattle.std.proofs.Common.{◌≡◌, ◌∙◌, ℕ, ◌+◌, ◌*◌, ◌<◌, ◌↔◌, subst, sym, ap, pos, ◌+ℤ◌, map, arith, ℤ, List, length}
+use Rattle.std.proofs.Common.{◌≡◌, ◌∙◌, inl, inr, get_or, ℕ, ◌+◌, ◌*◌, ◌<◌, ◌↔◌, subst, sym, ap, pos}
+use Rattle.std.proofs.Common.{◌+ℤ◌, map, arith, ℤ, List, length}
 use Rattle.std.specs.Vec.{with_items}
 use Rattle.std.proofs.lemmas.List.{with_items_is}
 use Rattle.fx_winding.specs.Bitmaps.{words_for, word_bit}
@@ -19,25 +20,26 @@ settled_bit new line marks marks' diff diff' n el em ed h =
     ap (λ (ws : List ℕ). word_bit ws n) el ∙ h ∙ (λ i. count_bit (before (n + 1) (ed i)) (word_bit (em i) n))
 
 pub returns-clause-clear : goal.returns-clause-clear
-returns-clause-clear g c =
-    grind (
-      arith,
-      c.count_band.ensures,
-      c.settle.ensures,
-      c.deref_mut-3.ensures.value,
-      c.deref_mut.ensures.value,
-      below_or_not,
-      with_items_is,
-      past_marks,
-    )
+returns-clause-clear g c k =
+    let b = c.count_band.new.band in
+    let diff = c.settle.new.diff in
+    let marks : length c.deref_mut-3.result.now ≡ length b.marks.items = ap length c.deref_mut-3.ensures.value in
+    ap (λ (xs : List ℤ). get_or xs k (pos 0)) (with_items_is b.diff diff (omega arith))
+    ∙ elim (below_or_not k (32 * length c.deref_mut-3.result.now)) [
+      | inl l ↦ c.settle.ensures.emptied.done k l
+      | inr l ↦ c.settle.ensures.emptied.rest k l ∙ ap (λ (xs : List ℤ). get_or xs k (pos 0)) c.deref_mut.ensures.value
+          ∙ past_marks (map span_of c.args.pieces.now) c.args.band.now.frame b k
+          (b.room ∙ ap (λ (x : Frame). x.height * words_for x.width) c.count_band.ensures.frame) c.count_band.ensures.counted
+          (omega (arith, l, marks))
+    ]
 
 pub returns-clause-covered : goal.returns-clause-covered
 returns-clause-covered g c =
     let b = c.count_band.new.band in
     let f = c.args.band.now.frame in
     let counted = c.count_band.ensures.counted in
-    let room : length b.marks.items ≡ f.height * words_for f.width + 1 =
-    b.room ∙ ap (λ (x : Frame). x.height * words_for x.width + 1) c.count_band.ensures.frame in
+    let room : length b.marks.items ≡ f.height * words_for f.width =
+    b.room ∙ ap (λ (x : Frame). x.height * words_for x.width) c.count_band.ensures.frame in
     let long : length c.deref_mut-3.result.now ≡ length b.marks.items = ap length c.deref_mut-3.ensures.value in
     let whole : (r k : ℕ) → r < f.height → k < stride f.width → word_bit (with_items b.marks c.settle.new.line).items
     (r * stride f.width + k) ≡ count_bit (before (r * stride f.width + k + 1) b.diff.items)

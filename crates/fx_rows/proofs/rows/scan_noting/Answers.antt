@@ -1,4 +1,5 @@
-use Rattle.std.proofs.Common.{◌≡◌, ◌∙◌, refl, ap, sym, subst, ℕ, ◌+◌, ◌-◌, ◌*◌, ◌<◌, ◌≤◌, nat_eq, IsTrue, List, [], ◌∷◌, All, map, take, length, arith}
+use Rattle.std.proofs.Common.{◌≡◌, ◌∙◌, refl, ap, sym, subst, ℕ, ◌+◌, ◌-◌, ◌*◌, ◌<◌, ◌≤◌, nat_eq, IsTrue, List, [], ◌∷◌, All}
+use Rattle.std.proofs.Common.{map, length, arith}
 use Rattle.fx_rows.specs.Parts.{digits}
 use Rattle.fx_winding.specs.declared.frame.Frame.{Frame}
 use Rattle.fx_winding.specs.declared.point.Piece.{Piece}
@@ -37,7 +38,7 @@ cover_band-requires g c =
 pub returns-in_err-band-clause-count : goal.returns-in_err-band-clause-count
 returns-in_err-band-clause-count g c =
     let count = c.bands.invariant.count in
-    let fit = tests_fit (length c.args.pieces.now) (12 + g.N.Noting.tests) c.bands.from c.args.frame.height
+    let fit = tests_fit (length c.args.pieces.now) (12 + g.N.Noting.general + g.N.Noting.tests) c.bands.from c.args.frame.height
     (digits c.args.frame.width) (omega arith) in
     omega (arith, count, fit)
 
@@ -54,19 +55,15 @@ bands-preserved g c =
     let same = c.as_slice.ensures.value in
     let part : IsPartOf f c.bands.from c.band_end.result x =
     subst (IsPartOf f c.bands.from c.band_end.result) (sym c.in_ok-band.ensures.frame) c.band_of.ensures in
-    let frame = c.cover_band.ensures.frame in
-    let room : length b.marks.items ≡ x.height * words_for x.width + 1 =
-    b.room ∙ ap (λ (y : Frame). y.height * words_for y.width + 1) frame in
-    let is : take (b.frame.height * words_for b.frame.width) b.marks.items ≡ take (x.height * words_for x.width) b.marks.items =
-    ap (λ (y : Frame). take (y.height * words_for y.width) b.marks.items) frame in
+    let room : length b.marks.items ≡ x.height * words_for x.width =
+    b.room ∙ ap (λ (y : Frame). y.height * words_for y.width) c.cover_band.ensures.frame in
     let scanned = scanned_band (map span_of c.as_slice.result.now) f x c.bands.from c.band_end.result b.marks.items
-    c.bands.words.items (take (b.frame.height * words_for b.frame.width) b.marks.items) _ part is room
-    c.cover_band.ensures.covered.bits c.cover_band.ensures.covered.unused c.in_ok-words-2.ensures
+    c.bands.words.items _ part room c.cover_band.ensures.covered c.in_ok-words-2.ensures
     (subst (λ (ps : List Piece). AreScanned (map span_of ps) f.left f.bottom f.width c.bands.from c.bands.words.items) (sym same)
     c.bands.invariant.scanned) in
-    let count = bands_more c.args.tally.now.count c.bands.tally.count c.cover_band.new.tally.count (12 + g.N.Noting.tests)
-    (g.N.Noting.more f) c.bands.from x.height c.band_end.result c.as_slice.result.now c.args.pieces.now same (omega arith)
-    part.height c.bands.invariant.count c.cover_band.ensures.count in
+    let count = bands_more c.args.tally.now.count c.bands.tally.count c.cover_band.new.tally.count
+    (12 + g.N.Noting.general + g.N.Noting.tests) (g.N.Noting.more f) c.bands.from x.height c.band_end.result
+    c.as_slice.result.now c.args.pieces.now same (omega arith) part.height c.bands.invariant.count c.cover_band.ensures.count in
     grind (arith, same, c.bands.invariant, scanned, c.cover_band.ensures, count)
 
 pub returns-in_err-words-2-clause-count : goal.returns-in_err-words-2-clause-count
@@ -74,17 +71,17 @@ returns-in_err-words-2-clause-count g c =
     let f = c.args.frame in
     let part : IsPartOf f c.bands.from c.band_end.result c.in_ok-band.band.frame =
     subst (IsPartOf f c.bands.from c.band_end.result) (sym c.in_ok-band.ensures.frame) c.band_of.ensures in
-    let count = bands_more c.args.tally.now.count c.bands.tally.count c.cover_band.new.tally.count (12 + g.N.Noting.tests)
-    (g.N.Noting.more f) c.bands.from _ c.band_end.result c.as_slice.result.now c.args.pieces.now c.as_slice.ensures.value
-    (omega arith) part.height c.bands.invariant.count c.cover_band.ensures.count in
-    let fit = tests_fit (length c.args.pieces.now) (12 + g.N.Noting.tests) c.band_end.result f.height (digits f.width)
-    (omega arith) in
+    let count = bands_more c.args.tally.now.count c.bands.tally.count c.cover_band.new.tally.count
+    (12 + g.N.Noting.general + g.N.Noting.tests) (g.N.Noting.more f) c.bands.from _ c.band_end.result c.as_slice.result.now
+    c.args.pieces.now c.as_slice.ensures.value (omega arith) part.height c.bands.invariant.count c.cover_band.ensures.count in
+    let fit = tests_fit (length c.args.pieces.now) (12 + g.N.Noting.general + g.N.Noting.tests) c.band_end.result f.height
+    (digits f.width) (omega arith) in
     omega (arith, count, fit)
 
 pub returns-clause-count : goal.returns-clause-count
 returns-clause-count g c =
     let count = c.bands.invariant.count in
-    let fit = tests_fit (length c.args.pieces.now) (12 + g.N.Noting.tests) c.bands.from c.args.frame.height
+    let fit = tests_fit (length c.args.pieces.now) (12 + g.N.Noting.general + g.N.Noting.tests) c.bands.from c.args.frame.height
     (digits c.args.frame.width) (omega arith) in
     omega (arith, count, fit)
 

@@ -1,8 +1,8 @@
 use Rattle.std.proofs.Common.{◌≡◌, ◌∙◌, ◌↔◌, sym, ap, subst, ◌+◌, ◌*◌, ◌/◌, ◌%◌, ◌<◌, ℕ, List, length, map, arith}
 use Rattle.std.proofs.lemmas.List.{with_items_is}
-use Rattle.fx_winding.specs.Bitmaps.{word_bit}
+use Rattle.fx_winding.specs.Bitmaps.{words_for, word_bit}
 use Rattle.fx_winding.specs.Turned.{turned_span}
-use Rattle.fx_winding.specs.Notes.{words_noted, AreExact, IsMetOf}
+use Rattle.fx_winding.specs.Notes.{AreExact, IsMetOf}
 use Rattle.fx_winding.specs.Winding.{Span, span_of}
 use Rattle.fx_winding.proofs.Numbered.{exact_noted, few_words, turned_margin}
 use Rattle.fx_winding.proofs.notes.Notes.of.Goals as goal
@@ -30,19 +30,19 @@ returns-clause-exact c =
     let f = c.args.frame in
     let ss = map span_of c.args.pieces.now in
     let at = c.turned-columns.ensures in
-    let size : 32 * c.words_noted-size.result ≡ 32 * words_noted f.width = ap (λ (w : ℕ). 32 * w) c.words_noted-size.ensures in
+    let size : 32 * c.words_for-size.result ≡ 32 * words_for f.width = ap (λ (w : ℕ). 32 * w) c.words_for-size.ensures in
     let same = c.in_ok-notes.ensures.frame in
-    let long : length c.deref_mut.result.now ≡ f.height * words_noted f.width =
-    ap length c.deref_mut.ensures.value ∙ n.across_room ∙ (λ i. (same i).height * words_noted (same i).width) in
-    let high : length c.deref_mut-2.result.now ≡ (f.height + 1) * words_noted f.width =
-    ap length c.deref_mut-2.ensures.value ∙ n.up_room ∙ (λ i. ((same i).height + 1) * words_noted (same i).width) in
+    let long : length c.deref_mut.result.now ≡ f.height * words_for f.width =
+    ap length c.deref_mut.ensures.value ∙ n.across_room ∙ (λ i. (same i).height * words_for (same i).width) in
+    let high : length c.deref_mut-2.result.now ≡ (f.height + 1) * words_for f.width =
+    ap length c.deref_mut-2.ensures.value ∙ n.up_room ∙ (λ i. ((same i).height + 1) * words_for (same i).width) in
     let rows = c.note_rows.new.bits in
     let columns = c.note_columns.new.bits in
     let across = subst (λ (w : ℕ). (i : ℕ) → i < 32 * length c.deref_mut.result.now
     → (word_bit rows i ≡ 1) ↔ IsMetOf f ss (i / w) (i % w)) size c.note_rows.ensures in
     let turned = subst (λ (ts : List Span). (i : ℕ) → i < 32 * length c.deref_mut-2.result.now
     → (word_bit columns i ≡ 1)
-    ↔ IsMetOf c.turned-columns.result ts (i % (32 * c.words_noted-size.result)) (i / (32 * c.words_noted-size.result)))
+    ↔ IsMetOf c.turned-columns.result ts (i % (32 * c.words_for-size.result)) (i / (32 * c.words_for-size.result)))
     c.in_ok-exchanged.ensures c.note_columns.ensures in
     let up = subst (λ (w : ℕ). (i : ℕ) → i < 32 * length c.deref_mut-2.result.now
     → (word_bit columns i ≡ 1) ↔ IsMetOf c.turned-columns.result (map turned_span ss) (i % w) (i / w)) size turned in
