@@ -29,11 +29,13 @@ fn leave_open_across(noted: &mut [u32], words: &[u32])
     requires { length noted.old ≡ length words.now }
     ensures { AreOpen 1 noted.old words.now noted.new }
 {
-    let mut before = 0;
-    // In the first w words the open segments are left. `before` is the word before w, or 0.
-    'words: for w in 0..words.len() {
-        noted[w] = gaps_of(noted[w], left_of(before, words[w]), words[w]);
-        before = words[w];
+    if words.is_empty() {
+        return;
+    }
+    noted[0] = gaps_of(noted[0], left_of(0, words[0]), words[0]);
+    // In the first w words the open segments are left.
+    'words: for w in 1..words.len() {
+        noted[w] = gaps_of(noted[w], left_of(words[w - 1], words[w]), words[w]);
     }
 }
 

@@ -1,12 +1,11 @@
 -- The first and the last bit of a word.
 -- Serves `words`.
-use Rattle.std.proofs.Common.{◌≡◌, inl, inr, ap, ◌∙◌, ℕ, suc, ◌+◌, ◌-◌, ◌*◌, ◌^◌, ◌<◌, ◌≤◌, arith, w32}
+use Rattle.std.proofs.Common.{◌≡◌, ap, ◌∙◌, ℕ, suc, ◌+◌, ◌-◌, ◌*◌, ◌^◌, ◌<◌, ◌≤◌, arith, w32}
 use Rattle.std.specs.Int.{bit_at}
 use Rattle.std.specs.Int.Count.{count_leading_zeros, count_trailing_zeros}
 use Rattle.std.proofs.Math.Nat.{pow-succ'}
 use Rattle.std.proofs.lemmas.Nat.{leading_top}
 use Rattle.std.proofs.lemmas.Nat.Bits.{bit_at_cat_high, bit_at_above, bit_at-trailing_zeros}
-use Rattle.fx_fixed.proofs.Order.{below_or_not}
 
 -- a number from 2 ^ j up to below 2 ^ (j + 1) has the bit j
 top_bit : (a j : ℕ) → 2 ^ j ≤ a → a < 2 ^ suc j → bit_at a j ≡ 1
@@ -29,9 +28,3 @@ last_bit a h k = grind (arith, bit_at-trailing_zeros w32 a h k)
 
 pub none_after : (a i : ℕ) → 0 < a → a < 4294967296 → 31 - count_trailing_zeros 32 a < i → i < 32 → bit_at a (31 - i) ≡ 0
 none_after a i h k l m = let t = bit_at-trailing_zeros w32 a h k in t.2 (31 - i) (omega (arith, t.0))
-
-pub no_later : (a i : ℕ) → 0 < a → a < 4294967296 → i < 32 → bit_at a (31 - i) ≡ 1 → i ≤ 31 - count_trailing_zeros 32 a
-no_later a i h k m e = elim (below_or_not (31 - count_trailing_zeros 32 a) i) [
-  | inl l ↦ let z = none_after a i h k l m in omega (arith, e, z)
-  | inr l ↦ l
-]

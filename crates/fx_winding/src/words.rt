@@ -33,13 +33,12 @@ pub fn first_in(word: u32) -> u32
 }
 
 /// The last pixel of a word that is set, if any is.
-#[tactic(auto, using(crate::proofs::WordEnds::last_bit, crate::proofs::WordEnds::none_after, crate::proofs::WordEnds::no_later))]
+#[tactic(auto, using(crate::proofs::WordEnds::last_bit, crate::proofs::WordEnds::none_after))]
 pub fn last_in(word: u32) -> u32
     requires { 0 < word }
     ensures within { result < 32 }
     ensures set { bit_at word (31 - result) ≡ 1 }
     ensures after { (i : ℕ) → result < i → i < 32 → bit_at word (31 - i) ≡ 0 }
-    ensures last { (i : ℕ) → i < 32 → bit_at word (31 - i) ≡ 1 → i ≤ result }
 {
     31 - word.trailing_zeros()
 }

@@ -22,7 +22,7 @@ abbrev pub distance : Bool → Frame → ℕ
 distance false f = 1
 distance true f = stride f
 
--- the words that have segments: up columns there is a row of them more
+-- how many rows of words the segments have: up columns there is one more
 abbrev pub segment_rows : Bool → Frame → ℕ
 segment_rows false f = f.height
 segment_rows true f = f.height + 1

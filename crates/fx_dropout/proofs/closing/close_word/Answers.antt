@@ -1,4 +1,4 @@
-use Rattle.std.proofs.Common.{◌+◌, ◌*◌, arith}
+use Rattle.std.proofs.Common.{◌+◌, ◌*◌, ◌≤◌, arith}
 use Rattle.fx_dropout.proofs.Gaps.{closed_outside, closed_then, counted_to}
 use Rattle.fx_dropout.proofs.closing.close_word.Goals as goal
 
@@ -26,18 +26,18 @@ segments-preserved c =
 
 pub returns-clause-closed : goal.returns-clause-closed
 returns-clause-closed c =
-    let after = c.last_in.ensures.after in
-    let order = c.last_in.ensures.last c.first_in.result c.first_in.ensures.within c.first_in.ensures.set in
-    let end = c.segments-test.false in
+    let order : c.first_in.result ≤ c.last_in.result =
+    grind (arith, c.first_in.ensures, c.last_in.ensures.after c.first_in.result) in
     closed_then c.args.chooser.now c.args.is_up c.args.gaps.now (32 * c.args.word) c.segments.segment (32 * (c.args.word + 1))
     c.args.words.now c.segments.words c.segments.words (omega arith)
     (omega (arith, order, c.segments.auto.segment-end, c.last_in.ensures.within)) c.segments.invariant.closed
     (closed_outside c.args.chooser.now c.args.is_up c.args.gaps.now c.args.word c.segments.segment _ c.segments.words (omega arith)
-    (omega arith) (λ i h l. after i (omega (arith, end, h)) (omega (arith, l))))
+    (omega arith) (λ i h l. c.last_in.ensures.after i (omega (arith, c.segments-test.false, h)) (omega (arith, l))))
 
 pub returns-clause-count : goal.returns-clause-count
 returns-clause-count c =
-    let order = c.last_in.ensures.last c.first_in.result c.first_in.ensures.within c.first_in.ensures.set in
+    let order : c.first_in.result ≤ c.last_in.result =
+    grind (arith, c.first_in.ensures, c.last_in.ensures.after c.first_in.result) in
     counted_to c.args.chooser.now c.args.is_up (32 * c.args.word) c.segments.segment (32 * (c.args.word + 1))
     c.args.tally.now.count c.segments.tally.count
     (omega (arith, order, c.segments.auto.segment-end, c.last_in.ensures.within)) c.segments.invariant.count
