@@ -1,5 +1,5 @@
 -- A segment that a piece meets is at an end of what the piece adds, or has an end of the piece or its tip within: `met_candidate`.
--- Serves `note_line`.
+-- Serves `note_part`.
 use Rattle.std.proofs.Common.{◌↔◌, IsTrue, Bool, false, ◌≡◌, ◌≢◌, ◌⊎◌, inl, inr, refl, sym, ap, ◌∙◌, subst, ℕ, zero, suc, ◌+◌, ◌*◌, ◌<◌, ◌≤◌, ℤ, pos, ◌+ℤ◌, ◌-ℤ◌, ◌*ℤ◌}
 use Rattle.std.proofs.Common.{neg_ℤ, ◌≤ℤ◌, ◌<ℤ◌, Option, Some, None, List, [], ◌∷◌, arith}
 use Rattle.fx_fixed.specs.Polynomial.{var, num, ◌⊞◌, ◌⊠◌, ◌⊟◌, Expr}

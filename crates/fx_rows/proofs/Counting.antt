@@ -13,7 +13,7 @@ use Rattle.fx_rows.specs.Parts.{IsBent, IsBentPart}
 use Rattle.fx_rows.specs.inner.Sides.{place_at, side, IsAcross, IsEdge}
 use Rattle.fx_rows.specs.inner.Arcs.{gap, IsTurnedPart}
 use Rattle.fx_rows.specs.inner.Candidates.{IsOnStrip}
-use Rattle.fx_rows.specs.inner.Cuts.{Counts, CountsAt, CountsFirst, IsEndOfCount, IsLast, IsCut}
+use Rattle.fx_rows.specs.inner.Cuts.{Counts, CountsAt, CountsFirst, IsEndOfCount, IsLast, IsStripEnd, IsCut}
 use Rattle.fx_winding.proofs.Beside.{left_off, right_off}
 use Rattle.fx_winding.proofs.Crossings.{crossing_left, left_of_rising, left_of_falling, right_of_rising, right_of_falling}
 use Rattle.fx_rows.specs.inner.Points.{IsPointOf, AreAcross, IsInner, IsRise}
@@ -299,30 +299,24 @@ rise_told s foot head value h = grind (arith, ints, signed_linear, below_or_not_
 sign_told : (s : Span) (y : ℤ) → IsInner s.a.y s.c.y y → rise_value s ≡ sign (s.c.y -ℤ s.a.y)
 sign_told s y h = grind (arith, ints, signed_linear, h, sign_above, sign_below)
 
-pub arc_is_cut : (s : Span) (r : Bool) (strip : Strip) (end : ℕ) (cut : Cut) → BendsPart s.a s.b s.c r strip
-    → IsEndOfCount s r strip end → cut.end ≡ min end strip.stop → IsInner s.a.y s.c.y (pos 128 *ℤ strip.row +ℤ pos 64)
-    → cut.value ≡ rise_value s → IsOnStrip s strip cut.on → IsCut s strip cut
-arc_is_cut s r strip end cut h e at inner value on = record {
-  inside = λ k l m o off. inside_part s.a s.b s.c r strip k h off (e.inside k (omega (arith, at)))
-      ∙ sym (value ∙ sign_told s _ inner);
-  value = value;
-  outside = λ k l m o off. outside_part s.a s.b s.c r strip k h off (e.outside k (omega (arith, at)) m);
-  within = omega (arith, at);
-  on = on;
+pub arc_end : (s : Span) (r : Bool) (strip : Strip) (at end : ℕ) → BendsPart s.a s.b s.c r strip → IsEndOfCount s r strip at
+    → end ≡ min at strip.stop → IsInner s.a.y s.c.y (pos 128 *ℤ strip.row +ℤ pos 64) → IsStripEnd s strip end
+arc_end s r strip at end h e is inner = record {
+  inside = λ k l m o off. inside_part s.a s.b s.c r strip k h off (e.inside k (omega (arith, is))) ∙ sym (sign_told s _ inner);
+  outside = λ k l m o off. outside_part s.a s.b s.c r strip k h off (e.outside k (omega (arith, is)) m);
+  within = omega (arith, is);
 }
 
 -- ---- for a line
-pub line_is_cut : (s : Span) (strip : Strip) (cut : Cut) → ¬ (IsBent s) → IsInner s.a.y s.c.y (pos 128 *ℤ strip.row +ℤ pos 64)
-    → IsEdge s.a s.c strip cut.end → cut.value ≡ rise_value s → IsOnStrip s strip cut.on → IsCut s strip cut
-line_is_cut s strip cut flat inner e value on = record {
+pub line_end : (s : Span) (strip : Strip) (end : ℕ) → ¬ (IsBent s) → IsInner s.a.y s.c.y (pos 128 *ℤ strip.row +ℤ pos 64)
+    → IsEdge s.a s.c strip end → IsStripEnd s strip end
+line_end s strip end flat inner e = record {
   inside = λ k l m o off. first_only _ _ _
-      (crossing_of_left s.a s.c (place_at strip k) (across s.a.y s.c.y _ inner) (e.left k o) ∙ sym (value ∙ sign_told s _ inner))
+      (crossing_of_left s.a s.c (place_at strip k) (across s.a.y s.c.y _ inner) (e.left k o) ∙ sym (sign_told s _ inner))
       (no_region_flat s (place_at strip k) flat);
-  value = value;
   outside = λ k l m o off. both_zero _ _ (crossing_of_rest s.a s.c (place_at strip k) (e.rest k o m))
       (no_region_flat s (place_at strip k) flat);
   within = e.within;
-  on = on;
 }
 
 -- ---- for a piece whose box has no column's centre in it
@@ -336,18 +330,19 @@ right_crossing a c p l m = grind (arith, signed_linear, l, m, crossing_left, rig
 pub clear_is_cut : (s : Span) (strip : Strip) (cut : Cut) (first end : ℤ) → AreAcross s first end → end ≤ℤ first
     → IsInner s.a.y s.c.y (pos 128 *ℤ strip.row +ℤ pos 64) → cut.end ≤ strip.stop
     → ((k : ℕ) → k < cut.end → (strip.base +ℤ pos k) <ℤ first)
-    → ((k : ℕ) → cut.end ≤ k → k < strip.stop → first ≤ℤ (strip.base +ℤ pos k)) → cut.value ≡ rise_value s
+    → ((k : ℕ) → cut.end ≤ k → k < strip.stop → first ≤ℤ (strip.base +ℤ pos k))
     → cut.on ≡ Nowhere → IsCut s strip cut
-clear_is_cut s strip cut first end h clear inner within before rest value none = record {
-  inside = λ k l m o off. first_only _ _ _
-      (left_crossing s.a s.c (place_at strip k) inner (left k o s.a (inl refl)) (left k o s.c (inr (inr refl)))
-      ∙ sym (value ∙ sign_told s _ inner))
-      (left_off (place_at strip k) s (to_all (λ q. (place_at strip k).x <ℤ q.x) s (left k o))).0;
-  value = value;
-  outside = λ k l m o off. both_zero _ _
-      (right_crossing s.a s.c (place_at strip k) (right k o m s.a (inl refl)) (right k o m s.c (inr (inr refl))))
-      (right_off (place_at strip k) s (to_all (λ q. q.x <ℤ (place_at strip k).x) s (right k o m))).0;
-  within = within;
+clear_is_cut s strip cut first end h clear inner within before rest none = record {
+  end = record {
+    inside = λ k l m o off. first_only _ _ _
+        (left_crossing s.a s.c (place_at strip k) inner (left k o s.a (inl refl)) (left k o s.c (inr (inr refl)))
+        ∙ sym (sign_told s _ inner))
+        (left_off (place_at strip k) s (to_all (λ q. (place_at strip k).x <ℤ q.x) s (left k o))).0;
+    outside = λ k l m o off. both_zero _ _
+        (right_crossing s.a s.c (place_at strip k) (right k o m s.a (inl refl)) (right k o m s.c (inr (inr refl))))
+        (right_off (place_at strip k) s (to_all (λ q. q.x <ℤ (place_at strip k).x) s (right k o m))).0;
+    within = within;
+  };
   on = subst (IsOnStrip s strip) (sym none) (none_on s strip (λ k l m. off k m (below_or_not k cut.end)));
 }
   where

@@ -17,8 +17,7 @@ use Rattle.fx_winding.specs.Turned.{turned_span}
 use Rattle.fx_winding.specs.Notes.{AreExact, AreOff, pixel_number, IsMetUp}
 use Rattle.fx_winding.specs.Winding.{Span, IsOn, centre}
 use Rattle.fx_rows.specs.declared.strip.Strip.{Strip}
-use Rattle.fx_rows.specs.declared.cells.Cut.{Cut}
-use Rattle.fx_rows.specs.inner.Cuts.{IsCut}
+use Rattle.fx_rows.specs.inner.Cuts.{IsStripEnd}
 use Rattle.fx_rows.specs.declared.band.Band.{Band}
 use Rattle.fx_rows.specs.declared.heights.RowRange.{RowRange}
 use Rattle.fx_rows.specs.inner.Bands.{stride, IsRowAdded, IsBandAdded}
@@ -34,13 +33,13 @@ use Rattle.fx_rows.proofs.Banding.{band_none, band_three, band_missed}
 use Rattle.fx_rows.proofs.Stepping.{band_next}
 
 -- ---- the end of one row
-pub cut_end : (s : Span) (f : Frame) (strip : Strip) (cut : Cut) (row : ℤ) (n : ℕ) → strip.row ≡ row
+pub cut_end : (s : Span) (f : Frame) (strip : Strip) (end : ℕ) (row : ℤ) (n : ℕ) → strip.row ≡ row
     → strip.base +ℤ pos strip.start ≡ f.left → strip.base +ℤ pos strip.stop ≡ f.left +ℤ pos f.width
-    → n ≡ cut.end - strip.start → IsCut s strip cut → IsEndOn s f row n
-cut_end s f strip cut row n at_row first last e is = record {
+    → n ≡ end - strip.start → IsStripEnd s strip end → IsEndOn s f row n
+cut_end s f strip end row n at_row first last e is = record {
   within = let w = is.within in omega (arith, signed_linear, first, last, e, w);
   left = λ k h off. ap (λ (q : Place). turn q s) (sym (at k)) ∙ is.inside (strip.start + k) (omega arith)
-      (let w = is.within in omega (arith, e, h, w)) (omega (arith, e, h)) (off_at k off) ∙ is.value;
+      (let w = is.within in omega (arith, e, h, w)) (omega (arith, e, h)) (off_at k off);
   right = λ k h l off. ap (λ (q : Place). turn q s) (sym (at k)) ∙ is.outside (strip.start + k) (omega arith)
       (omega (arith, signed_linear, first, last, l)) (omega (arith, e, h)) (off_at k off);
 }

@@ -2,7 +2,7 @@
 
 ghost use Rattle.std.specs.Prelude.{◌≡◌, ℕ, ◌+◌, ◌-◌, ◌*◌, ◌^◌, ◌<◌, ◌≤◌, pos, ◌+ℤ◌, ◌<ℤ◌, Some};
 ghost use Rattle.fx_winding.specs.Winding.{Span, span_of};
-ghost use Rattle.fx_rows.specs.Parts.{IsBent, IsRowPart};
+ghost use Rattle.fx_rows.specs.Parts.{IsRowPart};
 ghost use Rattle.fx_rows.specs.inner.Placing.{IsPieceAdded};
 ghost use Rattle.fx_rows.specs.inner.Strips.{base_place};
 ghost use Rattle.fx_rows.specs.inner.Sides.{place_at};
@@ -99,17 +99,16 @@ fn add_met_rows<N: Noting>(
 /// Adds a cut to the counts and the marks of its row, in which `end` columns come before its end.
 #[inline(always)]
 #[tactic(auto, using(fx_fixed::proofs::Linear::signed_linear))]
-fn add_cut(band: &mut Band, up: u32, strip: Strip, end: u32, cut: Cut)
+fn add_cut(bounded: &Bounded, band: &mut Band, up: u32, strip: Strip, end: u32, cut: Cut)
     requires up { up < band.old.frame.height }
     requires small { AreWithin (2 ^ 26) band.old.diff.items }
     requires first { strip.base +ℤ pos strip.start ≡ band.old.frame.left }
     requires last { strip.base +ℤ pos strip.stop ≡ band.old.frame.left +ℤ pos band.old.frame.width }
-    requires stop { cut.end ≤ strip.stop }
     requires end { end ≡ cut.end - strip.start }
-    requires on { IsOnInside band.old.frame cut.on }
+    requires cut { IsCut (bounded_span bounded.now) strip cut }
     ensures frame { band.new.frame ≡ band.old.frame }
-    ensures added { (s : Span) → IsCut s strip cut →
-        IsRowAdded s band.old.frame strip.row (up * stride band.old.frame.width) band.old band.new }
+    ensures added { IsRowAdded (bounded_span bounded.now) band.old.frame strip.row (up * stride band.old.frame.width)
+        band.old band.new }
 {
     let frame = band.frame;
     let first = band.first_of(up);
@@ -118,7 +117,7 @@ fn add_cut(band: &mut Band, up: u32, strip: Strip, end: u32, cut: Cut)
         &mut band.touched,
         first,
         end as usize,
-        cut.value,
+        bounded.rise.value,
     );
     mark(&mut band.marks, frame, first, cut.on);
 }
@@ -145,30 +144,9 @@ fn add_cuts<C: Cuts + Drop, N: Noting>(
         let cut = cuts.cut(bounded, strip, tally);
         let end = cut.end.saturating_sub(strip.start);
         noter.tell(up, end);
-        add_cut(band, up, strip, end, cut);
+        add_cut(bounded, band, up, strip, end, cut);
         cuts.move_up(bounded, strip);
     }
-}
-
-/// Adds what a line gives to rows between its ends, or an arc whose points are on one.
-fn add_line_rows<N: Noting>(
-    bounded: &Bounded,
-    rows: RowRange,
-    strip: Strip,
-    band: &mut Band,
-    noter: &mut N,
-    tally: &mut Tally,
-)
-    requires straight { ¬ (IsBent (bounded_span bounded.now)) }
-    requires inner { AreInnerRows bounded.now band.old rows.first rows.end }
-    requires base { place_at strip 0 ≡ base_place band.old.frame rows.first }
-    ensures added { AreRowsAdded (N.IsTold noter.new) (bounded_span bounded.now) rows.first rows.end band.old band.new }
-    ensures kept { Keeps (N.Says noter.old) (N.Says noter.new) }
-    ensures count { tally.new.count ≤ tally.old.count + (1 + (rows.end - rows.first)) }
-{
-    let areas = areas_at(&bounded.piece, strip, 0, tally);
-    let side = base_side(&bounded.piece, strip, areas);
-    add_cuts(bounded, LineCuts { side }, rows, band, noter, tally);
 }
 
 /// Adds what a piece gives to rows between its ends.
@@ -189,11 +167,14 @@ fn add_inner_rows<N: Noting>(
     if bounded.across.end <= bounded.across.first {
         return add_cuts(bounded, ClearCuts, rows, band, noter, tally);
     }
+    let piece = &bounded.piece;
     let strip = strip_of(band.frame, row_of(band.frame, rows.first));
-    match arc_in(&bounded.piece, strip, tally) {
-        Some(cuts) => add_cuts(bounded, cuts, rows, band, noter, tally),
-        None => add_line_rows(bounded, rows, strip, band, noter, tally),
+    if let Some(cuts) = arc_in(piece, strip, tally) {
+        return add_cuts(bounded, cuts, rows, band, noter, tally);
     }
+    let areas = areas_at(piece, strip, 0, tally);
+    let side = base_side(piece, strip, areas);
+    add_cuts(bounded, LineCuts { side }, rows, band, noter, tally);
 }
 
 /// Adds what a piece gives to the rows of a band that it can touch, and returns those of them that pass between its ends. The

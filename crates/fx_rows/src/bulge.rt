@@ -107,14 +107,15 @@ pub(crate) fn is_bulge(piece: &Piece) -> bool
 pub(crate) fn note_part(
     bounded: &Bounded,
     part: &RowPart,
-    line: NotedRow,
+    line: &NotedRow,
     bits: &mut [u32],
     tally: &mut Tally,
 )
-    requires part { IsRowPart (bounded_span bounded.now) line.row line.frame part.now }
-    requires room { line.first + line.frame.width * line.step < 32 * length bits.old }
-    ensures noted { IsRowSet (bounded_span bounded.now) line.frame line.row line.first line.step bits.new }
-    ensures gained { GainOnly (IsLineBit (bounded_span bounded.now) line.frame line.row line.first line.step) bits.old bits.new }
+    requires part { IsRowPart (bounded_span bounded.now) line.now.row line.now.frame part.now }
+    requires room { line.now.first + line.now.frame.width * line.now.step < 32 * length bits.old }
+    ensures noted { IsRowSet (bounded_span bounded.now) line.now.frame line.now.row line.now.first line.now.step bits.new }
+    ensures gained { GainOnly (IsLineBit (bounded_span bounded.now) line.now.frame line.now.row line.now.first line.now.step)
+        bits.old bits.new }
     ensures count { tally.new.count ≤ tally.old.count + 45 }
 {
     let piece = &bounded.piece;
@@ -144,7 +145,7 @@ fn note_met_lines(
     'rows: for up in rows.first..rows.end {
         let line = lines.row(up);
         let part = met_part(bounded, line.row, line.frame, tally);
-        note_part(bounded, &part, line, bits, tally);
+        note_part(bounded, &part, &line, bits, tally);
     }
 }
 
@@ -156,22 +157,20 @@ fn note_cuts<C: Cuts + Drop>(
     rows: RowRange,
     lines: NotedRows,
     bits: &mut [u32],
-    tally: &mut Tally,
 )
     requires inner { AreInner bounded.now lines.frame rows.first rows.end }
     requires at { C.AreAt cuts bounded.now (base_place lines.frame rows.first) }
     requires columns { HasColumns lines.frame bounded.now.across }
     requires room { HaveRoom lines bits.old }
-    ensures notes { NotesRows (bounded_span bounded.now) lines rows.first rows.end bits.old bits.new }
-    ensures count { tally.new.count ≤ tally.old.count + (rows.end - rows.first) }
+    ensures { NotesRows (bounded_span bounded.now) lines rows.first rows.end bits.old bits.new }
 {
     let mut cuts = cuts;
     // The segments of the rows before `up` are noted, and the cuts stand at this row.
     'rows: for up in rows.first..rows.end {
         let line = lines.row(up);
         let strip = strip_of(lines.frame, line.row);
-        let cut = cuts.cut(bounded, strip, tally);
-        set_segment(line, cut.end.saturating_sub(strip.start), bits);
+        let end = cuts.end(bounded, strip);
+        set_segment(&line, end.saturating_sub(strip.start), bits);
         cuts.move_up(bounded, strip);
     }
 }
@@ -196,24 +195,24 @@ fn note_passed_lines(
     let piece = &bounded.piece;
     let strip = strip_of(lines.frame, row_of(lines.frame, rows.first));
     if let Some(cuts) = arc_in(piece, strip, tally) {
-        note_cuts(bounded, cuts, rows, lines, bits, tally);
+        note_cuts(bounded, cuts, rows, lines, bits);
         return;
     }
     let areas = areas_at(piece, strip, 0, tally);
     let side = base_side(piece, strip, areas);
-    note_cuts(bounded, LineCuts { side }, rows, lines, bits, tally);
+    note_cuts(bounded, LineCuts { side }, rows, lines, bits);
 }
 
 /// Notes the segments of a frame's rows that a piece meets.
-fn note_lines(piece: &Piece, lines: NotedRows, bits: &mut [u32], tally: &mut Tally)
+#[inline(always)]
+fn note_lines(bounded: &Bounded, lines: NotedRows, bits: &mut [u32], tally: &mut Tally)
     requires { HaveRoom lines bits.old }
-    ensures notes { NotesRows (span_of piece.now) lines 0 lines.frame.height bits.old bits.new }
+    ensures notes { NotesRows (bounded_span bounded.now) lines 0 lines.frame.height bits.old bits.new }
     ensures count { tally.new.count ≤ tally.old.count + 55 * lines.frame.height }
 {
-    let bounded = bounds_of(piece, rise_of(piece));
-    let rows = rows_met(piece, lines.frame);
+    let rows = rows_met(&bounded.piece, lines.frame);
     if !has_columns(lines.frame, bounded.across) {
-        note_met_lines(&bounded, rows, lines, bits, tally);
+        note_met_lines(bounded, rows, lines, bits, tally);
         return;
     }
     let inner = rows_between(bounded.rise, lines.frame, rows);
@@ -225,9 +224,9 @@ fn note_lines(piece: &Piece, lines: NotedRows, bits: &mut [u32], tally: &mut Tal
         first: inner.end,
         end: rows.end,
     };
-    note_met_lines(&bounded, below, lines, bits, tally);
-    note_passed_lines(&bounded, inner, lines, bits, tally);
-    note_met_lines(&bounded, above, lines, bits, tally);
+    note_met_lines(bounded, below, lines, bits, tally);
+    note_passed_lines(bounded, inner, lines, bits, tally);
+    note_met_lines(bounded, above, lines, bits, tally);
 }
 
 /// Notes the segments that a piece meets across all rows, with the first band.
@@ -253,7 +252,7 @@ pub(crate) fn note_all_across(
         row_step: 32 * words_for(frame.width),
         step: 1,
     };
-    note_lines(piece, lines, across, tally);
+    note_lines(&bounds_of(piece, rise_of(piece)), lines, across, tally);
 }
 
 /// Notes the segments that a piece meets up to all rows, with the first band, as those across rows of the piece with its
@@ -281,5 +280,6 @@ pub(crate) fn note_all_up(
         row_step: 1,
         step: 32 * words_for(frame.width),
     };
-    note_lines(&piece.turned(), lines, up, tally);
+    let turned = piece.turned();
+    note_lines(&bounds_of(&turned, rise_of(&turned)), lines, up, tally);
 }

@@ -28,7 +28,6 @@ pub(crate) fn line_cut(bounded: &Bounded, strip: Strip, start: i64) -> Cut
     let edge = edge_from(&bounded.piece, strip, start);
     Cut {
         end: edge.at,
-        value: bounded.rise.value,
         on: met_column(strip, edge),
     }
 }
@@ -41,7 +40,6 @@ pub(crate) fn clear_cut(bounded: &Bounded, strip: Strip) -> Cut
 {
     Cut {
         end: columns_before(strip, bounded.across.first),
-        value: bounded.rise.value,
         on: OnRow::None,
     }
 }

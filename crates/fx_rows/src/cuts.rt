@@ -5,7 +5,7 @@ ghost use Rattle.fx_winding.specs.Winding.{centre};
 ghost use Rattle.fx_rows.specs.inner.Sides.{place_at};
 ghost use Rattle.fx_rows.specs.inner.Points.{IsInner};
 ghost use Rattle.fx_rows.specs.inner.Bands.{bounded_span};
-ghost use Rattle.fx_rows.specs.inner.Cuts.{IsCut};
+ghost use Rattle.fx_rows.specs.inner.Cuts.{IsCut, IsStripEnd};
 
 use crate::above::side_above;
 use crate::bounded::Bounded;
@@ -21,6 +21,13 @@ pub(crate) trait Cuts {
 
     // They are the piece's, and stand at the row that has this place at its base.
     ghost AreAt: { Self → Bounded → Place → Type 0 };
+
+    /// Where the columns end that are left of the piece in the row.
+    fn end(&mut self, bounded: &Bounded, strip: Strip) -> u32
+        requires at { AreAt self.old bounded.now (place_at strip 0) }
+        requires inner { IsInner bounded.now.piece.a.y bounded.now.piece.c.y (pos 128 *ℤ strip.row +ℤ pos 64) }
+        ensures end { IsStripEnd (bounded_span bounded.now) strip result }
+        ensures same { AreAt self.new bounded.now (place_at strip 0) };
 
     /// What the piece adds to the row.
     fn cut(&mut self, bounded: &Bounded, strip: Strip, tally: &mut Tally) -> Cut
@@ -46,6 +53,11 @@ impl Cuts for ClearCuts {
     ghost AreAt = { λ _ b _. b.across.end ≤ℤ b.across.first };
 
     #[inline(always)]
+    fn end(&mut self, bounded: &Bounded, strip: Strip) -> u32 {
+        clear_cut(bounded, strip).end
+    }
+
+    #[inline(always)]
     fn cut(&mut self, bounded: &Bounded, strip: Strip, _tally: &mut Tally) -> Cut {
         clear_cut(bounded, strip)
     }
@@ -69,6 +81,11 @@ impl Cuts for LineCuts {
 
     ghost AreAt = { λ cuts b p.
         (¬ (IsBent (bounded_span b))) × (cuts.side ≡ side (place_of b.piece.a) (place_of b.piece.c) p) };
+
+    #[inline(always)]
+    fn end(&mut self, bounded: &Bounded, strip: Strip) -> u32 {
+        line_cut(bounded, strip, self.side).end
+    }
 
     #[inline(always)]
     fn cut(&mut self, bounded: &Bounded, strip: Strip, _tally: &mut Tally) -> Cut {

@@ -23,23 +23,23 @@ use crate::turns::{is_among, is_between_ends, run_at, turn_in};
 use fx_winding::{Frame, Piece, Point, Tally, centre_of, meets, set_bit};
 
 /// Sets the bit of the segment to a column.
-pub(crate) fn set_segment(line: NotedRow, k: u32, bits: &mut [u32])
-    requires column { k ≤ line.frame.width }
-    requires room { line.first + line.frame.width * line.step < 32 * length bits.old }
-    ensures set { (s : Span) → IsSetTo s line.frame line.row line.first line.step bits.new k }
+pub(crate) fn set_segment(line: &NotedRow, k: u32, bits: &mut [u32])
+    requires column { k ≤ line.now.frame.width }
+    requires room { line.now.first + line.now.frame.width * line.now.step < 32 * length bits.old }
+    ensures set { (s : Span) → IsSetTo s line.now.frame line.now.row line.now.first line.now.step bits.new k }
     ensures kept { AreKept bits.old bits.new }
-    ensures only { (s : Span) → IsMetToUnlessOn s line.frame line.row k →
-        AreOnly (IsLineBit s line.frame line.row line.first line.step) bits.old bits.new }
+    ensures only { (s : Span) → IsMetToUnlessOn s line.now.frame line.now.row k →
+        AreOnly (IsLineBit s line.now.frame line.now.row line.now.first line.now.step) bits.old bits.new }
 {
     set_bit(bits, line.first + k as usize * line.step);
 }
 
 /// Whether a piece adds different numbers at the ends of the segment to a column within the frame, by what it adds to the row.
-fn changes_at(part: &RowPart, line: NotedRow, k: u32) -> bool
+fn changes_at(part: &RowPart, line: &NotedRow, k: u32) -> bool
     requires from { 0 < k }
-    requires to { k < line.frame.width }
-    ensures { (s : Span) → IsRowPart s line.row line.frame part.now →
-        IsTrue result ↔ (turn (left_at line.frame line.row k) s ≢ turn (right_at line.frame line.row k) s) }
+    requires to { k < line.now.frame.width }
+    ensures { (s : Span) → IsRowPart s line.now.row line.now.frame part.now →
+        IsTrue result ↔ (turn (left_at line.now.frame line.now.row k) s ≢ turn (right_at line.now.frame line.now.row k) s) }
 {
     let right = line.frame.left + k as i32;
     if turn_in(part, right - 1) == turn_in(part, right) {
@@ -49,9 +49,9 @@ fn changes_at(part: &RowPart, line: NotedRow, k: u32) -> bool
 }
 
 /// Whether a piece meets the segment to a column, by tests of its ends.
-fn test_segment(piece: &Piece, line: NotedRow, k: u32, tally: &mut Tally) -> bool
-    requires to { k ≤ line.frame.width }
-    ensures value { IsTrue result ↔ IsMetTo (span_of piece.now) line.frame line.row k }
+fn test_segment(piece: &Piece, line: &NotedRow, k: u32, tally: &mut Tally) -> bool
+    requires to { k ≤ line.now.frame.width }
+    ensures value { IsTrue result ↔ IsMetTo (span_of piece.now) line.now.frame line.now.row k }
     ensures count { tally.new.count ≤ tally.old.count + 5 }
 {
     let right = line.frame.left + k as i32;
@@ -64,11 +64,11 @@ fn test_segment(piece: &Piece, line: NotedRow, k: u32, tally: &mut Tally) -> boo
 }
 
 /// Whether a piece meets the segment to a column within the frame. What it adds to the row tells that for nearly all segments.
-fn meets_to(piece: &Piece, part: &RowPart, line: NotedRow, k: u32, tally: &mut Tally) -> bool
-    requires part { IsRowPart (span_of piece.now) line.row line.frame part.now }
+fn meets_to(piece: &Piece, part: &RowPart, line: &NotedRow, k: u32, tally: &mut Tally) -> bool
+    requires part { IsRowPart (span_of piece.now) line.now.row line.now.frame part.now }
     requires from { 0 < k }
-    requires to { k < line.frame.width }
-    ensures value { IsTrue result ↔ IsMetTo (span_of piece.now) line.frame line.row k }
+    requires to { k < line.now.frame.width }
+    ensures value { IsTrue result ↔ IsMetTo (span_of piece.now) line.now.frame line.now.row k }
     ensures count { tally.new.count ≤ tally.old.count + 5 }
 {
     if changes_at(part, line, k) {
@@ -84,14 +84,14 @@ fn meets_to(piece: &Piece, part: &RowPart, line: NotedRow, k: u32, tally: &mut T
 fn note_segment(
     piece: &Piece,
     part: &RowPart,
-    line: NotedRow,
+    line: &NotedRow,
     k: u32,
     bits: &mut [u32],
     tally: &mut Tally,
 )
-    requires part { IsRowPart (span_of piece.now) line.row line.frame part.now }
-    requires room { line.first + line.frame.width * line.step < 32 * length bits.old }
-    ensures notes { NotesAt (span_of piece.now) line (IsAfterFirst line (λ j. j ≡ k)) bits.old bits.new }
+    requires part { IsRowPart (span_of piece.now) line.now.row line.now.frame part.now }
+    requires room { line.now.first + line.now.frame.width * line.now.step < 32 * length bits.old }
+    ensures notes { NotesAt (span_of piece.now) line.now (IsAfterFirst line.now (λ j. j ≡ k)) bits.old bits.new }
     ensures count { tally.new.count ≤ tally.old.count + 5 }
 {
     if k == 0 || line.frame.width <= k {
@@ -106,15 +106,16 @@ fn note_segment(
 fn note_column(
     piece: &Piece,
     part: &RowPart,
-    line: NotedRow,
+    line: &NotedRow,
     col: i32,
     bits: &mut [u32],
     tally: &mut Tally,
 )
-    requires part { IsRowPart (span_of piece.now) line.row line.frame part.now }
+    requires part { IsRowPart (span_of piece.now) line.now.row line.now.frame part.now }
     requires near { IsWithin (2 ^ 16) col }
-    requires room { line.first + line.frame.width * line.step < 32 * length bits.old }
-    ensures notes { NotesAt (span_of piece.now) line (IsAfterFirst line (λ k. line.frame.left +ℤ pos k ≡ col)) bits.old bits.new }
+    requires room { line.now.first + line.now.frame.width * line.now.step < 32 * length bits.old }
+    ensures notes { NotesAt (span_of piece.now) line.now (IsAfterFirst line.now (λ k. line.now.frame.left +ℤ pos k ≡ col))
+        bits.old bits.new }
     ensures count { tally.new.count ≤ tally.old.count + 5 }
 {
     note_segment(
@@ -131,15 +132,15 @@ fn note_column(
 pub(crate) fn note_run(
     piece: &Piece,
     part: &RowPart,
-    line: NotedRow,
+    line: &NotedRow,
     run: Option<Run>,
     bits: &mut [u32],
     tally: &mut Tally,
 )
-    requires part { IsRowPart (span_of piece.now) line.row line.frame part.now }
-    requires inside { IsInside line.frame run }
-    requires room { line.first + line.frame.width * line.step < 32 * length bits.old }
-    ensures notes { NotesAt (span_of piece.now) line (IsAfterFirst line (IsRunEnd line.frame run)) bits.old bits.new }
+    requires part { IsRowPart (span_of piece.now) line.now.row line.now.frame part.now }
+    requires inside { IsInside line.now.frame run }
+    requires room { line.now.first + line.now.frame.width * line.now.step < 32 * length bits.old }
+    ensures notes { NotesAt (span_of piece.now) line.now (IsAfterFirst line.now (IsRunEnd line.now.frame run)) bits.old bits.new }
     ensures count { tally.new.count ≤ tally.old.count + 10 }
 {
     if let Some(run) = run {
@@ -152,15 +153,15 @@ pub(crate) fn note_run(
 fn note_place(
     piece: &Piece,
     part: &RowPart,
-    line: NotedRow,
+    line: &NotedRow,
     x: i32,
     bits: &mut [u32],
     tally: &mut Tally,
 )
-    requires part { IsRowPart (span_of piece.now) line.row line.frame part.now }
+    requires part { IsRowPart (span_of piece.now) line.now.row line.now.frame part.now }
     requires near { IsWithin (2 ^ 30) x }
-    requires room { line.first + line.frame.width * line.step < 32 * length bits.old }
-    ensures notes { NotesAt (span_of piece.now) line (IsAfterFirst line (IsAround line x)) bits.old bits.new }
+    requires room { line.now.first + line.now.frame.width * line.now.step < 32 * length bits.old }
+    ensures notes { NotesAt (span_of piece.now) line.now (IsAfterFirst line.now (IsAround line.now x)) bits.old bits.new }
     ensures count { tally.new.count ≤ tally.old.count + 5 }
 {
     note_segment(piece, part, line, column_from(line.frame, x), bits, tally);
@@ -170,14 +171,14 @@ fn note_place(
 pub(crate) fn note_end(
     piece: &Piece,
     part: &RowPart,
-    line: NotedRow,
+    line: &NotedRow,
     e: Point,
     bits: &mut [u32],
     tally: &mut Tally,
 )
-    requires part { IsRowPart (span_of piece.now) line.row line.frame part.now }
-    requires room { line.first + line.frame.width * line.step < 32 * length bits.old }
-    ensures notes { NotesAt (span_of piece.now) line (IsAfterFirst line (HasEnd (place_of e) line)) bits.old bits.new }
+    requires part { IsRowPart (span_of piece.now) line.now.row line.now.frame part.now }
+    requires room { line.now.first + line.now.frame.width * line.now.step < 32 * length bits.old }
+    ensures notes { NotesAt (span_of piece.now) line.now (IsAfterFirst line.now (HasEnd (place_of e) line.now)) bits.old bits.new }
     ensures count { tally.new.count ≤ tally.old.count + 5 }
 {
     if e.y != 128 * line.row + 64 {
@@ -190,16 +191,16 @@ pub(crate) fn note_end(
 fn note_outside(
     piece: &Piece,
     part: &RowPart,
-    line: NotedRow,
+    line: &NotedRow,
     k: u32,
     bits: &mut [u32],
     tally: &mut Tally,
 )
-    requires part { IsRowPart (span_of piece.now) line.row line.frame part.now }
-    requires column { k ≤ line.frame.width }
-    requires room { line.first + line.frame.width * line.step < 32 * length bits.old }
-    ensures notes { NotesAt (span_of piece.now) line (IsAfterFirst line (λ j. (j ≡ k) × HasTip (span_of piece.now) line j))
-        bits.old bits.new }
+    requires part { IsRowPart (span_of piece.now) line.now.row line.now.frame part.now }
+    requires column { k ≤ line.now.frame.width }
+    requires room { line.now.first + line.now.frame.width * line.now.step < 32 * length bits.old }
+    ensures notes { NotesAt (span_of piece.now) line.now
+        (IsAfterFirst line.now (λ j. (j ≡ k) × HasTip (span_of piece.now) line.now j)) bits.old bits.new }
     ensures count { tally.new.count ≤ tally.old.count + 5 }
 {
     if run_at(part.region, line.frame.left - 1 + k as i32) != 0 {
@@ -213,14 +214,15 @@ pub(crate) fn note_tip(
     piece: &Piece,
     rise: Rise,
     part: &RowPart,
-    line: NotedRow,
+    line: &NotedRow,
     bits: &mut [u32],
     tally: &mut Tally,
 )
     requires rise { IsRise (span_of piece.now) rise.foot rise.head rise.value }
-    requires part { IsRowPart (span_of piece.now) line.row line.frame part.now }
-    requires room { line.first + line.frame.width * line.step < 32 * length bits.old }
-    ensures notes { NotesAt (span_of piece.now) line (IsAfterFirst line (HasTip (span_of piece.now) line)) bits.old bits.new }
+    requires part { IsRowPart (span_of piece.now) line.now.row line.now.frame part.now }
+    requires room { line.now.first + line.now.frame.width * line.now.step < 32 * length bits.old }
+    ensures notes { NotesAt (span_of piece.now) line.now (IsAfterFirst line.now (HasTip (span_of piece.now) line.now))
+        bits.old bits.new }
     ensures count { tally.new.count ≤ tally.old.count + 5 }
 {
     if is_among(rise, line.row) {
@@ -241,10 +243,10 @@ pub(crate) fn note_tip(
 }
 
 /// Notes the segment to a column, if a piece meets it, by tests of its ends.
-fn note_tested(piece: &Piece, line: NotedRow, k: u32, bits: &mut [u32], tally: &mut Tally)
-    requires column { k ≤ line.frame.width }
-    requires room { line.first + line.frame.width * line.step < 32 * length bits.old }
-    ensures notes { NotesAt (span_of piece.now) line (λ j. j ≡ k) bits.old bits.new }
+fn note_tested(piece: &Piece, line: &NotedRow, k: u32, bits: &mut [u32], tally: &mut Tally)
+    requires column { k ≤ line.now.frame.width }
+    requires room { line.now.first + line.now.frame.width * line.now.step < 32 * length bits.old }
+    ensures notes { NotesAt (span_of piece.now) line.now (λ j. j ≡ k) bits.old bits.new }
     ensures count { tally.new.count ≤ tally.old.count + 5 }
 {
     if test_segment(piece, line, k, tally) {
@@ -256,13 +258,13 @@ fn note_tested(piece: &Piece, line: NotedRow, k: u32, bits: &mut [u32], tally: &
 pub(crate) fn note_first(
     piece: &Piece,
     across: Across,
-    line: NotedRow,
+    line: &NotedRow,
     bits: &mut [u32],
     tally: &mut Tally,
 )
-    requires room { line.first + line.frame.width * line.step < 32 * length bits.old }
+    requires room { line.now.first + line.now.frame.width * line.now.step < 32 * length bits.old }
     requires across { AreAcross (span_of piece.now) across.first across.end }
-    ensures notes { NotesAt (span_of piece.now) line (λ k. k ≡ 0) bits.old bits.new }
+    ensures notes { NotesAt (span_of piece.now) line.now (λ k. k ≡ 0) bits.old bits.new }
     ensures count { tally.new.count ≤ tally.old.count + 5 }
 {
     if line.frame.left < across.first {
@@ -275,13 +277,13 @@ pub(crate) fn note_first(
 pub(crate) fn note_last(
     piece: &Piece,
     across: Across,
-    line: NotedRow,
+    line: &NotedRow,
     bits: &mut [u32],
     tally: &mut Tally,
 )
-    requires room { line.first + line.frame.width * line.step < 32 * length bits.old }
+    requires room { line.now.first + line.now.frame.width * line.now.step < 32 * length bits.old }
     requires across { AreAcross (span_of piece.now) across.first across.end }
-    ensures notes { NotesAt (span_of piece.now) line (λ k. k ≡ line.frame.width) bits.old bits.new }
+    ensures notes { NotesAt (span_of piece.now) line.now (λ k. k ≡ line.now.frame.width) bits.old bits.new }
     ensures count { tally.new.count ≤ tally.old.count + 5 }
 {
     if across.end < line.frame.left + line.frame.width as i32 {

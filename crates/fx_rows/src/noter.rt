@@ -91,7 +91,7 @@ impl Noting for Noter {
             first: first_of(frame, (row - frame.bottom) as u32),
             step: 1,
         };
-        note_part(bounded, part, line, &mut self.notes.across, tally);
+        note_part(bounded, part, &line, &mut self.notes.across, tally);
     }
 
     #[inline(always)]

@@ -2,45 +2,34 @@
 
 ghost use Rattle.std.specs.Prelude.{◌≡◌, ◌+◌, ◌≤◌, pos, ◌*ℤ◌, ◌+ℤ◌, Some};
 ghost use Rattle.fx_winding.specs.Limits.{IsPixelNumber};
-ghost use Rattle.fx_rows.specs.Parts.{IsBent};
 ghost use Rattle.fx_rows.specs.inner.Bands.{bounded_span};
-ghost use Rattle.fx_rows.specs.inner.Cuts.{IsCut};
+ghost use Rattle.fx_rows.specs.inner.Cuts.{IsStripEnd};
 ghost use Rattle.fx_rows.specs.inner.Points.{IsInner};
 ghost use Rattle.fx_rows.specs.inner.Told.{IsEndOn};
 
 use crate::bounded::Bounded;
-use crate::cells::Cut;
 use crate::chord::base_side;
-use crate::cut::{clear_cut, line_cut};
-use crate::cuts::Cuts;
+use crate::cuts::{ClearCuts, Cuts, LineCuts};
 use crate::strip::{Strip, areas_at, strip_of};
 use crate::walk::arc_in;
 use fx_winding::{Frame, Tally};
 
-/// The cut of a line in a row between its ends, or of an arc whose points are on one.
-fn straight_cut(bounded: &Bounded, strip: Strip, tally: &mut Tally) -> Cut
-    requires straight { ¬ (IsBent (bounded_span bounded.now)) }
+/// Where the columns of a strip end that are left of a piece in a row between its ends.
+fn end_on(bounded: &Bounded, strip: Strip, tally: &mut Tally) -> u32
     requires inner { IsInner bounded.now.piece.a.y bounded.now.piece.c.y (pos 128 *ℤ strip.row +ℤ pos 64) }
-    ensures cut { IsCut (bounded_span bounded.now) strip result }
-    ensures count { tally.new.count ≤ tally.old.count + 1 }
-{
-    let areas = areas_at(&bounded.piece, strip, 0, tally);
-    line_cut(bounded, strip, base_side(&bounded.piece, strip, areas))
-}
-
-/// The cut of a piece in a row between its ends.
-fn cut_in(bounded: &Bounded, strip: Strip, tally: &mut Tally) -> Cut
-    requires inner { IsInner bounded.now.piece.a.y bounded.now.piece.c.y (pos 128 *ℤ strip.row +ℤ pos 64) }
-    ensures cut { IsCut (bounded_span bounded.now) strip result }
+    ensures end { IsStripEnd (bounded_span bounded.now) strip result }
     ensures count { tally.new.count ≤ tally.old.count + 2 }
 {
     if bounded.across.end <= bounded.across.first {
-        return clear_cut(bounded, strip);
+        return ClearCuts.end(bounded, strip);
     }
-    match arc_in(&bounded.piece, strip, tally) {
-        Some(mut cuts) => cuts.cut(bounded, strip, tally),
-        None => straight_cut(bounded, strip, tally),
+    let piece = &bounded.piece;
+    if let Some(mut cuts) = arc_in(piece, strip, tally) {
+        return cuts.end(bounded, strip);
     }
+    let areas = areas_at(piece, strip, 0, tally);
+    let side = base_side(piece, strip, areas);
+    LineCuts { side }.end(bounded, strip)
 }
 
 /// How many of a frame's columns are left of a piece in a row of the plane that is between the piece's ends.
@@ -51,6 +40,5 @@ pub(crate) fn end_in(bounded: &Bounded, frame: Frame, row: i32, tally: &mut Tall
     ensures count { tally.new.count ≤ tally.old.count + 2 }
 {
     let strip = strip_of(frame, row);
-    let cut = cut_in(bounded, strip, tally);
-    cut.end.saturating_sub(strip.start)
+    end_on(bounded, strip, tally).saturating_sub(strip.start)
 }

@@ -8,7 +8,7 @@ ghost use Rattle.fx_winding.specs.Winding.{Span, span_of, centre, IsOn};
 ghost use Rattle.fx_rows.specs.inner.Arcs.{gap, AreAreas, IsBentBy, IsTurned, MissesCentres};
 ghost use Rattle.fx_rows.specs.inner.Bands.{bounded_span};
 ghost use Rattle.fx_rows.specs.inner.Candidates.{IsOnStrip};
-ghost use Rattle.fx_rows.specs.inner.Cuts.{Counts, CountsAt, CountsFirst, IsEndOfCount, IsLast, IsCut};
+ghost use Rattle.fx_rows.specs.inner.Cuts.{Counts, CountsAt, CountsFirst, IsEndOfCount, IsLast};
 ghost use Rattle.fx_rows.specs.inner.Points.{IsInner};
 ghost use Rattle.fx_rows.specs.inner.Sides.{place_at};
 ghost use Rattle.fx_rows.specs.inner.Walks.{AreSmall, IsSum, IsReversed, AreTurned, IsStep, right_of, IsSpot, IsArcAt, IsArcOrFlat};
@@ -250,22 +250,6 @@ fn on_end(piece: &Piece, cuts: ArcCuts, strip: Strip, tally: &mut Tally) -> OnRo
     on_column(piece, last, strip, tally)
 }
 
-/// What a bent arc adds to a row in which the columns that count end here.
-#[inline(always)]
-fn arc_cut(bounded: &Bounded, cuts: ArcCuts, strip: Strip, tally: &mut Tally) -> Cut
-    requires inner { IsInner bounded.now.piece.a.y bounded.now.piece.c.y (pos 128 *ℤ strip.row +ℤ pos 64) }
-    requires at { IsArcAt cuts bounded.now.piece (place_at strip 0) }
-    requires end { IsEndOfCount (bounded_span bounded.now) cuts.arc.right strip cuts.spot.k }
-    ensures cut { IsCut (bounded_span bounded.now) strip result }
-    ensures count { tally.new.count ≤ tally.old.count + 1 }
-{
-    Cut {
-        end: cuts.spot.k.min(strip.stop),
-        value: bounded.rise.value,
-        on: on_end(&bounded.piece, cuts, strip, tally),
-    }
-}
-
 /// The column of an arc's lower end, or the base, if that is no column of the strip.
 fn first_column(piece: &Piece, strip: Strip) -> u32
     ensures { (strip.base +ℤ pos result) <ℤ end_of_pixels }
@@ -360,9 +344,18 @@ impl Cuts for ArcCuts {
     ghost AreAt = { λ cuts b p. IsArcAt cuts b.piece p };
 
     #[inline(always)]
+    fn end(&mut self, bounded: &Bounded, strip: Strip) -> u32 {
+        self.spot = to_end(&bounded.piece, *self, strip);
+        self.spot.k.min(strip.stop)
+    }
+
+    #[inline(always)]
     fn cut(&mut self, bounded: &Bounded, strip: Strip, tally: &mut Tally) -> Cut {
         self.spot = to_end(&bounded.piece, *self, strip);
-        arc_cut(bounded, *self, strip, tally)
+        Cut {
+            end: self.spot.k.min(strip.stop),
+            on: on_end(&bounded.piece, *self, strip, tally),
+        }
     }
 
     #[inline(always)]

@@ -2,6 +2,7 @@
 use Rattle.std.specs.Prelude.{◌≡◌, ◌⊎◌, ◌↔◌, IsTrue, ℕ, ◌+◌, ◌≤◌, ◌<◌, ℤ, pos, ◌+ℤ◌, ◌-ℤ◌, ◌≤ℤ◌, ◌<ℤ◌, Bool, true, false}
 use Rattle.fx_fixed.specs.Ranges.{IsWithin}
 use Rattle.fx_winding.specs.Area.{Place}
+use Rattle.fx_winding.specs.Meets.{turn}
 use Rattle.fx_winding.specs.Winding.{Span, IsOn, crossing, region}
 use Rattle.fx_rows.specs.declared.strip.Strip.{Strip}
 use Rattle.fx_rows.specs.declared.cells.Cut.{Cut}
@@ -34,15 +35,17 @@ abbrev pub IsLast : Bool → ℕ → ℕ → Type 0
 IsLast true end k = k + 1 ≡ end
 IsLast false end k = k ≡ end
 
--- what a piece adds to the columns of a strip that are not on it: the value of its rise to those before the end, and nothing to the
--- others
+-- a piece adds the value of its rise to the columns of a strip before the end, and nothing to the others, but for those on it
+pub record IsStripEnd (s : Span) (strip : Strip) (end : ℕ) : Type 0 where
+  pub inside : (k : ℕ) → strip.start ≤ k → k < strip.stop → k < end → ¬ (IsOn (place_at strip k) s)
+      → turn (place_at strip k) s ≡ rise_value s
+  pub outside : (k : ℕ) → strip.start ≤ k → k < strip.stop → end ≤ k → ¬ (IsOn (place_at strip k) s)
+      → turn (place_at strip k) s ≡ pos 0
+  pub within : end ≤ strip.stop
+
+-- what it adds to them
 pub record IsCut (s : Span) (strip : Strip) (cut : Cut) : Type 0 where
-  pub inside : (k : ℕ) → strip.start ≤ k → k < strip.stop → k < cut.end → ¬ (IsOn (place_at strip k) s)
-      → crossing (place_at strip k) s +ℤ region (place_at strip k) s ≡ cut.value
-  pub outside : (k : ℕ) → strip.start ≤ k → k < strip.stop → cut.end ≤ k → ¬ (IsOn (place_at strip k) s)
-      → crossing (place_at strip k) s +ℤ region (place_at strip k) s ≡ pos 0
-  pub value : cut.value ≡ rise_value s
-  pub within : cut.end ≤ strip.stop
+  pub end : IsStripEnd s strip cut.end
   pub on : IsOnStrip s strip cut.on
 
 -- what a piece adds at a place: a mark if the place is on it, and else its crossing and its region

@@ -1,7 +1,7 @@
 use Rattle.std.proofs.Common.{◌≡◌, subst, ℕ, pos, ◌+ℤ◌, arith}
 use Rattle.fx_rows.specs.inner.Bands.{bounded_span}
 use Rattle.fx_rows.specs.inner.Telling.{AreRowsAdded}
-use Rattle.fx_rows.proofs.Stepping.{strip_row, row_in, inner_row, cut_inside, band_small, at_base, at_base_above}
+use Rattle.fx_rows.proofs.Stepping.{strip_row, row_in, inner_row, band_small, at_base, at_base_above}
 use Rattle.fx_rows.proofs.Telling.{cut_end, added_start, added_next}
 use Rattle.fx_rows.proofs.add.add_cuts.Goals as goal
 
@@ -29,10 +29,6 @@ add_cut-requires-clause-small g c =
     band_small (bounded_span c.args.bounded.now) c.args.band.now.frame c.args.rows.first c.rows.up c.args.band.now c.rows.band
     c.rows.invariant.added.added c.requires.inner.small (omega (arith, few, r))
 
-pub add_cut-requires-clause-on : goal.add_cut-requires-clause-on
-add_cut-requires-clause-on g c = cut_inside (bounded_span c.args.bounded.now) c.strip_of-strip.result c.rows.band.frame
-    c.cut-cut.result c.strip_of-strip.ensures.first c.strip_of-strip.ensures.last c.cut-cut.ensures.cut
-
 pub rows-preserved : goal.rows-preserved
 rows-preserved g c =
     let s = bounded_span c.args.bounded.now in
@@ -41,14 +37,14 @@ rows-preserved g c =
     let strip = c.strip_of-strip.result in
     let row = now.bottom +ℤ pos c.rows.up in
     let at = strip_row strip c.row_of.result row c.row_of.ensures.near c.strip_of-strip.ensures.row c.row_of.ensures.value in
-    let is = cut_end s now strip c.cut-cut.result row c.saturating_sub-end.result at c.strip_of-strip.ensures.first
-    c.strip_of-strip.ensures.last c.saturating_sub-end.ensures c.cut-cut.ensures.cut in
+    let is = cut_end s now strip c.cut-cut.result.end row c.saturating_sub-end.result at c.strip_of-strip.ensures.first
+    c.strip_of-strip.ensures.last c.saturating_sub-end.ensures c.cut-cut.ensures.cut.end in
     let n = c.cut-cut.ensures.count in
     let m = inv.count in
     record {
       added = added_next (g.N.Noting.IsTold c.rows.noter) (g.N.Noting.IsTold c.tell.new.self) s strip.row c.args.rows.first
           c.rows.up c.saturating_sub-end.result c.args.band.now c.rows.band c.add_cut.new.band (omega arith) at inv.added
-          c.add_cut.ensures.frame (c.add_cut.ensures.added s c.cut-cut.ensures.cut) c.tell.ensures.others c.tell.ensures.told is;
+          c.add_cut.ensures.frame c.add_cut.ensures.added c.tell.ensures.others c.tell.ensures.told is;
       kept = λ x h. c.tell.ensures.kept x (inv.kept x h);
       at = λ h.
           at_base_above (g.C.Cuts.AreAt c.move_up.new.self c.args.bounded.now) c.args.band.now.frame now strip c.rows.up

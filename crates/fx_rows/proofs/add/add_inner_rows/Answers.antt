@@ -1,6 +1,8 @@
-use Rattle.std.proofs.Common.{pos, ◌+ℤ◌, arith, subst}
+use Rattle.std.proofs.Common.{◌≡◌, ◌∙◌, ap, pos, ◌+ℤ◌, arith, subst, w64, to_z, of_z}
+use Rattle.fx_fixed.proofs.Linear.{signed_linear}
 use Rattle.fx_winding.specs.Area.{Place}
-use Rattle.fx_winding.specs.Winding.{centre}
+use Rattle.fx_winding.specs.Winding.{place_of, centre}
+use Rattle.fx_rows.specs.inner.Sides.{side}
 use Rattle.fx_rows.specs.inner.Walks.{IsArcAt}
 use Rattle.fx_rows.proofs.Cutting.{slanted}
 use Rattle.fx_rows.proofs.Stepping.{strip_row}
@@ -20,6 +22,14 @@ add_cuts-requires-in-Some-clause-at g c =
     subst (λ (p : Place). IsArcAt c.in-Some.cuts c.args.bounded.now.piece p) (λ i. centre (base i +ℤ pos 0) (at i))
     c.in-Some.ensures.arc
 
-pub add_line_rows-requires-clause-base : goal.add_line_rows-requires-clause-base
-add_line_rows-requires-clause-base g c =
-    grind (arith, c.row_of.ensures, c.strip_of-strip.ensures, strip_row)
+pub add_cuts-requires-2-clause-at : goal.add_cuts-requires-2-clause-at
+add_cuts-requires-2-clause-at g c =
+    let p = c.args.bounded.now.piece in
+    let at = strip_row c.strip_of-strip.result c.row_of.result _ c.row_of.ensures.near c.strip_of-strip.ensures.row
+    c.row_of.ensures.value in
+    let base = c.strip_of-strip.ensures.base in
+    let size = c.base_side-side.ensures.size in
+    let word : to_z w64 (of_z w64 c.base_side-side.result) ≡ c.base_side-side.result = omega (arith, signed_linear, size) in (
+      c.in_default.ensures.arc,
+      word ∙ c.base_side-side.ensures.value ∙ ap (side (place_of p.a) (place_of p.c)) (λ i. centre (base i +ℤ pos 0) (at i)),
+    )

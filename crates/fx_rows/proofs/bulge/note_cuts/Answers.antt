@@ -16,15 +16,15 @@ use Rattle.fx_rows.proofs.bulge.note_cuts.Goals as goal
 pub rows-init : goal.rows-init
 rows-init g c = grind (arith, c.requires.at)
 
-pub cut-cut-requires-clause-inner : goal.cut-cut-requires-clause-inner
-cut-cut-requires-clause-inner g c =
+pub end-end-requires-clause-inner : goal.end-end-requires-clause-inner
+end-end-requires-clause-inner g c =
     let at = strip_row c.strip_of-strip.result c.row-line.result.row _ c.row-line.result.row_near c.strip_of-strip.ensures.row
     c.row-line.ensures.row in
     inner_row c.args.bounded.now c.args.lines.frame c.args.lines.frame c.args.rows.first c.args.rows.end c.rows.up
     c.strip_of-strip.result.row refl at c.requires.inner (omega arith) (omega arith)
 
-pub cut-cut-requires-clause-at : goal.cut-cut-requires-clause-at
-cut-cut-requires-clause-at g c =
+pub end-end-requires-clause-at : goal.end-end-requires-clause-at
+end-end-requires-clause-at g c =
     grind (arith, c.row-line.ensures, c.row-line.result.row_near, c.strip_of-strip.ensures, c.rows.invariant, strip_row, at_base)
 
 pub set_segment-requires-clause-room : goal.set_segment-requires-clause-room
@@ -34,7 +34,7 @@ pub set_segment-requires-clause-column : goal.set_segment-requires-clause-column
 set_segment-requires-clause-column g c =
     let width = ap (λ (f : Frame). f.width) c.row-line.ensures.frame in
     let end = c.saturating_sub.ensures in
-    let within = c.cut-cut.ensures.cut.within in
+    let within = c.end-end.ensures.end.within in
     let first = c.strip_of-strip.ensures.first in
     let last = c.strip_of-strip.ensures.last in
     omega (arith, signed_linear, width, end, within, first, last)
@@ -53,8 +53,8 @@ rows-preserved g c =
     let at_line = c.row-line.ensures in
     let strip = c.strip_of-strip.result in
     let at = strip_row strip line.row _ line.row_near c.strip_of-strip.ensures.row at_line.row in
-    let is : IsEnd s f up end = cut_end s f strip c.cut-cut.result _ _ at c.strip_of-strip.ensures.first
-    c.strip_of-strip.ensures.last c.saturating_sub.ensures c.cut-cut.ensures.cut in
+    let is : IsEnd s f up end = cut_end s f strip c.end-end.result _ _ at c.strip_of-strip.ensures.first
+    c.strip_of-strip.ensures.last c.saturating_sub.ensures c.end-end.ensures.end in
     let inner = c.requires.inner.inner up (omega arith) (omega arith) in
     let set = subst (λ z. z) (λ i. (t : Span)
     → IsSetTo t (at_line.frame i) (at_line.row i) (at_line.first i) (at_line.step i) now end) c.set_segment.ensures.set in
@@ -66,8 +66,6 @@ rows-preserved g c =
     → AreOnly (IsLineBit s (at_line.frame i) (at_line.row i) (at_line.first i) (at_line.step i)) c.rows.bits now)
     (c.set_segment.ensures.only s) (λ off off'. (end_met_too s f b.across.first b.across.end up end b.between c.requires.columns.0
     c.requires.columns.1 inner is off off').met) in
-    let n = c.cut-cut.ensures.count in
-    let m = c.rows.invariant.count in
     record {
       notes = record {
         noted = rows_more (λ r. AreSetIn s f r (r * row_step) step now) c.args.rows.first up
@@ -79,11 +77,6 @@ rows-preserved g c =
             (λ n h. record { r = up; row = omega (arith, c.requires.inner.within); line = h })
             (record { kept = c.set_segment.ensures.kept; only = only }));
       };
-      count = omega (arith, n, m);
       at = λ h. at_base_above (g.C.Cuts.AreAt c.move_up.new.self b) f f strip up refl at c.strip_of-strip.ensures.base
           c.move_up.ensures;
     }
-
-pub returns-clause-count : goal.returns-clause-count
-returns-clause-count g c =
-    let e : c.rows.up ≡ c.args.rows.end = omega (arith, c.args.rows.order) in let m = c.rows.invariant.count in omega (arith, e, m)

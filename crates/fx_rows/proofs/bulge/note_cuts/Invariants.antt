@@ -1,4 +1,4 @@
-use Rattle.std.proofs.Common.{◌≤◌, ◌<◌, ◌+◌, ◌-◌}
+use Rattle.std.proofs.Common.{◌<◌}
 use Rattle.fx_rows.specs.inner.Bands.{bounded_span}
 use Rattle.fx_rows.specs.inner.Lines.{NotesRows}
 use Rattle.fx_rows.specs.inner.Strips.{base_place}
@@ -7,6 +7,5 @@ use Rattle.fx_rows.proofs.bulge.note_cuts.Given as goal
 abbrev pub invariant-rows : goal.invariant-rows
 invariant-rows g l = record {
   notes : NotesRows (bounded_span l.bounded) l.lines l.fn.rows.first l.up l.fn.bits l.bits;
-  count : l.tally.count ≤ l.fn.tally.count + (l.up - l.fn.rows.first);
   at : l.up < l.fn.rows.end → g.C.Cuts.AreAt l.cuts l.bounded (base_place l.lines.frame l.up);
 }

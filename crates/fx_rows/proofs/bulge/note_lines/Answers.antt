@@ -1,5 +1,5 @@
-use Rattle.std.proofs.Common.{◌*◌, ap, subst, arith}
-use Rattle.fx_winding.specs.Winding.{Span, span_of}
+use Rattle.std.proofs.Common.{◌*◌, arith}
+use Rattle.fx_winding.specs.Winding.{span_of}
 use Rattle.fx_rows.specs.inner.Lines.{AreSetIn}
 use Rattle.fx_rows.proofs.Bulges.{all_rows_set, in_kept}
 use Rattle.fx_rows.proofs.Kept.{kept_both, rows_three, gain_both}
@@ -8,7 +8,7 @@ use Rattle.fx_rows.proofs.bulge.note_lines.Goals as goal
 
 pub note_passed_lines-requires-clause-inner : goal.note_passed_lines-requires-clause-inner
 note_passed_lines-requires-clause-inner c =
-    let b = c.bounds_of-bounded.result in
+    let b = c.args.bounded.now in
     let is = between_of (span_of b.piece) b.rise.foot b.rise.head b.rise.value c.args.lines.frame c.rows_met-rows.result
     c.rows_between-inner.result b.rises c.rows_between-inner.ensures in
     record { within = omega (arith, is.high, c.rows_met-rows.ensures.within); inner = is.inner }
@@ -16,41 +16,34 @@ note_passed_lines-requires-clause-inner c =
 pub returns-then-not-has_columns-clause-notes : goal.returns-then-not-has_columns-clause-notes
 returns-then-not-has_columns-clause-notes c =
     let f = c.args.lines.frame in
-    let s = span_of c.bounds_of-bounded.result.piece in
     let rows = c.rows_met-rows.result in
-    let bits = c.note_met_lines.new.bits in
-    let same = ap span_of c.bounds_of-bounded.ensures.piece in
     record {
-      noted = all_rows_set (span_of c.args.piece.now) f 0 rows.first rows.end f.height c.args.lines.row_step c.args.lines.step
-          bits (λ r l. c.rows_met-rows.ensures.below r) c.rows_met-rows.ensures.above
-          (λ r l m. subst (λ (t : Span). AreSetIn t f r (r * c.args.lines.row_step) c.args.lines.step bits) same
-          (c.note_met_lines.ensures.notes.noted r l m));
-      gained = grind (arith, c.bounds_of-bounded.ensures.piece, c.note_met_lines.ensures.notes);
+      noted = all_rows_set (span_of c.args.bounded.now.piece) f 0 rows.first rows.end f.height c.args.lines.row_step
+          c.args.lines.step c.note_met_lines.new.bits (λ r l. c.rows_met-rows.ensures.below r) c.rows_met-rows.ensures.above
+          c.note_met_lines.ensures.notes.noted;
+      gained = c.note_met_lines.ensures.notes.gained;
     }
 
 pub returns-clause-notes : goal.returns-clause-notes
 returns-clause-notes c =
     let f = c.args.lines.frame in
-    let s = span_of c.bounds_of-bounded.result.piece in
+    let s = span_of c.args.bounded.now.piece in
     let rows = c.rows_met-rows.result in
     let inner = c.rows_between-inner.result in
     let step = c.args.lines.step in
     let last = c.note_met_lines-3.new.bits in
     let k2 = c.note_met_lines-3.ensures.notes.gained.kept in
-    let same = ap span_of c.bounds_of-bounded.ensures.piece in
     record {
-      noted = all_rows_set (span_of c.args.piece.now) f 0 rows.first rows.end f.height c.args.lines.row_step step last
+      noted = all_rows_set s f 0 rows.first rows.end f.height c.args.lines.row_step step last
           (λ r l. c.rows_met-rows.ensures.below r) c.rows_met-rows.ensures.above
-          (λ r l m. subst (λ (t : Span). AreSetIn t f r (r * c.args.lines.row_step) step last) same
           (rows_three (λ q. AreSetIn s f q (q * c.args.lines.row_step) step last) rows.first inner.first inner.end rows.end
           (λ q a b. in_kept s f q (q * c.args.lines.row_step) step c.note_met_lines-2.new.bits last
           (kept_both _ _ _ c.note_passed_lines.ensures.notes.gained.kept k2) (c.note_met_lines-2.ensures.notes.noted q a b))
           (λ q a b. in_kept s f q (q * c.args.lines.row_step) step c.note_passed_lines.new.bits last k2
           (c.note_passed_lines.ensures.notes.noted q a b))
-          c.note_met_lines-3.ensures.notes.noted r l m));
+          c.note_met_lines-3.ensures.notes.noted);
       gained = grind (
         arith,
-        c.bounds_of-bounded.ensures,
         c.note_met_lines-2.ensures,
         c.note_passed_lines.ensures,
         c.note_met_lines-3.ensures,

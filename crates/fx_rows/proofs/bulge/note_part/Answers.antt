@@ -15,7 +15,7 @@ note_run-requires-2-clause-inside c = part_regions _ _ _ _ c.requires.part
 
 pub returns-clause-noted : goal.returns-clause-noted
 returns-clause-noted c =
-    let line = c.args.line in
+    let line = c.args.line.now in
     let f = line.frame in
     let b = c.args.bounded.now in
     let s = bounded_span b in
@@ -34,11 +34,11 @@ returns-clause-noted c =
     (λ k o l h. set_kept s f line.row line.first line.step k _ last k5 (c.note_tip.ensures.notes.noted k (o, l, h)))
     (λ k e. by k6 k e)
   where
-    by : AreKept c.note_first.new.bits c.note_last.new.bits → (k : ℕ) → (k ≡ 0) ⊎ (k ≡ c.args.line.frame.width)
-        → IsSetTo (bounded_span c.args.bounded.now) c.args.line.frame c.args.line.row c.args.line.first c.args.line.step
-        c.note_last.new.bits k
-    by kept k (inl e) = set_kept (bounded_span c.args.bounded.now) c.args.line.frame c.args.line.row c.args.line.first
-        c.args.line.step k _ _ kept (c.note_first.ensures.notes.noted k e)
+    by : AreKept c.note_first.new.bits c.note_last.new.bits → (k : ℕ) → (k ≡ 0) ⊎ (k ≡ c.args.line.now.frame.width)
+        → IsSetTo (bounded_span c.args.bounded.now) c.args.line.now.frame c.args.line.now.row c.args.line.now.first
+        c.args.line.now.step c.note_last.new.bits k
+    by kept k (inl e) = set_kept (bounded_span c.args.bounded.now) c.args.line.now.frame c.args.line.now.row c.args.line.now.first
+        c.args.line.now.step k _ _ kept (c.note_first.ensures.notes.noted k e)
     by kept k (inr e) = c.note_last.ensures.notes.noted k e
 
 pub returns-clause-gained : goal.returns-clause-gained

@@ -1,8 +1,7 @@
 use Rattle.std.proofs.Common.{◌≡◌, refl, arith, w32, to_z, of_z}
 use Rattle.fx_fixed.proofs.Linear.{signed_linear}
 use Rattle.fx_winding.specs.Winding.{span_of}
-use Rattle.fx_rows.proofs.Stepping.{rise_value}
-use Rattle.fx_rows.proofs.Counting.{rise_told, clear_is_cut}
+use Rattle.fx_rows.proofs.Counting.{clear_is_cut}
 use Rattle.fx_rows.proofs.cut.clear_cut.Goals as goal
 
 pub returns : goal.returns
@@ -14,4 +13,4 @@ returns c =
     c.columns_before.ensures.within
     (λ k l. let b = c.columns_before.ensures.below k l in omega (arith, signed_linear, b, ff))
     (λ k l m. let b = c.columns_before.ensures.rest k l m in omega (arith, signed_linear, b, ff))
-    (rise_value c.args.bounded.now _ (rise_told _ _ _ _ c.args.bounded.now.rises)) refl
+    refl

@@ -29,7 +29,7 @@ at_right s row f part k a is l e =
 
 pub returns-then-turn_in : goal.returns-then-turn_in
 returns-then-turn_in c = λ s is.
-    let line = c.args.line in
+    let line = c.args.line.now in
     let f = line.frame in
     let k = c.args.k in
     let p = at_left s line.row f c.args.part.now k c.turn_in.result is c.requires.from c.requires.to c.turn_in.ensures in

@@ -14,7 +14,7 @@ returns-then-changes_at-clause-value c =
 
 pub returns-then-is_between_ends-clause-value : goal.returns-then-is_between_ends-clause-value
 returns-then-is_between_ends-clause-value c =
-    let line = c.args.line in
+    let line = c.args.line.now in
     let s = span_of c.args.piece.now in
     let changes = c.changes_at.ensures s c.requires.part in
     let row : to_z w32 (of_z w32 line.row) ≡ line.row = omega (arith, signed_linear, line.row_near) in

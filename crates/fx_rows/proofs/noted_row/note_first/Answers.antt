@@ -6,8 +6,8 @@ use Rattle.fx_rows.proofs.Kept.{notes_none}
 use Rattle.fx_rows.proofs.noted_row.note_first.Goals as goal
 
 pub returns-then-line-across-clause-notes : goal.returns-then-line-across-clause-notes
-returns-then-line-across-clause-notes c = notes_none _ c.args.line _ _ (λ k e met.
-    let line = c.args.line in
+returns-then-line-across-clause-notes c = notes_none _ c.args.line.now _ _ (λ k e met.
+    let line = c.args.line.now in
     let across = c.args.across in
     let m = met_first (span_of c.args.piece.now) line.frame across.first across.end line.row k c.requires.across met in
     omega (arith, signed_linear, m, e))

@@ -7,8 +7,8 @@ use Rattle.fx_rows.proofs.Kept.{notes_none}
 use Rattle.fx_rows.proofs.noted_row.note_last.Goals as goal
 
 pub returns-then-across-line-clause-notes : goal.returns-then-across-line-clause-notes
-returns-then-across-line-clause-notes c = notes_none _ c.args.line _ _ (λ k e met.
-    let line = c.args.line in
+returns-then-across-line-clause-notes c = notes_none _ c.args.line.now _ _ (λ k e met.
+    let line = c.args.line.now in
     let m = met_last (span_of c.args.piece.now) line.frame c.args.across.first c.args.across.end line.row k c.requires.across met in
     let wide = line.frame.columns.few in
     let step : to_z w32 line.frame.width ≡ pos line.frame.width = to_z_pos w32 line.frame.width (omega (arith, wide)) in

@@ -17,7 +17,7 @@ returns-clause-notes c = record {
 
 pub returns-then-run_at-ne0-clause-notes : goal.returns-then-run_at-ne0-clause-notes
 returns-then-run_at-ne0-clause-notes c =
-    let line = c.args.line in
+    let line = c.args.line.now in
     let f = line.frame in
     let k = c.args.k in
     let s = span_of c.args.piece.now in

@@ -6,7 +6,7 @@ use Rattle.fx_rows.proofs.noted_row.note_place.Goals as goal
 pub returns-clause-notes : goal.returns-clause-notes
 returns-clause-notes c = record {
   noted = λ k a.
-      let line = c.args.line in
+      let line = c.args.line.now in
       let n = c.column_from.result in
       let same : to_z w32 (of_z w32 c.args.x) ≡ c.args.x = omega (arith, signed_linear, c.requires.near) in
       let at = c.column_from.ensures in

@@ -7,7 +7,7 @@ use Rattle.fx_rows.proofs.noted_row.note_run.Goals as goal
 
 pub returns-in-Some-clause-notes : goal.returns-in-Some-clause-notes
 returns-in-Some-clause-notes c =
-    let line = c.args.line in
+    let line = c.args.line.now in
     let s = span_of c.args.piece.now in
     let r = c.in-Some.run' in
     let near = run_column line.frame c.args.run r c.in-Some.is c.requires.inside in
@@ -24,20 +24,20 @@ returns-in-Some-clause-notes c =
 
 pub note_column-requires-clause-near : goal.note_column-requires-clause-near
 note_column-requires-clause-near c =
-    let near = run_column c.args.line.frame c.args.run c.in-Some.run' c.in-Some.is c.requires.inside in
-    let side = c.args.line.frame.columns in
+    let near = run_column c.args.line.now.frame c.args.run c.in-Some.run' c.in-Some.is c.requires.inside in
+    let side = c.args.line.now.frame.columns in
     (omega (arith, signed_linear, near, side), omega (arith, signed_linear, near, side))
 
 pub note_column-requires-in-Some-clause-near : goal.note_column-requires-in-Some-clause-near
 note_column-requires-in-Some-clause-near c =
-    let near = run_column c.args.line.frame c.args.run c.in-Some.run' c.in-Some.is c.requires.inside in
-    let side = c.args.line.frame.columns in
+    let near = run_column c.args.line.now.frame c.args.run c.in-Some.run' c.in-Some.is c.requires.inside in
+    let side = c.args.line.now.frame.columns in
     (omega (arith, signed_linear, near, side), omega (arith, signed_linear, near, side))
 
 pub overflow_add-run : goal.overflow_add-run
 overflow_add-run c =
-    let near = run_column c.args.line.frame c.args.run c.in-Some.run' c.in-Some.is c.requires.inside in
-    let side = c.args.line.frame.columns in
+    let near = run_column c.args.line.now.frame c.args.run c.in-Some.run' c.in-Some.is c.requires.inside in
+    let side = c.args.line.now.frame.columns in
     omega (arith, signed_linear, near, side)
 
 pub note_column-requires-in-Some-clause-room : goal.note_column-requires-in-Some-clause-room

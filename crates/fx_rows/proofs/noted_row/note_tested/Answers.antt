@@ -6,7 +6,7 @@ use Rattle.fx_rows.proofs.noted_row.note_tested.Goals as goal
 pub returns-then-test_segment-clause-notes : goal.returns-then-test_segment-clause-notes
 returns-then-test_segment-clause-notes c =
     let s = span_of c.args.piece.now in
-    let line = c.args.line in
+    let line = c.args.line.now in
     record {
       noted = λ j e. subst (IsSetTo s line.frame line.row line.first line.step c.set_segment.new.bits) (sym e)
           (c.set_segment.ensures.set s);

@@ -11,7 +11,7 @@ use Rattle.fx_rows.proofs.noted_row.note_tip.Goals as goal
 pub returns-in-Some-clause-notes : goal.returns-in-Some-clause-notes
 returns-in-Some-clause-notes c = record {
   noted = λ k a.
-      let line = c.args.line in
+      let line = c.args.line.now in
       let f = line.frame in
       let s = c.strip_of-strip.result in
       let at = c.strip_of-strip.ensures in
@@ -31,7 +31,7 @@ returns-in-Some-clause-notes c = record {
 
 pub returns-then-is_among-clause-notes : goal.returns-then-is_among-clause-notes
 returns-then-is_among-clause-notes c =
-    let line = c.args.line in
+    let line = c.args.line.now in
     let r = c.args.rise in
     let is = c.is_among.ensures c.if-is_among.true in
     notes_none _ line _ _ (λ k a met. among_no_tip (span_of c.args.piece.now) r.foot r.head r.value
@@ -40,7 +40,7 @@ returns-then-is_among-clause-notes c =
 
 pub returns-in_default-clause-notes : goal.returns-in_default-clause-notes
 returns-in_default-clause-notes c =
-    let line = c.args.line in
+    let line = c.args.line.now in
     let s = c.args.piece.now in
     notes_none _ line _ _ (λ k a met. subst (λ b. IsTipPart (place_of s.a) (maybe_place_of b) (place_of s.c)
     (left_at line.frame line.row k) (right_at line.frame line.row k)) c.in_default.is a.2)

@@ -8,5 +8,5 @@ pub returns-clause-end : goal.returns-clause-end
 returns-clause-end c =
     let s = bounded_span c.args.bounded.now in
     let at = strip_row c.strip_of-strip.result c.args.row c.args.row c.requires.row c.strip_of-strip.ensures.row refl in
-    cut_end s c.args.frame c.strip_of-strip.result c.cut_in-cut.result c.args.row c.saturating_sub.result at
-    c.strip_of-strip.ensures.first c.strip_of-strip.ensures.last c.saturating_sub.ensures c.cut_in-cut.ensures.cut
+    cut_end s c.args.frame c.strip_of-strip.result c.end_on.result c.args.row c.saturating_sub.result at
+    c.strip_of-strip.ensures.first c.strip_of-strip.ensures.last c.saturating_sub.ensures c.end_on.ensures.end
