@@ -43,7 +43,7 @@ pub record IsStripEnd (s : Span) (strip : Strip) (end : ℕ) : Type 0 where
       → turn (place_at strip k) s ≡ pos 0
   pub within : end ≤ strip.stop
 
--- what it adds to them
+-- what a piece adds to the columns of a strip: they end there, and those on it are named
 pub record IsCut (s : Span) (strip : Strip) (cut : Cut) : Type 0 where
   pub end : IsStripEnd s strip cut.end
   pub on : IsOnStrip s strip cut.on
