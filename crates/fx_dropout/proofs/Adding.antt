@@ -1,4 +1,4 @@
--- What is added at the places of a pair is what the piece adds there: `missed_added`, `right_added`, `part_added`.
+-- What is added at the places of a pair is what the piece adds there: `off_added`, `missed_added`, `part_added`.
 -- Serves `nearer`.
 use Rattle.std.proofs.Common.{◌≡◌, ◌≢◌, ◌⊎◌, ◌↔◌, inl, inr, refl, sym, ap, ◌∙◌, subst, IsTrue, ℕ, ◌<◌, ℤ, pos, ◌+ℤ◌}
 use Rattle.std.proofs.Common.{◌<ℤ◌, Bool, true, false, List, Any, Option, map, length, get_or, arith}

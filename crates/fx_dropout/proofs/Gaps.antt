@@ -1,4 +1,4 @@
--- Gaps closed one by one are closed together: `closed_then`. Which pixel closes one: `closed_here`, `closed_before`.
+-- Gaps closed one by one are closed together: `closed_then`. Which pixel closes one: `closed_next`, `closed_before`.
 -- Serves `closing` and `chooser`.
 use Rattle.std.proofs.Common.{◌≡◌, ◌≢◌, ◌⊎◌, ◌↔◌, inl, inr, refl, sym, ap, ◌∙◌, subst, ℕ, zero, suc, ◌+◌, ◌-◌, ◌*◌, ◌/◌, ◌%◌, ◌<◌, ◌≤◌, pos, ◌+ℤ◌}
 use Rattle.std.proofs.Common.{Bool, true, false, List, get_or, length, mul-le-mul, arith}

@@ -24,7 +24,7 @@ fn gaps_of(noted: u32, here: u32, next: u32) -> u32
     noted & !(here | next)
 }
 
-/// Leaves of the segments of rows those that are open.
+/// Leaves of the segments of rows those that are open. It reads each word twice, so that the compiler can work on several at once.
 fn leave_open_across(noted: &mut [u32], words: &[u32])
     requires { length noted.old ≡ length words.now }
     ensures { AreOpen 1 noted.old words.now noted.new }

@@ -1,5 +1,5 @@
 -- The code points in rising order: they rise, they are those of the request, and no other list is so.
--- Serves the law `rising` and the answer of `rising_codes`; in `fx_strike` the answers of `write_after` and `survey_hinted`.
+-- Serves the law `rising` and the answer of `rising_codes`; in `fx_strike` the answers of `characters`.
 use Rattle.std.proofs.Common.{◌≡◌, ◌⊎◌, inl, inr, refl, sym, ap, ◌∙◌, subst, arith, ℕ, suc, ◌<◌, ◌≤◌, Bool, true, false, List, []}
 use Rattle.std.proofs.Common.{◌∷◌, length}
 use Rattle.std.specs.Prelude.{◌||◌}

@@ -1,4 +1,4 @@
--- Between its ends a piece adds to a row one value before a column, and 0 from it on: `arc_is_cut`, `line_is_cut`.
+-- Between its ends a piece adds to a row one value before a column, and 0 from it on: `arc_end`, `line_end`.
 -- Serves what a bent arc or a line adds to such a row.
 use Rattle.std.proofs.Common.{◌≡◌, ◌≢◌, ◌⊎◌, inl, inr, refl, sym, ◌∙◌, subst, ℕ, ◌+◌, ◌≤◌, ◌<◌, min, ℤ, pos}
 use Rattle.std.proofs.Common.{◌+ℤ◌, ◌-ℤ◌, ◌*ℤ◌, ◌≤ℤ◌, ◌<ℤ◌, neg_ℤ, Bool, true, false, Option, Some, None, arith}

@@ -1,5 +1,5 @@
 -- A value that rises evenly is, at each column, what the code's sums and products of words give: `value_held`.
--- Serves `is_left`, `is_zero_at` and `moved`, and numbers that words hold.
+-- Serves `is_zero_at`, `moved`, and numbers that words hold.
 use Rattle.std.proofs.Common.{◌≡◌, ◌∙◌, ℕ, ◌^◌, ◌<◌, ℤ, pos, neg_ℤ, ◌+ℤ◌, ◌-ℤ◌, ◌*ℤ◌, FitsSigned, arith, w64, to_z, of_z}
 use Rattle.std.specs.Int.{Width}
 use Rattle.std.proofs.lemmas.Int.{to_z-of_z}

@@ -1,5 +1,5 @@
 -- A value is scaled by its size and its sign.
--- For `scaled_short`.
+-- Serves `Factors`.
 use Rattle.std.proofs.Common.{◌≡◌, ℕ, zero, suc, ◌*◌, ◌<◌, ℤ, pos, negsuc, ◌*ℤ◌, ◌<ℤ◌, ◌≤ℤ◌, unsigned_abs, refl, ap, arith}
 use Rattle.std.proofs.Common.{sym}
 use Rattle.std.proofs.Math.IntN.{neg_ℤ, pos-*ℤ-pos}

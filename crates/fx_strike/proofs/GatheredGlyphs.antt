@@ -1,5 +1,5 @@
 -- What is gathered of glyphs and then of one more is what is gathered of them all: `gathered_push`.
--- Serves `see`, `survey_codes` and the functions of `Gathered`.
+-- Serves `Seeing`, `Making` and the functions of `Gathered`.
 use Rattle.std.proofs.Common.{◌≡◌, ◌∙◌, ℕ, ◌*◌, ◌^◌, ◌<◌, ◌≤◌, suc, ℤ, pos, Bool, ◌&&◌, ◌||◌, List, [], ◌∷◌, ◌++◌}
 use Rattle.std.proofs.Common.{length, refl, ap, ap₂, arith, Some, FitsSigned, w32, to_z, of_z}
 use Rattle.std.specs.Prelude.{slice_get, unwrap_or}

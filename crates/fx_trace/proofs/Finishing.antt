@@ -1,5 +1,5 @@
 -- What a trace returns and leaves, once its text ended.
--- It serves `trace_prelude` and `trace_glyph`.
+-- Serves `Programs`.
 use Rattle.std.proofs.Common.{◌≡◌, ℕ, ◌<◌, ◌≤◌, List, [], ◌++◌, length, take, Option, Result, Ok, Err, OnOk}
 use Rattle.std.proofs.Common.{subst, sym, ap, ◌∙◌, arith, append-nil, length-append}
 use Rattle.std.specs.Borrow.{GName}
