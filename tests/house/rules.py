@@ -490,6 +490,18 @@ def lemmas_used(house):
             yield path, number, "nothing uses %s" % name
 
 
+def heads_current(house):
+    """A name in the head of a lemma file is found in code, definitions or proofs, or is that of a file or a crate.
+
+    The head says what the file shows and what it serves. A name that is gone sends its reader to search for it."""
+    read = house.sources() + house.definitions() + house.lemmas()
+    known = {word for path in read for word in re.findall(r"\w+", re.sub(r"--.*", "", house.text(path)))}
+    known |= {os.path.splitext(os.path.basename(it))[0] for it in read} | set(house.crates())
+    for path in house.paths("crates/*/proofs/*.antt"):
+        for number, line in list(house.lines(path))[:2]:
+            yield from ((path, number, "there is no %s" % it) for it in re.findall(r"`(\w+)`", line) if it not in known)
+
+
 def edits_apply(house):
     """What an edit that must fail replaces is in its file exactly once.
 
@@ -645,5 +657,5 @@ def doors(house):
 RULES = {name: globals()[name] for name in """
     loops_labelled loops_explained functions_documented lines_short slashes prover_statements words definitions_listed paths
     anchors names stands_on files_are_files raster_by_its_door counts refusals header proofs_have_functions lemmas_named_once
-    lemmas_used edits_apply twice readme_short sentences_short idioms doors
+    lemmas_used heads_current edits_apply twice readme_short sentences_short idioms doors
 """.split()}

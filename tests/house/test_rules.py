@@ -150,6 +150,7 @@ PLANTED = [
     ("proofs_have_functions", "crates/fx_one/proofs/sum/Sums/sum/Answers.antt", "", "-- of a type that is not there\n"),
     ("lemmas_named_once", "crates/fx_one/proofs/Totals.antt", "", "pub total_least : ℕ\ntotal_least = total_more\n"),
     ("lemmas_used", "crates/fx_one/proofs/sum/sum/Answers.antt", "total_least c", "refl"),
+    ("heads_current", "crates/fx_one/proofs/Sums.antt", "-- a sum\n", "-- a sum: `total_most`\n"),
     ("edits_apply", "crates/fx_one/src/sum.rt", "saturating_add", "wrapping_add"),
     ("edits_apply", "crates/fx_one/planted/none.edit", "old: 'numbers", "old: 'figures"),
     ("edits_apply", "crates/fx_one/planted/none.edit", "old: ", "older: "),
