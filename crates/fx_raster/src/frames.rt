@@ -13,11 +13,11 @@ use fx_contour::{dropout_frame, outline_frame};
 use fx_outline::Outline;
 use fx_winding::Frame;
 
-/// The frame of an outline by a rule, for `Shape::framed`: `Shape::of` finds it too. There is none if no pixel's centre lies in the
-/// box of the outline's points; with drop-out control only if the outline has no piece. `TooFar` if a point of the outline lies too
+/// The frame of an outline by a rule. There is none if no pixel's centre lies in the box of the outline's points; with drop-out
+/// control only if the outline has no piece. `TooFar` if a point of the outline lies too
 /// far out, `TooLarge` if the frame has too many pixels a side. It takes no memory.
 #[inline(always)]
-pub fn frame_of(outline: &Outline, rule: Rule) -> Result<Option<Frame>, RasterFault>
+pub(crate) fn frame_of(outline: &Outline, rule: Rule) -> Result<Option<Frame>, RasterFault>
     ensures frame { IfOk result (HasFrame rule outline.now.ends.items outline.now.points.items) }
     ensures fault { IfErr result (λ e. shape_of rule outline.now.ends.items outline.now.points.items ≡ Err e) }
 {

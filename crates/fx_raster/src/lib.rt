@@ -2,8 +2,7 @@
 //!
 //! A `Shape` is an outline within the limits, with a rule: a pixel is set if its centre lies on the outline or has a winding number
 //! other than 0 about it; with drop-out control the pixels that close a gap are set as well. `Shape::of` makes a shape of an
-//! outline, or says why there is none; `lies_in` says that all its pixels lie in a box, and `bitmap` makes its bits. A caller that
-//! needs a shape twice keeps the outline's frame (`frame_of`), and makes the second shape with it (`Shape::framed`).
+//! outline, or says why there is none; `lies_in` says that all its pixels lie in a box, and `bitmap` makes its bits.
 //! `specs/Rules` says which pixels are set. Nothing above this crate needs to know how they are found.
 #![tactic(auto)]
 
@@ -16,7 +15,6 @@ mod scratch;
 mod shape;
 mod within;
 
-pub use frames::frame_of;
 pub use fx_contour::ContourFault as RasterFault;
 pub use fx_dropout::Closing;
 pub use fx_rows::Rows;

@@ -49,20 +49,11 @@ impl Shape {
         ensures { result ≡ shape_of rule outline.ends.items outline.points.items }
     {
         let frame = frame_of(&outline, rule)?;
-        Ok(Shape::framed(outline, rule, frame))
-    }
-
-    /// The shape of an outline by a rule, with the frame that `frame_of` found for the same outline before.
-    #[inline(always)]
-    pub fn framed(outline: Outline, rule: Rule, frame: Option<Frame>) -> Shape
-        requires { HasFrame rule outline.ends.items outline.points.items frame }
-        ensures { shape_of rule outline.ends.items outline.points.items ≡ Ok result }
-    {
-        Shape {
+        Ok(Shape {
             outline,
             rule,
             frame,
-        }
+        })
     }
 
     /// Whether the shape's frame lies in a region; if so, each pixel that is set does. It takes no memory and makes no bits.

@@ -8,4 +8,4 @@ returns-in_err-frame c =
     rw (p.1, p.2) (sym c.in_err-frame.ensures.fault)
 
 pub returns : goal.returns
-returns c = sym c.framed.ensures
+returns c = sym c.in_ok-frame.ensures.frame.shape
