@@ -4,7 +4,7 @@ ghost use Rattle.std.specs.Prelude.{◌≡◌, ℕ, ◌+◌, ◌-◌, ◌*◌, �
 ghost use Rattle.fx_winding.specs.Winding.{Span, span_of};
 ghost use Rattle.fx_rows.specs.Parts.{IsRowPart};
 ghost use Rattle.fx_rows.specs.inner.Placing.{IsPieceAdded};
-ghost use Rattle.fx_rows.specs.inner.Strips.{base_place};
+ghost use Rattle.fx_rows.specs.inner.Strips.{base_place, end_of};
 ghost use Rattle.fx_rows.specs.inner.Sides.{place_at};
 ghost use Rattle.fx_rows.specs.inner.Inside.{IsOnInside};
 ghost use Rattle.fx_rows.specs.inner.Cuts.{IsCut};
@@ -132,7 +132,7 @@ fn add_cuts<C: Cuts + Drop, N: Noting>(
     tally: &mut Tally,
 )
     requires inner { AreInnerRows bounded.now band.old rows.first rows.end }
-    requires at { C.AreAt cuts bounded.now (base_place band.old.frame rows.first) }
+    requires at { C.AreAt cuts bounded.now (base_place band.old.frame rows.first) (end_of band.old.frame) }
     ensures added { AreRowsAdded (N.IsTold noter.new) (bounded_span bounded.now) rows.first rows.end band.old band.new }
     ensures kept { Keeps (N.Says noter.old) (N.Says noter.new) }
     ensures count { tally.new.count ≤ tally.old.count + (rows.end - rows.first) }

@@ -48,7 +48,7 @@ rows-preserved g c =
       kept = λ x h. c.tell.ensures.kept x (inv.kept x h);
       at = λ h.
           at_base_above (g.C.Cuts.AreAt c.move_up.new.self c.args.bounded.now) c.args.band.now.frame now strip c.rows.up
-          inv.added.frame at c.strip_of-strip.ensures.base c.move_up.ensures;
+          inv.added.frame at c.strip_of-strip.ensures.base c.strip_of-strip.ensures.last c.move_up.ensures;
       count = omega (arith, n, m);
     }
 

@@ -78,5 +78,5 @@ rows-preserved g c =
             (record { kept = c.set_segment.ensures.kept; only = only }));
       };
       at = λ h. at_base_above (g.C.Cuts.AreAt c.move_up.new.self b) f f strip up refl at c.strip_of-strip.ensures.base
-          c.move_up.ensures;
+          c.strip_of-strip.ensures.last c.move_up.ensures;
     }
