@@ -34,7 +34,7 @@ IsNear z = IsWithin 4194368 z
 -- from the base the columns of a strip are near, and so is the one after them
 pub near_column : (strip : Strip) (k : ℕ) → k ≤ strip.stop → IsNear (right_of (place_at strip 0) k).x
 near_column strip k l =
-    let n = strip.base_near in (omega (arith, signed, n.low, n.end, l), omega (arith, signed, n.low, n.end, l))
+    let n = strip.base_near in (omega (arith, signed, n.from, n.to, l), omega (arith, signed, n.from, n.to, l))
 
 -- a spot is at a column of the strip, or at the one after them
 pub spot_within : (s : Piece) (strip : Strip) (spot : Spot) → IsSpot spot s (place_at strip 0) (end_at strip) → spot.k ≤ strip.stop

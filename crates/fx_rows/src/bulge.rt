@@ -170,7 +170,7 @@ fn note_cuts<C: Cuts + Drop>(
         let line = lines.row(up);
         let strip = strip_of(lines.frame, line.row);
         let end = cuts.end(bounded, strip);
-        set_segment(&line, end.saturating_sub(strip.start), bits);
+        set_segment(&line, end, bits);
         cuts.move_up(bounded, strip);
     }
 }

@@ -3,7 +3,6 @@
 ghost use Rattle.std.specs.Prelude.{◌≡◌, ◌≢◌, ℕ, ℤ, ◌+◌, ◌-◌, ◌<◌, ◌≤◌, pos, ◌+ℤ◌, ◌-ℤ◌, ◌*ℤ◌, ◌≤ℤ◌, ◌<ℤ◌, IsTrue, ◌↔◌};
 ghost use Rattle.std.specs.Prelude.{false, Some};
 ghost use Rattle.fx_winding.specs.Area.{gap_of};
-ghost use Rattle.fx_winding.specs.Limits.{end_of_pixels};
 ghost use Rattle.fx_winding.specs.Winding.{Span, span_of, centre, IsOn};
 ghost use Rattle.fx_rows.specs.inner.Arcs.{gap, AreAreas, IsBentBy, IsTurned, MissesCentres};
 ghost use Rattle.fx_rows.specs.inner.Bands.{bounded_span};
@@ -251,13 +250,11 @@ fn on_end(piece: &Piece, cuts: ArcCuts, strip: Strip, tally: &mut Tally) -> OnRo
     on_column(piece, last, strip, tally)
 }
 
-/// The column of an arc's lower end, or the base, if that is no column of the strip.
+/// The column of an arc's lower end, or the nearest of the strip's, or the one after its last.
 fn first_column(piece: &Piece, strip: Strip) -> u32
-    ensures near { (strip.base +ℤ pos result) <ℤ end_of_pixels }
-    ensures within { result ≤ strip.stop }
+    ensures { result ≤ strip.stop }
 {
-    let k = columns_before(strip, first_from(foot_x(piece)));
-    if k < strip.stop { k } else { 0 }
+    columns_before(strip, first_from(foot_x(piece)))
 }
 
 /// The changes of an arc's areas from column to column.

@@ -15,8 +15,9 @@ note_cuts-requires-clause-at c =
     let at = strip_row c.strip_of-strip.result c.row_of.result _ c.row_of.ensures.near c.strip_of-strip.ensures.row
     c.row_of.ensures.value in
     let base = c.strip_of-strip.ensures.base in
-    let end = c.strip_of-strip.ensures.last in
-    subst (λ z. z) (λ i. IsArcAt c.in-Some.cuts c.args.bounded.now.piece (centre (base i +ℤ pos 0) (at i)) (end i))
+    let stop = c.strip_of-strip.ensures.stop in
+    subst (λ z. z) (λ i. IsArcAt c.in-Some.cuts c.args.bounded.now.piece (centre (base i +ℤ pos 0) (at i))
+    (base i +ℤ pos (stop i)))
     c.in-Some.ensures.arc
 
 pub note_cuts-requires-2-clause-at : goal.note_cuts-requires-2-clause-at
