@@ -1,6 +1,6 @@
 -- Between its ends a piece adds to a row one value before a column, and 0 from it on: `arc_end`, `line_end`.
 -- Serves what a bent arc or a line adds to such a row.
-use Rattle.std.proofs.Common.{◌≡◌, ◌≢◌, ◌⊎◌, inl, inr, refl, sym, ◌∙◌, subst, ℕ, ◌+◌, ◌≤◌, ◌<◌, min, ℤ, pos}
+use Rattle.std.proofs.Common.{◌≡◌, ◌≢◌, ◌⊎◌, inl, inr, refl, sym, ◌∙◌, subst, ℕ, ◌+◌, ◌≤◌, ◌<◌, ℤ, pos}
 use Rattle.std.proofs.Common.{◌+ℤ◌, ◌-ℤ◌, ◌*ℤ◌, ◌≤ℤ◌, ◌<ℤ◌, neg_ℤ, Bool, true, false, Option, Some, None, arith}
 use Rattle.std.proofs.lemmas.Int.{ints}
 use Rattle.fx_fixed.proofs.Order.{below_or_not, below_same_above, below_or_not_ℤ}
@@ -299,12 +299,12 @@ rise_told s foot head value h = grind (arith, ints, signed_linear, below_or_not_
 sign_told : (s : Span) (y : ℤ) → IsInner s.a.y s.c.y y → rise_value s ≡ sign (s.c.y -ℤ s.a.y)
 sign_told s y h = grind (arith, ints, signed_linear, h, sign_above, sign_below)
 
-pub arc_end : (s : Span) (r : Bool) (strip : Strip) (at end : ℕ) → BendsPart s.a s.b s.c r strip → IsEndOfCount s r strip at
-    → end ≡ min at strip.stop → IsInner s.a.y s.c.y (pos 128 *ℤ strip.row +ℤ pos 64) → IsStripEnd s strip end
-arc_end s r strip at end h e is inner = record {
-  inside = λ k l m o off. inside_part s.a s.b s.c r strip k h off (e.inside k (omega (arith, is))) ∙ sym (sign_told s _ inner);
-  outside = λ k l m o off. outside_part s.a s.b s.c r strip k h off (e.outside k (omega (arith, is)) m);
-  within = omega (arith, is);
+pub arc_end : (s : Span) (r : Bool) (strip : Strip) (end : ℕ) → BendsPart s.a s.b s.c r strip → IsEndOfCount s r strip end
+    → end ≤ strip.stop → IsInner s.a.y s.c.y (pos 128 *ℤ strip.row +ℤ pos 64) → IsStripEnd s strip end
+arc_end s r strip end h e within inner = record {
+  inside = λ k l m o off. inside_part s.a s.b s.c r strip k h off (e.inside k o) ∙ sym (sign_told s _ inner);
+  outside = λ k l m o off. outside_part s.a s.b s.c r strip k h off (e.outside k o m);
+  within = within;
 }
 
 -- ---- for a line

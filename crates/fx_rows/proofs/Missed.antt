@@ -1,8 +1,7 @@
 -- At a height that a piece lies above or below it adds nothing (`missed`), and it meets no segment there (`row_unmet`).
 -- Serves the rows that a piece cannot touch.
-use Rattle.std.proofs.Common.{◌≡◌, ◌⊎◌, inl, inr, refl, sym, ap, ◌∙◌, ℕ, ℤ, pos, negsuc, ◌+ℤ◌, ◌-ℤ◌, ◌*ℤ◌, neg_ℤ, ◌≤ℤ◌, ◌<ℤ◌}
+use Rattle.std.proofs.Common.{◌≡◌, ◌⊎◌, inl, inr, refl, sym, ap, ◌∙◌, ℤ, pos, ◌+ℤ◌, ◌-ℤ◌, ◌*ℤ◌, neg_ℤ, ◌≤ℤ◌, ◌<ℤ◌}
 use Rattle.std.proofs.Common.{Option, Some, None, [], ◌∷◌, arith}
-use Rattle.std.proofs.lemmas.Int.{ints}
 use Rattle.fx_fixed.specs.Polynomial.{Expr, var, num, minus, ◌⊞◌, ◌⊠◌, ◌⊟◌}
 use Rattle.fx_fixed.proofs.Linear.{signed, signed_linear}
 use Rattle.fx_fixed.proofs.Order.{below_or_not_ℤ}
@@ -16,7 +15,7 @@ use Rattle.fx_winding.proofs.Beside.{under_off, over_off, total_above, weights_t
 use Rattle.fx_winding.proofs.Crossings.{crossing_level, crossing_under}
 use Rattle.fx_winding.proofs.Meeting.{above_not_met, below_not_met}
 use Rattle.fx_winding.proofs.Regions.{region_cases, region_out}
-use Rattle.fx_winding.proofs.Triangle.{balance_y, not_below_range, not_above_range}
+use Rattle.fx_winding.proofs.Triangle.{balance_y}
 use Rattle.fx_rows.specs.inner.Heights.{IsPastTurn, IsMissed}
 use Rattle.fx_rows.proofs.Signs.{above_or_zero}
 
@@ -71,7 +70,7 @@ other_sign u v w a b c z =
     (minus (var 0 ⊠ var 3 ⊞ var 1 ⊠ var 4 ⊞ var 2 ⊠ var 5)) tt ∙ ap neg_ℤ z
 
 -- heights, as distances from the one before which the arc turns
-abbrev turn_expr : Expr
+abbrev pub turn_expr : Expr
 turn_expr = (var 0 ⊠ var 2 ⊟ var 1 ⊠ var 1) ⊟ var 3 ⊠ (var 0 ⊟ num (pos 2) ⊠ var 1 ⊞ var 2)
 
 from_turn : (a b c y : ℤ) → ¬ (IsBeforeTurn a b c y) → ((b -ℤ y) *ℤ (b -ℤ y)) <ℤ ((a -ℤ y) *ℤ (c -ℤ y))
@@ -82,32 +81,6 @@ from_turn a b c y n =
       | inr h ↦ absurd (n h)
       | inl h ↦ omega (arith, signed_linear, h, e)
     ]
-
--- at a distance below n from its control point no arc comes whose ends are at the distances a and c
-abbrev pub IsOff : ℤ → ℤ → ℤ → Type 0
-IsOff a c n = (k : ℕ) → pos k <ℤ n → (pos k *ℤ (a +ℤ c)) <ℤ (a *ℤ c)
-
-pub turns_low : (a b c y n : ℤ) → (b <ℤ a) × (b <ℤ c) → IsOff (a -ℤ b) (c -ℤ b) n → y <ℤ (b +ℤ n) → ¬ (IsBeforeTurn a b c y)
-turns_low a b c y n ends off l h = by (y -ℤ b) refl
-  where
-    by : (z : ℤ) → z ≡ y -ℤ b → ⊥
-    by (negsuc k) e = not_below_range a b c y (omega (arith, ints, e)) (ends.0, ends.1, h)
-    by (pos k) e =
-        let f = ring (a ∷ b ∷ c ∷ y ∷ []) turn_expr
-        ((var 0 ⊟ var 1) ⊠ (var 2 ⊟ var 1) ⊟ (var 3 ⊟ var 1) ⊠ ((var 0 ⊟ var 1) ⊞ (var 2 ⊟ var 1))) tt in
-        let o = off k (omega (arith, signed_linear, e, l)) in
-        let g = ap (λ (z : ℤ). z *ℤ ((a -ℤ b) +ℤ (c -ℤ b))) e in omega (arith, signed_linear, f, o, g, h)
-
-pub turns_high : (a b c y n : ℤ) → (a <ℤ b) × (c <ℤ b) → IsOff (b -ℤ a) (b -ℤ c) n → (b -ℤ n) <ℤ y → ¬ (IsBeforeTurn a b c y)
-turns_high a b c y n ends off l h = by (b -ℤ y) refl
-  where
-    by : (z : ℤ) → z ≡ b -ℤ y → ⊥
-    by (negsuc k) e = not_above_range a b c y (omega (arith, ints, e)) (ends.0, ends.1, h)
-    by (pos k) e =
-        let f = ring (a ∷ b ∷ c ∷ y ∷ []) turn_expr
-        ((var 1 ⊟ var 0) ⊠ (var 1 ⊟ var 2) ⊟ (var 1 ⊟ var 3) ⊠ ((var 1 ⊟ var 0) ⊞ (var 1 ⊟ var 2))) tt in
-        let o = off k (omega (arith, signed_linear, e, l)) in
-        let g = ap (λ (z : ℤ). z *ℤ ((b -ℤ a) +ℤ (b -ℤ c))) e in omega (arith, signed_linear, f, o, g, h)
 
 -- ---- an arc that turns before it comes to the height of p, which is beyond both its ends
 abbrev AreBeyond : ℤ → ℤ → ℤ → Type 0

@@ -12,7 +12,8 @@ use Rattle.fx_rows.specs.declared.bounded.Bounded.{Bounded}
 use Rattle.fx_rows.specs.declared.strip.Strip.{Strip}
 use Rattle.fx_rows.specs.declared.cells.Cut.{Cut}
 use Rattle.fx_rows.specs.inner.Points.{IsInner}
-use Rattle.fx_rows.specs.inner.Strips.{base_of, base_place}
+use Rattle.fx_rows.specs.inner.Strips.{base_place, end_of}
+use Rattle.fx_rows.specs.inner.Sides.{end_at, IsWhole}
 use Rattle.fx_rows.specs.inner.Inside.{IsOnInside}
 use Rattle.fx_rows.specs.inner.Cuts.{IsCut}
 use Rattle.fx_rows.specs.inner.Sums.{AreWithin}
@@ -60,16 +61,30 @@ pub band_end : (s : Span) (f : Frame) (from up end : ℕ) (old new : Band) → u
     → IsBandAdded s f from end old new
 band_end s f from up end old new e h = subst (λ (n : ℕ). IsBandAdded s f from n old new) e h
 
--- what holds at the base of a row holds at the base of its strip
-pub at_base : (P : Place → Type 0) (f g : Frame) (strip : Strip) (up : ℕ) → g ≡ f → strip.row ≡ g.bottom +ℤ pos up
-    → strip.base ≡ base_of g.left → P (base_place f up) → P (centre (strip.base +ℤ pos 0) strip.row)
-at_base P f g strip up e at base h = grind (arith, signed_linear, e, at, base, h)
+pub whole : (f : Frame) (strip : Strip) → strip.base ≡ f.left → strip.start ≡ 0 → strip.stop ≡ f.width → IsWhole f strip
+whole f strip base start stop = record { base = base; start = start; stop = stop }
 
--- what holds at the base above a strip holds at the base of the next row
-pub at_base_above : (P : Place → Type 0) (f g : Frame) (strip : Strip) (up : ℕ) → g ≡ f → strip.row ≡ g.bottom +ℤ pos up
-    → strip.base ≡ base_of g.left → P (centre (strip.base +ℤ pos 0) (strip.row +ℤ pos 1)) → P (base_place f (up + 1))
-at_base_above P f g strip up e at base h =
+-- the first column of a frame's strip, and the one after its last
+pub whole_first : (f : Frame) (strip : Strip) → IsWhole f strip → strip.base +ℤ pos strip.start ≡ f.left
+whole_first f strip h = omega (arith, signed_linear, h.base, h.start)
+
+pub whole_end : (f : Frame) (strip : Strip) → IsWhole f strip → end_at strip ≡ end_of f
+whole_end f strip h = λ i. h.base i +ℤ pos (h.stop i)
+
+-- what holds at the base and the end of a row holds at those of its strip
+pub at_base : (P : Place → ℤ → Type 0) (f g : Frame) (strip : Strip) (up : ℕ) → g ≡ f → strip.row ≡ g.bottom +ℤ pos up
+    → IsWhole g strip → P (base_place f up) (end_of f)
+    → P (centre (strip.base +ℤ pos 0) strip.row) (end_at strip)
+at_base P f g strip up e at whole h =
+    let end = whole_end g strip whole in grind (arith, signed_linear, e, at, whole, end, h)
+
+-- what holds at the base above a strip, and at its end, holds at those of the next row
+pub at_base_above : (P : Place → ℤ → Type 0) (f g : Frame) (strip : Strip) (up : ℕ) → g ≡ f → strip.row ≡ g.bottom +ℤ pos up
+    → IsWhole g strip → P (centre (strip.base +ℤ pos 0) (strip.row +ℤ pos 1)) (end_at strip)
+    → P (base_place f (up + 1)) (end_of f)
+at_base_above P f g strip up e at whole h =
     let row = at ∙ ap (λ (x : Frame). x.bottom +ℤ pos up) e in
-    let column = base ∙ ap (λ (x : Frame). base_of x.left) e in
+    let column = whole.base ∙ ap (λ (x : Frame). x.left) e in
     let next : strip.row +ℤ pos 1 ≡ f.bottom +ℤ pos (up + 1) = omega (arith, signed_linear, row) in
-    subst (λ z. z) (λ i. P (centre (column i +ℤ pos 0) (next i))) h
+    let last = whole_end g strip whole ∙ ap end_of e in
+    subst (λ z. z) (λ i. P (centre (column i +ℤ pos 0) (next i)) (last i)) h

@@ -24,7 +24,7 @@ use Rattle.fx_rows.specs.inner.Bands.{stride, IsRowAdded, IsBandAdded}
 use Rattle.fx_rows.specs.inner.Heights.{height_of, IsAbove, IsBelow, IsMissed, IsAtMostEnds, IsAtLeastEnds, AreAmong}
 use Rattle.fx_rows.specs.inner.Placing.{AreBetween, AreOthersMet, IsPieceAdded}
 use Rattle.fx_rows.specs.inner.Points.{IsInner, IsRise}
-use Rattle.fx_rows.specs.inner.Sides.{place_at}
+use Rattle.fx_rows.specs.inner.Sides.{place_at, IsWhole}
 use Rattle.fx_rows.specs.inner.Told.{rise_value, IsEnd, IsEndOn}
 use Rattle.fx_rows.specs.inner.Telling.{AreMetBySome, IsAmong, IsRowTold, AreRowsTold, AreRowsAdded, IsPartOf, AreRowsNoted, AreNotedIn}
 use Rattle.fx_rows.specs.inner.Telling.{AreMetAdded, BitsSay, IsBandOf, IsNotedBy, KeepsFor, Saying, met_in, noted}
@@ -33,23 +33,20 @@ use Rattle.fx_rows.proofs.Banding.{band_none, band_three, band_missed}
 use Rattle.fx_rows.proofs.Stepping.{band_next}
 
 -- ---- the end of one row
-pub cut_end : (s : Span) (f : Frame) (strip : Strip) (end : ℕ) (row : ℤ) (n : ℕ) → strip.row ≡ row
-    → strip.base +ℤ pos strip.start ≡ f.left → strip.base +ℤ pos strip.stop ≡ f.left +ℤ pos f.width
-    → n ≡ end - strip.start → IsStripEnd s strip end → IsEndOn s f row n
-cut_end s f strip end row n at_row first last e is = record {
-  within = let w = is.within in omega (arith, signed_linear, first, last, e, w);
-  left = λ k h off. ap (λ (q : Place). turn q s) (sym (at k)) ∙ is.inside (strip.start + k) (omega arith)
-      (let w = is.within in omega (arith, e, h, w)) (omega (arith, e, h)) (off_at k off);
-  right = λ k h l off. ap (λ (q : Place). turn q s) (sym (at k)) ∙ is.outside (strip.start + k) (omega arith)
-      (omega (arith, signed_linear, first, last, l)) (omega (arith, e, h)) (off_at k off);
+pub cut_end : (s : Span) (f : Frame) (strip : Strip) (end : ℕ) (row : ℤ) → strip.row ≡ row
+    → IsWhole f strip → IsStripEnd s strip end → IsEndOn s f row end
+cut_end s f strip end row at_row whole is = record {
+  within = subst (λ (n : ℕ). end ≤ n) whole.stop is.within;
+  left = λ k h off. ap (λ (q : Place). turn q s) (sym (at k)) ∙ is.inside k (omega (arith, whole.start))
+      (let w = is.within in omega (arith, h, w)) h (off_at k off);
+  right = λ k h l off. ap (λ (q : Place). turn q s) (sym (at k)) ∙ is.outside k (omega (arith, whole.start))
+      (omega (arith, whole.stop, l)) h (off_at k off);
 }
   where
-    at : (k : ℕ) → place_at strip (strip.start + k) ≡ centre (f.left +ℤ pos k) row
-    at k =
-        let x : strip.base +ℤ pos (strip.start + k) ≡ f.left +ℤ pos k = omega (arith, signed_linear, first) in
-        λ i. centre (x i) (at_row i)
+    at : (k : ℕ) → place_at strip k ≡ centre (f.left +ℤ pos k) row
+    at k = λ i. centre (whole.base i +ℤ pos k) (at_row i)
 
-    off_at : (k : ℕ) → ¬ (IsOn (centre (f.left +ℤ pos k) row) s) → ¬ (IsOn (place_at strip (strip.start + k)) s)
+    off_at : (k : ℕ) → ¬ (IsOn (centre (f.left +ℤ pos k) row) s) → ¬ (IsOn (place_at strip k) s)
     off_at k off = subst (λ (q : Place). ¬ (IsOn q s)) (sym (at k)) off
 
 -- ---- from row to row

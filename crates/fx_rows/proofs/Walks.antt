@@ -1,6 +1,6 @@
 -- Bent arcs from row to row and from column to column.
 -- Serves the walk along an arc.
-use Rattle.std.proofs.Common.{◌≡◌, ◌≢◌, ◌∙◌, ap, sym, subst, ℕ, ◌+◌, ◌-◌, ◌^◌, ◌<◌, ◌≤◌, max, ℤ, pos, ◌+ℤ◌, ◌-ℤ◌, ◌*ℤ◌, ◌≤ℤ◌, [], ◌∷◌, Bool}
+use Rattle.std.proofs.Common.{◌≡◌, ◌≢◌, ◌∙◌, ap, sym, subst, ℕ, ◌+◌, ◌-◌, ◌^◌, ◌<◌, ◌≤◌, ℤ, pos, ◌+ℤ◌, ◌-ℤ◌, ◌*ℤ◌, ◌≤ℤ◌, [], ◌∷◌, Bool}
 use Rattle.std.proofs.Common.{Option, Some, arith}
 use Rattle.fx_fixed.specs.Polynomial.{Expr, var, ◌⊞◌, ◌⊠◌, ◌⊟◌}
 use Rattle.fx_fixed.proofs.Ring.{ring, one-*ℤ}
@@ -15,7 +15,7 @@ use Rattle.fx_rows.specs.declared.strip.Strip.{Strip}
 use Rattle.fx_rows.specs.declared.walk.Spot.{Spot}
 use Rattle.fx_rows.specs.inner.Arcs.{gap, AreAreas}
 use Rattle.fx_rows.specs.inner.Cuts.{Counts, CountsAt}
-use Rattle.fx_rows.specs.inner.Sides.{place_at}
+use Rattle.fx_rows.specs.inner.Sides.{end_at, place_at}
 use Rattle.fx_rows.specs.inner.Walks.{AreSmall, IsSum, AreTurned, AreSided, IsStep, IsReversed, right_of, IsSpot}
 use Rattle.fx_rows.proofs.Sides.{areas_near, sign_times, middle}
 use Rattle.fx_rows.proofs.Weights.{gap_scaled, sign_square}
@@ -31,11 +31,18 @@ column_place strip k =
 abbrev IsNear : ℤ → Type 0
 IsNear z = IsWithin 4194368 z
 
--- from the base the columns of a strip are near, and so are those before a near one
-pub near_column : (strip : Strip) (j k : ℕ) → ((place_at strip 0).x +ℤ pos 128 *ℤ pos j) ≤ℤ pos 4194368 → k ≤ max j strip.stop
-    → IsNear (right_of (place_at strip 0) k).x
-near_column strip j k h l =
-    let n = strip.base_near in (omega (arith, signed, n.low, n.end, h, l), omega (arith, signed, n.low, n.end, h, l))
+-- from the base the columns of a strip are near, and so is the one after them
+pub near_column : (strip : Strip) (k : ℕ) → k ≤ strip.stop → IsNear (right_of (place_at strip 0) k).x
+near_column strip k l =
+    let n = strip.base_near in (omega (arith, signed, n.from, n.to, l), omega (arith, signed, n.from, n.to, l))
+
+-- a spot is at a column of the strip, or at the one after them
+pub spot_within : (s : Piece) (strip : Strip) (spot : Spot) → IsSpot spot s (place_at strip 0) (end_at strip) → spot.k ≤ strip.stop
+spot_within s strip spot h = let w = h.within in omega (arith, signed, w)
+
+pub within_spot : (strip : Strip) (k : ℕ) → k ≤ strip.stop
+    → ((place_at strip 0).x +ℤ pos 128 *ℤ pos k) ≤ℤ (pos 128 *ℤ end_at strip +ℤ pos 64)
+within_spot strip k l = omega (arith, signed, l)
 
 pub near_row : (strip : Strip) → IsNear (place_at strip 0).y
 near_row strip = let n = strip.row_near in (omega (arith, signed, n), omega (arith, signed, n))
@@ -144,13 +151,13 @@ sided_gap s p areas slanted h =
     ∙ ap (λ z. z *ℤ gap s p) (sign_square (s.c.y -ℤ s.a.y) (changed s.a.y s.c.y slanted))
     ∙ one-*ℤ (gap s p)
 
-pub gap_at_column : (s : Piece) (strip : Strip) (spot : Spot) → IsSpot spot s (place_at strip 0)
+pub gap_at_column : (s : Piece) (strip : Strip) (spot : Spot) → IsSpot spot s (place_at strip 0) (end_at strip)
     → gap_of spot.areas.u spot.areas.v spot.areas.w ≡ gap (span_of s) (place_at strip spot.k)
 gap_at_column s strip spot h = sided_gap (span_of s) (place_at strip spot.k) spot.areas h.slanted
     (subst (λ q. AreSided (span_of s) q spot.areas) (column_place strip spot.k) h.areas)
 
 -- a column counts by its areas
-pub counts_at : (s : Piece) (r : Bool) (strip : Strip) (spot : Spot) → IsSpot spot s (place_at strip 0)
+pub counts_at : (s : Piece) (r : Bool) (strip : Strip) (spot : Spot) → IsSpot spot s (place_at strip 0) (end_at strip)
     → Counts r spot.areas.v (gap_of spot.areas.u spot.areas.v spot.areas.w) ≡ CountsAt (span_of s) r strip spot.k
 counts_at s r strip spot h =
     let slanted = h.slanted in let areas = h.areas in

@@ -4,8 +4,8 @@ ghost use Rattle.std.specs.Prelude.{◌≡◌, ℕ, ◌+◌, ◌-◌, ◌*◌, �
 ghost use Rattle.fx_winding.specs.Winding.{Span, span_of};
 ghost use Rattle.fx_rows.specs.Parts.{IsRowPart};
 ghost use Rattle.fx_rows.specs.inner.Placing.{IsPieceAdded};
-ghost use Rattle.fx_rows.specs.inner.Strips.{base_place};
-ghost use Rattle.fx_rows.specs.inner.Sides.{place_at};
+ghost use Rattle.fx_rows.specs.inner.Strips.{base_place, end_of};
+ghost use Rattle.fx_rows.specs.inner.Sides.{place_at, IsWhole};
 ghost use Rattle.fx_rows.specs.inner.Inside.{IsOnInside};
 ghost use Rattle.fx_rows.specs.inner.Cuts.{IsCut};
 ghost use Rattle.fx_rows.specs.inner.Sums.{AreWithin};
@@ -96,15 +96,13 @@ fn add_met_rows<N: Noting>(
     }
 }
 
-/// Adds a cut to the counts and the marks of its row, in which `end` columns come before its end.
+/// Adds a cut to the counts and the marks of its row.
 #[inline(always)]
 #[tactic(auto, using(fx_fixed::proofs::Linear::signed_linear))]
-fn add_cut(bounded: &Bounded, band: &mut Band, up: u32, strip: Strip, end: u32, cut: Cut)
+fn add_cut(bounded: &Bounded, band: &mut Band, up: u32, strip: Strip, cut: Cut)
     requires up { up < band.old.frame.height }
     requires small { AreWithin (2 ^ 26) band.old.diff.items }
-    requires first { strip.base +ℤ pos strip.start ≡ band.old.frame.left }
-    requires last { strip.base +ℤ pos strip.stop ≡ band.old.frame.left +ℤ pos band.old.frame.width }
-    requires end { end ≡ cut.end - strip.start }
+    requires strip { IsWhole band.old.frame strip }
     requires cut { IsCut (bounded_span bounded.now) strip cut }
     ensures frame { band.new.frame ≡ band.old.frame }
     ensures added { IsRowAdded (bounded_span bounded.now) band.old.frame strip.row (up * stride band.old.frame.width)
@@ -116,7 +114,7 @@ fn add_cut(bounded: &Bounded, band: &mut Band, up: u32, strip: Strip, end: u32, 
         &mut band.diff,
         &mut band.touched,
         first,
-        end as usize,
+        cut.end as usize,
         bounded.rise.value,
     );
     mark(&mut band.marks, frame, first, cut.on);
@@ -132,7 +130,7 @@ fn add_cuts<C: Cuts + Drop, N: Noting>(
     tally: &mut Tally,
 )
     requires inner { AreInnerRows bounded.now band.old rows.first rows.end }
-    requires at { C.AreAt cuts bounded.now (base_place band.old.frame rows.first) }
+    requires at { C.AreAt cuts bounded.now (base_place band.old.frame rows.first) (end_of band.old.frame) }
     ensures added { AreRowsAdded (N.IsTold noter.new) (bounded_span bounded.now) rows.first rows.end band.old band.new }
     ensures kept { Keeps (N.Says noter.old) (N.Says noter.new) }
     ensures count { tally.new.count ≤ tally.old.count + (rows.end - rows.first) }
@@ -142,9 +140,8 @@ fn add_cuts<C: Cuts + Drop, N: Noting>(
     'rows: for up in rows.first..rows.end {
         let strip = strip_of(band.frame, row_of(band.frame, up));
         let cut = cuts.cut(bounded, strip, tally);
-        let end = cut.end.saturating_sub(strip.start);
-        noter.tell(up, end);
-        add_cut(bounded, band, up, strip, end, cut);
+        noter.tell(up, cut.end);
+        add_cut(bounded, band, up, strip, cut);
         cuts.move_up(bounded, strip);
     }
 }

@@ -11,7 +11,7 @@ ghost use Rattle.fx_winding.specs.Notes.{IsNotedAcross, IsNotedUp};
 ghost use Rattle.fx_winding.specs.Bitmaps.{words_for as words_for_of};
 ghost use Rattle.fx_winding.specs.Winding.{span_of};
 ghost use Rattle.fx_rows.specs.inner.Bands.{bounded_span, AreInner};
-ghost use Rattle.fx_rows.specs.inner.Strips.{base_place};
+ghost use Rattle.fx_rows.specs.inner.Strips.{base_place, end_of};
 ghost use Rattle.fx_rows.specs.inner.Lines.{GainOnly, HaveRoom, IsAcrossBit, IsLineBit, IsRowSet, NotesRows};
 ghost use Rattle.fx_rows.specs.inner.Lines.{IsUpBit};
 ghost use Rattle.fx_rows.specs.inner.Points.{HasColumns};
@@ -159,7 +159,7 @@ fn note_cuts<C: Cuts + Drop>(
     bits: &mut [u32],
 )
     requires inner { AreInner bounded.now lines.frame rows.first rows.end }
-    requires at { C.AreAt cuts bounded.now (base_place lines.frame rows.first) }
+    requires at { C.AreAt cuts bounded.now (base_place lines.frame rows.first) (end_of lines.frame) }
     requires columns { HasColumns lines.frame bounded.now.across }
     requires room { HaveRoom lines bits.old }
     ensures { NotesRows (bounded_span bounded.now) lines rows.first rows.end bits.old bits.new }
@@ -170,7 +170,7 @@ fn note_cuts<C: Cuts + Drop>(
         let line = lines.row(up);
         let strip = strip_of(lines.frame, line.row);
         let end = cuts.end(bounded, strip);
-        set_segment(&line, end.saturating_sub(strip.start), bits);
+        set_segment(&line, end, bits);
         cuts.move_up(bounded, strip);
     }
 }

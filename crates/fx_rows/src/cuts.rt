@@ -2,7 +2,7 @@
 
 ghost use Rattle.std.specs.Prelude.{◌≡◌, ◌+◌, ◌≤◌, pos, ◌+ℤ◌, ◌*ℤ◌};
 ghost use Rattle.fx_winding.specs.Winding.{centre};
-ghost use Rattle.fx_rows.specs.inner.Sides.{place_at};
+ghost use Rattle.fx_rows.specs.inner.Sides.{end_at, place_at};
 ghost use Rattle.fx_rows.specs.inner.Points.{IsInner};
 ghost use Rattle.fx_rows.specs.inner.Bands.{bounded_span};
 ghost use Rattle.fx_rows.specs.inner.Cuts.{IsCut, IsStripEnd};
@@ -16,31 +16,32 @@ use fx_winding::Tally;
 
 /// The cuts of a piece in rows between its ends, one after the other, from the lowest.
 pub(crate) trait Cuts {
+    ghost use Rattle.std.specs.Prelude.{ℤ};
     ghost use Rattle.fx_winding.specs.Area.{Place};
     ghost use Rattle.fx_rows.specs.declared.bounded.Bounded.{Bounded};
 
-    // They are the piece's, and stand at the row that has this place at its base.
-    ghost AreAt: { Self → Bounded → Place → Type 0 };
+    // They are the piece's, and stand at the row that has this place at its base, at a column before this one or at it.
+    ghost AreAt: { Self → Bounded → Place → ℤ → Type 0 };
 
     /// Where the columns end that are left of the piece in the row.
     fn end(&mut self, bounded: &Bounded, strip: Strip) -> u32
-        requires at { AreAt self.old bounded.now (place_at strip 0) }
+        requires at { AreAt self.old bounded.now (place_at strip 0) (end_at strip) }
         requires inner { IsInner bounded.now.piece.a.y bounded.now.piece.c.y (pos 128 *ℤ strip.row +ℤ pos 64) }
         ensures end { IsStripEnd (bounded_span bounded.now) strip result }
-        ensures same { AreAt self.new bounded.now (place_at strip 0) };
+        ensures same { AreAt self.new bounded.now (place_at strip 0) (end_at strip) };
 
     /// What the piece adds to the row.
     fn cut(&mut self, bounded: &Bounded, strip: Strip, tally: &mut Tally) -> Cut
-        requires at { AreAt self.old bounded.now (place_at strip 0) }
+        requires at { AreAt self.old bounded.now (place_at strip 0) (end_at strip) }
         requires inner { IsInner bounded.now.piece.a.y bounded.now.piece.c.y (pos 128 *ℤ strip.row +ℤ pos 64) }
         ensures cut { IsCut (bounded_span bounded.now) strip result }
-        ensures same { AreAt self.new bounded.now (place_at strip 0) }
+        ensures same { AreAt self.new bounded.now (place_at strip 0) (end_at strip) }
         ensures count { tally.new.count ≤ tally.old.count + 1 };
 
     /// The cuts go on to the row above, which need not be a row of pixels.
     fn move_up(&mut self, bounded: &Bounded, strip: Strip)
-        requires at { AreAt self.old bounded.now (place_at strip 0) }
-        ensures { AreAt self.new bounded.now (centre (strip.base +ℤ pos 0) (strip.row +ℤ pos 1)) };
+        requires at { AreAt self.old bounded.now (place_at strip 0) (end_at strip) }
+        ensures { AreAt self.new bounded.now (centre (strip.base +ℤ pos 0) (strip.row +ℤ pos 1)) (end_at strip) };
 }
 
 /// The cuts of a piece that has no column's centre in its box.
@@ -50,7 +51,7 @@ pub(crate) struct ClearCuts;
 impl Cuts for ClearCuts {
     ghost use Rattle.std.specs.Prelude.{◌≤ℤ◌};
 
-    ghost AreAt = { λ _ b _. b.across.end ≤ℤ b.across.first };
+    ghost AreAt = { λ _ b _ _. b.across.end ≤ℤ b.across.first };
 
     #[inline(always)]
     fn end(&mut self, bounded: &Bounded, strip: Strip) -> u32 {
@@ -79,7 +80,7 @@ impl Cuts for LineCuts {
     ghost use Rattle.fx_rows.specs.inner.Bands.{bounded_span};
     ghost use Rattle.fx_rows.specs.inner.Sides.{side};
 
-    ghost AreAt = { λ cuts b p.
+    ghost AreAt = { λ cuts b p _.
         (¬ (IsBent (bounded_span b))) × (cuts.side ≡ side (place_of b.piece.a) (place_of b.piece.c) p) };
 
     #[inline(always)]

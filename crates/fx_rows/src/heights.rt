@@ -3,14 +3,14 @@
 ghost use Rattle.std.specs.Prelude.{◌≡◌, ℕ, ℤ, ◌+◌, ◌^◌, ◌<◌, ◌≤◌, pos, ◌+ℤ◌, ◌*ℤ◌, ◌<ℤ◌, ◌≤ℤ◌, IsTrue};
 ghost use Rattle.fx_fixed.specs.Ranges.{IsWithin};
 ghost use Rattle.fx_winding.specs.Limits.{IsPixelNumber};
-ghost use Rattle.fx_winding.specs.Winding.{span_of, IsBeforeTurn};
+ghost use Rattle.fx_winding.specs.Winding.{span_of};
 ghost use Rattle.fx_rows.specs.inner.Heights.{height_of, IsAbove, IsBelow, IsMissed, AreAmong};
 ghost use Rattle.fx_rows.specs.inner.Runs.{IsSplit, IsSplitFrom};
 ghost use Rattle.fx_rows.specs.inner.Telling.{IsPartOf};
 
 use crate::bounded::Rise;
-use crate::slope::{WideSlope, wide_below_zero};
-use fx_winding::{Frame, Piece, Point, difference, first_from, wide_product};
+use crate::extent::{high_of, low_of};
+use fx_winding::{Frame, Piece, first_from};
 
 /// Rows from `first` on and before `end`, counted from the lowest of a frame.
 #[derive(Clone, Copy)]
@@ -96,38 +96,28 @@ fn rows_in(frame: Frame, low: i32, past: i32) -> RowRange
     }
 }
 
-/// The distance that an arc keeps from its control point in one direction, from the distances of its ends.
-fn stays_off(a: i64, c: i64) -> i32
-    requires near { IsWithin (2 ^ 31) a × IsWithin (2 ^ 31) c }
-    requires apart { (pos 0 <ℤ a) × (pos 0 <ℤ c) }
-    ensures size { (pos 0 ≤ℤ result) × (result ≤ℤ pos (2 ^ 24)) }
-    ensures off { (k : ℕ) → pos k <ℤ result → (pos k *ℤ (a +ℤ c)) <ℤ (a *ℤ c) }
+/// The least height that a piece comes to, rounded up.
+#[inline(always)]
+fn low_y(piece: &Piece) -> i32
+    ensures near { IsWithin (2 ^ 30) result }
+    ensures below { (y : ℤ) → y <ℤ result → IsAbove (span_of piece.now) y }
 {
-    let slope = WideSlope {
-        start: -wide_product(a, c),
-        step: i128::from(a + c),
-    };
-    wide_below_zero(slope, 1 << 24) as i32
+    match piece.b {
+        None => piece.a.y.min(piece.c.y),
+        Some(b) => low_of(piece.a.y, b.y, piece.c.y),
+    }
 }
 
-/// The least height of an arc whose control point is below both its ends. Few arcs need it, so its code is kept out of its callers.
-#[inline(never)]
-fn least_of(piece: &Piece, b: Point) -> i32
-    requires { (b.y <ℤ piece.now.a.y) × (b.y <ℤ piece.now.c.y) }
-    ensures size { IsWithin (2 ^ 25) result }
-    ensures turns { (y : ℤ) → y <ℤ result → ¬ (IsBeforeTurn piece.now.a.y b.y piece.now.c.y y) }
+/// The greatest height that a piece comes to, rounded down.
+#[inline(always)]
+fn high_y(piece: &Piece) -> i32
+    ensures near { IsWithin (2 ^ 30) result }
+    ensures above { (y : ℤ) → result <ℤ y → IsBelow (span_of piece.now) y }
 {
-    b.y + stays_off(difference(piece.a.y, b.y), difference(piece.c.y, b.y))
-}
-
-/// The greatest height of an arc whose control point is above both its ends.
-#[inline(never)]
-fn greatest_of(piece: &Piece, b: Point) -> i32
-    requires { (piece.now.a.y <ℤ b.y) × (piece.now.c.y <ℤ b.y) }
-    ensures size { IsWithin (2 ^ 25) result }
-    ensures turns { (y : ℤ) → result <ℤ y → ¬ (IsBeforeTurn piece.now.a.y b.y piece.now.c.y y) }
-{
-    b.y - stays_off(difference(b.y, piece.a.y), difference(b.y, piece.c.y))
+    match piece.b {
+        None => piece.a.y.max(piece.c.y),
+        Some(b) => high_of(piece.a.y, b.y, piece.c.y),
+    }
 }
 
 /// The first row of the plane that a piece can touch.
@@ -136,17 +126,7 @@ fn low_row(piece: &Piece) -> i32
     ensures size { IsWithin (2 ^ 23) result }
     ensures under { (row : ℤ) → row <ℤ result → IsAbove (span_of piece.now) (pos 128 *ℤ row +ℤ pos 64) }
 {
-    let y = piece.a.y.min(piece.c.y);
-    let ends = first_from(y);
-    match piece.b {
-        None => ends,
-        Some(b) => {
-            if y <= b.y {
-                return ends;
-            }
-            ends.min(first_from(least_of(piece, b)))
-        }
-    }
+    first_from(low_y(piece))
 }
 
 /// The first row of the plane that is above a piece.
@@ -155,17 +135,7 @@ fn past_row(piece: &Piece) -> i32
     ensures size { IsWithin (2 ^ 23) result }
     ensures over { (row : ℤ) → result ≤ℤ row → IsBelow (span_of piece.now) (pos 128 *ℤ row +ℤ pos 64) }
 {
-    let y = piece.a.y.max(piece.c.y);
-    let ends = first_from(y + 1);
-    match piece.b {
-        None => ends,
-        Some(b) => {
-            if b.y <= y {
-                return ends;
-            }
-            ends.max(first_from(greatest_of(piece, b) + 1))
-        }
-    }
+    first_from(high_y(piece) + 1)
 }
 
 /// The rows of a frame that a piece can touch.

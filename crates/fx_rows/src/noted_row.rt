@@ -231,14 +231,7 @@ pub(crate) fn note_tip(
     if let Some(b) = piece.b {
         let strip = strip_of(line.frame, line.row);
         let end = tip_column(piece, b, strip);
-        note_outside(
-            piece,
-            part,
-            line,
-            end.saturating_sub(strip.start),
-            bits,
-            tally,
-        );
+        note_outside(piece, part, line, end, bits, tally);
     }
 }
 

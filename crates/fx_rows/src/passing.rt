@@ -39,6 +39,5 @@ pub(crate) fn end_in(bounded: &Bounded, frame: Frame, row: i32, tally: &mut Tall
     ensures end { IsEndOn (bounded_span bounded.now) frame row result }
     ensures count { tally.new.count ≤ tally.old.count + 2 }
 {
-    let strip = strip_of(frame, row);
-    end_on(bounded, strip, tally).saturating_sub(strip.start)
+    end_on(bounded, strip_of(frame, row), tally)
 }

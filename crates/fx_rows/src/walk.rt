@@ -1,16 +1,15 @@
 //! Bent arcs that are walked along: from row to row and from column to column the areas of one column's centre change evenly.
 
-ghost use Rattle.std.specs.Prelude.{◌≡◌, ◌≢◌, ℕ, ℤ, ◌+◌, ◌-◌, ◌<◌, ◌≤◌, max, pos, ◌+ℤ◌, ◌-ℤ◌, ◌*ℤ◌, ◌≤ℤ◌, ◌<ℤ◌, IsTrue, ◌↔◌};
+ghost use Rattle.std.specs.Prelude.{◌≡◌, ◌≢◌, ℕ, ℤ, ◌+◌, ◌-◌, ◌<◌, ◌≤◌, pos, ◌+ℤ◌, ◌-ℤ◌, ◌*ℤ◌, ◌≤ℤ◌, ◌<ℤ◌, IsTrue, ◌↔◌};
 ghost use Rattle.std.specs.Prelude.{false, Some};
 ghost use Rattle.fx_winding.specs.Area.{gap_of};
-ghost use Rattle.fx_winding.specs.Limits.{end_of_pixels};
 ghost use Rattle.fx_winding.specs.Winding.{Span, span_of, centre, IsOn};
 ghost use Rattle.fx_rows.specs.inner.Arcs.{gap, AreAreas, IsBentBy, IsTurned, MissesCentres};
 ghost use Rattle.fx_rows.specs.inner.Bands.{bounded_span};
 ghost use Rattle.fx_rows.specs.inner.Candidates.{IsOnStrip};
 ghost use Rattle.fx_rows.specs.inner.Cuts.{Counts, CountsAt, CountsFirst, IsEndOfCount, IsLast};
 ghost use Rattle.fx_rows.specs.inner.Points.{IsInner};
-ghost use Rattle.fx_rows.specs.inner.Sides.{place_at};
+ghost use Rattle.fx_rows.specs.inner.Sides.{end_at, place_at};
 ghost use Rattle.fx_rows.specs.inner.Walks.{AreSmall, IsSum, IsReversed, AreTurned, IsStep, right_of, IsSpot, IsArcAt, IsArcOrFlat};
 
 use crate::above::lift_of;
@@ -122,7 +121,7 @@ fn is_counted(right: bool, areas: Weights) -> bool
 #[inline(always)]
 #[tactic(auto, using(crate::proofs::Walks::counts_at))]
 fn counts(piece: &Piece, right: bool, spot: Spot, strip: Strip) -> bool
-    requires { IsSpot spot piece.now (place_at strip 0) }
+    requires { IsSpot spot piece.now (place_at strip 0) (end_at strip) }
     ensures { IsTrue result ↔ CountsAt (span_of piece.now) right strip spot.k }
 {
     is_counted(right, spot.areas)
@@ -131,7 +130,7 @@ fn counts(piece: &Piece, right: bool, spot: Spot, strip: Strip) -> bool
 /// Whether a column counts and is in the strip.
 #[inline(always)]
 fn is_short(piece: &Piece, right: bool, spot: Spot, strip: Strip) -> bool
-    requires { IsSpot spot piece.now (place_at strip 0) }
+    requires { IsSpot spot piece.now (place_at strip 0) (end_at strip) }
     ensures short { IsTrue result → (spot.k < strip.stop) × CountsAt (span_of piece.now) right strip spot.k }
     ensures not { ¬ (IsTrue result) → spot.k < strip.stop → ¬ (CountsAt (span_of piece.now) right strip spot.k) }
 {
@@ -141,10 +140,10 @@ fn is_short(piece: &Piece, right: bool, spot: Spot, strip: Strip) -> bool
 /// Another column of the row, one step away.
 #[inline(always)]
 fn beside(piece: &Piece, spot: Spot, strip: Strip, k: u32, step: Weights) -> Spot
-    requires at { IsSpot spot piece.now (place_at strip 0) }
+    requires at { IsSpot spot piece.now (place_at strip 0) (end_at strip) }
     requires step { IsStep (span_of piece.now) (right_of (place_at strip 0) spot.k) (right_of (place_at strip 0) k) step }
-    requires near { k ≤ max spot.k strip.stop }
-    ensures at { IsSpot result piece.now (place_at strip 0) }
+    requires within { k ≤ strip.stop }
+    ensures at { IsSpot result piece.now (place_at strip 0) (end_at strip) }
     ensures column { result.k ≡ k }
 {
     Spot {
@@ -156,10 +155,10 @@ fn beside(piece: &Piece, spot: Spot, strip: Strip, k: u32, step: Weights) -> Spo
 /// The same column in the row above, which need not be a row of pixels.
 #[inline(always)]
 fn above(piece: &Piece, spot: Spot, strip: Strip, step: Weights) -> Spot
-    requires at { IsSpot spot piece.now (place_at strip 0) }
+    requires at { IsSpot spot piece.now (place_at strip 0) (end_at strip) }
     requires step { IsStep (span_of piece.now) (right_of (place_at strip 0) spot.k)
         (right_of (centre (strip.base +ℤ pos 0) (strip.row +ℤ pos 1)) spot.k) step }
-    ensures { IsSpot result piece.now (centre (strip.base +ℤ pos 0) (strip.row +ℤ pos 1)) }
+    ensures { IsSpot result piece.now (centre (strip.base +ℤ pos 0) (strip.row +ℤ pos 1)) (end_at strip) }
 {
     Spot {
         k: spot.k,
@@ -171,9 +170,10 @@ fn above(piece: &Piece, spot: Spot, strip: Strip, step: Weights) -> Spot
 #[inline(always)]
 fn to_end(piece: &Piece, cuts: ArcCuts, strip: Strip) -> Spot
     requires first { CountsFirst (span_of piece.now) cuts.arc.right strip }
-    requires at { IsArcAt cuts piece.now (place_at strip 0) }
-    ensures at { IsSpot result piece.now (place_at strip 0) }
+    requires at { IsArcAt cuts piece.now (place_at strip 0) (end_at strip) }
+    ensures at { IsSpot result piece.now (place_at strip 0) (end_at strip) }
     ensures end { IsEndOfCount (span_of piece.now) cuts.arc.right strip result.k }
+    ensures within { result.k ≤ strip.stop }
 {
     let arc = cuts.arc;
     let mut here = cuts.spot;
@@ -208,7 +208,7 @@ fn is_off(areas: Weights) -> bool
 #[inline(always)]
 #[tactic(auto, using(crate::proofs::Contacts::none_on, crate::proofs::Walks::gap_at_column))]
 fn on_column(piece: &Piece, spot: Spot, strip: Strip, tally: &mut Tally) -> OnRow
-    requires at { IsSpot spot piece.now (place_at strip 0) }
+    requires at { IsSpot spot piece.now (place_at strip 0) (end_at strip) }
     requires only { (k : ℕ) → strip.start ≤ k → k < strip.stop → IsOn (place_at strip k) (span_of piece.now) →
         (k ≡ spot.k) × (gap (span_of piece.now) (place_at strip k) ≡ pos 0) }
     ensures on { IsOnStrip (span_of piece.now) strip result }
@@ -229,7 +229,7 @@ fn on_column(piece: &Piece, spot: Spot, strip: Strip, tally: &mut Tally) -> OnRo
 /// The column beside the end of those that count, if it is on a bent arc. No other can be, and none if the arc touches no centre.
 #[inline(always)]
 fn on_end(piece: &Piece, cuts: ArcCuts, strip: Strip, tally: &mut Tally) -> OnRow
-    requires at { IsArcAt cuts piece.now (place_at strip 0) }
+    requires at { IsArcAt cuts piece.now (place_at strip 0) (end_at strip) }
     requires only { (k : ℕ) → strip.start ≤ k → k < strip.stop → IsOn (place_at strip k) (span_of piece.now) →
         IsLast cuts.arc.right cuts.spot.k k × (gap (span_of piece.now) (place_at strip k) ≡ pos 0) }
     ensures on { IsOnStrip (span_of piece.now) strip result }
@@ -250,12 +250,11 @@ fn on_end(piece: &Piece, cuts: ArcCuts, strip: Strip, tally: &mut Tally) -> OnRo
     on_column(piece, last, strip, tally)
 }
 
-/// The column of an arc's lower end, or the base, if that is no column of the strip.
+/// The column of an arc's lower end, or the nearest of the strip's, or the one after its last.
 fn first_column(piece: &Piece, strip: Strip) -> u32
-    ensures { (strip.base +ℤ pos result) <ℤ end_of_pixels }
+    ensures { result ≤ strip.stop }
 {
-    let k = columns_before(strip, first_from(foot_x(piece)));
-    if k < strip.stop { k } else { 0 }
+    columns_before(strip, first_from(foot_x(piece)))
 }
 
 /// The changes of an arc's areas from column to column.
@@ -290,9 +289,9 @@ fn arc_at(piece: &Piece, b: Point, right: bool, strip: Strip, k: u32, areas: Wei
     requires bent { IsBentBy piece.now b }
     requires slanted { piece.now.a.y ≢ piece.now.c.y }
     requires right { IsTurned (span_of piece.now) right }
-    requires near { (strip.base +ℤ pos k) <ℤ end_of_pixels }
+    requires within { k ≤ strip.stop }
     requires areas { AreAreas (span_of piece.now) (place_at strip k) areas }
-    ensures { IsArcAt result piece.now (place_at strip 0) }
+    ensures { IsArcAt result piece.now (place_at strip 0) (end_at strip) }
 {
     let arc = Arc {
         right,
@@ -312,9 +311,9 @@ fn arc_at(piece: &Piece, b: Point, right: bool, strip: Strip, k: u32, areas: Wei
 fn arc_of(piece: &Piece, b: Point, strip: Strip, k: u32, areas: Weights) -> Option<ArcCuts>
     requires middle { piece.now.b ≡ Some b }
     requires slanted { piece.now.a.y ≢ piece.now.c.y }
-    requires near { (strip.base +ℤ pos k) <ℤ end_of_pixels }
+    requires within { k ≤ strip.stop }
     requires areas { AreAreas (span_of piece.now) (place_at strip k) areas }
-    ensures { IsArcOrFlat result piece.now (place_at strip 0) }
+    ensures { IsArcOrFlat result piece.now (place_at strip 0) (end_at strip) }
 {
     let total = total_of(areas);
     if total == 0 {
@@ -327,7 +326,7 @@ fn arc_of(piece: &Piece, b: Point, strip: Strip, k: u32, areas: Weights) -> Opti
 #[inline(always)]
 pub(crate) fn arc_in(piece: &Piece, strip: Strip, tally: &mut Tally) -> Option<ArcCuts>
     requires slanted { piece.now.a.y ≢ piece.now.c.y }
-    ensures arc { IsArcOrFlat result piece.now (place_at strip 0) }
+    ensures arc { IsArcOrFlat result piece.now (place_at strip 0) (end_at strip) }
     ensures count { tally.new.count ≤ tally.old.count + 1 }
 {
     match piece.b {
@@ -341,19 +340,19 @@ pub(crate) fn arc_in(piece: &Piece, strip: Strip, tally: &mut Tally) -> Option<A
 }
 
 impl Cuts for ArcCuts {
-    ghost AreAt = { λ cuts b p. IsArcAt cuts b.piece p };
+    ghost AreAt = { λ cuts b p end. IsArcAt cuts b.piece p end };
 
     #[inline(always)]
     fn end(&mut self, bounded: &Bounded, strip: Strip) -> u32 {
         self.spot = to_end(&bounded.piece, *self, strip);
-        self.spot.k.min(strip.stop)
+        self.spot.k
     }
 
     #[inline(always)]
     fn cut(&mut self, bounded: &Bounded, strip: Strip, tally: &mut Tally) -> Cut {
         self.spot = to_end(&bounded.piece, *self, strip);
         Cut {
-            end: self.spot.k.min(strip.stop),
+            end: self.spot.k,
             on: on_end(&bounded.piece, *self, strip, tally),
         }
     }

@@ -1,9 +1,14 @@
 -- The heights of rows, and pieces that rows miss.
-use Rattle.std.specs.Prelude.{◌⊎◌, ℕ, ℤ, pos, ◌+ℤ◌, ◌*ℤ◌, ◌≤ℤ◌, ◌<ℤ◌, IsSomeAnd}
+use Rattle.std.specs.Prelude.{◌⊎◌, ℕ, ◌^◌, ℤ, pos, ◌+ℤ◌, ◌*ℤ◌, ◌≤ℤ◌, ◌<ℤ◌, IsSomeAnd}
+use Rattle.fx_fixed.specs.Ranges.{IsWithin}
 use Rattle.fx_winding.specs.Outside.{HasAll}
 use Rattle.fx_winding.specs.Winding.{Span, IsBeforeTurn}
 use Rattle.fx_winding.specs.declared.frame.Frame.{Frame}
 use Rattle.fx_rows.specs.inner.Runs.{IsSplitFrom}
+
+-- the control values of a quadratic are near
+abbrev pub AreNear : ℤ → ℤ → ℤ → Type 0
+AreNear a b c = IsWithin (2 ^ 30) a × IsWithin (2 ^ 30) b × IsWithin (2 ^ 30) c
 
 -- the height of the centres of a frame's row, counted from the lowest
 abbrev pub height_of : Frame → ℕ → ℤ

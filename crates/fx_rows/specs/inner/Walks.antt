@@ -69,18 +69,19 @@ pub record IsArc (arc : Arc) (piece : Piece) : Type 0 where
   pub up : (l r : ℤ) (k : ℕ) → IsStep (span_of piece) (right_of (centre l r) k) (right_of (centre l (r +ℤ pos 1)) k) arc.up
   pub misses : arc.touches ≡ false → MissesCentres (span_of piece)
 
--- a column of the row that has a place at its base, with the areas of its centre and the points of a piece with a slanted chord
-pub record IsSpot (spot : Spot) (piece : Piece) (p : Place) : Type 0 where
+-- a column of the row that has a place at its base, before another column or at it, with the areas of its centre and the points of
+-- a piece with a slanted chord
+pub record IsSpot (spot : Spot) (piece : Piece) (p : Place) (end : ℤ) : Type 0 where
   pub slanted : piece.a.y ≢ piece.c.y
   pub areas : AreSided (span_of piece) (right_of p spot.k) spot.areas
-  pub near : (p.x +ℤ pos 128 *ℤ pos spot.k) ≤ℤ pos 4194368
+  pub within : (p.x +ℤ pos 128 *ℤ pos spot.k) ≤ℤ (pos 128 *ℤ end +ℤ pos 64)
 
--- the cuts of a piece's bent arc, at the row that has a place at its base
-pub record IsArcAt (cuts : ArcCuts) (piece : Piece) (p : Place) : Type 0 where
+-- the cuts of a piece's bent arc, at the row that has a place at its base, at a column before another or at it
+pub record IsArcAt (cuts : ArcCuts) (piece : Piece) (p : Place) (end : ℤ) : Type 0 where
   pub arc : IsArc cuts.arc piece
-  pub spot : IsSpot cuts.spot piece p
+  pub spot : IsSpot cuts.spot piece p end
 
 -- it is that, or the piece's points are on one line
-abbrev pub IsArcOrFlat : Option ArcCuts → Piece → Place → Type 0
-IsArcOrFlat None piece p = ¬ (IsBent (span_of piece))
-IsArcOrFlat (Some cuts) piece p = IsArcAt cuts piece p
+abbrev pub IsArcOrFlat : Option ArcCuts → Piece → Place → ℤ → Type 0
+IsArcOrFlat None piece p end = ¬ (IsBent (span_of piece))
+IsArcOrFlat (Some cuts) piece p end = IsArcAt cuts piece p end

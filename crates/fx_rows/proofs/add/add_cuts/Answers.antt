@@ -1,7 +1,7 @@
 use Rattle.std.proofs.Common.{◌≡◌, subst, ℕ, pos, ◌+ℤ◌, arith}
 use Rattle.fx_rows.specs.inner.Bands.{bounded_span}
 use Rattle.fx_rows.specs.inner.Telling.{AreRowsAdded}
-use Rattle.fx_rows.proofs.Stepping.{strip_row, row_in, inner_row, band_small, at_base, at_base_above}
+use Rattle.fx_rows.proofs.Stepping.{strip_row, row_in, inner_row, band_small, at_base, at_base_above, whole}
 use Rattle.fx_rows.proofs.Telling.{cut_end, added_start, added_next}
 use Rattle.fx_rows.proofs.add.add_cuts.Goals as goal
 
@@ -37,18 +37,18 @@ rows-preserved g c =
     let strip = c.strip_of-strip.result in
     let row = now.bottom +ℤ pos c.rows.up in
     let at = strip_row strip c.row_of.result row c.row_of.ensures.near c.strip_of-strip.ensures.row c.row_of.ensures.value in
-    let is = cut_end s now strip c.cut-cut.result.end row c.saturating_sub-end.result at c.strip_of-strip.ensures.first
-    c.strip_of-strip.ensures.last c.saturating_sub-end.ensures c.cut-cut.ensures.cut.end in
+    let is_whole = whole now strip c.strip_of-strip.ensures.base c.strip_of-strip.ensures.start c.strip_of-strip.ensures.stop in
+    let is = cut_end s now strip c.cut-cut.result.end row at is_whole c.cut-cut.ensures.cut.end in
     let n = c.cut-cut.ensures.count in
     let m = inv.count in
     record {
       added = added_next (g.N.Noting.IsTold c.rows.noter) (g.N.Noting.IsTold c.tell.new.self) s strip.row c.args.rows.first
-          c.rows.up c.saturating_sub-end.result c.args.band.now c.rows.band c.add_cut.new.band (omega arith) at inv.added
+          c.rows.up c.cut-cut.result.end c.args.band.now c.rows.band c.add_cut.new.band (omega arith) at inv.added
           c.add_cut.ensures.frame c.add_cut.ensures.added c.tell.ensures.others c.tell.ensures.told is;
       kept = λ x h. c.tell.ensures.kept x (inv.kept x h);
       at = λ h.
           at_base_above (g.C.Cuts.AreAt c.move_up.new.self c.args.bounded.now) c.args.band.now.frame now strip c.rows.up
-          inv.added.frame at c.strip_of-strip.ensures.base c.move_up.ensures;
+          inv.added.frame at is_whole c.move_up.ensures;
       count = omega (arith, n, m);
     }
 

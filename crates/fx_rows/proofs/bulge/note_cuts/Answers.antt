@@ -1,5 +1,4 @@
 use Rattle.std.proofs.Common.{◌≡◌, ◌+◌, ◌*◌, ℕ, pos, ◌+ℤ◌, refl, ap, sym, subst, arith}
-use Rattle.fx_fixed.proofs.Linear.{signed_linear}
 use Rattle.fx_winding.specs.Bitmaps.{word_bit}
 use Rattle.fx_winding.specs.Winding.{Span}
 use Rattle.fx_winding.specs.declared.frame.Frame.{Frame}
@@ -9,7 +8,7 @@ use Rattle.fx_rows.specs.inner.Told.{IsEnd}
 use Rattle.fx_rows.proofs.Bulges.{in_kept}
 use Rattle.fx_rows.proofs.Kept.{rows_more, gain_both, gain_more}
 use Rattle.fx_rows.proofs.RowMeets.{met_end, end_met_too}
-use Rattle.fx_rows.proofs.Stepping.{strip_row, inner_row, at_base, at_base_above}
+use Rattle.fx_rows.proofs.Stepping.{strip_row, inner_row, at_base, at_base_above, whole}
 use Rattle.fx_rows.proofs.Telling.{cut_end}
 use Rattle.fx_rows.proofs.bulge.note_cuts.Goals as goal
 
@@ -33,11 +32,7 @@ set_segment-requires-clause-room g c = grind (arith, c.requires.room, c.requires
 pub set_segment-requires-clause-column : goal.set_segment-requires-clause-column
 set_segment-requires-clause-column g c =
     let width = ap (λ (f : Frame). f.width) c.row-line.ensures.frame in
-    let end = c.saturating_sub.ensures in
-    let within = c.end-end.ensures.end.within in
-    let first = c.strip_of-strip.ensures.first in
-    let last = c.strip_of-strip.ensures.last in
-    omega (arith, signed_linear, width, end, within, first, last)
+    let within = c.end-end.ensures.end.within in omega (arith, width, within, c.strip_of-strip.ensures.stop)
 
 pub rows-preserved : goal.rows-preserved
 rows-preserved g c =
@@ -48,13 +43,13 @@ rows-preserved g c =
     let now = c.set_segment.new.bits in
     let row_step = c.args.lines.row_step in
     let step = c.args.lines.step in
-    let end = c.saturating_sub.result in
+    let end = c.end-end.result in
     let line = c.row-line.result in
     let at_line = c.row-line.ensures in
     let strip = c.strip_of-strip.result in
     let at = strip_row strip line.row _ line.row_near c.strip_of-strip.ensures.row at_line.row in
-    let is : IsEnd s f up end = cut_end s f strip c.end-end.result _ _ at c.strip_of-strip.ensures.first
-    c.strip_of-strip.ensures.last c.saturating_sub.ensures c.end-end.ensures.end in
+    let is_whole = whole f strip c.strip_of-strip.ensures.base c.strip_of-strip.ensures.start c.strip_of-strip.ensures.stop in
+    let is : IsEnd s f up end = cut_end s f strip c.end-end.result _ at is_whole c.end-end.ensures.end in
     let inner = c.requires.inner.inner up (omega arith) (omega arith) in
     let set = subst (λ z. z) (λ i. (t : Span)
     → IsSetTo t (at_line.frame i) (at_line.row i) (at_line.first i) (at_line.step i) now end) c.set_segment.ensures.set in
@@ -77,6 +72,5 @@ rows-preserved g c =
             (λ n h. record { r = up; row = omega (arith, c.requires.inner.within); line = h })
             (record { kept = c.set_segment.ensures.kept; only = only }));
       };
-      at = λ h. at_base_above (g.C.Cuts.AreAt c.move_up.new.self b) f f strip up refl at c.strip_of-strip.ensures.base
-          c.move_up.ensures;
+      at = λ h. at_base_above (g.C.Cuts.AreAt c.move_up.new.self b) f f strip up refl at is_whole c.move_up.ensures;
     }

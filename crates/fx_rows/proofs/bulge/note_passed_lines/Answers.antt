@@ -1,6 +1,5 @@
 use Rattle.std.proofs.Common.{◌≡◌, ◌∙◌, ap, subst, pos, ◌+ℤ◌, arith, w64, to_z, of_z}
 use Rattle.fx_fixed.proofs.Linear.{signed_linear}
-use Rattle.fx_winding.specs.Area.{Place}
 use Rattle.fx_winding.specs.Winding.{place_of, centre}
 use Rattle.fx_rows.specs.inner.Sides.{side}
 use Rattle.fx_rows.specs.inner.Walks.{IsArcAt}
@@ -16,7 +15,9 @@ note_cuts-requires-clause-at c =
     let at = strip_row c.strip_of-strip.result c.row_of.result _ c.row_of.ensures.near c.strip_of-strip.ensures.row
     c.row_of.ensures.value in
     let base = c.strip_of-strip.ensures.base in
-    subst (λ (p : Place). IsArcAt c.in-Some.cuts c.args.bounded.now.piece p) (λ i. centre (base i +ℤ pos 0) (at i))
+    let stop = c.strip_of-strip.ensures.stop in
+    subst (λ z. z) (λ i. IsArcAt c.in-Some.cuts c.args.bounded.now.piece (centre (base i +ℤ pos 0) (at i))
+    (base i +ℤ pos (stop i)))
     c.in-Some.ensures.arc
 
 pub note_cuts-requires-2-clause-at : goal.note_cuts-requires-2-clause-at

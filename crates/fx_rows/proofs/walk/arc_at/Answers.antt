@@ -1,13 +1,11 @@
-use Rattle.std.proofs.Common.{pos, ◌+ℤ◌, arith}
-use Rattle.fx_fixed.proofs.Linear.{signed}
+use Rattle.std.proofs.Common.{pos, ◌+ℤ◌}
 use Rattle.fx_winding.specs.Winding.{span_of}
-use Rattle.fx_rows.proofs.Walks.{sided, step_next, step_up, column_place}
+use Rattle.fx_rows.proofs.Walks.{sided, step_next, step_up, column_place, within_spot}
 use Rattle.fx_rows.proofs.walk.arc_at.Goals as goal
 
 pub returns : goal.returns
 returns c =
     let s = c.args.piece.now in
-    let near = c.requires.near in
     let across = c.across_of.ensures in
     let up = c.up_of.ensures in
     record {
@@ -23,6 +21,6 @@ returns c =
         slanted = c.requires.slanted;
         areas = sided (span_of s) _ _ c.args.areas c.turned_areas-3.result c.requires.areas c.turned_areas-3.ensures
             (column_place c.args.strip c.args.k);
-        near = omega (arith, signed, near);
+        within = within_spot c.args.strip c.args.k c.requires.within;
       };
     }

@@ -2,7 +2,7 @@ use Rattle.std.proofs.Common.{◌≡◌, ℕ, Bool, true, false, not, arith}
 use Rattle.fx_winding.specs.Winding.{span_of}
 use Rattle.fx_rows.specs.inner.Cuts.{IsLast}
 use Rattle.fx_rows.proofs.Contacts.{none_on}
-use Rattle.fx_rows.proofs.Walks.{step_before}
+use Rattle.fx_rows.proofs.Walks.{step_before, spot_within}
 use Rattle.fx_rows.proofs.walk.on_end.Goals as goal
 
 -- the column beside the end
@@ -24,3 +24,7 @@ pub beside-last-requires-clause-step : goal.beside-last-requires-clause-step
 beside-last-requires-clause-step c =
     step_before (span_of c.args.piece.now) _ c.args.cuts.spot.k c.args.cuts.arc.next c.reversed.result (omega arith)
     c.requires.at.arc.next c.reversed.ensures
+
+pub beside-last-requires-clause-within : goal.beside-last-requires-clause-within
+beside-last-requires-clause-within c =
+    let within = spot_within c.args.piece.now c.args.strip c.args.cuts.spot c.requires.at.spot in omega (arith, within)

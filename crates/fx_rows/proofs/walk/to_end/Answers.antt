@@ -2,7 +2,7 @@ use Rattle.std.proofs.Common.{arith}
 use Rattle.fx_winding.specs.Winding.{span_of}
 use Rattle.fx_winding.proofs.Places.{clash}
 use Rattle.fx_rows.specs.inner.Sides.{place_at}
-use Rattle.fx_rows.proofs.Walks.{step_before}
+use Rattle.fx_rows.proofs.Walks.{step_before, spot_within}
 use Rattle.fx_rows.proofs.walk.to_end.Goals as goal
 
 pub beside-here-requires-clause-step : goal.beside-here-requires-clause-step
@@ -36,6 +36,10 @@ returns-then-is_short-clause-end c = record {
       (c.requires.first c.right.here.k j h n);
 }
 
+pub returns-then-is_short-clause-within : goal.returns-then-is_short-clause-within
+returns-then-is_short-clause-within c =
+    spot_within c.args.piece.now c.args.strip c.right.here c.right.invariant.at
+
 pub left-init : goal.left-init
 left-init c = record {
   at = c.requires.at.spot;
@@ -47,6 +51,14 @@ pub beside-left-requires-clause-step : goal.beside-left-requires-clause-step
 beside-left-requires-clause-step c =
     step_before (span_of c.args.piece.now) (place_at c.args.strip 0) c.left.here.k c.args.cuts.arc.next c.reversed.result
     (omega arith) c.requires.at.arc.next c.reversed.ensures
+
+pub beside-left-requires-clause-within : goal.beside-left-requires-clause-within
+beside-left-requires-clause-within c =
+    let within = spot_within c.args.piece.now c.args.strip c.left.here c.left.invariant.at in omega (arith, within)
+
+pub returns-then-counts-clause-within : goal.returns-then-counts-clause-within
+returns-then-counts-clause-within c =
+    spot_within c.args.piece.now c.args.strip c.left.here c.left.invariant.at
 
 pub returns-then-counts-clause-end : goal.returns-then-counts-clause-end
 returns-then-counts-clause-end c =

@@ -20,7 +20,7 @@ returns-clause-cut c =
     let s = span_of c.args.bounded.now.piece in
     let arc = c.requires.at.arc in
     record {
-      end = arc_end s _ c.args.strip _ _ (bends s.a s.b s.c _ c.args.strip arc.bent c.requires.inner arc.turned)
-          c.to_end-self.ensures.end c.min.ensures c.requires.inner;
+      end = arc_end s _ c.args.strip _ (bends s.a s.b s.c _ c.args.strip arc.bent c.requires.inner arc.turned)
+          c.to_end-self.ensures.end c.to_end-self.ensures.within c.requires.inner;
       on = c.on_end.ensures.on;
     }

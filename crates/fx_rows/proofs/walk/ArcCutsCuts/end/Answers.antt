@@ -12,5 +12,5 @@ pub returns-clause-end : goal.returns-clause-end
 returns-clause-end c =
     let s = span_of c.args.bounded.now.piece in
     let arc = c.requires.at.arc in
-    arc_end s _ c.args.strip _ _ (bends s.a s.b s.c _ c.args.strip arc.bent c.requires.inner arc.turned)
-    c.to_end-self.ensures.end c.min.ensures c.requires.inner
+    arc_end s _ c.args.strip _ (bends s.a s.b s.c _ c.args.strip arc.bent c.requires.inner arc.turned)
+    c.to_end-self.ensures.end c.to_end-self.ensures.within c.requires.inner
