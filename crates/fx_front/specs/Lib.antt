@@ -1,3 +1,4 @@
+pub mod Answered
 pub mod Places
 pub mod Lines
 pub mod inner

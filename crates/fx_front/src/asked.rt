@@ -8,6 +8,7 @@ use fx_fixed::Digits;
 use fx_words::{Parts, has, value_in};
 
 /// What a command line asks a front for.
+#[derive(Drop)]
 pub enum Asked<'a> {
     /// To print the help, of a command.
     Help(Option<&'a str>),

@@ -1,7 +1,11 @@
 //! The lines after a run: what to do.
-ghost use Rattle.std.specs.Prelude.{◌≡◌};
+ghost use Rattle.std.specs.Prelude.{◌≡◌, ◌≢◌, ◌&&◌, codes, if◌then◌else◌};
 ghost use Rattle.fx_fixed.specs.Changes.{change_of};
-ghost use Rattle.fx_front.specs.Lines.{SaysLine};
+ghost use Rattle.fx_words.specs.Parts.{text_in, texts, value_in};
+ghost use Rattle.fx_front.specs.Lines.{Says, SaysLine, Tells};
+ghost use Rattle.fx_front.specs.Places.{is_named};
+ghost use Rattle.fx_front.specs.inner.Advised.{AdvisesRefusal, after_halt, after_refusal, is_other, why_no_glyph};
+ghost use Rattle.fx_front.specs.inner.Asked.{names_glyph};
 
 use crate::asked::AskedRun;
 use crate::facts::{Counts, Facts, RefusalFacts};
@@ -59,7 +63,10 @@ pub fn say_after<G: Tool, E: Sink>(
     err: &mut E,
 )
     ensures { (between : E) × SaysLine (change_of E.held E.fault_count err.old between)
-        × SaysLine (change_of E.held E.fault_count between err.new) }
+        × SaysLine (change_of E.held E.fault_count between err.new)
+        × (let parts = task.now.parts.now in AdvisesRefusal (G.learned program.now).refused ended.status parts.is_make
+        (names_glyph (texts parts.words.items)) (is_named (text_in task.now.command) (codes "trace"))
+        (Tells (change_of E.held E.fault_count between err.new))) }
 {
     let mut font_or_file = Text::new(alloc);
     if ended.status == 0 {
@@ -76,12 +83,19 @@ fn add_font_or_file(text: &mut Text, facts: &Facts, task: &AskedRun<'_, '_>) {
     if let Some(name) = task.parts.output
         && task.parts.is_make
         && let Some((_, ending)) = name.rsplit_once('.')
-        && is_among(ending, OTHERS)
+        && is_other(ending)
     {
         text.add_with(IS_BDF, name);
     } else if facts.is_variable {
         text.add_text(IS_VARIABLE);
     }
+}
+
+/// Whether a name ends like that of a file of another format.
+fn is_other(ending: &str) -> bool
+    ensures { result ≡ is_other ending.now }
+{
+    is_among(ending, OTHERS)
 }
 
 /// Adds advice on a run.
@@ -92,7 +106,10 @@ fn add_run<G: Tool>(
     task: &AskedRun<'_, '_>,
     ended: Ended,
     is_file: bool,
-) {
+)
+    ensures { let parts = task.now.parts.now in AdvisesRefusal (G.learned program.now).refused ended.status parts.is_make
+        (names_glyph (texts parts.words.items)) (is_named (text_in task.now.command) (codes "trace")) (Says text.old text.new) }
+{
     let facts = program.facts();
     match (ended.status, facts.strike, facts.refused) {
         (0, Some(counts), _) => add_strike(text, task, facts, counts, ended.is_blank),
@@ -122,7 +139,11 @@ fn add_strike(
 }
 
 /// Why a strike has no glyph.
-fn why_no_glyph(task: &AskedRun<'_, '_>, counts: Counts) -> &'static str {
+fn why_no_glyph(task: &AskedRun<'_, '_>, counts: Counts) -> &'static str
+    ensures { let parts = task.now.parts.now in let words = texts parts.words.items in
+        result.now ≡ why_no_glyph counts.missing
+        (value_in (if parts.is_make then codes "--chars" else codes "--char") words) words }
+{
     if counts.missing > 0 {
         LACKS_ALL
     } else if task.list() == Some("") {
@@ -160,7 +181,11 @@ fn add_refusal<G: Tool>(
     program: &G,
     task: &AskedRun<'_, '_>,
     refused: RefusalFacts,
-) {
+)
+    ensures { let parts = task.now.parts.now in refused.number ≢ 10 → refused.number ≢ 25 → refused.number ≢ 61
+        → Says text.old text.new (after_refusal refused parts.is_make (names_glyph (texts parts.words.items) refused.glyph)
+        (is_named (text_in task.now.command) (codes "trace"))) }
+{
     let advice = refused.advice;
     match (refused.number, &program.facts().start) {
         (10, Some(start)) => text.add_text(kind_of(&KINDS, start).unwrap_or(advice)),
@@ -178,14 +203,26 @@ fn add_refusal<G: Tool>(
 }
 
 /// Adds what to do after a halt. A trace always runs the programs.
-fn add_halt(text: &mut Text, task: &AskedRun<'_, '_>, refused: RefusalFacts) {
-    if task.parts.is_make && refused.is_halted_glyph {
-        text.add_text("--refused unhinted draws such characters without hinting; ");
-    }
-    if !task.is("trace") {
-        text.add_text("with --unhinted no program of the font runs; ");
-    }
+fn add_halt(text: &mut Text, task: &AskedRun<'_, '_>, refused: RefusalFacts)
+    ensures { Says text.old text.new (after_halt task.now.parts.now.is_make refused.is_halted_glyph
+        (is_named (text_in task.now.command) (codes "trace")) refused.advice.now) }
+{
+    text.add_if(
+        draws_unhinted(task, refused),
+        "--refused unhinted draws such characters without hinting; ",
+    );
+    text.add_if(
+        !task.is("trace"),
+        "with --unhinted no program of the font runs; ",
+    );
     text.add_with("to fix the font, %", refused.advice);
+}
+
+/// Whether a strike may draw the refused glyph without hinting.
+fn draws_unhinted(task: &AskedRun<'_, '_>, refused: RefusalFacts) -> bool
+    ensures { result ≡ (task.now.parts.now.is_make && refused.is_halted_glyph) }
+{
+    task.parts.is_make && refused.is_halted_glyph
 }
 
 /// Adds which faces a file has, by its first bytes.

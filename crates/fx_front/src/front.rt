@@ -6,18 +6,17 @@ ghost use Rattle.fx_front.specs.Places.{IsStatus};
 ghost use Rattle.fx_front.specs.Lines.{SaysLine};
 ghost use Rattle.fx_front.specs.inner.Asked.{command_in, is_explained};
 
-use crate::asked::{Asked, AskedRun, asked_by};
-use crate::explained::say_after;
-use crate::help::{HELPS, OVERVIEW, VERSION};
+use crate::answer::answer;
+use crate::asked::{AskedRun, asked_by};
 use crate::input::Input;
 use crate::lines::tell;
 use crate::meant::takes_font;
-use crate::output::{NO_FOLDER, Outlet, Output, output_of, why_closed};
-use crate::run::run_to_place;
+use crate::output::{Outlet, Output, output_of, why_closed};
+use crate::run::{Files, run_to_end, say_unwritten};
 use crate::text::Text;
 use crate::tool::Tool;
-use fx_fixed::{FromReader, Sink, ToSink, put_all};
-use fx_words::{listed, part, value_in, value_of};
+use fx_fixed::{FromReader, Sink, ToSink};
+use fx_words::{listed, part, value_in};
 use std::alloc::{AllocError, Global};
 use std::fs::File;
 use std::io::IsTerminal;
@@ -35,36 +34,16 @@ const FONT_FILE: &str =
 pub fn run_front<G: Tool>(rt: &HostRuntime, program: &mut G, words: &[&str]) -> io::Result<u8>
     ensures { IfOk result IsStatus }
 {
-    match asked_by(words, rt.stdin().is_terminal()) {
-        Asked::Version => Ok(print(rt, VERSION)),
-        Asked::Help(None) => Ok(print(rt, OVERVIEW)),
-        Asked::Help(Some(command)) => Ok(print_help(rt, command)),
-        Asked::Run => Ok(run_words(rt, program, words)?),
-    }
-}
-
-/// Prints the help of a command, or says that there is none. Returns the status.
-fn print_help(rt: &HostRuntime, command: &str) -> u8
-    ensures { IsStatus result }
-{
-    match value_of(&HELPS, command) {
-        Some(text) => print(rt, text),
-        None => {
-            say(rt, &["usage"]);
-            let what = "'; 'mkstrike help' lists the commands";
-            say(rt, &["there is no help for '", command, what]);
-            2
-        }
-    }
-}
-
-/// Prints a text. Returns the status.
-fn print(rt: &HostRuntime, text: &str) -> u8
-    ensures { IsStatus result }
-{
-    match put_all(&mut ToSink::new(rt.stdout()), text.as_bytes()) {
-        Ok(()) => 0,
-        Err(_) => 1,
+    let asked = asked_by(words, rt.stdin().is_terminal());
+    let answered = answer(
+        rt.alloc(),
+        &asked,
+        &mut ToSink::new(rt.stdout()),
+        &mut ToSink::new(rt.stderr()),
+    );
+    match answered {
+        Some(status) => Ok(status),
+        None => Ok(run_words(rt, program, words)?),
     }
 }
 
@@ -221,7 +200,7 @@ fn refuse_output(rt: &HostRuntime, task: &AskedRun<'_, '_>, why: &str) -> u8
     ensures { IsStatus result }
 {
     let name = task.parts.output.unwrap_or("");
-    say(rt, &["can't write '", name, "': ", why]);
+    say_unwritten(rt.alloc(), name, why, &mut ToSink::new(rt.stderr()));
     1
 }
 
@@ -235,28 +214,25 @@ fn run_from<G: Tool>(
 ) -> u8
     ensures { IsStatus result }
 {
-    let mut err = ToSink::new(rt.stderr());
-    let ended = run_to_place(
+    run_to_end(
         rt.alloc(),
         program,
         task,
         &mut FromReader::new(input),
         &mut Outlet { rt, output },
-        &mut err,
-    );
-    if ended.is_unmade && ended.status == 1 {
-        return refuse_output(rt, task, NO_FOLDER);
-    }
-    if ended.status == 0 && !ended.is_named {
-        return refuse_output(rt, task, "the new file could not be given its name");
-    }
-    let is_file = ended.status == 2 && begins_with_file(rt, task);
-    say_after(rt.alloc(), program, task, ended, is_file, &mut err);
-    ended.status
+        &mut ToSink::new(rt.stderr()),
+        &Named { rt },
+    )
 }
 
-/// Whether the first word names a file.
-fn begins_with_file(rt: &HostRuntime, task: &AskedRun<'_, '_>) -> bool {
-    let first = task.parts.words.get(1).copied().unwrap_or("");
-    matches!(fs::metadata(rt, first), Ok(found) if found.is_file())
+/// The files of the system.
+#[derive(Drop)]
+struct Named<'a> {
+    rt: &'a HostRuntime,
+}
+
+impl<'a> Files for Named<'a> {
+    fn is_file(&self, name: &str) -> bool {
+        matches!(fs::metadata(self.rt, name), Ok(found) if found.is_file())
+    }
 }

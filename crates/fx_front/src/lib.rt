@@ -2,6 +2,7 @@
 //! that say what to do. It knows nothing of fonts: it runs a `Tool`, and reads the `Facts` of the run.
 #![tactic(auto)]
 
+mod answer;
 mod asked;
 mod destination;
 mod explained;
@@ -25,6 +26,6 @@ pub use explained::say_after;
 pub use facts::{Counts, Facts, RefusalFacts};
 pub use front::{run_front, say_not_text};
 pub use fx_words::Parts;
-pub use run::{Ended, run_to_place};
+pub use run::{Ended, Files, run_to_end, run_to_place};
 pub use text::Text;
 pub use tool::Tool;

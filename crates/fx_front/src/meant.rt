@@ -1,7 +1,8 @@
 //! Which word an unknown one may mean, and what to use in its place.
 ghost use Rattle.std.specs.Prelude.{◌≡◌, ◌==◌};
 ghost use Rattle.std.specs.List.{slice_split};
-ghost use Rattle.fx_words.specs.Parts.{has};
+ghost use Rattle.fx_words.specs.Parts.{has, text_in};
+ghost use Rattle.fx_front.specs.inner.Advised.{usual_for};
 ghost use Rattle.fx_front.specs.inner.Asked.{commands};
 
 use crate::help::SETS;
@@ -94,11 +95,9 @@ pub(crate) fn instead_of(option: &str) -> Option<&'static str> {
 }
 
 /// The second column of the first row that has the word in its first. If there are `words`, the second must be one of them.
-fn usual_for(
-    rows: &[(&'static str, &'static str)],
-    word: &str,
-    words: &str,
-) -> Option<&'static str> {
+fn usual_for(rows: &[(&'static str, &'static str)], word: &str, words: &str) -> Option<&'static str>
+    ensures { text_in result ≡ usual_for rows.now word.now words.now }
+{
     // No row so far fits.
     'rows: for row in rows {
         if is_among(word, row.0) && (words.is_empty() || is_among(row.1, words)) {

@@ -1,4 +1,8 @@
 //! The output by its name.
+ghost use Rattle.std.specs.Prelude.{◌≡◌};
+ghost use Rattle.fx_words.specs.Parts.{has};
+ghost use Rattle.fx_front.specs.Places.{standard};
+
 use crate::destination::Destination;
 use crate::paths::{beside_streams, folder_of, followed};
 use fx_words::has;
@@ -65,7 +69,7 @@ pub(crate) fn output_of(
     font: &str,
 ) -> Result<Result<Output, &'static str>, AllocError> {
     let name = match name {
-        Some(name) if !has(&STANDARD, name) => name,
+        Some(name) if !is_standard(name) => name,
         _ => return Ok(Ok(Output::Standard)),
     };
     match fs::metadata(rt, name) {
@@ -80,6 +84,13 @@ pub(crate) fn output_of(
             _ => Ok(Err(NO_FOLDER)),
         },
     }
+}
+
+/// Whether this is a name of standard output.
+fn is_standard(name: &str) -> bool
+    ensures { result ≡ has standard name.now }
+{
+    has(&STANDARD, name)
 }
 
 /// A new file of this name, with the permissions of the one that it replaces; or why it can't be made.

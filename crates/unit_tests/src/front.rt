@@ -102,6 +102,8 @@ impl Tool for Fake {
 
     ghost Ran = { λ _ _ _ _ _. ⊤ };
 
+    ghost learned = { λ f. f.facts };
+
     fn run<R: Source, O: Sink, E: Sink>(
         &mut self,
         _alloc: Global,
