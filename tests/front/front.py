@@ -173,10 +173,6 @@ def outputs_that_are_there(it):
         told = (status, said.split("\n")[0][:len(due[1])], os.stat(it.path("old.bdf")).st_mode & 0o777, it.read("old.bdf") == b"old")
         it.equal("-o over a file of mode %o" % mode, told, due)
         it.remove("old.bdf")
-    for what, taken in (("a file", "touch .mkstrike-$$-0"), ("a pipe", "mkfifo .mkstrike-$$-0"), ("a link", "ln -s copy.ttf .mkstrike-$$-0")):
-        status, _, said = it.shell(taken + '; exec "$0" "$@"', *MAKE, "copy.ttf", "-o", "new.bdf")
-        it.equal("a new file whose name is taken by %s" % what, (status, (it.read("new.bdf") or b"")[-8:]), (0, b"ENDFONT\n"))
-        it.remove("new.bdf")
     it.check("the font still stays", "" if it.read("copy.ttf") == font else "it was written over")
     it.remove("hard.ttf", "soft.ttf")
 
@@ -243,6 +239,9 @@ def help_and_version(it):
     for name, words in asked:
         it.equal(" ".join(words), it.run(words), (0, texts[name], ""))
     it.equal("help of what is no command", it.run(["help", "nothing"])[0], 2)
+    for words in (["help"], ["help", "make"], ["--version"]):
+        with open("/dev/full", "wb") as full:
+            it.equal("%s on a full disk" % " ".join(words), it.run(words, stdout=full)[::2], (1, ""))
     it.check("the commands and the sets", "" if len(texts) == 9 else sorted(texts))
 
 

@@ -107,8 +107,9 @@ ROWS = [
     ("duplicate flag", ["--hex", "--hex"], SANS, 2, USAGE, "'--hex' is given twice"),
     ("command missing", ["--ppem", "16", "--chars", "41"], SANS, 2, USAGE, "the first word is the command, make, show, outline, dump, trace, explain, or help, not '--ppem'"),
     ("command misspelt", ["mkae", "--ppem", "16"], SANS, 2, USAGE, "unknown command 'mkae'; did you mean 'make'?"),
-    ("font in place of the command", ["font.ttf"], SANS, 2, USAGE, "unknown command 'font.ttf'; 'mkstrike help' lists the commands"),
-    ("a font that is there in place of the command", ["cut.ttf", "16"], SANS, 2, USAGE, "'mkstrike make --ppem 16 --chars 20-7e FONT' makes a strike"),
+    ("font in place of the command", ["font.ttf"], SANS, 2, USAGE, "'mkstrike make --ppem 16 --set ascii FONT' makes a strike"),
+    ("a font that is there in place of the command", ["cut.ttf", "16"], SANS, 2, USAGE, "'mkstrike make --ppem 16 --set ascii FONT' makes a strike"),
+    ("explain misspelt", ["explian", "make"], SANS, 2, USAGE, "unknown command 'explian'; did you mean 'explain'?"),
     ("version", ["version"], SANS, 2, USAGE, "unknown command 'version'; did you mean '--version'?"),
     ("--PPEM", ["make", "--PPEM", "16", "--chars", "41"], SANS, 2, USAGE, "did you mean '--ppem'?"),
     ("options before command", ["--ppem", "16", "make", "--chars", "41"], SANS, 2, USAGE, "the first word is the command"),
@@ -222,7 +223,7 @@ ROWS = [
     ("dump glyph name", ["dump", "--of", "Aacute"], SANS, 2, USAGE, "the number of a glyph, not 'Aacute'"),
     ("a glyph whose program halts", "19c", SANS, 1, "mkstrike: 30 StackUnder .*", "with --unhinted no program"),
 ]
-ALONE = ("make", "show", "dump", "mkae", "font.ttf", "cut.ttf", "version", "-h", "help", "--version", "-V", "outline")
+ALONE = ("make", "show", "dump", "mkae", "explian", "font.ttf", "cut.ttf", "version", "-h", "help", "--version", "-V", "outline")
 
 
 def mistakes(sans):

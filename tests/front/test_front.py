@@ -17,7 +17,6 @@ PLANTED = [
     ("outputs_by", '"$REAL" "$@"; at=$?; [ $at = 0 ] || rm -f "a strike.bdf"; exit $at'),
     ("outputs_by", '"$REAL" "$@"; at=$?; : >.mkstrike-1; exit $at'),
     ("outputs_that", '"$REAL" "$@"; at=$?; [ ! -e old.bdf ] || chmod 600 old.bdf; exit $at'),
-    ("outputs_that", '[ -e .mkstrike-$$-0 ] && exit 1; exec "$REAL" "$@"'),
     ("traces", '"$REAL" "$@"; at=$?; [ $at = 0 ] || rm -f trace.txt; exit $at'),
     ("signals", 'trap "" INT; "$REAL" "$@"'),
     ("streams", '"$REAL" "$@" 2>&1'),

@@ -1,5 +1,5 @@
 -- A run whose output is a file that is made late, and gets its name at the end.
-use Rattle.std.specs.Prelude.{◌≡◌, ◌⊎◌, ◌<◌, ◌≤◌, ◌==◌, ◌&&◌, not, ℕ, Bool, true, false, List, [], ◌∷◌, codes, Option, Some, None}
+use Rattle.std.specs.Prelude.{◌≡◌, ◌⊎◌, ◌<◌, ◌≤◌, ◌==◌, ◌&&◌, ◌%◌, not, ℕ, Bool, true, false, List, [], ◌∷◌, codes, Option, Some, None}
 use Rattle.std.specs.Prelude.{if◌then◌else◌}
 use Rattle.std.specs.Str.{bytes_eq}
 use Rattle.fx_fixed.specs.Changes.{Change}
@@ -61,6 +61,11 @@ pub record Ends {Place : Type 0} (Ran : Change → ℕ → Type 0) (Names : Plac
   pub done : status ≡ 0 → (own ≡ 0) × Names was held now
   pub failed : 0 < status → (now ≡ was) ⊎ ((keeps is_trace own facts ≡ true) × Names was held now)
   pub wrong : (own ≡ 0) ⊎ (status ≡ own)
+
+-- the bits of a mode that say who may read, write and run a file: all but those by which a program runs as its owner or group, and
+-- the one that keeps others' files in a folder
+abbrev pub kept_mode : ℕ → ℕ
+kept_mode mode = mode % 512
 
 -- the names of standard output
 abbrev pub standard : List Text

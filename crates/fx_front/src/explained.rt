@@ -16,7 +16,7 @@ use crate::run::Ended;
 use crate::text::Text;
 use crate::tool::Tool;
 use fx_fixed::Sink;
-use fx_words::{has, list_of};
+use fx_words::{has, is_path, list_of};
 use std::alloc::{AllocError, Global};
 
 /// The endings of files of other formats.
@@ -51,15 +51,14 @@ const NO_COMMAND: &str =
      shows how it is written";
 
 const A_FILE: &str =
-    "the first word is the command: 'mkstrike make --ppem 16 --chars 20-7e FONT' makes a strike";
+    "the first word is the command: 'mkstrike make --ppem 16 --set ascii FONT' makes a strike";
 
-/// Writes at most two lines after a run, which say what to do. `is_file` tells whether the first word names a file.
+/// Writes at most two lines after a run, which say what to do.
 pub fn say_after<G: Tool, E: Sink>(
     alloc: Global,
     program: &G,
     task: &AskedRun<'_, '_>,
     ended: Ended,
-    is_file: bool,
     err: &mut E,
 )
     ensures { (between : E) × SaysLine (change_of E.held E.fault_count err.old between)
@@ -74,7 +73,7 @@ pub fn say_after<G: Tool, E: Sink>(
     }
     tell(alloc, err, &font_or_file);
     let mut run = Text::new(alloc);
-    add_run(alloc, &mut run, program, task, ended, is_file);
+    add_run(alloc, &mut run, program, task, ended);
     tell(alloc, err, &run);
 }
 
@@ -105,7 +104,6 @@ fn add_run<G: Tool>(
     program: &G,
     task: &AskedRun<'_, '_>,
     ended: Ended,
-    is_file: bool,
 )
     ensures { let parts = task.now.parts.now in AdvisesRefusal (G.learned program.now).refused ended.status parts.is_make
         (names_glyph (texts parts.words.items)) (is_named (text_in task.now.command) (codes "trace")) (Says text.old text.new) }
@@ -115,7 +113,7 @@ fn add_run<G: Tool>(
         (0, Some(counts), _) => add_strike(text, task, facts, counts, ended.is_blank),
         (1, _, Some(refused)) => add_refusal(alloc, text, program, task, refused),
         (0 | 1, _, _) => {}
-        _ => add_usage(alloc, text, program, task, is_file),
+        _ => add_usage(alloc, text, program, task),
     }
 }
 
@@ -323,17 +321,11 @@ fn is_word(item: &str) -> bool {
 }
 
 /// Adds what is wrong with a command line.
-fn add_usage<G: Tool>(
-    alloc: Global,
-    text: &mut Text,
-    program: &G,
-    task: &AskedRun<'_, '_>,
-    is_file: bool,
-) {
+fn add_usage<G: Tool>(alloc: Global, text: &mut Text, program: &G, task: &AskedRun<'_, '_>) {
     let words = task.parts.words.get(1..).unwrap_or(&[]);
     match (words.first(), task.command) {
         (None, _) => text.add_text(WRONG_LINE),
-        (Some(first), None) => add_command(alloc, text, first, is_file),
+        (Some(first), None) => add_command(alloc, text, first),
         (Some(_), Some(command)) => match program.wrong(alloc, words) {
             Ok(said) => {
                 let wrong = str::from_utf8(&said).unwrap_or("");
@@ -396,10 +388,10 @@ fn about_ppem(wrong: &str) -> &'static str {
 }
 
 /// Adds what is wrong with the name of a command.
-fn add_command(alloc: Global, text: &mut Text, word: &str, is_file: bool) {
+fn add_command(alloc: Global, text: &mut Text, word: &str) {
     if word.starts_with('-') {
         text.add_with(NO_COMMAND, word);
-    } else if is_file {
+    } else if is_path(word) {
         text.add_text(A_FILE);
     } else {
         text.add_with("unknown command '%';", word);

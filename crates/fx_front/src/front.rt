@@ -12,7 +12,7 @@ use crate::input::Input;
 use crate::lines::tell;
 use crate::meant::takes_font;
 use crate::output::{Outlet, Output, output_of, why_closed};
-use crate::run::{Files, run_to_end, say_unwritten};
+use crate::run::{run_to_end, say_unwritten};
 use crate::text::Text;
 use crate::tool::Tool;
 use fx_fixed::{FromReader, Sink, ToSink};
@@ -221,18 +221,5 @@ fn run_from<G: Tool>(
         &mut FromReader::new(input),
         &mut Outlet { rt, output },
         &mut ToSink::new(rt.stderr()),
-        &Named { rt },
     )
-}
-
-/// The files of the system.
-#[derive(Drop)]
-struct Named<'a> {
-    rt: &'a HostRuntime,
-}
-
-impl<'a> Files for Named<'a> {
-    fn is_file(&self, name: &str) -> bool {
-        matches!(fs::metadata(self.rt, name), Ok(found) if found.is_file())
-    }
 }

@@ -26,6 +26,6 @@ pub use explained::say_after;
 pub use facts::{Counts, Facts, RefusalFacts};
 pub use front::{run_front, say_not_text};
 pub use fx_words::Parts;
-pub use run::{Ended, Files, run_to_end, run_to_place};
+pub use run::{Ended, run_to_end, run_to_place};
 pub use text::Text;
 pub use tool::Tool;

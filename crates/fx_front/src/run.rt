@@ -29,21 +29,14 @@ pub struct Ended {
     pub is_unmade: bool,
 }
 
-/// Which files there are.
-pub trait Files {
-    /// Whether a name is that of a file.
-    fn is_file(&self, name: &str) -> bool;
-}
-
 /// Runs a program whose output is a new file at a place, and says what to do after it. Returns the status for the user.
-pub fn run_to_end<G: Tool, P: Destination, R: Source, E: Sink, F: Files>(
+pub fn run_to_end<G: Tool, P: Destination, R: Source, E: Sink>(
     alloc: Global,
     program: &mut G,
     task: &AskedRun<'_, '_>,
     reader: &mut R,
     place: &mut P,
     err: &mut E,
-    files: &F,
 ) -> u8
     requires reader { R.fault_count reader.old < 2 ^ 63 }
     requires err { E.fault_count err.old < 2 ^ 63 }
@@ -56,7 +49,7 @@ pub fn run_to_end<G: Tool, P: Destination, R: Source, E: Sink, F: Files>(
     ensures status { IsStatus result }
 {
     let ended = run_to_place(alloc, program, task, reader, place, err);
-    say_end(alloc, &*program, task, ended, files, err);
+    say_end(alloc, &*program, task, ended, err);
     ended_status(ended.status, ended.is_named)
 }
 
@@ -68,12 +61,11 @@ fn ended_status(status: u8, is_named: bool) -> u8
 }
 
 /// Says after a run why its file was not made or did not get its name, or else what to do.
-fn say_end<G: Tool, E: Sink, F: Files>(
+fn say_end<G: Tool, E: Sink>(
     alloc: Global,
     program: &G,
     task: &AskedRun<'_, '_>,
     ended: Ended,
-    files: &F,
     err: &mut E,
 )
     ensures { (between : E) × SaysLine (change_of E.held E.fault_count err.old between)
@@ -83,11 +75,9 @@ fn say_end<G: Tool, E: Sink, F: Files>(
     if ended.is_unmade && ended.status == 1 {
         say_unwritten(alloc, name, NO_FOLDER, err);
     } else if ended.status == 0 && !ended.is_named {
-        say_unwritten(alloc, name, "the new file could not be given its name", err);
+        say_unwritten(alloc, name, "the system failed to store the new file", err);
     } else {
-        let first = task.parts.words.get(1).copied().unwrap_or("");
-        let is_file = ended.status == 2 && files.is_file(first);
-        say_after(alloc, program, task, ended, is_file, err);
+        say_after(alloc, program, task, ended, err);
     }
 }
 

@@ -301,7 +301,7 @@ fn is_option(word: &str) -> bool
 }
 
 /// Whether a word looks like a file's name.
-fn is_path(word: &str) -> bool
+pub fn is_path(word: &str) -> bool
     ensures { result ≡ is_path word.now }
 {
     word.split_once('.').is_some() || word.split_once('/').is_some()

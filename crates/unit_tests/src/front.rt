@@ -208,7 +208,7 @@ fn say(
 ) -> Result<(), AllocError> {
     let mut shelf = Shelf::new(alloc, true, true)?;
     let ended = run_on(alloc, fake, task, &mut shelf)?;
-    say_after(alloc, fake, task, ended, false, err);
+    say_after(alloc, fake, task, ended, err);
     Ok(())
 }
 
