@@ -22,6 +22,7 @@ PLANTED = [
     ("streams", '"$REAL" "$@" 2>&1'),
     ("missing", '"$REAL" "$@" 2>&1 >&3 | sed s/4e00-4e02/4e00/ >&2; exit ${PIPESTATUS[0]}'),
     ("explained", '[ "$1" = explain ] && exit 0; "$REAL" "$@"'),
+    ("refusals_explained", '"$REAL" "$@" | sed "s/  *$//;s/^What to do: raise/What to do: lower/"; exit ${PIPESTATUS[0]}'),
     ("help_and", '"$REAL" "$@" | sed s/--dropout/--drop-out/'),
     ("pages_as", "docs/mkstrike-show.1", ".\\\" help: the glyph of a character, one", ".\\\" help: a glyph of a character, one"),
     ("pages_as", "docs/mkstrike-dump.1", "the first by default.", "the first one without it."),

@@ -15,7 +15,7 @@ use crate::meant::{instead_of, is_among, meant_by, set_meant_by};
 use crate::run::Ended;
 use crate::text::Text;
 use crate::tool::Tool;
-use fx_fixed::Sink;
+use fx_fixed::{Digits, Sink};
 use fx_words::{has, is_path, list_of};
 use std::alloc::{AllocError, Global};
 
@@ -27,6 +27,9 @@ const IS_BDF: &str =
     "'%' is BDF, like every strike; strike --format of the package python3-mkstrike makes psf, pcf, otb, png, c and gfx";
 
 const IS_VARIABLE: &str = "the font is a variable font, and this is its default instance";
+
+const HAS_BITMAPS: &str =
+    "the font has bitmaps of its own at this size, which are not used: the strike is drawn from its outlines";
 
 const LACKS_ALL: &str =
     "the font has none of the requested characters; --chars is hexadecimal, and the letter A is 41";
@@ -77,7 +80,7 @@ pub fn say_after<G: Tool, E: Sink>(
     tell(alloc, err, &run);
 }
 
-/// Adds advice on a file name that promises another format, or on a variable font.
+/// Adds advice on a file name that promises another format, on a variable font, or on a font with bitmaps.
 fn add_font_or_file(text: &mut Text, facts: &Facts, task: &AskedRun<'_, '_>) {
     if let Some(name) = task.parts.output
         && task.parts.is_make
@@ -87,6 +90,8 @@ fn add_font_or_file(text: &mut Text, facts: &Facts, task: &AskedRun<'_, '_>) {
         text.add_with(IS_BDF, name);
     } else if facts.is_variable {
         text.add_text(IS_VARIABLE);
+    } else if facts.has_bitmaps {
+        text.add_text(HAS_BITMAPS);
     }
 }
 
@@ -129,10 +134,21 @@ fn add_strike(
         text.add_text(IS_CUT);
     } else if counts.glyphs == 0 {
         text.add_with("the strike has no glyph: %", why_no_glyph(task, counts));
+        add_first(text, facts, counts.missing);
     } else if counts.missing > 0 {
         add_missing(text, facts, counts.missing);
     } else if is_blank {
         text.add_text(IS_BLANK);
+    }
+}
+
+/// Adds where the characters of a font begin that has none of the requested ones, as a symbol font or a font of icons.
+fn add_first(text: &mut Text, facts: &Facts, missing: u32) {
+    if let Some(first) = facts.first
+        && missing > 0
+    {
+        text.add(b"; the font's characters begin at U+");
+        text.add(Digits::hexadecimal(u64::from(first), 4).text());
     }
 }
 
@@ -253,7 +269,7 @@ fn add_list<G: Tool>(
     };
     if !task.parts.is_make {
         text.add_with(NOT_A_CHARACTER, list);
-    } else if list == task.parts.listed
+    } else if task.parts.listed == Some(list)
         && let Some(name) = first_word(list)
     {
         add_unknown_set(alloc, text, name);
@@ -350,7 +366,7 @@ fn add_wrong(alloc: Global, text: &mut Text, task: &AskedRun<'_, '_>, command: &
             );
         }
         None => {
-            text.add_text(wrong);
+            add_mistake(text, wrong, task.parts.listed.is_some());
             text.add_text(about_ppem(wrong));
             if let Some(font) = task.parts.font
                 && wrong.starts_with("one word too many")
@@ -361,6 +377,17 @@ fn add_wrong(alloc: Global, text: &mut Text, task: &AskedRun<'_, '_>, command: &
         }
     }
     text.add_with(" 'mkstrike help %' shows how it is written", command);
+}
+
+/// Adds what is wrong. If `--set` is among the words it stands for `--chars` there.
+fn add_mistake(text: &mut Text, wrong: &str, has_set: bool) {
+    match wrong.strip_prefix("--chars") {
+        Some(rest) if has_set => {
+            text.add_text("--set");
+            text.add_text(rest);
+        }
+        _ => text.add_text(wrong),
+    }
 }
 
 /// Adds what to use in place of an unknown option of a command, or which one it may mean.

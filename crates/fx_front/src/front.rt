@@ -9,14 +9,13 @@ ghost use Rattle.fx_front.specs.inner.Asked.{command_in, is_explained};
 use crate::answer::answer;
 use crate::asked::{AskedRun, asked_by};
 use crate::input::Input;
-use crate::lines::tell;
+use crate::lines::say;
 use crate::meant::takes_font;
 use crate::output::{Outlet, Output, output_of, why_closed};
 use crate::run::{run_to_end, say_unwritten};
-use crate::text::Text;
 use crate::tool::Tool;
 use fx_fixed::{FromReader, Sink, ToSink};
-use fx_words::{listed, part, value_in};
+use fx_words::{lists_in, part};
 use std::alloc::{AllocError, Global};
 use std::fs::File;
 use std::io::IsTerminal;
@@ -47,18 +46,12 @@ pub fn run_front<G: Tool>(rt: &HostRuntime, program: &mut G, words: &[&str]) -> 
     }
 }
 
-/// Says pieces in a line.
-fn say(rt: &HostRuntime, pieces: &[&str]) {
-    let mut err = ToSink::new(rt.stderr());
-    tell(rt.alloc(), &mut err, &Text::of(rt.alloc(), pieces));
-}
-
 /// Says that an argument is not text, after the line of a wrong command line.
 pub fn say_not_text<E: Sink>(alloc: Global, err: &mut E)
     ensures { SaysLine (change_of E.held E.fault_count err.old err.new) }
 {
     let what = "an argument is not UTF-8 text: give a font with such a name on standard input";
-    tell(alloc, err, &Text::of(alloc, &[what]));
+    say(alloc, err, &[what]);
 }
 
 /// Parts the words, and runs the program on them.
@@ -67,9 +60,17 @@ fn run_words<G: Tool>(rt: &HostRuntime, program: &mut G, words: &[&str]) -> Resu
 {
     let (command, count) = command_in(words);
     let (before, after) = words.split_at(count);
-    let list = listed(rt.alloc(), value_in(words, "--set").unwrap_or(""))?;
     let is_make = matches!(command, Some("make"));
-    let parts = part(rt.alloc(), before, is_make, list.as_str(), after)?;
+    let lists = if is_make {
+        lists_in(rt.alloc(), after)?
+    } else {
+        None
+    };
+    let list = match &lists {
+        Some(list) => Some(list.as_str()),
+        None => None,
+    };
+    let parts = part(rt.alloc(), before, is_make, list, after)?;
     let task = AskedRun {
         parts: &parts,
         command,
@@ -151,7 +152,7 @@ fn input_of(rt: &HostRuntime, font: Option<&str>) -> Result<Input, &'static str>
     let Some(name) = font else {
         if rt.stdin().is_terminal() {
             let what = "the font is read from standard input, which is a terminal here";
-            say(rt, &[what]);
+            say(rt.alloc(), &mut ToSink::new(rt.stderr()), &[what]);
         }
         return Ok(Input::Standard(rt.stdin()));
     };
@@ -176,7 +177,7 @@ fn refuse_font<G: Tool>(
 {
     let wrong = program.wrong(rt.alloc(), task.parts.words.get(1..).unwrap_or(&[]))?;
     if wrong.is_empty() {
-        say_no_font(rt, task, why);
+        say_no_font(rt.alloc(), task, why, &mut ToSink::new(rt.stderr()));
         Ok(1)
     } else {
         Ok(run_from(rt, program, task, Input::Nothing, Output::Standard))
@@ -184,14 +185,14 @@ fn refuse_font<G: Tool>(
 }
 
 /// Says why a font can't be opened, and how it is named.
-fn say_no_font(rt: &HostRuntime, task: &AskedRun<'_, '_>, why: &str) {
+fn say_no_font<E: Sink>(alloc: Global, task: &AskedRun<'_, '_>, why: &str, err: &mut E) {
     let name = task.parts.font.unwrap_or("");
-    say(rt, &["can't open the font '", name, "': ", why]);
+    say(alloc, err, &["can't open the font '", name, "': ", why]);
     if name.contains('/') {
         let how = "' shows how it is written";
-        say(rt, &[FONT_HELP, task.command.unwrap_or(""), how]);
+        say(alloc, err, &[FONT_HELP, task.command.unwrap_or(""), how]);
     } else {
-        say(rt, &[FONT_FILE]);
+        say(alloc, err, &[FONT_FILE]);
     }
 }
 

@@ -9,7 +9,8 @@ ghost use Rattle.fx_front.specs.inner.Kinds.{is_hexadecimal, kind_among, kind_of
 pub(crate) const KINDS: [(&[u8], &str); 17] = [
     (
         b"OTTO",
-        "the file looks like an OpenType font with CFF outlines, which is not read: give a TrueType font",
+        "the file looks like an OpenType font with CFF outlines, which is not read: give a TrueType font, or convert it: \
+         strike of the package python3-mkstrike does so",
     ),
     (
         b"ttcf",

@@ -2,6 +2,7 @@
 ghost use Rattle.std.specs.Prelude.{◌≡◌, ◌==◌};
 ghost use Rattle.std.specs.List.{slice_split};
 ghost use Rattle.fx_words.specs.Parts.{has, text_in};
+ghost use Rattle.fx_words.specs.Sets.{rows_of};
 ghost use Rattle.fx_front.specs.inner.Advised.{usual_for};
 ghost use Rattle.fx_front.specs.inner.Asked.{commands};
 
@@ -95,8 +96,12 @@ pub(crate) fn instead_of(option: &str) -> Option<&'static str> {
 }
 
 /// The second column of the first row that has the word in its first. If there are `words`, the second must be one of them.
-fn usual_for(rows: &[(&'static str, &'static str)], word: &str, words: &str) -> Option<&'static str>
-    ensures { text_in result ≡ usual_for rows.now word.now words.now }
+pub(crate) fn usual_for(
+    rows: &[(&'static str, &'static str)],
+    word: &str,
+    words: &str,
+) -> Option<&'static str>
+    ensures { text_in result ≡ usual_for (rows_of rows.now) word.now words.now }
 {
     // No row so far fits.
     'rows: for row in rows {

@@ -9,9 +9,8 @@ use crate::asked::AskedRun;
 use crate::destination::Destination;
 use crate::explained::say_after;
 use crate::late::Late;
-use crate::lines::tell;
+use crate::lines::say;
 use crate::output::NO_FOLDER;
-use crate::text::Text;
 use crate::tool::Tool;
 use fx_fixed::{Sink, Source};
 use std::alloc::Global;
@@ -87,8 +86,7 @@ pub(crate) fn say_unwritten<E: Sink>(alloc: Global, name: &str, why: &str, err: 
     ensures told { Tells (change_of E.held E.fault_count err.old err.new)
         (unwritten name.now why.now) }
 {
-    let text = Text::of(alloc, &["can't write '", name, "': ", why]);
-    tell(alloc, err, &text);
+    say(alloc, err, &["can't write '", name, "': ", why]);
 }
 
 /// Runs a program whose output is a new file at a place. The file gets its name if the status is 0, or if a trace halted after some

@@ -3,7 +3,7 @@ use fx_fixed::{Limits, MemorySink, MemorySource, Sink, Source, put_all};
 use fx_front::{
     AskedRun, Destination, Ended, Facts, Parts, RefusalFacts, Text, Tool, run_to_place, say_after,
 };
-use fx_words::{listed, part};
+use fx_words::{listed, lists_in, part};
 use std::alloc::{AllocError, Global};
 use std::test::Fail;
 
@@ -89,8 +89,10 @@ impl Fake {
                 refused: if status == 1 { Some(refused) } else { None },
                 start: None,
                 is_variable: false,
+                has_bitmaps: false,
                 missing: Text::new(alloc),
                 has_more: false,
+                first: None,
                 is_cut: false,
             },
         }
@@ -148,7 +150,7 @@ fn run_command(
     command: Option<&'static str>,
     shelf: &mut Shelf,
 ) -> Result<Ended, AllocError> {
-    let parts = part(alloc, &["mkstrike"], false, "", &[])?;
+    let parts = part(alloc, &["mkstrike"], false, None, &[])?;
     let task = AskedRun {
         parts: &parts,
         command,
@@ -214,7 +216,7 @@ fn say(
 
 /// The same of a trace.
 fn say_of_trace(alloc: Global, fake: &mut Fake, err: &mut MemorySink) -> Result<(), AllocError> {
-    let parts = part(alloc, &["mkstrike", "trace"], false, "", &[])?;
+    let parts = part(alloc, &["mkstrike", "trace"], false, None, &[])?;
     let task = AskedRun {
         parts: &parts,
         command: Some("trace"),
@@ -249,7 +251,7 @@ type Line = (
     Option<&'static str>,
 );
 
-static LINES: [Line; 16] = [
+static LINES: [Line; 23] = [
     (
         &["--ppem", "16", "a.ttf", "-o", "b"],
         "--ppem|16",
@@ -282,12 +284,47 @@ static LINES: [Line; 16] = [
         None,
     ),
     (
-        &["--set", "latin1", "--missing"],
+        &["--set", "ascii", "--missing"],
         "--chars|20-7e",
         None,
         None,
     ),
-    (&["--set=x", "a"], "--chars|20-7e", Some("a"), None),
+    (&["--set=box", "a"], "--chars|2500-257f", Some("a"), None),
+    (
+        &[
+            "--chars",
+            "a0",
+            "a",
+            "--set",
+            "ascii",
+            "--hex",
+            "--chars=41,b",
+        ],
+        "--hex|--chars|a0,20-7e,41,b",
+        Some("a"),
+        None,
+    ),
+    (
+        &["--set", "ascii", "--set=box"],
+        "--chars|20-7e,2500-257f",
+        None,
+        None,
+    ),
+    (&["--set", "ascii", "--chars"], "--chars", None, None),
+    (&["--set", "ascii", "--ppem"], "--ppem", None, None),
+    (&["--set"], "--chars", None, None),
+    (
+        &["--set", "--hex", "a"],
+        "--chars|--hex|--chars|--hex",
+        Some("a"),
+        None,
+    ),
+    (
+        &["--chars", "ascii", "--chars=41"],
+        "--chars|ascii|--chars=41",
+        None,
+        None,
+    ),
     (&["--all", "a"], "--all", Some("a"), None),
     (&["--name", "--hex", "a"], "--name|--hex", Some("a"), None),
     (&[""], "", None, None),
@@ -300,7 +337,12 @@ fn are_words(alloc: Global, words: &[&str], joined: &str) -> Result<bool, AllocE
 
 /// Whether words are parted like that.
 fn is_parted(alloc: Global, line: &Line) -> Result<bool, AllocError> {
-    let parts = part(alloc, &[], true, "20-7e", line.0)?;
+    let lists = lists_in(alloc, line.0)?;
+    let list = match &lists {
+        Some(list) => Some(list.as_str()),
+        None => None,
+    };
+    let parts = part(alloc, &[], true, list, line.0)?;
     let same_files = parts.font == line.2 && parts.output == line.3;
     Ok(same_files && are_words(alloc, &parts.words, line.1)?)
 }

@@ -2,8 +2,8 @@
 use Rattle.std.specs.Prelude.{◌≡◌, ◌≢◌, ◌||◌, ℕ, ◌==◌, ◌&&◌, ◌+◌, ◌-◌, nat_lt, Bool, List, [], ◌∷◌, ◌++◌, codes, not, Option, Some, None, length}
 use Rattle.std.specs.Prelude.{if◌then◌else◌}
 use Rattle.std.specs.List.{slice_split}
-use Rattle.std.specs.Borrow.{Bor}
 use Rattle.fx_words.specs.Parts.{Text, has}
+use Rattle.fx_words.specs.Sets.{Table}
 use Rattle.fx_front.specs.Lines.{shown_text, shown_with}
 use Rattle.fx_front.specs.Places.{is_named}
 use Rattle.fx_front.specs.declared.facts.RefusalFacts.{RefusalFacts}
@@ -47,8 +47,8 @@ AdvisesRefusal facts status is_make names_glyph is_trace Told = (refused : Refus
     → Told (after_refusal refused is_make (names_glyph refused.glyph) is_trace)
 
 -- the second column of the first row that has the word in its first; if there are `words`, the second must be one of them
-abbrev pub usual_for : List (Bor Text × Bor Text) → Text → Text → Option Text
+abbrev pub usual_for : Table → Text → Text → Option Text
 usual_for [] word words = None
 usual_for (row ∷ rows) word words =
-    if has (slice_split (λ b. b == 32) row.0.now) word && (length words == 0 || has (slice_split (λ b. b == 32) words) row.1.now)
-    then Some row.1.now else usual_for rows word words
+    if has (slice_split (λ b. b == 32) row.0) word && (length words == 0 || has (slice_split (λ b. b == 32) words) row.1)
+    then Some row.1 else usual_for rows word words
