@@ -7,9 +7,9 @@ use Rattle.fx_front.specs.Places.{Ends, RunsTo, ended_status}
 
 -- the status is 0 or not, and the file got its name or not
 pub ends : {Place : Type 0} {Ran : Change → ℕ → Type 0} {Names : Place → Option (List ℕ) → Place → Type 0}
-    {fresh : Option (List ℕ)} {was now : Place} {is_trace : Bool} {facts : Facts} (status : ℕ) (is_named : Bool)
-    → RunsTo Ran Names fresh was now is_trace facts status is_named
-    → Ends Ran Names fresh was now is_trace facts (ended_status status is_named)
+    {works : Place → Bool} {fresh : Option (List ℕ)} {was now : Place} {is_trace : Bool} {facts : Facts} (status : ℕ) (is_named : Bool)
+    → RunsTo Ran Names works fresh was now is_trace facts status is_named
+    → Ends Ran Names works fresh was now is_trace facts (ended_status status is_named)
 ends zero true runs = record {
   held = runs.held;
   faults = runs.faults;
@@ -18,6 +18,7 @@ ends zero true runs = record {
   done = λ _. (refl, (runs.named refl).1);
   failed = λ e. grind arith;
   wrong = inl refl;
+  sure = λ _ _. refl;
 }
 ends zero false runs = record {
   held = runs.held;
@@ -27,6 +28,7 @@ ends zero false runs = record {
   done = λ e. grind arith;
   failed = λ _. inl (runs.spared refl);
   wrong = inl refl;
+  sure = λ _ works. let named = runs.sure refl works in grind arith;
 }
 ends (suc n) true runs = record {
   held = runs.held;
@@ -39,6 +41,7 @@ ends (suc n) true runs = record {
     | inr k ↦ inr (k, (runs.named refl).1)
   ];
   wrong = inr (grind (arith, nat_tests));
+  sure = λ e _. grind arith;
 }
 ends (suc n) false runs = record {
   held = runs.held;
@@ -48,4 +51,5 @@ ends (suc n) false runs = record {
   done = λ e. grind arith;
   failed = λ _. inl (runs.spared refl);
   wrong = inr (grind (arith, nat_tests));
+  sure = λ e _. grind arith;
 }

@@ -9,7 +9,7 @@ ghost use Rattle.fx_front.specs.inner.Asked.{names_glyph};
 
 use crate::asked::AskedRun;
 use crate::facts::{Counts, Facts, RefusalFacts};
-use crate::kinds::{KINDS, kind_of};
+use crate::kinds::known_kind;
 use crate::lines::tell;
 use crate::meant::{instead_of, is_among, meant_by, set_meant_by};
 use crate::run::Ended;
@@ -202,7 +202,7 @@ fn add_refusal<G: Tool>(
 {
     let advice = refused.advice;
     match (refused.number, &program.facts().start) {
-        (10, Some(start)) => text.add_text(kind_of(&KINDS, start).unwrap_or(advice)),
+        (10, Some(start)) => text.add_text(known_kind(start).unwrap_or(advice)),
         (17..=23, _) if task.parts.is_make => {
             text.add_with("%; --refused leave-out does so", advice)
         }

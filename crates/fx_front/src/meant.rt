@@ -3,7 +3,7 @@ ghost use Rattle.std.specs.Prelude.{◌≡◌, ◌==◌};
 ghost use Rattle.std.specs.List.{slice_split};
 ghost use Rattle.fx_words.specs.Parts.{has, text_in};
 ghost use Rattle.fx_words.specs.Sets.{rows_of};
-ghost use Rattle.fx_front.specs.inner.Advised.{usual_for};
+ghost use Rattle.fx_front.specs.inner.Advised.{instead_of, usual_for};
 ghost use Rattle.fx_front.specs.inner.Asked.{commands};
 
 use crate::help::SETS;
@@ -91,7 +91,10 @@ pub(crate) fn takes_font(word: &str) -> bool
 }
 
 /// What to use in place of an option of other programs.
-pub(crate) fn instead_of(option: &str) -> Option<&'static str> {
+#[tactic(auto, unfolding(crate::specs::inner::Advised::instead_of))]
+pub(crate) fn instead_of(option: &str) -> Option<&'static str>
+    ensures { text_in result ≡ instead_of option.now }
+{
     usual_for(&INSTEAD, option, "")
 }
 

@@ -42,7 +42,7 @@ pub fn run_to_end<G: Tool, P: Destination, R: Source, E: Sink>(
     ensures ends { (said : E) × (between : E)
         × Ends (λ sink status. G.Ran (texts task.now.parts.now.words.items)
         (change_of R.left R.fault_count reader.old reader.new) sink (change_of E.held E.fault_count err.old said) status)
-        P.Names P.fresh place.old place.new (is_named (text_in task.now.command) (codes "trace"))
+        P.Names P.works P.fresh place.old place.new (is_named (text_in task.now.command) (codes "trace"))
         (G.learned program.new) result
         × SaysLine (change_of E.held E.fault_count said between) × SaysLine (change_of E.held E.fault_count between err.new) }
     ensures status { IsStatus result }
@@ -103,7 +103,7 @@ pub fn run_to_place<G: Tool, P: Destination, R: Source, E: Sink>(
     requires err { E.fault_count err.old < 2 ^ 63 }
     ensures run { RunsTo (λ sink status. G.Ran (texts task.now.parts.now.words.items)
         (change_of R.left R.fault_count reader.old reader.new) sink (change_of E.held E.fault_count err.old err.new) status)
-        P.Names P.fresh place.old place.new (is_named (text_in task.now.command) (codes "trace"))
+        P.Names P.works P.fresh place.old place.new (is_named (text_in task.now.command) (codes "trace"))
         (G.learned program.new) result.status result.is_named }
     ensures status { IsStatus result.status }
 {
@@ -135,6 +135,7 @@ fn settle<P: Destination>(place: &mut P, new: Option<P::New>, status: u8, is_kep
     ensures due { result ≡ true → (status ≡ 0) ⊎ (is_kept ≡ true) }
     ensures named { result ≡ true → P.Names place.old (held_by P.New.contents P.fresh new) place.new }
     ensures spared { result ≡ false → place.new ≡ place.old }
+    ensures sure { status ≡ 0 → P.works place.old ≡ true → result ≡ true }
 {
     let new = match new {
         None if status == 0 => place.make(),

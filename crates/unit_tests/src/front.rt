@@ -37,13 +37,15 @@ impl Shelf {
 }
 
 impl Destination for Shelf {
-    ghost use Rattle.std.specs.Prelude.{◌≡◌, [], Some, option_map};
+    ghost use Rattle.std.specs.Prelude.{◌≡◌, ◌&&◌, [], Some, option_map};
 
     type New = Vec<u8>;
 
     ghost fresh = { Some [] };
 
     ghost Names = { λ _ held shelf. option_map (λ file. file.items) shelf.file ≡ held };
+
+    ghost works = { λ shelf. shelf.makes && shelf.names };
 
     fn make(&self) -> Option<Vec<u8>> {
         if self.makes {

@@ -1,5 +1,5 @@
 -- The line of advice after a run.
-use Rattle.std.specs.Prelude.{◌≡◌, ◌≢◌, ◌||◌, ℕ, ◌==◌, ◌&&◌, ◌+◌, ◌-◌, nat_lt, Bool, List, [], ◌∷◌, ◌++◌, codes, not, Option, Some, None, length}
+use Rattle.std.specs.Prelude.{◌≡◌, ◌≢◌, ◌||◌, ℕ, ◌==◌, ◌&&◌, ◌+◌, ◌-◌, nat_lt, Bool, List, [], ◌∷◌, ◌++◌, codes, map, not, Option, Some, None, length}
 use Rattle.std.specs.Prelude.{if◌then◌else◌}
 use Rattle.std.specs.List.{slice_split}
 use Rattle.fx_words.specs.Parts.{Text, has}
@@ -7,6 +7,7 @@ use Rattle.fx_words.specs.Sets.{Table}
 use Rattle.fx_front.specs.Lines.{shown_text, shown_with}
 use Rattle.fx_front.specs.Places.{is_named}
 use Rattle.fx_front.specs.declared.facts.RefusalFacts.{RefusalFacts}
+use Rattle.fx_front.specs.declared.meant.TheConstants.{INSTEAD}
 
 -- the number is among these
 abbrev pub is_from : ℕ → ℕ → ℕ → Bool
@@ -52,3 +53,7 @@ usual_for [] word words = None
 usual_for (row ∷ rows) word words =
     if has (slice_split (λ b. b == 32) row.0) word && (length words == 0 || has (slice_split (λ b. b == 32) words) row.1)
     then Some row.1 else usual_for rows word words
+
+-- what to use in place of an option of other programs
+unfoldable pub instead_of : Text → Option Text
+instead_of option = usual_for (map (λ row. (row.0.now, row.1.now)) INSTEAD) option []

@@ -15,4 +15,5 @@ returns-clause-run g c = record {
     c.settle.ensures.named e,
   );
   spared = c.settle.ensures.spared;
+  sure = c.settle.ensures.sure;
 }
