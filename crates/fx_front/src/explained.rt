@@ -4,7 +4,7 @@ ghost use Rattle.fx_fixed.specs.Changes.{change_of};
 ghost use Rattle.fx_words.specs.Parts.{text_in, texts, value_in};
 ghost use Rattle.fx_front.specs.Lines.{Says, SaysLine, Tells};
 ghost use Rattle.fx_front.specs.Places.{is_named};
-ghost use Rattle.fx_front.specs.inner.Advised.{AdvisesRefusal, after_halt, after_refusal, is_other, why_no_glyph};
+ghost use Rattle.fx_front.specs.inner.Advised.{AdvisesRefusal, after_halt, after_refusal, is_other, start_of, why_no_glyph};
 ghost use Rattle.fx_front.specs.inner.Asked.{names_glyph};
 
 use crate::asked::AskedRun;
@@ -66,7 +66,7 @@ pub fn say_after<G: Tool, E: Sink>(
 )
     ensures { (between : E) × SaysLine (change_of E.held E.fault_count err.old between)
         × SaysLine (change_of E.held E.fault_count between err.new)
-        × (let parts = task.now.parts.now in AdvisesRefusal (G.learned program.now).refused ended.status parts.is_make
+        × (let parts = task.now.parts.now in AdvisesRefusal (G.learned program.now) ended.status parts.is_make
         (names_glyph (texts parts.words.items)) (is_named (text_in task.now.command) (codes "trace"))
         (Tells (change_of E.held E.fault_count between err.new))) }
 {
@@ -110,7 +110,7 @@ fn add_run<G: Tool>(
     task: &AskedRun<'_, '_>,
     ended: Ended,
 )
-    ensures { let parts = task.now.parts.now in AdvisesRefusal (G.learned program.now).refused ended.status parts.is_make
+    ensures { let parts = task.now.parts.now in AdvisesRefusal (G.learned program.now) ended.status parts.is_make
         (names_glyph (texts parts.words.items)) (is_named (text_in task.now.command) (codes "trace")) (Says text.old text.new) }
 {
     let facts = program.facts();
@@ -196,9 +196,9 @@ fn add_refusal<G: Tool>(
     task: &AskedRun<'_, '_>,
     refused: RefusalFacts,
 )
-    ensures { let parts = task.now.parts.now in refused.number ≢ 10 → refused.number ≢ 25 → refused.number ≢ 61
-        → Says text.old text.new (after_refusal refused parts.is_make (names_glyph (texts parts.words.items) refused.glyph)
-        (is_named (text_in task.now.command) (codes "trace"))) }
+    ensures { let parts = task.now.parts.now in refused.number ≢ 25 → refused.number ≢ 61
+        → Says text.old text.new (after_refusal refused (start_of (G.learned program.now)) parts.is_make
+        (names_glyph (texts parts.words.items) refused.glyph) (is_named (text_in task.now.command) (codes "trace"))) }
 {
     let advice = refused.advice;
     match (refused.number, &program.facts().start) {
