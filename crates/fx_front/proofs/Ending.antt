@@ -7,7 +7,8 @@ use Rattle.fx_front.specs.Places.{Ends, RunsTo, ended_status}
 
 -- the status is 0 or not, and the file got its name or not
 pub ends : {Place : Type 0} {Ran : Change → ℕ → Type 0} {Names : Place → Option (List ℕ) → Place → Type 0}
-    {works : Place → Bool} {fresh : Option (List ℕ)} {was now : Place} {is_trace : Bool} {facts : Facts} (status : ℕ) (is_named : Bool)
+    {works : Place → Bool} {fresh : Option (List ℕ)} {was now : Place} {is_trace : Bool} {facts : Facts}
+    (status : ℕ) (is_named : Bool)
     → RunsTo Ran Names works fresh was now is_trace facts status is_named
     → Ends Ran Names works fresh was now is_trace facts (ended_status status is_named)
 ends zero true runs = record {

@@ -35,10 +35,11 @@ abbrev pub IsKept : Bool → Facts → ℕ → Type 0
 IsKept is_trace facts status = (status ≡ 0) ⊎ (keeps is_trace status facts ≡ true)
 
 -- a program ran with a sink that held at first what a new file holds, and at the end `held`. If the file got its name, the status
--- is 0 or a trace halted, and these are its bytes; if not, the place is as it was. At a place that works for certain it gets its name
--- after status 0
+-- is 0 or a trace halted, and these are its bytes; if not, the place is as it was. At a place that works for certain it gets its
+-- name after status 0
 pub record RunsTo {Place : Type 0} (Ran : Change → ℕ → Type 0) (Names : Place → Option (List ℕ) → Place → Type 0)
-    (works : Place → Bool) (fresh : Option (List ℕ)) (was now : Place) (is_trace : Bool) (facts : Facts) (status : ℕ) (is_named : Bool)
+    (works : Place → Bool) (fresh : Option (List ℕ)) (was now : Place) (is_trace : Bool) (facts : Facts)
+    (status : ℕ) (is_named : Bool)
     : Type 0 where
   pub held : Option (List ℕ)
   pub faults : ℕ
@@ -52,8 +53,8 @@ abbrev pub ended_status : ℕ → Bool → ℕ
 ended_status status is_named = if status == 0 && not is_named then 1 else status
 
 -- how a run ends, by the status that the user gets. 0: the program was done, and a file with all that it wrote got the name. Else
--- what had the name has it as before, or a trace halted and a file with its lines got the name. At a place that works for certain the
--- status is 0 if the program was done
+-- what had the name has it as before, or a trace halted and a file with its lines got the name. At a place that works for certain
+-- the status is 0 if the program was done
 pub record Ends {Place : Type 0} (Ran : Change → ℕ → Type 0) (Names : Place → Option (List ℕ) → Place → Type 0)
     (works : Place → Bool) (fresh : Option (List ℕ)) (was now : Place) (is_trace : Bool) (facts : Facts) (status : ℕ)
     : Type 0 where

@@ -1,5 +1,5 @@
 //! What a command line asks a front for.
-ghost use Rattle.std.specs.Prelude.{◌≡◌, codes, if◌then◌else◌};
+ghost use Rattle.std.specs.Prelude.{◌≡◌, [], codes, unwrap_or, if◌then◌else◌};
 ghost use Rattle.fx_words.specs.Parts.{text_in, texts, value_in};
 ghost use Rattle.fx_front.specs.inner.Asked.{asked_by, asked_by_explain, asked_by_word, names_refusal, seen_asked};
 
@@ -40,6 +40,16 @@ impl<'t, 'a> AskedRun<'t, 'a> {
         match self.command {
             Some(command) => command == name,
             None => false,
+        }
+    }
+
+    /// The name of the output; empty for standard output.
+    pub(crate) fn output_name(&self) -> &'a str
+        ensures { result.now ≡ unwrap_or (text_in self.now.parts.now.output) [] }
+    {
+        match self.parts.output {
+            Some(name) => name,
+            None => "",
         }
     }
 

@@ -70,7 +70,7 @@ fn say_end<G: Tool, E: Sink>(
     ensures { (between : E) × SaysLine (change_of E.held E.fault_count err.old between)
         × SaysLine (change_of E.held E.fault_count between err.new) }
 {
-    let name = task.parts.output.unwrap_or("");
+    let name = task.output_name();
     if ended.is_unmade && ended.status == 1 {
         say_unwritten(alloc, name, NO_FOLDER, err);
     } else if ended.status == 0 && !ended.is_named {

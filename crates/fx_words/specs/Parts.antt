@@ -161,8 +161,8 @@ first_by Flag parts word = kept parts word next.Any
 abbrev pub first : PartsView → Text → PartsView
 first parts word = first_by (kind_of parts.is_make (is_some parts.listed) word) parts word
 
--- the next word. After `-o` it is the name of the output; if it is none, `-o` is for the program, which refuses it. So is `--chars` if
--- a list has no value
+-- the next word. After `-o` it is the name of the output; if it is none, `-o` is for the program, which refuses it. So is `--chars`
+-- if a list has no value
 abbrev pub step_by : Next → PartsView → Text → PartsView
 step_by next.Any parts word = first parts word
 step_by next.Value parts word = if has_hyphen word then first parts word else kept parts word next.Any

@@ -80,8 +80,8 @@ pub struct Parts<'a> {
     pub listed: Option<&'a str>,
 }
 
-/// Parts the words after a command's name. `before` are the words up to it, the program's name first. If `--set` is among the words,
-/// `listed` is the list of characters that the values of `--set` and `--chars` stand for, which the program gets as one.
+/// Parts the words after a command's name. `before` are the words up to it, the program's name first. If `--set` is among the
+/// words, `listed` is the list of characters that the values of `--set` and `--chars` stand for, which the program gets as one.
 pub fn part<'a>(
     alloc: Global,
     before: &[&'a str],

@@ -70,3 +70,8 @@ command_among (Some word) = if has commands word then Some word else None
 
 abbrev pub command_in : List Text → Option Text
 command_in words = command_among (slice_get words (if is_explained words then 2 else 1))
+
+-- the font's name; none for standard input
+abbrev pub font_of : Option Text → Option Text
+font_of None = None
+font_of (Some name) = if bytes_eq name (codes "-") then None else Some name
