@@ -2,7 +2,7 @@
 // Files of another kind, by their first bytes, as docs/REFUSALS.md has them.
 export const KINDS = [
   {"begins": "", "seems": "is empty", "todo": "give a TrueType font"},
-  {"begins": "4f54544f", "seems": "looks like an OpenType font with CFF outlines, which is not read", "todo": "give a TrueType font"},
+  {"begins": "4f54544f", "seems": "looks like an OpenType font with CFF outlines, which is not read", "todo": "give a TrueType font, or convert it: strike of the package python3-mkstrike does so"},
   {"begins": "74746366", "seems": "looks like a collection of fonts", "todo": "it is truncated, or this face is not a TrueType font"},
   {"begins": "774f4646", "seems": "looks like a WOFF font, which is not read", "todo": "unpack it to a .ttf file first"},
   {"begins": "774f4632", "seems": "looks like a WOFF2 font, which is not read", "todo": "unpack it to a .ttf file first"},

@@ -173,10 +173,6 @@ def outputs_that_are_there(it):
         told = (status, said.split("\n")[0][:len(due[1])], os.stat(it.path("old.bdf")).st_mode & 0o777, it.read("old.bdf") == b"old")
         it.equal("-o over a file of mode %o" % mode, told, due)
         it.remove("old.bdf")
-    for what, taken in (("a file", "touch .mkstrike-$$-0"), ("a pipe", "mkfifo .mkstrike-$$-0"), ("a link", "ln -s copy.ttf .mkstrike-$$-0")):
-        status, _, said = it.shell(taken + '; exec "$0" "$@"', *MAKE, "copy.ttf", "-o", "new.bdf")
-        it.equal("a new file whose name is taken by %s" % what, (status, (it.read("new.bdf") or b"")[-8:]), (0, b"ENDFONT\n"))
-        it.remove("new.bdf")
     it.check("the font still stays", "" if it.read("copy.ttf") == font else "it was written over")
     it.remove("hard.ttf", "soft.ttf")
 
@@ -236,14 +232,31 @@ def help_and_version(it):
     """Help and version are the texts of crates/fx_front/src/help.rt, on standard output, with status 0."""
     with open(os.path.join(it.top, "crates/fx_front/src/help.rt"), encoding="utf-8") as file:
         found = re.findall(r'const (\w+): &str =\s+"(.*?)(?<!\\)";', file.read(), re.S)
-    texts = {name.lower(): re.sub(r"\\(.)", r"\1", text).encode() for name, text in found}
+    texts = {name.lower(): re.sub(r"\\(.)", r"\1", text).encode() for name, text in found if not name.startswith("REFUSAL_")}
     asked = [("overview", [word]) for word in ("--help", "-h", "help")] + [("version", [word]) for word in ("--version", "-V")]
     for name in set(texts) - {"overview", "version"}:
         asked += [(name, ["help", name]), (name, ["--help", name])] + [(name, [name, word]) for word in ("--help", "-h") if name not in ("explain", "sets")]
     for name, words in asked:
         it.equal(" ".join(words), it.run(words), (0, texts[name], ""))
     it.equal("help of what is no command", it.run(["help", "nothing"])[0], 2)
+    for words in (["help"], ["help", "make"], ["--version"]):
+        with open("/dev/full", "wb") as full:
+            it.equal("%s on a full disk" % " ".join(words), it.run(words, stdout=full)[::2], (1, ""))
     it.check("the commands and the sets", "" if len(texts) == 9 else sorted(texts))
+
+
+def refusals_explained(it):
+    """`explain` prints what docs/REFUSALS.md says of a refusal, by its number and by its name; there is no other refusal."""
+    rows = list(prebuilt.refusals())
+    for number, name, _, to_do in rows:
+        for word in (str(number), name):
+            status, out, said = it.run(["explain", word])
+            told = " ".join(out.decode().split())
+            it.equal("explain %s" % word, (status, told.startswith("%d %s: " % (number, name)), told.endswith(" What to do: %s." % to_do), said), (0, True, True, ""))
+    for word in ("300", "0", "StackUnders", "Stack Under"):
+        it.equal("explain %s" % word, it.run(["explain", word]), (1, b"", "mkstrike: no refusal has the number or the name '%s'; docs/REFUSALS.md has all\n" % word))
+    it.equal("explain of two words", it.run(["explain", "30", "31"]), (0, b"unknown command '30'\n", ""))
+    it.check("the refusals", "" if len(rows) > 35 else "%d rows" % len(rows))
 
 
 def pages_as_written(it):
@@ -297,5 +310,5 @@ def names_of_the_release(it):
 
 
 CHECKS = (mistakes, fonts_by_name, outputs_by_name, outputs_that_are_there, traces, signals, missing_characters, streams, explained,
-          help_and_version, pages_as_written, files_of_another_kind, names_of_the_release)
+          refusals_explained, help_and_version, pages_as_written, files_of_another_kind, names_of_the_release)
 NEED_FONT = (outputs_by_name, outputs_that_are_there, traces, signals, missing_characters, streams)  # which look at nothing without DejaVu Sans

@@ -5,6 +5,7 @@ The input is a file of FILES, SANS for a real font, or bytes. A second line of '
 """
 import collections
 import os
+import struct
 
 from fonts import FIXTURE, assemble, font_of, map_of, tables_of, wide_map_of, with_tables
 
@@ -16,6 +17,8 @@ FILES = {
     "a.bdf": b"STARTFONT 2.1\nFONT a\n", "cut.ttf": b"\0\1\0\0\0\x10\1\0", "text": b"this is text, and no font\n",
     "more.ttf": with_tables(FIXTURE, cmap=wide_map_of((code, 1 + code % 2) for code in range(65537))), "none.ttf": with_tables(FIXTURE, cmap=wide_map_of([])),
     "symbol.ttf": with_tables(FIXTURE, cmap=map_of([(0xF041, 1)]).replace(b"\0\3\0\1", b"\0\3\0\0", 1)), "blank.otb": with_tables(font_of([b""] * 2, map_of([(0x41, 1)])), EBLC=bytes(9)),
+    # two sizes, 12 and 16; what follows the records is none, though its 45th byte is 17
+    "bitmaps.ttf": with_tables(FIXTURE, EBLC=struct.pack(">HHI", 2, 0, 2) + b"".join(bytes(44) + bytes((size, size, 1, 1)) for size in (12, 16, 17))),
     "color.ttf": assemble({tag: it for tag, it in tables_of(FIXTURE).items() if tag not in ("glyf", "loca")}), "a.afm": b"StartFontMetrics 4.1\n", "list.txt": b"41\n",
 }
 SANS = object()
@@ -107,8 +110,9 @@ ROWS = [
     ("duplicate flag", ["--hex", "--hex"], SANS, 2, USAGE, "'--hex' is given twice"),
     ("command missing", ["--ppem", "16", "--chars", "41"], SANS, 2, USAGE, "the first word is the command, make, show, outline, dump, trace, explain, or help, not '--ppem'"),
     ("command misspelt", ["mkae", "--ppem", "16"], SANS, 2, USAGE, "unknown command 'mkae'; did you mean 'make'?"),
-    ("font in place of the command", ["font.ttf"], SANS, 2, USAGE, "unknown command 'font.ttf'; 'mkstrike help' lists the commands"),
-    ("a font that is there in place of the command", ["cut.ttf", "16"], SANS, 2, USAGE, "'mkstrike make --ppem 16 --chars 20-7e FONT' makes a strike"),
+    ("font in place of the command", ["font.ttf"], SANS, 2, USAGE, "'mkstrike make --ppem 16 --set ascii FONT' makes a strike"),
+    ("a font that is there in place of the command", ["cut.ttf", "16"], SANS, 2, USAGE, "'mkstrike make --ppem 16 --set ascii FONT' makes a strike"),
+    ("explain misspelt", ["explian", "make"], SANS, 2, USAGE, "unknown command 'explian'; did you mean 'explain'?"),
     ("version", ["version"], SANS, 2, USAGE, "unknown command 'version'; did you mean '--version'?"),
     ("--PPEM", ["make", "--PPEM", "16", "--chars", "41"], SANS, 2, USAGE, "did you mean '--ppem'?"),
     ("options before command", ["--ppem", "16", "make", "--chars", "41"], SANS, 2, USAGE, "the first word is the command"),
@@ -143,13 +147,15 @@ ROWS = [
     ("--all of a font without any", ["make", "--ppem", "16", "--all"], "none.ttf", 0, "mkstrike: glyphs 0 missing 0 strays 0 steps 0",
      "the strike has no glyph: the font has no character, or all are refused"),
     ("--all beside --chars", ["--all"], SANS, 2, USAGE, "--chars and --all can't be given together"),
-    ("--all beside --set", ["make", "--ppem", "16", "--all", "--set", "ascii"], SANS, 2, USAGE, "--chars and --all can't be given together"),
+    ("--all beside --set", ["make", "--ppem", "16", "--all", "--set", "ascii"], SANS, 2, USAGE, "--set and --all can't be given together"),
     ("--chars ascii", "ascii", SANS, 1, "mkstrike: 61 BadChars", "--set ascii takes that set"),
     ("--chars latin1", "latin1", SANS, 1, "mkstrike: 61 BadChars", "--set latin1 takes that set"),
     ("--set of no set", ["make", "--ppem", "16", "--set", "klingon"], SANS, 1, "mkstrike: 61 BadChars", "no set of characters has the name 'klingon'; 'mkstrike help sets' lists the sets"),
     ("--set with a wrong letter", ["make", "--ppem", "16", "--set=box,Latn-1"], SANS, 1, BAD_LIST, "has the name 'Latn-1'; did you mean 'latin-1'?"),
     ("--set of a wrong number", ["make", "--ppem", "16", "--set", "box,110000"], SANS, 1, BAD_LIST, "'110000' in the list is above 10FFFF"),
-    ("--set and --chars", ["--set", "ascii"], SANS, 2, USAGE, "--chars is given twice"),
+    ("--set and --chars", ["--set", "ascii"], SANS, 0, COUNTS, ""),
+    ("two sets", ["make", "--ppem", "16", "--set", "ascii", "--set=box,a0"], SANS, 0, "mkstrike: glyphs 224 missing 0 .*", ""),
+    ("--set without a value", ["make", "--ppem", "16", "--set"], SANS, 2, USAGE, "--set takes a value"),
     ("--set for show", ["show", "--ppem", "16", "--set", "ascii"], SANS, 2, USAGE, "unknown option '--set'"),
     ("--encoding", ["make", "--ppem", "16", "--encoding", "latin1"], SANS, 2, USAGE, "--set takes sets of characters by name"),
     ("a letter outside ASCII", "\xe9", SANS, 1, "mkstrike: 61 BadChars", "strike --text"),
@@ -173,7 +179,9 @@ ROWS = [
     ("-o without letters", ["FONT", "-o", ""], b"", 2, USAGE, "-o takes the name of a file"),
     ("output as a second word", ["FONT", "out.bdf"], b"", 2, USAGE, "one word too many, 'out.bdf'"),
     # what else was tried: none ends well with a wrong strike, or the second line tells of it
-    ("a symbol font", ["symbol.ttf"], b"", 0, "mkstrike: glyphs 0 missing 1 strays 0 steps 0", NO_GLYPH),
+    ("a symbol font", ["symbol.ttf"], b"", 0, "mkstrike: glyphs 0 missing 1 strays 0 steps 0", NO_GLYPH + "; the font's characters begin at U+F041"),
+    ("a font with bitmaps at this size", ["bitmaps.ttf"], b"", 0, "mkstrike: glyphs 1 missing 0 strays 0 steps 0", "the font has bitmaps of its own at this size"),
+    ("a font with bitmaps at another size", ["make", "--ppem", "17", "--chars", "41", "bitmaps.ttf"], b"", 0, "mkstrike: glyphs 1 missing 0 strays 0 steps 0", NONE),
     ("bitmaps alone (.otb)", ["blank.otb", "-o", "blank.bdf"], b"", 0, COUNTS, "no pixel of the strike is set"),
     ("a color font", ["color.ttf"], b"", 1, "mkstrike: 11 TableMissing loca", "the font is damaged, or"),
     ("metrics as font", ["a.afm"], b"", 1, "mkstrike: 10 NotTrueType", "give a TrueType font"),
@@ -222,7 +230,7 @@ ROWS = [
     ("dump glyph name", ["dump", "--of", "Aacute"], SANS, 2, USAGE, "the number of a glyph, not 'Aacute'"),
     ("a glyph whose program halts", "19c", SANS, 1, "mkstrike: 30 StackUnder .*", "with --unhinted no program"),
 ]
-ALONE = ("make", "show", "dump", "mkae", "font.ttf", "cut.ttf", "version", "-h", "help", "--version", "-V", "outline")
+ALONE = ("make", "show", "dump", "mkae", "explian", "font.ttf", "cut.ttf", "version", "-h", "help", "--version", "-V", "outline")
 
 
 def mistakes(sans):

@@ -20,7 +20,8 @@ PLACES = {
     "crates/fx_front/src/lines.rt": ["let _ = put_all(err, &line)", "from_slice(alloc, b\"mkstrike: \")"],
     "crates/fx_front/src/output.rt": [
         "let _ = fs::remove_file(rt, made.as_str())",
-        "let _ = file.set_permissions(like)",
+        "let _ = fchown(file, None, Some(older.group))",
+        "let _ = file.set_permissions(Permissions::from_mode(kept_mode(older.mode)))",
         "let _ = fs::remove_file(self.rt, made.as_str())",
         "let _ = fs::remove_file(self.rt, made.as_str())",
     ],

@@ -117,7 +117,7 @@ def test_mistakes(tmp_path):
     out, err = run(tmp_path, "bad.ttf", "none.ttf", SANS, "--size", "16,2000", status=1)
     assert out == "./DejaVuSans-16.bdf: 191 glyphs\n"
     lines = [it.split(": ", 1)[1] for it in err.splitlines()]
-    assert lines[2] == "the file looks like an OpenType font with CFF outlines, which is not read: give a TrueType font"
+    assert lines[2] == "the file looks like an OpenType font with CFF outlines, which is not read: give a TrueType font, or convert it: strike of the package python3-mkstrike does so"
     assert lines[:2] + lines[3:] == [
         "none.ttf: there is no such file, and no installed font of this name (fc-list shows them)", "bad.ttf at 16 pixels: 10 NotTrueType",
         "bad.ttf at 2000 pixels: 60 BadSize", "give a size from 1 to 1024", "%s at 2000 pixels: 60 BadSize" % SANS, "give a size from 1 to 1024"]

@@ -30,16 +30,19 @@ def full_disk(it):
 
 
 def taken_name(it):
-    """A name of a new file that a link has taken: what the link leads to stays."""
+    """A name of a new file that a link has taken: what the link leads to stays. Random bytes are 0 here."""
     shutil.copy(SAMPLE, it.path("mine.ttf"))
-    it.shell('ln -s mine.ttf .mkstrike-$$-0; exec "$0" "$@"', *MAKE)
+    put(it.folder, "zeros.cjs", b"require('crypto').randomFillSync = (bytes) => bytes.fill(0); require('module').syncBuiltinESMExports();\n")
+    os.symlink("mine.ttf", it.path(".mkstrike-" + 16 * "0"))
+    it.run(MAKE, env={**os.environ, "NODE_OPTIONS": "--require ./zeros.cjs"})
     it.check("a font behind a link", "" if it.read("mine.ttf") == prebuilt.read(SAMPLE) else "it is written over")
 
 
 # What the command must do as the program does, most of it by the checks of tests/front.
 CHECKS = (front.outputs_by_name, front.outputs_that_are_there, front.fonts_by_name, full_disk, taken_name)
 # Faults of web/program.js: the check that must find each, a text, and what takes its place.
-FAULTS = [(full_disk, "system.unlinkSync(path(name))", "0"), (taken_name, "O_EXCL: 0o200, ", "")]
+FAULTS = [(full_disk, "system.unlinkSync(path(name))", "0"), (taken_name, "O_EXCL: 0o200, ", ""),
+          (front.outputs_that_are_there, "system.fchmodSync(files[file], mode)", "0")]
 
 
 @pytest.fixture(name="installed", scope="module")
@@ -84,7 +87,7 @@ def test_command(check, installed, tmp_path):
     assert not wrong, "\n".join(wrong)
 
 
-@pytest.mark.parametrize("fault", FAULTS, ids=["unlink", "O_EXCL"])
+@pytest.mark.parametrize("fault", FAULTS, ids=["unlink", "O_EXCL", "fchmod"])
 def test_planted(fault, installed, tmp_path):
     """A fault of web/program.js is found."""
     check, old, new = fault

@@ -9,7 +9,9 @@ unseen = record {
   refused = None;
   start = None;
   is_variable = false;
+  has_bitmaps = false;
   missing = Some [];
   has_more = false;
+  first = None;
   is_cut = false;
 }

@@ -42,6 +42,8 @@ impl Tool for Mkstrike {
 
     ghost Ran = { Runs };
 
+    ghost learned = { λ m. m.watch.facts };
+
     fn run<R: Source, O: Sink, E: Sink>(
         &mut self,
         alloc: Global,

@@ -8,7 +8,7 @@ use fx_cmap::CharMap;
 use fx_front::{Counts, Facts, RefusalFacts, Text};
 use fx_machine::FontProgram;
 use fx_request::{Location, MAX_CHARACTERS, MAX_CODE, Refusal, rising_codes};
-use fx_sfnt::{Font, FontFile};
+use fx_sfnt::{Font, FontFile, u32_at};
 use std::alloc::Global;
 
 /// How many ranges of missing characters are named, if not all are.
@@ -35,8 +35,10 @@ impl Watch {
                 refused: None,
                 start: None,
                 is_variable: false,
+                has_bitmaps: false,
                 missing: Text::new(alloc),
                 has_more: false,
+                first: None,
                 is_cut: false,
             },
             names_all: false,
@@ -112,9 +114,13 @@ impl Watcher for Watch {
         let (Done::Strike(report), Task::Strike(make)) = (done, &command.task) else {
             return;
         };
+        self.facts.has_bitmaps = has_bitmaps(&opened, make.ppem);
         let Ok(map) = CharMap::open(&opened) else {
             return;
         };
+        if report.glyphs == 0 {
+            self.facts.first = first_of(&map);
+        }
         match &make.chars {
             CharacterChoice::Listed(chars) => {
                 if report.missing > 0
@@ -156,4 +162,34 @@ impl Watcher for Watch {
             }
         }
     }
+}
+
+/// The first character of a map.
+fn first_of(map: &CharMap<'_>) -> Option<u32> {
+    let mut codes = [0];
+    if map.mapped_below(MAX_CODE + 1, &mut codes) == 0 {
+        return None;
+    }
+    Some(codes[0])
+}
+
+/// Whether a font has bitmaps of its own at a size.
+fn has_bitmaps(font: &Font<'_>, ppem: u16) -> bool {
+    match font.table(*b"EBLC").or(font.table(*b"bloc")) {
+        Some(table) => has_size(table, ppem),
+        None => false,
+    }
+}
+
+/// Whether a table of bitmaps by size has a record of a size. A record has 48 bytes, and its size in the 45th.
+fn has_size(table: &[u8], ppem: u16) -> bool {
+    let count = u32_at(table, 4).unwrap_or(0);
+    let records = table.get(8..).unwrap_or(&[]);
+    // No record so far is of this size.
+    'records: for record in records.chunks_exact(48).take(count as usize) {
+        if u16::from(record[44]) == ppem {
+            return true;
+        }
+    }
+    false
 }

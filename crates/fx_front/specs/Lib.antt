@@ -1,3 +1,5 @@
+pub mod Answered
+pub mod Fronts
 pub mod Places
 pub mod Lines
 pub mod inner

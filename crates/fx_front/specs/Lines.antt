@@ -1,5 +1,5 @@
 -- The lines that a front writes for people.
-use Rattle.std.specs.Prelude.{◌≡◌, ◌⊎◌, ◌<◌, ◌==◌, ◌||◌, ℕ, nat_lt, List, [], ◌∷◌, ◌++◌, map, codes, Option, Some, option_map, IfSome, Result}
+use Rattle.std.specs.Prelude.{◌≡◌, ◌⊎◌, ◌<◌, ◌==◌, ◌||◌, ℕ, nat_lt, List, [], ◌∷◌, ◌++◌, map, codes, Option, Some, None, option_map, IfSome, Result}
 use Rattle.std.specs.Prelude.{if◌then◌else◌}
 use Rattle.std.specs.Borrow.{Bor}
 use Rattle.std.specs.List.{All, after_first, before_first, flat_map}
@@ -41,7 +41,22 @@ line_of text = codes "mkstrike: " ++ (text ++ 10 ∷ [])
 abbrev pub IsSilent : Change → Type 0
 IsSilent err = Keeps err.bytes_before err.bytes × (err.faults ≡ err.faults_before)
 
+-- the line of a text was written, or the first bytes of it with a fault; or nothing: the text has no bytes, a fault came before, or
+-- memory ran out
+abbrev pub Tells : Change → List ℕ → Type 0
+Tells err text = IsSilent err ⊎ ((result : Result (Unit {0}) WriteFailed) × Wrote err (line_of text) result)
+
+-- the same of a text that memory may have run out for
+abbrev pub TellsText : Change → Option (List ℕ) → Type 0
+TellsText err None = IsSilent err
+TellsText err (Some text) = Tells err text
+
 -- nothing was written, or one line, or the first bytes of one with a fault
 abbrev pub SaysLine : Change → Type 0
 SaysLine err = IsSilent err
     ⊎ ((text : List ℕ) × IsLine text × ((result : Result (Unit {0}) WriteFailed) × Wrote err (line_of text) result))
+
+-- why an output of this name is not written
+abbrev pub unwritten : List ℕ → List ℕ → List ℕ
+unwritten name why =
+    shown_text (codes "can't write '") ++ (shown_text name ++ (shown_text (codes "': ") ++ (shown_text why ++ [])))

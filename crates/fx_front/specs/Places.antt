@@ -1,8 +1,11 @@
 -- A run whose output is a file that is made late, and gets its name at the end.
-use Rattle.std.specs.Prelude.{◌≡◌, ◌⊎◌, ◌≤◌, ℕ, Bool, true, false, List, Option, Some, None}
+use Rattle.std.specs.Prelude.{◌≡◌, ◌⊎◌, ◌<◌, ◌≤◌, ◌==◌, ◌&&◌, ◌%◌, not, ℕ, Bool, true, false, List, [], ◌∷◌, codes, Option, Some, None}
+use Rattle.std.specs.Prelude.{if◌then◌else◌}
 use Rattle.std.specs.Str.{bytes_eq}
 use Rattle.fx_fixed.specs.Changes.{Change}
 use Rattle.fx_words.specs.Parts.{Text}
+use Rattle.fx_front.specs.declared.facts.Facts.{Facts}
+use Rattle.fx_front.specs.declared.facts.RefusalFacts.{RefusalFacts}
 
 -- what the file holds; before it is made, what a new one would hold
 abbrev pub held_by : {New : Type 0} → (New → Option (List ℕ)) → Option (List ℕ) → Option New → Option (List ℕ)
@@ -18,17 +21,57 @@ abbrev pub is_named : Option Text → Text → Bool
 is_named None name = false
 is_named (Some command) name = bytes_eq command name
 
--- a file gets its name if its run is done, or if it is a trace that halted, which keeps the lines before the halt
-abbrev pub IsKept : Bool → ℕ → Type 0
-IsKept is_trace status = (status ≡ 0) ⊎ ((is_trace ≡ true) × (status ≡ 1))
+-- a program of the font halted
+abbrev pub has_halted : Option RefusalFacts → Bool
+has_halted None = false
+has_halted (Some refused) = refused.is_halted
+
+-- a trace that halted keeps the lines before the halt
+abbrev pub keeps : Bool → ℕ → Facts → Bool
+keeps is_trace status facts = is_trace && (status == 1 && has_halted facts.refused)
+
+-- a file gets its name if its run is done, or if it is a trace that halted
+abbrev pub IsKept : Bool → Facts → ℕ → Type 0
+IsKept is_trace facts status = (status ≡ 0) ⊎ (keeps is_trace status facts ≡ true)
 
 -- a program ran with a sink that held at first what a new file holds, and at the end `held`. If the file got its name, the status
--- is 0 or the run is a trace, and these are its bytes; if not, the place is as it was
+-- is 0 or a trace halted, and these are its bytes; if not, the place is as it was. At a place that works for certain it gets its
+-- name after status 0
 pub record RunsTo {Place : Type 0} (Ran : Change → ℕ → Type 0) (Names : Place → Option (List ℕ) → Place → Type 0)
-    (fresh : Option (List ℕ)) (was now : Place) (is_trace : Bool) (status : ℕ) (is_named : Bool)
+    (works : Place → Bool) (fresh : Option (List ℕ)) (was now : Place) (is_trace : Bool) (facts : Facts)
+    (status : ℕ) (is_named : Bool)
     : Type 0 where
   pub held : Option (List ℕ)
   pub faults : ℕ
   pub ran : Ran (record { bytes_before = fresh; bytes = held; faults_before = 0; faults = faults }) status
-  pub named : is_named ≡ true → IsKept is_trace status × Names was held now
+  pub named : is_named ≡ true → IsKept is_trace facts status × Names was held now
   pub spared : is_named ≡ false → now ≡ was
+  pub sure : status ≡ 0 → works was ≡ true → is_named ≡ true
+
+-- the status that the user gets: 1 if the run was done and its file did not get the name, else the program's own
+abbrev pub ended_status : ℕ → Bool → ℕ
+ended_status status is_named = if status == 0 && not is_named then 1 else status
+
+-- how a run ends, by the status that the user gets. 0: the program was done, and a file with all that it wrote got the name. Else
+-- what had the name has it as before, or a trace halted and a file with its lines got the name. At a place that works for certain
+-- the status is 0 if the program was done
+pub record Ends {Place : Type 0} (Ran : Change → ℕ → Type 0) (Names : Place → Option (List ℕ) → Place → Type 0)
+    (works : Place → Bool) (fresh : Option (List ℕ)) (was now : Place) (is_trace : Bool) (facts : Facts) (status : ℕ)
+    : Type 0 where
+  pub held : Option (List ℕ)
+  pub faults : ℕ
+  pub own : ℕ
+  pub ran : Ran (record { bytes_before = fresh; bytes = held; faults_before = 0; faults = faults }) own
+  pub done : status ≡ 0 → (own ≡ 0) × Names was held now
+  pub failed : 0 < status → (now ≡ was) ⊎ ((keeps is_trace own facts ≡ true) × Names was held now)
+  pub wrong : (own ≡ 0) ⊎ (status ≡ own)
+  pub sure : own ≡ 0 → works was ≡ true → status ≡ 0
+
+-- the bits of a mode that say who may read, write and run a file: all but those by which a program runs as its owner or group, and
+-- the one that keeps others' files in a folder
+abbrev pub kept_mode : ℕ → ℕ
+kept_mode mode = mode % 512
+
+-- the names of standard output
+abbrev pub standard : List Text
+standard = codes "-" ∷ codes "/dev/stdout" ∷ codes "/dev/fd/1" ∷ codes "/proc/self/fd/1" ∷ []

@@ -1,2 +1,3 @@
+pub mod Advised
 pub mod Asked
 pub mod Kinds

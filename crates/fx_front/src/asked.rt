@@ -1,18 +1,21 @@
 //! What a command line asks a front for.
-ghost use Rattle.std.specs.Prelude.{◌≡◌, codes, if◌then◌else◌};
+ghost use Rattle.std.specs.Prelude.{◌≡◌, [], codes, unwrap_or, if◌then◌else◌};
 ghost use Rattle.fx_words.specs.Parts.{text_in, texts, value_in};
-ghost use Rattle.fx_front.specs.inner.Asked.{asked_by, asked_by_word, seen_asked};
+ghost use Rattle.fx_front.specs.inner.Asked.{asked_by, asked_by_explain, asked_by_word, names_refusal, seen_asked};
 
 use crate::meant::takes_font;
 use fx_fixed::Digits;
 use fx_words::{Parts, has, value_in};
 
 /// What a command line asks a front for.
+#[derive(Drop)]
 pub enum Asked<'a> {
     /// To print the help, of a command.
     Help(Option<&'a str>),
     /// To print the version.
     Version,
+    /// To print what a refusal means, by its number or its name.
+    Refusal(&'a str),
     /// To run.
     Run,
 }
@@ -37,6 +40,16 @@ impl<'t, 'a> AskedRun<'t, 'a> {
         match self.command {
             Some(command) => command == name,
             None => false,
+        }
+    }
+
+    /// The name of the output; empty for standard output.
+    pub(crate) fn output_name(&self) -> &'a str
+        ensures { result.now ≡ unwrap_or (text_in self.now.parts.now.output) [] }
+    {
+        match self.parts.output {
+            Some(name) => name,
+            None => "",
         }
     }
 
@@ -92,6 +105,23 @@ fn asked_by_word<'a>(word: &'a str, rest: &[&'a str]) -> Asked<'a>
     } else if takes_font(word) && (has(rest, "-h") || has(rest, "--help")) {
         Asked::Help(Some(word))
     } else {
-        Asked::Run
+        asked_by_explain(word, rest)
     }
+}
+
+/// What `explain` asks for, with these words after it: a refusal, or a run, as any other word does.
+fn asked_by_explain<'a>(word: &'a str, rest: &[&'a str]) -> Asked<'a>
+    ensures { seen_asked result ≡ asked_by_explain word.entry.now (texts rest.now) }
+{
+    match rest {
+        [named] if word == "explain" && names_refusal(named) => Asked::Refusal(named),
+        _ => Asked::Run,
+    }
+}
+
+/// Whether a word looks like a refusal's number or name: it begins with a digit or a capital letter.
+fn names_refusal(word: &str) -> bool
+    ensures { result ≡ names_refusal word.now }
+{
+    matches!(word.as_bytes(), [b'0'..=b'9' | b'A'..=b'Z', ..])
 }

@@ -1,18 +1,22 @@
 //! The lines after a run: what to do.
-ghost use Rattle.std.specs.Prelude.{◌≡◌};
+ghost use Rattle.std.specs.Prelude.{◌≡◌, ◌≢◌, ◌&&◌, codes, if◌then◌else◌};
 ghost use Rattle.fx_fixed.specs.Changes.{change_of};
-ghost use Rattle.fx_front.specs.Lines.{SaysLine};
+ghost use Rattle.fx_words.specs.Parts.{text_in, texts, value_in};
+ghost use Rattle.fx_front.specs.Lines.{Says, SaysLine, Tells};
+ghost use Rattle.fx_front.specs.Places.{is_named};
+ghost use Rattle.fx_front.specs.inner.Advised.{AdvisesRefusal, after_halt, after_refusal, is_other, start_of, why_no_glyph};
+ghost use Rattle.fx_front.specs.inner.Asked.{names_glyph};
 
 use crate::asked::AskedRun;
 use crate::facts::{Counts, Facts, RefusalFacts};
-use crate::kinds::{KINDS, kind_of};
+use crate::kinds::known_kind;
 use crate::lines::tell;
 use crate::meant::{instead_of, is_among, meant_by, set_meant_by};
 use crate::run::Ended;
 use crate::text::Text;
 use crate::tool::Tool;
-use fx_fixed::Sink;
-use fx_words::{has, list_of};
+use fx_fixed::{Digits, Sink};
+use fx_words::{has, is_path, list_of};
 use std::alloc::{AllocError, Global};
 
 /// The endings of files of other formats.
@@ -23,6 +27,9 @@ const IS_BDF: &str =
     "'%' is BDF, like every strike; strike --format of the package python3-mkstrike makes psf, pcf, otb, png, c and gfx";
 
 const IS_VARIABLE: &str = "the font is a variable font, and this is its default instance";
+
+const HAS_BITMAPS: &str =
+    "the font has bitmaps of its own at this size, which are not used: the strike is drawn from its outlines";
 
 const LACKS_ALL: &str =
     "the font has none of the requested characters; --chars is hexadecimal, and the letter A is 41";
@@ -47,19 +54,21 @@ const NO_COMMAND: &str =
      shows how it is written";
 
 const A_FILE: &str =
-    "the first word is the command: 'mkstrike make --ppem 16 --chars 20-7e FONT' makes a strike";
+    "the first word is the command: 'mkstrike make --ppem 16 --set ascii FONT' makes a strike";
 
-/// Writes at most two lines after a run, which say what to do. `is_file` tells whether the first word names a file.
+/// Writes at most two lines after a run, which say what to do.
 pub fn say_after<G: Tool, E: Sink>(
     alloc: Global,
     program: &G,
     task: &AskedRun<'_, '_>,
     ended: Ended,
-    is_file: bool,
     err: &mut E,
 )
     ensures { (between : E) × SaysLine (change_of E.held E.fault_count err.old between)
-        × SaysLine (change_of E.held E.fault_count between err.new) }
+        × SaysLine (change_of E.held E.fault_count between err.new)
+        × (let parts = task.now.parts.now in AdvisesRefusal (G.learned program.now) ended.status parts.is_make
+        (names_glyph (texts parts.words.items)) (is_named (text_in task.now.command) (codes "trace"))
+        (Tells (change_of E.held E.fault_count between err.new))) }
 {
     let mut font_or_file = Text::new(alloc);
     if ended.status == 0 {
@@ -67,21 +76,30 @@ pub fn say_after<G: Tool, E: Sink>(
     }
     tell(alloc, err, &font_or_file);
     let mut run = Text::new(alloc);
-    add_run(alloc, &mut run, program, task, ended, is_file);
+    add_run(alloc, &mut run, program, task, ended);
     tell(alloc, err, &run);
 }
 
-/// Adds advice on a file name that promises another format, or on a variable font.
+/// Adds advice on a file name that promises another format, on a variable font, or on a font with bitmaps.
 fn add_font_or_file(text: &mut Text, facts: &Facts, task: &AskedRun<'_, '_>) {
     if let Some(name) = task.parts.output
         && task.parts.is_make
         && let Some((_, ending)) = name.rsplit_once('.')
-        && is_among(ending, OTHERS)
+        && is_other(ending)
     {
         text.add_with(IS_BDF, name);
     } else if facts.is_variable {
         text.add_text(IS_VARIABLE);
+    } else if facts.has_bitmaps {
+        text.add_text(HAS_BITMAPS);
     }
+}
+
+/// Whether a name ends like that of a file of another format.
+fn is_other(ending: &str) -> bool
+    ensures { result ≡ is_other ending.now }
+{
+    is_among(ending, OTHERS)
 }
 
 /// Adds advice on a run.
@@ -91,14 +109,16 @@ fn add_run<G: Tool>(
     program: &G,
     task: &AskedRun<'_, '_>,
     ended: Ended,
-    is_file: bool,
-) {
+)
+    ensures { let parts = task.now.parts.now in AdvisesRefusal (G.learned program.now) ended.status parts.is_make
+        (names_glyph (texts parts.words.items)) (is_named (text_in task.now.command) (codes "trace")) (Says text.old text.new) }
+{
     let facts = program.facts();
     match (ended.status, facts.strike, facts.refused) {
         (0, Some(counts), _) => add_strike(text, task, facts, counts, ended.is_blank),
         (1, _, Some(refused)) => add_refusal(alloc, text, program, task, refused),
         (0 | 1, _, _) => {}
-        _ => add_usage(alloc, text, program, task, is_file),
+        _ => add_usage(alloc, text, program, task),
     }
 }
 
@@ -114,6 +134,7 @@ fn add_strike(
         text.add_text(IS_CUT);
     } else if counts.glyphs == 0 {
         text.add_with("the strike has no glyph: %", why_no_glyph(task, counts));
+        add_first(text, facts, counts.missing);
     } else if counts.missing > 0 {
         add_missing(text, facts, counts.missing);
     } else if is_blank {
@@ -121,8 +142,22 @@ fn add_strike(
     }
 }
 
+/// Adds where the characters of a font begin that has none of the requested ones, as a symbol font or a font of icons.
+fn add_first(text: &mut Text, facts: &Facts, missing: u32) {
+    if let Some(first) = facts.first
+        && missing > 0
+    {
+        text.add(b"; the font's characters begin at U+");
+        text.add(Digits::hexadecimal(u64::from(first), 4).text());
+    }
+}
+
 /// Why a strike has no glyph.
-fn why_no_glyph(task: &AskedRun<'_, '_>, counts: Counts) -> &'static str {
+fn why_no_glyph(task: &AskedRun<'_, '_>, counts: Counts) -> &'static str
+    ensures { let parts = task.now.parts.now in let words = texts parts.words.items in
+        result.now ≡ why_no_glyph counts.missing
+        (value_in (if parts.is_make then codes "--chars" else codes "--char") words) words }
+{
     if counts.missing > 0 {
         LACKS_ALL
     } else if task.list() == Some("") {
@@ -160,10 +195,14 @@ fn add_refusal<G: Tool>(
     program: &G,
     task: &AskedRun<'_, '_>,
     refused: RefusalFacts,
-) {
+)
+    ensures { let parts = task.now.parts.now in refused.number ≢ 25 → refused.number ≢ 61
+        → Says text.old text.new (after_refusal refused (start_of (G.learned program.now)) parts.is_make
+        (names_glyph (texts parts.words.items) refused.glyph) (is_named (text_in task.now.command) (codes "trace"))) }
+{
     let advice = refused.advice;
     match (refused.number, &program.facts().start) {
-        (10, Some(start)) => text.add_text(kind_of(&KINDS, start).unwrap_or(advice)),
+        (10, Some(start)) => text.add_text(known_kind(start).unwrap_or(advice)),
         (17..=23, _) if task.parts.is_make => {
             text.add_with("%; --refused leave-out does so", advice)
         }
@@ -178,14 +217,26 @@ fn add_refusal<G: Tool>(
 }
 
 /// Adds what to do after a halt. A trace always runs the programs.
-fn add_halt(text: &mut Text, task: &AskedRun<'_, '_>, refused: RefusalFacts) {
-    if task.parts.is_make && refused.is_halted_glyph {
-        text.add_text("--refused unhinted draws such characters without hinting; ");
-    }
-    if !task.is("trace") {
-        text.add_text("with --unhinted no program of the font runs; ");
-    }
+fn add_halt(text: &mut Text, task: &AskedRun<'_, '_>, refused: RefusalFacts)
+    ensures { Says text.old text.new (after_halt task.now.parts.now.is_make refused.is_halted_glyph
+        (is_named (text_in task.now.command) (codes "trace")) refused.advice.now) }
+{
+    text.add_if(
+        draws_unhinted(task, refused),
+        "--refused unhinted draws such characters without hinting; ",
+    );
+    text.add_if(
+        !task.is("trace"),
+        "with --unhinted no program of the font runs; ",
+    );
     text.add_with("to fix the font, %", refused.advice);
+}
+
+/// Whether a strike may draw the refused glyph without hinting.
+fn draws_unhinted(task: &AskedRun<'_, '_>, refused: RefusalFacts) -> bool
+    ensures { result ≡ (task.now.parts.now.is_make && refused.is_halted_glyph) }
+{
+    task.parts.is_make && refused.is_halted_glyph
 }
 
 /// Adds which faces a file has, by its first bytes.
@@ -218,7 +269,7 @@ fn add_list<G: Tool>(
     };
     if !task.parts.is_make {
         text.add_with(NOT_A_CHARACTER, list);
-    } else if list == task.parts.listed
+    } else if task.parts.listed == Some(list)
         && let Some(name) = first_word(list)
     {
         add_unknown_set(alloc, text, name);
@@ -286,17 +337,11 @@ fn is_word(item: &str) -> bool {
 }
 
 /// Adds what is wrong with a command line.
-fn add_usage<G: Tool>(
-    alloc: Global,
-    text: &mut Text,
-    program: &G,
-    task: &AskedRun<'_, '_>,
-    is_file: bool,
-) {
+fn add_usage<G: Tool>(alloc: Global, text: &mut Text, program: &G, task: &AskedRun<'_, '_>) {
     let words = task.parts.words.get(1..).unwrap_or(&[]);
     match (words.first(), task.command) {
         (None, _) => text.add_text(WRONG_LINE),
-        (Some(first), None) => add_command(alloc, text, first, is_file),
+        (Some(first), None) => add_command(alloc, text, first),
         (Some(_), Some(command)) => match program.wrong(alloc, words) {
             Ok(said) => {
                 let wrong = str::from_utf8(&said).unwrap_or("");
@@ -321,7 +366,7 @@ fn add_wrong(alloc: Global, text: &mut Text, task: &AskedRun<'_, '_>, command: &
             );
         }
         None => {
-            text.add_text(wrong);
+            add_mistake(text, wrong, task.parts.listed.is_some());
             text.add_text(about_ppem(wrong));
             if let Some(font) = task.parts.font
                 && wrong.starts_with("one word too many")
@@ -332,6 +377,17 @@ fn add_wrong(alloc: Global, text: &mut Text, task: &AskedRun<'_, '_>, command: &
         }
     }
     text.add_with(" 'mkstrike help %' shows how it is written", command);
+}
+
+/// Adds what is wrong. If `--set` is among the words it stands for `--chars` there.
+fn add_mistake(text: &mut Text, wrong: &str, has_set: bool) {
+    match wrong.strip_prefix("--chars") {
+        Some(rest) if has_set => {
+            text.add_text("--set");
+            text.add_text(rest);
+        }
+        _ => text.add_text(wrong),
+    }
 }
 
 /// Adds what to use in place of an unknown option of a command, or which one it may mean.
@@ -359,10 +415,10 @@ fn about_ppem(wrong: &str) -> &'static str {
 }
 
 /// Adds what is wrong with the name of a command.
-fn add_command(alloc: Global, text: &mut Text, word: &str, is_file: bool) {
+fn add_command(alloc: Global, text: &mut Text, word: &str) {
     if word.starts_with('-') {
         text.add_with(NO_COMMAND, word);
-    } else if is_file {
+    } else if is_path(word) {
         text.add_text(A_FILE);
     } else {
         text.add_with("unknown command '%';", word);

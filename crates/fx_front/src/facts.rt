@@ -34,9 +34,13 @@ pub struct Facts {
     pub start: Option<Vec<u8>>,
     /// Whether the font is a variable font.
     pub is_variable: bool,
+    /// Whether the font has bitmaps of its own at the size of the strike.
+    pub has_bitmaps: bool,
     /// Which characters are missing, as `4e00-4e10,5000`, and whether these are not all.
     pub missing: Text,
     pub has_more: bool,
+    /// The first character that the font has, if the strike has no glyph.
+    pub first: Option<u32>,
     /// Whether the font has more characters than the strike takes.
     pub is_cut: bool,
 }

@@ -1,27 +1,26 @@
 //! A run as a command line asks for it.
-ghost use Rattle.std.specs.Prelude.{◌≡◌, ◌≤◌, length, IfOk};
+ghost use Rattle.std.specs.Prelude.{◌≡◌, ◌<◌, ◌≤◌, ◌^◌, ℕ, Bool, Option, [], codes, length, unwrap_or, Some, None, IfOk};
 ghost use Rattle.fx_fixed.specs.Changes.{change_of};
 ghost use Rattle.fx_words.specs.Parts.{text_in, texts};
-ghost use Rattle.fx_front.specs.Places.{IsStatus};
-ghost use Rattle.fx_front.specs.Lines.{SaysLine};
-ghost use Rattle.fx_front.specs.inner.Asked.{command_in, is_explained};
+ghost use Rattle.fx_front.specs.Places.{IsStatus, is_named};
+ghost use Rattle.fx_front.specs.Answered.{Answered};
+ghost use Rattle.fx_front.specs.Fronts.{RunsBy, RunsFrom};
+ghost use Rattle.fx_front.specs.Lines.{SaysLine, Tells, unwritten};
+ghost use Rattle.fx_front.specs.inner.Asked.{asked_by, command_in, font_of, is_explained};
 
-use crate::asked::{Asked, AskedRun, asked_by};
-use crate::explained::say_after;
-use crate::help::{HELPS, OVERVIEW, VERSION};
-use crate::input::Input;
-use crate::lines::tell;
+use crate::answer::answer;
+use crate::asked::{AskedRun, asked_by};
+use crate::destination::Destination;
+use crate::files::Files;
+use crate::lines::say;
 use crate::meant::takes_font;
-use crate::output::{NO_FOLDER, Outlet, Output, output_of, why_closed};
-use crate::run::run_to_place;
-use crate::text::Text;
+use crate::run::{run_to_end, say_unwritten};
+use crate::system::System;
 use crate::tool::Tool;
-use fx_fixed::{FromReader, Sink, ToSink, put_all};
-use fx_words::{listed, part, value_in, value_of};
+use fx_fixed::{Sink, Source, ToSink};
+use fx_words::{lists_in, part};
 use std::alloc::{AllocError, Global};
-use std::fs::File;
-use std::io::IsTerminal;
-use std::{fs, io};
+use std::io;
 
 const FONT_HELP: &str =
     "the first word that is neither an option nor its value names the font; 'mkstrike help ";
@@ -35,43 +34,39 @@ const FONT_FILE: &str =
 pub fn run_front<G: Tool>(rt: &HostRuntime, program: &mut G, words: &[&str]) -> io::Result<u8>
     ensures { IfOk result IsStatus }
 {
-    match asked_by(words, rt.stdin().is_terminal()) {
-        Asked::Version => Ok(print(rt, VERSION)),
-        Asked::Help(None) => Ok(print(rt, OVERVIEW)),
-        Asked::Help(Some(command)) => Ok(print_help(rt, command)),
-        Asked::Run => Ok(run_words(rt, program, words)?),
-    }
-}
-
-/// Prints the help of a command, or says that there is none. Returns the status.
-fn print_help(rt: &HostRuntime, command: &str) -> u8
-    ensures { IsStatus result }
-{
-    match value_of(&HELPS, command) {
-        Some(text) => print(rt, text),
-        None => {
-            say(rt, &["usage"]);
-            let what = "'; 'mkstrike help' lists the commands";
-            say(rt, &["there is no help for '", command, what]);
-            2
-        }
-    }
-}
-
-/// Prints a text. Returns the status.
-fn print(rt: &HostRuntime, text: &str) -> u8
-    ensures { IsStatus result }
-{
-    match put_all(&mut ToSink::new(rt.stdout()), text.as_bytes()) {
-        Ok(()) => 0,
-        Err(_) => 1,
-    }
-}
-
-/// Says pieces in a line.
-fn say(rt: &HostRuntime, pieces: &[&str]) {
+    let mut out = ToSink::new(rt.stdout());
     let mut err = ToSink::new(rt.stderr());
-    tell(rt.alloc(), &mut err, &Text::of(rt.alloc(), pieces));
+    Ok(run_over(
+        rt.alloc(),
+        program,
+        words,
+        &System { rt },
+        &mut out,
+        &mut err,
+    )?)
+}
+
+/// The same over any files and streams.
+pub fn run_over<G: Tool, F: Files, O: Sink, E: Sink>(
+    alloc: Global,
+    program: &mut G,
+    words: &[&str],
+    files: &F,
+    out: &mut O,
+    err: &mut E,
+) -> Result<u8, AllocError>
+    requires out { O.fault_count out.old < 2 ^ 63 }
+    requires err { E.fault_count err.old < 2 ^ 62 }
+    ensures answered { IfOk result (λ status. (is_terminal : Bool) × (between : E) × (own : Option ℕ)
+        × Answered (asked_by (texts words.now) is_terminal) (change_of O.held O.fault_count out.old out.new)
+        (change_of E.held E.fault_count) err.old between own × (own ≡ Some status → between ≡ err.new)) }
+    ensures status { IfOk result IsStatus }
+{
+    let asked = asked_by(words, files.has_terminal());
+    match answer(alloc, &asked, out, err) {
+        Some(status) => Ok(status),
+        None => run_words(alloc, program, words, files, err),
+    }
 }
 
 /// Says that an argument is not text, after the line of a wrong command line.
@@ -79,47 +74,72 @@ pub fn say_not_text<E: Sink>(alloc: Global, err: &mut E)
     ensures { SaysLine (change_of E.held E.fault_count err.old err.new) }
 {
     let what = "an argument is not UTF-8 text: give a font with such a name on standard input";
-    tell(alloc, err, &Text::of(alloc, &[what]));
+    say(alloc, err, &[what]);
 }
 
 /// Parts the words, and runs the program on them.
-fn run_words<G: Tool>(rt: &HostRuntime, program: &mut G, words: &[&str]) -> Result<u8, AllocError>
-    ensures { IfOk result IsStatus }
+fn run_words<G: Tool, F: Files, E: Sink>(
+    alloc: Global,
+    program: &mut G,
+    words: &[&str],
+    files: &F,
+    err: &mut E,
+) -> Result<u8, AllocError>
+    requires { E.fault_count err.old < 2 ^ 62 }
+    ensures status { IfOk result IsStatus }
 {
     let (command, count) = command_in(words);
     let (before, after) = words.split_at(count);
-    let list = listed(rt.alloc(), value_in(words, "--set").unwrap_or(""))?;
     let is_make = matches!(command, Some("make"));
-    let parts = part(rt.alloc(), before, is_make, list.as_str(), after)?;
+    let lists = if is_make {
+        lists_in(alloc, after)?
+    } else {
+        None
+    };
+    let list = match &lists {
+        Some(list) => Some(list.as_str()),
+        None => None,
+    };
+    let parts = part(alloc, before, is_make, list, after)?;
     let task = AskedRun {
         parts: &parts,
         command,
     };
-    run_parted(rt, program, &task, is_explained(words))
+    run_parted(alloc, program, &task, is_explained(words), files, err)
 }
 
 /// Runs the program on words, or has it explain them without an input.
-fn run_parted<G: Tool>(
-    rt: &HostRuntime,
+fn run_parted<G: Tool, F: Files, E: Sink>(
+    alloc: Global,
     program: &mut G,
     task: &AskedRun<'_, '_>,
     is_explained: bool,
+    files: &F,
+    err: &mut E,
 ) -> Result<u8, AllocError>
-    ensures { IfOk result IsStatus }
+    requires { E.fault_count err.old < 2 ^ 62 }
+    ensures ran { IfOk result (λ status. (hinted : E) × SaysLine (change_of E.held E.fault_count err.old hinted)
+        × RunsBy (RunsFrom (G.Ran (texts task.now.parts.now.words.items))
+        (change_of F.Input.left F.Input.fault_count)
+        F.Place.Names F.Place.works F.Place.fresh (change_of E.held E.fault_count)
+        (is_named (text_in task.now.command) (codes "trace")) (G.learned program.new))
+        (F.Opens files.now (font_of (text_in task.now.parts.now.font))) (F.Opens files.now None) F.IsEmpty
+        (F.Places files.now (text_in task.now.parts.now.output)) (F.Places files.now None)
+        (change_of E.held E.fault_count) (unwrap_or (text_in task.now.parts.now.output) []) hinted err.new status) }
+    ensures status { IfOk result IsStatus }
 {
-    if is_explained {
-        Ok(run_from(rt, program, task, Input::Nothing, Output::Standard))
-    } else if task.command.is_some() {
-        run_named(rt, program, task)
-    } else {
-        Ok(run_from(
-            rt,
-            program,
-            task,
-            Input::Standard(rt.stdin()),
-            Output::Standard,
-        ))
+    if task.command.is_some() && !is_explained {
+        return run_named(alloc, program, task, files, err);
     }
+    let input = if is_explained {
+        files.nothing()
+    } else {
+        match files.open(None) {
+            Ok(input) => input,
+            Err(_) => files.nothing(),
+        }
+    };
+    Ok(run_from(alloc, program, task, input, files.standard(), err))
 }
 
 /// Whether words are only explained.
@@ -145,118 +165,128 @@ fn command_in<'a>(words: &[&'a str]) -> (Option<&'a str>, usize)
     }
 }
 
-/// Runs the program on the font and with the output that the words name.
-fn run_named<G: Tool>(
-    rt: &HostRuntime,
-    program: &mut G,
-    task: &AskedRun<'_, '_>,
-) -> Result<u8, AllocError>
-    ensures { IfOk result IsStatus }
+/// The name of the font; none for standard input.
+fn font_of<'a>(task: &AskedRun<'_, 'a>) -> Option<&'a str>
+    ensures { text_in result ≡ font_of (text_in task.now.parts.now.font) }
 {
-    let font = match task.parts.font {
-        Some("-") => None,
+    match task.parts.font {
+        Some(name) if name == "-" => None,
         font => font,
-    };
-    let input = match input_of(rt, font) {
-        Ok(input) => input,
-        Err(why) => return refuse_font(rt, program, task, why),
-    };
-    match output_of(rt, task.parts.output, font.unwrap_or("/dev/stdin"))? {
-        Ok(output) => Ok(run_from(rt, program, task, input, output)),
-        Err(why) => Ok(refuse_output(rt, task, why)),
     }
 }
 
-/// The font of a name, by default standard input, or why it can't be read.
-fn input_of(rt: &HostRuntime, font: Option<&str>) -> Result<Input, &'static str> {
-    let Some(name) = font else {
-        if rt.stdin().is_terminal() {
-            let what = "the font is read from standard input, which is a terminal here";
-            say(rt, &[what]);
-        }
-        return Ok(Input::Standard(rt.stdin()));
+/// Runs the program on the font and with the output that the words name.
+fn run_named<G: Tool, F: Files, E: Sink>(
+    alloc: Global,
+    program: &mut G,
+    task: &AskedRun<'_, '_>,
+    files: &F,
+    err: &mut E,
+) -> Result<u8, AllocError>
+    requires { E.fault_count err.old < 2 ^ 62 }
+    ensures ran { IfOk result (λ status. (hinted : E) × SaysLine (change_of E.held E.fault_count err.old hinted)
+        × RunsBy (RunsFrom (G.Ran (texts task.now.parts.now.words.items))
+        (change_of F.Input.left F.Input.fault_count)
+        F.Place.Names F.Place.works F.Place.fresh (change_of E.held E.fault_count)
+        (is_named (text_in task.now.command) (codes "trace")) (G.learned program.new))
+        (F.Opens files.now (font_of (text_in task.now.parts.now.font))) (F.Opens files.now None) F.IsEmpty
+        (F.Places files.now (text_in task.now.parts.now.output)) (F.Places files.now None)
+        (change_of E.held E.fault_count) (unwrap_or (text_in task.now.parts.now.output) []) hinted err.new status) }
+    ensures status { IfOk result IsStatus }
+{
+    let font = font_of(task);
+    hint_at_terminal(alloc, font, files, err);
+    let input = match files.open(font) {
+        Ok(input) => input,
+        Err(why) => return refuse_font(alloc, program, task, why, files, err),
     };
-    match fs::metadata(rt, name) {
-        Err(_) => Err("there is no such file"),
-        Ok(found) if found.is_dir() => Err("it is a folder"),
-        Ok(_) => match File::open(rt, name) {
-            Ok(file) => Ok(Input::File(file)),
-            Err(fault) => Err(why_closed(&fault)),
-        },
+    match files.place(task.parts.output, font.unwrap_or("/dev/stdin"))? {
+        Ok(place) => Ok(run_from(alloc, program, task, input, place, err)),
+        Err(why) => Ok(refuse_output(alloc, task, why, err)),
     }
+}
+
+/// Says that the font is read from a terminal, if it is.
+fn hint_at_terminal<F: Files, E: Sink>(alloc: Global, font: Option<&str>, files: &F, err: &mut E)
+    ensures { SaysLine (change_of E.held E.fault_count err.old err.new) }
+{
+    let what = if font.is_none() && files.has_terminal() {
+        "the font is read from standard input, which is a terminal here"
+    } else {
+        ""
+    };
+    say(alloc, err, &[what]);
 }
 
 /// Says what is wrong with the other words, or if nothing is, why the font can't be opened. Returns the status.
-fn refuse_font<G: Tool>(
-    rt: &HostRuntime,
+fn refuse_font<G: Tool, F: Files, E: Sink>(
+    alloc: Global,
     program: &mut G,
     task: &AskedRun<'_, '_>,
     why: &str,
+    files: &F,
+    err: &mut E,
 ) -> Result<u8, AllocError>
-    ensures { IfOk result IsStatus }
+    requires { E.fault_count err.old < 2 ^ 63 }
+    ensures ran { IfOk result (λ status. RunsBy (RunsFrom (G.Ran (texts task.now.parts.now.words.items))
+        (change_of F.Input.left F.Input.fault_count)
+        F.Place.Names F.Place.works F.Place.fresh (change_of E.held E.fault_count)
+        (is_named (text_in task.now.command) (codes "trace")) (G.learned program.new))
+        (F.Opens files.now (font_of (text_in task.now.parts.now.font))) (F.Opens files.now None) F.IsEmpty
+        (F.Places files.now (text_in task.now.parts.now.output)) (F.Places files.now None)
+        (change_of E.held E.fault_count) (unwrap_or (text_in task.now.parts.now.output) []) err.old err.new status) }
+    ensures status { IfOk result IsStatus }
 {
-    let wrong = program.wrong(rt.alloc(), task.parts.words.get(1..).unwrap_or(&[]))?;
+    let wrong = program.wrong(alloc, task.parts.words.get(1..).unwrap_or(&[]))?;
     if wrong.is_empty() {
-        say_no_font(rt, task, why);
-        Ok(1)
-    } else {
-        Ok(run_from(rt, program, task, Input::Nothing, Output::Standard))
+        say_no_font(alloc, task, why, err);
+        return Ok(1);
     }
+    Ok(run_from(alloc, program, task, files.nothing(), files.standard(), err))
 }
 
 /// Says why a font can't be opened, and how it is named.
-fn say_no_font(rt: &HostRuntime, task: &AskedRun<'_, '_>, why: &str) {
+fn say_no_font<E: Sink>(alloc: Global, task: &AskedRun<'_, '_>, why: &str, err: &mut E)
+    ensures { (between : E) × SaysLine (change_of E.held E.fault_count err.old between)
+        × SaysLine (change_of E.held E.fault_count between err.new) }
+{
     let name = task.parts.font.unwrap_or("");
-    say(rt, &["can't open the font '", name, "': ", why]);
+    say(alloc, err, &["can't open the font '", name, "': ", why]);
     if name.contains('/') {
         let how = "' shows how it is written";
-        say(rt, &[FONT_HELP, task.command.unwrap_or(""), how]);
+        say(alloc, err, &[FONT_HELP, task.command.unwrap_or(""), how]);
     } else {
-        say(rt, &[FONT_FILE]);
+        say(alloc, err, &[FONT_FILE]);
     }
 }
 
 /// Says why an output is not written. Returns the status.
-fn refuse_output(rt: &HostRuntime, task: &AskedRun<'_, '_>, why: &str) -> u8
-    ensures { IsStatus result }
+fn refuse_output<E: Sink>(alloc: Global, task: &AskedRun<'_, '_>, why: &str, err: &mut E) -> u8
+    ensures status { result ≡ 1 }
+    ensures told { Tells (change_of E.held E.fault_count err.old err.new)
+        (unwritten (unwrap_or (text_in task.now.parts.now.output) []) why.now) }
 {
-    let name = task.parts.output.unwrap_or("");
-    say(rt, &["can't write '", name, "': ", why]);
+    say_unwritten(alloc, task.output_name(), why, err);
     1
 }
 
 /// Runs the program from an input to an output, and says what to do after it. Returns the status.
-fn run_from<G: Tool>(
-    rt: &HostRuntime,
+fn run_from<G: Tool, R: Source + Drop, P: Destination + Drop, E: Sink>(
+    alloc: Global,
     program: &mut G,
     task: &AskedRun<'_, '_>,
-    input: Input,
-    output: Output,
+    input: R,
+    place: P,
+    err: &mut E,
 ) -> u8
-    ensures { IsStatus result }
+    requires input { R.fault_count input < 2 ^ 63 }
+    requires err { E.fault_count err.old < 2 ^ 63 }
+    ensures ran { RunsFrom (G.Ran (texts task.now.parts.now.words.items)) (change_of R.left R.fault_count)
+        P.Names P.works P.fresh (change_of E.held E.fault_count)
+        (is_named (text_in task.now.command) (codes "trace")) (G.learned program.new) err.old err.new result input place }
+    ensures status { IsStatus result }
 {
-    let mut err = ToSink::new(rt.stderr());
-    let ended = run_to_place(
-        rt.alloc(),
-        program,
-        task,
-        &mut FromReader::new(input),
-        &mut Outlet { rt, output },
-        &mut err,
-    );
-    if ended.is_unmade && ended.status == 1 {
-        return refuse_output(rt, task, NO_FOLDER);
-    }
-    if ended.status == 0 && !ended.is_named {
-        return refuse_output(rt, task, "the new file could not be given its name");
-    }
-    let is_file = ended.status == 2 && begins_with_file(rt, task);
-    say_after(rt.alloc(), program, task, ended, is_file, &mut err);
-    ended.status
-}
-
-/// Whether the first word names a file.
-fn begins_with_file(rt: &HostRuntime, task: &AskedRun<'_, '_>) -> bool {
-    let first = task.parts.words.get(1).copied().unwrap_or("");
-    matches!(fs::metadata(rt, first), Ok(found) if found.is_file())
+    let mut reader = input;
+    let mut output = place;
+    run_to_end(alloc, program, task, &mut reader, &mut output, err)
 }

@@ -2,14 +2,16 @@
 ghost use Rattle.std.specs.Prelude.{◌≡◌};
 ghost use Rattle.std.specs.List.{list_all};
 ghost use Rattle.fx_words.specs.Parts.{text_in};
-ghost use Rattle.fx_front.specs.inner.Kinds.{is_hexadecimal, kind_among, kind_of};
+ghost use Rattle.fx_words.specs.Sets.{rows_of};
+ghost use Rattle.fx_front.specs.inner.Kinds.{is_hexadecimal, kind_among, kind_of, known_kind};
 
 /// The first bytes of files that are no TrueType font, and what to do with each. The first row that fits counts. docs/REFUSALS.md
 /// has the same rows.
-pub(crate) const KINDS: [(&[u8], &str); 17] = [
+const KINDS: [(&[u8], &str); 17] = [
     (
         b"OTTO",
-        "the file looks like an OpenType font with CFF outlines, which is not read: give a TrueType font",
+        "the file looks like an OpenType font with CFF outlines, which is not read: give a TrueType font, or convert it: \
+         strike of the package python3-mkstrike does so",
     ),
     (
         b"ttcf",
@@ -74,9 +76,17 @@ pub(crate) const KINDS: [(&[u8], &str); 17] = [
     ),
 ];
 
-/// What a file that is no TrueType font looks like, by its first bytes and such a table, and what to do.
-pub(crate) fn kind_of(rows: &[(&'static [u8], &'static str)], start: &[u8]) -> Option<&'static str>
-    ensures { text_in result ≡ kind_of rows.now start.now }
+/// What a file that is no TrueType font looks like, by its first bytes, and what to do.
+#[tactic(auto, unfolding(crate::specs::inner::Kinds::known_kind))]
+pub(crate) fn known_kind(start: &[u8]) -> Option<&'static str>
+    ensures { text_in result ≡ known_kind start.now }
+{
+    kind_of(&KINDS, start)
+}
+
+/// The same by such a table.
+fn kind_of(rows: &[(&'static [u8], &'static str)], start: &[u8]) -> Option<&'static str>
+    ensures { text_in result ≡ kind_of (rows_of rows.now) start.now }
 {
     if start.is_empty() {
         return Some("the file is empty: give a TrueType font");
@@ -91,7 +101,7 @@ pub(crate) fn kind_of(rows: &[(&'static [u8], &'static str)], start: &[u8]) -> O
 
 /// The advice in the first row whose bytes begin the file.
 fn kind_among(rows: &[(&'static [u8], &'static str)], start: &[u8]) -> Option<&'static str>
-    ensures { text_in result ≡ kind_among rows.now start.now }
+    ensures { text_in result ≡ kind_among (rows_of rows.now) start.now }
 {
     // No row so far fits.
     'rows: for row in rows {

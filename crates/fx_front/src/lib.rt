@@ -2,10 +2,12 @@
 //! that say what to do. It knows nothing of fonts: it runs a `Tool`, and reads the `Facts` of the run.
 #![tactic(auto)]
 
+mod answer;
 mod asked;
 mod destination;
 mod explained;
 mod facts;
+mod files;
 mod front;
 mod help;
 mod input;
@@ -16,6 +18,7 @@ mod meant;
 mod output;
 mod paths;
 mod run;
+mod system;
 mod text;
 mod tool;
 
@@ -23,8 +26,9 @@ pub use asked::AskedRun;
 pub use destination::Destination;
 pub use explained::say_after;
 pub use facts::{Counts, Facts, RefusalFacts};
-pub use front::{run_front, say_not_text};
+pub use files::Files;
+pub use front::{run_front, run_over, say_not_text};
 pub use fx_words::Parts;
-pub use run::{Ended, run_to_place};
+pub use run::{Ended, run_to_end, run_to_place};
 pub use text::Text;
 pub use tool::Tool;

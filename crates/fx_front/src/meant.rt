@@ -1,7 +1,9 @@
 //! Which word an unknown one may mean, and what to use in its place.
 ghost use Rattle.std.specs.Prelude.{◌≡◌, ◌==◌};
 ghost use Rattle.std.specs.List.{slice_split};
-ghost use Rattle.fx_words.specs.Parts.{has};
+ghost use Rattle.fx_words.specs.Parts.{has, text_in};
+ghost use Rattle.fx_words.specs.Sets.{rows_of};
+ghost use Rattle.fx_front.specs.inner.Advised.{instead_of, usual_for};
 ghost use Rattle.fx_front.specs.inner.Asked.{commands};
 
 use crate::help::SETS;
@@ -89,16 +91,21 @@ pub(crate) fn takes_font(word: &str) -> bool
 }
 
 /// What to use in place of an option of other programs.
-pub(crate) fn instead_of(option: &str) -> Option<&'static str> {
+#[tactic(auto, unfolding(crate::specs::inner::Advised::instead_of))]
+pub(crate) fn instead_of(option: &str) -> Option<&'static str>
+    ensures { text_in result ≡ instead_of option.now }
+{
     usual_for(&INSTEAD, option, "")
 }
 
 /// The second column of the first row that has the word in its first. If there are `words`, the second must be one of them.
-fn usual_for(
+pub(crate) fn usual_for(
     rows: &[(&'static str, &'static str)],
     word: &str,
     words: &str,
-) -> Option<&'static str> {
+) -> Option<&'static str>
+    ensures { text_in result ≡ usual_for (rows_of rows.now) word.now words.now }
+{
     // No row so far fits.
     'rows: for row in rows {
         if is_among(word, row.0) && (words.is_empty() || is_among(row.1, words)) {

@@ -1,11 +1,18 @@
 //! The output by its name.
+ghost use Rattle.std.specs.Prelude.{◌≡◌};
+ghost use Rattle.fx_words.specs.Parts.{has};
+ghost use Rattle.fx_front.specs.Places.{kept_mode, standard};
+
 use crate::destination::Destination;
 use crate::paths::{beside_streams, folder_of, followed};
 use fx_words::has;
+use libc::close;
 use std::alloc::AllocError;
 use std::fs::{File, Metadata, Permissions};
 use std::io::{ErrorKind, Stdout, Write};
-use std::os::unix::fs::MetadataExt;
+use std::os::fd::IntoRawFd;
+use std::os::unix::fs::{MetadataExt, OpenOptionsExt, PermissionsExt, fchown};
+use std::random::RandomSource;
 use std::{fs, io};
 
 pub const NO_FOLDER: &str = "no file can be made in its folder";
@@ -17,8 +24,11 @@ const DENIED: &str = "permission denied";
 /// The names of standard output.
 const STANDARD: [&str; 4] = ["-", "/dev/stdout", "/dev/fd/1", "/proc/self/fd/1"];
 
-/// How many names are tried for a new file.
-const TRIES: u32 = 100;
+/// The mode of a new file, until it takes over that of an older one: only its owner may read and write it.
+const PRIVATE: u32 = 0o600;
+
+/// The mode that a new file asks for if it replaces none; the system takes away what the user's mask says.
+const SHARED: u32 = 0o666;
 
 /// Where the output goes.
 #[derive(Drop)]
@@ -27,8 +37,16 @@ pub enum Output {
     Standard,
     /// To a device, a pipe or another file that is not plain.
     Device(File),
-    /// To a new file of this name, with the permissions of the one that it replaces, if there is one.
-    New(String, Option<Permissions>),
+    /// To a new file of this name, which takes over the access of the one that it replaces, if there is one.
+    New(String, Option<Access>),
+}
+
+/// Whose a file is, and its mode.
+#[derive(Clone, Copy)]
+pub struct Access {
+    owner: u32,
+    group: u32,
+    mode: u32,
 }
 
 /// The output of a run, as a place.
@@ -65,13 +83,13 @@ pub(crate) fn output_of(
     font: &str,
 ) -> Result<Result<Output, &'static str>, AllocError> {
     let name = match name {
-        Some(name) if !has(&STANDARD, name) => name,
+        Some(name) if !is_standard(name) => name,
         _ => return Ok(Ok(Output::Standard)),
     };
     match fs::metadata(rt, name) {
         Ok(found) => match refused(rt, name, font, &found) {
             Some(why) => Ok(Err(why)),
-            None if found.is_file() => new_file(rt, name, Some(found.permissions())),
+            None if found.is_file() => new_file(rt, name, Some(access_of(&found))),
             None => Ok(device_of(rt, name)),
         },
         Err(fault) => match fault.kind() {
@@ -82,11 +100,27 @@ pub(crate) fn output_of(
     }
 }
 
-/// A new file of this name, with the permissions of the one that it replaces; or why it can't be made.
+/// Whether this is a name of standard output.
+fn is_standard(name: &str) -> bool
+    ensures { result ≡ has standard name.now }
+{
+    has(&STANDARD, name)
+}
+
+/// Whose a file is, and its mode.
+fn access_of(found: &Metadata) -> Access {
+    Access {
+        owner: found.uid(),
+        group: found.gid(),
+        mode: found.mode(),
+    }
+}
+
+/// A new file of this name, which takes over this access; or why it can't be made.
 fn new_file(
     rt: &HostRuntime,
     name: &str,
-    like: Option<Permissions>,
+    older: Option<Access>,
 ) -> Result<Result<Output, &'static str>, AllocError> {
     let Some(name) = followed(rt, name)? else {
         return Ok(Err("it is a link that can't be followed"));
@@ -95,7 +129,7 @@ fn new_file(
     if !folder.is_empty() && fs::metadata(rt, folder).is_err() {
         return Ok(Err(NO_FOLDER));
     }
-    Ok(Ok(Output::New(name, like)))
+    Ok(Ok(Output::New(name, older)))
 }
 
 /// Why a file that exists is not replaced.
@@ -132,38 +166,47 @@ fn device_of(rt: &HostRuntime, name: &str) -> Result<Output, &'static str> {
     }
 }
 
-/// Makes a file beside this name, with these permissions.
-fn make_beside(rt: &HostRuntime, name: &str, like: &Option<Permissions>) -> Option<OpenOutput> {
-    let number = std::process::id(rt.process());
-    // The names so far are taken.
-    'tries: for n in 0..TRIES {
-        let made = format!(in rt.alloc(); "{}.mkstrike-{number}-{n}", folder_of(name)).ok()?;
-        match File::create_new(rt, made.as_str()) {
-            Ok(opened) => return kept_new(rt, opened, made, like),
-            Err(fault) if fault.kind() == ErrorKind::AlreadyExists => {}
-            Err(_) => return None,
-        }
-    }
-    None
-}
-
-/// A file that was made under this name, given these permissions.
-fn kept_new(
-    rt: &HostRuntime,
-    opened: File,
-    made: String,
-    like: &Option<Permissions>,
-) -> Option<OpenOutput> {
+/// Makes a file beside this name, which takes over this access. Its name is random, so that no file of another run has it.
+fn make_beside(rt: &HostRuntime, name: &str, older: Option<Access>) -> Option<OpenOutput> {
+    let mut bytes = [0; 8];
+    rt.fill_bytes(&mut bytes).ok()?;
+    let number = u64::from_le_bytes(bytes);
+    let made = format!(in rt.alloc(); "{}.mkstrike-{number:016x}", folder_of(name)).ok()?;
+    let mode = if older.is_some() { PRIVATE } else { SHARED };
+    let opened = File::options()
+        .write(true)
+        .create_new(true)
+        .mode(mode)
+        .open(rt, made.as_str())
+        .ok()?;
     let Some(file) = beside_streams(opened) else {
         let _ = fs::remove_file(rt, made.as_str());
         return None;
     };
-    if let Some(like) = like
-        && let Ok(like) = like.clone()
-    {
-        let _ = file.set_permissions(like);
+    if let Some(older) = older {
+        take_over(&file, older);
     }
     Some(OpenOutput::New(file, made))
+}
+
+/// Gives a new file an older one's owner, group and mode, as far as the system allows.
+fn take_over(file: &File, older: Access) {
+    if fchown(file, Some(older.owner), Some(older.group)).is_err() {
+        let _ = fchown(file, None, Some(older.group));
+    }
+    let _ = file.set_permissions(Permissions::from_mode(kept_mode(older.mode)));
+}
+
+/// What a new file keeps of an older one's mode: who may read, write and run it. No program ever runs by it as its owner or group.
+fn kept_mode(mode: u32) -> u32
+    ensures { result ≡ kept_mode mode }
+{
+    mode % 0o1000
+}
+
+/// Stores an open file on its device, and closes it. Returns whether both went well.
+fn is_stored(file: File) -> bool {
+    file.sync_all().is_ok() && close(file.into_raw_fd()) == 0
 }
 
 impl<'a> Destination for Outlet<'a> {
@@ -179,7 +222,7 @@ impl<'a> Destination for Outlet<'a> {
         match &self.output {
             Output::Standard => Some(OpenOutput::Standard(self.rt.stdout())),
             Output::Device(file) => Some(OpenOutput::Device(file.try_clone().ok()?)),
-            Output::New(name, like) => make_beside(self.rt, name.as_str(), like),
+            Output::New(name, older) => make_beside(self.rt, name.as_str(), *older),
         }
     }
 
@@ -187,8 +230,7 @@ impl<'a> Destination for Outlet<'a> {
         let (OpenOutput::New(file, made), Output::New(name, _)) = (new, &self.output) else {
             return true;
         };
-        drop(file);
-        if fs::rename(self.rt, made.as_str(), name.as_str()).is_ok() {
+        if is_stored(file) && fs::rename(self.rt, made.as_str(), name.as_str()).is_ok() {
             return true;
         }
         let _ = fs::remove_file(self.rt, made.as_str());

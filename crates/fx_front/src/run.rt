@@ -2,11 +2,15 @@
 ghost use Rattle.std.specs.Prelude.{◌≡◌, ◌⊎◌, ◌<◌, ◌^◌, codes, true, false};
 ghost use Rattle.fx_fixed.specs.Changes.{change_of};
 ghost use Rattle.fx_words.specs.Parts.{text_in, texts};
-ghost use Rattle.fx_front.specs.Places.{IsStatus, RunsTo, held_by, is_named};
+ghost use Rattle.fx_front.specs.Places.{Ends, IsStatus, RunsTo, ended_status, held_by, is_named, keeps};
+ghost use Rattle.fx_front.specs.Lines.{SaysLine, Tells, unwritten};
 
 use crate::asked::AskedRun;
 use crate::destination::Destination;
+use crate::explained::say_after;
 use crate::late::Late;
+use crate::lines::say;
+use crate::output::NO_FOLDER;
 use crate::tool::Tool;
 use fx_fixed::{Sink, Source};
 use std::alloc::Global;
@@ -24,6 +28,67 @@ pub struct Ended {
     pub is_unmade: bool,
 }
 
+/// Runs a program whose output is a new file at a place, and says what to do after it. Returns the status for the user.
+pub fn run_to_end<G: Tool, P: Destination, R: Source, E: Sink>(
+    alloc: Global,
+    program: &mut G,
+    task: &AskedRun<'_, '_>,
+    reader: &mut R,
+    place: &mut P,
+    err: &mut E,
+) -> u8
+    requires reader { R.fault_count reader.old < 2 ^ 63 }
+    requires err { E.fault_count err.old < 2 ^ 63 }
+    ensures ends { (said : E) × (between : E)
+        × Ends (λ sink status. G.Ran (texts task.now.parts.now.words.items)
+        (change_of R.left R.fault_count reader.old reader.new) sink (change_of E.held E.fault_count err.old said) status)
+        P.Names P.works P.fresh place.old place.new (is_named (text_in task.now.command) (codes "trace"))
+        (G.learned program.new) result
+        × SaysLine (change_of E.held E.fault_count said between) × SaysLine (change_of E.held E.fault_count between err.new) }
+    ensures status { IsStatus result }
+{
+    let ended = run_to_place(alloc, program, task, reader, place, err);
+    say_end(alloc, &*program, task, ended, err);
+    ended_status(ended.status, ended.is_named)
+}
+
+/// The status for the user: 1 if the run was done and its file did not get its name, else the program's own.
+fn ended_status(status: u8, is_named: bool) -> u8
+    ensures { result ≡ ended_status status is_named }
+{
+    if status == 0 && !is_named { 1 } else { status }
+}
+
+/// Says after a run why its file was not made or did not get its name, or else what to do.
+fn say_end<G: Tool, E: Sink>(
+    alloc: Global,
+    program: &G,
+    task: &AskedRun<'_, '_>,
+    ended: Ended,
+    err: &mut E,
+)
+    ensures { (between : E) × SaysLine (change_of E.held E.fault_count err.old between)
+        × SaysLine (change_of E.held E.fault_count between err.new) }
+{
+    let name = task.output_name();
+    if ended.is_unmade && ended.status == 1 {
+        say_unwritten(alloc, name, NO_FOLDER, err);
+    } else if ended.status == 0 && !ended.is_named {
+        say_unwritten(alloc, name, "the system failed to store the new file", err);
+    } else {
+        say_after(alloc, program, task, ended, err);
+    }
+}
+
+/// Says why an output is not written.
+pub(crate) fn say_unwritten<E: Sink>(alloc: Global, name: &str, why: &str, err: &mut E)
+    ensures line { SaysLine (change_of E.held E.fault_count err.old err.new) }
+    ensures told { Tells (change_of E.held E.fault_count err.old err.new)
+        (unwritten name.now why.now) }
+{
+    say(alloc, err, &["can't write '", name, "': ", why]);
+}
+
 /// Runs a program whose output is a new file at a place. The file gets its name if the status is 0, or if a trace halted after some
 /// lines; else it is removed.
 pub fn run_to_place<G: Tool, P: Destination, R: Source, E: Sink>(
@@ -38,8 +103,8 @@ pub fn run_to_place<G: Tool, P: Destination, R: Source, E: Sink>(
     requires err { E.fault_count err.old < 2 ^ 63 }
     ensures run { RunsTo (λ sink status. G.Ran (texts task.now.parts.now.words.items)
         (change_of R.left R.fault_count reader.old reader.new) sink (change_of E.held E.fault_count err.old err.new) status)
-        P.Names P.fresh place.old place.new (is_named (text_in task.now.command) (codes "trace"))
-        result.status result.is_named }
+        P.Names P.works P.fresh place.old place.new (is_named (text_in task.now.command) (codes "trace"))
+        (G.learned program.new) result.status result.is_named }
     ensures status { IsStatus result.status }
 {
     let mut late = Late::new(&*place);
@@ -59,8 +124,7 @@ pub fn run_to_place<G: Tool, P: Destination, R: Source, E: Sink>(
 
 /// Whether the output of a failed run is kept: a trace keeps its lines before a halt.
 fn keeps<G: Tool>(program: &G, is_trace: bool, status: u8) -> bool
-    ensures trace { result ≡ true → is_trace ≡ true }
-    ensures status { result ≡ true → status ≡ 1 }
+    ensures { result ≡ keeps is_trace status (G.learned program.now) }
 {
     is_trace && status == 1 && matches!(program.facts().refused, Some(refused) if refused.is_halted)
 }
@@ -71,6 +135,7 @@ fn settle<P: Destination>(place: &mut P, new: Option<P::New>, status: u8, is_kep
     ensures due { result ≡ true → (status ≡ 0) ⊎ (is_kept ≡ true) }
     ensures named { result ≡ true → P.Names place.old (held_by P.New.contents P.fresh new) place.new }
     ensures spared { result ≡ false → place.new ≡ place.old }
+    ensures sure { status ≡ 0 → P.works place.old ≡ true → result ≡ true }
 {
     let new = match new {
         None if status == 0 => place.make(),

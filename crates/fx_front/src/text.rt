@@ -1,5 +1,5 @@
 //! Texts of one line.
-ghost use Rattle.std.specs.Prelude.{◌≡◌, ◌==◌, ◌<◌, ◌∷◌, ◌++◌, [], Some, None, IfSome, length, map, option_map};
+ghost use Rattle.std.specs.Prelude.{◌≡◌, ◌==◌, ◌<◌, ◌∷◌, ◌++◌, [], Some, None, IfSome, length, map, option_map, if◌then◌else◌};
 ghost use Rattle.std.specs.Char.{to_ascii_lowercase};
 ghost use Rattle.std.specs.Fmt.{decimal};
 ghost use Rattle.fx_fixed.specs.Lines.{hexadecimal};
@@ -63,6 +63,15 @@ impl Text {
         ensures { Says self.old self.new (shown_text text.now) }
     {
         self.add(text.as_bytes());
+    }
+
+    /// Adds a text if it is due.
+    pub(crate) fn add_if(&mut self, is_due: bool, text: &str)
+        ensures { Says self.old self.new (if is_due then shown_text text.now else []) }
+    {
+        if is_due {
+            self.add_text(text);
+        }
     }
 
     /// Adds a pattern with a text in place of its first `%`.

@@ -11,6 +11,10 @@ pub trait Tool {
     ghost use Rattle.fx_fixed.specs.Changes.{Change, change_of};
     ghost use Rattle.fx_words.specs.Parts.{texts};
     ghost use Rattle.fx_front.specs.Places.{IsStatus};
+    ghost use Rattle.fx_front.specs.declared.facts.Facts.{Facts};
+
+    // What a front learns of the last run.
+    ghost learned: { Self → Facts };
 
     // A run on these words, the program's name first: what became of its source, its sink and its lines, and its status.
     ghost Ran: { List (List ℕ) → Change → Change → Change → ℕ → Type 0 };
@@ -33,7 +37,8 @@ pub trait Tool {
         ensures status { IsStatus result };
 
     /// What a front learns of the last run.
-    fn facts(&self) -> &Facts;
+    fn facts(&self) -> &Facts
+        ensures { result.now ≡ learned self.now };
 
     /// What is wrong first with the words of a command line after the program's name; no bytes if nothing is.
     fn wrong(&self, alloc: Global, words: &[&str]) -> Result<Vec<u8>, AllocError>;

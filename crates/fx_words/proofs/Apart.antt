@@ -1,7 +1,7 @@
 -- FONT and `-o FILE` leave the words for the program as they are.
 -- Serves `laws::names`.
 use Rattle.std.proofs.Common.{◌≡◌, ◌∙◌, refl, sym, ap, Bool, true, false, codes, Option, Some, None, if◌then◌else◌}
-use Rattle.std.specs.Prelude.{◌||◌, not}
+use Rattle.std.specs.Prelude.{◌||◌, is_some, not}
 use Rattle.std.specs.Str.{bytes_eq}
 use Rattle.fx_words.specs.declared.parts.WordKind.{WordKind}
 use Rattle.fx_words.specs.declared.parts.WordKind.TheVariants.{Name}
@@ -13,7 +13,8 @@ or_true : (a : Bool) → (a || true) ≡ true
 or_true true = refl
 or_true false = refl
 
-after_font : (parts : PartsView) (font : Text) → parts.font ≡ None → parts.next ≡ next.Any → kind_of parts.is_make font ≡ Name
+after_font : (parts : PartsView) (font : Text) → parts.font ≡ None → parts.next ≡ next.Any
+    → kind_of parts.is_make (is_some parts.listed) font ≡ Name
     → step parts font ≡ record parts { font = Some font; next = next.Any }
 after_font parts font f n k =
     ap (λ (x : Next). step_by x parts font) n ∙ ap (λ (x : WordKind). first_by x parts font) k
@@ -36,8 +37,8 @@ after_output parts font output o p =
 
 at_end : (parts : PartsView) (font output : Text) → parts.next ≡ next.Any
     → end (record parts { font = Some font; output = Some output; next = next.Any })
-    ≡ record parts { font = Some font; output = Some output }
-at_end parts font output n = ap (λ (x : Next). record parts { font = Some font; output = Some output; next = x }) (sym n)
+    ≡ end (record parts { font = Some font; output = Some output })
+at_end parts font output n = ap (λ (x : Next). end (record parts { font = Some font; output = Some output; next = x })) (sym n)
 
 pub names_are_apart : NamesAreApart
 names_are_apart parts font output f o n k p =

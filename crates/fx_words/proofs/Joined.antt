@@ -1,5 +1,5 @@
 -- Joining borrowed texts.
--- Serves `listed`.
+-- Serves `joined`.
 use Rattle.std.proofs.Common.{◌≡◌, List, [], ◌∷◌, ◌++◌, refl, ap}
 use Rattle.std.specs.Borrow.{Bor}
 use Rattle.std.specs.List.{flat_map, join_by}

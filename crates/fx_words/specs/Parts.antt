@@ -7,7 +7,7 @@ use Rattle.std.specs.Str.{bytes_eq}
 use Rattle.std.specs.Borrow.{Bor}
 use Rattle.fx_words.specs.declared.parts.Parts.{Parts}
 use Rattle.fx_words.specs.declared.parts.WordKind.{WordKind}
-use Rattle.fx_words.specs.declared.parts.WordKind.TheVariants.{Output, JoinedOutput, Names, Name, Missing, Set, JoinedSet, Dropout, Valued, Flag}
+use Rattle.fx_words.specs.declared.parts.WordKind.TheVariants.{Output, JoinedOutput, Names, Name, Missing, Characters, JoinedCharacters, Dropout, Valued, Flag}
 use Rattle.fx_words.specs.declared.parts.Next.{Next}
 use Rattle.fx_words.specs.declared.parts.Next.TheVariants as next
 
@@ -15,7 +15,7 @@ abbrev pub Text : Type 0
 Text = List ℕ
 
 -- the words for the program, the font, the output, whether all missing characters are named, and what the next word may be; and
--- whether the command is `make`, and the list that the value of `--set` stands for
+-- whether the command is `make`, and, if `--set` is among the words, the list that the values of `--set` and `--chars` stand for
 pub record PartsView : Type 0 where
   pub words : List Text
   pub font : Option Text
@@ -23,7 +23,7 @@ pub record PartsView : Type 0 where
   pub names_all : Bool
   pub next : Next
   pub is_make : Bool
-  pub listed : Text
+  pub listed : Option Text
 
 abbrev pub texts : List (Bor Text) → List Text
 texts words = map (λ word. word.now) words
@@ -40,7 +40,7 @@ seen parts = record {
   names_all = parts.names_all;
   next = parts.next;
   is_make = parts.is_make;
-  listed = parts.listed.now;
+  listed = text_in parts.listed;
 }
 
 -- ---- words
@@ -78,9 +78,9 @@ abbrev pub joined_value : Text → Text → Option Text
 joined_value option word =
     if has_byte 61 word && bytes_eq (before_first (λ b. b == 61) word) option then Some (after_first (λ b. b == 61) word) else None
 
--- `--set=NAMES`
-abbrev pub is_joined_set : Text → Bool
-is_joined_set word = is_some (joined_value (codes "--set") word)
+-- the value in `--set=NAMES` or `--chars=LIST`
+abbrev pub joined_list : Text → Option Text
+joined_list word = option_or (joined_value (codes "--set") word) (joined_value (codes "--chars") word)
 
 -- whether a word is among words
 abbrev pub has : List Text → Text → Bool
@@ -95,6 +95,17 @@ value_after option false (word ∷ words) = option_or (joined_value option word)
 abbrev pub value_in : Text → List Text → Option Text
 value_in option words = value_after option false words
 
+abbrev pub values_of : Option Text → List Text
+values_of None = []
+values_of (Some value) = value ∷ []
+
+-- the values of `--set` and `--chars` among words: what follows `=`, or else the next word
+abbrev pub list_values : Bool → List Text → List Text
+list_values is_next [] = []
+list_values true (word ∷ words) = word ∷ list_values false words
+list_values false (word ∷ words) = values_of (joined_list word)
+    ++ list_values (has (codes "--set" ∷ codes "--chars" ∷ []) word) words
+
 -- the options that take the next word as their value
 unfoldable pub valued : List Text
 valued =
@@ -103,19 +114,20 @@ valued =
 
 -- the kind of a word that is no value
 abbrev pub other_kind : Bool → Text → WordKind
-other_kind is_make word =
-    if is_make && is_joined_set word then JoinedSet
+other_kind has_list word =
+    if has_list && is_some (joined_list word) then JoinedCharacters
     else (if has_joined_output word then JoinedOutput
     else (if has valued word then Valued else (if is_option word then Flag else Name)))
 
-abbrev pub kind_of : Bool → Text → WordKind
-kind_of is_make word =
+abbrev pub kind_of : Bool → Bool → Text → WordKind
+kind_of is_make has_list word =
     if bytes_eq word (codes "-o") then Output
     else (if bytes_eq word (codes "-") then Name
     else (if bytes_eq word (codes "--") then Names
     else (if bytes_eq word (codes "--dropout") then Dropout
     else (if is_make && bytes_eq word (codes "--missing") then Missing
-    else (if is_make && bytes_eq word (codes "--set") then Set else other_kind is_make word)))))
+    else (if has_list && (bytes_eq word (codes "--set") || bytes_eq word (codes "--chars")) then Characters
+    else other_kind has_list word)))))
 
 -- ---- steps
 
@@ -140,20 +152,22 @@ first_by JoinedOutput parts word = put_by parts.output parts (joined_output word
 first_by Names parts word = record parts { next = next.Name }
 first_by Name parts word = named_by parts.font parts word next.Any
 first_by Missing parts word = record parts { names_all = true; next = next.Any }
-first_by Set parts word = kept parts (codes "--chars") next.Set
-first_by JoinedSet parts word = kept (kept parts (codes "--chars") next.Any) parts.listed next.Any
+first_by Characters parts word = record parts { next = next.Characters }
+first_by JoinedCharacters parts word = record parts { next = next.Any }
 first_by Dropout parts word = kept parts word next.Dropout
 first_by Valued parts word = kept parts word next.Value
 first_by Flag parts word = kept parts word next.Any
 
 abbrev pub first : PartsView → Text → PartsView
-first parts word = first_by (kind_of parts.is_make word) parts word
+first parts word = first_by (kind_of parts.is_make (is_some parts.listed) word) parts word
 
--- the next word. After `-o` it is the name of the output; if it is none, `-o` is for the program, which refuses it
+-- the next word. After `-o` it is the name of the output; if it is none, `-o` is for the program, which refuses it. So is `--chars`
+-- if a list has no value
 abbrev pub step_by : Next → PartsView → Text → PartsView
 step_by next.Any parts word = first parts word
 step_by next.Value parts word = if has_hyphen word then first parts word else kept parts word next.Any
-step_by next.Set parts word = if has_hyphen word then first parts word else kept parts parts.listed next.Any
+step_by next.Characters parts word = if has_hyphen word then first (kept parts (codes "--chars") next.Any) word
+    else record parts { next = next.Any }
 step_by next.Dropout parts word = if has_hyphen word || is_path word then first parts word else kept parts word next.Any
 step_by next.Output parts word =
     if bytes_eq word (codes "-") || not (is_option word) then put_by parts.output parts word
@@ -163,16 +177,23 @@ step_by next.Name parts word = named_by parts.font parts word next.Name
 abbrev pub step : PartsView → Text → PartsView
 step parts word = step_by parts.next parts word
 
--- no word is left: an `-o` without a name is for the program
+-- the program gets the list that `--set` and `--chars` stand for, if there is one
+abbrev pub with_list : Option Text → PartsView → PartsView
+with_list None parts = parts
+with_list (Some list) parts = kept (kept parts (codes "--chars") next.Any) list next.Any
+
+-- no word is left: the list is for the program, and so is an `-o` without a name; an option without its value ends the words
 abbrev pub end_by : Next → PartsView → PartsView
-end_by next.Output parts = kept parts (codes "-o") next.Any
-end_by next parts = parts
+end_by next.Output parts = with_list parts.listed (kept parts (codes "-o") next.Any)
+end_by next.Characters parts = kept parts (codes "--chars") next.Any
+end_by next.Value parts = parts
+end_by next parts = with_list parts.listed parts
 
 abbrev pub end : PartsView → PartsView
 end parts = end_by parts.next parts
 
 -- before the first word
-abbrev pub start_of : List Text → Bool → Text → PartsView
+abbrev pub start_of : List Text → Bool → Option Text → PartsView
 start_of before is_make listed = record {
   words = before;
   font = None;
@@ -184,11 +205,11 @@ start_of before is_make listed = record {
 }
 
 -- all words
-abbrev pub parts_of : List Text → Bool → Text → List Text → PartsView
+abbrev pub parts_of : List Text → Bool → Option Text → List Text → PartsView
 parts_of before is_make listed words = end (fold step (start_of before is_make listed) words)
 
--- the law: after words that name neither, FONT and `-o FILE` set the font and the output, and change nothing else
+-- the law: after words that name neither, FONT and `-o FILE` set the font and the output, and change nothing else before the end
 abbrev pub NamesAreApart : Type 0
 NamesAreApart = (parts : PartsView) (font output : Text) → parts.font ≡ None → parts.output ≡ None → parts.next ≡ next.Any
-    → kind_of parts.is_make font ≡ Name → is_option output ≡ false
-    → end (fold step parts (font ∷ codes "-o" ∷ output ∷ [])) ≡ record parts { font = Some font; output = Some output }
+    → kind_of parts.is_make (is_some parts.listed) font ≡ Name → is_option output ≡ false
+    → end (fold step parts (font ∷ codes "-o" ∷ output ∷ [])) ≡ end (record parts { font = Some font; output = Some output })

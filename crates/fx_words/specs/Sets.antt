@@ -1,11 +1,11 @@
 -- Sets of characters by name.
-use Rattle.std.specs.Prelude.{◌==◌, List, [], ◌∷◌, ◌++◌, codes, Option, Some, None, map, unwrap_or}
+use Rattle.std.specs.Prelude.{◌==◌, ◌||◌, List, [], ◌∷◌, ◌++◌, codes, Option, Some, None, false, is_some, map, unwrap_or}
 use Rattle.std.specs.Prelude.{if◌then◌else◌}
 use Rattle.std.specs.Borrow.{Bor}
 use Rattle.std.specs.Char.{to_ascii_lowercase}
 use Rattle.std.specs.List.{join_by, slice_split}
 use Rattle.std.specs.Str.{bytes_eq}
-use Rattle.fx_words.specs.Parts.{Text}
+use Rattle.fx_words.specs.Parts.{Text, has, list_values, value_in}
 
 -- a table of two columns
 abbrev pub Table : Type 0
@@ -91,3 +91,8 @@ meant part = unwrap_or (list_of part) part
 -- a list with the names of sets replaced, part by part between its commas
 abbrev pub listed : Text → Text
 listed names = join_by (λ list. list) (codes ",") (map meant (slice_split (λ b. b == 44) names))
+
+-- the list that the values of `--set` and `--chars` stand for together, if `--set` is among the words
+abbrev pub lists_in : List Text → Option Text
+lists_in words = if has words (codes "--set") || is_some (value_in (codes "--set") words)
+    then Some (listed (join_by (λ value. value) (codes ",") (list_values false words))) else None

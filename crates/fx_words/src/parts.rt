@@ -1,8 +1,8 @@
 //! The words of a command line, parted: the font, the output, and the words for the program.
 ghost use Rattle.std.specs.Prelude.{◌≡◌, false, true, [], IfOk, OnOk};
-ghost use Rattle.fx_words.specs.Parts.{end, first, has, has_hyphen, has_joined_output, is_joined_set, is_option, is_path, joined_output};
-ghost use Rattle.fx_words.specs.Parts.{joined_value, kept, kind_of, named_by, other_kind, parts_of, put_by, seen, step, step_by};
-ghost use Rattle.fx_words.specs.Parts.{text_in, texts, value_in, without_equals};
+ghost use Rattle.fx_words.specs.Parts.{end, first, has, has_hyphen, has_joined_output, is_option, is_path, joined_list, joined_output};
+ghost use Rattle.fx_words.specs.Parts.{joined_value, kept, kind_of, list_values, named_by, other_kind, parts_of, put_by, seen, step};
+ghost use Rattle.fx_words.specs.Parts.{step_by, text_in, texts, value_in, with_list, without_equals};
 
 use std::alloc::{AllocError, Global};
 
@@ -26,8 +26,8 @@ pub enum Next {
     Any,
     /// The value of an option for the program.
     Value,
-    /// The value of `--set`.
-    Set,
+    /// The value of `--set`, or of `--chars` beside it.
+    Characters,
     /// The value of `--dropout`, which needs none.
     Dropout,
     /// The name after `-o`.
@@ -49,10 +49,10 @@ pub enum WordKind {
     Name,
     /// `--missing` of `make`.
     Missing,
-    /// `--set` of `make`.
-    Set,
-    /// `--set=NAMES`.
-    JoinedSet,
+    /// `--set`, or `--chars` beside it.
+    Characters,
+    /// `--set=NAMES`, or `--chars=LIST` beside it.
+    JoinedCharacters,
     /// `--dropout`.
     Dropout,
     /// An option for the program that takes the next word as its value.
@@ -76,20 +76,20 @@ pub struct Parts<'a> {
     pub next: Next,
     /// Whether the command is `make`.
     pub is_make: bool,
-    /// The list of characters that the value of `--set` stands for.
-    pub listed: &'a str,
+    /// If `--set` is among the words, the list of characters that the values of `--set` and `--chars` stand for.
+    pub listed: Option<&'a str>,
 }
 
-/// Parts the words after a command's name. `before` are the words up to it, the program's name first, and `listed` is the list of
-/// characters that the value of `--set` stands for.
+/// Parts the words after a command's name. `before` are the words up to it, the program's name first. If `--set` is among the
+/// words, `listed` is the list of characters that the values of `--set` and `--chars` stand for, which the program gets as one.
 pub fn part<'a>(
     alloc: Global,
     before: &[&'a str],
     is_make: bool,
-    listed: &'a str,
+    listed: Option<&'a str>,
     words: &[&'a str],
 ) -> Result<Parts<'a>, AllocError>
-    ensures { IfOk result (λ parts. seen parts ≡ parts_of (texts before.now) is_make listed.entry.now (texts words.now)) }
+    ensures { IfOk result (λ parts. seen parts ≡ parts_of (texts before.now) is_make (text_in listed.entry) (texts words.now)) }
 {
     let mut parts = Parts {
         words: Vec::from_slice(alloc, before)?,
@@ -115,8 +115,8 @@ impl<'a> Parts<'a> {
     {
         match self.next {
             Next::Any => self.take_first(word),
-            Next::Value => self.take_value(word, word),
-            Next::Set => self.take_value(word, self.listed),
+            Next::Value => self.take_value(word),
+            Next::Characters => self.take_list(word),
             Next::Dropout => self.take_dropout(word),
             Next::Output => self.take_output(word),
             Next::Name => self.take_name(word, Next::Name),
@@ -127,7 +127,7 @@ impl<'a> Parts<'a> {
     fn take_first(&mut self, word: &'a str) -> Result<(), AllocError>
         ensures { OnOk result (seen self.new ≡ first (seen self.old) word.entry.now) }
     {
-        match kind_of(self.is_make, word) {
+        match kind_of(self.is_make, self.listed.is_some(), word) {
             WordKind::Output => self.next = Next::Output,
             WordKind::Names => self.next = Next::Name,
             WordKind::Missing => {
@@ -136,11 +136,8 @@ impl<'a> Parts<'a> {
             }
             WordKind::JoinedOutput => return self.put(joined_output(word)),
             WordKind::Name => return self.take_name(word, Next::Any),
-            WordKind::Set => return self.keep("--chars", Next::Set),
-            WordKind::JoinedSet => {
-                self.keep("--chars", Next::Any)?;
-                return self.keep(self.listed, Next::Any);
-            }
+            WordKind::Characters => self.next = Next::Characters,
+            WordKind::JoinedCharacters => self.next = Next::Any,
             WordKind::Dropout => return self.keep(word, Next::Dropout),
             WordKind::Valued => return self.keep(word, Next::Value),
             WordKind::Flag => return self.keep(word, Next::Any),
@@ -148,17 +145,27 @@ impl<'a> Parts<'a> {
         Ok(())
     }
 
-    /// Takes a word after an option that takes a value. If it is one, the program gets `value`.
-    fn take_value(&mut self, word: &'a str, value: &'a str) -> Result<(), AllocError>
-        ensures option { has_hyphen word.entry.now ≡ true → OnOk result (seen self.new ≡ first (seen self.old) word.entry.now) }
-        ensures value { has_hyphen word.entry.now ≡ false
-            → OnOk result (seen self.new ≡ kept (seen self.old) value.entry.now Next.Any) }
+    /// Takes a word after an option that takes a value.
+    fn take_value(&mut self, word: &'a str) -> Result<(), AllocError>
+        ensures { OnOk result (seen self.new ≡ step_by Next.Value (seen self.old) word.entry.now) }
     {
         if has_hyphen(word) {
             self.take_first(word)
         } else {
-            self.keep(value, Next::Any)
+            self.keep(word, Next::Any)
         }
+    }
+
+    /// Takes a word after `--set`, or after `--chars` beside it. Without a value the program gets `--chars`, and refuses it.
+    fn take_list(&mut self, word: &'a str) -> Result<(), AllocError>
+        ensures { OnOk result (seen self.new ≡ step_by Next.Characters (seen self.old) word.entry.now) }
+    {
+        if has_hyphen(word) {
+            self.keep("--chars", Next::Any)?;
+            return self.take_first(word);
+        }
+        self.next = Next::Any;
+        Ok(())
     }
 
     /// Takes a word after `--dropout`.
@@ -222,15 +229,31 @@ impl<'a> Parts<'a> {
         ensures { OnOk result (seen self.new ≡ end (seen self.old)) }
     {
         match self.next {
-            Next::Output => self.keep("-o", Next::Any),
-            Next::Any | Next::Value | Next::Set | Next::Dropout | Next::Name => Ok(()),
+            Next::Output => {
+                self.keep("-o", Next::Any)?;
+                self.keep_list()
+            }
+            Next::Characters => self.keep("--chars", Next::Any),
+            Next::Value => Ok(()),
+            Next::Any | Next::Dropout | Next::Name => self.keep_list(),
         }
+    }
+
+    /// Keeps the list that `--set` and `--chars` stand for, if there is one.
+    fn keep_list(&mut self) -> Result<(), AllocError>
+        ensures { OnOk result (seen self.new ≡ with_list (seen self.old).listed (seen self.old)) }
+    {
+        let Some(list) = self.listed else {
+            return Ok(());
+        };
+        self.keep("--chars", Next::Any)?;
+        self.keep(list, Next::Any)
     }
 }
 
 /// The kind of a word that is no value.
-fn kind_of(is_make: bool, word: &str) -> WordKind
-    ensures { result ≡ kind_of is_make word.now }
+fn kind_of(is_make: bool, has_list: bool, word: &str) -> WordKind
+    ensures { result ≡ kind_of is_make has_list word.now }
 {
     match word {
         "-o" => WordKind::Output,
@@ -238,18 +261,18 @@ fn kind_of(is_make: bool, word: &str) -> WordKind
         "--" => WordKind::Names,
         "--dropout" => WordKind::Dropout,
         "--missing" if is_make => WordKind::Missing,
-        "--set" if is_make => WordKind::Set,
-        _ => other_kind(is_make, word),
+        "--set" | "--chars" if has_list => WordKind::Characters,
+        _ => other_kind(has_list, word),
     }
 }
 
 /// The kind of any other word.
 #[tactic(auto, unfolding(crate::specs::Parts::valued))]
-fn other_kind(is_make: bool, word: &str) -> WordKind
-    ensures { result ≡ other_kind is_make word.now }
+fn other_kind(has_list: bool, word: &str) -> WordKind
+    ensures { result ≡ other_kind has_list word.now }
 {
-    if is_make && is_joined_set(word) {
-        WordKind::JoinedSet
+    if has_list && joined_list(word).is_some() {
+        WordKind::JoinedCharacters
     } else if has_joined_output(word) {
         WordKind::JoinedOutput
     } else if has(&VALUED, word) {
@@ -301,7 +324,7 @@ fn is_option(word: &str) -> bool
 }
 
 /// Whether a word looks like a file's name.
-fn is_path(word: &str) -> bool
+pub fn is_path(word: &str) -> bool
     ensures { result ≡ is_path word.now }
 {
     word.split_once('.').is_some() || word.split_once('/').is_some()
@@ -334,11 +357,29 @@ fn without_equals<'a>(name: &'a str) -> &'a str
     }
 }
 
-/// Whether a word is `--set=NAMES`.
-fn is_joined_set(word: &str) -> bool
-    ensures { result ≡ is_joined_set word.now }
+/// The value in `--set=NAMES` or `--chars=LIST`.
+fn joined_list<'a>(word: &'a str) -> Option<&'a str>
+    ensures { text_in result ≡ joined_list word.entry.now }
 {
-    joined_value(word, "--set").is_some()
+    joined_value(word, "--set").or(joined_value(word, "--chars"))
+}
+
+/// The values of `--set` and `--chars` among words.
+pub(crate) fn list_values<'a>(alloc: Global, words: &[&'a str]) -> Result<Vec<&'a str>, AllocError>
+    ensures { IfOk result (λ values. texts values.items ≡ list_values false (texts words.now)) }
+{
+    let mut values = Vec::new(alloc);
+    let mut is_next = false;
+    // The words so far have these values; `is_next` tells whether the word before this one is one of the options.
+    'words: for word in words {
+        if is_next {
+            values.push(*word)?;
+        } else if let Some(value) = joined_list(word) {
+            values.push(value)?;
+        }
+        is_next = !is_next && has(&["--set", "--chars"], word);
+    }
+    Ok(values)
 }
 
 /// The value in `OPTION=VALUE`.

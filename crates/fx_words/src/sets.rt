@@ -1,9 +1,10 @@
 //! Sets of characters by name.
-ghost use Rattle.std.specs.Prelude.{◌≡◌, ◌==◌, IfOk, string_bytes};
-ghost use Rattle.std.specs.List.{slice_split};
+ghost use Rattle.std.specs.Prelude.{◌≡◌, ◌==◌, IfOk, codes, option_map, string_bytes};
+ghost use Rattle.std.specs.List.{join_by, slice_split};
 ghost use Rattle.fx_words.specs.Parts.{text_in, texts};
-ghost use Rattle.fx_words.specs.Sets.{first_name, list_of, listed, rows_of, sets, value_of};
+ghost use Rattle.fx_words.specs.Sets.{first_name, list_of, listed, lists_in, rows_of, sets, value_of};
 
+use crate::parts::{has, list_values, value_in};
 use std::alloc::{AllocError, Global};
 
 /// Each set: its name, and its characters as a list of hexadecimal numbers and ranges, without control characters.
@@ -134,7 +135,26 @@ pub fn listed(alloc: Global, names: &str) -> Result<String, AllocError>
     'parts: for part in &parts {
         lists.push(list_of(alloc, part)?.unwrap_or(*part))?;
     }
-    lists.join(alloc, ",")
+    joined(alloc, &lists)
+}
+
+/// The list that the values of `--set` and `--chars` among words stand for; none if `--set` is not there.
+pub fn lists_in(alloc: Global, words: &[&str]) -> Result<Option<String>, AllocError>
+    ensures { IfOk result (λ list. option_map string_bytes list ≡ lists_in (texts words.now)) }
+{
+    if !has(words, "--set") && value_in(words, "--set").is_none() {
+        return Ok(None);
+    }
+    let values = list_values(alloc, words)?;
+    let names = joined(alloc, &values)?;
+    Ok(Some(listed(alloc, names.as_str())?))
+}
+
+/// Texts with commas between them.
+fn joined(alloc: Global, parts: &[&str]) -> Result<String, AllocError>
+    ensures { IfOk result (λ list. string_bytes list ≡ join_by (λ part. part) (codes ",") (texts parts.now)) }
+{
+    parts.join(alloc, ",")
 }
 
 /// What is between the commas of a text.

@@ -3,7 +3,7 @@ use fx_fixed::{Limits, MemorySink, MemorySource, Sink, Source, put_all};
 use fx_front::{
     AskedRun, Destination, Ended, Facts, Parts, RefusalFacts, Text, Tool, run_to_place, say_after,
 };
-use fx_words::{listed, part};
+use fx_words::{listed, lists_in, part};
 use std::alloc::{AllocError, Global};
 use std::test::Fail;
 
@@ -37,13 +37,15 @@ impl Shelf {
 }
 
 impl Destination for Shelf {
-    ghost use Rattle.std.specs.Prelude.{◌≡◌, [], Some, option_map};
+    ghost use Rattle.std.specs.Prelude.{◌≡◌, ◌&&◌, [], Some, option_map};
 
     type New = Vec<u8>;
 
     ghost fresh = { Some [] };
 
     ghost Names = { λ _ held shelf. option_map (λ file. file.items) shelf.file ≡ held };
+
+    ghost works = { λ shelf. shelf.makes && shelf.names };
 
     fn make(&self) -> Option<Vec<u8>> {
         if self.makes {
@@ -89,8 +91,10 @@ impl Fake {
                 refused: if status == 1 { Some(refused) } else { None },
                 start: None,
                 is_variable: false,
+                has_bitmaps: false,
                 missing: Text::new(alloc),
                 has_more: false,
+                first: None,
                 is_cut: false,
             },
         }
@@ -101,6 +105,8 @@ impl Tool for Fake {
     ghost use Rattle.std.specs.Prelude.{⊤};
 
     ghost Ran = { λ _ _ _ _ _. ⊤ };
+
+    ghost learned = { λ f. f.facts };
 
     fn run<R: Source, O: Sink, E: Sink>(
         &mut self,
@@ -146,7 +152,7 @@ fn run_command(
     command: Option<&'static str>,
     shelf: &mut Shelf,
 ) -> Result<Ended, AllocError> {
-    let parts = part(alloc, &["mkstrike"], false, "", &[])?;
+    let parts = part(alloc, &["mkstrike"], false, None, &[])?;
     let task = AskedRun {
         parts: &parts,
         command,
@@ -206,13 +212,13 @@ fn say(
 ) -> Result<(), AllocError> {
     let mut shelf = Shelf::new(alloc, true, true)?;
     let ended = run_on(alloc, fake, task, &mut shelf)?;
-    say_after(alloc, fake, task, ended, false, err);
+    say_after(alloc, fake, task, ended, err);
     Ok(())
 }
 
 /// The same of a trace.
 fn say_of_trace(alloc: Global, fake: &mut Fake, err: &mut MemorySink) -> Result<(), AllocError> {
-    let parts = part(alloc, &["mkstrike", "trace"], false, "", &[])?;
+    let parts = part(alloc, &["mkstrike", "trace"], false, None, &[])?;
     let task = AskedRun {
         parts: &parts,
         command: Some("trace"),
@@ -247,7 +253,7 @@ type Line = (
     Option<&'static str>,
 );
 
-static LINES: [Line; 16] = [
+static LINES: [Line; 23] = [
     (
         &["--ppem", "16", "a.ttf", "-o", "b"],
         "--ppem|16",
@@ -280,12 +286,47 @@ static LINES: [Line; 16] = [
         None,
     ),
     (
-        &["--set", "latin1", "--missing"],
+        &["--set", "ascii", "--missing"],
         "--chars|20-7e",
         None,
         None,
     ),
-    (&["--set=x", "a"], "--chars|20-7e", Some("a"), None),
+    (&["--set=box", "a"], "--chars|2500-257f", Some("a"), None),
+    (
+        &[
+            "--chars",
+            "a0",
+            "a",
+            "--set",
+            "ascii",
+            "--hex",
+            "--chars=41,b",
+        ],
+        "--hex|--chars|a0,20-7e,41,b",
+        Some("a"),
+        None,
+    ),
+    (
+        &["--set", "ascii", "--set=box"],
+        "--chars|20-7e,2500-257f",
+        None,
+        None,
+    ),
+    (&["--set", "ascii", "--chars"], "--chars", None, None),
+    (&["--set", "ascii", "--ppem"], "--ppem", None, None),
+    (&["--set"], "--chars", None, None),
+    (
+        &["--set", "--hex", "a"],
+        "--chars|--hex|--chars|--hex",
+        Some("a"),
+        None,
+    ),
+    (
+        &["--chars", "ascii", "--chars=41"],
+        "--chars|ascii|--chars=41",
+        None,
+        None,
+    ),
     (&["--all", "a"], "--all", Some("a"), None),
     (&["--name", "--hex", "a"], "--name|--hex", Some("a"), None),
     (&[""], "", None, None),
@@ -298,7 +339,12 @@ fn are_words(alloc: Global, words: &[&str], joined: &str) -> Result<bool, AllocE
 
 /// Whether words are parted like that.
 fn is_parted(alloc: Global, line: &Line) -> Result<bool, AllocError> {
-    let parts = part(alloc, &[], true, "20-7e", line.0)?;
+    let lists = lists_in(alloc, line.0)?;
+    let list = match &lists {
+        Some(list) => Some(list.as_str()),
+        None => None,
+    };
+    let parts = part(alloc, &[], true, list, line.0)?;
     let same_files = parts.font == line.2 && parts.output == line.3;
     Ok(same_files && are_words(alloc, &parts.words, line.1)?)
 }

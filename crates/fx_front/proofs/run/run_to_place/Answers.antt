@@ -10,9 +10,10 @@ returns-clause-run g c = record {
   named = λ e. (
     elim (c.settle.ensures.due e) [
       | inl h ↦ inl h
-      | inr h ↦ inr (sym c.is.ensures ∙ c.keeps-is_kept.ensures.trace h, c.keeps-is_kept.ensures.status h)
+      | inr h ↦ inr (sym (rw c.is.ensures at c.keeps-is_kept.ensures) ∙ h)
     ],
     c.settle.ensures.named e,
   );
   spared = c.settle.ensures.spared;
+  sure = c.settle.ensures.sure;
 }

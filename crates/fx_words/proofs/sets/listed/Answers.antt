@@ -4,7 +4,6 @@ use Rattle.std.proofs.lemmas.Result.{IfOk-weaker}
 use Rattle.std.specs.List.{join_by, slice_split}
 use Rattle.fx_words.specs.Parts.{texts}
 use Rattle.fx_words.specs.Sets.{meant}
-use Rattle.fx_words.proofs.Joined.{joined_texts}
 use Rattle.fx_words.proofs.sets.listed.Goals as goal
 
 pub returns : goal.returns
@@ -15,6 +14,4 @@ returns c =
     let lists : texts c.deref.result.now ≡ map meant (slice_split (λ b. b == 44) c.args.names.now) =
     ap texts c.deref.ensures.value ∙ c.parts.invariant
     ∙ ap (λ ps. map meant (texts ps)) (take_all c.parts.part-index parts (omega arith)) ∙ ap (map meant) apart in
-    IfOk-weaker c.join.result _ _
-    (λ list e. e ∙ joined_texts (codes ",") c.deref.result.now ∙ ap (join_by (λ l. l) (codes ",")) lists)
-    c.join.ensures.ok
+    IfOk-weaker c.joined.result _ _ (λ list e. e ∙ ap (join_by (λ l. l) (codes ",")) lists) c.joined.ensures

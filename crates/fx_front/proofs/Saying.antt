@@ -1,0 +1,22 @@
+-- Texts that are added to one after the other, and told.
+use Rattle.std.proofs.Common.{◌≡◌, ℕ, ◌<◌, ◌^◌, List, [], ◌++◌, Option, Some, None, Ok, Err, inl, inr, append_assoc, arith}
+use Rattle.fx_fixed.specs.Changes.{Change}
+use Rattle.fx_front.specs.Lines.{Says, SaysLine, Tells, TellsText}
+
+pub chained : (x y : List ℕ) (a b c : Option (List ℕ)) → Says a b x → Says b c y → Says a c (x ++ y)
+chained x y a b None p q = tt
+chained x y a None (Some t) p q = grind arith
+chained x y None (Some s) (Some t) p q = grind arith
+chained x y (Some r) (Some s) (Some t) p q = grind (arith, append_assoc)
+
+-- a text that has this line, or for which memory ran out, is told as this line
+pub told : (change : Change) (text : Option (List ℕ)) (line : List ℕ) → Says (Some []) text line → TellsText change text
+    → Tells change line
+told change None line says tells = inl tells
+told change (Some text) line says tells = let same : line ≡ text = grind arith in rw same tells
+
+-- a line adds at most one fault
+pub few_faults : (change : Change) → SaysLine change → change.faults_before < 2 ^ 62 → change.faults < 2 ^ 63
+few_faults change (inl silent) few = let same = silent.1 in grind arith
+few_faults change (inr (text, is, (Ok done, wrote))) few = let same = wrote.outcome.1 in grind arith
+few_faults change (inr (text, is, (Err fault, wrote))) few = let more = wrote.outcome.2 in grind arith
