@@ -118,7 +118,7 @@ TRIALS = [
     Trial("tests/python", "another method", r"1 failed", "env MKSTRIKE_TESTS=what_a_strike_says pytest tests/python",
           ("python/mkstrike/glyph.py", "return self.bottom + self.height", "return self.bottom")),
     Trial("tests/packages", "another file each time", FAILED, "pytest tests/packages -k again",
-          ("packaging/build", "deb mkstrike amd64 dist/mkstrike\n", "date +%N >\"$tree/now\"\ndeb mkstrike amd64 dist/mkstrike\nexit\n")),
+          ("packaging/build", "deb mkstrike amd64 dist/mkstrike\n", "date +%N >\"$tree/now\"\ndeb mkstrike amd64 dist/mkstrike\ncd \"$made\"\nsha256sum -- *\nmv -- * \"$to\"\nexit\n")),
     Trial("tests/web -k 'not planted'", "another caption", FAILED, "env MKSTRIKE_MODULES=dist pytest tests/web -k controls",
           ("dist/mkstrike.html", "pixels differ", "pixels vary")),
     Trial("tests/web -k planted", "a fault that is none", FAILED, "env MKSTRIKE_MODULES=dist pytest tests/web -k 'planted and unlink'",

@@ -72,12 +72,58 @@ def one(made, pattern):
     return found[0]
 
 
+def hashes(folder):
+    """The names and hashes of the files in a folder."""
+    return {it.name: hashlib.sha256(it.read_bytes()).hexdigest() for it in folder.iterdir()}
+
+
+def copy_of_the_checkout(top):
+    """A copy of the checkout in a folder: what looks for its own place as files, the rest as links."""
+    top.mkdir()
+    for name in set(os.listdir(TOP)) - {".git", "out"}:
+        if name in ("packaging", "tools"):
+            shutil.copytree(os.path.join(TOP, name), top / name)
+        else:
+            (top / name).symlink_to(os.path.join(TOP, name))
+    return top / "packaging/build"
+
+
 def test_made_again(made, tmp_path):
-    """Made in another folder, environment, time zone and mask of rights, they have the same bytes."""
-    run(["sh", "-c", 'umask 077; exec "$@"', "", BUILD, str(tmp_path / "other")], cwd=tmp_path, env={**os.environ, **OTHER})
+    """Made without the Rattle kit, of a checkout elsewhere, in another environment, time zone and mask of rights, they have the same bytes."""
+    without_kit = [it for it in os.environ["PATH"].split(":") if not os.path.exists(os.path.join(it, "rt"))]
+    env = {**os.environ, **OTHER, "PATH": ":".join([*without_kit, "/usr/bin", "/bin"])}
+    build = copy_of_the_checkout(tmp_path / "a checkout")
+    printed = run(["sh", "-c", 'umask 077; exec "$@"', "", build, tmp_path / "other folder"], cwd=tmp_path, env=env, stderr=None)
     # by their hashes: pytest would take minutes to show how megabytes differ
-    first, other = ({it.name: hashlib.sha256(it.read_bytes()).hexdigest() for it in at.iterdir()} for at in (made, tmp_path / "other"))
-    assert first == other
+    other = hashes(tmp_path / "other folder")
+    assert other == hashes(made) and printed.decode() == "".join("%s  %s\n" % (other[it], it) for it in sorted(other))
+
+
+# What a system has that has neither a C compiler nor Debian's tools, and what is then left out.
+BARE = "bash basename cat cp cut date dirname env gzip head install mkdir mktemp mv readlink rm sed sha256sum sort tar"
+LEFT_OUT = """\
+build: left out: Debian packages: no dpkg-gencontrol (Debian: dpkg-dev)
+build: left out: wheels, python3-mkstrike: no setuptools (Debian: python3-setuptools, python3-wheel)
+build: left out: the C library for amd64, the tarball: no C compiler with headers (Debian: gcc, libc6-dev)
+build: left out: packages for arm64: no aarch64-linux-gnu-gcc with headers (Debian: gcc-aarch64-linux-gnu, libc6-dev-arm64-cross)
+"""
+
+
+def test_what_is_left_out(tmp_path):
+    """On such a system, with a compiler for arm64 that lacks its headers, the npm package is made, and the rest is named."""
+    dist()
+    tools = tmp_path / "tools"
+    tools.mkdir()
+    for name in BARE.split():
+        (tools / name).symlink_to(tool(name))
+    (tools / "python3").symlink_to(sys.executable)
+    (tools / "setuptools.py").write_text("raise ImportError\n")
+    (tools / "aarch64-linux-gnu-gcc").symlink_to("/bin/false")
+    env = {"PATH": str(tools), "PYTHONPATH": str(tools)}
+    ran = subprocess.run([BUILD, tmp_path / "made"], env=env, stdin=subprocess.DEVNULL, capture_output=True, text=True, check=False)
+    assert (ran.returncode, ran.stderr) == (0, LEFT_OUT)
+    (name, sum_of_it), = hashes(tmp_path / "made").items()
+    assert re.fullmatch(r"mkstrike-[\d.]+(\+\w+)?\.tgz", name) and ran.stdout == "%s  %s\n" % (sum_of_it, name)
 
 
 def test_lintian(made):
