@@ -547,10 +547,9 @@ def test_arm(lib):
     if not os.path.exists(archive):
         pytest.skip("no %s: tools/make_dist --arm makes it" % prebuilt.shown(archive))
     tool(ARM_CC[0])
-    tool(ARM_RUN)
     words = [os.path.join(HERE, "check_c.c"), *BESIDE, archive]
     run(ARM_CC + C + ["-std=c99", "-static", "-pthread"] + words + ["-o", lib.at("check_c_arm")])
-    program = [ARM_RUN, lib.at("check_c_arm")]
+    program = [tool(ARM_RUN), lib.at("check_c_arm")]
     for font in lib.real:
         for ppem, mode, first, last in ((9, HINTED, 0x20, 0x17F), (16, HINTED, 0, 0x24F), (33, NEAR, 0x20, 0x17F),
                                         (16, HINTED + DROPOUT, 0x20, 0x7E)):
@@ -566,7 +565,7 @@ def test_arm(lib):
     run(program + ["threads", font])
     run(ARM_CC + CALLER + ["-static", archive, "-o", lib.at("caller_arm")])
     with open(font, "rb") as file:
-        run([ARM_RUN, lib.at("caller_arm"), *lib.inputs([file.read()], range(16))])
+        run([tool(ARM_RUN), lib.at("caller_arm"), *lib.inputs([file.read()], range(16))])
 
 
 def test_examples(lib):

@@ -32,6 +32,8 @@ Description: the C library of this machine
 
 """
 BUILD, PACKAGES = os.path.join(TOP, "packaging/build"), "usr/lib/python3/dist-packages"
+# Prints the release, and what a file is that is no TrueType font, which is in a file of the package.
+TOLD = "import mkstrike, mkstrike.refused as it; print(mkstrike.__version__, it.kind_of(b'OTTO'))"
 # Prints the strike of the font on standard input.
 STRIKE = "import sys, mkstrike; sys.stdout.buffer.write(mkstrike.Font(sys.stdin.buffer.read()).strike(16, '20-42').text)"
 
@@ -67,7 +69,7 @@ def one(made, pattern):
     """The package of a name."""
     found = glob.glob(str(made / pattern))
     if not found:
-        left_out("package %s, since it needs dist/%s and gcc-aarch64-linux-gnu" % (pattern, prebuilt.ARM_ARCHIVE))
+        left_out("aarch64-linux-gnu-gcc")
     assert len(found) == 1
     return found[0]
 
@@ -245,7 +247,7 @@ def look_at_python(folder, due, python=(sys.executable,)):
     """Looks at the package in a folder: it makes the program's strike, tells its version, and imports nothing from elsewhere."""
     env = {"PYTHONPATH": str(folder), "PATH": os.environ["PATH"], "PYTHONDONTWRITEBYTECODE": "1"}
     assert run([*python, "-c", STRIKE], env=env, stdin=None, input=fonts.FIXTURE, stderr=subprocess.DEVNULL) == due
-    assert re.match(rb"0\.\d{8}", run([*python, "-c", "import mkstrike; print(mkstrike.__version__)"], env=env))
+    assert re.match(rb"0\.\d{8}\S* the file looks like an OpenType font with CFF outlines", run([*python, "-c", TOLD], env=env))
 
 
 def look_at_arm(shared, due, folder):
@@ -306,3 +308,5 @@ def test_source_distribution(made, due, tmp_path):
     run([python, "-m", "pip", "install", "-q", "--no-index", "--no-build-isolation", "--no-deps", "--target", str(tmp_path / "installed"),
          str(source)])
     look_at_python(tmp_path / "installed", due)
+    told = run([tmp_path / "installed/bin/strike", "--version"], env={"PYTHONPATH": str(tmp_path / "installed"), "PATH": os.environ["PATH"]})
+    assert told == b"strike of mkstrike %s\n" % prebuilt.read(os.path.join(TOP, "VERSION")).strip()
