@@ -6,7 +6,7 @@ for the baseline, 10 for small letters, 14 for capitals, -4 below; the middle of
 import math
 import re
 
-import fonts
+from making import fonts
 
 PEN, STEP, SIDE, UPEM = 88, 50, 55, 1000  # the pen's width, a step across, the space on each side, the em
 HALF = PEN // 2

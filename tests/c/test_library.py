@@ -22,7 +22,7 @@ from array import array
 from ctypes import byref
 
 import compile_lines
-import fonts
+from making import fonts
 import prebuilt
 import pytest
 import stack
@@ -181,6 +181,7 @@ class Library:
         """The picture of a character that mkstrike shows."""
         with open(font, "rb") as file:
             return run([self.program, "show", "--ppem", str(ppem), "--char", "%x" % ord(character)], file.read()).stdout
+
 
 def archive_of():
     """The path of the archive; if there is none, and rt would have to prove much for one, all is left out."""

@@ -11,7 +11,7 @@ import tarfile
 import zipfile
 
 import compile_lines
-import fonts
+from making import fonts
 import other_machine
 import prebuilt
 import pytest

@@ -2,7 +2,7 @@
 import math
 
 import due
-import fonts
+from making import fonts
 from cases import cases
 from due import Counted
 from made import Empty, Font, Simple, square

@@ -9,7 +9,7 @@ buffer of lines is refused is made all the same.
 import os
 import re
 
-import fonts
+from making import fonts
 import made
 import pytest
 import test_refused

@@ -1,6 +1,6 @@
 """Cases of the program: programs of fonts, and what they have, to its limit and one past it. What each instruction does the suite says."""
 import due
-import fonts
+from making import fonts
 import instructions as ins
 from cases import cases
 from due import Ends, counted, glyph_lines

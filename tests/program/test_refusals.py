@@ -2,7 +2,7 @@
 import struct
 
 import due
-import fonts
+from making import fonts
 from cases import cases
 from due import halted, refused
 from made import Empty, Font, square

@@ -1,6 +1,6 @@
 """Cases of the program: strikes that are made in spite of characters that are refused (`make --refused`)."""
 import due
-import fonts
+from making import fonts
 import runs
 from cases import cases
 from due import refused

@@ -3,7 +3,7 @@ import os
 import subprocess
 
 import due
-import fonts
+from making import fonts
 import pytest
 from cases import cases
 from needs import REAL, real_font

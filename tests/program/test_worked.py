@@ -6,11 +6,11 @@ centres of columns and rows are at 32, 96, 160 and so on.
 import struct
 
 import due
-import fonts
+from making import fonts
 import runs
 from cases import cases
 from due import Ends, counted, glyph_lines, halted, listed, refused
-from fonts import ARC, FIXTURE, fixture_with, patched
+from making.fonts import ARC, FIXTURE, fixture_with, patched
 from instructions import steps_of
 from making.assembler import assemble
 from runs import Run

@@ -17,7 +17,7 @@ from shared import LIBERATION, SANS, font_bytes
 from test_cells import OTHER
 from test_font_files import MASTERS, built, packed
 
-import fonts
+from making import fonts
 import mkstrike
 from damage import Damaged
 from mkstrike import bdf

@@ -94,7 +94,7 @@ def test_odd_names():
 @needs_font(SANS)
 def test_damaged_names():
     """Damage in the tables of names says nothing, or something else; it is never an error."""
-    import fonts
+    from making import fonts
     from damage import Damaged
     part, choose = fonts.part_of(font_bytes(SANS), [0x41]), random.Random(2)
     for _ in range(500):

@@ -9,7 +9,7 @@ import subprocess
 import tempfile
 import zlib
 
-import fonts
+from making import fonts
 import prebuilt
 import pytest
 import sample_font

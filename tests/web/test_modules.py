@@ -10,7 +10,7 @@ import subprocess
 import types
 
 import engine
-import fonts
+from making import fonts
 import prebuilt
 import pytest
 import web_module

@@ -15,7 +15,7 @@ import threading
 import urllib.parse
 
 import engine
-import fonts
+from making import fonts
 import hands
 import png
 import prebuilt
@@ -40,8 +40,6 @@ ENDS = ["*/", "**//", "*\\\n/", "*\\\r/", "*??/\n/", "*??/\r/", "\\", "??/", "/*
 
 
 @pytest.fixture(name="page", scope="module")
-
-
 def opened_browser(tmp_path_factory):
     """The page in a browser, which ends with the tests."""
     page = hands.Page(engine.modules(), tmp_path_factory.mktemp("page"), os.environ.get("MKSTRIKE_PICTURES"))

@@ -164,8 +164,8 @@ def main(words):
     expression = next((words[k + 1] for k, it in enumerate(words) if it == "-k"), "")
     paths = [it for k, it in enumerate(words) if not it.startswith("-") and words[k - 1:k] not in (["-k"], ["-p"])]
     ini, start, counts = configparser.ConfigParser(), time.monotonic(), {"failed": 0, "passed": 0, "skipped": 0}
-    ini.read(TOP / "pytest.ini")
-    sys.path[:0] = [str(TOP / it) for it in ini["pytest"]["pythonpath"].split()]
+    ini.read(TOP / "setup.cfg")
+    sys.path[:0] = [str(TOP / it) for it in ini["tool:pytest"]["pythonpath"].split()]
     with tempfile.TemporaryDirectory() as folder:
         tests = Tests(folder)
         tests.load(str(TOP / "tests/conftest.py"))
