@@ -22,7 +22,6 @@ from array import array
 from ctypes import byref
 
 import compile_lines
-from making import fonts
 import prebuilt
 import pytest
 import stack
@@ -30,6 +29,7 @@ from calls import Calls, Refused, _library
 from damage import Damaged
 from due import own_lines
 from made import Empty, Font, Simple
+from making import fonts
 from making import charmaps
 from making.collection import Collection
 from mkstrike import Strike

@@ -11,11 +11,11 @@ import tarfile
 import zipfile
 
 import compile_lines
-from making import fonts
 import other_machine
 import prebuilt
 import pytest
 import sample_font
+from making import fonts
 from needs import dist, left_out, tool
 from prebuilt import DIST, TOP
 from program import python_with
