@@ -3,7 +3,7 @@
 COMPILER = "gcc, libc6-dev"
 PACKAGES = {
     **dict.fromkeys(("cc", "AddressSanitizer"), COMPILER), "c++": "g++", "rustc": "rustc", "go": "golang-go", "clang": "clang", "tsc": "node-typescript",
-    "node": "nodejs", "chromium": "chromium", "valgrind": "valgrind", "lintian": "lintian", "iconv": "libc-bin", "xxd": "xxd", "sh": "dash",
+    "node": "nodejs", "chromium": "chromium", "valgrind": "valgrind", "lintian": "lintian", "pkg-config": "pkg-config", "iconv": "libc-bin", "xxd": "xxd", "sh": "dash",
     **dict.fromkeys(("nm", "objdump"), "binutils"), **dict.fromkeys(("dpkg-gencontrol", "dpkg-deb"), "dpkg-dev"),
     **dict.fromkeys(("aarch64-linux-gnu-gcc", "aarch64-linux-gnu-objdump"), "gcc-aarch64-linux-gnu, libc6-dev-arm64-cross"),
     "qemu-aarch64": "qemu-user", "bdf2psf": "bdf2psf", "psfgettable": "kbd", "otf2bdf": "otf2bdf", "grub-mkfont": "grub-common", "libfreetype6": "libfreetype6",
