@@ -1,15 +1,16 @@
 """Debian's packages of what checks and tests may lack."""
 
 COMPILER = "gcc, libc6-dev"
+ARM, BITMAPS = "gcc-aarch64-linux-gnu, libc6-dev-arm64-cross", "xfonts-utils"
 PACKAGES = {
-    **dict.fromkeys(("cc", "AddressSanitizer"), COMPILER), "c++": "g++", "rustc": "rustc", "go": "golang-go", "clang": "clang", "tsc": "node-typescript",
-    "node": "nodejs", "chromium": "chromium", "valgrind": "valgrind", "lintian": "lintian", "pkg-config": "pkg-config", "iconv": "libc-bin", "xxd": "xxd", "sh": "dash",
-    **dict.fromkeys(("nm", "objdump"), "binutils"), **dict.fromkeys(("dpkg-gencontrol", "dpkg-deb"), "dpkg-dev"),
-    **dict.fromkeys(("aarch64-linux-gnu-gcc", "aarch64-linux-gnu-objdump"), "gcc-aarch64-linux-gnu, libc6-dev-arm64-cross"),
-    "qemu-aarch64": "qemu-user", "bdf2psf": "bdf2psf", "psfgettable": "kbd", "otf2bdf": "otf2bdf", "grub-mkfont": "grub-common", "libfreetype6": "libfreetype6",
-    "fontforge": "fontforge-nox", **dict.fromkeys(("fc-scan", "fc-match"), "fontconfig"),
-    **dict.fromkeys(("fonttosfnt", "bdftopcf", "ucs2any", "mkfontdir"), "xfonts-utils"),
-    "Xvfb": "xvfb", "xset": "x11-xserver-utils", "xlsfonts": "x11-utils", "strike": "python3-fonttools, python3-pil, " + COMPILER, "pytest": "python3-pytest",
+    **{it: it for it in ("bdf2psf", "chromium", "clang", "libfreetype6", "lintian", "otf2bdf", "pkg-config", "rustc", "valgrind", "xxd")},
+    "AddressSanitizer": COMPILER, "cc": COMPILER, "c++": "g++", "go": "golang-go", "node": "nodejs", "tsc": "node-typescript",
+    "aarch64-linux-gnu-gcc": ARM, "aarch64-linux-gnu-objdump": ARM, "qemu-aarch64": "qemu-user",
+    "nm": "binutils", "objdump": "binutils", "dpkg-deb": "dpkg", "dpkg-gencontrol": "dpkg-dev", "iconv": "libc-bin", "sh": "dash",
+    "bdftopcf": BITMAPS, "fonttosfnt": BITMAPS, "mkfontdir": BITMAPS, "ucs2any": BITMAPS, "fc-match": "fontconfig", "fc-scan": "fontconfig",
+    "fontforge": "fontforge-nox", "grub-mkfont": "grub-common", "psfgettable": "kbd",
+    "Xvfb": "xvfb", "xlsfonts": "x11-utils", "xset": "x11-xserver-utils",
+    "pytest": "python3-pytest", "strike": "python3-fonttools, python3-pil, " + COMPILER,
     "DejaVuSans": "fonts-dejavu-core", "LiberationSans-Regular": "fonts-liberation",
 }
 # The packages of fonts, by their folders below /usr/share/fonts/truetype.
