@@ -686,7 +686,7 @@ def doors(house):
 
 
 RULES = {name: globals()[name] for name in """
-    loops_labelled loops_explained functions_documented lines_short lines_of_python suite_alone slashes prover_statements words definitions_listed paths
-    anchors names stands_on files_are_files raster_by_its_door counts refusals header proofs_have_functions lemmas_named_once
-    lemmas_used heads_current edits_apply twice readme_short sentences_short idioms doors
+    loops_labelled loops_explained functions_documented lines_short lines_of_python suite_alone slashes prover_statements
+    words definitions_listed paths anchors names stands_on files_are_files raster_by_its_door counts refusals header
+    proofs_have_functions lemmas_named_once lemmas_used heads_current edits_apply twice readme_short sentences_short idioms doors
 """.split()}

@@ -35,7 +35,8 @@ sys.stderr.buffer.write(told)
 sys.exit(status)
 """
 PROGRAMS = {
-    "a digit of a row": r"""out = re.sub(rb"(?<=BITMAP\n)[0-9A-F]", lambda it: b"%X" % (int(it.group(), 16) ^ 1), out, count=1).replace(b"#", b".", 1)""",
+    "a digit of a row": r"""out = re.sub(rb"(?<=BITMAP\n)[0-9A-F]", lambda it: b"%X" % (int(it.group(), 16) ^ 1), out, count=1)
+out = out.replace(b"#", b".", 1)""",
     "the last byte lost": "out = out[:-1]",
     "status 1": "status = 1",
     "sleeps": "time.sleep(600)",
@@ -46,8 +47,8 @@ LOOP = "//! Loops.\n\n/// A loop.\nfn endless() {\n    // It goes on.\n    loop 
 ROOM = "//! Room.\n\n/// Room.\nfn room() -> Vec<u8> {\n    vec![0; 9]\n}\n"
 NEW = "crates/fx_fixed/src/made_for_a_trial.rt"
 # A right case in a group whose readings do not touch it: glyph 2 of the font for scan conversion is a square of one pixel.
-UNCOVERED = """{"id":"tables/uncovered","group":"tables","font":"scan.ttf","ppem":16,"glyph":2,"hinted":false,"dropout":false,"want":["outline"],\
-"expect":{"advance":640,"outline":[[[0,0,1],[0,64,1],[64,64,1],[64,0,1]]]}}\n"""
+UNCOVERED = """{"id":"tables/uncovered","group":"tables","font":"scan.ttf","ppem":16,"glyph":2,"hinted":false,"dropout":false,\
+"want":["outline"],"expect":{"advance":640,"outline":[[[0,0,1],[0,64,1],[64,64,1],[64,0,1]]]}}\n"""
 
 
 # What a check needs to look at anything: without it its trials are left out.

@@ -10,7 +10,8 @@ from debian import PACKAGES
 from documents import DOCUMENTS, PICTURES, Document, blocks_of_man, blocks_of_markdown
 from prebuilt import TOP
 
-STRIKE = r"""printf 'STARTFONT 2.1\nFONT a\nSIZE 1 72 72\nFONTBOUNDINGBOX 2 1 0 0\nCHARS 1\nSTARTCHAR a\nENCODING 65\nDWIDTH 2 0\nBBX 2 1 0 0\nBITMAP\n80\nENDCHAR\nENDFONT\n' > a.bdf"""
+STRIKE = (r"printf 'STARTFONT 2.1\nFONT a\nSIZE 1 72 72\nFONTBOUNDINGBOX 2 1 0 0\nCHARS 1\nSTARTCHAR a\nENCODING 65\nDWIDTH 2 0\n"
+          r"BBX 2 1 0 0\nBITMAP\n80\nENDCHAR\nENDFONT\n' > a.bdf")
 GOOD = """# Made
 
     echo one; echo two; echo three
