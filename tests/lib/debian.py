@@ -3,8 +3,9 @@
 COMPILER = "gcc, libc6-dev"
 ARM, BITMAPS = "gcc-aarch64-linux-gnu, libc6-dev-arm64-cross", "xfonts-utils"
 PACKAGES = {
-    **{it: it for it in ("bdf2psf", "chromium", "clang", "libfreetype6", "lintian", "otf2bdf", "pkg-config", "rustc", "valgrind", "xxd")},
-    "AddressSanitizer": COMPILER, "cc": COMPILER, "c++": "g++", "go": "golang-go", "node": "nodejs", "tsc": "node-typescript",
+    **{it: it for it in ("bdf2psf", "chromium", "libfreetype6", "lintian", "otf2bdf", "pkg-config", "rustc", "valgrind", "xxd")},
+    "AddressSanitizer": COMPILER, "cc": COMPILER, "c++": "g++", "clang": "clang, libclang-rt-dev", "go": "golang-go",
+    "node": "nodejs", "tsc": "node-typescript",
     "aarch64-linux-gnu-gcc": ARM, "aarch64-linux-gnu-objdump": ARM, "qemu-aarch64": "qemu-user",
     "nm": "binutils", "objdump": "binutils", "dpkg-deb": "dpkg", "dpkg-gencontrol": "dpkg-dev", "iconv": "libc-bin", "sh": "dash",
     "bdftopcf": BITMAPS, "fonttosfnt": BITMAPS, "mkfontdir": BITMAPS, "ucs2any": BITMAPS, "fc-match": "fontconfig", "fc-scan": "fontconfig",
