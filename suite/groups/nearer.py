@@ -8,8 +8,8 @@ from .dropout import shapes, some
 from .scan import box
 
 RULE = APPLE + "SCANTYPE, smart drop-out control: %s"
-NEARER = "the nearer pixel is the one on whose side more of the 126 places between the centres are covered, 1/128 pixel apart; all gaps of " \
-    "rows are closed at once, and then all of columns"
+NEARER = ("the nearer pixel is the one on whose side more of the 126 places between the centres are covered, 1/128 pixel apart; all "
+          "gaps of rows are closed at once, and then all of columns")
 
 
 def make(suite):

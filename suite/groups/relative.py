@@ -7,8 +7,8 @@ MDRP = APPLE + "Instruction set, Managing outlines: MDRP"
 MIRP = APPLE + "Instruction set, Managing outlines: MIRP"
 CUT_IN = APPLE + "Instruction set, Managing the Graphics State: control value cut-in"
 COLOUR = "engine compensation is 0 for all distances"
-TWILIGHT = "in the twilight zone MIRP first puts the point at the reference point's original place and the control value along the " \
-    "freedom vector"
+TWILIGHT = ("in the twilight zone MIRP first puts the point at the reference point's original place and the control value along "
+            "the freedom vector")
 NEGATIVE = "MIRP's control value -1 is a value of 0"
 SLANTED = ["8192 14189 SPVFS SFVTPV", "SVTCA:1 13107 9830 SFVFS"]
 # Point 1 is left of point 5, point 9 below point 2; a program moves reference points first, so that all distances differ, and no row

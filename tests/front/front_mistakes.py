@@ -7,7 +7,7 @@ import collections
 import os
 import struct
 
-from fonts import FIXTURE, assemble, font_of, map_of, tables_of, wide_map_of, with_tables
+from making.fonts import FIXTURE, assemble, font_of, map_of, tables_of, wide_map_of, with_tables
 
 Mistake = collections.namedtuple("Mistake", "what words given status first second needs_font")
 

@@ -25,7 +25,8 @@ TALLIED = re.compile(r"crates/(fx_winding|fx_rows|fx_dropout|fx_contour)/src/(?!
 FAULTS = re.compile(r"\b(OutOfMemory|AllocError|AllocFailed)\b")
 # A variant of an enum, and an arm of one line whose pattern is such a fault alone.
 NAMED = re.compile(r"OutOfMemory,$|(Err\()?(\w+::)?(OutOfMemory|AllocError)\)? => [^{}]*,$")
-ROOM = re.compile(r"\b(?:(?:with_capacity|reserve|reserve_exact|resize|resize_with|repeat|from_elem|from_slice|to_vec)\b|vec\s*!|Box\s*::\s*new\b)\s*")
+ROOM = re.compile(r"\b(?:(?:with_capacity|reserve|reserve_exact|resize|resize_with|repeat|from_elem|from_slice|to_vec)\b"
+                  r"|vec\s*!|Box\s*::\s*new\b)\s*")
 UNREAD = re.compile(r"\blet\s+_\w*")
 
 SKIPPED = re.compile(r"""(?P<comment>//[^\n]*|/\*.*?\*/)|b?"(?:[^"\\]|\\.)*"|b?'(?:[^'\\\n]|\\[^\n]{1,6})'""", re.S)

@@ -15,7 +15,6 @@ import threading
 import urllib.parse
 
 import engine
-import fonts
 import hands
 import png
 import prebuilt
@@ -23,6 +22,7 @@ import pytest
 import sample_font
 import web_page
 from engine import DROPOUT, DROPOUT_FONT, DROPOUT_NEAR, DROPOUTS, HINTED, MODES, SAMPLE, SANS, SEED, SQUARE, installed_fonts
+from making import fonts
 from needs import tool
 from prebuilt import TOP
 
@@ -40,8 +40,6 @@ ENDS = ["*/", "**//", "*\\\n/", "*\\\r/", "*??/\n/", "*??/\r/", "\\", "??/", "/*
 
 
 @pytest.fixture(name="page", scope="module")
-
-
 def opened_browser(tmp_path_factory):
     """The page in a browser, which ends with the tests."""
     page = hands.Page(engine.modules(), tmp_path_factory.mktemp("page"), os.environ.get("MKSTRIKE_PICTURES"))
@@ -140,8 +138,8 @@ def ladder(page):
     path, text = page.dropped("sample.ttf", sample_font.sample()), "Sg"
     page.set("text", text + "\nmore")
     page.set("hinted", False)
-    page.change("zoom", "1")
     assert page.browser.evaluate("!document.body.dataset.ladder"), "the ladder is drawn before it is in sight"
+    page.change("zoom", "1")
     page.browser.evaluate("document.getElementById('ladder').scrollIntoView()")
     page.browser.until("document.body.dataset.ladder === `${document.body.dataset.drawn} 17`", "a ladder of 17 sizes")
     rungs = page.browser.evaluate(RUNGS_SCRIPT)
@@ -589,7 +587,8 @@ VALUES_SCRIPT = """Object.fromEntries(%s.map((id) => {
 # The sizes of the ladder, each with the rows of its canvas.
 RUNGS_SCRIPT = """[...document.querySelectorAll('#ladder > div')].map(({ children: [button, canvas] }) => {
   const { width, height } = canvas, { data } = canvas.getContext('2d').getImageData(0, 0, width, height);
-  return [button.textContent, Array.from({ length: height }, (_, y) => Array.from({ length: width }, (_, x) => (data[4 * (y * width + x)] < 128 ? 1 : 0)).join(''))];
+  const row = (y) => Array.from({ length: width }, (_, x) => (data[4 * (y * width + x)] < 128 ? 1 : 0)).join('');
+  return [button.textContent, Array.from({ length: height }, (_, y) => row(y))];
 })"""
 # Scrolls the box of the text, and tells the pixels of the strike that are in sight then, each by the colour in its middle.
 SIGHT_SCRIPT = """(async () => {
@@ -603,19 +602,23 @@ SIGHT_SCRIPT = """(async () => {
   const inSight = (from, size) => Array.from({ length: Math.ceil(size / side) + 1 }, (_, k) => Math.floor(from / side) + k)
     .map((it) => [it, Math.floor((it + 0.5) * side - from)]).filter(([, at]) => at >= 0 && at < size);
   const columns = inSight(box.scrollLeft, width), rows = inSight(box.scrollTop, height);
-  return { left: columns[0][0], top: rows[0][0], rows: rows.map(([, y]) => columns.map(([, x]) => (data[4 * (y * width + x)] < 128 ? '1' : '0')).join('')) };
+  const inkOf = (y) => columns.map(([, x]) => (data[4 * (y * width + x)] < 128 ? '1' : '0')).join('');
+  return { left: columns[0][0], top: rows[0][0], rows: rows.map(([, y]) => inkOf(y)) };
 })()"""
 # Whether the sheet has ink in sight.
 INK_SCRIPT = """(() => {
-  const canvas = document.getElementById('sheet'), { data } = canvas.getContext('2d').getImageData(0, 0, canvas.width, canvas.height);
+  const canvas = document.getElementById('sheet');
+  const { data } = canvas.getContext('2d').getImageData(0, 0, canvas.width, canvas.height);
   return data.some((it, at) => at % 4 === 0 && it < 128);
 })()"""
 # How many of these places, in 1/64 pixels, have the colour of the outline on the canvas of the large glyph.
 POINTS_SCRIPT = """(() => {
   const canvas = document.getElementById('glyph'), [left, top, side] = canvas.dataset.place.split(' ').map(Number);
-  const due = getComputedStyle(document.documentElement).getPropertyValue('--curve').trim().slice(1).match(/../g).map((it) => parseInt(it, 16));
+  const colour = getComputedStyle(document.documentElement).getPropertyValue('--curve').trim();
+  const due = colour.slice(1).match(/../g).map((it) => parseInt(it, 16));
   return %s.filter(([x, y]) => {
-    const seen = canvas.getContext('2d').getImageData(Math.round((x / 64 - left) * side), Math.round((top - y / 64) * side), 1, 1).data;
+    const [column, row] = [x / 64 - left, top - y / 64].map((it) => Math.round(it * side));
+    const seen = canvas.getContext('2d').getImageData(column, row, 1, 1).data;
     return due.every((it, k) => Math.abs(it - seen[k]) < 8);
   }).length;
 })()"""
@@ -627,13 +630,15 @@ SENDING_SCRIPT = """new Promise((done) => {
 })"""
 
 # Of each element with a text of its own that can be seen: its contrast to what is behind it, and the text.
-CONTRAST_SCRIPT = """[...document.querySelectorAll('body *')].filter((it) => it.checkVisibility() && !it.closest('.unseen, .skip, script, style, option')
+CONTRAST_SCRIPT = """[...document.querySelectorAll('body *')].filter((it) => it.checkVisibility()
+    && !it.closest('.unseen, .skip, script, style, option')
     && [...it.childNodes].some((node) => node.nodeType === 3 && node.data.trim())).map((it) => {
   const parts = (text) => (text.match(/[\\d.]+/g) ?? []).map(Number);
   const light = ([r, g, b]) => [r, g, b].map((v) => (v /= 255) <= 0.04045 ? v / 12.92 : ((v + 0.055) / 1.055) ** 2.4)
     .reduce((sum, v, k) => sum + v * [0.2126, 0.7152, 0.0722][k], 0);
   let behind = it;
   while (behind && parts(getComputedStyle(behind).backgroundColor)[3] === 0) behind = behind.parentElement;
-  const [one, other] = [light(parts(getComputedStyle(it).color)), light(behind ? parts(getComputedStyle(behind).backgroundColor) : [255, 255, 255])];
+  const paper = behind ? parts(getComputedStyle(behind).backgroundColor) : [255, 255, 255];
+  const [one, other] = [parts(getComputedStyle(it).color), paper].map(light);
   return [(Math.max(one, other) + 0.05) / (Math.min(one, other) + 0.05), it.textContent.trim().slice(0, 40)];
 })"""
