@@ -1,0 +1,197 @@
+"""Worked examples of what the runner judges, says and draws, each with what is due, found by hand. check_runner tries them."""
+import contextlib
+import importlib.machinery
+import importlib.util
+import io
+import json
+import os
+import tempfile
+
+import compare
+import listing
+import paths
+import report
+import tool
+
+HERE = os.path.dirname(os.path.realpath(__file__))
+TRIANGLE = [[0, 0, 1], [0, 64, 1], [64, 0, 1]]
+GLYPH = {"advance": 640, "outline": [TRIANGLE], "bits": {"box": [1, 1, 0, 0], "rows": ["80"]}}
+HALT = {"refusal": {"name": "StackUnder", "address": 2}}
+BITS, OUTLINE, PATH = ("%s that %s not of the protocol" % it for it in (("bits", "are"), ("an outline", "is"), ("a path", "is")))
+
+
+def moved(dx, dy, on=1):
+    """The glyph with its last point elsewhere."""
+    return {**GLYPH, "outline": [TRIANGLE[:2] + [[64 + dx, dy, on]]]}
+
+
+def path(dx=0, dy=0, *more):
+    """The glyph as a path, with its last point elsewhere."""
+    return {"advance": 640, "path": [["move", 0, 0], ["line", 0, 64], ["line", 64 + dx, dy], *more]}
+
+
+def bits(box, rows):
+    """An answer of pixels."""
+    return {"bits": {"box": box, "rows": rows}}
+
+
+# An answer to the case "one", and what is wrong with its form.
+FORMS = [
+    ({}, None), ({**GLYPH, "id": "one"}, None), ({"id": "two"}, "an answer to two"), ({"refusal": "text"}, "a refusal that is no object"),
+    ({"bits": ["80"]}, BITS), (bits([1, 1, 0], ["80"]), BITS), (bits([1, 1, 0, 0.5], ["80"]), BITS), (bits([1, 2, 0, 0], ["80"]), BITS),
+    (bits([1, 1, 0, 0], "8"), BITS), (bits([1, 1, 0, 0], ["8"]), BITS), (bits([1, 1, 0, 0], ["8g"]), BITS), (bits([1, 1, 0, 0], [80]), BITS),
+    (bits([64, 1, 0, 0], ["0123456789ABCDEF"]), None), (bits([9, 1, 0, 0], ["8000"]), None), (bits([8, 1, 0, 0], ["80"]), None), (bits([0, 0, 0, 0], []), None),
+    ({"outline": {}}, OUTLINE), ({"outline": [{}]}, OUTLINE), ({"outline": [[[0, 0]]]}, OUTLINE), ({"outline": [[[0, 0.5, 1]]]}, OUTLINE),
+    ({"path": [["line", 0, 0]]}, PATH), ({"path": [["move", 0]]}, PATH), ({"path": [["move", 0, "0"]]}, PATH), ({"path": "move"}, PATH),
+    ({"path": [["curve", 0, 0]]}, PATH), ({"path": [["move", 0, 0], ["quad", 1, 2, 3.5, 4]]}, None),
+    ({"advance": 1.5}, "an advance that is no whole number"),
+]
+# What is expected, the answer, and what is wrong with it.
+ANSWERS = [
+    (GLYPH, GLYPH, None), ({"advance": 640, "outline": [TRIANGLE]}, GLYPH, None), (GLYPH, path(), None), (GLYPH, {}, "no answer"), (GLYPH, {"advance": 640}, None),
+    (HALT, GLYPH, "not refused: StackUnder"), (HALT, {"refusal": {"text": "words"}}, None), (HALT, HALT, None),
+    (HALT, {"refusal": {"name": "BadOpcode"}}, "name BadOpcode in place of StackUnder"),
+    (HALT, {"refusal": {"address": 3}}, "address 3 in place of 2"),
+    ({"missing": True}, {"missing": True}, None), ({"missing": True}, GLYPH, "a glyph, and the map has none"),
+    (GLYPH, {"missing": True}, "missing, and the map has a glyph"), (GLYPH, HALT, "refused: StackUnder"),
+    (GLYPH, {"refusal": {"text": "words"}}, "refused: words"), (GLYPH, {"refusal": {}}, "refused: no name"),
+    (GLYPH, {**GLYPH, "advance": 639}, "advance 639 in place of 640"), (GLYPH, bits([1, 1, 1, 0], ["80"]), "bits"),
+    (GLYPH, {**GLYPH, "advance": 0, **bits([0, 0, 0, 0], [])}, "advance 0 in place of 640, bits"),
+    (GLYPH, {"outline": [TRIANGLE[:2]]}, "another number of points"), (GLYPH, {"outline": []}, "another number of points"),
+    (GLYPH, moved(0, 0, 0), "on or off the curve at 1 points"), (GLYPH, moved(2, -3), "1 points, by up to 3/64 pixel"),
+    (GLYPH, moved(-5, 1), "1 points, by up to 5/64 pixel"), (GLYPH, moved(4, 0, 0), "1 points, by up to 4/64 pixel"),
+    (GLYPH, {"outline": [[[x + 1, y + 2, on] for x, y, on in TRIANGLE]]}, "3 points, by up to 2/64 pixel"),
+    (GLYPH, path(0.9), None), (GLYPH, path(1.25), "1 contours, by up to 1.25/64 pixel"), (GLYPH, path(0, -2), "1 contours, by up to 2/64 pixel"),
+    (GLYPH, path(0, 0, ["line", 0, 0]), None), (GLYPH, path(0, 0, ["line", 9, 9]), "another number of segments"),
+    (GLYPH, path(0, 0, ["quad", 9, 9, 0, 0]), "lines and arcs in another order"), (GLYPH, path(0, 0, ["move", 5, 5]), None),
+    (GLYPH, {"advance": 640, "path": [["move", 64, 0], ["line", 0, 0], ["line", 0, 64]]}, None),
+]
+# The same if each answer must be whole.
+WHOLE = [(GLYPH, GLYPH, None), ({"advance": 640, "outline": [TRIANGLE]},) * 2 + (None,), (GLYPH, {"advance": 640}, "a part of the answer is missing"), (HALT, HALT, None),
+         (HALT, {"refusal": {"name": "StackUnder"}}, "address None in place of 2")]
+# What a case adds, the answer, whether each must be the written one, and its kind.
+OWN, NEAR = {"own": "a choice"}, {"own": "a choice", "within": 2}
+KINDS = [
+    ({}, GLYPH, False, "passed"), ({}, moved(1, 0), False, "wrong"), (OWN, moved(9, 0), False, "own"), (OWN, moved(9, 0), True, "wrong"),
+    (OWN, HALT, False, "own"), (OWN, {"broken": "it ended"}, False, "wrong"), (OWN, {"advance": 1.5}, False, "wrong"),
+    ({}, {"unsupported": "this"}, False, "skipped"), ({}, {"unsupported": "this"}, True, "wrong"),
+    (NEAR, moved(2, 0), False, "own"), (NEAR, moved(0, -2), False, "own"), (NEAR, moved(3, 0), False, "wrong"),
+    (NEAR, moved(0, -3), False, "wrong"), (NEAR, moved(1, 0, 0), False, "wrong"), (NEAR, {"outline": []}, False, "wrong"),
+    (NEAR, {**moved(1, 0), "advance": 642}, False, "own"), (NEAR, {**moved(1, 0), "advance": 643}, False, "wrong"),
+    (NEAR, {**GLYPH, **bits([0, 0, 0, 0], [])}, False, "wrong"), (NEAR, HALT, False, "own"),
+    (NEAR, path(2), False, "own"), (NEAR, path(3), False, "wrong"), (NEAR, {**path(1), "advance": 638}, False, "own"),
+    (NEAR, {**path(1), "advance": 637}, False, "wrong"), (NEAR, {**path(1), **moved(2, 0)}, False, "own"),
+    (NEAR, {**path(3), **moved(2, 0)}, False, "wrong"), (NEAR, {**path(1), **moved(3, 0)}, False, "wrong"),
+]
+# A program, and its listing.
+LISTINGS = [("", []), ("B0 05 2F", [(0, "PUSHB 5"), (2, "MDAP:1")]), ("01 28", [(0, "SVTCA:1"), (1, "#28")]),
+            ("20 B8 FF", [(0, "DUP"), (1, "#B8FF")]), ("41 01 FF FE C4", [(0, "NPUSHW -2"), (4, "MDRP:4")])]
+# A glyph of one pixel in column 1 and row 2, and another one of the pixel beside it.
+SQUARE = {"advance": 128, "outline": [[[64, 128, 1], [64, 192, 1], [128, 192, 0], [128, 128, 1]]], **bits([1, 1, 1, 2], ["80"])}
+BESIDE = {**SQUARE, "outline": [[[64, 128, 1], [64, 192, 1], [129, 192, 0], [128, 128, 1]]], **bits([1, 1, 2, 2], ["80"])}
+FRAME = "<figure><svg width=%d height=%d viewBox='-32 -224 %d 256' role=img aria-label='%s'>"
+PICTURES = {
+    "expected": [FRAME % (262, 262, 256, "expected"), "<rect x=66 y=-190 width=60 height=60 fill='#b9c7d6'/>",
+                 "<rect x=66 y=-190 width=60 height=60 fill='#d9534f'/>", "d='M64 -128 L64 -192 Q128 -192 128 -128 L64 -128'",
+                 "<circle cx=64 cy=-128 r='2.8' fill='#345' stroke='#345' stroke-width='1.0'/>",
+                 "<circle cx=128 cy=-192 r='2.8' fill='#fff' stroke='#c00' stroke-width='1.0'/>", ">expected, advance 128<"],
+    "given": [FRAME % (262, 262, 256, "given"), "<rect x=130 y=-190 width=60 height=60 fill='#d9534f'/>", "<circle cx=129 cy=-192 "],
+    "difference": [FRAME % (262, 262, 256, "difference"), "<rect x=66 y=-190 width=60 height=60 fill='#3b7dd8'/>",
+                   "<rect x=130 y=-190 width=60 height=60 fill='#d9534f'/>", "1 missing (blue), 1 too many (red)"],
+}
+
+
+def runner():
+    """The runner as a module."""
+    loader = importlib.machinery.SourceFileLoader("runner", os.path.join(HERE, "run"))
+    module = importlib.util.module_from_spec(importlib.util.spec_from_loader("runner", loader))
+    loader.exec_module(module)
+    return module
+
+
+def compared():
+    """What the runner judges, beside what is due."""
+    yield from ((answer, compare.not_of_the_protocol("one", answer), due) for answer, due in FORMS)
+    yield from ((answer, compare.wrong(expected, answer), due) for expected, answer, due in ANSWERS)
+    yield from ((answer, compare.wrong(expected, answer, True), due) for expected, answer, due in WHOLE)
+    yield from ((answer, compare.only_pixels(answer, "bits"), due) for answer, due in ((GLYPH, True), (path(), True), (bits([0] * 4, []), False)))
+    result = runner().Result
+    for more, answer, every, due in KINDS:
+        yield (more, answer), result({"id": "one", "expect": GLYPH, **more}, answer, every).kind, due
+    yield "a closed path", paths.of_path(path(0, 0, ["line", 0, 0])["path"]), paths.of_path(path()["path"])
+    yield "a tool that takes nothing", list(Deaf("deaf").answers([{"id": "one", "dropout": False}])), [
+        ({"id": "one", "dropout": False}, {"broken": "the tool ended or did not answer"})]
+    yield from ((code, list(listing.listed(bytes.fromhex(code))), due) for code, due in LISTINGS)
+
+
+class Deaf(tool.Tool):
+    """A tool that starts, and takes no request."""
+
+    def start(self):
+        self.version = 2
+        return True
+
+    def send(self, case, version):
+        return False
+
+    def next_line(self):
+        raise AssertionError("nothing waits for an answer")
+
+
+def drawn():
+    """What pictures have, beside what is due."""
+    made = {"expected": report.figure("expected", SQUARE, SQUARE, BESIDE), "given": report.figure("given", BESIDE, SQUARE, BESIDE),
+            "difference": report.difference(SQUARE, BESIDE)}
+    for name, parts in PICTURES.items():
+        yield from (("a picture: " + part, part in made[name], True) for part in parts)
+        yield "squares of " + name, made[name].count("<rect"), 2
+    bars = [(-62, -126, 188), (450, -126, 60), (-62, -62, 60)]
+    yield "runs of pixels", report.pixels(bits([9, 2, -1, 0], ["E080", "8000"])), "".join(
+        "<rect x=%d y=%d width=%d height=60 fill='#b9c7d6'/>" % it for it in bars)
+    case = {"id": "one", "about": "a rule", "expect": SQUARE, "font": "scan.ttf", "hinted": False}
+    for answer, due in ((BESIDE, False), ({**SQUARE, **bits([1, 1, 2, 2], ["80"])}, True)):
+        yield "a hint in a page", compare.HINT in report.section(runner().Result(case, answer, False)), due
+    yield "no pixels", report.difference({"outline": []}, {"outline": []}), ""
+    yield "a refusal", report.figure("given", HALT, GLYPH, HALT), "<figure><figcaption>given</figcaption><pre>%s</pre></figure>" % (
+        "{&#x27;refusal&#x27;: {&#x27;name&#x27;: &#x27;StackUnder&#x27;, &#x27;address&#x27;: 2}}")
+
+
+def said():
+    """What the runner says of results and of causes, beside what is due."""
+    run, case = runner(), {"about": "a rule", "expect": GLYPH}
+    results = [run.Result({**case, "id": "one/a", "group": "one"}, GLYPH, False), run.Result({**case, "id": "one/b", "group": "one"}, moved(1, 0), False),
+               run.Result({**case, "id": "two/c", "group": "two", **OWN}, moved(2, 0), False),
+               run.Result({**case, "id": "two/d", "group": "two"}, {**GLYPH, **bits([0, 0, 0, 0], [])}, False),
+               run.Result({**case, "id": "two/e", "group": "two"}, {"unsupported": "this"}, False)]
+    table = ["group          cases  passed   wrong  own choice  unsupported", "one                2       1       1           0            0",
+             "two                3       0       1           1            1", "all                5       1       2           1            1"]
+    yield "the table", text_of(run.summary, results), table
+    yield "the differences", text_of(run.show, results, 9), [
+        "one/b: 1 points, by up to 1/64 pixel (a rule)", "two/d: bits (a rule)",
+        "In 1 of 2 wrong answers the outline is right: look at drop-out control, the fill rule and the frame (--report draws them)."]
+    yield "one difference", text_of(run.show, results, 1)[0], "one/b: 1 points, by up to 1/64 pixel (a rule)"
+    yield "no difference", text_of(run.show, results[:1], 9), []
+    head = ["", "  wrong     own  cause, and the first case"]
+    for lines, due in (([], ["      0       1  own choice: a choice (two/c)", "      2       0  unknown (one/b)",
+                             "  unknown: one/b: 1 points, by up to 1/64 pixel", "  unknown: two/d: bits"]),
+                       ([{"cause": "A", "cases": "one/"}, {"cause": "B", "cases": "(one|two)/", "faults": "^bits$"}, {"cause": "C", "cases": "three"}],
+                        ["      1       0  A (one/b)", "      1       0  B (two/d)", "      0       1  own choice: a choice (two/c)",
+                         "      0       0  unknown"]),
+                       ([{"cause": "A", "cases": ""}], ["      2       1  A (one/b)", "      0       0  unknown"])):
+        with tempfile.NamedTemporaryFile("w", suffix=".causes") as file:
+            file.write("".join(json.dumps(it) + "\n" for it in lines))
+            file.flush()
+            yield "causes", text_of(run.by_cause, file.name, results), head + due
+
+
+def text_of(function, *arguments):
+    """The lines that a function prints."""
+    with contextlib.redirect_stdout(io.StringIO()) as out:
+        function(*arguments)
+    return out.getvalue().splitlines()
+
+
+def faults():
+    """What is not as it must be, and the count of examples."""
+    tried = [*compared(), *drawn(), *said()]
+    return ["%s: %s in place of %s" % it for it in tried if it[1] != it[2]], len(tried)
