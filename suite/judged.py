@@ -37,18 +37,25 @@ def bits(box, rows):
 
 # An answer to the case "one", and what is wrong with its form.
 FORMS = [
-    ({}, None), ({**GLYPH, "id": "one"}, None), ({"id": "two"}, "an answer to two"), ({"refusal": "text"}, "a refusal that is no object"),
-    ({"bits": ["80"]}, BITS), (bits([1, 1, 0], ["80"]), BITS), (bits([1, 1, 0, 0.5], ["80"]), BITS), (bits([1, 2, 0, 0], ["80"]), BITS),
-    (bits([1, 1, 0, 0], "8"), BITS), (bits([1, 1, 0, 0], ["8"]), BITS), (bits([1, 1, 0, 0], ["8g"]), BITS), (bits([1, 1, 0, 0], [80]), BITS),
-    (bits([64, 1, 0, 0], ["0123456789ABCDEF"]), None), (bits([9, 1, 0, 0], ["8000"]), None), (bits([8, 1, 0, 0], ["80"]), None), (bits([0, 0, 0, 0], []), None),
-    ({"outline": {}}, OUTLINE), ({"outline": [{}]}, OUTLINE), ({"outline": [[[0, 0]]]}, OUTLINE), ({"outline": [[[0, 0.5, 1]]]}, OUTLINE),
-    ({"path": [["line", 0, 0]]}, PATH), ({"path": [["move", 0]]}, PATH), ({"path": [["move", 0, "0"]]}, PATH), ({"path": "move"}, PATH),
+    ({}, None), ({**GLYPH, "id": "one"}, None), ({"id": "two"}, "an answer to two"),
+    ({"refusal": "text"}, "a refusal that is no object"),
+    ({"bits": ["80"]}, BITS), (bits([1, 1, 0], ["80"]), BITS), (bits([1, 1, 0, 0.5], ["80"]), BITS),
+    (bits([1, 2, 0, 0], ["80"]), BITS),
+    (bits([1, 1, 0, 0], "8"), BITS), (bits([1, 1, 0, 0], ["8"]), BITS), (bits([1, 1, 0, 0], ["8g"]), BITS),
+    (bits([1, 1, 0, 0], [80]), BITS),
+    (bits([64, 1, 0, 0], ["0123456789ABCDEF"]), None), (bits([9, 1, 0, 0], ["8000"]), None), (bits([8, 1, 0, 0], ["80"]), None),
+    (bits([0, 0, 0, 0], []), None),
+    ({"outline": {}}, OUTLINE), ({"outline": [{}]}, OUTLINE), ({"outline": [[[0, 0]]]}, OUTLINE),
+    ({"outline": [[[0, 0.5, 1]]]}, OUTLINE),
+    ({"path": [["line", 0, 0]]}, PATH), ({"path": [["move", 0]]}, PATH), ({"path": [["move", 0, "0"]]}, PATH),
+    ({"path": "move"}, PATH),
     ({"path": [["curve", 0, 0]]}, PATH), ({"path": [["move", 0, 0], ["quad", 1, 2, 3.5, 4]]}, None),
     ({"advance": 1.5}, "an advance that is no whole number"),
 ]
 # What is expected, the answer, and what is wrong with it.
 ANSWERS = [
-    (GLYPH, GLYPH, None), ({"advance": 640, "outline": [TRIANGLE]}, GLYPH, None), (GLYPH, path(), None), (GLYPH, {}, "no answer"), (GLYPH, {"advance": 640}, None),
+    (GLYPH, GLYPH, None), ({"advance": 640, "outline": [TRIANGLE]}, GLYPH, None), (GLYPH, path(), None), (GLYPH, {}, "no answer"),
+    (GLYPH, {"advance": 640}, None),
     (HALT, GLYPH, "not refused: StackUnder"), (HALT, {"refusal": {"text": "words"}}, None), (HALT, HALT, None),
     (HALT, {"refusal": {"name": "BadOpcode"}}, "name BadOpcode in place of StackUnder"),
     (HALT, {"refusal": {"address": 3}}, "address 3 in place of 2"),
@@ -61,18 +68,21 @@ ANSWERS = [
     (GLYPH, moved(0, 0, 0), "on or off the curve at 1 points"), (GLYPH, moved(2, -3), "1 points, by up to 3/64 pixel"),
     (GLYPH, moved(-5, 1), "1 points, by up to 5/64 pixel"), (GLYPH, moved(4, 0, 0), "1 points, by up to 4/64 pixel"),
     (GLYPH, {"outline": [[[x + 1, y + 2, on] for x, y, on in TRIANGLE]]}, "3 points, by up to 2/64 pixel"),
-    (GLYPH, path(0.9), None), (GLYPH, path(1.25), "1 contours, by up to 1.25/64 pixel"), (GLYPH, path(0, -2), "1 contours, by up to 2/64 pixel"),
+    (GLYPH, path(0.9), None), (GLYPH, path(1.25), "1 contours, by up to 1.25/64 pixel"),
+    (GLYPH, path(0, -2), "1 contours, by up to 2/64 pixel"),
     (GLYPH, path(0, 0, ["line", 0, 0]), None), (GLYPH, path(0, 0, ["line", 9, 9]), "another number of segments"),
     (GLYPH, path(0, 0, ["quad", 9, 9, 0, 0]), "lines and arcs in another order"), (GLYPH, path(0, 0, ["move", 5, 5]), None),
     (GLYPH, {"advance": 640, "path": [["move", 64, 0], ["line", 0, 0], ["line", 0, 64]]}, None),
 ]
 # The same if each answer must be whole.
-WHOLE = [(GLYPH, GLYPH, None), ({"advance": 640, "outline": [TRIANGLE]},) * 2 + (None,), (GLYPH, {"advance": 640}, "a part of the answer is missing"), (HALT, HALT, None),
+WHOLE = [(GLYPH, GLYPH, None), ({"advance": 640, "outline": [TRIANGLE]},) * 2 + (None,),
+(GLYPH, {"advance": 640}, "a part of the answer is missing"), (HALT, HALT, None),
          (HALT, {"refusal": {"name": "StackUnder"}}, "address None in place of 2")]
 # What a case adds, the answer, whether each must be the written one, and its kind.
 OWN, NEAR = {"own": "a choice"}, {"own": "a choice", "within": 2}
 KINDS = [
-    ({}, GLYPH, False, "passed"), ({}, moved(1, 0), False, "wrong"), (OWN, moved(9, 0), False, "own"), (OWN, moved(9, 0), True, "wrong"),
+    ({}, GLYPH, False, "passed"), ({}, moved(1, 0), False, "wrong"), (OWN, moved(9, 0), False, "own"),
+    (OWN, moved(9, 0), True, "wrong"),
     (OWN, HALT, False, "own"), (OWN, {"broken": "it ended"}, False, "wrong"), (OWN, {"advance": 1.5}, False, "wrong"),
     ({}, {"unsupported": "this"}, False, "skipped"), ({}, {"unsupported": "this"}, True, "wrong"),
     (NEAR, moved(2, 0), False, "own"), (NEAR, moved(0, -2), False, "own"), (NEAR, moved(3, 0), False, "wrong"),
@@ -95,7 +105,8 @@ PICTURES = {
                  "<rect x=66 y=-190 width=60 height=60 fill='#d9534f'/>", "d='M64 -128 L64 -192 Q128 -192 128 -128 L64 -128'",
                  "<circle cx=64 cy=-128 r='2.8' fill='#345' stroke='#345' stroke-width='1.0'/>",
                  "<circle cx=128 cy=-192 r='2.8' fill='#fff' stroke='#c00' stroke-width='1.0'/>", ">expected, advance 128<"],
-    "given": [FRAME % (262, 262, 256, "given"), "<rect x=130 y=-190 width=60 height=60 fill='#d9534f'/>", "<circle cx=129 cy=-192 "],
+    "given": [FRAME % (262, 262, 256, "given"), "<rect x=130 y=-190 width=60 height=60 fill='#d9534f'/>",
+    "<circle cx=129 cy=-192 "],
     "difference": [FRAME % (262, 262, 256, "difference"), "<rect x=66 y=-190 width=60 height=60 fill='#3b7dd8'/>",
                    "<rect x=130 y=-190 width=60 height=60 fill='#d9534f'/>", "1 missing (blue), 1 too many (red)"],
 }
@@ -114,10 +125,16 @@ def compared():
     yield from ((answer, compare.not_of_the_protocol("one", answer), due) for answer, due in FORMS)
     yield from ((answer, compare.wrong(expected, answer), due) for expected, answer, due in ANSWERS)
     yield from ((answer, compare.wrong(expected, answer, True), due) for expected, answer, due in WHOLE)
-    yield from ((answer, compare.only_pixels(answer, "bits"), due) for answer, due in ((GLYPH, True), (path(), True), (bits([0] * 4, []), False)))
+    yield from ((answer, compare.only_pixels(answer, "bits"), due) for answer,
+        due in ((GLYPH, True), (path(), True), (bits([0] * 4, []), False)))
     result = runner().Result
     for more, answer, every, due in KINDS:
         yield (more, answer), result({"id": "one", "expect": GLYPH, **more}, answer, every).kind, due
+    ring = [[0, 0, 0], [4, 0, 0], [4, 4, 0], [0, 4, 0]]
+    yield "implied points", paths.of_outline([ring]), [[(2,
+        0, 4, 0, 4, 2), (4, 2, 4, 4, 2, 4), (2, 4, 0, 4, 0, 2), (0, 2, 0, 0, 2, 0)]]
+    yield "off the curve first", paths.of_outline([[[9, 9, 0], [0, 0, 1], [6, 0, 1]]]), [[(0, 0, 6, 0), (6, 0, 9, 9, 0, 0)]]
+    yield "lines of no length", paths.of_outline([[[1, 2, 1], [1, 2, 1], [5, 5, 1]], [[7, 8, 1]]]), [[(1, 2, 5, 5), (5, 5, 1, 2)]]
     yield "a closed path", paths.of_path(path(0, 0, ["line", 0, 0])["path"]), paths.of_path(path()["path"])
     yield "a tool that takes nothing", list(Deaf("deaf").answers([{"id": "one", "dropout": False}])), [
         ({"id": "one", "dropout": False}, {"broken": "the tool ended or did not answer"})]
@@ -151,31 +168,97 @@ def drawn():
     case = {"id": "one", "about": "a rule", "expect": SQUARE, "font": "scan.ttf", "hinted": False}
     for answer, due in ((BESIDE, False), ({**SQUARE, **bits([1, 1, 2, 2], ["80"])}, True)):
         yield "a hint in a page", compare.HINT in report.section(runner().Result(case, answer, False)), due
+    wide = report.figure("expected", {**SQUARE, "outline": [[[0, 0, 1], [640, 0, 1]]]}, SQUARE, {"outline": [[[640, 0, 1]]]})
+    yield "a wide picture", wide.startswith("<figure><svg width=262 height=96 viewBox='-32 -224 704 256'"), True
     yield "no pixels", report.difference({"outline": []}, {"outline": []}), ""
     yield "a refusal", report.figure("given", HALT, GLYPH, HALT), "<figure><figcaption>given</figcaption><pre>%s</pre></figure>" % (
         "{&#x27;refusal&#x27;: {&#x27;name&#x27;: &#x27;StackUnder&#x27;, &#x27;address&#x27;: 2}}")
 
 
+def results_of(run):
+    """Five results of two groups: two are wrong, one of them by its pixels."""
+    case = {"about": "a rule", "expect": GLYPH, "font": "scan.ttf", "hinted": False}
+    rows = [("one/a", {}, GLYPH), ("one/b", {}, moved(1, 0)), ("two/c", OWN, moved(2, 0)),
+        ("two/d", {}, {**GLYPH, **bits([0, 0, 0, 0], [])}),
+            ("two/e", {}, {"unsupported": "this"})]
+    return [run.Result({**case, "id": name, "group": name[:3], **more}, answer, False) for name, more, answer in rows]
+
+
+def pages():
+    """What a report has, beside what is due."""
+    results, found = results_of(runner()), {}
+    for most in (400, 1):
+        with tempfile.TemporaryDirectory() as folder:
+            report.MOST = most
+            report.write(os.path.join(folder, "new"), "a & b", results)
+            for name in ("index", "one", "two"):
+                with open(os.path.join(folder, "new", name + ".html"), encoding="utf-8") as file:
+                    found[name, most] = file.read()
+    report.MOST = 400
+    due = {"index": ["<title>TrueType suite: a &amp; b</title>", "Tool: <code>a &amp; b</code>",
+                     "<tr><td><a href='one.html'>one</a><td>2<td>1<td>1<td>0<td>0\n"
+                     "<tr><td><a href='two.html'>two</a><td>3<td>0<td>1<td>1<td>1"
+                     "<tr><th>all<td>5<td>1<td>2<td>1<td>1</table>"],
+           "one": ["<title>one</title>", "<p>2 cases, 1 with a difference.</p>", "<ul class=all><li><a href='#one/b'>b</a></ul>",
+                   "<h2 id='one/b'>one/b</h2><p>a rule. "
+                   "<code>{&quot;font&quot;: &quot;scan.ttf&quot;, &quot;hinted&quot;: false}</code></p>"],
+           "two": ["<p>3 cases, 2 with a difference.</p>", "<li><a href='#two/d'>d</a><li><a href='#two/c'>c</a></ul>",
+                   "<p>Unsupported: this (1)</p>", "<p class=own>Own choice: a choice</p>"]}
+    yield from (("a page: " + part, part in found[name, 400], True) for name, parts in due.items() for part in parts)
+    yield "a cut page", ", of which the first 1 are drawn.</p>" in found["two", 1], True
+    yield "sections", [found["two", most].count("<h2 ") for most in (400, 1)], [2, 1]
+    yield "a path in a page", report.points_of([["move", 0, 0], ["line", 0, 64], ["quad", 9, 8, 7, 6]]), [
+        [[0, 0, 1], [0, 64, 1], [9, 8, 0], [7, 6, 1]]]
+    yield "a section of a path", report.section(runner().Result(results[0].case, path(9), False)).count("<circle cx=73 cy=0 "), 1
+
+
+def programs():
+    """The listings of programs that cases run, beside what is due."""
+    with open(os.path.join(HERE, "cases.jsonl"), encoding="utf-8") as lines:
+        cases = {case["id"]: case for case in map(json.loads, lines) if case["group"] in ("halts", "composites", "functions",
+        "maps", "faces")}
+    case = cases["composites/program-0-moved-hinted"]
+    yield "programs of a composite", listing.programs(case), [
+        ("glyph %d" % case["glyph"], [(0, "SVTCA:1"), (1, "PUSHB 0"), (3, "MDAP:1")]),
+        ("glyph 4",
+         [(0, "SVTCA:1"), (1, "PUSHB 0"), (3, "MDAP:1"), (4, "PUSHB 2"), (6, "MDRP:1"), (7, "IUP:1"), (8, "PUSHB 5 70"),
+          (11, "SHPIX"),
+                     (12, "PUSHW 4 -64"), (17, "SHPIX")])]
+    yield "without hinting", listing.programs(cases["composites/program-0-moved-unhinted"]), []
+    yield "of a font", [name for name, _ in listing.programs(cases["functions/cvt-of-prep"])], [
+        "glyph %d" % cases["functions/cvt-of-prep"]["glyph"], "prep", "fpgm"]
+    halt = report.programs(cases["halts/opcode-in-function"])
+    yield "a halt", "   22  FDEF\n   23  #28    &lt;- halts: BadOpcode\n   24  ENDF\n" in halt, True
+    yield "halts and what is open", [halt.count(it) for it in ("halts:",
+        "<details open><summary>glyph", "<details><summary>fpgm")], [1, 1, 1]
+    for name, due in (("maps/delta-20", 2), ("maps/delta-23", 0), ("maps/broken-falling-41", 0)):
+        with open(os.path.join(HERE, "fonts", cases[name]["font"]), "rb") as file:
+            yield name, listing.glyph_of(listing.Font(file.read()), cases[name]), due
+    yield "a face that is not there", listing.programs({**cases["faces/alone-1-glyph-2"], "hinted": True}), []
+
+
 def said():
     """What the runner says of results and of causes, beside what is due."""
-    run, case = runner(), {"about": "a rule", "expect": GLYPH}
-    results = [run.Result({**case, "id": "one/a", "group": "one"}, GLYPH, False), run.Result({**case, "id": "one/b", "group": "one"}, moved(1, 0), False),
-               run.Result({**case, "id": "two/c", "group": "two", **OWN}, moved(2, 0), False),
-               run.Result({**case, "id": "two/d", "group": "two"}, {**GLYPH, **bits([0, 0, 0, 0], [])}, False),
-               run.Result({**case, "id": "two/e", "group": "two"}, {"unsupported": "this"}, False)]
-    table = ["group          cases  passed   wrong  own choice  unsupported", "one                2       1       1           0            0",
-             "two                3       0       1           1            1", "all                5       1       2           1            1"]
+    run = runner()
+    results = results_of(run)
+    table = ["group          cases  passed   wrong  own choice  unsupported",
+    "one                2       1       1           0            0",
+             "two                3       0       1           1            1",
+             "all                5       1       2           1            1"]
     yield "the table", text_of(run.summary, results), table
     yield "the differences", text_of(run.show, results, 9), [
         "one/b: 1 points, by up to 1/64 pixel (a rule)", "two/d: bits (a rule)",
-        "In 1 of 2 wrong answers the outline is right: look at drop-out control, the fill rule and the frame (--report draws them)."]
+        "In 1 of 2 wrong answers the outline is right: look at drop-out control, the fill rule and the frame "
+        "(--report draws them)."]
     yield "one difference", text_of(run.show, results, 1)[0], "one/b: 1 points, by up to 1/64 pixel (a rule)"
     yield "no difference", text_of(run.show, results[:1], 9), []
     head = ["", "  wrong     own  cause, and the first case"]
     for lines, due in (([], ["      0       1  own choice: a choice (two/c)", "      2       0  unknown (one/b)",
                              "  unknown: one/b: 1 points, by up to 1/64 pixel", "  unknown: two/d: bits"]),
-                       ([{"cause": "A", "cases": "one/"}, {"cause": "B", "cases": "(one|two)/", "faults": "^bits$"}, {"cause": "C", "cases": "three"}],
-                        ["      1       0  A (one/b)", "      1       0  B (two/d)", "      0       1  own choice: a choice (two/c)",
+                       ([{"cause": "A", "cases": "one/"}, {"cause": "B", "cases": "(one|two)/", "faults": "^bits$"},
+                        {"cause": "C", "cases": "three"}],
+                        ["      1       0  A (one/b)", "      1       0  B (two/d)",
+                         "      0       1  own choice: a choice (two/c)",
                          "      0       0  unknown"]),
                        ([{"cause": "A", "cases": ""}], ["      2       1  A (one/b)", "      0       0  unknown"])):
         with tempfile.NamedTemporaryFile("w", suffix=".causes") as file:
@@ -193,5 +276,5 @@ def text_of(function, *arguments):
 
 def faults():
     """What is not as it must be, and the count of examples."""
-    tried = [*compared(), *drawn(), *said()]
+    tried = [*compared(), *drawn(), *pages(), *programs(), *said()]
     return ["%s: %s in place of %s" % it for it in tried if it[1] != it[2]], len(tried)
