@@ -43,7 +43,8 @@ def make(suite):
     for name, data, part, own in tries():
         number = font.add(data if name in AS_THEY_ARE else with_box(data), bearing=0 if name in AS_THEY_ARE else None)
         for hinted in (False, True):
-            suite.case("%s-%s" % (name, "hinted" if hinted else "unhinted"), font, SIMPLE % part, number, hinted=hinted, own=own)
+            suite.case("%s-%s" % (name, "hinted" if hinted else "unhinted"), font, SIMPLE % part, number, hinted=hinted, own=own,
+                       bits=name != "wrap-down")  # which is large
     make_cuts(suite)
     make_loca(suite)
     make_tables(suite)
@@ -201,7 +202,15 @@ def make_tables(suite):
         font.simple([[(0, 0, 1), (0, 64, 1), (64, 0, 1)]])
         font.tables[tag] = data
         suite.case("table-" + name, font, OPENTYPE + tag, 2, hinted=False, own=own)
-    font = suite.font(FontMaker("table-two-faults"))
-    font.tables.update({"head": bytes(54), "maxp": bytes(32)})
-    own = "the first fault in order is the refusal: head before maxp"
-    suite.case("table-two-faults", font, OPENTYPE + "head", 0, hinted=False, own=own)
+    make_orders(suite, {name: (tag, data) for name, tag, data in changes})
+
+
+def make_orders(suite, changes):
+    """Two faults in one font: the refusal names the first in order."""
+    tags = ("head", "maxp", "hhea", "hmtx", "loca", "glyf")
+    pairs = [("missing-" + one, "missing-" + other) for one, other in zip(tags, tags[1:])]
+    pairs += [("missing-glyf", "bad-magic"), ("bad-magic", "short-maxp"), ("bad-maxp", "short-hhea"), ("short-hhea", "short-hmtx")]
+    for one, other in pairs:
+        font = suite.font(FontMaker("table-%s-and-%s" % (one, other)))
+        font.tables.update([changes[one], changes[other]])
+        suite.case(font.name, font, OPENTYPE + changes[one][0], 0, hinted=False, own="the first fault in order is the refusal")
