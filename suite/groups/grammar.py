@@ -1,9 +1,8 @@
 """`loca` and `glyf`: forms of offsets, flags and deltas of points, and bytes that end early."""
 import struct
 
-import fonts
 from making.boxes import with_box
-from making.fontmaker import FontMaker
+from making.fontmaker import FontMaker, fonts
 from making.suite import OPENTYPE
 
 SIMPLE = OPENTYPE + "glyf, simple glyph description: %s"
