@@ -2,6 +2,12 @@
 import paths
 
 PARTS = ("advance", "outline", "bits")
+HINT = "the outline is right: look at drop-out control, the fill rule and the frame"
+
+
+def only_pixels(answer, fault):
+    """Whether an answer has the outline that is expected, and other pixels."""
+    return fault == "bits" and ("outline" in answer or "path" in answer)
 
 
 def not_of_the_protocol(name, answer):
@@ -35,19 +41,18 @@ def are_rows(rows, box):
 
 def is_close(expected, answer, most):
     """Whether an answer's points and advance differ by at most so many 1/64 pixels. Bits are not looked at then."""
-    if "path" in answer and "outline" not in answer:
-        near = abs(answer.get("advance", expected["advance"]) - expected["advance"]) <= most
-        return near and paths.wrong(expected["outline"], answer["path"], most) is None
-    if "outline" not in expected or "outline" not in answer:
+    if "outline" not in expected or abs(answer.get("advance", expected["advance"]) - expected["advance"]) > most:
         return False
-    pairs = list(zip(flat(expected), flat(answer)))
-    same = [len(c) for c in expected["outline"]] == [len(c) for c in answer["outline"]]
-    return same and all(a[2] == b[2] and abs(a[0] - b[0]) <= most and abs(a[1] - b[1]) <= most for a, b in pairs)
+    if "path" in answer and paths.wrong(expected["outline"], answer["path"], most):
+        return False
+    return "outline" not in answer or are_near(expected["outline"], answer["outline"], most)
 
 
-def flat(answer):
-    """The points of an answer, and its advance as one more."""
-    return [point for contour in answer["outline"] for point in contour] + [[answer.get("advance", 0), 0, 1]]
+def are_near(one, other, most):
+    """Whether contours have the same points, each at most so far off."""
+    pairs = [pair for a, b in zip(one, other) for pair in zip(a, b)]
+    same = [len(contour) for contour in one] == [len(contour) for contour in other]
+    return same and all(a[2] == b[2] and max(abs(a[0] - b[0]), abs(a[1] - b[1])) <= most for a, b in pairs)
 
 
 def wrong(expected, answer, every=False):

@@ -40,7 +40,7 @@ def cases_by_group():
 
 def found_by(read, cases, all_of_them):
     """The names of cases that are answered otherwise under a reading: the first, or all."""
-    reference, draws, found = read.reference(), bool(DRAWING & set(read.groups)), []
+    reference, draws, found = read.reference(), bool(DRAWING & set(read.groups) or PIXELS & {of for of, _, _ in read.edits}), []
     for case in cases:
         if is_different(reference, case, draws):
             found.append(case["id"])
@@ -92,7 +92,8 @@ def readings_of(group):
 
 BROKEN = Reading("broken", "stack halts", "the reference breaks down", "answer", '    char = request.get("char")\n', "    raise AssertionError\n")
 CASES = cases_by_group()
-DRAWING = {"scan", "dropout", "nearer", "asked"}  # the groups of readings that change pixels of the same outline
+# The groups of readings, and modules of the reference, whose changes are seen by pixels of the same outline.
+DRAWING, PIXELS = {"scan", "dropout", "nearer", "asked"}, {"answer", "scan", "dropout"}
 
 
 def main():

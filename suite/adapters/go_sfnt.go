@@ -4,29 +4,13 @@
 package main
 
 import (
-	"bufio"
 	"encoding/binary"
-	"encoding/json"
-	"fmt"
 	"os"
 
 	"golang.org/x/image/font"
 	"golang.org/x/image/font/sfnt"
 	"golang.org/x/image/math/fixed"
 )
-
-type request struct {
-	ID      string      `json:"id"`
-	Font    string      `json:"font"`
-	Face    int         `json:"face"`
-	Ppem    int         `json:"ppem"`
-	Glyph   int         `json:"glyph"`
-	Char    *rune       `json:"char"`
-	Hinted  bool        `json:"hinted"`
-	Dropout interface{} `json:"dropout"`
-}
-
-type fields map[string]interface{}
 
 // The word of each segment, and how many points it has.
 var words = map[sfnt.SegmentOp]string{sfnt.SegmentOpMoveTo: "move", sfnt.SegmentOpLineTo: "line", sfnt.SegmentOpQuadTo: "quad"}
@@ -96,10 +80,6 @@ func withPost(data []byte, face int) []byte {
 	return append(made, data[head:]...)
 }
 
-func refusal(fault error) fields {
-	return fields{"refusal": fields{"text": fault.Error()}}
-}
-
 func answer(asked request) fields {
 	if asked.Hinted {
 		return fields{"unsupported": "hinting"}
@@ -137,25 +117,4 @@ func answer(asked request) fields {
 		return refusal(fault)
 	}
 	return fields{"advance": int(advance), "path": steps(segments)}
-}
-
-func main() {
-	fmt.Println(`{"protocol": 2}`)
-	lines := bufio.NewReader(os.Stdin)
-	out := json.NewEncoder(os.Stdout)
-	for {
-		line, fault := lines.ReadBytes('\n')
-		if fault != nil {
-			return
-		}
-		var asked request
-		if fault := json.Unmarshal(line, &asked); fault != nil {
-			panic(fault)
-		}
-		found := answer(asked)
-		found["id"] = asked.ID
-		if fault := out.Encode(found); fault != nil {
-			panic(fault)
-		}
-	}
 }

@@ -7,12 +7,13 @@ from making.probe import CONTOURS
 from making.suite import OPENTYPE
 
 ABOUT = OPENTYPE + "glyf, composite glyph description: %s"
-WORDS, XY, ROUND, SCALE, TWO, FOUR, METRICS = 1, 2, 4, 8, 0x40, 0x80, 0x200
+WORDS, XY, ROUND, SCALE, TWO, FOUR, PROGRAM, METRICS = 1, 2, 4, 8, 0x40, 0x80, 0x100, 0x200
 ONE = 1 << 14
 HALVES = "an offset in the middle between two pixels goes away from zero"
 PRODUCTS = "a product of a 2.14 scale and a coordinate is rounded once, halves away from zero"
 ORDER = "WE_HAVE_A_SCALE goes before WE_HAVE_AN_X_AND_Y_SCALE, and that before WE_HAVE_A_TWO_BY_TWO"
 RESERVED = "flags that are not defined, or say nothing about the outline, are ignored"
+MOST = "a character has at most 16,384 points and 256 component records"
 FRESH = "a composite's program starts with the points where its components put them, original and current alike"
 
 
@@ -36,6 +37,7 @@ def make(suite):
     make_programs(suite, font, parts)
     make_nested(suite, font, parts)
     fill_boxes(font)
+    make_limits(suite)
 
 
 def both(suite, font, name, data, about, own=None, own_hinted=None, ppem=16, within=None, **more):
@@ -86,6 +88,11 @@ def make_matrices(suite, font, parts):
              "more than one kind of scale", own=ORDER)
 
 
+    for name, flag in (("scaled-offset", 0x0800), ("unscaled-offset", 0x1000)):
+        data = composite([(XY | SCALE | flag, parts["box"], (100, 40), (ONE / 2,))])
+        both(suite, font, name, data, "offsets that are scaled", own=RESERVED)
+
+
 def make_matches(suite, font, parts):
     """A component is moved so that two points meet: of the composite so far, and of the transformed component."""
     for k, (first, second) in enumerate([(0, 0), (2, 1), (3, 2), (1, 0)]):
@@ -127,11 +134,29 @@ def make_programs(suite, font, parts):
     for k, program in enumerate(["SVTCA:1 0 MDAP:1", "SVTCA:1 0 64 SHPIX IUP:1", "SVTCA:0 5 GC:0 5 GC:1 SUB 0 SWAP SCFS",
                                  "SVTCA:1 0 SRP0 4 MDRP:1C", "SVTCA:1 8 MDAP:1",
                                  "SVTCA:1 1 SHC:0", "SVTCA:1 8 SRP0 4 MDRP:0C", "9 64 SHPIX", "4 FLIPPT",
-                                 "SVTCA:1 4 70 SHPIX 0 0 SHC:0"]):
+                                 "SVTCA:1 4 70 SHPIX 0 0 SHC:0", "SVTCA:1 4 GC:0 4 GC:1 SUB 0 SWAP SCFS"]):
         for kind in ("box", "moved"):
             data = composite([(XY, parts["box"], (0, 0)), (XY | WORDS, parts[kind], (200, 37))], program)
             both(suite, font, "program-%d-%s" % (k, kind), data, "WE_HAVE_INSTRUCTIONS",
                  own_hinted=own if "GC:1" in program or kind == "moved" else None)
+
+
+    both(suite, font, "program-without-points", composite([(XY, parts["empty"], (0, 0))], "SVTCA:1 1 64 SHPIX"),
+         "WE_HAVE_INSTRUCTIONS", own_hinted=FRESH)
+    data = composite([(XY | PROGRAM, parts["box"], (0, 0)), (XY | WORDS, parts["arc"], (200, 37))]) + bytes([0, 4])
+    both(suite, font, "program-of-the-first-flag", data + assemble("1 64 SHPIX"), "WE_HAVE_INSTRUCTIONS",
+         own_hinted="WE_HAVE_INSTRUCTIONS counts at any component")
+
+
+def make_limits(suite):
+    """As many points and component records as a character may have, and one more. A program that halts shows that they are allowed."""
+    font = suite.font(FontMaker("parts"))
+    many = [[(k, k * k % 61, 1) for k in range(64)]]
+    whole, one_more, point = font.simple(many), font.simple([many[0] + [(64, 0, 1)]], "#28"), font.simple([[(0, 0, 1)]])
+    for name, records in (("points-16384", [whole] * 256), ("points-16385", [whole] * 255 + [one_more]),
+                          ("records-256", [point] * 256), ("records-257", [point] * 257)):
+        glyph = font.add(composite([(XY, it, (0, 0)) for it in records], "#28"), bearing=0)
+        suite.case(name, font, ABOUT % "limits", glyph, own=MOST, bits=False)
 
 
 def make_nested(suite, font, parts):

@@ -41,6 +41,10 @@ def shapes():
     yield "v", [[(0, 400, 1), (150, 0, 1), (300, 400, 1), (290, 400, 1), (150, 30, 1), (10, 400, 1)]], "corners", LEFT
     for k, (x, y) in enumerate([(10, 10), (40, 40), (33, 10), (32, 5), (60, 60), (64, 64), (0, 0), (96, 30)]):
         yield "dot-%d" % k, [box(x, y, x + 3, y + 3)], "dots", FRAME
+    for k in (62, -2):
+        yield "stem-on-border-%d" % k, [box(k, 0, k + 4, 320)], "thin stems", FRAME
+        yield "bar-on-border-%d" % k, [box(0, k, 320, k + 4)], "thin bars", FRAME
+    yield "no-width-in-a-row", [[(40, 32, 1), (90, 32, 1)]], "strokes without width", TOUCH
     for k, (x, y, dx, dy) in enumerate([(40, 40, 30, 100), (40, 40, 100, 30), (90, 90, 60, 60), (33, 33, 62, 62),
                                         (33, 97, 62, 62)]):
         yield "hole-%d" % k, [box(x, y, x + dx, y + dy)], "boxes between centres", FRAME

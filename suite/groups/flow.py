@@ -31,6 +31,8 @@ JUMPS = {
 BACK = "0 4 SWAP 10 ADD SWAP 1 SUB DUP -13 SWAP JROT POP"
 FPGM = "0 FDEF 5 ENDF 1 FDEF 2 ADD ENDF 2 FDEF 1 CALL 1 CALL ENDF 3 FDEF 1 IF 4 ELSE 6 EIF ENDF 4 FDEF ENDF " \
     "5 FDEF DUP 1 SUB DUP IF 5 CALL EIF ENDF 6 FDEF 1 ENDF 6 FDEF 2 ENDF 63 FDEF 63 ENDF 7 FDEF 3 1 1 LOOPCALL ADD ENDF"
+INSTCTRL = APPLE + "Instruction set, Managing the graphics state: INSTCTRL"
+ANY_VALUE = "any value but 0 sets the flag of INSTCTRL"
 PASSED = "storage, control values and twilight points pass from fpgm to prep"
 IN_GLYPH = "a glyph's program may define functions and opcodes, which are forgotten at its end"
 NO_TURN = "LOOPCALL with a count below 1 does nothing and does not look at the function"
@@ -89,7 +91,8 @@ def make_definitions(suite):
 def make_inherited(suite):
     """What passes from `fpgm` and `prep` to a glyph's program, and what does not pass from glyph to glyph."""
     font = suite.font(FontMaker("inherited", cvt=[100, 200, -50],
-                                fpgm="3 7 WS 9 FDEF 44 ENDF 2 FDEF 1 ENDF 145 IDEF 6 ENDF 0 555 WCVTP",
+                                fpgm="3 7 WS 9 FDEF 44 ENDF 2 FDEF 1 ENDF 145 IDEF 6 ENDF 0 555 WCVTP "
+                                     "0 SZPS 6 192 MSIRP 1 SZPS",
                                 prep="2 FDEF 3 ENDF 4 9 WS 10 FDEF 4 RS ENDF 1 777 WCVTP 0 SZPS 2 64 MSIRP 1 SZPS "
                                      "96 SCVTCI 32 SMD"))
     about = APPLE + "Instruction set, font program and control value program: %s"
@@ -97,9 +100,9 @@ def make_inherited(suite):
              ("cvt-of-prep", "1 RCVT", 1),
              ("cvt-of-fpgm", "0 RCVT", 1), ("functions-of-prep", "10 CALL", 1), ("replaced-by-prep", "2 CALL", 1),
              ("opcodes-of-fpgm", "#91", 1),
-             ("twilight-of-prep", "0 SZPS 2 GC 1 SZPS", 1)]
+             ("twilight-of-prep", "0 SZPS 2 GC 1 SZPS", 1), ("twilight-of-fpgm", "0 SZPS 6 GC 1 SZPS", 1)]
     for name, program, left in tries:
-        own = PASSED if name in ("storage-of-fpgm", "cvt-of-fpgm") else None
+        own = PASSED if name.endswith(("storage-of-fpgm", "cvt-of-fpgm", "twilight-of-fpgm")) else None
         suite.case(name, font, about % name.replace("-", " "), picture(font, shown(program + " DEPTH", left + 1)), own=own,
                    bits=False)
     own = "nothing passes from one glyph's program to another's"
@@ -114,5 +117,18 @@ def make_inherited(suite):
         font = suite.font(FontMaker("instctrl-" + name, cvt=[300], prep=prep))
         for k, program in enumerate(["SVTCA:1 0 MDAP:1 4 0 MIAP:1", "SVTCA:1 0 SRP0 1 MDRP:0C", "SVTCA:0 120 1 1 DELTAP1",
                                      "1 1 INSTCTRL SVTCA:1 0 SRP0 1 MDRP:0C 2 64 SHPIX"]):
-            suite.case("instctrl-%s-%d" % (name, k), font, APPLE + "Instruction set, Managing the graphics state: INSTCTRL",
-                       picture(font, program), own=own)
+            suite.case("instctrl-%s-%d" % (name, k), font, INSTCTRL, picture(font, program), own=own)
+        if name == "default-state":
+            suite.case("instctrl-default-state-values", font, INSTCTRL, picture(font, shown("0 RCVT", 1)),
+                       own="selector 2 leaves the control values", bits=False)
+    make_instctrl(suite)
+
+
+def make_instctrl(suite):
+    """Where INSTCTRL acts, and by which values."""
+    for name, programs, own in [("fpgm", {"fpgm": "1 1 INSTCTRL"}, "INSTCTRL acts while prep runs alone"),
+                                ("by-function", {"fpgm": "0 FDEF 1 1 INSTCTRL ENDF", "prep": "0 CALL"}, None),
+                                ("value-2", {"prep": "2 1 INSTCTRL"}, ANY_VALUE),
+                                ("default-by-1", {"prep": "200 SCVTCI 96 SMD 1 2 INSTCTRL"}, ANY_VALUE)]:
+        font = suite.font(FontMaker("instctrl-" + name, cvt=[300], **programs))
+        suite.case("instctrl-" + name, font, INSTCTRL, picture(font, "SVTCA:1 0 SRP0 1 MDRP:0C"), own=own)

@@ -2,7 +2,7 @@
 import struct
 
 from making.boxes import with_box
-from making.fontmaker import FontMaker
+from making.fontmaker import FontMaker, fonts
 from making.suite import OPENTYPE
 
 SIMPLE = OPENTYPE + "glyf, simple glyph description: %s"
@@ -13,6 +13,8 @@ CUT = "a glyph whose bytes end early is refused"
 RUN = "a run of flags past the last point stops there"
 EMPTY = "a glyph of 0 contours is empty, whatever follows"
 EQUAL = "equal end points make an empty contour"
+WORDS = "coordinates are words: a sum that needs more bits is taken modulo 65536"
+NEGATIVE = "any numberOfContours below 0 is that of a composite"
 ON, XS, YS, REPEAT, XP, YP = 1, 2, 4, 8, 16, 32
 AS_THEY_ARE = ("box-ignored", "x-min")  # glyphs whose boxes are wrong on purpose
 
@@ -40,10 +42,12 @@ def make(suite):
     for name, data, part, own in tries():
         number = font.add(data if name in AS_THEY_ARE else with_box(data), bearing=0 if name in AS_THEY_ARE else None)
         for hinted in (False, True):
-            suite.case("%s-%s" % (name, "hinted" if hinted else "unhinted"), font, SIMPLE % part, number, hinted=hinted, own=own)
+            suite.case("%s-%s" % (name, "hinted" if hinted else "unhinted"), font, SIMPLE % part, number, hinted=hinted, own=own,
+                       bits=name != "wrap-down")  # which is large
     make_cuts(suite)
     make_loca(suite)
     make_tables(suite)
+    make_directory(suite)
 
 
 def tries():
@@ -64,6 +68,8 @@ def tries():
                                struct.pack(">4h", -20, 200, 0, -200)), "REPEAT_FLAG", None
     yield "repeat-two-runs", glyph([4], [ON | XS | XP | YP | REPEAT, 1, ON | YS | YP | XP | REPEAT, 2], bytes([10, 200]),
                                    bytes([90, 80, 70])), "REPEAT_FLAG", None
+    yield "repeat-last", glyph([3], [ON, ON, ON, ON | REPEAT, 0], struct.pack(">4h", 10, 0, 300, 0),
+                               struct.pack(">4h", -20, 200, 0, -200)), "REPEAT_FLAG", None
     yield "repeat-past-the-end", glyph([3], [ON | REPEAT, 9], struct.pack(">4h", 10, 0, 300, 0),
                                        struct.pack(">4h", -20, 200, 0, -200)), "REPEAT_FLAG", RUN
     yield from more_tries()
@@ -91,6 +97,11 @@ def more_tries():
     yield "zero-contours-header", square(ends=[], count=0)[:10], "numberOfContours", EMPTY
     yield "wrap", glyph([3], [ON] * 4, struct.pack(">4h", 32767, -32767, 300, 0),
                         struct.pack(">4h", -20, 200, 0, -200)), "coordinates", None
+    yield "wrap-down", glyph([3], [ON] * 4, struct.pack(">4h", 20000, 20000, -20000, 100),
+                             struct.pack(">4h", -20000, -20000, 20000, 0)), "coordinates", WORDS
+    for count in (-2, -32768):
+        data = struct.pack(">h", count) + fonts.components([(fonts.OFFSETS, 0, (30, 20))])[2:]
+        yield "composite-of%d" % count, data, "numberOfContours", NEGATIVE
     yield "box-ignored", square(box=(0, 999, -5, 7)), "yMin, xMax, yMax", None
     yield "x-min", square(box=(64, 0, 0, 0)), "xMin, with a left side bearing of 0", None
     yield "far-words", glyph([3], [ON] * 4, struct.pack(">4h", 2000, 0, 300, 0),
@@ -125,14 +136,14 @@ def make_loca(suite):
         for k in range(2, 5):
             suite.case("loca-%s-%d" % (kind, k), font, LOCA, k, hinted=False)
         broken = suite.font(FontMaker("loca-%s-broken" % kind, long=long))
-        for k in range(7):
+        for k in range(8):
             broken.add(with_box(square()))
         length = len(b"".join(g.data for g in broken.glyphs))
         one = len(broken.glyphs[2].data)
-        ends = [0, first, first, first + one, first, first + one, length + 400, length + 400, length + 600, length]
+        ends = [0, first, first, first + one, first, first + one, length + 400, length + 400, length + 600, length, length + 400]
         broken.tables["loca"] = struct.pack(">%d%s" % (len(ends), "L" if long else "H"), *(e // unit for e in ends))
         names = {2: "usual", 3: "falling", 4: "after-falling", 5: "end-past-glyf", 6: "equal-past-glyf", 7: "start-past-glyf",
-                 8: "start-past-and-falling"}
+                 8: "start-past-and-falling", 9: "start-at-the-end"}
         for k, name in names.items():
             own = None if k == 2 else "offsets that decrease or begin past glyf refuse the glyph; an end past glyf is moved to its end"
             suite.case("loca-%s-%s" % (kind, name), broken, LOCA, k, hinted=False, own=own)
@@ -145,6 +156,31 @@ def make_loca(suite):
             suite.case("loca-%s-cut-%d" % (kind, k), cut, LOCA, k, hinted=False, own=own)
     font = suite.fonts["grammar"]
     suite.case("no-such-glyph", font, LOCA, 60000, hinted=False)
+
+
+class Changed:
+    """A font whose bytes are those of another, changed by a function."""
+
+    def __init__(self, name, font, change):
+        self.name, self.file, self.font, self.change = name, name + ".ttf", font, change
+
+    def bytes(self):
+        """The font's bytes."""
+        return self.change(self.font.bytes())
+
+
+def make_directory(suite):
+    """A tag that is there twice, a last table that ends past the file, and a file that begins with `true`."""
+    about = OPENTYPE + "Organization of an OpenType font"
+    for name, tag, change, own in [
+            ("twice", "hhez", lambda data: data.replace(b"hhez", b"hhea"), "of two directory records with one tag the first counts"),
+            ("past-the-file", "zzzz", lambda data: data[:-4], "a table that ends past the file ends with it"),
+            ("true", None, lambda data: b"true" + data[4:], None)]:
+        font = FontMaker("directory-" + name)
+        font.simple([[(0, 0, 1), (0, 64, 1), (64, 0, 1)]])
+        font.tables.update({tag: bytes(36)} if tag else {})
+        changed = suite.font(Changed(font.name, font, change))
+        suite.case("directory-" + name, changed, about, 2, hinted=False, own=own)
 
 
 def make_tables(suite):
@@ -165,3 +201,15 @@ def make_tables(suite):
         font.simple([[(0, 0, 1), (0, 64, 1), (64, 0, 1)]])
         font.tables[tag] = data
         suite.case("table-" + name, font, OPENTYPE + tag, 2, hinted=False, own=own)
+    make_orders(suite, {name: (tag, data) for name, tag, data in changes})
+
+
+def make_orders(suite, changes):
+    """Two faults in one font: the refusal names the first in order."""
+    tags = ("head", "maxp", "hhea", "hmtx", "loca", "glyf")
+    pairs = [("missing-" + one, "missing-" + other) for one, other in zip(tags, tags[1:])]
+    pairs += [("missing-glyf", "bad-magic"), ("bad-magic", "short-maxp"), ("bad-maxp", "short-hhea"), ("short-hhea", "short-hmtx")]
+    for one, other in pairs:
+        font = suite.font(FontMaker("table-%s-and-%s" % (one, other)))
+        font.tables.update([changes[one], changes[other]])
+        suite.case(font.name, font, OPENTYPE + changes[one][0], 0, hinted=False, own="the first fault in order is the refusal")

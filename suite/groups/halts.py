@@ -6,6 +6,7 @@ from making.suite import APPLE
 ABOUT = APPLE + "Instruction set: %s"
 NO_TEXT = "the manual does not say what follows: the program halts, and the glyph is refused"
 LIMIT = "a program may execute 250,000 instructions"
+NO_FUNCTION = "a function that is not there goes before the depth of calls"
 DEPTH = "32 calls may be open"
 OPEN = "an IF or ELSE whose EIF is missing halts only if the program has to find it"
 END = "a program that ends within a function, or returns without a call, halts"
@@ -20,7 +21,7 @@ OPERANDS = {
 }
 BAD = ["0 CINDEX", "-1 CINDEX", "5 6 3 CINDEX", "0 MINDEX", "5 6 3 MINDEX", "2 SZP0", "-1 SZP1", "2 SZP2", "2 SZPS", "-1 SLOOP",
        "7 SDS", "-1 SDS", "2 SHZ", "-1 SHZ:1",
-       "64 FDEF ENDF", "-1 FDEF ENDF", "256 IDEF ENDF", "-1 IDEF ENDF", "-1 DELTAP1", "-1 DELTAC1"]
+       "64 FDEF ENDF", "-1 FDEF ENDF", "256 IDEF ENDF", "-1 IDEF ENDF", "-1 DELTAP1", "-1 DELTAC1", "64 FDEF 1"]
 CUTS = ["#B0", "#B1 #01", "#B8", "#B8 #01", "#40", "#40 #02 #01", "#41", "#41 #01 #05", "#BF #00 #01", "0 IF", "1 IF 5 ELSE",
         "0 IF #B0 #59", "0 IF 1 IF EIF", "0 IF #41 #02 #59 #59", "5 FDEF", "5 FDEF 1", "5 FDEF #B0 #2D", "145 IDEF 1"]
 JUMPS = ["-3 JMPR", "-100 JMPR", "2 JMPR", "100 JMPR", "100 1 JROT", "-100 1 JROT", "100 0 JROF", "3 0 JROF", "32767 JMPR"]
@@ -71,14 +72,26 @@ def make_limits(suite, font):
         own = "the stack has room for maxStackElements and 32 more" if count > 4 else None
         halt(suite, small, "room-%d" % k, " ".join(["1"] * count), "room of the stack", own)
     halt(suite, small, "room-loop", "1 DUP -4 JMPR", "room of the stack", LIMIT)
-    fpgm = "1 FDEF DUP IF 1 SUB SWAP 1 ADD SWAP 1 CALL ELSE POP EIF ENDF 2 FDEF 2 CALL ENDF"
+    fpgm = "1 FDEF DUP IF 1 SUB SWAP 1 ADD SWAP 1 CALL ELSE POP EIF ENDF 2 FDEF 2 CALL ENDF " \
+        "3 FDEF DUP IF 1 SUB 3 CALL ELSE 50 CALL EIF ENDF"
     calls = suite.font(FontMaker("calls", fpgm=fpgm))
     for depth in (1, 30, 31, 32, 60):
         own = DEPTH if depth > 31 else None
         halt(suite, calls, "depth-%d" % depth, shown("0 %d 1 CALL" % depth, 1), "calls that are open", own)
     halt(suite, calls, "depth-endless", "2 CALL", "calls that are open", DEPTH)
+    halt(suite, calls, "depth-of-no-function", "31 3 CALL", "calls that are open", NO_FUNCTION)
+    steps = suite.font(FontMaker("steps", fpgm="1 FDEF %s ENDF" % " ".join(["SVTCA:1"] * 6)))
+    for name, count, last in (("just", 250000, ""), ("one-more", 250001, ""), ("cut", 250000, "#B0")):
+        program = "%s %s" % (of_steps(count), last)
+        halt(suite, steps, "steps-%s" % name, program, "instructions that are executed", LIMIT, bits=False)
     halt(suite, font, "endless", "#B8 #FF #FD #1C", "a loop without end", LIMIT)
     halt(suite, font, "endless-if", "1 #B8 #FF #FD #1C", "a loop without end", LIMIT)
+
+
+def of_steps(count):
+    """A program of so many instructions: calls of a function that has seven, and some more."""
+    times, more = divmod(count - 140007, 7)
+    return "SVTCA:1 0 MDAP:1 20000 1 LOOPCALL %d 1 LOOPCALL %s" % (times, " ".join(["SVTCA:1"] * more))
 
 
 def make_preludes(suite):

@@ -64,6 +64,8 @@ def make_special(suite):
     }
     touches = ["0 33 SHPIX", "0 33 SHPIX 2 -21 SHPIX", "1 MDAP:0 2 50 SHPIX", "0 40 SHPIX 1 40 SHPIX", "1 200 SHPIX 2 -200 SHPIX",
                "3 64 SHPIX 0 MDAP:0 1 9 SHPIX"]
+    glyph = font.simple(shapes["equal"], "SVTCA:0 0 501 SHPIX 2 MDAP:0 IUP:0")  # point 1 goes to 501 - 50.5
+    suite.case("half-below-zero", font, ABOUT, glyph, own=ONCE, within=1)
     for name, contours in shapes.items():
         for k, touch in enumerate(touches):
             for axis in (0, 1):

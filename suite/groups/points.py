@@ -1,12 +1,14 @@
 """Rows that move, shift, align, flip and measure points, each with axes and slanted vectors, in both zones."""
+from making.assembler import number
 from making.fontmaker import FontMaker
-from making.probe import OFF_AXES, VECTORS, picture
+from making.probe import OFF_AXES, VECTORS, picture, shown_wide
 from making.suite import APPLE
 
 ABOUT = APPLE + "Instruction set, Managing outlines: %s"
 STRAY = "a point outside its zone reads as (0, 0), and what the row does to it is dropped"
 HALF = "ALIGNPTS moves the first point by half the distance, rounded toward zero, and the second by the rest"
 PLACE = "the place where lines meet, and the middle of four ends, is rounded to the nearest 1/64 pixel"
+WRAPS = "places, their sums and differences are taken modulo 2^32"
 RESET = "IUP sets an untouched point from its original place, wherever it was moved before"
 EMPTY = "a range whose low point is above its high one is empty"
 HEIGHT = "the last two phantom points are at the ascender and the descender of hhea"
@@ -84,6 +86,7 @@ def make(suite):
                    own=STRAY)
     make_phantom_points(suite, font)
     make_parallel(suite, font)
+    make_twilight_originals(suite, font)
 
 
 def own_of(name, row, slanted, iup=False):
@@ -137,3 +140,15 @@ def make_parallel(suite, font):
     setup = "SVTCA:0 0 100 SCFS 2 100 SCFS 5 300 SCFS 7 300 SCFS SVTCA:1"
     for k, row in enumerate(["9 0 2 5 7 ISECT", "9 0 2 7 5 ISECT", "9 0 0 5 7 ISECT", "9 5 5 5 5 ISECT", "9 0 2 0 2 ISECT"]):
         suite.case("isect-parallel-%d" % k, font, ABOUT % "ISECT", picture(font, "%s %s" % (setup, row)), own=PLACE, within=2)
+
+
+def make_twilight_originals(suite, font):
+    """A row that puts a twilight point sets its original place too; and MDAP sets reference point 1 as well as 0."""
+    for name, row in (("MIAP", "0 SZP0 4 1 MIAP:0"), ("MSIRP", "0 SZP1 5 SRP0 4 55 MSIRP:0"), ("SCFS", "0 SZP2 4 64 SCFS")):
+        program = "%s SVTCA:1 %s 1 SZPS %s" % (MOVED, row, SEEN_TWILIGHT)
+        suite.case("%s-original" % name.lower(), font, ABOUT % name, picture(font, program))
+    far = "SVTCA:1 1 %s SHPIX 1 %s SHPIX" % (number(1 << 30), number(1 << 30))  # point 1 is at 37, and then at 37 - 2^31
+    for k, program in enumerate([shown_wide(far + " 8192 14189 SPVFS 5 1 MD:0"), far + " 3 MDAP:0 IUP:1"]):
+        suite.case("wraps-%d" % k, font, ABOUT % "places", picture(font, program), own=WRAPS, bits=False)
+    suite.case("shc-of-twilight", font, ABOUT % "SHC", picture(font, "%s %s SVTCA:1 0 SZP1 3 SRP2 0 SHC:0" % (MOVED, TWILIGHT)))
+    suite.case("mdap-rp1", font, ABOUT % "MDAP", picture(font, "%s SVTCA:1 5 MDAP:0 9 SHP:1" % MOVED))

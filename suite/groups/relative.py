@@ -9,6 +9,7 @@ CUT_IN = APPLE + "Instruction set, Managing the Graphics State: control value cu
 COLOUR = "engine compensation is 0 for all distances"
 TWILIGHT = ("in the twilight zone MIRP first puts the point at the reference point's original place and the control value along "
             "the freedom vector")
+SIZE = "the single width is compared with the size of a distance, whatever its sign"
 NEGATIVE = "MIRP's control value -1 is a value of 0"
 SLANTED = ["8192 14189 SPVFS SFVTPV", "SVTCA:1 13107 9830 SFVFS"]
 # Point 1 is left of point 5, point 9 below point 2; a program moves reference points first, so that all distances differ, and no row
@@ -43,8 +44,9 @@ def make_mdrp(suite):
                                     ("2 6 SDPVTL:0 SFVTCA:1 1 SRP0 5 MDRP:04", OFF_AXES),
                                     ("5 SRP0 5 MDRP:1C", None), ("100 SSW 2000 SSWCI 5 SRP0 5 MDRP:00", None),
                                     ("-100 SSW 2000 SSWCI 1 SRP0 5 MDRP:00", None),
-                                    ("-64 SMD 1 21 SHPIX 1 SRP0 0 MDRP:0C", None)]):
-        suite.case("more-%d" % k, font, MDRP, picture(font, "SVTCA:1 " + row), own=own, within=3 if own else None)
+                                    ("-64 SMD 1 21 SHPIX 1 SRP0 0 MDRP:0C", None), ("100 SMD 8 SRP0 9 MDRP:0C", None),
+                                    ("360 SSW 60 SSWCI 5 SRP0 1 MDRP:00", SIZE), ("410 SMD 1 SRP0 5 MDRP:0C", None)]):
+        suite.case("more-%d" % k, font, MDRP, picture(font, "SVTCA:1 " + row), own=own, within=3 if own == OFF_AXES else None)
 
 
 def make_mirp(suite):
@@ -82,3 +84,5 @@ def make_cut_in(suite):
         suite.case("default-%d" % value, font, CUT_IN, glyph)
         row = "SVTCA:1 0 SZP0 3 %d MIAP:1 3 SRP0 5 %d MIRP:04 1 %d MIRP:00" % (k, k, k)
         suite.case("zones-%d" % value, font, CUT_IN, picture(font, row))
+    for k, row in enumerate(["36 SCVTCI 5 0 MIAP:1", "37 SCVTCI 5 0 MIAP:1", "0 SCVTCI 1 SRP0 5 3 MIRP:00"]):  # point 5 is at 433
+        suite.case("at-it-%d" % k, font, CUT_IN, picture(font, "SVTCA:1 " + row))

@@ -3,11 +3,12 @@ from making.fontmaker import FontMaker
 from making.probe import picture, shown
 from making.suite import APPLE
 
+from .relative import SIZE
+
 STORAGE = APPLE + "Instruction set, Managing the Storage Area: %s"
 VALUES = APPLE + "Instruction set, Managing the Control Value Table: %s"
 STATE = APPLE + "Instruction set, Managing the Graphics State: %s"
 INFO = APPLE + "Instruction set, %s"
-SIZE = "the single width is compared with the size of a distance, whatever its sign"
 ONE_PLACE = "IP gives a point its original distance from reference point 1, if both reference points were in one place"
 STRAY = "a number outside a table reads as 0, and a write there is dropped"
 
@@ -109,7 +110,7 @@ def make_defaults(suite, font):
     for k, program in enumerate([SEEN, "0 40 SHPIX 4 IP", "0 40 SHPIX 1 SHP:0 2 SHP:1", "0 64 SHPIX 5 40 SHPIX",
                                  "7 1 MIRP:1F 6 0 MIRP:1F"]):
         suite.case("default-%d" % k, font, STATE % "default values", picture(font, program), own=ONE_PLACE if k == 1 else None)
-    kept = [("cut-in", "16 SCVTCI"), ("minimum", "200 SMD"), ("width", "300 SSW 100 SSWCI"), ("flip", "FLIPOFF"),
+    kept = [("cut-in", "200 SCVTCI"), ("minimum", "200 SMD"), ("width", "300 SSW 100 SSWCI"), ("flip", "FLIPOFF"),
             ("base", "5 SDB 2 SDS")]
     reset = [("vectors", "SVTCA:0"), ("points", "5 SRP0 5 SRP1 5 SRP2"), ("zones", "0 SZPS"), ("loop", "5 SLOOP"),
              ("round", "ROFF"), ("rthg", "RTHG")]
@@ -117,3 +118,5 @@ def make_defaults(suite, font):
         font = suite.font(FontMaker("prep-" + name, cvt=[350, 180, -300, 500, 2, 0, 33, -64], prep=prep))
         for k, program in enumerate([SEEN, "1 0 MIRP:1F 5 MDRP:1F", "0 MDAP:1 113 4 113 7 2 DELTAP1 2 40 SHPIX"]):
             suite.case("prep-%s-%d" % (name, k), font, STATE % "defaults and prep", picture(font, program))
+    font = suite.font(FontMaker("fpgm-state", cvt=[350, 180, -300, 500, 2, 0, 33, -64], fpgm="200 SCVTCI 200 SMD FLIPOFF 5 SDB"))
+    suite.case("fpgm-state", font, STATE % "defaults and fpgm", picture(font, SEEN), own="prep starts from the default state")

@@ -82,6 +82,8 @@ def make_from_stack(suite, font):
         suite.case("%s-zero" % name.lower(), font, ABOUT % name, glyph, own=ZERO, bits=False)
         glyph = picture(font, seen("SVTCA:0 16384 16384 ADD 16384 ADD 16384 ADD 16384 ADD 0 %s" % name))
         suite.case("%s-wide" % name.lower(), font, ABOUT % name, glyph, own=WORDS, bits=False)
+        glyph = picture(font, seen("SVTCA:0 16384 16384 ADD 16384 ADD 16384 ADD 16384 ADD 16384 %s" % name))
+        suite.case("%s-wide-both" % name.lower(), font, ABOUT % name, glyph, own=WORDS, bits=False)
     for name in ("GPV", "GFV"):
         for k, before in enumerate(["SVTCA:0", "SVTCA:1", "SPVTCA:0 SFVTCA:1", "SPVTCA:1 SFVTCA:0"]):
             suite.case("%s-%d" % (name.lower(), k), font, ABOUT % name, picture(font, shown("%s %s" % (before, name), 2)),

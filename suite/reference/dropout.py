@@ -10,8 +10,8 @@ from .scan import centre, covered, holding, kept, near_row
 
 
 def sign_of(p, q, d):
-    """The sign of p + q * root(d)."""
-    if q == 0 or d == 0:
+    """The sign of p + q * root(d), where d is no square if q is not 0."""
+    if q == 0:
         return (p > 0) - (p < 0)
     if p >= 0 and q > 0 or p > 0 and q >= 0:
         return 1

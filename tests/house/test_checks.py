@@ -105,6 +105,8 @@ TRIALS = [
           ("suite/wrong_readings.py", "        return False", "        return True")),
     Trial("suite/check_runner", "paths off by one pass", r"[1-9]\d* wrong", "suite/check_runner --only 'paths off'",
           ("suite/paths.py", "NEAR = 1 ", "NEAR = 2 ")),
+    Trial("suite/check_runner", "a glyph passes for a refusal", r"[1-9]\d* wrong", "suite/check_runner --only judged",
+          ("suite/compare.py", '        return "not refused: %s" % expected["name"]', "        return None")),
     Trial("tools/third_party --check", "another notice", r"not as the kit has it", "tools/third_party --check",
           ("THIRD-PARTY.md", "Danny Guo", "Danny")),
     Trial("suite/run --every", "a digit of a row", r"[1-9]\d* wrong", "suite/run --every --only scan/box-0 --with suite/adapters/mkstrike"),

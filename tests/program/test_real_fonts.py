@@ -45,4 +45,9 @@ def in_spite_of_two_characters():
                   Counted(count, 0x10000 - found, True, lines.encode()))
 
 
-test_real_fonts = cases(dejavu, liberation, in_spite_of_two_characters)
+def windows_glyph_list():
+    """Liberation Sans, which was made to Windows Glyph List 4, has each of its 652 characters."""
+    yield Run("wgl4", "make --ppem 9 --set wgl4", real_font("LiberationSans-Regular"), Counted(652, 0, hinted=True))
+
+
+test_real_fonts = cases(dejavu, liberation, in_spite_of_two_characters, windows_glyph_list)
