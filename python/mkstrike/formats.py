@@ -8,11 +8,13 @@ import os
 import stat
 from collections.abc import Mapping
 from functools import partial
-from typing import TYPE_CHECKING, Any, Callable
 
 from .refused import shown
 
+TYPE_CHECKING = False  # as in glyph.py
 if TYPE_CHECKING:
+    from typing import Any, Callable
+
     from PIL.Image import Image
 
     from .strike import Strike
@@ -56,6 +58,8 @@ FORMATS: dict[str, Callable[..., bytes]] = {
 OF_ENDING = {".bdf": "bdf", ".png": "png", ".pbm": "pbm", ".h": "c", ".c": "c", ".raw": "raw", ".psf": "psf", ".psfu": "psf", ".pcf": "pcf", ".otb": "otb"}
 ENDING = {**{name: "." + name for name in FORMATS}, "c": ".h", "gfx": "-gfx.h", "lvgl": ".c"}  # of the files that the command writes
 IN_C, PICTURES = ("c", "gfx", "lvgl"), ("png", "pbm")
+TAKES: dict[str, tuple[str, ...]] = {  # options
+    **{name: ("columns", "scale") for name in PICTURES}, **{name: ("name",) for name in IN_C}, "raw": ("order",)}
 
 
 def encode(strike: Strike, format: str, options: Mapping[str, Any]) -> bytes:
@@ -65,6 +69,9 @@ def encode(strike: Strike, format: str, options: Mapping[str, Any]) -> bytes:
     if format in (*PICTURES, *IN_C, "raw"):
         from .strike import tell_of_unnamed
         tell_of_unnamed(strike.parsed().unnamed)
+    for name in options:
+        if name not in TAKES.get(format, ()):
+            raise TypeError("%s is no option of the format %s%s" % (name, format, ": it has " + ", ".join(TAKES[format]) if format in TAKES else ""))
     return FORMATS[format](strike, **options)
 
 
@@ -92,6 +99,8 @@ def write(path: str, data: bytes) -> None:
             stream.write(data)
         return
     path = os.path.realpath(path)  # a link stays one
+    if not os.path.isdir(os.path.dirname(path)):
+        raise FileNotFoundError(errno.ENOENT, "there is no folder", os.path.dirname(path))
     is_there = os.path.exists(path)
     if is_there and not os.access(path, os.W_OK):
         raise PermissionError(errno.EACCES, os.strerror(errno.EACCES), path)
