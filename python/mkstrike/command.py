@@ -66,12 +66,16 @@ class Run:
     def all(self) -> int:
         """Makes all strikes and writes their files. Returns the status."""
         for group in self.job.groups:
-            fonts = self.opened(group)
-            if len(fonts) == len(group):
-                for at in range(len(self.job.sizes(group)[0])):
-                    self.one(group, fonts, at)
+            self.of(group)
         self.bar.clear()
         return self.status
+
+    def of(self, group: list[Asked]) -> None:
+        """Makes the strikes of fonts at all their sizes, and lets the fonts go."""
+        fonts = self.opened(group)
+        if len(fonts) == len(group):
+            for at in range(len(self.job.sizes(group)[0])):
+                self.one(group, fonts, at)
 
     def opened(self, group: list[Asked]) -> list[Font | Strike]:
         """The fonts of a strike, if all can be opened."""

@@ -53,10 +53,13 @@ def _by(program: str, strike: Strike) -> bytes:
 
 
 FORMATS: dict[str, Callable[..., bytes]] = {
-    "bdf": _bdf, **{it: partial(_sheet, it) for it in ("png", "pbm")}, "c": partial(_c, "rows"), **{it: partial(_c, it) for it in ("gfx", "lvgl")},
+    "bdf": _bdf, **{it: partial(_sheet, it) for it in ("png", "pbm")}, "c": partial(_c, "rows"),
+    **{it: partial(_c, it) for it in ("gfx", "lvgl")},
     "raw": _raw, **{it: partial(_by, it) for it in ("psf", "pcf", "otb")}}
-OF_ENDING = {".bdf": "bdf", ".png": "png", ".pbm": "pbm", ".h": "c", ".c": "c", ".raw": "raw", ".psf": "psf", ".psfu": "psf", ".pcf": "pcf", ".otb": "otb"}
-ENDING = {**{name: "." + name for name in FORMATS}, "c": ".h", "gfx": "-gfx.h", "lvgl": ".c"}  # of the files that the command writes
+OF_ENDING = {".bdf": "bdf", ".png": "png", ".pbm": "pbm", ".h": "c", ".c": "c", ".raw": "raw", ".psf": "psf", ".psfu": "psf",
+             ".pcf": "pcf", ".otb": "otb"}
+# Of the files that the command writes.
+ENDING = {**{name: "." + name for name in FORMATS}, "c": ".h", "gfx": "-gfx.h", "lvgl": ".c"}
 IN_C, PICTURES = ("c", "gfx", "lvgl"), ("png", "pbm")
 TAKES: dict[str, tuple[str, ...]] = {  # options
     **{name: ("columns", "scale") for name in PICTURES}, **{name: ("name",) for name in IN_C}, "raw": ("order",)}
@@ -71,7 +74,8 @@ def encode(strike: Strike, format: str, options: Mapping[str, Any]) -> bytes:
         tell_of_unnamed(strike.parsed().unnamed)
     for name in options:
         if name not in TAKES.get(format, ()):
-            raise TypeError("%s is no option of the format %s%s" % (name, format, ": it has " + ", ".join(TAKES[format]) if format in TAKES else ""))
+            raise TypeError("%s is no option of the format %s%s" %
+                            (name, format, ": it has " + ", ".join(TAKES[format]) if format in TAKES else ""))
     return FORMATS[format](strike, **options)
 
 
@@ -92,8 +96,8 @@ def by_ending(path: str) -> str:
 
 
 def write(path: str, data: bytes) -> None:
-    """Writes a file in one step: a reader sees the old one or the new one, which has its mode. What is no file, as a device or a pipe, is
-    written to; a file that may not be written stays."""
+    """Writes a file in one step: a reader sees the old one or the new one, which has its mode. What is no file, as a device or a
+    pipe, is written to; a file that may not be written stays."""
     if os.path.exists(path) and not os.path.isfile(path):
         with open(path, "wb") as stream:
             stream.write(data)

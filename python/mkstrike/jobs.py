@@ -74,7 +74,8 @@ class Job:
         self.is_joined = len(given.groups) > 1
         paths = [it["font"] for it in given.groups[1:]] if self.is_joined else given.fonts
         if self.is_joined and given.fonts or not paths:
-            raise ValueError("fonts of one strike come after --font each: %s is not" % shown(given.fonts[0]) if paths else "give a FONT")
+            raise ValueError("fonts of one strike come after --font each: %s is not" % shown(given.fonts[0]) if paths
+                             else "give a FONT")
         self.refuse_mistaken(paths)
         asked = [Asked(path, {key: it for key, it in own.items() if key != "font"}, common)
                  for path, own in zip(paths, given.groups[1:] or [{}] * len(paths))]
@@ -105,7 +106,8 @@ class Job:
             if not is_there and re.fullmatch(r"[0-9]+x[0-9]+", path):
                 raise ValueError("there is no font %s; a cell is --cell %s or --fit %s" % (path, path, path))
             if not is_there and path in ("make", "show", "help"):
-                raise ValueError("strike has no commands, as '%s': strike FONT makes strikes, and mkstrike %s is another program" % (path, path))
+                raise ValueError("strike has no commands, as '%s': strike FONT makes strikes, and mkstrike %s is another program" %
+                                 (path, path))
             if any("text" in it for it in self.options.groups) and path != "-" and _is_text(path):
                 raise ValueError("%s is a text, and is taken for a font: give each text after its own --text" % shown(path))
 
@@ -114,7 +116,8 @@ class Job:
         o = self.options
         if o.preview is not None and o.output is None:
             return [table.TERMINAL]
-        found: list[str] = o.format.split(",") if o.format else [formats.by_ending(o.output) if o.output and o.output != "-" else "bdf"]
+        found: list[str] = o.format.split(",") if o.format else [formats.by_ending(o.output) if o.output and o.output != "-"
+                                                                 else "bdf"]
         for name in found:
             if name not in formats.FORMATS:
                 raise ValueError("--format %s: there are %s" % (shown(name), ", ".join(formats.FORMATS)))
@@ -137,7 +140,8 @@ class Job:
         if o.name is not None:
             bdf.check_name(o.name)
         if o.output and not (self.is_of_one or "%s" in o.output and len(self.groups) == 1 and len(self.outputs) == 1):
-            raise ValueError("-o FILE is one file: give one font, one format, and %s in its name for several sizes, or --out FOLDER for many; "
+            raise ValueError(
+                "-o FILE is one file: give one font, one format, and %s in its name for several sizes, or --out FOLDER for many; "
                              "fonts of one strike come after --font each")
         if len({it.path for it in asked} if o.name is None else {self.groups[0][0].path}) < len(self.groups):
             raise ValueError("files of different fonts would have one name: give them one by one, or --font each for one strike")
@@ -151,8 +155,9 @@ class Job:
     def output(self) -> str | None:
         """The one file to write, if there is one: standard output, if it is an empty file and one strike is asked for."""
         given: str | None = self.options.output
-        is_redirected = given is None and self.options.out is None and self.options.preview is None and self.is_of_one and _is_empty_file(sys.stdout)
-        return "-" if is_redirected else given
+        if given is None and self.options.out is None and self.preview is None and self.is_of_one and _is_empty_file(sys.stdout):
+            return "-"
+        return given
 
     @property
     def is_written(self) -> bool:
@@ -166,12 +171,13 @@ class Job:
         count = max(1, *(len(it.sizes) for it in group))
         for it in group:
             if it.sizes and len(it.sizes) not in (1, count):
-                raise ValueError("%s has %d sizes, and another font of the strike %d: give one, or as many" % (shown(it.path), len(it.sizes), count))
+                raise ValueError("%s has %d sizes, and another font of the strike %d: give one, or as many" %
+                                 (shown(it.path), len(it.sizes), count))
         return [tuple(it.sizes * (count if len(it.sizes) == 1 else 1) or [16] * count) for it in group]
 
     def wanted(self, group: list[Asked], fonts: list[Font | Strike]) -> tuple[str, str]:
-        """The characters for all fonts of a strike: latin-1 if a font needs them and none are given. Those that stand for others in a preview
-        are among them."""
+        """The characters for all fonts of a strike: latin-1 if a font needs them and none are given. Those that stand for others in
+        a preview are among them."""
         chars, text = self.chars, self.text
         if not (chars or text) and not (group[0].is_bdf or group[0].chars or group[0].text):
             chars = "latin-1"
@@ -186,7 +192,11 @@ class Job:
         if self.fit:
             parts = [asked.part(font, LOOK) for asked, font in zip(group, fonts)]
             sizes = [fitting(parts, *self.fit, chars, text, o.ascent, o.clip)] * len(fonts)
-        strike, told = self.joined(group, fonts, sizes, chars, text) if self.is_joined else (self.alone(group[0], fonts[0], sizes[0], chars, text), [])
+        told: list[Told] = []
+        if self.is_joined:
+            strike, told = self.joined(group, fonts, sizes, chars, text)
+        else:
+            strike = self.alone(group[0], fonts[0], sizes[0], chars, text)
         self.refuse(strike)
         if self.fit or self.cell:
             strike = strike.cell(*(self.fit or self.cell or ()), ascent=o.ascent, clip=o.clip, join=bool(o.join or self.fit))
@@ -194,10 +204,12 @@ class Job:
             strike = strike.with_properties(self.properties, x11=o.x11)
         return strike, told
 
-    def joined(self, group: list[Asked], fonts: list[Font | Strike], sizes: list[int], chars: str, text: str) -> tuple[Strike, list[Told]]:
+    def joined(self, group: list[Asked], fonts: list[Font | Strike], sizes: list[int], chars: str,
+               text: str) -> tuple[Strike, list[Told]]:
         """The strike of fonts that are joined."""
         name, first = self.options.name, fonts[0]
-        strike, told = joined([asked.part(font, size) for asked, font, size in zip(group, fonts, sizes)], chars, text, name or group[0].name(first))
+        parts = [asked.part(font, size) for asked, font, size in zip(group, fonts, sizes)]
+        strike, told = joined(parts, chars, text, name or group[0].name(first))
         strike.names = first.names if name is None else None
         return strike, told
 
@@ -215,7 +227,8 @@ class Job:
         return strike
 
     def drawn(self, strike: Strike) -> str:
-        """The text of a preview as a strike can draw it: another character stands for one that is not there, if the strike has that."""
+        """The text of a preview as a strike can draw it: another character stands for one that is not there, if the strike has
+        that."""
         stand_in = next((it for it in PLACEHOLDERS if it in strike), "")
         return "".join(it if it in strike or it in "\r\n" else stand_in for it in self.preview or "")
 
@@ -246,7 +259,9 @@ def _has(font: Font | Strike, char: str) -> bool:
 
 def _text_of(path: str) -> str:
     if path != "-" and not os.path.exists(path):
-        raise ValueError("--text takes a file, and there is no '%s'; a text itself comes by a pipe: printf '%%s' '%s' | strike --text - .." % (path, path))
+        raise ValueError(
+            "--text takes a file, and there is no '%s'; a text itself comes by a pipe: printf '%%s' '%s' | strike --text - .." %
+            (path, path))
     data = sources.read(sys.stdin.buffer)[0] if path == "-" else sources.read_file(path)
     try:
         return data.decode("utf-8")
@@ -278,8 +293,10 @@ def _sizes(text: str) -> list[int]:
     found: list[int] = []
     for item in text.split(","):
         bounds = item.split("-")
-        if len(bounds) > 2 or not all(it.isascii() and it.isdigit() for it in bounds) or int(bounds[-1]) - int(bounds[0]) not in range(1024):
-            raise ValueError("--size takes pixels per em, as 16 or 12,14 or 8-16, not '%s'; pixels are points times the resolution, divided by 72" % item)
+        if len(bounds) > 2 or not all(it.isascii() and it.isdigit()
+                                      for it in bounds) or int(bounds[-1]) - int(bounds[0]) not in range(1024):
+            raise ValueError("--size takes pixels per em, as 16 or 12,14 or 8-16, not '%s'; pixels are points times the "
+                             "resolution, divided by 72" % item)
         found += range(int(bounds[0]), int(bounds[-1]) + 1)
     return list(dict.fromkeys(found))
 

@@ -38,10 +38,11 @@ class Strike(Glyphs):
 
     def __init__(self, text: bytes | bdf.Text, *, size: int | None = None, count: int | None = None, missing: tuple[str, ...] = (),
                  refused: Mapping[str, Refused] | None = None, unhinted: Mapping[str, Refused] | None = None,
-                 outside: Mapping[str, Outside] | None = None, names: Names | None = None, notes: tuple[str, ...] = (), strays: int = 0,
+                 outside: Mapping[str, Outside] | None = None, names: Names | None = None, notes: tuple[str, ...] = (),
+                 strays: int = 0,
                  steps: int = 0, is_own: bool = False, given: Mapping[str, bdf.Value] | None = None) -> None:
-        """A strike of its text, with what is known of it: its size and how many glyphs it has are read if they are not. `is_own` says that
-        this package or the program wrote the text (see `bdf.parse`), `given` which properties its user gave."""
+        """A strike of its text, with what is known of it: its size and how many glyphs it has are read if they are not. `is_own`
+        says that this package or the program wrote the text (see `bdf.parse`), `given` which properties its user gave."""
         self._text = text if isinstance(text, bytes) else None
         self._parsed = None if isinstance(text, bytes) else text
         self._is_own, self._size, self._count = is_own, size, count
@@ -112,7 +113,8 @@ class Strike(Glyphs):
             if entry is None or code is None:
                 raise Missing(str(char) if code is None else chr(code))
             pixels = glyphs.unpacked(entry.rows, entry.width, entry.height)
-            self._made[code] = glyphs.Glyph(chr(code), entry.width, entry.height, entry.left, entry.bottom, entry.dwidth, entry.swidth, pixels)
+            self._made[code] = glyphs.Glyph(chr(code), entry.width, entry.height, entry.left, entry.bottom, entry.dwidth,
+                                            entry.swidth, pixels)
         return self._made[code]
 
     def _has(self, code: int) -> bool:
@@ -173,7 +175,8 @@ class Strike(Glyphs):
         kept = {new: bdf.renumbered(has[old], new) for new, old in given.items() if old in has}
         return self._with(self.parsed().with_entries(kept), missing=tuple(
             chr(new) for new, old in given.items() if old not in has and chr(old) not in self.refused), **{
-                which: {chr(new): found[chr(old)] for new, old in given.items() if chr(old) in found} for which, found in self._told()})
+                which: {chr(new): found[chr(old)] for new, old in given.items() if chr(old) in found} for which,
+                found in self._told()})
 
     def _told(self) -> list[tuple[str, dict[str, Any]]]:
         """What is told of characters, each with its name."""
@@ -191,22 +194,23 @@ class Strike(Glyphs):
             if not isinstance(it, glyphs.Glyph):
                 raise TypeError("the glyph of %r is a Glyph, not %s" % (char, type(it).__name__))
             more[code] = bdf.entry_of(code, it, text.size)
-        return self._with(text.with_entries({**text.entries, **more}), missing=tuple(it for it in self.missing if ord(it) not in more), **{
+        return self._with(text.with_entries({**text.entries, **more}),
+                          missing=tuple(it for it in self.missing if ord(it) not in more), **{
             which: {char: it for char, it in found.items() if ord(char) not in more} for which, found in self._told()})
 
     def cell(self, width: int, height: int, *, ascent: int | None = None, clip: bool = False, join: bool = False) -> Strike:
         """The same glyphs in a cell: each has the advance `width`, and ascent and descent together are `height`.
 
-        `ascent` says how many rows of the cell are above the baseline; without it the rows that are too many or too few are shared by
-        above and below. Glyphs keep their place from the origin. `outside` names those that leave the cell; with `clip` they lose the
-        pixels there. With `join` the lines of box drawing reach the edges of the cell, and block elements and shades fill their parts of it
-        (U+2500 to U+259F), so that neighbours join."""
+        `ascent` says how many rows of the cell are above the baseline; without it the rows that are too many or too few are shared
+        by above and below. Glyphs keep their place from the origin. `outside` names those that leave the cell; with `clip` they
+        lose the pixels there. With `join` the lines of box drawing reach the edges of the cell, and block elements and shades fill
+        their parts of it (U+2500 to U+259F), so that neighbours join."""
         from . import cell
         return cell.in_cell(self, width, height, ascent, clip, join)
 
     def with_properties(self, properties: Mapping[str, bdf.Value] | None = None, *, x11: bool = False) -> Strike:
-        """The strike with more properties; with `x11` those that X11, fontconfig and bdf2psf look for, which given ones replace. A strike
-        without a name of its own then gets the long name of X11."""
+        """The strike with more properties; with `x11` those that X11, fontconfig and bdf2psf look for, which given ones replace. A
+        strike without a name of its own then gets the long name of X11."""
         bdf.check(properties or {})
         given = {**self._given, **(properties or {})}
         text = self.parsed()
@@ -214,7 +218,8 @@ class Strike(Glyphs):
             text = bdf.Text(bdf.x11_name(text, self.names), text.size, text.ascent, text.descent, text.properties, text.entries)
         more = {name: value for name, value in (bdf.x11(text) if x11 else {}).items() if name not in given}
         kept = {name: value for name, value in text.properties.items() if name not in more and name not in given}
-        return self._with(bdf.Text(text.name, text.size, text.ascent, text.descent, {**kept, **more, **given}, text.entries), given=given)
+        return self._with(bdf.Text(text.name, text.size, text.ascent, text.descent, {**kept, **more, **given}, text.entries),
+                          given=given)
 
     def named(self, name: str) -> Strike:
         """The strike with a name of its own."""
@@ -235,7 +240,8 @@ def tell_of_unnamed(names: Sequence[str]) -> None:
     """Warns of the glyphs that a step leaves out, since they are no character's: those of another program's text."""
     if names:
         more = " and %d more" % (len(names) - SHOWN) if len(names) > SHOWN else ""
-        warnings.warn("left out, since ENCODING gives no character: %s%s" % (", ".join(map(shown, names[:SHOWN])), more), stacklevel=4)
+        warnings.warn("left out, since ENCODING gives no character: %s%s" % (", ".join(map(shown, names[:SHOWN])), more),
+                      stacklevel=4)
 
 
 if TYPE_CHECKING:

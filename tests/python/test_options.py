@@ -15,11 +15,15 @@ OUTPUTS = {**{it: ["-o", "out", "--format", it] for it in options.FILES}, option
 CELLS = ["--cell", "8x14"]  # in which some glyphs leave the cell, and raw cells can be made
 # From each option to its words, which change the output beside those words that come with it.
 WORDS = {
-    "chars": ["--chars", "61-63"], "all": ["--all"], "text": ["--text", "text.txt"], "symbol": ["--symbol"], "size": ["--size", "13"], "fit": ["--fit", "9x19"],
+    "chars": ["--chars", "61-63"], "all": ["--all"], "text": ["--text", "text.txt"], "symbol": ["--symbol"],
+    "size": ["--size", "13"], "fit": ["--fit", "9x19"],
     "cell": ["--cell", "7x12"], "ascent": ["--ascent", "11"], "clip": ["--clip"], "join": ["--join"], "shift_y": ["--shift-y", "2"],
-    "unhinted": ["--unhinted"], "dropout": ["--dropout=off"], "face": ["--face", "1"], "axes": ["--axes", "wght=700"], "refused": ["--refused", "unhinted"],
-    "out": ["--out", "folder"], "format": ["--format", "pbm"], "order": ["--order", "koi8-r"], "preview": ["--preview", "B2"], "name": ["--name", "other"],
-    "x11": ["--x11"], "property": ["--property", "FAMILY_NAME=Other"], "scale": ["--scale", "3"], "columns": ["--columns", "5"], "output": ["-o", "other"],
+    "unhinted": ["--unhinted"], "dropout": ["--dropout=off"], "face": ["--face", "1"], "axes": ["--axes", "wght=700"],
+    "refused": ["--refused", "unhinted"],
+    "out": ["--out", "folder"], "format": ["--format", "pbm"], "order": ["--order", "koi8-r"], "preview": ["--preview", "B2"],
+    "name": ["--name", "other"],
+    "x11": ["--x11"], "property": ["--property", "FAMILY_NAME=Other"], "scale": ["--scale", "3"], "columns": ["--columns", "5"],
+    "output": ["-o", "other"],
     "require": ["--require"], "strict": ["--strict"], "quiet": ["--quiet"], "font": ["--font", "in.bdf"],
 }
 # Options that are in effect already, for these outputs: these formats always have the properties, and a sheet shows no cells.
@@ -63,7 +67,8 @@ def test_pairs(folder, kind, output):
     ignored = []
     asked = [] if "--preview" in OUTPUTS[output] else ["--chars", LETTERS]
     for name, words in WORDS.items():
-        common = asked if name not in ("chars", "all", "text", "fit") else ["--chars", LETTERS] if output not in (options.TERMINAL, options.PICTURE) else []
+        common = asked if name not in ("chars", "all", "text", "fit") else ["--chars", LETTERS] if output not in (options.TERMINAL,
+                                                                                                                  options.PICTURE) else []
         cells = [] if output not in ("raw", "psf") or name in ("cell", "fit") else CELLS if name == "clip" else [*CELLS, "--clip"]
         before = [*common, *OUTPUTS[output], *(cells or NEEDED.get(name, []))]
         if name in ("out", "name"):
@@ -85,20 +90,27 @@ def test_what_a_bdf_cannot_have(folder, option):
     """Options for fonts are errors with a BDF, before anything is made; in one strike with a font they are for the font."""
     words = WORDS[option.dest]
     status, _, err, files = made(folder, [*words, "in.bdf"])
-    assert (status, files) == (2, {}) and "says how a font is drawn, and in.bdf is a strike that is drawn already: leave it out" in err
+    assert (status, files) == (2,
+                               {}) and "says how a font is drawn, and in.bdf is a strike that is drawn already: leave it out" in err
     if option.is_of_font:
         status, _, err, files = made(folder, ["--chars", "41", "--font", "in.ttf", "--font", "in.bdf", *words, "-o", "a.bdf"])
         assert (status, files) == (2, {}) and "in.bdf is a strike" in err
 
 
 @pytest.mark.parametrize("words, said", [
-    (["--columns", "3"], "--columns is for --format png,pbm, not for bdf"), (["--scale", "2"], "--scale is for --format png,pbm and --preview with -o, not for bdf; twice"),
-    (["--order", "cp437"], "--order is for --format raw, not for bdf"), (["--x11", "--format", "c"], "--x11 is for --format bdf,pcf,otb,psf, not for c"),
-    (["--property", "A=1", "--format", "png"], "--property is for --format bdf,pcf,otb, not for png"), (["--clip"], "--clip is for --cell and --fit"),
-    (["--preview", "A", "--chars", "41"], "--chars is for files, not for --preview on the terminal"), (["--preview", "A", "--name", "x"], "--name is for files"),
-    (["--preview", "A", "--out", "x"], "--out is for files"), (["--preview", "A", "--format", "png"], "--format is for files and --preview with -o"),
+    (["--columns", "3"], "--columns is for --format png,pbm, not for bdf"),
+    (["--scale", "2"], "--scale is for --format png,pbm and --preview with -o, not for bdf; twice"),
+    (["--order", "cp437"], "--order is for --format raw, not for bdf"),
+    (["--x11", "--format", "c"], "--x11 is for --format bdf,pcf,otb,psf, not for c"),
+    (["--property", "A=1", "--format", "png"], "--property is for --format bdf,pcf,otb, not for png"),
+    (["--clip"], "--clip is for --cell and --fit"),
+    (["--preview", "A", "--chars", "41"], "--chars is for files, not for --preview on the terminal"),
+    (["--preview", "A", "--name", "x"], "--name is for files"),
+    (["--preview", "A", "--out", "x"], "--out is for files"),
+    (["--preview", "A", "--format", "png"], "--format is for files and --preview with -o"),
     (["--size", "12", "--size", "14"], "--size is given twice"), (["--cell", "8x16", "--cell", "9x16"], "--cell is given twice"),
-    (["--axes", "wght=400,wght=700"], "--axes gives wght twice"), (["--property", "A=1", "--property", "A=2"], "--property gives A twice")])
+    (["--axes", "wght=400,wght=700"], "--axes gives wght twice"),
+    (["--property", "A=1", "--property", "A=2"], "--property gives A twice")])
 def test_what_is_said(folder, words, said):
     """The errors name what the option is for."""
     status, _, err, files = made(folder, ["in.ttf", *words])
@@ -107,7 +119,11 @@ def test_what_is_said(folder, words, said):
 
 def test_chosen_of_a_bdf(folder):
     """--chars, --text, --name and --property choose from a BDF, and rename it."""
-    status, _, err, files = made(folder, ["in.bdf", "--chars", "41-43,4e01", "--text", "text.txt", "--name", "some", "--property", "FOUNDRY=me", "-o", "a.bdf"])
+    status, _, err, files = made(folder,
+                                 ["in.bdf", "--chars", "41-43,4e01", "--text", "text.txt", "--name", "some", "--property",
+                                  "FOUNDRY=me", "-o", "a.bdf"])
     strike = mkstrike.Strike(files["a.bdf"])
-    assert status == 0 and list(strike) == ["A", "B", "C", "x", "y", "z"] and (strike.name, strike.properties["FOUNDRY"]) == ("some", "me") and "1 missing: U+4E01" in err
+    assert status == 0 and list(strike) == ["A", "B", "C", "x", "y", "z"] and (strike.name,
+                                                                               strike.properties["FOUNDRY"]) == ("some",
+                                                                                                                 "me") and "1 missing: U+4E01" in err
     assert strike["B"] == mkstrike.Font(MONO).glyph(16, "B")
