@@ -67,8 +67,8 @@ def test_pairs(folder, kind, output):
     ignored = []
     asked = [] if "--preview" in OUTPUTS[output] else ["--chars", LETTERS]
     for name, words in WORDS.items():
-        common = asked if name not in ("chars", "all", "text", "fit") else ["--chars", LETTERS] if output not in (options.TERMINAL,
-                                                                                                                  options.PICTURE) else []
+        common = asked if name not in ("chars", "all", "text",
+                                       "fit") else ["--chars", LETTERS] if output not in (options.TERMINAL, options.PICTURE) else []
         cells = [] if output not in ("raw", "psf") or name in ("cell", "fit") else CELLS if name == "clip" else [*CELLS, "--clip"]
         before = [*common, *OUTPUTS[output], *(cells or NEEDED.get(name, []))]
         if name in ("out", "name"):
@@ -90,8 +90,8 @@ def test_what_a_bdf_cannot_have(folder, option):
     """Options for fonts are errors with a BDF, before anything is made; in one strike with a font they are for the font."""
     words = WORDS[option.dest]
     status, _, err, files = made(folder, [*words, "in.bdf"])
-    assert (status, files) == (2,
-                               {}) and "says how a font is drawn, and in.bdf is a strike that is drawn already: leave it out" in err
+    assert (status, files) == (2, {})
+    assert "says how a font is drawn, and in.bdf is a strike that is drawn already: leave it out" in err
     if option.is_of_font:
         status, _, err, files = made(folder, ["--chars", "41", "--font", "in.ttf", "--font", "in.bdf", *words, "-o", "a.bdf"])
         assert (status, files) == (2, {}) and "in.bdf is a strike" in err
@@ -123,7 +123,6 @@ def test_chosen_of_a_bdf(folder):
                                  ["in.bdf", "--chars", "41-43,4e01", "--text", "text.txt", "--name", "some", "--property",
                                   "FOUNDRY=me", "-o", "a.bdf"])
     strike = mkstrike.Strike(files["a.bdf"])
-    assert status == 0 and list(strike) == ["A", "B", "C", "x", "y", "z"] and (strike.name,
-                                                                               strike.properties["FOUNDRY"]) == ("some",
-                                                                                                                 "me") and "1 missing: U+4E01" in err
+    assert status == 0 and list(strike) == ["A", "B", "C", "x", "y", "z"]
+    assert (strike.name, strike.properties["FOUNDRY"]) == ("some", "me") and "1 missing: U+4E01" in err
     assert strike["B"] == mkstrike.Font(MONO).glyph(16, "B")
