@@ -1,8 +1,7 @@
 """The C library: all that include/mkstrike.h declares and this package uses. A change of the header is a change of this file alone.
 
-The calls of C are declared in `_declared`. The functions below them take and return what Python has, and raise `Refused`. A call of C
-lets other threads of Python run meanwhile.
-"""
+The calls of C are declared in `_declared`. The functions below them take and return what Python has, and raise `Refused`. A call of
+C lets other threads of Python run meanwhile. """
 from __future__ import annotations
 
 import ctypes
@@ -24,8 +23,7 @@ if TYPE_CHECKING:
 FILE, SONAME = "libmkstrike.so", "libmkstrike.so.1"  # beside this module, and of the system
 ABI = 1  # the form of structs and calls that is declared here: MKSTRIKE_ABI
 DONE, MISSING = 0, 1  # what a call returns, beside the numbers of refusals
-BAD_PROPERTY = 63  # no call gives it: properties are added here
-HINTED, DROPOUT = 1, {False: 0, True: 2, "left": 2, "near": 4, "font": 8}  # the bits of a mode
+HINTED, DROPOUT = 1, {None: 0, False: 0, "off": 0, True: 2, "left": 2, "near": 4, "font": 8}  # the bits of a mode
 NONE = 0xFFFFFFFF  # in a refusal: no glyph, no program, no character
 PROGRAMS = {0x10000: "fpgm", 0x10001: "prep"}  # the programs that belong to no glyph
 MOST_SIZE, MOST_CODE, MOST_FACE, MOST_CHARS = 1024, 0x10FFFF, 0xFFFFFFFF, 0x10000
@@ -76,7 +74,8 @@ _declared = {
     "mkstrike_name": (c_uint32, FONT + [c_uint32, c_char_p, c_size_t, POINTER(c_size_t), POINTER(_Refused)]),
     "mkstrike_characters": (c_uint32, FONT + [c_void_p, c_size_t, POINTER(c_size_t), POINTER(_Refused)]),
     "mkstrike_glyph_ids": (c_uint32, FONT + [c_void_p, c_size_t, c_void_p, c_size_t, POINTER(_Refused)]),
-    "mkstrike_make": (c_uint32, FONT + [c_uint16, c_uint32, c_void_p, c_size_t, c_char_p, c_size_t, c_void_p, c_size_t, POINTER(Told),
+    "mkstrike_make": (c_uint32,
+                      FONT + [c_uint16, c_uint32, c_void_p, c_size_t, c_char_p, c_size_t, c_void_p, c_size_t, POINTER(Told),
                                         POINTER(_Refused)]),
     "mkstrike_prepare": (c_uint32, PREPARED + [POINTER(c_size_t), POINTER(_Refused)]),
     "mkstrike_glyph_prepared": (c_uint32, ONE),
@@ -124,7 +123,8 @@ def _face(face: int) -> int:
 
 def _codes(codes: Sequence[int]) -> array[int]:
     """Code points as the library takes them."""
-    return array("I", map(_code, codes))
+    are_in_range = not codes or 0 <= min(codes) and max(codes) <= MOST_CODE
+    return array("I", codes if are_in_range else map(_code, codes))
 
 
 def _code(code: int) -> int:
@@ -132,12 +132,12 @@ def _code(code: int) -> int:
     return code if 0 <= code <= MOST_CODE else NONE
 
 
-def mode_of(hinted: bool, dropout: bool | str) -> int:
+def mode_of(hinted: bool, dropout: bool | str | None) -> int:
     """The mode of the library."""
     try:
         return (HINTED if hinted else 0) | DROPOUT[dropout]
     except (KeyError, TypeError):
-        raise ValueError("dropout is False, True, 'left', 'near' or 'font', not %r" % (dropout,)) from None
+        raise ValueError("dropout is 'font', 'left', 'near' or None, not %r" % (dropout,)) from None
 
 
 # ---- refusals
@@ -187,7 +187,8 @@ def glyph_ids(font: bytes, face: int, codes: Sequence[int]) -> array[int]:
     for at in range(0, len(codes), MOST_CHARS):
         part = codes[at:at + MOST_CHARS]
         chars, numbers, refused = _codes(part), array("H", bytes(2 * len(part))), _Refused()
-        if _c().mkstrike_glyph_ids(font, len(font), _face(face), chars.buffer_info()[0], len(part), numbers.buffer_info()[0], len(part),
+        if _c().mkstrike_glyph_ids(font, len(font), _face(face), chars.buffer_info()[0], len(part), numbers.buffer_info()[0],
+                                   len(part),
                                    byref(refused)):
             raise _raised(refused, font)
         found += numbers
@@ -201,7 +202,8 @@ def make(font: bytes, face: int, size: int, mode: int, codes: Sequence[int], nam
     room = min(4096 + len(codes) * (120 + (size * 3 // 2) * (size // 3 + 4)), MOST_ROOM)
     while True:
         out = ctypes.create_string_buffer(room)
-        if _c().mkstrike_make(font, len(font), _face(face), _size(size), mode, chars.buffer_info()[0], len(codes), name, len(name), out,
+        if _c().mkstrike_make(font, len(font), _face(face), _size(size), mode, chars.buffer_info()[0], len(codes), name, len(name),
+                              out,
                               room, byref(told), byref(refused)):
             raise _raised(refused, font)
         if told.bytes <= room:
@@ -241,7 +243,8 @@ class Block:
         need, refused, room = c_size_t(0), _Refused(), WORDS
         while True:
             self._words = array("I", bytes(4 * room))
-            if _c().mkstrike_prepare(*self._given, HINTED * hinted, self._words.buffer_info()[0], room, byref(need), byref(refused)):
+            if _c().mkstrike_prepare(*self._given, HINTED * hinted, self._words.buffer_info()[0], room, byref(need),
+                                     byref(refused)):
                 raise _raised(refused, font)
             if need.value <= room:
                 break
@@ -271,8 +274,8 @@ class Block:
             room = size
 
     def glyphs(self, dropout: int, codes: Sequence[int], with_pixels: bool = True) -> Iterator[tuple[int, int, Made]]:
-        """The glyphs of the characters that the font has, each with its code point and its status. With `with_pixels` the bytes of their pixels
-        are there."""
+        """The glyphs of the characters that the font has, each with its code point and its status. With `with_pixels` the bytes of
+        their pixels are there."""
         some = max(MOST_ROOM // (2 * self.size * self.size), 1)
         for at in range(0, len(codes), min(some, MOST_CHARS)):
             part = codes[at:at + min(some, MOST_CHARS)]
@@ -288,7 +291,8 @@ class Block:
         placed = ctypes.create_string_buffer(struct.calcsize(PLACED) * len(codes))
         while True:
             pixels = ctypes.create_string_buffer(room)
-            if _c().mkstrike_glyphs_prepared(*self._before(dropout), chars.buffer_info()[0], len(codes), placed, len(codes), pixels, room,
+            if _c().mkstrike_glyphs_prepared(*self._before(dropout), chars.buffer_info()[0], len(codes), placed, len(codes),
+                                             pixels, room,
                                              byref(drawn), byref(refused)):
                 raise _raised(refused, self._given[0])
             if drawn.bytes <= room or not room:

@@ -17,9 +17,9 @@ if TYPE_CHECKING:
 ROWS = """\
 /* {count} glyphs of {font} at {size} pixels per em, as {name}: made by mkstrike.
  *
- * Glyph k is the character {name}_chars[k]; they rise. {name}_rows[k] are its rows from the top: {name}_HEIGHT rows of {name}_STRIDE
- * bytes, the leftmost pixel the highest bit. Draw the cell {name}_LEFT columns right of the pen, with {name}_ASCENT of its rows above
- * the baseline; then move the pen by {name}_advances[k]. */
+ * Glyph k is the character {name}_chars[k]; they rise. {name}_rows[k] are its rows from the top: {name}_HEIGHT rows of
+ * {name}_STRIDE bytes, the leftmost pixel the highest bit. Draw the cell {name}_LEFT columns right of the pen, with {name}_ASCENT of
+ * its rows above the baseline; then move the pen by {name}_advances[k]. */
 #ifndef {guard}
 #define {guard}
 
@@ -49,8 +49,8 @@ static const uint8_t {name}_rows[{name}_COUNT][{name}_HEIGHT * {name}_STRIDE] = 
 #endif
 """
 GFX = """\
-/* {count} glyphs of {font} at {size} pixels per em, as {name} for Adafruit GFX: made by mkstrike. Include it after Adafruit_GFX.h, and say
- * setFont(&{name}). */
+/* {count} glyphs of {font} at {size} pixels per em, as {name} for Adafruit GFX: made by mkstrike. Include it after Adafruit_GFX.h,
+ * and say setFont(&{name}). */
 #ifndef {guard}
 #define {guard}
 
@@ -109,7 +109,8 @@ RUN = 8  # characters one after the other that are worth a map of their own
 # The numbers of a glyph, with the least and the greatest of each, in both libraries.
 FIELDS_GFX = (("the bytes before it", 0, 65535), ("its width", 0, 255), ("its height", 0, 255), ("its advance", 0, 255),
               ("its left", -128, 127), ("its top", -128, 127))
-FIELDS_LVGL = (("the bytes before it", 0, (1 << 20) - 1), ("its advance in 1/16 pixels", 0, 4095), ("its width", 0, 255), ("its height", 0, 255),
+FIELDS_LVGL = (("the bytes before it", 0, (1 << 20) - 1), ("its advance in 1/16 pixels", 0, 4095), ("its width", 0, 255),
+               ("its height", 0, 255),
                ("its left", -128, 127), ("its bottom", -128, 127))
 
 
@@ -136,11 +137,14 @@ def rows(strike: Strike, name: str) -> str:
     if size > MOST:
         raise ValueError("an array of %d cells of %d x %d pixels takes %s bytes as text, more than %s" % (
             len(codes), width, height, format(size, ","), format(MOST, ",")))
-    lines = ["    {%s}, /* %s */" % (_hexadecimal(_in_cell(it, width, height, left, bottom)), _shown(it.char)) for it in strike.values()]
+    lines = ["    {%s}, /* %s */" % (_hexadecimal(_in_cell(it, width, height, left, bottom)), _shown(it.char))
+             for it in strike.values()]
     return ROWS.format(
-        name=name, guard=name.upper() + "_H", font=_comment(strike.name), size=strike.size, count=len(codes), width=width, height=height,
+        name=name, guard=name.upper() + "_H", font=_comment(strike.name), size=strike.size, count=len(codes), width=width,
+        height=height,
         stride=(width + 7) // 8, left=left, ascent=bottom + height, kind="uint16_t" if codes[-1] <= 0xFFFF else "uint32_t",
-        chars=_wrapped("0x%04X" % it for it in codes), advances=_wrapped(str(it.advance) for it in strike.values()), rows="\n".join(lines))
+        chars=_wrapped("0x%04X" % it for it in codes), advances=_wrapped(str(it.advance) for it in strike.values()),
+        rows="\n".join(lines))
 
 
 def gfx(strike: Strike, name: str) -> str:
@@ -165,7 +169,8 @@ def gfx(strike: Strike, name: str) -> str:
         warnings.warn("%d of the %d entries of %s are empty, since a GFXfont has all from the first character to the last" % (
             empty, empty + len(codes), name), stacklevel=4)
     return GFX.format(name=name, guard=name.upper() + "_GFX_H", font=_comment(strike.name), size=strike.size, count=len(codes),
-                      bitmaps=_wrapped("0x%02X" % it for it in bitmaps or b"\0"), glyphs="\n".join(lines), first=codes[0], last=codes[-1],
+                      bitmaps=_wrapped("0x%02X" % it for it in bitmaps or b"\0"), glyphs="\n".join(lines), first=codes[0],
+                      last=codes[-1],
                       height=strike.height)
 
 
@@ -189,13 +194,17 @@ def lvgl(strike: Strike, name: str) -> str:
                                length=0 if is_run else len(part), kind="FORMAT0" if is_run else "SPARSE"))
         at += len(part)
     if len(maps) > MOST_MAPS or len(codes) >= SPAN:
-        raise ValueError("a font for LVGL has at most %d maps of characters and %d glyphs, not %d and %d" % (MOST_MAPS, SPAN - 1, len(maps), len(codes)))
-    return LVGL.format(name=name, font=_comment(strike.name), size=strike.size, count=len(codes), bitmaps=_wrapped("0x%02X" % it for it in bitmaps or b"\0"),
-                       glyphs="\n".join(lines), lists=lists, maps=",\n".join(maps), count_maps=len(maps), height=strike.height, descent=strike.descent)
+        raise ValueError("a font for LVGL has at most %d maps of characters and %d glyphs, not %d and %d" %
+                         (MOST_MAPS, SPAN - 1, len(maps), len(codes)))
+    return LVGL.format(name=name, font=_comment(strike.name), size=strike.size, count=len(codes),
+                       bitmaps=_wrapped("0x%02X" % it for it in bitmaps or b"\0"),
+                       glyphs="\n".join(lines), lists=lists, maps=",\n".join(maps), count_maps=len(maps), height=strike.height,
+                       descent=strike.descent)
 
 
 def _parts(codes: Sequence[int]) -> list[list[int]]:
-    """Code points in parts that a map can have: long runs, and single ones between them that are no further apart than 16 bits tell."""
+    """Code points in parts that a map can have: long runs, and single ones between them that are no further apart than 16 bits
+    tell."""
     runs: list[list[int]] = []
     for code in codes:
         if not runs or code != runs[-1][-1] + 1 or len(runs[-1]) == SPAN:
@@ -213,7 +222,8 @@ def _parts(codes: Sequence[int]) -> list[list[int]]:
 
 
 def raw(strike: Strike, order: str | None) -> bytes:
-    """The cells alone, each of whole bytes a row from the top: in the order of a character set of one byte, or of the characters."""
+    """The cells alone, each of whole bytes a row from the top: in the order of a character set of one byte, or of the
+    characters."""
     widths = {it.advance for it in strike.values()}
     if len(widths) != 1:
         raise ValueError("raw cells have one advance for all glyphs: make a cell first (cell, --cell)")
@@ -233,7 +243,8 @@ def _check(code: int, library: str, numbers: Sequence[int], fields: Sequence[tup
     """Raises an error if a number does not fit its field of a library's glyph."""
     for number, (what, least, most) in zip(numbers, fields):
         if not least <= number <= most:
-            raise ValueError("%s does not fit a font for %s: %s, %d, is not in %d to %d" % (code_name(code), library, what, number, least, most))
+            raise ValueError("%s does not fit a font for %s: %s, %d, is not in %d to %d" %
+                             (code_name(code), library, what, number, least, most))
 
 
 def _filled(codes: list[int]) -> None:

@@ -8,11 +8,13 @@ import os
 import stat
 from collections.abc import Mapping
 from functools import partial
-from typing import TYPE_CHECKING, Any, Callable
 
 from .refused import shown
 
+TYPE_CHECKING = False  # as in glyph.py
 if TYPE_CHECKING:
+    from typing import Any, Callable
+
     from PIL.Image import Image
 
     from .strike import Strike
@@ -51,11 +53,16 @@ def _by(program: str, strike: Strike) -> bytes:
 
 
 FORMATS: dict[str, Callable[..., bytes]] = {
-    "bdf": _bdf, **{it: partial(_sheet, it) for it in ("png", "pbm")}, "c": partial(_c, "rows"), **{it: partial(_c, it) for it in ("gfx", "lvgl")},
+    "bdf": _bdf, **{it: partial(_sheet, it) for it in ("png", "pbm")}, "c": partial(_c, "rows"),
+    **{it: partial(_c, it) for it in ("gfx", "lvgl")},
     "raw": _raw, **{it: partial(_by, it) for it in ("psf", "pcf", "otb")}}
-OF_ENDING = {".bdf": "bdf", ".png": "png", ".pbm": "pbm", ".h": "c", ".c": "c", ".raw": "raw", ".psf": "psf", ".psfu": "psf", ".pcf": "pcf", ".otb": "otb"}
-ENDING = {**{name: "." + name for name in FORMATS}, "c": ".h", "gfx": "-gfx.h", "lvgl": ".c"}  # of the files that the command writes
+OF_ENDING = {".bdf": "bdf", ".png": "png", ".pbm": "pbm", ".h": "c", ".c": "c", ".raw": "raw", ".psf": "psf", ".psfu": "psf",
+             ".pcf": "pcf", ".otb": "otb"}
+# Of the files that the command writes.
+ENDING = {**{name: "." + name for name in FORMATS}, "c": ".h", "gfx": "-gfx.h", "lvgl": ".c"}
 IN_C, PICTURES = ("c", "gfx", "lvgl"), ("png", "pbm")
+TAKES: dict[str, tuple[str, ...]] = {  # options
+    **{name: ("columns", "scale") for name in PICTURES}, **{name: ("name",) for name in IN_C}, "raw": ("order",)}
 
 
 def encode(strike: Strike, format: str, options: Mapping[str, Any]) -> bytes:
@@ -65,6 +72,10 @@ def encode(strike: Strike, format: str, options: Mapping[str, Any]) -> bytes:
     if format in (*PICTURES, *IN_C, "raw"):
         from .strike import tell_of_unnamed
         tell_of_unnamed(strike.parsed().unnamed)
+    for name in options:
+        if name not in TAKES.get(format, ()):
+            raise TypeError("%s is no option of the format %s%s" %
+                            (name, format, ": it has " + ", ".join(TAKES[format]) if format in TAKES else ""))
     return FORMATS[format](strike, **options)
 
 
@@ -85,13 +96,15 @@ def by_ending(path: str) -> str:
 
 
 def write(path: str, data: bytes) -> None:
-    """Writes a file in one step: a reader sees the old one or the new one, which has its mode. What is no file, as a device or a pipe, is
-    written to; a file that may not be written stays."""
+    """Writes a file in one step: a reader sees the old one or the new one, which has its mode. What is no file, as a device or a
+    pipe, is written to; a file that may not be written stays."""
     if os.path.exists(path) and not os.path.isfile(path):
         with open(path, "wb") as stream:
             stream.write(data)
         return
     path = os.path.realpath(path)  # a link stays one
+    if not os.path.isdir(os.path.dirname(path)):
+        raise FileNotFoundError(errno.ENOENT, "there is no folder", os.path.dirname(path))
     is_there = os.path.exists(path)
     if is_there and not os.access(path, os.W_OK):
         raise PermissionError(errno.EACCES, os.strerror(errno.EACCES), path)

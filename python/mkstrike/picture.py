@@ -4,6 +4,7 @@ from __future__ import annotations
 from collections.abc import Iterable
 from typing import TYPE_CHECKING
 
+from ._library import whole
 from .refused import NotInstalled
 
 if TYPE_CHECKING:
@@ -23,13 +24,16 @@ def of_glyph(glyph: Glyph, scale: int) -> Image:
 
 def sheet(strike: Strike, columns: int, scale: int) -> Image:
     """All glyphs in rising order, in cells with a margin around them."""
+    columns, scale = whole(columns, "columns"), whole(scale, "scale")
+    if min(columns, scale) < 1:
+        raise ValueError("columns and scale are 1 or more, not %d and %d" % (columns, scale))
     width, height, placed = cells(strike, max(1, min(columns, len(strike))))
     return drawn(max(width, 0), max(height, 0), placed, scale, MARGIN)
 
 
 def cells(strike: Strike, columns: int) -> tuple[int, int, list[tuple[int, int, Glyph]]]:
-    """The width and the height of all glyphs in cells of the strike's box, with a pixel between cells; and the glyphs, each with the column and
-    the row of its upper left pixel."""
+    """The width and the height of all glyphs in cells of the strike's box, with a pixel between cells; and the glyphs, each with
+    the column and the row of its upper left pixel."""
     width, height, left, bottom = strike.box
     placed = [(k % columns * (width + 1) + glyph.left - left, k // columns * (height + 1) + bottom + height - glyph.top, glyph)
               for k, glyph in enumerate(strike.values())]

@@ -1,4 +1,6 @@
 """What the tests share: the program to compare with, fonts, and the repository's own makers of fonts."""
+import contextlib
+import io
 import os
 import re
 import subprocess
@@ -6,7 +8,7 @@ import sys
 
 import pytest
 
-from mkstrike import _library
+from mkstrike import _library, command
 
 TOP = os.environ.get("MKSTRIKE_TOP") or os.path.dirname(os.path.dirname(os.path.dirname(os.path.realpath(__file__))))
 PROGRAM = os.environ.get("MKSTRIKE_PROGRAM") or os.path.join(TOP, "dist/mkstrike")
@@ -42,14 +44,16 @@ def program(words, font):
     return ran.returncode, ran.stdout, ran.stderr.decode().split("\n")[0]
 
 
-def flags(hinted, dropout):
-    """The flags of the program for a mode."""
-    return ([] if hinted else ["--unhinted"]) + (["--dropout=" + dropout] if dropout in ("near", "font") else ["--dropout"] if dropout else [])
+def flags(hinted=True, dropout="font"):
+    """The flags of the program for a mode; the defaults are those of the package."""
+    kinds = {None: [], False: [], "off": [], True: ["--dropout"], "left": ["--dropout"], "near": ["--dropout=near"],
+             "font": ["--dropout=font"]}
+    return ([] if hinted else ["--unhinted"]) + kinds[dropout]
 
 
-def text_of(words, font):
-    """The strike that the program makes."""
-    status, out, said = program(["make", *words], font)
+def text_of(words, font, dropout="font"):
+    """The strike that the program makes, with the drop-out control that is the package's default."""
+    status, out, said = program(["make", *words, *flags(dropout=dropout)], font)
     assert status == 0, said
     return out
 
@@ -65,7 +69,8 @@ def words_of(run):
     words = run.words.split() if isinstance(run.words, str) else list(run.words)
     found = re.fullmatch(r"make --ppem (\d+) --chars ([0-9a-f,-]+)((?: --unhinted| --dropout(?:=near|=font)?)*)", " ".join(words))
     named = [name for name in ("near", "font") if "--dropout=" + name in words]
-    return found and (int(found.group(1)), found.group(2), "--unhinted" not in words, named[0] if named else "--dropout" in words)
+    return found and (int(found.group(1)), found.group(2), "--unhinted" not in words, named[0] if named else "left"
+                      if "--dropout" in words else None)
 
 
 class Counted:
@@ -85,6 +90,26 @@ def strike_by_command(folder, *words, status=0, data=b""):
     ran = subprocess.run([sys.executable, "-m", "mkstrike", *map(str, words)], cwd=folder, input=data, capture_output=True, timeout=600)
     assert ran.returncode == status, ran.stderr.decode()
     return ran.stdout.decode(), ran.stderr.decode()
+
+
+def run_in_process(words, folder, data=b""):
+    """Runs the command in a folder, in this process. Returns the status, and what it prints on both outputs."""
+    outputs = [io.TextIOWrapper(io.BytesIO(), encoding="utf-8") for _ in range(2)]
+    before = os.getcwd(), sys.stdin
+    os.chdir(folder)
+    sys.stdin = io.TextIOWrapper(io.BytesIO(data))
+    try:
+        with contextlib.redirect_stdout(outputs[0]), contextlib.redirect_stderr(outputs[1]):
+            try:
+                status = command.main([str(it) for it in words])
+            except SystemExit as end:
+                status = end.code
+    finally:
+        os.chdir(before[0])
+        sys.stdin = before[1]
+    for it in outputs:
+        it.flush()
+    return status, outputs[0].buffer.getvalue(), outputs[1].buffer.getvalue().decode()
 
 
 def pixels(glyph):
