@@ -33,15 +33,15 @@ def picture(image: Image, form: str) -> bytes:
     return out.getvalue()
 
 
-def _c(form: str, strike: Strike, name: str = "strike") -> bytes:
+def _c(form: str, strike: Strike, name: str = "strike", **options: Any) -> bytes:
     from . import carray
-    text: str = getattr(carray, form)(strike, carray.identifier(name))
+    text: str = getattr(carray, form)(strike, carray.identifier(name), **options)
     return text.encode()
 
 
-def _raw(strike: Strike, order: str | None = None) -> bytes:
+def _raw(strike: Strike, order: str | None = None, **layout: str) -> bytes:
     from . import carray
-    return carray.raw(strike, order)
+    return carray.raw(strike, order, **layout)
 
 
 def _by(program: str, strike: Strike) -> bytes:
