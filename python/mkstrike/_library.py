@@ -25,7 +25,7 @@ FILE, SONAME = "libmkstrike.so", "libmkstrike.so.1"  # beside this module, and o
 ABI = 1  # the form of structs and calls that is declared here: MKSTRIKE_ABI
 DONE, MISSING = 0, 1  # what a call returns, beside the numbers of refusals
 BAD_PROPERTY = 63  # no call gives it: properties are added here
-HINTED, DROPOUT = 1, {False: 0, True: 2, "left": 2, "near": 4, "font": 8}  # the bits of a mode
+HINTED, DROPOUT = 1, {None: 0, False: 0, "off": 0, True: 2, "left": 2, "near": 4, "font": 8}  # the bits of a mode
 NONE = 0xFFFFFFFF  # in a refusal: no glyph, no program, no character
 PROGRAMS = {0x10000: "fpgm", 0x10001: "prep"}  # the programs that belong to no glyph
 MOST_SIZE, MOST_CODE, MOST_FACE, MOST_CHARS = 1024, 0x10FFFF, 0xFFFFFFFF, 0x10000
@@ -132,12 +132,12 @@ def _code(code: int) -> int:
     return code if 0 <= code <= MOST_CODE else NONE
 
 
-def mode_of(hinted: bool, dropout: bool | str) -> int:
+def mode_of(hinted: bool, dropout: bool | str | None) -> int:
     """The mode of the library."""
     try:
         return (HINTED if hinted else 0) | DROPOUT[dropout]
     except (KeyError, TypeError):
-        raise ValueError("dropout is False, True, 'left', 'near' or 'font', not %r" % (dropout,)) from None
+        raise ValueError("dropout is 'font', 'left', 'near' or None, not %r" % (dropout,)) from None
 
 
 # ---- refusals

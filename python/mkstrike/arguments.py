@@ -17,8 +17,8 @@ FONTS = "TrueType fonts, collections, WOFF, WOFF2, by file or by name (\"DejaVu 
 CHARS = """\
 a list that commas join: sets by name (all, %s; cp1252, iso8859-2 and such), hexadecimal numbers and ranges (20-7e, U+20AC; the letter A is
 41), lists of bdf2psf by name or path (Lat15, ./my.set), strikes (other.bdf); latin-1 if no option says which"""
-DROPOUT = "keep thin strokes whole, by left pixels (left, the default), by nearer ones (near), or as the font asks (font)"
-KINDS = ("left", "near", "font")  # of drop-out control
+DROPOUT = "how thin strokes stay whole: as the font asks (font, the default), by left pixels (left), by nearer ones (near), or not (off)"
+KINDS = ("font", "left", "near", "off")  # of drop-out control
 # What leads on from options that there are not.
 WISHES = {
     **{"--" + it: "--format %s makes that" % it for it in formats.FORMATS},
@@ -70,7 +70,7 @@ def parser() -> argparse.ArgumentParser:
     add("--preview", metavar="TEXT", help="print a text on the terminal, or write a picture of it with -o FILE.png, and no strike")
     add("--name", help="the name in the files, and of the files, if it can be one; else that of the font's file")
     add("--unhinted", action="store_true", help="do not run the font's own programs")
-    add("--dropout", default=False, choices=KINDS, metavar="[left|near|font]", help=DROPOUT)
+    add("--dropout", default="font", choices=KINDS, metavar="[font|left|near|off]", help=DROPOUT)
     add("--dropout-near", action="store_const", dest="dropout", const="near", help=argparse.SUPPRESS)
     add("--dropout-font", action="store_const", dest="dropout", const="font", help=argparse.SUPPRESS)
     add("--cell", metavar="WxH", help="one advance for all, in cells of W x H pixels; glyphs that leave the cell are named")

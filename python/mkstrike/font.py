@@ -21,7 +21,7 @@ if TYPE_CHECKING:
     from .bdf import Value
     from .charsets import Chars
 
-    Dropout = Union[bool, Literal["left", "near", "font"]]
+    Dropout = Union[bool, None, Literal["font", "left", "near", "off"]]
 
 NAME = "strike"  # of a strike, as the program has it
 LOOK = 256  # pixels per em at which `fit` looks how large glyphs are
@@ -50,12 +50,13 @@ class Font:
     def __repr__(self) -> str:
         return "<Font %r, %d bytes>" % (self.name, len(self.data))
 
-    def strike(self, size: int, chars: Chars = "", *, text: str = "", hinted: bool = True, dropout: Dropout = False,
+    def strike(self, size: int, chars: Chars = "", *, text: str = "", hinted: bool = True, dropout: Dropout = "font",
                name: str | None = None, x11: bool = False, properties: Mapping[str, Value] | None = None, strict: bool = False) -> Strike:
         """Makes a strike of characters at a size in pixels per em.
 
-        `chars` and `text` say which: see `characters`. With `hinted` the font's own programs run, with `dropout` thin strokes stay whole:
-        `True` or `"left"` sets the left or the lower pixel beside them, `"near"` the nearer one, and `"font"` what the font asks for.
+        `chars` and `text` say which: see `characters`. With `hinted` the font's own programs run. With `dropout` thin strokes stay whole:
+        `"font"` sets the pixels beside them that the font asks for, `"left"` the left or the lower one, `"near"` the nearer one. `None` is the
+        rule alone, as `mkstrike make` has it: a pixel is set if its centre is inside.
         `name`, `x11` and `properties` are what `mkstrike make` calls `--name`, `--x11` and `--property`. Without `name` the strike is called
         "strike"; with `x11` it then gets the long name of X11, with the font's family, weight and slant and the size.
 
@@ -86,7 +87,7 @@ class Font:
             warnings.warn("the strike has no glyph: " + why_empty(codes, refused), stacklevel=2)
         return strike.with_properties(properties, x11=x11) if x11 or properties else strike
 
-    def at(self, size: int, *, hinted: bool = True, dropout: Dropout = False) -> Striker:
+    def at(self, size: int, *, hinted: bool = True, dropout: Dropout = "font") -> Striker:
         """The font at a size in pixels per em: a mapping from the characters that it has to their glyphs, which measures and draws texts.
 
         Hinted, the font's `fpgm` and `prep` run once for a size; what they left is kept for later calls."""
@@ -103,21 +104,21 @@ class Font:
             self._blocks[key] = block
         return block
 
-    def fit(self, width: int, height: int, chars: Chars = "", *, text: str = "", hinted: bool = True, dropout: Dropout = False,
+    def fit(self, width: int, height: int, chars: Chars = "", *, text: str = "", hinted: bool = True, dropout: Dropout = "font",
             ascent: int | None = None) -> int:
         """The largest size, in pixels per em, at which no glyph of the characters leaves a cell of this width and height: see `Strike.cell`,
         which has the same `ascent`, and `characters`. What the font lacks or refuses does not count."""
         codes = listed(chars, text, self.characters)
         return largest_size(lambda size: self.at(size, hinted=hinted, dropout=dropout), self.at(LOOK, hinted=False), codes, width, height, ascent)
 
-    def glyph(self, size: int, char: str | int, *, hinted: bool = True, dropout: Dropout = False) -> Glyph:
+    def glyph(self, size: int, char: str | int, *, hinted: bool = True, dropout: Dropout = "font") -> Glyph:
         """Makes the glyph of one character, given as such or as a code point. Raises `Missing` if the font lacks it."""
         code = code_of(char)
         if code is None:
             raise TypeError("char is one character or a code point, not %r" % (char,))
         return glyph_of(self._block(size, hinted), _library.mode_of(False, dropout), code)
 
-    def glyph_by_id(self, size: int, number: int, *, hinted: bool = True, dropout: Dropout = False) -> Glyph:
+    def glyph_by_id(self, size: int, number: int, *, hinted: bool = True, dropout: Dropout = "font") -> Glyph:
         """Makes a glyph by its number, for programs that shape text: see `Striker.glyph`."""
         return self.at(size, hinted=hinted, dropout=dropout).glyph(number)
 

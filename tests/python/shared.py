@@ -46,14 +46,15 @@ def program(words, font):
     return ran.returncode, ran.stdout, ran.stderr.decode().split("\n")[0]
 
 
-def flags(hinted, dropout):
-    """The flags of the program for a mode."""
-    return ([] if hinted else ["--unhinted"]) + (["--dropout=" + dropout] if dropout in ("near", "font") else ["--dropout"] if dropout else [])
+def flags(hinted=True, dropout="font"):
+    """The flags of the program for a mode; the defaults are those of the package."""
+    kinds = {None: [], False: [], "off": [], True: ["--dropout"], "left": ["--dropout"], "near": ["--dropout=near"], "font": ["--dropout=font"]}
+    return ([] if hinted else ["--unhinted"]) + kinds[dropout]
 
 
-def text_of(words, font):
-    """The strike that the program makes."""
-    status, out, said = program(["make", *words], font)
+def text_of(words, font, dropout="font"):
+    """The strike that the program makes, with the drop-out control that is the package's default."""
+    status, out, said = program(["make", *words, *flags(dropout=dropout)], font)
     assert status == 0, said
     return out
 
@@ -69,7 +70,7 @@ def words_of(run):
     words = run.words.split() if isinstance(run.words, str) else list(run.words)
     found = re.fullmatch(r"make --ppem (\d+) --chars ([0-9a-f,-]+)((?: --unhinted| --dropout(?:=near|=font)?)*)", " ".join(words))
     named = [name for name in ("near", "font") if "--dropout=" + name in words]
-    return found and (int(found.group(1)), found.group(2), "--unhinted" not in words, named[0] if named else "--dropout" in words)
+    return found and (int(found.group(1)), found.group(2), "--unhinted" not in words, named[0] if named else "left" if "--dropout" in words else None)
 
 
 class Counted:

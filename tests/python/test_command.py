@@ -39,8 +39,8 @@ def test_options(tmp_path):
     run(tmp_path, MONO, "--chars", "41", "--text", "-", "--unhinted", "--dropout", "--x11", "--name=" + name, "--property", "CAP_HEIGHT=12",
         "--property", "FOUNDRY=misc", data="é\n€".encode())
     assert (tmp_path / "DejaVuSansMono-16.bdf").read_bytes() == text_of(
-        ["--ppem", "16", "--chars", "41,e9,20ac", "--unhinted", "--dropout", "--x11", "--name=" + name, "--property=CAP_HEIGHT=12",
-         "--property=FOUNDRY=misc"], font_bytes(MONO))
+        ["--ppem", "16", "--chars", "41,e9,20ac", "--unhinted", "--x11", "--name=" + name, "--property=CAP_HEIGHT=12",
+         "--property=FOUNDRY=misc"], font_bytes(MONO), "left")
     (tmp_path / "text").write_text("abc\n", encoding="utf-8")
     run(tmp_path, SANS, "--text", "text", "--name", "x")
     assert list(mkstrike.Strike.open(tmp_path / "x-16.bdf")) == ["a", "b", "c"]

@@ -64,7 +64,7 @@ ROWS = [
     # other options
     ("--bold", ["FONT", "--bold"], 2, "give the font of that style, as 'DejaVu Sans:bold'"), ("--italic", ["FONT", "--italic"], 2, "give the font of that style"), ("--weight", ["FONT", "--weight", "700"], 2, "--axes wght=700"),
     ("--hinted", ["FONT", "--hinted"], 2, "strikes are hinted if --unhinted is not given"), ("--no-hinting", ["FONT", "--no-hinting"], 2, "--unhinted does that"), ("--unhintd", ["FONT", "--unhintd"], 2, "did you mean --unhinted?"),
-    ("--antialias", ["FONT", "--antialias"], 2, "a strike has one bit a pixel"), ("--mono", ["FONT", "--mono"], 2, "--cell WxH makes cells"), ("--dropout=middle", ["FONT", "--dropout=middle"], 2, "invalid choice: 'middle' (choose from 'left', 'near', 'font')"),
+    ("--antialias", ["FONT", "--antialias"], 2, "a strike has one bit a pixel"), ("--mono", ["FONT", "--mono"], 2, "--cell WxH makes cells"), ("--dropout=middle", ["FONT", "--dropout=middle"], 2, "invalid choice: 'middle' (choose from 'font', 'left', 'near', 'off')"),
     ("--dropout on", ["FONT", "--dropout", "on"], 1, "on: there is no such file"), ("axes of a plain font", ["FONT", "--axes", "wght=700"], 1, "the font has no axes"), ("axes by a word", ["FONT", "--axes", "bold"], 2, "--axes bold: it has no ="), ("axes by a letter", ["FONT", "--axes", "wght=x"], 2, "'x' is no number"),
     ("--face of one font", ["FONT", "--face", "1"], 1, "25 NoFace"), ("--face of a name", ["FONT", "--face", "Bold"], 2, "--face: invalid int value: 'Bold'"), ("--name with an umlaut", ["FONT", "--name", "Grüße"], 1, "62 BadName"),
     ("--property in small letters", ["FONT", "--property", "a=1"], 1, "63 BadProperty 1"), ("--property without =", ["FONT", "--property", "A"], 2, "--property A: it has no ="), ("--scale 0", ["FONT", "-o", "a.png", "--scale", "0"], 2, "--scale and --columns are 1 or more"),
@@ -118,7 +118,7 @@ def test_what_is_meant(strike, tmp_path, words, files):
     assert status == 0, err
     found = [os.path.relpath(os.path.join(folder, it), tmp_path) for folder, _, names in os.walk(tmp_path) for it in names]
     assert sorted(found) == files and all(os.path.getsize(tmp_path / it) > 100 for it in files)
-    dropout = {"--dropout": "near" if "near" in words else True, "--dropout-font": "font"}.get(words[0], False)
+    dropout = {"--dropout": "near" if "near" in words else "left"}.get(words[0], "font")
     if words[0].startswith("--dropout"):
         chars = "41" if "41" in words else "latin-1"
         assert (tmp_path / files[0]).read_bytes() == mkstrike.Font(SANS).strike(16, chars, dropout=dropout, name="DejaVuSans").text
@@ -145,9 +145,9 @@ def mistakes_in_python():
         (lambda: font.glyph_by_id(16, 99999), ValueError, "^number is 99999: glyphs have the numbers 0 to 65,535$"),
         (lambda: font.glyph_by_id(16, -1), ValueError, "^number is -1: "), (lambda: font.strike(16, "41", name=5), TypeError, "^name is a string"),
         (lambda: font.strike(16, range(65537)), ValueError, "^chars has 65,537 characters: a strike has at most 65,536$"),
-        (lambda: font.strike(16, None), TypeError, "^chars: None is no list"), (lambda: font.strike(16, "41", dropout="middle"), ValueError, "^dropout is False, True"),
+        (lambda: font.strike(16, None), TypeError, "^chars: None is no list"), (lambda: font.strike(16, "41", dropout="middle"), ValueError, "^dropout is 'font', 'left', 'near' or None"),
         (lambda: font.at(16.0), TypeError, "^size is a whole number, not 16.0$"), (lambda: font.at(0), mkstrike.Refused, "^60 BadSize"), (lambda: font.at(2000), mkstrike.Refused, "^60 BadSize"),
-        (lambda: font.at(16, dropout="middle"), ValueError, "^dropout is False, True"), (lambda: font.at(16, dropout=[]), ValueError, "^dropout is False, True"), (lambda: at["一"], KeyError, r"U\+4E00"), (lambda: at["ab"], KeyError, "there is no 'ab'"),
+        (lambda: font.at(16, dropout="middle"), ValueError, "^dropout is 'font', 'left', 'near' or None"), (lambda: font.at(16, dropout=[]), ValueError, "^dropout is 'font', 'left', 'near' or None"), (lambda: at["一"], KeyError, r"U\+4E00"), (lambda: at["ab"], KeyError, "there is no 'ab'"),
         (lambda: at.glyph("g"), TypeError, "^number is a whole number"), (lambda: at.measure("一"), mkstrike.Missing, r"U\+4E00"), (lambda: at.glyphs("Hello"), ValueError, "use text="),
         (lambda: at.measure(b"abc"), TypeError, "^text is a string, not bytes$"), (lambda: font.fit(8, 16, " "), ValueError, "none of the characters"),
         (lambda: strike.encode("exe"), ValueError, "'exe' is no format: there are bdf, png"), (lambda: strike.save("a.exe"), ValueError, "a.exe: the ending says no format"),

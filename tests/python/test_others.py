@@ -196,7 +196,7 @@ def test_raw_cells(tmp_path, path, size, cell):
         rows = [int.from_bytes(data[at:at + size_of // height], "big") for at in range(place * size_of, (place + 1) * size_of, size_of // height)]
         shown = ["".join(".#"[it >> (8 * ((width + 7) // 8) - 1 - k) & 1] for k in range(width)) for it in rows]
         assert shown == (bits_of(strike[char], width, strike.ascent, strike.descent) if char in strike else ["." * width] * height), char
-        status, said, _ = program(["show", "--ppem", str(size), "--char", "%x" % ord(char)], font_bytes(path))
+        status, said, _ = program(["show", "--ppem", str(size), "--char", "%x" % ord(char), "--dropout=font"], font_bytes(path))
         picture = said.decode().split("\n")[:-1]
         if char in strike and char not in mkstrike.Font(path).strike(size, "cp437").cell(*cell).outside:
             assert status == 0 and [it for it in shown if "#" in it] == [

@@ -2,14 +2,14 @@
 import pickle
 
 import pytest
-from shared import FOLDER, LIBERATION, MONO, SANS, Counted, font_bytes, needs_font, needs_pillow, program
+from shared import FOLDER, LIBERATION, MONO, SANS, Counted, flags, font_bytes, needs_font, needs_pillow, program
 
 import mkstrike
 from mkstrike import _library
 
 SERIF = FOLDER + "liberation/LiberationSerif-Regular.ttf"
 pytestmark = needs_font(SANS, MONO, LIBERATION)
-MODES = [(hinted, dropout) for hinted in (True, False) for dropout in (False, "left", "near", "font")]
+MODES = [(hinted, dropout) for hinted in (True, False) for dropout in (None, "left", "near", "font")]
 
 
 @pytest.mark.parametrize("hinted, dropout", MODES)
@@ -165,7 +165,7 @@ def test_many_glyphs_of_a_size():
     """All glyphs of a font are those of the program, also if their pixels don't fit the first buffer."""
     font = mkstrike.Font(SANS)
     many = font.at(250, hinted=False).glyphs("21-7e")
-    status, out, _ = program(["make", "--ppem", "250", "--chars", "21-7e", "--unhinted"], font_bytes(SANS))
+    status, out, _ = program(["make", "--ppem", "250", "--chars", "21-7e", *flags(hinted=False)], font_bytes(SANS))
     assert status == 0 and dict(mkstrike.Strike(out)) == many
     made = pytest.importorskip("made")
     data = made.Font([made.Empty(), made.Simple([(0, 0, 4000, 3000)])], {0x41: 1, 0x42: 1}, upem=1024).data()

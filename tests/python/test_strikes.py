@@ -10,7 +10,7 @@ from shared import FOLDER, LIBERATION, MONO, SANS, VERSION, flags, font_bytes, n
 
 import mkstrike
 
-MODES = [(hinted, dropout) for hinted in (True, False) for dropout in (False, True, "near", "font")]
+MODES = [(hinted, dropout) for hinted in (True, False) for dropout in (None, "left", "near", "font")]
 SOME = "20-7e,a0-ff,2500-251f"
 FONTS = [it for family, count in (("dejavu", 6), ("freefont", 4), ("liberation", 10)) for it in sorted(glob.glob(FOLDER + family + "/*.ttf"))[:count]]
 
