@@ -116,7 +116,7 @@ static const lv_font_fmt_txt_dsc_t {name}_font = {{
 
 const lv_font_t {name} = {{
     .get_glyph_dsc = lv_font_get_glyph_dsc_fmt_txt, .get_glyph_bitmap = lv_font_get_bitmap_fmt_txt,
-    .line_height = {height}, .base_line = {descent}, .dsc = &{name}_font
+    .line_height = {height}, .base_line = {descent}, {underline}.dsc = &{name}_font
 }};
 """
 MAP = """\
@@ -161,7 +161,7 @@ def rows(strike: Strike, name: str, attribute: str = "", **layout: str) -> str:
     what, word, one, other = FORMS[bytes_of.by]
     lines = (width if bytes_of.by == "rows" else height) + 7
     return ROWS.format(
-        name=name, guard=name.upper() + "_H", font=_comment(strike.name), size=strike.size, count=len(codes), width=width, height=height,
+        name=name, guard=name.upper() + "_H", font=comment(strike.name), size=strike.size, count=len(codes), width=width, height=height,
         lines="%s = %d" % (word, lines // 8), left=left, ascent=bottom + height, kind="uint16_t" if codes[-1] <= 0xFFFF else "uint32_t",
         what="%s the %s bit%s." % (what.format(name=name), "highest" if bytes_of.bits == "msb" else "lowest",
                                    ", the bits left over before it" if bytes_of.align == "right" else ""),
@@ -170,29 +170,33 @@ def rows(strike: Strike, name: str, attribute: str = "", **layout: str) -> str:
         cells="\n".join("    {%s}, /* %s */" % (_hexadecimal(it), _shown(char)) for char, it in cells))
 
 
-def gfx(strike: Strike, name: str) -> str:
-    """A GFXfont: boxes packed bit by bit. What the strike lacks between the first and the last character is empty there."""
+def gfx(strike: Strike, name: str, dense: bool = False) -> str:
+    """A GFXfont: boxes packed bit by bit. What the strike lacks between the first and the last character is empty there; if `dense`, each
+    character has the number after the one before it."""
     codes = [ord(it) for it in strike]
     _filled(codes)
-    if codes[-1] > 0xFFFF or not 0 <= strike.height <= 255:
+    numbered = dict(enumerate(codes, codes[0])) if dense else dict(zip(codes, codes))
+    first, last = codes[0], max(numbered)
+    if last > 0xFFFF or not 0 <= strike.height <= 255:
         raise ValueError("a font for Adafruit GFX has characters up to U+FFFF and lines of at most 255 rows")
     bitmaps, lines = bytearray(), []
-    for code in range(codes[0], codes[-1] + 1):
-        glyph = strike.get(chr(code))
+    for code in range(first, last + 1):
+        glyph = strike.get(chr(numbered.get(code, code)))
         numbers = (0, 0, 0, 0, 0, 0)
         if glyph is not None:
             numbers = (len(bitmaps), glyph.width, glyph.height, glyph.advance, glyph.left, 1 - glyph.top)
             if not glyph.width:
                 numbers = (len(bitmaps), 0, 0, glyph.advance, 0, 0)
-            _check(code, "Adafruit GFX", numbers, FIELDS_GFX)
+            _check(numbered[code], "Adafruit GFX", numbers, FIELDS_GFX)
             bitmaps += _bits(glyph)
-        lines.append("    {%d, %d, %d, %d, %d, %d}, /* %s */" % (*numbers, _shown(chr(code))))
-    empty = codes[-1] - codes[0] + 1 - len(codes)
+        shown = _shown(chr(numbered.get(code, code)))
+        lines.append("    {%d, %d, %d, %d, %d, %d}, /* %s */" % (*numbers, "0x%02X: %s" % (code, shown) if dense else shown))
+    empty = last - first + 1 - len(codes)
     if empty > len(codes):
-        warnings.warn("%d of the %d entries of %s are empty, since a GFXfont has all from the first character to the last" % (
-            empty, empty + len(codes), name), stacklevel=4)
-    return GFX.format(name=name, guard=name.upper() + "_GFX_H", font=_comment(strike.name), size=strike.size, count=len(codes),
-                      bitmaps=_wrapped("0x%02X" % it for it in bitmaps or b"\0"), glyphs="\n".join(lines), first=codes[0], last=codes[-1],
+        warnings.warn("%d of the %d entries of %s are empty, since a GFXfont has all from the first character to the last; dense=True (--dense) numbers "
+                      "the characters without gaps" % (empty, empty + len(codes), name), stacklevel=4)
+    return GFX.format(name=name, guard=name.upper() + "_GFX_H", font=comment(strike.name), size=strike.size, count=len(codes),
+                      bitmaps=_wrapped("0x%02X" % it for it in bitmaps or b"\0"), glyphs="\n".join(lines), first=first, last=last,
                       height=strike.height)
 
 
@@ -217,7 +221,9 @@ def lvgl(strike: Strike, name: str) -> str:
         at += len(part)
     if len(maps) > MOST_MAPS or len(codes) >= SPAN:
         raise ValueError("a font for LVGL has at most %d maps of characters and %d glyphs, not %d and %d" % (MOST_MAPS, SPAN - 1, len(maps), len(codes)))
-    return LVGL.format(name=name, font=_comment(strike.name), size=strike.size, count=len(codes), bitmaps=_wrapped("0x%02X" % it for it in bitmaps or b"\0"),
+    position, thickness = strike.underline or (0, 0)
+    underline = ".underline_position = %d, .underline_thickness = %d, " % (position, thickness) if -128 <= position < 128 and 0 < thickness < 128 else ""
+    return LVGL.format(underline=underline, name=name, font=comment(strike.name), size=strike.size, count=len(codes), bitmaps=_wrapped("0x%02X" % it for it in bitmaps or b"\0"),
                        glyphs="\n".join(lines), lists=lists, maps=",\n".join(maps), count_maps=len(maps), height=strike.height, descent=strike.descent)
 
 
@@ -288,9 +294,9 @@ def _wrapped(items: Iterable[str]) -> str:
 def _shown(char: str | None) -> str:
     """A character in a comment of C: its code point, and itself if a comment can have it."""
     text = char or ""
-    return " ".join([code_name(ord(text))] + [it for it in text if it > " " and _comment(it) == it])
+    return " ".join([code_name(ord(text))] + [it for it in text if it > " " and comment(it) == it])
 
 
-def _comment(text: str) -> str:
+def comment(text: str) -> str:
     """A text in a comment of C: printable ASCII, without what could end it (`*/`), join its lines, or be a trigraph (`??/`)."""
     return "".join(it if " " <= it <= "~" and it not in "*/\\?" else "_" for it in text)

@@ -8,7 +8,7 @@ from . import _library, sources
 from .cell import largest_size
 from .charsets import listed
 from .glyph import Glyph
-from .names import Names, names_of
+from .names import Names, names_of, underline_of
 from .refused import Refused
 from .strike import Strike
 from .striker import Striker, glyph_of
@@ -82,7 +82,8 @@ class Font:
             left = [it for it in codes if it not in refused]
             made, told = _library.make(self.data, self.face, size, mode, left, encoded)
         strike = Strike(made, missing=None, requested=tuple(codes), refused={chr(it): why for it, why in refused.items()},
-                        names=self.names if name is None else None, strays=told.strays, steps=told.steps, is_own=True)
+                        names=self.names if name is None else None, underline=underline_of(self.data, self.face, size),
+                        strays=told.strays, steps=told.steps, is_own=True)
         if not told.glyphs:
             warnings.warn("the strike has no glyph: " + why_empty(codes, refused), stacklevel=2)
         return strike.with_properties(properties, x11=x11) if x11 or properties else strike

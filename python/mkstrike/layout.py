@@ -15,10 +15,10 @@ SIDES = ("left", "right")
 class Layout:
     """How the pixels of a cell become bytes.
 
-    - `by`: "rows", each of whole bytes, from the top; "columns", each of whole bytes, from the left; or "pages" of eight rows from the top,
-      each a byte a column
-    - `bits`: "msb" if the first pixel of a byte, the leftmost or the topmost, is the highest bit, "lsb" if it is the lowest; without it
-      "msb" for rows and "lsb" for columns and pages
+    - `by`: "rows", each of whole bytes, from the top; "columns", each of whole bytes, from the left; or "pages" of eight rows from the
+      top, each a byte a column
+    - `bits`: "msb" if the first pixel of a byte, the leftmost or the topmost, is the highest bit, "lsb" if it is the lowest; without
+      it "msb" for rows and "lsb" for columns and pages
     - `align`: "left" if the bits that a row or a column leaves over come after its pixels, "right" if they come before
     """
 
@@ -41,7 +41,9 @@ class Layout:
         """A row or a column in whole bytes."""
         size = (len(digits) + 7) // 8
         filled = digits.ljust(8 * size, "0") if self.align == "left" else digits.rjust(8 * size, "0")
-        return int(filled or "0", 2).to_bytes(size, "big") if self.bits == "msb" else int(filled[::-1] or "0", 2).to_bytes(size, "little")
+        if self.bits == "lsb":
+            return int(filled[::-1] or "0", 2).to_bytes(size, "little")
+        return int(filled or "0", 2).to_bytes(size, "big")
 
 
 def in_cell(glyph: Glyph, width: int, height: int, left: int, bottom: int) -> list[str]:

@@ -34,5 +34,5 @@ def merge(strikes: Iterable[Strike], *, name: str | None = None) -> Strike:
     outside = {char: far for it in given for char, far in it.outside.items() if entries[ord(char)] is it.parsed().entries.get(ord(char))}
     tell_of_unnamed([name for it in texts for name in it.unnamed])
     names = given[0].names if name is None else None
-    return Strike(merged.encoded(), is_own=True, names=names, missing=tuple(sorted(missing)), refused=refused, outside=outside,
-                  strays=sum(it.strays for it in given), steps=sum(it.steps for it in given))
+    return Strike(merged.encoded(), is_own=True, names=names, underline=given[0].underline, missing=tuple(sorted(missing)), refused=refused,
+                  outside=outside, strays=sum(it.strays for it in given), steps=sum(it.steps for it in given))

@@ -43,6 +43,16 @@ def names_of(data: bytes, face: int, otherwise: str) -> Names:
     return Names(family or otherwise, style or "Regular", 700 if is_bold else weight, width, slant, bool(fixed))
 
 
+def underline_of(data: bytes, face: int, size: int) -> tuple[int, int] | None:
+    """Where the upper edge of an underline is, in rows above the baseline, and how many rows it has, by the tables `post` and `head`."""
+    (em,) = _numbers(">H", _table(data, face, b"head"), 18) or (0,)
+    position, thickness = _numbers(">hh", _table(data, face, b"post"), 8) or (0, 0)
+    if em == 0 or thickness <= 0:
+        return None
+    row, rows = ((2 * it * size + em) // (2 * em) for it in (position, thickness))
+    return row, max(rows, 1)
+
+
 def x11_name(names: Names, size: int, spacing: str, average: int) -> str:
     """The name of 14 fields of a strike: `size` is in pixels per em, `average` in tenths of a pixel."""
     family = "".join(it if " " <= it <= "~" and it not in '-?*,"' else " " for it in names.family[:LONGEST]).strip() or "strike"

@@ -29,18 +29,19 @@ class Strike(Glyphs):
     - `refused`: from each character that was refused to its refusal
     - `outside`: from each character that left its cell to how far (see `cell`)
     - `names`: what its font calls itself, from which `with_properties` makes the long name of X11; None if it has a name of its own
+    - `underline`: where the upper edge of an underline is, in rows above the baseline, and how many rows it has; None if nothing says
     - `strays`, `steps`: what the font's programs did, if the strike was made here, else 0
     """
 
     def __init__(self, text: bytes, *, missing: tuple[str, ...] | None = (), refused: Mapping[str, Refused] | None = None,
                  outside: Mapping[str, Outside] | None = None, requested: tuple[int, ...] = (), names: Names | None = None,
-                 strays: int = 0, steps: int = 0, is_own: bool = False) -> None:
+                 underline: tuple[int, int] | None = None, strays: int = 0, steps: int = 0, is_own: bool = False) -> None:
         """A strike of its text; `is_own` says that this package or the program wrote it (see `bdf.parse`)."""
         self._text, self._is_own = text, is_own
         self.refused: dict[str, Refused] = dict(refused or {})
         self.outside: dict[str, Outside] = dict(outside or {})
         self.names, self.strays, self.steps = names, strays, steps
-        self._missing, self._requested = missing, requested
+        self._missing, self._requested, self._underline = missing, requested, underline
         self._parsed: bdf.Text | None = None
         self._made: dict[int | None, glyphs.Glyph] = {}
 
@@ -101,6 +102,12 @@ class Strike(Glyphs):
     def properties(self) -> dict[str, bdf.Value]:
         """The properties of the text beside FONT_ASCENT and FONT_DESCENT."""
         return dict(self.parsed().properties)
+
+    @property
+    def underline(self) -> tuple[int, int] | None:
+        """Where the upper edge of an underline is, in rows above the baseline, and how many rows it has: by the properties of X11, or the font."""
+        position, thickness = (self.parsed().properties.get("UNDERLINE_" + name) for name in ("POSITION", "THICKNESS"))
+        return (-position, thickness) if isinstance(position, int) and isinstance(thickness, int) else self._underline
 
     def __getitem__(self, char: str | int) -> glyphs.Glyph:
         code = code_of(char)
@@ -210,7 +217,8 @@ class Strike(Glyphs):
         """A strike of another text, with what was missing, refused and outside here if nothing else is given."""
         tell_of_unnamed(self.parsed().unnamed)
         return Strike(text.encoded(), missing=self.missing if missing is None else missing, refused=self.refused if refused is None else refused,
-                      outside=self.outside if outside is None else outside, names=self.names, strays=self.strays, steps=self.steps, is_own=True)
+                      outside=self.outside if outside is None else outside, names=self.names, underline=self._underline,
+                      strays=self.strays, steps=self.steps, is_own=True)
 
 
 def tell_of_unnamed(names: Sequence[str]) -> None:
