@@ -2,7 +2,7 @@
 from __future__ import annotations
 
 import warnings
-from collections.abc import Mapping
+from collections.abc import Iterable, Mapping
 
 from . import _library, sources
 from .cell import largest_size
@@ -18,13 +18,17 @@ TYPE_CHECKING = False  # as in glyph.py
 if TYPE_CHECKING:
     from typing import Literal, Union
 
+    from PIL.Image import Image
+
     from .bdf import Value
     from .charsets import Chars
+    from .looks import Look
 
     Dropout = Union[bool, None, Literal["font", "left", "near", "off"]]
 
 NAME = "strike"  # of a strike, as the program has it
 LOOK = 256  # pixels per em at which `fit` looks how large glyphs are
+LETTERS, TEXT = "30-39,41-5a,61-7a", "Hamburgefonstiv 0123456789 AVWX kvwxyz"  # of `looks` and `sheet`, if none are given
 MOST_BLOCKS = 32  # sizes of a font that are kept, 4 KB each
 
 
@@ -111,6 +115,31 @@ class Font:
         which has the same `ascent`, and `characters`. What the font lacks or refuses does not count."""
         codes = listed(chars, text, self.characters)
         return largest_size(lambda size: self.at(size, hinted=hinted, dropout=dropout), self.at(LOOK, hinted=False), codes, width, height, ascent)
+
+    def size_for(self, *, height: int | None = None, cap_height: int | None = None, hinted: bool = True, dropout: Dropout = "font") -> int:
+        """The largest size, in pixels per em, at which a line has at most `height` rows, ascent and descent together, or an H at most
+        `cap_height`."""
+        from .looks import LARGE, largest
+        if (height is None) == (cap_height is None):
+            raise TypeError("give height or cap_height")
+        if height is not None:
+            return largest(_library.whole(height, "height"), sum(self.heights(LARGE)[:2]), lambda size: sum(self.heights(size)[:2]))
+        large = self.glyph(LARGE, "H", hinted=False).height
+        return largest(_library.whole(cap_height, "cap_height"), large,
+                       lambda size: self.glyph(size, "H", hinted=hinted, dropout=dropout).height)
+
+    def looks(self, sizes: Iterable[int], chars: Chars = LETTERS, *, text: str = "", hinted: bool = True,
+              dropout: Dropout = "font") -> list[Look]:
+        """What the font is at sizes: its cell, and which of the characters fall apart or vanish, drawn as told and without drop-out control.
+        A glyph falls apart if its pixels are in more parts than when it is drawn large."""
+        from .looks import looks
+        return looks(self, sizes, listed(chars, text, self.characters), hinted, dropout)
+
+    def sheet(self, sizes: Iterable[int], text: str = TEXT, chars: Chars = LETTERS, *, hinted: bool = True, dropout: Dropout = "font",
+              scale: int = 1) -> Image:
+        """A text at sizes as one picture of Pillow, below what `looks` finds of each. What the font lacks is left out of the text."""
+        from .looks import sheet
+        return sheet(self, self.looks(sizes, chars, hinted=hinted, dropout=dropout), text, hinted, dropout, scale)
 
     def glyph(self, size: int, char: str | int, *, hinted: bool = True, dropout: Dropout = "font") -> Glyph:
         """Makes the glyph of one character, given as such or as a code point. Raises `Missing` if the font lacks it."""
