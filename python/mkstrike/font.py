@@ -22,6 +22,7 @@ if TYPE_CHECKING:
 
     from .bdf import Value
     from .charsets import Chars
+    from .listing import Listed
     from .looks import Look
 
     Dropout = Union[bool, None, Literal["font", "left", "near", "off"]]
@@ -156,6 +157,25 @@ class Font:
         """The numbers of the characters' glyphs, as far as the font has them: `font.glyph_ids("all")` are all."""
         codes = listed(chars, text, self.characters)
         return {chr(code): number for code, number in zip(codes, _library.glyph_ids(self.data, self.face, codes)) if number}
+
+    def glyph_names(self) -> list[str]:
+        """The names of all glyphs by their numbers, as the table `post` has them; nothing where it has none."""
+        from .listing import names_of_glyphs
+        return names_of_glyphs(self.data, self.face, self.glyph_count)
+
+    def glyphs(self, size: int, given: Mapping[str, int | str], *, hinted: bool = True, dropout: Dropout = "font") -> dict[str, Glyph]:
+        """Glyphs by their numbers or names, for characters that the font has not: from each character to its glyph, for `Strike.replace`."""
+        at, names = self.at(size, hinted=hinted, dropout=dropout), self.glyph_names()
+        for name in given.values():
+            if isinstance(name, str) and (not name or name not in names):
+                raise ValueError("the font has no glyph named %r%s" % (name, "" if any(names) else ": it names none, so give numbers"))
+        return {char: at.glyph(names.index(it) if isinstance(it, str) else it) for char, it in given.items()}
+
+    def listing(self, size: int | None = None, *, hinted: bool = True, dropout: Dropout = "font") -> list[Listed]:
+        """What is in the font: the glyphs of its characters, then those without a character, with their numbers and names, and at a size with
+        their pictures."""
+        from .listing import of_font
+        return of_font(self, None if size is None else self.at(size, hinted=hinted, dropout=dropout))
 
     def characters(self) -> list[int]:
         """The code points of all characters that the font has, in rising order."""

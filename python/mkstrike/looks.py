@@ -87,7 +87,7 @@ def sheet(font: Font, found: list[Look], text: str, hinted: bool, dropout: Dropo
         lines: list[tuple[Glyphs, str]] = [(labels, said)] if all(it in labels for it in said) else []
         lines.append((font.at(look.size, hinted=hinted, dropout=dropout), text))
         for glyphs, line in lines:
-            across, down, them = glyphs.placed("".join(it for it in line if it in glyphs), None)
+            across, down, them = glyphs._placed("".join(it for it in line if it in glyphs), None)
             placed += [(x, y + height, it) for x, y, it in them]
             width, height = max(width, across), height + down
         height += GAP

@@ -200,6 +200,11 @@ class Strike(Glyphs):
         from . import cell
         return cell.in_cell(self, width, height, ascent, clip)
 
+    def diff(self, other: Strike) -> Diff:
+        """How another strike differs: in its characters, their pixels, places and advances, in size, ascent and descent."""
+        from .diff import Diff
+        return Diff(self, other)
+
     def with_properties(self, properties: Mapping[str, bdf.Value] | None = None, *, x11: bool = False) -> Strike:
         """The strike with more properties; with `x11` those that X11, fontconfig and bdf2psf look for, which given ones replace. A strike
         without a name of its own then gets the long name of X11."""
@@ -230,3 +235,4 @@ def tell_of_unnamed(names: Sequence[str]) -> None:
 
 if TYPE_CHECKING:
     from .cell import Outside
+    from .diff import Diff

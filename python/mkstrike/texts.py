@@ -62,12 +62,12 @@ class Glyphs(Mapping[str, Glyph]):
     def line(self, text: str, scale: int = 1, *, missing: str | None = None) -> Image:
         """A text as a picture of Pillow, black on white, with a margin of four pixels; each pixel is a square of `scale` pixels."""
         from . import picture
-        return picture.drawn(*self.placed(text, missing), scale, picture.MARGIN)
+        return picture.drawn(*self._placed(text, missing), scale, picture.MARGIN)
 
     def blocks(self, text: str, *, missing: str | None = None) -> str:
         """A text as lines for a terminal: a character of half blocks is two pixels, one above the other."""
         from . import picture
-        width, height, placed = self.placed(text, missing)
+        width, height, placed = self._placed(text, missing)
         picture.check_size(width, height)
         cells = [bytearray(width) for _ in range((height + 1) // 2)]
         for left, top, glyph in placed:
@@ -88,7 +88,7 @@ class Glyphs(Mapping[str, Glyph]):
                     raise
                 yield self[missing]
 
-    def placed(self, text: str, missing: str | None) -> tuple[int, int, list[tuple[int, int, Glyph]]]:
+    def _placed(self, text: str, missing: str | None) -> tuple[int, int, list[tuple[int, int, Glyph]]]:
         """The width and the height of a text's picture, and its glyphs, each with the column and the row of its upper left pixel."""
         lines = [list(self._glyphs_of(line, missing)) for line in _lines(text)]
         (above, below), pitch = self._rows, self.height + self.line_gap
