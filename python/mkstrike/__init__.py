@@ -2,7 +2,7 @@
 
     import mkstrike
     font = mkstrike.Font("DejaVuSans.ttf")
-    strike = font.strike(16, "latin-1", dropout=True)
+    strike = font.strike(16, "latin-1")
     strike.save("terminal.bdf")
     print(strike["g"])
 
@@ -23,8 +23,13 @@ __all__ = ["Font", "Glyph", "Missing", "NotInstalled", "Refused", "Strike", "Str
 
 
 def __getattr__(name: str) -> str:
-    """The release, `__version__`, read only if somebody asks."""
+    """The release, `__version__`, read only if somebody asks: of the folder that pip or a package made beside this one."""
     if name != "__version__":
         raise AttributeError("module %r has no attribute %r" % (__name__, name))
-    from importlib import metadata
+    import os
+    first, end = "mkstrike-", ".dist-info"
+    for it in os.listdir(os.path.dirname(os.path.dirname(os.path.abspath(__file__)))):
+        if it.startswith(first) and it.endswith(end):
+            return it[len(first):-len(end)]
+    from importlib import metadata  # which takes longer than all else
     return metadata.version("mkstrike")

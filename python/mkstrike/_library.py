@@ -24,7 +24,6 @@ if TYPE_CHECKING:
 FILE, SONAME = "libmkstrike.so", "libmkstrike.so.1"  # beside this module, and of the system
 ABI = 1  # the form of structs and calls that is declared here: MKSTRIKE_ABI
 DONE, MISSING = 0, 1  # what a call returns, beside the numbers of refusals
-BAD_PROPERTY = 63  # no call gives it: properties are added here
 HINTED, DROPOUT = 1, {None: 0, False: 0, "off": 0, True: 2, "left": 2, "near": 4, "font": 8}  # the bits of a mode
 NONE = 0xFFFFFFFF  # in a refusal: no glyph, no program, no character
 PROGRAMS = {0x10000: "fpgm", 0x10001: "prep"}  # the programs that belong to no glyph

@@ -34,7 +34,7 @@ else:
 ENCODING = "utf-8"
 MOST, GREATEST = 65535, 0x10FFFF  # columns and rows of a glyph; the greatest code point
 RESERVED = ("FONT_ASCENT", "FONT_DESCENT", "ENDPROPERTIES", "COMMENT")
-BAD_PROPERTY = 63  # as of the program
+BAD_NAME, BAD_PROPERTY, LONGEST_NAME = 62, 63, 255  # as of the program
 LONGEST = 200  # characters of a line that a message has
 ROOM = 1 << 26  # pixels of all glyphs of another program's text, which take a byte each
 HEADER = ("FONT", "SIZE", "FONTBOUNDINGBOX")  # the words that must stand before the glyphs
@@ -84,9 +84,22 @@ def _lines_of(it: Entry) -> list[str]:
 
 def entry_of(code: int, glyph: Glyph, size: int) -> Entry:
     """A glyph as a character of a text of a size in pixels per em."""
-    swidth = glyph.swidth or ((2000 * glyph.advance + size) // (2 * size) if size else 0)
-    return Entry(code, "uni%04X" % code if code <= 0xFFFF else "u%X" % code, swidth, glyph.advance, glyph.width, glyph.height, glyph.left,
+    return Entry(code, _name(code), glyph.swidth or swidth_of(glyph.advance, size), glyph.advance, glyph.width, glyph.height, glyph.left,
                  glyph.bottom, b"".join(glyph.rows))
+
+
+def renumbered(it: Entry, code: int) -> Entry:
+    """A glyph as another character."""
+    return it if it.code == code else it._replace(code=code, name=_name(code))
+
+
+def swidth_of(advance: int, size: int) -> int:
+    """An advance in 1/1000 of an em."""
+    return (2000 * advance + size) // (2 * size) if size else 0
+
+
+def _name(code: int) -> str:
+    return "uni%04X" % code if code <= 0xFFFF else "u%X" % code
 
 
 def _written(value: Value) -> str:
@@ -295,11 +308,19 @@ def is_xlfd(name: str) -> bool:
 def check(properties: Mapping[str, Value]) -> None:
     """Refuses properties that the program refuses (63), by the first that is bad."""
     for number, (name, value) in enumerate(properties.items(), 1):
+        if not isinstance(value, (int, str)):
+            raise TypeError("properties: the value of %r is a whole number or a string, not %r" % (name, value))
         letters = name.isascii() and name[:1].isalpha() and name == name.upper() and name.replace("_", "").isalnum()
         text = value if isinstance(value, str) else ""
         if not (letters and len(name) <= 64 and name not in RESERVED and len(text) <= 32000 and all(" " <= it <= "~" for it in text)
                 and number <= 64):
             raise Refused(BAD_PROPERTY, "BadProperty", property=number)
+
+
+def check_name(name: str) -> None:
+    """Refuses a name that the program refuses (62)."""
+    if not 1 <= len(name) <= LONGEST_NAME or name != name.strip() or not all(" " <= it <= "~" for it in name):
+        raise Refused(BAD_NAME, "BadName")
 
 
 def x11(text: Text) -> dict[str, Value]:

@@ -20,6 +20,7 @@ UNDEFINED = "\ufffe"  # in a codec's table: no character
 # What code page 437 shows for 1 to 31 and for 127; the codec has control characters there.
 CP437_LOW = "☺☻♥♦♣♠•◘○◙♂♀♪♫☼►◄↕‼¶§▬↨↑↓→←∟↔▲▼⌂"
 ALL = "all"  # stands for every character of a font
+OF_TEXT = "for the characters of a text use text="  # the command says it by its own option
 
 
 def character_sets() -> dict[str, int]:
@@ -39,39 +40,74 @@ def characters(chars: Chars = "", *, text: str = "") -> list[int]:
     - any number of these, as a list or a set; there a string of one character is that character. A strike is such a list
 
     `text` adds the characters of a text without its line ends and other control characters. Where a font is known, as in `Font.strike`,
-    "all" stands for its characters.
+    "all" stands for its characters, and "f000-f2e0=e000" gives the glyphs of a range other numbers, from U+E000 on.
     """
     return listed(chars, text)
 
 
 def listed(chars: Chars, text: str, font: Font | None = None) -> list[int]:
     """The code points of what `characters` takes, and if `font` tells its characters, of "all"."""
-    if not isinstance(text, str):
-        raise TypeError("text is a string, not %s" % type(text).__name__)
-    found = {code for code in map(ord, text) if not _is_control(code)}
-    found.update(_codes(chars, font))
-    return sorted(found)
+    found = _Listed(chars, text, font)
+    if found.moved:
+        raise ValueError("characters get other numbers in strikes alone: %r" % (chars,))
+    return sorted(found.codes)
+
+
+def mapped(chars: Chars, text: str, font: Font | None = None) -> dict[int, int]:
+    """From each code point of a strike to that of the font's glyph which it has, in rising order: another one after "=" in a string."""
+    found = _Listed(chars, text, font)
+    for new, old in found.moved.items():
+        if new in found.codes and new != old:
+            raise ValueError("two characters would get the number U+%04X: U+%04X and U+%04X" % (new, new, old))
+    return {code: found.moved.get(code, code) for code in sorted(found.codes.union(found.moved))}
+
+
+class _Listed:
+    """What a list of characters has: code points, and those of other glyphs with the code points that they get."""
+
+    def __init__(self, chars: Chars, text: str, font: Font | None) -> None:
+        if not isinstance(text, str):
+            raise TypeError("text is a string, not %s" % type(text).__name__)
+        self.codes = {code for code in map(ord, text) if not _is_control(code)}
+        self.moved: dict[int, int] = {}
+        self._font = font
+        self._add(chars)
+
+    def _add(self, chars: Chars) -> None:
+        """Adds what `characters` takes."""
+        if isinstance(chars, str):
+            for item in filter(None, map(str.strip, chars.split(","))):
+                self._add_item(item)
+        elif hasattr(chars, "__index__"):
+            self.codes.add(chars.__index__())
+        elif isinstance(chars, range):
+            self.codes.update(chars)
+        elif isinstance(chars, Iterable):
+            for it in chars:
+                self._add(ord(it) if isinstance(it, str) and len(it) == 1 else it)
+        else:
+            raise TypeError("chars: %r is no list of characters" % (chars,))
+
+    def _add_item(self, item: str) -> None:
+        """Adds an item of a string: as `characters` has it, or a range, "=" and its new first number."""
+        given, is_moved, first = item.partition("=")
+        if not is_moved or os.sep in item:
+            self.codes.update(_codes(item, self._font))
+            return
+        old, new = _range(given.strip()), _range(first.lstrip(">").strip())
+        if old is None or new is None or len(new) != 1 or new[0] + len(old) - 1 > LAST:
+            raise ValueError("%r: characters get other numbers as f000-f2e0=e000, in hexadecimal" % item)
+        for code, it in enumerate(old, new[0]):
+            if self.moved.setdefault(code, it) != it:
+                raise ValueError("two characters would get the number U+%04X: U+%04X and U+%04X" % (code, self.moved[code], it))
 
 
 def _is_control(code: int) -> bool:
     return code < 32 or 127 <= code < 160
 
 
-def _codes(chars: Chars, font: Font | None) -> Iterable[int]:
-    """The code points of what `characters` takes."""
-    if isinstance(chars, str):
-        return [code for item in map(str.strip, chars.split(",")) if item for code in _of_item(item, font)]
-    if hasattr(chars, "__index__"):
-        return [chars.__index__()]
-    if isinstance(chars, range):
-        return chars
-    if not isinstance(chars, Iterable):
-        raise TypeError("chars: %r is no list of characters" % (chars,))
-    return [code for it in chars for code in ([ord(it)] if isinstance(it, str) and len(it) == 1 else _codes(it, font))]
-
-
-def _of_item(item: str, font: Font | None) -> Iterable[int]:
-    """The code points of one item of a string."""
+def _codes(item: str, font: Font | None) -> Iterable[int]:
+    """The code points of one item of a string that keeps its numbers."""
     if item.lower() == ALL:
         if font is None:
             raise ValueError("'all' are the characters of a font, and none is known here")
@@ -83,8 +119,7 @@ def _of_item(item: str, font: Font | None) -> Iterable[int]:
         if codes is not None:
             return codes
     lists = "no list of bdf2psf" if any(map(os.path.isdir, FOLDERS)) else "bdf2psf with its lists is not installed (Debian: bdf2psf)"
-    raise ValueError("%r is no set of characters (%s), no hexadecimal number or range, and %s; for the characters of a text use text="
-                     % (item, ", ".join(SETS), lists))
+    raise ValueError("%r is no set of characters (%s), no hexadecimal number or range, and %s; %s" % (item, ", ".join(SETS), lists, OF_TEXT))
 
 
 def _named(name: str) -> list[int] | None:

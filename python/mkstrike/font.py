@@ -5,13 +5,14 @@ import warnings
 from collections.abc import Iterable, Mapping
 
 from . import _library, sources
-from .cell import largest_size
-from .charsets import listed
+from .charsets import listed, mapped
 from .glyph import Glyph
-from .names import Names, names_of, underline_of
-from .refused import Refused
+from .names import Names, names_of
+from .notes import notes_of
+from .refused import Missing, Refused
 from .strike import Strike
 from .striker import Striker, glyph_of
+from .tables import PLACES_OF_SYMBOLS, axes as axes_of, underline
 from .texts import code_of
 
 TYPE_CHECKING = False  # as in glyph.py
@@ -25,9 +26,11 @@ if TYPE_CHECKING:
     from .listing import Listed
     from .looks import Look
 
+    Refusing = Literal["leave-out", "unhinted", "refuse"]
     Dropout = Union[bool, None, Literal["font", "left", "near", "off"]]
 
 NAME = "strike"  # of a strike, as the program has it
+REFUSING = ("leave-out", "unhinted", "refuse")  # what becomes of a character that is refused, or of the strike
 LOOK = 256  # pixels per em at which `fit` looks how large glyphs are
 LETTERS, TEXT = "30-39,41-5a,61-7a", "Hamburgefonstiv 0123456789 AVWX kvwxyz"  # of `looks` and `sheet`, if none are given
 MOST_BLOCKS = 32  # sizes of a font that are kept, 4 KB each
@@ -37,17 +40,19 @@ class Font:
     """A TrueType font: `source` is a path, its bytes, an open file, or a TTFont of fontTools.
 
     If no file has the name, as "DejaVu Sans:bold", fontconfig finds an installed font. `face` is the number of a font in a collection, from
-    0; `axes` chooses an instance of a variable font, as {"wght": 700}. fontTools unpacks WOFF2 and makes these instances, and must be
-    installed for them. A file, and what is unpacked from it, has at most 64 MiB. Nothing else is checked before a strike or a glyph is made.
+    0; `axes` chooses an instance of a variable font, as {"wght": 700}. fontTools unpacks WOFF2, makes these instances and converts CFF outlines,
+    and must be installed for them. A file, and what is unpacked from it, has at most 64 MiB. Nothing else is checked before a strike or a
+    glyph is made.
 
     - `name`: the file's name without its ending
+    - `is_converted`: whether the font has CFF outlines, from which fontTools made others: at most 0.25 of 1,000 units away, and unhinted
     """
 
     def __init__(self, source: sources.Source, *, face: int = 0, axes: Mapping[str, float] | None = None) -> None:
         face = _library.whole(face, "face")
         source, face = sources.located(source, face)
         data, self.name = sources.read(source)
-        self.data, self.face = sources.plain(data, face, axes)
+        self.data, self.face, self.is_converted = sources.plain(data, face, axes)
         self._blocks: dict[tuple[int, bool], _library.Block] = {}
         self._characters: list[int] | None = None
         self._names: Names | None = None
@@ -55,43 +60,70 @@ class Font:
     def __repr__(self) -> str:
         return "<Font %r, %d bytes>" % (self.name, len(self.data))
 
-    def strike(self, size: int, chars: Chars = "", *, text: str = "", hinted: bool = True, dropout: Dropout = "font",
-               name: str | None = None, x11: bool = False, properties: Mapping[str, Value] | None = None, strict: bool = False) -> Strike:
+    def strike(self, size: int, chars: Chars = "", *, text: str = "", hinted: bool = True, dropout: Dropout = "font", symbol: bool = False,
+               name: str | None = None, x11: bool = False, properties: Mapping[str, Value] | None = None, refused: Refusing = "leave-out",
+               require: bool = False, strict: bool = False) -> Strike:
         """Makes a strike of characters at a size in pixels per em.
 
         `chars` and `text` say which: see `characters`. With `hinted` the font's own programs run. With `dropout` thin strokes stay whole:
         `"font"` sets the pixels beside them that the font asks for, `"left"` the left or the lower one, `"near"` the nearer one. `None` is the
-        rule alone, as `mkstrike make` has it: a pixel is set if its centre is inside.
+        rule alone, as `mkstrike make` has it: a pixel is set if its centre is inside. With `symbol` U+0020 to U+00FF have the glyphs that a
+        font of symbols has at U+F020 to U+F0FF.
         `name`, `x11` and `properties` are what `mkstrike make` calls `--name`, `--x11` and `--property`. Without `name` the strike is called
         "strike"; with `x11` it then gets the long name of X11, with the font's family, weight and slant and the size.
 
-        What the font lacks is in `missing` of the strike. A character that is refused is in `refused`, and the others are made; with
-        `strict` its refusal is raised. A refusal that meets all characters is always raised, as `Refused`. A strike without a glyph is a
-        warning."""
+        What the font lacks is in `missing` of the strike; with `require` it is raised, as `Missing`. A character that is refused is left out
+        and in `refused`; with `refused="unhinted"` it is drawn without hinting and in `unhinted`, and with `refused="refuse"`, as for
+        `mkstrike make`, its refusal is raised. `strict` is that and `require`. A refusal that meets all characters is always raised, as
+        `Refused`. What else there is to know, as that no pixel is set, is in `notes` and a warning."""
+        given = symbols(mapped(chars, text, self.characters), symbol)
+        strike = self._strike_of(size, given, hinted=hinted, dropout=dropout, name=name, refused="refuse" if strict else refused)
+        if strike.missing and (require or strict):
+            raise Missing(strike.missing[0], strike.missing)
+        for note in strike.notes:
+            warnings.warn(note, stacklevel=2)
+        return strike.with_properties(properties, x11=x11) if x11 or properties else strike
+
+    def _strike_of(self, size: int, given: Mapping[int, int], *, hinted: bool = True, dropout: Dropout = "font", name: str | None = None,
+                   refused: Refusing = "leave-out") -> Strike:
+        """The strike of characters, each with that of its glyph."""
         if name is not None and not isinstance(name, str):
             raise TypeError("name is a string, not %r" % (name,))
-        codes = listed(chars, text, self.characters)
-        if len(codes) > _library.MOST_CHARS:
+        if refused not in REFUSING:
+            raise ValueError("refused is 'leave-out', 'unhinted' or 'refuse', not %r" % (refused,))
+        if len(given) > _library.MOST_CHARS:
             raise ValueError("chars has %s characters: a strike has at most %s" % (
-                format(len(codes), ","), format(_library.MOST_CHARS, ",")))
-        mode, refused = _library.mode_of(hinted, dropout), {}
-        encoded = (NAME if name is None else name).encode("utf-8", "surrogateescape")
+                format(len(given), ","), format(_library.MOST_CHARS, ",")))
+        strike = self._made(size, sorted(set(given.values())), hinted, dropout, NAME if name is None else name, refused)
+        strike = strike if all(new == old for new, old in given.items()) else strike._chosen(given)
+        strike.names = self.names if name is None else None
+        strike.notes = notes_of(self, strike, list(given))
+        return strike
+
+    def _made(self, size: int, codes: list[int], hinted: bool, dropout: Dropout, name: str, refusing: Refusing) -> Strike:
+        """The strike of code points. It is made again without those that are refused, which are drawn unhinted or left out."""
+        mode, encoded = _library.mode_of(hinted, dropout), name.encode("utf-8", "surrogateescape")
+        refused: dict[int, Refused] = {}
         try:
-            made, told = _library.make(self.data, self.face, size, mode, codes, encoded)
+            text, told = _library.make(self.data, self.face, size, mode, codes, encoded)
         except Refused as why:
             if not why.is_of_character:
                 raise
             refused = self._block(size, hinted).refused(_library.mode_of(False, dropout), codes)
-            if strict:
+            if refusing == "refuse":
                 raise refused[min(refused)] from None
-            left = [it for it in codes if it not in refused]
-            made, told = _library.make(self.data, self.face, size, mode, left, encoded)
-        strike = Strike(made, missing=None, requested=tuple(codes), refused={chr(it): why for it, why in refused.items()},
-                        names=self.names if name is None else None, underline=underline_of(self.data, self.face, size),
-                        strays=told.strays, steps=told.steps, is_own=True)
-        if not told.glyphs:
-            warnings.warn("the strike has no glyph: " + why_empty(codes, refused), stacklevel=2)
-        return strike.with_properties(properties, x11=x11) if x11 or properties else strike
+            text, told = _library.make(self.data, self.face, size, mode, [it for it in codes if it not in refused], encoded)
+        missing: tuple[str, ...] = ()
+        if told.missing:
+            numbers = _library.glyph_ids(self.data, self.face, codes)
+            missing = tuple(chr(code) for code, number in zip(codes, numbers) if not number and code not in refused)
+        strike = Strike(text, size=size, count=told.glyphs, missing=missing, refused={chr(it): why for it, why in refused.items()},
+                        underline=underline(self.data, self.face, size), strays=told.strays, steps=told.steps, is_own=True)
+        if not (refused and refusing == "unhinted" and hinted):
+            return strike
+        drawn = self._made(size, sorted(refused), False, dropout, name, "leave-out")
+        return strike._with(strike.parsed().with_entries({**strike.parsed().entries, **drawn.parsed().entries}), refused=drawn.refused,
+                            unhinted={char: why for char, why in strike.refused.items() if char in drawn})
 
     def at(self, size: int, *, hinted: bool = True, dropout: Dropout = "font") -> Striker:
         """The font at a size in pixels per em: a mapping from the characters that it has to their glyphs, which measures and draws texts.
@@ -111,11 +143,14 @@ class Font:
         return block
 
     def fit(self, width: int, height: int, chars: Chars = "", *, text: str = "", hinted: bool = True, dropout: Dropout = "font",
-            ascent: int | None = None) -> int:
+            symbol: bool = False, ascent: int | None = None, clip: bool = False) -> int:
         """The largest size, in pixels per em, at which no glyph of the characters leaves a cell of this width and height: see `Strike.cell`,
-        which has the same `ascent`, and `characters`. What the font lacks or refuses does not count."""
-        codes = listed(chars, text, self.characters)
-        return largest_size(lambda size: self.at(size, hinted=hinted, dropout=dropout), self.at(LOOK, hinted=False), codes, width, height, ascent)
+        which has the same `ascent`, and `characters`. What the font lacks or refuses does not count, and neither do U+2500 to U+259F, which
+        `cell` draws out to the edges by `join`. With `clip` the largest at which a line and all advances fit, so that some glyphs may lose
+        pixels."""
+        from .merge import Part, fitting
+        options = {"text": text, "hinted": hinted, "dropout": dropout, "symbol": symbol}
+        return fitting([Part(self, LOOK, chars, options)], width, height, "", "", ascent, clip)
 
     def size_for(self, *, height: int | None = None, cap_height: int | None = None, hinted: bool = True, dropout: Dropout = "font") -> int:
         """The largest size, in pixels per em, at which a line has at most `height` rows, ascent and descent together, or an H at most
@@ -202,13 +237,9 @@ class Font:
 
     def axes(self) -> dict[str, tuple[float, float, float]]:
         """The axes of a variable font: least value, default and greatest value of each; nothing of a font without axes."""
-        return sources.axes_of(self.data, self.face)
+        return axes_of(self.data, self.face)
 
 
-def why_empty(codes: list[int], refused: Mapping[int, Refused]) -> str:
-    """Why a strike of these characters has no glyph, and what to do."""
-    if not codes:
-        return "no character was asked for; give chars=\"latin-1\" or text="
-    if len(refused) == len(codes):
-        return "each character is refused; " + refused[codes[0]].to_do()
-    return "the font has none of the characters; a string names a set, or has hexadecimal numbers: the characters of a text are text="
+def symbols(given: dict[int, int], is_symbol: bool) -> dict[int, int]:
+    """The characters of a strike with the glyphs that they have in a font of symbols."""
+    return {new: 0xF000 + old if is_symbol and 0xF000 + old in PLACES_OF_SYMBOLS else old for new, old in given.items()}

@@ -8,11 +8,13 @@ import os
 import stat
 from collections.abc import Mapping
 from functools import partial
-from typing import TYPE_CHECKING, Any, Callable
 
 from .refused import shown
 
+TYPE_CHECKING = False  # as in glyph.py
 if TYPE_CHECKING:
+    from typing import Any, Callable
+
     from PIL.Image import Image
 
     from .strike import Strike
@@ -65,16 +67,27 @@ FORMATS: dict[str, Callable[..., bytes]] = {
 OF_ENDING = {".bdf": "bdf", ".png": "png", ".pbm": "pbm", ".h": "c", ".c": "c", ".raw": "raw", ".fnt": "fnt", ".py": "py", ".psf": "psf", ".psfu": "psf", ".pcf": "pcf", ".otb": "otb"}
 ENDING = {**{name: "." + name for name in FORMATS}, "c": ".h", "gfx": "-gfx.h", "lvgl": ".c"}  # of the files that the command writes
 IN_C, PICTURES = ("c", "gfx", "lvgl"), ("png", "pbm")
+TAKES: dict[str, tuple[str, ...]] = {  # options
+    **{name: ("columns", "scale") for name in PICTURES}, "c": ("name", "attribute", "bytes", "bits", "align"), "gfx": ("name", "dense"),
+    "lvgl": ("name",), "raw": ("order", "bytes", "bits", "align"), "fnt": ("padding",), "py": ("bytes", "bits")}
 
 
 def encode(strike: Strike, format: str, options: Mapping[str, Any]) -> bytes:
     """The strike in a format, as bytes."""
+    _check(strike, format, options)
+    return FORMATS[format](strike, **options)
+
+
+def _check(strike: Strike, format: str, options: Mapping[str, Any]) -> None:
+    """Refuses what is no format, or no option of it; warns of glyphs that a format leaves out."""
     if format not in FORMATS:
         raise ValueError("%r is no format: there are %s" % (format, ", ".join(FORMATS)))
-    if format in (*PICTURES, *IN_C, "raw", "fnt", "py"):
+    if format in TAKES:
         from .strike import tell_of_unnamed
         tell_of_unnamed(strike.parsed().unnamed)
-    return FORMATS[format](strike, **options)
+    for name in options:
+        if name not in TAKES.get(format, ()):
+            raise TypeError("%s is no option of the format %s%s" % (name, format, ": it has " + ", ".join(TAKES[format]) if format in TAKES else ""))
 
 
 def save(strike: Strike, path: str, format: str | None, options: Mapping[str, Any]) -> None:
@@ -88,6 +101,7 @@ def files(strike: Strike, path: str, format: str, options: Mapping[str, Any]) ->
     folder, name = os.path.split(os.path.splitext(path)[0])
     if format == "fnt":
         from . import bmfont
+        _check(strike, format, options)
         made = bmfont.files(strike, name, **options)
         return {path if it.endswith(".fnt") else os.path.join(folder, it): data for it, data in made.items()}
     return {path: encode(strike, format, {"name": name, **options} if format in IN_C else options)}
@@ -115,6 +129,8 @@ def write(path: str, data: bytes) -> None:
             stream.write(data)
         return
     path = os.path.realpath(path)  # a link stays one
+    if not os.path.isdir(os.path.dirname(path)):
+        raise FileNotFoundError(errno.ENOENT, "there is no folder", os.path.dirname(path))
     is_there = os.path.exists(path)
     if is_there and not os.access(path, os.W_OK):
         raise PermissionError(errno.EACCES, os.strerror(errno.EACCES), path)

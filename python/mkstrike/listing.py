@@ -4,8 +4,8 @@ from __future__ import annotations
 from collections import namedtuple
 from collections.abc import Iterator
 
-from .names import _numbers as numbers, _table as table
 from .refused import Refused, code_name, shown
+from .tables import numbers, table
 
 TYPE_CHECKING = False  # as in glyph.py
 if TYPE_CHECKING:

@@ -1,11 +1,11 @@
 """What a font calls itself, by its tables `name`, `OS/2` and `post`, and its long name in X11. A damaged table says nothing."""
 from __future__ import annotations
 
-import struct
 from collections import namedtuple
 
 from . import _library
 from .refused import shown
+from .tables import numbers, table
 
 TYPE_CHECKING = False  # as in glyph.py
 if TYPE_CHECKING:
@@ -33,24 +33,14 @@ WIDTHS = ("UltraCondensed", "ExtraCondensed", "Condensed", "SemiCondensed", "Nor
 
 def names_of(data: bytes, face: int, otherwise: str) -> Names:
     """The names of a font of a file; its family is `otherwise` if it has none."""
-    os2, post = (_table(data, face, tag) for tag in (b"OS/2", b"post"))
-    weight, width = _numbers(">HH", os2, 4) or (400, 5)
-    (selection,) = _numbers(">H", os2, 62) or (0,)
-    (fixed,) = _numbers(">I", post, 12) or (0,)
-    family, style = (next(filter(None, (_said(data, face, it) for it in numbers)), "") for numbers in (FAMILY, STYLE))
+    os2, post = (table(data, face, tag) for tag in (b"OS/2", b"post"))
+    weight, width = numbers(">HH", os2, 4) or (400, 5)
+    (selection,) = numbers(">H", os2, 62) or (0,)
+    (fixed,) = numbers(">I", post, 12) or (0,)
+    family, style = (next(filter(None, (_said(data, face, it) for it in which)), "") for which in (FAMILY, STYLE))
     slant = "O" if selection & OBLIQUE or "oblique" in style.lower() else "I" if selection & ITALIC else "R"
     is_bold = selection & BOLD and not 550 <= weight <= 1000
     return Names(family or otherwise, style or "Regular", 700 if is_bold else weight, width, slant, bool(fixed))
-
-
-def underline_of(data: bytes, face: int, size: int) -> tuple[int, int] | None:
-    """Where the upper edge of an underline is, in rows above the baseline, and how many rows it has, by the tables `post` and `head`."""
-    (em,) = _numbers(">H", _table(data, face, b"head"), 18) or (0,)
-    position, thickness = _numbers(">hh", _table(data, face, b"post"), 8) or (0, 0)
-    if em == 0 or thickness <= 0:
-        return None
-    row, rows = ((2 * it * size + em) // (2 * em) for it in (position, thickness))
-    return row, max(rows, 1)
 
 
 def x11_name(names: Names, size: int, spacing: str, average: int) -> str:
@@ -59,23 +49,6 @@ def x11_name(names: Names, size: int, spacing: str, average: int) -> str:
     weight = [word for least, word in WEIGHTS if least <= names.weight][-1]
     width = WIDTHS[names.width - 1] if 1 <= names.width <= 9 else "Normal"
     return "-misc-%s-%s-%s-%s--%d-%d-72-72-%s-%d-ISO10646-1" % (family, weight, names.slant, width, size, 10 * size, spacing.lower(), average)
-
-
-def _numbers(form: str, data: bytes, at: int) -> tuple[int, ...] | None:
-    """The numbers of a table at an offset; None if it ends before."""
-    return struct.unpack_from(form, data, at) if 0 <= at <= len(data) - struct.calcsize(form) else None
-
-
-def _table(data: bytes, face: int, tag: bytes) -> bytes:
-    """The bytes of a table; none if it is not there."""
-    (start,) = (_numbers(">I", data, 12 + 4 * face) if data[:4] == b"ttcf" else None) or (0,)
-    (count,) = _numbers(">H", data, start + 4) or (0,)
-    for k in range(count):
-        at = start + 12 + 16 * k
-        if data[at:at + 4] == tag:
-            offset, length = _numbers(">II", data, at + 8) or (0, 0)
-            return data[offset:offset + length]
-    return b""
 
 
 def _said(data: bytes, face: int, number: int) -> str:

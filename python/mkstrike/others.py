@@ -15,7 +15,6 @@ from .refused import NotInstalled
 if TYPE_CHECKING:
     from .strike import Strike
 
-EQUIVALENTS = "/usr/share/bdf2psf/standard.equivalents"
 MOST = 512  # glyphs of a font of the console
 
 
@@ -23,11 +22,11 @@ def psf(strike: Strike) -> bytes:
     """A font for the Linux console. All advances have to be equal (`Strike.cell`); characters that bdf2psf leaves out are a warning."""
     if len({it.advance for it in strike.values()}) != 1:
         raise ValueError("a font of the console has one advance for all glyphs: make a cell first (cell, --cell)")
+    if len(strike) > MOST:
+        raise ValueError("a font of the console has at most %d glyphs, not %d: give fewer characters, as --chars Lat15" % (MOST, len(strike)))
     size = 256 if len(strike) <= 256 else MOST
     listed = "".join("U+%04X\n" % ord(it) for it in strike).encode()
-    # characters that look alike share a glyph only if there is no room for each
-    equal = EQUIVALENTS if len(strike) > MOST and os.path.exists(EQUIVALENTS) else os.devnull
-    return _made("bdf2psf", "bdf2psf", strike, ["--fb", "in.bdf", equal, "in.set", str(size), "out"], {"in.set": listed})
+    return _made("bdf2psf", "bdf2psf", strike, ["--fb", "in.bdf", os.devnull, "in.set", str(size), "out"], {"in.set": listed})
 
 
 def pcf(strike: Strike) -> bytes:

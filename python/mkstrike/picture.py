@@ -4,6 +4,7 @@ from __future__ import annotations
 from collections.abc import Iterable
 from typing import TYPE_CHECKING, Any
 
+from ._library import whole
 from .refused import NotInstalled
 
 if TYPE_CHECKING:
@@ -23,6 +24,9 @@ def of_glyph(glyph: Glyph, scale: int) -> Image:
 
 def sheet(strike: Strike, columns: int, scale: int) -> Image:
     """All glyphs in rising order, in cells with a margin around them."""
+    columns, scale = whole(columns, "columns"), whole(scale, "scale")
+    if min(columns, scale) < 1:
+        raise ValueError("columns and scale are 1 or more, not %d and %d" % (columns, scale))
     width, height, placed = cells(strike, max(1, min(columns, len(strike))))
     return drawn(max(width, 0), max(height, 0), placed, scale, MARGIN)
 

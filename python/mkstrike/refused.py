@@ -90,13 +90,16 @@ class Refused(Exception):
 
 
 class Missing(KeyError):
-    """The font, or the strike, does not have the character."""
+    """The font, or the strike, does not have the character. `chars` are all that a strike lacks."""
 
-    def __init__(self, char: str) -> None:
-        super().__init__(char)
-        self.char = char
+    def __init__(self, char: str, chars: tuple[str, ...] = ()) -> None:
+        super().__init__(char, *([chars] if chars else []))
+        self.char, self.chars = char, chars
 
     def __str__(self) -> str:
+        if self.chars:
+            from .charsets import ranges
+            return "there is no " + ranges(map(ord, self.chars))
         return "there is no %s" % (code_name(ord(self.char)) if len(self.char) == 1 else repr(self.char))
 
 

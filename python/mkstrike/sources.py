@@ -5,17 +5,21 @@ import io
 import os
 from collections.abc import Mapping
 
+from . import tables
 from .refused import NotInstalled, kind_of, shown
 
 TYPE_CHECKING = False  # as in glyph.py
 if TYPE_CHECKING:
-    from typing import IO, Callable, TypeVar, Union
+    from typing import IO, Any, Callable, TypeVar, Union
 
     from fontTools.ttLib import TTFont
 
     Source = Union[str, "os.PathLike[str]", bytes, bytearray, memoryview, IO[bytes], TTFont]
     Made = TypeVar("Made")
+FAR = 0.25 / 1000  # of an em that a converted outline may be away
+FINEST, ROUNDED = 8192, 0.71  # units of an em on the finer grid, at most; how far rounding both coordinates of a point moves it
 MOST = 1 << 26  # bytes of a file, read or unpacked, as many as the program takes
+STYLES = ("bold", "italic", "oblique", "light", "medium", "regular", "black", "thin", "condensed")
 TOO_LARGE = "%s has more than {:,} bytes: none of that size is read".format(MOST)
 
 
@@ -59,8 +63,17 @@ def located(source: Source, face: int) -> tuple[Source, int]:
         said = subprocess.run(words, stdin=subprocess.DEVNULL, capture_output=True).stdout.decode(errors="surrogateescape")
     index, path, families = (said + "\n\n").split("\n")[:3]
     if source.partition(":")[0].strip().lower() not in families.lower().split(","):  # fontconfig always finds some font
-        raise FileNotFoundError(errno.ENOENT, "there is no such file, and no installed font of this name (fc-list shows them)", source)
+        raise FileNotFoundError(errno.ENOENT, "there is no such file, and no installed font of this name " + _how_to_name(source, bool(program)), source)
     return path, face or int(index) & 0xFFFF
+
+
+def _how_to_name(name: str, is_known: bool) -> str:
+    """How fonts are found by name, for one that was not."""
+    if not is_known:
+        return "can be looked up: fontconfig is not installed (Debian: fontconfig)"
+    family, _, style = name.rpartition(" ")
+    is_style = style.lower() in STYLES and family
+    return "(a style comes after a colon: '%s:%s')" % (shown(family), style.lower()) if is_style else "(fc-list shows them)"
 
 
 def read(source: Source) -> tuple[bytes, str]:
@@ -80,20 +93,23 @@ def read(source: Source) -> tuple[bytes, str]:
     return _read_all(source, "the file %s" % stem), stem
 
 
-def plain(data: bytes, face: int, axes: Mapping[str, float] | None) -> tuple[bytes, int]:
-    """The bytes as the library reads them, and which font of them is meant."""
+def plain(data: bytes, face: int, axes: Mapping[str, float] | None) -> tuple[bytes, int, bool]:
+    """The bytes as the library reads them, which font of them is meant, and whether its outlines were converted."""
     if data[:4] in (b"wOFF", b"wOF2"):
         from . import woff
         data = woff.unpacked(data)
-    if not axes or face and data[:4] != b"ttcf":  # the library refuses the face
-        return data, face
+    is_converted = tables.is_cff(data, face)
+    if not axes and not is_converted or face and data[:4] != b"ttcf":  # the library refuses the face
+        return data, face, False
 
-    def instance() -> bytes:
+    def made() -> bytes:
         out = io.BytesIO()
-        _instance(opened(data, face), axes or {}).save(out, reorderTables=None)
+        font = opened(data, face, "fonts with CFF outlines need" if is_converted else "axes need")
+        font = _instance(font, axes) if axes else font
+        (_converted(font) if is_converted else font).save(out, reorderTables=None)
         return out.getvalue()
 
-    return limited(by_fonttools(instance, data), "the instance"), 0
+    return limited(by_fonttools(made, data), "the font"), 0, is_converted
 
 
 def by_fonttools(call: Callable[[], Made], data: bytes) -> Made:
@@ -105,7 +121,7 @@ def by_fonttools(call: Callable[[], Made], data: bytes) -> Made:
     except BadAxes as fault:
         raise ValueError(str(fault)) from None
     except Exception as fault:
-        kind = kind_of(data[:16])
+        kind = None if data[:4] == tables.CFF else kind_of(data[:16])
         raise ValueError("fontTools can't read the font: %s%s" % (reason_of(fault), "; " + kind if kind else "")) from fault
 
 
@@ -119,22 +135,13 @@ class BadAxes(ValueError):
     """The places of axes that were asked for are not there."""
 
 
-def opened(data: bytes, face: int) -> TTFont:
+def opened(data: bytes, face: int, what: str) -> TTFont:
     """The font for fontTools, which leaves its tables as they are."""
     try:
         from fontTools.ttLib import TTFont
     except ImportError as fault:
-        raise NotInstalled("axes need fontTools (Debian: python3-fonttools; pip install fonttools)") from fault
+        raise NotInstalled(what + " fontTools (Debian: python3-fonttools; pip install fonttools)") from fault
     return TTFont(io.BytesIO(data), fontNumber=face, lazy=True, recalcBBoxes=False, recalcTimestamp=False)
-
-
-def axes_of(data: bytes, face: int) -> dict[str, tuple[float, float, float]]:
-    """The axes of a variable font: least value, default and greatest value of each."""
-    def axes() -> dict[str, tuple[float, float, float]]:
-        font = opened(data, face)
-        return {it.axisTag: (it.minValue, it.defaultValue, it.maxValue) for it in font["fvar"].axes} if "fvar" in font else {}
-
-    return by_fonttools(axes, data)
 
 
 def _instance(font: TTFont, axes: Mapping[str, float]) -> TTFont:
@@ -150,3 +157,39 @@ def _instance(font: TTFont, axes: Mapping[str, float]) -> TTFont:
             raise BadAxes("the axis %s goes from %g to %g, not to %g" % (tag, known[tag].minValue, known[tag].maxValue, value))
     places = {tag: axes.get(tag, axis.defaultValue) for tag, axis in known.items()}
     return instancer.instantiateVariableFont(font, places, inplace=True)
+
+
+def _converted(font: TTFont) -> TTFont:
+    """A font with CFF outlines as one with TrueType outlines, at most FAR of an em away: lines and parabolas, on a finer grid, so that the
+    rounded points are near enough too. It has no programs."""
+    from fontTools.ttLib import newTable
+    finer, order = max(FINEST // font["head"].unitsPerEm, 1), font.getGlyphOrder()
+    made = _parabolas(font, finer)
+    glyf, maxp, loca = newTable("glyf"), newTable("maxp"), newTable("loca")
+    glyf.glyphs, glyf.glyphOrder = made, order
+    maxp.tableVersion, maxp.numGlyphs, maxp.maxZones = 0x00010000, len(order), 1
+    for name in ("maxTwilightPoints", "maxStorage", "maxFunctionDefs", "maxInstructionDefs", "maxStackElements", "maxSizeOfInstructions",
+                 "maxComponentElements", "maxComponentDepth", "maxPoints", "maxContours", "maxCompositePoints", "maxCompositeContours"):
+        setattr(maxp, name, 0)
+    head, hhea, hmtx = font["head"], font["hhea"], font["hmtx"]
+    hmtx.metrics = {name: (advance * finer, getattr(made[name], "xMin", 0)) for name, (advance, _) in hmtx.metrics.items()}
+    hhea.ascent, hhea.descent, hhea.lineGap = hhea.ascent * finer, hhea.descent * finer, hhea.lineGap * finer
+    head.unitsPerEm, head.glyphDataFormat = head.unitsPerEm * finer, 0
+    for tag in {"CFF ", "CFF2", "VORG"} & set(font.keys()):
+        del font[tag]
+    font["glyf"], font["maxp"], font["loca"], font.sfntVersion = glyf, maxp, loca, "\0\1\0\0"
+    return font
+
+
+def _parabolas(font: TTFont, finer: int) -> dict[str, Any]:
+    """The glyphs of a font by their names, with outlines of lines and parabolas."""
+    from fontTools.pens.cu2quPen import Cu2QuPen
+    from fontTools.pens.transformPen import TransformPen
+    from fontTools.pens.ttGlyphPen import TTGlyphPen
+    near, glyphs, made = FAR * font["head"].unitsPerEm * finer - ROUNDED, font.getGlyphSet(), {}
+    for name in font.getGlyphOrder():
+        pen = TTGlyphPen(None)
+        glyphs[name].draw(TransformPen(Cu2QuPen(pen, near, reverse_direction=True), (finer, 0, 0, finer, 0, 0)))
+        made[name] = pen.glyph()
+        made[name].recalcBounds(None)
+    return made

@@ -6,7 +6,7 @@ import warnings
 from collections.abc import Iterator, Mapping, Sequence
 
 from . import bdf, glyph as glyphs
-from .charsets import listed
+from .charsets import mapped
 from .refused import Missing, shown
 from .sources import read_file
 from .texts import Glyphs, code_of
@@ -14,6 +14,8 @@ from .texts import Glyphs, code_of
 SHOWN = 12  # names of glyphs that a warning has
 TYPE_CHECKING = False  # as in glyph.py
 if TYPE_CHECKING:
+    from typing import Any
+
     from PIL.Image import Image
 
     from .charsets import Chars
@@ -26,23 +28,32 @@ class Strike(Glyphs):
 
     - `text`: the strike in BDF, as bytes
     - `missing`: the characters that were asked for and that the font lacks
-    - `refused`: from each character that was refused to its refusal
+    - `refused`: from each character that was refused, and left out, to its refusal
+    - `unhinted`: from each character that was refused, and drawn without hinting, to its refusal
     - `outside`: from each character that left its cell to how far (see `cell`)
     - `names`: what its font calls itself, from which `with_properties` makes the long name of X11; None if it has a name of its own
     - `underline`: where the upper edge of an underline is, in rows above the baseline, and how many rows it has; None if nothing says
+    - `notes`: what else there is to know of it, a line each, as that no pixel is set
     - `strays`, `steps`: what the font's programs did, if the strike was made here, else 0
     """
 
-    def __init__(self, text: bytes, *, missing: tuple[str, ...] | None = (), refused: Mapping[str, Refused] | None = None,
-                 outside: Mapping[str, Outside] | None = None, requested: tuple[int, ...] = (), names: Names | None = None,
-                 underline: tuple[int, int] | None = None, strays: int = 0, steps: int = 0, is_own: bool = False) -> None:
-        """A strike of its text; `is_own` says that this package or the program wrote it (see `bdf.parse`)."""
-        self._text, self._is_own = text, is_own
+    def __init__(self, text: bytes | bdf.Text, *, size: int | None = None, count: int | None = None, missing: tuple[str, ...] = (),
+                 refused: Mapping[str, Refused] | None = None, unhinted: Mapping[str, Refused] | None = None,
+                 outside: Mapping[str, Outside] | None = None, names: Names | None = None, notes: tuple[str, ...] = (),
+                 underline: tuple[int, int] | None = None, strays: int = 0, steps: int = 0, is_own: bool = False,
+                 given: Mapping[str, bdf.Value] | None = None) -> None:
+        """A strike of its text, with what is known of it: its size and how many glyphs it has are read if they are not. `is_own` says that
+        this package or the program wrote the text (see `bdf.parse`), `given` which properties its user gave."""
+        self._text = text if isinstance(text, bytes) else None
+        self._parsed = None if isinstance(text, bytes) else text
+        self._is_own, self._size, self._count = is_own, size, count
+        self.missing, self.notes = missing, notes
         self.refused: dict[str, Refused] = dict(refused or {})
+        self.unhinted: dict[str, Refused] = dict(unhinted or {})
         self.outside: dict[str, Outside] = dict(outside or {})
         self.names, self.strays, self.steps = names, strays, steps
-        self._missing, self._requested, self._underline = missing, requested, underline
-        self._parsed: bdf.Text | None = None
+        self._underline = underline
+        self._given: dict[str, bdf.Value] = dict(given or {})
         self._made: dict[int | None, glyphs.Glyph] = {}
 
     @classmethod
@@ -57,21 +68,15 @@ class Strike(Glyphs):
     @property
     def text(self) -> bytes:
         """The strike in BDF."""
+        if self._text is None:
+            self._text = self.parsed().encoded()
         return self._text
 
     def parsed(self) -> bdf.Text:
         """What the text says, read once."""
         if self._parsed is None:
-            self._parsed = bdf.parse(self._text, self._is_own)
+            self._parsed = bdf.parse(self.text, self._is_own)
         return self._parsed
-
-    @property
-    def missing(self) -> tuple[str, ...]:
-        """The characters that were asked for and that the font lacks."""
-        if self._missing is None:
-            has, refused = self.parsed().entries, self.refused
-            self._missing = tuple(chr(it) for it in self._requested if it not in has and chr(it) not in refused)
-        return self._missing
 
     @property
     def name(self) -> str:
@@ -81,7 +86,7 @@ class Strike(Glyphs):
     @property
     def size(self) -> int:
         """The size in pixels per em."""
-        return self.parsed().size
+        return self.parsed().size if self._size is None else self._size
 
     @property
     def ascent(self) -> int:
@@ -131,7 +136,7 @@ class Strike(Glyphs):
         return map(chr, sorted(self.parsed().entries))
 
     def __len__(self) -> int:
-        return len(self.parsed().entries)
+        return len(self.parsed().entries) if self._count is None else self._count
 
     def __eq__(self, other: object) -> bool:
         return isinstance(other, Strike) and self.text == other.text
@@ -162,18 +167,26 @@ class Strike(Glyphs):
         return formats.encode(self, format, options)
 
     def sheet(self, columns: int = 32, scale: int = 1) -> Image:
-        """All glyphs as a picture of Pillow, black on white, each in a cell of the strike's box."""
+        """All glyphs as a picture of Pillow, black on white, each in a cell of the strike's box; `save` writes it to a file."""
         from . import picture
         return picture.sheet(self, columns, scale)
 
     def subset(self, chars: Chars = "", *, text: str = "") -> Strike:
         """The strike of fewer characters: see `characters`; "all" are those of this strike. `missing` has those that it lacks."""
         has = self.parsed().entries
-        codes = listed(chars, text, lambda: has)
-        wanted, kept = set(map(chr, codes)), {code: has[code] for code in codes if code in has}
-        return self._with(self.parsed().with_entries(kept), {char: far for char, far in self.outside.items() if char in wanted},
-                          tuple(chr(it) for it in codes if it not in has and chr(it) not in self.refused),
-                          {char: why for char, why in self.refused.items() if char in wanted})
+        return self._chosen(mapped(chars, text, lambda: has))
+
+    def _chosen(self, given: Mapping[int, int]) -> Strike:
+        """The strike of characters, each with the glyph of one of this strike; what this strike lacks is missing."""
+        has = self.parsed().entries
+        kept = {new: bdf.renumbered(has[old], new) for new, old in given.items() if old in has}
+        return self._with(self.parsed().with_entries(kept), missing=tuple(
+            chr(new) for new, old in given.items() if old not in has and chr(old) not in self.refused), **{
+                which: {chr(new): found[chr(old)] for new, old in given.items() if chr(old) in found} for which, found in self._told()})
+
+    def _told(self) -> list[tuple[str, dict[str, Any]]]:
+        """What is told of characters, each with its name."""
+        return [("outside", self.outside), ("refused", self.refused), ("unhinted", self.unhinted)]
 
     def replace(self, given: Mapping[str, glyphs.Glyph] | Mapping[int, glyphs.Glyph]) -> Strike:
         """The strike with other glyphs of characters, or with more characters: from each to its glyph, as of another strike or of
@@ -187,18 +200,18 @@ class Strike(Glyphs):
             if not isinstance(it, glyphs.Glyph):
                 raise TypeError("the glyph of %r is a Glyph, not %s" % (char, type(it).__name__))
             more[code] = bdf.entry_of(code, it, text.size)
-        return self._with(text.with_entries({**text.entries, **more}), {char: far for char, far in self.outside.items() if char not in given},
-                          tuple(it for it in self.missing if it not in given),
-                          {char: why for char, why in self.refused.items() if char not in given})
+        return self._with(text.with_entries({**text.entries, **more}), missing=tuple(it for it in self.missing if ord(it) not in more), **{
+            which: {char: it for char, it in found.items() if ord(char) not in more} for which, found in self._told()})
 
-    def cell(self, width: int, height: int, *, ascent: int | None = None, clip: bool = False) -> Strike:
+    def cell(self, width: int, height: int, *, ascent: int | None = None, clip: bool = False, join: bool = False) -> Strike:
         """The same glyphs in a cell: each has the advance `width`, and ascent and descent together are `height`.
 
         `ascent` says how many rows of the cell are above the baseline; without it the rows that are too many or too few are shared by
         above and below. Glyphs keep their place from the origin. `outside` names those that leave the cell; with `clip` they lose the
-        pixels there."""
+        pixels there. With `join` the lines of box drawing reach the edges of the cell, and block elements and shades fill their parts of it
+        (U+2500 to U+259F), so that neighbours join."""
         from . import cell
-        return cell.in_cell(self, width, height, ascent, clip)
+        return cell.in_cell(self, width, height, ascent, clip, join)
 
     def diff(self, other: Strike) -> Diff:
         """How another strike differs: in its characters, their pixels, places and advances, in size, ascent and descent."""
@@ -208,22 +221,28 @@ class Strike(Glyphs):
     def with_properties(self, properties: Mapping[str, bdf.Value] | None = None, *, x11: bool = False) -> Strike:
         """The strike with more properties; with `x11` those that X11, fontconfig and bdf2psf look for, which given ones replace. A strike
         without a name of its own then gets the long name of X11."""
-        given = dict(properties or {})
-        bdf.check(given)
+        bdf.check(properties or {})
+        given = {**self._given, **(properties or {})}
         text = self.parsed()
         if x11 and self.names is not None:
             text = bdf.Text(bdf.x11_name(text, self.names), text.size, text.ascent, text.descent, text.properties, text.entries)
         more = {name: value for name, value in (bdf.x11(text) if x11 else {}).items() if name not in given}
         kept = {name: value for name, value in text.properties.items() if name not in more and name not in given}
-        return self._with(bdf.Text(text.name, text.size, text.ascent, text.descent, {**kept, **more, **given}, text.entries))
+        return self._with(bdf.Text(text.name, text.size, text.ascent, text.descent, {**kept, **more, **given}, text.entries), given=given)
 
-    def _with(self, text: bdf.Text, outside: Mapping[str, Outside] | None = None, missing: tuple[str, ...] | None = None,
-              refused: Mapping[str, Refused] | None = None) -> Strike:
-        """A strike of another text, with what was missing, refused and outside here if nothing else is given."""
+    def named(self, name: str) -> Strike:
+        """The strike with a name of its own."""
+        text = self.parsed()
+        bdf.check_name(name)
+        return self._with(bdf.Text(name, text.size, text.ascent, text.descent, text.properties, text.entries), names=None)
+
+    def _with(self, text: bdf.Text, **changed: Any) -> Strike:
+        """A strike of another text, of which the same is known as here but for what changed."""
         tell_of_unnamed(self.parsed().unnamed)
-        return Strike(text.encoded(), missing=self.missing if missing is None else missing, refused=self.refused if refused is None else refused,
-                      outside=self.outside if outside is None else outside, names=self.names, underline=self._underline,
-                      strays=self.strays, steps=self.steps, is_own=True)
+        known: dict[str, Any] = {name: getattr(self, name) for name in ("missing", "names", "notes", "underline", "strays", "steps")}
+        known.update(self._told(), given=self._given)
+        known.update(changed)
+        return Strike(text, is_own=True, **known)
 
 
 def tell_of_unnamed(names: Sequence[str]) -> None:

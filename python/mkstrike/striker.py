@@ -1,7 +1,7 @@
 """A font at a size: glyphs one by one, without a strike."""
 from __future__ import annotations
 
-from collections.abc import Iterator
+from collections.abc import Iterator, Mapping
 
 from . import _library
 from .charsets import listed
@@ -70,9 +70,11 @@ class Striker(Glyphs):
         codes = listed(chars, text, self.font.characters)
         return {chr(code): Glyph(chr(code), *made) for code, status, made in self._block.glyphs(self._dropout, codes) if not status}
 
-    def boxes(self, codes: list[int]) -> list[tuple[int, int, int, int]]:
-        """Width, height, left and bottom of the glyphs of characters, but those that are missing or refused."""
-        return [made[:4] for _, status, made in self._block.glyphs(self._dropout, codes, with_pixels=False) if not status]
+    def boxes(self, given: Mapping[int, int]) -> dict[int, tuple[int, int, int, int, int]]:
+        """Width, height, left, bottom and advance of glyphs, but those that are missing or refused, each by the character that gets it."""
+        found = {code: made[:5] for code, status, made in self._block.glyphs(self._dropout, sorted(set(given.values())), with_pixels=False)
+                 if not status}
+        return {new: found[old] for new, old in given.items() if old in found}
 
     @property
     def heights(self) -> tuple[int, int, int]:

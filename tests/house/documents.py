@@ -15,6 +15,7 @@ is between .EX and .EE in a man page. It is a block of commands, unless a commen
     <!-- status N -->            the commands end with the status N, not 0
     <!-- display -->             the commands need an X server: one without a screen is started (Xvfb)
     <!-- picture COMMANDS -->    the commands that make the picture that the next line shows
+    <!-- printed COMMANDS -->    the commands, which are not shown, that print what the next lines show
     <!-- not made: WHY -->       the picture that the next line shows is not made anew
 
 Marks are joined by semicolons; in a man page they are comments of it. What is not installed is named and left out, fonts too.
@@ -58,12 +59,12 @@ class Block:
     def __init__(self, line, marks, lines, first, end):
         self.line, self.lines, self.first, self.end = line, lines, first, end
         self.marks = {}
-        for mark in marks.split(";") if not marks.startswith(("picture", "not run", "not made")) else [marks]:
+        for mark in marks.split(";") if not marks.startswith(("picture", "printed", "not run", "not made")) else [marks]:
             word, rest = re.match(r"(\S*)\s*(.*)", mark.strip(), re.DOTALL).groups()
             if word:
                 self.marks[word] = rest
         self.is_picture = "picture" in self.marks or self.marks.get("not", "").startswith("made")
-        self.is_output = "output" in self.marks
+        self.is_output = "output" in self.marks or "printed" in self.marks
         self.is_left = "not" in self.marks
 
 
@@ -147,6 +148,8 @@ class Document:
                 if block.is_picture:
                     self.look_at_picture(block)
                 elif block.is_output:
+                    if "printed" in block.marks:
+                        self.run_block(block, block.marks["printed"].split("\n"))
                     self.look_at_output(block, anew)
                 elif not block.is_left:
                     self.run_block(block, block.lines)

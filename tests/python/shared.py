@@ -1,6 +1,8 @@
 """What the tests share: the program to compare with, fonts, and the repository's own makers of fonts.
 
 They run against the installed package: test_installed.py installs it into a clean environment."""
+import contextlib
+import io
 import os
 import re
 import subprocess
@@ -8,7 +10,7 @@ import sys
 
 import pytest
 
-from mkstrike import _library
+from mkstrike import _library, command
 
 TOP = os.environ.get("MKSTRIKE_TOP") or os.path.dirname(os.path.dirname(os.path.dirname(os.path.realpath(__file__))))
 with open(os.path.join(TOP, "VERSION"), encoding="utf-8") as _file:
@@ -91,6 +93,26 @@ def strike_by_command(folder, *words, status=0, data=b""):
     ran = subprocess.run([script, *map(str, words)], cwd=folder, input=data, capture_output=True, timeout=600)
     assert ran.returncode == status, ran.stderr.decode()
     return ran.stdout.decode(), ran.stderr.decode()
+
+
+def run_in_process(words, folder, data=b""):
+    """Runs the command in a folder, in this process. Returns the status, and what it prints on both outputs."""
+    outputs = [io.TextIOWrapper(io.BytesIO(), encoding="utf-8") for _ in range(2)]
+    before = os.getcwd(), sys.stdin
+    os.chdir(folder)
+    sys.stdin = io.TextIOWrapper(io.BytesIO(data))
+    try:
+        with contextlib.redirect_stdout(outputs[0]), contextlib.redirect_stderr(outputs[1]):
+            try:
+                status = command.main([str(it) for it in words])
+            except SystemExit as end:
+                status = end.code
+    finally:
+        os.chdir(before[0])
+        sys.stdin = before[1]
+    for it in outputs:
+        it.flush()
+    return status, outputs[0].buffer.getvalue(), outputs[1].buffer.getvalue().decode()
 
 
 def pixels(glyph):

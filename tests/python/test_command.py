@@ -9,7 +9,7 @@ import pytest
 from shared import LIBERATION, MONO, SANS, TOP, VERSION, font_bytes, needs_font, needs_pillow, strike_by_command as run, text_of
 
 import mkstrike
-from mkstrike import arguments, command
+from mkstrike import command, options, report
 
 pytestmark = needs_font(SANS, MONO, LIBERATION)
 
@@ -38,7 +38,7 @@ def test_options(tmp_path):
     name = "-misc-dejavu-medium-r-normal--16-160-72-72-m-100-ISO10646-1"
     run(tmp_path, MONO, "--chars", "41", "--text", "-", "--unhinted", "--dropout", "--x11", "--name=" + name, "--property", "CAP_HEIGHT=12",
         "--property", "FOUNDRY=misc", data="é\n€".encode())
-    assert (tmp_path / "DejaVuSansMono-16.bdf").read_bytes() == text_of(
+    assert (tmp_path / "DejaVuSansMono-unhinted-left-16.bdf").read_bytes() == text_of(
         ["--ppem", "16", "--chars", "41,e9,20ac", "--unhinted", "--x11", "--name=" + name, "--property=CAP_HEIGHT=12",
          "--property=FOUNDRY=misc"], font_bytes(MONO), "left")
     (tmp_path / "text").write_text("abc\n", encoding="utf-8")
@@ -77,7 +77,7 @@ def test_many_refused(tmp_path):
     glyph = found.value
     refused = {chr(code): glyph for code in range(0x41, 0x55)}
     strike = mkstrike.Strike(mkstrike.Font(SANS).strike(16, "20").text, refused=refused, is_own=True)
-    lines = command.report(strike, False)
+    lines = report.of_strike(strike, False)
     assert [it for it in lines if it.startswith("refused")] == ["refused: U+%04X: %s" % (0x41 + k, glyph.line) for k in range(12)] + [
         "refused: 8 more: U+004D-U+0054"]
 
@@ -100,11 +100,11 @@ def test_pictures(tmp_path, form):
 
 def test_merging(tmp_path):
     """Fonts, and a strike that is there already, merged."""
-    run(tmp_path, LIBERATION, MONO, "--merge", "--chars", "ascii,2603,2500", "--size", "12,16", "--name", "both")
+    run(tmp_path, "--chars", "ascii,2603,2500", "--size", "12,16", "--name", "both", "--font", LIBERATION, "--font", MONO)
     for size in (12, 16):
         strikes = [mkstrike.Font(it).strike(size, "ascii,2603,2500", name="both") for it in (LIBERATION, MONO)]
         assert (tmp_path / ("both-%d.bdf" % size)).read_bytes() == mkstrike.merge(strikes).text
-    run(tmp_path, "both-16.bdf", SANS, "--merge", "--chars", "1f600", "--out", "more")
+    run(tmp_path, "--font", "both-16.bdf", "--font", SANS, "--chars", "1f600", "--out", "more")
     merged = mkstrike.Strike.open(tmp_path / "more/both-16.bdf")
     assert len(merged) == 98 and merged["😀"] == mkstrike.Font(SANS).strike(16, "1f600")["😀"]
     out, _ = run(tmp_path, "both-12.bdf", "both-16.bdf", "--format", "c", "--out", "c")
@@ -117,10 +117,10 @@ def test_mistakes(tmp_path):
     out, err = run(tmp_path, "bad.ttf", "none.ttf", SANS, "--size", "16,2000", status=1)
     assert out == "./DejaVuSans-16.bdf: 191 glyphs\n"
     lines = [it.split(": ", 1)[1] for it in err.splitlines()]
-    assert lines[2] == "the file looks like an OpenType font with CFF outlines, which is not read: give a TrueType font"
-    assert lines[:2] + lines[3:] == [
-        "none.ttf: there is no such file, and no installed font of this name (fc-list shows them)", "bad.ttf at 16 pixels: 10 NotTrueType",
-        "bad.ttf at 2000 pixels: 60 BadSize", "give a size from 1 to 1024", "%s at 2000 pixels: 60 BadSize" % SANS, "give a size from 1 to 1024"]
+    assert lines.pop(1) == "the file looks like an OpenType font with CFF outlines, which is not read: give a TrueType font"
+    assert lines == ["bad.ttf at 16 pixels: 10 NotTrueType", "bad.ttf at 2000 pixels: 60 BadSize", "give a size from 1 to 1024",
+                     "none.ttf: there is no such file, and no installed font of this name (fc-list shows them)", "%s at 2000 pixels: 60 BadSize" % SANS,
+                     "give a size from 1 to 1024"]
     out, err = run(tmp_path, SANS, "--format", "bdf,psf", status=1)
     assert "one advance" in err or "not installed" in err
 
@@ -153,9 +153,9 @@ def test_module():
 def test_page():
     """The man page has the options of the command."""
     with open(os.path.join(TOP, "docs/strike.1"), encoding="utf-8") as file:
-        page = file.read().replace("\\-", "-").partition(".SH OPTIONS")[2]
+        page = file.read().replace("\\-", "-").partition(".SH CHARACTERS")[2]
     shown = [name for head in re.findall(r"^\.TP\n(.*)$", page, re.M) for name in re.findall(r"(?<![\w-])--?[a-z]+[\w-]*", re.sub(r"\\f[BIR]", "", head))]
-    due = [name for action in arguments.parser()._actions if action.help != argparse.SUPPRESS for name in action.option_strings]
+    due = [name for action in options.parser()._actions if action.help != argparse.SUPPRESS for name in action.option_strings]
     assert sorted(shown) == sorted(due)
     assert all(name in page for name in mkstrike.character_sets())
 

@@ -9,7 +9,7 @@ from test_layouts import SMALL
 from test_others import CC, DRAW_GFX, DRAW_LVGL, GFXFONT, LVGL, drawn
 
 import mkstrike
-from mkstrike.names import underline_of
+from mkstrike.tables import underline
 
 
 @needs_font(SANS)
@@ -75,7 +75,7 @@ def font_with(post, em=2048):
     (struct.pack(">hh", -100, 0), 1000, 16, None), (struct.pack(">hh", -100, -5), 1000, 16, None),
     (struct.pack(">hh", -100, 50), 0, 16, None), (b"\xff\x00\x00", 1000, 16, None), (b"", 1000, 16, None)])
 def test_underline_by_hand(post, em, size, due):
-    assert underline_of(font_with(post, em), 0, size) == due
+    assert underline(font_with(post, em), 0, size) == due
 
 
 @needs_font(SANS, MONO, LIBERATION)

@@ -342,8 +342,6 @@ def test_what_is_not_installed(monkeypatch):
     monkeypatch.setitem(sys.modules, "fontTools.ttLib", None)
     with pytest.raises(mkstrike.NotInstalled, match="python3-fonttools"):
         mkstrike.Font(b"", axes={"wght": 400})
-    with pytest.raises(mkstrike.NotInstalled, match="python3-fonttools"):
-        mkstrike.Font(SANS).axes()
     monkeypatch.setattr(sys, "path", [it for it in sys.path if not it.endswith("-packages")])
     with pytest.raises(mkstrike.NotInstalled, match="WOFF2 needs fontTools"):
         mkstrike.Font(b"wOF2" + bytes(100))

@@ -27,7 +27,7 @@ def test_each_refusal():
     for (size, chars, hinted, dropout), run in cases():
         font, line = mkstrike.Font(run.data), run.due.err.decode().strip()
         try:
-            strike = font.strike(size, chars, hinted=hinted, dropout=dropout, strict=True)
+            strike = font.strike(size, chars, hinted=hinted, dropout=dropout, refused="refuse")
             said = "mkstrike: glyphs %d missing %d strays %d steps %d" % (len(strike), len(strike.missing), strike.strays, strike.steps)
         except mkstrike.Refused as why:
             said = "mkstrike: " + why.line
@@ -132,7 +132,7 @@ def test_damaged_fonts():
         hinted, dropout = choose.random() < .5, choose.random() < .3
         status, out, said = program(["make", "--ppem", "16", "--chars", "20-ff,1eb4", *flags(hinted, dropout)], data)
         try:
-            strike = mkstrike.Font(data).strike(16, "20-ff,1eb4", hinted=hinted, dropout=dropout, strict=True)
+            strike = mkstrike.Font(data).strike(16, "20-ff,1eb4", hinted=hinted, dropout=dropout, refused="refuse")
             assert (status, out) == (0, strike.text)
         except mkstrike.Refused as why:
             assert (status, said) == (1, "mkstrike: " + why.line)

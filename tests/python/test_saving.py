@@ -93,7 +93,7 @@ def test_modes(tmp_path, monkeypatch):
     assert path.read_bytes() == b"old" and os.listdir(tmp_path) == ["a.bdf"]
 
 
-@pytest.mark.parametrize("words", [["old-16.bdf", "--cell", "8x16", "--clip"], ["./old-16.bdf", MONO, "--merge"], ["linked.bdf", "--out", "out"],
+@pytest.mark.parametrize("words", [["old-16.bdf", "--cell", "8x16", "--clip"], ["--font", "./old-16.bdf", "--font", MONO, "--chars", "41"], ["linked.bdf", "--out", "out"],
                                    [SANS, "--name", "old", "--chars", "old-16.bdf"], [SANS, "--name", "old", "--chars", "A,./old-16.bdf"]])
 def test_inputs_stay(tmp_path, words):
     """No output replaces what is read."""
@@ -105,13 +105,14 @@ def test_inputs_stay(tmp_path, words):
     _, said = strike_by_command(tmp_path, *words, status=1)
     assert "is read here, and would be replaced: give another folder by --out" in said
     assert (tmp_path / "old-16.bdf").read_bytes() == strike.text and len(os.listdir(tmp_path)) == 3
-    strike_by_command(tmp_path, *words, "--out", "other")
+    if "--out" not in words:
+        strike_by_command(tmp_path, *words, "--out", "other")
 
 
 def test_one_name(tmp_path):
     """Two fonts never share a file: by one --name, by equal names, or by a strike of a font's name."""
     assert "files of different fonts would have one name" in strike_by_command(tmp_path, SANS, MONO, "--name", "x", status=2)[1]
     mkstrike.Font(MONO).strike(16, "ascii").save(tmp_path / "DejaVuSans-16.bdf")
-    _, said = strike_by_command(tmp_path, "DejaVuSans-16.bdf", SANS, "--chars", "41", "--out", "out", status=1)
+    _, said = strike_by_command(tmp_path, "DejaVuSans-16.bdf", SANS, "--chars", "ascii", "--out", "out", status=1)
     assert "out/DejaVuSans-16.bdf would be replaced by a second strike" in said
     assert len(mkstrike.Strike.open(tmp_path / "out/DejaVuSans-16.bdf")) == 95

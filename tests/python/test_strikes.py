@@ -130,7 +130,7 @@ def test_glyphs_stay():
 def test_strikes_without_a_glyph():
     """They are a warning that says why, and the way out."""
     font = mkstrike.Font(SANS)
-    for chars, said in (("", "no character was asked for; give chars="), ("face", "the font has none of the characters; .* the characters of a text are text="),
+    for chars, said in (("", "no character was asked for; give chars="), ("face", "the font has none of the characters; .* for the characters of a text use text="),
                         ("12", "none of the characters"), ("19c", "each character is refused; with hinted=False no program of the font runs; ")):
         with pytest.warns(UserWarning, match="^the strike has no glyph: .*" + said) as warned:
             assert not len(font.strike(16, chars))

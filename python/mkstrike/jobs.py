@@ -1,0 +1,325 @@
+"""What the arguments of `strike` ask for: which fonts make which strikes, in which formats and files."""
+from __future__ import annotations
+
+import argparse
+import os
+import re
+import stat
+import sys
+
+from . import bdf, formats, options as table, sources
+from .charsets import OF_TEXT, mapped
+from .font import LOOK, Font, symbols
+from .merge import Part, Told, fitting, joined
+from .refused import Missing, shown
+from .strike import Strike
+
+TYPE_CHECKING = False  # as in glyph.py
+if TYPE_CHECKING:
+    from collections.abc import Callable
+    from typing import Any
+
+PLACEHOLDERS = "\ufffd?"  # what stands in a preview for a character that the font lacks: the first that it has
+TAB = 8  # columns of a preview
+ASK_OF_TEXT = "for the characters of a text use --text FILE"
+IS_NAME = r"\w[\w.+-]*"  # a name that files can have
+
+
+class Asked:
+    """What is asked of one font: its options, and those of all."""
+
+    def __init__(self, path: str, own: dict[str, Any], common: dict[str, Any]) -> None:
+        both = {**common, **own}
+        self.path, self.is_bdf = path, path.lower().endswith(".bdf")
+        self.sizes = _sizes(both["size"]) if "size" in both and not self.is_bdf else []
+        self.face, self.axes = both.get("face", 0), _axes(both.get("axes", ""))
+        self.chars, self.text = _characters(own)
+        self.shift = own.get("shift_y", 0)
+        self.how: dict[str, Any] = {} if self.is_bdf else {
+            "hinted": not both.get("unhinted"), "dropout": both.get("dropout", "font"), "refused": both.get("refused", "leave-out"),
+            "symbol": both.get("symbol", False)}
+
+    def opened(self, read: list[str]) -> Font | Strike:
+        """The font, or a strike that is there already. Adds to what is read."""
+        if self.is_bdf:
+            return Strike.open(self.path)
+        if self.path == "-":
+            return Font(sources.read(sys.stdin.buffer)[0], face=self.face, axes=self.axes)
+        source, face = sources.located(self.path, self.face)
+        read.append(str(source))
+        return Font(source, face=face, axes=self.axes)
+
+    def part(self, source: Font | Strike, size: int) -> Part:
+        """The part that it has in a strike of several."""
+        part = Part(source, None if self.is_bdf else size, self.chars, {"text": self.text, "shift_y": self.shift, **self.how})
+        part.name = self.name(source)
+        return part
+
+    def name(self, source: Font | Strike) -> str:
+        """A name that tells the font from others."""
+        words = [os.path.splitext(os.path.basename(self.path))[0] if isinstance(source, Strike) else source.name]
+        return "-".join(words + ["face%d" % self.face] * bool(self.face) + ["%s%g" % it for it in self.axes.items()])
+
+    def stem(self, source: Font | Strike) -> str:
+        """The name of its files without the size: that of the font, and how it is drawn."""
+        return "-".join([self.name(source)] + ["unhinted"] * (self.how.get("hinted") is False)
+                        + [it for it in [self.how.get("dropout", "font")] if it != "font"])
+
+
+class Job:
+    """What the arguments ask for. `groups` has the fonts of each strike: one of each, or all of them after --font."""
+
+    def __init__(self, given: argparse.Namespace) -> None:
+        self.options, common = given, given.groups[0]
+        self.is_joined = len(given.groups) > 1
+        paths = [it["font"] for it in given.groups[1:]] if self.is_joined else given.fonts
+        if self.is_joined and given.fonts or not paths:
+            raise ValueError("fonts of one strike come after --font each: %s is not" % shown(given.fonts[0]) if paths else "give a FONT")
+        self.refuse_mistaken(paths)
+        asked = [Asked(path, {key: it for key, it in own.items() if key != "font"}, common)
+                 for path, own in zip(paths, given.groups[1:] or [{}] * len(paths))]
+        self.groups = [asked] if self.is_joined else [[it] for it in asked]
+        self.outputs = self.checked_outputs()
+        table.check(given, [(table.BDF if it.is_bdf else table.FONT, it.path) for it in asked], self.outputs)
+        self.preview = None if given.preview is None else given.preview.expandtabs(TAB)
+        self.chars, self.text = _characters(common)
+        self.text += self.preview or ""
+        self.texts = [it for group in given.groups for it in group.get("text", [])]
+        if (self.texts + paths).count("-") > 1:
+            raise ValueError("standard input is the font or the text, not both")
+        self.read = [it for it in (*paths, *self.texts, *map(str.strip, self.chars.split(","))) if it and os.path.exists(it)]
+        self.fit, self.cell = _cell(given.fit, "--fit"), _cell(given.cell, "--cell")
+        self.properties = _properties(given.property or [])
+        self.check_together()
+
+    # ---- what goes together
+
+    def refuse_mistaken(self, paths: list[str]) -> None:
+        """Refuses words that stand for a font and are none: a file to write, a size, a cell, a text."""
+        for path in paths:
+            is_there, ending = os.path.exists(path) or path == "-", os.path.splitext(path)[1].lower()
+            if not is_there and ending in formats.OF_ENDING:
+                raise ValueError("there is no %s to read; to write it: -o %s" % (shown(path), shown(path)))
+            if not is_there and re.fullmatch(r"[0-9]+(-[0-9]+)?", path):
+                raise ValueError("there is no font %s; a size is --size %s, and characters are --chars 20-7e" % (path, path))
+            if not is_there and re.fullmatch(r"[0-9]+x[0-9]+", path):
+                raise ValueError("there is no font %s; a cell is --cell %s or --fit %s" % (path, path, path))
+            if not is_there and path in ("make", "show", "help"):
+                raise ValueError("strike has no commands, as '%s': strike FONT makes strikes, and mkstrike %s is another program" % (path, path))
+            if any("text" in it for it in self.options.groups) and path != "-" and _is_text(path):
+                raise ValueError("%s is a text, and is taken for a font: give each text after its own --text" % shown(path))
+
+    def checked_outputs(self) -> list[str]:
+        """The formats of the files, or what else is written."""
+        o = self.options
+        if o.preview is not None and o.output is None:
+            return [table.TERMINAL]
+        found: list[str] = o.format.split(",") if o.format else [formats.by_ending(o.output) if o.output and o.output != "-" else "bdf"]
+        for name in found:
+            if name not in formats.FORMATS:
+                raise ValueError("--format %s: there are %s" % (shown(name), ", ".join(formats.FORMATS)))
+        self.formats = found
+        if o.preview is not None and not set(found) <= set(formats.PICTURES):
+            raise ValueError("--preview is printed, or with -o a picture in PNG or PBM")
+        return [table.PICTURE] if o.preview is not None else found
+
+    def check_together(self) -> None:
+        """Refuses options that say two things."""
+        o, asked = self.options, [it for group in self.groups for it in group]
+        if self.fit and (self.cell or any(it.sizes for it in asked)):
+            raise ValueError("--fit finds the size and makes the cells: leave %s out" % ("--cell" if self.cell else "--size"))
+        if o.output and o.out:
+            raise ValueError("-o FILE is one file, --out FOLDER a folder for many: give one of them")
+        if o.out and os.path.splitext(o.out)[1].lower() in formats.OF_ENDING and not os.path.isdir(o.out):
+            raise ValueError("--out takes a folder: -o %s writes one file" % o.out)
+        if min(it or 1 for it in (o.scale, o.columns)) < 1 or 0 in (o.scale, o.columns):
+            raise ValueError("--scale and --columns are 1 or more")
+        if o.name is not None:
+            bdf.check_name(o.name)
+        if o.output and not (self.is_of_one or "%s" in o.output and len(self.groups) == 1 and len(self.outputs) == 1):
+            raise ValueError("-o FILE is one file: give one font, one format, and %s in its name for several sizes, or --out FOLDER for many; "
+                             "fonts of one strike come after --font each")
+        if len({it.path for it in asked} if o.name is None else {self.groups[0][0].path}) < len(self.groups):
+            raise ValueError("files of different fonts would have one name: give them one by one, or --font each for one strike")
+
+    @property
+    def is_of_one(self) -> bool:
+        """Whether one strike in one format is asked for."""
+        return len(self.groups) == 1 and len(self.outputs) == 1 and len(self.sizes(self.groups[0])[0]) == 1
+
+    @property
+    def output(self) -> str | None:
+        """The one file to write, if there is one: standard output, if it is an empty file and one strike is asked for."""
+        given: str | None = self.options.output
+        is_redirected = given is None and self.options.out is None and self.options.preview is None and self.is_of_one and _is_empty_file(sys.stdout)
+        return "-" if is_redirected else given
+
+    @property
+    def is_written(self) -> bool:
+        """Whether there are files; else a text is previewed on standard output."""
+        return self.outputs != [table.TERMINAL]
+
+    # ---- strikes
+
+    def sizes(self, group: list[Asked]) -> list[tuple[int, ...]]:
+        """The sizes of the fonts of a strike, for each font as many as there are strikes."""
+        count = max(1, *(len(it.sizes) for it in group))
+        for it in group:
+            if it.sizes and len(it.sizes) not in (1, count):
+                raise ValueError("%s has %d sizes, and another font of the strike %d: give one, or as many" % (shown(it.path), len(it.sizes), count))
+        return [tuple(it.sizes * (count if len(it.sizes) == 1 else 1) or [16] * count) for it in group]
+
+    def wanted(self, group: list[Asked], fonts: list[Font | Strike]) -> tuple[str, str]:
+        """The characters for all fonts of a strike: latin-1 if a font needs them and none are given. Those that stand for others in a preview
+        are among them."""
+        chars, text = self.chars, self.text
+        if not (chars or text) and not (group[0].is_bdf or group[0].chars or group[0].text):
+            chars = "latin-1"
+        if self.preview is not None:
+            text += "".join(it for it in PLACEHOLDERS if any(_has(font, it) for font in fonts))
+        return chars, text
+
+    def made(self, group: list[Asked], fonts: list[Font | Strike], at: int) -> tuple[Strike, list[Told]]:
+        """A strike of fonts at their sizes, or the largest that fit, and what is told of each font if they are joined."""
+        chars, text = self.wanted(group, fonts)
+        o, sizes = self.options, [it[at] for it in self.sizes(group)]
+        if self.fit:
+            parts = [asked.part(font, LOOK) for asked, font in zip(group, fonts)]
+            sizes = [fitting(parts, *self.fit, chars, text, o.ascent, o.clip)] * len(fonts)
+        strike, told = self.joined(group, fonts, sizes, chars, text) if self.is_joined else (self.alone(group[0], fonts[0], sizes[0], chars, text), [])
+        self.refuse(strike)
+        if self.fit or self.cell:
+            strike = strike.cell(*(self.fit or self.cell or ()), ascent=o.ascent, clip=o.clip, join=bool(o.join or self.fit))
+        if o.x11 or self.properties:
+            strike = strike.with_properties(self.properties, x11=o.x11)
+        return strike, told
+
+    def joined(self, group: list[Asked], fonts: list[Font | Strike], sizes: list[int], chars: str, text: str) -> tuple[Strike, list[Told]]:
+        """The strike of fonts that are joined."""
+        name, first = self.options.name, fonts[0]
+        strike, told = joined([asked.part(font, size) for asked, font, size in zip(group, fonts, sizes)], chars, text, name or group[0].name(first))
+        strike.names = first.names if name is None else None
+        return strike, told
+
+    def alone(self, asked: Asked, font: Font | Strike, size: int, chars: str, text: str) -> Strike:
+        """The strike of one font, or of a strike that is there already."""
+        name = self.options.name
+        if isinstance(font, Strike):
+            strike = font.subset(chars, text=text) if chars or text else font
+            strike = strike.named(name) if name is not None else strike
+        else:
+            how = dict(asked.how)
+            given = symbols(mapped(chars, text, font.characters), how.pop("symbol"))
+            strike = font._strike_of(size, given, name=name or asked.name(font), **how)
+            strike.names = font.names if name is None else None
+        return strike
+
+    def drawn(self, strike: Strike) -> str:
+        """The text of a preview as a strike can draw it: another character stands for one that is not there, if the strike has that."""
+        stand_in = next((it for it in PLACEHOLDERS if it in strike), "")
+        return "".join(it if it in strike or it in "\r\n" else stand_in for it in self.preview or "")
+
+    def refuse(self, strike: Strike) -> None:
+        """Refuses a strike that lacks a character, if that is asked for."""
+        lacks = tuple(it for it in strike.missing if self.preview is None or it in self.preview)
+        if self.options.strict and strike.refused:
+            raise next(iter(strike.refused.values()))
+        if lacks and (self.options.strict or self.options.require):
+            raise Missing(lacks[0], lacks)
+
+
+# ---- values of options
+
+def _characters(given: dict[str, Any]) -> tuple[str, str]:
+    """The characters that options ask for: a list, and a text."""
+    chars, text = ",".join(given.get("chars", [])), "".join(map(_text_of, given.get("text", [])))
+    try:
+        mapped(chars, text, lambda: ())
+    except ValueError as why:
+        raise ValueError(str(why).replace(OF_TEXT, ASK_OF_TEXT)) from None
+    return chars, text
+
+
+def _has(font: Font | Strike, char: str) -> bool:
+    return char in font if isinstance(font, Strike) else bool(font.glyph_ids(text=char))
+
+
+def _text_of(path: str) -> str:
+    if path != "-" and not os.path.exists(path):
+        raise ValueError("--text takes a file, and there is no '%s'; a text itself comes by a pipe: printf '%%s' '%s' | strike --text - .." % (path, path))
+    data = sources.read(sys.stdin.buffer)[0] if path == "-" else sources.read_file(path)
+    try:
+        return data.decode("utf-8")
+    except UnicodeDecodeError as why:
+        raise ValueError("%s is no text in UTF-8 (byte %02X at %d); convert it, as by iconv -f latin1 -t utf-8" % (
+            shown(path), data[why.start], why.start)) from None
+
+
+def _is_text(path: str) -> bool:
+    """Whether a file begins as a text does."""
+    if not os.path.isfile(path):
+        return False
+    with open(path, "rb") as file:
+        start = file.read(64)
+    return bool(start) and not start.startswith(b"STARTFONT") and all(it >= 32 or it in (9, 10, 13) for it in start)
+
+
+def _is_empty_file(stream: Any) -> bool:
+    """Whether a stream is a file without a byte, as after `> FILE`."""
+    try:
+        found = os.fstat(stream.fileno())
+    except (OSError, ValueError, AttributeError):
+        return False
+    return stat.S_ISREG(found.st_mode) and not found.st_size
+
+
+def _sizes(text: str) -> list[int]:
+    """The sizes of an option, numbers and ranges that commas join."""
+    found: list[int] = []
+    for item in text.split(","):
+        bounds = item.split("-")
+        if len(bounds) > 2 or not all(it.isascii() and it.isdigit() for it in bounds) or int(bounds[-1]) - int(bounds[0]) not in range(1024):
+            raise ValueError("--size takes pixels per em, as 16 or 12,14 or 8-16, not '%s'; pixels are points times the resolution, divided by 72" % item)
+        found += range(int(bounds[0]), int(bounds[-1]) + 1)
+    return list(dict.fromkeys(found))
+
+
+def _cell(text: str | None, option: str) -> tuple[int, int] | None:
+    """Columns and rows of a cell."""
+    if text is None:
+        return None
+    width, _, height = text.lower().partition("x")
+    if not all(it.isascii() and it.isdigit() for it in (width, height)):
+        raise ValueError("%s takes columns and rows, as 8x16, not '%s'" % (option, text))
+    return int(width), int(height)
+
+
+def _number(text: str, option: str, kind: Callable[[str], float]) -> float:
+    """A number of an option."""
+    try:
+        return kind(text)
+    except ValueError:
+        raise ValueError("%s: %r is no number" % (option, text)) from None
+
+
+def _pairs(items: list[str], option: str) -> dict[str, str]:
+    """Names and values that = joins, each name once."""
+    found: dict[str, str] = {}
+    for item in items:
+        name, is_there, value = item.partition("=")
+        if not is_there:
+            raise ValueError("%s %s: it has no =" % (option, item))
+        if name in found:
+            raise ValueError("%s gives %s twice: each run makes one of them" % (option, name))
+        found[name] = value
+    return found
+
+
+def _axes(text: str) -> dict[str, float]:
+    """The places of axes."""
+    return {tag: _number(value, "--axes", float) for tag, value in _pairs([it for it in text.split(",") if it], "--axes").items()}
+
+
+def _properties(items: list[str]) -> dict[str, bdf.Value]:
+    """Properties, whose values are numbers if they look like them, as for `mkstrike make`."""
+    return {name: bdf.number_or_text(value) for name, value in _pairs(items, "--property").items()}

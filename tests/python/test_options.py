@@ -1,0 +1,113 @@
+"""Every option of `strike`, with each kind of FONT and each kind of output: it changes what is made or said, or is an error."""
+import os
+
+import pytest
+from shared import MONO, SANS, needs_font, needs_pillow, run_in_process
+
+import mkstrike
+from mkstrike import options
+
+pytestmark = [needs_font(SANS, MONO), needs_pillow]
+INPUTS = {"font": ["in.ttf"], "BDF": ["in.bdf"], "joined": ["--font", "in.ttf", "--font", "in.bdf"]}
+# The words that make each kind of output; its file, if it has one.
+OUTPUTS = {**{it: ["-o", "out", "--format", it] for it in options.FILES}, options.TERMINAL: ["--preview", "AWkƜ一█"],
+           options.PICTURE: ["-o", "out.png", "--preview", "AWkƜ一█"]}
+CELLS = ["--cell", "8x14"]  # in which some glyphs leave the cell, and raw cells can be made
+# From each option to its words, which change the output beside those words that come with it.
+WORDS = {
+    "chars": ["--chars", "61-63"], "all": ["--all"], "text": ["--text", "text.txt"], "symbol": ["--symbol"], "size": ["--size", "13"], "fit": ["--fit", "9x19"],
+    "cell": ["--cell", "7x12"], "ascent": ["--ascent", "11"], "clip": ["--clip"], "join": ["--join"], "shift_y": ["--shift-y", "2"],
+    "unhinted": ["--unhinted"], "dropout": ["--dropout=off"], "face": ["--face", "1"], "axes": ["--axes", "wght=700"], "refused": ["--refused", "unhinted"],
+    "out": ["--out", "folder"], "format": ["--format", "pbm"], "order": ["--order", "koi8-r"], "preview": ["--preview", "B2"], "name": ["--name", "other"],
+    "x11": ["--x11"], "property": ["--property", "FAMILY_NAME=Other"], "scale": ["--scale", "3"], "columns": ["--columns", "5"], "output": ["-o", "other"],
+    "require": ["--require"], "strict": ["--strict"], "quiet": ["--quiet"], "font": ["--font", "in.bdf"],
+}
+# Options that are in effect already, for these outputs: these formats always have the properties, and a sheet shows no cells.
+SAME = {("x11", it) for it in ("pcf", "otb", "psf")}
+NEEDED = {"ascent": CELLS, "clip": CELLS, "join": CELLS}
+LETTERS = "41-5a,19c,2500-2502,2588,4e00,20,31"  # one of them is refused, one is missing, and some have lines that can be joined
+
+
+@pytest.fixture(name="folder", scope="module")
+def folder_with_inputs(tmp_path_factory):
+    """A folder with a font, a strike and a text."""
+    folder = tmp_path_factory.mktemp("options")
+    os.symlink(SANS, folder / "in.ttf")
+    mkstrike.Font(MONO).strike(16, LETTERS + ",61-7a").save(folder / "in.bdf")
+    (folder / "text.txt").write_text("xyz", encoding="utf-8")
+    return folder
+
+
+def made(folder, words):
+    """What the command makes and says: its status, both outputs, and the files. Names of files count only if the words say them."""
+    for name in os.listdir(folder):
+        if not name.startswith("in.") and name != "text.txt":
+            path = folder / name
+            for it in path.iterdir() if path.is_dir() else [path]:
+                it.unlink()
+    status, out, err = run_in_process(words, folder)
+    files = {os.path.relpath(os.path.join(at, it), folder): open(os.path.join(at, it), "rb").read()
+             for at, _, names in os.walk(folder) for it in names if not it.startswith("in.") and it != "text.txt"}
+    return status, out, err, files
+
+
+def test_each_has_words():
+    """No option of the table is without a try."""
+    assert {"all" if it.names == ["--all"] else it.dest for it in options.OPTIONS} == set(WORDS)
+
+
+@pytest.mark.parametrize("output", OUTPUTS)
+@pytest.mark.parametrize("kind", INPUTS)
+def test_pairs(folder, kind, output):
+    """No option is ignored."""
+    ignored = []
+    asked = [] if "--preview" in OUTPUTS[output] else ["--chars", LETTERS]
+    for name, words in WORDS.items():
+        common = asked if name not in ("chars", "all", "text", "fit") else ["--chars", LETTERS] if output not in (options.TERMINAL, options.PICTURE) else []
+        cells = [] if output not in ("raw", "psf") or name in ("cell", "fit") else CELLS if name == "clip" else [*CELLS, "--clip"]
+        before = [*common, *OUTPUTS[output], *(cells or NEEDED.get(name, []))]
+        if name in ("out", "name"):
+            before = [it for it in before if it not in ("-o", "out")]  # without a file of its own
+        if name in ("preview", "format", "output") and words[0] in before:
+            continue  # the output is made by this option
+        base, found = made(folder, [*before, *INPUTS[kind]]), made(folder, [*words, *before, *INPUTS[kind]])
+        if found[0] == 2 or found[0] == 1 and found[2] and not found[3]:
+            continue  # an error that is told
+        if base[0] == 1 and found[0] == 1:
+            continue
+        if found == base and (name, output) not in SAME:
+            ignored.append(words + before + INPUTS[kind])
+    assert not ignored
+
+
+@pytest.mark.parametrize("option", [it for it in options.OPTIONS if options.BDF not in it.inputs], ids=lambda it: it.names[0])
+def test_what_a_bdf_cannot_have(folder, option):
+    """Options for fonts are errors with a BDF, before anything is made; in one strike with a font they are for the font."""
+    words = WORDS[option.dest]
+    status, _, err, files = made(folder, [*words, "in.bdf"])
+    assert (status, files) == (2, {}) and "says how a font is drawn, and in.bdf is a strike that is drawn already: leave it out" in err
+    if option.is_of_font:
+        status, _, err, files = made(folder, ["--chars", "41", "--font", "in.ttf", "--font", "in.bdf", *words, "-o", "a.bdf"])
+        assert (status, files) == (2, {}) and "in.bdf is a strike" in err
+
+
+@pytest.mark.parametrize("words, said", [
+    (["--columns", "3"], "--columns is for --format png,pbm, not for bdf"), (["--scale", "2"], "--scale is for --format png,pbm and --preview with -o, not for bdf; twice"),
+    (["--order", "cp437"], "--order is for --format raw, not for bdf"), (["--x11", "--format", "c"], "--x11 is for --format bdf,pcf,otb,psf, not for c"),
+    (["--property", "A=1", "--format", "png"], "--property is for --format bdf,pcf,otb, not for png"), (["--clip"], "--clip is for --cell and --fit"),
+    (["--preview", "A", "--chars", "41"], "--chars is for files, not for --preview on the terminal"), (["--preview", "A", "--name", "x"], "--name is for files"),
+    (["--preview", "A", "--out", "x"], "--out is for files"), (["--preview", "A", "--format", "png"], "--format is for files and --preview with -o"),
+    (["--size", "12", "--size", "14"], "--size is given twice"), (["--cell", "8x16", "--cell", "9x16"], "--cell is given twice"),
+    (["--axes", "wght=400,wght=700"], "--axes gives wght twice"), (["--property", "A=1", "--property", "A=2"], "--property gives A twice")])
+def test_what_is_said(folder, words, said):
+    """The errors name what the option is for."""
+    status, _, err, files = made(folder, ["in.ttf", *words])
+    assert (status, files) == (2, {}) and said in err, err
+
+
+def test_chosen_of_a_bdf(folder):
+    """--chars, --text, --name and --property choose from a BDF, and rename it."""
+    status, _, err, files = made(folder, ["in.bdf", "--chars", "41-43,4e01", "--text", "text.txt", "--name", "some", "--property", "FOUNDRY=me", "-o", "a.bdf"])
+    strike = mkstrike.Strike(files["a.bdf"])
+    assert status == 0 and list(strike) == ["A", "B", "C", "x", "y", "z"] and (strike.name, strike.properties["FOUNDRY"]) == ("some", "me") and "1 missing: U+4E01" in err
+    assert strike["B"] == mkstrike.Font(MONO).glyph(16, "B")
