@@ -60,7 +60,8 @@ class Font:
     def __repr__(self) -> str:
         return "<Font %r, %d bytes>" % (self.name, len(self.data))
 
-    def strike(self, size: int, chars: Chars = "", *, text: str = "", hinted: bool = True, dropout: Dropout = "font", symbol: bool = False,
+    def strike(self, size: int, chars: Chars = "", *, text: str = "", glyphs: Mapping[str, int | str] | None = None, hinted: bool = True,
+               dropout: Dropout = "font", symbol: bool = False,
                name: str | None = None, x11: bool = False, properties: Mapping[str, Value] | None = None, refused: Refusing = "leave-out",
                require: bool = False, strict: bool = False) -> Strike:
         """Makes a strike of characters at a size in pixels per em.
@@ -69,6 +70,7 @@ class Font:
         `"font"` sets the pixels beside them that the font asks for, `"left"` the left or the lower one, `"near"` the nearer one. `None` is the
         rule alone, as `mkstrike make` has it: a pixel is set if its centre is inside. With `symbol` U+0020 to U+00FF have the glyphs that a
         font of symbols has at U+F020 to U+F0FF.
+        `glyphs` gives characters other glyphs of the font, by number or name, as {"\\ue000": "A.alt"}.
         `name`, `x11` and `properties` are what `mkstrike make` calls `--name`, `--x11` and `--property`. Without `name` the strike is called
         "strike"; with `x11` it then gets the long name of X11, with the font's family, weight and slant and the size.
 
@@ -77,7 +79,7 @@ class Font:
         `mkstrike make`, its refusal is raised. `strict` is that and `require`. A refusal that meets all characters is always raised, as
         `Refused`. What else there is to know, as that no pixel is set, is in `notes` and a warning."""
         given = symbols(mapped(chars, text, self.characters), symbol)
-        strike = self._strike_of(size, given, hinted=hinted, dropout=dropout, name=name, refused="refuse" if strict else refused)
+        strike = self._strike_of(size, given, glyphs=glyphs, hinted=hinted, dropout=dropout, name=name, refused="refuse" if strict else refused)
         if strike.missing and (require or strict):
             raise Missing(strike.missing[0], strike.missing)
         for note in strike.notes:
@@ -85,7 +87,7 @@ class Font:
         return strike.with_properties(properties, x11=x11) if x11 or properties else strike
 
     def _strike_of(self, size: int, given: Mapping[int, int], *, hinted: bool = True, dropout: Dropout = "font", name: str | None = None,
-                   refused: Refusing = "leave-out") -> Strike:
+                   refused: Refusing = "leave-out", glyphs: Mapping[str, int | str] | None = None) -> Strike:
         """The strike of characters, each with that of its glyph."""
         if name is not None and not isinstance(name, str):
             raise TypeError("name is a string, not %r" % (name,))
@@ -96,6 +98,7 @@ class Font:
                 format(len(given), ","), format(_library.MOST_CHARS, ",")))
         strike = self._made(size, sorted(set(given.values())), hinted, dropout, NAME if name is None else name, refused)
         strike = strike if all(new == old for new, old in given.items()) else strike._chosen(given)
+        strike = strike.replace(self.glyphs(size, glyphs, hinted=hinted, dropout=dropout)) if glyphs else strike
         strike.names = self.names if name is None else None
         strike.notes = notes_of(self, strike, list(given))
         return strike
@@ -158,11 +161,13 @@ class Font:
         from .looks import LARGE, largest
         if (height is None) == (cap_height is None):
             raise TypeError("give height or cap_height")
-        if height is not None:
-            return largest(_library.whole(height, "height"), sum(self.heights(LARGE)[:2]), lambda size: sum(self.heights(size)[:2]))
-        large = self.glyph(LARGE, "H", hinted=False).height
-        return largest(_library.whole(cap_height, "cap_height"), large,
-                       lambda size: self.glyph(size, "H", hinted=hinted, dropout=dropout).height)
+        what, rows = ("height", height) if cap_height is None else ("cap_height", cap_height)
+        return largest(_library.whole(rows, what), self.rows_at(LARGE, what, hinted=False),
+                       lambda size: self.rows_at(size, what, hinted=hinted, dropout=dropout))
+
+    def rows_at(self, size: int, what: str, *, hinted: bool = True, dropout: Dropout = "font") -> int:
+        """The rows of a line ("height"), ascent and descent together, or of a capital H ("cap_height") at a size."""
+        return sum(self.heights(size)[:2]) if what == "height" else self.glyph(size, "H", hinted=hinted, dropout=dropout).height
 
     def looks(self, sizes: Iterable[int], chars: Chars = LETTERS, *, text: str = "", hinted: bool = True,
               dropout: Dropout = "font") -> list[Look]:

@@ -75,7 +75,7 @@ def parts(glyph: Glyph) -> int:
 def told(look: Look, dropout: Dropout) -> str:
     """A line that says what a font is at a size."""
     line = "%d: cell %d x %d, %d of %d fall apart" % (look.size, look.width, look.height, len(look.apart), look.letters)
-    return line + (", %d without drop-out control" % len(look.apart_without) if dropout else "")
+    return line + ("" if dropout in (None, False, "off") else ", %d without drop-out control" % len(look.apart_without))
 
 
 def sheet(font: Font, found: list[Look], text: str, hinted: bool, dropout: Dropout, scale: int) -> Image:

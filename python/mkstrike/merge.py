@@ -17,7 +17,7 @@ if TYPE_CHECKING:
     from .charsets import Chars
 
     Given = Union[Strike, Tuple[Any, ...]]
-OPTIONS = {"text", "shift_y", "hinted", "dropout", "symbol", "refused"}  # of a part, beside its characters
+OPTIONS = {"text", "shift_y", "hinted", "dropout", "symbol", "refused", "glyphs"}  # of a part, beside its characters
 
 
 class Part:
@@ -36,7 +36,7 @@ class Part:
         self.source, self.size = source, source.size if isinstance(source, Strike) else int(size or 0)
         self.chars, self.text, self.shift = chars, more.pop("text", ""), more.pop("shift_y", 0)
         self.is_symbol, self.options, self.name = more.pop("symbol", False), more, source.name
-        self.has_own = bool(self.text) or not isinstance(chars, str) or chars != ""
+        self.has_own = bool(self.text or more.get("glyphs")) or not isinstance(chars, str) or chars != ""
 
     def own(self) -> dict[int, int]:
         """The characters of its own, each with that of the font's glyph."""
@@ -106,7 +106,7 @@ def merge(parts: Iterable[Given], *, chars: Chars = "", text: str = "", name: st
 
     A part is a strike, or a tuple: a font (or a strike), its size (None for a strike's), its characters, and a dict of options, of which
     the last ones may be left out: `(font, 16)`, `(font, 20, "f000-f2e0=e000")`, `(font, 16, "", {"text": "abc", "hinted": False})`. The
-    options are `text`, `hinted`, `dropout`, `symbol` and `refused` as of `Font.strike`, and `shift_y`, which lifts the glyphs by rows.
+    options are `text`, `hinted`, `dropout`, `symbol`, `refused` and `glyphs` as of `Font.strike`, and `shift_y`, which lifts the glyphs by rows.
 
     A part gives the characters of its own, also those that a part before it has. One without gives what the parts before it lack of `chars`
     and `text`, which are for all, and of the other parts' characters; a strike gives all that it has, if `chars` and `text` don't say which.
