@@ -6,9 +6,8 @@
     strike.save("terminal.bdf")
     print(strike["g"])
 
-`Font` opens a font, `Strike` is what it makes, `Striker` is a font at a size, `Glyph` is one picture. Refusals are `Refused`. The strikes
-come from the C library of mkstrike; docs/PYTHON.md of the repository shows what else there is.
-"""
+`Font` opens a font, `Strike` is what it makes, `Striker` is a font at a size, `Glyph` is one picture. Refusals are `Refused`. The
+strikes come from the C library of mkstrike; docs/PYTHON.md of the repository shows what else there is. """
 from __future__ import annotations
 
 from .charsets import character_sets, characters

@@ -1,8 +1,7 @@
 """The C library: all that include/mkstrike.h declares and this package uses. A change of the header is a change of this file alone.
 
-The calls of C are declared in `_declared`. The functions below them take and return what Python has, and raise `Refused`. A call of C
-lets other threads of Python run meanwhile.
-"""
+The calls of C are declared in `_declared`. The functions below them take and return what Python has, and raise `Refused`. A call of
+C lets other threads of Python run meanwhile. """
 from __future__ import annotations
 
 import ctypes
@@ -75,7 +74,8 @@ _declared = {
     "mkstrike_name": (c_uint32, FONT + [c_uint32, c_char_p, c_size_t, POINTER(c_size_t), POINTER(_Refused)]),
     "mkstrike_characters": (c_uint32, FONT + [c_void_p, c_size_t, POINTER(c_size_t), POINTER(_Refused)]),
     "mkstrike_glyph_ids": (c_uint32, FONT + [c_void_p, c_size_t, c_void_p, c_size_t, POINTER(_Refused)]),
-    "mkstrike_make": (c_uint32, FONT + [c_uint16, c_uint32, c_void_p, c_size_t, c_char_p, c_size_t, c_void_p, c_size_t, POINTER(Told),
+    "mkstrike_make": (c_uint32,
+                      FONT + [c_uint16, c_uint32, c_void_p, c_size_t, c_char_p, c_size_t, c_void_p, c_size_t, POINTER(Told),
                                         POINTER(_Refused)]),
     "mkstrike_prepare": (c_uint32, PREPARED + [POINTER(c_size_t), POINTER(_Refused)]),
     "mkstrike_glyph_prepared": (c_uint32, ONE),
@@ -186,7 +186,8 @@ def glyph_ids(font: bytes, face: int, codes: Sequence[int]) -> array[int]:
     for at in range(0, len(codes), MOST_CHARS):
         part = codes[at:at + MOST_CHARS]
         chars, numbers, refused = _codes(part), array("H", bytes(2 * len(part))), _Refused()
-        if _c().mkstrike_glyph_ids(font, len(font), _face(face), chars.buffer_info()[0], len(part), numbers.buffer_info()[0], len(part),
+        if _c().mkstrike_glyph_ids(font, len(font), _face(face), chars.buffer_info()[0], len(part), numbers.buffer_info()[0],
+                                   len(part),
                                    byref(refused)):
             raise _raised(refused, font)
         found += numbers
@@ -200,7 +201,8 @@ def make(font: bytes, face: int, size: int, mode: int, codes: Sequence[int], nam
     room = min(4096 + len(codes) * (120 + (size * 3 // 2) * (size // 3 + 4)), MOST_ROOM)
     while True:
         out = ctypes.create_string_buffer(room)
-        if _c().mkstrike_make(font, len(font), _face(face), _size(size), mode, chars.buffer_info()[0], len(codes), name, len(name), out,
+        if _c().mkstrike_make(font, len(font), _face(face), _size(size), mode, chars.buffer_info()[0], len(codes), name, len(name),
+                              out,
                               room, byref(told), byref(refused)):
             raise _raised(refused, font)
         if told.bytes <= room:
@@ -240,7 +242,8 @@ class Block:
         need, refused, room = c_size_t(0), _Refused(), WORDS
         while True:
             self._words = array("I", bytes(4 * room))
-            if _c().mkstrike_prepare(*self._given, HINTED * hinted, self._words.buffer_info()[0], room, byref(need), byref(refused)):
+            if _c().mkstrike_prepare(*self._given, HINTED * hinted, self._words.buffer_info()[0], room, byref(need),
+                                     byref(refused)):
                 raise _raised(refused, font)
             if need.value <= room:
                 break
@@ -270,8 +273,8 @@ class Block:
             room = size
 
     def glyphs(self, dropout: int, codes: Sequence[int], with_pixels: bool = True) -> Iterator[tuple[int, int, Made]]:
-        """The glyphs of the characters that the font has, each with its code point and its status. With `with_pixels` the bytes of their pixels
-        are there."""
+        """The glyphs of the characters that the font has, each with its code point and its status. With `with_pixels` the bytes of
+        their pixels are there."""
         some = max(MOST_ROOM // (2 * self.size * self.size), 1)
         for at in range(0, len(codes), min(some, MOST_CHARS)):
             part = codes[at:at + min(some, MOST_CHARS)]
@@ -287,7 +290,8 @@ class Block:
         placed = ctypes.create_string_buffer(struct.calcsize(PLACED) * len(codes))
         while True:
             pixels = ctypes.create_string_buffer(room)
-            if _c().mkstrike_glyphs_prepared(*self._before(dropout), chars.buffer_info()[0], len(codes), placed, len(codes), pixels, room,
+            if _c().mkstrike_glyphs_prepared(*self._before(dropout), chars.buffer_info()[0], len(codes), placed, len(codes),
+                                             pixels, room,
                                              byref(drawn), byref(refused)):
                 raise _raised(refused, self._given[0])
             if drawn.bytes <= room or not room:

@@ -38,7 +38,8 @@ BAD_NAME, BAD_PROPERTY, LONGEST_NAME = 62, 63, 255  # as of the program
 LONGEST = 200  # characters of a line that a message has
 ROOM = 1 << 26  # pixels of all glyphs of another program's text, which take a byte each
 HEADER = ("FONT", "SIZE", "FONTBOUNDINGBOX")  # the words that must stand before the glyphs
-PLAIN = bytes([9, 10, *range(32, 127), *range(128, 194), *range(195, 256)])  # bytes without C2, which a control character may begin with
+# Bytes without C2, which a control character may begin with.
+PLAIN = bytes([9, 10, *range(32, 127), *range(128, 194), *range(195, 256)])
 CHARSET, UNICODE = ("CHARSET_REGISTRY", "CHARSET_ENCODING"), ("", "*", "ISO10646", "UNICODE")
 
 
@@ -47,10 +48,11 @@ class NotBdf(ValueError):
 
 
 class Text:
-    """What a text says: the font's lines, its properties beside ascent and descent, and its glyphs by their code points. `unnamed` has
-    the names of glyphs without a code point."""
+    """What a text says: the font's lines, its properties beside ascent and descent, and its glyphs by their code points. `unnamed`
+    has the names of glyphs without a code point."""
 
-    def __init__(self, name: str, size: int, ascent: int, descent: int, properties: Mapping[str, Value], entries: Mapping[int, Entry],
+    def __init__(self, name: str, size: int, ascent: int, descent: int, properties: Mapping[str, Value],
+                 entries: Mapping[int, Entry],
                  unnamed: Iterable[str] = ()) -> None:
         self.name, self.size, self.ascent, self.descent = name, size, ascent, descent
         self.properties, self.entries, self.unnamed = dict(properties), dict(entries), tuple(unnamed)
@@ -65,7 +67,8 @@ class Text:
     def encoded(self) -> bytes:
         """The text, as the program would write it: glyphs by rising code points, and no line that it doesn't write."""
         lines = ["STARTFONT 2.1", "FONT " + self.name, "SIZE %d 72 72" % self.size, "FONTBOUNDINGBOX %d %d %d %d" % self.box,
-                 "STARTPROPERTIES %d" % (2 + len(self.properties)), "FONT_ASCENT %d" % self.ascent, "FONT_DESCENT %d" % self.descent]
+                 "STARTPROPERTIES %d" % (2 + len(self.properties)), "FONT_ASCENT %d" % self.ascent, "FONT_DESCENT %d" %
+                 self.descent]
         lines += [name + " " + _written(value) for name, value in self.properties.items()]
         lines += ["ENDPROPERTIES", "CHARS %d" % len(self.entries)]
         for code in sorted(self.entries):
@@ -84,7 +87,8 @@ def _lines_of(it: Entry) -> list[str]:
 
 def entry_of(code: int, glyph: Glyph, size: int) -> Entry:
     """A glyph as a character of a text of a size in pixels per em."""
-    return Entry(code, _name(code), glyph.swidth or swidth_of(glyph.advance, size), glyph.advance, glyph.width, glyph.height, glyph.left,
+    return Entry(code, _name(code), glyph.swidth or swidth_of(glyph.advance, size), glyph.advance, glyph.width, glyph.height,
+                 glyph.left,
                  glyph.bottom, b"".join(glyph.rows))
 
 
@@ -324,7 +328,8 @@ def check_name(name: str) -> None:
 
 
 def x11(text: Text) -> dict[str, Value]:
-    """The properties that `mkstrike make --x11` adds, in its order. A name of 14 fields has the family, the weight and the slant."""
+    """The properties that `mkstrike make --x11` adds, in its order. A name of 14 fields has the family, the weight and the
+    slant."""
     fields = text.name.split("-") if is_xlfd(text.name) else ["", "", text.name, "Medium", "R"]
     spacing, average = _widths(text)
     found: dict[str, Value] = {

@@ -128,7 +128,8 @@ RUN = 8  # characters one after the other that are worth a map of their own
 # The numbers of a glyph, with the least and the greatest of each, in both libraries.
 FIELDS_GFX = (("the bytes before it", 0, 65535), ("its width", 0, 255), ("its height", 0, 255), ("its advance", 0, 255),
               ("its left", -128, 127), ("its top", -128, 127))
-FIELDS_LVGL = (("the bytes before it", 0, (1 << 20) - 1), ("its advance in 1/16 pixels", 0, 4095), ("its width", 0, 255), ("its height", 0, 255),
+FIELDS_LVGL = (("the bytes before it", 0, (1 << 20) - 1), ("its advance in 1/16 pixels", 0, 4095), ("its width", 0, 255),
+               ("its height", 0, 255),
                ("its left", -128, 127), ("its bottom", -128, 127))
 
 
@@ -220,15 +221,18 @@ def lvgl(strike: Strike, name: str) -> str:
                                length=0 if is_run else len(part), kind="FORMAT0" if is_run else "SPARSE"))
         at += len(part)
     if len(maps) > MOST_MAPS or len(codes) >= SPAN:
-        raise ValueError("a font for LVGL has at most %d maps of characters and %d glyphs, not %d and %d" % (MOST_MAPS, SPAN - 1, len(maps), len(codes)))
+        raise ValueError("a font for LVGL has at most %d maps of characters and %d glyphs, not %d and %d" %
+                         (MOST_MAPS, SPAN - 1, len(maps), len(codes)))
     position, thickness = strike.underline or (0, 0)
-    underline = ".underline_position = %d, .underline_thickness = %d, " % (position, thickness) if -128 <= position < 128 and 0 < thickness < 128 else ""
+    underline = ".underline_position = %d, .underline_thickness = %d, " % (
+        position, thickness) if -128 <= position < 128 and 0 < thickness < 128 else ""
     return LVGL.format(underline=underline, name=name, font=comment(strike.name), size=strike.size, count=len(codes), bitmaps=_wrapped("0x%02X" % it for it in bitmaps or b"\0"),
                        glyphs="\n".join(lines), lists=lists, maps=",\n".join(maps), count_maps=len(maps), height=strike.height, descent=strike.descent)
 
 
 def _parts(codes: Sequence[int]) -> list[list[int]]:
-    """Code points in parts that a map can have: long runs, and single ones between them that are no further apart than 16 bits tell."""
+    """Code points in parts that a map can have: long runs, and single ones between them that are no further apart than 16 bits
+    tell."""
     runs: list[list[int]] = []
     for code in codes:
         if not runs or code != runs[-1][-1] + 1 or len(runs[-1]) == SPAN:
@@ -266,7 +270,8 @@ def _check(code: int, library: str, numbers: Sequence[int], fields: Sequence[tup
     """Raises an error if a number does not fit its field of a library's glyph."""
     for number, (what, least, most) in zip(numbers, fields):
         if not least <= number <= most:
-            raise ValueError("%s does not fit a font for %s: %s, %d, is not in %d to %d" % (code_name(code), library, what, number, least, most))
+            raise ValueError("%s does not fit a font for %s: %s, %d, is not in %d to %d" %
+                             (code_name(code), library, what, number, least, most))
 
 
 def _filled(codes: list[int]) -> None:

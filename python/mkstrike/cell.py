@@ -27,6 +27,8 @@ if TYPE_CHECKING:
 else:
     Outside = namedtuple("Outside", "above below left right")
 
+NEAREST = ("at no size do all characters fit a cell of %d x %d pixels; at %d %s, by %s: make that size and clip it "
+           "(--size %d --cell %dx%d%s --clip)")
 MOST = 1024  # columns or rows of a cell, and pixels per em
 
 
@@ -52,7 +54,8 @@ def in_cell(strike: Strike, width: int, height: int, ascent: int | None, clip: b
 
 
 def largest_size(at: Callable[[int], Line], look: Line, size: int, width: int, height: int, ascent: int | None, clip: bool) -> int:
-    """The largest size at which the glyphs of a line don't leave its cells: see `Font.fit`. `look` is the line at some size, unhinted."""
+    """The largest size at which the glyphs of a line don't leave its cells: see `Font.fit`. `look` is the line at some size,
+    unhinted."""
     _above(width, height, 0, 0, ascent)
     codes = _counted(look[2])
     columns, rows = _needed(look, codes, clip)
@@ -93,8 +96,9 @@ def _nearest(left: Mapping[int, Mapping[int, Outside]], width: int, height: int,
     far = {side: max(getattr(it, side) for it in left[size].values()) for side in Outside._fields}
     baseline = "" if ascent is None else " --ascent %d" % ascent
     which = ("only %s leaves it" if len(left[size]) == 1 else "the fewest leave it, %s") % ranges(left[size], 8)
-    return "at no size do all characters fit a cell of %d x %d pixels; at %d %s, by %s: make that size and clip it (--size %d --cell %dx%d%s --clip)" % (
-        width, height, size, which, ", ".join("%d %s" % (count, side) for side, count in far.items() if count), size, width, height, baseline)
+    return NEAREST % (
+        width, height, size, which, ", ".join("%d %s" % (count, side) for side, count in far.items() if count), size, width,
+        height, baseline)
 
 
 def _above(width: int, height: int, ascent: int, descent: int, given: int | None) -> int:
@@ -136,4 +140,5 @@ def _boxed(it: bdf.Entry, rows: list[int], width: int, above: int) -> bdf.Entry:
     last, first = (together & -together).bit_length() - 1, together.bit_length()
     size = (first - last + 7) // 8
     packed = b"".join((row >> last << (8 * size - first + last)).to_bytes(size, "big") for row in rows[kept[0]:kept[-1] + 1])
-    return it._replace(width=first - last, height=kept[-1] - kept[0] + 1, left=width - first, bottom=above - 1 - kept[-1], rows=packed)
+    return it._replace(width=first - last, height=kept[-1] - kept[0] + 1, left=width - first, bottom=above - 1 - kept[-1],
+                       rows=packed)

@@ -33,14 +33,14 @@ def characters(chars: Chars = "", *, text: str = "") -> list[int]:
 
     `chars` is one of these:
 
-    - a string of items that commas join: a set (`character_sets()` names them, and each character set of one byte that Python has is one, such
-      as "iso8859-7"), a number or a range in hexadecimal ("20-7e", "U+20AC", "41"), the name or the path of a list for bdf2psf ("Lat15",
-      "./my.set"), or the path of a strike ("other.bdf")
+    - a string of items that commas join: a set (`character_sets()` names them, and each character set of one byte that Python has
+      is one, such as "iso8859-7"), a number or a range in hexadecimal ("20-7e", "U+20AC", "41"), the name or the path of a list for
+      bdf2psf ("Lat15", "./my.set"), or the path of a strike ("other.bdf")
     - a number or a range of numbers
     - any number of these, as a list or a set; there a string of one character is that character. A strike is such a list
 
-    `text` adds the characters of a text without its line ends and other control characters. Where a font is known, as in `Font.strike`,
-    "all" stands for its characters, and "f000-f2e0=e000" gives the glyphs of a range other numbers, from U+E000 on.
+    `text` adds the characters of a text without its line ends and other control characters. Where a font is known, as in
+    `Font.strike`, "all" stands for its characters, and "f000-f2e0=e000" gives the glyphs of a range other numbers, from U+E000 on.
     """
     return listed(chars, text)
 
@@ -54,7 +54,8 @@ def listed(chars: Chars, text: str, font: Font | None = None) -> list[int]:
 
 
 def mapped(chars: Chars, text: str, font: Font | None = None) -> dict[int, int]:
-    """From each code point of a strike to that of the font's glyph which it has, in rising order: another one after "=" in a string."""
+    """From each code point of a strike to that of the font's glyph which it has, in rising order: another one after "=" in a
+    string."""
     found = _Listed(chars, text, font)
     for new, old in found.moved.items():
         if new in found.codes and new != old:
@@ -118,8 +119,10 @@ def _codes(item: str, font: Font | None) -> Iterable[int]:
         codes = found(item)
         if codes is not None:
             return codes
-    lists = "no list of bdf2psf" if any(map(os.path.isdir, FOLDERS)) else "bdf2psf with its lists is not installed (Debian: bdf2psf)"
-    raise ValueError("%r is no set of characters (%s), no hexadecimal number or range, and %s; %s" % (item, ", ".join(SETS), lists, OF_TEXT))
+    lists = "no list of bdf2psf" if any(map(os.path.isdir,
+                                            FOLDERS)) else "bdf2psf with its lists is not installed (Debian: bdf2psf)"
+    raise ValueError("%r is no set of characters (%s), no hexadecimal number or range, and %s; %s" %
+                     (item, ", ".join(SETS), lists, OF_TEXT))
 
 
 def _named(name: str) -> list[int] | None:
@@ -168,7 +171,8 @@ def table_of(registry: str, encoding: str) -> str | None:
     name = registry.lower() + "-" + encoding.lower()
     if name in ("iso646.1991-irv", "ascii-0", "us-ascii"):
         return "".join(map(chr, range(128)))
-    names = [name, name.replace("-", ""), encoding.lower()] + (["cp" + encoding.lower()] if registry.lower() in ("ibm", "microsoft") else [])
+    names = [name, name.replace("-", ""), encoding.lower()] + (["cp" + encoding.lower()]
+                                                               if registry.lower() in ("ibm", "microsoft") else [])
     return next((it for it in map(_table, names) if it is not None), None)  # as iso8859-2, cp-437, microsoft-cp1252, ibm-437
 
 

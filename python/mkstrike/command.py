@@ -68,10 +68,7 @@ class Run:
         if self.job.mode is not None:
             return self.other(self.job.mode)
         for group in self.job.groups:
-            fonts = self.opened(group)
-            if len(fonts) == len(group):
-                for at in range(len(self.job.sizes(group)[0])):
-                    self.one(group, fonts, at)
+            self.of(group)
         self.bar.clear()
         return self.status
 
@@ -85,6 +82,13 @@ class Run:
             except FAULTS as why:
                 self.fail(self.job.groups[0][0].path, why)
         return self.status
+
+    def of(self, group: list[Asked]) -> None:
+        """Makes the strikes of fonts at all their sizes, and lets the fonts go."""
+        fonts = self.opened(group)
+        if len(fonts) == len(group):
+            for at in range(len(self.job.sizes(group)[0])):
+                self.one(group, fonts, at)
 
     def opened(self, group: list[Asked]) -> list[Font | Strike]:
         """The fonts of a strike, if all can be opened."""

@@ -39,13 +39,14 @@ MOST_BLOCKS = 32  # sizes of a font that are kept, 4 KB each
 class Font:
     """A TrueType font: `source` is a path, its bytes, an open file, or a TTFont of fontTools.
 
-    If no file has the name, as "DejaVu Sans:bold", fontconfig finds an installed font. `face` is the number of a font in a collection, from
-    0; `axes` chooses an instance of a variable font, as {"wght": 700}. fontTools unpacks WOFF2, makes these instances and converts CFF outlines,
-    and must be installed for them. A file, and what is unpacked from it, has at most 64 MiB. Nothing else is checked before a strike or a
-    glyph is made.
+    If no file has the name, as "DejaVu Sans:bold", fontconfig finds an installed font. `face` is the number of a font in a
+    collection, from 0; `axes` chooses an instance of a variable font, as {"wght": 700}. fontTools unpacks WOFF2, makes these
+    instances and converts CFF outlines, and must be installed for them. A file, and what is unpacked from it, has at most 64 MiB.
+    Nothing else is checked before a strike or a glyph is made.
 
     - `name`: the file's name without its ending
-    - `is_converted`: whether the font has CFF outlines, from which fontTools made others: at most 0.25 of 1,000 units away, and unhinted
+    - `is_converted`: whether the font has CFF outlines, from which fontTools made others: at most 0.25 of 1,000 units away, and
+      unhinted
     """
 
     def __init__(self, source: sources.Source, *, face: int = 0, axes: Mapping[str, float] | None = None) -> None:
@@ -74,12 +75,14 @@ class Font:
         `name`, `x11` and `properties` are what `mkstrike make` calls `--name`, `--x11` and `--property`. Without `name` the strike is called
         "strike"; with `x11` it then gets the long name of X11, with the font's family, weight and slant and the size.
 
-        What the font lacks is in `missing` of the strike; with `require` it is raised, as `Missing`. A character that is refused is left out
-        and in `refused`; with `refused="unhinted"` it is drawn without hinting and in `unhinted`, and with `refused="refuse"`, as for
-        `mkstrike make`, its refusal is raised. `strict` is that and `require`. A refusal that meets all characters is always raised, as
-        `Refused`. What else there is to know, as that no pixel is set, is in `notes` and a warning."""
+        What the font lacks is in `missing` of the strike; with `require` it is raised, as `Missing`. A character that is refused is
+        left out and in `refused`; with `refused="unhinted"` it is drawn without hinting and in `unhinted`, and with
+        `refused="refuse"`, as for `mkstrike make`, its refusal is raised. `strict` is that and `require`. A refusal that meets all
+        characters is always raised, as `Refused`. What else there is to know, as that no pixel is set, is in `notes` and a
+        warning."""
         given = symbols(mapped(chars, text, self.characters), symbol)
-        strike = self._strike_of(size, given, glyphs=glyphs, hinted=hinted, dropout=dropout, name=name, refused="refuse" if strict else refused)
+        strike = self._strike_of(size, given, glyphs=glyphs, hinted=hinted, dropout=dropout,
+                                 name=name, refused="refuse" if strict else refused)
         if strike.missing and (require or strict):
             raise Missing(strike.missing[0], strike.missing)
         for note in strike.notes:
@@ -125,11 +128,13 @@ class Font:
         if not (refused and refusing == "unhinted" and hinted):
             return strike
         drawn = self._made(size, sorted(refused), False, dropout, name, "leave-out")
-        return strike._with(strike.parsed().with_entries({**strike.parsed().entries, **drawn.parsed().entries}), refused=drawn.refused,
+        return strike._with(strike.parsed().with_entries({**strike.parsed().entries, **drawn.parsed().entries}),
+                            refused=drawn.refused,
                             unhinted={char: why for char, why in strike.refused.items() if char in drawn})
 
     def at(self, size: int, *, hinted: bool = True, dropout: Dropout = "font") -> Striker:
-        """The font at a size in pixels per em: a mapping from the characters that it has to their glyphs, which measures and draws texts.
+        """The font at a size in pixels per em: a mapping from the characters that it has to their glyphs, which measures and draws
+        texts.
 
         Hinted, the font's `fpgm` and `prep` run once for a size; what they left is kept for later calls."""
         return Striker(self, self._block(size, hinted), _library.mode_of(False, dropout))
@@ -147,10 +152,10 @@ class Font:
 
     def fit(self, width: int, height: int, chars: Chars = "", *, text: str = "", hinted: bool = True, dropout: Dropout = "font",
             symbol: bool = False, ascent: int | None = None, clip: bool = False) -> int:
-        """The largest size, in pixels per em, at which no glyph of the characters leaves a cell of this width and height: see `Strike.cell`,
-        which has the same `ascent`, and `characters`. What the font lacks or refuses does not count, and neither do U+2500 to U+259F, which
-        `cell` draws out to the edges by `join`. With `clip` the largest at which a line and all advances fit, so that some glyphs may lose
-        pixels."""
+        """The largest size, in pixels per em, at which no glyph of the characters leaves a cell of this width and height: see
+        `Strike.cell`, which has the same `ascent`, and `characters`. What the font lacks or refuses does not count, and neither do
+        U+2500 to U+259F, which `cell` draws out to the edges by `join`. With `clip` the largest at which a line and all advances
+        fit, so that some glyphs may lose pixels."""
         from .merge import Part, fitting
         options = {"text": text, "hinted": hinted, "dropout": dropout, "symbol": symbol}
         return fitting([Part(self, LOOK, chars, options)], width, height, "", "", ascent, clip)
@@ -208,7 +213,8 @@ class Font:
         at, names = self.at(size, hinted=hinted, dropout=dropout), self.glyph_names()
         for name in given.values():
             if isinstance(name, str) and (not name or name not in names):
-                raise ValueError("the font has no glyph named %r%s" % (name, "" if any(names) else ": it names none, so give numbers"))
+                raise ValueError("the font has no glyph named %r%s" %
+                                 (name, "" if any(names) else ": it names none, so give numbers"))
         return {char: at.glyph(names.index(it) if isinstance(it, str) else it) for char, it in given.items()}
 
     def listing(self, size: int | None = None, *, hinted: bool = True, dropout: Dropout = "font") -> list[Listed]:

@@ -64,8 +64,10 @@ def _by(program: str, strike: Strike) -> bytes:
 FORMATS: dict[str, Callable[..., bytes]] = {
     "bdf": _bdf, **{it: partial(_sheet, it) for it in ("png", "pbm")}, "c": partial(_c, "rows"), **{it: partial(_c, it) for it in ("gfx", "lvgl")},
     "raw": _raw, "fnt": _fnt, "py": _py, **{it: partial(_by, it) for it in ("psf", "pcf", "otb")}}
-OF_ENDING = {".bdf": "bdf", ".png": "png", ".pbm": "pbm", ".h": "c", ".c": "c", ".raw": "raw", ".fnt": "fnt", ".py": "py", ".psf": "psf", ".psfu": "psf", ".pcf": "pcf", ".otb": "otb"}
-ENDING = {**{name: "." + name for name in FORMATS}, "c": ".h", "gfx": "-gfx.h", "lvgl": ".c"}  # of the files that the command writes
+OF_ENDING = {".bdf": "bdf", ".png": "png", ".pbm": "pbm", ".h": "c", ".c": "c", ".raw": "raw",
+    ".fnt": "fnt", ".py": "py", ".psf": "psf", ".psfu": "psf", ".pcf": "pcf", ".otb": "otb"}
+ENDING = {**{name: "." + name for name in FORMATS}, "c": ".h",
+    "gfx": "-gfx.h", "lvgl": ".c"}  # of the files that the command writes
 IN_C, PICTURES = ("c", "gfx", "lvgl"), ("png", "pbm")
 TAKES: dict[str, tuple[str, ...]] = {  # options
     **{name: ("columns", "scale") for name in PICTURES}, "c": ("name", "attribute", "bytes", "bits", "align"), "gfx": ("name", "dense"),
@@ -87,7 +89,8 @@ def _check(strike: Strike, format: str, options: Mapping[str, Any]) -> None:
         tell_of_unnamed(strike.parsed().unnamed)
     for name in options:
         if name not in TAKES.get(format, ()):
-            raise TypeError("%s is no option of the format %s%s" % (name, format, ": it has " + ", ".join(TAKES[format]) if format in TAKES else ""))
+            raise TypeError("%s is no option of the format %s%s" %
+                            (name, format, ": it has " + ", ".join(TAKES[format]) if format in TAKES else ""))
 
 
 def save(strike: Strike, path: str, format: str | None, options: Mapping[str, Any]) -> None:
@@ -122,8 +125,8 @@ def by_ending(path: str) -> str:
 
 
 def write(path: str, data: bytes) -> None:
-    """Writes a file in one step: a reader sees the old one or the new one, which has its mode. What is no file, as a device or a pipe, is
-    written to; a file that may not be written stays."""
+    """Writes a file in one step: a reader sees the old one or the new one, which has its mode. What is no file, as a device or a
+    pipe, is written to; a file that may not be written stays."""
     if os.path.exists(path) and not os.path.isfile(path):
         with open(path, "wb") as stream:
             stream.write(data)

@@ -1,10 +1,9 @@
 """Box drawing, block elements and shades (U+2500 to U+259F) drawn out to the edges of a cell, so that neighbours join.
 
-What a character is comes from its name in Unicode: the arms of a line and their kinds, the part of a cell that a block fills, how dark a
-shade is. A line keeps the pixels that its font has. It is moved to where the first line of its kind is, since hinting may put them into
-different rows, and each arm goes on to the edge as it ends. A picture of a cell is a list of rows from the top, each a number whose highest
-bit is the leftmost column.
-"""
+What a character is comes from its name in Unicode: the arms of a line and their kinds, the part of a cell that a block fills, how
+dark a shade is. A line keeps the pixels that its font has. It is moved to where the first line of its kind is, since hinting may
+put them into different rows, and each arm goes on to the edge as it ends. A picture of a cell is a list of rows from the top, each
+a number whose highest bit is the leftmost column. """
 from __future__ import annotations
 
 import unicodedata
@@ -12,11 +11,13 @@ from collections.abc import Iterable, Mapping
 from functools import lru_cache
 
 LINES, BLOCKS = range(0x2500, 0x2580), range(0x2580, 0x25A0)
-ARMS = {"LEFT": ("left",), "RIGHT": ("right",), "UP": ("up",), "DOWN": ("down",), "HORIZONTAL": ("left", "right"), "VERTICAL": ("up", "down")}
+ARMS = {"LEFT": ("left",), "RIGHT": ("right",), "UP": ("up",), "DOWN": ("down",), "HORIZONTAL": ("left", "right"),
+        "VERTICAL": ("up", "down")}
 KINDS = {"LIGHT": "light", "SINGLE": "light", "HEAVY": "heavy", "DOUBLE": "double"}
 ACROSS, DOWN = ("left", "right"), ("up", "down")
 APART = {"DASH", "DIAGONAL"}  # lines with gaps, and those that meet in corners: they stay as they are
-EIGHTHS = {"ONE EIGHTH": 1, "ONE QUARTER": 2, "THREE EIGHTHS": 3, "HALF": 4, "FIVE EIGHTHS": 5, "THREE QUARTERS": 6, "SEVEN EIGHTHS": 7}
+EIGHTHS = {"ONE EIGHTH": 1, "ONE QUARTER": 2, "THREE EIGHTHS": 3, "HALF": 4, "FIVE EIGHTHS": 5, "THREE QUARTERS": 6,
+           "SEVEN EIGHTHS": 7}
 # Two rows of a shade that go on in both directions: a quarter, a half and three quarters of the pixels.
 SHADES = {"LIGHT": ("#...", "..#."), "MEDIUM": ("#.#.", ".#.#"), "DARK": (".###", "##.#")}
 
@@ -66,7 +67,8 @@ def _moved(rows: list[int], width: int, edges: Mapping[str, str], due: Mapping[t
     return _extended([(it >> across if across >= 0 else it << -across) & every for it in shifted], width, edges)
 
 
-def _way(rows: list[int], width: int, edges: Mapping[str, str], sides: tuple[str, str], due: Mapping[tuple[str, bool], set[int]]) -> int:
+def _way(rows: list[int], width: int, edges: Mapping[str, str], sides: tuple[str, str],
+         due: Mapping[tuple[str, bool], set[int]]) -> int:
     """How far the first arm to one of these sides is from where the lines of its kind are."""
     for side in sides:
         there, own = due.get((edges.get(side, ""), side in ACROSS)), _places(rows, width, side)
@@ -95,7 +97,8 @@ def _runs(places: set[int]) -> list[set[int]]:
 
 
 def _meet(own: set[int], due: set[int]) -> bool:
-    """Whether the first place of each line that is due is there, so that all that meet it meet each other, and no line comes from elsewhere."""
+    """Whether the first place of each line that is due is there, so that all that meet it meet each other, and no line comes from
+    elsewhere."""
     return all(it & due for it in _runs(own)) and all(min(it) in own for it in _runs(due))
 
 
@@ -145,7 +148,8 @@ def _down(rows: list[int], edges: set[str]) -> list[int]:
 
 
 def _block(name: str, width: int, height: int) -> list[int]:
-    """The picture of a block element by its name, as LOWER THREE EIGHTHS BLOCK, QUADRANT UPPER LEFT AND LOWER RIGHT or MEDIUM SHADE."""
+    """The picture of a block element by its name, as LOWER THREE EIGHTHS BLOCK, QUADRANT UPPER LEFT AND LOWER RIGHT or MEDIUM
+    SHADE."""
     if name.endswith("SHADE"):
         pattern = SHADES[name.split()[0]]
         return [_row(pattern[y % 2][x % 4] == "#" for x in range(width)) for y in range(height)]
@@ -154,7 +158,8 @@ def _block(name: str, width: int, height: int) -> list[int]:
     else:
         count = next((it for words, it in EIGHTHS.items() if words in name), 8)
         boxes = [_part(name, count, width, height)]
-    return [_row(any(left <= x < right and top <= y < bottom for left, right, top, bottom in boxes) for x in range(width)) for y in range(height)]
+    return [_row(any(left <= x < right and top <= y < bottom for left, right, top, bottom in boxes) for x in range(width))
+            for y in range(height)]
 
 
 def _row(pixels: Iterable[bool]) -> int:
@@ -166,8 +171,8 @@ def _row(pixels: Iterable[bool]) -> int:
 
 
 def _part(name: str, eighths: int, width: int, height: int) -> tuple[int, int, int, int]:
-    """A part of a cell: its first column and the one after its last, its first row and the one after its last. Two parts that make up the
-    cell by their names do so by their pixels."""
+    """A part of a cell: its first column and the one after its last, its first row and the one after its last. Two parts that make
+    up the cell by their names do so by their pixels."""
     words = name.split()
     right = max(_share(width, eighths), 1) if "LEFT" in words else width
     left = min(_share(width, 8 - eighths), width - 1) if "RIGHT" in words else 0

@@ -16,8 +16,8 @@ DIGITS = bytes.maketrans(bytes([SET, 0]), b"10")
 
 class Glyph:
     """A glyph at a size. It can't be changed. Its pixels are bytes, 255 for a set pixel and 0 for another, in rows from the top:
-    `glyph[row][column]` is one pixel, `glyph.pixels` and `numpy.asarray(glyph)` are all of them without a copy, and `print(glyph)` shows
-    the picture.
+    `glyph[row][column]` is one pixel, `glyph.pixels` and `numpy.asarray(glyph)` are all of them without a copy, and `print(glyph)`
+    shows the picture.
 
     - `char`: the character, or None if the glyph was asked for by its number
     - `width`, `height`: the least box that holds every set pixel; 0 and 0 if none is set
@@ -35,7 +35,8 @@ class Glyph:
     swidth: int
     _data: bytes
 
-    def __init__(self, char: str | None, width: int, height: int, left: int, bottom: int, advance: int, swidth: int, data: bytes) -> None:
+    def __init__(self, char: str | None, width: int, height: int, left: int, bottom: int, advance: int, swidth: int,
+                 data: bytes) -> None:
         """A glyph of its numbers and its pixels, a byte a pixel."""
         if len(data) != width * height:
             raise ValueError("%d bytes are no %d x %d pixels" % (len(data), width, height))
@@ -44,8 +45,9 @@ class Glyph:
 
     @classmethod
     def drawn(cls, picture: str, *, left: int = 0, bottom: int = 0, advance: int | None = None) -> Glyph:
-        """A glyph of lines from the top, as `print` shows one: "#" is a set pixel. `left` and `bottom` are the column and the row of the
-        picture's lower left pixel; without `advance` the next glyph begins where the picture ends. Such a glyph has no character yet."""
+        """A glyph of lines from the top, as `print` shows one: "#" is a set pixel. `left` and `bottom` are the column and the row
+        of the picture's lower left pixel; without `advance` the next glyph begins where the picture ends. Such a glyph has no
+        character yet."""
         lines = picture.split("\n")
         width = max(map(len, lines))
         for it in picture:
@@ -58,7 +60,8 @@ class Glyph:
         first, last = (tuple(way(it[k] for it in found) for k in (0, 1)) for way in (min, max))
         rows = (line.ljust(width)[first[0]:last[0] + 1] for line in lines[first[1]:last[1] + 1])
         data = bytes(SET if it == "#" else 0 for row in rows for it in row)
-        return cls(None, last[0] - first[0] + 1, last[1] - first[1] + 1, left + first[0], bottom + len(lines) - 1 - last[1], advance, 0, data)
+        return cls(None, last[0] - first[0] + 1, last[1] - first[1] + 1, left + first[0], bottom + len(lines) - 1 - last[1],
+                   advance, 0, data)
 
     def __setattr__(self, name: str, value: object) -> NoReturn:
         raise AttributeError("a glyph can't be changed")
@@ -119,7 +122,8 @@ class Glyph:
         return "\n".join(pixels[at:at + self.width] for at in range(0, len(pixels), self.width or 1))
 
     def __repr__(self) -> str:
-        return "<Glyph %r, %d x %d at %d, %d, advance %d>" % (self.char, self.width, self.height, self.left, self.bottom, self.advance)
+        return "<Glyph %r, %d x %d at %d, %d, advance %d>" % (self.char, self.width, self.height, self.left, self.bottom,
+                                                              self.advance)
 
     def __bool__(self) -> bool:
         return True

@@ -72,7 +72,8 @@ class Asked:
         for name, rows in self.rows.items():
             found = [source.rows_at(it, name, hinted=self.how["hinted"], dropout=self.how["dropout"]) for it in (size, size + 1)]
             what = "a line has %d rows" if name == "height" else "a capital H has %d rows"
-            lines.append("%d pixels per em: %s" % (size, what % found[0]) + (", and %d at %d" % (found[1], size + 1) if found[0] != rows else ""))
+            lines.append("%d pixels per em: %s" % (size, what %
+                         found[0]) + (", and %d at %d" % (found[1], size + 1) if found[0] != rows else ""))
         return lines
 
     def name(self, source: Font | Strike) -> str:
@@ -94,7 +95,8 @@ class Job:
         self.is_joined = len(given.groups) > 1
         paths = [it["font"] for it in given.groups[1:]] if self.is_joined else given.fonts
         if self.is_joined and given.fonts or not paths:
-            raise ValueError("fonts of one strike come after --font each: %s is not" % shown(given.fonts[0]) if paths else "give a FONT")
+            raise ValueError("fonts of one strike come after --font each: %s is not" % shown(given.fonts[0]) if paths
+                             else "give a FONT")
         self.refuse_mistaken(paths)
         asked = [Asked(path, {key: it for key, it in own.items() if key != "font"}, common)
                  for path, own in zip(paths, given.groups[1:] or [{}] * len(paths))]
@@ -127,21 +129,24 @@ class Job:
             if not is_there and re.fullmatch(r"[0-9]+x[0-9]+", path):
                 raise ValueError("there is no font %s; a cell is --cell %s or --fit %s" % (path, path, path))
             if not is_there and path in ("make", "show", "help"):
-                raise ValueError("strike has no commands, as '%s': strike FONT makes strikes, and mkstrike %s is another program" % (path, path))
+                raise ValueError("strike has no commands, as '%s': strike FONT makes strikes, and mkstrike %s is another program" %
+                                 (path, path))
             if any("text" in it for it in self.options.groups) and path != "-" and _is_text(path):
                 raise ValueError("%s is a text, and is taken for a font: give each text after its own --text" % shown(path))
 
     def checked_outputs(self) -> list[str]:
         """The formats of the files, or what else is written."""
         o = self.options
-        modes = [name for name, is_given in ((table.SHEET, o.sheet is not None), (table.LIST, o.list), (table.DIFF, o.diff)) if is_given]
+        modes = [name for name, is_given in ((table.SHEET, o.sheet is not None),
+                                             (table.LIST, o.list), (table.DIFF, o.diff)) if is_given]
         if len(modes) > 1:
             raise ValueError("%s do two things: give one of them" % " and ".join(modes))
         if modes:
             return modes
         if o.preview is not None and o.output is None:
             return [table.TERMINAL]
-        found: list[str] = o.format.split(",") if o.format else [formats.by_ending(o.output) if o.output and o.output != "-" else "bdf"]
+        found: list[str] = o.format.split(",") if o.format else [formats.by_ending(o.output) if o.output and o.output != "-"
+                                                                 else "bdf"]
         for name in found:
             if name not in formats.FORMATS:
                 raise ValueError("--format %s: there are %s" % (shown(name), ", ".join(formats.FORMATS)))
@@ -156,7 +161,8 @@ class Job:
         if self.mode is not None:
             return self.check_mode(asked)
         if self.fit and (self.cell or any(it.sizes or it.rows for it in asked)):
-            ways = [name for it in asked for name in ["--size"] * bool(it.sizes) + ["--" + row.replace("_", "-") for row in it.rows]]
+            ways = [name for it in asked for name in ["--size"] * \
+                bool(it.sizes) + ["--" + row.replace("_", "-") for row in it.rows]]
             raise ValueError("--fit finds the size and makes the cells: leave %s out" % ("--cell" if self.cell else ways[0]))
         if o.output and o.out:
             raise ValueError("-o FILE is one file, --out FOLDER a folder for many: give one of them")
@@ -167,7 +173,8 @@ class Job:
         if o.name is not None:
             bdf.check_name(o.name)
         if o.output and not (self.is_of_one or "%s" in o.output and len(self.groups) == 1 and len(self.outputs) == 1):
-            raise ValueError("-o FILE is one file: give one font, one format, and %s in its name for several sizes, or --out FOLDER for many; "
+            raise ValueError(
+                "-o FILE is one file: give one font, one format, and %s in its name for several sizes, or --out FOLDER for many; "
                              "fonts of one strike come after --font each")
         if len({it.path for it in asked} if o.name is None else {self.groups[0][0].path}) < len(self.groups):
             raise ValueError("files of different fonts would have one name: give them one by one, or --font each for one strike")
@@ -176,7 +183,8 @@ class Job:
         """Refuses what goes with files alone."""
         count = table.MODES[str(self.mode)]
         if self.is_joined or len(asked) != count:
-            raise ValueError("%s takes %s" % (self.mode, "one FONT" if count == 1 else "two strikes, or fonts: the old one and the new one"))
+            raise ValueError("%s takes %s" % (self.mode, "one FONT" if count ==
+                             1 else "two strikes, or fonts: the old one and the new one"))
         if self.mode == table.LIST and not asked[0].sizes and {"unhinted", "dropout"} & set(self.options.groups[0]):
             raise ValueError("--unhinted and --dropout are for a list with metrics: give --size")
         if any(len(it.sizes) > 1 for it in asked):
@@ -194,8 +202,9 @@ class Job:
     def output(self) -> str | None:
         """The one file to write, if there is one: standard output, if it is an empty file and one strike is asked for."""
         given: str | None = self.options.output
-        is_redirected = given is None and self.options.out is None and self.options.preview is None and self.is_of_one and _is_empty_file(sys.stdout)
-        return "-" if is_redirected else given
+        if given is None and self.options.out is None and self.preview is None and self.is_of_one and _is_empty_file(sys.stdout):
+            return "-"
+        return given
 
     @property
     def is_written(self) -> bool:
@@ -218,12 +227,13 @@ class Job:
         count = max(1, *(len(it.sizes) for it in group))
         for it in group:
             if it.sizes and len(it.sizes) not in (1, count):
-                raise ValueError("%s has %d sizes, and another font of the strike %d: give one, or as many" % (shown(it.path), len(it.sizes), count))
+                raise ValueError("%s has %d sizes, and another font of the strike %d: give one, or as many" %
+                                 (shown(it.path), len(it.sizes), count))
         return [tuple(it.sizes * (count if len(it.sizes) == 1 else 1) or [16] * count) for it in group]
 
     def wanted(self, group: list[Asked], fonts: list[Font | Strike]) -> tuple[str, str]:
-        """The characters for all fonts of a strike: latin-1 if a font needs them and none are given. Those that stand for others in a preview
-        are among them."""
+        """The characters for all fonts of a strike: latin-1 if a font needs them and none are given. Those that stand for others in
+        a preview are among them."""
         chars, text = self.chars, self.text
         if not (chars or text) and not (group[0].is_bdf or group[0].chars or group[0].text or group[0].how.get("glyphs")):
             chars = "latin-1"
@@ -238,7 +248,11 @@ class Job:
         if self.fit:
             parts = [asked.part(font, LOOK) for asked, font in zip(group, fonts)]
             sizes = [fitting(parts, *self.fit, chars, text, o.ascent, o.clip)] * len(fonts)
-        strike, told = self.joined(group, fonts, sizes, chars, text) if self.is_joined else (self.alone(group[0], fonts[0], sizes[0], chars, text), [])
+        told: list[Told] = []
+        if self.is_joined:
+            strike, told = self.joined(group, fonts, sizes, chars, text)
+        else:
+            strike = self.alone(group[0], fonts[0], sizes[0], chars, text)
         self.refuse(strike)
         strike.notes += tuple(line for asked, font, size in zip(group, fonts, sizes) for line in asked.said(font, size))
         if self.fit or self.cell:
@@ -247,10 +261,12 @@ class Job:
             strike = strike.with_properties(self.properties, x11=o.x11)
         return strike, told
 
-    def joined(self, group: list[Asked], fonts: list[Font | Strike], sizes: list[int], chars: str, text: str) -> tuple[Strike, list[Told]]:
+    def joined(self, group: list[Asked], fonts: list[Font | Strike], sizes: list[int], chars: str,
+               text: str) -> tuple[Strike, list[Told]]:
         """The strike of fonts that are joined."""
         name, first = self.options.name, fonts[0]
-        strike, told = joined([asked.part(font, size) for asked, font, size in zip(group, fonts, sizes)], chars, text, name or group[0].name(first))
+        parts = [asked.part(font, size) for asked, font, size in zip(group, fonts, sizes)]
+        strike, told = joined(parts, chars, text, name or group[0].name(first))
         strike.names = first.names if name is None else None
         return strike, told
 
@@ -268,7 +284,8 @@ class Job:
         return strike
 
     def drawn(self, strike: Strike) -> str:
-        """The text of a preview as a strike can draw it: another character stands for one that is not there, if the strike has that."""
+        """The text of a preview as a strike can draw it: another character stands for one that is not there, if the strike has
+        that."""
         stand_in = next((it for it in PLACEHOLDERS if it in strike), "")
         return "".join(it if it in strike or it in "\r\n" else stand_in for it in self.preview or "")
 
@@ -299,7 +316,9 @@ def _has(font: Font | Strike, char: str) -> bool:
 
 def _text_of(path: str) -> str:
     if path != "-" and not os.path.exists(path):
-        raise ValueError("--text takes a file, and there is no '%s'; a text itself comes by a pipe: printf '%%s' '%s' | strike --text - .." % (path, path))
+        raise ValueError(
+            "--text takes a file, and there is no '%s'; a text itself comes by a pipe: printf '%%s' '%s' | strike --text - .." %
+            (path, path))
     data = sources.read(sys.stdin.buffer)[0] if path == "-" else sources.read_file(path)
     try:
         return data.decode("utf-8")
@@ -335,7 +354,8 @@ def sizes_of(text: str, option: str = "--size") -> list[int]:
             continue
         bounds = item.split("-")
         if len(bounds) > 2 or not all(it.isascii() and it.isdigit() for it in bounds) or int(bounds[-1]) - int(bounds[0]) not in range(1024):
-            raise ValueError("%s takes pixels per em, as 16 or 12,14 or 8-16, not '%s'; points come with a resolution, as 12pt@96" % (option, item))
+            raise ValueError(
+                "%s takes pixels per em, as 16 or 12,14 or 8-16, not '%s'; points come with a resolution, as 12pt@96" % (option, item))
         found += range(int(bounds[0]), int(bounds[-1]) + 1)
     return list(dict.fromkeys(found))
 

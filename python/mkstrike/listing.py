@@ -94,8 +94,10 @@ def table_of(found: list[Listed]) -> list[str]:
     """Lines with a column for each: character, number, name, and the numbers of the picture."""
     rows = [["character", "glyph", "name", *METRICS]]
     for it in found:
-        char = "-" if it.char is None else code_name(ord(it.char)) + (" " + it.char if it.char.isprintable() and not it.char.isspace() else "")
-        metrics = [it.glyph.line] if isinstance(it.glyph, Refused) else [] if it.glyph is None else [str(getattr(it.glyph, name)) for name in METRICS]
+        char = "-" if it.char is None else code_name(ord(it.char)) + \
+                                                     (" " + it.char if it.char.isprintable() and not it.char.isspace() else "")
+        metrics = [it.glyph.line] if isinstance(it.glyph, Refused) else [] if it.glyph is None else [
+                                                str(getattr(it.glyph, name)) for name in METRICS]
         rows.append([char, "-" if it.number is None else str(it.number), shown(it.name) or "-", *metrics])
     count = max(map(len, rows[1:]), default=3)
     rows[0] = rows[0][:count]
@@ -107,7 +109,8 @@ def as_data(found: list[Listed]) -> list[dict[str, Any]]:
     """The same as JSON has it."""
     made = []
     for it in found:
-        item: dict[str, Any] = {"code": None if it.char is None else ord(it.char), "char": it.char, "glyph": it.number, "name": it.name or None}
+        item: dict[str, Any] = {"code": None if it.char is None else ord(
+            it.char), "char": it.char, "glyph": it.number, "name": it.name or None}
         if isinstance(it.glyph, Refused):
             item["refused"] = it.glyph.line
         elif it.glyph is not None:

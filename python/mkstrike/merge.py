@@ -1,4 +1,5 @@
-"""Several fonts and strikes in one strike: which gives which characters, the strike of all, and the size at which all fit a cell."""
+"""Several fonts and strikes in one strike: which gives which characters, the strike of all, and the size at which all fit a
+cell."""
 from __future__ import annotations
 
 import warnings
@@ -23,7 +24,8 @@ OPTIONS = {"text", "shift_y", "hinted", "dropout", "symbol", "refused", "glyphs"
 class Part:
     """What one font or strike gives, at a size: the characters of its own, or what the parts before it lack."""
 
-    def __init__(self, source: Font | Strike, size: int | None = None, chars: Chars = "", options: Mapping[str, Any] | None = None) -> None:
+    def __init__(self, source: Font | Strike, size: int | None = None, chars: Chars = "",
+                 options: Mapping[str, Any] | None = None) -> None:
         more = dict(options or {})
         if not isinstance(source, (Font, Strike)):
             raise TypeError("parts: %r is no font and no strike" % (source,))
@@ -59,9 +61,11 @@ class Part:
             found = {code: (it.width, it.height, it.left, it.bottom, it.dwidth) for code, it in text.entries.items()}
             ascent, descent, boxes = text.ascent, text.descent, {new: found[old] for new, old in given.items() if old in found}
         else:
-            at = self.source.at(size, hinted=hinted and self.options.get("hinted", True), dropout=self.options.get("dropout", "font"))
+            at = self.source.at(size, hinted=hinted and self.options.get("hinted", True),
+                                dropout=self.options.get("dropout", "font"))
             ascent, descent, boxes = at.ascent, at.descent, at.boxes(given)
-        lifted = {new: (width, height, left, bottom + self.shift, dwidth) for new, (width, height, left, bottom, dwidth) in boxes.items()}
+        lifted = {new: (width, height, left, bottom + self.shift, dwidth)
+                  for new, (width, height, left, bottom, dwidth) in boxes.items()}
         return ascent, descent, lifted
 
 
@@ -75,8 +79,8 @@ class Wanted:
         self.asked = dict(self.common or {})
 
     def of(self, part: Part, taken: Iterable[int]) -> dict[int, int]:
-        """What a part is asked for. One without characters of its own gives what is asked for, and what the parts before it lack; a strike
-        all that it has, if nobody says which."""
+        """What a part is asked for. One without characters of its own gives what is asked for, and what the parts before it lack; a
+        strike all that it has, if nobody says which."""
         if part.has_own:
             own = part.own()
             self.asked.update(own)
@@ -94,7 +98,8 @@ class Wanted:
 
 
 class Told:
-    """What is told of a part of a strike: how many glyphs are of it, which characters of its own it lacks, and what else there is."""
+    """What is told of a part of a strike: how many glyphs are of it, which characters of its own it lacks, and what else there
+    is."""
 
     def __init__(self, part: Part, count: int, missing: tuple[str, ...], notes: tuple[str, ...]) -> None:
         self.name = part.name
@@ -108,10 +113,10 @@ def merge(parts: Iterable[Given], *, chars: Chars = "", text: str = "", name: st
     the last ones may be left out: `(font, 16)`, `(font, 20, "f000-f2e0=e000")`, `(font, 16, "", {"text": "abc", "hinted": False})`. The
     options are `text`, `hinted`, `dropout`, `symbol`, `refused` and `glyphs` as of `Font.strike`, and `shift_y`, which lifts the glyphs by rows.
 
-    A part gives the characters of its own, also those that a part before it has. One without gives what the parts before it lack of `chars`
-    and `text`, which are for all, and of the other parts' characters; a strike gives all that it has, if `chars` and `text` don't say which.
-    Name, size and properties are those of the first part, ascent and descent the greatest. `missing` and `refused` name what no part
-    has."""
+    A part gives the characters of its own, also those that a part before it has. One without gives what the parts before it lack of
+    `chars` and `text`, which are for all, and of the other parts' characters; a strike gives all that it has, if `chars` and `text`
+    don't say which. Name, size and properties are those of the first part, ascent and descent the greatest. `missing` and `refused`
+    name what no part has."""
     merged, _ = joined([Part(*it) if isinstance(it, tuple) else Part(it) for it in parts], chars, text, name)
     for note in merged.notes:
         warnings.warn(note, stacklevel=2)
@@ -134,7 +139,8 @@ def joined(parts: list[Part], chars: Chars = "", text: str = "", name: str | Non
         entries.update((code, _placed(it, part, parts[0].size)) for code, it in strike.parsed().entries.items())
     merged = _of(strikes, entries, owners, name)
     merged.missing = tuple(chr(it) for it in sorted(wanted.asked) if it not in owners and chr(it) not in merged.refused)
-    told = [Told(part, sum(it == at for it in owners.values()), tuple(it for it in strike.missing if it in merged.missing), strike.notes)
+    told = [Told(part, sum(it == at for it in owners.values()), tuple(it for it in strike.missing if it in merged.missing),
+                 strike.notes)
             for at, (part, strike) in enumerate(zip(parts, strikes))]
     merged.notes = tuple("%s: %s" % (it.name, note) for it in told for note in it.notes)
     return merged, told
@@ -154,7 +160,8 @@ def _of(strikes: list[Strike], entries: Mapping[int, bdf.Entry], owners: Mapping
     merged = bdf.Text(name or first.name, first.size, above, below, first.properties, entries)
     bdf.settle(merged)
     tell_of_unnamed([it for text in texts for it in text.unnamed])
-    outside, unhinted = ({char: it for at, strike in enumerate(strikes) for char, it in getattr(strike, which).items() if owners[ord(char)] == at}
+    outside, unhinted = ({char: it for at, strike in enumerate(strikes) for char, it in getattr(strike, which).items()
+                          if owners[ord(char)] == at}
                          for which in ("outside", "unhinted"))
     refused = {char: why for strike in reversed(strikes) for char, why in strike.refused.items() if ord(char) not in entries}
     return Strike(merged, is_own=True, names=None if name else strikes[0].names, refused=refused, unhinted=unhinted, outside=outside,

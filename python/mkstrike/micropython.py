@@ -84,7 +84,8 @@ def module(strike: Strike, bytes: str = "rows", bits: str | None = None) -> str:
     for it in data:
         starts.append(starts[-1] + len(it))
     if starts[-1] >= MOST or max(widths) > 0xFFFF:
-        raise ValueError("a module of MicroPython has less than %s bytes of glyphs, not %s" % tuple(format(it, ",") for it in (MOST, starts[-1])))
+        raise ValueError("a module of MicroPython has less than %s bytes of glyphs, not %s" %
+                         tuple(format(it, ",") for it in (MOST, starts[-1])))
     wider = [ord(it.char or "") for it, width in zip(glyphs, widths) if width > it.advance]
     if wider:
         warnings.warn("wider than their advance, since a module of MicroPython has nothing outside it: " + ranges(wider), stacklevel=4)

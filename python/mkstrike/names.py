@@ -12,8 +12,8 @@ if TYPE_CHECKING:
     from typing import NamedTuple
 
     class Names(NamedTuple):
-        """Names of a font: `weight` is 1 to 1,000, 400 for Regular and 700 for Bold; `width` 1 to 9, 5 for normal; `slant` "R", "I" or "O"
-        for upright, italic or oblique, as in X11."""
+        """Names of a font: `weight` is 1 to 1,000, 400 for Regular and 700 for Bold; `width` 1 to 9, 5 for normal; `slant` "R", "I"
+        or "O" for upright, italic or oblique, as in X11."""
         family: str
         style: str
         weight: int
@@ -27,8 +27,10 @@ LONGEST = 60  # characters of a family in X11's name
 FAMILY, STYLE = (16, 1), (17, 2)  # numbers of names in `name`; the first wins
 ITALIC, BOLD, OBLIQUE = 1, 32, 512  # bits of fsSelection in `OS/2`
 # X11's words, each from its weight on (OS/2, usWeightClass), and for each width from 1 on.
-WEIGHTS = ((0, "Thin"), (150, "ExtraLight"), (250, "Light"), (350, "Medium"), (550, "DemiBold"), (650, "Bold"), (750, "ExtraBold"), (850, "Black"))
-WIDTHS = ("UltraCondensed", "ExtraCondensed", "Condensed", "SemiCondensed", "Normal", "SemiExpanded", "Expanded", "ExtraExpanded", "UltraExpanded")
+WEIGHTS = ((0, "Thin"), (150, "ExtraLight"), (250, "Light"), (350, "Medium"), (550, "DemiBold"), (650, "Bold"), (750, "ExtraBold"),
+           (850, "Black"))
+WIDTHS = ("UltraCondensed", "ExtraCondensed", "Condensed", "SemiCondensed", "Normal", "SemiExpanded", "Expanded", "ExtraExpanded",
+          "UltraExpanded")
 
 
 def names_of(data: bytes, face: int, otherwise: str) -> Names:
@@ -48,7 +50,8 @@ def x11_name(names: Names, size: int, spacing: str, average: int) -> str:
     family = "".join(it if " " <= it <= "~" and it not in '-?*,"' else " " for it in names.family[:LONGEST]).strip() or "strike"
     weight = [word for least, word in WEIGHTS if least <= names.weight][-1]
     width = WIDTHS[names.width - 1] if 1 <= names.width <= 9 else "Normal"
-    return "-misc-%s-%s-%s-%s--%d-%d-72-72-%s-%d-ISO10646-1" % (family, weight, names.slant, width, size, 10 * size, spacing.lower(), average)
+    return "-misc-%s-%s-%s-%s--%d-%d-72-72-%s-%d-ISO10646-1" % (family, weight, names.slant, width, size, 10 * size,
+                                                                spacing.lower(), average)
 
 
 def _said(data: bytes, face: int, number: int) -> str:

@@ -28,7 +28,8 @@ def notes_of(font: Font, strike: Strike, codes: list[int]) -> tuple[str, ...]:
         notes += _symbols(font, codes)
     if not len(strike):
         notes.append("the strike has no glyph: " + why_empty(strike, codes))
-    elif BLANK in strike.text[:HEADER] and any(chr(it).isprintable() and not chr(it).isspace() for it in codes if chr(it) in strike):
+    elif BLANK in strike.text[:HEADER] and any(chr(it).isprintable() and not chr(it).isspace() for it in codes
+                                               if chr(it) in strike):
         notes.append("no pixel of the strike is set: the outlines of these characters are empty, or too thin for this size")
     return tuple(notes)
 
@@ -40,7 +41,8 @@ def _symbols(font: Font, codes: list[int]) -> list[str]:
     found = [it for it in has if it in places]
     if not found or any(it in has for it in codes) or not any(0xF000 + it in places for it in codes):
         return []
-    return ["a font of symbols: its characters begin at U+%04X; symbol=True, or --symbol, takes them by U+0020 to U+00FF" % found[0]]
+    return ["a font of symbols: its characters begin at U+%04X; symbol=True, or --symbol, takes them by U+0020 to U+00FF" %
+            found[0]]
 
 
 def why_empty(strike: Strike, codes: list[int]) -> str:

@@ -14,15 +14,18 @@ if TYPE_CHECKING:
     from typing import Any, NoReturn
 
 ABOUT = """\
-Makes bitmap strikes of TrueType fonts. For each font and size it writes one file a format, NAME-SIZE.bdf and so on, and a line that says
-what is in it. Characters that the font lacks, or that are refused, are named and left out."""
+Makes bitmap strikes of TrueType fonts. For each font and size it writes one file a format, NAME-SIZE.bdf and so on, and a line that
+says what is in it. Characters that the font lacks, or that are refused, are named and left out."""
 USAGE = "strike [OPTION].. FONT..\n       strike [OPTION].. --font FONT [OPTION OF IT].. --font FONT [OPTION OF IT].. -o FILE"
-FONTS = "TrueType or OpenType fonts, collections, WOFF, WOFF2, by file or by name (\"DejaVu Sans:bold\"); also strikes in BDF; - is standard input"
+FONTS = """\
+TrueType or OpenType fonts, collections, WOFF, WOFF2, by file or by name ("DejaVu Sans:bold"); also strikes in BDF; - is standard
+input"""
 CHARS = """\
-a list that commas join: sets by name (all, %s; cp1252, iso8859-2 and such), hexadecimal numbers and ranges (20-7e, U+20AC; the letter A is
-41), ranges with other numbers (f000-f2e0=e000), lists of bdf2psf by name or path (Lat15, ./my.set), strikes (other.bdf); latin-1 if no
-option says which, and all of a BDF"""
-DROPOUT = "how thin strokes stay whole: as the font asks (font, the default), by left pixels (left), by nearer ones (near), or not (off)"
+a list that commas join: sets by name (all, %s; cp1252, iso8859-2 and such), hexadecimal numbers and ranges (20-7e, U+20AC; the
+letter A is 41), ranges with other numbers (f000-f2e0=e000), lists of bdf2psf by name or path (Lat15, ./my.set), strikes
+(other.bdf); latin-1 if no option says which, and all of a BDF"""
+DROPOUT = """\
+how thin strokes stay whole: as the font asks (font, the default), by left pixels (left), by nearer ones (near), or not (off)"""
 KINDS = ("font", "left", "near", "off")  # of drop-out control
 FONT, BDF = "font", "BDF"  # kinds of input
 FILES = tuple(formats.FORMATS)
@@ -36,8 +39,9 @@ IN_BYTES = ("c", "raw", "py")  # formats whose bytes can be in more than one lay
 
 
 class Option:
-    """An option: its names, and what it is for. `inputs` and `outputs` are those for which it has a meaning; `needs` are options of which
-    one must be given too, or for which outputs don't matter (`unless`); `is_of_font` says that it may stand after each --font."""
+    """An option: its names, and what it is for. `inputs` and `outputs` are those for which it has a meaning; `needs` are options of
+    which one must be given too, or for which outputs don't matter (`unless`); `is_of_font` says that it may stand after each
+    --font."""
 
     def __init__(self, names: str, text: str, *, inputs: Sequence[str] = (FONT, BDF), outputs: Sequence[str] = DRAWN,
                  needs: Sequence[str] = (), unless: str = "", is_of_font: bool = False, advice: str = "", **more: Any) -> None:
@@ -46,11 +50,13 @@ class Option:
         self.dest: str = more.get("dest") or self.names[0].lstrip("-").replace("-", "_")
 
     def refuse(self, kinds: Iterable[tuple[str, str]], outputs: Sequence[str], given: Sequence[str]) -> None:
-        """Raises an error if the option has no meaning for an input, given as its kind and its path, for all outputs, or without another option."""
+        """Raises an error if the option has no meaning for an input, given as its kind and its path, for all outputs, or without
+        another option."""
         name = self.names[0]
         for kind, path in kinds:
             if kind not in self.inputs:
-                raise ValueError("%s says how a font is drawn, and %s is a strike that is drawn already: leave it out" % (name, shown(path)))
+                raise ValueError("%s says how a font is drawn, and %s is a strike that is drawn already: leave it out" %
+                                 (name, shown(path)))
         if self.needs and not set(self.needs) & set(given):
             raise ValueError("%s is for %s" % (name, " and ".join("--" + it for it in self.needs)))
         if not set(self.outputs) & set(outputs) and self.unless not in given:
@@ -65,30 +71,36 @@ TABLE = {
     "characters": (
         Option("--chars --set", CHARS % ", ".join(SETS), outputs=LETTERS, unless="fit", is_of_font=True, metavar="LIST"),
         Option("--all", "every character of the font", outputs=LETTERS, unless="fit", is_of_font=True, const="all", dest="chars"),
-        Option("--text", "the characters that a text in UTF-8 uses; - is standard input", outputs=LETTERS, unless="fit", is_of_font=True, metavar="FILE"),
+        Option("--text", "the characters that a text in UTF-8 uses; - is standard input",
+               outputs=LETTERS, unless="fit", is_of_font=True, metavar="FILE"),
         Option("--glyph", "glyphs of the font by name or number, and the characters that get them, as A.alt=e000,1234=e001", inputs=(FONT,), is_of_font=True,
                metavar="GLYPH=CHAR,.."),
         Option("--symbol", "a font of symbols: U+0020 to U+00FF are its characters from U+F020 on", inputs=(FONT,), is_of_font=True, const=True)),
     "sizes and cells": (
         Option("--size --ppem", "sizes in pixels per em, and ranges of them, as 12,16-20 (16), or points at a resolution, as 12pt@96", inputs=(FONT,),
                outputs=(*DRAWN, LIST, DIFF), is_of_font=True, metavar="N,.."),
-        Option("--height", "the largest size at which a line has at most N rows", inputs=(FONT,), is_of_font=True, type=int, metavar="N"),
-        Option("--cap-height", "the largest size at which a capital H has at most N rows", inputs=(FONT,), is_of_font=True, type=int, metavar="N"),
-        Option("--fit", "the largest size at which no glyph leaves a cell of W x H pixels, and these cells; box drawing joins. With --clip the "
+        Option("--height", "the largest size at which a line has at most N rows",
+               inputs=(FONT,), is_of_font=True, type=int, metavar="N"),
+        Option("--cap-height", "the largest size at which a capital H has at most N rows",
+               inputs=(FONT,), is_of_font=True, type=int, metavar="N"),
+        Option("--fit", "the largest size at which no glyph leaves a cell of W x H pixels, and these cells; box drawing joins; with --clip the "
                "largest at which a line fits", inputs=(FONT,), metavar="WxH"),
         Option("--cell", "one advance for all, in cells of W x H pixels; glyphs that leave the cell are named", metavar="WxH"),
         Option("--ascent", "the rows of a cell above the baseline", needs=("cell", "fit"), type=int, metavar="N"),
         Option("--clip", "glyphs lose the pixels outside the cell", needs=("cell", "fit"), action="store_true"),
-        Option("--join", "box drawing and blocks are drawn out to the edges of the cell, as --fit does", needs=("cell", "fit"), action="store_true")),
+        Option("--join", "box drawing and blocks are drawn out to the edges of the cell, as --fit does", needs=("cell", "fit"),
+               action="store_true")),
     "several fonts in one strike": (
-        Option("--font", "a font of the strike: the options after it are for it alone, those before the first for all. A font without characters "
-               "of its own gives what those before it lack", metavar="FONT"),
+        Option("--font",
+               "a font of the strike: the options after it are for it alone, those before the first for all; one without "
+               "characters of its own gives what those before it lack", metavar="FONT"),
         Option("--shift-y", "after a --font: lift its glyphs by N rows", is_of_font=True, type=int, metavar="N")),
     "how a font is drawn": (
         Option("--unhinted", "do not run the font's own programs", inputs=(FONT,), outputs=EVERY, is_of_font=True, const=True),
         Option("--dropout", DROPOUT, inputs=(FONT,), outputs=EVERY, is_of_font=True, choices=KINDS, metavar="[font|left|near|off]"),
         Option("--face", "the font of a collection, from 0", inputs=(FONT,), outputs=EVERY, is_of_font=True, type=int, metavar="N"),
-        Option("--axes", "the instance of a variable font, as wght=700", inputs=(FONT,), outputs=EVERY, is_of_font=True, metavar="TAG=N,.."),
+        Option("--axes", "the instance of a variable font, as wght=700",
+               inputs=(FONT,), outputs=EVERY, is_of_font=True, metavar="TAG=N,.."),
         Option("--refused", "characters that are refused are left out (leave-out, the default), drawn unhinted, or refuse the strike",
                inputs=(FONT,), outputs=(*DRAWN, DIFF), is_of_font=True, choices=("leave-out", "unhinted", "refuse"), metavar="WHAT")),
     "files": (
@@ -104,7 +116,8 @@ TABLE = {
         Option("--align", "the bits that a row or a column leaves over come after its pixels (left, the default) or before them (right)",
                outputs=("c", "raw"), choices=SIDES, metavar="SIDE"),
         Option("--attribute", "the attribute of the arrays in C, such as PROGMEM", outputs=("c",), metavar="WORD"),
-        Option("--dense", "number the characters without gaps from the first on, so that no entry is empty", outputs=("gfx",), action="store_true"),
+        Option("--dense", "number the characters without gaps from the first on, so that no entry is empty",
+               outputs=("gfx",), action="store_true"),
         Option("--padding", "clear pixels on each side of a glyph in the picture", outputs=("fnt",), type=int, metavar="N"),
         Option("--preview", "print a text on the terminal, or write a picture of it with -o FILE.png, and no strike", outputs=(TERMINAL, PICTURE, SHEET),
                metavar="TEXT"),
@@ -144,7 +157,8 @@ class Version(argparse.Action):
 class Once(argparse.Action):
     """An option with a value, which is given once."""
 
-    def __call__(self, parser: argparse.ArgumentParser, namespace: argparse.Namespace, value: Any, option: str | None = None) -> None:
+    def __call__(self, parser: argparse.ArgumentParser, namespace: argparse.Namespace, value: Any,
+                 option: str | None = None) -> None:
         if getattr(namespace, self.dest, None) is not None:
             parser.error("%s is given twice" % option)
         setattr(namespace, self.dest, value)
@@ -153,7 +167,8 @@ class Once(argparse.Action):
 class OfFont(argparse.Action):
     """An option of the font before it, or of all: `groups` has the options of all, then those of each --font."""
 
-    def __call__(self, parser: argparse.ArgumentParser, namespace: argparse.Namespace, value: Any, option: str | None = None) -> None:
+    def __call__(self, parser: argparse.ArgumentParser, namespace: argparse.Namespace, value: Any,
+                 option: str | None = None) -> None:
         groups: list[dict[str, Any]] = namespace.groups
         if self.dest == "font":
             groups.append({"font": value})
@@ -187,8 +202,10 @@ def parser() -> argparse.ArgumentParser:
             if it.is_of_font or it.dest == "font":
                 more.update(action=OfFont, default=argparse.SUPPRESS, **({"nargs": 0} if "const" in more else {}))
             group.add_argument(*it.names, **more)
-    p.add_argument("--dropout-near", action=OfFont, nargs=0, dest="dropout", const="near", default=argparse.SUPPRESS, help=argparse.SUPPRESS)
-    p.add_argument("--dropout-font", action=OfFont, nargs=0, dest="dropout", const="font", default=argparse.SUPPRESS, help=argparse.SUPPRESS)
+    p.add_argument("--dropout-near", action=OfFont, nargs=0, dest="dropout", const="near", default=argparse.SUPPRESS,
+                   help=argparse.SUPPRESS)
+    p.add_argument("--dropout-font", action=OfFont, nargs=0, dest="dropout", const="font", default=argparse.SUPPRESS,
+                   help=argparse.SUPPRESS)
     p.set_defaults(groups=[{}])
     return p
 

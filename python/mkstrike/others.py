@@ -19,11 +19,13 @@ MOST = 512  # glyphs of a font of the console
 
 
 def psf(strike: Strike) -> bytes:
-    """A font for the Linux console. All advances have to be equal (`Strike.cell`); characters that bdf2psf leaves out are a warning."""
+    """A font for the Linux console. All advances have to be equal (`Strike.cell`); characters that bdf2psf leaves out are a
+    warning."""
     if len({it.advance for it in strike.values()}) != 1:
         raise ValueError("a font of the console has one advance for all glyphs: make a cell first (cell, --cell)")
     if len(strike) > MOST:
-        raise ValueError("a font of the console has at most %d glyphs, not %d: give fewer characters, as --chars Lat15" % (MOST, len(strike)))
+        raise ValueError("a font of the console has at most %d glyphs, not %d: give fewer characters, as --chars Lat15" %
+                         (MOST, len(strike)))
     size = 256 if len(strike) <= 256 else MOST
     listed = "".join("U+%04X\n" % ord(it) for it in strike).encode()
     return _made("bdf2psf", "bdf2psf", strike, ["--fb", "in.bdf", os.devnull, "in.set", str(size), "out"], {"in.set": listed})
@@ -51,7 +53,8 @@ def _made(program: str, package: str, strike: Strike, words: list[str], files: d
         for name, data in {"in.bdf": text, **(files or {})}.items():
             with open(os.path.join(folder, name), "wb") as file:
                 file.write(data)
-        ran = subprocess.run([path, *words], cwd=folder, stdin=subprocess.DEVNULL, capture_output=True, env={**os.environ, "LC_ALL": "C"})
+        ran = subprocess.run([path, *words], cwd=folder, stdin=subprocess.DEVNULL, capture_output=True,
+                             env={**os.environ, "LC_ALL": "C"})
         said = (ran.stdout + ran.stderr).decode(errors="replace").strip()
         try:
             if ran.returncode:

@@ -1,4 +1,5 @@
-"""Options of other programs, and what does the same here. A word that is no option is taken for a misspelt one only if it is close to it."""
+"""Options of other programs, and what does the same here. A word that is no option is taken for a misspelt one only if it is close
+to it."""
 from __future__ import annotations
 
 from collections.abc import Iterable
@@ -18,12 +19,15 @@ WORDS = {
     **dict.fromkeys(("--pt", "--points", "--dpi", "--resolution", "--point-size", "-p"), POINTS),
     "-r": RANGE + "; for a resolution: " + POINTS,
     **dict.fromkeys(("--range", "--ranges", "--unicode", "--unicodes", "--characters", "--glyphs", "--subset"), RANGE),
-    **dict.fromkeys(("--symbols", "--charset-file", "-k", "-l"), "--text FILE takes the characters of a text: printf '%s' 'TEXT' | strike --text - .."),
-    **dict.fromkeys(("--hinted", "--hinting", "--hint", "--autohint-strong", "--force-autohint"), "strikes are hinted by the font's programs if --unhinted is not given"),
+    **dict.fromkeys(("--symbols", "--charset-file", "-k", "-l"),
+                    "--text FILE takes the characters of a text: printf '%s' 'TEXT' | strike --text - .."),
+    **dict.fromkeys(("--hinted", "--hinting", "--hint", "--autohint-strong", "--force-autohint"),
+                    "strikes are hinted by the font's programs if --unhinted is not given"),
     **dict.fromkeys(("--no-hinting", "--no-hint", "--autohint-off", "--no-autohint"), "--unhinted does that"),
     **dict.fromkeys(("--antialias", "--gray", "--grey", "--no-bitmap", "--lcd", "--lcd-v"), ONE_BIT),
     **dict.fromkeys(("--encoding", "--charset", "--map", "-m"), "--set takes sets of characters by name, --order a set for raw cells"),
-    **dict.fromkeys(("--width", "--mono", "--monospace", "--fixed", "-f"), CELLS),
+    **dict.fromkeys(("--width", "--mono", "--monospace", "--fixed"), CELLS),
+    "-f": CELLS + "; --format NAME says what is written",
     **dict.fromkeys(("--kerning", "--no-kerning", "--force-fast-kern-format", "--kern"), NO_KERNING),
     **dict.fromkeys(("--no-compress", "--compress", "--no-prefilter"), "nothing is compressed here"),
     **dict.fromkeys(("--covers", "--coverage", "--check"), "--require refuses a strike that lacks a character"),

@@ -32,8 +32,8 @@ def sheet(strike: Strike, columns: int, scale: int) -> Image:
 
 
 def cells(strike: Strike, columns: int) -> tuple[int, int, list[tuple[int, int, Glyph]]]:
-    """The width and the height of all glyphs in cells of the strike's box, with a pixel between cells; and the glyphs, each with the column and
-    the row of its upper left pixel."""
+    """The width and the height of all glyphs in cells of the strike's box, with a pixel between cells; and the glyphs, each with
+    the column and the row of its upper left pixel."""
     width, height, left, bottom = strike.box
     placed = [(k % columns * (width + 1) + glyph.left - left, k // columns * (height + 1) + bottom + height - glyph.top, glyph)
               for k, glyph in enumerate(strike.values())]

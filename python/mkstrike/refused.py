@@ -13,7 +13,8 @@ def code_name(code: int) -> str:
 
 
 def shown(text: str) -> str:
-    """A text of a font or a file as a terminal may have it: what is no printable character is escaped, so that it can't command it."""
+    """A text of a font or a file as a terminal may have it: what is no printable character is escaped, so that it can't command
+    it."""
     return text if text.isprintable() else "".join(it if it.isprintable() else _escaped(ord(it)) for it in text)
 
 
@@ -36,8 +37,10 @@ class Refused(Exception):
     - `char`: the character that was refused, if it is one character's refusal
     """
 
-    def __init__(self, number: int, name: str, *, table: str | None = None, glyph: int | None = None, during: int | str | None = None,
-                 program: int | str | None = None, address: int | None = None, opcode: int | None = None, property: int | None = None,
+    def __init__(self, number: int, name: str, *, table: str | None = None, glyph: int | None = None,
+                 during: int | str | None = None,
+                 program: int | str | None = None, address: int | None = None, opcode: int | None = None,
+                 property: int | None = None,
                  char: str | None = None, start: bytes | None = None) -> None:
         """`start` has the first bytes of the font's file: they tell what else it is."""
         super().__init__(number, name)
@@ -72,7 +75,8 @@ class Refused(Exception):
         """The line that the program prints."""
         words = ["%d %s" % (self.number, self.name)]
         if self.during is not None and self.address is not None and self.opcode is not None:
-            words.append("during %s in %s at %d opcode %02X" % (_program(self.during), _program(self.program), self.address, self.opcode))
+            words.append("during %s in %s at %d opcode %02X" %
+                         (_program(self.during), _program(self.program), self.address, self.opcode))
         words += [str(it) for it in (self.table, self.glyph, self.property) if it is not None]
         return " ".join(words)
 

@@ -19,11 +19,13 @@ NO_GLYPH = "--chars takes sets by name and hexadecimal numbers, --text FILE a te
 IN_ORDER = "the preview is drawn character by character, from left to right: programs that shape text draw this script otherwise"
 # What Python says, and how the command says it.
 SAID = ((OF_TEXT, ASK_OF_TEXT), ("hinted=False", "--unhinted"), ("symbol=True, or --symbol,", "--symbol"),
-        ("a string names a set, or has hexadecimal numbers: " + ASK_OF_TEXT, NO_GLYPH), ("the font has none of the characters; ", ""))
+        ("a string names a set, or has hexadecimal numbers: " + ASK_OF_TEXT, NO_GLYPH),
+        ("the font has none of the characters; ", ""))
 
 
 class Report:
-    """Prints the lines of a run: to standard output what was written, or to standard error if that has a strike; to standard error the rest."""
+    """Prints the lines of a run: to standard output what was written, or to standard error if that has a strike; to standard error
+    the rest."""
 
     def __init__(self, job: Job, clear: Callable[[], None]) -> None:
         self.job, self.clear = job, clear
@@ -54,7 +56,8 @@ class Report:
             print(text)
         elif not self.job.options.quiet and self.job.options.output != "-":
             where = sys.stderr if paths == ["-"] else sys.stdout
-            print(shown("%s: %d glyphs" % (" ".join("standard output" if it == "-" else it for it in paths), len(strike))), file=where)
+            print(shown("%s: %d glyphs" % (" ".join("standard output" if it == "-" else it for it in paths), len(strike))),
+                  file=where)
             for it in told:
                 print(shown("  %s: %d" % (it.name, it.count)), file=where)
         name = stem[:-len("-%d" % strike.size)] if stem.endswith("-%d" % strike.size) else stem

@@ -1,4 +1,5 @@
-"""The bytes of a font: from a path, from bytes, from a file or from fontTools; WOFF is unpacked, and fontTools makes variable fonts plain."""
+"""The bytes of a font: from a path, from bytes, from a file or from fontTools; WOFF is unpacked, and fontTools makes variable fonts
+plain."""
 from __future__ import annotations
 
 import io
@@ -51,7 +52,8 @@ def _read_all(file: IO[bytes], what: str) -> bytes:
 
 
 def located(source: Source, face: int) -> tuple[Source, int]:
-    """The source itself, or if it is the name of an installed font and no file, where fontconfig has it: a path and the font's number."""
+    """The source itself, or if it is the name of an installed font and no file, where fontconfig has it: a path and the font's
+    number."""
     if not isinstance(source, str) or os.sep in source or os.path.exists(source):
         return source, face
     import errno
@@ -63,7 +65,9 @@ def located(source: Source, face: int) -> tuple[Source, int]:
         said = subprocess.run(words, stdin=subprocess.DEVNULL, capture_output=True).stdout.decode(errors="surrogateescape")
     index, path, families = (said + "\n\n").split("\n")[:3]
     if source.partition(":")[0].strip().lower() not in families.lower().split(","):  # fontconfig always finds some font
-        raise FileNotFoundError(errno.ENOENT, "there is no such file, and no installed font of this name " + _how_to_name(source, bool(program)), source)
+        raise FileNotFoundError(errno.ENOENT,
+                                "there is no such file, and no installed font of this name " + _how_to_name(source, bool(program)),
+                                source)
     return path, face or int(index) & 0xFFFF
 
 
@@ -87,7 +91,8 @@ def read(source: Source) -> tuple[bytes, str]:
         getattr(source, "save")(out)
         return limited(out.getvalue(), "the font"), "font"
     if isinstance(source, io.TextIOBase) or not hasattr(source, "read"):
-        raise TypeError("source is a path, bytes, a file that is open for bytes ('rb'), or a TTFont of fontTools, not %s" % type(source).__name__)
+        raise TypeError("source is a path, bytes, a file that is open for bytes ('rb'), or a TTFont of fontTools, not %s" %
+                        type(source).__name__)
     name = getattr(source, "name", "font")
     stem = os.path.splitext(os.path.basename(name))[0] if isinstance(name, str) else "font"
     return _read_all(source, "the file %s" % stem), stem
@@ -160,16 +165,18 @@ def _instance(font: TTFont, axes: Mapping[str, float]) -> TTFont:
 
 
 def _converted(font: TTFont) -> TTFont:
-    """A font with CFF outlines as one with TrueType outlines, at most FAR of an em away: lines and parabolas, on a finer grid, so that the
-    rounded points are near enough too. It has no programs."""
+    """A font with CFF outlines as one with TrueType outlines, at most FAR of an em away: lines and parabolas, on a finer grid, so
+    that the rounded points are near enough too. It has no programs."""
     from fontTools.ttLib import newTable
     finer, order = max(FINEST // font["head"].unitsPerEm, 1), font.getGlyphOrder()
     made = _parabolas(font, finer)
     glyf, maxp, loca = newTable("glyf"), newTable("maxp"), newTable("loca")
     glyf.glyphs, glyf.glyphOrder = made, order
     maxp.tableVersion, maxp.numGlyphs, maxp.maxZones = 0x00010000, len(order), 1
-    for name in ("maxTwilightPoints", "maxStorage", "maxFunctionDefs", "maxInstructionDefs", "maxStackElements", "maxSizeOfInstructions",
-                 "maxComponentElements", "maxComponentDepth", "maxPoints", "maxContours", "maxCompositePoints", "maxCompositeContours"):
+    for name in ("maxTwilightPoints", "maxStorage", "maxFunctionDefs", "maxInstructionDefs", "maxStackElements",
+                 "maxSizeOfInstructions",
+                 "maxComponentElements", "maxComponentDepth", "maxPoints", "maxContours", "maxCompositePoints",
+                 "maxCompositeContours"):
         setattr(maxp, name, 0)
     head, hhea, hmtx = font["head"], font["hhea"], font["hmtx"]
     hmtx.metrics = {name: (advance * finer, getattr(made[name], "xMin", 0)) for name, (advance, _) in hmtx.metrics.items()}

@@ -121,7 +121,8 @@ class Strike(Glyphs):
             if entry is None or code is None:
                 raise Missing(str(char) if code is None else chr(code))
             pixels = glyphs.unpacked(entry.rows, entry.width, entry.height)
-            self._made[code] = glyphs.Glyph(chr(code), entry.width, entry.height, entry.left, entry.bottom, entry.dwidth, entry.swidth, pixels)
+            self._made[code] = glyphs.Glyph(chr(code), entry.width, entry.height, entry.left, entry.bottom, entry.dwidth,
+                                            entry.swidth, pixels)
         return self._made[code]
 
     def _has(self, code: int) -> bool:
@@ -182,7 +183,8 @@ class Strike(Glyphs):
         kept = {new: bdf.renumbered(has[old], new) for new, old in given.items() if old in has}
         return self._with(self.parsed().with_entries(kept), missing=tuple(
             chr(new) for new, old in given.items() if old not in has and chr(old) not in self.refused), **{
-                which: {chr(new): found[chr(old)] for new, old in given.items() if chr(old) in found} for which, found in self._told()})
+                which: {chr(new): found[chr(old)] for new, old in given.items() if chr(old) in found} for which,
+                found in self._told()})
 
     def _told(self) -> list[tuple[str, dict[str, Any]]]:
         """What is told of characters, each with its name."""
@@ -200,16 +202,17 @@ class Strike(Glyphs):
             if not isinstance(it, glyphs.Glyph):
                 raise TypeError("the glyph of %r is a Glyph, not %s" % (char, type(it).__name__))
             more[code] = bdf.entry_of(code, it, text.size)
-        return self._with(text.with_entries({**text.entries, **more}), missing=tuple(it for it in self.missing if ord(it) not in more), **{
+        return self._with(text.with_entries({**text.entries, **more}),
+                          missing=tuple(it for it in self.missing if ord(it) not in more), **{
             which: {char: it for char, it in found.items() if ord(char) not in more} for which, found in self._told()})
 
     def cell(self, width: int, height: int, *, ascent: int | None = None, clip: bool = False, join: bool = False) -> Strike:
         """The same glyphs in a cell: each has the advance `width`, and ascent and descent together are `height`.
 
-        `ascent` says how many rows of the cell are above the baseline; without it the rows that are too many or too few are shared by
-        above and below. Glyphs keep their place from the origin. `outside` names those that leave the cell; with `clip` they lose the
-        pixels there. With `join` the lines of box drawing reach the edges of the cell, and block elements and shades fill their parts of it
-        (U+2500 to U+259F), so that neighbours join."""
+        `ascent` says how many rows of the cell are above the baseline; without it the rows that are too many or too few are shared
+        by above and below. Glyphs keep their place from the origin. `outside` names those that leave the cell; with `clip` they
+        lose the pixels there. With `join` the lines of box drawing reach the edges of the cell, and block elements and shades fill
+        their parts of it (U+2500 to U+259F), so that neighbours join."""
         from . import cell
         return cell.in_cell(self, width, height, ascent, clip, join)
 
@@ -219,8 +222,8 @@ class Strike(Glyphs):
         return Diff(self, other)
 
     def with_properties(self, properties: Mapping[str, bdf.Value] | None = None, *, x11: bool = False) -> Strike:
-        """The strike with more properties; with `x11` those that X11, fontconfig and bdf2psf look for, which given ones replace. A strike
-        without a name of its own then gets the long name of X11."""
+        """The strike with more properties; with `x11` those that X11, fontconfig and bdf2psf look for, which given ones replace. A
+        strike without a name of its own then gets the long name of X11."""
         bdf.check(properties or {})
         given = {**self._given, **(properties or {})}
         text = self.parsed()
@@ -228,7 +231,8 @@ class Strike(Glyphs):
             text = bdf.Text(bdf.x11_name(text, self.names), text.size, text.ascent, text.descent, text.properties, text.entries)
         more = {name: value for name, value in (bdf.x11(text) if x11 else {}).items() if name not in given}
         kept = {name: value for name, value in text.properties.items() if name not in more and name not in given}
-        return self._with(bdf.Text(text.name, text.size, text.ascent, text.descent, {**kept, **more, **given}, text.entries), given=given)
+        return self._with(bdf.Text(text.name, text.size, text.ascent, text.descent, {**kept, **more, **given}, text.entries),
+                          given=given)
 
     def named(self, name: str) -> Strike:
         """The strike with a name of its own."""
@@ -239,7 +243,8 @@ class Strike(Glyphs):
     def _with(self, text: bdf.Text, **changed: Any) -> Strike:
         """A strike of another text, of which the same is known as here but for what changed."""
         tell_of_unnamed(self.parsed().unnamed)
-        known: dict[str, Any] = {name: getattr(self, name) for name in ("missing", "names", "notes", "underline", "strays", "steps")}
+        known: dict[str, Any] = {name: getattr(self, name) for name in (
+            "missing", "names", "notes", "underline", "strays", "steps")}
         known.update(self._told(), given=self._given)
         known.update(changed)
         return Strike(text, is_own=True, **known)
@@ -249,7 +254,8 @@ def tell_of_unnamed(names: Sequence[str]) -> None:
     """Warns of the glyphs that a step leaves out, since they are no character's: those of another program's text."""
     if names:
         more = " and %d more" % (len(names) - SHOWN) if len(names) > SHOWN else ""
-        warnings.warn("left out, since ENCODING gives no character: %s%s" % (", ".join(map(shown, names[:SHOWN])), more), stacklevel=4)
+        warnings.warn("left out, since ENCODING gives no character: %s%s" % (", ".join(map(shown, names[:SHOWN])), more),
+                      stacklevel=4)
 
 
 if TYPE_CHECKING:

@@ -20,8 +20,8 @@ MOST_GLYPH = 0xFFFF  # the greatest number of a glyph
 class Striker(Glyphs):
     """A font at a size, from each character that the font has to its glyph: see `Font.at`.
 
-    The font is opened, and its `fpgm` and `prep` run, once for all glyphs. A glyph is made when it is asked for. A character that the
-    font lacks raises `Missing`, one that is refused `Refused`.
+    The font is opened, and its `fpgm` and `prep` run, once for all glyphs. A glyph is made when it is asked for. A character that
+    the font lacks raises `Missing`, one that is refused `Refused`.
 
     - `font`, `size`: the font, and the size in pixels per em
     """
@@ -65,14 +65,16 @@ class Striker(Glyphs):
         return Glyph(None, *made)
 
     def glyphs(self, chars: Chars = "", *, text: str = "") -> dict[str, Glyph]:
-        """The glyphs of many characters at once, which is faster than one by one: see `characters`; "all" are those of the font. What is
-        missing or refused is left out."""
+        """The glyphs of many characters at once, which is faster than one by one: see `characters`; "all" are those of the font.
+        What is missing or refused is left out."""
         codes = listed(chars, text, self.font.characters)
         return {chr(code): Glyph(chr(code), *made) for code, status, made in self._block.glyphs(self._dropout, codes) if not status}
 
     def boxes(self, given: Mapping[int, int]) -> dict[int, tuple[int, int, int, int, int]]:
-        """Width, height, left, bottom and advance of glyphs, but those that are missing or refused, each by the character that gets it."""
-        found = {code: made[:5] for code, status, made in self._block.glyphs(self._dropout, sorted(set(given.values())), with_pixels=False)
+        """Width, height, left, bottom and advance of glyphs, but those that are missing or refused, each by the character that gets
+        it."""
+        found = {code: made[:5] for code, status,
+                 made in self._block.glyphs(self._dropout, sorted(set(given.values())), with_pixels=False)
                  if not status}
         return {new: found[old] for new, old in given.items() if old in found}
 

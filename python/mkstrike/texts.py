@@ -89,7 +89,8 @@ class Glyphs(Mapping[str, Glyph]):
                 yield self[missing]
 
     def _placed(self, text: str, missing: str | None) -> tuple[int, int, list[tuple[int, int, Glyph]]]:
-        """The width and the height of a text's picture, and its glyphs, each with the column and the row of its upper left pixel."""
+        """The width and the height of a text's picture, and its glyphs, each with the column and the row of its upper left
+        pixel."""
         lines = [list(self._glyphs_of(line, missing)) for line in _lines(text)]
         (above, below), pitch = self._rows, self.height + self.line_gap
         placed, end = [], 0

@@ -1,4 +1,5 @@
-"""Fonts in WOFF and WOFF2, unpacked. A small file can claim to be a large font, so what is unpacked is bounded: 64 MiB, as what is read."""
+"""Fonts in WOFF and WOFF2, unpacked. A small file can claim to be a large font, so what is unpacked is bounded: 64 MiB, as what is
+read."""
 from __future__ import annotations
 
 import os

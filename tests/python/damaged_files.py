@@ -1,10 +1,11 @@
 #!/usr/bin/env python3
-"""Damaged WOFF, WOFF2 and BDF files through the package: an answer, or an error of a documented type that has a reason, in little memory.
+"""Damaged WOFF, WOFF2 and BDF files through the package: an answer, or an error of a documented type that has a reason, in little
+memory.
 
     tests/python/damaged_files.py [COUNT]
 
-The files are the same each time. It prints how many were read, the answers, and the most memory of this process and of those that it
-started, in bytes. test_damaged.py runs it in a process of its own for 1,200 files; 16,000 take some minutes."""
+The files are the same each time. It prints how many were read, the answers, and the most memory of this process and of those that
+it started, in bytes. test_damaged.py runs it in a process of its own for 1,200 files; 16,000 take some minutes."""
 import collections
 import os
 import random
@@ -22,13 +23,16 @@ import mkstrike
 from damage import Damaged
 from mkstrike import bdf
 
-KOI8 = OTHER.replace(b"FONT -misc-fixed", b"FONT -a-b-medium-r-normal--12-120-72-72-c-60-koi8-r").replace(b"ENCODING 65", b"ENCODING 193")
-PUT_IN = (b"9", b"-", b"\n", b"99999 ", b"BBX 65535 65535 0 0\n", b"ENDCHAR\n", b"\x1b", b"\xd9\x91")  # put into files, as are pieces of the whole ones
+KOI8 = OTHER.replace(b"FONT -misc-fixed", b"FONT -a-b-medium-r-normal--12-120-72-72-c-60-koi8-r").replace(b"ENCODING 65",
+                                                                                                          b"ENCODING 193")
+# Put into files, as are pieces of the whole ones.
+PUT_IN = (b"9", b"-", b"\n", b"99999 ", b"BBX 65535 65535 0 0\n", b"ENDCHAR\n", b"\x1b", b"\xd9\x91")
 
 
 def originals():
     """From each kind to whole files of it."""
-    parts = [*(fonts.part_of(font_bytes(it), range(0x20, 0x60)) for it in (SANS, LIBERATION)), built(MASTERS[0], 400, with_axis=True)]
+    parts = [*(fonts.part_of(font_bytes(it), range(0x20, 0x60)) for it in (SANS, LIBERATION)),
+             built(MASTERS[0], 400, with_axis=True)]
     return {**{flavor: [packed(it, flavor) for it in parts] for flavor in ("woff", "woff2")},
             "bdf": [OTHER, KOI8, mkstrike.Font(SANS).strike(12, "20-40", x11=True).text]}
 
@@ -69,7 +73,8 @@ def answer(kind, data, choose, folder):
         return "%s refused" % kind
     except ValueError as why:
         said = str(why)
-        assert type(why) in (ValueError, bdf.NotBdf) and len(said) > 15 and not said.rstrip().endswith(":") and said.isprintable(), repr(why)
+        assert type(why) in (ValueError,
+                             bdf.NotBdf) and len(said) > 15 and not said.rstrip().endswith(":") and said.isprintable(), repr(why)
         return "%s: %s" % (kind, type(why).__name__)
 
 

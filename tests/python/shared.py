@@ -50,7 +50,8 @@ def program(words, font):
 
 def flags(hinted=True, dropout="font"):
     """The flags of the program for a mode; the defaults are those of the package."""
-    kinds = {None: [], False: [], "off": [], True: ["--dropout"], "left": ["--dropout"], "near": ["--dropout=near"], "font": ["--dropout=font"]}
+    kinds = {None: [], False: [], "off": [], True: ["--dropout"], "left": ["--dropout"], "near": ["--dropout=near"],
+             "font": ["--dropout=font"]}
     return ([] if hinted else ["--unhinted"]) + kinds[dropout]
 
 
@@ -72,7 +73,8 @@ def words_of(run):
     words = run.words.split() if isinstance(run.words, str) else list(run.words)
     found = re.fullmatch(r"make --ppem (\d+) --chars ([0-9a-f,-]+)((?: --unhinted| --dropout(?:=near|=font)?)*)", " ".join(words))
     named = [name for name in ("near", "font") if "--dropout=" + name in words]
-    return found and (int(found.group(1)), found.group(2), "--unhinted" not in words, named[0] if named else "left" if "--dropout" in words else None)
+    return found and (int(found.group(1)), found.group(2), "--unhinted" not in words, named[0] if named else "left"
+                      if "--dropout" in words else None)
 
 
 class Counted:

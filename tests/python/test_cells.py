@@ -50,7 +50,8 @@ ENDFONT\r
 @needs_font(SANS)
 def test_texts_are_written_as_read():
     """What is read of the program's text is written as the same bytes."""
-    for strike in (mkstrike.Font(SANS).strike(16, "20-2ff", x11=True, properties={"A": '"'}), mkstrike.Font(SANS).strike(9, "4e00")):
+    for strike in (mkstrike.Font(SANS).strike(16, "20-2ff", x11=True, properties={"A": '"'}),
+                   mkstrike.Font(SANS).strike(9, "4e00")):
         assert strike.parsed().encoded() == strike.text
 
 
@@ -60,7 +61,8 @@ def test_other_texts():
     assert (strike.size, strike.ascent, strike.descent, strike.name, strike.missing) == (13, 10, 2, "-misc-fixed", ())
     assert strike.properties == {"WEIGHT_NAME": 'a "b" c', "PIXEL_SIZE": 13}
     assert list(strike) == [" ", "A"] and str(strike["A"]) == "#.#.#\n.#.#." and (strike["A"].left, strike["A"].bottom) == (1, -1)
-    for wrong in (b"", b"x", OTHER[:60], OTHER.replace(b"BBX 5 2", b"BBX 5 x"), OTHER.replace(b"a8", b"zz"), OTHER.replace(b"BITMAP", b"BIT")):
+    for wrong in (b"", b"x", OTHER[:60], OTHER.replace(b"BBX 5 2", b"BBX 5 x"), OTHER.replace(b"a8", b"zz"),
+                  OTHER.replace(b"BITMAP", b"BIT")):
         with pytest.raises(bdf.NotBdf):
             mkstrike.Strike(wrong).parsed()
 
@@ -109,7 +111,8 @@ def test_merging():
     assert merged.missing == ("一",) and "☃" in merged
     assert set(strikes[1].refused) == {"Ɯ", "ɐ"} and not merged.refused
     assert (merged.ascent, merged.descent) == (max(it.ascent for it in strikes), max(it.descent for it in strikes))
-    assert merged.properties["SPACING"] == "P" and merged.name == strikes[0].name and mkstrike.merge(strikes, name="all").name == "all"
+    assert merged.properties["SPACING"] == "P" and merged.name == strikes[0].name and mkstrike.merge(strikes,
+                                                                                                     name="all").name == "all"
     left, bottom = min(it.left for it in merged.values() if it.width), min(it.bottom for it in merged.values() if it.width)
     assert merged.box[2:] == (left, bottom)
     assert mkstrike.merge(strikes[:1]).text == strikes[0].text

@@ -14,19 +14,25 @@ from mkstrike.sets import OTHERS, SETS
 
 def test_sets():
     """The sets that have names."""
-    assert mkstrike.character_sets() == {"ascii": 95, "latin-1": 191, "latin-9": 191, "wgl4": 652, "greek": 188, "cyrillic": 191, "box": 128,
-                                         "blocks": 32, "braille": 256, "cp437": 255, "koi8-r": 223, "latin-extended-a": 128, "greek-block": 144,
-                                         "cyrillic-block": 256, "hebrew": 112, "arabic": 256, "thai": 128, "punctuation": 112, "currency": 48, "arrows": 112, "math": 256,
+    assert mkstrike.character_sets() == {"ascii": 95, "latin-1": 191, "latin-9": 191, "wgl4": 652, "greek": 188, "cyrillic": 191,
+                                         "box": 128,
+                                         "blocks": 32, "braille": 256, "cp437": 255, "koi8-r": 223, "latin-extended-a": 128,
+                                         "greek-block": 144,
+                                         "cyrillic-block": 256, "hebrew": 112, "arabic": 256, "thai": 128, "punctuation": 112,
+                                         "currency": 48, "arrows": 112, "math": 256,
                                          "shapes": 96, "kana": 192, "han": 20992, "hangul": 11172, "powerline": 7}
     for name, count in mkstrike.character_sets().items():
         assert len(characters(name)) == count
     assert characters("ascii") == list(range(0x20, 0x7F))
     assert characters("latin-1") == [it for it in range(256) if not (it < 32 or 127 <= it < 160)]
     cp437 = characters("cp437")
-    assert {ord(it) for it in "☺☻♥♦♣♠•◘○◙♂♀♪♫☼►◄↕‼¶§▬↨↑↓→←∟↔▲▼ ~⌂ÇüéâÿÜ¢£¥₧ƒáÑªº¿⌐¬½¼¡«»░▒▓│┤╡╬═█▄▌▐▀αßΓπΣσµτΦΘΩδ∞φε∩≡±≥≤⌠⌡÷≈°∙·√ⁿ²■\xa0"} <= set(cp437)
+    assert {ord(it)
+            for it in "☺☻♥♦♣♠•◘○◙♂♀♪♫☼►◄↕‼¶§▬↨↑↓→←∟↔▲▼ ~⌂ÇüéâÿÜ¢£¥₧ƒáÑªº¿⌐¬½¼¡«»░▒▓│┤╡╬═█▄▌▐▀αßΓπΣσµτΦΘΩδ∞φε∩≡±≥≤⌠⌡÷≈°∙·√ⁿ²■\xa0"} <= set(cp437)
 
 
-@pytest.mark.parametrize("name, codec", [("latin-1", "iso8859-1"), ("latin-9", "iso8859-15"), ("greek", "iso8859-7"), ("cyrillic", "iso8859-5"), ("koi8-r", "koi8-r")])
+@pytest.mark.parametrize("name, codec",
+                         [("latin-1", "iso8859-1"), ("latin-9", "iso8859-15"), ("greek", "iso8859-7"), ("cyrillic", "iso8859-5"),
+                          ("koi8-r", "koi8-r")])
 def test_sets_are_those_of_standards(name, codec):
     """A set that is named after a character set of one byte has its characters, by Python's codec of it."""
     text = bytes(range(256)).decode(codec, "ignore")
@@ -58,7 +64,8 @@ def test_table_of_sets():
 
 
 def test_letters_and_numbers():
-    """A string is a list of numbers and sets, as after --chars: a letter alone is a number there. In a text, and as one of many, it is itself."""
+    """A string is a list of numbers and sets, as after --chars: a letter alone is a number there. In a text, and as one of many, it
+    is itself."""
     assert characters("A") == [0xA] and characters("A,b") == [0xA, 0xB] and characters("8") == [8] and characters(",") == []
     assert characters(text="A") == characters(["A"]) == characters({"A"}) == characters("41") == [0x41]
     assert characters(["8", "20ac", "é", ","]) == [0x2C, 0x38, 0xE9, 0x20AC]
@@ -73,7 +80,9 @@ def test_all():
     font = mkstrike.Font(SANS)
     with pytest.raises(ValueError, match="^'all' are the characters of a font"):
         characters("all")
-    assert len(font.characters()) > 5800 and list(font.glyph_ids("all")) == list(map(chr, font.characters())) == list(font.glyph_ids(range(0x110000)))
+    assert len(font.characters()) > 5800 and list(font.glyph_ids("all")) == list(map(chr,
+                                                                                     font.characters())) == list(
+                                                                                         font.glyph_ids(range(0x110000)))
     strike = font.strike(8, "All,4e00", hinted=False)
     assert list(strike) == list(font.glyph_ids("all")) and strike.missing == ("一",)
 
@@ -92,7 +101,8 @@ def test_ranges_and_numbers():
     """Numbers and ranges, in strings and not."""
     assert characters("20-22,a0") == characters("U+20-U+22, U+00A0") == characters("0x20-0x22,0xa0") == [0x20, 0x21, 0x22, 0xA0]
     assert characters("41") == [0x41] and characters("") == []
-    assert characters(0x41) == [0x41] and characters(range(3)) == [0, 1, 2] and characters([5, "ascii", range(2), "é"])[:3] == [0, 1, 5]
+    assert characters(0x41) == [0x41] and characters(range(3)) == [0, 1, 2] and characters([5, "ascii", range(2), "é"])[:3] == [0,
+                                                                                                                                1, 5]
     assert characters({"b", "a"}) == [0x61, 0x62]
 
     class Number:
@@ -102,7 +112,8 @@ def test_ranges_and_numbers():
             return 7
 
     assert characters(Number()) == characters([Number()]) == [7]
-    for wrong in ("Hello", "22-20", "110000", "20-", "-20", "20--22", "U+", "0x", "2_0", "+20", "caf\u00e9s", "20 21", "١-٢", "U+٤١",
+    for wrong in ("Hello", "22-20", "110000", "20-", "-20", "20--22", "U+", "0x", "2_0", "+20", "caf\u00e9s", "20 21", "١-٢",
+                  "U+٤١",
                   "²²"):
         with pytest.raises(ValueError):
             characters(wrong)
@@ -159,5 +170,6 @@ def test_ranges_for_people():
     """Code points as people read them."""
     assert ranges([0x41, 0x43, 0x42, 0x20AC]) == "U+0041-U+0043, U+20AC" and ranges([]) == ""
     assert ranges(range(0, 200, 2), 3) == "U+0000, U+0002, U+0004 and 97 more"
-    runs = [code for first in range(0, 0x1000, 0x20) for code in range(first, first + 10)]  # what is left out is counted by characters
+# What is left out is counted by characters.
+    runs = [code for first in range(0, 0x1000, 0x20) for code in range(first, first + 10)]
     assert ranges(runs, 2) == "U+0000-U+0009, U+0020-U+0029 and 1260 more"

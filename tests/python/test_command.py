@@ -17,7 +17,8 @@ pytestmark = needs_font(SANS, MONO, LIBERATION)
 @needs_pillow
 def test_sizes_and_formats(tmp_path):
     """Files for each font, size and format."""
-    out, err = run(tmp_path, SANS, MONO, "--size", "12,16", "--chars", "ascii", "--format", "bdf,png,pbm,c,gfx", "--out", "made", "--scale", 2)
+    out, err = run(tmp_path, SANS, MONO, "--size", "12,16", "--chars", "ascii", "--format", "bdf,png,pbm,c,gfx", "--out", "made",
+                   "--scale", 2)
     assert out.splitlines()[0] == "made/DejaVuSans-12.bdf made/DejaVuSans-12.png made/DejaVuSans-12.pbm made/DejaVuSans-12.h " \
         "made/DejaVuSans-12-gfx.h: 95 glyphs" and err == ""
     assert len(os.listdir(tmp_path / "made")) == 20
@@ -29,14 +30,16 @@ def test_sizes_and_formats(tmp_path):
     header = (tmp_path / "made/DejaVuSans-12.h").read_text()
     assert header == mkstrike.Font(SANS).strike(12, "ascii", name="DejaVuSans").encode("c", name="DejaVuSans_12").decode()
     assert run(tmp_path, SANS, "--quiet") == ("", "")
-    assert (tmp_path / "DejaVuSans-16.bdf").read_bytes() == text_of(["--ppem", "16", "--chars", "20-7e,a0-ff", "--name", "DejaVuSans"],
+    assert (tmp_path / "DejaVuSans-16.bdf").read_bytes() == text_of(["--ppem", "16", "--chars", "20-7e,a0-ff", "--name",
+                                                                     "DejaVuSans"],
                                                                     font_bytes(SANS))
 
 
 def test_options(tmp_path):
     """Modes, names, properties, texts."""
     name = "-misc-dejavu-medium-r-normal--16-160-72-72-m-100-ISO10646-1"
-    run(tmp_path, MONO, "--chars", "41", "--text", "-", "--unhinted", "--dropout", "--x11", "--name=" + name, "--property", "CAP_HEIGHT=12",
+    run(tmp_path, MONO, "--chars", "41", "--text", "-", "--unhinted", "--dropout", "--x11", "--name=" + name, "--property",
+        "CAP_HEIGHT=12",
         "--property", "FOUNDRY=misc", data="é\n€".encode())
     assert (tmp_path / "DejaVuSansMono-unhinted-left-16.bdf").read_bytes() == text_of(
         ["--ppem", "16", "--chars", "41,e9,20ac", "--unhinted", "--x11", "--name=" + name, "--property=CAP_HEIGHT=12",
@@ -70,7 +73,8 @@ def test_what_is_left_out(tmp_path):
 def test_many_refused(tmp_path):
     """Twelve refused characters have a line each, and the others one line with their number."""
     import test_refusals as made
-    damaged = next(run.data for case in made.test_refusals.functions for run in case() if run.due.err.startswith(b"mkstrike: 18 GlyphShort"))
+    damaged = next(run.data for case in made.test_refusals.functions for run in case()
+                   if run.due.err.startswith(b"mkstrike: 18 GlyphShort"))
     (tmp_path / "a.ttf").write_bytes(damaged)
     with pytest.raises(mkstrike.Refused, match="^18 ") as found:
         mkstrike.Font(damaged).glyph(16, "A")
@@ -78,7 +82,8 @@ def test_many_refused(tmp_path):
     refused = {chr(code): glyph for code in range(0x41, 0x55)}
     strike = mkstrike.Strike(mkstrike.Font(SANS).strike(16, "20").text, refused=refused, is_own=True)
     lines = report.of_strike(strike, False)
-    assert [it for it in lines if it.startswith("refused")] == ["refused: U+%04X: %s" % (0x41 + k, glyph.line) for k in range(12)] + [
+    assert [it for it in lines if it.startswith("refused")] == ["refused: U+%04X: %s" % (0x41 + k, glyph.line)
+                                                                for k in range(12)] + [
         "refused: 8 more: U+004D-U+0054"]
 
 
@@ -119,7 +124,8 @@ def test_mistakes(tmp_path):
     lines = [it.split(": ", 1)[1] for it in err.splitlines()]
     assert lines.pop(1) == "the file looks like an OpenType font with CFF outlines, which is not read: give a TrueType font"
     assert lines == ["bad.ttf at 16 pixels: 10 NotTrueType", "bad.ttf at 2000 pixels: 60 BadSize", "give a size from 1 to 1024",
-                     "none.ttf: there is no such file, and no installed font of this name (fc-list shows them)", "%s at 2000 pixels: 60 BadSize" % SANS,
+                     "none.ttf: there is no such file, and no installed font of this name (fc-list shows them)",
+                     "%s at 2000 pixels: 60 BadSize" % SANS,
                      "give a size from 1 to 1024"]
     out, err = run(tmp_path, SANS, "--format", "bdf,psf", status=1)
     assert "one advance" in err or "not installed" in err
@@ -154,7 +160,8 @@ def test_page():
     """The man page has the options of the command."""
     with open(os.path.join(TOP, "docs/strike.1"), encoding="utf-8") as file:
         page = file.read().replace("\\-", "-").partition(".SH CHARACTERS")[2]
-    shown = [name for head in re.findall(r"^\.TP\n(.*)$", page, re.M) for name in re.findall(r"(?<![\w-])--?[a-z]+[\w-]*", re.sub(r"\\f[BIR]", "", head))]
+    shown = [name for head in re.findall(r"^\.TP\n(.*)$", page, re.M)
+             for name in re.findall(r"(?<![\w-])--?[a-z]+[\w-]*", re.sub(r"\\f[BIR]", "", head))]
     due = [name for action in options.parser()._actions if action.help != argparse.SUPPRESS for name in action.option_strings]
     assert sorted(shown) == sorted(due)
     assert all(name in page for name in mkstrike.character_sets())

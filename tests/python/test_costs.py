@@ -18,7 +18,8 @@ def test_threads():
 
     def made(k):
         font = fonts[k % 2]
-        return font.strike(10 + k % 7, "latin-1", dropout=k % 3 == 0).text, font.glyph(10 + k % 7, "g"), font.strike(16, "180-250").refused.keys()
+        return font.strike(10 + k % 7, "latin-1", dropout=k % 3 == 0).text, font.glyph(10 + k % 7, "g"), font.strike(16,
+                                                                                                                     "180-250").refused.keys()
 
     alone = [made(k) for k in range(42)]
     with concurrent.futures.ThreadPoolExecutor(8) as pool:
@@ -54,8 +55,8 @@ def test_no_leak():
 
 @needs_font(SANS)
 def test_calls(monkeypatch):
-    """A strike is one call of the C library, beside two for the font's names, once, and its text is read once; with refused characters it is
-    made again, and each of these has a call that tells why."""
+    """A strike is one call of the C library, beside two for the font's names, once, and its text is read once; with refused
+    characters it is made again, and each of these has a call that tells why."""
     calls, read, parse = Counted(monkeypatch).calls, [], bdf.parse
     monkeypatch.setattr(bdf, "parse", lambda *words: read.append(1) or parse(*words))
     font = mkstrike.Font(SANS)
@@ -68,7 +69,8 @@ def test_calls(monkeypatch):
     assert calls == ["make"] and len(read) == 1
     del calls[:]
     strike = font.strike(16, "180-250")
-    assert len(strike.refused) == 2 and calls == ["make", "reason", "prepare", "glyphs_prepared", *["glyph_prepared", "reason"] * 2, "make"]
+    assert len(strike.refused) == 2 and calls == ["make", "reason", "prepare", "glyphs_prepared",
+                                                  *["glyph_prepared", "reason"] * 2, "make"]
     del calls[:]
     font.glyph(16, "g")
     font.glyph_ids(range(0x20000))

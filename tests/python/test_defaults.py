@@ -45,12 +45,15 @@ def test_letters_stay_whole(tmp_path, path):
 
 
 @needs_font(LIBERATION)
-@pytest.mark.parametrize("words, dropout", [(["--dropout=off"], None), (["--dropout", "off"], "off"), (["--dropout"], "left"), (["--dropout=near"], "near"), ([], "font")])
+@pytest.mark.parametrize("words, dropout",
+                         [(["--dropout=off"], None), (["--dropout", "off"], "off"), (["--dropout"], "left"),
+                          (["--dropout=near"], "near"), ([], "font")])
 def test_ways_to_draw(tmp_path, words, dropout):
     """Each way is the program's; off is the rule alone, which breaks letters of this font at 16 pixels."""
     strike_by_command(tmp_path, LIBERATION, "--chars", "ascii", "-o", "a.bdf", *words)
     text = (tmp_path / "a.bdf").read_bytes()
-    assert text == text_of(["--ppem", "16", "--chars", "20-7e", "--name", "LiberationMono-Regular"], font_bytes(LIBERATION), dropout)
+    assert text == text_of(["--ppem", "16", "--chars", "20-7e", "--name", "LiberationMono-Regular"], font_bytes(LIBERATION),
+                           dropout)
     assert bool(broken(mkstrike.Strike(text).subset(LETTERS))) == (dropout in (None, "off"))
 
 

@@ -47,10 +47,12 @@ def test_characters_of_one():
 
 def test_lines():
     """Two strikes of cells: the line's numbers, and the pictures beside each other, on one baseline, from the pen to the advance."""
-    old, new = strike(a=drawn("#.\n##", bottom=-1)).cell(3, 8, ascent=6), strike(a=drawn("#.\n##", left=-1, advance=4)).cell(4, 9, ascent=6)
+    old, new = strike(a=drawn("#.\n##", bottom=-1)).cell(3, 8,
+                      ascent=6), strike(a=drawn("#.\n##", left=-1, advance=4)).cell(4, 9, ascent=6)
     found = old.diff(new)
     assert (found.old, found.new) == ((9, 6, 2), (9, 6, 3))
-    assert found.lines() == ["descent: 2, 3", "1 changed: U+0061", "", "U+0061 a: advance 3, 4", ".....    #....", ".#...    ##...", ".##..    ....."]
+    assert found.lines() == ["descent: 2, 3", "1 changed: U+0061", "", "U+0061 a: advance 3, 4",
+                       ".....    #....", ".#...    ##...", ".##..    ....."]
 
 
 def test_many_changes():
@@ -58,7 +60,8 @@ def test_many_changes():
     old = SMALL.subset("").replace({code: STEP for code in range(0x41, 0x41 + 30)})
     new = SMALL.subset("").replace({code: drawn("#") for code in range(0x41, 0x41 + 30)})
     lines = old.diff(new).lines()
-    assert lines[0] == "30 changed: U+0041-U+005E" and lines[-2:] == ["", "and 6 more"] and sum(it.startswith("U+") for it in lines) == 24
+    assert lines[0] == "30 changed: U+0041-U+005E" and lines[-2:] == ["",
+        "and 6 more"] and sum(it.startswith("U+") for it in lines) == 24
     assert old.subset("41-58").diff(new.subset("41-58")).lines()[-1] == "##.    #.."
 
 
@@ -68,7 +71,8 @@ def test_picture():
     found = strike(a=STEP, b=STEP, c=STEP).diff(strike(a=drawn("#"), b=STEP, c=drawn("#\n#")))
     made = found.image()
     rows = ["".join(".#"[not made.getpixel((x, y))] for x in range(made.width)) for y in range(made.height)]
-    assert [row[4:-4] for row in rows[4:-4]] == ["#.........", "##.....#..", "..........", "..........", "..........", "..........", "#......#..", "##.....#.."]
+    assert [row[4:-4] for row in rows[4:-4]] == ["#.........", "##.....#..", "..........",
+        "..........", "..........", "..........", "#......#..", "##.....#.."]
     assert found.image(3).size == (3 * made.width, 3 * made.height) and strike(a=STEP).diff(strike(a=STEP)).image().size[1] == 9
 
 

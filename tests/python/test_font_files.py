@@ -87,7 +87,8 @@ def test_faces_with_axes(tmp_path):
     collected(tmp_path / "a.ttc", *map(io.BytesIO, (built(MASTERS[1], 500), plain)), share=False)
     font = mkstrike.Font(tmp_path / "a.ttc", face=1, axes={"wght": 900})
     assert font.strike(33, "41").text == mkstrike.Font(plain, axes={"wght": 900}).strike(33, "41").text
-    assert mkstrike.Font(tmp_path / "a.ttc", face=1).axes() == {"wght": (400, 400, 900)} and mkstrike.Font(tmp_path / "a.ttc").axes() == {}
+    assert mkstrike.Font(tmp_path / "a.ttc",
+                         face=1).axes() == {"wght": (400, 400, 900)} and mkstrike.Font(tmp_path / "a.ttc").axes() == {}
     for source, axes in ((plain, {"wght": 900}), (packed(plain, "woff"), None), (packed(plain, "woff"), {"wght": 900})):
         with pytest.raises(mkstrike.Refused, match="^25 NoFace\n"):
             mkstrike.Font(source, face=1, axes=axes).strike(33, "41")
@@ -106,7 +107,9 @@ def test_reasons_of_fonttools():
         assert mkstrike.Font(data).axes() == {}
     with pytest.raises(ValueError, match="^fontTools can't read the font: .*; the file looks like a PDF: give a TrueType font$"):
         mkstrike.Font(b"%PDF-1.4", axes={"wght": 900})
-    assert reason_of(AssertionError()) == "AssertionError" and reason_of(KeyError("glyf")) == "KeyError: 'glyf'" and reason_of(ValueError("a\nb")) == "a b"
+    assert reason_of(
+        AssertionError()) == "AssertionError" and reason_of(
+            KeyError("glyf")) == "KeyError: 'glyf'" and reason_of(ValueError("a\nb")) == "a b"
 
 
 @needs_font(SANS)
@@ -127,7 +130,9 @@ def test_bounds_of_packed_fonts():
     stream = zlib.compressobj(9)
     parts = [stream.compress(bytes(1 << 20)) for _ in range(64)] + [stream.flush()]
     table = b"".join(parts)
-    bomb = struct.pack(">4s4sIHHI24x", b"wOFF", b"\0\1\0\0", 64 + len(table), 1, 0, 228) + struct.pack(">4sIIII", b"glyf", 64, len(table), len(table) + 9, 0) + table
+    bomb = struct.pack(">4s4sIHHI24x", b"wOFF", b"\0\1\0\0", 64 + len(table), 1, 0, 228) + struct.pack(">4sIIII", b"glyf", 64,
+                                                                                                       len(table), len(table) + 9,
+                                                                                                       0) + table
     tracemalloc.start()
     with pytest.raises(ValueError, match="the table 'glyf' does not have the"):
         mkstrike.Font(bomb)
@@ -146,7 +151,8 @@ def test_bounds_of_woff2(monkeypatch):
     data = packed(built(MASTERS[0], 400), "woff2")
     bomb = bytearray(data)
     struct.pack_into(">I", bomb, 16, 1 << 27)
-    with pytest.raises(ValueError, match="^the font can't be unpacked from WOFF2: unpacked it has 134,217,728 bytes, more than 67,108,864$"):
+    with pytest.raises(ValueError,
+                       match="^the font can't be unpacked from WOFF2: unpacked it has 134,217,728 bytes, more than 67,108,864$"):
         mkstrike.Font(bytes(bomb))
     # 2 GB of zeros in less than 2,000 bytes: each 16 MiB of them are the same 14 bytes
     stream = brotli.Compressor(quality=5, lgwin=24)
@@ -236,7 +242,8 @@ def test_variable_fonts():
             made = mkstrike.Font(data, axes={"wght": weight}).strike(size, "41")
             assert made.text == static.strike(size, "41").text, (weight, size)
     assert mkstrike.Font(data).strike(33, "41").text == mkstrike.Font(data, axes={"wght": 400}).strike(33, "41").text
-    for axes, match in (({"wdth": 1}, "no axis 'wdth': it has wght"), ({"wght": 1000}, "from 400 to 900, not to 1000"), ({"wght": 399}, "from 400 to 900, not to 399"),
+    for axes, match in (({"wdth": 1}, "no axis 'wdth': it has wght"), ({"wght": 1000}, "from 400 to 900, not to 1000"),
+                        ({"wght": 399}, "from 400 to 900, not to 399"),
                         ({"wght": float("nan")}, "not to nan")):
         with pytest.raises(ValueError, match=match):
             mkstrike.Font(data, axes=axes)

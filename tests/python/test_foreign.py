@@ -13,17 +13,20 @@ from mkstrike import bdf
 
 def text(glyphs, name="other", box="8 8 0 0", properties=()):
     """A text of another program. A glyph has its number, its box, and its rows in hexadecimal."""
-    lines = ["STARTFONT 2.1", "FONT " + name, "SIZE 8 72 72", "FONTBOUNDINGBOX " + box, "STARTPROPERTIES %d" % (2 + len(properties))]
+    lines = ["STARTFONT 2.1", "FONT " + name, "SIZE 8 72 72", "FONTBOUNDINGBOX " + box, "STARTPROPERTIES %d" %
+             (2 + len(properties))]
     lines += ["FONT_ASCENT 8", "FONT_DESCENT 0", *properties, "ENDPROPERTIES", "CHARS %d" % len(glyphs)]
     for at, (number, bbx, rows) in enumerate(glyphs):
-        lines += ["STARTCHAR glyph%d" % at, "ENCODING %s" % number, "SWIDTH 500 0", "DWIDTH 8 0", "BBX " + bbx, "BITMAP", *rows, "ENDCHAR"]
+        lines += ["STARTCHAR glyph%d" % at, "ENCODING %s" % number, "SWIDTH 500 0", "DWIDTH 8 0", "BBX " + bbx, "BITMAP", *rows,
+                  "ENDCHAR"]
     return "\n".join(lines + ["ENDFONT", ""]).encode("utf-8", "surrogateescape")
 
 
 def filled(width, height, left=0, bottom=0):
     """A box whose pixels are all set, with its rows."""
     size = (width + 7) // 8
-    return "%d %d %d %d" % (width, height, left, bottom), [("%x" % ((1 << width) - 1 << 8 * size - width)).rjust(2 * size, "0")] * height
+    return "%d %d %d %d" % (width, height, left,
+                            bottom), [("%x" % ((1 << width) - 1 << 8 * size - width)).rjust(2 * size, "0")] * height
 
 
 def opened(folder, data):
@@ -34,7 +37,9 @@ def opened(folder, data):
 
 
 @needs_pillow
-@pytest.mark.parametrize("claim, box", [("8 8 0 0", (8, 12, 0, -4)), ("1 1 0 0", (8, 8, 2, 0)), ("8 8 0 0", (8, 8, -3, 0)), ("99999 99999 0 0", (8, 8, 0, 0))])
+@pytest.mark.parametrize("claim, box",
+                         [("8 8 0 0", (8, 12, 0, -4)), ("1 1 0 0", (8, 8, 2, 0)), ("8 8 0 0", (8, 8, -3, 0)),
+                          ("99999 99999 0 0", (8, 8, 0, 0))])
 def test_box_is_that_of_the_glyphs(tmp_path, claim, box):
     """No pixel is lost, and none is made, if a file claims another box."""
     strike = opened(tmp_path, text([(65, *filled(*box)), (32, "0 0 0 0", [])], box=claim))
@@ -46,13 +51,16 @@ def test_box_is_that_of_the_glyphs(tmp_path, claim, box):
 
 
 @pytest.mark.parametrize("registry, encoding, number, char", [
-    ("KOI8", "R", 193, "а"), ("ISO8859", "5", 0xD0, "а"), ("iso8859", "1", 0xE9, "é"), ("ISO8859", "15", 0xA4, "€"), ("IBM", "CP437", 0x80, "Ç"),
-    ("cp", "437", 1, "☺"), ("ibm", "437", 127, "⌂"), ("MICROSOFT", "CP1252", 0x80, "€"), ("ISO10646", "1", 193, "Á"), ("ISO646.1991", "IRV", 65, "A")])
+    ("KOI8", "R", 193, "а"), ("ISO8859", "5", 0xD0, "а"), ("iso8859", "1", 0xE9, "é"), ("ISO8859", "15", 0xA4, "€"),
+    ("IBM", "CP437", 0x80, "Ç"),
+    ("cp", "437", 1, "☺"), ("ibm", "437", 127, "⌂"), ("MICROSOFT", "CP1252", 0x80, "€"), ("ISO10646", "1", 193, "Á"),
+    ("ISO646.1991", "IRV", 65, "A")])
 def test_character_sets(tmp_path, registry, encoding, number, char):
     """ENCODING is a place in the set that the properties name, or the last two fields of the name; a step's text has Unicode."""
     properties = ['CHARSET_REGISTRY "%s"' % registry, 'CHARSET_ENCODING "%s"' % encoding]
     name = "-a-b-medium-r-normal--8-80-72-72-c-80-"
-    for data in (text([(number, *filled(8, 8))], properties=properties), text([(number, *filled(8, 8))], name + registry + "-" + encoding),
+    for data in (text([(number, *filled(8, 8))], properties=properties),
+                 text([(number, *filled(8, 8))], name + registry + "-" + encoding),
                  text([(number, *filled(8, 8))], name + "fontspecific-0", properties=properties)):
         strike = opened(tmp_path, data)
         assert list(strike) == [char] and strike.text == data and mkstrike.characters(str(tmp_path / "other.bdf")) == [ord(char)]
@@ -64,7 +72,8 @@ def test_character_sets(tmp_path, registry, encoding, number, char):
 
 def test_unknown_character_sets(tmp_path):
     """A set that Python does not know, or of more than one byte, is refused by both its names."""
-    for registry, encoding in (("ADOBE", "FontSpecific"), ("JISX0208.1983", "0"), ("BIG5", "ETEN-0"), ("x", "utf-8"), ("../x", "\udc80")):
+    for registry, encoding in (("ADOBE", "FontSpecific"), ("JISX0208.1983", "0"), ("BIG5", "ETEN-0"), ("x", "utf-8"),
+                               ("../x", "\udc80")):
         properties = ['CHARSET_REGISTRY "%s"' % registry, 'CHARSET_ENCODING "%s"' % encoding]
         with pytest.raises(bdf.NotBdf, match="the character set '%s', '" % registry) as found:
             opened(tmp_path, text([(65, *filled(8, 8))], properties=properties))
@@ -76,7 +85,9 @@ def test_own_names():
     """A strike that is made here has code points, whatever set its name has."""
     name = "-misc-dejavu-medium-r-normal--16-160-72-72-p-100-koi8-r"
     strike = mkstrike.Font(SANS).strike(16, "430-44f", name=name)
-    assert list(strike) == list(map(chr, range(0x430, 0x450))) and list(strike.cell(16, 16)) == list(strike) == list(mkstrike.merge([strike]))
+    assert list(strike) == list(map(chr, range(0x430, 0x450))) and list(strike.cell(16,
+                                                                                    16)) == list(
+                                                                                        strike) == list(mkstrike.merge([strike]))
 
 
 @needs_pillow
@@ -85,7 +96,8 @@ def test_glyphs_without_a_character(tmp_path):
     strike = opened(tmp_path, text([(-1, *filled(8, 8)), ("-1 7", *filled(8, 8)), (65, *filled(8, 8)), (300, *filled(8, 8))],
                                    properties=['CHARSET_REGISTRY "ISO8859"', 'CHARSET_ENCODING "1"']))
     assert list(strike) == ["A"]
-    for step in (lambda: strike.cell(8, 8), lambda: mkstrike.merge([strike]), lambda: strike.with_properties({"A": 1}), lambda: strike.encode("c"),
+    for step in (lambda: strike.cell(8, 8), lambda: mkstrike.merge([strike]), lambda: strike.with_properties({"A": 1}),
+                 lambda: strike.encode("c"),
                  lambda: strike.encode("gfx"), lambda: strike.encode("png")):
         with pytest.warns(UserWarning, match="^left out, since ENCODING gives no character: glyph0, glyph1, glyph3$"):
             step()
@@ -94,8 +106,11 @@ def test_glyphs_without_a_character(tmp_path):
         assert strike.encode("bdf") == strike.text
 
 
-@pytest.mark.parametrize("bbx, rows", [("16 2 0 0", ["F", "FFFF"]), ("16 2 0 0", ["FFFF", "FF F"]), ("16 2 0 0", ["FF F", "F FF"]), ("8 2 0 0", ["FF"]), ("65535 65535 0 0", [""] * 9),
-                                       ("8 1 99999 0", ["FF"]), ("8 1 0 -99999", ["FF"]), ("1_0 1 0 0", ["FF", "FF"]), ("١ 1 0 0", ["80"]), ("8 1 0", ["FF"])])
+@pytest.mark.parametrize("bbx, rows",
+                         [("16 2 0 0", ["F", "FFFF"]), ("16 2 0 0", ["FFFF", "FF F"]), ("16 2 0 0", ["FF F", "F FF"]),
+                          ("8 2 0 0", ["FF"]), ("65535 65535 0 0", [""] * 9),
+                                       ("8 1 99999 0", ["FF"]), ("8 1 0 -99999", ["FF"]), ("1_0 1 0 0", ["FF", "FF"]),
+                                       ("١ 1 0 0", ["80"]), ("8 1 0", ["FF"])])
 def test_rows_and_boxes(tmp_path, bbx, rows):
     """A row that is shorter than its glyph, or a box that can't be, is no BDF."""
     with pytest.raises(bdf.NotBdf, match="^no BDF file, or a damaged one: line [0-9]+: "):
@@ -105,7 +120,8 @@ def test_rows_and_boxes(tmp_path, bbx, rows):
 def test_cut_rows(tmp_path):
     """A file that ends within a glyph is no BDF."""
     data = text([(65, *filled(8, 8))])
-    for cut in (data[:data.index(b"BITMAP") + 7 + 3 * 4], data[:data.index(b"BITMAP") + 7], data[:data.index(b"BBX")], data[:data.index(b"CHARS")]):
+    for cut in (data[:data.index(b"BITMAP") + 7 + 3 * 4], data[:data.index(b"BITMAP") + 7], data[:data.index(b"BBX")],
+                data[:data.index(b"CHARS")]):
         with pytest.raises(bdf.NotBdf, match="the file ends within a glyph|has no BITMAP|no CHARS"):
             opened(tmp_path, cut)
 
@@ -113,7 +129,8 @@ def test_cut_rows(tmp_path):
 def test_bits_beside_a_box(tmp_path):
     """Bits right of a box, and digits after them, don't count."""
     strike = opened(tmp_path, text([(65, "3 2 0 0", ["ff", "5fff"])]))
-    assert str(strike["A"]) == "###\n.#." and strike["A"].rows == (b"\xe0", b"\x40") and b"\nE0\n40\n" in strike.with_properties({}).text
+    assert str(strike["A"]) == "###\n.#." and strike["A"].rows == (b"\xe0",
+                                                                   b"\x40") and b"\nE0\n40\n" in strike.with_properties({}).text
 
 
 @pytest.mark.parametrize("what", ["\r", "\x1b]0;title\x07", "\x7f", "\x9b", "\x0c", "\0"])
@@ -151,7 +168,8 @@ def test_names_on_terminals(tmp_path):
     """Names of files and glyphs reach a terminal with their control characters escaped: of `strike`, and of bin/show-bdf."""
     name = "a\x1b]0;title\x07.bdf"
     (tmp_path / name).write_bytes(text([(-1, *filled(8, 8)), (65, *filled(8, 8))]))
-    ran = subprocess.run([sys.executable, "-m", "mkstrike", name, "none\x1b.ttf", "--format", "c"], cwd=tmp_path, capture_output=True)
+    ran = subprocess.run([sys.executable, "-m", "mkstrike", name, "none\x1b.ttf", "--format", "c"], cwd=tmp_path,
+                         capture_output=True)
     assert b"\x1b" not in ran.stdout + ran.stderr and b"\x07" not in ran.stdout + ran.stderr
     assert rb"a\x1b]0;title\x07.h: 1 glyphs" in ran.stdout and rb"none\x1b.ttf: " in ran.stderr
     ran = subprocess.run([sys.executable, "-m", "mkstrike", SANS, "--x\x1b"], cwd=tmp_path, capture_output=True)
@@ -159,7 +177,8 @@ def test_names_on_terminals(tmp_path):
     shown = text([(65, *filled(8, 8))]).replace(b"glyph0", b"a\x1b]0;x\x07\x9b\xc2\x9bz")
     ran = subprocess.run([os.path.join(TOP, "bin/show-bdf")], input=shown, capture_output=True)
     first = ran.stdout.split(b"\n")[0]
-    assert ran.returncode == 0 and first.startswith(rb"a\x1b]0;x\x07") and first.endswith(b"z") and first.isascii() and first.decode().isprintable()
+    assert ran.returncode == 0 and first.startswith(
+        rb"a\x1b]0;x\x07") and first.endswith(b"z") and first.isascii() and first.decode().isprintable()
     assert ran.stdout.split(b"\n")[1:9] == [b"########"] * 8
 
 
@@ -173,12 +192,14 @@ def test_show_bdf(tmp_path):
         ran = subprocess.run([os.path.join(TOP, "bin/show-bdf"), *words], cwd=tmp_path, input=strike.text, capture_output=True)
         return ran.returncode, ran.stdout.decode(), ran.stderr.decode()
 
-    due = "".join("uni%04X\n%s\n" % (ord(char), "".join(line + "\n" for line in str(it).split("\n") if line)) for char, it in strike.items())
+    due = "".join("uni%04X\n%s\n" % (ord(char), "".join(line + "\n" for line in str(it).split("\n") if line)) for char,
+                  it in strike.items())
     assert run() == run("a=b.bdf") == (0, due, "") and run("a=b.bdf", "a=b.bdf") == (0, 2 * due, "")
     status, out, said = run(SANS)
     assert (status, out) == (1, "") and "no bitmap font in BDF; mkstrike show prints a glyph of a TrueType font" in said
     assert run("nosuch.bdf")[0] == 1 and "nosuch.bdf" in run("nosuch.bdf")[2]
-    assert run("--help")[:2] == (0, "show-bdf [FILE].. prints the glyphs of bitmap fonts (BDF) as pictures; without FILE those of standard input\n")
+    assert run("--help")[:2] == (0,
+                                 "show-bdf [FILE].. prints the glyphs of bitmap fonts (BDF) as pictures; without FILE those of standard input\n")
 
 
 @needs_font(SANS)

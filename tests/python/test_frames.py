@@ -7,16 +7,19 @@ from shared import FOLDER, LIBERATION, MONO, needs_font, strike_by_command
 
 import mkstrike
 
-FONTS = [MONO, LIBERATION, FOLDER + "hack/Hack-Regular.ttf", FOLDER + "jetbrains-mono/JetBrainsMono-Regular.ttf", FOLDER + "dejavu/DejaVuSansMono-Bold.ttf"]
+FONTS = [MONO, LIBERATION, FOLDER + "hack/Hack-Regular.ttf", FOLDER + "jetbrains-mono/JetBrainsMono-Regular.ttf",
+         FOLDER + "dejavu/DejaVuSansMono-Bold.ttf"]
 CELLS = [(6, 12), (8, 14), (8, 16), (10, 20), (16, 32)]
-EDGES = {"LEFT": ("left",), "RIGHT": ("right",), "UP": ("up",), "DOWN": ("down",), "HORIZONTAL": ("left", "right"), "VERTICAL": ("up", "down")}
+EDGES = {"LEFT": ("left",), "RIGHT": ("right",), "UP": ("up",), "DOWN": ("down",), "HORIZONTAL": ("left", "right"),
+         "VERTICAL": ("up", "down")}
 KINDS = {"LIGHT": "light", "SINGLE": "light", "HEAVY": "heavy", "DOUBLE": "double"}
 OPPOSITE = {"left": "right", "right": "left", "up": "down", "down": "up"}
 BOX = [chr(code) for code in range(0x2500, 0x2580) if not {"DASH", "DIAGONAL"} & set(unicodedata.name(chr(code)).split())]
 
 
 def arms(char):
-    """From each edge that a character's lines reach to their kind, by its name: DOWN LIGHT AND RIGHT HEAVY, or DOUBLE UP AND LEFT."""
+    """From each edge that a character's lines reach to their kind, by its name: DOWN LIGHT AND RIGHT HEAVY, or DOUBLE UP AND
+    LEFT."""
     phrases = [it.split() for it in unicodedata.name(char)[len("BOX DRAWINGS "):].split(" AND ")]
     kinds = [next((KINDS[it] for it in phrase if it in KINDS), None) for phrase in phrases]
     kind = next(it for it in kinds if it)
@@ -36,14 +39,16 @@ def edge_of(strike, char, side, width):
 def test_names():
     """The names are read as they mean."""
     assert arms("┍") == {"down": "light", "right": "heavy"} and arms("╔") == {"down": "double", "right": "double"}
-    assert arms("╼") == {"left": "light", "right": "heavy"} and arms("┽") == {"left": "heavy", "right": "light", "up": "light", "down": "light"}
+    assert arms("╼") == {"left": "light", "right": "heavy"} and arms("┽") == {"left": "heavy", "right": "light", "up": "light",
+                                                                              "down": "light"}
     assert arms("╓") == {"down": "double", "right": "light"} and len(BOX) == 128 - 12 - 3
 
 
 @pytest.mark.parametrize("cell", CELLS, ids=str)
 @pytest.mark.parametrize("path", FONTS, ids=os.path.basename)
 def test_frames_join(path, cell):
-    """Each line that reaches an edge meets each line of its kind that comes from the other side; a double one with both of its lines."""
+    """Each line that reaches an edge meets each line of its kind that comes from the other side; a double one with both of its
+    lines."""
     if not os.path.exists(path):
         pytest.skip("%s is not installed" % path)
     font = mkstrike.Font(path)
@@ -64,16 +69,21 @@ def test_blocks():
     """Blocks and shades by what their names say, in cells of even and odd sides: worked out by hand."""
     font = mkstrike.Font(MONO)
     made = font.strike(10, "2580-259f").cell(8, 16, join=True)
-    boxes = {"█": (8, 16, 0, 0), "▀": (8, 8, 0, 8), "▄": (8, 8, 0, 0), "▌": (4, 16, 0, 0), "▐": (4, 16, 4, 0), "▂": (8, 4, 0, 0), "▊": (6, 16, 0, 0), "▔": (8, 2, 0, 14),
+    boxes = {"█": (8, 16, 0, 0), "▀": (8, 8, 0, 8), "▄": (8, 8, 0, 0), "▌": (4, 16, 0, 0), "▐": (4, 16, 4, 0), "▂": (8, 4, 0, 0),
+             "▊": (6, 16, 0, 0), "▔": (8, 2, 0, 14),
              "▕": (1, 16, 7, 0), "▗": (4, 8, 4, 0), "▘": (4, 8, 0, 8)}
     for char, (width, height, left, bottom) in boxes.items():
         it = made[char]
-        assert (it.width, it.height, it.left, it.bottom + made.descent) == (width, height, left, bottom) and set(it.tobytes()) == {255}, char
-    assert str(made["▚"]) == "\n".join(["####...."] * 8 + ["....####"] * 8) and str(made["▟"]) == "\n".join(["....####"] * 8 + ["########"] * 8)
+        assert (it.width, it.height, it.left, it.bottom + made.descent) == (width, height, left,
+                                                                            bottom) and set(it.tobytes()) == {255}, char
+    assert str(
+        made["▚"]) == "\n".join(
+            ["####...."] * 8 + ["....####"] * 8) and str(made["▟"]) == "\n".join(["....####"] * 8 + ["########"] * 8)
     counts = {char: str(made[char]).count("#") for char in "░▒▓"}
     assert counts == {"░": 32, "▒": 64, "▓": 96} and str(made["▒"]).split("\n")[:2] == ["#.#.#.#.", ".#.#.#.#"]
     odd = font.strike(10, "2580-259f").cell(7, 13, join=True)
-    assert odd["▀"].height + odd["▄"].height == 13 and odd["▌"].width + odd["▐"].width == 7 and odd["▔"].height + odd["▇"].height == 13
+    assert odd[
+        "▀"].height + odd["▄"].height == 13 and odd["▌"].width + odd["▐"].width == 7 and odd["▔"].height + odd["▇"].height == 13
 
 
 @needs_font(MONO)
@@ -81,7 +91,8 @@ def test_lines_by_hand():
     """An arm goes on as it ends; without an arm nothing is drawn; what leaves the cell is cut."""
     font = mkstrike.Font(MONO).strike(16, "20").subset("20")
     drawn = {"─": mkstrike.Glyph.drawn("###", left=2, bottom=3), "┐": mkstrike.Glyph.drawn("##.\n..#\n..#", left=1, bottom=1),
-             "│": mkstrike.Glyph.drawn("#\n#", left=3, bottom=4), "╱": mkstrike.Glyph.drawn(".#\n#.", left=2, bottom=2), "┃": mkstrike.Glyph.drawn("##\n" * 19 + "##", left=3, bottom=-6)}
+             "│": mkstrike.Glyph.drawn("#\n#", left=3, bottom=4), "╱": mkstrike.Glyph.drawn(".#\n#.", left=2, bottom=2),
+             "┃": mkstrike.Glyph.drawn("##\n" * 19 + "##", left=3, bottom=-6)}
     made = font.replace(drawn).cell(7, 8, ascent=6, join=True)
     assert (str(made["─"]), made["─"].left, made["─"].bottom) == ("#######", 0, 3)
     assert (str(made["┐"]), made["┐"].left, made["┐"].bottom) == ("###.\n...#\n...#\n...#\n...#\n...#", 0, -2)
@@ -104,9 +115,11 @@ def test_fitting(tmp_path):
     """With --clip a line fits and glyphs lose pixels; a size that no cell has is told with the nearest."""
     font = mkstrike.Font(MONO)
     size = font.fit(8, 16, "latin-1,box", clip=True)
-    fitting = [it for it in range(1, 40) if sum(font.heights(it)[:2]) <= 16 and max(glyph.advance for glyph in font.at(it).glyphs("latin-1,box").values()) <= 8]
+    fitting = [it for it in range(1, 40) if sum(font.heights(it)[:2]) <= 16
+               and max(glyph.advance for glyph in font.at(it).glyphs("latin-1,box").values()) <= 8]
     assert size == max(fitting) > font.fit(8, 16, "latin-1,box")
-    with pytest.raises(ValueError, match=r"^at no size do all characters fit a cell of 5 x 8 pixels; at 7 only U\+0052 leaves it, by 1 right: make that size "
+    with pytest.raises(ValueError,
+                       match=r"^at no size do all characters fit a cell of 5 x 8 pixels; at 7 only U\+0052 leaves it, by 1 right: make that size "
                        r"and clip it \(--size 7 --cell 5x8 --clip\)$"):
         font.fit(5, 8, "ascii")
     assert list(font.strike(7, "ascii").cell(5, 8).outside) == ["R"]

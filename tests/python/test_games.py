@@ -66,7 +66,8 @@ def test_read_by_its_document(tmp_path, path, size, chars, padding):
     (common,), (info,), pictures = said["common"], said["info"], images(tmp_path, said)
     # a picture is full to four fifths and more before the next one begins
     area = sum((it.width + 2 * padding + 1) * (it.height + 2 * padding + 1) for it in strike.values() if it.width)
-    assert len(pictures) == int(common["pages"]) and area <= len(pictures) << 20 and (len(pictures) == 1 or area > (len(pictures) - 1) * 4 / 5 * (1 << 20))
+    assert len(pictures) == int(common["pages"]) and area <= len(pictures) << 20 and (
+        len(pictures) == 1 or area > (len(pictures) - 1) * 4 / 5 * (1 << 20))
     assert sorted(it.name for it in tmp_path.iterdir()) == ["game.fnt"] + ["game_%d.png" % k for k in range(len(pictures))]
     assert (common["lineHeight"], common["base"], info["size"]) == tuple(map(str, (strike.height, strike.ascent, size)))
     assert info["padding"] == ",".join([str(padding)] * 4) and info["face"] == mkstrike.Font(path).names.family
@@ -84,7 +85,8 @@ def test_read_by_its_document(tmp_path, path, size, chars, padding):
         assert (width, height) == (glyph.width + 2 * far, glyph.height + 2 * far)
         if width:
             # a rectangle and the pixels right of it and below meet no other one
-            page, around = seen[int(it["page"])], (x, y, min(x + width + 1, pictures[0].width), min(y + height + 1, pictures[0].height))
+            page, around = seen[int(it["page"])], (x, y, min(x + width + 1, pictures[0].width),
+                                    min(y + height + 1, pictures[0].height))
             assert not page.crop(around).getbbox() and x + width <= page.width and y + height <= page.height
             page.paste(1, around)
 
@@ -115,7 +117,8 @@ def test_read_by_love(tmp_path, padding):
         _, left, top, width, height, advance, bits = line.split()
         rows = [bits[at:at + int(width)] for at in range(0, int(width) * int(height), int(width) or 1)]
         # LÖVE counts rows from the top of the line
-        found = {(int(left) + x, strike.ascent + int(top) - 1 - y) for y, row in enumerate(rows) for x, it in enumerate(row) if it == "#"}
+        found = {(int(left) + x, strike.ascent + int(top) - 1 - y)
+                  for y, row in enumerate(rows) for x, it in enumerate(row) if it == "#"}
         assert found == pixels(glyph) and int(advance) == glyph.advance
 
 

@@ -1,8 +1,8 @@
 """Installs the Python package's wheel into a clean environment, and runs the other tests of this folder there.
 
-The environment is Python's venv with the packages of the system, so that fontTools, Pillow, pytest and numpy are Debian's. The tests compare
-strikes and glyphs with the program's byte for byte, and run what docs/PYTHON.md shows. MKSTRIKE_TESTS has a word of the tests to run.
-"""
+The environment is Python's venv with the packages of the system, so that fontTools, Pillow, pytest and numpy are Debian's. The
+tests compare strikes and glyphs with the program's byte for byte, and run what docs/PYTHON.md shows. MKSTRIKE_TESTS has a word of
+the tests to run. """
 import os
 import re
 import shutil
@@ -19,12 +19,14 @@ NEEDED = {"pip": "python3-pip", "pytest": "python3-pytest", "setuptools": "pytho
 
 def clean():
     """The environment without what would lead Python to other modules."""
-    return {name: it for name, it in os.environ.items() if not name.startswith(("PYTHON", "VIRTUAL_ENV", "MKSTRIKE_LIBRARY", "PYENV"))}
+    return {name: it for name, it in os.environ.items()
+            if not name.startswith(("PYTHON", "VIRTUAL_ENV", "MKSTRIKE_LIBRARY", "PYENV"))}
 
 
 def run(words, folder, **more):
     """Runs a command in a folder, which must end well."""
-    ran = subprocess.run(words, cwd=folder, env={**clean(), **more}, stdin=subprocess.DEVNULL, stdout=subprocess.PIPE, stderr=subprocess.STDOUT,
+    ran = subprocess.run(words, cwd=folder, env={**clean(), **more}, stdin=subprocess.DEVNULL, stdout=subprocess.PIPE,
+                         stderr=subprocess.STDOUT,
                          text=True)
     assert ran.returncode == 0, ran.stdout[-4000:]
 
@@ -40,8 +42,10 @@ def test_in_a_clean_environment(program, tmp_path):
     run([python, "setup.py", "-q", "bdist_wheel", "-d", str(tmp_path)], tmp_path / "python", MKSTRIKE_TOP=TOP)
     run([python, "-m", "venv", "--without-pip", "--system-site-packages", "env"], tmp_path)
     own = str(tmp_path / "env/bin/python")
-    run([python, "-m", "pip", "--python", own, "install", "--no-index", "--disable-pip-version-check", "-q", *map(str, tmp_path.glob("*.whl"))], tmp_path)
-    env = {**clean(), "MKSTRIKE_PROGRAM": program, "MKSTRIKE_TOP": TOP, "PATH": os.path.dirname(own) + os.pathsep + os.environ["PATH"]}
+    run([python, "-m", "pip", "--python", own, "install", "--no-index", "--disable-pip-version-check", "-q",
+         *map(str, tmp_path.glob("*.whl"))], tmp_path)
+    env = {**clean(), "MKSTRIKE_PROGRAM": program, "MKSTRIKE_TOP": TOP,
+           "PATH": os.path.dirname(own) + os.pathsep + os.environ["PATH"]}
     word = os.environ.get("MKSTRIKE_TESTS")
     ran = subprocess.run([own, "-m", "pytest", "-p", "no:cacheprovider", "-q", "-rs", "--tb=short", os.path.dirname(__file__),
                           *(["-k", word] if word else [])], cwd=tmp_path, env=env, stdin=subprocess.DEVNULL, stdout=subprocess.PIPE,

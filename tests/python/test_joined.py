@@ -48,20 +48,26 @@ def test_what_others_lack(tmp_path):
                                [(liberation, 16), (mono, 16), (sans, 16)], chars="ascii,2603,4e00")
     assert strike["A"] == liberation.glyph(16, "A") and strike["☃"] == mono.glyph(16, "☃") and out.split("\n")[1:4] == [
         "  LiberationMono-Regular: 95", "  DejaVuSansMono: 1", "  DejaVuSans: 0"] and err == "strike: all: 1 missing: U+4E00\n"
-    strike, _, _ = by_both(tmp_path, ["--font", LIBERATION, "--chars", "41,2603", "--font", SANS], [(liberation, 16, "41,2603"), (sans, 16)])
+    strike, _, _ = by_both(tmp_path, ["--font", LIBERATION, "--chars", "41,2603", "--font", SANS],
+                           [(liberation, 16, "41,2603"), (sans, 16)])
     assert list(strike) == ["A", "☃"] and strike["☃"] == sans.glyph(16, "☃")
-    strike, _, _ = by_both(tmp_path, ["--font", LIBERATION, "--font", SANS, "--chars", "2603"], [(liberation, 16, "latin-1"), (sans, 16, "2603")])
+    strike, _, _ = by_both(tmp_path, ["--font", LIBERATION, "--font", SANS, "--chars", "2603"],
+                           [(liberation, 16, "latin-1"), (sans, 16, "2603")])
     assert len(strike) == 192
     # a character that is moved is not asked of a font after it under its new number
-    strike, _, err = by_both(tmp_path, ["--font", LIBERATION, "--chars", "41,4e00=2603", "--font", SANS], [(liberation, 16, "41,4e00=2603"), (sans, 16)])
+    strike, _, err = by_both(tmp_path, ["--font", LIBERATION, "--chars", "41,4e00=2603", "--font", SANS],
+                             [(liberation, 16, "41,4e00=2603"), (sans, 16)])
     assert list(strike) == ["A"] and "1 missing of LiberationMono-Regular: U+2603" in err
 
 
 def test_options_of_each_font(tmp_path):
     """Options after a font are that font's, and those before the first are for all."""
     mono, sans = mkstrike.Font(MONO), mkstrike.Font(SANS)
-    strike, _, _ = by_both(tmp_path, ["--size", "18", "--unhinted", "--font", MONO, "--chars", "41", "--dropout", "off", "--font", SANS, "--chars", "42", "--shift-y", "-3"],
-                           [(mono, 18, "41", {"hinted": False, "dropout": None}), (sans, 18, "42", {"hinted": False, "shift_y": -3})])
+    strike, _, _ = by_both(tmp_path,
+                           ["--size", "18", "--unhinted", "--font", MONO, "--chars", "41", "--dropout", "off", "--font", SANS,
+                            "--chars", "42", "--shift-y", "-3"],
+                           [(mono, 18, "41", {"hinted": False, "dropout": None}),
+                            (sans, 18, "42", {"hinted": False, "shift_y": -3})])
     assert strike["A"] == mono.glyph(18, "A", hinted=False, dropout=None)
     assert pixels(strike["B"]) == {(x, y - 3) for x, y in pixels(sans.glyph(18, "B", hinted=False))}
     (tmp_path / "icons.txt").write_text("☃", encoding="utf-8")
@@ -75,7 +81,8 @@ def test_strikes_among_fonts(tmp_path):
     drawn = mkstrike.Font(SANS).strike(20, SYMBOLS).replace({"♥": mkstrike.Glyph.drawn("#.#\n###\n.#.", advance=5)})
     drawn.save(tmp_path / "icons.bdf")
     icons, mono = mkstrike.Strike.open(tmp_path / "icons.bdf"), mkstrike.Font(MONO)
-    strike, out, _ = by_both(tmp_path, ["--font", MONO, "--chars", "ascii", "--font", tmp_path / "icons.bdf"], [(mono, 16, "ascii"), icons])
+    strike, out, _ = by_both(tmp_path, ["--font", MONO, "--chars", "ascii", "--font", tmp_path / "icons.bdf"],
+                             [(mono, 16, "ascii"), icons])
     assert strike.size == 16 and str(strike["♥"]) == "#.#\n###\n.#." and out.split("\n")[2] == "  icons: 6"
     strike, _, _ = by_both(tmp_path, ["--font", MONO, "--chars", "ascii", "--font", tmp_path / "icons.bdf", "--chars", "2665=41"],
                            [(mono, 16, "ascii"), (icons, None, "2665=41")])
@@ -86,23 +93,28 @@ def test_strikes_among_fonts(tmp_path):
 
 def test_sizes_of_each(tmp_path):
     """Several sizes are as many strikes; a font with one size has it in all."""
-    words = ["--size", "12,16", "--font", MONO, "--chars", "41", "--font", SANS, "--chars", "42", "--size", "20", "--font", SANS, "--chars", "43", "--size", "8,10"]
+    words = ["--size", "12,16", "--font", MONO, "--chars", "41", "--font", SANS, "--chars", "42", "--size", "20", "--font", SANS,
+             "--chars", "43", "--size", "8,10"]
     status, _, err = run_in_process([*words, "-o", "a-%s.bdf"], tmp_path)
     assert status == 0, err
     for size, other in ((12, 8), (16, 10)):
         strike = mkstrike.Strike.open(tmp_path / ("a-%d.bdf" % size))
         fonts = {"A": (MONO, size), "B": (SANS, 20), "C": (SANS, other)}
-        assert strike.size == size and all(pixels(strike[char]) == pixels(mkstrike.Font(path).glyph(it, char)) for char, (path, it) in fonts.items())
+        assert strike.size == size and all(pixels(strike[char]) == pixels(mkstrike.Font(path).glyph(it, char)) for char,
+                                           (path, it) in fonts.items())
     status, _, err = run_in_process([*words[:-1], "8,9,10", "-o", "a-%s.bdf"], tmp_path)
     assert status == 2 and "give one, or as many" in err
 
 
 def test_cells_of_several(tmp_path):
     """--fit finds one size for all fonts, at which no glyph of any leaves the cell."""
-    status, _, err = run_in_process(["--fit", "10x18", "--font", MONO, "--chars", "ascii", "--font", LIBERATION, "--chars", "c0-ff", "-o", "a.bdf"], tmp_path)
+    status, _, err = run_in_process(["--fit", "10x18", "--font", MONO, "--chars", "ascii", "--font", LIBERATION, "--chars",
+                                     "c0-ff", "-o", "a.bdf"], tmp_path)
     assert (status, err) == (0, "")
     strike = mkstrike.Strike.open(tmp_path / "a.bdf")
-    sizes = [size for size in range(4, 30) if not mkstrike.merge([(mkstrike.Font(MONO), size, "ascii"), (mkstrike.Font(LIBERATION), size, "c0-ff")]).cell(10, 18).outside]
+    sizes = [size for size in range(4, 30)
+             if not mkstrike.merge([(mkstrike.Font(MONO), size, "ascii"), (mkstrike.Font(LIBERATION), size, "c0-ff")]).cell(10,
+                                                                                                                            18).outside]
     assert strike.size == max(sizes) and len(strike) == 95 + 64
 
 
@@ -112,14 +124,17 @@ def test_cells_of_several(tmp_path):
     (["--merge", SANS, MONO], 2, "fonts of one strike come after --font each: strike --font A.ttf --chars ascii --font B.ttf"),
     (["--font", MONO, "--chars", "41=e000,42=e000"], 2, "two characters would get the number U+E000: U+0041 and U+0042"),
     (["--font", MONO, "--chars", "ascii=e000"], 2, "characters get other numbers as f000-f2e0=e000"),
-    (["--shift-y", "2", "--font", MONO], 2, "give it after its --font"), (["--font", MONO, "--size", "8", "--size", "9"], 2, "--size is given twice")])
+    (["--shift-y", "2", "--font", MONO], 2, "give it after its --font"),
+    (["--font", MONO, "--size", "8", "--size", "9"], 2, "--size is given twice")])
 def test_mistakes(tmp_path, words, status, said):
     """What is wrong is told, and nothing is written without a font that was asked for."""
     found, _, err = run_in_process(words, tmp_path)
     assert (found, list(tmp_path.iterdir())) == (status, []) and said in err, err
 
 
-@pytest.mark.parametrize("parts, said", [([("DejaVuSans.ttf", 16)], "^parts: 'DejaVuSans.ttf' is no font and no strike$"), ([("font",)], "no font and no strike")])
+@pytest.mark.parametrize("parts, said",
+                         [([("DejaVuSans.ttf", 16)], "^parts: 'DejaVuSans.ttf' is no font and no strike$"),
+                          ([("font",)], "no font and no strike")])
 def test_wrong_parts(parts, said):
     """What is no part."""
     with pytest.raises(TypeError, match=said):
@@ -130,8 +145,10 @@ def test_wrong_options_of_parts():
     """A part's size and options are checked."""
     font = mkstrike.Font(SANS)
     strike = font.strike(16, "41")
-    for part, kind, said in (((font, 16, "41", {"hint": False}), TypeError, "'hint' is no option: there are dropout, glyphs, hinted"), ((font,), ValueError, "has no size"),
-                             ((strike, 17), ValueError, "a strike of 16 pixels can't be made at 17"), ((font, 16), ValueError, "^nothing is asked of DejaVuSans: give")):
+    for part, kind, said in (((font, 16, "41", {"hint": False}), TypeError, "'hint' is no option: there are dropout, glyphs, hinted"),
+                             ((font,), ValueError, "has no size"),
+                             ((strike, 17), ValueError, "a strike of 16 pixels can't be made at 17"),
+                             ((font, 16), ValueError, "^nothing is asked of DejaVuSans: give")):
         with pytest.raises(kind, match=said):
             mkstrike.merge([part])
     assert mkstrike.merge([(font, 16, "41,19c", {"refused": "unhinted"})])["Ɯ"] == font.glyph(16, "Ɯ", hinted=False)

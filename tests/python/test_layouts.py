@@ -77,7 +77,8 @@ def ram(data, width, height, by):
     """The pixels of a display's memory with a bank of eight rows a byte, bit D0 at the top, as the data sheets of SSD1306 and PCD8544 draw it. A byte
     goes to the next column, and after the last to the next bank; in vertical addressing to the next bank, and after the last to the next column."""
     banks = (height + 7) // 8
-    places = [(bank, x) for bank in range(banks) for x in range(width)] if by == "pages" else [(bank, x) for x in range(width) for bank in range(banks)]
+    places = [(bank, x) for bank in range(banks) for x in range(width)] if by == "pages" else [(bank, x)
+               for x in range(width) for bank in range(banks)]
     memory = dict(zip(places, data))
     return ["".join(".#"[memory[y // 8, x] >> y % 8 & 1] for x in range(width)) for y in range(height)]
 
@@ -103,7 +104,8 @@ def test_memory_of_hd44780():
     """A row of a character of HD44780 is a byte, whose five low bits are its pixels, the leftmost the highest of them."""
     strike, due = cells_of(MONO, 7, (5, 8))
     data = strike.encode("raw", align="right")
-    assert [[format(it, "05b").replace("0", ".").replace("1", "#") for it in data[at:at + 8]] for at in range(0, len(data), 8)] == due
+    assert [[format(it, "05b").replace("0", ".").replace("1", "#") for it in data[at:at + 8]]
+                    for at in range(0, len(data), 8)] == due
 
 
 @needs_font(MONO)
@@ -120,7 +122,8 @@ def test_rows_in_pictures(bits):
         text = b"P4\n10 19\n" + cell if bits == "msb" else (
             "#define x_width 10\n#define x_height 19\nstatic unsigned char x_bits[] = {\n%s};\n" % numbers).encode()
         picture = Image.open(io.BytesIO(text)).convert("1")
-        assert ["".join(".#"[not picture.getpixel((x, y))] if bits == "msb" else ".#"[bool(picture.getpixel((x, y)))] for x in range(10)) for y in range(19)] == rows
+        assert ["".join(".#"[not picture.getpixel((x, y))] if bits == "msb" else ".#"[bool(picture.getpixel((x, y)))]
+                        for x in range(10)) for y in range(19)] == rows
 
 
 # ---- C
@@ -163,7 +166,8 @@ def test_program_memory(tmp_path):
     for name in ("avr/pgmspace.h", "Arduino.h"):
         (tmp_path / name).write_text('#define PROGMEM __attribute__((section(".%s")))\n' % name[0])
     for words, section in (([], None), (["-D__AVR__"], ".a"), (["-DARDUINO=100"], ".A")):
-        (tmp_path / "main.c").write_text(text + "int main(void) { return small_rows[0][0] + small_chars[0] + small_advances[0]; }\n")
+        (tmp_path / "main.c").write_text(text + \
+         "int main(void) { return small_rows[0][0] + small_chars[0] + small_advances[0]; }\n")
         subprocess.run(["gcc", "-I.", *words, "-Wall", "-Wextra", "-Werror", "main.c", "-o", "main"], cwd=tmp_path, check=True)
         said = subprocess.run(["objdump", "-h", "main"], cwd=tmp_path, check=True, capture_output=True, text=True).stdout
         assert [it for it in (".a", ".A") if " %s " % it in said] == ([section] if section else [])

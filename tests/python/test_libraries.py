@@ -113,5 +113,6 @@ def test_lvgl_compiles(tmp_path):
     strike = mkstrike.Font(SANS).strike(16, "20-7e,20ac")
     (tmp_path / "lvgl.h").write_text(LVGL)
     text = strike.encode("lvgl", name="small").decode()
-    assert drawn(tmp_path, text, DRAW_LVGL.replace("%", "%%") % (), strike, "#define LV_LVGL_H_INCLUDE_SIMPLE\n").tobytes() == strike.sheet().tobytes()
+    assert drawn(tmp_path, text, DRAW_LVGL.replace("%", "%%") % (), strike,
+                 "#define LV_LVGL_H_INCLUDE_SIMPLE\n").tobytes() == strike.sheet().tobytes()
     assert ".underline_position = " in text

@@ -26,7 +26,8 @@ def post_of(version, places=(), strings=b"", count=None):
     (post_of(0x20000, (258, 259), b"\x02ab\x09c"), 2, ["ab", "c"]),  # the last string is cut off
     (post_of(0x20000, (257, 65535), b"\x01x"), 3, ["dcroat", "", ""]),  # fewer names than glyphs
     (post_of(0x20000, (3, 4, 5)), 2, ["space", "exclam"]),  # more names than glyphs
-    (post_of(0x20000, (3,), count=9), 9, [""] * 9), (post_of(0x30000), 2, ["", ""]), (post_of(0x25000, (0, 0)), 2, ["", ""]), (b"", 1, [""]),
+    (post_of(0x20000, (3,), count=9), 9, [""] * 9), (post_of(0x30000), 2,
+     ["", ""]), (post_of(0x25000, (0, 0)), 2, ["", ""]), (b"", 1, [""]),
     (b"\0\2\0", 1, [""]), (post_of(0x10000), 260, STANDARD + ["", ""]), (post_of(0x10000), 0, [])])
 def test_names_by_hand(post, count, due):
     """Names of both forms of `post`; where it is damaged or says nothing they are empty."""
@@ -65,12 +66,16 @@ def test_listing_at_a_size():
         assert it.glyph == at.glyph(it.number)
     found = {it.char: it for it in font.listing(16) if it.char in ("A", "\u019c")}
     data = as_data(list(found.values()))
-    assert data[0] == {"code": 65, "char": "A", "glyph": 36, "name": "A", "advance": 11, "width": 11, "height": 12, "left": 0, "bottom": 0}
-    assert data[1] == {"code": 0x19C, "char": "\u019c", "glyph": 350, "name": "uni019C", "refused": "30 StackUnder during glyph 350 in glyph 350 at 73 opcode 39"}
+    assert data[0] == {"code": 65, "char": "A", "glyph": 36, "name": "A",
+        "advance": 11, "width": 11, "height": 12, "left": 0, "bottom": 0}
+    assert data[1] == {"code": 0x19C, "char": "\u019c", "glyph": 350, "name": "uni019C",
+        "refused": "30 StackUnder during glyph 350 in glyph 350 at 73 opcode 39"}
     assert json.loads(json.dumps(data)) == data
     head, letter, refused = table_of(list(found.values()))
-    assert head.split() == ["character", "glyph", "name", *METRICS] and letter.split() == ["U+0041", "A", "36", "A", "11", "11", "12", "0", "0"]
-    assert refused.split(None, 4) == ["U+019C", "\u019c", "350", "uni019C", "30 StackUnder during glyph 350 in glyph 350 at 73 opcode 39"]
+    assert head.split() == ["character", "glyph", "name", *METRICS] and letter.split() == ["U+0041",
+                      "A", "36", "A", "11", "11", "12", "0", "0"]
+    assert refused.split(None, 4) == ["U+019C", "\u019c", "350", "uni019C",
+                         "30 StackUnder during glyph 350 in glyph 350 at 73 opcode 39"]
 
 
 @needs_font(SANS)
@@ -81,7 +86,8 @@ def test_tables():
     assert lines[0].split() == ["character", "glyph", "name"] and len(lines) == 1 + len(font.listing())
     starts = [lines[0].index(it) for it in lines[0].split()]
     assert all(line[at - 1] == " " != line[at] for line in lines for at in starts[1:])
-    assert lines[1].split() == ["U+0020", "3", "space"] and lines[-1].split()[0] == "-" and not any(line.endswith(" ") for line in lines)
+    assert lines[1].split() == ["U+0020", "3", "space"] and lines[-1].split()[0] == "-" and not any(line.endswith(" ")
+                          for line in lines)
     assert table_of([]) == ["character  glyph  name"]
 
 
@@ -89,7 +95,8 @@ def test_listing_of_a_strike():
     """A strike has no numbers."""
     (it,) = of_strike(SMALL)
     assert (it.char, it.number, it.name, it.glyph) == ("A", None, "uni0041", SMALL["A"])
-    assert as_data([it]) == [{"code": 65, "char": "A", "glyph": None, "name": "uni0041", "advance": 10, "width": 10, "height": 9, "left": 0, "bottom": 0}]
+    assert as_data([it]) == [{"code": 65, "char": "A", "glyph": None, "name": "uni0041",
+                   "advance": 10, "width": 10, "height": 9, "left": 0, "bottom": 0}]
     assert table_of([it])[1].split() == ["U+0041", "A", "-", "uni0041", "10", "10", "9", "0", "0"]
 
 

@@ -10,8 +10,10 @@ from mkstrike.looks import largest, parts, points, told
 
 
 @pytest.mark.parametrize("picture, count", [
-    (".", 0), ("#", 1), ("##\n##", 1), ("#.#", 2), ("#\n.\n#", 2), ("#.\n.#", 1), (".#\n#.", 1), ("#..\n..#", 2), ("##..\n..##", 1), ("..##\n##..", 1), ("##...\n...##", 2),
-    ("#.#\n###", 1), ("###\n#.#", 1), ("###\n#.#\n###", 1), ("#.#.#\n.#.#.", 1), ("#.#.#\n.....\n#.#.#", 6), ("#...#\n#.#.#\n#...#", 3), ("#...#\n#.#.#\n#####", 1),
+    (".", 0), ("#", 1), ("##\n##", 1), ("#.#", 2), ("#\n.\n#", 2), ("#.\n.#", 1), (".#\n#.",
+     1), ("#..\n..#", 2), ("##..\n..##", 1), ("..##\n##..", 1), ("##...\n...##", 2),
+    ("#.#\n###", 1), ("###\n#.#", 1), ("###\n#.#\n###", 1), ("#.#.#\n.#.#.",
+     1), ("#.#.#\n.....\n#.#.#", 6), ("#...#\n#.#.#\n#...#", 3), ("#...#\n#.#.#\n#####", 1),
     ("#####\n#...#\n#.#.#\n#...#\n#####", 2), ("##.##.##\n########\n...##...\n........\n##....##", 3), ("#..#\n.##.\n#..#", 1)])
 def test_parts_by_hand(picture, count):
     """Pixels that touch, also at a corner, are in one part."""
@@ -33,7 +35,8 @@ def test_letters_that_fall_apart(path, sizes, counts):
     """Of the 62 letters and digits; drop-out control leaves none. What it names has a row or a column without a pixel, or more parts."""
     font = mkstrike.Font(path)
     found = font.looks(sizes)
-    assert tuple(len(it.apart_without) for it in found) == counts and {it.letters for it in found} == {62} and {it.apart for it in found} == {""}
+    assert tuple(len(it.apart_without) for it in found) == counts and {
+                 it.letters for it in found} == {62} and {it.apart for it in found} == {""}
     for look in found:
         plain, whole = (font.at(look.size, dropout=it) for it in (False, "font"))
         assert (look.width, look.height) == (plain["M"].advance, plain.height)

@@ -99,4 +99,5 @@ def test_limits(tmp_path):
     assert not list(tmp_path.iterdir())
     strike.parsed().name = "a\nraise SystemExit\r\\'''\u2028"
     module, _ = imported(tmp_path, strike)
-    assert (tmp_path / "font.py").read_text().splitlines()[0].startswith("# 1 glyphs of a_raise SystemExit__'''_ at ") and drawn(module, "A")[0] == pixels(strike["A"])
+    assert (tmp_path / "font.py").read_text().splitlines()[0].startswith(
+        "# 1 glyphs of a_raise SystemExit__'''_ at ") and drawn(module, "A")[0] == pixels(strike["A"])

@@ -21,7 +21,8 @@ def run(folder, *words, status=0):
 
 @pytest.mark.parametrize("words, size, said", [
     (["--size", "12pt@96"], 16, "16 pixels per em: 12pt@96"), (["--size", "9pt@100"], 13, "13 pixels per em: 9pt@100"),
-    (["--height", "16"], 14, "14 pixels per em: a line has 16 rows"), (["--height", "17"], 14, "14 pixels per em: a line has 16 rows, and 18 at 15"),
+    (["--height", "16"], 14, "14 pixels per em: a line has 16 rows"), (["--height", "17"],
+     14, "14 pixels per em: a line has 16 rows, and 18 at 15"),
     (["--cap-height", "9"], 13, "13 pixels per em: a capital H has 9 rows"), (["--cap-height", "9", "--unhinted"], 13, "13 pixels per em: a capital H has 9 rows")])
 def test_sizes(tmp_path, words, size, said):
     """Sizes by points and by rows are computed, and told."""
@@ -34,9 +35,11 @@ def test_sizes(tmp_path, words, size, said):
 def test_sizes_of_several(tmp_path):
     """Points stand beside pixels; each font of a strike gets the size for its own rows."""
     out, err = run(tmp_path, MONO, "--chars", "41", "--size", "9,12pt@96,17-18")
-    assert [it.split("-")[-1] for it in out.splitlines()] == ["9.bdf: 1 glyphs", "16.bdf: 1 glyphs", "17.bdf: 1 glyphs", "18.bdf: 1 glyphs"]
+    assert [it.split("-")[-1] for it in out.splitlines()] == ["9.bdf: 1 glyphs",
+                     "16.bdf: 1 glyphs", "17.bdf: 1 glyphs", "18.bdf: 1 glyphs"]
     assert err == "strike: DejaVuSansMono: 16 pixels per em: 12pt@96\n"
-    out, err = run(tmp_path, "--cap-height", "9", "--font", MONO, "--chars", "41", "--font", LIBERATION, "--chars", "42", "-o", "a.bdf")
+    out, err = run(tmp_path, "--cap-height", "9", "--font", MONO, "--chars",
+                   "41", "--font", LIBERATION, "--chars", "42", "-o", "a.bdf")
     assert out.splitlines() == ["a.bdf: 2 glyphs", "  DejaVuSansMono: 1", "  LiberationMono-Regular: 1"]
     strike, size = mkstrike.Strike.open(tmp_path / "a.bdf"), mkstrike.Font(LIBERATION).size_for(cap_height=9)
     assert size != 13 and strike["B"].tobytes() == mkstrike.Font(LIBERATION).glyph(size, "B").tobytes()
@@ -67,10 +70,12 @@ def test_glyphs(tmp_path):
     assert [it.tobytes() for it in strike.values()] == [font.glyph_by_id(16, it).tobytes() for it in (5970, 36, 6005)]
     run(tmp_path, SANS, "--chars", "41", "--glyph", "36=42", "--name", "both")
     assert list(mkstrike.Strike.open(tmp_path / "both-16.bdf")) == ["A", "B"]
-    out, _ = run(tmp_path, "--font", MONO, "--chars", "41", "--font", SANS, "--size", "20", "--glyph", "Eng.alt=e000", "-o", "a.bdf")
+    out, _ = run(tmp_path, "--font", MONO, "--chars", "41", "--font", SANS,
+                 "--size", "20", "--glyph", "Eng.alt=e000", "-o", "a.bdf")
     assert out.splitlines() == ["a.bdf: 2 glyphs", "  DejaVuSansMono: 1", "  DejaVuSans: 1"]
     assert mkstrike.Strike.open(tmp_path / "a.bdf")["\ue000"].tobytes() == font.glyph_by_id(20, 5970).tobytes()
-    assert mkstrike.merge([(font, 16, "41", {"glyphs": {"\ue000": 36}}), (font, 16, "42")])["\ue000"].tobytes() == font.glyph(16, "A").tobytes()
+    assert mkstrike.merge([(font, 16, "41", {"glyphs": {"\ue000": 36}}), (font, 16, "42")])[
+                          "\ue000"].tobytes() == font.glyph(16, "A").tobytes()
     assert list(font.strike(16, "41", glyphs={"\ue000": "l.alt"})) == ["A", "\ue000"]
 
 
@@ -96,19 +101,27 @@ def test_sheet(tmp_path):
     lines = [told(it, "font") for it in font.looks([8, 9, 16])]
     assert out.splitlines() == ["./DejaVuSans-sheet.png: 3 sizes", *lines] and err == ""
     assert Image.open(tmp_path / "DejaVuSans-sheet.png").tobytes() == font.sheet([8, 9, 16]).tobytes()
-    out, err = run(tmp_path, SANS, "--sheet", "9", "--preview", "Hi 一", "--unhinted", "--dropout", "off", "--chars", "48", "--scale", 2, "-o", "a.pbm")
+    out, err = run(tmp_path, SANS, "--sheet", "9", "--preview", "Hi 一", "--unhinted",
+                   "--dropout", "off", "--chars", "48", "--scale", 2, "-o", "a.pbm")
     assert Image.open(tmp_path / "a.pbm").tobytes() == font.sheet([9], "Hi ", "48", hinted=False, dropout=None, scale=2).tobytes()
-    assert out.splitlines()[1].startswith("9: cell ") and "of 1 fall apart" in out and err == "strike: left out of the text, since DejaVuSans lacks it: 一\n"
-    assert run(tmp_path, SANS, "--sheet", "9", "--quiet", "--out", "made") == ("", "") and (tmp_path / "made/DejaVuSans-sheet.png").exists()
+    assert out.splitlines()[1].startswith(
+        "9: cell ") and "of 1 fall apart" in out and err == "strike: left out of the text, since DejaVuSans lacks it: 一\n"
+    assert run(tmp_path, SANS, "--sheet", "9", "--quiet", "--out", "made") == ("",
+               "") and (tmp_path / "made/DejaVuSans-sheet.png").exists()
 
 
 @pytest.mark.parametrize("words, said", [
-    ([SANS, "--sheet", "8-x"], "--sheet takes pixels per em, as 16 or 12,14 or 8-16, not '8-x'"), ([SANS, MONO, "--sheet", "8"], "--sheet takes one FONT"),
-    ([SANS, "--sheet", "8", "--scale", "0"], "--scale is 1 or more"), (["--font", SANS, "--font", MONO, "--sheet", "8"], "--font is for files"),
+    ([SANS, "--sheet", "8-x"], "--sheet takes pixels per em, as 16 or 12,14 or 8-16, not '8-x'"), ([SANS,
+     MONO, "--sheet", "8"], "--sheet takes one FONT"),
+    ([SANS, "--sheet", "8", "--scale", "0"], "--scale is 1 or more"), (["--font",
+     SANS, "--font", MONO, "--sheet", "8"], "--font is for files"),
     ([SANS, "--sheet", "8", "--list"], "--sheet and --list do two things"), ([SANS, "--sheet", "8", "--size", "9"], "--size is for files"),
-    ([SANS, "--list", "--chars", "41"], "--chars is for files, not for --list"), ([SANS, "--json"], "--json is for --list"), ([SANS, MONO, "--list"], "--list takes one FONT"),
-    ([SANS, "--list", "--size", "9,10"], "--list takes one --size"), ([SANS, "--list", "--unhinted"], "--unhinted and --dropout are for a list with metrics: give --size"),
-    ([SANS, "--diff"], "--diff takes two strikes, or fonts"), ([SANS, MONO, "--diff", "--scale", "2"], "--scale is 1 or more, for a picture: -o FILE.png"),
+    ([SANS, "--list", "--chars", "41"], "--chars is for files, not for --list"), ([SANS, "--json"],
+     "--json is for --list"), ([SANS, MONO, "--list"], "--list takes one FONT"),
+    ([SANS, "--list", "--size", "9,10"], "--list takes one --size"), ([SANS, "--list",
+     "--unhinted"], "--unhinted and --dropout are for a list with metrics: give --size"),
+    ([SANS, "--diff"], "--diff takes two strikes, or fonts"), ([SANS, MONO,
+     "--diff", "--scale", "2"], "--scale is 1 or more, for a picture: -o FILE.png"),
     ([SANS, MONO, "--diff", "--cell", "8x16"], "--cell is for files")])
 def test_what_does_not_go_together(tmp_path, words, said):
     assert said in run(tmp_path, *words, status=2)[1]
@@ -126,13 +139,15 @@ def test_list(tmp_path):
     out, _ = run(tmp_path, MONO, "--list", "--size", "12", "--unhinted")
     lines, glyph = out.splitlines(), mkstrike.Font(MONO).glyph(12, "A", hinted=False)
     assert lines[0] == "12 pixels per em, ascent 11, descent 3"
-    assert [it.split()[4:] for it in lines if it.startswith("U+0041 ")] == [list(map(str, (glyph.advance, glyph.width, glyph.height, glyph.left, glyph.bottom)))]
+    assert [it.split()[4:] for it in lines if it.startswith("U+0041 ")
+                     ] == [list(map(str, (glyph.advance, glyph.width, glyph.height, glyph.left, glyph.bottom)))]
     out, _ = run(tmp_path, MONO, "--list", "--json", "--size", "12")
     data = json.loads(out)
     assert (data["size"], data["ascent"], data["descent"], len(data["glyphs"])) == (12, 11, 3, len(lines) - 2)
     assert "size" not in json.loads(run(tmp_path, MONO, "--list", "--json")[0])
     mkstrike.Font(MONO).strike(12, "41-43").save(tmp_path / "a.bdf")
-    assert [it.split()[:4] for it in run(tmp_path, "a.bdf", "--list")[0].splitlines()[2:]] == [["U+00%d" % it, chr(it - 41 + 65), "-", "uni00%d" % it] for it in (41, 42, 43)]
+    assert [it.split()[:4] for it in run(tmp_path, "a.bdf", "--list")[0].splitlines()[2:]
+                     ] == [["U+00%d" % it, chr(it - 41 + 65), "-", "uni00%d" % it] for it in (41, 42, 43)]
 
 
 # ---- two strikes compared
@@ -148,7 +163,8 @@ def test_diff(tmp_path):
     out, err = run(tmp_path, "--diff", "old.bdf", "new.bdf", "-o", "a.png", "--scale", 3, status=1)
     assert out.splitlines() == old.diff(new).lines() and err == ""
     assert Image.open(tmp_path / "a.png").tobytes() == old.diff(new).image(3).tobytes()
-    assert run(tmp_path, "--diff", "old.bdf", "old.bdf") == ("26 glyphs are the same\n", "") and run(tmp_path, "--diff", "old.bdf", "old.bdf", "--quiet") == ("", "")
+    assert run(tmp_path, "--diff", "old.bdf", "old.bdf") == ("26 glyphs are the same\n",
+               "") and run(tmp_path, "--diff", "old.bdf", "old.bdf", "--quiet") == ("", "")
     assert run(tmp_path, "--diff", "old.bdf", "new.bdf", "--chars", "41-42") == ("2 glyphs are the same\n", "")
 
 
@@ -193,9 +209,11 @@ def test_forms(tmp_path):
         assert (tmp_path / ("DejaVuSansMono-13" + ending)).read_bytes().replace(b"_gfx", b"") == data.replace(b"_gfx", b""), ending
     assert (tmp_path / "DejaVuSansMono_13.py").read_bytes() == strike.encode("py", **layout)
     strike.save(tmp_path / "DejaVuSansMono-13b.fnt", padding=2)
-    assert (tmp_path / "DejaVuSansMono-13.fnt").read_bytes() == (tmp_path / "DejaVuSansMono-13b.fnt").read_bytes().replace(b"13b", b"13")
+    assert (tmp_path / "DejaVuSansMono-13.fnt").read_bytes() == (tmp_path / \
+            "DejaVuSansMono-13b.fnt").read_bytes().replace(b"13b", b"13")
 
 
 def test_pictures_of_games_are_not_lost(tmp_path):
     """A picture that is read, or that another strike has, is not replaced."""
-    assert "fnt is a text and pictures beside it: save it to a file" in run(tmp_path, MONO, "--format", "fnt", "-o", "-", status=1)[1]
+    assert "fnt is a text and pictures beside it: save it to a file" in run(
+        tmp_path, MONO, "--format", "fnt", "-o", "-", status=1)[1]

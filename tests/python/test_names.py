@@ -20,7 +20,8 @@ OBLIQUE = FOLDER + "dejavu/DejaVuSans-Oblique.ttf"
 @pytest.mark.parametrize("path, names, name", [
     (SANS, ("DejaVu Sans", "Book", 400, 5, "R", False), "-misc-DejaVu Sans-Medium-R-Normal--16-160-72-72-p"),
     (BOLD, ("Liberation Mono", "Bold", 700, 5, "R", True), "-misc-Liberation Mono-Bold-R-Normal--16-160-72-72-m"),
-    (ITALIC, ("Liberation Sans Narrow", "Bold Italic", 700, 3, "I", False), "-misc-Liberation Sans Narrow-Bold-I-Condensed--16-160-72-72-p"),
+    (ITALIC, ("Liberation Sans Narrow", "Bold Italic", 700, 3, "I", False),
+     "-misc-Liberation Sans Narrow-Bold-I-Condensed--16-160-72-72-p"),
     (OBLIQUE, ("DejaVu Sans", "Oblique", 400, 5, "O", False), "-misc-DejaVu Sans-Medium-O-Normal--16-160-72-72-p")])
 def test_names(path, names, name):
     """Family, style, weight, width, slant and spacing; X11's name has them, and the size."""
@@ -30,7 +31,9 @@ def test_names(path, names, name):
     assert tuple(font.names) == names and font.names.family == names[0]
     strike = font.strike(16, "41-43,61-63", x11=True)
     average = (20 * sum(it.advance for it in strike.values()) + 6) // 12
-    assert strike.name == "%s-%d-ISO10646-1" % (name, average) and strike.properties["FAMILY_NAME"] == names[0] and strike.properties["SLANT"] == names[4]
+    assert strike.name == "%s-%d-ISO10646-1" % (name,
+                                                average) and strike.properties[
+                                                    "FAMILY_NAME"] == names[0] and strike.properties["SLANT"] == names[4]
     assert strike.properties["WEIGHT_NAME"] == name.split("-")[3]
 
 
@@ -40,8 +43,12 @@ def test_names_of_strikes():
     font = mkstrike.Font(BOLD)
     assert [font.strike(size, "ascii", x11=True).name.split("-")[7:9] for size in (10, 12)] == [["10", "100"], ["12", "120"]]
     strike = font.strike(16, "ascii")
-    assert strike.name == "strike" and strike.with_properties(x11=True).cell(8, 16).with_properties(x11=True).name.endswith("-m-80-ISO10646-1")
-    assert font.strike(16, "ascii", name="mine", x11=True).name == "mine" == mkstrike.merge([strike], name="mine").with_properties(x11=True).name
+    assert strike.name == "strike" and strike.with_properties(x11=True).cell(8,
+                                                                             16).with_properties(
+                                                                                 x11=True).name.endswith("-m-80-ISO10646-1")
+    assert font.strike(16, "ascii", name="mine", x11=True).name == "mine" == mkstrike.merge([strike],
+                                                                                            name="mine").with_properties(
+                                                                                                x11=True).name
     assert mkstrike.merge([strike]).with_properties(x11=True).name == strike.with_properties(x11=True).name
 
 
@@ -83,12 +90,15 @@ def test_odd_names():
         strike = mkstrike.Font(named(family)).strike(16, "41", x11=True)
         assert strike.name.split("-")[2] == due and strike.name.count("-") == 14
         assert mkstrike.Font(named(family)).names.family == family
-    for weight, due in ((100, "Thin"), (300, "Light"), (400, "Medium"), (500, "Medium"), (600, "DemiBold"), (700, "Bold"), (900, "Black"), (0, "Thin")):
+    for weight, due in ((100, "Thin"), (300, "Light"), (400, "Medium"), (500, "Medium"), (600, "DemiBold"), (700, "Bold"),
+                        (900, "Black"), (0, "Thin")):
         assert mkstrike.Font(named("A", usWeightClass=weight)).strike(16, "41", x11=True).name.split("-")[3] == due
-    assert mkstrike.Font(named("A", fsSelection=32)).names.weight == 700 and mkstrike.Font(named("A", fsSelection=1)).names.slant == "I"
+    assert mkstrike.Font(named("A", fsSelection=32)).names.weight == 700 and mkstrike.Font(named("A",
+                                                                                                 fsSelection=1)).names.slant == "I"
     assert mkstrike.Font(named("A Thin", large=((16, "A"), (17, "Thin")))).names[:2] == ("A", "Thin")
     assert mkstrike.Font(named("A", large=((16, " "),))).names[:2] == ("A", "Regular")
-    assert mkstrike.Font(named("A", usWidthClass=9)).names.width == 9 and mkstrike.Font(named("A\x1b[2J")).names.family == "A\\x1b[2J"
+    assert mkstrike.Font(named("A",
+                               usWidthClass=9)).names.width == 9 and mkstrike.Font(named("A\x1b[2J")).names.family == "A\\x1b[2J"
 
 
 @needs_font(SANS)
@@ -128,8 +138,10 @@ def test_installed_fonts(tmp_path, monkeypatch):
 def test_installed_fonts_stay(tmp_path):
     """A font that is found by its name is never written over: this one is a copy, which a configuration of its own names."""
     shutil.copy(MONO, tmp_path / "copy.ttf")
-    (tmp_path / "fonts.conf").write_text("<fontconfig><dir>%s</dir><cachedir>%s/cache</cachedir></fontconfig>" % (tmp_path, tmp_path))
-    ran = subprocess.run([sys.executable, "-m", "mkstrike", "DejaVu Sans Mono", "-o", "copy.ttf", "--format", "bdf"], cwd=tmp_path, capture_output=True,
+    (tmp_path / "fonts.conf").write_text("<fontconfig><dir>%s</dir><cachedir>%s/cache</cachedir></fontconfig>" %
+                                         (tmp_path, tmp_path))
+    ran = subprocess.run([sys.executable, "-m", "mkstrike", "DejaVu Sans Mono", "-o", "copy.ttf", "--format", "bdf"], cwd=tmp_path,
+                         capture_output=True,
                          env={**os.environ, "FONTCONFIG_FILE": str(tmp_path / "fonts.conf")})
     assert ran.returncode == 1 and b"copy.ttf is read here, and would be replaced" in ran.stderr
     assert (tmp_path / "copy.ttf").read_bytes() == font_bytes(MONO)

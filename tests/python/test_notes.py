@@ -49,7 +49,8 @@ def test_bitmaps_of_its_own(tmp_path):
     for tag in ("EBLC", "bloc"):
         data = with_table(built(MASTERS[0], 400), tag, struct.pack(">II", 0x00020000, 1) + size)
         assert tables.bitmap_sizes(data, 0) == {13}
-        assert told(tmp_path, data, "--chars", "41", "--size", "13") == ["the font has bitmaps of its own at 13 pixels, which are not read: its outlines are drawn"]
+        assert told(tmp_path, data, "--chars", "41", "--size",
+                    "13") == ["the font has bitmaps of its own at 13 pixels, which are not read: its outlines are drawn"]
         assert told(tmp_path, data, "--chars", "41", "--size", "14") == []
 
 
@@ -72,7 +73,8 @@ def test_symbols(tmp_path):
     import fonts
     font, out = TTFont(io.BytesIO(fonts.part_of(font_bytes(MONO), range(0x41, 0x44)))), io.BytesIO()
     cmap = font["cmap"].tables[0]
-    cmap.platformID, cmap.platEncID, cmap.format, cmap.language, cmap.cmap = 3, 0, 4, 0, {0xF000 + code: name for code, name in font.getBestCmap().items()}
+    cmap.platformID, cmap.platEncID, cmap.format, cmap.language, cmap.cmap = 3, 0, 4, 0, {0xF000 + code: name for code,
+                                                                                          name in font.getBestCmap().items()}
     font["cmap"].tables = [cmap]
     font.save(out)
     said = told(tmp_path, out.getvalue(), "--chars", "ascii")
@@ -114,7 +116,8 @@ def cubic(points, advance):
 def test_cff(tmp_path):
     """Outlines of CFF are converted: straight ones exactly, curves at most 0.25 of 1,000 units away; a line says so."""
     straight = cubic([(100, 0), (300, 0), (300, 700), (100, 700)], 400)
-    same, said = built(MASTERS[0], 400), "the outlines are of CFF: fontTools converted them, at most 0.25 of 1,000 units away, and unhinted"
+    same, said = built(MASTERS[0],
+                       400), "the outlines are of CFF: fontTools converted them, at most 0.25 of 1,000 units away, and unhinted"
     for size in (9, 20, 101):
         made = mkstrike.Font(straight).strike(size, "41")
         assert made.text == mkstrike.Font(same).strike(size, "41", hinted=False).text and made.notes == (said,)
@@ -127,7 +130,8 @@ def test_cff(tmp_path):
     converted = TTFont(io.BytesIO(font.data))
     upem = converted["head"].unitsPerEm
     coordinates, _, on = converted["glyf"]["A"].getCoordinates(converted["glyf"])
-    curve = [(3 * (1 - t) ** 2 * t * 1000 + (1 - t) ** 3 * 1000 + 3 * (1 - t) * t * t * 552, 3 * (1 - t) ** 2 * t * 552 + 3 * (1 - t) * t * t * 1000 + t ** 3 * 1000)
+    curve = [(3 * (1 - t) ** 2 * t * 1000 + (1 - t) ** 3 * 1000 + 3 * (1 - t) * t * t * 552,
+              3 * (1 - t) ** 2 * t * 552 + 3 * (1 - t) * t * t * 1000 + t ** 3 * 1000)
              for t in (k / 4000 for k in range(4001))]
     points = [(x * 1000 / upem, y * 1000 / upem) for (x, y), flag in zip(coordinates, on) if flag & 1]
     assert upem == 8000 and len(coordinates) > 5
@@ -138,11 +142,14 @@ def test_cff(tmp_path):
 
 @needs_font(SANS)
 def test_refused_in_python():
-    """A character that is refused is left out, drawn unhinted, or refuses the strike; one that is missing is named, or refuses it."""
+    """A character that is refused is left out, drawn unhinted, or refuses the strike; one that is missing is named, or refuses
+    it."""
     font = mkstrike.Font(SANS)
-    status, out, said = program(["make", "--ppem", "16", "--chars", "41,19c,250", "--refused", "unhinted", *flags()], font_bytes(SANS))
+    status, out, said = program(["make", "--ppem", "16", "--chars", "41,19c,250", "--refused", "unhinted", *flags()],
+                                font_bytes(SANS))
     strike = font.strike(16, "41,19c,250", refused="unhinted")
-    assert status == 0 and strike.text == out and not strike.refused and {char: it.number for char, it in strike.unhinted.items()} == {"Ɯ": 30, "ɐ": 30}
+    assert status == 0 and strike.text == out and not strike.refused and {char: it.number for char,
+                                                                          it in strike.unhinted.items()} == {"Ɯ": 30, "ɐ": 30}
     assert said == "mkstrike: unhinted U+019C: " + strike.unhinted["Ɯ"].line
     assert list(font.strike(16, "41,19c")) == ["A"]
     for more in ({"refused": "refuse"}, {"strict": True}):
@@ -158,9 +165,11 @@ def test_refused_in_python():
 
 @needs_font(SANS)
 @pytest.mark.parametrize("words, status, said", [
-    (["--chars", "41,4e00"], 0, "1 missing: U+4E00"), (["--chars", "41,4e00", "--require"], 1, "1 missing: U+4E00"), (["--chars", "41,4e00", "--strict"], 1, "1 missing: U+4E00"),
+    (["--chars", "41,4e00"], 0, "1 missing: U+4E00"), (["--chars", "41,4e00", "--require"], 1, "1 missing: U+4E00"),
+    (["--chars", "41,4e00", "--strict"], 1, "1 missing: U+4E00"),
     (["--chars", "41,19c", "--require"], 0, "refused: U+019C: 30"), (["--chars", "41,19c", "--strict"], 1, "30 StackUnder"),
-    (["--chars", "41,19c", "--refused", "unhinted"], 0, "unhinted: U+019C: 30"), (["--chars", "41,19c", "--refused", "refuse"], 1, "30 StackUnder"),
+    (["--chars", "41,19c", "--refused", "unhinted"], 0, "unhinted: U+019C: 30"),
+    (["--chars", "41,19c", "--refused", "refuse"], 1, "30 StackUnder"),
     (["--preview", "A一", "--require"], 1, "1 missing: U+4E00"), (["--preview", "A", "--require"], 0, "")])
 def test_refused_by_the_command(tmp_path, words, status, said):
     """The status, and that no file is there if it is 1."""

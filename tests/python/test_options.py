@@ -11,20 +11,24 @@ pytestmark = [needs_font(SANS, MONO), needs_pillow]
 INPUTS = {"font": ["in.ttf"], "BDF": ["in.bdf"], "joined": ["--font", "in.ttf", "--font", "in.bdf"]}
 # The words that make each kind of output; its file, if it has one.
 OUTPUTS = {**{it: ["-o", "out", "--format", it] for it in options.FILES}, options.TERMINAL: ["--preview", "AWkƜ一█"],
-           options.PICTURE: ["-o", "out.png", "--preview", "AWkƜ一█"], options.SHEET: ["--sheet", "9,16", "--out", "."], options.LIST: ["--list"],
-           options.DIFF: ["--diff", "in.bdf"]}
+           options.PICTURE: ["-o", "out.png", "--preview", "AWkƜ一█"], options.SHEET: ["--sheet", "9,16", "--out", "."],
+           options.LIST: ["--list"], options.DIFF: ["--diff", "in.bdf"]}
 WITHOUT_CHARS = (options.TERMINAL, options.PICTURE, options.LIST)
 CELLS = ["--cell", "8x14"]  # in which some glyphs leave the cell, and raw cells can be made
 # From each option to its words, which change the output beside those words that come with it.
 WORDS = {
-    "chars": ["--chars", "61-63"], "all": ["--all"], "text": ["--text", "text.txt"], "symbol": ["--symbol"], "size": ["--size", "13"], "fit": ["--fit", "9x19"],
+    "chars": ["--chars", "61-63"], "all": ["--all"], "text": ["--text", "text.txt"], "symbol": ["--symbol"],
+    "size": ["--size", "13"], "fit": ["--fit", "9x19"],
     "cell": ["--cell", "7x12"], "ascent": ["--ascent", "11"], "clip": ["--clip"], "join": ["--join"], "shift_y": ["--shift-y", "2"],
-    "unhinted": ["--unhinted"], "dropout": ["--dropout=off"], "face": ["--face", "1"], "axes": ["--axes", "wght=700"], "refused": ["--refused", "unhinted"],
-    "out": ["--out", "folder"], "format": ["--format", "pbm"], "order": ["--order", "koi8-r"], "preview": ["--preview", "B2"], "name": ["--name", "other"],
-    "x11": ["--x11"], "property": ["--property", "FAMILY_NAME=Other"], "scale": ["--scale", "3"], "columns": ["--columns", "5"], "output": ["-o", "other"],
+    "unhinted": ["--unhinted"], "dropout": ["--dropout=off"], "face": ["--face", "1"], "axes": ["--axes", "wght=700"],
+    "refused": ["--refused", "unhinted"],
+    "out": ["--out", "folder"], "format": ["--format", "pbm"], "order": ["--order", "koi8-r"], "preview": ["--preview", "B2"],
+    "name": ["--name", "other"],
+    "x11": ["--x11"], "property": ["--property", "FAMILY_NAME=Other"], "scale": ["--scale", "3"], "columns": ["--columns", "5"],
+    "output": ["-o", "other"],
     "bytes": ["--bytes", "columns"], "bits": ["--bits", "lsb"], "align": ["--align", "right"], "attribute": ["--attribute", "PROGMEM"],
-    "dense": ["--dense"], "padding": ["--padding", "2"], "glyph": ["--glyph", "B=41"], "height": ["--height", "15"], "cap_height": ["--cap-height", "9"],
-    "sheet": ["--sheet", "8-9"], "list": ["--list"], "json": ["--json"], "diff": ["--diff", "in.bdf"],
+    "dense": ["--dense"], "padding": ["--padding", "2"], "glyph": ["--glyph", "B=41"], "height": ["--height", "15"],
+    "cap_height": ["--cap-height", "9"], "sheet": ["--sheet", "8-9"], "list": ["--list"], "json": ["--json"], "diff": ["--diff", "in.bdf"],
     "require": ["--require"], "strict": ["--strict"], "quiet": ["--quiet"], "font": ["--font", "in.bdf"],
 }
 # Options that are in effect already, for these outputs: these formats always have the properties, and a sheet shows no cells.
@@ -91,20 +95,27 @@ def test_what_a_bdf_cannot_have(folder, option):
     """Options for fonts are errors with a BDF, before anything is made; in one strike with a font they are for the font."""
     words = WORDS[option.dest]
     status, _, err, files = made(folder, [*words, "in.bdf"])
-    assert (status, files) == (2, {}) and "says how a font is drawn, and in.bdf is a strike that is drawn already: leave it out" in err
+    assert (status, files) == (2,
+                               {}) and "says how a font is drawn, and in.bdf is a strike that is drawn already: leave it out" in err
     if option.is_of_font:
         status, _, err, files = made(folder, ["--chars", "41", "--font", "in.ttf", "--font", "in.bdf", *words, "-o", "a.bdf"])
         assert (status, files) == (2, {}) and "in.bdf is a strike" in err
 
 
 @pytest.mark.parametrize("words, said", [
-    (["--columns", "3"], "--columns is for --format png,pbm, not for bdf"), (["--scale", "2"], "--scale is for --format png,pbm and --preview with -o, not for bdf; twice"),
-    (["--order", "cp437"], "--order is for --format raw, not for bdf"), (["--x11", "--format", "c"], "--x11 is for --format bdf,pcf,otb,psf, not for c"),
-    (["--property", "A=1", "--format", "png"], "--property is for --format bdf,pcf,otb, not for png"), (["--clip"], "--clip is for --cell and --fit"),
-    (["--preview", "A", "--chars", "41"], "--chars is for files, not for --preview on the terminal"), (["--preview", "A", "--name", "x"], "--name is for files"),
-    (["--preview", "A", "--out", "x"], "--out is for files"), (["--preview", "A", "--format", "png"], "--format is for files and --preview with -o"),
+    (["--columns", "3"], "--columns is for --format png,pbm, not for bdf"),
+    (["--scale", "2"], "--scale is for --format png,pbm and --preview with -o, not for bdf; twice"),
+    (["--order", "cp437"], "--order is for --format raw, not for bdf"),
+    (["--x11", "--format", "c"], "--x11 is for --format bdf,pcf,otb,psf, not for c"),
+    (["--property", "A=1", "--format", "png"], "--property is for --format bdf,pcf,otb, not for png"),
+    (["--clip"], "--clip is for --cell and --fit"),
+    (["--preview", "A", "--chars", "41"], "--chars is for files, not for --preview on the terminal"),
+    (["--preview", "A", "--name", "x"], "--name is for files"),
+    (["--preview", "A", "--out", "x"], "--out is for files"),
+    (["--preview", "A", "--format", "png"], "--format is for files and --preview with -o"),
     (["--size", "12", "--size", "14"], "--size is given twice"), (["--cell", "8x16", "--cell", "9x16"], "--cell is given twice"),
-    (["--axes", "wght=400,wght=700"], "--axes gives wght twice"), (["--property", "A=1", "--property", "A=2"], "--property gives A twice")])
+    (["--axes", "wght=400,wght=700"], "--axes gives wght twice"),
+    (["--property", "A=1", "--property", "A=2"], "--property gives A twice")])
 def test_what_is_said(folder, words, said):
     """The errors name what the option is for."""
     status, _, err, files = made(folder, ["in.ttf", *words])
@@ -113,7 +124,11 @@ def test_what_is_said(folder, words, said):
 
 def test_chosen_of_a_bdf(folder):
     """--chars, --text, --name and --property choose from a BDF, and rename it."""
-    status, _, err, files = made(folder, ["in.bdf", "--chars", "41-43,4e01", "--text", "text.txt", "--name", "some", "--property", "FOUNDRY=me", "-o", "a.bdf"])
+    status, _, err, files = made(folder,
+                                 ["in.bdf", "--chars", "41-43,4e01", "--text", "text.txt", "--name", "some", "--property",
+                                  "FOUNDRY=me", "-o", "a.bdf"])
     strike = mkstrike.Strike(files["a.bdf"])
-    assert status == 0 and list(strike) == ["A", "B", "C", "x", "y", "z"] and (strike.name, strike.properties["FOUNDRY"]) == ("some", "me") and "1 missing: U+4E01" in err
+    assert status == 0 and list(strike) == ["A", "B", "C", "x", "y", "z"] and (strike.name,
+                                                                               strike.properties["FOUNDRY"]) == ("some",
+                                                                                                                 "me") and "1 missing: U+4E01" in err
     assert strike["B"] == mkstrike.Font(MONO).glyph(16, "B")

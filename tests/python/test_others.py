@@ -1,4 +1,5 @@
-"""Pictures, arrays in C, formats of other programs, and the example of the package. The examples of docs/PYTHON.md are tried by tests/house."""
+"""Pictures, arrays in C, formats of other programs, and the example of the package. The examples of docs/PYTHON.md are tried by
+tests/house."""
 import io
 import os
 import shutil
@@ -95,7 +96,8 @@ struct lv_font {
 _Bool lv_font_get_glyph_dsc_fmt_txt(const lv_font_t *, lv_font_glyph_dsc_t *, uint32_t, uint32_t);
 const void *lv_font_get_bitmap_fmt_txt(lv_font_glyph_dsc_t *, lv_draw_buf_t *);
 """
-# As lv_font_get_glyph_dsc_fmt_txt finds a glyph, which ends at the first map whose range has the character, and as its bits are read.
+# As lv_font_get_glyph_dsc_fmt_txt finds a glyph, which ends at the first map whose range has the character, and as its bits are
+# read.
 DRAW_LVGL = """\
 #define COUNT 0x20000u
 _Bool lv_font_get_glyph_dsc_fmt_txt(const lv_font_t *f, lv_font_glyph_dsc_t *g, uint32_t one, uint32_t next) { return f && g && one && next; }
@@ -134,7 +136,8 @@ def drawn(folder, header, draw, strike, before=""):
     from PIL import Image
     (folder / "small.h").write_text(header)
     (folder / "draw.c").write_text(before + '#include "small.h"\n' + DRAW % draw)
-    subprocess.run(["gcc", "-std=c99", "-Wall", "-Wextra", "-Werror", "-Wno-cast-qual", "draw.c", "-o", "draw"], cwd=folder, check=True)
+    subprocess.run(["gcc", "-std=c99", "-Wall", "-Wextra", "-Werror", "-Wno-cast-qual", "draw.c", "-o", "draw"], cwd=folder,
+                   check=True)
     words = [str(it) for it in (min(32, len(strike)), *strike.box)]
     out = subprocess.run(["./draw", *words], cwd=folder, check=True, capture_output=True).stdout
     return Image.open(io.BytesIO(out)).convert("1")
@@ -143,7 +146,8 @@ def drawn(folder, header, draw, strike, before=""):
 @CC
 @needs_pillow
 @needs_font(SANS, MONO)
-@pytest.mark.parametrize("path, size, chars, cell", [(SANS, 16, "20-7e,a1-ff", None), (MONO, 14, "ascii,box", (8, 16)), (SANS, 40, "ascii", None)])
+@pytest.mark.parametrize("path, size, chars, cell",
+                         [(SANS, 16, "20-7e,a1-ff", None), (MONO, 14, "ascii,box", (8, 16)), (SANS, 40, "ascii", None)])
 def test_arrays_in_c(tmp_path, path, size, chars, cell):
     """Compiled by gcc and drawn, both forms are the sheet."""
     strike = mkstrike.Font(path).strike(size, chars, dropout=True)
@@ -164,16 +168,20 @@ def test_arrays_in_c(tmp_path, path, size, chars, cell):
 @CC
 @needs_pillow
 @needs_font(SANS, MONO)
-@pytest.mark.parametrize("path, size, chars", [(SANS, 16, "20-7e,a1-ff,20ac,2190-2195,1f600"), (MONO, 12, "0-9,20,41,43,45,47,4e00,2500-257f"), (SANS, 9, "all")])
+@pytest.mark.parametrize("path, size, chars",
+                         [(SANS, 16, "20-7e,a1-ff,20ac,2190-2195,1f600"), (MONO, 12, "0-9,20,41,43,45,47,4e00,2500-257f"),
+                          (SANS, 9, "all")])
 def test_lvgl(tmp_path, path, size, chars):
     """Compiled against LVGL's types and drawn by its rules, the font is the sheet."""
     strike = mkstrike.Font(path).strike(size, chars, hinted=chars != "all")
     strike.save(tmp_path / "font.c", "lvgl", name="small")
     text = (tmp_path / "font.c").read_text()
     (tmp_path / "lvgl.h").write_text(LVGL)
-    assert drawn(tmp_path, text, DRAW_LVGL.replace("%", "%%") % (), strike, "#define LV_LVGL_H_INCLUDE_SIMPLE\n").tobytes() == strike.sheet().tobytes()
+    assert drawn(tmp_path, text, DRAW_LVGL.replace("%", "%%") % (), strike,
+                 "#define LV_LVGL_H_INCLUDE_SIMPLE\n").tobytes() == strike.sheet().tobytes()
     glyph = strike.get("A") or strike["─"]
-    assert "/* 1 " not in text and "{.bitmap_index = " in text and ".line_height = %d, .base_line = %d," % (strike.height, strike.descent) in text
+    assert "/* 1 " not in text and "{.bitmap_index = " in text and ".line_height = %d, .base_line = %d," % (strike.height,
+                                                                                                            strike.descent) in text
     assert ".adv_w = %d, .box_w = %d, .box_h = %d, .ofs_x = %d, .ofs_y = %d}, /* U+" % (
         16 * glyph.advance, glyph.width, glyph.height, glyph.left, glyph.bottom) in text
     assert ("FORMAT0_TINY" in text, "SPARSE_TINY" in text) == (True, True)
@@ -190,17 +198,21 @@ def test_raw_cells(tmp_path, path, size, cell):
         warnings.simplefilter("always")
         strike.save(tmp_path / "vga.raw", order="cp437")
     data = (tmp_path / "vga.raw").read_bytes()
-    assert len(data) == 256 * size_of and [str(it.message)[:36] for it in warned] == ["blank, since the strike lacks them: "] * bool(strike.missing)
+    assert len(data) == 256 * size_of and [str(it.message)[:36]
+                                           for it in warned] == ["blank, since the strike lacks them: "] * bool(strike.missing)
     due = {0x41: "A", 0x67: "g", 0x01: "☺", 0x7F: "⌂", 0x80: "Ç", 0xC4: "─", 0xDB: "█", 0xE0: "α", 0xFE: "■"}
     for place, char in due.items():
-        rows = [int.from_bytes(data[at:at + size_of // height], "big") for at in range(place * size_of, (place + 1) * size_of, size_of // height)]
+        rows = [int.from_bytes(data[at:at + size_of // height], "big")
+                for at in range(place * size_of, (place + 1) * size_of, size_of // height)]
         shown = ["".join(".#"[it >> (8 * ((width + 7) // 8) - 1 - k) & 1] for k in range(width)) for it in rows]
-        assert shown == (bits_of(strike[char], width, strike.ascent, strike.descent) if char in strike else ["." * width] * height), char
+        assert shown == (bits_of(strike[char], width, strike.ascent, strike.descent) if char in strike
+                         else ["." * width] * height), char
         status, said, _ = program(["show", "--ppem", str(size), "--char", "%x" % ord(char), "--dropout=font"], font_bytes(path))
         picture = said.decode().split("\n")[:-1]
         if char in strike and char not in mkstrike.Font(path).strike(size, "cp437").cell(*cell).outside:
             assert status == 0 and [it for it in shown if "#" in it] == [
-                it for it in ("." * strike[char].left + row + "." * (width - strike[char].left - len(row)) for row in picture) if "#" in it], char
+                it for it in ("." * strike[char].left + row + "." * (width - strike[char].left - len(row)) for row in picture)
+                if "#" in it], char
     assert not any(data[:size_of]) and not any(data[0xFF * size_of:])  # no character, and a space
 
 
@@ -210,11 +222,14 @@ def test_limits_of_raw_cells():
     font = mkstrike.Font(MONO)
     cells = font.strike(12, "ascii").cell(8, 16)
     assert cells.encode("raw") == b"".join(
-        bytes(int(row.replace(".", "0").replace("#", "1"), 2) for row in bits_of(it, 8, cells.ascent, cells.descent)) for it in cells.values())
+        bytes(int(row.replace(".", "0").replace("#", "1"), 2) for row in bits_of(it, 8, cells.ascent, cells.descent))
+        for it in cells.values())
     with pytest.warns(UserWarning, match="^blank, since the strike lacks them: U\\+00A0, .*"):
         assert len(cells.encode("raw", order="koi8-r")) == 4096
-    for strike, options, match in ((mkstrike.Font(SANS).strike(12, "ascii"), {}, "one advance"), (font.strike(16, "ascii").cell(8, 16), {}, "glyphs leave the cell"),
-                                   (cells, {"order": "utf-8"}, "^order: 'utf-8' is no character set of one byte"), (cells, {"order": "klingon"}, "^order: ")):
+    for strike, options, match in ((mkstrike.Font(SANS).strike(12, "ascii"), {}, "one advance"),
+                                   (font.strike(16, "ascii").cell(8, 16), {}, "glyphs leave the cell"),
+                                   (cells, {"order": "utf-8"}, "^order: 'utf-8' is no character set of one byte"),
+                                   (cells, {"order": "klingon"}, "^order: ")):
         with pytest.raises(ValueError, match=match):
             strike.encode("raw", **options)
 
@@ -223,12 +238,15 @@ def test_limits_of_raw_cells():
 def test_limits_of_lvgl():
     """What does not fit the fields of LVGL's structs is said."""
     font = mkstrike.Font(SANS)
-    for size, chars, match in ((300, "57", "U\\+0057 does not fit a font for LVGL: its advance in 1/16 pixels, 4"), (600, "7c", "its height, ")):
+    for size, chars, match in ((300, "57", "U\\+0057 does not fit a font for LVGL: its advance in 1/16 pixels, 4"),
+                               (600, "7c", "its height, ")):
         with pytest.raises(ValueError, match=match):
             font.strike(size, chars, hinted=False).encode("lvgl")
     with pytest.raises(ValueError, match="has no glyph"):
         font.strike(16, "41").subset("").encode("lvgl")
-    scattered = font.strike(4, "20", hinted=False).replace({code: mkstrike.Glyph.drawn("#") for at in range(0x100, 0x4000, 9) for code in range(at, at + 8)})
+    scattered = font.strike(4, "20",
+                            hinted=False).replace({code: mkstrike.Glyph.drawn("#") for at in range(0x100, 0x4000, 9)
+                                                   for code in range(at, at + 8)})
     with pytest.raises(ValueError, match="^a font for LVGL has at most 511 maps of characters and 65534 glyphs, not 1793 and "):
         scattered.encode("lvgl")
 
@@ -237,7 +255,8 @@ def test_limits_of_lvgl():
 def test_limits_of_arrays(tmp_path):
     """What does not fit the fields of a GFXfont is said."""
     font = mkstrike.Font(SANS)
-    for size, chars, match in ((200, "20-7e", "U\\+0021 does not fit .* its top, -145"), (150, "20-7e", "does not fit .* the bytes before it"), (255, "57", "lines of at most 255 rows"),
+    for size, chars, match in ((200, "20-7e", "U\\+0021 does not fit .* its top, -145"),
+                               (150, "20-7e", "does not fit .* the bytes before it"), (255, "57", "lines of at most 255 rows"),
                                (16, "1f600", "up to U\\+FFFF")):
         with pytest.raises(ValueError, match=match):
             font.strike(size, chars, hinted=False).encode("gfx")
@@ -260,7 +279,8 @@ def test_pictures(tmp_path):
     strike.save(tmp_path / "a.bdf")
     for made, words in ((strike.sheet(scale=2), ["--scale", "2"]), (strike.sheet(columns=20), ["--columns", "20", "--scale", "1"]),
                         (strike.line("Jäger, fjord", scale=3), ["--text", "Jäger, fjord"])):
-        due = subprocess.run([os.path.join(TOP, "tools/picture"), *words, tmp_path / "a.bdf"], check=True, capture_output=True).stdout
+        due = subprocess.run([os.path.join(TOP, "tools/picture"), *words, tmp_path / "a.bdf"], check=True,
+                             capture_output=True).stdout
         assert made.convert("L").tobytes() == Image.open(io.BytesIO(due)).convert("L").tobytes()
     strike.save(tmp_path / "a.png", scale=2)
     strike.save(tmp_path / "a.pbm")
@@ -347,7 +367,8 @@ def test_what_is_not_installed(monkeypatch):
         mkstrike.Font(b"wOF2" + bytes(100))
 
 
-HOSTILE = ["*/", "*\\\r/", "*??/\r/", "*??/\n/", "*\\\n/", "**//", "/*", "//", "\\", "??/", "*?\\?/", "*\x0b/", "*\u2028/", "*\u202e/", "*\udc85/", "*\0/", "\n#include", '"', "é*/"]
+HOSTILE = ["*/", "*\\\r/", "*??/\r/", "*??/\n/", "*\\\n/", "**//", "/*", "//", "\\", "??/", "*?\\?/", "*\x0b/", "*\u2028/",
+           "*\u202e/", "*\udc85/", "*\0/", "\n#include", '"', "é*/"]
 
 
 @CC
@@ -364,13 +385,16 @@ def test_comments_in_c(tmp_path, standard):
         name = "".join(choose.choice(HOSTILE) for _ in range(choose.choice((1, 2, 5)))) + " INJECTED int injected%d; /*" % k
         name = name if k else "nice*\\\r/ INJECTED\r__attribute__((constructor)) static void p(void) {} /*"
         strike.parsed().name = few.parsed().name = name
-        for form, made in (("c", carray.rows(strike, "c%d" % k)), ("gfx", carray.gfx(few, "gfx%d" % k)), ("lvgl", carray.lvgl(few, "lvgl%d" % k))):
+        for form, made in (("c", carray.rows(strike, "c%d" % k)), ("gfx", carray.gfx(few, "gfx%d" % k)),
+                           ("lvgl", carray.lvgl(few, "lvgl%d" % k))):
             comments = [it.split("*/")[0] for it in made.split("/*")[1:]]
-            assert all(" " <= char <= "~" or char == "\n" for it in comments for char in it) and not set("\\?") & set("".join(comments))
+            assert all(" " <= char <= "~" or char == "\n" for it in comments
+                       for char in it) and not set("\\?") & set("".join(comments))
             (tmp_path / ("%s%d.h" % (form, k))).write_bytes(made.encode("utf-8", "surrogateescape"))
             lines.append('#include "%s%d.h"' % (form, k))
     (tmp_path / "all.c").write_text("\n".join(lines) + "\nint main(void) { return 0; }\n")
-    words = ["gcc", "-std=" + standard, "-trigraphs", "-Wall", "-Wextra", "-Wcomment", "-Wtrigraphs", "-Werror", "-Wno-unused", "-Wno-cast-qual", "all.c"]
+    words = ["gcc", "-std=" + standard, "-trigraphs", "-Wall", "-Wextra", "-Wcomment", "-Wtrigraphs", "-Werror", "-Wno-unused",
+             "-Wno-cast-qual", "all.c"]
     subprocess.run([*words, "-fsyntax-only"], cwd=tmp_path, check=True)
     assert b"INJECTED" not in subprocess.run([*words, "-E"], cwd=tmp_path, check=True, capture_output=True).stdout
 
@@ -385,7 +409,9 @@ def converter(folder, monkeypatch, name, script):
 
 
 @needs_font(SANS)
-@pytest.mark.parametrize("script, said", [("echo half > out; echo it broke >&2; exit 1", "it broke"), ("echo half > out; exit 1", "status 1"), ("exit 0", "No such file")])
+@pytest.mark.parametrize("script, said",
+                         [("echo half > out; echo it broke >&2; exit 1", "it broke"), ("echo half > out; exit 1", "status 1"),
+                          ("exit 0", "No such file")])
 def test_converters_that_fail(tmp_path, monkeypatch, script, said):
     """What a program leaves that fails, or makes nothing, is not written."""
     converter(tmp_path, monkeypatch, "bdftopcf", script)

@@ -28,7 +28,8 @@ def test_each_refusal():
         font, line = mkstrike.Font(run.data), run.due.err.decode().strip()
         try:
             strike = font.strike(size, chars, hinted=hinted, dropout=dropout, refused="refuse")
-            said = "mkstrike: glyphs %d missing %d strays %d steps %d" % (len(strike), len(strike.missing), strike.strays, strike.steps)
+            said = "mkstrike: glyphs %d missing %d strays %d steps %d" % (len(strike), len(strike.missing), strike.strays,
+                                                                          strike.steps)
         except mkstrike.Refused as why:
             said = "mkstrike: " + why.line
             seen.add(why.number)
@@ -77,7 +78,8 @@ def test_bad_requests():
     for name in ("", " a", "a ", "ä", "a\n", "x" * 256):
         with pytest.raises(mkstrike.Refused, match="^62 BadName\n"):
             font.strike(16, "41", name=name)
-    for properties in ({"lower": 1}, {"1A": 1}, {"": 1}, {"A" * 65: 1}, {"COMMENT": "a"}, {"FONT_ASCENT": 1}, {"A": "ä"}, {"A": "\n"},
+    for properties in ({"lower": 1}, {"1A": 1}, {"": 1}, {"A" * 65: 1}, {"COMMENT": "a"}, {"FONT_ASCENT": 1}, {"A": "ä"},
+                       {"A": "\n"},
                        {"A": "x" * 32001}):
         with pytest.raises(mkstrike.Refused, match="^63 BadProperty 2\n"):
             font.strike(16, "41", properties={"FIRST": 1, **properties})
@@ -113,7 +115,8 @@ def test_only_refused_characters():
     with pytest.raises(mkstrike.Refused, match="^30 StackUnder during prep in prep at 0 opcode 21\n") as found:
         mkstrike.Font(halting).strike(16, "41")
     assert found.value.fields == {"during": "prep", "program": "prep", "address": 0, "opcode": 0x21}
-    damaged = next(run.data for case in made.test_refusals.functions for run in case() if run.due.err.startswith(b"mkstrike: 18 GlyphShort"))
+    damaged = next(run.data for case in made.test_refusals.functions for run in case()
+                   if run.due.err.startswith(b"mkstrike: 18 GlyphShort"))
     strike = mkstrike.Font(damaged).strike(16, "41")
     assert len(strike) == 0 and [it.number for it in strike.refused.values()] == [18] and strike.missing == ()
 
@@ -142,7 +145,10 @@ def test_damaged_fonts():
 
 def test_advice():
     """What to do is what the C library says; tests/c compares that with docs/REFUSALS.md."""
-    assert mkstrike.Refused(23, "x").advice == "leave out the characters that use this glyph" and str(mkstrike.Refused(60, "x")).startswith("60 x\ngive ")
+    assert mkstrike.Refused(23,
+                            "x").advice == "leave out the characters that use this glyph" and str(mkstrike.Refused(60,
+                                                                                                                   "x")).startswith(
+                                                                                                                       "60 x\ngive ")
     assert mkstrike.Refused(99, "x").advice == "" and str(mkstrike.Refused(99, "x")) == "99 x"
 
 
@@ -159,7 +165,9 @@ def test_what_str_says():
     assert str(same) == "10 NotTrueType\nthe file looks like a PDF: give a TrueType font"
 
 
-@pytest.mark.parametrize("start, said", [(b"", "the file is empty: give a TrueType font"), (b"%PDF-1.4", "the file looks like a PDF: give a TrueType font")])
+@pytest.mark.parametrize("start, said",
+                         [(b"", "the file is empty: give a TrueType font"),
+                          (b"%PDF-1.4", "the file looks like a PDF: give a TrueType font")])
 def test_files_of_another_kind(start, said):
     """Each call says what a file is that is no TrueType font."""
     font = mkstrike.Font(start)

@@ -93,8 +93,11 @@ def test_modes(tmp_path, monkeypatch):
     assert path.read_bytes() == b"old" and os.listdir(tmp_path) == ["a.bdf"]
 
 
-@pytest.mark.parametrize("words", [["old-16.bdf", "--cell", "8x16", "--clip"], ["--font", "./old-16.bdf", "--font", MONO, "--chars", "41"], ["linked.bdf", "--out", "out"],
-                                   [SANS, "--name", "old", "--chars", "old-16.bdf"], [SANS, "--name", "old", "--chars", "A,./old-16.bdf"]])
+@pytest.mark.parametrize("words",
+                         [["old-16.bdf", "--cell", "8x16", "--clip"], ["--font", "./old-16.bdf", "--font", MONO, "--chars", "41"],
+                          ["linked.bdf", "--out", "out"],
+                                   [SANS, "--name", "old", "--chars", "old-16.bdf"],
+                                   [SANS, "--name", "old", "--chars", "A,./old-16.bdf"]])
 def test_inputs_stay(tmp_path, words):
     """No output replaces what is read."""
     strike = mkstrike.Font(MONO).strike(16, "ascii,box")

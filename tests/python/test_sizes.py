@@ -38,7 +38,8 @@ def test_mapping():
         at["Ɯ"]
     every = at.glyphs("all")
     assert set(at) - set(every) == {"Ɯ", "ɐ"} and every["☃"] == at["☃"]
-    assert (at.size, at.ascent, at.descent, at.line_gap, at.height, repr(at)) == (16, 15, 4, 0, 19, "<Striker 'DejaVuSans', 16 pixels>")
+    assert (at.size, at.ascent, at.descent, at.line_gap, at.height, repr(at)) == (16, 15, 4, 0, 19,
+                                                                                  "<Striker 'DejaVuSans', 16 pixels>")
     assert pickle.loads(pickle.dumps(at))["g"] == at["g"]
     for number in (-1, 65536):
         with pytest.raises(ValueError, match="^number is"):
@@ -93,7 +94,8 @@ def test_texts():
             it.line("一", missing="丁")
     picture = at.line("Hj\nA")
     assert picture.size == (20 + 8, 36 + gap + 8)
-    due = {(4 + place + glyph.left + x, 4 + base - glyph.top + y) for place, base, char in ((0, 13, "H"), (10, 13, "j"), (0, 13 + 18 + gap, "A"))
+    due = {(4 + place + glyph.left + x, 4 + base - glyph.top + y) for place, base,
+           char in ((0, 13, "H"), (10, 13, "j"), (0, 13 + 18 + gap, "A"))
            for glyph in [strike[char]] for y, row in enumerate(glyph) for x, it in enumerate(row) if it}
     assert {(x, y) for x in range(picture.width) for y in range(picture.height) if not picture.getpixel((x, y))} == due
 
@@ -112,14 +114,17 @@ def test_half_blocks():
     assert sum(it.count("█") * 2 + it.count("▀") + it.count("▄") for it in picture) == sum(str(low[it]).count("#") for it in "Äg")
 
 
-@pytest.mark.parametrize("path, chars, cell, ascent", [(MONO, "latin-1", (8, 16), None), (LIBERATION, "latin-1", (8, 16), None), (SANS, "ascii", (9, 14), None),
-                                                       (MONO, "ascii,box", (6, 12), 9), (SANS, "2e", (8, 6), None), (MONO, "20ac", (30, 3), 3),
+@pytest.mark.parametrize("path, chars, cell, ascent",
+                         [(MONO, "latin-1", (8, 16), None), (LIBERATION, "latin-1", (8, 16), None), (SANS, "ascii", (9, 14), None),
+                                                       (MONO, "ascii,box", (6, 12), 9), (SANS, "2e", (8, 6), None),
+                                                       (MONO, "20ac", (30, 3), 3),
                                                        (SANS, "57", (5, 40), None)])
 @pytest.mark.parametrize("hinted, dropout", [(True, False), (False, "left")])
 def test_fit(path, chars, cell, ascent, hinted, dropout):
     """The size is the largest of all from 1 to 60 at which no glyph leaves the cell."""
     font = mkstrike.Font(path)
-    fitting = [size for size in range(1, 61) if not font.strike(size, chars, hinted=hinted, dropout=dropout).cell(*cell, ascent=ascent).outside]
+    fitting = [size for size in range(1, 61)
+               if not font.strike(size, chars, hinted=hinted, dropout=dropout).cell(*cell, ascent=ascent).outside]
     assert font.fit(*cell, chars, hinted=hinted, dropout=dropout, ascent=ascent) == max(fitting)
 
 
@@ -129,7 +134,8 @@ def test_fit_of_nothing():
     for chars, match in (("20", "none of the characters has a pixel"), ("4e00", "none of the characters")):
         with pytest.raises(ValueError, match=match):
             font.fit(8, 16, chars)
-    with pytest.raises(ValueError, match=r"^at no size do all characters fit a cell of 1 x 1 pixels; at \d+ the fewest leave it, U"):
+    with pytest.raises(ValueError,
+                       match=r"^at no size do all characters fit a cell of 1 x 1 pixels; at \d+ the fewest leave it, U"):
         font.fit(1, 1, "ascii", ascent=-5)
     for width, height in ((0, 16), (8, 1025)):
         with pytest.raises(ValueError, match="^a cell has 1 to 1024 columns and rows"):
@@ -141,17 +147,20 @@ def test_editing():
     """Fewer glyphs, other glyphs, and more."""
     strike = mkstrike.Font(SANS).strike(16, "20-7e,19c,4e00", x11=True)
     few = strike.subset("41-5a,e9,4e00", text="g")
-    assert "".join(few) == "ABCDEFGHIJKLMNOPQRSTUVWXYZg" and few["g"] == strike["g"] and few.missing == ("é", "一") and not few.refused
+    assert "".join(few) == "ABCDEFGHIJKLMNOPQRSTUVWXYZg" and few["g"] == strike["g"] and few.missing == ("é",
+                                                                                                         "一") and not few.refused
     assert list(strike.subset("all")) == list(strike) and set(strike.subset("41,19c").refused) == {"Ɯ"}
     assert few.box == (max(it.left + it.width for it in few.values()) - min(it.left for it in few.values()),
                        max(it.top for it in few.values()) - min(it.bottom for it in few.values()),
                        min(it.left for it in few.values()), min(it.bottom for it in few.values()))
-    assert few.properties["AVERAGE_WIDTH"] == round(10 * sum(it.advance for it in few.values()) / 27) and "DEFAULT_CHAR" in strike.properties
+    assert few.properties["AVERAGE_WIDTH"] == round(10 * sum(it.advance
+                                                             for it in few.values()) / 27) and "DEFAULT_CHAR" in strike.properties
     text, number = mkstrike.Font(SANS).strike(16, "67").text, str(strike["g"])
     again = mkstrike.Glyph.drawn(number, left=strike["g"].left, bottom=strike["g"].bottom, advance=10)
     assert mkstrike.Font(SANS).strike(16, "67").replace({"g": again}).text.replace(b"SWIDTH 625 0", b"SWIDTH 635 0") == text
     more = strike.replace({"一": mkstrike.Glyph.drawn("..\n.#", left=3, bottom=-2, advance=7), "Ɯ": strike["W"]})
-    assert (more["一"].width, more["一"].height, more["一"].left, more["一"].bottom, more["一"].advance, more["一"].swidth) == (1, 1, 4, -2, 7, 438)
+    assert (more["一"].width, more["一"].height, more["一"].left, more["一"].bottom, more["一"].advance, more["一"].swidth) == (1, 1, 4,
+                                                                                                                          -2, 7, 438)
     assert more.missing == () and not more.refused and more["Ɯ"].rows == strike["W"].rows and len(more) == 97
     assert b"STARTCHAR uni4E00\nENCODING 19968\nSWIDTH 438 0\nDWIDTH 7 0\nBBX 1 1 4 -2\nBITMAP\n80\nENDCHAR\n" in more.text
     assert mkstrike.Strike(more.text).text == more.text and more.parsed().encoded() == more.text

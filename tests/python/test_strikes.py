@@ -12,7 +12,8 @@ import mkstrike
 
 MODES = [(hinted, dropout) for hinted in (True, False) for dropout in (None, "left", "near", "font")]
 SOME = "20-7e,a0-ff,2500-251f"
-FONTS = [it for family, count in (("dejavu", 6), ("freefont", 4), ("liberation", 10)) for it in sorted(glob.glob(FOLDER + family + "/*.ttf"))[:count]]
+FONTS = [it for family, count in (("dejavu", 6), ("freefont", 4), ("liberation", 10))
+         for it in sorted(glob.glob(FOLDER + family + "/*.ttf"))[:count]]
 
 
 def test_installed_package():
@@ -21,7 +22,9 @@ def test_installed_package():
     assert mkstrike.__version__ == VERSION
 
 
-@pytest.mark.skipif(len(FONTS) < 20, reason="%d of 20 fonts are installed (Debian: fonts-dejavu-core, fonts-freefont-ttf, fonts-liberation)" % len(FONTS))
+@pytest.mark.skipif(len(FONTS) < 20,
+                    reason="%d of 20 fonts are installed (Debian: fonts-dejavu-core, fonts-freefont-ttf, fonts-liberation)" %
+                    len(FONTS))
 def test_twenty_fonts():
     """There are as many fonts as wanted."""
     assert len(FONTS) == 20
@@ -48,7 +51,8 @@ def test_strikes_are_the_programs(path):
 @pytest.mark.parametrize("name", ["strike", "-misc-dejavu-bold-i-normal--16-160-72-72-m-100-ISO10646-1", "two words", "-a-b"])
 def test_properties_are_the_programs(name):
     """--name, --x11 and --property."""
-    for path, chars in ((MONO, "20-7e,fffd"), (MONO, "41-5a"), (MONO, "4e00"), (MONO, "20-7e"), (SANS, "41-43"), (SANS, "41-44"), (SANS, "57")):
+    for path, chars in ((MONO, "20-7e,fffd"), (MONO, "41-5a"), (MONO, "4e00"), (MONO, "20-7e"), (SANS, "41-43"), (SANS, "41-44"),
+                        (SANS, "57")):
         data = font_bytes(path)
         font, words = mkstrike.Font(path), ["--ppem", "13", "--chars", chars, "--name=" + name]
         assert font.strike(13, chars, name=name).text == text_of(words, data)
@@ -74,7 +78,8 @@ def test_what_a_strike_says():
     with pytest.raises(KeyError):
         font.glyph(16, "一")
     glyph = strike["g"]
-    assert (glyph.width, glyph.height, glyph.left, glyph.bottom, glyph.top, glyph.advance, glyph.swidth) == (8, 12, 1, -3, 9, 10, 635)
+    assert (glyph.width, glyph.height, glyph.left, glyph.bottom, glyph.top, glyph.advance, glyph.swidth) == (8, 12, 1, -3, 9, 10,
+                                                                                                             635)
     assert repr(glyph) == "<Glyph 'g', 8 x 12 at 1, -3, advance 10>" and repr(strike) == "<Strike 'strike', 16 pixels, 96 glyphs>"
     assert pickle.loads(pickle.dumps(strike)) == strike and pickle.loads(pickle.dumps(glyph)) == glyph
     assert strike != font.strike(17, "ascii") and len({strike, font.strike(16, ["ascii", 0x4E00], text="é")}) == 1
@@ -130,8 +135,10 @@ def test_glyphs_stay():
 def test_strikes_without_a_glyph():
     """They are a warning that says why, and the way out."""
     font = mkstrike.Font(SANS)
-    for chars, said in (("", "no character was asked for; give chars="), ("face", "the font has none of the characters; .* for the characters of a text use text="),
-                        ("12", "none of the characters"), ("19c", "each character is refused; with hinted=False no program of the font runs; ")):
+    for chars, said in (("", "no character was asked for; give chars="),
+                        ("face", "the font has none of the characters; .* for the characters of a text use text="),
+                        ("12", "none of the characters"),
+                        ("19c", "each character is refused; with hinted=False no program of the font runs; ")):
         with pytest.warns(UserWarning, match="^the strike has no glyph: .*" + said) as warned:
             assert not len(font.strike(16, chars))
         assert warned[0].filename == __file__
@@ -209,7 +216,8 @@ def test_files(tmp_path):
 def test_large_strikes():
     """Texts and glyphs that do not fit the first buffer."""
     font = mkstrike.Font(SANS)
-    assert font.strike(1024, "20-7e", hinted=False).text == text_of(["--ppem", "1024", "--chars", "20-7e", "--unhinted"], font_bytes(SANS))
+    assert font.strike(1024, "20-7e", hinted=False).text == text_of(["--ppem", "1024", "--chars", "20-7e", "--unhinted"],
+                                                                    font_bytes(SANS))
     made = pytest.importorskip("made")
     data = made.Font([made.Empty(), made.Simple([(0, 0, 4000, 3000)])], {0x41: 1}, upem=1024).data()
     glyph, strike = mkstrike.Font(data).glyph(1024, "A", hinted=False), mkstrike.Font(data).strike(1024, "41", hinted=False)

@@ -30,7 +30,8 @@ def mypy(folder, *words):
     """What mypy says, and its status."""
     if not shutil.which("mypy"):
         pytest.skip("mypy is not installed (Debian: mypy)")
-    ran = subprocess.run(["mypy", "--strict", "--ignore-missing-imports", "--no-error-summary", "--python-version", "3.9", "--cache-dir",
+    ran = subprocess.run(["mypy", "--strict", "--ignore-missing-imports", "--no-error-summary", "--python-version", "3.9",
+                          "--cache-dir",
                           folder.parent / "mypy", *words],
                          cwd=folder, env={**os.environ, "MYPYPATH": os.path.join(TOP, "python")}, capture_output=True, text=True)
     return ran.returncode, ran.stdout + ran.stderr
@@ -48,6 +49,7 @@ def test_program(tmp_path):
     (tmp_path / "user.py").write_text(USER + "\n".join(code for code, _ in WRONG) + "\n")
     status, out = mypy(tmp_path, "user.py")
     first = USER.count("\n") + 1
-    assert status == 1 and [int(line.split(":")[1]) for line in out.splitlines() if "error" in line] == list(range(first, first + len(WRONG))), out
+    assert status == 1 and [int(line.split(":")[1]) for line in out.splitlines()
+                            if "error" in line] == list(range(first, first + len(WRONG))), out
     for line, (_, said) in zip([it for it in out.splitlines() if "error" in it], WRONG):
         assert said in line
