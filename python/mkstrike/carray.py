@@ -19,7 +19,8 @@ if TYPE_CHECKING:
 ROWS = """\
 /* {count} glyphs of {font} at {size} pixels per em, as {name}: made by mkstrike.
  *
- * Glyph k is the character {name}_chars[k]; they rise. {what} Draw the cell {name}_LEFT columns right of the pen, with {name}_ASCENT of its rows above
+ * Glyph k is the character {name}_chars[k]; they rise. {what} Draw the cell {name}_LEFT columns right of the pen, with \
+{name}_ASCENT of its rows above
  * the baseline; then move the pen by {name}_advances[k]. */
 #ifndef {guard}
 #define {guard}
@@ -51,11 +52,12 @@ static const uint8_t {name}_{by}[{name}_COUNT][{name}_{one} * {name}_{other}]{at
 """
 # What a comment says of the bytes of a cell, the number beside width and height that leads through them, and what there are how many of.
 FORMS = {
-    "rows": ("{name}_rows[k] are its rows from the top: {name}_HEIGHT rows of {name}_STRIDE\n * bytes, the leftmost pixel", "STRIDE", "HEIGHT", "STRIDE"),
-    "columns": ("{name}_columns[k] are its columns from the left: {name}_WIDTH columns of {name}_STRIDE\n * bytes, the topmost pixel", "STRIDE", "WIDTH",
-                "STRIDE"),
-    "pages": ("{name}_pages[k] are its pages of eight rows from the top: {name}_PAGES pages of\n * {name}_WIDTH bytes, the topmost pixel", "PAGES", "PAGES",
-              "WIDTH")}
+    "rows": ("{name}_rows[k] are its rows from the top: {name}_HEIGHT rows of {name}_STRIDE\n * bytes, the leftmost pixel",
+             "STRIDE", "HEIGHT", "STRIDE"),
+    "columns": ("{name}_columns[k] are its columns from the left: {name}_WIDTH columns of {name}_STRIDE\n * bytes, the topmost pixel",
+                "STRIDE", "WIDTH", "STRIDE"),
+    "pages": ("{name}_pages[k] are its pages of eight rows from the top: {name}_PAGES pages of\n * {name}_WIDTH bytes, the topmost pixel",
+              "PAGES", "PAGES", "WIDTH")}
 ATTRIBUTE = re.compile(r"[A-Za-z_]\w*(\([\w \t(),.\"$-]*\))?", re.ASCII)
 PROGMEM = """\
 #if defined(ARDUINO)
@@ -68,8 +70,8 @@ PROGMEM = """\
 #endif
 """
 GFX = """\
-/* {count} glyphs of {font} at {size} pixels per em, as {name} for Adafruit GFX: made by mkstrike. Include it after Adafruit_GFX.h, and say
- * setFont(&{name}). */
+/* {count} glyphs of {font} at {size} pixels per em, as {name} for Adafruit GFX: made by mkstrike. Include it after Adafruit_GFX.h,
+ * and say setFont(&{name}). */
 #ifndef {guard}
 #define {guard}
 

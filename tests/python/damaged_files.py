@@ -23,8 +23,8 @@ import mkstrike
 from damage import Damaged
 from mkstrike import bdf
 
-KOI8 = OTHER.replace(b"FONT -misc-fixed", b"FONT -a-b-medium-r-normal--12-120-72-72-c-60-koi8-r").replace(b"ENCODING 65",
-                                                                                                          b"ENCODING 193")
+KOI8 = OTHER.replace(b"FONT -misc-fixed",
+                     b"FONT -a-b-medium-r-normal--12-120-72-72-c-60-koi8-r").replace(b"ENCODING 65", b"ENCODING 193")
 # Put into files, as are pieces of the whole ones.
 PUT_IN = (b"9", b"-", b"\n", b"99999 ", b"BBX 65535 65535 0 0\n", b"ENDCHAR\n", b"\x1b", b"\xd9\x91")
 

@@ -111,8 +111,8 @@ def test_merging():
     assert merged.missing == ("一",) and "☃" in merged
     assert set(strikes[1].refused) == {"Ɯ", "ɐ"} and not merged.refused
     assert (merged.ascent, merged.descent) == (max(it.ascent for it in strikes), max(it.descent for it in strikes))
-    assert merged.properties["SPACING"] == "P" and merged.name == strikes[0].name and mkstrike.merge(strikes,
-                                                                                                     name="all").name == "all"
+    assert merged.properties["SPACING"] == "P" and merged.name == strikes[0].name
+    assert mkstrike.merge(strikes, name="all").name == "all"
     left, bottom = min(it.left for it in merged.values() if it.width), min(it.bottom for it in merged.values() if it.width)
     assert merged.box[2:] == (left, bottom)
     assert mkstrike.merge(strikes[:1]).text == strikes[0].text

@@ -64,10 +64,11 @@ def test_what_is_left_out(tmp_path):
     out, err = run(tmp_path, SANS, "--chars", "0-20,4e00", "--size", "8,16")
     assert err == "strike: DejaVuSans: 33 missing: U+0000-U+001F, U+4E00\n"
     out, err = run(tmp_path, SANS, "--chars", "19c", "--strict", status=1)
-    assert out == "" and err.splitlines() == [
+    assert out == ""
+    assert err.splitlines() == [
         "strike: %s at 16 pixels: 30 StackUnder during glyph 350 in glyph 350 at 73 opcode 39" % SANS,
-        "strike: with --unhinted no program of the font runs; to fix the font, push enough numbers before this instruction: each program "
-        "begins with an empty stack"]
+        "strike: with --unhinted no program of the font runs; to fix the font, push enough numbers before this instruction: each "
+        "program begins with an empty stack"]
 
 
 def test_many_refused(tmp_path):

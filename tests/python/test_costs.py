@@ -18,8 +18,8 @@ def test_threads():
 
     def made(k):
         font = fonts[k % 2]
-        return font.strike(10 + k % 7, "latin-1", dropout=k % 3 == 0).text, font.glyph(10 + k % 7, "g"), font.strike(16,
-                                                                                                                     "180-250").refused.keys()
+        return font.strike(10 + k % 7, "latin-1", dropout=k %
+                           3 == 0).text, font.glyph(10 + k % 7, "g"), font.strike(16, "180-250").refused.keys()
 
     alone = [made(k) for k in range(42)]
     with concurrent.futures.ThreadPoolExecutor(8) as pool:
@@ -69,8 +69,8 @@ def test_calls(monkeypatch):
     assert calls == ["make"] and len(read) == 1
     del calls[:]
     strike = font.strike(16, "180-250")
-    assert len(strike.refused) == 2 and calls == ["make", "reason", "prepare", "glyphs_prepared",
-                                                  *["glyph_prepared", "reason"] * 2, "make"]
+    assert len(strike.refused) == 2
+    assert calls == ["make", "reason", "prepare", "glyphs_prepared", *["glyph_prepared", "reason"] * 2, "make"]
     del calls[:]
     font.glyph(16, "g")
     font.glyph_ids(range(0x20000))

@@ -87,8 +87,8 @@ def test_faces_with_axes(tmp_path):
     collected(tmp_path / "a.ttc", *map(io.BytesIO, (built(MASTERS[1], 500), plain)), share=False)
     font = mkstrike.Font(tmp_path / "a.ttc", face=1, axes={"wght": 900})
     assert font.strike(33, "41").text == mkstrike.Font(plain, axes={"wght": 900}).strike(33, "41").text
-    assert mkstrike.Font(tmp_path / "a.ttc",
-                         face=1).axes() == {"wght": (400, 400, 900)} and mkstrike.Font(tmp_path / "a.ttc").axes() == {}
+    assert mkstrike.Font(tmp_path / "a.ttc", face=1).axes() == {"wght": (400, 400, 900)}
+    assert mkstrike.Font(tmp_path / "a.ttc").axes() == {}
     for source, axes in ((plain, {"wght": 900}), (packed(plain, "woff"), None), (packed(plain, "woff"), {"wght": 900})):
         with pytest.raises(mkstrike.Refused, match="^25 NoFace\n"):
             mkstrike.Font(source, face=1, axes=axes).strike(33, "41")
@@ -107,9 +107,8 @@ def test_reasons_of_fonttools():
         assert mkstrike.Font(data).axes() == {}
     with pytest.raises(ValueError, match="^fontTools can't read the font: .*; the file looks like a PDF: give a TrueType font$"):
         mkstrike.Font(b"%PDF-1.4", axes={"wght": 900})
-    assert reason_of(
-        AssertionError()) == "AssertionError" and reason_of(
-            KeyError("glyf")) == "KeyError: 'glyf'" and reason_of(ValueError("a\nb")) == "a b"
+    assert reason_of(AssertionError()) == "AssertionError" and reason_of(KeyError("glyf")) == "KeyError: 'glyf'"
+    assert reason_of(ValueError("a\nb")) == "a b"
 
 
 @needs_font(SANS)
@@ -130,9 +129,8 @@ def test_bounds_of_packed_fonts():
     stream = zlib.compressobj(9)
     parts = [stream.compress(bytes(1 << 20)) for _ in range(64)] + [stream.flush()]
     table = b"".join(parts)
-    bomb = struct.pack(">4s4sIHHI24x", b"wOFF", b"\0\1\0\0", 64 + len(table), 1, 0, 228) + struct.pack(">4sIIII", b"glyf", 64,
-                                                                                                       len(table), len(table) + 9,
-                                                                                                       0) + table
+    bomb = struct.pack(">4s4sIHHI24x", b"wOFF", b"\0\1\0\0", 64 + len(table), 1, 0,
+                       228) + struct.pack(">4sIIII", b"glyf", 64, len(table), len(table) + 9, 0) + table
     tracemalloc.start()
     with pytest.raises(ValueError, match="the table 'glyf' does not have the"):
         mkstrike.Font(bomb)

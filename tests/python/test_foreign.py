@@ -85,9 +85,8 @@ def test_own_names():
     """A strike that is made here has code points, whatever set its name has."""
     name = "-misc-dejavu-medium-r-normal--16-160-72-72-p-100-koi8-r"
     strike = mkstrike.Font(SANS).strike(16, "430-44f", name=name)
-    assert list(strike) == list(map(chr, range(0x430, 0x450))) and list(strike.cell(16,
-                                                                                    16)) == list(
-                                                                                        strike) == list(mkstrike.merge([strike]))
+    assert list(strike) == list(map(chr, range(0x430, 0x450)))
+    assert list(strike.cell(16, 16)) == list(strike) == list(mkstrike.merge([strike]))
 
 
 @needs_pillow
@@ -177,8 +176,8 @@ def test_names_on_terminals(tmp_path):
     shown = text([(65, *filled(8, 8))]).replace(b"glyph0", b"a\x1b]0;x\x07\x9b\xc2\x9bz")
     ran = subprocess.run([os.path.join(TOP, "bin/show-bdf")], input=shown, capture_output=True)
     first = ran.stdout.split(b"\n")[0]
-    assert ran.returncode == 0 and first.startswith(
-        rb"a\x1b]0;x\x07") and first.endswith(b"z") and first.isascii() and first.decode().isprintable()
+    assert ran.returncode == 0 and first.startswith(rb"a\x1b]0;x\x07") and first.endswith(b"z") and first.isascii()
+    assert first.decode().isprintable()
     assert ran.stdout.split(b"\n")[1:9] == [b"########"] * 8
 
 
@@ -198,8 +197,8 @@ def test_show_bdf(tmp_path):
     status, out, said = run(SANS)
     assert (status, out) == (1, "") and "no bitmap font in BDF; mkstrike show prints a glyph of a TrueType font" in said
     assert run("nosuch.bdf")[0] == 1 and "nosuch.bdf" in run("nosuch.bdf")[2]
-    assert run("--help")[:2] == (0,
-                                 "show-bdf [FILE].. prints the glyphs of bitmap fonts (BDF) as pictures; without FILE those of standard input\n")
+    assert run("--help")[:2] == (0, "show-bdf [FILE].. prints the glyphs of bitmap fonts (BDF) as pictures; without FILE those of "
+                                 "standard input\n")
 
 
 @needs_font(SANS)

@@ -39,8 +39,8 @@ def edge_of(strike, char, side, width):
 def test_names():
     """The names are read as they mean."""
     assert arms("┍") == {"down": "light", "right": "heavy"} and arms("╔") == {"down": "double", "right": "double"}
-    assert arms("╼") == {"left": "light", "right": "heavy"} and arms("┽") == {"left": "heavy", "right": "light", "up": "light",
-                                                                              "down": "light"}
+    assert arms("╼") == {"left": "light", "right": "heavy"}
+    assert arms("┽") == {"left": "heavy", "right": "light", "up": "light", "down": "light"}
     assert arms("╓") == {"down": "double", "right": "light"} and len(BOX) == 128 - 12 - 3
 
 
@@ -74,16 +74,16 @@ def test_blocks():
              "▕": (1, 16, 7, 0), "▗": (4, 8, 4, 0), "▘": (4, 8, 0, 8)}
     for char, (width, height, left, bottom) in boxes.items():
         it = made[char]
-        assert (it.width, it.height, it.left, it.bottom + made.descent) == (width, height, left,
-                                                                            bottom) and set(it.tobytes()) == {255}, char
+        assert (it.width, it.height, it.left,
+                it.bottom + made.descent) == (width, height, left, bottom) and set(it.tobytes()) == {255}, char
     assert str(
         made["▚"]) == "\n".join(
             ["####...."] * 8 + ["....####"] * 8) and str(made["▟"]) == "\n".join(["....####"] * 8 + ["########"] * 8)
     counts = {char: str(made[char]).count("#") for char in "░▒▓"}
     assert counts == {"░": 32, "▒": 64, "▓": 96} and str(made["▒"]).split("\n")[:2] == ["#.#.#.#.", ".#.#.#.#"]
     odd = font.strike(10, "2580-259f").cell(7, 13, join=True)
-    assert odd[
-        "▀"].height + odd["▄"].height == 13 and odd["▌"].width + odd["▐"].width == 7 and odd["▔"].height + odd["▇"].height == 13
+    assert odd["▀"].height + odd["▄"].height == 13 and odd["▌"].width + odd["▐"].width == 7
+    assert odd["▔"].height + odd["▇"].height == 13
 
 
 @needs_font(MONO)
@@ -119,8 +119,8 @@ def test_fitting(tmp_path):
                and max(glyph.advance for glyph in font.at(it).glyphs("latin-1,box").values()) <= 8]
     assert size == max(fitting) > font.fit(8, 16, "latin-1,box")
     with pytest.raises(ValueError,
-                       match=r"^at no size do all characters fit a cell of 5 x 8 pixels; at 7 only U\+0052 leaves it, by 1 right: make that size "
-                       r"and clip it \(--size 7 --cell 5x8 --clip\)$"):
+                       match=r"^at no size do all characters fit a cell of 5 x 8 pixels; at 7 only U\+0052 leaves it, by 1 "
+                       r"right: make that size and clip it \(--size 7 --cell 5x8 --clip\)$"):
         font.fit(5, 8, "ascii")
     assert list(font.strike(7, "ascii").cell(5, 8).outside) == ["R"]
     strike_by_command(tmp_path, MONO, "--fit", "8x16", "--clip", "--chars", "latin-1,box", "-o", "a.bdf")

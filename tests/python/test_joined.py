@@ -22,7 +22,8 @@ def test_text_and_icons(tmp_path):
     mono, sans = mkstrike.Font(MONO), mkstrike.Font(SANS)
     words = ["--font", MONO, "--chars", "ascii", "--font", SANS, "--size", "20", "--chars", "2600-2604=e000,4e00"]
     strike, out, err = by_both(tmp_path, words, [(mono, 16, "ascii"), (sans, 20, "2600-2604=e000,4e00")])
-    assert out == "out.bdf: 100 glyphs\n  DejaVuSansMono: 95\n  DejaVuSans: 5\n" and err == "strike: all: 1 missing of DejaVuSans: U+4E00\n"
+    assert out == "out.bdf: 100 glyphs\n  DejaVuSansMono: 95\n  DejaVuSans: 5\n"
+    assert err == "strike: all: 1 missing of DejaVuSans: U+4E00\n"
     text, icons = mono.strike(16, "ascii"), sans.strike(20, SYMBOLS)
     assert strike.size == 16 and set(strike) == set(text) | {chr(0xE000 + k) for k in range(5)}
     for char in text:
@@ -100,8 +101,8 @@ def test_sizes_of_each(tmp_path):
     for size, other in ((12, 8), (16, 10)):
         strike = mkstrike.Strike.open(tmp_path / ("a-%d.bdf" % size))
         fonts = {"A": (MONO, size), "B": (SANS, 20), "C": (SANS, other)}
-        assert strike.size == size and all(pixels(strike[char]) == pixels(mkstrike.Font(path).glyph(it, char)) for char,
-                                           (path, it) in fonts.items())
+        assert strike.size == size
+        assert all(pixels(strike[char]) == pixels(mkstrike.Font(path).glyph(it, char)) for char, (path, it) in fonts.items())
     status, _, err = run_in_process([*words[:-1], "8,9,10", "-o", "a-%s.bdf"], tmp_path)
     assert status == 2 and "give one, or as many" in err
 
@@ -113,8 +114,8 @@ def test_cells_of_several(tmp_path):
     assert (status, err) == (0, "")
     strike = mkstrike.Strike.open(tmp_path / "a.bdf")
     sizes = [size for size in range(4, 30)
-             if not mkstrike.merge([(mkstrike.Font(MONO), size, "ascii"), (mkstrike.Font(LIBERATION), size, "c0-ff")]).cell(10,
-                                                                                                                            18).outside]
+             if not mkstrike.merge([(mkstrike.Font(MONO), size, "ascii"),
+                                    (mkstrike.Font(LIBERATION), size, "c0-ff")]).cell(10, 18).outside]
     assert strike.size == max(sizes) and len(strike) == 95 + 64
 
 

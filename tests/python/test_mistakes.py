@@ -23,7 +23,8 @@ FILES = {
     "hello.txt": b"Hello\n", "latin.txt": b"\xe9\xff", "en.po": b'msgid "Hello"\n', "fr.po": b'msgstr "Bonjour"\n',
     "tab.txt": b"a\tb",
 }
-NO_GLYPH = "the strike has no glyph: --chars takes sets by name and hexadecimal numbers, --text FILE a text's characters; --all takes what the font has"
+NO_GLYPH = ("the strike has no glyph: --chars takes sets by name and hexadecimal numbers, --text FILE a text's characters; "
+            "--all takes what the font has")
 # After `strike FONT`, unless the first word is a font of its own: the mistake, the arguments, the status, and a part of what is
 # said.
 ROWS = [
@@ -241,8 +242,8 @@ def test_what_is_meant(strike, tmp_path, words, files):
 def test_font_by_a_pipe(strike, tmp_path):
     """A font comes by standard input, and a strike goes to standard output."""
     status, out, err = strike(["-", "--chars", "ascii", "-o", "-"], font_bytes(MONO))
-    assert (status, err) == (0, "") and out == mkstrike.Font(MONO).strike(16, "ascii",
-                                                                          name="font").text and not os.listdir(tmp_path)
+    assert (status, err) == (0, "") and out == mkstrike.Font(MONO).strike(16, "ascii", name="font").text
+    assert not os.listdir(tmp_path)
 
 
 def test_tabs(strike):
@@ -266,8 +267,8 @@ def test_redirected(tmp_path):
     words = [program, SANS, "--chars", "ascii"]
     with open(tmp_path / "mine.bdf", "wb") as out:
         ran = subprocess.run(words, stdout=out, stderr=subprocess.PIPE, cwd=tmp_path, check=True)
-    assert (tmp_path / "mine.bdf").read_bytes() == due and ran.stderr == b"standard output: 95 glyphs\n" and os.listdir(
-        tmp_path) == ["mine.bdf"]
+    assert (tmp_path / "mine.bdf").read_bytes() == due and ran.stderr == b"standard output: 95 glyphs\n"
+    assert os.listdir(tmp_path) == ["mine.bdf"]
     (tmp_path / "log").write_bytes(b"begun\n")
     for more, said in (([], b"begun\n./DejaVuSans-16.bdf: 95 glyphs\n"),
                        (["--size", "8,9"], b"begun\n./DejaVuSans-8.bdf: 95 glyphs\n./DejaVuSans-9.bdf: 95 glyphs\n")):

@@ -31,9 +31,8 @@ def test_names(path, names, name):
     assert tuple(font.names) == names and font.names.family == names[0]
     strike = font.strike(16, "41-43,61-63", x11=True)
     average = (20 * sum(it.advance for it in strike.values()) + 6) // 12
-    assert strike.name == "%s-%d-ISO10646-1" % (name,
-                                                average) and strike.properties[
-                                                    "FAMILY_NAME"] == names[0] and strike.properties["SLANT"] == names[4]
+    assert strike.name == "%s-%d-ISO10646-1" % (name, average) and strike.properties["FAMILY_NAME"] == names[0]
+    assert strike.properties["SLANT"] == names[4]
     assert strike.properties["WEIGHT_NAME"] == name.split("-")[3]
 
 
@@ -43,12 +42,10 @@ def test_names_of_strikes():
     font = mkstrike.Font(BOLD)
     assert [font.strike(size, "ascii", x11=True).name.split("-")[7:9] for size in (10, 12)] == [["10", "100"], ["12", "120"]]
     strike = font.strike(16, "ascii")
-    assert strike.name == "strike" and strike.with_properties(x11=True).cell(8,
-                                                                             16).with_properties(
-                                                                                 x11=True).name.endswith("-m-80-ISO10646-1")
-    assert font.strike(16, "ascii", name="mine", x11=True).name == "mine" == mkstrike.merge([strike],
-                                                                                            name="mine").with_properties(
-                                                                                                x11=True).name
+    assert strike.name == "strike"
+    assert strike.with_properties(x11=True).cell(8, 16).with_properties(x11=True).name.endswith("-m-80-ISO10646-1")
+    assert font.strike(16, "ascii", name="mine",
+                       x11=True).name == "mine" == mkstrike.merge([strike], name="mine").with_properties(x11=True).name
     assert mkstrike.merge([strike]).with_properties(x11=True).name == strike.with_properties(x11=True).name
 
 
@@ -93,12 +90,12 @@ def test_odd_names():
     for weight, due in ((100, "Thin"), (300, "Light"), (400, "Medium"), (500, "Medium"), (600, "DemiBold"), (700, "Bold"),
                         (900, "Black"), (0, "Thin")):
         assert mkstrike.Font(named("A", usWeightClass=weight)).strike(16, "41", x11=True).name.split("-")[3] == due
-    assert mkstrike.Font(named("A", fsSelection=32)).names.weight == 700 and mkstrike.Font(named("A",
-                                                                                                 fsSelection=1)).names.slant == "I"
+    assert mkstrike.Font(named("A", fsSelection=32)).names.weight == 700
+    assert mkstrike.Font(named("A", fsSelection=1)).names.slant == "I"
     assert mkstrike.Font(named("A Thin", large=((16, "A"), (17, "Thin")))).names[:2] == ("A", "Thin")
     assert mkstrike.Font(named("A", large=((16, " "),))).names[:2] == ("A", "Regular")
-    assert mkstrike.Font(named("A",
-                               usWidthClass=9)).names.width == 9 and mkstrike.Font(named("A\x1b[2J")).names.family == "A\\x1b[2J"
+    assert mkstrike.Font(named("A", usWidthClass=9)).names.width == 9
+    assert mkstrike.Font(named("A\x1b[2J")).names.family == "A\\x1b[2J"
 
 
 @needs_font(SANS)

@@ -73,8 +73,8 @@ def test_symbols(tmp_path):
     import fonts
     font, out = TTFont(io.BytesIO(fonts.part_of(font_bytes(MONO), range(0x41, 0x44)))), io.BytesIO()
     cmap = font["cmap"].tables[0]
-    cmap.platformID, cmap.platEncID, cmap.format, cmap.language, cmap.cmap = 3, 0, 4, 0, {0xF000 + code: name for code,
-                                                                                          name in font.getBestCmap().items()}
+    cmap.cmap = {0xF000 + code: name for code, name in font.getBestCmap().items()}
+    cmap.platformID, cmap.platEncID, cmap.format, cmap.language = 3, 0, 4, 0
     font["cmap"].tables = [cmap]
     font.save(out)
     said = told(tmp_path, out.getvalue(), "--chars", "ascii")
@@ -148,8 +148,8 @@ def test_refused_in_python():
     status, out, said = program(["make", "--ppem", "16", "--chars", "41,19c,250", "--refused", "unhinted", *flags()],
                                 font_bytes(SANS))
     strike = font.strike(16, "41,19c,250", refused="unhinted")
-    assert status == 0 and strike.text == out and not strike.refused and {char: it.number for char,
-                                                                          it in strike.unhinted.items()} == {"Ɯ": 30, "ɐ": 30}
+    assert status == 0 and strike.text == out and not strike.refused
+    assert {char: it.number for char, it in strike.unhinted.items()} == {"Ɯ": 30, "ɐ": 30}
     assert said == "mkstrike: unhinted U+019C: " + strike.unhinted["Ɯ"].line
     assert list(font.strike(16, "41,19c")) == ["A"]
     for more in ({"refused": "refuse"}, {"strict": True}):

@@ -95,8 +95,8 @@ def test_what_a_bdf_cannot_have(folder, option):
     """Options for fonts are errors with a BDF, before anything is made; in one strike with a font they are for the font."""
     words = WORDS[option.dest]
     status, _, err, files = made(folder, [*words, "in.bdf"])
-    assert (status, files) == (2,
-                               {}) and "says how a font is drawn, and in.bdf is a strike that is drawn already: leave it out" in err
+    assert (status, files) == (2, {})
+    assert "says how a font is drawn, and in.bdf is a strike that is drawn already: leave it out" in err
     if option.is_of_font:
         status, _, err, files = made(folder, ["--chars", "41", "--font", "in.ttf", "--font", "in.bdf", *words, "-o", "a.bdf"])
         assert (status, files) == (2, {}) and "in.bdf is a strike" in err
@@ -128,7 +128,6 @@ def test_chosen_of_a_bdf(folder):
                                  ["in.bdf", "--chars", "41-43,4e01", "--text", "text.txt", "--name", "some", "--property",
                                   "FOUNDRY=me", "-o", "a.bdf"])
     strike = mkstrike.Strike(files["a.bdf"])
-    assert status == 0 and list(strike) == ["A", "B", "C", "x", "y", "z"] and (strike.name,
-                                                                               strike.properties["FOUNDRY"]) == ("some",
-                                                                                                                 "me") and "1 missing: U+4E01" in err
+    assert status == 0 and list(strike) == ["A", "B", "C", "x", "y", "z"]
+    assert (strike.name, strike.properties["FOUNDRY"]) == ("some", "me") and "1 missing: U+4E01" in err
     assert strike["B"] == mkstrike.Font(MONO).glyph(16, "B")

@@ -26,7 +26,8 @@ static unsigned char bits[4096][4096];
 static void set(int x, int y) { bits[y][x] = 1; }
 %s
 int main(int argc, char **argv) {
-    int columns = atoi(argv[1]), width = atoi(argv[2]), height = atoi(argv[3]), left = atoi(argv[4]), bottom = atoi(argv[5]), count = 0;
+    int columns = atoi(argv[1]), width = atoi(argv[2]), height = atoi(argv[3]), left = atoi(argv[4]), bottom = atoi(argv[5]);
+    int count = 0;
     (void)argc;
     for (unsigned k = 0; k < COUNT; k++)
         if (has(k)) {
@@ -76,13 +77,17 @@ LVGL = """\
 #include <stdint.h>
 #define LV_ATTRIBUTE_LARGE_CONST
 #define LV_FONT_DECLARE(font) extern const lv_font_t font;
-typedef struct { uint32_t bitmap_index : 20; uint32_t adv_w : 12; uint8_t box_w; uint8_t box_h; int8_t ofs_x; int8_t ofs_y; } lv_font_fmt_txt_glyph_dsc_t;
-typedef enum { LV_FONT_FMT_TXT_CMAP_FORMAT0_FULL, LV_FONT_FMT_TXT_CMAP_SPARSE_FULL, LV_FONT_FMT_TXT_CMAP_FORMAT0_TINY, LV_FONT_FMT_TXT_CMAP_SPARSE_TINY }
+typedef struct { uint32_t bitmap_index : 20; uint32_t adv_w : 12; uint8_t box_w; uint8_t box_h; int8_t ofs_x; int8_t ofs_y; }
+    lv_font_fmt_txt_glyph_dsc_t;
+typedef enum { LV_FONT_FMT_TXT_CMAP_FORMAT0_FULL, LV_FONT_FMT_TXT_CMAP_SPARSE_FULL, LV_FONT_FMT_TXT_CMAP_FORMAT0_TINY,
+    LV_FONT_FMT_TXT_CMAP_SPARSE_TINY }
     lv_font_fmt_txt_cmap_type_t;
-typedef struct { uint32_t range_start; uint16_t range_length; uint16_t glyph_id_start; const uint16_t *unicode_list; const void *glyph_id_ofs_list;
+typedef struct { uint32_t range_start; uint16_t range_length; uint16_t glyph_id_start; const uint16_t *unicode_list;
+    const void *glyph_id_ofs_list;
     uint16_t list_length; lv_font_fmt_txt_cmap_type_t type; } lv_font_fmt_txt_cmap_t;
-typedef struct { const uint8_t *glyph_bitmap; const lv_font_fmt_txt_glyph_dsc_t *glyph_dsc; const lv_font_fmt_txt_cmap_t *cmaps; const void *kern_dsc;
-    uint16_t kern_scale; uint16_t cmap_num : 9; uint16_t bpp : 4; uint16_t kern_classes : 1; uint16_t bitmap_format : 2; uint8_t stride; } lv_font_fmt_txt_dsc_t;
+typedef struct { const uint8_t *glyph_bitmap; const lv_font_fmt_txt_glyph_dsc_t *glyph_dsc; const lv_font_fmt_txt_cmap_t *cmaps;
+    const void *kern_dsc; uint16_t kern_scale; uint16_t cmap_num : 9; uint16_t bpp : 4; uint16_t kern_classes : 1;
+    uint16_t bitmap_format : 2; uint8_t stride; } lv_font_fmt_txt_dsc_t;
 typedef struct lv_font lv_font_t;
 typedef struct { int unused; } lv_font_glyph_dsc_t;
 typedef struct { int unused; } lv_draw_buf_t;
@@ -100,7 +105,9 @@ const void *lv_font_get_bitmap_fmt_txt(lv_font_glyph_dsc_t *, lv_draw_buf_t *);
 # read.
 DRAW_LVGL = """\
 #define COUNT 0x20000u
-_Bool lv_font_get_glyph_dsc_fmt_txt(const lv_font_t *f, lv_font_glyph_dsc_t *g, uint32_t one, uint32_t next) { return f && g && one && next; }
+_Bool lv_font_get_glyph_dsc_fmt_txt(const lv_font_t *f, lv_font_glyph_dsc_t *g, uint32_t one, uint32_t next) {
+    return f && g && one && next;
+}
 const void *lv_font_get_bitmap_fmt_txt(lv_font_glyph_dsc_t *g, lv_draw_buf_t *b) { return b ? (void *)g : NULL; }
 static const lv_font_fmt_txt_glyph_dsc_t *found(unsigned letter) {
     const lv_font_fmt_txt_dsc_t *f = small.dsc;
@@ -180,8 +187,8 @@ def test_lvgl(tmp_path, path, size, chars):
     assert drawn(tmp_path, text, DRAW_LVGL.replace("%", "%%") % (), strike,
                  "#define LV_LVGL_H_INCLUDE_SIMPLE\n").tobytes() == strike.sheet().tobytes()
     glyph = strike.get("A") or strike["─"]
-    assert "/* 1 " not in text and "{.bitmap_index = " in text and ".line_height = %d, .base_line = %d," % (strike.height,
-                                                                                                            strike.descent) in text
+    assert "/* 1 " not in text and "{.bitmap_index = " in text
+    assert ".line_height = %d, .base_line = %d," % (strike.height, strike.descent) in text
     assert ".adv_w = %d, .box_w = %d, .box_h = %d, .ofs_x = %d, .ofs_y = %d}, /* U+" % (
         16 * glyph.advance, glyph.width, glyph.height, glyph.left, glyph.bottom) in text
     assert ("FORMAT0_TINY" in text, "SPARSE_TINY" in text) == (True, True)
@@ -198,8 +205,8 @@ def test_raw_cells(tmp_path, path, size, cell):
         warnings.simplefilter("always")
         strike.save(tmp_path / "vga.raw", order="cp437")
     data = (tmp_path / "vga.raw").read_bytes()
-    assert len(data) == 256 * size_of and [str(it.message)[:36]
-                                           for it in warned] == ["blank, since the strike lacks them: "] * bool(strike.missing)
+    assert len(data) == 256 * size_of
+    assert [str(it.message)[:36] for it in warned] == ["blank, since the strike lacks them: "] * bool(strike.missing)
     due = {0x41: "A", 0x67: "g", 0x01: "☺", 0x7F: "⌂", 0x80: "Ç", 0xC4: "─", 0xDB: "█", 0xE0: "α", 0xFE: "■"}
     for place, char in due.items():
         rows = [int.from_bytes(data[at:at + size_of // height], "big")
@@ -388,8 +395,8 @@ def test_comments_in_c(tmp_path, standard):
         for form, made in (("c", carray.rows(strike, "c%d" % k)), ("gfx", carray.gfx(few, "gfx%d" % k)),
                            ("lvgl", carray.lvgl(few, "lvgl%d" % k))):
             comments = [it.split("*/")[0] for it in made.split("/*")[1:]]
-            assert all(" " <= char <= "~" or char == "\n" for it in comments
-                       for char in it) and not set("\\?") & set("".join(comments))
+            assert all(" " <= char <= "~" or char == "\n" for it in comments for char in it)
+            assert not set("\\?") & set("".join(comments))
             (tmp_path / ("%s%d.h" % (form, k))).write_bytes(made.encode("utf-8", "surrogateescape"))
             lines.append('#include "%s%d.h"' % (form, k))
     (tmp_path / "all.c").write_text("\n".join(lines) + "\nint main(void) { return 0; }\n")

@@ -145,10 +145,8 @@ def test_damaged_fonts():
 
 def test_advice():
     """What to do is what the C library says; tests/c compares that with docs/REFUSALS.md."""
-    assert mkstrike.Refused(23,
-                            "x").advice == "leave out the characters that use this glyph" and str(mkstrike.Refused(60,
-                                                                                                                   "x")).startswith(
-                                                                                                                       "60 x\ngive ")
+    assert mkstrike.Refused(23, "x").advice == "leave out the characters that use this glyph"
+    assert str(mkstrike.Refused(60, "x")).startswith("60 x\ngive ")
     assert mkstrike.Refused(99, "x").advice == "" and str(mkstrike.Refused(99, "x")) == "99 x"
 
 

@@ -38,8 +38,8 @@ def test_mapping():
         at["Ɯ"]
     every = at.glyphs("all")
     assert set(at) - set(every) == {"Ɯ", "ɐ"} and every["☃"] == at["☃"]
-    assert (at.size, at.ascent, at.descent, at.line_gap, at.height, repr(at)) == (16, 15, 4, 0, 19,
-                                                                                  "<Striker 'DejaVuSans', 16 pixels>")
+    assert (at.size, at.ascent, at.descent, at.line_gap, at.height,
+            repr(at)) == (16, 15, 4, 0, 19, "<Striker 'DejaVuSans', 16 pixels>")
     assert pickle.loads(pickle.dumps(at))["g"] == at["g"]
     for number in (-1, 65536):
         with pytest.raises(ValueError, match="^number is"):
@@ -147,20 +147,20 @@ def test_editing():
     """Fewer glyphs, other glyphs, and more."""
     strike = mkstrike.Font(SANS).strike(16, "20-7e,19c,4e00", x11=True)
     few = strike.subset("41-5a,e9,4e00", text="g")
-    assert "".join(few) == "ABCDEFGHIJKLMNOPQRSTUVWXYZg" and few["g"] == strike["g"] and few.missing == ("é",
-                                                                                                         "一") and not few.refused
+    assert "".join(few) == "ABCDEFGHIJKLMNOPQRSTUVWXYZg" and few["g"] == strike["g"] and few.missing == ("é", "一")
+    assert not few.refused
     assert list(strike.subset("all")) == list(strike) and set(strike.subset("41,19c").refused) == {"Ɯ"}
     assert few.box == (max(it.left + it.width for it in few.values()) - min(it.left for it in few.values()),
                        max(it.top for it in few.values()) - min(it.bottom for it in few.values()),
                        min(it.left for it in few.values()), min(it.bottom for it in few.values()))
-    assert few.properties["AVERAGE_WIDTH"] == round(10 * sum(it.advance
-                                                             for it in few.values()) / 27) and "DEFAULT_CHAR" in strike.properties
+    assert few.properties["AVERAGE_WIDTH"] == round(10 * sum(it.advance for it in few.values()) / 27)
+    assert "DEFAULT_CHAR" in strike.properties
     text, number = mkstrike.Font(SANS).strike(16, "67").text, str(strike["g"])
     again = mkstrike.Glyph.drawn(number, left=strike["g"].left, bottom=strike["g"].bottom, advance=10)
     assert mkstrike.Font(SANS).strike(16, "67").replace({"g": again}).text.replace(b"SWIDTH 625 0", b"SWIDTH 635 0") == text
     more = strike.replace({"一": mkstrike.Glyph.drawn("..\n.#", left=3, bottom=-2, advance=7), "Ɯ": strike["W"]})
-    assert (more["一"].width, more["一"].height, more["一"].left, more["一"].bottom, more["一"].advance, more["一"].swidth) == (1, 1, 4,
-                                                                                                                          -2, 7, 438)
+    assert (more["一"].width, more["一"].height, more["一"].left, more["一"].bottom, more["一"].advance,
+            more["一"].swidth) == (1, 1, 4, -2, 7, 438)
     assert more.missing == () and not more.refused and more["Ɯ"].rows == strike["W"].rows and len(more) == 97
     assert b"STARTCHAR uni4E00\nENCODING 19968\nSWIDTH 438 0\nDWIDTH 7 0\nBBX 1 1 4 -2\nBITMAP\n80\nENDCHAR\n" in more.text
     assert mkstrike.Strike(more.text).text == more.text and more.parsed().encoded() == more.text

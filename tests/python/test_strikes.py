@@ -78,8 +78,8 @@ def test_what_a_strike_says():
     with pytest.raises(KeyError):
         font.glyph(16, "一")
     glyph = strike["g"]
-    assert (glyph.width, glyph.height, glyph.left, glyph.bottom, glyph.top, glyph.advance, glyph.swidth) == (8, 12, 1, -3, 9, 10,
-                                                                                                             635)
+    assert (glyph.width, glyph.height, glyph.left, glyph.bottom, glyph.top, glyph.advance,
+            glyph.swidth) == (8, 12, 1, -3, 9, 10, 635)
     assert repr(glyph) == "<Glyph 'g', 8 x 12 at 1, -3, advance 10>" and repr(strike) == "<Strike 'strike', 16 pixels, 96 glyphs>"
     assert pickle.loads(pickle.dumps(strike)) == strike and pickle.loads(pickle.dumps(glyph)) == glyph
     assert strike != font.strike(17, "ascii") and len({strike, font.strike(16, ["ascii", 0x4E00], text="é")}) == 1
@@ -216,8 +216,8 @@ def test_files(tmp_path):
 def test_large_strikes():
     """Texts and glyphs that do not fit the first buffer."""
     font = mkstrike.Font(SANS)
-    assert font.strike(1024, "20-7e", hinted=False).text == text_of(["--ppem", "1024", "--chars", "20-7e", "--unhinted"],
-                                                                    font_bytes(SANS))
+    assert font.strike(1024, "20-7e",
+                       hinted=False).text == text_of(["--ppem", "1024", "--chars", "20-7e", "--unhinted"], font_bytes(SANS))
     made = pytest.importorskip("made")
     data = made.Font([made.Empty(), made.Simple([(0, 0, 4000, 3000)])], {0x41: 1}, upem=1024).data()
     glyph, strike = mkstrike.Font(data).glyph(1024, "A", hinted=False), mkstrike.Font(data).strike(1024, "41", hinted=False)
