@@ -1,4 +1,4 @@
-"""Strikes as arrays in C: rows of bytes in cells, and fonts for the libraries Adafruit GFX and LVGL; and cells as bytes alone."""
+"""Strikes as arrays in C: the bytes of cells, and fonts for the libraries Adafruit GFX and LVGL; and cells as bytes alone."""
 from __future__ import annotations
 
 import re
@@ -7,6 +7,8 @@ from collections.abc import Iterable, Sequence
 from typing import TYPE_CHECKING
 
 from .charsets import in_order, ranges
+from .glyph import DIGITS
+from .layout import Layout, in_cell
 from .refused import code_name
 from .sources import MOST
 
@@ -17,35 +19,54 @@ if TYPE_CHECKING:
 ROWS = """\
 /* {count} glyphs of {font} at {size} pixels per em, as {name}: made by mkstrike.
  *
- * Glyph k is the character {name}_chars[k]; they rise. {name}_rows[k] are its rows from the top: {name}_HEIGHT rows of
- * {name}_STRIDE bytes, the leftmost pixel the highest bit. Draw the cell {name}_LEFT columns right of the pen, with {name}_ASCENT of
- * its rows above the baseline; then move the pen by {name}_advances[k]. */
+ * Glyph k is the character {name}_chars[k]; they rise. {what} Draw the cell {name}_LEFT columns right of the pen, with \
+{name}_ASCENT of its rows above
+ * the baseline; then move the pen by {name}_advances[k]. */
 #ifndef {guard}
 #define {guard}
 
 #include <stdint.h>
-
+{includes}
 enum {{
     {name}_COUNT = {count},
     {name}_WIDTH = {width},
     {name}_HEIGHT = {height},
-    {name}_STRIDE = {stride},
+    {name}_{lines},
     {name}_LEFT = {left},
     {name}_ASCENT = {ascent}
 }};
 
-static const {kind} {name}_chars[{name}_COUNT] = {{
+static const {kind} {name}_chars[{name}_COUNT]{attribute} = {{
 {chars}
 }};
 
-static const int16_t {name}_advances[{name}_COUNT] = {{
+static const int16_t {name}_advances[{name}_COUNT]{attribute} = {{
 {advances}
 }};
 
-static const uint8_t {name}_rows[{name}_COUNT][{name}_HEIGHT * {name}_STRIDE] = {{
-{rows}
+static const uint8_t {name}_{by}[{name}_COUNT][{name}_{one} * {name}_{other}]{attribute} = {{
+{cells}
 }};
 
+#endif
+"""
+# What a comment says of the bytes of a cell, the number beside width and height that leads through them, and what there are how many of.
+FORMS = {
+    "rows": ("{name}_rows[k] are its rows from the top: {name}_HEIGHT rows of {name}_STRIDE\n * bytes, the leftmost pixel",
+             "STRIDE", "HEIGHT", "STRIDE"),
+    "columns": ("{name}_columns[k] are its columns from the left: {name}_WIDTH columns of {name}_STRIDE\n * bytes, the topmost pixel",
+                "STRIDE", "WIDTH", "STRIDE"),
+    "pages": ("{name}_pages[k] are its pages of eight rows from the top: {name}_PAGES pages of\n * {name}_WIDTH bytes, the topmost pixel",
+              "PAGES", "PAGES", "WIDTH")}
+ATTRIBUTE = re.compile(r"[A-Za-z_]\w*(\([\w \t(),.\"$-]*\))?", re.ASCII)
+PROGMEM = """\
+#if defined(ARDUINO)
+#include <Arduino.h>
+#elif defined(__AVR__)
+#include <avr/pgmspace.h>
+#endif
+#ifndef PROGMEM
+#define PROGMEM
 #endif
 """
 GFX = """\
@@ -97,7 +118,7 @@ static const lv_font_fmt_txt_dsc_t {name}_font = {{
 
 const lv_font_t {name} = {{
     .get_glyph_dsc = lv_font_get_glyph_dsc_fmt_txt, .get_glyph_bitmap = lv_font_get_bitmap_fmt_txt,
-    .line_height = {height}, .base_line = {descent}, .dsc = &{name}_font
+    .line_height = {height}, .base_line = {descent}, {underline}.dsc = &{name}_font
 }};
 """
 MAP = """\
@@ -128,49 +149,57 @@ def cell_of(strike: Strike) -> tuple[int, int, int, int]:
     return end - first, max(bottom + height, strike.ascent) - below, first, below
 
 
-def rows(strike: Strike, name: str) -> str:
-    """Every glyph in a cell of the same size, its rows in whole bytes."""
-    codes = [ord(it) for it in strike]
+def rows(strike: Strike, name: str, attribute: str = "", **layout: str) -> str:
+    """Every glyph in a cell of the same size, its bytes in a layout; `attribute` is that of the arrays, as PROGMEM."""
+    codes, bytes_of = [ord(it) for it in strike], Layout(**layout)
     _filled(codes)
+    if attribute and not ATTRIBUTE.fullmatch(attribute):
+        raise ValueError("attribute is a word of C such as PROGMEM, or one with arguments, not %r" % attribute)
     width, height, left, bottom = cell_of(strike)
-    size = len("0x00, ") * len(codes) * height * ((width + 7) // 8)
+    size = len("0x00, ") * len(codes) * bytes_of.size(width, height)
     if size > MOST:
         raise ValueError("an array of %d cells of %d x %d pixels takes %s bytes as text, more than %s" % (
             len(codes), width, height, format(size, ","), format(MOST, ",")))
-    lines = ["    {%s}, /* %s */" % (_hexadecimal(_in_cell(it, width, height, left, bottom)), _shown(it.char))
-             for it in strike.values()]
+    cells = ((it.char, bytes_of.packed(in_cell(it, width, height, left, bottom))) for it in strike.values())
+    what, word, one, other = FORMS[bytes_of.by]
+    lines = (width if bytes_of.by == "rows" else height) + 7
     return ROWS.format(
-        name=name, guard=name.upper() + "_H", font=_comment(strike.name), size=strike.size, count=len(codes), width=width,
-        height=height,
-        stride=(width + 7) // 8, left=left, ascent=bottom + height, kind="uint16_t" if codes[-1] <= 0xFFFF else "uint32_t",
+        name=name, guard=name.upper() + "_H", font=comment(strike.name), size=strike.size, count=len(codes), width=width, height=height,
+        lines="%s = %d" % (word, lines // 8), left=left, ascent=bottom + height, kind="uint16_t" if codes[-1] <= 0xFFFF else "uint32_t",
+        what="%s the %s bit%s." % (what.format(name=name), "highest" if bytes_of.bits == "msb" else "lowest",
+                                   ", the bits left over before it" if bytes_of.align == "right" else ""),
+        includes=PROGMEM if attribute == "PROGMEM" else "", attribute=attribute and " " + attribute, by=bytes_of.by, one=one, other=other,
         chars=_wrapped("0x%04X" % it for it in codes), advances=_wrapped(str(it.advance) for it in strike.values()),
-        rows="\n".join(lines))
+        cells="\n".join("    {%s}, /* %s */" % (_hexadecimal(it), _shown(char)) for char, it in cells))
 
 
-def gfx(strike: Strike, name: str) -> str:
-    """A GFXfont: boxes packed bit by bit. What the strike lacks between the first and the last character is empty there."""
+def gfx(strike: Strike, name: str, dense: bool = False) -> str:
+    """A GFXfont: boxes packed bit by bit. What the strike lacks between the first and the last character is empty there; if `dense`, each
+    character has the number after the one before it."""
     codes = [ord(it) for it in strike]
     _filled(codes)
-    if codes[-1] > 0xFFFF or not 0 <= strike.height <= 255:
+    numbered = dict(enumerate(codes, codes[0])) if dense else dict(zip(codes, codes))
+    first, last = codes[0], max(numbered)
+    if last > 0xFFFF or not 0 <= strike.height <= 255:
         raise ValueError("a font for Adafruit GFX has characters up to U+FFFF and lines of at most 255 rows")
     bitmaps, lines = bytearray(), []
-    for code in range(codes[0], codes[-1] + 1):
-        glyph = strike.get(chr(code))
+    for code in range(first, last + 1):
+        glyph = strike.get(chr(numbered.get(code, code)))
         numbers = (0, 0, 0, 0, 0, 0)
         if glyph is not None:
             numbers = (len(bitmaps), glyph.width, glyph.height, glyph.advance, glyph.left, 1 - glyph.top)
             if not glyph.width:
                 numbers = (len(bitmaps), 0, 0, glyph.advance, 0, 0)
-            _check(code, "Adafruit GFX", numbers, FIELDS_GFX)
+            _check(numbered[code], "Adafruit GFX", numbers, FIELDS_GFX)
             bitmaps += _bits(glyph)
-        lines.append("    {%d, %d, %d, %d, %d, %d}, /* %s */" % (*numbers, _shown(chr(code))))
-    empty = codes[-1] - codes[0] + 1 - len(codes)
+        shown = _shown(chr(numbered.get(code, code)))
+        lines.append("    {%d, %d, %d, %d, %d, %d}, /* %s */" % (*numbers, "0x%02X: %s" % (code, shown) if dense else shown))
+    empty = last - first + 1 - len(codes)
     if empty > len(codes):
-        warnings.warn("%d of the %d entries of %s are empty, since a GFXfont has all from the first character to the last" % (
-            empty, empty + len(codes), name), stacklevel=4)
-    return GFX.format(name=name, guard=name.upper() + "_GFX_H", font=_comment(strike.name), size=strike.size, count=len(codes),
-                      bitmaps=_wrapped("0x%02X" % it for it in bitmaps or b"\0"), glyphs="\n".join(lines), first=codes[0],
-                      last=codes[-1],
+        warnings.warn("%d of the %d entries of %s are empty, since a GFXfont has all from the first character to the last; dense=True (--dense) numbers "
+                      "the characters without gaps" % (empty, empty + len(codes), name), stacklevel=4)
+    return GFX.format(name=name, guard=name.upper() + "_GFX_H", font=comment(strike.name), size=strike.size, count=len(codes),
+                      bitmaps=_wrapped("0x%02X" % it for it in bitmaps or b"\0"), glyphs="\n".join(lines), first=first, last=last,
                       height=strike.height)
 
 
@@ -196,10 +225,11 @@ def lvgl(strike: Strike, name: str) -> str:
     if len(maps) > MOST_MAPS or len(codes) >= SPAN:
         raise ValueError("a font for LVGL has at most %d maps of characters and %d glyphs, not %d and %d" %
                          (MOST_MAPS, SPAN - 1, len(maps), len(codes)))
-    return LVGL.format(name=name, font=_comment(strike.name), size=strike.size, count=len(codes),
-                       bitmaps=_wrapped("0x%02X" % it for it in bitmaps or b"\0"),
-                       glyphs="\n".join(lines), lists=lists, maps=",\n".join(maps), count_maps=len(maps), height=strike.height,
-                       descent=strike.descent)
+    position, thickness = strike.underline or (0, 0)
+    underline = ".underline_position = %d, .underline_thickness = %d, " % (
+        position, thickness) if -128 <= position < 128 and 0 < thickness < 128 else ""
+    return LVGL.format(underline=underline, name=name, font=comment(strike.name), size=strike.size, count=len(codes), bitmaps=_wrapped("0x%02X" % it for it in bitmaps or b"\0"),
+                       glyphs="\n".join(lines), lists=lists, maps=",\n".join(maps), count_maps=len(maps), height=strike.height, descent=strike.descent)
 
 
 def _parts(codes: Sequence[int]) -> list[list[int]]:
@@ -221,10 +251,9 @@ def _parts(codes: Sequence[int]) -> list[list[int]]:
     return parts
 
 
-def raw(strike: Strike, order: str | None) -> bytes:
-    """The cells alone, each of whole bytes a row from the top: in the order of a character set of one byte, or of the
-    characters."""
-    widths = {it.advance for it in strike.values()}
+def raw(strike: Strike, order: str | None, **layout: str) -> bytes:
+    """The cells alone, each in a layout: in the order of a character set of one byte, or of the characters."""
+    bytes_of, widths = Layout(**layout), {it.advance for it in strike.values()}
     if len(widths) != 1:
         raise ValueError("raw cells have one advance for all glyphs: make a cell first (cell, --cell)")
     width = widths.pop()
@@ -235,8 +264,8 @@ def raw(strike: Strike, order: str | None) -> bytes:
     lost = [ord(it) for it in chars if it and it not in strike]
     if lost:
         warnings.warn("blank, since the strike lacks them: " + ranges(lost), stacklevel=4)
-    blank = bytes(strike.height * ((width + 7) // 8))
-    return b"".join(_in_cell(strike[it], width, strike.height, 0, -strike.descent) if it in strike else blank for it in chars)
+    blank = bytes(bytes_of.size(width, strike.height))
+    return b"".join(bytes_of.packed(in_cell(strike[it], width, strike.height, 0, -strike.descent)) if it in strike else blank for it in chars)
 
 
 def _check(code: int, library: str, numbers: Sequence[int], fields: Sequence[tuple[str, int, int]]) -> None:
@@ -252,19 +281,10 @@ def _filled(codes: list[int]) -> None:
         raise ValueError("the strike has no glyph")
 
 
-def _in_cell(glyph: Glyph, width: int, height: int, left: int, bottom: int) -> bytes:
-    """The rows of a cell with a glyph in it."""
-    stride, size = (width + 7) // 8, (glyph.width + 7) // 8
-    shift = 8 * stride - 8 * size - (glyph.left - left)
-    given = {glyph.top - 1 - k: int.from_bytes(row, "big") for k, row in enumerate(glyph.rows)}
-    placed = {row: it << shift if shift >= 0 else it >> -shift for row, it in given.items()}
-    return b"".join(placed.get(row, 0).to_bytes(stride, "big") for row in range(bottom + height - 1, bottom - 1, -1))
-
-
 def _bits(glyph: Glyph) -> bytes:
     """The pixels of a glyph, bit by bit, filled up to a whole byte at the end alone."""
     count = glyph.width * glyph.height
-    digits = "".join("1" if it else "0" for it in glyph.tobytes()).ljust((count + 7) // 8 * 8, "0")
+    digits = glyph.tobytes().translate(DIGITS).decode().ljust((count + 7) // 8 * 8, "0")
     return int(digits, 2).to_bytes(len(digits) // 8, "big") if digits else b""
 
 
@@ -281,9 +301,9 @@ def _wrapped(items: Iterable[str]) -> str:
 def _shown(char: str | None) -> str:
     """A character in a comment of C: its code point, and itself if a comment can have it."""
     text = char or ""
-    return " ".join([code_name(ord(text))] + [it for it in text if it > " " and _comment(it) == it])
+    return " ".join([code_name(ord(text))] + [it for it in text if it > " " and comment(it) == it])
 
 
-def _comment(text: str) -> str:
+def comment(text: str) -> str:
     """A text in a comment of C: printable ASCII, without what could end it (`*/`), join its lines, or be a trigraph (`??/`)."""
     return "".join(it if " " <= it <= "~" and it not in "*/\\?" else "_" for it in text)

@@ -54,7 +54,7 @@ class Run:
     """A run of the command: it makes the strikes of a font, writes their files, and lets the font go."""
 
     def __init__(self, job: Job) -> None:
-        self.job, self.status, self.written = job, 0, set[str]()
+        self.job, self.status = job, 0
         self.bar = Bar(sum(len(job.sizes(it)[0]) for it in job.groups), job.options.quiet)
         self.report = Report(job, self.bar.clear)
 
@@ -64,10 +64,23 @@ class Run:
         self.report.fail(what, why)
 
     def all(self) -> int:
-        """Makes all strikes and writes their files. Returns the status."""
+        """Makes all strikes and writes their files, or does what else is asked for. Returns the status."""
+        if self.job.mode is not None:
+            return self.other(self.job.mode)
         for group in self.job.groups:
             self.of(group)
         self.bar.clear()
+        return self.status
+
+    def other(self, mode: str) -> int:
+        """Does what is asked for in place of strikes. Returns the status."""
+        from .modes import MODES
+        fonts = [it for group in self.job.groups for it in self.opened(group)]
+        if not self.status:
+            try:
+                return MODES[mode](self.job, self.report, fonts)
+            except FAULTS as why:
+                self.fail(self.job.groups[0][0].path, why)
         return self.status
 
     def of(self, group: list[Asked]) -> None:
@@ -97,7 +110,7 @@ class Run:
             try:
                 strike, told = self.job.made(group, fonts, at)
             except FAULTS as why:
-                size = "" if group[0].is_bdf or self.job.fit else " at %d pixels" % self.job.sizes(group)[0][at]
+                size = "" if group[0].is_bdf or group[0].rows or self.job.fit else " at %d pixels" % self.job.sizes(group)[0][at]
                 return self.fail((group[0].path if len(group) == 1 else stem) + size, why)
             stem = stem if group[0].is_bdf and not name else "%s-%d" % (stem, strike.size)
             try:
@@ -111,37 +124,30 @@ class Run:
         """Writes the files of a strike, and returns their paths."""
         output = self.job.output
         paths = [output.replace("%s", str(strike.size))] if output else [
-            os.path.join(self.job.options.out or ".", stem + formats.ENDING[name]) for name in self.job.formats]
-        self.refuse_to_lose(paths)
+            os.path.join(self.job.options.out or ".", formats.file_name(stem, name)) for name in self.job.formats]
+        self.job.refuse_to_lose(paths)
+        written = []
         for path, name in zip(paths, self.job.formats):
-            made = self.encoded(strike, name, os.path.splitext(os.path.basename(path))[0] if output and output != "-" else stem)
-            if path == "-":
-                sys.stdout.buffer.write(made)
-                sys.stdout.buffer.flush()
-            else:
-                formats.write(path, made)
-        return paths
+            files = self.files(strike, name, path, stem)
+            written += [path, *(it for it in files if it != path)]
+            self.job.refuse_to_lose([it for it in files if it != path])
+            for file, made in files.items():
+                if file == "-":
+                    sys.stdout.buffer.write(made)
+                    sys.stdout.buffer.flush()
+                else:
+                    formats.write(file, made)
+        return written
 
-    def encoded(self, strike: Strike, form: str, stem: str) -> bytes:
-        """The strike in a format, or the picture of the text that is previewed."""
+    def files(self, strike: Strike, form: str, path: str, stem: str) -> dict[str, bytes]:
+        """The files of a strike in a format, or the picture of the text that is previewed."""
         o, preview = self.job.options, self.job.preview
         if preview is not None:
-            return formats.picture(strike.line(self.job.drawn(strike), o.scale or 1), form)
-        more: dict[str, object] = {"order": o.order} if form == "raw" else {}
-        if form in formats.PICTURES:
-            more = {"scale": o.scale or 1, "columns": o.columns or 32}
-        if form in formats.IN_C:
-            more = {"name": stem}
-        return formats.encode(strike, form, more)
-
-    def refuse_to_lose(self, paths: list[str]) -> None:
-        """Refuses to write over what was read, and over what another strike of this run is in."""
-        for path in paths:
-            if os.path.exists(path) and any(os.path.samefile(path, it) for it in self.job.read if os.path.exists(it)):
-                raise ValueError("%s is read here, and would be replaced: give another folder by --out" % path)
-            if path in self.written:
-                raise ValueError("%s would be replaced by a second strike: give another folder by --out, or --name" % path)
-        self.written.update(paths)
+            return {path: formats.picture(strike.line(self.job.drawn(strike), o.scale or 1), form)}
+        more = {it: getattr(o, it) for it in formats.TAKES.get(form, ()) if it != "name" and getattr(o, it) not in (None, False)}
+        if form in formats.IN_C and path == "-":
+            more["name"] = stem
+        return {path: formats.encode(strike, form, more)} if path == "-" else formats.files(strike, path, form, more)
 
 
 def main(words: Sequence[str] | None = None) -> int:

@@ -2,7 +2,7 @@
 from __future__ import annotations
 
 import warnings
-from collections.abc import Mapping
+from collections.abc import Iterable, Mapping
 
 from . import _library, sources
 from .charsets import listed, mapped
@@ -12,15 +12,19 @@ from .notes import notes_of
 from .refused import Missing, Refused
 from .strike import Strike
 from .striker import Striker, glyph_of
-from .tables import PLACES_OF_SYMBOLS, axes as axes_of
+from .tables import PLACES_OF_SYMBOLS, axes as axes_of, underline
 from .texts import code_of
 
 TYPE_CHECKING = False  # as in glyph.py
 if TYPE_CHECKING:
     from typing import Literal, Union
 
+    from PIL.Image import Image
+
     from .bdf import Value
     from .charsets import Chars
+    from .listing import Listed
+    from .looks import Look
 
     Refusing = Literal["leave-out", "unhinted", "refuse"]
     Dropout = Union[bool, None, Literal["font", "left", "near", "off"]]
@@ -28,6 +32,7 @@ if TYPE_CHECKING:
 NAME = "strike"  # of a strike, as the program has it
 REFUSING = ("leave-out", "unhinted", "refuse")  # what becomes of a character that is refused, or of the strike
 LOOK = 256  # pixels per em at which `fit` looks how large glyphs are
+LETTERS, TEXT = "30-39,41-5a,61-7a", "Hamburgefonstiv 0123456789 AVWX kvwxyz"  # of `looks` and `sheet`, if none are given
 MOST_BLOCKS = 32  # sizes of a font that are kept, 4 KB each
 
 
@@ -56,19 +61,19 @@ class Font:
     def __repr__(self) -> str:
         return "<Font %r, %d bytes>" % (self.name, len(self.data))
 
-    def strike(self, size: int, chars: Chars = "", *, text: str = "", hinted: bool = True, dropout: Dropout = "font",
-               symbol: bool = False,
-               name: str | None = None, x11: bool = False, properties: Mapping[str, Value] | None = None,
-               refused: Refusing = "leave-out",
+    def strike(self, size: int, chars: Chars = "", *, text: str = "", glyphs: Mapping[str, int | str] | None = None, hinted: bool = True,
+               dropout: Dropout = "font", symbol: bool = False,
+               name: str | None = None, x11: bool = False, properties: Mapping[str, Value] | None = None, refused: Refusing = "leave-out",
                require: bool = False, strict: bool = False) -> Strike:
         """Makes a strike of characters at a size in pixels per em.
 
-        `chars` and `text` say which: see `characters`. With `hinted` the font's own programs run. With `dropout` thin strokes stay
-        whole: `"font"` sets the pixels beside them that the font asks for, `"left"` the left or the lower one, `"near"` the nearer
-        one. `None` is the rule alone, as `mkstrike make` has it: a pixel is set if its centre is inside. With `symbol` U+0020 to
-        U+00FF have the glyphs that a font of symbols has at U+F020 to U+F0FF. `name`, `x11` and `properties` are what `mkstrike
-        make` calls `--name`, `--x11` and `--property`. Without `name` the strike is called "strike"; with `x11` it then gets the
-        long name of X11, with the font's family, weight and slant and the size.
+        `chars` and `text` say which: see `characters`. With `hinted` the font's own programs run. With `dropout` thin strokes stay whole:
+        `"font"` sets the pixels beside them that the font asks for, `"left"` the left or the lower one, `"near"` the nearer one. `None` is the
+        rule alone, as `mkstrike make` has it: a pixel is set if its centre is inside. With `symbol` U+0020 to U+00FF have the glyphs that a
+        font of symbols has at U+F020 to U+F0FF.
+        `glyphs` gives characters other glyphs of the font, by number or name, as {"\\ue000": "A.alt"}.
+        `name`, `x11` and `properties` are what `mkstrike make` calls `--name`, `--x11` and `--property`. Without `name` the strike is called
+        "strike"; with `x11` it then gets the long name of X11, with the font's family, weight and slant and the size.
 
         What the font lacks is in `missing` of the strike; with `require` it is raised, as `Missing`. A character that is refused is
         left out and in `refused`; with `refused="unhinted"` it is drawn without hinting and in `unhinted`, and with
@@ -76,16 +81,16 @@ class Font:
         characters is always raised, as `Refused`. What else there is to know, as that no pixel is set, is in `notes` and a
         warning."""
         given = symbols(mapped(chars, text, self.characters), symbol)
-        strike = self._strike_of(size, given, hinted=hinted, dropout=dropout, name=name, refused="refuse" if strict else refused)
+        strike = self._strike_of(size, given, glyphs=glyphs, hinted=hinted, dropout=dropout,
+                                 name=name, refused="refuse" if strict else refused)
         if strike.missing and (require or strict):
             raise Missing(strike.missing[0], strike.missing)
         for note in strike.notes:
             warnings.warn(note, stacklevel=2)
         return strike.with_properties(properties, x11=x11) if x11 or properties else strike
 
-    def _strike_of(self, size: int, given: Mapping[int, int], *, hinted: bool = True, dropout: Dropout = "font",
-                   name: str | None = None,
-                   refused: Refusing = "leave-out") -> Strike:
+    def _strike_of(self, size: int, given: Mapping[int, int], *, hinted: bool = True, dropout: Dropout = "font", name: str | None = None,
+                   refused: Refusing = "leave-out", glyphs: Mapping[str, int | str] | None = None) -> Strike:
         """The strike of characters, each with that of its glyph."""
         if name is not None and not isinstance(name, str):
             raise TypeError("name is a string, not %r" % (name,))
@@ -96,6 +101,7 @@ class Font:
                 format(len(given), ","), format(_library.MOST_CHARS, ",")))
         strike = self._made(size, sorted(set(given.values())), hinted, dropout, NAME if name is None else name, refused)
         strike = strike if all(new == old for new, old in given.items()) else strike._chosen(given)
+        strike = strike.replace(self.glyphs(size, glyphs, hinted=hinted, dropout=dropout)) if glyphs else strike
         strike.names = self.names if name is None else None
         strike.notes = notes_of(self, strike, list(given))
         return strike
@@ -118,7 +124,7 @@ class Font:
             numbers = _library.glyph_ids(self.data, self.face, codes)
             missing = tuple(chr(code) for code, number in zip(codes, numbers) if not number and code not in refused)
         strike = Strike(text, size=size, count=told.glyphs, missing=missing, refused={chr(it): why for it, why in refused.items()},
-                        strays=told.strays, steps=told.steps, is_own=True)
+                        underline=underline(self.data, self.face, size), strays=told.strays, steps=told.steps, is_own=True)
         if not (refused and refusing == "unhinted" and hinted):
             return strike
         drawn = self._made(size, sorted(refused), False, dropout, name, "leave-out")
@@ -154,6 +160,33 @@ class Font:
         options = {"text": text, "hinted": hinted, "dropout": dropout, "symbol": symbol}
         return fitting([Part(self, LOOK, chars, options)], width, height, "", "", ascent, clip)
 
+    def size_for(self, *, height: int | None = None, cap_height: int | None = None, hinted: bool = True, dropout: Dropout = "font") -> int:
+        """The largest size, in pixels per em, at which a line has at most `height` rows, ascent and descent together, or an H at most
+        `cap_height`."""
+        from .looks import LARGE, largest
+        if (height is None) == (cap_height is None):
+            raise TypeError("give height or cap_height")
+        what, rows = ("height", height) if cap_height is None else ("cap_height", cap_height)
+        return largest(_library.whole(rows, what), self.rows_at(LARGE, what, hinted=False),
+                       lambda size: self.rows_at(size, what, hinted=hinted, dropout=dropout))
+
+    def rows_at(self, size: int, what: str, *, hinted: bool = True, dropout: Dropout = "font") -> int:
+        """The rows of a line ("height"), ascent and descent together, or of a capital H ("cap_height") at a size."""
+        return sum(self.heights(size)[:2]) if what == "height" else self.glyph(size, "H", hinted=hinted, dropout=dropout).height
+
+    def looks(self, sizes: Iterable[int], chars: Chars = LETTERS, *, text: str = "", hinted: bool = True,
+              dropout: Dropout = "font") -> list[Look]:
+        """What the font is at sizes: its cell, and which of the characters fall apart or vanish, drawn as told and without drop-out control.
+        A glyph falls apart if its pixels are in more parts than when it is drawn large."""
+        from .looks import looks
+        return looks(self, sizes, listed(chars, text, self.characters), hinted, dropout)
+
+    def sheet(self, sizes: Iterable[int], text: str = TEXT, chars: Chars = LETTERS, *, hinted: bool = True, dropout: Dropout = "font",
+              scale: int = 1) -> Image:
+        """A text at sizes as one picture of Pillow, below what `looks` finds of each. What the font lacks is left out of the text."""
+        from .looks import sheet
+        return sheet(self, self.looks(sizes, chars, hinted=hinted, dropout=dropout), text, hinted, dropout, scale)
+
     def glyph(self, size: int, char: str | int, *, hinted: bool = True, dropout: Dropout = "font") -> Glyph:
         """Makes the glyph of one character, given as such or as a code point. Raises `Missing` if the font lacks it."""
         code = code_of(char)
@@ -169,6 +202,26 @@ class Font:
         """The numbers of the characters' glyphs, as far as the font has them: `font.glyph_ids("all")` are all."""
         codes = listed(chars, text, self.characters)
         return {chr(code): number for code, number in zip(codes, _library.glyph_ids(self.data, self.face, codes)) if number}
+
+    def glyph_names(self) -> list[str]:
+        """The names of all glyphs by their numbers, as the table `post` has them; nothing where it has none."""
+        from .listing import names_of_glyphs
+        return names_of_glyphs(self.data, self.face, self.glyph_count)
+
+    def glyphs(self, size: int, given: Mapping[str, int | str], *, hinted: bool = True, dropout: Dropout = "font") -> dict[str, Glyph]:
+        """Glyphs by their numbers or names, for characters that the font has not: from each character to its glyph, for `Strike.replace`."""
+        at, names = self.at(size, hinted=hinted, dropout=dropout), self.glyph_names()
+        for name in given.values():
+            if isinstance(name, str) and (not name or name not in names):
+                raise ValueError("the font has no glyph named %r%s" %
+                                 (name, "" if any(names) else ": it names none, so give numbers"))
+        return {char: at.glyph(names.index(it) if isinstance(it, str) else it) for char, it in given.items()}
+
+    def listing(self, size: int | None = None, *, hinted: bool = True, dropout: Dropout = "font") -> list[Listed]:
+        """What is in the font: the glyphs of its characters, then those without a character, with their numbers and names, and at a size with
+        their pictures."""
+        from .listing import of_font
+        return of_font(self, None if size is None else self.at(size, hinted=hinted, dropout=dropout))
 
     def characters(self) -> list[int]:
         """The code points of all characters that the font has, in rising order."""

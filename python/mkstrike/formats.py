@@ -35,15 +35,24 @@ def picture(image: Image, form: str) -> bytes:
     return out.getvalue()
 
 
-def _c(form: str, strike: Strike, name: str = "strike") -> bytes:
+def _c(form: str, strike: Strike, name: str = "strike", **options: Any) -> bytes:
     from . import carray
-    text: str = getattr(carray, form)(strike, carray.identifier(name))
+    text: str = getattr(carray, form)(strike, carray.identifier(name), **options)
     return text.encode()
 
 
-def _raw(strike: Strike, order: str | None = None) -> bytes:
+def _raw(strike: Strike, order: str | None = None, **layout: str) -> bytes:
     from . import carray
-    return carray.raw(strike, order)
+    return carray.raw(strike, order, **layout)
+
+
+def _py(strike: Strike, **options: str) -> bytes:
+    from . import micropython
+    return micropython.module(strike, **options).encode()
+
+
+def _fnt(strike: Strike, **_: object) -> bytes:
+    raise ValueError("fnt is a text and pictures beside it: save it to a file")
 
 
 def _by(program: str, strike: Strike) -> bytes:
@@ -53,38 +62,58 @@ def _by(program: str, strike: Strike) -> bytes:
 
 
 FORMATS: dict[str, Callable[..., bytes]] = {
-    "bdf": _bdf, **{it: partial(_sheet, it) for it in ("png", "pbm")}, "c": partial(_c, "rows"),
-    **{it: partial(_c, it) for it in ("gfx", "lvgl")},
-    "raw": _raw, **{it: partial(_by, it) for it in ("psf", "pcf", "otb")}}
-OF_ENDING = {".bdf": "bdf", ".png": "png", ".pbm": "pbm", ".h": "c", ".c": "c", ".raw": "raw", ".psf": "psf", ".psfu": "psf",
-             ".pcf": "pcf", ".otb": "otb"}
-# Of the files that the command writes.
-ENDING = {**{name: "." + name for name in FORMATS}, "c": ".h", "gfx": "-gfx.h", "lvgl": ".c"}
+    "bdf": _bdf, **{it: partial(_sheet, it) for it in ("png", "pbm")}, "c": partial(_c, "rows"), **{it: partial(_c, it) for it in ("gfx", "lvgl")},
+    "raw": _raw, "fnt": _fnt, "py": _py, **{it: partial(_by, it) for it in ("psf", "pcf", "otb")}}
+OF_ENDING = {".bdf": "bdf", ".png": "png", ".pbm": "pbm", ".h": "c", ".c": "c", ".raw": "raw",
+    ".fnt": "fnt", ".py": "py", ".psf": "psf", ".psfu": "psf", ".pcf": "pcf", ".otb": "otb"}
+ENDING = {**{name: "." + name for name in FORMATS}, "c": ".h",
+    "gfx": "-gfx.h", "lvgl": ".c"}  # of the files that the command writes
 IN_C, PICTURES = ("c", "gfx", "lvgl"), ("png", "pbm")
 TAKES: dict[str, tuple[str, ...]] = {  # options
-    **{name: ("columns", "scale") for name in PICTURES}, **{name: ("name",) for name in IN_C}, "raw": ("order",)}
+    **{name: ("columns", "scale") for name in PICTURES}, "c": ("name", "attribute", "bytes", "bits", "align"), "gfx": ("name", "dense"),
+    "lvgl": ("name",), "raw": ("order", "bytes", "bits", "align"), "fnt": ("padding",), "py": ("bytes", "bits")}
 
 
 def encode(strike: Strike, format: str, options: Mapping[str, Any]) -> bytes:
     """The strike in a format, as bytes."""
+    _check(strike, format, options)
+    return FORMATS[format](strike, **options)
+
+
+def _check(strike: Strike, format: str, options: Mapping[str, Any]) -> None:
+    """Refuses what is no format, or no option of it; warns of glyphs that a format leaves out."""
     if format not in FORMATS:
         raise ValueError("%r is no format: there are %s" % (format, ", ".join(FORMATS)))
-    if format in (*PICTURES, *IN_C, "raw"):
+    if format in TAKES:
         from .strike import tell_of_unnamed
         tell_of_unnamed(strike.parsed().unnamed)
     for name in options:
         if name not in TAKES.get(format, ()):
             raise TypeError("%s is no option of the format %s%s" %
                             (name, format, ": it has " + ", ".join(TAKES[format]) if format in TAKES else ""))
-    return FORMATS[format](strike, **options)
 
 
 def save(strike: Strike, path: str, format: str | None, options: Mapping[str, Any]) -> None:
-    """Writes a file whole, or leaves what was there."""
-    format = format or by_ending(path)
-    if format in IN_C:
-        options = {"name": os.path.splitext(os.path.basename(path))[0], **options}
-    write(path, encode(strike, format, options))
+    """Writes each file whole, or leaves what was there."""
+    for name, data in files(strike, path, format or by_ending(path), options).items():
+        write(name, data)
+
+
+def files(strike: Strike, path: str, format: str, options: Mapping[str, Any]) -> dict[str, bytes]:
+    """The files of a strike in a format, by their paths: beside the one that is named those that it needs, which come first."""
+    folder, name = os.path.split(os.path.splitext(path)[0])
+    if format == "fnt":
+        from . import bmfont
+        _check(strike, format, options)
+        made = bmfont.files(strike, name, **options)
+        return {path if it.endswith(".fnt") else os.path.join(folder, it): data for it, data in made.items()}
+    return {path: encode(strike, format, {"name": name, **options} if format in IN_C else options)}
+
+
+def file_name(stem: str, format: str) -> str:
+    """The name of the file of a strike; that of a module is one that Python can import."""
+    from .carray import identifier
+    return (identifier(stem) if format == "py" else stem) + ENDING[format]
 
 
 def by_ending(path: str) -> str:

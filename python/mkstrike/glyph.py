@@ -11,7 +11,7 @@ if TYPE_CHECKING:
 
 SET = 255  # the byte of a set pixel; 0 is that of one that is not
 _EIGHT = [bytes(SET if byte >> (7 - k) & 1 else 0 for k in range(8)) for byte in range(256)]
-_DIGITS = bytes.maketrans(bytes([SET, 0]), b"10")
+DIGITS = bytes.maketrans(bytes([SET, 0]), b"10")
 
 
 class Glyph:
@@ -97,7 +97,7 @@ class Glyph:
         """The rows from the top, eight pixels a byte: the leftmost is the highest bit, as in BDF and in C arrays."""
         size = (self.width + 7) // 8
         padding = b"0" * (8 * size - self.width)
-        digits = self._data.translate(_DIGITS)
+        digits = self._data.translate(DIGITS)
         lines = (digits[at:at + self.width] for at in range(0, len(digits), self.width or 1))
         return tuple(int(line + padding, 2).to_bytes(size, "big") for line in lines)
 

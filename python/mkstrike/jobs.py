@@ -8,8 +8,9 @@ import stat
 import sys
 
 from . import bdf, formats, options as table, sources
-from .charsets import OF_TEXT, mapped
+from .charsets import OF_TEXT, characters, mapped
 from .font import LOOK, Font, symbols
+from .looks import points
 from .merge import Part, Told, fitting, joined
 from .refused import Missing, shown
 from .strike import Strike
@@ -31,14 +32,18 @@ class Asked:
     def __init__(self, path: str, own: dict[str, Any], common: dict[str, Any]) -> None:
         both = {**common, **own}
         self.path, self.is_bdf = path, path.lower().endswith(".bdf")
-        self.sizes = _sizes(both["size"]) if "size" in both and not self.is_bdf else []
+        self.sizes = sizes_of(both["size"]) if "size" in both and not self.is_bdf else []
+        self.points = _points(both.get("size", ""))
+        self.rows = {it: both[it] for it in ("height", "cap_height") if it in both and not self.is_bdf}
+        if len(self.rows) + bool(self.sizes) > 1:
+            raise ValueError("--size, --height and --cap-height say the size: give one of them")
         self.face, self.axes = both.get("face", 0), _axes(both.get("axes", ""))
         self.chars, self.text = _characters(own)
         self.shift = own.get("shift_y", 0)
         self.given: dict[int, int] | None = None  # its characters, once they are known
         self.how: dict[str, Any] = {} if self.is_bdf else {
             "hinted": not both.get("unhinted"), "dropout": both.get("dropout", "font"), "refused": both.get("refused", "leave-out"),
-            "symbol": both.get("symbol", False)}
+            "symbol": both.get("symbol", False), "glyphs": _glyphs(",".join(both.get("glyph", [])))}
 
     def opened(self, read: list[str]) -> Font | Strike:
         """The font, or a strike that is there already. Adds to what is read."""
@@ -55,6 +60,22 @@ class Asked:
         part = Part(source, None if self.is_bdf else size, self.chars, {"text": self.text, "shift_y": self.shift, **self.how})
         part.name = self.name(source)
         return part
+
+    def size(self, source: Font | Strike, size: int) -> int:
+        """The size at which it is made: the one that is given, or the one that gives the rows that are asked for."""
+        return source.size_for(**self.rows, hinted=self.how["hinted"], dropout=self.how["dropout"]) if self.rows and isinstance(source, Font) else size
+
+    def said(self, source: Font | Strike, size: int) -> list[str]:
+        """Lines that say how a size came about."""
+        lines = ["%d pixels per em: %s" % (size, self.points[size])] if size in self.points else []
+        if not isinstance(source, Font):
+            return []
+        for name, rows in self.rows.items():
+            found = [source.rows_at(it, name, hinted=self.how["hinted"], dropout=self.how["dropout"]) for it in (size, size + 1)]
+            what = "a line has %d rows" if name == "height" else "a capital H has %d rows"
+            lines.append("%d pixels per em: %s" % (size, what %
+                         found[0]) + (", and %d at %d" % (found[1], size + 1) if found[0] != rows else ""))
+        return lines
 
     def name(self, source: Font | Strike) -> str:
         """A name that tells the font from others."""
@@ -80,12 +101,14 @@ class Job:
         self.refuse_mistaken(paths)
         asked = [Asked(path, {key: it for key, it in own.items() if key != "font"}, common)
                  for path, own in zip(paths, given.groups[1:] or [{}] * len(paths))]
+        self.written: set[str] = set()
         self.groups = [asked] if self.is_joined else [[it] for it in asked]
         self.outputs = self.checked_outputs()
         table.check(given, [(table.BDF if it.is_bdf else table.FONT, it.path) for it in asked], self.outputs)
+        self.mode = self.outputs[0] if self.outputs[0] in table.MODES else None
         self.preview = None if given.preview is None else given.preview.expandtabs(TAB)
         self.chars, self.text = _characters(common)
-        self.text += self.preview or ""
+        self.text += self.preview or "" if self.mode is None else ""
         self.texts = [it for group in given.groups for it in group.get("text", [])]
         if (self.texts + paths).count("-") > 1:
             raise ValueError("standard input is the font or the text, not both")
@@ -116,6 +139,12 @@ class Job:
     def checked_outputs(self) -> list[str]:
         """The formats of the files, or what else is written."""
         o = self.options
+        modes = [name for name, is_given in ((table.SHEET, o.sheet is not None),
+                                             (table.LIST, o.list), (table.DIFF, o.diff)) if is_given]
+        if len(modes) > 1:
+            raise ValueError("%s do two things: give one of them" % " and ".join(modes))
+        if modes:
+            return modes
         if o.preview is not None and o.output is None:
             return [table.TERMINAL]
         found: list[str] = o.format.split(",") if o.format else [formats.by_ending(o.output) if o.output and o.output != "-"
@@ -131,8 +160,12 @@ class Job:
     def check_together(self) -> None:
         """Refuses options that say two things."""
         o, asked = self.options, [it for group in self.groups for it in group]
-        if self.fit and (self.cell or any(it.sizes for it in asked)):
-            raise ValueError("--fit finds the size and makes the cells: leave %s out" % ("--cell" if self.cell else "--size"))
+        if self.mode is not None:
+            return self.check_mode(asked)
+        if self.fit and (self.cell or any(it.sizes or it.rows for it in asked)):
+            ways = [name for it in asked for name in ["--size"] * \
+                bool(it.sizes) + ["--" + row.replace("_", "-") for row in it.rows]]
+            raise ValueError("--fit finds the size and makes the cells: leave %s out" % ("--cell" if self.cell else ways[0]))
         if o.output and o.out:
             raise ValueError("-o FILE is one file, --out FOLDER a folder for many: give one of them")
         if o.out and os.path.splitext(o.out)[1].lower() in formats.OF_ENDING and not os.path.isdir(o.out):
@@ -146,6 +179,20 @@ class Job:
                              "for many; fonts of one strike come after --font each")
         if len({it.path for it in asked} if o.name is None else {self.groups[0][0].path}) < len(self.groups):
             raise ValueError("files of different fonts would have one name: give them one by one, or --font each for one strike")
+
+    def check_mode(self, asked: list[Asked]) -> None:
+        """Refuses what goes with files alone."""
+        count = table.MODES[str(self.mode)]
+        if self.is_joined or len(asked) != count:
+            raise ValueError("%s takes %s" % (self.mode, "one FONT" if count ==
+                             1 else "two strikes, or fonts: the old one and the new one"))
+        if self.mode == table.LIST and not asked[0].sizes and {"unhinted", "dropout"} & set(self.options.groups[0]):
+            raise ValueError("--unhinted and --dropout are for a list with metrics: give --size")
+        if any(len(it.sizes) > 1 for it in asked):
+            raise ValueError("%s takes one --size" % self.mode)
+        self.sheet = sizes_of(self.options.sheet, "--sheet") if self.mode == table.SHEET else []
+        if self.options.scale is not None and (self.options.scale < 1 or self.mode == table.DIFF and self.options.output is None):
+            raise ValueError("--scale is 1 or more, for a picture: -o FILE.png")
 
     @property
     def is_of_one(self) -> bool:
@@ -165,6 +212,15 @@ class Job:
         """Whether there are files; else a text is previewed on standard output."""
         return self.outputs != [table.TERMINAL]
 
+    def refuse_to_lose(self, paths: list[str]) -> None:
+        """Refuses to write over what was read, and over what another strike of this run is in."""
+        for path in paths:
+            if os.path.exists(path) and any(os.path.samefile(path, it) for it in self.read if os.path.exists(it)):
+                raise ValueError("%s is read here, and would be replaced: give another folder by --out" % path)
+            if path in self.written:
+                raise ValueError("%s would be replaced by a second strike: give another folder by --out, or --name" % path)
+        self.written.update(paths)
+
     # ---- strikes
 
     def sizes(self, group: list[Asked]) -> list[tuple[int, ...]]:
@@ -180,7 +236,7 @@ class Job:
         """The characters for all fonts of a strike: latin-1 if a font needs them and none are given. Those that stand for others in
         a preview are among them."""
         chars, text = self.chars, self.text
-        if not (chars or text) and not (group[0].is_bdf or group[0].chars or group[0].text):
+        if not (chars or text) and not (group[0].is_bdf or group[0].chars or group[0].text or group[0].how.get("glyphs")):
             chars = "latin-1"
         if self.preview is not None:
             text += "".join(it for it in PLACEHOLDERS if any(_has(font, it) for font in fonts))
@@ -189,7 +245,7 @@ class Job:
     def made(self, group: list[Asked], fonts: list[Font | Strike], at: int) -> tuple[Strike, list[Told]]:
         """A strike of fonts at their sizes, or the largest that fit, and what is told of each font if they are joined."""
         chars, text = self.wanted(group, fonts)
-        o, sizes = self.options, [it[at] for it in self.sizes(group)]
+        o, sizes = self.options, [asked.size(font, it[at]) for asked, font, it in zip(group, fonts, self.sizes(group))]
         if self.fit:
             parts = [asked.part(font, LOOK) for asked, font in zip(group, fonts)]
             sizes = [fitting(parts, *self.fit, chars, text, o.ascent, o.clip)] * len(fonts)
@@ -199,6 +255,7 @@ class Job:
         else:
             strike = self.alone(group[0], fonts[0], sizes[0], chars, text)
         self.refuse(strike)
+        strike.notes += tuple(line for asked, font, size in zip(group, fonts, sizes) for line in asked.said(font, size))
         if self.fit or self.cell:
             strike = strike.cell(*(self.fit or self.cell or ()), ascent=o.ascent, clip=o.clip, join=bool(o.join or self.fit))
         if o.x11 or self.properties:
@@ -290,17 +347,38 @@ def _is_empty_file(stream: Any) -> bool:
     return stat.S_ISREG(found.st_mode) and not found.st_size
 
 
-def _sizes(text: str) -> list[int]:
+def sizes_of(text: str, option: str = "--size") -> list[int]:
     """The sizes of an option, numbers and ranges that commas join."""
     found: list[int] = []
     for item in text.split(","):
+        if "pt" in item:
+            found.append(points(item))
+            continue
         bounds = item.split("-")
-        if len(bounds) > 2 or not all(it.isascii() and it.isdigit()
-                                      for it in bounds) or int(bounds[-1]) - int(bounds[0]) not in range(1024):
-            raise ValueError("--size takes pixels per em, as 16 or 12,14 or 8-16, not '%s'; pixels are points times the "
-                             "resolution, divided by 72" % item)
+        if len(bounds) > 2 or not all(it.isascii() and it.isdigit() for it in bounds) or int(bounds[-1]) - int(bounds[0]) not in range(1024):
+            raise ValueError(
+                "%s takes pixels per em, as 16 or 12,14 or 8-16, not '%s'; points come with a resolution, as 12pt@96" % (option, item))
         found += range(int(bounds[0]), int(bounds[-1]) + 1)
     return list(dict.fromkeys(found))
+
+
+def _points(text: str) -> dict[int, str]:
+    """From sizes to the points that they were given as."""
+    return {points(item): item for item in text.split(",") if "pt" in item}
+
+
+def _glyphs(text: str) -> dict[str, int | str]:
+    """From characters to the glyphs that they get, by number or name."""
+    found: dict[str, int | str] = {}
+    for item in filter(None, map(str.strip, text.split(","))):
+        name, _, char = item.rpartition("=")
+        if not name or not re.fullmatch(r"(?:U\+)?[0-9A-F]{1,6}", char, re.IGNORECASE):
+            raise ValueError("--glyph takes a glyph by name or number, and a character, as A.alt=e000, not '%s'" % item)
+        (code,) = characters(char)
+        if chr(code) in found:
+            raise ValueError("--glyph gives U+%04X two glyphs" % code)
+        found[chr(code)] = int(name) if name.isascii() and name.isdigit() else name
+    return found
 
 
 def _cell(text: str | None, option: str) -> tuple[int, int] | None:

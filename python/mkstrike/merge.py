@@ -18,7 +18,7 @@ if TYPE_CHECKING:
     from .charsets import Chars
 
     Given = Union[Strike, Tuple[Any, ...]]
-OPTIONS = {"text", "shift_y", "hinted", "dropout", "symbol", "refused"}  # of a part, beside its characters
+OPTIONS = {"text", "shift_y", "hinted", "dropout", "symbol", "refused", "glyphs"}  # of a part, beside its characters
 
 
 class Part:
@@ -38,7 +38,7 @@ class Part:
         self.source, self.size = source, source.size if isinstance(source, Strike) else int(size or 0)
         self.chars, self.text, self.shift = chars, more.pop("text", ""), more.pop("shift_y", 0)
         self.is_symbol, self.options, self.name = more.pop("symbol", False), more, source.name
-        self.has_own = bool(self.text) or not isinstance(chars, str) or chars != ""
+        self.has_own = bool(self.text or more.get("glyphs")) or not isinstance(chars, str) or chars != ""
 
     def own(self) -> dict[int, int]:
         """The characters of its own, each with that of the font's glyph."""
@@ -109,10 +109,9 @@ class Told:
 def merge(parts: Iterable[Given], *, chars: Chars = "", text: str = "", name: str | None = None) -> Strike:
     """One strike of several fonts and strikes.
 
-    A part is a strike, or a tuple: a font (or a strike), its size (None for a strike's), its characters, and a dict of options, of
-    which the last ones may be left out: `(font, 16)`, `(font, 20, "f000-f2e0=e000")`, `(font, 16, "", {"text": "abc", "hinted":
-    False})`. The options are `text`, `hinted`, `dropout`, `symbol` and `refused` as of `Font.strike`, and `shift_y`, which lifts
-    the glyphs by rows.
+    A part is a strike, or a tuple: a font (or a strike), its size (None for a strike's), its characters, and a dict of options, of which
+    the last ones may be left out: `(font, 16)`, `(font, 20, "f000-f2e0=e000")`, `(font, 16, "", {"text": "abc", "hinted": False})`. The
+    options are `text`, `hinted`, `dropout`, `symbol`, `refused` and `glyphs` as of `Font.strike`, and `shift_y`, which lifts the glyphs by rows.
 
     A part gives the characters of its own, also those that a part before it has. One without gives what the parts before it lack of
     `chars` and `text`, which are for all, and of the other parts' characters; a strike gives all that it has, if `chars` and `text`
@@ -165,9 +164,8 @@ def _of(strikes: list[Strike], entries: Mapping[int, bdf.Entry], owners: Mapping
                           if owners[ord(char)] == at}
                          for which in ("outside", "unhinted"))
     refused = {char: why for strike in reversed(strikes) for char, why in strike.refused.items() if ord(char) not in entries}
-    return Strike(merged, is_own=True, names=None if name else strikes[0].names, refused=refused, unhinted=unhinted,
-                  outside=outside,
-                  given=strikes[0]._given, strays=sum(it.strays for it in strikes), steps=sum(it.steps for it in strikes))
+    return Strike(merged, is_own=True, names=None if name else strikes[0].names, refused=refused, unhinted=unhinted, outside=outside,
+                  underline=strikes[0].underline, given=strikes[0]._given, strays=sum(it.strays for it in strikes), steps=sum(it.steps for it in strikes))
 
 
 def fitting(parts: list[Part], width: int, height: int, chars: Chars, text: str, ascent: int | None, clip: bool) -> int:

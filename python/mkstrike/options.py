@@ -5,6 +5,7 @@ import argparse
 from collections.abc import Iterable, Sequence
 
 from . import formats
+from .layout import ENDS, SIDES, WAYS
 from .refused import shown
 from .sets import SETS
 
@@ -29,7 +30,12 @@ KINDS = ("font", "left", "near", "off")  # of drop-out control
 FONT, BDF = "font", "BDF"  # kinds of input
 FILES = tuple(formats.FORMATS)
 TERMINAL, PICTURE = "--preview on the terminal", "--preview with -o"  # outputs beside the formats
+SHEET, LIST, DIFF = "--sheet", "--list", "--diff"  # outputs that are no strikes
+MODES = {SHEET: 1, LIST: 1, DIFF: 2}  # how many fonts each is of
+DRAWN = (*FILES, TERMINAL, PICTURE)
+EVERY, LETTERS = (*DRAWN, *MODES), (*FILES, SHEET, DIFF)
 WITH_PROPERTIES = ("bdf", "pcf", "otb")
+IN_BYTES = ("c", "raw", "py")  # formats whose bytes can be in more than one layout
 
 
 class Option:
@@ -37,8 +43,7 @@ class Option:
     which one must be given too, or for which outputs don't matter (`unless`); `is_of_font` says that it may stand after each
     --font."""
 
-    def __init__(self, names: str, text: str, *, inputs: Sequence[str] = (FONT, BDF),
-                 outputs: Sequence[str] = (*FILES, TERMINAL, PICTURE),
+    def __init__(self, names: str, text: str, *, inputs: Sequence[str] = (FONT, BDF), outputs: Sequence[str] = DRAWN,
                  needs: Sequence[str] = (), unless: str = "", is_of_font: bool = False, advice: str = "", **more: Any) -> None:
         self.names, self.inputs, self.outputs, self.needs = names.split(), inputs, outputs, needs
         self.text, self.unless, self.is_of_font, self.advice, self.more = text, unless, is_of_font, advice, more
@@ -57,25 +62,29 @@ class Option:
         if not set(self.outputs) & set(outputs) and self.unless not in given:
             files = [it for it in self.outputs if it in FILES]
             found = ["--format " + ",".join(files)] if 0 < len(files) < len(FILES) else ["files"] if files else []
-            found += [it for it in self.outputs if it not in FILES]
+            found += [it for it in self.outputs if it not in FILES and (not found or it not in MODES)]
             raise ValueError("%s is for %s, not for %s%s" % (name, " and ".join(found), " and ".join(outputs), self.advice))
 
 
 # By groups, each with its heading.
 TABLE = {
     "characters": (
-        Option("--chars --set", CHARS % ", ".join(SETS), outputs=FILES, unless="fit", is_of_font=True, metavar="LIST"),
-        Option("--all", "every character of the font", outputs=FILES, unless="fit", is_of_font=True, const="all", dest="chars"),
-        Option("--text", "the characters that a text in UTF-8 uses; - is standard input", outputs=FILES, unless="fit",
-               is_of_font=True, metavar="FILE"),
-        Option("--symbol", "a font of symbols: U+0020 to U+00FF are its characters from U+F020 on", inputs=(FONT,),
-               is_of_font=True, const=True)),
+        Option("--chars --set", CHARS % ", ".join(SETS), outputs=LETTERS, unless="fit", is_of_font=True, metavar="LIST"),
+        Option("--all", "every character of the font", outputs=LETTERS, unless="fit", is_of_font=True, const="all", dest="chars"),
+        Option("--text", "the characters that a text in UTF-8 uses; - is standard input",
+               outputs=LETTERS, unless="fit", is_of_font=True, metavar="FILE"),
+        Option("--glyph", "glyphs of the font by name or number, and the characters that get them, as A.alt=e000,1234=e001", inputs=(FONT,), is_of_font=True,
+               metavar="GLYPH=CHAR,.."),
+        Option("--symbol", "a font of symbols: U+0020 to U+00FF are its characters from U+F020 on", inputs=(FONT,), is_of_font=True, const=True)),
     "sizes and cells": (
-        Option("--size --ppem", "sizes in pixels per em, and ranges of them, as 12,16-20 (16)", inputs=(FONT,), is_of_font=True,
-               metavar="N,.."),
-        Option("--fit",
-               "the largest size at which no glyph leaves a cell of W x H pixels, and these cells; box drawing joins; with --clip "
-               "the largest at which a line fits", inputs=(FONT,), metavar="WxH"),
+        Option("--size --ppem", "sizes in pixels per em, and ranges of them, as 12,16-20 (16), or points at a resolution, as 12pt@96", inputs=(FONT,),
+               outputs=(*DRAWN, LIST, DIFF), is_of_font=True, metavar="N,.."),
+        Option("--height", "the largest size at which a line has at most N rows",
+               inputs=(FONT,), is_of_font=True, type=int, metavar="N"),
+        Option("--cap-height", "the largest size at which a capital H has at most N rows",
+               inputs=(FONT,), is_of_font=True, type=int, metavar="N"),
+        Option("--fit", "the largest size at which no glyph leaves a cell of W x H pixels, and these cells; box drawing joins; with --clip the "
+               "largest at which a line fits", inputs=(FONT,), metavar="WxH"),
         Option("--cell", "one advance for all, in cells of W x H pixels; glyphs that leave the cell are named", metavar="WxH"),
         Option("--ascent", "the rows of a cell above the baseline", needs=("cell", "fit"), type=int, metavar="N"),
         Option("--clip", "glyphs lose the pixels outside the cell", needs=("cell", "fit"), action="store_true"),
@@ -87,38 +96,53 @@ TABLE = {
                "characters of its own gives what those before it lack", metavar="FONT"),
         Option("--shift-y", "after a --font: lift its glyphs by N rows", is_of_font=True, type=int, metavar="N")),
     "how a font is drawn": (
-        Option("--unhinted", "do not run the font's own programs", inputs=(FONT,), is_of_font=True, const=True),
-        Option("--dropout", DROPOUT, inputs=(FONT,), is_of_font=True, choices=KINDS, metavar="[font|left|near|off]"),
-        Option("--face", "the font of a collection, from 0", inputs=(FONT,), is_of_font=True, type=int, metavar="N"),
-        Option("--axes", "the instance of a variable font, as wght=700", inputs=(FONT,), is_of_font=True, metavar="TAG=N,.."),
-        Option("--refused",
-               "characters that are refused are left out (leave-out, the default), drawn unhinted, or refuse the strike",
-               inputs=(FONT,), is_of_font=True, choices=("leave-out", "unhinted", "refuse"), metavar="WHAT")),
+        Option("--unhinted", "do not run the font's own programs", inputs=(FONT,), outputs=EVERY, is_of_font=True, const=True),
+        Option("--dropout", DROPOUT, inputs=(FONT,), outputs=EVERY, is_of_font=True, choices=KINDS, metavar="[font|left|near|off]"),
+        Option("--face", "the font of a collection, from 0", inputs=(FONT,), outputs=EVERY, is_of_font=True, type=int, metavar="N"),
+        Option("--axes", "the instance of a variable font, as wght=700",
+               inputs=(FONT,), outputs=EVERY, is_of_font=True, metavar="TAG=N,.."),
+        Option("--refused", "characters that are refused are left out (leave-out, the default), drawn unhinted, or refuse the strike",
+               inputs=(FONT,), outputs=(*DRAWN, DIFF), is_of_font=True, choices=("leave-out", "unhinted", "refuse"), metavar="WHAT")),
     "files": (
-        Option("-o", "the one file to write, whose ending says the format; %s in it is the size; - is standard output",
-               outputs=(*FILES, PICTURE),
+        Option("-o", "the one file to write, whose ending says the format; %s in it is the size; - is standard output", outputs=(*FILES, PICTURE, SHEET, DIFF),
                dest="output", metavar="FILE"),
-        Option("--out", "where the files go (.)", outputs=FILES, metavar="FOLDER"),
+        Option("--out", "where the files go (.)", outputs=(*FILES, SHEET), metavar="FOLDER"),
         Option("--format", "any of %s (bdf)" % ", ".join(FILES), outputs=(*FILES, PICTURE), metavar="NAME,.."),
         Option("--order", "the cells of a character set of one byte, as cp437, in its order", outputs=("raw",), metavar="SET"),
-        Option("--preview", "print a text on the terminal, or write a picture of it with -o FILE.png, and no strike",
-               outputs=(TERMINAL, PICTURE),
+        Option("--bytes", "how the pixels of a cell become bytes: by rows (rows, the default), by columns (columns), or eight rows at a time, a byte a column "
+               "(pages)", outputs=IN_BYTES, choices=WAYS, metavar="WAY"),
+        Option("--bits", "where the first pixel of a byte is, the leftmost or the topmost: in the highest bit (msb, the default of rows) or in the lowest "
+               "(lsb, that of columns and pages)", outputs=IN_BYTES, choices=ENDS, metavar="END"),
+        Option("--align", "the bits that a row or a column leaves over come after its pixels (left, the default) or before them (right)",
+               outputs=("c", "raw"), choices=SIDES, metavar="SIDE"),
+        Option("--attribute", "the attribute of the arrays in C, such as PROGMEM", outputs=("c",), metavar="WORD"),
+        Option("--dense", "number the characters without gaps from the first on, so that no entry is empty",
+               outputs=("gfx",), action="store_true"),
+        Option("--padding", "clear pixels on each side of a glyph in the picture", outputs=("fnt",), type=int, metavar="N"),
+        Option("--preview", "print a text on the terminal, or write a picture of it with -o FILE.png, and no strike", outputs=(TERMINAL, PICTURE, SHEET),
                metavar="TEXT"),
         Option("--name", "the name in the files, and of the files, if it can be one; else that of the font's file", outputs=FILES),
         Option("--x11", "add the properties that X11 and fontconfig look for, and without --name the font's long name",
                outputs=(*WITH_PROPERTIES, "psf"), action="store_true"),
         Option("--property", "add a property", outputs=WITH_PROPERTIES, action="append", metavar="KEY=VALUE"),
-        Option("--scale", "the side of a pixel's square in pictures", outputs=(*formats.PICTURES, PICTURE),
-               advice="; twice the size is --size",
+        Option("--scale", "the side of a pixel's square in pictures", outputs=(*formats.PICTURES, PICTURE, SHEET, DIFF), advice="; twice the size is --size",
                type=int, metavar="N"),
         Option("--columns", "glyphs in a row of a picture", outputs=formats.PICTURES, type=int, metavar="N")),
+    "what else it does": (
+        Option("--sheet", "one picture of a text at sizes, as 8-24: each with its cell and the letters that fall apart, with drop-out control and without; "
+               "the text is that of --preview", inputs=(FONT,), outputs=(SHEET,), metavar="N,.."),
+        Option("--list", "print what is in the font: characters, glyph numbers and names, and with --size their metrics", outputs=(LIST,),
+               action="store_true"),
+        Option("--json", "the list as JSON", outputs=(LIST,), action="store_true"),
+        Option("--diff", "compare two strikes, an old one and a new one: the characters that differ, drawn beside each other, with -o in a picture; "
+               "the status is 1 if any does", outputs=(DIFF,), action="store_true")),
     "what goes wrong": (
         Option("--require", "a character that is missing refuses the strike", action="store_true"),
         Option("--strict", "a character that is missing or refused refuses the strike", action="store_true"),
-        Option("--quiet", "print only what went wrong", outputs=(*FILES, PICTURE), action="store_true")),
+        Option("--quiet", "print only what went wrong", outputs=(*FILES, PICTURE, SHEET, DIFF), action="store_true")),
 }
 OPTIONS = [it for options in TABLE.values() for it in options]
-SUMS = ("chars", "text")  # options that add up
+SUMS = ("chars", "text", "glyph")  # options that add up
 
 
 class Version(argparse.Action):
@@ -202,9 +226,9 @@ def check(options: argparse.Namespace, inputs: Sequence[tuple[str, str]], output
     """Refuses the options that have no meaning for what is given: `inputs` are the kind and the path of each font, in its order."""
     given = [it.dest for it in OPTIONS if getattr(options, it.dest, None) not in (None, False)]
     given += [dest for group in options.groups for dest in group]
-    is_joined = len(options.groups) > 1
+    is_joined = len(options.groups) > 1 or options.diff
     for option in OPTIONS:
-        # an option for all fonts of one strike is for those for which it has a meaning
+        # an option for all fonts of one strike, or for two that are compared, is for those for which it has a meaning
         common = [it for it in inputs if it[0] in option.inputs] or inputs if is_joined else inputs
         if option.dest == "shift_y" and option.dest in options.groups[0]:
             raise ValueError("--shift-y lifts the glyphs of one font among others: give it after its --font")

@@ -2,7 +2,7 @@
 from __future__ import annotations
 
 from collections.abc import Iterable
-from typing import TYPE_CHECKING
+from typing import TYPE_CHECKING, Any
 
 from ._library import whole
 from .refused import NotInstalled
@@ -40,6 +40,15 @@ def cells(strike: Strike, columns: int) -> tuple[int, int, list[tuple[int, int, 
     return columns * (width + 1) - 1, -(-len(strike) // columns) * (height + 1) - 1, placed
 
 
+def pillow() -> Any:
+    """Pillow's module of pictures."""
+    try:
+        from PIL import Image
+    except ImportError as fault:
+        raise NotInstalled("pictures need Pillow (Debian: python3-pil; pip install Pillow)") from fault
+    return Image
+
+
 def check_size(width: int, height: int) -> None:
     """Refuses a picture that would take much memory."""
     if width * height > MOST:
@@ -48,14 +57,11 @@ def check_size(width: int, height: int) -> None:
 
 def drawn(width: int, height: int, placed: Iterable[tuple[int, int, Glyph]], scale: int, margin: int = 0) -> Image:
     """A picture with glyphs at places, counted from the top left, and a margin around them; each pixel becomes a square."""
-    try:
-        from PIL import Image
-    except ImportError as fault:
-        raise NotInstalled("pictures need Pillow (Debian: python3-pil; pip install Pillow)") from fault
+    image = pillow()
     width, height = width + 2 * margin, height + 2 * margin
     check_size(width * scale, height * scale)
-    made = Image.new("1", (max(width, 1), max(height, 1)), 1)
+    made: Image = image.new("1", (max(width, 1), max(height, 1)), 1)
     for x, y, glyph in placed:
         if glyph.width and glyph.height:
-            made.paste(0, (x + margin, y + margin), Image.frombytes("1", (glyph.width, glyph.height), b"".join(glyph.rows)))
-    return made if scale == 1 else made.resize((made.width * scale, made.height * scale), Image.NEAREST)
+            made.paste(0, (x + margin, y + margin), image.frombytes("1", (glyph.width, glyph.height), b"".join(glyph.rows)))
+    return made if scale == 1 else made.resize((made.width * scale, made.height * scale), image.NEAREST)

@@ -32,6 +32,7 @@ class Strike(Glyphs):
     - `unhinted`: from each character that was refused, and drawn without hinting, to its refusal
     - `outside`: from each character that left its cell to how far (see `cell`)
     - `names`: what its font calls itself, from which `with_properties` makes the long name of X11; None if it has a name of its own
+    - `underline`: where the upper edge of an underline is, in rows above the baseline, and how many rows it has; None if nothing says
     - `notes`: what else there is to know of it, a line each, as that no pixel is set
     - `strays`, `steps`: what the font's programs did, if the strike was made here, else 0
     """
@@ -39,10 +40,10 @@ class Strike(Glyphs):
     def __init__(self, text: bytes | bdf.Text, *, size: int | None = None, count: int | None = None, missing: tuple[str, ...] = (),
                  refused: Mapping[str, Refused] | None = None, unhinted: Mapping[str, Refused] | None = None,
                  outside: Mapping[str, Outside] | None = None, names: Names | None = None, notes: tuple[str, ...] = (),
-                 strays: int = 0,
-                 steps: int = 0, is_own: bool = False, given: Mapping[str, bdf.Value] | None = None) -> None:
-        """A strike of its text, with what is known of it: its size and how many glyphs it has are read if they are not. `is_own`
-        says that this package or the program wrote the text (see `bdf.parse`), `given` which properties its user gave."""
+                 underline: tuple[int, int] | None = None, strays: int = 0, steps: int = 0, is_own: bool = False,
+                 given: Mapping[str, bdf.Value] | None = None) -> None:
+        """A strike of its text, with what is known of it: its size and how many glyphs it has are read if they are not. `is_own` says that
+        this package or the program wrote the text (see `bdf.parse`), `given` which properties its user gave."""
         self._text = text if isinstance(text, bytes) else None
         self._parsed = None if isinstance(text, bytes) else text
         self._is_own, self._size, self._count = is_own, size, count
@@ -51,6 +52,7 @@ class Strike(Glyphs):
         self.unhinted: dict[str, Refused] = dict(unhinted or {})
         self.outside: dict[str, Outside] = dict(outside or {})
         self.names, self.strays, self.steps = names, strays, steps
+        self._underline = underline
         self._given: dict[str, bdf.Value] = dict(given or {})
         self._made: dict[int | None, glyphs.Glyph] = {}
 
@@ -105,6 +107,12 @@ class Strike(Glyphs):
     def properties(self) -> dict[str, bdf.Value]:
         """The properties of the text beside FONT_ASCENT and FONT_DESCENT."""
         return dict(self.parsed().properties)
+
+    @property
+    def underline(self) -> tuple[int, int] | None:
+        """Where the upper edge of an underline is, in rows above the baseline, and how many rows it has: by the properties of X11, or the font."""
+        position, thickness = (self.parsed().properties.get("UNDERLINE_" + name) for name in ("POSITION", "THICKNESS"))
+        return (-position, thickness) if isinstance(position, int) and isinstance(thickness, int) else self._underline
 
     def __getitem__(self, char: str | int) -> glyphs.Glyph:
         code = code_of(char)
@@ -208,6 +216,11 @@ class Strike(Glyphs):
         from . import cell
         return cell.in_cell(self, width, height, ascent, clip, join)
 
+    def diff(self, other: Strike) -> Diff:
+        """How another strike differs: in its characters, their pixels, places and advances, in size, ascent and descent."""
+        from .diff import Diff
+        return Diff(self, other)
+
     def with_properties(self, properties: Mapping[str, bdf.Value] | None = None, *, x11: bool = False) -> Strike:
         """The strike with more properties; with `x11` those that X11, fontconfig and bdf2psf look for, which given ones replace. A
         strike without a name of its own then gets the long name of X11."""
@@ -230,7 +243,8 @@ class Strike(Glyphs):
     def _with(self, text: bdf.Text, **changed: Any) -> Strike:
         """A strike of another text, of which the same is known as here but for what changed."""
         tell_of_unnamed(self.parsed().unnamed)
-        known: dict[str, Any] = {name: getattr(self, name) for name in ("missing", "names", "notes", "strays", "steps")}
+        known: dict[str, Any] = {name: getattr(self, name) for name in (
+            "missing", "names", "notes", "underline", "strays", "steps")}
         known.update(self._told(), given=self._given)
         known.update(changed)
         return Strike(text, is_own=True, **known)
@@ -246,3 +260,4 @@ def tell_of_unnamed(names: Sequence[str]) -> None:
 
 if TYPE_CHECKING:
     from .cell import Outside
+    from .diff import Diff

@@ -1,4 +1,4 @@
-"""The tables of a font's file, as far as this package reads them: names, axes, sizes of bitmaps. A damaged table says nothing."""
+"""The tables of a font's file, as far as this package reads them: names, axes, the underline, sizes of bitmaps. A damaged table says nothing."""
 from __future__ import annotations
 
 import struct
@@ -54,6 +54,16 @@ def axes(data: bytes, face: int) -> dict[str, Axis]:
             least, default, greatest = (it / 65536 for it in places)
             found[tag] = least, default, greatest
     return found
+
+
+def underline(data: bytes, face: int, size: int) -> tuple[int, int] | None:
+    """Where the upper edge of an underline is, in rows above the baseline, and how many rows it has, by the tables `post` and `head`."""
+    (em,) = numbers(">H", table(data, face, b"head"), 18) or (0,)
+    position, thickness = numbers(">hh", table(data, face, b"post"), 8) or (0, 0)
+    if em == 0 or thickness <= 0:
+        return None
+    row, rows = ((2 * it * size + em) // (2 * em) for it in (position, thickness))
+    return row, max(rows, 1)
 
 
 def bitmap_sizes(data: bytes, face: int) -> set[int]:

@@ -11,7 +11,9 @@ pytestmark = [needs_font(SANS, MONO), needs_pillow]
 INPUTS = {"font": ["in.ttf"], "BDF": ["in.bdf"], "joined": ["--font", "in.ttf", "--font", "in.bdf"]}
 # The words that make each kind of output; its file, if it has one.
 OUTPUTS = {**{it: ["-o", "out", "--format", it] for it in options.FILES}, options.TERMINAL: ["--preview", "AWkƜ一█"],
-           options.PICTURE: ["-o", "out.png", "--preview", "AWkƜ一█"]}
+           options.PICTURE: ["-o", "out.png", "--preview", "AWkƜ一█"], options.SHEET: ["--sheet", "9,16", "--out", "."],
+           options.LIST: ["--list"], options.DIFF: ["--diff", "in.bdf"]}
+WITHOUT_CHARS = (options.TERMINAL, options.PICTURE, options.LIST)
 CELLS = ["--cell", "8x14"]  # in which some glyphs leave the cell, and raw cells can be made
 # From each option to its words, which change the output beside those words that come with it.
 WORDS = {
@@ -24,10 +26,14 @@ WORDS = {
     "name": ["--name", "other"],
     "x11": ["--x11"], "property": ["--property", "FAMILY_NAME=Other"], "scale": ["--scale", "3"], "columns": ["--columns", "5"],
     "output": ["-o", "other"],
+    "bytes": ["--bytes", "columns"], "bits": ["--bits", "lsb"], "align": ["--align", "right"], "attribute": ["--attribute", "PROGMEM"],
+    "dense": ["--dense"], "padding": ["--padding", "2"], "glyph": ["--glyph", "B=41"], "height": ["--height", "15"],
+    "cap_height": ["--cap-height", "9"], "sheet": ["--sheet", "8-9"], "list": ["--list"], "json": ["--json"], "diff": ["--diff", "in.bdf"],
     "require": ["--require"], "strict": ["--strict"], "quiet": ["--quiet"], "font": ["--font", "in.bdf"],
 }
 # Options that are in effect already, for these outputs: these formats always have the properties, and a sheet shows no cells.
 SAME = {("x11", it) for it in ("pcf", "otb", "psf")}
+BESIDE = {"align": ["--bytes", "columns"]}  # words for which an option makes a difference
 NEEDED = {"ascent": CELLS, "clip": CELLS, "join": CELLS}
 LETTERS = "41-5a,19c,2500-2502,2588,4e00,20,31"  # one of them is refused, one is missing, and some have lines that can be joined
 
@@ -65,15 +71,14 @@ def test_each_has_words():
 def test_pairs(folder, kind, output):
     """No option is ignored."""
     ignored = []
-    asked = [] if "--preview" in OUTPUTS[output] else ["--chars", LETTERS]
+    asked = [] if output in WITHOUT_CHARS else ["--chars", LETTERS]
     for name, words in WORDS.items():
-        common = asked if name not in ("chars", "all", "text",
-                                       "fit") else ["--chars", LETTERS] if output not in (options.TERMINAL, options.PICTURE) else []
+        common = asked if name not in ("chars", "all", "text", "fit") else ["--chars", LETTERS] if output not in WITHOUT_CHARS else []
         cells = [] if output not in ("raw", "psf") or name in ("cell", "fit") else CELLS if name == "clip" else [*CELLS, "--clip"]
-        before = [*common, *OUTPUTS[output], *(cells or NEEDED.get(name, []))]
+        before = [*common, *OUTPUTS[output], *(cells or NEEDED.get(name, [])), *BESIDE.get(name, [])]
         if name in ("out", "name"):
             before = [it for it in before if it not in ("-o", "out")]  # without a file of its own
-        if name in ("preview", "format", "output") and words[0] in before:
+        if name in ("preview", "format", "output", "list", "diff") and words[0] in before:
             continue  # the output is made by this option
         base, found = made(folder, [*before, *INPUTS[kind]]), made(folder, [*words, *before, *INPUTS[kind]])
         if found[0] == 2 or found[0] == 1 and found[2] and not found[3]:
