@@ -1,5 +1,5 @@
 // Runs the program, dist/program.wasm, which asks a system for its arguments, streams and files as it asks the C library on Linux.
-// `system` is Node's fs with `isatty` and `pid`, or has as much of it as a run needs: what it lacks fails.
+// `system` is Node's fs with `isatty`, `pid` and crypto's `randomFillSync`, or has as much of it as a run needs.
 
 // Linux's numbers of errors, by Node's names; any other is EIO.
 const ERRORS = { EPERM: 1, ENOENT: 2, EINTR: 4, EIO: 5, EBADF: 9, EAGAIN: 11, EACCES: 13, EEXIST: 17, ENOTDIR: 20, EISDIR: 21, EINVAL: 22, ENOSPC: 28,
@@ -54,13 +54,18 @@ export function run(module, words, system) {
     statx: (file, name, flags, mask, to) => done(() => {
       const how = { bigint: true }, isLink = flags & AT_SYMLINK_NOFOLLOW;
       const found = flags & AT_EMPTY_PATH ? system.fstatSync(files[file], how) : system[isLink ? 'lstatSync' : 'statSync'](path(name), how);
+      view(to).setUint32(20, Number(found.uid), true);
+      view(to).setUint32(24, Number(found.gid), true);
       view(to).setUint16(28, Number(found.mode), true);
       view(to).setBigUint64(32, found.ino, true);
       view(to).setBigUint64(40, found.size, true);
       view(to).setBigUint64(136, found.dev, true);
     }),
     readlink: (name, to, size) => BigInt(tried(() => put(new TextEncoder().encode(system.readlinkSync(path(name))), to, size))),
+    fchown: (file, owner, group) => done(() => system.fchownSync(files[file], owner, group)),
     fchmod: (file, mode) => done(() => system.fchmodSync(files[file], mode)),
+    fsync: (file) => done(() => system.fsyncSync(files[file])),
+    getentropy: (at, size) => done(() => system.randomFillSync(bytes(at, size))),
     rename: (from, to) => done(() => system.renameSync(path(from), path(to))),
     unlink: (name) => done(() => system.unlinkSync(path(name))),
     __sysv_signal: () => 0n, // a closed pipe ends nothing here: the write fails
@@ -85,6 +90,8 @@ export function runInMemory(module, words, font) {
     openSync: absent,
     statSync: absent,
     lstatSync: absent,
+    readlinkSync: absent,
+    randomFillSync: absent,
     readSync: (_, to) => {
       const part = font.subarray(at, at + to.length);
       to.set(part);

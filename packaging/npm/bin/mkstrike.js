@@ -1,5 +1,6 @@
 #!/usr/bin/env node
 // The command mkstrike: the program's WebAssembly module, with the arguments, the files and the streams of this process.
+import { randomFillSync } from 'node:crypto';
 import * as fs from 'node:fs';
 import process from 'node:process';
 import { isatty } from 'node:tty';
@@ -24,5 +25,5 @@ const waiting = (call) => (...given) => {
 // V8's optimising compiler pays for itself in long runs alone. By default it begins during the first strike.
 if (parseInt(process.versions.node, 10) <= 24) setFlagsFromString('--wasm-tiering-budget=100000000');
 const module = new WebAssembly.Module(fs.readFileSync(new URL('../program.wasm', import.meta.url)));
-const system = { ...fs, readSync: waiting(fs.readSync), writeSync: waiting(fs.writeSync), isatty, pid: process.pid };
+const system = { ...fs, readSync: waiting(fs.readSync), writeSync: waiting(fs.writeSync), isatty, randomFillSync, pid: process.pid };
 process.exitCode = run(module, process.argv.slice(2), system);
