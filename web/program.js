@@ -1,5 +1,5 @@
 // Runs the program, dist/program.wasm, which asks a system for its arguments, streams and files as it asks the C library on Linux.
-// `system` is Node's fs with `isatty`, `pid` and crypto's `randomFillSync`, or has as much of it as a run needs.
+// `system` is Node's fs with `isatty` and `randomFillSync`, or has as much of it as a run needs: what it lacks fails.
 
 // Linux's numbers of errors, by Node's names; any other is EIO.
 const ERRORS = { EPERM: 1, ENOENT: 2, EINTR: 4, EIO: 5, EBADF: 9, EAGAIN: 11, EACCES: 13, EEXIST: 17, ENOTDIR: 20, EISDIR: 21, EINVAL: 22, ENOSPC: 28,
@@ -37,7 +37,7 @@ export function run(module, words, system) {
     rattle_arg: (at, to, size) => BigInt(at < args.length ? put(args[at], to, size) : -1),
     rattle_errno: () => errno,
     rattle_set_errno: (number) => (errno = number),
-    getpid: () => system.pid,
+    getentropy: (at, size) => done(() => system.randomFillSync(bytes(at, size))),
     isatty: (file) => Number(system.isatty(files[file])),
     read: (file, at, size) => BigInt(tried(() => system.readSync(files[file], bytes(at, size)))),
     write: (file, at, size) => BigInt(tried(() => system.writeSync(files[file], bytes(at, size)))),
@@ -62,10 +62,9 @@ export function run(module, words, system) {
       view(to).setBigUint64(136, found.dev, true);
     }),
     readlink: (name, to, size) => BigInt(tried(() => put(new TextEncoder().encode(system.readlinkSync(path(name))), to, size))),
-    fchown: (file, owner, group) => done(() => system.fchownSync(files[file], owner, group)),
     fchmod: (file, mode) => done(() => system.fchmodSync(files[file], mode)),
+    fchown: (file, owner, group) => done(() => system.fchownSync(files[file], owner >>> 0, group >>> 0)),
     fsync: (file) => done(() => system.fsyncSync(files[file])),
-    getentropy: (at, size) => done(() => system.randomFillSync(bytes(at, size))),
     rename: (from, to) => done(() => system.renameSync(path(from), path(to))),
     unlink: (name) => done(() => system.unlinkSync(path(name))),
     __sysv_signal: () => 0n, // a closed pipe ends nothing here: the write fails
@@ -84,14 +83,13 @@ export function runInMemory(module, words, font) {
   const written = [null, [], []];
   let at = 0;
   const status = run(module, words, {
-    pid: 1,
     constants: {},
     isatty: () => false,
+    randomFillSync: absent,
     openSync: absent,
     statSync: absent,
     lstatSync: absent,
     readlinkSync: absent,
-    randomFillSync: absent,
     readSync: (_, to) => {
       const part = font.subarray(at, at + to.length);
       to.set(part);

@@ -58,7 +58,7 @@ function ran({ words, font }) {
   const input = fs.openSync(font), output = createHash('sha256'), said = [];
   const writeSync = (file, part) => ((file === 1 ? output.update(part) : said.push(Buffer.from(part))), part.length);
   const readSync = (file, part) => fs.readSync(file || input, part);
-  const status = run(module, words, { ...fs, readSync, writeSync, pid: process.pid, isatty: () => false });
+  const status = run(module, words, { ...fs, readSync, writeSync, isatty: () => false });
   fs.closeSync(input);
   return [status, output.digest('hex'), Buffer.concat(said).toString()];
 }

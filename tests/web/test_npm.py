@@ -50,8 +50,15 @@ def late_fault(it):
         it.equal("a fault of %s" % call, (status, it.read("old.bdf") == b"old", it.files()), (1, True, before))
 
 
+def setuid(it):
+    """The new file is never setuid or setgid, whatever the older one was."""
+    os.chmod(put(it.folder, "old.bdf", b"old"), 0o6755)
+    it.run(MAKE[:-1] + ["old.bdf"])
+    it.equal("the mode of a new file", os.stat(it.path("old.bdf")).st_mode & 0o7777, 0o755)
+
+
 # What the command must do as the program does, most of it by the checks of tests/front.
-CHECKS = (front.outputs_by_name, front.outputs_that_are_there, front.fonts_by_name, full_disk, late_fault, taken_name)
+CHECKS = (front.outputs_by_name, front.outputs_that_are_there, front.fonts_by_name, full_disk, late_fault, setuid, taken_name)
 # Faults of web/program.js: the check that must find each, a text, and what takes its place.
 FAULTS = [(full_disk, "system.unlinkSync(path(name))", "0"), (taken_name, "O_EXCL: 0o200, ", "")]
 

@@ -25,5 +25,5 @@ const waiting = (call) => (...given) => {
 // V8's optimising compiler pays for itself in long runs alone. By default it begins during the first strike.
 if (parseInt(process.versions.node, 10) <= 24) setFlagsFromString('--wasm-tiering-budget=100000000');
 const module = new WebAssembly.Module(fs.readFileSync(new URL('../program.wasm', import.meta.url)));
-const system = { ...fs, readSync: waiting(fs.readSync), writeSync: waiting(fs.writeSync), isatty, randomFillSync, pid: process.pid };
+const system = { ...fs, readSync: waiting(fs.readSync), writeSync: waiting(fs.writeSync), isatty, randomFillSync };
 process.exitCode = run(module, process.argv.slice(2), system);
