@@ -1,12 +1,13 @@
 // What the controls ask for, what is said at them, and the address that keeps them. The other parts of the page stand on this one.
-import { lineOf, HINTED, DROPOUT, DROPOUTS, DONE, MOST_PPEM } from './mkstrike.js';
+import { lineOf, HINTED, DROPOUT_FONT, DROPOUTS, DONE, MOST_PPEM } from './mkstrike.js';
 import { boxOf, charsOf, listOf, nameOf, shownName } from './outputs.js';
 import { KINDS } from './tables.js';
 
 export const $ = (id) => document.getElementById(id);
 const MOST_ROWS = 200; // of the table of refused characters
+const MOST_NAMED = 200; // letters of a list of characters
 export const PATIENCE = 300; // milliseconds until the progress shows
-export const KEPT = ['ppem', 'hinted', 'dropout', 'zoom', 'text', 'beside', 'differences', 'chars']; // the controls that the address keeps
+export const KEPT = ['ppem', 'hinted', 'dropout', 'zoom', 'text', 'beside', 'differences', 'chars', 'rule']; // the controls that the address keeps
 
 export const state = {
   worker: null, module: null, font: null, jobs: 0,
@@ -15,7 +16,7 @@ export const state = {
   hasWorked: false, // the worker that is there
   text: null, // what the worker made of the text
   pictures: {}, // that of the text, and that beside it: what is where in it, and its size
-  sheet: { glyphs: [], refused: new Map(), missing: 0, chosen: -1, box: boxOf([]), columns: 1 },
+  sheet: { glyphs: [], refused: new Map(), missing: [], chosen: -1, box: boxOf([]), columns: 1 },
   outline: null, // that of the chosen glyph, or of one before
   ladder: { isSeen: false, id: 0, key: '', text: '', looks: [] }, // whether it is in sight, what it is of, and what the worker made so far
   plain: {}, // the values of the controls that the address keeps, as the page begins
@@ -25,15 +26,15 @@ export const state = {
 
 // A size and a mode as they are chosen, and those beside them, or null.
 export function looks(ppem) {
-  const mode = ($('hinted').checked ? HINTED : 0) + DROPOUTS[$('dropout').value];
+  const mode = ($('hinted').checked ? HINTED : 0) + DROPOUTS[$('dropout').value], rule = $('rule').value;
   const other = {
     hinted: { ppem, mode: mode ^ HINTED },
-    dropout: { ppem, mode: (mode & HINTED) + (mode > HINTED ? 0 : DROPOUT) },
+    dropout: { ppem, mode: (mode & HINTED) + (mode > HINTED ? 0 : DROPOUT_FONT) },
     larger: { ppem: Math.min(ppem + 1, MOST_PPEM), mode },
     smaller: { ppem: Math.max(ppem - 1, 1), mode },
     none: null,
   }[$('beside').value];
-  return { main: { ppem, mode }, other };
+  return { main: { ppem, mode, rule }, other: other && { ...other, rule } };
 }
 
 export function wordsOf({ ppem, mode }) {
@@ -68,7 +69,7 @@ export const isListing = () => wantsAll() && !state.font.chars;
 export function whyEmpty({ glyphs, refused, missing }) {
   if (isListing() || glyphs.some((it) => it.status === DONE)) return '';
   if (refused.size) return 'The strike has no glyph: the characters are refused.';
-  if (!missing) return 'The strike has no glyph: the list of characters is empty.';
+  if (!missing.length) return 'The strike has no glyph: the list of characters is empty.';
   return 'The strike has no glyph: the font has none of these characters. Numbers are hexadecimal: the letter A is 41.';
 }
 
@@ -81,21 +82,44 @@ export function adviceOn(refused) {
   return kind ? `the file ${kind.seems}: ${kind.todo}.` : `${refused.advice}.`;
 }
 
+// Characters by their numbers, as many as there is room for.
+function named(codes) {
+  const list = listOf(codes).replaceAll(',', ', ');
+  return list.length > MOST_NAMED ? `${list.slice(0, list.lastIndexOf(',', MOST_NAMED))} …` : list;
+}
+
+const countOf = (count, one, many) => `${count.toLocaleString('en')} ${count === 1 ? one : many}`;
+
+// Says of a strike that was drawn which characters the font lacks, and if no pixel is set.
+export function showTold({ glyphs, missing }) {
+  const said = [];
+  if (missing.length && !isListing()) said.push(`The font lacks ${countOf(missing.length, 'character', 'characters')}: ${named(missing)}.`);
+  const drawn = glyphs.filter((it) => it.status === DONE);
+  if (drawn.length && !drawn.some((it) => it.width)) said.push('No pixel of the strike is set: its characters are blank.');
+  $('told').textContent = said.join(' ');
+}
+
+// What becomes of the refused characters.
+function fateOf(refused) {
+  const drawn = refused.filter(({ isDrawn }) => isDrawn).length, left = refused.length - drawn, are = (count) => countOf(count, 'is', 'are');
+  if ($('rule').value === 'stop') return 'A strike with them can’t be saved.';
+  return [drawn ? `${are(drawn)} drawn without hinting` : '', left ? `${are(left)} left out` : ''].filter(Boolean).join(', ') + '.';
+}
+
 // Shows what was refused: all, or some characters.
 export function showRefused(ofAll) {
   const each = ofAll ? [] : [...state.next.refused].sort(([one], [other]) => one - other);
   $('refused').hidden = !ofAll && !each.length;
-  $('leave-row').hidden = $('refused-table').hidden = !each.length;
+  $('rule-row').hidden = $('refused-table').hidden = !each.length;
   $('refused-more').textContent = each.length > MOST_ROWS ? `and ${each.length - MOST_ROWS} more` : '';
   if (ofAll) {
     $('refused-line').firstElementChild.textContent = lineOf(ofAll);
     $('refused-text').textContent = `${shownName(state.font.name)}: ${adviceOn(ofAll)}`;
     return;
   }
-  $('refused-line').firstElementChild.textContent = listOf(each.map(([code]) => code));
-  const count = each.length === 1 ? '1 character is' : `${each.length.toLocaleString('en')} characters are`;
-  $('refused-text').textContent = `${count} refused at this size. A strike with them can’t be saved.`;
-  $('refused-table').tBodies[0].replaceChildren(...each.slice(0, MOST_ROWS).map(([code, refused]) => {
+  $('refused-line').firstElementChild.textContent = named(each.map(([code]) => code));
+  $('refused-text').textContent = `${countOf(each.length, 'character is', 'characters are')} refused at this size. ${fateOf(each.map(([, it]) => it))}`;
+  $('refused-table').tBodies[0].replaceChildren(...each.slice(0, MOST_ROWS).map(([code, { refused }]) => {
     const row = document.createElement('tr');
     for (const text of [nameOf(code), lineOf(refused), refused.advice]) row.insertCell().textContent = text;
     return row;

@@ -102,12 +102,12 @@ function coloured(part, other) {
 }
 
 // Asks the worker for the first line of the text at the sizes of the ladder, if that is in sight and not there yet.
-export function askLadder(mode) {
-  const text = ($('text').value.split('\n').find((it) => it.trim()) ?? '').slice(0, MOST_LINE), key = `${state.font.id} ${mode} ${text}`;
+export function askLadder({ mode, rule }) {
+  const text = ($('text').value.split('\n').find((it) => it.trim()) ?? '').slice(0, MOST_LINE), key = `${state.font.id} ${mode} ${rule} ${text}`;
   [...$('ladder').children].forEach((row, k) => row.firstChild.setAttribute('aria-pressed', String(LADDER[k] === $('ppem').valueAsNumber)));
   if (!state.ladder.isSeen || key === state.ladder.key) return;
   state.ladder = { isSeen: true, id: state.jobs, key, text, looks: [] };
-  state.worker.postMessage({ kind: 'ladder', id: state.jobs, mode, sizes: LADDER, textChars: charsOfText(text) });
+  state.worker.postMessage({ kind: 'ladder', id: state.jobs, main: { mode, rule }, sizes: LADDER, textChars: charsOfText(text) });
 }
 
 // Draws the line at one of the sizes, as much of it as has room.

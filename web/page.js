@@ -4,13 +4,14 @@ import { MARGIN, identifierOf, listOf, charsOfText, pngOf, shownName } from './o
 import { SETS } from './tables.js';
 import { MOST_TEXT, partOfText, withCodes } from './text.js';
 import { fromWoff, isWoff } from './woff.js';
-import { $, KEPT, PATIENCE, adviceOn, isListing, readAddress, request, showRefused, state, tell, valueOf, wantsAll, whyEmpty, writeAddress } from './controls.js';
+import { $, KEPT, PATIENCE, adviceOn, isListing, readAddress, request, showRefused, showTold, state, tell, valueOf, wantsAll, whyEmpty, writeAddress } from './controls.js';
 import { LADDER, askLadder, drawText, ratio, showLadder, showRung, showTexts, soon } from './drawing.js';
 import { choose, drawGlyph, drawSheet, measureSheet, showSheet } from './sheet.js';
 
 const NOT_IN_NAMES = /[\\/:*?"<>|]/g; // of files
 const MOST_PICTURE = 6e7; // pixels of a picture that is saved at the zoom
 const BAND = 64; // rows of it that are made at once
+const TTCF = 0x74746366, FVAR = 0x66766172; // tags
 
 // ---- what the page is made of: in one file all parts are elements of it, else they lie beside it
 
@@ -63,7 +64,7 @@ function handFont() {
 }
 
 function takeFont(name, bytes, face = 0) {
-  state.font = { name, bytes, face, chars: null, id: (state.font?.id ?? 0) + 1 };
+  state.font = { name, bytes, face, chars: null, isVariable: isVariable(bytes, face), id: (state.font?.id ?? 0) + 1 };
   showFont();
   tell('file');
   const stem = name.replace(/\.[^.]*$/, '').replace(/[^ -~]/g, '_').trim().slice(0, 200);
@@ -73,9 +74,17 @@ function takeFont(name, bytes, face = 0) {
   draw();
 }
 
+// Whether the directory of a font has the table `fvar`; of a collection that of the font with this index.
+function isVariable(bytes, face) {
+  const view = new DataView(bytes.buffer, bytes.byteOffset, bytes.byteLength), long = (at) => (at + 4 <= view.byteLength ? view.getUint32(at) : 0);
+  const from = long(0) === TTCF ? long(12 + 4 * face) : 0, count = long(from + 4) >>> 16;
+  return Array.from({ length: count }, (_, k) => long(from + 12 + 16 * k)).includes(FVAR);
+}
+
 function showFont() {
-  const { name, bytes, chars } = state.font;
-  $('font').textContent = `${shownName(name)}, ${bytes.length.toLocaleString('en')} bytes${chars ? `, ${chars.length.toLocaleString('en')} characters` : ''}`;
+  const { name, bytes, chars, isVariable: varies } = state.font;
+  $('font').textContent = `${shownName(name)}, ${bytes.length.toLocaleString('en')} bytes${chars ? `, ${chars.length.toLocaleString('en')} characters` : ''}`
+    + (varies ? '; a variable font, of which this is the default instance' : '');
 }
 
 // ---- jobs of the worker, and files that are saved
@@ -88,12 +97,12 @@ function draw() {
   if (!asked) return;
   const { look, chars } = asked;
   const textChars = charsOfText($('text').value).slice(0, MOST_TEXT);
-  $('saved').textContent = '';
+  sayOfSaved('');
   state.started = performance.now();
-  state.next = { id: ++state.jobs, look: look.main, glyphs: [], refused: new Map(), missing: 0 };
+  state.next = { id: ++state.jobs, look: look.main, glyphs: [], refused: new Map(), missing: [] };
   state.worker.postMessage({ kind: 'draw', id: state.jobs, ...look, textChars, chars });
-  askLadder(look.main.mode);
-  busy(isListing() ? 'looking which characters the font has' : 'drawing');
+  askLadder(look.main);
+  busy(isListing() ? 'listing the font’s characters' : 'drawing');
 }
 
 function save(what) {
@@ -101,25 +110,30 @@ function save(what) {
   if (!asked) return notSaved($('ppem-wrong').textContent || $('chars-wrong').textContent);
   const { look, chars } = asked;
   if (what === 'text') return savePicture();
-  const kept = $('leave').checked && !$('leave-row').hidden ? chars.filter((it) => !state.sheet.refused.has(it)) : chars;
-  $('saved').textContent = '';
-  state.worker.postMessage({ kind: 'save', id: state.jobs, what, ...look, chars: kept, name: $('name').value });
-  busy('making what is saved');
+  sayOfSaved('');
+  state.worker.postMessage({ kind: 'save', id: state.jobs, what, ...look, chars, name: $('name').value });
+  busy('preparing the file');
 }
 
-function notSaved(why) {
-  $('saved').textContent = `Not saved. ${why}`;
+// Says at the buttons what became of a file. If characters were refused, a button leads to the choice of what becomes of them.
+function sayOfSaved(text, isOfRefused = false) {
+  $('saved').textContent = text;
+  $('to-rule').hidden = !isOfRefused;
+}
+
+function notSaved(why, isOfOne = false) {
+  sayOfSaved(`Not saved. ${why}`, isOfOne);
   document.body.dataset.saved = `refused ${why}`;
 }
 
-// Hands bytes to the browser as a file.
-function saveBytes(name, bytes) {
+// Hands bytes to the browser as a file, and says its size and what else there is to say.
+function saveBytes(name, bytes, more = [], isOfRefused = false) {
   const link = document.createElement('a');
   link.href = URL.createObjectURL(new Blob([bytes], { type: 'application/octet-stream' }));
   link.download = name;
   link.click();
   setTimeout(() => URL.revokeObjectURL(link.href), 60000);
-  $('saved').textContent = `${name}, ${bytes.length.toLocaleString('en')} bytes.`;
+  sayOfSaved(`${[`${name}, ${bytes.length.toLocaleString('en')} bytes`, ...more].join('; ')}.`, isOfRefused);
   document.body.dataset.saved = name;
 }
 
@@ -152,6 +166,11 @@ function idle() {
 
 // ---- what the worker tells
 
+// Notes a character that is refused, or that is drawn without hinting since it was.
+function noteRefused({ code, refused, cause }) {
+  if (refused || cause) state.next.refused.set(code, { refused: refused ?? cause, isDrawn: !refused });
+}
+
 const receive = {
   faces({ id, names }) {
     if (id !== state.font.id) return;
@@ -173,7 +192,6 @@ const receive = {
     state.text = data;
     state.hasWorked = true;
     [data.main, data.other].filter(Boolean).forEach(withCodes);
-    for (const it of data.main.glyphs) if (it.refused) state.next.refused.set(it.code, it.refused);
     drawText();
     document.body.dataset.ms = (performance.now() - state.started).toFixed(1);
     $('status').textContent = `Drawn in ${Math.ceil(performance.now() - state.started)} ms.`;
@@ -185,9 +203,9 @@ const receive = {
     $('progress').value = done;
     const next = state.next;
     for (const it of glyphs) {
-      if (it.status === MISSING) next.missing++;
+      if (it.status === MISSING) next.missing.push(it.code);
       else next.glyphs.push({ ...it, pixels });
-      if (it.refused) next.refused.set(it.code, it.refused);
+      noteRefused(it);
     }
     showSheet(next, done === total);
   },
@@ -198,6 +216,7 @@ const receive = {
     if (refused) state.next.glyphs = [];
     else tell('chars', whyEmpty(state.next));
     showSheet(state.next, true);
+    showTold(state.next);
     showRefused(refused);
     document.body.dataset.drawn = id;
   },
@@ -221,12 +240,14 @@ const receive = {
     document.body.dataset.ladder = `${id} ${state.ladder.looks.length}`;
   },
 
-  saved({ what, bytes, refused, why }) {
+  saved({ what, bytes, refused, isOfOne, why, left, unhinted, entries, empty }) {
     idle();
-    if (refused) return notSaved(`${lineOf(refused)}: ${adviceOn(refused)}`);
+    if (refused) return notSaved(`${lineOf(refused)}: ${adviceOn(refused)}`, isOfOne);
     if (!bytes) return notSaved(why ?? 'The strike has no glyph.');
-    const { value } = $('name'), endings = { c: '.h', gfx: '-gfx.h' };
-    saveBytes(endings[what] ? identifierOf(value) + endings[what] : `${value.replace(NOT_IN_NAMES, '_')}.${what}`, bytes);
+    const { value } = $('name'), endings = { c: '.h', gfx: '-gfx.h' }, count = (it) => it.toLocaleString('en');
+    const more = [left ? `${count(left)} refused left out` : '', unhinted ? `${count(unhinted)} drawn without hinting` : '',
+      empty ? `${count(empty)} of its ${count(entries)} entries are empty, as it is one range` : ''].filter(Boolean);
+    saveBytes(endings[what] ? identifierOf(value) + endings[what] : `${value.replace(NOT_IN_NAMES, '_')}.${what}`, bytes, more, left || unhinted);
   },
 
   failed({ text }) {
@@ -242,7 +263,7 @@ const receive = {
 
 function listen() {
   const on = (id, event, act) => $(id).addEventListener(event, act);
-  for (const id of ['controls', 'strike']) on(id, 'submit', (event) => event.preventDefault());
+  on('controls', 'submit', (event) => event.preventDefault());
   on('ppem-slider', 'input', () => {
     $('ppem').value = $('ppem-slider').value;
     draw();
@@ -251,7 +272,7 @@ function listen() {
     $('ppem-slider').value = $('ppem').value;
     draw();
   });
-  for (const id of ['hinted', 'dropout', 'beside', 'text', 'chars']) on(id, 'input', draw);
+  for (const id of ['hinted', 'dropout', 'beside', 'text', 'chars', 'rule']) on(id, 'input', draw);
   const redraw = () => {
     $('zoom-value').value = $('zoom').value;
     if (state.text) drawText();
@@ -268,7 +289,7 @@ function listen() {
   new IntersectionObserver(([{ isIntersecting }]) => {
     state.ladder.isSeen = isIntersecting;
     const asked = isIntersecting && request();
-    if (asked) askLadder(asked.look.main.mode);
+    if (asked) askLadder(asked.look.main);
   }).observe($('ladder'));
   on('ladder', 'click', ({ target }) => {
     if (target.type !== 'button') return;
@@ -284,6 +305,10 @@ function listen() {
     draw();
   });
   document.querySelectorAll('[data-save]').forEach((it) => it.addEventListener('click', () => save(it.dataset.save)));
+  on('to-rule', 'click', () => {
+    $('refused').scrollIntoView({ block: 'center' });
+    $('rule').focus();
+  });
   on('stop', 'click', () => {
     idle();
     $('status').textContent = 'Stopped.';
@@ -340,7 +365,10 @@ async function start() {
     row.append(button, Object.assign(document.createElement('canvas'), { width: 0, height: 0 }));
     return row;
   }));
-  if (innerWidth < 600) $('zoom').value = $('zoom-value').value = 2;
+  if (innerWidth < 600) {
+    $('zoom').value = $('zoom-value').value = 2;
+    $('more').open = $('sizes').open = false;
+  }
   state.plain = Object.fromEntries(KEPT.map((id) => [id, valueOf(id)]));
   readAddress();
   startWorker();

@@ -15,8 +15,7 @@ export function showSheet(next, isWhole) {
     sheet.known = sheet.glyphs.length;
   }
   const drawn = sheet.glyphs.filter((it) => it.status === DONE).length;
-  $('sheet-count').textContent = `${drawn.toLocaleString('en')} glyphs${sheet.missing ? `; the font lacks ${sheet.missing.toLocaleString('en')} of the characters` : ''}${
-    sheet.refused.size ? `; ${sheet.refused.size.toLocaleString('en')} refused` : ''}`;
+  $('sheet-count').textContent = `${drawn.toLocaleString('en')} glyphs${sheet.refused.size ? `; ${sheet.refused.size.toLocaleString('en')} refused` : ''}`;
   // at first the letter A, or else the first glyph with pixels
   if (sheet.chosen < 0) sheet.chosen = sheet.glyphs.findIndex((it) => it.code === 0x41 && it.width);
   if (sheet.chosen < 0) sheet.chosen = sheet.glyphs.findIndex((it) => it.width);
