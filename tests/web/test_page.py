@@ -362,13 +362,15 @@ def order(page):
     page.browser.evaluate("document.getElementById('sizes').scrollIntoView()")  # where nothing sticks to the edge
     places = page.browser.evaluate("%s.map((id) => [...document.querySelectorAll('main *')].indexOf(document.getElementById(id)))" % json.dumps(ids))
     assert places == sorted(places) and tops[:4] == sorted(tops[:4]), "another order: %s" % tops
-    page.browser.call("Emulation.setDeviceMetricsOverride", width=390, height=844, deviceScaleFactor=2, mobile=True)
+    page.browser.call("Emulation.setDeviceMetricsOverride", width=390, height=844, deviceScaleFactor=1, mobile=True)
     page.open()
     if os.path.exists(SANS):
         page.drop(SANS)
+    page.browser.call("Emulation.setScrollbarsHidden", hidden=True)
     line, bar = page.browser.evaluate("['main', 'save'].map((id) => document.getElementById(id).getBoundingClientRect().top)")
     assert line + 64 <= bar < 844, "on a phone the picture begins at %d, and the buttons at %d" % (line, bar)
-    page.picture("phone")
+    page.picture("page-phone")  # docs/WEB.md shows it
+    page.browser.call("Emulation.setScrollbarsHidden", hidden=False)
     page.browser.call("Emulation.clearDeviceMetricsOverride")
 
 
