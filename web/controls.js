@@ -7,7 +7,8 @@ export const $ = (id) => document.getElementById(id);
 const MOST_ROWS = 200; // of the table of refused characters
 const MOST_NAMED = 200; // letters of a list of characters
 export const PATIENCE = 300; // milliseconds until the progress shows
-export const KEPT = ['ppem', 'hinted', 'dropout', 'zoom', 'text', 'beside', 'differences', 'chars', 'rule']; // the controls that the address keeps
+// The controls that the address keeps.
+export const KEPT = ['ppem', 'hinted', 'dropout', 'zoom', 'text', 'beside', 'differences', 'chars', 'rule'];
 
 export const state = {
   worker: null, module: null, font: null, jobs: 0,
@@ -93,7 +94,8 @@ const countOf = (count, one, many) => `${count.toLocaleString('en')} ${count ===
 // Says of a strike that was drawn which characters the font lacks, and if no pixel is set.
 export function showTold({ glyphs, missing }) {
   const said = [];
-  if (missing.length && !isListing()) said.push(`The font lacks ${countOf(missing.length, 'character', 'characters')}: ${named(missing)}.`);
+  const lacks = countOf(missing.length, 'character', 'characters');
+  if (missing.length && !isListing()) said.push(`The font lacks ${lacks}: ${named(missing)}.`);
   const drawn = glyphs.filter((it) => it.status === DONE);
   if (drawn.length && !drawn.some((it) => it.width)) said.push('No pixel of the strike is set: its characters are blank.');
   $('told').textContent = said.join(' ');
@@ -101,7 +103,8 @@ export function showTold({ glyphs, missing }) {
 
 // What becomes of the refused characters.
 function fateOf(refused) {
-  const drawn = refused.filter(({ isDrawn }) => isDrawn).length, left = refused.length - drawn, are = (count) => countOf(count, 'is', 'are');
+  const drawn = refused.filter(({ isDrawn }) => isDrawn).length, left = refused.length - drawn;
+  const are = (count) => countOf(count, 'is', 'are');
   if ($('rule').value === 'stop') return 'A strike with them can’t be saved.';
   return [drawn ? `${are(drawn)} drawn without hinting` : '', left ? `${are(left)} left out` : ''].filter(Boolean).join(', ') + '.';
 }
@@ -118,7 +121,8 @@ export function showRefused(ofAll) {
     return;
   }
   $('refused-line').firstElementChild.textContent = named(each.map(([code]) => code));
-  $('refused-text').textContent = `${countOf(each.length, 'character is', 'characters are')} refused at this size. ${fateOf(each.map(([, it]) => it))}`;
+  const are = countOf(each.length, 'character is', 'characters are');
+  $('refused-text').textContent = `${are} refused at this size. ${fateOf(each.map(([, it]) => it))}`;
   $('refused-table').tBodies[0].replaceChildren(...each.slice(0, MOST_ROWS).map(([code, { refused }]) => {
     const row = document.createElement('tr');
     for (const text of [nameOf(code), lineOf(refused), refused.advice]) row.insertCell().textContent = text;

@@ -76,7 +76,7 @@ export class Mkstrike {
     this.words = new Map(); // the name and the advice of a number
   }
 
-  // Takes another font, in place of the one before; of a collection the font with this index. Without enough memory there is none then.
+  // Takes another font, in place of the one before; of a collection the font with this index. If memory runs out there is none.
   setFont(bytes, face = 0) {
     if (this.held) this.calls.page_free(this.held.at);
     this.held = null;

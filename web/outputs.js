@@ -111,7 +111,8 @@ export function strikesAsOne(...texts) {
   }));
   const codeOf = (glyph) => Number(/^ENCODING (\d+)$/m.exec(glyph)[1]);
   const glyphs = [...one.slice(1), ...other.slice(1)].map((it) => [codeOf(it), it]).sort(([first], [second]) => first - second);
-  const head = one[0].replace(BOX, `FONTBOUNDINGBOX ${box.width} ${box.height} ${box.left} ${box.bottom}`).replace(/^CHARS \d+$/m, `CHARS ${glyphs.length}`);
+  const boxed = one[0].replace(BOX, `FONTBOUNDINGBOX ${box.width} ${box.height} ${box.left} ${box.bottom}`);
+  const head = boxed.replace(/^CHARS \d+$/m, `CHARS ${glyphs.length}`);
   return new TextEncoder().encode(`${head}${glyphs.map(([, it]) => it).join('')}ENDFONT\n`);
 }
 

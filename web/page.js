@@ -4,7 +4,9 @@ import { MARGIN, identifierOf, listOf, charsOfText, pngOf, shownName } from './o
 import { SETS } from './tables.js';
 import { MOST_TEXT, partOfText, withCodes } from './text.js';
 import { fromWoff, isWoff } from './woff.js';
-import { $, KEPT, PATIENCE, adviceOn, isListing, readAddress, request, showRefused, showTold, state, tell, valueOf, wantsAll, whyEmpty, writeAddress } from './controls.js';
+import {
+  $, KEPT, PATIENCE, adviceOn, isListing, readAddress, request, showRefused, showTold, state, tell, valueOf, wantsAll, whyEmpty, writeAddress,
+} from './controls.js';
 import { LADDER, askLadder, drawText, ratio, showLadder, showRung, showTexts, soon } from './drawing.js';
 import { choose, drawGlyph, drawSheet, measureSheet, showSheet } from './sheet.js';
 
@@ -76,15 +78,16 @@ function takeFont(name, bytes, face = 0) {
 
 // Whether the directory of a font has the table `fvar`; of a collection that of the font with this index.
 function isVariable(bytes, face) {
-  const view = new DataView(bytes.buffer, bytes.byteOffset, bytes.byteLength), long = (at) => (at + 4 <= view.byteLength ? view.getUint32(at) : 0);
+  const view = new DataView(bytes.buffer, bytes.byteOffset, bytes.byteLength);
+  const long = (at) => (at + 4 <= view.byteLength ? view.getUint32(at) : 0);
   const from = long(0) === TTCF ? long(12 + 4 * face) : 0, count = long(from + 4) >>> 16;
   return Array.from({ length: count }, (_, k) => long(from + 12 + 16 * k)).includes(FVAR);
 }
 
 function showFont() {
-  const { name, bytes, chars, isVariable: varies } = state.font;
-  $('font').textContent = `${shownName(name)}, ${bytes.length.toLocaleString('en')} bytes${chars ? `, ${chars.length.toLocaleString('en')} characters` : ''}`
-    + (varies ? '; a variable font, of which this is the default instance' : '');
+  const { name, bytes, chars, isVariable: varies } = state.font, count = ({ length }) => length.toLocaleString('en');
+  $('font').textContent = `${shownName(name)}, ${count(bytes)} bytes${chars ? `, ${count(chars)} characters` : ''}${
+    varies ? '; a variable font, of which this is the default instance' : ''}`;
 }
 
 // ---- jobs of the worker, and files that are saved
@@ -247,7 +250,8 @@ const receive = {
     const { value } = $('name'), endings = { c: '.h', gfx: '-gfx.h' }, count = (it) => it.toLocaleString('en');
     const more = [left ? `${count(left)} refused left out` : '', unhinted ? `${count(unhinted)} drawn without hinting` : '',
       empty ? `${count(empty)} of its ${count(entries)} entries are empty, as it is one range` : ''].filter(Boolean);
-    saveBytes(endings[what] ? identifierOf(value) + endings[what] : `${value.replace(NOT_IN_NAMES, '_')}.${what}`, bytes, more, left || unhinted);
+    const file = endings[what] ? identifierOf(value) + endings[what] : `${value.replace(NOT_IN_NAMES, '_')}.${what}`;
+    saveBytes(file, bytes, more, Boolean(left || unhinted));
   },
 
   failed({ text }) {

@@ -1,5 +1,5 @@
 // Draws the strike as a sheet of cells, and the glyph that is chosen in it, large.
-import { lineOf, DONE } from './mkstrike.js';
+import { lineOf, DONE, HINTED } from './mkstrike.js';
 import { boxOf, curvesOf, eachPixel, nameOf } from './outputs.js';
 import { partAt } from './text.js';
 import { $, state } from './controls.js';
@@ -14,8 +14,10 @@ export function showSheet(next, isWhole) {
     sheet.box = boxOf(sheet.glyphs);
     sheet.known = sheet.glyphs.length;
   }
-  const drawn = sheet.glyphs.filter((it) => it.status === DONE).length;
-  $('sheet-count').textContent = `${drawn.toLocaleString('en')} glyphs${sheet.refused.size ? `; ${sheet.refused.size.toLocaleString('en')} refused` : ''}`;
+  const drawn = sheet.glyphs.filter((it) => it.status === DONE), unhinted = drawn.filter((it) => it.cause).length;
+  const left = sheet.refused.size - unhinted, count = (it) => it.toLocaleString('en');
+  $('sheet-count').textContent = `${count(drawn.length)} glyphs${unhinted ? `, ${count(unhinted)} of them without hinting` : ''}${
+    left ? `; ${count(left)} refused` : ''}`;
   // at first the letter A, or else the first glyph with pixels
   if (sheet.chosen < 0) sheet.chosen = sheet.glyphs.findIndex((it) => it.code === 0x41 && it.width);
   if (sheet.chosen < 0) sheet.chosen = sheet.glyphs.findIndex((it) => it.width);
@@ -73,10 +75,10 @@ export function choose(at) {
 }
 
 // The outline of the chosen glyph, if the worker has told it; else it is asked.
-function outlineOf({ code }) {
+function outlineOf({ code, cause }) {
   const { outline, sheet: { id, look } } = state;
   if (outline?.id === id && outline.code === code) return outline.points ? outline : null;
-  if (look) state.worker.postMessage({ kind: 'outline', id, main: look, code });
+  if (look) state.worker.postMessage({ kind: 'outline', id, main: cause ? { ...look, mode: look.mode & ~HINTED } : look, code });
   return null;
 }
 
@@ -140,7 +142,8 @@ export function drawGlyph() {
   }
   const outline = outlineOf(glyph);
   if (outline) drawOutline(context, outline, left, top, side);
-  $('glyph-name').textContent = nameOf(glyph.code);
+  const why = glyph.cause ? `: without hinting, since it is refused, ${lineOf(glyph.cause)}` : '';
+  $('glyph-name').textContent = nameOf(glyph.code) + why;
   const facts = { box: `${glyph.width} × ${glyph.height}`, left: glyph.left, bottom: glyph.bottom, advance: `${glyph.dwidth} pixels`, 'scaled advance': `${glyph.swidth} / 1000 em` };
   numbers.replaceChildren(...Object.entries(facts).flatMap(([name, value]) => [
     Object.assign(document.createElement('dt'), { textContent: name }), Object.assign(document.createElement('dd'), { textContent: String(value) })]));

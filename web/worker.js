@@ -38,15 +38,16 @@ async function run() {
   isRunning = false;
 }
 
-// The glyphs of characters, in one call. By the rule `unhinted` a character whose program halts is drawn without hinting, and has the cause.
+// The glyphs of characters, in one call. By the rule `unhinted` one whose program halts is drawn without hinting, and has the cause.
 function glyphsOf({ ppem, mode, rule }, chars) {
-  const made = mkstrike.glyphs(ppem, mode, chars), doesHalt = (it) => it.refused && it.refused.during !== NONE;
-  const halted = new Map(rule === 'unhinted' && !made.refused ? made.glyphs.filter(doesHalt).map((it) => [it.code, it.refused]) : []);
-  if (!halted.size) return made;
-  const again = mkstrike.glyphs(ppem, mode & ~HINTED, [...halted.keys()]);
+  const made = mkstrike.glyphs(ppem, mode, chars);
+  if (made.refused || rule !== 'unhinted') return made;
+  const halted = made.glyphs.filter((it) => it.refused && it.refused.during !== NONE);
+  if (!halted.length) return made;
+  const again = mkstrike.glyphs(ppem, mode & ~HINTED, halted.map((it) => it.code));
   if (again.refused) return again;
   const both = joined([made, again]), drawn = new Map(both.glyphs.slice(made.glyphs.length).map((it) => [it.code, it]));
-  return { ...both, glyphs: made.glyphs.map((it) => (halted.has(it.code) ? { ...drawn.get(it.code), cause: halted.get(it.code) } : it)) };
+  return { ...both, glyphs: made.glyphs.map((it) => (drawn.has(it.code) ? { ...drawn.get(it.code), cause: it.refused } : it)) };
 }
 
 // The glyphs of characters, part by part, each part in about a slice.
@@ -108,7 +109,8 @@ async function* list({ id }) {
 
 // The text of the strike of glyphs, as BDF; those with a cause are of a second strike, without hinting.
 function textOf({ ppem, mode }, glyphs, name) {
-  const codesOf = (isUnhinted) => glyphs.filter((it) => Boolean(it.cause) === isUnhinted).map((it) => it.code), unhinted = codesOf(true);
+  const codesOf = (isUnhinted) => glyphs.filter((it) => Boolean(it.cause) === isUnhinted).map((it) => it.code);
+  const unhinted = codesOf(true);
   const made = [mkstrike.make(ppem, mode, codesOf(false), name)];
   if (unhinted.length) made.push(mkstrike.make(ppem, mode & ~HINTED, unhinted, name));
   const refused = made.find((it) => it.refused);
@@ -151,7 +153,8 @@ async function* save({ id, what, main, chars, name }) {
   if (refused.length && main.rule === 'stop') return told({ refused: refused[0].refused, isOfOne: true });
   made.glyphs = made.glyphs.filter((it) => it.status === DONE);
   if (!made.glyphs.length) return told({});
-  return told({ ...await fileOf(what, main, made, name), left: refused.length, unhinted: made.glyphs.filter((it) => it.cause).length });
+  const unhinted = made.glyphs.filter((it) => it.cause).length;
+  return told({ ...await fileOf(what, main, made, name), left: refused.length, unhinted });
 }
 
 async function take(data) {

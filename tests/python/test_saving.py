@@ -70,8 +70,8 @@ def full(*_):
 
 @pytest.mark.parametrize("call, instead", [("replace", full), ("fsync", full), ("fsync", os.close), ("open", full)])
 def test_no_new_file_stays(tmp_path, monkeypatch, call, instead):
-    """A fault leaves the older file, and no other, and the error has the name as it was given. A disk may tell that it is full only at `fsync`, or
-    when the file is closed: a file that `fsync` closes can't be closed again. A name that can't be opened is left alone."""
+    """A fault leaves the older file, and no other, and the error has the name as it was given. A disk may tell that it is full only at
+    `fsync`, or when the file is closed: a file that `fsync` closes can't be closed again. A name that can't be opened is left alone."""
     strike = mkstrike.Font(SANS).strike(16, "ascii")
     (tmp_path / "a.bdf").write_bytes(b"old")
     os.symlink("a.bdf", tmp_path / "link.bdf")
@@ -99,7 +99,8 @@ def test_no_folder(tmp_path):
 
 @pytest.mark.parametrize("mode, kept", [(0o600, 0o600), (0o4777, 0o777), (0o2770, 0o770), (0o7711, 0o711)])
 def test_permissions(tmp_path, monkeypatch, mode, kept):
-    """The new file has the permissions of the old one, whatever the umask, and runs as nobody. While it is empty only its owner can open it."""
+    """The new file has the permissions of the old one, whatever the umask, and is never setuid. While it is empty only its owner can
+    open it."""
     path, seen, chmod = tmp_path / "a.bdf", [], os.fchmod
     path.write_bytes(b"old")
     path.chmod(mode)
@@ -140,17 +141,18 @@ def test_owner(tmp_path, monkeypatch):
 
 
 def test_system_calls(tmp_path):
-    """The name is opened as it was given, so that the kernel can refuse a planted link; then all is on the disk before the file gets it."""
+    """The name is opened as it was given, so that the kernel can refuse a planted link. All is on the disk before the file gets it."""
     (tmp_path / "a.bdf").write_bytes(b"old")
     os.symlink("a.bdf", tmp_path / "link.bdf")
     words = [tool("strace"), "-e", "trace=openat,fchmod,write,fsync,close,?rename,?renameat,?renameat2", "-o", "calls"]
-    ran = subprocess.run([*words, sys.executable, "-c", "from mkstrike import formats; formats.write('link.bdf', b'new')"], cwd=tmp_path,
-                         capture_output=True)
+    code = "from mkstrike import formats; formats.write('link.bdf', b'new')"
+    ran = subprocess.run([*words, sys.executable, "-c", code], cwd=tmp_path, capture_output=True)
     if b"ptrace" in ran.stderr:
         pytest.skip("strace may not watch programs here")
     assert ran.returncode == 0, ran.stderr
     calls = (tmp_path / "calls").read_text()
-    wanted = [r'openat\(AT_FDCWD, "link.bdf", O_WRONLY\|O_CLOEXEC\) += (\d+)', r'openat\(AT_FDCWD, "[^"]*\.new", O_WRONLY\|O_CREAT\|O_EXCL[^=]*= (\d+)',
+    wanted = [r'openat\(AT_FDCWD, "link.bdf", O_WRONLY\|O_CLOEXEC\) += (\d+)',
+              r'openat\(AT_FDCWD, "[^"]*\.new", O_WRONLY\|O_CREAT\|O_EXCL[^=]*= (\d+)',
               r"fchmod\(\2, ", r'write\(\2, "new", 3\)', r"fsync\(\2\)", r"close\(\2\)", r"rename[^\n]*a\.bdf", r"close\(\1\)"]
     assert re.search(".*\n".join(wanted), calls[calls.index("link.bdf") - 20:]), calls[-1000:]
 

@@ -106,8 +106,8 @@ class Page:
         raise AssertionError("%s was not saved after %d clicks; Chromium told %s" % (name, TRIES, self.browser.downloads()))
 
     def compare(self, path, ppem, mode, chars, face=None):
-        """Saves a strike, which must be the program's by the same rule for refused characters; returns whether both refuse it. One without a
-        glyph is not saved."""
+        """Saves a strike, which must be the program's by the same rule for refused characters; returns whether both refuse it. One
+        without a glyph is not saved."""
         name = self.value_of("name")
         text, line, status = engine.answer(path, ppem, mode, chars, name, face, self.value_of("rule"))
         saved, data = self.save("bdf")

@@ -154,7 +154,8 @@ attempt(() => made.setFont(readFileSync(process.argv[4])));
 attempt(() => made.heights(16));
 console.log(JSON.stringify(said));
 """)
-    words = [engine.node(), script, os.path.join(TOP, "web/mkstrike.js"), os.path.join(engine.modules(), prebuilt.MODULES[0]), engine.SAMPLE]
+    module = os.path.join(engine.modules(), prebuilt.MODULES[0])
+    words = [engine.node(), script, os.path.join(TOP, "web/mkstrike.js"), module, engine.SAMPLE]
     none = "there is no font: setFont was not called, or ran out of memory"
     assert json.loads(engine.run(words).stdout) == [none, "out of memory", none, none, none, none, "done", "done"]
 
@@ -188,9 +189,10 @@ for (const more of [['a.ttf'], ['-o', 'a.bdf']]) {
   console.log(status, output.length, lines.split('\\n').find((it) => it.includes("'")));
 }
 """)
-    words = [engine.node(), script, os.path.join(TOP, "web/program.js"), os.path.join(engine.modules(), prebuilt.MODULES[1]), engine.SAMPLE]
-    assert engine.run(words).stdout.decode().split("\n")[:-1] == ["1 0 mkstrike: can't open the font 'a.ttf': there is no such file",
-                                                                  "1 0 mkstrike: can't write 'a.bdf': no file can be made in its folder"]
+    module = os.path.join(engine.modules(), prebuilt.MODULES[1])
+    words = [engine.node(), script, os.path.join(TOP, "web/program.js"), module, engine.SAMPLE]
+    assert engine.run(words).stdout.decode() == ("1 0 mkstrike: can't open the font 'a.ttf': there is no such file\n"
+                                                 "1 0 mkstrike: can't write 'a.bdf': no file can be made in its folder\n")
 
 
 def due_of_run(request):

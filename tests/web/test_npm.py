@@ -43,8 +43,9 @@ def late_fault(it):
     put(it.folder, "old.bdf", b"old")
     before = it.files()
     for call in ("fsyncSync", "closeSync"):
-        script = put(it.folder, "full.cjs", b"require('node:fs').%s = () => { throw Object.assign(new Error('full'), { code: 'EDQUOT' }); };\n"
-                     b"require('node:module').syncBuiltinESMExports();\n" % call.encode())
+        fails = "() => { throw Object.assign(new Error('full'), { code: 'EDQUOT' }); }"
+        code = "require('node:fs').%s = %s;\nrequire('node:module').syncBuiltinESMExports();\n" % (call, fails)
+        script = put(it.folder, "full.cjs", code.encode())
         status = it.run(MAKE[:-1] + ["old.bdf"], env={**os.environ, "NODE_OPTIONS": "--require=" + script})[0]
         os.remove(script)
         it.equal("a fault of %s" % call, (status, it.read("old.bdf") == b"old", it.files()), (1, True, before))

@@ -22,7 +22,8 @@ import prebuilt
 import pytest
 import sample_font
 import web_page
-from engine import AT_FIRST, DROPOUT, DROPOUT_FONT, DROPOUT_NEAR, DROPOUTS, HINTED, MODES, SAMPLE, SANS, SEED, SQUARE, installed_fonts
+from engine import AT_FIRST, DROPOUT, DROPOUT_FONT, DROPOUT_NEAR, DROPOUTS, HINTED, MODES, SAMPLE, SANS, SEED, SQUARE
+from engine import installed_fonts
 from needs import tool
 from prebuilt import TOP
 
@@ -88,8 +89,8 @@ def first(page):
 def controls(page):
     """Each control changes what it is for, and changed back it is as before."""
     for control, value, old, canvas in (
-            ("ppem", "9", "16", "main"), ("ppem-slider", "30", "16", "main"), ("hinted", False, True, "main"), ("dropout", "off", "font", "other"),
-            ("dropout", "near", "font", "other"), ("text", "Other", None, "main"),
+            ("ppem", "9", "16", "main"), ("ppem-slider", "30", "16", "main"), ("hinted", False, True, "main"),
+            ("dropout", "off", "font", "other"), ("dropout", "near", "font", "other"), ("text", "Other", None, "main"),
             ("beside", "larger", "hinted", "other"), ("beside", "smaller", "hinted", "other")):
         old = page.value_of(control) if old is None else old
         before = page.seen(canvas)
@@ -112,14 +113,16 @@ def controls(page):
     four = page.text_of("#sheet-count"), page.text_of("#told")
     page.set("set", "box", "change")
     more = page.text_of("#sheet-count"), page.text_of("#told")
-    assert hidden and four == ("4 glyphs", "") and more == ("4 glyphs", "The font lacks 128 characters: 2500-257f."), "characters: %r, %r" % (four, more)
+    due = ("4 glyphs", ""), ("4 glyphs", "The font lacks 128 characters: 2500-257f.")
+    assert hidden and (four, more) == due, "characters: %r, %r" % (four, more)
     page.set("text", "na\u00efve")
     assert "U+00EF" in page.text_of("#text-missing"), "a missing character is not named"
 
 
 def address(page):
     """The address keeps the text and the settings, and another address sets them; what a control can't have leaves it as it is."""
-    due = {"ppem": "23", "hinted": "false", "dropout": "near", "zoom": "7", "text": "\u00e4 & b\nc=#", "beside": "larger", "differences": "true", "chars": "41-43", "rule": "stop"}
+    due = {"ppem": "23", "hinted": "false", "dropout": "near", "zoom": "7", "text": "\u00e4 & b\nc=#", "beside": "larger",
+           "differences": "true", "chars": "41-43", "rule": "stop"}
     values = VALUES_SCRIPT % json.dumps(list(due))
     plain = page.browser.evaluate(values)
     for control, value in due.items():
@@ -289,8 +292,8 @@ def fields(page):
 
 
 def others(page):
-    """Refused characters are named, and left out, drawn without hinting or the end of the strike, as by the program; a program of the font that
-    halts refuses all."""
+    """Refused characters are named, and left out, drawn without hinting or the end of the strike, as by the program. A program of the
+    font that halts refuses all."""
     short = fonts.font_of([b"", SQUARE, SQUARE[:-5]], fonts.map_of([(0x41, 1), (0x42, 2)]))
     refused(page, page.put("short.ttf", short), "40-43", ["42"], (1, 1))
     page.set("chars", "42")
@@ -298,6 +301,14 @@ def others(page):
     if os.path.exists(SANS):
         refused(page, SANS, "180-250", ["19c", "250"], (2, 0))
         page.picture("refused", True)
+        page.set("rule", "unhinted")
+        page.set("chars", "19c")
+        page.browser.until("document.body.dataset.outline === document.body.dataset.drawn + ' %d'" % 0x19c, "an outline")
+        points = re.findall(r"^\d+ \d+ on (-?\d+) (-?\d+)$", engine.outline(SANS, 16, 0, 0x19c).decode(), re.M)
+        seen = page.browser.evaluate(POINTS_SCRIPT % json.dumps([[int(x), int(y)] for x, y in points]))
+        name = "U+019C \u019c: without hinting, since it is refused, " + engine.answer(SANS, 16, AT_FIRST, "19c")[1]
+        assert (seen, page.text_of("#glyph-name")) == (len(points), name), "a glyph without hinting"
+        page.set("rule", "leave-out")
     page.dropped("many.ttf", fonts.font_of([b"", SQUARE[:-5]], fonts.map_of([(0x100 + k, 1) for k in range(230)])))
     page.set("chars", "100-1e5")
     assert (page.text_of("#refused-line"), page.text_of("#refused-more")) == ("100-1e5", "and 30 more")
@@ -309,8 +320,8 @@ def others(page):
 
 
 def refused(page, path, chars, codes, lefts):
-    """Of a font that is chosen these characters are refused, and named in the words of docs/REFUSALS.md. `lefts` says how many are left out, and
-    how many still are if those whose programs halt are drawn without hinting."""
+    """Of a font that is chosen these characters are refused, and named in the words of docs/REFUSALS.md. `lefts` says how many are left
+    out, and how many still are if those whose programs halt are drawn without hinting."""
     page.drawn_after(lambda: page.browser.choose("#file", path), "drawing a font that was chosen")
     page.set("chars", chars)
     rows = page.browser.evaluate("[...document.querySelectorAll('#refused-table tbody tr')].map((it) => [...it.cells].map((cell) => cell.innerText))")
@@ -318,13 +329,16 @@ def refused(page, path, chars, codes, lefts):
     for row, code in zip(rows, codes):
         line = engine.answer(path, 16, AT_FIRST, code)[1]
         assert (row[0].split()[0], row[1], row[2]) == ("U+%s" % code.upper().zfill(4), line, advice[line.split()[0]])
-    assert len(rows) == len(codes) and page.text_of("#refused-line") == ", ".join(codes), "%d refused characters are named" % len(rows)
+    assert len(rows) == len(codes) and page.text_of("#refused-line") == ", ".join(codes), "%d are named" % len(rows)
     for rule, left in zip(("leave-out", "unhinted"), lefts):
         if page.value_of("rule") != rule:
             page.set("rule", rule)
         for what in ("png", "c", "gfx"):
             assert page.save(what)[1] is not None, "%s is not saved by the rule %s" % (what, rule)
         assert not page.compare(path, 16, AT_FIRST, chars)
+        counted = page.text_of("#sheet-count")
+        shown = re.search(r"(?:, (\d+) of them without hinting)?(?:; (\d+) refused)?$", counted).groups(default="0")
+        assert shown == (str(len(codes) - left), str(left)), "by the rule %s the sheet has %s" % (rule, counted)
         told, counts = page.text_of("#saved"), ((left, "refused left out"), (len(codes) - left, "drawn without hinting"))
         assert all(("%d %s" % it in told) == (it[0] > 0) for it in counts), "by the rule %s the page says %r" % (rule, told)
         drawn = re.findall(rb"^ENCODING (\d+)$", page.save("bdf")[1], re.M)
@@ -332,8 +346,8 @@ def refused(page, path, chars, codes, lefts):
     page.set("rule", "stop")
     assert page.compare(path, 16, AT_FIRST, chars), "a strike with refused characters is saved"
     page.browser.evaluate("document.getElementById('to-rule').click()")
-    seen = page.browser.evaluate("((it, { top, bottom }) => it === document.getElementById('rule') && top >= 0 && bottom <= innerHeight)"
-                                 "(document.activeElement, document.activeElement.getBoundingClientRect())")
+    in_sight = "(({ top, bottom }) => top >= 0 && bottom <= innerHeight)(document.activeElement.getBoundingClientRect())"
+    seen = page.browser.evaluate("document.activeElement.id === 'rule' && %s" % in_sight)
     assert seen, "a refusal does not lead to the choice"
     page.set("rule", "leave-out")
 
@@ -357,11 +371,9 @@ def told(page):
 
 def order(page):
     """The page is in the order of work; on a phone the picture is in sight at once, above the buttons that save."""
-    ids = ["file", "chars", "ppem", "main", "name", "sheet", "ladder"]
-    tops = page.browser.evaluate("%s.map((id) => document.getElementById(id).getBoundingClientRect().top + scrollY)" % json.dumps(ids))
-    page.browser.evaluate("document.getElementById('sizes').scrollIntoView()")  # where nothing sticks to the edge
-    places = page.browser.evaluate("%s.map((id) => [...document.querySelectorAll('main *')].indexOf(document.getElementById(id)))" % json.dumps(ids))
-    assert places == sorted(places) and tops[:4] == sorted(tops[:4]), "another order: %s" % tops
+    ids = json.dumps(["file", "chars", "ppem", "main", "name", "sheet", "ladder"])
+    places = page.browser.evaluate("((all) => %s.map((id) => all.indexOf(document.getElementById(id))))([...document.querySelectorAll('*')])" % ids)
+    assert -1 not in places and places == sorted(places), "another order: %s" % places
     page.browser.call("Emulation.setDeviceMetricsOverride", width=390, height=844, deviceScaleFactor=1, mobile=True)
     page.open()
     if os.path.exists(SANS):
@@ -393,7 +405,8 @@ def sets(page):
     names = [name for table in ("SETS", "OTHERS") for name, _ in prebuilt.sets(table)]
     for name in names:
         page.set("chars", name.upper())
-        due = engine.program(["make", "--ppem", "16", "--set", name, "--name", page.value_of("name"), *engine.flags(AT_FIRST)], path)
+        words = ["make", "--ppem", "16", "--set", name, "--name", page.value_of("name"), *engine.flags(AT_FIRST)]
+        due = engine.program(words, path)
         told, saved = page.save("bdf")
         is_empty = b"\nCHARS 0\n" in due.stdout and saved is None and told == "The strike has no glyph."
         assert due.returncode == 0 and (is_empty or saved == due.stdout), "the set %s: %s" % (name, told)
@@ -536,10 +549,11 @@ def keys(page):
     assert set(due) <= set(reached), "not reached by the key Tab: %s" % sorted(set(due) - set(reached))
     page.browser.evaluate("document.getElementById('sheet-scroll').focus()")
     names = []
-    for key, code in (("Home", 36), ("ArrowRight", 39), ("ArrowDown", 40), ("End", 35), ("ArrowLeft", 37), ("Home", 36), ("PageDown", 34), ("PageUp", 33)):
+    for key, code in (("Home", 36), ("ArrowRight", 39), ("ArrowDown", 40), ("End", 35), ("ArrowLeft", 37), ("Home", 36), ("PageDown", 34),
+                      ("PageUp", 33)):
         page.browser.key(key, code)
         names.append(page.text_of("#glyph-name"))
-    assert names[:2] == ["U+0020", "U+0021 !"] and names[3:6] == ["U+007E ~", "U+007D }", "U+0020"] and names[2] not in names[:2], names
+    assert names[:2] + names[3:6] == ["U+0020", "U+0021 !", "U+007E ~", "U+007D }", "U+0020"] and names[2] not in names[:2], names
     assert names[6] not in names[:2] and names[7] == "U+0020", "pages of the sheet: %s" % names
     page.browser.evaluate("document.getElementById('hinted').focus()")
     page.drawn_after(lambda: page.browser.key(" ", 32), "the space bar on a box")
