@@ -20,6 +20,7 @@ static struct mkstrike_placed glyphs[MOST];
 /* The next code point of a text, and the text after it; U+FFFD for a byte that begins none. */
 static uint32_t next_code(const char **text) {
     const unsigned char *s = (const unsigned char *)*text;
+    static const uint32_t least[] = {0, 0x80, 0x800, 0x10000}; /* for which so many further bytes are needed */
     unsigned more = *s >= 0xF0 && *s < 0xF5 ? 3 : *s >= 0xE0 ? 2 : 1, i;
     uint32_t code = *s & (0x3Fu >> more);
     *text += 1;
@@ -29,6 +30,7 @@ static uint32_t next_code(const char **text) {
         if ((s[i] & 0xC0) != 0x80) return 0xFFFD;
         code = code << 6 | (s[i] & 0x3F);
     }
+    if (code < least[more] || code > 0x10FFFF || (code >= 0xD800 && code < 0xE000)) return 0xFFFD;
     *text += more;
     return code;
 }
@@ -69,13 +71,20 @@ int main(int argc, char **argv) {
     struct mkstrike_refused why;
     struct mkstrike_font_info info;
     struct mkstrike_drawn drawn;
-    uint16_t ppem = (uint16_t)(argc == 4 ? atoi(argv[2]) : 0);
+    uint16_t ppem = (uint16_t)(argc == 4 ? atoi(argv[2]) : 0); /* 0 for what is no number, which is refused */
     FILE *file = argc == 4 ? fopen(argv[1], "rb") : NULL;
     const char *text = argc == 4 ? argv[3] : "";
     size_t len = file != NULL ? fread(font, 1, sizeof font, file) : 0, count = 0, i;
     int32_t column = 0, rows, row;
-    uint32_t mode = MKSTRIKE_HINTED | MKSTRIKE_PACKED;
-    if (file == NULL) return 2;
+    uint32_t mode = MKSTRIKE_HINTED | MKSTRIKE_DROPOUT_FONT | MKSTRIKE_PACKED; /* as the font's designer wants it */
+    if (argc != 4) {
+        fputs("usage: console FONT PPEM TEXT\n", stderr);
+        return 2;
+    }
+    if (file == NULL) {
+        fprintf(stderr, "console: can't read the font %s\n", argv[1]);
+        return 1;
+    }
     fclose(file);
     mkstrike_arena(block, sizeof block);
     while (*text != 0 && count < MOST) codes[count++] = next_code(&text);

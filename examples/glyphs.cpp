@@ -31,8 +31,8 @@ struct Glyphs {
         const std::uint8_t *bytes = reinterpret_cast<const std::uint8_t *>(font.data());
         mkstrike_refused why;
         do {
-            if (mkstrike_glyphs(bytes, font.size(), 0, ppem, MKSTRIKE_HINTED, codes.data(), codes.size(), entries.data(), entries.size(),
-                    pixels.data(), pixels.size(), &drawn, &why) != MKSTRIKE_DONE)
+            if (mkstrike_glyphs(bytes, font.size(), 0, ppem, MKSTRIKE_HINTED | MKSTRIKE_DROPOUT_FONT, codes.data(), codes.size(),
+                    entries.data(), entries.size(), pixels.data(), pixels.size(), &drawn, &why) != MKSTRIKE_DONE)
                 throw std::runtime_error("refused: " + reason(why.number));
         } while (drawn.bytes > pixels.size() && (pixels.resize(drawn.bytes), true));
     }
@@ -54,8 +54,15 @@ static void print(std::uint32_t code, const mkstrike_placed &entry, const std::v
 }
 
 int main(int argc, char **argv) {
-    if (argc != 4 || std::setlocale(LC_ALL, "C.UTF-8") == nullptr) return 2;
+    if (argc != 4 || std::setlocale(LC_ALL, "C.UTF-8") == nullptr) {
+        std::fputs(argc != 4 ? "usage: glyphs FONT PPEM TEXT\n" : "glyphs: the system has no locale C.UTF-8\n", stderr);
+        return 2;
+    }
     std::ifstream file(argv[1], std::ios::binary);
+    if (!file) {
+        std::fprintf(stderr, "glyphs: can't read the font %s\n", argv[1]);
+        return 1;
+    }
     std::vector<char> font((std::istreambuf_iterator<char>(file)), std::istreambuf_iterator<char>());
     std::vector<wchar_t> text(std::string(argv[3]).size() + 1);
     std::vector<std::uint32_t> codes;

@@ -76,6 +76,10 @@ func fail(why error) {
 }
 
 func main() {
+	if len(os.Args) != 4 {
+		fmt.Fprintln(os.Stderr, "usage: glyphs FONT PPEM TEXT")
+		os.Exit(2)
+	}
 	font, err := os.ReadFile(os.Args[1])
 	if err != nil {
 		fail(err)
@@ -85,7 +89,7 @@ func main() {
 		fail(err)
 	}
 	for _, code := range os.Args[3] {
-		glyph, err := Make(font, uint16(ppem), C.MKSTRIKE_HINTED, code)
+		glyph, err := Make(font, uint16(ppem), C.MKSTRIKE_HINTED|C.MKSTRIKE_DROPOUT_FONT, code)
 		if err != nil {
 			fail(err)
 		}

@@ -14,7 +14,7 @@ import sys
 from ctypes import POINTER, byref, c_char_p, c_int32, c_size_t, c_uint16, c_uint32, c_uint64
 
 DONE, MISSING = 0, 1
-HINTED, DROPOUT, PACKED = 1, 2, 256  # the bits of a mode
+HINTED, DROPOUT, DROPOUT_NEAR, DROPOUT_FONT, PACKED = 1, 2, 4, 8, 256  # the bits of a mode
 
 
 class Refused(ctypes.Structure):
@@ -61,7 +61,7 @@ class Library:
             raise Refusal(self.c, refused)
         return info
 
-    def glyph(self, font, ppem, code, mode=HINTED, face=0):
+    def glyph(self, font, ppem, code, mode=HINTED + DROPOUT_FONT, face=0):
         """The numbers of a character's glyph and its rows from the top, a byte a pixel; None if the font lacks it."""
         glyph, refused, room = GlyphInfo(), Refused(), ctypes.create_string_buffer(4096)
         for _ in range(2):
@@ -78,6 +78,9 @@ class Library:
 
 
 def main():
+    if len(sys.argv) != 5:
+        print("usage: glyphs.py LIBRARY FONT PPEM TEXT", file=sys.stderr)
+        sys.exit(2)
     path, font, ppem, text = sys.argv[1], open(sys.argv[2], "rb").read(), int(sys.argv[3]), sys.argv[4]
     library = Library(path)
     info = library.font(font, ppem)

@@ -42,10 +42,12 @@ mod sys {
 
 pub use sys::{GlyphInfo, Refused};
 
-/// Bits of a mode: the font's programs run; drop-out control is on. Pixels are a byte each here, so that the bit for packed ones is not
-/// for callers.
+/// Bits of a mode: the font's programs run; gaps are closed by the left pixel, by the nearer one, or as the font asks. Pixels are a byte
+/// each here, so that the bit for packed ones is not for callers.
 pub const HINTED: u32 = 1;
 pub const DROPOUT: u32 = 2;
+pub const DROPOUT_NEAR: u32 = 4;
+pub const DROPOUT_FONT: u32 = 8;
 
 /// The name of a number that a call returned.
 pub fn reason(number: u32) -> String {
@@ -79,10 +81,14 @@ pub fn glyph(font: &[u8], ppem: u16, mode: u32, code: u32) -> Result<Option<(Gly
 
 fn main() {
     let words: Vec<String> = std::env::args().collect();
+    if words.len() != 4 {
+        eprintln!("usage: glyphs FONT PPEM TEXT");
+        std::process::exit(2);
+    }
     let font = std::fs::read(&words[1]).expect("a font");
     let ppem = words[2].parse().expect("a size");
     for c in words[3].chars() {
-        match glyph(&font, ppem, HINTED, c as u32) {
+        match glyph(&font, ppem, HINTED | DROPOUT_FONT, c as u32) {
             Err(refused) => panic!("refused: {} {}", refused.number, reason(refused.number)),
             Ok(None) => println!("U+{:04X} missing", c as u32),
             Ok(Some((glyph, pixels))) => {

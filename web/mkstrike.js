@@ -72,17 +72,22 @@ export class Mkstrike {
 
   constructor(calls) {
     this.calls = calls;
-    this.font = null;
+    this.held = null; // the font's bytes, and which of a collection
     this.words = new Map(); // the name and the advice of a number
   }
 
-  // Takes another font, in place of the one before; of a collection the font with this index.
+  // Takes another font, in place of the one before; of a collection the font with this index. If memory runs out there is none.
   setFont(bytes, face = 0) {
-    if (this.font) this.calls.page_free(this.font.at);
-    this.font = null;
+    if (this.held) this.calls.page_free(this.held.at);
+    this.held = null;
     const at = this.room(bytes.length);
     this.bytes(at, bytes.length).set(bytes);
-    this.font = { at, length: BigInt(bytes.length), face };
+    this.held = { at, length: BigInt(bytes.length), face };
+  }
+
+  get font() {
+    if (!this.held) throw new Error('there is no font: setFont was not called, or ran out of memory');
+    return this.held;
   }
 
   // ---- memory: addresses are BigInts, since the module's code has addresses of 64 bits

@@ -98,6 +98,24 @@ export function curvesOf({ points, ends }) {
   });
 }
 
+// ---- BDF
+
+const BOX = /^FONTBOUNDINGBOX (\d+) (\d+) (-?\d+) (-?\d+)$/m;
+
+// Two strikes of a font at a size as one, of whose characters each has its own: the program's text with `--refused unhinted`.
+export function strikesAsOne(...texts) {
+  const [one, other] = texts.map((it) => new TextDecoder().decode(it).replace(/ENDFONT\n$/, '').split(/^(?=STARTCHAR )/m));
+  const box = boxOf([one[0], other[0]].map((head) => {
+    const [width, height, left, bottom] = BOX.exec(head).slice(1).map(Number);
+    return { width, height, left, bottom };
+  }));
+  const codeOf = (glyph) => Number(/^ENCODING (\d+)$/m.exec(glyph)[1]);
+  const glyphs = [...one.slice(1), ...other.slice(1)].map((it) => [codeOf(it), it]).sort(([first], [second]) => first - second);
+  const boxed = one[0].replace(BOX, `FONTBOUNDINGBOX ${box.width} ${box.height} ${box.left} ${box.bottom}`);
+  const head = boxed.replace(/^CHARS \d+$/m, `CHARS ${glyphs.length}`);
+  return new TextEncoder().encode(`${head}${glyphs.map(([, it]) => it).join('')}ENDFONT\n`);
+}
+
 // ---- PNG
 
 const CRCS = Uint32Array.from({ length: 256 }, (_, byte) => {

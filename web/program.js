@@ -89,6 +89,7 @@ export function runInMemory(module, words, font) {
     openSync: absent,
     statSync: absent,
     lstatSync: absent,
+    readlinkSync: absent,
     readSync: (_, to) => {
       const part = font.subarray(at, at + to.length);
       to.set(part);

@@ -1,6 +1,6 @@
 // Makes strikes beside the page, so that the page stays usable: it hands over jobs, and gets back glyphs part by part.
-import { Mkstrike, joined, DONE } from './mkstrike.js';
-import { arraysForC, gfxForC, pngOf, sheetOf } from './outputs.js';
+import { Mkstrike, joined, DONE, HINTED, NONE } from './mkstrike.js';
+import { arraysForC, gfxForC, pngOf, sheetOf, strikesAsOne } from './outputs.js';
 
 const SLICE = 25; // milliseconds of work between two looks for messages
 const MOST_FACES = 200, MOST_NAME = 80; // fonts of a collection that can be chosen; characters of a name
@@ -38,10 +38,22 @@ async function run() {
   isRunning = false;
 }
 
+// The glyphs of characters, in one call. By the rule `unhinted` one whose program halts is drawn without hinting, and has the cause.
+function glyphsOf({ ppem, mode, rule }, chars) {
+  const made = mkstrike.glyphs(ppem, mode, chars);
+  if (made.refused || rule !== 'unhinted') return made;
+  const halted = made.glyphs.filter((it) => it.refused && it.refused.during !== NONE);
+  if (!halted.length) return made;
+  const again = mkstrike.glyphs(ppem, mode & ~HINTED, halted.map((it) => it.code));
+  if (again.refused) return again;
+  const both = joined([made, again]), drawn = new Map(both.glyphs.slice(made.glyphs.length).map((it) => [it.code, it]));
+  return { ...both, glyphs: made.glyphs.map((it) => (drawn.has(it.code) ? { ...drawn.get(it.code), cause: it.refused } : it)) };
+}
+
 // The glyphs of characters, part by part, each part in about a slice.
-function* parts(ppem, mode, chars) {
+function* parts(look, chars) {
   for (let from = 0, size = 128; from < chars.length;) {
-    const start = performance.now(), part = chars.slice(from, from + size), made = mkstrike.glyphs(ppem, mode, part);
+    const start = performance.now(), part = chars.slice(from, from + size), made = glyphsOf(look, part);
     const took = performance.now() - start;
     from += part.length;
     yield { from, ...made };
@@ -51,9 +63,9 @@ function* parts(ppem, mode, chars) {
 }
 
 // The glyphs of a text's characters at a size and a mode, and the heights.
-function lookOf({ ppem, mode }, chars) {
-  const heights = mkstrike.heights(ppem), made = heights.refused ? heights : mkstrike.glyphs(ppem, mode, chars);
-  return { ppem, mode, heights, refused: made.refused, glyphs: made.glyphs ?? [], pixels: made.pixels };
+function lookOf(asked, chars) {
+  const heights = mkstrike.heights(asked.ppem), made = heights.refused ? heights : glyphsOf(asked, chars);
+  return { ...asked, heights, refused: made.refused, glyphs: made.glyphs ?? [], pixels: made.pixels };
 }
 
 async function* draw({ id, main, other, textChars, chars }) {
@@ -62,7 +74,7 @@ async function* draw({ id, main, other, textChars, chars }) {
   told({ kind: 'text', main: look, other: other && lookOf(other, textChars), took: performance.now() - start });
   yield;
   let { refused } = look; // of all characters: one that is refused has that in its glyph
-  for (const part of refused ? [] : parts(main.ppem, main.mode, chars)) {
+  for (const part of refused ? [] : parts(main, chars)) {
     ({ refused } = part);
     if (!refused) told({ kind: 'sheet', glyphs: part.glyphs, pixels: part.pixels, done: part.from, total: chars.length });
     yield;
@@ -71,9 +83,9 @@ async function* draw({ id, main, other, textChars, chars }) {
 }
 
 // A text's glyphs at sizes one after the other.
-async function* ladder({ id, mode, sizes, textChars }) {
+async function* ladder({ id, main, sizes, textChars }) {
   for (const ppem of sizes) {
-    postMessage({ kind: 'rung', id, look: lookOf({ ppem, mode }, textChars) });
+    postMessage({ kind: 'rung', id, look: lookOf({ ...main, ppem }, textChars) });
     yield;
   }
 }
@@ -95,35 +107,54 @@ async function* list({ id }) {
   postMessage({ kind: 'listed', id, chars }, [chars.buffer]);
 }
 
+// The text of the strike of glyphs, as BDF; those with a cause are of a second strike, without hinting.
+function textOf({ ppem, mode }, glyphs, name) {
+  const codesOf = (isUnhinted) => glyphs.filter((it) => Boolean(it.cause) === isUnhinted).map((it) => it.code);
+  const unhinted = codesOf(true);
+  const made = [mkstrike.make(ppem, mode, codesOf(false), name)];
+  if (unhinted.length) made.push(mkstrike.make(ppem, mode & ~HINTED, unhinted, name));
+  const refused = made.find((it) => it.refused);
+  if (refused) return refused;
+  return { bytes: made.length > 1 ? strikesAsOne(...made.map((it) => it.text)) : made[0].text };
+}
+
+// What is saved of glyphs, and what is to be told of it; or `refused`, or `why` not.
+async function fileOf(what, main, made, name) {
+  if (what === 'bdf') return textOf(main, made.glyphs, name);
+  if (what === 'png') {
+    const { columns, rows, lines } = sheetOf(made);
+    return { bytes: await pngOf(columns, lines(), columns * rows * 9 > MOST_SCALED ? 1 : 3) };
+  }
+  try {
+    const text = { c: arraysForC, gfx: gfxForC }[what](made, name, main.ppem, mkstrike.heights(main.ppem));
+    const entries = what === 'gfx' ? made.glyphs.at(-1).code - made.glyphs[0].code + 1 : made.glyphs.length;
+    return { bytes: new TextEncoder().encode(text), entries, empty: entries - made.glyphs.length };
+  } catch (fault) {
+    return { why: fault.message };
+  }
+}
+
 async function* save({ id, what, main, chars, name }) {
   const told = (given, transfer) => postMessage({ kind: 'saved', id, what, ...given }, transfer);
   postMessage({ kind: 'progress', id, done: 0, total: 0 });
   yield;
-  if (what === 'bdf') {
+  if (what === 'bdf') { // mostly no character is refused
     const { refused, told: counts, text } = mkstrike.make(main.ppem, main.mode, chars, name);
-    return refused || !counts.glyphs ? told({ refused }) : told({ bytes: text }, [text.buffer]);
+    if (!refused) return counts.glyphs ? told({ bytes: text }, [text.buffer]) : told({});
   }
   const all = [];
-  for (const part of parts(main.ppem, main.mode, chars)) {
-    const refused = part.refused ?? part.glyphs.find((it) => it.refused)?.refused;
-    if (refused) return told({ refused });
+  for (const part of parts(main, chars)) {
+    if (part.refused) return told({ refused: part.refused });
     all.push(part);
     postMessage({ kind: 'progress', id, done: part.from, total: chars.length });
     yield;
   }
-  const made = joined(all);
+  const made = joined(all), refused = made.glyphs.filter((it) => it.refused);
+  if (refused.length && main.rule === 'stop') return told({ refused: refused[0].refused, isOfOne: true });
   made.glyphs = made.glyphs.filter((it) => it.status === DONE);
   if (!made.glyphs.length) return told({});
-  if (what === 'png') {
-    const { columns, rows, lines } = sheetOf(made);
-    return told({ bytes: await pngOf(columns, lines(), columns * rows * 9 > MOST_SCALED ? 1 : 3) });
-  }
-  try {
-    const text = { c: arraysForC, gfx: gfxForC }[what](made, name, main.ppem, mkstrike.heights(main.ppem));
-    return told({ bytes: new TextEncoder().encode(text) });
-  } catch (fault) {
-    return told({ why: fault.message });
-  }
+  const unhinted = made.glyphs.filter((it) => it.cause).length;
+  return told({ ...await fileOf(what, main, made, name), left: refused.length, unhinted });
 }
 
 async function take(data) {

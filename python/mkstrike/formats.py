@@ -125,27 +125,47 @@ def by_ending(path: str) -> str:
 
 
 def write(path: str, data: bytes) -> None:
-    """Writes a file in one step: a reader sees the old one or the new one, which has its mode. What is no file, as a device or a
-    pipe, is written to; a file that may not be written stays."""
-    if os.path.exists(path) and not os.path.isfile(path):
-        with open(path, "wb") as stream:
-            stream.write(data)
+    """Writes a file in one step: a reader sees the old one or the new one, which has its permissions, and its owner and group if the
+    user may set them. What is no file, as a device or a pipe, is written to; a file that may not be written stays."""
+    try:
+        opened = os.open(path, os.O_WRONLY)  # by the name as it is given: the system may guard a link
+    except FileNotFoundError:
+        _replace(path, None, data)
         return
-    path = os.path.realpath(path)  # a link stays one
-    if not os.path.isdir(os.path.dirname(path)):
-        raise FileNotFoundError(errno.ENOENT, "there is no folder", os.path.dirname(path))
-    is_there = os.path.exists(path)
-    if is_there and not os.access(path, os.W_OK):
-        raise PermissionError(errno.EACCES, os.strerror(errno.EACCES), path)
-    new = os.path.join(os.path.dirname(path), ".%s.new" % os.urandom(8).hex())
-    mode = stat.S_IMODE(os.stat(path).st_mode) if is_there else 0o666
+    with open(opened, "wb") as stream:
+        old = os.fstat(opened)
+        if stat.S_ISREG(old.st_mode):
+            _replace(path, old, data)
+        else:
+            stream.write(data)
+
+
+def _replace(path: str, old: os.stat_result | None, data: bytes) -> None:
+    """Writes a new file beside the one that a path leads to, and gives it the name when all is on the disk."""
+    path_of_file = os.path.realpath(path)  # a link stays one
+    if not os.path.isdir(os.path.dirname(path_of_file)):
+        raise FileNotFoundError(errno.ENOENT, "there is no folder for it", path)
+    new = os.path.join(os.path.dirname(path_of_file), ".%s.new" % os.urandom(8).hex())
+    mode = old.st_mode & 0o700 if old else 0o666
     try:
         with open(new, "xb", opener=lambda name, flags: os.open(name, flags, mode)) as file:
+            if old:
+                _keep(file.fileno(), old)
             file.write(data)
-        if is_there:
-            os.chmod(new, mode)
-        os.replace(new, path)
-    except BaseException:
+            file.flush()
+            os.fsync(file.fileno())
+        os.replace(new, path_of_file)
+    except BaseException as fault:
         with contextlib.suppress(OSError):
             os.remove(new)
+        if isinstance(fault, OSError) and fault.errno:
+            raise OSError(fault.errno, fault.strerror, path) from fault
         raise
+
+
+def _keep(file: int, old: os.stat_result) -> None:
+    """Gives a new file the permissions of an older one, never setuid or setgid, and its owner and group as far as the user may."""
+    for owner, group in ((-1, old.st_gid), (old.st_uid, -1)):
+        with contextlib.suppress(OSError):
+            os.fchown(file, owner, group)
+    os.fchmod(file, old.st_mode & 0o777)

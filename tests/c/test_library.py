@@ -31,6 +31,7 @@ from due import own_lines
 from made import Empty, Font, Simple
 from making import fonts
 from making import charmaps
+from making.assembler import pushed
 from making.collection import Collection
 from mkstrike import Strike
 from needs import REAL, left_out, real_font, tool
@@ -53,6 +54,7 @@ STACK = 25 << 9  # bytes that docs/LIBRARY.md promises to be enough for a call, 
 # A mode is the letters of its bits, which check_c.c takes by the names of include/mkstrike.h.
 HINTED, DROPOUT, NEAR, ASKED, X11 = "h", "d", "n", "f", "x"
 MODES = [hinted + closed for closed in ("", DROPOUT, NEAR, ASKED) for hinted in ("", HINTED)]
+EXAMPLES = HINTED + ASKED
 
 
 class Wrong(AssertionError):
@@ -178,9 +180,10 @@ class Library:
         return glob.glob(os.path.join(folder, name))[0]
 
     def picture(self, font, ppem, character):
-        """The picture of a character that mkstrike shows."""
+        """The picture of a character that mkstrike shows, in the mode of the examples."""
         with open(font, "rb") as file:
-            return run([self.program, "show", "--ppem", str(ppem), "--char", "%x" % ord(character)], file.read()).stdout
+            words = [self.program, "show", "--ppem", str(ppem), "--char", "%x" % ord(character), *flags(EXAMPLES)]
+            return run(words, file.read()).stdout
 
 
 def archive_of():
@@ -570,9 +573,9 @@ def test_arm(lib):
 
 
 def test_examples(lib):
-    """The examples give what mkstrike gives."""
-    font = lib.part("DejaVuSans.ttf", range(0x20, 0x7F))
-    _, text, _ = lib.make(font, 16, HINTED, 0x20, 0x7E)
+    """The examples give what mkstrike gives, with the font's rule for gaps, which `A` has at this size."""
+    font = lib.part("LiberationSans-Regular.ttf", range(0x20, 0x7F))
+    _, text, _ = lib.make(font, 16, EXAMPLES, 0x20, 0x7E)
     text = text.replace(b"FONT mkstrike\n", b"FONT strike\n")
     shows = [it for it in ("show", "show++") if os.path.exists(lib.at(it))]
     for show in shows:
@@ -583,22 +586,74 @@ def test_examples(lib):
         raise Wrong("examples/show.c: another picture")
     if run([lib.at("show"), font, "0", "41"], status=1).stderr != b"refused: 60 BadSize\n":
         raise Wrong("examples/show.c: another refusal")
+    for words in ((), (font, "16"), (font, "16x", "41"), (font, "", "41"), (font, "65552", "41"), (font, "16", "4z"), (font, "16", "41-"),
+                  (font, "16", "42-41"), (font, "16", "0-110000"), (font, "16", "-41"), (font, "16", "100000041"), (font, "16", "41", "42")):
+        if not run([lib.at("show"), *words], status=2).stderr.startswith(b"usage: show "):
+            raise Wrong("examples/show.c takes %s" % (words,))
+    for name in ("show", "console"):
+        if run([lib.at(name), lib.at("none"), "16", "41"], status=1).stderr.decode() != "%s: can't read the font %s\n" % (name, lib.at("none")):
+            raise Wrong("examples/%s.c: another answer to a font that is not there" % name)
 
 
-def test_console(lib):
-    """examples/console.c draws the pixels of a strike's glyphs."""
-    line, font = "Aging glyphs.", lib.part("DejaVuSans.ttf", range(0x20, 0x7F))
-    _, text, _ = lib.make(font, 16, HINTED, 0x20, 0x7E)
-    bits = run([lib.at("console"), font, "16", line]).stdout
+def picture_of(bits):
+    """The size of a picture in PBM, and its set pixels, by column and row."""
     width, height = map(int, bits.split(b"\n")[1].split())
     body = bits.split(b"\n", 2)[2]
-    drawn = {(x, y) for y in range(height) for x in range(width) if body[y * ((width + 7) // 8) + x // 8] >> (7 - x % 8) & 1}
-    strike, column, due = Strike(text), 0, set()
+    return width, height, {(x, y) for y in range(height) for x in range(width) if body[y * ((width + 7) // 8) + x // 8] >> (7 - x % 8) & 1}
+
+
+@pytest.mark.parametrize("ppem, line", [(16, "Aging glyphs."), (150, "Aj|"), (64, "A" + 40 * "_")])
+def test_console(lib, ppem, line):
+    """examples/console.c draws the pixels of a strike's glyphs, as far as they are in its frame of 1,024 by 128."""
+    font = lib.part("LiberationSans-Regular.ttf", range(0x20, 0x7F))
+    strike, column, due = Strike(lib.make(font, ppem, EXAMPLES, 0x20, 0x7E)[1]), 0, set()
     for it in map(strike.get, line):
         due |= {(column + it.left + x, strike.ascent - it.top + y) for y, row in enumerate(it) for x, byte in enumerate(row) if byte}
         column += it.advance
-    if drawn != {(x, y) for x, y in due if 0 <= x < width and 0 <= y < height} or width != column:
+    width, height = min(column, 1024), min(strike.ascent + strike.descent, 128)
+    if picture_of(run([lib.at("console"), font, str(ppem), line]).stdout) != (
+            width, height, {(x, y) for x, y in due if 0 <= x < width and 0 <= y < height}):
         raise Wrong("examples/console.c: other pixels")
+
+
+def test_console_in_its_frame(lib):
+    """AddressSanitizer sees no pixel outside the frame."""
+    font = lib.part("LiberationSans-Regular.ttf", range(0x20, 0x7F))
+    sanitized([os.path.join(TOP, it) for it in ("examples/console.c", "c/calls.c", "c/arena.c")] + [lib.archive], lib.at("console_asan"))
+    for ppem, line in ((300, "gj|"), (100, "wider than the frame, by far")):
+        run([lib.at("console_asan"), font, str(ppem), line])
+
+
+def test_console_of_utf_8(lib):
+    """What examples/console.c takes for characters: each of these bytes has a width of its own, and what is no UTF-8 is a box for each byte."""
+    square = fonts.simple([[(0, 0, 1), (0, 500, 1), (500, 500, 1), (500, 0, 1)]])
+    codes = [0x41, 0x7F, 0x80, 0x7FF, 0x800, 0xFFF, 0x1000, 0xD7FF, 0xE000, 0xFFFF, 0x10000, 0x10FFFF]
+    font = lib.at("utf-8.ttf")
+    with open(font, "wb") as file:  # at 10 pixels an em the k-th has an advance of k + 10
+        file.write(fonts.font_of([b""] + [square] * len(codes), fonts.wide_map_of([(code, k + 1) for k, code in enumerate(codes)]),
+                                 metrics=[(1000, 0)] + [(100 * (k + 10), 0) for k in range(len(codes))]))
+    texts = [(chr(code).encode(), k + 10) for k, code in enumerate(codes)]
+    box = 10 // 2 + 3
+    texts += [(bytes.fromhex(text), box * len(text.split())) for text in (
+        "C1 BF", "C0 80", "E0 9F BF", "F0 8F BF BF", "ED A0 80", "ED BF BF", "F4 90 80 80", "F5 80 80 80", "FF", "80", "C2", "E0 A0", "F0 90 80")]
+    texts += [(b"\xe0\xa0A", 2 * box + 10), (b"A" + "\u0fff".encode() + b"A", 10 + 15 + 10)]
+    for text, due in texts:
+        width = picture_of(run([lib.at("console"), font, "10", text]).stdout)[0]
+        if width != due:
+            raise Wrong("examples/console.c draws %s in %d columns, and %d are due" % (text.hex(" "), width, due))
+
+
+def test_console_of_odd_advances(lib):
+    """A program may move an advance below 0: the next character is drawn at the same place."""
+    square, back = [[(0, 0, 1), (0, 500, 1), (500, 500, 1), (500, 0, 1)]], pushed([5, -640]) + b"\x48"  # SCFS: the second phantom point
+    font = lib.at("back.ttf")
+    with open(font, "wb") as file:
+        file.write(fonts.font_of([b"", fonts.simple(square, back), fonts.simple(square)], fonts.map_of([(0x41, 1), (0x42, 2)]), stack=9))
+    strike = Strike(lib.make(font, 16, EXAMPLES, 0x41, 0x42)[1])
+    assert [strike.get(it).advance for it in "AB"] == [-10, 16]
+    width, _, drawn = picture_of(run([lib.at("console"), font, "16", "AB"]).stdout)
+    if width != 16 or {x for x, _ in drawn} != set(range(8)):
+        raise Wrong("examples/console.c draws %d columns" % width)
 
 
 def rows_only(out):
@@ -608,7 +663,7 @@ def rows_only(out):
 
 def test_commands_of_examples(unbuilt):
     """Each example, built and run in a checkout by the command that it shows."""
-    font, folder = unbuilt.part("DejaVuSans.ttf", range(0x20, 0x7F)), unbuilt.at("checkout")
+    font, folder = unbuilt.part("LiberationSans-Regular.ttf", range(0x20, 0x7F)), unbuilt.at("checkout")
     pictured = b"".join(unbuilt.picture(font, 16, c) for c in "Aging")
     for name in ("include", "examples", "c"):
         shutil.copytree(os.path.join(TOP, name), os.path.join(folder, name))
@@ -629,6 +684,9 @@ def test_commands_of_examples(unbuilt):
     for name, text in printed.items():
         if name.startswith("glyphs") and rows_only(text) != pictured:
             raise Wrong("examples/%s: other pictures" % name)
+        status, said = compile_lines.alone(name, folder, env)
+        if status != (1 if name.endswith(".go") else 2) or not said.startswith("usage: "):  # `go run` has its own status
+            raise Wrong("examples/%s says %r to no arguments, with status %d" % (name, said[:80], status))
     script = [sys.executable, os.path.join(folder, "examples/glyphs.py"), os.path.join(folder, soname), font, "1025", "A"]
     if run(script, status=1).stderr != b"refused: 60 BadSize\n":
         raise Wrong("examples/glyphs.py: another refusal")

@@ -41,7 +41,7 @@ IDIOM = re.compile(r"\b(?:that|those)\s+of\b|\bones?\s+(?:that|which)\b|\bby\s+w
 
 # The columns of the table of the doors in docs/WORDS.md after the first, and the files that have the words of each.
 DOORS = (("crates/fx_front/src/*.rt", "crates/fx_bdf/src/*.rt"), ("python/mkstrike/*.py",), ("include/mkstrike.h",), ("python/mkstrike/*.py",),
-         ("web/index.html", "web/page.js"))
+         ("web/index.html", "web/*.js"))
 
 FUNCTION = re.compile(r"\s*(?:pub(?:\(\w+\))? )?(?:const )?(?:unsafe )?fn (\w+)")
 LOOP = re.compile(r"\s*(?:('\w+): )?(?:for\b.+\bin\b|while\b|loop\b)")

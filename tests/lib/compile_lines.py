@@ -26,14 +26,27 @@ def tool_of(line):
     return next(it for it in line.split() if "=" not in it)
 
 
+def made_by(line):
+    """The name of the program that a command makes; or none, if it runs the example itself."""
+    made = re.search(r"-o (\w+)", line) or ("rustc" in line and re.search(r"(\w+)\.rs", line))
+    return made.group(1) if made else None
+
+
+def alone(name, folder, env):
+    """What an example that was tried in a folder says to no arguments: its status, and standard error."""
+    line = of(name, True)
+    words = ["./" + made_by(line)] if made_by(line) else ["bash", "-c", line.replace(" FONT PPEM TEXT", "")]
+    done = subprocess.run(words, cwd=folder, env=env, stdin=subprocess.DEVNULL, capture_output=True, timeout=300)
+    return done.returncode, done.stderr.decode()
+
+
 def run_line(line, folder, font, env):
     """Runs a command in a folder, and the program that it makes; returns what was printed, or raises what was said."""
     font = shlex.quote(str(font))
     given = "%s 16 Aging" % font
     line = line.replace("FONT PPEM TEXT", given)
-    made = re.search(r"-o (\w+)", line) or ("rustc" in line and re.search(r"(\w+)()\.rs", line))
     if given not in line:
-        line += " && ./%s %s" % (made.group(1), given if made.group(1) != "show" else "%s 16 67" % font)
+        line += " && ./%s %s" % (made_by(line), given if made_by(line) != "show" else "%s 16 67" % font)
     done = subprocess.run(["bash", "-e", "-c", line], cwd=folder, env=env, stdin=subprocess.DEVNULL, capture_output=True, timeout=300)
     if done.returncode:
         raise prebuilt.Fault("%s: status %d: %s" % (line, done.returncode, done.stderr.decode("latin-1").strip()[-400:]))

@@ -1,12 +1,15 @@
 """Files that are written: whole, by many at once, never over what was read."""
 import concurrent.futures
+import errno
 import os
+import re
 import stat
 import subprocess
 import sys
 import threading
 
 import pytest
+from needs import tool
 from shared import LIBERATION, MONO, SANS, needs_font, strike_by_command
 
 import mkstrike
@@ -60,37 +63,98 @@ def test_what_is_no_file(tmp_path):
         strike.save(tmp_path, "bdf")
 
 
-def test_no_new_file_stays(tmp_path, monkeypatch):
-    """A fault leaves the older file, and no other."""
+def full(*_):
+    """A call of the system that fails."""
+    raise OSError(errno.ENOSPC, "the disk is full")
+
+
+@pytest.mark.parametrize("call, instead", [("replace", full), ("fsync", full), ("fsync", os.close), ("open", full)])
+def test_no_new_file_stays(tmp_path, monkeypatch, call, instead):
+    """A fault leaves the older file, and no other, and the error has the name as it was given. A disk may tell that it is full only at
+    `fsync`, or when the file is closed: a file that `fsync` closes can't be closed again. A name that can't be opened is left alone."""
     strike = mkstrike.Font(SANS).strike(16, "ascii")
-    path = tmp_path / "a.bdf"
-    path.write_bytes(b"old")
-
-    def fail(*_):
-        raise OSError("the disk is full")
-
+    (tmp_path / "a.bdf").write_bytes(b"old")
+    os.symlink("a.bdf", tmp_path / "link.bdf")
     with monkeypatch.context() as patched:
-        patched.setattr(os, "replace", fail)
-        with pytest.raises(OSError, match="the disk is full"):
-            strike.save(path)
-    assert path.read_bytes() == b"old" and os.listdir(tmp_path) == ["a.bdf"]
+        patched.setattr(os, call, instead)
+        with pytest.raises(OSError) as fault:
+            strike.save(tmp_path / "link.bdf")
+    assert call == "open" or fault.value.filename == str(tmp_path / "link.bdf")
+    assert (tmp_path / "a.bdf").read_bytes() == b"old" and sorted(os.listdir(tmp_path)) == ["a.bdf", "link.bdf"]
+
+
+def test_no_bytes(tmp_path):
+    """A fault of the program leaves no file either."""
     with pytest.raises(TypeError):
-        formats.write(str(path), "no bytes")
-    assert path.read_bytes() == b"old" and os.listdir(tmp_path) == ["a.bdf"]
+        formats.write(str(tmp_path / "a.bdf"), "no bytes")
+    assert os.listdir(tmp_path) == []
 
 
-def test_modes(tmp_path, monkeypatch):
-    """A private file stays private, and one that may not be written stays as it is."""
-    strike, path = mkstrike.Font(SANS).strike(16, "ascii"), tmp_path / "a.bdf"
+def test_no_folder(tmp_path):
+    """The error names the file as it was given, not the one that is made first."""
+    with pytest.raises(FileNotFoundError) as fault:
+        formats.write("nodir/x.bdf", b"")
+    assert fault.value.filename == "nodir/x.bdf" and str(fault.value).endswith(": 'nodir/x.bdf'")
+
+
+@pytest.mark.parametrize("mode, kept", [(0o600, 0o600), (0o4777, 0o777), (0o2770, 0o770), (0o7711, 0o711)])
+def test_permissions(tmp_path, monkeypatch, mode, kept):
+    """The new file has the permissions of the old one, whatever the umask, and is never setuid. While it is empty only its owner can
+    open it."""
+    path, seen, chmod = tmp_path / "a.bdf", [], os.fchmod
+    path.write_bytes(b"old")
+    path.chmod(mode)
+
+    def seen_chmod(file, bits):
+        seen.append((os.fstat(file).st_size, stat.S_IMODE(os.fstat(file).st_mode)))
+        chmod(file, bits)
+
+    monkeypatch.setattr(os, "fchmod", seen_chmod)
+    umask = os.umask(0o022)
+    try:
+        formats.write(str(path), b"new")
+    finally:
+        os.umask(umask)
+    assert stat.S_IMODE(os.stat(path).st_mode) == kept and path.read_bytes() == b"new" and seen == [(0, kept & 0o700)]
+
+
+def test_owner(tmp_path, monkeypatch):
+    """Root keeps the owner and the group of a file; who may not keeps its permissions."""
+    path, asked = tmp_path / "a.bdf", []
     path.write_bytes(b"old")
     path.chmod(0o600)
-    strike.save(path)
-    assert stat.S_IMODE(os.stat(path).st_mode) == 0o600 and path.read_bytes() == strike.text
-    path.write_bytes(b"old")
-    monkeypatch.setattr(os, "access", lambda *_: False)
-    with pytest.raises(PermissionError):
-        strike.save(path)
-    assert path.read_bytes() == b"old" and os.listdir(tmp_path) == ["a.bdf"]
+    if os.geteuid() == 0:
+        os.chown(path, 65533, 65532)
+        formats.write(str(path), b"new")
+        old = os.stat(path)
+        assert (old.st_uid, old.st_gid, stat.S_IMODE(old.st_mode)) == (65533, 65532, 0o600)
+    old = os.stat(path)
+
+    def refuse(_, owner, group):
+        asked.append((owner, group))
+        raise PermissionError(errno.EPERM, "not permitted")
+
+    monkeypatch.setattr(os, "fchown", refuse)
+    formats.write(str(path), b"newer")
+    assert path.read_bytes() == b"newer" and stat.S_IMODE(os.stat(path).st_mode) == 0o600
+    assert sorted(asked) == [(-1, old.st_gid), (old.st_uid, -1)]
+
+
+def test_system_calls(tmp_path):
+    """The name is opened as it was given, so that the kernel can refuse a planted link. All is on the disk before the file gets it."""
+    (tmp_path / "a.bdf").write_bytes(b"old")
+    os.symlink("a.bdf", tmp_path / "link.bdf")
+    words = [tool("strace"), "-e", "trace=openat,fchmod,write,fsync,close,?rename,?renameat,?renameat2", "-o", "calls"]
+    code = "from mkstrike import formats; formats.write('link.bdf', b'new')"
+    ran = subprocess.run([*words, sys.executable, "-c", code], cwd=tmp_path, capture_output=True)
+    if b"ptrace" in ran.stderr:
+        pytest.skip("strace may not watch programs here")
+    assert ran.returncode == 0, ran.stderr
+    calls = (tmp_path / "calls").read_text()
+    wanted = [r'openat\(AT_FDCWD, "link.bdf", O_WRONLY\|O_CLOEXEC\) += (\d+)',
+              r'openat\(AT_FDCWD, "[^"]*\.new", O_WRONLY\|O_CREAT\|O_EXCL[^=]*= (\d+)',
+              r"fchmod\(\2, ", r'write\(\2, "new", 3\)', r"fsync\(\2\)", r"close\(\2\)", r"rename[^\n]*a\.bdf", r"close\(\1\)"]
+    assert re.search(".*\n".join(wanted), calls[calls.index("link.bdf") - 20:]), calls[-1000:]
 
 
 @pytest.mark.parametrize("words",

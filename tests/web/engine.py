@@ -26,6 +26,7 @@ SANS = REAL["DejaVuSans"]
 HINTED, DROPOUT, DROPOUT_NEAR, DROPOUT_FONT = 1, 2, 4, 8
 DROPOUTS = {0: "off", DROPOUT: "left", DROPOUT_NEAR: "near", DROPOUT_FONT: "font"}
 MODES = [hinted | dropout for dropout in DROPOUTS for hinted in (HINTED, 0)]
+AT_FIRST = HINTED | DROPOUT_FONT  # the mode that the page begins with
 DAMAGED, SEED = 100, 69
 # Fonts with Latin letters, by their folders: what else a machine has must not change what is tested.
 FAMILIES = {
@@ -132,9 +133,10 @@ def flags(mode):
     return ([] if mode & HINTED else ["--unhinted"]) + (["--dropout=" + DROPOUTS[mode & ~HINTED]] if mode & ~HINTED else [])
 
 
-def answer(font, ppem, mode, chars, name="strike", face=None):
+def answer(font, ppem, mode, chars, name="strike", face=None, refused="stop"):
     """What the program gives: its text, the first line of what it says, without its name, and its status."""
-    words = ["make", "--ppem", str(ppem), "--chars", chars, "--name", name] + flags(mode) + (["--face", face] if face else [])
+    words = ["make", "--ppem", str(ppem), "--chars", chars, "--name", name, *flags(mode)] + (["--face", face] if face else [])
+    words += ["--refused", refused] if refused != "stop" else []
     done = program(words, font)
     return done.stdout, done.stderr.decode().split("\n")[0].partition(": ")[2], done.returncode
 

@@ -106,11 +106,14 @@ class Page:
         raise AssertionError("%s was not saved after %d clicks; Chromium told %s" % (name, TRIES, self.browser.downloads()))
 
     def compare(self, path, ppem, mode, chars, face=None):
-        """Saves a strike, which must be the program's; returns whether both refuse it."""
+        """Saves a strike, which must be the program's by the same rule for refused characters; returns whether both refuse it. One
+        without a glyph is not saved."""
         name = self.value_of("name")
-        text, line, status = engine.answer(path, ppem, mode, chars, name, face)
+        text, line, status = engine.answer(path, ppem, mode, chars, name, face, self.value_of("rule"))
         saved, data = self.save("bdf")
         where = "%s at %d, mode %d" % (os.path.basename(path), ppem, mode)
+        if b"\nCHARS 0\n" in text and (saved, data) == ("The strike has no glyph.", None):
+            return False
         if not status and (data != text or saved != name + ".bdf"):
             raise AssertionError("%s: the saved strike %s is not the program's" % (where, saved))
         if status and (data is not None or not saved.startswith(line + ": ") or saved.replace("`", "") not in self.text_of("#saved")):

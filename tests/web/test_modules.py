@@ -2,6 +2,7 @@
 
 web/module.c is tried by itself too, and modules with a planted fault of tools/web_memory32.py are no modules, or fail there."""
 import glob
+import json
 import os
 import re
 import shlex
@@ -141,6 +142,25 @@ def test_library(tmp_path):
     assert len([it for it in answers if len(it.split()[0]) < 64]) > 20, "so few refusals are no test of them"
 
 
+def test_no_font(tmp_path):
+    """Without a font, or after one that there is no memory for, a call says so; another font may follow."""
+    script = put(tmp_path, "ask.mjs", b"""import { readFileSync } from 'node:fs';
+const { Mkstrike } = await import(process.argv[2]);
+const made = await Mkstrike.open(readFileSync(process.argv[3])), said = [];
+const attempt = (work) => { try { work(); said.push('done'); } catch (fault) { said.push(fault.message); } };
+attempt(() => made.heights(16));
+attempt(() => made.setFont({ length: 2 ** 40 }));
+for (const call of [() => made.heights(16), () => made.glyphs(16, 1, [65]), () => made.faces(), () => made.name(4)]) attempt(call);
+attempt(() => made.setFont(readFileSync(process.argv[4])));
+attempt(() => made.heights(16));
+console.log(JSON.stringify(said));
+""")
+    module = os.path.join(engine.modules(), prebuilt.MODULES[0])
+    words = [engine.node(), script, os.path.join(TOP, "web/mkstrike.js"), module, engine.SAMPLE]
+    none = "there is no font: setFont was not called, or ran out of memory"
+    assert json.loads(engine.run(words).stdout) == [none, "out of memory", none, none, none, none, "done", "done"]
+
+
 # ---- the program's module
 
 def command_lines(folder):
@@ -158,6 +178,22 @@ def command_lines(folder):
         words = shlex.split(line)
         yield SANS if os.path.exists(SANS) else small[0], (
             words[:1] + ["--ppem", "16"] * (line in LINES and words[0] in ("make", "show", "outline", "trace")) + words[1:])
+
+
+def test_no_files(tmp_path):
+    """In memory there are no files: a font and an output by their names are refused."""
+    script = put(tmp_path, "ask.mjs", b"""import { readFileSync } from 'node:fs';
+const { runInMemory } = await import(process.argv[2]);
+const module = new WebAssembly.Module(readFileSync(process.argv[3])), font = readFileSync(process.argv[4]);
+for (const more of [['a.ttf'], ['-o', 'a.bdf']]) {
+  const { status, output, lines } = runInMemory(module, ['make', '--ppem', '16', '--chars', '41', ...more], font);
+  console.log(status, output.length, lines.split('\\n').find((it) => it.includes("'")));
+}
+""")
+    module = os.path.join(engine.modules(), prebuilt.MODULES[1])
+    words = [engine.node(), script, os.path.join(TOP, "web/program.js"), module, engine.SAMPLE]
+    assert engine.run(words).stdout.decode() == ("1 0 mkstrike: can't open the font 'a.ttf': there is no such file\n"
+                                                 "1 0 mkstrike: can't write 'a.bdf': no file can be made in its folder\n")
 
 
 def due_of_run(request):

@@ -7,10 +7,12 @@ import subprocess
 import tarfile
 
 import engine
+import fonts
 import front
 import prebuilt
 import pytest
 from engine import SAMPLE, put, run
+from making.assembler import pushed
 from needs import real_font, tool
 from prebuilt import TOP
 
@@ -38,8 +40,28 @@ def taken_name(it):
     it.check("a font behind a link", "" if it.read("mine.ttf") == prebuilt.read(SAMPLE) else "it is written over")
 
 
+def late_fault(it):
+    """A disk that is full only when the file is flushed or closed: the older file stays, and no other."""
+    put(it.folder, "old.bdf", b"old")
+    before = it.files()
+    for call in ("fsyncSync", "closeSync"):
+        fails = "() => { throw Object.assign(new Error('full'), { code: 'EDQUOT' }); }"
+        code = "require('node:fs').%s = %s;\nrequire('node:module').syncBuiltinESMExports();\n" % (call, fails)
+        script = put(it.folder, "full.cjs", code.encode())
+        status = it.run(MAKE[:-1] + ["old.bdf"], env={**os.environ, "NODE_OPTIONS": "--require=" + script})[0]
+        os.remove(script)
+        it.equal("a fault of %s" % call, (status, it.read("old.bdf") == b"old", it.files()), (1, True, before))
+
+
+def setuid(it):
+    """The new file is never setuid or setgid, whatever the older one was."""
+    os.chmod(put(it.folder, "old.bdf", b"old"), 0o6755)
+    it.run(MAKE[:-1] + ["old.bdf"])
+    it.equal("the mode of a new file", os.stat(it.path("old.bdf")).st_mode & 0o7777, 0o755)
+
+
 # What the command must do as the program does, most of it by the checks of tests/front.
-CHECKS = (front.outputs_by_name, front.outputs_that_are_there, front.fonts_by_name, full_disk, taken_name)
+CHECKS = (front.outputs_by_name, front.outputs_that_are_there, front.fonts_by_name, full_disk, late_fault, setuid, taken_name)
 # Faults of web/program.js: the check that must find each, a text, and what takes its place.
 FAULTS = [(full_disk, "system.unlinkSync(path(name))", "0"), (taken_name, "O_EXCL: 0o200, ", ""),
           (front.outputs_that_are_there, "system.fchmodSync(files[file], mode)", "0")]
@@ -99,10 +121,10 @@ def test_planted(fault, installed, tmp_path):
     assert wrong_with(tmp_path / "package", tmp_path, check)
 
 
-def readme_example():
-    """The example of the package's README, for Node."""
+def readme_example(first="readFileSync"):
+    """The example of the package's README, for Node, that begins with this import."""
     text = prebuilt.read(os.path.join(PACKAGING, "npm/README.md")).decode()
-    return re.sub("^    ", "", re.search(r"^    import \{ readFileSync.*?(?=^$)", text, re.M | re.S).group(0), flags=re.M)
+    return re.sub("^    ", "", re.search(r"^    import \{ %s.*?(?=^$)" % first, text, re.M | re.S).group(0), flags=re.M)
 
 
 def test_example(installed):
@@ -112,6 +134,28 @@ def test_example(installed):
     put(installed, "example.mjs", (readme_example() + end).encode())
     seen = run([engine.node(), "example.mjs"], cwd=installed).stdout
     assert seen == engine.program(["make", "--ppem", "16", "--chars", "20-7e", "--x11"], SAMPLE).stdout
+
+
+def slow_font():
+    """A font whose glyph of U+0041 takes many seconds: 970 times 255 times SHZ over 65,535 twilight points."""
+    shz = b"\xb0\x00\x2c" + pushed([0] * 255) + b"\x36" * 255 + b"\x2d"
+    glyph = fonts.simple([[(0, 0, 1), (0, 90, 1), (90, 90, 1)]], pushed([0]) + b"\x16" + pushed([970, 0]) + b"\x2a")
+    return fonts.font_of([b"", glyph], fonts.map_of([(0x41, 1)]), upem=255, fpgm=shz, stack=300, functions=1, twilight=65535)
+
+
+def test_worker(installed):
+    """The README's worker gives what `run` gives, and ends a run whose time is up."""
+    put(installed, "within.mjs", readme_example("Worker").encode())
+    put(installed, "slow.ttf", slow_font())
+    put(installed, "ask.mjs", b"""import { readFileSync } from 'node:fs';
+import { runWithin } from './within.mjs';
+const ask = (milliseconds, font) => runWithin(milliseconds, ['make', '--ppem', '16', '--chars', '41'], readFileSync(font));
+const made = await ask(60000, process.argv[2]), begun = performance.now(), none = await ask(500, 'slow.ttf');
+if (none !== undefined || performance.now() - begun > 10000) throw new Error('the slow run was not ended');
+process.stdout.write(made.output);
+""")
+    seen = run([engine.node(), "ask.mjs", SAMPLE], cwd=installed, timeout=120).stdout
+    assert seen == engine.program(["make", "--ppem", "16", "--chars", "41"], SAMPLE).stdout
 
 
 def test_types(installed):

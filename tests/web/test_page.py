@@ -21,7 +21,8 @@ import prebuilt
 import pytest
 import sample_font
 import web_page
-from engine import DROPOUT, DROPOUT_FONT, DROPOUT_NEAR, DROPOUTS, HINTED, MODES, SAMPLE, SANS, SEED, SQUARE, installed_fonts
+from engine import AT_FIRST, DROPOUT, DROPOUT_FONT, DROPOUT_NEAR, DROPOUTS, HINTED, MODES, SAMPLE, SANS, SEED, SQUARE
+from engine import installed_fonts
 from making import fonts
 from needs import tool
 from prebuilt import TOP
@@ -62,7 +63,7 @@ def first(page):
     page.picture("first", True)
     for width, height in ((400, 700), (1200, 700)):
         page.browser.call("Emulation.setDeviceMetricsOverride", width=width, height=height, deviceScaleFactor=1, mobile=False)
-        ends = page.browser.evaluate("[...document.querySelectorAll('#fontbar [data-save]')].map((it) => it.getBoundingClientRect().bottom)")
+        ends = page.browser.evaluate("[...document.querySelectorAll('#save [data-save]')].map((it) => it.getBoundingClientRect().bottom)")
         assert len(ends) == 4 and max(ends) < height, "a button that saves is below what is in sight: %s of %d" % (ends, height)
     page.browser.call("Emulation.clearDeviceMetricsOverride")
     kept = page.browser.evaluate("[...document.querySelectorAll('meta[property], link[rel=icon]')].map((it) => it.content ?? it.href.slice(0, 19))")
@@ -86,8 +87,8 @@ def first(page):
 def controls(page):
     """Each control changes what it is for, and changed back it is as before."""
     for control, value, old, canvas in (
-            ("ppem", "9", "16", "main"), ("ppem-slider", "30", "16", "main"), ("hinted", False, True, "main"), ("dropout", "left", "off", "other"),
-            ("dropout", "near", "off", "other"), ("dropout", "font", "off", "other"), ("text", "Other", None, "main"),
+            ("ppem", "9", "16", "main"), ("ppem-slider", "30", "16", "main"), ("hinted", False, True, "main"),
+            ("dropout", "off", "font", "other"), ("dropout", "near", "font", "other"), ("text", "Other", None, "main"),
             ("beside", "larger", "hinted", "other"), ("beside", "smaller", "hinted", "other")):
         old = page.value_of(control) if old is None else old
         before = page.seen(canvas)
@@ -107,17 +108,19 @@ def controls(page):
         page.change(control, old)
         assert between != before and page.seen() == before and (control == "differences") == ("differ" in said), control
     page.set("chars", "41-43,20")
-    four = page.text_of("#sheet-count")
+    four = page.text_of("#sheet-count"), page.text_of("#told")
     page.set("set", "box", "change")
-    more = page.text_of("#sheet-count")
-    assert hidden and four == "4 glyphs" and more.startswith("4 glyphs; the font lacks 128"), "characters: %r, %r" % (four, more)
+    more = page.text_of("#sheet-count"), page.text_of("#told")
+    due = ("4 glyphs", ""), ("4 glyphs", "The font lacks 128 characters: 2500-257f.")
+    assert hidden and (four, more) == due, "characters: %r, %r" % (four, more)
     page.set("text", "na\u00efve")
     assert "U+00EF" in page.text_of("#text-missing"), "a missing character is not named"
 
 
 def address(page):
     """The address keeps the text and the settings, and another address sets them; what a control can't have leaves it as it is."""
-    due = {"ppem": "23", "hinted": "false", "dropout": "near", "zoom": "7", "text": "\u00e4 & b\nc=#", "beside": "larger", "differences": "true", "chars": "41-43"}
+    due = {"ppem": "23", "hinted": "false", "dropout": "near", "zoom": "7", "text": "\u00e4 & b\nc=#", "beside": "larger",
+           "differences": "true", "chars": "41-43", "rule": "stop"}
     values = VALUES_SCRIPT % json.dumps(list(due))
     plain = page.browser.evaluate(values)
     for control, value in due.items():
@@ -145,7 +148,7 @@ def ladder(page):
     rungs = page.browser.evaluate(RUNGS_SCRIPT)
     assert [size for size, _ in rungs] == list(map(str, range(8, 25)))
     for size, rows in rungs:
-        strike, pen, due = Strike(engine.answer(path, int(size), 0, "53,67")[0]), 0, set()
+        strike, pen, due = Strike(engine.answer(path, int(size), DROPOUT_FONT, "53,67")[0]), 0, set()
         for it in text:
             due |= {(pen + x, y) for x, y in pixels_of(strike[it])}
             pen += strike[it].advance
@@ -170,7 +173,7 @@ def captions(page):
     page.change("differences", True)
     for mode in MODES:
         page.set_mode(mode)
-        dropout = 0 if mode & ~HINTED else DROPOUT
+        dropout = 0 if mode & ~HINTED else DROPOUT_FONT
         looks = (("hinted", (16, mode ^ HINTED)), ("dropout", (16, mode & HINTED | dropout)), ("larger", (17, mode)), ("smaller", (15, mode)))
         for beside, other in looks if mode in (HINTED, DROPOUT_NEAR) else looks[:1]:
             page.set("beside", beside)
@@ -226,7 +229,7 @@ def files(page):
     font = sample_font.sample()
     for base in [SAMPLE] + [SANS] * os.path.exists(SANS):
         page.dropped("web.woff", engine.woff_of(prebuilt.read(base)))
-        page.compare(base, 16, HINTED, "20-7e")
+        page.compare(base, 16, AT_FIRST, "20-7e")
     huge, gone = os.path.join(page.folder, "large.ttf"), page.put("gone.ttf", font)
     with open(huge, "wb") as file:
         file.truncate((64 << 20) + 1)
@@ -258,6 +261,9 @@ def kinds(page):
         line, said = page.text_of("#refused-line"), page.text_of("#refused-text")
         assert (line, said) == ("10 NotTrueType", "other.ttf: the file %s: %s." % (seems, todo))
     assert len(rows) >= 10, "docs/REFUSALS.md names %d kinds of files" % len(rows)
+    page.dropped("cff.woff", engine.woff_of(b"OTTO" + sample_font.sample()[4:]))
+    due, = ("cff.woff: the file %s: %s." % (seems, todo) for begins, seems, todo in rows if bytes.fromhex(begins) == b"OTTO")
+    assert page.text_of("#refused-text") == due
 
 
 def fields(page):
@@ -284,35 +290,98 @@ def fields(page):
 
 
 def others(page):
-    """Each refused character is named, and left out if that is asked for; a program of the font that halts refuses all."""
+    """Refused characters are named, and left out, drawn without hinting or the end of the strike, as by the program. A program of the
+    font that halts refuses all."""
     short = fonts.font_of([b"", SQUARE, SQUARE[:-5]], fonts.map_of([(0x41, 1), (0x42, 2)]))
-    refused(page, page.put("short.ttf", short), "40-43", ["42"])
+    refused(page, page.put("short.ttf", short), "40-43", ["42"], (1, 1))
     page.set("chars", "42")
-    page.change("leave", True)
     assert "has no glyph" in page.save("bdf")[0], "an empty strike is saved, without the refused characters"
-    page.change("leave", False)
     if os.path.exists(SANS):
-        refused(page, SANS, "180-250", ["19c", "250"])
+        refused(page, SANS, "180-250", ["19c", "250"], (2, 0))
         page.picture("refused", True)
-        page.change("leave", True)
-        assert page.save("bdf")[1] == engine.answer(SANS, 16, HINTED, "180-19b,19d-24f", "DejaVuSans")[0], "another strike without the refused"
+        page.set("rule", "unhinted")
+        page.set("chars", "19c")
+        page.browser.until("document.body.dataset.outline === document.body.dataset.drawn + ' %d'" % 0x19c, "an outline")
+        points = re.findall(r"^\d+ \d+ on (-?\d+) (-?\d+)$", engine.outline(SANS, 16, 0, 0x19c).decode(), re.M)
+        seen = page.browser.evaluate(POINTS_SCRIPT % json.dumps([[int(x), int(y)] for x, y in points]))
+        name = "U+019C \u019c: without hinting, since it is refused, " + engine.answer(SANS, 16, AT_FIRST, "19c")[1]
+        assert (seen, page.text_of("#glyph-name")) == (len(points), name), "a glyph without hinting"
+        page.set("rule", "leave-out")
+    page.dropped("many.ttf", fonts.font_of([b"", SQUARE[:-5]], fonts.map_of([(0x100 + k, 1) for k in range(230)])))
+    page.set("chars", "100-1e5")
+    assert (page.text_of("#refused-line"), page.text_of("#refused-more")) == ("100-1e5", "and 30 more")
     halting = fonts.font_of([b"", SQUARE], fonts.map_of([(0x41, 1)]), stack=9, prep=bytes.fromhex("28"))
     path = page.dropped("halting.ttf", halting)
-    line = engine.answer(path, 16, HINTED, "41")[1]
+    line = engine.answer(path, 16, AT_FIRST, "41")[1]
     seen = page.text_of("#refused-line"), page.browser.evaluate("document.getElementById('refused-table').hidden")
     assert "during prep" in line and seen == (line, True), "a halt of prep: %r, and %r is due" % (seen, line)
 
 
-def refused(page, path, chars, codes):
-    """Of a font that is chosen these characters are refused, and named in the words of docs/REFUSALS.md."""
+def refused(page, path, chars, codes, lefts):
+    """Of a font that is chosen these characters are refused, and named in the words of docs/REFUSALS.md. `lefts` says how many are left
+    out, and how many still are if those whose programs halt are drawn without hinting."""
     page.drawn_after(lambda: page.browser.choose("#file", path), "drawing a font that was chosen")
     page.set("chars", chars)
     rows = page.browser.evaluate("[...document.querySelectorAll('#refused-table tbody tr')].map((it) => [...it.cells].map((cell) => cell.innerText))")
     advice = {str(number): todo for number, _, _, todo in prebuilt.refusals()}
     for row, code in zip(rows, codes):
-        line = engine.answer(path, 16, HINTED, code)[1]
+        line = engine.answer(path, 16, AT_FIRST, code)[1]
         assert (row[0].split()[0], row[1], row[2]) == ("U+%s" % code.upper().zfill(4), line, advice[line.split()[0]])
-    assert len(rows) == len(codes) and page.save("bdf")[1] is None, "%d refused characters are named, and %d are due" % (len(rows), len(codes))
+    assert len(rows) == len(codes) and page.text_of("#refused-line") == ", ".join(codes), "%d are named" % len(rows)
+    for rule, left in zip(("leave-out", "unhinted"), lefts):
+        if page.value_of("rule") != rule:
+            page.set("rule", rule)
+        for what in ("png", "c", "gfx"):
+            assert page.save(what)[1] is not None, "%s is not saved by the rule %s" % (what, rule)
+        assert not page.compare(path, 16, AT_FIRST, chars)
+        counted = page.text_of("#sheet-count")
+        shown = re.search(r"(?:, (\d+) of them without hinting)?(?:; (\d+) refused)?$", counted).groups(default="0")
+        assert shown == (str(len(codes) - left), str(left)), "by the rule %s the sheet has %s" % (rule, counted)
+        told, counts = page.text_of("#saved"), ((left, "refused left out"), (len(codes) - left, "drawn without hinting"))
+        assert all(("%d %s" % it in told) == (it[0] > 0) for it in counts), "by the rule %s the page says %r" % (rule, told)
+        drawn = re.findall(rb"^ENCODING (\d+)$", page.save("bdf")[1], re.M)
+        assert sum(b"%d" % int(it, 16) in drawn for it in codes) == len(codes) - left
+    page.set("rule", "stop")
+    assert page.compare(path, 16, AT_FIRST, chars), "a strike with refused characters is saved"
+    page.browser.evaluate("document.getElementById('to-rule').click()")
+    in_sight = "(({ top, bottom }) => top >= 0 && bottom <= innerHeight)(document.activeElement.getBoundingClientRect())"
+    seen = page.browser.evaluate("document.activeElement.id === 'rule' && %s" % in_sight)
+    assert seen, "a refusal does not lead to the choice"
+    page.set("rule", "leave-out")
+
+
+def told(page):
+    """A strike of which no pixel is set, and a variable font, of a collection too, are told."""
+    page.set("chars", "20,2000")
+    assert page.text_of("#told") == "The font lacks 1 character: 2000. No pixel of the strike is set: its characters are blank."
+    page.set("chars", "20,41")
+    assert page.text_of("#told") == "" and "variable" not in page.text_of("#font")
+    varies = fonts.with_tables(sample_font.sample(), fvar=bytes(16))
+    page.dropped("varies.ttf", varies)
+    assert page.text_of("#font").endswith("; a variable font, of which this is the default instance")
+    page.dropped("two.ttc", engine.collection_of([fonts.FIXTURE, varies]))
+    is_told = ["variable" in page.text_of("#font")]
+    page.set("face", "1")
+    assert [*is_told, "variable" in page.text_of("#font")] == [False, True]
+    page.dropped("cut.ttf", varies[:20])
+    assert "variable" not in page.text_of("#font")
+
+
+def order(page):
+    """The page is in the order of work; on a phone the picture is in sight at once, above the buttons that save."""
+    ids = json.dumps(["file", "chars", "ppem", "main", "name", "sheet", "ladder"])
+    places = page.browser.evaluate("((all) => %s.map((id) => all.indexOf(document.getElementById(id))))([...document.querySelectorAll('*')])" % ids)
+    assert -1 not in places and places == sorted(places), "another order: %s" % places
+    page.browser.call("Emulation.setDeviceMetricsOverride", width=390, height=844, deviceScaleFactor=1, mobile=True)
+    page.open()
+    if os.path.exists(SANS):
+        page.drop(SANS)
+    page.browser.call("Emulation.setScrollbarsHidden", hidden=True)
+    line, bar = page.browser.evaluate("['main', 'save'].map((id) => document.getElementById(id).getBoundingClientRect().top)")
+    assert line + 64 <= bar < 844, "on a phone the picture begins at %d, and the buttons at %d" % (line, bar)
+    page.picture("page-phone")  # docs/WEB.md shows it
+    page.browser.call("Emulation.setScrollbarsHidden", hidden=False)
+    page.browser.call("Emulation.clearDeviceMetricsOverride")
 
 
 def faces(page):
@@ -324,7 +393,7 @@ def faces(page):
     assert names == ["0", "1: Mine \u00c4 Bold", "2: Old One\\u{7}"], "the fonts of a collection: %s" % names
     for face in ("0", "1", "2", "0"):
         page.set("face", face)
-        assert not page.compare(path, 16, HINTED, "20-42", face), "font %s of a collection is refused" % face
+        assert not page.compare(path, 16, AT_FIRST, "20-42", face), "font %s of a collection is refused" % face
 
 
 def sets(page):
@@ -334,7 +403,8 @@ def sets(page):
     names = [name for table in ("SETS", "OTHERS") for name, _ in prebuilt.sets(table)]
     for name in names:
         page.set("chars", name.upper())
-        due = engine.program(["make", "--ppem", "16", "--set", name, "--name", page.value_of("name")], path)
+        words = ["make", "--ppem", "16", "--set", name, "--name", page.value_of("name"), *engine.flags(AT_FIRST)]
+        due = engine.program(words, path)
         told, saved = page.save("bdf")
         is_empty = b"\nCHARS 0\n" in due.stdout and saved is None and told == "The strike has no glyph."
         assert due.returncode == 0 and (is_empty or saved == due.stdout), "the set %s: %s" % (name, told)
@@ -346,7 +416,7 @@ def whole_font(page):
     path = page.dropped("wide.ttf", fonts.font_of([b"", SQUARE], fonts.wide_map_of([(0x41, 1), (0xFFFF, 1), (0x1F600, 1), (0x10FFFF, 1)])))
     page.browser.until("document.body.dataset.listed === '4'", "listing four characters")
     page.set("chars", "all")
-    assert not page.compare(path, 16, HINTED, "41,ffff,1f600,10ffff") and page.text_of("#sheet-count") == "4 glyphs"
+    assert not page.compare(path, 16, AT_FIRST, "41,ffff,1f600,10ffff") and page.text_of("#sheet-count") == "4 glyphs"
 
 
 def saves(page):
@@ -405,6 +475,10 @@ def outlines(page):
             points = re.findall(r"^\d+ \d+ on (-?\d+) (-?\d+)$", engine.outline(path, 16, mode, char).decode(), re.M)
             seen = page.browser.evaluate(POINTS_SCRIPT % json.dumps([[int(x), int(y)] for x, y in points]))
             assert seen == len(points), "the outline of U+%04X: %s of %d points" % (char, seen, len(points))
+            glyph = Strike(engine.answer(path, 16, mode, "%x" % char)[0])[chr(char)]
+            due = ["%d \u00d7 %d" % (glyph.width, glyph.height), str(glyph.left), str(glyph.bottom), "%d pixels" % glyph.advance]
+            numbers = page.browser.evaluate("[...document.querySelectorAll('#glyph-numbers dd')].map((it) => it.innerText)")
+            assert numbers[:4] == due, "the numbers of U+%04X" % char
     page.picture("outline", True)
     # between two points off the curve is one on it, which has half a unit
     ends = page.browser.evaluate("curvesOf({ points: [[0, 0], [3, 0], [3, 5], [0, 5]].map(([x, y]) => ({ x, y, on: false })), ends: [3] })"
@@ -418,7 +492,7 @@ def sizes(page):
     page.set("text", text)
     for ppem in (1, 400, 1024):
         page.set("ppem", str(ppem))
-        due = rows_of(text, engine.answer(path, ppem, HINTED, "40,53,67")[0])
+        due = rows_of(text, engine.answer(path, ppem, AT_FIRST, "40,53,67")[0])
         for zoom in (1, 24):
             page.change("zoom", str(zoom))
             for place in ("scrollTop += 0", "scrollTo(%d, %d)" % (200 * zoom, 1500 * zoom), "scrollTo(1e9, 1e9)"):
@@ -473,10 +547,12 @@ def keys(page):
     assert set(due) <= set(reached), "not reached by the key Tab: %s" % sorted(set(due) - set(reached))
     page.browser.evaluate("document.getElementById('sheet-scroll').focus()")
     names = []
-    for key, code in (("Home", 36), ("ArrowRight", 39), ("ArrowDown", 40), ("End", 35), ("ArrowLeft", 37)):
+    for key, code in (("Home", 36), ("ArrowRight", 39), ("ArrowDown", 40), ("End", 35), ("ArrowLeft", 37), ("Home", 36), ("PageDown", 34),
+                      ("PageUp", 33)):
         page.browser.key(key, code)
         names.append(page.text_of("#glyph-name"))
-    assert names[:2] == ["U+0020", "U+0021 !"] and names[3:] == ["U+007E ~", "U+007D }"] and names[2] not in names[:2], "keys in the sheet: %s" % names
+    assert names[:2] + names[3:6] == ["U+0020", "U+0021 !", "U+007E ~", "U+007D }", "U+0020"] and names[2] not in names[:2], names
+    assert names[6] not in names[:2] and names[7] == "U+0020", "pages of the sheet: %s" % names
     page.browser.evaluate("document.getElementById('hinted').focus()")
     page.drawn_after(lambda: page.browser.key(" ", 32), "the space bar on a box")
     page.drawn_after(lambda: page.browser.key(" ", 32), "the space bar on a box")
@@ -525,7 +601,7 @@ def large(page):
         page.browser.until("document.getElementById('sheet-count').innerText === '20,000 glyphs'", "20,000 glyphs", 60)
     longest = max(page.browser.tasks(work)["page"])
     page.picture("large")
-    assert not page.compare(path, 16, HINTED, "4e00-9c1f"), "a strike of 20,000 characters is refused"
+    assert not page.compare(path, 16, AT_FIRST, "4e00-9c1f"), "a strike of 20,000 characters is refused"
     assert longest <= LONGEST, "the page does not look at keys and clicks for %.0f ms of processor time" % longest
     os.remove(path)
 
@@ -554,12 +630,12 @@ def from_server(page):
     try:
         page.browser.open("http://127.0.0.1:%d/web/index.html" % server.server_port)
         page.browser.until("document.body.dataset.drawn", "drawing the sample font from a server")
-        page.compare(SAMPLE, 16, HINTED, "20-7e")
+        page.compare(SAMPLE, 16, AT_FIRST, "20-7e")
     finally:
         server.shutdown()
 
 
-STEPS = (first, controls, address, ladder, captions, strikes, files, kinds, fields, others, faces, sets, whole_font, saves, headers, outlines, sizes, keys, contrast, small,
+STEPS = (first, order, controls, address, ladder, captions, strikes, files, kinds, fields, others, told, faces, sets, whole_font, saves, headers, outlines, sizes, keys, contrast, small,
          large, without_engine, from_server)
 
 
