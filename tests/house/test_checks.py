@@ -51,9 +51,10 @@ UNCOVERED = """{"id":"tables/uncovered","group":"tables","font":"scan.ttf","ppem
 "want":["outline"],"expect":{"advance":640,"outline":[[[0,0,1],[0,64,1],[64,64,1],[64,0,1]]]}}\n"""
 
 
-# What a check needs to look at anything: without it its trials are left out.
+# What a check, or a trial, needs to look at anything: without it the trial is left out.
 NEEDS = {"tests/c": "cc", "tests/program/test_work.py": "valgrind", "tests/python": "pytest", "tests/web -k 'not planted'": "chromium", "tests/web -k planted": "node",
-         "tests/program/test_memory.py": "cc", "tests/packages": "dpkg-deb"}
+         "tests/program/test_memory.py": "cc", "tests/packages": "dpkg-deb",
+         "a stand-in that skips nothing": "pytest"}
 # Checks that look at dist/, and at nothing if it is of other sources.
 OF_DIST = {"tools/check_dist", "tests/c", "tests/python", "tests/web", "tools/fuzz_c", "tests/packages"}
 
@@ -237,7 +238,7 @@ def look_for(what, trial):
 @pytest.mark.parametrize("trial", TRIALS, ids=["%s, %s" % (it.check, it.wrong.replace(" ", "_")) for it in TRIALS])
 def test_trial(trial, program, tmp_path):
     """A check finds what is wrong."""
-    look_for(NEEDS.get(trial.check, "sh"), trial)
+    look_for(NEEDS.get(trial.wrong, NEEDS.get(trial.check, "sh")), trial)
     top = tmp_path / "top"
     top.mkdir()
     if trial.changes:
@@ -245,6 +246,7 @@ def test_trial(trial, program, tmp_path):
     wrong, (pytest_words, more) = wrong_one(trial, str(tmp_path), program), run_checks.pytest()
     given = {"PROGRAM": [program], "WRONG": [wrong], "KEEP": [str(tmp_path / "kept")], "pytest": [*pytest_words, *run_checks.HOW]}
     words = [it for word in shlex.split(trial.command) for it in given.get(word, [word])]
+    more = {name: it.replace(TOP, str(top)) if trial.changes else it for name, it in more.items()}  # the stand-in of the copy
     env = {**os.environ, **more, "MKSTRIKE_PROGRAM": program if trial.changes else wrong, "PYTHONDONTWRITEBYTECODE": "1"}
     status, text = text_of(words, top if trial.changes else TOP, env)
     assert status is not None, "it has not ended after %d s" % LONGEST
