@@ -86,8 +86,6 @@ def make_matrices(suite, font, parts):
                                ("scale-four", SCALE | FOUR, (ONE / 2,))]:
         both(suite, font, "matrix-%s" % name, composite([(XY | flag, parts["box"], (0, 0), matrix)]),
              "more than one kind of scale", own=ORDER)
-
-
     for name, flag in (("scaled-offset", 0x0800), ("unscaled-offset", 0x1000)):
         data = composite([(XY | SCALE | flag, parts["box"], (100, 40), (ONE / 2,))])
         both(suite, font, name, data, "offsets that are scaled", own=RESERVED)
@@ -139,8 +137,6 @@ def make_programs(suite, font, parts):
             data = composite([(XY, parts["box"], (0, 0)), (XY | WORDS, parts[kind], (200, 37))], program)
             both(suite, font, "program-%d-%s" % (k, kind), data, "WE_HAVE_INSTRUCTIONS",
                  own_hinted=own if "GC:1" in program or kind == "moved" else None)
-
-
     both(suite, font, "program-without-points", composite([(XY, parts["empty"], (0, 0))], "SVTCA:1 1 64 SHPIX"),
          "WE_HAVE_INSTRUCTIONS", own_hinted=FRESH)
     data = composite([(XY | PROGRAM, parts["box"], (0, 0)), (XY | WORDS, parts["arc"], (200, 37))]) + bytes([0, 4])
@@ -149,7 +145,7 @@ def make_programs(suite, font, parts):
 
 
 def make_limits(suite):
-    """As many points and component records as a character may have, and one more. A program that halts shows that they are allowed."""
+    """As many points and records as a character may have, and one more. A program that halts shows that they are allowed."""
     font = suite.font(FontMaker("parts"))
     many = [[(k, k * k % 61, 1) for k in range(64)]]
     whole, one_more, point = font.simple(many), font.simple([many[0] + [(64, 0, 1)]], "#28"), font.simple([[(0, 0, 1)]])

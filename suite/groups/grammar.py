@@ -173,7 +173,8 @@ def make_directory(suite):
     """A tag that is there twice, a last table that ends past the file, and a file that begins with `true`."""
     about = OPENTYPE + "Organization of an OpenType font"
     for name, tag, change, own in [
-            ("twice", "hhez", lambda data: data.replace(b"hhez", b"hhea"), "of two directory records with one tag the first counts"),
+            ("twice", "hhez", lambda data: data.replace(b"hhez", b"hhea"),
+             "of two directory records with one tag the first counts"),
             ("past-the-file", "zzzz", lambda data: data[:-4], "a table that ends past the file ends with it"),
             ("true", None, lambda data: b"true" + data[4:], None)]:
         font = FontMaker("directory-" + name)

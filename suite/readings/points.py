@@ -198,8 +198,7 @@ READINGS = [Reading(*row) for row in (
      "add(m, m.zone(2), p, along(m.gs, amount))", "moved(m, m.zone(2), p, amount)"),
     ("shpix_in_pixels", "points", "SHPIX's amount is whole pixels", POINTS, "along(m.gs, amount))", "along(m.gs, 64 * amount))"),
     ("flip_range_open", "points", "a range of FLIPRGON ends before its high point", POINTS, "range(low, high + 1):\n        ",
-     "range(low, high):\n        ", POINTS, "    if m.zone(0).has(low)", "    high = max(low, high)\n    if m.zone(0).has(low)")
-    ,
+     "range(low, high):\n        ", POINTS, "    if m.zone(0).has(low)", "    high = max(low, high)\n    if m.zone(0).has(low)"),
     ("flip_range_turned", "points", "FLIPRGON and FLIPRGOFF are the other way round", POINTS, "1 if m.opcode == 0x81 else 0",
      "0 if m.opcode == 0x81 else 1"),
     ("gc_by_projection", "points", "GC:1 measures along the projection vector", POINTS,
