@@ -247,7 +247,7 @@ class Job:
         o, sizes = self.options, [asked.size(font, it[at]) for asked, font, it in zip(group, fonts, self.sizes(group))]
         if self.fit:
             parts = [asked.part(font, LOOK) for asked, font in zip(group, fonts)]
-            sizes = [fitting(parts, *self.fit, chars, text, o.ascent, o.clip)] * len(fonts)
+            sizes = [fitting(parts, *self.fit, chars, text, o.ascent, o.clip, o.wide)] * len(fonts)
         told: list[Told] = []
         if self.is_joined:
             strike, told = self.joined(group, fonts, sizes, chars, text)
@@ -256,7 +256,8 @@ class Job:
         self.refuse(strike)
         strike.notes += tuple(line for asked, font, size in zip(group, fonts, sizes) for line in asked.said(font, size))
         if self.fit or self.cell:
-            strike = strike.cell(*(self.fit or self.cell or ()), ascent=o.ascent, clip=o.clip, join=bool(o.join or self.fit))
+            strike = strike.cell(*(self.fit or self.cell or ()), ascent=o.ascent, clip=o.clip, join=bool(o.join or self.fit),
+                                 wide=o.wide)
         if o.x11 or self.properties:
             strike = strike.with_properties(self.properties, x11=o.x11)
         return strike, told

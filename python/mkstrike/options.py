@@ -88,6 +88,8 @@ TABLE = {
         Option("--cell", "one advance for all, in cells of W x H pixels; glyphs that leave the cell are named", metavar="WxH"),
         Option("--ascent", "the rows of a cell above the baseline", needs=("cell", "fit"), type=int, metavar="N"),
         Option("--clip", "glyphs lose the pixels outside the cell", needs=("cell", "fit"), action="store_true"),
+        Option("--wide", "two cells for the characters to which a terminal gives two, as Chinese ones", needs=("cell", "fit"),
+               outputs=tuple(it for it in DRAWN if it not in ("psf", "raw")), action="store_true"),
         Option("--join", "box drawing and blocks are drawn out to the edges of the cell, as --fit does", needs=("cell", "fit"),
                action="store_true")),
     "several fonts in one strike": (
