@@ -17,9 +17,11 @@ if TYPE_CHECKING:
 ROWS = """\
 /* {count} glyphs of {font} at {size} pixels per em, as {name}: made by mkstrike.
  *
- * Glyph k is the character {name}_chars[k]; they rise. {name}_rows[k] are its rows from the top: {name}_HEIGHT rows of
- * {name}_STRIDE bytes, the leftmost pixel the highest bit. Draw the cell {name}_LEFT columns right of the pen, with {name}_ASCENT of
- * its rows above the baseline; then move the pen by {name}_advances[k]. */
+ * Glyph k is the character {name}_chars[k]; they rise. {name}_rows[k] are its rows from the top: {name}_HEIGHT rows of \
+{name}_STRIDE
+ * bytes, the leftmost pixel the highest bit. Draw the cell {name}_LEFT columns right of the pen, with {name}_ASCENT of its rows \
+above
+ * the baseline; then move the pen by {name}_advances[k]. */
 #ifndef {guard}
 #define {guard}
 
@@ -49,8 +51,9 @@ static const uint8_t {name}_rows[{name}_COUNT][{name}_HEIGHT * {name}_STRIDE] = 
 #endif
 """
 GFX = """\
-/* {count} glyphs of {font} at {size} pixels per em, as {name} for Adafruit GFX: made by mkstrike. Include it after Adafruit_GFX.h,
- * and say setFont(&{name}). */
+/* {count} glyphs of {font} at {size} pixels per em, as {name} for Adafruit GFX: made by mkstrike. Include it after \
+Adafruit_GFX.h, and say
+ * setFont(&{name}). */
 #ifndef {guard}
 #define {guard}
 
