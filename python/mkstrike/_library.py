@@ -123,7 +123,8 @@ def _face(face: int) -> int:
 
 def _codes(codes: Sequence[int]) -> array[int]:
     """Code points as the library takes them."""
-    return array("I", map(_code, codes))
+    are_in_range = not codes or 0 <= min(codes) and max(codes) <= MOST_CODE
+    return array("I", codes if are_in_range else map(_code, codes))
 
 
 def _code(code: int) -> int:

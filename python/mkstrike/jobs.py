@@ -40,6 +40,7 @@ class Asked:
         self.face, self.axes = both.get("face", 0), _axes(both.get("axes", ""))
         self.chars, self.text = _characters(own)
         self.shift = own.get("shift_y", 0)
+        self.given: dict[int, int] | None = None  # its characters, once they are known
         self.how: dict[str, Any] = {} if self.is_bdf else {
             "hinted": not both.get("unhinted"), "dropout": both.get("dropout", "font"), "refused": both.get("refused", "leave-out"),
             "symbol": both.get("symbol", False), "glyphs": _glyphs(",".join(both.get("glyph", [])))}
@@ -111,7 +112,8 @@ class Job:
         self.texts = [it for group in given.groups for it in group.get("text", [])]
         if (self.texts + paths).count("-") > 1:
             raise ValueError("standard input is the font or the text, not both")
-        self.read = [it for it in (*paths, *self.texts, *map(str.strip, self.chars.split(","))) if it and os.path.exists(it)]
+        lists = [item.strip() for chars in (self.chars, *(it.chars for it in asked)) for item in chars.split(",")]
+        self.read = [it for it in (*paths, *self.texts, *lists) if it and os.path.exists(it)]
         self.fit, self.cell = _cell(given.fit, "--fit"), _cell(given.cell, "--cell")
         self.properties = _properties(given.property or [])
         self.check_together()
@@ -168,14 +170,13 @@ class Job:
             raise ValueError("-o FILE is one file, --out FOLDER a folder for many: give one of them")
         if o.out and os.path.splitext(o.out)[1].lower() in formats.OF_ENDING and not os.path.isdir(o.out):
             raise ValueError("--out takes a folder: -o %s writes one file" % o.out)
-        if min(it or 1 for it in (o.scale, o.columns)) < 1 or 0 in (o.scale, o.columns):
+        if any(it is not None and it < 1 for it in (o.scale, o.columns)):
             raise ValueError("--scale and --columns are 1 or more")
         if o.name is not None:
             bdf.check_name(o.name)
         if o.output and not (self.is_of_one or "%s" in o.output and len(self.groups) == 1 and len(self.outputs) == 1):
-            raise ValueError(
-                "-o FILE is one file: give one font, one format, and %s in its name for several sizes, or --out FOLDER for many; "
-                             "fonts of one strike come after --font each")
+            raise ValueError("-o FILE is one file: give one font, one format, and %s in its name for several sizes, or --out FOLDER "
+                             "for many; fonts of one strike come after --font each")
         if len({it.path for it in asked} if o.name is None else {self.groups[0][0].path}) < len(self.groups):
             raise ValueError("files of different fonts would have one name: give them one by one, or --font each for one strike")
 
@@ -278,9 +279,10 @@ class Job:
             strike = font.subset(chars, text=text) if chars or text else font
             strike = strike.named(name) if name is not None else strike
         else:
-            how = dict(asked.how)
-            given = symbols(mapped(chars, text, font.characters), how.pop("symbol"))
-            strike = font._strike_of(size, given, name=name or asked.name(font), **how)
+            how = {key: it for key, it in asked.how.items() if key != "symbol"}
+            if asked.given is None:  # the same for all sizes
+                asked.given = symbols(mapped(chars, text, font.characters), asked.how["symbol"])
+            strike = font._strike_of(size, asked.given, name=name or asked.name(font), **how)
             strike.names = font.names if name is None else None
         return strike
 

@@ -28,10 +28,14 @@ def notes_of(font: Font, strike: Strike, codes: list[int]) -> tuple[str, ...]:
         notes += _symbols(font, codes)
     if not len(strike):
         notes.append("the strike has no glyph: " + why_empty(strike, codes))
-    elif BLANK in strike.text[:HEADER] and any(chr(it).isprintable() and not chr(it).isspace() for it in codes
-                                               if chr(it) in strike):
+    elif BLANK in strike.text[:HEADER] and any(map(_is_visible, strike.parsed().entries)):
         notes.append("no pixel of the strike is set: the outlines of these characters are empty, or too thin for this size")
     return tuple(notes)
+
+
+def _is_visible(code: int) -> bool:
+    """Whether a character is one that has a picture."""
+    return chr(code).isprintable() and not chr(code).isspace()
 
 
 def _symbols(font: Font, codes: list[int]) -> list[str]:

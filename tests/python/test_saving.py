@@ -95,6 +95,7 @@ def test_modes(tmp_path, monkeypatch):
 
 @pytest.mark.parametrize("words",
                          [["old-16.bdf", "--cell", "8x16", "--clip"], ["--font", "./old-16.bdf", "--font", MONO, "--chars", "41"],
+                                   ["--font", MONO, "--name", "old", "--chars", "./old-16.bdf"],
                           ["linked.bdf", "--out", "out"],
                                    [SANS, "--name", "old", "--chars", "old-16.bdf"],
                                    [SANS, "--name", "old", "--chars", "A,./old-16.bdf"]])
