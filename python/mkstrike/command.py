@@ -12,6 +12,7 @@ from .jobs import IS_NAME, Job
 from .options import joined, parser
 from .refused import Missing, Refused, shown
 from .report import Report
+from .sources import read_file
 from .strike import Strike
 
 TYPE_CHECKING = False  # as in glyph.py
@@ -23,6 +24,7 @@ if TYPE_CHECKING:
 
 FAULTS = (Refused, Missing, bdf.NotBdf, OSError, ValueError, TypeError, RuntimeError, ImportError)
 PATIENCE = 1.0  # seconds without a bar
+LEAST_COMMON = 8  # characters by which strikes are told apart
 
 
 class Bar:
@@ -114,6 +116,9 @@ class Run:
             os.path.join(self.job.options.out or ".", stem + formats.ENDING[name]) for name in self.job.formats]
         self.refuse_to_lose(paths)
         for path, name in zip(paths, self.job.formats):
+            if name == "bdf" and not output and os.path.isfile(path) and _is_of_another(read_file(path), strike.text):
+                raise ValueError("%s is there, of another font: give another folder by --out, or replace it by -o %s" %
+                                 (path, path))
             made = self.encoded(strike, name, os.path.splitext(os.path.basename(path))[0] if output and output != "-" else stem)
             if path == "-":
                 sys.stdout.buffer.write(made)
@@ -142,6 +147,14 @@ class Run:
             if path in self.written:
                 raise ValueError("%s would be replaced by a second strike: give another folder by --out, or --name" % path)
         self.written.update(paths)
+
+
+def _is_of_another(old: bytes, new: bytes) -> bool:
+    """Whether strikes of one size have other pictures of most of the characters that both have, so that their fonts differ."""
+    one, other = ({it.partition(b"\n")[0]: it.partition(b"\nBBX")[2] for it in text.split(b"\nSTARTCHAR ")[1:]}
+                  for text in (old, new))
+    common = one.keys() & other.keys()
+    return len(common) >= LEAST_COMMON and 2 * sum(one[it] == other[it] for it in common) < len(common)
 
 
 def main(words: Sequence[str] | None = None) -> int:
