@@ -43,7 +43,7 @@ def files(strike: Strike, name: str, padding: int = 0) -> dict[str, bytes]:
     height = _power(max([y + box[1] for (_, _, y), box in zip(places, boxes)] + [1]))
     pages = 1 + max([page for page, _, _ in places] + [0])
     drawn = [[(x + padding, y + padding, it) for (at, x, y), it in zip(places, glyphs) if at == page and it.width]
-               for page in range(pages)]
+             for page in range(pages)]
     made = {"%s_%d.png" % (name, page): _picture(width, height, them) for page, them in enumerate(drawn)}
     family = strike.names.family if strike.names else strike.name
     face = "".join(it if it.isprintable() and it != '"' else "_" for it in family)

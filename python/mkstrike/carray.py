@@ -70,8 +70,9 @@ PROGMEM = """\
 #endif
 """
 GFX = """\
-/* {count} glyphs of {font} at {size} pixels per em, as {name} for Adafruit GFX: made by mkstrike. Include it after Adafruit_GFX.h,
- * and say setFont(&{name}). */
+/* {count} glyphs of {font} at {size} pixels per em, as {name} for Adafruit GFX: made by mkstrike. Include it after \
+Adafruit_GFX.h, and say
+ * setFont(&{name}). */
 #ifndef {guard}
 #define {guard}
 

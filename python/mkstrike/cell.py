@@ -32,22 +32,34 @@ NEAREST = ("at no size do all characters fit a cell of %d x %d pixels; at %d %s,
 MOST = 1024  # columns or rows of a cell, and pixels per em
 
 
-def in_cell(strike: Strike, width: int, height: int, ascent: int | None, clip: bool, join: bool) -> Strike:
+def is_wide(code: int) -> bool:
+    """Whether a terminal gives a character two cells: its East Asian Width is wide or full."""
+    from unicodedata import east_asian_width
+    return east_asian_width(chr(code)) in ("W", "F")
+
+
+def halved(box: Box) -> Box:
+    """A box with half the columns: it fits one cell exactly if the whole box fits two."""
+    columns, rows, left, bottom, advance = box
+    return -(-(left + columns) // 2) - left // 2, rows, left // 2, bottom, -(-advance // 2)
+
+
+def in_cell(strike: Strike, width: int, height: int, ascent: int | None, clip: bool, join: bool, wide: bool) -> Strike:
     """The strike in cells: see `Strike.cell`."""
     text = strike.parsed()
     above = _above(width, height, text.ascent, text.descent, ascent)
     outside, entries = {}, {}
-    swidth = bdf.swidth_of(width, text.size)
     full = drawn_out({code: _picture(it, width, height, above) for code, it in text.entries.items() if is_drawn_out(code)}, width,
                      height) if join else {}
     for code, entry in text.entries.items():
-        far = _outside(entry[4:8], width, above, height - above)
+        columns = 2 * width if wide and is_wide(code) else width
+        far = _outside(entry[4:8], columns, above, height - above)
         if code in full:
             entry = _boxed(entry, full[code], width, above)
         elif any(far):
             outside[chr(code)] = far
-            entry = _boxed(entry, _picture(entry, width, height, above), width, above) if clip else entry
-        entries[code] = entry._replace(dwidth=width, swidth=swidth)
+            entry = _boxed(entry, _picture(entry, columns, height, above), columns, above) if clip else entry
+        entries[code] = entry._replace(dwidth=columns, swidth=bdf.swidth_of(columns, text.size))
     changed = bdf.Text(text.name, text.size, above, height - above, text.properties, entries)
     bdf.settle(changed)
     return strike._with(changed, outside=outside)

@@ -12,6 +12,7 @@ from .jobs import IS_NAME, Job
 from .options import joined, parser
 from .refused import Missing, Refused, shown
 from .report import Report
+from .sources import read_file
 from .strike import Strike
 
 TYPE_CHECKING = False  # as in glyph.py
@@ -23,6 +24,7 @@ if TYPE_CHECKING:
 
 FAULTS = (Refused, Missing, bdf.NotBdf, OSError, ValueError, TypeError, RuntimeError, ImportError)
 PATIENCE = 1.0  # seconds without a bar
+LEAST_COMMON = 8  # characters by which strikes are told apart
 
 
 class Bar:
@@ -128,6 +130,9 @@ class Run:
         self.job.refuse_to_lose(paths)
         written = []
         for path, name in zip(paths, self.job.formats):
+            if name == "bdf" and not output and os.path.isfile(path) and _is_of_another(read_file(path), strike.text):
+                raise ValueError("%s is there, of another font: give another folder by --out, or replace it by -o %s" %
+                                 (path, path))
             files = self.files(strike, name, path, stem)
             written += [path, *(it for it in files if it != path)]
             self.job.refuse_to_lose([it for it in files if it != path])
@@ -148,6 +153,14 @@ class Run:
         if form in formats.IN_C and path == "-":
             more["name"] = stem
         return {path: formats.encode(strike, form, more)} if path == "-" else formats.files(strike, path, form, more)
+
+
+def _is_of_another(old: bytes, new: bytes) -> bool:
+    """Whether strikes of one size have other pictures of most of the characters that both have, so that their fonts differ."""
+    one, other = ({it.partition(b"\n")[0]: it.partition(b"\nBBX")[2] for it in text.split(b"\nSTARTCHAR ")[1:]}
+                  for text in (old, new))
+    common = one.keys() & other.keys()
+    return len(common) >= LEAST_COMMON and 2 * sum(one[it] == other[it] for it in common) < len(common)
 
 
 def main(words: Sequence[str] | None = None) -> int:

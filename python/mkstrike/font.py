@@ -151,14 +151,14 @@ class Font:
         return block
 
     def fit(self, width: int, height: int, chars: Chars = "", *, text: str = "", hinted: bool = True, dropout: Dropout = "font",
-            symbol: bool = False, ascent: int | None = None, clip: bool = False) -> int:
+            symbol: bool = False, ascent: int | None = None, clip: bool = False, wide: bool = False) -> int:
         """The largest size, in pixels per em, at which no glyph of the characters leaves a cell of this width and height: see
         `Strike.cell`, which has the same `ascent`, and `characters`. What the font lacks or refuses does not count, and neither do
         U+2500 to U+259F, which `cell` draws out to the edges by `join`. With `clip` the largest at which a line and all advances
-        fit, so that some glyphs may lose pixels."""
+        fit, so that some glyphs may lose pixels. With `wide` the characters to which a terminal gives two cells fit two."""
         from .merge import Part, fitting
         options = {"text": text, "hinted": hinted, "dropout": dropout, "symbol": symbol}
-        return fitting([Part(self, LOOK, chars, options)], width, height, "", "", ascent, clip)
+        return fitting([Part(self, LOOK, chars, options)], width, height, "", "", ascent, clip, wide)
 
     def size_for(self, *, height: int | None = None, cap_height: int | None = None, hinted: bool = True, dropout: Dropout = "font") -> int:
         """The largest size, in pixels per em, at which a line has at most `height` rows, ascent and descent together, or an H at most

@@ -62,16 +62,17 @@ def _by(program: str, strike: Strike) -> bytes:
 
 
 FORMATS: dict[str, Callable[..., bytes]] = {
-    "bdf": _bdf, **{it: partial(_sheet, it) for it in ("png", "pbm")}, "c": partial(_c, "rows"), **{it: partial(_c, it) for it in ("gfx", "lvgl")},
+    "bdf": _bdf, **{it: partial(_sheet, it) for it in ("png", "pbm")}, "c": partial(_c, "rows"),
+    **{it: partial(_c, it) for it in ("gfx", "lvgl")},
     "raw": _raw, "fnt": _fnt, "py": _py, **{it: partial(_by, it) for it in ("psf", "pcf", "otb")}}
-OF_ENDING = {".bdf": "bdf", ".png": "png", ".pbm": "pbm", ".h": "c", ".c": "c", ".raw": "raw",
-    ".fnt": "fnt", ".py": "py", ".psf": "psf", ".psfu": "psf", ".pcf": "pcf", ".otb": "otb"}
-ENDING = {**{name: "." + name for name in FORMATS}, "c": ".h",
-    "gfx": "-gfx.h", "lvgl": ".c"}  # of the files that the command writes
+OF_ENDING = {".bdf": "bdf", ".png": "png", ".pbm": "pbm", ".h": "c", ".c": "c", ".raw": "raw", ".fnt": "fnt",
+             ".py": "py", ".psf": "psf", ".psfu": "psf", ".pcf": "pcf", ".otb": "otb"}
+# Of the files that the command writes.
+ENDING = {**{name: "." + name for name in FORMATS}, "c": ".h", "gfx": "-gfx.h", "lvgl": ".c"}
 IN_C, PICTURES = ("c", "gfx", "lvgl"), ("png", "pbm")
 TAKES: dict[str, tuple[str, ...]] = {  # options
-    **{name: ("columns", "scale") for name in PICTURES}, "c": ("name", "attribute", "bytes", "bits", "align"), "gfx": ("name", "dense"),
-    "lvgl": ("name",), "raw": ("order", "bytes", "bits", "align"), "fnt": ("padding",), "py": ("bytes", "bits")}
+    **{name: ("columns", "scale") for name in PICTURES}, "c": ("name", "attribute", "bytes", "bits", "align"),
+    "gfx": ("name", "dense"), "lvgl": ("name",), "raw": ("order", "bytes", "bits", "align"), "fnt": ("padding",), "py": ("bytes", "bits")}
 
 
 def encode(strike: Strike, format: str, options: Mapping[str, Any]) -> bytes:

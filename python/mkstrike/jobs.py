@@ -4,25 +4,22 @@ from __future__ import annotations
 import argparse
 import os
 import re
-import stat
 import sys
 
 from . import bdf, formats, options as table, sources
-from .charsets import OF_TEXT, characters, mapped
+from .charsets import mapped
 from .font import LOOK, Font, symbols
-from .looks import points
 from .merge import Part, Told, fitting, joined
 from .refused import Missing, shown
 from .strike import Strike
+from .values import axes_of, cell_of, characters_of, glyphs_of, is_empty_file, is_text, points_of, properties_of, sizes_of
 
 TYPE_CHECKING = False  # as in glyph.py
 if TYPE_CHECKING:
-    from collections.abc import Callable
     from typing import Any
 
 PLACEHOLDERS = "\ufffd?"  # what stands in a preview for a character that the font lacks: the first that it has
 TAB = 8  # columns of a preview
-ASK_OF_TEXT = "for the characters of a text use --text FILE"
 IS_NAME = r"\w[\w.+-]*"  # a name that files can have
 
 
@@ -33,17 +30,17 @@ class Asked:
         both = {**common, **own}
         self.path, self.is_bdf = path, path.lower().endswith(".bdf")
         self.sizes = sizes_of(both["size"]) if "size" in both and not self.is_bdf else []
-        self.points = _points(both.get("size", ""))
+        self.points = points_of(both.get("size", ""))
         self.rows = {it: both[it] for it in ("height", "cap_height") if it in both and not self.is_bdf}
         if len(self.rows) + bool(self.sizes) > 1:
             raise ValueError("--size, --height and --cap-height say the size: give one of them")
-        self.face, self.axes = both.get("face", 0), _axes(both.get("axes", ""))
-        self.chars, self.text = _characters(own)
+        self.face, self.axes = both.get("face", 0), axes_of(both.get("axes", ""))
+        self.chars, self.text = characters_of(own)
         self.shift = own.get("shift_y", 0)
         self.given: dict[int, int] | None = None  # its characters, once they are known
         self.how: dict[str, Any] = {} if self.is_bdf else {
             "hinted": not both.get("unhinted"), "dropout": both.get("dropout", "font"), "refused": both.get("refused", "leave-out"),
-            "symbol": both.get("symbol", False), "glyphs": _glyphs(",".join(both.get("glyph", [])))}
+            "symbol": both.get("symbol", False), "glyphs": glyphs_of(",".join(both.get("glyph", [])))}
 
     def opened(self, read: list[str]) -> Font | Strike:
         """The font, or a strike that is there already. Adds to what is read."""
@@ -107,15 +104,15 @@ class Job:
         table.check(given, [(table.BDF if it.is_bdf else table.FONT, it.path) for it in asked], self.outputs)
         self.mode = self.outputs[0] if self.outputs[0] in table.MODES else None
         self.preview = None if given.preview is None else given.preview.expandtabs(TAB)
-        self.chars, self.text = _characters(common)
+        self.chars, self.text = characters_of(common)
         self.text += self.preview or "" if self.mode is None else ""
         self.texts = [it for group in given.groups for it in group.get("text", [])]
         if (self.texts + paths).count("-") > 1:
             raise ValueError("standard input is the font or the text, not both")
         lists = [item.strip() for chars in (self.chars, *(it.chars for it in asked)) for item in chars.split(",")]
         self.read = [it for it in (*paths, *self.texts, *lists) if it and os.path.exists(it)]
-        self.fit, self.cell = _cell(given.fit, "--fit"), _cell(given.cell, "--cell")
-        self.properties = _properties(given.property or [])
+        self.fit, self.cell = cell_of(given.fit, "--fit"), cell_of(given.cell, "--cell")
+        self.properties = properties_of(given.property or [])
         self.check_together()
 
     # ---- what goes together
@@ -133,7 +130,7 @@ class Job:
             if not is_there and path in ("make", "show", "help"):
                 raise ValueError("strike has no commands, as '%s': strike FONT makes strikes, and mkstrike %s is another program" %
                                  (path, path))
-            if any("text" in it for it in self.options.groups) and path != "-" and _is_text(path):
+            if any("text" in it for it in self.options.groups) and path != "-" and is_text(path):
                 raise ValueError("%s is a text, and is taken for a font: give each text after its own --text" % shown(path))
 
     def checked_outputs(self) -> list[str]:
@@ -163,8 +160,7 @@ class Job:
         if self.mode is not None:
             return self.check_mode(asked)
         if self.fit and (self.cell or any(it.sizes or it.rows for it in asked)):
-            ways = [name for it in asked for name in ["--size"] * \
-                bool(it.sizes) + ["--" + row.replace("_", "-") for row in it.rows]]
+            ways = ["--size" for it in asked if it.sizes] + ["--" + row.replace("_", "-") for it in asked for row in it.rows]
             raise ValueError("--fit finds the size and makes the cells: leave %s out" % ("--cell" if self.cell else ways[0]))
         if o.output and o.out:
             raise ValueError("-o FILE is one file, --out FOLDER a folder for many: give one of them")
@@ -175,8 +171,8 @@ class Job:
         if o.name is not None:
             bdf.check_name(o.name)
         if o.output and not (self.is_of_one or "%s" in o.output and len(self.groups) == 1 and len(self.outputs) == 1):
-            raise ValueError("-o FILE is one file: give one font, one format, and %s in its name for several sizes, or --out FOLDER "
-                             "for many; fonts of one strike come after --font each")
+            raise ValueError("-o FILE is one file: give one font, one format, and %s in its name for several sizes, or --out "
+                             "FOLDER for many; fonts of one strike come after --font each")
         if len({it.path for it in asked} if o.name is None else {self.groups[0][0].path}) < len(self.groups):
             raise ValueError("files of different fonts would have one name: give them one by one, or --font each for one strike")
 
@@ -203,7 +199,7 @@ class Job:
     def output(self) -> str | None:
         """The one file to write, if there is one: standard output, if it is an empty file and one strike is asked for."""
         given: str | None = self.options.output
-        if given is None and self.options.out is None and self.preview is None and self.is_of_one and _is_empty_file(sys.stdout):
+        if given is None and self.options.out is None and self.preview is None and self.is_of_one and is_empty_file(sys.stdout):
             return "-"
         return given
 
@@ -248,7 +244,7 @@ class Job:
         o, sizes = self.options, [asked.size(font, it[at]) for asked, font, it in zip(group, fonts, self.sizes(group))]
         if self.fit:
             parts = [asked.part(font, LOOK) for asked, font in zip(group, fonts)]
-            sizes = [fitting(parts, *self.fit, chars, text, o.ascent, o.clip)] * len(fonts)
+            sizes = [fitting(parts, *self.fit, chars, text, o.ascent, o.clip, o.wide)] * len(fonts)
         told: list[Told] = []
         if self.is_joined:
             strike, told = self.joined(group, fonts, sizes, chars, text)
@@ -257,7 +253,8 @@ class Job:
         self.refuse(strike)
         strike.notes += tuple(line for asked, font, size in zip(group, fonts, sizes) for line in asked.said(font, size))
         if self.fit or self.cell:
-            strike = strike.cell(*(self.fit or self.cell or ()), ascent=o.ascent, clip=o.clip, join=bool(o.join or self.fit))
+            strike = strike.cell(*(self.fit or self.cell or ()), ascent=o.ascent, clip=o.clip, join=bool(o.join or self.fit),
+                                 wide=o.wide)
         if o.x11 or self.properties:
             strike = strike.with_properties(self.properties, x11=o.x11)
         return strike, told
@@ -300,123 +297,5 @@ class Job:
             raise Missing(lacks[0], lacks)
 
 
-# ---- values of options
-
-def _characters(given: dict[str, Any]) -> tuple[str, str]:
-    """The characters that options ask for: a list, and a text."""
-    chars, text = ",".join(given.get("chars", [])), "".join(map(_text_of, given.get("text", [])))
-    try:
-        mapped(chars, text, lambda: ())
-    except ValueError as why:
-        raise ValueError(str(why).replace(OF_TEXT, ASK_OF_TEXT)) from None
-    return chars, text
-
-
 def _has(font: Font | Strike, char: str) -> bool:
     return char in font if isinstance(font, Strike) else bool(font.glyph_ids(text=char))
-
-
-def _text_of(path: str) -> str:
-    if path != "-" and not os.path.exists(path):
-        raise ValueError(
-            "--text takes a file, and there is no '%s'; a text itself comes by a pipe: printf '%%s' '%s' | strike --text - .." %
-            (path, path))
-    data = sources.read(sys.stdin.buffer)[0] if path == "-" else sources.read_file(path)
-    try:
-        return data.decode("utf-8")
-    except UnicodeDecodeError as why:
-        raise ValueError("%s is no text in UTF-8 (byte %02X at %d); convert it, as by iconv -f latin1 -t utf-8" % (
-            shown(path), data[why.start], why.start)) from None
-
-
-def _is_text(path: str) -> bool:
-    """Whether a file begins as a text does."""
-    if not os.path.isfile(path):
-        return False
-    with open(path, "rb") as file:
-        start = file.read(64)
-    return bool(start) and not start.startswith(b"STARTFONT") and all(it >= 32 or it in (9, 10, 13) for it in start)
-
-
-def _is_empty_file(stream: Any) -> bool:
-    """Whether a stream is a file without a byte, as after `> FILE`."""
-    try:
-        found = os.fstat(stream.fileno())
-    except (OSError, ValueError, AttributeError):
-        return False
-    return stat.S_ISREG(found.st_mode) and not found.st_size
-
-
-def sizes_of(text: str, option: str = "--size") -> list[int]:
-    """The sizes of an option, numbers and ranges that commas join."""
-    found: list[int] = []
-    for item in text.split(","):
-        if "pt" in item:
-            found.append(points(item))
-            continue
-        bounds = item.split("-")
-        if len(bounds) > 2 or not all(it.isascii() and it.isdigit() for it in bounds) or int(bounds[-1]) - int(bounds[0]) not in range(1024):
-            raise ValueError(
-                "%s takes pixels per em, as 16 or 12,14 or 8-16, not '%s'; points come with a resolution, as 12pt@96" % (option, item))
-        found += range(int(bounds[0]), int(bounds[-1]) + 1)
-    return list(dict.fromkeys(found))
-
-
-def _points(text: str) -> dict[int, str]:
-    """From sizes to the points that they were given as."""
-    return {points(item): item for item in text.split(",") if "pt" in item}
-
-
-def _glyphs(text: str) -> dict[str, int | str]:
-    """From characters to the glyphs that they get, by number or name."""
-    found: dict[str, int | str] = {}
-    for item in filter(None, map(str.strip, text.split(","))):
-        name, _, char = item.rpartition("=")
-        if not name or not re.fullmatch(r"(?:U\+)?[0-9A-F]{1,6}", char, re.IGNORECASE):
-            raise ValueError("--glyph takes a glyph by name or number, and a character, as A.alt=e000, not '%s'" % item)
-        (code,) = characters(char)
-        if chr(code) in found:
-            raise ValueError("--glyph gives U+%04X two glyphs" % code)
-        found[chr(code)] = int(name) if name.isascii() and name.isdigit() else name
-    return found
-
-
-def _cell(text: str | None, option: str) -> tuple[int, int] | None:
-    """Columns and rows of a cell."""
-    if text is None:
-        return None
-    width, _, height = text.lower().partition("x")
-    if not all(it.isascii() and it.isdigit() for it in (width, height)):
-        raise ValueError("%s takes columns and rows, as 8x16, not '%s'" % (option, text))
-    return int(width), int(height)
-
-
-def _number(text: str, option: str, kind: Callable[[str], float]) -> float:
-    """A number of an option."""
-    try:
-        return kind(text)
-    except ValueError:
-        raise ValueError("%s: %r is no number" % (option, text)) from None
-
-
-def _pairs(items: list[str], option: str) -> dict[str, str]:
-    """Names and values that = joins, each name once."""
-    found: dict[str, str] = {}
-    for item in items:
-        name, is_there, value = item.partition("=")
-        if not is_there:
-            raise ValueError("%s %s: it has no =" % (option, item))
-        if name in found:
-            raise ValueError("%s gives %s twice: each run makes one of them" % (option, name))
-        found[name] = value
-    return found
-
-
-def _axes(text: str) -> dict[str, float]:
-    """The places of axes."""
-    return {tag: _number(value, "--axes", float) for tag, value in _pairs([it for it in text.split(",") if it], "--axes").items()}
-
-
-def _properties(items: list[str]) -> dict[str, bdf.Value]:
-    """Properties, whose values are numbers if they look like them, as for `mkstrike make`."""
-    return {name: bdf.number_or_text(value) for name, value in _pairs(items, "--property").items()}

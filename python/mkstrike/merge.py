@@ -168,9 +168,10 @@ def _of(strikes: list[Strike], entries: Mapping[int, bdf.Entry], owners: Mapping
                   underline=strikes[0].underline, given=strikes[0]._given, strays=sum(it.strays for it in strikes), steps=sum(it.steps for it in strikes))
 
 
-def fitting(parts: list[Part], width: int, height: int, chars: Chars, text: str, ascent: int | None, clip: bool) -> int:
+def fitting(parts: list[Part], width: int, height: int, chars: Chars, text: str, ascent: int | None, clip: bool,
+            wide: bool = False) -> int:
     """The largest size of the fonts at which no glyph leaves its cell: see `Font.fit`."""
-    from .cell import largest_size
+    from .cell import halved, is_wide, largest_size
     wanted = Wanted(parts, chars, text)
     owners: dict[int, tuple[int, int]] = {}
     for at, part in enumerate(parts):
@@ -180,6 +181,7 @@ def fitting(parts: list[Part], width: int, height: int, chars: Chars, text: str,
 
     def line(size: int, hinted: bool = True) -> Line:
         lines = [part.line(size, share, hinted) for part, share in zip(parts, shares)]
-        return max(it[0] for it in lines), max(it[1] for it in lines), {code: box for it in lines for code, box in it[2].items()}
+        boxes = {code: halved(box) if wide and is_wide(code) else box for it in lines for code, box in it[2].items()}
+        return max(it[0] for it in lines), max(it[1] for it in lines), boxes
 
     return largest_size(line, line(LOOK, False), LOOK, width, height, ascent, clip)

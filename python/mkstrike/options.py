@@ -14,9 +14,10 @@ if TYPE_CHECKING:
     from typing import Any, NoReturn
 
 ABOUT = """\
-Makes bitmap strikes of TrueType fonts. For each font and size it writes one file a format, NAME-SIZE.bdf and so on, and a line that
-says what is in it. Characters that the font lacks, or that are refused, are named and left out."""
-USAGE = "strike [OPTION].. FONT..\n       strike [OPTION].. --font FONT [OPTION OF IT].. --font FONT [OPTION OF IT].. -o FILE"
+Makes bitmap strikes of TrueType fonts. For each font and size it writes one
+file a format, NAME-SIZE.bdf and so on, and a line that says what is in it.
+Characters that the font lacks, or that are refused, are named and left out."""
+USAGE = "strike [OPTION].. FONT..\n       strike [OPTION].. --font FONT [OPTION OF IT].. --font FONT .. -o FILE"
 FONTS = """\
 TrueType or OpenType fonts, collections, WOFF, WOFF2, by file or by name ("DejaVu Sans:bold"); also strikes in BDF; - is standard
 input"""
@@ -88,6 +89,8 @@ TABLE = {
         Option("--cell", "one advance for all, in cells of W x H pixels; glyphs that leave the cell are named", metavar="WxH"),
         Option("--ascent", "the rows of a cell above the baseline", needs=("cell", "fit"), type=int, metavar="N"),
         Option("--clip", "glyphs lose the pixels outside the cell", needs=("cell", "fit"), action="store_true"),
+        Option("--wide", "two cells for the characters to which a terminal gives two, as Chinese ones", needs=("cell", "fit"),
+               outputs=tuple(it for it in DRAWN if it not in ("psf", "raw")), action="store_true"),
         Option("--join", "box drawing and blocks are drawn out to the edges of the cell, as --fit does", needs=("cell", "fit"),
                action="store_true")),
     "several fonts in one strike": (
@@ -145,6 +148,25 @@ OPTIONS = [it for options in TABLE.values() for it in options]
 SUMS = ("chars", "text", "glyph")  # options that add up
 
 
+FIRST = ("size", "chars", "text", "format", "output", "out", "fit", "cell", "font", "preview")
+MOST_USED = "most used"
+EXAMPLES = """\
+examples:
+  strike --size 12,16 --chars ascii --format bdf,png "DejaVu Sans Mono"
+  strike --fit 8x16 --chars latin-1,box -o console.psf FONT
+  strike --size 24 --chars 30-3a --format c --bytes pages FONT
+  strike --sheet 8-24 -o sizes.png FONT
+
+The man page strike.1 and docs/COOKBOOK.md have more."""
+
+
+class Help(argparse.RawDescriptionHelpFormatter):
+    """The help, in lines of 80 characters on each terminal."""
+
+    def __init__(self, prog: str) -> None:
+        super().__init__(prog, max_help_position=22, width=80)
+
+
 class Version(argparse.Action):
     """Prints the release, and ends."""
 
@@ -192,12 +214,12 @@ class Parser(argparse.ArgumentParser):
 
 def parser() -> argparse.ArgumentParser:
     """The arguments of the command."""
-    p = Parser(prog="strike", usage=USAGE, description=ABOUT)
-    p.add_argument("--version", action=Version, nargs=0, help="print the release")
-    p.add_argument("fonts", nargs="*", metavar="FONT", help=FONTS)
-    for heading, options in TABLE.items():
+    p = Parser(prog="strike", usage=USAGE, description=ABOUT, epilog=EXAMPLES, formatter_class=Help, add_help=False)
+    p.add_argument_group("fonts").add_argument("fonts", nargs="*", metavar="FONT", help=FONTS)
+    first = {MOST_USED: tuple(next(it for it in OPTIONS if it.dest == name and it.names != ["--all"]) for name in FIRST)}
+    for heading, options in {**first, **TABLE}.items():
         group = p.add_argument_group(heading)
-        for it in options:
+        for it in options if heading == MOST_USED else (it for it in options if it not in first[MOST_USED]):
             more: dict[str, Any] = {"action": Once, **it.more, "help": it.text.replace("%", "%%"), "dest": it.dest}
             if it.is_of_font or it.dest == "font":
                 more.update(action=OfFont, default=argparse.SUPPRESS, **({"nargs": 0} if "const" in more else {}))
@@ -206,6 +228,9 @@ def parser() -> argparse.ArgumentParser:
                    help=argparse.SUPPRESS)
     p.add_argument("--dropout-font", action=OfFont, nargs=0, dest="dropout", const="font", default=argparse.SUPPRESS,
                    help=argparse.SUPPRESS)
+    group = p.add_argument_group("help")
+    group.add_argument("-h", "--help", action="help", help="print this")
+    group.add_argument("--version", action=Version, nargs=0, help="print the release")
     p.set_defaults(groups=[{}])
     return p
 

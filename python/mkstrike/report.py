@@ -4,8 +4,9 @@ from __future__ import annotations
 import sys
 
 from .charsets import OF_TEXT, ranges
-from .jobs import ASK_OF_TEXT, Job
+from .jobs import Job
 from .refused import Missing, Refused, code_name, shown
+from .values import ASK_OF_TEXT
 
 TYPE_CHECKING = False  # as in glyph.py
 if TYPE_CHECKING:

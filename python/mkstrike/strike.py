@@ -206,15 +206,17 @@ class Strike(Glyphs):
                           missing=tuple(it for it in self.missing if ord(it) not in more), **{
             which: {char: it for char, it in found.items() if ord(char) not in more} for which, found in self._told()})
 
-    def cell(self, width: int, height: int, *, ascent: int | None = None, clip: bool = False, join: bool = False) -> Strike:
+    def cell(self, width: int, height: int, *, ascent: int | None = None, clip: bool = False, join: bool = False,
+             wide: bool = False) -> Strike:
         """The same glyphs in a cell: each has the advance `width`, and ascent and descent together are `height`.
 
         `ascent` says how many rows of the cell are above the baseline; without it the rows that are too many or too few are shared
         by above and below. Glyphs keep their place from the origin. `outside` names those that leave the cell; with `clip` they
         lose the pixels there. With `join` the lines of box drawing reach the edges of the cell, and block elements and shades fill
-        their parts of it (U+2500 to U+259F), so that neighbours join."""
+        their parts of it (U+2500 to U+259F), so that neighbours join. With `wide` the characters to which a terminal
+        gives two cells (East Asian Width) have twice the advance."""
         from . import cell
-        return cell.in_cell(self, width, height, ascent, clip, join)
+        return cell.in_cell(self, width, height, ascent, clip, join, wide)
 
     def diff(self, other: Strike) -> Diff:
         """How another strike differs: in its characters, their pixels, places and advances, in size, ascent and descent."""

@@ -296,6 +296,23 @@ def test_names_of_files(strike, tmp_path):
     assert mkstrike.Strike.open(tmp_path / "var-wght700-16.bdf").name == "var-wght700"
 
 
+def test_strikes_of_other_fonts(strike, tmp_path):
+    """A second run replaces no strike of another font by the same name of a file; of the same font it does, also in cells."""
+    for folder, path in (("one", SANS), ("two", MONO)):
+        (tmp_path / folder).mkdir()
+        os.symlink(path, tmp_path / folder / "Regular.ttf")
+    assert strike(["one/Regular.ttf", "--chars", "ascii"])[0] == 0
+    kept = (tmp_path / "Regular-16.bdf").read_bytes()
+    status, _, err = strike(["two/Regular.ttf", "--chars", "latin-1"])
+    assert status == 1
+    assert "Regular-16.bdf is there, of another font: give another folder by --out, or replace it by -o ./Regular-16.bdf" in err
+    assert (tmp_path / "Regular-16.bdf").read_bytes() == kept
+    for words in (["--chars", "latin-1"], ["--cell", "12x20"], ["--chars", "ascii,2603"]):
+        assert strike(["one/Regular.ttf", *words])[0] == 0
+    assert strike(["two/Regular.ttf", "--chars", "ascii", "-o", "Regular-16.bdf"])[0] == 0
+    assert (tmp_path / "Regular-16.bdf").read_bytes() != kept
+
+
 def mistakes_in_python():
     """What is wrong in Python: a call, the error, and its words."""
     font = mkstrike.Font(SANS)

@@ -217,3 +217,31 @@ def test_pictures_of_games_are_not_lost(tmp_path):
     """A picture that is read, or that another strike has, is not replaced."""
     assert "fnt is a text and pictures beside it: save it to a file" in run(
         tmp_path, MONO, "--format", "fnt", "-o", "-", status=1)[1]
+
+
+# ---- help
+
+def test_help(tmp_path, monkeypatch):
+    """The help has the options by what they are for, the ten that most need first, in lines of 80 characters on each terminal."""
+    monkeypatch.setenv("COLUMNS", "200")
+    out, _ = run(tmp_path, "--help")
+    lines = out.splitlines()
+    assert max(map(len, lines)) <= 80 and "examples:" in lines
+    heads = [it[:-1] for it in lines if it.endswith(":") and not it.startswith(" ")]
+    assert heads[:3] == ["fonts", "most used", "characters"] and "how a font is drawn" in heads
+    shown = [it.split()[0].rstrip(",") for it in lines if it.startswith("  -")]
+    assert shown[:10] == ["--size", "--chars", "--text", "--format", "-o", "--out", "--fit", "--cell", "--font", "--preview"]
+    from mkstrike.options import OPTIONS
+    assert sorted(shown) == sorted([it.names[0] for it in OPTIONS] + ["-h", "--version"])
+
+
+def test_examples(tmp_path):
+    """The examples of the help run."""
+    import shlex
+    from mkstrike.options import EXAMPLES
+    found = [it.split("strike ", 1)[1] for it in EXAMPLES.splitlines() if it.startswith("  strike ")]
+    assert len(found) == 4
+    for line in found:
+        if "psf" not in line:
+            run(tmp_path, *shlex.split(line.replace("FONT", MONO).replace('"DejaVu Sans Mono"', MONO)))
+    assert len(list(tmp_path.iterdir())) == 6

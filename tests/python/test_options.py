@@ -10,8 +10,8 @@ from mkstrike import options
 pytestmark = [needs_font(SANS, MONO), needs_pillow]
 INPUTS = {"font": ["in.ttf"], "BDF": ["in.bdf"], "joined": ["--font", "in.ttf", "--font", "in.bdf"]}
 # The words that make each kind of output; its file, if it has one.
-OUTPUTS = {**{it: ["-o", "out", "--format", it] for it in options.FILES}, options.TERMINAL: ["--preview", "AWkƜ一█"],
-           options.PICTURE: ["-o", "out.png", "--preview", "AWkƜ一█"], options.SHEET: ["--sheet", "9,16", "--out", "."],
+OUTPUTS = {**{it: ["-o", "out", "--format", it] for it in options.FILES}, options.TERMINAL: ["--preview", "AWkƜ一█☔"],
+           options.PICTURE: ["-o", "out.png", "--preview", "AWkƜ一█☔"], options.SHEET: ["--sheet", "9,16", "--out", "."],
            options.LIST: ["--list"], options.DIFF: ["--diff", "in.bdf"]}
 WITHOUT_CHARS = (options.TERMINAL, options.PICTURE, options.LIST)
 CELLS = ["--cell", "8x14"]  # in which some glyphs leave the cell, and raw cells can be made
@@ -19,7 +19,7 @@ CELLS = ["--cell", "8x14"]  # in which some glyphs leave the cell, and raw cells
 WORDS = {
     "chars": ["--chars", "61-63"], "all": ["--all"], "text": ["--text", "text.txt"], "symbol": ["--symbol"],
     "size": ["--size", "13"], "fit": ["--fit", "9x19"],
-    "cell": ["--cell", "7x12"], "ascent": ["--ascent", "11"], "clip": ["--clip"], "join": ["--join"], "shift_y": ["--shift-y", "2"],
+    "cell": ["--cell", "7x12"], "ascent": ["--ascent", "11"], "clip": ["--clip"], "join": ["--join"], "wide": ["--wide"], "shift_y": ["--shift-y", "2"],
     "unhinted": ["--unhinted"], "dropout": ["--dropout=off"], "face": ["--face", "1"], "axes": ["--axes", "wght=700"],
     "refused": ["--refused", "unhinted"],
     "out": ["--out", "folder"], "format": ["--format", "pbm"], "order": ["--order", "koi8-r"], "preview": ["--preview", "B2"],
@@ -34,8 +34,9 @@ WORDS = {
 # Options that are in effect already, for these outputs: these formats always have the properties, and a sheet shows no cells.
 SAME = {("x11", it) for it in ("pcf", "otb", "psf")}
 BESIDE = {"align": ["--bytes", "columns"]}  # words for which an option makes a difference
-NEEDED = {"ascent": CELLS, "clip": CELLS, "join": CELLS}
-LETTERS = "41-5a,19c,2500-2502,2588,4e00,20,31"  # one of them is refused, one is missing, and some have lines that can be joined
+NEEDED = {"ascent": CELLS, "clip": CELLS, "join": CELLS, "wide": CELLS}
+# One of them is refused, one is missing, some have lines that can be joined, and one is wide.
+LETTERS = "41-5a,19c,2500-2502,2588,2614,4e00,20,31"
 
 
 @pytest.fixture(name="folder", scope="module")

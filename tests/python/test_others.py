@@ -367,8 +367,10 @@ def test_what_is_not_installed(monkeypatch):
     with pytest.raises(mkstrike.NotInstalled, match="python3-pil"):
         strike.sheet()
     monkeypatch.setitem(sys.modules, "fontTools.ttLib", None)
-    with pytest.raises(mkstrike.NotInstalled, match="python3-fonttools"):
+    with pytest.raises(mkstrike.NotInstalled, match="^axes need fontTools .*python3-fonttools"):
         mkstrike.Font(b"", axes={"wght": 400})
+    with pytest.raises(mkstrike.NotInstalled, match="^fonts with CFF outlines need fontTools .*python3-fonttools"):
+        mkstrike.Font(b"OTTO\0\1\0\0\0\0\0\0CFF \0\0\0\0\0\0\0\x1c\0\0\0\4abcd")
     monkeypatch.setattr(sys, "path", [it for it in sys.path if not it.endswith("-packages")])
     with pytest.raises(mkstrike.NotInstalled, match="WOFF2 needs fontTools"):
         mkstrike.Font(b"wOF2" + bytes(100))
