@@ -10,7 +10,7 @@
  *   - by a block each character is the same, alone, in one call and by its glyph's number, also when memory is refused; a block of
  *     another font, face, size or mode, and one that is cut, is refused; and whatever words are given as a block, no call goes wrong;
  *   - what a refused call must leave is as it was, and nothing is written beside a buffer;
- *   - one request for memory, another one each time, is refused: the answer is 90, or the same;
+ *   - one request for memory, another one each time, is refused, or each from there on: the answer is 90, or the same;
  *   - all memory is given back.
  *
  * Each call of the header is made, in all modes. tools/fuzz_c builds and runs it. The archive has no marks of coverage, so statuses,
@@ -118,10 +118,16 @@ static int live_count, at_front;
 static long requests, refused_at;
 static char nothing[16];
 
+/* Whether one request more is refused: the one with this number, and if that is even each one after it too. */
+static int is_refused(void) {
+    requests++;
+    return requests == refused_at || (refused_at != 0 && refused_at % 2 == 0 && requests > refused_at);
+}
+
 struct given rattle_alloc(size_t size, size_t align) {
     struct given it = {0, nothing};
     look(align <= 16 && (align & (align - 1)) == 0 && size < (size_t)1 << 32, "an odd request for memory");
-    if (++requests == refused_at) return it;
+    if (is_refused()) return it;
     look(live_count < 4096, "thousands of pieces of memory");
     live[live_count] = block_of(size, 16, at_front);
     it.ok = 1;

@@ -155,7 +155,8 @@ class Library:
         return paths
 
     def refuse_each(self, library, font, mode, on):
-        """Refuses each request of a strike in turn, and all after it too if `on`. The call says so; or check_c.c does, of its own."""
+        """Refuses each request of a strike in turn: the call makes the strike once more. Or all after it too, if `on`: the call says so; or
+        check_c.c does, of its own."""
         words = [self.at("check_c"), "strike", font, "16", mode, "61", "61"]
         whole, told = run(words), []
         answers = [(0, whole.stdout, whole.stderr), (1, b"", b"mkstrike: 90 OutOfMemory\n")]
@@ -168,8 +169,8 @@ class Library:
             if not was_refused:
                 break
             told.append(done.returncode)
-        if told.count(1) < 10:
-            raise Wrong("90 in place of a strike only %d times: does the library take its memory another way?" % told.count(1))
+        if told.count(1 if on else 0) < 10 or not on and 1 in told:
+            raise Wrong("90 in place of a strike %d times of %d: does the library take its memory another way?" % (told.count(1), len(told)))
 
     def linked(self, name):
         """A file of those that packaging/link makes."""
@@ -499,6 +500,18 @@ def sanitized(words, out):
         left_out("AddressSanitizer")
 
 
+@pytest.mark.parametrize("ppem", [16, 64])
+def test_blocks_of_memory(lib, ppem):
+    """A strike that a block of memory is enough for is made in each larger block too, and is the same."""
+    sources = [os.path.join(HERE, "check_c_memory.c"), BESIDE[0], os.path.join(TOP, "c/arena.c")]
+    run([*C99, *C, *sources, lib.archive, "-o", lib.at("memory")])
+    for font in lib.real or [lib.part("")]:
+        said = run([lib.at("memory"), font, str(ppem), "20", "ff", "40000", "1100000", "7919"], status=None)
+        least, tried = map(int, said.stdout.split()) if said.returncode == 0 else (0, 0)
+        if not 40000 < least < 1100000 or tried != 134:
+            raise Wrong("a strike of %s in blocks of memory: %s" % (os.path.basename(font), said.stdout.decode().strip()))
+
+
 def test_under_address_sanitizer(lib):
     """Strikes and glyphs in buffers of just the size that is needed."""
     font = lib.part("DejaVuSans.ttf", range(0x20, 0x7F))
@@ -586,20 +599,22 @@ def test_examples(lib):
         raise Wrong("examples/show.c: another picture")
     if run([lib.at("show"), font, "0", "41"], status=1).stderr != b"refused: 60 BadSize\n":
         raise Wrong("examples/show.c: another refusal")
-    for words in ((), (font, "16"), (font, "16x", "41"), (font, "", "41"), (font, "65552", "41"), (font, "16", "4z"), (font, "16", "41-"),
-                  (font, "16", "42-41"), (font, "16", "0-110000"), (font, "16", "-41"), (font, "16", "100000041"), (font, "16", "41", "42")):
+    for line in ("", "F 16", "F 16x 41", "F 65552 41", "F 16 4z", "F 16 41-", "F 16 42-41", "F 16 0-110000", "F 16 -41", "F 16 100000041",
+                 "F 16 41 42"):
+        words = [font if it == "F" else it for it in line.split()]
         if not run([lib.at("show"), *words], status=2).stderr.startswith(b"usage: show "):
-            raise Wrong("examples/show.c takes %s" % (words,))
+            raise Wrong("examples/show.c takes %r" % line)
     for name in ("show", "console"):
-        if run([lib.at(name), lib.at("none"), "16", "41"], status=1).stderr.decode() != "%s: can't read the font %s\n" % (name, lib.at("none")):
-            raise Wrong("examples/%s.c: another answer to a font that is not there" % name)
+        said = run([lib.at(name), lib.at("none"), "16", "41"], status=1).stderr.decode()
+        if said != "%s: can't read the font %s\n" % (name, lib.at("none")):
+            raise Wrong("examples/%s.c says %r of a font that is not there" % (name, said))
 
 
 def picture_of(bits):
     """The size of a picture in PBM, and its set pixels, by column and row."""
     width, height = map(int, bits.split(b"\n")[1].split())
-    body = bits.split(b"\n", 2)[2]
-    return width, height, {(x, y) for y in range(height) for x in range(width) if body[y * ((width + 7) // 8) + x // 8] >> (7 - x % 8) & 1}
+    body, row = bits.split(b"\n", 2)[2], (width + 7) // 8
+    return width, height, {(x, y) for y in range(height) for x in range(width) if body[y * row + x // 8] >> (7 - x % 8) & 1}
 
 
 @pytest.mark.parametrize("ppem, line", [(16, "Aging glyphs."), (150, "Aj|"), (64, "A" + 40 * "_")])
@@ -619,13 +634,14 @@ def test_console(lib, ppem, line):
 def test_console_in_its_frame(lib):
     """AddressSanitizer sees no pixel outside the frame."""
     font = lib.part("LiberationSans-Regular.ttf", range(0x20, 0x7F))
-    sanitized([os.path.join(TOP, it) for it in ("examples/console.c", "c/calls.c", "c/arena.c")] + [lib.archive], lib.at("console_asan"))
+    sources = [os.path.join(TOP, it) for it in ("examples/console.c", "c/calls.c", "c/arena.c")]
+    sanitized([*sources, lib.archive], lib.at("console_asan"))
     for ppem, line in ((300, "gj|"), (100, "wider than the frame, by far")):
         run([lib.at("console_asan"), font, str(ppem), line])
 
 
 def test_console_of_utf_8(lib):
-    """What examples/console.c takes for characters: each of these bytes has a width of its own, and what is no UTF-8 is a box for each byte."""
+    """What examples/console.c takes for characters: each of these has a width of its own, and what is no UTF-8 is a box for each byte."""
     square = fonts.simple([[(0, 0, 1), (0, 500, 1), (500, 500, 1), (500, 0, 1)]])
     codes = [0x41, 0x7F, 0x80, 0x7FF, 0x800, 0xFFF, 0x1000, 0xD7FF, 0xE000, 0xFFFF, 0x10000, 0x10FFFF]
     font = lib.at("utf-8.ttf")
@@ -634,8 +650,9 @@ def test_console_of_utf_8(lib):
                                  metrics=[(1000, 0)] + [(100 * (k + 10), 0) for k in range(len(codes))]))
     texts = [(chr(code).encode(), k + 10) for k, code in enumerate(codes)]
     box = 10 // 2 + 3
-    texts += [(bytes.fromhex(text), box * len(text.split())) for text in (
-        "C1 BF", "C0 80", "E0 9F BF", "F0 8F BF BF", "ED A0 80", "ED BF BF", "F4 90 80 80", "F5 80 80 80", "FF", "80", "C2", "E0 A0", "F0 90 80")]
+    wrong = ("C1 BF", "C0 80", "E0 9F BF", "F0 8F BF BF", "ED A0 80", "ED BF BF", "F4 90 80 80", "F5 80 80 80", "FF", "80", "C2", "E0 A0",
+             "F0 90 80")
+    texts += [(bytes.fromhex(it), box * len(it.split())) for it in wrong]
     texts += [(b"\xe0\xa0A", 2 * box + 10), (b"A" + "\u0fff".encode() + b"A", 10 + 15 + 10)]
     for text, due in texts:
         width = picture_of(run([lib.at("console"), font, "10", text]).stdout)[0]
@@ -645,10 +662,11 @@ def test_console_of_utf_8(lib):
 
 def test_console_of_odd_advances(lib):
     """A program may move an advance below 0: the next character is drawn at the same place."""
-    square, back = [[(0, 0, 1), (0, 500, 1), (500, 500, 1), (500, 0, 1)]], pushed([5, -640]) + b"\x48"  # SCFS: the second phantom point
-    font = lib.at("back.ttf")
+    square = [[(0, 0, 1), (0, 500, 1), (500, 500, 1), (500, 0, 1)]]
+    back = pushed([5, -640]) + b"\x48"  # SCFS: the second phantom point
+    font, glyphs = lib.at("back.ttf"), [b"", fonts.simple(square, back), fonts.simple(square)]
     with open(font, "wb") as file:
-        file.write(fonts.font_of([b"", fonts.simple(square, back), fonts.simple(square)], fonts.map_of([(0x41, 1), (0x42, 2)]), stack=9))
+        file.write(fonts.font_of(glyphs, fonts.map_of([(0x41, 1), (0x42, 2)]), stack=9))
     strike = Strike(lib.make(font, 16, EXAMPLES, 0x41, 0x42)[1])
     assert [strike.get(it).advance for it in "AB"] == [-10, 16]
     width, _, drawn = picture_of(run([lib.at("console"), font, "16", "AB"]).stdout)

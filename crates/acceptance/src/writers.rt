@@ -4,7 +4,7 @@ use crate::strikes::{counts, request};
 use fx_fixed::{Limits, MemorySink, Sink};
 use fx_request::{Refusal, Report};
 use fx_sfnt::FontFile;
-use fx_strike::make_strike;
+use fx_strike::{make_strike, make_strike_sparing};
 use std::alloc::Global;
 use std::test::Fail;
 
@@ -44,6 +44,26 @@ fn writers_that_take_little_and_fail(rt: HostRuntime) -> Result<(), Fail> {
         (failing, Err(Refusal::WriteFailed(10)), 10, 1),
     ] {
         assert!(rt; writes(rt.alloc(), limits, want, bytes, faults)?, "{bytes}");
+    }
+    Ok(())
+}
+
+/// Whether the strike of the fixture at a size is the same with room for lines and components and without.
+fn is_same_sparing(alloc: Global, ppem: u16, most: usize) -> Result<bool, Fail> {
+    let font = fixture(alloc)?;
+    let font = FontFile::of(font.as_slice());
+    let request = request(ppem, &[0x20, 0x41, 0x42]);
+    let mut due = MemorySink::new(alloc, most, Limits::NONE)?;
+    let told = make_strike(alloc, &font, &request, &mut due);
+    let mut out = MemorySink::new(alloc, most, Limits::NONE)?;
+    let sparing = make_strike_sparing(alloc, &font, &request, &mut out);
+    Ok(told.is_ok() && sparing == told && out.bytes() == due.bytes())
+}
+
+#[test]
+fn with_little_memory(rt: HostRuntime) -> Result<(), Fail> {
+    for (ppem, most) in [(16, 399), (1024, 1 << 20)] {
+        assert!(rt; is_same_sparing(rt.alloc(), ppem, most)?, "{ppem}");
     }
     Ok(())
 }

@@ -1,5 +1,5 @@
 -- What was seen of all characters makes the survey that is due (`surveyed`); a refusal on the way writes nothing (`fails_leaves`).
--- Serves `first_pass`, `pixels`, `survey`, `write_strike` and `make_strike_telling`.
+-- Serves `first_pass`, `pixels`, `survey`, `write_strike` and `make_strike_in`.
 use Rattle.std.proofs.Common.{refl, sym, ap, ◌≡◌, ◌∙◌, arith, inl, ℕ, ◌+◌, ◌<◌, ◌≤◌, ◌^◌, ℤ, pos, List, map}
 use Rattle.std.proofs.Common.{Result, Ok}
 use Rattle.std.proofs.Common.{Err, FitsSigned, w32, to_z, of_z, lit<}

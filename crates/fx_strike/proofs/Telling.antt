@@ -1,5 +1,5 @@
 -- The notices heard character by character are those of the strike, up to the refusal that stops it: `told_strike`.
--- Serves `see_fate`, `see`, `first_pass`, `write_strike` and `make_strike_telling`.
+-- Serves `see_fate`, `see`, `first_pass`, `write_strike` and `make_strike_in`.
 use Rattle.std.proofs.Common.{◌≡◌, refl, sym, ap, ◌∙◌, subst, ℕ, ◌+◌, ◌<◌, List, [], ◌∷◌, ◌++◌, length, arith}
 use Rattle.std.proofs.Common.{take, drop, Result, Ok, Err}
 use Rattle.std.specs.Prelude.{IsErrAnd}

@@ -14,13 +14,15 @@ use std::alloc::{AllocError, Global};
 use std::marker::Model;
 
 /// What hints the glyphs of a font at a size: a machine of the font whose `fpgm` and `prep` ran, or nothing with hinting off.
-/// Either way components that come again are kept. The machine lies in a box, so that the functions that hand it on hold little.
+/// Either way components that come again are kept, if there is to be room for them. The machine lies in a box, so that the functions that hand it on hold little.
 /// Contracts see what stays as it is, whatever runs: what is known of the machine.
 #[derive(Drop)]
 pub(crate) struct FontHinter<'a> {
     pub(crate) machine: Option<Box<Keeping<Machine<'a>>>>,
     /// What assembles outlines if there is no machine.
     unhinted: Keeping<NoHinter>,
+    /// Whether components are kept.
+    pub(crate) has_room: bool,
 }
 
 impl<'a> Model for FontHinter<'a> {
@@ -40,6 +42,7 @@ impl<'a> FontHinter<'a> {
         FontHinter {
             machine: None,
             unhinted: Keeping::new(alloc, NoHinter),
+            has_room: true,
         }
     }
 
@@ -52,6 +55,7 @@ impl<'a> FontHinter<'a> {
         Ok(FontHinter {
             machine: Some(machine),
             unhinted: Keeping::new(alloc, NoHinter),
+            has_room: true,
         })
     }
 
@@ -117,6 +121,9 @@ impl<'a> Hinter for FontHinter<'a> {
     }
 
     fn keep(&mut self, input: &GlyphInput<'_>, made: &Made, usage: Usage) {
+        if !self.has_room {
+            return;
+        }
         match &mut self.machine {
             Some(machine) => machine.keep(input, made, usage),
             None => self.unhinted.keep(input, made, usage),

@@ -13,7 +13,7 @@
 //! A strike is made in two passes over its characters: the first surveys it, so that no byte is written of a strike that is
 //! refused; the second writes it. The first pass keeps the lines of the first characters, up to 8 MiB; the second writes these,
 //! and makes the other characters again. Once nothing more is kept, the first pass makes a glyph's bits only if its frame is not
-//! in the box of the glyphs so far, which they could not widen. `survey` is the first pass alone. `chosen` makes one glyph,
+//! in the box of the glyphs so far, which they could not widen. `make_strike_sparing` keeps nothing. `survey` is the first pass alone. `chosen` makes one glyph,
 //! chosen by a character or by its number, and `write_outline` writes the outline of one, which its bits are of. `listing_of`
 //! writes the listing of a program straight to the writer, and takes no memory.
 #![tactic(auto)]
@@ -50,7 +50,7 @@ pub use choices::chosen;
 pub use fx_bdf::Title;
 pub use fx_raster::Rows;
 pub use listing::listing_of;
-pub use make::{make_strike, make_strike_telling, make_strike_with, survey};
+pub use make::{make_strike, make_strike_sparing, make_strike_telling, make_strike_with, survey};
 pub use numbers::{FontMetrics, font_metrics, map_for};
 pub use one_character::one;
 pub use outlines::{outline_numbered, outlined, write_outline};

@@ -75,7 +75,42 @@ pub fn make_strike_telling<S: Scan, W: Sink, L: Listener>(
     // The listener heard the strike's notices in turn; if memory ran out, perhaps only the first of them.
     ensures told { Told L.Hears listener.old listener.new (notices_of (strike_of font.now request.now)) result }
 {
+    make_strike_in(alloc, scan, font, request, true, out, listener)
+}
+
+/// Makes the strike of a font and writes its text, as `make_strike` does, and takes less memory and more time: it keeps no lines
+/// and no components. What memory it asks for does not depend on how much there is.
+pub fn make_strike_sparing<W: Sink>(
+    alloc: Global,
+    font: &FontFile<'_>,
+    request: &Request<'_>,
+    out: &mut W,
+) -> Result<Report, Refusal>
+    requires { W.fault_count out.old < 2 ^ 63 }
+    // Five clauses: `text`, `cause`, `memory`, `late` and `writer`.
+    ensures { Makes (opening_of font.now request.now) (strike_of font.now request.now)
+        (change_of W.held W.fault_count out.old out.new) result }
+{
+    make_strike_in(alloc, &Rows, font, request, false, out, &mut Deaf)
+}
+
+/// The same for all of these. If there is to be no room, nothing is kept that is only made to save time.
+fn make_strike_in<S: Scan, W: Sink, L: Listener>(
+    alloc: Global,
+    scan: &S,
+    font: &FontFile<'_>,
+    request: &Request<'_>,
+    has_room: bool,
+    out: &mut W,
+    listener: &mut L,
+) -> Result<Report, Refusal>
+    requires { W.fault_count out.old < 2 ^ 63 }
+    ensures made { Makes (opening_of font.now request.now) (strike_of font.now request.now)
+        (change_of W.held W.fault_count out.old out.new) result }
+    ensures told { Told L.Hears listener.old listener.new (notices_of (strike_of font.now request.now)) result }
+{
     let mut striker = Striker::of(alloc, scan, open(font, request), request.mode)?;
+    striker.set_room(has_room);
     striker.write_strike(
         &request.title,
         request.chars,

@@ -129,6 +129,13 @@ impl<'a, S: Scan> Striker<'a, S> {
         }
     }
 
+    /// Has the striker keep lines and components, or nothing that is only made to save time.
+    pub(crate) fn set_room(&mut self, has_room: bool)
+        ensures { self.new ≡ self.old }
+    {
+        self.hinter.has_room = has_room;
+    }
+
     /// The striker with another scan.
     pub fn with_scan<T: Scan>(self, scan: &'a T) -> Striker<'a, T>
         ensures { result ≡ self.entry }

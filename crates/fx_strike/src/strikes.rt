@@ -32,7 +32,7 @@ impl<'a, S: Scan> Striker<'a, S> {
     }
 
     /// Writes the strike of characters and a title within their limits: a first pass surveys it and tells of refused characters, a
-    /// second writes it.
+    /// second writes it. Lines are kept between them if there is to be room.
     pub(crate) fn write_strike<W: Sink, L: Listener>(
         &mut self,
         title: &Title<'_>,
@@ -51,7 +51,7 @@ impl<'a, S: Scan> Striker<'a, S> {
             (notices_of (plan_with self.old (titled title.now) chars.now refused)) result }
     {
         let ppem = self.basis.opened.ppem;
-        let first = self.first_pass(chars, refused, true, listener)?;
+        let first = self.first_pass(chars, refused, self.hinter.has_room, listener)?;
         let FirstPass {
             mapped,
             kept,

@@ -1,7 +1,8 @@
 //! A strike for C.
-ghost use Rattle.std.specs.Prelude.{◌≡◌, ◌<◌, ◌≤◌, true, IfOk, IfErr};
+ghost use Rattle.std.specs.Prelude.{◌≡◌, ◌<◌, ◌≤◌, ◌^◌, true, IfOk, IfErr};
+ghost use Rattle.fx_fixed.specs.Changes.{change_of};
 ghost use Rattle.fx_strike.specs.Strike.{opened_of, plan_of};
-ghost use Rattle.fx_strike.specs.Headline.{opening_of, strike_of};
+ghost use Rattle.fx_strike.specs.Headline.{Makes, opening_of, strike_of};
 ghost use Rattle.mkstrike_c.specs.FontAt.{file_at};
 ghost use Rattle.mkstrike_c.specs.Made.{AreNamesAlike, HoldsText, IsMade, called, told_of};
 ghost use Rattle.mkstrike_c.specs.Modes.{is_strike_mode, mode_of};
@@ -15,7 +16,7 @@ use crate::sink::TextSink;
 use fx_fixed::Sink;
 use fx_request::{OnRefused, Refusal, Report, Request};
 use fx_sfnt::FontFile;
-use fx_strike::{Title, make_strike};
+use fx_strike::{Title, make_strike, make_strike_sparing};
 use std::alloc::Global;
 
 /// What is told of a strike.
@@ -47,7 +48,8 @@ fn told_of(text: &[u8], report: Report) -> Told
     }
 }
 
-/// The text of a strike in memory, and what was counted over it.
+/// The text of a strike in memory, and what was counted over it. If memory runs out, all of it is given back, and the strike is
+/// made once more in as little as it needs: more memory never fails where less is enough.
 fn text_of(
     alloc: Global,
     font: &FontFile<'_>,
@@ -56,8 +58,43 @@ fn text_of(
     ensures text { IfOk result (λ made. HoldsText (strike_of font.now request.now) (⟦<TextSink as Sink>⟧.held made.0) made.1) }
     ensures refused { IfErr result (IsReason (opening_of font.now request.now) (strike_of font.now request.now)) }
 {
+    match text_in(alloc, font, request, true) {
+        Err(Refusal::OutOfMemory) => text_in(alloc, font, request, false),
+        done => done,
+    }
+}
+
+/// Makes a strike, with room for what is only kept to save time or without.
+fn strike_in<W: Sink>(
+    alloc: Global,
+    font: &FontFile<'_>,
+    request: &Request<'_>,
+    has_room: bool,
+    out: &mut W,
+) -> Result<Report, Refusal>
+    requires { W.fault_count out.old < 2 ^ 63 }
+    ensures { Makes (opening_of font.now request.now) (strike_of font.now request.now)
+        (change_of W.held W.fault_count out.old out.new) result }
+{
+    if has_room {
+        make_strike(alloc, font, request, out)
+    } else {
+        make_strike_sparing(alloc, font, request, out)
+    }
+}
+
+/// The same in memory.
+fn text_in(
+    alloc: Global,
+    font: &FontFile<'_>,
+    request: &Request<'_>,
+    has_room: bool,
+) -> Result<(TextSink, Report), Refusal>
+    ensures text { IfOk result (λ made. HoldsText (strike_of font.now request.now) (⟦<TextSink as Sink>⟧.held made.0) made.1) }
+    ensures refused { IfErr result (IsReason (opening_of font.now request.now) (strike_of font.now request.now)) }
+{
     let mut sink = TextSink::new(alloc);
-    match make_strike(alloc, font, request, &mut sink) {
+    match strike_in(alloc, font, request, has_room, &mut sink) {
         Ok(report) => Ok((sink, report)),
         Err(Refusal::WriteFailed(_)) => Err(Refusal::OutOfMemory),
         Err(refusal) => Err(refusal),

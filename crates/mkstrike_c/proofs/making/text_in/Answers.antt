@@ -1,7 +1,7 @@
 use Rattle.std.proofs.Common.{ap, Err}
 use Rattle.fx_strike.specs.Title.{title_of}
 use Rattle.mkstrike_c.proofs.Requested.{opened_if_made}
-use Rattle.mkstrike_c.proofs.making.text_of.Goals as goal
+use Rattle.mkstrike_c.proofs.making.text_in.Goals as goal
 
 pub returns-in-Err-WriteFailed-clause-refused : goal.returns-in-Err-WriteFailed-clause-refused
 returns-in-Err-WriteFailed-clause-refused c =

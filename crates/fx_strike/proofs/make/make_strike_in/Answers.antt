@@ -4,7 +4,7 @@ use Rattle.fx_strike.proofs.Exits.{came}
 use Rattle.fx_strike.proofs.Making.{fails_leaves, makes}
 use Rattle.fx_strike.proofs.Prepared.{late_on, opened_then, plan_set, plan_unset, prepared_late}
 use Rattle.fx_strike.proofs.Telling.{untold}
-use Rattle.fx_strike.proofs.make.make_strike_telling.Goals as goal
+use Rattle.fx_strike.proofs.make.make_strike_in.Goals as goal
 
 pub returns-in_err-striker-clause-made : goal.returns-in_err-striker-clause-made
 returns-in_err-striker-clause-made g c =
@@ -16,7 +16,8 @@ returns-in_err-striker-clause-made g c =
 pub returns-clause-made : goal.returns-clause-made
 returns-clause-made g c =
     rw (plan_set _ _ _ _ c.args.request.now.mode _ c.open.ensures.due (c.in_ok-striker.ensures).setting)
-    (makes _ (λ m. prepared_late _ c.open.ensures.due (c.in_ok-striker.ensures).setting) c.write_strike.ensures.leaves)
+    (makes _ (λ m. prepared_late _ c.open.ensures.due (c.in_ok-striker.ensures).setting)
+    (rw c.set_room.ensures at c.write_strike.ensures.leaves))
 
 pub returns-in_err-striker-clause-told : goal.returns-in_err-striker-clause-told
 returns-in_err-striker-clause-told g c =
@@ -26,7 +27,7 @@ returns-in_err-striker-clause-told g c =
 pub returns-clause-told : goal.returns-clause-told
 returns-clause-told g c =
     rw (plan_set _ _ _ _ c.args.request.now.mode _ c.open.ensures.due (c.in_ok-striker.ensures).setting)
-    c.write_strike.ensures.heard
+    (rw c.set_room.ensures at c.write_strike.ensures.heard)
 
 pub write_strike-requires-clause-chars : goal.write_strike-requires-clause-chars
 write_strike-requires-clause-chars g c =
