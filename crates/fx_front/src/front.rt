@@ -14,8 +14,9 @@ use crate::destination::Destination;
 use crate::files::Files;
 use crate::lines::say;
 use crate::meant::takes_font;
+use crate::packages::package_of;
 use crate::run::{run_to_end, say_unwritten};
-use crate::system::System;
+use crate::system::{NO_FILE, System};
 use crate::tool::Tool;
 use fx_fixed::{Sink, Source, ToSink};
 use fx_words::{lists_in, part};
@@ -245,14 +246,21 @@ fn refuse_font<G: Tool, F: Files, E: Sink>(
     Ok(run_from(alloc, program, task, files.nothing(), files.standard(), err))
 }
 
-/// Says why a font can't be opened, and how it is named.
+/// Says why a font can't be opened, and how to install it or how it is named.
 fn say_no_font<E: Sink>(alloc: Global, task: &AskedRun<'_, '_>, why: &str, err: &mut E)
     ensures { (between : E) × SaysLine (change_of E.held E.fault_count err.old between)
         × SaysLine (change_of E.held E.fault_count between err.new) }
 {
     let name = task.parts.font.unwrap_or("");
     say(alloc, err, &["can't open the font '", name, "': ", why]);
-    if name.contains('/') {
+    let package = if why == NO_FILE {
+        package_of(name)
+    } else {
+        None
+    };
+    if let Some(advice) = package {
+        say(alloc, err, &[advice]);
+    } else if name.contains('/') {
         let how = "' shows how it is written";
         say(alloc, err, &[FONT_HELP, task.command.unwrap_or(""), how]);
     } else {

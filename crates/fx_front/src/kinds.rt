@@ -99,8 +99,11 @@ fn kind_of(rows: &[(&'static [u8], &'static str)], start: &[u8]) -> Option<&'sta
     }
 }
 
-/// The advice in the first row whose bytes begin the file.
-fn kind_among(rows: &[(&'static [u8], &'static str)], start: &[u8]) -> Option<&'static str>
+/// The advice in the first row whose bytes begin these.
+pub(crate) fn kind_among(
+    rows: &[(&'static [u8], &'static str)],
+    start: &[u8],
+) -> Option<&'static str>
     ensures { text_in result ≡ kind_among (rows_of rows.now) start.now }
 {
     // No row so far fits.

@@ -16,6 +16,7 @@ mod late;
 mod lines;
 mod meant;
 mod output;
+mod packages;
 mod paths;
 mod run;
 mod system;

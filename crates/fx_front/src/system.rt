@@ -9,6 +9,9 @@ use std::fs;
 use std::fs::File;
 use std::io::IsTerminal;
 
+/// Why a font is not opened whose name no file has.
+pub(crate) const NO_FILE: &str = "there is no such file";
+
 /// The system's files and streams.
 #[derive(Drop)]
 pub struct System<'a> {
@@ -68,7 +71,7 @@ fn input_of(rt: &HostRuntime, font: Option<&str>) -> Result<Input, &'static str>
         return Ok(Input::Standard(rt.stdin()));
     };
     match fs::metadata(rt, name) {
-        Err(_) => Err("there is no such file"),
+        Err(_) => Err(NO_FILE),
         Ok(found) if found.is_dir() => Err("it is a folder"),
         Ok(_) => match File::open(rt, name) {
             Ok(file) => Ok(Input::File(file)),

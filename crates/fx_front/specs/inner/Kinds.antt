@@ -6,8 +6,9 @@ use Rattle.std.specs.Option.{option_or}
 use Rattle.fx_words.specs.Parts.{Text}
 use Rattle.fx_words.specs.Sets.{Table}
 use Rattle.fx_front.specs.declared.kinds.TheConstants.{KINDS}
+use Rattle.fx_front.specs.declared.packages.TheConstants.{PACKAGES}
 
--- the advice in the first row whose bytes begin the file
+-- the advice in the first row whose bytes begin these
 abbrev pub kind_among : Table → List ℕ → Option Text
 kind_among [] start = None
 kind_among (row ∷ rows) start = if starts_with nat_eq start row.0 then Some row.1 else kind_among rows start
@@ -25,3 +26,7 @@ kind_of rows (byte ∷ start) = option_or (kind_among rows (byte ∷ start))
 -- the same by the rows of docs/REFUSALS.md
 unfoldable pub known_kind : List ℕ → Option Text
 known_kind start = kind_of (map (λ row. (row.0.now, row.1.now)) KINDS) start
+
+-- what to install if a font of this name is not there, by the folder that it is in
+unfoldable pub package_of : Text → Option Text
+package_of name = kind_among (map (λ row. (row.0.now, row.1.now)) PACKAGES) name
