@@ -165,18 +165,21 @@ def rows(strike: Strike, name: str, attribute: str = "", **layout: str) -> str:
     what, word, one, other = FORMS[bytes_of.by]
     lines = (width if bytes_of.by == "rows" else height) + 7
     return ROWS.format(
-        name=name, guard=name.upper() + "_H", font=comment(strike.name), size=strike.size, count=len(codes), width=width, height=height,
-        lines="%s = %d" % (word, lines // 8), left=left, ascent=bottom + height, kind="uint16_t" if codes[-1] <= 0xFFFF else "uint32_t",
+        name=name, guard=name.upper() + "_H", font=comment(strike.name), size=strike.size, count=len(codes), width=width,
+        height=height,
+        lines="%s = %d" % (word, lines // 8), left=left, ascent=bottom + height,
+        kind="uint16_t" if codes[-1] <= 0xFFFF else "uint32_t",
         what="%s the %s bit%s." % (what.format(name=name), "highest" if bytes_of.bits == "msb" else "lowest",
                                    ", the bits left over before it" if bytes_of.align == "right" else ""),
-        includes=PROGMEM if attribute == "PROGMEM" else "", attribute=attribute and " " + attribute, by=bytes_of.by, one=one, other=other,
+        includes=PROGMEM if attribute == "PROGMEM" else "", attribute=attribute and " " + attribute, by=bytes_of.by, one=one,
+        other=other,
         chars=_wrapped("0x%04X" % it for it in codes), advances=_wrapped(str(it.advance) for it in strike.values()),
         cells="\n".join("    {%s}, /* %s */" % (_hexadecimal(it), _shown(char)) for char, it in cells))
 
 
 def gfx(strike: Strike, name: str, dense: bool = False) -> str:
-    """A GFXfont: boxes packed bit by bit. What the strike lacks between the first and the last character is empty there; if `dense`, each
-    character has the number after the one before it."""
+    """A GFXfont: boxes packed bit by bit. What the strike lacks between the first and the last character is empty there; if
+    `dense`, each character has the number after the one before it."""
     codes = [ord(it) for it in strike]
     _filled(codes)
     numbered = dict(enumerate(codes, codes[0])) if dense else dict(zip(codes, codes))
@@ -229,8 +232,10 @@ def lvgl(strike: Strike, name: str) -> str:
     position, thickness = strike.underline or (0, 0)
     underline = ".underline_position = %d, .underline_thickness = %d, " % (
         position, thickness) if -128 <= position < 128 and 0 < thickness < 128 else ""
-    return LVGL.format(underline=underline, name=name, font=comment(strike.name), size=strike.size, count=len(codes), bitmaps=_wrapped("0x%02X" % it for it in bitmaps or b"\0"),
-                       glyphs="\n".join(lines), lists=lists, maps=",\n".join(maps), count_maps=len(maps), height=strike.height, descent=strike.descent)
+    return LVGL.format(underline=underline, name=name, font=comment(strike.name), size=strike.size, count=len(codes),
+                       bitmaps=_wrapped("0x%02X" % it for it in bitmaps or b"\0"),
+                       glyphs="\n".join(lines), lists=lists, maps=",\n".join(maps), count_maps=len(maps), height=strike.height,
+                       descent=strike.descent)
 
 
 def _parts(codes: Sequence[int]) -> list[list[int]]:
@@ -266,7 +271,8 @@ def raw(strike: Strike, order: str | None, **layout: str) -> bytes:
     if lost:
         warnings.warn("blank, since the strike lacks them: " + ranges(lost), stacklevel=4)
     blank = bytes(bytes_of.size(width, strike.height))
-    return b"".join(bytes_of.packed(in_cell(strike[it], width, strike.height, 0, -strike.descent)) if it in strike else blank for it in chars)
+    return b"".join(bytes_of.packed(in_cell(strike[it], width, strike.height, 0,
+                                            -strike.descent)) if it in strike else blank for it in chars)
 
 
 def _check(code: int, library: str, numbers: Sequence[int], fields: Sequence[tuple[str, int, int]]) -> None:
