@@ -50,13 +50,15 @@ static const uint8_t {name}_{by}[{name}_COUNT][{name}_{one} * {name}_{other}]{at
 
 #endif
 """
-# What a comment says of the bytes of a cell, the number beside width and height that leads through them, and what there are how many of.
+# What a comment says of the bytes of a cell, the constant beside width and height, and the two whose product are the bytes.
 FORMS = {
     "rows": ("{name}_rows[k] are its rows from the top: {name}_HEIGHT rows of {name}_STRIDE\n * bytes, the leftmost pixel",
              "STRIDE", "HEIGHT", "STRIDE"),
-    "columns": ("{name}_columns[k] are its columns from the left: {name}_WIDTH columns of {name}_STRIDE\n * bytes, the topmost pixel",
+    "columns": ("{name}_columns[k] are its columns from the left: {name}_WIDTH columns of {name}_STRIDE\n * bytes, the topmost "
+                "pixel",
                 "STRIDE", "WIDTH", "STRIDE"),
-    "pages": ("{name}_pages[k] are its pages of eight rows from the top: {name}_PAGES pages of\n * {name}_WIDTH bytes, the topmost pixel",
+    "pages": ("{name}_pages[k] are its pages of eight rows from the top: {name}_PAGES pages of\n * {name}_WIDTH bytes, the "
+              "topmost pixel",
               "PAGES", "PAGES", "WIDTH")}
 ATTRIBUTE = re.compile(r"[A-Za-z_]\w*(\([\w \t(),.\"$-]*\))?", re.ASCII)
 PROGMEM = """\
@@ -200,7 +202,8 @@ def gfx(strike: Strike, name: str, dense: bool = False) -> str:
         lines.append("    {%d, %d, %d, %d, %d, %d}, /* %s */" % (*numbers, "0x%02X: %s" % (code, shown) if dense else shown))
     empty = last - first + 1 - len(codes)
     if empty > len(codes):
-        warnings.warn("%d of the %d entries of %s are empty, since a GFXfont has all from the first character to the last; dense=True (--dense) numbers "
+        warnings.warn("%d of the %d entries of %s are empty, since a GFXfont has all from the first character to the last; "
+                      "dense=True (--dense) numbers "
                       "the characters without gaps" % (empty, empty + len(codes), name), stacklevel=4)
     return GFX.format(name=name, guard=name.upper() + "_GFX_H", font=comment(strike.name), size=strike.size, count=len(codes),
                       bitmaps=_wrapped("0x%02X" % it for it in bitmaps or b"\0"), glyphs="\n".join(lines), first=first, last=last,

@@ -82,7 +82,8 @@ def _box(*pair: Glyph) -> tuple[int, int, int, int]:
     """The first column, the one after the last, the lowest row and the one above the highest that two glyphs and their advances
     take."""
     with_pixels = [it for it in pair if it.width]
-    return (min([it.left for it in with_pixels] + [0]), max([it.left + it.width for it in with_pixels] + [it.advance for it in pair] + [1]),
+    return (min([it.left for it in with_pixels] + [0]),
+            max([it.left + it.width for it in with_pixels] + [it.advance for it in pair] + [1]),
             min([it.bottom for it in with_pixels] + [0]), max([it.top for it in with_pixels] + [1]))
 
 
