@@ -28,8 +28,8 @@ CHAR = "char id=%d x=%d y=%d width=%d height=%d xoffset=%d yoffset=%d xadvance=%
 
 
 def files(strike: Strike, name: str, padding: int = 0) -> dict[str, bytes]:
-    """The text, and the pictures that it names `name_0.png` and so on, by the names of their files. `padding` columns and rows on each
-    side of a glyph are clear, and belong to its place."""
+    """The text, and the pictures that it names `name_0.png` and so on, by the names of their files. `padding` columns and rows on
+    each side of a glyph are clear, and belong to its place."""
     if not 0 <= padding <= SIDES[-1]:
         raise ValueError("padding is 0 or more pixels, not %d" % padding)
     if '"' in name or not name.isprintable():

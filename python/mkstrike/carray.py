@@ -50,13 +50,15 @@ static const uint8_t {name}_{by}[{name}_COUNT][{name}_{one} * {name}_{other}]{at
 
 #endif
 """
-# What a comment says of the bytes of a cell, the number beside width and height that leads through them, and what there are how many of.
+# What a comment says of the bytes of a cell, the constant beside width and height, and the two whose product are the bytes.
 FORMS = {
     "rows": ("{name}_rows[k] are its rows from the top: {name}_HEIGHT rows of {name}_STRIDE\n * bytes, the leftmost pixel",
              "STRIDE", "HEIGHT", "STRIDE"),
-    "columns": ("{name}_columns[k] are its columns from the left: {name}_WIDTH columns of {name}_STRIDE\n * bytes, the topmost pixel",
+    "columns": ("{name}_columns[k] are its columns from the left: {name}_WIDTH columns of {name}_STRIDE\n * bytes, the topmost "
+                "pixel",
                 "STRIDE", "WIDTH", "STRIDE"),
-    "pages": ("{name}_pages[k] are its pages of eight rows from the top: {name}_PAGES pages of\n * {name}_WIDTH bytes, the topmost pixel",
+    "pages": ("{name}_pages[k] are its pages of eight rows from the top: {name}_PAGES pages of\n * {name}_WIDTH bytes, the "
+              "topmost pixel",
               "PAGES", "PAGES", "WIDTH")}
 ATTRIBUTE = re.compile(r"[A-Za-z_]\w*(\([\w \t(),.\"$-]*\))?", re.ASCII)
 PROGMEM = """\
@@ -165,18 +167,21 @@ def rows(strike: Strike, name: str, attribute: str = "", **layout: str) -> str:
     what, word, one, other = FORMS[bytes_of.by]
     lines = (width if bytes_of.by == "rows" else height) + 7
     return ROWS.format(
-        name=name, guard=name.upper() + "_H", font=comment(strike.name), size=strike.size, count=len(codes), width=width, height=height,
-        lines="%s = %d" % (word, lines // 8), left=left, ascent=bottom + height, kind="uint16_t" if codes[-1] <= 0xFFFF else "uint32_t",
+        name=name, guard=name.upper() + "_H", font=comment(strike.name), size=strike.size, count=len(codes), width=width,
+        height=height,
+        lines="%s = %d" % (word, lines // 8), left=left, ascent=bottom + height,
+        kind="uint16_t" if codes[-1] <= 0xFFFF else "uint32_t",
         what="%s the %s bit%s." % (what.format(name=name), "highest" if bytes_of.bits == "msb" else "lowest",
                                    ", the bits left over before it" if bytes_of.align == "right" else ""),
-        includes=PROGMEM if attribute == "PROGMEM" else "", attribute=attribute and " " + attribute, by=bytes_of.by, one=one, other=other,
+        includes=PROGMEM if attribute == "PROGMEM" else "", attribute=attribute and " " + attribute, by=bytes_of.by, one=one,
+        other=other,
         chars=_wrapped("0x%04X" % it for it in codes), advances=_wrapped(str(it.advance) for it in strike.values()),
         cells="\n".join("    {%s}, /* %s */" % (_hexadecimal(it), _shown(char)) for char, it in cells))
 
 
 def gfx(strike: Strike, name: str, dense: bool = False) -> str:
-    """A GFXfont: boxes packed bit by bit. What the strike lacks between the first and the last character is empty there; if `dense`, each
-    character has the number after the one before it."""
+    """A GFXfont: boxes packed bit by bit. What the strike lacks between the first and the last character is empty there; if
+    `dense`, each character has the number after the one before it."""
     codes = [ord(it) for it in strike]
     _filled(codes)
     numbered = dict(enumerate(codes, codes[0])) if dense else dict(zip(codes, codes))
@@ -197,7 +202,8 @@ def gfx(strike: Strike, name: str, dense: bool = False) -> str:
         lines.append("    {%d, %d, %d, %d, %d, %d}, /* %s */" % (*numbers, "0x%02X: %s" % (code, shown) if dense else shown))
     empty = last - first + 1 - len(codes)
     if empty > len(codes):
-        warnings.warn("%d of the %d entries of %s are empty, since a GFXfont has all from the first character to the last; dense=True (--dense) numbers "
+        warnings.warn("%d of the %d entries of %s are empty, since a GFXfont has all from the first character to the last; "
+                      "dense=True (--dense) numbers "
                       "the characters without gaps" % (empty, empty + len(codes), name), stacklevel=4)
     return GFX.format(name=name, guard=name.upper() + "_GFX_H", font=comment(strike.name), size=strike.size, count=len(codes),
                       bitmaps=_wrapped("0x%02X" % it for it in bitmaps or b"\0"), glyphs="\n".join(lines), first=first, last=last,
@@ -229,8 +235,10 @@ def lvgl(strike: Strike, name: str) -> str:
     position, thickness = strike.underline or (0, 0)
     underline = ".underline_position = %d, .underline_thickness = %d, " % (
         position, thickness) if -128 <= position < 128 and 0 < thickness < 128 else ""
-    return LVGL.format(underline=underline, name=name, font=comment(strike.name), size=strike.size, count=len(codes), bitmaps=_wrapped("0x%02X" % it for it in bitmaps or b"\0"),
-                       glyphs="\n".join(lines), lists=lists, maps=",\n".join(maps), count_maps=len(maps), height=strike.height, descent=strike.descent)
+    return LVGL.format(underline=underline, name=name, font=comment(strike.name), size=strike.size, count=len(codes),
+                       bitmaps=_wrapped("0x%02X" % it for it in bitmaps or b"\0"),
+                       glyphs="\n".join(lines), lists=lists, maps=",\n".join(maps), count_maps=len(maps), height=strike.height,
+                       descent=strike.descent)
 
 
 def _parts(codes: Sequence[int]) -> list[list[int]]:
@@ -266,7 +274,8 @@ def raw(strike: Strike, order: str | None, **layout: str) -> bytes:
     if lost:
         warnings.warn("blank, since the strike lacks them: " + ranges(lost), stacklevel=4)
     blank = bytes(bytes_of.size(width, strike.height))
-    return b"".join(bytes_of.packed(in_cell(strike[it], width, strike.height, 0, -strike.descent)) if it in strike else blank for it in chars)
+    return b"".join(bytes_of.packed(in_cell(strike[it], width, strike.height, 0,
+                                            -strike.descent)) if it in strike else blank for it in chars)
 
 
 def _check(code: int, library: str, numbers: Sequence[int], fields: Sequence[tuple[str, int, int]]) -> None:

@@ -46,10 +46,12 @@ class Diff:
         return bool(self.removed or self.added or self.changed or self.old != self.new)
 
     def __repr__(self) -> str:
-        return "<Diff: %d removed, %d added, %d changed, %d the same>" % (len(self.removed), len(self.added), len(self.changed), self.same)
+        return "<Diff: %d removed, %d added, %d changed, %d the same>" % (len(self.removed), len(self.added), len(self.changed),
+                                                                          self.same)
 
     def lines(self) -> list[str]:
-        """Lines that name what differs; then the changed glyphs as pictures beside each other, the old one on the left, at most 24 of them."""
+        """Lines that name what differs; then the changed glyphs as pictures beside each other, the old one on the left, at most 24
+        of them."""
         found = ["%s: %d, %d" % (name, one, other) for name, one, other in zip(Numbers._fields, self.old, self.new) if one != other]
         for what, chars in (("removed", self.removed), ("added", self.added), ("changed", "".join(self.changed))):
             if chars:
@@ -77,9 +79,11 @@ def _seen(it: Glyph) -> tuple[object, ...]:
 
 
 def _box(*pair: Glyph) -> tuple[int, int, int, int]:
-    """The first column, the one after the last, the lowest row and the one above the highest that two glyphs and their advances take."""
+    """The first column, the one after the last, the lowest row and the one above the highest that two glyphs and their advances
+    take."""
     with_pixels = [it for it in pair if it.width]
-    return (min([it.left for it in with_pixels] + [0]), max([it.left + it.width for it in with_pixels] + [it.advance for it in pair] + [1]),
+    return (min([it.left for it in with_pixels] + [0]),
+            max([it.left + it.width for it in with_pixels] + [it.advance for it in pair] + [1]),
             min([it.bottom for it in with_pixels] + [0]), max([it.top for it in with_pixels] + [1]))
 
 

@@ -61,19 +61,21 @@ class Font:
     def __repr__(self) -> str:
         return "<Font %r, %d bytes>" % (self.name, len(self.data))
 
-    def strike(self, size: int, chars: Chars = "", *, text: str = "", glyphs: Mapping[str, int | str] | None = None, hinted: bool = True,
+    def strike(self, size: int, chars: Chars = "", *, text: str = "", glyphs: Mapping[str, int | str] | None = None,
+               hinted: bool = True,
                dropout: Dropout = "font", symbol: bool = False,
-               name: str | None = None, x11: bool = False, properties: Mapping[str, Value] | None = None, refused: Refusing = "leave-out",
+               name: str | None = None, x11: bool = False, properties: Mapping[str, Value] | None = None,
+               refused: Refusing = "leave-out",
                require: bool = False, strict: bool = False) -> Strike:
         """Makes a strike of characters at a size in pixels per em.
 
-        `chars` and `text` say which: see `characters`. With `hinted` the font's own programs run. With `dropout` thin strokes stay whole:
-        `"font"` sets the pixels beside them that the font asks for, `"left"` the left or the lower one, `"near"` the nearer one. `None` is the
-        rule alone, as `mkstrike make` has it: a pixel is set if its centre is inside. With `symbol` U+0020 to U+00FF have the glyphs that a
-        font of symbols has at U+F020 to U+F0FF.
-        `glyphs` gives characters other glyphs of the font, by number or name, as {"\\ue000": "A.alt"}.
-        `name`, `x11` and `properties` are what `mkstrike make` calls `--name`, `--x11` and `--property`. Without `name` the strike is called
-        "strike"; with `x11` it then gets the long name of X11, with the font's family, weight and slant and the size.
+        `chars` and `text` say which: see `characters`. With `hinted` the font's own programs run. With `dropout` thin strokes stay
+        whole: `"font"` sets the pixels beside them that the font asks for, `"left"` the left or the lower one, `"near"` the nearer
+        one. `None` is the rule alone, as `mkstrike make` has it: a pixel is set if its centre is inside. With `symbol` U+0020 to
+        U+00FF have the glyphs that a font of symbols has at U+F020 to U+F0FF. `glyphs` gives characters other glyphs of the font,
+        by number or name, as {"\\ue000": "A.alt"}. `name`, `x11` and `properties` are what `mkstrike make` calls `--name`, `--x11`
+        and `--property`. Without `name` the strike is called "strike"; with `x11` it then gets the long name of X11, with the
+        font's family, weight and slant and the size.
 
         What the font lacks is in `missing` of the strike; with `require` it is raised, as `Missing`. A character that is refused is
         left out and in `refused`; with `refused="unhinted"` it is drawn without hinting and in `unhinted`, and with
@@ -89,7 +91,8 @@ class Font:
             warnings.warn(note, stacklevel=2)
         return strike.with_properties(properties, x11=x11) if x11 or properties else strike
 
-    def _strike_of(self, size: int, given: Mapping[int, int], *, hinted: bool = True, dropout: Dropout = "font", name: str | None = None,
+    def _strike_of(self, size: int, given: Mapping[int, int], *, hinted: bool = True, dropout: Dropout = "font",
+                   name: str | None = None,
                    refused: Refusing = "leave-out", glyphs: Mapping[str, int | str] | None = None) -> Strike:
         """The strike of characters, each with that of its glyph."""
         if name is not None and not isinstance(name, str):
@@ -160,9 +163,10 @@ class Font:
         options = {"text": text, "hinted": hinted, "dropout": dropout, "symbol": symbol}
         return fitting([Part(self, LOOK, chars, options)], width, height, "", "", ascent, clip, wide)
 
-    def size_for(self, *, height: int | None = None, cap_height: int | None = None, hinted: bool = True, dropout: Dropout = "font") -> int:
-        """The largest size, in pixels per em, at which a line has at most `height` rows, ascent and descent together, or an H at most
-        `cap_height`."""
+    def size_for(self, *, height: int | None = None, cap_height: int | None = None, hinted: bool = True,
+                 dropout: Dropout = "font") -> int:
+        """The largest size, in pixels per em, at which a line has at most `height` rows, ascent and descent together, or an H at
+        most `cap_height`."""
         from .looks import LARGE, largest
         if (height is None) == (cap_height is None):
             raise TypeError("give height or cap_height")
@@ -176,14 +180,16 @@ class Font:
 
     def looks(self, sizes: Iterable[int], chars: Chars = LETTERS, *, text: str = "", hinted: bool = True,
               dropout: Dropout = "font") -> list[Look]:
-        """What the font is at sizes: its cell, and which of the characters fall apart or vanish, drawn as told and without drop-out control.
-        A glyph falls apart if its pixels are in more parts than when it is drawn large."""
+        """What the font is at sizes: its cell, and which of the characters fall apart or vanish, drawn as told and without drop-out
+        control. A glyph falls apart if its pixels are in more parts than when it is drawn large."""
         from .looks import looks
         return looks(self, sizes, listed(chars, text, self.characters), hinted, dropout)
 
-    def sheet(self, sizes: Iterable[int], text: str = TEXT, chars: Chars = LETTERS, *, hinted: bool = True, dropout: Dropout = "font",
+    def sheet(self, sizes: Iterable[int], text: str = TEXT, chars: Chars = LETTERS, *, hinted: bool = True,
+              dropout: Dropout = "font",
               scale: int = 1) -> Image:
-        """A text at sizes as one picture of Pillow, below what `looks` finds of each. What the font lacks is left out of the text."""
+        """A text at sizes as one picture of Pillow, below what `looks` finds of each. What the font lacks is left out of the
+        text."""
         from .looks import sheet
         return sheet(self, self.looks(sizes, chars, hinted=hinted, dropout=dropout), text, hinted, dropout, scale)
 
@@ -208,8 +214,10 @@ class Font:
         from .listing import names_of_glyphs
         return names_of_glyphs(self.data, self.face, self.glyph_count)
 
-    def glyphs(self, size: int, given: Mapping[str, int | str], *, hinted: bool = True, dropout: Dropout = "font") -> dict[str, Glyph]:
-        """Glyphs by their numbers or names, for characters that the font has not: from each character to its glyph, for `Strike.replace`."""
+    def glyphs(self, size: int, given: Mapping[str, int | str], *, hinted: bool = True, dropout: Dropout = "font") -> dict[str,
+                                                                                                                           Glyph]:
+        """Glyphs by their numbers or names, for characters that the font has not: from each character to its glyph, for
+        `Strike.replace`."""
         at, names = self.at(size, hinted=hinted, dropout=dropout), self.glyph_names()
         for name in given.values():
             if isinstance(name, str) and (not name or name not in names):
@@ -218,8 +226,8 @@ class Font:
         return {char: at.glyph(names.index(it) if isinstance(it, str) else it) for char, it in given.items()}
 
     def listing(self, size: int | None = None, *, hinted: bool = True, dropout: Dropout = "font") -> list[Listed]:
-        """What is in the font: the glyphs of its characters, then those without a character, with their numbers and names, and at a size with
-        their pictures."""
+        """What is in the font: the glyphs of its characters, then those without a character, with their numbers and names, and at a
+        size with their pictures."""
         from .listing import of_font
         return of_font(self, None if size is None else self.at(size, hinted=hinted, dropout=dropout))
 

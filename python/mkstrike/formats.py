@@ -72,7 +72,8 @@ ENDING = {**{name: "." + name for name in FORMATS}, "c": ".h", "gfx": "-gfx.h", 
 IN_C, PICTURES = ("c", "gfx", "lvgl"), ("png", "pbm")
 TAKES: dict[str, tuple[str, ...]] = {  # options
     **{name: ("columns", "scale") for name in PICTURES}, "c": ("name", "attribute", "bytes", "bits", "align"),
-    "gfx": ("name", "dense"), "lvgl": ("name",), "raw": ("order", "bytes", "bits", "align"), "fnt": ("padding",), "py": ("bytes", "bits")}
+    "gfx": ("name", "dense"), "lvgl": ("name",), "raw": ("order", "bytes", "bits", "align"), "fnt": ("padding",),
+    "py": ("bytes", "bits")}
 
 
 def encode(strike: Strike, format: str, options: Mapping[str, Any]) -> bytes:
@@ -113,8 +114,10 @@ def files(strike: Strike, path: str, format: str, options: Mapping[str, Any]) ->
 
 def file_name(stem: str, format: str) -> str:
     """The name of the file of a strike; that of a module is one that Python can import."""
-    from .carray import identifier
-    return (identifier(stem) if format == "py" else stem) + ENDING[format]
+    if format == "py":
+        from .carray import identifier
+        stem = identifier(stem)
+    return stem + ENDING[format]
 
 
 def by_ending(path: str) -> str:

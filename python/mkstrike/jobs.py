@@ -60,7 +60,8 @@ class Asked:
 
     def size(self, source: Font | Strike, size: int) -> int:
         """The size at which it is made: the one that is given, or the one that gives the rows that are asked for."""
-        return source.size_for(**self.rows, hinted=self.how["hinted"], dropout=self.how["dropout"]) if self.rows and isinstance(source, Font) else size
+        return source.size_for(**self.rows, hinted=self.how["hinted"],
+                               dropout=self.how["dropout"]) if self.rows and isinstance(source, Font) else size
 
     def said(self, source: Font | Strike, size: int) -> list[str]:
         """Lines that say how a size came about."""

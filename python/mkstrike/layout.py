@@ -15,10 +15,10 @@ SIDES = ("left", "right")
 class Layout:
     """How the pixels of a cell become bytes.
 
-    - `by`: "rows", each of whole bytes, from the top; "columns", each of whole bytes, from the left; or "pages" of eight rows from the
-      top, each a byte a column
-    - `bits`: "msb" if the first pixel of a byte, the leftmost or the topmost, is the highest bit, "lsb" if it is the lowest; without
-      it "msb" for rows and "lsb" for columns and pages
+    - `by`: "rows", each of whole bytes, from the top; "columns", each of whole bytes, from the left; or "pages" of eight rows from
+      the top, each a byte a column
+    - `bits`: "msb" if the first pixel of a byte, the leftmost or the topmost, is the highest bit, "lsb" if it is the lowest;
+      without it "msb" for rows and "lsb" for columns and pages
     - `align`: "left" if the bits that a row or a column leaves over come after its pixels, "right" if they come before
     """
 

@@ -17,8 +17,8 @@ if TYPE_CHECKING:
     from .striker import Striker
 
     class Listed(NamedTuple):
-        """A glyph: its character, or None if it has none; its number, None of a strike; its name, nothing if it has none; and its picture at a
-        size, if one was given: its refusal if it was refused."""
+        """A glyph: its character, or None if it has none; its number, None of a strike; its name, nothing if it has none; and its
+        picture at a size, if one was given: its refusal if it was refused."""
         char: str | None
         number: int | None
         name: str
@@ -72,7 +72,8 @@ def of_font(font: Font, at: Striker | None) -> list[Listed]:
     names = font.glyph_names()
     ids = font.glyph_ids("all")
     rest = sorted(set(range(len(names))) - set(ids.values()))
-    return [Listed(char, number, names[number], _drawn(at, number)) for char, number in [*ids.items(), *((None, it) for it in rest)]]
+    return [Listed(char, number, names[number], _drawn(at, number)) for char,
+            number in [*ids.items(), *((None, it) for it in rest)]]
 
 
 def of_strike(strike: Strike) -> list[Listed]:

@@ -5,7 +5,7 @@ import re
 from collections import namedtuple
 from collections.abc import Iterable
 
-from .cell import MOST
+from ._library import MOST_SIZE
 from .texts import Glyphs
 
 TYPE_CHECKING = False  # as in glyph.py
@@ -18,8 +18,8 @@ if TYPE_CHECKING:
     from .glyph import Glyph
 
     class Look(NamedTuple):
-        """A font at a size: the columns and rows of its cell, which are the widest advance and the rows of a line; how many characters
-        were looked at; and which of them fall apart or vanish, as they are drawn and without drop-out control."""
+        """A font at a size: the columns and rows of its cell, which are the widest advance and the rows of a line; how many
+        characters were looked at; and which of them fall apart or vanish, as they are drawn and without drop-out control."""
         size: int
         width: int
         height: int
@@ -99,7 +99,7 @@ def largest(rows: int, large: int, rows_at: Callable[[int], int]) -> int:
     if rows < 1 or large < 1:
         raise ValueError("there are no %d rows at any size" % rows)
     # hinting can make a glyph lower, but not by half
-    for size in range(min(2 * LARGE * rows // large + 2, MOST), 0, -1):
+    for size in range(min(2 * LARGE * rows // large + 2, MOST_SIZE), 0, -1):
         if rows_at(size) <= rows:
             return size
     raise ValueError("at each size there are more than %d rows" % rows)

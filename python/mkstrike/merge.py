@@ -109,9 +109,10 @@ class Told:
 def merge(parts: Iterable[Given], *, chars: Chars = "", text: str = "", name: str | None = None) -> Strike:
     """One strike of several fonts and strikes.
 
-    A part is a strike, or a tuple: a font (or a strike), its size (None for a strike's), its characters, and a dict of options, of which
-    the last ones may be left out: `(font, 16)`, `(font, 20, "f000-f2e0=e000")`, `(font, 16, "", {"text": "abc", "hinted": False})`. The
-    options are `text`, `hinted`, `dropout`, `symbol`, `refused` and `glyphs` as of `Font.strike`, and `shift_y`, which lifts the glyphs by rows.
+    A part is a strike, or a tuple: a font (or a strike), its size (None for a strike's), its characters, and a dict of options, of
+    which the last ones may be left out: `(font, 16)`, `(font, 20, "f000-f2e0=e000")`, `(font, 16, "", {"text": "abc", "hinted":
+    False})`. The options are `text`, `hinted`, `dropout`, `symbol`, `refused` and `glyphs` as of `Font.strike`, and `shift_y`,
+    which lifts the glyphs by rows.
 
     A part gives the characters of its own, also those that a part before it has. One without gives what the parts before it lack of
     `chars` and `text`, which are for all, and of the other parts' characters; a strike gives all that it has, if `chars` and `text`
@@ -164,8 +165,10 @@ def _of(strikes: list[Strike], entries: Mapping[int, bdf.Entry], owners: Mapping
                           if owners[ord(char)] == at}
                          for which in ("outside", "unhinted"))
     refused = {char: why for strike in reversed(strikes) for char, why in strike.refused.items() if ord(char) not in entries}
-    return Strike(merged, is_own=True, names=None if name else strikes[0].names, refused=refused, unhinted=unhinted, outside=outside,
-                  underline=strikes[0].underline, given=strikes[0]._given, strays=sum(it.strays for it in strikes), steps=sum(it.steps for it in strikes))
+    return Strike(merged, is_own=True, names=None if name else strikes[0].names, refused=refused, unhinted=unhinted,
+                  outside=outside,
+                  underline=strikes[0].underline, given=strikes[0]._given, strays=sum(it.strays for it in strikes),
+                  steps=sum(it.steps for it in strikes))
 
 
 def fitting(parts: list[Part], width: int, height: int, chars: Chars, text: str, ascent: int | None, clip: bool,

@@ -70,7 +70,8 @@ MOST = 1 << 24  # bytes of all glyphs
 
 
 def module(strike: Strike, bytes: str = "rows", bits: str | None = None) -> str:
-    """The text of the module: each glyph is as wide as its advance, and all are as high as a line; `bytes` is "rows" or "columns"."""
+    """The text of the module: each glyph is as wide as its advance, and all are as high as a line; `bytes` is "rows" or
+    "columns"."""
     glyphs, layout = list(strike.values()), Layout(bytes, bits)
     if not glyphs:
         raise ValueError("the strike has no glyph")
@@ -88,7 +89,8 @@ def module(strike: Strike, bytes: str = "rows", bits: str | None = None) -> str:
                          tuple(format(it, ",") for it in (MOST, starts[-1])))
     wider = [ord(it.char or "") for it, width in zip(glyphs, widths) if width > it.advance]
     if wider:
-        warnings.warn("wider than their advance, since a module of MicroPython has nothing outside it: " + ranges(wider), stacklevel=4)
+        warnings.warn("wider than their advance, since a module of MicroPython has nothing outside it: " + ranges(wider),
+                      stacklevel=4)
     codes = list(map(ord, strike))
     default = codes.index(63) if 63 in codes else 0
     return MODULE.format(

@@ -72,7 +72,8 @@ def _diff(job: Job, report: Report, sources: list[Source]) -> int:
 
 
 def _strike_of(job: Job, asked: Asked, source: Source, there: Strike | None) -> Strike:
-    """A strike to compare. That of a font has the size and the characters of the strike that is there already, if no option says others."""
+    """A strike to compare. That of a font has the size and the characters of the strike that is there already, if no option says
+    others."""
     if there is None or isinstance(source, Strike) or job.chars or job.text:
         chars, text = job.wanted([asked], [source])
     else:

@@ -74,17 +74,21 @@ TABLE = {
         Option("--all", "every character of the font", outputs=LETTERS, unless="fit", is_of_font=True, const="all", dest="chars"),
         Option("--text", "the characters that a text in UTF-8 uses; - is standard input",
                outputs=LETTERS, unless="fit", is_of_font=True, metavar="FILE"),
-        Option("--glyph", "glyphs of the font by name or number, and the characters that get them, as A.alt=e000,1234=e001", inputs=(FONT,), is_of_font=True,
+        Option("--glyph", "glyphs of the font by name or number, and the characters that get them, as A.alt=e000,1234=e001",
+               inputs=(FONT,), is_of_font=True,
                metavar="GLYPH=CHAR,.."),
-        Option("--symbol", "a font of symbols: U+0020 to U+00FF are its characters from U+F020 on", inputs=(FONT,), is_of_font=True, const=True)),
+        Option("--symbol", "a font of symbols: U+0020 to U+00FF are its characters from U+F020 on", inputs=(FONT,), is_of_font=True,
+               const=True)),
     "sizes and cells": (
-        Option("--size --ppem", "sizes in pixels per em, and ranges of them, as 12,16-20 (16), or points at a resolution, as 12pt@96", inputs=(FONT,),
+        Option("--size --ppem", "sizes in pixels per em, and ranges of them, as 12,16-20 (16), or points at a resolution, as "
+                                "12pt@96", inputs=(FONT,),
                outputs=(*DRAWN, LIST, DIFF), is_of_font=True, metavar="N,.."),
         Option("--height", "the largest size at which a line has at most N rows",
                inputs=(FONT,), is_of_font=True, type=int, metavar="N"),
         Option("--cap-height", "the largest size at which a capital H has at most N rows",
                inputs=(FONT,), is_of_font=True, type=int, metavar="N"),
-        Option("--fit", "the largest size at which no glyph leaves a cell of W x H pixels, and these cells; box drawing joins; with --clip the "
+        Option("--fit", "the largest size at which no glyph leaves a cell of W x H pixels, and these cells; box drawing joins; "
+                        "with --clip the "
                "largest at which a line fits", inputs=(FONT,), metavar="WxH"),
         Option("--cell", "one advance for all, in cells of W x H pixels; glyphs that leave the cell are named", metavar="WxH"),
         Option("--ascent", "the rows of a cell above the baseline", needs=("cell", "fit"), type=int, metavar="N"),
@@ -104,40 +108,51 @@ TABLE = {
         Option("--face", "the font of a collection, from 0", inputs=(FONT,), outputs=EVERY, is_of_font=True, type=int, metavar="N"),
         Option("--axes", "the instance of a variable font, as wght=700",
                inputs=(FONT,), outputs=EVERY, is_of_font=True, metavar="TAG=N,.."),
-        Option("--refused", "characters that are refused are left out (leave-out, the default), drawn unhinted, or refuse the strike",
-               inputs=(FONT,), outputs=(*DRAWN, DIFF), is_of_font=True, choices=("leave-out", "unhinted", "refuse"), metavar="WHAT")),
+        Option("--refused", "characters that are refused are left out (leave-out, the default), drawn unhinted, or refuse the "
+                            "strike",
+               inputs=(FONT,), outputs=(*DRAWN, DIFF), is_of_font=True, choices=("leave-out", "unhinted", "refuse"),
+               metavar="WHAT")),
     "files": (
-        Option("-o", "the one file to write, whose ending says the format; %s in it is the size; - is standard output", outputs=(*FILES, PICTURE, SHEET, DIFF),
+        Option("-o", "the one file to write, whose ending says the format; %s in it is the size; - is standard output",
+               outputs=(*FILES, PICTURE, SHEET, DIFF),
                dest="output", metavar="FILE"),
         Option("--out", "where the files go (.)", outputs=(*FILES, SHEET), metavar="FOLDER"),
         Option("--format", "any of %s (bdf)" % ", ".join(FILES), outputs=(*FILES, PICTURE), metavar="NAME,.."),
         Option("--order", "the cells of a character set of one byte, as cp437, in its order", outputs=("raw",), metavar="SET"),
-        Option("--bytes", "how the pixels of a cell become bytes: by rows (rows, the default), by columns (columns), or eight rows at a time, a byte a column "
+        Option("--bytes", "how the pixels of a cell become bytes: by rows (rows, the default), by columns (columns), or eight "
+                          "rows at a time, a byte a column "
                "(pages)", outputs=IN_BYTES, choices=WAYS, metavar="WAY"),
-        Option("--bits", "where the first pixel of a byte is, the leftmost or the topmost: in the highest bit (msb, the default of rows) or in the lowest "
+        Option("--bits", "where the first pixel of a byte is, the leftmost or the topmost: in the highest bit (msb, the default "
+                         "of rows) or in the lowest "
                "(lsb, that of columns and pages)", outputs=IN_BYTES, choices=ENDS, metavar="END"),
-        Option("--align", "the bits that a row or a column leaves over come after its pixels (left, the default) or before them (right)",
+        Option("--align", "the bits that a row or a column leaves over come after its pixels (left, the default) or before them "
+                          "(right)",
                outputs=("c", "raw"), choices=SIDES, metavar="SIDE"),
         Option("--attribute", "the attribute of the arrays in C, such as PROGMEM", outputs=("c",), metavar="WORD"),
         Option("--dense", "number the characters without gaps from the first on, so that no entry is empty",
                outputs=("gfx",), action="store_true"),
         Option("--padding", "clear pixels on each side of a glyph in the picture", outputs=("fnt",), type=int, metavar="N"),
-        Option("--preview", "print a text on the terminal, or write a picture of it with -o FILE.png, and no strike", outputs=(TERMINAL, PICTURE, SHEET),
+        Option("--preview", "print a text on the terminal, or write a picture of it with -o FILE.png, and no strike",
+               outputs=(TERMINAL, PICTURE, SHEET),
                metavar="TEXT"),
         Option("--name", "the name in the files, and of the files, if it can be one; else that of the font's file", outputs=FILES),
         Option("--x11", "add the properties that X11 and fontconfig look for, and without --name the font's long name",
                outputs=(*WITH_PROPERTIES, "psf"), action="store_true"),
         Option("--property", "add a property", outputs=WITH_PROPERTIES, action="append", metavar="KEY=VALUE"),
-        Option("--scale", "the side of a pixel's square in pictures", outputs=(*formats.PICTURES, PICTURE, SHEET, DIFF), advice="; twice the size is --size",
+        Option("--scale", "the side of a pixel's square in pictures", outputs=(*formats.PICTURES, PICTURE, SHEET, DIFF),
+               advice="; twice the size is --size",
                type=int, metavar="N"),
         Option("--columns", "glyphs in a row of a picture", outputs=formats.PICTURES, type=int, metavar="N")),
     "what else it does": (
-        Option("--sheet", "one picture of a text at sizes, as 8-24: each with its cell and the letters that fall apart, with drop-out control and without; "
+        Option("--sheet", "one picture of a text at sizes, as 8-24: each with its cell and the letters that fall apart, with "
+                          "drop-out control and without; "
                "the text is that of --preview", inputs=(FONT,), outputs=(SHEET,), metavar="N,.."),
-        Option("--list", "print what is in the font: characters, glyph numbers and names, and with --size their metrics", outputs=(LIST,),
+        Option("--list", "print what is in the font: characters, glyph numbers and names, and with --size their metrics",
+               outputs=(LIST,),
                action="store_true"),
         Option("--json", "the list as JSON", outputs=(LIST,), action="store_true"),
-        Option("--diff", "compare two strikes, an old one and a new one: the characters that differ, drawn beside each other, with -o in a picture; "
+        Option("--diff", "compare two strikes, an old one and a new one: the characters that differ, drawn beside each other, "
+                         "with -o in a picture; "
                "the status is 1 if any does", outputs=(DIFF,), action="store_true")),
     "what goes wrong": (
         Option("--require", "a character that is missing refuses the strike", action="store_true"),

@@ -14,7 +14,8 @@ NO_KERNING = "BDF has no kerning, nor have the formats that strike writes"
 CELLS = "--cell WxH makes cells, and --fit WxH takes the largest size for them"
 # By their words: of otf2bdf, lv_font_conv, fontconvert, bdfconv, grub-mkfont, font_to_py, FreeType's programs.
 WORDS = {
-    **{"--" + it: "--format %s makes that" % it for it in ("bdf", "png", "pbm", "c", "gfx", "lvgl", "raw", "fnt", "py", "psf", "pcf", "otb")},
+    **{"--" + it: "--format %s makes that" % it for it in ("bdf", "png", "pbm", "c", "gfx", "lvgl", "raw", "fnt", "py", "psf",
+                                                           "pcf", "otb")},
     **dict.fromkeys(("--bold", "--italic", "--oblique", "-b", "--slant"), STYLE),
     **dict.fromkeys(("--pt", "--points", "--dpi", "--resolution", "--point-size", "-p"), POINTS),
     "-r": RANGE + "; for a resolution: " + POINTS,
@@ -25,7 +26,8 @@ WORDS = {
                     "strikes are hinted by the font's programs if --unhinted is not given"),
     **dict.fromkeys(("--no-hinting", "--no-hint", "--autohint-off", "--no-autohint"), "--unhinted does that"),
     **dict.fromkeys(("--antialias", "--gray", "--grey", "--no-bitmap", "--lcd", "--lcd-v"), ONE_BIT),
-    **dict.fromkeys(("--encoding", "--charset", "--map", "-m"), "--set takes sets of characters by name, --order a set for raw cells"),
+    **dict.fromkeys(("--encoding", "--charset", "--map", "-m"),
+                    "--set takes sets of characters by name, --order a set for raw cells"),
     **dict.fromkeys(("--width", "--mono", "--monospace", "--fixed"), CELLS),
     "-f": CELLS + "; --format NAME says what is written",
     **dict.fromkeys(("--kerning", "--no-kerning", "--force-fast-kern-format", "--kern"), NO_KERNING),
@@ -36,7 +38,8 @@ WORDS = {
     **dict.fromkeys(("--output", "--output-file"), "-o FILE writes one file"),
     **dict.fromkeys(("--lv-font-name", "--font-name", "-n"), "--name is the name in the files"),
     **dict.fromkeys(("--foundry", "--family", "--copyright"), "--property KEY=VALUE adds a property"),
-    "-s": "--size N is the size in pixels per em", "-c": "--cell WxH makes cells of one advance; --text FILE takes the characters of a text",
+    "-s": "--size N is the size in pixels per em",
+    "-c": "--cell WxH makes cells of one advance; --text FILE takes the characters of a text",
     "--weight": "--axes wght=700 is an instance of a variable font", "--bpp": ONE_BIT + ": fonts for LVGL have bpp 1",
     **dict.fromkeys(("--vertical", "--vpack", "--hpack", "--msb-first", "--xmap", "--reverse", "-x"), LAYOUT),
     "--merge": "fonts of one strike come after --font each: strike --font A.ttf --chars ascii --font B.ttf -o FILE",

@@ -32,7 +32,8 @@ class Strike(Glyphs):
     - `unhinted`: from each character that was refused, and drawn without hinting, to its refusal
     - `outside`: from each character that left its cell to how far (see `cell`)
     - `names`: what its font calls itself, from which `with_properties` makes the long name of X11; None if it has a name of its own
-    - `underline`: where the upper edge of an underline is, in rows above the baseline, and how many rows it has; None if nothing says
+    - `underline`: where the upper edge of an underline is, in rows above the baseline, and how many rows it has; None if nothing
+      says
     - `notes`: what else there is to know of it, a line each, as that no pixel is set
     - `strays`, `steps`: what the font's programs did, if the strike was made here, else 0
     """
@@ -42,8 +43,8 @@ class Strike(Glyphs):
                  outside: Mapping[str, Outside] | None = None, names: Names | None = None, notes: tuple[str, ...] = (),
                  underline: tuple[int, int] | None = None, strays: int = 0, steps: int = 0, is_own: bool = False,
                  given: Mapping[str, bdf.Value] | None = None) -> None:
-        """A strike of its text, with what is known of it: its size and how many glyphs it has are read if they are not. `is_own` says that
-        this package or the program wrote the text (see `bdf.parse`), `given` which properties its user gave."""
+        """A strike of its text, with what is known of it: its size and how many glyphs it has are read if they are not. `is_own`
+        says that this package or the program wrote the text (see `bdf.parse`), `given` which properties its user gave."""
         self._text = text if isinstance(text, bytes) else None
         self._parsed = None if isinstance(text, bytes) else text
         self._is_own, self._size, self._count = is_own, size, count
@@ -110,7 +111,8 @@ class Strike(Glyphs):
 
     @property
     def underline(self) -> tuple[int, int] | None:
-        """Where the upper edge of an underline is, in rows above the baseline, and how many rows it has: by the properties of X11, or the font."""
+        """Where the upper edge of an underline is, in rows above the baseline, and how many rows it has: by the properties of X11,
+        or the font."""
         position, thickness = (self.parsed().properties.get("UNDERLINE_" + name) for name in ("POSITION", "THICKNESS"))
         return (-position, thickness) if isinstance(position, int) and isinstance(thickness, int) else self._underline
 

@@ -1,4 +1,5 @@
-"""The tables of a font's file, as far as this package reads them: names, axes, the underline, sizes of bitmaps. A damaged table says nothing."""
+"""The tables of a font's file, as far as this package reads them: names, axes, the underline, sizes of bitmaps. A damaged table
+says nothing."""
 from __future__ import annotations
 
 import struct
@@ -57,7 +58,8 @@ def axes(data: bytes, face: int) -> dict[str, Axis]:
 
 
 def underline(data: bytes, face: int, size: int) -> tuple[int, int] | None:
-    """Where the upper edge of an underline is, in rows above the baseline, and how many rows it has, by the tables `post` and `head`."""
+    """Where the upper edge of an underline is, in rows above the baseline, and how many rows it has, by the tables `post` and
+    `head`."""
     (em,) = numbers(">H", table(data, face, b"head"), 18) or (0,)
     position, thickness = numbers(">hh", table(data, face, b"post"), 8) or (0, 0)
     if em == 0 or thickness <= 0:

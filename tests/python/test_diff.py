@@ -17,7 +17,8 @@ def drawn(picture, **more):
     return mkstrike.Glyph.drawn(picture, **{"advance": 3, **more})
 
 
-@pytest.mark.parametrize("other", [drawn("#.\n.#"), drawn("##\n##"), drawn("#.\n##", left=1), drawn("#.\n##", bottom=-1), drawn("#.\n##", advance=4), drawn(".", advance=3)])
+@pytest.mark.parametrize("other", [drawn("#.\n.#"), drawn("##\n##"), drawn("#.\n##", left=1), drawn("#.\n##", bottom=-1),
+                                   drawn("#.\n##", advance=4), drawn(".", advance=3)])
 def test_what_changes(other):
     """Pixels, place and advance."""
     found = strike(a=STEP, b=STEP).diff(strike(a=STEP, b=other))
@@ -46,7 +47,8 @@ def test_characters_of_one():
 
 
 def test_lines():
-    """Two strikes of cells: the line's numbers, and the pictures beside each other, on one baseline, from the pen to the advance."""
+    """Two strikes of cells: the line's numbers, and the pictures beside each other, on one baseline, from the pen to the
+    advance."""
     old, new = strike(a=drawn("#.\n##", bottom=-1)).cell(3, 8,
                       ascent=6), strike(a=drawn("#.\n##", left=-1, advance=4)).cell(4, 9, ascent=6)
     found = old.diff(new)

@@ -55,7 +55,8 @@ def drawn(char, common, pictures):
 
 
 @needs_font(SANS, MONO)
-@pytest.mark.parametrize("path, size, chars, padding", [(SANS, 16, "latin-1", 0), (SANS, 16, "20-7e,20ac,1f600", 2), (MONO, 60, "latin-1", 0),
+@pytest.mark.parametrize("path, size, chars, padding", [(SANS, 16, "latin-1", 0), (SANS, 16, "20-7e,20ac,1f600", 2),
+                                                        (MONO, 60, "latin-1", 0),
                                                         (SANS, 200, "latin-1", 3), (SANS, 16, "20", 1)])
 def test_read_by_its_document(tmp_path, path, size, chars, padding):
     """Each glyph is found in its picture, alone, and comes to its place."""
@@ -94,8 +95,8 @@ def test_read_by_its_document(tmp_path, path, size, chars, padding):
 @needs_font(SANS)
 @pytest.mark.parametrize("chars, side", [("20", (64, 1)), ("49", (64, 16)), ("41-5a", (128, 64)), ("ascii", (128, 128))])
 def test_smallest_picture(tmp_path, chars, side):
-    """One picture is as small as the glyphs allow, its sides powers of two: 26 capitals of 12 rows need six shelves of 64 columns, which is too
-    high for a square, and three of 128."""
+    """One picture is as small as the glyphs allow, its sides powers of two: 26 capitals of 12 rows need six shelves of 64 columns,
+    which is too high for a square, and three of 128."""
     mkstrike.Font(SANS).strike(16, chars).save(tmp_path / "game.fnt")
     (common,) = read(tmp_path)["common"]
     assert (int(common["scaleW"]), int(common["scaleH"])) == side

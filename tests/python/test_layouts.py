@@ -20,7 +20,8 @@ CELL = """\
 ..........
 ..........
 .........#"""
-LINES = ["STARTFONT 2.1", "FONT small", "SIZE 9 72 72", "FONTBOUNDINGBOX 10 9 0 0", "STARTPROPERTIES 2", "FONT_ASCENT 9", "FONT_DESCENT 0",
+LINES = ["STARTFONT 2.1", "FONT small", "SIZE 9 72 72", "FONTBOUNDINGBOX 10 9 0 0", "STARTPROPERTIES 2", "FONT_ASCENT 9",
+         "FONT_DESCENT 0",
          "ENDPROPERTIES", "CHARS 0", "ENDFONT", ""]
 SMALL = mkstrike.Strike("\n".join(LINES).encode()).replace({"A": mkstrike.Glyph.drawn(CELL)})
 LAYOUTS = [(by, bits, align) for by in ("rows", "columns", "pages") for bits in ("msb", "lsb") for align in ("left", "right")]
@@ -74,8 +75,9 @@ def test_wrong_words(form, name, value):
 # ---- readers
 
 def ram(data, width, height, by):
-    """The pixels of a display's memory with a bank of eight rows a byte, bit D0 at the top, as the data sheets of SSD1306 and PCD8544 draw it. A byte
-    goes to the next column, and after the last to the next bank; in vertical addressing to the next bank, and after the last to the next column."""
+    """The pixels of a display's memory with a bank of eight rows a byte, bit D0 at the top, as the data sheets of SSD1306 and
+    PCD8544 draw it. A byte goes to the next column, and after the last to the next bank; in vertical addressing to the next bank,
+    and after the last to the next column."""
     banks = (height + 7) // 8
     places = [(bank, x) for bank in range(banks) for x in range(width)] if by == "pages" else [(bank, x)
                for x in range(width) for bank in range(banks)]
@@ -138,7 +140,8 @@ static void draw(unsigned k, int x, int y) {
                 set(x + small_LEFT + column, y - small_ASCENT + 1 + row);
 }
 """
-BITS = {"rows": "small_rows[k][row * small_STRIDE + column / 8] >> column % 8", "columns": "small_columns[k][column * small_STRIDE + row / 8] >> row % 8",
+BITS = {"rows": "small_rows[k][row * small_STRIDE + column / 8] >> column % 8",
+        "columns": "small_columns[k][column * small_STRIDE + row / 8] >> row % 8",
         "pages": "small_pages[k][row / 8 * small_WIDTH + column] >> row % 8"}
 
 
@@ -173,7 +176,8 @@ def test_program_memory(tmp_path):
         assert [it for it in (".a", ".A") if " %s " % it in said] == ([section] if section else [])
 
 
-@pytest.mark.parametrize("attribute", ["PROGMEM = {0}; int x[1]", "a b", "1a", "x(\n)", "x;", "x{}", "*/", "/**/", "#", "x(", "x)", "x(){", "x(/* */)"])
+@pytest.mark.parametrize("attribute", ["PROGMEM = {0}; int x[1]", "a b", "1a", "x(\n)", "x;", "x{}", "*/", "/**/", "#", "x(", "x)",
+                                       "x(){", "x(/* */)"])
 def test_wrong_attributes(attribute):
     with pytest.raises(ValueError, match="^attribute is a word of C such as PROGMEM"):
         SMALL.encode("c", attribute=attribute)

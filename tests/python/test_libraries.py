@@ -89,16 +89,19 @@ def test_underline_of_fonts(path, size):
     em = font["head"].unitsPerEm
     due = round(font["post"].underlinePosition * size / em), max(round(font["post"].underlineThickness * size / em), 1)
     strike = mkstrike.Font(path).strike(size, "41-43", name="other", x11=True)
-    for it in (strike, strike.subset("41"), strike.cell(20, 40), mkstrike.merge([strike, SMALL]) if size == 9 else strike, strike.with_properties({"A": 1})):
+    for it in (strike, strike.subset("41"), strike.cell(20, 40), mkstrike.merge([strike, SMALL]) if size == 9 else strike,
+               strike.with_properties({"A": 1})):
         assert it.underline == due
         text = it.encode("lvgl").decode()
         assert ", .underline_position = %d, .underline_thickness = %d, .dsc = &" % due in text
 
 
 def test_underline_of_other_strikes():
-    """The properties of X11 have rows below the baseline. A strike that says nothing has no field, nor has one that LVGL's can't hold."""
+    """The properties of X11 have rows below the baseline. A strike that says nothing has no field, nor has one that LVGL's can't
+    hold."""
     assert SMALL.underline is None and "underline" not in SMALL.encode("lvgl").decode()
-    for position, thickness, due in ((2, 1, (-2, 1)), (-3, 2, (3, 2)), (128, 127, (-128, 127)), (129, 1, None), (-128, 1, None), (1, 128, None), (1, 0, None),
+    for position, thickness, due in ((2, 1, (-2, 1)), (-3, 2, (3, 2)), (128, 127, (-128, 127)), (129, 1, None), (-128, 1, None),
+                                     (1, 128, None), (1, 0, None),
                                      ("x", 1, None), (1, "x", None)):
         strike = SMALL.with_properties({"UNDERLINE_POSITION": position, "UNDERLINE_THICKNESS": thickness})
         text = strike.encode("lvgl").decode()

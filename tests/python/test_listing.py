@@ -16,7 +16,8 @@ def font_with(post):
 
 
 def post_of(version, places=(), strings=b"", count=None):
-    return struct.pack(">I28x", version) + struct.pack(">H%dH" % len(places), len(places) if count is None else count, *places) + strings
+    return struct.pack(">I28x", version) + struct.pack(">H%dH" % len(places), len(places) if count is None else count,
+                                                       *places) + strings
 
 
 @pytest.mark.parametrize("post, count, due", [

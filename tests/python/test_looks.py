@@ -30,9 +30,11 @@ def test_parts_of_letters(path, chars):
 
 
 @needs_font(MONO, LIBERATION)
-@pytest.mark.parametrize("path, sizes, counts", [(LIBERATION, (8, 10, 12, 14, 16), (41, 10, 14, 16, 17)), (MONO, (8, 10, 12, 14, 16), (0, 2, 6, 1, 2))])
+@pytest.mark.parametrize("path, sizes, counts", [(LIBERATION, (8, 10, 12, 14, 16), (41, 10, 14, 16, 17)),
+                                                 (MONO, (8, 10, 12, 14, 16), (0, 2, 6, 1, 2))])
 def test_letters_that_fall_apart(path, sizes, counts):
-    """Of the 62 letters and digits; drop-out control leaves none. What it names has a row or a column without a pixel, or more parts."""
+    """Of the 62 letters and digits; drop-out control leaves none. What it names has a row or a column without a pixel, or more
+    parts."""
     font = mkstrike.Font(path)
     found = font.looks(sizes)
     assert tuple(len(it.apart_without) for it in found) == counts and {
@@ -67,7 +69,8 @@ def test_blank_letters_fall_apart():
             return self
 
         def glyphs(self, codes):
-            return {char: Glyph.drawn(by_size[self.size > 100]) for char, by_size in (("a", (".", "#")), (" ", (".", ".")), ("i", ("#.#", "#.#")), ("l", ("#.#", "#")))}
+            return {char: Glyph.drawn(by_size[self.size > 100]) for char,
+                    by_size in (("a", (".", "#")), (" ", (".", ".")), ("i", ("#.#", "#.#")), ("l", ("#.#", "#")))}
 
         def heights(self, size):
             return 5, 2, 9
@@ -114,8 +117,8 @@ def test_sizes_for_rows(path, rows, how):
 
 @needs_font(SANS)
 def test_sizes_by_hand():
-    """DejaVu Sans: ascender 1901, descender 483, H of 1493 units, of 2048 an em. At 13 pixels a line has 12 and 3 rows, at 14 13 and 3, at 15 14
-    and 4; an H 10, 10 and 11 rows."""
+    """DejaVu Sans: ascender 1901, descender 483, H of 1493 units, of 2048 an em. At 13 pixels a line has 12 and 3 rows, at 14 13
+    and 3, at 15 14 and 4; an H 10, 10 and 11 rows."""
     font = mkstrike.Font(SANS)
     assert [font.size_for(height=it) for it in (15, 16, 17, 18)] == [13, 14, 14, 15]
     assert [font.size_for(cap_height=it, hinted=False) for it in (9, 10, 11)] == [13, 14, 15]
@@ -137,13 +140,16 @@ def test_limits_of_sizes():
         largest(5, 0, lambda size: 6)
 
 
-@pytest.mark.parametrize("text, due", [("12pt@96", 16), ("12pt@72", 12), ("10.5pt@96", 14), ("8pt@100", 11), ("9pt@100dpi", 13), ("9pt@141", 18), ("7pt@75", 7)])
+@pytest.mark.parametrize("text, due", [("12pt@96", 16), ("12pt@72", 12), ("10.5pt@96", 14), ("8pt@100", 11), ("9pt@100dpi", 13),
+                                       ("9pt@141", 18), ("7pt@75", 7)])
 def test_points(text, due):
-    """Points times the resolution, divided by 72, rounded: 8 * 100 / 72 is 11.1, 9 * 100 / 72 12.5, 9 * 141 / 72 17.6, 7 * 75 / 72 7.3."""
+    """Points times the resolution, divided by 72, rounded: 8 * 100 / 72 is 11.1, 9 * 100 / 72 12.5, 9 * 141 / 72 17.6, 7 * 75 / 72
+    7.3."""
     assert points(text) == due
 
 
-@pytest.mark.parametrize("text", ["12pt", "12", "12pt@", "pt@96", "12pt@96x", "12 pt@96", "-12pt@96", "12pt@9.6", "1.pt@96", "\u0661pt@96"])
+@pytest.mark.parametrize("text", ["12pt", "12", "12pt@", "pt@96", "12pt@96x", "12 pt@96", "-12pt@96", "12pt@9.6", "1.pt@96",
+                                  "\u0661pt@96"])
 def test_wrong_points(text):
     with pytest.raises(ValueError, match="^points are given with the resolution in dots an inch, as 12pt@96, not '%s'$" % re.escape(text)):
         points(text)

@@ -24,8 +24,9 @@ def imported(folder, strike, **options):
 
 
 def drawn(module, char):
-    """The pixels of a character, counted from the left end of the module's glyph and from the baseline: a row after the other if hmap(), else a
-    column after the other; the first pixel is the highest bit of a row's byte and the lowest of a column's, and the other way if reverse()."""
+    """The pixels of a character, counted from the left end of the module's glyph and from the baseline: a row after the other if
+    hmap(), else a column after the other; the first pixel is the highest bit of a row's byte and the lowest of a column's, and the
+    other way if reverse()."""
     data, height, width = module.get_ch(char)
     assert isinstance(data, memoryview) and height == module.height()
     first, second = (width, height) if module.hmap() else (height, width)
@@ -42,9 +43,12 @@ def drawn(module, char):
 
 
 @needs_font(SANS, MONO)
-@pytest.mark.parametrize("options, hmap, reverse", [({}, True, False), ({"bytes": "rows", "bits": "lsb"}, True, True), ({"bytes": "columns"}, False, False),
-                                                    ({"bytes": "columns", "bits": "lsb"}, False, False), ({"bytes": "columns", "bits": "msb"}, False, True)])
-@pytest.mark.parametrize("path, size, chars", [(SANS, 20, "latin-1,20ac,1f600"), (MONO, 16, "ascii"), (MONO, 12, "41"), (SANS, 9, "20,42,44,46-48")])
+@pytest.mark.parametrize("options, hmap, reverse", [({}, True, False), ({"bytes": "rows", "bits": "lsb"}, True, True),
+                                                    ({"bytes": "columns"}, False, False),
+                                                    ({"bytes": "columns", "bits": "lsb"}, False, False),
+                                                    ({"bytes": "columns", "bits": "msb"}, False, True)])
+@pytest.mark.parametrize("path, size, chars", [(SANS, 20, "latin-1,20ac,1f600"), (MONO, 16, "ascii"), (MONO, 12, "41"),
+                                               (SANS, 9, "20,42,44,46-48")])
 def test_drawn(tmp_path, path, size, chars, options, hmap, reverse):
     """Every character is its glyph; what begins left of the pen or ends right of the advance is moved, and told."""
     strike = mkstrike.Font(path).strike(size, chars)
@@ -77,7 +81,8 @@ def test_other_characters(tmp_path, chars, shown):
 
 @needs_font(SANS)
 def test_text(tmp_path):
-    """The module defines the functions of the interface, and uses nothing that MicroPython lacks: no import, no call but of bytes in a view."""
+    """The module defines the functions of the interface, and uses nothing that MicroPython lacks: no import, no call but of bytes
+    in a view."""
     imported(tmp_path, mkstrike.Font(SANS).strike(16, "ascii"))
     tree = ast.parse((tmp_path / "font.py").read_text())
     defined = {it.name for it in tree.body if isinstance(it, ast.FunctionDef)}
@@ -92,7 +97,8 @@ def test_text(tmp_path):
 def test_limits(tmp_path):
     """What a module can't have is said; a hostile name stays in its comment."""
     strike = mkstrike.Font(SANS).strike(16, "41")
-    for given, options, match in ((strike, {"bytes": "pages"}, "by rows or by columns, not by pages"), (strike, {"bytes": "x"}, "^bytes is rows or columns or pages"),
+    for given, options, match in ((strike, {"bytes": "pages"}, "by rows or by columns, not by pages"),
+                                  (strike, {"bytes": "x"}, "^bytes is rows or columns or pages"),
                                   (strike.subset("42"), {}, "the strike has no glyph")):
         with pytest.raises(ValueError, match=match):
             given.save(tmp_path / "font.py", **options)

@@ -1,4 +1,5 @@
-"""What `strike` does beside strikes: sheets of sizes, lists, strikes compared; sizes by rows and points; glyphs without a character; bytes."""
+"""What `strike` does beside strikes: sheets of sizes, lists, strikes compared; sizes by rows and points; glyphs without a
+character; bytes."""
 import json
 
 import pytest
@@ -23,7 +24,8 @@ def run(folder, *words, status=0):
     (["--size", "12pt@96"], 16, "16 pixels per em: 12pt@96"), (["--size", "9pt@100"], 13, "13 pixels per em: 9pt@100"),
     (["--height", "16"], 14, "14 pixels per em: a line has 16 rows"), (["--height", "17"],
      14, "14 pixels per em: a line has 16 rows, and 18 at 15"),
-    (["--cap-height", "9"], 13, "13 pixels per em: a capital H has 9 rows"), (["--cap-height", "9", "--unhinted"], 13, "13 pixels per em: a capital H has 9 rows")])
+    (["--cap-height", "9"], 13, "13 pixels per em: a capital H has 9 rows"),
+    (["--cap-height", "9", "--unhinted"], 13, "13 pixels per em: a capital H has 9 rows")])
 def test_sizes(tmp_path, words, size, said):
     """Sizes by points and by rows are computed, and told."""
     out, err = run(tmp_path, MONO, "--chars", "41,48", *words)
@@ -47,15 +49,19 @@ def test_sizes_of_several(tmp_path):
 
 
 @pytest.mark.parametrize("words, said", [
-    (["--size", "12pt"], "points are given with the resolution in dots an inch, as 12pt@96, not '12pt'"), (["--size", "12pt@"], "as 12pt@96"),
+    (["--size", "12pt"], "points are given with the resolution in dots an inch, as 12pt@96, not '12pt'"),
+    (["--size", "12pt@"], "as 12pt@96"),
     (["--size", "9", "--height", "9"], "--size, --height and --cap-height say the size: give one of them"),
-    (["--cap-height", "9", "--height", "9"], "say the size: give one of them"), (["--fit", "8x16", "--height", "9"], "leave --height out"),
-    (["--fit", "8x16", "--cap-height", "9"], "leave --cap-height out"), (["--height", "x"], "invalid int value"), (["--size", "a-b"], "as 12pt@96")])
+    (["--cap-height", "9", "--height", "9"], "say the size: give one of them"),
+    (["--fit", "8x16", "--height", "9"], "leave --height out"),
+    (["--fit", "8x16", "--cap-height", "9"], "leave --cap-height out"), (["--height", "x"], "invalid int value"),
+    (["--size", "a-b"], "as 12pt@96")])
 def test_wrong_sizes(tmp_path, words, said):
     assert said in run(tmp_path, MONO, *words, status=2)[1]
 
 
-@pytest.mark.parametrize("words, said", [(["--height", "0"], "there are no 0 rows"), (["--cap-height", "-2"], "there are no -2 rows")])
+@pytest.mark.parametrize("words, said", [(["--height", "0"], "there are no 0 rows"),
+                                         (["--cap-height", "-2"], "there are no -2 rows")])
 def test_sizes_that_are_not_there(tmp_path, words, said):
     assert said in run(tmp_path, MONO, *words, status=1)[1]
 
@@ -79,8 +85,10 @@ def test_glyphs(tmp_path):
     assert list(font.strike(16, "41", glyphs={"\ue000": "l.alt"})) == ["A", "\ue000"]
 
 
-@pytest.mark.parametrize("given, said", [("A", "--glyph takes a glyph by name or number, and a character, as A.alt=e000, not 'A'"), ("A=", "not 'A='"), ("=e000", "not '=e000'"),
-                                         ("A=xyz", "not 'A=xyz'"), ("A=e000-e001", "not 'A=e000-e001'"), ("A=ascii", "not 'A=ascii'"), ("A=e000,B=e000", "--glyph gives U+E000 two glyphs")])
+@pytest.mark.parametrize("given, said", [("A", "--glyph takes a glyph by name or number, and a character, as A.alt=e000, not 'A'"),
+                                         ("A=", "not 'A='"), ("=e000", "not '=e000'"),
+                                         ("A=xyz", "not 'A=xyz'"), ("A=e000-e001", "not 'A=e000-e001'"),
+                                         ("A=ascii", "not 'A=ascii'"), ("A=e000,B=e000", "--glyph gives U+E000 two glyphs")])
 def test_wrong_glyphs(tmp_path, given, said):
     assert said in run(tmp_path, SANS, "--glyph", given, status=2)[1]
 
@@ -115,7 +123,8 @@ def test_sheet(tmp_path):
      MONO, "--sheet", "8"], "--sheet takes one FONT"),
     ([SANS, "--sheet", "8", "--scale", "0"], "--scale is 1 or more"), (["--font",
      SANS, "--font", MONO, "--sheet", "8"], "--font is for files"),
-    ([SANS, "--sheet", "8", "--list"], "--sheet and --list do two things"), ([SANS, "--sheet", "8", "--size", "9"], "--size is for files"),
+    ([SANS, "--sheet", "8", "--list"], "--sheet and --list do two things"),
+    ([SANS, "--sheet", "8", "--size", "9"], "--size is for files"),
     ([SANS, "--list", "--chars", "41"], "--chars is for files, not for --list"), ([SANS, "--json"],
      "--json is for --list"), ([SANS, MONO, "--list"], "--list takes one FONT"),
     ([SANS, "--list", "--size", "9,10"], "--list takes one --size"), ([SANS, "--list",
@@ -177,7 +186,8 @@ def test_diff_with_a_font(tmp_path):
     assert run(tmp_path, "--diff", MONO, MONO, "--chars", "ascii", "--size", "30")[0] == "95 glyphs are the same\n"
 
 
-@pytest.mark.parametrize("output, said", [("old.bdf", "old.bdf is read here, and would be replaced"), ("a.gif", "a.gif: the ending says no format"),
+@pytest.mark.parametrize("output, said", [("old.bdf", "old.bdf is read here, and would be replaced"),
+                                          ("a.gif", "a.gif: the ending says no format"),
                                           ("a.h", "a.h is no name of a picture: give it the ending .png or .pbm")])
 def test_wrong_pictures(tmp_path, output, said):
     mkstrike.Font(MONO).strike(10, "41-42").save(tmp_path / "old.bdf")
@@ -196,14 +206,16 @@ def test_what_can_not_be_read(tmp_path):
 @needs_pillow
 def test_forms(tmp_path):
     """Options of forms reach them; a module has a name that Python can import; each file is named."""
-    out, _ = run(tmp_path, MONO, "--size", "13", "--chars", "41,43", "--cell", "9x17", "--format", "c,raw,py,fnt,gfx", "--bytes", "columns", "--bits", "msb",
+    out, _ = run(tmp_path, MONO, "--size", "13", "--chars", "41,43", "--cell", "9x17", "--format", "c,raw,py,fnt,gfx", "--bytes",
+                 "columns", "--bits", "msb",
                  "--align", "right", "--attribute", "PROGMEM", "--padding", "2", "--dense")
     assert out == "./DejaVuSansMono-13.h ./DejaVuSansMono-13.raw ./DejaVuSansMono_13.py ./DejaVuSansMono-13.fnt ./DejaVuSansMono-13_0.png " \
         "./DejaVuSansMono-13-gfx.h: 2 glyphs\n"
     strike = mkstrike.Font(MONO).strike(13, "41,43", name="DejaVuSansMono").cell(9, 17)
     strike.names = mkstrike.Font(MONO).names
     layout = {"bytes": "columns", "bits": "msb"}
-    due = {".h": strike.encode("c", name="DejaVuSansMono_13", attribute="PROGMEM", align="right", **layout), ".raw": strike.encode("raw", align="right", **layout),
+    due = {".h": strike.encode("c", name="DejaVuSansMono_13", attribute="PROGMEM", align="right", **layout),
+           ".raw": strike.encode("raw", align="right", **layout),
            "-gfx.h": strike.encode("gfx", name="DejaVuSansMono_13_gfx", dense=True)}
     for ending, data in due.items():
         assert (tmp_path / ("DejaVuSansMono-13" + ending)).read_bytes().replace(b"_gfx", b"") == data.replace(b"_gfx", b""), ending

@@ -19,16 +19,19 @@ CELLS = ["--cell", "8x14"]  # in which some glyphs leave the cell, and raw cells
 WORDS = {
     "chars": ["--chars", "61-63"], "all": ["--all"], "text": ["--text", "text.txt"], "symbol": ["--symbol"],
     "size": ["--size", "13"], "fit": ["--fit", "9x19"],
-    "cell": ["--cell", "7x12"], "ascent": ["--ascent", "11"], "clip": ["--clip"], "join": ["--join"], "wide": ["--wide"], "shift_y": ["--shift-y", "2"],
+    "cell": ["--cell", "7x12"], "ascent": ["--ascent", "11"], "clip": ["--clip"], "join": ["--join"], "wide": ["--wide"],
+    "shift_y": ["--shift-y", "2"],
     "unhinted": ["--unhinted"], "dropout": ["--dropout=off"], "face": ["--face", "1"], "axes": ["--axes", "wght=700"],
     "refused": ["--refused", "unhinted"],
     "out": ["--out", "folder"], "format": ["--format", "pbm"], "order": ["--order", "koi8-r"], "preview": ["--preview", "B2"],
     "name": ["--name", "other"],
     "x11": ["--x11"], "property": ["--property", "FAMILY_NAME=Other"], "scale": ["--scale", "3"], "columns": ["--columns", "5"],
     "output": ["-o", "other"],
-    "bytes": ["--bytes", "columns"], "bits": ["--bits", "lsb"], "align": ["--align", "right"], "attribute": ["--attribute", "PROGMEM"],
+    "bytes": ["--bytes", "columns"], "bits": ["--bits", "lsb"], "align": ["--align", "right"],
+    "attribute": ["--attribute", "PROGMEM"],
     "dense": ["--dense"], "padding": ["--padding", "2"], "glyph": ["--glyph", "B=41"], "height": ["--height", "15"],
-    "cap_height": ["--cap-height", "9"], "sheet": ["--sheet", "8-9"], "list": ["--list"], "json": ["--json"], "diff": ["--diff", "in.bdf"],
+    "cap_height": ["--cap-height", "9"], "sheet": ["--sheet", "8-9"], "list": ["--list"], "json": ["--json"],
+    "diff": ["--diff", "in.bdf"],
     "require": ["--require"], "strict": ["--strict"], "quiet": ["--quiet"], "font": ["--font", "in.bdf"],
 }
 # Options that are in effect already, for these outputs: these formats always have the properties, and a sheet shows no cells.
@@ -74,7 +77,8 @@ def test_pairs(folder, kind, output):
     ignored = []
     asked = [] if output in WITHOUT_CHARS else ["--chars", LETTERS]
     for name, words in WORDS.items():
-        common = asked if name not in ("chars", "all", "text", "fit") else ["--chars", LETTERS] if output not in WITHOUT_CHARS else []
+        common = asked if name not in ("chars", "all", "text", "fit") else ["--chars",
+                                                                            LETTERS] if output not in WITHOUT_CHARS else []
         cells = [] if output not in ("raw", "psf") or name in ("cell", "fit") else CELLS if name == "clip" else [*CELLS, "--clip"]
         before = [*common, *OUTPUTS[output], *(cells or NEEDED.get(name, [])), *BESIDE.get(name, [])]
         if name in ("out", "name"):

@@ -7,8 +7,10 @@ import mkstrike
 from mkstrike.cell import _outside, halved, is_wide
 
 
-@pytest.mark.parametrize("char, due", [("A", False), ("é", False), ("─", False), ("█", False), ("一", True), ("あ", True), ("ｱ", False), ("Ａ", True), ("한", True),
-                                       ("😀", True), ("😐", True), ("☃", False), ("\u3000", True), ("α", False), ("\U00020000", True), ("€", False)])
+@pytest.mark.parametrize("char, due", [("A", False), ("é", False), ("─", False), ("█", False), ("一", True), ("あ", True),
+                                       ("ｱ", False), ("Ａ", True), ("한", True),
+                                       ("😀", True), ("😐", True), ("☃", False), ("\u3000", True), ("α", False), ("\U00020000", True),
+                                       ("€", False)])
 def test_which_are_wide(char, due):
     """Wide and full-width characters; half-width ones, those that are wide in East Asian fonts alone, and all others are not."""
     assert is_wide(ord(char)) == due
@@ -24,7 +26,8 @@ def test_halves(left, columns, width):
     assert (halved(box)[4] <= width) == (box[4] <= 2 * width)
 
 
-GLYPHS = {"A": mkstrike.Glyph.drawn("####\n####"), "一": mkstrike.Glyph.drawn("#########"), "あ": mkstrike.Glyph.drawn("##########\n#........#", left=-1)}
+GLYPHS = {"A": mkstrike.Glyph.drawn("####\n####"), "一": mkstrike.Glyph.drawn("#########"),
+          "あ": mkstrike.Glyph.drawn("##########\n#........#", left=-1)}
 
 
 def test_cells_by_hand():
@@ -41,7 +44,8 @@ def test_cells_by_hand():
 
 @needs_font(MONO)
 def test_fit(tmp_path):
-    """--fit looks at two cells for a wide character: a smiley of DejaVu Sans Mono that is wide does not make the letters smaller."""
+    """--fit looks at two cells for a wide character: a smiley of DejaVu Sans Mono that is wide does not make the letters
+    smaller."""
     font = mkstrike.Font(MONO)
     has = [code for code in font.characters() if is_wide(code)]
     assert has
@@ -55,7 +59,8 @@ def test_fit(tmp_path):
 
 
 @needs_font(MONO)
-@pytest.mark.parametrize("words, said", [(["--wide"], "--wide is for --cell and --fit"), (["--wide", "--cell", "8x16", "--format", "psf"], "--wide is for"),
+@pytest.mark.parametrize("words, said", [(["--wide"], "--wide is for --cell and --fit"),
+                                         (["--wide", "--cell", "8x16", "--format", "psf"], "--wide is for"),
                                          (["--wide", "--cell", "8x16", "--format", "raw"], "not for raw")])
 def test_what_has_no_wide_cells(tmp_path, words, said):
     status, _, err = run_in_process([MONO, *words], tmp_path)
