@@ -42,7 +42,7 @@ impl Tool for Mkstrike {
 
     ghost Ran = { Runs };
 
-    ghost learned = { λ m. m.watch.facts };
+    ghost learned = { λ facts. facts };
 
     fn run<R: Source, O: Sink, E: Sink>(
         &mut self,
