@@ -1,14 +1,18 @@
-# What each target needs and takes is in README.md (make test, make gate) and CONTRIBUTING.md (the others).
-.PHONY: all test gate dist packages planted
+# What each target needs and takes is in README.md (make test, make test-long, make gate) and CONTRIBUTING.md (the others).
+.PHONY: all test test-long gate dist packages planted
 
 # proves what changed in the program's crates, and builds crates/mkstrike/out/mkstrike
 all:
 	cd crates/mkstrike && rt all check --jobs $$(../../tools/gate_time lanes)
 	cd crates/mkstrike && rt run <stdin >/dev/null
 
-# all that needs no kit: the program of dist/, its library, the packages' code and the page
+# all that needs no kit: rules, documents, packages, the suite, the program of dist/, the library in C, Python and the page
 test:
-	tools/run_checks program
+	tools/run_checks --stale sources program
+
+# the rest that needs none, which takes long: fuzzing, damaged fonts, and whether the checks find what is wrong
+test-long:
+	tools/run_checks long
 
 # what a change has to pass
 gate:

@@ -1,4 +1,4 @@
-"""Makes web/sample.ttf, the font that the page begins with: ASCII drawn with one pen, and programs that round strokes to pixels.
+"""Makes examples/sample.ttf, the font that the page begins with: ASCII drawn with one pen, and programs that round strokes to pixels.
 
 A glyph is a path of strokes: M begins one, L goes on in a line, Q on an arc. A step across is 50 units of 1000 to the em. Heights are 0
 for the baseline, 10 for small letters, 14 for capitals, -4 below; the middle of the pen goes there.
@@ -6,7 +6,7 @@ for the baseline, 10 for small letters, 14 for capitals, -4 below; the middle of
 import math
 import re
 
-import fonts
+from making import fonts
 
 PEN, STEP, SIDE, UPEM = 88, 50, 55, 1000  # the pen's width, a step across, the space on each side, the em
 HALF = PEN // 2

@@ -10,7 +10,7 @@ import sample_font
 import web_module
 from prebuilt import TOP, Fault
 
-WEB = os.path.join(TOP, "web")
+WEB, SAMPLE = os.path.join(TOP, "web"), os.path.join(TOP, "examples/sample.ttf")
 MODULE, PAGE = web_module.LIBRARY, "mkstrike.html"
 SHARED = ("mkstrike.js", "tables.js", "outputs.js")  # what the page and the worker both need
 ALONE = ("woff.js", "text.js", "page.js")  # what the page needs beside it
@@ -60,7 +60,7 @@ def page_of(module):
     for it in (shared, page, worker):
         if "</script" in it:
             raise Fault("a script of web/ has the end of a script in it")
-    data = [("module", module), ("sample", prebuilt.read(os.path.join(WEB, "sample.ttf")))]
+    data = [("module", module), ("sample", prebuilt.read(SAMPLE))]
     parts = ['<script id="shared">%s</script>' % shared, '<script type="text/plain" id="worker">%s</script>' % worker]
     parts += ['<script type="text/plain" id="%s">%s</script>' % (name, base64.b64encode(it).decode()) for name, it in data]
     parts.append('<script type="module">%s</script>' % page)
@@ -76,12 +76,12 @@ def page_of(module):
 # ---- what is kept
 
 def made_of_others():
-    """The files of web/ that are made of other files: pairs of a path and its bytes."""
-    return [(os.path.join(WEB, "tables.js"), tables()), (os.path.join(WEB, "sample.ttf"), sample_font.sample())]
+    """The table of the page and its sample font, which are made of other files: pairs of a path and its bytes."""
+    return [(os.path.join(WEB, "tables.js"), tables()), (SAMPLE, sample_font.sample())]
 
 
 def put_page(module, say):
-    """Writes the files of web/ that are made, and dist/mkstrike.html."""
+    """Writes the files that are made for the page, and dist/mkstrike.html."""
     for path, data in made_of_others() + [(os.path.join(prebuilt.DIST, PAGE), None)]:
         data = page_of(module) if data is None else data
         if not os.path.exists(path) or prebuilt.read(path) != data:

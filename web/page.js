@@ -696,7 +696,7 @@ function listen() {
   });
   on('file', 'change', () => $('file').files.length && takeFile($('file').files[0]));
   on('face', 'input', () => takeFont(state.font.name, state.font.bytes, Number($('face').value)));
-  on('own', 'click', async () => takeFont('sample.ttf', await bytesOf('sample', 'sample.ttf')));
+  on('own', 'click', async () => takeFont('sample.ttf', await bytesOf('sample', '../examples/sample.ttf')));
   on('sheet-scroll', 'scroll', () => soon(drawSheet));
   on('sheet', 'click', (event) => {
     const { across, down, side, columns } = measureSheet(), scroll = $('sheet-scroll');
@@ -749,7 +749,7 @@ async function start() {
   readAddress();
   startWorker();
   listen();
-  takeFont('sample.ttf', await bytesOf('sample', 'sample.ttf'));
+  takeFont('sample.ttf', await bytesOf('sample', '../examples/sample.ttf'));
 }
 
 start();

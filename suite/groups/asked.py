@@ -1,7 +1,7 @@
 """What a font's programs ask of drop-out control: SCANCTRL's threshold and flags, SCANTYPE's types, in `prep` and in glyphs."""
 from itertools import product
 
-import fonts
+from making import fonts
 from making.assembler import assemble, number
 from making.fontmaker import FontMaker
 from making.suite import APPLE

@@ -1,5 +1,5 @@
 """Composite glyphs: each flag, matrices, matched points, nesting, metrics and programs."""
-import fonts
+from making import fonts
 from making.assembler import assemble
 from making.boxes import fill_boxes
 from making.fontmaker import FontMaker

@@ -1,13 +1,9 @@
-"""Puts fonts together from glyphs, programs and tables. The tables themselves are laid out by tests/lib/fonts.py of the repository."""
-import os
+"""Puts fonts together from glyphs, programs and tables."""
 import struct
-import sys
 
-sys.path.insert(0, os.path.join(os.path.dirname(os.path.realpath(__file__)), "..", "..", "tests", "lib"))
-import fonts  # noqa: E402
-
-from .assembler import assemble  # noqa: E402
-from .charmaps import in_order  # noqa: E402
+from . import fonts
+from .assembler import assemble
+from .charmaps import in_order
 
 UPEM, ASCENDER, DESCENDER = 1024, 800, -224
 FIRST_CHAR = 0xE000  # of the private use area

@@ -9,7 +9,7 @@ from ctypes import POINTER, byref, c_char_p, c_int32, c_size_t, c_uint16, c_uint
 from prebuilt import TOP
 
 sys.path.append(os.path.join(TOP, "python"))
-from mkstrike import Refused, _library  # noqa: E402
+from mkstrike import Refused, _library  # noqa: E402, F401
 
 
 class Point(ctypes.Structure):

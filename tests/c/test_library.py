@@ -22,7 +22,6 @@ from array import array
 from ctypes import byref
 
 import compile_lines
-import fonts
 import prebuilt
 import pytest
 import stack
@@ -30,6 +29,7 @@ from calls import Calls, Refused, _library
 from damage import Damaged
 from due import own_lines
 from made import Empty, Font, Simple
+from making import fonts
 from making import charmaps
 from making.collection import Collection
 from mkstrike import Strike
@@ -181,6 +181,7 @@ class Library:
         """The picture of a character that mkstrike shows."""
         with open(font, "rb") as file:
             return run([self.program, "show", "--ppem", str(ppem), "--char", "%x" % ord(character)], file.read()).stdout
+
 
 def archive_of():
     """The path of the archive; if there is none, and rt would have to prove much for one, all is left out."""
@@ -547,10 +548,9 @@ def test_arm(lib):
     if not os.path.exists(archive):
         pytest.skip("no %s: tools/make_dist --arm makes it" % prebuilt.shown(archive))
     tool(ARM_CC[0])
-    tool(ARM_RUN)
     words = [os.path.join(HERE, "check_c.c"), *BESIDE, archive]
     run(ARM_CC + C + ["-std=c99", "-static", "-pthread"] + words + ["-o", lib.at("check_c_arm")])
-    program = [ARM_RUN, lib.at("check_c_arm")]
+    program = [tool(ARM_RUN), lib.at("check_c_arm")]
     for font in lib.real:
         for ppem, mode, first, last in ((9, HINTED, 0x20, 0x17F), (16, HINTED, 0, 0x24F), (33, NEAR, 0x20, 0x17F),
                                         (16, HINTED + DROPOUT, 0x20, 0x7E)):
@@ -566,7 +566,7 @@ def test_arm(lib):
     run(program + ["threads", font])
     run(ARM_CC + CALLER + ["-static", archive, "-o", lib.at("caller_arm")])
     with open(font, "rb") as file:
-        run([ARM_RUN, lib.at("caller_arm"), *lib.inputs([file.read()], range(16))])
+        run([tool(ARM_RUN), lib.at("caller_arm"), *lib.inputs([file.read()], range(16))])
 
 
 def test_examples(lib):

@@ -147,7 +147,10 @@ def outputs_by_name(it):
         it.equal("-o over an older file, after %s" % what, it.run(words + [SANS, "-o", "a strike.bdf"])[0], due)
     for name, why in (("inner", "it is a folder"), ("none/new.bdf", "no file can be made in its folder")):
         it.equal("-o %s" % name, it.run(MAKE + [SANS, "-o", name])[::2], (1, "mkstrike: can't write '%s': %s\n" % (name, why)))
-    limited = lambda: resource.setrlimit(resource.RLIMIT_FSIZE, (4096, 4096)) or signal.signal(signal.SIGXFSZ, signal.SIG_IGN)
+
+    def limited():
+        resource.setrlimit(resource.RLIMIT_FSIZE, (4096, 4096))
+        signal.signal(signal.SIGXFSZ, signal.SIG_IGN)
     status, _, said = it.run(["make", "--ppem", "16", "--chars", "0-ff", "-o", "a strike.bdf"], SANS, preexec_fn=limited)
     it.equal("-o if the disk takes no more", (status, said.split("\n")[0]), (1, "mkstrike: 70 WriteFailed 4096"))
     it.equal("-o over an older file that is kept", it.read("a strike.bdf"), text)

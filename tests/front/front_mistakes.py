@@ -6,7 +6,7 @@ The input is a file of FILES, SANS for a real font, or bytes. A second line of '
 import collections
 import os
 
-from fonts import FIXTURE, assemble, font_of, map_of, tables_of, wide_map_of, with_tables
+from making.fonts import FIXTURE, assemble, font_of, map_of, tables_of, wide_map_of, with_tables
 
 Mistake = collections.namedtuple("Mistake", "what words given status first second needs_font")
 

@@ -30,7 +30,7 @@ import tempfile
 
 import png
 import prebuilt
-from debian import PACKAGES
+from debian import FONTS, lacking
 from prebuilt import TOP
 from program import python_with
 
@@ -38,7 +38,7 @@ DOCUMENTS = ("README.md", "docs/COOKBOOK.md", "docs/LIBRARY.md", "docs/PYTHON.md
              *sorted(os.path.relpath(it, TOP) for it in glob.glob(os.path.join(glob.escape(TOP), "docs/mkstrike-*.1"))))
 PICTURES = "docs/pictures"
 LONGEST = 300  # seconds that a block may take, on a machine that is busy with proofs too
-FONT = re.compile(r"/usr/share/fonts/[\w./-]+")
+FONT = re.compile(r"/usr/share/fonts/truetype/(\w+)/([\w.-]+)")
 MADE = re.compile(r"(?:(?<!\d)>|-o) *([\w./-]+)")
 COMMENT = re.compile(r"<!-- *(.*?) *-->$", re.DOTALL)
 # runs the programs of the files that are named, and shows only what the last prints
@@ -167,10 +167,10 @@ class Document:
         text = "\n".join(lines)
         for tool in needs + (["strike"] if "python" in block.marks else []):
             if not shutil.which(tool, path=self.tools + os.pathsep + os.environ["PATH"]):
-                return "%s is not installed (Debian: %s)" % (tool, PACKAGES.get(tool, tool))
-        for font in FONT.findall(text):
-            if not os.path.exists(font):
-                return "%s is not installed" % font
+                return lacking(tool)
+        for folder, name in FONT.findall(text):
+            if not os.path.exists(os.path.join("/usr/share/fonts/truetype", folder, name)):
+                return "no %s (Debian: %s)" % (name, FONTS[folder])
         absent = next((name for name in sorted(self.absent) if name in text), None)
         return absent and "%s was left out" % absent
 

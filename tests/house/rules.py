@@ -12,7 +12,7 @@ import re
 from prebuilt import libraries_of_crates, structs_of_header
 
 # What is left of older times: how many findings of a rule there may be. A number here only ever goes down.
-LEFT = {"lines_short": 7, "lemmas_named_once": 1, "twice": 13}
+LEFT = {"lines_short": 7, "lines_of_python": 1100, "lemmas_named_once": 1, "twice": 13}
 
 # The crates below `fx_raster` and the types by which they find pixels: `fx_strike` names none of them.
 RASTER = re.compile(r"\b(fx_winding|fx_rows|fx_dropout|fx_contour|Pieces|Noted|Tally)\b")
@@ -188,6 +188,37 @@ def lines_short(house):
         for number, line in house.lines(path):
             if len(line) > LONGEST and not re.match(r"\s*(pub )?(ghost )?use |\s*#!?\[", line):
                 yield path, number, "%d characters" % len(line)
+
+
+def programs(house, folders="tests suite tools packaging bench python examples"):
+    """The programs and modules in Python."""
+    for path in [path for folder in folders.split() for path in house.paths(folder + "/**/*")]:
+        is_script = "." not in os.path.basename(path) and os.path.isfile(os.path.join(house.top, path))
+        if path.endswith(".py") or is_script and house.text(path).startswith("#!/usr/bin/env python3"):
+            yield path
+
+
+def lines_of_python(house):
+    """No line of Python is longer than 132 characters, as setup.cfg says to flake8 and autopep8.
+
+    Two files side by side stay readable."""
+    length = re.findall(r"^max[-_]line[-_]length = (.*)", house.text("setup.cfg"), re.MULTILINE)
+    if set(length) != {str(LONGEST)}:
+        yield "setup.cfg", 1, "the longest line is %s, not %d" % (length, LONGEST)
+    for path in programs(house):
+        for number, line in house.lines(path):
+            if len(line) > LONGEST:
+                yield path, number, "%d characters" % len(line)
+
+
+def suite_alone(house):
+    """Nothing in suite/ is found by way of tests/ or tools/.
+
+    `git archive HEAD suite` is the suite, which other rasterizers take without this repository."""
+    for path in programs(house, "suite"):
+        for number, line in house.lines(path):
+            if re.search(r"""\.\./t(ests|ools)\b|["']t(ests|ools)["']|\bt(ests|ools)/\w+""", line):
+                yield path, number, line.strip()
 
 
 def slashes(house):
@@ -655,7 +686,7 @@ def doors(house):
 
 
 RULES = {name: globals()[name] for name in """
-    loops_labelled loops_explained functions_documented lines_short slashes prover_statements words definitions_listed paths
+    loops_labelled loops_explained functions_documented lines_short lines_of_python suite_alone slashes prover_statements words definitions_listed paths
     anchors names stands_on files_are_files raster_by_its_door counts refusals header proofs_have_functions lemmas_named_once
     lemmas_used heads_current edits_apply twice readme_short sentences_short idioms doors
 """.split()}

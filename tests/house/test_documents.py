@@ -1,9 +1,12 @@
 """What the documents show is what their commands print and draw, and each planted fault is found."""
+import glob
 import os
+import re
 
 import documents
 import png
 import pytest
+from debian import PACKAGES
 from documents import DOCUMENTS, PICTURES, Document, blocks_of_man, blocks_of_markdown
 from prebuilt import TOP
 
@@ -89,6 +92,19 @@ def test_strike_is_there(tmp_path):
     why = documents.add_python(str(tmp_path))
     if why:
         pytest.skip(why)
+
+
+def test_each_tool_has_a_package():
+    """Each tool that a test or a document needs is in the table of Debian's packages, so that nobody is sent to one that is not there."""
+    named = set()
+    for path in DOCUMENTS:
+        with open(os.path.join(TOP, path), encoding="utf-8") as file:
+            for block in (blocks_of_man if path.endswith(".1") else blocks_of_markdown)(file.read()):
+                named |= set(block.marks.get("needs", "").split())
+    for path in glob.glob(os.path.join(glob.escape(TOP), "tests/*/*.py")):
+        with open(path, encoding="utf-8") as file:
+            named |= set(re.findall(r'\b(?:tool|told|left_out)\("([\w.+-]+)"', file.read()))
+    assert named and not named - set(PACKAGES)
 
 
 def test_each_picture_is_shown():

@@ -107,6 +107,9 @@ pub fn is_x11(mode: u32) -> bool
     mode / 512 % 2 == 1
 }
 """,
+    "setup.cfg": "[flake8]\nmax-line-length = 132\n",
+    "tools/sums": "#!/usr/bin/env python3\nprint(one + other)\n",
+    "suite/sums.py": "import os\n",
     "crates/fx_one/must-fail/difference.edit": "file: src/sum.rt\nold: saturating_add\nnew: saturating_sub\n",
     "crates/fx_one/planted/none.edit": "file: src/sum.rt\nold: 'numbers: for number in numbers\nnew: 'numbers: for number in none\n",
 }
@@ -117,6 +120,9 @@ PLANTED = [
     ("loops_explained", "crates/fx_one/src/sum.rt", "    // The numbers so far are added up.\n", ""),
     ("functions_documented", "crates/fx_one/src/sum.rt", "/// The sum of two numbers.\n", ""),
     ("lines_short", "crates/fx_one/src/sum.rt", "*number)", "*number" + " + 0" * 40 + ")"),
+    ("lines_of_python", "tools/sums", "one + other", "one" + " + other" * 20),
+    ("lines_of_python", "setup.cfg", "132", "79"),
+    ("suite_alone", "suite/sums.py", "import os", "sys.path.append(\"../tests/lib\")"),
     ("slashes", "crates/fx_one/src/sum.rt", "/// The sum of two", "//// The sum of two"),
     ("prover_statements", "crates/fx_one/src/sum.rt", "    // The prover sees the bound of a number where it is read.\n", ""),
     ("words", "crates/fx_one/src/sum.rt", "the numbers.", "so many numbers."),
@@ -127,7 +133,7 @@ PLANTED = [
     ("anchors", "README.md", "# Sums", "# The sums"),
     ("names", "CONTRIBUTING.md", "`sum_of`", "`total_of`"),
     ("stands_on", "crates.txt", "fx_two: fx_one", "fx_two: thiserror"),
-    ("files_are_files", "tools/sums", "", "link to ../CONTRIBUTING.md"),
+    ("files_are_files", "tools/links", "", "link to ../CONTRIBUTING.md"),
     ("raster_by_its_door", "crates/fx_strike/src/draw.rt", "", "//! Drawing.\n\nuse fx_winding::Scan;\n"),
     ("raster_by_its_door", "crates/fx_strike/specs/inner/Drawing.antt", "", "-- Drawing.\n\npub pieces : Pieces\n"),
     ("counts", "CONTRIBUTING.md", "(2 functions)", "(3 functions)"),

@@ -31,23 +31,44 @@ def told(commands):
 
 
 # Made checks, and what is told of each: one passes, one leaves out a part, one all, some fail, one is killed.
-MADE = [("test PROGRAM = '/a program'", "passed    test"), ("echo left out: x: no C compiler", "left out: x: no C compiler (Debian: gcc, libc6-dev)"),
-        ("sh -c 'echo made: left out, no Node; exit 3'", "left out, no Node (Debian: nodejs)"),
-        ("sh -c 'echo \"SKIPPED [1] a.py:1: no go (Debian: golang-go)\"; echo 1 skipped in 2s'", "no go (Debian: golang-go)"),
-        ("sh -c 'echo why it failed; exit 1'", "  why it failed"), ("sh -c 'kill -9 $$'", "status -9: sh -c"), ("/no/tool", "status 127: /no/tool")]
+MADE = [("test PROGRAM = '/a program'", "passed    test"), ("echo made: left out: a filter", "left out: a filter"),
+        ("sh -c 'echo made: left out: no node; exit 3'", "left out: no node"), ("sh -c 'echo why it failed; exit 1'", "  why it failed"),
+        ("sh -c 'kill -9 $$'", "status -9: sh -c"), ("/no/tool", "status 127: /no/tool")]
+# What a check of pytest prints, its status, and what is told of it.
+PRINTED = [
+    (["SKIPPED [20] a.py:1: no cc (Debian: gcc)", "SKIPPED [8] b.py:2: no cc (Debian: gcc)", "2 passed, 28 skipped in 0.5s"], 0,
+     ["passed   ", "  2 of 30 ", "28 left out: no cc (Debian: gcc)"]),
+    (["SKIPPED [1] a.py:1: no go (Debian: golang-go)", "1 skipped in 2s"], 0, ["left out ", "  0 of 1 ", "1 left out: no go (Debian: golang-go)"]),
+    (["E   UserWarning: bdf2psf: left out: they leave the cell", "made: left out: x", "1 failed, 4 passed, 1 error in 2s"], 1, ["FAILED ", "  4 of 6 "]),
+    (["7 passed, 3 deselected in 0.1s"], 0, ["passed   ", "  7 of 7 "]), (["7 passed in 0.1s"], 1, ["FAILED ", "  7 of 8 "]),
+    (["no tests ran in 0.1s"], 5, ["FAILED ", "  0 of 1 "]), (["7 passed", "killed"], -9, ["FAILED ", "  0 of 1 "])]
 
 
 def test_told():
     """Each is told, and counted."""
     text, status = told([it for it, _ in MADE])
-    missing = [word for _, word in MADE + [("", "2 passed, 3 failed ("), ("", "2 left out")] if word not in text]
+    missing = [word for _, word in MADE + [("", "2 tests passed, 3 failed ("), ("", ", 1 left out (all of sh -c")] if word not in text]
     assert not missing and status == 1, text
 
 
 def test_not_told():
     """What only looks as if something was left out is not told."""
-    text, _ = told(["printf 'left %s U+0041: 33\\nx: 3 left %s, y\\n' out out"])
-    assert "left out U+0041" not in text and "3 left out" not in text
+    text, _ = told(["printf 'left %s U+0041: 33\\nx: 3 left %s, y\\n a: left %s: z\\n' out out out"])
+    assert text.count("left out") == 1 and "0 left out, in" in text
+
+
+@pytest.mark.parametrize("printed", PRINTED)
+def test_counts_of_pytest(printed):
+    """The tests of a check of pytest are counted. What a failed one prints is no reason for what was left out."""
+    (lines, status, due), said = printed, io.StringIO()
+    check = run_checks.Check("pytest tests/made", None, False)
+    check.process = subprocess.Popen(["true"])
+    check.process.wait()
+    check.said.write("\n".join(lines) + "\n")
+    with contextlib.redirect_stdout(said):
+        check.end(status, 0.0, None)
+    first, *more = said.getvalue().split("\n")
+    assert all(it in first for it in due[:2]) and ["          " + it for it in due[2:]] == [it for it in more if re.match(r" +(\d+ )?left out", it)]
 
 
 def test_status():
@@ -118,8 +139,6 @@ def test_raised(raised):
 def test_stand_in(words, tmp_path):
     """The stand-in counts made tests as pytest does, with the same status."""
     (tmp_path / "test_made.py").write_text(MADE_TESTS)
-    (tmp_path / "test_ignored.py").write_text("import no_such_module\n")
-    (tmp_path / "conftest.py").write_text('collect_ignore_glob = ["test_i*.py"]\n')
     answers = []
     for words_of_it, more in (run_checks.pytest(), ([sys.executable, "-m", "pytest"], {"PYTHONPATH": STAND_IN})):
         ran = subprocess.run([*words_of_it, *run_checks.HOW, str(tmp_path), *words], env={**os.environ, **more}, cwd=tmp_path,

@@ -50,8 +50,9 @@ def tried(folder, font, env, in_checkout, change=lambda line: line):
         line = of(name, in_checkout)
         if line is None:
             raise prebuilt.Fault("examples/%s has no command for %s" % (name, "a checkout" if in_checkout else "what is installed"))
-        if shutil.which(tool_of(line)) is None:
-            absent.add(tool_of(line))
+        lacking = {it for it in [tool_of(line)] + ["pkg-config"] * ("pkg-config" in line) if shutil.which(it) is None}
+        absent |= lacking
+        if lacking:
             continue
         printed[name] = run_line(change(line), folder, font, env)
     return printed, absent

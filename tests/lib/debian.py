@@ -1,7 +1,22 @@
 """Debian's packages of what checks and tests may lack."""
 
-PACKAGES = {"cc": "gcc, libc6-dev", "tsc": "node-typescript", "c++": "g++", "nm": "binutils", "objdump": "binutils", "go": "golang-go", "node": "nodejs",
-            "fc-scan": "fontconfig", "fontforge": "fontforge-nox", "grub-mkfont": "grub-common", "fonttosfnt": "xfonts-utils", "bdftopcf": "xfonts-utils",
-            "ucs2any": "xfonts-utils",
-            "mkfontdir": "xfonts-utils", "Xvfb": "xvfb", "xset": "x11-xserver-utils", "xlsfonts": "x11-utils", "DejaVuSans": "fonts-dejavu-core",
-            "LiberationSans-Regular": "fonts-liberation"}
+COMPILER = "gcc, libc6-dev"
+ARM, BITMAPS = "gcc-aarch64-linux-gnu, libc6-dev-arm64-cross", "xfonts-utils"
+PACKAGES = {
+    **{it: it for it in ("bdf2psf", "chromium", "clang", "libfreetype6", "lintian", "otf2bdf", "pkg-config", "rustc", "valgrind", "xxd")},
+    "AddressSanitizer": COMPILER, "cc": COMPILER, "c++": "g++", "go": "golang-go", "node": "nodejs", "tsc": "node-typescript",
+    "aarch64-linux-gnu-gcc": ARM, "aarch64-linux-gnu-objdump": ARM, "qemu-aarch64": "qemu-user",
+    "nm": "binutils", "objdump": "binutils", "dpkg-deb": "dpkg", "dpkg-gencontrol": "dpkg-dev", "iconv": "libc-bin", "sh": "dash",
+    "bdftopcf": BITMAPS, "fonttosfnt": BITMAPS, "mkfontdir": BITMAPS, "ucs2any": BITMAPS, "fc-match": "fontconfig", "fc-scan": "fontconfig",
+    "fontforge": "fontforge-nox", "grub-mkfont": "grub-common", "psfgettable": "kbd",
+    "Xvfb": "xvfb", "xlsfonts": "x11-utils", "xset": "x11-xserver-utils",
+    "pytest": "python3-pytest", "strike": "python3-fonttools, python3-pil, " + COMPILER,
+    "DejaVuSans": "fonts-dejavu-core", "LiberationSans-Regular": "fonts-liberation",
+}
+# The packages of fonts, by their folders below /usr/share/fonts/truetype.
+FONTS = {"dejavu": "fonts-dejavu-core", "liberation": "fonts-liberation"}
+
+
+def lacking(what):
+    """The words that say that this is not installed, and which package has it."""
+    return "no %s (Debian: %s)" % (what, PACKAGES[what]) if what in PACKAGES else "no %s" % what

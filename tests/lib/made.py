@@ -2,7 +2,7 @@
 import functools
 
 import due
-import fonts
+from making import fonts
 from reference import dropout, numbers, scan
 
 

@@ -5,7 +5,7 @@ import subprocess
 
 import prebuilt
 import pytest
-from debian import PACKAGES
+from debian import lacking
 
 FOLDER = "/usr/share/fonts/truetype/"
 REAL = {"DejaVuSans": FOLDER + "dejavu/DejaVuSans.ttf", "LiberationSans-Regular": FOLDER + "liberation/LiberationSans-Regular.ttf"}
@@ -13,12 +13,12 @@ REAL = {"DejaVuSans": FOLDER + "dejavu/DejaVuSans.ttf", "LiberationSans-Regular"
 
 def left_out(what):
     """Leaves a test out, since this is not installed."""
-    pytest.skip("no %s (Debian: %s)" % (what, PACKAGES.get(what, what)))
+    pytest.skip(lacking(what))
 
 
 def tool(name):
-    """The path of a tool."""
-    return shutil.which(name) or left_out(name)
+    """The path of a tool, or of the same tool linked statically, as qemu-user-static has it."""
+    return shutil.which(name) or shutil.which(name + "-static") or left_out(name)
 
 
 def dist():

@@ -15,7 +15,7 @@ import shutil
 import subprocess
 
 import pytest
-from needs import left_out, tool
+from needs import tool
 from prebuilt import TOP
 
 COMPILER, RUNNER, LIBRARIES = "aarch64-linux-gnu-gcc", "qemu-aarch64", "/usr/aarch64-linux-gnu"  # Debian's names
@@ -24,14 +24,11 @@ COMPILER, RUNNER, LIBRARIES = "aarch64-linux-gnu-gcc", "qemu-aarch64", "/usr/aar
 def strike(shared, font, folder):
     """The strike of a font's file that the shared object makes, of the characters 20 to 42 at 16 pixels."""
     tool(COMPILER)
-    tool(RUNNER)
-    if not os.path.isdir(LIBRARIES):
-        left_out("libc6-arm64-cross")
     named = os.path.join(folder, "libmkstrike.so.1")
     shutil.copyfile(shared, named)
     subprocess.run([COMPILER, "-I" + os.path.join(TOP, "include"), os.path.join(TOP, "examples/show.c"), named, "-o", os.path.join(folder, "show")],
                    check=True)
-    words = [RUNNER, "-L", LIBRARIES, "-E", "LD_LIBRARY_PATH=%s" % folder, os.path.join(folder, "show"), font, "16", "20-42"]
+    words = [tool(RUNNER), "-L", LIBRARIES, "-E", "LD_LIBRARY_PATH=%s" % folder, os.path.join(folder, "show"), font, "16", "20-42"]
     return subprocess.run(words, stdin=subprocess.DEVNULL, capture_output=True, check=True).stdout
 
 
@@ -41,4 +38,4 @@ def python():
     found = glob.glob(os.path.join(glob.escape(root), "usr/bin/python3.*[0-9]")) if root else []
     if not found:
         pytest.skip("no Python for arm64: MKSTRIKE_ARM_ROOT names none")
-    return [RUNNER, "-L", root, found[0]]
+    return [tool(RUNNER), "-L", root, found[0]]

@@ -11,11 +11,11 @@ import tarfile
 import zipfile
 
 import compile_lines
-import fonts
 import other_machine
 import prebuilt
 import pytest
 import sample_font
+from making import fonts
 from needs import dist, left_out, tool
 from prebuilt import DIST, TOP
 from program import python_with
@@ -32,6 +32,8 @@ Description: the C library of this machine
 
 """
 BUILD, PACKAGES = os.path.join(TOP, "packaging/build"), "usr/lib/python3/dist-packages"
+# Prints the release, and what a file is that is no TrueType font, which is in a file of the package.
+TOLD = "import mkstrike, mkstrike.refused as it; print(mkstrike.__version__, it.kind_of(b'OTTO'))"
 # Prints the strike of the font on standard input.
 STRIKE = "import sys, mkstrike; sys.stdout.buffer.write(mkstrike.Font(sys.stdin.buffer.read()).strike(16, '20-42').text)"
 
@@ -67,17 +69,63 @@ def one(made, pattern):
     """The package of a name."""
     found = glob.glob(str(made / pattern))
     if not found:
-        left_out("package %s, since it needs dist/%s and gcc-aarch64-linux-gnu" % (pattern, prebuilt.ARM_ARCHIVE))
+        left_out("aarch64-linux-gnu-gcc")
     assert len(found) == 1
     return found[0]
 
 
+def hashes(folder):
+    """The names and hashes of the files in a folder."""
+    return {it.name: hashlib.sha256(it.read_bytes()).hexdigest() for it in folder.iterdir()}
+
+
+def copy_of_the_checkout(top):
+    """A copy of the checkout in a folder: what looks for its own place as files, the rest as links."""
+    top.mkdir()
+    for name in set(os.listdir(TOP)) - {".git", "out"}:
+        if name in ("packaging", "tools"):
+            shutil.copytree(os.path.join(TOP, name), top / name)
+        else:
+            (top / name).symlink_to(os.path.join(TOP, name))
+    return top / "packaging/build"
+
+
 def test_made_again(made, tmp_path):
-    """Made in another folder, environment, time zone and mask of rights, they have the same bytes."""
-    run(["sh", "-c", 'umask 077; exec "$@"', "", BUILD, str(tmp_path / "other")], cwd=tmp_path, env={**os.environ, **OTHER})
+    """Made without the Rattle kit, of a checkout elsewhere, in another environment, time zone and mask of rights, they have the same bytes."""
+    without_kit = [it for it in os.environ["PATH"].split(":") if not os.path.exists(os.path.join(it, "rt"))]
+    env = {**os.environ, **OTHER, "PATH": ":".join([*without_kit, "/usr/bin", "/bin"])}
+    build = copy_of_the_checkout(tmp_path / "a checkout")
+    printed = run(["sh", "-c", 'umask 077; exec "$@"', "", build, tmp_path / "other folder"], cwd=tmp_path, env=env, stderr=None)
     # by their hashes: pytest would take minutes to show how megabytes differ
-    first, other = ({it.name: hashlib.sha256(it.read_bytes()).hexdigest() for it in at.iterdir()} for at in (made, tmp_path / "other"))
-    assert first == other
+    other = hashes(tmp_path / "other folder")
+    assert other == hashes(made) and printed.decode() == "".join("%s  %s\n" % (other[it], it) for it in sorted(other))
+
+
+# What a system has that has neither a C compiler nor Debian's tools, and what is then left out.
+BARE = "bash basename cat cp cut date dirname env gzip head install mkdir mktemp mv readlink rm sed sha256sum sort tar"
+LEFT_OUT = """\
+build: left out: Debian packages: no dpkg-gencontrol (Debian: dpkg-dev)
+build: left out: wheels, python3-mkstrike: no setuptools (Debian: python3-setuptools, python3-wheel)
+build: left out: the C library for amd64, the tarball: no C compiler with headers (Debian: gcc, libc6-dev)
+build: left out: packages for arm64: no aarch64-linux-gnu-gcc with headers (Debian: gcc-aarch64-linux-gnu, libc6-dev-arm64-cross)
+"""
+
+
+def test_what_is_left_out(tmp_path):
+    """On such a system, with a compiler for arm64 that lacks its headers, the npm package is made, and the rest is named."""
+    dist()
+    tools = tmp_path / "tools"
+    tools.mkdir()
+    for name in BARE.split():
+        (tools / name).symlink_to(tool(name))
+    (tools / "python3").symlink_to(sys.executable)
+    (tools / "setuptools.py").write_text("raise ImportError\n")
+    (tools / "aarch64-linux-gnu-gcc").symlink_to("/bin/false")
+    env = {"PATH": str(tools), "PYTHONPATH": str(tools)}
+    ran = subprocess.run([BUILD, tmp_path / "made"], env=env, stdin=subprocess.DEVNULL, capture_output=True, text=True, check=False)
+    assert (ran.returncode, ran.stderr) == (0, LEFT_OUT)
+    (name, sum_of_it), = hashes(tmp_path / "made").items()
+    assert re.fullmatch(r"mkstrike-[\d.]+(\+\w+)?\.tgz", name) and ran.stdout == "%s  %s\n" % (sum_of_it, name)
 
 
 def test_lintian(made):
@@ -199,7 +247,7 @@ def look_at_python(folder, due, python=(sys.executable,)):
     """Looks at the package in a folder: it makes the program's strike, tells its version, and imports nothing from elsewhere."""
     env = {"PYTHONPATH": str(folder), "PATH": os.environ["PATH"], "PYTHONDONTWRITEBYTECODE": "1"}
     assert run([*python, "-c", STRIKE], env=env, stdin=None, input=fonts.FIXTURE, stderr=subprocess.DEVNULL) == due
-    assert re.match(rb"0\.\d{8}", run([*python, "-c", "import mkstrike; print(mkstrike.__version__)"], env=env))
+    assert re.match(rb"0\.\d{8}\S* the file looks like an OpenType font with CFF outlines", run([*python, "-c", TOLD], env=env))
 
 
 def look_at_arm(shared, due, folder):
@@ -260,3 +308,5 @@ def test_source_distribution(made, due, tmp_path):
     run([python, "-m", "pip", "install", "-q", "--no-index", "--no-build-isolation", "--no-deps", "--target", str(tmp_path / "installed"),
          str(source)])
     look_at_python(tmp_path / "installed", due)
+    told = run([tmp_path / "installed/bin/strike", "--version"], env={"PYTHONPATH": str(tmp_path / "installed"), "PATH": os.environ["PATH"]})
+    assert told == b"strike of mkstrike %s\n" % prebuilt.read(os.path.join(TOP, "VERSION")).strip()

@@ -6,7 +6,7 @@ import due
 import runs
 from cases import cases
 from due import counted, glyph_lines, listed, refused, usage
-from fonts import FIXTURE, fixture_with, patched, simple, wide_map_of, with_tables
+from making.fonts import FIXTURE, fixture_with, patched, simple, wide_map_of, with_tables
 from runs import Run
 from test_worked import NAMED, OF_ARC, OF_RING, SPACE, hexed, strike
 

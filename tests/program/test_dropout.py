@@ -2,10 +2,10 @@
 import math
 
 import due
-import fonts
 from cases import cases
 from due import Counted
 from made import Empty, Font, Simple, square
+from making import fonts
 from runs import Run
 from strikes import A, B, words
 

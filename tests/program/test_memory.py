@@ -9,12 +9,12 @@ buffer of lines is refused is made all the same.
 import os
 import re
 
-import fonts
 import made
 import pytest
 import test_refused
 from due import Due, listed, own_lines, refused, usage
 from instructions import POP, Code
+from making import fonts
 from needs import compiled, real_font
 from runs import memory_file, run_refusing
 

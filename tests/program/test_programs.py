@@ -1,11 +1,11 @@
 """Cases of the program: programs of fonts, and what they have, to its limit and one past it. What each instruction does the suite says."""
 import due
-import fonts
 import instructions as ins
 from cases import cases
 from due import Ends, counted, glyph_lines
 from instructions import Code, steps_of
 from made import Composite, Empty, Font, Simple, comb, square
+from making import fonts
 from making.assembler import assemble
 from reference.numbers import scaled
 from runs import Run

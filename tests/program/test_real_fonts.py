@@ -1,10 +1,10 @@
 """Cases of the program: whole real fonts at many sizes, of which the status and the counts are known beforehand.
 
 A refusal for one size or one number of points would pass all fonts that are made here; so whole fonts are drawn at every small size."""
-import fonts
 from cases import cases
 from due import Counted
 from made import list_of
+from making import fonts
 from needs import real_font
 from runs import Run
 

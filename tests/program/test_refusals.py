@@ -2,10 +2,10 @@
 import struct
 
 import due
-import fonts
 from cases import cases
 from due import halted, refused
 from made import Empty, Font, square
+from making import fonts
 from runs import Run
 from strikes import A, B
 

@@ -1,10 +1,10 @@
 """Cases of the program: strikes that are made in spite of characters that are refused (`make --refused`)."""
 import due
-import fonts
 import runs
 from cases import cases
 from due import refused
 from made import Composite, Empty, Font, Simple, comb, fixture, list_of, square
+from making import fonts
 from runs import Run
 from strikes import A, B, C
 from test_refusals import TABLES, TRIANGLE, long, word

@@ -3,9 +3,9 @@ import os
 import subprocess
 
 import due
-import fonts
 import pytest
 from cases import cases
+from making import fonts
 from needs import REAL, real_font
 from prebuilt import TOP
 from reference import fontfile as reference

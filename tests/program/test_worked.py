@@ -6,13 +6,13 @@ centres of columns and rows are at 32, 96, 160 and so on.
 import struct
 
 import due
-import fonts
 import runs
 from cases import cases
 from due import Ends, counted, glyph_lines, halted, listed, refused
-from fonts import ARC, FIXTURE, fixture_with, patched
 from instructions import steps_of
+from making import fonts
 from making.assembler import assemble
+from making.fonts import ARC, FIXTURE, fixture_with, patched
 from runs import Run
 
 

@@ -17,9 +17,9 @@ from shared import LIBERATION, SANS, font_bytes
 from test_cells import OTHER
 from test_font_files import MASTERS, built, packed
 
-import fonts
 import mkstrike
 from damage import Damaged
+from making import fonts
 from mkstrike import bdf
 
 KOI8 = OTHER.replace(b"FONT -misc-fixed", b"FONT -a-b-medium-r-normal--12-120-72-72-c-60-koi8-r").replace(b"ENCODING 65", b"ENCODING 193")

@@ -1,6 +1,4 @@
-"""What the tests share: the program to compare with, fonts, and the repository's own makers of fonts.
-
-They run against the installed package: test_installed.py installs it into a clean environment."""
+"""What the tests share: the program to compare with, fonts, and the repository's own makers of fonts."""
 import os
 import re
 import subprocess
@@ -11,8 +9,6 @@ import pytest
 from mkstrike import _library
 
 TOP = os.environ.get("MKSTRIKE_TOP") or os.path.dirname(os.path.dirname(os.path.dirname(os.path.realpath(__file__))))
-with open(os.path.join(TOP, "VERSION"), encoding="utf-8") as _file:
-    VERSION = _file.read().strip()
 PROGRAM = os.environ.get("MKSTRIKE_PROGRAM") or os.path.join(TOP, "dist/mkstrike")
 FOLDER = "/usr/share/fonts/truetype/"
 SANS = FOLDER + "dejavu/DejaVuSans.ttf"
@@ -85,9 +81,8 @@ class Counted:
 
 
 def strike_by_command(folder, *words, status=0, data=b""):
-    """Runs the installed command `strike` in a folder. Returns what it prints on both outputs."""
-    script = os.path.join(os.path.dirname(sys.executable), "strike")
-    ran = subprocess.run([script, *map(str, words)], cwd=folder, input=data, capture_output=True, timeout=600)
+    """Runs the command `strike` in a folder. Returns what it prints on both outputs."""
+    ran = subprocess.run([sys.executable, "-m", "mkstrike", *map(str, words)], cwd=folder, input=data, capture_output=True, timeout=600)
     assert ran.returncode == status, ran.stderr.decode()
     return ran.stdout.decode(), ran.stderr.decode()
 

@@ -6,7 +6,7 @@ import subprocess
 import sys
 
 import pytest
-from shared import LIBERATION, MONO, SANS, TOP, VERSION, font_bytes, needs_font, needs_pillow, strike_by_command as run, text_of
+from shared import LIBERATION, MONO, SANS, TOP, font_bytes, needs_font, needs_pillow, strike_by_command as run, text_of
 
 import mkstrike
 from mkstrike import arguments, command
@@ -146,8 +146,6 @@ def test_module():
     """python3 -m mkstrike is the same command."""
     ran = subprocess.run([sys.executable, "-m", "mkstrike", "--help"], capture_output=True, text=True)
     assert ran.returncode == 0 and ran.stdout.startswith("usage: strike")
-    ran = subprocess.run([sys.executable, "-m", "mkstrike", "--version"], capture_output=True, text=True)
-    assert (ran.returncode, ran.stdout) == (0, "strike of mkstrike %s\n" % VERSION)
 
 
 def test_page():

@@ -33,7 +33,7 @@ def collected(path, *fonts, share=True):
 @pytest.mark.parametrize("flavor", ["woff", "woff2"])
 def test_packed_fonts(flavor):
     """WOFF and WOFF2 give the strikes of the font itself."""
-    import fonts
+    from making import fonts
     if flavor == "woff2" and importlib.util.find_spec("brotli") is None:
         pytest.skip("brotli is not installed (Debian: python3-brotli)")
     part = fonts.part_of(font_bytes(SANS), range(0x250))

@@ -8,7 +8,7 @@ import subprocess
 import sys
 
 import pytest
-from shared import FOLDER, MONO, SANS, font_bytes, needs_font, needs_fonttools
+from shared import FOLDER, MONO, SANS, font_bytes, needs_font, needs_fonttools, strike_by_command
 
 import mkstrike
 
@@ -48,10 +48,10 @@ def test_names_of_strikes():
 @needs_font(BOLD)
 def test_fonts_of_the_x_server(tmp_path):
     """Three sizes are three fonts of the X server, without --name and --x11."""
-    for program, package in (("bdftopcf", "xfonts-utils"), ("mkfontdir", "xfonts-utils"), ("strike", "this package")):
+    for program, package in (("bdftopcf", "xfonts-utils"), ("mkfontdir", "xfonts-utils")):
         if not shutil.which(program):
             pytest.skip("%s is not installed (Debian: %s)" % (program, package))
-    subprocess.run(["strike", BOLD, "--size", "10,12,14", "--format", "pcf", "--quiet"], cwd=tmp_path, check=True)
+    strike_by_command(tmp_path, BOLD, "--size", "10,12,14", "--format", "pcf", "--quiet")
     subprocess.run(["mkfontdir", "."], cwd=tmp_path, check=True)
     lines = (tmp_path / "fonts.dir").read_text().split("\n")
     assert lines[0] == "3" and sorted(re.sub(r"-[mp]-\d+-iso10646-1$", "", it.partition(" ")[2]) for it in lines[1:4]) == [
@@ -94,7 +94,7 @@ def test_odd_names():
 @needs_font(SANS)
 def test_damaged_names():
     """Damage in the tables of names says nothing, or something else; it is never an error."""
-    import fonts
+    from making import fonts
     from damage import Damaged
     part, choose = fonts.part_of(font_bytes(SANS), [0x41]), random.Random(2)
     for _ in range(500):

@@ -108,7 +108,7 @@ def test_refused_characters_are_left_out():
 def test_only_refused_characters():
     """A strike of which nothing is left has no glyph; what meets all characters is raised."""
     import test_refusals as made
-    import fonts
+    from making import fonts
     halting = fonts.with_tables(fonts.FIXTURE, prep=b"\x21")
     with pytest.raises(mkstrike.Refused, match="^30 StackUnder during prep in prep at 0 opcode 21\n") as found:
         mkstrike.Font(halting).strike(16, "41")
@@ -123,7 +123,7 @@ def test_only_refused_characters():
 def test_damaged_fonts():
     """Fonts with bytes set at random: the program's answers."""
     import random
-    import fonts
+    from making import fonts
     from damage import Damaged
     part = fonts.part_of(font_bytes(SANS), [0x20, 0x41, 0x67, 0xE9, 0x25, 0x1EB4])
     choose, answers = random.Random(7), set()

@@ -6,19 +6,13 @@ import pickle
 import warnings
 
 import pytest
-from shared import FOLDER, LIBERATION, MONO, SANS, VERSION, flags, font_bytes, needs_font, program, text_of
+from shared import FOLDER, LIBERATION, MONO, SANS, flags, font_bytes, needs_font, program, text_of
 
 import mkstrike
 
 MODES = [(hinted, dropout) for hinted in (True, False) for dropout in (False, True, "near", "font")]
 SOME = "20-7e,a0-ff,2500-251f"
 FONTS = [it for family, count in (("dejavu", 6), ("freefont", 4), ("liberation", 10)) for it in sorted(glob.glob(FOLDER + family + "/*.ttf"))[:count]]
-
-
-def test_installed_package():
-    """The package under test is the installed one."""
-    assert os.path.dirname(mkstrike.__file__).endswith("site-packages/mkstrike")
-    assert mkstrike.__version__ == VERSION
 
 
 @pytest.mark.skipif(len(FONTS) < 20, reason="%d of 20 fonts are installed (Debian: fonts-dejavu-core, fonts-freefont-ttf, fonts-liberation)" % len(FONTS))

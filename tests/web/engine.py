@@ -1,6 +1,5 @@
 """What the tests of the page and of its modules share: fonts, what the program makes of them, and what Node answers."""
 import functools
-import glob
 import json
 import os
 import random
@@ -9,25 +8,34 @@ import subprocess
 import tempfile
 import zlib
 
-import fonts
 import prebuilt
 import pytest
 import sample_font
 import web_page
 from damage import Damaged
+from making import fonts
 from making.collection import Collection
-from needs import REAL, left_out, tool
+from needs import FOLDER, REAL, left_out, tool
 from prebuilt import TOP
 from program import find_program
 
 HERE = os.path.dirname(os.path.realpath(__file__))
 WEB = os.path.join(TOP, "web")
-SAMPLE = os.path.join(WEB, "sample.ttf")
+SAMPLE = web_page.SAMPLE
 SANS = REAL["DejaVuSans"]
 HINTED, DROPOUT, DROPOUT_NEAR, DROPOUT_FONT = 1, 2, 4, 8
 DROPOUTS = {0: "off", DROPOUT: "left", DROPOUT_NEAR: "near", DROPOUT_FONT: "font"}
 MODES = [hinted | dropout for dropout in DROPOUTS for hinted in (HINTED, 0)]
 DAMAGED, SEED = 100, 69
+# Fonts with Latin letters, by their folders: what else a machine has must not change what is tested.
+FAMILIES = {
+    "dejavu": "DejaVuSans DejaVuSans-Bold DejaVuSansMono DejaVuSansMono-Bold DejaVuSerif DejaVuSerif-Bold DejaVuSans-ExtraLight DejaVuSansMono-Oblique "
+              "DejaVuSansCondensed DejaVuSerif-Italic DejaVuSerifCondensed-BoldItalic",
+    "liberation": "LiberationMono-Regular LiberationMono-BoldItalic LiberationSans-Regular LiberationSans-Bold LiberationSans-Italic "
+                  "LiberationSerif-Regular LiberationSerif-BoldItalic LiberationSansNarrow-Regular",
+    "freefont": "FreeMono FreeMonoBoldOblique FreeSans FreeSansBold FreeSerif FreeSerifItalic",
+    "noto": "NotoSans-Regular NotoSans-BoldItalic NotoSerif-Regular",
+}
 SQUARE = fonts.simple([[(0, 0, 1), (0, 500, 1), (500, 500, 1), (500, 0, 1)]])
 
 the_program = functools.cache(find_program)
@@ -65,9 +73,9 @@ def spread(all_of_them, count):
 
 @functools.cache
 def installed_fonts():
-    """The paths of installed TrueType fonts, each file once."""
-    found = sorted({os.path.realpath(it) for it in glob.glob("/usr/share/fonts/**/*.ttf", recursive=True)})
-    return found or left_out("DejaVuSans")
+    """The paths of the fonts of FAMILIES that are installed."""
+    found = [FOLDER + "%s/%s.ttf" % (family, name) for family, names in FAMILIES.items() for name in names.split()]
+    return [it for it in found if os.path.exists(it)] or left_out("DejaVuSans")
 
 
 def damaged(folder):

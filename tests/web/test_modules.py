@@ -10,15 +10,16 @@ import subprocess
 import types
 
 import engine
-import fonts
 import prebuilt
 import pytest
+import sample_font
 import web_module
-from engine import HERE, HINTED, MODES, SANS, SEED, installed_fonts, put, spread
+from engine import HERE, HINTED, MODES, SANS, SEED, installed_fonts, put
+from making import fonts
 from prebuilt import TOP, sha256
 
 KINDS = {"uint32_t": "u32", "int32_t": "i32", "uint64_t": "u64", "size_t": "u64"}
-MOST_FONTS, MOST_RUN, SIZES = 200, 30, (9, 12, 16, 24, 33)
+SIZES = (9, 12, 16, 24, 33)
 LETTERS = "--chars 20-7e,a0-ff,2010-2030"
 OF_FONT = ["make %s %s" % (LETTERS, it) for it in (
     "", "--unhinted", "--dropout", "--dropout=near", "--dropout=font", "--x11", "--missing", "--refused leave-out", "--refused unhinted --x11",
@@ -113,7 +114,7 @@ def codes_of(chars):
 
 def requests(folder):
     """Requests for strikes: font, size, mode, and characters as a list of the program's form."""
-    made = [(path, SIZES[k % 5], MODES[k % 8], "20-24f,2010-2030,2500-259f") for k, path in enumerate(spread(installed_fonts(), MOST_FONTS))]
+    made = [(path, SIZES[k % 5], MODES[k % 8], "20-24f,2010-2030,2500-259f") for k, path in enumerate(installed_fonts())]
     made += [(path, (16, 0, 1, 1024, 1025)[k // 10 % 5] if k % 10 == 0 else 16, MODES[k // 3 % 8], "20-5f") for k, path in enumerate(engine.damaged(folder))]
     made.append((put(folder, "none.ttf", b""), 16, 1, "41"))
     made += [(put(folder, "halting%d.ttf" % k, font), 16, 1, "%x" % code) for k, (font, code, *_) in enumerate(fonts.halting())]
@@ -144,15 +145,15 @@ def test_library(tmp_path):
 
 def command_lines(folder):
     """Command lines for the program: of each the font, which is the standard input, and the words."""
-    large, small = spread(installed_fonts(), MOST_RUN), sorted(glob.glob(os.path.join(TOP, "suite/fonts/*.ttf")))
+    large, small = installed_fonts(), sorted(glob.glob(os.path.join(TOP, "suite/fonts/*.ttf")))
     runs = [(k, font, line) for paths, lines in ((large, OF_FONT), (small, OF_SMALL)) for k, font in enumerate(paths) for line in lines]
     runs += [(k, font, OF_DAMAGED[k % len(OF_DAMAGED)]) for k, font in enumerate(engine.damaged(folder))]
     for k, font, line in runs:
         verb, *rest = shlex.split(line)
         yield font, [verb, "--ppem", str(SIZES[k % len(SIZES)]), *rest]
     yield from ((font, shlex.split(line)) for font in large + small for line in OF_PROGRAMS)
-    for path in sorted(glob.glob("/usr/share/fonts/**/*.ttc", recursive=True))[:3]:
-        yield from ((path, ["make", "--ppem", "12", "--chars", "20-7e", "--face", it]) for it in FACES)
+    two = put(folder, "two.ttc", engine.collection_of([fonts.FIXTURE, sample_font.sample()]))
+    yield from ((two, ["make", "--ppem", "12", "--chars", "20-7e", "--face", it]) for it in FACES)
     for line in LINES + SIZED + PLAIN:
         words = shlex.split(line)
         yield SANS if os.path.exists(SANS) else small[0], (

@@ -15,7 +15,6 @@ import threading
 import urllib.parse
 
 import engine
-import fonts
 import hands
 import png
 import prebuilt
@@ -23,6 +22,7 @@ import pytest
 import sample_font
 import web_page
 from engine import DROPOUT, DROPOUT_FONT, DROPOUT_NEAR, DROPOUTS, HINTED, MODES, SAMPLE, SANS, SEED, SQUARE, installed_fonts
+from making import fonts
 from needs import tool
 from prebuilt import TOP
 
@@ -40,8 +40,6 @@ ENDS = ["*/", "**//", "*\\\n/", "*\\\r/", "*??/\n/", "*??/\r/", "\\", "??/", "/*
 
 
 @pytest.fixture(name="page", scope="module")
-
-
 def opened_browser(tmp_path_factory):
     """The page in a browser, which ends with the tests."""
     page = hands.Page(engine.modules(), tmp_path_factory.mktemp("page"), os.environ.get("MKSTRIKE_PICTURES"))
@@ -140,8 +138,8 @@ def ladder(page):
     path, text = page.dropped("sample.ttf", sample_font.sample()), "Sg"
     page.set("text", text + "\nmore")
     page.set("hinted", False)
-    page.change("zoom", "1")
     assert page.browser.evaluate("!document.body.dataset.ladder"), "the ladder is drawn before it is in sight"
+    page.change("zoom", "1")
     page.browser.evaluate("document.getElementById('ladder').scrollIntoView()")
     page.browser.until("document.body.dataset.ladder === `${document.body.dataset.drawn} 17`", "a ladder of 17 sizes")
     rungs = page.browser.evaluate(RUNGS_SCRIPT)

@@ -6,7 +6,6 @@ tools/run_checks does so, so that the gate needs no package of Python.
 """
 import configparser
 import contextlib
-import fnmatch
 import functools
 import glob
 import importlib.util
@@ -14,7 +13,6 @@ import inspect
 import os
 import pathlib
 import re
-import runpy
 import sys
 import tempfile
 import time
@@ -132,6 +130,9 @@ class Tests:
 
     def of(self, path):
         """The tests of a file: their names, and what runs them."""
+        if os.path.exists(os.path.join(os.path.dirname(path), "conftest.py")):  # with hooks, which only pytest itself calls
+            yield os.path.relpath(path), functools.partial(skip, "no pytest (Debian: python3-pytest)")
+            return
         module = self.load(path)
         for name, function in [it for it in vars(module).items() if it[0].startswith("test_") and callable(it[1])]:
             where = "%s::%s" % (os.path.relpath(path), name)
@@ -155,14 +156,7 @@ def files_of(paths, ignored):
     found = []
     for path in paths:
         found += sorted(glob.glob(os.path.join(path, "**/test_*.py"), recursive=True)) if os.path.isdir(path) else [path]
-    return [it for it in map(os.path.abspath, found) if it not in map(os.path.abspath, ignored) and not is_left(it)]
-
-
-def is_left(path):
-    """Whether the conftest.py beside a file leaves it out."""
-    beside = pathlib.Path(path).with_name("conftest.py")
-    given = runpy.run_path(str(beside)).get("collect_ignore_glob", ()) if beside.exists() else ()
-    return any(fnmatch.fnmatch(os.path.basename(path), it) for it in given)
+    return [it for it in map(os.path.abspath, found) if it not in map(os.path.abspath, ignored)]
 
 
 def main(words):
@@ -170,8 +164,8 @@ def main(words):
     expression = next((words[k + 1] for k, it in enumerate(words) if it == "-k"), "")
     paths = [it for k, it in enumerate(words) if not it.startswith("-") and words[k - 1:k] not in (["-k"], ["-p"])]
     ini, start, counts = configparser.ConfigParser(), time.monotonic(), {"failed": 0, "passed": 0, "skipped": 0}
-    ini.read(TOP / "pytest.ini")
-    sys.path[:0] = [str(TOP / it) for it in ini["pytest"]["pythonpath"].split()]
+    ini.read(TOP / "setup.cfg")
+    sys.path[:0] = [str(TOP / it) for it in ini["tool:pytest"]["pythonpath"].split()]
     with tempfile.TemporaryDirectory() as folder:
         tests = Tests(folder)
         tests.load(str(TOP / "tests/conftest.py"))
@@ -181,7 +175,7 @@ def main(words):
                 try:
                     run()
                 except Skipped as left:
-                    how, said = "skipped", "SKIPPED [1] %s: %s" % (name, left)
+                    how, said = "skipped", "SKIPPED [1] %s: %s" % (name.split("::")[0], left)
                 except Outcome as failed:
                     how, said = "failed", "FAILED %s\n%s" % (name, failed)
                 except (Exception, SystemExit):  # pylint: disable=broad-except

@@ -1,9 +1,10 @@
 """Makes fonts for tools and tests: a small fixture, parts of real fonts, and fonts written from nothing."""
 import struct
 
-from making import charmaps
 from reference.charmap import CharMap
 from reference.fontfile import FOUR, MORE, OFFSETS, PROGRAM, SCALE, TWO, WORDS, Font
+
+from . import charmaps
 
 # A font of four glyphs: two are empty, one is a square ring, one a single arc. Its map has 20, 41 and 42.
 FIXTURE = bytes.fromhex("""
