@@ -9,6 +9,7 @@ import tempfile
 
 import compare
 import listing
+import machine_readable
 import paths
 import report
 import tool
@@ -68,7 +69,7 @@ ANSWERS = [
     (GLYPH, moved(0, 0, 0), "on or off the curve at 1 points"), (GLYPH, moved(2, -3), "1 points, by up to 3/64 pixel"),
     (GLYPH, moved(-5, 1), "1 points, by up to 5/64 pixel"), (GLYPH, moved(4, 0, 0), "1 points, by up to 4/64 pixel"),
     (GLYPH, {"outline": [[[x + 1, y + 2, on] for x, y, on in TRIANGLE]]}, "3 points, by up to 2/64 pixel"),
-    (GLYPH, path(0.9), None), (GLYPH, path(1.25), "1 contours, by up to 1.25/64 pixel"),
+    (GLYPH, path(0.9), None), (GLYPH, path(1.234), "1 contours, by up to 1.23/64 pixel"),
     (GLYPH, path(0, -2), "1 contours, by up to 2/64 pixel"),
     (GLYPH, path(0, 0, ["line", 0, 0]), None), (GLYPH, path(0, 0, ["line", 9, 9]), "another number of segments"),
     (GLYPH, path(0, 0, ["quad", 9, 9, 0, 0]), "lines and arcs in another order"), (GLYPH, path(0, 0, ["move", 5, 5]), None),
@@ -95,6 +96,7 @@ KINDS = [
 ]
 # A program, and its listing.
 LISTINGS = [("", []), ("B0 05 2F", [(0, "PUSHB 5"), (2, "MDAP:1")]), ("01 28", [(0, "SVTCA:1"), (1, "#28")]),
+            ("00 5C 21 FF", [(0, "SVTCA:0"), (1, "NOT"), (2, "POP"), (3, "MIRP:1F")]),
             ("20 B8 FF", [(0, "DUP"), (1, "#B8FF")]), ("41 01 FF FE C4", [(0, "NPUSHW -2"), (4, "MDRP:4")])]
 # A glyph of one pixel in column 1 and row 2, and another one of the pixel beside it.
 SQUARE = {"advance": 128, "outline": [[[64, 128, 1], [64, 192, 1], [128, 192, 0], [128, 128, 1]]], **bits([1, 1, 1, 2], ["80"])}
@@ -136,6 +138,13 @@ def compared():
     yield "off the curve first", paths.of_outline([[[9, 9, 0], [0, 0, 1], [6, 0, 1]]]), [[(0, 0, 6, 0), (6, 0, 9, 9, 0, 0)]]
     yield "lines of no length", paths.of_outline([[[1, 2, 1], [1, 2, 1], [5, 5, 1]], [[7, 8, 1]]]), [[(1, 2, 5, 5), (5, 5, 1, 2)]]
     yield "a closed path", paths.of_path(path(0, 0, ["line", 0, 0])["path"]), paths.of_path(path()["path"])
+    asked = {"id": "one", "ppem": 9, "face": 1, "glyph": 3, "char": 65, "hinted": True, "dropout": "left", "want": ["bits"]}
+    seen = {**asked, "font": os.path.join(HERE, "fonts", "em-16.ttf")}
+    for version, due in ((2, seen), (1, {**seen, "dropout": True})):
+        yield "a request", tool.request_of({**asked, "font": "em-16.ttf", "group": "two", "expect": GLYPH}, version), due
+    for more, due in (({"face": 1}, "faces of collections"), ({"dropout": "near"}, "drop-out control: near"),
+                      ({"dropout": "left"}, None), ({}, None)):
+        yield "what version 1 lacks", tool.needs_two({"dropout": False, **more}), due
     yield "a tool that takes nothing", list(Deaf("deaf").answers([{"id": "one", "dropout": False}])), [
         ({"id": "one", "dropout": False}, {"broken": "the tool ended or did not answer"})]
     yield from ((code, list(listing.listed(bytes.fromhex(code))), due) for code, due in LISTINGS)
@@ -168,6 +177,18 @@ def drawn():
     case = {"id": "one", "about": "a rule", "expect": SQUARE, "font": "scan.ttf", "hinted": False}
     for answer, due in ((BESIDE, False), ({**SQUARE, **bits([1, 1, 2, 2], ["80"])}, True)):
         yield "a hint in a page", compare.HINT in report.section(runner().Result(case, answer, False)), due
+    yield "pixels of rows", report.pixel_set(bits([9, 2, -1, 0], ["E080", "8000"])), {(-1, 1), (0, 1), (1, 1), (7, 1), (-1, 0)}
+    alone, low, none = bits([1, 1, 1, 2], ["80"]), bits([1, 1, -3, -2], ["80"]), bits([0, 0, 0, 0], [])
+    for answer, due in ((alone, "width=197 height=262 viewBox='-32 -224 192 256'"),
+                        (low, "width=262 height=197 viewBox='-224 -32 256 192'")):
+        picture = report.figure("given", answer, {"outline": []}, answer)
+        yield "a picture of pixels alone", (due in picture, picture.count("<rect")), (True, 1)
+    for one, other, due in ((SQUARE, bits([1, 1, 9, 2], ["80"]), "width=262 height=96 viewBox='-32 -224 704 256'"),
+                            (SQUARE, none, "1 missing (blue), 0 too many (red)"),
+                            (none, SQUARE, "0 missing (blue), 1 too many (red)"),
+                            (SQUARE, low, "1 missing (blue), 1 too many (red)")):
+        yield "a difference", due in report.difference(one, other), True
+    yield "no difference", [report.difference(SQUARE, {"outline": []}), report.difference(none, none)], ["", ""]
     wide = report.figure("expected", {**SQUARE, "outline": [[[0, 0, 1], [640, 0, 1]]]}, SQUARE, {"outline": [[[640, 0, 1]]]})
     yield "a wide picture", wide.startswith("<figure><svg width=262 height=96 viewBox='-32 -224 704 256'"), True
     yield "no pixels", report.difference({"outline": []}, {"outline": []}), ""
@@ -190,7 +211,8 @@ def pages():
     for most in (400, 1):
         with tempfile.TemporaryDirectory() as folder:
             report.MOST = most
-            report.write(os.path.join(folder, "new"), "a & b", results)
+            for _ in range(2):
+                report.write(os.path.join(folder, "new"), "a & b", results)
             for name in ("index", "one", "two"):
                 with open(os.path.join(folder, "new", name + ".html"), encoding="utf-8") as file:
                     found[name, most] = file.read()
@@ -205,11 +227,42 @@ def pages():
            "two": ["<p>3 cases, 2 with a difference.</p>", "<li><a href='#two/d'>d</a><li><a href='#two/c'>c</a></ul>",
                    "<p>Unsupported: this (1)</p>", "<p class=own>Own choice: a choice</p>"]}
     yield from (("a page: " + part, part in found[name, 400], True) for name, parts in due.items() for part in parts)
-    yield "a cut page", ", of which the first 1 are drawn.</p>" in found["two", 1], True
+    cut = (", of which the first 1 are drawn.</p>", "<li><a href='#two/d'>d</a></ul>")
+    yield "a cut page", [it in found["two", 1] for it in cut], [True] * 2
+    drawn_there = ("1 missing (blue), 0 too many (red)", ">expected, advance 640<", ">given, advance 640<")
+    yield "what a page draws", [it in found["two", 1] for it in drawn_there], [True] * 3
     yield "sections", [found["two", most].count("<h2 ") for most in (400, 1)], [2, 1]
     yield "a path in a page", report.points_of([["move", 0, 0], ["line", 0, 64], ["quad", 9, 8, 7, 6]]), [
         [[0, 0, 1], [0, 64, 1], [9, 8, 0], [7, 6, 1]]]
     yield "a section of a path", report.section(runner().Result(results[0].case, path(9), False)).count("<circle cx=73 cy=0 "), 1
+
+
+def for_machines():
+    """The results as JSON and as JUnit's XML, beside what is due."""
+    results, pixel = results_of(runner()), "1 points, by up to %d/64 pixel"
+    with tempfile.TemporaryDirectory() as folder:
+        names = [os.path.join(folder, name) for name in ("all.json", "junit.xml")]
+        machine_readable.write_json(names[0], "tool", results, {"wrong": 2})
+        machine_readable.write_junit(names[1], results)
+        texts = []
+        for name in names:
+            with open(name, encoding="utf-8") as file:
+                texts.append(file.read())
+    yield "JSON", json.loads(texts[0]), {
+        "tool": "tool", "cases": 5, "wrong": 2,
+        "groups": {"one": {"passed": 1, "wrong": 1}, "two": {"own choice": 1, "wrong": 1, "unsupported": 1}},
+        "results": [{"id": "one/a", "result": "passed"}, {"id": "one/b", "result": "wrong", "fault": pixel % 1},
+                    {"id": "two/c", "result": "own choice", "fault": pixel % 2, "own": "a choice"},
+                    {"id": "two/d", "result": "wrong", "fault": "bits"},
+                    {"id": "two/e", "result": "unsupported", "unsupported": "this"}]}
+    yield "JUnit", texts[1].splitlines(), [
+        '<?xml version="1.0" encoding="UTF-8"?>', "<testsuites>", '<testsuite name="one" tests="2" failures="1" skipped="0">',
+        '<testcase classname="one" name="one/a"/>',
+        '<testcase classname="one" name="one/b"><failure message="%s">a rule</failure></testcase>' % (pixel % 1), "</testsuite>",
+        '<testsuite name="two" tests="3" failures="1" skipped="2">',
+        '<testcase classname="two" name="two/c"><skipped message="own choice: a choice: %s"/></testcase>' % (pixel % 2),
+        '<testcase classname="two" name="two/d"><failure message="bits">a rule</failure></testcase>',
+        '<testcase classname="two" name="two/e"><skipped message="this"/></testcase>', "</testsuite>", "</testsuites>"]
 
 
 def programs():
@@ -276,5 +329,5 @@ def text_of(function, *arguments):
 
 def faults():
     """What is not as it must be, and the count of examples."""
-    tried = [*compared(), *drawn(), *pages(), *programs(), *said()]
+    tried = [*compared(), *drawn(), *pages(), *for_machines(), *programs(), *said()]
     return ["%s: %s in place of %s" % it for it in tried if it[1] != it[2]], len(tried)
