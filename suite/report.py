@@ -80,7 +80,8 @@ def section(result):
         else {**result.answer, "outline": points_of(result.answer["path"])}
     return "<h2 id='%s'>%s</h2><p>%s. <code>%s</code></p><p class=wrong>%s</p>%s<div class=pair>%s%s%s</div>%s" % (
         html.escape(case["id"]), html.escape(case["id"]), html.escape(case["about"]), html.escape(json.dumps(asked)),
-        html.escape(result.fault) + ("; " + compare.HINT if compare.only_pixels(result.answer, result.fault) else ""), own, figure("expected", case["expect"], case["expect"], given),
+        html.escape(result.fault) + ("; " + compare.HINT if compare.only_pixels(result.answer, result.fault) else ""),
+        own, figure("expected", case["expect"], case["expect"], given),
         figure("given", given, case["expect"], given), difference(case["expect"], given), programs(case))
 
 

@@ -149,7 +149,7 @@ def make_programs(suite, font, parts):
 
 
 def make_limits(suite):
-    """As many points and component records as a character may have, and one more. A program that halts shows that they are allowed."""
+    """As many points and records as a character may have, and one more. A program that halts shows that they are allowed."""
     font = suite.font(FontMaker("parts"))
     many = [[(k, k * k % 61, 1) for k in range(64)]]
     whole, one_more, point = font.simple(many), font.simple([many[0] + [(64, 0, 1)]], "#28"), font.simple([[(0, 0, 1)]])

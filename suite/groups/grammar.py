@@ -1,9 +1,8 @@
 """`loca` and `glyf`: forms of offsets, flags and deltas of points, and bytes that end early."""
 import struct
 
-import fonts
 from making.boxes import with_box
-from making.fontmaker import FontMaker
+from making.fontmaker import FontMaker, fonts
 from making.suite import OPENTYPE
 
 SIMPLE = OPENTYPE + "glyf, simple glyph description: %s"
@@ -43,7 +42,8 @@ def make(suite):
     for name, data, part, own in tries():
         number = font.add(data if name in AS_THEY_ARE else with_box(data), bearing=0 if name in AS_THEY_ARE else None)
         for hinted in (False, True):
-            suite.case("%s-%s" % (name, "hinted" if hinted else "unhinted"), font, SIMPLE % part, number, hinted=hinted, own=own)
+            suite.case("%s-%s" % (name, "hinted" if hinted else "unhinted"), font, SIMPLE % part, number, hinted=hinted, own=own,
+                       bits=name != "wrap-down")  # which is large
     make_cuts(suite)
     make_loca(suite)
     make_tables(suite)
@@ -173,7 +173,8 @@ def make_directory(suite):
     """A tag that is there twice, a last table that ends past the file, and a file that begins with `true`."""
     about = OPENTYPE + "Organization of an OpenType font"
     for name, tag, change, own in [
-            ("twice", "hhez", lambda data: data.replace(b"hhez", b"hhea"), "of two directory records with one tag the first counts"),
+            ("twice", "hhez", lambda data: data.replace(b"hhez", b"hhea"),
+             "of two directory records with one tag the first counts"),
             ("past-the-file", "zzzz", lambda data: data[:-4], "a table that ends past the file ends with it"),
             ("true", None, lambda data: b"true" + data[4:], None)]:
         font = FontMaker("directory-" + name)
@@ -201,7 +202,15 @@ def make_tables(suite):
         font.simple([[(0, 0, 1), (0, 64, 1), (64, 0, 1)]])
         font.tables[tag] = data
         suite.case("table-" + name, font, OPENTYPE + tag, 2, hinted=False, own=own)
-    font = suite.font(FontMaker("table-two-faults"))
-    font.tables.update({"head": bytes(54), "maxp": bytes(32)})
-    own = "the first fault in order is the refusal: head before maxp"
-    suite.case("table-two-faults", font, OPENTYPE + "head", 0, hinted=False, own=own)
+    make_orders(suite, {name: (tag, data) for name, tag, data in changes})
+
+
+def make_orders(suite, changes):
+    """Two faults in one font: the refusal names the first in order."""
+    tags = ("head", "maxp", "hhea", "hmtx", "loca", "glyf")
+    pairs = [("missing-" + one, "missing-" + other) for one, other in zip(tags, tags[1:])]
+    pairs += [("missing-glyf", "bad-magic"), ("bad-magic", "short-maxp"), ("bad-maxp", "short-hhea"), ("short-hhea", "short-hmtx")]
+    for one, other in pairs:
+        font = suite.font(FontMaker("table-%s-and-%s" % (one, other)))
+        font.tables.update([changes[one], changes[other]])
+        suite.case(font.name, font, OPENTYPE + changes[one][0], 0, hinted=False, own="the first fault in order is the refusal")

@@ -55,9 +55,9 @@ def open_by(own, within):
 def make_values(suite):
     """Control values at edges of rounding, in an em of 1,000 units.
 
-    437 units are 335.616/64 pixels at 12 pixels per em, so 336; and a rounding with the threshold 48 takes 336 to 384, but 335 to 320.
-    31,972 units are 24,554.496/64 there, and 31,951 units 22,493.504/64 at 11. A factor in 16.16 is off by a third of its last bit, which
-    is 0.17/64 of such a value."""
+    437 units are 335.616/64 pixels at 12 pixels per em, so 336; and a rounding with the threshold 48 takes 336 to 384, but 335 to
+    320. 31,972 units are 24,554.496/64 there, and 31,951 units 22,493.504/64 at 11. A factor in 16.16 is off by a third of its last
+    bit, which is 0.17/64 of such a value."""
     font = suite.font(FontMaker("values", upem=1000, cvt=[437, -437, 435, 1, 31972, 31951, -31972, -31951, 125, -125]))
     about = APPLE + "Instruction set, Managing the Control Value Table: %s"
     rows = [("super-round", "RCVT", "74 SROUND 0 RCVT ROUND:0 1 RCVT ROUND:0", 2),
@@ -82,8 +82,8 @@ def make_values(suite):
 def make_edges(suite):
     """Places of the same kind, and points near to each other.
 
-    31,847, 31,972 and 32,222 units are just under a half at 12 pixels per em, 31,826 and 31,951 just over one at 11. The distance of
-    points 0 and 1 on the scaled outline is not their distance in FUnits, scaled."""
+    31,847, 31,972 and 32,222 units are just under a half at 12 pixels per em, 31,826 and 31,951 just over one at 11. The distance
+    of points 0 and 1 on the scaled outline is not their distance in FUnits, scaled."""
     font = suite.font(FontMaker("edges", upem=1000))
     far = font.simple([[(0, 0, 1), (31972, 31951, 1), (3, 7, 1), (-31972, -31951, 0), (0, 1, 1), (31826, 31847, 1), (1, 2, 0),
                         (-31847, -31826, 1), (1, 0, 1), (32222, -32222, 1)]], advance=31972)

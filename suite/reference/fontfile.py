@@ -42,7 +42,7 @@ class Font:
         self.tables = self.directory(data, directory_offset(data, face))
         missing = next((tag for tag in REQUIRED if tag not in self.tables), None)
         if missing:
-            raise Refused("TableMissing")
+            raise Refused("TableMissing", table=missing)
         head, maxp, hhea, hmtx, self.loca, self.glyf = (self.tables[tag] for tag in REQUIRED)
         self.need("head", head, 54)
         self.upem, self.long = u16(head, 18), i16(head, 50)
@@ -59,7 +59,7 @@ class Font:
         self.hmtx = hmtx
         self.need("hmtx", hmtx, max(4 * self.pairs, 1 if self.pairs == 0 else 0))
         if self.pairs == 0:
-            raise Refused("TableShort")
+            raise Refused("TableShort", table="hmtx")
 
     @staticmethod
     def need(tag, table, length):
