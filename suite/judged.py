@@ -209,7 +209,8 @@ def drawn():
     wide = report.figure("expected", {**SQUARE, "outline": [[[0, 0, 1], [640, 0, 1]]]}, SQUARE, {"outline": [[[640, 0, 1]]]})
     yield "a wide picture", wide.startswith("<figure><svg width=262 height=96 viewBox='-32 -224 704 256'"), True
     yield "no pixels", report.difference({"outline": []}, {"outline": []}), ""
-    yield "a dot", report.dots([[(3, 4, 1)]], 900, ({}, {})), "<circle cx=3 cy=-4 r='10.0' fill='#345' stroke='#345' stroke-width='3.6'/>"
+    yield "a dot", report.dots([[(3, 4, 1)]], 900, ({}, {})), (
+        "<circle cx=3 cy=-4 r='10.0' fill='#345' stroke='#345' stroke-width='3.6'/>")
     yield "a refusal", report.figure("given", HALT, GLYPH, HALT), "<figure><figcaption>given</figcaption><pre>%s</pre></figure>" % (
         "{&#x27;refusal&#x27;: {&#x27;name&#x27;: &#x27;StackUnder&#x27;, &#x27;address&#x27;: 2}}")
 

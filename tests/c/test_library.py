@@ -671,7 +671,8 @@ def test_numbers_of_show(lib):
                       ("43", (b"#########\n" * 3, b"box 9 3 0 0 advance -10\n"))):
         done = run([lib.at("show"), path, "16", word])
         assert (done.stdout, done.stderr) == due
-    for word, counts in (("41-ffff", b"glyphs 8 missing 65463\n"), ("41-41", b"glyphs 1 missing 0\n"), ("10ffff-10ffff", b"glyphs 1 missing 0\n")):
+    for word, counts in (("41-ffff", b"glyphs 8 missing 65463\n"), ("41-41", b"glyphs 1 missing 0\n"),
+                         ("10ffff-10ffff", b"glyphs 1 missing 0\n")):
         assert run([lib.at("show"), path, "16", word]).stderr == counts
     assert run([lib.at("show"), path, "16", "42"], status=1).stderr == b"refused: 1 Missing\n"
 

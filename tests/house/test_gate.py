@@ -129,7 +129,8 @@ TARGETS = {
     "test": ["tools/run_checks --stale sources program"], "test-long": ["tools/run_checks long"], "gate": [".ci/run"],
     "dist": ["tools/make_dist"], "packages": ["packaging/build"], "planted": ["tools/try_planted"],
     "mutants": ["tools/mutate --sample 300 python suite judges c examples web"],
-    "all": ["cd crates/mkstrike && rt all check --jobs $(../../tools/gate_time lanes)", "cd crates/mkstrike && rt run <stdin >/dev/null"],
+    "all": ["cd crates/mkstrike && rt all check --jobs $(../../tools/gate_time lanes)",
+            "cd crates/mkstrike && rt run <stdin >/dev/null"],
 }
 
 
@@ -152,7 +153,8 @@ TOOLS = {
     "sources": ["tools/check_dist --sources STALE", "tools/third_party --check"],
     "program": ["suite/run --every --with suite/adapters/mkstrike --show 20 --jobs 1", "suite/make --check --reference",
                 "suite/wrong_readings.py --cover", "suite/check_runner"],
-    "long": ["tools/fuzz_c --seconds 40", "tools/damage --count 10000 --program PROGRAM --jobs 1"],
+    "long": ["tools/fuzz_c --seconds 40", "tools/damage --count 10000 --program PROGRAM --jobs 1",
+             "tools/mutate suite --sample 20 --most 20 --at-least 60"],
     "built": ["tools/check_dist --program PROGRAM STALE"],
 }
 

@@ -105,8 +105,8 @@ TOKEN = re.compile(
     rb"|(?P<text>\"(?:\\.|[^\"\\\n])*\"|'(?:\\.|[^'\\\n])*'|`(?:\\.|[^`\\])*`)"
     rb"|(?P<number>0[xX][0-9A-Fa-f]+|\d+)(?P<tail>\w*)|(?P<name>[A-Za-z_$][\w$]*)"
     rb"|(?P<sign>>>>|===|!==|\.\.\.|=>|->|\+\+|--|<<=?|>>=?|[-+*/%&|^<>=!]=|&&|\|\||\?\?|.)", re.S | re.M)
-DECLARES = set(b"const let var import export function class return if for while else case default typedef struct static enum extern "
-               b"union do switch async goto unsigned int char size_t void break continue".split())
+DECLARES = set(b"const let var import export function class return if for while else case default typedef struct static enum "
+               b"extern union do switch async goto unsigned int char size_t void break continue".split())
 DEPTH = {b"(": 1, b"[": 1, b"{": 1, b")": -1, b"]": -1, b"}": -1}
 
 
@@ -149,9 +149,11 @@ class Tokens:
         """A statement that begins with a token is left out."""
         if not k or self.words[k - 1] not in (b";", b"{", b"}", b")"):
             return
-        start, end = self.tokens[k].start(), next((at for at, it in enumerate(self.words) if at >= k and it in (b";", b"{", b"}")), k)
+        end = next((at for at in range(k, len(self.words)) if self.words[at] in (b";", b"{", b"}")), k)
+        start = self.tokens[k].start()
         text, line = self.data[start:self.tokens[end].end()], self.data[:start].rpartition(b"\n")[2]
         is_start = self.tokens[k].lastgroup == "name" and self.words[k] not in DECLARES or self.words[k] in (b"*", b"++", b"--")
         is_whole = text.endswith(b";") and text.count(b"(") == text.count(b")") and not re.match(rb"\w+\s+\*?\w+", text)
-        if is_start and is_whole and re.search(rb"[=(]|\+\+|--", text) and (self.words[k - 1] != b")" or b"if" in line):
+        does = re.search(rb"[=(]|\+\+|--", text) and (self.words[k - 1] != b")" or b"if" in line)
+        if is_start and is_whole and does:
             yield start, self.tokens[end].end(), b";"

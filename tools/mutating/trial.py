@@ -52,7 +52,8 @@ class Copy:
 
     def __init__(self, top, folder, program):
         self.top, self.known, python = os.path.join(os.path.realpath(folder), "top"), {}, python_with(["pytest"])
-        shutil.copytree(top, self.top, symlinks=True, ignore=shutil.ignore_patterns(".git", "out", "__pycache__"))
+        # what a link leads to is copied, since it must not be written
+        shutil.copytree(top, self.top, ignore=shutil.ignore_patterns(".git", "out", "__pycache__"))
         shutil.copy(os.path.join(HERE, "seen.py"), self.at("python/sitecustomize.py"))
         self.named = {"pytest": [python, "-m", "pytest", *QUIET], "python3": [python]}
         self.env = {name: it for name, it in os.environ.items() if not name.startswith(("PYTHON", "MKSTRIKE", "PYTEST"))}
