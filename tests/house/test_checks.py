@@ -52,7 +52,7 @@ UNCOVERED = """{"id":"tables/uncovered","group":"tables","font":"scan.ttf","ppem
 
 # What a check needs to look at anything: without it its trials are left out.
 NEEDS = {"tests/c": "cc", "tests/program/test_work.py": "valgrind", "tests/python": "pytest", "tests/web -k 'not planted'": "chromium", "tests/web -k planted": "node",
-         "tools/fuzz_c": "clang", "tests/program/test_memory.py": "cc", "tests/packages": "dpkg-deb"}
+         "tools/fuzz_c": "clang", "tests/program/test_memory.py": "cc", "tests/packages": "dpkg-deb", "tools/mutate": "pytest"}
 # Checks that look at dist/, and at nothing if it is of other sources.
 OF_DIST = {"tools/check_dist", "tests/c", "tests/python", "tests/web", "tools/fuzz_c", "tests/packages"}
 

@@ -78,14 +78,15 @@ def test_numbers():
     assert [due.last_until(it) for it in (-97, -96, -33, -32, 31, 32, 95, 96)] == [-3, -2, -2, -1, -1, 0, 0, 1]
 
 
-@pytest.mark.parametrize("boxes, box, rows", [
+@pytest.mark.parametrize("case", [
     ([(0, 0, 64, 64)], (1, 1, 0, 0), [1]), ([(0, 0, 128, 64), (64, 64, 128, 128)], (2, 2, 0, 0), [3, 1]), ([], (0, 0, 0, 0), []),
     ([(32, 32, 32, 32)], (1, 1, 0, 0), [1]), ([(33, 0, 95, 64)], (0, 0, 0, 0), []), ([(0, 33, 64, 95)], (0, 0, 0, 0), []),
     ([(-64, -64, 0, 0)], (1, 1, -1, -1), [1]), ([(0, 0, 64, 64), (128, 128, 192, 192)], (3, 3, 0, 0), [4, 0, 1]),
     ([(64, 0, 256, 64), (33, 0, 64, 64)], (3, 1, 1, 0), [7]),
 ])
-def test_bits(boxes, box, rows):
+def test_bits(case):
     """The pixels of rectangles."""
+    boxes, box, rows = case
     found = due.bits_of(boxes)
     assert (found.box, found.rows) == (box, rows)
 

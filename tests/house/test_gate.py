@@ -11,11 +11,14 @@ import shlex
 import shutil
 import signal
 import subprocess
+import sys
 import time
 from importlib.machinery import SourceFileLoader
+from unittest import mock
 
 import prebuilt
 import pytest
+import web_page
 from needs import tool
 from prebuilt import TOP
 from test_run_checks import run_checks
@@ -76,13 +79,15 @@ def test_gate_that_passes(tmp_path):
     assert (status, last, sorted(calls)) == (0, ["one", "two"], CALLS)
 
 
-@pytest.mark.parametrize("way", ["exit 1", "kill -9 $$", "kill -15 $$", "exit 77"])
 @pytest.mark.parametrize("call", ["rt ci", "run_checks *sources", "run_checks *program long", "run_checks *built",
                                   "gate_time table*"])
-def test_gate_that_fails(call, way, tmp_path):
+def test_gate_that_fails(call, tmp_path):
     """One call fails, or is killed: the status is 1, and all others are made."""
-    status, _, calls = gate(tmp_path, {call: way})
-    assert (status, sorted(calls)) == (1, CALLS)
+    for number, way in enumerate(("exit 1", "kill -9 $$", "kill -15 $$", "exit 77")):
+        folder = tmp_path / str(number)
+        folder.mkdir()
+        status, _, calls = gate(folder, {call: way})
+        assert (way, status, sorted(calls)) == (way, 1, CALLS)
 
 
 def test_gate_without_kit(tmp_path):
@@ -90,13 +95,16 @@ def test_gate_without_kit(tmp_path):
     assert gate(tmp_path, {}, without="bin/rt")[0] == 1
 
 
-@pytest.mark.parametrize("ways, without", [({"check_dist *": "exit 1"}, ""), ({}, "dist/mkstrike")])
-@pytest.mark.parametrize("fails", [False, True])
-def test_gate_of_other_sources(ways, without, fails, tmp_path):
+OTHER = {"check_dist *": "exit 1"}
+
+
+@pytest.mark.parametrize("case", [(OTHER, "", 0), ({}, "dist/mkstrike", 0), ({**OTHER, "run_checks *long": "exit 1"}, "", 1)])
+def test_gate_of_other_sources(case, tmp_path):
     """If dist/ is of other sources, or not there, the checks come after `rt ci`, on the program that was built."""
-    status, _, calls = gate(tmp_path, {**ways, **({"run_checks *long": "exit 1"} if fails else {})}, without=without)
-    due = ["run_checks --program %s %s" % (BUILT, groups) for groups in ("program long", "built")]
-    assert (status, [it for it in calls if it == "rt ci" or "--program" in it]) == (int(fails), ["rt ci", *due])
+    ways, without, due = case
+    status, _, calls = gate(tmp_path, ways, without=without)
+    after = ["run_checks --program %s %s" % (BUILT, groups) for groups in ("program long", "built")]
+    assert (status, [it for it in calls if it == "rt ci" or "--program" in it]) == (due, ["rt ci", *after])
 
 
 def test_words_of_the_gate(tmp_path):
@@ -108,9 +116,10 @@ def test_words_of_the_gate(tmp_path):
     assert gate(other, {}, "--fast") == (2, [], []) and gate(other, {}, "--stale", "x") == (2, [], [])
 
 
-@pytest.mark.parametrize("number, due", [(signal.SIGTERM, 143), (signal.SIGINT, 130), (signal.SIGHUP, 143)])
-def test_end_of_the_gate(number, due, tmp_path):
+@pytest.mark.parametrize("ended", [(signal.SIGTERM, 143), (signal.SIGINT, 130), (signal.SIGHUP, 143)])
+def test_end_of_the_gate(ended, tmp_path):
     """A signal ends the gate and what it started."""
+    number, due = ended
     command, env = gate_in(tmp_path, {"run_checks*sources": "echo $$ > \"$NOTES.pid\"; exec sleep 100"})
     path = tmp_path / "notes.pid"
     quiet = {"stdout": subprocess.DEVNULL, "stderr": subprocess.DEVNULL}
@@ -190,9 +199,8 @@ NAMES = ("mkstrike", "libmkstrike_c.a", prebuilt.ARM_ARCHIVE, *prebuilt.MODULES)
 
 
 @pytest.fixture(name="made")
-def made_dist(tmp_path, monkeypatch):
+def made_dist(tmp_path):
     """A dist/ of made files whose manifest says that they are of these sources."""
-    monkeypatch.setattr(prebuilt, "DIST", str(tmp_path))
     hashes = [prebuilt.sha256(name.encode()) for name in NAMES]
     sources = prebuilt.hash_of_sources("mkstrike"), prebuilt.hash_of_sources("mkstrike_c")
     manifest = prebuilt.Manifest(sources[0], "kit", hashes[0], sources[1], hashes[1], hashes[2], "0" * 64, hashes[3], hashes[4])
@@ -203,12 +211,14 @@ def made_dist(tmp_path, monkeypatch):
     return tmp_path, manifest
 
 
-def fault_of(*words):
-    """What tools/check_dist says that is wrong, or None. The page is not looked at."""
-    with pytest.MonkeyPatch.context() as patch, contextlib.redirect_stdout(io.StringIO()):
-        patch.setattr("web_page.faults", lambda _: [])
-        patch.setattr("prebuilt.kit", lambda: "kit")
-        patch.setattr("sys.argv", ["check_dist", *(words or ["--sources"])])
+def fault_of(folder, *words):
+    """What tools/check_dist says that is wrong with a dist/, or None. The page is not looked at."""
+    changed = ((prebuilt, "DIST", str(folder)), (prebuilt, "kit", lambda: "kit"), (web_page, "faults", lambda _: []),
+               (sys, "argv", ["check_dist", *(words or ["--sources"])]))
+    with contextlib.ExitStack() as stack:
+        for it in changed:
+            stack.enter_context(mock.patch.object(*it))
+        stack.enter_context(contextlib.redirect_stdout(io.StringIO()))
         try:
             return check_dist.main() or None
         except prebuilt.Fault as fault:
@@ -219,55 +229,56 @@ def fault_of(*words):
 def test_file_of_dist(name, made):
     """A file of dist/ that is another one, longer, of another kind, or not there."""
     folder, path = made[0], made[0] / name
-    assert fault_of() is None
+    assert fault_of(folder) is None
     for data in (name.encode() + b"x", name.encode()[:-1], name.encode()[:-1] + b"?"):
         path.write_bytes(data)
-        assert fault_of() == "dist/%s is not the file that dist/manifest names by its hash" % name
+        assert fault_of(folder) == "dist/%s is not the file that dist/manifest names by its hash" % name
     path.write_bytes(bytes(prebuilt.MOST))
-    assert fault_of() == "dist/%s has 1000000 bytes: it has to be under 1000000" % name
+    assert fault_of(folder) == "dist/%s has 1000000 bytes: it has to be under 1000000" % name
     path.write_bytes(name.encode())
     path.chmod(0o644 if name == "mkstrike" else 0o755)
-    assert fault_of() == "dist/%s is %sexecutable" % (name, "not " if name == "mkstrike" else "")
+    assert fault_of(folder) == "dist/%s is %sexecutable" % (name, "not " if name == "mkstrike" else "")
     os.rename(path, folder.parent / "kept")
-    assert fault_of() == "dist/%s: No such file or directory" % name
+    assert fault_of(folder) == "dist/%s: No such file or directory" % name
     os.symlink(folder.parent / "kept", path)
-    assert fault_of() == "dist/%s is not a plain file" % name
+    assert fault_of(folder) == "dist/%s is not a plain file" % name
 
 
 def test_other_files_of_dist(made):
     """A file that has no place there; a page that is not there; a manifest with other lines."""
     folder, manifest = made
     (folder / "new").write_bytes(b"")
-    assert fault_of() == "dist/new has no place there"
+    assert fault_of(folder) == "dist/new has no place there"
     os.remove(folder / "new")
     os.rename(folder / "mkstrike.html", folder.parent / "page")
-    assert fault_of() == "dist/mkstrike.html: No such file or directory"
+    assert fault_of(folder) == "dist/mkstrike.html: No such file or directory"
     os.rename(folder.parent / "page", folder / "mkstrike.html")
     for field, wrong in (("kit", ""), ("program", None), ("sources", "0" * 63), ("module", None)):
         (folder / "manifest").write_bytes(prebuilt.manifest_of(manifest._replace(**{field: wrong})))
-        assert fault_of() == "dist/manifest does not have the lines sources kit mkstrike library-sources libmkstrike_c.a"
+        assert fault_of(folder) == "dist/manifest does not have the lines sources kit mkstrike library-sources libmkstrike_c.a"
 
 
 @pytest.mark.parametrize("name", NAMES)
 def test_build(name, made, tmp_path_factory):
     """Each file is compared with the build, byte for byte; but not with --sources."""
-    built = tmp_path_factory.mktemp("built")
+    built, folder = tmp_path_factory.mktemp("built"), made[0]
     for it in NAMES:
         (built / it).write_bytes(it.encode())
     options = zip(("--program", "--archive", "--arm", "--modules"), [*(built / it for it in NAMES[:3]), built])
     words, size = [str(it) for pair in options for it in pair], len(name)
-    assert fault_of(*words) is None and made
+    assert fault_of(folder, *words) is None
     (built / name).write_bytes(name.encode() + b"x")
     due = "dist/%s (%d bytes) and %s (%d bytes) are of the same sources, and differ first at byte %d" % (
         name, size, built / name, size + 1, size + 1)
-    assert fault_of(*words) == fault_of(*words, "--stale") == due and fault_of(*words, "--sources") is None
+    assert fault_of(folder, *words) == fault_of(folder, *words, "--stale") == due and fault_of(folder, *words, "--sources") is None
     (built / name).write_bytes(name.encode()[:2] + b"?" + name.encode()[3:])
-    assert fault_of(*words).endswith("differ first at byte 3")
+    assert fault_of(folder, *words).endswith("differ first at byte 3")
 
 
-@pytest.mark.parametrize("field, name", [("sources", "mkstrike"), ("library_sources", "libmkstrike_c.a")])
-def test_other_sources(field, name, made):
+@pytest.mark.parametrize("field", ["sources", "library_sources"])
+def test_other_sources(field, made):
     """Other sources are a fault, unless --stale."""
-    (made[0] / "manifest").write_bytes(prebuilt.manifest_of(made[1]._replace(**{field: "0" * 64})))
-    assert fault_of() == "dist/%s is of other sources: tools/make_dist makes it anew" % name
-    assert fault_of("--sources", "--stale") is None
+    folder, name = made[0], "mkstrike" if field == "sources" else "libmkstrike_c.a"
+    (folder / "manifest").write_bytes(prebuilt.manifest_of(made[1]._replace(**{field: "0" * 64})))
+    assert fault_of(folder) == "dist/%s is of other sources: tools/make_dist makes it anew" % name
+    assert fault_of(folder, "--sources", "--stale") is None
