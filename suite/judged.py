@@ -179,6 +179,12 @@ def talked():
     it, broken = tool.Tool(shlex.join([sys.executable, "-c", ENDS])), {"broken": "the tool ended or did not answer"}
     yield "a tool that ends", list(it.answers(cases)), [(it, broken if it["id"] in "cf" else {"id": it["id"]}) for it in cases]
     yield "the process of a tool", it.process, None
+    cases = [{"id": str(k), "font": "scan.ttf", "dropout": False, "expect": GLYPH} for k in range(53)]
+    for quiet, due in ((False, "\r[%-30s] 50 of 53\r[%s] 53 of 53\n" % ("#" * 28, "#" * 30)), (True, "")):
+        with contextlib.redirect_stderr(io.StringIO()) as said:
+            results = runner().run_all(shlex.join([*it.command[:-1], ENDS.replace("3", "99")]), cases, 2, quiet, False)
+        yield "the bar of a run", said.getvalue(), due
+        yield "the order of results", [result.case["id"] for result in results], [case["id"] for case in cases]
 
 
 def drawn():

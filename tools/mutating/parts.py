@@ -6,8 +6,8 @@ import shutil
 RUNNER = ["suite/" + it for it in "compare.py run tool.py paths.py report.py machine_readable.py listing.py".split()]
 PARTS = {
     "python": [(["python/mkstrike/*.py"], ["pytest tests/python -k 'not damaged and not types'"])],
-    "suite": [(RUNNER, ["suite/check_runner --only judged", "suite/check_runner"]),
-              (["suite/reference/*.py"], ["python3 tools/mutating/each_case.py", "pytest tests/program/test_traces.py"])],
+    "suite": [(RUNNER, ["suite/check_runner --only judged", "suite/check_runner"])],
+    "reference": [(["suite/reference/*.py"], ["python3 tools/mutating/each_case.py", "pytest tests/program/test_traces.py"])],
     "judges": [(["tests/lib/due.py"], ["pytest tests/house/test_due.py"]),
                (["tests/house/rules.py"], ["pytest tests/house/test_rules.py"]),
                (["tests/house/forms.py"], ["pytest tests/house/test_forms.py"]),
