@@ -105,6 +105,8 @@ def test_tools(tmp_path):
         "int same(int a) { return a + [0 -> 1]; }": "killed"}
     with pytest.raises(SystemExit, match="^mutate: false fails as it is"):
         judged(top, tmp_path / "other", (["planted/same.c"], ["false"]))
+    with pytest.raises(SystemExit, match="^mutate: mkdir made fails without the mutant too"):
+        judged(top, tmp_path / "again", (["planted/same.c"], ["mkdir made"]))
 
 
 @pytest.mark.parametrize("number", range(len(EDITS)))

@@ -27,6 +27,7 @@ class Command:
 
     def __init__(self, words, seconds, folder):
         self.words, self.seconds, self.times, self.callers = words, seconds, {}, collections.defaultdict(set)
+        self.is_sure = False  # whether it was seen to pass again after a kill
         for name in glob.glob(os.path.join(folder, "*.json")):
             with open(name, encoding="utf-8") as file:
                 seen, times = json.load(file)
@@ -59,8 +60,9 @@ class Copy:
         self.env = {name: it for name, it in os.environ.items() if not name.startswith(("PYTHON", "MKSTRIKE", "PYTEST"))}
         self.env.update(
             PATH=os.path.dirname(python) + ":" + os.environ["PATH"], PYTHONPATH=self.at("python"), PYTHONDONTWRITEBYTECODE="1",
-            TMPDIR=self.at("out/tmp"), MKSTRIKE_PROGRAM=program, MKSTRIKE_MODULES=self.at("dist"))
-        os.makedirs(self.env["TMPDIR"])
+            TMPDIR=os.path.join(os.path.dirname(self.top), "kept"), MKSTRIKE_PROGRAM=program, MKSTRIKE_MODULES=self.at("dist"))
+        os.makedirs(self.env["TMPDIR"])  # outside: what tests leave there is no part of the repository
+        os.mkdir(self.at("out"))
 
     def at(self, path):
         return os.path.join(self.top, path)
@@ -138,7 +140,10 @@ class Copy:
             self.put(mutant.path, changed)
             how, by = self.try_by(known, mutant, most)
             self.put(mutant.path, data)
+            if how == KILLED and not known.is_sure and self.try_by(known, mutant, most)[0] != SURVIVED:
+                raise SystemExit("mutate: %s fails without the mutant too" % command)
             if how == KILLED:
+                known.is_sure = True
                 return how, by
             found.add(how)
         return min(found), ""
