@@ -66,6 +66,12 @@ def test_answers(number):
     assert found is None if said is None else found and found.startswith(said), found
 
 
+def test_difference():
+    """60 bytes are shown from where an output begins to differ."""
+    assert due.difference(b"a\n" + b"x" * 99, b"a\n" + b"z" * 61).endswith(
+        "from byte 2, in line 2: %r, and %r is due" % (b"x" * 60, b"z" * 60))
+
+
 def test_own_lines():
     """Lines for people are left out at the end, and nowhere else."""
     told = [due.own_lines(it) for it in (LINE, LINE + ADVICE, LINE + 2 * ADVICE, ADVICE + LINE, b"")]
