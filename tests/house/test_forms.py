@@ -27,7 +27,8 @@ def test_good(number):
 
 
 CODE = [("ensures(a[{1}]) { b } c", "c"), ("a ensures", "a"), ("a #[b([c])] d", "a d"), ("a ghost { b { c } } , d", "a d"),
-        ("requires b { c } ; d", "d"), ("a.ensures { b } c", "a.ensures { b } c"), ("a /* b */ c // d", "a c"), ("a ghost use b; c { d }", "a c { d }"),
+        ("requires b { c } ; d", "d"), ("a.ensures { b } c", "a.ensures { b } c"),
+        ("a /* b */ c // d", "a c"), ("a ghost use b; c { d }", "a c { d }"),
         ("a #[cfg(test)] mod tests { b }", "a"), ("a #[cfg(test)] mod tests { b } c", "a mod tests { b } c")]
 
 
