@@ -11,7 +11,7 @@ PARTS = {
     "judges": [(["tests/lib/due.py"], ["pytest tests/house/test_due.py"]),
                (["tests/house/rules.py"], ["pytest tests/house/test_rules.py"]),
                (["tests/house/forms.py"], ["pytest tests/house/test_forms.py"]),
-               (["tests/house/documents.py"], ["pytest tests/house/test_documents.py -k planted"]),
+               (["tests/house/documents.py"], ["pytest tests/house/test_documents.py -k 'planted or dots'"]),
                (["tools/run_checks"], ["pytest tests/house/test_run_checks.py tests/house/test_gate.py"]),
                (["tools/check_dist", "tools/prebuilt.py"], ["pytest tests/house/test_gate.py"])],
     "c": [(["c/*.c"], ["pytest tests/c -k 'not sanitizer and not valgrind and not arm and not commands and not damaged'"])],
