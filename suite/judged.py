@@ -15,6 +15,7 @@ import machine_readable
 import paths
 import report
 import tool
+from making import fonts
 
 HERE = os.path.dirname(os.path.realpath(__file__))
 TRIANGLE = [[0, 0, 1], [0, 64, 1], [64, 0, 1]]
@@ -291,6 +292,14 @@ def for_machines():
         '<testcase classname="two" name="two/e"><skipped message="this"/></testcase>', "</testsuite>", "</testsuites>"]
 
 
+class Chain:
+    """A font in which each glyph is made of the next one."""
+
+    @staticmethod
+    def glyph_bytes(number):
+        return fonts.composite([(number + 1, 0, 0)])
+
+
 def programs():
     """The listings of programs that cases run, beside what is due."""
     with open(os.path.join(HERE, "cases.jsonl"), encoding="utf-8") as lines:
@@ -313,6 +322,7 @@ def programs():
     for name, due in (("maps/delta-20", 2), ("maps/delta-23", 0), ("maps/broken-falling-41", 0)):
         with open(os.path.join(HERE, "fonts", cases[name]["font"]), "rb") as file:
             yield name, listing.glyph_of(listing.Font(file.read()), cases[name]), due
+    yield "components of components", [name for name, _ in listing.of_glyph(Chain, 0, 0)], ["glyph %d" % k for k in range(9)]
     yield "a face that is not there", listing.programs({**cases["faces/alone-1-glyph-2"], "hinted": True}), []
 
 
