@@ -211,18 +211,23 @@ def made_dist(tmp_path):
     return tmp_path, manifest
 
 
-def fault_of(folder, *words):
-    """What tools/check_dist says that is wrong with a dist/, or None. The page is not looked at."""
-    changed = ((prebuilt, "DIST", str(folder)), (prebuilt, "kit", lambda: "kit"), (web_page, "faults", lambda _: []),
+def looked_at(folder, *words, page=()):
+    """What tools/check_dist says that is wrong with a dist/, or None, and what it prints, if these are the faults of the page."""
+    changed = ((prebuilt, "DIST", str(folder)), (prebuilt, "kit", lambda: "kit"), (web_page, "faults", lambda _: list(page)),
                (sys, "argv", ["check_dist", *(words or ["--sources"])]))
     with contextlib.ExitStack() as stack:
         for it in changed:
             stack.enter_context(mock.patch.object(*it))
-        stack.enter_context(contextlib.redirect_stdout(io.StringIO()))
+        said = stack.enter_context(contextlib.redirect_stdout(io.StringIO()))
         try:
-            return check_dist.main() or None
+            return check_dist.main() or None, said.getvalue()
         except prebuilt.Fault as fault:
-            return str(fault)
+            return str(fault), said.getvalue()
+
+
+def fault_of(*words):
+    """What is wrong, or None."""
+    return looked_at(*words)[0]
 
 
 @pytest.mark.parametrize("name", NAMES)
@@ -273,6 +278,15 @@ def test_build(name, made, tmp_path_factory):
     assert fault_of(folder, *words) == fault_of(folder, *words, "--stale") == due and fault_of(folder, *words, "--sources") is None
     (built / name).write_bytes(name.encode()[:2] + b"?" + name.encode()[3:])
     assert fault_of(folder, *words).endswith("differ first at byte 3")
+
+
+def test_said(made):
+    """What is said of a dist/ that was not built here, and of a page of other sources."""
+    how = "of these sources by its manifest, and was not built here"
+    said = "check_dist: dist/mkstrike is %s; dist/libmkstrike_c.a is %s" % (how, how)
+    assert looked_at(made[0], "--sources") == (None, said + "\n")
+    assert looked_at(made[0], "--sources", page=["a fault", "another"]) == ("a fault; another", "")
+    assert looked_at(made[0], "--sources", "--stale", page=["a fault", "another"]) == (None, said + "; a fault; another\n")
 
 
 @pytest.mark.parametrize("field", ["sources", "library_sources"])
