@@ -1,5 +1,5 @@
 # What each target needs and takes is in README.md (make test, make test-long, make gate) and CONTRIBUTING.md (the others).
-.PHONY: all test test-long gate dist packages planted
+.PHONY: all test test-long gate dist packages planted mutants
 
 # proves what changed in the program's crates, and builds crates/mkstrike/out/mkstrike
 all:
@@ -29,3 +29,7 @@ packages:
 # the edits that must fail and that the gate leaves out, over the proofs that `rt check` kept here
 planted:
 	tools/try_planted
+
+# how many small faults of the sources the tests find, 300 a part, before a release: hours
+mutants:
+	tools/mutate --sample 300 python suite reference judges c examples web

@@ -5,6 +5,8 @@ import importlib.util
 import io
 import json
 import os
+import shlex
+import sys
 import tempfile
 
 import compare
@@ -13,6 +15,7 @@ import machine_readable
 import paths
 import report
 import tool
+from making import fonts
 
 HERE = os.path.dirname(os.path.realpath(__file__))
 TRIANGLE = [[0, 0, 1], [0, 64, 1], [64, 0, 1]]
@@ -164,6 +167,27 @@ class Deaf(tool.Tool):
         raise AssertionError("nothing waits for an answer")
 
 
+# A tool that gives each request its id again, and ends at its fourth, which is the third case.
+ENDS = """import json, sys
+for number, line in enumerate(sys.stdin):
+    print(json.dumps({"id": json.loads(line)["id"]}), flush=True) if number < 3 else sys.exit()
+"""
+
+
+def talked():
+    """What a tool's processes answer, beside what is due: a request at which one ends has no answer, and the others have theirs."""
+    cases = [{"id": name, "font": "scan.ttf", "dropout": False} for name in "abcdefg"]
+    it, broken = tool.Tool(shlex.join([sys.executable, "-c", ENDS])), {"broken": "the tool ended or did not answer"}
+    yield "a tool that ends", list(it.answers(cases)), [(it, broken if it["id"] in "cf" else {"id": it["id"]}) for it in cases]
+    yield "the process of a tool", it.process, None
+    cases = [{"id": str(k), "font": "scan.ttf", "dropout": False, "expect": GLYPH} for k in range(53)]
+    for quiet, due in ((False, "\r[%-30s] 50 of 53\r[%s] 53 of 53\n" % ("#" * 28, "#" * 30)), (True, "")):
+        with contextlib.redirect_stderr(io.StringIO()) as said:
+            results = runner().run_all(shlex.join([*it.command[:-1], ENDS.replace("3", "99")]), cases, 2, quiet, False)
+        yield "the bar of a run", said.getvalue(), due
+        yield "the order of results", [result.case["id"] for result in results], [case["id"] for case in cases]
+
+
 def drawn():
     """What pictures have, beside what is due."""
     made = {"expected": report.figure("expected", SQUARE, SQUARE, BESIDE), "given": report.figure("given", BESIDE, SQUARE, BESIDE),
@@ -192,6 +216,8 @@ def drawn():
     wide = report.figure("expected", {**SQUARE, "outline": [[[0, 0, 1], [640, 0, 1]]]}, SQUARE, {"outline": [[[640, 0, 1]]]})
     yield "a wide picture", wide.startswith("<figure><svg width=262 height=96 viewBox='-32 -224 704 256'"), True
     yield "no pixels", report.difference({"outline": []}, {"outline": []}), ""
+    yield "a dot", report.dots([[(3, 4, 1)]], 900, ({}, {})), (
+        "<circle cx=3 cy=-4 r='10.0' fill='#345' stroke='#345' stroke-width='3.6'/>")
     yield "a refusal", report.figure("given", HALT, GLYPH, HALT), "<figure><figcaption>given</figcaption><pre>%s</pre></figure>" % (
         "{&#x27;refusal&#x27;: {&#x27;name&#x27;: &#x27;StackUnder&#x27;, &#x27;address&#x27;: 2}}")
 
@@ -231,6 +257,7 @@ def pages():
     yield "a cut page", [it in found["two", 1] for it in cut], [True] * 2
     drawn_there = ("1 missing (blue), 0 too many (red)", ">expected, advance 640<", ">given, advance 640<")
     yield "what a page draws", [it in found["two", 1] for it in drawn_there], [True] * 3
+    yield "reasons", [found[name, 400].count("Unsupported: ") for name in ("one", "two")], [0, 1]
     yield "sections", [found["two", most].count("<h2 ") for most in (400, 1)], [2, 1]
     yield "a path in a page", report.points_of([["move", 0, 0], ["line", 0, 64], ["quad", 9, 8, 7, 6]]), [
         [[0, 0, 1], [0, 64, 1], [9, 8, 0], [7, 6, 1]]]
@@ -265,6 +292,14 @@ def for_machines():
         '<testcase classname="two" name="two/e"><skipped message="this"/></testcase>', "</testsuite>", "</testsuites>"]
 
 
+class Chain:
+    """A font in which each glyph is made of the next one."""
+
+    @staticmethod
+    def glyph_bytes(number):
+        return fonts.composite([(number + 1, 0, 0)])
+
+
 def programs():
     """The listings of programs that cases run, beside what is due."""
     with open(os.path.join(HERE, "cases.jsonl"), encoding="utf-8") as lines:
@@ -287,6 +322,7 @@ def programs():
     for name, due in (("maps/delta-20", 2), ("maps/delta-23", 0), ("maps/broken-falling-41", 0)):
         with open(os.path.join(HERE, "fonts", cases[name]["font"]), "rb") as file:
             yield name, listing.glyph_of(listing.Font(file.read()), cases[name]), due
+    yield "components of components", [name for name, _ in listing.of_glyph(Chain, 0, 0)], ["glyph %d" % k for k in range(9)]
     yield "a face that is not there", listing.programs({**cases["faces/alone-1-glyph-2"], "hinted": True}), []
 
 
@@ -329,5 +365,5 @@ def text_of(function, *arguments):
 
 def faults():
     """What is not as it must be, and the count of examples."""
-    tried = [*compared(), *drawn(), *pages(), *for_machines(), *programs(), *said()]
+    tried = [*compared(), *talked(), *drawn(), *pages(), *for_machines(), *programs(), *said()]
     return ["%s: %s in place of %s" % it for it in tried if it[1] != it[2]], len(tried)

@@ -674,6 +674,83 @@ def test_console_of_odd_advances(lib):
         raise Wrong("examples/console.c draws %d columns" % width)
 
 
+# A font with one unit a pixel at 16: from each character to the width of a bar three pixels high, whose advance is a pixel more. Bar 9
+# ends 20 pixels before its origin by its program, and bar 10 begins two pixels before it. U+0042 is missing.
+BARS = {0x41: 1, 0x80: 2, 0x7FF: 3, 0x800: 4, 0xFFFD: 5, 0x10000: 6, 0xFFFF: 7, 0x10FFFF: 8, 0x43: 9, 0x44: 10}
+BACK = bytes.fromhex("01 B9 0005 FB00 38")  # SVTCA[1], PUSHW 5 -1280, SHPIX: point 5 of a glyph of four is where it ends
+
+
+def bars(ascender, descender):
+    """That font, with these heights."""
+    glyphs = [fonts.simple([[(x, 0, 1), (x, 3, 1), (x + k, 3, 1), (x + k, 0, 1)]], BACK if k == 9 else b"")
+              for k, x in zip(range(1, 11), [0] * 9 + [-2])]
+    font = fonts.font_of([b"", *glyphs], fonts.wide_map_of(BARS.items()), upem=16, stack=9,
+                         metrics=[(0, 0)] + [(k + 1, 0) for k in range(1, 10)] + [(11, -2)])
+    return fonts.with_tables(font, hhea=fonts.hhea_of(ascender, descender, 11))
+
+
+def line_of(widths, ascent, rows):
+    """The picture of a line of bars by their widths, and of boxes where that is 0."""
+    box = {(x, y) for x in range(1, 10) for y in range(12) if x in (1, 9) or y in (0, 11)}
+    column, found = 0, set()
+    for width in widths:
+        left = -2 if width == 10 else 0
+        pixels = {(left + x, y) for x in range(width) for y in range(3)} if width else box
+        found |= {(column + x, ascent - 1 - y) for x, y in pixels} if column < 1024 else set()
+        column += {0: 11, 9: 0}.get(width, width + 1)
+    column = min(column, 1024)
+    lines = [sum(1 << 1023 - x for x, at in found if at == y and 0 <= x < 1024) for y in range(rows)]
+    return b"P4\n%d %d\n" % (column, rows) + b"".join(it.to_bytes(128, "big")[:(column + 7) // 8] for it in lines)
+
+
+# A text, the bars that are due, and the heights of the font.
+LINES = [
+    ("A\x80\u07ff\u0800\uffff\U00010000\U0010ffff", [1, 2, 3, 4, 7, 6, 8], 12, -4), ("AB\ufffdA", [1, 0, 5, 1], 12, -4),
+    (b"\x80A\xc1A\xe0A\xf0A\xf5A", [5, 1] * 5, 12, -4), (b"\xc2\xc0A\xf4", [5, 5, 1, 5], 12, -4),
+    (b"\xf5\x80\x80A", [5, 5, 5, 1], 12, -4),
+    (b"\xbfA\xc2AA\xe0\xa0AA\xf0\x90\x80AA", [5, 1, 5, 1, 1, 5, 5, 1, 1, 5, 5, 5, 1, 1], 12, -4), ("ACA", [1, 9, 1], 12, -4),
+    ("DD", [10, 10], 12, -4), ("A", [1], 2, -1), ("A", [1], 12, 9), ("A", [1], 1, 3), ("AA", [1, 1], 100, -60), ("A", [1], 127, -1),
+    ("A", [1], 140, 0), ("A" * 600, [1] * 600, 12, -4), ("\U0010ffff" * 113 + "DAAAA", [8] * 113 + [10, 1, 1, 1, 1], 12, -4),
+    ("", [], 12, -4), ("A" * 512 + "D", [1] * 512, 12, -4), ("C" * 1023 + "AD", [9] * 1023 + [1], 12, -4)]
+
+
+@pytest.mark.parametrize("number", range(len(LINES)))
+def test_lines_of_console(number, lib):
+    """Each form of UTF-8 and bytes that are none, what is missing, advances below 0, and what lies outside the frame."""
+    (text, widths, ascender, descender), path = LINES[number], lib.at("bars.ttf")
+    with open(path, "wb") as file:
+        file.write(bars(ascender, descender))
+    done = run([lib.at("console"), path, "16", text])
+    assert done.stdout == line_of(widths, ascender, min(max(ascender - descender, 0), 128))
+    assert re.fullmatch(rb"memory [1-9]\d{2,5} bytes\n", done.stderr)
+
+
+@pytest.mark.parametrize("name", ["show", "console"])
+def test_words_of_examples(name, lib):
+    """Without their words or the font the examples end with 2, and with 1 after a refusal."""
+    font = lib.part("DejaVuSans.ttf", range(0x20, 0x7F))
+    for words in ([], [font, "16"], [font, "16", "41", "x"], [lib.at("no font"), "16", "41"]):
+        assert run([lib.at(name), *words], status=2).stdout == b""
+    for ppem in ("0", "1025"):
+        done = run([lib.at(name), font, ppem, "41"], status=1)
+        assert (done.stdout, done.stderr) == (b"", b"refused: 60 BadSize\n")
+
+
+def test_numbers_of_show(lib):
+    """The box and the advance of a picture, the counts of a strike, and a range that is none, of which the first character is shown."""
+    path, shown, told = lib.at("bars.ttf"), b"##########\n" * 3, b"box 10 3 -2 0 advance 11\n"
+    with open(path, "wb") as file:
+        file.write(bars(12, -4))
+    for word, due in (("44", (shown, told)), ("44-43", (shown, told)), ("44-110000", (shown, told)),
+                      ("43", (b"#########\n" * 3, b"box 9 3 0 0 advance -10\n"))):
+        done = run([lib.at("show"), path, "16", word])
+        assert (done.stdout, done.stderr) == due
+    for word, counts in (("41-ffff", b"glyphs 8 missing 65463\n"), ("41-41", b"glyphs 1 missing 0\n"),
+                         ("10ffff-10ffff", b"glyphs 1 missing 0\n")):
+        assert run([lib.at("show"), path, "16", word]).stderr == counts
+    assert run([lib.at("show"), path, "16", "42"], status=1).stderr == b"refused: 1 Missing\n"
+
+
 def rows_only(out):
     """The rows of a text of pictures."""
     return b"".join(it + b"\n" for it in out.split(b"\n") if re.fullmatch(rb"[#.]+", it))

@@ -54,7 +54,7 @@ UNCOVERED = """{"id":"tables/uncovered","group":"tables","font":"scan.ttf","ppem
 # What a check, or a trial, needs to look at anything: without it the trial is left out.
 NEEDS = {"tests/c": "cc", "tests/program/test_work.py": "valgrind", "tests/python": "pytest", "tests/web -k 'not planted'": "chromium", "tests/web -k planted": "node",
          "tests/program/test_memory.py": "cc", "tests/packages": "dpkg-deb",
-         "a stand-in that skips nothing": "pytest"}
+         "a stand-in that skips nothing": "pytest", "tools/mutate": "pytest"}
 # Checks that look at dist/, and at nothing if it is of other sources.
 OF_DIST = {"tools/check_dist", "tests/c", "tests/python", "tests/web", "tools/fuzz_c", "tests/packages"}
 
@@ -134,6 +134,8 @@ TRIALS = [
     Trial("tools/fuzz_c", "a fault of the library", r"a fault", "tools/fuzz_c --runs 400",
           ("tools/fuzz_c.c", 'sprintf(heights, "\\nFONT_ASCENT %d', 'sprintf(heights, "\\nFONT_ASCENT 0%d')),
     Trial("tools/damage", "status 1", r"broken: [1-9]", "tools/damage --count 20 --program WRONG --keep KEEP"),
+    Trial("tools/mutate", "examples that pass everything", r"1 survived; score 0 %", "tools/mutate suite --at-least 60 --only 'answer.get(\"refusal\", {}), dict) -> False'",
+          ("suite/judged.py", "for it in tried if it[1] != it[2]]", "for it in tried if False]")),
     Trial("tests/house/test_checks.py", "a check that passes everything", r"it ends with status 0", "pytest tests/house/test_checks.py -k 'trial and a_rule_that_finds_nothing'",
           ("tests/house/test_rules.py", "    assert name in found, ", "    assert True or name in found, ")),
     Trial("tests/house/test_checks.py", "a check without a trial", r"tools/damage has no trial", "pytest tests/house/test_checks.py -k has_a_trial",

@@ -145,3 +145,17 @@ def test_planted(number, tmp_path):
     assert GOOD.count(old) == 1 or not old
     wrong = wrong_in(tmp_path, GOOD.replace(old, new) if old else GOOD, not old)
     assert any(word in it for it in wrong), "`%s` for `%s`: found %s" % (new, old, wrong or "nothing")
+
+
+# Lines that are shown, lines that were printed, and whether these are shown so.
+SHOWN = [
+    ("a ..", "a", True), ("a ..", "a b c", True), (".. c", "c", True), (".. c", "a c", True), ("a .. c", "a c", True),
+    ("a .. c", "a b c d", False), ("a .. c", "b c", False), ("a .. b ..", "a x b", True), ("a .. b ..", "a x", False),
+    ("a", "a b", False), ("a b", "a b", True), ("a b", "b a", False), ("..", "", True), ("", "a", False)]
+
+
+@pytest.mark.parametrize("number", range(len(SHOWN)))
+def test_dots(number):
+    """A line of two dots stands for any number of lines, also for none."""
+    shown, printed, due = SHOWN[number]
+    assert documents.is_shown(shown.split(), printed.split()) == due
