@@ -1,7 +1,8 @@
 """Puts the C library and what the package reads of the repository into the package: `pip install ./python` needs a C compiler.
 
-The environment can name other things than those of the repository: MKSTRIKE_TOP its top, MKSTRIKE_VERSION, MKSTRIKE_SHARED a shared object
-that is linked already, and MKSTRIKE_MACHINE its machine. A source distribution has what it needs of the repository in the folder `top`.
+The environment can name other things than those of the repository: MKSTRIKE_TOP its top, MKSTRIKE_VERSION, MKSTRIKE_SHARED a shared
+object that is linked already, and MKSTRIKE_MACHINE its machine. A source distribution has what it needs of the repository in the
+folder `top`.
 """
 import glob
 import os
@@ -71,6 +72,6 @@ class OfMachine(Distribution):
 
 
 # what follows `+` must not look like a number, which could begin with zeros
-setup(version=(os.environ.get("MKSTRIKE_VERSION") or text("VERSION").strip()).replace("+", "+s"), long_description=text("docs/PYTHON.md"),
-      long_description_content_type="text/markdown", distclass=OfMachine, options={"egg_info": {"egg_base": "."}},
-      cmdclass={"build_py": WithLibrary, "bdist_wheel": ForAnyPython, "sdist": WithTop})
+setup(version=(os.environ.get("MKSTRIKE_VERSION") or text("VERSION").strip()).replace("+", "+s"),
+      long_description=text("docs/PYTHON.md"), long_description_content_type="text/markdown", distclass=OfMachine,
+      options={"egg_info": {"egg_base": "."}}, cmdclass={"build_py": WithLibrary, "bdist_wheel": ForAnyPython, "sdist": WithTop})

@@ -1,4 +1,5 @@
-"""Lists the programs that a case runs: a line for each instruction, with its address. An opcode that is not defined is a byte, as #28."""
+"""Lists the programs that a case runs: a line for each instruction, with its address. An opcode that is not defined is a byte, as
+#28."""
 import os
 
 from making.assembler import NAMES

@@ -28,7 +28,8 @@ def of(key, value):
 
 
 def write_junit(path, results):
-    """A suite of tests for each group. What is wrong is a failure; an own choice and what is unsupported are skipped, with the reason."""
+    """A suite of tests for each group. What is wrong is a failure; an own choice and what is unsupported are skipped, with the
+    reason."""
     groups = collections.OrderedDict()
     for result in results:
         groups.setdefault(result.case["group"], []).append(result)

@@ -1,7 +1,7 @@
 """Compares an outline that is answered as a path, as a pen draws it, with the points that a case expects.
 
-Both become contours of segments: a line is (x0, y0, x1, y1), an arc (x0, y0, cx, cy, x1, y1). Lines of no length, and contours without any
-other segment, draw nothing and are left out. Contours come in one order, and each may start at any of its points.
+Both become contours of segments: a line is (x0, y0, x1, y1), an arc (x0, y0, cx, cy, x1, y1). Lines of no length, and contours
+without any other segment, draw nothing and are left out. Contours come in one order, and each may start at any of its points.
 """
 import math
 

@@ -55,14 +55,16 @@ def table(groups):
 
 def cells(counts):
     """The cells of a row."""
-    return "".join("<td>%d" % count for count in (sum(counts.values()), counts["passed"], counts["wrong"], counts["own"], counts["skipped"]))
+    return "".join("<td>%d" % count
+                   for count in (sum(counts.values()), counts["passed"], counts["wrong"], counts["own"], counts["skipped"]))
 
 
 def page(name, results):
     """The page of a group: a list of the differences, and each of them."""
     different = sorted((result for result in results if result.fault), key=lambda result: result.kind != "wrong")
     parts = [HEAD % (html.escape(name), STYLE), "<h1>%s</h1><p><a href='index.html'>all groups</a></p>" % html.escape(name)]
-    parts.append("<p>%d cases, %d with a difference%s.</p>" % (len(results), len(different), ", of which the first %d are drawn" % MOST
+    parts.append("<p>%d cases, %d with a difference%s.</p>" % (len(results), len(different),
+                                                               ", of which the first %d are drawn" % MOST
                                                                if len(different) > MOST else ""))
     names = [html.escape(result.case["id"]) for result in different[:MOST]]
     parts.append("<ul class=all>%s</ul>" % "".join("<li><a href='#%s'>%s</a>" % (it, it.partition("/")[2]) for it in names))
@@ -87,7 +89,8 @@ def section(result):
 
 def points_of(path):
     """A path as contours of points, to be drawn."""
-    return [[[*piece[2 * k:2 * k + 2], int(k == 0)] for piece in contour for k in range(len(piece) // 2 - 1)] for contour in paths.of_path(path)]
+    return [[[*piece[2 * k:2 * k + 2], int(k == 0)] for piece in contour for k in range(len(piece) // 2 - 1)]
+            for contour in paths.of_path(path)]
 
 
 def programs(case):

@@ -4,12 +4,12 @@
     suite/wrong_readings.py [--only WORD] [--cover] [--jobs N]
 
 Without --cover it tells which case finds each reading: one of each group of the reading has to. With --cover it tells which cases
-fall under no reading of their group, and which readings no case of their group finds: there has to be none of either. --only takes the
-readings whose names have a word, or with --cover the group of that name. --jobs says how many processes run.
+fall under no reading of their group, and which readings no case of their group finds: there has to be none of either. --only takes
+the readings whose names have a word, or with --cover the group of that name. --jobs says how many processes run.
 
 A case falls under a reading if the reference, changed so, gives a wrong answer. If the change breaks the reference down, that does
-not count: a reading that does nothing else is tried first, and no case may find it. The status is 1 if a reading is not found, or if a
-case falls under none.
+not count: a reading that does nothing else is tried first, and no case may find it. The status is 1 if a reading is not found, or
+if a case falls under none.
 """
 import argparse
 import collections
@@ -90,7 +90,8 @@ def readings_of(group):
     return [read for read in READINGS if group in read.groups]
 
 
-BROKEN = Reading("broken", "stack halts", "the reference breaks down", "answer", '    char = request.get("char")\n', "    raise AssertionError\n")
+BROKEN = Reading("broken", "stack halts", "the reference breaks down", "answer", '    char = request.get("char")\n',
+                 "    raise AssertionError\n")
 CASES = cases_by_group()
 # The groups of readings, and modules of the reference, whose changes are seen by pixels of the same outline.
 DRAWING, PIXELS = {"scan", "dropout", "nearer", "asked"}, {"answer", "scan", "dropout"}
@@ -134,7 +135,8 @@ def cover(pool, only):
         names = "; under none: %s" % " ".join(left) if left else ""
         names += "; not found: %s" % " ".join(useless) if useless else ""
         print("%-12s %7d %9d %10d%s" % (group, count, len(readings_of(group)), count - len(left), names), flush=True)
-    print("%d cases, %d fall under no reading; %d readings are not found" % (sum(len(CASES[group]) for group in groups), total, unfound))
+    print("%d cases, %d fall under no reading; %d readings are not found"
+          % (sum(len(CASES[group]) for group in groups), total, unfound))
     return 1 if total or unfound else 0
 
 

@@ -27,7 +27,8 @@ def png_of(picture):
 
 
 def pixels_of(data):
-    """The width, the height and the bytes of the rows of a file that `png_of` wrote. Compressors differ, so files are compared by this."""
+    """The width, the height and the bytes of the rows of a file that `png_of` wrote. Compressors differ, so files are compared by
+    this."""
     try:
         if data[:8] != SIGNATURE or data[12:16] != b"IHDR":
             raise NoPicture("it is not a PNG file")

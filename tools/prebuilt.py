@@ -67,7 +67,8 @@ def hash_of_sources(crate="mkstrike"):
     for name in crates_below(crate):
         for part in PARTS:
             for folder, _, files in os.walk(os.path.join(TOP, "crates", name, part), followlinks=True):
-                lines.update((os.path.relpath(os.path.join(folder, it), TOP), sha256(read(os.path.join(folder, it)))) for it in files)
+                lines.update((os.path.relpath(os.path.join(folder, it), TOP), sha256(read(os.path.join(folder, it))))
+                             for it in files)
     paths = sorted(lines, key=os.fsencode)
     return sha256(b"".join(b"%s  %s\n" % (lines[it].encode(), os.fsencode(it)) for it in paths))
 
@@ -101,9 +102,11 @@ def refusals():
 
 
 def kinds_of_files(top=TOP):
-    """Its files of another kind: the first bytes of each, or None for hexadecimal text; how they look, what the file does, and what to do."""
+    """Its files of another kind: the first bytes of each, or None for hexadecimal text; how they look, what the file does, and what
+    to do."""
     page = read(os.path.join(top, "docs/REFUSALS.md")).decode()
-    for begins, shown, does, to_do in re.findall(r"^\| (none|`[0-9a-f ]+`|only hexadecimal digits) \|([^|]*)\| ([^|]+) \| ([^|]+) \|$", page, re.M):
+    for begins, shown, does, to_do in re.findall(
+        r"^\| (none|`[0-9a-f ]+`|only hexadecimal digits) \|([^|]*)\| ([^|]+) \| ([^|]+) \|$", page, re.M):
         first = None if begins.startswith("only") else bytes.fromhex(begins.strip("`").replace("none", ""))
         yield first, shown.strip(" `"), does, to_do.replace("`", "")
 
@@ -156,10 +159,13 @@ def write(path, data, mode=0o644):
     os.replace(new, path)
 
 
-Manifest = collections.namedtuple("Manifest", "sources kit program library_sources library arm module_sources module program_module",
+Manifest = collections.namedtuple("Manifest",
+                                  "sources kit program library_sources library arm module_sources module program_module",
                                   defaults=(None,) * 4)
-ROWS = ("sources", "kit", "mkstrike", "library-sources", "libmkstrike_c.a", ARM_ARCHIVE, "module-sources", *MODULES)  # of its fields; the last may lack
-FORM = re.compile("".join("(?:%s (%s)\n)%s" % (re.escape(name), "[^\n]+" if name == "kit" else "[0-9a-f]{64}", "?" * (at > 4)) for at, name in enumerate(ROWS)))
+# of its fields; the last may lack
+ROWS = ("sources", "kit", "mkstrike", "library-sources", "libmkstrike_c.a", ARM_ARCHIVE, "module-sources", *MODULES)
+FORM = re.compile("".join("(?:%s (%s)\n)%s" % (re.escape(name), "[^\n]+" if name == "kit" else "[0-9a-f]{64}", "?" * (at > 4))
+                          for at, name in enumerate(ROWS)))
 
 
 def manifest_of(manifest):

@@ -1,7 +1,8 @@
-"""Makes examples/sample.ttf, the font that the page begins with: ASCII drawn with one pen, and programs that round strokes to pixels.
+"""Makes examples/sample.ttf, the font that the page begins with: ASCII drawn with one pen, and programs that round strokes to
+pixels.
 
-A glyph is a path of strokes: M begins one, L goes on in a line, Q on an arc. A step across is 50 units of 1000 to the em. Heights are 0
-for the baseline, 10 for small letters, 14 for capitals, -4 below; the middle of the pen goes there.
+A glyph is a path of strokes: M begins one, L goes on in a line, Q on an arc. A step across is 50 units of 1000 to the em. Heights
+are 0 for the baseline, 10 for small letters, 14 for capitals, -4 below; the middle of the pen goes there.
 """
 import math
 import re
@@ -27,12 +28,14 @@ PATHS = {
     "O": "M4 0 Q0 0 0 4 L0 10 Q0 14 4 14 Q8 14 8 10 L8 4 Q8 0 4 0", "P": "M0 0 L0 14 L4.5 14 Q8 14 8 10.5 Q8 7 4.5 7 L0 7",
     "Q": "M4 0 Q0 0 0 4 L0 10 Q0 14 4 14 Q8 14 8 10 L8 4 Q8 0 4 0 M5 3 L9 -1",
     "R": "M0 0 L0 14 L4.5 14 Q8 14 8 10.5 Q8 7 4.5 7 L0 7 M4 7 L8 0", "S": ROUND_S, "T": "M0 14 L8 14 M4 14 L4 0",
-    "U": "M0 14 L0 4 Q0 0 4 0 Q8 0 8 4 L8 14", "V": "M0 14 L4 0 L8 14", "W": "M0 14 L3 0 L6 10 L9 0 L12 14", "X": "M0 0 L8 14 M0 14 L8 0",
+    "U": "M0 14 L0 4 Q0 0 4 0 Q8 0 8 4 L8 14", "V": "M0 14 L4 0 L8 14", "W": "M0 14 L3 0 L6 10 L9 0 L12 14",
+    "X": "M0 0 L8 14 M0 14 L8 0",
     "Y": "M0 14 L4 7 L8 14 M4 7 L4 0", "Z": "M0 14 L8 14 L0 0 L8 0",
     "a": "M1 10 L4 10 Q7 10 7 7 L7 0 M7 6 L3.5 6 Q0 6 0 3 Q0 0 3.5 0 Q7 0 7 3", "b": "M0 14 L0 0 " + SMALL_BOWL,
     "c": "M7 8 Q7 10 3.5 10 Q0 10 0 6 L0 4 Q0 0 3.5 0 Q7 0 7 2", "d": "M7 14 L7 0 " + LEFT_BOWL,
     "e": "M0 5 L7 5 L7 6 Q7 10 3.5 10 Q0 10 0 6 L0 4 Q0 0 3.5 0 L6 0", "f": "M5 14 L4 14 Q2 14 2 11 L2 0 M0 10 L5 10",
-    "g": "M7 10 L7 -1 Q7 -4 4 -4 L1 -4 " + LEFT_BOWL, "h": "M0 14 L0 0 M0 6 Q0 10 3.5 10 Q7 10 7 6 L7 0", "i": "M0 10 L0 0 M0 14 L0 14",
+    "g": "M7 10 L7 -1 Q7 -4 4 -4 L1 -4 " + LEFT_BOWL, "h": "M0 14 L0 0 M0 6 Q0 10 3.5 10 Q7 10 7 6 L7 0",
+    "i": "M0 10 L0 0 M0 14 L0 14",
     "j": "M3 10 L3 -1 Q3 -4 0 -4 M3 14 L3 14", "k": "M0 14 L0 0 M6 10 L0 4 M2 6 L6 0", "l": "M0 14 L0 0",
     "m": "M0 10 L0 0 M0 7 Q0 10 2.5 10 Q5 10 5 7 L5 0 M5 7 Q5 10 7.5 10 Q10 10 10 7 L10 0",
     "n": "M0 10 L0 0 M0 6 Q0 10 3.5 10 Q7 10 7 6 L7 0", "o": "M3.5 0 Q0 0 0 4 L0 6 Q0 10 3.5 10 Q7 10 7 6 L7 4 Q7 0 3.5 0",
@@ -50,14 +53,16 @@ PATHS = {
     "$": "M4 16 L4 -2 " + ROUND_S,
     "%": "M0 0 L8 14 M1.5 9 Q0 9 0 11.5 Q0 14 1.5 14 Q3 14 3 11.5 Q3 9 1.5 9 M6.5 0 Q5 0 5 2.5 Q5 5 6.5 5 Q8 5 8 2.5 Q8 0 6.5 0",
     "&": "M8 0 L2 9 Q1 14 3.5 14 Q6 14 6 11.5 Q6 9 3 7.5 Q0 6 0 3.5 Q0 0 3.5 0 Q8 0 8 6", "'": "M0 14 L0 10",
-    "(": "M3 15 Q0 12 0 6 Q0 0 3 -3", ")": "M0 15 Q3 12 3 6 Q3 0 0 -3", "*": "M3 14 L3 6 M0 12 L6 8 M0 8 L6 12", "+": "M4 2 L4 10 M0 6 L8 6",
-    ",": "M1 0 L0 -3", "-": "M0 5 L4 5", ".": "M0 0 L0 0", "/": "M0 0 L5 14", ":": "M0 0 L0 0 M0 9 L0 9", ";": "M1 0 L0 -3 M1 9 L1 9",
+    "(": "M3 15 Q0 12 0 6 Q0 0 3 -3", ")": "M0 15 Q3 12 3 6 Q3 0 0 -3", "*": "M3 14 L3 6 M0 12 L6 8 M0 8 L6 12",
+    "+": "M4 2 L4 10 M0 6 L8 6", ",": "M1 0 L0 -3", "-": "M0 5 L4 5", ".": "M0 0 L0 0", "/": "M0 0 L5 14",
+    ":": "M0 0 L0 0 M0 9 L0 9", ";": "M1 0 L0 -3 M1 9 L1 9",
     "<": "M7 11 L0 6 L7 1", "=": "M0 4 L7 4 M0 8 L7 8", ">": "M0 11 L7 6 L0 1",
     "?": "M0 11 Q0 14 3.5 14 Q7 14 7 11 Q7 9 5 8 Q3.5 7 3.5 4 M3.5 0 L3.5 0",
     "@": "M8 10 L8 4 L11 4 L11 8 Q11 14 5.5 14 Q0 14 0 7 Q0 0 5.5 0 L9 0 M8 7 Q8 10 5.5 10 Q3 10 3 7 Q3 4 5.5 4 Q8 4 8 7",
     "[": "M3 15 L0 15 L0 -3 L3 -3", "\\": "M0 14 L5 0", "]": "M0 15 L3 15 L3 -3 L0 -3", "^": "M0 9 L3 14 L6 9", "_": "M0 -3 L8 -3",
     "`": "M0 14 L2 12", "{": "M4 15 L3.5 15 Q2 15 2 12 L2 9 Q2 6 0 6 Q2 6 2 3 L2 0 Q2 -3 3.5 -3 L4 -3", "|": "M0 15 L0 -3",
-    "}": "M0 15 L0.5 15 Q2 15 2 12 L2 9 Q2 6 4 6 Q2 6 2 3 L2 0 Q2 -3 0.5 -3 L0 -3", "~": "M0 5 Q0 8 2 8 Q3.5 8 4 6.5 Q4.5 5 6 5 Q8 5 8 8",
+    "}": "M0 15 L0.5 15 Q2 15 2 12 L2 9 Q2 6 4 6 Q2 6 2 3 L2 0 Q2 -3 0.5 -3 L0 -3",
+    "~": "M0 5 Q0 8 2 8 Q3.5 8 4 6.5 Q4.5 5 6 5 Q8 5 8 8",
 }
 NO_GLYPH = "M0 0 L0 14 L7 14 L7 0 L0 0"
 SVTCA_Y, SVTCA_X, MDAP_ROUND, MDRP_STROKE, IUP_Y, IUP_X, PUSHB = 0x00, 0x01, 0x2F, 0xCD, 0x30, 0x31, 0xB0
@@ -172,4 +177,5 @@ def sample(more=()):
     """The bytes of the font; for tests with more glyphs, each a code point, bytes, an advance and a left side bearing."""
     made = [glyph_of(it) for it in [NO_GLYPH, *(PATHS[chr(code)] for code in range(0x20, 0x7F))]] + [it[1:] for it in more]
     cmap = fonts.map_of([(0x20 + k, k + 1) for k in range(95)] + [(it[0], 96 + k) for k, it in enumerate(more)])
-    return fonts.font_of([data for data, _, _ in made], cmap, upem=UPEM, stack=8, metrics=[(advance, bearing) for _, advance, bearing in made])
+    return fonts.font_of([data for data, _, _ in made], cmap, upem=UPEM, stack=8,
+                         metrics=[(advance, bearing) for _, advance, bearing in made])

@@ -1,14 +1,15 @@
 """Makes of a WebAssembly module with 64-bit memory one with 32-bit memory, which every engine has.
 
-Addresses stay numbers of 64 bits in the code and for the caller: each is cut to 32 bits before the instruction that takes it. memory.grow
-returns -1 as before if it fails, so the module never has an address past 4 GiB, and no cut changes one. This knows the instructions that the
-kit's clang and linker write, and refuses others.
+Addresses stay numbers of 64 bits in the code and for the caller: each is cut to 32 bits before the instruction that takes it.
+memory.grow returns -1 as before if it fails, so the module never has an address past 4 GiB, and no cut changes one. This knows the
+instructions that the kit's clang and linker write, and refuses others.
 """
 from prebuilt import Fault
 
 NAMES, TYPES, IMPORTS, FUNCTIONS, TABLE, MEMORY, ELEMENTS, CODE, DATA = 0, 1, 2, 3, 4, 5, 9, 10, 11  # sections
 CUT, WIDEN, WIDEN_SIGNED = b"\xa7", b"\xad", b"\xac"  # i32.wrap_i64, i64.extend_i32_u, i64.extend_i32_s
-UNREACHABLE, BLOCK, LOOP, IF, ELSE, END, BR, BR_IF, BR_TABLE, RETURN, CALL = 0x00, 0x02, 0x03, 0x04, 0x05, 0x0B, 0x0C, 0x0D, 0x0E, 0x0F, 0x10
+UNREACHABLE, BLOCK, LOOP, IF, ELSE, END, BR, BR_IF, BR_TABLE, RETURN, CALL = (0x00, 0x02, 0x03, 0x04, 0x05, 0x0B, 0x0C, 0x0D, 0x0E,
+                                                                              0x0F, 0x10)
 MEMORY_SIZE, MEMORY_GROW, MORE, MEMORY_COPY, MEMORY_FILL = 0x3F, 0x40, 0xFC, 10, 11  # the last two come after MORE
 LOADS, STORES, CONSTANTS = range(0x28, 0x36), range(0x36, 0x3F), {0x43: 4, 0x44: 8}  # constants with a point, and their bytes
 
@@ -20,9 +21,11 @@ def ranges(*ends):
 
 # How many values other instructions take and give: those without operands in the code, and those with one number.
 PLAIN = {0x01: (0, 0), 0x1A: (1, 0), 0x1B: (3, 1), UNREACHABLE: (0, 0), RETURN: (0, 0), ELSE: (0, 0), END: (0, 0)}
-PLAIN.update(dict.fromkeys(ranges((0x45, 0x45), (0x50, 0x50), (0x67, 0x69), (0x79, 0x7B), (0x8B, 0x91), (0x99, 0x9F), (0xA7, 0xC4)), (1, 1)))
+PLAIN.update(dict.fromkeys(ranges((0x45, 0x45), (0x50, 0x50), (0x67, 0x69), (0x79, 0x7B), (0x8B, 0x91), (0x99, 0x9F), (0xA7, 0xC4)),
+                           (1, 1)))
 PLAIN.update(dict.fromkeys(ranges((0x46, 0x4F), (0x51, 0x66), (0x6A, 0x78), (0x7C, 0x8A), (0x92, 0x98), (0xA0, 0xA6)), (2, 1)))
-NUMBERED = {BLOCK: (0, 0), LOOP: (0, 0), IF: (1, 0), BR: (0, 0), BR_IF: (1, 0), 0x20: (0, 1), 0x21: (1, 0), 0x22: (1, 1), 0x23: (0, 1),
+NUMBERED = {BLOCK: (0, 0), LOOP: (0, 0), IF: (1, 0), BR: (0, 0), BR_IF: (1, 0), 0x20: (0, 1), 0x21: (1, 0), 0x22: (1, 1),
+            0x23: (0, 1),
             0x24: (1, 0), 0x41: (0, 1), 0x42: (0, 1)}
 BEGINS, ENDS = (BLOCK, LOOP, IF), (UNREACHABLE, ELSE, END, BR, BR_TABLE, RETURN)
 
@@ -71,8 +74,8 @@ def counted(data):
 
 
 class Body:
-    """The code of a function. It knows which instruction made each value on the stack: an address is cut after that. No value stays there from
-    before a block into it, or from it on."""
+    """The code of a function. It knows which instruction made each value on the stack: an address is cut after that. No value stays
+    there from before a block into it, or from it on."""
 
     def __init__(self, module, data):
         self.module, self.read, self.made, self.stack = module, Reader(data), [], []
@@ -192,7 +195,8 @@ class Module:
 
     def section(self, kind, data):
         """What the section becomes."""
-        for_this = {TYPES: self.note_types, IMPORTS: self.note_imports, FUNCTIONS: self.note_functions, MEMORY: self.memory, CODE: self.code,
+        for_this = {TYPES: self.note_types, IMPORTS: self.note_imports, FUNCTIONS: self.note_functions, MEMORY: self.memory,
+                    CODE: self.code,
                     DATA: self.data}.get(kind)
         return for_this and for_this(Reader(data)) or data
 

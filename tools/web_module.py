@@ -1,8 +1,8 @@
 """Makes the WebAssembly modules from LLVM bitcode: mkstrike.wasm with the calls of the C library, and program.wasm, the program.
 
-The bitcode is what the kit hands to its clang when it builds the proved crates/mkstrike_c or crates/mkstrike for x86-64; here the same clang
-and linker make WebAssembly of it, with 64-bit memory, and web_memory32.py makes that 32-bit memory, which every engine has. The kit's own
-target for WebAssembly refuses code that reaches the heap.
+The bitcode is what the kit hands to its clang when it builds the proved crates/mkstrike_c or crates/mkstrike for x86-64; here the
+same clang and linker make WebAssembly of it, with 64-bit memory, and web_memory32.py makes that 32-bit memory, which every engine
+has. The kit's own target for WebAssembly refuses code that reaches the heap.
 """
 import os
 import re
@@ -21,13 +21,16 @@ SUPPORT, CALLS = "web/module.c", "c/calls.c"
 SOURCES = {LIBRARY: (SUPPORT, CALLS), PROGRAM: (SUPPORT,)}  # what is compiled beside the bitcode
 BUILT = {"mkstrike_c": prebuilt.ARCHIVE, "mkstrike": prebuilt.BUILT}  # what the kit makes of the crate's bitcode
 MOST = {LIBRARY: (230, 92), PROGRAM: (680, 260)}  # KiB of the module, and of it compressed
-TARGET = ["--target=wasm64-unknown-unknown", "-mcpu=lime1", "-mllvm", "-expand-div-rem-bits=64", "-mllvm", "-expand-fp-convert-bits=64"]
-LINK = ["-flavor", "wasm", "-mwasm64", "--no-entry", "--stack-first", "-z", "stack-size=1048576", "--gc-sections", "--fatal-warnings",
+TARGET = ["--target=wasm64-unknown-unknown", "-mcpu=lime1", "-mllvm", "-expand-div-rem-bits=64", "-mllvm",
+          "-expand-fp-convert-bits=64"]
+LINK = ["-flavor", "wasm", "-mwasm64", "--no-entry", "--stack-first", "-z", "stack-size=1048576", "--gc-sections",
+        "--fatal-warnings",
         "--strip-debug", "--compress-relocations"]
 # Of x86-64, in the attributes of functions: what a function does to grow the stack, and the processor.
 FOREIGN = re.compile(r'"(?:probe-stack|stack-probe-size|target-cpu|target-features)"="[^"]*"')
 # What web/module.c has for the bitcode.
-BESIDE = ("rattle_alloc", "rattle_realloc", "rattle_dealloc", "memset", "memcpy", "memmove", "memcmp", "__multi3", "__ashlti3", "__lshrti3",
+BESIDE = ("rattle_alloc", "rattle_realloc", "rattle_dealloc", "memset", "memcpy", "memmove", "memcmp", "__multi3", "__ashlti3",
+          "__lshrti3",
           "__ashrti3")
 # The kit's compiler has no headers.
 HEADERS = {
@@ -84,10 +87,12 @@ def bitcode(crate):
         words = run(["python3", "-c", WORDS, os.path.join(kit, "bin")], folder).decode().split("\n")
         made, toolchain = os.path.join(room, os.path.basename(due)), toolchain_that_keeps(room, kit)
         built = made if due == prebuilt.ARCHIVE else made + ".o"
-        run([os.path.join(kit, "bin/rattle"), "build", *[it for it in words if it and not it.startswith("rt: ")], "--toolchain", toolchain,
+        run([os.path.join(kit, "bin/rattle"), "build", *[it for it in words if it and not it.startswith("rt: ")], "--toolchain",
+             toolchain,
              "--backend", "llvm", "--incremental", "out/incremental", "-o", built], folder)
         if built != made:
-            run([os.path.join(kit, "bin/rattle-link"), "--target", "x86_64-unknown-linux-gnu", "--toolchain", toolchain, "-o", made, built,
+            run([os.path.join(kit, "bin/rattle-link"), "--target", "x86_64-unknown-linux-gnu", "--toolchain", toolchain, "-o", made,
+                 built,
                  *[os.path.join(kit, "c", it) for it in ("libos_c.a", "liblibc_c.a")]], folder)
         if prebuilt.read(made) != prebuilt.read(due):
             raise Fault("the bitcode is that of another %s" % os.path.basename(due))
@@ -110,7 +115,8 @@ def compiled(room, path):
         with open(os.path.join(room, name), "w", encoding="utf-8") as file:
             file.write(text)
     made, clang = os.path.basename(path) + ".o", os.path.join(kit_folder(), "toolchain/bin/clang")
-    run([clang, *TARGET, "-O2", "-ffreestanding", "-fno-builtin", "-Wall", "-Wextra", "-Werror", "-I.", "-I" + os.path.join(TOP, "include"),
+    run([clang, *TARGET, "-O2", "-ffreestanding", "-fno-builtin", "-Wall", "-Wextra", "-Werror", "-I.",
+         "-I" + os.path.join(TOP, "include"),
          "-c", os.path.join(TOP, path), "-o", made], room)
     return made
 
@@ -158,7 +164,10 @@ def modules(folder=None):
 
 
 def hash_of_sources():
-    """The hash of what the modules are made of: the sources of their crates and below, what makes them, and the calls between them and scripts."""
-    own = [prebuilt.read(os.path.join(TOP, it)) for it in (SUPPORT, CALLS, "include/mkstrike.h", "tools/web_module.py", "tools/web_memory32.py")]
+    """The hash of what the modules are made of: the sources of their crates and below, what makes them, and the calls between them
+    and scripts."""
+    own = [prebuilt.read(os.path.join(TOP, it))
+           for it in (SUPPORT, CALLS, "include/mkstrike.h", "tools/web_module.py", "tools/web_memory32.py")]
     calls = [it for name in MODULES for words in calls_of(name) for it in words]
-    return prebuilt.sha256("\n".join([*map(prebuilt.hash_of_sources, MODULES.values()), *map(prebuilt.sha256, own), *calls]).encode())
+    return prebuilt.sha256(
+        "\n".join([*map(prebuilt.hash_of_sources, MODULES.values()), *map(prebuilt.sha256, own), *calls]).encode())

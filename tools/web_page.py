@@ -17,16 +17,20 @@ ALONE = ("woff.js", "text.js", "controls.js", "drawing.js", "sheet.js", "page.js
 
 
 def kinds():
-    """Files of another kind, as docs/REFUSALS.md has them, without the options of the command: first bytes, what the file does, what to do."""
-    return [(begins.hex(), seems, re.sub("; --.*", "", todo)) for begins, _, seems, todo in prebuilt.kinds_of_files() if begins is not None]
+    """Files of another kind, as docs/REFUSALS.md has them, without the options of the command: first bytes, what the file does,
+    what to do."""
+    return [(begins.hex(), seems, re.sub("; --.*", "", todo)) for begins, _, seems, todo in prebuilt.kinds_of_files()
+            if begins is not None]
 
 
 def tables():
     """web/tables.js: what the page takes from other files."""
     rows = ["  %s," % json.dumps(dict(zip(("begins", "seems", "todo"), it)), ensure_ascii=False) for it in kinds()]
-    made = ["// Tables of other files. Made by tools/make_dist --page.", "// Files of another kind, by their first bytes, as docs/REFUSALS.md has them.",
+    made = ["// Tables of other files. Made by tools/make_dist --page.",
+            "// Files of another kind, by their first bytes, as docs/REFUSALS.md has them.",
             "export const KINDS = [", *rows, "];"]
-    for name, table, what in (("SETS", "SETS", "Sets of characters by name, as `mkstrike make --set` takes them"), ("NAMES", "OTHERS", "Other names of sets")):
+    for name, table, what in (("SETS", "SETS", "Sets of characters by name, as `mkstrike make --set` takes them"),
+                              ("NAMES", "OTHERS", "Other names of sets")):
         made += ["", "// %s (crates/fx_words)." % what, "export const %s = {" % name]
         made += ["  %s: %s," % tuple(map(json.dumps, it)) for it in prebuilt.sets(table)] + ["};"]
     return "".join("%s\n" % it for it in made).encode()
@@ -42,7 +46,8 @@ def source(name):
 def policy(scripts):
     """What the page in one file may load: nothing but its own parts. So it can send nothing either."""
     hashes = " ".join("'sha256-%s'" % base64.b64encode(hashlib.sha256(it.encode()).digest()).decode() for it in scripts)
-    return ("default-src 'none'; script-src %s 'wasm-unsafe-eval'; worker-src blob:; style-src 'unsafe-inline'; img-src data:; base-uri 'none'; "
+    return ("default-src 'none'; script-src %s 'wasm-unsafe-eval'; worker-src blob:; style-src 'unsafe-inline'; img-src data:; "
+            "base-uri 'none'; "
             "form-action 'none'" % hashes)
 
 
@@ -70,7 +75,8 @@ def page_of(module):
     text = once(text, '<p id="versions" class="hint"></p>', '<p id="versions" class="hint">%s</p>' % about)
     style = prebuilt.read(os.path.join(WEB, "page.css")).decode()
     text = once(text, '<link rel="stylesheet" href="page.css">', "<style>\n%s</style>" % style)
-    return re.sub(r'(http-equiv="Content-Security-Policy" content=")[^"]*', lambda it: it.group(1) + policy([shared, page]), text).encode()
+    return re.sub(r'(http-equiv="Content-Security-Policy" content=")[^"]*', lambda it: it.group(1) + policy([shared, page]),
+                  text).encode()
 
 
 # ---- what is kept
@@ -102,7 +108,8 @@ def put(modules, say):
 
 def faults(manifest):
     """What is wrong with the files that are made, in lines, if dist/ has a module."""
-    found = ["%s is not what tools/make_dist --page writes" % prebuilt.shown(path) for path, data in made_of_others() if prebuilt.read(path) != data]
+    found = ["%s is not what tools/make_dist --page writes" % prebuilt.shown(path) for path, data in made_of_others()
+             if prebuilt.read(path) != data]
     if manifest.module_sources != web_module.hash_of_sources():
         found.append("the modules of dist/ are of other sources: tools/make_dist --web makes them anew")
     if prebuilt.read(os.path.join(prebuilt.DIST, PAGE)) != page_of(prebuilt.read(os.path.join(prebuilt.DIST, MODULE))):

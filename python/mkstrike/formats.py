@@ -129,8 +129,8 @@ def by_ending(path: str) -> str:
 
 
 def write(path: str, data: bytes) -> None:
-    """Writes a file in one step: a reader sees the old one or the new one, which has its permissions, and its owner and group if the
-    user may set them. What is no file, as a device or a pipe, is written to; a file that may not be written stays."""
+    """Writes a file in one step: a reader sees the old one or the new one, which has its permissions, and its owner and group if
+    the user may set them. What is no file, as a device or a pipe, is written to; a file that may not be written stays."""
     try:
         opened = os.open(path, os.O_WRONLY)  # by the name as it is given: the system may guard a link
     except FileNotFoundError:

@@ -1,4 +1,6 @@
-"""Sets of characters by name, as `mkstrike make --set` has them. Written by tools/make_pages from crates/fx_words/src/sets.rt: change that."""
+"""Sets of characters by name, as `mkstrike make --set` has them.
+
+tools/make_pages writes them from crates/fx_words/src/sets.rt: change that."""
 
 SETS = {
     "ascii": "20-7e",

@@ -21,7 +21,8 @@ LOST = "what `fpgm` asked for is lost before `prep`"
 # by the nearer one in column 1, and without drop-out control it is nowhere.
 STEM = [box(80, 0, 86, 320), box(0, -120, 300, -40)]
 ON, OFF, NEAR, THRESHOLD = "511 SCANCTRL", "0 SCANCTRL", "4 SCANTYPE", 16
-UP_TO, ABOVE, NOT_ROTATED, NOT_STRETCHED = 1 << 8, 1 << 11, 1 << 12, 1 << 13  # bits 9 and 10 are for turned and stretched glyphs alone
+# bits 9 and 10 are for turned and stretched glyphs alone
+UP_TO, ABOVE, NOT_ROTATED, NOT_STRETCHED = 1 << 8, 1 << 11, 1 << 12, 1 << 13
 
 
 def make(suite):
@@ -47,14 +48,16 @@ def ask(suite, font, name, about, program="", ppem=16, own=None, dropout="font",
 
 def is_open(flags, ppem):
     """Whether no flag turns drop-out control on or off, at a size and the threshold 16."""
-    return not flags & (NOT_ROTATED | NOT_STRETCHED) and not (flags & ABOVE and ppem > THRESHOLD) and not (flags & UP_TO and ppem <= THRESHOLD)
+    return (not flags & (NOT_ROTATED | NOT_STRETCHED) and not (flags & ABOVE and ppem > THRESHOLD)
+            and not (flags & UP_TO and ppem <= THRESHOLD))
 
 
 def make_flags(suite, off, on):
     """Each choice of the six flags at the threshold, and of the four that can act here above it."""
     for bits in range(64):
         flags = bits << 8
-        ask(suite, off, "flags-%02x-at-16" % bits, CONTROL % "flags", "%d SCANCTRL" % (flags | THRESHOLD), own=SAME if is_open(flags, 16) else None)
+        ask(suite, off, "flags-%02x-at-16" % bits, CONTROL % "flags", "%d SCANCTRL" % (flags | THRESHOLD),
+            own=SAME if is_open(flags, 16) else None)
     for flags in map(sum, product((0, UP_TO), (0, ABOVE), (0, NOT_ROTATED), (0, NOT_STRETCHED))):
         ask(suite, on, "flags-%02x-at-17" % (flags >> 8), CONTROL % "flags", "%d SCANCTRL" % (flags | THRESHOLD), 17,
             SAME if is_open(flags, 17) else None)
@@ -65,7 +68,8 @@ def make_thresholds(suite, off, on):
     for threshold in (0, 1, 15, 16, 17, 254, 255):
         for flags in (0, UP_TO, UP_TO | ABOVE, 0x3F00):
             own = SAME if flags == 0 and threshold not in (0, 255) or flags == UP_TO and 0 < threshold < 16 else None
-            ask(suite, off, "threshold-%d-%02x" % (threshold, flags >> 8), CONTROL % "threshold", "%d SCANCTRL" % (flags | threshold), own=own)
+            ask(suite, off, "threshold-%d-%02x" % (threshold, flags >> 8), CONTROL % "threshold",
+                "%d SCANCTRL" % (flags | threshold), own=own)
         own = None if threshold in (0, 255) or threshold < 16 else SAME
         ask(suite, on, "threshold-%d-off-above" % threshold, CONTROL % "threshold", "%d SCANCTRL" % (ABOVE | threshold), own=own)
 
@@ -91,7 +95,8 @@ def make_orders(suite, silent):
     """Several of both, in a glyph's program."""
     for k, (program, own) in enumerate([("4 SCANTYPE 511 SCANCTRL", None), ("511 SCANCTRL 4 SCANTYPE 0 SCANCTRL", None),
                                         ("0 SCANCTRL 4 SCANTYPE 511 SCANCTRL", None), ("511 SCANCTRL 4 SCANTYPE 0 SCANTYPE", None),
-                                        ("511 SCANCTRL 2 SCANTYPE 4 SCANTYPE", None), ("272 SCANCTRL 4 SCANTYPE 271 SCANCTRL", SAME),
+                                        ("511 SCANCTRL 2 SCANTYPE 4 SCANTYPE", None),
+                                        ("272 SCANCTRL 4 SCANTYPE 271 SCANCTRL", SAME),
                                         ("511 SCANCTRL 4 SCANTYPE 9 SCANTYPE", ANY_TYPE), ("16 SCANCTRL 4 SCANTYPE", SAME),
                                         ("511 SCANCTRL", None), ("0 SCANCTRL", None), ("", NOTHING)]):
         ask(suite, silent, "order-%d" % k, CONTROL % "and SCANTYPE", program, own=own)
@@ -115,7 +120,8 @@ def make_elsewhere(suite, on, silent):
     lost = suite.font(FontMaker("asked-fpgm", fpgm="0 SCANCTRL 2 SCANTYPE"))
     ask(suite, lost, "fpgm", CONTROL % "in fpgm", own=LOST)
     ask(suite, lost, "fpgm-on", CONTROL % "in fpgm", ON, own=LOST)
-    for name, prep in (("no-programs", "511 SCANCTRL 4 SCANTYPE 1 1 INSTCTRL"), ("default-state", "511 SCANCTRL 4 SCANTYPE 2 2 INSTCTRL")):
+    for name, prep in (("no-programs", "511 SCANCTRL 4 SCANTYPE 1 1 INSTCTRL"),
+                       ("default-state", "511 SCANCTRL 4 SCANTYPE 2 2 INSTCTRL")):
         font = suite.font(FontMaker("asked-" + name, prep=prep))
         own = None if name == "no-programs" else NOTHING
         ask(suite, font, name, CONTROL % "with INSTCTRL", own=own)

@@ -75,8 +75,8 @@ def make_random(suite, font):
     """Thin outlines by a fixed sequence of random numbers."""
     chance = random.Random(20)
     for k in range(110):
-        suite.case("random-%d" % k, font, RULE % "outlines of lines and arcs", font.simple(some(chance)), hinted=False, dropout="left",
-                   own=LEFT)
+        suite.case("random-%d" % k, font, RULE % "outlines of lines and arcs", font.simple(some(chance)), hinted=False,
+                   dropout="left", own=LEFT)
 
 
 def some(chance):

@@ -41,7 +41,8 @@ def mapped(font, first):
 
 
 def ask(suite, font, name, about, faces, own=None, hinted=(False,), glyphs=GLYPHS, chars=()):
-    """A case of each glyph and character of some faces. Not every map has all glyphs, so of glyphs the outline alone is asked for."""
+    """A case of each glyph and character of some faces. Not every map has all glyphs, so of glyphs the outline alone is asked
+    for."""
     for number in faces:
         for mode in hinted:
             for glyph in glyphs:
@@ -71,8 +72,8 @@ def make_shared(suite):
     metrics = [face(), face(upem=2048), face()]
     metrics[2].pairs = 1
     metrics[2].glyphs[0].advance = 333
-    ask(suite, suite.font(Collection("faces-metrics", metrics)), "metrics", HEADER % "shared tables", range(3), hinted=(False, True),
-        glyphs=(2, 4))
+    ask(suite, suite.font(Collection("faces-metrics", metrics)), "metrics", HEADER % "shared tables", range(3),
+        hinted=(False, True), glyphs=(2, 4))
     programs = [FontMaker("", cvt=[100 + 64 * k], prep="0 %d WCVTP" % (40 * k) if k > 1 else "", fpgm="") for k in range(3)]
     for font in programs:
         font.simple([[(0, 0, 1), (0, 128, 1), (64, 128, 1), (64, 0, 1)]], "SVTCA:1 2 0 MIAP:0 3 SHP:0")

@@ -145,7 +145,8 @@ def make_loca(suite):
         names = {2: "usual", 3: "falling", 4: "after-falling", 5: "end-past-glyf", 6: "equal-past-glyf", 7: "start-past-glyf",
                  8: "start-past-and-falling", 9: "start-at-the-end"}
         for k, name in names.items():
-            own = None if k == 2 else "offsets that decrease or begin past glyf refuse the glyph; an end past glyf is moved to its end"
+            own = (None if k == 2
+                   else "offsets that decrease or begin past glyf refuse the glyph; an end past glyf is moved to its end")
             suite.case("loca-%s-%s" % (kind, name), broken, LOCA, k, hinted=False, own=own)
         cut = suite.font(FontMaker("loca-%s-cut" % kind, long=long))
         for k in range(3):

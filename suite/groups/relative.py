@@ -12,8 +12,8 @@ TWILIGHT = ("in the twilight zone MIRP first puts the point at the reference poi
 SIZE = "the single width is compared with the size of a distance, whatever its sign"
 NEGATIVE = "MIRP's control value -1 is a value of 0"
 SLANTED = ["8192 14189 SPVFS SFVTPV", "SVTCA:1 13107 9830 SFVFS"]
-# Point 1 is left of point 5, point 9 below point 2; a program moves reference points first, so that all distances differ, and no row
-# leaves the outline as it was.
+# Point 1 is left of point 5, point 9 below point 2; a program moves reference points first, so that all distances differ, and no
+# row leaves the outline as it was.
 TRIES = [("right", "SVTCA:1 1 20 SHPIX 1 SRP0 5"), ("left", "SVTCA:1 5 30 SHPIX 5 SRP0 1"), ("up", "SVTCA:0 9 -14 SHPIX 9 SRP0 2"),
          ("down", "SVTCA:0 2 11 SHPIX 2 SRP0 9"), ("near", "SVTCA:1 0 9 SHPIX 0 SRP0 1"), ("small", "SVTCA:1 3 17 SHPIX 3 SRP0 2"),
          ("rthg", "SVTCA:1 RTHG 2 -23 SHPIX 2 SRP0 6"), ("minimum", "SVTCA:1 400 SMD 3 19 SHPIX 3 SRP0 7"),

@@ -8,9 +8,9 @@ VERSION = 0x00010000
 class Collection:
     """A collection under way: faces that are font makers, or the bytes of a directory.
 
-    Tables with the same bytes are there once, for all faces. The header may have another version or count of faces, and bytes after its
-    offsets. `offsets` are the directories that it names, by their numbers, or other offsets as text; a gap goes before the directories,
-    and the file may end early."""
+    Tables with the same bytes are there once, for all faces. The header may have another version or count of faces, and bytes after
+    its offsets. `offsets` are the directories that it names, by their numbers, or other offsets as text; a gap goes before the
+    directories, and the file may end early."""
 
     def __init__(self, name, faces, version=VERSION, count=None, more=b"", offsets=None, gap=0, size=None):
         self.name, self.file, self.faces, self.version, self.more = name, name + ".ttc", faces, version, more

@@ -85,7 +85,8 @@ def map_of(pairs):
 
 def map_to_one(glyph):
     """A map that gives this glyph for each of the 65,536 codes: one segment, and its numbers one by one."""
-    return struct.pack(">HHHHLHHHHHHHHHHHH", 0, 1, 3, 1, 12, 4, 24, 0, 2, 0, 0, 0, 0xFFFF, 0, 0, 0, 2) + struct.pack(">H", glyph) * 65536
+    return struct.pack(">HHHHLHHHHHHHHHHHH", 0, 1, 3, 1, 12, 4, 24, 0, 2, 0, 0, 0, 0xFFFF, 0, 0, 0,
+                       2) + struct.pack(">H", glyph) * 65536
 
 
 def wide_map_of(pairs):
@@ -113,18 +114,21 @@ def simple(contours, program=b""):
 
 
 def components(records, program=b""):
-    """The bytes of a composite of records: flags, a glyph, two arguments, and the numbers of a matrix. MORE_COMPONENTS is set here."""
+    """The bytes of a composite of records: flags, a glyph, two arguments, and the numbers of a matrix. MORE_COMPONENTS is set
+    here."""
     out = struct.pack(">hhhhh", -1, 0, 0, 0, 0)
     for k, (flags, glyph, args, *matrix) in enumerate(records):
         form = ("hh" if flags & OFFSETS else "HH") if flags & WORDS else ("bb" if flags & OFFSETS else "BB")
         flags |= MORE if k + 1 < len(records) else PROGRAM if program else 0
-        out += struct.pack(">HH" + form, flags, glyph, *args) + b"".join(struct.pack(">h", int(it)) for numbers in matrix for it in numbers)
+        out += struct.pack(">HH" + form, flags, glyph, *args) + b"".join(struct.pack(">h", int(it)) for numbers in matrix
+                                                                         for it in numbers)
     return out + (struct.pack(">H", len(program)) + program if program else b"")
 
 
 def composite(parts, program=b""):
     """The bytes of a composite. A part is (glyph, dx, dy), or (glyph, dx, dy, scale) with the scale in 1/16384."""
-    out = components([(WORDS | OFFSETS | (SCALE if scale else 0), glyph, (dx, dy), scale) for glyph, dx, dy, *scale in parts], program)
+    out = components([(WORDS | OFFSETS | (SCALE if scale else 0), glyph, (dx, dy), scale) for glyph, dx, dy, *scale in parts],
+                     program)
     return out + bytes(len(out) % 2)
 
 
@@ -159,17 +163,20 @@ def font_of(glyphs, cmap, upem=1000, twilight=0, storage=0, functions=0, stack=0
 
 
 def halting():
-    """Fonts with a program that halts at opcode 28, some in the bytes of another: a font, its character, which was started, and which halts."""
+    """Fonts with a program that halts at opcode 28, some in the bytes of another: a font, its character, which was started, and
+    which halts."""
     body, call = bytes.fromhex("B0 00 2C B0 07 28 2D"), bytes.fromhex("B0 00 2B")
     for fpgm, prep, glyph, code, during, where in (
-            (body, b"", call, 0x41, "glyph 1", "fpgm"), (b"", body, call, 0x41, "glyph 1", "prep"), (body, call, b"", 0x41, "prep", "fpgm"),
-            (body, b"", call, 0x42, "glyph 1", "fpgm"), (body[3:], b"", b"", 0x41, "fpgm", "fpgm"), (b"", b"", body[3:], 0x41, "glyph 1", "glyph 1")):
+            (body, b"", call, 0x41, "glyph 1", "fpgm"), (b"", body, call, 0x41, "glyph 1", "prep"),
+            (body, call, b"", 0x41, "prep", "fpgm"), (body, b"", call, 0x42, "glyph 1", "fpgm"),
+            (body[3:], b"", b"", 0x41, "fpgm", "fpgm"), (b"", b"", body[3:], 0x41, "glyph 1", "glyph 1")):
         glyphs = [b"", simple([[(0, 0, 1), (90, 0, 1), (90, 90, 1)]], glyph), composite([(1, 0, 0)])]
         yield font_of(glyphs, map_of([(0x41, 1), (0x42, 2)]), functions=1, stack=9, fpgm=fpgm, prep=prep), code, during, where
 
 
 def name_table(*records, count=None, storage=None):
-    """A table `name`: records of a platform, an encoding, a language, a number and bytes; with another count, or another storageOffset."""
+    """A table `name`: records of a platform, an encoding, a language, a number and bytes; with another count, or another
+    storageOffset."""
     texts = b"".join(it[-1] for it in records)
     ends = [sum(len(it[-1]) for it in records[:k]) for k in range(len(records))]
     header = 0, len(records) if count is None else count, 6 + 12 * len(records) if storage is None else storage
@@ -220,7 +227,8 @@ def part_of(font, codes, short=False):
     struct.pack_into(">h", head, 50, 0 if short else 1)
     struct.pack_into(">H", hhea, 34, len(kept))
     struct.pack_into(">H", maxp, 4, len(kept))
-    made = {"cmap": map_of([(code, kept.index(numbers[code])) for code in codes if code in numbers]), "glyf": glyf, "head": bytes(head),
+    made = {"cmap": map_of([(code, kept.index(numbers[code])) for code in codes if code in numbers]), "glyf": glyf,
+            "head": bytes(head),
             "hhea": bytes(hhea), "hmtx": hmtx, "maxp": bytes(maxp),
             "loca": struct.pack(">%dH" % len(loca), *(at // 2 for at in loca)) if short else struct.pack(">%dL" % len(loca), *loca)}
     for tag in ("cvt ", "fpgm", "prep"):

@@ -29,7 +29,8 @@ class Reading:
             for name in MODULES:
                 module = made["reference." + name] = sys.modules["reference." + name] = types.ModuleType("reference." + name)
                 setattr(package, name, module)
-                exec(code_of(name, *((old, new) for of, old, new in self.edits if of == name)), vars(module))  # pylint: disable=exec-used
+                exec(code_of(name, *((old, new) for of, old, new in self.edits if of == name)),
+                     vars(module))  # pylint: disable=exec-used
         finally:
             for name in made:
                 del sys.modules[name]

@@ -5,10 +5,14 @@ from .base import Reading
 
 STATE, POINTS, ROWS, STACK, STEP = "state", "rows_points", "rows_state", "rows_stack", "            row(self)\n"
 ORIGINAL = "dot(m.gs.dv, minus(m.zone(1).get(p, True), m.zone(0).get(m.gs.rp[0], True)))"
-BOUND, POINT = "ob = dot(m.gs.dv, minus(m.zone(1).get(rp2, True), m.zone(0).get(rp1, True)))", "minus(m.zone(2).get(p, True), m.zone(0).get(rp1, True))"
-TEST, MOVED, ENTRIES = "if w32(abs(w32(abs(value)) - gs.width)) < gs.width_cut_in:", "minus(m.zone(k).get(point), m.zone(k).get(point, True))", "(rp0, rp1, rp2))"
-FLIPPED, SHZ, PAIRS = "        if m.zone(0).has(p):\n            m.zone(0).on[p] ^= 1", "    zone = m.zones[zone_number(m.pop(1)[0])]", "    return [(values[k], values"
-TWO, WHERE, INSIDE = "(before, after)", "points[before], points[after]", "near((o - org_low) * (cur_high - cur_low), org_high - org_low)"
+BOUND, POINT = ("ob = dot(m.gs.dv, minus(m.zone(1).get(rp2, True), m.zone(0).get(rp1, True)))",
+                "minus(m.zone(2).get(p, True), m.zone(0).get(rp1, True))")
+TEST, MOVED, ENTRIES = ("if w32(abs(w32(abs(value)) - gs.width)) < gs.width_cut_in:",
+                        "minus(m.zone(k).get(point), m.zone(k).get(point, True))", "(rp0, rp1, rp2))")
+FLIPPED, SHZ, PAIRS = ("        if m.zone(0).has(p):\n            m.zone(0).on[p] ^= 1",
+                       "    zone = m.zones[zone_number(m.pop(1)[0])]", "    return [(values[k], values")
+TWO, WHERE, INSIDE = ("(before, after)", "points[before], points[after]",
+                      "near((o - org_low) * (cur_high - cur_low), org_high - org_low)")
 COUNT, SIZE, IUP = "    count, = m.pop(1)\n", "(arg >> 4 & 15) != m.ppem:", "= 0 if m.opcode & 1 else 1, m.zones[1], 0"
 
 READINGS = [Reading(*row) for row in (

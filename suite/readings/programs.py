@@ -4,8 +4,10 @@ from making.assembler import NAMES
 from .base import Reading
 
 NUMBERS, STATE, MACHINE, STACK, ROWS = "numbers", "state", "machine", "rows_stack", "rows_state"
-SCALED, VALUE, THRESHOLD = "return near(value * ppem * 64, upem)", "    value = phase + (abs(distance)", "period - 1 if k == 0 else (k - 4) * period // 8"
-TURNED, IF, AT_ZERO = "(-vector[1], vector[0]) if m.opcode & 1 and way != (0, 0) else vector", "    if m.pop(1)[0] == 0:\n", '        raise Halt("DivideByZero")'
+SCALED, VALUE, THRESHOLD = ("return near(value * ppem * 64, upem)", "    value = phase + (abs(distance)",
+                            "period - 1 if k == 0 else (k - 4) * period // 8")
+TURNED, IF, AT_ZERO = ("(-vector[1], vector[0]) if m.opcode & 1 and way != (0, 0) else vector", "    if m.pop(1)[0] == 0:\n",
+                       '        raise Halt("DivideByZero")')
 JUMP = '        if not 0 <= self.start + offset <= len(self.code):\n            raise Halt("BadJump")\n'
 PREPARED = 'tables.get(name, b""))\n        return'
 

@@ -63,7 +63,8 @@ def drawn(pieces, kind):
 
 
 def kind_of(dropout_asked, by_font):
-    """Which drop-out control: False, "left" or "near". `true` is version 1's word for "left"; a font that says nothing has "left"."""
+    """Which drop-out control: False, "left" or "near". `true` is version 1's word for "left"; a font that says nothing has
+    "left"."""
     if dropout_asked == "font":
         return "left" if by_font is None else by_font
     return "left" if dropout_asked is True else dropout_asked

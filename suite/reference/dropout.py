@@ -1,8 +1,8 @@
 """Drop-out control: if an outline passes between two neighbouring centres and neither is set, one is set.
 
-Rows come first, then columns, for pairs that are still unset. By rule 3 of the manual it is the left or the lower pixel; a "smart" font asks
-for the one to whose centre the stroke's middle is nearer. Where an outline crosses a row is found by its roots, kept exact as
-(p + q * root(d)) / r.
+Rows come first, then columns, for pairs that are still unset. By rule 3 of the manual it is the left or the lower pixel; a "smart"
+font asks for the one to whose centre the stroke's middle is nearer. Where an outline crosses a row is found by its roots, kept
+exact as (p + q * root(d)) / r.
 """
 import math
 
@@ -85,7 +85,8 @@ def left_pixel(_pieces, i, _j):
 
 
 def nearer_pixel(pieces, i, j):
-    """Or the one on whose side more of the 126 places between the centres are covered, 1/128 pixel apart; the left one if as many are."""
+    """Or the one on whose side more of the 126 places between the centres are covered, 1/128 pixel apart; the left one if as many
+    are."""
     (x, y), half = centre(i, j), range(1, 64)
     left = sum(covered(pieces, (x + n, y)) for n in half)
     return i + (sum(covered(pieces, (x + 64 + n, y)) for n in half) > left)

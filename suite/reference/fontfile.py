@@ -69,7 +69,8 @@ class Font:
 
     @staticmethod
     def directory(data, start):
-        """The tables by tag, of the directory that begins there; the first record of a tag counts. Offsets count from the file's first byte."""
+        """The tables by tag, of the directory that begins there; the first record of a tag counts. Offsets count from the file's
+        first byte."""
         own = data[start:]
         if len(own) < 12 or u32(own, 0) not in (0x10000, 0x74727565) or len(own) < 12 + 16 * u16(own, 4):
             raise Refused("NotTrueType")

@@ -174,7 +174,8 @@ ROWS = {
     0x1E: set_value("width_cut_in"), 0x1F: set_width, 0x4D: lambda m: setattr(m.gs, "flip", True),
         0x4E: lambda m: setattr(m.gs, "flip", False),
     0x5E: set_value("base"), 0x5F: set_shift, 0x18: set_round(GRID), 0x19: set_round(HALF_GRID), 0x3D: set_round(DOUBLE),
-    0x7D: set_round(DOWN), 0x7C: set_round(UP), 0x7A: set_round(OFF), 0x76: set_super_round, 0x77: set_super_round, 0x85: scan_control,
+    0x7D: set_round(DOWN), 0x7C: set_round(UP), 0x7A: set_round(OFF), 0x76: set_super_round, 0x77: set_super_round,
+    0x85: scan_control,
         0x8D: scan_type,
     **{opcode: delta_cvt for opcode in range(0x73, 0x76)},
 }

@@ -7,8 +7,9 @@ from .outline import TABLE, Maker
 
 ROUNDS = {0x18: "grid", 0x19: "half-grid", 0x3D: "double-grid", 0x7D: "down", 0x7C: "up", 0x7A: "off", 0x76: "super", 0x77: "super"}
 POINT = ("point", "original", "touched-x", "touched-y", "on-curve")
-STATE = ("rp0", "rp1", "rp2", "zp0", "zp1", "zp2", "auto-flip", "cut-in", "minimum-distance", "single-width", "single-width-cut-in", "delta-base",
-         "delta-shift", "scan-control", "scan-type", "freedom", "projection", "dual", "loop", "round", "no-programs", "default-state")
+STATE = ("rp0", "rp1", "rp2", "zp0", "zp1", "zp2", "auto-flip", "cut-in", "minimum-distance", "single-width", "single-width-cut-in",
+         "delta-base", "delta-shift", "scan-control", "scan-type", "freedom", "projection", "dual", "loop", "round", "no-programs",
+         "default-state")
 
 
 def names():
@@ -56,7 +57,8 @@ class Tracer(Machine):
     def run(self, name, code):
         self.round_name = "grid"
         if code:  # a program without bytes does not begin
-            self.lines.append("%s begins%s" % (where(name), ", component %d of glyph %d" % self.component if self.component else ""))
+            self.lines.append("%s begins%s" % (where(name), ", component %d of glyph %d" % self.component if self.component
+                                               else ""))
         self.stack, self.before = [], None
         super().run(name, code)
 
@@ -66,7 +68,8 @@ class Tracer(Machine):
         super().step()
         self.round_name = ROUNDS.get(code[at], self.round_name)
         self.before = self.snapshot()
-        line = " ".join([where(name), "%04X" % at, "%02X" % code[at], OPCODES[code[at]], *map(str, pushed(code, at)), "|", *map(str, self.stack[-8:])])
+        line = " ".join([where(name), "%04X" % at, "%02X" % code[at], OPCODES[code[at]], *map(str, pushed(code, at)), "|",
+                         *map(str, self.stack[-8:])])
         self.lines.append("; ".join([line, *changes(before, self.before)]))
 
     def snapshot(self):
@@ -89,7 +92,8 @@ def changes(before, after):
         if was != now:
             yield from ("%s %d %d %d" % (name, k, one, other) for k, (one, other) in enumerate(zip(was, now)) if one != other)
     if before[4] != after[4]:
-        yield from ("%s %s %s" % (name, shown(one), shown(other)) for name, one, other in zip(STATE, before[4], after[4]) if one != other)
+        yield from ("%s %s %s" % (name, shown(one), shown(other)) for name, one, other in zip(STATE, before[4], after[4])
+                    if one != other)
 
 
 class Traces(Maker):
@@ -129,7 +133,8 @@ class Traces(Maker):
         if not isinstance(fault, Halt):
             return fault and fault.name
         place = fault.place
-        return "%s during %s in %s at %d opcode %02X" % (fault, where(place["during"]), where(place["program"]), place["address"], place["opcode"])
+        return "%s during %s in %s at %d opcode %02X" % (fault, where(place["during"]), where(place["program"]), place["address"],
+                                                         place["opcode"])
 
     def add_part(self, made, number, part, depth):
         made.parts += 1

@@ -1,5 +1,5 @@
-"""The calls of the C library's shared object by ctypes: those that the Python package declares, and the others. tools/fuzz_c.c looks at what
-agrees from call to call, and at what they leave in buffers."""
+"""The calls of the C library's shared object by ctypes: those that the Python package declares, and the others. tools/fuzz_c.c
+looks at what agrees from call to call, and at what they leave in buffers."""
 import ctypes
 import os
 import sys
@@ -53,7 +53,8 @@ class Calls:
         told, again, words = Outlined(), Outlined(), (font, len(font), 0, ppem, int(is_hinted), glyph)
         self.done(self.c.mkstrike_outline(*words, None, 0, None, 0, byref(told), byref(self.refused)), font)
         points, ends = (Point * told.points)(), (c_uint16 * told.contours)()
-        self.done(self.c.mkstrike_outline(*words, points, told.points, ends, told.contours, byref(again), byref(self.refused)), font)
+        self.done(self.c.mkstrike_outline(*words, points, told.points, ends, told.contours, byref(again), byref(self.refused)),
+                  font)
         assert bytes(again) == bytes(told)
         firsts = [0, *(end + 1 for end in ends)]
         of = [contour for contour, (first, end) in enumerate(zip(firsts, ends)) for _ in range(first, end + 1)]

@@ -1,12 +1,13 @@
 """Builds programs with the C library, and compares what it gives with what the program gives.
 
-The archive is the one that MKSTRIKE_ARCHIVE names, else dist/libmkstrike_c.a, if that is of these sources; else the one that `rt lib`
-makes, if the libraries below it are kept and that takes at most three minutes; else all is left out. The programs are the examples
-and check_c.c, as C99 and as C++, with all warnings as errors. Strikes of real and of damaged fonts must be the program's byte for byte,
-and refusals its lines; many glyphs in one call must be those of the strike; other calls are made through the shared object (calls.py), and
-tools/fuzz_c.c looks at what agrees from call to call, with each request for memory refused in turn; then eight threads, a small stack, a program without a C library, AddressSanitizer and valgrind. c/arena.c
-is looked at by calls of its own, and with c/heap.c each request of malloc and realloc is refused in turn. The archive for 64-bit ARM, that of
-dist/ or of MKSTRIKE_ARM_ARCHIVE, runs under qemu-user. With MKSTRIKE_LONG=1 fuzz_c.c looks at every font that is installed.
+The archive is the one that MKSTRIKE_ARCHIVE names, else dist/libmkstrike_c.a, if that is of these sources; else the one that `rt
+lib` makes, if the libraries below it are kept and that takes at most three minutes; else all is left out. The programs are the
+examples and check_c.c, as C99 and as C++, with all warnings as errors. Strikes of real and of damaged fonts must be the program's
+byte for byte, and refusals its lines; many glyphs in one call must be those of the strike; other calls are made through the shared
+object (calls.py), and tools/fuzz_c.c looks at what agrees from call to call, with each request for memory refused in turn; then
+eight threads, a small stack, a program without a C library, AddressSanitizer and valgrind. c/arena.c is looked at by calls of its
+own, and with c/heap.c each request of malloc and realloc is refused in turn. The archive for 64-bit ARM, that of dist/ or of
+MKSTRIKE_ARM_ARCHIVE, runs under qemu-user. With MKSTRIKE_LONG=1 fuzz_c.c looks at every font that is installed.
 """
 import ctypes
 import glob
@@ -72,7 +73,8 @@ def run(words, data=None, status=0, **more):
 
 def flags(mode):
     """The flags of mkstrike for a mode of the library."""
-    closed = ["--dropout"] if DROPOUT in mode else ["--dropout=near"] if NEAR in mode else ["--dropout=font"] if ASKED in mode else []
+    closed = (["--dropout"] if DROPOUT in mode else ["--dropout=near"] if NEAR in mode else ["--dropout=font"] if ASKED in mode
+              else [])
     return ([] if HINTED in mode else ["--unhinted"]) + closed + (["--x11"] if X11 in mode else [])
 
 
@@ -101,7 +103,8 @@ class Library:
 
     def build(self):
         """Builds all programs, and checks that they compile as C++ too."""
-        sources = ("c/calls.c", "c/heap.c", "c/arena.c", "examples/show.c", "examples/console.c", "tests/c/check_c.c", "tests/c/check_c_arena.c",
+        sources = ("c/calls.c", "c/heap.c", "c/arena.c", "examples/show.c", "examples/console.c", "tests/c/check_c.c",
+                   "tests/c/check_c_arena.c",
                    "tests/c/check_c_heap.c")
         for source in sources:
             name = os.path.basename(source)[:-2] + ".o"
@@ -148,15 +151,16 @@ class Library:
         draw, paths = random.Random(SEED), []
         for k, (font, way) in enumerate(itertools.product(found, ways)):
             said = bytearray(draw.randbytes(24))
-            said[4], said[5], said[6], said[7], said[22] = draw.choice((22, 14, 31, 38)), way % 8 if way < 16 else 251 + way % 5, said[6] & ~2 | way // 8 * 2, 13, 1
+            said[4], said[5], said[6], said[7], said[22] = (draw.choice((22, 14, 31, 38)), way % 8 if way < 16 else 251 + way % 5,
+                                                            said[6] & ~2 | way // 8 * 2, 13, 1)
             paths.append(self.at("input%d" % k))
             with open(paths[-1], "wb") as file:
                 file.write(font + said)
         return paths
 
     def refuse_each(self, library, font, mode, on):
-        """Refuses each request of a strike in turn: the call makes the strike once more. Or all after it too, if `on`: the call says so; or
-        check_c.c does, of its own."""
+        """Refuses each request of a strike in turn: the call makes the strike once more. Or all after it too, if `on`: the call
+        says so; or check_c.c does, of its own."""
         words = [self.at("check_c"), "strike", font, "16", mode, "61", "61"]
         whole, told = run(words), []
         answers = [(0, whole.stdout, whole.stderr), (1, b"", b"mkstrike: 90 OutOfMemory\n")]
@@ -165,12 +169,14 @@ class Library:
             done, was_refused = run_refusing(library, words, len(told) + 1, on)
             answer = (done.returncode, done.stdout, done.stderr)
             if answer not in answers or not was_refused and answer != answers[0]:
-                raise Wrong("c/heap.c with request %d refused: status %d, %r" % (len(told) + 1, done.returncode, (done.stderr or done.stdout)[-200:]))
+                raise Wrong("c/heap.c with request %d refused: status %d, %r"
+                            % (len(told) + 1, done.returncode, (done.stderr or done.stdout)[-200:]))
             if not was_refused:
                 break
             told.append(done.returncode)
         if told.count(1 if on else 0) < 10 or not on and 1 in told:
-            raise Wrong("90 in place of a strike %d times of %d: does the library take its memory another way?" % (told.count(1), len(told)))
+            raise Wrong("90 in place of a strike %d times of %d: does the library take its memory another way?"
+                        % (told.count(1), len(told)))
 
     def linked(self, name):
         """A file of those that packaging/link makes."""
@@ -257,9 +263,11 @@ def test_symbols(unbuilt):
 def test_reasons(calls):
     """The names of docs/REFUSALS.md by their numbers, and what to do; each is cut to its room, and nothing after it is changed."""
     rows = prebuilt.refusals()
-    names, to_do = {0: "Done", 1: "Missing", **{number: name for number, name, _, _ in rows}}, {number: said for number, _, _, said in rows}
+    names, to_do = ({0: "Done", 1: "Missing", **{number: name for number, name, _, _ in rows}},
+                    {number: said for number, _, _, said in rows})
     for number in range(400):
-        for call, most, due in ((calls.c.mkstrike_reason, 21, names.get(number, "Unknown")), (calls.c.mkstrike_advice, 91, to_do.get(number, ""))):
+        for call, most, due in ((calls.c.mkstrike_reason, 21, names.get(number, "Unknown")),
+                                (calls.c.mkstrike_advice, 91, to_do.get(number, ""))):
             assert len(due) < most
             for room in range(most + 1):
                 text = ctypes.create_string_buffer(b"\7" * 96, 96)
@@ -274,7 +282,8 @@ def test_strikes(lib):
             lib.same(font, ppem, HINTED, 0, 0xFFFF, status=None)
             for mode, first, last in ((HINTED, 0x20, 0x17F), (HINTED, 0x251, 0xFFFF), ("", 0, 0xFFFF), ("", 0x10000, 0x1FFFF),
                                       (DROPOUT, 0x20, 0x17F), (HINTED + DROPOUT, 0x20, 0x17F), (HINTED + NEAR, 0x20, 0x17F),
-                                      (ASKED, 0x20, 0x17F), (HINTED + ASKED, 0x20, 0x17F), (X11, 0x20, 0x7E), (HINTED + X11, 0x20, 0x17F)):
+                                      (ASKED, 0x20, 0x17F), (HINTED + ASKED, 0x20, 0x17F), (X11, 0x20, 0x7E),
+                                      (HINTED + X11, 0x20, 0x17F)):
                 lib.same(font, ppem, mode, first, last)
 
 
@@ -314,18 +323,23 @@ def test_many(lib):
 
 
 def test_requests(calls):
-    """Of many characters: the size goes before the characters, the characters before the font, and as many as there may be are made."""
+    """Of many characters: the size goes before the characters, the characters before the font, and as many as there may be are
+    made."""
     font, placed, drawn = fonts.FIXTURE, ctypes.create_string_buffer(65537 * 40), _library._Drawn()
     for count, last, ppem, mode, length, due in (
-            (65537, 0x20, 16, 0, len(font), 61), (65537, 0x20, 16, 0, 0, 61), (65537, 0x20, 0, 0, 0, 60), (65537, 0x20, 0, 16, 0, 64),
-            (65536, 0x20, 16, 0, 0, 10), (65536, 0x20, 16, 0, len(font), 0), (65536, 0x110000, 16, 0, len(font), 61), (0, 0, 16, 0, len(font), 0)):
+            (65537, 0x20, 16, 0, len(font), 61), (65537, 0x20, 16, 0, 0, 61), (65537, 0x20, 0, 0, 0, 60),
+            (65537, 0x20, 0, 16, 0, 64), (65536, 0x20, 16, 0, 0, 10), (65536, 0x20, 16, 0, len(font), 0),
+            (65536, 0x110000, 16, 0, len(font), 61), (0, 0, 16, 0, len(font), 0)):
         chars = array("I", [0x20]) * max(count - 1, 0) + array("I", [last])
-        status = calls.c.mkstrike_glyphs(font, length, 0, ppem, mode, chars.buffer_info()[0], count, placed, count, None, 0, byref(drawn), byref(calls.refused))
-        assert status == due and (status or (drawn.glyphs, drawn.missing, drawn.bytes) == (count, 0, 0)), (count, last, ppem, mode, length)
+        status = calls.c.mkstrike_glyphs(font, length, 0, ppem, mode, chars.buffer_info()[0], count, placed, count, None, 0,
+                                         byref(drawn), byref(calls.refused))
+        assert status == due and (status or (drawn.glyphs, drawn.missing, drawn.bytes) == (count, 0, 0)), (
+            count, last, ppem, mode, length)
 
 
 def test_outlines(lib, calls):
-    """Outlines of glyphs by their numbers: what mkstrike outline writes, composites, glyphs that halt and numbers past the last too."""
+    """Outlines of glyphs by their numbers: what mkstrike outline writes, composites, glyphs that halt and numbers past the last
+    too."""
     for font in lib.real:
         data = prebuilt.read(font)
         for ppem, is_hinted, step in ((16, True, 97), (33, False, 331), (1024, True, 997)):
@@ -337,11 +351,13 @@ def test_outlines(lib, calls):
                 except Refused as why:
                     seen = 1, "", "mkstrike: %s\n" % why.line
                 if seen != (due.returncode, due.stdout.decode(), own_lines(due.stderr).decode()):
-                    raise Wrong("the outline of glyph %d of %s at %d that is not the program's" % (glyph, os.path.basename(font), ppem))
+                    raise Wrong("the outline of glyph %d of %s at %d that is not the program's"
+                                % (glyph, os.path.basename(font), ppem))
 
 
 def test_fonts(lib, calls):
-    """What a font is told to be is what its file says: it has the last glyph, and none past it. The numbers of glyphs fill as much as fits."""
+    """What a font is told to be is what its file says: it has the last glyph, and none past it. The numbers of glyphs fill as much
+    as fits."""
     for path in lib.real + [lib.part("")]:
         font, info = prebuilt.read(path), _library._Glyph()
         told, tables = _library.info(font, 0, 16), fonts.tables_of(font)
@@ -362,7 +378,8 @@ def test_fonts(lib, calls):
             assert (number == 0) == (status == calls.MISSING)
         for room in range(0, 300, 23):
             some = array("H", [7]) * 300
-            assert not calls.c.mkstrike_glyph_ids(font, len(font), 0, chars.buffer_info()[0], 300, some.buffer_info()[0], room, None)
+            assert not calls.c.mkstrike_glyph_ids(font, len(font), 0, chars.buffer_info()[0], 300, some.buffer_info()[0], room,
+                                                  None)
             assert some == numbers[:room] + array("H", [7]) * (300 - room)
         for data, code, due in ((font, 0x110000, 61), (b"", 0x41, 10)):
             with pytest.raises(Refused, match="^%d " % due):
@@ -403,7 +420,8 @@ def test_characters(lib, calls):
 
 
 def test_names(lib, calls):
-    """The names of fonts, worked out by hand: which record goes first, what counts as a text, and damaged tables; and of real fonts."""
+    """The names of fonts, worked out by hand: which record goes first, what counts as a text, and damaged tables; and of real
+    fonts."""
     english, german, unicode, mac = (3, 1, 0x409), (3, 1, 0x407), (0, 3, 0), (1, 0, 0)
 
     def wide(text):
@@ -412,7 +430,8 @@ def test_names(lib, calls):
     table = fonts.name_table
     long = "\uffff" * 32767  # the longest string that has whole code units
     for number, made, due in (
-            (1, table((*mac, 1, b"m"), (*german, 1, wide("g")), (*unicode, 1, wide("u")), (*english, 1, wide("e")), (*english, 1, wide("f"))), "e"),
+            (1, table((*mac, 1, b"m"), (*german, 1, wide("g")), (*unicode, 1, wide("u")), (*english, 1, wide("e")),
+                      (*english, 1, wide("f"))), "e"),
             (1, table((*mac, 1, b"m"), (*german, 1, wide("g")), (*unicode, 1, wide("u")), (*unicode, 1, wide("v"))), "u"),
             (1, table((*mac, 1, b"m"), (3, 10, 0x407, 1, wide("g")), (3, 0, 0x409, 2, wide("e"))), "g"),
             (1, table((1, 1, 11, 1, b"j"), (2, 1, 0x409, 1, wide("i")), (*mac, 2, b"s"), (*mac, 1, b"m")), "m"),
@@ -420,7 +439,8 @@ def test_names(lib, calls):
             (16, table((*english, 1, wide("a")), (*english, 2, wide("b")), (*english, 16, wide("c"))), "c"),
             (65535, table((*english, 65535, wide("a"))), "a"),
             (65536 + 1, table((*english, 1, wide("a"))), None),
-            (1, table((*english, 1, wide("A\u00e9\u3042\U00010000\U0010ffff\ufffd\0z"))), "A\u00e9\u3042\U00010000\U0010ffff\ufffd\0z"),
+            (1, table((*english, 1, wide("A\u00e9\u3042\U00010000\U0010ffff\ufffd\0z"))),
+             "A\u00e9\u3042\U00010000\U0010ffff\ufffd\0z"),
             (1, table((*english, 1, b"\xd8\x00")), "\ufffd"),
             (1, table((*english, 1, b"\xd8\x00\0a\xdc\x00\xd8\x00\xd8\x01\xdc\x02")), "\ufffda\ufffd\ufffd\U00010402"),
             (1, table((*english, 1, b"\xdb\xff\xdf\xff\xd7\xff\xe0\x00")), "\U0010ffff\ud7ff\ue000"),
@@ -446,23 +466,27 @@ def test_names(lib, calls):
 
 
 def test_null_at_symbols(unbuilt):
-    """NULL that reaches the symbols of the shared object, whatever is said of its elements: for each pointer, and for all but the font and a name."""
+    """NULL that reaches the symbols of the shared object, whatever is said of its elements: for each pointer, and for all but the
+    font and a name."""
     told = {"mkstrike_reason": 13, "mkstrike_advice": 18}  # of 52, GlyphTooLarge, how long
     numbers = {"number": 52, "ppem": 16, "code": 0x41, "name_len": 1}
-    for given, due, otherwise in (({}, {"mkstrike_faces": 0, "mkstrike_make": 62}, 10),  # of those that refuse, a name is missing first
-                                  ({"font": repr(fonts.FIXTURE), "font_len": len(fonts.FIXTURE), "name": "b'a'"}, {"mkstrike_name": 1}, 0)):
+    # of those that refuse, a name is missing first
+    for given, due, otherwise in (({}, {"mkstrike_faces": 0, "mkstrike_make": 62}, 10),
+                                  ({"font": repr(fonts.FIXTURE), "font_len": len(fonts.FIXTURE), "name": "b'a'"},
+                                   {"mkstrike_name": 1}, 0)):
         for name, taken in CALLS.items():
             parts = [(it, re.search(r"\w+$", it).group()) for it in taken.split(",") if "*" in taken]
             values = [given[part] if "*" in it and part in given else "None" if "*" in it else
-                      "ctypes.c_size_t(%d)" % given.get(part, numbers.get(part, 9 if part.endswith("_len") else 0)) for it, part in parts]
+                      "ctypes.c_size_t(%d)" % given.get(part, numbers.get(part, 9 if part.endswith("_len") else 0))
+                      for it, part in parts]
             script = "import ctypes, sys; print(ctypes.CDLL(sys.argv[1]).%s(%s))" % (name, ", ".join(values))
             seen = int(run([sys.executable, "-c", script, unbuilt.linked("*.so.*")]).stdout)
             assert not parts or seen == {**told, **due}.get(name, 65 if name.endswith("_prepared") else otherwise), name
 
 
 def test_inputs(lib):
-    """What tools/fuzz_c.c looks at, of parts of real fonts in each mode, of whole ones, with MKSTRIKE_LONG of all that are installed, and of
-    damaged ones."""
+    """What tools/fuzz_c.c looks at, of parts of real fonts in each mode, of whole ones, with MKSTRIKE_LONG of all that are
+    installed, and of damaged ones."""
     parts = [open(lib.part(os.path.basename(it)), "rb").read() for it in lib.real] or [fonts.FIXTURE]
     run([lib.at("caller"), *lib.inputs([fonts.FIXTURE, *parts], range(20))])
     for font in sorted(glob.glob("/usr/share/fonts/**/*.ttf", recursive=True)) if LONG else lib.real:
@@ -524,7 +548,8 @@ def test_under_valgrind(lib):
     """The same."""
     tool("valgrind")
     font = lib.part("DejaVuSans.ttf", range(0x20, 0x7F))
-    for words in (["strike", font, "16", HINTED, "20", "7e"], ["many", font, "50", "", "20", "7e"], ["many", font, "16", HINTED, "61", "6a"]):
+    for words in (["strike", font, "16", HINTED, "20", "7e"], ["many", font, "50", "", "20", "7e"],
+                  ["many", font, "16", HINTED, "61", "6a"]):
         run(["valgrind", "-q", "--error-exitcode=9", "--leak-check=full", lib.at("check_c"), *words])
 
 
@@ -599,7 +624,8 @@ def test_examples(lib):
         raise Wrong("examples/show.c: another picture")
     if run([lib.at("show"), font, "0", "41"], status=1).stderr != b"refused: 60 BadSize\n":
         raise Wrong("examples/show.c: another refusal")
-    for line in ("", "F 16", "F 16x 41", "F 65552 41", "F 16 4z", "F 16 41-", "F 16 42-41", "F 16 0-110000", "F 16 -41", "F 16 100000041",
+    for line in ("", "F 16", "F 16x 41", "F 65552 41", "F 16 4z", "F 16 41-", "F 16 42-41", "F 16 0-110000", "F 16 -41",
+                 "F 16 100000041",
                  "F 16 41 42"):
         words = [font if it == "F" else it for it in line.split()]
         if not run([lib.at("show"), *words], status=2).stderr.startswith(b"usage: show "):
@@ -623,7 +649,8 @@ def test_console(lib, ppem, line):
     font = lib.part("LiberationSans-Regular.ttf", range(0x20, 0x7F))
     strike, column, due = Strike(lib.make(font, ppem, EXAMPLES, 0x20, 0x7E)[1]), 0, set()
     for it in map(strike.get, line):
-        due |= {(column + it.left + x, strike.ascent - it.top + y) for y, row in enumerate(it) for x, byte in enumerate(row) if byte}
+        due |= {(column + it.left + x, strike.ascent - it.top + y) for y, row in enumerate(it) for x, byte in enumerate(row)
+                if byte}
         column += it.advance
     width, height = min(column, 1024), min(strike.ascent + strike.descent, 128)
     if picture_of(run([lib.at("console"), font, str(ppem), line]).stdout) != (
@@ -641,7 +668,8 @@ def test_console_in_its_frame(lib):
 
 
 def test_console_of_utf_8(lib):
-    """What examples/console.c takes for characters: each of these has a width of its own, and what is no UTF-8 is a box for each byte."""
+    """What examples/console.c takes for characters: each of these has a width of its own, and what is no UTF-8 is a box for each
+    byte."""
     square = fonts.simple([[(0, 0, 1), (0, 500, 1), (500, 500, 1), (500, 0, 1)]])
     codes = [0x41, 0x7F, 0x80, 0x7FF, 0x800, 0xFFF, 0x1000, 0xD7FF, 0xE000, 0xFFFF, 0x10000, 0x10FFFF]
     font = lib.at("utf-8.ttf")
@@ -650,7 +678,8 @@ def test_console_of_utf_8(lib):
                                  metrics=[(1000, 0)] + [(100 * (k + 10), 0) for k in range(len(codes))]))
     texts = [(chr(code).encode(), k + 10) for k, code in enumerate(codes)]
     box = 10 // 2 + 3
-    wrong = ("C1 BF", "C0 80", "E0 9F BF", "F0 8F BF BF", "ED A0 80", "ED BF BF", "F4 90 80 80", "F5 80 80 80", "FF", "80", "C2", "E0 A0",
+    wrong = ("C1 BF", "C0 80", "E0 9F BF", "F0 8F BF BF", "ED A0 80", "ED BF BF", "F4 90 80 80", "F5 80 80 80", "FF", "80", "C2",
+             "E0 A0",
              "F0 90 80")
     texts += [(bytes.fromhex(it), box * len(it.split())) for it in wrong]
     texts += [(b"\xe0\xa0A", 2 * box + 10), (b"A" + "\u0fff".encode() + b"A", 10 + 15 + 10)]
@@ -674,8 +703,8 @@ def test_console_of_odd_advances(lib):
         raise Wrong("examples/console.c draws %d columns" % width)
 
 
-# A font with one unit a pixel at 16: from each character to the width of a bar three pixels high, whose advance is a pixel more. Bar 9
-# ends 20 pixels before its origin by its program, and bar 10 begins two pixels before it. U+0042 is missing.
+# A font with one unit a pixel at 16: from each character to the width of a bar three pixels high, whose advance is a pixel more.
+# Bar 9 ends 20 pixels before its origin by its program, and bar 10 begins two pixels before it. U+0042 is missing.
 BARS = {0x41: 1, 0x80: 2, 0x7FF: 3, 0x800: 4, 0xFFFD: 5, 0x10000: 6, 0xFFFF: 7, 0x10FFFF: 8, 0x43: 9, 0x44: 10}
 BACK = bytes.fromhex("01 B9 0005 FB00 38")  # SVTCA[1], PUSHW 5 -1280, SHPIX: point 5 of a glyph of four is where it ends
 
@@ -737,7 +766,8 @@ def test_words_of_examples(name, lib):
 
 
 def test_numbers_of_show(lib):
-    """The box and the advance of a picture, the counts of a strike, and a range that is none, of which the first character is shown."""
+    """The box and the advance of a picture, the counts of a strike, and a range that is none, of which the first character is
+    shown."""
     path, shown, told = lib.at("bars.ttf"), b"##########\n" * 3, b"box 10 3 -2 0 advance 11\n"
     with open(path, "wb") as file:
         file.write(bars(12, -4))
@@ -764,14 +794,16 @@ def test_commands_of_examples(unbuilt):
         shutil.copytree(os.path.join(TOP, name), os.path.join(folder, name))
     os.makedirs(os.path.join(folder, "dist"))
     shutil.copyfile(unbuilt.archive, os.path.join(folder, "dist/libmkstrike_c.a"))
-    for line in ("cc -O2 -fPIC -Iinclude -c c/calls.c c/heap.c", "cp dist/libmkstrike_c.a libmkstrike.a", "ar rs libmkstrike.a calls.o heap.o"):
+    for line in ("cc -O2 -fPIC -Iinclude -c c/calls.c c/heap.c", "cp dist/libmkstrike_c.a libmkstrike.a",
+                 "ar rs libmkstrike.a calls.o heap.o"):
         run(line.split(), cwd=folder)
     run([os.path.join(TOP, "packaging/link"), folder, unbuilt.archive])
     soname, = (os.path.basename(it) for it in glob.glob(os.path.join(folder, "*.so.*")))
     needed = re.findall(rb"NEEDED +(\S+)", run(["objdump", "-p", os.path.join(folder, soname)]).stdout)
     if needed != [b"libc.so.6"]:
         raise Wrong("the shared object needs %s" % needed)
-    shown = {it.split()[-1] for it in run(["nm", "-D", "--defined-only", os.path.join(folder, soname)]).stdout.decode().splitlines()}
+    shown = {it.split()[-1]
+             for it in run(["nm", "-D", "--defined-only", os.path.join(folder, soname)]).stdout.decode().splitlines()}
     if shown != set(CALLS):
         raise Wrong("the shared object shows %s" % sorted(shown ^ set(CALLS)))
     env = {**os.environ, "GOCACHE": unbuilt.at("go")}
@@ -806,8 +838,10 @@ def test_bare(unbuilt):
     if (os.uname().sysname, os.uname().machine) != ("Linux", "x86_64"):
         pytest.skip("not x86-64 Linux")
     font = unbuilt.part("DejaVuSans.ttf", range(0x20, 0x7F))
-    bare = ["cc", "-std=gnu99", "-O2", "-Wall", "-Wextra", "-Werror", "-ffreestanding", "-fno-stack-protector", "-nostdlib", "-static",
+    bare = ["cc", "-std=gnu99", "-O2", "-Wall", "-Wextra", "-Werror", "-ffreestanding", "-fno-stack-protector", "-nostdlib",
+            "-static",
             "-DMKSTRIKE_BARE", '-DFONT="%s"' % font] + C[4:]
-    run(bare + [os.path.join(HERE, "check_c_bare.c"), BESIDE[0], os.path.join(TOP, "c/arena.c"), unbuilt.archive, "-lgcc", "-o", unbuilt.at("bare")])
+    run(bare + [os.path.join(HERE, "check_c_bare.c"), BESIDE[0], os.path.join(TOP, "c/arena.c"), unbuilt.archive, "-lgcc", "-o",
+                unbuilt.at("bare")])
     if run([unbuilt.at("bare")]).stdout != unbuilt.make(font, 16, HINTED, 0x20, 0x7E)[1]:
         raise Wrong("another strike without a C library")

@@ -1,8 +1,8 @@
 """What is looked at of the command as people type it: fonts and outputs by name, help, and the line that says what to do.
 
-Mistakes of users (front_mistakes.py), each with the line that leads out; fonts and outputs by their names, also after a refusal, a signal, on
-a full disk and with closed streams; which characters are missing; help and version; that the help and the man pages are what
-tools/make_pages writes; files of another kind; and that VERSION is what others say.
+Mistakes of users (front_mistakes.py), each with the line that leads out; fonts and outputs by their names, also after a refusal, a
+signal, on a full disk and with closed streams; which characters are missing; help and version; that the help and the man pages are
+what tools/make_pages writes; files of another kind; and that VERSION is what others say.
 """
 import fcntl
 import glob
@@ -107,7 +107,8 @@ def fonts_by_name(it):
         it.check("a strike", "" if due[0] == 0 and due[1].endswith(b"ENDFONT\n") else str(due)[:80])
         odd = "".join(map(chr, range(1, 127))).replace("/", "") + "\xe4"
         shutil.copy(SANS, it.path(odd))
-        for what, words in (("by its name", MAKE + ["a font.ttf"]), ("between options", ["make", "a font.ttf"] + MAKE[1:]), ("of an odd name", MAKE + ["./" + odd]),
+        for what, words in (("by its name", MAKE + ["a font.ttf"]), ("between options", ["make", "a font.ttf"] + MAKE[1:]),
+                            ("of an odd name", MAKE + ["./" + odd]),
                             ("after --", MAKE + ["--", "a font.ttf"])):
             it.equal("a font %s" % what, it.run(words), due)
         it.equal("a font as -", it.run(MAKE + ["-"], SANS), due)
@@ -142,7 +143,8 @@ def outputs_by_name(it):
         it.equal("-o %s" % name, it.run(MAKE + [SANS, "-o", name])[:2], (0, text))
     it.equal("-o joined", (it.run(MAKE + [SANS, "-oa strike.bdf"])[0], it.read("a strike.bdf")), (0, text))
     it.equal("-o to a pipe", it.shell('mkfifo pipe; cat pipe & "$0" "$@" -o pipe; wait; rm pipe', *MAKE, SANS)[:2], (0, text))
-    for words, due, what in ((["make", "--ppem", "16", "--chars", "19c"], 1, "a refusal"), (["make", "--ppem", "16"], 2, "a wrong command line")):
+    for words, due, what in ((["make", "--ppem", "16", "--chars", "19c"], 1, "a refusal"),
+                             (["make", "--ppem", "16"], 2, "a wrong command line")):
         it.equal("-o after %s" % what, it.run(words + [SANS, "-o", "new.bdf"])[0], due)
         it.equal("-o over an older file, after %s" % what, it.run(words + [SANS, "-o", "a strike.bdf"])[0], due)
     for name, why in (("inner", "it is a folder"), ("none/new.bdf", "no file can be made in its folder")):
@@ -172,8 +174,10 @@ def outputs_that_are_there(it):
             file.write(b"old")
         os.chmod(it.path("old.bdf"), mode)
         status, _, said = it.run(MAKE + ["copy.ttf", "-o", "old.bdf"])
-        due = (0, "mkstrike: glyphs 26", mode, False) if mode == 0o640 else (1, "mkstrike: can't write 'old.bdf': it is read-only", mode, True)
-        told = (status, said.split("\n")[0][:len(due[1])], os.stat(it.path("old.bdf")).st_mode & 0o777, it.read("old.bdf") == b"old")
+        due = ((0, "mkstrike: glyphs 26", mode, False) if mode == 0o640
+               else (1, "mkstrike: can't write 'old.bdf': it is read-only", mode, True))
+        told = (status, said.split("\n")[0][:len(due[1])], os.stat(it.path("old.bdf")).st_mode & 0o777,
+                it.read("old.bdf") == b"old")
         it.equal("-o over a file of mode %o" % mode, told, due)
         it.remove("old.bdf")
     it.check("the font still stays", "" if it.read("copy.ttf") == font else "it was written over")
@@ -194,8 +198,8 @@ def signals(it):
     with open(it.path("old.bdf"), "wb") as file:
         file.write(b"old")
     for end in (signal.SIGINT, signal.SIGTERM, signal.SIGHUP, signal.SIGKILL):
-        ran = subprocess.Popen([it.program, *MAKE, "-o", "old.bdf"], cwd=it.folder, stdin=subprocess.PIPE, stderr=subprocess.DEVNULL,
-                               preexec_fn=as_started)
+        ran = subprocess.Popen([it.program, *MAKE, "-o", "old.bdf"], cwd=it.folder, stdin=subprocess.PIPE,
+                               stderr=subprocess.DEVNULL, preexec_fn=as_started)
         ran.stdin.write(b"\0\1\0\0")
         ran.stdin.flush()
         while any(fcntl.ioctl(ran.stdin, termios.FIONREAD, bytes(4))) and ran.poll() is None:  # until it reads
@@ -218,11 +222,13 @@ def signals(it):
 def streams(it):
     """Standard streams that are closed or full."""
     text = it.run(MAKE, SANS)[1]
-    for what, tail, due in (("closed output", ">&-", (1, b"", "mkstrike: 70 WriteFailed 0")), ("full output", "> /dev/full", (1, b"", "mkstrike: 70 WriteFailed 0")),
+    for what, tail, due in (("closed output", ">&-", (1, b"", "mkstrike: 70 WriteFailed 0")),
+                            ("full output", "> /dev/full", (1, b"", "mkstrike: 70 WriteFailed 0")),
                             ("closed input", "<&-", (1, b"", "mkstrike: 71 ReadFailed"))):
         status, out, said = it.shell('"$0" "$@" %s' % tail, *MAKE, *([] if "<" in tail else [SANS]))
         it.equal(what, (status, out, said.split("\n")[0]), due)
-    for what, tail in (("closed standard error", "2>&-"), ("all streams closed", "<&- >&- 2>&-"), ("full standard error", "2>/dev/full")):
+    for what, tail in (("closed standard error", "2>&-"), ("all streams closed", "<&- >&- 2>&-"),
+                       ("full standard error", "2>/dev/full")):
         status, _, _ = it.shell('"$0" "$@" %s' % tail, *MAKE, SANS, "-o", "whole.bdf")
         it.equal("%s, with -o" % what, (status, it.read("whole.bdf")), (0, text))
         it.remove("whole.bdf")
@@ -238,7 +244,8 @@ def help_and_version(it):
     texts = {name.lower(): re.sub(r"\\(.)", r"\1", text).encode() for name, text in found if not name.startswith("REFUSAL_")}
     asked = [("overview", [word]) for word in ("--help", "-h", "help")] + [("version", [word]) for word in ("--version", "-V")]
     for name in set(texts) - {"overview", "version"}:
-        asked += [(name, ["help", name]), (name, ["--help", name])] + [(name, [name, word]) for word in ("--help", "-h") if name not in ("explain", "sets")]
+        asked += [(name, ["help", name]), (name, ["--help", name])] + [(name, [name, word]) for word in ("--help", "-h")
+                                                                       if name not in ("explain", "sets")]
     for name, words in asked:
         it.equal(" ".join(words), it.run(words), (0, texts[name], ""))
     it.equal("help of what is no command", it.run(["help", "nothing"])[0], 2)
@@ -255,9 +262,12 @@ def refusals_explained(it):
         for word in (str(number), name):
             status, out, said = it.run(["explain", word])
             told = " ".join(out.decode().split())
-            it.equal("explain %s" % word, (status, told.startswith("%d %s: " % (number, name)), told.endswith(" What to do: %s." % to_do), said), (0, True, True, ""))
+            it.equal("explain %s" % word,
+                     (status, told.startswith("%d %s: " % (number, name)), told.endswith(" What to do: %s." % to_do), said),
+                     (0, True, True, ""))
     for word in ("300", "0", "StackUnders", "Stack Under"):
-        it.equal("explain %s" % word, it.run(["explain", word]), (1, b"", "mkstrike: no refusal has the number or the name '%s'; docs/REFUSALS.md has all\n" % word))
+        it.equal("explain %s" % word, it.run(["explain", word]),
+                 (1, b"", "mkstrike: no refusal has the number or the name '%s'; docs/REFUSALS.md has all\n" % word))
     it.equal("explain of two words", it.run(["explain", "30", "31"]), (0, b"unknown command '30'\n", ""))
     it.check("the refusals", "" if len(rows) > 35 else "%d rows" % len(rows))
 
@@ -274,14 +284,16 @@ def pages_as_written(it):
 def explained(it):
     """`explain` says what is wrong with a command line as it is typed, with a font and an output, and opens neither."""
     for words, due in ((MAKE + ["no such.ttf", "-o", "none/a"], ""), (MAKE + ["one", "two"], "one word too many, 'two'"),
-                       (["make", "--ppem", "x"], "--ppem takes a whole number from 1 to 1024, not 'x'"), ([], "the command is missing"),
+                       (["make", "--ppem", "x"], "--ppem takes a whole number from 1 to 1024, not 'x'"),
+                       ([], "the command is missing"),
                        (["mkae"], "unknown command 'mkae'"), (["--help"], "unknown command '--help'")):
         it.equal("explain %s" % " ".join(words), it.run(["explain", *words]), (0, (due + "\n" if due else "").encode(), ""))
 
 
 def missing_characters(it):
     """The names of missing characters leave out those that are refused, and no property is taken for a character."""
-    words = ["make", "--ppem", "16", "--refused", "leave-out", "--property", "ENCODING=65", "--property", "CHARS=1", "--chars", "41,19c,4e00-4e02,250"]
+    words = ["make", "--ppem", "16", "--refused", "leave-out", "--property", "ENCODING=65", "--property", "CHARS=1", "--chars",
+             "41,19c,4e00-4e02,250"]
     for more in (["FONT"], ["FONT", "-o", "missing.bdf"], ["--missing", "FONT"]):
         said = it.run(words + [SANS if word == "FONT" else word for word in more])[2].split("\n")
         it.equal("the last of the lines, %s" % " ".join(more), (len(said), said[-2]),
@@ -314,4 +326,5 @@ def names_of_the_release(it):
 
 CHECKS = (mistakes, fonts_by_name, outputs_by_name, outputs_that_are_there, traces, signals, missing_characters, streams, explained,
           refusals_explained, help_and_version, pages_as_written, files_of_another_kind, names_of_the_release)
-NEED_FONT = (outputs_by_name, outputs_that_are_there, traces, signals, missing_characters, streams)  # which look at nothing without DejaVu Sans
+# which look at nothing without DejaVu Sans
+NEED_FONT = (outputs_by_name, outputs_that_are_there, traces, signals, missing_characters, streams)

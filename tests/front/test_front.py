@@ -7,7 +7,8 @@ from front import CHECKS, NEED_FONT, Check
 from needs import real_font
 from prebuilt import TOP
 
-# Each planted fault: the check that must find it, and a program in place of the right one, which is $REAL; or a file, and what is replaced there by what.
+# Each planted fault: the check that must find it, and a program in place of the right one, which is $REAL; or a file, and what is
+# replaced there by what.
 PLANTED = [
     ("mistakes", '"$REAL" "$@"; at=$?; echo "mkstrike: more" >&2; exit $at'),
     ("mistakes", '"$REAL" "$@" 2>&1 >&3 | head -n 1 >&2; exit ${PIPESTATUS[0]}'),
@@ -59,7 +60,8 @@ def test_planted(number, program, tmp_path):
         (tmp_path / "program").write_text("#!/bin/bash\nexec 3>&1\nREAL=%s\n%s\n" % (program, fault[0]))
         (tmp_path / "program").chmod(0o755)
     (tmp_path / "folder").mkdir()
-    it = Check(program if len(fault) == 3 else str(tmp_path / "program"), str(tmp_path / "folder"), str(top if len(fault) == 3 else TOP))
+    it = Check(program if len(fault) == 3 else str(tmp_path / "program"), str(tmp_path / "folder"),
+               str(top if len(fault) == 3 else TOP))
     for check in CHECKS:
         if name in check.__name__:
             try:

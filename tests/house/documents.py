@@ -1,11 +1,10 @@
 """Runs the commands that the documents show, and compares what the documents show of their outputs and pictures.
 
-tools/write_documents writes the outputs and the pictures anew. Each document has an empty folder, in which its blocks of commands run one
-after the other, by `bash -e -o pipefail`. On the path are
-the program as `mkstrike`, then `show-bdf`, `picture`, and `strike` of the Python package with
-the C library of dist/, if that is of these sources and there are fontTools, Pillow and a C compiler. A block is a run of lines that are
-indented by four spaces, or what
-is between .EX and .EE in a man page. It is a block of commands, unless a comment before it says otherwise:
+tools/write_documents writes the outputs and the pictures anew. Each document has an empty folder, in which its blocks of commands
+run one after the other, by `bash -e -o pipefail`. On the path are the program as `mkstrike`, then `show-bdf`, `picture`, and
+`strike` of the Python package with the C library of dist/, if that is of these sources and there are fontTools, Pillow and a C
+compiler. A block is a run of lines that are indented by four spaces, or what is between .EX and .EE in a man page. It is a block of
+commands, unless a comment before it says otherwise:
 
     <!-- output -->              what the commands above it print; a line `..` stands for any number of lines
     <!-- not run: WHY -->        neither commands nor output
@@ -35,7 +34,8 @@ from debian import FONTS, lacking
 from prebuilt import TOP
 from program import python_with
 
-DOCUMENTS = ("README.md", "docs/COOKBOOK.md", "docs/LIBRARY.md", "docs/PYTHON.md", "docs/REFUSALS.md", "docs/TRACE.md", "docs/mkstrike.1",
+DOCUMENTS = ("README.md", "docs/COOKBOOK.md", "docs/LIBRARY.md", "docs/PYTHON.md", "docs/REFUSALS.md", "docs/TRACE.md",
+             "docs/mkstrike.1",
              *sorted(os.path.relpath(it, TOP) for it in glob.glob(os.path.join(glob.escape(TOP), "docs/mkstrike-*.1"))))
 PICTURES = "docs/pictures"
 LONGEST = 300  # seconds that a block may take, on a machine that is busy with proofs too
@@ -84,7 +84,8 @@ def blocks_of_markdown(text):
             yield Block(first + 1, marks, [it[4:] for it in lines[first:at + 1]], first, at + 1)
             marks = ""
         elif PICTURE.match(line):
-            yield Block(first + 1, marks if marks.startswith(("picture", "not made")) else "picture", [PICTURE.match(line).group(1)], first, at + 1)
+            yield Block(first + 1, marks if marks.startswith(("picture", "not made")) else "picture",
+                        [PICTURE.match(line).group(1)], first, at + 1)
             marks = ""
         elif line:
             marks = ""
@@ -129,7 +130,8 @@ def is_shown(shown, printed):
 
 
 class Document:
-    """A document while its blocks run: its folder, the names that left out blocks would have made, what it printed last, and counts."""
+    """A document while its blocks run: its folder, the names that left out blocks would have made, what it printed last, and
+    counts."""
 
     def __init__(self, top, path, tools, write):
         self.top, self.path, self.tools, self.write = top, path, tools, write
@@ -191,11 +193,13 @@ class Document:
             lines = self.python(lines)
         due = int(block.marks.get("status", 0))
         # a program in Python prints at once too, as on a terminal
-        env = {**os.environ, "PATH": self.tools + os.pathsep + os.environ["PATH"], "LC_ALL": "C.UTF-8", "HOME": self.folder, "PYTHONUNBUFFERED": "1"}
+        env = {**os.environ, "PATH": self.tools + os.pathsep + os.environ["PATH"], "LC_ALL": "C.UTF-8", "HOME": self.folder,
+               "PYTHONUNBUFFERED": "1"}
         server = None
         try:
             if "display" in block.marks:
-                server = subprocess.Popen(["Xvfb", "-displayfd", "1", "-noreset"], stdout=subprocess.PIPE, stderr=subprocess.DEVNULL)
+                server = subprocess.Popen(["Xvfb", "-displayfd", "1", "-noreset"], stdout=subprocess.PIPE,
+                                          stderr=subprocess.DEVNULL)
                 env["DISPLAY"] = ":" + server.stdout.readline().decode().strip()
             status, printed = bash("\n".join(lines), self.folder, env)
         finally:
@@ -204,7 +208,8 @@ class Document:
                 server.communicate()
         if status != due:
             said = printed.strip().split("\n")[-1] if printed else "nothing"
-            self.fault(block, "the commands take over %d s" % LONGEST if status is None else "status %d in place of %d: %s" % (status, due, said))
+            self.fault(block, "the commands take over %d s" % LONGEST if status is None
+                       else "status %d in place of %d: %s" % (status, due, said))
         self.ran += 1
         self.printed = printed.rstrip("\n").split("\n") if printed else []
 
@@ -224,7 +229,8 @@ class Document:
         elif is_shown(block.lines, self.printed):
             return
         elif self.write and ".." not in block.lines:
-            lines = [roff(it) for it in self.printed] if self.path.endswith(".1") else ["    " + it if it else "" for it in self.printed]
+            lines = ([roff(it) for it in self.printed] if self.path.endswith(".1")
+                     else ["    " + it if it else "" for it in self.printed])
             anew[block.first:block.end] = [lines] + [[]] * (block.end - block.first - 1)
         else:
             pairs = list(zip(block.lines + [None] * len(self.printed), self.printed + [None] * len(block.lines)))
@@ -286,12 +292,14 @@ def pictures_not_shown(top, shown):
 
 def make_tools(folder, program):
     """Puts what is to be on the path into a folder."""
-    for name, path in (("mkstrike", program), ("show-bdf", os.path.join(TOP, "bin/show-bdf")), ("picture", os.path.join(TOP, "tools/picture"))):
+    for name, path in (("mkstrike", program), ("show-bdf", os.path.join(TOP, "bin/show-bdf")),
+                       ("picture", os.path.join(TOP, "tools/picture"))):
         os.symlink(path, os.path.join(folder, name))
 
 
 def add_python(folder):
-    """Puts the Python package beside the tools, with `strike`, and the Python that finds it as `strike-python`. Says why not, or None."""
+    """Puts the Python package beside the tools, with `strike`, and the Python that finds it as `strike-python`. Says why not, or
+    None."""
     python, package = python_with(("fontTools", "PIL")), os.path.join(folder, "python/mkstrike")
     if python is None:
         return "no Python here has fontTools and Pillow (Debian: python3-fonttools, python3-pil)"
@@ -306,6 +314,7 @@ def add_python(folder):
     for name, words in (("strike", "-m mkstrike "), ("strike-python", "")):
         path = os.path.join(folder, name)
         with open(path, "w", encoding="utf-8") as file:
-            file.write('#!/bin/sh\nPYTHONPATH=%s exec %s %s"$@"\n' % (shlex.quote(os.path.join(folder, "python")), shlex.quote(python), words))
+            file.write('#!/bin/sh\nPYTHONPATH=%s exec %s %s"$@"\n' % (shlex.quote(os.path.join(folder, "python")),
+                                                                      shlex.quote(python), words))
         os.chmod(path, 0o755)
     return None

@@ -1,13 +1,13 @@
 """Looks at the sources for forms that no contract can ask for.
 
-Out of memory is only passed on. No clause can say that there was memory enough, so a body that gives out of memory for no reason would
-be proved. So that a reader need not look for one, such a fault is named in each `src/` only where it is a type or an enum's variant, in an arm
-of one line whose pattern is that fault and no other, and in the lines of listed_places.py. It has no second name: no `use` imports the variant,
-or renames it.
+Out of memory is only passed on. No clause can say that there was memory enough, so a body that gives out of memory for no reason
+would be proved. So that a reader need not look for one, such a fault is named in each `src/` only where it is a type or an enum's
+variant, in an arm of one line whose pattern is that fault and no other, and in the lines of listed_places.py. It has no second
+name: no `use` imports the variant, or renames it.
 
 Room is asked for, and a name that nobody reads is bound, in the places of listed_places.py alone. No clause says how much memory is
-taken, nor how long a statement works whose value is dropped, so each such place is looked at once and listed there. One that is gone
-has to go from the list too.
+taken, nor how long a statement works whose value is dropped, so each such place is looked at once and listed there. One that is
+gone has to go from the list too.
 
 No tally is made below a scan. A scan's bound on point tests speaks of the tally that it was given, so tests that are counted in
 another would not be in it: in the crates of TALLIED only the tally's own file makes one, and all others take it by reference.
@@ -49,7 +49,8 @@ def end_of_group(code, at):
 
 
 def end_of_ghost(code, at):
-    """The place after an attribute or ghost code: an import ends with a semicolon, all else with its braces, and a mark after them."""
+    """The place after an attribute or ghost code: an import ends with a semicolon, all else with its braces, and a mark after
+    them."""
     found = IMPORT.match(code, at)
     if found:
         return found.end()
@@ -187,4 +188,5 @@ def look(top):
     for path in paths_of_sources(top):
         with open(os.path.join(top, path), encoding="utf-8") as file:
             found += faults_in(path, file.read(), listed)
-    return found + ["%s: listed in tests/house/listed_places.py, and not there: %s" % it for it, left in listed.items() for _ in range(left)]
+    return found + ["%s: listed in tests/house/listed_places.py, and not there: %s" % it for it, left in listed.items()
+                    for _ in range(left)]

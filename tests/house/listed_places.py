@@ -1,9 +1,10 @@
-"""The places of the sources that forms.py lets name out of memory, ask for room, or bind a name that nobody reads, and what it is tried on.
+"""The places of the sources that forms.py lets name out of memory, ask for room, or bind a name that nobody reads, and what it is
+tried on.
 
-A new place is looked at before it is listed. Out of memory is made by a function that finds out for itself that memory was refused, by the `From`
-of another fault, or in a list of refusals. Room is for what is there or what the font says at the most: a length, a constant, a
-bound of the definitions, and sums of these; never a product that a font can make large, nor more than is used. A name that nobody
-reads is bound for the prover, and costs nothing: no loop, no call that walks a list.
+A new place is looked at before it is listed. Out of memory is made by a function that finds out for itself that memory was refused,
+by the `From` of another fault, or in a list of refusals. Room is for what is there or what the font says at the most: a length, a
+constant, a bound of the definitions, and sums of these; never a product that a font can make large, nor more than is used. A name
+that nobody reads is bound for the prover, and costs nothing: no loop, no call that walks a list.
 """
 
 PLACES = {
@@ -87,9 +88,12 @@ GOOD = [
     ("crates/fx_one/src/fault.rt", "impl From<AllocError> for Fault {\n    fn from(_e: AllocError) -> Fault { g() }\n}"),
     ("crates/fx_one/src/fault.rt", "pub enum Fault {\n    Full,\n    OutOfMemory,\n}"),
     ("crates/fx_one/src/a.rt", "use std::alloc::{AllocError, Global};\nfn f(x: Vec<u8>) -> Result<Vec<u8>, AllocError> { Ok(x) }"),
-    ("crates/fx_one/src/a.rt", "fn f() {\n    match g() {\n        A::OutOfMemory => B::OutOfMemory,\n        A::Full => B::Full,\n    }\n}"),
-    ("crates/fx_one/src/a.rt", "fn f() {\n    match g() {\n        Err(AllocError) => (Err(B::OutOfMemory), None),\n        Ok(_) => h(),\n    }\n}"),
-    ("crates/fx_one/src/a.rt", "fn f() {\n    match g() {\n        B::OutOfMemory => (90, 1),\n        B::Full | B::Far if h() => (1, 2),\n    }\n}"),
+    ("crates/fx_one/src/a.rt",
+     "fn f() {\n    match g() {\n        A::OutOfMemory => B::OutOfMemory,\n        A::Full => B::Full,\n    }\n}"),
+    ("crates/fx_one/src/a.rt",
+     "fn f() {\n    match g() {\n        Err(AllocError) => (Err(B::OutOfMemory), None),\n        Ok(_) => h(),\n    }\n}"),
+    ("crates/fx_one/src/a.rt",
+     "fn f() {\n    match g() {\n        B::OutOfMemory => (90, 1),\n        B::Full | B::Far if h() => (1, 2),\n    }\n}"),
     ("crates/fx_one/src/a.rt", "fn f()\n    ensures { OnErr result (λ e. e ≡ OutOfMemory) }\n{ g(); }"),
     ("crates/fx_one/src/a.rt", "// Err(A::OutOfMemory), Vec::with_capacity(alloc, 9)\nfn f() { g(\"OutOfMemory\"); }"),
     ("crates/fx_one/src/a.rt", "fn f() {}\n#[cfg(test)]\nmod tests { fn g() { Err(A::OutOfMemory) } }\n"),
@@ -114,13 +118,18 @@ PLANTED = [
     ("crates/fx_one/src/a.rt", "fn f() { Err(Fault { error: AllocError }) }"),
     ("crates/fx_one/src/a.rt", "fn f() { g().map_err(|_| A::OutOfMemory) }"),
     ("crates/fx_one/src/a.rt", "impl A { fn f() -> A { Self::OutOfMemory } }"),
-    ("crates/fx_one/src/a.rt", "fn f() {\n    match g() {\n        Ok(_) | Err(A::OutOfMemory) if h() => Err(B::OutOfMemory),\n        _ => Ok(()), } }"),
+    ("crates/fx_one/src/a.rt",
+     "fn f() {\n    match g() {\n        Ok(_) | Err(A::OutOfMemory) if h() => Err(B::OutOfMemory),\n        _ => Ok(()), } }"),
     ("crates/fx_one/src/a.rt", "fn f() {\n    match g() {\n        Err(A::Full) | Err(A::OutOfMemory) => Err(B::OutOfMemory), } }"),
-    ("crates/fx_one/src/a.rt", "fn f() {\n    match g() {\n        Err(A::Full) |\n        Err(A::OutOfMemory) => Err(B::OutOfMemory), } }"),
+    ("crates/fx_one/src/a.rt",
+     "fn f() {\n    match g() {\n        Err(A::Full) |\n        Err(A::OutOfMemory) => Err(B::OutOfMemory), } }"),
     ("crates/fx_one/src/a.rt", "fn f() {\n    match g() {\n        x if x != A::OutOfMemory => Err(B::OutOfMemory), } }"),
-    ("crates/fx_one/src/a.rt", "fn f() {\n    match g() {\n        Err(A::OutOfMemory) => Err(B::OutOfMemory),\n        Ok(_) => Err(B::OutOfMemory), } }"),
-    ("crates/fx_one/src/a.rt", "fn f() {\n    match g() {\n        Err(A::OutOfMemory) => match h() { _ => Err(B::OutOfMemory), }, } }"),
-    ("crates/fx_one/src/a.rt", "fn f() {\n    match g() {\n        Err(A::OutOfMemory) => h(),\n        _ => { if i() { return Err(B::OutOfMemory); } } } }"),
+    ("crates/fx_one/src/a.rt",
+     "fn f() {\n    match g() {\n        Err(A::OutOfMemory) => Err(B::OutOfMemory),\n        Ok(_) => Err(B::OutOfMemory), } }"),
+    ("crates/fx_one/src/a.rt",
+     "fn f() {\n    match g() {\n        Err(A::OutOfMemory) => match h() { _ => Err(B::OutOfMemory), }, } }"),
+    ("crates/fx_one/src/a.rt",
+     "fn f() {\n    match g() {\n        Err(A::OutOfMemory) => h(),\n        _ => { if i() { return Err(B::OutOfMemory); } } } }"),
     ("crates/fx_one/src/a.rt", "// #[cfg(test)]\n// mod tests\nfn f() { Err(A::OutOfMemory) }"),
     ("crates/fx_one/src/a.rt", "#[cfg(test)]\nmod tests { fn g() {} }\nfn f() { Err(A::OutOfMemory) }"),
     ("crates/fx_one/src/tests.rt", "fn f() { Err(A::OutOfMemory) }"),

@@ -12,7 +12,7 @@ import re
 from prebuilt import libraries_of_crates, structs_of_header
 
 # What is left of older times: how many findings of a rule there may be. A number here only ever goes down.
-LEFT = {"lines_short": 7, "lines_of_python": 1100, "lemmas_named_once": 1, "twice": 13}
+LEFT = {"lines_short": 7, "lemmas_named_once": 1, "twice": 13}
 
 # The crates below `fx_raster` and the types by which they find pixels: `fx_strike` names none of them.
 RASTER = re.compile(r"\b(fx_winding|fx_rows|fx_dropout|fx_contour|Pieces|Noted|Tally)\b")
@@ -40,7 +40,8 @@ DOCUMENTS = ["README.md", "CONTRIBUTING.md", "SECURITY.md", "docs/*.md", "suite/
 IDIOM = re.compile(r"\b(?:that|those)\s+of\b|\bones?\s+(?:that|which)\b|\bby\s+which\b", re.IGNORECASE)
 
 # The columns of the table of the doors in docs/WORDS.md after the first, and the files that have the words of each.
-DOORS = (("crates/fx_front/src/*.rt", "crates/fx_bdf/src/*.rt"), ("python/mkstrike/*.py",), ("include/mkstrike.h",), ("python/mkstrike/*.py",),
+DOORS = (("crates/fx_front/src/*.rt", "crates/fx_bdf/src/*.rt"), ("python/mkstrike/*.py",), ("include/mkstrike.h",),
+         ("python/mkstrike/*.py",),
          ("web/index.html", "web/*.js"))
 
 FUNCTION = re.compile(r"\s*(?:pub(?:\(\w+\))? )?(?:const )?(?:unsafe )?fn (\w+)")
@@ -54,7 +55,8 @@ LOCATIONS = {"Nowhere": "", "Table": " tag", "Glyph": " g", "Property": " p", "B
 OF_THE_PROGRAM = range(70, 80)  # reading and writing, which no call from C does
 OF_C = ((64, "BadMode"), (65, "BadBlock"))  # which only calls from C give
 
-# The constants of include/mkstrike.h that are no refusals: where the crate of the C library has each, and what holds its value there.
+# The constants of include/mkstrike.h that are no refusals: where the crate of the C library has each, and what holds its value
+# there.
 CONSTANTS = {
     "DONE": ("glyph.rt", r"if made\.is_some\(\) \{ (\w+) \} else \{ MISSING \}"),
     "MISSING": ("glyph.rt", r"const MISSING: u32 = (\w+);"),
@@ -319,7 +321,8 @@ def names(house):
     known = set()
     for it in house.paths("crates/*/src/**/*.rt") + house.definitions() + house.lemmas():
         known.update(re.findall(r"[A-Za-z_]\w*", house.text(it)))
-    for pattern in ("tools/*", "tests/[a-z]*/*", "packaging/*", "bin/show-bdf", "bench/*", ".ci/*", "python/*/*.py", "crates.txt", *EDITS):
+    for pattern in ("tools/*", "tests/[a-z]*/*", "packaging/*", "bin/show-bdf", "bench/*", ".ci/*", "python/*/*.py", "crates.txt",
+                    *EDITS):
         for it in house.paths(pattern):
             known.add(os.path.splitext(os.path.basename(it))[0])
             known.update(re.findall(r"[A-Za-z_]\w*", house.text(it)) if os.path.isfile(os.path.join(house.top, it)) and
@@ -345,8 +348,8 @@ def stands_on(house):
 def files_are_files(house):
     """No file or folder of the repository is a link.
 
-    `rt ci` proves a clean copy, and refuses a tree with a link in it before it proves anything. The copies that test_checks.py makes have
-    links to absolute paths, which are not counted."""
+    `rt ci` proves a clean copy, and refuses a tree with a link in it before it proves anything. The copies that test_checks.py
+    makes have links to absolute paths, which are not counted."""
     for path in house.paths("*") + house.paths("*/**"):
         whole = os.path.join(house.top, path)
         if os.path.islink(whole) and not os.path.isabs(os.readlink(whole)):
@@ -380,7 +383,8 @@ def refusals(house):
     `Refusal::entry` and `Cause::entry` are the table, by number, name and location; the definitions have it again, and the proof
     compares them. Users look refusals up in the document and name them by the header, which nothing else compares before the gate
     has run for an hour."""
-    table = {(int(number), name): location for number, name, location in REFUSAL.findall(house.text("crates/fx_request/src/refusal.rt"))}
+    table = {(int(number), name): location
+             for number, name, location in REFUSAL.findall(house.text("crates/fx_request/src/refusal.rt"))}
     table.update(((int(number), name), "Halt") for number, name in CAUSE.findall(house.text("crates/fx_machine/src/halt.rt")))
     table.update((it, "Nowhere") for it in OF_C)
     told = {
@@ -410,7 +414,8 @@ def structs_of_code(text):
 
 
 def header(house):
-    """Each constant of include/mkstrike.h and each struct is the one that the code has, and MKSTRIKE_ABI the one that Python declares.
+    """Each constant of include/mkstrike.h and each struct is the one that the code has, and MKSTRIKE_ABI the one that Python
+    declares.
 
     The names of two bits of a mode were exchanged once, and every program that was compiled with the header still passed."""
     path, text, crate = "include/mkstrike.h", house.text("include/mkstrike.h"), "crates/mkstrike_c/src/"
@@ -448,12 +453,12 @@ def methods(house, crate):
 
 
 def proofs_have_functions(house):
-    """A folder `proofs/FILE/FN` is that of a function of `src/FILE.rt`, `proofs/FN` of one of `src/main.rt`, and `proofs/FILE/TYPE/FN` of a
-    method of a type there.
+    """A folder `proofs/FILE/FN` is that of a function of `src/FILE.rt`, `proofs/FN` of one of `src/main.rt`, and
+    `proofs/FILE/TYPE/FN` of a method of a type there.
 
     A proof whose function is gone is read, cited and kept right for nothing. A method may stand in another file than its type; for
-    a trait's method TYPE is the type's name and the trait's, as `PlainScan`; for a type with arguments, as `Striker<'a, Rows>`, it is
-    `Striker+Rows`, and FILE is that of the method."""
+    a trait's method TYPE is the type's name and the trait's, as `PlainScan`; for a type with arguments, as `Striker<'a, Rows>`, it
+    is `Striker+Rows`, and FILE is that of the method."""
     known = functools.lru_cache(maxsize=None)(functools.partial(methods, house))
     for path in [it for it in house.lemmas() if os.path.basename(it) in ("Answers.antt", "Invariants.antt")]:
         _, crate, _, *files, name, _ = path.split("/")
@@ -467,7 +472,8 @@ def proofs_have_functions(house):
 
 
 def lemmas(house):
-    """Each lemma of a file of proofs: path, number of its line, its name, whether others may name it, how many lines of it do so."""
+    """Each lemma of a file of proofs: path, number of its line, its name, whether others may name it, how many lines of it do
+    so."""
     for path in house.lemmas():
         inner, found = "", []
         for number, line in house.lines(path):
@@ -476,7 +482,8 @@ def lemmas(house):
             elif re.match(r"[^\s-]", line):
                 inner = ""
             head = re.match(inner + LEMMA, line)
-            if found and (head or re.match(inner + r"[^\s-]", line) and words_of(line)[:1] != [found[2]] and line.strip()[:9] != "unfolding"):
+            if found and (head or re.match(inner + r"[^\s-]", line) and words_of(line)[:1] != [found[2]]
+                          and line.strip()[:9] != "unfolding"):
                 yield tuple(found)
                 found = []
             if head:
@@ -588,7 +595,8 @@ def readme_short(house):
 
 
 def paragraphs_of_markdown(lines):
-    """The paragraphs of a document: pairs of the number of the first line and the text. Quotations and what is shown are left out."""
+    """The paragraphs of a document: pairs of the number of the first line and the text. Quotations and what is shown are left
+    out."""
     begun, text, is_comment = 0, [], False
     for number, line in enumerate(lines + [""], 1):
         is_comment = is_comment or line.startswith("<!--")
@@ -652,7 +660,8 @@ def sentences_short(house):
     """No sentence of the documents, the man pages and the help has more than 40 words.
 
     Long sentences are misread. Quotations, examples and pictures do not count."""
-    for path in house.documents() + house.paths("CHANGELOG.md") + house.paths("docs/*.1") + house.paths("crates/fx_front/src/help.rt"):
+    for path in house.documents() + house.paths("CHANGELOG.md") + house.paths("docs/*.1") + house.paths(
+        "crates/fx_front/src/help.rt"):
         for number, said in sentences(house, path):
             if len(said) > MOST:
                 yield path, number, "%d words: %s .." % (len(said), " ".join(said[:8]))
@@ -673,12 +682,14 @@ def doors(house):
     A word is what is between backquotes; on the page it is what is between commas."""
     path = "docs/WORDS.md"
     text = house.text(path) if house.exists(path) else ""
-    for number, line in enumerate(text.partition("## At the doors")[2].partition("\n## ")[0].split("\n"), text.partition("## At the doors")[0].count("\n") + 1):
+    for number, line in enumerate(text.partition("## At the doors")[2].partition("\n## ")[0].split("\n"),
+                                  text.partition("## At the doors")[0].count("\n") + 1):
         cells = [it.strip() for it in line.strip("|").split("|")]
         if len(cells) != len(DOORS) + 1 or cells[0] in ("What", "---"):
             continue
         for cell, files in zip(cells[1:], DOORS):
-            said = [it.split()[0] for it in re.findall("`([^`]+)`", cell)] if files != DOORS[-1] else cell.split(", ") if cell != "the same" else []
+            said = ([it.split()[0] for it in re.findall("`([^`]+)`", cell)] if files != DOORS[-1] else cell.split(", ")
+                    if cell != "the same" else [])
             there = "\n".join(house.text(it) for pattern in files for it in house.paths(pattern))
             for word in filter(None, (it.strip('"=.') for it in said)):
                 if word not in there:

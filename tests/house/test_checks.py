@@ -1,10 +1,11 @@
 """Tries each check of the gate on something that is wrong, on which it must end with status 1.
 
-A check that finds faults but ends with 0, or compares too little, passes everything from then on, and nobody sees it. TRIALS has for each
-check at least one thing that is wrong: a program that turns a digit of a row, loses the last byte, ends with status 1, sleeps or tells
-another number; or a copy of this repository in which one thing is other. A trial also says a word that must be in what the check prints, so
-that it has ended for that fault and no other. Each check that the gate names (tools/run_checks --list) must have a trial, and each that has
-one must be in the gate. A trial runs the part of a check that finds its fault, since some checks take minutes.
+A check that finds faults but ends with 0, or compares too little, passes everything from then on, and nobody sees it. TRIALS has
+for each check at least one thing that is wrong: a program that turns a digit of a row, loses the last byte, ends with status 1,
+sleeps or tells another number; or a copy of this repository in which one thing is other. A trial also says a word that must be in
+what the check prints, so that it has ended for that fault and no other. Each check that the gate names (tools/run_checks --list)
+must have a trial, and each that has one must be in the gate. A trial runs the part of a check that finds its fault, since some
+checks take minutes.
 """
 import contextlib
 import os
@@ -52,7 +53,8 @@ UNCOVERED = """{"id":"tables/uncovered","group":"tables","font":"scan.ttf","ppem
 
 
 # What a check, or a trial, needs to look at anything: without it the trial is left out.
-NEEDS = {"tests/c": "cc", "tests/program/test_work.py": "valgrind", "tests/python": "pytest", "tests/web -k 'not planted'": "chromium", "tests/web -k planted": "node",
+NEEDS = {"tests/c": "cc", "tests/program/test_work.py": "valgrind", "tests/python": "pytest",
+         "tests/web -k 'not planted'": "chromium", "tests/web -k planted": "node",
          "tests/program/test_memory.py": "cc", "tests/packages": "dpkg-deb",
          "a stand-in that skips nothing": "pytest", "tools/mutate": "pytest"}
 # Checks that look at dist/, and at nothing if it is of other sources.
@@ -71,8 +73,10 @@ class Trial:
 
 FAILED = r"[1-9]\d* failed"
 TRIALS = [
-    Trial("tests/house", "a fault of the first rule", FAILED, "pytest tests/house/test_rules.py -k loops_labelled", (NEW, "", LOOP)),
-    Trial("tests/house", "bits of the mode exchanged", r"MKSTRIKE_DROPOUT_NEAR is 8", "pytest tests/house/test_rules.py -k 'header and not planted'",
+    Trial("tests/house", "a fault of the first rule", FAILED, "pytest tests/house/test_rules.py -k loops_labelled",
+          (NEW, "", LOOP)),
+    Trial("tests/house", "bits of the mode exchanged", r"MKSTRIKE_DROPOUT_NEAR is 8",
+          "pytest tests/house/test_rules.py -k 'header and not planted'",
           ("include/mkstrike.h", "NEAR UINT32_C(0x004)", "NEAR UINT32_C(0x008)")),
     Trial("tests/house", "a rule that finds nothing", r"1 failed", "pytest tests/house/test_rules.py -k 'planted and loops'",
           ("tests/house/rules.py", "        if not label:", "        if False:")),
@@ -82,12 +86,15 @@ TRIALS = [
     Trial("tests/house", "a failure is not told", FAILED, "pytest tests/house/test_run_checks.py -k told",
           ("tools/run_checks", "FAILED if failed else PASSED", "PASSED")),
     Trial("tests/house", "what was left out is not counted", FAILED, "pytest tests/house/test_run_checks.py -k counts",
-          ("tools/run_checks", "found[\"error\"], 1 if status else 0), found[\"skipped\"]", "found[\"error\"], 1 if status else 0), 0")),
+          ("tools/run_checks", "found[\"error\"], 1 if status else 0), found[\"skipped\"]",
+           "found[\"error\"], 1 if status else 0), 0")),
     Trial("tests/house", "a stand-in that skips nothing", FAILED, "pytest tests/house/test_run_checks.py -k 'stand_in and out'",
           ("tests/lib/without_pytest/pytest.py", 'how, said = "skipped", ', 'how, said = "passed", ')),
-    Trial("tests/house/test_documents.py -k 'not planted'", "a digit of a row", FAILED, "pytest tests/house/test_documents.py -k show"),
+    Trial("tests/house/test_documents.py -k 'not planted'", "a digit of a row", FAILED,
+          "pytest tests/house/test_documents.py -k show"),
     Trial("tests/house/test_documents.py -k 'not planted'", "status 1", FAILED, "pytest tests/house/test_documents.py -k show"),
-    Trial("tests/house/test_documents.py -k planted", "outputs are not compared", FAILED, "pytest tests/house/test_documents.py -k planted[1]",
+    Trial("tests/house/test_documents.py -k planted", "outputs are not compared", FAILED,
+          "pytest tests/house/test_documents.py -k planted[1]",
           ("tests/house/documents.py", "        return shown == printed", "        return True")),
     Trial("tools/check_dist --sources", "another byte", r"is not the file that dist/manifest names", "tools/check_dist --sources",
           ("dist/mkstrike", "", "x")),
@@ -96,9 +103,10 @@ TRIALS = [
     Trial("tests/program", "the last byte lost", FAILED, "pytest tests/program/test_input.py -k names"),
     Trial("tests/program", "status 1", FAILED, "pytest tests/program/test_input.py -k names"),
     Trial("tests/program", "another number", FAILED, "pytest tests/program/test_input.py -k names"),
-    Trial("tests/program", "sleeps", r"no end within 3 seconds", "env MKSTRIKE_PATIENCE=3 pytest tests/program/test_time.py -k programs_that_run_once"),
-    Trial("suite/make --check --reference", "an answer of cases.jsonl", r"differs: cases.jsonl", "suite/make --check --reference --only stack",
-          ("suite/cases.jsonl", '"id":"stack/dup-0",', '"id":"stack/dup-00",')),
+    Trial("tests/program", "sleeps", r"no end within 3 seconds",
+          "env MKSTRIKE_PATIENCE=3 pytest tests/program/test_time.py -k programs_that_run_once"),
+    Trial("suite/make --check --reference", "an answer of cases.jsonl", r"differs: cases.jsonl",
+          "suite/make --check --reference --only stack", ("suite/cases.jsonl", '"id":"stack/dup-0",', '"id":"stack/dup-00",')),
     Trial("suite/wrong_readings.py --cover", "a case that falls under no reading", r"1 fall under no reading",
           "suite/wrong_readings.py --cover --only tables", ("suite/cases.jsonl", "", UNCOVERED)),
     Trial("suite/wrong_readings.py --cover", "a reference that breaks down counts", r"although the reference broke down",
@@ -110,35 +118,45 @@ TRIALS = [
           ("suite/compare.py", '        return "not refused: %s" % expected["name"]', "        return None")),
     Trial("tools/third_party --check", "another notice", r"not as the kit has it", "tools/third_party --check",
           ("THIRD-PARTY.md", "Danny Guo", "Danny")),
-    Trial("suite/run --every", "a digit of a row", r"[1-9]\d* wrong", "suite/run --every --only scan/box-0 --with suite/adapters/mkstrike"),
+    Trial("suite/run --every", "a digit of a row", r"[1-9]\d* wrong",
+          "suite/run --every --only scan/box-0 --with suite/adapters/mkstrike"),
     Trial("tests/front -k 'not planted'", "status 1", FAILED, "pytest tests/front -k 'fonts_by and not planted'"),
     Trial("tests/front -k planted", "failures are not kept", FAILED, "pytest tests/front -k planted[17]",
           ("tests/front/front.py", 'self.wrong += ["%s: %s" % (what, wrong)] if wrong else []', "self.wrong += []")),
-    Trial("tests/program/test_memory.py", "a program that does nothing", FAILED, "env MKSTRIKE_PROGRAM=/bin/true pytest tests/program/test_memory.py"),
-    Trial("tests/program/test_work.py", "a program that does nothing", FAILED, "env MKSTRIKE_PROGRAM=/bin/true pytest tests/program/test_work.py -k memory"),
+    Trial("tests/program/test_memory.py", "a program that does nothing", FAILED,
+          "env MKSTRIKE_PROGRAM=/bin/true pytest tests/program/test_memory.py"),
+    Trial("tests/program/test_work.py", "a program that does nothing", FAILED,
+          "env MKSTRIKE_PROGRAM=/bin/true pytest tests/program/test_work.py -k memory"),
     Trial("tests/program/test_work.py", "another cost", r"and 1000000 are due", "pytest tests/program/test_work.py -k costs[9]",
           ("tests/program/counted_work.txt", re.compile(rb"\d+(?= \d+ branches)"), "1000000")),
     Trial("tests/c", "a digit of a row", FAILED, "pytest tests/c -k bare"),
-    Trial("tests/c", "NULL with its count", FAILED, "pytest tests/c -k null", ("c/calls.c", "it != NULL ? it##_len : 0", "it##_len")),
-    Trial("tests/c", "an arena without large pieces", FAILED, "pytest tests/c -k direct[arena]", ("c/arena.c", "SIZES = 40", "SIZES = 24")),
+    Trial("tests/c", "NULL with its count", FAILED, "pytest tests/c -k null",
+          ("c/calls.c", "it != NULL ? it##_len : 0", "it##_len")),
+    Trial("tests/c", "an arena without large pieces", FAILED, "pytest tests/c -k direct[arena]",
+          ("c/arena.c", "SIZES = 40", "SIZES = 24")),
     Trial("tests/python", "another method", r"1 failed", "pytest tests/python -k what_a_strike_says",
           ("python/mkstrike/glyph.py", "return self.bottom + self.height", "return self.bottom")),
     Trial("tests/packages", "another file each time", FAILED, "pytest tests/packages -k again",
-          ("packaging/build", "deb mkstrike amd64 dist/mkstrike\n", "date +%N >\"$tree/now\"\ndeb mkstrike amd64 dist/mkstrike\ncd \"$made\"\nsha256sum -- *\nmv -- * \"$to\"\nexit\n")),
+          ("packaging/build", "deb mkstrike amd64 dist/mkstrike\n",
+           "date +%N >\"$tree/now\"\ndeb mkstrike amd64 dist/mkstrike\ncd \"$made\"\nsha256sum -- *\nmv -- * \"$to\"\nexit\n")),
     Trial("tests/web -k 'not planted'", "another caption", FAILED, "env MKSTRIKE_MODULES=dist pytest tests/web -k controls",
           ("dist/mkstrike.html", "pixels differ", "pixels vary")),
-    Trial("tests/web -k planted", "a fault that is none", FAILED, "env MKSTRIKE_MODULES=dist pytest tests/web -k 'planted and unlink'",
+    Trial("tests/web -k planted", "a fault that is none", FAILED,
+          "env MKSTRIKE_MODULES=dist pytest tests/web -k 'planted and unlink'",
           ("tests/web/test_npm.py", '"system.unlinkSync(path(name))", "0")', '"0o1, O_RDWR", "0o1, O_RDWR")')),
     Trial("tools/fuzz_c", "a call that is not made", r"never calls mkstrike_version", "tools/fuzz_c --runs 1",
           ("tools/fuzz_c.c", "mkstrike_version()", "MKSTRIKE_VERSION")),
     Trial("tools/fuzz_c", "a fault of the library", r"a fault", "tools/fuzz_c --runs 400",
           ("tools/fuzz_c.c", 'sprintf(heights, "\\nFONT_ASCENT %d', 'sprintf(heights, "\\nFONT_ASCENT 0%d')),
     Trial("tools/damage", "status 1", r"broken: [1-9]", "tools/damage --count 20 --program WRONG --keep KEEP"),
-    Trial("tools/mutate", "examples that pass everything", r"1 survived; score 0 %", "tools/mutate suite --at-least 60 --only 'answer.get(\"refusal\", {}), dict) -> False'",
+    Trial("tools/mutate", "examples that pass everything", r"1 survived; score 0 %",
+          "tools/mutate suite --at-least 60 --only 'answer.get(\"refusal\", {}), dict) -> False'",
           ("suite/judged.py", "for it in tried if it[1] != it[2]]", "for it in tried if False]")),
-    Trial("tests/house/test_checks.py", "a check that passes everything", r"it ends with status 0", "pytest tests/house/test_checks.py -k 'trial and a_rule_that_finds_nothing'",
+    Trial("tests/house/test_checks.py", "a check that passes everything", r"it ends with status 0",
+          "pytest tests/house/test_checks.py -k 'trial and a_rule_that_finds_nothing'",
           ("tests/house/test_rules.py", "    assert name in found, ", "    assert True or name in found, ")),
-    Trial("tests/house/test_checks.py", "a check without a trial", r"tools/damage has no trial", "pytest tests/house/test_checks.py -k has_a_trial",
+    Trial("tests/house/test_checks.py", "a check without a trial", r"tools/damage has no trial",
+          "pytest tests/house/test_checks.py -k has_a_trial",
           ("tests/house/test_checks.py", 'Trial("tools/damage", ' + '"status', 'Trial("tools/damages", "status')),
 ]
 
@@ -153,7 +171,8 @@ def test_each_check_has_a_trial():
     """Each check of the gate has one, and the gate runs each that has."""
     gate = {name_of(it) for commands in run_checks.CHECKS.values() for it in commands}
     tried_here = {it.check for it in TRIALS}
-    wrong = ["%s has no trial" % it for it in sorted(gate - tried_here)] + ["the gate does not run %s" % it for it in sorted(tried_here - gate)]
+    wrong = ["%s has no trial" % it for it in sorted(gate - tried_here)] + ["the gate does not run %s" % it
+                                                                            for it in sorted(tried_here - gate)]
     assert not wrong, "\n".join(wrong)
 
 
@@ -186,7 +205,8 @@ def copied(folder, changes):
 
 
 def change(source, target, old, new):
-    """Writes a file anew in which a text, or what fits a pattern, is replaced. Where that is empty the new text is put at the end."""
+    """Writes a file anew in which a text, or what fits a pattern, is replaced. Where that is empty the new text is put at the
+    end."""
     data = b""
     if os.path.exists(source):
         with open(source, "rb") as file:
@@ -204,7 +224,8 @@ def change(source, target, old, new):
 
 def wrong_one(trial, folder, program):
     """The path of the wrong program."""
-    path, text = os.path.join(folder, "wrong"), WRAPPER.replace("PROGRAM", repr(program)).replace("CHANGE", PROGRAMS.get(trial.wrong, "pass"))
+    path, text = (os.path.join(folder, "wrong"),
+                  WRAPPER.replace("PROGRAM", repr(program)).replace("CHANGE", PROGRAMS.get(trial.wrong, "pass")))
     with open(path, "w", encoding="utf-8") as file:
         file.write(text)
     os.chmod(path, 0o755)
@@ -216,7 +237,8 @@ def wrong_one(trial, folder, program):
 def text_of(words, folder, env):
     """Runs a check. Returns its status, or None if it does not end, and what it said; nothing of it is left."""
     with tempfile.TemporaryFile() as said:
-        process = subprocess.Popen(words, cwd=folder, env=env, stdin=subprocess.DEVNULL, stdout=said, stderr=said, start_new_session=True)
+        process = subprocess.Popen(words, cwd=folder, env=env, stdin=subprocess.DEVNULL, stdout=said, stderr=said,
+                                   start_new_session=True)
         try:
             status = process.wait(LONGEST)
         except subprocess.TimeoutExpired:

@@ -53,7 +53,8 @@ picture --text A --scale 1 a.bdf > made.png
 -->
 ![A](docs/pictures/made.png)
 """ % STRIKE
-# Each planted fault: what is replaced in GOOD, by what, and a word of the line that must tell of it. The last is in the picture that is kept.
+# Each planted fault: what is replaced in GOOD, by what, and a word of the line that must tell of it. The last is in the picture
+# that is kept.
 PLANTED = [
     ("\n    three\n", "\n    four\n", "README.md:7: stale"),
     ("    # Made\n", "    # Mad\n", "stale: line 1 is shown as `# Mad`"),
@@ -96,7 +97,8 @@ def test_strike_is_there(tmp_path):
 
 
 def test_each_tool_has_a_package():
-    """Each tool that a test or a document needs is in the table of Debian's packages, so that nobody is sent to one that is not there."""
+    """Each tool that a test or a document needs is in the table of Debian's packages, so that nobody is sent to one that is not
+    there."""
     named = set()
     for path in DOCUMENTS:
         with open(os.path.join(TOP, path), encoding="utf-8") as file:

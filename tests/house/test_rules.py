@@ -8,9 +8,10 @@ MADE = {
     "crates.txt": "# Each crate.\nfx_one: thiserror\nfx_two: fx_one\n",
     "docs/ARCHITECTURE.md": "| Crate | Stands on | What |\n|---|---|---|\n| `fx_one` | | sums |\n| `fx_two` | fx_one | more |\n",
     "docs/DEFINITIONS.md": "| `fx_one/specs/Sums` | sums |\n",
-    "README.md": "# Sums\n\nIt [adds](README.md#sums). " + "It `adds up` numbers.\n" * 20 + "\n> " + "word " * 50 + "\n\n    " + "word " * 50 + "\n",
-    "docs/mkstrike.1": ".TH SUMS 1\n.SH NAME\nsums\n.PP\n" + "It adds\n.B numbers.\n" * 20 + ".EX\n" + "word\n" * 50 + ".EE\n",
-    "crates/fx_front/src/help.rt": '//! Help.\n\nconst ADDS: &str = "sums adds numbers.\n\n' + "".join("    word %d\n" % k for k in range(50)) + '\nIt adds them.\n";\n\nconst ENDS: &str =\n    "sums ends.\n";\n',
+    "README.md": "# Sums\n\nIt [adds](README.md#sums). " + "It `adds up` numbers.\n" * 20 + "\n> " + "word " * 50 + "\n\n    "
+    + "word " * 50 + "\n", "docs/mkstrike.1": ".TH SUMS 1\n.SH NAME\nsums\n.PP\n" + "It adds\n.B numbers.\n" * 20 + ".EX\n"
+    + "word\n" * 50 + ".EE\n", "crates/fx_front/src/help.rt": '//! Help.\n\nconst ADDS: &str = "sums adds numbers.\n\n'
+    + "".join("    word %d\n" % k for k in range(50)) + '\nIt adds them.\n";\n\nconst ENDS: &str =\n    "sums ends.\n";\n',
     "CONTRIBUTING.md": """The code is `crates/fx_one/src/sum.rt`, as `sum_of`; `fx_one` (2 functions).
 
     docs/ARCHITECTURE.md
@@ -48,9 +49,11 @@ fn added(one: u32, other: u32) -> u32 {
             Refusal::ReadFailed => (71, "ReadFailed", Location::Nowhere),
 """,
     "crates/fx_machine/src/halt.rt": "//! Halts.\n            Cause::StackUnder => (30, \"StackUnder\"),\n",
-    "docs/WORDS.md": "# Words\n\n## At the doors\n\n| What | `sums` | | | | Page |\n|---|---|---|---|---|---|\n| a sum | `adds` N | | | | Number |\n",
+    "docs/WORDS.md": "# Words\n\n## At the doors\n\n| What | `sums` | | | | Page |\n|---|---|---|---|---|---|\n| a sum | `adds` N "
+                     "| | | | Number |\n",
     "web/index.html": "<label>Number</label>\n",
-    "docs/REFUSALS.md": "| 13 | BadHead | a |\n| 17 | BadLoca g | b |\n| 30 | StackUnder | c |\n| 64 | BadMode | d |\n| 65 | BadBlock | d |\n| 71 | ReadFailed | e |\n",
+    "docs/REFUSALS.md": "| 13 | BadHead | a |\n| 17 | BadLoca g | b |\n| 30 | StackUnder | c |\n| 64 | BadMode | d |\n| 65 | "
+                        "BadBlock | d |\n| 71 | ReadFailed | e |\n",
     "include/mkstrike.h": """/* libmkstrike.so.1. */
 #define MKSTRIKE_VERSION UINT32_C(20261125)
 #define MKSTRIKE_ABI UINT32_C(1)
@@ -80,8 +83,10 @@ struct mkstrike_drawn {
     "python/mkstrike/_library.py": "ABI = 1  # MKSTRIKE_ABI\n",
     "crates/mkstrike_c/src/glyph.rt": "//! Glyphs.\nconst MISSING: u32 = 1;\nif made.is_some() { 0 } else { MISSING }\n",
     "crates/mkstrike_c/src/version.rt": "//! The release.\nconst VERSION: u32 = 20_261_125;\n",
-    "crates/mkstrike_c/src/refused.rt": "//! Refusals.\npub const NONE: u32 = 0xFFFF_FFFF;\npub const FPGM: u32 = 0x1_0000;\npub const PREP: u32 = 0x1_0001;\n",
-    "crates/mkstrike_c/src/gathered.rt": "//! Counts.\n#[repr(C)]\n#[derive(Clone)]\npub struct Drawn {\n    pub bytes: usize,\n    /// Of it.\n    pub glyphs: u32,\n"
+    "crates/mkstrike_c/src/refused.rt": "//! Refusals.\npub const NONE: u32 = 0xFFFF_FFFF;\npub const FPGM: u32 = 0x1_0000;\npub "
+                                        "const PREP: u32 = 0x1_0001;\n",
+    "crates/mkstrike_c/src/gathered.rt": "//! Counts.\n#[repr(C)]\n#[derive(Clone)]\npub struct Drawn {\n    pub bytes: usize,\n  "
+                                         "  /// Of it.\n    pub glyphs: u32,\n"
     "    pub missing: u32,\n}\n",
     "crates/mkstrike_c/src/mode.rt": """//! Modes.
 if mode / 8 % 2 == 1 {
@@ -111,7 +116,8 @@ pub fn is_x11(mode: u32) -> bool
     "tools/sums": "#!/usr/bin/env python3\nprint(one + other)\n",
     "suite/sums.py": "import os\n",
     "crates/fx_one/must-fail/difference.edit": "file: src/sum.rt\nold: saturating_add\nnew: saturating_sub\n",
-    "crates/fx_one/planted/none.edit": "file: src/sum.rt\nold: 'numbers: for number in numbers\nnew: 'numbers: for number in none\n",
+    "crates/fx_one/planted/none.edit": "file: src/sum.rt\nold: 'numbers: for number in numbers\nnew: 'numbers: for number in "
+                                       "none\n",
 }
 
 # Each fault: the rule that must find it, the file, and what is replaced there by what; a new file has nothing replaced.

@@ -1,4 +1,5 @@
-"""tools/run_checks tells of made checks as they end, and leaves nothing behind; and the stand-in for pytest does what pytest does."""
+"""tools/run_checks tells of made checks as they end, and leaves nothing behind; and the stand-in for pytest does what pytest
+does."""
 import contextlib
 import glob
 import importlib.util
@@ -32,14 +33,17 @@ def told(commands):
 
 # Made checks, and what is told of each: one passes, one leaves out a part, one all, some fail, one is killed.
 MADE = [("test PROGRAM = '/a program'", "passed    test"), ("echo made: left out: a filter", "left out: a filter"),
-        ("sh -c 'echo made: left out: no node; exit 3'", "left out: no node"), ("sh -c 'echo why it failed; exit 1'", "  why it failed"),
+        ("sh -c 'echo made: left out: no node; exit 3'", "left out: no node"),
+        ("sh -c 'echo why it failed; exit 1'", "  why it failed"),
         ("sh -c 'kill -9 $$'", "status -9: sh -c"), ("/no/tool", "status 127: /no/tool")]
 # What a check of pytest prints, its status, and what is told of it.
 PRINTED = [
     (["SKIPPED [20] a.py:1: no cc (Debian: gcc)", "SKIPPED [8] b.py:2: no cc (Debian: gcc)", "2 passed, 28 skipped in 0.5s"], 0,
      ["passed   ", "  2 of 30 ", "28 left out: no cc (Debian: gcc)"]),
-    (["SKIPPED [1] a.py:1: no go (Debian: golang-go)", "1 skipped in 2s"], 0, ["left out ", "  0 of 1 ", "1 left out: no go (Debian: golang-go)"]),
-    (["E   UserWarning: bdf2psf: left out: they leave the cell", "made: left out: x", "1 failed, 4 passed, 1 error in 2s"], 1, ["FAILED ", "  4 of 6 "]),
+    (["SKIPPED [1] a.py:1: no go (Debian: golang-go)", "1 skipped in 2s"], 0,
+     ["left out ", "  0 of 1 ", "1 left out: no go (Debian: golang-go)"]),
+    (["E   UserWarning: bdf2psf: left out: they leave the cell", "made: left out: x", "1 failed, 4 passed, 1 error in 2s"], 1,
+     ["FAILED ", "  4 of 6 "]),
     (["7 passed, 3 deselected in 0.1s"], 0, ["passed   ", "  7 of 7 "]), (["7 passed in 0.1s"], 1, ["FAILED ", "  7 of 8 "]),
     (["no tests ran in 0.1s"], 5, ["FAILED ", "  0 of 1 "]), (["7 passed", "killed"], -9, ["FAILED ", "  0 of 1 "])]
 
@@ -47,7 +51,8 @@ PRINTED = [
 def test_told():
     """Each is told, and counted."""
     text, status = told([it for it, _ in MADE])
-    missing = [word for _, word in MADE + [("", "2 tests passed, 3 failed ("), ("", ", 1 left out (all of sh -c")] if word not in text]
+    missing = [word for _, word in MADE + [("", "2 tests passed, 3 failed ("), ("", ", 1 left out (all of sh -c")]
+               if word not in text]
     assert not missing and status == 1, text
 
 
@@ -68,7 +73,8 @@ def test_counts_of_pytest(printed):
     with contextlib.redirect_stdout(said):
         check.end(status, 0.0, None)
     first, *more = said.getvalue().split("\n")
-    assert all(it in first for it in due[:2]) and ["          " + it for it in due[2:]] == [it for it in more if re.match(r" +(\d+ )?left out", it)]
+    assert all(it in first for it in due[:2]) and ["          " + it
+                                                   for it in due[2:]] == [it for it in more if re.match(r" +(\d+ )?left out", it)]
 
 
 def test_status():

@@ -12,7 +12,8 @@ import subprocess
 import prebuilt
 from prebuilt import TOP
 
-LINE = re.compile(r"^(?: \* |//!? ?|//\t|    |)(In a checkout: )?((?:CGO_\S+ )*(?:cc|c\+\+|rustc|go run|python3) .*?)(?: \*/)?$", re.M)
+LINE = re.compile(r"^(?: \* |//!? ?|//\t|    |)(In a checkout: )?((?:CGO_\S+ )*(?:cc|c\+\+|rustc|go run|python3) .*?)(?: \*/)?$",
+                  re.M)
 EXAMPLES = ("show.c", "console.c", "glyphs.cpp", "glyphs.py", "glyphs.rs", "glyphs.go")
 
 
@@ -47,7 +48,8 @@ def run_line(line, folder, font, env):
     line = line.replace("FONT PPEM TEXT", given)
     if given not in line:
         line += " && ./%s %s" % (made_by(line), given if made_by(line) != "show" else "%s 16 67" % font)
-    done = subprocess.run(["bash", "-e", "-c", line], cwd=folder, env=env, stdin=subprocess.DEVNULL, capture_output=True, timeout=300)
+    done = subprocess.run(["bash", "-e", "-c", line], cwd=folder, env=env, stdin=subprocess.DEVNULL, capture_output=True,
+                          timeout=300)
     if done.returncode:
         raise prebuilt.Fault("%s: status %d: %s" % (line, done.returncode, done.stderr.decode("latin-1").strip()[-400:]))
     return done.stdout

@@ -1,7 +1,9 @@
-"""Damages fonts by chances: bytes, words and longs, tables and records of the directory, programs, what is cut, taken away or put in."""
+"""Damages fonts by chances: bytes, words and longs, tables and records of the directory, programs, what is cut, taken away or put
+in."""
 import struct
 
-USUAL = {1: (0x00, 0x01, 0x7F, 0x80, 0xFF, 0xFE), 2: (0, 1, 2, 0x7FFF, 0x8000, 0x8001, 0xFFFF, 0xFFFE, 0x100, 0x4000), 4: (0x7FFFFFFF, 0x80000000, 0xFFFFFFFF)}
+USUAL = {1: (0x00, 0x01, 0x7F, 0x80, 0xFF, 0xFE), 2: (0, 1, 2, 0x7FFF, 0x8000, 0x8001, 0xFFFF, 0xFFFE, 0x100, 0x4000),
+         4: (0x7FFFFFFF, 0x80000000, 0xFFFFFFFF)}
 PROGRAMS = (b"fpgm", b"prep", b"glyf")
 RECORD = 16  # bytes of a record of the directory
 
@@ -11,7 +13,8 @@ class Damaged:
 
     def __init__(self, font, draw, others):
         self.data, self.draw, self.others = bytearray(font), draw, others
-        ways = [(self.number, 10), (self.fill, 2), (self.cut, 1), (self.put_in, 2), (self.take_away, 1), (self.record, 1), (self.program, 3)]
+        ways = [(self.number, 10), (self.fill, 2), (self.cut, 1), (self.put_in, 2), (self.take_away, 1), (self.record, 1),
+                (self.program, 3)]
         for _ in range(draw.choice((1, 1, 2, 3 + draw.randrange(6)))):
             if self.data:
                 draw.choices([it for it, _ in ways], [it for _, it in ways])[0]()
@@ -55,8 +58,9 @@ class Damaged:
         size = self.draw.choices((1, 2, 4), (5, 4, 1))[0]
         at = self.place() // size * size
         was, most = int.from_bytes(self.data[at:at + size], "big"), (1 << 8 * size) - 1
-        number = self.draw.choice((self.draw.choice(USUAL[size]), self.draw.randint(0, most), was ^ 1 << self.draw.randrange(8 * size),
-                                   was + self.draw.choice((-1, 1)), 2 * was, len(self.data) - self.draw.randrange(3)))
+        number = self.draw.choice((self.draw.choice(USUAL[size]), self.draw.randint(0, most),
+                                   was ^ 1 << self.draw.randrange(8 * size), was + self.draw.choice((-1, 1)), 2 * was,
+                                   len(self.data) - self.draw.randrange(3)))
         if at + size <= len(self.data):
             self.data[at:at + size] = (number & most).to_bytes(size, "big")
 
@@ -69,7 +73,8 @@ class Damaged:
     def cut(self):
         """The file ends early, often in or after a table."""
         start, length = self.some_table()
-        del self.data[self.draw.choice((self.draw.randrange(len(self.data) + 1), start + length, start + self.draw.randrange(length + 1), start + length - 1)):]
+        del self.data[self.draw.choice((self.draw.randrange(len(self.data) + 1), start + length,
+                                        start + self.draw.randrange(length + 1), start + length - 1)):]
 
     def put_in(self):
         """Bytes of some font come over bytes, or between them."""
@@ -98,7 +103,8 @@ class Damaged:
         struct.pack_into(">L", self.data, at, number & 0xFFFFFFFF)
 
     def program(self):
-        """Random instructions come over a program, or somewhere into the glyphs. Numbers are pushed often, so that the others have some."""
+        """Random instructions come over a program, or somewhere into the glyphs. Numbers are pushed often, so that the others have
+        some."""
         tag = self.draw.choice(PROGRAMS)
         start, length = next((self.table(at) for at in self.records() if self.data[at:at + 4] == tag), (0, 0))
         if length and tag == b"glyf":
@@ -106,6 +112,7 @@ class Damaged:
         code = b""
         while len(code) < length:
             count, most = 1 + self.draw.randrange(8), 256 if self.once_in(4) else 12
-            code += bytes([0xAF + count, *(self.draw.randrange(most) for _ in range(count))]) if self.once_in(2) else self.draw.randbytes(1)
+            code += bytes([0xAF + count, *(self.draw.randrange(most) for _ in range(count))]) if self.once_in(
+                2) else self.draw.randbytes(1)
         code = code[:max(0, min(length, len(self.data) - start))]
         self.data[start:start + len(code)] = code

@@ -215,7 +215,8 @@ def name_of(code):
 
 def glyph_lines(code, box, *rows, swidth=375, dwidth=6):
     """The lines of a glyph."""
-    head = ["STARTCHAR " + name_of(code), "ENCODING %d" % code, "SWIDTH %d 0" % swidth, "DWIDTH %d 0" % dwidth, "BBX " + box, "BITMAP"]
+    head = ["STARTCHAR " + name_of(code), "ENCODING %d" % code, "SWIDTH %d 0" % swidth, "DWIDTH %d 0" % dwidth, "BBX " + box,
+            "BITMAP"]
     return "\n".join([*head, *rows, "ENDCHAR\n"])
 
 
@@ -232,7 +233,8 @@ class Glyph:
 
     def tail(self, upem):
         """The lines after the code point."""
-        lines = glyph_lines(0, "%d %d %d %d" % self.bits.box, *row_lines(self.bits), swidth=near(self.advance * 1000, upem), dwidth=self.width)
+        lines = glyph_lines(0, "%d %d %d %d" % self.bits.box, *row_lines(self.bits), swidth=near(self.advance * 1000, upem),
+                            dwidth=self.width)
         return lines[lines.index("SWIDTH"):]
 
 

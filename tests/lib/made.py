@@ -259,4 +259,5 @@ def comb(points, code=None, after=None):
 
 def list_of(codes):
     """A list of characters for the command line: ranges of code points."""
-    return ",".join("%x" % low if low == high else "%x-%x" % (low, high) for low, high, _ in fonts.runs_of((it, it) for it in codes))
+    return ",".join("%x" % low if low == high else "%x-%x" % (low, high)
+                    for low, high, _ in fonts.runs_of((it, it) for it in codes))

@@ -10,7 +10,8 @@ __all__ = ["TOP", "find_program", "python_with"]
 
 
 def find_program(named=None):
-    """The path of the program named, here or by MKSTRIKE_PROGRAM; else of dist/mkstrike if it is of these sources; else of the one that was built."""
+    """The path of the program named, here or by MKSTRIKE_PROGRAM; else of dist/mkstrike if it is of these sources; else of the one
+    that was built."""
     named = named or os.environ.get("MKSTRIKE_PROGRAM")
     place, advice = named or prebuilt.BUILT, ""
     if not named:

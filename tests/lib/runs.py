@@ -280,9 +280,11 @@ def all_there(reading):
 # ---- memory
 
 def run_refusing(library, words, at, on, size=0, **how):
-    """Runs a command under the library of tests/program/memory.c, which refuses the request for memory with number `at`, if `on` all after it too,
-    and if a size is given all of that size or more. Returns the finished process, and whether a request was refused."""
+    """Runs a command under the library of tests/program/memory.c, which refuses the request for memory with number `at`, if `on`
+    all after it too, and if a size is given all of that size or more. Returns the finished process, and whether a request was
+    refused."""
     with tempfile.TemporaryFile() as mark:
-        environment = {"LD_PRELOAD": library, "REFUSE_AT": str(at), "REFUSE_ON": str(int(on)), "REFUSE_FROM": str(size), "REFUSE_MARK": str(mark.fileno())}
+        environment = {"LD_PRELOAD": library, "REFUSE_AT": str(at), "REFUSE_ON": str(int(on)), "REFUSE_FROM": str(size),
+                       "REFUSE_MARK": str(mark.fileno())}
         done = subprocess.run(words, capture_output=True, timeout=60, env=environment, pass_fds=[mark.fileno()], **how)
         return done, os.fstat(mark.fileno()).st_size != 0

@@ -1,8 +1,8 @@
 """The most stack that calls of a library take, by adding up frames over its machine code (objdump, x86-64).
 
-A function's frame is its return address, what it pushes and what it takes off the stack pointer; a call takes its function's frame and the
-most that a function it calls takes. That is a bound only if no function calls itself, however indirectly, none is called through a
-pointer, and each frame has a fixed size; else there is a Fault. What other libraries take (memcpy, malloc) is not in it.
+A function's frame is its return address, what it pushes and what it takes off the stack pointer; a call takes its function's frame
+and the most that a function it calls takes. That is a bound only if no function calls itself, however indirectly, none is called
+through a pointer, and each frame has a fixed size; else there is a Fault. What other libraries take (memcpy, malloc) is not in it.
 """
 import re
 import subprocess
@@ -37,7 +37,8 @@ def add(function, name, line):
         raise Fault("%s has a frame of no fixed size: %s" % (name, line))
     if re.match(r"call\s+\*", line):
         raise Fault("%s calls through a pointer: %s" % (name, line))
-    to = re.match(r"(?:call|jmp)\b.*R_X86_64_(?:PLT32|PC32)\s+(\S+)", line) or re.match(r"(?:call|jmp)\s+[0-9a-f]+ <([^>+]+)>", line)
+    to = (re.match(r"(?:call|jmp)\b.*R_X86_64_(?:PLT32|PC32)\s+(\S+)", line)
+          or re.match(r"(?:call|jmp)\s+[0-9a-f]+ <([^>+]+)>", line))
     if to and plain(to.group(1)) != name:
         function.calls.add(plain(to.group(1)))
     elif to and line.startswith("call"):

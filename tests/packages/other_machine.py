@@ -1,7 +1,7 @@
 """Tries the C library for another machine than this one: links examples/show.c to its shared object, and runs that by qemu-user.
 
-If MKSTRIKE_ARM_ROOT names a folder into which Debian's packages of Python for arm64 were unpacked, that Python tries the wheel too. The
-folder `root` is such a one after these commands in an empty folder:
+If MKSTRIKE_ARM_ROOT names a folder into which Debian's packages of Python for arm64 were unpacked, that Python tries the wheel too.
+The folder `root` is such a one after these commands in an empty folder:
 
     APT="-o APT::Architecture=arm64 -o Dir::State::lists=$PWD/lists -o Dir::State::status=/dev/null"
     APT="$APT -o Dir::Cache::pkgcache= -o Dir::Cache::srcpkgcache="
@@ -26,7 +26,8 @@ def strike(shared, font, folder):
     tool(COMPILER)
     named = os.path.join(folder, "libmkstrike.so.1")
     shutil.copyfile(shared, named)
-    subprocess.run([COMPILER, "-I" + os.path.join(TOP, "include"), os.path.join(TOP, "examples/show.c"), named, "-o", os.path.join(folder, "show")],
+    subprocess.run([COMPILER, "-I" + os.path.join(TOP, "include"), os.path.join(TOP, "examples/show.c"), named, "-o",
+                    os.path.join(folder, "show")],
                    check=True)
     words = [tool(RUNNER), "-L", LIBRARIES, "-E", "LD_LIBRARY_PATH=%s" % folder, os.path.join(folder, "show"), font, "16", "20-42"]
     return subprocess.run(words, stdin=subprocess.DEVNULL, capture_output=True, check=True).stdout

@@ -40,8 +40,10 @@ STRIKE = "import sys, mkstrike; sys.stdout.buffer.write(mkstrike.Font(sys.stdin.
 
 def run(words, **how):
     """Runs a command, which must end well; returns what it printed."""
-    ran = subprocess.run(words, **{"stdin": subprocess.DEVNULL, "stdout": subprocess.PIPE, "stderr": subprocess.STDOUT, **how}, check=False)
-    assert ran.returncode == 0, "%s: status %d: %s" % (" ".join(map(str, words[:4])), ran.returncode, ran.stdout.decode("latin-1")[-900:])
+    ran = subprocess.run(words, **{"stdin": subprocess.DEVNULL, "stdout": subprocess.PIPE, "stderr": subprocess.STDOUT, **how},
+                         check=False)
+    assert ran.returncode == 0, "%s: status %d: %s" % (" ".join(map(str, words[:4])), ran.returncode,
+                                                       ran.stdout.decode("latin-1")[-900:])
     return ran.stdout
 
 
@@ -91,7 +93,8 @@ def copy_of_the_checkout(top):
 
 
 def test_made_again(made, tmp_path):
-    """Made without the Rattle kit, of a checkout elsewhere, in another environment, time zone and mask of rights, they have the same bytes."""
+    """Made without the Rattle kit, of a checkout elsewhere, in another environment, time zone and mask of rights, they have the
+    same bytes."""
     without_kit = [it for it in os.environ["PATH"].split(":") if not os.path.exists(os.path.join(it, "rt"))]
     env = {**os.environ, **OTHER, "PATH": ":".join([*without_kit, "/usr/bin", "/bin"])}
     build = copy_of_the_checkout(tmp_path / "a checkout")
@@ -131,17 +134,20 @@ def test_what_is_left_out(tmp_path):
 def test_lintian(made):
     """Lintian is content."""
     for deb in made.glob("*.deb"):
-        ran = subprocess.run([tool("lintian"), "--allow-root", str(deb)], stdin=subprocess.DEVNULL, capture_output=True, text=True, check=False)
+        ran = subprocess.run([tool("lintian"), "--allow-root", str(deb)], stdin=subprocess.DEVNULL, capture_output=True, text=True,
+                             check=False)
         said = [it for it in ran.stdout.splitlines() if re.match("[EW]: ", it)]
         assert not said and ran.returncode in (0, 2), "%s: %s %s" % (deb.name, said, ran.stderr[-300:])
 
 
 class Root:
-    """An empty root with the C library and a shell, which packages' scripts need. The program runs as nobody there if this process may."""
+    """An empty root with the C library and a shell, which packages' scripts need. The program runs as nobody there if this process
+    may."""
 
     def __init__(self, folder):
         self.folder = str(folder)
-        self.is_jail = os.geteuid() == 0 and subprocess.run(["chroot", "/", "true"], capture_output=True, check=False).returncode == 0
+        self.is_jail = (os.geteuid() == 0 and subprocess.run(["chroot", "/", "true"], capture_output=True,
+                                                             check=False).returncode == 0)
         needed = {"/bin/sh", *self.libraries("/bin/sh"), *self.libraries(os.path.join(DIST, "mkstrike"))} if self.is_jail else ()
         os.chmod(folder, 0o755)
         for path in sorted(needed):
@@ -176,16 +182,19 @@ class Root:
         """Runs dpkg in the root, as root."""
         if os.geteuid() or not shutil.which("dpkg"):
             pytest.skip("only root can install packages by dpkg")
-        return run(["dpkg", "--root=" + self.folder, "--log=/dev/null", *words], env={**os.environ, "PATH": os.environ["PATH"] + ":/usr/sbin:/sbin"})
+        return run(["dpkg", "--root=" + self.folder, "--log=/dev/null", *words],
+                   env={**os.environ, "PATH": os.environ["PATH"] + ":/usr/sbin:/sbin"})
 
     def look(self, prefix, libraries, folder):
         """Looks at the program and the library that were installed below a prefix."""
         for inside, name in (("bin/mkstrike", "mkstrike"), (libraries + "/libmkstrike_c.a", "libmkstrike_c.a")):
-            assert prebuilt.read(self.path(prefix, inside)) == prebuilt.read(os.path.join(DIST, name)), "%s is not as it was packed" % inside
+            assert prebuilt.read(self.path(prefix, inside)) == prebuilt.read(
+                os.path.join(DIST, name)), "%s is not as it was packed" % inside
         program = os.path.join("/", prefix, "bin/mkstrike")
         for words in (["--version"], ["help"], ["help", "make"]):
             run([self.path(program), *words])
-        words, how = (["chroot", "--userspec=65534:65534", self.folder, program], None) if self.is_jail else ([self.path(program)], {"env": {}})
+        words, how = ((["chroot", "--userspec=65534:65534", self.folder, program], None) if self.is_jail
+                      else ([self.path(program)], {"env": {}}))
         assert prebuilt.run_stored_request(words, how) is None
         assert os.access(self.path(prefix, "bin/show-bdf"), os.X_OK)
         for page in glob.glob(os.path.join(glob.escape(TOP), "docs/mkstrike*.1")):
@@ -201,7 +210,8 @@ class Root:
                "GOCACHE": str(folder / "go"), "GOFLAGS": "-mod=mod", "CGO_LDFLAGS": "-L" + at, "CGO_CFLAGS": "-I" + include}
         if prefix == "usr":
             env["PKG_CONFIG_SYSROOT_DIR"] = self.folder
-        where = next(it for it in ("share/doc/libmkstrike-dev", "share/doc/mkstrike") if os.path.exists(self.path(prefix, it, "examples")))
+        where = next(it for it in ("share/doc/libmkstrike-dev", "share/doc/mkstrike")
+                     if os.path.exists(self.path(prefix, it, "examples")))
         shutil.copytree(self.path(prefix, where, "examples"), folder, dirs_exist_ok=True)
         (folder / "font.ttf").write_bytes(sample_font.sample())
         printed, _ = compile_lines.tried(str(folder), str(folder / "font.ttf"), env, False,
@@ -278,7 +288,8 @@ def test_deb_of_python(made, root, due):
     """Installed and removed by dpkg."""
     root.dpkg("--force-depends", "--install", one(made, "python3-mkstrike_*_amd64.deb"))
     look_at_python(root.path(PACKAGES), due)
-    run([sys.executable, root.path("usr/bin/strike"), "--help"], env={"PYTHONPATH": root.path(PACKAGES), "PYTHONDONTWRITEBYTECODE": "1"})
+    run([sys.executable, root.path("usr/bin/strike"), "--help"],
+        env={"PYTHONPATH": root.path(PACKAGES), "PYTHONDONTWRITEBYTECODE": "1"})
     root.dpkg("--force-depends", "--purge", "python3-mkstrike")
     assert root.seen() == root.before, "something is left, or went too"
 
@@ -294,7 +305,8 @@ def test_deb_for_arm(name, made, due, tmp_path):
 
 
 def test_source_distribution(made, due, tmp_path):
-    """The source distribution of the Python package has what it needs: pip installs it, and so does `pip install ./python` in a checkout."""
+    """The source distribution of the Python package has what it needs: pip installs it, and so does `pip install ./python` in a
+    checkout."""
     del made  # where that can't be made, this can't
     shutil.copytree(os.path.join(TOP, "python"), tmp_path / "python")
     env = {**os.environ, "MKSTRIKE_TOP": TOP}
@@ -305,8 +317,10 @@ def test_source_distribution(made, due, tmp_path):
     with tarfile.open(one(tmp_path, "mkstrike-*.tar.gz")) as tar:
         tar.extractall(tmp_path / "sdist")
     source, = (tmp_path / "sdist").iterdir()
-    run([python, "-m", "pip", "install", "-q", "--no-index", "--no-build-isolation", "--no-deps", "--target", str(tmp_path / "installed"),
+    run([python, "-m", "pip", "install", "-q", "--no-index", "--no-build-isolation", "--no-deps", "--target",
+         str(tmp_path / "installed"),
          str(source)])
     look_at_python(tmp_path / "installed", due)
-    told = run([tmp_path / "installed/bin/strike", "--version"], env={"PYTHONPATH": str(tmp_path / "installed"), "PATH": os.environ["PATH"]})
+    told = run([tmp_path / "installed/bin/strike", "--version"],
+               env={"PYTHONPATH": str(tmp_path / "installed"), "PATH": os.environ["PATH"]})
     assert told == b"strike of mkstrike %s\n" % prebuilt.read(os.path.join(TOP, "VERSION")).strip()

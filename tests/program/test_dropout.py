@@ -47,12 +47,13 @@ def long_hairlines():
     """Hairlines as long as a glyph's coordinates let them be, at eight units a pixel."""
     for name, contour, rows in (("level", box(0, 5, 32767, 6), ["#" * 4096]), ("upright", box(5, 0, 6, 32767), ["#"] * 4096)):
         font = unmoved([Empty(), Drawn([contour], 0, 0, rows)], {A: 1}, 8192)
-        yield Run("%s, 4,096 pixels" % name, words(1024, [A], False) + CLOSED, font.data(), font.make([A], 1024, False, closed=True))
+        yield Run("%s, 4,096 pixels" % name, words(1024, [A], False) + CLOSED, font.data(),
+                  font.make([A], 1024, False, closed=True))
 
 
 def many_hairlines():
-    """512 hairlines beside each other, each a contour of two points, in bounded time. Each lies after the centres of an even column or
-    row, and sets that; the first one sets the next, since its own is outside the frame."""
+    """512 hairlines beside each other, each a contour of two points, in bounded time. Each lies after the centres of an even column
+    or row, and sets that; the first one sets the next, since its own is outside the frame."""
     many, top = 512, 8191
     places = [5 + 16 * k for k in range(many)]
     whole, empty = "#" * (2 * many), "." * (2 * many)
@@ -60,8 +61,8 @@ def many_hairlines():
             ("upright", [[(x, 0, 1), (x, top, 1)] for x in places], 1, 0, ["#" + "#." * (many - 2) + "#"] * (2 * many)),
             ("level", [[(0, y, 1), (top, y, 1)] for y in places], 0, 1, [whole, empty] * (many - 2) + [whole, whole])):
         font = unmoved([Empty(), Drawn(contours, left, bottom, rows)], {A: 1}, 8192)
-        yield Run("%d %s hairlines" % (many, name), words(1024, [A], False) + CLOSED, font.data(), font.make([A], 1024, False, closed=True),
-                  limits={"RLIMIT_CPU": 2})
+        yield Run("%d %s hairlines" % (many, name), words(1024, [A], False) + CLOSED, font.data(),
+                  font.make([A], 1024, False, closed=True), limits={"RLIMIT_CPU": 2})
 
 
 def ring(count, radius):
@@ -71,22 +72,24 @@ def ring(count, radius):
 
 
 def shapes_in_bounded_time():
-    """Shapes whose time was once that of all their gaps, or of all segments of an arc's box: an arc that turns back far from its ends, with
-    its chord; lenses of two arcs that lie on each other; a ring of many arcs; waves, whose points are all off the curve."""
+    """Shapes whose time was once that of all their gaps, or of all segments of an arc's box: an arc that turns back far from its
+    ends, with its chord; lenses of two arcs that lie on each other; a ring of many arcs; waves, whose points are all off the
+    curve."""
     far, high = 32767, 8191
     for name, ppem, contours, seconds in (
             ("three points", 128, [[(-far, -far, 1), (far, far, 0), (-far, 1 - far, 1)]], 3),
-            ("64 lenses", 255, [[(8 * k, 0, 1), (8 * k + 700, 1000, 0), (8 * k, 4000, 1), (8 * k + 700, 1000, 0)] for k in range(64)], 3),
+            ("64 lenses", 255,
+             [[(8 * k, 0, 1), (8 * k + 700, 1000, 0), (8 * k, 4000, 1), (8 * k + 700, 1000, 0)] for k in range(64)], 3),
             ("a ring of 2,048 arcs", 1024, ring(4096, 500), 2),
             ("1,024 waves", 255, [[(k * 5063 % (high + 1), high if k % 2 else 0, 0) for k in range(1024)]], 4)):
         font = fonts.font_of([b"", fonts.simple(contours)], fonts.map_to_one(1), upem=1024)
-        yield Run("%s with drop-out control" % name, "make --ppem %d --chars 41 --unhinted --dropout" % ppem, font, Counted(1, 0, hinted=False),
-                  limits={"RLIMIT_CPU": seconds})
+        yield Run("%s with drop-out control" % name, "make --ppem %d --chars 41 --unhinted --dropout" % ppem, font,
+                  Counted(1, 0, hinted=False), limits={"RLIMIT_CPU": seconds})
 
 
 def distances_with_dropout():
-    """Points as far out as they may lie with drop-out control, two pixels less than without, and farther; sides to the limit and past
-    it. A glyph of one unit to the pixel; the hairlines hold no centre, and have a frame with drop-out control alone."""
+    """Points as far out as they may lie with drop-out control, two pixels less than without, and farther; sides to the limit and
+    past it. A glyph of one unit to the pixel; the hairlines hold no centre, and have a frame with drop-out control alone."""
     far, side = 32766, 8192
     for name, contour, left, bottom, rows, fault in (
             ("a point 32,766 pixels out", box(far - 3, 0, far, 2), far - 3, 0, ["###"] * 2, None),

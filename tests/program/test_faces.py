@@ -12,7 +12,8 @@ from test_programs import NOTHING
 ASKED = "make --ppem 16 --chars 41-43"
 EACH = (ASKED, "show --ppem 16 --char 41", "outline --ppem 16 --glyph 1", "dump --of 1", "trace --ppem 16 --glyph 1")
 NONE, BAD = refused("25 NoFace"), refused("10 NotTrueType")
-LISTING, TRACE = ["0000 B0 PUSHB 1", "0002 21 POP"], ["glyph 1 begins", "glyph 1 0000 B0 PUSHB 1 | 1", "glyph 1 0002 21 POP |"]  # of NOTHING
+# of NOTHING
+LISTING, TRACE = ["0000 B0 PUSHB 1", "0002 21 POP"], ["glyph 1 begins", "glyph 1 0000 B0 PUSHB 1 | 1", "glyph 1 0002 21 POP |"]
 
 
 def some_fonts():

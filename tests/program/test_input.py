@@ -57,7 +57,8 @@ def words_that_parse():
             ("make --ppem +16 --chars 000041", data, made),
             ("make --name strike --hex --chars 41 --ppem 16", text, made),
             ("make --ppem 16 --chars 41 --name=-misc-x --unhinted --hex", text, SHORT.make([A], 16, False, "-misc-x")),
-            (MAKE + ["--name", "F1", "--x11", "--dropout", "--unhinted", "--hex"], text, SHORT.make([A], 16, False, "F1", x11=True, closed=True)),
+            (MAKE + ["--name", "F1", "--x11", "--dropout", "--unhinted", "--hex"], text,
+             SHORT.make([A], 16, False, "F1", x11=True, closed=True)),
             (MAKE[:4] + [""], data, nothing),
             ("make --ppem 16 --chars=", data, nothing),
             ("show --char 41 --ppem 16", data, SHORT.show(A, 16)),
@@ -174,7 +175,8 @@ def font_of_advances(advances):
 def x11_by_glyphs():
     """What glyphs settle: one advance or several, their mean, and the character that stands for others."""
     for advances in ({}, {A: 1000}, {0x20: 1000}, {0xFFFD: 1000}, {0x20: 500, 0xFFFD: 700}, {A: 100, B: 200},
-                     {A: 100, B: 100, 0x43: 300}, {A: 0, B: 0}, {A: 0, B: 100, 0x43: 100}, {A: 640, B: 649}, {k: 100 for k in range(300)},
+                     {A: 100, B: 100, 0x43: 300}, {A: 0, B: 0}, {A: 0, B: 100, 0x43: 100}, {A: 640, B: 649},
+                     {k: 100 for k in range(300)},
                      {k: 100 * (k % 4) for k in range(0x20, 0x27)}, {0x20 + k: 100 * k for k in range(8)}):
         font = font_of_advances(advances)
         for ppem in (10, 1, 1024):
@@ -250,5 +252,6 @@ def broken_inputs():
         yield Run("a first line, failing after %d bytes" % len(given), [], b"", failed, way=runs.failing_after(given))
 
 
-test_input = cases(large_inputs_by_pipe, small_inputs_by_pipe, many_words, words_that_are_no_text, calls_that_read, words_that_parse,
-                   first_lines, long_lists_on_the_first_line, lists, long_lists, names, x11_by_glyphs, hexadecimal, broken_inputs)
+test_input = cases(large_inputs_by_pipe, small_inputs_by_pipe, many_words, words_that_are_no_text, calls_that_read,
+                   words_that_parse, first_lines, long_lists_on_the_first_line, lists, long_lists, names, x11_by_glyphs,
+                   hexadecimal, broken_inputs)

@@ -1,10 +1,10 @@
 """Refuses each request for memory of the program in turn, and looks at each answer.
 
-For each of some requests (make hinted and not, show, outline, dump, trace) the N-th call for memory is refused, for N from 1 until a
-run meets no refusal; then again with all calls from the N-th on refused. Each time the answer must be status 1, the
-line `mkstrike: 90 OutOfMemory`, perhaps after lines of refused characters, and a beginning of the text, perhaps none; or all that it is
-without a refusal. That answer must be the one that is due of the request. What the program can do without it does without: a strike whose
-buffer of lines is refused is made all the same.
+For each of some requests (make hinted and not, show, outline, dump, trace) the N-th call for memory is refused, for N from 1 until
+a run meets no refusal; then again with all calls from the N-th on refused. Each time the answer must be status 1, the line
+`mkstrike: 90 OutOfMemory`, perhaps after lines of refused characters, and a beginning of the text, perhaps none; or all that it is
+without a refusal. That answer must be the one that is due of the request. What the program can do without it does without: a strike
+whose buffer of lines is refused is made all the same.
 """
 import os
 import re
@@ -81,7 +81,8 @@ def requests_of_a_made_font():
     found = [Request("made font, %s" % words, words, data, font.make(codes, ppem, hinted)) for words, ppem, hinted in (
         ("make --ppem 16 --chars 41-48", 16, True), ("make --ppem 200 --chars 41-48 --unhinted", 200, False))]
     listing = listed(["0000 B0 PUSHB 3", "0002 2B CALL"])
-    prep = ["prep begins", "prep 0000 B0 PUSHB 3 | 3", "prep 0002 2B CALL |", "fpgm 0003 B8 PUSHW 640 | 640", "fpgm 0006 2D ENDF | 640"]
+    prep = ["prep begins", "prep 0000 B0 PUSHB 3 | 3", "prep 0002 2B CALL |", "fpgm 0003 B8 PUSHW 640 | 640",
+            "fpgm 0006 2D ENDF | 640"]
     # Glyph 7 has the components 4, 5 and 3, and no program; 4 has the components 1 and 2, and 5 has 2 and 3.
     trace = [line for g, k, whole in ((1, 1, 4), (2, 2, 4), (4, 1, 7), (2, 1, 5), (3, 2, 5), (5, 2, 7), (3, 3, 7))
              for line in ("glyph %d begins, component %d of glyph %d" % (g, k, whole), "glyph %d 0000 B0 PUSHB 5 | 5" % g,
@@ -122,9 +123,11 @@ class Runner:
         self.program, self.library = program, library
 
     def run(self, request, at, on, size=0):
-        """Returns status, output and errors (without lines for people) of a request, and whether a request for memory was refused: see `run_refusing`."""
+        """Returns status, output and errors (without lines for people) of a request, and whether a request for memory was refused:
+        see `run_refusing`."""
         with memory_file(request.data) as given:
-            done, was_refused = run_refusing(self.library, [self.program, *(request.words or "").split()], at, on, size, stdin=given)
+            done, was_refused = run_refusing(self.library, [self.program, *(request.words or "").split()], at, on, size,
+                                             stdin=given)
         return (done.returncode, done.stdout, own_lines(done.stderr)), was_refused
 
 
@@ -177,13 +180,15 @@ def test_each_request_is_refused(requests, runner):
     for request in requests():
         whole, _ = runner.run(request, 0, False)
         fault = request.wrong_whole(whole)
-        told += ["%s, %s: %s" % (request.name, request.words, it) for it in (["without refusals: %s" % fault] if fault else []) + list(
+        told += ["%s, %s: %s" % (request.name, request.words, it) for it in (["without refusals: %s" % fault] if fault else [])
+                 + list(
             refuse_each(runner, request, whole))]
     assert not told, "\n".join(told)
 
 
 def test_the_lines_are_refused(runner):
-    """A strike of 4,096 characters keeps its lines in a buffer that grows, and asks for nothing else as large; it is made without too."""
+    """A strike of 4,096 characters keeps its lines in a buffer that grows, and asks for nothing else as large; it is made without
+    too."""
     font, codes = made.Font([made.Empty(), made.square(900)], 1), range(4096)
     request = Request("4,096 characters", "make --ppem 12 --chars 0-fff", font.data(), font.make(codes, 12))
     answer, was_refused = runner.run(request, 0, False, 1 << 19)

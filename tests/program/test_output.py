@@ -26,7 +26,8 @@ def requests_with_output():
     yield "dump --of 1", listed.data(), due.listed(["%04X 59 EIF" % k for k in range(9000)])
     drawn, traced = Font([Empty(), comb(3201)], {A: 1}, upem=8192), Font([Empty(), square(9, Code().fill(3000))], {A: 1})
     yield "outline --ppem 64 --glyph 1", drawn.data(), drawn.outline(1, 64)
-    yield "trace --ppem 16 --char 41", traced.data(), due.listed(["glyph 1 begins", *("glyph 1 %04X 59 EIF |" % k for k in range(3000))])
+    yield "trace --ppem 16 --char 41", traced.data(), due.listed(["glyph 1 begins",
+                                                                  *("glyph 1 %04X 59 EIF |" % k for k in range(3000))])
     yield from some_refused(codes)
 
 
@@ -67,7 +68,8 @@ def calls_of_the_system():
 
 def errors_that_fail():
     """Standard error that takes nothing changes neither the status nor the output."""
-    short = [(asked, SHORT.data(), it) for asked, it in ((MAKE, SHORT.make([A], 16)), ("make", usage()), ("make --ppem 0 --chars 41", refused("60 BadSize")))]
+    short = [(asked, SHORT.data(), it)
+             for asked, it in ((MAKE, SHORT.make([A], 16)), ("make", usage()), ("make --ppem 0 --chars 41", refused("60 BadSize")))]
     for asked, data, answer in short + list(some_refused(range(0x20, 0x220))):
         silent = due.Due(answer.status, b"", answer.out)
         yield Run("a full device for errors", asked, data, silent, way=runs.with_files(err=("/dev/full", os.O_WRONLY)))

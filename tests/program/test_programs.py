@@ -1,4 +1,5 @@
-"""Cases of the program: programs of fonts, and what they have, to its limit and one past it. What each instruction does the suite says."""
+"""Cases of the program: programs of fonts, and what they have, to its limit and one past it. What each instruction does the suite
+says."""
 import due
 import instructions as ins
 from cases import cases
@@ -33,19 +34,21 @@ def with_stray(count, opcode):
 # ---- tables ----
 
 def greatest_tables():
-    """The last entry of each table, and the one past it, which is 0 and a stray: of tables that are as large as may be, and of none."""
+    """The last entry of each table, and the one past it, which is 0 and a stray: of tables that are as large as may be, and of
+    none."""
     for count in (0, 65535):
         last, values, none = max(count - 1, 0), count // 2, int(count == 0)
         prep = Code().number(last).push(100).do(ins.WS, strays=none).number(count).push(64).do(ins.WS, strays=1)
         prep.do(ins.X_AXIS).push(0).do(ins.SZPS).number(last).push(max(values - 1, 0)).do(ins.MIAP, strays=2 * none)
         prep.number(count).push(max(values - 1, 0)).do(ins.MIAP, strays=1 + none)
         body = Code().push(50)
-        read = with_stray(count, ins.RS).join(with_stray(values, ins.RCVT)).do(ins.ADD).push(0).do(ins.SZP2).join(with_stray(count, ins.GC))
+        read = with_stray(count, ins.RS).join(with_stray(values, ins.RCVT)).do(ins.ADD).push(0).do(ins.SZP2).join(
+            with_stray(count, ins.GC))
         read.do(ins.ADD).push(1).do(ins.SZP2).call(max(63, last), body).do(ins.ADD)
         place = 50 + (100 + 2 * scaled(700, 16, UPEM) if count else 0)
         cvt = bytes(2 * max(values - 1, 0)) + (700).to_bytes(2, "big") * min(values, 1) + b"\x7F" * (count % 2)
-        font = one(shown(read, place), prep=prep, fpgm=Code().define(max(63, last), body), cvt=cvt, storage=count, twilight=count, functions=count,
-                   stack=16)
+        font = one(shown(read, place), prep=prep, fpgm=Code().define(max(63, last), body), cvt=cvt, storage=count, twilight=count,
+                   functions=count, stack=16)
         yield from both("tables of %d" % count, font, 16)
 
 
@@ -59,25 +62,26 @@ def many_functions():
     yield from both("4,000 functions", one(square(900), fpgm=fpgm, prep=prep, functions=4000, stack=16), 16)
 
 
-# Programs on a square, whose points are 0 to 3 and the phantom points 4 to 7, with four cells, four control values and two twilight points;
-# and how many numbers they name that are not there.
+# Programs on a square, whose points are 0 to 3 and the phantom points 4 to 7, with four cells, four control values and two twilight
+# points; and how many numbers they name that are not there.
 STRAYS = (("8 MDAP:0", 1), ("12 0 -1 2 3 ISECT", 2), ("104 9 120 1 2 DELTAP1", 0), ("120 9 1 DELTAP1", 1), ("1 -1 MIRP:0", 0),
           ("2 SLOOP 8 5 ALIGNRP", 1), ("4 SLOOP 1 2 1 8 FLIPPT", 1), ("3 8 FLIPRGOFF", 1), ("3 0 FLIPRGON", 0), ("9 SRP2", 0),
-          ("9 SRP2 2 SLOOP 8 2 SHP:0", 2), ("9 SRP2 0 SLOOP SHP:0", 1), ("0 SZPS 0 SHC:0", 1), ("1 8 MD:0", 1), ("9 GC:0", 1), ("4 9 WS", 1),
-          ("3 9 WS", 0), ("-1 RS", 1), ("4 9 WCVTP", 1), ("4 RCVT", 1), ("3 RCVT", 0), ("120 9 104 9 2 DELTAC1", 1))
+          ("9 SRP2 2 SLOOP 8 2 SHP:0", 2), ("9 SRP2 0 SLOOP SHP:0", 1), ("0 SZPS 0 SHC:0", 1), ("1 8 MD:0", 1), ("9 GC:0", 1),
+          ("4 9 WS", 1), ("3 9 WS", 0), ("-1 RS", 1), ("4 9 WCVTP", 1), ("4 RCVT", 1), ("3 RCVT", 0), ("120 9 104 9 2 DELTAC1", 1))
 SQUARE = [[(0, 0, 1), (90, 0, 1), (90, 90, 1), (0, 90, 1)]]
 
 
 def strays():
-    """A number that is not in its table is counted each time that an instruction names it, one of a delta only if the delta acts."""
+    """A number that is not in its table is counted each time that an instruction names it, one of a delta only if the delta
+    acts."""
     for program, count in STRAYS:
-        data = fonts.font_of([b"", fonts.simple(SQUARE, assemble(program))], fonts.map_of([(A, 1)]), upem=1024, stack=4, storage=4, twilight=2,
-                             cvt=bytes(8))
+        data = fonts.font_of([b"", fonts.simple(SQUARE, assemble(program))], fonts.map_of([(A, 1)]), upem=1024, stack=4, storage=4,
+                             twilight=2, cvt=bytes(8))
         yield Run(program, words(16, (A,)), data, Ends(due.DONE, counted(strays=count, steps=steps_of(program)), b"ENDFONT\n"))
 
 
-# Programs that shift point 1 by a storage cell, by a control value and by the place of the twilight point, one that calls function 1, one that
-# writes all of these, and one that asks for no programs.
+# Programs that shift point 1 by a storage cell, by a control value and by the place of the twilight point, one that calls function
+# 1, one that writes all of these, and one that asks for no programs.
 BY_STORAGE, BY_CONTROL, BY_FUNCTION = "1 0 RS SHPIX", "1 0 RCVT SHPIX", "1 CALL"
 BY_TWILIGHT = "1 0 SZP2 0 GC:0 1 SZP2 SHPIX"
 WRITING = "1 FDEF ENDF 0 64 WS 0 64 WCVTP 0 SZPS 0 64 MSIRP:0"
@@ -85,16 +89,18 @@ NO_PROGRAMS = "1 1 INSTCTRL"
 
 
 def nothing_is_kept_between_glyphs():
-    """A function, storage, a control value and the twilight point are written by one glyph, also by one that halts then; the glyphs after
-    it see nothing of it. So does a glyph that asks for no programs."""
-    programs = [WRITING, BY_STORAGE, BY_CONTROL, BY_TWILIGHT, BY_FUNCTION, WRITING + " #91", BY_STORAGE, BY_CONTROL, BY_TWILIGHT, BY_FUNCTION,
+    """A function, storage, a control value and the twilight point are written by one glyph, also by one that halts then; the glyphs
+    after it see nothing of it. So does a glyph that asks for no programs."""
+    programs = [WRITING, BY_STORAGE, BY_CONTROL, BY_TWILIGHT, BY_FUNCTION, WRITING + " #91", BY_STORAGE, BY_CONTROL, BY_TWILIGHT,
+                BY_FUNCTION,
                 NO_PROGRAMS, BY_STORAGE]
     glyphs = [fonts.simple(SQUARE, assemble(program)) for program in programs]
     codes = {A + k: 1 + k for k in range(len(programs))}
     data = fonts.font_of([b"", *glyphs], fonts.map_of(codes.items()), upem=1024, functions=2, stack=9, storage=1, twilight=1,
                          metrics=[(384, 0)] * 13, cvt=bytes(2))
     told = b"".join(b"mkstrike: left out U+%04X: %s\n" % (A + k, text) for k, text in (
-        (4, b"35 NoFunction during glyph 5 in glyph 5 at 2 opcode 2B"), (5, b"32 BadOpcode during glyph 6 in glyph 6 at 19 opcode 91"),
+        (4, b"35 NoFunction during glyph 5 in glyph 5 at 2 opcode 2B"),
+        (5, b"32 BadOpcode during glyph 6 in glyph 6 at 19 opcode 91"),
         (9, b"35 NoFunction during glyph 10 in glyph 10 at 2 opcode 2B")))
     text = "".join(glyph_lines(code, "1 1 0 0", "80") for code in codes if code - A not in (4, 5, 9)) + "ENDFONT\n"
     yield Run("one after the other", "make --ppem 16 --chars 41-4c --refused leave-out", data,
@@ -157,7 +163,8 @@ def calls():
     # a function that is called twice jumps to the definition of another one of its number, which its second turn does not run
     again = bytes.fromhex("b0 00 2c b0 09 1c 2d b1 02 00 2a b0 08 1c b0 00 2c b0 09 2d 2d")
     data = fonts.with_tables(one(square(90), stack=9).data(), fpgm=again)
-    yield Run("a function that is defined anew while it runs", words(16, (A,)), data, Ends(due.DONE, counted(steps=16), b"ENDFONT\n"))
+    yield Run("a function that is defined anew while it runs", words(16, (A,)), data,
+              Ends(due.DONE, counted(steps=16), b"ENDFONT\n"))
 
 
 # ---- points ----
@@ -210,5 +217,5 @@ def loops_of_many_points():
     yield strike("IUP of 16,000 points", font, 1024, limits={"RLIMIT_CPU": 3})
 
 
-test_programs = cases(programmed_points, loops_of_many_points, lengths_of_programs, greatest_tables, many_functions, steps, calls, strays,
-                      nothing_is_kept_between_glyphs)
+test_programs = cases(programmed_points, loops_of_many_points, lengths_of_programs, greatest_tables, many_functions, steps, calls,
+                      strays, nothing_is_kept_between_glyphs)

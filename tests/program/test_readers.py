@@ -29,7 +29,8 @@ class Strike:
     def __init__(self, folder):
         self.folder, self.path = folder, str(folder / "strike.bdf")
         read = mkstrike.Strike.open(self.path)
-        self.name, self.widths, self.height = read.name, {ord(it): glyph.advance for it, glyph in read.items()}, read.ascent + read.descent
+        self.name, self.widths, self.height = (read.name, {ord(it): glyph.advance for it, glyph in read.items()},
+                                               read.ascent + read.descent)
         self.codes, self.is_monospaced = set(self.widths), len(set(self.widths.values())) == 1
 
     def beside(self, name):
@@ -52,7 +53,8 @@ def strikes_for_x11(program, tmp_path_factory):
 
 def told(*words, **how):
     """What a command prints, which must end well."""
-    ran = subprocess.run([tool(words[0]), *words[1:]], capture_output=True, text=True, errors="replace", timeout=60, check=False, **how)
+    ran = subprocess.run([tool(words[0]), *words[1:]], capture_output=True, text=True, errors="replace", timeout=60, check=False,
+                         **how)
     assert ran.returncode == 0, "%s: %s" % (words[0], ran.stderr + ran.stdout)
     return ran.stdout
 
@@ -96,7 +98,8 @@ def x11(it):
         listed, about = (told("xlsfonts", "-display", display, *more, "-fn", it.name) for more in ([], ["-ll"]))
     assert listed.split("\n")[0] == it.name.lower()
     # a name of X11's form stands for the font at other sizes too, which is told first and at this size is the same
-    ascent, descent, default = (int(re.search(what + r":.*?(-?\d+)\)?$", about, re.M).group(1)) for what in (r"\sascent", r"\sdescent", "default char"))
+    ascent, descent, default = (int(re.search(what + r":.*?(-?\d+)\)?$", about, re.M).group(1))
+                                for what in (r"\sascent", r"\sdescent", "default char"))
     assert (ascent + descent, default) == (it.height, next((code for code in (0xFFFD, 0x20) if code in it.codes), 0))
 
 
@@ -107,7 +110,8 @@ def freetype(it):
     library, opened, face, glyph = ctypes.CDLL("libfreetype.so.6"), ctypes.c_void_p(), ctypes.c_void_p(), ctypes.c_uint()
     library.FT_Get_First_Char.restype = library.FT_Get_Next_Char.restype = ctypes.c_ulong
     library.FT_Get_Next_Char.argtypes = [ctypes.c_void_p, ctypes.c_ulong, ctypes.c_void_p]
-    assert library.FT_Init_FreeType(ctypes.byref(opened)) == library.FT_New_Face(opened, it.path.encode(), ctypes.c_long(0), ctypes.byref(face)) == 0
+    assert library.FT_Init_FreeType(ctypes.byref(opened)) == library.FT_New_Face(opened, it.path.encode(), ctypes.c_long(0),
+                                                                                 ctypes.byref(face)) == 0
     assert library.FT_Select_Charmap(face, int.from_bytes(b"unic", "big")) == 0
     seen, code = set(), library.FT_Get_First_Char(face, ctypes.byref(glyph))
     while glyph.value:
@@ -137,7 +141,8 @@ def ucs2any(it):
     if it.name.startswith("-") and 0x41 in it.codes:
         told("ucs2any", it.path, "/usr/share/fonts/X11/util/map-ISO8859-15", "ISO8859-15", cwd=it.folder)
         text = (it.folder / "strike-ISO8859-15.bdf").read_text()
-        assert re.findall(r'^CHARSET_\w+ "(.*)"', text, re.M) == ["ISO8859", "15"] and len(re.findall("^STARTCHAR", text, re.M)) >= 191
+        assert re.findall(r'^CHARSET_\w+ "(.*)"', text, re.M) == ["ISO8859",
+                                                                  "15"] and len(re.findall("^STARTCHAR", text, re.M)) >= 191
 
 
 def grub(it):

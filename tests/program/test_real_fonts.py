@@ -1,6 +1,7 @@
 """Cases of the program: whole real fonts at many sizes, of which the status and the counts are known beforehand.
 
-A refusal for one size or one number of points would pass all fonts that are made here; so whole fonts are drawn at every small size."""
+A refusal for one size or one number of points would pass all fonts that are made here; so whole fonts are drawn at every small
+size."""
 from cases import cases
 from due import Counted
 from made import list_of
@@ -21,7 +22,8 @@ def whole_font(name, halting):
     for k, ppem in enumerate(SIZES):
         for way in WAYS[:2] if k % 8 > 1 else WAYS:
             asked = "make --ppem %d --chars %s %s" % (ppem, list_of(codes), way)
-            yield Run("%s at %d %s" % (name, ppem, way), asked, data, Counted(found, len(codes) - found, hinted="unhinted" not in way))
+            yield Run("%s at %d %s" % (name, ppem, way), asked, data,
+                      Counted(found, len(codes) - found, hinted="unhinted" not in way))
 
 
 def dejavu():
@@ -38,7 +40,8 @@ def in_spite_of_two_characters():
     """DejaVu Sans with the two characters whose programs halt: left out, or drawn without hinting."""
     data = real_font("DejaVuSans")
     found = len(set(fonts.glyph_numbers(data)) & set(range(0x10000)))
-    causes = ("30 StackUnder during glyph 350 in glyph 350 at 73 opcode 39", "30 StackUnder during glyph 530 in glyph 530 at 177 opcode 5D")
+    causes = ("30 StackUnder during glyph 350 in glyph 350 at 73 opcode 39",
+              "30 StackUnder during glyph 530 in glyph 530 at 177 opcode 5D")
     for way, text, count in (("leave-out", "left out", found - 2), ("unhinted", "unhinted", found)):
         lines = "".join("mkstrike: %s U+%04X: %s\n" % (text, code, cause) for code, cause in zip(HALTING, causes))
         yield Run("DejaVu Sans, %s" % way, "make --ppem 16 --chars 0-ffff --refused %s" % way, data,

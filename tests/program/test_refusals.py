@@ -53,8 +53,10 @@ def refusals_of_files():
     """10 to 14 and 16: the directory and the tables that every font needs, for a strike, a picture and a listing."""
     fixture = fonts.FIXTURE
     for name, data, text in (("OTTO", b"OTTO" + fixture[4:], "10 NotTrueType"), ("text", fixture.hex().encode(), "10 NotTrueType"),
-                             *(("none", lacking(tag), "11 TableMissing " + tag) for tag in ("head", "maxp", "hhea", "hmtx", "loca", "glyf")),
-                             ("53 bytes", cut("head", 53), "12 TableShort head"), ("another magic number", put("head", 12, b"\0"), "13 BadHead"),
+                             *(("none", lacking(tag), "11 TableMissing " + tag)
+                               for tag in ("head", "maxp", "hhea", "hmtx", "loca", "glyf")),
+                             ("53 bytes", cut("head", 53), "12 TableShort head"),
+                             ("another magic number", put("head", 12, b"\0"), "13 BadHead"),
                              ("no glyph", put("maxp", 4, word(0)), "14 BadMaxp")):
         yield from both(name, data, text)
         for words in ("dump --of prep", "show --ppem 16 --char 20"):

@@ -92,8 +92,9 @@ def each_place():
 
 
 # Of each cause one, of which the suite has more: a program, and the address and the opcode of the instruction at which it halts.
-HALTS = (("30 StackUnder", "21", 0, 0x21), ("31 StackOver", "41 29" + " 0007" * 41, 0, 0x41), ("32 BadOpcode", "B0 00 4F 91", 3, 0x91),
-         ("33 CodeEnd", "B0 00 58", 2, 0x58), ("34 BadJump", "B0 02 1C", 2, 0x1C), ("35 NoFunction", "B0 05 2B", 2, 0x2B),
+HALTS = (("30 StackUnder", "21", 0, 0x21), ("31 StackOver", "41 29" + " 0007" * 41, 0, 0x41),
+         ("32 BadOpcode", "B0 00 4F 91", 3, 0x91), ("33 CodeEnd", "B0 00 58", 2, 0x58), ("34 BadJump", "B0 02 1C", 2, 0x1C),
+         ("35 NoFunction", "B0 05 2B", 2, 0x2B),
          ("36 CallDepth", "B0 00 2C B0 00 2B 2D B0 00 2B", 5, 0x2B), ("37 StepLimit", "B8 FF FD 1C", 0, 0xB8),
          ("38 DivideByZero", "B1 40 00 62", 3, 0x62), ("39 BadArgument", "B0 00 25", 2, 0x25),
          ("40 NestedDefinition", "B1 01 00 2C 2C 2D 2D", 3, 0x2C), ("41 StrayEnd", "2D", 0, 0x2D))
@@ -145,7 +146,8 @@ def bad_offsets():
 
 def far_and_large():
     """51 and 52, of a size at which other glyphs are drawn."""
-    for model in (always(Simple([(0, 513, 1, 514)]).data(), "51 TooFar 2"), always(Simple([(0, 0, 129, 1)]).data(), "52 GlyphTooLarge 2")):
+    for model in (always(Simple([(0, 513, 1, 514)]).data(), "51 TooFar 2"),
+                  always(Simple([(0, 0, 129, 1)]).data(), "52 GlyphTooLarge 2")):
         font = Font([Empty(), square(2), model, square(3)], {A: 1, B: 2, C: 3}, upem=16)
         yield from in_spite(model.cause, font, (A, B, C), 1024)
 
@@ -203,9 +205,11 @@ def stopped():
 
 def some_refused(codes):
     """Strikes of characters of which each third halts and each third is refused in each way: words, input, and what is due."""
-    font = Font([Empty(), square(600), halting(2, side=500), always(TRIANGLE[:9], "18 GlyphShort 3")], {0x20 + k: 1 + k % 3 for k in range(512)})
+    font = Font([Empty(), square(600), halting(2, side=500), always(TRIANGLE[:9], "18 GlyphShort 3")],
+                {0x20 + k: 1 + k % 3 for k in range(512)})
     for way in WAYS:
         yield words(40, codes, way), font.data(), answer(font, codes, 40, way)
 
 
-test_refused = cases(many, each_place, each_halt, each_glyph, bad_offsets, far_and_large, components, properties_of_the_drawn, stopped)
+test_refused = cases(many, each_place, each_halt, each_glyph, bad_offsets, far_and_large, components, properties_of_the_drawn,
+                     stopped)

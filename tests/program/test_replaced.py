@@ -1,4 +1,5 @@
-"""The file that `-o` replaces: whose the new file is and who may read it, what fails while it is stored, and what killed runs leave."""
+"""The file that `-o` replaces: whose the new file is and who may read it, what fails while it is stored, and what killed runs
+leave."""
 import os
 import re
 import subprocess
@@ -17,7 +18,8 @@ LEFT = re.compile(r"\.mkstrike-[0-9a-f]{16}")
 @pytest.fixture(name="library", scope="module")
 def library_that_refuses(tmp_path_factory):
     """The library that refuses and tells."""
-    return compiled(os.path.join(os.path.dirname(__file__), "files.c"), tmp_path_factory.mktemp("library") / "files.so", "-shared", "-fPIC")
+    return compiled(os.path.join(os.path.dirname(__file__), "files.c"), tmp_path_factory.mktemp("library") / "files.so", "-shared",
+                    "-fPIC")
 
 
 @pytest.fixture(name="folder")
@@ -29,14 +31,16 @@ def folder_with_an_older_file(tmp_path):
 
 def run(program, folder, words=tuple(MAKE), **how):
     """Runs the program in a folder on a small font: the status and standard error."""
-    done = subprocess.run([*how.pop("before", ()), program, *words], cwd=folder, input=fonts.FIXTURE, stdout=subprocess.DEVNULL, stderr=subprocess.PIPE,
-                          timeout=60, **how)
+    done = subprocess.run([*how.pop("before", ()), program, *words], cwd=folder, input=fonts.FIXTURE, stdout=subprocess.DEVNULL,
+                          stderr=subprocess.PIPE, timeout=60, **how)
     return done.returncode, done.stderr.decode()
 
 
-@pytest.mark.parametrize("mode, due", [(0o4777, 0o777), (0o2755, 0o755), (0o6711, 0o711), (0o1666, 0o666), (0o640, 0o640), (0o600, 0o600), (0o222, 0o222)])
+@pytest.mark.parametrize("mode, due", [(0o4777, 0o777), (0o2755, 0o755), (0o6711, 0o711), (0o1666, 0o666), (0o640, 0o640),
+                                       (0o600, 0o600), (0o222, 0o222)])
 def test_access(mode, due, program, folder):
-    """A stranger's file leaves who may read, write and run it, and whose it is. No program runs as another user by what root writes over it."""
+    """A stranger's file leaves who may read, write and run it, and whose it is. No program runs as another user by what root writes
+    over it."""
     if os.geteuid() == 0:
         os.chown(folder / "out.bdf", OTHER, OTHER)
     os.chmod(folder / "out.bdf", mode)
@@ -54,7 +58,8 @@ def test_mode_of_a_new_file(program, tmp_path):
 
 @pytest.mark.parametrize("mode", [0o600, 0o644])
 def test_never_wider(mode, program, library, folder):
-    """The new file is its owner's alone until it has an owner, and has the older one's mode at its first byte, whatever the user's mask is."""
+    """The new file is its owner's alone until it has an owner, and has the older one's mode at its first byte, whatever the user's
+    mask is."""
     os.chmod(folder / "out.bdf", mode)
     with memory_file() as told:
         more = {"LD_PRELOAD": library, "TOLD": str(told.fileno())}

@@ -1,6 +1,7 @@
 """Cases of the program: requests under a limit of processor time that they keep many times over, unless work is done twice.
 
-Time is no part of a contract. Each request here has one thing that is there once and could be done for each glyph or each number."""
+Time is no part of a contract. Each request here has one thing that is there once and could be done for each glyph or each
+number."""
 import random
 
 from cases import cases
@@ -25,8 +26,8 @@ def programs_that_run_once():
 
 
 def tables_that_are_made_once():
-    """Functions, storage, control values and twilight points, as many as there may be: they are not copied for each glyph that has no
-    program, and not walked for each that has one."""
+    """Functions, storage, control values and twilight points, as many as there may be: they are not copied for each glyph that has
+    no program, and not walked for each that has one."""
     fpgm, sizes = Code().define(0, Code()), {"functions": 65535, "storage": 65535, "twilight": 65535, "cvt": bytes(2 * 65535)}
     bare = Font([Empty(), square(900)], 1, stack=65535, fpgm=fpgm, **sizes)
     yield strike("large tables and no programs", bare, 12, range(16384), limits=seconds(2))
@@ -51,8 +52,8 @@ def components_that_come_again():
     body = Code().fill(9)
     fpgm, slow = Code().define(0, body), Code().call_times(24000, 0, body)
     parts = [Composite([(1, 0, 0), (2, 3 * (k % 300), k // 4)]) for k in range(2000)]
-    font = Font([Empty(), square(90, slow), square(60)] + parts, {0x100 + k: 3 + k for k in range(2000)}, upem=1024, stack=9, fpgm=fpgm,
-                functions=1)
+    font = Font([Empty(), square(90, slow), square(60)] + parts, {0x100 + k: 3 + k for k in range(2000)}, upem=1024, stack=9,
+                fpgm=fpgm, functions=1)
     yield strike("a slow component in 2,000 composites", font, 12, sorted(font.codes), limits=seconds(2))
 
 

@@ -37,7 +37,8 @@ def halts():
 
 
 def order():
-    """`fpgm`, then `prep`, then the glyph, or that there is none: the order of `show` and `outline`. `fpgm` has a trace of its own."""
+    """`fpgm`, then `prep`, then the glyph, or that there is none: the order of `show` and `outline`. `fpgm` has a trace of its
+    own."""
     fpgm, lines = bytes.fromhex("B0 01 21"), ["fpgm begins", "fpgm 0000 B0 PUSHB 1 | 1", "fpgm 0002 21 POP |"]
     yield Run("a halt after fpgm", "trace --ppem 16 --of fpgm", font(fpgm=fpgm, prep=POP), due.listed(lines))
     yield Run("a halt after no fpgm", "trace --ppem 16 --of fpgm", font(prep=POP), due.listed([]))
@@ -49,14 +50,15 @@ def order():
     for asked in ("--char 43", "--char 41", "--glyph 9"):
         for tables, text in (({"prep": POP}, PREP_HALTS), ({"fpgm": POP}, FPGM_HALTS), ({"fpgm": POP, "prep": POP}, FPGM_HALTS)):
             for command in ("trace", "show", "outline"):
-                yield Run("%s %s of a font whose %s halts" % (command, asked, " and ".join(tables)), "%s --ppem 16 %s" % (command, asked),
-                          font(**tables), due.refused(text))
+                yield Run("%s %s of a font whose %s halts" % (command, asked, " and ".join(tables)),
+                          "%s --ppem 16 %s" % (command, asked), font(**tables), due.refused(text))
 
 
 def refused():
     """What is wrong before a program runs, and a character that the font lacks."""
     data = font(bytes.fromhex("B0 01 21"))
-    for words, answer in (("--ppem 0 --char 41", due.refused("60 BadSize")), ("--ppem 16 --char 110000", due.refused("61 BadChars")),
+    for words, answer in (("--ppem 0 --char 41", due.refused("60 BadSize")),
+                          ("--ppem 16 --char 110000", due.refused("61 BadChars")),
                           ("--ppem 16 --glyph 2", due.refused("24 BadGlyphNumber 2")), ("--ppem 16", due.usage()),
                           ("--ppem 16 --char 41 --of prep", due.usage()), ("--ppem 16 --char 41 --glyph 1", due.usage()),
                           ("--ppem 16 --of cvt", due.usage()), ("--ppem 16 --char 41 --unhinted", due.usage()),
@@ -86,15 +88,18 @@ def differences(program, data, ppem, glyphs):
         told, fault = ran.stderr.decode().split("\n")[0], traces.told(of)
         if seen != lines or (fault not in told if fault else ran.returncode):
             k = next((k for k, (one, other) in enumerate(zip(seen, lines)) if one != other), min(len(seen), len(lines)))
-            yield "%s, line %d of %d and %d: %r, and %r is due; %r, and %r is due" % (of, k + 1, len(seen), len(lines), seen[k:k + 1], lines[k:k + 1],
+            yield "%s, line %d of %d and %d: %r, and %r is due; %r, and %r is due" % (of, k + 1, len(seen), len(lines),
+                                                                                      seen[k:k + 1], lines[k:k + 1],
                                                                                   told, fault)
 
 
-# The suite's fonts of instructions, and of how many glyphs each is looked at: a font has each instruction with each flag, in many states.
-FONTS = {"arithmetic": 1, "asked-off": 1, "asked-on": 1, "calls": 1, "composites": 1, "cut-in": 3, "definitions": 1, "deltas": 3, "flow": 1, "halts": 1, "inherited": 1,
-         "instctrl-default-state": 1, "instctrl-no-programs": 1, "iup": 3, "iup-special": 1, "limits": 1, "mdrp": 5, "metrics": 1, "mirp": 7,
-         "points": 4, "prep-base": 1, "prep-cut-in": 1, "prep-flip": 1, "prep-points": 1, "prep-round": 1, "prep-vectors": 1, "prep-width": 1,
-         "rounding": 5, "small-stack": 1, "stack": 1, "state": 1, "vectors": 2, **{"fpgm-%d" % k: 1 for k in range(10)},
+# The suite's fonts of instructions, and of how many glyphs each is looked at: a font has each instruction with each flag, in many
+# states.
+FONTS = {"arithmetic": 1, "asked-off": 1, "asked-on": 1, "calls": 1, "composites": 1, "cut-in": 3, "definitions": 1, "deltas": 3,
+         "flow": 1, "halts": 1, "inherited": 1, "instctrl-default-state": 1, "instctrl-no-programs": 1, "iup": 3, "iup-special": 1,
+         "limits": 1, "mdrp": 5, "metrics": 1, "mirp": 7, "points": 4, "prep-base": 1, "prep-cut-in": 1, "prep-flip": 1,
+         "prep-points": 1, "prep-round": 1, "prep-vectors": 1, "prep-width": 1, "rounding": 5, "small-stack": 1, "stack": 1,
+         "state": 1, "vectors": 2, **{"fpgm-%d" % k: 1 for k in range(10)},
          **{"prep-%d" % k: 1 for k in range(10)}}
 
 

@@ -1,16 +1,18 @@
-"""Counts what no contract speaks of: the memory that a request takes, its calls that read, how often programs of glyphs run, and costs.
+"""Counts what no contract speaks of: the memory that a request takes, its calls that read, how often programs of glyphs run, and
+costs.
 
-A small library is preloaded that counts. At the end of each request no byte may be out; at no time more than the request's number in
-REQUESTS may be, which is what it took when the number was set, and a tenth; and an input is read in pieces of 32 KiB. If a change needs
-more on purpose, set the numbers anew, and say so in docs/LIMITS.md and docs/LIBRARY.md.
+A small library is preloaded that counts. At the end of each request no byte may be out; at no time more than the request's number
+in REQUESTS may be, which is what it took when the number was set, and a tenth; and an input is read in pieces of 32 KiB. If a
+change needs more on purpose, set the numbers anew, and say so in docs/LIMITS.md and docs/LIBRARY.md.
 
-Then valgrind counts the machine instructions of strikes of a font whose glyphs run long programs: each program runs once if the lines
-of all glyphs are kept between the two passes, and twice if they do not fit; one of a component that comes again runs once. What one run of the
-programs takes is what a picture takes with them and not without. An instruction of a font may cost STEP machine instructions.
+Then valgrind counts the machine instructions of strikes of a font whose glyphs run long programs: each program runs once if the
+lines of all glyphs are kept between the two passes, and twice if they do not fit; one of a component that comes again runs once.
+What one run of the programs takes is what a picture takes with them and not without. An instruction of a font may cost STEP machine
+instructions.
 
-At last what ten requests cost, in machine instructions, is compared with counted_work.txt, within 2 %: work that is done twice shows there,
-wherever it is. After a change that is meant to cost another number, `MKSTRIKE_WRITE=1 pytest tests/program/test_work.py -k costs` writes
-that table anew.
+At last what ten requests cost, in machine instructions, is compared with counted_work.txt, within 2 %: work that is done twice
+shows there, wherever it is. After a change that is meant to cost another number, `MKSTRIKE_WRITE=1 pytest
+tests/program/test_work.py -k costs` writes that table anew.
 """
 import os
 import re
@@ -48,8 +50,8 @@ READ = 64 * KIB  # bytes that a call has room for
 BODY = Code().fill(9)  # of the function that the programs of glyphs call, each CALLS times
 CALLS, GLYPHS = 10000, 12
 COSTS = os.path.join(HERE, "counted_work.txt")
-# A font and words: strikes that are hinted and not, of few and of many glyphs, of composites, with each kind of drop-out control, large
-# ones; the other commands; and a function that branches past many bytes.
+# A font and words: strikes that are hinted and not, of few and of many glyphs, of composites, with each kind of drop-out control,
+# large ones; the other commands; and a function that branches past many bytes.
 COUNTED = [
     (DEJAVU, "make --ppem 16 --chars 20-7e"),
     (DEJAVU, "make --ppem 16 --chars 20-17f"),
@@ -73,14 +75,15 @@ def branches(times, length):
     """A font whose glyph calls a function so many times, which passes over so many bytes by ELSE, and again by IF."""
     past = bytes([X_AXIS] * length + [EIF])
     body = Code().push(1).do(IF, ELSE).add(past, 0).push(0).do(IF).add(past, 0)
-    return Font([Empty(), square(500, Code().call_times(times, 0, body))], {0x41: 1}, fpgm=Code().define(0, body), functions=1, stack=9)
+    return Font([Empty(), square(500, Code().call_times(times, 0, body))], {0x41: 1}, fpgm=Code().define(0, body), functions=1,
+                stack=9)
 
 
 def counted(program, library, words, font):
     """The bytes out at the end, the most at a time, and the number of calls that read."""
     with open(font, "rb") as given, tempfile.TemporaryFile() as told:
-        done = subprocess.run([program] + words.split(), stdin=given, stdout=subprocess.DEVNULL, stderr=subprocess.PIPE, timeout=120,
-                              env={"LD_PRELOAD": library, "COUNT_TO": str(told.fileno())}, pass_fds=[told.fileno()])
+        done = subprocess.run([program] + words.split(), stdin=given, stdout=subprocess.DEVNULL, stderr=subprocess.PIPE,
+                              timeout=120, env={"LD_PRELOAD": library, "COUNT_TO": str(told.fileno())}, pass_fds=[told.fileno()])
         told.seek(0)
         out, most, reads = map(int, told.read().split())
     if done.returncode:
@@ -127,7 +130,8 @@ def test_memory(number, program, library, folder):
 # ---- programs
 
 def instructions(program, words, path):
-    """The machine instructions of a request to a font, by callgrind: those of `main`, since what comes before depends on the system."""
+    """The machine instructions of a request to a font, by callgrind: those of `main`, since what comes before depends on the
+    system."""
     count = ["valgrind", "--tool=callgrind", "--callgrind-out-file=/dev/null", "--toggle-collect=main"]
     with open(path, "rb") as given:
         done = subprocess.run([*count, program] + words.split(), stdin=given, stdout=subprocess.DEVNULL, stderr=subprocess.PIPE,
@@ -148,8 +152,8 @@ def fonts_to_run(code):
     yield "lines that don't fit", Font([Empty()] + large + each, {it: 1 + k for k, it in enumerate(all_codes)}, upem=64,
                                        **more), all_codes, 2 * GLYPHS
     twice = [Composite([(1, 0, 0), (1, 100 + 9 * k, 300)]) for k in range(GLYPHS)]
-    yield "a component that comes again", Font([Empty(), square(90, code)] + twice, {it: 2 + k for k, it in enumerate(codes)}, upem=1024,
-                                               **more), codes, 1
+    yield "a component that comes again", Font([Empty(), square(90, code)] + twice, {it: 2 + k for k, it in enumerate(codes)},
+                                               upem=1024, **more), codes, 1
 
 
 def instructions_of(program, words, font, folder):
@@ -177,7 +181,8 @@ def test_an_instruction(one):
 @pytest.mark.parametrize("number", range(3))
 def test_programs(number, program, one, folder):
     """How often programs run in a strike: what it takes with its programs and not without, in runs of one."""
-    (name, font, codes, due), (_, bare, _, _) = (list(fonts_to_run(code))[number] for code in (Code().call_times(CALLS, 0, BODY), None))
+    (name, font, codes, due), (_, bare, _, _) = (list(fonts_to_run(code))[number]
+                                                 for code in (Code().call_times(CALLS, 0, BODY), None))
     make = "make --ppem 16 --chars %s" % list_of(codes)
     ran = (instructions_of(program, make, font, folder) - instructions_of(program, make, bare, folder)) / one
     assert abs(ran - due) <= 0.5, "%s: programs ran %.1f times, and %d are due" % (name, ran, due)
@@ -210,4 +215,5 @@ def test_costs(number, program, folder):
     due, size = rows.get(request, (count, os.path.getsize(path)))
     if size != os.path.getsize(path):
         pytest.skip("the font is of another version")
-    assert abs(count - due) <= WITHIN * due, "%s: %d machine instructions, and %d are due: is the change meant?" % (request, count, due)
+    assert abs(count - due) <= WITHIN * due, "%s: %d machine instructions, and %d are due: is the change meant?" % (
+        request, count, due)

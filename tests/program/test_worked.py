@@ -1,7 +1,7 @@
 """Cases of the program: worked examples, whose text is written out here, from the public formats and by arithmetic by hand.
 
-Fonts are the fixture with a glyph, a table or a few bytes in place of its own. At 16 pixels an em a unit of it is 1/64 pixel, so the
-centres of columns and rows are at 32, 96, 160 and so on.
+Fonts are the fixture with a glyph, a table or a few bytes in place of its own. At 16 pixels an em a unit of it is 1/64 pixel, so
+the centres of columns and rows are at 32, 96, 160 and so on.
 """
 import struct
 
@@ -89,7 +89,8 @@ def mapped(*pairs):
 
 def names_of_characters():
     """Up to U+FFFF a name has four digits, past it five or six."""
-    for code, head in ((0xFFFF, "uniFFFF\nENCODING 65535"), (0x10000, "u10000\nENCODING 65536"), (0x1F600, "u1F600\nENCODING 128512"),
+    for code, head in ((0xFFFF, "uniFFFF\nENCODING 65535"), (0x10000, "u10000\nENCODING 65536"),
+                       (0x1F600, "u1F600\nENCODING 128512"),
                        (0x10FFFF, "u10FFFF\nENCODING 1114111")):
         end = "STARTCHAR %s\nSWIDTH 375 0\nDWIDTH 6 0\nBBX 2 1 0 0\nBITMAP\nC0\nENDCHAR\nENDFONT\n" % head
         yield Run(head, asked("%x" % code), mapped((code, 3)), Ends(due.DONE, counted(), end.encode()))
@@ -113,8 +114,8 @@ def stems(prep):
 
 
 def strikes_with_drop_out_control():
-    """The common box and a picture have what it sets. With --dropout=font each glyph of a strike has what its own program asks for, or else
-    `prep`: not what a glyph before it or a component asked for. One that is drawn without hinting asks for nothing."""
+    """The common box and a picture have what it sets. With --dropout=font each glyph of a strike has what its own program asks for,
+    or else `prep`: not what a glyph before it or a component asked for. One that is drawn without hinting asks for nothing."""
     whole = strike(glyph_lines(0x42, "4 1 0 0", "F0"), box="4 1 0 0")
     yield Run("the common box", asked(more=NAMED + " --dropout"), fixture_with(third=HAIRLINE), due.Due(due.DONE, counted(), whole))
     for more, picture in (("", ["empty"]), (" --dropout", ["####"])):
@@ -163,14 +164,18 @@ def arc_with(program):
 # Programs, and their listings.
 LISTINGS = (
     (BRANCH, OF_BRANCH), (BRANCH[:-6], CUT), ("", []),
-    ("40 00 41 00 41 02 ff fd 80 00 91 40", ["0000 40 NPUSHB", "0002 41 NPUSHW", "0004 41 NPUSHW -3 -32768", "000A 91 UNDEFINED", "000B 40 CUT"]),
-    ("b9 ff fd 00 01 b2 00", ["0000 B9 PUSHW -3 1", "0005 B2 CUT"]), ("b1 01 fd", ["0000 B1 PUSHB 1 253"]), ("b8 ff fd", ["0000 B8 PUSHW -3"]),
+    ("40 00 41 00 41 02 ff fd 80 00 91 40",
+     ["0000 40 NPUSHB", "0002 41 NPUSHW", "0004 41 NPUSHW -3 -32768", "000A 91 UNDEFINED", "000B 40 CUT"]),
+    ("b9 ff fd 00 01 b2 00", ["0000 B9 PUSHW -3 1", "0005 B2 CUT"]), ("b1 01 fd", ["0000 B1 PUSHB 1 253"]),
+    ("b8 ff fd", ["0000 B8 PUSHW -3"]),
     ("40 ff" + " fd" * 255, ["0000 40 NPUSHB" + " 253" * 255]),
     ("41 ff" + " fdfd" * 254 + " 0102", ["0000 41 NPUSHW" + " -515" * 254 + " 258"]),
-    ("41 ff" + " fdfd" * 254 + " 8002", ["0000 41 NPUSHW" + " -515" * 254 + " -32766"]), ("41 ff" + " fdfd" * 254 + " 80", ["0000 41 CUT"]),
+    ("41 ff" + " fdfd" * 254 + " 8002", ["0000 41 NPUSHW" + " -515" * 254 + " -32766"]),
+    ("41 ff" + " fdfd" * 254 + " 80", ["0000 41 CUT"]),
     ("00 0f 16 28 3f 4a 5d 6c 75 8e b7 00 00 00 00 00 00 00 00 bf" + " 0000" * 8 + " df ff",
-     ["0000 00 SVTCA", "0001 0F ISECT", "0002 16 SZPS", "0003 28 UNDEFINED", "0004 3F MIAP", "0005 4A MD", "0006 5D DELTAP1", "0007 6C NROUND",
-      "0008 75 DELTAC3", "0009 8E INSTCTRL", "000A B7 PUSHB" + " 0" * 8, "0013 BF PUSHW" + " 0" * 8, "0024 DF MDRP", "0025 FF MIRP"]))
+     ["0000 00 SVTCA", "0001 0F ISECT", "0002 16 SZPS", "0003 28 UNDEFINED", "0004 3F MIAP", "0005 4A MD", "0006 5D DELTAP1",
+      "0007 6C NROUND", "0008 75 DELTAC3", "0009 8E INSTCTRL", "000A B7 PUSHB" + " 0" * 8, "0013 BF PUSHW" + " 0" * 8,
+      "0024 DF MDRP", "0025 FF MIRP"]))
 
 
 def worked_listings():
@@ -198,55 +203,69 @@ def worked_listings():
     yield Run("end points that fall", "dump --of 2", falling, refused("19 BadContours 2"))
     whole = listed(CUT)
     for count in range(len(whole.out)):
-        yield Run("a file of %d bytes" % count, "dump --of 3", fixture_with(third=arc_with(BRANCH[:-6])), due.cut_after(whole, count),
-                  way=runs.into_file(count))
+        yield Run("a file of %d bytes" % count, "dump --of 3", fixture_with(third=arc_with(BRANCH[:-6])),
+                  due.cut_after(whole, count), way=runs.into_file(count))
 
 
 # ---- outlines and pictures ----
 
-OUTLINE_OF_RING = listed(["0 0 on 0 0", "0 1 on 320 0", "0 2 on 320 320", "0 3 on 0 320", "1 4 on 96 96", "1 5 on 96 224", "1 6 on 224 224",
+OUTLINE_OF_RING = listed(["0 0 on 0 0", "0 1 on 320 0", "0 2 on 320 320", "0 3 on 0 320", "1 4 on 96 96", "1 5 on 96 224",
+                          "1 6 on 224 224",
                           "1 7 on 224 96", "advance 384"])
 OF_ARC_AT_16 = ["0 0 on 0 0", "0 1 off 64 128", "0 2 on 128 0", "advance 384"]
 OF_ARC_AT_4 = ["0 0 on 0 0", "0 1 off 16 32", "0 2 on 32 0"]
 PICTURE = ["#####", "#####", "##.##", "#####", "#####"]
 SHOWN = (
     ("outline --hex --ppem 16 --char 41 --unhinted", OUTLINE_OF_RING), ("outline --glyph=0002 --hex --ppem=16", OUTLINE_OF_RING),
-    ("outline --ppem 16 --hex --face 0 --char 42", listed(OF_ARC_AT_16)), ("outline --ppem 16 --glyph +3 --hex --unhinted", listed(OF_ARC_AT_16)),
+    ("outline --ppem 16 --hex --face 0 --char 42", listed(OF_ARC_AT_16)),
+    ("outline --ppem 16 --glyph +3 --hex --unhinted", listed(OF_ARC_AT_16)),
     ("outline --hex --ppem 4 --char 42 --unhinted", listed(OF_ARC_AT_4 + ["advance 96"])),
-    ("outline --hex --ppem 4 --char 42", listed(OF_ARC_AT_4 + ["advance 128"])), ("outline --hex --ppem 16 --char 20", listed(["advance 384"])),
-    ("outline --hex --ppem 16 --glyph 0", listed(["advance 256"])), ("outline --hex --ppem 16 --char 21", listed(["missing"])),
-    ("outline --hex --ppem 16 --glyph 4", refused("24 BadGlyphNumber 4")), ("outline --hex --ppem 16 --glyph 65535", refused("24 BadGlyphNumber 65535")),
+    ("outline --hex --ppem 4 --char 42", listed(OF_ARC_AT_4 + ["advance 128"])),
+    ("outline --hex --ppem 16 --char 20", listed(["advance 384"])), ("outline --hex --ppem 16 --glyph 0", listed(["advance 256"])),
+    ("outline --hex --ppem 16 --char 21", listed(["missing"])),
+    ("outline --hex --ppem 16 --glyph 4", refused("24 BadGlyphNumber 4")),
+    ("outline --hex --ppem 16 --glyph 65535", refused("24 BadGlyphNumber 65535")),
     ("outline --hex --ppem 0 --glyph 4", refused("60 BadSize")), ("show --hex --ppem 1025 --glyph 4", refused("60 BadSize")),
-    ("show --hex --ppem 16 --glyph 65535", refused("24 BadGlyphNumber 65535")), ("outline --hex --ppem 16 --char 110000", refused("61 BadChars")),
+    ("show --hex --ppem 16 --glyph 65535", refused("24 BadGlyphNumber 65535")),
+    ("outline --hex --ppem 16 --char 110000", refused("61 BadChars")),
     ("outline --hex --ppem 16 --char 4g", refused("61 BadChars")), ("show --hex --ppem 16 --glyph 3", listed(["##"])),
-    ("show --hex --ppem 16 --glyph 0 --dropout", listed(["empty"])), ("show --hex --ppem 16 --glyph 4 --unhinted", refused("24 BadGlyphNumber 4")),
+    ("show --hex --ppem 16 --glyph 0 --dropout", listed(["empty"])),
+    ("show --hex --ppem 16 --glyph 4 --unhinted", refused("24 BadGlyphNumber 4")),
     ("outline --ppem 16 --glyph 0", refused("10 NotTrueType")), ("show --hex --ppem 16 --char 41 --unhinted", listed(PICTURE)),
     ("show --char=0042 --hex --ppem=16", listed(["##"])), ("show --hex --ppem 16 --char 20 --unhinted", listed(["empty"])),
-    ("show --hex --ppem 16 --char 21 --unhinted", listed(["missing"])), ("show --hex --ppem 4 --char 42 --unhinted", listed(["empty"])),
-    ("show --hex --ppem 4 --char 42 --unhinted --dropout", listed(["#"])), ("show --hex --ppem 16 --char 110000", refused("61 BadChars")),
-    ("show --ppem 16 --char 41 --unhinted", refused("10 NotTrueType")), ("show --hex --ppem 32 --char 42 --unhinted", listed([".##.", "####"])),
-    ("dump --hex --of fpgm", listed([])), ("dump --of=prep --hex", listed([])), ("dump --of 00003 --hex", listed([])),
+    ("show --hex --ppem 16 --char 21 --unhinted", listed(["missing"])),
+    ("show --hex --ppem 4 --char 42 --unhinted", listed(["empty"])),
+    ("show --hex --ppem 4 --char 42 --unhinted --dropout", listed(["#"])),
+    ("show --hex --ppem 16 --char 110000", refused("61 BadChars")),
+    ("show --ppem 16 --char 41 --unhinted", refused("10 NotTrueType")),
+    ("show --hex --ppem 32 --char 42 --unhinted", listed([".##.", "####"])), ("dump --hex --of fpgm", listed([])),
+    ("dump --of=prep --hex", listed([])), ("dump --of 00003 --hex", listed([])),
     ("dump --of 4 --hex", refused("24 BadGlyphNumber 4")), ("dump --of prep", refused("10 NotTrueType")),
     (["make", "--hex", "--ppem", "16", "--chars", "41", "--name", ""], refused("62 BadName")),
     ("make --hex --ppem 16 --chars 110000", refused("61 BadChars")), ("make --ppem 16 --chars 41", refused("10 NotTrueType")))
 
 
 def pictures_and_outlines():
-    """Of the fixture as hexadecimal text, by characters and by numbers; scaled, the advance rounded to whole pixels if hinted; glyphs
-    without points, and none; what is refused, also since the text is no font without --hex."""
+    """Of the fixture as hexadecimal text, by characters and by numbers; scaled, the advance rounded to whole pixels if hinted;
+    glyphs without points, and none; what is refused, also since the text is no font without --hex."""
     text = FIXTURE.hex(" ", 4).encode()
     for words, answer in SHOWN:
         yield Run("%s" % words, words, text, answer)
     yield Run("on the first line", [], b"show --hex --ppem 32 --char 42 --unhinted\n" + text, listed([".##.", "####"]))
     yield Run("no font on the first line", [], b"dump --of 65535", refused("10 NotTrueType"))
-    yield Run("a font that fails after 10 bytes", "dump --of prep", b"", refused("71 ReadFailed"), way=runs.failing_after(text[:10]))
-    shown = "0 0 on 0 0/0 1 on 320 0/0 2 on 320 320/0 3 on 0 320/0 4 on 96 96/0 5 on 96 224/0 6 on 224 224/0 7 on 224 96/advance 384"
-    yield Run("the second contour has no point", "outline --ppem 16 --char 41", patched(FIXTURE, 334, b"\0\7"), listed(shown.split("/")))
+    yield Run("a font that fails after 10 bytes", "dump --of prep", b"", refused("71 ReadFailed"),
+              way=runs.failing_after(text[:10]))
+    shown = ("0 0 on 0 0/0 1 on 320 0/0 2 on 320 320/0 3 on 0 320/0 4 on 96 96/0 5 on 96 224/0 6 on 224 224/0 7 on 224 96/advance "
+             "384")
+    yield Run("the second contour has no point", "outline --ppem 16 --char 41", patched(FIXTURE, 334, b"\0\7"),
+              listed(shown.split("/")))
     halt = halted("37 StepLimit", "prep", "prep", 0, 0xB8)
-    for words, answer in (("outline --ppem 16 --glyph 9", halt), ("show --ppem 16 --char 41", halt), ("make --ppem 16 --chars 41", halt),
-                          ("outline --ppem 16 --glyph 3 --unhinted", listed(OF_ARC_AT_16)), ("show --ppem 16 --char 42 --unhinted", listed(["##"]))):
+    for words, answer in (("outline --ppem 16 --glyph 9", halt), ("show --ppem 16 --char 41", halt),
+                          ("make --ppem 16 --chars 41", halt), ("outline --ppem 16 --glyph 3 --unhinted", listed(OF_ARC_AT_16)),
+                          ("show --ppem 16 --char 42 --unhinted", listed(["##"]))):
         yield Run("prep does not end: %s" % words, words, LOOPING, answer)
-    for words, answer in (("dump --of prep --hex", refused("72 BadHex")), ("make --hex --ppem 16 --chars 110000", refused("72 BadHex"))):
+    for words, answer in (("dump --of prep --hex", refused("72 BadHex")),
+                          ("make --hex --ppem 16 --chars 110000", refused("72 BadHex"))):
         yield Run("half a byte: %s" % words, words, b"4", answer)
 
 

@@ -29,4 +29,6 @@ def test_differences_are_found():
     """One that is on the page alone is found, and one that is due alone."""
     page = b"| 10 | NotTrueType | x |\n| 70 | WriteFailed n | x |\n| 64 | BadMode | x |\n"
     assert not differ(page, [b"mkstrike: 10 NotTrueType\n", b"mkstrike: 70 WriteFailed 9\n", b"mkstrike: usage\n"])
-    assert differ(page, [b"mkstrike: 10 NotTrueType\n"]) and differ(page, [b"mkstrike: 10 NotTrueType\n", b"mkstrike: 70 WriteFailed 9\n", b"mkstrike: 90 OutOfMemory\n"])
+    assert differ(page, [b"mkstrike: 10 NotTrueType\n"]) and differ(page,
+                                                                    [b"mkstrike: 10 NotTrueType\n", b"mkstrike: 70 WriteFailed 9\n",
+                                                                     b"mkstrike: 90 OutOfMemory\n"])

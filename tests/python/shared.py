@@ -87,7 +87,8 @@ class Counted:
 
 def strike_by_command(folder, *words, status=0, data=b""):
     """Runs the command `strike` in a folder. Returns what it prints on both outputs."""
-    ran = subprocess.run([sys.executable, "-m", "mkstrike", *map(str, words)], cwd=folder, input=data, capture_output=True, timeout=600)
+    ran = subprocess.run([sys.executable, "-m", "mkstrike", *map(str, words)], cwd=folder, input=data, capture_output=True,
+                         timeout=600)
     assert ran.returncode == status, ran.stderr.decode()
     return ran.stdout.decode(), ran.stderr.decode()
 

@@ -13,7 +13,8 @@ pytestmark = needs_pillow
 CONF = """\
 function love.conf(t)
     t.window = false
-    for name in pairs(t.modules) do t.modules[name] = name == "font" or name == "image" or name == "data" or name == "event" or name == "filesystem" end
+    local kept = { font = true, image = true, data = true, event = true, filesystem = true }
+    for name in pairs(t.modules) do t.modules[name] = kept[name] == true end
 end
 """
 MAIN = """\

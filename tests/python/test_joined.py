@@ -146,7 +146,8 @@ def test_wrong_options_of_parts():
     """A part's size and options are checked."""
     font = mkstrike.Font(SANS)
     strike = font.strike(16, "41")
-    for part, kind, said in (((font, 16, "41", {"hint": False}), TypeError, "'hint' is no option: there are dropout, glyphs, hinted"),
+    for part, kind, said in (((font, 16, "41", {"hint": False}), TypeError,
+                              "'hint' is no option: there are dropout, glyphs, hinted"),
                              ((font,), ValueError, "has no size"),
                              ((strike, 17), ValueError, "a strike of 16 pixels can't be made at 17"),
                              ((font, 16), ValueError, "^nothing is asked of DejaVuSans: give")):

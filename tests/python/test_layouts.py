@@ -188,4 +188,5 @@ def test_rows_of_the_old_reader():
     text = SMALL.encode("c", name="small").decode()
     for name in re.findall(r"small_[A-Za-z]+", DRAW_ROWS):
         assert name in text
-    assert "small_rows[k] are its rows from the top: small_HEIGHT rows of small_STRIDE\n * bytes, the leftmost pixel the highest bit. Draw" in text
+    assert ("small_rows[k] are its rows from the top: small_HEIGHT rows of small_STRIDE\n * bytes, the leftmost pixel the highest "
+            "bit. Draw" in text)

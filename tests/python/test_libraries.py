@@ -21,7 +21,9 @@ def test_dense_by_hand():
         text = strike.encode("gfx", name="few", dense=True).decode()
     assert re.findall(r"/\* (0x.*) \*/", text) == ["0x30: U+0030 0", "0x31: U+0031 1", "0x32: U+0041 A", "0x33: U+20AC"]
     assert "0x30, 0x33, %d};" % strike.height in text
-    with pytest.warns(UserWarning, match=r"8313 of the 8317 entries of few are empty, .*; dense=True \(--dense\) numbers the characters without gaps"):
+    with pytest.warns(UserWarning,
+                      match=r"8313 of the 8317 entries of few are empty, .*; dense=True \(--dense\) numbers the characters "
+                            r"without gaps"):
         strike.encode("gfx", name="few")
 
 

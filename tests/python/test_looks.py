@@ -151,5 +151,6 @@ def test_points(text, due):
 @pytest.mark.parametrize("text", ["12pt", "12", "12pt@", "pt@96", "12pt@96x", "12 pt@96", "-12pt@96", "12pt@9.6", "1.pt@96",
                                   "\u0661pt@96"])
 def test_wrong_points(text):
-    with pytest.raises(ValueError, match="^points are given with the resolution in dots an inch, as 12pt@96, not '%s'$" % re.escape(text)):
+    with pytest.raises(ValueError,
+                       match="^points are given with the resolution in dots an inch, as 12pt@96, not '%s'$" % re.escape(text)):
         points(text)

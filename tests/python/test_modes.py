@@ -209,8 +209,8 @@ def test_forms(tmp_path):
     out, _ = run(tmp_path, MONO, "--size", "13", "--chars", "41,43", "--cell", "9x17", "--format", "c,raw,py,fnt,gfx", "--bytes",
                  "columns", "--bits", "msb",
                  "--align", "right", "--attribute", "PROGMEM", "--padding", "2", "--dense")
-    assert out == "./DejaVuSansMono-13.h ./DejaVuSansMono-13.raw ./DejaVuSansMono_13.py ./DejaVuSansMono-13.fnt ./DejaVuSansMono-13_0.png " \
-        "./DejaVuSansMono-13-gfx.h: 2 glyphs\n"
+    assert out == "./DejaVuSansMono-13.h ./DejaVuSansMono-13.raw ./DejaVuSansMono_13.py ./DejaVuSansMono-13.fnt " \
+        "./DejaVuSansMono-13_0.png ./DejaVuSansMono-13-gfx.h: 2 glyphs\n"
     strike = mkstrike.Font(MONO).strike(13, "41,43", name="DejaVuSansMono").cell(9, 17)
     strike.names = mkstrike.Font(MONO).names
     layout = {"bytes": "columns", "bits": "msb"}

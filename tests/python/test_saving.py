@@ -70,8 +70,9 @@ def full(*_):
 
 @pytest.mark.parametrize("call, instead", [("replace", full), ("fsync", full), ("fsync", os.close), ("open", full)])
 def test_no_new_file_stays(tmp_path, monkeypatch, call, instead):
-    """A fault leaves the older file, and no other, and the error has the name as it was given. A disk may tell that it is full only at
-    `fsync`, or when the file is closed: a file that `fsync` closes can't be closed again. A name that can't be opened is left alone."""
+    """A fault leaves the older file, and no other, and the error has the name as it was given. A disk may tell that it is full only
+    at `fsync`, or when the file is closed: a file that `fsync` closes can't be closed again. A name that can't be opened is left
+    alone."""
     strike = mkstrike.Font(SANS).strike(16, "ascii")
     (tmp_path / "a.bdf").write_bytes(b"old")
     os.symlink("a.bdf", tmp_path / "link.bdf")
@@ -99,8 +100,8 @@ def test_no_folder(tmp_path):
 
 @pytest.mark.parametrize("mode, kept", [(0o600, 0o600), (0o4777, 0o777), (0o2770, 0o770), (0o7711, 0o711)])
 def test_permissions(tmp_path, monkeypatch, mode, kept):
-    """The new file has the permissions of the old one, whatever the umask, and is never setuid. While it is empty only its owner can
-    open it."""
+    """The new file has the permissions of the old one, whatever the umask, and is never setuid. While it is empty only its owner
+    can open it."""
     path, seen, chmod = tmp_path / "a.bdf", [], os.fchmod
     path.write_bytes(b"old")
     path.chmod(mode)
@@ -141,7 +142,8 @@ def test_owner(tmp_path, monkeypatch):
 
 
 def test_system_calls(tmp_path):
-    """The name is opened as it was given, so that the kernel can refuse a planted link. All is on the disk before the file gets it."""
+    """The name is opened as it was given, so that the kernel can refuse a planted link. All is on the disk before the file gets
+    it."""
     (tmp_path / "a.bdf").write_bytes(b"old")
     os.symlink("a.bdf", tmp_path / "link.bdf")
     words = [tool("strace"), "-e", "trace=openat,fchmod,write,fsync,close,?rename,?renameat,?renameat2", "-o", "calls"]

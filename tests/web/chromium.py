@@ -42,7 +42,8 @@ class Browser:
         words = [path, *FLAGS, *flags, "--user-data-dir=" + self.folder] + (["--no-sandbox"] if os.getuid() == 0 else [])
         script = 'exec "$@" 3<&%d 4>&%d' % (to_browser, from_browser)
         self.process = subprocess.Popen(["bash", "-c", script, "bash", *words, "about:blank"], pass_fds=(to_browser, from_browser),
-                                        stdin=subprocess.DEVNULL, stdout=subprocess.DEVNULL, stderr=subprocess.DEVNULL, start_new_session=True)
+                                        stdin=subprocess.DEVNULL, stdout=subprocess.DEVNULL, stderr=subprocess.DEVNULL,
+                                        start_new_session=True)
         os.close(to_browser)
         os.close(from_browser)
         self.numbers, self.read, self.events, self.session = 0, b"", [], None
@@ -171,7 +172,8 @@ class Browser:
 
     def tasks(self, act):
         """Does something; returns the milliseconds of processor time of each task meanwhile, of the "page" and of its "worker"."""
-        self.call("Tracing.start", traceConfig={"includedCategories": ["toplevel"], "excludedCategories": ["*"]}, transferMode="ReportEvents")
+        self.call("Tracing.start", traceConfig={"includedCategories": ["toplevel"], "excludedCategories": ["*"]},
+                  transferMode="ReportEvents")
         act()
         self.call("Tracing.end")
         while not any(it["method"] == "Tracing.tracingComplete" for it in self.events):

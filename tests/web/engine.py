@@ -30,9 +30,11 @@ AT_FIRST = HINTED | DROPOUT_FONT  # the mode that the page begins with
 DAMAGED, SEED = 100, 69
 # Fonts with Latin letters, by their folders: what else a machine has must not change what is tested.
 FAMILIES = {
-    "dejavu": "DejaVuSans DejaVuSans-Bold DejaVuSansMono DejaVuSansMono-Bold DejaVuSerif DejaVuSerif-Bold DejaVuSans-ExtraLight DejaVuSansMono-Oblique "
+    "dejavu": "DejaVuSans DejaVuSans-Bold DejaVuSansMono DejaVuSansMono-Bold DejaVuSerif DejaVuSerif-Bold DejaVuSans-ExtraLight "
+              "DejaVuSansMono-Oblique "
               "DejaVuSansCondensed DejaVuSerif-Italic DejaVuSerifCondensed-BoldItalic",
-    "liberation": "LiberationMono-Regular LiberationMono-BoldItalic LiberationSans-Regular LiberationSans-Bold LiberationSans-Italic "
+    "liberation": "LiberationMono-Regular LiberationMono-BoldItalic LiberationSans-Regular LiberationSans-Bold "
+                  "LiberationSans-Italic "
                   "LiberationSerif-Regular LiberationSerif-BoldItalic LiberationSansNarrow-Regular",
     "freefont": "FreeMono FreeMonoBoldOblique FreeSans FreeSansBold FreeSerif FreeSerifItalic",
     "noto": "NotoSans-Regular NotoSans-BoldItalic NotoSerif-Regular",
@@ -53,7 +55,8 @@ def modules():
 def run(words, **how):
     """Runs a command, which must end well."""
     done = subprocess.run(words, capture_output=True, check=False, **how)
-    assert done.returncode == 0, "%s: status %d: %s" % (words[:4], done.returncode, (done.stdout + done.stderr)[-600:].decode("latin-1"))
+    assert done.returncode == 0, "%s: status %d: %s" % (words[:4], done.returncode,
+                                                        (done.stdout + done.stderr)[-600:].decode("latin-1"))
     return done
 
 
@@ -89,8 +92,9 @@ def damaged(folder):
 
 def squares(count):
     """A font of as many characters from 4E00 on, each of 50 squares, which take time."""
-    glyph = fonts.simple([[(90 * x, 180 * y, 1), (90 * x, 180 * y + 120, 1), (90 * x + 60, 180 * y + 120, 1), (90 * x + 60, 180 * y, 1)]
-                          for x in range(10) for y in range(5)])
+    glyph = fonts.simple(
+        [[(90 * x, 180 * y, 1), (90 * x, 180 * y + 120, 1), (90 * x + 60, 180 * y + 120, 1), (90 * x + 60, 180 * y, 1)]
+         for x in range(10) for y in range(5)])
     return fonts.font_of([b""] + [glyph] * count, fonts.map_of((0x4E00 + k, 1 + k) for k in range(count)))
 
 
@@ -117,7 +121,8 @@ def woff_of(font, last=None, length=None):
         size = size if length is None or k < count - 1 else length
         directory += struct.pack(">4sLLLL", tag, at + len(tables), len(packed), size, checksum)
         tables += packed + bytes(-len(packed) % 4)
-    return struct.pack(">4s4sLHHLHHLLLLL", b"wOFF", font[:4], at + len(tables), count, 0, len(font), 1, 0, 0, 0, 0, 0, 0) + directory + tables
+    return struct.pack(">4s4sLHHLHHLLLLL", b"wOFF", font[:4], at + len(tables), count, 0, len(font), 1, 0, 0, 0, 0, 0,
+                       0) + directory + tables
 
 
 # ---- the program

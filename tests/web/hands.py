@@ -19,7 +19,8 @@ TRIES = 3  # clicks for a download: Chromium was seen to lose one of some hundre
 
 
 class Page:
-    """The page of a folder of modules, in a browser. Files go to `folder`; pictures of the page are kept in `pictures`, if it is named."""
+    """The page of a folder of modules, in a browser. Files go to `folder`; pictures of the page are kept in `pictures`, if it is
+    named."""
 
     def __init__(self, modules, folder, pictures):
         path = chromium.installed() or left_out("chromium")
@@ -74,7 +75,8 @@ class Page:
 
     def set_mode(self, mode):
         for control, value in (("hinted", bool(mode & HINTED)), ("dropout", DROPOUTS[mode & ~HINTED])):
-            if self.browser.evaluate("((it) => it.type === 'checkbox' ? it.checked : it.value)(document.getElementById('%s'))" % control) != value:
+            if self.browser.evaluate("((it) => it.type === 'checkbox' ? it.checked : it.value)(document.getElementById('%s'))"
+                                     % control) != value:
                 self.set(control, value)
 
     def seen(self, canvas="main"):
@@ -116,6 +118,7 @@ class Page:
             return False
         if not status and (data != text or saved != name + ".bdf"):
             raise AssertionError("%s: the saved strike %s is not the program's" % (where, saved))
-        if status and (data is not None or not saved.startswith(line + ": ") or saved.replace("`", "") not in self.text_of("#saved")):
+        if status and (data is not None or not saved.startswith(line + ": ")
+                       or saved.replace("`", "") not in self.text_of("#saved")):
             raise AssertionError("%s: the page says %r, and %r is due" % (where, self.text_of("#saved"), line))
         return bool(status)

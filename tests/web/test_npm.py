@@ -1,4 +1,5 @@
-"""The npm package, installed in an empty folder: the command as people type it, the example of its README, its types and its size."""
+"""The npm package, installed in an empty folder: the command as people type it, the example of its README, its types and its
+size."""
 import os
 import re
 import resource
@@ -26,7 +27,8 @@ def full_disk(it):
     before = it.files()
     with open("/dev/full", "wb") as full:
         answers = it.run(MAKE[:-1] + ["/dev/full"]), it.run(MAKE[:-2], stdout=full)
-    it.equal("full outputs", [(status, said.split("\n")[0]) for status, _, said in answers], [(1, "mkstrike: 70 WriteFailed 0")] * 2)
+    it.equal("full outputs", [(status, said.split("\n")[0]) for status, _, said in answers],
+             [(1, "mkstrike: 70 WriteFailed 0")] * 2)
     it.run(MAKE, preexec_fn=lambda: resource.setrlimit(resource.RLIMIT_FSIZE, (4096, 4096)))
     it.equal("the files after a full disk", it.files(), before)
 
@@ -34,7 +36,8 @@ def full_disk(it):
 def taken_name(it):
     """A name of a new file that a link has taken: what the link leads to stays. Random bytes are 0 here."""
     shutil.copy(SAMPLE, it.path("mine.ttf"))
-    put(it.folder, "zeros.cjs", b"require('crypto').randomFillSync = (bytes) => bytes.fill(0); require('module').syncBuiltinESMExports();\n")
+    put(it.folder, "zeros.cjs",
+        b"require('crypto').randomFillSync = (bytes) => bytes.fill(0); require('module').syncBuiltinESMExports();\n")
     os.symlink("mine.ttf", it.path(".mkstrike-" + 16 * "0"))
     it.run(MAKE, env={**os.environ, "NODE_OPTIONS": "--require ./zeros.cjs"})
     it.check("a font behind a link", "" if it.read("mine.ttf") == prebuilt.read(SAMPLE) else "it is written over")
@@ -86,7 +89,8 @@ def installed_package(tmp_path_factory):
 
 def command(package, folder):
     """The path of a script that runs the command of a package, as the system runs a program."""
-    path = put(folder, "mkstrike", b"#!/bin/sh\nexec '%s' '%s' \"$@\"\n" % (engine.node().encode(), os.fsencode(package / "bin/mkstrike.js")))
+    path = put(folder, "mkstrike",
+               b"#!/bin/sh\nexec '%s' '%s' \"$@\"\n" % (engine.node().encode(), os.fsencode(package / "bin/mkstrike.js")))
     os.chmod(path, 0o755)
     return path
 
@@ -161,8 +165,11 @@ process.stdout.write(made.output);
 def test_types(installed):
     """The example meets the package's types."""
     tool("tsc")
-    text = re.sub(r"^import \{ readFileSync.*\n", "declare function readFileSync(path: string): Uint8Array;\n", readme_example(), flags=re.M)
-    put(installed, "example.ts", (text + "if (!refused) console.log(glyphs[0].width, pixels.length, status + 1, output.length, lines.trim());\n").encode())
-    done = subprocess.run("tsc --strict --noEmit --target es2022 --module es2022 --moduleResolution node --lib es2022,dom example.ts".split(),
-                          cwd=installed, capture_output=True, text=True, check=False)
+    text = re.sub(r"^import \{ readFileSync.*\n", "declare function readFileSync(path: string): Uint8Array;\n", readme_example(),
+                  flags=re.M)
+    put(installed, "example.ts",
+        (text + "if (!refused) console.log(glyphs[0].width, pixels.length, status + 1, output.length, lines.trim());\n").encode())
+    done = subprocess.run(
+        "tsc --strict --noEmit --target es2022 --module es2022 --moduleResolution node --lib es2022,dom example.ts".split(),
+        cwd=installed, capture_output=True, text=True, check=False)
     assert done.returncode == 0, done.stdout[-300:]

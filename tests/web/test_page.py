@@ -1,6 +1,7 @@
 """The page in Chromium: each test begins with a page that was just opened, and leaves no complaint in its console.
 
-MKSTRIKE_PICTURES=FOLDER keeps pictures of the page there. Times are processor times, so that other work on the machine fails nothing."""
+MKSTRIKE_PICTURES=FOLDER keeps pictures of the page there. Times are processor times, so that other work on the machine fails
+nothing."""
 import atexit
 import functools
 import http.server
@@ -37,7 +38,8 @@ LONGEST = 500  # milliseconds of processor time in which the page does not look 
 MOST_PICTURE = 60000000  # pixels of a text's picture at the zoom
 NAMES = 200  # of fonts' files, for the comment of a header
 # What may end a comment of C or hide its end: lines that are joined, trigraphs, ends of lines.
-ENDS = ["*/", "**//", "*\\\n/", "*\\\r/", "*??/\n/", "*??/\r/", "\\", "??/", "/*", "//", "\u2028", "\r", "\n", "*\0/", "\x1b", "\u00e9", " x"]
+ENDS = ["*/", "**//", "*\\\n/", "*\\\r/", "*??/\n/", "*??/\r/", "\\", "??/", "/*", "//", "\u2028", "\r", "\n", "*\0/", "\x1b",
+        "\u00e9", " x"]
 
 
 @pytest.fixture(name="page", scope="module")
@@ -49,7 +51,8 @@ def opened_browser(tmp_path_factory):
 
 
 # Of one font the English name counts, of the other those for an old Macintosh, family and style.
-NAMED = fonts.name_table((1, 0, 0, 4, b"Wrong"), (3, 1, 0x407, 4, "Falsch".encode("utf-16-be")), (3, 1, 0x409, 4, "Mine \u00c4 Bold".encode("utf-16-be")))
+NAMED = fonts.name_table((1, 0, 0, 4, b"Wrong"), (3, 1, 0x407, 4, "Falsch".encode("utf-16-be")),
+                         (3, 1, 0x409, 4, "Mine \u00c4 Bold".encode("utf-16-be")))
 NAMED_OF_OLD = fonts.name_table((1, 0, 0, 1, b"Old"), (1, 0, 0, 2, b"One\7"), (2, 0, 0, 4, b"Wrong"))
 
 
@@ -63,10 +66,12 @@ def first(page):
     page.picture("first", True)
     for width, height in ((400, 700), (1200, 700)):
         page.browser.call("Emulation.setDeviceMetricsOverride", width=width, height=height, deviceScaleFactor=1, mobile=False)
-        ends = page.browser.evaluate("[...document.querySelectorAll('#save [data-save]')].map((it) => it.getBoundingClientRect().bottom)")
+        ends = page.browser.evaluate(
+            "[...document.querySelectorAll('#save [data-save]')].map((it) => it.getBoundingClientRect().bottom)")
         assert len(ends) == 4 and max(ends) < height, "a button that saves is below what is in sight: %s of %d" % (ends, height)
     page.browser.call("Emulation.clearDeviceMetricsOverride")
-    kept = page.browser.evaluate("[...document.querySelectorAll('meta[property], link[rel=icon]')].map((it) => it.content ?? it.href.slice(0, 19))")
+    kept = page.browser.evaluate(
+        "[...document.querySelectorAll('meta[property], link[rel=icon]')].map((it) => it.content ?? it.href.slice(0, 19))")
     assert len(kept) == 4 and kept[-1] == "data:image/svg+xml," and all(kept), "tags for icon and preview: %s" % kept
     asked = [it for it in page.browser.requests() if not it.startswith(("file://" + page.path, "blob:"))]
     assert not asked, "the page asked for %s" % asked[:3]
@@ -80,7 +85,8 @@ def first(page):
         page.picture("page")
         page.browser.call("Emulation.setScrollbarsHidden", hidden=False)
         page.browser.call("Emulation.clearDeviceMetricsOverride")
-    took = min(sum(map(sum, page.browser.tasks(functools.partial(page.set, "ppem", size)).values())) for size in ("17", "18", "19", "16"))
+    took = min(sum(map(sum, page.browser.tasks(functools.partial(page.set, "ppem", size)).values()))
+               for size in ("17", "18", "19", "16"))
     assert took <= PATIENCE, "a change of size takes %.0f ms of processor time" % took
 
 
@@ -129,7 +135,8 @@ def address(page):
     page.browser.until("location.hash.slice(1) === %s" % json.dumps(fragment), "writing the address")
     page.open("#" + fragment)
     assert page.browser.evaluate(values) == due, "another address than %s" % due
-    page.drawn_after(lambda: page.browser.evaluate("location.hash = 'ppem=9&dropout=x&zoom=999&beside=x&nothing=x'"), "another address")
+    page.drawn_after(lambda: page.browser.evaluate("location.hash = 'ppem=9&dropout=x&zoom=999&beside=x&nothing=x'"),
+                     "another address")
     left = {"dropout": "near", "beside": "larger"}  # these two have no x
     assert page.browser.evaluate(values) == {**plain, **left, "ppem": "9", "zoom": "24"}
     page.browser.evaluate("location.hash = 'ppem=x'")
@@ -174,7 +181,8 @@ def captions(page):
     for mode in MODES:
         page.set_mode(mode)
         dropout = 0 if mode & ~HINTED else DROPOUT_FONT
-        looks = (("hinted", (16, mode ^ HINTED)), ("dropout", (16, mode & HINTED | dropout)), ("larger", (17, mode)), ("smaller", (15, mode)))
+        looks = (("hinted", (16, mode ^ HINTED)), ("dropout", (16, mode & HINTED | dropout)), ("larger", (17, mode)),
+                 ("smaller", (15, mode)))
         for beside, other in looks if mode in (HINTED, DROPOUT_NEAR) else looks[:1]:
             page.set("beside", beside)
             made = {look: engine.answer(path, *look, "20-7e,100")[0] for look in ((16, mode), other)}
@@ -213,7 +221,8 @@ def strikes(page):
     paths = [(page.put(name, data), chars) for name, data, chars in made]
     paths += [(it, "20-5f") for k, it in enumerate(engine.damaged(page.folder)) if k in (1, 2, 5)]
     paths += [(it, "20-17f,2010-2030") for it in engine.spread(installed_fonts(), IN_BROWSER - len(paths))]
-    assert len({engine.answer(paths[0][0], 16, HINTED | it, paths[0][1])[0] for it in DROPOUTS}) == len(DROPOUTS), "no font tells the kinds apart"
+    assert len({engine.answer(paths[0][0], 16, HINTED | it, paths[0][1])[0] for it in DROPOUTS}) == len(
+        DROPOUTS), "no font tells the kinds apart"
     for k, (path, chars) in enumerate(paths):
         ppem = (16, 12, 23)[k % 3]
         page.drop(path)
@@ -236,7 +245,8 @@ def files(page):
     os.remove(gone)
     size, = struct.unpack_from(">L", font, 12 + 16 * (font[5] - 1) + 12)  # of the last table
     not_read = [(page.folder, "it is a folder"), (gone, "is gone"), (huge, "it has more than 67,108,864 bytes"),
-                ("cut.woff", engine.woff_of(font)[:-200], "a table of the WOFF is truncated"), ("head.woff", engine.woff_of(font)[:80], "the directory of the WOFF is truncated"),
+                ("cut.woff", engine.woff_of(font)[:-200], "a table of the WOFF is truncated"),
+                ("head.woff", engine.woff_of(font)[:80], "the directory of the WOFF is truncated"),
                 ("large.woff", engine.woff_of(font, length=64 << 20), "it unpacks to more than 67,108,864 bytes"),
                 ("bomb.woff", engine.woff_of(font, bytes(100 << 20), size), "does not unpack as its directory says"),
                 ("short.woff", engine.woff_of(font, bytes(size - 1), size), "does not unpack as its directory says")]
@@ -271,9 +281,10 @@ def fields(page):
     page.dropped("sample.ttf", sample_font.sample())
     said = []
     for field, value, due in (
-            ("ppem", "0", "a whole number from 1 to 1,024"), ("ppem", "5000", "a whole number from 1 to 1,024"), ("ppem", "12.5", "a whole number"),
-            ("ppem", "", "a whole number"), ("chars", "41-", '"41-"'), ("chars", "0-10000", "more than 65,536 characters"),
-            ("chars", "110000", "above 10FFFF"), ("chars", "A", "the letter A is 41"), ("chars", "", "the list of characters is empty")):
+            ("ppem", "0", "a whole number from 1 to 1,024"), ("ppem", "5000", "a whole number from 1 to 1,024"),
+            ("ppem", "12.5", "a whole number"), ("ppem", "", "a whole number"), ("chars", "41-", '"41-"'),
+            ("chars", "0-10000", "more than 65,536 characters"), ("chars", "110000", "above 10FFFF"),
+            ("chars", "A", "the letter A is 41"), ("chars", "", "the list of characters is empty")):
         before = page.value_of(field)
         page.change(field, value)
         page.browser.until("document.getElementById('%s-wrong').innerText.includes(%s)" % (field, json.dumps(due)),
@@ -290,8 +301,8 @@ def fields(page):
 
 
 def others(page):
-    """Refused characters are named, and left out, drawn without hinting or the end of the strike, as by the program. A program of the
-    font that halts refuses all."""
+    """Refused characters are named, and left out, drawn without hinting or the end of the strike, as by the program. A program of
+    the font that halts refuses all."""
     short = fonts.font_of([b"", SQUARE, SQUARE[:-5]], fonts.map_of([(0x41, 1), (0x42, 2)]))
     refused(page, page.put("short.ttf", short), "40-43", ["42"], (1, 1))
     page.set("chars", "42")
@@ -318,11 +329,12 @@ def others(page):
 
 
 def refused(page, path, chars, codes, lefts):
-    """Of a font that is chosen these characters are refused, and named in the words of docs/REFUSALS.md. `lefts` says how many are left
-    out, and how many still are if those whose programs halt are drawn without hinting."""
+    """Of a font that is chosen these characters are refused, and named in the words of docs/REFUSALS.md. `lefts` says how many are
+    left out, and how many still are if those whose programs halt are drawn without hinting."""
     page.drawn_after(lambda: page.browser.choose("#file", path), "drawing a font that was chosen")
     page.set("chars", chars)
-    rows = page.browser.evaluate("[...document.querySelectorAll('#refused-table tbody tr')].map((it) => [...it.cells].map((cell) => cell.innerText))")
+    rows = page.browser.evaluate(
+        "[...document.querySelectorAll('#refused-table tbody tr')].map((it) => [...it.cells].map((cell) => cell.innerText))")
     advice = {str(number): todo for number, _, _, todo in prebuilt.refusals()}
     for row, code in zip(rows, codes):
         line = engine.answer(path, 16, AT_FIRST, code)[1]
@@ -370,7 +382,8 @@ def told(page):
 def order(page):
     """The page is in the order of work; on a phone the picture is in sight at once, above the buttons that save."""
     ids = json.dumps(["file", "chars", "ppem", "main", "name", "sheet", "ladder"])
-    places = page.browser.evaluate("((all) => %s.map((id) => all.indexOf(document.getElementById(id))))([...document.querySelectorAll('*')])" % ids)
+    places = page.browser.evaluate(
+        "((all) => %s.map((id) => all.indexOf(document.getElementById(id))))([...document.querySelectorAll('*')])" % ids)
     assert -1 not in places and places == sorted(places), "another order: %s" % places
     page.browser.call("Emulation.setDeviceMetricsOverride", width=390, height=844, deviceScaleFactor=1, mobile=True)
     page.open()
@@ -386,7 +399,9 @@ def order(page):
 
 def faces(page):
     """Of a collection each font can be chosen, by its name if it has one."""
-    members = [fonts.FIXTURE, *(fonts.with_tables(it, name=table) for it, table in zip((sample_font.sample(), fonts.FIXTURE), (NAMED, NAMED_OF_OLD)))]
+    members = [fonts.FIXTURE,
+               *(fonts.with_tables(it, name=table)
+                 for it, table in zip((sample_font.sample(), fonts.FIXTURE), (NAMED, NAMED_OF_OLD)))]
     path = page.dropped("three.ttc", engine.collection_of(members))
     page.set("chars", "20-42")
     names = page.browser.evaluate("[...document.getElementById('face').options].map((it) => it.textContent)")
@@ -397,7 +412,8 @@ def faces(page):
 
 
 def sets(page):
-    """Each set by name, and each other name of one, is that of the program; of a set that the font lacks wholly the page saves nothing."""
+    """Each set by name, and each other name of one, is that of the program; of a set that the font lacks wholly the page saves
+    nothing."""
     path = SANS if os.path.exists(SANS) else SAMPLE
     page.drop(path)
     names = [name for table in ("SETS", "OTHERS") for name, _ in prebuilt.sets(table)]
@@ -413,7 +429,8 @@ def sets(page):
 
 def whole_font(page):
     """`all` is every character of the font, up to the last there can be."""
-    path = page.dropped("wide.ttf", fonts.font_of([b"", SQUARE], fonts.wide_map_of([(0x41, 1), (0xFFFF, 1), (0x1F600, 1), (0x10FFFF, 1)])))
+    path = page.dropped("wide.ttf",
+                        fonts.font_of([b"", SQUARE], fonts.wide_map_of([(0x41, 1), (0xFFFF, 1), (0x1F600, 1), (0x10FFFF, 1)])))
     page.browser.until("document.body.dataset.listed === '4'", "listing four characters")
     page.set("chars", "all")
     assert not page.compare(path, 16, AT_FIRST, "41,ffff,1f600,10ffff") and page.text_of("#sheet-count") == "4 glyphs"
@@ -432,7 +449,8 @@ def saves(page):
         strike = page.put("drawn.bdf", page.save("bdf")[1])
         name, data = page.save("png")
         due = subprocess.run([os.path.join(TOP, "tools/picture"), strike], capture_output=True, check=True).stdout
-        assert name == "drawn.png" and png.pixels_of(data) == png.pixels_of(due), "the sheet at %s is not what tools/picture draws" % ppem
+        assert name == "drawn.png" and png.pixels_of(data) == png.pixels_of(
+            due), "the sheet at %s is not what tools/picture draws" % ppem
         for what, ending in (("c", ".h"), ("gfx", "-gfx.h")):
             words = [sys.executable, "-c", ENCODE, strike, what, "8x_- %s" % ppem]
             due = engine.run(words, env={**os.environ, "PYTHONPATH": os.path.join(TOP, "python")}).stdout
@@ -448,19 +466,24 @@ def headers(page):
     """No name of a font's file ends the comment of a header: what is in it stays in it."""
     draw = random.Random(SEED)
     names = ["".join(draw.choices(ENDS, k=draw.randint(1, 6))) + " out of the comment " + draw.choice(ENDS) for _ in range(NAMES)]
-    made = page.browser.evaluate("%s.flatMap((it, k) => [arraysForC, gfxForC].map((write) => write({ glyphs: [{ code: 0x41, width: 1, height: 1, left: 0, "
-                                 "bottom: 0, dwidth: 1, offset: 0, stride: 1 }], pixels: Uint8Array.of(128) }, `n${k} ${it}`, 16, { ascent: 1, descent: 0 })))"
-                                 % json.dumps(names))
+    made = page.browser.evaluate(
+        "%s.flatMap((it, k) => [arraysForC, gfxForC].map((write) => write({ glyphs: [{ code: 0x41, width: 1, height: 1, left: 0, "
+        "bottom: 0, dwidth: 1, offset: 0, stride: 1 }], pixels: Uint8Array.of(128) }, `n${k} ${it}`, 16, { ascent: 1, descent: 0 "
+        "})))"
+        % json.dumps(names))
     about = [re.match(r"/\* 1 glyphs of ([ -~]*)(?= at 16 pixels per em, as )", it) for it in made]
     assert all(about) and not any(it in one.group(1) for one in about for it in "*/\\?")
     tool("cc")
     named = re.findall(r"(\w+)(?=\[\w*\](?:\[[^]]*\])? (?:PROGMEM )?= \{)", "".join(made))
     assert len(named) == 5 * NAMES
     uses = "".join("    n += (int)sizeof %s;\n" % it for it in named)
-    source = page.put("headers.c", ("%s%s\nint main(void) {\n    int n = 0;\n%s    return n == 0;\n}\n" % (GFX, "".join(made), uses)).encode())
+    source = page.put("headers.c",
+                      ("%s%s\nint main(void) {\n    int n = 0;\n%s    return n == 0;\n}\n" % (GFX, "".join(made), uses)).encode())
     for standard in ("c99", "c11", "gnu17"):
-        done = subprocess.run(["cc", "-std=" + standard, "-Wall", "-Wextra", "-Werror", "-fsyntax-only", source], capture_output=True, text=True, check=False)
-        assert not done.returncode, "with -std=%s: %s" % (standard, next((it for it in done.stderr.splitlines() if "error" in it), done.stderr))
+        done = subprocess.run(["cc", "-std=" + standard, "-Wall", "-Wextra", "-Werror", "-fsyntax-only", source],
+                              capture_output=True, text=True, check=False)
+        assert not done.returncode, "with -std=%s: %s" % (standard, next((it for it in done.stderr.splitlines() if "error" in it),
+                                                                         done.stderr))
 
 
 def outlines(page):
@@ -481,8 +504,9 @@ def outlines(page):
             assert numbers[:4] == due, "the numbers of U+%04X" % char
     page.picture("outline", True)
     # between two points off the curve is one on it, which has half a unit
-    ends = page.browser.evaluate("curvesOf({ points: [[0, 0], [3, 0], [3, 5], [0, 5]].map(([x, y]) => ({ x, y, on: false })), ends: [3] })"
-                                 "[0].pieces.map((it) => [it.end.x, it.end.y])")
+    ends = page.browser.evaluate(
+        "curvesOf({ points: [[0, 0], [3, 0], [3, 5], [0, 5]].map(([x, y]) => ({ x, y, on: false })), ends: [3] })"
+        "[0].pieces.map((it) => [it.end.x, it.end.y])")
     assert sorted(ends) == [[0, 2.5], [1.5, 0], [1.5, 5], [3, 2.5]], "the points between points off the curve: %s" % ends
 
 
@@ -499,18 +523,23 @@ def sizes(page):
                 seen = page.browser.evaluate(SIGHT_SCRIPT % (place, zoom))
                 left, top, rows = seen["left"], seen["top"], seen["rows"]
                 wrong = [(top + y, row) for y, row in enumerate(rows) if row != due[top + y][left:left + len(row)]]
-                assert not wrong, "the text at %d, zoom %d, after %s: %d rows in sight are wrong, as %s" % (ppem, zoom, place, len(wrong), wrong[0])
+                assert not wrong, "the text at %d, zoom %d, after %s: %d rows in sight are wrong, as %s" % (
+                    ppem, zoom, place, len(wrong), wrong[0])
                 if place == "scrollTop += 0":
-                    assert "1" in "".join(rows) or "1" not in "".join(due), "the text at %d, zoom %d, has no ink in sight" % (ppem, zoom)
+                    assert "1" in "".join(rows) or "1" not in "".join(due), "the text at %d, zoom %d, has no ink in sight" % (
+                        ppem, zoom)
                     page.picture("size%d-zoom%d" % (ppem, zoom))
-            assert (left + len(rows[0]), top + len(rows)) == (len(due[0]), len(due)), "the end of the text at %d, zoom %d, is not in sight" % (ppem, zoom)
+            assert (left + len(rows[0]), top + len(rows)) == (len(due[0]),
+                                                              len(due)), "the end of the text at %d, zoom %d, is not in sight" % (
+                                                                  ppem, zoom)
             assert page.text_of("#main-caption").endswith("%d \u00d7 %d pixels" % (len(due[0]), len(due)))
             compare_picture(page.save("text"), due, zoom)
             assert page.browser.evaluate(INK_SCRIPT), "the sheet at %d has no ink in sight" % ppem
 
 
 def compare_picture(saved, rows, zoom):
-    """A picture that was saved has these rows and a margin of 4 pixels; a pixel is a square of the zoom, or of 1 if the picture is large."""
+    """A picture that was saved has these rows and a margin of 4 pixels; a pixel is a square of the zoom, or of 1 if the picture is
+    large."""
     width, height = len(rows[0]) + 8, len(rows) + 8
     side, made = zoom if width * height * zoom * zoom <= MOST_PICTURE else 1, b""
     for row in [""] * 4 + rows + [""] * 4:
@@ -537,17 +566,21 @@ def rows_of(text, strike):
 
 def keys(page):
     """The page can be used by keys: every control can be reached, and the sheet has a chosen glyph."""
-    due = page.browser.evaluate("[...document.querySelectorAll('main button, main input, main select, main textarea, main [tabindex=\"0\"]')]"
-                                ".filter((it) => it.checkVisibility()).map((it) => it.id || it.dataset.save || it.className)")
+    due = page.browser.evaluate(
+        "[...document.querySelectorAll('main button, main input, main select, main textarea, main [tabindex=\"0\"]')]"
+        ".filter((it) => it.checkVisibility()).map((it) => it.id || it.dataset.save || it.className)")
     page.browser.evaluate("document.activeElement.blur(); window.scrollTo(0, 0)")
     reached = []
     for _ in range(2 * len(due)):
         page.browser.key("Tab", 9)
-        reached.append(page.browser.evaluate("(document.activeElement.id || document.activeElement.dataset.save || document.activeElement.className)"))
+        reached.append(
+            page.browser.evaluate(
+                "(document.activeElement.id || document.activeElement.dataset.save || document.activeElement.className)"))
     assert set(due) <= set(reached), "not reached by the key Tab: %s" % sorted(set(due) - set(reached))
     page.browser.evaluate("document.getElementById('sheet-scroll').focus()")
     names = []
-    for key, code in (("Home", 36), ("ArrowRight", 39), ("ArrowDown", 40), ("End", 35), ("ArrowLeft", 37), ("Home", 36), ("PageDown", 34),
+    for key, code in (("Home", 36), ("ArrowRight", 39), ("ArrowDown", 40), ("End", 35), ("ArrowLeft", 37), ("Home", 36),
+                      ("PageDown", 34),
                       ("PageUp", 33)):
         page.browser.key(key, code)
         names.append(page.text_of("#glyph-name"))
@@ -592,11 +625,14 @@ def large(page):
 
     def work():
         page.change("chars", "all")
-        page.browser.until("!document.getElementById('busy').hidden && document.getElementById('progress').value > 0", "progress", 20)
+        page.browser.until("!document.getElementById('busy').hidden && document.getElementById('progress').value > 0", "progress",
+                           20)
         page.picture("progress")
         page.browser.evaluate("{ window.ended = 0; const end = Worker.prototype.terminate; "
-                              "Worker.prototype.terminate = function () { ended++; end.call(this); }; document.getElementById('stop').click(); }")
-        assert page.text_of("#status") == "Stopped." and page.browser.evaluate("ended") == 1, "the work is not stopped: %s" % page.text_of("#status")
+                              "Worker.prototype.terminate = function () { ended++; end.call(this); }; "
+                              "document.getElementById('stop').click(); }")
+        assert page.text_of("#status") == "Stopped." and page.browser.evaluate(
+            "ended") == 1, "the work is not stopped: %s" % page.text_of("#status")
         page.set("ppem", "16", seconds=120)
         page.browser.until("document.getElementById('sheet-count').innerText === '20,000 glyphs'", "20,000 glyphs", 60)
     longest = max(page.browser.tasks(work)["page"])
@@ -635,7 +671,8 @@ def from_server(page):
         server.shutdown()
 
 
-STEPS = (first, order, controls, address, ladder, captions, strikes, files, kinds, fields, others, told, faces, sets, whole_font, saves, headers, outlines, sizes, keys, contrast, small,
+STEPS = (first, order, controls, address, ladder, captions, strikes, files, kinds, fields, others, told, faces, sets, whole_font,
+         saves, headers, outlines, sizes, keys, contrast, small,
          large, without_engine, from_server)
 
 

@@ -1,4 +1,5 @@
-"""A small stand-in for pytest, where that is not installed: what these tests use of fixtures, parametrize, skip, raises and -k, and no more.
+"""A small stand-in for pytest, where that is not installed: what these tests use of fixtures, parametrize, skip, raises and -k, and
+no more.
 
     PYTHONPATH=tests/lib/without_pytest python3 -m pytest tests/program -k face
 
