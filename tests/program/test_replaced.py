@@ -5,8 +5,8 @@ import re
 import subprocess
 import time
 
-import fonts
 import pytest
+from making import fonts
 from needs import compiled, tool
 from runs import memory_file, read_again
 

@@ -8,11 +8,11 @@ import subprocess
 import tarfile
 
 import engine
-import fonts
 import front
 import prebuilt
 import pytest
 from engine import SAMPLE, put, run
+from making import fonts
 from making.assembler import pushed
 from needs import real_font, tool
 from prebuilt import TOP
