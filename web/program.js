@@ -65,6 +65,10 @@ export function run(module, words, system) {
     fchmod: (file, mode) => done(() => system.fchmodSync(files[file], mode)),
     fchown: (file, owner, group) => done(() => system.fchownSync(files[file], owner >>> 0, group >>> 0)),
     fsync: (file) => done(() => system.fsyncSync(files[file])),
+    // no run calls these; they belong to files as the program's library has them
+    fdatasync: () => -1,
+    ftruncate: () => -1,
+    flock: () => -1,
     rename: (from, to) => done(() => system.renameSync(path(from), path(to))),
     unlink: (name) => done(() => system.unlinkSync(path(name))),
     __sysv_signal: () => 0n, // a closed pipe ends nothing here: the write fails
