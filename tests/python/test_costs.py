@@ -106,8 +106,7 @@ def test_start_of_the_command(tmp_path):
     """A small strike in BDF imports none of the modules that other formats and fonts need."""
     code = "import sys; before = set(sys.modules); from mkstrike.command import main; main(%r); print(*set(sys.modules) - before)"
     heavy = {"fontTools", "PIL", "typing", "difflib", "subprocess", "tempfile", "unicodedata", "importlib.metadata",
-             "mkstrike.carray",
-             "mkstrike.peers", "mkstrike.frames"}
+             "mkstrike.carray", "mkstrike.peers", "mkstrike.frames"}
     words = [SANS, "--chars", "ascii", "--quiet", "-o", str(tmp_path / "a.bdf")]
-    ran = subprocess.run([sys.executable, "-I", "-c", code % (words,)], capture_output=True, text=True, check=True)
+    ran = subprocess.run([sys.executable, "-c", code % (words,)], capture_output=True, text=True, check=True)
     assert not heavy & set(ran.stdout.split()) and (tmp_path / "a.bdf").stat().st_size > 1000

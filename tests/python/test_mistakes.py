@@ -262,9 +262,8 @@ def test_no_fontconfig(strike, monkeypatch):
 def test_redirected(tmp_path):
     """After > the file has the strike, and what is said is on standard error; a file that has something, as a log, gets the
     lines."""
-    program = os.path.join(os.path.dirname(sys.executable), "strike")
     due = mkstrike.Font(SANS).strike(16, "ascii", name="DejaVuSans").text
-    words = [program, SANS, "--chars", "ascii"]
+    words = [sys.executable, "-m", "mkstrike", SANS, "--chars", "ascii"]
     with open(tmp_path / "mine.bdf", "wb") as out:
         ran = subprocess.run(words, stdout=out, stderr=subprocess.PIPE, cwd=tmp_path, check=True)
     assert (tmp_path / "mine.bdf").read_bytes() == due and ran.stderr == b"standard output: 95 glyphs\n"

@@ -70,7 +70,7 @@ def test_blank_strikes(tmp_path):
 def test_symbols(tmp_path):
     """A font of symbols says where its characters begin, and --symbol takes them by the places of ASCII."""
     from fontTools.ttLib import TTFont
-    import fonts
+    from making import fonts
     font, out = TTFont(io.BytesIO(fonts.part_of(font_bytes(MONO), range(0x41, 0x44)))), io.BytesIO()
     cmap = font["cmap"].tables[0]
     cmap.cmap = {0xF000 + code: name for code, name in font.getBestCmap().items()}
