@@ -756,28 +756,29 @@ def test_lines_of_console(number, lib):
 
 @pytest.mark.parametrize("name", ["show", "console"])
 def test_words_of_examples(name, lib):
-    """Without their words or the font the examples end with 2, and with 1 after a refusal."""
+    """Without their words the examples end with 2, and with 1 without the font or after a refusal."""
     font = lib.part("DejaVuSans.ttf", range(0x20, 0x7F))
-    for words in ([], [font, "16"], [font, "16", "41", "x"], [lib.at("no font"), "16", "41"]):
+    for words in ([], [font, "16"], [font, "16", "41", "x"]):
         assert run([lib.at(name), *words], status=2).stdout == b""
+    assert run([lib.at(name), lib.at("no font"), "16", "41"], status=1).stdout == b""
     for ppem in ("0", "1025"):
         done = run([lib.at(name), font, ppem, "41"], status=1)
         assert (done.stdout, done.stderr) == (b"", b"refused: 60 BadSize\n")
 
 
 def test_numbers_of_show(lib):
-    """The box and the advance of a picture, the counts of a strike, and a range that is none, of which the first character is
-    shown."""
+    """The box and the advance of a picture, the counts of a strike, and ranges that are none."""
     path, shown, told = lib.at("bars.ttf"), b"##########\n" * 3, b"box 10 3 -2 0 advance 11\n"
     with open(path, "wb") as file:
         file.write(bars(12, -4))
-    for word, due in (("44", (shown, told)), ("44-43", (shown, told)), ("44-110000", (shown, told)),
-                      ("43", (b"#########\n" * 3, b"box 9 3 0 0 advance -10\n"))):
+    for word, due in (("44", (shown, told)), ("43", (b"#########\n" * 3, b"box 9 3 0 0 advance -10\n"))):
         done = run([lib.at("show"), path, "16", word])
         assert (done.stdout, done.stderr) == due
     for word, counts in (("41-ffff", b"glyphs 8 missing 65463\n"), ("41-41", b"glyphs 1 missing 0\n"),
                          ("10ffff-10ffff", b"glyphs 1 missing 0\n")):
         assert run([lib.at("show"), path, "16", word]).stderr == counts
+    for word in ("44-43", "44-110000", "44-", "-44"):
+        assert run([lib.at("show"), path, "16", word], status=2).stderr.startswith(b"usage: show ")
     assert run([lib.at("show"), path, "16", "42"], status=1).stderr == b"refused: 1 Missing\n"
 
 

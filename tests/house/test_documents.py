@@ -113,7 +113,7 @@ def test_each_tool_has_a_package():
 def test_each_picture_is_shown():
     """No picture is kept that no document shows."""
     shown = set()
-    for path in DOCUMENTS:
+    for path in (*DOCUMENTS, "docs/WEB.md"):
         with open(os.path.join(TOP, path), encoding="utf-8") as file:
             for block in (blocks_of_man if path.endswith(".1") else blocks_of_markdown)(file.read()):
                 if block.is_picture:

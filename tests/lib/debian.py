@@ -3,7 +3,8 @@
 COMPILER = "gcc, libc6-dev"
 ARM, BITMAPS = "gcc-aarch64-linux-gnu, libc6-dev-arm64-cross", "xfonts-utils"
 PACKAGES = {
-    **{it: it for it in ("bdf2psf", "chromium", "libfreetype6", "lintian", "otf2bdf", "pkg-config", "rustc", "valgrind", "xxd")},
+    **{it: it for it in ("bdf2psf", "chromium", "libfreetype6", "lintian", "love", "make", "otf2bdf", "pkg-config", "rustc", "strace",
+                         "valgrind", "xxd")},
     "AddressSanitizer": COMPILER, "cc": COMPILER, "c++": "g++", "clang": "clang, libclang-rt-dev", "go": "golang-go",
     "node": "nodejs", "tsc": "node-typescript",
     "aarch64-linux-gnu-gcc": ARM, "aarch64-linux-gnu-objdump": ARM, "qemu-aarch64": "qemu-user",
@@ -11,7 +12,7 @@ PACKAGES = {
     "bdftopcf": BITMAPS, "fonttosfnt": BITMAPS, "mkfontdir": BITMAPS, "ucs2any": BITMAPS, "fc-match": "fontconfig",
     "fc-scan": "fontconfig",
     "fontforge": "fontforge-nox", "grub-mkfont": "grub-common", "psfgettable": "kbd",
-    "Xvfb": "xvfb", "xlsfonts": "x11-utils", "xset": "x11-xserver-utils",
+    "unshare": "util-linux", "Xvfb": "xvfb", "xlsfonts": "x11-utils", "xset": "x11-xserver-utils",
     "pytest": "python3-pytest", "strike": "python3-fonttools, python3-pil, " + COMPILER,
     "DejaVuSans": "fonts-dejavu-core", "LiberationSans-Regular": "fonts-liberation",
 }
