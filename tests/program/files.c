@@ -1,6 +1,6 @@
-/* Preloaded before a program: refuses a call on the new file that it writes, and tells the file's mode. test_replaced.py builds and uses this.
+/* Preloaded before a program: refuses to store the new file that it writes, and tells the file's mode. test_replaced.py builds and uses this.
 
-   REFUSE=close     closing a file that was written to fails, as on a network disk that is full; fsync: storing it fails
+   REFUSE=fsync     storing a file that was written to fails, as on a network disk that is full
    TOLD=FD          the file's mode when it is given an owner, and at its first byte, goes to this open file, in octal, a line each */
 
 #define _GNU_SOURCE
@@ -41,10 +41,4 @@ ssize_t write(int fd, const void *bytes, size_t count) {
 
 int fsync(int fd) {
     return refuses("fsync", fd) ? -1 : (int)syscall(SYS_fsync, fd);
-}
-
-int close(int fd) {
-    int is_refused = refuses("close", fd);
-    int status = (int)syscall(SYS_close, fd);
-    return is_refused ? -1 : status;
 }

@@ -6,11 +6,9 @@ ghost use Rattle.fx_front.specs.Places.{kept_mode, standard};
 use crate::destination::Destination;
 use crate::paths::{beside_streams, folder_of, followed};
 use fx_words::has;
-use libc::close;
 use std::alloc::AllocError;
 use std::fs::{File, Metadata, Permissions};
 use std::io::{ErrorKind, Stdout, Write};
-use std::os::fd::IntoRawFd;
 use std::os::unix::fs::{MetadataExt, OpenOptionsExt, PermissionsExt, fchown};
 use std::random::RandomSource;
 use std::{fs, io};
@@ -204,11 +202,6 @@ fn kept_mode(mode: u32) -> u32
     mode % 0o1000
 }
 
-/// Stores an open file on its device, and closes it. Returns whether both went well.
-fn is_stored(file: File) -> bool {
-    file.sync_all().is_ok() && close(file.into_raw_fd()) == 0
-}
-
 impl<'a> Destination for Outlet<'a> {
     ghost use Rattle.std.specs.Prelude.{⊤, None};
 
@@ -230,7 +223,9 @@ impl<'a> Destination for Outlet<'a> {
         let (OpenOutput::New(file, made), Output::New(name, _)) = (new, &self.output) else {
             return true;
         };
-        if is_stored(file) && fs::rename(self.rt, made.as_str(), name.as_str()).is_ok() {
+        let is_stored = file.sync_all().is_ok();
+        drop(file);
+        if is_stored && fs::rename(self.rt, made.as_str(), name.as_str()).is_ok() {
             return true;
         }
         let _ = fs::remove_file(self.rt, made.as_str());
