@@ -12,7 +12,7 @@ const MOST_PATH = 4096;
 // Runs the compiled module with the words after the program's name. Returns the status.
 export function run(module, words, system) {
   const args = ['mkstrike', ...words].map((it) => new TextEncoder().encode(it)), files = [0, 1, 2];
-  let calls = null, errno = 0;
+  let calls = null, errno = 0, late = null; // `late` is a fault of a close
   const bytes = (at, size) => new Uint8Array(calls.memory.buffer, Number(at), Number(size));
   const view = (at) => new DataView(calls.memory.buffer, Number(at));
   const path = (at) => new TextDecoder().decode(bytes(at, MOST_PATH).subarray(0, bytes(at, MOST_PATH).indexOf(0)));
@@ -49,7 +49,11 @@ export function run(module, words, system) {
     fcntl: (file) => files.push(files[file]) - 1, // another number for the same file is all that it asks for
     close: (file) => done(() => {
       const [own] = files.splice(file, 1, undefined);
-      if (!files.includes(own)) system.closeSync(own);
+      try {
+        if (!files.includes(own)) system.closeSync(own);
+      } catch (fault) {
+        throw (late = fault);
+      }
     }),
     statx: (file, name, flags, mask, to) => done(() => {
       const how = { bigint: true }, isLink = flags & AT_SYMLINK_NOFOLLOW;
@@ -69,7 +73,11 @@ export function run(module, words, system) {
     fdatasync: () => -1,
     ftruncate: () => -1,
     flock: () => -1,
-    rename: (from, to) => done(() => system.renameSync(path(from), path(to))),
+    // a file that could not be closed gets no name: the program itself does not ask whether it was
+    rename: (from, to) => done(() => {
+      if (late) throw late;
+      system.renameSync(path(from), path(to));
+    }),
     unlink: (name) => done(() => system.unlinkSync(path(name))),
     __sysv_signal: () => 0n, // a closed pipe ends nothing here: the write fails
   };

@@ -14,11 +14,12 @@ from .charsets import character_sets, characters
 from .font import Font
 from .glyph import Glyph
 from .merge import merge
-from .refused import Missing, NotInstalled, Refused
+from .refused import Missing, NotInstalled, NotMade, Refused
 from .strike import Strike
 from .striker import Striker
 
-__all__ = ["Font", "Glyph", "Missing", "NotInstalled", "Refused", "Strike", "Striker", "character_sets", "characters", "merge"]
+__all__ = ["Font", "Glyph", "Missing", "NotInstalled", "NotMade", "Refused", "Strike", "Striker", "character_sets", "characters",
+           "merge"]
 
 
 def __getattr__(name: str) -> str:

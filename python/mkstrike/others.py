@@ -10,7 +10,7 @@ import warnings
 from typing import TYPE_CHECKING
 
 from .charsets import ranges
-from .refused import NotInstalled
+from .refused import NotInstalled, NotMade
 
 if TYPE_CHECKING:
     from .strike import Strike
@@ -62,7 +62,7 @@ def _made(program: str, package: str, strike: Strike, words: list[str], files: d
             with open(os.path.join(folder, "out"), "rb") as file:
                 data = file.read()
         except OSError as fault:
-            raise RuntimeError("%s made nothing: %s" % (program, said.split("\n")[-1] or fault)) from None
+            raise NotMade("%s made nothing: %s" % (program, said.split("\n")[-1] or fault)) from None
     for line in _warnings(said):
         warnings.warn("%s: %s" % (program, line), stacklevel=4)
     return data

@@ -111,6 +111,10 @@ class NotInstalled(RuntimeError):
     """A program or a module that is needed is not installed; the message names it and its Debian package."""
 
 
+class NotMade(RuntimeError):
+    """A program that is needed, as bdftopcf, made nothing of a strike; the message has its last line."""
+
+
 def kind_of(start: bytes) -> str | None:
     """What a file is by its first bytes, if it is no TrueType font that can be read, and what to do."""
     return next((said for first, said in _kinds() if (start.startswith(first) if first else not start)), None)

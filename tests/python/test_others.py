@@ -424,7 +424,7 @@ def converter(folder, monkeypatch, name, script):
 def test_converters_that_fail(tmp_path, monkeypatch, script, said):
     """What a program leaves that fails, or makes nothing, is not written."""
     converter(tmp_path, monkeypatch, "bdftopcf", script)
-    with pytest.raises(RuntimeError, match="bdftopcf made nothing: .*" + said):
+    with pytest.raises(mkstrike.NotMade, match="bdftopcf made nothing: .*" + said):
         mkstrike.Font(SANS).strike(16, "ascii").save(tmp_path / "a.pcf")
     assert os.listdir(tmp_path) == ["programs"]
 

@@ -44,15 +44,16 @@ def taken_name(it):
 
 
 def late_fault(it):
-    """A disk that is full only when the file is flushed: the older file stays, and no other."""
+    """A disk that is full only when the file is flushed or closed: the older file stays, and no other."""
     put(it.folder, "old.bdf", b"old")
     before = it.files()
-    fails = "() => { throw Object.assign(new Error('full'), { code: 'EDQUOT' }); }"
-    code = "require('node:fs').fsyncSync = %s;\nrequire('node:module').syncBuiltinESMExports();\n" % fails
-    script = put(it.folder, "full.cjs", code.encode())
-    status = it.run(MAKE[:-1] + ["old.bdf"], env={**os.environ, "NODE_OPTIONS": "--require=" + script})[0]
-    os.remove(script)
-    it.equal("a fault of fsync", (status, it.read("old.bdf") == b"old", it.files()), (1, True, before))
+    for call in ("fsyncSync", "closeSync"):
+        fails = "() => { throw Object.assign(new Error('full'), { code: 'EDQUOT' }); }"
+        code = "require('node:fs').%s = %s;\nrequire('node:module').syncBuiltinESMExports();\n" % (call, fails)
+        script = put(it.folder, "full.cjs", code.encode())
+        status = it.run(MAKE[:-1] + ["old.bdf"], env={**os.environ, "NODE_OPTIONS": "--require=" + script})[0]
+        os.remove(script)
+        it.equal("a fault of %s" % call, (status, it.read("old.bdf") == b"old", it.files()), (1, True, before))
 
 
 def setuid(it):

@@ -74,7 +74,8 @@ pub fn run_over<G: Tool, F: Files, O: Sink, E: Sink>(
 pub fn say_not_text<E: Sink>(alloc: Global, err: &mut E)
     ensures { SaysLine (change_of E.held E.fault_count err.old err.new) }
 {
-    let what = "an argument is not UTF-8 text: give a font with such a name on standard input";
+    let what =
+        "an argument is not UTF-8 text: read a font of such a name by < FONT, and write to such a name by > FILE";
     say(alloc, err, &[what]);
 }
 
