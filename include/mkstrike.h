@@ -141,7 +141,7 @@ uint32_t mkstrike_version(void);
 size_t mkstrike_reason(uint32_t number, char *text, size_t text_len);
 
 /* Writes what to do after a number that a call returned to `text`, as mkstrike_reason writes its name: one line in English, of at most
- * 90 bytes. It is empty for numbers that are no refusal. Say it to people; programs go by the number. */
+ * 90 bytes. It is empty for numbers that are no refusal. It is for people; programs should test the number. */
 size_t mkstrike_advice(uint32_t number, char *text, size_t text_len);
 
 /* A font at a size. */
@@ -151,15 +151,15 @@ struct mkstrike_font_info {
     uint32_t glyphs;         /* how many glyphs it has, at most 65,535 */
 };
 
-/* Tells about a font at a size of 1 to 1,024. */
+/* Gets a font's metrics at a size of 1 to 1,024. */
 uint32_t mkstrike_font(const uint8_t *font, size_t font_len, uint32_t face, uint16_t ppem, struct mkstrike_font_info *info,
     struct mkstrike_refused *refused);
 
-/* Tells how many fonts a file has: those of a collection, else 1. The fonts themselves are not checked. A collection whose header is
+/* Gets how many fonts a file has: those of a collection, else 1. The fonts themselves are not checked. A collection whose header is
  * damaged is refused by MKSTRIKE_NOT_TRUE_TYPE. */
 uint32_t mkstrike_faces(const uint8_t *font, size_t font_len, uint32_t *faces, struct mkstrike_refused *refused);
 
-/* Tells a name of a font, in UTF-8. `id` is its number in the table `name`: 1 is the family and 2 the style, as programs know them that list
+/* Gets a name of a font, in UTF-8. `id` is its number in the table `name`: 1 is the family and 2 the style, as programs know them that list
  * four styles a family. A family of more styles has 16 and 17 too; so ask for these first. 5 is the font's version.
  *
  * If the name and a 0 after it fit, the call writes both to the front of `text`, and what lies after them stays as it was; else it writes

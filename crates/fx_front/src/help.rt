@@ -21,7 +21,7 @@ pub const OVERVIEW: &str = "mkstrike makes a bitmap font (BDF 2.1) from a TrueTy
 
 Examples:
 
-    mkstrike make --ppem 16 --chars 20-7e font.ttf -o font.bdf
+    mkstrike make --ppem 16 --set ascii --dropout=font font.ttf -o font.bdf
     mkstrike show --ppem 16 --char 41 font.ttf
 
 Without FONT the font is read from standard input. Without -o the output goes to standard output. Without any argument the first
@@ -79,7 +79,7 @@ const MAKE: &str = "mkstrike make writes a strike: the bitmaps of characters at 
       -o FILE                 write to FILE, which appears only when it is complete; - is standard output, the default
       FONT                    the font's file; standard input by default
 
-    mkstrike make --ppem 16 --chars 20-7e font.ttf -o font.bdf
+    mkstrike make --ppem 16 --set ascii --dropout=font font.ttf -o font.bdf
 ";
 
 const SHOW: &str = "mkstrike show writes the picture of one glyph.
