@@ -2,8 +2,9 @@
 leave."""
 import os
 import re
+import resource
+import signal
 import subprocess
-import time
 
 import pytest
 from making import fonts
@@ -87,21 +88,20 @@ def test_leftovers(program, folder):
 
 
 def test_name_of_a_leftover(program, folder):
-    """Each killed run leaves at most one file, under another name each time, and the next run is done."""
-    words = ["make", "--ppem", "1000", "--chars", "0-ffff", "--refused", "leave-out", "-o", "out.bdf"]
-    data = fonts.with_tables(fonts.FIXTURE, cmap=fonts.wide_map_of((code, 1) for code in range(65536)))
-    (folder / "font.ttf").write_bytes(data)
+    """Each killed run leaves its file, under another name each time, and the next run is done."""
+    def may_write_few_bytes():
+        resource.setrlimit(resource.RLIMIT_CORE, (0, 0))
+        resource.setrlimit(resource.RLIMIT_FSIZE, (100, resource.RLIM_INFINITY))
+
     for count in (1, 2, 3):
-        with subprocess.Popen([program, *words, "font.ttf"], cwd=folder, stderr=subprocess.DEVNULL) as ran:
-            while len(left_in(folder)) < count and ran.poll() is None:
-                time.sleep(0.002)
-            ran.kill()
-        assert len(left_in(folder)) == count, "it was done before it was killed"
+        ran = subprocess.run([program, *MAKE], cwd=folder, input=fonts.FIXTURE, stdout=subprocess.DEVNULL,
+                             stderr=subprocess.DEVNULL, preexec_fn=may_write_few_bytes, check=False)
+        assert ran.returncode == -signal.SIGXFSZ and len(left_in(folder)) == count
     assert run(program, folder)[0] == 0 and len(left_in(folder)) == 3
 
 
 def left_in(folder):
-    """The files that are left in a folder beside the font and the output; each has the name that the man page says."""
-    names = set(os.listdir(folder)) - {"font.ttf", "out.bdf"}
+    """The files that are left in a folder beside the output; each has the name that the man page says."""
+    names = set(os.listdir(folder)) - {"out.bdf"}
     assert all(LEFT.fullmatch(name) for name in names), names
     return names
