@@ -3,8 +3,8 @@
 COMPILER = "gcc, libc6-dev"
 ARM, BITMAPS = "gcc-aarch64-linux-gnu, libc6-dev-arm64-cross", "xfonts-utils"
 PACKAGES = {
-    **{it: it for it in ("bdf2psf", "chromium", "libfreetype6", "lintian", "love", "make", "otf2bdf", "pkg-config", "rustc", "strace",
-                         "valgrind", "xxd")},
+    **{it: it for it in ("bdf2psf", "chromium", "libfreetype6", "lintian", "love", "make", "otf2bdf", "pkg-config", "rustc",
+                         "strace", "valgrind", "xxd")},
     "AddressSanitizer": COMPILER, "cc": COMPILER, "c++": "g++", "clang": "clang, libclang-rt-dev", "go": "golang-go",
     "node": "nodejs", "tsc": "node-typescript",
     "aarch64-linux-gnu-gcc": ARM, "aarch64-linux-gnu-objdump": ARM, "qemu-aarch64": "qemu-user",
