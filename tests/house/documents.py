@@ -170,7 +170,7 @@ class Document:
         """What is not installed that the block needs, or None."""
         needs = block.marks.get("needs", "").split() + (["Xvfb"] if "display" in block.marks else [])
         text = "\n".join(lines)
-        for tool in needs + (["strike"] if "python" in block.marks else []):
+        for tool in needs + (["strike"] if "python" in block.marks or "strike-python" in text else []):
             if not shutil.which(tool, path=self.tools + os.pathsep + os.environ["PATH"]):
                 return lacking(tool)
         for folder, name in FONT.findall(text):

@@ -3,6 +3,7 @@ import contextlib
 import io
 import os
 import re
+import shutil
 import subprocess
 import sys
 
@@ -36,6 +37,7 @@ def needs(module, package):
 
 needs_fonttools = needs("fontTools", "python3-fonttools")
 needs_pillow = needs("PIL", "python3-pil")
+needs_fontconfig = pytest.mark.skipif(not shutil.which("fc-list"), reason="fontconfig is not installed (Debian: fontconfig)")
 
 
 def program(words, font):

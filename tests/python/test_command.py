@@ -6,7 +6,8 @@ import subprocess
 import sys
 
 import pytest
-from shared import LIBERATION, MONO, SANS, TOP, font_bytes, needs_font, needs_pillow, strike_by_command as run, text_of
+from shared import LIBERATION, MONO, SANS, TOP, font_bytes, needs_font, needs_fontconfig, needs_pillow, text_of
+from shared import strike_by_command as run
 
 import mkstrike
 from mkstrike import command, options, report
@@ -117,6 +118,7 @@ def test_merging(tmp_path):
     assert out == "c/both-12.h: 97 glyphs\nc/both-16.h: 97 glyphs\n"
 
 
+@needs_fontconfig
 def test_mistakes(tmp_path):
     """A font that fails is status 1, and the others are made."""
     (tmp_path / "bad.ttf").write_bytes(b"OTTO" + bytes(100))

@@ -6,7 +6,7 @@ import subprocess
 import sys
 
 import pytest
-from shared import LIBERATION, MONO, SANS, font_bytes, needs, needs_font, needs_fonttools
+from shared import LIBERATION, MONO, SANS, font_bytes, needs, needs_font, needs_fontconfig, needs_fonttools
 
 import mkstrike
 from mkstrike import command
@@ -179,7 +179,8 @@ ROWS = [
 
 
 # What some of them need beside the package.
-NEEDED = {"a damaged WOFF2": [needs_fonttools, needs("brotli", "python3-brotli")], "axes of a plain font": [needs_fonttools]}
+NEEDED = {"a damaged WOFF2": [needs_fonttools, needs("brotli", "python3-brotli")], "axes of a plain font": [needs_fonttools],
+          **{it: [needs_fontconfig] for it in ("a file that is not there", "a family that is not there", "a style in the name")}}
 
 
 @pytest.fixture

@@ -186,6 +186,7 @@ def test_diff_with_a_font(tmp_path):
     assert run(tmp_path, "--diff", MONO, MONO, "--chars", "ascii", "--size", "30")[0] == "95 glyphs are the same\n"
 
 
+@needs_pillow
 @pytest.mark.parametrize("output, said", [("old.bdf", "old.bdf is read here, and would be replaced"),
                                           ("a.gif", "a.gif: the ending says no format"),
                                           ("a.h", "a.h is no name of a picture: give it the ending .png or .pbm")])
@@ -247,6 +248,7 @@ def test_help(tmp_path, monkeypatch):
     assert sorted(shown) == sorted([it.names[0] for it in OPTIONS] + ["-h", "--version"])
 
 
+@needs_pillow
 def test_examples(tmp_path):
     """The examples of the help run."""
     import shlex
