@@ -52,6 +52,7 @@ def gate_in(folder, ways, without=""):
     shutil.copy(os.path.join(TOP, ".ci/run"), folder / ".ci")
     env = {**os.environ, "PATH": "%s:/usr/bin:/bin" % (folder / "bin"), "NOTES": str(folder / "notes"),
            "TMPDIR": str(folder / "kept")}
+    env.pop("RT_JOBS", None)  # the gate that runs this test has it
     (folder / "kept").mkdir(exist_ok=True)
     return [str(folder / ".ci/run")], env
 
