@@ -23,13 +23,17 @@ __all__ = ["Font", "Glyph", "Missing", "NotInstalled", "NotMade", "Refused", "St
 
 
 def __getattr__(name: str) -> str:
-    """The release, `__version__`, read only if somebody asks: of the folder that pip or a package made beside this one."""
+    """The release, `__version__`, read only if somebody asks: of the folder that pip or a package made beside this one, or of the
+    checkout."""
     if name != "__version__":
         raise AttributeError("module %r has no attribute %r" % (__name__, name))
     import os
-    first, end = "mkstrike-", ".dist-info"
-    for it in os.listdir(os.path.dirname(os.path.dirname(os.path.abspath(__file__)))):
+    first, end, beside = "mkstrike-", ".dist-info", os.path.dirname(os.path.dirname(os.path.abspath(__file__)))
+    for it in os.listdir(beside):
         if it.startswith(first) and it.endswith(end):
             return it[len(first):-len(end)]
+    if os.path.exists(os.path.join(beside, "pyproject.toml")):
+        with open(os.path.join(beside, "../VERSION"), encoding="utf-8") as file:
+            return file.read().strip()
     from importlib import metadata  # which takes longer than all else
     return metadata.version("mkstrike")

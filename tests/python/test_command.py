@@ -175,3 +175,12 @@ def test_ascent(tmp_path, words, left, bottom):
     run(tmp_path, MONO, "--chars", "ascii", "--cell", "10x18", *words)
     strike = mkstrike.Strike.open(tmp_path / "DejaVuSansMono-16.bdf")
     assert (strike.ascent, strike.descent) == (left, bottom)
+
+
+def test_version(capsys):
+    """In a checkout the release is that of the file VERSION."""
+    with open(os.path.join(TOP, "VERSION"), encoding="utf-8") as file:
+        due = file.read().strip()
+    with pytest.raises(SystemExit):
+        command.main(["--version"])
+    assert capsys.readouterr().out == "strike of mkstrike %s\n" % due and mkstrike.__version__ == due
