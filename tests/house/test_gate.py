@@ -57,13 +57,20 @@ def gate_in(folder, ways, without=""):
     return [str(folder / ".ci/run")], env
 
 
+def as_from_a_terminal():
+    """No signal is ignored, as under nohup, or held back."""
+    for it in run_checks.ENDINGS:
+        signal.signal(it, signal.SIG_DFL)
+    run_checks.let_through()
+
+
 def gate(folder, ways, *words, without=""):
     """The status of the gate, the last lines of what it says, and the calls of the tools, in their order and without the log.
 
     That of `gate_time watch` is left out: the end of the gate may come before it notes anything."""
     command, env = gate_in(folder, ways, without)
     ran = subprocess.run(command + list(words), env=env, stdin=subprocess.DEVNULL, capture_output=True, text=True, timeout=60,
-                         check=False)
+                         preexec_fn=as_from_a_terminal, check=False)
     notes = (folder / "notes").read_text() if (folder / "notes").exists() else ""
     calls = re.sub(r" (--log )?/\S+/log", "", notes).splitlines()
     return ran.returncode, ran.stdout.splitlines()[-2:], [it for it in calls if it != "gate_time watch"]
@@ -124,7 +131,7 @@ def test_end_of_the_gate(ended, tmp_path):
     command, env = gate_in(tmp_path, {"run_checks*sources": "echo $$ > \"$NOTES.pid\"; exec sleep 100"})
     path = tmp_path / "notes.pid"
     quiet = {"stdout": subprocess.DEVNULL, "stderr": subprocess.DEVNULL}
-    with subprocess.Popen(command, env=env, preexec_fn=run_checks.let_through, **quiet) as process:
+    with subprocess.Popen(command, env=env, preexec_fn=as_from_a_terminal, **quiet) as process:
         while not path.exists() or not path.read_text():
             time.sleep(0.02)
         process.send_signal(number)
