@@ -96,6 +96,12 @@ class Library:
             file.write(fonts.part_of(open(found[0], "rb").read(), list(codes)) if found else fonts.FIXTURE)
         return path
 
+    def letters(self):
+        """A file with the ASCII of a real font, whose `A` has gaps at 16 pixels if it is Liberation Sans."""
+        name = "LiberationSans-Regular" if REAL["LiberationSans-Regular"] in self.real else "DejaVuSans"
+        real_font(name)
+        return self.part(name + ".ttf", range(0x20, 0x7F))
+
     def compile(self, compiler, source, name, *words):
         """Compiles a source to an object file."""
         run(compiler + C + list(words) + ["-c", os.path.join(TOP, source), "-o", self.at(name)])
@@ -611,8 +617,8 @@ def test_arm(lib):
 
 
 def test_examples(lib):
-    """The examples give what mkstrike gives, with the font's rule for gaps, which `A` has at this size."""
-    font = lib.part("LiberationSans-Regular.ttf", range(0x20, 0x7F))
+    """The examples give what mkstrike gives, with the font's rule for gaps."""
+    font = lib.letters()
     _, text, _ = lib.make(font, 16, EXAMPLES, 0x20, 0x7E)
     text = text.replace(b"FONT mkstrike\n", b"FONT strike\n")
     shows = [it for it in ("show", "show++") if os.path.exists(lib.at(it))]
@@ -646,7 +652,7 @@ def picture_of(bits):
 @pytest.mark.parametrize("ppem, line", [(16, "Aging glyphs."), (150, "Aj|"), (64, "A" + 40 * "_")])
 def test_console(lib, ppem, line):
     """examples/console.c draws the pixels of a strike's glyphs, as far as they are in its frame of 1,024 by 128."""
-    font = lib.part("LiberationSans-Regular.ttf", range(0x20, 0x7F))
+    font = lib.letters()
     strike, column, due = Strike(lib.make(font, ppem, EXAMPLES, 0x20, 0x7E)[1]), 0, set()
     for it in map(strike.get, line):
         due |= {(column + it.left + x, strike.ascent - it.top + y) for y, row in enumerate(it) for x, byte in enumerate(row)
@@ -660,7 +666,7 @@ def test_console(lib, ppem, line):
 
 def test_console_in_its_frame(lib):
     """AddressSanitizer sees no pixel outside the frame."""
-    font = lib.part("LiberationSans-Regular.ttf", range(0x20, 0x7F))
+    font = lib.letters()
     sources = [os.path.join(TOP, it) for it in ("examples/console.c", "c/calls.c", "c/arena.c")]
     sanitized([*sources, lib.archive], lib.at("console_asan"))
     for ppem, line in ((300, "gj|"), (100, "wider than the frame, by far")):
@@ -789,7 +795,7 @@ def rows_only(out):
 
 def test_commands_of_examples(unbuilt):
     """Each example, built and run in a checkout by the command that it shows."""
-    font, folder = unbuilt.part("LiberationSans-Regular.ttf", range(0x20, 0x7F)), unbuilt.at("checkout")
+    font, folder = unbuilt.letters(), unbuilt.at("checkout")
     pictured = b"".join(unbuilt.picture(font, 16, c) for c in "Aging")
     for name in ("include", "examples", "c"):
         shutil.copytree(os.path.join(TOP, name), os.path.join(folder, name))

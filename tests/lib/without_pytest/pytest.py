@@ -65,12 +65,13 @@ class mark:
     """The marks of tests."""
 
     @staticmethod
-    def parametrize(name, values, ids=None):
-        """A test for each value of an argument."""
-        values = list(values)
+    def parametrize(names, values, ids=None):
+        """A test for each value of an argument, or of several whose names have commas between."""
+        names, values = re.split(", *", names), list(values)
+        given = [dict(zip(names, it if len(names) > 1 else [it])) for it in values]
 
         def add(function):
-            function.values = name, values, ids or [getattr(it, "__name__", str(it)) for it in values]
+            function.given = list(zip(given, ids or [getattr(it, "__name__", str(it)) for it in values]))
             return function
         return add
 
@@ -137,12 +138,11 @@ class Tests:
         module = self.load(path)
         for name, function in [it for it in vars(module).items() if it[0].startswith("test_") and callable(it[1])]:
             where = "%s::%s" % (os.path.relpath(path), name)
-            if not hasattr(function, "values"):
+            if not hasattr(function, "given"):
                 yield where, functools.partial(self.call, function, path)
                 continue
-            argument, values, ids = function.values
-            for value, text in zip(values, ids):
-                yield "%s[%s]" % (where, text), functools.partial(self.call, function, path, **{argument: value})
+            for given, text in function.given:
+                yield "%s[%s]" % (where, text), functools.partial(self.call, function, path, **given)
 
 
 def is_wanted(name, expression):
