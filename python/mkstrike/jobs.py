@@ -138,7 +138,7 @@ class Job:
         """The formats of the files, or what else is written."""
         o = self.options
         modes = [name for name, is_given in ((table.SHEET, o.sheet is not None),
-                                             (table.LIST, o.list), (table.DIFF, o.diff)) if is_given]
+                                             (table.LIST, o.list), (table.FACES, o.faces), (table.DIFF, o.diff)) if is_given]
         if len(modes) > 1:
             raise ValueError("%s do two things: give one of them" % " and ".join(modes))
         if modes:

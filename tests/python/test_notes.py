@@ -45,7 +45,7 @@ def test_variable_fonts(tmp_path):
 @needs_fonttools
 def test_bitmaps_of_its_own(tmp_path):
     """A font that has bitmaps at this size says that they are not read; at another size it says nothing."""
-    size = struct.pack(">IIII24xHHBBBB", 56, 0, 0, 0, 0, 1, 12, 13, 1, 1)
+    size = struct.pack(">IIII24xHHBBBB", 56, 0, 0, 0, 0, 1, 13, 13, 1, 1)
     for tag in ("EBLC", "bloc"):
         data = with_table(built(MASTERS[0], 400), tag, struct.pack(">II", 0x00020000, 1) + size)
         assert tables.bitmap_sizes(data, 0) == {13}
@@ -122,6 +122,7 @@ def test_cff(tmp_path):
         made = mkstrike.Font(straight).strike(size, "41")
         assert made.text == mkstrike.Font(same).strike(size, "41", hinted=False).text and made.notes == (said,)
     assert told(tmp_path, straight, "--chars", "41") == [said]
+    assert mkstrike.faces(straight)[0][:2] == ("Made", "Regular")
     # a quarter of a circle of radius 1,000 by a cubic; its points are near those of the curve, worked out from its formula
     round_ = cubic([(0, 0), (1000, 0), ((1000, 552), (552, 1000), (0, 1000))], 1000)
     font = mkstrike.Font(round_)
