@@ -6,13 +6,14 @@ import os
 import re
 import sys
 
-from . import bdf, formats, options as table, sources
+from . import formats, options as table, sources
 from .charsets import mapped
 from .font import LOOK, Font, symbols
 from .merge import Part, Told, fitting, joined
 from .refused import Missing, shown
 from .strike import Strike
-from .values import axes_of, cell_of, characters_of, glyphs_of, is_empty_file, is_text, points_of, properties_of, sizes_of
+from .values import (axes_of, cell_of, characters_of, check_name, glyphs_of, is_empty_file, is_text, points_of, properties_of,
+                     sizes_of)
 
 TYPE_CHECKING = False  # as in glyph.py
 if TYPE_CHECKING:
@@ -170,7 +171,7 @@ class Job:
         if any(it is not None and it < 1 for it in (o.scale, o.columns)):
             raise ValueError("--scale and --columns are 1 or more")
         if o.name is not None:
-            bdf.check_name(o.name)
+            check_name(o.name)
         if o.output and not (self.is_of_one or "%s" in o.output and len(self.groups) == 1 and len(self.outputs) == 1):
             raise ValueError("-o FILE is one file: give one font, one format, and %s in its name for several sizes, or --out "
                              "FOLDER for many; fonts of one strike come after --font each")
