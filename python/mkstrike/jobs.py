@@ -7,7 +7,7 @@ import re
 import sys
 
 from . import formats, options as table, sources
-from .charsets import mapped
+from .charsets import mapped, ranges
 from .font import LOOK, Font, symbols
 from .merge import Part, Told, fitting, joined
 from .refused import Missing, shown
@@ -254,6 +254,7 @@ class Job:
             strike = self.alone(group[0], fonts[0], sizes[0], chars, text)
         self.refuse(strike)
         strike.notes += tuple(line for asked, font, size in zip(group, fonts, sizes) for line in asked.said(font, size))
+        strike.notes += self.uneven(strike, fonts[0])
         if self.fit or self.cell:
             strike = strike.cell(*(self.fit or self.cell or ()), ascent=o.ascent, clip=o.clip, join=bool(o.join or self.fit),
                                  wide=o.wide)
@@ -283,6 +284,24 @@ class Job:
             strike = font._strike_of(size, asked.given, name=name or asked.name(font), **how)
             strike.names = font.names if name is None else None
         return strike
+
+    def uneven(self, strike: Strike, font: Font | Strike) -> tuple[str, ...]:
+        """A line that names the characters by which X11 takes a font of equal advances for one of many."""
+        if not self.with_spacing or self.cell or self.fit or isinstance(font, Strike) or not font.names.is_monospace:
+            return ()
+        entries = strike.parsed().entries
+        widths = [it.dwidth for it in entries.values()]
+        usual = max(set(widths), key=widths.count, default=0)
+        other = [code for code, it in entries.items() if it.dwidth != usual]
+        if not other or "SPACING" in self.properties:
+            return ()
+        return ("SPACING is P, since the advance of %s is not that of the others: --unhinted or --cell can make all equal, "
+                "--property SPACING=C says what you know" % ranges(other, 8),)
+
+    @property
+    def with_spacing(self) -> bool:
+        """Whether files have the properties of X11."""
+        return bool(self.options.x11) or bool({"pcf", "otb"} & set(self.outputs))
 
     def drawn(self, strike: Strike) -> str:
         """The text of a preview as a strike can draw it: another character stands for one that is not there, if the strike has

@@ -4,7 +4,7 @@ import struct
 import warnings
 
 import pytest
-from shared import MONO, SANS, flags, font_bytes, needs_font, needs_fonttools, program, run_in_process
+from shared import LIBERATION, MONO, SANS, flags, font_bytes, needs_font, needs_fonttools, program, run_in_process
 from test_font_files import MASTERS, built
 
 import mkstrike
@@ -176,3 +176,17 @@ def test_refused_by_the_command(tmp_path, words, status, said):
     """The status, and that no file is there if it is 1."""
     found, _, err = run_in_process([SANS, *words, "--quiet"] if "--preview" not in words else [SANS, *words], tmp_path)
     assert found == status and said in err and bool(list(tmp_path.iterdir())) == (not status and "--preview" not in words), err
+
+
+@needs_font(LIBERATION, SANS)
+def test_uneven_advances(tmp_path):
+    """At 10 pixels the cent sign of Liberation Mono has an advance of its own: with the properties of X11 a line says so."""
+    said = ("SPACING is P, since the advance of U+00A2 is not that of the others: --unhinted or --cell can make all "
+            "equal, --property SPACING=C says what you know")
+    data = font_bytes(LIBERATION)
+    widths = {char: it.advance for char, it in mkstrike.Font(data).strike(10, "latin-1").items()}
+    assert {char for char, it in widths.items() if it != 6} == {"¢"}
+    assert told(tmp_path, data, "--size", "10", "--x11") == told(tmp_path, data, "--size", "10", "--x11", "--name", "x") == [said]
+    for words in ([], ["--x11", "--unhinted"], ["--x11", "--cell", "6x12", "--clip"], ["--x11", "--property", "SPACING=C"]):
+        assert said not in told(tmp_path, data, "--size", "10", *words)
+    assert told(tmp_path, font_bytes(SANS), "--size", "10", "--x11") == []
