@@ -123,7 +123,7 @@ export function showRung(look, k) {
 export function sayOfRung(told, k) {
   const without = told?.without == null ? '' : `, ${told.without} without drop-out control`;
   $('ladder').children[k].lastChild.textContent = told?.letters
-    ? `${told.width} × ${told.height}: ${told.apart} of ${told.letters} letters and digits fall apart${without}` : '';
+    ? `${told.width} × ${told.height}: ${told.apart} of ${told.letters} fall apart${without}` : '';
 }
 
 export function showLadder() {

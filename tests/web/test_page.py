@@ -169,12 +169,12 @@ def ladder(page):
                                             "it.lastChild].map(({ textContent }) => textContent))"):
         with_control, without = (Strike(engine.answer(path, int(size), mode, LETTERS)[0]) for mode in (DROPOUT_FONT, 0))
         apart = [sum(not 1 <= parts(it) <= whole[char] for char, it in made.items()) for made in (with_control, without)]
-        assert said == "%d × %d: %d of 62 letters and digits fall apart, %d without drop-out control" % (
+        assert said == "%d × %d: %d of 62 fall apart, %d without drop-out control" % (
             max(it.advance for it in with_control.values()), with_control.ascent + with_control.descent, *apart)
     page.set("dropout", "off")
     page.browser.until("document.body.dataset.ladder === `${document.body.dataset.drawn} 17`", "a ladder without drop-out control")
     said = page.text_of("#ladder > div:last-child span")
-    assert re.fullmatch(r"\d+ × \d+: %d of 62 letters and digits fall apart" % apart[1], said)
+    assert re.fullmatch(r"\d+ × \d+: %d of 62 fall apart" % apart[1], said)
     page.set("dropout", "font")
     page.drawn_after(lambda: page.browser.evaluate("document.querySelectorAll('#ladder button')[3].click()"), "choosing a size")
     assert (page.value_of("ppem"), page.value_of("ppem-slider")) == ("11", "11")
