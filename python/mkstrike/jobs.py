@@ -286,7 +286,7 @@ class Job:
         return strike
 
     def uneven(self, strike: Strike, font: Font | Strike) -> tuple[str, ...]:
-        """A line that names the characters by which X11 takes a font of equal advances for one of many."""
+        """A line that names the characters whose advances make X11 take a monospaced font for a proportional one."""
         if not self.with_spacing or self.cell or self.fit or isinstance(font, Strike) or not font.names.is_monospace:
             return ()
         entries = strike.parsed().entries
