@@ -36,6 +36,16 @@ def edge_of(strike, char, side, width):
     return frozenset(y if at[0] is not None else x for x, y in found if x == at[0] or y == at[1])
 
 
+def runs(places):
+    """The lines that end at places of an edge: places that are next to each other."""
+    found = []
+    for it in sorted(places):
+        if not found or it - 1 not in found[-1]:
+            found.append(set())
+        found[-1].add(it)
+    return found
+
+
 def test_names():
     """The names are read as they mean."""
     assert arms("┍") == {"down": "light", "right": "heavy"} and arms("╔") == {"down": "double", "right": "double"}
@@ -61,7 +71,7 @@ def test_frames_join(path, cell):
     for (char, side), places in ends.items():
         for (other, facing), beyond in ends.items():
             if facing == OPPOSITE[side] and arms(char)[side] == arms(other)[facing]:
-                assert places & beyond, "%s and %s, %s" % (char, other, side)
+                assert all(it & beyond for it in runs(places)), "%s and %s, %s" % (char, other, side)
 
 
 @needs_font(MONO)
