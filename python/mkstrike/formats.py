@@ -149,7 +149,7 @@ def _replace(path: str, old: os.stat_result | None, data: bytes) -> None:
     path_of_file = os.path.realpath(path)  # a link stays one
     if not os.path.isdir(os.path.dirname(path_of_file)):
         raise FileNotFoundError(errno.ENOENT, "there is no folder for it", path)
-    new = os.path.join(os.path.dirname(path_of_file), ".%s.new" % os.urandom(8).hex())
+    new = os.path.join(os.path.dirname(path_of_file), ".mkstrike-" + os.urandom(8).hex())
     mode = old.st_mode & 0o700 if old else 0o666
     try:
         with open(new, "xb", opener=lambda name, flags: os.open(name, flags, mode)) as file:

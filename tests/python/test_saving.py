@@ -154,7 +154,7 @@ def test_system_calls(tmp_path):
     assert ran.returncode == 0, ran.stderr
     calls = (tmp_path / "calls").read_text()
     wanted = [r'openat\(AT_FDCWD, "link.bdf", O_WRONLY\|O_CLOEXEC\) += (\d+)',
-              r'openat\(AT_FDCWD, "[^"]*\.new", O_WRONLY\|O_CREAT\|O_EXCL[^=]*= (\d+)',
+              r'openat\(AT_FDCWD, "[^"]*/\.mkstrike-[0-9a-f]{16}", O_WRONLY\|O_CREAT\|O_EXCL[^=]*= (\d+)',
               r"fchmod\(\2, ", r'write\(\2, "new", 3\)', r"fsync\(\2\)", r"close\(\2\)", r"rename[^\n]*a\.bdf", r"close\(\1\)"]
     assert re.search(".*\n".join(wanted), calls[calls.index("link.bdf") - 20:]), calls[-1000:]
 
