@@ -8,7 +8,6 @@ import subprocess
 import sys
 
 import pytest
-from debian import lacking_font
 
 import mkstrike
 from mkstrike import _library, command
@@ -20,6 +19,7 @@ SANS = FOLDER + "dejavu/DejaVuSans.ttf"
 MONO = FOLDER + "dejavu/DejaVuSansMono.ttf"
 LIBERATION = FOLDER + "liberation/LiberationMono-Regular.ttf"
 sys.path += [os.path.join(TOP, it) for it in ("tests/lib", "tests/program", "suite", "tools")]
+from debian import lacking_font  # noqa: E402
 
 
 def needs_font(*paths):
