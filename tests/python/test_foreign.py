@@ -158,7 +158,7 @@ def test_room(tmp_path):
     far = opened(tmp_path, text([(65, *filled(8, 8, 60000, 60000)), (66, *filled(8, 8))]))
     with pytest.raises(ValueError, match="more than 67,108,864"):
         far.encode("c")
-    pytest.importorskip("PIL")
+    pytest.importorskip("PIL", reason="PIL is not installed (Debian: python3-pil)")
     with pytest.raises(ValueError, match="a picture of .* one has at most 268,435,456"):
         far.sheet()
 

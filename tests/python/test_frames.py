@@ -3,7 +3,7 @@ import os
 import unicodedata
 
 import pytest
-from shared import FOLDER, LIBERATION, MONO, needs_font, strike_by_command
+from shared import FOLDER, LIBERATION, MONO, font_at, needs_font, strike_by_command
 
 import mkstrike
 
@@ -59,9 +59,7 @@ def test_names():
 def test_frames_join(path, cell):
     """Each line that reaches an edge meets each line of its kind that comes from the other side; a double one with both of its
     lines."""
-    if not os.path.exists(path):
-        pytest.skip("%s is not installed" % path)
-    font = mkstrike.Font(path)
+    font = font_at(path)
     made = font.strike(font.fit(*cell, "ascii,box"), "ascii,box").cell(*cell, join=True)
     assert not made.outside and {it.advance for it in made.values()} == {cell[0]}
     there = [it for it in BOX if it in made]
