@@ -3,7 +3,6 @@ from __future__ import annotations
 
 import contextlib
 import os
-import signal
 import time
 from collections import deque
 from collections.abc import Callable, Iterator, Sequence
@@ -81,6 +80,7 @@ def _pieces(tasks: Sequence[Task], jobs: int) -> Iterator[Sequence[Task]]:
 
 def _ahead(pool: Executor, pieces: Sequence[Sequence[Task]], most: int) -> Iterator[Any]:
     """What the processes make of pieces, in order; only so many pieces are in memory."""
+    import signal
     waiting: deque[Future[list[Any]]] = deque()
     for piece in pieces:
         before = signal.pthread_sigmask(signal.SIG_BLOCK, {signal.SIGINT})  # so it stays in the processes that begin here
@@ -102,6 +102,7 @@ _is_ended = False
 def _begin(make: Make, parent: int) -> None:
     """Begins a process, which ends if the one that began it is killed."""
     global _make
+    import signal
     _make = make
     signal.signal(signal.SIGTERM, _end)
     with contextlib.suppress(AttributeError, OSError):
