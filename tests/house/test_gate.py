@@ -145,7 +145,7 @@ def test_end_of_the_gate(ended, tmp_path):
 TARGETS = {
     "test": ["tools/run_checks --stale sources program"], "test-long": ["tools/run_checks long"], "gate": [".ci/run"],
     "dist": ["tools/make_dist"], "packages": ["packaging/build"], "planted": ["tools/try_planted"],
-    "mutants": ["tools/mutate --sample 300 python suite reference judges c examples web"],
+    "mutants": ["tools/mutate --sample 300 python suite reference judges c examples bench web"],
     "all": ["cd crates/mkstrike && rt all check --jobs $(../../tools/gate_time lanes)",
             "cd crates/mkstrike && rt run <stdin >/dev/null"],
 }
