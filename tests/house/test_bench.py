@@ -22,6 +22,7 @@ def module(name):
 
 
 RUN, DESK = module("run"), module("desk")
+KINDS = ("Instructions", "Processor time", "Memory")
 
 
 def bench(beside="kept"):
@@ -119,3 +120,93 @@ def test_cost(tmp_path):
     used, elapsed, memory, files = DESK.cost(words, "text", str(tmp_path / "made"))
     assert 0.2 <= used <= elapsed + 1 and elapsed >= 0.2 and 2 < memory < 100 and files == 2
     assert (tmp_path / "made/b").read_text(encoding="utf-8") == "text"
+
+
+def test_cost_of_bench(tmp_path):
+    """What a command costs is read from callgrind's log and from what `measure` prints; a command that fails costs nothing."""
+    made, calls = bench(), []
+    made.folder = str(tmp_path)
+    (tmp_path / "valgrind").write_text("==1== Collected : 2500000\n", encoding="utf-8")
+
+    def ran(words, **_):
+        calls.append(words)
+        return SimpleNamespace(returncode=status if words[0] == "valgrind" else 0, stdout="0 111 2500 4096 7\n")
+
+    with mock.patch.object(RUN.subprocess, "run", ran), contextlib.redirect_stderr(io.StringIO()) as err:
+        for status, words, due in ((0, ["a", "b"], True), (8, ["otf2bdf"], True), (8, ["a"], False), (1, ["otf2bdf"], False)):
+            assert made.cost(words, os.devnull) == ({"Instructions": 2.5, "Processor time": 2.5, "Memory": 4.096} if due else None)
+    assert calls[0][0] == "valgrind" and calls[0][-2:] == ["a", "b"]
+    assert calls[1] == [str(tmp_path / "measure"), "2", os.devnull, "/dev/null", str(tmp_path / "errors"), "a", "b"]
+    assert err.getvalue() == "bench: status 8: \nbench: status 1: \n"
+
+
+def test_row():
+    """Ours and FreeType's at each size, without drop-out control and with it; what fails is left out."""
+    made = bench()
+    with mock.patch.object(made, "without_refused", lambda font, chars, ppem, mode: (chars + ",x", 7)), mock.patch.object(
+            made, "cost", lambda words, font: None if "12" in words and "--dropout=near" in words else (words[0], font)):
+        found, glyphs = made.row("a.ttf", "20", [9, 12], ["hinted"])
+    ours, theirs = ("/p", "a.ttf"), ("/f/yardstick", "a.ttf")
+    assert glyphs == 7 and found == {("hinted", 9, False): (ours, theirs), ("hinted", 9, True): (ours, theirs),
+                                     ("hinted", 12, False): (ours, theirs)}
+
+
+def printed(made, *words):
+    """What a program of the bench returns and prints on both outputs."""
+    with contextlib.redirect_stdout(io.StringIO()) as out, contextlib.redirect_stderr(io.StringIO()) as err, mock.patch.object(
+            sys, "argv", ["it", *words]):
+        return made.main(), out.getvalue(), err.getvalue()
+
+
+def test_run():
+    """The tables of the fonts that are asked for; a font and a program that are missing are named."""
+    asked = []
+
+    def row(self, *words):
+        asked.append((self.beside, self.dropout, self.times, *words))
+        return {(mode, size, more): ({it: 1.0 for it in KINDS}, {it: 4 - 2 * more for it in KINDS})
+                for mode in words[3] for size in words[2] for more in (False, True)}, 1234
+
+    with mock.patch.object(RUN.subprocess, "run"), mock.patch.object(RUN.Bench, "row", row), mock.patch.object(
+            RUN, "about", lambda program: "of " + program), mock.patch.object(RUN.shutil, "which", lambda it: it != "otf2bdf"):
+        with mock.patch.object(RUN, "FONTS", [("A", "/dev/null", "fonts-a", "20"), ("B", "/none", "fonts-b", "21")]):
+            status, out, err = printed(RUN, "--program", sys.executable, "--sizes", "8 16", "--modes", "hinted", "--times", "5")
+            assert printed(RUN, "--program", sys.executable, "--fonts", "B")[1:][1].startswith("bench: /none is missing")
+        other = printed(RUN, "--program", sys.executable, "--font", "/dev/null", "--chars", "41", "--beside", "twice",
+                        "--dropout", "near")
+        assert printed(RUN, "--program", sys.executable, "--beside", "otf2bdf") == (1, "", "bench: there is no otf2bdf\n")
+        assert printed(RUN, "--program", "/none") == (1, "", "bench: there is no /none\n")
+    assert asked == [("kept", "--dropout=left", 5, "/dev/null", "20", [8, 16], ["hinted"]),
+                     ("twice", "--dropout=near", 3, "/dev/null", "41", [8, 16, 64, 128], ["hinted", "unhinted"])]
+    assert (status, err) == (0, "bench: A\nbench: /none is missing (Debian: fonts-b) and left out\n")
+    assert out.startswith("of %s\n\n**Instructions, mkstrike to FreeType; in parentheses mkstrike's, in millions**\n\n"
+                          "| Font, glyphs | hinted, 8 | hinted, 16 |\n|---|---|---|\n| A, 1,234 | 0.25 (1.0) | 0.25 (1.0) |\n"
+                          % sys.executable)
+    assert [line for line in out.split("\n") if line.startswith("**")][1:] == [
+        "**%s to FreeType; in parentheses mkstrike's, in %s**" % it for it in (
+            ("Instructions, mkstrike with `--dropout=left`", "millions"), ("Processor time, mkstrike", "ms"),
+            ("Memory, mkstrike", "MB"))]
+    assert out.count("0.50 (1.0)") == 2 and "mkstrike with `--dropout=near` to FreeType in two passes" in other[1]
+
+
+def test_desk(tmp_path):
+    """The best of several runs of each command, in turn."""
+    (tmp_path / "a.ttf").write_bytes(bytes(2500000))
+    seen, number = [], iter(range(1, 100))
+
+    def cost(words, data, folder):
+        seen.append((words[0], data.count("\n"), os.path.basename(folder)))
+        return 10.0 - next(number), float(len(seen)), 12.0, 2
+
+    with mock.patch.object(DESK.subprocess, "run", return_value=SimpleNamespace(stdout="-lfreetype")) as ran, mock.patch.object(
+            DESK, "cost", cost), mock.patch.object(DESK, "ENVIRONMENT", {}) as environment:
+        status, out, err = printed(DESK, "--from", str(tmp_path), "--sizes", "9 12", "--jobs", "1", "--times", "2")
+    assert (status, err) == (0, "") and seen == [(sys.executable, 0, "made"), ("xargs", 6, "made"), ("xargs", 6, "made")] * 2
+    assert out == ("1 fonts, 2 MB, at 9, 12 pixels, characters 20-17f\n\n"
+                   "| Command | Processor time, s | Elapsed, s | Largest process, MB | Files |\n|---|---|---|---|---|\n"
+                   "| `strike --jobs 1` | 6.0 | 1.0 | 12 | 2 |\n| `mkstrike make` under `xargs -P 1` | 5.0 | 2.0 | 12 | 2 |\n"
+                   "| FreeType under `xargs -P 1` | 4.0 | 3.0 | 12 | 2 |\n")
+    assert [it[0][0][0] for it in ran.call_args_list] == ["pkg-config", "cc", "sh"]
+    assert ran.call_args_list[1][0][0][-1] == "-lfreetype" and all(it[1]["check"] for it in ran.call_args_list)
+    assert environment["PYTHONPATH"] == os.path.join(TOP, "python") and set(environment) == {
+        "PYTHONPATH", "MKSTRIKE_LIBRARY", "PYTHONPYCACHEPREFIX"}
