@@ -27,8 +27,12 @@ KINDS = ("Instructions", "Processor time", "Memory")
 
 def bench(beside="kept"):
     """A bench in the folder /f that builds nothing."""
-    with mock.patch.object(RUN.subprocess, "run"):
-        return RUN.Bench(SimpleNamespace(program="/p", beside=beside, times=2, dropout="near"), "/f")
+    with mock.patch.object(RUN.subprocess, "run", return_value=SimpleNamespace(stdout="-lfreetype -la")) as ran:
+        made = RUN.Bench(SimpleNamespace(program="/p", beside=beside, times=2, dropout="near"), "/f")
+    assert [(it[0][0], it[1]) for it in ran.call_args_list[1:]] == [
+        (["cc", "-O2", "-o", "/f/" + name, os.path.join(TOP, "bench", name + ".c"), *more], {"check": True})
+        for name, more in (("measure", ["-static"]), ("yardstick", ["-lfreetype", "-la"]))]
+    return made
 
 
 def test_ours():
@@ -59,6 +63,7 @@ def test_refused(case):
     with mock.patch.object(RUN.subprocess, "run", return_value=SimpleNamespace(stderr=said)) as ran:
         chars, count = bench().without_refused(os.devnull, "20-7e,41", 9, "hinted")
     assert count == 95 and ran.call_args[0][0][-2:] == ["--refused", "leave-out"]
+    assert ran.call_args[1]["text"] and ran.call_args[1]["check"]
     ends = [(it.split("-") * 2)[:2] for it in chars.split(",")], [(it.split("-") * 2)[:2] for it in due.split(",")]
     assert ends[0] == ends[1]
 
@@ -84,6 +89,19 @@ def test_first_line():
     words = [sys.executable, "-c", "print('one 2.5'); print('two')"]
     assert RUN.first_line(words) == "one 2.5" and RUN.first_line(words, r"t(w.)") == "wo"
     assert RUN.first_line(words, "x(y)") == RUN.first_line(["/none"]) == "unknown"
+
+
+def test_about():
+    """The line above the tables names the day, the machine, the versions, and the program by its checksum, here that of "abc"."""
+    def opened(path, *_, **__):
+        return io.StringIO("processor : 0\nmodel name\t: A chip\n") if path == "/proc/cpuinfo" else io.BytesIO(b"abc")
+
+    with mock.patch.object(RUN, "open", opened, create=True), mock.patch.object(
+            RUN, "first_line", lambda words, *_: words[-1][-9:]):
+        found = RUN.about("/p")
+    assert found[4:5] + found[7:8] + found[10:11] + found[13:14] == "-- :" and found[16:] == (
+        " UTC, A chip, FreeType freetype6, otf2bdf otf2bdf, valgrind valgrind; mkstrike of sha256 ba7816bf8f01 in a checkout at "
+        "--dirty.")
 
 
 def test_chosen(tmp_path):
@@ -128,8 +146,11 @@ def test_cost_of_bench(tmp_path):
     made.folder = str(tmp_path)
     (tmp_path / "valgrind").write_text("==1== Collected : 2500000\n", encoding="utf-8")
 
-    def ran(words, **_):
+    def ran(words, **how):
         calls.append(words)
+        if words[0] == "valgrind":
+            how["stderr"].write(b"1 2 3 4 5 6\n7 8 9 10 11 12 13")
+        assert words[0] == "valgrind" or how["text"] and how["capture_output"] and how["check"]
         return SimpleNamespace(returncode=status if words[0] == "valgrind" else 0, stdout="0 111 2500 4096 7\n")
 
     with mock.patch.object(RUN.subprocess, "run", ran), contextlib.redirect_stderr(io.StringIO()) as err:
@@ -137,7 +158,7 @@ def test_cost_of_bench(tmp_path):
             assert made.cost(words, os.devnull) == ({"Instructions": 2.5, "Processor time": 2.5, "Memory": 4.096} if due else None)
     assert calls[0][0] == "valgrind" and calls[0][-2:] == ["a", "b"]
     assert calls[1] == [str(tmp_path / "measure"), "2", os.devnull, "/dev/null", str(tmp_path / "errors"), "a", "b"]
-    assert err.getvalue() == "bench: status 8: \nbench: status 1: \n"
+    assert err.getvalue() == "".join("bench: status %d: 1 2 3 4 5 6 7 8 9 10 11 12\n" % it for it in (8, 1))
 
 
 def test_row():

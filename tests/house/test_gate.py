@@ -175,7 +175,7 @@ TOOLS = {
     "program": ["suite/run --every --with suite/adapters/mkstrike --show 20 --jobs 1", "suite/make --check --reference",
                 "suite/wrong_readings.py --cover", "suite/check_runner"],
     "long": ["tools/fuzz_c --seconds 40", "tools/damage --count 10000 --program PROGRAM --jobs 1",
-             "tools/mutate suite --sample 20 --most 20 --at-least 60"],
+             "tools/mutate suite bench --sample 20 --most 20 --at-least 60"],
     "built": ["tools/check_dist --program PROGRAM STALE"],
 }
 
