@@ -137,12 +137,12 @@ def test_interrupt(tmp_path, number, status):
     words = [sys.executable, "-m", "mkstrike", SANS, MONO, "--size", "8-200", "--chars", "all", "--jobs", "3"]
     with subprocess.Popen(words, cwd=tmp_path, stdout=subprocess.PIPE, stderr=subprocess.PIPE, text=True) as process:
         process.stdout.readline()
-        until = time.monotonic() + 60
+        until = time.monotonic() + 200
         while len(children(process)) < 3 and time.monotonic() < until:
             time.sleep(0.01)
         others = children(process)
         os.kill(process.pid, number)
-        out, err = process.communicate(timeout=60)
+        out, err = process.communicate(timeout=200)
     assert len(others) == 3 and process.returncode == status, err
     while any(map(is_alive, others)) and time.monotonic() < until:
         time.sleep(0.01)
