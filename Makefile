@@ -32,4 +32,4 @@ planted:
 
 # how many small faults of the sources the tests find, 300 a part, before a release: hours
 mutants:
-	tools/mutate --sample 300 python suite reference judges c examples web
+	tools/mutate --sample 300 python suite reference judges c examples bench web

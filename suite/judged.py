@@ -6,6 +6,8 @@ import io
 import json
 import os
 import shlex
+import signal
+import subprocess
 import sys
 import tempfile
 
@@ -177,6 +179,15 @@ for number, line in enumerate(sys.stdin):
 def talked():
     """What a tool's processes answer, beside what is due: a request at which one ends has no answer, and the others have theirs."""
     cases = [{"id": name, "font": "scan.ttf", "dropout": False} for name in "abcdefg"]
+    silent = tool.Tool(shlex.join([sys.executable, "-c", "input()"]))
+    process = silent.process = subprocess.Popen(silent.command, stdin=subprocess.PIPE)
+    silent.stop()
+    process.stdin.close()
+    yield "a tool that is stopped", process.returncode, -signal.SIGKILL
+    mute = tool.Tool(shlex.join([sys.executable, "-c", "pass"]))
+    with contextlib.suppress(tool.NeverStarted):
+        list(mute.answers([{"dropout": False}]))
+    yield "a tool that never starts", mute.process, None
     it, broken = tool.Tool(shlex.join([sys.executable, "-c", ENDS])), {"broken": "the tool ended or did not answer"}
     yield "a tool that ends", list(it.answers(cases)), [(it, broken if it["id"] in "cf" else {"id": it["id"]}) for it in cases]
     yield "the process of a tool", it.process, None
@@ -218,6 +229,7 @@ def drawn():
     yield "no pixels", report.difference({"outline": []}, {"outline": []}), ""
     yield "a dot", report.dots([[(3, 4, 1)]], 900, ({}, {})), (
         "<circle cx=3 cy=-4 r='10.0' fill='#345' stroke='#345' stroke-width='3.6'/>")
+    yield "lines", report.lines([TRIANGLE], 600), "<path d='M0 0 L0 -64 L64 0 L0 0' fill=none stroke='#345' stroke-width='2.00'/>"
     yield "a refusal", report.figure("given", HALT, GLYPH, HALT), "<figure><figcaption>given</figcaption><pre>%s</pre></figure>" % (
         "{&#x27;refusal&#x27;: {&#x27;name&#x27;: &#x27;StackUnder&#x27;, &#x27;address&#x27;: 2}}")
 
@@ -234,6 +246,7 @@ def results_of(run):
 def pages():
     """What a report has, beside what is due."""
     results, found = results_of(runner()), {}
+    yield "how many differences are drawn", report.MOST, 400
     for most in (400, 1):
         with tempfile.TemporaryDirectory() as folder:
             report.MOST = most
@@ -275,6 +288,7 @@ def for_machines():
         for name in names:
             with open(name, encoding="utf-8") as file:
                 texts.append(file.read())
+    yield "the end of JSON", texts[0][-3:], "\n}\n"
     yield "JSON", json.loads(texts[0]), {
         "tool": "tool", "cases": 5, "wrong": 2,
         "groups": {"one": {"passed": 1, "wrong": 1}, "two": {"own choice": 1, "wrong": 1, "unsupported": 1}},
@@ -293,11 +307,15 @@ def for_machines():
 
 
 class Chain:
-    """A font in which each glyph is made of the next one."""
+    """A font in which each glyph is made of the next one, and has a program."""
+    tables = {}
+
+    def __init__(self, *_):
+        pass
 
     @staticmethod
     def glyph_bytes(number):
-        return fonts.composite([(number + 1, 0, 0)])
+        return fonts.composite([(number + 1, 0, 0)], b"\x00")
 
 
 def programs():
@@ -323,6 +341,9 @@ def programs():
         with open(os.path.join(HERE, "fonts", cases[name]["font"]), "rb") as file:
             yield name, listing.glyph_of(listing.Font(file.read()), cases[name]), due
     yield "components of components", [name for name, _ in listing.of_glyph(Chain, 0, 0)], ["glyph %d" % k for k in range(9)]
+    font, listing.Font = listing.Font, Chain
+    yield "as deep as components may be", len(listing.programs({"font": "em-16.ttf", "hinted": True, "glyph": 0})), 9
+    listing.Font = font
     yield "a face that is not there", listing.programs({**cases["faces/alone-1-glyph-2"], "hinted": True}), []
 
 

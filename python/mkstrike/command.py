@@ -6,21 +6,25 @@ import re
 import sys
 import time
 import warnings
+from bisect import bisect_right
+from functools import partial
+from itertools import accumulate
 
 from . import bdf, formats
 from .jobs import IS_NAME, Job
 from .options import FACES, joined, parser
 from .refused import Missing, Refused, shown
-from .report import Report
+from .report import Report, Said, failure, said_of
 from .sources import read_file
-from .strike import Strike
+from .spread import results
 
 TYPE_CHECKING = False  # as in glyph.py
 if TYPE_CHECKING:
-    from collections.abc import Sequence
+    from collections.abc import Callable, Sequence
 
     from .font import Font
     from .jobs import Asked
+    from .strike import Strike
 
 FAULTS = (Refused, Missing, bdf.NotBdf, OSError, ValueError, TypeError, RuntimeError, ImportError)
 PATIENCE = 1.0  # seconds without a bar
@@ -30,19 +34,23 @@ LEAST_COMMON = 8  # characters by which strikes are told apart
 class Bar:
     """A progress bar on standard error, from the first second on, if that is a terminal."""
 
-    def __init__(self, steps: int, quiet: bool) -> None:
-        self.steps, self.done, self.start = steps, 0, time.monotonic()
+    def __init__(self, sizes: Sequence[int], quiet: bool) -> None:
+        """By how many strikes each font has."""
+        self.ends, self.done, self.failed, self.start = list(accumulate(sizes)), 0, 0, time.monotonic()
         self.wanted, self.width = sys.stderr.isatty() and not quiet, 0
 
-    def show(self, what: str) -> None:
-        """Shows what is made now, and counts it."""
+    def count(self, name: str, is_made: bool) -> None:
+        """Counts a strike, and shows which it was."""
+        self.done, self.failed = self.done + 1, self.failed + (not is_made)
         if self.wanted and time.monotonic() - self.start > PATIENCE:
-            filled = 30 * self.done // self.steps
-            line = "[%s] %d of %d: %s" % ("#" * filled + "." * (30 - filled), self.done, self.steps, shown(what))
+            filled, steps = 30 * self.done // self.ends[-1], len(self.ends)
+            done = "%d of %d fonts" % (bisect_right(self.ends, self.done), steps) if steps > 1 else "%d of %d sizes" % (
+                self.done, self.ends[-1])
+            line = "[%s] %s%s: %s" % ("#" * filled + "." * (30 - filled), done, ", %d refused" % self.failed if self.failed else "",
+                                      shown(name))
             sys.stderr.write("\r" + line[:100].ljust(self.width))
             self.width = len(line[:100])
             sys.stderr.flush()
-        self.done += 1
 
     def clear(self) -> None:
         """Takes the bar away, so that a line can be printed."""
@@ -52,99 +60,144 @@ class Bar:
             self.width = 0
 
 
+class Made:
+    """What became of a strike: its name, the paths of its formats, the files of each, and what is said of it, or why there is
+    nothing, or nothing more. One process hands it to another."""
+
+    def __init__(self, name: str) -> None:
+        self.name, self.said = name, Said()
+        self.paths: list[str] = []
+        self.files: list[dict[str, bytes]] = []
+        self.read: list[str] = []  # paths that were read for it
+        self.why: list[str] = []
+
+
 class Run:
     """A run of the command: it makes the strikes of a font, writes their files, and lets the font go."""
 
     def __init__(self, job: Job) -> None:
         self.job, self.status = job, 0
-        self.bar = Bar(sum(len(job.sizes(it)[0]) for it in job.groups), job.options.quiet)
+        self.written: list[str] = []
+        self.open: tuple[int, list[Font | Strike]] = (-1, [])  # the fonts of a group
+        self.bar = Bar([len(job.sizes(it)[0]) for it in job.groups], job.options.quiet)
         self.report = Report(job, self.bar.clear)
 
-    def fail(self, what: str, why: Exception) -> None:
+    def fail(self, lines: list[str]) -> None:
         """Says why there is nothing."""
         self.status = 1
-        self.report.fail(what, why)
+        for line in lines:
+            self.report.complain(line)
 
     def all(self) -> int:
         """Makes all strikes and writes their files, or does what else is asked for. Returns the status."""
         if self.job.mode is not None:
             return self.other(self.job.mode)
-        for group in self.job.groups:
-            self.of(group)
-        self.bar.clear()
+        tasks = [(at, k) for at, group in enumerate(self.job.groups) for k in range(len(self.job.sizes(group)[0]))]
+        try:
+            for made, why in results(tasks, self.made, self.write, self.job.jobs):
+                self.bar.count(made.name, not (why or made.why))
+                if why or made.why:
+                    self.fail(why or made.why)
+                else:
+                    self.report.tell(made.said)
+                    self.written += made.said.paths
+        finally:
+            self.bar.clear()
+        if self.job.options.depfile and not self.status:
+            self.status = self.write_rule(self.job.options.depfile)
+        return self.status
+
+    def write_rule(self, path: str) -> int:
+        """Writes the rule of Make that says which files depend on which. Returns the status."""
+        try:
+            self.job.refuse_to_lose([path])
+            rule = "%s: %s\n" % tuple(" ".join(map(_in_make, dict.fromkeys(it))) for it in (self.written, self.job.read))
+            formats.write(path, os.fsencode(rule))
+        except FAULTS as why:
+            self.fail(failure(path, why))
         return self.status
 
     def other(self, mode: str) -> int:
         """Does what is asked for in place of strikes. Returns the status."""
         from .modes import MODES
-        fonts = [it for group in self.job.groups for it in self.opened(group)] if mode != FACES else []
-        if not self.status:
-            try:
-                return MODES[mode](self.job, self.report, fonts)
-            except BrokenPipeError as why:  # the reader has seen enough
-                self.fail("standard output", why)
-            except FAULTS as why:
-                self.fail(self.job.groups[0][0].path, why)
+        made = Made("")
+        fonts = [it for group in self.job.groups for it in self.opened(group, made)] if mode != FACES else []
+        self.job.read += made.read
+        if made.why:
+            self.fail(made.why)
+            return self.status
+        try:
+            return MODES[mode](self.job, self.report, fonts)
+        except BrokenPipeError as why:  # the reader has seen enough
+            self.fail(failure("standard output", why))
+        except FAULTS as why:
+            self.fail(failure(self.job.groups[0][0].path, why))
         return self.status
 
-    def of(self, group: list[Asked]) -> None:
-        """Makes the strikes of fonts at all their sizes, and lets the fonts go."""
-        fonts = self.opened(group)
-        if len(fonts) == len(group):
-            for at in range(len(self.job.sizes(group)[0])):
-                self.one(group, fonts, at)
-
-    def opened(self, group: list[Asked]) -> list[Font | Strike]:
+    def opened(self, group: list[Asked], made: Made) -> list[Font | Strike]:
         """The fonts of a strike, if all can be opened."""
         found = []
         for asked in group:
             try:
-                found.append(asked.opened(self.job.read))
+                found.append(asked.opened(made.read))
             except FAULTS as why:
-                self.fail(asked.path, why)
+                made.why += failure(asked.path, why)
         return found
 
-    def one(self, group: list[Asked], fonts: list[Font | Strike], at: int) -> None:
-        """Makes a strike, writes its files, and says what is in it."""
-        name = self.job.options.name or ""
-        stem = name if re.fullmatch(IS_NAME, name) else group[0].stem(fonts[0])
-        self.bar.show(stem)
+    def made(self, task: tuple[int, int]) -> Made:
+        """Makes a strike and its files, in memory. A font stays open for its next size."""
+        (number, at), group, job = task, self.job.groups[task[0]], self.job
+        made = Made(group[0].path)
+        if self.open[0] != number:
+            self.open = -1, []  # so that a font is let go before the next is opened
+            self.open = number, self.opened(group, made)
+        fonts = self.open[1]
+        if len(fonts) < len(group):
+            made.why = made.why if at == 0 else []
+            return made
+        name = job.options.name or ""
+        made.name = stem = name if re.fullmatch(IS_NAME, name) else group[0].stem(fonts[0])
         with warnings.catch_warnings(record=True) as warned:
             warnings.simplefilter("always")
             try:
-                strike, told = self.job.made(group, fonts, at)
+                strike, told = job.made(group, fonts, at)
             except FAULTS as why:
-                size = "" if group[0].is_bdf or group[0].rows or self.job.fit else " at %d pixels" % self.job.sizes(group)[0][at]
-                return self.fail((group[0].path if len(group) == 1 else stem) + size, why)
-            stem = stem if group[0].is_bdf and not name else "%s-%d" % (stem, strike.size)
+                size = "" if group[0].is_bdf or group[0].rows or job.fit else " at %d pixels" % job.sizes(group)[0][at]
+                made.why = failure((group[0].path if len(group) == 1 else stem) + size, why)
+                return made
+            made.name = stem if group[0].is_bdf and not name else "%s-%d" % (stem, strike.size)
             try:
-                paths = self.write(strike, stem) if self.job.is_written else []
-                text = "" if self.job.is_written else strike.blocks(self.job.drawn(strike))
+                text = "" if job.is_written else strike.blocks(job.drawn(strike))
+                if job.is_written:
+                    self.encode(strike, made)
             except FAULTS as why:
-                return self.fail(stem, why)
-        self.report.tell(strike, told, stem, paths, text, [str(it.message) for it in warned])
+                made.why = failure(made.name, why)
+                return made
+        written = [it for path, files in zip(made.paths, made.files) for it in [path, *(it for it in files if it != path)]]
+        made.said = said_of(job, strike, told, made.name, written, text, [str(it.message) for it in warned])
+        return made
 
-    def write(self, strike: Strike, stem: str) -> list[str]:
-        """Writes the files of a strike, and returns their paths."""
+    def encode(self, strike: Strike, made: Made) -> None:
+        """Makes the files of a strike."""
         output = self.job.output
-        paths = [output.replace("%s", str(strike.size))] if output else [
-            os.path.join(self.job.options.out or ".", formats.file_name(stem, name)) for name in self.job.formats]
-        self.job.refuse_to_lose(paths)
-        written = []
-        for path, name in zip(paths, self.job.formats):
+        made.paths = [output.replace("%s", str(strike.size))] if output else [
+            os.path.join(self.job.options.out or ".", formats.file_name(made.name, name)) for name in self.job.formats]
+        for path, name in zip(made.paths, self.job.formats):
             if name == "bdf" and not output and os.path.isfile(path) and _is_of_another(read_file(path), strike.text):
                 raise ValueError("%s is there, of another font: give another folder by --out, or replace it by -o %s" %
                                  (path, path))
-            files = self.files(strike, name, path, stem)
-            written += [path, *(it for it in files if it != path)]
-            self.job.refuse_to_lose([it for it in files if it != path])
-            for file, made in files.items():
-                if file == "-":
-                    sys.stdout.buffer.write(made)
-                    sys.stdout.buffer.flush()
-                else:
-                    formats.write(file, made)
-        return written
+            made.files.append(self.files(strike, name, path, made.name))
+
+    def write(self, made: Made) -> Callable[[], list[str]]:
+        """Looks whether the files of a strike may be written. The call that is returned writes them, and returns why it can't."""
+        self.job.read += made.read
+        try:
+            self.job.refuse_to_lose(made.paths)
+            self.job.refuse_to_lose([it for files in made.files for it in files if it not in made.paths])
+        except FAULTS as why:
+            lines = failure(made.name, why)
+            return lambda: lines
+        return partial(_written, made)
 
     def files(self, strike: Strike, form: str, path: str, stem: str) -> dict[str, bytes]:
         """The files of a strike in a format, or the picture of the text that is previewed."""
@@ -157,6 +210,25 @@ class Run:
         return {path: formats.encode(strike, form, more)} if path == "-" else formats.files(strike, path, form, more)
 
 
+def _written(made: Made) -> list[str]:
+    """Writes the files of a strike. Returns why they can't be written."""
+    try:
+        for path, data in (it for files in made.files for it in files.items()):
+            if path == "-":
+                sys.stdout.buffer.write(data)
+                sys.stdout.buffer.flush()
+            else:
+                formats.write(path, data)
+    except FAULTS as why:
+        return failure(made.name, why)
+    return []
+
+
+def _in_make(path: str) -> str:
+    """A path as Make and Ninja read it in a rule."""
+    return re.sub(r"([ \t#:])", r"\\\1", path).replace("$", "$$")
+
+
 def _is_of_another(old: bytes, new: bytes) -> bool:
     """Whether strikes of one size have other pictures of most of the characters that both have, so that their fonts differ."""
     one, other = ({it.partition(b"\n")[0]: it.partition(b"\nBBX")[2] for it in text.split(b"\nSTARTCHAR ")[1:]}
@@ -166,7 +238,7 @@ def _is_of_another(old: bytes, new: bytes) -> bool:
 
 
 def main(words: Sequence[str] | None = None) -> int:
-    """Runs the command. Returns its status: 0, 1 if a font or a file failed, 2 if an argument is wrong."""
+    """Runs the command. Returns its status: 0, 1 if a font or a file failed, 2 if an argument is wrong, 130 after an interrupt."""
     p = parser()
     given = p.parse_intermixed_args(joined(sys.argv[1:] if words is None else words))
     try:
@@ -175,4 +247,12 @@ def main(words: Sequence[str] | None = None) -> int:
             os.makedirs(given.out, exist_ok=True)
     except FAULTS as why:
         p.error(why.line + ": " + why.advice if isinstance(why, Refused) else str(why))
-    return Run(job).all()
+    run = Run(job)
+    try:
+        return run.all()
+    except KeyboardInterrupt:
+        run.fail(["interrupted"])
+        return 130
+    except ChildProcessError as why:
+        run.fail([str(why)])
+        return 1

@@ -11,6 +11,7 @@ from .charsets import mapped, ranges
 from .font import LOOK, Font, symbols
 from .merge import Part, Told, fitting, joined
 from .refused import Missing, shown
+from .spread import processors
 from .strike import Strike
 from .values import (axes_of, cell_of, characters_of, check_name, glyphs_of, is_empty_file, is_text, points_of, properties_of,
                      sizes_of)
@@ -101,6 +102,8 @@ class Job:
         asked = [Asked(path, {key: it for key, it in own.items() if key != "font"}, common)
                  for path, own in zip(paths, given.groups[1:] or [{}] * len(paths))]
         self.written: set[str] = set()
+        self.known: set[tuple[int, int] | None] = set()  # files that were read
+        self.looked_at = 0  # of the paths that were read
         self.groups = [asked] if self.is_joined else [[it] for it in asked]
         self.outputs = self.checked_outputs()
         table.check(given, [(table.BDF if it.is_bdf else table.FONT, it.path) for it in asked], self.outputs)
@@ -113,9 +116,18 @@ class Job:
             raise ValueError("standard input is the font or the text, not both")
         lists = [item.strip() for chars in (self.chars, *(it.chars for it in asked)) for item in chars.split(",")]
         self.read = [it for it in (*paths, *self.texts, *lists) if it and os.path.exists(it)]
+        self.jobs = self.checked_jobs(paths)
         self.fit, self.cell = cell_of(given.fit, "--fit"), cell_of(given.cell, "--cell")
         self.properties = properties_of(given.property or [])
         self.check_together()
+
+    def checked_jobs(self, paths: list[str]) -> int:
+        """How many processes may make strikes; one if a font can be read but once, as from a pipe."""
+        given = self.options.jobs
+        if given is not None and given < 1:
+            raise ValueError("--jobs is 1 or more")
+        is_read_once = any(it == "-" or os.path.exists(it) and not os.path.isfile(it) for it in paths)
+        return 1 if is_read_once else given or processors()
 
     # ---- what goes together
 
@@ -172,6 +184,8 @@ class Job:
             raise ValueError("--scale and --columns are 1 or more")
         if o.name is not None:
             check_name(o.name)
+        if o.depfile and self.output == "-":
+            raise ValueError("--depfile is for files, not for standard output: give -o FILE or --out FOLDER")
         if o.output and not (self.is_of_one or "%s" in o.output and len(self.groups) == 1 and len(self.outputs) == 1):
             raise ValueError("-o FILE is one file: give one font, one format, and %s in its name for several sizes, or --out "
                              "FOLDER for many; fonts of one strike come after --font each")
@@ -212,8 +226,10 @@ class Job:
 
     def refuse_to_lose(self, paths: list[str]) -> None:
         """Refuses to write over what was read, and over what another strike of this run is in."""
+        self.known.update(map(_file_of, self.read[self.looked_at:]))
+        self.looked_at = len(self.read)
         for path in paths:
-            if os.path.exists(path) and any(os.path.samefile(path, it) for it in self.read if os.path.exists(it)):
+            if (_file_of(path) or ()) in self.known:
                 raise ValueError("%s is read here, and would be replaced: give another folder by --out" % path)
             if path in self.written:
                 raise ValueError("%s would be replaced by a second strike: give another folder by --out, or --name" % path)
@@ -311,12 +327,22 @@ class Job:
 
     def refuse(self, strike: Strike) -> None:
         """Refuses a strike that lacks a character, if that is asked for."""
-        lacks = tuple(it for it in strike.missing if self.preview is None or it in self.preview)
         if self.options.strict and strike.refused:
             raise next(iter(strike.refused.values()))
-        if lacks and (self.options.strict or self.options.require):
-            raise Missing(lacks[0], lacks)
+        if self.options.strict or self.options.require:
+            lacks = tuple(it for it in strike.missing if self.preview is None or it in self.preview)
+            if lacks:
+                raise Missing(lacks[0], lacks)
 
 
 def _has(font: Font | Strike, char: str) -> bool:
     return char in font if isinstance(font, Strike) else bool(font.glyph_ids(text=char))
+
+
+def _file_of(path: str) -> tuple[int, int] | None:
+    """What tells a file from others, if there is one."""
+    try:
+        found = os.stat(path)
+    except (OSError, ValueError):
+        return None
+    return found.st_dev, found.st_ino

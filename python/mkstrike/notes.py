@@ -1,6 +1,8 @@
 """What a user should know of a strike, and of its font: what is drawn in place of what was meant, and why nothing is."""
 from __future__ import annotations
 
+from bisect import bisect_left
+
 from . import tables
 from .charsets import OF_TEXT
 
@@ -40,13 +42,11 @@ def _is_visible(code: int) -> bool:
 
 def _symbols(font: Font, codes: list[int]) -> list[str]:
     """A line that says where the characters of a font of symbols are, if those that are asked for are not there."""
-    has = font.characters()
-    places = tables.PLACES_OF_SYMBOLS
-    found = [it for it in has if it in places]
-    if not found or any(it in has for it in codes) or not any(0xF000 + it in places for it in codes):
+    has, places = font.characters(), tables.PLACES_OF_SYMBOLS
+    at = bisect_left(has, places[0])
+    if at == len(has) or has[at] not in places or not any(0xF000 + it in places for it in codes) or set(codes) & set(has):
         return []
-    return ["a font of symbols: its characters begin at U+%04X; symbol=True, or --symbol, takes them by U+0020 to U+00FF" %
-            found[0]]
+    return ["a font of symbols: its characters begin at U+%04X; symbol=True, or --symbol, takes them by U+0020 to U+00FF" % has[at]]
 
 
 def why_empty(strike: Strike, codes: list[int]) -> str:

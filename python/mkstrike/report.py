@@ -10,7 +10,7 @@ from .values import ASK_OF_TEXT
 
 TYPE_CHECKING = False  # as in glyph.py
 if TYPE_CHECKING:
-    from collections.abc import Callable, Mapping
+    from collections.abc import Callable, Mapping, Sequence
 
     from .merge import Told
     from .strike import Strike
@@ -22,6 +22,15 @@ IN_ORDER = "the preview is drawn character by character, from left to right: pro
 SAID = ((OF_TEXT, ASK_OF_TEXT), ("hinted=False", "--unhinted"), ("symbol=True, or --symbol,", "--symbol"),
         ("a string names a set, or has hexadecimal numbers: " + ASK_OF_TEXT, NO_GLYPH),
         ("the font has none of the characters; ", ""))
+
+
+class Said:
+    """What is said of a strike: its files; lines of what was written, or the text of a preview; lines for its font, each once for
+    all sizes; lines of its own."""
+
+    def __init__(self, paths: Sequence[str] = (), printed: Sequence[str] = (), name: str = "", of_font: Sequence[str] = (),
+                 own: Sequence[str] = ()) -> None:
+        self.paths, self.printed, self.name, self.of_font, self.own = paths, printed, name, of_font, own
 
 
 class Report:
@@ -39,45 +48,47 @@ class Report:
             line = line.replace(old, new)
         print("strike: " + shown(line), file=sys.stderr)
 
-    def fail(self, what: str, why: Exception) -> None:
-        """Says why there is nothing."""
-        said = why.line if isinstance(why, Refused) else str(why)
-        if isinstance(why, Missing):
-            said = "%d missing: %s" % (len(why.chars), ranges(map(ord, why.chars)))
-        if isinstance(why, OSError) and why.strerror:
-            said = why.strerror + (": %s" % why.filename if why.filename not in (None, what) else "")
-        self.complain("%s: %s" % (what, said))
-        if isinstance(why, Refused) and why.advice:
-            self.complain(why.to_do())
-
-    def tell(self, strike: Strike, told: list[Told], stem: str, paths: list[str], text: str, warned: list[str]) -> None:
+    def tell(self, said: Said) -> None:
         """Says what is in a strike, and what else there is to know."""
         self.clear()
-        if not paths:
-            print(text)
-        elif not self.job.options.quiet and self.job.options.output != "-":
-            where = sys.stderr if paths == ["-"] else sys.stdout
-            print(shown("%s: %d glyphs" % (" ".join("standard output" if it == "-" else it for it in paths), len(strike))),
-                  file=where)
-            for it in told:
-                print(shown("  %s: %d" % (it.name, it.count)), file=where)
-        name = stem[:-len("-%d" % strike.size)] if stem.endswith("-%d" % strike.size) else stem
-        lines = [(name, line) for line in self.missing(strike, told) + self.notes(strike, told) if (name, line) not in self.told]
-        self.told.update(lines)
-        for where_, line in lines + [(stem, line) for line in of_strike(strike, self.job.options.clip) + warned]:
-            self.complain("%s: %s" % (where_, line))
+        for line in said.printed:
+            print(line, file=sys.stderr if said.paths == ["-"] else sys.stdout)
+        for line in said.of_font:
+            if (said.name, line) not in self.told:
+                self.told.add((said.name, line))
+                self.complain("%s: %s" % (said.name, line))
+        for line in said.own:
+            self.complain(line)
 
-    def missing(self, strike: Strike, told: list[Told]) -> list[str]:
-        """Lines that name the characters that are missing: those of a font's own by its name."""
-        own = {char for it in told for char in it.missing}
-        lines = ["%d missing of %s: %s" % (len(it.missing), it.name, ranges(map(ord, it.missing))) for it in told if it.missing]
-        left = [it for it in strike.missing if it not in own and (self.job.preview is None or it in self.job.preview)]
-        return lines + (["%d missing: %s" % (len(left), ranges(map(ord, left)))] if left else [])
 
-    def notes(self, strike: Strike, told: list[Told]) -> list[str]:
-        """Lines of what else there is to know of a font, and of the text of a preview."""
-        text = self.job.preview or ""
-        return list(strike.notes) + [IN_ORDER] * any(_is_shaped(it) for it in text)
+def failure(what: str, why: Exception) -> list[str]:
+    """Lines that say why there is nothing."""
+    said = why.line if isinstance(why, Refused) else str(why)
+    if isinstance(why, Missing):
+        said = "%d missing: %s" % (len(why.chars), ranges(map(ord, why.chars)))
+    if isinstance(why, OSError) and why.strerror:
+        said = why.strerror + (": %s" % why.filename if why.filename not in (None, what) else "")
+    return ["%s: %s" % (what, said)] + ([why.to_do()] if isinstance(why, Refused) and why.advice else [])
+
+
+def said_of(job: Job, strike: Strike, told: list[Told], stem: str, paths: list[str], text: str, warned: list[str]) -> Said:
+    """What is said of a strike in files, or of a text if there are no paths."""
+    printed = [] if paths else [text]
+    if paths and not job.options.quiet and job.options.output != "-":
+        names = " ".join("standard output" if it == "-" else it for it in paths)
+        printed = [shown("%s: %d glyphs" % (names, len(strike))), *(shown("  %s: %d" % (it.name, it.count)) for it in told)]
+    name = stem[:-len("-%d" % strike.size)] if stem.endswith("-%d" % strike.size) else stem
+    of_font = _missing(job, strike, told) + list(strike.notes) + [IN_ORDER] * any(map(_is_shaped, job.preview or ""))
+    own = ["%s: %s" % (stem, line) for line in of_strike(strike, job.options.clip) + warned]
+    return Said(paths, printed, name, of_font, own)
+
+
+def _missing(job: Job, strike: Strike, told: list[Told]) -> list[str]:
+    """Lines that name the characters that are missing: those of a font's own by its name."""
+    own = {char for it in told for char in it.missing}
+    lines = ["%d missing of %s: %s" % (len(it.missing), it.name, ranges(map(ord, it.missing))) for it in told if it.missing]
+    left = [it for it in strike.missing if it not in own and (job.preview is None or it in job.preview)]
+    return lines + (["%d missing: %s" % (len(left), ranges(map(ord, left)))] if left else [])
 
 
 def of_strike(strike: Strike, is_clipped: bool) -> list[str]:

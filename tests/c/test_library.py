@@ -428,7 +428,7 @@ def test_characters(lib, calls):
 def test_names(lib, calls):
     """The names of fonts, worked out by hand: which record goes first, what counts as a text, and damaged tables; and of real
     fonts."""
-    english, german, unicode, mac = (3, 1, 0x409), (3, 1, 0x407), (0, 3, 0), (1, 0, 0)
+    english, british, german, unicode, mac = (3, 1, 0x409), (3, 1, 0x809), (3, 1, 0x407), (0, 3, 0), (1, 0, 0)
 
     def wide(text):
         return text.encode("utf-16-be")
@@ -439,6 +439,8 @@ def test_names(lib, calls):
             (1, table((*mac, 1, b"m"), (*german, 1, wide("g")), (*unicode, 1, wide("u")), (*english, 1, wide("e")),
                       (*english, 1, wide("f"))), "e"),
             (1, table((*mac, 1, b"m"), (*german, 1, wide("g")), (*unicode, 1, wide("u")), (*unicode, 1, wide("v"))), "u"),
+            (1, table((*german, 1, wide("g")), (*british, 1, wide("b")), (*unicode, 1, wide("u"))), "u"),
+            (1, table((*german, 1, wide("g")), (*british, 1, wide("b"))), "g"),
             (1, table((*mac, 1, b"m"), (3, 10, 0x407, 1, wide("g")), (3, 0, 0x409, 2, wide("e"))), "g"),
             (1, table((1, 1, 11, 1, b"j"), (2, 1, 0x409, 1, wide("i")), (*mac, 2, b"s"), (*mac, 1, b"m")), "m"),
             (2, table((*english, 1, wide("a")), (*english, 2, wide("b")), (*english, 16, wide("c"))), "b"),

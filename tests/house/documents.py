@@ -192,8 +192,9 @@ class Document:
         if "python" in block.marks:
             lines = self.python(lines)
         due = int(block.marks.get("status", 0))
-        # a program in Python prints at once too, as on a terminal
-        env = {**os.environ, "PATH": self.tools + os.pathsep + os.environ["PATH"], "LC_ALL": "C.UTF-8", "HOME": self.folder,
+        # a program in Python prints at once too, as on a terminal; `make` is not one that another started
+        env = {**{name: it for name, it in os.environ.items() if not name.startswith(("MAKE", "MFLAGS"))},
+               "PATH": self.tools + os.pathsep + os.environ["PATH"], "LC_ALL": "C.UTF-8", "HOME": self.folder,
                "PYTHONUNBUFFERED": "1"}
         server = None
         try:

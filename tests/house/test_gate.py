@@ -145,7 +145,7 @@ def test_end_of_the_gate(ended, tmp_path):
 TARGETS = {
     "test": ["tools/run_checks --stale sources program"], "test-long": ["tools/run_checks long"], "gate": [".ci/run"],
     "dist": ["tools/make_dist"], "packages": ["packaging/build"], "planted": ["tools/try_planted"],
-    "mutants": ["tools/mutate --sample 300 python suite reference judges c examples web"],
+    "mutants": ["tools/mutate --sample 300 python suite reference judges c examples bench web"],
     "all": ["cd crates/mkstrike && rt all check --jobs $(../../tools/gate_time lanes)",
             "cd crates/mkstrike && rt run <stdin >/dev/null"],
 }
@@ -175,7 +175,7 @@ TOOLS = {
     "program": ["suite/run --every --with suite/adapters/mkstrike --show 20 --jobs 1", "suite/make --check --reference",
                 "suite/wrong_readings.py --cover", "suite/check_runner"],
     "long": ["tools/fuzz_c --seconds 40", "tools/damage --count 10000 --program PROGRAM --jobs 1",
-             "tools/mutate suite --sample 20 --most 20 --at-least 60"],
+             "tools/mutate suite bench --sample 20 --most 20 --at-least 60"],
     "built": ["tools/check_dist --program PROGRAM STALE"],
 }
 

@@ -10,7 +10,7 @@ lines of all glyphs are kept between the two passes, and twice if they do not fi
 What one run of the programs takes is what a picture takes with them and not without. An instruction of a font may cost STEP machine
 instructions.
 
-At last what ten requests cost, in machine instructions, is compared with counted_work.txt, within 2 %: work that is done twice
+At last what fourteen requests cost, in machine instructions, is compared with counted_work.txt, within 2 %: work that is done twice
 shows there, wherever it is. After a change that is meant to cost another number, `MKSTRIKE_WRITE=1 pytest
 tests/program/test_work.py -k costs` writes that table anew.
 """
@@ -42,16 +42,19 @@ REQUESTS = [
     ("16,000 points", "make --ppem 1024 --chars 41-42 --dropout", 1380),
     ("a square for all", "make --ppem 12 --chars 0-ffff --dropout --x11", 10180),
 ]
-# Fonts that are made here: as many points as a glyph may have, in two glyphs; and one glyph for each of 65,536 characters.
+# Fonts that are made here: as many points as a glyph may have, in two glyphs; one glyph for each of 65,536 characters, or of each
+# ninth; and a glyph that branches.
 MADE = {"16,000 points": lambda: Font([Empty(), comb(16000, Code().fill(9)), comb(16000)], {0x41: 1, 0x42: 2}, upem=8192, stack=9),
         "a square for all": lambda: Font([Empty(), square(900)], 1),
-        "branches": lambda: branches(2000, 1000)}
+        "branches": lambda: branches(2000, 1000),
+        "gaps": lambda: Font([Empty(), square(900)], dict.fromkeys(range(0, 0xFFFF, 9), 1))}
 READ = 64 * KIB  # bytes that a call has room for
 BODY = Code().fill(9)  # of the function that the programs of glyphs call, each CALLS times
 CALLS, GLYPHS = 10000, 12
 COSTS = os.path.join(HERE, "counted_work.txt")
 # A font and words: strikes that are hinted and not, of few and of many glyphs, of composites, with each kind of drop-out control,
-# large ones; the other commands; and a function that branches past many bytes.
+# large ones; the other commands; a function that branches past many bytes; all characters, and those that are missing, of a font
+# and of a map with many gaps.
 COUNTED = [
     (DEJAVU, "make --ppem 16 --chars 20-7e"),
     (DEJAVU, "make --ppem 16 --chars 20-17f"),
@@ -63,6 +66,10 @@ COUNTED = [
     (DEJAVU, "show --ppem 32 --char 1eb4"),
     (DEJAVU, "trace --ppem 16 --char 41"),
     ("branches", "outline --ppem 16 --char 41"),
+    (DEJAVU, "make --ppem 12 --all --unhinted"),
+    (DEJAVU, "make --ppem 12 --chars 0-ffff --missing --unhinted"),
+    ("gaps", "make --ppem 12 --all"),
+    ("gaps", "make --ppem 12 --chars 0-ffff --missing"),
 ]
 # libc sets and copies memory by what the processor has, which makes a quarter of a count: not so, so that all machines count alike.
 PLAIN = "glibc.cpu.hwcaps=-AVX2,-AVX2_Usable,-AVX_Fast_Unaligned_Load,-ERMS,-FSRM,-BMI2"

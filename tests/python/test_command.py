@@ -135,23 +135,6 @@ def test_mistakes(tmp_path):
     assert "one advance" in err or "not installed" in err
 
 
-def test_bar(monkeypatch, capsys):
-    """A bar comes after a second, on a terminal alone."""
-    monkeypatch.setattr(sys.stderr, "isatty", lambda: True, raising=False)
-    bar = command.Bar(4, False)
-    bar.show("one")
-    assert capsys.readouterr().err == ""
-    bar.start -= 2
-    bar.show("two")
-    assert capsys.readouterr().err.startswith("\r[#######.......................] 1 of 4: two")
-    bar.clear()
-    assert capsys.readouterr().err.strip() == ""
-    quiet = command.Bar(4, True)
-    quiet.start -= 2
-    quiet.show("one")
-    assert capsys.readouterr().err == ""
-
-
 def test_module():
     """python3 -m mkstrike is the same command."""
     ran = subprocess.run([sys.executable, "-m", "mkstrike", "--help"], capture_output=True, text=True)

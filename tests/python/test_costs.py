@@ -110,3 +110,20 @@ def test_start_of_the_command(tmp_path):
     words = [SANS, "--chars", "ascii", "--quiet", "-o", str(tmp_path / "a.bdf")]
     ran = subprocess.run([sys.executable, "-c", code % (words,)], capture_output=True, text=True, check=True)
     assert not heavy & set(ran.stdout.split()) and (tmp_path / "a.bdf").stat().st_size > 1000
+
+
+@needs_font(SANS)
+def test_memory_of_the_command(tmp_path):
+    """One font is in memory at a time: sixty fonts take no more than two, give or take 4 MB."""
+    code = "import re, sys; from mkstrike.command import main; main(sys.argv[1:]); " \
+        "print(re.search(r'VmHWM:\\s+(\\d+) kB', open('/proc/self/status').read()).group(1))"
+    most = []
+    for count in (2, 60):
+        paths = [tmp_path / ("font%d.ttf" % k) for k in range(count)]
+        for it in paths:
+            if not it.is_symlink():
+                os.symlink(SANS, it)
+        words = [sys.executable, "-c", code, *paths, "--chars", "ascii", "--size", "9", "--jobs", "1", "--out", tmp_path / "made"]
+        most.append(int(subprocess.run([*words, "--quiet"], capture_output=True, check=True).stdout))
+    print("strike takes %d KB for two fonts, %d KB for sixty" % tuple(most))
+    assert len(list((tmp_path / "made").iterdir())) == 60 and most[1] - most[0] < 4000

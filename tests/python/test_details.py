@@ -129,5 +129,5 @@ def test_fonts_are_let_go(tmp_path, monkeypatch):
         return font
 
     monkeypatch.setattr(jobs.Asked, "opened", counted)
-    status, _, err = run_in_process([SANS, MONO, LIBERATION, "--size", "8,9", "--chars", "41"], tmp_path)
+    status, _, err = run_in_process([SANS, MONO, LIBERATION, "--size", "8,9", "--chars", "41", "--jobs", "1"], tmp_path)
     assert status == 0 and len(most) == 3 and max(most) == 0, (most, err)

@@ -155,10 +155,13 @@ def outline(font, ppem, mode, code):
 
 @functools.cache
 def node():
-    """The path of a Node that can run the modules."""
+    """The path of a Node that can run the modules. One of 18 or later must, so that no fault in them leaves their tests out."""
     path, probe = tool("node"), "import('%s/mkstrike.js').then((it) => process.exit(it.canRun() ? 0 : 1))" % WEB
-    is_able = subprocess.run([path, "-e", probe], capture_output=True, check=False).returncode == 0
-    return path if is_able else pytest.skip("Node is too old for the modules")
+    version = subprocess.run([path, "-p", "parseInt(process.versions.node)"], capture_output=True, check=True).stdout
+    if int(version) < 18:
+        pytest.skip("Node is older than 18")
+    assert subprocess.run([path, "-e", probe], check=False).returncode == 0, "the modules don't run in Node"
+    return path
 
 
 def ask(module, requests, due):

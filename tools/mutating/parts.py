@@ -16,6 +16,7 @@ PARTS = {
                (["tools/check_dist", "tools/prebuilt.py"], ["pytest tests/house/test_gate.py"])],
     "c": [(["c/*.c"], ["pytest tests/c -k 'not sanitizer and not valgrind and not arm and not commands and not damaged'"])],
     "examples": [(["examples/*.c"], ["pytest tests/c -k 'test_examples or console or boxes or words_of or numbers_of'"])],
+    "bench": [(["bench/run", "bench/desk"], ["pytest tests/house/test_bench.py"])],
     "web": [(["web/*.js"], ["pytest tests/web -k 'not planted'"])],
 }
 
