@@ -1,3 +1,6 @@
+pub mod Meant
+pub mod Listed
+pub mod Mistaken
 pub mod Advised
 pub mod Asked
 pub mod Kinds

@@ -7,4 +7,4 @@ mod parts;
 mod sets;
 
 pub use parts::{Parts, has, is_path, part, value_in};
-pub use sets::{SETS, list_of, listed, lists_in, value_of};
+pub use sets::{SETS, list_of, listed, lists_in, parts_of, set_names, value_of};
