@@ -119,11 +119,7 @@ pub(crate) fn usual_for(
 /// The words that a word may mean: options of a command, or commands if `command` is empty. A usual name of one decides, or else the
 /// fewest letters that differ, which may fit several.
 #[tactic(auto, unfolding(crate::specs::inner::Meant::meant_by))]
-fn meant_by(
-    alloc: Global,
-    word: &str,
-    command: &str,
-) -> Result<Vec<&'static str>, AllocError>
+fn meant_by(alloc: Global, word: &str, command: &str) -> Result<Vec<&'static str>, AllocError>
     ensures { IfOk result (λ meant. texts meant.items ≡ meant_by word.now command.now) }
 {
     meant_among(alloc, word, value_of(&OPTIONS, command).unwrap_or(COMMANDS))

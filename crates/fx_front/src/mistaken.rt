@@ -1,8 +1,8 @@
 //! The advice after a wrong command line.
 ghost use Rattle.std.specs.Prelude.{◌≡◌, Some, codes, drop};
-ghost use Rattle.fx_words.specs.Parts.{seen, text_in, texts};
+ghost use Rattle.fx_words.specs.Parts.{after_start, seen, text_in, texts};
 ghost use Rattle.fx_front.specs.Lines.{Says};
-ghost use Rattle.fx_front.specs.inner.Mistaken.{about_ppem, about_value, after_start, before_end, command_meant, command_said};
+ghost use Rattle.fx_front.specs.inner.Mistaken.{about_ppem, about_value, before_end, command_meant, command_said};
 ghost use Rattle.fx_front.specs.inner.Mistaken.{font_said, has_text, line_said, mistake_said, named_instead, option_said};
 ghost use Rattle.fx_front.specs.inner.Mistaken.{other_said, unknown_command_said, unknown_said, usage_said, words_said, wrong_said};
 
@@ -10,7 +10,7 @@ use crate::asked::AskedRun;
 use crate::meant::{add_word_question, has_hyphen, instead_of};
 use crate::text::Text;
 use crate::tool::Tool;
-use fx_words::is_path;
+use fx_words::{after_start, is_path};
 use std::alloc::Global;
 
 const WRONG_LINE: &str =
@@ -88,13 +88,7 @@ fn add_wrong(alloc: Global, text: &mut Text, task: &AskedRun<'_, '_>, command: &
 }
 
 /// Adds what is wrong: an unknown option, or another mistake.
-fn add_mistake(
-    alloc: Global,
-    text: &mut Text,
-    task: &AskedRun<'_, '_>,
-    command: &str,
-    wrong: &str,
-)
+fn add_mistake(alloc: Global, text: &mut Text, task: &AskedRun<'_, '_>, command: &str, wrong: &str)
     ensures { Says text.old text.new
         (option_said (after_start (codes "unknown option '") wrong.now) (seen task.now.parts.now) command.now wrong.now) }
 {
@@ -122,13 +116,6 @@ fn add_other(text: &mut Text, task: &AskedRun<'_, '_>, wrong: &str)
     text.add_text(about_ppem(wrong));
     add_font(text, wrong, task.parts.font);
     text.add_text(";");
-}
-
-/// What follows a beginning in a text.
-fn after_start<'a>(start: &str, text: &'a str) -> Option<&'a str>
-    ensures { text_in result ≡ after_start start.now text.entry.now }
-{
-    text.strip_prefix(start)
 }
 
 /// What is before an end in a text; none if it does not end so.

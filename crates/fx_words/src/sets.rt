@@ -181,11 +181,7 @@ fn joined(alloc: Global, parts: &[&str]) -> Result<String, AllocError>
 }
 
 /// What is between the marks of a text, each of one ASCII character.
-pub fn parts_of<'a>(
-    alloc: Global,
-    text: &'a str,
-    mark: char,
-) -> Result<Vec<&'a str>, AllocError>
+pub fn parts_of<'a>(alloc: Global, text: &'a str, mark: char) -> Result<Vec<&'a str>, AllocError>
     requires { mark < 128 }
     ensures { IfOk result (λ parts. texts parts.items ≡ slice_split (λ b. b == mark) text.entry.now) }
 {

@@ -37,12 +37,12 @@ abbrev pub file_said : Facts → Bool → Option Text → List ℕ
 file_said facts is_make output =
     if is_make && is_other output
     then shown_with
-        (codes "'%' is BDF, like every strike; strike --format of the package python3-mkstrike makes psf, pcf, otb, png, c and gfx")
-        (unwrap_or output [])
+    (codes "'%' is BDF, like every strike; strike --format of the package python3-mkstrike makes psf, pcf, otb, png, c and gfx")
+    (unwrap_or output [])
     else (if facts.is_variable then shown_text (codes "the font is a variable font, and this is its default instance")
     else (if facts.has_bitmaps
     then shown_text
-        (codes "the font has bitmaps of its own at this size, which are not used: the strike is drawn from its outlines")
+    (codes "the font has bitmaps of its own at this size, which are not used: the strike is drawn from its outlines")
     else []))
 
 -- the first line: only a run that is done has one
@@ -97,7 +97,7 @@ abbrev pub strike_said : Facts → Counts → Bool → PartsView → List ℕ
 strike_said facts counts is_blank parts =
     if facts.is_cut
     then shown_text (
-        codes "the font has more than 65,536 characters, and the strike has only the first of them; --chars chooses others"
+    codes "the font has more than 65,536 characters, and the strike has only the first of them; --chars chooses others"
     )
     else (if counts.glyphs == 0
     then no_glyph_said facts counts parts

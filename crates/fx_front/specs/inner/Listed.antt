@@ -35,7 +35,7 @@ abbrev pub set_said : Option Text → Option Text → List ℕ
 set_said (Some name) word = shown_with (codes "; --set % takes that set") name
 set_said None (Some word) = shown_text (
     codes "; --set takes sets by name, and strike --text of the package python3-mkstrike takes letters"
-)
+    )
 set_said None None = []
 
 abbrev pub names_said : Text → List Text → List ℕ

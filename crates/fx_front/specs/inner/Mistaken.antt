@@ -3,13 +3,9 @@ use Rattle.std.specs.Prelude.{ℕ, ◌==◌, ◌&&◌, ◌||◌, ◌-◌, not, n
 use Rattle.std.specs.Prelude.{if◌then◌else◌}
 use Rattle.std.specs.List.{ends_with, starts_with}
 use Rattle.std.specs.Str.{bytes_eq, trim_end}
-use Rattle.fx_words.specs.Parts.{PartsView, Text, has_byte, has_hyphen, is_path}
+use Rattle.fx_words.specs.Parts.{PartsView, Text, after_start, has_byte, has_hyphen, is_path}
 use Rattle.fx_front.specs.Lines.{shown_text, shown_with}
 use Rattle.fx_front.specs.inner.Meant.{instead_of, meant_by, question}
-
--- what follows a beginning in a text
-abbrev pub after_start : Text → Text → Option Text
-after_start start text = if starts_with nat_eq text start then Some (drop (length start) text) else None
 
 -- what is before an end in a text
 abbrev pub before_end : Text → Text → Option Text
@@ -93,8 +89,8 @@ abbrev pub command_said : Text → List ℕ
 command_said word =
     if has_hyphen word
     then shown_with (
-        codes "the first word is the command, make, show, outline, dump, trace, explain, or help, not '%'; 'mkstrike help' "
-            ++ codes "shows how it is written"
+    codes "the first word is the command, make, show, outline, dump, trace, explain, or help, not '%'; 'mkstrike help' "
+    ++ codes "shows how it is written"
     ) word
     else (if is_path word
     then shown_text (codes "the first word is the command: 'mkstrike make --ppem 16 --set ascii FONT' makes a strike")
@@ -108,8 +104,8 @@ line_said wrong parts command words = wrong_said parts command (trim_end (wrong 
 abbrev pub words_said : (List Text → Text) → PartsView → Option Text → List Text → List ℕ
 words_said wrong parts command [] = shown_text (
     codes "without arguments the first line of the input is the command line, and it is wrong; 'mkstrike help' shows how it "
-        ++ codes "is written"
-)
+    ++ codes "is written"
+    )
 words_said wrong parts None (word ∷ words) = command_said word
 words_said wrong parts (Some command) (word ∷ words) = line_said wrong parts command (word ∷ words)
 
