@@ -8,7 +8,7 @@ use Rattle.std.proofs.lemmas.Slice.Eq.{ends_is}
 use Rattle.std.proofs.lemmas.Str.Pattern.{ends_text}
 use Rattle.std.proofs.lemmas.Bool.Decides.{Decides-eqb}
 use Rattle.fx_words.specs.Parts.{Text, text_in}
-use Rattle.fx_front.specs.inner.Mistaken.{before_end}
+use Rattle.fx_front.specs.Mistaken.{before_end}
 
 -- what is before an end
 pub stripped_end : (end text : Text) (r : Option (Bor Text))

@@ -4,9 +4,9 @@ ghost use Rattle.fx_fixed.specs.Changes.{change_of};
 ghost use Rattle.fx_words.specs.Parts.{seen, text_in, texts, value_in};
 ghost use Rattle.fx_front.specs.Lines.{Says, SaysLine, Tells};
 ghost use Rattle.fx_front.specs.Places.{is_named};
-ghost use Rattle.fx_front.specs.inner.Advised.{after_halt, are_missing, code_said, codes_said, ends_in, file_said};
-ghost use Rattle.fx_front.specs.inner.Advised.{first_line, first_said, fonts_in, fonts_said, is_other, missing_said, named_said};
-ghost use Rattle.fx_front.specs.inner.Advised.{no_glyph_said, refusal_said, second_line, several_said, start_of, strike_said, why_no_glyph};
+ghost use Rattle.fx_front.specs.Advised.{after_halt, are_missing, code_said, codes_said, ends_in, file_said};
+ghost use Rattle.fx_front.specs.Advised.{first_line, first_said, fonts_in, fonts_said, is_other, missing_said, named_said};
+ghost use Rattle.fx_front.specs.Advised.{no_glyph_said, refusal_said, second_line, several_said, start_of, strike_said, why_no_glyph};
 
 use crate::asked::AskedRun;
 use crate::facts::{Counts, Facts, RefusalFacts};
@@ -90,7 +90,7 @@ fn add_font_or_file(text: &mut Text, facts: &Facts, task: &AskedRun<'_, '_>)
 }
 
 /// Whether a name ends like that of a file of another format.
-#[tactic(auto, unfolding(crate::specs::inner::Advised::endings))]
+#[tactic(auto, unfolding(crate::specs::Advised::endings))]
 fn is_other(name: Option<&str>) -> bool
     ensures { result ≡ is_other (text_in name.entry) }
 {
@@ -114,7 +114,7 @@ fn ends_in(endings: &[&str], name: &str) -> bool
 }
 
 /// Adds advice on a run.
-#[tactic(auto, unfolding(crate::specs::inner::Advised::second_line))]
+#[tactic(auto, unfolding(crate::specs::Advised::second_line))]
 fn add_run<G: Tool>(
     alloc: Global,
     text: &mut Text,

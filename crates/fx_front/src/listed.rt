@@ -2,9 +2,9 @@
 ghost use Rattle.std.specs.Prelude.{◌≡◌, IfOk};
 ghost use Rattle.fx_words.specs.Parts.{seen, text_in, texts};
 ghost use Rattle.fx_front.specs.Lines.{Says};
-ghost use Rattle.fx_front.specs.inner.Advised.{list_of};
-ghost use Rattle.fx_front.specs.inner.Listed.{first_set, first_word, is_letter, is_word, list_said, names_said, set_said};
-ghost use Rattle.fx_front.specs.inner.Listed.{unknown_set, unknown_set_said, wrong_said};
+ghost use Rattle.fx_front.specs.Advised.{list_of};
+ghost use Rattle.fx_front.specs.Listed.{first_set, first_word, is_letter, is_word, list_said, names_said, set_said};
+ghost use Rattle.fx_front.specs.Listed.{unknown_set, unknown_set_said, wrong_said};
 ghost use Rattle.fx_front.specs.Places.{is_named};
 
 use crate::asked::AskedRun;

@@ -5,8 +5,8 @@ ghost use Rattle.std.specs.List.{slice_split};
 ghost use Rattle.fx_words.specs.Parts.{has, has_hyphen, text_in, texts};
 ghost use Rattle.fx_words.specs.Sets.{rows_of};
 ghost use Rattle.fx_front.specs.Lines.{Says};
-ghost use Rattle.fx_front.specs.inner.Asked.{commands};
-ghost use Rattle.fx_front.specs.inner.Meant.{asked, instead_of, meant_among, meant_by, nearest, or_others, question, set_meant_by, usual_for};
+ghost use Rattle.fx_front.specs.Asked.{commands};
+ghost use Rattle.fx_front.specs.Meant.{asked, instead_of, meant_among, meant_by, nearest, or_others, question, set_meant_by, usual_for};
 
 use crate::text::Text;
 use fx_words::{parts_of, set_names, value_of};
@@ -92,7 +92,7 @@ pub(crate) fn takes_font(word: &str) -> bool
 }
 
 /// What to use in place of an option of other programs.
-#[tactic(auto, unfolding(crate::specs::inner::Meant::instead_of))]
+#[tactic(auto, unfolding(crate::specs::Meant::instead_of))]
 pub(crate) fn instead_of(option: &str) -> Option<&'static str>
     ensures { text_in result ≡ instead_of option.now }
 {
@@ -118,7 +118,7 @@ pub(crate) fn usual_for(
 
 /// The words that a word may mean: options of a command, or commands if `command` is empty. A usual name of one decides, or else the
 /// fewest letters that differ, which may fit several.
-#[tactic(auto, unfolding(crate::specs::inner::Meant::meant_by))]
+#[tactic(auto, unfolding(crate::specs::Meant::meant_by))]
 fn meant_by(alloc: Global, word: &str, command: &str) -> Result<Vec<&'static str>, AllocError>
     ensures { IfOk result (λ meant. texts meant.items ≡ meant_by word.now command.now) }
 {
@@ -148,7 +148,7 @@ pub(crate) fn has_hyphen(word: &str) -> bool
 }
 
 /// The sets of characters that a name may mean, by the fewest letters that differ. A short name is too little to tell.
-#[tactic(auto, unfolding(crate::specs::inner::Meant::set_meant_by))]
+#[tactic(auto, unfolding(crate::specs::Meant::set_meant_by))]
 fn set_meant_by(alloc: Global, name: &str) -> Result<Vec<&'static str>, AllocError>
     ensures { IfOk result (λ meant. texts meant.items ≡ set_meant_by name.now) }
 {

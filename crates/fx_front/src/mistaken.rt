@@ -2,9 +2,9 @@
 ghost use Rattle.std.specs.Prelude.{◌≡◌, Some, codes, drop};
 ghost use Rattle.fx_words.specs.Parts.{after_start, seen, text_in, texts};
 ghost use Rattle.fx_front.specs.Lines.{Says};
-ghost use Rattle.fx_front.specs.inner.Mistaken.{about_ppem, about_value, before_end, command_meant, command_said};
-ghost use Rattle.fx_front.specs.inner.Mistaken.{font_said, has_text, line_said, mistake_said, named_instead, option_said};
-ghost use Rattle.fx_front.specs.inner.Mistaken.{other_said, unknown_command_said, unknown_said, usage_said, words_said, wrong_said};
+ghost use Rattle.fx_front.specs.Mistaken.{about_ppem, about_value, before_end, command_meant, command_said};
+ghost use Rattle.fx_front.specs.Mistaken.{font_said, has_text, line_said, mistake_said, named_instead, option_said};
+ghost use Rattle.fx_front.specs.Mistaken.{other_said, unknown_command_said, unknown_said, usage_said, words_said, wrong_said};
 
 use crate::asked::AskedRun;
 use crate::meant::{add_word_question, has_hyphen, instead_of};

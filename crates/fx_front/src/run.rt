@@ -4,7 +4,7 @@ ghost use Rattle.fx_fixed.specs.Changes.{change_of};
 ghost use Rattle.fx_words.specs.Parts.{seen, text_in, texts};
 ghost use Rattle.fx_front.specs.Places.{Ends, IsStatus, RunsTo, ended_status, held_by, is_named, keeps};
 ghost use Rattle.fx_front.specs.Lines.{SaysLine, Tells, unwritten};
-ghost use Rattle.fx_front.specs.inner.Told.{told_first, told_second, why_unwritten};
+ghost use Rattle.fx_front.specs.Told.{told_first, told_second, why_unwritten};
 ghost use Rattle.fx_front.specs.declared.run.Ended.{Ended};
 
 use crate::asked::AskedRun;

@@ -1,6 +1,6 @@
 use Rattle.std.proofs.Common.{◌≡◌, drop}
 use Rattle.fx_words.specs.Parts.{texts}
-use Rattle.fx_front.specs.inner.Advised.{ends_in}
+use Rattle.fx_front.specs.Advised.{ends_in}
 use Rattle.fx_front.proofs.explained.ends_in.Given as goal
 
 -- no ending so far is the name's

@@ -1,6 +1,6 @@
 use Rattle.std.proofs.Common.{◌≡◌, drop}
 use Rattle.fx_words.specs.Parts.{texts}
-use Rattle.fx_front.specs.inner.Listed.{first_set}
+use Rattle.fx_front.specs.Listed.{first_set}
 use Rattle.fx_front.proofs.listed.first_set.Given as goal
 
 -- no item so far is one

@@ -1,6 +1,6 @@
 use Rattle.std.proofs.Common.{◌≡◌, drop}
 use Rattle.fx_words.specs.Parts.{texts}
-use Rattle.fx_front.specs.inner.Listed.{first_word}
+use Rattle.fx_front.specs.Listed.{first_word}
 use Rattle.fx_front.proofs.listed.first_word.Given as goal
 
 -- no item so far is one

@@ -1,7 +1,7 @@
 use Rattle.std.proofs.Common.{take}
 use Rattle.fx_words.specs.Parts.{texts}
 use Rattle.fx_front.specs.Lines.{Says}
-use Rattle.fx_front.specs.inner.Meant.{or_others}
+use Rattle.fx_front.specs.Meant.{or_others}
 use Rattle.fx_front.proofs.meant.add_others.Given as goal
 
 -- the words so far were added

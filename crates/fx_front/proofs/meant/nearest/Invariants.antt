@@ -1,7 +1,7 @@
 use Rattle.std.proofs.Common.{◌≡◌, ◌≤◌, [], fold, take}
 use Rattle.std.specs.Prelude.{string_bytes}
 use Rattle.fx_words.specs.Parts.{texts}
-use Rattle.fx_front.specs.inner.Meant.{nearer}
+use Rattle.fx_front.specs.Meant.{nearer}
 use Rattle.fx_front.proofs.meant.nearest.Given as goal
 
 -- the nearest words so far, and their distance

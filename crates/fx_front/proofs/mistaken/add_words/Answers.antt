@@ -1,7 +1,7 @@
 use Rattle.std.proofs.Common.{◌≡◌, ◌≤◌, List, [], ◌∷◌, Option, Some, length, ap, arith, rules}
 use Rattle.std.specs.Borrow.{Bor}
 use Rattle.fx_words.specs.Parts.{PartsView, Text, text_in, texts}
-use Rattle.fx_front.specs.inner.Mistaken.{line_said, words_said}
+use Rattle.fx_front.specs.Mistaken.{line_said, words_said}
 use Rattle.fx_front.proofs.mistaken.add_words.Goals as goal
 
 -- what is said of a command that takes a font, with the words from its name on

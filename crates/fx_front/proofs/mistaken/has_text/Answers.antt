@@ -1,7 +1,7 @@
 use Rattle.std.proofs.Common.{◌≡◌, ◌∙◌, List, ℕ, [], ◌∷◌, true, sym, arith}
 use Rattle.std.specs.Prelude.{nat_eq}
 use Rattle.std.specs.List.{starts_with}
-use Rattle.fx_front.specs.inner.Mistaken.{has_text}
+use Rattle.fx_front.specs.Mistaken.{has_text}
 use Rattle.fx_front.proofs.mistaken.has_text.Goals as goal
 
 -- a text that begins with a part has it

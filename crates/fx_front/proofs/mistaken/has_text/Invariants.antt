@@ -1,5 +1,5 @@
 use Rattle.std.proofs.Common.{◌≡◌, length}
-use Rattle.fx_front.specs.inner.Mistaken.{has_text}
+use Rattle.fx_front.specs.Mistaken.{has_text}
 use Rattle.fx_front.proofs.mistaken.has_text.Given as goal
 
 -- the part does not begin before the rest

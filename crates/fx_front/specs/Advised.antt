@@ -9,10 +9,10 @@ use Rattle.fx_fixed.specs.Lines.{hexadecimal}
 use Rattle.fx_words.specs.Parts.{PartsView, Text, has, value_in}
 use Rattle.fx_front.specs.Lines.{shown_text, shown_with}
 use Rattle.fx_front.specs.Places.{is_named}
-use Rattle.fx_front.specs.inner.Asked.{names_glyph}
-use Rattle.fx_front.specs.inner.Kinds.{known_kind}
-use Rattle.fx_front.specs.inner.Listed.{list_said}
-use Rattle.fx_front.specs.inner.Mistaken.{usage_said}
+use Rattle.fx_front.specs.Asked.{names_glyph}
+use Rattle.fx_front.specs.Kinds.{known_kind}
+use Rattle.fx_front.specs.Listed.{list_said}
+use Rattle.fx_front.specs.Mistaken.{usage_said}
 use Rattle.fx_front.specs.declared.facts.Counts.{Counts}
 use Rattle.fx_front.specs.declared.facts.Facts.{Facts}
 use Rattle.fx_front.specs.declared.facts.RefusalFacts.{RefusalFacts}

@@ -7,7 +7,7 @@ use Rattle.fx_words.specs.Parts.{Text, has}
 use Rattle.fx_words.specs.Sets.{list_of}
 use Rattle.fx_front.specs.Lines.{shown_text, shown_with}
 use Rattle.fx_front.specs.Places.{is_named}
-use Rattle.fx_front.specs.inner.Meant.{question, set_meant_by, words_of}
+use Rattle.fx_front.specs.Meant.{question, set_meant_by, words_of}
 
 -- the items between the commas of a list
 abbrev pub items_of : Text → List Text

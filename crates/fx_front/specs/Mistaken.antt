@@ -5,7 +5,7 @@ use Rattle.std.specs.List.{ends_with, starts_with}
 use Rattle.std.specs.Str.{bytes_eq, trim_end}
 use Rattle.fx_words.specs.Parts.{PartsView, Text, after_start, has_byte, has_hyphen, is_path}
 use Rattle.fx_front.specs.Lines.{shown_text, shown_with}
-use Rattle.fx_front.specs.inner.Meant.{instead_of, meant_by, question}
+use Rattle.fx_front.specs.Meant.{instead_of, meant_by, question}
 
 -- what is before an end in a text
 abbrev pub before_end : Text → Text → Option Text

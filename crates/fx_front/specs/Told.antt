@@ -3,7 +3,7 @@ use Rattle.std.specs.Prelude.{◌==◌, ◌&&◌, ℕ, not, List, [], codes, Opt
 use Rattle.std.specs.Prelude.{if◌then◌else◌}
 use Rattle.fx_words.specs.Parts.{PartsView, Text}
 use Rattle.fx_front.specs.Lines.{unwritten}
-use Rattle.fx_front.specs.inner.Advised.{first_line, second_line}
+use Rattle.fx_front.specs.Advised.{first_line, second_line}
 use Rattle.fx_front.specs.declared.facts.Facts.{Facts}
 use Rattle.fx_front.specs.declared.run.Ended.{Ended}
 
