@@ -101,8 +101,10 @@ int main(int argc, char **argv) {
         if (glyphs[i].offset + (size_t)g->stride * g->height <= sizeof pixels) draw(glyphs + i, column, info.ascent);
         if (g->dwidth > 0) column += g->dwidth; /* a font may say anything */
     }
-    if (column > WIDTH) column = WIDTH;
     rows = info.ascent + info.descent;
+    if (column > WIDTH || i < count || *text != 0 || rows > HEIGHT)
+        fprintf(stderr, "console: the line leaves the frame of %d x %d pixels, and is cut\n", (int)WIDTH, (int)HEIGHT);
+    if (column > WIDTH) column = WIDTH;
     rows = rows < 0 ? 0 : rows > HEIGHT ? HEIGHT : rows;
     printf("P4\n%d %d\n", (int)column, (int)rows);
     for (row = 0; row < rows; row++) fwrite(frame + row * ROW, 1, (size_t)(column + 7) / 8, stdout);

@@ -12,8 +12,8 @@ from prebuilt import TOP, Fault
 
 WEB, SAMPLE = os.path.join(TOP, "web"), os.path.join(TOP, "examples/sample.ttf")
 MODULE, PAGE = web_module.LIBRARY, "mkstrike.html"
-SHARED = ("mkstrike.js", "tables.js", "outputs.js")  # what the page and the worker both need
-ALONE = ("woff.js", "text.js", "controls.js", "drawing.js", "sheet.js", "page.js")  # what the page needs beside it
+SHARED = ("mkstrike.js", "tables.js", "outputs.js", "looks.js")  # what the page and the worker both need
+ALONE = ("woff.js", "sfnt.js", "text.js", "controls.js", "drawing.js", "sheet.js", "page.js")  # what the page needs beside it
 
 
 def kinds():

@@ -4,11 +4,12 @@ import { boxOf, charsOf, listOf, nameOf, shownName } from './outputs.js';
 import { KINDS } from './tables.js';
 
 export const $ = (id) => document.getElementById(id);
+const BAD_NAME = 62; // a refusal
 const MOST_ROWS = 200; // of the table of refused characters
 const MOST_NAMED = 200; // letters of a list of characters
 export const PATIENCE = 300; // milliseconds until the progress shows
 // The controls that the address keeps.
-export const KEPT = ['ppem', 'hinted', 'dropout', 'zoom', 'text', 'beside', 'differences', 'chars', 'rule'];
+export const KEPT = ['ppem', 'hinted', 'dropout', 'zoom', 'text', 'beside', 'differences', 'chars', 'rule', 'bytes', 'bits', 'align', 'flash'];
 
 export const state = {
   worker: null, module: null, font: null, jobs: 0,
@@ -37,6 +38,9 @@ export function looks(ppem) {
   }[$('beside').value];
   return { main: { ppem, mode, rule }, other: other && { ...other, rule } };
 }
+
+// How the pixels of the arrays for C become bytes.
+export const layout = () => ({ bytes: $('bytes').value, bits: $('bits').value, align: $('align').value, inFlash: $('flash').checked });
 
 export function wordsOf({ ppem, mode }) {
   const dropout = Object.keys(DROPOUTS).find((it) => DROPOUTS[it] === (mode & ~HINTED));
@@ -80,7 +84,8 @@ export function whyEmpty({ glyphs, refused, missing }) {
 export function adviceOn(refused) {
   const first = Array.from(state.font.bytes.subarray(0, 8), (it) => it.toString(16).padStart(2, '0')).join('');
   const kind = refused.number === 10 && KINDS.find(({ begins }) => (begins ? first.startsWith(begins) : !first));
-  return kind ? `the file ${kind.seems}: ${kind.todo}.` : `${refused.advice}.`;
+  if (kind) return `the file ${kind.seems}: ${kind.todo}.`;
+  return `${refused.advice}${refused.number === BAD_NAME ? ', of characters of ASCII' : ''}.`;
 }
 
 // Characters by their numbers, as many as there is room for.
@@ -91,13 +96,23 @@ function named(codes) {
 
 const countOf = (count, one, many) => `${count.toLocaleString('en')} ${count === 1 ? one : many}`;
 
-// Says of a strike that was drawn which characters the font lacks, and if no pixel is set.
-export function showTold({ glyphs, missing }) {
-  const said = [];
+// What a font of symbols has in place of U+0020 to U+00FF, if that is what the strike lacks: its first character, or undefined.
+function firstSymbol({ glyphs, missing }) {
+  const isSymbol = (code) => code >= 0xf020 && code <= 0xf0ff, has = (state.font.chars ?? []).filter(isSymbol);
+  return glyphs.length || !missing.some((code) => has.includes(0xf000 + code)) ? undefined : has[0];
+}
+
+// Says of a strike that was drawn which characters the font lacks, if no pixel is set, and if the font has bitmaps of its own.
+export function showTold(next) {
+  const { glyphs, missing } = next, said = [];
   const lacks = countOf(missing.length, 'character', 'characters');
   if (missing.length && !isListing()) said.push(`The font lacks ${lacks}: ${named(missing)}.`);
+  const first = firstSymbol(next);
+  if (first) said.push(`It is a font of symbols: its characters begin at ${nameOf(first)}. Ask for f020-f0ff.`);
   const drawn = glyphs.filter((it) => it.status === DONE);
   if (drawn.length && !drawn.some((it) => it.width)) said.push('No pixel of the strike is set: its characters are blank.');
+  const { ppem } = next.look;
+  if (state.font.bitmaps.includes(ppem)) said.push(`The font has bitmaps of its own at ${ppem} pixels, which are not read: its outlines are drawn.`);
   $('told').textContent = said.join(' ');
 }
 

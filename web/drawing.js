@@ -119,6 +119,13 @@ export function showRung(look, k) {
   return paint(canvas, wide * side, rows * side, coloured(partOfText(placed, look, left, top, wide, rows)), side);
 }
 
+// Says at one of the sizes how large its cell is, and how many letters and digits fall apart.
+export function sayOfRung(told, k) {
+  const without = told?.without == null ? '' : `, ${told.without} without drop-out control`;
+  $('ladder').children[k].lastChild.textContent = told?.letters
+    ? `${told.width} × ${told.height}: ${told.apart} of ${told.letters} fall apart${without}` : '';
+}
+
 export function showLadder() {
   state.ladder.looks.forEach(showRung);
 }

@@ -206,49 +206,78 @@ function inLines(items) {
   return lines.join('\n');
 }
 
-// Every glyph in a cell that has room for all and for a line of text, its rows in whole bytes.
-export function arraysForC({ glyphs, pixels }, name, ppem, { ascent, descent }) {
+// What a header says of the bytes of a cell, the constant beside width and height, and the two whose product are the bytes.
+const FORMS = {
+  rows: ['_rows[k] are its rows from the top: #_HEIGHT rows of #_STRIDE\n * bytes, the leftmost pixel', 'STRIDE', 'HEIGHT', 'STRIDE'],
+  columns: ['_columns[k] are its columns from the left: #_WIDTH columns of #_STRIDE\n * bytes, the topmost pixel', 'STRIDE', 'WIDTH', 'STRIDE'],
+  pages: ['_pages[k] are its pages of eight rows from the top: #_PAGES pages of\n * #_WIDTH bytes, the topmost pixel', 'PAGES', 'PAGES', 'WIDTH'],
+};
+const PROGMEM = `#if defined(ARDUINO)
+#include <Arduino.h>
+#elif defined(__AVR__)
+#include <avr/pgmspace.h>
+#endif
+#ifndef PROGMEM
+#define PROGMEM
+#endif
+`;
+
+// The bytes of a cell of a glyph: by rows, by columns or by pages, the first pixel of a byte in its highest or its lowest bit, and bits that
+// are left over after the pixels or before them.
+function cellOf(glyph, pixels, { width, height, left, bottom }, { bytes, bits, align }) {
+  const [lines, length] = bytes === 'rows' ? [height, width] : [width, height], stride = (length + 7) >> 3;
+  const cell = new Uint8Array(lines * stride), before = align === 'right' ? 8 * stride - length : 0;
+  eachPixel(glyph, pixels, (column, row) => {
+    const x = glyph.left - left + column, y = bottom + height - glyph.bottom - glyph.height + row;
+    const [line, at] = bytes === 'rows' ? [y, before + x] : [x, before + y];
+    cell[bytes === 'pages' ? (at >> 3) * lines + line : line * stride + (at >> 3)] |= bits === 'msb' ? 128 >> (at & 7) : 1 << (at & 7);
+  });
+  return cell;
+}
+
+// Every glyph in a cell that has room for all and for a line of text. `layout` says how its pixels become bytes: `bytes` is rows, columns or
+// pages, `bits` msb or lsb, or nothing for the usual one, and `align` left or right; with `inFlash` the arrays have the attribute PROGMEM.
+export function arraysForC({ glyphs, pixels }, name, ppem, { ascent, descent }, layout = {}) {
+  const { bytes = 'rows', align = 'left', inFlash = false } = layout, bits = layout.bits || (bytes === 'rows' ? 'msb' : 'lsb');
   const box = boxOf(glyphs), left = Math.min(box.left, 0), bottom = Math.min(box.bottom, -descent), it = identifierOf(name);
   const width = glyphs.reduce((most, { dwidth }) => Math.max(most, dwidth), box.left + box.width) - left;
-  const height = Math.max(box.bottom + box.height, ascent) - bottom, stride = (width + 7) >> 3, guard = `${it.toUpperCase()}_H`;
-  if (6 * glyphs.length * height * stride > MOST_BYTES) throw new Error('The arrays take more than 67,108,864 bytes.');
-  const rows = glyphs.map((glyph) => {
-    const cell = new Uint8Array(height * stride);
-    eachPixel(glyph, pixels, (column, row) => {
-      const x = glyph.left - left + column, y = bottom + height - glyph.bottom - glyph.height + row;
-      cell[y * stride + (x >> 3)] |= 128 >> (x & 7);
-    });
+  const height = Math.max(box.bottom + box.height, ascent) - bottom, guard = `${it.toUpperCase()}_H`;
+  const [lines, length] = bytes === 'rows' ? [height, width] : [width, height], stride = (length + 7) >> 3;
+  if (6 * glyphs.length * lines * stride > MOST_BYTES) throw new Error('The arrays take more than 67,108,864 bytes.');
+  const [what, constant, one, other] = FORMS[bytes], attribute = inFlash ? ' PROGMEM' : '';
+  const cells = glyphs.map((glyph) => {
+    const cell = cellOf(glyph, pixels, { width, height, left, bottom }, { bytes, bits, align });
     return `    {${Array.from(cell, (byte) => `0x${hexadecimal(byte, 2)}`).join(', ')}}, /* ${shown(glyph.code)} */`;
   });
   return `/* ${glyphs.length} glyphs of ${inComment(name)} at ${ppem} pixels per em, as ${it}: made by mkstrike.
  *
- * Glyph k is the character ${it}_chars[k]; they rise. ${it}_rows[k] are its rows from the top: ${it}_HEIGHT rows of ${it}_STRIDE
- * bytes, the leftmost pixel the highest bit. Draw the cell ${it}_LEFT columns right of the pen, with ${it}_ASCENT of its rows above
+ * Glyph k is the character ${it}_chars[k]; they rise. ${it}${what.replaceAll('#', it)} the ${bits === 'msb' ? 'highest' : 'lowest'} bit${
+  align === 'right' ? ', the bits left over before it' : ''}. Draw the cell ${it}_LEFT columns right of the pen, with ${it}_ASCENT of its rows above
  * the baseline; then move the pen by ${it}_advances[k]. */
 #ifndef ${guard}
 #define ${guard}
 
 #include <stdint.h>
-
+${inFlash ? PROGMEM : ''}
 enum {
     ${it}_COUNT = ${glyphs.length},
     ${it}_WIDTH = ${width},
     ${it}_HEIGHT = ${height},
-    ${it}_STRIDE = ${stride},
+    ${it}_${constant} = ${stride},
     ${it}_LEFT = ${left},
     ${it}_ASCENT = ${bottom + height}
 };
 
-static const ${glyphs.at(-1).code > 0xffff ? 'uint32_t' : 'uint16_t'} ${it}_chars[${it}_COUNT] = {
+static const ${glyphs.at(-1).code > 0xffff ? 'uint32_t' : 'uint16_t'} ${it}_chars[${it}_COUNT]${attribute} = {
 ${inLines(glyphs.map(({ code }) => `0x${hexadecimal(code, 4)}`))}
 };
 
-static const int16_t ${it}_advances[${it}_COUNT] = {
+static const int16_t ${it}_advances[${it}_COUNT]${attribute} = {
 ${inLines(glyphs.map(({ dwidth }) => dwidth))}
 };
 
-static const uint8_t ${it}_rows[${it}_COUNT][${it}_HEIGHT * ${it}_STRIDE] = {
-${rows.join('\n')}
+static const uint8_t ${it}_${bytes}[${it}_COUNT][${it}_${one} * ${it}_${other}]${attribute} = {
+${cells.join('\n')}
 };
 
 #endif

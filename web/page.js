@@ -3,17 +3,17 @@ import { canRun, lineOf, MISSING, MOST_BYTES } from './mkstrike.js';
 import { MARGIN, identifierOf, listOf, charsOfText, pngOf, shownName } from './outputs.js';
 import { SETS } from './tables.js';
 import { MOST_TEXT, partOfText, withCodes } from './text.js';
+import { bitmapSizes, isVariable } from './sfnt.js';
 import { fromWoff, isWoff } from './woff.js';
 import {
-  $, KEPT, PATIENCE, adviceOn, isListing, readAddress, request, showRefused, showTold, state, tell, valueOf, wantsAll, whyEmpty, writeAddress,
+  $, KEPT, PATIENCE, adviceOn, isListing, layout, readAddress, request, showRefused, showTold, state, tell, valueOf, wantsAll, whyEmpty, writeAddress,
 } from './controls.js';
-import { LADDER, askLadder, drawText, ratio, showLadder, showRung, showTexts, soon } from './drawing.js';
+import { LADDER, askLadder, drawText, ratio, sayOfRung, showLadder, showRung, showTexts, soon } from './drawing.js';
 import { choose, drawGlyph, drawSheet, measureSheet, showSheet } from './sheet.js';
 
 const NOT_IN_NAMES = /[\\/:*?"<>|]/g; // of files
 const MOST_PICTURE = 6e7; // pixels of a picture that is saved at the zoom
 const BAND = 64; // rows of it that are made at once
-const TTCF = 0x74746366, FVAR = 0x66766172; // tags
 
 // ---- what the page is made of: in one file all parts are elements of it, else they lie beside it
 
@@ -66,7 +66,7 @@ function handFont() {
 }
 
 function takeFont(name, bytes, face = 0) {
-  state.font = { name, bytes, face, chars: null, isVariable: isVariable(bytes, face), id: (state.font?.id ?? 0) + 1 };
+  state.font = { name, bytes, face, chars: null, isVariable: isVariable(bytes, face), bitmaps: bitmapSizes(bytes, face), id: (state.font?.id ?? 0) + 1 };
   showFont();
   tell('file');
   const stem = name.replace(/\.[^.]*$/, '').replace(/[^ -~]/g, '_').trim().slice(0, 200);
@@ -74,14 +74,6 @@ function takeFont(name, bytes, face = 0) {
   state.sheet.chosen = -1;
   handFont();
   draw();
-}
-
-// Whether the directory of a font has the table `fvar`; of a collection that of the font with this index.
-function isVariable(bytes, face) {
-  const view = new DataView(bytes.buffer, bytes.byteOffset, bytes.byteLength);
-  const long = (at) => (at + 4 <= view.byteLength ? view.getUint32(at) : 0);
-  const from = long(0) === TTCF ? long(12 + 4 * face) : 0, count = long(from + 4) >>> 16;
-  return Array.from({ length: count }, (_, k) => long(from + 12 + 16 * k)).includes(FVAR);
 }
 
 function showFont() {
@@ -114,7 +106,7 @@ function save(what) {
   const { look, chars } = asked;
   if (what === 'text') return savePicture();
   sayOfSaved('');
-  state.worker.postMessage({ kind: 'save', id: state.jobs, what, ...look, chars, name: $('name').value });
+  state.worker.postMessage({ kind: 'save', id: state.jobs, what, ...look, chars, name: $('name').value, layout: layout() });
   busy('preparing the file');
 }
 
@@ -188,6 +180,7 @@ const receive = {
     document.body.dataset.listed = chars.length;
     showFont();
     if (wantsAll()) draw();
+    else if (document.body.dataset.drawn === String(state.jobs)) showTold(state.next);
   },
 
   text(data) {
@@ -237,9 +230,10 @@ const receive = {
     $('progress').value = done;
   },
 
-  rung({ id, look }) {
+  rung({ id, look, letters }) {
     if (id !== state.ladder.id) return;
     showRung(look, state.ladder.looks.push(withCodes(look)) - 1);
+    sayOfRung(letters, state.ladder.looks.length - 1);
     document.body.dataset.ladder = `${id} ${state.ladder.looks.length}`;
   },
 
@@ -366,7 +360,7 @@ async function start() {
   $('work').hidden = false;
   $('ladder').append(...LADDER.map((ppem) => {
     const row = document.createElement('div'), button = Object.assign(document.createElement('button'), { type: 'button', className: 'rung', textContent: ppem });
-    row.append(button, Object.assign(document.createElement('canvas'), { width: 0, height: 0 }));
+    row.append(button, Object.assign(document.createElement('canvas'), { width: 0, height: 0 }), document.createElement('span'));
     return row;
   }));
   if (innerWidth < 600) {

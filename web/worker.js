@@ -1,5 +1,6 @@
 // Makes strikes beside the page, so that the page stays usable: it hands over jobs, and gets back glyphs part by part.
 import { Mkstrike, joined, DONE, HINTED, NONE } from './mkstrike.js';
+import { looksOf, wholeLetters } from './looks.js';
 import { arraysForC, gfxForC, pngOf, sheetOf, strikesAsOne } from './outputs.js';
 
 const SLICE = 25; // milliseconds of work between two looks for messages
@@ -8,6 +9,7 @@ const FULL = 4, FAMILY = 1, STYLE = 2; // numbers of names
 const MOST_SCALED = 6e7; // pixels of a sheet whose glyphs are drawn three times as large
 
 let mkstrike = null;
+let whole = null; // how many parts each letter of the font has
 // The work under way, the most urgent first: each is a generator that yields between two slices.
 const under = { outline: null, draw: null, save: null, ladder: null, list: null };
 let isRunning = false;
@@ -82,10 +84,12 @@ async function* draw({ id, main, other, textChars, chars }) {
   told({ kind: 'drawn', refused, took: performance.now() - start });
 }
 
-// A text's glyphs at sizes one after the other.
+// A text's glyphs at sizes one after the other, and how many letters fall apart there.
 async function* ladder({ id, main, sizes, textChars }) {
   for (const ppem of sizes) {
-    postMessage({ kind: 'rung', id, look: lookOf({ ...main, ppem }, textChars) });
+    const look = lookOf({ ...main, ppem }, textChars);
+    whole ??= wholeLetters(mkstrike);
+    postMessage({ kind: 'rung', id, look, letters: look.refused ? null : looksOf({ ...main, ppem }, look.heights, whole, glyphsOf) });
     yield;
   }
 }
@@ -119,14 +123,14 @@ function textOf({ ppem, mode }, glyphs, name) {
 }
 
 // What is saved of glyphs, and what is to be told of it; or `refused`, or `why` not.
-async function fileOf(what, main, made, name) {
+async function fileOf(what, main, made, name, layout) {
   if (what === 'bdf') return textOf(main, made.glyphs, name);
   if (what === 'png') {
     const { columns, rows, lines } = sheetOf(made);
     return { bytes: await pngOf(columns, lines(), columns * rows * 9 > MOST_SCALED ? 1 : 3) };
   }
   try {
-    const text = { c: arraysForC, gfx: gfxForC }[what](made, name, main.ppem, mkstrike.heights(main.ppem));
+    const text = { c: arraysForC, gfx: gfxForC }[what](made, name, main.ppem, mkstrike.heights(main.ppem), layout);
     const entries = what === 'gfx' ? made.glyphs.at(-1).code - made.glyphs[0].code + 1 : made.glyphs.length;
     return { bytes: new TextEncoder().encode(text), entries, empty: entries - made.glyphs.length };
   } catch (fault) {
@@ -134,7 +138,7 @@ async function fileOf(what, main, made, name) {
   }
 }
 
-async function* save({ id, what, main, chars, name }) {
+async function* save({ id, what, main, chars, name, layout }) {
   const told = (given, transfer) => postMessage({ kind: 'saved', id, what, ...given }, transfer);
   postMessage({ kind: 'progress', id, done: 0, total: 0 });
   yield;
@@ -154,7 +158,7 @@ async function* save({ id, what, main, chars, name }) {
   made.glyphs = made.glyphs.filter((it) => it.status === DONE);
   if (!made.glyphs.length) return told({});
   const unhinted = made.glyphs.filter((it) => it.cause).length;
-  return told({ ...await fileOf(what, main, made, name), left: refused.length, unhinted });
+  return told({ ...await fileOf(what, main, made, name, layout), left: refused.length, unhinted });
 }
 
 async function take(data) {
@@ -162,6 +166,7 @@ async function take(data) {
     mkstrike = await Mkstrike.open(data.module);
   } else if (data.kind === 'font') {
     forget();
+    whole = null;
     mkstrike.setFont(data.bytes, data.face);
     postMessage({ kind: 'faces', id: data.id, names: faceNames() });
     under.list = list(data);

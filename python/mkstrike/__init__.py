@@ -14,12 +14,13 @@ from .charsets import character_sets, characters
 from .font import Font
 from .glyph import Glyph
 from .merge import merge
+from .names import faces
 from .refused import Missing, NotInstalled, NotMade, Refused
 from .strike import Strike
 from .striker import Striker
 
 __all__ = ["Font", "Glyph", "Missing", "NotInstalled", "NotMade", "Refused", "Strike", "Striker", "character_sets", "characters",
-           "merge"]
+           "faces", "merge"]
 
 
 def __getattr__(name: str) -> str:

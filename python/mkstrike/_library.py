@@ -71,6 +71,7 @@ _declared = {
     "mkstrike_reason": (c_size_t, [c_uint32, c_char_p, c_size_t]),
     "mkstrike_advice": (c_size_t, [c_uint32, c_char_p, c_size_t]),
     "mkstrike_font": (c_uint32, FONT + [c_uint16, POINTER(Info), POINTER(_Refused)]),
+    "mkstrike_faces": (c_uint32, [c_char_p, c_size_t, POINTER(c_uint32), POINTER(_Refused)]),
     "mkstrike_name": (c_uint32, FONT + [c_uint32, c_char_p, c_size_t, POINTER(c_size_t), POINTER(_Refused)]),
     "mkstrike_characters": (c_uint32, FONT + [c_void_p, c_size_t, POINTER(c_size_t), POINTER(_Refused)]),
     "mkstrike_glyph_ids": (c_uint32, FONT + [c_void_p, c_size_t, c_void_p, c_size_t, POINTER(_Refused)]),
@@ -221,6 +222,14 @@ def characters(font: bytes, face: int) -> list[int]:
         if count.value <= room:
             return found[:count.value].tolist()
         room = count.value
+
+
+def faces(font: bytes) -> int:
+    """How many fonts a file has: those of a collection, else 1."""
+    count, refused = c_uint32(0), _Refused()
+    if _c().mkstrike_faces(font, len(font), byref(count), byref(refused)):
+        raise _raised(refused, font)
+    return count.value
 
 
 def name(font: bytes, face: int, number: int) -> str:

@@ -65,7 +65,8 @@ def in_cell(strike: Strike, width: int, height: int, ascent: int | None, clip: b
     return strike._with(changed, outside=outside)
 
 
-def largest_size(at: Callable[[int], Line], look: Line, size: int, width: int, height: int, ascent: int | None, clip: bool) -> int:
+def largest_size(at: Callable[[int], Line], look: Line, size: int, width: int, height: int, ascent: int | None, clip: bool,
+                 wide: bool) -> int:
     """The largest size at which the glyphs of a line don't leave its cells: see `Font.fit`. `look` is the line at some size,
     unhinted."""
     _above(width, height, 0, 0, ascent)
@@ -83,7 +84,9 @@ def largest_size(at: Callable[[int], Line], look: Line, size: int, width: int, h
         left[size] = {code: far for code, far in found.items() if any(far)}
         if not clip and not left[size]:
             return size
-    raise ValueError(_nearest(left, width, height, ascent))
+    words = "" if ascent is None else " --ascent %d" % ascent
+    words += " --wide" * wide + " --join" * any(map(is_drawn_out, look[2]))
+    raise ValueError(_nearest(left, width, height, words))
 
 
 def _counted(boxes: Mapping[int, Box]) -> set[int]:
@@ -102,15 +105,14 @@ def _needed(line: Line, codes: set[int], clip: bool) -> tuple[int, int]:
     return max(boxes[it][0] for it in codes), max(boxes[it][1] for it in codes)
 
 
-def _nearest(left: Mapping[int, Mapping[int, Outside]], width: int, height: int, ascent: int | None) -> str:
-    """That no size fits, and the one at which the fewest characters leave the cell."""
+def _nearest(left: Mapping[int, Mapping[int, Outside]], width: int, height: int, words: str) -> str:
+    """That no size fits, and the one at which the fewest characters leave the cell, with the words of the command for it."""
     size = min(left, key=lambda it: (len(left[it]), -it))
     far = {side: max(getattr(it, side) for it in left[size].values()) for side in Outside._fields}
-    baseline = "" if ascent is None else " --ascent %d" % ascent
     which = ("only %s leaves it" if len(left[size]) == 1 else "the fewest leave it, %s") % ranges(left[size], 8)
     return NEAREST % (
         width, height, size, which, ", ".join("%d %s" % (count, side) for side, count in far.items() if count), size, width,
-        height, baseline)
+        height, words)
 
 
 def _above(width: int, height: int, ascent: int, descent: int, given: int | None) -> int:

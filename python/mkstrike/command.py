@@ -9,7 +9,7 @@ import warnings
 
 from . import bdf, formats
 from .jobs import IS_NAME, Job
-from .options import joined, parser
+from .options import FACES, joined, parser
 from .refused import Missing, Refused, shown
 from .report import Report
 from .sources import read_file
@@ -77,10 +77,12 @@ class Run:
     def other(self, mode: str) -> int:
         """Does what is asked for in place of strikes. Returns the status."""
         from .modes import MODES
-        fonts = [it for group in self.job.groups for it in self.opened(group)]
+        fonts = [it for group in self.job.groups for it in self.opened(group)] if mode != FACES else []
         if not self.status:
             try:
                 return MODES[mode](self.job, self.report, fonts)
+            except BrokenPipeError as why:  # the reader has seen enough
+                self.fail("standard output", why)
             except FAULTS as why:
                 self.fail(self.job.groups[0][0].path, why)
         return self.status

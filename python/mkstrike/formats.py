@@ -74,6 +74,7 @@ TAKES: dict[str, tuple[str, ...]] = {  # options
     **{name: ("columns", "scale") for name in PICTURES}, "c": ("name", "attribute", "bytes", "bits", "align"),
     "gfx": ("name", "dense"), "lvgl": ("name",), "raw": ("order", "bytes", "bits", "align"), "fnt": ("padding",),
     "py": ("bytes", "bits")}
+TRIES = 100  # of a file that others replace meanwhile
 
 
 def encode(strike: Strike, format: str, options: Mapping[str, Any]) -> bytes:
@@ -131,39 +132,64 @@ def by_ending(path: str) -> str:
 def write(path: str, data: bytes) -> None:
     """Writes a file in one step: a reader sees the old one or the new one, which has its permissions, and its owner and group if
     the user may set them. What is no file, as a device or a pipe, is written to; a file that may not be written stays."""
-    try:
-        opened = os.open(path, os.O_WRONLY)  # by the name as it is given: the system may guard a link
-    except FileNotFoundError:
-        _replace(path, None, data)
-        return
-    with open(opened, "wb") as stream:
-        old = os.fstat(opened)
-        if stat.S_ISREG(old.st_mode):
-            _replace(path, old, data)
-        else:
-            stream.write(data)
+    for _ in range(TRIES):
+        try:
+            opened = os.open(path, os.O_WRONLY)  # by the name as it is given: the system may guard a link
+        except FileNotFoundError:
+            if _replace(path, None, data):
+                return
+            continue
+        with open(opened, "wb") as stream:
+            old = os.fstat(opened)
+            if not stat.S_ISREG(old.st_mode):
+                stream.write(data)
+                return
+            if _replace(path, old, data):
+                return
+    raise OSError(errno.EBUSY, "others replace it all the time", path)
 
 
-def _replace(path: str, old: os.stat_result | None, data: bytes) -> None:
-    """Writes a new file beside the one that a path leads to, and gives it the name when all is on the disk."""
-    path_of_file = os.path.realpath(path)  # a link stays one
-    if not os.path.isdir(os.path.dirname(path_of_file)):
+def _replace(path: str, old: os.stat_result | None, data: bytes) -> bool:
+    """Writes a new file beside the one that a path leads to, and gives it the name when all is on the disk. Does nothing and
+    returns False if that is no longer the file that was opened: by a link that came between, another file would get its owner."""
+    folder, name = os.path.split(os.path.realpath(path))  # a link stays one
+    if not os.path.isdir(folder):
         raise FileNotFoundError(errno.ENOENT, "there is no folder for it", path)
-    new = os.path.join(os.path.dirname(path_of_file), ".%s.new" % os.urandom(8).hex())
-    mode = old.st_mode & 0o700 if old else 0o666
+    at = os.open(folder, os.O_PATH | os.O_DIRECTORY)
     try:
-        with open(new, "xb", opener=lambda name, flags: os.open(name, flags, mode)) as file:
+        if not _is_still(at, name, old):
+            return False
+        _store(at, name, old, data)
+        return True
+    except OSError as fault:
+        raise OSError(fault.errno, fault.strerror, path) if fault.errno else fault from fault
+    finally:
+        os.close(at)
+
+
+def _is_still(at: int, name: str, old: os.stat_result | None) -> bool:
+    """Whether this name in a folder is that file's, or nobody's if there was none."""
+    try:
+        found = os.stat(name, dir_fd=at, follow_symlinks=False)
+    except FileNotFoundError:
+        return old is None
+    return old is not None and os.path.samestat(found, old)
+
+
+def _store(at: int, name: str, old: os.stat_result | None, data: bytes) -> None:
+    """Writes a file in a folder, first under a name of its own. A fault leaves none."""
+    new, mode = ".mkstrike-" + os.urandom(8).hex(), old.st_mode & 0o700 if old else 0o666
+    try:
+        with open(new, "xb", opener=lambda name, flags: os.open(name, flags, mode, dir_fd=at)) as file:
             if old:
                 _keep(file.fileno(), old)
             file.write(data)
             file.flush()
             os.fsync(file.fileno())
-        os.replace(new, path_of_file)
-    except BaseException as fault:
+        os.replace(new, name, src_dir_fd=at, dst_dir_fd=at)
+    except BaseException:
         with contextlib.suppress(OSError):
-            os.remove(new)
-        if isinstance(fault, OSError) and fault.errno:
-            raise OSError(fault.errno, fault.strerror, path) from fault
+            os.remove(new, dir_fd=at)
         raise
 
 

@@ -6,13 +6,14 @@ import os
 import re
 import sys
 
-from . import bdf, formats, options as table, sources
-from .charsets import mapped
+from . import formats, options as table, sources
+from .charsets import mapped, ranges
 from .font import LOOK, Font, symbols
 from .merge import Part, Told, fitting, joined
 from .refused import Missing, shown
 from .strike import Strike
-from .values import axes_of, cell_of, characters_of, glyphs_of, is_empty_file, is_text, points_of, properties_of, sizes_of
+from .values import (axes_of, cell_of, characters_of, check_name, glyphs_of, is_empty_file, is_text, points_of, properties_of,
+                     sizes_of)
 
 TYPE_CHECKING = False  # as in glyph.py
 if TYPE_CHECKING:
@@ -138,7 +139,7 @@ class Job:
         """The formats of the files, or what else is written."""
         o = self.options
         modes = [name for name, is_given in ((table.SHEET, o.sheet is not None),
-                                             (table.LIST, o.list), (table.DIFF, o.diff)) if is_given]
+                                             (table.LIST, o.list), (table.FACES, o.faces), (table.DIFF, o.diff)) if is_given]
         if len(modes) > 1:
             raise ValueError("%s do two things: give one of them" % " and ".join(modes))
         if modes:
@@ -170,7 +171,7 @@ class Job:
         if any(it is not None and it < 1 for it in (o.scale, o.columns)):
             raise ValueError("--scale and --columns are 1 or more")
         if o.name is not None:
-            bdf.check_name(o.name)
+            check_name(o.name)
         if o.output and not (self.is_of_one or "%s" in o.output and len(self.groups) == 1 and len(self.outputs) == 1):
             raise ValueError("-o FILE is one file: give one font, one format, and %s in its name for several sizes, or --out "
                              "FOLDER for many; fonts of one strike come after --font each")
@@ -253,6 +254,7 @@ class Job:
             strike = self.alone(group[0], fonts[0], sizes[0], chars, text)
         self.refuse(strike)
         strike.notes += tuple(line for asked, font, size in zip(group, fonts, sizes) for line in asked.said(font, size))
+        strike.notes += self.uneven(strike, fonts[0])
         if self.fit or self.cell:
             strike = strike.cell(*(self.fit or self.cell or ()), ascent=o.ascent, clip=o.clip, join=bool(o.join or self.fit),
                                  wide=o.wide)
@@ -282,6 +284,24 @@ class Job:
             strike = font._strike_of(size, asked.given, name=name or asked.name(font), **how)
             strike.names = font.names if name is None else None
         return strike
+
+    def uneven(self, strike: Strike, font: Font | Strike) -> tuple[str, ...]:
+        """A line that names the characters whose advances make X11 take a monospaced font for a proportional one."""
+        if not self.with_spacing or self.cell or self.fit or isinstance(font, Strike) or not font.names.is_monospace:
+            return ()
+        entries = strike.parsed().entries
+        widths = [it.dwidth for it in entries.values()]
+        usual = max(set(widths), key=widths.count, default=0)
+        other = [code for code, it in entries.items() if it.dwidth != usual]
+        if not other or "SPACING" in self.properties:
+            return ()
+        return ("SPACING is P, since the advance of %s is not that of the others: --unhinted or --cell can make all equal, "
+                "--property SPACING=C says what you know" % ranges(other, 8),)
+
+    @property
+    def with_spacing(self) -> bool:
+        """Whether files have the properties of X11."""
+        return bool(self.options.x11) or bool({"pcf", "otb"} & set(self.outputs))
 
     def drawn(self, strike: Strike) -> str:
         """The text of a preview as a strike can draw it: another character stands for one that is not there, if the strike has

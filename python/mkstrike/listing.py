@@ -13,6 +13,7 @@ if TYPE_CHECKING:
 
     from .font import Font
     from .glyph import Glyph
+    from .names import Names
     from .strike import Strike
     from .striker import Striker
 
@@ -103,6 +104,13 @@ def table_of(found: list[Listed]) -> list[str]:
     count = max(map(len, rows[1:]), default=3)
     rows[0] = rows[0][:count]
     wide = [max(len(row[k]) for row in rows if len(row) > k + 1 or k < 3) for k in range(3)] + [8] * len(METRICS)
+    return ["  ".join(it.ljust(width) for it, width in zip(row, wide)).rstrip() for row in rows]
+
+
+def table_of_faces(found: list[Names]) -> list[str]:
+    """Lines with a column for each: the number of a font of a file, its family, and its style."""
+    rows = [("face", "family", "style"), *((str(face), it.family, it.style) for face, it in enumerate(found))]
+    wide = [max(len(row[k]) for row in rows) for k in range(3)]
     return ["  ".join(it.ljust(width) for it, width in zip(row, wide)).rstrip() for row in rows]
 
 

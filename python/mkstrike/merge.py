@@ -187,4 +187,4 @@ def fitting(parts: list[Part], width: int, height: int, chars: Chars, text: str,
         boxes = {code: halved(box) if wide and is_wide(code) else box for it in lines for code, box in it[2].items()}
         return max(it[0] for it in lines), max(it[1] for it in lines), boxes
 
-    return largest_size(line, line(LOOK, False), LOOK, width, height, ascent, clip)
+    return largest_size(line, line(LOOK, False), LOOK, width, height, ascent, clip, wide)

@@ -2,6 +2,7 @@
 from __future__ import annotations
 
 import os
+import sys
 
 from . import formats, options as table
 from .font import LETTERS, TEXT, Font
@@ -56,6 +57,20 @@ def _list(job: Job, report: Report, sources: list[Source]) -> int:
     return 0
 
 
+def _faces(job: Job, _: Report, sources: list[Source]) -> int:
+    """A table of the fonts of a file, or JSON."""
+    from . import listing
+    from .names import faces
+    path = job.groups[0][0].path
+    found = faces(sys.stdin.buffer if path == "-" else path)
+    if job.options.json:
+        import json
+        print(json.dumps([{"face": face, **it._asdict()} for face, it in enumerate(found)], indent=1))
+    else:
+        print("\n".join(listing.table_of_faces(found)))
+    return 0
+
+
 def _diff(job: Job, report: Report, sources: list[Source]) -> int:
     """How two strikes differ; the status is 1 if they do."""
     asked = [it for group in job.groups for it in group]
@@ -91,4 +106,5 @@ def _write(job: Job, path: str, image: Image) -> None:
     formats.write(path, formats.picture(image, form))
 
 
-MODES: dict[str, Callable[[Job, Report, list[Source]], int]] = {table.SHEET: _sheet, table.LIST: _list, table.DIFF: _diff}
+MODES: dict[str, Callable[[Job, Report, list[Source]], int]] = {table.SHEET: _sheet, table.LIST: _list, table.FACES: _faces,
+                                                                         table.DIFF: _diff}

@@ -3,9 +3,9 @@ from __future__ import annotations
 
 from collections import namedtuple
 
-from . import _library
+from . import _library, sources
 from .refused import shown
-from .tables import numbers, table
+from .tables import is_cff, numbers, table
 
 TYPE_CHECKING = False  # as in glyph.py
 if TYPE_CHECKING:
@@ -45,6 +45,14 @@ def names_of(data: bytes, face: int, otherwise: str) -> Names:
     return Names(family or otherwise, style or "Regular", 700 if is_bold else weight, width, slant, bool(fixed))
 
 
+def faces(source: sources.Source) -> list[Names]:
+    """The fonts of a file by their numbers, each as it calls itself: of a collection each of its fonts, else one. `source` is as of
+    `Font`."""
+    data, name = sources.read(sources.located(source, 0)[0])
+    data = sources.unpacked(data)
+    return [names_of(data, face, name) for face in range(_library.faces(data))]
+
+
 def x11_name(names: Names, size: int, spacing: str, average: int) -> str:
     """The name of 14 fields of a strike: `size` is in pixels per em, `average` in tenths of a pixel."""
     family = "".join(it if " " <= it <= "~" and it not in '-?*,"' else " " for it in names.family[:LONGEST]).strip() or "strike"
@@ -55,5 +63,10 @@ def x11_name(names: Names, size: int, spacing: str, average: int) -> str:
 
 
 def _said(data: bytes, face: int, number: int) -> str:
-    """A name by its number, on one line."""
-    return shown(" ".join(_library.name(data, face, number).split()))
+    """A name by its number, on one line; the library reads no font with CFF outlines, so fontTools tells that of one."""
+    if is_cff(data, face):
+        font = sources.opened(data, face, "names of fonts with CFF outlines need")
+        said = sources.by_fonttools(lambda: str(font["name"].getDebugName(number) or ""), data)
+    else:
+        said = _library.name(data, face, number)
+    return shown(" ".join(said.split()))

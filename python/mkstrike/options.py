@@ -31,10 +31,10 @@ KINDS = ("font", "left", "near", "off")  # of drop-out control
 FONT, BDF = "font", "BDF"  # kinds of input
 FILES = tuple(formats.FORMATS)
 TERMINAL, PICTURE = "--preview on the terminal", "--preview with -o"  # outputs beside the formats
-SHEET, LIST, DIFF = "--sheet", "--list", "--diff"  # outputs that are no strikes
-MODES = {SHEET: 1, LIST: 1, DIFF: 2}  # how many fonts each is of
+SHEET, LIST, FACES, DIFF = "--sheet", "--list", "--faces", "--diff"  # outputs that are no strikes
+MODES = {SHEET: 1, LIST: 1, FACES: 1, DIFF: 2}  # how many fonts each is of
 DRAWN = (*FILES, TERMINAL, PICTURE)
-EVERY, LETTERS = (*DRAWN, *MODES), (*FILES, SHEET, DIFF)
+EVERY, LETTERS = (*DRAWN, SHEET, LIST, DIFF), (*FILES, SHEET, DIFF)
 WITH_PROPERTIES = ("bdf", "pcf", "otb")
 IN_BYTES = ("c", "raw", "py")  # formats whose bytes can be in more than one layout
 
@@ -150,7 +150,9 @@ TABLE = {
         Option("--list", "print what is in the font: characters, glyph numbers and names, and with --size their metrics",
                outputs=(LIST,),
                action="store_true"),
-        Option("--json", "the list as JSON", outputs=(LIST,), action="store_true"),
+        Option("--faces", "print which fonts a collection has, by their numbers and names", inputs=(FONT,), outputs=(FACES,),
+               action="store_true"),
+        Option("--json", "the list or the faces as JSON", outputs=(LIST, FACES), action="store_true"),
         Option("--diff", "compare two strikes, an old one and a new one: the characters that differ, drawn beside each other, "
                          "with -o in a picture; "
                "the status is 1 if any does", outputs=(DIFF,), action="store_true")),

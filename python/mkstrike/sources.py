@@ -98,11 +98,17 @@ def read(source: Source) -> tuple[bytes, str]:
     return _read_all(source, "the file %s" % stem), stem
 
 
+def unpacked(data: bytes) -> bytes:
+    """The bytes of a font's file, out of WOFF if they are in that."""
+    if data[:4] not in (b"wOFF", b"wOF2"):
+        return data
+    from . import woff
+    return woff.unpacked(data)
+
+
 def plain(data: bytes, face: int, axes: Mapping[str, float] | None) -> tuple[bytes, int, bool]:
     """The bytes as the library reads them, which font of them is meant, and whether its outlines were converted."""
-    if data[:4] in (b"wOFF", b"wOF2"):
-        from . import woff
-        data = woff.unpacked(data)
+    data = unpacked(data)
     is_converted = tables.is_cff(data, face)
     if not axes and not is_converted or face and data[:4] != b"ttcf":  # the library refuses the face
         return data, face, False

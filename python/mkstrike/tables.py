@@ -69,11 +69,11 @@ def underline(data: bytes, face: int, size: int) -> tuple[int, int] | None:
 
 
 def bitmap_sizes(data: bytes, face: int) -> set[int]:
-    """The sizes in pixels per em at which a font has bitmaps of its own."""
+    """The sizes in pixels per em at which a font has bitmaps of its own (OpenType, EBLC: ppemX), as the program has them."""
     found: set[int] = set()
     for tag in BITMAPS:
         known = table(data, face, tag)
         (count,) = numbers(">I", known, 4) or (0,)
         for k in range(min(count, len(known) // 48)):
-            found.update(it for it in numbers(">B", known, 8 + 48 * k + 45) or ())
+            found.update(numbers(">B", known, 8 + 48 * k + 44) or ())
     return found

@@ -9,7 +9,7 @@ import sys
 from . import bdf, sources
 from .charsets import OF_TEXT, characters, mapped
 from .looks import points
-from .refused import shown
+from .refused import Refused, shown
 
 TYPE_CHECKING = False  # as in glyph.py
 if TYPE_CHECKING:
@@ -103,6 +103,14 @@ def cell_of(text: str | None, option: str) -> tuple[int, int] | None:
     if not all(it.isascii() and it.isdigit() for it in (width, height)):
         raise ValueError("%s takes columns and rows, as 8x16, not '%s'" % (option, text))
     return int(width), int(height)
+
+
+def check_name(name: str) -> None:
+    """Refuses a name that a strike can't have, and says which it can."""
+    try:
+        bdf.check_name(name)
+    except Refused as why:
+        raise ValueError("%s: --name has 1 to 255 characters of ASCII, without a space at either end" % why.line) from None
 
 
 def _number(text: str, option: str, kind: Callable[[str], float]) -> float:

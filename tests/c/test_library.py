@@ -651,7 +651,8 @@ def picture_of(bits):
 
 @pytest.mark.parametrize("ppem, line", [(16, "Aging glyphs."), (150, "Aj|"), (64, "A" + 40 * "_")])
 def test_console(lib, ppem, line):
-    """examples/console.c draws the pixels of a strike's glyphs, as far as they are in its frame of 1,024 by 128."""
+    """examples/console.c draws the pixels of a strike's glyphs, as far as they are in its frame of 1,024 by 128, and says if the
+    line is cut."""
     font = lib.letters()
     strike, column, due = Strike(lib.make(font, ppem, EXAMPLES, 0x20, 0x7E)[1]), 0, set()
     for it in map(strike.get, line):
@@ -659,9 +660,12 @@ def test_console(lib, ppem, line):
                 if byte}
         column += it.advance
     width, height = min(column, 1024), min(strike.ascent + strike.descent, 128)
-    if picture_of(run([lib.at("console"), font, str(ppem), line]).stdout) != (
-            width, height, {(x, y) for x, y in due if 0 <= x < width and 0 <= y < height}):
+    done = run([lib.at("console"), font, str(ppem), line])
+    if picture_of(done.stdout) != (width, height, {(x, y) for x, y in due if 0 <= x < width and 0 <= y < height}):
         raise Wrong("examples/console.c: other pixels")
+    is_cut = (width, height) != (column, strike.ascent + strike.descent)
+    if (b"leaves the frame of 1024 x 128 pixels, and is cut" in done.stderr) != is_cut:
+        raise Wrong("examples/console.c says of a cut line: %s" % done.stderr.decode())
 
 
 def test_console_in_its_frame(lib):
@@ -757,7 +761,9 @@ def test_lines_of_console(number, lib):
         file.write(bars(ascender, descender))
     done = run([lib.at("console"), path, "16", text])
     assert done.stdout == line_of(widths, ascender, min(max(ascender - descender, 0), 128))
-    assert re.fullmatch(rb"memory [1-9]\d{2,5} bytes\n", done.stderr)
+    is_cut = ascender - descender > 128 or done.stdout.startswith(b"P4\n1024 ") or len(text) > 1024
+    cut = b"console: the line leaves the frame of 1024 x 128 pixels, and is cut\n" if is_cut else b""
+    assert re.fullmatch(cut + rb"memory [1-9]\d{2,5} bytes\n", done.stderr)
 
 
 @pytest.mark.parametrize("name", ["show", "console"])

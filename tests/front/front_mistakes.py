@@ -31,6 +31,7 @@ FILES = {
 SANS = object()
 COUNTS = r"mkstrike: glyphs \d+ missing \d+ strays \d+ steps \d+"
 USAGE, BAD_LIST, NONE = "mkstrike: usage", "mkstrike: 61 BadChars", ""
+NO_TEXT = "an argument is not UTF-8 text: read a font of such a name by < FONT, and write to such a name by > FILE"
 NO_GLYPH = "--chars is hexadecimal, and the letter A is 41"
 SEVERAL = "41," + ",".join("4e%02x" % it for it in range(0, 20, 2))
 MANY = ",".join("%x" % it for it in range(0x100, 0x200)) + ",0-ffff"
@@ -44,6 +45,8 @@ ROWS = [
     ("-o without a name", ["-o"], SANS, 2, USAGE, "-o takes the name of a file"),
     ("two outputs", ["-o", "a", "-o", "b"], SANS, 2, USAGE, "-o takes the name of a file, and is given once"),
     ("two fonts", ["FONT", "other.ttf"], b"", 2, USAGE, "one word too many, 'other.ttf'"),
+    ("a font whose name is not UTF-8", ["f\udcfc.ttf"], b"", 2, USAGE, NO_TEXT),
+    ("an output whose name is not UTF-8", ["-o", "f\udcfc.bdf"], SANS, 2, USAGE, NO_TEXT),
     ("wrong path", ["nosuch.ttf"], b"", 1, "mkstrike: can't open the font 'nosuch.ttf': there is no such file", "names the font"),
     ("font of a package", ["/usr/share/fonts/truetype/freefont/nosuch.ttf"], b"", 1,
      "mkstrike: can't open the font '/usr/share/fonts/truetype/freefont/nosuch.ttf': there is no such file",

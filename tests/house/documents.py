@@ -30,7 +30,7 @@ import tempfile
 
 import png
 import prebuilt
-from debian import FONTS, lacking
+from debian import lacking, lacking_font
 from prebuilt import TOP
 from program import python_with
 
@@ -175,7 +175,7 @@ class Document:
                 return lacking(tool)
         for folder, name in FONT.findall(text):
             if not os.path.exists(os.path.join("/usr/share/fonts/truetype", folder, name)):
-                return "no %s (Debian: %s)" % (name, FONTS[folder])
+                return lacking_font(folder + "/" + name)
         absent = next((name for name in sorted(self.absent) if name in text), None)
         return absent and "%s was left out" % absent
 

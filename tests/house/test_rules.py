@@ -1,7 +1,11 @@
 """The sources and the documents keep the rules of the house, and each rule finds the faults that are planted for it."""
+import os
+import subprocess
+
 import pytest
+from needs import tool
 from prebuilt import TOP
-from rules import LEFT, RULES, House
+from rules import LEFT, RULES, House, programs
 
 # A house of one crate in which no rule finds anything.
 MADE = {
@@ -234,3 +238,16 @@ def test_planted(number, tmp_path):
 def test_each_rule_has_a_planted_fault():
     """No rule is without a fault that it must find."""
     assert set(RULES) == {it[0] for it in PLANTED}
+
+
+def said_by_flake8(top, paths):
+    """What flake8 says of programs in Python, with the settings of this repository."""
+    words = [tool("flake8"), "--config", os.path.join(TOP, "setup.cfg"), *paths]
+    return subprocess.run(words, cwd=top, stdin=subprocess.DEVNULL, capture_output=True, text=True, check=False).stdout
+
+
+def test_flake8(house, tmp_path):
+    """flake8 has nothing to say of any program in Python, also of those without an ending, and finds an import that is not used."""
+    assert not said_by_flake8(TOP, programs(house))
+    (tmp_path / "sums").write_text("#!/usr/bin/env python3\nimport os\n")
+    assert " F401 " in said_by_flake8(tmp_path, ["sums"])

@@ -9,6 +9,7 @@ import sys
 
 import pytest
 
+import mkstrike
 from mkstrike import _library, command
 
 TOP = os.environ.get("MKSTRIKE_TOP") or os.path.dirname(os.path.dirname(os.path.dirname(os.path.realpath(__file__))))
@@ -18,12 +19,20 @@ SANS = FOLDER + "dejavu/DejaVuSans.ttf"
 MONO = FOLDER + "dejavu/DejaVuSansMono.ttf"
 LIBERATION = FOLDER + "liberation/LiberationMono-Regular.ttf"
 sys.path += [os.path.join(TOP, it) for it in ("tests/lib", "tests/program", "suite", "tools")]
+from debian import lacking_font  # noqa: E402
 
 
 def needs_font(*paths):
     """A mark that leaves a test out if a font is not installed."""
-    missing = [it for it in paths if not os.path.exists(it)]
-    return pytest.mark.skipif(bool(missing), reason="fonts-dejavu-core and fonts-liberation of Debian are not installed")
+    missing = [lacking_font(os.path.relpath(it, FOLDER)) for it in paths if not os.path.exists(it)]
+    return pytest.mark.skipif(bool(missing), reason=", ".join(missing))
+
+
+def font_at(path):
+    """A font; the test is left out if it is not installed."""
+    if not os.path.exists(path):
+        pytest.skip(lacking_font(os.path.relpath(path, FOLDER)))
+    return mkstrike.Font(path)
 
 
 def needs(module, package):

@@ -4,7 +4,7 @@ import re
 import subprocess
 
 import pytest
-from shared import PROGRAM, SANS, TOP, needs_font
+from shared import PROGRAM, SANS, TOP, font_at, needs_font
 
 import mkstrike
 from mkstrike import characters
@@ -42,8 +42,7 @@ def test_sets_are_those_of_standards(name, codec):
 def test_sets_of_the_command():
     """A set has the same characters here and for `mkstrike make --set`, by each of its names."""
     names = [*SETS, *OTHERS]
-    if not os.path.exists(SANS):
-        pytest.skip("there is no font")
+    font_at(SANS)
     for name in [*names, *map(str.upper, names)]:
         ran = subprocess.run([PROGRAM, "make", "--ppem", "8", "--set", name, "--unhinted", SANS], capture_output=True)
         assert ran.returncode == 0 and [int(it) for it in re.findall(rb"^ENCODING (\d+)$", ran.stdout, re.M)] == list(

@@ -2,7 +2,8 @@
 import os
 
 import pytest
-from shared import FOLDER, LIBERATION, MONO, SANS, flags, font_bytes, needs_font, pixels, program, strike_by_command, text_of
+from shared import FOLDER, LIBERATION, MONO, SANS, flags, font_at, font_bytes, needs_font, pixels, program, strike_by_command
+from shared import text_of
 
 import mkstrike
 
@@ -34,14 +35,13 @@ def broken(strike):
 @pytest.mark.parametrize("path", FONTS, ids=os.path.basename)
 def test_letters_stay_whole(tmp_path, path):
     """None of the 62 letters and digits falls apart at five sizes, by the command and by Python, as they come."""
-    if not os.path.exists(path):
-        pytest.skip("%s is not installed" % path)
+    font = font_at(path)
     strike_by_command(tmp_path, path, "--size", ",".join(map(str, SIZES)), "--chars", LETTERS)
     for size in SIZES:
         (made,) = tmp_path.glob("*-%d.bdf" % size)
         strike = mkstrike.Strike.open(made)
         assert len(strike) == 62 and not broken(strike)
-        assert dict(strike) == mkstrike.Font(path).at(size).glyphs(LETTERS)
+        assert dict(strike) == font.at(size).glyphs(LETTERS)
 
 
 @needs_font(LIBERATION)

@@ -158,7 +158,7 @@ def test_room(tmp_path):
     far = opened(tmp_path, text([(65, *filled(8, 8, 60000, 60000)), (66, *filled(8, 8))]))
     with pytest.raises(ValueError, match="more than 67,108,864"):
         far.encode("c")
-    pytest.importorskip("PIL")
+    pytest.importorskip("PIL", reason="PIL is not installed (Debian: python3-pil)")
     with pytest.raises(ValueError, match="a picture of .* one has at most 268,435,456"):
         far.sheet()
 
@@ -196,7 +196,10 @@ def test_show_bdf(tmp_path):
     assert run() == run("a=b.bdf") == (0, due, "") and run("a=b.bdf", "a=b.bdf") == (0, 2 * due, "")
     status, out, said = run(SANS)
     assert (status, out) == (1, "") and "no bitmap font in BDF; mkstrike show prints a glyph of a TrueType font" in said
-    assert run("nosuch.bdf")[0] == 1 and "nosuch.bdf" in run("nosuch.bdf")[2]
+    for words in (("nosuch.bdf",), ("a=b.bdf", "41")):
+        status, out, said = run(*words)
+        assert (status, out) == (1, "") and "show-bdf: there is no file %s; all glyphs of each FILE" % words[-1] in said
+    assert run("-") == run()
     assert run("--help")[:2] == (0, "show-bdf [FILE].. prints the glyphs of bitmap fonts (BDF) as pictures; without FILE those of "
                                  "standard input\n")
 

@@ -3,7 +3,7 @@ import os
 import unicodedata
 
 import pytest
-from shared import FOLDER, LIBERATION, MONO, needs_font, strike_by_command
+from shared import FOLDER, LIBERATION, MONO, font_at, needs_font, strike_by_command
 
 import mkstrike
 
@@ -36,6 +36,16 @@ def edge_of(strike, char, side, width):
     return frozenset(y if at[0] is not None else x for x, y in found if x == at[0] or y == at[1])
 
 
+def runs(places):
+    """The lines that end at places of an edge: places that are next to each other."""
+    found = []
+    for it in sorted(places):
+        if not found or it - 1 not in found[-1]:
+            found.append(set())
+        found[-1].add(it)
+    return found
+
+
 def test_names():
     """The names are read as they mean."""
     assert arms("┍") == {"down": "light", "right": "heavy"} and arms("╔") == {"down": "double", "right": "double"}
@@ -49,9 +59,7 @@ def test_names():
 def test_frames_join(path, cell):
     """Each line that reaches an edge meets each line of its kind that comes from the other side; a double one with both of its
     lines."""
-    if not os.path.exists(path):
-        pytest.skip("%s is not installed" % path)
-    font = mkstrike.Font(path)
+    font = font_at(path)
     made = font.strike(font.fit(*cell, "ascii,box"), "ascii,box").cell(*cell, join=True)
     assert not made.outside and {it.advance for it in made.values()} == {cell[0]}
     there = [it for it in BOX if it in made]
@@ -61,7 +69,7 @@ def test_frames_join(path, cell):
     for (char, side), places in ends.items():
         for (other, facing), beyond in ends.items():
             if facing == OPPOSITE[side] and arms(char)[side] == arms(other)[facing]:
-                assert places & beyond, "%s and %s, %s" % (char, other, side)
+                assert all(it & beyond for it in runs(places)), "%s and %s, %s" % (char, other, side)
 
 
 @needs_font(MONO)

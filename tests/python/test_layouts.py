@@ -169,8 +169,8 @@ def test_program_memory(tmp_path):
     for name in ("avr/pgmspace.h", "Arduino.h"):
         (tmp_path / name).write_text('#define PROGMEM __attribute__((section(".%s")))\n' % name[0])
     for words, section in (([], None), (["-D__AVR__"], ".a"), (["-DARDUINO=100"], ".A")):
-        (tmp_path / "main.c").write_text(text + \
-         "int main(void) { return small_rows[0][0] + small_chars[0] + small_advances[0]; }\n")
+        main = "int main(void) { return small_rows[0][0] + small_chars[0] + small_advances[0]; }\n"
+        (tmp_path / "main.c").write_text(text + main)
         subprocess.run(["gcc", "-I.", *words, "-Wall", "-Wextra", "-Werror", "main.c", "-o", "main"], cwd=tmp_path, check=True)
         said = subprocess.run(["objdump", "-h", "main"], cwd=tmp_path, check=True, capture_output=True, text=True).stdout
         assert [it for it in (".a", ".A") if " %s " % it in said] == ([section] if section else [])

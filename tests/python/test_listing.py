@@ -3,7 +3,7 @@ import json
 import struct
 
 import pytest
-from shared import LIBERATION, MONO, SANS, font_bytes, needs_font, needs_fonttools
+from shared import LIBERATION, MONO, SANS, font_bytes, needs_font, needs_fonttools, run_in_process
 
 import mkstrike
 from mkstrike.listing import METRICS, STANDARD, as_data, names_of_glyphs, of_strike, table_of
@@ -139,3 +139,33 @@ def test_wrong_names():
         font.glyphs(16, {"\ue000": 65536})
     with pytest.raises(mkstrike.Refused):
         font.glyphs(16, {"\ue000": 6253})
+
+
+# ---- the fonts of a file
+
+@needs_font(SANS, MONO)
+@needs_fonttools
+def test_faces(tmp_path):
+    """The fonts of a file by their numbers: of a collection, of WOFF, of CFF outlines; as a table and as JSON."""
+    from fontTools.ttLib import TTFont
+    from test_font_files import collected
+    path = tmp_path / "two.ttc"
+    collected(path, SANS, MONO)
+    assert [(it.family, it.style) for it in mkstrike.faces(path)] == [("DejaVu Sans", "Book"), ("DejaVu Sans Mono", "Book")]
+    assert mkstrike.faces(font_bytes(MONO)) == [mkstrike.Font(MONO).names]
+    status, out, err = run_in_process(["--faces", path], tmp_path)
+    assert (status, err) == (0, "") and out.decode().splitlines() == [
+        "face  family            style", "0     DejaVu Sans       Book", "1     DejaVu Sans Mono  Book"]
+    _, out, _ = run_in_process(["--faces", "--json", path], tmp_path)
+    assert [(it["face"], it["family"], it["is_monospace"]) for it in json.loads(out)] == [
+        (0, "DejaVu Sans", False), (1, "DejaVu Sans Mono", True)]
+    status, out, _ = run_in_process(["--faces", "-"], tmp_path, font_bytes(MONO))
+    assert (status, out.decode().splitlines()[1:]) == (0, ["0     DejaVu Sans Mono  Book"])
+    woff = TTFont(MONO)
+    woff.flavor = "woff"
+    woff.save(tmp_path / "mono.woff")
+    assert [it.family for it in mkstrike.faces(tmp_path / "mono.woff")] == ["DejaVu Sans Mono"]
+    for words in ([SANS], ["--size", "9"], ["--chars", "41"], ["--list"]):
+        assert run_in_process(["--faces", path, *words], tmp_path)[0] == 2
+    (tmp_path / "cut.ttc").write_bytes(font_bytes(path)[:10])
+    assert run_in_process(["--faces", "cut.ttc"], tmp_path)[2].startswith("strike: cut.ttc: 10 NotTrueType\n")

@@ -148,15 +148,15 @@ def test_list(tmp_path):
     out, _ = run(tmp_path, MONO, "--list", "--size", "12", "--unhinted")
     lines, glyph = out.splitlines(), mkstrike.Font(MONO).glyph(12, "A", hinted=False)
     assert lines[0] == "12 pixels per em, ascent 11, descent 3"
-    assert [it.split()[4:] for it in lines if it.startswith("U+0041 ")
-                     ] == [list(map(str, (glyph.advance, glyph.width, glyph.height, glyph.left, glyph.bottom)))]
+    due = [glyph.advance, glyph.width, glyph.height, glyph.left, glyph.bottom]
+    assert [it.split()[4:] for it in lines if it.startswith("U+0041 ")] == [list(map(str, due))]
     out, _ = run(tmp_path, MONO, "--list", "--json", "--size", "12")
     data = json.loads(out)
     assert (data["size"], data["ascent"], data["descent"], len(data["glyphs"])) == (12, 11, 3, len(lines) - 2)
     assert "size" not in json.loads(run(tmp_path, MONO, "--list", "--json")[0])
     mkstrike.Font(MONO).strike(12, "41-43").save(tmp_path / "a.bdf")
-    assert [it.split()[:4] for it in run(tmp_path, "a.bdf", "--list")[0].splitlines()[2:]
-                     ] == [["U+00%d" % it, chr(it - 41 + 65), "-", "uni00%d" % it] for it in (41, 42, 43)]
+    lines = run(tmp_path, "a.bdf", "--list")[0].splitlines()[2:]
+    assert [it.split()[:4] for it in lines] == [["U+00%d" % it, chr(it - 41 + 65), "-", "uni00%d" % it] for it in (41, 42, 43)]
 
 
 # ---- two strikes compared
@@ -222,8 +222,8 @@ def test_forms(tmp_path):
         assert (tmp_path / ("DejaVuSansMono-13" + ending)).read_bytes().replace(b"_gfx", b"") == data.replace(b"_gfx", b""), ending
     assert (tmp_path / "DejaVuSansMono_13.py").read_bytes() == strike.encode("py", **layout)
     strike.save(tmp_path / "DejaVuSansMono-13b.fnt", padding=2)
-    assert (tmp_path / "DejaVuSansMono-13.fnt").read_bytes() == (tmp_path / \
-            "DejaVuSansMono-13b.fnt").read_bytes().replace(b"13b", b"13")
+    again = (tmp_path / "DejaVuSansMono-13b.fnt").read_bytes()
+    assert (tmp_path / "DejaVuSansMono-13.fnt").read_bytes() == again.replace(b"13b", b"13")
 
 
 def test_pictures_of_games_are_not_lost(tmp_path):

@@ -8,7 +8,7 @@ import subprocess
 import sys
 
 import pytest
-from shared import FOLDER, MONO, SANS, font_bytes, needs_font, needs_fonttools, strike_by_command
+from shared import FOLDER, MONO, SANS, font_at, font_bytes, needs_font, needs_fonttools, strike_by_command
 
 import mkstrike
 
@@ -25,9 +25,7 @@ OBLIQUE = FOLDER + "dejavu/DejaVuSans-Oblique.ttf"
     (OBLIQUE, ("DejaVu Sans", "Oblique", 400, 5, "O", False), "-misc-DejaVu Sans-Medium-O-Normal--16-160-72-72-p")])
 def test_names(path, names, name):
     """Family, style, weight, width, slant and spacing; X11's name has them, and the size."""
-    if not os.path.exists(path):
-        pytest.skip("%s is not installed" % path)
-    font = mkstrike.Font(path)
+    font = font_at(path)
     assert tuple(font.names) == names and font.names.family == names[0]
     strike = font.strike(16, "41-43,61-63", x11=True)
     average = (20 * sum(it.advance for it in strike.values()) + 6) // 12

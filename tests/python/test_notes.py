@@ -4,7 +4,7 @@ import struct
 import warnings
 
 import pytest
-from shared import MONO, SANS, flags, font_bytes, needs_font, needs_fonttools, program, run_in_process
+from shared import LIBERATION, MONO, SANS, flags, font_bytes, needs_font, needs_fonttools, program, run_in_process
 from test_font_files import MASTERS, built
 
 import mkstrike
@@ -45,7 +45,7 @@ def test_variable_fonts(tmp_path):
 @needs_fonttools
 def test_bitmaps_of_its_own(tmp_path):
     """A font that has bitmaps at this size says that they are not read; at another size it says nothing."""
-    size = struct.pack(">IIII24xHHBBBB", 56, 0, 0, 0, 0, 1, 12, 13, 1, 1)
+    size = struct.pack(">IIII24xHHBBBB", 56, 0, 0, 0, 0, 1, 13, 13, 1, 1)
     for tag in ("EBLC", "bloc"):
         data = with_table(built(MASTERS[0], 400), tag, struct.pack(">II", 0x00020000, 1) + size)
         assert tables.bitmap_sizes(data, 0) == {13}
@@ -122,6 +122,7 @@ def test_cff(tmp_path):
         made = mkstrike.Font(straight).strike(size, "41")
         assert made.text == mkstrike.Font(same).strike(size, "41", hinted=False).text and made.notes == (said,)
     assert told(tmp_path, straight, "--chars", "41") == [said]
+    assert mkstrike.faces(straight)[0][:2] == ("Made", "Regular")
     # a quarter of a circle of radius 1,000 by a cubic; its points are near those of the curve, worked out from its formula
     round_ = cubic([(0, 0), (1000, 0), ((1000, 552), (552, 1000), (0, 1000))], 1000)
     font = mkstrike.Font(round_)
@@ -175,3 +176,17 @@ def test_refused_by_the_command(tmp_path, words, status, said):
     """The status, and that no file is there if it is 1."""
     found, _, err = run_in_process([SANS, *words, "--quiet"] if "--preview" not in words else [SANS, *words], tmp_path)
     assert found == status and said in err and bool(list(tmp_path.iterdir())) == (not status and "--preview" not in words), err
+
+
+@needs_font(LIBERATION, SANS)
+def test_uneven_advances(tmp_path):
+    """At 10 pixels the cent sign of Liberation Mono has an advance of its own: with the properties of X11 a line says so."""
+    said = ("SPACING is P, since the advance of U+00A2 is not that of the others: --unhinted or --cell can make all "
+            "equal, --property SPACING=C says what you know")
+    data = font_bytes(LIBERATION)
+    widths = {char: it.advance for char, it in mkstrike.Font(data).strike(10, "latin-1").items()}
+    assert {char for char, it in widths.items() if it != 6} == {"¢"}
+    assert told(tmp_path, data, "--size", "10", "--x11") == told(tmp_path, data, "--size", "10", "--x11", "--name", "x") == [said]
+    for words in ([], ["--x11", "--unhinted"], ["--x11", "--cell", "6x12", "--clip"], ["--x11", "--property", "SPACING=C"]):
+        assert said not in told(tmp_path, data, "--size", "10", *words)
+    assert told(tmp_path, font_bytes(SANS), "--size", "10", "--x11") == []

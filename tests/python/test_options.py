@@ -12,8 +12,8 @@ INPUTS = {"font": ["in.ttf"], "BDF": ["in.bdf"], "joined": ["--font", "in.ttf", 
 # The words that make each kind of output; its file, if it has one.
 OUTPUTS = {**{it: ["-o", "out", "--format", it] for it in options.FILES}, options.TERMINAL: ["--preview", "AWkƜ一█☔"],
            options.PICTURE: ["-o", "out.png", "--preview", "AWkƜ一█☔"], options.SHEET: ["--sheet", "9,16", "--out", "."],
-           options.LIST: ["--list"], options.DIFF: ["--diff", "in.bdf"]}
-WITHOUT_CHARS = (options.TERMINAL, options.PICTURE, options.LIST)
+           options.LIST: ["--list"], options.FACES: ["--faces"], options.DIFF: ["--diff", "in.bdf"]}
+WITHOUT_CHARS = (options.TERMINAL, options.PICTURE, options.LIST, options.FACES)
 CELLS = ["--cell", "8x14"]  # in which some glyphs leave the cell, and raw cells can be made
 # From each option to its words, which change the output beside those words that come with it.
 WORDS = {
@@ -30,7 +30,7 @@ WORDS = {
     "bytes": ["--bytes", "columns"], "bits": ["--bits", "lsb"], "align": ["--align", "right"],
     "attribute": ["--attribute", "PROGMEM"],
     "dense": ["--dense"], "padding": ["--padding", "2"], "glyph": ["--glyph", "B=41"], "height": ["--height", "15"],
-    "cap_height": ["--cap-height", "9"], "sheet": ["--sheet", "8-9"], "list": ["--list"], "json": ["--json"],
+    "cap_height": ["--cap-height", "9"], "sheet": ["--sheet", "8-9"], "list": ["--list"], "faces": ["--faces"], "json": ["--json"],
     "diff": ["--diff", "in.bdf"],
     "require": ["--require"], "strict": ["--strict"], "quiet": ["--quiet"], "font": ["--font", "in.bdf"],
 }
@@ -83,7 +83,7 @@ def test_pairs(folder, kind, output):
         before = [*common, *OUTPUTS[output], *(cells or NEEDED.get(name, [])), *BESIDE.get(name, [])]
         if name in ("out", "name"):
             before = [it for it in before if it not in ("-o", "out")]  # without a file of its own
-        if name in ("preview", "format", "output", "list", "diff") and words[0] in before:
+        if name in ("preview", "format", "output", "list", "faces", "diff") and words[0] in before:
             continue  # the output is made by this option
         base, found = made(folder, [*before, *INPUTS[kind]]), made(folder, [*words, *before, *INPUTS[kind]])
         if found[0] == 2 or found[0] == 1 and found[2] and not found[3]:

@@ -135,7 +135,7 @@ static void draw(unsigned k, int x, int y) {
             set(x + g->ofs_x + bit % g->box_w, top + bit / g->box_w);
 }
 """
-CC = pytest.mark.skipif(not shutil.which("gcc"), reason="gcc is not installed")
+CC = pytest.mark.skipif(not shutil.which("gcc"), reason="gcc is not installed (Debian: gcc, libc6-dev)")
 
 
 def drawn(folder, header, draw, strike, before=""):

@@ -63,7 +63,7 @@ def test_what_is_no_file(tmp_path):
         strike.save(tmp_path, "bdf")
 
 
-def full(*_):
+def full(*_, **__):
     """A call of the system that fails."""
     raise OSError(errno.ENOSPC, "the disk is full")
 
@@ -141,6 +141,39 @@ def test_owner(tmp_path, monkeypatch):
     assert sorted(asked) == [(-1, old.st_gid), (old.st_uid, -1)]
 
 
+@pytest.mark.parametrize("is_there", [True, False])
+def test_planted_meanwhile(tmp_path, monkeypatch, is_there):
+    """A link that takes the place of a stranger's file, or of none, after it was opened: what it leads to never gets the
+    stranger's owner and mode. Nothing is replaced if that goes on."""
+    path, victim, realpath, is_back = tmp_path / "a.bdf", tmp_path / "victim", os.path.realpath, False
+    victim.write_bytes(b"its own")
+    victim.chmod(0o600)
+
+    def file_of_a_stranger():
+        path.unlink(missing_ok=True)
+        if is_there:
+            path.write_bytes(b"a stranger's")
+            path.chmod(0o666)
+
+    def planted(it):
+        path.unlink(missing_ok=True)
+        path.symlink_to("victim")
+        found = realpath(it)
+        if is_back:
+            file_of_a_stranger()
+        return found
+
+    file_of_a_stranger()
+    monkeypatch.setattr(os.path, "realpath", planted)
+    formats.write(str(path), b"new")
+    assert (victim.read_bytes(), stat.S_IMODE(victim.stat().st_mode), path.is_symlink()) == (b"new", 0o600, True)
+    is_back = True
+    file_of_a_stranger()
+    with pytest.raises(OSError, match="others replace it all the time"):
+        formats.write(str(path), b"newer")
+    assert victim.read_bytes() == b"new" and sorted(os.listdir(tmp_path)) == ["a.bdf"] * is_there + ["victim"]
+
+
 def test_system_calls(tmp_path):
     """The name is opened as it was given, so that the kernel can refuse a planted link. All is on the disk before the file gets
     it."""
@@ -154,8 +187,10 @@ def test_system_calls(tmp_path):
     assert ran.returncode == 0, ran.stderr
     calls = (tmp_path / "calls").read_text()
     wanted = [r'openat\(AT_FDCWD, "link.bdf", O_WRONLY\|O_CLOEXEC\) += (\d+)',
-              r'openat\(AT_FDCWD, "[^"]*\.new", O_WRONLY\|O_CREAT\|O_EXCL[^=]*= (\d+)',
-              r"fchmod\(\2, ", r'write\(\2, "new", 3\)', r"fsync\(\2\)", r"close\(\2\)", r"rename[^\n]*a\.bdf", r"close\(\1\)"]
+              r'openat\(AT_FDCWD, "[^"]*", [A-Z_|]*\|O_DIRECTORY\) += (\d+)',
+              r'openat\(\2, "\.mkstrike-[0-9a-f]{16}", O_WRONLY\|O_CREAT\|O_EXCL[^=]*= (\d+)',
+              r"fchmod\(\3, ", r'write\(\3, "new", 3\)', r"fsync\(\3\)", r"close\(\3\)", r'rename[^\n]* \2, "a\.bdf"',
+              r"close\(\2\)", r"close\(\1\)"]
     assert re.search(".*\n".join(wanted), calls[calls.index("link.bdf") - 20:]), calls[-1000:]
 
 

@@ -41,7 +41,6 @@ def test_cells_by_hand():
     assert {it.advance for it in strike.cell(4, 9).values()} == {4} and strike.cell(5, 9, wide=True).outside == {"あ": (0, 0, 1, 0)}
 
 
-
 @needs_font(MONO)
 def test_fit(tmp_path):
     """--fit looks at two cells for a wide character: a smiley of DejaVu Sans Mono that is wide does not make the letters

@@ -5,6 +5,7 @@ nothing."""
 import atexit
 import functools
 import http.server
+import itertools
 import json
 import os
 import random
@@ -34,6 +35,7 @@ from mkstrike import Strike  # noqa: E402
 IN_BROWSER = 20  # fonts
 CONTRAST = 4.5  # of text, as WCAG 2.2 has it for level AA
 PATIENCE = 100  # milliseconds of the page's and its worker's processor time for a change of size
+LETTERS = "30-39,41-5a,61-7a"  # of which the ladder counts those that fall apart
 LONGEST = 500  # milliseconds of processor time in which the page does not look at keys and clicks
 MOST_PICTURE = 60000000  # pixels of a text's picture at the zoom
 NAMES = 200  # of fonts' files, for the comment of a header
@@ -126,7 +128,8 @@ def controls(page):
 def address(page):
     """The address keeps the text and the settings, and another address sets them; what a control can't have leaves it as it is."""
     due = {"ppem": "23", "hinted": "false", "dropout": "near", "zoom": "7", "text": "\u00e4 & b\nc=#", "beside": "larger",
-           "differences": "true", "chars": "41-43", "rule": "stop"}
+           "differences": "true", "chars": "41-43", "rule": "stop", "bytes": "pages", "bits": "msb", "align": "right",
+           "flash": "true"}
     values = VALUES_SCRIPT % json.dumps(list(due))
     plain = page.browser.evaluate(values)
     for control, value in due.items():
@@ -161,8 +164,32 @@ def ladder(page):
             pen += strike[it].advance
         seen = {(x, -y) for y, row in enumerate(rows) for x, it in enumerate(row) if it == "1"}
         assert moved(seen) == moved(due), "the ladder at %s" % size
+    whole = {char: parts(it) for char, it in Strike(engine.answer(path, 80, DROPOUT, LETTERS)[0]).items()}
+    for size, said in page.browser.evaluate("[...document.querySelectorAll('#ladder > div')].map((it) => [it.firstChild, "
+                                            "it.lastChild].map(({ textContent }) => textContent))"):
+        with_control, without = (Strike(engine.answer(path, int(size), mode, LETTERS)[0]) for mode in (DROPOUT_FONT, 0))
+        apart = [sum(not 1 <= parts(it) <= whole[char] for char, it in made.items()) for made in (with_control, without)]
+        assert said == "%d × %d: %d of 62 fall apart, %d without drop-out control" % (
+            max(it.advance for it in with_control.values()), with_control.ascent + with_control.descent, *apart)
+    page.set("dropout", "off")
+    page.browser.until("document.body.dataset.ladder === `${document.body.dataset.drawn} 17`", "a ladder without drop-out control")
+    said = page.text_of("#ladder > div:last-child span")
+    assert re.fullmatch(r"\d+ × \d+: %d of 62 fall apart" % apart[1], said)
+    page.set("dropout", "font")
     page.drawn_after(lambda: page.browser.evaluate("document.querySelectorAll('#ladder button')[3].click()"), "choosing a size")
     assert (page.value_of("ppem"), page.value_of("ppem-slider")) == ("11", "11")
+
+
+def parts(glyph):
+    """How many parts the pixels of a glyph are in; those that touch at a corner are in one."""
+    left, count = pixels_of(glyph), 0
+    while left:
+        count, found = count + 1, [left.pop()]
+        for x, y in found:
+            near = {(x + dx, y + dy) for dx in (-1, 0, 1) for dy in (-1, 0, 1)} & left
+            left -= near
+            found += near
+    return count
 
 
 def moved(pixels):
@@ -377,11 +404,32 @@ def told(page):
     assert [*is_told, "variable" in page.text_of("#font")] == [False, True]
     page.dropped("cut.ttf", varies[:20])
     assert "variable" not in page.text_of("#font")
+    # a record of the table has 48 bytes, the pixels per em across in the 45th and down in the 46th (OpenType, EBLC)
+    for tag in ("EBLC", "bloc"):
+        sizes = struct.pack(">II", 0x00020000, 2) + b"".join(bytes(44) + bytes((it, 99, 1, 1)) for it in (13, 20))
+        page.dropped("bitmaps.ttf", fonts.with_tables(sample_font.sample(), **{tag: sizes}))
+        told = []
+        for size in ("13", "14", "20"):
+            page.set("ppem", size)
+            told.append(page.text_of("#told"))
+        due = "The font has bitmaps of its own at %d pixels, which are not read: its outlines are drawn."
+        assert told == [due % 13, "", due % 20]
+    page.dropped("cut-off.ttf", fonts.with_tables(sample_font.sample(), EBLC=sizes[:30]))
+    assert page.text_of("#told") == ""
+    symbols = [(code, *sample_font.glyph_of(sample_font.PATHS["A"])) for code in (0xF0A1, 0xF0A2)]
+    page.dropped("symbols.ttf", sample_font.sample(symbols))
+    page.set("chars", "a1")
+    page.browser.until("document.getElementById('told').innerText.includes('symbols')", "telling of symbols")
+    due = "The font lacks 1 character: a1. It is a font of symbols: its characters begin at U+F0A1"
+    assert page.text_of("#told").startswith(due)
+    for chars in ("20,a1", "41", "3b1", "f0a1"):
+        page.set("chars", chars)
+        assert "symbols" not in page.text_of("#told")
 
 
 def order(page):
     """The page is in the order of work; on a phone the picture is in sight at once, above the buttons that save."""
-    ids = json.dumps(["file", "chars", "ppem", "main", "name", "sheet", "ladder"])
+    ids = json.dumps(["file", "chars", "ppem", "main", "bytes", "name", "sheet", "ladder"])
     places = page.browser.evaluate(
         "((all) => %s.map((id) => all.indexOf(document.getElementById(id))))([...document.querySelectorAll('*')])" % ids)
     assert -1 not in places and places == sorted(places), "another order: %s" % places
@@ -460,6 +508,13 @@ def saves(page):
             is_same = data.replace(b"8x_- ", b"") == due.replace(b"drawn", ppem.encode())
             page.browser.evaluate("document.getElementById('name').value = 'drawn'")
             assert name == "_8x__%s%s" % (ppem, ending) and is_same, "%s at %s is not what the Python package writes" % (name, ppem)
+    for layout in itertools.product(("rows", "columns", "pages"), ("", "msb", "lsb"), ("left", "right"), (False, True)):
+        for control, value in zip(("bytes", "bits", "align", "flash"), layout):
+            page.change(control, value)
+        more = {key: it for key, it in zip(("bytes", "bits", "align", "attribute"), (*layout[:3], "PROGMEM" * layout[3])) if it}
+        due = engine.run([sys.executable, "-c", ENCODE, strike, "c", "drawn", json.dumps(more)],
+                         env={**os.environ, "PYTHONPATH": os.path.join(TOP, "python")}).stdout
+        assert page.save("c") == ("drawn.h", due), "the arrays by %s are not those of the Python package" % (layout,)
 
 
 def headers(page):
@@ -686,7 +741,8 @@ def test_page(step, page):
 
 
 # Writes a strike in a format, by the Python package.
-ENCODE = "import sys, mkstrike; sys.stdout.buffer.write(mkstrike.Strike.open(sys.argv[1]).encode(sys.argv[2], name=sys.argv[3]))"
+ENCODE = ("import json, sys, mkstrike; sys.stdout.buffer.write(mkstrike.Strike.open(sys.argv[1]).encode(sys.argv[2], "
+          "name=sys.argv[3], **json.loads((sys.argv + ['{}'])[4])))")
 # The types of Adafruit_GFX.h.
 GFX = """#include <stdint.h>
 typedef struct { uint16_t offset; uint8_t width, height, advance; int8_t left, top; } GFXglyph;
