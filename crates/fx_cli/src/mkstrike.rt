@@ -1,12 +1,15 @@
 //! The program that a front runs.
-ghost use Rattle.std.specs.Prelude.{◌≡◌, ◌<◌, ◌^◌, map};
+ghost use Rattle.std.specs.Prelude.{◌≡◌, ◌<◌, ◌^◌, IfOk, map, string_bytes};
 ghost use Rattle.fx_fixed.specs.Changes.{change_of};
+ghost use Rattle.fx_front.specs.Lines.{Says};
+ghost use Rattle.fx_cli.specs.Items.{fault_said, hyphen_of, item_said, meant_said, no_item_said, number_said, one_item_said};
+ghost use Rattle.fx_cli.specs.Items.{range_said, without_mark};
 
 use crate::program::run_watched;
 use crate::watch::Watch;
 use fx_arguments::{ItemFault, explain, wrong_item};
 use fx_fixed::{Sink, Source};
-use fx_front::{Facts, Parts, Text, Tool};
+use fx_front::{Facts, Parts, Text, Tool, after_start};
 use std::alloc::{AllocError, Global};
 use std::marker::Model;
 
@@ -38,11 +41,17 @@ impl Mkstrike {
 }
 
 impl Tool for Mkstrike {
+    ghost use Rattle.fx_arguments.specs.Mistakes.{checked, line_of};
+    ghost use Rattle.fx_cli.specs.Items.{wrong_item_said};
     ghost use Rattle.fx_cli.specs.Runs.{Runs};
 
     ghost Ran = { Runs };
 
     ghost learned = { λ facts. facts };
+
+    ghost wrong_in = { λ words. line_of (checked words) };
+
+    ghost wrong_item = { wrong_item_said };
 
     fn run<R: Source, O: Sink, E: Sink>(
         &mut self,
@@ -65,30 +74,64 @@ impl Tool for Mkstrike {
         &self.watch.facts
     }
 
-    fn wrong(&self, alloc: Global, words: &[&str]) -> Result<Vec<u8>, AllocError> {
+    fn wrong(&self, alloc: Global, words: &[&str]) -> Result<String, AllocError> {
         match explain(alloc, words) {
-            Ok(line) => Ok(line),
-            Err(_) => Ok(Vec::new(alloc)),
+            Ok(line) => text_of(line),
+            Err(_) => Err(AllocError),
         }
     }
 
     fn add_wrong_item(&self, text: &mut Text, list: &str) {
         match wrong_item(list) {
             None => text.add_all(&["the list has more than 65,536 numbers"]),
-            Some(("", ItemFault::NoNumber)) => text.add_all(&["the list has a comma too many"]),
-            Some((item, why)) => {
-                text.add_all(&["'", item]);
-                text.add_all(&[what_is_wrong(why)]);
-                if matches!(why, ItemFault::NoNumber) {
-                    add_number_meant(text, item);
-                }
-            }
+            Some((item, why)) => add_item(text, item, why),
         }
     }
 }
 
+/// The text of a line. The pieces of a line are texts, so it always has one.
+fn text_of(line: Vec<u8>) -> Result<String, AllocError>
+    ensures { IfOk result (λ text. string_bytes text ≡ line.items) }
+{
+    match String::from_utf8(line) {
+        Ok(text) => Ok(text),
+        Err(_) => Err(AllocError),
+    }
+}
+
+/// Adds what is wrong with an item.
+fn add_item(text: &mut Text, item: &str, why: ItemFault)
+    ensures { Says text.old text.new (item_said why item.now) }
+{
+    if item.is_empty() {
+        add_no_item(text, why);
+    } else {
+        add_one_item(text, item, why);
+    }
+}
+
+/// Adds what is wrong with an item without bytes.
+fn add_no_item(text: &mut Text, why: ItemFault)
+    ensures { Says text.old text.new (no_item_said why) }
+{
+    match why {
+        ItemFault::NoNumber => text.add_all(&["the list has a comma too many"]),
+        why => text.add_all(&["'", "", what_is_wrong(why)]),
+    }
+}
+
+/// Adds what is wrong with an item that has bytes.
+fn add_one_item(text: &mut Text, item: &str, why: ItemFault)
+    ensures { Says text.old text.new (one_item_said why item.now) }
+{
+    text.add_all(&["'", item, what_is_wrong(why)]);
+    add_meant(text, item, why);
+}
+
 /// What is wrong with an item of a list.
-fn what_is_wrong(why: ItemFault) -> &'static str {
+fn what_is_wrong(why: ItemFault) -> &'static str
+    ensures { result.now ≡ fault_said why }
+{
     match why {
         ItemFault::NoNumber => "' in the list is no hexadecimal number or range",
         ItemFault::TooLong => "' in the list has a number of more than six digits",
@@ -97,20 +140,46 @@ fn what_is_wrong(why: ItemFault) -> &'static str {
     }
 }
 
-/// Adds which number or range an item would be without the marks before its numbers.
-fn add_number_meant(text: &mut Text, item: &str) {
-    let (low, high) = item.split_once('-').unwrap_or((item, ""));
-    let (low, high) = (without_mark(low), without_mark(high));
-    if !low.is_empty() && wrong_item(low).is_none() && wrong_item(high).is_none() {
-        let hyphen = if high.is_empty() { "" } else { "-" };
-        text.add_all(&[", but ", low, hyphen, high, " is"]);
+/// Adds which number or range is meant by an item that is none.
+fn add_meant(text: &mut Text, item: &str, why: ItemFault)
+    ensures { Says text.old text.new (meant_said why item.now) }
+{
+    if let ItemFault::NoNumber = why {
+        add_number_meant(text, item);
     }
 }
 
-/// A number without `0x` or `U+` before it.
-fn without_mark(text: &str) -> &str {
-    match text.split_at_checked(2) {
-        Some(("0x" | "0X" | "U+" | "u+", number)) => number,
-        _ => text,
+/// Adds which number or range an item would be without the marks before its numbers.
+fn add_number_meant(text: &mut Text, item: &str)
+    ensures { Says text.old text.new (number_said item.now) }
+{
+    let (low, high) = item.split_once('-').unwrap_or((item, ""));
+    add_range(text, without_mark(low), without_mark(high));
+}
+
+/// Adds this number or range, if it is right.
+fn add_range(text: &mut Text, low: &str, high: &str)
+    ensures { Says text.old text.new (range_said low.now high.now) }
+{
+    if !low.is_empty() && wrong_item(low).is_none() && wrong_item(high).is_none() {
+        text.add_all(&[", but ", low, hyphen_of(high), high, " is"]);
     }
+}
+
+/// The hyphen of a range.
+fn hyphen_of(high: &str) -> &'static str
+    ensures { result.now ≡ hyphen_of high.now }
+{
+    if high.is_empty() { "" } else { "-" }
+}
+
+/// A number without `0x` or `U+` before it.
+fn without_mark<'a>(text: &'a str) -> &'a str
+    ensures { result.now ≡ without_mark text.entry.now }
+{
+    after_start("0x", text)
+        .or(after_start("0X", text))
+        .or(after_start("U+", text))
+        .or(after_start("u+", text))
+        .unwrap_or(text)
 }

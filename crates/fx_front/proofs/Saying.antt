@@ -1,7 +1,7 @@
 -- Texts that are added to one after the other, and told.
-use Rattle.std.proofs.Common.{◌≡◌, ℕ, ◌<◌, ◌^◌, List, [], ◌++◌, Option, Some, None, Ok, Err, inl, inr, append_assoc, arith}
+use Rattle.std.proofs.Common.{◌≡◌, ℕ, ◌<◌, ◌^◌, List, [], ◌++◌, Option, Some, None, Ok, Err, inl, inr, append_assoc, arith, refl}
 use Rattle.fx_fixed.specs.Changes.{Change}
-use Rattle.fx_front.specs.Lines.{Says, SaysLine, Tells, TellsText}
+use Rattle.fx_front.specs.Lines.{IsSilent, Says, SaysLine, Tells, TellsText}
 
 pub chained : (x y : List ℕ) (a b c : Option (List ℕ)) → Says a b x → Says b c y → Says a c (x ++ y)
 chained x y a b None p q = tt
@@ -14,6 +14,12 @@ pub told : (change : Change) (text : Option (List ℕ)) (line : List ℕ) → Sa
     → Tells change line
 told change None line says tells = inl tells
 told change (Some text) line says tells = let same : line ≡ text = grind arith in rw same tells
+
+-- between a moment and itself nothing is written
+pub unchanged : (bytes : Option (List ℕ)) (faults : ℕ)
+    → IsSilent (record { bytes_before = bytes; bytes = bytes; faults_before = faults; faults = faults })
+unchanged None faults = (tt, refl)
+unchanged (Some xs) faults = (refl, refl)
 
 -- a line adds at most one fault
 pub few_faults : (change : Change) → SaysLine change → change.faults_before < 2 ^ 62 → change.faults < 2 ^ 63

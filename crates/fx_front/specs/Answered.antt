@@ -6,8 +6,8 @@ use Rattle.fx_fixed.specs.declared.sink.WriteFailed.{WriteFailed}
 use Rattle.fx_words.specs.Parts.{Text}
 use Rattle.fx_words.specs.Sets.{Table, value_of}
 use Rattle.fx_front.specs.Lines.{IsSilent, Tells, shown_text}
-use Rattle.fx_front.specs.inner.Advised.{usual_for}
-use Rattle.fx_front.specs.inner.Asked.{AskedView, help, version, refusal, run}
+use Rattle.fx_front.specs.Meant.{usual_for}
+use Rattle.fx_front.specs.Asked.{AskedView, help, version, refusal, run}
 use Rattle.fx_front.specs.declared.help.TheConstants.{HELPS, OVERVIEW, REFUSALS, VERSION}
 
 -- all of a text was written and the status is 0, or its first bytes with a fault and it is 1

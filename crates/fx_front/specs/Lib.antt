@@ -1,5 +1,11 @@
+pub mod Meant
+pub mod Listed
+pub mod Mistaken
+pub mod Advised
+pub mod Told
+pub mod Asked
+pub mod Kinds
 pub mod Answered
 pub mod Fronts
 pub mod Places
 pub mod Lines
-pub mod inner

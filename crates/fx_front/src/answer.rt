@@ -5,7 +5,7 @@ ghost use Rattle.fx_words.specs.Parts.{text_in};
 ghost use Rattle.fx_words.specs.Sets.{value_of};
 ghost use Rattle.fx_front.specs.Answered.{Answered, ExplainsBy, HelpsBy, Prints, helps, meaning_of, no_help};
 ghost use Rattle.fx_front.specs.Lines.{Tells};
-ghost use Rattle.fx_front.specs.inner.Asked.{seen_asked};
+ghost use Rattle.fx_front.specs.Asked.{seen_asked};
 
 use crate::asked::Asked;
 use crate::help::{HELPS, OVERVIEW, REFUSALS, VERSION};

@@ -1,7 +1,7 @@
 //! What a command line asks a front for.
 ghost use Rattle.std.specs.Prelude.{◌≡◌, [], codes, unwrap_or, if◌then◌else◌};
 ghost use Rattle.fx_words.specs.Parts.{text_in, texts, value_in};
-ghost use Rattle.fx_front.specs.inner.Asked.{asked_by, asked_by_explain, asked_by_word, names_refusal, seen_asked};
+ghost use Rattle.fx_front.specs.Asked.{asked_by, asked_by_explain, asked_by_word, names_refusal, seen_asked};
 
 use crate::meant::takes_font;
 use fx_fixed::Digits;
@@ -31,7 +31,7 @@ pub struct AskedRun<'t, 'a> {
 
 impl<'t, 'a> AskedRun<'t, 'a> {
     ghost use Rattle.fx_front.specs.Places.{is_named};
-    ghost use Rattle.fx_front.specs.inner.Asked.{names_glyph};
+    ghost use Rattle.fx_front.specs.Asked.{names_glyph};
 
     /// Whether this is the command.
     pub(crate) fn is(&self, name: &str) -> bool

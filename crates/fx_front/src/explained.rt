@@ -1,26 +1,31 @@
 //! The lines after a run: what to do.
-ghost use Rattle.std.specs.Prelude.{◌≡◌, ◌≢◌, ◌&&◌, codes, if◌then◌else◌};
+ghost use Rattle.std.specs.Prelude.{◌≡◌, ◌<◌, ◌&&◌, codes, if◌then◌else◌};
 ghost use Rattle.fx_fixed.specs.Changes.{change_of};
-ghost use Rattle.fx_words.specs.Parts.{text_in, texts, value_in};
+ghost use Rattle.fx_words.specs.Parts.{seen, text_in, texts, value_in};
 ghost use Rattle.fx_front.specs.Lines.{Says, SaysLine, Tells};
 ghost use Rattle.fx_front.specs.Places.{is_named};
-ghost use Rattle.fx_front.specs.inner.Advised.{AdvisesRefusal, after_halt, after_refusal, is_other, start_of, why_no_glyph};
-ghost use Rattle.fx_front.specs.inner.Asked.{names_glyph};
+ghost use Rattle.fx_front.specs.Advised.{after_halt, are_missing, code_said, codes_said, ends_in, file_said};
+ghost use Rattle.fx_front.specs.Advised.{first_line, first_said, fonts_in, fonts_said, is_other, missing_said, named_said};
+ghost use Rattle.fx_front.specs.Advised.{no_glyph_said, refusal_said, second_line, several_said, start_of, strike_said, why_no_glyph};
 
 use crate::asked::AskedRun;
 use crate::facts::{Counts, Facts, RefusalFacts};
 use crate::kinds::known_kind;
 use crate::lines::tell;
-use crate::meant::{instead_of, is_among, meant_by, set_meant_by};
+use crate::listed::add_list;
+use crate::mistaken::add_usage;
 use crate::run::Ended;
 use crate::text::Text;
 use crate::tool::Tool;
 use fx_fixed::{Digits, Sink};
-use fx_words::{has, is_path, list_of};
-use std::alloc::{AllocError, Global};
+use fx_words::has;
+use std::alloc::Global;
 
 /// The endings of files of other formats.
-const OTHERS: &str = "psf psfu pcf otb png pbm h c gz pf2 fnt fon hex ttf";
+const OTHERS: [&str; 14] = [
+    ".psf", ".psfu", ".pcf", ".otb", ".png", ".pbm", ".h", ".c", ".gz", ".pf2", ".fnt", ".fon",
+    ".hex", ".ttf",
+];
 
 /// The advice on a file whose name has such an ending.
 const IS_BDF: &str =
@@ -39,23 +44,6 @@ const IS_CUT: &str =
 
 const IS_BLANK: &str = "no pixel of the strike is set: its characters are blank";
 
-/// What takes a list that is no numbers.
-const LISTS: &str =
-    "; --set takes sets by name, and strike --text of the package python3-mkstrike takes letters";
-
-const NOT_A_CHARACTER: &str =
-    "--char takes one hexadecimal number up to 10FFFF, not '%'; the letter A is 41";
-
-const WRONG_LINE: &str =
-    "without arguments the first line of the input is the command line, and it is wrong; 'mkstrike help' shows how it is written";
-
-const NO_COMMAND: &str =
-    "the first word is the command, make, show, outline, dump, trace, explain, or help, not '%'; 'mkstrike help' \
-     shows how it is written";
-
-const A_FILE: &str =
-    "the first word is the command: 'mkstrike make --ppem 16 --set ascii FONT' makes a strike";
-
 /// Writes at most two lines after a run, which say what to do.
 pub fn say_after<G: Tool, E: Sink>(
     alloc: Global,
@@ -64,30 +52,36 @@ pub fn say_after<G: Tool, E: Sink>(
     ended: Ended,
     err: &mut E,
 )
-    ensures { (between : E) × SaysLine (change_of E.held E.fault_count err.old between)
-        × SaysLine (change_of E.held E.fault_count between err.new)
-        × (let parts = task.now.parts.now in AdvisesRefusal (G.learned program.now) ended.status parts.is_make
-        (names_glyph (texts parts.words.items)) (is_named (text_in task.now.command) (codes "trace"))
-        (Tells (change_of E.held E.fault_count between err.new))) }
+    ensures { let parts = seen task.now.parts.now in (between : E)
+        × SaysLine (change_of E.held E.fault_count err.old between) × SaysLine (change_of E.held E.fault_count between err.new)
+        × Tells (change_of E.held E.fault_count err.old between) (first_line (G.learned program.now) ended.status parts)
+        × Tells (change_of E.held E.fault_count between err.new) (second_line (G.learned program.now) ended.status ended.is_blank
+        parts (text_in task.now.command) G.wrong_in G.wrong_item) }
 {
-    let mut font_or_file = Text::new(alloc);
-    if ended.status == 0 {
-        add_font_or_file(&mut font_or_file, program.facts(), task);
-    }
-    tell(alloc, err, &font_or_file);
+    let mut file = Text::new(alloc);
+    add_first_line(&mut file, program.facts(), task, ended.status);
+    tell(alloc, err, &file);
     let mut run = Text::new(alloc);
     add_run(alloc, &mut run, program, task, ended);
     tell(alloc, err, &run);
 }
 
+/// Adds advice on the font or on the name of the file, after a run that is done.
+fn add_first_line(text: &mut Text, facts: &Facts, task: &AskedRun<'_, '_>, status: u8)
+    ensures { Says text.old text.new (first_line facts.now status (seen task.now.parts.now)) }
+{
+    if status == 0 {
+        add_font_or_file(text, facts, task);
+    }
+}
+
 /// Adds advice on a file name that promises another format, on a variable font, or on a font with bitmaps.
-fn add_font_or_file(text: &mut Text, facts: &Facts, task: &AskedRun<'_, '_>) {
-    if let Some(name) = task.parts.output
-        && task.parts.is_make
-        && let Some((_, ending)) = name.rsplit_once('.')
-        && is_other(ending)
-    {
-        text.add_with(IS_BDF, name);
+fn add_font_or_file(text: &mut Text, facts: &Facts, task: &AskedRun<'_, '_>)
+    ensures { let parts = seen task.now.parts.now in
+        Says text.old text.new (file_said facts.now parts.is_make parts.output) }
+{
+    if task.parts.is_make && is_other(task.parts.output) {
+        text.add_with(IS_BDF, task.output_name());
     } else if facts.is_variable {
         text.add_text(IS_VARIABLE);
     } else if facts.has_bitmaps {
@@ -96,13 +90,31 @@ fn add_font_or_file(text: &mut Text, facts: &Facts, task: &AskedRun<'_, '_>) {
 }
 
 /// Whether a name ends like that of a file of another format.
-fn is_other(ending: &str) -> bool
-    ensures { result ≡ is_other ending.now }
+#[tactic(auto, unfolding(crate::specs::Advised::endings))]
+fn is_other(name: Option<&str>) -> bool
+    ensures { result ≡ is_other (text_in name.entry) }
 {
-    is_among(ending, OTHERS)
+    match name {
+        Some(name) => ends_in(&OTHERS, name),
+        None => false,
+    }
+}
+
+/// Whether a name has one of these endings.
+fn ends_in(endings: &[&str], name: &str) -> bool
+    ensures { result ≡ ends_in (texts endings.now) name.now }
+{
+    // No ending so far is the name's.
+    'endings: for ending in endings {
+        if name.as_bytes().ends_with(ending.as_bytes()) {
+            return true;
+        }
+    }
+    false
 }
 
 /// Adds advice on a run.
+#[tactic(auto, unfolding(crate::specs::Advised::second_line))]
 fn add_run<G: Tool>(
     alloc: Global,
     text: &mut Text,
@@ -110,8 +122,8 @@ fn add_run<G: Tool>(
     task: &AskedRun<'_, '_>,
     ended: Ended,
 )
-    ensures { let parts = task.now.parts.now in AdvisesRefusal (G.learned program.now) ended.status parts.is_make
-        (names_glyph (texts parts.words.items)) (is_named (text_in task.now.command) (codes "trace")) (Says text.old text.new) }
+    ensures { Says text.old text.new (second_line (G.learned program.now) ended.status ended.is_blank (seen task.now.parts.now)
+        (text_in task.now.command) G.wrong_in G.wrong_item) }
 {
     let facts = program.facts();
     match (ended.status, facts.strike, facts.refused) {
@@ -129,27 +141,44 @@ fn add_strike(
     facts: &Facts,
     counts: Counts,
     is_blank: bool,
-) {
+)
+    ensures { Says text.old text.new (strike_said facts.now counts is_blank (seen task.now.parts.now)) }
+{
     if facts.is_cut {
         text.add_text(IS_CUT);
     } else if counts.glyphs == 0 {
-        text.add_with("the strike has no glyph: %", why_no_glyph(task, counts));
-        add_first(text, facts, counts.missing);
+        add_no_glyph(text, task, facts, counts);
     } else if counts.missing > 0 {
         add_missing(text, facts, counts.missing);
-    } else if is_blank {
-        text.add_text(IS_BLANK);
+    } else {
+        text.add_if(is_blank, IS_BLANK);
     }
 }
 
+/// Adds why a strike has no glyph.
+fn add_no_glyph(text: &mut Text, task: &AskedRun<'_, '_>, facts: &Facts, counts: Counts)
+    ensures { Says text.old text.new (no_glyph_said facts.now counts (seen task.now.parts.now)) }
+{
+    text.add_with("the strike has no glyph: %", why_no_glyph(task, counts));
+    add_first(text, facts.first, counts.missing);
+}
+
 /// Adds where the characters of a font begin that has none of the requested ones, as a symbol font or a font of icons.
-fn add_first(text: &mut Text, facts: &Facts, missing: u32) {
-    if let Some(first) = facts.first
-        && missing > 0
-    {
-        text.add(b"; the font's characters begin at U+");
-        text.add(Digits::hexadecimal(u64::from(first), 4).text());
+fn add_first(text: &mut Text, first: Option<u32>, missing: u32)
+    ensures { Says text.old text.new (first_said missing first) }
+{
+    match first {
+        Some(first) if missing > 0 => add_code(text, first),
+        _ => {}
     }
+}
+
+/// Adds the first character of a font.
+fn add_code(text: &mut Text, first: u32)
+    ensures { Says text.old text.new (code_said first) }
+{
+    text.add_text("; the font's characters begin at U+");
+    text.add(Digits::hexadecimal(u64::from(first), 4).text());
 }
 
 /// Why a strike has no glyph.
@@ -170,22 +199,42 @@ fn why_no_glyph(task: &AskedRun<'_, '_>, counts: Counts) -> &'static str
 }
 
 /// Adds which characters are missing.
-fn add_missing(text: &mut Text, facts: &Facts, count: u32) {
+fn add_missing(text: &mut Text, facts: &Facts, count: u32)
+    ensures { Says text.old text.new (missing_said count facts.now.missing facts.now.has_more) }
+{
     text.add_number(u64::from(count));
-    text.add_text(if count == 1 {
+    text.add_text(are_missing(count));
+    add_named(text, &facts.missing, facts.has_more);
+}
+
+/// That so many characters are missing.
+fn are_missing(count: u32) -> &'static str
+    ensures { result.now ≡ are_missing count }
+{
+    if count == 1 {
         " of the requested characters is missing in the font"
     } else {
         " of the requested characters are missing in the font"
-    });
-    let missing = facts.missing.bytes().unwrap_or(b"");
-    if missing.is_empty() {
-        return;
     }
-    text.add(b": ");
+}
+
+/// Adds these characters by name, if there are any.
+fn add_named(text: &mut Text, missing: &Text, has_more: bool)
+    ensures { Says text.old text.new (named_said missing.now has_more) }
+{
+    match missing.bytes() {
+        Some(named) if !named.is_empty() => add_codes(text, named, has_more),
+        _ => {}
+    }
+}
+
+/// Adds these characters, and whether there are more.
+fn add_codes(text: &mut Text, missing: &[u8], has_more: bool)
+    ensures { Says text.old text.new (codes_said missing.now has_more) }
+{
+    text.add_text(": ");
     text.add(missing);
-    if facts.has_more {
-        text.add(b",..; --missing names all");
-    }
+    text.add_if(has_more, ",..; --missing names all");
 }
 
 /// Adds what to do after a refusal.
@@ -196,9 +245,8 @@ fn add_refusal<G: Tool>(
     task: &AskedRun<'_, '_>,
     refused: RefusalFacts,
 )
-    ensures { let parts = task.now.parts.now in refused.number ≢ 25 → refused.number ≢ 61
-        → Says text.old text.new (after_refusal refused (start_of (G.learned program.now)) parts.is_make
-        (names_glyph (texts parts.words.items) refused.glyph) (is_named (text_in task.now.command) (codes "trace"))) }
+    ensures { Says text.old text.new (refusal_said refused (start_of (G.learned program.now))
+        (is_named (text_in task.now.command) (codes "trace")) (seen task.now.parts.now) G.wrong_item) }
 {
     let advice = refused.advice;
     match (refused.number, &program.facts().start) {
@@ -209,7 +257,7 @@ fn add_refusal<G: Tool>(
         (24, _) if task.names_glyph(refused.glyph) => {
             text.add_text("the font has no glyph of that number")
         }
-        (25, Some(start)) => add_faces(text, start),
+        (25, Some(start)) => add_faces(text, fonts_in(start)),
         (30..=41, _) => add_halt(text, task, refused),
         (61, _) => add_list(alloc, text, program, task, advice),
         _ => text.add_text(advice),
@@ -239,193 +287,37 @@ fn draws_unhinted(task: &AskedRun<'_, '_>, refused: RefusalFacts) -> bool
     task.parts.is_make && refused.is_halted_glyph
 }
 
-/// Adds which faces a file has, by its first bytes.
-fn add_faces(text: &mut Text, start: &[u8]) {
-    let [b't', b't', b'c', b'f', _, _, _, _, a, b, c, d] = start else {
-        return text.add_text("the file is no collection: leave --face out");
-    };
-    match u32::from_be_bytes([*a, *b, *c, *d]) {
-        0 => text.add_text("the collection has no font"),
-        1 => text.add_text("the collection has one font: leave --face out"),
-        faces => {
-            text.add_text("the collection has ");
-            text.add_number(u64::from(faces));
-            text.add_text(" fonts: --face takes 0 to ");
-            text.add_number(u64::from(faces - 1));
+/// How many fonts a collection has, by its first twelve bytes; none for another file.
+fn fonts_in(start: &[u8]) -> Option<u32>
+    ensures { result ≡ fonts_in start.now }
+{
+    match start {
+        [t, u, v, w, _, _, _, _, a, b, c, d] if [*t, *u, *v, *w] == *b"ttcf" => {
+            Some(u32::from_be_bytes([*a, *b, *c, *d]))
         }
+        _ => None,
     }
 }
 
-/// Adds what is wrong with a list of characters, or with one.
-fn add_list<G: Tool>(
-    alloc: Global,
-    text: &mut Text,
-    program: &G,
-    task: &AskedRun<'_, '_>,
-    advice: &str,
-) {
-    let Some(list) = task.list() else {
-        return text.add_text(advice);
-    };
-    if !task.parts.is_make {
-        text.add_with(NOT_A_CHARACTER, list);
-    } else if task.parts.listed == Some(list)
-        && let Some(name) = first_word(list)
-    {
-        add_unknown_set(alloc, text, name);
-    } else {
-        program.add_wrong_item(text, list);
-        text.add_with(": %; the letter A is 41", advice);
-        add_names(alloc, text, list);
+/// Adds which faces a file has: so many, or none, as it is no collection.
+fn add_faces(text: &mut Text, fonts: Option<u32>)
+    ensures { Says text.old text.new (fonts_said fonts) }
+{
+    match fonts {
+        None => text.add_text("the file is no collection: leave --face out"),
+        Some(0) => text.add_text("the collection has no font"),
+        Some(1) => text.add_text("the collection has one font: leave --face out"),
+        Some(count) => add_several(text, count),
     }
 }
 
-/// Adds that no set of characters has this name, and which one it may mean.
-fn add_unknown_set(alloc: Global, text: &mut Text, name: &str) {
-    text.add_with("no set of characters has the name '%';", name);
-    add_question(text, set_meant_by(alloc, name));
-    text.add_text(" 'mkstrike help sets' lists the sets");
-}
-
-/// Adds the question which word is meant, if there is one to ask.
-fn add_question(text: &mut Text, meant: Result<Text, AllocError>) {
-    let Ok(meant) = meant else {
-        return text.stop();
-    };
-    match meant.bytes() {
-        Some([]) => {}
-        Some(question) => {
-            text.add(question);
-            text.add(b"?");
-        }
-        None => text.stop(),
-    }
-}
-
-/// Adds what takes a list of names or letters.
-fn add_names(alloc: Global, text: &mut Text, list: &str) {
-    if is_among(list, "all *") {
-        return text.add_text("; --all takes all characters of the font");
-    }
-    // No item so far is the name of a set.
-    'items: for item in list.split(',') {
-        match list_of(alloc, item) {
-            Ok(None) => {}
-            Ok(Some(_)) => return text.add_with("; --set % takes that set", item),
-            Err(_) => return text.stop(),
-        }
-    }
-    if first_word(list).is_some() {
-        text.add_text(LISTS);
-    }
-}
-
-/// The first item of a list that looks like a word.
-fn first_word(list: &str) -> Option<&str> {
-    list.split(',').find(|item| is_word(item))
-}
-
-/// Whether an item looks like a word or a letter, and not like numbers: it has a byte outside ASCII, or a letter from g to z. The
-/// letters `x` and `u` come before numbers, and do not count.
-fn is_word(item: &str) -> bool {
-    item.as_bytes().iter().any(|byte| {
-        matches!(
-            byte.to_ascii_lowercase(),
-            b'g'..=b't' | b'v' | b'w' | b'y' | b'z' | 128..=255
-        )
-    })
-}
-
-/// Adds what is wrong with a command line.
-fn add_usage<G: Tool>(alloc: Global, text: &mut Text, program: &G, task: &AskedRun<'_, '_>) {
-    let words = task.parts.words.get(1..).unwrap_or(&[]);
-    match (words.first(), task.command) {
-        (None, _) => text.add_text(WRONG_LINE),
-        (Some(first), None) => add_command(alloc, text, first),
-        (Some(_), Some(command)) => match program.wrong(alloc, words) {
-            Ok(said) => {
-                let wrong = str::from_utf8(&said).unwrap_or("");
-                add_wrong(alloc, text, task, command, wrong.trim_end());
-            }
-            Err(_) => text.stop(),
-        },
-    }
-}
-
-/// Adds the line that says what is wrong with the words of a command, and further advice.
-fn add_wrong(alloc: Global, text: &mut Text, task: &AskedRun<'_, '_>, command: &str, wrong: &str) {
-    match wrong.strip_prefix("unknown option '") {
-        Some("-o'") => text.add_text("-o takes the name of a file, and is given once;"),
-        Some(option) => {
-            text.add_with("%;", wrong);
-            add_instead(
-                alloc,
-                text,
-                option.strip_suffix("'").unwrap_or(option),
-                command,
-            );
-        }
-        None => {
-            add_mistake(text, wrong, task.parts.listed.is_some());
-            text.add_text(about_ppem(wrong));
-            if let Some(font) = task.parts.font
-                && wrong.starts_with("one word too many")
-            {
-                text.add_with(": '%' names the font", font);
-            }
-            text.add(b";");
-        }
-    }
-    text.add_with(" 'mkstrike help %' shows how it is written", command);
-}
-
-/// Adds what is wrong. If `--set` is among the words it stands for `--chars` there.
-fn add_mistake(text: &mut Text, wrong: &str, has_set: bool) {
-    match wrong.strip_prefix("--chars") {
-        Some(rest) if has_set => {
-            text.add_text("--set");
-            text.add_text(rest);
-        }
-        _ => text.add_text(wrong),
-    }
-}
-
-/// Adds what to use in place of an unknown option of a command, or which one it may mean.
-fn add_instead(alloc: Global, text: &mut Text, option: &str, command: &str) {
-    match instead_of(option) {
-        Some(instead) => text.add_with(" %;", instead),
-        None => add_question(text, meant_by(alloc, option, command)),
-    }
-}
-
-/// Further advice on a wrong value of `--ppem`.
-fn about_ppem(wrong: &str) -> &'static str {
-    let Some(value) = wrong.strip_prefix("--ppem takes a whole number from 1 to 1024, not '") else {
-        return "";
-    };
-    if value.contains("pt") {
-        "; pixels are points times the resolution, divided by 72"
-    } else if value.contains('x') && !value.starts_with("0x") {
-        "; strike --cell of the package python3-mkstrike makes cells of one size"
-    } else if value.contains(',') || value.contains('-') {
-        "; strike --size of the package python3-mkstrike makes several"
-    } else {
-        ""
-    }
-}
-
-/// Adds what is wrong with the name of a command.
-fn add_command(alloc: Global, text: &mut Text, word: &str) {
-    if word.starts_with('-') {
-        text.add_with(NO_COMMAND, word);
-    } else if is_path(word) {
-        text.add_text(A_FILE);
-    } else {
-        text.add_with("unknown command '%';", word);
-        match word {
-            "version" => text.add_text(" did you mean '--version'?"),
-            _ => add_question(text, meant_by(alloc, word, "")),
-        }
-        text.add_text(" 'mkstrike help' lists the commands");
-    }
+/// Adds how many fonts a collection has.
+fn add_several(text: &mut Text, count: u32)
+    requires { 0 < count }
+    ensures { Says text.old text.new (several_said count) }
+{
+    text.add_text("the collection has ");
+    text.add_number(u64::from(count));
+    text.add_text(" fonts: --face takes 0 to ");
+    text.add_number(u64::from(count - 1));
 }

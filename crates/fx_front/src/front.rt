@@ -6,7 +6,7 @@ ghost use Rattle.fx_front.specs.Places.{IsStatus, is_named};
 ghost use Rattle.fx_front.specs.Answered.{Answered};
 ghost use Rattle.fx_front.specs.Fronts.{RunsBy, RunsFrom};
 ghost use Rattle.fx_front.specs.Lines.{SaysLine, Tells, unwritten};
-ghost use Rattle.fx_front.specs.inner.Asked.{asked_by, command_in, font_of, is_explained};
+ghost use Rattle.fx_front.specs.Asked.{asked_by, command_in, font_of, is_explained};
 
 use crate::answer::answer;
 use crate::asked::{AskedRun, asked_by};

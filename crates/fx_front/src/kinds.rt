@@ -3,7 +3,7 @@ ghost use Rattle.std.specs.Prelude.{◌≡◌};
 ghost use Rattle.std.specs.List.{list_all};
 ghost use Rattle.fx_words.specs.Parts.{text_in};
 ghost use Rattle.fx_words.specs.Sets.{rows_of};
-ghost use Rattle.fx_front.specs.inner.Kinds.{is_hexadecimal, kind_among, kind_of, known_kind};
+ghost use Rattle.fx_front.specs.Kinds.{is_hexadecimal, kind_among, kind_of, known_kind};
 
 /// The first bytes of files that are no TrueType font, and what to do with each. The first row that fits counts. docs/REFUSALS.md
 /// has the same rows.
@@ -77,7 +77,7 @@ const KINDS: [(&[u8], &str); 17] = [
 ];
 
 /// What a file that is no TrueType font looks like, by its first bytes, and what to do.
-#[tactic(auto, unfolding(crate::specs::inner::Kinds::known_kind))]
+#[tactic(auto, unfolding(crate::specs::Kinds::known_kind))]
 pub(crate) fn known_kind(start: &[u8]) -> Option<&'static str>
     ensures { text_in result ≡ known_kind start.now }
 {

@@ -1,14 +1,15 @@
 //! Which word an unknown one may mean, and what to use in its place.
-ghost use Rattle.std.specs.Prelude.{◌≡◌, ◌==◌};
+ghost use Rattle.std.specs.Prelude.{◌≡◌, ◌==◌, IfOk, map};
+ghost use Rattle.std.specs.Char.{to_ascii_lowercase};
 ghost use Rattle.std.specs.List.{slice_split};
-ghost use Rattle.fx_words.specs.Parts.{has, text_in};
+ghost use Rattle.fx_words.specs.Parts.{has, has_hyphen, text_in, texts};
 ghost use Rattle.fx_words.specs.Sets.{rows_of};
-ghost use Rattle.fx_front.specs.inner.Advised.{instead_of, usual_for};
-ghost use Rattle.fx_front.specs.inner.Asked.{commands};
+ghost use Rattle.fx_front.specs.Lines.{Says};
+ghost use Rattle.fx_front.specs.Asked.{commands};
+ghost use Rattle.fx_front.specs.Meant.{asked, instead_of, meant_among, meant_by, nearest, or_others, question, set_meant_by, usual_for};
 
-use crate::help::SETS;
 use crate::text::Text;
-use fx_words::value_of;
+use fx_words::{parts_of, set_names, value_of};
 use std::alloc::{AllocError, Global};
 use strsim::levenshtein;
 
@@ -91,7 +92,7 @@ pub(crate) fn takes_font(word: &str) -> bool
 }
 
 /// What to use in place of an option of other programs.
-#[tactic(auto, unfolding(crate::specs::inner::Advised::instead_of))]
+#[tactic(auto, unfolding(crate::specs::Meant::instead_of))]
 pub(crate) fn instead_of(option: &str) -> Option<&'static str>
     ensures { text_in result ≡ instead_of option.now }
 {
@@ -115,48 +116,120 @@ pub(crate) fn usual_for(
     None
 }
 
-/// Asks whether a word means an option of a command, or a command if `command` is empty. A usual name of it decides, or else the
-/// fewest letters that differ, which may fit several. The text is empty if nothing fits.
-pub(crate) fn meant_by(alloc: Global, word: &str, command: &str) -> Result<Text, AllocError> {
-    let words = value_of(&OPTIONS, command).unwrap_or(COMMANDS);
+/// The words that a word may mean: options of a command, or commands if `command` is empty. A usual name of one decides, or else the
+/// fewest letters that differ, which may fit several.
+#[tactic(auto, unfolding(crate::specs::Meant::meant_by))]
+fn meant_by(alloc: Global, word: &str, command: &str) -> Result<Vec<&'static str>, AllocError>
+    ensures { IfOk result (λ meant. texts meant.items ≡ meant_by word.now command.now) }
+{
+    meant_among(alloc, word, value_of(&OPTIONS, command).unwrap_or(COMMANDS))
+}
+
+/// The same of words with spaces between them.
+fn meant_among(
+    alloc: Global,
+    word: &str,
+    words: &'static str,
+) -> Result<Vec<&'static str>, AllocError>
+    ensures { IfOk result (λ meant. texts meant.items ≡ meant_among word.now words.now) }
+{
     match usual_for(&USUAL, word, words) {
-        Some(meant) => nearest_among(alloc, meant, meant),
-        None if word.len() < 5 && word.starts_with('-') => Ok(Text::new(alloc)),
-        None => nearest_among(alloc, word, words),
+        Some(meant) => Vec::from_slice(alloc, &[meant]),
+        None if word.len() < 5 && has_hyphen(word) => Ok(Vec::new(alloc)),
+        None => nearest(alloc, word, &parts_of(alloc, words, ' ')?),
     }
 }
 
-/// Asks whether a name means a set of characters, by the fewest letters that differ. A short name is too little to tell.
-pub(crate) fn set_meant_by(alloc: Global, name: &str) -> Result<Text, AllocError> {
+/// Whether a word begins with a hyphen.
+pub(crate) fn has_hyphen(word: &str) -> bool
+    ensures { result ≡ has_hyphen word.now }
+{
+    matches!(word.as_bytes(), [b'-', ..])
+}
+
+/// The sets of characters that a name may mean, by the fewest letters that differ. A short name is too little to tell.
+#[tactic(auto, unfolding(crate::specs::Meant::set_meant_by))]
+fn set_meant_by(alloc: Global, name: &str) -> Result<Vec<&'static str>, AllocError>
+    ensures { IfOk result (λ meant. texts meant.items ≡ set_meant_by name.now) }
+{
     if name.len() < 4 {
-        return Ok(Text::new(alloc));
+        return Ok(Vec::new(alloc));
     }
-    nearest_among(alloc, name, set_names())
+    nearest(alloc, name, &set_names(alloc)?)
 }
 
-/// The names of the sets, which their help lists between its first two blank lines.
-fn set_names() -> &'static str {
-    let (_, rest) = SETS.split_once("\n\n").unwrap_or(("", ""));
-    rest.split_once("\n\n").unwrap_or(("", "")).0
-}
-
-/// Asks whether a word means the nearest of `words`, which have spaces between them. Two letters may differ, no more.
-fn nearest_among(alloc: Global, word: &str, words: &str) -> Result<Text, AllocError> {
+/// The words in which the fewest letters differ from those of a word, in lower case. Two may differ, no more.
+fn nearest(
+    alloc: Global,
+    word: &str,
+    words: &[&'static str],
+) -> Result<Vec<&'static str>, AllocError>
+    ensures { IfOk result (λ found. texts found.items ≡ nearest (map to_ascii_lowercase word.now) (texts words.now)) }
+{
     let word = word.to_ascii_lowercase(alloc)?;
-    let mut meant = Text::new(alloc);
+    let mut found = Vec::new(alloc);
     let mut least = 3;
-    // `meant` has the nearest words so far, which differ in `least` letters.
-    'words: for each in words.split_whitespace() {
+    // `found` has the nearest words so far, in which `least` letters differ.
+    'words: for each in words {
         let distance = levenshtein(alloc, word.as_str(), each)?;
         if distance < least {
             least = distance;
-            meant = Text::new(alloc);
-            meant.add_with(" did you mean '%'", each);
-        } else if distance == least && least < 3 {
-            meant.add_with(" or '%'", each);
+            found.clear();
+        }
+        if distance == least && least < 3 {
+            found.push(*each)?;
         }
     }
-    Ok(meant)
+    Ok(found)
+}
+
+/// Adds the question which option of a command, or which command, a word may mean.
+pub(crate) fn add_word_question(alloc: Global, text: &mut Text, word: &str, command: &str)
+    ensures { Says text.old text.new (question (meant_by word.now command.now)) }
+{
+    match meant_by(alloc, word, command) {
+        Ok(words) => add_question(text, &words),
+        Err(_) => text.stop(),
+    }
+}
+
+/// Adds the question which set of characters a name may mean.
+pub(crate) fn add_set_question(alloc: Global, text: &mut Text, name: &str)
+    ensures { Says text.old text.new (question (set_meant_by name.now)) }
+{
+    match set_meant_by(alloc, name) {
+        Ok(words) => add_question(text, &words),
+        Err(_) => text.stop(),
+    }
+}
+
+/// Adds the question which of these words is meant, if there are any.
+fn add_question(text: &mut Text, words: &[&str])
+    ensures { Says text.old text.new (question (texts words.now)) }
+{
+    match words {
+        [] => {}
+        [first, others @ ..] => add_words(text, first, others),
+    }
+}
+
+/// Adds the question whether a word is meant, or one of others.
+fn add_words(text: &mut Text, first: &str, others: &[&str])
+    ensures { Says text.old text.new (asked first.now (texts others.now)) }
+{
+    text.add_with(" did you mean '%'", first);
+    add_others(text, others);
+    text.add_text("?");
+}
+
+/// Adds further words to a question.
+fn add_others(text: &mut Text, others: &[&str])
+    ensures { Says text.old text.new (or_others (texts others.now)) }
+{
+    // The words so far were added.
+    'others: for other in others {
+        text.add_with(" or '%'", other);
+    }
 }
 
 /// Whether a word is among others, with spaces between them.

@@ -39,12 +39,14 @@ pub enum Output {
     New(String, Option<Access>),
 }
 
-/// Whose a file is, and its mode.
+/// Whose a file is, its mode, and which file of which device it is.
 #[derive(Clone, Copy)]
 pub struct Access {
     owner: u32,
     group: u32,
     mode: u32,
+    device: u64,
+    number: u64,
 }
 
 /// The output of a run, as a place.
@@ -105,12 +107,23 @@ fn is_standard(name: &str) -> bool
     has(&STANDARD, name)
 }
 
-/// Whose a file is, and its mode.
+/// Whose a file is, its mode, and which file it is.
 fn access_of(found: &Metadata) -> Access {
     Access {
         owner: found.uid(),
         group: found.gid(),
         mode: found.mode(),
+        device: found.dev(),
+        number: found.ino(),
+    }
+}
+
+/// Whether a name is still that of a file, and not of a link that came meanwhile: a new file in place of another one would give that
+/// one's readers and writers what is not theirs.
+fn is_still(rt: &HostRuntime, name: &str, older: Access) -> bool {
+    match fs::symlink_metadata(rt, name) {
+        Ok(found) => (found.dev(), found.ino()) == (older.device, older.number),
+        Err(_) => false,
     }
 }
 
@@ -126,6 +139,11 @@ fn new_file(
     let folder = folder_of(name.as_str());
     if !folder.is_empty() && fs::metadata(rt, folder).is_err() {
         return Ok(Err(NO_FOLDER));
+    }
+    if let Some(older) = older
+        && !is_still(rt, name.as_str(), older)
+    {
+        return Ok(Err("another file got its name meanwhile"));
     }
     Ok(Ok(Output::New(name, older)))
 }

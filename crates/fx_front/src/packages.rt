@@ -1,7 +1,7 @@
 //! What to install if a font is not there.
 ghost use Rattle.std.specs.Prelude.{◌≡◌};
 ghost use Rattle.fx_words.specs.Parts.{text_in};
-ghost use Rattle.fx_front.specs.inner.Kinds.{package_of};
+ghost use Rattle.fx_front.specs.Kinds.{package_of};
 
 use crate::kinds::kind_among;
 
@@ -30,7 +30,7 @@ const PACKAGES: [(&[u8], &str); 5] = [
 ];
 
 /// What to do if a font of this name is not there.
-#[tactic(auto, unfolding(crate::specs::inner::Kinds::package_of))]
+#[tactic(auto, unfolding(crate::specs::Kinds::package_of))]
 pub(crate) fn package_of(name: &str) -> Option<&'static str>
     ensures { text_in result ≡ package_of name.now }
 {

@@ -1,9 +1,11 @@
 //! A run of a program, whose output is a new file at a place.
 ghost use Rattle.std.specs.Prelude.{◌≡◌, ◌⊎◌, ◌<◌, ◌^◌, codes, true, false};
 ghost use Rattle.fx_fixed.specs.Changes.{change_of};
-ghost use Rattle.fx_words.specs.Parts.{text_in, texts};
+ghost use Rattle.fx_words.specs.Parts.{seen, text_in, texts};
 ghost use Rattle.fx_front.specs.Places.{Ends, IsStatus, RunsTo, ended_status, held_by, is_named, keeps};
 ghost use Rattle.fx_front.specs.Lines.{SaysLine, Tells, unwritten};
+ghost use Rattle.fx_front.specs.Told.{told_first, told_second, why_unwritten};
+ghost use Rattle.fx_front.specs.declared.run.Ended.{Ended};
 
 use crate::asked::AskedRun;
 use crate::destination::Destination;
@@ -45,6 +47,11 @@ pub fn run_to_end<G: Tool, P: Destination, R: Source, E: Sink>(
         P.Names P.works P.fresh place.old place.new (is_named (text_in task.now.command) (codes "trace"))
         (G.learned program.new) result
         × SaysLine (change_of E.held E.fault_count said between) × SaysLine (change_of E.held E.fault_count between err.new) }
+    ensures lines { let parts = seen task.now.parts.now in (own : Ended) × (said : E) × (between : E)
+        × (result ≡ ended_status own.status own.is_named)
+        × Tells (change_of E.held E.fault_count said between) (told_first (G.learned program.new) own parts)
+        × Tells (change_of E.held E.fault_count between err.new) (told_second (G.learned program.new) own parts
+        (text_in task.now.command) G.wrong_in G.wrong_item) }
     ensures status { IsStatus result }
 {
     let ended = run_to_place(alloc, program, task, reader, place, err);
@@ -67,16 +74,28 @@ fn say_end<G: Tool, E: Sink>(
     ended: Ended,
     err: &mut E,
 )
-    ensures { (between : E) × SaysLine (change_of E.held E.fault_count err.old between)
-        × SaysLine (change_of E.held E.fault_count between err.new) }
+    ensures { let parts = seen task.now.parts.now in (between : E)
+        × SaysLine (change_of E.held E.fault_count err.old between) × SaysLine (change_of E.held E.fault_count between err.new)
+        × Tells (change_of E.held E.fault_count err.old between) (told_first (G.learned program.now) ended parts)
+        × Tells (change_of E.held E.fault_count between err.new) (told_second (G.learned program.now) ended parts
+        (text_in task.now.command) G.wrong_in G.wrong_item) }
 {
-    let name = task.output_name();
+    match why_unwritten(ended) {
+        Some(why) => say_unwritten(alloc, task.output_name(), why, err),
+        None => say_after(alloc, program, task, ended, err),
+    }
+}
+
+/// Why the file of a run is not written: it could not be made, or did not get its name.
+fn why_unwritten(ended: Ended) -> Option<&'static str>
+    ensures { text_in result ≡ why_unwritten ended }
+{
     if ended.is_unmade && ended.status == 1 {
-        say_unwritten(alloc, name, NO_FOLDER, err);
+        Some(NO_FOLDER)
     } else if ended.status == 0 && !ended.is_named {
-        say_unwritten(alloc, name, "the system failed to store the new file", err);
+        Some("the system failed to store the new file")
     } else {
-        say_after(alloc, program, task, ended, err);
+        None
     }
 }
 

@@ -7,9 +7,10 @@ use std::alloc::{AllocError, Global};
 
 /// A program that takes the words of a command line, an input and an output, and writes lines for people.
 pub trait Tool {
-    ghost use Rattle.std.specs.Prelude.{◌≡◌, ◌<◌, ◌^◌, ℕ, List};
+    ghost use Rattle.std.specs.Prelude.{◌≡◌, ◌<◌, ◌^◌, ℕ, List, IfOk, string_bytes};
     ghost use Rattle.fx_fixed.specs.Changes.{Change, change_of};
     ghost use Rattle.fx_words.specs.Parts.{texts};
+    ghost use Rattle.fx_front.specs.Lines.{Says};
     ghost use Rattle.fx_front.specs.Places.{IsStatus};
     ghost use Rattle.fx_front.specs.declared.facts.Facts.{Facts};
 
@@ -18,6 +19,12 @@ pub trait Tool {
 
     // A run on these words, the program's name first: what became of its source, its sink and its lines, and its status.
     ghost Ran: { List (List ℕ) → Change → Change → Change → ℕ → Type 0 };
+
+    // The line that says what is wrong first with words after the program's name. It has no bytes if nothing is.
+    ghost wrong_in: { List (List ℕ) → List ℕ };
+
+    // What is wrong first with a list of characters.
+    ghost wrong_item: { List ℕ → List ℕ };
 
     /// Runs on the words for the program, and returns the status. If `names_all` of the parts is set, the facts name all missing
     /// characters, else only the first.
@@ -40,9 +47,11 @@ pub trait Tool {
     fn facts(&self) -> &Facts
         ensures { result.now ≡ learned self.now };
 
-    /// What is wrong first with the words of a command line after the program's name; no bytes if nothing is.
-    fn wrong(&self, alloc: Global, words: &[&str]) -> Result<Vec<u8>, AllocError>;
+    /// The line that says what is wrong first with the words of a command line after the program's name; no bytes if nothing is.
+    fn wrong(&self, alloc: Global, words: &[&str]) -> Result<String, AllocError>
+        ensures { IfOk result (λ line. string_bytes line ≡ wrong_in (texts words.now)) };
 
     /// Adds what is wrong first with a list of characters that is refused.
-    fn add_wrong_item(&self, text: &mut Text, list: &str);
+    fn add_wrong_item(&self, text: &mut Text, list: &str)
+        ensures { Says text.old text.new (wrong_item list.now) };
 }

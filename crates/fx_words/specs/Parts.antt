@@ -1,7 +1,7 @@
 -- The words of a command line, parted a word at a time: the font, the output, and the words for the program.
-use Rattle.std.specs.Prelude.{◌≡◌, ℕ, ◌==◌, ◌&&◌, ◌||◌, not, Bool, true, false, nat_lt, List, [], ◌∷◌, ◌++◌, map, length, codes}
-use Rattle.std.specs.Prelude.{Option, Some, None, is_some, if◌then◌else◌}
-use Rattle.std.specs.List.{after_first, before_first, fold, list_any, position_or_len}
+use Rattle.std.specs.Prelude.{◌≡◌, ℕ, ◌==◌, ◌&&◌, ◌||◌, not, Bool, true, false, nat_eq, nat_lt, List, [], ◌∷◌, ◌++◌, map, length, codes}
+use Rattle.std.specs.Prelude.{drop, Option, Some, None, is_some, if◌then◌else◌}
+use Rattle.std.specs.List.{after_first, before_first, fold, list_any, position_or_len, starts_with}
 use Rattle.std.specs.Option.{option_or}
 use Rattle.std.specs.Str.{bytes_eq}
 use Rattle.std.specs.Borrow.{Bor}
@@ -57,6 +57,10 @@ has_hyphen (b ∷ text) = b == 45
 abbrev pub is_option : Text → Bool
 is_option [] = true
 is_option (b ∷ text) = b == 45
+
+-- what follows a beginning in a text
+abbrev pub after_start : Text → Text → Option Text
+after_start start text = if starts_with nat_eq text start then Some (drop (length start) text) else None
 
 -- a word with a dot or a slash looks like a file's name, and is no value of `--dropout`
 abbrev pub is_path : Text → Bool

@@ -6,5 +6,5 @@ pub mod laws;
 mod parts;
 mod sets;
 
-pub use parts::{Parts, has, is_path, part, value_in};
-pub use sets::{SETS, list_of, listed, lists_in, value_of};
+pub use parts::{Parts, after_start, has, is_path, part, value_in};
+pub use sets::{SETS, list_of, listed, lists_in, parts_of, set_names, value_of};

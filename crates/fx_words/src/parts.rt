@@ -1,6 +1,7 @@
 //! The words of a command line, parted: the font, the output, and the words for the program.
 ghost use Rattle.std.specs.Prelude.{◌≡◌, false, true, [], IfOk, OnOk};
-ghost use Rattle.fx_words.specs.Parts.{end, first, has, has_hyphen, has_joined_output, is_option, is_path, joined_list, joined_output};
+ghost use Rattle.fx_words.specs.Parts.{after_start, end, first, has, has_hyphen};
+ghost use Rattle.fx_words.specs.Parts.{has_joined_output, is_option, is_path, joined_list, joined_output};
 ghost use Rattle.fx_words.specs.Parts.{joined_value, kept, kind_of, list_values, named_by, other_kind, parts_of, put_by, seen, step};
 ghost use Rattle.fx_words.specs.Parts.{step_by, text_in, texts, value_in, with_list, without_equals};
 
@@ -321,6 +322,13 @@ fn is_option(word: &str) -> bool
     ensures { result ≡ is_option word.now }
 {
     word.is_empty() || has_hyphen(word)
+}
+
+/// What follows a beginning in a text; none if it does not begin so.
+pub fn after_start<'a>(start: &str, text: &'a str) -> Option<&'a str>
+    ensures { text_in result ≡ after_start start.now text.entry.now }
+{
+    text.strip_prefix(start)
 }
 
 /// Whether a word looks like a file's name.

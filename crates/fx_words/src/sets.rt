@@ -1,5 +1,5 @@
 //! Sets of characters by name.
-ghost use Rattle.std.specs.Prelude.{◌≡◌, ◌==◌, IfOk, codes, option_map, string_bytes};
+ghost use Rattle.std.specs.Prelude.{◌≡◌, ◌==◌, ◌<◌, IfOk, codes, map, option_map, string_bytes};
 ghost use Rattle.std.specs.List.{join_by, slice_split};
 ghost use Rattle.fx_words.specs.Parts.{text_in, texts};
 ghost use Rattle.fx_words.specs.Sets.{first_name, list_of, listed, lists_in, rows_of, sets, value_of};
@@ -93,6 +93,29 @@ pub fn list_of(alloc: Global, name: &str) -> Result<Option<&'static str>, AllocE
     Ok(named(first_name(lower.as_str())))
 }
 
+/// The names of the sets.
+#[tactic(auto, unfolding(crate::specs::Sets::sets))]
+pub fn set_names(alloc: Global) -> Result<Vec<&'static str>, AllocError>
+    ensures { IfOk result (λ names. texts names.items ≡ map (λ row. row.0) sets) }
+{
+    first_column(alloc, &SETS)
+}
+
+/// The first column of a table.
+fn first_column(
+    alloc: Global,
+    rows: &[(&'static str, &'static str)],
+) -> Result<Vec<&'static str>, AllocError>
+    ensures { IfOk result (λ words. texts words.items ≡ map (λ row. row.0) (rows_of rows.now)) }
+{
+    let mut words = Vec::new(alloc);
+    // The words of the rows so far.
+    'rows: for row in rows {
+        words.push(row.0)?;
+    }
+    Ok(words)
+}
+
 /// The list of the set of this name.
 #[tactic(auto, unfolding(crate::specs::Sets::sets))]
 fn named(name: &str) -> Option<&'static str>
@@ -129,7 +152,7 @@ pub fn value_of(table: &[(&'static str, &'static str)], key: &str) -> Option<&'s
 pub fn listed(alloc: Global, names: &str) -> Result<String, AllocError>
     ensures { IfOk result (λ list. string_bytes list ≡ listed names.now) }
 {
-    let parts = parts_of(alloc, names)?;
+    let parts = parts_of(alloc, names, ',')?;
     let mut lists = Vec::new(alloc);
     // The parts so far were replaced.
     'parts: for part in &parts {
@@ -157,9 +180,10 @@ fn joined(alloc: Global, parts: &[&str]) -> Result<String, AllocError>
     parts.join(alloc, ",")
 }
 
-/// What is between the commas of a text.
-fn parts_of<'a>(alloc: Global, text: &'a str) -> Result<Vec<&'a str>, AllocError>
-    ensures { IfOk result (λ parts. texts parts.items ≡ slice_split (λ b. b == 44) text.entry.now) }
+/// What is between the marks of a text, each of one ASCII character.
+pub fn parts_of<'a>(alloc: Global, text: &'a str, mark: char) -> Result<Vec<&'a str>, AllocError>
+    requires { mark < 128 }
+    ensures { IfOk result (λ parts. texts parts.items ≡ slice_split (λ b. b == mark) text.entry.now) }
 {
-    text.split(',').collect(alloc)
+    text.split(mark).collect(alloc)
 }

@@ -102,11 +102,15 @@ impl Fake {
 }
 
 impl Tool for Fake {
-    ghost use Rattle.std.specs.Prelude.{⊤};
+    ghost use Rattle.std.specs.Prelude.{⊤, [], ◌∷◌, ◌++◌, codes};
 
     ghost Ran = { λ _ _ _ _ _. ⊤ };
 
     ghost learned = { λ f. f.facts };
+
+    ghost wrong_in = { λ _. codes "unknown option '--esc" ++ 27 ∷ codes "'" ++ 10 ∷ [] };
+
+    ghost wrong_item = { λ _. [] };
 
     fn run<R: Source, O: Sink, E: Sink>(
         &mut self,
@@ -126,11 +130,13 @@ impl Tool for Fake {
         &self.facts
     }
 
-    fn wrong(&self, alloc: Global, _words: &[&str]) -> Result<Vec<u8>, AllocError> {
-        Vec::from_slice(alloc, b"unknown option '--esc\x1b'\n")
+    fn wrong(&self, alloc: Global, _words: &[&str]) -> Result<String, AllocError> {
+        String::from_str(alloc, "unknown option '--esc\x1b'\n")
     }
 
-    fn add_wrong_item(&self, _text: &mut Text, _list: &str) {}
+    fn add_wrong_item(&self, text: &mut Text, _list: &str) {
+        text.add_all(&[]);
+    }
 }
 
 /// Runs a fake program to a place, and returns how it ended.

@@ -6,6 +6,6 @@ returns g c = (
   c.tell.new.err,
   c.tell.ensures.line,
   c.tell-2.ensures.line,
-  λ refused is one n25 n61.
-      told _ _ _ (rw c.new-run.ensures at (c.add_run.ensures refused is one n25 n61)) c.tell-2.ensures.told,
+  told _ _ _ (rw (c.new-file.ensures, c.facts.ensures) at c.add_first_line.ensures) c.tell.ensures.told,
+  told _ _ _ (rw c.new-run.ensures at c.add_run.ensures) c.tell-2.ensures.told,
 )

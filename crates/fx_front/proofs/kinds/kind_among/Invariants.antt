@@ -1,6 +1,6 @@
 use Rattle.std.proofs.Common.{◌≡◌, drop}
 use Rattle.fx_words.specs.Sets.{rows_of}
-use Rattle.fx_front.specs.inner.Kinds.{kind_among}
+use Rattle.fx_front.specs.Kinds.{kind_among}
 use Rattle.fx_front.proofs.kinds.kind_among.Given as goal
 
 -- no row so far fits

@@ -4,7 +4,7 @@ use Rattle.std.proofs.lemmas.Grind.{common_steps}
 use Rattle.std.proofs.lemmas.Bool.Decides.{nat_tests}
 use Rattle.fx_words.specs.Parts.{Text, has}
 use Rattle.fx_words.specs.Sets.{Table, value_of}
-use Rattle.fx_front.specs.inner.Asked.{commands}
+use Rattle.fx_front.specs.Asked.{commands}
 use Rattle.fx_front.specs.declared.meant.TheConstants.{OPTIONS}
 use Rattle.fx_front.proofs.meant.takes_font.Goals as goal
 

@@ -1,6 +1,6 @@
 use Rattle.std.proofs.Common.{◌≡◌, drop}
 use Rattle.fx_words.specs.Sets.{rows_of}
-use Rattle.fx_front.specs.inner.Advised.{usual_for}
+use Rattle.fx_front.specs.Meant.{usual_for}
 use Rattle.fx_front.proofs.meant.usual_for.Given as goal
 
 -- no row so far fits

@@ -9,3 +9,13 @@ returns-clause-ends g c = (
   c.say_end.ensures.1,
   c.say_end.ensures.2,
 )
+
+pub returns-clause-lines : goal.returns-clause-lines
+returns-clause-lines g c = (
+  c.run_to_place-ended.result,
+  c.run_to_place-ended.new.err,
+  c.say_end.ensures.0,
+  c.ended_status.ensures,
+  c.say_end.ensures.3,
+  c.say_end.ensures.4,
+)

@@ -1,3 +1,0 @@
-pub mod Advised
-pub mod Asked
-pub mod Kinds
