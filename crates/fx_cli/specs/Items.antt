@@ -27,11 +27,14 @@ hyphen_of [] = []
 hyphen_of (b ∷ high) = codes "-"
 
 -- which number or range is meant, if these are right
+abbrev pub right_said : Text → Text → List ℕ
+right_said low high = shown_text (codes ", but ") ++ (shown_text low ++ (shown_text (hyphen_of high)
+    ++ (shown_text high ++ shown_text (codes " is"))))
+
 abbrev pub range_said : Text → Text → List ℕ
 range_said low high =
     if nat_lt 0 (length low) && (not (is_some (wrong_item_of low)) && not (is_some (wrong_item_of high)))
-    then shown_text (codes ", but ") ++ (shown_text low ++ (shown_text (hyphen_of high)
-    ++ (shown_text high ++ (shown_text (codes " is") ++ []))))
+    then right_said low high
     else []
 
 abbrev pub number_said : Text → List ℕ
@@ -43,21 +46,21 @@ abbrev pub meant_said : ItemFault → Text → List ℕ
 meant_said NoNumber item = number_said item
 meant_said fault item = []
 
--- an item without bytes is a comma too many
-abbrev pub no_item_said : ItemFault → List ℕ
-no_item_said NoNumber = shown_text (codes "the list has a comma too many") ++ []
-no_item_said fault = shown_text (codes "'") ++ (shown_text [] ++ (shown_text (fault_said fault) ++ []))
-
 abbrev pub one_item_said : ItemFault → Text → List ℕ
 one_item_said fault item =
-    (shown_text (codes "'") ++ (shown_text item ++ (shown_text (fault_said fault) ++ []))) ++ meant_said fault item
+    shown_text (codes "'") ++ (shown_text item ++ (shown_text (fault_said fault) ++ meant_said fault item))
+
+-- an item without bytes is a comma too many
+abbrev pub no_item_said : ItemFault → List ℕ
+no_item_said NoNumber = shown_text (codes "the list has a comma too many")
+no_item_said fault = one_item_said fault []
 
 abbrev pub item_said : ItemFault → Text → List ℕ
 item_said fault [] = no_item_said fault
 item_said fault (b ∷ item) = one_item_said fault (b ∷ item)
 
 abbrev pub found_said : Option (Text × ItemFault) → List ℕ
-found_said None = shown_text (codes "the list has more than 65,536 numbers") ++ []
+found_said None = shown_text (codes "the list has more than 65,536 numbers")
 found_said (Some found) = item_said found.1 found.0
 
 -- what is wrong first with a list that is refused; if no item is, it has too many numbers

@@ -1,15 +1,17 @@
 //! The program that a front runs.
-ghost use Rattle.std.specs.Prelude.{◌≡◌, ◌<◌, ◌^◌, IfOk, map, string_bytes};
+ghost use Rattle.std.specs.Prelude.{◌≡◌, ◌==◌, ◌<◌, ◌^◌, IfOk, map, string_bytes};
+ghost use Rattle.std.specs.List.{after_first, before_first};
 ghost use Rattle.fx_fixed.specs.Changes.{change_of};
 ghost use Rattle.fx_front.specs.Lines.{Says};
 ghost use Rattle.fx_cli.specs.Items.{fault_said, hyphen_of, item_said, meant_said, no_item_said, number_said, one_item_said};
-ghost use Rattle.fx_cli.specs.Items.{range_said, without_mark};
+ghost use Rattle.fx_cli.specs.Items.{range_said, right_said, without_mark};
 
 use crate::program::run_watched;
 use crate::watch::Watch;
 use fx_arguments::{ItemFault, explain, wrong_item};
 use fx_fixed::{Sink, Source};
-use fx_front::{Facts, Parts, Text, Tool, after_start};
+use fx_front::{Facts, Parts, Text, Tool};
+use fx_words::after_start;
 use std::alloc::{AllocError, Global};
 use std::marker::Model;
 
@@ -83,7 +85,7 @@ impl Tool for Mkstrike {
 
     fn add_wrong_item(&self, text: &mut Text, list: &str) {
         match wrong_item(list) {
-            None => text.add_all(&["the list has more than 65,536 numbers"]),
+            None => text.add_text("the list has more than 65,536 numbers"),
             Some((item, why)) => add_item(text, item, why),
         }
     }
@@ -115,8 +117,8 @@ fn add_no_item(text: &mut Text, why: ItemFault)
     ensures { Says text.old text.new (no_item_said why) }
 {
     match why {
-        ItemFault::NoNumber => text.add_all(&["the list has a comma too many"]),
-        why => text.add_all(&["'", "", what_is_wrong(why)]),
+        ItemFault::NoNumber => text.add_text("the list has a comma too many"),
+        why => add_one_item(text, "", why),
     }
 }
 
@@ -124,7 +126,9 @@ fn add_no_item(text: &mut Text, why: ItemFault)
 fn add_one_item(text: &mut Text, item: &str, why: ItemFault)
     ensures { Says text.old text.new (one_item_said why item.now) }
 {
-    text.add_all(&["'", item, what_is_wrong(why)]);
+    text.add_text("'");
+    text.add_text(item);
+    text.add_text(what_is_wrong(why));
     add_meant(text, item, why);
 }
 
@@ -153,8 +157,31 @@ fn add_meant(text: &mut Text, item: &str, why: ItemFault)
 fn add_number_meant(text: &mut Text, item: &str)
     ensures { Says text.old text.new (number_said item.now) }
 {
-    let (low, high) = item.split_once('-').unwrap_or((item, ""));
-    add_range(text, without_mark(low), without_mark(high));
+    add_range(
+        text,
+        without_mark(low_of(item)),
+        without_mark(high_of(item)),
+    );
+}
+
+/// What is before the hyphen of a range, or a number.
+fn low_of<'a>(item: &'a str) -> &'a str
+    ensures { result.now ≡ before_first (λ b. b == 45) item.entry.now }
+{
+    match item.split_once('-') {
+        Some((low, _)) => low,
+        None => item,
+    }
+}
+
+/// What is after the hyphen of a range.
+fn high_of<'a>(item: &'a str) -> &'a str
+    ensures { result.now ≡ after_first (λ b. b == 45) item.entry.now }
+{
+    match item.split_once('-') {
+        Some((_, high)) => high,
+        None => "",
+    }
 }
 
 /// Adds this number or range, if it is right.
@@ -162,8 +189,19 @@ fn add_range(text: &mut Text, low: &str, high: &str)
     ensures { Says text.old text.new (range_said low.now high.now) }
 {
     if !low.is_empty() && wrong_item(low).is_none() && wrong_item(high).is_none() {
-        text.add_all(&[", but ", low, hyphen_of(high), high, " is"]);
+        add_right(text, low, high);
     }
+}
+
+/// Adds this number or range.
+fn add_right(text: &mut Text, low: &str, high: &str)
+    ensures { Says text.old text.new (right_said low.now high.now) }
+{
+    text.add_text(", but ");
+    text.add_text(low);
+    text.add_text(hyphen_of(high));
+    text.add_text(high);
+    text.add_text(" is");
 }
 
 /// The hyphen of a range.

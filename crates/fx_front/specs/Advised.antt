@@ -148,7 +148,8 @@ faces_said (Some start) advice = fonts_said (fonts_in start)
 abbrev pub refusal_said : RefusalFacts → Option (List ℕ) → Bool → PartsView → (Text → List ℕ) → List ℕ
 refusal_said refused start is_trace parts wrong_item =
     if refused.number == 10 then shown_text (not_truetype start refused.advice.now)
-    else (if is_from 17 23 refused.number && parts.is_make then shown_with (codes "%; --refused leave-out does so") refused.advice.now
+    else (if is_from 17 23 refused.number && parts.is_make
+    then shown_with (codes "%; --refused leave-out does so") refused.advice.now
     else (if refused.number == 24 && names_glyph parts.words refused.glyph
     then shown_text (codes "the font has no glyph of that number")
     else (if refused.number == 25 then faces_said start refused.advice.now

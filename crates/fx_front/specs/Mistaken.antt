@@ -60,7 +60,8 @@ other_said parts wrong =
 
 -- an unknown option
 abbrev pub unknown_said : Text → Text → Text → List ℕ
-unknown_said option command wrong = shown_with (codes "%;") wrong ++ named_instead (unwrap_or (before_end (codes "'") option) option) command
+unknown_said option command wrong =
+    shown_with (codes "%;") wrong ++ named_instead (unwrap_or (before_end (codes "'") option) option) command
 
 -- an unknown option, or another mistake
 abbrev pub option_said : Option Text → PartsView → Text → Text → List ℕ

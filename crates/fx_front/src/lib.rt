@@ -31,7 +31,7 @@ pub use explained::say_after;
 pub use facts::{Counts, Facts, RefusalFacts};
 pub use files::Files;
 pub use front::{run_front, run_over, say_not_text};
-pub use fx_words::{Parts, after_start};
+pub use fx_words::Parts;
 pub use run::{Ended, run_to_end, run_to_place};
 pub use text::Text;
 pub use tool::Tool;

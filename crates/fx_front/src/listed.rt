@@ -146,8 +146,8 @@ fn is_word(item: &str) -> bool
     item.as_bytes().iter().any(|byte| is_letter(*byte))
 }
 
-/// Whether a byte is no digit of a number: it is outside ASCII, or a letter from g to z. The letters `x` and `u` come before numbers,
-/// and do not count.
+/// Whether a byte is no digit of a number: it is outside ASCII, or a letter from g to z. The letters `x` and `u` come before
+/// numbers, and do not count.
 fn is_letter(byte: u8) -> bool
     ensures { result ≡ is_letter byte }
 {

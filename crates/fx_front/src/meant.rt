@@ -116,8 +116,8 @@ pub(crate) fn usual_for(
     None
 }
 
-/// The words that a word may mean: options of a command, or commands if `command` is empty. A usual name of one decides, or else the
-/// fewest letters that differ, which may fit several.
+/// The words that a word may mean: options of a command, or commands if `command` is empty. A usual name of one decides, or else
+/// the fewest letters that differ, which may fit several.
 #[tactic(auto, unfolding(crate::specs::Meant::meant_by))]
 fn meant_by(alloc: Global, word: &str, command: &str) -> Result<Vec<&'static str>, AllocError>
     ensures { IfOk result (λ meant. texts meant.items ≡ meant_by word.now command.now) }

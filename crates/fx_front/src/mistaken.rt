@@ -53,7 +53,8 @@ fn add_words<G: Tool>(
     task: &AskedRun<'_, '_>,
     words: &[&str],
 )
-    ensures { Says text.old text.new (words_said G.wrong_in (seen task.now.parts.now) (text_in task.now.command) (texts words.now)) }
+    ensures { Says text.old text.new (words_said G.wrong_in (seen task.now.parts.now) (text_in task.now.command)
+        (texts words.now)) }
 {
     match (words, task.command) {
         ([], _) => text.add_text(WRONG_LINE),

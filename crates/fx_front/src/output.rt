@@ -118,8 +118,8 @@ fn access_of(found: &Metadata) -> Access {
     }
 }
 
-/// Whether a name is still that of a file, and not of a link that came meanwhile: a new file in place of another one would give that
-/// one's readers and writers what is not theirs.
+/// Whether a name is still that of this file. If a link came meanwhile, the new file would take over the access of one file and
+/// replace another.
 fn is_still(rt: &HostRuntime, name: &str, older: Access) -> bool {
     match fs::symlink_metadata(rt, name) {
         Ok(found) => (found.dev(), found.ino()) == (older.device, older.number),

@@ -59,7 +59,7 @@ impl Text {
     }
 
     /// Adds a text.
-    pub(crate) fn add_text(&mut self, text: &str)
+    pub fn add_text(&mut self, text: &str)
         ensures { Says self.old self.new (shown_text text.now) }
     {
         self.add(text.as_bytes());

@@ -135,7 +135,7 @@ impl Tool for Fake {
     }
 
     fn add_wrong_item(&self, text: &mut Text, _list: &str) {
-        text.add_all(&[]);
+        text.add_text("");
     }
 }
 
