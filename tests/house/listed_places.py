@@ -17,8 +17,10 @@ PLACES = {
     "crates/fx_arguments/src/wrong.rt": ["Wrong::Refused(Refusal::OutOfMemory)"],
     "crates/fx_contour/src/fault.rt": ["ContourFault::OutOfMemory"],
     "crates/fx_cli/src/mapped.rt": ["vec![in alloc; 0u32; count]"],
+    "crates/fx_cli/src/mkstrike.rt": ["Err(_) => Err(AllocError),", "Err(_) => Err(AllocError),"],
     "crates/fx_cli/src/watch.rt": ["from_slice(alloc, start)"],
     "crates/fx_front/src/lines.rt": ["let _ = put_all(err, &line)", "from_slice(alloc, b\"mkstrike: \")"],
+    "crates/fx_front/src/meant.rt": ["from_slice(alloc, &[meant])"],
     "crates/fx_front/src/output.rt": [
         "let _ = fs::remove_file(rt, made.as_str())",
         "let _ = fchown(file, None, Some(older.group))",

@@ -128,7 +128,7 @@ fonts_in (t ∷ u ∷ v ∷ w ∷ _ ∷ _ ∷ _ ∷ _ ∷ a ∷ b ∷ c ∷ d �
     if bytes_eq (t ∷ u ∷ v ∷ w ∷ []) (codes "ttcf") then Some (from_be_bytes w32 (a ∷ b ∷ c ∷ d ∷ [])) else None
 fonts_in start = None
 
--- which faces a file has: none, as it is no collection, or so many
+-- how many faces a file has; none, if it is no collection
 abbrev pub several_said : ℕ → List ℕ
 several_said count =
     shown_text (codes "the collection has ") ++ (shown_text (decimal count)

@@ -207,7 +207,7 @@ fn add_missing(text: &mut Text, facts: &Facts, count: u32)
     add_named(text, &facts.missing, facts.has_more);
 }
 
-/// That so many characters are missing.
+/// That this number of characters is missing.
 fn are_missing(count: u32) -> &'static str
     ensures { result.now ≡ are_missing count }
 {
@@ -299,7 +299,7 @@ fn fonts_in(start: &[u8]) -> Option<u32>
     }
 }
 
-/// Adds which faces a file has: so many, or none, as it is no collection.
+/// Adds how many faces a file has; none, if it is no collection.
 fn add_faces(text: &mut Text, fonts: Option<u32>)
     ensures { Says text.old text.new (fonts_said fonts) }
 {

@@ -69,6 +69,7 @@ const MAKE: &str = "mkstrike make writes a strike: the bitmaps of characters at 
                   [-o FILE]
 
 Characters:
+
     --chars LIST          hexadecimal numbers and ranges, such as 20-7e,a0,20ac;
                           the letter A is 41
     --set NAMES           sets of characters by name, such as ascii or
@@ -84,6 +85,7 @@ Characters:
                           only the first eight
 
 Pixels:
+
     --ppem N              the size in pixels per em, 1 to 1024
     --unhinted            do not run the font's own programs
     --dropout[=WHAT]      keep thin strokes whole, by left pixels (left, the
@@ -91,12 +93,14 @@ Pixels:
                           (font)
 
 Font:
+
     FONT                  the font's file; standard input by default
     --face N              which font of a collection, counted from 0; the first
                           by default
     --hex                 the font is hexadecimal text
 
 Output:
+
     -o FILE               write to FILE, which appears only when it is complete;
                           - is standard output, the default
     --name NAME           the strike's name; write one that begins with a hyphen
