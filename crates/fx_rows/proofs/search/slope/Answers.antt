@@ -19,16 +19,16 @@ sum_without_copies x y z hx hy hz =
     (λ i. to_z w128 (of_z w128 (to_z w128 (of_z w128 (pos 2 *ℤ to_z w128 (of_z w128 (ex i +ℤ ey i)))) +ℤ ez i)))
     ∙ (λ i. to_z w128 (of_z w128 (to_z w128 (of_z w128 (pos 2 *ℤ s i)) +ℤ z))) ∙ (λ i. to_z w128 (of_z w128 (t i +ℤ z))) ∙ r
 
-held : (z : ℤ) → IsWithin (2 ^ 56) z → to_z w64 (of_z w64 z) ≡ z
-held z h = omega (arith, signed_linear)
+moved_held : (z : ℤ) → IsWithin (2 ^ 56) z → to_z w64 (of_z w64 z) ≡ z
+moved_held z h = omega (arith, signed_linear)
 
 pub returns : goal.returns
 returns c =
     let g = c.args.g in
     let k = pos c.args.k in
-    let u = held c.moved-u.result c.moved-u.ensures.size in
-    let v = held c.moved-v.result c.moved-v.ensures.size in
-    let w = held c.moved-w.result c.moved-w.ensures.size in
+    let u = moved_held c.moved-u.result c.moved-u.ensures.size in
+    let v = moved_held c.moved-v.result c.moved-v.ensures.size in
+    let w = moved_held c.moved-w.result c.moved-w.ensures.size in
     let su : to_z w64 (of_z w64 g.step_u) ≡ g.step_u = omega (arith, signed_linear) in
     let sw : to_z w64 (of_z w64 g.step_w) ≡ g.step_w = omega (arith, signed_linear) in
     let gu : to_z w64 (of_z w64 g.u) ≡ g.u = omega (arith, signed_linear) in
