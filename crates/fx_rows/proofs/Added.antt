@@ -1,5 +1,5 @@
 -- What a piece adds to a row tells which of its segments it meets.
--- Serves `meets_to` and `note_tip`.
+-- Serves `changes_at` and `note_tip`.
 use Rattle.std.proofs.Common.{◌≡◌, ◌⊎◌, inl, inr, ℕ, ◌<◌, ◌<ℤ◌, ◌≤ℤ◌, ℤ, pos, ◌+ℤ◌, ◌-ℤ◌, Option, Some, None, arith}
 use Rattle.std.proofs.Common.{w64, of_z}
 use Rattle.fx_fixed.proofs.Linear.{signed_linear}

@@ -6,11 +6,12 @@ use Rattle.fx_fixed.specs.Polynomial.{var, num, ◌⊞◌, ◌⊠◌, ◌⊟◌,
 use Rattle.fx_fixed.proofs.Linear.{signed, signed_linear}
 use Rattle.fx_fixed.proofs.Order.{below_or_not, below_same_above, below_or_not_ℤ}
 use Rattle.fx_fixed.proofs.Ring.{ring}
-use Rattle.fx_winding.specs.Area.{Place}
+use Rattle.fx_winding.specs.Area.{Place, place}
 use Rattle.fx_winding.specs.Frames.{IsFrom}
 use Rattle.fx_winding.specs.Meets.{turn, slope, IsWithinRow, IsTip, IsTipPart, IsMet}
 use Rattle.fx_winding.specs.Winding.{Span, IsOn, crossing, region, centre}
 use Rattle.fx_winding.specs.declared.frame.Frame.{Frame}
+use Rattle.fx_winding.proofs.EndsOn.{first_on, last_on}
 use Rattle.fx_winding.proofs.Aside.{left_not_met, right_not_met}
 use Rattle.fx_winding.proofs.Places.{clash}
 use Rattle.fx_winding.proofs.Triangle.{area_expr}
@@ -32,7 +33,7 @@ use Rattle.fx_rows.proofs.Telling.{at_least_outside, at_most_outside}
 use Rattle.fx_rows.specs.Parts.{IsRun, IsRowPart}
 use Rattle.fx_rows.specs.declared.part.Run.{Run}
 use Rattle.fx_rows.specs.declared.part.RowPart.{RowPart}
-use Rattle.fx_rows.specs.inner.Lines.{left_at, right_at, IsMetTo, IsRunEnd, IsSetTo, IsRowSet, AreSetIn}
+use Rattle.fx_rows.specs.inner.Lines.{left_at, right_at, IsMetTo, IsMetToUnlessOn, IsRunEnd, IsSetTo, IsTurnEnd, IsRowSet, AreSetIn}
 use Rattle.fx_rows.proofs.Turned.{on_turned}
 
 same_or_not : (x y : ℤ) → (x ≡ y) ⊎ (x ≢ y)
@@ -76,7 +77,8 @@ run_changes f frame (Some r) k h some l n = by (below_or_not_ℤ y r.first) (bel
 
 -- a segment that a piece meets goes to an end of what the piece adds, or has an end of the piece within, or its tip
 pub record IsCandidate (s : Span) (f : Frame) (row : ℤ) (part : RowPart) (k : ℕ) : Type 0 where
-  pub either : IsRunEnd f part.crossing k ⊎ (IsRunEnd f part.region k ⊎ (IsWithinRow (left_at f row k) (right_at f row k) s.a
+  pub either : IsTurnEnd s f row part.crossing k ⊎ (IsTurnEnd s f row part.region k
+      ⊎ (IsWithinRow (left_at f row k) (right_at f row k) s.a
       ⊎ (IsWithinRow (left_at f row k) (right_at f row k) s.c ⊎ IsTipPart s.a s.b s.c (left_at f row k) (right_at f row k))))
 
 pub met_candidate : (s : Span) (f : Frame) (row : ℤ) (part : RowPart) (k : ℕ) → IsRowPart s row f part → 0 < k → k < f.width
@@ -95,16 +97,16 @@ met_candidate s f row part k is some l met = record { either = by met }
     changes n (inl e) = inr (run_changes (λ col. region (centre col row) s) f part.region k is.regions some l
         (λ g. n (λ i. e i +ℤ g i)))
 
-    split : {X : Type 0} → IsRunEnd f part.crossing k ⊎ IsRunEnd f part.region k
-        → IsRunEnd f part.crossing k ⊎ (IsRunEnd f part.region k ⊎ X)
-    split (inl h) = inl h
-    split (inr h) = inr (inl h)
+    split : {X : Type 0} → turn p s ≢ turn q s → IsRunEnd f part.crossing k ⊎ IsRunEnd f part.region k
+        → IsTurnEnd s f row part.crossing k ⊎ (IsTurnEnd s f row part.region k ⊎ X)
+    split n (inl h) = inl (h, n)
+    split n (inr h) = inr (inl (h, n))
 
-    by : IsMet p q s → IsRunEnd f part.crossing k ⊎ (IsRunEnd f part.region k ⊎ (IsWithinRow p q s.a ⊎ (IsWithinRow p q s.c
-        ⊎ IsTipPart s.a s.b s.c p q)))
+    by : IsMet p q s → IsTurnEnd s f row part.crossing k ⊎ (IsTurnEnd s f row part.region k ⊎ (IsWithinRow p q s.a
+        ⊎ (IsWithinRow p q s.c ⊎ IsTipPart s.a s.b s.c p q)))
     by (inl h) = inr (inr (inl h))
     by (inr (inl h)) = inr (inr (inr (inl h)))
-    by (inr (inr (inl h))) = split (changes h (same_or_not (crossing p s) (crossing q s)))
+    by (inr (inr (inl h))) = split h (changes h (same_or_not (crossing p s) (crossing q s)))
     by (inr (inr (inr h))) = inr (inr (inr (inr h)))
 
 -- ---- tips
@@ -208,8 +210,8 @@ met_last s f first end row k h m = elim (below_or_not_ℤ ((f.left -ℤ pos 1) +
 
 -- ---- a whole row
 pub row_set : (s : Span) (f : Frame) (row : ℤ) (part : RowPart) (first step : ℕ) (bits : List ℕ) → IsRowPart s row f part
-    → ((k : ℕ) → 0 < k → k < f.width → IsRunEnd f part.crossing k → IsSetTo s f row first step bits k)
-    → ((k : ℕ) → 0 < k → k < f.width → IsRunEnd f part.region k → IsSetTo s f row first step bits k)
+    → ((k : ℕ) → 0 < k → k < f.width → IsTurnEnd s f row part.crossing k → IsSetTo s f row first step bits k)
+    → ((k : ℕ) → 0 < k → k < f.width → IsTurnEnd s f row part.region k → IsSetTo s f row first step bits k)
     → ((k : ℕ) → 0 < k → k < f.width → IsWithinRow (left_at f row k) (right_at f row k) s.a → IsSetTo s f row first step bits k)
     → ((k : ℕ) → 0 < k → k < f.width → IsWithinRow (left_at f row k) (right_at f row k) s.c → IsSetTo s f row first step bits k)
     → ((k : ℕ) → 0 < k → k < f.width → IsTipPart s.a s.b s.c (left_at f row k) (right_at f row k)
@@ -221,7 +223,8 @@ row_set s f row part first step bits is crossed regions at_a at_c tip edges k l 
     inner : 0 < k → k < f.width → word_bit bits (first + k * step) ≡ 1
     inner o m = each (met_candidate s f row part k is o m met).either
       where
-        each : IsRunEnd f part.crossing k ⊎ (IsRunEnd f part.region k ⊎ (IsWithinRow (left_at f row k) (right_at f row k) s.a
+        each : IsTurnEnd s f row part.crossing k ⊎ (IsTurnEnd s f row part.region k
+            ⊎ (IsWithinRow (left_at f row k) (right_at f row k) s.a
             ⊎ (IsWithinRow (left_at f row k) (right_at f row k) s.c
             ⊎ IsTipPart s.a s.b s.c (left_at f row k) (right_at f row k)))) → word_bit bits (first + k * step) ≡ 1
         each (inl h) = crossed k o m h met
@@ -294,6 +297,25 @@ within_column f x row n k before from w after over = by k refl (below_same_above
     by zero e (inr (inr l)) = absurd (omega (arith, l))
     by (suc i) e (inr (inr l)) =
         let b = from i (omega (arith, l)) (omega (arith, e, w)) in absurd (omega (arith, signed, b, after, e))
+
+-- an end of a piece up to the right end of a segment is within that, or on its right end
+pub end_met : (s : Span) (f : Frame) (row : ℤ) (k : ℕ) (x y : ℤ) → (place x y ≡ s.a) ⊎ (place x y ≡ s.c)
+    → y ≡ pos 128 *ℤ row +ℤ pos 64 → (left_at f row k).x <ℤ x → x ≤ℤ (right_at f row k).x → IsMetToUnlessOn s f row k
+end_met s f row k x y end level low high p q = elim (below_or_not_ℤ x (right_at f row k).x) [
+  | inl l ↦
+      let w : IsWithinRow (left_at f row k) (right_at f row k) (place x y) = record { level = level; after = low; before = l } in
+      elim end [
+        | inl e ↦ inl (subst (IsWithinRow (left_at f row k) (right_at f row k)) e w)
+        | inr e ↦ inr (inl (subst (IsWithinRow (left_at f row k) (right_at f row k)) e w))
+      ]
+  | inr m ↦
+      let at : x ≡ (right_at f row k).x = omega (arith, signed_linear, high, m) in
+      let here : place x y ≡ right_at f row k = λ i. place (at i) (level i) in
+      absurd (q (subst (λ t. IsOn t s) here (elim end [
+        | inl e ↦ subst (λ t. IsOn t s) (sym e) (first_on s)
+        | inr e ↦ subst (λ t. IsOn t s) (sym e) (last_on s)
+      ])))
+]
 
 -- the column with a number, by how many columns are before that
 pub column_is : (f : Frame) (col : ℤ) (n k : ℕ) → ((i : ℕ) → i < n → (f.left +ℤ pos i) <ℤ col)

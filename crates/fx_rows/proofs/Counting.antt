@@ -302,8 +302,8 @@ sign_told s y h = grind (arith, ints, signed_linear, h, sign_above, sign_below)
 pub arc_end : (s : Span) (r : Bool) (strip : Strip) (end : ℕ) → BendsPart s.a s.b s.c r strip → IsEndOfCount s r strip end
     → end ≤ strip.stop → IsInner s.a.y s.c.y (pos 128 *ℤ strip.row +ℤ pos 64) → IsStripEnd s strip end
 arc_end s r strip end h e within inner = record {
-  inside = λ k l m o off. inside_part s.a s.b s.c r strip k h off (e.inside k o) ∙ sym (sign_told s _ inner);
-  outside = λ k l m o off. outside_part s.a s.b s.c r strip k h off (e.outside k o m);
+  inside = λ k m o off. inside_part s.a s.b s.c r strip k h off (e.inside k o) ∙ sym (sign_told s _ inner);
+  outside = λ k m o off. outside_part s.a s.b s.c r strip k h off (e.outside k o m);
   within = within;
 }
 
@@ -311,10 +311,10 @@ arc_end s r strip end h e within inner = record {
 pub line_end : (s : Span) (strip : Strip) (end : ℕ) → ¬ (IsBent s) → IsInner s.a.y s.c.y (pos 128 *ℤ strip.row +ℤ pos 64)
     → IsEdge s.a s.c strip end → IsStripEnd s strip end
 line_end s strip end flat inner e = record {
-  inside = λ k l m o off. first_only _ _ _
+  inside = λ k m o off. first_only _ _ _
       (crossing_of_left s.a s.c (place_at strip k) (across s.a.y s.c.y _ inner) (e.left k o) ∙ sym (sign_told s _ inner))
       (no_region_flat s (place_at strip k) flat);
-  outside = λ k l m o off. both_zero _ _ (crossing_of_rest s.a s.c (place_at strip k) (e.rest k o m))
+  outside = λ k m o off. both_zero _ _ (crossing_of_rest s.a s.c (place_at strip k) (e.rest k o m))
       (no_region_flat s (place_at strip k) flat);
   within = e.within;
 }
@@ -334,16 +334,16 @@ pub clear_is_cut : (s : Span) (strip : Strip) (cut : Cut) (first end : ℤ) → 
     → cut.on ≡ Nowhere → IsCut s strip cut
 clear_is_cut s strip cut first end h clear inner within before rest none = record {
   end = record {
-    inside = λ k l m o off. first_only _ _ _
+    inside = λ k m o off. first_only _ _ _
         (left_crossing s.a s.c (place_at strip k) inner (left k o s.a (inl refl)) (left k o s.c (inr (inr refl)))
         ∙ sym (sign_told s _ inner))
         (left_off (place_at strip k) s (to_all (λ q. (place_at strip k).x <ℤ q.x) s (left k o))).0;
-    outside = λ k l m o off. both_zero _ _
+    outside = λ k m o off. both_zero _ _
         (right_crossing s.a s.c (place_at strip k) (right k o m s.a (inl refl)) (right k o m s.c (inr (inr refl))))
         (right_off (place_at strip k) s (to_all (λ q. q.x <ℤ (place_at strip k).x) s (right k o m))).0;
     within = within;
   };
-  on = subst (IsOnStrip s strip) (sym none) (none_on s strip (λ k l m. off k m (below_or_not k cut.end)));
+  on = subst (IsOnStrip s strip) (sym none) (none_on s strip (λ k m. off k m (below_or_not k cut.end)));
 }
   where
     left : (k : ℕ) → k < cut.end → (q : Place) → IsPointOf q s → (place_at strip k).x <ℤ q.x

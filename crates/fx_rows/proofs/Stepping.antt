@@ -45,10 +45,9 @@ pub band_small : (s : Span) (f : Frame) (from up : ℕ) (old now : Band) → IsB
     → AreWithin (2 ^ 25 + 4 * from) old.diff.items → up ≤ 128 → AreWithin (2 ^ 26) now.diff.items
 band_small s f from up old now h small l = λ k. let e = h.grown (2 ^ 25) small k in omega (arith, signed_linear, e, l)
 
-pub cut_inside : (s : Span) (strip : Strip) (frame : Frame) (cut : Cut) → strip.base +ℤ pos strip.start ≡ frame.left
-    → strip.base +ℤ pos strip.stop ≡ frame.left +ℤ pos frame.width → IsCut s strip cut → IsOnInside frame cut.on
-cut_inside s strip frame cut first last h =
-    on_inside s frame cut.on (formed_frame s strip frame cut.on first last h.on)
+pub cut_inside : (s : Span) (strip : Strip) (frame : Frame) (cut : Cut) → IsWhole frame strip → IsCut s strip cut
+    → IsOnInside frame cut.on
+cut_inside s strip frame cut whole h = on_inside s frame cut.on (formed_frame s strip frame cut.on whole h.on)
 
 -- rows of one frame, and then one more of the same frame
 pub band_next : (s : Span) (f g : Frame) (row : ℤ) (from up : ℕ) (old now new : Band) → from ≤ up → g ≡ f
@@ -61,13 +60,10 @@ pub band_end : (s : Span) (f : Frame) (from up end : ℕ) (old new : Band) → u
     → IsBandAdded s f from end old new
 band_end s f from up end old new e h = subst (λ (n : ℕ). IsBandAdded s f from n old new) e h
 
-pub whole : (f : Frame) (strip : Strip) → strip.base ≡ f.left → strip.start ≡ 0 → strip.stop ≡ f.width → IsWhole f strip
-whole f strip base start stop = record { base = base; start = start; stop = stop }
+pub whole : (f : Frame) (strip : Strip) → strip.base ≡ f.left → strip.stop ≡ f.width → IsWhole f strip
+whole f strip base stop = record { base = base; stop = stop }
 
--- the first column of a frame's strip, and the one after its last
-pub whole_first : (f : Frame) (strip : Strip) → IsWhole f strip → strip.base +ℤ pos strip.start ≡ f.left
-whole_first f strip h = omega (arith, signed_linear, h.base, h.start)
-
+-- the column after a frame's last
 pub whole_end : (f : Frame) (strip : Strip) → IsWhole f strip → end_at strip ≡ end_of f
 whole_end f strip h = λ i. h.base i +ℤ pos (h.stop i)
 

@@ -1,6 +1,6 @@
 -- Pieces that are no bent arc, between their ends.
 -- Serves the centres on them.
-use Rattle.std.proofs.Common.{◌↔◌, IsTrue, ◌≡◌, ◌≢◌, inl, inr, sym, ap, ◌∙◌, ℕ, ◌≤◌, ◌<◌, ℤ, pos, negsuc, ◌+ℤ◌}
+use Rattle.std.proofs.Common.{◌↔◌, IsTrue, ◌≡◌, ◌≢◌, inl, inr, sym, ap, ◌∙◌, ℕ, ◌<◌, ℤ, pos, negsuc, ◌+ℤ◌}
 use Rattle.std.proofs.Common.{◌-ℤ◌, ◌*ℤ◌, neg_ℤ, ◌≤ℤ◌, ◌<ℤ◌, [], ◌∷◌, Bool, Option, Some, None, arith}
 use Rattle.std.proofs.lemmas.Int.{ints}
 use Rattle.fx_fixed.specs.Polynomial.{Expr, var, ◌⊞◌, ◌⊠◌, minus, ◌⊟◌}
@@ -156,9 +156,9 @@ on_straight a (Some b) c p n inner z =
 
 pub straight_met : (s : Span) (strip : Strip) (edge : ℕ) (met : Bool) → ¬ (IsBent s)
     → IsInner s.a.y s.c.y (pos 128 *ℤ strip.row +ℤ pos 64) → IsEdge s.a s.c strip edge
-    → IsTrue met ↔ (side s.a s.c (place_at strip edge) ≡ pos 0) → (k : ℕ) → strip.start ≤ k → k < strip.stop
+    → IsTrue met ↔ (side s.a s.c (place_at strip edge) ≡ pos 0) → (k : ℕ) → k < strip.stop
     → IsOn (place_at strip k) s ↔ ((k ≡ edge) × IsTrue met)
-straight_met s strip edge met straight inner e m k h l = (
-  λ on. only_chord s strip edge met straight (slanted _ _ _ inner) e m k h l on,
+straight_met s strip edge met straight inner e m k l = (
+  λ on. only_chord s strip edge met straight (slanted _ _ _ inner) e m k l on,
   λ x. on_straight s.a s.b s.c (place_at strip k) straight inner (ap (λ t. side s.a s.c (place_at strip t)) x.0 ∙ m.0 x.1),
 )

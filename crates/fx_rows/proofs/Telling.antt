@@ -37,9 +37,9 @@ pub cut_end : (s : Span) (f : Frame) (strip : Strip) (end : ℕ) (row : ℤ) →
     → IsWhole f strip → IsStripEnd s strip end → IsEndOn s f row end
 cut_end s f strip end row at_row whole is = record {
   within = subst (λ (n : ℕ). end ≤ n) whole.stop is.within;
-  left = λ k h off. ap (λ (q : Place). turn q s) (sym (at k)) ∙ is.inside k (omega (arith, whole.start))
+  left = λ k h off. ap (λ (q : Place). turn q s) (sym (at k)) ∙ is.inside k
       (let w = is.within in omega (arith, h, w)) h (off_at k off);
-  right = λ k h l off. ap (λ (q : Place). turn q s) (sym (at k)) ∙ is.outside k (omega (arith, whole.start))
+  right = λ k h l off. ap (λ (q : Place). turn q s) (sym (at k)) ∙ is.outside k
       (omega (arith, whole.stop, l)) h (off_at k off);
 }
   where

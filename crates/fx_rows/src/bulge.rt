@@ -116,13 +116,13 @@ pub(crate) fn note_part(
     ensures noted { IsRowSet (bounded_span bounded.now) line.now.frame line.now.row line.now.first line.now.step bits.new }
     ensures gained { GainOnly (IsLineBit (bounded_span bounded.now) line.now.frame line.now.row line.now.first line.now.step)
         bits.old bits.new }
-    ensures count { tally.new.count ≤ tally.old.count + 45 }
+    ensures count { tally.new.count ≤ tally.old.count + 15 }
 {
     let piece = &bounded.piece;
-    note_run(piece, part, line, part.crossing, bits, tally);
-    note_run(piece, part, line, part.region, bits, tally);
-    note_end(piece, part, line, piece.a, bits, tally);
-    note_end(piece, part, line, piece.c, bits, tally);
+    note_run(part, line, part.crossing, bits);
+    note_run(part, line, part.region, bits);
+    note_end(line, piece.a, bits);
+    note_end(line, piece.c, bits);
     note_tip(piece, bounded.rise, part, line, bits, tally);
     note_first(piece, bounded.across, line, bits, tally);
     note_last(piece, bounded.across, line, bits, tally);
@@ -139,7 +139,7 @@ fn note_met_lines(
     requires rows { rows.end ≤ lines.frame.height }
     requires room { HaveRoom lines bits.old }
     ensures notes { NotesRows (bounded_span bounded.now) lines rows.first rows.end bits.old bits.new }
-    ensures count { tally.new.count ≤ tally.old.count + 55 * (rows.end - rows.first) }
+    ensures count { tally.new.count ≤ tally.old.count + 25 * (rows.end - rows.first) }
 {
     // The segments of the rows before `up` are noted.
     'rows: for up in rows.first..rows.end {
@@ -208,7 +208,7 @@ fn note_passed_lines(
 fn note_lines(bounded: &Bounded, lines: NotedRows, bits: &mut [u32], tally: &mut Tally)
     requires { HaveRoom lines bits.old }
     ensures notes { NotesRows (bounded_span bounded.now) lines 0 lines.frame.height bits.old bits.new }
-    ensures count { tally.new.count ≤ tally.old.count + 55 * lines.frame.height }
+    ensures count { tally.new.count ≤ tally.old.count + 25 * lines.frame.height }
 {
     let rows = rows_met(&bounded.piece, lines.frame);
     if !has_columns(lines.frame, bounded.across) {
@@ -242,7 +242,7 @@ pub(crate) fn note_all_across(
     requires room { length across.old ≡ frame.height * words_for_of frame.width }
     ensures noted { rows.first ≡ 0 → (r : ℕ) → r < frame.height → IsNotedAcross (span_of piece.now) frame across.new r }
     ensures gained { GainOnly (IsAcrossBit (span_of piece.now) frame) across.old across.new }
-    ensures count { tally.new.count ≤ tally.old.count + with_first rows.first (55 * frame.height) }
+    ensures count { tally.new.count ≤ tally.old.count + with_first rows.first (25 * frame.height) }
 {
     if rows.first > 0 {
         return;
@@ -270,7 +270,7 @@ pub(crate) fn note_all_up(
     requires room { length up.old ≡ (frame.height + 1) * words_for_of frame.width }
     ensures noted { rows.first ≡ 0 → (r : ℕ) → r ≤ frame.height → IsNotedUp (span_of piece.now) frame up.new r }
     ensures gained { GainOnly (IsUpBit (span_of piece.now) frame) up.old up.new }
-    ensures count { tally.new.count ≤ tally.old.count + with_first rows.first (55 * frame.width) }
+    ensures count { tally.new.count ≤ tally.old.count + with_first rows.first (25 * frame.width) }
 {
     if rows.first > 0 {
         return;

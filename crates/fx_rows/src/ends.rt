@@ -7,8 +7,8 @@ ghost use Rattle.fx_winding.specs.Winding.{Span};
 ghost use Rattle.fx_rows.specs.inner.Runs.{AreCells, IsCore};
 ghost use Rattle.fx_rows.specs.inner.Candidates.{IsOnStrip, AreEnds};
 
+use crate::along::Columns;
 use crate::cells::Cells;
-use crate::parabola::Columns;
 use crate::part::OnRow;
 use crate::strip::{Strip, column};
 
@@ -42,8 +42,7 @@ pub(crate) fn region_cells(
     requires order { columns.first ≤ columns.last }
     requires value { value ≢ pos 0 }
     requires small { IsWithin 1 value }
-    ensures { (f : ℕ → ℤ) → (start stop : ℕ) → IsCore f start stop columns on_first on_last own value →
-        AreCells f start stop result }
+    ensures { (f : ℕ → ℤ) → (stop : ℕ) → IsCore f stop columns on_first on_last own value → AreCells f stop result }
 {
     let first = first_inside(columns.first, on_first);
     let end = end_inside(columns.last, on_last);

@@ -2,12 +2,11 @@
 
 ghost use Rattle.std.specs.Prelude.{◌≡◌, ◌⊎◌, ℕ, ℤ, ◌+◌, ◌*◌, ◌^◌, ◌/◌, ◌<◌, ◌≤◌, length, pos, ◌+ℤ◌, ◌<ℤ◌, ◌↔◌, ◌≢◌, IsTrue};
 ghost use Rattle.fx_fixed.specs.Ranges.{IsWithin};
-ghost use Rattle.fx_winding.specs.Meets.{turn};
 ghost use Rattle.fx_winding.specs.Winding.{Span, place_of, span_of};
 ghost use Rattle.fx_rows.specs.Parts.{IsRowPart};
 ghost use Rattle.fx_rows.specs.inner.Points.{AreAcross, IsRise};
-ghost use Rattle.fx_rows.specs.inner.Lines.{left_at, right_at, AreOnly, HasEnd, HasTip, IsAfterFirst, IsAround, IsLineBit, IsMetTo, IsRunEnd, IsSetTo};
-ghost use Rattle.fx_rows.specs.inner.Lines.{IsMetToUnlessOn, NotesAt};
+ghost use Rattle.fx_rows.specs.inner.Lines.{AreOnly, HasEnd, HasTip, IsAfterFirst, IsChange, IsLineBit};
+ghost use Rattle.fx_rows.specs.inner.Lines.{IsMetTo, IsMetToUnlessOn, IsSetTo, IsTurnEnd, NotesAt};
 ghost use Rattle.fx_rows.specs.inner.Sums.{IsInside};
 ghost use Rattle.fx_rows.specs.inner.Told.{AreKept};
 
@@ -19,7 +18,7 @@ use crate::part::{RowPart, Run};
 use crate::reach::columns_under;
 use crate::strip::strip_of;
 use crate::tip::tip_column;
-use crate::turns::{is_among, is_between_ends, run_at, turn_in};
+use crate::turns::{is_among, run_at, turn_in};
 use fx_winding::{Frame, Piece, Point, Tally, centre_of, meets, set_bit};
 
 /// Sets the bit of the segment to a column.
@@ -39,7 +38,7 @@ fn changes_at(part: &RowPart, line: &NotedRow, k: u32) -> bool
     requires from { 0 < k }
     requires to { k < line.now.frame.width }
     ensures { (s : Span) → IsRowPart s line.now.row line.now.frame part.now →
-        IsTrue result ↔ (turn (left_at line.now.frame line.now.row k) s ≢ turn (right_at line.now.frame line.now.row k) s) }
+        IsTrue result ↔ IsChange s line.now.frame line.now.row k }
 {
     let right = line.frame.left + k as i32;
     if turn_in(part, right - 1) == turn_in(part, right) {
@@ -63,128 +62,62 @@ fn test_segment(piece: &Piece, line: &NotedRow, k: u32, tally: &mut Tally) -> bo
     )
 }
 
-/// Whether a piece meets the segment to a column within the frame. What it adds to the row tells that for nearly all segments.
-fn meets_to(piece: &Piece, part: &RowPart, line: &NotedRow, k: u32, tally: &mut Tally) -> bool
-    requires part { IsRowPart (span_of piece.now) line.now.row line.now.frame part.now }
-    requires from { 0 < k }
-    requires to { k < line.now.frame.width }
-    ensures value { IsTrue result ↔ IsMetTo (span_of piece.now) line.now.frame line.now.row k }
-    ensures count { tally.new.count ≤ tally.old.count + 5 }
-{
-    if changes_at(part, line, k) {
-        return true;
-    }
-    if is_between_ends(piece, line.row) {
-        return false;
-    }
-    test_segment(piece, line, k, tally)
-}
-
-/// Notes the segment to a column within the frame, if a piece meets it.
-fn note_segment(
-    piece: &Piece,
-    part: &RowPart,
-    line: &NotedRow,
-    k: u32,
-    bits: &mut [u32],
-    tally: &mut Tally,
-)
-    requires part { IsRowPart (span_of piece.now) line.now.row line.now.frame part.now }
+/// Notes the segment to a column of the plane, if the column is within the frame and a piece adds different numbers at its ends.
+fn note_column(part: &RowPart, line: &NotedRow, col: i32, bits: &mut [u32])
+    requires near { IsWithin (2 ^ 16) col }
     requires room { line.now.first + line.now.frame.width * line.now.step < 32 * length bits.old }
-    ensures notes { NotesAt (span_of piece.now) line.now (IsAfterFirst line.now (λ j. j ≡ k)) bits.old bits.new }
-    ensures count { tally.new.count ≤ tally.old.count + 5 }
+    ensures { (s : Span) → IsRowPart s line.now.row line.now.frame part.now →
+        NotesAt s line.now (IsAfterFirst line.now
+        (λ k. (line.now.frame.left +ℤ pos k ≡ col) × IsChange s line.now.frame line.now.row k)) bits.old bits.new }
 {
+    let k = columns_under(line.frame, col);
     if k == 0 || line.frame.width <= k {
         return;
     }
-    if meets_to(piece, part, line, k, tally) {
+    if changes_at(part, line, k) {
         set_segment(line, k, bits);
     }
 }
 
-/// Notes the segment to a column of the plane, if a piece meets it.
-fn note_column(
-    piece: &Piece,
-    part: &RowPart,
-    line: &NotedRow,
-    col: i32,
-    bits: &mut [u32],
-    tally: &mut Tally,
-)
-    requires part { IsRowPart (span_of piece.now) line.now.row line.now.frame part.now }
-    requires near { IsWithin (2 ^ 16) col }
-    requires room { line.now.first + line.now.frame.width * line.now.step < 32 * length bits.old }
-    ensures notes { NotesAt (span_of piece.now) line.now (IsAfterFirst line.now (λ k. line.now.frame.left +ℤ pos k ≡ col))
-        bits.old bits.new }
-    ensures count { tally.new.count ≤ tally.old.count + 5 }
-{
-    note_segment(
-        piece,
-        part,
-        line,
-        columns_under(line.frame, col),
-        bits,
-        tally,
-    );
-}
-
-/// Notes the segments at the ends of a run of columns, if a piece meets them.
-pub(crate) fn note_run(
-    piece: &Piece,
-    part: &RowPart,
-    line: &NotedRow,
-    run: Option<Run>,
-    bits: &mut [u32],
-    tally: &mut Tally,
-)
-    requires part { IsRowPart (span_of piece.now) line.now.row line.now.frame part.now }
+/// Notes the segments at the ends of a run of columns at whose ends a piece adds different numbers.
+pub(crate) fn note_run(part: &RowPart, line: &NotedRow, run: Option<Run>, bits: &mut [u32])
     requires inside { IsInside line.now.frame run }
     requires room { line.now.first + line.now.frame.width * line.now.step < 32 * length bits.old }
-    ensures notes { NotesAt (span_of piece.now) line.now (IsAfterFirst line.now (IsRunEnd line.now.frame run)) bits.old bits.new }
-    ensures count { tally.new.count ≤ tally.old.count + 10 }
+    ensures { (s : Span) → IsRowPart s line.now.row line.now.frame part.now →
+        NotesAt s line.now (IsAfterFirst line.now (IsTurnEnd s line.now.frame line.now.row run)) bits.old bits.new }
 {
     if let Some(run) = run {
-        note_column(piece, part, line, run.first, bits, tally);
-        note_column(piece, part, line, run.last + 1, bits, tally);
+        note_column(part, line, run.first, bits);
+        note_column(part, line, run.last + 1, bits);
     }
 }
 
-/// Notes the segment that x is within, if a piece meets it.
-fn note_place(
-    piece: &Piece,
-    part: &RowPart,
-    line: &NotedRow,
-    x: i32,
-    bits: &mut [u32],
-    tally: &mut Tally,
-)
-    requires part { IsRowPart (span_of piece.now) line.now.row line.now.frame part.now }
-    requires near { IsWithin (2 ^ 30) x }
+/// Notes the segment that an end of a piece is within. An end straight on the centre of a column is on that segment's end.
+pub(crate) fn note_end(line: &NotedRow, e: Point, bits: &mut [u32])
     requires room { line.now.first + line.now.frame.width * line.now.step < 32 * length bits.old }
-    ensures notes { NotesAt (span_of piece.now) line.now (IsAfterFirst line.now (IsAround line.now x)) bits.old bits.new }
-    ensures count { tally.new.count ≤ tally.old.count + 5 }
-{
-    note_segment(piece, part, line, column_from(line.frame, x), bits, tally);
-}
-
-/// Notes the segment that a point is within, if a piece meets it.
-pub(crate) fn note_end(
-    piece: &Piece,
-    part: &RowPart,
-    line: &NotedRow,
-    e: Point,
-    bits: &mut [u32],
-    tally: &mut Tally,
-)
-    requires part { IsRowPart (span_of piece.now) line.now.row line.now.frame part.now }
-    requires room { line.now.first + line.now.frame.width * line.now.step < 32 * length bits.old }
-    ensures notes { NotesAt (span_of piece.now) line.now (IsAfterFirst line.now (HasEnd (place_of e) line.now)) bits.old bits.new }
-    ensures count { tally.new.count ≤ tally.old.count + 5 }
+    ensures { (s : Span) → (place_of e ≡ s.a) ⊎ (place_of e ≡ s.c) →
+        NotesAt s line.now (IsAfterFirst line.now (HasEnd (place_of e) line.now)) bits.old bits.new }
 {
     if e.y != 128 * line.row + 64 {
         return;
     }
-    note_place(piece, part, line, e.x, bits, tally);
+    let k = column_from(line.frame, e.x);
+    if k == 0 || line.frame.width <= k {
+        return;
+    }
+    set_segment(line, k, bits);
+}
+
+/// Notes the segment to a column, if a piece meets it, by tests of its ends.
+fn note_tested(piece: &Piece, line: &NotedRow, k: u32, bits: &mut [u32], tally: &mut Tally)
+    requires column { k ≤ line.now.frame.width }
+    requires room { line.now.first + line.now.frame.width * line.now.step < 32 * length bits.old }
+    ensures notes { NotesAt (span_of piece.now) line.now (λ j. j ≡ k) bits.old bits.new }
+    ensures count { tally.new.count ≤ tally.old.count + 5 }
+{
+    if test_segment(piece, line, k, tally) {
+        set_segment(line, k, bits);
+    }
 }
 
 /// Notes the segment to a column, if the tip of an arc is within. If the left end is in the arc's region, it is not.
@@ -203,10 +136,13 @@ fn note_outside(
         (IsAfterFirst line.now (λ j. (j ≡ k) × HasTip (span_of piece.now) line.now j)) bits.old bits.new }
     ensures count { tally.new.count ≤ tally.old.count + 5 }
 {
+    if k == 0 || line.frame.width <= k {
+        return;
+    }
     if run_at(part.region, line.frame.left - 1 + k as i32) != 0 {
         return;
     }
-    note_segment(piece, part, line, k, bits, tally);
+    note_tested(piece, line, k, bits, tally);
 }
 
 /// Notes the segment within which the tip of an arc is. There is none in a row between the ends of the arc, or at one.
@@ -232,18 +168,6 @@ pub(crate) fn note_tip(
         let strip = strip_of(line.frame, line.row);
         let end = tip_column(piece, b, strip);
         note_outside(piece, part, line, end, bits, tally);
-    }
-}
-
-/// Notes the segment to a column, if a piece meets it, by tests of its ends.
-fn note_tested(piece: &Piece, line: &NotedRow, k: u32, bits: &mut [u32], tally: &mut Tally)
-    requires column { k ≤ line.now.frame.width }
-    requires room { line.now.first + line.now.frame.width * line.now.step < 32 * length bits.old }
-    ensures notes { NotesAt (span_of piece.now) line.now (λ j. j ≡ k) bits.old bits.new }
-    ensures count { tally.new.count ≤ tally.old.count + 5 }
-{
-    if test_segment(piece, line, k, tally) {
-        set_segment(line, k, bits);
     }
 }
 

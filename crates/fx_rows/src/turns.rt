@@ -2,12 +2,10 @@
 
 ghost use Rattle.std.specs.Prelude.{◌≡◌, pos, ◌+ℤ◌, ◌*ℤ◌, ◌≤ℤ◌, IsTrue};
 ghost use Rattle.fx_winding.specs.Limits.{IsPixelNumber};
-ghost use Rattle.fx_rows.specs.inner.Points.{IsInner};
 ghost use Rattle.fx_rows.specs.inner.Sums.{value_at};
 
 use crate::bounded::Rise;
 use crate::part::{RowPart, Run};
-use fx_winding::Piece;
 
 /// The value of a run at a column.
 pub(crate) fn run_at(run: Option<Run>, col: i32) -> i32
@@ -30,21 +28,6 @@ pub(crate) fn turn_in(part: &RowPart, col: i32) -> i64
     ensures { result ≡ value_at part.now.crossing col +ℤ value_at part.now.region col }
 {
     i64::from(run_at(part.crossing, col)) + i64::from(run_at(part.region, col))
-}
-
-/// Whether the centres of a row are strictly between the ends of a piece.
-pub(crate) fn is_between_ends(piece: &Piece, row: i32) -> bool
-    requires { IsPixelNumber row }
-    ensures { IsTrue result → IsInner piece.now.a.y piece.now.c.y (pos 128 *ℤ row +ℤ pos 64) }
-{
-    let y = 128 * row + 64;
-    if piece.a.y < y {
-        return y < piece.c.y;
-    }
-    if piece.c.y < y {
-        return y < piece.a.y;
-    }
-    false
 }
 
 /// Whether the centres of a row are between the ends of a chord, or at the height of one.

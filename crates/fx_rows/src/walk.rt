@@ -209,15 +209,12 @@ fn is_off(areas: Weights) -> bool
 #[tactic(auto, using(crate::proofs::Contacts::none_on, crate::proofs::Walks::gap_at_column))]
 fn on_column(piece: &Piece, spot: Spot, strip: Strip, tally: &mut Tally) -> OnRow
     requires at { IsSpot spot piece.now (place_at strip 0) (end_at strip) }
-    requires only { (k : ℕ) → strip.start ≤ k → k < strip.stop → IsOn (place_at strip k) (span_of piece.now) →
+    requires only { (k : ℕ) → k < strip.stop → IsOn (place_at strip k) (span_of piece.now) →
         (k ≡ spot.k) × (gap (span_of piece.now) (place_at strip k) ≡ pos 0) }
     ensures on { IsOnStrip (span_of piece.now) strip result }
     ensures count { tally.new.count ≤ tally.old.count + 1 }
 {
     if is_off(spot.areas) {
-        return OnRow::None;
-    }
-    if spot.k < strip.start {
         return OnRow::None;
     }
     if spot.k >= strip.stop {
@@ -230,7 +227,7 @@ fn on_column(piece: &Piece, spot: Spot, strip: Strip, tally: &mut Tally) -> OnRo
 #[inline(always)]
 fn on_end(piece: &Piece, cuts: ArcCuts, strip: Strip, tally: &mut Tally) -> OnRow
     requires at { IsArcAt cuts piece.now (place_at strip 0) (end_at strip) }
-    requires only { (k : ℕ) → strip.start ≤ k → k < strip.stop → IsOn (place_at strip k) (span_of piece.now) →
+    requires only { (k : ℕ) → k < strip.stop → IsOn (place_at strip k) (span_of piece.now) →
         IsLast cuts.arc.right cuts.spot.k k × (gap (span_of piece.now) (place_at strip k) ≡ pos 0) }
     ensures on { IsOnStrip (span_of piece.now) strip result }
     ensures count { tally.new.count ≤ tally.old.count + 1 }

@@ -37,9 +37,9 @@ IsLast false end k = k ≡ end
 
 -- a piece adds the value of its rise to the columns of a strip before the end, and nothing to the others, but for those on it
 pub record IsStripEnd (s : Span) (strip : Strip) (end : ℕ) : Type 0 where
-  pub inside : (k : ℕ) → strip.start ≤ k → k < strip.stop → k < end → ¬ (IsOn (place_at strip k) s)
+  pub inside : (k : ℕ) → k < strip.stop → k < end → ¬ (IsOn (place_at strip k) s)
       → turn (place_at strip k) s ≡ rise_value s
-  pub outside : (k : ℕ) → strip.start ≤ k → k < strip.stop → end ≤ k → ¬ (IsOn (place_at strip k) s)
+  pub outside : (k : ℕ) → k < strip.stop → end ≤ k → ¬ (IsOn (place_at strip k) s)
       → turn (place_at strip k) s ≡ pos 0
   pub within : end ≤ strip.stop
 

@@ -1,8 +1,8 @@
 -- The segments of a row, or of a column seen as a row, that a piece meets, and the bits that they have.
-use Rattle.std.specs.Prelude.{◌≡◌, ◌⊎◌, ℕ, ◌+◌, ◌*◌, ◌<◌, ◌≤◌, ℤ, pos, ◌+ℤ◌, ◌-ℤ◌, ◌<ℤ◌, List, Option, Some, None, length}
+use Rattle.std.specs.Prelude.{◌≡◌, ◌≢◌, ◌⊎◌, ℕ, ◌+◌, ◌*◌, ◌<◌, ◌≤◌, ℤ, pos, ◌+ℤ◌, ◌-ℤ◌, List, Option, Some, None, length}
 use Rattle.fx_winding.specs.Area.{Place}
 use Rattle.fx_winding.specs.Bitmaps.{words_for, word_bit}
-use Rattle.fx_winding.specs.Meets.{IsMet, IsTipPart, IsWithinRow}
+use Rattle.fx_winding.specs.Meets.{turn, IsMet, IsTipPart, IsWithinRow}
 use Rattle.fx_winding.specs.Notes.{pixel_number, IsMetAcross, IsMetUp, IsNotedAcross, IsNotedUp}
 use Rattle.fx_winding.specs.Winding.{Span, IsOn, centre}
 use Rattle.fx_winding.specs.declared.frame.Frame.{Frame}
@@ -22,7 +22,11 @@ right_at f row k = centre (f.left +ℤ pos k) row
 abbrev pub IsMetTo : Span → Frame → ℤ → ℕ → Type 0
 IsMetTo s f row k = IsMet (left_at f row k) (right_at f row k) s
 
--- unless an end of it is on the piece
+-- it adds different numbers at its ends
+abbrev pub IsChange : Span → Frame → ℤ → ℕ → Type 0
+IsChange s f row k = turn (left_at f row k) s ≢ turn (right_at f row k) s
+
+-- a piece meets it, unless an end of it is on the piece
 abbrev pub IsMetToUnlessOn : Span → Frame → ℤ → ℕ → Type 0
 IsMetToUnlessOn s f row k = ¬ (IsOn (left_at f row k) s) → ¬ (IsOn (right_at f row k) s) → IsMetTo s f row k
 
@@ -30,6 +34,10 @@ IsMetToUnlessOn s f row k = ¬ (IsOn (left_at f row k) s) → ¬ (IsOn (right_at
 abbrev pub IsRunEnd : Frame → Option Run → ℕ → Type 0
 IsRunEnd f None k = ⊥
 IsRunEnd f (Some r) k = (f.left +ℤ pos k ≡ r.first) ⊎ (f.left +ℤ pos k ≡ r.last +ℤ pos 1)
+
+-- it is one of them, and the piece adds different numbers at the ends of its segment
+abbrev pub IsTurnEnd : Span → Frame → ℤ → Option Run → ℕ → Type 0
+IsTurnEnd s f row run k = IsRunEnd f run k × IsChange s f row k
 
 -- the segment to a column within the frame, if the piece meets it, has its bit: the one that is k steps from first
 abbrev pub IsSetTo : Span → Frame → ℤ → ℕ → ℕ → List ℕ → ℕ → Type 0
@@ -69,11 +77,7 @@ pub record NotesAt (s : Span) (line : NotedRow) (At : ℕ → Type 0) (old new :
 abbrev pub IsAfterFirst : NotedRow → (ℕ → Type 0) → ℕ → Type 0
 IsAfterFirst line P k = (0 < k) × (k < line.frame.width) × P k
 
--- x is within the segment to a column
-abbrev pub IsAround : NotedRow → ℤ → ℕ → Type 0
-IsAround line x k = ((left_at line.frame line.row k).x <ℤ x) × (x <ℤ (right_at line.frame line.row k).x)
-
--- a point is within it
+-- a point is within the segment to a column
 abbrev pub HasEnd : Place → NotedRow → ℕ → Type 0
 HasEnd p line k = IsWithinRow (left_at line.frame line.row k) (right_at line.frame line.row k) p
 

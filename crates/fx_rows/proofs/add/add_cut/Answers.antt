@@ -4,7 +4,7 @@ use Rattle.fx_rows.specs.inner.Bands.{bounded_span}
 use Rattle.fx_rows.proofs.Counted.{Added, added_cut}
 use Rattle.fx_rows.proofs.Banding.{row_added}
 use Rattle.fx_rows.proofs.Counting.{rise_told}
-use Rattle.fx_rows.proofs.Stepping.{cut_inside, rise_value, whole_first, whole_end}
+use Rattle.fx_rows.proofs.Stepping.{cut_inside, rise_value}
 use Rattle.fx_rows.proofs.add.add_cut.Goals as goal
 
 pub add_before-requires-clause-small : goal.add_before-requires-clause-small
@@ -20,10 +20,9 @@ returns-clause-added c =
     let cut = c.args.cut in
     let at = c.first_of-first.result in
     let rise = rise_told _ _ _ _ c.args.bounded.now.rises in
-    let added = added_cut s c.args.strip b.frame cut _ cut.end at c.deref_mut.result.now
+    let added = added_cut s c.args.strip b.frame cut _ at c.deref_mut.result.now
     c.add_before.new.diff c.deref_mut-2.result.now c.add_before.new.touched c.deref_mut-3.result.now c.mark.new.line
-    (whole_first b.frame c.args.strip c.requires.strip) (whole_end b.frame c.args.strip c.requires.strip)
-    (omega (arith, c.requires.strip.start)) (rise_value c.args.bounded.now _ rise) c.add_before.ensures.raised
+    c.requires.strip (rise_value c.args.bounded.now _ rise) c.add_before.ensures.raised
     c.add_before.ensures.touched c.mark.ensures c.requires.cut in
     row_added s b.frame c.args.strip.row _ b _ c.deref_mut.result.now c.add_before.new.diff
     c.deref_mut-2.result.now c.add_before.new.touched c.deref_mut-3.result.now c.mark.new.line
@@ -36,5 +35,4 @@ returns-clause-added c =
 
 pub mark-requires-clause-inside : goal.mark-requires-clause-inside
 mark-requires-clause-inside c = cut_inside (bounded_span c.args.bounded.now) c.args.strip c.args.band.now.frame c.args.cut
-    (whole_first c.args.band.now.frame c.args.strip c.requires.strip) (whole_end c.args.band.now.frame c.args.strip c.requires.strip)
-    c.requires.cut
+    c.requires.strip c.requires.cut

@@ -1,4 +1,4 @@
-use Rattle.std.proofs.Common.{◌≡◌, ◌⊎◌, inl, inr, ℕ}
+use Rattle.std.proofs.Common.{◌≡◌, ◌⊎◌, inl, inr, refl, ℕ}
 use Rattle.fx_rows.specs.inner.Bands.{bounded_span}
 use Rattle.fx_rows.specs.inner.Lines.{IsSetTo}
 use Rattle.fx_rows.specs.inner.Told.{AreKept}
@@ -19,18 +19,22 @@ returns-clause-noted c =
     let f = line.frame in
     let b = c.args.bounded.now in
     let s = bounded_span b in
+    let run = c.note_run.ensures s c.requires.part in
+    let run' = c.note_run-2.ensures s c.requires.part in
+    let a = c.note_end.ensures s (inl refl) in
+    let z = c.note_end-2.ensures s (inr refl) in
     let last = c.note_last.new.bits in
     let k6 : AreKept c.note_first.new.bits last = c.note_last.ensures.notes.gained.kept in
     let k5 : AreKept c.note_tip.new.bits last = λ n h. k6 n (c.note_first.ensures.notes.gained.kept n h) in
     let k4 : AreKept c.note_end-2.new.bits last = λ n h. k5 n (c.note_tip.ensures.notes.gained.kept n h) in
-    let k3 : AreKept c.note_end.new.bits last = λ n h. k4 n (c.note_end-2.ensures.notes.gained.kept n h) in
-    let k2 : AreKept c.note_run-2.new.bits last = λ n h. k3 n (c.note_end.ensures.notes.gained.kept n h) in
-    let k1 : AreKept c.note_run.new.bits last = λ n h. k2 n (c.note_run-2.ensures.notes.gained.kept n h) in
+    let k3 : AreKept c.note_end.new.bits last = λ n h. k4 n (z.gained.kept n h) in
+    let k2 : AreKept c.note_run-2.new.bits last = λ n h. k3 n (a.gained.kept n h) in
+    let k1 : AreKept c.note_run.new.bits last = λ n h. k2 n (run'.gained.kept n h) in
     row_set s f line.row c.args.part.now line.first line.step last c.requires.part
-    (λ k o l h. set_kept s f line.row line.first line.step k _ last k1 (c.note_run.ensures.notes.noted k (o, l, h)))
-    (λ k o l h. set_kept s f line.row line.first line.step k _ last k2 (c.note_run-2.ensures.notes.noted k (o, l, h)))
-    (λ k o l h. set_kept s f line.row line.first line.step k _ last k3 (c.note_end.ensures.notes.noted k (o, l, h)))
-    (λ k o l h. set_kept s f line.row line.first line.step k _ last k4 (c.note_end-2.ensures.notes.noted k (o, l, h)))
+    (λ k o l h. set_kept s f line.row line.first line.step k _ last k1 (run.noted k (o, l, h)))
+    (λ k o l h. set_kept s f line.row line.first line.step k _ last k2 (run'.noted k (o, l, h)))
+    (λ k o l h. set_kept s f line.row line.first line.step k _ last k3 (a.noted k (o, l, h)))
+    (λ k o l h. set_kept s f line.row line.first line.step k _ last k4 (z.noted k (o, l, h)))
     (λ k o l h. set_kept s f line.row line.first line.step k _ last k5 (c.note_tip.ensures.notes.noted k (o, l, h)))
     (λ k e. by k6 k e)
   where
@@ -42,7 +46,10 @@ returns-clause-noted c =
     by kept k (inr e) = c.note_last.ensures.notes.noted k e
 
 pub returns-clause-gained : goal.returns-clause-gained
-returns-clause-gained c = gain_both _ _ _ _ c.note_run.ensures.notes.gained (gain_both _ _ _ _ c.note_run-2.ensures.notes.gained
-    (gain_both _ _ _ _ c.note_end.ensures.notes.gained (gain_both _ _ _ _ c.note_end-2.ensures.notes.gained
+returns-clause-gained c =
+    let s = bounded_span c.args.bounded.now in
+    gain_both _ _ _ _ (c.note_run.ensures s c.requires.part).gained
+    (gain_both _ _ _ _ (c.note_run-2.ensures s c.requires.part).gained
+    (gain_both _ _ _ _ (c.note_end.ensures s (inl refl)).gained (gain_both _ _ _ _ (c.note_end-2.ensures s (inr refl)).gained
     (gain_both _ _ _ _ c.note_tip.ensures.notes.gained
     (gain_both _ _ _ _ c.note_first.ensures.notes.gained c.note_last.ensures.notes.gained)))))

@@ -12,7 +12,7 @@ returns-then-not-on_first c = λ s e.
     let t = c.args.strip in
     let r = c.args.columns in
     let i : to_z w32 (of_z w32 c.column.result) ≡ t.base +ℤ pos r.last = omega (arith, signed_linear, c.column.ensures) in
-    one_on s t r.last _ (omega (arith, e.from, c.requires.order)) c.requires.to i
+    one_on s t r.last _ c.requires.to i
     (e.last.0 c.if-not-on_last.false)
     (not_first s t r.first r.last (λ on. clash c.args.on_first c.if-not-on_first.true (e.first.1 on)) e.only)
 
@@ -22,7 +22,7 @@ returns-then-not-on_last-2 c = λ s e.
     let r = c.args.columns in
     let i : to_z w32 (of_z w32 c.column-then-not-on_last-2.result) ≡ t.base +ℤ pos r.first =
     omega (arith, signed_linear, c.column-then-not-on_last-2.ensures) in
-    one_on s t r.first _ e.from (omega (arith, c.requires.to, c.requires.order)) i
+    one_on s t r.first _ (omega (arith, c.requires.to, c.requires.order)) i
     (e.first.0 c.if-not-on_first.false)
     (not_last s t r.first r.last (λ on. clash c.args.on_last c.if-not-on_last-2.true (e.last.1 on)) e.only)
 
@@ -32,5 +32,5 @@ returns c = λ s e.
     let r = c.args.columns in
     let i : to_z w32 (of_z w32 c.column-2.result) ≡ t.base +ℤ pos r.first = omega (arith, signed_linear, c.column-2.ensures) in
     let j : to_z w32 (of_z w32 c.column-3.result) ≡ t.base +ℤ pos r.last = omega (arith, signed_linear, c.column-3.ensures) in
-    two_on s t r.first r.last _ _ e.bent e.from (omega arith) c.requires.to i j
+    two_on s t r.first r.last _ _ e.bent (omega arith) c.requires.to i j
     (e.first.0 c.if-not-on_first.false) (e.last.0 c.if-not-on_last-2.false) e.only

@@ -11,8 +11,8 @@ use Rattle.fx_rows.proofs.noted_row.note_outside.Goals as goal
 
 pub returns-clause-notes : goal.returns-clause-notes
 returns-clause-notes c = record {
-  noted = λ j a. c.note_segment.ensures.notes.noted j (a.0, a.1, a.2.0);
-  gained = c.note_segment.ensures.notes.gained;
+  noted = λ j a. c.note_tested.ensures.notes.noted j a.2.0;
+  gained = c.note_tested.ensures.notes.gained;
 }
 
 pub returns-then-run_at-ne0-clause-notes : goal.returns-then-run_at-ne0-clause-notes

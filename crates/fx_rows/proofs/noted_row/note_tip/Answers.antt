@@ -15,18 +15,16 @@ returns-in-Some-clause-notes c = record {
       let f = line.frame in
       let s = c.strip_of-strip.result in
       let at = c.strip_of-strip.ensures in
-      let first : s.base +ℤ pos s.start ≡ f.left = omega (arith, signed_linear, at.base, at.start) in
-      let last : s.base +ℤ pos s.stop ≡ f.left +ℤ pos f.width = omega (arith, signed_linear, at.base, at.stop) in
       let p = span_of c.args.piece.now in
-      let j = s.start + (k - 1) in
+      let j = k - 1 in
       let same : to_z w32 (of_z w32 line.row) ≡ line.row = omega (arith, signed_linear, line.row_near) in
       let row : line.row ≡ s.row = sym (at.row ∙ same) in
-      let left : (f.left -ℤ pos 1) +ℤ pos k ≡ s.base +ℤ pos j = omega (arith, signed_linear, first, a.0) in
-      let right : f.left +ℤ pos k ≡ s.base +ℤ pos (j + 1) = omega (arith, signed_linear, first, a.0) in
+      let left : (f.left -ℤ pos 1) +ℤ pos k ≡ s.base +ℤ pos j = omega (arith, signed_linear, at.base, a.0) in
+      let right : f.left +ℤ pos k ≡ s.base +ℤ pos (j + 1) = omega (arith, signed_linear, at.base, a.0) in
       let here : IsTipPart p.a p.b p.c (place_at s j) (place_at s (j + 1)) =
       subst (λ z. z) (λ i. IsTipPart p.a p.b p.c (centre (left i) (row i)) (centre (right i) (row i))) a.2 in
-      let is = c.tip_column-end.ensures.only j (omega (arith, signed_linear, first, last, a.1, a.0)) here in
-      let e : c.tip_column-end.result ≡ k = omega (arith, is, at.start, a.0) in
+      let is = c.tip_column-end.ensures.only j (omega (arith, at.stop, a.1, a.0)) here in
+      let e : c.tip_column-end.result ≡ k = omega (arith, is, a.0) in
       c.note_outside.ensures.notes.noted k (a.0, a.1, (sym e, a.2));
   gained = c.note_outside.ensures.notes.gained;
 }

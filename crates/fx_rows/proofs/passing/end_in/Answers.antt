@@ -8,5 +8,5 @@ pub returns-clause-end : goal.returns-clause-end
 returns-clause-end c =
     let s = bounded_span c.args.bounded.now in
     let at = strip_row c.strip_of.result c.args.row c.args.row c.requires.row c.strip_of.ensures.row refl in
-    let is_whole = whole c.args.frame c.strip_of.result c.strip_of.ensures.base c.strip_of.ensures.start c.strip_of.ensures.stop in
-    cut_end s c.args.frame c.strip_of.result c.end_on.result c.args.row at is_whole c.end_on.ensures.end
+    cut_end s c.args.frame c.strip_of.result c.end_on.result c.args.row at
+    (whole c.args.frame c.strip_of.result c.strip_of.ensures.base c.strip_of.ensures.stop) c.end_on.ensures.end

@@ -11,8 +11,8 @@ column_at false end k e l = l
 column_at true end k e l = absurd (cc)
 
 pub on_column-requires-clause-only : goal.on_column-requires-clause-only
-on_column-requires-clause-only c = λ k l m on.
-    let h = c.requires.only k l m on in (column_at c.args.cuts.arc.right c.args.cuts.spot.k k c.if-not-arc-2.true h.0, h.1)
+on_column-requires-clause-only c = λ k m on.
+    let h = c.requires.only k m on in (column_at c.args.cuts.arc.right c.args.cuts.spot.k k c.if-not-arc-2.true h.0, h.1)
 
 pub returns-then-end-eq0-clause-on : goal.returns-then-end-eq0-clause-on
 returns-then-end-eq0-clause-on c = grind (arith, c.if-not-arc-2.false, c.requires.only, c.if-end-eq0.true, none_on)

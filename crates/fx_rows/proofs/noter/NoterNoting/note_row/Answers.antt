@@ -94,5 +94,5 @@ returns c =
           let same : n ≡ r = omega (arith, signed_linear, e, row, at) in
           subst (λ (xs : List ℕ). IsNotedAcross s f xs r) (sym (with_items_is self.notes.across now (omega arith)))
           (subst (IsNotedAcross s f now) same set);
-      count = c.note_part.ensures.count;
+      count = omega (arith, c.note_part.ensures.count);
     }

@@ -9,7 +9,7 @@ to_end-self-requires-clause-first c =
     first_part s.a s.b s.c _ c.args.strip (bends s.a s.b s.c _ c.args.strip arc.bent c.requires.inner arc.turned)
 
 pub on_end-requires-clause-only : goal.on_end-requires-clause-only
-on_end-requires-clause-only c = λ k h l on.
+on_end-requires-clause-only c = λ k l on.
     let s = span_of c.args.bounded.now.piece in
     let arc = c.requires.at.arc in
     last_part s.a s.b s.c _ c.args.strip _ (bends s.a s.b s.c _ c.args.strip arc.bent c.requires.inner arc.turned)
