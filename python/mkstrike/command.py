@@ -11,6 +11,7 @@ from functools import partial
 from itertools import accumulate
 
 from . import bdf, formats
+from .font import Font
 from .jobs import IS_NAME, Job
 from .options import FACES, joined, parser
 from .refused import Missing, Refused, shown
@@ -22,7 +23,6 @@ TYPE_CHECKING = False  # as in glyph.py
 if TYPE_CHECKING:
     from collections.abc import Callable, Sequence
 
-    from .font import Font
     from .jobs import Asked
     from .strike import Strike
 
@@ -61,11 +61,11 @@ class Bar:
 
 
 class Made:
-    """What became of a strike: its name, the paths of its formats, the files of each, and what is said of it, or why there is
-    nothing, or nothing more. One process hands it to another."""
+    """What became of a strike: its name, what its first font calls itself, the paths of its formats, the files of each, and what is
+    said of it, or why there is nothing, or nothing more. One process hands it to another."""
 
     def __init__(self, name: str) -> None:
-        self.name, self.said = name, Said()
+        self.name, self.font, self.said = name, "", Said()
         self.paths: list[str] = []
         self.files: list[dict[str, bytes]] = []
         self.read: list[str] = []  # paths that were read for it
@@ -155,6 +155,7 @@ class Run:
         if len(fonts) < len(group):
             made.why = made.why if at == 0 else []
             return made
+        made.font = "%s %s" % fonts[0].names[:2] if isinstance(fonts[0], Font) else fonts[0].name
         name = job.options.name or ""
         made.name = stem = name if re.fullmatch(IS_NAME, name) else group[0].stem(fonts[0])
         with warnings.catch_warnings(record=True) as warned:
@@ -183,7 +184,7 @@ class Run:
         made.paths = [output.replace("%s", str(strike.size))] if output else [
             os.path.join(self.job.options.out or ".", formats.file_name(made.name, name)) for name in self.job.formats]
         for path, name in zip(made.paths, self.job.formats):
-            if name == "bdf" and not output and os.path.isfile(path) and _is_of_another(read_file(path), strike.text):
+            if not output and _is_of_another(path, name, made.font, strike):
                 raise ValueError("%s is there, of another font: give another folder by --out, or replace it by -o %s" %
                                  (path, path))
             made.files.append(self.files(strike, name, path, made.name))
@@ -218,7 +219,7 @@ def _written(made: Made) -> list[str]:
                 sys.stdout.buffer.write(data)
                 sys.stdout.buffer.flush()
             else:
-                formats.write(path, data)
+                formats.write(path, data, made.font)
     except FAULTS as why:
         return failure(made.name, why)
     return []
@@ -229,10 +230,14 @@ def _in_make(path: str) -> str:
     return re.sub(r"([ \t#:])", r"\\\1", path).replace("$", "$$")
 
 
-def _is_of_another(old: bytes, new: bytes) -> bool:
-    """Whether strikes of one size have other pictures of most of the characters that both have, so that their fonts differ."""
+def _is_of_another(path: str, form: str, font: str, strike: Strike) -> bool:
+    """Whether there is a file of another font at a path. A BDF that does not tell its font is one if strikes of one size have other
+    pictures of most of the characters that both have."""
+    told = formats.font_of(path)
+    if told or form != "bdf" or not os.path.isfile(path):
+        return bool(told) and told != font
     one, other = ({it.partition(b"\n")[0]: it.partition(b"\nBBX")[2] for it in text.split(b"\nSTARTCHAR ")[1:]}
-                  for text in (old, new))
+                  for text in (read_file(path), strike.text))
     common = one.keys() & other.keys()
     return len(common) >= LEAST_COMMON and 2 * sum(one[it] == other[it] for it in common) < len(common)
 

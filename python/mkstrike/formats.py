@@ -75,6 +75,7 @@ TAKES: dict[str, tuple[str, ...]] = {  # options
     "gfx": ("name", "dense"), "lvgl": ("name",), "raw": ("order", "bytes", "bits", "align"), "fnt": ("padding",),
     "py": ("bytes", "bits")}
 TRIES = 100  # of a file that others replace meanwhile
+FONT = "user.mkstrike.font"  # the extended attribute that tells the font of a file
 
 
 def encode(strike: Strike, format: str, options: Mapping[str, Any]) -> bytes:
@@ -129,14 +130,15 @@ def by_ending(path: str) -> str:
     return OF_ENDING[ending]
 
 
-def write(path: str, data: bytes) -> None:
+def write(path: str, data: bytes, font: str = "") -> None:
     """Writes a file in one step: a reader sees the old one or the new one, which has its permissions, and its owner and group if
-    the user may set them. What is no file, as a device or a pipe, is written to; a file that may not be written stays."""
+    the user may set them. What is no file, as a device or a pipe, is written to; a file that may not be written stays. `font` is
+    what `font_of` then returns."""
     for _ in range(TRIES):
         try:
             opened = os.open(path, os.O_WRONLY)  # by the name as it is given: the system may guard a link
         except FileNotFoundError:
-            if _replace(path, None, data):
+            if _replace(path, None, data, font):
                 return
             continue
         with open(opened, "wb") as stream:
@@ -144,12 +146,20 @@ def write(path: str, data: bytes) -> None:
             if not stat.S_ISREG(old.st_mode):
                 stream.write(data)
                 return
-            if _replace(path, old, data):
+            if _replace(path, old, data, font):
                 return
     raise OSError(errno.EBUSY, "others replace it all the time", path)
 
 
-def _replace(path: str, old: os.stat_result | None, data: bytes) -> bool:
+def font_of(path: str) -> str:
+    """The font from which `write` made a file, by the file's extended attribute; nothing if it has none, as a copy may."""
+    try:
+        return os.getxattr(path, FONT).decode(errors="replace")
+    except (OSError, AttributeError):
+        return ""
+
+
+def _replace(path: str, old: os.stat_result | None, data: bytes, font: str) -> bool:
     """Writes a new file beside the one that a path leads to, and gives it the name when all is on the disk. Does nothing and
     returns False if that is no longer the file that was opened: by a link that came between, another file would get its owner."""
     folder, name = os.path.split(os.path.realpath(path))  # a link stays one
@@ -159,7 +169,7 @@ def _replace(path: str, old: os.stat_result | None, data: bytes) -> bool:
     try:
         if not _is_still(at, name, old):
             return False
-        _store(at, name, old, data)
+        _store(at, name, old, data, font)
         return True
     except OSError as fault:
         raise OSError(fault.errno, fault.strerror, path) if fault.errno else fault from fault
@@ -176,13 +186,16 @@ def _is_still(at: int, name: str, old: os.stat_result | None) -> bool:
     return old is not None and os.path.samestat(found, old)
 
 
-def _store(at: int, name: str, old: os.stat_result | None, data: bytes) -> None:
+def _store(at: int, name: str, old: os.stat_result | None, data: bytes, font: str) -> None:
     """Writes a file in a folder, first under a name of its own. A fault leaves none."""
     new, mode = ".mkstrike-" + os.urandom(8).hex(), old.st_mode & 0o700 if old else 0o666
     try:
         with open(new, "xb", opener=lambda name, flags: os.open(name, flags, mode, dir_fd=at)) as file:
             if old:
                 _keep(file.fileno(), old)
+            if font:
+                with contextlib.suppress(OSError, AttributeError):  # not every file system has attributes
+                    os.setxattr(file.fileno(), FONT, font.encode(errors="replace"))
             file.write(data)
             file.flush()
             os.fsync(file.fileno())

@@ -317,6 +317,45 @@ def test_strikes_of_other_fonts(strike, tmp_path):
     assert (tmp_path / "Regular-16.bdf").read_bytes() != kept
 
 
+def test_files_of_other_fonts(strike, tmp_path):
+    """The same in each format, by an attribute of the file: `-o` replaces it, and a copy that has none is replaced."""
+    for folder, path in (("one", SANS), ("two", MONO)):
+        (tmp_path / folder).mkdir()
+        os.symlink(path, tmp_path / folder / "Regular.ttf")
+    if not has_attributes(tmp_path):
+        pytest.skip("no attributes of files in %s" % tmp_path)
+    for form in ("c", "gfx", "lvgl", "raw", "py", "bdf"):
+        (tmp_path / form).mkdir()
+        words = ["--format", form, "--out", form, "--cell", "12x20", "--chars", "41-45"]
+        assert strike(["one/Regular.ttf", *words])[0] == 0
+        (path,) = (tmp_path / form).iterdir()
+        kept = path.read_bytes()
+        assert os.getxattr(path, "user.mkstrike.font") == b"DejaVu Sans Book"
+        status, out, err = strike(["two/Regular.ttf", *words])
+        assert status == 1 and out == b"" and "%s/%s is there, of another font: " % (form, path.name) in err
+        assert path.read_bytes() == kept
+        assert strike(["one/Regular.ttf", *words[:-1], "41-46"])[0] == 0
+        assert path.read_bytes() != kept
+        if form != "bdf":
+            os.removexattr(path, "user.mkstrike.font")
+            assert strike(["two/Regular.ttf", *words])[0] == 0
+            assert os.getxattr(path, "user.mkstrike.font") == b"DejaVu Sans Mono Book"
+    assert strike(["one/Regular.ttf", "--format", "c", "-o", "c/Regular-16.h"])[0] == 0
+
+
+def has_attributes(folder):
+    """Whether files of a folder can have attributes of a user."""
+    path = folder / "attribute"
+    path.touch()
+    try:
+        os.setxattr(path, "user.any", b"1")
+    except OSError:
+        return False
+    finally:
+        path.unlink()
+    return True
+
+
 def mistakes_in_python():
     """What is wrong in Python: a call, the error, and its words."""
     font = mkstrike.Font(SANS)
