@@ -104,6 +104,10 @@ class Font:
             raise Refused("BadLoca", glyph=glyph)
         return self.glyf[start:end]
 
+    def glyph(self, number):
+        """A glyph by its number; None if it is empty."""
+        return read_glyph(self.glyph_bytes(number), number)
+
 
 class Simple:
     """A simple glyph: points (x, y, on), the last point of each contour, and its program."""

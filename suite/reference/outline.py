@@ -1,6 +1,6 @@
 """From a glyph to its outline in 26.6: scaling, phantom points, components, and the programs of glyphs."""
 from .faults import Refused
-from .fontfile import METRICS, OFFSETS, ROUND, Composite, i16, read_glyph
+from .fontfile import METRICS, OFFSETS, ROUND, Composite, i16
 from .machine import Machine
 from .numbers import ONE, near, scaled, to_pixel, w32
 from .rows_points import ROWS as POINT_ROWS
@@ -73,7 +73,7 @@ class Maker:
 
     def make(self, number, depth):
         """A glyph with its components, by its own rule."""
-        glyph = read_glyph(self.font.glyph_bytes(number), number)
+        glyph = self.font.glyph(number)
         phantoms, current = self.phantoms(number, glyph.x_min if glyph else 0)
         made = Made([], [], [], phantoms, current)
         if glyph is None:
