@@ -1,0 +1,5 @@
+pub mod Quotients
+pub mod Sweeps
+pub mod Inside
+pub mod Maps
+pub mod Filling

@@ -1,0 +1,11 @@
+pub mod Steps
+pub mod NumberSteps
+pub mod DeltaSteps
+pub mod Quotients
+pub mod Scalars
+pub mod Contouring
+pub mod Laying
+pub mod Given
+pub mod Sums
+pub mod Offsets
+pub mod NumberLists

@@ -1,0 +1,10 @@
+pub mod Regions
+pub mod Inferred
+pub mod Numbers
+pub mod Deltas
+pub mod Headers
+pub mod Contours
+pub mod Giving
+pub mod Adding
+pub mod Gvar
+pub mod Tuples

@@ -1,0 +1,31 @@
+//! Variable fonts: the coordinates of an instance, how far each of its tuples counts, and the deltas of points.
+//!
+//! Nothing here takes memory: numbers of points and deltas are read from the bytes of `gvar` or `cvar` one by one. The rules are
+//! those of the OpenType specification, "OpenType Font Variations Common Table Formats", "gvar", "avar" and "cvar".
+#![tactic(auto)]
+
+mod adding;
+mod contours;
+mod deltas;
+mod fault;
+mod giving;
+mod gvar;
+mod headers;
+mod inferring;
+mod numbers;
+mod point;
+mod regions;
+mod tuples;
+
+pub use adding::add;
+pub use contours::fill_contours;
+pub use deltas::{Deltas, skip_deltas};
+pub use fault::TupleFault;
+pub use giving::{clear, give};
+pub use gvar::{glyph_data, is_gvar, shared_tuples};
+pub use headers::{Header, header_of};
+pub use inferring::{Named, inferred};
+pub use numbers::{Numbers, count_of, skip_numbers};
+pub use point::GivenPoint;
+pub use regions::{Region, Tent, factor, scalar, scaled};
+pub use tuples::{PointNumbers, Tuple};
