@@ -14,7 +14,7 @@ use Rattle.fx_winding.specs.Winding.{Span, IsOn, IsOnPart, IsBetween, IsBeforeTu
 use Rattle.fx_winding.specs.Winding.{IsOnFlatArc, sign, weight_a, weight_b, weight_c, crossing, region, region_part, is_inside, is_on_chord}
 use Rattle.fx_winding.specs.Winding.{is_right_of_chord, centre}
 use Rattle.fx_winding.proofs.Crossings.{crossing_number}
-use Rattle.fx_winding.proofs.Ranges.{either}
+use Rattle.fx_winding.proofs.Shifts.{either}
 use Rattle.fx_winding.proofs.Triangle.{area_expr, at, coordinates, area_at}
 use Rattle.fx_dropout.specs.Dropout.{place_on}
 use Rattle.fx_dropout.specs.inner.Stretched.{stretched_x, stretched_place, stretched_span}

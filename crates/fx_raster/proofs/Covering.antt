@@ -8,7 +8,7 @@ use Rattle.fx_winding.specs.Winding.{Span, IsBetween, IsOnLine, IsOnPart, IsOn, 
 use Rattle.fx_winding.specs.Meets.{IsWithinRow, IsReached, IsTip, IsTipPart, IsMet, turn, slope}
 use Rattle.fx_winding.specs.Turned.{turned_span}
 use Rattle.fx_winding.proofs.Covers.{any_here, any_there, any_cases}
-use Rattle.fx_winding.proofs.Halved.{Known, known_either, known_as, known_curve, known_flat}
+use Rattle.fx_winding.proofs.KnownPlaces.{Known, known_either, known_as, known_curve, known_flat}
 use Rattle.fx_dropout.specs.declared.chooser.Closing.{Closing}
 use Rattle.fx_dropout.specs.declared.chooser.Closing.TheVariants.{Lower, Nearer}
 use Rattle.fx_dropout.specs.Dropout.{IsCount, IsNextNearer, IsNextChosen, IsGap, IsBridged, IsRowSetIn, IsSetIn, IsClosedByLeft}

@@ -24,7 +24,7 @@ use Rattle.fx_raster.specs.declared.rule.Rule.TheVariants.{Centres, Bridged}
 use Rattle.fx_raster.specs.Rules.{ShapeView, IsPixelSet, framed_by, shape_of}
 use Rattle.fx_raster.specs.Laws.{PictureExists, PictureIsOne}
 use Rattle.fx_raster.proofs.Bridged.{set_within}
-use Rattle.fx_winding.proofs.Halved.{Known}
+use Rattle.fx_winding.proofs.KnownPlaces.{Known}
 use Rattle.fx_raster.proofs.Covering.{covered, set_in}
 use Rattle.fx_raster.proofs.Kept.{IsFramed, are_framed, in_dropout_frame, column_number, row_number, columns_near, rows_near}
 use Rattle.fx_raster.proofs.Near.{AreNear, AreDrawn, are_drawn, not_large}

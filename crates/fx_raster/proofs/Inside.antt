@@ -9,7 +9,7 @@ use Rattle.fx_winding.specs.Winding.{Span}
 use Rattle.fx_winding.specs.Frames.{IsFrom}
 use Rattle.fx_winding.specs.Outside.{AreOfOutline}
 use Rattle.fx_winding.specs.declared.frame.Frame.{Frame}
-use Rattle.fx_winding.proofs.Halved.{Known}
+use Rattle.fx_winding.proofs.KnownPlaces.{Known}
 use Rattle.fx_contour.specs.Frames.{IsInside, NothingOutsideFrame}
 use Rattle.fx_raster.specs.declared.region.Region.{Region}
 use Rattle.fx_raster.specs.declared.rule.Rule.{Rule}

@@ -19,7 +19,7 @@ use Rattle.fx_contour.proofs.Decided.{first_reaches, first_least}
 use Rattle.fx_contour.proofs.DropoutFramed.{near}
 use Rattle.fx_contour.proofs.Extents.{low_is, high_is}
 use Rattle.fx_contour.proofs.Kept.{kept_neighbours, margin_is_tested, many_is_tested}
-use Rattle.fx_winding.proofs.Halved.{Known, known_either, known_as}
+use Rattle.fx_winding.proofs.KnownPlaces.{Known, known_either, known_as}
 use Rattle.fx_raster.proofs.Covering.{both, none, le, lt}
 
 -- ---- decided

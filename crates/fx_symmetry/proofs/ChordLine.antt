@@ -1,4 +1,4 @@
--- A place on the line of an arc's chord.
+-- A place of an arc's region that is on the line of the arc's chord lies between the chord's ends: `between_rising`, `aside_row`.
 -- Serves what mirrored and exchanged pieces add there.
 use Rattle.std.proofs.Common.{◌≡◌, ap, ◌∙◌, ◌⊎◌, inl, inr, ℤ, pos, ◌+ℤ◌, ◌-ℤ◌, ◌*ℤ◌, neg_ℤ, ◌≤ℤ◌, ◌<ℤ◌, [], ◌∷◌, arith}
 use Rattle.std.proofs.lemmas.Int.{ints, by_lt_z}
@@ -9,7 +9,7 @@ use Rattle.fx_fixed.proofs.Signs.{product_at_least_zero, product_above_zero}
 use Rattle.fx_winding.specs.Area.{Place, area, area_of}
 use Rattle.fx_winding.specs.Winding.{sign, weight_a, weight_b, weight_c}
 use Rattle.fx_winding.proofs.Columns.{IsOnRising, times_none}
-use Rattle.fx_winding.proofs.HalfAreas.{area_swap}
+use Rattle.fx_winding.proofs.Triangle.{area_swap}
 use Rattle.fx_winding.proofs.Regions.{IsInRegion}
 use Rattle.fx_winding.proofs.Triangle.{area_expr, balance_x, balance_y}
 

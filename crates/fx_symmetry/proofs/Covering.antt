@@ -1,4 +1,4 @@
--- What moved pieces add, and what moved contours cover.
+-- Moved pieces of closed contours add up as the laws say, and cover the moved places: `adds_up`, `moves_cover`.
 -- Serves the law `pieces`, and the bits of moved outlines.
 use Rattle.std.proofs.Common.{◌≡◌, ◌≢◌, refl, sym, ap, ◌∙◌, subst, ◌↔◌, ◌⊎◌, inl, inr, ℤ, pos, negsuc, ◌+ℤ◌, ◌-ℤ◌, ◌*ℤ◌, neg_ℤ}
 use Rattle.std.proofs.Common.{int_lt, ◌&&◌, if◌then◌else◌, List, [], ◌∷◌, ◌++◌, map, Any, arith}

@@ -1,4 +1,4 @@
--- What a piece adds with its coordinates exchanged, so that a ray up from a place tells what a ray to the right tells.
+-- What a piece adds with its coordinates exchanged tells by a ray up what a ray to the right tells: `exchanged_turn`.
 -- Serves the law `pieces`.
 use Rattle.std.proofs.Common.{◌≡◌, sym, ap, ◌∙◌, subst, ◌⊎◌, inl, inr, ℤ, pos, ◌+ℤ◌, ◌-ℤ◌, ◌*ℤ◌, ◌≤ℤ◌}
 use Rattle.std.proofs.Common.{◌<ℤ◌, int_lt, ◌&&◌, if◌then◌else◌, [], ◌∷◌, Option, Some, None, arith}

@@ -1,4 +1,4 @@
--- The frame with drop-out control of moved spans.
+-- The frame with drop-out control of moved spans is the moved frame: `moves_dropout_frame`.
 -- Serves the law `outlines`, and the pictures of moved outlines.
 use Rattle.std.proofs.Common.{◌≡◌, ◌≢◌, inl, inr, refl, sym, subst, ◌↔◌, ℤ, pos, negsuc, ◌+ℤ◌, ◌*ℤ◌, neg_ℤ}
 use Rattle.std.proofs.Common.{◌≤ℤ◌, ◌<ℤ◌, List, [], ◌∷◌, map, Option, Some, None, option_map, arith}

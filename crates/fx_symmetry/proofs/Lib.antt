@@ -1,3 +1,10 @@
+pub mod Middles
+pub mod Ranges
+pub mod Corners
+pub mod HalfAreas
+pub mod HalfFlats
+pub mod HalfWindings
+pub mod Halved
 pub mod OnPieces
 pub mod ChordLine
 pub mod Mirrored

@@ -1,4 +1,4 @@
--- The segments that mirrored pieces meet, and those that pieces upside down meet.
+-- Mirrored pieces meet the mirrored segments, and pieces upside down those upside down: `mirror_meets`, `flip_meets`.
 -- Serves the law `meeting`, and moved outlines with drop-out control.
 use Rattle.std.proofs.Common.{◌≡◌, ◌≢◌, sym, ap, ◌∙◌, subst, ◌↔◌, ◌⊎◌, inl, inr, ℤ, pos, negsuc, ◌+ℤ◌, ◌-ℤ◌, neg_ℤ, ◌≤ℤ◌}
 use Rattle.std.proofs.Common.{◌<ℤ◌, int_lt, ◌&&◌, if◌then◌else◌, [], ◌∷◌, Option, Some, None, option_map, arith}

@@ -1,4 +1,4 @@
--- What a mirrored piece adds at the mirrored place.
+-- What a mirrored piece adds at the mirrored place, by what the piece adds: `mirrored_turn`.
 -- Serves the law `pieces`.
 use Rattle.std.proofs.Common.{◌≡◌, ◌≢◌, sym, ap, ◌∙◌, ◌⊎◌, inl, inr, ℤ, pos, ◌+ℤ◌, ◌-ℤ◌, ◌*ℤ◌, neg_ℤ}
 use Rattle.std.proofs.Common.{◌≤ℤ◌, ◌<ℤ◌, int_lt, ◌&&◌, ◌||◌, Option, Some, None, arith}

@@ -1,4 +1,4 @@
--- What drop-out control by the nearer pixel sets, mirrored or upside down.
+-- Drop-out control by the nearer pixel sets the moved pixels of moved pieces, if there is no tie: `near_set_moved`.
 -- Serves the law `dropout`, and the pictures of moved outlines.
 use Rattle.std.proofs.Common.{◌≡◌, refl, sym, ap, ◌∙◌, subst, ◌↔◌, ◌⊎◌, inl, inr, ℕ, ℤ, pos, ◌+ℤ◌, ◌*ℤ◌, ◌≤ℤ◌}
 use Rattle.std.proofs.Common.{List, [], ◌∷◌, ◌++◌, map, arith}

@@ -1,4 +1,4 @@
--- Which places are on a moved piece.
+-- A moved place is on a moved piece exactly if the place is on the piece: `on_moved`.
 -- Serves what moved pieces add, cover and meet.
 use Rattle.std.proofs.Common.{◌≡◌, refl, sym, ap, ◌∙◌, subst, ◌↔◌, inl, inr, ℤ, pos, ◌+ℤ◌, ◌-ℤ◌, ◌*ℤ◌, neg_ℤ, ◌≤ℤ◌, ◌<ℤ◌, [], ◌∷◌}
 use Rattle.std.proofs.Common.{Option, Some, None, option_map, arith}

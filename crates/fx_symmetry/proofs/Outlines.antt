@@ -1,4 +1,4 @@
--- The pieces of moved outlines are the pieces moved.
+-- The pieces of moved outlines are the pieces moved, and so are their bits: `moves_spans`, `moves_drawn`.
 -- Serves the law `outlines`, and the pictures of moved outlines.
 use Rattle.std.proofs.Common.{◌≡◌, refl, subst, ◌↔◌, ℤ, pos, ◌+ℤ◌, ◌*ℤ◌, neg_ℤ, ℕ, List, [], ◌∷◌, map, get_or, Ok, arith}
 use Rattle.std.proofs.lemmas.List.Elements.{All-map}

@@ -1,4 +1,4 @@
--- A line of pixels closed by the nearer one, in reverse order.
+-- Drop-out control by the nearer pixel sets the mirrored pixels in a line of pixels in reverse order: `bridged_mirrored`.
 -- Serves moved outlines with drop-out control.
 use Rattle.std.proofs.Common.{◌≡◌, refl, sym, subst, ◌↔◌, ◌⊎◌, inl, inr, ℕ, ◌+◌, ℤ, pos, negsuc, ◌+ℤ◌, ◌-ℤ◌, ◌*ℤ◌, neg_ℤ}
 use Rattle.std.proofs.Common.{zero, suc, add-one, List, [], ◌∷◌, map, Any, arith}

@@ -1,4 +1,4 @@
--- The pictures of moved outlines.
+-- The picture of a moved outline is the moved picture: `moves_picture`, and with drop-out control `moves_near_picture`.
 -- Serves the law `pictures`.
 use Rattle.std.proofs.Common.{subst, ◌↔◌, List, map}
 use Rattle.fx_winding.specs.Winding.{Span, IsCovered, centre}

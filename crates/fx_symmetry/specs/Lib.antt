@@ -1,3 +1,4 @@
+pub mod Halving
 pub mod Symmetries
 pub mod Pieces
 pub mod Outlines

@@ -1,9 +1,20 @@
-//! Laws of the three symmetries, and of drop-out control for pieces that are reversed or moved by whole pixels. "Moved" alone is
-//! short for moved by a symmetry. A quarter turn, or half a turn, is two of them, one after the other.
+//! Laws of the halves of arcs, of the three symmetries, and of drop-out control for pieces that are reversed or moved by whole
+//! pixels. "Moved" alone is short for moved by a symmetry. A quarter turn, or half a turn, is two of them, one after the other.
+ghost use Rattle.fx_symmetry.specs.Halving.{HalfIsExact, HalvesMeet, HalvesHaveThePlaces, HalvesAddUp, HalvesKeepCover};
 ghost use Rattle.fx_symmetry.specs.Pieces.{AddsUp, MovesCover, MovesBits, MirrorMeets, MirrorMeetsUp, FlipMeets, FlipMeetsUp};
 ghost use Rattle.fx_symmetry.specs.Outlines.{MovesSpans, MovesDrawn, MovesDropoutFrame};
 ghost use Rattle.fx_symmetry.specs.Dropout.{MovesNearSet, ReversalKeepsSet, ShiftMovesSet};
 ghost use Rattle.fx_symmetry.specs.Shapes.{MovesPicture, MovesNearPicture};
+
+/// Cutting an arc at its middle changes nothing: the halves meet on the arc, a place is on the arc exactly when it is on a half,
+/// and elsewhere the halves' crossings and regions add up to the arc's. So an arc of an outline can be replaced by its halves.
+pub fn subdivision()
+    ensures exact { HalfIsExact }
+    ensures meet { HalvesMeet }
+    ensures places { HalvesHaveThePlaces }
+    ensures sums { HalvesAddUp }
+    ensures cover { HalvesKeepCover }
+{}
 
 /// The moved pieces of closed contours cover the moved places, and set the moved pixels: mirrored, pixel i of a row becomes pixel
 /// -1 - i. It needs closed contours, since a place passes a piece on the left where the mirrored place passes the mirrored piece

@@ -1,5 +1,5 @@
--- Pieces that lie wholly left or right of the segment between two places of a row, and so do not meet it. One end may be in the
--- column of the nearer place, if that place is not the end.
+-- A piece that lies wholly right or left of the segment between two places of a row does not meet it: `right_not_met`,
+-- `left_not_met`. One end may be in the column of the nearer place, if that place is not the end.
 -- Serves the frame with drop-out control in `fx_contour`, and `Turning`.
 use Rattle.std.proofs.Common.{◌≡◌, ◌≢◌, ◌⊎◌, inl, inr, ℤ, pos, ◌+ℤ◌, ◌-ℤ◌, ◌*ℤ◌, ◌≤ℤ◌, ◌<ℤ◌, [], ◌∷◌, Option, Some, None, arith}
 use Rattle.std.proofs.Math.Logic.{⊎_swap}

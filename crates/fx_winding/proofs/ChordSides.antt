@@ -17,9 +17,9 @@ use Rattle.fx_winding.proofs.Crossings.{above}
 use Rattle.fx_winding.proofs.Products.{product}
 use Rattle.fx_winding.proofs.Reflected.{sign_reflected}
 use Rattle.fx_winding.proofs.TurnedAreas.{area_turned, turning, weight}
-use Rattle.fx_winding.proofs.HalfAreas.{area_swap, sign_above}
+use Rattle.fx_winding.proofs.Triangle.{area_swap}
 use Rattle.fx_winding.proofs.Places.{clash}
-use Rattle.fx_winding.proofs.Regions.{IsInRegion, region_in, region_out}
+use Rattle.fx_winding.proofs.Regions.{IsInRegion, region_in, region_out, sign_above}
 
 -- the region of the exchanged piece
 abbrev pub column_region : Place → Option Place → Place → Place → ℤ

@@ -10,9 +10,8 @@ use Rattle.fx_winding.specs.Turned.{turned_place}
 use Rattle.fx_winding.specs.Winding.{IsBetween, IsInRange, IsOnLine, IsOnFlatArc, chord_crossing}
 use Rattle.fx_winding.proofs.Crossings.{above, crossing_number, area_split_right, left_of_rising, no_crossing}
 use Rattle.fx_winding.proofs.TurnedAreas.{area_turned}
-use Rattle.fx_winding.proofs.HalfAreas.{area_next}
 use Rattle.fx_winding.proofs.Products.{product}
-use Rattle.fx_winding.proofs.Triangle.{at, area_at}
+use Rattle.fx_winding.proofs.Triangle.{at, area_at, area_next}
 
 -- ---- the row between the ends
 -- a product's sign is that of the way from x to y

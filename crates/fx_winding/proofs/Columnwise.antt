@@ -12,7 +12,7 @@ use Rattle.fx_winding.proofs.Beside.{RestsOn, HangsFrom}
 use Rattle.fx_winding.proofs.Columns.{between_range}
 use Rattle.fx_winding.proofs.Crossings.{above}
 use Rattle.fx_winding.proofs.EndsOn.{off_no_end}
-use Rattle.fx_winding.proofs.HalfAreas.{area_level}
+use Rattle.fx_winding.proofs.Triangle.{area_level}
 use Rattle.fx_winding.proofs.Sideways.{corner, turned_within}
 use Rattle.fx_winding.proofs.Turning.{turned_below, turned_above, same_corners}
 

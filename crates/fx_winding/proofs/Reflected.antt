@@ -1,4 +1,5 @@
--- Pieces whose places are moved so that each area changes its sign: what they add at a place, with what the pieces added.
+-- If places are moved so that each area changes its sign, a moved piece and the piece add up to fixed numbers: `add_up_line`,
+-- `add_up_arc`.
 -- Serves pieces with their coordinates exchanged, and the laws of `fx_symmetry`.
 use Rattle.std.proofs.Common.{◌≡◌, ◌≢◌, refl, sym, ap, ◌∙◌, ◌⊎◌, inl, inr, ℤ, pos, ◌+ℤ◌, ◌-ℤ◌, ◌*ℤ◌}
 use Rattle.std.proofs.Common.{neg_ℤ, Option, Some, None, option_map, Bool, arith}
@@ -8,11 +9,10 @@ use Rattle.fx_fixed.proofs.Linear.{signed_linear}
 use Rattle.fx_winding.specs.Area.{Place, area}
 use Rattle.fx_winding.specs.Winding.{sign, weight_b, is_right_of_chord, chord_crossing, region_part}
 use Rattle.fx_winding.proofs.Crossings.{crossing_number}
-use Rattle.fx_winding.proofs.HalfAreas.{area_swap}
-use Rattle.fx_winding.proofs.Halved.{flat_region}
-use Rattle.fx_winding.proofs.Ranges.{by_zero}
-use Rattle.fx_winding.proofs.Regions.{IsIn, IsInRegion, move_in, region_cases, region_in, region_out}
+use Rattle.fx_winding.proofs.Products.{by_zero}
+use Rattle.fx_winding.proofs.Regions.{IsIn, IsInRegion, flat_region, move_in, region_cases, region_in, region_out}
 use Rattle.fx_winding.proofs.Reversal.{both_minus, sign_back}
+use Rattle.fx_winding.proofs.Triangle.{area_swap}
 
 -- each area changes its sign
 pub record Reflects (r : Place → Place) : Type 0 where

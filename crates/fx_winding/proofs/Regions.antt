@@ -1,6 +1,6 @@
 -- A place in an arc's region counts by the sign of the arc's area (`region_in`), and any other not at all (`region_out`).
 -- Serves the laws of reversed, moved and halved pieces.
-use Rattle.std.proofs.Common.{◌≡◌, refl, ap, subst, ◌⊎◌, inl, inr, ℤ, pos, ◌<ℤ◌, Bool, true, false, ◌&&◌, ◌||◌, if◌then◌else◌, Some}
+use Rattle.std.proofs.Common.{◌≡◌, refl, ap, ◌∙◌, subst, ◌⊎◌, inl, inr, ℤ, pos, ◌<ℤ◌, Bool, true, false, ◌&&◌, ◌||◌, if◌then◌else◌, Some}
 use Rattle.std.proofs.Common.{arith}
 use Rattle.std.proofs.lemmas.Int.{by_lt_z}
 use Rattle.fx_fixed.proofs.Signs.{square_at_least_zero}
@@ -54,3 +54,14 @@ region_out a b c p n = by (is_in_region a b c p) refl
     by : (t : Bool) → is_in_region a b c p ≡ t → (if t then sign (area a b c) else pos 0) ≡ pos 0
     by false e = refl
     by true e = absurd (n (in_from_test (weight_a a b c p) (weight_b a b c p) (weight_c a b c p) (is_right_of_chord a b c) e))
+
+pub sign_above : (z : ℤ) → pos 0 <ℤ z → sign z ≡ pos 1
+sign_above z h = grind (arith, signed_linear, h)
+
+-- a flat arc has no region, and its chord and those of its halves cross alike
+pub flat_region : (a b c p : Place) → area a b c ≡ pos 0 → region_part a (Some b) c p ≡ pos 0
+flat_region a b c p h = ap (λ s. if is_in_region a b c p then s else pos 0) (ap sign h) ∙ by (is_in_region a b c p)
+  where
+    by : (t : Bool) → (if t then pos 0 else pos 0) ≡ pos 0
+    by true = refl
+    by false = refl

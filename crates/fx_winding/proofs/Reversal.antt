@@ -1,4 +1,5 @@
--- A reversed piece adds the negative of what the piece adds to a winding number, and has the same places on it.
+-- A reversed piece adds the negative of what the piece adds to a winding number, and has the same places on it:
+-- `reversal_negates`.
 -- Serves the law `reversal`, and halves, the second of which is the first of the reversed arc.
 use Rattle.std.proofs.Common.{◌≡◌, refl, sym, ap, ◌∙◌, inl, inr, ℤ, pos, ◌+ℤ◌, ◌-ℤ◌, ◌*ℤ◌, neg_ℤ, Bool, int_lt, ◌&&◌, ◌||◌, []}
 use Rattle.std.proofs.Common.{◌∷◌, Option, Some, None, map, arith}

@@ -1,6 +1,6 @@
--- A piece that is moved covers the places that it covered, moved with it.
+-- A piece that is moved covers the places that it covered, moved with it: `shift_moves_cover`.
 -- Serves the laws `shift` and `meeting`.
-use Rattle.std.proofs.Common.{◌≡◌, refl, ap, ◌∙◌, subst, ◌↔◌, inl, inr, ℤ, pos, ◌+ℤ◌, ◌-ℤ◌, ◌*ℤ◌, neg_ℤ, ◌≤ℤ◌, int_lt}
+use Rattle.std.proofs.Common.{◌≡◌, refl, ap, ◌∙◌, subst, ◌↔◌, ◌⊎◌, inl, inr, ℤ, pos, ◌+ℤ◌, ◌-ℤ◌, ◌*ℤ◌, neg_ℤ, ◌≤ℤ◌, int_lt}
 use Rattle.std.proofs.Common.{◌&&◌, ◌||◌, [], ◌∷◌, Option, Some, None, map, option_map, arith}
 use Rattle.std.specs.Ordering.{int_eq}
 use Rattle.std.proofs.lemmas.Int.{ints}
@@ -14,7 +14,6 @@ use Rattle.fx_winding.specs.Moves.{shifted_place, shifted, ShiftMovesCover, Shif
 use Rattle.fx_winding.proofs.Crossings.{crossing_number}
 use Rattle.fx_winding.proofs.Triangle.{area_expr, at, coordinates, area_at}
 use Rattle.fx_winding.proofs.Covers.{covered_map}
-use Rattle.fx_winding.proofs.Ranges.{either}
 
 pub area_shift : (x y : ℤ) (a b c : Place) → area (shifted_place x y a) (shifted_place x y b) (shifted_place x y c) ≡ area a b c
 area_shift x y a b c = ring (coordinates (a ∷ b ∷ c ∷ []) (x ∷ y ∷ []))
@@ -75,6 +74,11 @@ turn_shift t a b c p =
   where
     same_order : (m n m' n' : ℤ) → m -ℤ n ≡ m' -ℤ n' → (n ≤ℤ m) ↔ (n' ≤ℤ m')
     same_order m n m' n' e = (λ h. omega (arith, signed_linear), λ h. omega (arith, signed_linear))
+
+-- a quadratic comes down to a value in one of three ways; each follows its facts
+pub either : {A B C D E A' B' C' D' E' : Type 0} → A ↔ A' → B ↔ B' → C ↔ C' → D ↔ D' → E ↔ E'
+    → (A ⊎ (B ⊎ (C × D × E))) ↔ (A' ⊎ (B' ⊎ (C' × D' × E')))
+either a b c d e = (λ h. grind arith, λ h. grind arith)
 
 pub low_shift : (t a b c p : ℤ) → IsAboveLow (a +ℤ t) (b +ℤ t) (c +ℤ t) (p +ℤ t) ↔ IsAboveLow a b c p
 low_shift t a b c p = either (omega (arith, signed_linear)) (omega (arith, signed_linear)) (omega (arith, signed_linear))

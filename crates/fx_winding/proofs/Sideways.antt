@@ -1,4 +1,4 @@
--- Where a chord rises, a piece and the exchanged one add 1 in all left of the upper end, else 0: `turned_rising`.
+-- Off a piece, on a row strictly between its ends, the piece and the exchanged one add up to what its ends count: `turned_within`.
 -- Serves `Turning`.
 use Rattle.std.proofs.Common.{◌≡◌, ap, ◌∙◌, inl, inr, ℤ, pos, ◌-ℤ◌, neg_ℤ, ◌<ℤ◌, int_lt, ◌&&◌, if◌then◌else◌, Option, Some, None}
 use Rattle.std.proofs.Common.{arith}

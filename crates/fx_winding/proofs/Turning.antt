@@ -1,4 +1,5 @@
--- Segments of columns that a piece does not meet, from what it adds in their two rows. A column is a row of the exchanged piece.
+-- A piece does not meet a segment of a column between whose rows it adds one number: `inner_pair_not_met`, and near its ends
+-- `from_foot_not_met`, `to_head_not_met`. A column is a row of the exchanged piece.
 -- Serves the segments that a scan by rows notes.
 use Rattle.std.proofs.Common.{◌≡◌, sym, ap, ◌∙◌, ◌⊎◌, ℤ, pos, negsuc, ◌-ℤ◌, ◌≤ℤ◌, ◌<ℤ◌}
 use Rattle.std.proofs.Common.{int_lt, if◌then◌else◌, Option, option_map, arith}

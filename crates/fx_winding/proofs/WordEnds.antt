@@ -1,4 +1,4 @@
--- The first and the last bit of a word.
+-- The first and the last bit of a word that is not 0: `first_bit`, `last_bit`.
 -- Serves `words`.
 use Rattle.std.proofs.Common.{◌≡◌, ap, ◌∙◌, ℕ, suc, ◌+◌, ◌-◌, ◌*◌, ◌^◌, ◌<◌, ◌≤◌, arith, w32}
 use Rattle.std.specs.Int.{bit_at}

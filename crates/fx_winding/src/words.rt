@@ -53,7 +53,7 @@ pub fn set_bit(words: &mut [u32], i: usize)
 }
 
 /// Sets the bit with this number, which is 0 so far, if `on`.
-pub fn put_bit(words: &mut [u32], i: usize, on: bool)
+pub(crate) fn put_bit(words: &mut [u32], i: usize, on: bool)
     requires place { i / 32 < length words.old }
     requires clear { word_bit words.old i ≡ 0 }
     ensures here { (word_bit words.new i ≡ 1) ↔ IsTrue on }

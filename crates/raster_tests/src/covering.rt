@@ -1,6 +1,7 @@
 //! Which pixels an outline covers: pixel by pixel, with arcs whole and halved.
 use crate::curves::{Curve, add, frame, outline, piece};
-use fx_winding::{Bitmap, Frame, MAX_SIDE, Pieces, Tally, covered, halves};
+use fx_symmetry::halves;
+use fx_winding::{Bitmap, Frame, MAX_SIDE, Pieces, Tally, covered};
 use std::alloc::{AllocError, Global};
 use std::test::Fail;
 

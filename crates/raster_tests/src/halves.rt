@@ -3,7 +3,8 @@ ghost use Rattle.std.specs.Prelude.{◌^◌};
 ghost use Rattle.fx_fixed.specs.Ranges.{IsWithin};
 
 use crate::curves::{Curve, piece, places};
-use fx_winding::{Tally, halves, on_piece};
+use fx_symmetry::halves;
+use fx_winding::{Tally, on_piece};
 
 /// The places of an arc.
 type Arc = [(i32, i32); 3];

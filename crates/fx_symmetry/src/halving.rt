@@ -2,10 +2,10 @@
 
 ghost use Rattle.std.specs.Prelude.{◌≡◌, ◌^◌, IfSome, option_map};
 ghost use Rattle.fx_fixed.specs.Ranges.{IsWithin};
-ghost use Rattle.fx_winding.specs.Halving.{half_of, middle_of, halves_of};
+ghost use Rattle.fx_symmetry.specs.Halving.{half_of, middle_of, halves_of};
 ghost use Rattle.fx_winding.specs.Winding.{place_of, span_of};
 
-use crate::point::{Piece, Point};
+use fx_winding::{Piece, Point};
 
 /// Half of a sum of two coordinates, if it is whole.
 fn half(sum: i64) -> Option<i64>

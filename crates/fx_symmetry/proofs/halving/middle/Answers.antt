@@ -3,10 +3,10 @@ use Rattle.std.proofs.Common.{◌≡◌, ◌+ℤ◌, ℕ, ℤ, ◌≤◌, Option
 use Rattle.fx_fixed.specs.Ranges.{IsWithin}
 use Rattle.fx_fixed.proofs.Linear.{signed_linear}
 use Rattle.fx_winding.specs.Area.{place}
-use Rattle.fx_winding.specs.Halving.{half_of}
+use Rattle.fx_symmetry.specs.Halving.{half_of}
 use Rattle.fx_winding.specs.Winding.{place_of}
-use Rattle.fx_winding.proofs.Middles.{half_is, middle_without_x, middle_without_y, middle_with}
-use Rattle.fx_winding.proofs.halving.middle.Goals as goal
+use Rattle.fx_symmetry.proofs.Middles.{half_is, middle_without_x, middle_without_y, middle_with}
+use Rattle.fx_symmetry.proofs.halving.middle.Goals as goal
 
 -- a number as a coordinate holds it
 abbrev held : ℤ → ℤ

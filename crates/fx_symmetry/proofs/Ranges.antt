@@ -1,4 +1,5 @@
--- The range of a quadratic is that of its halves, and along a line one coordinate's range tells the other's.
+-- The range of a quadratic is that of its halves, and along a line one coordinate's range tells the other's: `range_halves`,
+-- `range_along`.
 -- Serves the law of halves, where the arc's points are on one line.
 use Rattle.std.proofs.Common.{◌≡◌, ◌≢◌, ◌↔◌, sym, ap, ◌∙◌, subst, ◌⊎◌, inl, inr, ℤ, pos, ◌+ℤ◌, ◌-ℤ◌, ◌*ℤ◌, neg_ℤ, ◌≤ℤ◌, ◌<ℤ◌}
 use Rattle.std.proofs.Common.{[], ◌∷◌, arith}
@@ -10,6 +11,7 @@ use Rattle.fx_fixed.proofs.Signs.{product_at_least_zero, product_above_zero, squ
 use Rattle.fx_winding.specs.Winding.{IsInRange, IsAboveLow, IsBelowHigh}
 use Rattle.fx_winding.proofs.Products.{product}
 use Rattle.fx_winding.proofs.Reversal.{both_minus, range_back}
+use Rattle.fx_winding.proofs.Shifts.{either}
 
 -- the quadratic with these control values comes down to 0
 abbrev ComesDown : ℤ → ℤ → ℤ → Type 0
@@ -19,11 +21,6 @@ ComesDown a b c = (a ≤ℤ pos 0) ⊎ ((c ≤ℤ pos 0) ⊎ ((b <ℤ a) × (b <
 record Passes (a b c : ℤ) : Type 0 where
   low : ComesDown a b c
   high : ComesDown (neg_ℤ a) (neg_ℤ b) (neg_ℤ c)
-
--- each of the ways to come down follows its facts
-pub either : {A B C D E A' B' C' D' E' : Type 0} → A ↔ A' → B ↔ B' → C ↔ C' → D ↔ D' → E ↔ E'
-    → (A ⊎ (B ⊎ (C × D × E))) ↔ (A' ⊎ (B' ⊎ (C' × D' × E')))
-either a b c d e = (λ h. grind arith, λ h. grind arith)
 
 -- a value is in the range if the values counted from it pass 0
 passes : (a b c p : ℤ) → IsInRange a b c p ↔ Passes (a -ℤ p) (b -ℤ p) (c -ℤ p)
@@ -211,10 +208,6 @@ passes_scaled k l a b c a' b' c' hk hl ea eb ec h = record {
 
 passes_minus : {a b c : ℤ} → Passes a b c → Passes (neg_ℤ a) (neg_ℤ b) (neg_ℤ c)
 passes_minus {a} {b} {c} h = grind (arith, signed_linear, h)
-
-pub by_zero : {P : Type 0} (z : ℤ) → (z ≡ pos 0 → P) → (z ≢ pos 0 → P) → P
-by_zero z f g = by_lt_z z (pos 0) (λ h. g (λ e. omega (arith, signed_linear, h, e)))
-    (λ h. by_lt_z (pos 0) z (λ k. g (λ e. omega (arith, signed_linear, k, e))) (λ k. f (omega (arith, signed_linear, h, k))))
 
 -- values in the proportion of k to l, k above zero, pass 0 where the others do
 passes_along : (k l a b c a' b' c' : ℤ) → pos 0 <ℤ k → k *ℤ a' ≡ l *ℤ a → k *ℤ b' ≡ l *ℤ b → k *ℤ c' ≡ l *ℤ c → Passes a b c

@@ -1,5 +1,5 @@
-use Rattle.fx_winding.proofs.Halved.{halves_meet, halves_have_the_places, halves_add_up, halves_keep_cover}
-use Rattle.fx_winding.proofs.laws.subdivision.Goals as goal
+use Rattle.fx_symmetry.proofs.Halved.{halves_meet, halves_have_the_places, halves_add_up, halves_keep_cover}
+use Rattle.fx_symmetry.proofs.laws.subdivision.Goals as goal
 
 pub returns-clause-meet : goal.returns-clause-meet
 returns-clause-meet c = halves_meet

@@ -1,15 +1,18 @@
--- A flat arc's halves are flat, and have the same places on them.
+-- A flat arc's halves are flat, and have the same places on them: `flat_halves`.
 -- Serves the law of halves.
 use Rattle.std.proofs.Common.{◌≡◌, sym, ◌∙◌, ◌↔◌, ◌⊎◌, inl, inr, refl, ℤ, pos, ◌+ℤ◌, ◌-ℤ◌, ◌*ℤ◌, neg_ℤ, [], ◌∷◌, arith}
-use Rattle.fx_fixed.specs.Polynomial.{var, num, ◌⊠◌, ◌⊟◌}
+use Rattle.fx_fixed.specs.Polynomial.{var, ◌⊠◌, ◌⊟◌}
 use Rattle.fx_fixed.proofs.Ring.{ring}
 use Rattle.fx_fixed.proofs.Linear.{signed_linear}
 use Rattle.fx_winding.specs.Area.{Place, area}
 use Rattle.fx_winding.specs.Winding.{IsInRange, IsOnFlatArc}
 use Rattle.fx_winding.proofs.Triangle.{at, coordinates, area_at}
-use Rattle.fx_winding.proofs.Ranges.{Middles, range_halves, range_of_first, range_of_second, range_along, by_zero}
-use Rattle.fx_winding.proofs.HalfAreas.{control, second_control, end, whole_u, whole_v, whole_w, second_u, second_v, area_first}
-use Rattle.fx_winding.proofs.HalfAreas.{area_u, area_v, area_w, area_u2, area_v2, area_w2, area_next, area_swap}
+use Rattle.fx_winding.proofs.Products.{by_zero}
+use Rattle.fx_symmetry.proofs.Ranges.{Middles, range_halves, range_of_first, range_of_second, range_along}
+use Rattle.fx_symmetry.proofs.HalfAreas.{control, second_control, end, whole_u, whole_v, whole_w, second_u, second_v, area_first}
+use Rattle.fx_winding.proofs.Triangle.{area_next, area_swap}
+use Rattle.fx_symmetry.proofs.HalfAreas.{area_u, area_v, area_w, area_u2, area_v2, area_w2}
+use Rattle.fx_winding.proofs.Triangle.{line_end, line_start}
 
 -- p is on one line with each two of a, b and c
 record IsFlat (a b c p : Place) : Type 0 where
@@ -78,12 +81,6 @@ on_line a b p q hp hq = balance _ _ _ _ hp hq (ring (coordinates (a ∷ b ∷ p 
   where
     balance : (x y z w : ℤ) → z ≡ pos 0 → w ≡ pos 0 → x -ℤ y ≡ w -ℤ z → x ≡ y
     balance x y z w h k e = omega (arith, signed_linear)
-
-pub line_start : (a b : Place) → area a b a ≡ pos 0
-line_start a b = ring (coordinates (a ∷ b ∷ []) []) (area_at (at 0) (at 1) (at 0)) (num (pos 0)) tt
-
-pub line_end : (a b : Place) → area a b b ≡ pos 0
-line_end a b = ring (coordinates (a ∷ b ∷ []) []) (area_at (at 0) (at 1) (at 1)) (num (pos 0)) tt
 
 -- along a line on which a and another of the points differ in x, the range of x tells that of y
 range_y : (a b c p : Place) → IsFlat a b c p → ¬ ((b.x -ℤ a.x ≡ pos 0) × (c.x -ℤ a.x ≡ pos 0)) → IsInRange a.x b.x c.x p.x

@@ -6,7 +6,7 @@ use Rattle.std.proofs.lemmas.Int.{ints}
 use Rattle.std.proofs.lemmas.Option.{option_and_then_some}
 use Rattle.fx_winding.specs.Area.{Place, place}
 use Rattle.fx_winding.specs.Winding.{Span}
-use Rattle.fx_winding.specs.Halving.{half_of, middle_of, two_arcs, halves_of_part}
+use Rattle.fx_symmetry.specs.Halving.{half_of, middle_of, two_arcs, halves_of_part}
 
 pub middle_without_x : (p q : Place) → half_of (p.x +ℤ q.x) ≡ None → middle_of p q ≡ None
 middle_without_x p q h = ap (option_and_then (λ x. option_map (place x) (half_of (p.y +ℤ q.y)))) h

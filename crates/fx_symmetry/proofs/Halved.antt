@@ -1,32 +1,35 @@
--- An arc's halves have its places on them, and elsewhere add up to it; so pieces cover the same places with them in its stead.
--- For the law `subdivision`.
-use Rattle.std.proofs.Common.{◌≡◌, ◌≢◌, refl, sym, ap, ◌∙◌, subst, ◌↔◌, ◌⊎◌, inl, inr, ℤ, pos, ◌+ℤ◌, ◌-ℤ◌, ◌*ℤ◌, neg_ℤ, ◌≤ℤ◌, ◌<ℤ◌}
-use Rattle.std.proofs.Common.{int_lt, Bool, true, false, ◌&&◌, ◌||◌, if◌then◌else◌, List, ◌∷◌, ◌++◌, Option, Some, None, Any, arith}
+-- An arc's halves have its places on them, and elsewhere add up to it: `halves_have_the_places`, `halves_add_up`. So pieces cover
+-- the same places with them in its stead.
+-- Serves the law `subdivision`.
+use Rattle.std.proofs.Common.{◌≡◌, ◌≢◌, refl, sym, ◌∙◌, subst, ◌↔◌, ◌⊎◌, inl, inr, ℤ, pos, ◌+ℤ◌, ◌-ℤ◌, neg_ℤ, ◌<ℤ◌}
+use Rattle.std.proofs.Common.{int_lt, ◌&&◌, ◌||◌, List, ◌∷◌, ◌++◌, Option, Some, None, Any, arith}
 use Rattle.std.specs.Ordering.{int_eq}
 use Rattle.std.proofs.lemmas.Int.{ints, by_lt_z}
 use Rattle.std.proofs.lemmas.List.Sorted.{IsPermutation-middle, IsPermutation-cons, IsPermutation-trans}
-use Rattle.fx_fixed.proofs.Ring.{*ℤ_zero}
 use Rattle.fx_fixed.proofs.Linear.{signed_linear}
 use Rattle.fx_winding.specs.Area.{Place, area}
-use Rattle.fx_winding.specs.Winding.{Span, sign, is_right_of_chord, is_in_region, chord_crossing, crossing, region_part, region}
-use Rattle.fx_winding.specs.Winding.{IsOnPart, IsOn, IsOnCurve, IsOnFlatArc, IsInRange}
-use Rattle.fx_winding.specs.Winding.{weight_a, weight_b, weight_c, winding, IsCovered}
-use Rattle.fx_winding.specs.Halving.{two_arcs, halves_of_part, halves_of, HalvesHaveThePlaces, HalvesAddUp, HalvesKeepCover}
-use Rattle.fx_winding.specs.Halving.{HalvesMeet}
-use Rattle.fx_winding.proofs.Beside.{total_above}
+use Rattle.fx_winding.specs.Winding.{Span, sign, is_right_of_chord, chord_crossing, crossing, region_part, region}
+use Rattle.fx_winding.specs.Winding.{IsOnPart, IsOn, IsOnCurve}
+use Rattle.fx_winding.specs.Winding.{winding, IsCovered}
+use Rattle.fx_symmetry.specs.Halving.{two_arcs, halves_of_part, halves_of, HalvesHaveThePlaces, HalvesAddUp, HalvesKeepCover}
+use Rattle.fx_symmetry.specs.Halving.{HalvesMeet}
 use Rattle.fx_winding.proofs.Crossings.{crossing_number}
 use Rattle.fx_winding.proofs.Products.{IsProduct, product}
 use Rattle.fx_winding.proofs.Regions.{move_in, region_cases, region_in, region_out}
 use Rattle.fx_winding.proofs.Reversal.{crossing_back, area_back, on_part_back, region_part_back}
 use Rattle.fx_winding.proofs.Covers.{covered_permutation, any_here, any_there, any_cases}
-use Rattle.fx_winding.proofs.Middles.{beyond, Cut, halves_are}
-use Rattle.fx_winding.proofs.Ranges.{by_zero}
-use Rattle.fx_winding.proofs.Corners.{around, around_flat}
-use Rattle.fx_winding.proofs.HalfAreas.{second_control, area_u, area_first_side, area_second_side, area_chord_back, heights_balance}
-use Rattle.fx_winding.proofs.HalfAreas.{four_times, sign_above, area_first, whole_turns, second_turns, curve_halves, area_level}
-use Rattle.fx_winding.proofs.HalfAreas.{control, end, whole_v, raw, area_v, area_w, area_u2, area_v2, area_w2, curve_is}
-use Rattle.fx_winding.proofs.HalfFlats.{flat_halves, line_start, line_end}
-use Rattle.fx_winding.proofs.HalfWindings.{Counts, IsRight, AreHalves, sides, no_gap, sum_of_halves}
+use Rattle.fx_symmetry.proofs.Middles.{beyond, Cut, halves_are}
+use Rattle.fx_symmetry.proofs.Corners.{around, around_flat}
+use Rattle.fx_symmetry.proofs.HalfAreas.{second_control, area_u, area_first_side, area_second_side, area_chord_back, heights_balance}
+use Rattle.fx_winding.proofs.Triangle.{area_level}
+use Rattle.fx_winding.proofs.Regions.{sign_above}
+use Rattle.fx_symmetry.proofs.HalfAreas.{four_times, area_first, whole_turns, second_turns, curve_halves}
+use Rattle.fx_symmetry.proofs.HalfAreas.{control, end, whole_v, raw, area_v, area_w, area_u2, area_v2, area_w2, curve_is}
+use Rattle.fx_symmetry.proofs.HalfFlats.{flat_halves}
+use Rattle.fx_symmetry.proofs.HalfWindings.{Counts, IsRight, AreHalves, sides, sum_of_halves}
+use Rattle.fx_winding.proofs.Regions.{flat_region}
+use Rattle.fx_winding.proofs.EndsOn.{end_on}
+use Rattle.fx_winding.proofs.KnownPlaces.{Known, known_curve, known_either, known_flat}
 
 -- ---- regions by their areas, where the arc's area is above zero
 counts_of : (a b c p : Place) {u v w : ℤ} → sign (area a b c) ≡ pos 1 → area p b c ≡ u → area a p c ≡ v → area a b p ≡ w
@@ -141,14 +144,6 @@ adds_back a b c m n j p h = omega (
   region_part_back a (Some b) c p,
 )
 
--- a flat arc has no region, and its chord and those of its halves cross alike
-pub flat_region : (a b c p : Place) → area a b c ≡ pos 0 → region_part a (Some b) c p ≡ pos 0
-flat_region a b c p h = ap (λ s. if is_in_region a b c p then s else pos 0) (ap sign h) ∙ by (is_in_region a b c p)
-  where
-    by : (t : Bool) → (if t then pos 0 else pos 0) ≡ pos 0
-    by true = refl
-    by false = refl
-
 adds_flat : (a m j p : Place) → area a m j ≡ pos 0 → Adds a (control a m) (end a m j) m (second_control m j) j p
 adds_flat a m j p d = flat_sum (chord_crossing a j p) (chord_crossing j (end a m j) p) (chord_crossing (end a m j) a p)
     (chord_crossing a (end a m j) p)
@@ -251,34 +246,6 @@ pub halves_add_up : HalvesAddUp
 halves_add_up s f g e p off = (by_middles s.a s.b s.c f g e p).1 off
 
 -- ---- a place is on an arc or not
-abbrev pub Known : Type 0 → Type 0
-Known P = P ⊎ (¬ P)
-
-pub known_either : {P Q : Type 0} → Known P → Known Q → Known (P ⊎ Q)
-known_either p q = grind arith
-
-pub known_as : {P Q : Type 0} → (P → Q) → (Q → P) → Known P → Known Q
-known_as to from p = grind arith
-
-known_range : (a b c p : ℤ) → Known (IsInRange a b c p)
-known_range a b c p = grind (arith, ints)
-
-pub known_curve : (a b c p : Place) → Known (IsOnCurve a b c p)
-known_curve a b c p = known_as (λ k. record { bent = k.0; on_arc = k.1 }) (λ on. (on.bent, on.on_arc))
-    (by (area a b c) (weight_a a b c p) (weight_b a b c p) (weight_c a b c p) _)
-  where
-    by : (d u v w q : ℤ) → Known ((d ≢ pos 0) × ((pos 0 ≤ℤ u) × (pos 0 ≤ℤ v) × (pos 0 ≤ℤ w) × (q ≡ pos 0)))
-    by d u v w q = grind (arith, ints)
-
-pub known_flat : (a b c p : Place) → Known (IsOnFlatArc a b c p)
-known_flat a b c p =
-    known_as (λ k. record { flat = k.0; with_ab = k.1; with_bc = k.2; with_ac = k.3; range_x = k.4; range_y = k.5 })
-    (λ on. (on.flat, on.with_ab, on.with_bc, on.with_ac, on.range_x, on.range_y))
-    (by (area a b c) (area a b p) (area b c p) (area a c p) (known_range a.x b.x c.x p.x) (known_range a.y b.y c.y p.y))
-  where
-    by : {P Q : Type 0} (x y z w : ℤ) → Known P → Known Q → Known ((x ≡ pos 0) × (y ≡ pos 0) × (z ≡ pos 0) × (w ≡ pos 0) × P × Q)
-    by x y z w p q = grind (arith, ints)
-
 known_on : (a : Place) (b : Option Place) (c : Place) (h : Span × Span) → halves_of_part a b c ≡ Some h → (p : Place)
     → Known (IsOnPart a b c p)
 known_on a None c h e p = absurd (cc)
@@ -319,37 +286,6 @@ halves_keep_cover s f g e before after p =
     (λ k. one.0 (first.0 (two.1 k)), λ k. two.0 (first.1 (one.1 k)))
 
 -- ---- the halves meet on the arc
-pub end_on : (a b c : Place) → IsOnPart a (Some b) c c
-end_on a b c = by_zero (area a b c) flat bent
-  where
-    none : (s : ℤ) {z : ℤ} → z ≡ pos 0 → s *ℤ z ≡ pos 0
-    none s e = ap (λ x. s *ℤ x) e ∙ *ℤ_zero s
-
-    bent : area a b c ≢ pos 0 → IsOnPart a (Some b) c c
-    bent n =
-        let u : weight_a a b c c ≡ pos 0 = none (sign (area a b c)) (line_start c b) in
-        let v : weight_b a b c c ≡ pos 0 = none (sign (area a b c)) (line_end a c) in
-        let w = total_above (area a b c) n in
-        inl (record {
-          bent = n;
-          on_arc = (
-            omega (arith, signed_linear, u),
-            omega (arith, signed_linear, v),
-            omega (arith, signed_linear, w),
-            no_gap (weight_a a b c c) (weight_b a b c c) (weight_c a b c c) (inl u) v,
-          );
-        })
-
-    flat : area a b c ≡ pos 0 → IsOnPart a (Some b) c c
-    flat z = inr (record {
-      flat = z;
-      with_ab = z;
-      with_bc = line_end b c;
-      with_ac = line_end a c;
-      range_x = record { low = inr (inl (omega (arith, signed_linear))); high = inr (inl (omega (arith, signed_linear))) };
-      range_y = record { low = inr (inl (omega (arith, signed_linear))); high = inr (inl (omega (arith, signed_linear))) };
-    })
-
 chain_of : (a : Place) (b : Option Place) (c : Place) (f g : Span) → halves_of_part a b c ≡ Some (f, g)
     → (f.a ≡ a) × (f.c ≡ g.a) × (g.c ≡ c) × IsOn f.c f
 chain_of a None c f g e = absurd (cc)

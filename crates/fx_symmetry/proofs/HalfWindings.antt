@@ -1,5 +1,5 @@
--- Off an arc, the crossings and the regions of its halves add up to the arc's: what the chords of the halves leave is the
--- triangle of the ends and the join, which is what their regions leave.
+-- Off an arc, the crossings and the regions of its halves add up to the arc's: `sum_of_halves`. What the chords of the halves
+-- leave is the triangle of the ends and the join, which is what their regions leave.
 -- Serves the law of halves.
 use Rattle.std.proofs.Common.{◌≡◌, refl, sym, ◌∙◌, ◌⊎◌, inl, inr, ℤ, pos, ◌+ℤ◌, ◌-ℤ◌, neg_ℤ, ◌≤ℤ◌, ◌<ℤ◌, Bool, true, false, arith}
 use Rattle.std.proofs.lemmas.Int.{ints, by_lt_z}
@@ -8,9 +8,10 @@ use Rattle.fx_winding.specs.Area.{gap_of}
 use Rattle.fx_winding.specs.Winding.{AreOnArc}
 use Rattle.fx_winding.proofs.Regions.{IsIn, third_strictly}
 use Rattle.fx_winding.proofs.Reversal.{gap_back}
-use Rattle.fx_winding.proofs.Corners.{around, AreBalanced, OnSide, around_outside, around_inside, around_side, around_turned}
-use Rattle.fx_winding.proofs.HalfAreas.{twice, four_times, eight_times, second_u, second_v, whole_u, whole_v, whole_w, gap_whole}
-use Rattle.fx_winding.proofs.HalfAreas.{gap_second, gap_above}
+use Rattle.fx_symmetry.proofs.Corners.{around, AreBalanced, OnSide, around_outside, around_inside, around_side, around_turned}
+use Rattle.fx_symmetry.proofs.HalfAreas.{doubled, four_times, eight_times, second_u, second_v, whole_u, whole_v, whole_w, gap_whole}
+use Rattle.fx_symmetry.proofs.HalfAreas.{gap_second, gap_above}
+use Rattle.fx_winding.proofs.EndsOn.{no_gap}
 
 -- ---- regions by their weights
 -- whether a place with these weights is in the region, and what it then counts
@@ -32,7 +33,7 @@ count {u} {v} {w} {gap} {x} {r} e h = grind (arith, ints, e, h)
 
 -- what the regions of an arc and of its halves count at a place with the weights e, f and g in the first half
 record AreCounted (e f g : ℤ) (r r1 r2 : Bool) (x x1 x2 : ℤ) : Type 0 where
-  whole : IsCount (whole_u e f g) (whole_v f g) (whole_w g) (twice (eight_times (gap_of e f g))) r x
+  whole : IsCount (whole_u e f g) (whole_v f g) (whole_w g) (doubled (eight_times (gap_of e f g))) r x
   first : IsCount e f g (gap_of e f g) r1 x1
   second : IsCount (second_u e f g) (second_v e f) e (gap_of e f g) r2 x2
 
@@ -98,10 +99,6 @@ beside_first a m j c s r o h k = grind (arith, ints)
 beside_chord : (c a j b s : ℤ) (r : Bool) → OnSide c a j s → IsRight a b c r → (c ≡ a → (c <ℤ j → a <ℤ b) × (j ≤ℤ c → b ≤ℤ a))
     → ((r ≡ true) × (s ≡ pos 1)) ⊎ ((r ≡ false) × (s ≡ pos 0))
 beside_chord c a j b s r o h k = grind (arith, ints)
-
--- no gap at the ends of an arc
-pub no_gap : (u v w : ℤ) → (u ≡ pos 0) ⊎ (w ≡ pos 0) → v ≡ pos 0 → gap_of u v w ≡ pos 0
-no_gap u v w h i = grind (arith, signed_linear, h, i)
 
 -- ---- the sum
 -- an arc and its halves by the heights of their points and of the place, with the place's weights in the first half

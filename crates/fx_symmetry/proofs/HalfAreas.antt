@@ -1,6 +1,6 @@
 -- A place is on an arc that turns left exactly if it is on one of its halves: `curve_halves`.
 -- Serves the law of halves.
-use Rattle.std.proofs.Common.{◌≡◌, sym, ◌∙◌, ◌↔◌, ◌⊎◌, inl, inr, ℤ, pos, ◌+ℤ◌, ◌-ℤ◌, ◌*ℤ◌, neg_ℤ}
+use Rattle.std.proofs.Common.{◌≡◌, ◌∙◌, ◌↔◌, ◌⊎◌, inl, inr, ℤ, pos, ◌+ℤ◌, ◌-ℤ◌, ◌*ℤ◌, neg_ℤ}
 use Rattle.std.proofs.Common.{refl, ◌≤ℤ◌, ◌<ℤ◌, List, [], ◌∷◌, arith}
 use Rattle.std.proofs.lemmas.Int.{by_lt_z}
 use Rattle.fx_fixed.specs.Polynomial.{Expr, var, num, ◌⊞◌, ◌⊠◌, minus, ◌⊟◌}
@@ -8,10 +8,12 @@ use Rattle.fx_fixed.proofs.Ring.{ring, one-*ℤ}
 use Rattle.fx_fixed.proofs.Linear.{signed_linear}
 use Rattle.fx_fixed.proofs.Signs.{product_at_least_zero, product_above_zero}
 use Rattle.fx_winding.specs.Area.{Place, area, gap_of}
-use Rattle.fx_winding.specs.Winding.{sign, AreOnArc, IsOnCurve}
+use Rattle.fx_winding.specs.Winding.{AreOnArc, IsOnCurve}
 use Rattle.fx_winding.proofs.Products.{IsProduct, product}
-use Rattle.fx_winding.proofs.Triangle.{ExprPlace, area_expr, at, coordinates, area_at}
-use Rattle.fx_winding.proofs.Middles.{beyond}
+use Rattle.fx_winding.proofs.Triangle.{ExprPlace, at, coordinates, area_at}
+use Rattle.fx_symmetry.proofs.Middles.{beyond}
+use Rattle.fx_winding.proofs.Regions.{sign_above}
+use Rattle.fx_winding.proofs.Triangle.{area_swap}
 
 -- ---- an arc by its start a, the first half's control point m and the join j: then b, n and c are
 abbrev pub control : Place → Place → Place
@@ -24,31 +26,31 @@ abbrev pub end : Place → Place → Place → Place
 end a m j = beyond (beyond a m) (beyond m j)
 
 -- the areas by those of the first half with the place: e = [p, m, j], f = [a, p, j], g = [a, m, p]
-abbrev pub twice : ℤ → ℤ
-twice z = z +ℤ z
+abbrev pub doubled : ℤ → ℤ
+doubled z = z +ℤ z
 
 abbrev pub four_times : ℤ → ℤ
-four_times z = twice (twice z)
+four_times z = doubled (doubled z)
 
 abbrev pub eight_times : ℤ → ℤ
-eight_times z = twice (four_times z)
+eight_times z = doubled (four_times z)
 
 -- u, v of the second half, whose w is e
 abbrev pub second_u : ℤ → ℤ → ℤ → ℤ
-second_u e f g = (four_times e +ℤ twice f) +ℤ g
+second_u e f g = (four_times e +ℤ doubled f) +ℤ g
 
 abbrev pub second_v : ℤ → ℤ → ℤ
 second_v e f = neg_ℤ (four_times e +ℤ f)
 
 -- u, v, w of the arc
 abbrev pub whole_u : ℤ → ℤ → ℤ → ℤ
-whole_u e f g = twice (second_u e f g)
+whole_u e f g = doubled (second_u e f g)
 
 abbrev pub whole_v : ℤ → ℤ → ℤ
 whole_v f g = four_times (f +ℤ g)
 
 abbrev pub whole_w : ℤ → ℤ
-whole_w g = twice g
+whole_w g = doubled g
 
 -- the same as expressions, with a, m, j and p as the places
 abbrev two : Expr → Expr
@@ -105,13 +107,6 @@ area_v2 a m j p = ring (env a m j p) (area_at (at 2) (at 3) C) (minus (two (two 
 pub area_w2 : (a m j p : Place) → area j (second_control m j) p ≡ area p m j
 area_w2 a m j p = ring (env a m j p) (area_at (at 2) N (at 3)) E tt
 
--- the other orders of places that flat arcs are tested by
-pub area_next : (p q r : Place) → area q r p ≡ area p q r
-area_next p q r = ring (env p q r r) (area_at (at 1) (at 2) (at 0)) (area_at (at 0) (at 1) (at 2)) tt
-
-pub area_swap : (p q r : Place) → area p r q ≡ neg_ℤ (area p q r)
-area_swap p q r = ring (env p q r r) (area_at (at 0) (at 2) (at 1)) (minus (area_at (at 0) (at 1) (at 2))) tt
-
 -- the arc and its halves turn alike
 whole_sign : (z y : ℤ) → y ≡ eight_times z → ((pos 0 <ℤ z) ↔ (pos 0 <ℤ y)) × ((z ≡ pos 0) ↔ (y ≡ pos 0))
 whole_sign z y e = omega (arith, signed_linear)
@@ -127,11 +122,8 @@ pub second_turns : (a m j : Place) → ((pos 0 <ℤ area a m j) ↔ (pos 0 <ℤ 
     × ((area a m j ≡ pos 0) ↔ (area j (second_control m j) (end a m j) ≡ pos 0))
 second_turns a m j = second_sign _ _ (area_second a m j)
 
-pub sign_above : (z : ℤ) → pos 0 <ℤ z → sign z ≡ pos 1
-sign_above z h = grind (arith, signed_linear, h)
-
 -- ---- the gaps
-pub gap_whole : (e f g : ℤ) → gap_of (whole_u e f g) (whole_v f g) (whole_w g) ≡ twice (eight_times (gap_of e f g))
+pub gap_whole : (e f g : ℤ) → gap_of (whole_u e f g) (whole_v f g) (whole_w g) ≡ doubled (eight_times (gap_of e f g))
 gap_whole e f g =
     let x = num (pos 4) ⊠ (var 0 ⊠ var 2) ⊟ var 1 ⊠ var 1 in
     let u = two ((two (two (var 0)) ⊞ two (var 1)) ⊞ var 2) in
@@ -231,8 +223,3 @@ pub heights_balance : (a m j p : Place)
     neg_ℤ (area a p j) *ℤ ((end a m j).y -ℤ p.y) ≡ pos 0
 heights_balance a m j p = ring (env a m j p)
     ((two (two E) ⊞ F) ⊠ (var 1 ⊟ var 7) ⊞ two (two (F ⊞ G)) ⊠ (var 5 ⊟ var 7) ⊞ minus F ⊠ (C.y ⊟ var 7)) (num (pos 0)) tt
-
--- an arc with all heights the same is flat
-pub area_level : (a m j : Place) → a.y ≡ m.y → a.y ≡ j.y → area a m j ≡ pos 0
-area_level a m j h k = (λ i. area (record { x = a.x; y = a.y }) (record { x = m.x; y = sym h i }) (record { x = j.x; y = sym k i }))
-    ∙ ring (a.x ∷ m.x ∷ j.x ∷ a.y ∷ []) (area_expr (var 0) (var 3) (var 1) (var 3) (var 2) (var 3)) (num (pos 0)) tt
