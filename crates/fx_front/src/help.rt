@@ -401,7 +401,8 @@ What to do: give hexadecimal numbers and ranges joined by commas, such as
 
 const REFUSAL_62: &str = "62 BadName: the name is not 1 to 255 bytes of 20 to 7E (hexadecimal), or
 begins or ends with a space.
-What to do: give another name.
+What to do: give a name of 1 to 255 printable ASCII characters, no space first
+or last.
 ";
 
 const REFUSAL_63: &str =
@@ -410,7 +411,8 @@ of A to Z, 0 to 9 and _ with a letter first, or is FONT_ASCENT,
 FONT_DESCENT, ENDPROPERTIES or COMMENT. Or its text has more than 32,000
 bytes, or one outside 20 to 7E (hexadecimal). Or a property before it has
 its name, or 64 are before it.
-What to do: give another name or text, or fewer properties.
+What to do: give another name, another text of printable ASCII characters, or
+fewer properties.
 ";
 
 const REFUSAL_64: &str = "64 BadMode: only in the C library: the mode has a bit that the call does

@@ -36,8 +36,10 @@ impl Refusal {
             Refusal::BadChars => {
                 "give hexadecimal numbers and ranges joined by commas, such as 20-7e,a0"
             }
-            Refusal::BadName => "give another name",
-            Refusal::BadProperty(_) => "give another name or text, or fewer properties",
+            Refusal::BadName =>
+                "give a name of 1 to 255 printable ASCII characters, no space first or last",
+            Refusal::BadProperty(_) =>
+                "give another name, another text of printable ASCII characters, or fewer properties",
             Refusal::WriteFailed(_) =>
                 "free disk space, or check the program that reads the output, and try again",
             Refusal::ReadFailed => "check the device or pipe that the input comes from",
