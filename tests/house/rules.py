@@ -12,7 +12,7 @@ import re
 from prebuilt import libraries_of_crates, structs_of_header
 
 # What is left of older times: how many findings of a rule there may be. A number here only ever goes down.
-LEFT = {"lines_short": 3, "lemmas_named_once": 1, "lemmas_used": 1, "twice": 3}
+LEFT = {"lines_short": 3, "lemmas_named_once": 1, "heads_name": 79, "twice": 3}
 
 # The crates below `fx_raster` and the types by which they find pixels: `fx_strike` names none of them.
 RASTER = re.compile(r"\b(fx_winding|fx_rows|fx_dropout|fx_contour|Pieces|Noted|Tally)\b")
@@ -80,6 +80,8 @@ ANY_PATH = re.compile(r"\b[A-Z]{2,}\b(?!\.md)")
 MADE_PATH = re.compile(r"(^|/)(out|usr|dev|etc|proc)(/|$)")
 # A lemma's first line, which is no answer to a goal; a word of a proof.
 LEMMA = r"(?:abbrev |unfoldable )?(pub )?([^\s(){}:◌]+) : (?!goal\.)"
+# What a file of lemmas has, at any depth: what it declares, and the first that it hands on.
+OWN = r"^ *(?:pub use .*\{|(?:pub )?(?:abbrev |unfoldable |data |record )?(?:pub )?)([\w'-]+)"
 WORD = re.compile(r"[^\s(){}\[\],;:.|←]+")
 SHOWN = re.compile(r"(crates|tests|tools|packaging|bin|bench|docs)/[\w./-]+$")
 
@@ -540,6 +542,19 @@ def heads_current(house):
             yield from ((path, number, "there is no %s" % it) for it in re.findall(r"`(\w+)`", line) if it not in known)
 
 
+def heads_name(house):
+    """The head of a lemma file names what the file shows: a lemma of the file, in backticks, before what it serves.
+
+    A reader finds a file by what it proves. A subject alone, as "boxes", leaves all lemmas to be read."""
+    for path in house.paths("crates/*/proofs/*.antt"):
+        text = house.text(path)
+        head = re.match(r"(?:--.*\n)*", text).group()
+        shown = re.split(r"^-- (?:It serves|Serves|For) ", head, flags=re.MULTILINE)[0]
+        own = set(re.findall(OWN, text, re.MULTILINE))
+        if not path.endswith("/Lib.antt") and not own & set(re.findall(r"`([\w'-]+)`", shown)):
+            yield path, 1, "the head names no lemma of the file"
+
+
 def edits_apply(house):
     """What an edit that must fail replaces is in its file exactly once.
 
@@ -699,5 +714,6 @@ def doors(house):
 RULES = {name: globals()[name] for name in """
     loops_labelled loops_explained functions_documented lines_short lines_of_python suite_alone slashes prover_statements
     words definitions_listed paths anchors names stands_on files_are_files raster_by_its_door counts refusals header
-    proofs_have_functions lemmas_named_once lemmas_used heads_current edits_apply twice readme_short sentences_short idioms doors
+    proofs_have_functions lemmas_named_once lemmas_used heads_current heads_name edits_apply twice readme_short sentences_short
+    idioms doors
 """.split()}

@@ -44,7 +44,7 @@ fn added(one: u32, other: u32) -> u32 {
 """,
     "crates/fx_one/specs/Sums.antt": "-- Sums.\npub sum_of : List ℕ → ℕ\n",
     "crates/fx_one/proofs/sum/sum/Invariants.antt": "-- what is added up\n",
-    "crates/fx_one/proofs/Sums.antt": "-- a sum\npub total_least : ℕ → ℕ\ntotal_least n = total_more n\n\n"
+    "crates/fx_one/proofs/Sums.antt": "-- a sum: `total_least`\npub total_least : ℕ → ℕ\ntotal_least n = total_more n\n\n"
     "total_more : ℕ → ℕ\ntotal_more n = n\n",
     "crates/fx_one/proofs/sum/sum/Answers.antt": "pub returns : goal.returns\nreturns c = total_least c\n",
     "crates/fx_request/src/refusal.rt": """//! Refusals.
@@ -166,7 +166,8 @@ PLANTED = [
     ("proofs_have_functions", "crates/fx_one/proofs/sum/Sums/sum/Answers.antt", "", "-- of a type that is not there\n"),
     ("lemmas_named_once", "crates/fx_one/proofs/Totals.antt", "", "pub total_least : ℕ\ntotal_least = total_more\n"),
     ("lemmas_used", "crates/fx_one/proofs/sum/sum/Answers.antt", "total_least c", "refl"),
-    ("heads_current", "crates/fx_one/proofs/Sums.antt", "-- a sum\n", "-- a sum: `total_most`\n"),
+    ("heads_current", "crates/fx_one/proofs/Sums.antt", "-- a sum: `total_least`\n", "-- a sum: `total_least`, `total_most`\n"),
+    ("heads_name", "crates/fx_one/proofs/Sums.antt", "-- a sum: `total_least`\n", "-- a sum\n-- Serves `total_least`.\n"),
     ("edits_apply", "crates/fx_one/src/sum.rt", "saturating_add", "wrapping_add"),
     ("edits_apply", "crates/fx_one/planted/none.edit", "old: 'numbers", "old: 'figures"),
     ("edits_apply", "crates/fx_one/planted/none.edit", "old: ", "older: "),

@@ -1,4 +1,4 @@
--- Cases of numbers and of tests.
+-- A number is below another or not (`split`), and a test that is not set is false (`not_set`).
 -- Serves the other files here.
 use Rattle.std.proofs.Common.{◌≡◌, ℕ, ◌<◌, ◌≤◌, Bool, true, false, refl, nat_lt}
 use Rattle.std.proofs.lemmas.Bool.{ltb-true, ltb-false}

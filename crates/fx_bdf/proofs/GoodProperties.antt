@@ -1,4 +1,4 @@
--- The first bad property, one property after another; and how long the lines of good ones are.
+-- A property that may not follow those before it is the first bad one (`left_bad`); good ones are short: `properties_long`.
 -- Serves `first_bad`, `write_header` and `all_properties`.
 use Rattle.std.proofs.Common.{◌≡◌, ◌∙◌, ℕ, ◌+◌, ◌<◌, ◌≤◌, ℤ, pos, negsuc, Bool, true, false, List, [], ◌∷◌, ◌++◌, length, take, drop}
 use Rattle.std.proofs.Common.{get_or, refl, sym, ap, ap₂, arith, Option, Some, None, length-append}

@@ -1,4 +1,4 @@
--- The lines before the glyphs, and how long they are.
+-- The lines before the glyphs are no longer than the longest header: `header_long`.
 -- Serves `write_header`.
 use Rattle.std.proofs.Common.{◌≡◌, ℕ, ◌≤◌, List, ◌++◌, length, refl, ap, arith, length-append}
 use Rattle.std.proofs.lemmas.List.{length-map}

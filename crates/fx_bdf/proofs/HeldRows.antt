@@ -1,4 +1,4 @@
--- The rows of a box in the words of a bitmap.
+-- The rows of a box that words of a bitmap hold are the rows of its bits: `held_rows_are`.
 -- Serves `BoxRows`.
 use Rattle.std.proofs.Common.{◌≡◌, ◌⊎◌, ℕ, ◌+◌, ◌-◌, ◌*◌, ◌/◌, ◌%◌, ◌<◌, ◌≤◌, pos, ◌+ℤ◌, ◌≤ℤ◌, List, [], length, get_or}
 use Rattle.std.proofs.Common.{ap, sym, ◌∙◌, refl, false, inl, inr, arith}

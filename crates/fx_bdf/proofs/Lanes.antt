@@ -1,4 +1,4 @@
--- Digits in the lanes of a vector: each byte of a word stands in two neighbouring lanes.
+-- The lanes of two words are their digits, since each byte stands in two neighbouring lanes: `pair_text`.
 -- Serves the digits of a word.
 use Rattle.std.proofs.Common.{◌≡◌, ℕ, zero, suc, ◌+◌, ◌*◌, ◌/◌, ◌%◌, ◌^◌, ◌<◌, List, [], ◌∷◌, ◌++◌, true, ap, ◌∙◌, refl, arith}
 use Rattle.std.proofs.Common.{nat_lt}

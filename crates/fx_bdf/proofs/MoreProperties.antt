@@ -1,4 +1,4 @@
--- The properties of X11 before given ones, and how long they are.
+-- The properties of X11 before given ones make lines that are short enough: `lines_with_x11`.
 -- Serves `fields_from`, `push_untaken`, `x11_properties` and `all_properties`.
 use Rattle.std.proofs.Common.{◌≡◌, ℕ, ◌^◌, ◌<◌, ◌≤◌, zero, suc, Bool, true, not, List, length, arith, ℤ, pos, negsuc}
 use Rattle.std.proofs.Common.{FitsSigned, w32, length-append}

@@ -1,4 +1,4 @@
--- Rows of pixels in words, from any bit on.
+-- Two words, joined and shifted, have 32 bits of a row that begins at any bit: `word_of_row`.
 -- Serves the rows of a glyph and their digits.
 use Rattle.std.proofs.Common.{◌≡◌, sym, ap, ◌∙◌, ℕ, zero, suc, ◌+◌, ◌-◌, ◌*◌, ◌/◌, ◌%◌, ◌<◌, ◌≤◌, false, List, length, take, drop}
 use Rattle.std.proofs.Common.{refl, get_or, arith, length-drop, get_or-drop, get_or-take}

@@ -1,4 +1,4 @@
--- Lines of rows written over the bytes of a buffer.
+-- The lines of some rows, written over the bytes of a buffer, are added to the text: `adds_lines`.
 -- Serves `put_words`, the lines of rows and `add_rows`.
 use Rattle.std.proofs.Common.{◌≡◌, ℕ, suc, ◌+◌, ◌-◌, ◌*◌, ◌/◌, ◌<◌, ◌≤◌, refl, List, [], ◌∷◌, ◌++◌, Bool, length}
 use Rattle.std.proofs.Common.{take, drop, get_or, sym, ap, ◌∙◌, arith}

@@ -1,4 +1,4 @@
--- All characters of a font's map.
+-- The codes with a glyph, put one after the other, are all characters of the map: `filled_all`.
 -- Serves `mapped_below`.
 use Rattle.std.proofs.Common.{◌≡◌, ◌∙◌, ◌⊎◌, inl, inr, refl, sym, ap, subst, arith, ℕ, zero, suc, ◌+◌, ◌-◌, ◌==◌, ◌<◌, ◌≤◌, nat_le}
 use Rattle.std.proofs.Common.{Bool, true, false, List, [], ◌∷◌, ◌++◌, length, take, drop, set, length-append, add-one, add-zero}

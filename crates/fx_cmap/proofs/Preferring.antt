@@ -1,4 +1,4 @@
--- A candidate that has a subtable is passed over only for those before it.
+-- A candidate that has a subtable is passed over only for those before it: `gives_way`.
 -- It serves the law `preferences`.
 use Rattle.std.proofs.Common.{◌≡◌, ℕ, zero, suc, ◌<◌, Bool, true, false, List, [], ◌∷◌, ◌++◌, length, drop, refl, sym, ap, ◌∙◌, subst, arith}
 use Rattle.std.proofs.Common.{Option, Some, None, option_map, slice_index_or, inl, inr}

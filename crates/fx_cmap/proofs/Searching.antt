@@ -1,4 +1,4 @@
--- Codes in order, and the ranges that have them as their last codes.
+-- The first range whose last code is not below a code is the one that counts for it: `found_by_number`.
 -- For `Codes`, `RisingCodes`, and the `find` and `gap_end` of segments and groups.
 use Rattle.std.proofs.Common.{◌≡◌, ℕ, zero, suc, ◌+◌, ◌*◌, ◌<◌, ◌≤◌, Bool, true, false, cond, nat_lt, nat_le, List, [], ◌∷◌}
 use Rattle.std.proofs.Common.{Option, Some, None, option_map, length, map, get_or, slice_get, not, refl, sym, ap, ◌∙◌, arith}

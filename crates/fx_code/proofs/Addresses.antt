@@ -1,4 +1,4 @@
--- The addresses of a listing are those of the chain.
+-- The addresses of a listing are those of the chain: `addresses_of_are_addresses`. No other list is: `addresses_are_one`.
 -- Serves `laws::addresses_are_one` and `laws::addresses_of_are_addresses`, and Lines.
 use Rattle.std.proofs.Common.{◌≡◌, inl, inr, ℕ, zero, suc, ◌-◌, ◌<◌, ◌≤◌, List, [], ◌∷◌, length, refl, arith}
 use Rattle.std.proofs.lemmas.Bool.{cases_lt, lt-ltb, le-ltb}

@@ -1,4 +1,4 @@
--- A skip has a result, and past_of gives it: the search from address to address finds the first match, or there is none.
+-- A skip has a result, the first match of the search from address to address or none: `past_is`, `past_definition_is`.
 -- Serves the skips and their laws.
 use Rattle.std.proofs.Common.{◌≡◌, inl, inr, ℕ, zero, suc, ◌-◌, ◌≤◌, Bool, true, false, nat_le, List, length, Option, Some, None}
 use Rattle.std.proofs.Common.{Result, MatchOption, arith, refl, rules}

@@ -1,4 +1,4 @@
--- The chain read from its front, for a search along it.
+-- A member of the chain is found from its front, one instruction after the other: `member_onward`.
 -- Serves `find`, `listing` and the laws.
 use Rattle.std.proofs.Common.{◌≡◌, ◌⊎◌, inl, inr, ℕ, ◌+◌, ◌-◌, ◌<◌, ◌≤◌, Bool, false, List, length, drop, arith}
 use Rattle.std.proofs.Math.Nat.{le_refl}

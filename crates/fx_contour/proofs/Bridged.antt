@@ -1,4 +1,4 @@
--- The frame with drop-out control has a pixel of each gap.
+-- The frame with drop-out control has a pixel of each gap: `met_rows_are_kept`, `met_columns_are_kept`.
 -- For the law `dropout`.
 use Rattle.std.proofs.Common.{◌≡◌, ◌⊎◌, inl, inr, refl, ℤ, pos, ◌+ℤ◌, ◌*ℤ◌, ◌≤ℤ◌, ◌<ℤ◌, List, [], ◌∷◌, map, Any, arith}
 use Rattle.fx_fixed.proofs.Linear.{signed}

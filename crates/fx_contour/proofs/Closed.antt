@@ -1,4 +1,4 @@
--- The curve of a contour is a closed chain, and the one by midpoints.
+-- The curve of a contour is a closed chain (`closed`), the one that goes by midpoints (`by_midpoints`).
 -- For the laws of `laws.rt`, and for the clause `closed` of `pieces`.
 use Rattle.std.proofs.Common.{◌≡◌, refl, sym, subst, ℤ, pos, Bool, List, [], ◌∷◌, ◌++◌, map, Option, Some, None, arith}
 use Rattle.std.proofs.Common.{option_to_list}

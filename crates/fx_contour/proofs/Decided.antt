@@ -1,4 +1,4 @@
--- The tests decide the facts that they test.
+-- The tests of an outline's limits decide the facts that they test: `reach_is_tested`, `large_is_tested`.
 -- For the clauses `exact` of `pieces` and `frame`, and for the law `tested`.
 use Rattle.std.proofs.Common.{◌≡◌, ◌↔◌, IsTrue, refl, sym, inl, inr, ℤ, pos, negsuc, neg_ℤ, ◌+ℤ◌, ◌*ℤ◌, ◌≤ℤ◌, int_le, ℕ, ◌⊎◌}
 use Rattle.std.proofs.Common.{Bool, true, false, ◌&&◌, List, [], ◌∷◌, Option, All, Result, Ok, Err, Decides, IfOk, IfErr, arith}

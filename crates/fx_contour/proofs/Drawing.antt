@@ -1,4 +1,4 @@
--- The curves of an outline reach as far as its points do, if each contour has two points or more.
+-- Curves reach as far as their points do, if each contour has two points or more: `curves_reach`.
 -- For `Extent::of_curves`, `PieceBounds::of_outline`, and the limit in `are_in_reach` and `outline_frame`.
 use Rattle.std.proofs.Common.{subst, ℕ, zero, drop, take, length, neg_ℤ, ◌*ℤ◌, ◌≤ℤ◌, List, Option, arith, drop_of_length-le, IsTrue}
 use Rattle.std.proofs.Common.{◌≡◌, ap, ◌∙◌, suc, ◌+◌, ◌-◌, ◌≤◌, map, ◌⊎◌, inl, inr, ℤ, pos, [], ◌∷◌, None, ◌↔◌, All, Bool}

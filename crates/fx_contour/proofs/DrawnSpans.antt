@@ -1,4 +1,4 @@
--- What an outline within the limits draws.
+-- An outline within the limits draws the spans of its contours: `drawn_spans`.
 -- For the laws of moved and reversed outlines.
 use Rattle.std.proofs.Common.{◌≡◌, refl, true, List, Ok, ℕ, arith}
 use Rattle.std.specs.List.{list_all}

@@ -1,4 +1,4 @@
--- The frame with drop-out control from the bounding box.
+-- The pixels that the bounding box keeps make the frame with drop-out control: `dropout_frame_is`.
 -- For `dropout_frame_around`.
 use Rattle.std.proofs.Common.{◌≡◌, ◌⊎◌, ◌↔◌, inl, inr, refl, subst, IsTrue, ◌<◌, ◌≤◌, ℤ, pos, ◌+ℤ◌, ◌-ℤ◌, ◌≤ℤ◌, Bool, true}
 use Rattle.std.proofs.Common.{false, ◌||◌, not, List, [], ◌∷◌, Option, Some, None, Ok, Err, arith}

@@ -1,4 +1,4 @@
--- The extent of points, and of the contours of an outline, contour by contour.
+-- The extent grows to hold points (`grown_more`), and contour by contour to that of the outline: `enclosed_end`.
 -- For `Extent::with_points`, `Extent::of`, `Extent::with_contour` and `Extent::of_contours`.
 use Rattle.std.proofs.Common.{◌≡◌, sym, subst, ℕ, ◌+◌, ◌-◌, ◌<◌, ◌≤◌, drop, take, length, map, get_or, ◌⊎◌}
 use Rattle.std.proofs.Common.{inl, inr, ℤ, List, ◌∷◌, ◌++◌, Option, None, ◌↔◌, drop_of_length-le, arith}

@@ -1,4 +1,4 @@
--- The least and the greatest coordinate of the points of spans.
+-- The least and the greatest coordinate of spans are reached by their points, and pass none: `least_reaches`, `greatest_reaches`.
 -- For `dropout_frame_around`, the law `dropout`, and moved outlines in `fx_symmetry`.
 use Rattle.std.proofs.Common.{◌≡◌, ◌⊎◌, inl, inr, refl, ℤ, ◌≤ℤ◌, neg_ℤ, List, [], ◌∷◌, ◌↔◌, arith}
 use Rattle.std.proofs.lemmas.Int.{ints}

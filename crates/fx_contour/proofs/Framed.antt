@@ -1,4 +1,4 @@
--- The frame from the bounding box.
+-- The pixels whose centres lie in the bounding box make the frame: `is_frame`.
 -- For the clauses of `frame`.
 use Rattle.std.proofs.Common.{◌≡◌, ◌⊎◌, subst, ℕ, ◌<◌, ◌≤◌, inl, inr, ℤ, pos, ◌+ℤ◌, List, arith, ◌↔◌}
 use Rattle.fx_fixed.proofs.Linear.{signed_linear}

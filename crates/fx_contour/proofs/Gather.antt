@@ -1,4 +1,4 @@
--- The contours of an outline, one after the other.
+-- The pieces of the contours so far, and at the end of all, are those of the outline: `gather_more`, `gather_end`.
 -- For the loop of `pieces`.
 use Rattle.std.proofs.Common.{◌≡◌, sym, subst, ◌∙◌, ℕ, ◌+◌, ◌-◌, ◌<◌, ◌≤◌, List, ◌∷◌, ◌++◌, map, drop, take}
 use Rattle.std.proofs.Common.{length, get_or, append_assoc, drop_of_length-le, arith}

@@ -1,4 +1,4 @@
--- Bounding boxes, point by point.
+-- A bounding box grows by a span's points (`span_grows`), and after all pieces bounds them: `remains_end`.
 -- For `PieceBounds` and `Extent` and their loops.
 use Rattle.std.proofs.Common.{◌≡◌, subst, ℕ, ◌+◌, ◌<◌, ◌≤◌, drop, length, map, get_or, ◌⊎◌, inl, inr}
 use Rattle.std.proofs.Common.{ℤ, pos, ◌*ℤ◌, ◌≤ℤ◌, List, [], ◌∷◌, Option, None, IsSomeAnd, drop_of_length-le, arith, ◌↔◌}

@@ -1,4 +1,4 @@
--- The bounding box of the curve of a contour is that of its points: its other points lie half way between two of them.
+-- A curve reaches as far as its contour's points: its other points lie half way between two of them: `hull_of`.
 -- For `Extent::with_contour` and `Extent::of_curves`.
 use Rattle.std.proofs.Common.{◌≡◌, ◌⊎◌, inl, inr, ℤ, Bool, true, false, List, [], ◌∷◌, ◌++◌, Option, Some, refl}
 use Rattle.std.proofs.Common.{length, ◌≤◌, sym, subst, arith, option_to_list, ◌↔◌}

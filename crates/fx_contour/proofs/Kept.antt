@@ -1,4 +1,4 @@
--- The columns and rows that drop-out control keeps.
+-- Drop-out control keeps the columns and rows whose centres are in the box, else the middle one: `kept_pixels`, `kept_alone`.
 -- For `Pixels::kept`, `dropout_frame_around` and the law `dropout`.
 use Rattle.std.proofs.Common.{◌≡◌, ◌⊎◌, ◌↔◌, inl, inr, subst, ℤ, pos, negsuc, ◌+ℤ◌, ◌-ℤ◌, ◌*ℤ◌, ◌≤ℤ◌}
 use Rattle.std.proofs.Common.{◌<ℤ◌, int_le, List, [], ◌∷◌, Option, Decides, arith}

@@ -1,4 +1,4 @@
--- The pieces of an outline whose points are moved, where the places of its curve move along.
+-- An outline whose points are moved draws its pieces moved, if the places of its curve move along: `drawn_moved`.
 -- Serves the law `shift`, and the laws of `fx_symmetry`.
 use Rattle.std.proofs.Common.{◌≡◌, refl, sym, ap, ◌∙◌, Bool, true, false, ℕ, ◌+◌, List, [], ◌∷◌, ◌++◌, arith}
 use Rattle.std.proofs.Common.{Option, Some, None, map, option_map, option_to_list, if◌then◌else◌, Ok}

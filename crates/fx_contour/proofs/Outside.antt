@@ -1,4 +1,4 @@
--- A pixel outside the frame is not covered, since a place that is covered is in the bounding box.
+-- A pixel outside the frame is not covered (`nothing_outside_frame`): a covered place is in the bounding box (`in_box`).
 -- For the clause `outside` of `frame`.
 use Rattle.std.proofs.Common.{subst, ◌⊎◌, inl, inr, ◌≤ℤ◌, ◌<ℤ◌, List, [], ◌∷◌, Option, Some, None, All, arith}
 use Rattle.std.proofs.lemmas.List.Elements.{All-nil, All-cons}

@@ -1,4 +1,4 @@
--- The pieces of an outline whose contours are reversed are its pieces reversed, in another order.
+-- The pieces of an outline with reversed contours are its pieces reversed, in another order: `reversal_reverses_spans`.
 -- For the law `reversal`.
 use Rattle.std.proofs.Common.{◌≡◌, refl, sym, ap, ◌∙◌, subst, ℤ, Bool, ℕ, ◌+◌, ◌-◌, ◌≤◌, List, []}
 use Rattle.std.proofs.Common.{◌∷◌, ◌++◌, Option, Some, None, All, map, take, drop, length, option_to_list, append_assoc, arith}

@@ -1,4 +1,4 @@
--- The pieces of a moved outline are its pieces moved.
+-- The pieces of an outline that is moved are its pieces moved: `shift_moves_spans`.
 -- For the law `shift`.
 use Rattle.std.proofs.Common.{◌≡◌, subst, ◌↔◌, ℤ, pos, ◌+ℤ◌, ◌*ℤ◌, [], ◌∷◌, arith}
 use Rattle.fx_fixed.specs.Polynomial.{var, num, ◌⊞◌, ◌⊠◌}

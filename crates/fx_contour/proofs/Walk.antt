@@ -1,4 +1,4 @@
--- A walk along a contour adds its pieces.
+-- A walk along a contour adds a piece for each point: `walk_more`.
 -- For the loop of `add_contour`.
 use Rattle.std.proofs.Common.{◌≡◌, refl, sym, ap, subst, ◌∙◌, ℕ, ◌+◌, ◌<◌, ◌≤◌, List, [], ◌∷◌, ◌++◌, All, map, drop}
 use Rattle.std.proofs.Common.{length, get_or, arith, Option, Some, None, option_map, option_to_list, append_assoc, length-append}

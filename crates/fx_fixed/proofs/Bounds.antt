@@ -1,4 +1,4 @@
--- A product is no larger than the product of the bounds of its factors, so that numbers of twice the bits hold it.
+-- A product is no larger than the product of its factors' bounds, so numbers of twice the bits hold it: `product_size`.
 -- For `product` and `wide_product`, and for products of signed numbers in all crates.
 use Rattle.std.proofs.Common.{◌≡◌, ℕ, ◌*◌, ◌<◌, ◌≤◌, ◌^◌, ℤ, pos, negsuc, ◌*ℤ◌, unsigned_abs, mul-le-mul, FitsSigned, to_z, of_z, arith}
 use Rattle.std.specs.Int.{Width}

@@ -1,4 +1,4 @@
--- Chains of checks: what continued was not refused, and what was refused names its fault.
+-- What continued after a check was not refused, and what was refused names its fault: `refuse_then`, `bind_then`, `bind_ok`.
 -- For proofs that take a chain apart, step by step, from its result.
 use Rattle.std.proofs.Common.{◌≡◌, Bool, true, false, Result, Ok, Err, Option, Some, None, refl}
 use Rattle.fx_fixed.specs.Chain.{◌>>=◌, refuse, wanted, map_ok, map_fault}

@@ -1,4 +1,4 @@
--- Digits that are put from the last to the first.
+-- Digits put from the last to the first are the number's text: `digit_more` puts one more, `digit_first` the first.
 -- Serves `put_decimal` and `put_signed`, which write before what a buffer has from an offset on.
 use Rattle.std.proofs.Common.{◌≡◌, ◌+◌, ◌-◌, ◌*◌, ◌/◌, ◌%◌, ◌^◌, ◌<◌, ◌≤◌, ◌++◌, ◌∷◌, [], zero, suc, length, drop, sym, ap, ◌∙◌}
 use Rattle.std.proofs.Common.{arith, List, ℕ, append_assoc, length-append, length-drop, subst, lit<, ℤ, pos, negsuc, unsigned_abs, ◌<ℤ◌, ◌≤ℤ◌, FitsSigned, to_z}

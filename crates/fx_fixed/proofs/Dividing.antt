@@ -1,4 +1,4 @@
--- A rounded quotient is no larger than what is divided.
+-- A rounded quotient is no larger than what is divided: `size_bound`.
 -- It serves `near_quotient`.
 use Rattle.std.proofs.Common.{◌≢◌, ℕ, zero, suc, ◌≤◌, pos, arith}
 use Rattle.std.proofs.lemmas.Int.{ints}

@@ -1,4 +1,4 @@
--- The greatest number of a kind: there is only one, and a search from above finds it.
+-- Of two greatest numbers neither is less (`greatest_below`), and a search from above finds one: `passing`.
 -- For the uniqueness of `unit`.
 use Rattle.std.proofs.Common.{◌≡◌, ◌≢◌, ℕ, zero, suc, ◌≤◌, Bool, true, false, cond, arith, refl, sym, ◌∙◌, ap}
 use Rattle.fx_fixed.specs.Greatest.{IsGreatestOrZero, greatest_passing}
@@ -7,10 +7,6 @@ use Rattle.fx_fixed.specs.Greatest.{IsGreatestOrZero, greatest_passing}
 pub greatest_below : (P : ℕ → Type 0) (c d : ℕ) → IsGreatestOrZero P c → IsGreatestOrZero P d → c ≤ d
 greatest_below P zero d g h = omega arith
 greatest_below P (suc c) d g h = h.greatest (suc c) (g.member (omega arith))
-
--- so they are one
-pub greatest_one : (P : ℕ → Type 0) (c d : ℕ) → IsGreatestOrZero P c → IsGreatestOrZero P d → c ≡ d
-greatest_one P c d g h = omega (arith, greatest_below P c d g h, greatest_below P d c h g)
 
 -- g is the greatest number up to n that passes, or 0
 pub record Passing (test : ℕ → Bool) (n g : ℕ) : Type 0 where

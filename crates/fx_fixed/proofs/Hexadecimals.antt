@@ -1,4 +1,4 @@
--- Hexadecimal digits that are put from the last to the first, and zeros before them.
+-- Hexadecimal digits put from the last to the first, and zeros before them, are the number's text: `hex_all`.
 -- Serves `put_hexadecimal`, which writes before what a buffer has from an offset on.
 use Rattle.std.proofs.Common.{◌≡◌, ◌+◌, ◌-◌, ◌/◌, ◌%◌, ◌<◌, ◌≤◌, ◌++◌, ◌∷◌, [], zero, suc, length, length-drop, drop, replicate}
 use Rattle.std.proofs.Common.{sym, ap, ◌∙◌, arith, List, ℕ, Bool, true, false, refl, if◌then◌else◌, ◌==◌, append_assoc, length-append}

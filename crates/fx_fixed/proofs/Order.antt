@@ -1,4 +1,4 @@
--- Which of two numbers is the lesser one.
+-- Of two numbers one is below the other or not: `below_or_not`, `below_same_above`.
 -- For splits by cases, in all crates.
 use Rattle.std.proofs.Common.{◌≡◌, ◌⊎◌, ℕ, ◌≤◌, ◌<◌, ℤ, ◌≤ℤ◌, ◌<ℤ◌, arith}
 use Rattle.std.proofs.lemmas.Int.{ints}

@@ -1,4 +1,4 @@
--- Identities of polynomials: two expressions with one normal form have one value.
+-- Two polynomials with one normal form have one value: `ring`.
 -- For products of signed numbers, in all crates.
 use Rattle.std.proofs.Common.{◌≡◌, refl, sym, ap, ◌∙◌, subst, ℕ, zero, suc, ◌*◌, ℤ, pos, negsuc, ◌+ℤ◌, ◌-ℤ◌, ◌*ℤ◌, neg_ℤ, List, []}
 use Rattle.std.proofs.Common.{◌∷◌, Bool, true, false, cond, ◌&&◌, eqb, leb, T, arith}

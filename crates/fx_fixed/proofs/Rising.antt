@@ -1,4 +1,4 @@
--- Lists of numbers that rise, by recursion and in std's words: two with the same members are one.
+-- Two lists that rise and have the same members are one: `increasing_one`.
 -- For lists of code points in rising order, in the crates above.
 use Rattle.std.proofs.Common.{◌≡◌, ◌⊎◌, inl, inr, refl, sym, ap, ◌∙◌, subst, arith, ℕ, zero, suc, ◌+◌, ◌<◌, List, [], ◌∷◌, length}
 use Rattle.std.proofs.Common.{get_or}

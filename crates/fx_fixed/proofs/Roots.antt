@@ -1,4 +1,4 @@
--- Square roots as whole numbers, and the sizes that a unit vector's component may have.
+-- A component's greatest size follows from the square root as a whole number: `admitted_by_root`.
 -- For `root` and `greatest`.
 use Rattle.std.proofs.Common.{◌≡◌, ◌≢◌, ℕ, ◌+◌, ◌-◌, ◌*◌, ◌/◌, ◌^◌, ◌<◌, ◌≤◌, inl, inr, ap, arith}
 use Rattle.std.proofs.Math.Nat.{mul-le-mul, mul-le-mul_right, le-div_iff_mul-le, div-mul-le_self}

@@ -1,4 +1,4 @@
--- Bytes added to a text, one part after another.
+-- Bytes that were added to a text, one part after another, are added as one: `sent`, `pushed`.
 -- Serves `TextWriter`, and all that write through one.
 use Rattle.std.proofs.Common.{◌≡◌, ℕ, ◌+◌, ◌<◌, ◌≤◌, List, [], ◌++◌, length, take, Option, Result, Ok, Err}
 use Rattle.std.proofs.Common.{sym, refl, ap, ◌∙◌, subst, append_assoc, append-nil, length-append, arith, IfErr}

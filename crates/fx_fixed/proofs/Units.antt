@@ -1,4 +1,4 @@
--- A direction has one unit vector, and it is the function's.
+-- A direction has one unit vector, the function's: `same_unit`, `unit_of_is_unit`.
 -- For `unit`, and the laws of its definitions.
 use Rattle.std.proofs.Common.{◌≡◌, ◌≢◌, ℕ, zero, suc, ◌-◌, ◌*◌, ◌<◌, ◌≤◌, Bool, true, false, cond, nat_eq, arith, ℤ, pos, negsuc}
 use Rattle.std.proofs.Common.{neg_ℤ, ◌≤ℤ◌, ◌<ℤ◌, unsigned_abs, refl, sym, ◌∙◌}

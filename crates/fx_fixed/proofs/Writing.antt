@@ -1,4 +1,4 @@
--- Pieces on their way to a sink.
+-- The fronts of a piece that a sink took, one after the other, are a front of the piece: `taken_more`.
 -- Serves `put_all`, `TextWriter::add`, and all that add pieces in turn.
 use Rattle.std.proofs.Common.{refl, [], ◌∷◌, zero, suc, drop, get_or, ◌≡◌, ℕ, ◌+◌, ◌-◌, ◌*◌, ◌<◌, ◌≤◌, ◌++◌, List, length, take}
 use Rattle.std.proofs.Common.{length-drop, sym, ap, ◌∙◌, arith, subst, append_assoc, append-nil, length-append, All, Option}

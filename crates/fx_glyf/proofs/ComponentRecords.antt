@@ -1,4 +1,4 @@
--- Component records, one at a time.
+-- The component at the front of the bytes, and the components after it, are the list: `components_at`.
 -- For `next_component`, `skip_components` and the iterator `Components`.
 use Rattle.std.proofs.Common.{◌≡◌, ℕ, zero, suc, ◌+◌, ◌-◌, ◌<◌, ◌≤◌, Bool, true, false, List, [], ◌∷◌, length, take, drop, Option}
 use Rattle.std.proofs.Common.{Some, None, refl, sym, ap, ◌∙◌, arith, length-drop}

@@ -1,4 +1,4 @@
--- Reading component records against the grammar, both ways.
+-- Bytes are read as the components that the grammar describes, both ways: `found_components`, `only_components`.
 -- For the clauses of `read` on composites.
 use Rattle.std.proofs.Common.{◌≡◌, ℕ, zero, suc, ◌+◌, ◌≤◌, Bool, true, false, List, [], ◌∷◌, ◌++◌, length, take, Some}
 use Rattle.std.proofs.Common.{refl, sym, ap, ◌∙◌, arith, subst, append_assoc, length-append}

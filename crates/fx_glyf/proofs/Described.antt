@@ -1,4 +1,4 @@
--- Glyphs against the grammar, both ways.
+-- Bytes are read as the glyph that the grammar describes, both ways: `found_glyph`, `only_glyph`.
 -- For the clauses of `read`.
 use Rattle.std.proofs.Common.{◌≡◌, ℕ, zero, suc, ◌+◌, ◌-◌, ◌*◌, ◌<◌, ◌≤◌, Bool, true, false, List, [], ◌∷◌, ◌++◌, length, take}
 use Rattle.std.proofs.Common.{drop, cond, Some, Result, Ok, Err, inl, inr, refl, sym, ap, ◌∙◌, arith, subst, length-append}

@@ -1,4 +1,4 @@
--- End points, one at a time, and what they tell.
+-- End points are counted exactly if they do not fall: `ends_counted`, `ends_count`.
 -- For `count_points` and `Simple::ends`, and for the crates above that walk over contours.
 use Rattle.std.proofs.Common.{◌≡◌, ℕ, suc, ◌+◌, ◌<◌, ◌≤◌, Bool, true, false, List, [], ◌∷◌, drop, cond, Option, Some, None, refl, arith}
 use Rattle.std.proofs.Common.{ap, ◌∙◌}

@@ -1,4 +1,4 @@
--- The table of how many bytes deltas take.
+-- The table has for each flag how many bytes its deltas take: `sizes_at`.
 -- For `sizes_of`.
 use Rattle.std.proofs.Common.{◌≡◌, ℕ, zero, suc, ◌-◌, ◌/◌, ◌%◌, ◌<◌, ◌≤◌, ◌&&◌, Bool, true, T, eqb, get_or, arith, inl, inr}
 use Rattle.std.proofs.Common.{eq-zero-or-pos, eqb→eq, cond}

@@ -1,4 +1,4 @@
--- Flags and deltas that bytes are known to hold: how many bytes they take, and which they are.
+-- Bytes that hold a flag or a delta are long enough for it: `flag_held`, `delta_held`.
 -- For `next_flag`, `moved` and the iterators over flags and points.
 use Rattle.std.proofs.Common.{◌≡◌, ◌∙◌, ℕ, zero, suc, ◌+◌, ◌-◌, ◌<◌, ◌≤◌, ◌%◌, List, [], ◌∷◌, length, drop, get_or}
 use Rattle.std.proofs.Common.{Option, Some, None}

@@ -1,4 +1,4 @@
--- When the bytes of a glyph's points are complete.
+-- The points' bytes are complete exactly if flags, x deltas and y deltas are: `all_there`, `no_flags`, `no_xs`, `no_ys`.
 -- For `PointBytes::read` and what it keeps.
 use Rattle.std.proofs.Common.{◌≡◌, ℕ, zero, suc, List, [], ◌∷◌, length, Option, Some, None, refl, sym, ap, ◌∙◌, arith}
 use Rattle.std.proofs.lemmas.Option.{option_and_then_some, same_Some}

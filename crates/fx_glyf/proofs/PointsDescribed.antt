@@ -1,4 +1,4 @@
--- Reading the points of a simple glyph against the grammar, both ways.
+-- Bytes are read as the points that the grammar describes, both ways: `found_points`, `only_points`.
 -- For the clauses of `read` on simple glyphs.
 use Rattle.std.proofs.Common.{◌≡◌, ℕ, zero, suc, ◌-◌, ◌<◌, ◌≤◌, Bool, true, false, List, [], ◌∷◌, ◌++◌, length, take, drop}
 use Rattle.std.proofs.Common.{replicate, Some, None, cond, refl, sym, ap, ◌∙◌, arith, subst, append_assoc}

@@ -1,4 +1,4 @@
--- A header and a program against the grammar, both ways.
+-- A header and a program are read as the grammar describes them: `found_header`, `found_program`, `only_program`.
 -- For the clauses of `read`.
 use Rattle.std.proofs.Common.{◌≡◌, ℕ, ◌≤◌, List, ◌++◌, length, take, drop, Some, refl, sym, ap, ◌∙◌, arith, subst}
 use Rattle.std.proofs.Common.{append_assoc, length-append}

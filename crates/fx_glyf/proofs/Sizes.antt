@@ -1,4 +1,4 @@
--- The bytes of points are complete exactly when there are as many as their flags say.
+-- Deltas are complete exactly if there are as many bytes as their flags say: `deltas_fit`, `deltas_cut`.
 -- For `measured`, `PointBytes::read` and the counts of a simple glyph.
 use Rattle.std.proofs.Common.{◌≡◌, ℕ, zero, suc, ◌+◌, ◌-◌, ◌*◌, ◌<◌, ◌≤◌, min, List, [], ◌∷◌, length, drop, Option, Some, None}
 use Rattle.std.proofs.Common.{Bool, true, false, cond, ◌⊎◌, inl, inr, refl, sym, ap, ◌∙◌, arith, length-drop, add_assoc, add-zero}

@@ -1,4 +1,4 @@
--- Flags and deltas, one point at a time.
+-- The flag and the delta at the front, and those after it, are the lists: `flags_at`, `deltas_at`, `points_at`.
 -- For `Flags::next`, `measured` and the iterator `Points`.
 use Rattle.std.proofs.Common.{◌≡◌, ℕ, suc, ◌+◌, ◌%◌, List, [], ◌∷◌, Option, Some, None, refl, sym, ap, ◌∙◌, subst}
 use Rattle.std.specs.Prelude.{IsSome, option_map, option_and_then}

@@ -1,4 +1,4 @@
--- Projections and shifts along the axes.
+-- Along an axis a projection is the coordinate (`on_x`, `on_y`), and a shift the distance (`shift_x`, `shift_y`).
 -- Serves `Vector::project` and `shift_along`: their shortcuts for the axes.
 use Rattle.std.proofs.Common.{◌≡◌, ◌≢◌, arith, ℤ, pos, ◌+ℤ◌, ◌*ℤ◌, FitsSigned, ◌^◌}
 use Rattle.std.proofs.lemmas.Int.{ints}

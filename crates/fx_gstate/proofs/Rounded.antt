@@ -1,4 +1,4 @@
--- The greatest member of a grid not above a number, and distances rounded to a grid.
+-- The remainder gives the greatest member of a grid (`greatest_by_rem`), and so the rounded distance: `rounded_from`.
 -- Serves `greatest_member`, `round_size`, `Grid::round`, `RoundState::round` and `rounding_laws`.
 use Rattle.std.proofs.Common.{◌≡◌, ℕ, ◌+◌, ◌<◌, ◌≤◌, arith, ℤ, pos, negsuc, neg_ℤ, ◌+ℤ◌, ◌-ℤ◌, ◌*ℤ◌, ◌<ℤ◌, ◌≤ℤ◌, unsigned_abs}
 use Rattle.std.proofs.Common.{◌∙◌, sym, ap}

@@ -1,4 +1,4 @@
--- A piece more at the end of what was put into a buffer.
+-- A piece at the end of what was put into a buffer is put too: `put_more`.
 -- Serves `put_utf8`.
 use Rattle.std.proofs.Common.{◌≡◌, ◌∙◌, sym, ap, arith, ℕ, ◌+◌, ◌≤◌, List, ◌++◌, length, take, drop, length-append, length-drop}
 use Rattle.std.proofs.lemmas.List.{append_assoc, length-take-le, take-append-drop}

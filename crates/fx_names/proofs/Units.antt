@@ -1,4 +1,4 @@
--- The first character of a text in UTF-16BE.
+-- The first character of UTF-16BE is a pair of surrogates or one unit: `chars_pair`, `chars_lone`, `chars_last`.
 -- Serves `first_char` and the loops over a text.
 use Rattle.std.proofs.Common.{◌≡◌, ◌∙◌, refl, sym, ap, arith, ℕ, suc, ◌/◌, ◌<◌, ◌≤◌, Bool, true, false, cond, ◌&&◌}
 use Rattle.std.proofs.Common.{List, [], ◌∷◌, map, length, drop, length-drop, Some, unwrap_or}

@@ -1,4 +1,4 @@
--- Every row keeps the number of points and the contours of both zones.
+-- Every row keeps the number of points and the contours of both zones: `rows_keep`.
 -- It serves the law of this crate that says so, and the one that whole runs keep them.
 use Rattle.std.proofs.Common.{ℕ, ℤ, Bool, true, false, if◌then◌else◌, List, [], ◌∷◌, Option, Some, None}
 use Rattle.fx_fixed.specs.declared.places.Place.{Place}

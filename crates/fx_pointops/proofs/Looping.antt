@@ -1,4 +1,4 @@
--- Loops over the points of a row, the last of a slice first.
+-- A loop over a row's points takes the last of a slice first: `loop_next`, `pairs_next`.
 -- It serves ALIGNRP, IP, SHP, SHPIX and FLIPPT, and DELTAP.
 use Rattle.std.proofs.Common.{◌≡◌, refl, ap, ◌∙◌, arith, ℕ, ℤ, pos, suc, ◌+◌, ◌-◌, ◌<◌, ◌≤◌, List, [], ◌∷◌, length, get_or, to_z-of_z}
 use Rattle.std.proofs.Common.{take, reverse}

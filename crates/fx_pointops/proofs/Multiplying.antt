@@ -1,4 +1,4 @@
--- Products and differences of numbers that do not overflow.
+-- Products of distances, and their difference, do not overflow: `product_is`, `products_difference`.
 -- It serves the fractions of ISECT.
 use Rattle.std.proofs.Common.{◌≡◌, ◌≤◌, ◌^◌, ℤ, unsigned_abs, to_z, of_z, arith, ◌-ℤ◌, ◌*ℤ◌}
 use Rattle.std.proofs.lemmas.Int.{to_z-of_z, fits_signed_mul, ints}

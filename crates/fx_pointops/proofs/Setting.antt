@@ -1,4 +1,4 @@
--- A point that is looked up once and then written is a point changed.
+-- A point that is looked up once and then written is a point changed: `set_is`, `point_is`.
 -- Serves the rows that change points.
 use Rattle.std.proofs.Common.{◌≡◌, ℕ, ℤ, pos, negsuc, ◌<ℤ◌, Some, None, refl, arith, to_z-of_z}
 use Rattle.std.proofs.lemmas.Int.{ints}

@@ -1,4 +1,4 @@
--- The bits of a frame are those of all pixels of the plane: no pixel outside the frame is set.
+-- The bits of a frame are those of all pixels of the plane: `scanned_bits`, with drop-out control `bridged_bits`.
 -- Serves `bitmap_of`.
 use Rattle.std.proofs.Common.{◌≡◌, refl, sym, ◌∙◌, subst, arith, ℤ, Bool, true, false, true≢false, List, Some, None}
 use Rattle.std.proofs.Common.{Result, Ok, Err}

@@ -1,4 +1,4 @@
--- What drop-out control sets lies in its frame, and depends on the frame's pixels alone.
+-- What drop-out control sets lies in its frame (`nothing_set`), and depends on the frame's pixels alone (`set_along`).
 -- Serves `bitmap_of`, `lies_in` and the law that a picture exists.
 use Rattle.std.proofs.Common.{◌⊎◌, ◌↔◌, inl, inr, ℤ, pos, ◌+ℤ◌, ◌-ℤ◌, List, map, Option, arith}
 use Rattle.fx_winding.specs.Winding.{Span, IsCovered, centre}

@@ -1,4 +1,4 @@
--- Whether a place is covered, and whether drop-out control sets a pixel, can be decided.
+-- Whether a place is covered (`covered`), and whether drop-out control sets a pixel (`set_in`), is decided.
 -- Serves the law that a picture exists, with Existing.
 use Rattle.std.proofs.Common.{◌≡◌, subst, inl, inr, ◌⊎◌, ℕ, zero, suc, ◌+◌, ◌<◌, ℤ, pos, ◌-ℤ◌, ◌+ℤ◌, ◌≤ℤ◌, ◌<ℤ◌}
 use Rattle.std.proofs.Common.{List, [], ◌∷◌, map, Option, Some, None, Any, arith}

@@ -1,4 +1,4 @@
--- The shape of an outline has a picture: its pixels are decided, and lie within the limits. It has only one.
+-- The shape of an outline has a picture, and only one: `picture_exists`, `picture_is_one`.
 -- Serves the law `picture`, and the law of fx_strike that a strike exists.
 use Rattle.std.proofs.Common.{◌≡◌, ◌⊎◌, refl, subst, inl, inr, ℕ, ℤ, pos, negsuc, ◌+ℤ◌, ◌*ℤ◌, ◌≤ℤ◌, ◌<ℤ◌, Bool, true, false}
 use Rattle.std.proofs.Common.{List, Ok, Decides, arith}

@@ -1,4 +1,4 @@
--- Each pixel that is set lies in a region in which the frame lies.
+-- Each pixel that is set lies in a region in which the frame lies: `set_inside`.
 -- Serves `are_among`, `lies_in` and `Shape::lies_in`.
 use Rattle.std.proofs.Common.{◌≡◌, refl, ℕ, ℤ, pos, ◌+ℤ◌, true, List, Option, inl, inr, arith}
 use Rattle.std.specs.Prelude.{int_le}

@@ -1,4 +1,4 @@
--- Which pixels the frame with drop-out control keeps is decided; they lie near, less than the greatest side apart.
+-- Which pixels the frame with drop-out control keeps is decided (`in_dropout_frame`); they lie near each other: `columns_near`.
 -- Serves the law that a picture exists, with Existing.
 use Rattle.std.proofs.Common.{◌≡◌, inl, inr, refl, sym, ◌∙◌, ℤ, pos, ◌+ℤ◌, ◌*ℤ◌, ◌≤ℤ◌, ◌<ℤ◌, Bool, true, false, not, ◌||◌}
 use Rattle.std.proofs.Common.{List, [], ◌∷◌, Ok, arith, true≢false}

@@ -1,4 +1,4 @@
--- The shapes of moved and of reversed outlines.
+-- A moved outline has its picture moved (`shift_moves_picture`), a reversed one the same: `reversal_keeps_picture`.
 -- Serves the law `moves`.
 use Rattle.std.proofs.Common.{◌≡◌, ap, ◌∙◌, subst, ◌↔◌, ℕ, List, Ok}
 use Rattle.fx_fixed.specs.Chain.{◌>>=◌}

@@ -1,4 +1,4 @@
--- The spans that are drawn lie near, in closed contours, and are not too large.
+-- The spans that are drawn lie near, in closed contours (`are_drawn`), and are not too large (`not_large`).
 -- Serves `bitmap`, `lies_in` and, with Existing, the law that a picture exists.
 use Rattle.std.proofs.Common.{◌≡◌, refl, subst, ℕ, ℤ, pos, negsuc, Bool, true, false, not, List, map, All, Ok, arith}
 use Rattle.std.specs.List.{list_all}

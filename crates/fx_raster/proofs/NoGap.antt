@@ -1,4 +1,4 @@
--- With drop-out control no gap stays open.
+-- With drop-out control no gap stays open: `no_gap_in_row`, `no_gap_in_column`.
 -- Serves the law `bridged`.
 use Rattle.std.proofs.Common.{inl, map}
 use Rattle.fx_winding.specs.Turned.{turned_span}

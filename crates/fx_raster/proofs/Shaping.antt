@@ -1,4 +1,4 @@
--- The shape of an outline, by the frame that was found.
+-- The frame that was found is the outline's (`frame_found`); what refused it refuses the shape (`frame_refused`).
 -- Serves `frame_of` and `lies_in`.
 use Rattle.std.proofs.Common.{◌≡◌, refl, sym, ap, ℕ, All, List, map, Option, Result, Ok, Err}
 use Rattle.std.specs.Prelude.{IfOk, IfErr}

@@ -1,4 +1,4 @@
--- The names of the refusals by their numbers, and what to do after each.
+-- Each number of a refusal has its name (`numbers_have_names`) and its advice (`numbers_have_advice`).
 -- Serves the laws `names` and `advice`.
 use Rattle.std.proofs.Common.{◌≡◌, refl, Option, Some, None}
 use Rattle.std.specs.Prelude.{is_some, option_map}

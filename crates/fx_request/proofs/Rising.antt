@@ -1,4 +1,4 @@
--- The code points in rising order: they rise, they are those of the request, and no other list is so.
+-- The list of code points rises and has those of the request (`rising_are_risen`), and no other does: `risen_is_one`.
 -- Serves the law `rising` and the answer of `rising_codes`; in `fx_strike` the answers of `characters`.
 use Rattle.std.proofs.Common.{◌≡◌, ◌⊎◌, inl, inr, refl, sym, ap, ◌∙◌, subst, arith, ℕ, suc, ◌<◌, ◌≤◌, Bool, true, false, List, []}
 use Rattle.std.proofs.Common.{◌∷◌, length}

@@ -1,4 +1,4 @@
--- The ends of contours are numbers of points.
+-- Each end of a contour is the number of a point: `ends_below`.
 -- For `zone_of`.
 use Rattle.std.proofs.Common.{◌≡◌, ℕ, zero, suc, ◌+◌, ◌<◌, List, [], ◌∷◌, arith}
 use Rattle.std.specs.List.{All}

@@ -1,4 +1,4 @@
--- A value in a font at a valid size needs no wrapping.
+-- A value in a font at a valid size needs no wrapping: `exact_of`.
 -- For the clauses of `scaled`.
 use Rattle.std.proofs.Common.{◌≡◌, ◌≢◌, ℕ, ◌+◌, ◌≤◌, ◌<◌, ◌^◌, ◌*◌, ℤ, pos, ◌*ℤ◌, ◌-ℤ◌}
 use Rattle.std.proofs.Common.{unsigned_abs, FitsSigned, arith, refl}

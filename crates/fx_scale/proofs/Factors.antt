@@ -1,4 +1,4 @@
--- Values times a factor that counts in parts of which 2^32 are one.
+-- A value times a factor, in parts of which 2^32 are one, is the value scaled: `multiplied`.
 -- For `Factor`.
 use Rattle.std.proofs.Common.{◌≡◌, ℕ, suc, ◌+◌, ◌-◌, ◌*◌, ◌/◌, ◌<◌, ◌≤◌, ◌^◌, ℤ, pos, negsuc}
 use Rattle.std.proofs.Common.{◌+ℤ◌, ◌-ℤ◌, ◌*ℤ◌, refl, sym, ap, ◌∙◌, arith, unsigned_abs, FitsSigned, to_z, of_z, to_z-of_z}

@@ -1,4 +1,4 @@
--- A value is scaled by its size and its sign.
+-- A value is scaled by its size and its sign: `of_positive`, `of_negative`.
 -- Serves `Factors`.
 use Rattle.std.proofs.Common.{◌≡◌, ℕ, zero, suc, ◌*◌, ◌<◌, ℤ, pos, negsuc, ◌*ℤ◌, ◌<ℤ◌, ◌≤ℤ◌, unsigned_abs, refl, ap, arith}
 use Rattle.std.proofs.Common.{sym}

@@ -1,4 +1,4 @@
--- The search for a record, one record at a time.
+-- A search for a record ends at the first that has the property, else goes on: `search_ends`, `search_on`.
 -- For the loops over records, of `find_table` here, of `first_subtable` in fx_cmap and of `name_by` in fx_names.
 use Rattle.std.proofs.Common.{◌≡◌, ℕ, suc, ◌+◌, ◌-◌, ◌*◌, ◌<◌, ◌≤◌, Bool, true, false, List, length, length-drop, drop, cond, Some}
 use Rattle.std.proofs.Common.{sym, ap, ◌∙◌, arith}

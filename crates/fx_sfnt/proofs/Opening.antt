@@ -1,4 +1,4 @@
--- What a font that was opened tells of its file.
+-- A font that was opened has the tables and the room that its fields say: `opened`.
 -- For the clauses of a `Font`'s methods on its fields.
 use Rattle.std.proofs.Common.{◌≡◌, ℕ, ◌+◌, ◌*◌, ◌<◌, ◌≤◌, true, not, ◌==◌, ◌||◌, nat_lt, List, length, Some, Ok, refl, sym, ◌∙◌}
 use Rattle.std.proofs.Common.{subst, codes, arith}

@@ -1,4 +1,4 @@
--- The greatest multiple of 64 not above a number, and the least not below it.
+-- A floored number is the greatest multiple of 64 not above it: `floored_is_greatest`; a ceiled one: `ceiled_is_least`.
 -- Serves `laws::multiples`.
 use Rattle.std.proofs.Common.{◌≡◌, arith, pos, neg_ℤ, ◌-ℤ◌}
 use Rattle.std.proofs.lemmas.Int.{ints}

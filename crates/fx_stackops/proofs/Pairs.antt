@@ -1,4 +1,4 @@
--- The pairs of a delta instruction, popped one by one.
+-- The pairs of a delta instruction are popped one by one: `pair_next`, `pairs_done`.
 -- It serves DELTAC.
 use Rattle.std.proofs.Common.{◌≡◌, refl, sym, ap, ◌∙◌, arith, ℕ, suc, ◌-◌, ◌*◌, ◌≤◌, ℤ, pos, List, [], ◌∷◌, length, take, drop}
 use Rattle.std.proofs.Common.{Bool, true, false, if◌then◌else◌}

@@ -1,4 +1,4 @@
--- Quotients of numbers of 32 bits, which 64 bits hold.
+-- 64 bits hold the quotient of 64 times a number of 32 bits: `quotient_is`.
 -- It serves the row DIV.
 use Rattle.std.proofs.Common.{◌≡◌, suc, ◌/◌, ◌≤◌, ◌^◌, ℤ, pos, negsuc, FitsSigned, unsigned_abs, to_z, of_z, arith, ◌*ℤ◌}
 use Rattle.std.proofs.lemmas.Int.{to_z-of_z, fits_signed_from_abs, ints}

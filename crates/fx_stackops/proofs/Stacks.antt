@@ -1,4 +1,4 @@
--- A stack in the cells of a table: its top is the last cell that is used.
+-- The top of the stack is the last used cell of a table: `top_at`, `dropped_at`, `pushed_at`, `replaced_at`, `moved_at`.
 -- Serves the calls of Store that read or move numbers below the top.
 use Rattle.std.proofs.Common.{◌≡◌, ◌≢◌, ◌∙◌, subst, sym, ap, refl, ℕ, ◌+◌, ◌-◌, ◌<◌, ◌≤◌, ℤ, pos, List, [], ◌∷◌, ◌++◌, length, take, drop}
 use Rattle.std.proofs.Common.{reverse, slice_index_or, slice_set, arith, length-append, add-one}

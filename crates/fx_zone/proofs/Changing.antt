@@ -1,4 +1,4 @@
--- A loop that changes the points of a range, each where it is.
+-- A loop over a range changes the points that its test chooses: `range_chooses`, `without_chooses`.
 -- It serves the shifts and the flags of ranges of points.
 use Rattle.std.proofs.Common.{◌≡◌, refl, ap, ◌∙◌, arith, ℕ, zero, suc, ◌+◌, ◌<◌, ◌≤◌, Bool, true, false, ◌&&◌, not}
 use Rattle.std.proofs.Common.{if◌then◌else◌, List, [], ◌∷◌, length, get_or, set, Option, add-one}

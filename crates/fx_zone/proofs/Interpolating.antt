@@ -1,4 +1,4 @@
--- The sweep over a contour, proved equal to the rule for one point.
+-- The sweep over a contour is the rule for one point at each of its points: `contour_swept`.
 -- It serves the interpolation of untouched points.
 use Rattle.std.proofs.Common.{◌≡◌, refl, sym, ap, ◌∙◌, arith, ℕ, zero, suc, ◌+◌, ◌-◌, ◌<◌, ◌≤◌, Bool, true, false, if◌then◌else◌}
 use Rattle.std.proofs.Common.{add-zero, List, [], ◌∷◌, ◌++◌, length, get_or, take, drop, map, reverse, pos, Option, Some, None}

@@ -1,4 +1,4 @@
--- A rounded quotient of sizes is one of numbers that are not negative.
+-- A rounded quotient of sizes is one of numbers that are not negative: `near_positive`.
 -- It serves the proportions of IUP.
 use Rattle.std.proofs.Common.{◌≡◌, ◌*◌, ℕ, ℤ, pos, ◌*ℤ◌, sym, ap}
 use Rattle.std.proofs.Math.IntN.{pos-*ℤ-pos}

@@ -1,4 +1,4 @@
--- What changes of points keep: how many there are, and the contours.
+-- Changes of points keep how many there are, and the contours: `changed_shape`, `each_shape`, `interpolated_shape`.
 -- It serves the shape of a zone after each call, here and for instructions.
 use Rattle.std.proofs.Common.{◌≡◌, refl, ap, ◌∙◌, ℕ, suc, Bool, List, [], ◌∷◌, length, Option, Some, None}
 use Rattle.std.proofs.lemmas.List.{length-set}

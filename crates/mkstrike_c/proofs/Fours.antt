@@ -1,4 +1,4 @@
--- The bytes of four and of eight pixels.
+-- The bytes of eight pixels are those of two fours: `eight_by_fours`.
 -- Serves `bytes_of_four`, `bytes_of_eight`, `put_whole`.
 use Rattle.std.proofs.Common.{◌≡◌, refl, ap, ◌∙◌, ℕ, ◌+◌, ◌*◌, ◌/◌, ◌%◌, ◌<◌, ◌≤◌, Bool, true, false, List, [], ◌∷◌, ◌++◌, map, get_or, arith}
 use Rattle.std.specs.Prelude.{if◌then◌else◌}

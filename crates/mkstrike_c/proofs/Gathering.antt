@@ -1,4 +1,4 @@
--- What becomes of many characters, one after the other, as much of it as there is room for.
+-- Characters made one after the other are gathered as far as there is room: `made_at`, `gathered_from`.
 -- Serves `size`, `push_within`, `append_within`, `GlyphBuffers`, `gather`, `gathered_of`, `proved_mkstrike_glyphs`.
 use Rattle.std.proofs.Common.{◌≡◌, refl, sym, ap, ◌∙◌, subst, arith, true≢false, ℕ, zero, suc, ◌+◌, ◌*◌, ◌<◌, ◌≤◌}
 use Rattle.std.proofs.Common.{Bool, true, false}

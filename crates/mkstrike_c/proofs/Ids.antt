@@ -1,4 +1,4 @@
--- The front of a buffer that was filled one by one.
+-- A buffer that is filled one by one has what was put at its front: `ids_front`.
 -- Serves `put_ids` and `put_points`.
 use Rattle.std.proofs.Common.{◌≡◌, refl, sym, ap, ◌∙◌, arith, ℕ, ◌+◌, ◌<◌, ◌≤◌, min, Bool, true, false}
 use Rattle.std.proofs.Common.{List, [], ◌∷◌, ◌++◌, length, take, drop, get_or, set, map}

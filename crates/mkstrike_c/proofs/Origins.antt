@@ -1,4 +1,4 @@
--- The words that say what a block is for.
+-- The words after a block's first six are those that it was made of: `words_are`.
 -- Serves `words_for`.
 use Rattle.std.proofs.Common.{◌≡◌, refl, ap, sym, ◌∙◌, subst, arith, ℕ, ◌/◌, ◌%◌, ◌^◌, ◌==◌, Bool, true, false, ◌&&◌}
 use Rattle.std.proofs.Common.{List, [], ◌∷◌, ◌++◌, length, drop, Some, None, if◌then◌else◌}

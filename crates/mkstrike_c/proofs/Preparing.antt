@@ -1,4 +1,4 @@
--- What is made by the words of a block is what is made without them.
+-- What is made by the words of a block is what is made without them: `set_at`, `numbered_found`, `own_found`.
 -- Serves `block_of`, `one_by`, `numbered_by`, `gathered_by`, and the calls by a block.
 use Rattle.std.proofs.Common.{◌≡◌, refl, ap, sym, ◌∙◌, subst, arith, inr, ℕ, ◌<◌, min, Bool, true, List, [], ◌∷◌, ◌++◌, Option, Some, None, Result, Ok, Err}
 use Rattle.std.specs.Prelude.{IfOk, IfErr, IfSome, OnOk, ◌≤◌}

@@ -1,4 +1,4 @@
--- The names of numbers.
+-- The name of a number is the refusal's (`reasons_are_names`), and no two have one number (`numbers_are_apart`).
 -- Serves the laws `reasons`, `advice` and `numbers`.
 use Rattle.std.proofs.Common.{◌≡◌, refl, arith, ◌<◌}
 use Rattle.mkstrike_c.specs.Refused.{bad_block, bad_mode}

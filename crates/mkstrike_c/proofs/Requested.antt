@@ -1,4 +1,4 @@
--- A request's name that is none, and a strike's opening.
+-- Names that are alike open the same strike: `same_opened`, `same_plan`.
 -- Serves `name_of`, `text_for`, `text_of`.
 use Rattle.std.proofs.Common.{◌≡◌, ◌∙◌, refl, sym, ap, inl, inr, arith, true≢false, ℕ, zero, suc, nat_le, nat_lt}
 use Rattle.std.proofs.Common.{Bool, true, false, not, List, [], ◌∷◌, length, Result, Ok, Err, IsUtf8, IsAscii}

@@ -1,4 +1,4 @@
--- The bytes of a glyph's rows.
+-- The bytes of a glyph's rows are put one, or eight pixels, at a time: `bytes_more`, `eight_more`.
 -- Serves `put_packed`, `put_each`, `put_whole`.
 use Rattle.std.proofs.Common.{◌≡◌, ◌⊎◌, inl, inr, ap, sym, ◌∙◌, ℕ, ◌+◌, ◌-◌, ◌*◌, ◌<◌, ◌≤◌, min, Bool, false, List, [], ◌∷◌, ◌++◌}
 use Rattle.std.proofs.Common.{length, set, take, drop, map, get_or, arith, length-take}

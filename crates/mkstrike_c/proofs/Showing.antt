@@ -1,4 +1,4 @@
--- A glyph by its number.
+-- A glyph by its number is made, or the refusal is named: `made_by_id`, `refused_by_id`.
 -- Serves `found_by_id`, `numbered_by`.
 use Rattle.std.proofs.Common.{◌≡◌, refl, sym, ap, ◌∙◌, subst, ℕ, min, Option, Some}
 use Rattle.std.proofs.Common.{Result, Ok, Err}
