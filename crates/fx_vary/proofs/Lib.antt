@@ -9,3 +9,4 @@ pub mod Given
 pub mod Sums
 pub mod Offsets
 pub mod NumberLists
+pub mod Sizes

@@ -28,4 +28,4 @@ pub use inferring::{Named, inferred};
 pub use numbers::{Numbers, count_of, skip_numbers};
 pub use point::GivenPoint;
 pub use regions::{Region, Tent, factor, scalar, scaled};
-pub use tuples::{PointNumbers, Tuple};
+pub use tuples::{PointNumbers, Tuple, TupleCursor, TupleSetting, next_tuple};
