@@ -10,3 +10,6 @@ pub mod Sums
 pub mod Offsets
 pub mod NumberLists
 pub mod Sizes
+pub mod Counting
+pub mod Kept
+pub mod TupleSteps

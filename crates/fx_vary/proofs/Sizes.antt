@@ -11,7 +11,7 @@ use Rattle.fx_sfnt.specs.Fields.{field}
 use Rattle.fx_glyf.specs.Words.{has}
 use Rattle.fx_vary.specs.Headers.{HeaderView, HasRegion, own_size, between_size, peaks_of, with_peaks, header_of}
 
-not_less : (a b : ℕ) → nat_lt a b ≡ false → b ≤ a
+pub not_less : (a b : ℕ) → nat_lt a b ≡ false → b ≤ a
 not_less a b e = let f : a < b → ⊥ = λ h. absurd (cc (sym (lt-ltb a b h) ∙ e)) in omega (arith, f)
 
 -- a part of bytes that hold it has its size
