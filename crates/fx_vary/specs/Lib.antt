@@ -9,3 +9,4 @@ pub mod Adding
 pub mod Gvar
 pub mod Tuples
 pub mod Moves
+pub mod Stores
