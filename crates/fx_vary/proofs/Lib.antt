@@ -9,3 +9,7 @@ pub mod Given
 pub mod Sums
 pub mod Offsets
 pub mod NumberLists
+pub mod Sizes
+pub mod Counting
+pub mod Kept
+pub mod TupleSteps

@@ -29,6 +29,10 @@ data_start gvar g = field 4 gvar 16 + data_offset gvar g
 abbrev pub rises : List ℕ → ℕ → Bool
 rises gvar g = nat_le (data_offset gvar g) (data_offset gvar (suc g))
 
+-- glyphCount
+abbrev pub glyph_count : List ℕ → ℕ
+glyph_count gvar = field 2 gvar 12
+
 -- an offset for each glyph, and one more, lie in the table
 abbrev pub holds_offsets : ℕ → List ℕ → Bool
 holds_offsets glyphs gvar = nat_le (20 + offset_size gvar * (glyphs + 1)) (length gvar)

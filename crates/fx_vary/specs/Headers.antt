@@ -1,4 +1,5 @@
 -- The header of a tuple (OpenType, "OpenType Font Variations Common Table Formats", "TupleVariationHeader").
+use Rattle.std.specs.Prelude.{◌≤◌, IsTrue}
 use Rattle.std.specs.Prelude.{ℕ, ◌+◌, ◌*◌, ◌%◌, List, length, take, drop, Option, Some, None, Bool, not, ◌==◌, nat_lt}
 use Rattle.std.specs.Prelude.{if◌then◌else◌, bit_and, option_and_then}
 use Rattle.fx_sfnt.specs.Fields.{field}
@@ -48,3 +49,9 @@ header_of shared width bytes =
     else if nat_lt (length bytes) (4 + own_size width (field 2 bytes 2) + between_size width (field 2 bytes 2)) then None
     else option_and_then (λ peaks. Some (with_peaks width (field 2 bytes 2) bytes peaks)) (peaks_of shared width
     (field 2 bytes 2) bytes)
+
+-- a header has a coordinate for each axis
+pub record HasRegion (width : ℕ) (h : HeaderView) : Type 0 where
+  pub peaks : width ≤ length h.peaks
+  pub starts : IsTrue h.is_intermediate → width ≤ length h.starts
+  pub ends : IsTrue h.is_intermediate → width ≤ length h.ends

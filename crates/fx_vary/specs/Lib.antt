@@ -8,3 +8,5 @@ pub mod Giving
 pub mod Adding
 pub mod Gvar
 pub mod Tuples
+pub mod Moves
+pub mod Stores

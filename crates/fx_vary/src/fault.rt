@@ -18,3 +18,16 @@ pub enum TupleFault {
     #[error("the deltas of a tuple end too early")]
     DeltasShort,
 }
+
+/// Why a font has no variations that are read.
+#[derive(Clone, Copy, Debug, PartialEq, Eq, Error)]
+pub enum GvarFault {
+    /// The font has no table `gvar`.
+    #[error("the font has no table gvar")]
+    NoGvar,
+    /// `gvar` is too short, has another version than 1.0 or other numbers of axes and glyphs than the font, or offsets that
+    /// decrease
+    /// or lead out of it.
+    #[error("gvar is wrong")]
+    BadGvar,
+}

@@ -20,7 +20,7 @@ const INTERMEDIATE_REGION: u16 = 0x4000;
 const PRIVATE_POINT_NUMBERS: u16 = 0x2000;
 
 /// Whether an index has a flag, by its mask.
-fn has(index: u16, mask: u16) -> bool
+pub fn has(index: u16, mask: u16) -> bool
     ensures { result ≡ has index mask }
 {
     index & mask != 0

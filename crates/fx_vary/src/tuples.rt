@@ -3,13 +3,14 @@
 ghost use Rattle.std.specs.Prelude.{◌≡◌, ◌+◌, ◌*◌, ◌≤◌, ◌<◌, ◌^◌, Some, IfOk, IsTrue, option_map, length};
 ghost use Rattle.fx_fixed.specs.Chain.{map_ok};
 ghost use Rattle.fx_vary.specs.Regions.{whole};
-ghost use Rattle.fx_vary.specs.Tuples.{point_numbers_of, tuple_by, tuple_of, scalar_at};
+ghost use Rattle.fx_vary.specs.Tuples.{point_numbers_of, tuple_by, tuple_of, next_tuple};
+ghost use Rattle.fx_vary.specs.Headers.{HasRegion};
 
 use crate::fault::TupleFault;
-use crate::headers::Header;
+use crate::headers::{Header, header_of};
 use crate::numbers::{Numbers, count_of, skip_numbers};
 use crate::regions::scalar;
-use fx_fixed::F2;
+use fx_fixed::{F2, after, before};
 use std::marker::Model;
 
 /// Point numbers in their bytes, which are complete; a count of 0 stands for all points.
@@ -151,4 +152,86 @@ impl<'a> Tuple<'a> {
             deltas,
         })
     }
+    /// The tuple of a header and of its data. One that does not count at the place is not read further.
+    #[tactic(auto, unfolding(crate::specs::Tuples::tuple_of, crate::specs::Tuples::scalar_at))]
+    fn read(
+        place: &[F2],
+        numbers: &Option<PointNumbers<'a>>,
+        header: &Header<'a>,
+        bytes: &'a [u8],
+    ) -> Result<Tuple<'a>, TupleFault>
+        requires { HasRegion (2 * length place.now) header.now }
+        ensures { result ≡ tuple_of place.now numbers.now header.now bytes.entry.now }
+    {
+        let scalar = scalar(&header.region, place);
+        if scalar == 0 {
+            return Ok(Tuple {
+                scalar: 0,
+                numbers: None,
+                deltas: &[],
+            });
+        }
+        Tuple::counting(header.is_private, numbers, scalar, bytes)
+    }
+}
+
+/// What tuples are read with: the tuples that a font shares, and the place.
+#[derive(Drop)]
+pub struct TupleSetting<'a> {
+    pub(crate) shared: &'a [u8],
+    pub(crate) place: &'a [F2],
+}
+
+impl<'a> Model for TupleSetting<'a> {
+    ghost use Rattle.std.specs.Prelude.{length, ◌<◌, ◌^◌};
+    ghost use Rattle.fx_vary.specs.Tuples.{TupleSettingView};
+
+    ghost Value = { TupleSettingView };
+
+    ghost view = { λ s. record { shared = s.shared.now; place = s.place.now } };
+
+    ghost invariant = { λ s. length s.place.now < 2 ^ 16 };
+}
+
+/// Where reading tuples stands: the headers and the data that are left.
+#[derive(Drop)]
+pub struct TupleCursor<'a> {
+    pub(crate) headers: &'a [u8],
+    pub(crate) bytes: &'a [u8],
+}
+
+impl<'a> Model for TupleCursor<'a> {
+    ghost use Rattle.fx_vary.specs.Tuples.{TupleCursorView};
+
+    ghost Value = { TupleCursorView };
+
+    ghost view = { λ c. record { headers = c.headers.now; bytes = c.bytes.now } };
+}
+
+/// The next tuple, and what is left: its header, then its data, which are as many bytes as the header says.
+#[tactic(auto, using(crate::proofs::Sizes::header_sizes), unfolding(crate::specs::Tuples::next_tuple))]
+pub fn next_tuple<'a>(
+    setting: &TupleSetting<'a>,
+    numbers: &Option<PointNumbers<'a>>,
+    cursor: TupleCursor<'a>,
+) -> Result<(Tuple<'a>, TupleCursor<'a>), TupleFault>
+    ensures { result ≡ next_tuple setting.now numbers.now cursor.entry }
+{
+    let width = 2 * setting.place.len();
+    let Some(header) = header_of(setting.shared, width, cursor.headers) else {
+        return Err(TupleFault::HeaderShort);
+    };
+    let size = usize::from(header.size);
+    if cursor.bytes.len() < size {
+        return Err(TupleFault::DataShort);
+    }
+    let bytes = before(cursor.bytes, size);
+    let tuple = Tuple::read(setting.place, numbers, &header, bytes)?;
+    Ok((
+        tuple,
+        TupleCursor {
+            headers: header.rest,
+            bytes: after(cursor.bytes, size),
+        },
+    ))
 }
