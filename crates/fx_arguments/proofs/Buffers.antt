@@ -1,4 +1,4 @@
--- A buffer that is filled from a reader.
+-- What is read into the rest of a buffer follows what it had: `filled_more`, in a vector `text_on`.
 -- Serves `read_line`, `line_len` and `read_on`.
 use Rattle.std.proofs.Common.{◌≡◌, ◌∙◌, ℕ, ◌+◌, ◌-◌, ◌≤◌, List, ◌++◌, length, take, drop, refl, sym, ap, subst, arith, Option, Some, None}
 use Rattle.std.proofs.Common.{Bool, true, false, cond, length-append, append_assoc}

@@ -1,4 +1,4 @@
--- The properties that arguments ask for.
+-- The properties so far, and those of the texts that are left, are the properties that arguments ask for: `rest_more`.
 -- Serves `properties_by` and what it calls.
 use Rattle.std.proofs.Common.{◌≡◌, ◌∙◌, ℕ, ◌+◌, ◌<◌, ◌≤◌, ◌^◌, ℤ, pos, negsuc, List, [], ◌∷◌, ◌++◌, length, refl, sym, ap, ap₂, arith, Bool, true}
 use Rattle.std.proofs.Common.{false, Option, Some, None, Result, Ok, Err, codes, option_map, append-nil, append_assoc, drop, get_or}

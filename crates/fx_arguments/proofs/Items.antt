@@ -1,4 +1,4 @@
--- The numbers of a list, item by item.
+-- The numbers so far, and those of the items that are left, are the numbers of the list: `behind_item`, `all_items`.
 -- Serves the lists of characters: `parse_chars`, `range` and `first_part`.
 use Rattle.std.proofs.Common.{◌≡◌, ◌∙◌, ℕ, ◌+◌, ◌-◌, ◌<◌, ◌≤◌, List, [], ◌∷◌, ◌++◌, length, refl, sym, ap, arith, Option, Some}
 use Rattle.std.proofs.Common.{None, option_map, option_and_then, append_assoc, append-nil, length-append, ap₂, Bool, if◌then◌else◌}

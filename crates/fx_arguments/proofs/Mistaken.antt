@@ -1,4 +1,4 @@
--- Something is wrong with arguments exactly if they are a usage fault.
+-- Something is wrong with arguments exactly if they are a usage fault: `mistakes`.
 -- Serves the law `mistakes`.
 use Rattle.std.proofs.Common.{◌≡◌, refl, List, drop, codes, Option, Some, None, Bool, true, false, Result, Ok, Err}
 use Rattle.std.specs.Prelude.{◌↔◌, IsOk, if◌then◌else◌}

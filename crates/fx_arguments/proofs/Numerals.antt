@@ -1,4 +1,4 @@
--- Numbers of hexadecimal digits, and rows of numbers.
+-- A number goes on after a digit (`number_after_step`), and a row of numbers by the next one (`numbers_more`).
 -- Serves `number`, `push_range` and the items of a list.
 use Rattle.std.proofs.Common.{◌≡◌, ◌∙◌, ℕ, zero, suc, ◌+◌, ◌*◌, ◌^◌, ◌<◌, ◌≤◌, List, [], ◌∷◌, ◌++◌, length, get_or, take, drop, refl, sym}
 use Rattle.std.specs.Prelude.{slice_set}

@@ -1,4 +1,4 @@
--- The options of the commands, as clap sees them.
+-- The options of a command are those that clap takes (`rows_taken`), or it refuses the words (`rows_refused`).
 -- Serves the arguments of the commands: `read_values`, `matches`, `size_of`, `face_of`.
 use Rattle.std.proofs.Common.{◌≡◌, ◌∙◌, ℕ, ◌<◌, ◌^◌, List, [], ◌∷◌, length, refl, sym, ap, ap₂, Option, Some, None, Bool, true, false}
 use Rattle.std.proofs.Common.{Result, Ok, Err, ◌&&◌, ◌||◌, ◌⊎◌, inl, inr}

@@ -1,4 +1,4 @@
--- Lines that say what is wrong.
+-- A line that says what is wrong is its pieces in turn (`all_said`), with the word after the longest good beginning: `words_at`.
 -- Serves the functions of `mistakes`.
 use Rattle.std.proofs.Common.{◌≡◌, ◌∙◌, sym, ap, refl, ℕ, zero, suc, ◌≤◌, List, [], ◌∷◌, ◌++◌, drop, take, length}
 use Rattle.std.proofs.Common.{Bool, true, false, Result, Err, cond, subst}

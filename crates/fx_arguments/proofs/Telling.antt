@@ -1,4 +1,4 @@
--- Lines for people.
+-- Texts that a teller is told in turn are told as one: `tells_then`, `tells_notices`.
 -- Serves `add_refusal`, `add_code`, `tell`, `tell_done`, and a run of the program.
 use Rattle.std.proofs.Common.{◌≡◌, ◌∙◌, refl, sym, ap, subst, inl, inr, ◌⊎◌, ◌≤◌, ℕ, ◌+◌, Bool, true, false, List, [], ◌∷◌, ◌++◌}
 use Rattle.std.proofs.Common.{Option, length, take, arith, append_assoc, append-nil, length-append, Ok, Err}

@@ -1,4 +1,4 @@
--- The characters of a map, up to a limit.
+-- The characters of a map up to a limit are the first ones that it lists: `mapped_to`.
 -- Serves `mapped_in`.
 use Rattle.std.proofs.Common.{◌≡◌, ◌∙◌, refl, sym, ap, arith, ℕ, ◌+◌, ◌≤◌, min, Bool, true, false, List, length, take, nat_le, take_all}
 use Rattle.std.proofs.lemmas.Bool.Decides.{nat_tests}

@@ -1,4 +1,4 @@
--- A run whose arguments are in the first line of its input.
+-- The line of the input that has the arguments ends where its end was found: `length-line_of`.
 -- Serves the answers of `run_line` and `run_told`.
 use Rattle.std.proofs.Common.{◌≡◌, ◌∙◌, ◌==◌, ◌⊎◌, inl, inr, ℕ, ◌+◌, ◌<◌, ◌≤◌, List, [], ◌∷◌, ◌++◌, length, take, drop}
 use Rattle.std.proofs.Common.{not, refl, sym, ap, arith, Option, Bool, true, false, cond, Result, Ok, Err}

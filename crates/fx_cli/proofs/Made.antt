@@ -1,4 +1,4 @@
--- The steps of a run.
+-- A task that was done, or was refused late, ends the run: `task_ends`.
 -- Serves the steps of a run that tells of characters.
 use Rattle.std.proofs.Common.{refl, List, [], Result, Ok, Err}
 use Rattle.fx_fixed.specs.Chain.{map_fault}

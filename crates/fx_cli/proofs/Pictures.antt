@@ -1,4 +1,4 @@
--- The dots of a glyph's rows.
+-- The dots of a glyph's rows are put one by one (`dots_more`), and a picture has few bytes (`picture_short`).
 -- Serves the writer of a picture: `put_dots`, `add_glyph`.
 use Rattle.std.proofs.Common.{◌≡◌, ◌∙◌, ℕ, ◌+◌, ◌<◌, ◌≤◌, List, [], ◌∷◌, ◌++◌, Bool, true, false, length, get_or, set}
 use Rattle.std.proofs.Common.{take, map, sym, arith, length-append}

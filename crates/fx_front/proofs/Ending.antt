@@ -1,4 +1,4 @@
--- How a run ends, by what the place and the program came to.
+-- How a run ends follows from the program's status and from whether the file got its name: `ends`.
 use Rattle.std.proofs.Common.{ℕ, zero, suc, Bool, true, false, List, Option, refl, inl, inr, arith}
 use Rattle.std.proofs.lemmas.Bool.Decides.{nat_tests}
 use Rattle.fx_fixed.specs.Changes.{Change}

@@ -1,4 +1,4 @@
--- `strip_suffix` of texts, as a function.
+-- `strip_suffix` of a text gives what is before an end: `stripped_end`.
 use Rattle.std.proofs.Common.{◌≡◌, ◌∙◌, take, length, ap, refl, Option, Some, None, true, false, arith, ◌-◌}
 use Rattle.std.specs.Prelude.{MatchOption, eqb}
 use Rattle.std.specs.Borrow.{Bor}

@@ -1,4 +1,4 @@
--- The walk that lists the programs is the walk: without its list it gives what the definition of an outline gives.
+-- The walk that lists the programs gives, without its list, what the definition of an outline gives: `outline_walked`.
 -- It serves the walk, and the reader of `runs_of`.
 use Rattle.std.proofs.Common.{◌≡◌, ℕ, zero, suc, ◌+◌, List, [], ◌∷◌, Option, Some, None, refl, sym, ap, ◌∙◌, Result, Ok, Err}
 use Rattle.fx_fixed.specs.Chain.{◌>>=◌, map_fault, GivesUnless}

@@ -1,4 +1,4 @@
--- The outline by a machine as it was made is that of the font, the size and the glyph.
+-- The outline by a machine as it was made is that of the font, the size and the glyph: `by_machine`.
 -- For `outline`.
 use Rattle.std.proofs.Common.{◌≡◌, ℕ, Result, Ok}
 use Rattle.fx_fixed.specs.Chain.{GivesUnless}

@@ -1,4 +1,4 @@
--- The programs of a font keep the number of points and the contours.
+-- The programs of a font keep the number of points and the contours: `programs_keep`.
 -- For the law of `Hinter` at a machine, and so for the limits of an outline.
 use Rattle.std.proofs.Common.{◌≡◌, ℕ, ◌≤◌, List, length, take, Bool, true, false, Option, Ok, refl, ◌∙◌, subst, arith, length-append}
 use Rattle.std.specs.Prelude.{◌||◌, nat_eq}

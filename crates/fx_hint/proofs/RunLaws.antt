@@ -1,4 +1,4 @@
--- The programs that were started are the first of those that are due, and a glyph that is begun starts at most one.
+-- The programs that were started are the first of those that are due: `first_of_begun`, `first_of_closed`.
 -- For the walk, which keeps account of them.
 use Rattle.std.proofs.Common.{◌≡◌, ℕ, zero, suc, ◌-◌, ◌+◌, List, [], ◌∷◌, ◌++◌, length, Option, Some, refl, sym, ap, ◌∙◌, subst, Result, Ok, Err, Bool, true, false, append_assoc, append-nil}
 use Rattle.fx_fixed.specs.Chain.{◌>>=◌, map_fault}

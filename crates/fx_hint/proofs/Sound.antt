@@ -1,4 +1,4 @@
--- An assembled glyph has the points that were counted, and its contours end with them.
+-- An assembled glyph has the points that were counted, and its contours end with them: `root_sound`.
 -- For `outline_with`, whose outline keeps its limits.
 use Rattle.std.proofs.Common.{◌≡◌, ℕ, zero, suc, ◌+◌, ◌≤◌, List, [], ◌∷◌, ◌++◌, length, map, Bool, None, Ok, refl, sym, ap, ◌∙◌, subst}
 use Rattle.std.proofs.Common.{arith, length-append}

@@ -1,4 +1,4 @@
--- The walk over components by its steps gives what the recursion on components gives, with the programs that it starts.
+-- The walk over components by its steps gives what the recursion on components gives: `begins`, `joins`, `closes`.
 -- For the walk, one loop with the composites that wait in a list.
 use Rattle.std.proofs.Common.{◌≡◌, ℕ, zero, suc, ◌+◌, ◌-◌, List, [], ◌∷◌, ◌++◌, length, Option, Some, refl, sym}
 use Rattle.std.proofs.Common.{ap, ◌∙◌, subst, Result, Ok, Err, arith}

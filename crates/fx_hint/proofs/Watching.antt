@@ -1,4 +1,4 @@
--- One program is one of those that a watcher may see, and a watcher of one program's events sees them for its component.
+-- A watcher of one program's events sees them for its component: `seen_for`, `ran_once`.
 -- It serves the machine whose programs are watched, and traces.
 use Rattle.std.proofs.Common.{◌≡◌, List, [], ◌∷◌, Option, Result, Err, ap, ◌∙◌, sym, append-nil, subst}
 use Rattle.fx_machine.specs.Known.{Known}

@@ -1,4 +1,4 @@
--- How many control values a font has, and that numbers of words fit.
+-- There is a control value for every two bytes of `cvt ` (`controls_count`), and numbers of words fit (`all_numbers_fit`).
 -- For `State::blank` and `Machine::of_block`.
 use Rattle.std.proofs.Common.{◌≡◌, ℕ, ◌/◌, List, length, map, FitsSigned, arith}
 use Rattle.std.specs.Prelude.{codes}

@@ -1,4 +1,4 @@
--- A machine that is read from a block knows what the machine knew that wrote the block.
+-- A machine that is read from a block knows what the machine knew that wrote the block: `known_is`.
 -- For a machine that is made of a block.
 use Rattle.std.proofs.Common.{◌≡◌, ℕ, ◌*◌, ◌≤◌, map, List, ◌∷◌, ◌++◌, length, take, drop, refl, ap, sym, ◌∙◌, Bool, true}
 use Rattle.std.proofs.Common.{false, ◌==◌, arith}

@@ -1,4 +1,4 @@
--- What prep left comes back from its words.
+-- What `prep` left comes back from its words, list by list: `storage_back`, `cvt_back`, `twilight_back`, `functions_all_back`.
 -- For a machine that is made of a block.
 use Rattle.std.proofs.Common.{◌≡◌, ℕ, ◌+◌, ◌*◌, ◌^◌, ◌≤◌, ◌==◌, List, [], ◌∷◌, ◌++◌, length, map, refl}
 use Rattle.std.proofs.Common.{sym, arith, append_assoc, length-append, Bool, true, false, Option, Some, None}

@@ -1,4 +1,4 @@
--- No row changes the number of points or the contours.
+-- No row changes the number of points or the contours: `row_keeps`.
 -- It serves the law that programs keep shapes, over definitions, and the same clause of each instruction and run in code.
 use Rattle.std.proofs.Common.{◌≡◌, ℕ, zero, suc, ℤ, pos, negsuc, List, [], ◌∷◌, length, Bool, true, false}
 use Rattle.std.proofs.Common.{Option, Some, None, Result, Ok, Err, refl, ◌∙◌, if◌then◌else◌}

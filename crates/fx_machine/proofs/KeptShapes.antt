@@ -1,4 +1,4 @@
--- Programs of glyphs keep the number of points and the contours.
+-- Programs of glyphs keep the number of points and the contours: `glyphs_keep`.
 -- It serves the law of the same name.
 use Rattle.std.proofs.Common.{◌≡◌, ℕ, List, Ok, subst, refl}
 use Rattle.fx_zone.specs.Figures.{Figure}

@@ -1,4 +1,4 @@
--- The opcodes without a row are those without a name.
+-- The opcodes without a row are those without a name: `row_named`.
 -- It serves the law that every row is named.
 use Rattle.std.proofs.Common.{◌≡◌, ℕ, zero, suc, ◌<◌, Bool, true, false, not, ◌&&◌, if◌then◌else◌, codes, inl, inr, refl, arith}
 use Rattle.std.specs.Prelude.{bytes_eq}

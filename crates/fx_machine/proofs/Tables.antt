@@ -1,4 +1,4 @@
--- A table of which only the first functions are held: what it has at a number, how long it is, and what changes it.
+-- A table that holds only its first functions has at each number what the whole one has: `filled_at`, `filled_defined`.
 -- For `FunctionTable`.
 use Rattle.std.proofs.Common.{◌≡◌, ℕ, zero, suc, ◌+◌, ◌-◌, ◌<◌, ◌≤◌, max, List, [], ◌∷◌, ◌++◌, length, map, take, drop, set, replicate, get_or}
 use Rattle.std.proofs.Common.{Option, Some, None, Bool, true, false, ◌&&◌, refl, ap, sym, ◌∙◌, arith}

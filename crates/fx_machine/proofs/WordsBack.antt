@@ -1,4 +1,4 @@
--- Numbers, points and functions come back from their words.
+-- Numbers, points and functions come back from their words: `numbers_back`, `points_back`, `functions_back`.
 -- For what prep left, which comes back from a block.
 use Rattle.std.proofs.Common.{◌≡◌, ℕ, suc, ◌+◌, ◌-◌, ◌*◌, ◌/◌, ◌%◌, ◌<◌, ◌==◌, List, [], ◌∷◌, ◌++◌, length, map, refl}
 use Rattle.std.proofs.Common.{arith, Bool, true, false, Option, Some, None}

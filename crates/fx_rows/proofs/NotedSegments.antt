@@ -1,4 +1,4 @@
--- The bits of a frame's notes that stay set, the room for them, and those of segments that some piece meets.
+-- Bits of notes that stay set stay noted (`noted_kept`), and a bit that is set is of a segment that a piece meets (`says_more`).
 -- Serves `note`, `note_across` and `note_up`.
 use Rattle.std.proofs.Common.{◌≡◌, inl, inr, ◌∙◌, sym, ap, subst, ℕ, ◌+◌, ◌*◌, ◌<◌, ◌≤◌, pos, ◌+ℤ◌, ◌-ℤ◌, List, arith}
 use Rattle.fx_fixed.proofs.Order.{below_same_above}

@@ -1,4 +1,4 @@
--- Pieces that are no bent arc, between their ends.
+-- Between its ends a line's area is 0 only at places between them: `between_x`.
 -- Serves the centres on them.
 use Rattle.std.proofs.Common.{◌↔◌, IsTrue, ◌≡◌, ◌≢◌, inl, inr, sym, ap, ◌∙◌, ℕ, ◌<◌, ℤ, pos, negsuc, ◌+ℤ◌}
 use Rattle.std.proofs.Common.{◌-ℤ◌, ◌*ℤ◌, neg_ℤ, ◌≤ℤ◌, ◌<ℤ◌, [], ◌∷◌, Bool, Option, Some, None, arith}

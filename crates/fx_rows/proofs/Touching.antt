@@ -1,4 +1,4 @@
--- The gap of an arc as the code holds it, and where it can be 0: not at one centre alone.
+-- The gaps of an arc at two centres are whole multiples of 256 apart (`gaps_apart`), so it touches no centre alone.
 -- Serves the gaps of columns, and whether an arc touches a centre.
 use Rattle.std.proofs.Common.{◌≡◌, ◌∙◌, sym, ap, suc, ◌%◌, ◌^◌, ℤ, pos, negsuc, neg_ℤ, ◌+ℤ◌, ◌*ℤ◌, ◌-ℤ◌, true, false, nat_eq, arith}
 use Rattle.std.proofs.Common.{to_z, of_z, [], ◌∷◌, Option, Some, None}

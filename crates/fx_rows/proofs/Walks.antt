@@ -1,4 +1,4 @@
--- Bent arcs from row to row and from column to column.
+-- The areas at a place and a step are those after the step (`after_step`), and the columns of a strip are near (`near_column`).
 -- Serves the walk along an arc.
 use Rattle.std.proofs.Common.{◌≡◌, ◌≢◌, ◌∙◌, ap, sym, subst, ℕ, ◌+◌, ◌-◌, ◌^◌, ◌<◌, ◌≤◌, ℤ, pos, ◌+ℤ◌, ◌-ℤ◌, ◌*ℤ◌, ◌≤ℤ◌, [], ◌∷◌, Bool}
 use Rattle.std.proofs.Common.{Option, Some, arith}

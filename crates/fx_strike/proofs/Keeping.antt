@@ -1,4 +1,4 @@
--- The lines of the first characters: how they grow, and what the second pass needs of the others.
+-- The lines of the first characters are kept until there is no more room, and then none: `keeps_full`.
 -- Serves `see_drawn`, `see` and `write_all`.
 use Rattle.std.proofs.Common.{◌≡◌, refl, sym, ap, ◌∙◌, subst, arith, ℕ, zero, suc, ◌+◌, ◌<◌, true, false, List, [], ◌∷◌, ◌++◌}
 use Rattle.std.proofs.Common.{length, take, drop, length-append, length-drop, Ok}

@@ -1,4 +1,4 @@
--- What is due once a font opened, its programs ran and the checks passed is what is due before.
+-- What is due once a font opened, its programs ran and the checks passed is what is due before: `due_ok`, `gives_ok`.
 -- Serves the calls that make a strike, its survey or one glyph, and those of `Striker`.
 use Rattle.std.proofs.Common.{◌≡◌, refl, sym, ap, ◌∙◌, ℕ, List, Result, Ok, Err}
 use Rattle.std.specs.Prelude.{IsOk, IfOk, IfErr, IsErrOf, OnOk}

@@ -1,4 +1,4 @@
--- What a trace returns and leaves, once its text ended.
+-- A trace whose text ended returns and leaves what is due: `traced`.
 -- Serves `Programs`.
 use Rattle.std.proofs.Common.{◌≡◌, ℕ, ◌<◌, ◌≤◌, List, [], ◌++◌, length, take, Option, Result, Ok, Err, OnOk}
 use Rattle.std.proofs.Common.{subst, sym, ap, ◌∙◌, arith, append-nil, length-append}

@@ -1,4 +1,4 @@
--- What is said of the entries of two lists, as far as some entry.
+-- What is said of the entries of two lists, one pair after the other, is said of the lists: `pairs_more`, `pairs_all`.
 -- It serves the loops over points, cells and settings.
 use Rattle.std.proofs.Common.{◌≡◌, ℕ, zero, suc, ◌+◌, ◌<◌, ◌≤◌, ◌++◌, List, [], ◌∷◌, length, take, get_or}
 use Rattle.std.proofs.Common.{refl, sym, ap, ◌∙◌, arith, append_assoc, append-nil}

@@ -1,4 +1,4 @@
--- How `fpgm` ended, by how `fpgm` and `prep` did, and what their traces leave.
+-- How `fpgm` ended follows from how `fpgm` and `prep` did: `fpgm_given`, `fpgm_ended`.
 -- It serves `trace_fpgm` and `trace_prep`.
 use Rattle.std.proofs.Common.{◌≡◌, ℕ, ◌+◌, List, [], Result, Ok, Err, refl, sym, ap, ◌∙◌, subst}
 use Rattle.fx_fixed.specs.Chain.{◌>>=◌, map_fault, GivesUnless}

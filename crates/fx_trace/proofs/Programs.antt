@@ -1,4 +1,4 @@
--- The traces of programs that were watched: of `fpgm` and `prep`, and of the programs of a glyph.
+-- Programs that were watched leave their traces: `prelude_traced`, `glyph_traced`.
 -- It serves `run_told` and `trace_glyph`.
 use Rattle.std.proofs.Common.{◌≡◌, ℕ, List, [], ◌++◌, Option, Result, Ok, Err, OnOk, None, refl, sym, ap, ◌∙◌, append-nil, subst}
 use Rattle.std.specs.Borrow.{GName}

@@ -1,4 +1,4 @@
--- A text that stops before anything is added.
+-- A text that stops before anything is added is said to have stopped: `begin_stops`, `line_stops`.
 -- It serves the tracer.
 use Rattle.std.proofs.Common.{◌≡◌, ℕ, ◌<◌, List, length, Option, Result, Ok, Err, OnOk, refl, sym, ap, ◌∙◌, subst, arith, length-append}
 use Rattle.std.proofs.KnownBytes.{Appends-nil}

@@ -1,4 +1,4 @@
--- The lines of events, one after another.
+-- The lines of events, one after another, are those of all events: `lines_joined`, `told`.
 -- It serves the traces of programs.
 use Rattle.std.proofs.Common.{◌≡◌, ℕ, List, [], ◌∷◌, ◌++◌, Option, Result, Ok, Err, OnOk, refl, subst, sym, ap, ◌∙◌, append_assoc}
 use Rattle.fx_hint.specs.Watched.{RunEvent, WatchesAll}

@@ -1,4 +1,4 @@
--- What is added to the text of a trace, one after another.
+-- What is added to the text of a trace, one after another, is added as one: `says_then`.
 -- It serves all that adds to it.
 use Rattle.std.proofs.Common.{◌≡◌, List, ℕ, ◌+◌, ◌<◌, ◌≤◌, [], ◌++◌, length, take, get_or, Result, Ok, Err}
 use Rattle.std.proofs.Common.{Bool, true, false, if◌then◌else◌, refl, sym, ap, subst, ◌∙◌}

@@ -1,4 +1,4 @@
--- FONT and `-o FILE` leave the words for the program as they are.
+-- FONT and `-o FILE` leave the words for the program as they are: `names_are_apart`.
 -- Serves `laws::names`.
 use Rattle.std.proofs.Common.{◌≡◌, ◌∙◌, refl, sym, ap, Bool, true, false, codes, Option, Some, None, if◌then◌else◌}
 use Rattle.std.specs.Prelude.{◌||◌, is_some, not}

@@ -1,4 +1,4 @@
--- Joining borrowed texts.
+-- Joining borrowed texts joins what they hold: `joined_texts`.
 -- Serves `joined`.
 use Rattle.std.proofs.Common.{◌≡◌, List, [], ◌∷◌, ◌++◌, refl, ap}
 use Rattle.std.specs.Borrow.{Bor}

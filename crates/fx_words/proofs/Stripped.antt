@@ -1,4 +1,4 @@
--- `strip_prefix` of texts, as a function.
+-- `strip_prefix` of a text gives what follows a beginning: `stripped_start`.
 use Rattle.std.proofs.Common.{◌≡◌, ◌∙◌, drop, length, ap, refl, Option, Some, None, true, false, arith}
 use Rattle.std.specs.Prelude.{MatchOption, eqb}
 use Rattle.std.specs.Borrow.{Bor}

@@ -1,4 +1,4 @@
--- Which pixels close a gap, test by test.
+-- Which pixels close a gap follows test by test: `outside`, `closed_before`, `closes_before`.
 -- Serves `closed`.
 use Rattle.std.proofs.Common.{◌≡◌, ◌⊎◌, ◌↔◌, inl, inr, IsTrue, Bool, false, subst, ℤ, pos, ◌-ℤ◌, List}
 use Rattle.std.proofs.Common.{Any}
