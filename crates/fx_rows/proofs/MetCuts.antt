@@ -12,7 +12,7 @@
 --     a         c           c        \ end           one cut, by the chord      b
 --     two cuts              two cuts, one at the end
 use Rattle.std.proofs.Common.{◌≡◌, ◌≢◌, ◌⊎◌, inl, inr, refl, sym, ap, ◌∙◌, subst, ℕ, ◌+◌, ◌≤◌, ◌<◌, ℤ, pos, ◌+ℤ◌, ◌-ℤ◌, ◌*ℤ◌}
-use Rattle.std.proofs.Common.{neg_ℤ, ◌≤ℤ◌, ◌<ℤ◌, Bool, true, false, Option, Some, None, [], ◌∷◌, arith}
+use Rattle.std.proofs.Common.{◌≤ℤ◌, ◌<ℤ◌, Bool, true, false, Option, Some, None, [], ◌∷◌, arith}
 use Rattle.std.proofs.lemmas.Int.{ints}
 use Rattle.fx_fixed.specs.Polynomial.{var, num, ◌⊞◌, ◌⊠◌, ◌⊟◌}
 use Rattle.fx_fixed.proofs.Linear.{signed_linear}
@@ -25,6 +25,7 @@ use Rattle.fx_winding.specs.Winding.{Span, sign, weight_a, weight_b, weight_c, i
 use Rattle.fx_winding.proofs.Beside.{total_above, weights_total}
 use Rattle.fx_winding.proofs.Crossings.{crossing_number, crossing_level, no_crossing, area_split}
 use Rattle.fx_winding.proofs.EndsOn.{first_on, last_on}
+use Rattle.fx_winding.proofs.Products.{product}
 use Rattle.fx_winding.proofs.Reversal.{crossing_back}
 use Rattle.fx_winding.proofs.Triangle.{balance_y, not_below_range, not_above_range}
 use Rattle.fx_rows.specs.declared.along.Gaps.{Gaps}
@@ -34,10 +35,9 @@ use Rattle.fx_rows.specs.inner.Lines.{IsCutBetween, HasCutPart, IsTurning, IsTur
 use Rattle.fx_rows.specs.inner.Points.{IsInner}
 use Rattle.fx_rows.specs.inner.Runs.{gap_at, slope_at, IsBefore, IsSplitFrom, AreCuts}
 use Rattle.fx_rows.proofs.Bends.{climbs_to, sinks_from}
-use Rattle.fx_rows.proofs.Missed.{other_sign}
 use Rattle.fx_rows.proofs.Regions.{in_region, region_from, on_from_gap}
 use Rattle.fx_rows.proofs.Signs.{above_or_zero, same_or_not}
-use Rattle.fx_rows.proofs.Weights.{drop_factor, gap_w, gap_of_weights, first_at_least, first_from_gap, third_at_least}
+use Rattle.fx_rows.proofs.Weights.{gap_w, gap_of_weights, first_at_least, first_from_gap, third_at_least}
 use Rattle.fx_rows.proofs.Weights.{third_positive, in_region_from, InRegion}
 
 -- ---- the law of a row
@@ -91,91 +91,52 @@ flat_gap a b c p flat up =
 turning_from : (a b c y : ℤ) → IsReached a b c y → IsTurning a b c y
 turning_from a b c y h = grind (arith, signed_linear, h, not_below_range, not_above_range)
 
--- over plain numbers: weights, and the distances of the points
-second_weak : (u v w i j k : ℤ) → pos 0 ≤ℤ u → pos 0 ≤ℤ w → pos 0 ≤ℤ i → j <ℤ pos 0 → pos 0 ≤ℤ k
-    → u *ℤ i +ℤ v *ℤ j +ℤ w *ℤ k ≡ pos 0 → pos 0 ≤ℤ v
-second_weak u v w i j k hu hw hi hj hk e =
-    let x = product_at_least_zero u i hu hi in
-    let y = product_at_least_zero w k hw hk in
-    let z : v *ℤ j ≡ pos 0 -ℤ (pos 0 -ℤ j) *ℤ v =
-    ring (v ∷ j ∷ []) (var 0 ⊠ var 1) (num (pos 0) ⊟ (num (pos 0) ⊟ var 1) ⊠ var 0) tt in
-    drop_factor (pos 0 -ℤ j) v (omega (arith, signed_linear, hj)) (omega (arith, signed_linear, x, y, e, z))
+-- over plain numbers, the weights of a place and the distances of an arc's points from its row: the control point is at one side
+-- of the row, and both ends are at the other or on it
+abbrev AreApart : ℤ → ℤ → ℤ → Type 0
+AreApart i j k = ((pos 0 ≤ℤ i) × (pos 0 ≤ℤ k) × (j <ℤ pos 0)) ⊎ ((i ≤ℤ pos 0) × (k ≤ℤ pos 0) × (pos 0 <ℤ j))
 
--- a product with a factor above 0 is above 0, or the other factor is 0
-some_product : (u i : ℤ) → pos 0 <ℤ u → pos 0 ≤ℤ i → (pos 0 <ℤ (u *ℤ i)) ⊎ (i ≡ pos 0)
-some_product u i hu hi = elim (above_or_zero i hi) [ inl h ↦ inl (product_above_zero u i hu h) | inr e ↦ inr e ]
+distances : (a b c y : ℤ) → IsTurning a b c y → AreApart (a -ℤ y) (b -ℤ y) (c -ℤ y)
+distances a b c y (inl h) = inl (omega (arith, signed_linear, h), omega (arith, signed_linear, h), omega (arith, signed_linear, h))
+distances a b c y (inr h) = inr (omega (arith, signed_linear, h), omega (arith, signed_linear, h), omega (arith, signed_linear, h))
 
-none_product : (v j : ℤ) → v ≡ pos 0 → v *ℤ j ≡ pos 0
-none_product v j z = ap (λ (x : ℤ). x *ℤ j) z ∙ ring (j ∷ []) (num (pos 0) ⊠ var 0) (num (pos 0)) tt
+weight_from : (u v w i j k : ℤ) → pos 0 ≤ℤ u → pos 0 ≤ℤ w → u *ℤ i +ℤ v *ℤ j +ℤ w *ℤ k ≡ pos 0 → AreApart i j k → pos 0 ≤ℤ v
+weight_from u v w i j k hu hw e h = grind (arith, signed_linear, hu, hw, e, h, product u i, product v j, product w k)
 
-right_none : (a z : ℤ) → z ≡ pos 0 → a *ℤ z ≡ pos 0
-right_none a z e = ap (λ (x : ℤ). a *ℤ x) e ∙ ring (a ∷ []) (var 0 ⊠ num (pos 0)) (num (pos 0)) tt
+owned_from : (u v w i j k : ℤ) (r : Bool) → pos 0 <ℤ u → pos 0 ≤ℤ v → pos 0 <ℤ w → u *ℤ i +ℤ v *ℤ j +ℤ w *ℤ k ≡ pos 0
+    → AreApart i j k → (i ≡ pos 0 → k ≡ pos 0 → r ≡ true) → IsOwned v r
+owned_from u v w i j k r hu hv hw e h chord =
+    grind (arith, signed_linear, hu, hv, hw, e, h, chord, product u i, product v j, product w k)
 
--- the control point is beyond the row, or both ends are on it
-abbrev Sides : ℤ → ℤ → ℤ → ℤ → Type 0
-Sides v i j k = ((pos 0 <ℤ v) × (j <ℤ pos 0) × ((pos 0 <ℤ i) ⊎ (pos 0 <ℤ k)))
-    ⊎ ((i ≡ pos 0) × (k ≡ pos 0) × ((v ≡ pos 0) ⊎ (j ≡ pos 0)))
+-- a place in the region has them so, or both ends are on the row, where the arc lies above its chord
+region_apart : (u v w i j k : ℤ) (r : Bool) → pos 0 <ℤ u → pos 0 <ℤ w → IsOwned v r → u *ℤ i +ℤ v *ℤ j +ℤ w *ℤ k ≡ pos 0
+    → ((pos 0 ≤ℤ i) × (pos 0 ≤ℤ k)) ⊎ ((i ≤ℤ pos 0) × (k ≤ℤ pos 0)) → (i ≡ pos 0 → j ≡ pos 0 → k ≡ pos 0 → ⊥)
+    → (AreApart i j k × (i ≡ pos 0 → k ≡ pos 0 → ⊥)) ⊎ ((i ≡ pos 0) × (k ≡ pos 0) × (r ≡ true))
+region_apart u v w i j k r hu hw (inl hv) e ends level =
+    inl (
+      grind (arith, signed_linear, hu, hv, hw, e, ends, level, product u i, product v j, product w k),
+      λ x y. grind (arith, signed_linear, hv, e, level, x, y, product u i, product v j, product w k),
+    )
+region_apart u v w i j k r hu hw (inr hv) e ends level =
+    inr (
+      grind (arith, signed_linear, hu, hv, hw, e, ends, product u i, product v j, product w k),
+      grind (arith, signed_linear, hu, hv, hw, e, ends, product u i, product v j, product w k),
+      hv.1,
+    )
 
-under_zero : (v j z : ℤ) → pos 0 ≤ℤ v → pos 0 <ℤ z → v *ℤ j +ℤ z ≡ pos 0 → (pos 0 <ℤ v) × (j <ℤ pos 0)
-under_zero v j z hv hz e = by (above_or_zero v hv) (below_or_not_ℤ j (pos 0))
-  where
-    by : (pos 0 <ℤ v) ⊎ (v ≡ pos 0) → (j <ℤ pos 0) ⊎ (pos 0 ≤ℤ j) → (pos 0 <ℤ v) × (j <ℤ pos 0)
-    by (inl h) (inl l) = (h, l)
-    by (inr f) y = let n = none_product v j f in absurd (omega (arith, signed_linear, n, hz, e))
-    by x (inr l) = let n = product_at_least_zero v j hv l in absurd (omega (arith, signed_linear, n, hz, e))
-
-factor_none : (v j : ℤ) → pos 0 ≤ℤ v → v *ℤ j ≡ pos 0 → (v ≡ pos 0) ⊎ (j ≡ pos 0)
-factor_none v j hv e = by (above_or_zero v hv) (below_or_not_ℤ j (pos 0))
-  where
-    by : (pos 0 <ℤ v) ⊎ (v ≡ pos 0) → (j <ℤ pos 0) ⊎ (pos 0 ≤ℤ j) → (v ≡ pos 0) ⊎ (j ≡ pos 0)
-    by (inr f) y = inl f
-    by (inl h) (inr l) = elim (some_product v j h l) [ inl m ↦ absurd (omega (arith, signed_linear, m, e)) | inr f ↦ inr f ]
-    by (inl h) (inl l) =
-        let m = product_above_zero v (pos 0 -ℤ j) h (omega (arith, signed_linear, l)) in
-        let f : v *ℤ (pos 0 -ℤ j) ≡ pos 0 -ℤ v *ℤ j =
-        ring (v ∷ j ∷ []) (var 0 ⊠ (num (pos 0) ⊟ var 1)) (num (pos 0) ⊟ var 0 ⊠ var 1) tt in
-        absurd (omega (arith, signed_linear, m, f, e))
-
-row_sides : (u v w i j k : ℤ) → pos 0 <ℤ u → pos 0 ≤ℤ v → pos 0 <ℤ w → pos 0 ≤ℤ i → pos 0 ≤ℤ k
-    → u *ℤ i +ℤ v *ℤ j +ℤ w *ℤ k ≡ pos 0 → Sides v i j k
-row_sides u v w i j k hu hv hw hi hk e =
-    by (some_product u i hu hi) (some_product w k hw hk) (above_or_zero i hi) (above_or_zero k hk)
-  where
-    x : pos 0 ≤ℤ (u *ℤ i)
-    x = product_at_least_zero u i (omega (arith, signed_linear, hu)) hi
-
-    y : pos 0 ≤ℤ (w *ℤ k)
-    y = product_at_least_zero w k (omega (arith, signed_linear, hw)) hk
-
-    by : (pos 0 <ℤ (u *ℤ i)) ⊎ (i ≡ pos 0) → (pos 0 <ℤ (w *ℤ k)) ⊎ (k ≡ pos 0) → (pos 0 <ℤ i) ⊎ (i ≡ pos 0)
-        → (pos 0 <ℤ k) ⊎ (k ≡ pos 0) → Sides v i j k
-    by (inl m) n (inl h) o =
-        let r = under_zero v j (u *ℤ i +ℤ w *ℤ k) hv (omega (arith, signed_linear, m, y)) (omega (arith, signed_linear, e)) in
-        inl (r.0, r.1, inl h)
-    by m (inl n) o (inl h) =
-        let r = under_zero v j (u *ℤ i +ℤ w *ℤ k) hv (omega (arith, signed_linear, n, x)) (omega (arith, signed_linear, e)) in
-        inl (r.0, r.1, inr h)
-    by (inl m) n (inr z) o = let f = right_none u i z in absurd (omega (arith, signed_linear, m, f))
-    by m (inl n) o (inr z) = let f = right_none w k z in absurd (omega (arith, signed_linear, n, f))
-    by (inr f) (inr g) o q =
-        let a = right_none u i f in let b = right_none w k g in
-        inr (f, g, factor_none v j hv (omega (arith, signed_linear, a, b, e)))
+turned_back : (a b c y : ℤ) → AreApart (a -ℤ y) (b -ℤ y) (c -ℤ y) → IsTurning a b c y
+turned_back a b c y (inl h) =
+    inl (omega (arith, signed_linear, h), omega (arith, signed_linear, h), omega (arith, signed_linear, h))
+turned_back a b c y (inr h) =
+    inr (omega (arith, signed_linear, h), omega (arith, signed_linear, h), omega (arith, signed_linear, h))
 
 -- ---- one place of such a row, which is not between the ends
 abbrev IsBesideEnds : ℤ → ℤ → ℤ → Type 0
 IsBesideEnds a c y = ((y ≤ℤ a) × (y ≤ℤ c)) ⊎ ((a ≤ℤ y) × (c ≤ℤ y))
 
 beside_ends : (a c y : ℤ) → ¬ (IsInner a c y) → IsBesideEnds a c y
-beside_ends a c y n = by (below_or_not_ℤ a y) (below_or_not_ℤ y a) (below_or_not_ℤ c y) (below_or_not_ℤ y c)
-  where
-    by : (a <ℤ y) ⊎ (y ≤ℤ a) → (y <ℤ a) ⊎ (a ≤ℤ y) → (c <ℤ y) ⊎ (y ≤ℤ c) → (y <ℤ c) ⊎ (c ≤ℤ y) → IsBesideEnds a c y
-    by (inl h) (inl i) k l = absurd (omega (arith, signed_linear, h, i))
-    by (inl h) (inr i) k (inl l) = absurd (n (inl (h, l)))
-    by (inl h) (inr i) k (inr l) = inr (i, l)
-    by (inr h) (inl i) (inl k) l = absurd (n (inr (k, i)))
-    by (inr h) (inl i) (inr k) l = inl (h, k)
-    by (inr h) (inr i) (inl k) l = inr (i, omega (arith, signed_linear, k))
-    by (inr h) (inr i) (inr k) l = inl (h, k)
+beside_ends a c y n =
+    grind (arith, signed_linear, n, below_or_not_ℤ a y, below_or_not_ℤ y a, below_or_not_ℤ c y, below_or_not_ℤ y c)
 
 balance : (a b c p : Place)
     → weight_a a b c p *ℤ (a.y -ℤ p.y) +ℤ weight_b a b c p *ℤ (b.y -ℤ p.y) +ℤ weight_c a b c p *ℤ (c.y -ℤ p.y) ≡ pos 0
@@ -187,48 +148,25 @@ weights_above a b c p bent = rw (weights_total a b c p) (total_above (area a b c
 -- its weight of the control point, where it is not outside the parabola
 second_weight : (a b c p : Place) → area a b c ≢ pos 0 → IsTurning a.y b.y c.y p.y → pos 0 ≤ℤ gap_w a b c p
     → pos 0 ≤ℤ weight_b a b c p
-second_weight a b c p bent (inl h) g =
-    second_weak (weight_a a b c p) (weight_b a b c p) (weight_c a b c p) (a.y -ℤ p.y) (b.y -ℤ p.y) (c.y -ℤ p.y)
-    (first_at_least _ _ _ (weights_above a b c p bent) g) (third_at_least _ _ _ (weights_above a b c p bent) g)
-    (omega (arith, signed_linear, h)) (omega (arith, signed_linear, h)) (omega (arith, signed_linear, h)) (balance a b c p)
-second_weight a b c p bent (inr h) g =
-    second_weak (weight_a a b c p) (weight_b a b c p) (weight_c a b c p) (neg_ℤ (a.y -ℤ p.y)) (neg_ℤ (b.y -ℤ p.y))
-    (neg_ℤ (c.y -ℤ p.y)) (first_at_least _ _ _ (weights_above a b c p bent) g)
-    (third_at_least _ _ _ (weights_above a b c p bent) g) (omega (arith, signed_linear, h)) (omega (arith, signed_linear, h))
-    (omega (arith, signed_linear, h)) (other_sign _ _ _ (a.y -ℤ p.y) (b.y -ℤ p.y) (c.y -ℤ p.y) (balance a b c p))
+second_weight a b c p bent turning g =
+    let first = first_at_least (weight_a a b c p) (weight_b a b c p) (weight_c a b c p) (weights_above a b c p bent) g in
+    let third = third_at_least (weight_a a b c p) (weight_b a b c p) (weight_c a b c p) (weights_above a b c p bent) g in
+    weight_from (weight_a a b c p) (weight_b a b c p) (weight_c a b c p) (a.y -ℤ p.y) (b.y -ℤ p.y) (c.y -ℤ p.y) first third
+    (balance a b c p) (distances a.y b.y c.y p.y turning)
 
 -- where both ends are on the row, the region has it, so that it is within the arc or on the chord of one that lies above it
 abbrev HasChord : Place → Place → Place → ℤ → Type 0
 HasChord a b c y = a.y ≡ y → c.y ≡ y → is_right_of_chord a b c ≡ true
 
-owned_from : (v i j k : ℤ) (r : Bool) → Sides v i j k → (j ≢ pos 0) → (i ≡ pos 0 → k ≡ pos 0 → r ≡ true) → IsOwned v r
-owned_from v i j k r (inl h) n f = inl h.0
-owned_from v i j k r (inr (x, y, inl z)) n f = inr (z, f x y)
-owned_from v i j k r (inr (x, y, inr z)) n f = absurd (n z)
-
 owned : (a b c p : Place) → area a b c ≢ pos 0 → IsTurning a.y b.y c.y p.y → HasChord a b c p.y → pos 0 <ℤ gap_w a b c p
     → IsOwned (weight_b a b c p) (is_right_of_chord a b c)
-owned a b c p bent turning chord g = by turning
-  where
-    first : pos 0 <ℤ weight_a a b c p
-    first = first_from_gap (weight_a a b c p) (weight_b a b c p) (weight_c a b c p) (weights_above a b c p bent) g
-
-    second : pos 0 ≤ℤ weight_b a b c p
-    second = second_weight a b c p bent turning (omega (arith, signed_linear, g))
-
-    third : pos 0 <ℤ weight_c a b c p
-    third = third_positive (weight_a a b c p) (weight_b a b c p) (weight_c a b c p) first g
-
-    by : IsTurning a.y b.y c.y p.y → IsOwned (weight_b a b c p) (is_right_of_chord a b c)
-    by (inl h) = owned_from _ (a.y -ℤ p.y) (b.y -ℤ p.y) (c.y -ℤ p.y) _
-        (row_sides _ _ _ _ _ _ first second third (omega (arith, signed_linear, h)) (omega (arith, signed_linear, h))
-        (balance a b c p))
-        (λ z. omega (arith, signed_linear, h, z))
-        (λ x y. chord (omega (arith, signed_linear, x)) (omega (arith, signed_linear, y)))
-    by (inr h) = owned_from _ (neg_ℤ (a.y -ℤ p.y)) (neg_ℤ (b.y -ℤ p.y)) (neg_ℤ (c.y -ℤ p.y)) _
-        (row_sides _ _ _ _ _ _ first second third (omega (arith, signed_linear, h)) (omega (arith, signed_linear, h))
-        (other_sign _ _ _ (a.y -ℤ p.y) (b.y -ℤ p.y) (c.y -ℤ p.y) (balance a b c p))) (λ z. omega (arith, signed_linear, h, z))
-        (λ x y. chord (omega (arith, signed_linear, x)) (omega (arith, signed_linear, y)))
+owned a b c p bent turning chord g =
+    let first = first_from_gap (weight_a a b c p) (weight_b a b c p) (weight_c a b c p) (weights_above a b c p bent) g in
+    owned_from (weight_a a b c p) (weight_b a b c p) (weight_c a b c p) (a.y -ℤ p.y) (b.y -ℤ p.y) (c.y -ℤ p.y)
+    (is_right_of_chord a b c) first (second_weight a b c p bent turning (omega (arith, signed_linear, g)))
+    (third_positive (weight_a a b c p) (weight_b a b c p) (weight_c a b c p) first g) (balance a b c p)
+    (distances a.y b.y c.y p.y turning)
+    (λ x y. chord (omega (arith, signed_linear, x)) (omega (arith, signed_linear, y)))
 
 -- off the piece and its region the gap is below 0
 outside_gap : (a b c p : Place) → area a b c ≢ pos 0 → IsTurning a.y b.y c.y p.y → HasChord a b c p.y
@@ -264,53 +202,35 @@ pub record IsIn (a b c p : Place) : Type 0 where
 
 inside_gap : (a b c p : Place) → area a b c ≢ pos 0 → ¬ (IsInner a.y c.y p.y)
     → InRegion (weight_a a b c p) (weight_b a b c p) (weight_c a b c p) (is_right_of_chord a b c) → IsIn a b c p
-inside_gap a b c p bent n r = by (beside_ends a.y c.y p.y n) r.second
+inside_gap a b c p bent n r = by (region_apart (weight_a a b c p) (weight_b a b c p) (weight_c a b c p) (a.y -ℤ p.y) (b.y -ℤ p.y)
+    (c.y -ℤ p.y) (is_right_of_chord a b c) r.first r.third r.second (balance a b c p) ends flat)
   where
+    ends : ((pos 0 ≤ℤ (a.y -ℤ p.y)) × (pos 0 ≤ℤ (c.y -ℤ p.y))) ⊎ (((a.y -ℤ p.y) ≤ℤ pos 0) × ((c.y -ℤ p.y) ≤ℤ pos 0))
+    ends = elim (beside_ends a.y c.y p.y n) [
+      | inl h ↦ inl (omega (arith, signed_linear, h), omega (arith, signed_linear, h))
+      | inr h ↦ inr (omega (arith, signed_linear, h), omega (arith, signed_linear, h))
+    ]
+
+    flat : a.y -ℤ p.y ≡ pos 0 → b.y -ℤ p.y ≡ pos 0 → c.y -ℤ p.y ≡ pos 0 → ⊥
+    flat x y z = bent (level_none a b c (omega (arith, signed_linear, x, y)) (omega (arith, signed_linear, x, z)))
+
     above : pos 0 <ℤ gap_here a b c p
     above = let g = r.gap in let e = gap_of_weights a b c p bent in omega (arith, signed_linear, g, e)
 
-    second : pos 0 ≤ℤ weight_b a b c p
-    second = elim r.second [ inl h ↦ omega (arith, signed_linear, h) | inr h ↦ let e = h.0 in omega (arith, signed_linear, e) ]
-
-    -- both ends on the row
-    level : a.y ≡ p.y → c.y ≡ p.y → (weight_b a b c p ≡ pos 0) ⊎ (b.y ≡ p.y)
-        → (pos 0 <ℤ weight_b a b c p) ⊎ ((weight_b a b c p ≡ pos 0) × (is_right_of_chord a b c ≡ true)) → IsIn a b c p
-    level e f (inr g) x = absurd (bent (level_none a b c (e ∙ sym g) (e ∙ sym f)))
-    level e f (inl z) (inl h) = absurd (omega (arith, signed_linear, z, h))
-    level e f (inl z) (inr h) =
-        let o = right_over a b c (e ∙ sym f) h.1 in
+    by : (AreApart (a.y -ℤ p.y) (b.y -ℤ p.y) (c.y -ℤ p.y) × (a.y -ℤ p.y ≡ pos 0 → c.y -ℤ p.y ≡ pos 0 → ⊥))
+        ⊎ ((a.y -ℤ p.y ≡ pos 0) × (c.y -ℤ p.y ≡ pos 0) × (is_right_of_chord a b c ≡ true)) → IsIn a b c p
+    by (inl h) = record {
+      gap = above;
+      turning = turned_back a.y b.y c.y p.y h.0;
+      chord = λ e f. absurd (h.1 (omega (arith, signed_linear, e)) (omega (arith, signed_linear, f)));
+    }
+    by (inr (e, f, k)) =
+        let o = right_over a b c (omega (arith, signed_linear, e, f)) k in
         record {
           gap = above;
           turning = inr (omega (arith, signed_linear, e), omega (arith, signed_linear, f), omega (arith, signed_linear, e, o));
-          chord = λ x y. h.1;
+          chord = λ x y. k;
         }
-
-    from : {i j k : ℤ} → Sides (weight_b a b c p) i j k → (j <ℤ pos 0 → IsTurning a.y b.y c.y p.y) → (i ≡ pos 0 → a.y ≡ p.y)
-        → (k ≡ pos 0 → c.y ≡ p.y) → (j ≡ pos 0 → b.y ≡ p.y) → (a.y ≡ p.y → i ≡ pos 0) → (c.y ≡ p.y → k ≡ pos 0)
-        → (pos 0 <ℤ weight_b a b c p) ⊎ ((weight_b a b c p ≡ pos 0) × (is_right_of_chord a b c ≡ true)) → IsIn a b c p
-    from (inl (_, l, some)) turning at_a at_c at_b of_a of_c x = record {
-      gap = above;
-      turning = turning l;
-      chord = λ e f. let y = of_a e in let z = of_c f in absurd (omega (arith, signed_linear, some, y, z));
-    }
-    from (inr (e, f, inl z)) turning at_a at_c at_b of_a of_c x = level (at_a e) (at_c f) (inl z) x
-    from (inr (e, f, inr z)) turning at_a at_c at_b of_a of_c x = level (at_a e) (at_c f) (inr (at_b z)) x
-
-    by : IsBesideEnds a.y c.y p.y
-        → (pos 0 <ℤ weight_b a b c p) ⊎ ((weight_b a b c p ≡ pos 0) × (is_right_of_chord a b c ≡ true)) → IsIn a b c p
-    by (inl h) x =
-        let o = row_sides _ _ _ (a.y -ℤ p.y) (b.y -ℤ p.y) (c.y -ℤ p.y) r.first second r.third (omega (arith, signed_linear, h))
-        (omega (arith, signed_linear, h)) (balance a b c p) in
-        from o (λ l. inl (h.0, h.1, omega (arith, signed_linear, l))) (λ z. omega (arith, signed_linear, z))
-        (λ z. omega (arith, signed_linear, z)) (λ z. omega (arith, signed_linear, z)) (λ z. omega (arith, signed_linear, z))
-        (λ z. omega (arith, signed_linear, z)) x
-    by (inr h) x =
-        let o = row_sides _ _ _ (neg_ℤ (a.y -ℤ p.y)) (neg_ℤ (b.y -ℤ p.y)) (neg_ℤ (c.y -ℤ p.y)) r.first second r.third
-        (omega (arith, signed_linear, h)) (omega (arith, signed_linear, h))
-        (other_sign _ _ _ (a.y -ℤ p.y) (b.y -ℤ p.y) (c.y -ℤ p.y) (balance a b c p)) in
-        from o (λ l. inr (h.0, h.1, omega (arith, signed_linear, l))) (λ z. omega (arith, signed_linear, z))
-        (λ z. omega (arith, signed_linear, z)) (λ z. omega (arith, signed_linear, z)) (λ z. omega (arith, signed_linear, z))
-        (λ z. omega (arith, signed_linear, z)) x
 
 -- ---- two places of such a row
 counted : (ay cy y s : ℤ) → ay ≤ℤ y → y <ℤ cy → pos 0 <ℤ s → crossing_number ay cy y s ≡ pos 1

@@ -64,7 +64,7 @@ no_chord u v w a b c hu hv hw some ha hc z = by (above_or_zero u hu)
         omega (arith, signed_linear, m, n, none, z)
 
 -- the same of the distances with the other sign
-pub other_sign : (u v w a b c : ℤ) → u *ℤ a +ℤ v *ℤ b +ℤ w *ℤ c ≡ pos 0 → u *ℤ neg_ℤ a +ℤ v *ℤ neg_ℤ b +ℤ w *ℤ neg_ℤ c ≡ pos 0
+other_sign : (u v w a b c : ℤ) → u *ℤ a +ℤ v *ℤ b +ℤ w *ℤ c ≡ pos 0 → u *ℤ neg_ℤ a +ℤ v *ℤ neg_ℤ b +ℤ w *ℤ neg_ℤ c ≡ pos 0
 other_sign u v w a b c z =
     ring (u ∷ v ∷ w ∷ a ∷ b ∷ c ∷ []) (var 0 ⊠ minus (var 3) ⊞ var 1 ⊠ minus (var 4) ⊞ var 2 ⊠ minus (var 5))
     (minus (var 0 ⊠ var 3 ⊞ var 1 ⊠ var 4 ⊞ var 2 ⊠ var 5)) tt ∙ ap neg_ℤ z
