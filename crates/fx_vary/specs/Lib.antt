@@ -10,3 +10,4 @@ pub mod Gvar
 pub mod Tuples
 pub mod Moves
 pub mod Stores
+pub mod Metrics

@@ -2,14 +2,14 @@
 -- OpenType, "OpenType Font Variations Common Table Formats", "Tuple variation store"; "gvar", "GlyphVariationData".
 use Rattle.std.specs.Prelude.{ℕ, ◌+◌, ◌%◌, ◌^◌, ℤ, List, [], ◌∷◌, length, drop, codes, Option, Some, None, Result, Ok, Bool, true}
 use Rattle.std.specs.Prelude.{false}
-use Rattle.std.specs.Prelude.{not, nat_lt}
+use Rattle.std.specs.Prelude.{not, nat_lt, ◌==◌}
 use Rattle.fx_fixed.specs.Chain.{◌>>=◌, refuse, wanted}
 use Rattle.fx_sfnt.specs.Fields.{field}
 use Rattle.fx_sfnt.specs.Tables.{Face, table_in}
 use Rattle.fx_glyf.specs.Words.{has}
 use Rattle.fx_axes.specs.Rounding.{near_up_of}
 use Rattle.fx_vary.specs.declared.fault.TupleFault.{TupleFault}
-use Rattle.fx_vary.specs.declared.fault.TupleFault.TheVariants.{HeaderShort, DataShort}
+use Rattle.fx_vary.specs.declared.fault.TupleFault.TheVariants.{BadVersion, HeaderShort, DataShort}
 use Rattle.fx_vary.specs.declared.fault.GvarFault.{GvarFault}
 use Rattle.fx_vary.specs.declared.fault.GvarFault.TheVariants.{NoGvar, BadGvar}
 use Rattle.fx_vary.specs.declared.point.GivenPoint.{GivenPoint}
@@ -57,6 +57,14 @@ setting_of i = record { shared = shared_tuples_of (length i.place) i.gvar; place
 -- what a glyph's tuples add to a coordinate of its points
 abbrev pub points_added : InstanceView → ℕ → List ℕ → Bool → List GivenPoint → Result (List GivenPoint) TupleFault
 points_added i g ends second points = glyph_added (setting_of i) ends second (glyph_data_of i.gvar g) points
+
+-- what the tuples of `cvar` add to control values: they have no contours, one coordinate, and no shared tuples
+-- (OpenType, "cvar", "cvar header")
+unfoldable pub controls_added : List ℤ → List ℕ → List GivenPoint → Result (List GivenPoint) TupleFault
+controls_added place cvar points = do
+  _ ← refuse (nat_lt (length cvar) 8) HeaderShort
+  _ ← refuse (not (field 4 cvar 0 == 0x00010000)) BadVersion
+  store_added (record { shared = []; place = place }) [] false cvar 4 points
 
 -- how far a point is moved in whole FUnits, of its sum in 1 / 2 ^ 58: the nearest number, halves up
 abbrev pub whole_move : GivenPoint → ℤ

@@ -5,6 +5,9 @@ use thiserror::Error;
 /// The first fault of tuples, in the order in which they are read.
 #[derive(Clone, Copy, Debug, PartialEq, Eq, Error)]
 pub enum TupleFault {
+    /// `cvar` has another version than 1.0.
+    #[error("the version of cvar is not 1.0")]
+    BadVersion,
     /// The header of a tuple ends too early, or names a shared tuple that does not exist.
     #[error("the headers of tuples end too early")]
     HeaderShort,

@@ -4,7 +4,8 @@ ghost use Rattle.std.specs.Prelude.{◌≡◌, ◌≤◌, ◌<◌, ◌^◌, ◌+
 ghost use Rattle.std.specs.List.{All};
 ghost use Rattle.fx_fixed.specs.Chain.{map_ok};
 ghost use Rattle.fx_vary.specs.Adding.{AreWithin, sums};
-ghost use Rattle.fx_vary.specs.Stores.{shared_numbers_of, store_added, glyph_added, instance_of, points_added, whole_move};
+ghost use Rattle.fx_vary.specs.Stores.{shared_numbers_of, store_added, glyph_added, instance_of, points_added, controls_added};
+ghost use Rattle.fx_vary.specs.Stores.{whole_move};
 
 use crate::fault::{GvarFault, TupleFault};
 use crate::folding::add_tuples;
@@ -14,7 +15,7 @@ use crate::point::GivenPoint;
 use crate::tuples::{PointNumbers, TupleCursor, TupleSetting};
 use fx_axes::near_up;
 use fx_fixed::{F2, after};
-use fx_sfnt::{Font, u16_in};
+use fx_sfnt::{Font, u16_in, u32_in};
 use std::marker::Model;
 
 /// Tuples share point numbers.
@@ -163,6 +164,28 @@ impl<'a> Instance<'a> {
         };
         add_glyph(points, ends, second, &setting, glyph_data(self.gvar, g))
     }
+}
+
+/// Adds what the tuples of `cvar` move control values, whose coordinates are no matter; or returns the first fault.
+#[tactic(auto, unfolding(crate::specs::Stores::controls_added))]
+pub fn add_controls<'a>(
+    place: &'a [F2],
+    cvar: &'a [u8],
+    points: &mut [GivenPoint],
+) -> Result<(), TupleFault>
+    requires place { length place.now < 2 ^ 16 }
+    requires few { length points.old < 2 ^ 32 }
+    requires begun { AreWithin 0 (sums points.old) }
+    ensures { map_ok (λ _. points.new) result ≡ controls_added place.now cvar.now points.old }
+{
+    if cvar.len() < 8 {
+        return Err(TupleFault::HeaderShort);
+    }
+    if u32_in(cvar, 0) != 0x0001_0000 {
+        return Err(TupleFault::BadVersion);
+    }
+    let setting = TupleSetting { shared: &[], place };
+    add_store(points, &[], false, &setting, cvar, 4)
 }
 
 /// How far a point is moved in whole FUnits: the nearest number, halves up.
