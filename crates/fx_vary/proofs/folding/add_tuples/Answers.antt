@@ -1,4 +1,4 @@
-use Rattle.std.proofs.Common.{◌≡◌, sym, arith}
+use Rattle.std.proofs.Common.{sym}
 use Rattle.std.proofs.lemmas.Result.{err_from_is_err_and}
 use Rattle.fx_vary.proofs.TupleSteps.{tuples_short, tuples_off, tuples_on, tuples_end}
 use Rattle.fx_vary.proofs.folding.add_tuples.Goals as goal
