@@ -7,6 +7,10 @@ use Rattle.std.proofs.lemmas.Bool.{leb-true, eqb-true, and_parts}
 use Rattle.std.proofs.Math.Nat.{mul-add}
 use Rattle.fx_axes.specs.Fvar.{axis_count, axis_size, instance_count, instance_size, axis_offset, instance_offset, holds_records}
 
+-- a number below one that is equal to another is below that
+pub along : (k n m : ℕ) → k < n → n ≡ m → k < m
+along k n m h e = omega (arith, h, e)
+
 or_cases : (a b : Bool) → (a || b) ≡ true → (a ≡ true) ⊎ (b ≡ true)
 or_cases true b e = inl refl
 or_cases false b e = inr e

@@ -11,19 +11,19 @@ all_step : (test : ℕ → Bool) (k n : ℕ) → all_from test k (suc n) ≡ con
 unfolding all_from
 all_step test k n = refl
 
-less : (k n : ℕ) → k < n → n - k ≡ suc (n - (k + 1))
-less k n h = omega arith
+fewer : (k n : ℕ) → k < n → n - k ≡ suc (n - (k + 1))
+fewer k n h = omega arith
 
 module _ (test : ℕ → Bool) (k n : ℕ) where
   any_at : (b : Bool) → k < n → test k ≡ b → any_from test k (n - k) ≡ cond b true (any_from test (k + 1) (n - (k + 1)))
   any_at b h e =
-      ap (any_from test k) (less k n h) ∙ any_step test k (n - (k + 1))
+      ap (any_from test k) (fewer k n h) ∙ any_step test k (n - (k + 1))
       ∙ ap (λ (t : Bool). cond t true (any_from test (suc k) (n - (k + 1)))) e
       ∙ ap (λ (j : ℕ). cond b true (any_from test j (n - (k + 1)))) (sym (add-one k))
 
   all_at : (b : Bool) → k < n → test k ≡ b → all_from test k (n - k) ≡ cond b (all_from test (k + 1) (n - (k + 1))) false
   all_at b h e =
-      ap (all_from test k) (less k n h) ∙ all_step test k (n - (k + 1))
+      ap (all_from test k) (fewer k n h) ∙ all_step test k (n - (k + 1))
       ∙ ap (λ (t : Bool). cond t (all_from test (suc k) (n - (k + 1))) false) e
       ∙ ap (λ (j : ℕ). cond b (all_from test j (n - (k + 1))) false) (sym (add-one k))
 

@@ -1,10 +1,10 @@
 -- Deltas given to all points in order, one at a time, as `counted_more` says.
 -- For `give_all`.
-use Rattle.std.proofs.Common.{◌≡◌, ℕ, zero, suc, ◌+◌, ◌-◌, ◌<◌, ◌≤◌, ℤ, List, [], ◌∷◌, refl, sym, ap, ◌∙◌, arith, add-one}
+use Rattle.std.proofs.Common.{◌≡◌, ℕ, suc, ◌+◌, ◌-◌, ◌<◌, ◌≤◌, ℤ, List, [], ◌∷◌, refl, sym, ap, ◌∙◌, arith, add-one}
 use Rattle.fx_vary.specs.declared.point.GivenPoint.{GivenPoint}
 use Rattle.fx_vary.specs.Giving.{one_given, all_given}
 use Rattle.fx_vary.specs.Moves.{count_up}
-use Rattle.fx_vary.proofs.Given.{one_more, out_of_deltas, out_of_numbers}
+use Rattle.fx_vary.proofs.Given.{one_more, out_of_numbers}
 
 count_suc : (k n : ℕ) → count_up k (suc n) ≡ k ∷ count_up (suc k) n
 unfolding count_up
@@ -24,10 +24,6 @@ pub counted_more : (k n : ℕ) (d : ℤ) (cs ds : List ℤ) (points next t : Lis
     → all_given (count_up (k + 1) (n - (k + 1))) ds next ≡ t
 counted_more k n d cs ds points next t h e g s =
     one_more k (count_up k (n - k)) (count_up (k + 1) (n - (k + 1))) d cs ds points next (count_next k n h) e g ∙ s
-
-pub counted_out : (k n : ℕ) (cs : List ℤ) (points t : List GivenPoint) → cs ≡ [] → all_given (count_up k (n - k)) cs points ≡ t
-    → points ≡ t
-counted_out k n cs points t e s = out_of_deltas (count_up k (n - k)) cs points e ∙ s
 
 pub counted_end : (k n : ℕ) (cs : List ℤ) (points t : List GivenPoint) → n ≤ k → all_given (count_up k (n - k)) cs points ≡ t
     → points ≡ t

@@ -48,16 +48,16 @@ filled_kept : (before : List GivenPoint) (p : GivenPoint) (after : List GivenPoi
 filled_kept before p after =
     by_names (is_named p) (first_named (reverse before ++ reverse after)) (first_named (after ++ before)) p
 
-each_kept : (before ps : List GivenPoint) → sums (each_filled before ps) ≡ sums ps
+each_sum_kept : (before ps : List GivenPoint) → sums (each_filled before ps) ≡ sums ps
 unfolding each_filled
-each_kept before [] = refl
-each_kept before (p ∷ after) =
+each_sum_kept before [] = refl
+each_sum_kept before (p ∷ after) =
     ap (λ (s : ℤ). s ∷ sums (each_filled (before ++ p ∷ []) after)) (filled_kept before p after)
-    ∙ ap (λ (l : List ℤ). p.sum ∷ l) (each_kept (before ++ p ∷ []) after)
+    ∙ ap (λ (l : List ℤ). p.sum ∷ l) (each_sum_kept (before ++ p ∷ []) after)
 
-contour_kept : (ps : List GivenPoint) → sums (contour_filled ps) ≡ sums ps
+contour_sum_kept : (ps : List GivenPoint) → sums (contour_filled ps) ≡ sums ps
 unfolding contour_filled
-contour_kept ps = each_kept [] ps
+contour_sum_kept ps = each_sum_kept [] ps
 
 halves : (m : ℕ) (ps : List GivenPoint) → sums (take m ps) ++ sums (drop m ps) ≡ sums ps
 halves m ps = sym (map-append (λ (p : GivenPoint). p.sum) (take m ps) (drop m ps)) ∙ ap sums (take-append-drop m ps)
@@ -70,7 +70,7 @@ part_kept (Some c) ps =
     map-append (λ (p : GivenPoint). p.sum) (take c.0 ps) (contour_filled (take m rest) ++ drop m rest)
     ∙ ap (λ (l : List ℤ). sums (take c.0 ps) ++ l)
     (map-append (λ (p : GivenPoint). p.sum) (contour_filled (take m rest)) (drop m rest)
-    ∙ ap (λ (l : List ℤ). l ++ sums (drop m rest)) (contour_kept (take m rest)) ∙ halves m rest)
+    ∙ ap (λ (l : List ℤ). l ++ sums (drop m rest)) (contour_sum_kept (take m rest)) ∙ halves m rest)
     ∙ halves c.0 ps
 
 contours_kept : (ends : List ℕ) (n : ℕ) (ps : List GivenPoint) → sums (contours_filled ends n ps) ≡ sums ps

@@ -1,6 +1,6 @@
 -- What `skip_numbers` finds is what `numbers_from` reads: `found`, `short`.
 -- For `PointNumbers::read`.
-use Rattle.std.proofs.Common.{◌≡◌, ℕ, List, Option, Some, None, refl, ap, ◌∙◌, sym}
+use Rattle.std.proofs.Common.{◌≡◌, ℕ, List, Option, Some, None, refl, ap, sym}
 use Rattle.std.specs.Prelude.{option_map, IsSome}
 use Rattle.std.proofs.lemmas.Option.{same_Some, none-some}
 use Rattle.fx_glyf.specs.Words.{list_in}

@@ -1,7 +1,7 @@
 -- The header of a tuple (OpenType, "OpenType Font Variations Common Table Formats", "TupleVariationHeader").
 use Rattle.std.specs.Prelude.{◌≤◌, IsTrue}
-use Rattle.std.specs.Prelude.{ℕ, ◌+◌, ◌*◌, ◌%◌, List, length, take, drop, Option, Some, None, Bool, not, ◌==◌, nat_lt}
-use Rattle.std.specs.Prelude.{if◌then◌else◌, bit_and, option_and_then}
+use Rattle.std.specs.Prelude.{ℕ, ◌+◌, ◌*◌, ◌%◌, List, length, take, drop, Option, Some, None, Bool, nat_lt}
+use Rattle.std.specs.Prelude.{if◌then◌else◌, option_and_then}
 use Rattle.fx_sfnt.specs.Fields.{field}
 use Rattle.fx_glyf.specs.Words.{has}
 

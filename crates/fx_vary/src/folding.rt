@@ -80,8 +80,9 @@ pub fn add_tuples<'a>(
     requires ends { All (λ e. e < length points.old) ends.now }
     requires count { count < 4096 }
     requires begun { AreWithin 0 (sums points.old) }
-    ensures { map_ok (λ _. points.new) result ≡
+    ensures value { map_ok (λ _. points.new) result ≡
         tuples_added setting.now ends.now second numbers.now count cursor.entry points.old }
+    ensures room { AreWithin 4095 (sums points.new) }
 {
     let mut cursor = cursor;
     // The tuples that are left add to the points what all do.

@@ -37,7 +37,7 @@ fn shared_numbers(
 }
 
 /// Adds what tuples move a coordinate of points; their counts begin at an offset of the bytes.
-#[tactic(auto, unfolding(crate::specs::Stores::store_added))]
+#[tactic(auto, using(crate::proofs::Sums::within_more), unfolding(crate::specs::Stores::store_added))]
 fn add_store<'a>(
     points: &mut [GivenPoint],
     ends: &[u16],
@@ -50,7 +50,8 @@ fn add_store<'a>(
     requires ends { All (λ e. e < length points.old) ends.now }
     requires begun { AreWithin 0 (sums points.old) }
     requires at { at ≤ 4 }
-    ensures { map_ok (λ _. points.new) result ≡ store_added setting.now ends.now second bytes.now at points.old }
+    ensures value { map_ok (λ _. points.new) result ≡ store_added setting.now ends.now second bytes.now at points.old }
+    ensures room { AreWithin 4095 (sums points.new) }
 {
     if bytes.len() < at + 4 {
         return Err(TupleFault::HeaderShort);
@@ -77,7 +78,7 @@ fn add_store<'a>(
 }
 
 /// Adds what the tuples of a glyph's data move a coordinate of its points.
-#[tactic(auto, unfolding(crate::specs::Stores::glyph_added))]
+#[tactic(auto, using(crate::proofs::Sums::within_more), unfolding(crate::specs::Stores::glyph_added))]
 fn add_glyph<'a>(
     points: &mut [GivenPoint],
     ends: &[u16],
@@ -88,7 +89,8 @@ fn add_glyph<'a>(
     requires few { length points.old < 2 ^ 32 }
     requires ends { All (λ e. e < length points.old) ends.now }
     requires begun { AreWithin 0 (sums points.old) }
-    ensures { map_ok (λ _. points.new) result ≡ glyph_added setting.now ends.now second bytes.now points.old }
+    ensures value { map_ok (λ _. points.new) result ≡ glyph_added setting.now ends.now second bytes.now points.old }
+    ensures room { AreWithin 4095 (sums points.new) }
 {
     if bytes.is_empty() {
         return Ok(());
@@ -156,7 +158,8 @@ impl<'a> Instance<'a> {
         requires few { length points.old < 2 ^ 32 }
         requires ends { All (λ e. e < length points.old) ends.now }
         requires begun { AreWithin 0 (sums points.old) }
-        ensures { map_ok (λ _. points.new) result ≡ points_added self.now g ends.now second points.old }
+        ensures value { map_ok (λ _. points.new) result ≡ points_added self.now g ends.now second points.old }
+        ensures room { AreWithin 4095 (sums points.new) }
     {
         let setting = TupleSetting {
             shared: shared_tuples(self.place.len() as u16, self.gvar),
@@ -167,7 +170,7 @@ impl<'a> Instance<'a> {
 }
 
 /// Adds what the tuples of `cvar` move control values, whose coordinates are no matter; or returns the first fault.
-#[tactic(auto, unfolding(crate::specs::Stores::controls_added))]
+#[tactic(auto, using(crate::proofs::Sums::within_more), unfolding(crate::specs::Stores::controls_added))]
 pub fn add_controls<'a>(
     place: &'a [F2],
     cvar: &'a [u8],
@@ -176,7 +179,8 @@ pub fn add_controls<'a>(
     requires place { length place.now < 2 ^ 16 }
     requires few { length points.old < 2 ^ 32 }
     requires begun { AreWithin 0 (sums points.old) }
-    ensures { map_ok (λ _. points.new) result ≡ controls_added place.now cvar.now points.old }
+    ensures value { map_ok (λ _. points.new) result ≡ controls_added place.now cvar.now points.old }
+    ensures room { AreWithin 4095 (sums points.new) }
 {
     if cvar.len() < 8 {
         return Err(TupleFault::HeaderShort);

@@ -17,3 +17,5 @@ mod fixed;
 mod front;
 #[cfg(test)]
 mod gstate;
+#[cfg(test)]
+mod vary;

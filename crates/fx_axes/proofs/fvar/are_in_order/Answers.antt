@@ -1,11 +1,8 @@
-use Rattle.std.proofs.Common.{◌≡◌, ◌<◌, ◌≤◌, sym, ap, ◌∙◌, subst, ℕ}
+use Rattle.std.proofs.Common.{◌≤◌, sym, ap, ◌∙◌, subst, ℕ}
 use Rattle.fx_axes.specs.Fvar.{is_ordered, is_in_order, axis_count}
 use Rattle.fx_axes.proofs.Sweeps.{all_on, all_miss, all_end}
-use Rattle.fx_axes.proofs.Inside.{axis_inside}
+use Rattle.fx_axes.proofs.Inside.{along, axis_inside}
 use Rattle.fx_axes.proofs.fvar.are_in_order.Goals as goal
-
-along : (k n m : ℕ) → k < n → n ≡ m → k < m
-along k n m h e = let P : ℕ → Type 0 = λ j. k < j in subst P e h
 
 pub axis_in-requires-clause-inside : goal.axis_in-requires-clause-inside
 axis_in-requires-clause-inside c =

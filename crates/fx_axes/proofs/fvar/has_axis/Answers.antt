@@ -1,12 +1,9 @@
-use Rattle.std.proofs.Common.{◌≡◌, ◌<◌, ◌≤◌, sym, ap, ◌∙◌, subst, ℕ}
+use Rattle.std.proofs.Common.{◌≤◌, sym, ap, ◌∙◌, subst, ℕ}
 use Rattle.std.proofs.lemmas.Bool.{eq-eqb, ne_eqb}
 use Rattle.fx_axes.specs.Fvar.{has_tag, axis_count}
 use Rattle.fx_axes.proofs.Sweeps.{any_on, any_hit, any_end}
-use Rattle.fx_axes.proofs.Inside.{axis_inside}
+use Rattle.fx_axes.proofs.Inside.{along, axis_inside}
 use Rattle.fx_axes.proofs.fvar.has_axis.Goals as goal
-
-along : (k n m : ℕ) → k < n → n ≡ m → k < m
-along k n m h e = let P : ℕ → Type 0 = λ j. k < j in subst P e h
 
 pub axis_in-requires-clause-inside : goal.axis_in-requires-clause-inside
 axis_in-requires-clause-inside c =

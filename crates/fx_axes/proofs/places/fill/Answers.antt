@@ -1,14 +1,11 @@
-use Rattle.std.proofs.Common.{◌≡◌, ◌<◌, ◌≤◌, ℕ, length, set, sym, ap, ◌∙◌, subst, arith}
+use Rattle.std.proofs.Common.{◌<◌, ◌≤◌, ℕ, length, set, sym, ap, ◌∙◌, subst, arith}
 use Rattle.std.specs.Prelude.{option_map}
 use Rattle.std.proofs.lemmas.Result.{err_from_is_err_and}
 use Rattle.fx_axes.specs.Fvar.{axis_count}
 use Rattle.fx_axes.specs.Places.{coordinate_of}
-use Rattle.fx_axes.proofs.Inside.{axis_inside}
+use Rattle.fx_axes.proofs.Inside.{along, axis_inside}
 use Rattle.fx_axes.proofs.Filling.{filled_on, filled_off, filled_end, first_of_maps, maps_of_others}
 use Rattle.fx_axes.proofs.places.fill.Goals as goal
-
-along : (k n m : ℕ) → k < n → n ≡ m → k < m
-along k n m h e = let P : ℕ → Type 0 = λ j. k < j in subst P e h
 
 pub axis_in-axis-requires-clause-inside : goal.axis_in-axis-requires-clause-inside
 axis_in-axis-requires-clause-inside c =

@@ -1,4 +1,4 @@
-use Rattle.std.proofs.Common.{◌≡◌, ◌∙◌, sym, ap}
+use Rattle.std.proofs.Common.{◌∙◌, sym, ap}
 use Rattle.fx_axes.proofs.Sweeps.{all_on, all_miss, all_end}
 use Rattle.fx_vary.specs.Gvar.{rises}
 use Rattle.fx_vary.proofs.Offsets.{offsets_inside}
