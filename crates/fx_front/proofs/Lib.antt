@@ -1,3 +1,5 @@
 pub mod Ending
 pub mod Saying
 pub mod Stripped
+pub mod Following
+pub mod Parting

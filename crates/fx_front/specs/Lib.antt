@@ -5,6 +5,7 @@ pub mod Advised
 pub mod Told
 pub mod Asked
 pub mod Kinds
+pub mod Links
 pub mod Answered
 pub mod Fronts
 pub mod Places

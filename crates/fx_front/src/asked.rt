@@ -47,10 +47,7 @@ impl<'t, 'a> AskedRun<'t, 'a> {
     pub(crate) fn output_name(&self) -> &'a str
         ensures { result.now ≡ unwrap_or (text_in self.now.parts.now.output) [] }
     {
-        match self.parts.output {
-            Some(name) => name,
-            None => "",
-        }
+        or_empty(self.parts.output)
     }
 
     /// The list of characters among the words.
@@ -80,6 +77,16 @@ impl<'t, 'a> AskedRun<'t, 'a> {
             }
             _ => false,
         }
+    }
+}
+
+/// A text, or an empty one if there is none.
+pub(crate) fn or_empty<'a>(text: Option<&'a str>) -> &'a str
+    ensures { result.now ≡ unwrap_or (text_in text.entry) [] }
+{
+    match text {
+        Some(text) => text,
+        None => "",
     }
 }
 

@@ -1,24 +1,28 @@
 //! A run as a command line asks for it.
-ghost use Rattle.std.specs.Prelude.{◌≡◌, ◌<◌, ◌≤◌, ◌^◌, ℕ, Bool, Option, [], codes, length, unwrap_or, Some, None, IfOk};
+ghost use Rattle.std.specs.Prelude.{◌≡◌, ◌<◌, ◌≤◌, ◌^◌, ◌++◌, Bool, [], codes, length, option_map, string_bytes, unwrap_or, None, IfOk};
+ghost use Rattle.std.specs.Prelude.{if◌then◌else◌};
+ghost use Rattle.std.specs.Str.{bytes_eq};
 ghost use Rattle.fx_fixed.specs.Changes.{change_of};
-ghost use Rattle.fx_words.specs.Parts.{text_in, texts};
+ghost use Rattle.fx_words.specs.Parts.{has_byte, seen, text_in, texts};
 ghost use Rattle.fx_front.specs.Places.{IsStatus, is_named};
-ghost use Rattle.fx_front.specs.Answered.{Answered};
-ghost use Rattle.fx_front.specs.Fronts.{RunsBy, RunsFrom};
-ghost use Rattle.fx_front.specs.Lines.{SaysLine, Tells, unwritten};
-ghost use Rattle.fx_front.specs.Asked.{asked_by, command_in, font_of, is_explained};
+ghost use Rattle.fx_front.specs.Fronts.{CameTo, InputBy, RefusesFont, RunsBy, RunsNamed, RunsUnnamed, RunsWords};
+ghost use Rattle.fx_front.specs.Fronts.{after_unopened, hint, listed_after, named_how, names_files, unopened, words_before};
+ghost use Rattle.fx_front.specs.Fronts.{words_named_how};
+ghost use Rattle.fx_front.specs.Kinds.{package_of};
+ghost use Rattle.fx_front.specs.Lines.{SaysLine, Tells, shown_text, unwritten};
+ghost use Rattle.fx_front.specs.Asked.{command_in, font_of, is_explained};
 
 use crate::answer::answer;
-use crate::asked::{AskedRun, asked_by};
-use crate::destination::Destination;
+use crate::asked::{AskedRun, asked_by, or_empty};
 use crate::files::Files;
 use crate::lines::say;
 use crate::meant::takes_font;
+use crate::mistaken::after_first;
 use crate::packages::package_of;
 use crate::run::{run_to_end, say_unwritten};
 use crate::system::{NO_FILE, System};
 use crate::tool::Tool;
-use fx_fixed::{Sink, Source, ToSink};
+use fx_fixed::{Sink, ToSink};
 use fx_words::{lists_in, part};
 use std::alloc::{AllocError, Global};
 use std::io;
@@ -58,15 +62,18 @@ pub fn run_over<G: Tool, F: Files, O: Sink, E: Sink>(
 ) -> Result<u8, AllocError>
     requires out { O.fault_count out.old < 2 ^ 63 }
     requires err { E.fault_count err.old < 2 ^ 62 }
-    ensures answered { IfOk result (λ status. (is_terminal : Bool) × (between : E) × (own : Option ℕ)
-        × Answered (asked_by (texts words.now) is_terminal) (change_of O.held O.fault_count out.old out.new)
-        (change_of E.held E.fault_count) err.old between own × (own ≡ Some status → between ≡ err.new)) }
+    ensures came { IfOk result (λ status. (is_terminal : Bool) × F.IsTerminal files.now is_terminal
+        × CameTo G.Ran G.wrong_in G.wrong_item (change_of F.Input.left F.Input.fault_count)
+        F.Place.Names F.Place.works F.Place.fresh (F.Opens files.now) (F.Unopened files.now) F.IsEmpty (F.Places files.now)
+        (F.Unplaced files.now) (change_of E.held E.fault_count) (G.learned program.new)
+        is_terminal (texts words.now) (change_of O.held O.fault_count out.old out.new) err.old err.new status) }
     ensures status { IfOk result IsStatus }
 {
-    let asked = asked_by(words, files.has_terminal());
+    let is_terminal = files.has_terminal();
+    let asked = asked_by(words, is_terminal);
     match answer(alloc, &asked, out, err) {
         Some(status) => Ok(status),
-        None => run_words(alloc, program, words, files, err),
+        None => run_words(alloc, program, words, is_terminal, files, err),
     }
 }
 
@@ -84,64 +91,129 @@ fn run_words<G: Tool, F: Files, E: Sink>(
     alloc: Global,
     program: &mut G,
     words: &[&str],
+    is_terminal: bool,
     files: &F,
     err: &mut E,
 ) -> Result<u8, AllocError>
     requires { E.fault_count err.old < 2 ^ 62 }
+    ensures ran { IfOk result (λ status. RunsWords G.Ran G.wrong_in G.wrong_item (change_of F.Input.left F.Input.fault_count)
+        F.Place.Names F.Place.works F.Place.fresh (F.Opens files.now) (F.Unopened files.now) F.IsEmpty (F.Places files.now)
+        (F.Unplaced files.now) (change_of E.held E.fault_count) (G.learned program.new)
+        is_terminal (texts words.now) err.old err.new status) }
     ensures status { IfOk result IsStatus }
 {
     let (command, count) = command_in(words);
     let (before, after) = words.split_at(count);
-    let is_make = matches!(command, Some("make"));
-    let lists = if is_make {
-        lists_in(alloc, after)?
-    } else {
-        None
-    };
-    let list = match &lists {
-        Some(list) => Some(list.as_str()),
+    let is_make = is_make(command);
+    let lists = lists_of(alloc, is_make, after)?;
+    let listed = match &lists {
+        Some(lists) => Some(lists.as_str()),
         None => None,
     };
-    let parts = part(alloc, before, is_make, list, after)?;
+    let parts = part(alloc, before, is_make, listed, after)?;
     let task = AskedRun {
         parts: &parts,
         command,
     };
-    run_parted(alloc, program, &task, is_explained(words), files, err)
+    run_parted(
+        alloc,
+        program,
+        &task,
+        is_explained(words),
+        is_terminal,
+        files,
+        err,
+    )
 }
 
-/// Runs the program on words, or has it explain them without an input.
+/// Runs the program on parted words.
+#[tactic(auto, unfolding(crate::specs::Fronts::RunsBy))]
 fn run_parted<G: Tool, F: Files, E: Sink>(
+    alloc: Global,
+    program: &mut G,
+    task: &AskedRun<'_, '_>,
+    is_explained: bool,
+    is_terminal: bool,
+    files: &F,
+    err: &mut E,
+) -> Result<u8, AllocError>
+    requires { E.fault_count err.old < 2 ^ 62 }
+    ensures ran { IfOk result (λ status. RunsBy G.Ran G.wrong_in G.wrong_item (change_of F.Input.left F.Input.fault_count)
+        F.Place.Names F.Place.works F.Place.fresh (F.Opens files.now) (F.Unopened files.now) F.IsEmpty (F.Places files.now)
+        (F.Unplaced files.now) (change_of E.held E.fault_count) (G.learned program.new)
+        (names_files (text_in task.now.command) is_explained) is_terminal (seen task.now.parts.now) (text_in task.now.command)
+        is_explained err.old err.new status) }
+    ensures status { IfOk result IsStatus }
+{
+    if names_files(task.command, is_explained) {
+        hint_at_terminal(alloc, font_of(task), is_terminal, err);
+        run_named(alloc, program, task, files, err)
+    } else {
+        Ok(run_unnamed(alloc, program, task, is_explained, files, err))
+    }
+}
+
+/// The list that `--set` and `--chars` of `make` stand for among the words after it.
+fn lists_of(alloc: Global, is_make: bool, words: &[&str]) -> Result<Option<String>, AllocError>
+    ensures { IfOk result (λ lists. option_map string_bytes lists ≡ listed_after is_make (texts words.now)) }
+{
+    if is_make {
+        lists_in(alloc, words)
+    } else {
+        Ok(None)
+    }
+}
+
+/// Whether a command is `make`.
+fn is_make(command: Option<&str>) -> bool
+    ensures { result ≡ is_named (text_in command.entry) (codes "make") }
+{
+    match command {
+        Some(command) => command == "make",
+        None => false,
+    }
+}
+
+/// Runs the program on words that name no file, or has it explain them without an input.
+fn run_unnamed<G: Tool, F: Files, E: Sink>(
     alloc: Global,
     program: &mut G,
     task: &AskedRun<'_, '_>,
     is_explained: bool,
     files: &F,
     err: &mut E,
-) -> Result<u8, AllocError>
-    requires { E.fault_count err.old < 2 ^ 62 }
-    ensures ran { IfOk result (λ status. (hinted : E) × SaysLine (change_of E.held E.fault_count err.old hinted)
-        × RunsBy (RunsFrom (G.Ran (texts task.now.parts.now.words.items))
-        (change_of F.Input.left F.Input.fault_count)
-        F.Place.Names F.Place.works F.Place.fresh (change_of E.held E.fault_count)
-        (is_named (text_in task.now.command) (codes "trace")) (G.learned program.new))
-        (F.Opens files.now (font_of (text_in task.now.parts.now.font))) (F.Opens files.now None) F.IsEmpty
-        (F.Places files.now (text_in task.now.parts.now.output)) (F.Places files.now None)
-        (change_of E.held E.fault_count) (unwrap_or (text_in task.now.parts.now.output) []) hinted err.new status) }
-    ensures status { IfOk result IsStatus }
+) -> u8
+    requires { E.fault_count err.old < 2 ^ 63 }
+    ensures ran { RunsUnnamed G.Ran G.wrong_in G.wrong_item (change_of F.Input.left F.Input.fault_count)
+        F.Place.Names F.Place.works F.Place.fresh (F.Opens files.now) (F.Unopened files.now) F.IsEmpty (F.Places files.now)
+        (F.Unplaced files.now) (change_of E.held E.fault_count) (G.learned program.new)
+        (seen task.now.parts.now) (text_in task.now.command) is_explained err.old err.new result }
+    ensures status { IsStatus result }
 {
-    if task.command.is_some() && !is_explained {
-        return run_named(alloc, program, task, files, err);
+    let mut input = unnamed_input(is_explained, files);
+    let mut place = files.standard();
+    run_to_end(alloc, program, task, &mut input, &mut place, err)
+}
+
+/// The input of words that name none: standard input, or nothing if it can't be opened or the words are only explained.
+fn unnamed_input<F: Files>(is_explained: bool, files: &F) -> F::Input
+    ensures input { InputBy (F.Opens files.now) (F.Unopened files.now) F.IsEmpty is_explained result }
+    ensures faults { F.Input.fault_count result ≡ 0 }
+{
+    if is_explained {
+        return files.nothing();
     }
-    let input = if is_explained {
-        files.nothing()
-    } else {
-        match files.open(None) {
-            Ok(input) => input,
-            Err(_) => files.nothing(),
-        }
-    };
-    Ok(run_from(alloc, program, task, input, files.standard(), err))
+    match files.open(None) {
+        Ok(input) => input,
+        Err(_) => files.nothing(),
+    }
+}
+
+/// Whether words name a font and an output.
+fn names_files(command: Option<&str>, is_explained: bool) -> bool
+    ensures { result ≡ names_files (text_in command.entry) is_explained }
+{
+    command.is_some() && !is_explained
 }
 
 /// Whether words are only explained.
@@ -158,6 +230,7 @@ fn is_explained(words: &[&str]) -> bool
 /// one, all words are for the program.
 fn command_in<'a>(words: &[&'a str]) -> (Option<&'a str>, usize)
     ensures command { text_in result.0 ≡ command_in (texts words.entry.now) }
+    ensures count { result.1 ≡ words_before (texts words.entry.now) }
     ensures within { result.1 ≤ length words.entry.now }
 {
     let at = if is_explained(words) { 2 } else { 1 };
@@ -185,39 +258,41 @@ fn run_named<G: Tool, F: Files, E: Sink>(
     files: &F,
     err: &mut E,
 ) -> Result<u8, AllocError>
-    requires { E.fault_count err.old < 2 ^ 62 }
-    ensures ran { IfOk result (λ status. (hinted : E) × SaysLine (change_of E.held E.fault_count err.old hinted)
-        × RunsBy (RunsFrom (G.Ran (texts task.now.parts.now.words.items))
-        (change_of F.Input.left F.Input.fault_count)
-        F.Place.Names F.Place.works F.Place.fresh (change_of E.held E.fault_count)
-        (is_named (text_in task.now.command) (codes "trace")) (G.learned program.new))
-        (F.Opens files.now (font_of (text_in task.now.parts.now.font))) (F.Opens files.now None) F.IsEmpty
-        (F.Places files.now (text_in task.now.parts.now.output)) (F.Places files.now None)
-        (change_of E.held E.fault_count) (unwrap_or (text_in task.now.parts.now.output) []) hinted err.new status) }
+    requires { E.fault_count err.old < 2 ^ 63 }
+    ensures ran { IfOk result (λ status. RunsNamed G.Ran G.wrong_in G.wrong_item (change_of F.Input.left F.Input.fault_count)
+        F.Place.Names F.Place.works F.Place.fresh (F.Opens files.now) (F.Unopened files.now) F.IsEmpty (F.Places files.now)
+        (F.Unplaced files.now) (change_of E.held E.fault_count) (G.learned program.new)
+        (seen task.now.parts.now) (text_in task.now.command) err.old err.new status) }
     ensures status { IfOk result IsStatus }
 {
     let font = font_of(task);
-    hint_at_terminal(alloc, font, files, err);
-    let input = match files.open(font) {
+    let mut input = match files.open(font) {
         Ok(input) => input,
         Err(why) => return refuse_font(alloc, program, task, why, files, err),
     };
     match files.place(task.parts.output, font.unwrap_or("/dev/stdin"))? {
-        Ok(place) => Ok(run_from(alloc, program, task, input, place, err)),
+        Ok(mut place) => Ok(run_to_end(alloc, program, task, &mut input, &mut place, err)),
         Err(why) => Ok(refuse_output(alloc, task, why, err)),
     }
 }
 
 /// Says that the font is read from a terminal, if it is.
-fn hint_at_terminal<F: Files, E: Sink>(alloc: Global, font: Option<&str>, files: &F, err: &mut E)
-    ensures { SaysLine (change_of E.held E.fault_count err.old err.new) }
+fn hint_at_terminal<E: Sink>(alloc: Global, font: Option<&str>, is_terminal: bool, err: &mut E)
+    ensures told { Tells (change_of E.held E.fault_count err.old err.new)
+        (shown_text (hint (text_in font.entry) is_terminal) ++ []) }
+    ensures line { SaysLine (change_of E.held E.fault_count err.old err.new) }
 {
-    let what = if font.is_none() && files.has_terminal() {
-        "the font is read from standard input, which is a terminal here"
-    } else {
-        ""
-    };
-    say(alloc, err, &[what]);
+    say(alloc, err, &[hint(font, is_terminal)]);
+}
+
+/// That the font is read from a terminal.
+fn hint(font: Option<&str>, is_terminal: bool) -> &'static str
+    ensures { result.now ≡ hint (text_in font.entry) is_terminal }
+{
+    match font {
+        None if is_terminal => "the font is read from standard input, which is a terminal here",
+        _ => "",
+    }
 }
 
 /// Says what is wrong with the other words, or if nothing is, why the font can't be opened. Returns the status.
@@ -229,44 +304,86 @@ fn refuse_font<G: Tool, F: Files, E: Sink>(
     files: &F,
     err: &mut E,
 ) -> Result<u8, AllocError>
-    requires { E.fault_count err.old < 2 ^ 63 }
-    ensures ran { IfOk result (λ status. RunsBy (RunsFrom (G.Ran (texts task.now.parts.now.words.items))
-        (change_of F.Input.left F.Input.fault_count)
-        F.Place.Names F.Place.works F.Place.fresh (change_of E.held E.fault_count)
-        (is_named (text_in task.now.command) (codes "trace")) (G.learned program.new))
-        (F.Opens files.now (font_of (text_in task.now.parts.now.font))) (F.Opens files.now None) F.IsEmpty
-        (F.Places files.now (text_in task.now.parts.now.output)) (F.Places files.now None)
-        (change_of E.held E.fault_count) (unwrap_or (text_in task.now.parts.now.output) []) err.old err.new status) }
+    requires why { F.Unopened files.now (font_of (text_in task.now.parts.now.font)) why.now }
+    requires err { E.fault_count err.old < 2 ^ 63 }
+    ensures ran { IfOk result (λ status. RefusesFont G.Ran G.wrong_in G.wrong_item (change_of F.Input.left F.Input.fault_count)
+        F.Place.Names F.Place.works F.Place.fresh (F.Opens files.now) (F.Unopened files.now) F.IsEmpty (F.Places files.now)
+        (F.Unplaced files.now) (change_of E.held E.fault_count) (G.learned program.new)
+        (seen task.now.parts.now) (text_in task.now.command) err.old err.new status) }
     ensures status { IfOk result IsStatus }
 {
-    let wrong = program.wrong(alloc, task.parts.words.get(1..).unwrap_or(&[]))?;
+    let wrong = program.wrong(alloc, after_first(&task.parts.words))?;
     if wrong.is_empty() {
         say_no_font(alloc, task, why, err);
         return Ok(1);
     }
-    Ok(run_from(alloc, program, task, files.nothing(), files.standard(), err))
+    let mut input = files.nothing();
+    let mut place = files.standard();
+    Ok(run_to_end(alloc, program, task, &mut input, &mut place, err))
 }
 
 /// Says why a font can't be opened, and how to install it or how it is named.
 fn say_no_font<E: Sink>(alloc: Global, task: &AskedRun<'_, '_>, why: &str, err: &mut E)
-    ensures { (between : E) × SaysLine (change_of E.held E.fault_count err.old between)
-        × SaysLine (change_of E.held E.fault_count between err.new) }
+    ensures { let name = unwrap_or (text_in task.now.parts.now.font) [] in (between : E)
+        × Tells (change_of E.held E.fault_count err.old between) (unopened name why.now)
+        × Tells (change_of E.held E.fault_count between err.new) (after_unopened name why.now (text_in task.now.command))
+        × SaysLine (change_of E.held E.fault_count err.old between) × SaysLine (change_of E.held E.fault_count between err.new) }
 {
-    let name = task.parts.font.unwrap_or("");
+    let name = or_empty(task.parts.font);
     say(alloc, err, &["can't open the font '", name, "': ", why]);
-    let package = if why == NO_FILE {
+    say_how(alloc, name, advised_package(name, why), task.command, err);
+}
+
+/// How to install a font that is not there.
+fn advised_package(name: &str, why: &str) -> Option<&'static str>
+    ensures { text_in result ≡ (if bytes_eq why.now (codes "there is no such file") then package_of name.now else None) }
+{
+    if why == NO_FILE {
         package_of(name)
     } else {
         None
-    };
-    if let Some(advice) = package {
-        say(alloc, err, &[advice]);
-    } else if name.contains('/') {
-        let how = "' shows how it is written";
-        say(alloc, err, &[FONT_HELP, task.command.unwrap_or(""), how]);
+    }
+}
+
+/// Says how to install a font, or how it is named.
+fn say_how<E: Sink>(
+    alloc: Global,
+    name: &str,
+    advice: Option<&str>,
+    command: Option<&str>,
+    err: &mut E,
+)
+    ensures told { Tells (change_of E.held E.fault_count err.old err.new)
+        (named_how (text_in advice.entry) name.now (text_in command.entry)) }
+    ensures line { SaysLine (change_of E.held E.fault_count err.old err.new) }
+{
+    match advice {
+        Some(advice) => say(alloc, err, &[advice]),
+        None => say_named_how(alloc, name, or_empty(command), err),
+    }
+}
+
+/// Says how a font is named.
+fn say_named_how<E: Sink>(alloc: Global, name: &str, command: &str, err: &mut E)
+    ensures told { Tells (change_of E.held E.fault_count err.old err.new) (words_named_how (has_byte 47 name.now) command.now) }
+    ensures line { SaysLine (change_of E.held E.fault_count err.old err.new) }
+{
+    if has_slash(name) {
+        say(
+            alloc,
+            err,
+            &[FONT_HELP, command, "' shows how it is written"],
+        );
     } else {
         say(alloc, err, &[FONT_FILE]);
     }
+}
+
+/// Whether a name has a folder.
+fn has_slash(name: &str) -> bool
+    ensures { result ≡ has_byte 47 name.now }
+{
+    name.split_once('/').is_some()
 }
 
 /// Says why an output is not written. Returns the status.
@@ -277,25 +394,4 @@ fn refuse_output<E: Sink>(alloc: Global, task: &AskedRun<'_, '_>, why: &str, err
 {
     say_unwritten(alloc, task.output_name(), why, err);
     1
-}
-
-/// Runs the program from an input to an output, and says what to do after it. Returns the status.
-fn run_from<G: Tool, R: Source + Drop, P: Destination + Drop, E: Sink>(
-    alloc: Global,
-    program: &mut G,
-    task: &AskedRun<'_, '_>,
-    input: R,
-    place: P,
-    err: &mut E,
-) -> u8
-    requires input { R.fault_count input < 2 ^ 63 }
-    requires err { E.fault_count err.old < 2 ^ 63 }
-    ensures ran { RunsFrom (G.Ran (texts task.now.parts.now.words.items)) (change_of R.left R.fault_count)
-        P.Names P.works P.fresh (change_of E.held E.fault_count)
-        (is_named (text_in task.now.command) (codes "trace")) (G.learned program.new) err.old err.new result input place }
-    ensures status { IsStatus result }
-{
-    let mut reader = input;
-    let mut output = place;
-    run_to_end(alloc, program, task, &mut reader, &mut output, err)
 }

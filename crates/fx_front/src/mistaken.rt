@@ -36,7 +36,7 @@ pub(crate) fn add_usage<G: Tool>(
 }
 
 /// The words after the first.
-fn after_first<'t, 'a>(words: &'t [&'a str]) -> &'t [&'a str]
+pub(crate) fn after_first<'t, 'a>(words: &'t [&'a str]) -> &'t [&'a str]
     ensures { texts result.now ≡ drop 1 (texts words.entry.now) }
 {
     match words {

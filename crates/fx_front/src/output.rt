@@ -4,7 +4,7 @@ ghost use Rattle.fx_words.specs.Parts.{has};
 ghost use Rattle.fx_front.specs.Places.{kept_mode, standard};
 
 use crate::destination::Destination;
-use crate::paths::{beside_streams, folder_of, followed};
+use crate::paths::{SystemLinks, beside_streams, folder_of, followed};
 use fx_words::has;
 use std::alloc::AllocError;
 use std::fs::{File, Metadata, Permissions};
@@ -133,7 +133,7 @@ fn new_file(
     name: &str,
     older: Option<Access>,
 ) -> Result<Result<Output, &'static str>, AllocError> {
-    let Some(name) = followed(rt, name)? else {
+    let Some(name) = followed(rt.alloc(), &SystemLinks { rt }, name)? else {
         return Ok(Err("it is a link that can't be followed"));
     };
     let folder = folder_of(name.as_str());

@@ -1,5 +1,9 @@
 //! Names of files.
-use std::alloc::AllocError;
+ghost use Rattle.std.specs.Prelude.{◌≡◌, IfOk, option_map, string_bytes};
+ghost use Rattle.std.specs.Path.{path_with_file_name};
+ghost use Rattle.fx_front.specs.Links.{Follows, most_links};
+
+use std::alloc::{AllocError, Global};
 use std::fs::File;
 use std::io::ErrorKind;
 use std::os::fd::AsRawFd;
@@ -17,25 +21,82 @@ pub(crate) fn folder_of(path: &str) -> &str {
     }
 }
 
+/// Where a name leads.
+#[derive(Drop)]
+pub enum Link {
+    /// It is a link to this name, which counts from the link's folder.
+    To(String),
+    /// It is no link, or nothing has it.
+    Ends,
+    /// The system does not say.
+    Unread,
+}
+
+/// Links by their names.
+pub trait Links {
+    ghost use Rattle.std.specs.Prelude.{ℕ, List};
+    ghost use Rattle.fx_front.specs.declared.paths.Link.{Link};
+
+    // Where a name leads.
+    ghost Leads: { Self → List ℕ → Link → Type 0 };
+
+    /// Where a name leads.
+    fn link(&self, name: &str) -> Link
+        ensures { Leads self.now name.now result };
+}
+
+/// The links of the system.
+#[derive(Clone, Copy)]
+pub(crate) struct SystemLinks<'a> {
+    pub rt: &'a HostRuntime,
+}
+
+impl<'a> Links for SystemLinks<'a> {
+    ghost use Rattle.std.specs.Prelude.{⊤};
+
+    ghost Leads = { λ _ _ _. ⊤ };
+
+    fn link(&self, name: &str) -> Link {
+        match fs::read_link(self.rt, name) {
+            Ok(path) => Link::To(path.into_string()),
+            Err(fault) => unread_link(&fault),
+        }
+    }
+}
+
+/// Where a name leads whose link can't be read: it is no link, or the system does not say.
+fn unread_link(fault: &io::Error) -> Link {
+    match fault.kind() {
+        ErrorKind::InvalidInput | ErrorKind::NotFound => Link::Ends,
+        _ => Link::Unread,
+    }
+}
+
 /// The name to which the links at the end of a path lead. None if one can't be followed. An error means that memory ran out.
-pub(crate) fn followed(rt: &HostRuntime, path: &str) -> Result<Option<String>, AllocError> {
-    let mut name = String::from_str(rt.alloc(), path)?;
+pub fn followed<L: Links>(
+    alloc: Global,
+    links: &L,
+    path: &str,
+) -> Result<Option<String>, AllocError>
+    ensures { IfOk result (λ found. Follows (L.Leads links.now) most_links path.now (option_map string_bytes found)) }
+{
+    let mut name = String::from_str(alloc, path)?;
     // `name` is reached from the path by the links so far.
-    'links: for _ in 0..LINKS {
-        match fs::read_link(rt, name.as_str()) {
-            Ok(link) => {
-                let folder = Path::new(folder_of(name.as_str()));
-                name = folder.join(rt.alloc(), link)?.into_string();
-            }
-            Err(fault) => return Ok(if is_no_link(&fault) { Some(name) } else { None }),
+    'links: for k in 0..LINKS {
+        match links.link(name.as_str()) {
+            Link::To(target) => name = beside(alloc, name.as_str(), target.as_str())?,
+            Link::Ends => return Ok(Some(name)),
+            Link::Unread => return Ok(None),
         }
     }
     Ok(None)
 }
 
-/// Whether a path names no link, or nothing.
-fn is_no_link(fault: &io::Error) -> bool {
-    matches!(fault.kind(), ErrorKind::InvalidInput | ErrorKind::NotFound)
+/// A name that counts from the folder of another.
+fn beside(alloc: Global, name: &str, target: &str) -> Result<String, AllocError>
+    ensures { IfOk result (λ found. string_bytes found ≡ path_with_file_name name.now target.now) }
+{
+    Ok(Path::new(name).with_file_name(alloc, target)?.into_string())
 }
 
 /// The same open file, under a number above the standard streams. If a stream is closed, the next file that is opened gets its

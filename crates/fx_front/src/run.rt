@@ -2,10 +2,10 @@
 ghost use Rattle.std.specs.Prelude.{◌≡◌, ◌⊎◌, ◌<◌, ◌^◌, codes, true, false};
 ghost use Rattle.fx_fixed.specs.Changes.{change_of};
 ghost use Rattle.fx_words.specs.Parts.{seen, text_in, texts};
-ghost use Rattle.fx_front.specs.Places.{Ends, IsStatus, RunsTo, ended_status, held_by, is_named, keeps};
+ghost use Rattle.fx_front.specs.Fronts.{RunsFrom};
+ghost use Rattle.fx_front.specs.Places.{IsStatus, RunsTo, ended_status, held_by, is_named, keeps};
 ghost use Rattle.fx_front.specs.Lines.{SaysLine, Tells, unwritten};
 ghost use Rattle.fx_front.specs.Told.{told_first, told_second, why_unwritten};
-ghost use Rattle.fx_front.specs.declared.run.Ended.{Ended};
 
 use crate::asked::AskedRun;
 use crate::destination::Destination;
@@ -41,17 +41,9 @@ pub fn run_to_end<G: Tool, P: Destination, R: Source, E: Sink>(
 ) -> u8
     requires reader { R.fault_count reader.old < 2 ^ 63 }
     requires err { E.fault_count err.old < 2 ^ 63 }
-    ensures ends { (said : E) × (between : E)
-        × Ends (λ sink status. G.Ran (texts task.now.parts.now.words.items)
-        (change_of R.left R.fault_count reader.old reader.new) sink (change_of E.held E.fault_count err.old said) status)
-        P.Names P.works P.fresh place.old place.new (is_named (text_in task.now.command) (codes "trace"))
-        (G.learned program.new) result
-        × SaysLine (change_of E.held E.fault_count said between) × SaysLine (change_of E.held E.fault_count between err.new) }
-    ensures lines { let parts = seen task.now.parts.now in (own : Ended) × (said : E) × (between : E)
-        × (result ≡ ended_status own.status own.is_named)
-        × Tells (change_of E.held E.fault_count said between) (told_first (G.learned program.new) own parts)
-        × Tells (change_of E.held E.fault_count between err.new) (told_second (G.learned program.new) own parts
-        (text_in task.now.command) G.wrong_in G.wrong_item) }
+    ensures ran { RunsFrom (G.Ran (texts task.now.parts.now.words.items)) (change_of R.left R.fault_count) P.Names P.works P.fresh
+        (change_of E.held E.fault_count) G.wrong_in G.wrong_item (G.learned program.new) (seen task.now.parts.now)
+        (text_in task.now.command) err.old err.new result reader.old reader.new place.old place.new }
     ensures status { IsStatus result }
 {
     let ended = run_to_place(alloc, program, task, reader, place, err);

@@ -25,11 +25,17 @@ impl<'a> Files for System<'a> {
 
     type Place = Outlet<'a>;
 
+    ghost IsTerminal = { λ _ _. ⊤ };
+
     ghost Opens = { λ _ _ _. ⊤ };
+
+    ghost Unopened = { λ _ _ _. ⊤ };
 
     ghost IsEmpty = { λ _. ⊤ };
 
     ghost Places = { λ _ _ _. ⊤ };
+
+    ghost Unplaced = { λ _ _ _. ⊤ };
 
     fn has_terminal(&self) -> bool {
         self.rt.stdin().is_terminal()
