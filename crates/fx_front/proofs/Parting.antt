@@ -1,4 +1,4 @@
--- The words before and after the command that takes a font, parted, are the words of the command line, parted: `parted_is`.
+-- The words before and after the command that takes a font, parted, are all words, parted: `parted_is`.
 -- Serves `run_words`.
 use Rattle.std.proofs.Common.{◌≡◌, ◌∙◌, ℕ, Bool, List, Option, ap, drop, sym, take}
 use Rattle.std.specs.Prelude.{codes}

@@ -1,7 +1,7 @@
--- Texts that are added one after the other are one text (`chained`), and a text is told as its line (`told`).
-use Rattle.std.proofs.Common.{◌≡◌, ℕ, ◌<◌, ◌^◌, List, [], ◌++◌, Option, Some, None, Ok, Err, inl, inr, append_assoc, arith, refl}
+-- Texts that are added to one after the other, and told.
+use Rattle.std.proofs.Common.{◌≡◌, ℕ, List, [], ◌++◌, Option, Some, None, inl, append_assoc, arith, refl}
 use Rattle.fx_fixed.specs.Changes.{Change}
-use Rattle.fx_front.specs.Lines.{IsSilent, Says, SaysLine, Tells, TellsText}
+use Rattle.fx_front.specs.Lines.{IsSilent, Says, Tells, TellsText}
 
 pub chained : (x y : List ℕ) (a b c : Option (List ℕ)) → Says a b x → Says b c y → Says a c (x ++ y)
 chained x y a b None p q = tt
@@ -20,9 +20,3 @@ pub unchanged : (bytes : Option (List ℕ)) (faults : ℕ)
     → IsSilent (record { bytes_before = bytes; bytes = bytes; faults_before = faults; faults = faults })
 unchanged None faults = (tt, refl)
 unchanged (Some xs) faults = (refl, refl)
-
--- a line adds at most one fault
-pub few_faults : (change : Change) → SaysLine change → change.faults_before < 2 ^ 62 → change.faults < 2 ^ 63
-few_faults change (inl silent) few = let same = silent.1 in grind arith
-few_faults change (inr (text, is, (Ok done, wrote))) few = let same = wrote.outcome.1 in grind arith
-few_faults change (inr (text, is, (Err fault, wrote))) few = let more = wrote.outcome.2 in grind arith

@@ -142,8 +142,8 @@ module _ {R P E : Type 0} (Ran : List Text → Change → Change → Change → 
     -- a run of either kind. Before one on a font from a terminal a line says so
     unfoldable pub RunsBy : Bool → Bool → PartsView → Option Text → Bool → E → E → ℕ → Type 0
     RunsBy true is_terminal parts command explained was now status =
-        (hinted : E) × Tells (told was hinted) (shown_text (hint (font_of parts.font) is_terminal) ++ []) × SaysLine (told was hinted)
-        × RunsNamed parts command hinted now status
+        (hinted : E) × Tells (told was hinted) (shown_text (hint (font_of parts.font) is_terminal) ++ [])
+        × SaysLine (told was hinted) × RunsNamed parts command hinted now status
     RunsBy false is_terminal parts command explained was now status = RunsUnnamed parts command explained was now status
 
     abbrev pub RunsWords : Bool → List Text → E → E → ℕ → Type 0

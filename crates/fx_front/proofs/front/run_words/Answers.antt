@@ -12,6 +12,6 @@ returns-clause-ran g c =
       | in-None w ↦ rw (w.listed-is, w.in-None.is) refl
     ] in
     let parts = parted_is c.args.words.now c.split_at.result.0.now c.split_at.result.1.now c.command_in-count.ensures.command
-    c.command_in-count.ensures.count c.is_make-is_make.ensures c.split_at.ensures.front c.split_at.ensures.back c.in_ok-lists.ensures listed
-    c.in_ok-parts.ensures in
+    c.command_in-count.ensures.count c.is_make-is_make.ensures c.split_at.ensures.front c.split_at.ensures.back
+    c.in_ok-lists.ensures listed c.in_ok-parts.ensures in
     rw (parts, c.command_in-count.ensures.command, c.is_explained.ensures) at c.run_parted.ensures.ran
