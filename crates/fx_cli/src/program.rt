@@ -51,8 +51,9 @@ pub fn run_watched<R: Source, O: Sink, E: Sink, W: Watcher>(
     requires reader { R.fault_count reader.old < 2 ^ 63 }
     requires out { O.fault_count out.old < 2 ^ 63 }
     requires err { E.fault_count err.old < 2 ^ 63 }
-    ensures { Runs (texts arguments.now) (change_of R.left R.fault_count reader.old reader.new)
-        (change_of O.held O.fault_count out.old out.new) (change_of E.held E.fault_count err.old err.new) result }
+    ensures { (runs : Runs (texts arguments.now) (change_of R.left R.fault_count reader.old reader.new)
+        (change_of O.held O.fault_count out.old out.new) (change_of E.held E.fault_count err.old err.new) result)
+        × W.Knows watcher.new runs.outcome }
 {
     let mut teller = Teller::new(err);
     let outcome = run_told(alloc, arguments, reader, out, &mut teller, watcher);
