@@ -9,6 +9,7 @@ ghost use Rattle.fx_request.specs.declared.refusal.Refusal.TheVariants.{BadHex, 
 ghost use Rattle.fx_cli.specs.Runs.{Ends, MakeLeaves, Runs, StrikeLeaves, TaskLeaves, called, font_bytes};
 ghost use Rattle.fx_cli.specs.Steps.{EndsAfter, Telling};
 
+use crate::faces::put_faces;
 use crate::mapped::mapped_of;
 use crate::show::put_picture;
 use crate::watcher::{NoWatcher, Watcher};
@@ -205,6 +206,10 @@ fn run_task<O: Sink, E: Sink>(
         Task::Trace(trace) => {
             let there = trace_of(alloc, font, trace.ppem, trace.traced, out)?;
             Ok(Done::Trace(there))
+        }
+        Task::Faces => {
+            put_faces(font, out)?;
+            Ok(Done::Faces)
         }
         Task::Explanation(line) => {
             put_all(out, line)?;

@@ -113,7 +113,7 @@ impl Watcher for Watch {
         let Ok(opened) = Font::open(font) else {
             return;
         };
-        self.facts.is_variable = !matches!(done, Done::Listing | Done::Explanation)
+        self.facts.is_variable = !matches!(done, Done::Listing | Done::Faces | Done::Explanation)
             && opened.table(*b"fvar").is_some();
         let (Done::Strike(report), Task::Strike(make)) = (done, &command.task) else {
             return;
