@@ -115,6 +115,7 @@ def fonts_by_name(it):
         it.equal("a request by standard input", it.run([], b"make --ppem 16 --chars 41-5a\n" + it.read("a font.ttf")), due)
         it.equal("a font for show", it.run(["show", "--ppem", "16", "--char", "41", "a font.ttf"])[0], 0)
         it.equal("a font for dump", it.run(["dump", "--of", "prep", "a font.ttf"])[0], 0)
+        it.equal("a font for faces", it.run(["faces", "a font.ttf"]), (0, b"0\tDejaVu Sans\tBook\n", ""))
     for name, why in (("no such.ttf", "there is no such file"), (".", "it is a folder")):
         status, out, said = it.run(MAKE + [name])
         it.equal("a font that can't be opened: %s" % name, (status, out, said.split("\n")[0]),

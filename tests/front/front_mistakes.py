@@ -143,7 +143,7 @@ ROWS = [
     ("duplicate with =", ["--chars=41"], SANS, 2, USAGE, "'--chars=41' is given twice"),
     ("duplicate flag", ["--hex", "--hex"], SANS, 2, USAGE, "'--hex' is given twice"),
     ("command missing", ["--ppem", "16", "--chars", "41"], SANS, 2, USAGE,
-     "the first word is the command, make, show, outline, dump, trace, explain, or help, not '--ppem'"),
+     "the first word is the command, make, show, outline, dump, trace, faces, explain, or help, not '--ppem'"),
     ("command misspelt", ["mkae", "--ppem", "16"], SANS, 2, USAGE, "unknown command 'mkae'; did you mean 'make'?"),
     ("font in place of the command", ["font.ttf"], SANS, 2, USAGE, "'mkstrike make --ppem 16 --set ascii FONT' makes a strike"),
     ("a font that is there in place of the command", ["cut.ttf", "16"], SANS, 2, USAGE,
@@ -299,9 +299,16 @@ ROWS = [
     ("dump of a glyph that is not there", ["dump", "--of", "65000"], SANS, 1, "mkstrike: 24 BadGlyphNumber 65000",
      "the font has no glyph of that number"),
     ("dump glyph name", ["dump", "--of", "Aacute"], SANS, 2, USAGE, "the number of a glyph, not 'Aacute'"),
+    # the fonts of a file
+    ("faces with --face", ["faces", "--face", "0"], SANS, 2, USAGE, "unknown option '--face'; 'mkstrike help faces'"),
+    ("faces misspelt", ["fases"], SANS, 2, USAGE, "unknown command 'fases'; did you mean 'faces'?"),
+    ("faces of a collection without a font", ["faces", "none.ttc"], b"", 1, "mkstrike: 25 NoFace", "the collection has no font"),
+    ("faces of a strike", ["faces", "a.bdf"], b"", 1, "mkstrike: 10 NotTrueType", "it is a bitmap font already"),
+    ("faces of a variable font", ["faces", "variable.ttf"], b"", 0, "", NONE),
     ("a glyph whose program halts", "19c", SANS, 1, "mkstrike: 30 StackUnder .*", "with --unhinted no program"),
 ]
-ALONE = ("make", "show", "dump", "mkae", "explian", "font.ttf", "cut.ttf", "version", "-h", "help", "--version", "-V", "outline")
+ALONE = ("make", "show", "dump", "mkae", "explian", "font.ttf", "cut.ttf", "version", "-h", "help", "--version", "-V", "outline",
+         "faces", "fases")
 
 
 def mistakes(sans):

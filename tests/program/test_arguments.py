@@ -68,7 +68,8 @@ NOT_VALID = (
     "outline|--ppem|0|--glyph|65536", "show|--ppem|0|--glyph|1a", "outline|--ppem|0|--glyph|",
     "outline|--ppem|0|--glyph|0|--dropout", "outline|--ppem|65536|--glyph|0", "make|--ppem|0|--glyph|0",
     "make|--ppem|0|--all|--chars|41", "make|--chars=|--ppem|0|--all", "make|--ppem|0|--all|--all",
-    "make|--ppem|0|--all=", "show|--ppem|0|--all", "make|--ppem|0|--hex", "make|--ppem|0|--char|41|--all")
+    "make|--ppem|0|--all=", "show|--ppem|0|--all", "make|--ppem|0|--hex", "make|--ppem|0|--char|41|--all",
+    "faces|--ppem|16", "faces|--face|0", "faces|x|y", "faces|--hex=1", "Faces", "face")
 
 
 def command_lines():
@@ -84,19 +85,20 @@ def command_lines():
             ("outline --ppem 16 --glyph 36 --dropout", "unknown option '--dropout'"), ("outline --glyph 36", "--ppem is missing"),
             ("make --ppem 16", "--chars or --all is missing"),
             ("make --ppem 16 --all --chars 41", "--chars and --all can't be given together"),
-            ("make --ppem 16 --all=x", "--all takes no value")):
+            ("make --ppem 16 --all=x", "--all takes no value"), ("faces --face 1", "unknown option '--face'")):
         yield Run("explain " + line, "explain " + line, b"", listed([text]))
     yield Run("explain what is right", "explain outline --ppem 16 --glyph 36 --hex", b"", listed([]))
 
 
 # Arguments, and how a run ends whose input can't be read.
 UNREAD = (
-    ("make|--ppem|16", usage()), ("show|--ppem|16", usage()), ("dump|--of|glyf", usage()),
+    ("make|--ppem|16", usage()), ("show|--ppem|16", usage()), ("dump|--of|glyf", usage()), ("faces|--face|0", usage()),
     ("make|--ppem|0|--chars|42-41", BAD_CHARS), ("make|--hex|--ppem|16|--chars|4x", BAD_CHARS),
     ("show|--ppem|0|--char|", BAD_CHARS), ("show|--ppem|0|--char=", BAD_CHARS), ("show|--ppem|0|--char|0000041", BAD_CHARS),
     ("show|--ppem|0|--char|41-41", BAD_CHARS), ("show|--ppem|0|--char|41,41", BAD_CHARS), ("show|--ppem|0|--char|+41", BAD_CHARS),
     ("show|--ppem|0|--char|4g", BAD_CHARS), ("show|--ppem|0|--char|41", READ_FAILED), ("show|--ppem|16|--char|110000", READ_FAILED),
     ("make|--ppem|0|--chars|41", READ_FAILED), ("make|--ppem|16|--chars|110000", READ_FAILED), ("dump|--of|prep", READ_FAILED),
+    ("faces", READ_FAILED), ("faces|--hex", READ_FAILED),
     ("mak", usage()), ("make", usage()), ("make|--ppem|16|--chars|41|--x", usage()), ("make|--ppem|16|--chars|41|x|y", usage()),
     ("dump|--of|cvt", usage()), ("show|--ppem|16|--char|41-42", BAD_CHARS))
 

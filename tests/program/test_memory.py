@@ -1,7 +1,7 @@
 """Refuses each request for memory of the program in turn, and looks at each answer.
 
-For each of some requests (make hinted and not, show, outline, dump, trace) the N-th call for memory is refused, for N from 1 until
-a run meets no refusal; then again with all calls from the N-th on refused. Each time the answer must be status 1, the line
+For each of some requests (make hinted and not, show, outline, dump, trace, faces) the N-th call for memory is refused, for N from 1
+until a run meets no refusal; then again with all calls from the N-th on refused. Each time the answer must be status 1, the line
 `mkstrike: 90 OutOfMemory`, perhaps after lines of refused characters, and a beginning of the text, perhaps none; or all that it is
 without a refusal. That answer must be the one that is due of the request. What the program can do without it does without: a strike
 whose buffer of lines is refused is made all the same.
@@ -63,6 +63,7 @@ def requests_of_the_fixture():
         Request("fixture, show, hinted", None, b"show --ppem 16 --char 41\n" + data, font.show(0x41, 16)),
         Request("fixture, an outline, hinted", "outline --ppem 16 --char 42", data, font.outline(3, 16)),
         Request("fixture, listing of a glyph", "dump --of 2", data, listed([])),
+        Request("fixture, faces", "faces", data, listed(["0\t-\tRegular"])),
         Request("usage", "make --ppem 16 --unhinted", data, usage()),
         Request("fixture cut", "make --ppem 16 --chars 41 --unhinted", data[:330], refused("18 GlyphShort 2")),
     ]

@@ -19,9 +19,9 @@ use Rattle.fx_request.specs.declared.refusal.Refusal.TheVariants.{BadChars, OutO
 use Rattle.fx_arguments.specs.declared.fault.Fault.{Fault}
 use Rattle.fx_arguments.specs.declared.fault.Fault.TheVariants.{Usage, Early}
 use Rattle.fx_arguments.specs.declared.verb.Verb.{Verb}
-use Rattle.fx_arguments.specs.declared.verb.Verb.TheVariants.{Make, Show, Outline, Dump, Trace}
-use Rattle.fx_arguments.specs.Arguments.{app_for, asked_for, dump_app, is_bare, is_some_kind, make_app, outline_app, rows_by, show_app, trace_app}
-use Rattle.fx_arguments.specs.Arguments.{unsigned_of}
+use Rattle.fx_arguments.specs.declared.verb.Verb.TheVariants.{Make, Show, Outline, Dump, Trace, Faces}
+use Rattle.fx_arguments.specs.Arguments.{app_for, asked_for, dump_app, faces_app, is_bare, is_some_kind, make_app, outline_app, rows_by}
+use Rattle.fx_arguments.specs.Arguments.{show_app, trace_app, unsigned_of}
 use Rattle.fx_arguments.specs.CommandLine.{command_by}
 use Rattle.fx_arguments.specs.Commands.{CommandView, Refuses}
 use Rattle.fx_arguments.specs.Mistakes.{asked_by}
@@ -29,20 +29,22 @@ use Rattle.fx_arguments.specs.Wrong.{malformed, wrong}
 
 -- clap reads these commands as its definitions say
 free_for : (verb : Verb) → is_simple_and_free (app_for verb) ≡ true
-unfolding make_app show_app outline_app dump_app trace_app clap_on_literals
+unfolding make_app show_app outline_app dump_app trace_app faces_app clap_on_literals
 free_for Make = refl
 free_for Show = refl
 free_for Outline = refl
 free_for Dump = refl
 free_for Trace = refl
+free_for Faces = refl
 
 simple_for : (verb : Verb) → is_simple (app_for verb) ≡ true
-unfolding make_app show_app outline_app dump_app trace_app clap_on_literals
+unfolding make_app show_app outline_app dump_app trace_app faces_app clap_on_literals
 simple_for Make = refl
 simple_for Show = refl
 simple_for Outline = refl
 simple_for Dump = refl
 simple_for Trace = refl
+simple_for Faces = refl
 
 -- decimal digits, as a test
 pub tests_digits : (ds : List ℕ) → AllDigits 10 ds → list_all (λ d. nat_lt (digit_value d) 10) ds ≡ true

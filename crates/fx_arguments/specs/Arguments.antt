@@ -31,7 +31,7 @@ use Rattle.fx_arguments.specs.declared.verb.Verb.TheVariants as verbs
 use Rattle.fx_arguments.specs.Chars.{number_of, numbers_of_list}
 use Rattle.fx_arguments.specs.Properties.{property_of}
 use Rattle.fx_arguments.specs.Wrong.{WrongView, malformed, not_taken, says}
-use Rattle.fx_arguments.specs.Commands.{CharacterChoiceView, CommandView, TaskView, listed, listing, mapped, outline, picture, strike, trace}
+use Rattle.fx_arguments.specs.Commands.{CharacterChoiceView, CommandView, TaskView, faces, listed, listing, mapped, outline, picture, strike, trace}
 
 -- an option `--id VALUE`
 abbrev pub option_rule : Text → Rule
@@ -88,12 +88,17 @@ trace_app = fold with_rule (new_app (codes "trace"))
     (option_rule (codes "ppem") ∷ option_rule (codes "char") ∷ option_rule (codes "glyph") ∷ option_rule (codes "of") ∷
     option_rule (codes "face") ∷ flag_rule (codes "hex") ∷ [])
 
+-- the command `faces` with its option
+unfoldable pub faces_app : App
+faces_app = fold with_rule (new_app (codes "faces")) (flag_rule (codes "hex") ∷ [])
+
 abbrev pub app_for : Verb → App
 app_for verbs.Make = make_app
 app_for verbs.Show = show_app
 app_for verbs.Outline = outline_app
 app_for verbs.Dump = dump_app
 app_for verbs.Trace = trace_app
+app_for verbs.Faces = faces_app
 
 -- ---- what is asked for
 
@@ -266,12 +271,17 @@ trace_by rows = do
   traced ← traced_by (first_of (codes "char") rows) (first_of (codes "glyph") rows) (first_of (codes "of") rows)
   Ok (record { task = trace (record { ppem = ppem; traced = traced }); face = face; hex = is_given (codes "hex") rows })
 
+-- what the value of `faces`'s option asks for: all faces of the file, so none is chosen
+abbrev pub faces_by : List Row → Result CommandView WrongView
+faces_by rows = Ok (record { task = faces; face = 0; hex = is_given (codes "hex") rows })
+
 abbrev pub asked_for : Verb → List Row → Result CommandView WrongView
 asked_for verbs.Make = make_by
 asked_for verbs.Show = glyph_by false
 asked_for verbs.Outline = glyph_by true
 asked_for verbs.Dump = dump_by
 asked_for verbs.Trace = trace_by
+asked_for verbs.Faces = faces_by
 
 -- ---- the words
 
@@ -298,7 +308,8 @@ is_command name (word ∷ words) = bytes_eq word name
 abbrev pub verb_named : Text → Option Verb
 verb_named name = if bytes_eq name (codes "make") then Some verbs.Make else (if bytes_eq name (codes "show") then Some verbs.Show
     else (if bytes_eq name (codes "outline") then Some verbs.Outline else (if bytes_eq name (codes "dump") then Some verbs.Dump
-    else (if bytes_eq name (codes "trace") then Some verbs.Trace else None))))
+    else (if bytes_eq name (codes "trace") then Some verbs.Trace else (if bytes_eq name (codes "faces") then Some verbs.Faces
+    else None)))))
 
 abbrev pub verb_of : List Text → Option Verb
 verb_of [] = None

@@ -14,7 +14,7 @@ use Rattle.fx_arguments.specs.declared.command.Make.{Make}
 use Rattle.fx_arguments.specs.declared.command.Show.{Show}
 use Rattle.fx_arguments.specs.declared.command.Task.{Task}
 use Rattle.fx_arguments.specs.declared.command.Trace as held
-use Rattle.fx_arguments.specs.declared.command.Task.TheVariants.{Strike, Picture, Outline, Listing, Trace, Explanation}
+use Rattle.fx_arguments.specs.declared.command.Task.TheVariants.{Strike, Picture, Outline, Listing, Trace, Faces, Explanation}
 use Rattle.fx_arguments.specs.declared.fault.Fault.{Fault}
 use Rattle.fx_arguments.specs.declared.fault.Fault.TheVariants.{Usage, Early}
 
@@ -34,14 +34,15 @@ pub record MakeView : Type 0 where
   pub mode : Mode
   pub on_refused : OnRefused
 
--- a strike, the picture or the outline of a glyph, the listing of a program, the trace of programs, or a line that explains what is
--- wrong with arguments
+-- a strike, the picture or the outline of a glyph, the listing of a program, the trace of programs, the faces of the file, or a
+-- line that explains what is wrong with arguments
 pub data TaskView : Type 0 where
   strike : MakeView → TaskView
   picture : Show → TaskView
   outline : Show → TaskView
   listing : FontProgram → TaskView
   trace : held.Trace → TaskView
+  faces : TaskView
   explanation : List ℕ → TaskView
 
 -- a task, the face of the font file that it is for, and whether the file is hexadecimal text
@@ -84,6 +85,7 @@ seen_task (Picture show) = picture show
 seen_task (Outline show) = outline show
 seen_task (Listing what) = listing what
 seen_task (Trace programs) = trace programs
+seen_task Faces = faces
 seen_task (Explanation line) = explanation line.items
 
 abbrev pub seen : Command → CommandView

@@ -16,7 +16,7 @@ use Rattle.fx_request.specs.declared.refusal.Refusal.{Refusal}
 use Rattle.fx_request.specs.declared.request.Report.{Report}
 use Rattle.fx_request.specs.Refusals.{number_of, name_of, location_of}
 use Rattle.fx_arguments.specs.declared.done.Done.{Done}
-use Rattle.fx_arguments.specs.declared.done.Done.TheVariants.{Strike, Picture, Outline, Listing, Trace, Explanation}
+use Rattle.fx_arguments.specs.declared.done.Done.TheVariants.{Strike, Picture, Outline, Listing, Trace, Faces, Explanation}
 use Rattle.fx_arguments.specs.declared.fault.Fault.{Fault}
 use Rattle.fx_arguments.specs.declared.fault.Fault.TheVariants.{Usage, Early, Late}
 
@@ -106,6 +106,7 @@ done_line Outline = []
 done_line Listing = []
 done_line (Trace true) = []
 done_line (Trace false) = missing_line
+done_line Faces = []
 done_line Explanation = []
 
 -- the line of how a run ended

@@ -82,6 +82,7 @@ pub fn asked_for<'a>(
         Verb::Outline => glyph_of(matches, true),
         Verb::Dump => dump_of(matches),
         Verb::Trace => trace_of(matches),
+        Verb::Faces => Ok(command_for(matches, 0, Task::Faces)),
     }
 }
 

@@ -25,6 +25,8 @@ pub enum Task<'a> {
     Listing(FontProgram),
     /// The trace of programs.
     Trace(Trace),
+    /// The faces of the file, with their names.
+    Faces,
     /// A line that explains what is wrong with arguments; it is empty if nothing is.
     Explanation(Vec<u8>),
 }

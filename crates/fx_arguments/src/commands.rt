@@ -74,6 +74,9 @@ const TRACE: [(&str, Takes); 6] = [
     ("hex", Takes::Nothing),
 ];
 
+/// The options of `faces`.
+const FACES: [(&str, Takes); 1] = [("hex", Takes::Nothing)];
+
 /// A command with its options.
 pub fn command_for<'a>(alloc: Global, verb: Verb) -> Result<Command<'a>, AllocError>
     ensures { IfOk result (λ command. app_of command ≡ app_for verb) }
@@ -84,6 +87,7 @@ pub fn command_for<'a>(alloc: Global, verb: Verb) -> Result<Command<'a>, AllocEr
         Verb::Outline => command_with(alloc, "outline", &OUTLINE),
         Verb::Dump => command_with(alloc, "dump", &DUMP),
         Verb::Trace => command_with(alloc, "trace", &TRACE),
+        Verb::Faces => command_with(alloc, "faces", &FACES),
     }
 }
 

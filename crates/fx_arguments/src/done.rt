@@ -15,6 +15,8 @@ pub enum Done {
     Listing,
     /// It wrote a trace; whether the font has the traced character.
     Trace(bool),
+    /// It listed the faces of a file.
+    Faces,
     /// It explained what is wrong with arguments.
     Explanation,
 }

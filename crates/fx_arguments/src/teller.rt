@@ -93,8 +93,12 @@ impl<'e, E: Sink> Teller<'e, E> {
         match done {
             Done::Strike(report) => self.tell(line_of_report(report)),
             Done::Trace(false) => self.tell(line_of_missing()),
-            Done::Picture | Done::Outline | Done::Listing | Done::Trace(true) | Done::Explanation =>
-                {}
+            Done::Picture
+            | Done::Outline
+            | Done::Listing
+            | Done::Trace(true)
+            | Done::Faces
+            | Done::Explanation => {}
         }
     }
 

@@ -15,6 +15,8 @@ pub enum Verb {
     Dump,
     /// `trace`.
     Trace,
+    /// `faces`.
+    Faces,
 }
 
 /// The command that the first word names.
@@ -37,6 +39,7 @@ fn verb_named(name: &str) -> Option<Verb>
         "outline" => Some(Verb::Outline),
         "dump" => Some(Verb::Dump),
         "trace" => Some(Verb::Trace),
+        "faces" => Some(Verb::Faces),
         _ => None,
     }
 }

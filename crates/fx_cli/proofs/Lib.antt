@@ -3,3 +3,4 @@ pub mod FirstLines
 pub mod Pictures
 pub mod Telling
 pub mod AllMapped
+pub mod FaceLines

@@ -28,22 +28,25 @@ use Rattle.fx_cli.specs.Runs.{Ends, IsSpared, Runs, font_bytes, has_arguments}
 use Rattle.fx_cli.specs.Steps.{EndsAfter, Telling}
 use Rattle.fx_cli.proofs.FirstLines.{for_line}
 
--- what a teller was told from its start to the end of a run
-pub runs_told : {given : List Text} {source sink : Change} {name : GName} {old new : Option (List ℕ)}
-    {faults_before faults status : ℕ} {was now end : TellerView} (outcome : Result Done Fault)
+-- what a teller was told from its start to the end of a run, and what is known of how it ended
+pub runs_known : {given : List Text} {source sink : Change} {name : GName} {old new : Option (List ℕ)}
+    {faults_before faults status : ℕ} {was now end : TellerView} {Knows : Result Done Fault → Type 0} (outcome : Result Done Fault)
     → was ≡ begun name old faults_before → Telling was now (λ told. Ends given source sink told outcome)
-    → Tells now end (outcome_line outcome) → status ≡ status_of outcome → new ≡ end.held → faults ≡ end.faults
-    → Runs given source sink (record { bytes_before = old; bytes = new; faults_before = faults_before; faults = faults }) status
-runs_told {old = old} {end = end} outcome w t line s held count =
-    let P : TellerView → Type 0 = λ x. Tells x end (flat_map notice_line t.notices ++ outcome_line outcome) in
-    record {
-      outcome = outcome;
-      notices = t.notices;
-      ends = t.ends;
-      told = s;
-      lines = rw (held, count) (tells_change (subst P w (tells_then (flat_map notice_line t.notices) (outcome_line outcome)
-          (tells_notices t.notices t.heard) line)));
-    }
+    → Tells now end (outcome_line outcome) → status ≡ status_of outcome → new ≡ end.held → faults ≡ end.faults → Knows outcome
+    → (runs : Runs given source sink (record { bytes_before = old; bytes = new; faults_before = faults_before; faults = faults })
+    status) × Knows runs.outcome
+runs_known {old = old} {end = end} outcome w t line s held count known =
+    let P : TellerView → Type 0 = λ x. Tells x end (flat_map notice_line t.notices ++ outcome_line outcome) in (
+      record {
+        outcome = outcome;
+        notices = t.notices;
+        ends = t.ends;
+        told = s;
+        lines = rw (held, count) (tells_change (subst P w (tells_then (flat_map notice_line t.notices) (outcome_line outcome)
+            (tells_notices t.notices t.heard) line)));
+      },
+      known,
+    )
 
 -- the sink of a teller stays
 tells_same_by : (b : Bool) (was now : TellerView) (text : List ℕ) → TellsBy b was now text → now.sink ≡ was.sink

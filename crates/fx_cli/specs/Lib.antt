@@ -1,3 +1,4 @@
+pub mod Faces
 pub mod Items
 pub mod Mapped
 pub mod Pictures

@@ -26,15 +26,16 @@ use Rattle.fx_strike.specs.Listings.{Lists, program_of}
 use Rattle.fx_strike.specs.Traces.{TellsTrace, trace_of}
 use Rattle.fx_arguments.specs.Limits.{max_input, max_line}
 use Rattle.fx_arguments.specs.declared.done.Done.{Done}
-use Rattle.fx_arguments.specs.declared.done.Done.TheVariants.{Strike, Picture, Outline, Listing, Trace, Explanation}
+use Rattle.fx_arguments.specs.declared.done.Done.TheVariants.{Strike, Picture, Outline, Listing, Trace, Faces, Explanation}
 use Rattle.fx_arguments.specs.declared.fault.Fault.{Fault}
 use Rattle.fx_arguments.specs.declared.fault.Fault.TheVariants.{Usage, Early, Late}
 use Rattle.fx_arguments.specs.CommandLine.{command_of}
-use Rattle.fx_arguments.specs.Commands.{CharacterChoiceView, CommandView, MakeView, TaskView, explanation, listed, listing, mapped, outline, picture, strike}
-use Rattle.fx_arguments.specs.Commands.{trace}
+use Rattle.fx_arguments.specs.Commands.{CharacterChoiceView, CommandView, MakeView, TaskView, explanation, faces, listed, listing, mapped, outline, picture}
+use Rattle.fx_arguments.specs.Commands.{strike, trace}
 use Rattle.fx_arguments.specs.declared.command.Show.{Show}
 use Rattle.fx_arguments.specs.declared.command.Trace as asked
 use Rattle.fx_arguments.specs.Lines.{Tells, notice_line, outcome_line, status_of}
+use Rattle.fx_cli.specs.Faces.{faces_of}
 use Rattle.fx_cli.specs.Mapped.{mapped_of}
 use Rattle.fx_cli.specs.Pictures.{Shows}
 use Rattle.fx_arguments.specs.Input.{bytes_of_hex, line_of, rest_of, arguments_of_line}
@@ -126,14 +127,26 @@ ListingLeaves what font sink answer =
 abbrev pub TraceLeaves : asked.Trace → FontFileView → Change → Result Bool Refusal → Type 0
 TraceLeaves programs font sink answer = TellsTrace (trace_of font programs.ppem programs.traced) sink answer
 
+-- what a call that writes the lines of faces leaves of it: all of them, or their first n bytes and one fault; or the cause, and the
+-- sink is as it was
+abbrev pub FacesLeaveBy : Result (List ℕ) Refusal → Change → Result (Unit {0}) Refusal → Type 0
+FacesLeaveBy lines sink (Ok _) = (text : List ℕ) × (lines ≡ Ok text) × Wrote sink text (Ok tt)
+FacesLeaveBy lines sink (Err (WriteFailed n)) =
+    (text : List ℕ) × (lines ≡ Ok text) × Wrote sink text (Err (record { 0 = n }))
+FacesLeaveBy lines sink (Err refusal) = (lines ≡ Err refusal) × IsSpared sink
+
+abbrev pub FacesLeave : FontFileView → Change → Result (Unit {0}) Refusal → Type 0
+FacesLeave font sink answer = FacesLeaveBy (faces_of font.bytes) sink answer
+
 -- what a call that writes a line leaves of it
 abbrev pub LineLeaves : List ℕ → Change → Result (Unit {0}) Refusal → Type 0
 LineLeaves line sink (Ok _) = Wrote sink line (Ok tt)
 LineLeaves line sink (Err (WriteFailed n)) = Wrote sink line (Err (record { 0 = n }))
 LineLeaves line sink (Err refusal) = ⊥
 
--- what a task leaves of the sink, from a font: its strike, the picture or the outline of a glyph, the listing of a program, or
--- the trace of programs; or a line, whatever the font is; and what it told of refused characters. Only a strike tells of any
+-- what a task leaves of the sink, from a font: its strike, the picture or the outline of a glyph, the listing of a program, the
+-- trace of programs, or the faces of its file; or a line, whatever the font is; and what it told of refused characters. Only a
+-- strike tells of any
 abbrev pub TaskLeaves : TaskView → FontFileView → Change → List Notice → Result Done Refusal → Type 0
 TaskLeaves (strike make) font sink told (Ok (Strike report)) = MakeLeaves make font sink told (Ok report)
 TaskLeaves (strike make) font sink told (Err refusal) = MakeLeaves make font sink told (Err refusal)
@@ -145,6 +158,8 @@ TaskLeaves (trace programs) font sink told (Ok (Trace there)) = TraceLeaves prog
 TaskLeaves (trace programs) font sink told (Err refusal) = TraceLeaves programs font sink (Err refusal) × (told ≡ [])
 TaskLeaves (listing what) font sink told (Ok Listing) = ListingLeaves what font sink (Ok tt) × (told ≡ [])
 TaskLeaves (listing what) font sink told (Err refusal) = ListingLeaves what font sink (Err refusal) × (told ≡ [])
+TaskLeaves faces font sink told (Ok Faces) = FacesLeave font sink (Ok tt) × (told ≡ [])
+TaskLeaves faces font sink told (Err refusal) = FacesLeave font sink (Err refusal) × (told ≡ [])
 TaskLeaves (explanation line) font sink told (Ok Explanation) = LineLeaves line sink (Ok tt) × (told ≡ [])
 TaskLeaves (explanation line) font sink told (Err refusal) = LineLeaves line sink (Err refusal) × (told ≡ [])
 TaskLeaves task font sink told (Ok done) = ⊥

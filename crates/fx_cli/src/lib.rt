@@ -2,6 +2,7 @@
 //! standard error and a status out.
 #![tactic(auto)]
 
+mod faces;
 mod mapped;
 mod mkstrike;
 mod picture;

@@ -45,9 +45,9 @@ impl Mkstrike {
 impl Tool for Mkstrike {
     ghost use Rattle.fx_arguments.specs.Mistakes.{checked, line_of};
     ghost use Rattle.fx_cli.specs.Items.{wrong_item_said};
-    ghost use Rattle.fx_cli.specs.Runs.{Runs};
+    ghost use Rattle.fx_cli.specs.Watch.{RunsKnown};
 
-    ghost Ran = { Runs };
+    ghost Ran = { RunsKnown };
 
     ghost learned = { λ facts. facts };
 

@@ -9,6 +9,7 @@ ghost use Rattle.fx_request.specs.declared.refusal.Refusal.TheVariants.{BadHex, 
 ghost use Rattle.fx_cli.specs.Runs.{Ends, MakeLeaves, Runs, StrikeLeaves, TaskLeaves, called, font_bytes};
 ghost use Rattle.fx_cli.specs.Steps.{EndsAfter, Telling};
 
+use crate::faces::put_faces;
 use crate::mapped::mapped_of;
 use crate::show::put_picture;
 use crate::watcher::{NoWatcher, Watcher};
@@ -51,8 +52,9 @@ pub fn run_watched<R: Source, O: Sink, E: Sink, W: Watcher>(
     requires reader { R.fault_count reader.old < 2 ^ 63 }
     requires out { O.fault_count out.old < 2 ^ 63 }
     requires err { E.fault_count err.old < 2 ^ 63 }
-    ensures { Runs (texts arguments.now) (change_of R.left R.fault_count reader.old reader.new)
-        (change_of O.held O.fault_count out.old out.new) (change_of E.held E.fault_count err.old err.new) result }
+    ensures { (runs : Runs (texts arguments.now) (change_of R.left R.fault_count reader.old reader.new)
+        (change_of O.held O.fault_count out.old out.new) (change_of E.held E.fault_count err.old err.new) result)
+        × W.Knows watcher.new runs.outcome }
 {
     let mut teller = Teller::new(err);
     let outcome = run_told(alloc, arguments, reader, out, &mut teller, watcher);
@@ -204,6 +206,10 @@ fn run_task<O: Sink, E: Sink>(
         Task::Trace(trace) => {
             let there = trace_of(alloc, font, trace.ppem, trace.traced, out)?;
             Ok(Done::Trace(there))
+        }
+        Task::Faces => {
+            put_faces(font, out)?;
+            Ok(Done::Faces)
         }
         Task::Explanation(line) => {
             put_all(out, line)?;

@@ -1,6 +1,6 @@
 //! What a front learns of a run.
-ghost use Rattle.std.specs.Prelude.{◌≡◌, false};
-ghost use Rattle.fx_cli.specs.Watch.{unseen};
+ghost use Rattle.std.specs.Prelude.{◌≡◌, false, option_map};
+ghost use Rattle.fx_cli.specs.Watch.{counts_of, facts_of, glyph_at, is_glyph_halt, is_halt, refused_of, seen_refused, unseen};
 
 use crate::watcher::Watcher;
 use fx_arguments::{CharacterChoice, Command, Done, Fault, Task};
@@ -91,6 +91,10 @@ impl Watch {
 }
 
 impl Watcher for Watch {
+    ghost use Rattle.fx_cli.specs.Watch.{Knows};
+
+    ghost Knows = { λ w outcome. Knows outcome w.facts };
+
     fn see(
         &mut self,
         alloc: Global,
@@ -109,7 +113,7 @@ impl Watcher for Watch {
         let Ok(opened) = Font::open(font) else {
             return;
         };
-        self.facts.is_variable = !matches!(done, Done::Listing | Done::Explanation)
+        self.facts.is_variable = !matches!(done, Done::Listing | Done::Faces | Done::Explanation)
             && opened.table(*b"fvar").is_some();
         let (Done::Strike(report), Task::Strike(make)) = (done, &command.task) else {
             return;
@@ -136,31 +140,72 @@ impl Watcher for Watch {
     }
 
     fn end(&mut self, outcome: &Result<Done, Fault>) {
-        match outcome {
-            Ok(Done::Strike(report)) => {
-                self.facts.strike = Some(Counts {
-                    glyphs: report.glyphs,
-                    missing: report.missing,
-                });
-            }
-            Ok(_) | Err(Fault::Usage) => {}
-            Err(Fault::Early(refusal)) | Err(Fault::Late(refusal)) => {
-                let location = refusal.location();
-                self.facts.refused = Some(RefusalFacts {
-                    number: refusal.number(),
-                    advice: refusal.advice(),
-                    glyph: match location {
-                        Location::Glyph(glyph) => Some(glyph),
-                        _ => None,
-                    },
-                    is_halted: matches!(location, Location::Halt(_)),
-                    is_halted_glyph: match location {
-                        Location::Halt(halt) => matches!(halt.during, FontProgram::Glyph(_)),
-                        _ => false,
-                    },
-                });
-            }
-        }
+        self.facts.strike = counts_of(outcome);
+        self.facts.refused = refused_of(outcome);
+    }
+}
+
+/// The counts of a strike that was made.
+fn counts_of(outcome: &Result<Done, Fault>) -> Option<Counts>
+    ensures { result ≡ counts_of outcome.now }
+{
+    match outcome {
+        Ok(Done::Strike(report)) => Some(Counts {
+            glyphs: report.glyphs,
+            missing: report.missing,
+        }),
+        _ => None,
+    }
+}
+
+/// What a front learns of a refusal.
+fn refused_of(outcome: &Result<Done, Fault>) -> Option<RefusalFacts>
+    ensures { option_map seen_refused result ≡ refused_of outcome.now }
+{
+    match outcome {
+        Err(Fault::Early(refusal)) | Err(Fault::Late(refusal)) => Some(facts_of(*refusal)),
+        Ok(_) | Err(Fault::Usage) => None,
+    }
+}
+
+/// The same of the refusal.
+fn facts_of(refusal: Refusal) -> RefusalFacts
+    ensures { seen_refused result ≡ facts_of refusal }
+{
+    let location = refusal.location();
+    RefusalFacts {
+        number: refusal.number(),
+        advice: refusal.advice(),
+        glyph: glyph_at(location),
+        is_halted: is_halt(location),
+        is_halted_glyph: is_glyph_halt(location),
+    }
+}
+
+/// The glyph that is refused.
+fn glyph_at(location: Location) -> Option<u16>
+    ensures { result ≡ glyph_at location }
+{
+    match location {
+        Location::Glyph(glyph) => Some(glyph),
+        _ => None,
+    }
+}
+
+/// Whether a program of the font halted.
+fn is_halt(location: Location) -> bool
+    ensures { result ≡ is_halt location }
+{
+    matches!(location, Location::Halt(_))
+}
+
+/// Whether the program of a glyph halted.
+fn is_glyph_halt(location: Location) -> bool
+    ensures { result ≡ is_glyph_halt location }
+{
+    match location {
+        Location::Halt(halt) => matches!(halt.during, FontProgram::Glyph(_)),
+        _ => false,
     }
 }
 

@@ -1,4 +1,4 @@
-//! Who watches a run, for what a front says of it. No contract speaks of it: a run is the same whoever watches.
+//! Who watches a run, for what a front says of it. A run is the same whoever watches.
 
 use fx_arguments::{Command, Done, Fault};
 use fx_request::Refusal;
@@ -7,6 +7,13 @@ use std::alloc::Global;
 
 /// Who watches a run.
 pub trait Watcher {
+    ghost use Rattle.std.specs.Prelude.{Result};
+    ghost use Rattle.fx_arguments.specs.declared.done.Done.{Done};
+    ghost use Rattle.fx_arguments.specs.declared.fault.Fault.{Fault};
+
+    // What a watcher knows of a run that ended so.
+    ghost Knows: { Self → Result Done Fault → Type 0 };
+
     /// Sees what a command came to with a font.
     fn see(
         &mut self,
@@ -17,11 +24,18 @@ pub trait Watcher {
     ) {}
 
     /// Sees how the run ended.
-    fn end(&mut self, _outcome: &Result<Done, Fault>) {}
+    fn end(&mut self, outcome: &Result<Done, Fault>)
+        ensures { Knows self.new outcome.now };
 }
 
 /// Nobody watches.
 #[derive(Clone, Copy)]
 pub struct NoWatcher;
 
-impl Watcher for NoWatcher {}
+impl Watcher for NoWatcher {
+    ghost use Rattle.std.specs.Prelude.{⊤};
+
+    ghost Knows = { λ _ _. ⊤ };
+
+    fn end(&mut self, _outcome: &Result<Done, Fault>) {}
+}

@@ -24,7 +24,7 @@ seen_asked held.Run = run
 
 -- the commands that take a font
 unfoldable pub commands : List Text
-commands = codes "make" ∷ codes "show" ∷ codes "outline" ∷ codes "dump" ∷ codes "trace" ∷ []
+commands = codes "make" ∷ codes "show" ∷ codes "outline" ∷ codes "dump" ∷ codes "trace" ∷ codes "faces" ∷ []
 
 abbrev pub first_of : List Text → Option Text
 first_of [] = None

@@ -75,7 +75,7 @@ after_unopened name why command =
 
 -- a program ran from one moment to another, of an input, a place and standard error, and ended so; then two lines followed, perhaps
 -- without bytes
-pub record RunsFrom {R P E : Type 0} (Ran : Change → Change → Change → ℕ → Type 0) (read : R → R → Change)
+pub record RunsFrom {R P E : Type 0} (Ran : Change → Change → Change → ℕ → Facts → Type 0) (read : R → R → Change)
     (Names : P → Option (List ℕ) → P → Type 0) (works : P → Bool) (fresh : Option (List ℕ)) (told : E → E → Change)
     (wrong : List Text → Text) (wrong_item : Text → List ℕ) (facts : Facts) (parts : PartsView) (command : Option Text)
     (was now : E) (status : ℕ) (input after : R) (place placed : P)
@@ -83,7 +83,7 @@ pub record RunsFrom {R P E : Type 0} (Ran : Change → Change → Change → ℕ
   pub said : E
   pub between : E
   pub own : Ended
-  pub ends : Ends (λ sink own. Ran (read input after) sink (told was said) own) Names works fresh place placed
+  pub ends : Ends (λ sink own. Ran (read input after) sink (told was said) own facts) Names works fresh place placed
       (is_named command (codes "trace")) facts status
   pub ended : status ≡ ended_status own.status own.is_named
   pub first : Tells (told said between) (told_first facts own parts)
@@ -97,7 +97,7 @@ InputBy Opens Unopened IsEmpty true input = IsEmpty input
 InputBy Opens Unopened IsEmpty false input = Opens None input ⊎ ((why : Text) × Unopened None why × IsEmpty input)
 
 -- the program; and what the system answers of a name: that it opens as this input, or why not; that it is this place, or why not
-module _ {R P E : Type 0} (Ran : List Text → Change → Change → Change → ℕ → Type 0) (wrong : List Text → Text)
+module _ {R P E : Type 0} (Ran : List Text → Change → Change → Change → ℕ → Facts → Type 0) (wrong : List Text → Text)
     (wrong_item : Text → List ℕ) (read : R → R → Change) (Names : P → Option (List ℕ) → P → Type 0) (works : P → Bool)
     (fresh : Option (List ℕ)) (Opens : Option Text → R → Type 0) (Unopened : Option Text → Text → Type 0) (IsEmpty : R → Type 0)
     (Places : Option Text → P → Type 0) (Unplaced : Option Text → Text → Type 0) (told : E → E → Change) (facts : Facts)

@@ -90,7 +90,7 @@ abbrev pub command_said : Text → List ℕ
 command_said word =
     if has_hyphen word
     then shown_with (
-    codes "the first word is the command, make, show, outline, dump, trace, explain, or help, not '%'; 'mkstrike help' "
+    codes "the first word is the command, make, show, outline, dump, trace, faces, explain, or help, not '%'; 'mkstrike help' "
     ++ codes "shows how it is written"
     ) word
     else (if is_path word

@@ -18,6 +18,7 @@ Commands:
     outline    print the outline of one glyph
     dump       list one of the font's own programs
     trace      print the run of a font's own programs
+    faces      list the fonts of a file with their names
     explain    say what is wrong with a command line, or what a refusal means
     help       print this, or the options of a command: help COMMAND
     --version  print the release
@@ -39,12 +40,13 @@ means and what to do.
 ";
 
 /// What `mkstrike help COMMAND` prints.
-pub(crate) const HELPS: [(&str, &str); 7] = [
+pub(crate) const HELPS: [(&str, &str); 8] = [
     ("make", MAKE),
     ("show", SHOW),
     ("outline", OUTLINE),
     ("dump", DUMP),
     ("trace", TRACE),
+    ("faces", FACES),
     ("explain", EXPLAIN),
     ("sets", SETS),
 ];
@@ -187,6 +189,19 @@ execute, in order.
     FONT        the font's file; standard input by default
 
     mkstrike trace --ppem 12 --char 6c font.ttf -o l.txt
+";
+
+const FACES: &str =
+    "mkstrike faces lists the fonts of a file: many of a collection (.ttc), else one.
+
+    mkstrike faces [--hex] [FONT] [-o FILE]
+
+    --hex    the font is hexadecimal text
+    -o FILE  write to FILE, which appears only when it is complete; - is
+             standard output, the default
+    FONT     the font's file; standard input by default
+
+    mkstrike faces font.ttf
 ";
 
 const EXPLAIN: &str =

@@ -33,5 +33,5 @@ pub use files::Files;
 pub use front::{run_front, run_over, say_not_text};
 pub use fx_words::Parts;
 pub use run::{Ended, run_to_end, run_to_place};
-pub use text::Text;
+pub use text::{Text, shown};
 pub use tool::Tool;

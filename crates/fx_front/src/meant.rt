@@ -14,7 +14,7 @@ use std::alloc::{AllocError, Global};
 use strsim::levenshtein;
 
 /// The commands that take a font, with their options.
-const OPTIONS: [(&str, &str); 5] = [
+const OPTIONS: [(&str, &str); 6] = [
     (
         "make",
         "--ppem --chars --set --all --name --property --x11 --refused --missing --unhinted --dropout --face --hex -o",
@@ -29,10 +29,11 @@ const OPTIONS: [(&str, &str); 5] = [
     ),
     ("dump", "--of --face --hex -o"),
     ("trace", "--ppem --char --glyph --of --face --hex -o"),
+    ("faces", "--hex -o"),
 ];
 
 /// All commands.
-const COMMANDS: &str = "make show outline dump trace explain help";
+const COMMANDS: &str = "make show outline dump trace faces explain help";
 
 /// Names that other programs give an option or a command.
 const USUAL: [(&str, &str); 8] = [

@@ -17,7 +17,7 @@ const WRONG_LINE: &str =
     "without arguments the first line of the input is the command line, and it is wrong; 'mkstrike help' shows how it is written";
 
 const NO_COMMAND: &str =
-    "the first word is the command, make, show, outline, dump, trace, explain, or help, not '%'; 'mkstrike help' \
+    "the first word is the command, make, show, outline, dump, trace, faces, explain, or help, not '%'; 'mkstrike help' \
      shows how it is written";
 
 const A_FILE: &str =

@@ -113,7 +113,8 @@ pub fn run_to_place<G: Tool, P: Destination, R: Source, E: Sink>(
     requires reader { R.fault_count reader.old < 2 ^ 63 }
     requires err { E.fault_count err.old < 2 ^ 63 }
     ensures run { RunsTo (λ sink status. G.Ran (texts task.now.parts.now.words.items)
-        (change_of R.left R.fault_count reader.old reader.new) sink (change_of E.held E.fault_count err.old err.new) status)
+        (change_of R.left R.fault_count reader.old reader.new) sink (change_of E.held E.fault_count err.old err.new) status
+        (G.learned program.new))
         P.Names P.works P.fresh place.old place.new (is_named (text_in task.now.command) (codes "trace"))
         (G.learned program.new) result.status result.is_named }
     ensures status { IsStatus result.status }

@@ -139,7 +139,7 @@ impl Text {
 }
 
 /// The byte that shows a byte.
-fn shown(byte: u8) -> u8
+pub fn shown(byte: u8) -> u8
     ensures value { result ≡ shown byte }
     ensures above { 31 < result }
 {

@@ -17,8 +17,9 @@ pub trait Tool {
     // What a front learns of the last run.
     ghost learned: { Self → Facts };
 
-    // A run on these words, the program's name first: what became of its source, its sink and its lines, and its status.
-    ghost Ran: { List (List ℕ) → Change → Change → Change → ℕ → Type 0 };
+    // A run on these words, the program's name first: what became of its source, its sink and its lines, its status, and what a
+    // front learns of it.
+    ghost Ran: { List (List ℕ) → Change → Change → Change → ℕ → Facts → Type 0 };
 
     // The line that says what is wrong first with words after the program's name. It has no bytes if nothing is.
     ghost wrong_in: { List (List ℕ) → List ℕ };
@@ -40,7 +41,8 @@ pub trait Tool {
         requires out { O.fault_count out.old < 2 ^ 63 }
         requires err { E.fault_count err.old < 2 ^ 63 }
         ensures ran { Ran (texts parts.now.words.items) (change_of R.left R.fault_count reader.old reader.new)
-            (change_of O.held O.fault_count out.old out.new) (change_of E.held E.fault_count err.old err.new) result }
+            (change_of O.held O.fault_count out.old out.new) (change_of E.held E.fault_count err.old err.new) result
+            (learned self.new) }
         ensures status { IsStatus result };
 
     /// What a front learns of the last run.

@@ -104,7 +104,7 @@ impl Fake {
 impl Tool for Fake {
     ghost use Rattle.std.specs.Prelude.{⊤, [], ◌∷◌, ◌++◌, codes};
 
-    ghost Ran = { λ _ _ _ _ _. ⊤ };
+    ghost Ran = { λ _ _ _ _ _ _. ⊤ };
 
     ghost learned = { λ f. f.facts };
 

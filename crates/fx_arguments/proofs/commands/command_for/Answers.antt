@@ -1,4 +1,4 @@
-use Rattle.fx_arguments.specs.Arguments.{dump_app, make_app, outline_app, show_app, trace_app}
+use Rattle.fx_arguments.specs.Arguments.{dump_app, faces_app, make_app, outline_app, show_app, trace_app}
 use Rattle.fx_arguments.proofs.commands.command_for.Goals as goal
 
 pub returns-in-Make : goal.returns-in-Make
@@ -20,3 +20,7 @@ returns-in-Dump c = rw c.in-Dump.is c.command_with-in-Dump.ensures
 pub returns-in-Trace : goal.returns-in-Trace
 unfolding trace_app
 returns-in-Trace c = rw c.in-Trace.is c.command_with-in-Trace.ensures
+
+pub returns-in-Faces : goal.returns-in-Faces
+unfolding faces_app
+returns-in-Faces c = rw c.in-Faces.is c.command_with-in-Faces.ensures

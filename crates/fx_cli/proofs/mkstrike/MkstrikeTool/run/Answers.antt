@@ -5,4 +5,4 @@ use Rattle.fx_cli.proofs.mkstrike.MkstrikeTool.run.Goals as goal
 
 pub returns-clause-status : goal.returns-clause-status
 returns-clause-status g c =
-    let r = c.run_watched-status.ensures in subst IsStatus (sym r.told) (status_is r.outcome)
+    let r = c.run_watched-status.ensures.0 in subst IsStatus (sym r.told) (status_is r.outcome)
