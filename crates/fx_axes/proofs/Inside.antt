@@ -41,24 +41,11 @@ size_of_some c s m k h e =
           (arith, eqb-true m 0 t, h))
     ]
 
-pub instance_inside : (fvar : List ℕ) (k axis : ℕ) → holds_records fvar ≡ true → k < instance_count fvar → axis < axis_count fvar
-    → instance_offset fvar k + (4 + 4 * axis) + 4 ≤ length fvar
+-- the record of a named instance lies in the table
+instance_room : (fvar : List ℕ) (k : ℕ) → holds_records fvar ≡ true → k < instance_count fvar
+    → instance_offset fvar k + (4 + 4 * axis_count fvar) ≤ length fvar
 unfolding holds_records
-instance_inside fvar k axis e h j =
-    let p = and_parts (nat_le 20 (axis_size fvar) && (nat_le (4 + 4 * axis_count fvar)
-    (instance_size fvar) || instance_count fvar == 0))
-    (nat_le (instance_offset fvar (instance_count fvar)) (length fvar)) e in
-    let q = and_parts (nat_le 20 (axis_size fvar)) (nat_le (4 + 4 * axis_count fvar)
-    (instance_size fvar) || instance_count fvar == 0) p.0 in
-    let a : 4 + 4 * axis_count fvar ≤ instance_size fvar = size_of_some _ _ _ k h q.1 in
-    let b : instance_offset fvar (instance_count fvar) ≤ length fvar = leb-true _ _ p.1 in
-    let c : instance_size fvar * k + instance_size fvar ≤ instance_size fvar * instance_count fvar = before _ _ _ h in
-    omega (arith, a, b, c, j)
-
-pub name_inside : (fvar : List ℕ) (k : ℕ) → holds_records fvar ≡ true → k < instance_count fvar
-    → instance_offset fvar k + 4 ≤ length fvar
-unfolding holds_records
-name_inside fvar k e h =
+instance_room fvar k e h =
     let p = and_parts (nat_le 20 (axis_size fvar) && (nat_le (4 + 4 * axis_count fvar)
     (instance_size fvar) || instance_count fvar == 0))
     (nat_le (instance_offset fvar (instance_count fvar)) (length fvar)) e in
@@ -68,3 +55,11 @@ name_inside fvar k e h =
     let b : instance_offset fvar (instance_count fvar) ≤ length fvar = leb-true _ _ p.1 in
     let c : instance_size fvar * k + instance_size fvar ≤ instance_size fvar * instance_count fvar = before _ _ _ h in
     omega (arith, a, b, c)
+
+pub instance_inside : (fvar : List ℕ) (k axis : ℕ) → holds_records fvar ≡ true → k < instance_count fvar → axis < axis_count fvar
+    → instance_offset fvar k + (4 + 4 * axis) + 4 ≤ length fvar
+instance_inside fvar k axis e h j = omega (arith, instance_room fvar k e h, j)
+
+pub name_inside : (fvar : List ℕ) (k : ℕ) → holds_records fvar ≡ true → k < instance_count fvar
+    → instance_offset fvar k + 4 ≤ length fvar
+name_inside fvar k e h = omega (arith, instance_room fvar k e h)

@@ -1,4 +1,4 @@
--- Texts that are added to one after the other, and told.
+-- Texts that are added one after the other are one text (`chained`), and a text is told as its line (`told`).
 use Rattle.std.proofs.Common.{◌≡◌, ℕ, List, [], ◌++◌, Option, Some, None, inl, append_assoc, arith, refl}
 use Rattle.fx_fixed.specs.Changes.{Change}
 use Rattle.fx_front.specs.Lines.{IsSilent, Says, Tells, TellsText}

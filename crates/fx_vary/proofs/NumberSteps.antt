@@ -4,8 +4,8 @@ use Rattle.std.proofs.Common.{◌≡◌, ◌≢◌, ℕ, suc, ◌-◌, [], Some,
 use Rattle.std.specs.Prelude.{IsSome, option_map, option_and_then}
 use Rattle.fx_glyf.specs.Words.{with_front, list_in}
 use Rattle.fx_vary.specs.Numbers.{NumberCursor, next_number, numbers_from}
-use Rattle.fx_glyf.proofs.Steps.{front_rest}
-use Rattle.fx_vary.proofs.Steps.{none_absurd, Stepped, stepped, below}
+use Rattle.fx_glyf.proofs.Steps.{Stepped, front_rest, none_absurd, stepped}
+use Rattle.fx_vary.proofs.Steps.{below}
 
 -- no number is left
 pub numbers_done : (c : NumberCursor) (n : ℕ) → n ≡ 0 → numbers_from n c ≡ Some ([], c.bytes)
