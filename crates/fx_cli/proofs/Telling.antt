@@ -30,12 +30,12 @@ use Rattle.fx_cli.proofs.FirstLines.{for_line}
 
 -- what a teller was told from its start to the end of a run, and what is known of how it ended
 pub runs_known : {given : List Text} {source sink : Change} {name : GName} {old new : Option (List ℕ)}
-    {faults_before faults status : ℕ} {was now end : TellerView} {Knows : Result Done Fault → Type 0} (outcome : Result Done Fault)
+    {faults_before faults status : ℕ} {was now end : TellerView} (Knows : Result Done Fault → Type 0) (outcome : Result Done Fault)
     → was ≡ begun name old faults_before → Telling was now (λ told. Ends given source sink told outcome)
     → Tells now end (outcome_line outcome) → status ≡ status_of outcome → new ≡ end.held → faults ≡ end.faults → Knows outcome
     → (runs : Runs given source sink (record { bytes_before = old; bytes = new; faults_before = faults_before; faults = faults })
     status) × Knows runs.outcome
-runs_known {old = old} {end = end} outcome w t line s held count known =
+runs_known {old = old} {end = end} Knows outcome w t line s held count known =
     let P : TellerView → Type 0 = λ x. Tells x end (flat_map notice_line t.notices ++ outcome_line outcome) in (
       record {
         outcome = outcome;

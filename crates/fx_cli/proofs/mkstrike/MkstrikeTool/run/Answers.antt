@@ -6,3 +6,6 @@ use Rattle.fx_cli.proofs.mkstrike.MkstrikeTool.run.Goals as goal
 pub returns-clause-status : goal.returns-clause-status
 returns-clause-status g c =
     let r = c.run_watched-status.ensures.0 in subst IsStatus (sym r.told) (status_is r.outcome)
+
+pub returns-clause-ran : goal.returns-clause-ran
+returns-clause-ran g c = rw (sym c.deref.ensures.value) c.run_watched-status.ensures
