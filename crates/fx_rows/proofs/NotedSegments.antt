@@ -11,7 +11,7 @@ use Rattle.fx_winding.specs.Bitmaps.{words_for}
 use Rattle.fx_winding.specs.Winding.{Span, IsOn, centre}
 use Rattle.fx_rows.specs.inner.Lines.{left_at, right_at, AreOnly, GainOnly, IsAcrossBit, IsMetTo, IsMetUnlessOn, IsRowsBit, IsUpBit}
 use Rattle.fx_rows.specs.inner.Telling.{Way, across_row, up_to_row, IsNotedBy, IsAmong, AreMetAcross, AreMetUp}
-use Rattle.fx_rows.specs.inner.Telling.{BitsSay, Lasts, Saying, of_frame, of_pieces, noted}
+use Rattle.fx_rows.specs.inner.Telling.{BitsSay, Lasts, Saying, of_frame, of_pieces, met_in, noted}
 use Rattle.fx_rows.specs.inner.Told.{AreKept}
 use Rattle.fx_rows.proofs.Turned.{on_turned}
 
@@ -117,6 +117,7 @@ pub says_more : (A : Span → Way → Type 0) (s : Span) (f : Frame) (a b u v : 
 says_more A s f a b u v g h (of_frame k) lasts old = old
 says_more A s f a b u v g h (of_pieces ss) among old =
     record { rows = some_rows s ss f a b among g.only old.rows; columns = some_up s ss f u v among h.only old.columns }
+says_more A s f a b u v g h (met_in t row) lasts old = λ r l e. across_kept t f r a b g.kept (old r l e)
 says_more A s f a b u v g h (noted t w r) lasts old = (
   noted_kept f a b u v t w r g.kept h.kept old.0,
   λ apart q. noted_kept f a b u v t w q g.kept h.kept (old.1 apart q),

@@ -20,16 +20,15 @@ use Rattle.fx_rows.specs.declared.strip.Strip.{Strip}
 use Rattle.fx_rows.specs.inner.Cuts.{IsStripEnd}
 use Rattle.fx_rows.specs.declared.band.Band.{Band}
 use Rattle.fx_rows.specs.declared.heights.RowRange.{RowRange}
-use Rattle.fx_rows.specs.declared.heights.RowsMet.{RowsMet}
 use Rattle.fx_rows.specs.inner.Bands.{stride, IsRowAdded, IsBandAdded}
-use Rattle.fx_rows.specs.inner.Heights.{height_of, AreOutside, IsAbove, IsBelow, IsMissed, IsAtMostEnds, IsAtLeastEnds, AreAmong}
-use Rattle.fx_rows.specs.inner.Placing.{AreBetween, AreMet, IsPieceAdded}
+use Rattle.fx_rows.specs.inner.Heights.{height_of, IsAbove, IsBelow, IsMissed, IsAtMostEnds, IsAtLeastEnds, AreAmong}
+use Rattle.fx_rows.specs.inner.Placing.{AreBetween, AreOthersMet, IsPieceAdded}
 use Rattle.fx_rows.specs.inner.Points.{IsInner, IsRise}
 use Rattle.fx_rows.specs.inner.Sides.{place_at, IsWhole}
 use Rattle.fx_rows.specs.inner.Told.{rise_value, IsEnd, IsEndOn}
 use Rattle.fx_rows.specs.inner.Telling.{AreMetBySome, IsAmong, IsRowTold, AreRowsTold, AreRowsAdded, IsPartOf, AreRowsNoted, AreNotedIn}
-use Rattle.fx_rows.specs.inner.Telling.{BitsSay, IsNotedBy, Saying, noted}
-use Rattle.fx_rows.specs.inner.Telling.{Way, across_row, up_to_row, with_first}
+use Rattle.fx_rows.specs.inner.Telling.{AreMetAdded, BitsSay, IsBandOf, IsNotedBy, KeepsFor, Saying, met_in, noted}
+use Rattle.fx_rows.specs.inner.Telling.{of_frame, Way, across_row, up_to_row, with_first}
 use Rattle.fx_rows.proofs.Banding.{band_none, band_three, band_missed}
 use Rattle.fx_rows.proofs.Stepping.{band_next}
 
@@ -67,6 +66,13 @@ told_next T U s f from up n h kept here is = record { rows = λ r l m i. by r l 
         let e : up ≡ r = omega (arith, m, o) in
         subst (IsRowTold U s f) e (record { end = n; told = here; is = is })
 
+-- what is told stays so
+told_also : (T U : ℕ → ℕ → Type 0) (s : Span) (f : Frame) (from to : ℕ) → ((r n : ℕ) → T r n → U r n) → AreRowsTold T s f from to
+    → AreRowsTold U s f from to
+told_also T U s f from to kept h = record {
+  rows = λ r l m i. let t = h.rows r l m i in record { end = t.end; told = kept r t.end t.told; is = t.is };
+}
+
 -- a height at or below both ends is not between them, nor one at or above both
 pub at_most_outside : (a c y : ℤ) → y ≤ℤ a → y ≤ℤ c → ¬ (IsInner a c y)
 at_most_outside a c y h k i = omega (arith, signed_linear, i)
@@ -101,17 +107,6 @@ pub between_of : (s : Span) (foot head value : ℤ) (f : Frame) (rows inner : Ro
     → AreAmong foot head f rows.first rows.end inner.first inner.end → AreBetween s f rows.first rows.end inner
 between_of s foot head value f rows inner rise h = grind (arith, signed_linear, rise, h, rise_inner, at_most_ends, at_least_ends)
 
--- the rows below those between the ends, and those above them, do not pass between them
-pub outside_below : (s : Span) (f : Frame) (from to : ℕ) (part : RowRange) → AreBetween s f from to part
-    → AreOutside s f from part.first
-outside_below s f from to part is r l m =
-    at_most_outside s.a.y s.c.y (height_of f r) (is.under r l m).0 (is.under r l m).1
-
-pub outside_above : (s : Span) (f : Frame) (from to : ℕ) (part : RowRange) → AreBetween s f from to part
-    → AreOutside s f part.end to
-outside_above s f from to part is r l m =
-    at_least_outside s.a.y s.c.y (height_of f r) (is.over r l m).0 (is.over r l m).1
-
 -- ---- what is added and told
 pub added_start : (T : ℕ → ℕ → Type 0) (s : Span) (at : ℕ) (b : Band) → AreRowsAdded T s at at b b
 added_start T s at b =
@@ -129,15 +124,16 @@ added_next T U s row from up n old now new l at h frame added kept here is = rec
 }
 
 -- and rows beside them that are not between the ends
-pub added_beside : (T : ℕ → ℕ → Type 0) (s : Span) (from low high to : ℕ) (old x y new : Band) → from ≤ low → low ≤ high
+pub added_beside : (T U : ℕ → ℕ → Type 0) (s : Span) (from low high to : ℕ) (old x y new : Band) → from ≤ low → low ≤ high
     → high ≤ to → x.frame ≡ old.frame → new.frame ≡ y.frame → IsBandAdded s old.frame from low old x
-    → AreRowsAdded T s low high x y → IsBandAdded s y.frame high to y new
+    → AreRowsAdded T s low high x y → IsBandAdded s y.frame high to y new → ((r n : ℕ) → T r n → U r n)
     → ((r : ℕ) → from ≤ r → r < low → IsAtMostEnds s (height_of old.frame r))
-    → ((r : ℕ) → high ≤ r → r < to → IsAtLeastEnds s (height_of old.frame r)) → AreRowsAdded T s from to old new
-added_beside T s from low high to old x y new l m n ex ey a b c under over = record {
+    → ((r : ℕ) → high ≤ r → r < to → IsAtLeastEnds s (height_of old.frame r)) → AreRowsAdded U s from to old new
+added_beside T U s from low high to old x y new l m n ex ey a b c kept under over = record {
   frame = ey ∙ b.frame ∙ ex;
   added = band_three s from low high to old x y new l m n ex b.frame a b.added c;
-  told = told_beside T s old.frame from low high to under over (subst (λ (g : Frame). AreRowsTold T s g low high) ex b.told);
+  told = told_beside U s old.frame from low high to under over
+      (told_also T U s old.frame low high kept (subst (λ (g : Frame). AreRowsTold T s g low high) ex b.told));
 }
 
 -- none of them is
@@ -148,23 +144,17 @@ pub added_outside : (T : ℕ → ℕ → Type 0) (s : Span) (from low high to : 
 added_outside T s from low high to old new l e a under over =
     grind (arith, signed_linear, l, e, a, under, over, told_beside, told_none)
 
--- all of some rows, and those that pass between the ends
-pub met_of : (s : Span) (foot head value : ℤ) (f : Frame) (rows : RowRange) (m : RowsMet) → IsRise s foot head value → m.all ≡ rows
-    → AreAmong foot head f rows.first rows.end m.inner.first m.inner.end → AreMet s f rows.first rows.end m
-met_of s foot head value f rows m rise all h =
-    let first = ap (λ (x : RowRange). x.first) all in
-    let end = ap (λ (x : RowRange). x.end) all in
-    record {
-      low = omega (arith, first);
-      high = omega (arith, end);
-      missed = λ r l o x. absurd (elim x [ inl y ↦ omega (arith, first, l, y) | inr y ↦ omega (arith, end, o, y) ]);
-      between = between_of s foot head value f rows m.inner rise h;
-    }
+-- rows below those between the ends, and above them
+pub others_beside : (P : Saying → Type 0) (s : Span) (f : Frame) (from to : ℕ) (part : RowRange) → AreBetween s f from to part
+    → ((r : ℕ) → from ≤ r → r < part.first → P (met_in s (f.bottom +ℤ pos r)))
+    → ((r : ℕ) → part.end ≤ r → r < to → P (met_in s (f.bottom +ℤ pos r))) → AreOthersMet P s f from to
+others_beside P s f from to part is below above r l m n o =
+    grind (arith, is, below, above, n, below_or_not r part.first, below_or_not r part.end)
 
 -- a piece that adds nothing
-pub piece_none : (T : ℕ → ℕ → Type 0) (P : Saying → Type 0) (s : Span) (rows : RowRange) (m : RowsMet) (b : Band)
-    → rows.end ≤ rows.first → m.all ≡ rows → m.inner ≡ rows → IsPieceAdded T P P s rows.first rows.end b b m
-piece_none T P s rows m b l all inner = grind (arith, l, all, inner, rows.order, added_start)
+pub piece_none : (T : ℕ → ℕ → Type 0) (P : Saying → Type 0) (s : Span) (rows : RowRange) (b : Band) → rows.end ≤ rows.first
+    → IsPieceAdded T P P s rows.first rows.end b b rows
+piece_none T P s rows b l = grind (arith, l, added_start)
 
 -- all rows of a band, of which a piece misses those before some and after them
 between_all : (s : Span) (f : Frame) (rows inner : RowRange) → rows.end ≤ f.height
@@ -172,30 +162,26 @@ between_all : (s : Span) (f : Frame) (rows inner : RowRange) → rows.end ≤ f.
     → AreBetween s f rows.first rows.end inner → AreBetween s f 0 f.height inner
 between_all s f rows inner within below above h = grind (arith, signed_linear, within, below, above, h, above_all, below_all)
 
-pub piece_all : (T : ℕ → ℕ → Type 0) (P Q : Saying → Type 0) (s : Span) (rows : RowRange) (m : RowsMet) (old new : Band)
+pub piece_all : (T : ℕ → ℕ → Type 0) (P Q : Saying → Type 0) (s : Span) (rows inner : RowRange) (old new : Band)
     → rows.end ≤ old.frame.height → ((r : ℕ) → r < rows.first → IsAbove s (height_of old.frame r))
     → ((r : ℕ) → rows.end ≤ r → r < old.frame.height → IsBelow s (height_of old.frame r))
-    → IsPieceAdded T P Q s rows.first rows.end old new m → IsPieceAdded T P Q s 0 old.frame.height old new m
-piece_all T P Q s rows m old new within below above h = record {
-  rows = added_beside T s 0 rows.first rows.end old.frame.height old old new new (omega arith) rows.order within refl refl
-      (band_missed s old.frame 0 rows.first old (omega arith) (λ r l n. inl (below r n))) h.rows
+    → IsPieceAdded T P Q s rows.first rows.end old new inner → IsPieceAdded T P Q s 0 old.frame.height old new inner
+piece_all T P Q s rows inner old new within below above h = record {
+  rows = added_beside T T s 0 rows.first rows.end old.frame.height old old new new (omega arith) rows.order within refl refl
+      (band_missed s old.frame 0 rows.first old (omega arith) (λ r l m. inl (below r m))) h.rows
       (subst (λ (x : Frame). IsBandAdded s x rows.end old.frame.height new new) (sym h.rows.frame)
-      (band_missed s old.frame rows.end old.frame.height new within (λ r l n. inr (above r l n))))
-      (λ r l n. above_all s (height_of old.frame r) (below r n)) (λ r l n. below_all s (height_of old.frame r) (above r l n));
+      (band_missed s old.frame rows.end old.frame.height new within (λ r l m. inr (above r l m)))) (λ r n t. t)
+      (λ r l m. above_all s (height_of old.frame r) (below r m)) (λ r l m. below_all s (height_of old.frame r) (above r l m));
   kept = h.kept;
-  met = record {
-    low = omega arith;
-    high = let l = h.met.high in omega (arith, l, within);
-    missed = λ r l n x. by r n x (below_or_not r rows.first) (below_or_not r rows.end);
-    between = between_all s old.frame rows m.inner within below above h.met.between;
-  };
+  between = between_all s old.frame rows inner within below above h.between;
+  others = λ r l m n o. by r m n o (below_or_not r rows.first) (below_or_not r rows.end);
 }
   where
-    by : (r : ℕ) → r < old.frame.height → (r < m.all.first) ⊎ (m.all.end ≤ r) → (r < rows.first) ⊎ (rows.first ≤ r)
-        → (r < rows.end) ⊎ (rows.end ≤ r) → IsMissed s (height_of old.frame r)
-    by r n x (inl a) b = inl (below r a)
-    by r n x (inr a) (inl b) = h.met.missed r a b x
-    by r n x (inr a) (inr b) = inr (above r b n)
+    by : (r : ℕ) → r < old.frame.height → ¬ (IsInner s.a.y s.c.y (height_of old.frame r)) → ¬ (IsMissed s (height_of old.frame r))
+        → (r < rows.first) ⊎ (rows.first ≤ r) → (r < rows.end) ⊎ (rows.end ≤ r) → Q (met_in s (old.frame.bottom +ℤ pos r))
+    by r m n o (inl a) b = absurd (o (inl (below r a)))
+    by r m n o (inr a) (inl b) = h.others r a b n o
+    by r m n o (inr a) (inr b) = absurd (o (inr (above r b m)))
 
 -- ---- the rows g of a frame f from one to before another: a row of f that is among them
 row_of_part : (f g : Frame) (from to r : ℕ) → IsPartOf f from to g → from ≤ r → g.bottom +ℤ pos (r - from) ≡ f.bottom +ℤ pos r
@@ -226,7 +212,7 @@ told_in_frame T s f g from to part is = record { rows = λ r l m i. here r l m i
         (subst (IsInner s.a.y s.c.y) (sym (height_of_part f g from to r part l)) i) in
         record { end = t.end; told = t.told; is = end_in_frame s f g from to r t.end part l t.is }
 
-between_in_frame : (s : Span) (f g : Frame) (from to : ℕ) (m n : RowRange) → IsPartOf f from to g → n.first ≡ from + m.first
+pub between_in_frame : (s : Span) (f g : Frame) (from to : ℕ) (m n : RowRange) → IsPartOf f from to g → n.first ≡ from + m.first
     → n.end ≡ from + m.end → AreBetween s g 0 g.height m → AreBetween s f from to n
 between_in_frame s f g from to m n part first end is = record {
   low = omega (arith, first);
@@ -243,17 +229,35 @@ between_in_frame s f g from to m n part first end is = record {
     at : (r : ℕ) → from ≤ r → height_of g (r - from) ≡ height_of f r
     at r l = height_of_part f g from to r part l
 
--- and those that it misses
-pub met_in_frame : (s : Span) (f g : Frame) (from to : ℕ) (m n : RowsMet) → IsPartOf f from to g
-    → (n.all.first ≡ from + m.all.first) × (n.all.end ≡ from + m.all.end)
-    → (n.inner.first ≡ from + m.inner.first) × (n.inner.end ≡ from + m.inner.end) → AreMet s g 0 g.height m → AreMet s f from to n
-met_in_frame s f g from to m n part all inner is = record {
-  low = omega (arith, all);
-  high = let l = is.high in omega (arith, all, l, part.height);
-  missed = λ r l o x. subst (IsMissed s) (height_of_part f g from to r part l)
-      (is.missed (r - from) (omega arith) (omega (arith, l, o, part.height))
-      (elim x [ inl y ↦ inl (omega (arith, all, l, y)) | inr y ↦ inr (omega (arith, all, l, y)) ]));
-  between = between_in_frame s f g from to m.inner n.inner part inner.0 inner.1 is.between;
+-- the rows that are noted when they are added
+pub others_in_frame : (P : Saying → Type 0) (s : Span) (f g : Frame) (from to : ℕ) → IsPartOf f from to g
+    → AreOthersMet P s g 0 g.height → AreOthersMet P s f from to
+others_in_frame P s f g from to part is r l m n o =
+    let at = height_of_part f g from to r part l in
+    subst (λ (z : ℤ). P (met_in s z)) (row_of_part f g from to r part l)
+    (is (r - from) (omega arith) (omega (arith, l, m, part.height)) (subst (λ (y : ℤ). ¬ (IsInner s.a.y s.c.y y)) (sym at) n)
+    (subst (λ (y : ℤ). ¬ (IsMissed s y)) (sym at) o))
+
+-- ---- rows that are added in the general way
+pub met_none : (T : ℕ → ℕ → Type 0) (P : Saying → Type 0) (s : Span) (at : ℕ) (b : Band) → AreMetAdded T T P P s at at b b
+met_none T P s at b = grind (arith, band_none)
+
+-- one more row
+pub met_next : (T U V : ℕ → ℕ → Type 0) (P Q R : Saying → Type 0) (s : Span) (from up : ℕ) (old now new : Band) → from ≤ up
+    → AreMetAdded T U P Q s from up old now → new.frame ≡ now.frame
+    → IsRowAdded s now.frame (now.frame.bottom +ℤ pos up) (up * stride now.frame.width) now new → ((r n : ℕ) → U r n → V r n)
+    → KeepsFor s Q R → R (met_in s (new.frame.bottom +ℤ pos up)) → AreMetAdded T V P R s from (up + 1) old new
+met_next T U V P Q R s from up old now new l h frame added told kept here =
+    grind (arith, l, h, frame, added, told, kept, here, band_next, below_or_not)
+
+-- the band's frame stays, and so does that of the notes
+pub band_kept : (P Q : Saying → Type 0) (s : Span) (g h : Frame) → h ≡ g → KeepsFor s P Q → IsBandOf P g → IsBandOf Q h
+band_kept P Q s g h e kept b = record {
+  frame = b.frame;
+  from = b.from;
+  to = b.to;
+  of = kept (of_frame b.frame) tt b.of;
+  part = subst (IsPartOf b.frame b.from b.to) (sym e) b.part;
 }
 
 -- ---- the pieces that are noted

@@ -2,14 +2,15 @@
 
 ghost use Rattle.std.specs.Prelude.{◌≡◌, ℕ, ◌+◌, ◌-◌, ◌*◌, ◌^◌, ◌<◌, ◌≤◌, pos, ◌+ℤ◌, ◌<ℤ◌, Some};
 ghost use Rattle.fx_winding.specs.Winding.{Span, span_of};
+ghost use Rattle.fx_rows.specs.Parts.{IsRowPart};
 ghost use Rattle.fx_rows.specs.inner.Placing.{IsPieceAdded};
 ghost use Rattle.fx_rows.specs.inner.Strips.{base_place, end_of};
 ghost use Rattle.fx_rows.specs.inner.Sides.{place_at, IsWhole};
 ghost use Rattle.fx_rows.specs.inner.Inside.{IsOnInside};
 ghost use Rattle.fx_rows.specs.inner.Cuts.{IsCut};
 ghost use Rattle.fx_rows.specs.inner.Sums.{AreWithin};
-ghost use Rattle.fx_rows.specs.inner.Bands.{stride, AreInnerRows, AreNextRows, IsBandAdded, IsRowAdded, bounded_span};
-ghost use Rattle.fx_rows.specs.inner.Telling.{AreRowsAdded, Keeps};
+ghost use Rattle.fx_rows.specs.inner.Bands.{stride, AreInnerRows, IsRowAdded, bounded_span};
+ghost use Rattle.fx_rows.specs.inner.Telling.{AreMetAdded, AreNextRows, AreRowsAdded, IsBandOf, Keeps};
 
 use crate::band::Band;
 use crate::bounded::{Bounded, bounds_of, rise_of};
@@ -17,23 +18,25 @@ use crate::cells::Cut;
 use crate::chord::base_side;
 use crate::counts::{add_before, add_run};
 use crate::cuts::{ClearCuts, Cuts, LineCuts};
-use crate::heights::{RowRange, RowsMet, rows_between, rows_met};
+use crate::heights::{RowRange, rows_between, rows_met};
 use crate::intervals::met_part;
 use crate::marks::mark;
 use crate::noting::Noting;
+use crate::part::{RowPart, Run};
 use crate::strip::{Strip, areas_at, row_of, strip_of};
 use crate::walk::arc_in;
 use fx_winding::{Piece, Point, Tally};
 
-/// Adds what a piece gives to a row, in the general way.
+/// Adds what a piece gives to a row, in the general way, and returns it.
 #[tactic(auto, using(fx_fixed::proofs::Linear::signed_linear))]
 #[inline(always)]
-fn add_met(bounded: &Bounded, up: u32, band: &mut Band, tally: &mut Tally)
+fn add_met(bounded: &Bounded, up: u32, band: &mut Band, tally: &mut Tally) -> RowPart
     requires up { up < band.old.frame.height }
     requires small { AreWithin (2 ^ 26) band.old.diff.items }
     ensures frame { band.new.frame ≡ band.old.frame }
     ensures added { IsRowAdded (bounded_span bounded.now) band.old.frame (band.old.frame.bottom +ℤ pos up)
         (up * stride band.old.frame.width) band.old band.new }
+    ensures part { IsRowPart (bounded_span bounded.now) (band.old.frame.bottom +ℤ pos up) band.old.frame result }
     ensures count { tally.new.count ≤ tally.old.count + 10 }
 {
     let frame = band.frame;
@@ -48,33 +51,48 @@ fn add_met(bounded: &Bounded, up: u32, band: &mut Band, tally: &mut Tally)
     );
     add_run(&mut band.diff, &mut band.touched, frame, first, part.region);
     mark(&mut band.marks, frame, first, part.on);
+    part
 }
 
-/// Adds what a piece gives to rows, in the general way. Few pieces need it, so its code is kept out of the others' loops.
+/// Adds what a piece gives to rows, in the general way, and notes it. Few pieces need it, so its code is kept out of the others'
+/// loops.
 #[inline(never)]
-fn add_general_rows(piece: &Piece, rows: RowRange, band: &mut Band, tally: &mut Tally)
-    requires { AreNextRows band.old rows.first rows.end }
-    ensures frame { band.new.frame ≡ band.old.frame }
-    ensures added { IsBandAdded (span_of piece.now) band.old.frame rows.first rows.end band.old band.new }
-    ensures count { tally.new.count ≤ tally.old.count + (rows.end - rows.first) * 10 }
+fn add_general_rows<N: Noting>(
+    piece: &Piece,
+    rows: RowRange,
+    band: &mut Band,
+    noter: &mut N,
+    tally: &mut Tally,
+)
+    requires { AreNextRows (N.Says noter.old) band.old rows.first rows.end }
+    ensures met { AreMetAdded (N.IsTold noter.old) (N.IsTold noter.new) (N.Says noter.old) (N.Says noter.new) (span_of piece.now)
+        rows.first rows.end band.old band.new }
+    ensures count { tally.new.count ≤ tally.old.count + (rows.end - rows.first) * (10 + N.general) }
 {
     let bounded = bounds_of(piece, rise_of(piece));
-    // The rows before `up` have what the piece adds.
+    // The rows before `up` have what the piece adds and are noted.
     'rows: for up in rows.first..rows.end {
-        add_met(&bounded, up, band, tally);
+        let part = add_met(&bounded, up, band, tally);
+        noter.note_row(&bounded, &part, band.frame, up, tally);
     }
 }
 
-/// Adds what a piece gives to rows, if there are any, in the general way.
-#[tactic(auto, using(crate::proofs::Banding::band_none))]
-fn add_met_rows(piece: &Piece, rows: RowRange, band: &mut Band, tally: &mut Tally)
-    requires { AreNextRows band.old rows.first rows.end }
-    ensures frame { band.new.frame ≡ band.old.frame }
-    ensures added { IsBandAdded (span_of piece.now) band.old.frame rows.first rows.end band.old band.new }
-    ensures count { tally.new.count ≤ tally.old.count + (rows.end - rows.first) * 10 }
+/// Adds what a piece gives to rows, if there are any, in the general way, and notes it.
+#[tactic(auto, using(crate::proofs::Telling::met_none))]
+fn add_met_rows<N: Noting>(
+    piece: &Piece,
+    rows: RowRange,
+    band: &mut Band,
+    noter: &mut N,
+    tally: &mut Tally,
+)
+    requires { AreNextRows (N.Says noter.old) band.old rows.first rows.end }
+    ensures met { AreMetAdded (N.IsTold noter.old) (N.IsTold noter.new) (N.Says noter.old) (N.Says noter.new) (span_of piece.now)
+        rows.first rows.end band.old band.new }
+    ensures count { tally.new.count ≤ tally.old.count + (rows.end - rows.first) * (10 + N.general) }
 {
     if rows.first < rows.end {
-        add_general_rows(piece, rows, band, tally);
+        add_general_rows(piece, rows, band, noter, tally);
     }
 }
 
@@ -156,51 +174,58 @@ fn add_inner_rows<N: Noting>(
     add_cuts(bounded, LineCuts { side }, rows, band, noter, tally);
 }
 
-/// Adds what a piece gives to the rows of a band that it can touch, and returns these, with those that pass between its ends.
+/// Adds what a piece gives to the rows of a band that it can touch, and returns those of them that pass between its ends. The
+/// others are noted.
 fn add_met_piece<N: Noting>(
     piece: &Piece,
     rows: RowRange,
     band: &mut Band,
     noter: &mut N,
     tally: &mut Tally,
-) -> RowsMet
-    requires rows { AreNextRows band.old rows.first rows.end }
+) -> RowRange
+    requires rows { AreNextRows (N.Says noter.old) band.old rows.first rows.end }
     requires some { rows.first < rows.end }
     ensures added { IsPieceAdded (N.IsTold noter.new) (N.Says noter.old) (N.Says noter.new) (span_of piece.now) rows.first rows.end
         band.old band.new result }
-    ensures count { tally.new.count ≤ tally.old.count + (rows.end - rows.first) * 12 }
+    ensures count { tally.new.count ≤ tally.old.count + (rows.end - rows.first) * (12 + N.general) }
 {
     let rise = rise_of(piece);
-    let met = rows_between(rise, band.frame, rows);
-    if met.inner.first >= met.inner.end {
-        add_met_rows(piece, rows, band, tally);
-        return met;
+    let inner = rows_between(rise, band.frame, rows);
+    if inner.first >= inner.end {
+        add_met_rows(piece, rows, band, noter, tally);
+        return inner;
     }
-    add_met_rows(piece, met.below(), band, tally);
-    add_inner_rows(&bounds_of(piece, rise), met.inner, band, noter, tally);
-    add_met_rows(piece, met.above(), band, tally);
-    met
+    let below = RowRange {
+        first: rows.first,
+        end: inner.first,
+    };
+    let above = RowRange {
+        first: inner.end,
+        end: rows.end,
+    };
+    add_met_rows(piece, below, band, noter, tally);
+    add_inner_rows(&bounds_of(piece, rise), inner, band, noter, tally);
+    add_met_rows(piece, above, band, noter, tally);
+    inner
 }
 
-/// Adds what a piece gives to a band, and tells where it ends in the rows between its ends. Returns the rows that it can touch,
-/// with those between its ends.
+/// Adds what a piece gives to a band, tells where it ends in the rows between its ends, and notes the others that it can touch.
+/// Returns the rows between its ends.
 pub(crate) fn add_piece<N: Noting>(
     piece: &Piece,
     band: &mut Band,
     noter: &mut N,
     tally: &mut Tally,
-) -> RowsMet
-    requires { AreWithin (2 ^ 25) band.old.diff.items }
+) -> RowRange
+    requires small { AreWithin (2 ^ 25) band.old.diff.items }
+    requires of { IsBandOf (N.Says noter.old) band.old.frame }
     ensures added { IsPieceAdded (N.IsTold noter.new) (N.Says noter.old) (N.Says noter.new) (span_of piece.now)
         0 band.old.frame.height band.old band.new result }
-    ensures count { tally.new.count ≤ tally.old.count + band.old.frame.height * 12 }
+    ensures count { tally.new.count ≤ tally.old.count + band.old.frame.height * (12 + N.general) }
 {
     let touched = rows_met(piece, band.frame);
     if touched.first >= touched.end {
-        return RowsMet {
-            all: touched,
-            inner: touched,
-        };
+        return touched;
     }
     add_met_piece(piece, touched, band, noter, tally)
 }

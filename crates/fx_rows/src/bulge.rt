@@ -3,6 +3,7 @@
 
 ghost use Rattle.std.specs.Prelude.{◌≡◌, ◌⊎◌, ℕ, ◌+◌, ◌*◌, ◌^◌, ◌-◌, ◌<◌, ◌≤◌, length, ◌↔◌, IsTrue};
 ghost use Rattle.fx_fixed.specs.Ranges.{IsWithin};
+ghost use Rattle.fx_rows.specs.Parts.{IsRowPart};
 ghost use Rattle.fx_rows.specs.inner.Bulging.{HasLine, IsLineTo, IsLineFrom, IsBeyond, IsBulge};
 ghost use Rattle.fx_winding.specs.Frames.{HasMargin};
 ghost use Rattle.fx_winding.specs.Near.{IsNear};
@@ -10,18 +11,22 @@ ghost use Rattle.fx_winding.specs.Notes.{IsNotedAcross, IsNotedUp};
 ghost use Rattle.fx_winding.specs.Bitmaps.{words_for as words_for_of};
 ghost use Rattle.fx_winding.specs.Winding.{span_of};
 ghost use Rattle.fx_rows.specs.inner.Bands.{bounded_span, AreInner};
-ghost use Rattle.fx_rows.specs.inner.Strips.{edge_place, edge_of};
-ghost use Rattle.fx_rows.specs.inner.Heights.{AreOutside};
-ghost use Rattle.fx_rows.specs.inner.Lines.{GainOnly, HaveRoom, IsAcrossBit, IsUpBit, NotesRows};
+ghost use Rattle.fx_rows.specs.inner.Strips.{base_place, end_of};
+ghost use Rattle.fx_rows.specs.inner.Lines.{GainOnly, HaveRoom, IsAcrossBit, IsLineBit, IsRowSet, NotesRows};
+ghost use Rattle.fx_rows.specs.inner.Lines.{IsUpBit};
+ghost use Rattle.fx_rows.specs.inner.Points.{HasColumns};
 ghost use Rattle.fx_rows.specs.inner.Telling.{with_first};
 
+use crate::apart::has_columns;
 use crate::bounded::{Bounded, bounds_of, rise_of};
 use crate::chord::base_side;
 use crate::cuts::{Cuts, LineCuts};
 use crate::heights::{RowRange, rows_between, rows_met};
-use crate::noted_row::{note_row, set_cut};
-use crate::noted_rows::NotedRows;
-use crate::strip::areas_at;
+use crate::intervals::met_part;
+use crate::noted_row::{note_end, note_first, note_last, note_run, note_tip, set_segment};
+use crate::noted_rows::{NotedRow, NotedRows};
+use crate::part::{RowPart, Run};
+use crate::strip::{areas_at, row_of, strip_of};
 use crate::walk::arc_in;
 use fx_winding::{Frame, Piece, Point, Tally, first_from, words_for};
 
@@ -98,8 +103,33 @@ pub(crate) fn is_bulge(piece: &Piece) -> bool
     }
 }
 
-/// Notes the segments of some rows that a piece meets, between whose ends they are not.
-pub(crate) fn note_met_lines(
+/// Notes the segments of a row that a piece meets, by what it adds to the row.
+pub(crate) fn note_part(
+    bounded: &Bounded,
+    part: &RowPart,
+    line: &NotedRow,
+    bits: &mut [u32],
+    tally: &mut Tally,
+)
+    requires part { IsRowPart (bounded_span bounded.now) line.now.row line.now.frame part.now }
+    requires room { line.now.first + line.now.frame.width * line.now.step < 32 * length bits.old }
+    ensures noted { IsRowSet (bounded_span bounded.now) line.now.frame line.now.row line.now.first line.now.step bits.new }
+    ensures gained { GainOnly (IsLineBit (bounded_span bounded.now) line.now.frame line.now.row line.now.first line.now.step)
+        bits.old bits.new }
+    ensures count { tally.new.count ≤ tally.old.count + 15 }
+{
+    let piece = &bounded.piece;
+    note_run(part, line, part.crossing, bits);
+    note_run(part, line, part.region, bits);
+    note_end(line, piece.a, bits);
+    note_end(line, piece.c, bits);
+    note_tip(piece, bounded.rise, part, line, bits, tally);
+    note_first(piece, bounded.across, line, bits, tally);
+    note_last(piece, bounded.across, line, bits, tally);
+}
+
+/// Notes the segments of some rows that a piece meets.
+fn note_met_lines(
     bounded: &Bounded,
     rows: RowRange,
     lines: NotedRows,
@@ -107,14 +137,15 @@ pub(crate) fn note_met_lines(
     tally: &mut Tally,
 )
     requires rows { rows.end ≤ lines.frame.height }
-    requires outside { AreOutside (bounded_span bounded.now) lines.frame rows.first rows.end }
     requires room { HaveRoom lines bits.old }
     ensures notes { NotesRows (bounded_span bounded.now) lines rows.first rows.end bits.old bits.new }
-    ensures count { tally.new.count ≤ tally.old.count + 11 * (rows.end - rows.first) }
+    ensures count { tally.new.count ≤ tally.old.count + 25 * (rows.end - rows.first) }
 {
     // The segments of the rows before `up` are noted.
     'rows: for up in rows.first..rows.end {
-        note_row(bounded, &lines.row(up), bits, tally);
+        let line = lines.row(up);
+        let part = met_part(bounded, line.row, line.frame, tally);
+        note_part(bounded, &part, &line, bits, tally);
     }
 }
 
@@ -128,7 +159,8 @@ fn note_cuts<C: Cuts + Drop>(
     bits: &mut [u32],
 )
     requires inner { AreInner bounded.now lines.frame rows.first rows.end }
-    requires at { C.AreAt cuts bounded.now (edge_place lines.frame rows.first) (edge_of lines.frame) }
+    requires at { C.AreAt cuts bounded.now (base_place lines.frame rows.first) (end_of lines.frame) }
+    requires columns { HasColumns lines.frame bounded.now.across }
     requires room { HaveRoom lines bits.old }
     ensures { NotesRows (bounded_span bounded.now) lines rows.first rows.end bits.old bits.new }
 {
@@ -136,8 +168,9 @@ fn note_cuts<C: Cuts + Drop>(
     // The segments of the rows before `up` are noted, and the cuts stand at this row.
     'rows: for up in rows.first..rows.end {
         let line = lines.row(up);
-        let strip = line.strip();
-        set_cut(&line, cuts.end(bounded, strip), bits);
+        let strip = strip_of(lines.frame, line.row);
+        let end = cuts.end(bounded, strip);
+        set_segment(&line, end, bits);
         cuts.move_up(bounded, strip);
     }
 }
@@ -151,6 +184,7 @@ fn note_passed_lines(
     tally: &mut Tally,
 )
     requires inner { AreInner bounded.now lines.frame rows.first rows.end }
+    requires columns { HasColumns lines.frame bounded.now.across }
     requires room { HaveRoom lines bits.old }
     ensures notes { NotesRows (bounded_span bounded.now) lines rows.first rows.end bits.old bits.new }
     ensures count { tally.new.count ≤ tally.old.count + 3 * (rows.end - rows.first) }
@@ -159,7 +193,7 @@ fn note_passed_lines(
         return;
     }
     let piece = &bounded.piece;
-    let strip = lines.row(rows.first).strip();
+    let strip = strip_of(lines.frame, row_of(lines.frame, rows.first));
     if let Some(cuts) = arc_in(piece, strip, tally) {
         note_cuts(bounded, cuts, rows, lines, bits);
         return;
@@ -174,13 +208,25 @@ fn note_passed_lines(
 fn note_lines(bounded: &Bounded, lines: NotedRows, bits: &mut [u32], tally: &mut Tally)
     requires { HaveRoom lines bits.old }
     ensures notes { NotesRows (bounded_span bounded.now) lines 0 lines.frame.height bits.old bits.new }
-    ensures count { tally.new.count ≤ tally.old.count + 11 * lines.frame.height }
+    ensures count { tally.new.count ≤ tally.old.count + 25 * lines.frame.height }
 {
     let rows = rows_met(&bounded.piece, lines.frame);
-    let met = rows_between(bounded.rise, lines.frame, rows);
-    note_met_lines(bounded, met.below(), lines, bits, tally);
-    note_passed_lines(bounded, met.inner, lines, bits, tally);
-    note_met_lines(bounded, met.above(), lines, bits, tally);
+    if !has_columns(lines.frame, bounded.across) {
+        note_met_lines(bounded, rows, lines, bits, tally);
+        return;
+    }
+    let inner = rows_between(bounded.rise, lines.frame, rows);
+    let below = RowRange {
+        first: rows.first,
+        end: inner.first,
+    };
+    let above = RowRange {
+        first: inner.end,
+        end: rows.end,
+    };
+    note_met_lines(bounded, below, lines, bits, tally);
+    note_passed_lines(bounded, inner, lines, bits, tally);
+    note_met_lines(bounded, above, lines, bits, tally);
 }
 
 /// Notes the segments that a piece meets across all rows, with the first band.
@@ -196,17 +242,17 @@ pub(crate) fn note_all_across(
     requires room { length across.old ≡ frame.height * words_for_of frame.width }
     ensures noted { rows.first ≡ 0 → (r : ℕ) → r < frame.height → IsNotedAcross (span_of piece.now) frame across.new r }
     ensures gained { GainOnly (IsAcrossBit (span_of piece.now) frame) across.old across.new }
-    ensures count { tally.new.count ≤ tally.old.count + with_first rows.first (11 * frame.height) }
+    ensures count { tally.new.count ≤ tally.old.count + with_first rows.first (25 * frame.height) }
 {
     if rows.first > 0 {
         return;
     }
-    note_lines(
-        &bounds_of(piece, rise_of(piece)),
-        NotedRows::across(frame),
-        across,
-        tally,
-    );
+    let lines = NotedRows {
+        frame,
+        row_step: 32 * words_for(frame.width),
+        step: 1,
+    };
+    note_lines(&bounds_of(piece, rise_of(piece)), lines, across, tally);
 }
 
 /// Notes the segments that a piece meets up to all rows, with the first band, as those across rows of the piece with its
@@ -224,7 +270,7 @@ pub(crate) fn note_all_up(
     requires room { length up.old ≡ (frame.height + 1) * words_for_of frame.width }
     ensures noted { rows.first ≡ 0 → (r : ℕ) → r ≤ frame.height → IsNotedUp (span_of piece.now) frame up.new r }
     ensures gained { GainOnly (IsUpBit (span_of piece.now) frame) up.old up.new }
-    ensures count { tally.new.count ≤ tally.old.count + with_first rows.first (11 * frame.width) }
+    ensures count { tally.new.count ≤ tally.old.count + with_first rows.first (25 * frame.width) }
 {
     if rows.first > 0 {
         return;

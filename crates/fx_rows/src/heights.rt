@@ -20,39 +20,6 @@ pub(crate) struct RowRange {
     ghost order: { first ≤ end },
 }
 
-/// The rows of a band that a piece can touch, and those of them that pass between its ends.
-#[derive(Clone, Copy)]
-pub(crate) struct RowsMet {
-    pub all: RowRange,
-    pub inner: RowRange,
-    ghost low: { all.first ≤ inner.first },
-    ghost high: { inner.end ≤ all.end },
-}
-
-impl RowsMet {
-    /// The rows below those between the ends.
-    pub(crate) fn below(self) -> RowRange
-        ensures first { result.first ≡ self.all.first }
-        ensures end { result.end ≡ self.inner.first }
-    {
-        RowRange {
-            first: self.all.first,
-            end: self.inner.first,
-        }
-    }
-
-    /// The rows above them.
-    pub(crate) fn above(self) -> RowRange
-        ensures first { result.first ≡ self.inner.end }
-        ensures end { result.end ≡ self.all.end }
-    {
-        RowRange {
-            first: self.inner.end,
-            end: self.all.end,
-        }
-    }
-}
-
 /// The pixels of some rows of a frame.
 #[inline(always)]
 pub(crate) fn band_of(frame: Frame, rows: RowRange) -> Frame
@@ -216,21 +183,19 @@ fn end_under(y: i32, frame: Frame, rows: RowRange) -> u32
     first_at(y, frame, rows)
 }
 
-/// Some rows of a frame, with those whose centres are above the lower end of a chord and below the upper one.
-pub(crate) fn rows_between(rise: Rise, frame: Frame, rows: RowRange) -> RowsMet
+/// Those of some rows of a frame whose centres are above the lower end of a chord and below the upper one.
+pub(crate) fn rows_between(rise: Rise, frame: Frame, rows: RowRange) -> RowRange
     requires { rows.end ≤ frame.height }
-    ensures all { result.all ≡ rows }
-    ensures inner { AreAmong rise.foot rise.head frame rows.first rows.end result.inner.first result.inner.end }
+    ensures { AreAmong rise.foot rise.head frame rows.first rows.end result.first result.end }
 {
     let first = first_over(rise.foot, frame, rows);
     let rest = RowRange {
         first,
         end: rows.end,
     };
-    let end = end_under(rise.head, frame, rest);
-    RowsMet {
-        all: rows,
-        inner: RowRange { first, end },
+    RowRange {
+        first,
+        end: end_under(rise.head, frame, rest),
     }
 }
 

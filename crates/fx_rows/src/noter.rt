@@ -9,12 +9,16 @@ ghost use Rattle.fx_rows.specs.inner.Told.{IsEndIn};
 
 use crate::apart::columns_of;
 use crate::band::MOST_ROWS;
-use crate::bulge::{is_bulge, note_all_across, note_all_up};
-use crate::heights::{RowRange, RowsMet};
+use crate::bounded::Bounded;
+use crate::bulge::{is_bulge, note_all_across, note_all_up, note_part};
+use crate::heights::RowRange;
 use crate::note_across::note_across;
 use crate::note_up::note_up;
+use crate::noted_rows::NotedRow;
 use crate::noting::Noting;
-use crate::piece_in_band::PieceInBand;
+use crate::part::RowPart;
+use crate::piece_in_band::{PieceInBand, first_of};
+use crate::strip::row_of;
 use fx_winding::{Frame, Notes, Piece, Scratch, Tally};
 use std::alloc::{AllocError, Global};
 
@@ -55,9 +59,11 @@ impl Noter {
 }
 
 impl Noting for Noter {
-    ghost tests = { 15 };
+    ghost general = { 45 };
 
-    ghost more = { λ f. 11 * (f.height + f.width) };
+    ghost tests = { 4 };
+
+    ghost more = { λ f. 55 * (f.height + f.width) };
 
     ghost Says = { λ n x. BitsSay (IsApart n.notes.frame) n.notes.frame n.notes.across.items n.notes.up.items x };
 
@@ -69,12 +75,32 @@ impl Noting for Noter {
     }
 
     #[inline(always)]
+    fn note_row(
+        &mut self,
+        bounded: &Bounded,
+        part: &RowPart,
+        band: Frame,
+        up: u32,
+        tally: &mut Tally,
+    ) {
+        let frame = self.notes.frame;
+        let row = row_of(band, up);
+        let line = NotedRow {
+            frame,
+            row,
+            first: first_of(frame, (row - frame.bottom) as u32),
+            step: 1,
+        };
+        note_part(bounded, part, &line, &mut self.notes.across, tally);
+    }
+
+    #[inline(always)]
     fn note(
         &mut self,
         piece: &Piece,
         _frame: Frame,
         rows: RowRange,
-        met: RowsMet,
+        inner: RowRange,
         tally: &mut Tally,
     ) {
         let frame = self.notes.frame;
@@ -86,11 +112,10 @@ impl Noting for Noter {
         let placed = PieceInBand {
             frame,
             rows,
-            all: met.all,
-            inner: met.inner,
+            inner,
             across,
         };
-        note_across(piece, placed, &self.ends, &mut self.notes.across, tally);
+        note_across(piece, placed, &self.ends, &mut self.notes.across);
         if across.end <= across.first {
             return;
         }

@@ -1,6 +1,8 @@
 //! What is noted of pieces while they are added to bands: nothing, or the segments that they meet.
 
-use crate::heights::{RowRange, RowsMet};
+use crate::bounded::Bounded;
+use crate::heights::RowRange;
+use crate::part::RowPart;
 use fx_winding::{Frame, Piece, Tally};
 
 /// What is noted while a piece is added to the rows of a band, which are those of a frame from one to before another.
@@ -9,9 +11,14 @@ pub(crate) trait Noting {
     ghost use Rattle.fx_winding.specs.Winding.{span_of};
     ghost use Rattle.fx_winding.specs.declared.frame.Frame.{Frame};
     ghost use Rattle.fx_rows.specs.inner.Placing.{IsDue};
-    ghost use Rattle.fx_rows.specs.inner.Telling.{AreRowsNoted, Keeps, KeepsFor, Saying, with_first};
+    ghost use Rattle.fx_rows.specs.Parts.{IsRowPart};
+    ghost use Rattle.fx_rows.specs.inner.Bands.{bounded_span};
+    ghost use Rattle.fx_rows.specs.inner.Telling.{AreRowsNoted, IsBandOf, Keeps, KeepsFor, Saying, met_in, with_first};
 
-    // How many tests the notes of a row take, and how many more those of a piece with the frame's first row.
+    // How many tests the notes of a row take that is added in the general way, how many those of any row take besides, and how
+    // many more those of a piece with the frame's first row.
+    ghost general: { ℕ };
+
     ghost tests: { ℕ };
 
     ghost more: { Frame → ℕ };
@@ -27,9 +34,33 @@ pub(crate) trait Noting {
         ensures told { IsTold self.new up end }
         ensures others { (r n : ℕ) → r ≢ up → IsTold self.old r n → IsTold self.new r n };
 
-    /// Notes the segments that a piece meets up to rows of a band and across them.
-    fn note(&mut self, piece: &Piece, frame: Frame, rows: RowRange, met: RowsMet, tally: &mut Tally)
-        requires { IsDue (Says self.old) (IsTold self.old) piece.now frame rows met }
+    /// Notes the segments that a piece meets across a row of a band, by what it adds to that.
+    fn note_row(
+        &mut self,
+        bounded: &Bounded,
+        part: &RowPart,
+        band: Frame,
+        up: u32,
+        tally: &mut Tally,
+    )
+        requires of { IsBandOf (Says self.old) band }
+        requires up { up < band.height }
+        requires part { IsRowPart (bounded_span bounded.now) (band.bottom +ℤ pos up) band part.now }
+        ensures kept { KeepsFor (bounded_span bounded.now) (Says self.old) (Says self.new) }
+        ensures told { (r n : ℕ) → IsTold self.old r n → IsTold self.new r n }
+        ensures noted { Says self.new (met_in (bounded_span bounded.now) (band.bottom +ℤ pos up)) }
+        ensures count { tally.new.count ≤ tally.old.count + general };
+
+    /// Notes the segments that a piece meets up to rows of a band and across those between its ends.
+    fn note(
+        &mut self,
+        piece: &Piece,
+        frame: Frame,
+        rows: RowRange,
+        inner: RowRange,
+        tally: &mut Tally,
+    )
+        requires { IsDue (Says self.old) (IsTold self.old) piece.now frame rows inner }
         ensures kept { KeepsFor (span_of piece.now) (Says self.old) (Says self.new) }
         ensures noted { AreRowsNoted (Says self.new) (span_of piece.now) rows.end }
         ensures count { tally.new.count ≤ tally.old.count +
@@ -41,6 +72,8 @@ pub(crate) trait Noting {
 pub(crate) struct NoNotes;
 
 impl Noting for NoNotes {
+    ghost general = { 0 };
+
     ghost tests = { 0 };
 
     ghost more = { λ _. 0 };
@@ -53,12 +86,22 @@ impl Noting for NoNotes {
     fn tell(&mut self, _up: u32, _end: u32) {}
 
     #[inline(always)]
+    fn note_row(
+        &mut self,
+        _bounded: &Bounded,
+        _part: &RowPart,
+        _band: Frame,
+        _up: u32,
+        _tally: &mut Tally,
+    ) {}
+
+    #[inline(always)]
     fn note(
         &mut self,
         _piece: &Piece,
         _frame: Frame,
         _rows: RowRange,
-        _met: RowsMet,
+        _inner: RowRange,
         _tally: &mut Tally,
     ) {}
 }

@@ -16,16 +16,12 @@ pub(crate) struct PieceInBand {
     pub frame: Frame,
     /// The rows of the band.
     pub rows: RowRange,
-    /// Those of them that the piece can touch.
-    pub all: RowRange,
-    /// Those that pass between the piece's ends.
+    /// Those of them that pass between the piece's ends.
     pub inner: RowRange,
     /// The columns of the piece's box.
     pub across: Across,
-    ghost lowest: { rows.first ≤ all.first },
-    ghost first: { all.first ≤ inner.first },
-    ghost end: { inner.end ≤ all.end },
-    ghost highest: { all.end ≤ rows.end },
+    ghost first: { rows.first ≤ inner.first },
+    ghost end: { inner.end ≤ rows.end },
     ghost within: { rows.end ≤ frame.height },
     ghost margin: { HasMargin frame },
 }

@@ -26,11 +26,6 @@ pub record AreInnerRows (b : Bounded) (band : Band) (from to : ℕ) : Type 0 whe
   pub inner : AreInner b band.frame from to
   pub small : AreWithin (2 ^ 25 + 4 * from) band.diff.items
 
--- the rows of a band from one to before another take a piece next: its differences are small enough
-pub record AreNextRows (band : Band) (from to : ℕ) : Type 0 where
-  pub within : to ≤ band.frame.height
-  pub small : AreWithin (2 ^ 25 + 4 * from) band.diff.items
-
 -- how many numbers a row of this width takes: whole words
 abbrev pub stride : ℕ → ℕ
 stride width = 32 * words_for width

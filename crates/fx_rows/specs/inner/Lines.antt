@@ -1,13 +1,14 @@
 -- The segments of a row, or of a column seen as a row, that a piece meets, and the bits that they have.
-use Rattle.std.specs.Prelude.{◌≡◌, ◌⊎◌, ℕ, ◌+◌, ◌*◌, ◌<◌, ◌≤◌, ℤ, pos, ◌+ℤ◌, ◌-ℤ◌, ◌<ℤ◌, ◌≤ℤ◌, List, Option, Some, None, length}
-use Rattle.fx_winding.specs.Area.{Place, area, gap_of}
+use Rattle.std.specs.Prelude.{◌≡◌, ◌≢◌, ◌⊎◌, ℕ, ◌+◌, ◌*◌, ◌<◌, ◌≤◌, ℤ, pos, ◌+ℤ◌, ◌-ℤ◌, List, Option, Some, None, length}
+use Rattle.fx_winding.specs.Area.{Place}
 use Rattle.fx_winding.specs.Bitmaps.{words_for, word_bit}
-use Rattle.fx_winding.specs.Meets.{slope, IsMet, IsWithinRow}
+use Rattle.fx_winding.specs.Meets.{turn, IsMet, IsTipPart, IsWithinRow}
 use Rattle.fx_winding.specs.Notes.{pixel_number, IsMetAcross, IsMetUp, IsNotedAcross, IsNotedUp}
 use Rattle.fx_winding.specs.Winding.{Span, IsOn, centre}
 use Rattle.fx_winding.specs.declared.frame.Frame.{Frame}
 use Rattle.fx_rows.specs.declared.noted_rows.NotedRow.{NotedRow}
 use Rattle.fx_rows.specs.declared.noted_rows.NotedRows.{NotedRows}
+use Rattle.fx_rows.specs.declared.part.Run.{Run}
 use Rattle.fx_rows.specs.inner.Told.{AreKept}
 
 -- the ends of the segment of a row that goes to a frame's column
@@ -21,16 +22,32 @@ right_at f row k = centre (f.left +ℤ pos k) row
 abbrev pub IsMetTo : Span → Frame → ℤ → ℕ → Type 0
 IsMetTo s f row k = IsMet (left_at f row k) (right_at f row k) s
 
+-- it adds different numbers at its ends
+abbrev pub IsChange : Span → Frame → ℤ → ℕ → Type 0
+IsChange s f row k = turn (left_at f row k) s ≢ turn (right_at f row k) s
+
 -- a piece meets it, unless an end of it is on the piece
 abbrev pub IsMetToUnlessOn : Span → Frame → ℤ → ℕ → Type 0
 IsMetToUnlessOn s f row k = ¬ (IsOn (left_at f row k) s) → ¬ (IsOn (right_at f row k) s) → IsMetTo s f row k
 
--- the segment to a column, if the piece meets it and no end of it is on the piece, has its bit: the one that is k steps from first
-abbrev pub IsSetTo : Span → Frame → ℤ → ℕ → ℕ → List ℕ → ℕ → Type 0
-IsSetTo s f row first step bits k = ¬ (IsOn (left_at f row k) s) → ¬ (IsOn (right_at f row k) s) → IsMetTo s f row k
-    → word_bit bits (first + k * step) ≡ 1
+-- the column is the first of a run, or the one after its last
+abbrev pub IsRunEnd : Frame → Option Run → ℕ → Type 0
+IsRunEnd f None k = ⊥
+IsRunEnd f (Some r) k = (f.left +ℤ pos k ≡ r.first) ⊎ (f.left +ℤ pos k ≡ r.last +ℤ pos 1)
 
--- all segments of a frame's row
+-- it is one of them, and the piece adds different numbers at the ends of its segment
+abbrev pub IsTurnEnd : Span → Frame → ℤ → Option Run → ℕ → Type 0
+IsTurnEnd s f row run k = IsRunEnd f run k × IsChange s f row k
+
+-- the segment to a column within the frame, if the piece meets it, has its bit: the one that is k steps from first
+abbrev pub IsSetTo : Span → Frame → ℤ → ℕ → ℕ → List ℕ → ℕ → Type 0
+IsSetTo s f row first step bits k = IsMetTo s f row k → word_bit bits (first + k * step) ≡ 1
+
+-- all segments of a row
+abbrev pub IsRowSet : Span → Frame → ℤ → ℕ → ℕ → List ℕ → Type 0
+IsRowSet s f row first step bits = (k : ℕ) → k ≤ f.width → IsSetTo s f row first step bits k
+
+-- those of a frame's row that have no end on the piece
 abbrev pub AreSetIn : Span → Frame → ℕ → ℕ → ℕ → List ℕ → Type 0
 AreSetIn s f r first step bits = (k : ℕ) → k ≤ f.width → IsMetAcross s f r k → word_bit bits (first + k * step) ≡ 1
 
@@ -53,35 +70,20 @@ pub record GainOnly (IsNew : ℕ → Type 0) (old new : List ℕ) : Type 0 where
 -- the segments of a row that go to the columns with At have their bits, if the piece meets them, and only bits of segments that it
 -- meets are gained
 pub record NotesAt (s : Span) (line : NotedRow) (At : ℕ → Type 0) (old new : List ℕ) : Type 0 where
-  pub noted : (k : ℕ) → k ≤ line.frame.width → At k → IsSetTo s line.frame line.row line.first line.step new k
+  pub noted : (k : ℕ) → At k → IsSetTo s line.frame line.row line.first line.step new k
   pub gained : GainOnly (IsLineBit s line.frame line.row line.first line.step) old new
+
+-- a column of the frame after its first one, with P
+abbrev pub IsAfterFirst : NotedRow → (ℕ → Type 0) → ℕ → Type 0
+IsAfterFirst line P k = (0 < k) × (k < line.frame.width) × P k
 
 -- a point is within the segment to a column
 abbrev pub HasEnd : Place → NotedRow → ℕ → Type 0
 HasEnd p line k = IsWithinRow (left_at line.frame line.row k) (right_at line.frame line.row k) p
 
--- half the slopes and the gaps of an arc at two places of a row: it is inside its parabola at one of them alone, or comes out of it
--- between them
-abbrev pub IsCutBetween : ℤ → ℤ → ℤ → ℤ → Type 0
-IsCutBetween s g s' g' = ((pos 0 <ℤ g) × (g' <ℤ pos 0))
-    ⊎ (((g <ℤ pos 0) × (pos 0 <ℤ g')) ⊎ ((g <ℤ pos 0) × (pos 0 <ℤ s) × (s' <ℤ pos 0)))
-
-abbrev pub HasCutPart : Place → Option Place → Place → Place → Place → Type 0
-HasCutPart a None c p q = ⊥
-HasCutPart a (Some b) c p q = IsCutBetween (slope a b c p) (gap_of (area p b c) (area a p c) (area a b p))
-    (slope a b c q) (gap_of (area q b c) (area a q c) (area a b q))
-
--- a cut by an arc's parabola comes between the ends of the segment to a column
-abbrev pub HasCut : Span → NotedRow → ℕ → Type 0
-HasCut s line k = HasCutPart s.a s.b s.c (left_at line.frame line.row k) (right_at line.frame line.row k)
-
--- an arc's control point is beyond a height, or at the other side of it than its ends, of which one may be there
-abbrev pub IsTurning : ℤ → ℤ → ℤ → ℤ → Type 0
-IsTurning a b c y = ((y ≤ℤ a) × (y ≤ℤ c) × (b <ℤ y)) ⊎ ((a ≤ℤ y) × (c ≤ℤ y) × (y <ℤ b))
-
-abbrev pub IsTurningPart : Place → Option Place → Place → ℤ → Type 0
-IsTurningPart a None c y = ⊥
-IsTurningPart a (Some b) c y = IsTurning a.y b.y c.y y
+-- the tip of an arc is within it
+abbrev pub HasTip : Span → NotedRow → ℕ → Type 0
+HasTip s line k = IsTipPart s.a s.b s.c (left_at line.frame line.row k) (right_at line.frame line.row k)
 
 -- the same of the segments of a frame's rows
 pub record IsRowsBit (s : Span) (f : Frame) (row_step step n : ℕ) : Type 0 where

@@ -1,5 +1,5 @@
 -- What is told and noted of pieces while they are added to the rows of a band.
-use Rattle.std.specs.Prelude.{◌≡◌, ℕ, zero, suc, ◌+◌, ◌*◌, ◌≤◌, ◌<◌, pos, ◌+ℤ◌, List, All, map, length, get_or}
+use Rattle.std.specs.Prelude.{◌≡◌, ℕ, zero, suc, ◌+◌, ◌*◌, ◌^◌, ◌≤◌, ◌<◌, ℤ, pos, ◌+ℤ◌, List, All, map, length, get_or}
 use Rattle.fx_winding.specs.declared.frame.Frame.{Frame}
 use Rattle.fx_winding.specs.Bitmaps.{words_for, word_bit}
 use Rattle.fx_winding.specs.Notes.{pixel_number, IsNotedAcross, IsNotedUp}
@@ -12,6 +12,7 @@ use Rattle.fx_rows.specs.inner.Bands.{IsBandAdded, IsClear}
 use Rattle.fx_rows.specs.inner.Heights.{height_of}
 use Rattle.fx_rows.specs.inner.Lines.{IsMetToUnlessOn}
 use Rattle.fx_rows.specs.inner.Points.{IsInner}
+use Rattle.fx_rows.specs.inner.Sums.{AreWithin}
 use Rattle.fx_rows.specs.inner.Told.{IsEnd}
 use Rattle.fx_rows.specs.inner.Lines.{IsMetUnlessOn}
 
@@ -45,11 +46,12 @@ pub data Way : Type 0 where
   up_to_row : Way
 
 -- what can be said of notes: the frame of which segments are noted; that one of some pieces meets each that is noted within it;
--- that those are noted that a piece meets across a row of the frame, or up to it. The number after the highest row's stands for
--- those up from that.
+-- that those are noted that a piece meets across a row of the plane; the same across a row of the frame, or up to it. The number
+-- after the highest row's stands for those up from that.
 pub data Saying : Type 0 where
   of_frame : Frame → Saying
   of_pieces : List Span → Saying
+  met_in : Span → ℤ → Saying
   noted : Span → Way → ℕ → Saying
 
 -- the rows of a frame before one are noted in both ways, and if there are any, the segments up to that one
@@ -117,6 +119,8 @@ pub record AreMetBySome (f : Frame) (across up : List ℕ) (ss : List Span) : Ty
 abbrev pub BitsSay : (Span → Way → Type 0) → Frame → List ℕ → List ℕ → Saying → Type 0
 BitsSay IsApart f across up (of_frame g) = f ≡ g
 BitsSay IsApart f across up (of_pieces ss) = AreMetBySome f across up ss
+BitsSay IsApart f across up (met_in s row) =
+    (r : ℕ) → r < f.height → f.bottom +ℤ pos r ≡ row → IsNotedAcross s f across r
 BitsSay IsApart f across up (noted s w r) =
     IsNotedBy f across up s w r × (IsApart s w → (q : ℕ) → IsNotedBy f across up s w q)
 
@@ -124,6 +128,7 @@ BitsSay IsApart f across up (noted s w r) =
 abbrev pub Lasts : Span → Saying → Type 0
 Lasts s (of_frame f) = Unit {0}
 Lasts s (of_pieces ss) = IsAmong s ss
+Lasts s (met_in t row) = Unit {0}
 Lasts s (noted t w r) = Unit {0}
 
 -- what was said of notes is so still
@@ -142,3 +147,26 @@ KeepsAfter ss Old New = (x : Saying) → All (λ s. Lasts s x) ss → Old x → 
 pub record NotesPieces (ss : List Span) (to : ℕ) (Old New : Saying → Type 0) : Type 0 where
   pub kept : KeepsAfter ss Old New
   pub noted : AreNotedIn New ss to
+
+-- a band is some rows of the frame of which segments are noted
+pub record IsBandOf (Says : Saying → Type 0) (g : Frame) : Type 0 where
+  pub frame : Frame
+  pub from : ℕ
+  pub to : ℕ
+  pub of : Says (of_frame frame)
+  pub part : IsPartOf frame from to g
+
+-- the rows of a band from one to before another take a piece next: its differences are small enough
+pub record AreNextRows (Says : Saying → Type 0) (band : Band) (from to : ℕ) : Type 0 where
+  pub within : to ≤ band.frame.height
+  pub small : AreWithin (2 ^ 25 + 4 * from) band.diff.items
+  pub of : IsBandOf Says band.frame
+
+-- what a piece adds to the rows of a band from one to before another; the segments that it meets across them are noted, and what
+-- was told and said is so still
+pub record AreMetAdded (T U : ℕ → ℕ → Type 0) (Old New : Saying → Type 0) (s : Span) (from to : ℕ) (old new : Band) : Type 0 where
+  pub frame : new.frame ≡ old.frame
+  pub added : IsBandAdded s old.frame from to old new
+  pub told : (r n : ℕ) → T r n → U r n
+  pub kept : KeepsFor s Old New
+  pub met : (r : ℕ) → from ≤ r → r < to → New (met_in s (old.frame.bottom +ℤ pos r))

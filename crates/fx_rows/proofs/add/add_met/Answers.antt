@@ -35,16 +35,20 @@ add_run-requires-2-clause-small c =
     let x = ap (λ (xs : List ℤ). get_or xs k (pos 0)) d in
     omega (arith, signed_linear, e, x)
 
+pub returns-clause-part : goal.returns-clause-part
+returns-clause-part c =
+    let f = c.args.band.now.frame in
+    let near = c.row_of.ensures.near in
+    let row : to_z w32 (of_z w32 c.row_of.result) ≡ f.bottom +ℤ pos c.args.up =
+    (omega (arith, signed_linear, near)) ∙ c.row_of.ensures.value in
+    subst (λ (r : ℤ). IsRowPart (bounded_span c.args.bounded.now) r f c.met_part-part.result) row c.met_part-part.ensures.part
+
 pub returns-clause-added : goal.returns-clause-added
 returns-clause-added c =
     let b = c.args.band.now in
     let f = b.frame in
     let s = bounded_span c.args.bounded.now in
     let part = c.met_part-part.result in
-    let near = c.row_of.ensures.near in
-    let row : to_z w32 (of_z w32 c.row_of.result) ≡ f.bottom +ℤ pos c.args.up =
-    (omega (arith, signed_linear, near)) ∙ c.row_of.ensures.value in
-    let adds = subst (λ (r : ℤ). IsRowPart s r f part) row c.met_part-part.ensures.part in
     let at = c.first_of-first.result in
     let d = c.deref_mut.result.now in
     let t = c.deref_mut-2.result.now in
@@ -58,7 +62,7 @@ returns-clause-added c =
     c.deref_mut-3.ensures.value ∙ with_items_is b.diff c.add_run.new.diff (omega arith) in
     let et : c.deref_mut-4.result.now ≡ c.add_run.new.touched =
     c.deref_mut-4.ensures.value ∙ with_items_is b.touched c.add_run.new.touched (omega arith) in
-    let added = added_part s (f.bottom +ℤ pos c.args.up) f part at d d' t t' m m' adds
+    let added = added_part s (f.bottom +ℤ pos c.args.up) f part at d d' t t' m m' (returns-clause-part c)
     (λ k. let a = c.add_run.ensures.raised.sums k in let z = c.add_run-2.ensures.raised.sums k in
     let x = ap (before (at + k + 1)) ed in omega (arith, signed_linear, a, z, x))
     (λ n h. c.add_run-2.ensures.raised.under n h ∙ ap (before n) ed ∙ c.add_run.ensures.raised.under n h)

@@ -19,5 +19,5 @@ invariant-pieces g l = record {
   kept : KeepsAfter (map span_of l.pieces) (g.N.Noting.Says l.fn.noter) (g.N.Noting.Says l.noter);
   noted : AreNotedIn (g.N.Noting.Says l.noter) (take l.piece-index (map span_of l.pieces)) l.rows.end;
   count : l.tally.count ≤ l.fn.tally.count + l.piece-index *
-      ((12 + g.N.Noting.tests) * l.fn.band.frame.height + with_first l.rows.first (g.N.Noting.more l.frame));
+      ((12 + g.N.Noting.general + g.N.Noting.tests) * l.fn.band.frame.height + with_first l.rows.first (g.N.Noting.more l.frame));
 }

@@ -38,7 +38,7 @@ cover_band-requires g c =
 pub returns-in_err-band-clause-count : goal.returns-in_err-band-clause-count
 returns-in_err-band-clause-count g c =
     let count = c.bands.invariant.count in
-    let fit = tests_fit (length c.args.pieces.now) (12 + g.N.Noting.tests) c.bands.from c.args.frame.height
+    let fit = tests_fit (length c.args.pieces.now) (12 + g.N.Noting.general + g.N.Noting.tests) c.bands.from c.args.frame.height
     (digits c.args.frame.width) (omega arith) in
     omega (arith, count, fit)
 
@@ -62,7 +62,7 @@ bands-preserved g c =
     (subst (λ (ps : List Piece). AreScanned (map span_of ps) f.left f.bottom f.width c.bands.from c.bands.words.items) (sym same)
     c.bands.invariant.scanned) in
     let count = bands_more c.args.tally.now.count c.bands.tally.count c.cover_band.new.tally.count
-    (12 + g.N.Noting.tests) (g.N.Noting.more f) c.bands.from x.height c.band_end.result
+    (12 + g.N.Noting.general + g.N.Noting.tests) (g.N.Noting.more f) c.bands.from x.height c.band_end.result
     c.as_slice.result.now c.args.pieces.now same (omega arith) part.height c.bands.invariant.count c.cover_band.ensures.count in
     grind (arith, same, c.bands.invariant, scanned, c.cover_band.ensures, count)
 
@@ -72,16 +72,16 @@ returns-in_err-words-2-clause-count g c =
     let part : IsPartOf f c.bands.from c.band_end.result c.in_ok-band.band.frame =
     subst (IsPartOf f c.bands.from c.band_end.result) (sym c.in_ok-band.ensures.frame) c.band_of.ensures in
     let count = bands_more c.args.tally.now.count c.bands.tally.count c.cover_band.new.tally.count
-    (12 + g.N.Noting.tests) (g.N.Noting.more f) c.bands.from _ c.band_end.result c.as_slice.result.now
+    (12 + g.N.Noting.general + g.N.Noting.tests) (g.N.Noting.more f) c.bands.from _ c.band_end.result c.as_slice.result.now
     c.args.pieces.now c.as_slice.ensures.value (omega arith) part.height c.bands.invariant.count c.cover_band.ensures.count in
-    let fit = tests_fit (length c.args.pieces.now) (12 + g.N.Noting.tests) c.band_end.result f.height
+    let fit = tests_fit (length c.args.pieces.now) (12 + g.N.Noting.general + g.N.Noting.tests) c.band_end.result f.height
     (digits f.width) (omega arith) in
     omega (arith, count, fit)
 
 pub returns-clause-count : goal.returns-clause-count
 returns-clause-count g c =
     let count = c.bands.invariant.count in
-    let fit = tests_fit (length c.args.pieces.now) (12 + g.N.Noting.tests) c.bands.from c.args.frame.height
+    let fit = tests_fit (length c.args.pieces.now) (12 + g.N.Noting.general + g.N.Noting.tests) c.bands.from c.args.frame.height
     (digits c.args.frame.width) (omega arith) in
     omega (arith, count, fit)
 

@@ -11,7 +11,7 @@ invariant-bands g l = record {
   kept : KeepsAfter (map span_of l.pieces) (g.N.Noting.Says l.fn.noter) (g.N.Noting.Says l.noter);
   noted : AreNotedIn (g.N.Noting.Says l.noter) (map span_of l.pieces) l.from;
   count : l.tally.count + length l.pieces * with_first l.from (g.N.Noting.more l.frame) ≤
-      l.fn.tally.count + (length l.pieces * ((12 + g.N.Noting.tests) * l.from)
+      l.fn.tally.count + (length l.pieces * ((12 + g.N.Noting.general + g.N.Noting.tests) * l.from)
       + length l.pieces * g.N.Noting.more l.frame);
 }
 

@@ -19,15 +19,11 @@ sum_without_copies x y z hx hy hz =
     (λ i. to_z w128 (of_z w128 (to_z w128 (of_z w128 (pos 2 *ℤ to_z w128 (of_z w128 (ex i +ℤ ey i)))) +ℤ ez i)))
     ∙ (λ i. to_z w128 (of_z w128 (to_z w128 (of_z w128 (pos 2 *ℤ s i)) +ℤ z))) ∙ (λ i. to_z w128 (of_z w128 (t i +ℤ z))) ∙ r
 
-sum_within : (x y z : ℤ) → IsWithin (2 ^ 112) x → IsWithin (2 ^ 112) y → IsWithin (2 ^ 112) z
-    → IsWithin (2 ^ 115) (pos 2 *ℤ (x +ℤ y) +ℤ z)
-sum_within x y z hx hy hz = (omega (arith, signed, hx, hy, hz), omega (arith, signed, hx, hy, hz))
-
 moved_held : (z : ℤ) → IsWithin (2 ^ 56) z → to_z w64 (of_z w64 z) ≡ z
 moved_held z h = omega (arith, signed_linear)
 
-pub returns-clause-value : goal.returns-clause-value
-returns-clause-value c =
+pub returns : goal.returns
+returns c =
     let g = c.args.g in
     let k = pos c.args.k in
     let u = moved_held c.moved-u.result c.moved-u.ensures.size in
@@ -50,14 +46,6 @@ returns-clause-value c =
     ∙ (λ i. (gv i +ℤ k *ℤ sv i) *ℤ (g.step_u +ℤ g.step_w)) in
     sum_without_copies c.product.result c.product-2.result c.product-3.result c.product.ensures.size c.product-2.ensures.size
     c.product-3.ensures.size ∙ (λ i. pos 2 *ℤ (x i +ℤ y i) +ℤ z i)
-
-pub returns-clause-size : goal.returns-clause-size
-returns-clause-size c =
-    let x = c.product.ensures.size in
-    let y = c.product-2.ensures.size in
-    let z = c.product-3.ensures.size in
-    rw (sum_without_copies c.product.result c.product-2.result c.product-3.result x y z)
-    (sum_within c.product.result c.product-2.result c.product-3.result x y z)
 
 pub overflow_add-result : goal.overflow_add-result
 overflow_add-result c = omega (arith, signed_linear, c.product.ensures.size, c.product-2.ensures.size)

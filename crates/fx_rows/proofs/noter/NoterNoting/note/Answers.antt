@@ -1,10 +1,13 @@
-use Rattle.std.proofs.Common.{inl, inr, sym, subst, ℕ, List, arith}
+use Rattle.std.proofs.Common.{ap, inl, inr, sym, subst, ℕ, ℤ, pos, ◌+ℤ◌, List, arith}
 use Rattle.std.proofs.lemmas.List.{with_items_is}
 use Rattle.fx_fixed.proofs.Linear.{signed_linear}
 use Rattle.fx_winding.proofs.Places.{clash}
 use Rattle.fx_winding.specs.Notes.{IsNotedAcross, IsNotedUp}
 use Rattle.fx_winding.specs.Winding.{span_of}
+use Rattle.fx_winding.specs.declared.frame.Frame.{Frame}
+use Rattle.fx_rows.specs.inner.Heights.{height_of, IsMissed}
 use Rattle.fx_rows.specs.inner.Placing.{IsApart}
+use Rattle.fx_rows.specs.inner.Points.{IsInner}
 use Rattle.fx_rows.specs.inner.Telling.{noted, across_row, up_to_row}
 use Rattle.fx_rows.proofs.Boxed.{boxed}
 use Rattle.fx_rows.proofs.Kept.{gain_none}
@@ -55,10 +58,19 @@ returns-in_default-clause-count c =
 
 -- ---- the others
 pub note_across-requires-clause-placed : goal.note_across-requires-clause-placed
-note_across-requires-clause-placed c = grind (arith, c.requires.frame, c.requires.met, c.in-Some.ensures.columns)
+note_across-requires-clause-placed c = grind (arith, c.requires.frame, c.requires.between, c.in-Some.ensures.columns)
 
 pub note_across-requires-clause-room : goal.note_across-requires-clause-room
 note_across-requires-clause-room c = omega arith
+
+pub note_across-requires-clause-others : goal.note_across-requires-clause-others
+note_across-requires-clause-others c r l m n o =
+    let s = span_of c.args.piece.now in
+    let e = c.requires.frame in
+    let at = ap (λ (x : Frame). height_of x r) e in
+    subst (λ (xs : List ℕ). IsNotedAcross s c.args.self.now.notes.frame xs r) (sym c.deref_mut-2.ensures.value)
+    (c.requires.others r l m (subst (λ (y : ℤ). ¬ (IsInner s.a.y s.c.y y)) at n) (subst (λ (y : ℤ). ¬ (IsMissed s y)) at o) r
+    (omega (arith, m, c.requires.within, ap (λ (x : Frame). x.height) e)) (ap (λ (x : Frame). x.bottom +ℤ pos r) e))
 
 pub note_across-requires-clause-told : goal.note_across-requires-clause-told
 note_across-requires-clause-told c = grind (arith, c.requires.frame, c.requires.told)
@@ -83,7 +95,7 @@ returns-then-across-clause-noted c =
     rows_noted _ _ s c.args.rows.first c.args.rows.end (λ w r. returns-then-across-clause-kept c (noted s w r) tt)
     c.requires.before (λ r l m. (
       λ h. subst (λ (xs : List ℕ). IsNotedAcross s n.frame xs r)
-          (sym (with_items_is n.across c.note_across.new.across (omega arith))) (c.note_across.ensures.notes.noted r l m),
+          (sym (with_items_is n.across c.note_across.new.across (omega arith))) (c.note_across.ensures.noted r l m),
       λ a. absurd (a (boxed n.frame s c.in-Some.across is)),
     )) (λ r l m. (λ h k w met. absurd (none r k met), λ a q h k w met. absurd (none q k met)))
 
@@ -118,13 +130,13 @@ returns-then-is_bulge-clause-noted c =
     rows_noted _ _ s first c.args.rows.end (λ w r. returns-then-is_bulge-clause-kept c (noted s w r) tt)
     c.requires.before (λ r l m. (
       λ h. subst (λ (xs : List ℕ). IsNotedAcross s n.frame xs r)
-          (sym (with_items_is n.across c.note_across.new.across (omega arith))) (c.note_across.ensures.notes.noted r l m),
+          (sym (with_items_is n.across c.note_across.new.across (omega arith))) (c.note_across.ensures.noted r l m),
       λ a. absurd (a (boxed n.frame s c.in-Some.across is)),
     )) (λ r l m. (up r, λ a. up))
 
 pub returns-then-is_bulge-clause-count : goal.returns-then-is_bulge-clause-count
 returns-then-is_bulge-clause-count c =
-    grind (arith, c.note_across.ensures.count, c.note_all_up-then-is_bulge.ensures.count, c.requires.frame, with_sum)
+    grind (arith, c.note_all_up-then-is_bulge.ensures.count, c.requires.frame, with_sum)
 
 -- and all others
 pub returns-clause-kept : goal.returns-clause-kept
@@ -149,7 +161,7 @@ returns-clause-noted c =
     rows_noted _ _ s c.args.rows.first c.args.rows.end (λ w r. returns-clause-kept c (noted s w r) tt)
     c.requires.before (λ r l m. (
       λ h. subst (λ (xs : List ℕ). IsNotedAcross s n.frame xs r)
-          (sym (with_items_is n.across c.note_across.new.across (omega arith))) (c.note_across.ensures.notes.noted r l m),
+          (sym (with_items_is n.across c.note_across.new.across (omega arith))) (c.note_across.ensures.noted r l m),
       λ a. absurd (a is),
     )) (λ r l m. (
       λ h. subst (λ (xs : List ℕ). IsNotedUp s n.frame xs r)
@@ -158,7 +170,7 @@ returns-clause-noted c =
     ))
 
 pub returns-clause-count : goal.returns-clause-count
-returns-clause-count c = omega (arith, c.note_across.ensures.count, c.note_up.ensures.count, c.requires.some)
+returns-clause-count c = omega (arith, c.note_up.ensures.count)
 
 pub invariant_of-self : goal.invariant_of-self
 invariant_of-self c = grind (arith, with_items_is)
@@ -176,11 +188,10 @@ pub invariant_of-self-in_default : goal.invariant_of-self-in_default
 invariant_of-self-in_default c = grind (arith, with_items_is)
 
 pub invariant_of-placed : goal.invariant_of-placed
-invariant_of-placed c =
-    grind (arith, c.requires.met, c.requires.within, c.requires.some, c.requires.frame, c.args.met.low, c.args.met.high)
+invariant_of-placed c = grind (arith, c.requires.between, c.requires.within, c.requires.some, c.requires.frame)
 
 pub note_up-requires-clause-plain : goal.note_up-requires-clause-plain
 note_up-requires-clause-plain c = λ b. clash c.is_bulge.result c.if-is_bulge.false (c.is_bulge.ensures.1 b)
 
 pub note_up-requires-clause-placed : goal.note_up-requires-clause-placed
-note_up-requires-clause-placed c = grind (arith, c.requires.frame, c.requires.met, c.in-Some.ensures.columns)
+note_up-requires-clause-placed c = grind (arith, c.requires.frame, c.requires.between, c.in-Some.ensures.columns)

@@ -1,6 +1,6 @@
 use Rattle.fx_winding.specs.Winding.{span_of}
 use Rattle.fx_rows.specs.inner.Lines.{NotesAcross}
-use Rattle.fx_rows.proofs.note_across.note_inner.Given as goal
+use Rattle.fx_rows.proofs.note_across.note_across.Given as goal
 
 abbrev pub invariant-rows : goal.invariant-rows
 invariant-rows l = record {
