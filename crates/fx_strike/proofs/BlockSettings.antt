@@ -1,4 +1,4 @@
--- What is read from a block of a font's setting is its machine, and with it the setting.
+-- What is read from a block of a font's setting is its machine, and with it the setting: `on_is`, `for_opened`.
 -- Serves the calls that open a font by a block.
 use Rattle.std.proofs.Common.{◌≡◌, refl, sym, ap, ◌∙◌, ℕ, List, Bool, true, Option, Some, None, Result, Ok, Err, arith}
 use Rattle.std.specs.Prelude.{option_map}

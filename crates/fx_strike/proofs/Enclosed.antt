@@ -1,4 +1,4 @@
--- A glyph whose shape lies in a box leaves that box as it is.
+-- A glyph whose shape lies in a box leaves that box as it is: `skipped`.
 -- Serves `see_drawn`.
 use Rattle.std.proofs.Common.{◌≡◌, refl, sym, subst, ℕ, ◌<◌, ℤ, pos, ◌+ℤ◌, ◌≤ℤ◌, ◌<ℤ◌, Bool, true}
 use Rattle.std.proofs.Common.{false, ◌||◌, arith}

@@ -1,4 +1,4 @@
--- The lines of the first characters: how they grow, and what the second pass needs of the others.
+-- The lines of the first characters stay kept as each one more is seen, and the others are written: `kept_at`, `within_rest`.
 -- Serves `see_drawn`, `see` and `write_all`.
 use Rattle.std.proofs.Common.{◌≡◌, refl, sym, ap, ◌∙◌, subst, arith, ℕ, zero, suc, ◌+◌, ◌<◌, true, false, List, [], ◌∷◌, ◌++◌}
 use Rattle.std.proofs.Common.{length, take, drop, length-append, length-drop, Ok}

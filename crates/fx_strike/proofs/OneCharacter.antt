@@ -1,4 +1,4 @@
--- What is made of one character is the part of a strike of that character alone.
+-- What is made of one character is the part of a strike of that character alone: `one_is_of_strike`.
 -- Serves the law `one`.
 use Rattle.std.proofs.Common.{◌≡◌, refl, sym, ap, ◌∙◌, ℕ, Bool, true, false, not, cond, List, [], ◌∷◌, Some, None, arith}
 use Rattle.std.proofs.Common.{Result, Ok, Err}

@@ -1,4 +1,5 @@
--- A sketch has one glyph, a strike one text, and a character one part in all strikes that hold it.
+-- A sketch has one glyph, a strike one text, and a character one part in all strikes that hold it: `glyph_is_one`, `text_is_one`,
+-- `part_is_one`.
 -- Serves the laws `part` and `text`, and the law that a strike exists.
 use Rattle.std.proofs.Common.{◌≡◌, refl, sym, ap, ◌∙◌, subst, arith, ℕ, zero, suc, ◌<◌, ℤ, Bool, true, false, not, List, []}
 use Rattle.std.proofs.Common.{◌∷◌, ◌++◌, length, get_or, Result, Ok, Err}

@@ -1,4 +1,5 @@
--- What is due once a font opened, its programs ran and the checks passed is what is due before.
+-- What is due once a font opened, its programs ran and the checks passed is what is due before: `prepared`, and `unprepared` if
+-- they did not.
 -- Serves the calls that make a strike, its survey or one glyph, and those of `Striker`.
 use Rattle.std.proofs.Common.{◌≡◌, refl, sym, ap, ◌∙◌, ℕ, List, Result, Ok, Err}
 use Rattle.std.specs.Prelude.{IsOk, IfOk, IfErr, IsErrOf, OnOk}
@@ -8,7 +9,7 @@ use Rattle.fx_request.specs.declared.refusal.Refusal.TheVariants.{OutOfMemory}
 use Rattle.fx_strike.specs.Strike.{Opening, Setting, opened_at, opened_of, setting_in, setting_of, plan_with, plan_in, plan_of}
 use Rattle.fx_strike.specs.Strike.{FontFileView, Mode, OnRefused, Refusal, Opened, Fails, Title}
 use Rattle.fx_strike.specs.inner.Drawing.{IfDue}
-use Rattle.fx_strike.specs.inner.Opening.{setting_after}
+use Rattle.fx_strike.specs.Strike.{setting_after}
 use Rattle.fx_strike.proofs.Sketching.{fails_on}
 
 -- what passed

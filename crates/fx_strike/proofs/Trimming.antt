@@ -1,4 +1,4 @@
--- Bits of the plane that all lie in a square, less than the greatest side apart, have a glyph.
+-- Bits of the plane that all lie in a square, less than the greatest side apart, have a glyph: `trimmed`.
 -- Serves the law that a strike exists, with Existing.
 use Rattle.std.proofs.Common.{◌≡◌, refl, sym, ap, ap₂, ◌∙◌, subst, inl, inr, ◌⊎◌, ℕ, zero, suc, ◌+◌, ◌-◌, ◌<◌, ◌≤◌, ℤ, pos, negsuc}
 use Rattle.std.proofs.Common.{◌+ℤ◌, ◌≤ℤ◌, ◌<ℤ◌, Bool, true, false, ◌||◌, Decides, true≢false, arith}

@@ -14,8 +14,8 @@ use std::alloc::{AllocError, Global};
 use std::marker::Model;
 
 /// What hints the glyphs of a font at a size: a machine of the font whose `fpgm` and `prep` ran, or nothing with hinting off.
-/// Either way components that come again are kept, if there is to be room for them. The machine lies in a box, so that the functions that hand it on hold little.
-/// Contracts see what stays as it is, whatever runs: what is known of the machine.
+/// Either way components that come again are kept, if there is to be room for them. The machine lies in a box, so that the
+/// functions that hand it on hold little. Contracts see what stays as it is, whatever runs: what is known of the machine.
 #[derive(Drop)]
 pub(crate) struct FontHinter<'a> {
     pub(crate) machine: Option<Box<Keeping<Machine<'a>>>>,
@@ -143,7 +143,7 @@ impl<'a> Hinter for FontHinter<'a> {
 }
 
 /// The machine of an opened font: `fpgm` runs, then `prep`.
-pub(crate) fn machine_at<'a>(alloc: Global, opened: &Opened<'a>) -> Result<Machine<'a>, Refusal>
+pub fn machine_at<'a>(alloc: Global, opened: &Opened<'a>) -> Result<Machine<'a>, Refusal>
     ensures { GivesUnless Fails (λ m. m.known) result (map_fault of_machine (machine_of opened.now.font opened.now.ppem)) }
 {
     Ok(Machine::new(alloc, opened.font.shared(), opened.ppem, &mut Unwatched)?)

@@ -3,7 +3,7 @@ ghost use Rattle.std.specs.Prelude.{◌≡◌};
 ghost use Rattle.fx_fixed.specs.Chain.{map_fault, GivesUnless};
 ghost use Rattle.fx_hint.specs.Outlines.{view_of_glyph_outline, outline_with};
 ghost use Rattle.fx_strike.specs.Faults.{Fails, of_hint};
-ghost use Rattle.fx_strike.specs.Outlines.{outlined_with};
+ghost use Rattle.fx_strike.specs.Numbered.{outlined_with};
 ghost use Rattle.fx_strike.specs.Strike.{hinting_by, machineless, setting_with, thousandths, glyph_sketch_of};
 
 use crate::faults::{of_hint, of_raster};
