@@ -132,7 +132,7 @@ impl<'a, S: Scan> Striker<'a, S> {
         ensures there { IfOk result (λ made. is_some made ≡ has_block self.now.machine) }
     {
         match &self.hinter.machine {
-            Some(machine) => machine.hinter().block(self.alloc),
+            Some(machine) => machine.block(self.alloc),
             None => Ok(Some(Vec::new(self.alloc))),
         }
     }

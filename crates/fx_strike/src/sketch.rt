@@ -12,7 +12,7 @@ use crate::opened::{Basis, Opened};
 use crate::rule::rule_for;
 use crate::striker::Striker;
 use fx_fixed::{F26, near};
-use fx_hint::{GlyphOutline, Spare, outline_in};
+use fx_hint::{GlyphOutline, Spare};
 use fx_machine::Usage;
 use fx_raster::{Scan, Shape};
 use fx_request::Refusal;
@@ -63,7 +63,7 @@ fn outline_by(
     ensures outline { GivesUnless Fails view_of_glyph_outline result
         (map_fault of_hint (outline_with (hinting_by hinter.old) opened.now.font opened.now.ppem glyph)) }
 {
-    match outline_in(alloc, spare, hinter, &opened.font, opened.ppem, glyph) {
+    match hinter.outline(alloc, spare, opened, glyph) {
         Ok(outline) => Ok(outline),
         Err(fault) => Err(of_hint(fault)),
     }

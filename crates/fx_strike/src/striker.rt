@@ -143,7 +143,7 @@ impl<'a, S: Scan> Striker<'a, S> {
     pub(crate) fn set_room(&mut self, has_room: bool)
         ensures { self.new ≡ self.old }
     {
-        self.hinter.has_room = has_room;
+        self.hinter.set_room(has_room);
     }
 
     /// The striker with another scan.

@@ -1,5 +1,5 @@
--- A simple glyph that is made alone is what begins a component.
--- For the walk, which recalls components that were kept.
+-- A component that is recalled is what it would become if it were made again: `begun_again`.
+-- Serves the walk, which recalls components that were kept.
 use Rattle.std.proofs.Common.{◌≡◌, ℕ, List, length, Option, refl, ◌∙◌, Result, Ok, Err}
 use Rattle.std.proofs.lemmas.List.{length-map}
 use Rattle.fx_fixed.specs.Chain.{◌>>=◌}
