@@ -253,7 +253,7 @@ def help_and_version(it):
     for words in (["help"], ["help", "make"], ["--version"]):
         with open("/dev/full", "wb") as full:
             it.equal("%s on a full disk" % " ".join(words), it.run(words, stdout=full)[::2], (1, ""))
-    it.check("the commands and the sets", "" if len(texts) == 9 else sorted(texts))
+    it.check("the commands and the sets", "" if len(texts) == 10 else sorted(texts))
     wide = [line for name, text in texts.items() if name != "version" for line in text.decode().split("\n") if len(line) > 80]
     it.check("lines of 80 characters", wide[0] if wide else "")
     said = re.findall(r"^    (\w+) +\w+ \w+", texts["overview"].decode().partition("Commands:")[2], re.M)
