@@ -75,6 +75,8 @@ PLACES = {
     "crates/fx_winding/src/pieces.rt": ["with_capacity(alloc, capacity)", "reserve(capacity)"],
     "crates/fx_winding/src/plain.rt": ["vec![in alloc; 0u32; words_for(frame.width)]"],
     "crates/fx_winding/src/scratch.rt": ["vec![in alloc; 0i32; 32 * words]", "vec![in alloc; 0u32; words]"],
+    "crates/fx_vary/src/controls.rt": ["resize(count, point_at(0))"],
+    "crates/fx_vary/src/fault.rt": ["ShapeFault::OutOfMemory"],
     "crates/fx_winding/src/words.rt": ["reserve_exact(count)", "resize(count, word)"],
     "crates/fx_zone/src/zone.rt": ["reserve(points.len())", "reserve(more.len())"],
     "crates/mkstrike_c/src/block.rt": ["with_capacity(alloc, ORIGIN + words.len())"],

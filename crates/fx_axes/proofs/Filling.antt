@@ -10,7 +10,9 @@ use Rattle.fx_axes.specs.declared.fault.AxesFault.{AxesFault}
 use Rattle.fx_axes.specs.declared.records.AxisValue.{AxisValue}
 use Rattle.fx_axes.specs.Fvar.{axis_of}
 use Rattle.fx_axes.specs.Avar.{AreMaps, IsMap}
-use Rattle.fx_axes.specs.Places.{check_value, check_values, coordinate_of, maps_after, coordinates_from}
+use Rattle.std.specs.List.{All}
+use Rattle.std.proofs.lemmas.List.Elements.{All-push}
+use Rattle.fx_axes.specs.Places.{IsNormalized, check_value, check_values, coordinate_of, maps_after, coordinates_from}
 use Rattle.fx_axes.proofs.Maps.{maps_on, first_map}
 
 -- ---- tags
@@ -110,6 +112,20 @@ filled_end fvar values maps k n xs t h e s =
     let all : take k xs ≡ xs = take_all k xs (omega arith) in
     sym (ap Ok (append-nil (take k xs) ∙ all))
     ∙ sym (ap (λ (m : ℕ). map_ok (λ cs. take k xs ++ cs) (coordinates_from fvar values maps k m)) none) ∙ s
+
+-- ---- within -1 and 1
+
+pub within_on : (xs ys : List ℤ) (k : ℕ) (c : ℤ) → k < length xs → ys ≡ set xs k c → All IsNormalized (take k xs)
+    → IsNormalized c → All IsNormalized (take (k + 1) ys)
+within_on xs ys k c h y w b =
+    let front : take (k + 1) ys ≡ take k xs ++ c ∷ [] =
+    ap (λ (j : ℕ). take j ys) (add-one k) ∙ ap (take (suc k)) y ∙ taken xs k c h in
+    rw front (All-push IsNormalized (take k xs) c w b)
+
+pub within_end : (xs : List ℤ) (k n : ℕ) → n ≤ k → length xs ≡ n → All IsNormalized (take k xs) → All IsNormalized xs
+within_end xs k n h e w =
+    let all : take k xs ≡ xs = take_all k xs (omega arith) in
+    rw all at w
 
 -- ---- maps
 

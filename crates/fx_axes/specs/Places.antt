@@ -1,6 +1,6 @@
 -- The place of an instance: a normalized coordinate for each axis (OpenType, "OpenType Font Variations Overview").
 use Rattle.std.specs.Prelude.{ℕ, zero, suc, ℤ, List, [], ◌∷◌, ◌++◌, drop, codes, Option, Some, None, option_map, Result, Ok, Bool}
-use Rattle.std.specs.Prelude.{◌==◌}
+use Rattle.std.specs.Prelude.{◌==◌, ◌≤◌, unsigned_abs}
 use Rattle.std.specs.Prelude.{◌&&◌, not, int_le, if◌then◌else◌}
 use Rattle.std.specs.List.{list_any}
 use Rattle.fx_fixed.specs.Chain.{◌>>=◌, refuse}
@@ -53,6 +53,10 @@ value_of a (v ∷ values) = if v.tag == a.tag then v.value else value_of a value
 -- a value is not below the least and not above the greatest one of an axis
 abbrev pub lies_in : Extent → ℤ → Bool
 lies_in a v = int_le a.min v && int_le v a.max
+
+-- a normalized coordinate is within -1 and 1
+abbrev pub IsNormalized : ℤ → Type 0
+IsNormalized c = unsigned_abs c ≤ 16384
 
 -- the normalized coordinate of a value, in 2.14, by the axis's map at the front of the maps, if there are any
 unfoldable pub coordinate_by : Option (List ℕ) → Extent → ℤ → ℤ

@@ -1,10 +1,11 @@
 //! The axes of a font.
 
-ghost use Rattle.std.specs.Prelude.{◌≡◌, ◌<◌, option_map, IfOk, length};
+ghost use Rattle.std.specs.Prelude.{◌≡◌, ◌<◌, option_map, IfOk, OnOk, length};
+ghost use Rattle.std.specs.List.{All};
 ghost use Rattle.fx_fixed.specs.Chain.{map_ok};
 ghost use Rattle.fx_axes.specs.Fvar.{axis_count, instance_count, axis_of, instance_name_of, instance_value_of};
 ghost use Rattle.fx_axes.specs.Avar.{AreMaps, maps_in};
-ghost use Rattle.fx_axes.specs.Places.{axes_of, place_of};
+ghost use Rattle.fx_axes.specs.Places.{IsNormalized, axes_of, place_of};
 
 use crate::avar::is_avar;
 use crate::fault::AxesFault;
@@ -110,7 +111,8 @@ impl<'a> Axes<'a> {
         instance_value_in(self.fvar, k, axis)
     }
 
-    /// Fills a list of as many coordinates as there are axes with the place of values, in 2.14; or returns the first fault.
+    /// Fills a list of as many coordinates as there are axes with the place of values, in 2.14, each within -1 and 1; or returns
+    /// the first fault.
     ///
     /// An axis without a value is at its default. First all tags are checked in order: `UnknownAxis`, or `RepeatedAxis` if a value
     /// before has it. Then `OutOfRange` is the fault of the first axis whose value is not between its least and its greatest one.
@@ -118,7 +120,8 @@ impl<'a> Axes<'a> {
     #[tactic(auto, unfolding(crate::specs::Places::place_of))]
     pub fn place(&self, values: &[AxisValue], coordinates: &mut [F2]) -> Result<(), AxesFault>
         requires { length coordinates.old ≡ axis_count self.now.fvar }
-        ensures { map_ok (λ _. coordinates.new) result ≡ place_of self.now values.now }
+        ensures value { map_ok (λ _. coordinates.new) result ≡ place_of self.now values.now }
+        ensures within { OnOk result (All IsNormalized coordinates.new) }
     {
         check_values(self.fvar, values)?;
         fill(self.fvar, values, self.maps, coordinates)

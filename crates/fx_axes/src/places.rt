@@ -1,13 +1,13 @@
 //! The place of values along axes (OpenType, "OpenType Font Variations Overview", "Coordinate scales and normalization").
 
-ghost use Rattle.std.specs.Prelude.{◌≡◌, ◌<◌, ◌≤◌, ◌≤ℤ◌, true, [], IsTrue, IfOk, option_map, unsigned_abs, length, take};
+ghost use Rattle.std.specs.Prelude.{◌≡◌, ◌<◌, ◌≤◌, ◌≤ℤ◌, true, [], IsTrue, IfOk, OnOk, option_map, unsigned_abs, length, take};
 ghost use Rattle.std.specs.Prelude.{slice_index_or, slice_set};
-ghost use Rattle.std.specs.List.{list_any};
+ghost use Rattle.std.specs.List.{All, list_any};
 ghost use Rattle.fx_fixed.specs.Chain.{map_ok};
 ghost use Rattle.fx_axes.specs.Fvar.{axis_count, holds_records};
 ghost use Rattle.fx_axes.specs.Avar.{IsMap, AreMaps};
 ghost use Rattle.fx_axes.specs.Places.{is_of, check_value, check_values, value_of, lies_in, coordinate_by, coordinate_of};
-ghost use Rattle.fx_axes.specs.Places.{maps_after, coordinates_from};
+ghost use Rattle.fx_axes.specs.Places.{IsNormalized, maps_after, coordinates_from};
 
 use crate::avar::{mapped_by, maps_after};
 use crate::coordinates::{part_of, straight};
@@ -154,12 +154,13 @@ pub fn fill(
     requires records { holds_records fvar.now ≡ true }
     requires valid { AreMaps (axis_count fvar.now) (option_map (λ m. m.now) maps) }
     requires size { length coordinates.old ≡ axis_count fvar.now }
-    ensures { map_ok (λ _. coordinates.new) result ≡
+    ensures value { map_ok (λ _. coordinates.new) result ≡
         coordinates_from fvar.now values.now (option_map (λ m. m.now) maps.entry) 0 (axis_count fvar.now) }
+    ensures within { OnOk result (All IsNormalized coordinates.new) }
 {
     let count = axis_count(fvar);
     let mut maps = maps;
-    // The coordinates of the axes before k are there, and the maps are those of the others.
+    // The coordinates of the axes before k are there and within -1 and 1, and the maps are those of the others.
     'axes: for k in 0..count {
         let axis = axis_in(fvar, k);
         let c = coordinate_of(values, maps, axis)?;

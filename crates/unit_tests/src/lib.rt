@@ -18,4 +18,6 @@ mod front;
 #[cfg(test)]
 mod gstate;
 #[cfg(test)]
+mod shapes;
+#[cfg(test)]
 mod vary;

@@ -1,8 +1,10 @@
 //! Places along axes, and the parts of tuples. The expected numbers are worked out by hand.
 use fx_axes::{Axes, AxesFault, AxisValue};
 use fx_fixed::F2;
+use fx_moves::{Named, inferred};
 use fx_sfnt::{Font, FontFile};
-use fx_vary::{Named, Tent, factor, inferred, is_gvar, skip_deltas, skip_numbers};
+use fx_tuples::{Tent, factor, skip_deltas, skip_numbers};
+use fx_vary::is_gvar;
 use std::test::Fail;
 
 /// A font of one empty glyph with two axes: `wght` from 100 over 400 to 900, and `slnt` from -10 to 0, its default. `avar` moves

@@ -4,7 +4,7 @@ use Rattle.std.proofs.lemmas.Result.{err_from_is_err_and}
 use Rattle.fx_axes.specs.Fvar.{axis_count}
 use Rattle.fx_axes.specs.Places.{coordinate_of}
 use Rattle.fx_axes.proofs.Inside.{along, axis_inside}
-use Rattle.fx_axes.proofs.Filling.{filled_on, filled_off, filled_end, first_of_maps, maps_of_others}
+use Rattle.fx_axes.proofs.Filling.{filled_on, filled_off, filled_end, first_of_maps, maps_of_others, within_on, within_end}
 use Rattle.fx_axes.proofs.places.fill.Goals as goal
 
 pub axis_in-axis-requires-clause-inside : goal.axis_in-axis-requires-clause-inside
@@ -27,8 +27,8 @@ pub put-requires : goal.put-requires
 put-requires c =
     omega (arith, c.from.ensures, c.axes-test.true, c.axis_count-count.ensures, c.axes.auto.coordinates, c.requires.size)
 
-pub returns-in_err-c : goal.returns-in_err-c
-returns-in_err-c c =
+pub returns-in_err-c-clause-value : goal.returns-in_err-c-clause-value
+returns-in_err-c-clause-value c =
     let p = err_from_is_err_and c.from_residual.result c.from_residual.ensures.1 in
     rw (p.1, p.2) (filled_off _ _ _ _ _ _ _ (along _ _ _ c.axes-test.true c.axis_count-count.ensures) c.axes.invariant.same _
     (ap (coordinate_of c.args.values.now (option_map (λ m. m.now) c.axes.maps)) (sym c.axis_in-axis.ensures)
@@ -44,10 +44,19 @@ axes-preserved c =
           ∙ sym c.in_ok-c.ensures.value)
           room (c.put.ensures ∙ ap (λ n. set c.axes.coordinates n c.in_ok-c.c) c.from.ensures) c.others-maps.ensures;
       valid = maps_of_others _ _ _ _ few c.axes.invariant.valid c.others-maps.ensures;
+      within = within_on _ _ c.axes.k c.in_ok-c.c room
+          (c.put.ensures ∙ ap (λ n. set c.axes.coordinates n c.in_ok-c.c) c.from.ensures)
+          c.axes.invariant.within c.in_ok-c.ensures.within;
     }
 
-pub returns : goal.returns
-returns c =
+pub returns-clause-value : goal.returns-clause-value
+returns-clause-value c =
     let P : ℕ → Type 0 = λ n. n ≤ c.axes.k in
     let past = subst P c.axis_count-count.ensures c.axes-test.false in
     filled_end _ _ _ _ _ _ _ past (c.axes.auto.coordinates ∙ c.requires.size) c.axes.invariant.same
+
+pub returns-clause-within : goal.returns-clause-within
+returns-clause-within c =
+    let P : ℕ → Type 0 = λ n. n ≤ c.axes.k in
+    let past = subst P c.axis_count-count.ensures c.axes-test.false in
+    within_end _ c.axes.k _ past (c.axes.auto.coordinates ∙ c.requires.size) c.axes.invariant.within

@@ -1,0 +1,9 @@
+pub mod Contouring
+pub mod Laying
+pub mod Given
+pub mod Sums
+pub mod Counting
+pub mod Kept
+pub mod TupleSteps
+pub mod Between
+pub mod AddingNothing

@@ -1,0 +1,63 @@
+use Rattle.std.proofs.Common.{arith, sym, ◌∙◌, refl}
+use Rattle.fx_moves.proofs.Contouring.{contour_kept_backward, run_ends, contour_swept, run_next, named_passed, run_passed}
+use Rattle.fx_moves.proofs.Contouring.{passed_long, all_passed}
+use Rattle.fx_moves.proofs.contours.fill_contour.Goals as goal
+
+pub returns-in_default : goal.returns-in_default
+returns-in_default c = sym (contour_kept_backward c.args.points.now (sym c.in_default.is ∙ c.last_named.ensures))
+
+pub numbered-first-requires : goal.numbered-first-requires
+numbered-first-requires c =
+    rw c.unnamed_run.ensures
+    (run_ends c.args.points.now c.in-Some.last (sym c.in-Some.is ∙ c.last_named.ensures))
+
+pub points-init : goal.points-init
+points-init c =
+    let some = sym c.in-Some.is ∙ c.last_named.ensures in
+    record {
+      answer = contour_swept c.args.points.now c.in-Some.last c.numbered-first.result c.unnamed_run.result
+          some
+          (run_ends c.args.points.now c.in-Some.last some) c.unnamed_run.ensures c.numbered-first.ensures;
+      within = omega arith;
+    }
+
+pub points-preserved-then-is_named : goal.points-preserved-then-is_named
+points-preserved-then-is_named c = record {
+  answer = c.points.invariant.answer
+      ∙ sym (named_passed _ c.in-Some.last _ c.numbered-point.result c.points.points c.points.start
+      c.points-test.true c.numbered-point.ensures (sym c.is_named.ensures ∙ c.if-is_named.true));
+  within = omega (arith, c.points-test.true);
+}
+
+pub points-preserved : goal.points-preserved
+points-preserved c =
+    let i = c.points.invariant in
+    let value = c.run_end-end.ensures.value in
+    let fit = c.run_end-end.ensures.within in
+    let next = run_next c.points.points c.points.start c.numbered-point.result _ c.points-test.true c.numbered-point.ensures
+    (sym c.is_named.ensures ∙ c.if-is_named.false) in
+    record {
+      answer = i.answer
+          ∙ sym (run_passed _ c.in-Some.last _ _ c.points.points c.fill_run.new.points c.points.start
+          c.run_end-end.result _ i.within (omega (arith, value, next)) refl c.point_before-before.ensures
+          c.numbered_or-after.ensures c.fill_run.ensures);
+      within = omega (
+        arith,
+        fit,
+        passed_long _ c.points.points c.fill_run.new.points c.points.start c.run_end-end.result _
+            (omega (arith, value)) fit refl c.fill_run.ensures,
+      );
+    }
+
+pub points-smaller : goal.points-smaller
+points-smaller c =
+    let value = c.run_end-end.ensures.value in
+    let fit = c.run_end-end.ensures.within in
+    let long = passed_long _ c.points.points c.fill_run.new.points c.points.start c.run_end-end.result _
+    (omega (arith, value)) fit refl c.fill_run.ensures in
+    omega (arith, value, long, fit)
+
+pub returns : goal.returns
+returns c =
+    sym (c.points.invariant.answer
+    ∙ all_passed _ c.in-Some.last c.points.points c.points.start c.points-test.false)

@@ -1,0 +1,7 @@
+pub mod Inferred
+pub mod Contours
+pub mod Giving
+pub mod Adding
+pub mod Moves
+pub mod Stores
+pub mod Laws
