@@ -3,7 +3,7 @@ use fx_axes::{Axes, AxesFault, AxisValue};
 use fx_fixed::F2;
 use fx_glyf::GlyphPoint;
 use fx_sfnt::{Font, FontFault, FontFile};
-use fx_vary::{Bearings, Moved, ShapeFault, shape_at};
+use fx_vary::{Bearings, Instance, Moved, ShapeFault, shape_at};
 use std::alloc::Global;
 use std::test::Fail;
 
@@ -178,6 +178,34 @@ fn an_empty_glyph(rt: HostRuntime) -> Result<(), Fail> {
                 advance: 500
             }
     );
+    Ok(())
+}
+
+/// The control values at a weight.
+fn controls(alloc: Global, bytes: &[u8], weight: i16) -> Result<Vec<i16>, Fail> {
+    let font = Font::open(&FontFile::of(bytes))?;
+    let axes = Axes::open(&font)?;
+    let mut place = [F2(0)];
+    if axes.count() != 1 {
+        return Ok(Vec::new(alloc));
+    }
+    axes.place(&[at_weight(weight)], &mut place)?;
+    let instance = Instance::open(&font, &place)?;
+    let controls = instance.controls(alloc, &font)?;
+    Ok(controls)
+}
+
+/// Half way 51.5 goes to 52, and -11.5 to -11. Without `cvar`, which another tag hides, the values are those of `cvt `.
+#[test]
+fn control_values(rt: HostRuntime) -> Result<(), Fail> {
+    let half = controls(rt.alloc(), FONT, 650)?;
+    assert!(rt; half.as_slice() == [52, -11].as_slice());
+    let whole = controls(rt.alloc(), FONT, 900)?;
+    assert!(rt; whole.as_slice() == [53, -16].as_slice());
+    let mut bytes = *FONT;
+    bytes[12] = b'C';
+    let static_values = controls(rt.alloc(), &bytes, 900)?;
+    assert!(rt; static_values.as_slice() == [50, -7].as_slice());
     Ok(())
 }
 
