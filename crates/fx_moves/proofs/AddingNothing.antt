@@ -14,7 +14,7 @@ use Rattle.fx_moves.specs.declared.point.GivenPoint.{GivenPoint}
 use Rattle.fx_moves.specs.Moves.{added_by, tuple_added, tuples_added}
 use Rattle.fx_moves.specs.Laws.{NoneCounts, after_read}
 
-same_value : {A E : Type 0} (x y : A) (r : Result A E) → Ok x ≡ r → r ≡ Ok y → x ≡ y
+pub same_value : {A E : Type 0} (x y : A) (r : Result A E) → Ok x ≡ r → r ≡ Ok y → x ≡ y
 same_value x y r e f = cc
 
 -- a tuple that was read by its own numbers or by shared ones counts as far as it was asked for

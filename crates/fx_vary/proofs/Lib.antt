@@ -4,3 +4,4 @@ pub mod MovedSteps
 pub mod Numbering
 pub mod Controlling
 pub mod Resting
+pub mod NoneCounting

@@ -1,5 +1,5 @@
 -- What the definitions imply: how a font's glyphs are at a place.
-use Rattle.std.specs.Prelude.{◌≡◌, ℕ, ◌≤◌, ℤ, pos, ◌-ℤ◌, unsigned_abs, true, false, Ok}
+use Rattle.std.specs.Prelude.{◌≡◌, ℕ, ◌≤◌, ℤ, pos, ◌-ℤ◌, unsigned_abs, true, List, [], ◌∷◌, Result, Ok, Err}
 use Rattle.std.specs.List.{All}
 use Rattle.fx_sfnt.specs.declared.records.Metrics.{Metrics}
 use Rattle.fx_glyf.specs.declared.point.GlyphPoint.{GlyphPoint}
@@ -7,13 +7,18 @@ use Rattle.fx_glyf.specs.declared.component.Component.{Component}
 use Rattle.fx_glyf.specs.declared.glyph.Glyph.{Glyph}
 use Rattle.fx_glyf.specs.declared.glyph.Glyph.TheVariants.{Empty, Simple, Composite}
 use Rattle.fx_glyf.specs.Components.{has_offsets}
+use Rattle.fx_tuples.specs.declared.fault.TupleFault.{TupleFault}
 use Rattle.fx_tuples.specs.Regions.{whole}
+use Rattle.fx_tuples.specs.Tuples.{TupleSettingView}
+use Rattle.fx_tuples.specs.Stores.{TupleStoreView, store_of}
 use Rattle.fx_moves.specs.declared.point.GivenPoint.{GivenPoint}
 use Rattle.fx_moves.specs.Giving.{moved_by}
 use Rattle.fx_moves.specs.Adding.{added}
-use Rattle.fx_vary.specs.Instance.{InstanceView}
+use Rattle.fx_moves.specs.Laws.{NoneCounts}
+use Rattle.fx_vary.specs.Gvar.{glyph_data_of}
+use Rattle.fx_vary.specs.Instance.{InstanceView, setting_of}
 use Rattle.fx_vary.specs.Settling.{whole_move, has_16_bits}
-use Rattle.fx_vary.specs.Shape.{points_before, summed, shape_in, x_min_of}
+use Rattle.fx_vary.specs.Shape.{ShapeView, shape_in, x_min_of}
 
 -- a tuple that counts 1 moves a point that it names by exactly its delta, if no other tuple moves it
 abbrev pub MovesByDelta : Type 0
@@ -31,16 +36,25 @@ IsInFont Empty = Unit {0}
 IsInFont (Simple s) = All IsPoint s.points
 IsInFont (Composite c) = All IsComponent c.components
 
--- where tuples add nothing, a glyph is as in the font
-abbrev pub RestsWhereNothingIsAdded : Type 0
-RestsWhereNothingIsAdded =
-    (i : InstanceView) (g : ℕ) (m : Metrics) (glyph : Glyph)
+-- none of the tuples of a glyph's bytes counts, as far as they can be read
+abbrev pub StoreRests : TupleSettingView → Result TupleStoreView TupleFault → Type 0
+StoreRests s (Ok t) = NoneCounts s t.numbers t.count t.cursor
+StoreRests s (Err f) = Unit {0}
+
+abbrev pub NoneCountsIn : TupleSettingView → List ℕ → Type 0
+NoneCountsIn s [] = Unit {0}
+NoneCountsIn s (b ∷ bytes) = StoreRests s (store_of (b ∷ bytes) 0)
+
+-- where none of its tuples counts, a glyph that has no fault is as in the font
+abbrev pub RestsWhereNoneCounts : Type 0
+RestsWhereNoneCounts =
+    (i : InstanceView) (g : ℕ) (m : Metrics) (glyph : Glyph) (shape : ShapeView)
     → IsInFont glyph
     → unsigned_abs (x_min_of glyph -ℤ m.lsb) ≤ 65535
     → m.advance_width ≤ 65535
-    → summed i g false glyph ≡ Ok (points_before false glyph)
-    → summed i g true glyph ≡ Ok (points_before true glyph)
-    → shape_in i g m glyph ≡ Ok (record {
+    → NoneCountsIn (setting_of i) (glyph_data_of i.gvar g)
+    → shape_in i g m glyph ≡ Ok shape
+    → shape ≡ record {
       glyph = glyph;
       bearings = record { origin = x_min_of glyph -ℤ m.lsb; advance = m.advance_width };
-    })
+    }
