@@ -10,12 +10,10 @@ use Rattle.fx_tuples.specs.declared.fault.TupleFault.TheVariants.{HeaderShort, D
 use Rattle.fx_tuples.specs.Headers.{HeaderView, header_of}
 use Rattle.fx_tuples.specs.Tuples.{PointNumbersView, TupleView, TupleSettingView, TupleCursorView, point_numbers_of}
 use Rattle.fx_tuples.specs.Tuples.{scalar_at, tuple_by, tuple_of, next_tuple}
+use Rattle.fx_tuples.proofs.Resting.{same_value}
 use Rattle.fx_moves.specs.declared.point.GivenPoint.{GivenPoint}
 use Rattle.fx_moves.specs.Moves.{added_by, tuple_added, tuples_added}
 use Rattle.fx_moves.specs.Laws.{NoneCounts, after_read}
-
-pub same_value : {A E : Type 0} (x y : A) (r : Result A E) → Ok x ≡ r → r ≡ Ok y → x ≡ y
-same_value x y r e f = cc
 
 -- a tuple that was read by its own numbers or by shared ones counts as far as it was asked for
 counts_as : (own : Bool) (shared : Option PointNumbersView) (scalar : ℕ) (bytes : List ℕ) (t : TupleView)

@@ -1,4 +1,4 @@
--- A tuple counts at most 1, and not at all if one of its axes does not: `at_most_one`, `rests`.
+-- A tuple counts at most 1, and at the defaults not at all if one of its axes does not: `at_most_one`, `tuple_rests`.
 -- For the laws of how far tuples count.
 use Rattle.std.proofs.Common.{◌≡◌, ◌≢◌, ℕ, zero, suc, ◌<◌, ◌≤◌, Bool, true, false, ℤ, pos, List, refl, sym, ap, ◌∙◌, arith}
 use Rattle.std.proofs.Common.{◌==◌, subst, mul-zero}
@@ -7,6 +7,14 @@ use Rattle.std.specs.Prelude.{◌||◌, ◌&&◌, int_lt, int_le, slice_index_or
 use Rattle.std.proofs.lemmas.Int.{ints}
 use Rattle.fx_tuples.specs.declared.regions.Tent.{Tent}
 use Rattle.fx_tuples.specs.Regions.{is_disordered, straddles, is_at_peak, counts_fully, factor_of, scaled_of, scalar_of, whole}
+use Rattle.fx_tuples.specs.Regions.{tent_of}
+use Rattle.fx_tuples.specs.Headers.{HeaderView, header_of}
+use Rattle.fx_tuples.specs.Tuples.{PointNumbersView, TupleView, TupleSettingView, TupleCursorView, scalar_at, tuple_of, next_tuple}
+use Rattle.fx_tuples.specs.declared.fault.TupleFault.{TupleFault}
+use Rattle.fx_tuples.specs.declared.fault.TupleFault.TheVariants.{DataShort}
+use Rattle.fx_fixed.specs.Chain.{◌>>=◌, refuse}
+use Rattle.std.specs.Prelude.{nat_lt}
+use Rattle.std.proofs.Common.{◌*◌, Option, Some, None, Result, Ok, [], length, take, drop}
 use Rattle.fx_tuples.proofs.Quotients.{scaled_bound}
 
 by_test : {C : Type 0} (b : Bool) → (b ≡ true → C) → (b ≡ false → C) → C
@@ -87,7 +95,7 @@ at_last tents place n z e =
     ∙ ap (λ (v : ℤ). scaled_of (scalar_of tents place n) (factor_of (tents n) v)) z
     ∙ ap (scaled_of (scalar_of tents place n)) (none_at_zero (tents n) e) ∙ nothing_scaled (scalar_of tents place n)
 
-pub rests : (tents : ℕ → Tent) (place : List ℤ) (n k : ℕ) → ((j : ℕ) → slice_index_or place j (pos 0) ≡ pos 0) → k < n
+rests : (tents : ℕ → Tent) (place : List ℤ) (n k : ℕ) → ((j : ℕ) → slice_index_or place j (pos 0) ≡ pos 0) → k < n
     → counts_fully (tents k) (pos 0) ≡ false → scalar_of tents place n ≡ 0
 rests tents place zero k z h e = absurd (omega (arith, h))
 rests tents place (suc n) k z h e = by_test (k == n)
@@ -97,3 +105,33 @@ rests tents place (suc n) k z h e = by_test (k == n)
     let b : scalar_of tents place n ≡ 0 = rests tents place n k z (omega (arith, h, d)) e in
     let a : scalar_of tents place (suc n) ≤ scalar_of tents place n = shrinks tents place n in
     omega (arith, a, b))
+
+-- a tuple whose scalar is 0 is read so
+read_still : (place : List ℤ) (shared : Option PointNumbersView) (h : HeaderView) (bytes : List ℕ) → scalar_at place h ≡ 0
+    → tuple_of place shared h bytes ≡ Ok (record { scalar = 0; numbers = None; deltas = [] })
+unfolding tuple_of
+read_still place shared h bytes e = rw e refl
+
+-- what one result holds is one value
+pub same_value : {A E : Type 0} (x y : A) (r : Result A E) → Ok x ≡ r → r ≡ Ok y → x ≡ y
+same_value x y r e f = cc
+
+pub tuple_rests : (s : TupleSettingView) (numbers : Option PointNumbersView) (c : TupleCursorView) (h : HeaderView)
+    (r : TupleView × TupleCursorView) (k : ℕ) → ((j : ℕ) → slice_index_or s.place j (pos 0) ≡ pos 0) → k < length s.place
+    → header_of s.shared (2 * length s.place) c.headers ≡ Some h
+    → counts_fully (tent_of h.is_intermediate h.peaks h.starts h.ends k) (pos 0) ≡ false → next_tuple s numbers c ≡ Ok r
+    → r.0.scalar ≡ 0
+unfolding next_tuple scalar_at
+tuple_rests s numbers c h r k z i e f g = by (nat_lt (length c.bytes) h.size) (rw e at g)
+  where
+    none : scalar_at s.place h ≡ 0
+    none = rests (tent_of h.is_intermediate h.peaks h.starts h.ends) s.place (length s.place) k z i f
+
+    by : (b : Bool) → (refuse b DataShort >>= λ _. tuple_of s.place numbers h (take h.size c.bytes)
+        >>= λ t. Ok (t, record { headers = h.rest; bytes = drop h.size c.bytes })) ≡ Ok r → r.0.scalar ≡ 0
+    by true g = absurd (cc g)
+    by false g =
+        let q = ap
+        (λ (o : Result TupleView TupleFault). o >>= λ t. Ok (t, record { headers = h.rest; bytes = drop h.size c.bytes }))
+        (read_still s.place numbers h (take h.size c.bytes) none) in
+        ap (λ (p : TupleView × TupleCursorView). p.0.scalar) (sym (same_value _ _ _ (sym q) g))

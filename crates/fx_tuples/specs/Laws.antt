@@ -1,7 +1,9 @@
 -- What the definitions imply: how far tuples count.
-use Rattle.std.specs.Prelude.{◌≡◌, ℕ, ◌<◌, ◌≤◌, ℤ, pos, List, false, slice_index_or}
+use Rattle.std.specs.Prelude.{◌≡◌, ℕ, ◌*◌, ◌<◌, ◌≤◌, ℤ, pos, List, length, false, slice_index_or, Option, Some, Ok}
 use Rattle.fx_tuples.specs.declared.regions.Tent.{Tent}
-use Rattle.fx_tuples.specs.Regions.{counts_fully, scalar_of, whole}
+use Rattle.fx_tuples.specs.Regions.{counts_fully, scalar_of, tent_of, whole}
+use Rattle.fx_tuples.specs.Headers.{HeaderView, header_of}
+use Rattle.fx_tuples.specs.Tuples.{PointNumbersView, TupleView, TupleSettingView, TupleCursorView, next_tuple}
 
 -- no tuple counts more than 1
 abbrev pub CountsAtMostOne : Type 0
@@ -11,6 +13,11 @@ CountsAtMostOne = (tents : ℕ → Tent) (place : List ℤ) (n : ℕ) → scalar
 -- its tent is in order, and 0 is not within it
 abbrev pub RestsAtDefaults : Type 0
 RestsAtDefaults =
-    (tents : ℕ → Tent) (place : List ℤ) (n k : ℕ) → ((j : ℕ) → slice_index_or place j (pos 0) ≡ pos 0) → k < n
-    → counts_fully (tents k) (pos 0) ≡ false
-    → scalar_of tents place n ≡ 0
+    (s : TupleSettingView) (numbers : Option PointNumbersView) (c : TupleCursorView) (h : HeaderView)
+    (r : TupleView × TupleCursorView) (k : ℕ)
+    → ((j : ℕ) → slice_index_or s.place j (pos 0) ≡ pos 0)
+    → k < length s.place
+    → header_of s.shared (2 * length s.place) c.headers ≡ Some h
+    → counts_fully (tent_of h.is_intermediate h.peaks h.starts h.ends k) (pos 0) ≡ false
+    → next_tuple s numbers c ≡ Ok r
+    → r.0.scalar ≡ 0

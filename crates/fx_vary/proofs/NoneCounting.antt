@@ -10,7 +10,8 @@ use Rattle.fx_tuples.specs.Stores.{TupleStoreView, store_of}
 use Rattle.fx_moves.specs.declared.point.GivenPoint.{GivenPoint}
 use Rattle.fx_moves.specs.Moves.{tuples_added}
 use Rattle.fx_moves.specs.Stores.{store_added, glyph_added}
-use Rattle.fx_moves.proofs.AddingNothing.{adds_nothing, same_value}
+use Rattle.fx_tuples.proofs.Resting.{same_value}
+use Rattle.fx_moves.proofs.AddingNothing.{adds_nothing}
 use Rattle.fx_vary.specs.declared.fault.ShapeFault.{ShapeFault}
 use Rattle.fx_vary.specs.declared.fault.ShapeFault.TheVariants.{BadVariations}
 use Rattle.fx_vary.specs.Gvar.{glyph_data_of}

@@ -1,5 +1,5 @@
-use Rattle.fx_tuples.proofs.Resting.{rests}
+use Rattle.fx_tuples.proofs.Resting.{tuple_rests}
 use Rattle.fx_tuples.proofs.laws.law_rests.Goals as goal
 
 pub returns : goal.returns
-returns c tents place n k z h f = rests tents place n k z h f
+returns c s numbers d h r k z i e f g = tuple_rests s numbers d h r k z i e f g
