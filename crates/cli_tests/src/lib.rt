@@ -1,5 +1,5 @@
-//! Tests of `run` where no system stands in: readers and writers that fail at each byte, and arguments that the system does not
-//! give. They stand here, since a crate with tests is proved twice. What the program does with a command line and a font is in
+//! Tests of the program where no system stands in: readers and writers that fail at each byte, and arguments that the system does
+//! not give. They stand here, since a crate with tests is proved twice. What the program does with a command line and a font is in
 //! `tests/program`.
 #![tactic(auto)]
 

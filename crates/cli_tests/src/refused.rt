@@ -1,6 +1,6 @@
 //! Lines that standard error does not take.
 use crate::fonts::{fixture, patch};
-use fx_cli::run;
+use crate::runs::run;
 use fx_fixed::{Limits, MemorySink, MemorySource, Sink};
 use std::test::Fail;
 
@@ -30,7 +30,7 @@ fn lines_that_fail(rt: HostRuntime) -> Result<(), Fail> {
         let mut reader = MemorySource::new(&font, Limits::NONE);
         let mut out = MemorySink::new(rt.alloc(), 512, Limits::NONE)?;
         let mut err = MemorySink::new(rt.alloc(), 256, limits)?;
-        let status = run(rt.alloc(), &arguments, &mut reader, &mut out, &mut err);
+        let status = run(rt.alloc(), &arguments, &mut reader, &mut out, &mut err)?;
         assert_eq!(rt; status, 0, "{bytes}");
         assert!(rt; out.bytes() == WITHOUT_A, "{bytes}");
         assert!(rt; LINES.get(..bytes) == Some(err.bytes()), "{bytes}");
@@ -50,7 +50,7 @@ fn a_refusal_whose_line_fails(rt: HostRuntime) -> Result<(), Fail> {
     let mut reader = MemorySource::new(b"OTTO", Limits::NONE);
     let mut out = MemorySink::new(rt.alloc(), 16, Limits::NONE)?;
     let mut err = MemorySink::new(rt.alloc(), 64, limits)?;
-    let status = run(rt.alloc(), &words, &mut reader, &mut out, &mut err);
+    let status = run(rt.alloc(), &words, &mut reader, &mut out, &mut err)?;
     assert!(rt; status == 1 && out.bytes().is_empty());
     assert!(rt; err.bytes() == b"mkstr".as_slice() && err.faults() == 1);
     Ok(())

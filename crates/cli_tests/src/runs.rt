@@ -1,9 +1,11 @@
 //! Runs of the program in memory.
 ghost use Rattle.std.specs.Prelude.{◌<◌, ◌^◌};
 
-use fx_cli::run;
-use fx_fixed::{Limits, MemorySink, MemorySource, Source};
-use std::alloc::Global;
+use fx_cli::Mkstrike;
+use fx_fixed::{Limits, MemorySink, MemorySource, Sink, Source};
+use fx_front::Tool;
+use fx_words::part;
+use std::alloc::{AllocError, Global};
 use std::process::Abort;
 use std::test::Fail;
 
@@ -18,6 +20,22 @@ pub const BAD_SIZE: End<'static> = (1, b"", b"mkstrike: 60 BadSize\n");
 pub const BAD_CHARS: End<'static> = (1, b"", b"mkstrike: 61 BadChars\n");
 
 pub const READ_FAILED: End<'static> = (1, b"", b"mkstrike: 71 ReadFailed\n");
+
+/// Runs the program on arguments, the program's name first, and returns the status.
+pub(crate) fn run<R: Source, O: Sink, E: Sink>(
+    alloc: Global,
+    arguments: &[&str],
+    reader: &mut R,
+    out: &mut O,
+    err: &mut E,
+) -> Result<u8, AllocError>
+    requires reader { R.fault_count reader.old < 2 ^ 63 }
+    requires out { O.fault_count out.old < 2 ^ 63 }
+    requires err { E.fault_count err.old < 2 ^ 63 }
+{
+    let parts = part(alloc, arguments, false, None, &[])?;
+    Ok(Mkstrike::new(alloc).run(alloc, &parts, reader, out, err))
+}
 
 /// Runs the program from a source to a sink with limits, and compares how it ends. The arguments are separated by bars, the
 /// program's name first.
@@ -34,7 +52,7 @@ pub(crate) fn ends_on<R: Source>(
     let words: Vec<&str> = arguments.split('|').collect(alloc)?;
     let mut out = MemorySink::new(alloc, 4096, limits)?;
     let mut err = MemorySink::new(alloc, 256, Limits::NONE)?;
-    let status = run(alloc, &words, reader, &mut out, &mut err);
+    let status = run(alloc, &words, reader, &mut out, &mut err)?;
     assert_eq!(rt; status, end.0, "{arguments}");
     assert!(rt; out.bytes() == end.1, "{arguments}");
     assert!(rt; err.bytes() == end.2, "{arguments}");

@@ -1,7 +1,6 @@
 //! Writers that fail, and writers that take nothing more.
 use crate::fonts::{FONT, STRIKE};
-use crate::runs::{End, ends_on};
-use fx_cli::run;
+use crate::runs::{End, ends_on, run};
 use fx_fixed::{Limits, MemorySink, MemorySource, ToSink};
 use std::alloc::Global;
 use std::io;
@@ -81,7 +80,7 @@ fn fills(
     };
     let mut out = ToSink::new(&mut writer);
     let mut err = MemorySink::new(alloc, 64, Limits::NONE)?;
-    let status = run(alloc, &arguments, &mut reader, &mut out, &mut err);
+    let status = run(alloc, &arguments, &mut reader, &mut out, &mut err)?;
     assert_eq!(rt; status, 1, "{most}");
     assert!(rt; text.get(..most) == Some(writer.bytes.as_slice()), "{most}");
     let line = format!(in alloc; "mkstrike: 70 WriteFailed {most}\n")?;

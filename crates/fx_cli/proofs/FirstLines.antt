@@ -1,7 +1,7 @@
 -- The line of the input that has the arguments ends where its end was found: `length-line_of`.
--- Serves the answers of `run_line` and `run_told`.
+-- Serves `read_line_and_do`, and `run` of `Mkstrike`.
 use Rattle.std.proofs.Common.{◌≡◌, ◌∙◌, ◌==◌, ◌⊎◌, inl, inr, ℕ, ◌+◌, ◌<◌, ◌≤◌, List, [], ◌∷◌, ◌++◌, length, take, drop}
-use Rattle.std.proofs.Common.{not, refl, sym, ap, arith, Option, Bool, true, false, cond, Result, Ok, Err}
+use Rattle.std.proofs.Common.{not, refl, sym, ap, subst, arith, Option, Bool, true, false, cond, Result, Ok, Err}
 use Rattle.std.proofs.Common.{append-nil, length-append, Bor}
 use Rattle.std.proofs.lemmas.List.Sums.{prefix_len-le-length}
 use Rattle.std.specs.Str.{IsUtf8}
@@ -28,7 +28,7 @@ use Rattle.fx_arguments.specs.Input.{line_of, rest_of, arguments_of_line}
 use Rattle.fx_cli.specs.Runs.{AreArguments, Ends, HasLine, IsReadForArguments, IsReason, IsSpared}
 use Rattle.fx_cli.specs.Runs.{IsUnread, Completes, Stops, font_bytes, has_arguments, called, text_of}
 use Rattle.clap.specs.Walk.{Text}
-use Rattle.fx_cli.specs.Steps.{EndsAfter, IsReasonAfter, CompletesAfter, StopsAfter}
+use Rattle.fx_cli.specs.Steps.{EndsAfter, EndsFrom, IsReasonAfter, CompletesAfter, StopsAfter}
 
 abbrev is_end : ℕ → Bool
 is_end b = b == 10
@@ -170,7 +170,7 @@ stops {given} {first} {before} {arguments} faults_before command source sink tol
 }
 
 -- the run after the line ends the run
-pub line_ends : {given : List Text} {first : List ℕ} {before : Option (List ℕ)} {arguments : List Text}
+line_ends : {given : List Text} {first : List ℕ} {before : Option (List ℕ)} {arguments : List Text}
     (faults_before : ℕ) (command : CommandView) (source sink : Change) (told : List Notice) → faults_before ≡ source.faults_before
     → IsFirst given first before source.bytes_before arguments → command_of arguments ≡ Ok command
     → (outcome : Result Done Fault) → EndsAfter command (ahead_of first) source sink told outcome
@@ -194,7 +194,7 @@ line_read first left (inl h) = inl (omega (arith, length-line_of first))
 line_read first left (inr h) = inr h
 
 -- the arguments of a line are refused
-pub unread : (given : List Text) (source sink : Change) (got : List ℕ) → has_arguments given ≡ false
+unread : (given : List Text) (source sink : Change) (got : List ℕ) → has_arguments given ≡ false
     → length got ≤ max_line + 1 → source.faults ≡ source.faults_before → Consumes source.bytes_before source.bytes got
     → IsSpared sink → HasLine got source.bytes → IsUtf8 (line_of got) → length (line_of got) ≤ max_line
     → (fault : Fault) → Refuses fault (command_of (called given ∷ arguments_of_line (line_of got)))
@@ -219,6 +219,20 @@ unread given source sink got none few quiet read spared line utf8 short Usage h 
 }
 unread given source sink got none few quiet read spared line utf8 short _ h = absurd h
 
+-- the arguments of the line end the run
+pub first_ends : {given : List Text} {first : List ℕ} {before : Option (List ℕ)} {arguments : List Text}
+    (faults_before : ℕ) (source sink : Change) (told : List Notice) → faults_before ≡ source.faults_before
+    → IsFirst given first before source.bytes_before arguments → HasLine first source.bytes_before
+    → (outcome : Result Done Fault) → EndsFrom arguments (ahead_of first) source sink told outcome
+    → Ends given (from_start before faults_before source) sink told outcome
+first_ends {given} {first} {before} faults_before source sink told same f line outcome (inl (fault, e, why, read, spared, silent)) =
+    let P : List Notice → Type 0 = λ told. Ends given (from_start before faults_before source) sink told (Err fault) in
+    rw e (subst P (sym silent) (unread given (from_start before faults_before source) sink first f.none f.few (read.1 ∙ sym same)
+    (rw read.0 f.read) (rw spared.0 (Keeps-refl sink.bytes_before), spared.1) (rw read.0 line) f.utf8 f.short
+    fault (rw f.arguments_are at why)))
+first_ends faults_before source sink told same f line outcome (inr (command, asks, ends)) =
+    line_ends faults_before command source sink told same f asks outcome ends
+
 -- ---- arguments that were given
 
 pub many_arguments : (arguments : List (Bor Text)) → 1 < length arguments → has_arguments (texts arguments) ≡ true
@@ -227,7 +241,7 @@ many_arguments (argument ∷ []) h = absurd (omega arith)
 many_arguments (argument ∷ more ∷ arguments) h = lt-ltb 1 _ (omega arith)
 
 -- nothing was read, and they are refused
-pub unasked : (given : List Text) (source sink : Change) → has_arguments given ≡ true → IsUnread source
+unasked : (given : List Text) (source sink : Change) → has_arguments given ≡ true → IsUnread source
     → (sink.bytes ≡ sink.bytes_before) × (sink.faults ≡ sink.faults_before)
     → (fault : Fault) → Refuses fault (command_of given) → Ends given source sink [] (Err fault)
 unasked given source sink some same untouched fault why =
@@ -269,7 +283,7 @@ given_reasons given command source more some asks InputTooLarge h = omega (arith
 given_reasons given command source more some asks OutOfMemory h = tt
 given_reasons given command source more some asks _ h = absurd h
 
-pub given_ends : (given : List Text) (command : CommandView) (source sink : Change) (told : List Notice)
+given_ends : (given : List Text) (command : CommandView) (source sink : Change) (told : List Notice)
     → has_arguments given ≡ true → command_of given ≡ Ok command
     → (outcome : Result Done Fault) → EndsAfter command nothing_ahead source sink told outcome → Ends given source sink told outcome
 given_ends given command source sink told some asks (Ok done) m = given_does given command source sink told (Ok done) some asks m
@@ -283,3 +297,12 @@ given_ends given command source sink told some asks (Err (Early refusal)) s = re
   reason = given_reasons given command source s.more some asks refusal s.reason;
 }
 given_ends given command source sink told some asks (Err Usage) s = absurd s
+
+-- arguments that were given end the run
+pub all_ends : (given : List Text) (source sink : Change) (told : List Notice) → has_arguments given ≡ true
+    → (outcome : Result Done Fault) → EndsFrom given nothing_ahead source sink told outcome → Ends given source sink told outcome
+all_ends given source sink told some outcome (inl (fault, e, why, untouched, spared, silent)) =
+    let P : List Notice → Type 0 = λ told. Ends given source sink told (Err fault) in
+    rw e (subst P (sym silent) (unasked given source sink some untouched spared fault why))
+all_ends given source sink told some outcome (inr (command, asks, ends)) =
+    given_ends given command source sink told some asks outcome ends

@@ -4,3 +4,5 @@ pub mod Pictures
 pub mod Telling
 pub mod AllMapped
 pub mod FaceLines
+pub mod Ranges
+pub mod Sized

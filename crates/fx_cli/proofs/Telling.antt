@@ -1,5 +1,5 @@
 -- What a teller was told from its start to the end of a run is what the run says: `runs_known`.
--- Serves `run`, `run_line`, `run_command`, `run_task` and `unread`.
+-- Serves `run` of `Mkstrike`, `read_line_and_do`, `read_and_do`, `run_task` and `unread`.
 use Rattle.std.proofs.Common.{arith, ◌≡◌, ◌∙◌, ◌⊎◌, refl, sym, ap, subst, inl, inr, ℕ, ◌+◌, Bool, true, false, List, [], ◌∷◌, ◌++◌, length}
 use Rattle.std.proofs.Common.{Option, None, Result, Ok, Err}
 use Rattle.std.specs.Prelude.{IsErrOf, IsErrAnd}

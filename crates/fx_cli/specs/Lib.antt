@@ -5,3 +5,6 @@ pub mod Pictures
 pub mod Runs
 pub mod Steps
 pub mod Watch
+pub mod Bitmaps
+pub mod Missing
+pub mod Seen

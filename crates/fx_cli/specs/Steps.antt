@@ -1,5 +1,5 @@
 -- The steps of a run after its arguments.
-use Rattle.std.specs.Prelude.{◌≡◌, ◌+◌, ◌<◌, ◌≤◌, ◌++◌, ℕ, true, List, [], length, Some, None, Result, Ok, Err}
+use Rattle.std.specs.Prelude.{◌≡◌, ◌⊎◌, ◌+◌, ◌<◌, ◌≤◌, ◌++◌, ℕ, true, List, [], length, Some, None, Result, Ok, Err}
 use Rattle.std.specs.Io.KnownBytes.{Consumes, IsAtEnd}
 use Rattle.fx_sfnt.specs.Collections.{face_in}
 use Rattle.fx_request.specs.declared.refusal.Refusal.{Refusal}
@@ -8,13 +8,15 @@ use Rattle.fx_arguments.specs.Limits.{max_input}
 use Rattle.fx_arguments.specs.declared.done.Done.{Done}
 use Rattle.fx_arguments.specs.declared.fault.Fault.{Fault}
 use Rattle.fx_arguments.specs.declared.fault.Fault.TheVariants.{Usage, Early, Late}
-use Rattle.fx_arguments.specs.Commands.{CommandView}
+use Rattle.clap.specs.Walk.{Text}
+use Rattle.fx_arguments.specs.CommandLine.{command_of}
+use Rattle.fx_arguments.specs.Commands.{CommandView, Refuses}
 use Rattle.fx_arguments.specs.ReadAhead.{ReadAheadView}
 use Rattle.fx_fixed.specs.Changes.{Change}
 use Rattle.fx_request.specs.declared.notice.Notice.{Notice}
 use Rattle.fx_request.specs.Notices.{HearsAll}
 use Rattle.fx_arguments.specs.Tellers.{TellerView, HearsLine}
-use Rattle.fx_cli.specs.Runs.{IsSpared, TaskLeaves, font_bytes}
+use Rattle.fx_cli.specs.Runs.{IsSpared, IsUnread, TaskLeaves, font_bytes}
 
 -- the source was read to its end after what was read ahead, without a fault, its text was decoded if the command says so, and the
 -- sink has what the command's task leaves with that font
@@ -54,6 +56,12 @@ EndsAfter command ahead source sink told (Ok done) = CompletesAfter command ahea
 EndsAfter command ahead source sink told (Err (Late refusal)) = CompletesAfter command ahead source sink told (Err refusal)
 EndsAfter command ahead source sink told (Err (Early refusal)) = StopsAfter command ahead source sink told refusal
 EndsAfter command ahead source sink told (Err Usage) = ⊥
+
+-- how a run on these arguments ends: they are refused, and nothing was read or written; or it is known how their command ends
+abbrev pub EndsFrom : List Text → ReadAheadView → Change → Change → List Notice → Result Done Fault → Type 0
+EndsFrom arguments ahead source sink told outcome =
+    ((fault : Fault) × (outcome ≡ Err fault) × Refuses fault (command_of arguments) × IsUnread source × IsUnread sink × (told ≡ []))
+    ⊎ ((command : CommandView) × (command_of arguments ≡ Ok command) × EndsAfter command ahead source sink told outcome)
 
 -- ---- what was told
 

@@ -1,7 +1,7 @@
 -- What a front learns of a run.
 use Rattle.std.specs.Prelude.{◌≡◌, ℕ, Bool, false, true, Option, Some, None, Result, Ok, Err, [], List, option_map}
 use Rattle.fx_machine.specs.declared.program.FontProgram.{FontProgram}
-use Rattle.fx_machine.specs.declared.program.FontProgram.TheVariants.{Fpgm, Prep, Glyph}
+use Rattle.fx_machine.specs.declared.program.FontProgram.TheVariants.{Glyph}
 use Rattle.fx_fixed.specs.Changes.{Change}
 use Rattle.fx_request.specs.Advice.{advice_of}
 use Rattle.fx_request.specs.Refusals.{location_of, number_of}
@@ -11,7 +11,7 @@ use Rattle.fx_request.specs.declared.refusal.Refusal.{Refusal}
 use Rattle.fx_arguments.specs.declared.done.Done.{Done}
 use Rattle.fx_arguments.specs.declared.done.Done.TheVariants as done
 use Rattle.fx_arguments.specs.declared.fault.Fault.{Fault}
-use Rattle.fx_arguments.specs.declared.fault.Fault.TheVariants.{Usage, Early, Late}
+use Rattle.fx_arguments.specs.declared.fault.Fault.TheVariants.{Early, Late}
 use Rattle.fx_front.specs.declared.facts.Counts.{Counts}
 use Rattle.fx_front.specs.declared.facts.Facts.{Facts}
 use Rattle.fx_front.specs.declared.facts.RefusalFacts.{RefusalFacts}

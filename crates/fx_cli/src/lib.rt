@@ -2,17 +2,16 @@
 //! standard error and a status out.
 #![tactic(auto)]
 
+mod bitmaps;
 mod faces;
 mod mapped;
+mod missing;
 mod mkstrike;
 mod picture;
 mod program;
 mod show;
 mod start;
 mod watch;
-mod watcher;
 
 pub use mkstrike::Mkstrike;
-pub use program::{run, run_watched};
 pub use start::{run_program, unread};
-pub use watcher::{NoWatcher, Watcher};

@@ -6,9 +6,9 @@ ghost use Rattle.fx_front.specs.Lines.{Says};
 ghost use Rattle.fx_cli.specs.Items.{fault_said, hyphen_of, item_said, meant_said, no_item_said, number_said, one_item_said};
 ghost use Rattle.fx_cli.specs.Items.{range_said, right_said, without_mark};
 
-use crate::program::run_watched;
+use crate::program::{read_and_do, read_line_and_do};
 use crate::watch::Watch;
-use fx_arguments::{ItemFault, explain, wrong_item};
+use fx_arguments::{ItemFault, ReadAhead, Teller, explain, wrong_item};
 use fx_fixed::{Sink, Source};
 use fx_front::{Facts, Parts, Text, Tool};
 use fx_words::after_start;
@@ -65,7 +65,17 @@ impl Tool for Mkstrike {
     ) -> u8 {
         let mut watch = Watch::new(alloc);
         watch.names_all = parts.names_all;
-        let status = run_watched(alloc, &parts.words, reader, out, err, &mut watch);
+        let words = parts.words.as_slice();
+        let mut teller = Teller::new(err);
+        let outcome = if words.len() < 2 {
+            read_line_and_do(alloc, words, reader, out, &mut teller, &mut watch)
+        } else {
+            let ahead = ReadAhead::none();
+            read_and_do(alloc, words, &ahead, reader, out, &mut teller, &mut watch)
+        };
+        let status = teller.status(&outcome);
+        teller.close();
+        watch.end(&outcome);
         self.watch = watch;
         status
     }

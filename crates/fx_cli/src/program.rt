@@ -1,103 +1,37 @@
-//! A run of the program.
+//! What the arguments of a run ask for.
 ghost use Rattle.std.specs.Prelude.{◌≡◌, ◌⊎◌, ◌<◌, ◌≤◌, ◌^◌, length, true, Some, None, IfOk, IfErr};
 ghost use Rattle.std.specs.Io.KnownBytes.{IsAtEnd};
 ghost use Rattle.fx_fixed.specs.Chain.{map_fault};
 ghost use Rattle.fx_arguments.specs.Arguments.{texts};
-ghost use Rattle.fx_arguments.specs.Commands.{seen, seen_make, seen_task};
+ghost use Rattle.fx_arguments.specs.Commands.{mapped, seen_characters, seen_task};
 ghost use Rattle.fx_fixed.specs.Changes.{change_of};
 ghost use Rattle.fx_request.specs.declared.refusal.Refusal.TheVariants.{BadHex, OutOfMemory};
-ghost use Rattle.fx_cli.specs.Runs.{Ends, MakeLeaves, Runs, StrikeLeaves, TaskLeaves, called, font_bytes};
-ghost use Rattle.fx_cli.specs.Steps.{EndsAfter, Telling};
+ghost use Rattle.fx_cli.specs.Mapped.{all_mapped, chosen_of};
+ghost use Rattle.fx_cli.specs.Runs.{Ends, TaskLeaves, called, font_bytes};
+ghost use Rattle.fx_cli.specs.Steps.{EndsFrom, Telling};
 
 use crate::faces::put_faces;
 use crate::mapped::mapped_of;
 use crate::show::put_picture;
-use crate::watcher::{NoWatcher, Watcher};
+use crate::watch::Watch;
 use fx_arguments::{
-    CharacterChoice, Command, Done, Fault, LINE_BUFFER, Make, ReadAhead, Task, Teller,
-    arguments_of_line, decode_hex, read_arguments, read_line,
+    CharacterChoice, Done, Fault, LINE_BUFFER, ReadAhead, Task, Teller, arguments_of_line,
+    decode_hex, read_arguments, read_line,
 };
 use fx_fixed::{Sink, Source, put_all};
-use fx_request::{Refusal, Report};
+use fx_request::Refusal;
 use fx_sfnt::FontFile;
 use fx_strike::{Rows, listing_of, make_strike_telling, trace_of, write_outline};
-use std::alloc::Global;
+use std::alloc::{AllocError, Global};
 
-/// Runs the program on the arguments of a command line, the program's name first. Returns the status: 0 done, 1 refused, 2 usage.
-pub fn run<R: Source, O: Sink, E: Sink>(
-    alloc: Global,
-    arguments: &[&str],
-    reader: &mut R,
-    out: &mut O,
-    err: &mut E,
-) -> u8
-    requires reader { R.fault_count reader.old < 2 ^ 63 }
-    requires out { O.fault_count out.old < 2 ^ 63 }
-    requires err { E.fault_count err.old < 2 ^ 63 }
-    ensures { Runs (texts arguments.now) (change_of R.left R.fault_count reader.old reader.new)
-        (change_of O.held O.fault_count out.old out.new) (change_of E.held E.fault_count err.old err.new) result }
-{
-    run_watched(alloc, arguments, reader, out, err, &mut NoWatcher)
-}
-
-/// Runs the program, and shows a watcher what it did.
-pub fn run_watched<R: Source, O: Sink, E: Sink, W: Watcher>(
-    alloc: Global,
-    arguments: &[&str],
-    reader: &mut R,
-    out: &mut O,
-    err: &mut E,
-    watcher: &mut W,
-) -> u8
-    requires reader { R.fault_count reader.old < 2 ^ 63 }
-    requires out { O.fault_count out.old < 2 ^ 63 }
-    requires err { E.fault_count err.old < 2 ^ 63 }
-    ensures { (runs : Runs (texts arguments.now) (change_of R.left R.fault_count reader.old reader.new)
-        (change_of O.held O.fault_count out.old out.new) (change_of E.held E.fault_count err.old err.new) result)
-        × W.Knows watcher.new runs.outcome }
-{
-    let mut teller = Teller::new(err);
-    let outcome = run_told(alloc, arguments, reader, out, &mut teller, watcher);
-    let status = teller.status(&outcome);
-    teller.close();
-    watcher.end(&outcome);
-    status
-}
-
-/// Runs the program, and tells a teller of refused characters. If arguments are given, the input is the font.
-fn run_told<R: Source, O: Sink, E: Sink, W: Watcher>(
+/// Without arguments the input's first line holds them, and what follows it is the font. Does the same as `read_and_do`.
+pub(crate) fn read_line_and_do<R: Source, O: Sink, E: Sink>(
     alloc: Global,
     arguments: &[&str],
     reader: &mut R,
     out: &mut O,
     teller: &mut Teller<'_, E>,
-    watcher: &mut W,
-) -> Result<Done, Fault>
-    requires reader { R.fault_count reader.old < 2 ^ 63 }
-    requires out { O.fault_count out.old < 2 ^ 63 }
-    ensures { Telling teller.old teller.new (λ told. Ends (texts arguments.now)
-        (change_of R.left R.fault_count reader.old reader.new) (change_of O.held O.fault_count out.old out.new) told result) }
-{
-    let count = arguments.len();
-    if count < 2 {
-        return run_line(alloc, arguments, reader, out, teller, watcher);
-    }
-    let command = read_arguments(alloc, arguments)?;
-    let found = FoundCommand {
-        command,
-        ahead: ReadAhead::none(),
-    };
-    run_command(alloc, &found, reader, out, teller, watcher)
-}
-
-/// The input's first line holds the arguments, and what follows it is the font.
-fn run_line<R: Source, O: Sink, E: Sink, W: Watcher>(
-    alloc: Global,
-    arguments: &[&str],
-    reader: &mut R,
-    out: &mut O,
-    teller: &mut Teller<'_, E>,
-    watcher: &mut W,
+    watch: &mut Watch,
 ) -> Result<Done, Fault>
     requires reader { R.fault_count reader.old < 2 ^ 63 }
     requires out { O.fault_count out.old < 2 ^ 63 }
@@ -112,12 +46,8 @@ fn run_line<R: Source, O: Sink, E: Sink, W: Watcher>(
         return Err(Fault::Usage);
     };
     let arguments = arguments_of_line(alloc, program_name(arguments), line)?;
-    let command = read_arguments(alloc, &arguments)?;
-    let found = FoundCommand {
-        command,
-        ahead: ReadAhead::of(got, end),
-    };
-    run_command(alloc, &found, reader, out, teller, watcher)
+    let ahead = ReadAhead::of(got, end);
+    read_and_do(alloc, &arguments, &ahead, reader, out, teller, watch)
 }
 
 /// The program's name.
@@ -130,34 +60,29 @@ fn program_name<'a>(arguments: &[&'a str]) -> &'a str
     }
 }
 
-/// A command, and what was read of the input to find it.
-#[derive(Drop)]
-struct FoundCommand<'a> {
-    command: Command<'a>,
-    ahead: ReadAhead<'a>,
-}
-
-/// Does what a command asks for.
-fn run_command<R: Source, O: Sink, E: Sink, W: Watcher>(
+/// Does what arguments ask for, with the font that it reads after what was read ahead. Tells a teller of refused characters, and
+/// shows a watch what the task came to.
+pub(crate) fn read_and_do<R: Source, O: Sink, E: Sink>(
     alloc: Global,
-    found: &FoundCommand<'_>,
+    arguments: &[&str],
+    ahead: &ReadAhead<'_>,
     reader: &mut R,
     out: &mut O,
     teller: &mut Teller<'_, E>,
-    watcher: &mut W,
+    watch: &mut Watch,
 ) -> Result<Done, Fault>
     requires reader { R.fault_count reader.old < 2 ^ 63 }
     requires out { O.fault_count out.old < 2 ^ 63 }
-    requires ended { found.now.ahead.ended ≡ true → IsAtEnd (R.left reader.old) }
-    ensures { Telling teller.old teller.new (λ told. EndsAfter (seen found.now.command) found.now.ahead
+    requires ended { ahead.now.ended ≡ true → IsAtEnd (R.left reader.old) }
+    ensures { Telling teller.old teller.new (λ told. EndsFrom (texts arguments.now) ahead.now
         (change_of R.left R.fault_count reader.old reader.new) (change_of O.held O.fault_count out.old out.new) told result) }
 {
-    let command = &found.command;
-    let text = found.ahead.read_on(alloc, reader)?;
+    let command = read_arguments(alloc, arguments)?;
+    let text = ahead.read_on(alloc, reader)?;
     let bytes = font_bytes(alloc, command.hex, text)?;
     let font = FontFile::new(&bytes, command.face);
     let outcome = run_task(alloc, &command.task, &font, out, teller);
-    watcher.see(alloc, command, &font, &outcome);
+    watch.see(alloc, &command, &font, &outcome);
     late(outcome)
 }
 
@@ -188,7 +113,9 @@ fn run_task<O: Sink, E: Sink>(
 {
     match task {
         Task::Strike(make) => {
-            let report = make_of(alloc, make, font, out, teller)?;
+            let all = all_mapped(alloc, &make.chars, font)?;
+            let request = make.request(chosen_of(&make.chars, &all));
+            let report = make_strike_telling(alloc, &Rows, font, &request, out, teller)?;
             Ok(Done::Strike(report))
         }
         Task::Picture(show) => {
@@ -218,41 +145,29 @@ fn run_task<O: Sink, E: Sink>(
     }
 }
 
-/// Makes a strike.
-fn make_of<O: Sink, E: Sink>(
+/// The characters of a font's map, if all are asked for.
+fn all_mapped(
     alloc: Global,
-    make: &Make<'_>,
+    chars: &CharacterChoice,
     font: &FontFile<'_>,
-    out: &mut O,
-    teller: &mut Teller<'_, E>,
-) -> Result<Report, Refusal>
-    requires { O.fault_count out.old < 2 ^ 63 }
-    ensures { Telling teller.old teller.new (λ told. MakeLeaves (seen_make make.now) font.now
-        (change_of O.held O.fault_count out.old out.new) told result) }
+) -> Result<Vec<u32>, AllocError>
+    ensures codes { IfOk result (λ codes. codes.items ≡ all_mapped (seen_characters chars.now) font.now) }
+    ensures refused { IfErr result (λ _. seen_characters chars.now ≡ mapped) }
 {
-    match &make.chars {
-        CharacterChoice::Listed(chars) => make_from(alloc, make, chars, font, out, teller),
-        CharacterChoice::All => {
-            let chars = mapped_of(alloc, font)?;
-            make_from(alloc, make, &chars, font, out, teller)
-        }
+    match chars {
+        CharacterChoice::Listed(_) => Ok(Vec::new(alloc)),
+        CharacterChoice::All => mapped_of(alloc, font),
     }
 }
 
-/// Makes a strike of these characters.
-fn make_from<O: Sink, E: Sink>(
-    alloc: Global,
-    make: &Make<'_>,
-    chars: &[u32],
-    font: &FontFile<'_>,
-    out: &mut O,
-    teller: &mut Teller<'_, E>,
-) -> Result<Report, Refusal>
-    requires { O.fault_count out.old < 2 ^ 63 }
-    ensures { Telling teller.old teller.new (λ told. StrikeLeaves (seen_make make.now) chars.now font.now
-        (change_of O.held O.fault_count out.old out.new) told result) }
+/// The characters of a list, or all of these.
+fn chosen_of<'a>(chars: &'a CharacterChoice, all: &'a [u32]) -> &'a [u32]
+    ensures { result.now ≡ chosen_of (seen_characters chars.entry.now) all.entry.now }
 {
-    make_strike_telling(alloc, &Rows, font, &make.request(chars), out, teller)
+    match chars {
+        CharacterChoice::Listed(chars) => chars,
+        CharacterChoice::All => all,
+    }
 }
 
 /// A task's result as the end of a run.

@@ -9,7 +9,7 @@ ghost use Rattle.fx_cli.specs.Runs.{unread_outcome};
 use crate::mkstrike::Mkstrike;
 use fx_arguments::{Done, Fault, Teller};
 use fx_fixed::{Sink, ToSink};
-use fx_front::{run_front, say_not_text};
+use fx_front::{System, answer_or_run, say_not_text};
 use fx_request::Refusal;
 use std::alloc::{AllocError, Global};
 use std::io::ErrorKind;
@@ -17,30 +17,50 @@ use std::{env, io};
 
 /// Runs the program on the arguments that the system gives, with its font and its output by name or on the standard streams.
 /// Returns the status: 0, 1 or 2. Nothing is buffered between it and the system's files, so that no byte is lost after it returns.
-#[tactic(auto, using(crate::proofs::Telling::status_is))]
 pub fn run_program(rt: &HostRuntime) -> u8
     ensures { IsStatus result }
 {
-    match run_by_front(rt) {
+    let alloc = rt.alloc();
+    let arguments = match arguments_of(rt) {
+        Ok(arguments) => arguments,
+        Err(fault) => return say_unread(rt, &fault),
+    };
+    let words = match texts_of(alloc, &arguments) {
+        Ok(words) => words,
+        Err(fault) => return say_unread(rt, &io::Error::from(fault)),
+    };
+    let mut program = Mkstrike::new(alloc);
+    let mut out = ToSink::new(rt.stdout());
+    let mut err = ToSink::new(rt.stderr());
+    match answer_or_run(
+        alloc,
+        &mut program,
+        &words,
+        &System { rt },
+        &mut out,
+        &mut err,
+    ) {
         Ok(status) => status,
-        Err(fault) => {
-            let mut err = ToSink::new(rt.stderr());
-            let status = unread(&mut err, fault.kind());
-            if status == 2 {
-                say_not_text(rt.alloc(), &mut err);
-            }
-            status
-        }
+        Err(fault) => say_unread(rt, &io::Error::from(fault)),
     }
 }
 
-/// Runs the program by its front. An error means that there are no arguments, or that memory ran out before the program began.
-fn run_by_front(rt: &HostRuntime) -> io::Result<u8>
-    ensures { IfOk result IsStatus }
+/// The arguments that the system gives.
+fn arguments_of(rt: &HostRuntime) -> io::Result<Vec<String>> {
+    Ok(env::args(rt)?.collect(rt.alloc())?)
+}
+
+/// Says why there are no arguments, or that memory ran out before the program began. Returns the status.
+#[tactic(auto, using(crate::proofs::Telling::status_is))]
+fn say_unread(rt: &HostRuntime, fault: &io::Error) -> u8
+    ensures { IsStatus result }
 {
-    let arguments: Vec<String> = env::args(rt)?.collect(rt.alloc())?;
-    let texts = texts_of(rt.alloc(), &arguments)?;
-    run_front(rt, &mut Mkstrike::new(rt.alloc()), &texts)
+    let mut err = ToSink::new(rt.stderr());
+    let status = unread(&mut err, fault.kind());
+    if status == 2 {
+        say_not_text(rt.alloc(), &mut err);
+    }
+    status
 }
 
 /// The arguments as texts.

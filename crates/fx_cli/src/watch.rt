@@ -1,18 +1,18 @@
 //! What a front learns of a run.
-ghost use Rattle.std.specs.Prelude.{◌≡◌, false, option_map};
-ghost use Rattle.fx_cli.specs.Watch.{counts_of, facts_of, glyph_at, is_glyph_halt, is_halt, refused_of, seen_refused, unseen};
+ghost use Rattle.std.specs.Prelude.{◌≡◌, false, option_map, take, IfSome};
+ghost use Rattle.fx_arguments.specs.Commands.{seen, seen_make};
+ghost use Rattle.fx_cli.specs.Watch.{Knows, counts_of, facts_of, glyph_at, is_glyph_halt, is_halt, refused_of, seen_refused, unseen};
+ghost use Rattle.fx_cli.specs.Seen.{Sees, SeesMissing, SeesStrike, draws, first_in, is_cut};
 
-use crate::watcher::Watcher;
-use fx_arguments::{CharacterChoice, Command, Done, Fault, Task};
+use crate::bitmaps::has_bitmaps;
+use crate::missing::missing_of;
+use fx_arguments::{CharacterChoice, Command, Done, Fault, Make, Task};
 use fx_cmap::CharMap;
 use fx_front::{Counts, Facts, RefusalFacts, Text};
 use fx_machine::FontProgram;
-use fx_request::{Location, MAX_CHARACTERS, MAX_CODE, Refusal, rising_codes};
-use fx_sfnt::{Font, FontFile, u32_at};
+use fx_request::{Location, MAX_CHARACTERS, MAX_CODE, Refusal, Report, rising_codes};
+use fx_sfnt::{Font, FontFile};
 use std::alloc::Global;
-
-/// How many ranges of missing characters are named, if not all are.
-const FEW: usize = 8;
 
 /// Watches a run for a front.
 #[derive(Drop)]
@@ -45,101 +45,67 @@ impl Watch {
         }
     }
 
-    /// Sees which of these characters a font lacks.
-    fn see_missing(&mut self, codes: &[u32], map: &CharMap<'_>) {
-        let mut ranges = 0usize;
-        let mut first = None;
-        let mut last = 0u32;
-        // The ranges that end before `first` are named, and from it to `last` all are missing.
-        'codes: for code in codes.iter().copied() {
-            if self.facts.has_more {
-                return;
-            }
-            let is_missing = map.glyph(code) == 0;
-            if let Some(start) = first
-                && !(is_missing && code == last.saturating_add(1))
-            {
-                self.add_range(ranges, start, last);
-                ranges = ranges.saturating_add(1);
-                first = None;
-            }
-            if is_missing {
-                first = first.or(Some(code));
-                last = code;
-            }
-        }
-        if let Some(start) = first {
-            self.add_range(ranges, start, last);
-        }
-    }
-
-    /// Names a range of missing characters. `ranges` says how many were named before.
-    fn add_range(&mut self, ranges: usize, first: u32, last: u32) {
-        if ranges >= FEW && !self.names_all {
-            self.facts.has_more = true;
-            return;
-        }
-        if ranges > 0 {
-            self.facts.missing.add(b",");
-        }
-        self.facts.missing.add_code(first);
-        if first < last {
-            self.facts.missing.add(b"-");
-            self.facts.missing.add_code(last);
-        }
-    }
-}
-
-impl Watcher for Watch {
-    ghost use Rattle.fx_cli.specs.Watch.{Knows};
-
-    ghost Knows = { λ w outcome. Knows outcome w.facts };
-
-    fn see(
+    /// Sees what a command came to with a font.
+    pub(crate) fn see(
         &mut self,
         alloc: Global,
         command: &Command<'_>,
         font: &FontFile<'_>,
         outcome: &Result<Done, Refusal>,
-    ) {
+    )
+        ensures { Sees (seen command.now) font.now outcome.now self.old.names_all self.old.facts self.new.facts }
+    {
         if !command.hex {
-            let bytes = font.bytes();
-            let start = bytes.get(..12).unwrap_or(bytes);
-            self.facts.start = Vec::from_slice(alloc, start).ok();
+            self.facts.start = start_of(alloc, font.bytes());
         }
-        let Ok(done) = outcome else {
+        let (Ok(done), Ok(opened)) = (outcome, Font::open(font)) else {
             return;
         };
-        let Ok(opened) = Font::open(font) else {
-            return;
-        };
-        self.facts.is_variable = !matches!(done, Done::Listing | Done::Faces | Done::Explanation)
-            && opened.table(*b"fvar").is_some();
-        let (Done::Strike(report), Task::Strike(make)) = (done, &command.task) else {
-            return;
-        };
-        self.facts.has_bitmaps = has_bitmaps(&opened, make.ppem);
-        let Ok(map) = CharMap::open(&opened) else {
+        self.facts.is_variable = draws(*done) && opened.table(*b"fvar").is_some();
+        if let (Done::Strike(report), Task::Strike(make)) = (done, &command.task) {
+            self.see_strike(alloc, *report, make, &opened);
+        }
+    }
+
+    /// Sees of which font a strike was made.
+    fn see_strike(&mut self, alloc: Global, report: Report, make: &Make<'_>, font: &Font<'_>)
+        ensures { SeesStrike report (seen_make make.now) font.now self.old.names_all self.old.facts self.new.facts }
+    {
+        self.facts.has_bitmaps = has_bitmaps(font, make.ppem);
+        let Ok(map) = CharMap::open(font) else {
             return;
         };
         if report.glyphs == 0 {
             self.facts.first = first_of(&map);
         }
         match &make.chars {
-            CharacterChoice::Listed(chars) => {
-                if report.missing > 0
-                    && let Ok(codes) = rising_codes(alloc, chars)
-                {
-                    self.see_missing(&codes, &map);
-                }
+            CharacterChoice::Listed(chars) if report.missing > 0 => {
+                self.see_missing(alloc, chars, &map);
             }
-            CharacterChoice::All => {
-                self.facts.is_cut = map.mapped_below(MAX_CODE + 1, &mut []) > MAX_CHARACTERS;
-            }
+            CharacterChoice::Listed(_) => {}
+            CharacterChoice::All => self.facts.is_cut = is_cut(&map),
         }
     }
 
-    fn end(&mut self, outcome: &Result<Done, Fault>) {
+    /// Sees which of these characters a font lacks.
+    fn see_missing(&mut self, alloc: Global, chars: &[u32], map: &CharMap<'_>)
+        ensures missing { SeesMissing chars.now map.now self.old.names_all self.old.facts self.new.facts }
+        ensures rest { self.new.facts ≡ record self.old.facts {
+          missing = self.new.facts.missing;
+          has_more = self.new.facts.has_more;
+        } }
+    {
+        if let Ok(codes) = rising_codes(alloc, chars) {
+            let missing = missing_of(alloc, &codes, map, self.names_all);
+            self.facts.has_more = missing.has_more;
+            self.facts.missing = missing.text;
+        }
+    }
+
+    /// Sees how the run ended.
+    pub(crate) fn end(&mut self, outcome: &Result<Done, Fault>)
+        ensures { Knows outcome.now self.new.facts }
+    {
         self.facts.strike = counts_of(outcome);
         self.facts.refused = refused_of(outcome);
     }
@@ -209,8 +175,25 @@ fn is_glyph_halt(location: Location) -> bool
     }
 }
 
+/// The first bytes of a font's file, if there is memory for them.
+fn start_of(alloc: Global, bytes: &[u8]) -> Option<Vec<u8>>
+    ensures { IfSome result (λ start. start.items ≡ take 12 bytes.now) }
+{
+    let start = bytes.get(..12).unwrap_or(bytes);
+    Vec::from_slice(alloc, start).ok()
+}
+
+/// Whether a task draws glyphs: of a variable font these are its default instance's.
+fn draws(done: Done) -> bool
+    ensures { result ≡ draws done }
+{
+    !matches!(done, Done::Listing | Done::Faces | Done::Explanation)
+}
+
 /// The first character of a map.
-fn first_of(map: &CharMap<'_>) -> Option<u32> {
+fn first_of(map: &CharMap<'_>) -> Option<u32>
+    ensures { result ≡ first_in map.now }
+{
     let mut codes = [0];
     if map.mapped_below(MAX_CODE + 1, &mut codes) == 0 {
         return None;
@@ -218,23 +201,9 @@ fn first_of(map: &CharMap<'_>) -> Option<u32> {
     Some(codes[0])
 }
 
-/// Whether a font has bitmaps of its own at a size.
-fn has_bitmaps(font: &Font<'_>, ppem: u16) -> bool {
-    match font.table(*b"EBLC").or(font.table(*b"bloc")) {
-        Some(table) => has_size(table, ppem),
-        None => false,
-    }
-}
-
-/// Whether a table of bitmaps by size has a record of a size. A record has 48 bytes, and its size in the 45th.
-fn has_size(table: &[u8], ppem: u16) -> bool {
-    let count = u32_at(table, 4).unwrap_or(0);
-    let records = table.get(8..).unwrap_or(&[]);
-    // No record so far is of this size.
-    'records: for record in records.chunks_exact(48).take(count as usize) {
-        if u16::from(record[44]) == ppem {
-            return true;
-        }
-    }
-    false
+/// Whether a map has more characters than a strike takes.
+fn is_cut(map: &CharMap<'_>) -> bool
+    ensures { result ≡ is_cut map.now }
+{
+    map.mapped_below(MAX_CODE + 1, &mut []) > MAX_CHARACTERS
 }

@@ -3,7 +3,7 @@
 use Rattle.std.proofs.Common.{◌≡◌, ℕ, suc, Option, None, refl, subst, sym}
 use Rattle.fx_words.specs.Parts.{Text}
 use Rattle.fx_front.specs.Links.{Follows, FollowsBy}
-use Rattle.fx_front.specs.declared.paths.Link.{Link}
+use Rattle.fx_front.specs.declared.disk.Link.{Link}
 
 pub one_more : (Leads : Text → Link → Type 0) (k n : ℕ) (name : Text) (link : Link) (found : Option Text) → k ≡ suc n
     → Leads name link → FollowsBy (Follows Leads n) name link found → Follows Leads k name found

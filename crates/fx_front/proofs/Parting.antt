@@ -1,5 +1,5 @@
 -- The words before and after the command that takes a font, parted, are all words, parted: `parted_is`.
--- Serves `run_words`.
+-- Serves `answer_or_run`.
 use Rattle.std.proofs.Common.{◌≡◌, ◌∙◌, ℕ, Bool, List, Option, ap, drop, sym, take}
 use Rattle.std.specs.Prelude.{codes}
 use Rattle.std.specs.Borrow.{Bor}

@@ -1,5 +1,5 @@
 -- The two lines of advice after a run.
-use Rattle.std.specs.Prelude.{◌||◌, ℕ, ◌==◌, ◌&&◌, ◌-◌, ◌+◌, nat_lt, nat_eq, Bool, false, List, [], ◌∷◌, ◌++◌, codes, not, Option, Some, None, option_map, unwrap_or}
+use Rattle.std.specs.Prelude.{ℕ, ◌==◌, ◌&&◌, ◌-◌, ◌+◌, nat_lt, nat_eq, Bool, false, List, [], ◌∷◌, ◌++◌, codes, not, Option, Some, None, option_map, unwrap_or}
 use Rattle.std.specs.Prelude.{if◌then◌else◌}
 use Rattle.std.specs.Fmt.{decimal}
 use Rattle.std.specs.Int.{w32, from_be_bytes}

@@ -128,14 +128,14 @@ module _ {R P E : Type 0} (Ran : List Text → Change → Change → Change → 
         × IsEmpty input × Places None place)))
 
     -- a run on FONT and to FILE
-    abbrev pub RunsNamed : PartsView → Option Text → E → E → ℕ → Type 0
+    unfoldable pub RunsNamed : PartsView → Option Text → E → E → ℕ → Type 0
     RunsNamed parts command was now status =
         ((input : R) × (place : P) × RunsOn parts command was now status input place × Opens (font_of parts.font) input
         × Places parts.output place)
         ⊎ IsUnplaced parts was now status
         ⊎ RefusesFont parts command was now status
 
-    abbrev pub RunsUnnamed : PartsView → Option Text → Bool → E → E → ℕ → Type 0
+    unfoldable pub RunsUnnamed : PartsView → Option Text → Bool → E → E → ℕ → Type 0
     RunsUnnamed parts command explained was now status = (input : R) × (place : P)
         × RunsOn parts command was now status input place × InputBy Opens Unopened IsEmpty explained input × Places None place
 

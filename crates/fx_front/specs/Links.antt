@@ -1,9 +1,9 @@
 -- Where the links at the end of a name lead.
-use Rattle.std.specs.Prelude.{◌≡◌, ℕ, zero, suc, List, Option, Some, None, string_bytes}
+use Rattle.std.specs.Prelude.{◌≡◌, ℕ, zero, suc, Option, Some, None, string_bytes}
 use Rattle.std.specs.Path.{path_with_file_name}
 use Rattle.fx_words.specs.Parts.{Text}
-use Rattle.fx_front.specs.declared.paths.Link.{Link}
-use Rattle.fx_front.specs.declared.paths.Link.TheVariants.{To, Ends, Unread}
+use Rattle.fx_front.specs.declared.disk.Link.{Link}
+use Rattle.fx_front.specs.declared.disk.Link.TheVariants.{To, Ends, Unread}
 
 -- how many links are followed, as by Linux
 abbrev pub most_links : ℕ

@@ -1,5 +1,5 @@
 -- The advice after a wrong command line.
-use Rattle.std.specs.Prelude.{ℕ, ◌==◌, ◌&&◌, ◌||◌, ◌-◌, not, nat_eq, Bool, List, [], ◌∷◌, ◌++◌, codes, drop, length, take, Option, Some, None, unwrap_or}
+use Rattle.std.specs.Prelude.{ℕ, ◌&&◌, ◌||◌, ◌-◌, not, nat_eq, Bool, List, [], ◌∷◌, ◌++◌, codes, drop, length, take, Option, Some, None, unwrap_or}
 use Rattle.std.specs.Prelude.{if◌then◌else◌}
 use Rattle.std.specs.List.{ends_with, starts_with}
 use Rattle.std.specs.Str.{bytes_eq, trim_end}

@@ -4,6 +4,7 @@ use Rattle.std.specs.Prelude.{if◌then◌else◌}
 use Rattle.std.specs.Str.{bytes_eq}
 use Rattle.fx_fixed.specs.Changes.{Change}
 use Rattle.fx_words.specs.Parts.{Text}
+use Rattle.fx_front.specs.declared.disk.Access.{Access}
 use Rattle.fx_front.specs.declared.facts.Facts.{Facts}
 use Rattle.fx_front.specs.declared.facts.RefusalFacts.{RefusalFacts}
 
@@ -71,6 +72,12 @@ pub record Ends {Place : Type 0} (Ran : Change → ℕ → Type 0) (Names : Plac
 -- the one that keeps others' files in a folder
 abbrev pub kept_mode : ℕ → ℕ
 kept_mode mode = mode % 512
+
+-- the mode that a new file is made with: before it takes over an older one's, only its owner may read and write it (0600); if it
+-- replaces none, all that the user's mask lets read and write (0666)
+abbrev pub new_mode : Option Access → ℕ
+new_mode None = 438
+new_mode (Some older) = 384
 
 -- the names of standard output
 abbrev pub standard : List Text

@@ -45,7 +45,7 @@ const IS_CUT: &str =
 const IS_BLANK: &str = "no pixel of the strike is set: its characters are blank";
 
 /// Writes at most two lines after a run, which say what to do.
-pub fn say_after<G: Tool, E: Sink>(
+pub(crate) fn say_after<G: Tool, E: Sink>(
     alloc: Global,
     program: &G,
     task: &AskedRun<'_, '_>,

@@ -5,7 +5,7 @@ ghost use Rattle.std.specs.Str.{bytes_eq};
 ghost use Rattle.fx_fixed.specs.Changes.{change_of};
 ghost use Rattle.fx_words.specs.Parts.{has_byte, seen, text_in, texts};
 ghost use Rattle.fx_front.specs.Places.{IsStatus, is_named};
-ghost use Rattle.fx_front.specs.Fronts.{CameTo, InputBy, RefusesFont, RunsBy, RunsNamed, RunsUnnamed, RunsWords};
+ghost use Rattle.fx_front.specs.Fronts.{CameTo, InputBy, RefusesFont, RunsNamed, RunsUnnamed};
 ghost use Rattle.fx_front.specs.Fronts.{after_unopened, hint, listed_after, named_how, names_files, unopened, words_before};
 ghost use Rattle.fx_front.specs.Fronts.{words_named_how};
 ghost use Rattle.fx_front.specs.Kinds.{package_of};
@@ -19,13 +19,12 @@ use crate::lines::say;
 use crate::meant::takes_font;
 use crate::mistaken::after_first;
 use crate::packages::package_of;
-use crate::run::{run_to_end, say_unwritten};
-use crate::system::{NO_FILE, System};
+use crate::run::{run_to_file, say_unwritten};
+use crate::system::NO_FILE;
 use crate::tool::Tool;
-use fx_fixed::{Sink, ToSink};
+use fx_fixed::Sink;
 use fx_words::{lists_in, part};
 use std::alloc::{AllocError, Global};
-use std::io;
 
 const FONT_HELP: &str =
     "the first word that is neither an option nor its value names the font; 'mkstrike help ";
@@ -34,25 +33,9 @@ const FONT_FILE: &str =
     "the first word that is neither an option nor its value names the font's file; 'fc-list' shows the \
      files of the installed fonts";
 
-/// Does what a command line asks for, the program's name first. Returns the status: 0, 1 or 2. An error means that memory ran out
-/// before the program began.
-pub fn run_front<G: Tool>(rt: &HostRuntime, program: &mut G, words: &[&str]) -> io::Result<u8>
-    ensures { IfOk result IsStatus }
-{
-    let mut out = ToSink::new(rt.stdout());
-    let mut err = ToSink::new(rt.stderr());
-    Ok(run_over(
-        rt.alloc(),
-        program,
-        words,
-        &System { rt },
-        &mut out,
-        &mut err,
-    )?)
-}
-
-/// The same over any files and streams.
-pub fn run_over<G: Tool, F: Files, O: Sink, E: Sink>(
+/// Does what a command line asks for, the program's name first, over any files and streams. Returns the status: 0, 1 or 2. An error
+/// means that memory ran out before the program began.
+pub fn answer_or_run<G: Tool, F: Files, O: Sink, E: Sink>(
     alloc: Global,
     program: &mut G,
     words: &[&str],
@@ -72,36 +55,9 @@ pub fn run_over<G: Tool, F: Files, O: Sink, E: Sink>(
     let is_terminal = files.has_terminal();
     let asked = asked_by(words, is_terminal);
     match answer(alloc, &asked, out, err) {
-        Some(status) => Ok(status),
-        None => run_words(alloc, program, words, is_terminal, files, err),
+        Some(status) => return Ok(status),
+        None => {}
     }
-}
-
-/// Says that an argument is not text, after the line of a wrong command line.
-pub fn say_not_text<E: Sink>(alloc: Global, err: &mut E)
-    ensures { SaysLine (change_of E.held E.fault_count err.old err.new) }
-{
-    let what =
-        "an argument is not UTF-8 text: read a font of such a name by < FONT, and write to such a name by > FILE";
-    say(alloc, err, &[what]);
-}
-
-/// Parts the words, and runs the program on them.
-fn run_words<G: Tool, F: Files, E: Sink>(
-    alloc: Global,
-    program: &mut G,
-    words: &[&str],
-    is_terminal: bool,
-    files: &F,
-    err: &mut E,
-) -> Result<u8, AllocError>
-    requires { E.fault_count err.old < 2 ^ 62 }
-    ensures ran { IfOk result (λ status. RunsWords G.Ran G.wrong_in G.wrong_item (change_of F.Input.left F.Input.fault_count)
-        F.Place.Names F.Place.works F.Place.fresh (F.Opens files.now) (F.Unopened files.now) F.IsEmpty (F.Places files.now)
-        (F.Unplaced files.now) (change_of E.held E.fault_count) (G.learned program.new)
-        is_terminal (texts words.now) err.old err.new status) }
-    ensures status { IfOk result IsStatus }
-{
     let (command, count) = command_in(words);
     let (before, after) = words.split_at(count);
     let is_make = is_make(command);
@@ -115,42 +71,22 @@ fn run_words<G: Tool, F: Files, E: Sink>(
         parts: &parts,
         command,
     };
-    run_parted(
-        alloc,
-        program,
-        &task,
-        is_explained(words),
-        is_terminal,
-        files,
-        err,
-    )
+    let is_explained = is_explained(words);
+    if names_files(command, is_explained) {
+        hint_at_terminal(alloc, font_of(&task), is_terminal, err);
+        let status = run_on_files(alloc, program, &task, files, err)?;
+        return Ok(status);
+    }
+    Ok(run_on_streams(alloc, program, &task, is_explained, files, err))
 }
 
-/// Runs the program on parted words.
-#[tactic(auto, unfolding(crate::specs::Fronts::RunsBy))]
-fn run_parted<G: Tool, F: Files, E: Sink>(
-    alloc: Global,
-    program: &mut G,
-    task: &AskedRun<'_, '_>,
-    is_explained: bool,
-    is_terminal: bool,
-    files: &F,
-    err: &mut E,
-) -> Result<u8, AllocError>
-    requires { E.fault_count err.old < 2 ^ 62 }
-    ensures ran { IfOk result (λ status. RunsBy G.Ran G.wrong_in G.wrong_item (change_of F.Input.left F.Input.fault_count)
-        F.Place.Names F.Place.works F.Place.fresh (F.Opens files.now) (F.Unopened files.now) F.IsEmpty (F.Places files.now)
-        (F.Unplaced files.now) (change_of E.held E.fault_count) (G.learned program.new)
-        (names_files (text_in task.now.command) is_explained) is_terminal (seen task.now.parts.now) (text_in task.now.command)
-        is_explained err.old err.new status) }
-    ensures status { IfOk result IsStatus }
+/// Says that an argument is not text, after the line of a wrong command line.
+pub fn say_not_text<E: Sink>(alloc: Global, err: &mut E)
+    ensures { SaysLine (change_of E.held E.fault_count err.old err.new) }
 {
-    if names_files(task.command, is_explained) {
-        hint_at_terminal(alloc, font_of(task), is_terminal, err);
-        run_named(alloc, program, task, files, err)
-    } else {
-        Ok(run_unnamed(alloc, program, task, is_explained, files, err))
-    }
+    let what =
+        "an argument is not UTF-8 text: read a font of such a name by < FONT, and write to such a name by > FILE";
+    say(alloc, err, &[what]);
 }
 
 /// The list that `--set` and `--chars` of `make` stand for among the words after it.
@@ -175,7 +111,8 @@ fn is_make(command: Option<&str>) -> bool
 }
 
 /// Runs the program on words that name no file, or has it explain them without an input.
-fn run_unnamed<G: Tool, F: Files, E: Sink>(
+#[tactic(auto, unfolding(crate::specs::Fronts::RunsUnnamed))]
+fn run_on_streams<G: Tool, F: Files, E: Sink>(
     alloc: Global,
     program: &mut G,
     task: &AskedRun<'_, '_>,
@@ -192,7 +129,7 @@ fn run_unnamed<G: Tool, F: Files, E: Sink>(
 {
     let mut input = unnamed_input(is_explained, files);
     let mut place = files.standard();
-    run_to_end(alloc, program, task, &mut input, &mut place, err)
+    run_to_file(alloc, program, task, &mut input, &mut place, err)
 }
 
 /// The input of words that name none: standard input, or nothing if it can't be opened or the words are only explained.
@@ -251,7 +188,8 @@ fn font_of<'a>(task: &AskedRun<'_, 'a>) -> Option<&'a str>
 }
 
 /// Runs the program on the font and with the output that the words name.
-fn run_named<G: Tool, F: Files, E: Sink>(
+#[tactic(auto, unfolding(crate::specs::Fronts::RunsNamed))]
+fn run_on_files<G: Tool, F: Files, E: Sink>(
     alloc: Global,
     program: &mut G,
     task: &AskedRun<'_, '_>,
@@ -271,7 +209,7 @@ fn run_named<G: Tool, F: Files, E: Sink>(
         Err(why) => return refuse_font(alloc, program, task, why, files, err),
     };
     match files.place(task.parts.output, font.unwrap_or("/dev/stdin"))? {
-        Ok(mut place) => Ok(run_to_end(alloc, program, task, &mut input, &mut place, err)),
+        Ok(mut place) => Ok(run_to_file(alloc, program, task, &mut input, &mut place, err)),
         Err(why) => Ok(refuse_output(alloc, task, why, err)),
     }
 }
@@ -319,7 +257,7 @@ fn refuse_font<G: Tool, F: Files, E: Sink>(
     }
     let mut input = files.nothing();
     let mut place = files.standard();
-    Ok(run_to_end(alloc, program, task, &mut input, &mut place, err))
+    Ok(run_to_file(alloc, program, task, &mut input, &mut place, err))
 }
 
 /// Says why a font can't be opened, and how to install it or how it is named.

@@ -5,6 +5,7 @@
 mod answer;
 mod asked;
 mod destination;
+mod disk;
 mod explained;
 mod facts;
 mod files;
@@ -22,16 +23,17 @@ mod packages;
 mod paths;
 mod run;
 mod system;
+mod target;
 mod text;
 mod tool;
 
 pub use asked::AskedRun;
 pub use destination::Destination;
-pub use explained::say_after;
 pub use facts::{Counts, Facts, RefusalFacts};
 pub use files::Files;
-pub use front::{run_front, run_over, say_not_text};
+pub use front::{answer_or_run, say_not_text};
 pub use fx_words::Parts;
-pub use run::{Ended, run_to_end, run_to_place};
+pub use run::{Ended, run_to_file};
+pub use system::System;
 pub use text::{Text, shown};
 pub use tool::Tool;

@@ -1,9 +1,9 @@
 //! A run of a program, whose output is a new file at a place.
-ghost use Rattle.std.specs.Prelude.{◌≡◌, ◌⊎◌, ◌<◌, ◌^◌, codes, true, false};
+ghost use Rattle.std.specs.Prelude.{◌≡◌, ◌⊎◌, ◌<◌, ◌^◌, true, false};
 ghost use Rattle.fx_fixed.specs.Changes.{change_of};
 ghost use Rattle.fx_words.specs.Parts.{seen, text_in, texts};
 ghost use Rattle.fx_front.specs.Fronts.{RunsFrom};
-ghost use Rattle.fx_front.specs.Places.{IsStatus, RunsTo, ended_status, held_by, is_named, keeps};
+ghost use Rattle.fx_front.specs.Places.{IsStatus, ended_status, held_by, keeps};
 ghost use Rattle.fx_front.specs.Lines.{SaysLine, Tells, unwritten};
 ghost use Rattle.fx_front.specs.Told.{told_first, told_second, why_unwritten};
 
@@ -12,7 +12,7 @@ use crate::destination::Destination;
 use crate::explained::say_after;
 use crate::late::Late;
 use crate::lines::say;
-use crate::output::NO_FOLDER;
+use crate::target::NO_FOLDER;
 use crate::tool::Tool;
 use fx_fixed::{Sink, Source};
 use std::alloc::Global;
@@ -30,8 +30,9 @@ pub struct Ended {
     pub is_unmade: bool,
 }
 
-/// Runs a program whose output is a new file at a place, and says what to do after it. Returns the status for the user.
-pub fn run_to_end<G: Tool, P: Destination, R: Source, E: Sink>(
+/// Runs a program whose output is a new file at a place, and says what to do after it. The file gets its name if the status is 0,
+/// or if a trace halted after some lines; else it is removed. Returns the status for the user.
+pub fn run_to_file<G: Tool, P: Destination, R: Source, E: Sink>(
     alloc: Global,
     program: &mut G,
     task: &AskedRun<'_, '_>,
@@ -46,7 +47,19 @@ pub fn run_to_end<G: Tool, P: Destination, R: Source, E: Sink>(
         (text_in task.now.command) err.old err.new result reader.old reader.new place.old place.new }
     ensures status { IsStatus result }
 {
-    let ended = run_to_place(alloc, program, task, reader, place, err);
+    let mut late = Late::new(&*place);
+    let status = program.run(alloc, task.parts, reader, &mut late, err);
+    let is_blank = late.is_blank();
+    let has_faults = late.faults() > 0;
+    let new = late.close();
+    let is_unmade = has_faults && new.is_none();
+    let is_kept = keeps(&*program, task.is("trace"), status);
+    let ended = Ended {
+        status,
+        is_blank,
+        is_named: settle(place, new, status, is_kept),
+        is_unmade,
+    };
     say_end(alloc, &*program, task, ended, err);
     ended_status(ended.status, ended.is_named)
 }
@@ -98,40 +111,6 @@ pub(crate) fn say_unwritten<E: Sink>(alloc: Global, name: &str, why: &str, err: 
         (unwritten name.now why.now) }
 {
     say(alloc, err, &["can't write '", name, "': ", why]);
-}
-
-/// Runs a program whose output is a new file at a place. The file gets its name if the status is 0, or if a trace halted after some
-/// lines; else it is removed.
-pub fn run_to_place<G: Tool, P: Destination, R: Source, E: Sink>(
-    alloc: Global,
-    program: &mut G,
-    task: &AskedRun<'_, '_>,
-    reader: &mut R,
-    place: &mut P,
-    err: &mut E,
-) -> Ended
-    requires reader { R.fault_count reader.old < 2 ^ 63 }
-    requires err { E.fault_count err.old < 2 ^ 63 }
-    ensures run { RunsTo (λ sink status. G.Ran (texts task.now.parts.now.words.items)
-        (change_of R.left R.fault_count reader.old reader.new) sink (change_of E.held E.fault_count err.old err.new) status
-        (G.learned program.new))
-        P.Names P.works P.fresh place.old place.new (is_named (text_in task.now.command) (codes "trace"))
-        (G.learned program.new) result.status result.is_named }
-    ensures status { IsStatus result.status }
-{
-    let mut late = Late::new(&*place);
-    let status = program.run(alloc, task.parts, reader, &mut late, err);
-    let is_blank = late.is_blank();
-    let has_faults = late.faults() > 0;
-    let new = late.close();
-    let is_unmade = has_faults && new.is_none();
-    let is_kept = keeps(program, task.is("trace"), status);
-    Ended {
-        status,
-        is_blank,
-        is_named: settle(place, new, status, is_kept),
-        is_unmade,
-    }
 }
 
 /// Whether the output of a failed run is kept: a trace keeps its lines before a halt.

@@ -1,8 +1,10 @@
 //! The system's files.
+use crate::disk::SystemDisk;
 use crate::files::Files;
 use crate::input::Input;
 use crate::lines::say;
 use crate::output::{Outlet, Output, output_of, why_closed};
+use crate::target::{Target, target_of};
 use fx_fixed::{FromReader, ToSink};
 use std::alloc::AllocError;
 use std::fs;
@@ -61,13 +63,21 @@ impl<'a> Files for System<'a> {
         name: Option<&str>,
         font: &str,
     ) -> Result<Result<Outlet<'a>, &'static str>, AllocError> {
-        match output_of(self.rt, name, font)? {
-            Ok(output) => Ok(Ok(Outlet {
-                rt: self.rt,
-                output,
-            })),
+        let disk = SystemDisk { rt: self.rt };
+        match target_of(self.rt.alloc(), &disk, name, font)? {
+            Ok(target) => Ok(self.outlet(name, target)),
             Err(why) => Ok(Err(why)),
         }
+    }
+}
+
+impl<'a> System<'a> {
+    /// The place of an output of this name, whose target this is; or why it can't be opened.
+    fn outlet(&self, name: Option<&str>, target: Target) -> Result<Outlet<'a>, &'static str> {
+        Ok(Outlet {
+            rt: self.rt,
+            output: output_of(self.rt, name, target)?,
+        })
     }
 }
 

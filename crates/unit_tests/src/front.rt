@@ -1,8 +1,6 @@
 //! The front, with a place in memory and a program that does what it is told.
 use fx_fixed::{Limits, MemorySink, MemorySource, Sink, Source, put_all};
-use fx_front::{
-    AskedRun, Destination, Ended, Facts, Parts, RefusalFacts, Text, Tool, run_to_place, say_after,
-};
+use fx_front::{AskedRun, Destination, Facts, Parts, RefusalFacts, Text, Tool, run_to_file};
 use fx_words::{listed, lists_in, part};
 use std::alloc::{AllocError, Global};
 use std::test::Fail;
@@ -139,31 +137,23 @@ impl Tool for Fake {
     }
 }
 
-/// Runs a fake program to a place, and returns how it ended.
-fn run_on(
-    alloc: Global,
-    fake: &mut Fake,
-    task: &AskedRun<'_, '_>,
-    shelf: &mut Shelf,
-) -> Result<Ended, AllocError> {
-    let mut err = MemorySink::new(alloc, 0, Limits::NONE)?;
-    let mut reader = MemorySource::new(&[], Limits::NONE);
-    Ok(run_to_place(alloc, fake, task, &mut reader, shelf, &mut err))
-}
-
-/// The same of a run without arguments, of this command.
+/// Runs a fake program without options to a place, as this command. Returns the status for the user, and standard error.
 fn run_command(
     alloc: Global,
     fake: &mut Fake,
     command: Option<&'static str>,
     shelf: &mut Shelf,
-) -> Result<Ended, AllocError> {
-    let parts = part(alloc, &["mkstrike"], false, None, &[])?;
+) -> Result<(u8, MemorySink), AllocError> {
+    let words = ["mkstrike", command.unwrap_or("make")];
+    let parts = part(alloc, &words, false, None, &[])?;
     let task = AskedRun {
         parts: &parts,
         command,
     };
-    run_on(alloc, fake, &task, shelf)
+    let mut reader = MemorySource::new(&[], Limits::NONE);
+    let mut err = MemorySink::new(alloc, 0, Limits::NONE)?;
+    let status = run_to_file(alloc, fake, &task, &mut reader, shelf, &mut err);
+    Ok((status, err))
 }
 
 /// What a program writes and its status, whether a program of the font halts, whether the run is a trace, and whether the place
@@ -185,14 +175,18 @@ static RUNS: [Run; 11] = [
     (b"new", 0, false, false, true, false, b"old"),
 ];
 
+/// The line of a file that can't be made.
+const UNMADE: &[u8] = b"mkstrike: can't write '': no file can be made in its folder\n";
+
 /// Whether a run ends so at a place.
 fn ends_so(alloc: Global, run: &Run, shelf: &mut Shelf) -> Result<bool, AllocError> {
     let (text, status, is_halted, is_trace, makes, _, wanted) = *run;
     let mut fake = Fake::new(alloc, text, status, is_halted);
     let command = if is_trace { Some("trace") } else { None };
-    let ended = run_command(alloc, &mut fake, command, shelf)?;
-    let is_named = wanted != b"old".as_slice();
-    Ok(ended.is_named == is_named && ended.is_unmade == (!makes && !text.is_empty()))
+    let (ended, err) = run_command(alloc, &mut fake, command, shelf)?;
+    let is_done = wanted != b"old".as_slice() && status == 0;
+    let is_unmade = !makes && !text.is_empty();
+    Ok((ended == 0) == is_done && (err.bytes() == UNMADE) == is_unmade)
 }
 
 /// Whether a run ends so, and leaves this file.
@@ -209,34 +203,11 @@ fn older_file_stays(rt: HostRuntime) -> Result<(), Fail> {
     Ok(())
 }
 
-/// Writes what is said after a run of a fake program.
-fn say(
-    alloc: Global,
-    fake: &mut Fake,
-    task: &AskedRun<'_, '_>,
-    err: &mut MemorySink,
-) -> Result<(), AllocError> {
-    let mut shelf = Shelf::new(alloc, true, true)?;
-    let ended = run_on(alloc, fake, task, &mut shelf)?;
-    say_after(alloc, fake, task, ended, err);
-    Ok(())
-}
-
-/// The same of a trace.
-fn say_of_trace(alloc: Global, fake: &mut Fake, err: &mut MemorySink) -> Result<(), AllocError> {
-    let parts = part(alloc, &["mkstrike", "trace"], false, None, &[])?;
-    let task = AskedRun {
-        parts: &parts,
-        command: Some("trace"),
-    };
-    say(alloc, fake, &task, err)
-}
-
 /// Whether this is said after a trace with a status.
 fn says(alloc: Global, status: u8, wanted: &[u8]) -> Result<bool, AllocError> {
     let mut fake = Fake::new(alloc, b"new", status, status == 1);
-    let mut err = MemorySink::new(alloc, 0, Limits::NONE)?;
-    say_of_trace(alloc, &mut fake, &mut err)?;
+    let mut shelf = Shelf::new(alloc, true, true)?;
+    let (_, err) = run_command(alloc, &mut fake, Some("trace"), &mut shelf)?;
     Ok(err.bytes() == wanted)
 }
 

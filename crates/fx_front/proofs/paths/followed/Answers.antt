@@ -1,7 +1,7 @@
 use Rattle.std.proofs.Common.{◌+◌, ◌-◌, arith, refl, Some, None}
 use Rattle.std.specs.Prelude.{string_bytes}
 use Rattle.fx_front.specs.Links.{most_links}
-use Rattle.fx_front.specs.declared.paths.Link.TheVariants.{To, Ends, Unread}
+use Rattle.fx_front.specs.declared.disk.Link.TheVariants.{To, Ends, Unread}
 use Rattle.fx_front.proofs.Following.{no_more, one_more}
 use Rattle.fx_front.proofs.paths.followed.Goals as goal
 

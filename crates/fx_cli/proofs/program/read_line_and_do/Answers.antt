@@ -5,13 +5,11 @@ use Rattle.clap.specs.Walk.{Text}
 use Rattle.fx_fixed.specs.Changes.{Change}
 use Rattle.fx_arguments.specs.Input.{line_of, arguments_of_line}
 use Rattle.fx_arguments.specs.Arguments.{texts}
-use Rattle.fx_arguments.specs.Commands.{seen}
-use Rattle.fx_cli.specs.Runs.{called}
 use Rattle.fx_strike.proofs.Exits.{came}
-use Rattle.fx_cli.proofs.FirstLines.{few_arguments, for_line, length-line_of, line_ends, line_read, unread}
+use Rattle.fx_cli.proofs.FirstLines.{few_arguments, first_ends, for_line, length-line_of, line_read}
 use Rattle.fx_cli.proofs.Made.{told_as, untold}
 use Rattle.fx_cli.proofs.Telling.{no_line, no_room}
-use Rattle.fx_cli.proofs.program.run_line.Goals as goal
+use Rattle.fx_cli.proofs.program.read_line_and_do.Goals as goal
 
 pub returns-in_default : goal.returns-in_default
 returns-in_default g c =
@@ -51,30 +49,6 @@ returns-in_err-arguments g c =
     (Keeps-refl (g.O.Sink.held c.args.out.now), refl) c.from_residual-in_err-arguments.result
     c.from_residual-in_err-arguments.ensures.1)
 
-pub returns-in_err-command : goal.returns-in_err-command
-returns-in_err-command g c =
-    let given : List Text = texts c.args.arguments.now in
-    let first : List ℕ = take c.in_ok-filled.filled c.read_line.new.buffer in
-    let all : length first ≡ c.in_ok-filled.filled =
-    length-take-le c.in_ok-filled.filled c.read_line.new.buffer (omega (arith, c.in_ok-filled.ensures.sizes.1)) in
-    let line : take c.in_ok-filled.end first ≡ line_of first = ap (λ (k : ℕ). take k first) c.in_ok-filled.ensures.line in
-    let line_is : c.in-Ok.line.now ≡ line_of first = c.in-Ok.ensures.cases.0 ∙ line in
-    let arguments_are : texts c.deref.result.now ≡ called given ∷ arguments_of_line (line_of first)
-    = ap texts c.deref.ensures.value ∙ c.in_ok-arguments.ensures ∙
-    ap₂ (λ (p l : List ℕ). p ∷ arguments_of_line l) c.program_name.ensures line_is in
-    rw (came c.from_residual-in_err-command.result c.from_residual-in_err-command.ensures.1)
-    (untold (unread given _ _ first (few_arguments c.args.arguments.now c.requires.given)
-    (omega (arith, all, c.in_ok-filled.ensures.sizes.1)) c.in_ok-filled.ensures.quiet c.in_ok-filled.ensures.read
-    (Keeps-refl (g.O.Sink.held c.args.out.now), refl)
-    (line_read first (g.R.Source.left c.read_line.new.reader) (elim c.in_ok-filled.ensures.whole [
-      | inl h ↦ inl (omega (arith, h, all, c.in_ok-filled.ensures.line))
-      | inr h ↦ inr h
-    ]))
-    (rw line at c.in-Ok.ensures.cases.1)
-    (omega (arith, length-line_of first, c.in_ok-filled.ensures.line, c.in_ok-filled.ensures.sizes.2))
-    c.in_err-command.field-0.0
-    (rw arguments_are at c.in_err-command.ensures)))
-
 pub returns : goal.returns
 returns g c =
     let given : List Text = texts c.args.arguments.now in
@@ -85,20 +59,20 @@ returns g c =
     let line_is : c.in-Ok.line.now ≡ line_of first = c.in-Ok.ensures.cases.0 ∙ line in
     let source : Change = record {
       bytes_before = g.R.Source.left c.read_line.new.reader;
-      bytes = g.R.Source.left c.run_command.new.reader;
+      bytes = g.R.Source.left c.read_and_do.new.reader;
       faults_before = g.R.Source.fault_count c.read_line.new.reader;
-      faults = g.R.Source.fault_count c.run_command.new.reader;
+      faults = g.R.Source.fault_count c.read_and_do.new.reader;
     } in
     let sink : Change = record {
       bytes_before = g.O.Sink.held c.args.out.now;
-      bytes = g.O.Sink.held c.run_command.new.out;
+      bytes = g.O.Sink.held c.read_and_do.new.out;
       faults_before = g.O.Sink.fault_count c.args.out.now;
-      faults = g.O.Sink.fault_count c.run_command.new.out;
+      faults = g.O.Sink.fault_count c.read_and_do.new.out;
     } in
-    let told = rw c.of.ensures at c.run_command.ensures in
-    told_as told (λ notices ends. line_ends {given = given} {first = first} {before = g.R.Source.left c.args.reader.now}
+    let told = rw c.of-ahead.ensures at c.read_and_do.ensures in
+    told_as told (λ notices ends. first_ends {given = given} {first = first} {before = g.R.Source.left c.args.reader.now}
     {arguments = texts c.deref.result.now}
-    (g.R.Source.fault_count c.args.reader.now) (seen c.in_ok-command.command) source sink notices (sym c.in_ok-filled.ensures.quiet)
+    (g.R.Source.fault_count c.args.reader.now) source sink notices (sym c.in_ok-filled.ensures.quiet)
     (record {
       none = few_arguments c.args.arguments.now c.requires.given;
       read = c.in_ok-filled.ensures.read;
@@ -108,4 +82,8 @@ returns g c =
       arguments_are = ap texts c.deref.ensures.value ∙ c.in_ok-arguments.ensures ∙
           ap₂ (λ (p l : List ℕ). p ∷ arguments_of_line l) c.program_name.ensures line_is;
     })
-    c.in_ok-command.ensures c.run_command.result ends)
+    (line_read first (g.R.Source.left c.read_line.new.reader) (elim c.in_ok-filled.ensures.whole [
+      | inl h ↦ inl (omega (arith, h, all, c.in_ok-filled.ensures.line))
+      | inr h ↦ inr h
+    ]))
+    c.read_and_do.result ends)
