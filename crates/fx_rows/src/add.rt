@@ -10,6 +10,7 @@ ghost use Rattle.fx_rows.specs.inner.Inside.{IsOnInside};
 ghost use Rattle.fx_rows.specs.inner.Cuts.{IsCut};
 ghost use Rattle.fx_rows.specs.inner.Sums.{AreWithin};
 ghost use Rattle.fx_rows.specs.inner.Bands.{stride, AreInnerRows, IsRowAdded, bounded_span};
+ghost use Rattle.fx_rows.specs.inner.Heights.{AreOutside};
 ghost use Rattle.fx_rows.specs.inner.Telling.{AreMetAdded, AreNextRows, AreRowsAdded, IsBandOf, Keeps};
 
 use crate::band::Band;
@@ -64,7 +65,8 @@ fn add_general_rows<N: Noting>(
     noter: &mut N,
     tally: &mut Tally,
 )
-    requires { AreNextRows (N.Says noter.old) band.old rows.first rows.end }
+    requires next { AreNextRows (N.Says noter.old) band.old rows.first rows.end }
+    requires outside { AreOutside (span_of piece.now) band.old.frame rows.first rows.end }
     ensures met { AreMetAdded (N.IsTold noter.old) (N.IsTold noter.new) (N.Says noter.old) (N.Says noter.new) (span_of piece.now)
         rows.first rows.end band.old band.new }
     ensures count { tally.new.count ≤ tally.old.count + (rows.end - rows.first) * (10 + N.general) }
@@ -86,7 +88,8 @@ fn add_met_rows<N: Noting>(
     noter: &mut N,
     tally: &mut Tally,
 )
-    requires { AreNextRows (N.Says noter.old) band.old rows.first rows.end }
+    requires next { AreNextRows (N.Says noter.old) band.old rows.first rows.end }
+    requires outside { AreOutside (span_of piece.now) band.old.frame rows.first rows.end }
     ensures met { AreMetAdded (N.IsTold noter.old) (N.IsTold noter.new) (N.Says noter.old) (N.Says noter.new) (span_of piece.now)
         rows.first rows.end band.old band.new }
     ensures count { tally.new.count ≤ tally.old.count + (rows.end - rows.first) * (10 + N.general) }
