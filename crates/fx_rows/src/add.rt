@@ -58,6 +58,7 @@ fn add_met(bounded: &Bounded, up: u32, band: &mut Band, tally: &mut Tally) -> Ro
 /// Adds what a piece gives to rows, in the general way, and notes it. Few pieces need it, so its code is kept out of the others'
 /// loops.
 #[inline(never)]
+#[tactic(auto, using(crate::proofs::Telling::met_none))]
 fn add_general_rows<N: Noting>(
     piece: &Piece,
     rows: RowRange,

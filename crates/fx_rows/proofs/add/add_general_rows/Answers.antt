@@ -8,11 +8,8 @@ use Rattle.fx_rows.specs.inner.Points.{IsInner}
 use Rattle.fx_rows.specs.inner.Telling.{AreMetAdded}
 use Rattle.fx_rows.proofs.Counted.{count_more}
 use Rattle.fx_rows.proofs.Stepping.{row_in, band_small}
-use Rattle.fx_rows.proofs.Telling.{met_none, met_next, band_kept}
+use Rattle.fx_rows.proofs.Telling.{met_next, band_kept}
 use Rattle.fx_rows.proofs.add.add_general_rows.Goals as goal
-
-pub rows-init : goal.rows-init
-rows-init g c = grind (arith, met_none)
 
 pub add_met-part-requires-clause-up : goal.add_met-part-requires-clause-up
 add_met-part-requires-clause-up g c = row_in c.args.band.now.frame c.rows.band.frame c.rows.up c.args.rows.end
