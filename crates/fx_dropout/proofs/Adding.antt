@@ -13,8 +13,7 @@ use Rattle.fx_rows.specs.Parts.{IsRowPart}
 use Rattle.fx_rows.specs.inner.Cuts.{IsAdded}
 use Rattle.fx_rows.specs.inner.Inside.{IsOnInside}
 use Rattle.fx_rows.specs.inner.Sums.{is_named, value_at, IsInside, Marks}
-use Rattle.fx_rows.proofs.Added.{turn_at}
-use Rattle.fx_rows.proofs.Counted.{on_inside, part_crosses, part_regions, told, turn_small}
+use Rattle.fx_rows.proofs.Counted.{on_inside, part_crosses, part_regions, told, turn_at, turn_small}
 use Rattle.fx_winding.specs.Area.{Place}
 use Rattle.fx_winding.specs.declared.frame.Frame.{Frame}
 use Rattle.fx_winding.specs.declared.point.Piece.{Piece}

@@ -1,15 +1,16 @@
 -- A place nearer to the chord than one that is not outside the parabola is inside it: `closer`.
 -- Serves what a bent arc or a line adds to such a row.
 use Rattle.std.proofs.Common.{◌≡◌, ◌≢◌, inl, inr, sym, ap, ◌∙◌, subst, ℤ, pos, ◌+ℤ◌, ◌-ℤ◌, ◌*ℤ◌}
-use Rattle.std.proofs.Common.{◌≤ℤ◌, ◌<ℤ◌, neg_ℤ, [], ◌∷◌, arith}
-use Rattle.fx_fixed.specs.Polynomial.{Expr, var, num, ◌⊞◌, ◌⊠◌, minus, ◌⊟◌}
+use Rattle.std.proofs.Common.{◌≤ℤ◌, ◌<ℤ◌, [], ◌∷◌, arith}
+use Rattle.fx_fixed.specs.Polynomial.{Expr, var, num, ◌⊞◌, ◌⊠◌, ◌⊟◌}
 use Rattle.fx_fixed.proofs.Ring.{ring, one-*ℤ}
 use Rattle.fx_fixed.proofs.Linear.{signed, signed_linear}
 use Rattle.fx_fixed.proofs.Signs.{product_at_least_zero, product_above_zero, square_at_least_zero}
 use Rattle.fx_winding.specs.Area.{Place, area, area_of, gap_of}
 use Rattle.fx_winding.specs.Winding.{sign, weight_a, weight_b, weight_c}
+use Rattle.fx_winding.proofs.Products.{product}
 use Rattle.fx_rows.specs.inner.Points.{IsInner}
-use Rattle.fx_rows.proofs.Weights.{drop_factor_strict, zero_square, above_from, gap_w, sign_square, step_a, step_c}
+use Rattle.fx_rows.proofs.Weights.{drop_factor_strict, gap_w, sign_square, step_a, step_c}
 
 -- ---- over plain numbers: with x = su + iv and y = sw + jv, where s = i + j, the gap times s² is this
 abbrev scaled : ℤ → ℤ → ℤ → ℤ → ℤ → ℤ
@@ -102,20 +103,15 @@ gap_from_height a b c p bent =
     scaled_is (step_a a b c) (step_c a b c) (weight_a a b c p) (weight_b a b c p) (weight_c a b c p)
     ∙ (λ i. scaled (x i) (y i) (step_a a b c) (step_c a b c) (weight_b a b c p))
 
+square_above : (d : ℤ) → d ≢ pos 0 → pos 0 <ℤ (d *ℤ d)
+square_above d n = grind (arith, signed_linear, n, product d d)
+
 -- strictly between the ends both factors have one sign
 factors : (d p q : ℤ) → (d *ℤ p) *ℤ (d *ℤ q) ≡ (d *ℤ d) *ℤ (p *ℤ q)
 factors d p q = ring (d ∷ p ∷ q ∷ []) ((var 0 ⊠ var 1) ⊠ (var 0 ⊠ var 2)) ((var 0 ⊠ var 0) ⊠ (var 1 ⊠ var 2)) tt
 
-square_above : (d : ℤ) → d ≢ pos 0 → pos 0 <ℤ (d *ℤ d)
-square_above d n = above_from (d *ℤ d) (square_at_least_zero d) (λ e. n (zero_square d e))
-
-turned_factors : (p q : ℤ) → neg_ℤ p *ℤ neg_ℤ q ≡ p *ℤ q
-turned_factors p q = ring (p ∷ q ∷ []) (minus (var 0) ⊠ minus (var 1)) (var 0 ⊠ var 1) tt
-
 heights : (a c y : ℤ) → IsInner a c y → pos 0 <ℤ ((y -ℤ c) *ℤ (a -ℤ y))
-heights a c y (inr h) = product_above_zero (y -ℤ c) (a -ℤ y) (omega (arith, signed_linear, h.0)) (omega (arith, signed_linear, h.1))
-heights a c y (inl h) = subst (λ z. pos 0 <ℤ z) (turned_factors (y -ℤ c) (a -ℤ y))
-    (product_above_zero (neg_ℤ (y -ℤ c)) (neg_ℤ (a -ℤ y)) (omega (arith, signed_linear, h.1)) (omega (arith, signed_linear, h.0)))
+heights a c y h = grind (arith, signed_linear, h, product (y -ℤ c) (a -ℤ y))
 
 ends_product : (d a c y : ℤ) → d ≢ pos 0 → IsInner a c y → pos 0 <ℤ ((d *ℤ (y -ℤ c)) *ℤ (d *ℤ (a -ℤ y)))
 ends_product d a c y n h = subst (λ z. pos 0 <ℤ z) (sym (factors d (y -ℤ c) (a -ℤ y)))

@@ -162,27 +162,7 @@ range_iff a b c x low high k l0 l1 h i = grind (arith, l0, l1, h, i)
 
 -- ---- a piece at a height that its quadratic does not come to
 pub is_above : (a b c : Place) (y : ℤ) → ¬ (IsAboveLow a.y b.y c.y y) → IsAbove (record { a = a; b = Some b; c = c }) y
-is_above a b c y n = elim (below_or_not_ℤ y b.y) [
-  | inl l ↦ inl (under, l, under')
-  | inr h ↦
-      inr (under, under', λ t. n (inr (inr (omega (arith, signed_linear, h, under), omega (arith, signed_linear, h, under'), t))))
-]
-  where
-    under : y <ℤ a.y
-    under = elim (below_or_not_ℤ y a.y) [ inl l ↦ l | inr h ↦ absurd (n (inl h)) ]
-
-    under' : y <ℤ c.y
-    under' = elim (below_or_not_ℤ y c.y) [ inl l ↦ l | inr h ↦ absurd (n (inr (inl h))) ]
+is_above a b c y n = grind (arith, signed_linear, n, below_or_not_ℤ y a.y, below_or_not_ℤ y b.y, below_or_not_ℤ y c.y)
 
 pub is_below : (a b c : Place) (y : ℤ) → ¬ (IsBelowHigh a.y b.y c.y y) → IsBelow (record { a = a; b = Some b; c = c }) y
-is_below a b c y n = elim (below_or_not_ℤ b.y y) [
-  | inl l ↦ inl (over, l, over')
-  | inr h ↦
-      inr (over, over', λ t. n (inr (inr (omega (arith, signed_linear, h, over), omega (arith, signed_linear, h, over'), t))))
-]
-  where
-    over : a.y <ℤ y
-    over = elim (below_or_not_ℤ a.y y) [ inl l ↦ l | inr h ↦ absurd (n (inl h)) ]
-
-    over' : c.y <ℤ y
-    over' = elim (below_or_not_ℤ c.y y) [ inl l ↦ l | inr h ↦ absurd (n (inr (inl h))) ]
+is_below a b c y n = grind (arith, signed_linear, n, below_or_not_ℤ a.y y, below_or_not_ℤ b.y y, below_or_not_ℤ c.y y)

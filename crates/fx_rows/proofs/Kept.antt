@@ -48,5 +48,5 @@ gain_more P Q a b f h = record { kept = h.kept; only = only_more P Q a b f h.onl
 
 -- a look at segments that the piece does not meet
 pub notes_none : (s : Span) (line : NotedRow) (At : ℕ → Type 0) (bits : List ℕ)
-    → ((k : ℕ) → At k → ¬ (IsMetTo s line.frame line.row k)) → NotesAt s line At bits bits
-notes_none s line At bits none = record { noted = λ k at met. absurd (none k at met); gained = gain_none _ bits }
+    → ((k : ℕ) → k ≤ line.frame.width → At k → ¬ (IsMetTo s line.frame line.row k)) → NotesAt s line At bits bits
+notes_none s line At bits none = record { noted = λ k l at off off' met. absurd (none k l at met); gained = gain_none _ bits }

@@ -14,6 +14,7 @@ use Rattle.fx_winding.specs.Winding.{IsOn, IsOnPart}
 use Rattle.fx_winding.proofs.Beside.{under_off, over_off, total_above, weights_total}
 use Rattle.fx_winding.proofs.Crossings.{crossing_level, crossing_under}
 use Rattle.fx_winding.proofs.Meeting.{above_not_met, below_not_met}
+use Rattle.fx_winding.proofs.Products.{product}
 use Rattle.fx_winding.proofs.Regions.{region_cases, region_out}
 use Rattle.fx_winding.proofs.Triangle.{balance_y}
 use Rattle.fx_rows.specs.inner.Heights.{IsPastTurn, IsMissed}
@@ -49,19 +50,8 @@ no_gap u v w a b c some g l z =
 -- nor is one on the chord
 no_chord : (u v w a b c : ℤ) → pos 0 ≤ℤ u → v ≡ pos 0 → pos 0 ≤ℤ w → pos 0 <ℤ (u +ℤ v +ℤ w) → pos 0 <ℤ a → pos 0 <ℤ c
     → u *ℤ a +ℤ v *ℤ b +ℤ w *ℤ c ≡ pos 0 → ⊥
-no_chord u v w a b c hu hv hw some ha hc z = by (above_or_zero u hu)
-  where
-    none : v *ℤ b ≡ pos 0
-    none = (λ i. hv i *ℤ b) ∙ ring (b ∷ []) (num (pos 0) ⊠ var 0) (num (pos 0)) tt
-
-    by : (pos 0 <ℤ u) ⊎ (u ≡ pos 0) → ⊥
-    by (inl l) =
-        let m = product_above_zero u a l ha in let n = product_at_least_zero w c hw (omega (arith, signed_linear, hc)) in
-        omega (arith, signed_linear, m, n, none, z)
-    by (inr e) =
-        let m = product_at_least_zero u a hu (omega (arith, signed_linear, ha)) in
-        let n = product_above_zero w c (omega (arith, signed_linear, e, hv, some)) hc in
-        omega (arith, signed_linear, m, n, none, z)
+no_chord u v w a b c hu hv hw some ha hc z =
+    grind (arith, signed_linear, hu, hv, hw, some, ha, hc, z, product u a, product v b, product w c)
 
 -- the same of the distances with the other sign
 other_sign : (u v w a b c : ℤ) → u *ℤ a +ℤ v *ℤ b +ℤ w *ℤ c ≡ pos 0 → u *ℤ neg_ℤ a +ℤ v *ℤ neg_ℤ b +ℤ w *ℤ neg_ℤ c ≡ pos 0

@@ -1,21 +1,26 @@
 -- In a row between its ends a piece meets one segment at most, the one before the end of its cut: `met_end`.
--- Serves `note_across`.
+-- In a strip with one column more on each side of the frame it is the one before the end (`strip_met`).
+-- Serves `note_across`, and the cuts of rows that are noted.
 use Rattle.std.proofs.Common.{◌≡◌, ◌⊎◌, inl, inr, sym, ap, ◌∙◌, subst, ℕ, zero, suc, ◌-◌, ◌<◌, ◌≤◌, ℤ, pos, ◌+ℤ◌, ◌-ℤ◌}
-use Rattle.std.proofs.Common.{◌≤ℤ◌, ◌<ℤ◌, List, length, slice_index_or, arith}
+use Rattle.std.proofs.Common.{◌≤ℤ◌, ◌<ℤ◌, ◌*ℤ◌, ◌≢◌, ◌+◌, ◌↔◌, List, length, slice_index_or, arith}
 use Rattle.fx_fixed.proofs.Order.{below_or_not, below_same_above}
 use Rattle.fx_fixed.proofs.Linear.{signed_linear}
 use Rattle.std.proofs.lemmas.Int.{ints}
 use Rattle.fx_winding.specs.declared.frame.Frame.{Frame}
 use Rattle.fx_winding.specs.Area.{Place}
-use Rattle.fx_winding.specs.Meets.{turn}
+use Rattle.fx_winding.specs.Meets.{turn, IsMet}
 use Rattle.fx_winding.specs.Notes.{IsMetAcross}
 use Rattle.fx_winding.specs.Winding.{Span, centre, IsOn}
 use Rattle.fx_winding.proofs.Meeting.{inner_meets}
 use Rattle.fx_winding.proofs.Turning.{right_of_all, beside_turn}
 use Rattle.fx_rows.specs.declared.piece_in_band.PieceInBand.{PieceInBand}
+use Rattle.fx_rows.specs.declared.strip.Strip.{Strip}
+use Rattle.fx_rows.specs.inner.Cuts.{IsStripEnd}
 use Rattle.fx_rows.specs.inner.Heights.{height_of}
+use Rattle.fx_rows.specs.inner.Lines.{left_at, right_at, IsMetTo}
 use Rattle.fx_rows.specs.inner.Placing.{AreEndsTold, IsInBand}
 use Rattle.fx_rows.specs.inner.Points.{IsInner, AreAcross}
+use Rattle.fx_rows.specs.inner.Sides.{place_at}
 use Rattle.fx_rows.specs.inner.Told.{rise_value, IsEnd}
 use Rattle.fx_rows.proofs.Points.{to_all}
 
@@ -98,6 +103,42 @@ end_met_too s f first end r n h l w inner is off off' = record {
   off_left = off;
   off_right = off';
 }
+
+-- ---- in a strip with the columns beside the frame
+pub strip_met : (s : Span) (f : Frame) (strip : Strip) (row : ℤ) (end k : ℕ) → strip.row ≡ row → strip.base ≡ f.left -ℤ pos 1
+    → strip.stop ≡ f.width + 2 → IsInner s.a.y s.c.y (pos 128 *ℤ row +ℤ pos 64) → IsStripEnd s strip end → k ≤ f.width
+    → ¬ (IsOn (left_at f row k) s) → ¬ (IsOn (right_at f row k) s) → IsMetTo s f row k ↔ (k + 1 ≡ end)
+strip_met s f strip row end k at base stop inner is l off off' = (
+  λ met. by met (below_same_above (k + 1) end),
+  λ e. meets.1 (λ same. value_not_zero s (sym (inside (omega (arith, e))) ∙ same ∙ outside (omega (arith, e)))),
+)
+  where
+    left : place_at strip k ≡ left_at f row k
+    left = λ i. centre (base i +ℤ pos k) (at i)
+
+    right : place_at strip (k + 1) ≡ right_at f row k
+    right = let e : strip.base +ℤ pos (k + 1) ≡ f.left +ℤ pos k = omega (arith, signed_linear, base) in λ i. centre (e i) (at i)
+
+    meets : IsMet (left_at f row k) (right_at f row k) s ↔ (turn (left_at f row k) s ≢ turn (right_at f row k) s)
+    meets = inner_meets (left_at f row k) (right_at f row k) s inner
+
+    inside : k < end → turn (left_at f row k) s ≡ rise_value s
+    inside h = subst (λ (q : Place). ¬ (IsOn q s) → turn q s ≡ rise_value s) left (is.inside k (omega (arith, stop, l)) h) off
+
+    inside_too : k + 1 < end → turn (right_at f row k) s ≡ rise_value s
+    inside_too h =
+        subst (λ (q : Place). ¬ (IsOn q s) → turn q s ≡ rise_value s) right (is.inside (k + 1) (omega (arith, stop, l)) h) off'
+
+    outside : end ≤ k + 1 → turn (right_at f row k) s ≡ pos 0
+    outside h = subst (λ (q : Place). ¬ (IsOn q s) → turn q s ≡ pos 0) right (is.outside (k + 1) (omega (arith, stop, l)) h) off'
+
+    outside_too : end ≤ k → turn (left_at f row k) s ≡ pos 0
+    outside_too h = subst (λ (q : Place). ¬ (IsOn q s) → turn q s ≡ pos 0) left (is.outside k (omega (arith, stop, l)) h) off
+
+    by : IsMetTo s f row k → (k + 1 < end) ⊎ ((k + 1 ≡ end) ⊎ (end < k + 1)) → k + 1 ≡ end
+    by met (inr (inl e)) = e
+    by met (inl h) = absurd (meets.0 met (inside (omega (arith, h)) ∙ sym (inside_too h)))
+    by met (inr (inr h)) = absurd (meets.0 met (outside_too (omega (arith, h)) ∙ sym (outside (omega (arith, h)))))
 
 -- ---- the end that is told of a row between the piece's ends
 pub end_told : (ends : List ℕ) (s : Span) (p : PieceInBand) → IsInBand s p → AreEndsTold ends s p → (r : ℕ) → p.inner.first ≤ r

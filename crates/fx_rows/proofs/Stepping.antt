@@ -1,6 +1,6 @@
 -- Rows of a band that are added, and then the next one, are the rows up to that one: `band_next`.
 -- Serves the loops over a piece's rows.
-use Rattle.std.proofs.Common.{◌≡◌, ◌∙◌, ap, subst, ◌+◌, ◌*◌, ◌^◌, ◌<◌, ◌≤◌, ℕ, ℤ, pos, ◌+ℤ◌, ◌*ℤ◌, arith}
+use Rattle.std.proofs.Common.{◌≡◌, ◌∙◌, ap, subst, ◌+◌, ◌*◌, ◌^◌, ◌<◌, ◌≤◌, ℕ, ℤ, pos, ◌+ℤ◌, ◌-ℤ◌, ◌*ℤ◌, sym, arith}
 use Rattle.std.proofs.Common.{w32, to_z, of_z}
 use Rattle.fx_fixed.proofs.Linear.{signed_linear}
 use Rattle.fx_winding.specs.Limits.{IsPixelNumber}
@@ -12,7 +12,7 @@ use Rattle.fx_rows.specs.declared.bounded.Bounded.{Bounded}
 use Rattle.fx_rows.specs.declared.strip.Strip.{Strip}
 use Rattle.fx_rows.specs.declared.cells.Cut.{Cut}
 use Rattle.fx_rows.specs.inner.Points.{IsInner}
-use Rattle.fx_rows.specs.inner.Strips.{base_place, end_of}
+use Rattle.fx_rows.specs.inner.Strips.{base_place, end_of, edge_place, edge_of}
 use Rattle.fx_rows.specs.inner.Sides.{end_at, IsWhole}
 use Rattle.fx_rows.specs.inner.Inside.{IsOnInside}
 use Rattle.fx_rows.specs.inner.Cuts.{IsCut}
@@ -84,3 +84,17 @@ at_base_above P f g strip up e at whole h =
     let next : strip.row +ℤ pos 1 ≡ f.bottom +ℤ pos (up + 1) = omega (arith, signed_linear, row) in
     let last = whole_end g strip whole ∙ ap end_of e in
     subst (λ z. z) (λ i. P (centre (column i +ℤ pos 0) (next i)) (last i)) h
+
+-- the same of a strip with one column more on each side
+pub at_edge : (P : Place → ℤ → Type 0) (f : Frame) (strip : Strip) (up : ℕ) → strip.row ≡ f.bottom +ℤ pos up
+    → strip.base ≡ f.left -ℤ pos 1 → strip.stop ≡ f.width + 2 → P (edge_place f up) (edge_of f)
+    → P (centre (strip.base +ℤ pos 0) strip.row) (end_at strip)
+at_edge P f strip up row base stop h =
+    subst (λ z. z) (λ i. P (centre (sym base i +ℤ pos 0) (sym row i)) (sym base i +ℤ pos (sym stop i))) h
+
+pub at_edge_above : (P : Place → ℤ → Type 0) (f : Frame) (strip : Strip) (up : ℕ) → strip.row ≡ f.bottom +ℤ pos up
+    → strip.base ≡ f.left -ℤ pos 1 → strip.stop ≡ f.width + 2
+    → P (centre (strip.base +ℤ pos 0) (strip.row +ℤ pos 1)) (end_at strip) → P (edge_place f (up + 1)) (edge_of f)
+at_edge_above P f strip up row base stop h =
+    let next : strip.row +ℤ pos 1 ≡ f.bottom +ℤ pos (up + 1) = omega (arith, signed_linear, row) in
+    subst (λ z. z) (λ i. P (centre (base i +ℤ pos 0) (next i)) (base i +ℤ pos (stop i))) h

@@ -21,7 +21,7 @@ use Rattle.fx_rows.specs.inner.Cuts.{IsStripEnd}
 use Rattle.fx_rows.specs.declared.band.Band.{Band}
 use Rattle.fx_rows.specs.declared.heights.RowRange.{RowRange}
 use Rattle.fx_rows.specs.inner.Bands.{stride, IsRowAdded, IsBandAdded}
-use Rattle.fx_rows.specs.inner.Heights.{height_of, IsAbove, IsBelow, IsMissed, IsAtMostEnds, IsAtLeastEnds, AreAmong}
+use Rattle.fx_rows.specs.inner.Heights.{height_of, AreOutside, IsAbove, IsBelow, IsMissed, IsAtMostEnds, IsAtLeastEnds, AreAmong}
 use Rattle.fx_rows.specs.inner.Placing.{AreBetween, AreOthersMet, IsPieceAdded}
 use Rattle.fx_rows.specs.inner.Points.{IsInner, IsRise}
 use Rattle.fx_rows.specs.inner.Sides.{place_at, IsWhole}
@@ -106,6 +106,24 @@ rise_inner s foot head value y h l m = grind (arith, signed_linear, below_or_not
 pub between_of : (s : Span) (foot head value : ℤ) (f : Frame) (rows inner : RowRange) → IsRise s foot head value
     → AreAmong foot head f rows.first rows.end inner.first inner.end → AreBetween s f rows.first rows.end inner
 between_of s foot head value f rows inner rise h = grind (arith, signed_linear, rise, h, rise_inner, at_most_ends, at_least_ends)
+
+-- the rows below those between the ends, and those above them, do not pass between them; and if none does, none of all
+pub outside_below : (s : Span) (f : Frame) (from to : ℕ) (part : RowRange) → AreBetween s f from to part
+    → AreOutside s f from part.first
+outside_below s f from to part is r l m =
+    at_most_outside s.a.y s.c.y (height_of f r) (is.under r l m).0 (is.under r l m).1
+
+pub outside_above : (s : Span) (f : Frame) (from to : ℕ) (part : RowRange) → AreBetween s f from to part
+    → AreOutside s f part.end to
+outside_above s f from to part is r l m =
+    at_least_outside s.a.y s.c.y (height_of f r) (is.over r l m).0 (is.over r l m).1
+
+pub outside_all : (s : Span) (f : Frame) (from to : ℕ) (part : RowRange) → part.end ≤ part.first → AreBetween s f from to part
+    → AreOutside s f from to
+outside_all s f from to part none is r l m = elim (below_or_not r part.first) [
+  | inl o ↦ outside_below s f from to part is r l o
+  | inr o ↦ outside_above s f from to part is r (omega (arith, none, o)) m
+]
 
 -- ---- what is added and told
 pub added_start : (T : ℕ → ℕ → Type 0) (s : Span) (at : ℕ) (b : Band) → AreRowsAdded T s at at b b

@@ -1,6 +1,6 @@
 -- A value that rises evenly is, at each column, what the code's sums and products of words give: `value_held`.
 -- Serves `is_zero_at`, `moved`, and numbers that words hold.
-use Rattle.std.proofs.Common.{◌≡◌, ◌∙◌, ℕ, ◌^◌, ◌<◌, ℤ, pos, neg_ℤ, ◌+ℤ◌, ◌-ℤ◌, ◌*ℤ◌, FitsSigned, arith, w64, to_z, of_z}
+use Rattle.std.proofs.Common.{◌≡◌, ◌∙◌, ℕ, ◌^◌, ◌<◌, ℤ, pos, ◌+ℤ◌, ◌*ℤ◌, FitsSigned, arith, w64, to_z, of_z}
 use Rattle.std.specs.Int.{Width}
 use Rattle.std.proofs.lemmas.Int.{to_z-of_z}
 use Rattle.fx_fixed.proofs.Linear.{signed_linear}
@@ -11,10 +11,6 @@ use mir.Val.{hbits}
 -- a number that its word can hold, and one with the other sign
 pub kept_within : (w : Width) {n : ℕ} (z : ℤ) → IsWithin n z → n < 2 ^ hbits w → to_z w (of_z w z) ≡ z
 kept_within w z h l = omega (arith, signed_linear, h, l)
-
-pub negated_within : (w : Width) {n : ℕ} (z : ℤ) → IsWithin n z → n < 2 ^ hbits w
-    → to_z w (of_z w (pos 0 -ℤ to_z w (of_z w z))) ≡ neg_ℤ z
-negated_within w z h l = omega (arith, signed_linear, h, l)
 
 -- a number as a register holds it
 abbrev pub held : ℤ → ℤ

@@ -10,6 +10,7 @@ ghost use Rattle.fx_rows.specs.inner.Inside.{IsOnInside};
 ghost use Rattle.fx_rows.specs.inner.Cuts.{IsCut};
 ghost use Rattle.fx_rows.specs.inner.Sums.{AreWithin};
 ghost use Rattle.fx_rows.specs.inner.Bands.{stride, AreInnerRows, IsRowAdded, bounded_span};
+ghost use Rattle.fx_rows.specs.inner.Heights.{AreOutside};
 ghost use Rattle.fx_rows.specs.inner.Telling.{AreMetAdded, AreNextRows, AreRowsAdded, IsBandOf, Keeps};
 
 use crate::band::Band;
@@ -57,6 +58,7 @@ fn add_met(bounded: &Bounded, up: u32, band: &mut Band, tally: &mut Tally) -> Ro
 /// Adds what a piece gives to rows, in the general way, and notes it. Few pieces need it, so its code is kept out of the others'
 /// loops.
 #[inline(never)]
+#[tactic(auto, using(crate::proofs::Telling::met_none))]
 fn add_general_rows<N: Noting>(
     piece: &Piece,
     rows: RowRange,
@@ -64,7 +66,8 @@ fn add_general_rows<N: Noting>(
     noter: &mut N,
     tally: &mut Tally,
 )
-    requires { AreNextRows (N.Says noter.old) band.old rows.first rows.end }
+    requires next { AreNextRows (N.Says noter.old) band.old rows.first rows.end }
+    requires outside { AreOutside (span_of piece.now) band.old.frame rows.first rows.end }
     ensures met { AreMetAdded (N.IsTold noter.old) (N.IsTold noter.new) (N.Says noter.old) (N.Says noter.new) (span_of piece.now)
         rows.first rows.end band.old band.new }
     ensures count { tally.new.count ≤ tally.old.count + (rows.end - rows.first) * (10 + N.general) }
@@ -86,7 +89,8 @@ fn add_met_rows<N: Noting>(
     noter: &mut N,
     tally: &mut Tally,
 )
-    requires { AreNextRows (N.Says noter.old) band.old rows.first rows.end }
+    requires next { AreNextRows (N.Says noter.old) band.old rows.first rows.end }
+    requires outside { AreOutside (span_of piece.now) band.old.frame rows.first rows.end }
     ensures met { AreMetAdded (N.IsTold noter.old) (N.IsTold noter.new) (N.Says noter.old) (N.Says noter.new) (span_of piece.now)
         rows.first rows.end band.old band.new }
     ensures count { tally.new.count ≤ tally.old.count + (rows.end - rows.first) * (10 + N.general) }

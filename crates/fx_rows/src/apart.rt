@@ -12,7 +12,7 @@ use fx_winding::{Frame, Piece};
 /// Whether a frame has some columns.
 #[inline(always)]
 #[tactic(auto, using(fx_fixed::proofs::Linear::signed_linear))]
-pub(crate) fn has_columns(frame: Frame, across: Across) -> bool
+fn has_columns(frame: Frame, across: Across) -> bool
     ensures has { IsTrue result → HasColumns frame across }
     ensures lacks { result ≡ false → ¬ (HasColumns frame across) }
 {

@@ -34,6 +34,7 @@ pub(crate) struct Bounded {
 }
 
 /// The heights of the ends of a piece's chord, and which way it goes.
+#[tactic(auto, using(fx_fixed::proofs::Linear::signed_linear))]
 pub(crate) fn rise_of(piece: &Piece) -> Rise
     ensures { IsRise (span_of piece.now) result.foot result.head result.value }
 {

@@ -1,7 +1,7 @@
 //! Arcs that bulge: the box of one is larger than that of its chord. What they meet up to rows is noted column by column, as rows
 //! of the arc with its coordinates exchanged.
 
-ghost use Rattle.std.specs.Prelude.{◌≡◌, ◌⊎◌, ℕ, ◌+◌, ◌*◌, ◌^◌, ◌-◌, ◌<◌, ◌≤◌, length, ◌↔◌, IsTrue};
+ghost use Rattle.std.specs.Prelude.{◌≡◌, ◌⊎◌, ℕ, ◌+◌, ◌*◌, ◌^◌, ◌-◌, ◌<◌, ◌≤◌, length, ◌↔◌, IsTrue, pos, ◌+ℤ◌, ◌*ℤ◌};
 ghost use Rattle.fx_fixed.specs.Ranges.{IsWithin};
 ghost use Rattle.fx_rows.specs.Parts.{IsRowPart};
 ghost use Rattle.fx_rows.specs.inner.Bulging.{HasLine, IsLineTo, IsLineFrom, IsBeyond, IsBulge};
@@ -11,22 +11,21 @@ ghost use Rattle.fx_winding.specs.Notes.{IsNotedAcross, IsNotedUp};
 ghost use Rattle.fx_winding.specs.Bitmaps.{words_for as words_for_of};
 ghost use Rattle.fx_winding.specs.Winding.{span_of};
 ghost use Rattle.fx_rows.specs.inner.Bands.{bounded_span, AreInner};
-ghost use Rattle.fx_rows.specs.inner.Strips.{base_place, end_of};
-ghost use Rattle.fx_rows.specs.inner.Lines.{GainOnly, HaveRoom, IsAcrossBit, IsLineBit, IsRowSet, NotesRows};
-ghost use Rattle.fx_rows.specs.inner.Lines.{IsUpBit};
-ghost use Rattle.fx_rows.specs.inner.Points.{HasColumns};
+ghost use Rattle.fx_rows.specs.inner.Strips.{edge_place, edge_of};
+ghost use Rattle.fx_rows.specs.inner.Heights.{AreOutside};
+ghost use Rattle.fx_rows.specs.inner.Lines.{GainOnly, HaveRoom, IsAcrossBit, IsUpBit, NotesAt, NotesRows};
+ghost use Rattle.fx_rows.specs.inner.Points.{IsInner};
 ghost use Rattle.fx_rows.specs.inner.Telling.{with_first};
 
-use crate::apart::has_columns;
 use crate::bounded::{Bounded, bounds_of, rise_of};
 use crate::chord::base_side;
 use crate::cuts::{Cuts, LineCuts};
 use crate::heights::{RowRange, rows_between, rows_met};
 use crate::intervals::met_part;
-use crate::noted_row::{note_end, note_first, note_last, note_run, note_tip, set_segment};
+use crate::noted_row::{note_edge, note_end, note_run, note_tip, set_cut};
 use crate::noted_rows::{NotedRow, NotedRows};
-use crate::part::{RowPart, Run};
-use crate::strip::{areas_at, row_of, strip_of};
+use crate::part::RowPart;
+use crate::strip::areas_at;
 use crate::walk::arc_in;
 use fx_winding::{Frame, Piece, Point, Tally, first_from, words_for};
 
@@ -103,7 +102,7 @@ pub(crate) fn is_bulge(piece: &Piece) -> bool
     }
 }
 
-/// Notes the segments of a row that a piece meets, by what it adds to the row.
+/// Notes the segments of a row that a piece meets, by what it adds to the row, between whose ends that is not.
 pub(crate) fn note_part(
     bounded: &Bounded,
     part: &RowPart,
@@ -112,23 +111,21 @@ pub(crate) fn note_part(
     tally: &mut Tally,
 )
     requires part { IsRowPart (bounded_span bounded.now) line.now.row line.now.frame part.now }
+    requires outside { ¬ (IsInner bounded.now.piece.a.y bounded.now.piece.c.y (pos 128 *ℤ line.now.row +ℤ pos 64)) }
     requires room { line.now.first + line.now.frame.width * line.now.step < 32 * length bits.old }
-    ensures noted { IsRowSet (bounded_span bounded.now) line.now.frame line.now.row line.now.first line.now.step bits.new }
-    ensures gained { GainOnly (IsLineBit (bounded_span bounded.now) line.now.frame line.now.row line.now.first line.now.step)
-        bits.old bits.new }
-    ensures count { tally.new.count ≤ tally.old.count + 15 }
+    ensures notes { NotesAt (bounded_span bounded.now) line.now (λ _. Unit {0}) bits.old bits.new }
+    ensures count { tally.new.count ≤ tally.old.count + 16 }
 {
     let piece = &bounded.piece;
-    note_run(part, line, part.crossing, bits);
-    note_run(part, line, part.region, bits);
+    note_run(part, line, bits);
     note_end(line, piece.a, bits);
     note_end(line, piece.c, bits);
     note_tip(piece, bounded.rise, part, line, bits, tally);
-    note_first(piece, bounded.across, line, bits, tally);
-    note_last(piece, bounded.across, line, bits, tally);
+    note_edge(piece, bounded.across, line, 0, bits, tally);
+    note_edge(piece, bounded.across, line, line.frame.width, bits, tally);
 }
 
-/// Notes the segments of some rows that a piece meets.
+/// Notes the segments of some rows that a piece meets, between whose ends they are not.
 fn note_met_lines(
     bounded: &Bounded,
     rows: RowRange,
@@ -137,9 +134,10 @@ fn note_met_lines(
     tally: &mut Tally,
 )
     requires rows { rows.end ≤ lines.frame.height }
+    requires outside { AreOutside (bounded_span bounded.now) lines.frame rows.first rows.end }
     requires room { HaveRoom lines bits.old }
     ensures notes { NotesRows (bounded_span bounded.now) lines rows.first rows.end bits.old bits.new }
-    ensures count { tally.new.count ≤ tally.old.count + 25 * (rows.end - rows.first) }
+    ensures count { tally.new.count ≤ tally.old.count + 26 * (rows.end - rows.first) }
 {
     // The segments of the rows before `up` are noted.
     'rows: for up in rows.first..rows.end {
@@ -159,8 +157,7 @@ fn note_cuts<C: Cuts + Drop>(
     bits: &mut [u32],
 )
     requires inner { AreInner bounded.now lines.frame rows.first rows.end }
-    requires at { C.AreAt cuts bounded.now (base_place lines.frame rows.first) (end_of lines.frame) }
-    requires columns { HasColumns lines.frame bounded.now.across }
+    requires at { C.AreAt cuts bounded.now (edge_place lines.frame rows.first) (edge_of lines.frame) }
     requires room { HaveRoom lines bits.old }
     ensures { NotesRows (bounded_span bounded.now) lines rows.first rows.end bits.old bits.new }
 {
@@ -168,9 +165,8 @@ fn note_cuts<C: Cuts + Drop>(
     // The segments of the rows before `up` are noted, and the cuts stand at this row.
     'rows: for up in rows.first..rows.end {
         let line = lines.row(up);
-        let strip = strip_of(lines.frame, line.row);
-        let end = cuts.end(bounded, strip);
-        set_segment(&line, end, bits);
+        let strip = line.strip();
+        set_cut(&line, cuts.end(bounded, strip), bits);
         cuts.move_up(bounded, strip);
     }
 }
@@ -184,7 +180,6 @@ fn note_passed_lines(
     tally: &mut Tally,
 )
     requires inner { AreInner bounded.now lines.frame rows.first rows.end }
-    requires columns { HasColumns lines.frame bounded.now.across }
     requires room { HaveRoom lines bits.old }
     ensures notes { NotesRows (bounded_span bounded.now) lines rows.first rows.end bits.old bits.new }
     ensures count { tally.new.count ≤ tally.old.count + 3 * (rows.end - rows.first) }
@@ -193,7 +188,7 @@ fn note_passed_lines(
         return;
     }
     let piece = &bounded.piece;
-    let strip = strip_of(lines.frame, row_of(lines.frame, rows.first));
+    let strip = lines.row(rows.first).strip();
     if let Some(cuts) = arc_in(piece, strip, tally) {
         note_cuts(bounded, cuts, rows, lines, bits);
         return;
@@ -208,13 +203,9 @@ fn note_passed_lines(
 fn note_lines(bounded: &Bounded, lines: NotedRows, bits: &mut [u32], tally: &mut Tally)
     requires { HaveRoom lines bits.old }
     ensures notes { NotesRows (bounded_span bounded.now) lines 0 lines.frame.height bits.old bits.new }
-    ensures count { tally.new.count ≤ tally.old.count + 25 * lines.frame.height }
+    ensures count { tally.new.count ≤ tally.old.count + 26 * lines.frame.height }
 {
     let rows = rows_met(&bounded.piece, lines.frame);
-    if !has_columns(lines.frame, bounded.across) {
-        note_met_lines(bounded, rows, lines, bits, tally);
-        return;
-    }
     let inner = rows_between(bounded.rise, lines.frame, rows);
     let below = RowRange {
         first: rows.first,
@@ -242,7 +233,7 @@ pub(crate) fn note_all_across(
     requires room { length across.old ≡ frame.height * words_for_of frame.width }
     ensures noted { rows.first ≡ 0 → (r : ℕ) → r < frame.height → IsNotedAcross (span_of piece.now) frame across.new r }
     ensures gained { GainOnly (IsAcrossBit (span_of piece.now) frame) across.old across.new }
-    ensures count { tally.new.count ≤ tally.old.count + with_first rows.first (25 * frame.height) }
+    ensures count { tally.new.count ≤ tally.old.count + with_first rows.first (26 * frame.height) }
 {
     if rows.first > 0 {
         return;
@@ -270,7 +261,7 @@ pub(crate) fn note_all_up(
     requires room { length up.old ≡ (frame.height + 1) * words_for_of frame.width }
     ensures noted { rows.first ≡ 0 → (r : ℕ) → r ≤ frame.height → IsNotedUp (span_of piece.now) frame up.new r }
     ensures gained { GainOnly (IsUpBit (span_of piece.now) frame) up.old up.new }
-    ensures count { tally.new.count ≤ tally.old.count + with_first rows.first (25 * frame.width) }
+    ensures count { tally.new.count ≤ tally.old.count + with_first rows.first (26 * frame.width) }
 {
     if rows.first > 0 {
         return;

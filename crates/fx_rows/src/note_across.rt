@@ -3,27 +3,14 @@
 //! In a row between its ends a piece meets one segment, that which goes to the column where its columns end, and its bit is set.
 //! The few other rows that it can touch are noted when it is added to them.
 
-ghost use Rattle.std.specs.Prelude.{◌≡◌, ◌+◌, ◌-◌, ◌*◌, ◌^◌, ◌≤◌, length, ◌<ℤ◌, ◌≤ℤ◌};
-ghost use Rattle.fx_fixed.specs.Ranges.{IsWithin};
+ghost use Rattle.std.specs.Prelude.{◌≡◌, ◌+◌, ◌-◌, ◌*◌, ◌≤◌, length};
 ghost use Rattle.fx_winding.specs.Bitmaps.{words_for as words_for_of};
 ghost use Rattle.fx_winding.specs.Winding.{span_of};
 ghost use Rattle.fx_rows.specs.inner.Lines.{NotesAcross};
 ghost use Rattle.fx_rows.specs.inner.Placing.{AreEndsTold, AreOthersNoted, IsInBand};
-ghost use Rattle.fx_rows.specs.inner.Runs.{IsSplit};
-ghost use Rattle.fx_rows.specs.inner.Upward.{column_of};
 
 use crate::piece_in_band::{PieceInBand, first_of};
-use crate::reach::columns_under;
-use fx_winding::{Frame, Piece, first_from, set_bit};
-
-/// The first column of a frame whose centres do not lie left of x, or the number of columns.
-#[inline(always)]
-pub(crate) fn column_from(frame: Frame, x: i32) -> u32
-    requires { IsWithin (2 ^ 30) x }
-    ensures { IsSplit (λ k. column_of frame k <ℤ x) (λ k. x ≤ℤ column_of frame k) frame.width result }
-{
-    columns_under(frame, first_from(x))
-}
+use fx_winding::{Piece, set_bit};
 
 /// Notes the segments that a piece meets across a band's rows: one in each row between its ends, whose column `ends` has. The other
 /// rows that it can touch are noted.

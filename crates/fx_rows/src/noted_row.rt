@@ -1,28 +1,27 @@
 //! The segments of one row, or of one column seen as a row, noted one by one.
 
-ghost use Rattle.std.specs.Prelude.{◌≡◌, ◌⊎◌, ℕ, ℤ, ◌+◌, ◌*◌, ◌^◌, ◌/◌, ◌<◌, ◌≤◌, length, pos, ◌+ℤ◌, ◌<ℤ◌, ◌↔◌, ◌≢◌, IsTrue};
-ghost use Rattle.fx_fixed.specs.Ranges.{IsWithin};
+ghost use Rattle.std.specs.Prelude.{◌≡◌, ◌⊎◌, ℕ, ◌+◌, ◌*◌, ◌^◌, ◌<◌, ◌≤◌, length, pos, ◌+ℤ◌, ◌*ℤ◌, ◌↔◌, IsTrue};
 ghost use Rattle.fx_winding.specs.Winding.{Span, place_of, span_of};
 ghost use Rattle.fx_rows.specs.Parts.{IsRowPart};
-ghost use Rattle.fx_rows.specs.inner.Points.{AreAcross, IsRise};
-ghost use Rattle.fx_rows.specs.inner.Lines.{AreOnly, HasEnd, HasTip, IsAfterFirst, IsChange, IsLineBit};
-ghost use Rattle.fx_rows.specs.inner.Lines.{IsMetTo, IsMetToUnlessOn, IsSetTo, IsTurnEnd, NotesAt};
+ghost use Rattle.fx_rows.specs.inner.Points.{AreAcross, IsInner, IsRise};
+ghost use Rattle.fx_rows.specs.inner.Lines.{AreOnly, HasEnd, HasTip, IsAfterFirst, IsLineBit, IsMetTo, IsMetToUnlessOn, IsRunEnd};
+ghost use Rattle.fx_rows.specs.inner.Lines.{IsSetTo, NotesAt};
 ghost use Rattle.fx_rows.specs.inner.Sums.{IsInside};
 ghost use Rattle.fx_rows.specs.inner.Told.{AreKept};
 
 use crate::across::Across;
 use crate::bounded::Rise;
-use crate::note_across::column_from;
+use crate::narrow::columns_before;
 use crate::noted_rows::NotedRow;
 use crate::part::{RowPart, Run};
-use crate::reach::columns_under;
+use crate::reach::columns_to;
 use crate::strip::strip_of;
 use crate::tip::tip_column;
-use crate::turns::{is_among, run_at, turn_in};
-use fx_winding::{Frame, Piece, Point, Tally, centre_of, meets, set_bit};
+use crate::turns::{is_among, run_at};
+use fx_winding::{Piece, Point, Tally, centre_of, first_from, meets, set_bit};
 
 /// Sets the bit of the segment to a column.
-pub(crate) fn set_segment(line: &NotedRow, k: u32, bits: &mut [u32])
+fn set_segment(line: &NotedRow, k: u32, bits: &mut [u32])
     requires column { k ≤ line.now.frame.width }
     requires room { line.now.first + line.now.frame.width * line.now.step < 32 * length bits.old }
     ensures set { (s : Span) → IsSetTo s line.now.frame line.now.row line.now.first line.now.step bits.new k }
@@ -31,20 +30,6 @@ pub(crate) fn set_segment(line: &NotedRow, k: u32, bits: &mut [u32])
         AreOnly (IsLineBit s line.now.frame line.now.row line.now.first line.now.step) bits.old bits.new }
 {
     set_bit(bits, line.first + k as usize * line.step);
-}
-
-/// Whether a piece adds different numbers at the ends of the segment to a column within the frame, by what it adds to the row.
-fn changes_at(part: &RowPart, line: &NotedRow, k: u32) -> bool
-    requires from { 0 < k }
-    requires to { k < line.now.frame.width }
-    ensures { (s : Span) → IsRowPart s line.now.row line.now.frame part.now →
-        IsTrue result ↔ IsChange s line.now.frame line.now.row k }
-{
-    let right = line.frame.left + k as i32;
-    if turn_in(part, right - 1) == turn_in(part, right) {
-        return false;
-    }
-    true
 }
 
 /// Whether a piece meets the segment to a column, by tests of its ends.
@@ -62,33 +47,21 @@ fn test_segment(piece: &Piece, line: &NotedRow, k: u32, tally: &mut Tally) -> bo
     )
 }
 
-/// Notes the segment to a column of the plane, if the column is within the frame and a piece adds different numbers at its ends.
-fn note_column(part: &RowPart, line: &NotedRow, col: i32, bits: &mut [u32])
-    requires near { IsWithin (2 ^ 16) col }
-    requires room { line.now.first + line.now.frame.width * line.now.step < 32 * length bits.old }
-    ensures { (s : Span) → IsRowPart s line.now.row line.now.frame part.now →
-        NotesAt s line.now (IsAfterFirst line.now
-        (λ k. (line.now.frame.left +ℤ pos k ≡ col) × IsChange s line.now.frame line.now.row k)) bits.old bits.new }
+/// Whether the segment before a column of the row's strip is one of the row's.
+fn has_segment(line: &NotedRow, end: u32) -> bool
+    ensures { IsTrue result ↔ ((0 < end) × (end ≤ line.now.frame.width + 1)) }
 {
-    let k = columns_under(line.frame, col);
-    if k == 0 || line.frame.width <= k {
-        return;
-    }
-    if changes_at(part, line, k) {
-        set_segment(line, k, bits);
-    }
+    0 < end && end <= line.frame.width + 1
 }
 
-/// Notes the segments at the ends of a run of columns at whose ends a piece adds different numbers.
-pub(crate) fn note_run(part: &RowPart, line: &NotedRow, run: Option<Run>, bits: &mut [u32])
-    requires inside { IsInside line.now.frame run }
+/// Notes the segment before a column of the row's strip, if it is one of the row's.
+pub(crate) fn set_cut(line: &NotedRow, end: u32, bits: &mut [u32])
     requires room { line.now.first + line.now.frame.width * line.now.step < 32 * length bits.old }
-    ensures { (s : Span) → IsRowPart s line.now.row line.now.frame part.now →
-        NotesAt s line.now (IsAfterFirst line.now (IsTurnEnd s line.now.frame line.now.row run)) bits.old bits.new }
+    ensures { (s : Span) → ((k : ℕ) → k ≤ line.now.frame.width → k + 1 ≡ end → IsMetToUnlessOn s line.now.frame line.now.row k) →
+        NotesAt s line.now (λ k. k + 1 ≡ end) bits.old bits.new }
 {
-    if let Some(run) = run {
-        note_column(part, line, run.first, bits);
-        note_column(part, line, run.last + 1, bits);
+    if has_segment(line, end) {
+        set_segment(line, end - 1, bits);
     }
 }
 
@@ -96,16 +69,38 @@ pub(crate) fn note_run(part: &RowPart, line: &NotedRow, run: Option<Run>, bits: 
 pub(crate) fn note_end(line: &NotedRow, e: Point, bits: &mut [u32])
     requires room { line.now.first + line.now.frame.width * line.now.step < 32 * length bits.old }
     ensures { (s : Span) → (place_of e ≡ s.a) ⊎ (place_of e ≡ s.c) →
-        NotesAt s line.now (IsAfterFirst line.now (HasEnd (place_of e) line.now)) bits.old bits.new }
+        NotesAt s line.now (HasEnd (place_of e) line.now) bits.old bits.new }
 {
     if e.y != 128 * line.row + 64 {
         return;
     }
-    let k = column_from(line.frame, e.x);
-    if k == 0 || line.frame.width <= k {
-        return;
+    set_cut(line, columns_before(line.strip(), first_from(e.x)), bits);
+}
+
+/// Notes the segment to a column, if it is within the frame.
+fn note_column(line: &NotedRow, k: u32, bits: &mut [u32])
+    requires room { line.now.first + line.now.frame.width * line.now.step < 32 * length bits.old }
+    ensures { (s : Span) → (0 < k → k < line.now.frame.width → IsMetToUnlessOn s line.now.frame line.now.row k) →
+        NotesAt s line.now (IsAfterFirst line.now (λ j. j ≡ k)) bits.old bits.new }
+{
+    if 0 < k && k < line.frame.width {
+        set_segment(line, k, bits);
     }
-    set_segment(line, k, bits);
+}
+
+/// Notes the segments at the ends of the run of columns in a piece's region, if they are within the frame. The row is not between
+/// the piece's ends, so it meets them.
+pub(crate) fn note_run(part: &RowPart, line: &NotedRow, bits: &mut [u32])
+    requires room { line.now.first + line.now.frame.width * line.now.step < 32 * length bits.old }
+    requires inside { IsInside line.now.frame part.now.region }
+    ensures { (s : Span) → IsRowPart s line.now.row line.now.frame part.now →
+        ¬ (IsInner s.a.y s.c.y (pos 128 *ℤ line.now.row +ℤ pos 64)) →
+        NotesAt s line.now (IsAfterFirst line.now (IsRunEnd line.now.frame part.now.region)) bits.old bits.new }
+{
+    if let Some(run) = part.region {
+        note_column(line, columns_to(line.frame, run.first), bits);
+        note_column(line, columns_to(line.frame, run.last + 1), bits);
+    }
 }
 
 /// Notes the segment to a column, if a piece meets it, by tests of its ends.
@@ -159,52 +154,36 @@ pub(crate) fn note_tip(
     requires room { line.now.first + line.now.frame.width * line.now.step < 32 * length bits.old }
     ensures notes { NotesAt (span_of piece.now) line.now (IsAfterFirst line.now (HasTip (span_of piece.now) line.now))
         bits.old bits.new }
-    ensures count { tally.new.count ≤ tally.old.count + 5 }
+    ensures count { tally.new.count ≤ tally.old.count + 6 }
 {
     if is_among(rise, line.row) {
         return;
     }
     if let Some(b) = piece.b {
         let strip = strip_of(line.frame, line.row);
-        let end = tip_column(piece, b, strip);
+        let end = tip_column(piece, b, strip, tally);
         note_outside(piece, part, line, end, bits, tally);
     }
 }
 
-/// Notes the segment that leads into the frame, if a piece meets it. The columns of its box must come that far.
-pub(crate) fn note_first(
+/// Notes the segment that leads into the frame, or the one that leads out of it, if a piece meets it. The columns of its box must
+/// come that far.
+pub(crate) fn note_edge(
     piece: &Piece,
     across: Across,
     line: &NotedRow,
+    k: u32,
     bits: &mut [u32],
     tally: &mut Tally,
 )
+    requires column { k ≤ line.now.frame.width }
     requires room { line.now.first + line.now.frame.width * line.now.step < 32 * length bits.old }
     requires across { AreAcross (span_of piece.now) across.first across.end }
-    ensures notes { NotesAt (span_of piece.now) line.now (λ k. k ≡ 0) bits.old bits.new }
+    ensures notes { NotesAt (span_of piece.now) line.now (λ j. j ≡ k) bits.old bits.new }
     ensures count { tally.new.count ≤ tally.old.count + 5 }
 {
-    if line.frame.left < across.first {
-        return;
+    let right = line.frame.left + k as i32;
+    if across.first <= right && right <= across.end {
+        note_tested(piece, line, k, bits, tally);
     }
-    note_tested(piece, line, 0, bits, tally);
-}
-
-/// Notes the segment that leads out of the frame, if a piece meets it. The columns of its box must come that far.
-pub(crate) fn note_last(
-    piece: &Piece,
-    across: Across,
-    line: &NotedRow,
-    bits: &mut [u32],
-    tally: &mut Tally,
-)
-    requires room { line.now.first + line.now.frame.width * line.now.step < 32 * length bits.old }
-    requires across { AreAcross (span_of piece.now) across.first across.end }
-    ensures notes { NotesAt (span_of piece.now) line.now (λ k. k ≡ line.now.frame.width) bits.old bits.new }
-    ensures count { tally.new.count ≤ tally.old.count + 5 }
-{
-    if across.end < line.frame.left + line.frame.width as i32 {
-        return;
-    }
-    note_tested(piece, line, line.frame.width, bits, tally);
 }

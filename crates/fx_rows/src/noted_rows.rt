@@ -1,10 +1,10 @@
 //! Where the segments of rows, or of columns seen as rows, have their bits.
 
-ghost use Rattle.std.specs.Prelude.{◌≡◌, ◌*◌, ◌^◌, ◌<◌, ◌≤◌, pos, ◌+ℤ◌};
+ghost use Rattle.std.specs.Prelude.{◌≡◌, ◌+◌, ◌*◌, ◌^◌, ◌<◌, ◌≤◌, pos, ◌+ℤ◌, ◌-ℤ◌};
 ghost use Rattle.fx_winding.specs.Frames.{HasMargin};
 ghost use Rattle.fx_winding.specs.Limits.{IsPixelNumber};
 
-use crate::strip::row_of;
+use crate::strip::{Strip, row_of};
 use fx_winding::Frame;
 
 /// A row of a frame, and where its segments have their bits: that to the frame's first column at `first`, and each further one
@@ -31,6 +31,23 @@ pub(crate) struct NotedRows {
     ghost margin: { HasMargin frame },
     ghost low: { row_step ≤ 2 ^ 16 },
     ghost few: { step ≤ 2 ^ 16 },
+}
+
+impl NotedRow {
+    /// The columns of the row, with the one on each side of the frame. The segment to a column of the frame comes before the column
+    /// that is one further from this base.
+    #[tactic(auto, using(fx_fixed::proofs::Linear::signed_linear))]
+    pub(crate) fn strip(&self) -> Strip
+        ensures row { result.row ≡ self.now.row }
+        ensures base { result.base ≡ self.now.frame.left -ℤ pos 1 }
+        ensures stop { result.stop ≡ self.now.frame.width + 2 }
+    {
+        Strip {
+            row: self.row,
+            base: self.frame.left - 1,
+            stop: self.frame.width + 2,
+        }
+    }
 }
 
 impl NotedRows {

@@ -94,6 +94,7 @@ impl Noting for Noter {
         note_part(bounded, part, &line, &mut self.notes.across, tally);
     }
 
+    #[tactic(auto, using(std::proofs::lemmas::List::with_items_is))]
     #[inline(always)]
     fn note(
         &mut self,

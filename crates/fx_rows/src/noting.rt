@@ -13,6 +13,8 @@ pub(crate) trait Noting {
     ghost use Rattle.fx_rows.specs.inner.Placing.{IsDue};
     ghost use Rattle.fx_rows.specs.Parts.{IsRowPart};
     ghost use Rattle.fx_rows.specs.inner.Bands.{bounded_span};
+    ghost use Rattle.fx_rows.specs.inner.Heights.{height_of};
+    ghost use Rattle.fx_rows.specs.inner.Points.{IsInner};
     ghost use Rattle.fx_rows.specs.inner.Telling.{AreRowsNoted, IsBandOf, Keeps, KeepsFor, Saying, met_in, with_first};
 
     // How many tests the notes of a row take that is added in the general way, how many those of any row take besides, and how
@@ -34,7 +36,7 @@ pub(crate) trait Noting {
         ensures told { IsTold self.new up end }
         ensures others { (r n : ℕ) → r ≢ up → IsTold self.old r n → IsTold self.new r n };
 
-    /// Notes the segments that a piece meets across a row of a band, by what it adds to that.
+    /// Notes the segments that a piece meets across a row of a band, between whose ends that is not, by what it adds to it.
     fn note_row(
         &mut self,
         bounded: &Bounded,
@@ -46,6 +48,7 @@ pub(crate) trait Noting {
         requires of { IsBandOf (Says self.old) band }
         requires up { up < band.height }
         requires part { IsRowPart (bounded_span bounded.now) (band.bottom +ℤ pos up) band part.now }
+        requires outside { ¬ (IsInner bounded.now.piece.a.y bounded.now.piece.c.y (height_of band up)) }
         ensures kept { KeepsFor (bounded_span bounded.now) (Says self.old) (Says self.new) }
         ensures told { (r n : ℕ) → IsTold self.old r n → IsTold self.new r n }
         ensures noted { Says self.new (met_in (bounded_span bounded.now) (band.bottom +ℤ pos up)) }

@@ -1,8 +1,6 @@
 //! Columns of a frame.
 
-ghost use Rattle.std.specs.Prelude.{◌≡◌, ℕ, ◌^◌, ◌<◌, ◌≤◌, pos, ◌+ℤ◌, ◌≤ℤ◌, ◌<ℤ◌};
-ghost use Rattle.fx_fixed.specs.Ranges.{IsWithin};
-ghost use Rattle.fx_rows.specs.inner.Runs.{IsSplit};
+ghost use Rattle.std.specs.Prelude.{◌≡◌, ◌≤◌, pos, ◌+ℤ◌, ◌≤ℤ◌};
 
 use fx_winding::Frame;
 
@@ -11,22 +9,6 @@ use fx_winding::Frame;
 pub(crate) struct Reach {
     pub first: u32,
     pub end: u32,
-}
-
-/// How many columns of a frame are before a column of the plane.
-pub(crate) fn columns_under(frame: Frame, col: i32) -> u32
-    requires { IsWithin (2 ^ 23) col }
-    ensures { IsSplit (λ k. (frame.left +ℤ pos k) <ℤ col) (λ k. col ≤ℤ (frame.left +ℤ pos k)) frame.width result }
-{
-    if col <= frame.left {
-        return 0;
-    }
-    let count = (col - frame.left) as u32;
-    if count < frame.width {
-        count
-    } else {
-        frame.width
-    }
 }
 
 /// How many columns of a frame are before a column, which is one of the frame or the one after its last.

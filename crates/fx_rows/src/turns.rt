@@ -1,11 +1,11 @@
-//! What a piece adds to the winding number at the columns of a row, as what it adds to the row tells it.
+//! The value of a run at a column, and rows that are not beyond both ends of a piece.
 
 ghost use Rattle.std.specs.Prelude.{◌≡◌, pos, ◌+ℤ◌, ◌*ℤ◌, ◌≤ℤ◌, IsTrue};
 ghost use Rattle.fx_winding.specs.Limits.{IsPixelNumber};
 ghost use Rattle.fx_rows.specs.inner.Sums.{value_at};
 
 use crate::bounded::Rise;
-use crate::part::{RowPart, Run};
+use crate::part::Run;
 
 /// The value of a run at a column.
 pub(crate) fn run_at(run: Option<Run>, col: i32) -> i32
@@ -21,13 +21,6 @@ pub(crate) fn run_at(run: Option<Run>, col: i32) -> i32
             }
         }
     }
-}
-
-/// What a piece adds at a column.
-pub(crate) fn turn_in(part: &RowPart, col: i32) -> i64
-    ensures { result ≡ value_at part.now.crossing col +ℤ value_at part.now.region col }
-{
-    i64::from(run_at(part.crossing, col)) + i64::from(run_at(part.region, col))
 }
 
 /// Whether the centres of a row are between the ends of a chord, or at the height of one.

@@ -1,9 +1,10 @@
 -- The heights of rows, and pieces that rows miss.
-use Rattle.std.specs.Prelude.{◌⊎◌, ℕ, ◌^◌, ℤ, pos, ◌+ℤ◌, ◌*ℤ◌, ◌≤ℤ◌, ◌<ℤ◌, IsSomeAnd}
+use Rattle.std.specs.Prelude.{◌⊎◌, ℕ, ◌^◌, ◌≤◌, ◌<◌, ℤ, pos, ◌+ℤ◌, ◌*ℤ◌, ◌≤ℤ◌, ◌<ℤ◌, IsSomeAnd}
 use Rattle.fx_fixed.specs.Ranges.{IsWithin}
 use Rattle.fx_winding.specs.Outside.{HasAll}
 use Rattle.fx_winding.specs.Winding.{Span, IsBeforeTurn}
 use Rattle.fx_winding.specs.declared.frame.Frame.{Frame}
+use Rattle.fx_rows.specs.inner.Points.{IsInner}
 use Rattle.fx_rows.specs.inner.Runs.{IsSplitFrom}
 
 -- the control values of a quadratic are near
@@ -13,6 +14,10 @@ AreNear a b c = IsWithin (2 ^ 30) a × IsWithin (2 ^ 30) b × IsWithin (2 ^ 30) 
 -- the height of the centres of a frame's row, counted from the lowest
 abbrev pub height_of : Frame → ℕ → ℤ
 height_of f r = pos 128 *ℤ (f.bottom +ℤ pos r) +ℤ pos 64
+
+-- the rows of a frame from one to before another do not pass between the ends of a piece
+abbrev pub AreOutside : Span → Frame → ℕ → ℕ → Type 0
+AreOutside s f from to = (r : ℕ) → from ≤ r → r < to → ¬ (IsInner s.a.y s.c.y (height_of f r))
 
 -- a piece is an arc that turns before it comes to this height from its ends
 abbrev pub IsPastTurn : Span → ℤ → Type 0

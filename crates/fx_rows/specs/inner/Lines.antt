@@ -1,8 +1,8 @@
 -- The segments of a row, or of a column seen as a row, that a piece meets, and the bits that they have.
-use Rattle.std.specs.Prelude.{◌≡◌, ◌≢◌, ◌⊎◌, ℕ, ◌+◌, ◌*◌, ◌<◌, ◌≤◌, ℤ, pos, ◌+ℤ◌, ◌-ℤ◌, List, Option, Some, None, length}
+use Rattle.std.specs.Prelude.{◌≡◌, ◌⊎◌, ℕ, ◌+◌, ◌*◌, ◌<◌, ◌≤◌, ℤ, pos, ◌+ℤ◌, ◌-ℤ◌, List, Option, Some, None, length}
 use Rattle.fx_winding.specs.Area.{Place}
 use Rattle.fx_winding.specs.Bitmaps.{words_for, word_bit}
-use Rattle.fx_winding.specs.Meets.{turn, IsMet, IsTipPart, IsWithinRow}
+use Rattle.fx_winding.specs.Meets.{IsMet, IsTipPart, IsWithinRow}
 use Rattle.fx_winding.specs.Notes.{pixel_number, IsMetAcross, IsMetUp, IsNotedAcross, IsNotedUp}
 use Rattle.fx_winding.specs.Winding.{Span, IsOn, centre}
 use Rattle.fx_winding.specs.declared.frame.Frame.{Frame}
@@ -22,10 +22,6 @@ right_at f row k = centre (f.left +ℤ pos k) row
 abbrev pub IsMetTo : Span → Frame → ℤ → ℕ → Type 0
 IsMetTo s f row k = IsMet (left_at f row k) (right_at f row k) s
 
--- it adds different numbers at its ends
-abbrev pub IsChange : Span → Frame → ℤ → ℕ → Type 0
-IsChange s f row k = turn (left_at f row k) s ≢ turn (right_at f row k) s
-
 -- a piece meets it, unless an end of it is on the piece
 abbrev pub IsMetToUnlessOn : Span → Frame → ℤ → ℕ → Type 0
 IsMetToUnlessOn s f row k = ¬ (IsOn (left_at f row k) s) → ¬ (IsOn (right_at f row k) s) → IsMetTo s f row k
@@ -35,19 +31,12 @@ abbrev pub IsRunEnd : Frame → Option Run → ℕ → Type 0
 IsRunEnd f None k = ⊥
 IsRunEnd f (Some r) k = (f.left +ℤ pos k ≡ r.first) ⊎ (f.left +ℤ pos k ≡ r.last +ℤ pos 1)
 
--- it is one of them, and the piece adds different numbers at the ends of its segment
-abbrev pub IsTurnEnd : Span → Frame → ℤ → Option Run → ℕ → Type 0
-IsTurnEnd s f row run k = IsRunEnd f run k × IsChange s f row k
-
--- the segment to a column within the frame, if the piece meets it, has its bit: the one that is k steps from first
+-- the segment to a column, if the piece meets it and no end of it is on the piece, has its bit: the one that is k steps from first
 abbrev pub IsSetTo : Span → Frame → ℤ → ℕ → ℕ → List ℕ → ℕ → Type 0
-IsSetTo s f row first step bits k = IsMetTo s f row k → word_bit bits (first + k * step) ≡ 1
+IsSetTo s f row first step bits k = ¬ (IsOn (left_at f row k) s) → ¬ (IsOn (right_at f row k) s) → IsMetTo s f row k
+    → word_bit bits (first + k * step) ≡ 1
 
--- all segments of a row
-abbrev pub IsRowSet : Span → Frame → ℤ → ℕ → ℕ → List ℕ → Type 0
-IsRowSet s f row first step bits = (k : ℕ) → k ≤ f.width → IsSetTo s f row first step bits k
-
--- those of a frame's row that have no end on the piece
+-- all segments of a frame's row
 abbrev pub AreSetIn : Span → Frame → ℕ → ℕ → ℕ → List ℕ → Type 0
 AreSetIn s f r first step bits = (k : ℕ) → k ≤ f.width → IsMetAcross s f r k → word_bit bits (first + k * step) ≡ 1
 
@@ -70,7 +59,7 @@ pub record GainOnly (IsNew : ℕ → Type 0) (old new : List ℕ) : Type 0 where
 -- the segments of a row that go to the columns with At have their bits, if the piece meets them, and only bits of segments that it
 -- meets are gained
 pub record NotesAt (s : Span) (line : NotedRow) (At : ℕ → Type 0) (old new : List ℕ) : Type 0 where
-  pub noted : (k : ℕ) → At k → IsSetTo s line.frame line.row line.first line.step new k
+  pub noted : (k : ℕ) → k ≤ line.frame.width → At k → IsSetTo s line.frame line.row line.first line.step new k
   pub gained : GainOnly (IsLineBit s line.frame line.row line.first line.step) old new
 
 -- a column of the frame after its first one, with P

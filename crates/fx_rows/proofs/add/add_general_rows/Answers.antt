@@ -3,36 +3,38 @@ use Rattle.fx_winding.specs.Winding.{span_of}
 use Rattle.fx_winding.specs.declared.frame.Frame.{Frame}
 use Rattle.fx_rows.specs.Parts.{IsRowPart}
 use Rattle.fx_rows.specs.inner.Bands.{bounded_span}
+use Rattle.fx_rows.specs.inner.Heights.{height_of}
+use Rattle.fx_rows.specs.inner.Points.{IsInner}
 use Rattle.fx_rows.specs.inner.Telling.{AreMetAdded}
 use Rattle.fx_rows.proofs.Counted.{count_more}
 use Rattle.fx_rows.proofs.Stepping.{row_in, band_small}
-use Rattle.fx_rows.proofs.Telling.{met_none, met_next, band_kept}
+use Rattle.fx_rows.proofs.Telling.{met_next, band_kept}
 use Rattle.fx_rows.proofs.add.add_general_rows.Goals as goal
-
-pub rows-init : goal.rows-init
-rows-init g c = grind (arith, met_none)
 
 pub add_met-part-requires-clause-up : goal.add_met-part-requires-clause-up
 add_met-part-requires-clause-up g c = row_in c.args.band.now.frame c.rows.band.frame c.rows.up c.args.rows.end
-    c.rows.invariant.met.frame c.requires.within (omega arith)
+    c.rows.invariant.met.frame c.requires.next.within (omega arith)
 
 pub add_met-part-requires-clause-small : goal.add_met-part-requires-clause-small
 add_met-part-requires-clause-small g c =
     let few = c.args.band.now.few in
-    let r = c.requires.within in
+    let r = c.requires.next.within in
     band_small (bounded_span c.bounds_of-bounded.result) c.args.band.now.frame c.args.rows.first c.rows.up c.args.band.now
-    c.rows.band c.rows.invariant.met.added c.requires.small (omega (arith, few, r))
+    c.rows.band c.rows.invariant.met.added c.requires.next.small (omega (arith, few, r))
 
 pub note_row-requires : goal.note_row-requires
 note_row-requires g c =
     let frame = c.add_met-part.ensures.frame in
     record {
       of = band_kept _ _ (bounded_span c.bounds_of-bounded.result) c.args.band.now.frame c.add_met-part.new.band.frame
-          (frame ∙ c.rows.invariant.met.frame) c.rows.invariant.met.kept c.requires.of;
+          (frame ∙ c.rows.invariant.met.frame) c.rows.invariant.met.kept c.requires.next.of;
       up = row_in c.args.band.now.frame c.add_met-part.new.band.frame c.rows.up c.args.rows.end
-          (frame ∙ c.rows.invariant.met.frame) c.requires.within (omega arith);
+          (frame ∙ c.rows.invariant.met.frame) c.requires.next.within (omega arith);
       part = subst (λ (f : Frame). IsRowPart (bounded_span c.bounds_of-bounded.result) (f.bottom +ℤ pos c.rows.up) f
           c.add_met-part.result) (sym frame) c.add_met-part.ensures.part;
+      outside = subst (λ z. z) (λ i. ¬ (IsInner (sym c.bounds_of-bounded.ensures.piece i).a.y
+          (sym c.bounds_of-bounded.ensures.piece i).c.y (height_of (sym (frame ∙ c.rows.invariant.met.frame) i) c.rows.up)))
+          (c.requires.outside c.rows.up (omega arith) (omega arith));
     }
 
 pub rows-preserved : goal.rows-preserved

@@ -3,9 +3,9 @@ use Rattle.fx_winding.specs.Winding.{span_of}
 use Rattle.fx_winding.specs.declared.point.Piece.{Piece}
 use Rattle.fx_winding.specs.declared.frame.Frame.{Frame}
 use Rattle.fx_rows.specs.inner.Points.{IsInner}
-use Rattle.fx_rows.specs.inner.Heights.{height_of}
+use Rattle.fx_rows.specs.inner.Heights.{height_of, AreOutside}
 use Rattle.fx_rows.specs.inner.Telling.{AreRowsAdded, met_in}
-use Rattle.fx_rows.proofs.Telling.{added_beside, added_outside, band_kept, between_of, others_beside}
+use Rattle.fx_rows.proofs.Telling.{added_beside, added_outside, band_kept, between_of, others_beside, outside_above, outside_all, outside_below}
 use Rattle.fx_rows.proofs.add.add_met_piece.Goals as goal
 
 -- the tests of a rows, of b between the ends, and of c
@@ -14,9 +14,23 @@ rows_count : (n g a b c t u v w : ℕ) → a + b + c ≡ n → u ≤ t + a * (10
 rows_count n g a b c t u v w e h k l =
     let all : (a + b + c) * (12 + g) ≡ n * (12 + g) = ap (λ (m : ℕ). m * (12 + g)) e in omega (arith, all, h, k, l)
 
-pub add_met_rows-requires-2 : goal.add_met_rows-requires-2
-add_met_rows-requires-2 g c =
+-- no row is between the ends
+pub add_met_rows-requires-clause-outside : goal.add_met_rows-requires-clause-outside
+add_met_rows-requires-clause-outside g c =
+    outside_all (span_of c.args.piece.now) _ _ _ c.rows_between-inner.result (omega arith)
+    (between_of (span_of c.args.piece.now) _ _ _ _ c.args.rows c.rows_between-inner.result c.rise_of-rise.ensures
+    c.rows_between-inner.ensures)
+
+-- some are
+pub add_met_rows-requires-2-clause-next : goal.add_met_rows-requires-2-clause-next
+add_met_rows-requires-2-clause-next g c =
     grind (arith, c.requires.rows, c.rows_between-inner.ensures)
+
+pub add_met_rows-requires-2-clause-outside : goal.add_met_rows-requires-2-clause-outside
+add_met_rows-requires-2-clause-outside g c =
+    outside_below (span_of c.args.piece.now) _ _ _ c.rows_between-inner.result
+    (between_of (span_of c.args.piece.now) _ _ _ _ c.args.rows c.rows_between-inner.result c.rise_of-rise.ensures
+    c.rows_between-inner.ensures)
 
 pub add_inner_rows-requires-clause-inner : goal.add_inner_rows-requires-clause-inner
 add_inner_rows-requires-clause-inner g c =
@@ -34,8 +48,16 @@ add_inner_rows-requires-clause-inner g c =
       small = below.added.grown (2 ^ 25) c.requires.rows.small;
     }
 
-pub add_met_rows-requires-3 : goal.add_met_rows-requires-3
-add_met_rows-requires-3 g c =
+pub add_met_rows-requires-3-clause-outside : goal.add_met_rows-requires-3-clause-outside
+add_met_rows-requires-3-clause-outside g c =
+    let s = span_of c.args.piece.now in
+    let r = c.rows_between-inner.result in
+    subst (λ (x : Frame). AreOutside s x r.end c.args.rows.end)
+    (sym (c.add_inner_rows.ensures.added.frame ∙ c.add_met_rows-2.ensures.met.frame))
+    (outside_above s _ _ _ r (between_of s _ _ _ _ c.args.rows r c.rise_of-rise.ensures c.rows_between-inner.ensures))
+
+pub add_met_rows-requires-3-clause-next : goal.add_met_rows-requires-3-clause-next
+add_met_rows-requires-3-clause-next g c =
     let rows = c.requires.rows in
     let below = c.add_met_rows-2.ensures.met in
     let inner = c.add_inner_rows.ensures in

@@ -4,14 +4,14 @@ use Rattle.fx_fixed.proofs.Linear.{signed_linear}
 use Rattle.fx_winding.specs.Winding.{span_of, region, centre}
 use Rattle.fx_rows.specs.inner.Lines.{left_at, right_at, HasTip}
 use Rattle.fx_rows.specs.inner.Sums.{value_at}
-use Rattle.fx_rows.proofs.Added.{left_in, tip_outside}
+use Rattle.fx_rows.proofs.MetRuns.{left_in, tip_outside}
 use Rattle.fx_rows.proofs.Counted.{run_at}
 use Rattle.fx_rows.proofs.Kept.{notes_none}
 use Rattle.fx_rows.proofs.noted_row.note_outside.Goals as goal
 
 pub returns-clause-notes : goal.returns-clause-notes
 returns-clause-notes c = record {
-  noted = λ j a. c.note_tested.ensures.notes.noted j a.2.0;
+  noted = λ j l a. c.note_tested.ensures.notes.noted j l a.2.0;
   gained = c.note_tested.ensures.notes.gained;
 }
 
@@ -21,7 +21,7 @@ returns-then-run_at-ne0-clause-notes c =
     let f = line.frame in
     let k = c.args.k in
     let s = span_of c.args.piece.now in
-    notes_none s line _ _ (λ j a met.
+    notes_none s line _ _ (λ j m a met.
     let o : 0 < k = omega (arith, a.0, a.2.0) in
     let l : k < f.width = omega (arith, a.1, a.2.0) in
     let tip = subst (HasTip s line) a.2.0 a.2.1 in

@@ -8,7 +8,7 @@ returns-then-test_segment-clause-notes c =
     let s = span_of c.args.piece.now in
     let line = c.args.line.now in
     record {
-      noted = λ j e. subst (IsSetTo s line.frame line.row line.first line.step c.set_segment.new.bits) (sym e)
+      noted = λ j l e. subst (IsSetTo s line.frame line.row line.first line.step c.set_segment.new.bits) (sym e)
           (c.set_segment.ensures.set s);
       gained = record {
         kept = c.set_segment.ensures.kept;

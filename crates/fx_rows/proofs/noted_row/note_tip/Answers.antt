@@ -3,14 +3,14 @@ use Rattle.fx_fixed.proofs.Linear.{signed, signed_linear}
 use Rattle.fx_winding.specs.Meets.{IsTipPart}
 use Rattle.fx_winding.specs.Winding.{place_of, maybe_place_of, span_of, centre}
 use Rattle.fx_rows.specs.inner.Lines.{left_at, right_at}
-use Rattle.fx_rows.proofs.Added.{among_no_tip}
+use Rattle.fx_rows.proofs.MetRuns.{among_no_tip}
 use Rattle.fx_rows.specs.inner.Sides.{place_at}
 use Rattle.fx_rows.proofs.Kept.{notes_none}
 use Rattle.fx_rows.proofs.noted_row.note_tip.Goals as goal
 
 pub returns-in-Some-clause-notes : goal.returns-in-Some-clause-notes
 returns-in-Some-clause-notes c = record {
-  noted = λ k a.
+  noted = λ k l a.
       let line = c.args.line.now in
       let f = line.frame in
       let s = c.strip_of-strip.result in
@@ -25,7 +25,7 @@ returns-in-Some-clause-notes c = record {
       subst (λ z. z) (λ i. IsTipPart p.a p.b p.c (centre (left i) (row i)) (centre (right i) (row i))) a.2 in
       let is = c.tip_column-end.ensures.only j (omega (arith, at.stop, a.1, a.0)) here in
       let e : c.tip_column-end.result ≡ k = omega (arith, is, a.0) in
-      c.note_outside.ensures.notes.noted k (a.0, a.1, (sym e, a.2));
+      c.note_outside.ensures.notes.noted k l (a.0, a.1, (sym e, a.2));
   gained = c.note_outside.ensures.notes.gained;
 }
 
@@ -34,7 +34,7 @@ returns-then-is_among-clause-notes c =
     let line = c.args.line.now in
     let r = c.args.rise in
     let is = c.is_among.ensures c.if-is_among.true in
-    notes_none _ line _ _ (λ k a met. among_no_tip (span_of c.args.piece.now) r.foot r.head r.value
+    notes_none _ line _ _ (λ k l a met. among_no_tip (span_of c.args.piece.now) r.foot r.head r.value
     (left_at line.frame line.row k) (right_at line.frame line.row k) c.requires.rise (omega (arith, signed, is, line.row_near))
     (omega (arith, signed, is, line.row_near)) a.2)
 
@@ -42,5 +42,5 @@ pub returns-in_default-clause-notes : goal.returns-in_default-clause-notes
 returns-in_default-clause-notes c =
     let line = c.args.line.now in
     let s = c.args.piece.now in
-    notes_none _ line _ _ (λ k a met. subst (λ b. IsTipPart (place_of s.a) (maybe_place_of b) (place_of s.c)
+    notes_none _ line _ _ (λ k l a met. subst (λ b. IsTipPart (place_of s.a) (maybe_place_of b) (place_of s.c)
     (left_at line.frame line.row k) (right_at line.frame line.row k)) c.in_default.is a.2)

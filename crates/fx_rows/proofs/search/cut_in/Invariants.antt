@@ -7,8 +7,8 @@ invariant-columns l = record {
   order : l.low ≤ l.high;
   from : l.start ≤ l.low;
   within : l.high ≤ l.stop;
-  before : (k : ℕ) → l.start ≤ k → k < l.low → IsBefore l.right (slope_at l.g k) (gap_at l.g k);
-  rest : (k : ℕ) → l.high ≤ k → k < l.stop → ¬ (IsBefore l.right (slope_at l.g k) (gap_at l.g k));
+  before : (k : ℕ) → l.start ≤ k → k < l.low → IsBefore l.cut (slope_at l.g k) (gap_at l.g k);
+  rest : (k : ℕ) → l.high ≤ k → k < l.stop → ¬ (IsBefore l.cut (slope_at l.g k) (gap_at l.g k));
 }
 
 abbrev pub decreases-columns : goal.decreases-columns

@@ -4,18 +4,6 @@ use Rattle.fx_winding.specs.Area.{Place, place}
 use Rattle.fx_winding.specs.Winding.{span_of, IsOn, centre}
 use Rattle.fx_rows.proofs.strip.on_pixel.Goals as goal
 
-pub centre_of-p-requires-clause-col : goal.centre_of-p-requires-clause-col
-centre_of-p-requires-clause-col c = omega (arith, signed_linear)
-
-pub centre_of-p-requires-clause-row : goal.centre_of-p-requires-clause-row
-centre_of-p-requires-clause-row c = omega (arith, signed_linear)
-
-pub on_piece-requires-clause-near_x : goal.on_piece-requires-clause-near_x
-on_piece-requires-clause-near_x c = omega (arith, signed_linear)
-
-pub on_piece-requires-clause-near_y : goal.on_piece-requires-clause-near_y
-on_piece-requires-clause-near_y c = omega (arith, signed_linear)
-
 pub returns-clause-value : goal.returns-clause-value
 returns-clause-value c =
     let p = c.centre_of-p.result in
@@ -25,6 +13,3 @@ returns-clause-value c =
     let row : to_z w32 (of_z w32 c.args.row) ≡ c.args.row = omega (arith, signed_linear) in
     subst (λ (q : Place). IsTrue c.on_piece.result ↔ IsOn q (span_of c.args.piece))
     ((λ i. place (x i) (y i)) ∙ c.centre_of-p.ensures ∙ (λ i. centre (col i) (row i))) c.on_piece.ensures.value
-
-pub returns-clause-count : goal.returns-clause-count
-returns-clause-count c = omega (arith, signed_linear)

@@ -17,12 +17,6 @@ use Rattle.fx_rows.proofs.Upward.{none_within}
 use Rattle.fx_rows.proofs.noter.NoterNoting.note.Goals as goal
 
 -- ---- a piece of which the frame lacks columns: all of it is noted apart
-pub note_all_across-requires-clause-room : goal.note_all_across-requires-clause-room
-note_all_across-requires-clause-room c = omega arith
-
-pub note_all_up-requires-clause-room : goal.note_all_up-requires-clause-room
-note_all_up-requires-clause-room c = omega arith
-
 pub returns-in_default-clause-kept : goal.returns-in_default-clause-kept
 returns-in_default-clause-kept c x lasts old =
     grind (
@@ -60,9 +54,6 @@ returns-in_default-clause-count c =
 pub note_across-requires-clause-placed : goal.note_across-requires-clause-placed
 note_across-requires-clause-placed c = grind (arith, c.requires.frame, c.requires.between, c.in-Some.ensures.columns)
 
-pub note_across-requires-clause-room : goal.note_across-requires-clause-room
-note_across-requires-clause-room c = omega arith
-
 pub note_across-requires-clause-others : goal.note_across-requires-clause-others
 note_across-requires-clause-others c r l m n o =
     let s = span_of c.args.piece.now in
@@ -74,9 +65,6 @@ note_across-requires-clause-others c r l m n o =
 
 pub note_across-requires-clause-told : goal.note_across-requires-clause-told
 note_across-requires-clause-told c = grind (arith, c.requires.frame, c.requires.told)
-
-pub note_up-requires-clause-room : goal.note_up-requires-clause-room
-note_up-requires-clause-room c = omega arith
 
 pub note_up-requires-clause-told : goal.note_up-requires-clause-told
 note_up-requires-clause-told c = grind (arith, c.requires.frame, c.requires.told)
@@ -100,9 +88,6 @@ returns-then-across-clause-noted c =
     )) (λ r l m. (λ h k w met. absurd (none r k met), λ a q h k w met. absurd (none q k met)))
 
 -- arcs that bulge
-pub note_all_up-requires-then-is_bulge-clause-room : goal.note_all_up-requires-then-is_bulge-clause-room
-note_all_up-requires-then-is_bulge-clause-room c = omega arith
-
 pub returns-then-is_bulge-clause-kept : goal.returns-then-is_bulge-clause-kept
 returns-then-is_bulge-clause-kept c x lasts old =
     grind (
@@ -171,21 +156,6 @@ returns-clause-noted c =
 
 pub returns-clause-count : goal.returns-clause-count
 returns-clause-count c = omega (arith, c.note_up.ensures.count)
-
-pub invariant_of-self : goal.invariant_of-self
-invariant_of-self c = grind (arith, with_items_is)
-
-pub invariant_of-self-2 : goal.invariant_of-self-2
-invariant_of-self-2 c = grind (arith, with_items_is)
-
-pub invariant_of-self-3 : goal.invariant_of-self-3
-invariant_of-self-3 c = grind (arith, with_items_is)
-
-pub invariant_of-self-4 : goal.invariant_of-self-4
-invariant_of-self-4 c = grind (arith, with_items_is)
-
-pub invariant_of-self-in_default : goal.invariant_of-self-in_default
-invariant_of-self-in_default c = grind (arith, with_items_is)
 
 pub invariant_of-placed : goal.invariant_of-placed
 invariant_of-placed c = grind (arith, c.requires.between, c.requires.within, c.requires.some, c.requires.frame)

@@ -1,4 +1,4 @@
-use Rattle.std.proofs.Common.{◌≡◌, ◌∙◌, refl, ap, sym, subst, arith, w32, to_z, of_z, ◌+◌, ◌*◌, ◌<◌, ℕ, ℤ, pos, ◌+ℤ◌, ◌-ℤ◌}
+use Rattle.std.proofs.Common.{◌≡◌, ◌∙◌, refl, ap, sym, subst, arith, w32, to_z, of_z, ◌+◌, ◌*◌, ◌<◌, ◌≤◌, ℕ, ℤ, pos, ◌+ℤ◌, ◌-ℤ◌, ◌*ℤ◌}
 use Rattle.std.proofs.Common.{List, length}
 use Rattle.std.proofs.lemmas.List.{with_items_is}
 use Rattle.fx_fixed.proofs.Linear.{signed_linear}
@@ -8,7 +8,8 @@ use Rattle.fx_winding.specs.Notes.{IsNotedAcross}
 use Rattle.fx_winding.specs.declared.frame.Frame.{Frame}
 use Rattle.fx_rows.specs.Parts.{IsRowPart}
 use Rattle.fx_rows.specs.inner.Bands.{bounded_span}
-use Rattle.fx_rows.specs.inner.Lines.{GainOnly, IsAcrossBit, IsLineBit, IsRowSet}
+use Rattle.fx_rows.specs.inner.Lines.{GainOnly, IsAcrossBit, IsLineBit, IsSetTo}
+use Rattle.fx_rows.specs.inner.Points.{IsInner}
 use Rattle.fx_rows.specs.inner.Telling.{IsPartOf}
 use Rattle.fx_rows.proofs.Bulges.{across_set, set_in}
 use Rattle.fx_rows.proofs.Kept.{gain_more, gain_none}
@@ -35,6 +36,12 @@ row_at f h g from to up row e part l of =
       above = omega (arith, signed_linear, bottom, low, near, at);
       within = omega (arith, high, part.height, part.within, l);
     }
+
+pub overflow_sub-row : goal.overflow_sub-row
+overflow_sub-row c =
+    let near = c.row_of-row.ensures.near in
+    let low = c.args.self.now.notes.frame.rows in
+    omega (arith, signed_linear, near, low)
 
 pub overflow_cast-row : goal.overflow_cast-row
 overflow_cast-row c =
@@ -65,6 +72,7 @@ note_part-requires c =
       part = part_in s _ c.args.band f c.args.part.now (of.part.left ∙ sym (ap (λ (x : Frame). x.left) of.of))
           (of.part.width ∙ sym (ap (λ (x : Frame). x.width) of.of))
           (subst (λ (z : ℤ). IsRowPart s z c.args.band c.args.part.now) (sym row) c.requires.part);
+      outside = subst (λ (z : ℤ). ¬ (IsInner s.a.y s.c.y (pos 128 *ℤ z +ℤ pos 64))) (sym row) c.requires.outside;
       room = omega (arith, first, room);
     }
 
@@ -83,9 +91,9 @@ returns c =
     let first : c.first_of.result ≡ n * (32 * words_for f.width) = rw is.above at c.first_of.ensures.value in
     let gained = gain_more (IsLineBit s f (f.bottom +ℤ pos n) (n * (32 * words_for f.width)) 1) (IsAcrossBit s f) _ _
     (λ m h. record { r = n; row = is.within; line = h }) (subst (λ z. z)
-    (λ i. GainOnly (IsLineBit s f (is.is i) (first i) 1) c.deref_mut.result.now now) c.note_part.ensures.gained) in
+    (λ i. GainOnly (IsLineBit s f (is.is i) (first i) 1) c.deref_mut.result.now now) c.note_part.ensures.notes.gained) in
     let set = across_set s f n now (set_in s f n _ 1 now (subst (λ z. z)
-    (λ i. IsRowSet s f (is.is i) (first i) 1 now) c.note_part.ensures.noted)) in
+    (λ i. (k : ℕ) → k ≤ f.width → IsSetTo s f (is.is i) (first i) 1 now k) (λ k l. c.note_part.ensures.notes.noted k l tt))) in
     record {
       kept = λ x lasts old. grind (arith, says_more, gain_none, lasts, old, gained, c.deref_mut.ensures.value, with_items_is);
       told = λ r n t. t;
