@@ -20,7 +20,8 @@ use fx_arguments::{
 use fx_fixed::{Sink, Source, put_all};
 use fx_request::{Refusal, Report};
 use fx_sfnt::FontFile;
-use fx_strike::{Rows, listing_of, make_strike_telling, trace_of, write_outline};
+use fx_strike::{Rows, make_strike_telling};
+use fx_views::{listing_of, trace_of, write_outline};
 use std::alloc::Global;
 
 /// Runs the program on the arguments of a command line, the program's name first. Returns the status: 0 done, 1 refused, 2 usage.

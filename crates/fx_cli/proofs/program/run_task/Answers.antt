@@ -1,6 +1,6 @@
 use Rattle.std.proofs.Common.{refl, Err}
 use Rattle.fx_strike.proofs.Exits.{came}
-use Rattle.fx_strike.proofs.Outlining.{not_outlined}
+use Rattle.fx_views.proofs.Outlining.{not_outlined}
 use Rattle.fx_cli.proofs.Made.{untold}
 use Rattle.fx_cli.proofs.Telling.{unlisted}
 use Rattle.fx_cli.proofs.program.run_task.Goals as goal
