@@ -209,7 +209,7 @@ def archive_of():
         return os.path.join(prebuilt.DIST, "libmkstrike_c.a")
     except prebuilt.Fault as fault:
         why = str(fault)
-    if not os.path.exists(os.path.join(TOP, "crates/fx_strike/out/rlib/stamp")):
+    if not os.path.exists(os.path.join(TOP, "crates/fx_views/out/rlib/stamp")):
         pytest.skip(why)
     with subprocess.Popen(["rt", "lib", "--jobs", "2"], cwd=CRATE, stdout=subprocess.PIPE, stderr=subprocess.STDOUT, text=True,
                           start_new_session=True) as rt:

@@ -68,7 +68,7 @@ PLACES = {
     "crates/fx_scale/src/cvt.rt": ["with_capacity(alloc, bytes.len() / 2)"],
     "crates/fx_scale/src/zone.rt": ["resize(count + PHANTOM_POINTS, blank)", "reserve(usize::from(simple.contour_count()))"],
     "crates/fx_stackops/src/table.rt": ["vec![in alloc; 0; count]"],
-    "crates/fx_strike/src/hinter.rt": ["Box::new(alloc, keeping)"],
+    "crates/fx_strike/src/hinter.rt": ["Box::new(alloc, machine)"],
     "crates/fx_strike/src/kept_text.rt": ["reserve_exact(wanted.max(used + count) - used)"],
     "crates/fx_winding/src/bitmap.rt": ["vec![in alloc; 0u32; count]"],
     "crates/fx_winding/src/fault.rt": ["ScanFault::OutOfMemory"],

@@ -12,9 +12,9 @@ import re
 from prebuilt import libraries_of_crates, structs_of_header
 
 # What is left of older times: how many findings of a rule there may be. A number here only ever goes down.
-LEFT = {"lines_short": 3, "lemmas_named_once": 1, "twice": 6}  # four of these: one sweep for fx_zone and fx_moves is due
+LEFT = {"lines_short": 1, "lemmas_named_once": 1, "twice": 6}  # four of these: one sweep for fx_zone and fx_moves is due
 
-# The crates below `fx_raster` and the types by which they find pixels: `fx_strike` names none of them.
+# The crates below `fx_raster` and the types by which they find pixels: `fx_strike` and `fx_views` name none of them.
 RASTER = re.compile(r"\b(fx_winding|fx_rows|fx_dropout|fx_contour|Pieces|Noted|Tally)\b")
 
 LONGEST = 132  # characters of a line
@@ -359,10 +359,11 @@ def files_are_files(house):
 
 
 def raster_by_its_door(house):
-    """The code and the definitions of `fx_strike` name of the raster only what `fx_raster` exports.
+    """The code and the definitions of `fx_strike` and `fx_views` name of the raster only what `fx_raster` exports.
 
     When strikes handled pieces and frames themselves, an option about pixels was in 183 files."""
-    for path in house.paths("crates/fx_strike/src/**/*.rt") + house.paths("crates/fx_strike/specs/**/*.antt"):
+    kinds = ("fx_strike/src/**/*.rt", "fx_strike/specs/**/*.antt", "fx_views/src/**/*.rt", "fx_views/specs/**/*.antt")
+    for path in [it for kind in kinds for it in house.paths("crates/" + kind)]:
         for number, line in house.lines(path):
             for name in RASTER.findall(line):
                 yield path, number, name

@@ -146,6 +146,7 @@ PLANTED = [
     ("files_are_files", "tools/links", "", "link to ../CONTRIBUTING.md"),
     ("raster_by_its_door", "crates/fx_strike/src/draw.rt", "", "//! Drawing.\n\nuse fx_winding::Scan;\n"),
     ("raster_by_its_door", "crates/fx_strike/specs/inner/Drawing.antt", "", "-- Drawing.\n\npub pieces : Pieces\n"),
+    ("raster_by_its_door", "crates/fx_views/src/choices.rt", "", "//! Choices.\n\nuse fx_winding::Scan;\n"),
     ("counts", "CONTRIBUTING.md", "(2 functions)", "(3 functions)"),
     ("refusals", "crates/fx_request/src/refusal.rt", "(17, ", "(18, "),
     ("refusals", "crates/fx_machine/src/halt.rt", "Cause::", "Cause::StackOver => (31, \"StackOver\"),\n            Cause::"),

@@ -1,8 +1,12 @@
 //! Outlines of glyphs with components that come again.
+ghost use Rattle.std.specs.List.{All};
+ghost use Rattle.fx_hint.specs.Kept.{IsTrueOf};
+ghost use Rattle.fx_hint.specs.Programmed.{hinting_of};
+
 use crate::fonts::{font, patch};
 use crate::worked::machine;
 use fx_fixed::{F26, Ppem};
-use fx_hint::{GlyphOutline, Keeping, outline_with};
+use fx_hint::{GlyphOutline, KeptGlyphs, Spare, outline_in, outline_with};
 use fx_machine::{Machine, Usage};
 use fx_outline::OutlinePoint;
 use fx_sfnt::{Font, FontFile};
@@ -63,14 +67,18 @@ const TEN_STEPS: Usage = Usage {
 /// numbers outside their tables, and execute ten instructions.
 fn is_made_by_both(
     alloc: Global,
-    keeping: &mut Keeping<Machine<'_>>,
+    kept: &mut KeptGlyphs,
+    machine: &mut Machine<'_>,
     file: &[u8],
     pixels: u16,
-) -> Result<bool, Fail> {
+) -> Result<bool, Fail>
+    requires { All (IsTrueOf (hinting_of machine.old.known)) kept.old.places }
+    ensures { All (IsTrueOf (hinting_of machine.new.known)) kept.new.places }
+{
     let ppem = Ppem::new(pixels).ok_or("no size")?;
     let made = made_plainly(alloc, file, ppem)?;
     let font = Font::open(&FontFile::of(file))?;
-    let again = outline_with(alloc, keeping, &font, ppem, 2)?;
+    let again = outline_in(alloc, &mut Spare::new(alloc), kept, machine, &font, ppem, 2)?;
     Ok(is_same(&again, &made) && made.usage == TEN_STEPS)
 }
 
@@ -85,11 +93,15 @@ fn changed(alloc: Global, file: &[u8], at: usize, new: u8) -> Result<Vec<u8>, Fa
 /// bytes recall it.
 fn are_made_by_both(
     alloc: Global,
-    keeping: &mut Keeping<Machine<'_>>,
+    kept: &mut KeptGlyphs,
+    machine: &mut Machine<'_>,
     file: &[u8],
-) -> Result<bool, Fail> {
-    // The first byte stays. Of glyph 3 these are its left bearing, its last point's y, the cell that its program reads.
-    for (pixels, at, new) in [
+) -> Result<bool, Fail>
+    requires { All (IsTrueOf (hinting_of machine.old.known)) kept.old.places }
+{
+    // What is kept is true of what the machine knows. The first byte stays. Of glyph 3 these are its left bearing, its last point's
+    // y, the cell that its program reads.
+    'changes: for (pixels, at, new) in [
         (16, 0, 0),
         (16, 0, 0),
         (33, 0, 0),
@@ -99,7 +111,7 @@ fn are_made_by_both(
         (16, 361, 98),
     ] {
         let changed = changed(alloc, file, at, new)?;
-        if !is_made_by_both(alloc, keeping, changed.as_slice(), pixels)? {
+        if !is_made_by_both(alloc, kept, machine, changed.as_slice(), pixels)? {
             return Ok(false);
         }
     }
@@ -109,7 +121,8 @@ fn are_made_by_both(
 #[test]
 fn a_component_that_comes_again(rt: HostRuntime) -> Result<(), Fail> {
     let file = font(rt.alloc(), TWICE, READING_A_STRAY)?;
-    let mut keeping = Keeping::new(rt.alloc(), machine(rt.alloc(), file.as_slice(), 16)?);
-    assert!(rt; are_made_by_both(rt.alloc(), &mut keeping, file.as_slice())?);
+    let mut kept = KeptGlyphs::new(rt.alloc(), true);
+    let mut machine = machine(rt.alloc(), file.as_slice(), 16)?;
+    assert!(rt; are_made_by_both(rt.alloc(), &mut kept, &mut machine, file.as_slice())?);
     Ok(())
 }

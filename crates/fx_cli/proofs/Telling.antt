@@ -12,7 +12,7 @@ use Rattle.fx_request.specs.declared.notice.Notice.{Notice}
 use Rattle.fx_request.specs.Notices.{HearsAll}
 use Rattle.fx_request.specs.declared.refusal.Refusal.{Refusal}
 use Rattle.fx_request.specs.declared.refusal.Refusal.TheVariants.{BadHex, InputTooLarge, OutOfMemory, ReadFailed, WriteFailed}
-use Rattle.fx_strike.specs.Listings.{IsListedTo, IsNoFault, IsNotListed, Lists}
+use Rattle.fx_views.specs.Listings.{IsListedTo, IsNoFault, IsNotListed, Lists}
 use Rattle.fx_arguments.specs.declared.done.Done.{Done}
 use Rattle.fx_arguments.specs.declared.fault.Fault.{Fault}
 use Rattle.fx_arguments.specs.declared.fault.Fault.TheVariants.{Usage, Early, Late}

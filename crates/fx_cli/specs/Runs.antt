@@ -19,11 +19,11 @@ use Rattle.fx_strike.specs.Title.{Title}
 use Rattle.fx_request.specs.declared.notice.Notice.{Notice}
 use Rattle.fx_request.specs.Notices.{AreTold}
 use Rattle.fx_strike.specs.Strike.{Plan, opened_of, plan_of}
-use Rattle.fx_strike.specs.Choices.{choice_of, opened_choice_of}
-use Rattle.fx_strike.specs.Outlines.{Outlines, outlined_of}
+use Rattle.fx_views.specs.Choices.{choice_of, opened_choice_of}
+use Rattle.fx_views.specs.Outlines.{Outlines, outlined_of}
 use Rattle.fx_strike.specs.Headline.{Leaves, notices_of}
-use Rattle.fx_strike.specs.Listings.{Lists, program_of}
-use Rattle.fx_strike.specs.Traces.{TellsTrace, trace_of}
+use Rattle.fx_views.specs.Listings.{Lists, program_of}
+use Rattle.fx_views.specs.Traces.{TellsTrace, trace_of}
 use Rattle.fx_arguments.specs.Limits.{max_input, max_line}
 use Rattle.fx_arguments.specs.declared.done.Done.{Done}
 use Rattle.fx_arguments.specs.declared.done.Done.TheVariants.{Strike, Picture, Outline, Listing, Trace, Faces, Explanation}

@@ -21,7 +21,8 @@ use fx_arguments::{
 use fx_fixed::{Sink, Source, put_all};
 use fx_request::Refusal;
 use fx_sfnt::FontFile;
-use fx_strike::{Rows, listing_of, make_strike_telling, trace_of, write_outline};
+use fx_strike::{Rows, make_strike_telling};
+use fx_views::{listing_of, trace_of, write_outline};
 use std::alloc::{AllocError, Global};
 
 /// Without arguments the input's first line holds them, and what follows it is the font. Does the same as `read_and_do`.

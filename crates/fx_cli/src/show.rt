@@ -8,7 +8,7 @@ use fx_arguments::Show;
 use fx_fixed::Sink;
 use fx_request::Refusal;
 use fx_sfnt::FontFile;
-use fx_strike::chosen;
+use fx_views::chosen;
 use std::alloc::Global;
 
 /// Writes the picture of a glyph of a font.

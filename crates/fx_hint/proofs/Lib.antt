@@ -5,7 +5,7 @@ mod Totals
 mod Places
 mod Steps
 mod RunLaws
-mod KeptGlyphs
+mod Recalling
 mod Programs
 mod Machines
 mod Turning

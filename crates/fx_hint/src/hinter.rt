@@ -1,15 +1,13 @@
 //! What hinting adds to scaling.
 
-ghost use Rattle.std.specs.Prelude.{◌≡◌, false, IfSome, List, [], ◌∷◌, ◌++◌};
+ghost use Rattle.std.specs.Prelude.{◌≡◌, false, List, [], ◌++◌};
 ghost use Rattle.fx_fixed.specs.Chain.{GivesUnless};
 ghost use Rattle.fx_hint.specs.Faults.{Fails};
 ghost use Rattle.fx_hint.specs.Hinting.{Hinting, KeepsShape, no_hinting};
-ghost use Rattle.fx_hint.specs.Kept.{IsMadeAlone};
 ghost use Rattle.fx_hint.specs.Runs.{ProgramRun, started};
 
 use crate::component::ComponentOf;
 use crate::fault::HintFault;
-use crate::kept::GlyphInput;
 use crate::made::Made;
 use fx_machine::Usage;
 
@@ -46,24 +44,6 @@ pub trait Hinter {
         ensures leads { Leads self.old
             (started result (record { component = component; g = g; code = code.now; made = made.old })) self.new }
         ensures value { GivesUnless Fails (λ usage. (made.new, usage)) result ((hinting self.old).run g code.now made.old) };
-
-    /// Writes to `made` a simple glyph as it was made before from the same input, if the hinter has kept it, and returns what its
-    /// program used up then. Returns none if it has not, or if memory is refused; then `made` may hold anything.
-    fn recall(&self, input: &GlyphInput<'_>, made: &mut Made) -> Option<Usage>
-        ensures value { IfSome result (λ usage. IsMadeAlone (hinting self.now) input.now.scale input.now.g input.now.metrics
-            input.now.bytes.now made.new usage) }
-        ensures leads { IfSome result (λ _. (run : ProgramRun) → Leads self.now (run ∷ []) self.now) }
-    {
-        None
-    }
-
-    /// Takes notice of a simple glyph that was made, and may keep it.
-    fn keep(&mut self, input: &GlyphInput<'_>, made: &Made, usage: Usage)
-        requires { IsMadeAlone (hinting self.old) input.now.scale input.now.g input.now.metrics input.now.bytes.now made.now usage }
-        ensures known { known self.new ≡ known self.old }
-        ensures kept { hinting self.new ≡ hinting self.old }
-        ensures leads { Leads self.old [] self.new }
-    {}
 
     /// The law: no program changes the number of points or the contours.
     fn law_keeps_shape(&self)

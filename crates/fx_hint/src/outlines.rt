@@ -4,6 +4,7 @@ ghost use Rattle.std.specs.Prelude.{◌≡◌, map, Ok, IfOk};
 ghost use Rattle.fx_fixed.specs.Chain.{GivesUnless};
 ghost use Rattle.fx_machine.specs.Known.{machine_of};
 ghost use Rattle.fx_hint.specs.Faults.{Fails};
+ghost use Rattle.fx_hint.specs.Kept.{IsKeptFor};
 ghost use Rattle.fx_hint.specs.Outlines.{moved_point, moved_outline_of, view_of_glyph_outline, outline_with, hinted_outline_of, IsSound};
 ghost use Rattle.fx_scale.specs.Scaling.{scale_of};
 ghost use Rattle.fx_hint.specs.Runs.{HasRun, runs_of};
@@ -13,6 +14,7 @@ use crate::count::Count;
 use crate::fault::HintFault;
 use crate::glyph_outline::GlyphOutline;
 use crate::hinter::{Hinter, NoHinter};
+use crate::kept_glyphs::KeptGlyphs;
 use crate::made::Made;
 use crate::spare::{Spare, no_outline};
 use crate::walk::Walk;
@@ -72,21 +74,34 @@ pub fn outline_with<H: Hinter>(
         (runs_of (H.hinting hinter.old) font.now (scale_of font.now ppem) g) }
     ensures value { GivesUnless Fails view_of_glyph_outline result (outline_with (H.hinting hinter.old) font.now ppem g) }
 {
-    outline_in(alloc, &mut Spare::new(alloc), hinter, font, ppem, g)
+    let mut kept = KeptGlyphs::new(alloc, false);
+    outline_in(
+        alloc,
+        &mut Spare::new(alloc),
+        &mut kept,
+        hinter,
+        font,
+        ppem,
+        g,
+    )
 }
 
-/// The same outline, in lists that the caller gives. The list of its points before they were moved is left there for the next one.
+/// The same outline, in lists that the caller gives. The list of its points before they were moved is left there for the next one,
+/// and simple components are kept for it.
 #[tactic(auto, unfolding(crate::specs::Outlines::outline_with, crate::specs::Runs::runs_of))]
 pub fn outline_in<H: Hinter>(
     alloc: Global,
     spare: &mut Spare,
+    kept: &mut KeptGlyphs,
     hinter: &mut H,
     font: &Font<'_>,
     ppem: Ppem,
     g: u16,
 ) -> Result<GlyphOutline, HintFault>
+    requires held { IsKeptFor H.Leads (H.hinting hinter.old) kept.old }
     ensures known { H.known hinter.new ≡ H.known hinter.old }
     ensures kept { H.hinting hinter.new ≡ H.hinting hinter.old }
+    ensures held { IsKeptFor H.Leads (H.hinting hinter.old) kept.new }
     ensures leads { HasRun H.Leads hinter.old hinter.new result
         (runs_of (H.hinting hinter.old) font.now (scale_of font.now ppem) g) }
     ensures value { GivesUnless Fails view_of_glyph_outline result (outline_with (H.hinting hinter.old) font.now ppem g) }
@@ -104,7 +119,13 @@ pub fn outline_in<H: Hinter>(
         points: 0,
         usage: Usage::none(),
     };
-    walk.assembled(hinter, &mut count, &mut spare.root, &mut spare.component)?;
+    walk.assembled(
+        hinter,
+        kept,
+        &mut count,
+        &mut spare.root,
+        &mut spare.component,
+    )?;
     let lists = mem::replace(&mut spare.outline, no_outline(alloc));
     let outline = moved_outline(alloc, &mut spare.root, lists, count.usage)?;
     Ok(outline)

@@ -6,6 +6,7 @@ ghost use Rattle.fx_zone.specs.Figures.{empty_figure};
 ghost use Rattle.fx_scale.specs.Phantoms.{phantoms_of};
 ghost use Rattle.fx_hint.specs.Faults.{Fails};
 ghost use Rattle.fx_hint.specs.declared.fault.HintFault.{HintFault as TheFault};
+ghost use Rattle.fx_hint.specs.Kept.{IsKeptFor};
 ghost use Rattle.fx_hint.specs.Outlines.{scaled_simple, simple_made, run_on};
 ghost use Rattle.fx_hint.specs.Runs.{HasRun, logged_assembled, logged_component};
 ghost use Rattle.fx_outline.specs.Limits.{max_points};
@@ -20,6 +21,7 @@ use crate::count::Count;
 use crate::fault::HintFault;
 use crate::hinter::Hinter;
 use crate::kept::GlyphInput;
+use crate::kept_glyphs::KeptGlyphs;
 use crate::made::Made;
 use crate::placing::add_component;
 use fx_glyf::{Component, Composite, Glyph, Simple, read};
@@ -115,20 +117,23 @@ impl<'w, 'a> Walk<'w, 'a> {
         Ok(())
     }
 
-    /// A glyph begun: its number and bytes, its reading; and then it is assembled, or a composite that is open. The hinter may
-    /// recall a component if it is simple, or keep it.
+    /// A glyph begun: its number and bytes, its reading; and then it is assembled, or a composite that is open. A component that is
+    /// simple may be recalled, or kept.
     #[inline(always)]
     #[tactic(auto, unfolding(crate::specs::inner::Steps::begun, crate::specs::inner::Steps::begun_by, crate::specs::inner::RunSteps::begun_runs, crate::specs::inner::RunSteps::begun_by_runs))]
     fn begun<H: Hinter>(
         &self,
         hinter: &mut H,
+        kept: &mut KeptGlyphs,
         node: Node,
         count: &mut Count,
         made: &mut Made,
     ) -> Result<Option<Composite<'a>>, HintFault>
+        requires held { IsKeptFor H.Leads (H.hinting hinter.old) kept.old }
         requires points { count.old.points ≤ max_points }
         ensures known { H.known hinter.new ≡ H.known hinter.old }
         ensures kept { H.hinting hinter.new ≡ H.hinting hinter.old }
+        ensures held { IsKeptFor H.Leads (H.hinting hinter.old) kept.new }
         ensures leads { HasRun H.Leads hinter.old hinter.new result
             (begun_runs (H.hinting hinter.old) self.now.font.now self.now.scale.now self.now.root node.component node.g count.old) }
         ensures value { GivesUnless Fails (λ assembly. (step_of node assembly made.new, count.new)) result
@@ -145,7 +150,7 @@ impl<'w, 'a> Walk<'w, 'a> {
             bytes,
         };
         if node.component.is_some() {
-            if let Some(usage) = hinter.recall(&input, made) {
+            if let Some(usage) = kept.recall(&input, made) {
                 hinter.law_keeps_shape();
                 self.recalled(made, usage, count)?;
                 return Ok(None);
@@ -160,7 +165,7 @@ impl<'w, 'a> Walk<'w, 'a> {
                 self.simple_made(hinter.is_on(), metrics, &simple, count, made)?;
                 let usage = run_on(hinter, node, simple.code(), made, count)?;
                 if node.component.is_some() {
-                    hinter.keep(&input, made, usage);
+                    kept.keep(&input, made, usage);
                 }
                 Ok(None)
             }
@@ -176,14 +181,17 @@ impl<'w, 'a> Walk<'w, 'a> {
     fn begun_component<H: Hinter>(
         &self,
         hinter: &mut H,
+        kept: &mut KeptGlyphs,
         levels: u8,
         node: Node,
         count: &mut Count,
         made: &mut Made,
     ) -> Result<Option<Composite<'a>>, HintFault>
+        requires held { IsKeptFor H.Leads (H.hinting hinter.old) kept.old }
         requires points { count.old.points ≤ max_points }
         ensures known { H.known hinter.new ≡ H.known hinter.old }
         ensures kept { H.hinting hinter.new ≡ H.hinting hinter.old }
+        ensures held { IsKeptFor H.Leads (H.hinting hinter.old) kept.new }
         ensures leads { HasRun H.Leads hinter.old hinter.new result
             (begun_component_runs (H.hinting hinter.old) self.now.font.now self.now.scale.now self.now.root levels node.component
             node.g count.old) }
@@ -198,7 +206,7 @@ impl<'w, 'a> Walk<'w, 'a> {
             return Err(HintFault::ComponentDepth(node.g));
         }
         count.one_component(self.root)?;
-        self.begun(hinter, node, count, made)
+        self.begun(hinter, kept, node, count, made)
     }
 
     /// The root assembled in `made`. Components are assembled in `spare`. What both held before is lost.
@@ -206,14 +214,17 @@ impl<'w, 'a> Walk<'w, 'a> {
     pub fn assembled<H: Hinter>(
         &self,
         hinter: &mut H,
+        kept: &mut KeptGlyphs,
         count: &mut Count,
         made: &mut Made,
         spare: &mut Made,
     ) -> Result<(), HintFault>
+        requires held { IsKeptFor H.Leads (H.hinting hinter.old) kept.old }
         requires records { count.old.records ≤ max_components }
         requires points { count.old.points ≤ max_points }
         ensures known { H.known hinter.new ≡ H.known hinter.old }
         ensures kept { H.hinting hinter.new ≡ H.hinting hinter.old }
+        ensures held { IsKeptFor H.Leads (H.hinting hinter.old) kept.new }
         ensures walks { Walks H.Leads hinter.old hinter.new made.new result count.new
             (logged_assembled (H.hinting hinter.old) self.now.font.now self.now.scale.now self.now.root
             (logged_component (H.hinting hinter.old) self.now.font.now self.now.scale.now self.now.root max_depth) None
@@ -223,9 +234,9 @@ impl<'w, 'a> Walk<'w, 'a> {
             component: None,
             g: self.root,
         };
-        match self.begun(hinter, root, count, made)? {
+        match self.begun(hinter, kept, root, count, made)? {
             None => Ok(()),
-            Some(glyph) => self.closed(hinter, glyph, count, made, spare),
+            Some(glyph) => self.closed(hinter, kept, glyph, count, made, spare),
         }
     }
 
@@ -234,6 +245,7 @@ impl<'w, 'a> Walk<'w, 'a> {
     fn next_component<H: Hinter>(
         &self,
         hinter: &mut H,
+        kept: &mut KeptGlyphs,
         on: bool,
         component: Component,
         below: &mut Below<'a>,
@@ -241,10 +253,12 @@ impl<'w, 'a> Walk<'w, 'a> {
         count: &mut Count,
         spare: &mut Made,
     ) -> Result<(), HintFault>
+        requires held { IsKeptFor H.Leads (H.hinting hinter.old) kept.old }
         requires on { on ≡ (H.hinting hinter.old).on }
         requires counted { IsCounted below.old inner.old.before inner.old.base count.old }
         ensures known { H.known hinter.new ≡ H.known hinter.old }
         ensures kept { H.hinting hinter.new ≡ H.hinting hinter.old }
+        ensures held { IsKeptFor H.Leads (H.hinting hinter.old) kept.new }
         ensures counted { OnOk result (IsCounted below.new inner.new.before inner.new.base count.new) }
         ensures fewer { OnOk result (steps_left below.new count.new < steps_left below.old count.old) }
         ensures steps { StepsTo H.Leads (H.hinting hinter.old) self.now.font.now self.now.scale.now self.now.root hinter.old
@@ -262,7 +276,7 @@ impl<'w, 'a> Walk<'w, 'a> {
             }),
             g: component.glyph,
         };
-        match self.begun_component(hinter, levels, node, count, spare)? {
+        match self.begun_component(hinter, kept, levels, node, count, spare)? {
             None => {
                 add_component(&mut inner.base, self.scale, on, g, &component, spare)?;
                 Ok(())
@@ -325,16 +339,19 @@ impl<'w, 'a> Walk<'w, 'a> {
     fn closed<H: Hinter>(
         &self,
         hinter: &mut H,
+        kept: &mut KeptGlyphs,
         glyph: Composite<'a>,
         count: &mut Count,
         made: &mut Made,
         spare: &mut Made,
     ) -> Result<(), HintFault>
+        requires held { IsKeptFor H.Leads (H.hinting hinter.old) kept.old }
         requires records { count.old.records ≤ max_components }
         requires points { count.old.points ≤ max_points }
         requires counted { length made.old.zone.points ≤ count.old.points }
         ensures known { H.known hinter.new ≡ H.known hinter.old }
         ensures kept { H.hinting hinter.new ≡ H.hinting hinter.old }
+        ensures held { IsKeptFor H.Leads (H.hinting hinter.old) kept.new }
         ensures walks { Walks H.Leads hinter.old hinter.new made.new result count.new
             (logged_left (H.hinting hinter.old) self.now.font.now self.now.scale.now self.now.root max_depth
             (opened (record { component = None; g = self.now.root }) glyph.entry made.old) (count.old, [])) }
@@ -353,7 +370,7 @@ impl<'w, 'a> Walk<'w, 'a> {
         'steps: loop {
             match open.left.next() {
                 Some(component) => self.next_component(
-                    hinter, on, component, &mut below, &mut open, count, spare,
+                    hinter, kept, on, component, &mut below, &mut open, count, spare,
                 )?,
                 None => {
                     if self.close(hinter, on, &mut below, &mut open, count)? {

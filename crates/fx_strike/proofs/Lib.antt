@@ -1,6 +1,4 @@
 pub mod Exits
-pub mod OutlineLines
-pub mod Outlining
 pub mod Sketching
 pub mod GatheredGlyphs
 pub mod Mapping
@@ -17,4 +15,3 @@ pub mod Existing
 pub mod Keeping
 pub mod Enclosed
 pub mod BlockSettings
-pub mod TracesTold

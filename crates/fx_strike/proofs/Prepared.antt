@@ -8,7 +8,7 @@ use Rattle.fx_request.specs.declared.refusal.Refusal.TheVariants.{OutOfMemory}
 use Rattle.fx_strike.specs.Strike.{Opening, Setting, opened_at, opened_of, setting_in, setting_of, plan_with, plan_in, plan_of}
 use Rattle.fx_strike.specs.Strike.{FontFileView, Mode, OnRefused, Refusal, Opened, Fails, Title}
 use Rattle.fx_strike.specs.inner.Drawing.{IfDue}
-use Rattle.fx_strike.specs.inner.Opening.{setting_after}
+use Rattle.fx_strike.specs.Strike.{setting_after}
 use Rattle.fx_strike.proofs.Sketching.{fails_on}
 
 -- what passed

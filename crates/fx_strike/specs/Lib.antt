@@ -2,12 +2,8 @@ pub mod Faults
 pub mod Title
 pub mod Sketches
 pub mod Strike
-pub mod Numbers
-pub mod Choices
-pub mod Outlines
+pub mod Numbered
 pub mod Headline
 pub mod Blocks
-pub mod Listings
-pub mod Traces
 pub mod Laws
 pub mod inner

@@ -318,6 +318,12 @@ opened_one_of file ppem code = opened_many_of file ppem (code ∷ [])
 abbrev pub opened_at : FontFileView → ℕ → Opening
 opened_at file ppem = opened_after ppem (Ok tt) file
 
+-- the setting of a font that was opened; or the first cause why there is none
+unfoldable pub setting_after : Opening → Mode → Result Setting Refusal
+setting_after opening mode = do
+  opened ← opening
+  setting_in opened mode
+
 -- the setting of a font file at a size, or the first cause why there is none
 unfoldable pub setting_of : FontFileView → ℕ → Mode → Result Setting Refusal
 setting_of file ppem mode = do

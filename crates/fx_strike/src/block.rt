@@ -1,7 +1,6 @@
 //! Blocks: a font that was opened at a size, as words, so that no program runs when it is opened again.
 ghost use Rattle.std.specs.Prelude.{◌≡◌, Option, Ok, Some, true, IfOk, IfErr, IfSome, IsSome, IsErrOf, OnOk, is_some};
 ghost use Rattle.fx_machine.specs.Blocks.{IsBlockOf};
-ghost use Rattle.fx_request.specs.Faults.{of_machine};
 ghost use Rattle.fx_strike.specs.Blocks.{IsBlockFor, IsBlockIn, IsOwn, has_block, opened_in};
 ghost use Rattle.fx_strike.specs.Strike.{Setting, checked_chars, machine_for, setting_for, setting_in, setting_of, opened_at};
 ghost use Rattle.fx_strike.specs.Strike.{opened_many_of, Known, Fails};
@@ -133,7 +132,7 @@ impl<'a, S: Scan> Striker<'a, S> {
         ensures there { IfOk result (λ made. is_some made ≡ has_block self.now.machine) }
     {
         match &self.hinter.machine {
-            Some(machine) => machine.hinter().block(self.alloc),
+            Some(machine) => machine.block(self.alloc),
             None => Ok(Some(Vec::new(self.alloc))),
         }
     }

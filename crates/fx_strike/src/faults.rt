@@ -7,7 +7,7 @@ use fx_raster::RasterFault;
 use fx_request::Refusal;
 
 /// What a fault of an outline is refused as.
-pub(crate) fn of_hint(fault: HintFault) -> Refusal
+pub fn of_hint(fault: HintFault) -> Refusal
     ensures { result ≡ of_hint fault }
 {
     match fault {

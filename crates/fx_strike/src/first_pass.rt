@@ -1,7 +1,7 @@
 //! The first pass over the characters: a survey of the strike.
-ghost use Rattle.std.specs.Prelude.{◌≡◌, ◌≤◌, neg_ℤ, unsigned_abs, IfErr, OnOk};
+ghost use Rattle.std.specs.Prelude.{◌≡◌, ◌≤◌, IfErr, OnOk};
 ghost use Rattle.fx_request.specs.Notices.{Told};
-ghost use Rattle.fx_strike.specs.Strike.{glyph_fate_of, notices_in, pixels, plan_with, max_code, Title};
+ghost use Rattle.fx_strike.specs.Strike.{glyph_fate_of, notices_in, plan_with, max_code, Title};
 ghost use Rattle.fx_strike.specs.Headline.{notices_of};
 ghost use Rattle.fx_strike.specs.inner.Drawing.{CanBeDrawn, CanBeMade, IfDue};
 ghost use Rattle.fx_strike.specs.inner.Keeping.{IsKept, IsOfNone};
@@ -13,13 +13,11 @@ ghost use Rattle.fx_strike.specs.inner.Writing.{AreMapped};
 use crate::characters::Mapped;
 use crate::fate::Fate;
 use crate::kept_text::{KeptBytes, KeptText};
-use crate::opened::Opened;
 use crate::seen::Seen;
 use crate::sketch::Sketch;
 use crate::striker::Striker;
 use crate::surveyed::Survey;
 use fx_bdf::Bounds;
-use fx_fixed::{Ppem, near};
 use fx_raster::{Region, Scan};
 use fx_request::{Deaf, Listener, OnRefused, Refusal, Report};
 
@@ -29,34 +27,6 @@ pub(crate) struct FirstPass {
     pub mapped: Vec<Mapped>,
     pub kept: KeptText,
     pub survey: Survey,
-}
-
-/// FUnits in whole pixels.
-pub(crate) fn pixels(units: i32, ppem: Ppem, em: u16) -> i32
-    requires units { unsigned_abs units ≤ 32768 }
-    requires em { 16 ≤ em }
-    ensures { result ≡ pixels units ppem em }
-{
-    near(
-        i128::from(units) * i128::from(ppem.pixels()),
-        i128::from(em),
-    ) as i32
-}
-
-/// A font's ascent in whole pixels.
-pub(crate) fn ascent_of(opened: &Opened<'_>) -> i32
-    ensures { result ≡ pixels opened.now.font.hhea.ascender opened.now.ppem opened.now.font.head.units_per_em }
-{
-    let em = opened.font.head().units_per_em.funits();
-    pixels(i32::from(opened.font.hhea().ascender), opened.ppem, em)
-}
-
-/// A font's descent in whole pixels, counted down.
-pub(crate) fn descent_of(opened: &Opened<'_>) -> i32
-    ensures { result ≡ pixels (neg_ℤ opened.now.font.hhea.descender) opened.now.ppem opened.now.font.head.units_per_em }
-{
-    let em = opened.font.head().units_per_em.funits();
-    pixels(-i32::from(opened.font.hhea().descender), opened.ppem, em)
 }
 
 /// The pixels of a box.
@@ -185,8 +155,8 @@ impl<'a, S: Scan> Striker<'a, S> {
             bounds: seen.bounds,
             summary: seen.gathered.summary(seen.glyphs),
             wish: self.hinter.wish(),
-            ascent: ascent_of(&self.basis.opened),
-            descent: descent_of(&self.basis.opened),
+            ascent: self.basis.opened.ascent(),
+            descent: self.basis.opened.descent(),
             report: Report {
                 glyphs: seen.glyphs,
                 missing,

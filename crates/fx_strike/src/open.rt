@@ -28,7 +28,7 @@ fn is_past(chars: &[u32]) -> bool
 
 /// Whether characters are within their limits.
 #[tactic(auto, unfolding(crate::specs::Strike::checked_chars))]
-pub(crate) fn check_chars(chars: &[u32]) -> Result<(), Refusal>
+pub fn check_chars(chars: &[u32]) -> Result<(), Refusal>
     ensures due { result ≡ checked_chars chars.now }
     ensures named { IfErr result IsCause }
     ensures passed { OnOk result (AreChars chars.now) }
@@ -59,7 +59,7 @@ pub(crate) fn check_text(title: &Title<'_>, chars: &[u32]) -> Result<(), Refusal
 
 /// A font with its character map.
 #[tactic(auto, unfolding(crate::specs::Strike::font_with_map))]
-pub(crate) fn font_with_map<'a>(file: &FontFile<'a>) -> Result<(Font<'a>, CharMap<'a>), Refusal>
+pub fn font_with_map<'a>(file: &FontFile<'a>) -> Result<(Font<'a>, CharMap<'a>), Refusal>
     ensures due { result ≡ font_with_map file.now }
     ensures named { IfErr result IsCause }
 {
@@ -84,11 +84,7 @@ pub(crate) fn open<'a>(file: &FontFile<'a>, request: &Request<'_>) -> Result<Ope
 
 /// The size, the font and its character map, for characters that are made one by one.
 #[tactic(auto, unfolding(crate::specs::Strike::opened_after))]
-pub(crate) fn open_many<'a>(
-    file: &FontFile<'a>,
-    ppem: u16,
-    chars: &[u32],
-) -> Result<Opened<'a>, Refusal>
+pub fn open_many<'a>(file: &FontFile<'a>, ppem: u16, chars: &[u32]) -> Result<Opened<'a>, Refusal>
     ensures due { result ≡ opened_many_of file.now ppem chars.now }
     ensures named { IfErr result IsCause }
     ensures passed { OnOk result (Ok tt ≡ checked_chars chars.now) }
@@ -101,7 +97,7 @@ pub(crate) fn open_many<'a>(
 
 /// The size, the font and its character map, for no character yet.
 #[tactic(auto, unfolding(crate::specs::Strike::checked_chars))]
-pub(crate) fn open_at<'a>(file: &FontFile<'a>, ppem: u16) -> Result<Opened<'a>, Refusal>
+pub fn open_at<'a>(file: &FontFile<'a>, ppem: u16) -> Result<Opened<'a>, Refusal>
     ensures due { result ≡ opened_at file.now ppem }
     ensures named { IfErr result IsCause }
 {

@@ -3,7 +3,7 @@ ghost use Rattle.std.specs.Prelude.{◌≡◌};
 ghost use Rattle.fx_fixed.specs.Chain.{map_fault, GivesUnless};
 ghost use Rattle.fx_hint.specs.Outlines.{view_of_glyph_outline, outline_with};
 ghost use Rattle.fx_strike.specs.Faults.{Fails, of_hint};
-ghost use Rattle.fx_strike.specs.Outlines.{outlined_with};
+ghost use Rattle.fx_strike.specs.Numbered.{outlined_with};
 ghost use Rattle.fx_strike.specs.Strike.{hinting_by, machineless, setting_with, thousandths, glyph_sketch_of};
 
 use crate::faults::{of_hint, of_raster};
@@ -12,7 +12,7 @@ use crate::opened::{Basis, Opened};
 use crate::rule::rule_for;
 use crate::striker::Striker;
 use fx_fixed::{F26, near};
-use fx_hint::{GlyphOutline, Spare, outline_in};
+use fx_hint::{GlyphOutline, Spare};
 use fx_machine::Usage;
 use fx_raster::{Scan, Shape};
 use fx_request::Refusal;
@@ -63,7 +63,7 @@ fn outline_by(
     ensures outline { GivesUnless Fails view_of_glyph_outline result
         (map_fault of_hint (outline_with (hinting_by hinter.old) opened.now.font opened.now.ppem glyph)) }
 {
-    match outline_in(alloc, spare, hinter, &opened.font, opened.ppem, glyph) {
+    match hinter.outline(alloc, spare, opened, glyph) {
         Ok(outline) => Ok(outline),
         Err(fault) => Err(of_hint(fault)),
     }

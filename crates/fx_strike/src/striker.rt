@@ -3,17 +3,17 @@ ghost use Rattle.std.specs.Prelude.{◌≡◌, ◌<◌, ◌^◌, [], ◌∷◌, 
 ghost use Rattle.fx_fixed.specs.Chain.{GivesUnless};
 ghost use Rattle.fx_fixed.specs.Changes.{change_of};
 ghost use Rattle.fx_strike.specs.Title.{titled};
-ghost use Rattle.fx_strike.specs.Strike.{setting_for, setting_of, opened_at, opened_many_of, checked_chars};
+ghost use Rattle.fx_strike.specs.Strike.{setting_after, setting_for, setting_of, opened_at, opened_many_of, checked_chars};
 ghost use Rattle.fx_strike.specs.Strike.{checked_text, setting_with, Fails};
-ghost use Rattle.fx_strike.specs.Numbers.{IsDrawnOf, numbered_with};
+ghost use Rattle.fx_strike.specs.Numbered.{IsDrawnOf, numbered_with};
 ghost use Rattle.fx_strike.specs.Headline.{IsCause, IsOneOf, Surveyed, Makes, Late, strike_with, nameless_with, character_with};
-ghost use Rattle.fx_strike.specs.inner.Opening.{setting_after};
 
 use crate::hinter::{FontHinter, hinter_at};
 use crate::open::{check_chars, check_text, open_many};
 use crate::opened::{Basis, Opened};
 use crate::surveyed::Survey;
 use fx_bdf::{BitGlyph, Title};
+use fx_cmap::CharMap;
 use fx_fixed::Sink;
 use fx_hint::Spare;
 use fx_raster::{RasterScratch, Rows, Scan};
@@ -92,9 +92,12 @@ impl<'a> Striker<'a, Rows> {
 }
 
 impl<'a, S: Scan> Striker<'a, S> {
-    /// A striker of a font that was opened, or the cause why it was not. With hinting on, the font's programs run.
-    #[tactic(auto, unfolding(crate::specs::Strike::setting_in, crate::specs::inner::Opening::setting_after))]
-    pub(crate) fn of(
+    /// Makes a striker of a font that was opened; with hinting on, the font's programs run.
+    ///
+    /// The first cause is returned: why the font was not opened; then with hinting on the halts of `fpgm`, then of `prep`.
+    /// `OutOfMemory` may be returned in place of any step after the opening, and of none in it.
+    #[tactic(auto, unfolding(crate::specs::Strike::setting_in, crate::specs::Strike::setting_after))]
+    pub fn of(
         alloc: Global,
         scan: &'a S,
         opening: Result<Opened<'a>, Refusal>,
@@ -129,11 +132,18 @@ impl<'a, S: Scan> Striker<'a, S> {
         }
     }
 
+    /// The character map of its font.
+    pub fn map(&self) -> &CharMap<'a>
+        ensures { result.now ≡ self.now.map }
+    {
+        &self.basis.opened.map
+    }
+
     /// Has the striker keep lines and components, or nothing that is only made to save time.
     pub(crate) fn set_room(&mut self, has_room: bool)
         ensures { self.new ≡ self.old }
     {
-        self.hinter.has_room = has_room;
+        self.hinter.set_room(has_room);
     }
 
     /// The striker with another scan.

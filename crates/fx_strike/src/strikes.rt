@@ -51,7 +51,8 @@ impl<'a, S: Scan> Striker<'a, S> {
             (notices_of (plan_with self.old (titled title.now) chars.now refused)) result }
     {
         let ppem = self.basis.opened.ppem;
-        let first = self.first_pass(chars, refused, self.hinter.has_room, listener)?;
+        let has_room = self.hinter.has_room();
+        let first = self.first_pass(chars, refused, has_room, listener)?;
         let FirstPass {
             mapped,
             kept,

@@ -17,7 +17,7 @@ use Rattle.fx_strike.specs.Blocks as block
 use Rattle.fx_strike.specs.Strike.{Sketch, Setting, Opening, checked_chars, machine_for, one_in, one_of, one_with, opened_after}
 use Rattle.fx_strike.specs.Strike.{opened_at, opened_many_of, opened_one_of, setting_for, setting_in, setting_of, setting_with, basis_of}
 use Rattle.fx_strike.specs.Headline.{IsOneOf, Late, character_with}
-use Rattle.fx_strike.specs.Numbers.{numbered_with}
+use Rattle.fx_strike.specs.Numbered.{numbered_with}
 use Rattle.fx_strike.proofs.BlockSettings.{known_is}
 use Rattle.fx_strike.proofs.Sketching.{fails_on}
 use Rattle.mkstrike_c.specs.declared.gathered.Drawn.{Drawn}

@@ -11,7 +11,7 @@ use Rattle.fx_request.specs.declared.refusal.Refusal.{Refusal}
 use Rattle.fx_request.specs.declared.refusal.Refusal.TheVariants.{OutOfMemory}
 use Rattle.fx_strike.specs.Faults.{Fails}
 use Rattle.fx_strike.specs.Strike.{Setting, Opening, opened_at, setting_in, setting_of}
-use Rattle.fx_strike.specs.Numbers.{IsDrawnOf, numbered_of, numbered_with}
+use Rattle.fx_strike.specs.Numbered.{IsDrawnOf, numbered_of, numbered_with}
 use Rattle.fx_strike.specs.Headline.{Late}
 use Rattle.fx_strike.proofs.Sketching.{fails_on}
 use Rattle.mkstrike_c.specs.Refused.{IsReason}

@@ -10,7 +10,7 @@ use Rattle.fx_request.specs.declared.refusal.Refusal.{Refusal}
 use Rattle.fx_sfnt.specs.Collections.{FontFileView}
 use Rattle.fx_sfnt.specs.Tables.{font_of}
 use Rattle.fx_sfnt.specs.declared.fault.FontFault.{FontFault}
-use Rattle.fx_strike.specs.declared.numbers.FontMetrics.{FontMetrics}
+use Rattle.fx_views.specs.declared.numbers.FontMetrics.{FontMetrics}
 use Rattle.mkstrike_c.specs.declared.font.FontInfo.{FontInfo}
 use Rattle.mkstrike_c.specs.Drawn.{HasFront}
 

@@ -13,7 +13,8 @@ pub mod inner
 pub use Rattle.fx_request.specs.Advice
 pub use Rattle.fx_request.specs.Refusals
 pub use Rattle.fx_strike.specs.Strike
-pub use Rattle.fx_strike.specs.Numbers
+pub use Rattle.fx_strike.specs.Numbered
 pub use Rattle.fx_strike.specs.Headline
 pub use Rattle.fx_strike.specs.Faults
 pub use Rattle.fx_strike.specs.Blocks
+pub use Rattle.fx_views.specs.Numbers

@@ -5,7 +5,7 @@ use Rattle.fx_outline.specs.declared.points.OutlinePoint as outline
 use Rattle.fx_hint.specs.Outlines.{GlyphOutlineView}
 use Rattle.fx_request.specs.declared.refusal.Refusal.{Refusal}
 use Rattle.fx_request.specs.declared.request.Mode.{Mode}
-use Rattle.fx_strike.specs.Outlines.{outline_numbered_of}
+use Rattle.fx_views.specs.Outlines.{outline_numbered_of}
 use Rattle.mkstrike_c.specs.declared.outlines.OutlinePoint.{OutlinePoint}
 use Rattle.mkstrike_c.specs.declared.outlines.Outlined.{Outlined}
 use Rattle.mkstrike_c.specs.Drawn.{HasFront}

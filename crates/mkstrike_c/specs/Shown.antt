@@ -8,7 +8,7 @@ use Rattle.fx_request.specs.declared.refusal.Refusal.{Refusal}
 use Rattle.fx_request.specs.declared.request.Mode.{Mode}
 use Rattle.fx_strike.specs.Strike.{Sketch}
 use Rattle.fx_strike.specs.Headline.{IsOneOf}
-use Rattle.fx_strike.specs.Numbers.{numbered_of}
+use Rattle.fx_strike.specs.Numbered.{numbered_of}
 use Rattle.mkstrike_c.specs.declared.glyph.GlyphInfo.{GlyphInfo}
 use Rattle.mkstrike_c.specs.Pixels.{row_bytes, size_of, stride_of}
 

@@ -3,7 +3,7 @@ ghost use Rattle.std.specs.Prelude.{◌≡◌, ◌<◌, ◌+◌, [], length};
 ghost use Rattle.fx_cmap.specs.Mapped.{mapped_below};
 ghost use Rattle.fx_request.specs.Limits.{max_code};
 ghost use Rattle.fx_sfnt.specs.Collections.{face_in};
-ghost use Rattle.fx_strike.specs.Numbers.{map_for};
+ghost use Rattle.fx_views.specs.Numbers.{map_for};
 ghost use Rattle.mkstrike_c.specs.Drawn.{HasFront};
 ghost use Rattle.mkstrike_c.specs.Fonts.{AreCharacters};
 ghost use Rattle.mkstrike_c.specs.Refused.{IsNamed};
@@ -12,7 +12,7 @@ use crate::refused::{Refused, refuse};
 use fx_cmap::CharMap;
 use fx_request::MAX_CODE;
 use fx_sfnt::FontFile;
-use fx_strike::map_for;
+use fx_views::map_for;
 
 /// Puts the characters of a map at the front of a buffer, as far as there is room. Returns how many there are.
 fn put_characters(char_map: &CharMap<'_>, chars: &mut [u32]) -> usize

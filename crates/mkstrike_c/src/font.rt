@@ -3,14 +3,14 @@ ghost use Rattle.std.specs.Prelude.{◌≡◌, ◌<◌, Ok};
 ghost use Rattle.fx_fixed.specs.Chain.{map_fault, map_ok};
 ghost use Rattle.fx_request.specs.Faults.{of_font};
 ghost use Rattle.fx_sfnt.specs.Collections.{face_count_of, face_in};
-ghost use Rattle.fx_strike.specs.Numbers.{font_metrics_of};
+ghost use Rattle.fx_views.specs.Numbers.{font_metrics_of};
 ghost use Rattle.mkstrike_c.specs.Fonts.{font_info_of};
 ghost use Rattle.mkstrike_c.specs.Refused.{IsNamed};
 
 use crate::refused::{Refused, refuse};
 use fx_request::Refusal;
 use fx_sfnt::FontFile;
-use fx_strike::{FontMetrics, font_metrics};
+use fx_views::{FontMetrics, font_metrics};
 
 /// A font at a size.
 #[repr(C)]

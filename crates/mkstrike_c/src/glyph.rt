@@ -17,7 +17,8 @@ use crate::refused::{Refused, refuse, refuse_mode};
 use fx_bdf::BitGlyph;
 use fx_request::{Mode, Refusal};
 use fx_sfnt::FontFile;
-use fx_strike::{Striker, one};
+use fx_strike::Striker;
+use fx_views::one;
 use std::alloc::Global;
 
 /// The numbers of a glyph.

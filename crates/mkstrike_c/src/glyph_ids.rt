@@ -2,7 +2,7 @@
 ghost use Rattle.std.specs.Prelude.{◌≡◌, ◌<◌, map};
 ghost use Rattle.fx_cmap.specs.Lookup.{glyph_for};
 ghost use Rattle.fx_sfnt.specs.Collections.{face_in};
-ghost use Rattle.fx_strike.specs.Numbers.{map_for};
+ghost use Rattle.fx_views.specs.Numbers.{map_for};
 ghost use Rattle.mkstrike_c.specs.Drawn.{HasFront};
 ghost use Rattle.mkstrike_c.specs.Fonts.{AreFound};
 ghost use Rattle.mkstrike_c.specs.Refused.{IsNamed};
@@ -10,7 +10,7 @@ ghost use Rattle.mkstrike_c.specs.Refused.{IsNamed};
 use crate::refused::{Refused, refuse};
 use fx_cmap::CharMap;
 use fx_sfnt::FontFile;
-use fx_strike::map_for;
+use fx_views::map_for;
 
 /// Puts the numbers of characters' glyphs at the front of a buffer, as far as there is room.
 fn put_ids(char_map: &CharMap<'_>, chars: &[u32], glyphs: &mut [u16])

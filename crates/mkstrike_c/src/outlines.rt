@@ -17,7 +17,7 @@ use fx_hint::GlyphOutline;
 use fx_outline::OutlinePoint as Point;
 use fx_request::{Mode, Refusal};
 use fx_sfnt::FontFile;
-use fx_strike::outline_numbered;
+use fx_views::outline_numbered;
 use std::alloc::Global;
 
 /// A point of an outline.

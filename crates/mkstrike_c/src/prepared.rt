@@ -3,7 +3,7 @@ ghost use Rattle.std.specs.Prelude.{◌≡◌, ◌<◌, ◌≤◌, true, min, If
 ghost use Rattle.fx_fixed.specs.Chain.{map_ok};
 ghost use Rattle.fx_strike.specs.Faults.{Fails};
 ghost use Rattle.fx_strike.specs.Headline.{IsOneOf};
-ghost use Rattle.fx_strike.specs.Numbers.{numbered_with};
+ghost use Rattle.fx_strike.specs.Numbered.{numbered_with};
 ghost use Rattle.fx_strike.specs.Strike.{one_of, opened_at, opened_many_of, opened_one_of, setting_for};
 ghost use Rattle.mkstrike_c.specs.Drawn.{AreDrawn};
 ghost use Rattle.mkstrike_c.specs.FontAt.{file_at};

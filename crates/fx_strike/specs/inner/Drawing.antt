@@ -3,7 +3,7 @@ use Rattle.std.specs.Prelude.{◌≤◌, Option, Result, Ok, Err}
 use Rattle.fx_strike.specs.Strike.{Sketch, IsGlyphOf, Fate, Glyph, max_code, Refusal, Fails}
 use Rattle.fx_strike.specs.declared.fate.Fate.TheVariants.{Drawn, Unhinted, LeftOut}
 use Rattle.fx_strike.specs.Headline.{IsOneOf}
-use Rattle.fx_strike.specs.Numbers.{IsDrawnOf}
+use Rattle.fx_strike.specs.Numbered.{IsDrawnOf}
 
 -- a value of which this holds; or a refusal that is due, or out of memory
 abbrev pub IfDue : {A B : Type 0} → (A → Type 0) → Result B Refusal → Result A Refusal → Type 0

@@ -1,7 +1,7 @@
 use Rattle.std.proofs.Common.{◌∙◌, ap, refl, Err}
 use Rattle.std.proofs.KnownBytes.{Keeps-refl}
 use Rattle.fx_strike.proofs.Exits.{came}
-use Rattle.fx_strike.proofs.Outlining.{not_outlined}
+use Rattle.fx_views.proofs.Outlining.{not_outlined}
 use Rattle.fx_arguments.specs.Commands.{seen_characters, seen_make}
 use Rattle.fx_cli.specs.Mapped.{chosen_of}
 use Rattle.fx_cli.proofs.Made.{no_codes, strike_refused, untold}

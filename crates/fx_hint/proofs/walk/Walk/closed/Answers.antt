@@ -8,6 +8,7 @@ pub steps-init : goal.steps-init
 steps-init g c = record {
   known = search rules;
   kept = search rules;
+  held = search rules;
   stands = (
     [],
     g.met.H.Hinter.leads_same _,
@@ -32,6 +33,7 @@ steps-preserved-in-Continue-1 g c =
     record {
       known = search rules;
       kept = search rules;
+      held = search rules;
       stands = to.by _ _ (rw c.in-Some.ensures.steps at c.steps.invariant.stands);
       counted = c.in_ok-next_component-in-Some.ensures.counted;
     }
@@ -59,6 +61,7 @@ steps-preserved g c =
     record {
       known = search rules;
       kept = search rules;
+      held = search rules;
       stands = to.by _ _ (rw c.in-None.ensures.steps.0 at c.steps.invariant.stands);
       counted = c.in_ok-close-in-None.ensures.counted c.if-branch.false;
     }

@@ -1,4 +1,5 @@
 use Rattle.std.proofs.Common.{◌≡◌, [], None}
+use Rattle.fx_hint.specs.Kept.{IsKeptFor}
 use Rattle.fx_hint.specs.Limits.{max_depth}
 use Rattle.fx_hint.specs.inner.Steps.{opened}
 use Rattle.fx_hint.specs.inner.RunSteps.{logged_left}
@@ -10,6 +11,7 @@ abbrev pub invariant-steps : goal.invariant-steps
 invariant-steps g l = record {
   known : g.H.Hinter.known l.hinter ≡ g.H.Hinter.known l.fn.hinter;
   kept : g.H.Hinter.hinting l.hinter ≡ g.H.Hinter.hinting l.fn.hinter;
+  held : IsKeptFor g.H.Hinter.Leads (g.H.Hinter.hinting l.fn.hinter) l.kept;
   stands : Stands g.H.Hinter.Leads (g.H.Hinter.hinting l.fn.hinter) l.self.font.now l.self.scale.now l.self.root l.fn.hinter
       l.hinter l.below l.open l.count
       (logged_left (g.H.Hinter.hinting l.fn.hinter) l.self.font.now l.self.scale.now l.self.root max_depth

@@ -1,5 +1,5 @@
 use Rattle.fx_strike.specs.Strike.{setting_for}
-use Rattle.fx_strike.specs.inner.Opening.{setting_after}
+use Rattle.fx_strike.specs.Strike.{setting_after}
 use Rattle.fx_strike.proofs.Prepared.{gives_cause, gives_ok, gives_on}
 use Rattle.fx_strike.proofs.striker.Striker+Rows.open_for.Goals as goal
 

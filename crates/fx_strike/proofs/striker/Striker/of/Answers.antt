@@ -1,6 +1,6 @@
 use Rattle.std.proofs.Common.{sym}
 use Rattle.fx_strike.specs.Strike.{setting_in}
-use Rattle.fx_strike.specs.inner.Opening.{setting_after}
+use Rattle.fx_strike.specs.Strike.{setting_after}
 use Rattle.fx_strike.proofs.Exits.{came}
 use Rattle.fx_strike.proofs.Making.{fails_cause, not_memory}
 use Rattle.fx_strike.proofs.Prepared.{is_ok}

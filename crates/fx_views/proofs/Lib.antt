@@ -1,0 +1,4 @@
+pub mod Choosing
+pub mod OutlineLines
+pub mod Outlining
+pub mod TracesTold
