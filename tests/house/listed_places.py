@@ -37,6 +37,7 @@ PLACES = {
         "let _kept = places[usize::from(input.g) % PLACES].take(input, made, usage)",
     ],
     "crates/fx_hint/src/outlines.rt": ["resize(points.len(), BLANK)"],
+    "crates/fx_hint/src/programmed.rt": ["return Err(HintFault::OutOfMemory);"],
     "crates/fx_hint/src/placing.rt": ["let _ends = zone.ends()"],
     "crates/fx_hint/src/programmed.rt": ["let _count = zone.points().len()", "let _ends = made.zone.ends()"],
     "crates/fx_machine/src/definitions.rt": [

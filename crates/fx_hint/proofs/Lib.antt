@@ -11,4 +11,5 @@ mod Machines
 mod Turning
 mod Joined
 pub mod Watching
+pub mod Bounding
 mod Forgetting

@@ -29,7 +29,7 @@ use Rattle.fx_hint.specs.inner.RunSteps.{LoggedOutcome, logged, logged_begun_by,
 use Rattle.fx_hint.specs.inner.RunSteps.{begun_by_runs, begun_runs, begun_component_runs}
 use Rattle.fx_hint.specs.Limits.{max_depth}
 use Rattle.fx_hint.specs.Faults.{Fails}
-use Rattle.fx_hint.specs.Runs.{StopsAfter, HasRun, started_by}
+use Rattle.fx_hint.specs.Runs.{StopsAfter, HasRun}
 use Rattle.fx_hint.specs.declared.fault.HintFault.TheVariants.{OutOfMemory}
 use Rattle.fx_hint.proofs.Steps.{next_of, with_next, down, closes, assembled_by}
 use Rattle.fx_hint.specs.inner.RunSteps.{logged_left, logged_given_by, logged_goes_into, logged_rest_of, Walks}
@@ -475,7 +475,9 @@ walk_leads Leads was now made (Ok x) count due w = rw w.by.2 w.by.1
 walk_leads Leads was now made (Err OutOfMemory) count due w = (w.by.0, w.by.2, w.by.1)
 walk_leads Leads was now made (Err e) count due w = rw w.by.2 w.by.1
 
-pub stops_started : {S : Type 0} (Leads : S → List ProgramRun → S → Type 0) (was now : S) (e : HintFault) (run : ProgramRun)
-    → Leads was (started_by e run) now → StopsAfter Leads was now e (run ∷ [])
-stops_started Leads was now OutOfMemory run l = ([], (run ∷ [], refl), l)
-stops_started Leads was now e run l = l
+-- where programs are not watched, they lead anywhere
+pub leads_anywhere : {S A : Type 0} (was now : S) (r : Result A HintFault) (runs : List ProgramRun)
+    → HasRun (λ _ _ _. Unit {0}) was now r runs
+leads_anywhere was now (Ok x) runs = tt
+leads_anywhere was now (Err OutOfMemory) runs = ([], (runs, refl), tt)
+leads_anywhere was now (Err e) runs = tt

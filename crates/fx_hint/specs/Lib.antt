@@ -9,3 +9,4 @@ pub mod Kept
 pub mod Machines
 pub mod inner
 pub mod Watched
+pub mod Bounded

@@ -1,6 +1,6 @@
 -- Hinting by the programs of a font.
 -- Apple TrueType Reference Manual, "Instructing TrueType Glyphs": phantom points; "The Instruction Set": INSTCTRL.
-use Rattle.std.specs.Prelude.{ℕ, ◌+◌, List, [], length, take, true, false, ◌||◌, nat_eq}
+use Rattle.std.specs.Prelude.{◌≡◌, ◌⊎◌, ℕ, ◌+◌, List, [], length, take, true, false, ◌||◌, nat_eq}
 use Rattle.std.specs.Prelude.{if◌then◌else◌, Option, Some, None, slice_get}
 use Rattle.std.specs.Prelude.{Result, Ok, Err}
 use Rattle.fx_fixed.specs.Chain.{◌>>=◌, map_fault}
@@ -13,7 +13,7 @@ use Rattle.fx_scale.specs.Phantoms.{in_order}
 use Rattle.fx_gstate.specs.declared.scan.ScanType.{ScanType}
 use Rattle.fx_gstate.specs.Scan.{wish_of}
 use Rattle.fx_machine.specs.Known.{Known, glyph_ran, glyph_run_events}
-use Rattle.fx_machine.specs.Events.{Event}
+use Rattle.fx_machine.specs.Events.{Event, Watches}
 use Rattle.fx_machine.specs.declared.usage.Usage.{Usage}
 use Rattle.fx_hint.specs.declared.made.Made.{Made}
 use Rattle.fx_hint.specs.declared.fault.HintFault.{HintFault}
@@ -69,10 +69,10 @@ unfoldable pub hinted_events : Known → ℕ → List ℕ → Made → List Even
 hinted_events known g code made =
     if known.prepared.flags.no_programs || nat_eq (length code) 0 then [] else program_events known g code made
 
--- what is seen if memory does not run out, and nothing if it does
-abbrev pub seen_by : {Y : Type 0} → Result Y HintFault → List Event → List Event
-seen_by (Err OutOfMemory) events = []
-seen_by _ events = events
+-- a watcher has seen these events; if memory runs out, these or none
+abbrev pub HasSeen : {W Y : Type 0} → (W → Event → W → Type 0) → W → W → Result Y HintFault → List Event → Type 0
+HasSeen Sees was now (Err OutOfMemory) events = (now ≡ was) ⊎ Watches Sees was events now
+HasSeen Sees was now _ events = Watches Sees was events now
 
 -- hinting by the programs of a font at a size, with what fpgm and prep left
 abbrev pub hinting_of : Known → Hinting

@@ -123,15 +123,6 @@ abbrev pub HasRun : {S A : Type 0} → (S → List ProgramRun → S → Type 0) 
 HasRun Leads was now (Ok x) runs = Leads was runs now
 HasRun Leads was now (Err e) runs = StopsAfter Leads was now e runs
 
--- what is seen of a program: nothing if memory runs out
-abbrev pub started_by : HintFault → ProgramRun → List ProgramRun
-started_by OutOfMemory run = []
-started_by fault run = run ∷ []
-
-abbrev pub started : {Y : Type 0} → Result Y HintFault → ProgramRun → List ProgramRun
-started (Ok y) run = run ∷ []
-started (Err e) run = started_by e run
-
 -- the programs that run once a value is there
 abbrev pub once : {A : Type 0} → Result A HintFault → (A → List ProgramRun) → List ProgramRun
 once (Ok x) f = f x

@@ -1,10 +1,10 @@
 //! What hinting adds to scaling.
 
-ghost use Rattle.std.specs.Prelude.{◌≡◌, false, List, [], ◌++◌};
+ghost use Rattle.std.specs.Prelude.{◌≡◌, false, List, [], ◌∷◌, ◌++◌};
 ghost use Rattle.fx_fixed.specs.Chain.{GivesUnless};
 ghost use Rattle.fx_hint.specs.Faults.{Fails};
 ghost use Rattle.fx_hint.specs.Hinting.{Hinting, KeepsShape, no_hinting};
-ghost use Rattle.fx_hint.specs.Runs.{ProgramRun, started};
+ghost use Rattle.fx_hint.specs.Runs.{ProgramRun, HasRun};
 
 use crate::component::ComponentOf;
 use crate::fault::HintFault;
@@ -31,7 +31,8 @@ pub trait Hinter {
     fn is_on(&self) -> bool
         ensures { result ≡ (hinting self.now).on };
 
-    /// Runs the program of glyph `g`, which is a component or the root, on its points and phantom points: what it used up.
+    /// Runs the program of glyph `g`, which is a component or the root, on its points and phantom points: what it used up. One that
+    /// is stopped by its watcher returns `OutOfMemory`.
     fn run(
         &mut self,
         component: Option<ComponentOf>,
@@ -41,8 +42,8 @@ pub trait Hinter {
     ) -> Result<Usage, HintFault>
         ensures known { known self.new ≡ known self.old }
         ensures kept { hinting self.new ≡ hinting self.old }
-        ensures leads { Leads self.old
-            (started result (record { component = component; g = g; code = code.now; made = made.old })) self.new }
+        ensures leads { HasRun Leads self.old self.new result
+            (record { component = component; g = g; code = code.now; made = made.old } ∷ []) }
         ensures value { GivesUnless Fails (λ usage. (made.new, usage)) result ((hinting self.old).run g code.now made.old) };
 
     /// The law: no program changes the number of points or the contours.

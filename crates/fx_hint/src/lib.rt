@@ -7,6 +7,7 @@
 #![tactic(auto)]
 
 mod below;
+mod bounded;
 mod component;
 mod count;
 mod fault;
@@ -24,6 +25,7 @@ mod spare;
 mod walk;
 mod watcher;
 
+pub use bounded::outline_within;
 pub use component::ComponentOf;
 pub use count::Count;
 pub use fault::HintFault;
@@ -36,4 +38,4 @@ pub use made::Made;
 pub use outlines::{outline, outline_in, outline_with};
 pub use programmed::WatchedMachine;
 pub use spare::Spare;
-pub use watcher::{RunWatcher, RunWatching, RunningProgram};
+pub use watcher::{AnyComponent, RunWatcher, RunWatching, RunningProgram};

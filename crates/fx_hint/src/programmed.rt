@@ -3,8 +3,7 @@
 ghost use Rattle.std.specs.Prelude.{◌≡◌, ◌≤◌, length};
 ghost use Rattle.fx_fixed.specs.Chain.{GivesUnless};
 ghost use Rattle.fx_hint.specs.Faults.{Fails};
-ghost use Rattle.fx_machine.specs.Events.{Watches};
-ghost use Rattle.fx_hint.specs.Programmed.{point_or, point_at, phantoms_at, hinted, hinted_events, seen_by};
+ghost use Rattle.fx_hint.specs.Programmed.{point_or, point_at, phantoms_at, hinted, hinted_events, HasSeen};
 
 use crate::component::ComponentOf;
 use crate::fault::HintFault;
@@ -43,6 +42,7 @@ fn phantoms_at(zone: &Zone, first: usize) -> PhantomPoints
 }
 
 /// The program of a glyph runs on its points, with the phantom points after them; unless there is none, or `prep` asked for none.
+/// `OutOfMemory` also says that the watcher stopped it.
 #[tactic(auto, unfolding(crate::specs::Programmed::hinted, crate::specs::Programmed::hinted_events, crate::specs::Programmed::program_run, crate::specs::Programmed::program_events))]
 pub(crate) fn hint<W: Watching>(
     machine: &mut Machine<'_>,
@@ -53,8 +53,7 @@ pub(crate) fn hint<W: Watching>(
 ) -> Result<Usage, HintFault>
     ensures kept { machine.new.known ≡ machine.old.known }
     ensures value { GivesUnless Fails (λ usage. (made.new, usage)) result (hinted machine.old.known g code.now made.old) }
-    ensures watched { Watches W.Sees watcher.old (seen_by result
-        (hinted_events machine.old.known g code.now made.old)) watcher.new }
+    ensures watched { HasSeen W.Sees watcher.old watcher.new result (hinted_events machine.old.known g code.now made.old) }
 {
     if machine.skips_programs() || code.is_empty() {
         made.wish = machine.wish();
@@ -65,7 +64,11 @@ pub(crate) fn hint<W: Watching>(
     let _ends = made.zone.ends();
     let phantoms = made.phantoms.in_order();
     made.zone.append(&phantoms, &[])?;
-    let ran = machine.run_glyph(g, Code::new(code), &mut made.zone, watcher)?;
+    let result = machine.run_glyph(g, Code::new(code), &mut made.zone, watcher);
+    if watcher.stops() {
+        return Err(HintFault::OutOfMemory);
+    }
+    let ran = result?;
     made.phantoms = phantoms_at(&made.zone, count);
     made.zone.truncate(count);
     made.wish = ran.wish;
@@ -88,6 +91,7 @@ impl<'a> Hinter for Machine<'a> {
         true
     }
 
+    #[tactic(auto, using(crate::proofs::RunLaws::leads_anywhere))]
     fn run(
         &mut self,
         _component: Option<ComponentOf>,

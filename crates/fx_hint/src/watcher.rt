@@ -15,9 +15,20 @@ pub struct RunningProgram {
 pub trait RunWatching {
     ghost use Rattle.fx_machine.specs.Events.{Begins, Executed};
     ghost use Rattle.fx_hint.specs.Watched.{RunEvent, event_for};
+    ghost use Rattle.std.specs.Prelude.{◌≡◌, Bool, true};
 
     // What becomes of the watcher when it sees an event.
     ghost Sees: { Self → RunEvent → Self → Type 0 };
+
+    // Whether it stops the program, as by `Watching`.
+    ghost stops: { Self → Bool };
+
+    /// Whether the program has to stop before its next instruction.
+    fn stops(&self) -> bool
+        ensures { result ≡ stops self.now };
+
+    // A watcher that stops the program stays as it is, whatever else there would be to see.
+    ghost sees_no_more: { (w : Self) → stops w ≡ true → (x : RunEvent) → Sees w x w };
 
     /// Sees that a program begins, in this state.
     fn begin(&mut self, running: RunningProgram, state: &State)
@@ -46,8 +57,17 @@ pub struct RunWatcher<W> {
 impl<W: RunWatching> Watching for RunWatcher<W> {
     ghost use Rattle.std.specs.Prelude.{◌≡◌};
     ghost use Rattle.fx_hint.specs.Watched.{event_for};
+    ghost use Rattle.std.specs.Prelude.{refl};
 
     ghost Sees = { λ was x now. W.Sees was.watcher (event_for was.component x) now.watcher × (now.component ≡ was.component) };
+
+    ghost stops = { λ w. W.stops w.watcher };
+
+    fn stops(&self) -> bool {
+        self.watcher.stops()
+    }
+
+    ghost sees_no_more = { λ w e x. (W.sees_no_more w.watcher e (event_for w.component x), refl) };
 
     fn begin(&mut self, program: FontProgram, state: &State) {
         let running = RunningProgram {
@@ -70,5 +90,39 @@ impl<W: RunWatching> Watching for RunWatcher<W> {
             program,
         };
         self.watcher.see(running, code, address, calls, state)
+    }
+}
+
+/// A watcher that does not ask which component a program is for.
+#[derive(Drop)]
+pub struct AnyComponent<W> {
+    pub watcher: W,
+}
+
+impl<W: Watching> RunWatching for AnyComponent<W> {
+    ghost Sees = { λ was x now. W.Sees was.watcher x.event now.watcher };
+
+    ghost stops = { λ w. W.stops w.watcher };
+
+    fn stops(&self) -> bool {
+        self.watcher.stops()
+    }
+
+    ghost sees_no_more = { λ w e x. W.sees_no_more w.watcher e x.event };
+
+    fn begin(&mut self, running: RunningProgram, state: &State) {
+        self.watcher.begin(running.program, state)
+    }
+
+    fn see(
+        &mut self,
+        running: RunningProgram,
+        code: &Code<'_>,
+        address: usize,
+        calls: usize,
+        state: &State,
+    ) {
+        self.watcher
+            .see(running.program, code, address, calls, state)
     }
 }

@@ -1,4 +1,5 @@
 pub mod Watched
+pub mod Working
 pub mod Stepping
 pub mod Steps
 mod Tables

@@ -1,7 +1,8 @@
 -- After `fpgm` and `prep` a machine is the one that the definition gives (`machine_is`), or they halted (`machine_fails`).
 -- Control values are numbers of 32 bits; the tables that hold what programs leave have the sizes of the first state's.
-use Rattle.std.proofs.Common.{◌≡◌, ℕ, ◌+◌, List, [], length, Bool, true, false, if◌then◌else◌, map, Result, Ok, Err, FitsSigned}
+use Rattle.std.proofs.Common.{◌≡◌, ℕ, ◌+◌, List, [], length, Bool, true, false, if◌then◌else◌, map, Result, Ok, Err, FitsSigned, inl, inr}
 use Rattle.std.proofs.Common.{◌∙◌, sym, ap, subst, refl}
+use Rattle.std.proofs.lemmas.Bool.{cases_Bool}
 use Rattle.std.proofs.lemmas.List.{length-replicate}
 use Rattle.std.specs.List.{All}
 use Rattle.std.proofs.lemmas.List.Elements.{All-map}
@@ -31,9 +32,9 @@ use Rattle.fx_machine.specs.Machine.{answer_of}
 use Rattle.fx_machine.specs.Table.{row_at}
 use Rattle.fx_machine.specs.Configs.{answered}
 use Rattle.fx_machine.specs.Events.{Event, Watches, events_of}
-use Rattle.fx_machine.proofs.Watched.{seen_both}
+use Rattle.fx_machine.proofs.Watched.{seen_both, stays_seeing}
 use Rattle.fx_machine.specs.Limits.{STEP_LIMIT}
-use Rattle.fx_machine.specs.Known.{Fails, texts_of, first_state, second_state, prepared_from, prelude_of, prelude_events, prep_events}
+use Rattle.fx_machine.specs.Known.{Fails, first_state, second_state, prepared_from, prelude_of, prelude_events, prep_events}
 use Rattle.fx_machine.specs.Known.{machine_of, font_ran, final_stack_of, MachineView, with_state, machine_events, seen_by}
 use Rattle.fx_machine.specs.Known.{controls_of}
 use Rattle.std.specs.Int.{w32}
@@ -68,6 +69,12 @@ module _ (texts : Program → List ℕ) (g : ℕ) (s t : State) (n : ℕ) (eg : 
       let second = rw eg at k in
       rw (← first, ← second, i, j) refl
 
+-- fpgm halted, and prep does not run
+pub prep_unrun : (texts : Program → List ℕ) (g : ℕ) → g ≡ 0 → (s u : State) (r : Result Usage Halt) (e d : Halt) → r ≡ Err e → e ≡ d
+    → Err d ≡ answered texts g Font (answer_of (row_at texts) STEP_LIMIT Font s) → with_state r u ≡ prelude_of texts s
+unfolding prelude_of
+prep_unrun texts g eg s u r e d i j k = let first = rw eg at k in rw (← first, i, j) refl
+
 -- ---- what a watcher sees of both
 
 module _ {W : Type 0} (Sees : W → Event → W → Type 0) (texts : Program → List ℕ) (g : ℕ) (s : State) (eg : g ≡ 0) where
@@ -85,6 +92,16 @@ module _ {W : Type 0} (Sees : W → Event → W → Type 0) (texts : Program →
   pub prep_unseen : (was mid : W) (halt : Halt) → Err halt ≡ answered texts g Font (answer_of (row_at texts) STEP_LIMIT Font s)
       → Watches Sees was (events_of texts g STEP_LIMIT Font s) mid → Watches Sees was (prelude_events texts s) mid
   prep_unseen was mid halt e h = watched_both was mid mid (Err halt) e h refl
+
+  -- the same of a run that its watcher may have stopped
+  pub prep_stopped : (stops : W → Bool) (no_more : (w : W) → stops w ≡ true → (x : Event) → Sees w x w) (was mid : W) (halt : Halt)
+      → (stops mid ≡ false → Err halt ≡ answered texts g Font (answer_of (row_at texts) STEP_LIMIT Font s))
+      → Watches Sees was (events_of texts g STEP_LIMIT Font s) mid → Watches Sees was (prelude_events texts s) mid
+  unfolding prelude_events
+  prep_stopped stops no_more was mid halt e h = elim (cases_Bool (stops mid)) [
+    | inl t ↦ seen_both Sees was mid mid _ _ (rw eg at h) (stays_seeing Sees mid _ (no_more mid t))
+    | inr f ↦ prep_unseen was mid halt (e f) h
+  ]
 
   -- it finished
   pub prep_seen : (was mid now : W) (n : ℕ) (t : State)

@@ -1,6 +1,6 @@
 -- An instruction that moves a run is the next of those it executes (`one_step`); none comes after the last (`none_after_end`).
 -- It serves the loop of `run`, and the laws of what a watcher sees.
-use Rattle.std.proofs.Common.{◌≡◌, ℕ, zero, suc, ◌+◌, ◌-◌, ◌<◌, List, [], ◌∷◌, length, reverse, map, refl, arith}
+use Rattle.std.proofs.Common.{◌≡◌, ℕ, zero, suc, ◌-◌, ◌<◌, List, [], ◌∷◌, length, reverse, map, refl, arith}
 use Rattle.std.proofs.lemmas.List.{length-reverse}
 use Rattle.fx_machine.specs.declared.program.Program.{Program}
 use Rattle.fx_machine.specs.declared.halt.Cause.{Cause}

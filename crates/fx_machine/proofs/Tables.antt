@@ -1,7 +1,7 @@
 -- A table that holds only its first functions has at each number what the whole one has: `filled_at`, `filled_defined`.
 -- For `FunctionTable`.
 use Rattle.std.proofs.Common.{◌≡◌, ℕ, zero, suc, ◌+◌, ◌-◌, ◌<◌, ◌≤◌, max, List, [], ◌∷◌, ◌++◌, length, map, take, drop, set, replicate, get_or}
-use Rattle.std.proofs.Common.{Option, Some, None, Bool, true, false, ◌&&◌, refl, ap, sym, ◌∙◌, arith}
+use Rattle.std.proofs.Common.{Option, None, Bool, true, false, ◌&&◌, refl, ap, sym, ◌∙◌, arith}
 use Rattle.std.specs.Prelude.{slice_index}
 use Rattle.std.specs.List.{list_all}
 use Rattle.std.proofs.lemmas.List.{take_all, map-append, take-append-drop, length-map, length-take-le, length-append}

@@ -25,6 +25,16 @@ module _ {W : Type 0} {Sees : W → Event → W → Type 0} where
   pub seen_all : {was now : W} {all left : List Event} → HasSeen Sees was now all left → left ≡ [] → Watches Sees was all now
   seen_all {now = now} h e = h.then now (let P : List Event → Type 0 = λ l. Watches Sees now l now in subst P (sym e) refl)
 
+-- one that stays as it is has seen whatever is left
+pub stays_seeing : {W : Type 0} (Sees : W → Event → W → Type 0) (now : W) (left : List Event) → ((x : Event) → Sees now x now)
+    → Watches Sees now left now
+stays_seeing Sees now [] stays = refl
+stays_seeing Sees now (x ∷ left) stays = (now, stays x, stays_seeing Sees now left stays)
+
+pub seen_stopped : {W : Type 0} (Sees : W → Event → W → Type 0) {was now : W} {all left : List Event} → HasSeen Sees was now all left
+    → ((x : Event) → Sees now x now) → Watches Sees was all now
+seen_stopped Sees {now = now} {left = left} h stays = h.then now (stays_seeing Sees now left stays)
+
 -- some events, and then others
 pub seen_both : {W : Type 0} (Sees : W → Event → W → Type 0) (was mid now : W) (xs ys : List Event) → Watches Sees was xs mid
     → Watches Sees mid ys now → Watches Sees was (xs ++ ys) now

@@ -1,6 +1,6 @@
 -- What a watcher sees of programs: which one begins, and each instruction that was executed.
 -- Apple TrueType Reference Manual, "Instructing Fonts" (the execution of programs); events are own.
-use Rattle.std.specs.Prelude.{◌≡◌, ℕ, zero, suc, List, [], ◌∷◌, length, map, slice_get, Some}
+use Rattle.std.specs.Prelude.{◌≡◌, ℕ, zero, suc, true, false, List, [], ◌∷◌, length, map, slice_get, Some}
 use Rattle.fx_machine.specs.declared.program.Program.{Program}
 use Rattle.fx_machine.specs.declared.program.FontProgram.{FontProgram}
 use Rattle.fx_machine.specs.declared.state.State.{State}
@@ -53,6 +53,10 @@ events_of texts g limit w s = Begins (named g w) s ∷ map (executed texts g) (s
 abbrev pub Watches : {W : Type 0} → (W → Event → W → Type 0) → W → List Event → W → Type 0
 Watches Sees was [] now = now ≡ was
 Watches {W} Sees was (x ∷ xs) now = (next : W) × Sees was x next × Watches Sees next xs now
+
+-- what never stops a program needs no more than this
+pub never : {A : Type 0} → false ≡ true → A
+never e = absurd cc
 
 -- ---- laws
 

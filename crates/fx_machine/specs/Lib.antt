@@ -13,6 +13,7 @@ pub mod PointRows
 pub mod Table
 pub mod Configs
 pub mod Events
+pub mod Work
 pub mod Shapes
 pub mod Usages
 pub mod Prepared

@@ -2,6 +2,7 @@
 
 ghost use Rattle.fx_machine.specs.Machine.{AnswerIsOne, AnswerOfIsAnswer};
 ghost use Rattle.fx_machine.specs.Events.{StepsAreRuns, StepsAreCounted};
+ghost use Rattle.fx_machine.specs.Work.{BudgetsArePaid};
 ghost use Rattle.fx_machine.specs.Shapes.{RunsKeepShapes};
 ghost use Rattle.fx_machine.specs.Table.{EveryRowIsNamed};
 ghost use Rattle.fx_machine.specs.Known.{GlyphsKeepShape, GlyphsDependOnPrepared};
@@ -51,4 +52,10 @@ pub fn glyphs_depend_on_prepared()
 #[tactic(auto, using(crate::proofs::Named::row_named))]
 pub fn every_row_is_named()
     ensures { EveryRowIsNamed }
+{}
+
+/// A budget is spent exactly if what it has seen was more work than it had, and has the rest else.
+#[tactic(auto, using(crate::proofs::Working::is_paid))]
+pub fn budgets_are_paid()
+    ensures { BudgetsArePaid }
 {}

@@ -24,6 +24,7 @@ mod step;
 mod usage;
 mod watching;
 mod words;
+mod work;
 
 pub use definitions::{Definitions, Function};
 pub use halt::{Cause, Halt, MachineFault};
@@ -35,3 +36,4 @@ pub use ran::Ran;
 pub use state::{InstructControl, State};
 pub use usage::Usage;
 pub use watching::{Unwatched, Watching};
+pub use work::WorkBudget;

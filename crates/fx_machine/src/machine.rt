@@ -1,6 +1,6 @@
 //! The machine of a font at a size.
 
-ghost use Rattle.std.specs.Prelude.{◌≡◌, length, option_map, Some, IfOk, IfSome, IsSome, OnOk, is_ok, is_some};
+ghost use Rattle.std.specs.Prelude.{◌≡◌, length, option_map, Some, IfOk, IfSome, IsSome, OnOk, false, is_ok, is_some};
 ghost use Rattle.fx_fixed.specs.Chain.{GivesUnless, map_fault};
 ghost use Rattle.fx_machine.specs.declared.halt.MachineFault.TheVariants.{Halted};
 ghost use Rattle.fx_machine.specs.Programs.{texts};
@@ -51,10 +51,11 @@ fn run_from<W: Watching>(
 ) -> Result<Ran, Halt>
     requires fits { Fits prepared.now state.old }
     requires targets { targets.old ≡ programs.now.font }
-    ensures value { with_zone result zone.new ≡ ran_of
+    ensures value { W.stops watcher.new ≡ false → with_zone result zone.new ≡ ran_of
         (glyph_end (texts programs.now) programs.now.number prepared.now state.old.scale state.old.store.room zone.old) }
-    ensures stack { stack_if (is_ok result) state.new.store.stack ≡ stack_after
+    ensures stack { W.stops watcher.new ≡ false → stack_if (is_ok result) state.new.store.stack ≡ stack_after
         (glyph_end (texts programs.now) programs.now.number prepared.now state.old.scale state.old.store.room zone.old) }
+    ensures unstopped { IfOk result (λ _. W.stops watcher.new ≡ false) }
     ensures watched { Watches W.Sees watcher.old
         (glyph_events (texts programs.now) programs.now.number prepared.now state.old.scale state.old.store.room zone.old)
         watcher.new }
@@ -96,7 +97,8 @@ fn run_prelude<W: Watching>(
 ) -> Result<Usage, Halt>
     requires number { programs.now.number ≡ 0 }
     requires targets { targets.old ≡ programs.now.font }
-    ensures value { with_state result state.new ≡ prelude_of (texts programs.now) state.old }
+    ensures value { W.stops watcher.new ≡ false → with_state result state.new ≡ prelude_of (texts programs.now) state.old }
+    ensures unstopped { IfOk result (λ _. W.stops watcher.new ≡ false) }
     ensures watched { Watches W.Sees watcher.old (prelude_events (texts programs.now) state.old) watcher.new }
     ensures shapes { HasShapes state.old.zones state.new.zones }
     ensures sizes { HasSizes state.old state.new }
@@ -122,7 +124,8 @@ fn run_and_take<W: Watching>(
     requires number { programs.now.number ≡ 0 }
     requires fits { Fits prepared.old state.old }
     requires targets { targets.old ≡ programs.now.font }
-    ensures value { with_state result state.new ≡ prelude_of (texts programs.now) state.old }
+    ensures value { W.stops watcher.new ≡ false → with_state result state.new ≡ prelude_of (texts programs.now) state.old }
+    ensures unstopped { IfOk result (λ _. W.stops watcher.new ≡ false) }
     ensures watched { Watches W.Sees watcher.old (prelude_events (texts programs.now) state.old) watcher.new }
     ensures prepared { OnOk result (prepared.new ≡ prepared_from state.new) }
     ensures shapes { HasShapes state.old.zones state.new.zones }
@@ -170,8 +173,9 @@ fn first_run<W: Watching>(
 ) -> Result<FirstRun, MachineFault>
     requires number { programs.now.number ≡ 0 }
     requires targets { targets.old ≡ programs.now.font }
-    ensures value { GivesUnless Fails (λ first. (first.prelude, first.state.value)) result
+    ensures value { W.stops watcher.new ≡ false → GivesUnless Fails (λ first. (first.prelude, first.state.value)) result
         (map_fault Halted (prelude_of (texts programs.now) (first_state font.now scale))) }
+    ensures unstopped { IfOk result (λ _. W.stops watcher.new ≡ false) }
     ensures watched { Watches W.Sees watcher.old
         (seen_by result (prelude_events (texts programs.now) (first_state font.now scale))) watcher.new }
     ensures prepared { IfOk result (λ first. first.prepared.value ≡ prepared_from first.state.value) }
@@ -259,8 +263,9 @@ impl<'a> Machine<'a> {
         ppem: Ppem,
         watcher: &mut W,
     ) -> Result<Machine<'a>, MachineFault>
-        ensures value { GivesUnless Fails (λ m. m.known) result (machine_of font.entry ppem) }
-        ensures stack { GivesUnless Fails (λ m. m.final_stack) result (final_stack_of font.entry ppem) }
+        ensures value { W.stops watcher.new ≡ false → GivesUnless Fails (λ m. m.known) result (machine_of font.entry ppem) }
+        ensures stack { W.stops watcher.new ≡ false → GivesUnless Fails (λ m. m.final_stack) result (final_stack_of font.entry ppem) }
+        ensures unstopped { IfOk result (λ _. W.stops watcher.new ≡ false) }
         ensures font { IfOk result (λ m. m.known.face ≡ font.entry) }
         ensures size { IfOk result (λ m. m.known.ppem ≡ ppem) }
         ensures storage { IfOk result (λ m. length m.known.prepared.storage ≡ font.entry.maxp.max_storage) }
@@ -409,10 +414,11 @@ impl<'a> Machine<'a> {
         zone: &mut Zone,
         watcher: &mut W,
     ) -> Result<Ran, Halt>
-        ensures value { with_zone result zone.new ≡ glyph_ran self.old.known g code.entry zone.old }
+        ensures value { W.stops watcher.new ≡ false → with_zone result zone.new ≡ glyph_ran self.old.known g code.entry zone.old }
+        ensures unstopped { IfOk result (λ _. W.stops watcher.new ≡ false) }
         ensures shape { HasShape zone.old zone.new }
         ensures kept { self.new.known ≡ self.old.known }
-        ensures stack { self.new.final_stack ≡ stack_after (glyph_run self.old.known g code.entry zone.old) }
+        ensures stack { W.stops watcher.new ≡ false → self.new.final_stack ≡ stack_after (glyph_run self.old.known g code.entry zone.old) }
         ensures watched { Watches W.Sees watcher.old (glyph_run_events self.old.known g code.entry zone.old) watcher.new }
     {
         let programs = Programs {

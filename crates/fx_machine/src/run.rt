@@ -84,7 +84,8 @@ fn at_end(
 }
 
 /// Runs a program from its first byte, for at most `limit` instructions: how many it executed, or where and why it halted. The
-/// watcher sees it begin, and each instruction after it was executed.
+/// watcher sees it begin, and each instruction after it was executed. A program that the watcher stops has no more instructions
+/// left, as at the limit.
 pub fn run<W: Watching>(
     state: &mut State,
     programs: &Programs<'_>,
@@ -94,8 +95,9 @@ pub fn run<W: Watching>(
     watcher: &mut W,
 ) -> Result<u32, Halt>
     requires { targets.old ≡ programs.now.font }
-    ensures value { sees result state.new
+    ensures value { W.stops watcher.new ≡ false → sees result state.new
         ≡ answered (texts programs.now) programs.now.number start (answer_of (row_at (texts programs.now)) limit start state.old) }
+    ensures unstopped { IfOk result (λ _. W.stops watcher.new ≡ false) }
     ensures watched { Watches W.Sees watcher.old (events_of
         (texts programs.now) programs.now.number limit start state.old) watcher.new }
     ensures few { IfOk result (λ steps. steps ≤ limit) }
@@ -116,6 +118,15 @@ pub fn run<W: Watching>(
     // The program's result is what comes of the cursor, the calls and the state if `left` more instructions may be executed. Once
     // the watcher sees the instructions that are left, it has seen all.
     'steps: loop {
+        if watcher.stops() {
+            return Err(halted(
+                programs,
+                start,
+                cursor.program,
+                cursor.address,
+                Cause::StepLimit,
+            ));
+        }
         // The limit is asked first, so that the test takes part in the count.
         if left == 0 || cursor.address >= bytes.len() {
             return at_end(programs, start, &cursor, &calls, limit, left);

@@ -4,12 +4,23 @@ use crate::program::FontProgram;
 use crate::state::State;
 use fx_code::Code;
 
-/// Sees which programs begin, and each instruction that they execute.
+/// Sees which programs begin, and each instruction that they execute. It may stop them.
 pub trait Watching {
+    ghost use Rattle.std.specs.Prelude.{◌≡◌, Bool, true};
     ghost use Rattle.fx_machine.specs.Events.{Event, Begins, Executed};
 
     // What becomes of the watcher when it sees an event.
     ghost Sees: { Self → Event → Self → Type 0 };
+
+    // Whether it stops the program.
+    ghost stops: { Self → Bool };
+
+    /// Whether the program has to stop before its next instruction.
+    fn stops(&self) -> bool
+        ensures { result ≡ stops self.now };
+
+    // A watcher that stops the program stays as it is, whatever else there would be to see.
+    ghost sees_no_more: { (w : Self) → stops w ≡ true → (x : Event) → Sees w x w };
 
     /// Sees that a program begins, in this state.
     fn begin(&mut self, program: FontProgram, state: &State)
@@ -28,12 +39,23 @@ pub trait Watching {
         ensures { Sees self.old (Executed program code.now address calls state.now) self.new };
 }
 
-/// Sees nothing, and compiles to nothing.
+/// Sees nothing, stops nothing, and compiles to nothing.
 #[derive(Clone, Copy)]
 pub struct Unwatched;
 
 impl Watching for Unwatched {
+    ghost use Rattle.std.specs.Prelude.{false};
+
     ghost Sees = { λ _ _ _. Unit {0} };
+
+    ghost stops = { λ _. false };
+
+    #[inline(always)]
+    fn stops(&self) -> bool {
+        false
+    }
+
+    ghost sees_no_more = { λ _ _ _. tt };
 
     #[inline(always)]
     fn begin(&mut self, _program: FontProgram, _state: &State) {}

@@ -106,9 +106,19 @@ impl<'w, S: Sink> Tracer<'w, S> {
 }
 
 impl<'w, S: Sink> RunWatching for Tracer<'w, S> {
+    ghost use Rattle.std.specs.Prelude.{false};
+    ghost use Rattle.fx_machine.specs.Events.{never};
     ghost use Rattle.fx_trace.specs.inner.Telling.{Tells};
 
     ghost Sees = { λ was x now. Tells was.wanted was.text was.before x now.text now.before × (now.wanted ≡ was.wanted) };
+
+    ghost stops = { λ _. false };
+
+    fn stops(&self) -> bool {
+        false
+    }
+
+    ghost sees_no_more = { λ _ e _. never e };
 
     fn begin(&mut self, running: RunningProgram, state: &State) {
         self.before = None;

@@ -8,10 +8,10 @@ unfolding glyph_end
 returns-in_err-steps-clause-value g c =
     let p = err_from_is_err_and c.from_residual.result c.from_residual.ensures.1 in
     let ran = rw (c.restart.ensures, c.swap.ensures.x_after) at c.in_err-steps.ensures.value in
-    rw (p.1, p.2) (ap ran_of ran)
+    rw (p.1, p.2) (λ go. ap ran_of (ran go))
 
 pub returns-clause-value : goal.returns-clause-value
 unfolding glyph_end
 returns-clause-value g c =
     let ran = rw (c.restart.ensures, c.swap.ensures.x_after) at c.in_ok-steps.ensures.value in
-    rw (c.from.ensures, c.strays.ensures, c.wish.ensures, c.swap-2.ensures.y_after) (ap ran_of ran)
+    rw (c.from.ensures, c.strays.ensures, c.wish.ensures, c.swap-2.ensures.y_after) (λ go. ap ran_of (ran go))

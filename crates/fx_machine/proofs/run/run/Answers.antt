@@ -1,8 +1,8 @@
-use Rattle.std.proofs.Common.{◌≡◌, ◌+◌, ◌-◌, ◌∙◌, refl, arith, rules}
+use Rattle.std.proofs.Common.{◌≡◌, ◌+◌, ◌-◌, ◌∙◌, refl, sym, arith, rules}
 use Rattle.fx_pointops.proofs.Keeping.{shapes_same, shapes_then}
 use Rattle.fx_machine.proofs.Keeping.{sized, sized_then}
 use Rattle.fx_machine.proofs.Looping.{halted_here, stepped, unseen_halt, unseen_end}
-use Rattle.fx_machine.proofs.Watched.{seen_first, seen_one, seen_all}
+use Rattle.fx_machine.proofs.Watched.{seen_first, seen_one, seen_all, seen_stopped}
 use Rattle.fx_machine.proofs.Stepping.{events_begin, one_event}
 use Rattle.fx_machine.proofs.run.run.Goals as goal
 
@@ -19,6 +19,10 @@ steps-init g c =
       targets = c.requires;
     }
 
+pub returns-then-stops-clause-watched : goal.returns-then-stops-clause-watched
+returns-then-stops-clause-watched g c = seen_stopped g.W.Watching.Sees c.steps.invariant.watched
+    (g.W.Watching.sees_no_more _ (sym c.stops.ensures ∙ c.if-stops.true))
+
 pub returns-then-left-eq0-clause-watched : goal.returns-then-left-eq0-clause-watched
 returns-then-left-eq0-clause-watched g c = seen_all c.steps.invariant.watched
     (unseen_end _ _ c.args.start _ 0 c.steps.calls.open_calls.items _ _ _ (search rules))
@@ -30,8 +34,8 @@ returns-in-Err-clause-watched g c = seen_all c.steps.invariant.watched
 
 pub returns-in-Err-clause-value : goal.returns-in-Err-clause-value
 returns-in-Err-clause-value g c =
-    rw c.halted.ensures
-    (halted_here _ _ _ _ _ c.steps.state _ _ c.steps.calls.open_calls.items _ _ c.steps.invariant.answer _ (omega arith)
+    rw c.halted-in-Err.ensures (λ _.
+    halted_here _ _ _ _ _ c.steps.state _ _ c.steps.calls.open_calls.items _ _ c.steps.invariant.answer _ (omega arith)
     (rw c.steps.invariant.bytes at c.in-Err.ensures.moved))
 
 pub returns-in-Err-clause-shapes : goal.returns-in-Err-clause-shapes

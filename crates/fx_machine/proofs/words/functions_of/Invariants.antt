@@ -1,4 +1,4 @@
-use Rattle.std.proofs.Common.{◌≡◌, ◌+◌, ◌-◌, ◌≤◌, length, map, take, vec_len, vec_capacity}
+use Rattle.std.proofs.Common.{◌≡◌, ◌≤◌, map, take, vec_len, vec_capacity}
 use Rattle.fx_machine.specs.Words.{function_in}
 use Rattle.fx_machine.proofs.words.functions_of.Given as goal
 

@@ -24,4 +24,4 @@ returns-clause-traces g c =
 
 pub returns-clause-value : goal.returns-clause-value
 returns-clause-value g c =
-    rw (c.machine_end.ensures, ← c.shared.ensures) (machine_given (λ m. m.known) _ _ c.new-made.ensures.value)
+    rw (c.machine_end.ensures, ← c.shared.ensures) (machine_given (λ m. m.known) _ _ (c.new-made.ensures.value refl))

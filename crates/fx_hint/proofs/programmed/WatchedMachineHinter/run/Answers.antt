@@ -1,8 +1,8 @@
 use Rattle.std.proofs.Common.{refl}
-use Rattle.fx_hint.proofs.Watching.{ran_once, seen_for}
+use Rattle.fx_hint.proofs.Watching.{ran_once}
 use Rattle.fx_hint.proofs.programmed.WatchedMachineHinter.run.Goals as goal
 
 pub returns-clause-leads : goal.returns-clause-leads
 returns-clause-leads g c =
-    ran_once g.W.RunWatching.Sees _ _ _ _ _ _ c.hint.ensures.kept (seen_for g.W.RunWatching.Sees
-    (λ w. w.watcher) (λ w. w.component) c.args.component _ _ _ refl c.hint.ensures.watched)
+    ran_once g.W.RunWatching.Sees c.args.self.now (record { machine = c.hint.new.machine; watcher = c.hint.new.watcher }) (λ m. m.machine.known) (λ m. m.watcher) (λ w. w.watcher) (λ w. w.component) _ _
+    refl refl c.hint.ensures.kept _ c.hint.ensures.watched

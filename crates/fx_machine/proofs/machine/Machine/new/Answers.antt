@@ -6,16 +6,16 @@ use Rattle.fx_machine.proofs.Starting.{first_fits, first_known, first_of_font}
 use Rattle.fx_machine.proofs.machine.Machine.new.Goals as goal
 
 pub returns-in_err-first-clause-value : goal.returns-in_err-first-clause-value
-returns-in_err-first-clause-value g c =
+returns-in_err-first-clause-value g c go =
     let p = err_from_is_err_and c.from_residual-in_err-first.result c.from_residual-in_err-first.ensures.1 in
     machine_fails _ _ _ _ _ _ 0 c.of-scale.ensures (c.new.ensures ∙ c.table_or_empty-font_program.ensures.table)
-    (c.new-2.ensures ∙ c.table_or_empty-prep.ensures.table) c.new-3.ensures _ _ _ p.1 p.2 c.in_err-first.ensures.value
+    (c.new-2.ensures ∙ c.table_or_empty-prep.ensures.table) c.new-3.ensures _ _ _ p.1 p.2 (c.in_err-first.ensures.value go)
 
 pub returns-in_err-first-clause-stack : goal.returns-in_err-first-clause-stack
-returns-in_err-first-clause-stack g c =
+returns-in_err-first-clause-stack g c go =
     let p = err_from_is_err_and c.from_residual-in_err-first.result c.from_residual-in_err-first.ensures.1 in
     stack_fails _ _ _ _ _ _ 0 c.of-scale.ensures (c.new.ensures ∙ c.table_or_empty-font_program.ensures.table)
-    (c.new-2.ensures ∙ c.table_or_empty-prep.ensures.table) c.new-3.ensures _ _ _ p.1 p.2 c.in_err-first.ensures.value
+    (c.new-2.ensures ∙ c.table_or_empty-prep.ensures.table) c.new-3.ensures _ _ _ p.1 p.2 (c.in_err-first.ensures.value go)
 
 pub returns-in_err-first-clause-watched : goal.returns-in_err-first-clause-watched
 returns-in_err-first-clause-watched g c =
@@ -25,15 +25,15 @@ returns-in_err-first-clause-watched g c =
     c.in_err-first.ensures.watched
 
 pub returns-clause-value : goal.returns-clause-value
-returns-clause-value g c =
+returns-clause-value g c go =
     machine_is _ _ _ _ _ _ 0 c.of-scale.ensures (c.new.ensures ∙ c.table_or_empty-font_program.ensures.table)
     (c.new-2.ensures ∙ c.table_or_empty-prep.ensures.table) c.new-3.ensures _ _ _ c.in_ok-first.ensures.sizes.scale
-    c.in_ok-first.ensures.prepared c.in_ok-first.ensures.value
+    c.in_ok-first.ensures.prepared (c.in_ok-first.ensures.value go)
 
 pub returns-clause-stack : goal.returns-clause-stack
-returns-clause-stack g c =
+returns-clause-stack g c go =
     stack_is _ _ _ _ _ _ 0 c.of-scale.ensures (c.new.ensures ∙ c.table_or_empty-font_program.ensures.table)
-    (c.new-2.ensures ∙ c.table_or_empty-prep.ensures.table) c.new-3.ensures _ _ c.in_ok-first.ensures.value
+    (c.new-2.ensures ∙ c.table_or_empty-prep.ensures.table) c.new-3.ensures _ _ (c.in_ok-first.ensures.value go)
 
 pub returns-clause-watched : goal.returns-clause-watched
 returns-clause-watched g c =
